@@ -1,0 +1,82 @@
+//! The acts of a step, with room that can be made before.
+ghost use Rattle.std.specs.Prelude.{◌≡◌, ◌+◌, ◌<◌, ◌≤◌, ◌∷◌, ◌++◌, [], take, length, OnOk, OnErr, IsOk};
+
+use crate::act::Act;
+use hc_text::NoMemory;
+use std::alloc::Global;
+
+/// The acts of a step, in order.
+#[derive(Drop)]
+pub struct Acts {
+    acts: Vec<Act>,
+}
+
+impl Acts {
+    ghost use Rattle.hc_event.specs.Acts.{listed, spare};
+
+    /// No act.
+    pub fn new(alloc: Global) -> Self
+        ensures { listed result ≡ [] }
+    {
+        Acts {
+            acts: Vec::new(alloc),
+        }
+    }
+
+    /// Makes room: afterwards `spare` is at least `n`.
+    pub fn reserve(&mut self, n: usize) -> Result<(), NoMemory>
+        ensures ok { OnOk result (n ≤ spare self.new) }
+        ensures same { listed self.new ≡ listed self.old }
+        ensures room { spare self.old ≤ spare self.new }
+    {
+        self.acts.reserve(n)?;
+        Ok(())
+    }
+
+    /// How many acts surely fit.
+    pub fn spare(&self) -> usize
+        ensures { result ≡ spare self.now }
+    {
+        self.acts.capacity() - self.acts.len()
+    }
+
+    /// The act stands last, or nothing changes. Where there is room it takes no memory, and `spare`
+    /// falls by one.
+    pub fn push(&mut self, act: Act) -> Result<(), NoMemory>
+        ensures ok { OnOk result (listed self.new ≡ listed self.old ++ act ∷ []) }
+        ensures err { OnErr result (listed self.new ≡ listed self.old) }
+        ensures fits { 0 < spare self.old → IsOk result }
+        ensures room { 0 < spare self.old → spare self.new + 1 ≡ spare self.old }
+    {
+        if self.acts.capacity() > self.acts.len() {
+            self.acts.push_reserved(act);
+            return Ok(());
+        }
+        self.acts.push(act)?;
+        Ok(())
+    }
+
+    /// The first `n` acts are left, and `spare` does not fall.
+    pub fn truncate(&mut self, n: usize)
+        requires { n ≤ length (listed self.old) }
+        ensures acts { listed self.new ≡ take n (listed self.old) }
+        ensures room { spare self.old ≤ spare self.new }
+    {
+        self.acts.truncate(n);
+    }
+
+    /// No act is left, and `spare` does not fall.
+    pub fn clear(&mut self)
+        ensures acts { listed self.new ≡ [] }
+        ensures room { spare self.old ≤ spare self.new }
+    {
+        self.acts.clear();
+    }
+
+    /// The acts, in order.
+    pub fn list(&self) -> &[Act]
+        ensures { result.now ≡ listed self.now }
+    {
+        self.acts.as_slice()
+    }
+}

@@ -1,0 +1,10 @@
+//! What comes from outside and what the cache does: plain data, and the list of acts of a step.
+#![tactic(auto)]
+
+mod act;
+mod acts;
+mod event;
+
+pub use act::{Act, Cause, LostKind, Need, Refusal, Wait, Why};
+pub use acts::Acts;
+pub use event::{Event, Load, Request, Response};

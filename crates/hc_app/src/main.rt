@@ -1,0 +1,6 @@
+//! The program: schedules in, reports out.
+#![tactic(auto)]
+
+mod schedule;
+
+fn main() {}

@@ -1,2 +1,11 @@
 pub mod Schedule
 pub mod Report
+pub mod Entries
+pub mod Lengths
+pub mod Rows
+pub mod Tables
+pub mod Answers
+pub mod Runs
+pub mod Laws
+pub mod Histories
+pub mod Reads

@@ -1,0 +1,51 @@
+-- What a head says of the length of its body (RFC 9110 section 8.6, RFC 9112 section 6.3).
+use Rattle.std.specs.Prelude.{ℕ, ◌^◌, List, [], ◌∷◌, length, codes, bytes_eq, nat_lt, nat_le, Bool, true, false, ◌==◌, ◌&&◌, ◌||◌, if◌then◌else◌, Option, Some, None}
+use Rattle.std.specs.List.{list_all}
+use Rattle.std.specs.Str.{all_ascii_digits}
+use Rattle.std.specs.Str.Parse.{digits_value}
+use Rattle.hc_event.specs.declared.event.Request.{Request}
+use Rattle.hc_event.specs.declared.event.Response.{Response}
+
+-- the length of a body: not told, a number of bytes, or told in a way that can't be read
+pub data Length : Type 0 where
+  Unknown : Length
+  Promised : (n : ℕ) → Length
+  Bad : Length
+
+-- the number that 1 to 20 digits spell, if it is below 2 ^ 62
+abbrev pub number_of : List ℕ → Option ℕ
+number_of text = if nat_le 1 (length text) && nat_le (length text) 20 && all_ascii_digits text && nat_lt (digits_value 10 text) (2 ^ 62) then Some (digits_value 10 text) else None
+
+-- the values of a field, in order of arrival
+abbrev pub values_named : List ℕ → List (List ℕ × List ℕ) → List (List ℕ)
+values_named name [] = []
+values_named name (field ∷ fields) = if bytes_eq field.0 name then field.1 ∷ values_named name fields else values_named name fields
+
+abbrev pub is_same_number : Option ℕ → Option ℕ → Bool
+is_same_number (Some m) (Some n) = m == n
+is_same_number _ _ = false
+
+abbrev pub told : Option ℕ → Length
+told None = Bad
+told (Some n) = Promised n
+
+-- the values are to spell one number
+abbrev pub length_told : List (List ℕ) → Length
+length_told [] = Unknown
+length_told (value ∷ values) = if list_all (λ other. is_same_number (number_of value) (number_of other)) (value ∷ values) then told (number_of value) else Bad
+
+-- the answer to a HEAD, and the statuses 204 and 304, have no body
+abbrev pub has_no_body : Request → Response → Bool
+has_no_body request response = bytes_eq request.method (codes "HEAD") || (response.status == 204 || response.status == 304)
+
+unfoldable pub length_of : Request → Response → Length
+length_of request response = if has_no_body request response then Promised 0 else length_told (values_named (codes "content-length") response.fields)
+
+-- how many bytes are promised, where that is told
+abbrev pub promise : Length → Option ℕ
+promise (Promised n) = Some n
+promise _ = None
+
+abbrev pub is_bad : Length → Bool
+is_bad Bad = true
+is_bad _ = false

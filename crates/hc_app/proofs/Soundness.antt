@@ -15,10 +15,10 @@ use Rattle.hc_event.specs.declared.act.Act.TheVariants as act
 use Rattle.hc_app.specs.Entries.{Entry, History}
 use Rattle.hc_event.specs.Filters.{Opening, opening_in, is_denied, asks_in, closes_in}
 use Rattle.hc_app.specs.Rows.{Tables, Exchange, Consumer, Place, Line, Direct, Down, Over, reads, consumer_heard, consumer_acted, consumer_after, consumer_made, exchange_after, exchange_heard, exchange_acted, exchange_made, brings_bad, ended, fell, cut_short, starts_over, promised}
-use Rattle.hc_app.specs.Tables.{after, after_accepted, tables, last_start_after, starts_after}
+use Rattle.hc_app.specs.Tables.{after, after_accepted, after_denied, tables, last_start_after, starts_after, received_in}
 use Rattle.hc_app.specs.Runs.{IsRun}
 use Rattle.hc_app.specs.Answers.{answer, accepted_acts, refusal_of, refusal_by, gate, Move, Nothing, Opens, WaitsHead, WaitsBody, Asks, Shows, Gives, Ends, Fails, Closes, acts_of, move_of, owner, subject, polled, placed_move, direct, headed, reading, end_of, waits, fails_or, left, closes_if_open, seen_open, head_refusal}
-use Rattle.hc_app.specs.Runs.{Sound, next, owed, Reads, IsOf, Descends, Among}
+use Rattle.hc_app.specs.Runs.{Sound, IsSoundExchange, IsSoundConsumer, IsWithin, next, owed, Reads, IsOf, Descends, Among}
 use Rattle.hc_app.specs.Laws.{KeepsExchanges}
 use Rattle.hc_app.proofs.Steps.{tables-step, after-denied, answer-denied}
 use Rattle.hc_app.proofs.Far.{apart}
@@ -32,7 +32,7 @@ data Mine (t : Tables) (c : ℕ) : Move → Type 0 where
   waits_body : {x : ℕ} → Mine t c (WaitsBody x)
   asks : {x : ℕ} → IsOf (t.exchange x) c → Mine t c (Asks x)
   shows : {x : ℕ} {head : Response} {hi : Option ℕ} → Mine t c (Shows x head hi)
-  gives : {x at : ℕ} {bytes : List ℕ} → Mine t c (Gives x at bytes)
+  gives : {x at : ℕ} {bytes : List ℕ} → IsOf (t.exchange x) c → Mine t c (Gives x at bytes)
   ends : Mine t c Ends
   fails : {cause : Cause} → Mine t c (Fails cause)
   closes : {x : ℕ} → IsOf (t.exchange x) c → Mine t c (Closes x)
@@ -48,7 +48,7 @@ module _ (t : Tables) (c : ℕ) where
 
   headed_mine : (want x : ℕ) (w : Exchange) (r : Consumer) (o : Option Response) → IsOf (t.exchange x) c → Mine t c (headed want x w r o)
   headed_mine want x w r None of = waits_head
-  headed_mine want x w r (Some response) of = cond_mine _ (cond_mine _ ends (cond_mine _ gives (fails_mine _ (cond_mine _ waits_body (asks of))))) shows
+  headed_mine want x w r (Some response) of = cond_mine _ (cond_mine _ ends (cond_mine _ (gives of) (fails_mine _ (cond_mine _ waits_body (asks of))))) shows
 
   direct_mine : (want x : ℕ) (r : Consumer) (o : Option Exchange) → IsOf (t.exchange x) c → Mine t c (direct want x r o)
   direct_mine want x r None of = nothing
@@ -206,7 +206,7 @@ opened_of t s m x e waits_head sound is o = absurd o
 opened_of t s m x e waits_body sound is o = absurd o
 opened_of t s m x e (asks f) sound is o = absurd o
 opened_of t s m x e shows sound is o = absurd o
-opened_of t s m x e gives sound is o = absurd o
+opened_of t s m x e (gives f) sound is o = absurd o
 opened_of t s m x e ends sound is o = absurd o
 opened_of t s m x e fails sound is o = absurd o
 opened_of t s m x e (closes f) sound is o = absurd o
@@ -228,7 +228,7 @@ move_opens_none t x e s m waits_head lt = refl
 move_opens_none t x e s m waits_body lt = refl
 move_opens_none t x e s m (asks f) lt = refl
 move_opens_none t x e s m shows lt = refl
-move_opens_none t x e s m gives lt = refl
+move_opens_none t x e s m (gives f) lt = refl
 move_opens_none t x e s m ends lt = refl
 move_opens_none t x e s m fails lt = refl
 move_opens_none t x e s m (closes f) lt = refl
@@ -330,21 +330,27 @@ sound_next t now event sound h =
       starts = descends_on t event h sound.starts;
       new_exchanges = λ x lt. new_exchange t x e s m has sound refl lt;
       readers = readers_after t e s m has sound refl;
+      few = ?;
+      exchanges = ?;
+      consumers = ?;
     })
+
+more_received : (w : Exchange) (n k : ℕ) → IsSoundExchange w n → IsSoundExchange w (n + k)
+more_received w n k s = record { given_within = s.given_within; body_within = s.body_within; over = s.over; headless = s.headless; few = let few : length w.body ≤ n = s.few in omega arith }
 
 pub sound_start : Sound (tables [])
 unfolding tables
-sound_start = record { new_consumers = λ c lt. refl; started = λ c h. absurd cc; starts = tt; new_exchanges = λ x lt. refl; readers = λ c x f. f }
+sound_start = record { new_consumers = λ c lt. refl; started = λ c h. absurd cc; starts = tt; new_exchanges = λ x lt. refl; readers = λ c x f. f; few = omega arith; exchanges = λ x w e. cc; consumers = λ c r e. cc }
 
-pub sound_denied : (t : Tables) (now : ℕ) → Sound t → Sound (record t { moment = now })
-sound_denied t now sound = record { new_consumers = sound.new_consumers; started = sound.started; starts = sound.starts; new_exchanges = sound.new_exchanges; readers = sound.readers }
+pub sound_denied : (t : Tables) (e : Entry) → Sound t → Sound (after_denied t e)
+sound_denied t e sound = record { new_consumers = sound.new_consumers; started = sound.started; starts = sound.starts; new_exchanges = sound.new_exchanges; readers = sound.readers; few = let few : t.opened ≤ t.entries = sound.few in omega arith; exchanges = λ x w is. more_received w t.received (received_in e.event) (sound.exchanges x w is); consumers = sound.consumers }
 
-pub denied-next : (t : Tables) (now : ℕ) (event : Event) (r : Refusal) → refusal_of t event ≡ Some r → next t now event ≡ record t { moment = now }
+pub denied-next : (t : Tables) (now : ℕ) (event : Event) (r : Refusal) → refusal_of t event ≡ Some r → next t now event ≡ after_denied t (record { now = now; event = event; acts = act.Denied r ∷ [] })
 denied-next t now event r h = rw (answer-denied t event r h) (after-denied t (record { now = now; event = event; acts = act.Denied r ∷ [] }) refl)
 
 sound_step : (t : Tables) (now : ℕ) (event : Event) (o : Option Refusal) → refusal_of t event ≡ o → Sound t → Sound (next t now event)
 sound_step t now event None h sound = sound_next t now event sound h
-sound_step t now event (Some r) h sound = rw (denied-next t now event r h) (sound_denied t now sound)
+sound_step t now event (Some r) h sound = rw (denied-next t now event r h) (sound_denied t (record { now = now; event = event; acts = act.Denied r ∷ [] }) sound)
 
 -- the tables of each run are sound
 pub sound_run : (h : History) → IsRun h → Sound (tables h)
@@ -378,7 +384,7 @@ module _ (t : Tables) (x : ℕ) (w : Exchange) (is : t.exchange x ≡ Some w) wh
   acts_quiet s m waits_body ne = refl
   acts_quiet s m (asks {x = y} of) ne = rw (another y s of ne) refl
   acts_quiet s m shows ne = refl
-  acts_quiet s m gives ne = refl
+  acts_quiet s m (gives {x = y} of) ne = rw (another y s of ne) refl
   acts_quiet s m ends ne = refl
   acts_quiet s m fails ne = refl
   acts_quiet s m (closes {x = y} of) ne = rw (another y s of ne) refl
@@ -394,7 +400,7 @@ made_quiet t x e s m waits_head ne = refl
 made_quiet t x e s m waits_body ne = refl
 made_quiet t x e s m (asks f) ne = refl
 made_quiet t x e s m shows ne = refl
-made_quiet t x e s m gives ne = refl
+made_quiet t x e s m (gives f) ne = refl
 made_quiet t x e s m ends ne = refl
 made_quiet t x e s m fails ne = refl
 made_quiet t x e s m (closes f) ne = refl

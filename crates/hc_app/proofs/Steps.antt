@@ -13,7 +13,7 @@ use Rattle.hc_event.specs.declared.act.Wait.TheVariants as wait
 use Rattle.hc_app.specs.Entries.{Entry, History}
 use Rattle.hc_event.specs.Filters.{is_denied, opening_in}
 use Rattle.hc_app.specs.Rows.{Tables, Exchange, Consumer, Line, exchange_after, consumer_after, consumer_made}
-use Rattle.hc_app.specs.Tables.{after, after_accepted, tables}
+use Rattle.hc_app.specs.Tables.{after, after_accepted, after_denied, tables}
 use Rattle.hc_app.specs.Answers.{answer, accepted_acts, acts_unless, refusal_of}
 use Rattle.hc_app.specs.Runs.{owed, next}
 
@@ -25,7 +25,7 @@ pub after-accepted : (t : Tables) (e : Entry) → is_denied e.acts ≡ false →
 unfolding after
 after-accepted t e h = rw h refl
 
-pub after-denied : (t : Tables) (e : Entry) → is_denied e.acts ≡ true → after t e ≡ record t { moment = e.now }
+pub after-denied : (t : Tables) (e : Entry) → is_denied e.acts ≡ true → after t e ≡ after_denied t e
 unfolding after
 after-denied t e h = rw h refl
 

@@ -9,3 +9,4 @@ pub mod Runs
 pub mod Laws
 pub mod Histories
 pub mod Reads
+pub mod Stands

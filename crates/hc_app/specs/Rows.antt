@@ -1,6 +1,6 @@
 -- The consumer table: what the past says of each exchange and each consumer.
 use Rattle.std.specs.Prelude.{ℕ, ◌+◌, List, [], ◌∷◌, ◌++◌, length, bytes_eq, Bool, true, false, Option, Some, None, is_some, is_none, if◌then◌else◌, ◌==◌, ◌||◌, ◌&&◌, not, nat_lt, option_and_then}
-use Rattle.hc_event.specs.Filters.{Opening, opening_in, asks_in, closes_in, shows_in, given_in, leaves_in}
+use Rattle.hc_event.specs.Filters.{Opening, opening_in, asks_in, closes_in, shows_in, given_in, given_from, leaves_in}
 use Rattle.hc_event.specs.declared.event.Event.{Event}
 use Rattle.hc_event.specs.declared.event.Event.TheVariants as event
 use Rattle.hc_event.specs.declared.event.Request.{Request}
@@ -20,6 +20,7 @@ pub record Exchange : Type 0 where
   pub opened : ℕ             -- the moment of its opening
   pub head : Option Response
   pub body : List ℕ          -- what its accepted pieces brought
+  pub given : ℕ              -- how many of these bytes were given
   pub asked : Bool           -- an Ask of it stands after its last accepted piece
   pub is_ended : Bool        -- it had an accepted End
   pub is_open : Bool
@@ -42,6 +43,8 @@ pub record Consumer : Type 0 where
 
 pub record Tables : Type 0 where
   pub moment : ℕ
+  pub entries : ℕ            -- how many events there were
+  pub received : ℕ           -- how many bytes their pieces had
   pub last_start : ℕ         -- of the accepted ones
   pub starts : List ℕ        -- who started, the newest first
   pub opened : ℕ             -- how many exchanges were opened
@@ -70,14 +73,19 @@ exchange_heard x (event.Fault y) r = if y == x then record r { is_open = false }
 exchange_heard x (event.Cancel c) r = r
 exchange_heard x (event.Doom key) r = r
 
+-- a count of bytes after these are given
+abbrev pub moved : List ℕ → ℕ → ℕ
+moved [] n = n
+moved (b ∷ bs) n = n + length (b ∷ bs)
+
 -- what the acts say of it
 abbrev pub exchange_acted : ℕ → List Act → Exchange → Exchange
-exchange_acted x acts r = record r { asked = asks_in x acts || r.asked; is_open = not (closes_in x acts) && r.is_open }
+exchange_acted x acts r = record r { asked = asks_in x acts || r.asked; given = moved (given_from x acts) r.given; is_open = not (closes_in x acts) && r.is_open }
 
 abbrev pub exchange_made : ℕ → Entry → Option Opening → Option Exchange
 exchange_made x e None = None
 exchange_made x e (Some o) =
-    if o.x == x then Some (record { c = o.c; need = o.need; request = o.request; opened = e.now; head = None; body = []; asked = false; is_ended = false; is_open = true }) else None
+    if o.x == x then Some (record { c = o.c; need = o.need; request = o.request; opened = e.now; head = None; body = []; given = 0; asked = false; is_ended = false; is_open = true }) else None
 
 unfoldable pub exchange_after : ℕ → Entry → Option Exchange → Option Exchange
 exchange_after x e (Some r) = Some (exchange_acted x e.acts (exchange_heard x e.event r))
@@ -126,11 +134,6 @@ consumer_heard t now c (event.Doom key) r = if bytes_eq key r.request.key then s
 abbrev pub placed : ℕ → Option Opening → Consumer → Consumer
 placed c None r = r
 placed c (Some o) r = if o.c == c then record r { place = Direct o.x } else r
-
--- an offset after these bytes are given
-abbrev pub moved : List ℕ → ℕ → ℕ
-moved [] n = n
-moved (b ∷ bs) n = n + length (b ∷ bs)
 
 -- what the acts say of it
 abbrev pub consumer_acted : ℕ → List Act → Consumer → Consumer

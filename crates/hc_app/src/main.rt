@@ -1,7 +1,10 @@
 //! The program: schedules in, reports out.
 #![tactic(auto)]
 
+mod cache;
+mod held;
 mod laws;
+mod rows;
 mod schedule;
 
 fn main() {}

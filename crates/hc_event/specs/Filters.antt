@@ -47,6 +47,12 @@ given_in c [] = []
 given_in c (act.Given d x at bytes ∷ acts) = if d == c then bytes ++ given_in c acts else given_in c acts
 given_in c (_ ∷ acts) = given_in c acts
 
+-- the bytes of the exchange x that are given among these acts
+abbrev pub given_from : ℕ → List Act → List ℕ
+given_from x [] = []
+given_from x (act.Given c y at bytes ∷ acts) = if y == x then bytes ++ given_from x acts else given_from x acts
+given_from x (_ ∷ acts) = given_from x acts
+
 -- c ends or fails among these acts
 abbrev pub leaves_in : ℕ → List Act → Bool
 leaves_in c [] = false

@@ -5,12 +5,8 @@ use Rattle.std.specs.Str.{all_ascii_digits}
 use Rattle.std.specs.Str.Parse.{digits_value}
 use Rattle.hc_event.specs.declared.event.Request.{Request}
 use Rattle.hc_event.specs.declared.event.Response.{Response}
-
--- the length of a body: not told, a number of bytes, or told in a way that can't be read
-pub data Length : Type 0 where
-  Unknown : Length
-  Promised : (n : ℕ) → Length
-  Bad : Length
+use Rattle.hc_app.specs.declared.length.Length.{Length}
+use Rattle.hc_app.specs.declared.length.Length.TheVariants.{Unknown, Promised, Bad}
 
 -- the number that 1 to 20 digits spell, if it is below 2 ^ 62
 abbrev pub number_of : List ℕ → Option ℕ
@@ -34,12 +30,15 @@ abbrev pub length_told : List (List ℕ) → Length
 length_told [] = Unknown
 length_told (value ∷ values) = if list_all (λ other. is_same_number (number_of value) (number_of other)) (value ∷ values) then told (number_of value) else Bad
 
+abbrev pub is_head : Request → Bool
+is_head request = bytes_eq request.method (codes "HEAD")
+
 -- the answer to a HEAD, and the statuses 204 and 304, have no body
-abbrev pub has_no_body : Request → Response → Bool
-has_no_body request response = bytes_eq request.method (codes "HEAD") || (response.status == 204 || response.status == 304)
+abbrev pub length_by : Bool → Response → Length
+length_by is_head response = if is_head || (response.status == 204 || response.status == 304) then Promised 0 else length_told (values_named (codes "content-length") response.fields)
 
 unfoldable pub length_of : Request → Response → Length
-length_of request response = if has_no_body request response then Promised 0 else length_told (values_named (codes "content-length") response.fields)
+length_of request response = length_by (is_head request) response
 
 -- how many bytes are promised, where that is told
 abbrev pub promise : Length → Option ℕ

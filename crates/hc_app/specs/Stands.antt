@@ -1,5 +1,5 @@
 -- The cache stands for what the tables of a history say.
-use Rattle.std.specs.Prelude.{◌≡◌, ℕ, ◌+◌, List, [], ◌∷◌, ◌++◌, length, take, drop, Bool, true, false, Option, Some, None, is_some, option_map, if◌then◌else◌, not, ◌&&◌}
+use Rattle.std.specs.Prelude.{◌≡◌, ℕ, ◌+◌, ◌<◌, ◌^◌, List, [], ◌∷◌, ◌++◌, length, take, drop, Bool, true, false, Option, Some, None, is_some, option_map, if◌then◌else◌, not, ◌&&◌}
 use Rattle.std.specs.Ordering.{nat_cmp}
 use Rattle.std.specs.BTreeMap.{get, btree_map_len}
 use Rattle.hc_event.specs.declared.event.Event.{Event}
@@ -7,8 +7,9 @@ use Rattle.hc_event.specs.declared.event.Response.{Response}
 use Rattle.hc_event.specs.declared.act.Act.{Act}
 use Rattle.hc_app.specs.Rows as tables
 use Rattle.hc_app.specs.Rows.{Tables, promised}
-use Rattle.hc_app.specs.Tables.{live_count}
-use Rattle.hc_app.specs.Answers.{Gate, Seen, refusal_of, answer}
+use Rattle.hc_app.specs.Lengths.{is_head}
+use Rattle.hc_app.specs.Tables.{live_count, received_in}
+use Rattle.hc_app.specs.Answers.{Gate, Seen, refusal_of, answer, is_at}
 use Rattle.hc_app.specs.Runs.{Sound, next}
 use Rattle.hc_app.specs.declared.rows.Stand.{Stand}
 use Rattle.hc_app.specs.declared.rows.Stand.TheVariants as stand
@@ -33,6 +34,7 @@ KeepsConsumer (Some k) row = row ≡ Some (row_of k)
 -- what is kept of an exchange is what the table says, and of its body what was not given yet
 pub record IsCarried (w : Exchange) (r : tables.Exchange) : Type 0 where
   pub c : w.c ≡ r.c
+  pub is_head : w.is_head ≡ is_head r.request
   pub head : w.head ≡ r.head
   pub promise : w.promised ≡ promised r.request r.head
   pub held : w.held ≡ drop r.given r.body
@@ -101,10 +103,32 @@ pub record IsReader (x : ℕ) (shown : Bool) (k : Consumer) : Type 0 where
   pub direct : k.stand ≡ stand.Direct x
   pub shown_is : k.shown ≡ shown
 
--- An accepted event is answered, and the cache stands for the tables after it, whatever tables it stood for.
-abbrev pub Advances : Cache → Cache → List Act → List Act → ℕ → Event → Type 0
-Advances s u before out now event = (t : Tables) → StandsFor s t → refusal_of t event ≡ None → (out ≡ before ++ answer t event) × StandsFor u (next t now event)
+-- a consumer was shown the head of the exchange, and given so many bytes
+pub record IsReading (x offset : ℕ) (k : Consumer) : Type 0 where
+  pub direct : k.stand ≡ stand.Direct x
+  pub shown_is : k.shown ≡ true
+  pub offset_is : k.offset ≡ offset
 
--- the same for each event
+-- all that came was given, and it isn't all that was promised
+pub record IsRead (offset : ℕ) (asked : Bool) (w : Exchange) : Type 0 where
+  pub not_at_end : is_at w.promised offset ≡ false
+  pub none_held : length w.held ≡ 0
+  pub asked_is : w.asked ≡ asked
+
+-- some of what came was not given, after so many bytes, which aren't all that was promised
+pub record Holds (offset : ℕ) (w : Exchange) : Type 0 where
+  pub not_at_end : is_at w.promised offset ≡ false
+  pub some : 0 < length w.held
+  pub fits : offset + length w.held < 2 ^ 64
+
+-- the cache with one more event counted
+abbrev pub counted : ℕ → Event → Cache → Cache
+counted now event s = record s { last_moment = now; steps = s.steps + 1; received = s.received + received_in event }
+
+-- An accepted event is answered, and the cache, once the event is counted, stands for the tables after it, whatever tables it stood for.
+abbrev pub Advances : Cache → Cache → List Act → List Act → ℕ → Event → Type 0
+Advances s u before out now event = (t : Tables) → StandsFor s t → refusal_of t event ≡ None → (out ≡ before ++ answer t event) × StandsFor (counted now event u) (next t now event)
+
+-- An event is answered, and the cache stands for the tables after it.
 abbrev pub Steps : Cache → Cache → List Act → List Act → ℕ → Event → Type 0
 Steps s u before out now event = (t : Tables) → StandsFor s t → (out ≡ before ++ answer t event) × StandsFor u (next t now event)

@@ -4,6 +4,7 @@
 mod cache;
 mod held;
 mod laws;
+mod length;
 mod rows;
 mod schedule;
 

@@ -34,6 +34,8 @@ pub struct Consumer {
 #[derive(Drop)]
 pub struct Exchange {
     pub c: u64,
+    /// Whether its request is a HEAD.
+    pub is_head: bool,
     pub head: Option<Response>,
     /// How many bytes its head promised.
     pub promised: Option<u64>,

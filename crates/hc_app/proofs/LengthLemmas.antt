@@ -1,0 +1,44 @@
+-- The length of a body, for the heads that are built.
+use Rattle.std.proofs.Common.{◌≡◌, ℕ, ◌+◌, ◌<◌, ◌≤◌, ◌^◌, List, [], ◌∷◌, length, Bool, true, false, cond, eqb, leb, ltb, Option, Some, None, refl, sym, ap, ◌∙◌, arith, lt-ltb, lit<}
+use Rattle.std.specs.Prelude.{codes, ◌&&◌}
+use Rattle.std.specs.Fmt.{decimal}
+use Rattle.std.specs.Str.{all_ascii_digits}
+use Rattle.std.specs.Str.Parse.{digits_value}
+use Rattle.std.proofs.lemmas.Bool.Decides.{nat_tests}
+use Rattle.std.proofs.lemmas.Fmt.{decimal_nonempty, length-decimal-le, digits_decimal, digits_value-decimal}
+use Rattle.std.proofs.lemmas.Str.Parse.{IsNumeralModel, numerals_by_value, tells_all_ascii_digits}
+use Rattle.hc_event.specs.declared.event.Response.{Response}
+use Rattle.hc_app.specs.declared.length.Length.{Length}
+use Rattle.hc_app.specs.declared.length.Length.TheVariants.{Unknown, Promised, Bad}
+use Rattle.hc_app.specs.Lengths.{number_of, length_by, length_told, values_named}
+use Rattle.hc_app.specs.Schedule.{DeclaresLength}
+use Rattle.hc_app.proofs.Kept.{eqb-same}
+
+digits : IsNumeralModel (λ ds. all_ascii_digits ds ≡ true) (digits_value 10)
+digits = numerals_by_value _ tells_all_ascii_digits
+
+le-leb : (m n : ℕ) → m ≤ n → leb m n ≡ true
+le-leb m n h = grind (arith, nat_tests)
+
+pub number_of-decimal : (n : ℕ) → n < 2 ^ 62 → number_of (decimal n) ≡ Some n
+number_of-decimal n small =
+    let fits : n < 2 ^ 64 = omega arith in
+    let some : leb 1 (length (decimal n)) ≡ true = le-leb _ _ (let h : 0 < length (decimal n) = decimal_nonempty n fits in omega arith) in
+    let few : leb (length (decimal n)) 20 ≡ true = le-leb _ _ (length-decimal-le 20 n (omega arith) (omega arith) fits) in
+    let value : digits_value 10 (decimal n) ≡ n = digits_value-decimal digits n fits in
+    let below : ltb n (2 ^ 62) ≡ true = lt-ltb n (2 ^ 62) small in
+    rw (some, few, digits_decimal digits n fits, value, below) refl
+
+told-one : (n : ℕ) → n < 2 ^ 62 → length_told (decimal n ∷ []) ≡ Promised n
+told-one n small = rw (number_of-decimal n small, eqb-same n) refl
+
+either_promises : (b : Bool) (l : Length) (n : ℕ) → l ≡ Promised n → (m : ℕ) × (cond b (Promised 0) l ≡ Promised m)
+either_promises true l n is = (0, refl)
+either_promises false l n is = (n, is)
+
+-- a head that declares its length promises it
+pub declared_promises : (is_head : Bool) (response : Response) → DeclaresLength response.fields → (n : ℕ) × (length_by is_head response ≡ Promised n)
+declared_promises is_head response declared =
+    let (n, small, is) = declared in
+    let told : length_told (values_named (codes "content-length") response.fields) ≡ Promised n = rw is (told-one n small) in
+    either_promises _ _ n told

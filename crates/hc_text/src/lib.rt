@@ -3,6 +3,10 @@
 
 mod bytes;
 mod memory;
+mod number;
+mod token;
 
 pub use bytes::{Bytes, Key, MethodName, Value};
 pub use memory::NoMemory;
+pub use number::{read_number, read_plain, write_number};
+pub use token::is_token;

@@ -2,7 +2,15 @@
 #![tactic(auto)]
 
 mod bytes;
+mod law;
+mod list;
 mod memory;
+mod number;
+mod token;
 
 pub use bytes::{Bytes, Key, MethodName, Value};
+pub use law::{a_text_has_one_cut, calls_give_the_elements};
+pub use list::{Item, next_item};
 pub use memory::NoMemory;
+pub use number::{read_number, read_plain, write_number};
+pub use token::is_token;

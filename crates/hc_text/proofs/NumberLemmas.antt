@@ -1,0 +1,48 @@
+-- What the two words for numbers in decimal have to do with one another.
+use Rattle.std.proofs.Common.{◌≡◌, ℕ, ◌<◌, ◌^◌, List, length, get_or, sym, ap, ◌∙◌, subst, inl, inr, arith, rules, true}
+use Rattle.std.specs.Char.{is_ascii_digit}
+use Rattle.std.specs.Fmt.{decimal}
+use Rattle.std.specs.List.{list_all}
+use Rattle.std.specs.Str.Parse.{AllDigits, digits_value}
+use Rattle.std.proofs.lemmas.Bool.{cases_lt}
+use Rattle.std.proofs.lemmas.Fmt.{decimal_is_IsNumeral, decimal_digit, first_decimal, length-decimal-le, decimal-digits_value, IsAscii-from_digits}
+use Rattle.std.proofs.lemmas.Str.{IsUtf8-from_ascii}
+use Rattle.std.specs.Str.{IsUtf8}
+use Rattle.std.proofs.lemmas.Str.Parse.{IsNumeralModel, numerals_by_value, tells_digits}
+use Rattle.hc_text.specs.Numbers.{IsPlain, IsNumber}
+
+pub own : IsNumeralModel (AllDigits 10) (digits_value 10)
+own = numerals_by_value _ tells_digits
+
+pub IsNumber-decimal : (n : ℕ) → n < 2 ^ 62 → IsNumber (decimal n) n
+IsNumber-decimal n small =
+    let written = decimal_is_IsNumeral n (omega arith) in
+    (small, written.0, length-decimal-le 20 n (omega arith) (omega arith) (omega arith), written.1)
+
+pub IsNumber-plain : (text : List ℕ) (n : ℕ) → IsPlain text n → IsNumber text n
+IsNumber-plain text n h = let P : List ℕ → Type 0 = λ t. IsNumber t n in subst P (sym h.1) (IsNumber-decimal n h.0)
+
+-- no plain decimal begins with 0 and goes on
+pub decimal_first : (n : ℕ) → n < 2 ^ 62 → get_or (decimal n) 0 0 ≡ 48 → length (decimal n) ≡ 1
+decimal_first n small zero =
+    elim (cases_lt 0 n) [
+      | inl more ↦ let first = first_decimal n more (omega arith) in absurd (omega arith)
+      | inr none ↦ ap length (decimal_digit n (omega arith))
+    ]
+
+pub plain_first : (text : List ℕ) (n : ℕ) → IsPlain text n → get_or text 0 0 ≡ 48 → length text ≡ 1
+plain_first text n h = let P : List ℕ → Type 0 = λ t. get_or t 0 0 ≡ 48 → length t ≡ 1 in subst P (sym h.1) (decimal_first n h.0)
+
+pub IsPlain-number : (text : List ℕ) (n : ℕ) → IsNumber text n → (get_or text 0 0 ≡ 48 → length text ≡ 1) → IsPlain text n
+IsPlain-number text n h first =
+    let small : digits_value 10 text < 2 ^ 64 = omega (arith, h.0, h.3) in
+    (h.0, sym (ap decimal (sym h.3) ∙ decimal-digits_value own text h.1.1 h.1.0 first small))
+
+tested : IsNumeralModel (λ ds. list_all is_ascii_digit ds ≡ true) (digits_value 10)
+tested = numerals_by_value _ (search rules)
+
+pub tested-AllDigits : (text : List ℕ) → AllDigits 10 text → list_all is_ascii_digit text ≡ true
+tested-AllDigits text h = tested.from text h
+
+pub IsUtf8-digits : (text : List ℕ) → AllDigits 10 text → IsUtf8 text
+IsUtf8-digits text h = IsUtf8-from_ascii text (IsAscii-from_digits text h)

@@ -1,0 +1,14 @@
+use Rattle.std.proofs.Common.{◌≡◌, ◌<◌, ◌≤◌}
+use Rattle.std.specs.Prelude.{slice_range}
+use Rattle.hc_text.specs.Elements.{trim_end}
+use Rattle.hc_text.proofs.list.trimmed_end.Given as goal
+
+abbrev pub invariant-loop-end : goal.invariant-loop-end
+invariant-loop-end l = record {
+  after : l.start < l.end;
+  within : l.end ≤ l.stop;
+  same : trim_end (slice_range l.text l.start l.stop) ≡ trim_end (slice_range l.text l.start l.end);
+}
+
+abbrev pub decreases-loop-end : goal.decreases-loop-end
+decreases-loop-end l = l.end

@@ -1,0 +1,110 @@
+//! Numbers in decimal, below 2^62.
+ghost use Rattle.std.specs.Prelude.{◌≡◌, ℕ, ◌<◌, ◌^◌, ◌++◌, drop, IfSome, IfNone, OnOk, OnErr, vec_len};
+ghost use Rattle.std.specs.Fmt.{decimal};
+ghost use Rattle.std.specs.Char.{is_ascii_digit};
+ghost use Rattle.std.specs.List.{list_all};
+ghost use Rattle.hc_text.specs.Numbers.{IsPlain, IsNumber};
+
+use crate::memory::NoMemory;
+use itoa::Buffer;
+
+/// Numbers are below this.
+const LIMIT: u64 = 1 << 62;
+
+/// The most digits of a number, leading zeros among them.
+const MOST_DIGITS: usize = 20;
+
+/// The value of 1 to 20 digits, where it is below 2^62. Leading zeros are allowed.
+pub fn read_number(text: &[u8]) -> Option<u64>
+    ensures found { IfSome result (IsNumber text.now) }
+    ensures none { IfNone result ((n : ℕ) → ¬ (IsNumber text.now n)) }
+{
+    if text.len() > MOST_DIGITS {
+        return None;
+    }
+    if !is_digits(text) {
+        return None;
+    }
+    let Ok(digits) = str::from_utf8(text) else {
+        return None;
+    };
+    let n = digits.parse::<u64>().ok()?;
+    if n < LIMIT { Some(n) } else { None }
+}
+
+/// The number below 2^62 whose plain decimal the text is: as `read_number`, without leading zeros.
+pub fn read_plain(text: &[u8]) -> Option<u64>
+    ensures found { IfSome result (IsPlain text.now) }
+    ensures none { IfNone result ((n : ℕ) → ¬ (IsPlain text.now n)) }
+{
+    if text.len() > 1 && text[0] == b'0' {
+        return None;
+    }
+    read_number(text)
+}
+
+/// Appends the plain decimal of the number, or nothing. `read_plain` reads it back.
+pub fn write_number(n: u64, to: &mut Vec<u8>) -> Result<(), NoMemory>
+    ensures ok { OnOk result (to.new.items ≡ to.old.items ++ decimal n) }
+    ensures err { OnErr result (to.new.items ≡ to.old.items) }
+    ensures read_back { OnOk result (n < 2 ^ 62 → IsPlain (drop (vec_len to.old) to.new.items) n) }
+{
+    let mut buffer = Buffer::new();
+    to.extend_from_slice(buffer.format(n).as_bytes())?;
+    Ok(())
+}
+
+/// Whether each byte is a decimal digit.
+fn is_digits(text: &[u8]) -> bool
+    ensures { result ≡ list_all is_ascii_digit text.now }
+{
+    text.iter().all(u8::is_ascii_digit)
+}
+
+#[cfg(test)]
+mod tests {
+    use super::*;
+    use std::test::Fail;
+
+    #[test]
+    fn reads_numbers(rt: HostRuntime) {
+        let table: [(&str, Option<u64>, Option<u64>); 14] = [
+            ("0", Some(0), Some(0)),
+            ("6", Some(6), Some(6)),
+            ("007", Some(7), None),
+            ("00", Some(0), None),
+            (
+                "4611686018427387903",
+                Some(4_611_686_018_427_387_903),
+                Some(4_611_686_018_427_387_903),
+            ),
+            ("4611686018427387904", None, None),
+            (
+                "04611686018427387903",
+                Some(4_611_686_018_427_387_903),
+                None,
+            ),
+            ("004611686018427387903", None, None),
+            ("18446744073709551616", None, None),
+            ("", None, None),
+            ("+1", None, None),
+            ("-1", None, None),
+            ("1 ", None, None),
+            ("1a", None, None),
+        ];
+        for (text, number, plain) in &table {
+            assert_eq!(rt; read_number(text.as_bytes()), *number, "{text}");
+            assert_eq!(rt; read_plain(text.as_bytes()), *plain, "{text}");
+        }
+    }
+
+    #[test]
+    fn writes_plain_numbers(rt: HostRuntime) -> Result<(), Fail> {
+        let mut to = Vec::new(rt.alloc());
+        write_number(6, &mut to)?;
+        assert_eq!(rt; to.as_slice(), b"6".as_slice());
+        write_number(4_611_686_018_427_387_903, &mut to)?;
+        assert_eq!(rt; to.as_slice(), b"64611686018427387903".as_slice());
+        Ok(())
+    }
+}

@@ -185,3 +185,6 @@ values_of-without_other name other (f ∷ fs) differ =
             | inr lacks ↦ rw (fails, lacks) rest
           ]
     ]
+
+pub sorted-without : (name : List ℕ) (fs : List Pair) → is_sorted fs ≡ true → is_sorted (without name fs) ≡ true
+sorted-without name fs sorted = sorted-filter (λ (f : Pair). not (has_name name f)) fs sorted

@@ -24,8 +24,8 @@ place_is test items i within fails passes =
     let len = length-map items pair in
     sym
     (position_or_len_is test (pairs_of items) i ([], []) (omega arith)
-      (λ k lt. rw (get_or-map pair items k nobody ([], []) (omega arith)) (fails k nobody (omega arith) lt))
-      (λ lt. rw (get_or-map pair items i nobody ([], []) (omega arith)) (passes i nobody (omega arith) (omega arith))))
+    (λ k lt. rw (get_or-map pair items k nobody ([], []) (omega arith)) (fails k nobody (omega arith) lt))
+    (λ lt. rw (get_or-map pair items i nobody ([], []) (omega arith)) (passes i nobody (omega arith) (omega arith))))
 
 -- no kept field comes before an earlier one
 pub kept_sorted : (items : List Field) → is_sorted (pairs_of items) ≡ true → (i j : ℕ) (d : Field) → i ≤ j → j < length items → comes_before (get_or items j d).name (get_or items i d).name ≡ false

@@ -1,0 +1,5 @@
+pub mod Names
+pub mod Sorted
+pub mod Places
+pub mod Edits
+pub mod Kept

@@ -1,0 +1,15 @@
+use Rattle.std.proofs.Common.{◌≡◌, ℕ, Bool, true, false, not, List, refl, rules, arith}
+use Rattle.std.proofs.lemmas.List.Sorted.{IsPartitionPoint-from_clause}
+use Rattle.http_header.specs.Token.{lowercase}
+use Rattle.hc_fields.specs.declared.field.Field.{Field}
+use Rattle.hc_fields.specs.FieldList.{comes_before}
+use Rattle.hc_fields.proofs.Places.{place_is, before_first}
+use Rattle.hc_fields.proofs.search.start_place.Goals as goal
+
+pub returns-clause-place : goal.returns-clause-place
+returns-clause-place c =
+    let name = lowercase c.args.name.now in
+    let items = c.args.items.now in
+    let cut = IsPartitionPoint-from_clause (λ (f : Field). comes_before f.name name) items c.partition_point.result c.partition_point.ensures.partitioned (before_first name items c.requires) (λ a r f k. search rules) in
+    place_is (λ (g : List ℕ × List ℕ). not (comes_before g.0 name)) items c.partition_point.result c.partition_point.ensures.bound
+    (λ k d low lt. rw (cut.0 k d low lt) refl) (λ k d low lt. rw (cut.1 k d low lt) refl)

@@ -1,0 +1,5 @@
+pub mod Faults
+pub mod Sink
+pub mod Writes
+pub mod Source
+pub mod Reads

@@ -1,5 +1,6 @@
 -- Bytes that are given one after another.
-use Rattle.std.proofs.Common.{◌≡◌, ℕ, ◌+◌, ◌<◌, ◌≤◌, List, [], ◌∷◌, ◌++◌, length, take, drop, Option, Some, None, refl, sym, ap, ◌∙◌, subst, arith, append_assoc, take-add}
+use Rattle.std.proofs.Common.{◌≡◌, ℕ, ◌+◌, ◌≤◌, List, [], ◌++◌, take, drop, Option, Some, None, refl, sym, ◌∙◌, append_assoc, take-add}
+use Rattle.std.proofs.lemmas.List.{take-take, drop-drop, take-append-drop}
 use Rattle.hc_io.specs.Source.{Gives}
 
 pub gives_none : (old : Option (List ℕ)) → Gives old old []
@@ -19,3 +20,8 @@ pub gives_next : (old mid new : Option (List ℕ)) (before after : List ℕ) (fi
     → Gives old new (take (filled + n) after)
 gives_next old mid new before after filled n f same g =
     rw (take-add filled n after, same) (gives_more old mid new (take filled before) (take n (drop filled after)) f g)
+
+-- what is taken from a place on, and what is left behind it
+pub split_left : (all given : List ℕ) (at k n : ℕ) → given ≡ take n (take k (drop at all)) → n ≤ k → drop at all ≡ given ++ drop (at + n) all
+split_left all given at k n is le =
+    rw (is, take-take n k (drop at all) le, ← drop-drop n at all) (sym (take-append-drop n (drop at all)))

@@ -3,3 +3,5 @@ pub mod Sink
 pub mod Writes
 pub mod Source
 pub mod Reads
+pub mod Memory
+pub mod Adapters

@@ -89,7 +89,7 @@ module _ (d : ℕ) where
   made_far t now (event.Cancel c) ne = refl
   made_far t now (event.Doom key) ne = refl
 
-  row_far : (t : Tables) (now : ℕ) (event : Event) (o : Option Consumer) → Sound t → t.consumer d ≡ o → subject t event ≢ d → dooms event o ≡ false →
+  pub row_far : (t : Tables) (now : ℕ) (event : Event) (o : Option Consumer) → Sound t → t.consumer d ≡ o → subject t event ≢ d → dooms event o ≡ false →
       consumer_after t d (record { now = now; event = event; acts = accepted_acts t event }) o ≡ o
   unfolding consumer_after
   row_far t now event None sound is ne other_key = made_far t now event ne

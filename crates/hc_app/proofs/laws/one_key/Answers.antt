@@ -1,5 +1,6 @@
 use Rattle.hc_app.proofs.OneKey.{keeps_consumers}
-use Rattle.hc_app.proofs.Soundness.{keeps_exchanges, sound_run}
+use Rattle.hc_app.proofs.Owners.{keeps_exchanges}
+use Rattle.hc_app.proofs.Soundness.{sound_run}
 use Rattle.hc_app.proofs.laws.one_key.Goals as goal
 
 pub returns-clause-consumers : goal.returns-clause-consumers

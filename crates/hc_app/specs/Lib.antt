@@ -10,3 +10,4 @@ pub mod Laws
 pub mod Histories
 pub mod Reads
 pub mod Stands
+pub mod Parts

@@ -1,16 +1,21 @@
 -- The length of a body, for the heads that are built.
-use Rattle.std.proofs.Common.{◌≡◌, ℕ, ◌+◌, ◌<◌, ◌≤◌, ◌^◌, List, [], ◌∷◌, length, Bool, true, false, cond, eqb, leb, ltb, Option, Some, None, refl, sym, ap, ◌∙◌, arith, lt-ltb, lit<}
-use Rattle.std.specs.Prelude.{codes, ◌&&◌}
+use Rattle.std.proofs.Common.{◌≡◌, ℕ, ◌+◌, ◌<◌, ◌≤◌, ◌^◌, List, [], ◌∷◌, length, get_or, Bool, true, false, cond, eqb, leb, ltb, Option, Some, None, refl, sym, ap, ◌∙◌, arith, lt-ltb, inl, inr}
+use Rattle.std.specs.Prelude.{codes, ◌&&◌, IfSome, IfNone}
+use Rattle.hc_text.specs.Numbers.{IsNumber}
+use Rattle.std.specs.List.{slice_get}
+use Rattle.std.proofs.lemmas.Option.{slice_get_within, slice_get-get_or}
 use Rattle.std.specs.Fmt.{decimal}
 use Rattle.std.specs.Str.{all_ascii_digits}
-use Rattle.std.specs.Str.Parse.{digits_value}
+use Rattle.std.specs.Str.Parse.{digits_value, IsNumeral}
+use Rattle.std.proofs.lemmas.Bool.{cases_Bool, and_parts}
 use Rattle.std.proofs.lemmas.Bool.Decides.{nat_tests}
 use Rattle.std.proofs.lemmas.Fmt.{decimal_nonempty, length-decimal-le, digits_decimal, digits_value-decimal}
 use Rattle.std.proofs.lemmas.Str.Parse.{IsNumeralModel, numerals_by_value, tells_all_ascii_digits}
 use Rattle.hc_event.specs.declared.event.Response.{Response}
 use Rattle.hc_app.specs.declared.length.Length.{Length}
 use Rattle.hc_app.specs.declared.length.Length.TheVariants.{Unknown, Promised, Bad}
-use Rattle.hc_app.specs.Lengths.{number_of, length_by, length_told, values_named}
+use Rattle.hc_fields.specs.FieldList.{values_of}
+use Rattle.hc_app.specs.Lengths.{number_of, length_by, length_told}
 use Rattle.hc_app.specs.Schedule.{DeclaresLength}
 use Rattle.hc_app.proofs.Kept.{eqb-same}
 
@@ -40,5 +45,40 @@ either_promises false l n is = (n, is)
 pub declared_promises : (is_head : Bool) (response : Response) → DeclaresLength response.fields → (n : ℕ) × (length_by is_head response ≡ Promised n)
 declared_promises is_head response declared =
     let (n, small, is) = declared in
-    let told : length_told (values_named (codes "content-length") response.fields) ≡ Promised n = rw is (told-one n small) in
+    let told : length_told (values_of (codes "content-length") response.fields) ≡ Promised n = rw is (told-one n small) in
     either_promises _ _ n told
+
+leb-le : (m n : ℕ) → leb m n ≡ true → m ≤ n
+leb-le m n h = grind (arith, nat_tests)
+
+ltb-lt : (m n : ℕ) → ltb m n ≡ true → m < n
+ltb-lt m n h = grind (arith, nat_tests)
+
+abbrev is_number : List ℕ → Bool
+is_number text = leb 1 (length text) && leb (length text) 20 && all_ascii_digits text && ltb (digits_value 10 text) (2 ^ 62)
+
+-- what is read as a number is one, and what isn't is none
+pub number_of-read : (text : List ℕ) (r : Option ℕ) → IfSome r (IsNumber text) → IfNone r ((n : ℕ) → ¬ (IsNumber text n)) → r ≡ number_of text
+number_of-read text (Some n) found none =
+    let (small, numeral, short, value) = found in
+    let some : leb 1 (length text) ≡ true = le-leb _ _ (let h : 0 < length text = numeral.0 in omega arith) in
+    let few : leb (length text) 20 ≡ true = le-leb _ _ short in
+    let below : ltb n (2 ^ 62) ≡ true = lt-ltb n (2 ^ 62) small in
+    rw (some, few, digits.from text numeral.1, value, below) refl
+number_of-read text None found none =
+    elim (cases_Bool (is_number text)) [
+      inl is ↦
+        let (front, below) = and_parts (leb 1 (length text) && leb (length text) 20 && all_ascii_digits text) (ltb (digits_value 10 text) (2 ^ 62)) is in
+        let (sizes, all) = and_parts (leb 1 (length text) && leb (length text) 20) (all_ascii_digits text) front in
+        let (some, few) = and_parts (leb 1 (length text)) (leb (length text) 20) sizes in
+        let numeral : IsNumeral 10 text = (let h : 1 ≤ length text = leb-le _ _ some in omega arith, digits.to text all) in
+        absurd (none (digits_value 10 text) (ltb-lt _ _ below, numeral, leb-le _ _ few, refl))
+    | inr isnt ↦ sym (rw isnt refl)
+    ]
+
+-- the value at a place
+pub value_at : (values : List (List ℕ)) (i : ℕ) (value : List ℕ) → Some value ≡ slice_get values i → (i < length values) × (get_or values i [] ≡ value)
+value_at values i value is =
+    let lt : i < length values = slice_get_within values i value (sym is) in
+    let there : Some (get_or values i []) ≡ Some value = sym (slice_get-get_or values i [] lt) ∙ sym is in
+    (lt, cc)

@@ -3,6 +3,7 @@ use Rattle.std.specs.Prelude.{ℕ, ◌^◌, List, [], ◌∷◌, length, codes, 
 use Rattle.std.specs.List.{list_all}
 use Rattle.std.specs.Str.{all_ascii_digits}
 use Rattle.std.specs.Str.Parse.{digits_value}
+use Rattle.hc_fields.specs.FieldList.{values_of}
 use Rattle.hc_event.specs.declared.event.Request.{Request}
 use Rattle.hc_event.specs.declared.event.Response.{Response}
 use Rattle.hc_app.specs.declared.length.Length.{Length}
@@ -12,11 +13,6 @@ use Rattle.hc_app.specs.declared.length.Length.TheVariants.{Unknown, Promised, B
 abbrev pub number_of : List ℕ → Option ℕ
 number_of text = if nat_le 1 (length text) && nat_le (length text) 20 && all_ascii_digits text && nat_lt (digits_value 10 text) (2 ^ 62) then Some (digits_value 10 text) else None
 
--- the values of a field, in order of arrival
-abbrev pub values_named : List ℕ → List (List ℕ × List ℕ) → List (List ℕ)
-values_named name [] = []
-values_named name (field ∷ fields) = if bytes_eq field.0 name then field.1 ∷ values_named name fields else values_named name fields
-
 abbrev pub is_same_number : Option ℕ → Option ℕ → Bool
 is_same_number (Some m) (Some n) = m == n
 is_same_number _ _ = false
@@ -25,17 +21,21 @@ abbrev pub told : Option ℕ → Length
 told None = Bad
 told (Some n) = Promised n
 
+-- all values spell this number
+abbrev pub all_tell : Option ℕ → List (List ℕ) → Bool
+all_tell n values = list_all (λ value. is_same_number n (number_of value)) values
+
 -- the values are to spell one number
 abbrev pub length_told : List (List ℕ) → Length
 length_told [] = Unknown
-length_told (value ∷ values) = if list_all (λ other. is_same_number (number_of value) (number_of other)) (value ∷ values) then told (number_of value) else Bad
+length_told (value ∷ values) = if all_tell (number_of value) (value ∷ values) then told (number_of value) else Bad
 
 abbrev pub is_head : Request → Bool
 is_head request = bytes_eq request.method (codes "HEAD")
 
 -- the answer to a HEAD, and the statuses 204 and 304, have no body
 abbrev pub length_by : Bool → Response → Length
-length_by is_head response = if is_head || (response.status == 204 || response.status == 304) then Promised 0 else length_told (values_named (codes "content-length") response.fields)
+length_by is_head response = if is_head || (response.status == 204 || response.status == 304) then Promised 0 else length_told (values_of (codes "content-length") response.fields)
 
 unfoldable pub length_of : Request → Response → Length
 length_of request response = length_by (is_head request) response

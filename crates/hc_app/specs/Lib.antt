@@ -1,5 +1,8 @@
 pub mod Schedule
-pub mod Report
+pub mod Items
+pub mod Places
+pub mod Reader
+pub mod Reading
 pub mod Entries
 pub mod Lengths
 pub mod Rows
@@ -11,3 +14,6 @@ pub mod Histories
 pub mod Reads
 pub mod Stands
 pub mod Parts
+pub mod Report
+pub mod Replayed
+pub mod Program

@@ -5,6 +5,7 @@ mod cache;
 mod held;
 mod laws;
 mod length;
+mod replay;
 mod report;
 mod rows;
 mod schedule;

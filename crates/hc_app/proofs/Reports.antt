@@ -1,11 +1,11 @@
 -- A report goes on by one entry.
-use Rattle.std.proofs.Common.{◌≡◌, ℕ, ◌+◌, ◌<◌, ◌≤◌, ◌^◌, List, [], ◌∷◌, ◌++◌, length, take, drop, get_or, Bool, true, false, cond, Option, Some, None, refl, sym, ap, ◌∙◌, subst, arith, append_assoc, length-append, All}
+use Rattle.std.proofs.Common.{◌≡◌, ℕ, suc, ◌+◌, ◌<◌, ◌≤◌, ◌^◌, List, [], ◌∷◌, ◌++◌, length, take, drop, get_or, Bool, true, false, cond, Option, Some, None, refl, sym, ap, ◌∙◌, subst, arith, append_assoc, length-append, All}
 use Rattle.std.proofs.lemmas.List.{append-nil, take-append-drop, take_more, length-take}
 use Rattle.std.proofs.Math.Seq.{drop-cons}
 use Rattle.hc_event.specs.Filters.{is_denied}
 use Rattle.hc_event.specs.declared.act.Act.{Act}
 use Rattle.hc_io.specs.Sink.{Takes, TakesFront}
-use Rattle.hc_io.proofs.Takings.{takes_more}
+use Rattle.hc_io.proofs.Takings.{takes_more, takes_none}
 use Rattle.hc_app.specs.Entries.{Entry, History}
 use Rattle.hc_app.specs.Rows.{Tables}
 use Rattle.hc_app.specs.Tables.{tables, after, after_denied, after_accepted, received_in}
@@ -152,4 +152,8 @@ around xs i x lt is =
 
 -- what is left of a list before one of its items
 pub from : (xs : List Timed) (i : ℕ) (x : Timed) → i < length xs → x ≡ get_or xs i x → drop i xs ≡ x ∷ drop (i + 1) xs
-from xs i x lt is = ?
+from xs i x lt is = let step : i + 1 ≡ suc i = omega arith in rw step (drop-cons xs i x lt ∙ ap (λ (y : Timed). y ∷ drop (suc i) xs) (sym is))
+
+-- nothing is reported yet
+pub started : (cache : Cache) (before : Option (List ℕ)) → StandsFor cache (tables []) → IsReported cache [] before before
+started cache before stands = record { history = []; run = tt; stands = stands; events_are = refl; report = takes_none before }

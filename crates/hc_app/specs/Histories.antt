@@ -1,5 +1,5 @@
 -- What the list of entries says, entry by entry, of a consumer and of an exchange.
-use Rattle.std.specs.Prelude.{◌≡◌, ℕ, List, [], ◌∷◌, ◌++◌, length, Option, Some, None, is_some, option_map, option_and_then, if◌then◌else◌, ◌==◌}
+use Rattle.std.specs.Prelude.{◌≡◌, ℕ, List, [], ◌∷◌, ◌++◌, length, Option, Some, None, is_some, option_map, option_and_then, if◌then◌else◌, ◌==◌, ◌||◌, ◌&&◌, not, Bool, false}
 use Rattle.std.specs.Option.{option_map_or}
 use Rattle.hc_event.specs.Filters.{is_denied, given_in}
 use Rattle.hc_event.specs.declared.event.Event.{Event}
@@ -39,6 +39,10 @@ abbrev pub bytes_in : ℕ → Event → List ℕ
 bytes_in x (event.Piece y bytes) = if y == x then bytes else []
 bytes_in x _ = []
 
+abbrev pub ends_in : ℕ → Event → Bool
+ends_in x (event.End y) = y == x
+ends_in x _ = false
+
 -- the request of a consumer: that of its accepted start
 abbrev pub request_of : ℕ → History → Option Request
 request_of c h = first (each (λ e. if_accepted e (request_in c e.event)) h)
@@ -50,6 +54,11 @@ head_of x h = first (each (λ e. if_accepted e (head_in x e.event)) h)
 -- the bytes that an exchange delivered: those of its accepted pieces
 abbrev pub delivered_of : ℕ → History → List ℕ
 delivered_of x h = each (λ e. if_accepted e (bytes_in x e.event)) h
+
+-- an exchange ended: it had an accepted End
+abbrev pub has_ended : ℕ → History → Bool
+has_ended x [] = false
+has_ended x (e ∷ h) = (not (is_denied e.acts) && ends_in x e.event) || has_ended x h
 
 -- the bytes that a consumer was given
 abbrev pub given_of : ℕ → History → List ℕ
@@ -75,6 +84,7 @@ pub record IsFiltered (h : History) (t : Tables) : Type 0 where
   pub requests : (c : ℕ) → option_map (λ (r : Consumer). r.request) (t.consumer c) ≡ request_of c h
   pub heads : (x : ℕ) → option_and_then (λ (w : Exchange). w.head) (t.exchange x) ≡ head_of x h
   pub bodies : (x : ℕ) → option_map_or (λ (w : Exchange). w.body) (t.exchange x) [] ≡ delivered_of x h
+  pub ends : (x : ℕ) → option_map_or (λ (w : Exchange). w.is_ended) (t.exchange x) false ≡ has_ended x h
   pub offsets : (c : ℕ) → option_map_or (λ (r : Consumer). r.offset) (t.consumer c) 0 ≡ length (given_of c h)
 
 abbrev pub RunsAreFiltered : Type 0

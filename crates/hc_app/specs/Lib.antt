@@ -1,8 +1,6 @@
 pub mod Schedule
-pub mod Items
-pub mod Places
-pub mod Reader
 pub mod Reading
+pub mod Reader
 pub mod Entries
 pub mod Lengths
 pub mod Rows

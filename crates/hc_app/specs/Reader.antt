@@ -1,4 +1,6 @@
 -- Auxiliary: what the parts of the reader make of their texts, step by step. No public contract cites it: they speak of the grammar alone.
+pub mod Items
+pub mod Places
 use Rattle.std.specs.Prelude.{ℕ, ◌+◌, ◌^◌, ◌==◌, ◌&&◌, ◌||◌, ◌%◌, nat_lt, nat_le, Bool, false, List, [], ◌∷◌, length, take, drop, codes, bytes_eq, position, Option, Some, None, option_map, if◌then◌else◌}
 use Rattle.std.specs.List.{list_all}
 use Rattle.std.specs.Fmt.{decimal}

@@ -7,7 +7,7 @@ use Rattle.hc_app.specs.declared.schedule.Timed.{Timed}
 use Rattle.hc_app.specs.Schedule.{Item, Spells, IsRefused, events_of}
 
 -- The text spells items, and their events were added.
-pub record AddsEvents (text : List ℕ) (old new : List Timed) : Type 0 where
+pub record ReadsText (text : List ℕ) (old new : List Timed) : Type 0 where
   pub items : List Item
   pub spells : Spells text items
   pub adds : new ≡ old ++ events_of items

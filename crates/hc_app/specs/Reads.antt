@@ -1,11 +1,11 @@
 -- What a consumer reads: one interval of the body of one answer, as its exchange delivered it.
-use Rattle.std.specs.Prelude.{◌≡◌, ℕ, ◌+◌, ◌≤◌, List, [], ◌∷◌, length, take, drop, Option, Some, None, IfSome, ◌≢◌}
+use Rattle.std.specs.Prelude.{◌≡◌, ℕ, ◌+◌, ◌≤◌, List, [], ◌∷◌, length, take, drop, Option, Some, None, IfSome, ◌≢◌, true}
 use Rattle.hc_event.specs.declared.act.Act.{Act}
 use Rattle.hc_event.specs.declared.act.Act.TheVariants as act
 use Rattle.hc_event.specs.declared.act.Why.TheVariants as reason
 use Rattle.hc_app.specs.Entries.{Entry, History}
 use Rattle.hc_app.specs.Runs.{IsRun}
-use Rattle.hc_app.specs.Histories.{Showing, showings_of, given_of, delivered_of}
+use Rattle.hc_app.specs.Histories.{Showing, showings_of, given_of, delivered_of, has_ended}
 
 -- the consumer was shown this, once
 abbrev pub WasShown : ℕ → History → Showing → Type 0
@@ -19,14 +19,14 @@ pub record IsNext (h : History) (c : ℕ) (s : Showing) (x at : ℕ) (bytes : Li
   pub delivered : take (length bytes) (drop at (delivered_of x h)) ≡ bytes
   pub within : IfSome s.hi (λ hi. at + length bytes ≤ hi)
 
--- where the body ends: where it was shown to, or where the exchange ended
-abbrev pub end_shown : History → ℕ → Option ℕ → ℕ
-end_shown h r (Some hi) = hi
-end_shown h r None = length (delivered_of r h)
+-- n is the end of the body: where it was shown to, or, where that wasn't known, all that the exchange delivered, which ended
+abbrev pub IsAtEnd : History → ℕ → Option ℕ → ℕ → Type 0
+IsAtEnd h r (Some hi) n = n ≡ hi
+IsAtEnd h r None n = (has_ended r h ≡ true) × (n ≡ length (delivered_of r h))
 
 -- all bytes were given
 abbrev pub IsWhole : History → ℕ → Showing → Type 0
-IsWhole h c s = s.lo + length (given_of c h) ≡ end_shown h s.r s.hi
+IsWhole h c s = IsAtEnd h s.r s.hi (s.lo + length (given_of c h))
 
 -- An act after these entries keeps what a reader may rely on.
 abbrev pub ReadsAct : History → Act → Type 0

@@ -8,6 +8,7 @@ mod length;
 mod replay;
 mod report;
 mod rows;
+mod run;
 mod schedule;
 
 fn main() {}

@@ -45,13 +45,13 @@ pub fn replay<K: Sink>(
     let mut number = 0;
     for timed in events {
         number += 1;
-        if answer(cache, number, timed, &mut acts, &mut text).is_err() {
-            return Ended::NoMemory;
-        }
-        match write_all(sink, text.as_slice()) {
-            Ok(()) => {}
-            Err(SinkError::SinkFailed) => return Ended::SinkFailed,
-            Err(SinkError::NoMemory) => return Ended::NoMemory,
+        match answer(cache, number, timed, &mut acts, &mut text) {
+            Err(NoMemory) => return Ended::NoMemory,
+            Ok(()) => match write_all(sink, text.as_slice()) {
+                Ok(()) => {}
+                Err(SinkError::SinkFailed) => return Ended::SinkFailed,
+                Err(SinkError::NoMemory) => return Ended::NoMemory,
+            },
         }
     }
     Ended::Done

@@ -1,7 +1,7 @@
 //! The reader of schedules: a text in, its events out.
 ghost use Rattle.hc_app.specs.declared.schedule.FeedError.TheVariants.{NoMemory as no_memory};
 ghost use Rattle.std.specs.Prelude.{◌≡◌, ◌≤◌, ◌^◌, length, OnOk, IfErr};
-ghost use Rattle.hc_app.specs.Reading.{AddsEvents, EndsAt, HasOneSpelling, IsNeverRefused, HasOneRefusal};
+ghost use Rattle.hc_app.specs.Reading.{ReadsText, EndsAt, HasOneSpelling, IsNeverRefused, HasOneRefusal};
 
 mod forms;
 mod item;
@@ -59,7 +59,7 @@ impl From<NoMemory> for FeedError {
 /// At a refusal those of the items before the refused line are appended.
 pub fn read_whole(alloc: Global, input: &[u8], out: &mut Vec<Timed>) -> Result<(), FeedError>
     requires { length input.now ≤ 2 ^ 60 }
-    ensures ok { OnOk result (AddsEvents input.now out.old.items out.new.items) }
+    ensures ok { OnOk result (ReadsText input.now out.old.items out.new.items) }
     ensures err { IfErr result (λ e. EndsAt e input.now out.old.items out.new.items) }
 {
     let mut lines = Lines::new(input);

@@ -44,7 +44,7 @@ fn is_target(text: &[u8]) -> bool
 }
 
 /// The number that the words begin with, and what stands behind its space.
-#[tactic(auto, using(crate::proofs::Plain::plain_of_is), unfolding(crate::specs::Reader::numbered))]
+#[tactic(auto, using(crate::proofs::Reading::Plain::plain_of_is), unfolding(crate::specs::Reader::numbered))]
 fn numbered(words: &[u8]) -> Option<(u64, &[u8])>
     ensures { option_map (λ parts. (parts.0, parts.1.now)) result ≡ numbered words.now }
 {
@@ -54,7 +54,7 @@ fn numbered(words: &[u8]) -> Option<(u64, &[u8])>
 }
 
 /// `C WANT`.
-#[tactic(auto, using(crate::proofs::Plain::plain_of_is), unfolding(crate::specs::Reader::poll_of))]
+#[tactic(auto, using(crate::proofs::Reading::Plain::plain_of_is), unfolding(crate::specs::Reader::poll_of))]
 pub fn read_poll(words: &[u8]) -> Option<Event>
     ensures { result ≡ poll_of words.now }
 {
@@ -75,8 +75,8 @@ fn start_target(words: &[u8]) -> Option<&[u8]>
     ensures { option_copied result ≡ start_target words.now }
 {
     let named = words.strip_prefix(b"GET disable ")?;
-    let (target, fields) = cut(named, b' ')?;
-    if fields == b"0".as_slice() && is_target(target) {
+    let (target, count) = cut(named, b' ')?;
+    if count == b"0".as_slice() && is_target(target) {
         Some(target)
     } else {
         None
@@ -189,7 +189,7 @@ pub fn head_number(line: &[u8]) -> Option<u64>
 }
 
 /// `content-length: N`: the number as it is spelled.
-#[tactic(auto, using(crate::proofs::Plain::plain_of_is), unfolding(crate::specs::Reader::behind, crate::specs::Reader::length_value))]
+#[tactic(auto, using(crate::proofs::Reading::Plain::plain_of_is), unfolding(crate::specs::Reader::behind, crate::specs::Reader::length_value))]
 fn length_value(line: &[u8]) -> Option<&[u8]>
     ensures { option_copied result ≡ length_value line.now }
 {

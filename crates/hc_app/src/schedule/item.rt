@@ -1,6 +1,6 @@
 //! The items of a schedule.
 ghost use Rattle.std.specs.Prelude.{◌≡◌, ◌+◌, ◌^◌, ◌<◌, IfOk, OnOk, MatchOption, option_map, Some, None};
-ghost use Rattle.hc_app.specs.Items.{as_item, line_item, head_item, item_of, lines_of};
+ghost use Rattle.hc_app.specs.Reader.Items.{as_item, line_item, head_item, item_of, lines_of};
 
 use super::forms::{head_number, read_piece, read_poll, read_response, read_start};
 use super::lines::Lines;
@@ -18,7 +18,7 @@ pub enum Item {
 }
 
 /// An item of one line.
-#[tactic(auto, using(crate::proofs::Plain::plain_of_is), unfolding(crate::specs::Reader::behind, crate::specs::Items::line_item))]
+#[tactic(auto, using(crate::proofs::Reading::Plain::plain_of_is), unfolding(crate::specs::Reader::behind, crate::specs::Reader::Items::line_item))]
 fn read_line(alloc: Global, line: &[u8]) -> Result<Option<Item>, NoMemory>
     ensures { IfOk result (λ r. option_map as_item r ≡ line_item line.now) }
 {
@@ -38,7 +38,7 @@ fn read_line(alloc: Global, line: &[u8]) -> Result<Option<Item>, NoMemory>
 }
 
 /// The head of `x`, whose field is the next line.
-#[tactic(auto, unfolding(crate::specs::Items::head_item))]
+#[tactic(auto, unfolding(crate::specs::Reader::Items::head_item))]
 fn read_head(alloc: Global, x: u64, lines: &mut Lines) -> Result<Option<Item>, NoMemory>
     requires { lines.old.number < 2 ^ 62 }
     ensures item { IfOk result (λ r. MatchOption r (head_item x lines.old.rest.now ≡ None)
@@ -56,7 +56,7 @@ fn read_head(alloc: Global, x: u64, lines: &mut Lines) -> Result<Option<Item>, N
 
 /// The next item, or None where none is spelled. The line that was asked for last is then the one
 /// that cannot be read.
-#[tactic(auto, unfolding(crate::specs::Items::item_of, crate::specs::Items::begins_head, crate::specs::Items::lines_of))]
+#[tactic(auto, unfolding(crate::specs::Reader::Items::item_of, crate::specs::Reader::Items::begins_head, crate::specs::Reader::Items::lines_of))]
 pub fn read_item(alloc: Global, lines: &mut Lines) -> Result<Option<Item>, NoMemory>
     requires { lines.old.number < 2 ^ 61 }
     ensures item { IfOk result (λ r. MatchOption r (item_of lines.old.rest.now ≡ None)

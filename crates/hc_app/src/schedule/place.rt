@@ -1,8 +1,8 @@
 //! What was read of a schedule, as far as it says what may follow.
 ghost use Rattle.std.specs.Prelude.{◌≡◌, [], ◌∷◌, ◌++◌, OnOk, OnErr};
 ghost use Rattle.hc_app.specs.Schedule.{events_from};
-ghost use Rattle.hc_app.specs.Items.{as_item};
-ghost use Rattle.hc_app.specs.Places.{first_place, allows, place_after};
+ghost use Rattle.hc_app.specs.Reader.Items.{as_item};
+ghost use Rattle.hc_app.specs.Reader.Places.{first_place, allows, place_after};
 
 use super::Timed;
 use super::item::Item;

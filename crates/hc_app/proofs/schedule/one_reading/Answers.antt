@@ -1,4 +1,4 @@
-use Rattle.hc_app.proofs.OneReading.{one_spelling, never_refused, one_refusal}
+use Rattle.hc_app.proofs.Reading.Laws.{one_spelling, never_refused, one_refusal}
 use Rattle.hc_app.proofs.schedule.one_reading.Goals as goal
 
 pub returns-clause-spelling : goal.returns-clause-spelling

@@ -1,8 +1,8 @@
-use Rattle.std.proofs.Common.{◌≡◌, ◌≢◌, ◌+◌, [], ◌∷◌, ◌++◌, Some, None, true, false, rules, sym, ◌∙◌, subst}
+use Rattle.std.proofs.Common.{◌≡◌, ◌≢◌, ◌+◌, [], ◌∷◌, ◌++◌, Some, None, true, false, rules}
 use Rattle.hc_app.specs.Schedule.{events_from}
-use Rattle.hc_app.specs.Items.{as_item, item_of, lines_of}
-use Rattle.hc_app.specs.Places.{allows, place_after}
-use Rattle.hc_app.proofs.Progress.{Progress, StopsAt-none, StopsAt-denied, EndsAt-refused, Progress-next, shorter}
+use Rattle.hc_app.specs.Reader.Items.{as_item, item_of, lines_of}
+use Rattle.hc_app.specs.Reader.Places.{allows, place_after}
+use Rattle.hc_app.proofs.Reading.Progress.{StopsAt-none, StopsAt-denied, EndsAt-refused, Progress-next, shorter}
 use Rattle.hc_app.proofs.schedule.read_whole.Goals as goal
 
 pub returns-in_default-clause-err : goal.returns-in_default-clause-err

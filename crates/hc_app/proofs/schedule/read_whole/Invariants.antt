@@ -1,5 +1,5 @@
 use Rattle.std.proofs.Common.{length}
-use Rattle.hc_app.proofs.Progress.{Progress}
+use Rattle.hc_app.proofs.Reading.Progress.{Progress}
 use Rattle.hc_app.proofs.schedule.read_whole.Given as goal
 
 abbrev pub invariant-loop-lines : goal.invariant-loop-lines

@@ -1,8 +1,8 @@
 use Rattle.std.proofs.Common.{◌≡◌, [], inl, inr, subst, rules}
 use Rattle.std.specs.Prelude.{codes}
 use Rattle.hc_fields.specs.FieldList.{Refuses}
-use Rattle.hc_app.proofs.FieldLengths.{never_refused}
-use Rattle.hc_app.proofs.Plain.{IsPlain-some}
+use Rattle.hc_app.proofs.Reading.Lengths.{never_refused}
+use Rattle.hc_app.proofs.Reading.Plain.{IsPlain-some}
 use Rattle.hc_app.proofs.schedule.forms.length_field.Goals as goal
 
 pub unreachable-requires : goal.unreachable-requires

@@ -1,5 +1,5 @@
 use Rattle.std.proofs.Common.{inl, inr, sym, ◌∙◌, rules}
-use Rattle.hc_app.proofs.Hex.{decode_of-lower}
+use Rattle.hc_app.proofs.Reading.Hex.{decode_of-lower}
 use Rattle.hc_app.proofs.schedule.forms.read_bytes.Goals as goal
 
 pub unreachable-requires : goal.unreachable-requires

@@ -1,6 +1,6 @@
 use Rattle.std.proofs.Common.{refl, rules}
-use Rattle.hc_app.proofs.Forms.{length_value-parts}
-use Rattle.hc_app.proofs.Plain.{plain_of-decimal}
+use Rattle.hc_app.proofs.Reading.Forms.{length_value-parts}
+use Rattle.hc_app.proofs.Reading.Plain.{plain_of-decimal}
 use Rattle.hc_app.proofs.schedule.forms.read_response.Goals as goal
 
 pub length_field-requires : goal.length_field-requires

@@ -1,6 +1,5 @@
 -- Auxiliary: the item that a text begins with, as the reader finds it. No public contract cites it: they speak of the grammar alone.
-use Rattle.std.specs.Prelude.{ℕ, List, [], ◌∷◌, codes, Option, Some, None, option_map, is_some, if◌then◌else◌}
-use Rattle.hc_event.specs.declared.event.Event.{Event}
+use Rattle.std.specs.Prelude.{ℕ, List, codes, Option, Some, None, option_map, is_some, if◌then◌else◌}
 use Rattle.hc_event.specs.declared.event.Event.TheVariants as event
 use Rattle.hc_app.specs.declared.schedule.item.Item.{Item as ReadItem}
 use Rattle.hc_app.specs.declared.schedule.item.Item.TheVariants as read

@@ -5,7 +5,7 @@ use Rattle.std.specs.Prelude.{nat_lt, All, bytes_eq, codes, if◌then◌else◌}
 use Rattle.std.proofs.lemmas.Slice.Eq.{bytes_eq-Decides}
 use Rattle.std.proofs.lemmas.List.{get_or_past}
 use Rattle.hc_app.specs.Schedule.{piece_text}
-use Rattle.hc_app.proofs.ReaderSteps.{lacks}
+use Rattle.hc_app.proofs.Reading.Steps.{lacks}
 use Rattle.std.proofs.lemmas.Bool.Decides.{nat_tests}
 use Rattle.std.specs.List.{AllPass, list_all}
 use Rattle.std.proofs.lemmas.List.Elements.{All-weaker, All-head, All-tail, All-nil, All-from_get_or}

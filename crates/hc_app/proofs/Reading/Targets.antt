@@ -1,5 +1,5 @@
 -- Targets: the test, and the bytes that they lack.
-use Rattle.std.proofs.Common.{◌≡◌, ℕ, ◌+◌, ◌<◌, ◌≤◌, ◌⊎◌, ◌==◌, Bool, true, false, not, cond, ◌&&◌, ◌||◌, List, [], ◌∷◌, ◌++◌, length, take, drop, Option, Some, None, refl, sym, ap, subst, ◌∙◌, inl, inr, arith}
+use Rattle.std.proofs.Common.{◌≡◌, ℕ, ◌<◌, ◌==◌, true, not, List, [], ◌∷◌, ◌++◌, length, drop, Some, refl, sym, subst, inl, inr, arith}
 use Rattle.std.specs.Prelude.{codes, nat_eq, nat_lt}
 use Rattle.std.specs.List.{list_all, starts_with}
 use Rattle.std.proofs.lemmas.Bool.{cases_Bool, and_parts, le-ltb, ltb-false}
@@ -8,7 +8,7 @@ use Rattle.std.proofs.lemmas.List.{drop_at}
 use Rattle.std.proofs.lemmas.Slice.Eq.{starts_is}
 use Rattle.hc_app.specs.Schedule.{is_target_byte, IsTarget}
 use Rattle.hc_app.specs.Reader.{behind, is_target, is_some_path}
-use Rattle.hc_app.proofs.ReaderSteps.{none_or_some, lacks, lacks-append, behind-append, append-behind}
+use Rattle.hc_app.proofs.Reading.Steps.{none_or_some, lacks, lacks-append, behind-append, append-behind}
 
 abbrev host : List ℕ
 host = codes "http://a.test/"

@@ -1,12 +1,12 @@
 -- A text has one reading.
-use Rattle.std.proofs.Common.{◌≡◌, ◌≢◌, ℕ, ◌+◌, ◌<◌, ◌≤◌, ◌⊎◌, ◌==◌, Bool, true, false, cond, List, [], ◌∷◌, ◌++◌, length, drop, Option, Some, None, refl, sym, ap, subst, ◌∙◌, inl, inr, arith, append_assoc, length-append}
+use Rattle.std.proofs.Common.{◌≡◌, ◌≢◌, ℕ, ◌<◌, ◌⊎◌, cond, List, [], ◌∷◌, ◌++◌, length, drop, Some, refl, sym, ap, subst, ◌∙◌, inl, inr, arith, append_assoc, length-append}
 use Rattle.std.specs.Prelude.{count_by, All}
 use Rattle.std.proofs.lemmas.List.Elements.{All-head, All-tail, All-cons, All-nil}
 use Rattle.std.proofs.lemmas.List.Sums.{sum_by-append}
 use Rattle.hc_app.specs.Schedule.{Item, item_text, text_of, IsBuilt, IsSchedule, Spells, IsRefused, IsRefusedLine, is_moment, is_start}
-use Rattle.hc_app.specs.Items.{item_of}
-use Rattle.hc_app.proofs.Items.{item_of-text, item_text-is, line_of, more_of}
-use Rattle.hc_app.proofs.LineCounts.{refused_line_is, newlines}
+use Rattle.hc_app.specs.Reader.Items.{item_of}
+use Rattle.hc_app.proofs.Reading.Items.{item_of-text, item_text-is, line_of, more_of}
+use Rattle.hc_app.proofs.Reading.LineCounts.{refused_line_is, newlines}
 
 -- two texts that begin with built items begin with one item, and one rest follows
 same_item : (x y : Item) (a b : List ℕ) → IsBuilt x → IsBuilt y → item_text x ++ a ≡ item_text y ++ b → (x ≡ y) × (a ≡ b)

@@ -1,5 +1,5 @@
 -- Auxiliary: what may stand where in a schedule, as the reader keeps it. No public contract cites it.
-use Rattle.std.specs.Prelude.{ℕ, Bool, true, false, not, ◌||◌}
+use Rattle.std.specs.Prelude.{Bool, true, false, not, ◌||◌}
 use Rattle.hc_event.specs.declared.event.Event.TheVariants as event
 use Rattle.hc_app.specs.declared.schedule.place.Place.{Place}
 use Rattle.hc_app.specs.Schedule.{Item, Moment, Happens, is_start}

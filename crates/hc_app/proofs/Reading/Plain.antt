@@ -1,5 +1,5 @@
 -- Plain numbers.
-use Rattle.std.proofs.Common.{◌≡◌, ℕ, ◌+◌, ◌^◌, ◌<◌, ◌⊎◌, Bool, true, false, not, ◌&&◌, ◌==◌, List, [], ◌∷◌, Option, Some, None, refl, sym, ap, ◌∙◌, inl, inr, arith, lt-ltb}
+use Rattle.std.proofs.Common.{◌≡◌, ℕ, ◌^◌, ◌<◌, Bool, true, not, ◌&&◌, ◌==◌, List, [], ◌∷◌, Option, Some, None, refl, sym, ap, ◌∙◌, inl, inr, arith, lt-ltb}
 use Rattle.std.specs.Prelude.{IsSome, IfSome, IfNone, bytes_eq, nat_lt}
 use Rattle.std.specs.Fmt.{decimal}
 use Rattle.std.specs.Int.{IsInRange}
@@ -11,7 +11,7 @@ use Rattle.std.proofs.lemmas.Fmt.{decimal_is_IsNumeral}
 use Rattle.std.proofs.lemmas.Slice.Eq.{bytes_eq-Decides}
 use Rattle.hc_text.specs.Numbers.{IsPlain}
 use Rattle.hc_app.specs.Reader.{plain_of}
-use Rattle.hc_app.proofs.ReaderSteps.{none_or_some, lacks}
+use Rattle.hc_app.proofs.Reading.Steps.{none_or_some, lacks}
 
 abbrev is_plain : List ℕ → Bool
 is_plain text = nat_lt (digits_value 10 text) (2 ^ 62) && bytes_eq text (decimal (digits_value 10 text))

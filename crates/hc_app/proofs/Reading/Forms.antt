@@ -1,22 +1,20 @@
 -- The forms of a line: what is read is spelled there, and what is spelled is read.
-use Rattle.std.proofs.Common.{◌≡◌, ℕ, ◌+◌, ◌^◌, ◌<◌, ◌≤◌, ◌⊎◌, ◌==◌, Bool, true, false, not, cond, ◌&&◌, List, [], ◌∷◌, ◌++◌, length, take, drop, Option, Some, None, refl, sym, ap, subst, ◌∙◌, inl, inr, arith, append_assoc}
+use Rattle.std.proofs.Common.{◌≡◌, ℕ, ◌^◌, ◌<◌, ◌≤◌, ◌&&◌, List, [], ◌∷◌, ◌++◌, Some, None, refl, sym, ap, subst, ◌∙◌, inl, inr, arith}
 use Rattle.std.specs.Prelude.{codes, bytes_eq, nat_lt, if◌then◌else◌}
 use Rattle.std.specs.Fmt.{decimal}
-use Rattle.std.specs.List.{list_all}
 use Rattle.std.proofs.lemmas.Bool.{cases_Bool, and_parts, le-ltb, ltb-false}
 use Rattle.std.proofs.lemmas.Slice.Eq.{bytes_eq-Decides}
 use Rattle.hc_event.specs.declared.event.Event.{Event}
 use Rattle.hc_event.specs.declared.event.Event.TheVariants as event
 use Rattle.hc_event.specs.declared.event.Load.TheVariants as load
-use Rattle.hc_event.specs.declared.event.Request.{Request}
 use Rattle.hc_event.specs.declared.event.Response.{Response}
 use Rattle.hc_text.specs.Numbers.{IsPlain}
-use Rattle.hc_app.specs.Schedule.{IsTarget, IsSmall, DeclaresLength, piece_text}
+use Rattle.hc_app.specs.Schedule.{IsTarget, IsSmall, piece_text}
 use Rattle.hc_app.specs.Reader.{◌>>=◌, cut, behind, plain_of, numbered, poll_of, start_target, start_words, start_of, piece_of, bytes_of, head_number, is_target, length_value, response_of}
-use Rattle.hc_app.proofs.ReaderSteps.{bind-Some, none_or_some, lacks, lacks-append, cut-first, append-cut, behind-append, append-behind}
-use Rattle.hc_app.proofs.Plain.{plain_of-decimal, IsPlain-plain_of, lacks-decimal}
-use Rattle.hc_app.proofs.Hex.{bytes_of-piece_text, IsPiece, IsPiece-bytes_of}
-use Rattle.hc_app.proofs.Targets.{is_target-from, IsTarget-from_test, lacks-target}
+use Rattle.hc_app.proofs.Reading.Steps.{bind-Some, cut-first, append-cut, behind-append, append-behind}
+use Rattle.hc_app.proofs.Reading.Plain.{plain_of-decimal, IsPlain-plain_of, lacks-decimal}
+use Rattle.hc_app.proofs.Reading.Hex.{bytes_of-piece_text, IsPiece, IsPiece-bytes_of}
+use Rattle.hc_app.proofs.Reading.Targets.{is_target-from, IsTarget-from_test, lacks-target}
 
 -- the number that words begin with
 pub record BeginsWith (words : List ℕ) (parts : ℕ × List ℕ) : Type 0 where

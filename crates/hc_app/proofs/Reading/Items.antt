@@ -1,23 +1,20 @@
 -- The first item of a text: what is read is built and stands there, and each built item is read back.
-use Rattle.std.proofs.Common.{◌≡◌, ◌≢◌, ℕ, ◌+◌, ◌^◌, ◌<◌, ◌≤◌, ◌⊎◌, ◌==◌, Bool, true, false, not, cond, ◌&&◌, List, [], ◌∷◌, ◌++◌, length, take, drop, Option, Some, None, refl, sym, ap, subst, ◌∙◌, inl, inr, arith, append_assoc}
-use Rattle.std.specs.Prelude.{codes, bytes_eq, count_by, option_map, is_some, if◌then◌else◌}
+use Rattle.std.proofs.Common.{◌≡◌, ◌≢◌, ℕ, ◌⊎◌, true, List, [], ◌∷◌, ◌++◌, length, Option, Some, None, refl, sym, ap, subst, ◌∙◌, inl, inr, arith, append_assoc}
+use Rattle.std.specs.Prelude.{codes, option_map}
 use Rattle.std.specs.Fmt.{decimal, digits}
-use Rattle.std.specs.List.{list_all}
-use Rattle.std.proofs.lemmas.Bool.{cases_Bool, and_parts}
-use Rattle.std.proofs.lemmas.List.Sums.{sum_by-append, sum_by-cons}
 use Rattle.hc_event.specs.declared.event.Event.{Event}
 use Rattle.hc_event.specs.declared.event.Event.TheVariants as event
 use Rattle.hc_event.specs.declared.event.Load.TheVariants as load
 use Rattle.hc_event.specs.declared.event.Request.{Request}
 use Rattle.hc_event.specs.declared.event.Response.{Response}
-use Rattle.hc_app.specs.Schedule.{Item, Moment, Happens, item_text, event_text, fields_text, load_word, piece_text, IsBuilt, IsSmall, IsTarget, DeclaresLength, BeginsHead, IsRefusedLine}
-use Rattle.hc_app.specs.Reader.{◌>>=◌, cut, behind, plain_of, poll_of, start_of, piece_of, head_number, response_of}
-use Rattle.hc_app.specs.Items.{or_else, line_item, head_item, item_of, begins_head, lines_of}
-use Rattle.hc_app.proofs.ReaderSteps.{bind-Some, none_or_some, lacks, lacks-append, cut-first, append-cut, behind-append, append-behind}
-use Rattle.hc_app.proofs.Plain.{plain_of-decimal, IsPlain-plain_of, lacks-decimal}
-use Rattle.hc_app.proofs.Hex.{IsPiece, lacks-piece_text}
-use Rattle.hc_app.proofs.Targets.{lacks-target}
-use Rattle.hc_app.proofs.Forms.{IsPoll-poll_of, poll_of-is, IsStart-start_of, start_of-is, IsPieceLine-piece_of, piece_of-is, head_number-parts, head_number-is, IsLength-response_of, response_of-is}
+use Rattle.hc_app.specs.Schedule.{Item, Moment, Happens, item_text, event_text, fields_text, load_word, piece_text, IsBuilt}
+use Rattle.hc_app.specs.Reader.{cut, behind, plain_of, poll_of, start_of, piece_of, head_number, response_of}
+use Rattle.hc_app.specs.Reader.Items.{or_else, line_item, head_item, item_of}
+use Rattle.hc_app.proofs.Reading.Steps.{bind-Some, none_or_some, lacks, lacks-append, cut-first, append-cut, append-behind}
+use Rattle.hc_app.proofs.Reading.Plain.{plain_of-decimal, IsPlain-plain_of, lacks-decimal}
+use Rattle.hc_app.proofs.Reading.Hex.{lacks-piece_text}
+use Rattle.hc_app.proofs.Reading.Targets.{lacks-target}
+use Rattle.hc_app.proofs.Reading.Forms.{IsPoll-poll_of, poll_of-is, IsStart-start_of, start_of-is, IsPieceLine-piece_of, piece_of-is, head_number-parts, head_number-is, IsLength-response_of, response_of-is}
 
 -- the first line of an item, without its line feed
 abbrev pub event_line : Event → List ℕ

@@ -1,20 +1,18 @@
 -- How many lines an item has, and the line at which a text is refused.
-use Rattle.std.proofs.Common.{◌≡◌, ◌≢◌, ℕ, ◌+◌, ◌<◌, ◌≤◌, ◌⊎◌, ◌==◌, Bool, true, false, not, cond, List, [], ◌∷◌, ◌++◌, length, Option, Some, None, refl, sym, ap, subst, ◌∙◌, inl, inr, arith, append_assoc}
+use Rattle.std.proofs.Common.{◌≡◌, ℕ, ◌+◌, ◌==◌, true, false, not, cond, List, [], ◌∷◌, ◌++◌, Some, None, refl, sym, ap, subst, ◌∙◌, inl, inr, arith, append_assoc}
 use Rattle.std.specs.Prelude.{codes, count_by, is_some}
 use Rattle.std.specs.Fmt.{decimal}
 use Rattle.std.proofs.lemmas.Bool.{and_parts, not-true}
 use Rattle.std.proofs.lemmas.List.Sums.{sum_by-append, sum_by-cons}
-use Rattle.hc_event.specs.declared.event.Event.{Event}
 use Rattle.hc_event.specs.declared.event.Event.TheVariants as event
-use Rattle.hc_event.specs.declared.event.Request.{Request}
 use Rattle.hc_event.specs.declared.event.Response.{Response}
 use Rattle.hc_app.specs.Schedule.{Item, Moment, Happens, item_text, fields_text, IsBuilt, BeginsHead, IsRefusedLine}
 use Rattle.hc_app.specs.Reader.{cut, head_number}
-use Rattle.hc_app.specs.Items.{begins_head, lines_of}
-use Rattle.hc_app.proofs.ReaderSteps.{bind-Some, none_or_some, lacks, lacks-append, cut-first, append-cut}
-use Rattle.hc_app.proofs.Plain.{lacks-decimal}
-use Rattle.hc_app.proofs.Forms.{head_number-parts, head_number-is}
-use Rattle.hc_app.proofs.Items.{line_of, more_of, item_text-is, lacks-line, cut-item, head_line, field_line, IsReadBack, moment_back, start_back, poll_back, piece_back}
+use Rattle.hc_app.specs.Reader.Items.{begins_head, lines_of}
+use Rattle.hc_app.proofs.Reading.Steps.{bind-Some, none_or_some, lacks, lacks-append, cut-first, append-cut}
+use Rattle.hc_app.proofs.Reading.Plain.{lacks-decimal}
+use Rattle.hc_app.proofs.Reading.Forms.{head_number-parts, head_number-is}
+use Rattle.hc_app.proofs.Reading.Items.{line_of, more_of, item_text-is, lacks-line, cut-item, head_line, field_line, IsReadBack, moment_back, start_back, poll_back, piece_back}
 
 -- the line feeds of a text
 abbrev pub newlines : List ℕ → ℕ

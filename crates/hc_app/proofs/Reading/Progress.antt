@@ -1,23 +1,22 @@
 -- What the reader keeps from item to item, and what it answers from that.
-use Rattle.std.proofs.Common.{◌≡◌, ◌≢◌, ℕ, ◌+◌, ◌<◌, ◌≤◌, ◌⊎◌, ◌==◌, Bool, true, false, not, cond, ◌||◌, List, [], ◌∷◌, ◌++◌, length, drop, Option, Some, None, refl, sym, ap, subst, ◌∙◌, inl, inr, arith, append_assoc, length-append}
+use Rattle.std.proofs.Common.{◌≡◌, ◌≢◌, ℕ, ◌+◌, ◌<◌, ◌≤◌, ◌==◌, Bool, true, false, cond, ◌||◌, List, [], ◌∷◌, ◌++◌, length, drop, Some, None, refl, sym, ap, subst, ◌∙◌, arith, append_assoc, length-append}
 use Rattle.std.specs.Prelude.{count_by, All}
 use Rattle.std.proofs.lemmas.Bool.{not-true, not-false}
 use Rattle.std.proofs.lemmas.List.Elements.{All-nil, All-push, All-head, All-tail}
 use Rattle.std.proofs.lemmas.List.Sums.{sum_by-append, count_by-le-length}
-use Rattle.hc_event.specs.declared.event.Event.{Event}
 use Rattle.hc_event.specs.declared.event.Event.TheVariants as event
 use Rattle.hc_app.specs.declared.schedule.Timed.{Timed}
 use Rattle.hc_app.specs.declared.schedule.place.Place.{Place}
-use Rattle.hc_app.specs.Schedule.{Item, Moment, Happens, item_text, text_of, IsBuilt, IsSchedule, Spells, IsRefused, IsRefusedLine, is_moment, is_start, events_from, events_of}
+use Rattle.hc_app.specs.Schedule.{Item, Moment, Happens, item_text, text_of, IsBuilt, IsSchedule, is_moment, is_start, events_from, events_of}
 use Rattle.hc_app.specs.declared.schedule.FeedError.{FeedError}
 use Rattle.hc_app.specs.declared.schedule.FeedError.TheVariants.{Refused}
 use Rattle.hc_app.specs.declared.schedule.SchedRefusal.TheVariants.{NotBuilt}
-use Rattle.hc_app.specs.Reading.{AddsEvents, StopsAt, EndsAt}
-use Rattle.hc_app.specs.Items.{item_of, lines_of}
-use Rattle.hc_app.specs.Places.{first_place, allows, place_after}
-use Rattle.hc_app.proofs.Items.{BeginsItem-item_of, item_of-text, none_begins}
-use Rattle.hc_app.proofs.LineCounts.{newlines, newlines-append, newlines-item, IsRefusedLine-lines_of}
-use Rattle.hc_app.proofs.OneReading.{item_text-long, text_of-append, append_none}
+use Rattle.hc_app.specs.Reading.{ReadsText, StopsAt, EndsAt}
+use Rattle.hc_app.specs.Reader.Items.{item_of, lines_of}
+use Rattle.hc_app.specs.Reader.Places.{first_place, allows, place_after}
+use Rattle.hc_app.proofs.Reading.Items.{BeginsItem-item_of, item_of-text, none_begins}
+use Rattle.hc_app.proofs.Reading.LineCounts.{newlines, newlines-append, newlines-item, IsRefusedLine-lines_of}
+use Rattle.hc_app.proofs.Reading.Laws.{item_text-long, text_of-append, append_none}
 
 abbrev is_begun : List Item → Bool
 is_begun [] = false
@@ -167,8 +166,8 @@ few_lines text old new rest number place h =
     omega (arith, h.counted, count_by-le-length (λ b. b == 10) (text_of h.items), length-append (text_of h.items) rest, ap length h.whole)
 
 module _ (text : List ℕ) (old new : List Timed) (rest : List ℕ) (number : ℕ) (place : Place) (h : Progress text old new rest number place) where
-  pub AddsEvents-end : rest ≡ [] → AddsEvents text old new
-  AddsEvents-end none = record {
+  pub ReadsText-end : rest ≡ [] → ReadsText text old new
+  ReadsText-end none = record {
     items = h.items;
     spells = record { schedule = h.schedule; text_is = sym (append_none (text_of h.items)) ∙ ap (λ (l : List ℕ). text_of h.items ++ l) (sym none) ∙ h.whole };
     adds = h.adds;

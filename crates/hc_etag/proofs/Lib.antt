@@ -1,0 +1,2 @@
+pub mod EtagLemmas
+pub mod TagLemmas

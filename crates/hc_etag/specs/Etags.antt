@@ -1,0 +1,26 @@
+-- The grammar of an entity tag (RFC 9110 section 8.8.3).
+use Rattle.std.specs.Prelude.{◌≡◌, ℕ, ◌==◌, ◌||◌, ◌&&◌, nat_le, Bool, true, List, [], ◌∷◌, ◌++◌, codes, if◌then◌else◌}
+use Rattle.std.specs.List.{list_all}
+
+abbrev pub quote : ℕ
+quote = 34
+
+-- etagc: a visible byte but the quote, or a byte past ASCII
+abbrev pub is_etagc : ℕ → Bool
+is_etagc b = b == 33 || (nat_le 35 b && nat_le b 126) || (nat_le 128 b && nat_le b 255)
+
+-- what may stand between the quotes
+abbrev pub IsOpaque : List ℕ → Type 0
+IsOpaque opaque = list_all is_etagc opaque ≡ true
+
+-- opaque-tag, with W/ before it where the tag is weak
+abbrev pub tag_text : Bool → List ℕ → List ℕ
+tag_text weak opaque = (if weak then codes "W/" else []) ++ (quote ∷ opaque ++ quote ∷ [])
+
+-- the text is the entity tag with this mark and these bytes between its quotes
+abbrev pub SpellsTag : List ℕ → Bool → List ℕ → Type 0
+SpellsTag text weak opaque = IsOpaque opaque × (text ≡ tag_text weak opaque)
+
+-- the text begins with an entity tag
+abbrev pub BeginsTag : List ℕ → Type 0
+BeginsTag text = (weak : Bool) × (opaque : List ℕ) × (rest : List ℕ) × IsOpaque opaque × (text ≡ tag_text weak opaque ++ rest)

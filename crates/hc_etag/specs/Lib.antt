@@ -1,0 +1,3 @@
+pub mod Etags
+pub mod Tags
+pub mod TagLists

@@ -1,0 +1,87 @@
+//! The entity tag that a text begins with.
+ghost use Rattle.std.specs.Prelude.{◌≡◌, ◌≢◌, ℕ, ◌+◌, List, [], ◌∷◌, ◌++◌, IfOk, IfSome, IfNone};
+ghost use Rattle.std.specs.List.{prefix_len};
+ghost use Rattle.hc_etag.specs.Etags.{is_etagc, IsOpaque, tag_text, BeginsTag, quote};
+
+use crate::tag::Tag;
+use hc_text::{Bytes, NoMemory};
+use std::alloc::Global;
+
+/// An entity tag, and what follows it.
+#[derive(Clone, Copy)]
+pub struct Front<'a> {
+    pub weak: bool,
+    pub opaque: &'a [u8],
+    pub rest: &'a [u8],
+}
+
+impl Front<'_> {
+    /// The entity tag, as a value of its own.
+    pub fn tag(&self, alloc: Global) -> Result<Tag, NoMemory>
+        requires { IsOpaque self.now.opaque.now }
+        ensures weak { IfOk result (λ tag. tag.weak ≡ self.now.weak) }
+        ensures opaque { IfOk result (λ tag. tag.opaque ≡ self.now.opaque.now) }
+    {
+        let bytes = self.opaque.to_vec(alloc)?;
+        Ok(Tag {
+            weak: self.weak,
+            opaque: Bytes { bytes },
+        })
+    }
+}
+
+/// The entity tag that the text begins with.
+pub fn front_tag(text: &[u8]) -> Option<Front<'_>>
+    ensures opaque { IfSome result (λ front. IsOpaque front.opaque.now) }
+    ensures found { IfSome result (λ front. text.now ≡ tag_text front.weak front.opaque.now ++ front.rest.now) }
+    ensures none { IfNone result (¬ (BeginsTag text.now)) }
+{
+    if text.len() >= 2 && text[0] == b'W' && text[1] == b'/' {
+        let (opaque, rest) = front_opaque(&text[2..])?;
+        return Some(Front {
+            weak: true,
+            opaque,
+            rest,
+        });
+    }
+    let (opaque, rest) = front_opaque(text)?;
+    Some(Front {
+        weak: false,
+        opaque,
+        rest,
+    })
+}
+
+/// The bytes between the quotes that the text begins with, and what follows the second quote.
+fn front_opaque(text: &[u8]) -> Option<(&[u8], &[u8])>
+    ensures opaque { IfSome result (λ front. IsOpaque front.0.now) }
+    ensures found { IfSome result (λ front. text.now ≡ (quote ∷ front.0.now) ++ (quote ∷ front.1.now)) }
+    ensures none { IfNone result ((opaque rest : List ℕ) → IsOpaque opaque → text.now ≢ (quote ∷ opaque) ++ (quote ∷ rest)) }
+{
+    let (first, inside) = text.split_first()?;
+    if *first != b'"' {
+        return None;
+    }
+    let len = opaque_len(inside);
+    if len == inside.len() {
+        return None;
+    }
+    if inside[len] != b'"' {
+        return None;
+    }
+    Some((&inside[..len], &inside[len + 1..]))
+}
+
+/// How many bytes the text begins with that may stand between the quotes of a tag.
+fn opaque_len(text: &[u8]) -> usize
+    ensures { result ≡ prefix_len is_etagc text.now }
+{
+    text.iter().take_while(|b| is_etagc(**b)).count()
+}
+
+/// Whether the byte may stand between the quotes of a tag.
+fn is_etagc(byte: u8) -> bool
+    ensures { result ≡ is_etagc byte }
+{
+    matches!(byte, 0x21 | 0x23..=0x7e | 0x80..)
+}

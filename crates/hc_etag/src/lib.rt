@@ -1,0 +1,11 @@
+//! Entity tags (RFC 9110 section 8.8.3): their text, their comparison, and lists of them.
+#![tactic(auto)]
+
+mod front;
+mod list;
+mod read;
+mod tag;
+
+pub use list::{TagItems, TagList, read_tag_list};
+pub use read::{read_tag, write_tag};
+pub use tag::{Tag, strong_equal, weak_equal};

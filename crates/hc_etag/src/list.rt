@@ -1,0 +1,184 @@
+//! Lists of entity tags.
+ghost use Rattle.std.specs.Prelude.{◌≡◌, ◌≢◌, ℕ, ◌++◌, List, Bool, true, map, IfOk, IfSome, IfNone, IsSomeAnd};
+ghost use Rattle.hc_etag.specs.Tags.{IsTagList, SpellsTags, any_text, values_of, is_blank};
+ghost use Rattle.hc_etag.specs.TagLists.{SpellsList, HoldsTags};
+
+use crate::front::front_tag;
+use crate::tag::Tag;
+use hc_text::NoMemory;
+use std::alloc::Global;
+use std::marker::Model;
+
+/// Entity tags, seen as their list.
+#[derive(Debug, Drop)]
+pub struct TagItems {
+    pub items: Vec<Tag>,
+}
+
+impl Model for TagItems {
+    ghost use Rattle.std.specs.Prelude.{List};
+    ghost use Rattle.hc_etag.specs.declared.tag.Tag.{Tag};
+
+    ghost Value = { List Tag };
+
+    ghost view = { λ t. t.items.items };
+}
+
+impl TagItems {
+    /// An equal value of its own.
+    pub fn copy(&self) -> Result<TagItems, NoMemory>
+        ensures { IfOk result (λ copy. copy ≡ self.now) }
+    {
+        let mut items = Vec::with_capacity(*self.items.allocator(), self.items.len())?;
+        for tag in self.items.as_slice() {
+            items.push(tag.copy()?)?;
+        }
+        Ok(TagItems { items })
+    }
+}
+
+/// What a field such as If-None-Match lists (RFC 9110 section 13.1.2).
+#[derive(Debug, Drop)]
+pub enum TagList {
+    /// The asterisk: any entity tag.
+    Any,
+    /// These entity tags.
+    Tags(TagItems),
+}
+
+impl TagList {
+    /// An equal value of its own.
+    pub fn copy(&self) -> Result<TagList, NoMemory>
+        ensures { IfOk result (λ copy. copy ≡ self.now) }
+    {
+        match self {
+            TagList::Any => Ok(TagList::Any),
+            TagList::Tags(tags) => Ok(TagList::Tags(tags.copy()?)),
+        }
+    }
+}
+
+/// The list that the text is: an asterisk alone, or one entity tag or more between commas, read as
+/// a recipient reads a list (RFC 9110 section 5.6.1), with empty elements and blanks.
+///
+/// It is None exactly where the text is no such list. A backslash in a tag is an ordinary byte.
+/// The text is read once, so want of memory may be told before a fault further on.
+pub fn read_tag_list(alloc: Global, text: &[u8]) -> Result<Option<TagList>, NoMemory>
+    ensures found { IfOk result (λ read. IfSome read (SpellsList text.now)) }
+    ensures only { IfOk result (λ read. IfSome read (λ list. (tags : List (Bool × List ℕ)) → IsTagList text.now tags → HoldsTags list tags)) }
+    ensures none { IfOk result (λ read. IfNone read ((text.now ≢ any_text) × ((tags : List (Bool × List ℕ)) → ¬ (IsTagList text.now tags)))) }
+{
+    if text == b"*".as_slice() {
+        return Ok(Some(TagList::Any));
+    }
+    let Some(items) = read_tags(alloc, text)? else {
+        return Ok(None);
+    };
+    if items.is_empty() {
+        return Ok(None);
+    }
+    Ok(Some(TagList::Tags(TagItems { items })))
+}
+
+/// The entity tags between commas that the text is, none of them too.
+fn read_tags(alloc: Global, text: &[u8]) -> Result<Option<Vec<Tag>>, NoMemory>
+    ensures found { IfOk result (λ read. IfSome read (λ tags. SpellsTags true text.now (values_of tags.items))) }
+    ensures only { IfOk result (λ read. (tags : List (Bool × List ℕ)) → SpellsTags true text.now tags → IsSomeAnd read (λ found. values_of found.items ≡ tags)) }
+{
+    let mut tags = Vec::new(alloc);
+    let mut rest = text;
+    let mut may_come = true;
+    while let Some((first, after)) = rest.split_first() {
+        if *first == b',' {
+            may_come = true;
+            rest = after;
+        } else if is_blank(*first) {
+            rest = after;
+        } else {
+            if !may_come {
+                return Ok(None);
+            }
+            let Some(front) = front_tag(rest) else {
+                return Ok(None);
+            };
+            tags.push(front.tag(alloc)?)?;
+            may_come = false;
+            rest = front.rest;
+        }
+    }
+    Ok(Some(tags))
+}
+
+/// Whether the byte is a space or a tab.
+fn is_blank(byte: u8) -> bool
+    ensures { result ≡ is_blank byte }
+{
+    byte == b' ' || byte == b'\t'
+}
+
+#[cfg(test)]
+mod tests {
+    use super::*;
+    use crate::read::write_tag;
+    use std::process::Abort;
+    use std::test::Fail;
+
+    /// The texts of the tags, each with a blank after it.
+    fn texts(alloc: Global, tags: &TagItems) -> Result<Vec<u8>, Fail> {
+        let mut to = Vec::new(alloc);
+        for tag in tags.items.as_slice() {
+            write_tag(tag, &mut to)?;
+            to.push(b' ')?;
+        }
+        Ok(to)
+    }
+
+    fn assert_tags(
+        rt: &impl Abort,
+        alloc: Global,
+        text: &[u8],
+        expected: &[u8],
+    ) -> Result<(), Fail> {
+        match read_tag_list(alloc, text)? {
+            Some(list) => match list.copy()? {
+                TagList::Tags(tags) => assert_eq!(rt; texts(alloc, &tags)?.as_slice(), expected),
+                TagList::Any => assert!(rt; expected == b"*".as_slice()),
+            },
+            None => assert!(rt; expected == b"none".as_slice()),
+        }
+        Ok(())
+    }
+
+    #[test]
+    fn reads_lists(rt: HostRuntime) -> Result<(), Fail> {
+        let table: [(&[u8], &[u8]); 20] = [
+            (b"\"a\", W/\"b\"", b"\"a\" W/\"b\" "),
+            (
+                b"\"xyzzy\", \"r2d2xxxx\", \"c3piozzzz\"",
+                b"\"xyzzy\" \"r2d2xxxx\" \"c3piozzzz\" ",
+            ),
+            (b"*", b"*"),
+            (b"", b"none"),
+            (b",\t ,", b"none"),
+            (b" ", b"none"),
+            (b"\"a\"", b"\"a\" "),
+            (b", \"a\" ,,\t\"a\",", b"\"a\" \"a\" "),
+            (b"\"a,b\\\",\"c\"", b"\"a,b\\\" \"c\" "),
+            (b"\"\x80\",W/\"\"", b"\"\x80\" W/\"\" "),
+            (b"\"a\" \"b\"", b"none"),
+            (b"\"a\"\"b\"", b"none"),
+            (b"\"a\", b", b"none"),
+            (b"\"a\", \"b", b"none"),
+            (b"a", b"none"),
+            (b"**", b"none"),
+            (b"*, \"a\"", b"none"),
+            (b"\"a\", *", b"none"),
+            (b"\"a\";\"b\"", b"none"),
+            (b"\"a b\"", b"none"),
+        ];
+        for (text, expected) in &table {
+            assert_tags(&rt, rt.alloc(), *text, *expected)?;
+        }
+        Ok(())
+    }
+}

@@ -1,5 +1,5 @@
 //! Numbers in decimal, below 2^62.
-ghost use Rattle.std.specs.Prelude.{◌≡◌, ℕ, ◌<◌, ◌^◌, ◌++◌, drop, IfSome, IfNone, OnOk, OnErr, vec_len};
+ghost use Rattle.std.specs.Prelude.{◌≡◌, ℕ, ◌<◌, ◌^◌, ◌++◌, drop, IfSome, IfNone, OnOk, OnErr, vec_len, vec_capacity, ◌+◌, ◌≤◌};
 ghost use Rattle.std.specs.Fmt.{decimal};
 ghost use Rattle.std.specs.Char.{is_ascii_digit};
 ghost use Rattle.std.specs.List.{list_all};
@@ -48,6 +48,11 @@ pub fn write_number(n: u64, to: &mut Vec<u8>) -> Result<(), NoMemory>
     ensures ok { OnOk result (to.new.items ≡ to.old.items ++ decimal n) }
     ensures err { OnErr result (to.new.items ≡ to.old.items) }
     ensures read_back { OnOk result (n < 2 ^ 62 → IsPlain (drop (vec_len to.old) to.new.items) n) }
+
+    // With room for 20 bytes it succeeds, so a caller may ask for the room of several numbers at once.
+    ensures full { OnErr result (vec_capacity to.old < vec_len to.old + 20) }
+    ensures capacity { vec_capacity to.old ≤ vec_capacity to.new }
+    ensures len { vec_len to.new ≤ vec_len to.old + 20 }
 {
     let mut buffer = Buffer::new();
     to.extend_from_slice(buffer.format(n).as_bytes())?;

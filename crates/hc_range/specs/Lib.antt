@@ -1,0 +1,3 @@
+pub mod Bytes
+pub mod Ranges
+pub mod Spans

@@ -1,0 +1,79 @@
+//! Spans as text.
+ghost use Rattle.std.specs.Prelude.{◌≡◌, ◌++◌, ◌-◌, Some, OnOk, OnErr};
+ghost use Rattle.hc_range.specs.Ranges.{SpellsRange, SpellsContentRange};
+ghost use Rattle.hc_range.specs.declared.range.ContentRange.TheVariants.{Part};
+ghost use Rattle.hc_range.specs.Spans.{IsWithin, range_text, content_range_text, asked_by, resolved};
+
+use crate::range::Span;
+use hc_text::{NoMemory, write_number};
+
+/// Appends the Range field's text that asks for the span of a representation of length `total`, or
+/// nothing: without the end, where that is the length. It is read back as that span.
+#[tactic(auto, using(crate::proofs::RangeLemmas::range_text_spells))]
+pub fn write_range(span: Span, total: u64, to: &mut Vec<u8>) -> Result<(), NoMemory>
+    requires { IsWithin span total }
+    ensures ok { OnOk result (to.new.items ≡ to.old.items ++ range_text span total) }
+    ensures err { OnErr result (to.new.items ≡ to.old.items) }
+    ensures read_back { SpellsRange (range_text span total) (asked_by span total) }
+    ensures resolved_back { resolved (asked_by span total) total ≡ Some span }
+{
+    to.reserve(47)?;
+    to.extend_from_slice(b"bytes=")?;
+    write_number(span.lo, to)?;
+    to.push(b'-')?;
+    if span.hi < total {
+        write_number(span.hi - 1, to)?;
+    }
+    Ok(())
+}
+
+/// Appends the Content-Range field's text that tells the span and the length, or nothing. It is
+/// read back as they are.
+#[tactic(auto, using(crate::proofs::RangeLemmas::content_range_text_spells))]
+pub fn write_content_range(span: Span, total: u64, to: &mut Vec<u8>) -> Result<(), NoMemory>
+    requires { IsWithin span total }
+    ensures ok { OnOk result (to.new.items ≡ to.old.items ++ content_range_text span total) }
+    ensures err { OnErr result (to.new.items ≡ to.old.items) }
+    ensures read_back { SpellsContentRange (content_range_text span total) (Part span.lo (span.hi - 1) (Some total)) }
+{
+    to.reserve(68)?;
+    to.extend_from_slice(b"bytes ")?;
+    write_number(span.lo, to)?;
+    to.push(b'-')?;
+    write_number(span.hi - 1, to)?;
+    to.push(b'/')?;
+    write_number(total, to)?;
+    Ok(())
+}
+
+#[cfg(test)]
+mod tests {
+    use super::*;
+    use crate::range::{Asked, ContentRange};
+    use crate::read::{read_content_range, read_range};
+    use std::test::Fail;
+
+    #[test]
+    fn writes_spans(rt: HostRuntime) -> Result<(), Fail> {
+        let tail = Span { lo: 3, hi: 6 };
+        let middle = Span { lo: 2, hi: 4 };
+        let mut to = Vec::new(rt.alloc());
+        write_content_range(tail, 6, &mut to)?;
+        assert_eq!(rt; to.as_slice(), b"bytes 3-5/6".as_slice());
+        let part = ContentRange::Part {
+            first: 3,
+            last: 5,
+            total: Some(6),
+        };
+        assert_eq!(rt; read_content_range(to.as_slice()), Some(part));
+        to.clear();
+        write_range(tail, 6, &mut to)?;
+        assert_eq!(rt; to.as_slice(), b"bytes=3-".as_slice());
+        assert_eq!(rt; read_range(to.as_slice()), Some(Asked::From(3)));
+        to.clear();
+        write_range(middle, 6, &mut to)?;
+        assert_eq!(rt; to.as_slice(), b"bytes=2-3".as_slice());
+        assert_eq!(rt; read_range(to.as_slice()), Some(Asked::FromTo(2, 3)));
+        Ok(())
+    }
+}

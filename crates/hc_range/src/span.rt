@@ -13,38 +13,12 @@ pub fn resolve(asked: Asked, total: u64) -> Option<Span>
     ensures positions { IfSome result (λ span. (p : ℕ) → Holds span p ↔ (Asks asked total p × (p < total))) }
     ensures none { IfNone result ((p : ℕ) → ¬ (Asks asked total p × (p < total))) }
 {
-    match asked {
-        Asked::From(first) => {
-            if first < total {
-                Some(Span {
-                    lo: first,
-                    hi: total,
-                })
-            } else {
-                None
-            }
-        }
-        Asked::FromTo(first, last) => {
-            if first < total {
-                Some(Span {
-                    lo: first,
-                    hi: last.min(total - 1) + 1,
-                })
-            } else {
-                None
-            }
-        }
-        Asked::Last(n) => {
-            if n > 0 && total > 0 {
-                Some(Span {
-                    lo: total.saturating_sub(n),
-                    hi: total,
-                })
-            } else {
-                None
-            }
-        }
-    }
+    let (lo, hi) = match asked {
+        Asked::From(first) => (first, total),
+        Asked::FromTo(first, last) => (first, total.min(last.saturating_add(1))),
+        Asked::Last(n) => (total.saturating_sub(n), total),
+    };
+    if lo < hi { Some(Span { lo, hi }) } else { None }
 }
 
 #[cfg(test)]

@@ -59,7 +59,8 @@ impl TagList {
 }
 
 /// The list that the text is: an asterisk alone, or one entity tag or more between commas, read as
-/// a recipient reads a list (RFC 9110 section 5.6.1), with empty elements and blanks.
+/// a recipient reads a list (RFC 9110 section 5.6.1), with empty elements, and with blanks round
+/// each element, at both ends of the text too.
 ///
 /// It is None exactly where the text is no such list. A backslash in a tag is an ordinary byte.
 /// The text is read once, so want of memory may be told before a fault further on.

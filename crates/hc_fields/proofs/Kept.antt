@@ -1,7 +1,7 @@
 -- What kept fields stand for once one was put or some went.
 use Rattle.std.specs.Prelude.{filter, slice_get, Some}
 use Rattle.std.proofs.lemmas.Option.{slice_get-map, slice_get-get_or}
-use Rattle.std.proofs.Common.{◌≡◌, ℕ, Bool, true, set, get_or, ◌+◌, ◌-◌, ◌<◌, ◌≤◌, List, [], ◌∷◌, ◌++◌, length, take, drop, map, refl, sym, ◌∙◌, ap, arith}
+use Rattle.std.proofs.Common.{◌≡◌, ℕ, true, set, get_or, ◌+◌, ◌-◌, ◌<◌, ◌≤◌, List, ◌∷◌, ◌++◌, length, take, drop, map, refl, sym, ◌∙◌, ap, arith}
 use Rattle.std.specs.List.{insert, remove_range}
 use Rattle.std.specs.Char.{to_ascii_lowercase}
 use Rattle.std.proofs.lemmas.List.{length-map, get_or-map, take-map, drop-map, map-append, append_assoc, take_at, take_more_set, drop-set-lt}
@@ -10,7 +10,7 @@ use Rattle.http_header.specs.Token.{lowercase}
 use Rattle.http_header.specs.FieldValue.{plain_value}
 use Rattle.http_header.proofs.TokenLemmas.{IsHeaderName-lowercase}
 use Rattle.hc_fields.specs.declared.field.Field.{Field}
-use Rattle.hc_fields.specs.FieldList.{put, size_of, has_name, without, is_sorted, start_of, end_of, IsField, IsFieldList, IsAllowed, HasPlace}
+use Rattle.hc_fields.specs.FieldList.{put, size_of, has_name, without, is_sorted, start_of, end_of, IsField, IsAllowed, HasPlace}
 use Rattle.hc_fields.specs.declared.search.Place.{Place}
 use Rattle.hc_fields.specs.Place.{IsPlace}
 use Rattle.hc_fields.specs.Pairs.{pairs_of, IsKept}

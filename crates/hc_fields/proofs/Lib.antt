@@ -3,3 +3,4 @@ pub mod Sorted
 pub mod Places
 pub mod Edits
 pub mod Kept
+pub mod Joins

@@ -1,5 +1,5 @@
 -- What a binary search over kept fields finds, as a place in their list.
-use Rattle.std.proofs.Common.{◌≡◌, ℕ, ◌<◌, ◌≤◌, Bool, true, false, not, List, [], length, get_or, refl, sym, ◌∙◌, ap, arith}
+use Rattle.std.proofs.Common.{◌≡◌, ℕ, ◌<◌, ◌≤◌, Bool, true, false, not, List, [], length, get_or, refl, sym, arith}
 use Rattle.std.specs.List.{AllWithin, position_or_len}
 use Rattle.std.specs.List.Sorted.{IsPartitionedBy}
 use Rattle.std.proofs.lemmas.Bool.{not-true}
@@ -7,7 +7,7 @@ use Rattle.std.proofs.lemmas.List.{length-map, get_or-map}
 use Rattle.std.proofs.lemmas.List.Sums.{position_or_len_is}
 use Rattle.http_header.specs.FieldValue.{plain_value}
 use Rattle.hc_fields.specs.declared.field.Field.{Field}
-use Rattle.hc_fields.specs.FieldList.{comes_before, is_sorted, start_of, end_of}
+use Rattle.hc_fields.specs.FieldList.{comes_before, is_sorted}
 use Rattle.hc_fields.specs.Pairs.{pairs_of}
 use Rattle.hc_fields.proofs.Names.{chain, upto_before}
 use Rattle.hc_fields.proofs.Sorted.{sorted_at}

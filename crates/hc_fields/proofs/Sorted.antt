@@ -1,10 +1,10 @@
 -- Sorted lists of fields: where a name stands, and what keeps the order.
-use Rattle.std.proofs.Common.{◌≡◌, ℕ, zero, suc, ◌+◌, ◌-◌, ◌<◌, ◌≤◌, Bool, true, false, not, cond, List, [], ◌∷◌, ◌++◌, length, take, drop, get_or, map, refl, sym, ◌∙◌, ap, inl, inr, arith, add-one, one-add}
-use Rattle.std.specs.Prelude.{bytes_eq, filter, ◌&&◌}
-use Rattle.std.specs.List.{list_all, position_or_len}
+use Rattle.std.proofs.Common.{◌≡◌, ℕ, zero, suc, ◌+◌, ◌<◌, ◌≤◌, Bool, true, false, not, List, [], ◌∷◌, ◌++◌, length, take, drop, get_or, refl, ap, inl, inr, arith, one-add}
+use Rattle.std.specs.Prelude.{filter, ◌&&◌}
+use Rattle.std.specs.List.{list_all}
 use Rattle.std.proofs.lemmas.Bool.{cases_Bool, and_parts, and_from, both_ways}
 use Rattle.hc_fields.specs.FieldList.{comes_before, put, has_name, without, is_sorted, start_of, end_of}
-use Rattle.hc_fields.proofs.Names.{irreflexive, one_way, chain, upto_before, before_upto, differs_from_before, bytes_eq-swap, cases_names, IsBefore, IsSame, IsAfter}
+use Rattle.hc_fields.proofs.Names.{irreflexive, before_upto, differs_from_before, bytes_eq-swap, cases_names}
 
 abbrev pub Pair : Type 0
 Pair = List ℕ × List ℕ

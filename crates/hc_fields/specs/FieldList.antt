@@ -33,10 +33,14 @@ without name fs = filter (λ f. not (has_name name f)) fs
 abbrev pub KeepsOthers : List ℕ → List (List ℕ × List ℕ) → List (List ℕ × List ℕ) → Type 0
 KeepsOthers name old new = (other : List ℕ) → other ≢ name → values_of other new ≡ values_of other old
 
+-- the values, each behind a comma and a space
+abbrev pub separated_values : List (List ℕ) → List ℕ
+separated_values vs = flat_map (λ v. codes ", " ++ v) vs
+
 -- the values with a comma and a space between each two, where there is one
 abbrev pub joined_of : List (List ℕ) → Option (List ℕ)
 joined_of [] = None
-joined_of (v ∷ vs) = Some (v ++ flat_map (λ w. codes ", " ++ w) vs)
+joined_of (v ∷ vs) = Some (v ++ separated_values vs)
 
 -- the bytes of all names and values
 abbrev pub size_of : List (List ℕ × List ℕ) → ℕ

@@ -2,14 +2,15 @@
 ghost use Rattle.std.specs.Prelude.{◌≡◌, ◌≤◌, ◌⊎◌, ◌∷◌, ◌++◌, [], length, OnOk, OnErr, IfOk, MatchResult, MatchOption, vec_len, insert, ◌<◌, ◌↔◌, IsTrue, take, drop, option_copied, slice_get, slice_set, Some};
 ghost use Rattle.std.specs.List.{remove_range};
 ghost use Rattle.http_header.specs.Token.{lowercase};
-ghost use Rattle.hc_fields.specs.FieldList.{put, size_of, HasPlace, LacksPlace, Refuses, IsAllowed, IsFieldList, IsModest, values_of, without, KeepsOthers};
-ghost use Rattle.hc_fields.specs.Pairs.{pairs_of};
+ghost use Rattle.hc_fields.specs.FieldList.{put, size_of, HasPlace, LacksPlace, Refuses, IsAllowed, IsFieldList, IsModest, values_of, joined_of, without, KeepsOthers};
+ghost use Rattle.hc_fields.specs.Pairs.{pairs_of, separated};
 ghost use Rattle.hc_fields.specs.Place.{IsPlace};
 
 use crate::error::FieldError;
 use crate::field::{Field, is_own_value};
+use crate::list::FieldList;
 use crate::search::{Place, end_place, named, place_of};
-use hc_text::NoMemory;
+use hc_text::{Bytes, NoMemory, Value};
 use http_header::is_token;
 use std::alloc::Global;
 use std::marker::Model;
@@ -101,6 +102,36 @@ fn replace(items: &mut Vec<Field>, start: usize, end: usize, field: Field) -> Re
     overwrite(items, start, field);
     take_out(items, start + 1, end);
     Ok(())
+}
+
+/// How many bytes the values have, each with a comma and a space before it.
+fn separated_len(fields: &[Field]) -> usize
+    requires few { length fields.now ≤ 80 }
+    requires small { size_of (pairs_of fields.now) ≤ 49152 }
+    ensures { result ≡ length (separated fields.now) }
+{
+    let mut total = 0;
+    for field in fields {
+        total += 2 + field.value.as_bytes().len();
+    }
+    total
+}
+
+/// The value of the first field, and those of the others, each behind a comma and a space.
+fn join(alloc: Global, first: &Field, others: &[Field]) -> Result<Bytes, NoMemory>
+    requires short { length first.now.value.bytes ≤ 49152 }
+    requires few { length others.now ≤ 80 }
+    requires small { size_of (pairs_of others.now) ≤ 49152 }
+    ensures { IfOk result (λ bytes. bytes ≡ first.now.value.bytes ++ separated others.now) }
+{
+    let start = first.value.as_bytes();
+    let mut bytes = Vec::with_capacity(alloc, start.len() + separated_len(others))?;
+    bytes.extend_from_slice(start).unwrap();
+    for field in others {
+        bytes.extend_from_slice(b", ").unwrap();
+        bytes.extend_from_slice(field.value.as_bytes()).unwrap();
+    }
+    Ok(Bytes { bytes })
 }
 
 impl Fields {
@@ -246,5 +277,31 @@ impl Fields {
         ensures list { IsFieldList self.now }
     {
         self.items.len() <= 64 && self.size <= 32768
+    }
+
+    /// The values of a name joined by a comma and a space (RFC 9110 section 5.3). None exactly
+    /// where the name has none.
+    pub fn joined(&self, name: &[u8]) -> Result<Option<Bytes>, NoMemory>
+        ensures { IfOk result (λ joined. joined ≡ joined_of (values_of (lowercase name.now) self.now)) }
+    {
+        let alloc = *self.items.allocator();
+        match named(self.items.as_slice(), name) {
+            [] => Ok(None),
+            [first, others @ ..] => Ok(Some(join(alloc, first, others)?)),
+        }
+    }
+
+    /// The whole list as plain data.
+    pub fn listed(&self) -> Result<FieldList, NoMemory>
+        ensures { IfOk result (λ list. list ≡ self.now) }
+    {
+        let alloc = *self.items.allocator();
+        let mut items = Vec::with_capacity(alloc, self.items.len())?;
+        for field in self.items.as_slice() {
+            let name = field.name.as_bytes().to_vec(alloc)?;
+            let value = field.value.as_bytes().to_vec(alloc)?;
+            items.push((Value { bytes: name }, Value { bytes: value }))?;
+        }
+        Ok(FieldList { items })
     }
 }

@@ -1,4 +1,3 @@
-use Rattle.std.proofs.Common.{◌≡◌}
 use Rattle.hc_fields.proofs.Kept.{pairs_of-insert}
 use Rattle.hc_fields.proofs.fields.insert.Goals as goal
 

@@ -1,4 +1,4 @@
-use Rattle.std.proofs.Common.{◌≡◌, arith, rules}
+use Rattle.std.proofs.Common.{arith}
 use Rattle.hc_fields.proofs.Kept.{pairs_of-replaced}
 use Rattle.hc_fields.proofs.fields.replace.Goals as goal
 

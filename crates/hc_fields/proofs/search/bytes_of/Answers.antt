@@ -1,4 +1,4 @@
-use Rattle.std.proofs.Common.{◌≡◌, refl}
+use Rattle.std.proofs.Common.{refl}
 use Rattle.hc_fields.proofs.Kept.{size_of-more}
 use Rattle.hc_fields.proofs.search.bytes_of.Goals as goal
 

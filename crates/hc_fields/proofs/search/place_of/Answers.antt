@@ -1,8 +1,5 @@
-use Rattle.std.proofs.Common.{◌≡◌, arith, length, map}
-use Rattle.std.specs.Prelude.{filter}
-use Rattle.std.proofs.lemmas.List.{length-map}
+use Rattle.std.proofs.Common.{arith}
 use Rattle.http_header.specs.Token.{lowercase}
-use Rattle.hc_fields.specs.FieldList.{has_name}
 use Rattle.hc_fields.specs.Pairs.{pairs_of}
 use Rattle.hc_fields.proofs.Edits.{size_of-parts, length-parts}
 use Rattle.hc_fields.proofs.Kept.{pairs_of-named, length-pairs_of}

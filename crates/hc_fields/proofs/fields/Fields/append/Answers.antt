@@ -1,7 +1,5 @@
-use Rattle.std.proofs.Common.{◌≡◌, arith, rules}
+use Rattle.std.proofs.Common.{rules}
 use Rattle.http_header.specs.Token.{lowercase}
-use Rattle.hc_fields.specs.FieldList.{put, IsAllowed}
-use Rattle.hc_fields.specs.Pairs.{pairs_of}
 use Rattle.hc_fields.proofs.Edits.{values_of-put_same, values_of-put_other}
 use Rattle.hc_fields.proofs.Kept.{put_is, IsKept-put, IsAllowed-kept}
 use Rattle.hc_fields.proofs.fields.Fields.append.Goals as goal

@@ -1,4 +1,4 @@
-use Rattle.std.proofs.Common.{◌≡◌, arith}
+use Rattle.std.proofs.Common.{arith}
 use Rattle.http_header.specs.Token.{lowercase}
 use Rattle.hc_fields.proofs.Edits.{values_of-without_same, values_of-without_other}
 use Rattle.hc_fields.proofs.Kept.{left_is, IsKept-left}

@@ -1,4 +1,4 @@
-use Rattle.std.proofs.Common.{◌≡◌, arith, refl}
+use Rattle.std.proofs.Common.{refl}
 use Rattle.http_header.specs.Token.{lowercase}
 use Rattle.hc_fields.specs.FieldList.{without}
 use Rattle.hc_fields.specs.Pairs.{pairs_of}

@@ -305,3 +305,6 @@ impl Fields {
         Ok(FieldList { items })
     }
 }
+
+#[cfg(test)]
+mod tests;

@@ -1,2 +1,4 @@
 pub mod Acts
 pub mod Filters
+pub mod Safe
+pub mod Plain

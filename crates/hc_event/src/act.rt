@@ -1,8 +1,9 @@
 //! Acts: what the cache does at an event.
-use hc_fields::Fields;
-use hc_text::Bytes;
+ghost use Rattle.std.specs.Prelude.{◌≡◌, IfOk};
 
 use crate::event::Request;
+use hc_fields::Fields;
+use hc_text::{Bytes, NoMemory};
 
 /// Why an exchange is opened.
 #[derive(Clone, Copy, Debug, PartialEq, Eq)]
@@ -119,9 +120,13 @@ pub enum Act {
         request: Request,
     },
     /// The next piece of the exchange is asked for.
-    Ask { x: u64 },
+    Ask {
+        x: u64,
+    },
     /// The exchange is closed.
-    Close { x: u64 },
+    Close {
+        x: u64,
+    },
     /// The consumer is shown a head of the representation `r`. Its bytes are those from `lo` up to
     /// `hi`, exclusive, where that is known.
     Shown {
@@ -141,13 +146,93 @@ pub enum Act {
         bytes: Bytes,
     },
     /// The consumer has all of its bytes.
-    Ended { c: u64 },
+    Ended {
+        c: u64,
+    },
     /// The consumer fails.
-    Failed { c: u64, cause: Cause },
+    Failed {
+        c: u64,
+        cause: Cause,
+    },
     /// The consumer is to poll again later.
-    Pending { c: u64, wait: Wait },
+    Pending {
+        c: u64,
+        wait: Wait,
+    },
     /// The representation `r` is lost.
-    Lost { r: u64, kind: LostKind },
+    Lost {
+        r: u64,
+        kind: LostKind,
+    },
     /// The event is denied: it changes nothing but the moment.
-    Denied { refusal: Refusal },
+    Denied {
+        refusal: Refusal,
+    },
+}
+
+impl Act {
+    ghost use Rattle.hc_event.specs.Plain.{IsPlain};
+
+    /// An equal value of its own.
+    pub fn copy(&self) -> Result<Act, NoMemory>
+        ensures { IfOk result (λ copy. copy ≡ self.now) }
+    {
+        Ok(match self {
+            Act::Opened {
+                x,
+                c,
+                need,
+                request,
+            } => Act::Opened {
+                x: *x,
+                c: *c,
+                need: *need,
+                request: request.copy()?,
+            },
+            Act::Shown {
+                c,
+                r,
+                why,
+                status,
+                fields,
+                lo,
+                hi,
+            } => Act::Shown {
+                c: *c,
+                r: *r,
+                why: *why,
+                status: *status,
+                fields: fields.copy()?,
+                lo: *lo,
+                hi: *hi,
+            },
+            Act::Given { c, x, at, bytes } => Act::Given {
+                c: *c,
+                x: *x,
+                at: *at,
+                bytes: bytes.copy()?,
+            },
+            _ => self.copy_plain(),
+        })
+    }
+
+    /// An equal act, of those that hold neither fields nor bytes.
+    fn copy_plain(&self) -> Act
+        requires { IsPlain self.now }
+        ensures { result ≡ self.now }
+    {
+        match self {
+            Act::Ask { x } => Act::Ask { x: *x },
+            Act::Close { x } => Act::Close { x: *x },
+            Act::Ended { c } => Act::Ended { c: *c },
+            Act::Failed { c, cause } => Act::Failed {
+                c: *c,
+                cause: *cause,
+            },
+            Act::Pending { c, wait } => Act::Pending { c: *c, wait: *wait },
+            Act::Lost { r, kind } => Act::Lost { r: *r, kind: *kind },
+            Act::Denied { refusal } => Act::Denied { refusal: *refusal },
+            _ => unreachable!(),
+        }
+    }
 }

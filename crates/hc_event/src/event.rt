@@ -87,3 +87,30 @@ pub enum Event {
     /// What is stored for the key is not to be used any more.
     Doom { key: Key },
 }
+
+impl Event {
+    /// An equal value of its own.
+    pub fn copy(&self) -> Result<Event, NoMemory>
+        ensures { IfOk result (λ copy. copy ≡ self.now) }
+    {
+        Ok(match self {
+            Event::Start { c, request } => Event::Start {
+                c: *c,
+                request: request.copy()?,
+            },
+            Event::Poll { c, want } => Event::Poll { c: *c, want: *want },
+            Event::Head { x, response } => Event::Head {
+                x: *x,
+                response: response.copy()?,
+            },
+            Event::Piece { x, bytes } => Event::Piece {
+                x: *x,
+                bytes: bytes.copy()?,
+            },
+            Event::End { x } => Event::End { x: *x },
+            Event::Fault { x } => Event::Fault { x: *x },
+            Event::Cancel { c } => Event::Cancel { c: *c },
+            Event::Doom { key } => Event::Doom { key: key.copy()? },
+        })
+    }
+}

@@ -4,7 +4,12 @@
 mod act;
 mod acts;
 mod event;
+mod safe;
 
 pub use act::{Act, Cause, LostKind, Need, Refusal, Wait, Why};
 pub use acts::Acts;
 pub use event::{Event, Load, Request, Response};
+pub use safe::is_safe;
+
+#[cfg(test)]
+mod tests;

@@ -4,3 +4,4 @@ pub mod Places
 pub mod Edits
 pub mod Kept
 pub mod Joins
+pub mod LineLemmas

@@ -3,11 +3,15 @@ ghost use Rattle.std.specs.Prelude.{◌≡◌, ◌≤◌, ◌⊎◌, ◌∷◌, 
 ghost use Rattle.std.specs.List.{remove_range};
 ghost use Rattle.http_header.specs.Token.{lowercase};
 ghost use Rattle.hc_fields.specs.FieldList.{put, size_of, HasPlace, LacksPlace, Refuses, IsAllowed, IsFieldList, IsModest, values_of, joined_of, without, KeepsOthers};
+ghost use Rattle.hc_fields.specs.Lines.{field_text, fields_text};
 ghost use Rattle.hc_fields.specs.Pairs.{pairs_of, separated};
 ghost use Rattle.hc_fields.specs.Place.{IsPlace};
 
 use crate::error::FieldError;
 use crate::field::{Field, is_own_value};
+use crate::items::{insert, replace, take_out};
+use crate::joining::join;
+use crate::lines::write_each;
 use crate::list::FieldList;
 use crate::search::{Place, end_place, named, place_of};
 use hc_text::{Bytes, NoMemory, Value};
@@ -59,79 +63,6 @@ fn refusal(count: usize, size: usize, name: &[u8], value: &[u8]) -> Option<Field
         return Some(FieldError::TooLong);
     }
     None
-}
-
-/// Puts the field at a place, or changes nothing.
-fn insert(items: &mut Vec<Field>, at: usize, field: Field) -> Result<(), NoMemory>
-    requires { at ≤ vec_len items.old }
-    ensures ok { OnOk result (pairs_of items.new.items ≡ insert (pairs_of items.old.items) at (field.name, field.value.bytes)) }
-    ensures refused { OnErr result (items.new.items ≡ items.old.items) }
-{
-    items.insert(at, field)?;
-    Ok(())
-}
-
-/// Takes out the fields from `start` up to `end`.
-fn take_out(items: &mut Vec<Field>, start: usize, end: usize)
-    requires order { start ≤ end }
-    requires within { end ≤ vec_len items.old }
-    ensures { items.new.items ≡ remove_range items.old.items start end }
-{
-    items.drain(start..end);
-}
-
-/// Puts the field in the place of one.
-fn overwrite(items: &mut Vec<Field>, at: usize, field: Field)
-    requires { at < vec_len items.old }
-    ensures { items.new.items ≡ slice_set items.old.items at field }
-{
-    items[at] = field;
-}
-
-/// Puts the field in the place of those from `start` up to `end`, or changes nothing.
-fn replace(items: &mut Vec<Field>, start: usize, end: usize, field: Field) -> Result<(), NoMemory>
-    requires order { start ≤ end }
-    requires within { end ≤ vec_len items.old }
-    ensures ok { OnOk result (pairs_of items.new.items
-        ≡ take start (pairs_of items.old.items) ++ (field.name, field.value.bytes) ∷ drop end (pairs_of items.old.items)) }
-    ensures refused { OnErr result (items.new.items ≡ items.old.items) }
-{
-    if start == end {
-        return insert(items, start, field);
-    }
-    overwrite(items, start, field);
-    take_out(items, start + 1, end);
-    Ok(())
-}
-
-/// How many bytes the values have, each with a comma and a space before it.
-fn separated_len(fields: &[Field]) -> usize
-    requires few { length fields.now ≤ 80 }
-    requires small { size_of (pairs_of fields.now) ≤ 49152 }
-    ensures { result ≡ length (separated fields.now) }
-{
-    let mut total = 0;
-    for field in fields {
-        total += 2 + field.value.as_bytes().len();
-    }
-    total
-}
-
-/// The value of the first field, and those of the others, each behind a comma and a space.
-fn join(alloc: Global, first: &Field, others: &[Field]) -> Result<Bytes, NoMemory>
-    requires short { length first.now.value.bytes ≤ 49152 }
-    requires few { length others.now ≤ 80 }
-    requires small { size_of (pairs_of others.now) ≤ 49152 }
-    ensures { IfOk result (λ bytes. bytes ≡ first.now.value.bytes ++ separated others.now) }
-{
-    let start = first.value.as_bytes();
-    let mut bytes = Vec::with_capacity(alloc, start.len() + separated_len(others))?;
-    bytes.extend_from_slice(start).unwrap();
-    for field in others {
-        bytes.extend_from_slice(b", ").unwrap();
-        bytes.extend_from_slice(field.value.as_bytes()).unwrap();
-    }
-    Ok(Bytes { bytes })
 }
 
 impl Fields {
@@ -303,6 +234,20 @@ impl Fields {
             items.push((Value { bytes: name }, Value { bytes: value }))?;
         }
         Ok(FieldList { items })
+    }
+
+    /// Appends a line for each field, in order: the name, a colon, a space, the value and a line
+    /// feed. On an error nothing is appended.
+    pub fn write_lines(&self, to: &mut Vec<u8>) -> Result<(), NoMemory>
+        ensures ok { OnOk result (to.new.items ≡ to.old.items ++ fields_text self.now) }
+        ensures err { OnErr result (to.new.items ≡ to.old.items) }
+    {
+        let start = to.len();
+        let written = write_each(self.items.as_slice(), to);
+        if written.is_err() {
+            to.truncate(start);
+        }
+        written
     }
 }
 

@@ -6,6 +6,9 @@
 mod error;
 mod field;
 mod fields;
+mod items;
+mod joining;
+mod lines;
 mod list;
 mod search;
 

@@ -39,6 +39,12 @@ fn appends_sets_and_joins(rt: HostRuntime) -> Result<(), Fail> {
         &[(b"etag", b"\"b\""), (b"vary", b"a"), (b"vary", b"b")],
     )?;
     assert_eq!(rt; fields.size(), 4 + 3 + 4 + 1 + 4 + 1);
+    let mut lines = b"> ".to_vec(rt.alloc())?;
+    fields.write_lines(&mut lines)?;
+    assert_eq!(rt;
+        lines.as_slice(),
+        b"> etag: \"b\"\nvary: a\nvary: b\n".as_slice()
+    );
     Ok(())
 }
 

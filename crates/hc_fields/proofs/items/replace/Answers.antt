@@ -1,6 +1,6 @@
 use Rattle.std.proofs.Common.{arith}
 use Rattle.hc_fields.proofs.Kept.{pairs_of-replaced}
-use Rattle.hc_fields.proofs.fields.replace.Goals as goal
+use Rattle.hc_fields.proofs.items.replace.Goals as goal
 
 pub returns-clause-ok : goal.returns-clause-ok
 returns-clause-ok c =

@@ -1,7 +1,7 @@
 use Rattle.std.proofs.Common.{◌≡◌, ◌++◌, ◌+◌, ◌≤◌, length, take}
 use Rattle.std.specs.Prelude.{vec_capacity}
 use Rattle.hc_fields.specs.Pairs.{separated}
-use Rattle.hc_fields.proofs.fields.join.Given as goal
+use Rattle.hc_fields.proofs.joining.join.Given as goal
 
 abbrev pub invariant-loop-field : goal.invariant-loop-field
 invariant-loop-field l = record {

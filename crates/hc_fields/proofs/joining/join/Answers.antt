@@ -1,7 +1,7 @@
 use Rattle.std.proofs.Common.{length, take, ap, arith, length-append}
 use Rattle.hc_fields.specs.Pairs.{separated}
 use Rattle.hc_fields.proofs.Joins.{separated-within, separated-le}
-use Rattle.hc_fields.proofs.fields.join.Goals as goal
+use Rattle.hc_fields.proofs.joining.join.Goals as goal
 
 pub overflow_add-start : goal.overflow_add-start
 overflow_add-start c =

@@ -1,6 +1,6 @@
 use Rattle.std.proofs.Common.{arith}
 use Rattle.hc_fields.proofs.Joins.{separated-within, separated-le}
-use Rattle.hc_fields.proofs.fields.separated_len.Goals as goal
+use Rattle.hc_fields.proofs.joining.separated_len.Goals as goal
 
 pub overflow_add-total-in-loop-field : goal.overflow_add-total-in-loop-field
 overflow_add-total-in-loop-field c =

@@ -1,10 +1,8 @@
 //! The fields of a head.
-ghost use Rattle.std.specs.Prelude.{◌≡◌, ◌≤◌, ◌⊎◌, ◌∷◌, ◌++◌, [], length, OnOk, OnErr, IfOk, MatchResult, MatchOption, vec_len, insert, ◌<◌, ◌↔◌, IsTrue, take, drop, option_copied, slice_get, slice_set, Some};
-ghost use Rattle.std.specs.List.{remove_range};
+ghost use Rattle.std.specs.Prelude.{◌≡◌, ◌≤◌, ◌⊎◌, ◌∷◌, ◌++◌, [], length, OnOk, OnErr, IfOk, MatchResult, MatchOption, ◌<◌, ◌↔◌, IsTrue, option_copied, slice_get, Some};
 ghost use Rattle.http_header.specs.Token.{lowercase};
 ghost use Rattle.hc_fields.specs.FieldList.{put, size_of, HasPlace, LacksPlace, Refuses, IsAllowed, IsFieldList, IsModest, values_of, joined_of, without, KeepsOthers};
-ghost use Rattle.hc_fields.specs.Lines.{field_text, fields_text};
-ghost use Rattle.hc_fields.specs.Pairs.{pairs_of, separated};
+ghost use Rattle.hc_fields.specs.Lines.{fields_text};
 ghost use Rattle.hc_fields.specs.Place.{IsPlace};
 
 use crate::error::FieldError;

@@ -11,4 +11,41 @@ mod rows;
 mod run;
 mod schedule;
 
-fn main() {}
+use hc_io::{StdSink, StdSource};
+use run::{Status, run};
+use std::env;
+use std::io;
+use std::io::ErrorKind;
+use std::process::ExitCode;
+
+/// Calls `run` with the words after the program's name and the standard streams, and exits with
+/// what it answers.
+fn main(rt: HostRuntime) -> ExitCode {
+    let words = match words(&rt) {
+        Ok(words) => words,
+        Err(e) if e.kind() == ErrorKind::OutOfMemory => {
+            return ExitCode::from(Status::NoMemory.code());
+        }
+        // A word that isn't UTF-8 is no command.
+        Err(_) => Vec::new(rt.alloc()),
+    };
+    let mut input = StdSource::new(rt.stdin());
+    let mut out = StdSink::new(rt.stdout());
+    let mut diag = StdSink::new(rt.stderr());
+    ExitCode::from(run(
+        rt.alloc(),
+        words.as_slice(),
+        &mut input,
+        &mut out,
+        &mut diag,
+    ))
+}
+
+/// The words after the program's name.
+fn words(rt: &HostRuntime) -> io::Result<Vec<String>> {
+    let mut words = Vec::new(rt.alloc());
+    for word in env::args(rt)?.skip(1) {
+        words.push(word)?;
+    }
+    Ok(words)
+}

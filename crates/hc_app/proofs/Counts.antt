@@ -16,8 +16,8 @@ live_same f g n (d ∷ ds) desc same =
 live_at : (f g : ℕ → Option Consumer) (c d : ℕ) → is_live (f c) ≡ is_live (g c) → ((d : ℕ) → c ≢ d → f d ≡ g d) → is_live (f d) ≡ is_live (g d)
 live_at f g c d here same =
     elim (eqb_tells c d) [
-      inl e ↦ subst (λ (x : ℕ). is_live (f x) ≡ is_live (g x)) e.1 here
-    | inr ne ↦ ap is_live (same d ne.1)
+      | inl e ↦ subst (λ (x : ℕ). is_live (f x) ≡ is_live (g x)) e.1 here
+      | inr ne ↦ ap is_live (same d ne.1)
     ]
 
 -- one of them became what it is, with as many live ones

@@ -51,12 +51,20 @@ gate-is s t event stands =
 pub stands_denied : (s : Cache) (t : Tables) (now : ℕ) (event : Event) (r : Refusal) → StandsFor s t → refusal_by (gate_of s) event ≡ Some r
     → (answer t event ≡ act.Denied r ∷ []) × StandsFor (counted now event s) (next t now event)
 stands_denied s t now event r stands refused =
-    let h : refusal_of t event ≡ Some r = sym (gate-is s t event stands) ∙ refused in
-    (answer-denied t event r h,
-     rw (denied-next t now event r h) (record {
-       sound = sound_denied t (entry now event (act.Denied r ∷ [])) stands.sound; moment = refl; steps = rw stands.steps refl; received = rw stands.received refl;
-       last_start = stands.last_start; next = stands.next; count = stands.count; consumers = stands.consumers; exchanges = stands.exchanges
-     }))
+    let h : refusal_of t event ≡ Some r = sym (gate-is s t event stands) ∙ refused in (
+      answer-denied t event r h,
+      rw (denied-next t now event r h) (record {
+        sound = sound_denied t (entry now event (act.Denied r ∷ [])) stands.sound;
+        moment = refl;
+        steps = rw stands.steps refl;
+        received = rw stands.received refl;
+        last_start = stands.last_start;
+        next = stands.next;
+        count = stands.count;
+        consumers = stands.consumers;
+        exchanges = stands.exchanges;
+      }),
+    )
 
 pub stands_new : (s : Cache) → s.last_moment ≡ 0 → s.steps ≡ 0 → s.received ≡ 0 → s.last_start ≡ 0 → s.next ≡ 1 → s.consumers.entries ≡ [] → s.exchanges.entries ≡ [] → StandsFor s (empty [])
 unfolding empty

@@ -67,10 +67,11 @@ stands_headed s u t now x n head w stands accepted is_there told moment steps re
     let event : Event = event.Head x head in
     let kept : KeepsExchange (Some w) (t.exchange x) = rw is_there at (stands.exchanges x) in
     let good : brings_bad (t.exchange x) head ≡ false = good_head _ w n head kept told in
-    let is : accepted_acts t event ≡ [] = rw good refl in
-    (answer-accepted t event accepted ∙ is,
-     stands_accepted t now event [] accepted is s u stands moment steps received (last ∙ stands.last_start) (rw (next_is, stands.next) (omega arith))
-       (λ c. rw (consumers, good_row t now x c head (t.consumer c) good) (stands.consumers c))
-       (keeps_update KeepsExchange (get nat_cmp s.exchanges) (get nat_cmp u.exchanges) t.exchange (λ y. exchange_after y (entry now event []) (t.exchange y)) x (Some (with_head head (Some n) (eqb n 0) w))
-         (λ y. rw is_there at (places y)) (λ y ne. other_exchange now x y head (t.exchange y) ne) (headed now x n head w (t.exchange x) told kept) stands.exchanges)
-       (ap btree_map_len consumers ∙ (stands.count ∙ sym (live_kept (λ c. consumer_after t c (entry now event []) (t.consumer c)) t.consumer 0 t.starts (ap is_live (good_row t now x 0 head (t.consumer 0) good)) (λ d ne. good_row t now x d head (t.consumer d) good)))))
+    let is : accepted_acts t event ≡ [] = rw good refl in (
+      answer-accepted t event accepted ∙ is,
+      stands_accepted t now event [] accepted is s u stands moment steps received (last ∙ stands.last_start) (rw (next_is, stands.next) (omega arith))
+          (λ c. rw (consumers, good_row t now x c head (t.consumer c) good) (stands.consumers c))
+          (keeps_update KeepsExchange (get nat_cmp s.exchanges) (get nat_cmp u.exchanges) t.exchange (λ y. exchange_after y (entry now event []) (t.exchange y)) x (Some (with_head head (Some n) (eqb n 0) w))
+          (λ y. rw is_there at (places y)) (λ y ne. other_exchange now x y head (t.exchange y) ne) (headed now x n head w (t.exchange x) told kept) stands.exchanges)
+          (ap btree_map_len consumers ∙ (stands.count ∙ sym (live_kept (λ c. consumer_after t c (entry now event []) (t.consumer c)) t.consumer 0 t.starts (ap is_live (good_row t now x 0 head (t.consumer 0) good)) (λ d ne. good_row t now x d head (t.consumer d) good)))),
+    )

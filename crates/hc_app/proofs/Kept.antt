@@ -44,8 +44,8 @@ module _ {A B : Type 0} (K : Option A → Option B → Type 0) where
       → K k (u c) → ((d : ℕ) → K (m d) (t d)) → (d : ℕ) → K (n d) (u d)
   keeps_update m n t u c k changed frame here before d =
       elim (same_or c d) [
-        inl e ↦ subst (λ (x : ℕ). K (n x) (u x)) e (rw (changed c, eqb-same c) here)
-      | inr ne ↦ rw (changed d, eqb-other c d ne, frame d ne) (before d)
+        | inl e ↦ subst (λ (x : ℕ). K (n x) (u x)) e (rw (changed c, eqb-same c) here)
+        | inr ne ↦ rw (changed d, eqb-other c d ne, frame d ne) (before d)
       ]
 
 abbrev pub entry : ℕ → Event → List Act → Entry
@@ -67,8 +67,15 @@ module _ (t : Tables) (now : ℕ) (event : Event) (acts : List Act) (accepted : 
   stands_accepted s u stands moment steps received last next_at consumers exchanges count =
       let sound : Sound (after_accepted t (entry now event acts)) = rw next-is at (sound_next t now event stands.sound accepted) in
       rw next-is (record {
-        sound = sound; moment = moment; steps = rw (steps, stands.steps) refl; received = rw (received, stands.received) refl;
-        last_start = last; next = next_at; count = count; consumers = consumers; exchanges = exchanges
+        sound = sound;
+        moment = moment;
+        steps = rw (steps, stands.steps) refl;
+        received = rw (received, stands.received) refl;
+        last_start = last;
+        next = next_at;
+        count = count;
+        consumers = consumers;
+        exchanges = exchanges;
       })
 
   -- what is said of the consumers that the event isn't about

@@ -67,13 +67,13 @@ number_of-read text (Some n) found none =
     rw (some, few, digits.from text numeral.1, value, below) refl
 number_of-read text None found none =
     elim (cases_Bool (is_number text)) [
-      inl is ↦
-        let (front, below) = and_parts (leb 1 (length text) && leb (length text) 20 && all_ascii_digits text) (ltb (digits_value 10 text) (2 ^ 62)) is in
-        let (sizes, all) = and_parts (leb 1 (length text) && leb (length text) 20) (all_ascii_digits text) front in
-        let (some, few) = and_parts (leb 1 (length text)) (leb (length text) 20) sizes in
-        let numeral : IsNumeral 10 text = (let h : 1 ≤ length text = leb-le _ _ some in omega arith, digits.to text all) in
-        absurd (none (digits_value 10 text) (ltb-lt _ _ below, numeral, leb-le _ _ few, refl))
-    | inr isnt ↦ sym (rw isnt refl)
+      | inl is ↦
+          let (front, below) = and_parts (leb 1 (length text) && leb (length text) 20 && all_ascii_digits text) (ltb (digits_value 10 text) (2 ^ 62)) is in
+          let (sizes, all) = and_parts (leb 1 (length text) && leb (length text) 20) (all_ascii_digits text) front in
+          let (some, few) = and_parts (leb 1 (length text)) (leb (length text) 20) sizes in
+          let numeral : IsNumeral 10 text = (let h : 1 ≤ length text = leb-le _ _ some in omega arith, digits.to text all) in
+          absurd (none (digits_value 10 text) (ltb-lt _ _ below, numeral, leb-le _ _ few, refl))
+      | inr isnt ↦ sym (rw isnt refl)
     ]
 
 -- the value at a place

@@ -47,10 +47,10 @@ module _ (t : Tables) (want : ℕ) (r : Consumer) where
   headed_does x w (Some head) place exchange is =
       let k : Reading t r x = record { w = w; place = place; exchange = exchange; head = head; headed = is } in
       choose (PollDoes t want r) r.shown _ _
-        (λ shown. choose (PollDoes t want r) (is_at (end_of w) r.offset) _ _ (λ at. ends k shown at)
-          (λ not_at. choose (PollDoes t want r) (ltb r.offset (length w.body)) _ _ (λ some. gives k shown not_at (below _ _ some))
-            (λ none. fails_does r.due (choose (PollDoes t want r) w.asked _ _ (λ asked. waits_body) (λ not_asked. asks)))))
-        (λ hidden. shows k hidden)
+      (λ shown. choose (PollDoes t want r) (is_at (end_of w) r.offset) _ _ (λ at. ends k shown at)
+      (λ not_at. choose (PollDoes t want r) (ltb r.offset (length w.body)) _ _ (λ some. gives k shown not_at (below _ _ some))
+      (λ none. fails_does r.due (choose (PollDoes t want r) w.asked _ _ (λ asked. waits_body) (λ not_asked. asks)))))
+      (λ hidden. shows k hidden)
 
   direct_does : (x : ℕ) (o : Option Exchange) → r.place ≡ Direct x → t.exchange x ≡ o → PollDoes t want r (direct want x r o)
   direct_does x None place is = nothing

@@ -65,8 +65,8 @@ module _ (d : ℕ) where
   reads_far : (t : Tables) (x : ℕ) (r : Consumer) → Sound t → t.consumer d ≡ Some r → owner (t.exchange x) ≢ d → reads r.place x ≡ false
   reads_far t x r sound is ne =
       elim (reads_or r.place x) [
-        inl f ↦ f
-      | inr direct ↦ absurd (ne (of_owner (t.exchange x) (sound.readers d x (rw is direct))))
+        | inl f ↦ f
+        | inr direct ↦ absurd (ne (of_owner (t.exchange x) (sound.readers d x (rw is direct))))
       ]
 
   heard_far : (t : Tables) (now : ℕ) (event : Event) (r : Consumer) → Sound t → t.consumer d ≡ Some r → subject t event ≢ d → dooms event (Some r) ≡ false → consumer_heard t now d event r ≡ r

@@ -130,8 +130,8 @@ pub acted_place : (c s : ℕ) (m : Move) (r : Consumer) (x : ℕ) → (consumer_
 acted_place c s Nothing r x e = inl e
 acted_place c s (Opens y request) r x e =
     elim (eqb_tells s c) [
-      inl at ↦ inr (at.1, let f : Direct y ≡ Direct x = rw at.0 at e in cc)
-    | inr at ↦ inl (rw at.0 at e)
+      | inl at ↦ inr (at.1, let f : Direct y ≡ Direct x = rw at.0 at e in cc)
+      | inr at ↦ inl (rw at.0 at e)
     ]
 acted_place c s (WaitsHead y) r x e = inl e
 acted_place c s (WaitsBody y) r x e = inl e
@@ -193,8 +193,8 @@ unfolding consumer_after
 reads_after t c e None s m x is f = absurd (made_reads c e.now e.event x f)
 reads_after t c e (Some r) s m x is f =
     elim (acted_place c s m (consumer_heard t e.now c e.event r) x (rw is at f)) [
-      inl g ↦ inl (heard_place t e.now c e.event r x g)
-    | inr g ↦ inr g
+      | inl g ↦ inl (heard_place t e.now c e.event r x g)
+      | inr g ↦ inr g
     ]
 
 pub opened_of : (t : Tables) (s : ℕ) (m : Move) (x : ℕ) (e : Entry) → Mine t s m → Sound t → e.acts ≡ acts_of s m → IsOpening m x → IsOf (exchange_after x e (t.exchange x)) s
@@ -244,8 +244,8 @@ not_opened t x e s m mine is lt = rw is (move_opens_none t x e s m mine (rw is a
 pub readers_after : (t : Tables) (e : Entry) (s : ℕ) (m : Move) → Mine t s m → Sound t → e.acts ≡ acts_of s m → (c x : ℕ) → Reads (consumer_after t c e (t.consumer c)) x → IsOf (exchange_after x e (t.exchange x)) c
 readers_after t e s m mine sound is c x f =
     elim (reads_after t c e (t.consumer c) s m x is f) [
-      inl g ↦ of_stays x c e (t.exchange x) (sound.readers c x g)
-    | inr g ↦ subst (λ (d : ℕ). IsOf (exchange_after x e (t.exchange x)) d) g.0 (opened_of t s m x e mine sound is g.1)
+      | inl g ↦ of_stays x c e (t.exchange x) (sound.readers c x g)
+      | inr g ↦ subst (λ (d : ℕ). IsOf (exchange_after x e (t.exchange x)) d) g.0 (opened_of t s m x e mine sound is g.1)
     ]
 
 -- a new consumer is one that starts

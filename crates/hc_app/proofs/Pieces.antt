@@ -66,11 +66,12 @@ pub stands_pieced : (s u : Cache) (t : Tables) (now x : ℕ) (bytes : List ℕ) 
     → (answer t (event.Piece x bytes) ≡ []) × StandsFor u (next t now (event.Piece x bytes))
 stands_pieced s u t now x bytes delivered over w stands accepted is_there delivered_is over_is moment steps received last next_is consumers places =
     let event : Event = event.Piece x bytes in
-    let kept : KeepsExchange (Some w) (t.exchange x) = rw is_there at (stands.exchanges x) in
-    (answer-accepted t event accepted,
-     stands_accepted t now event [] accepted refl s u stands moment steps received (last ∙ stands.last_start) (rw (next_is, stands.next) (omega arith))
-       (λ c. rw (consumers, no_row t now x c bytes (t.consumer c)) (stands.consumers c))
-       (keeps_update KeepsExchange (get nat_cmp s.exchanges) (get nat_cmp u.exchanges) t.exchange (λ y. exchange_after y (entry now event []) (t.exchange y)) x (Some (with_piece bytes delivered over w))
-         (λ y. rw is_there at (places y)) (λ y ne. quiet_piece now x y bytes (t.exchange y) ne)
-         (pieced now x bytes delivered over w (t.exchange x) delivered_is over_is (λ r is. (stands.sound.exchanges x r is).given_within) kept) stands.exchanges)
-       (ap btree_map_len consumers ∙ (stands.count ∙ sym (live_kept (λ c. consumer_after t c (entry now event []) (t.consumer c)) t.consumer 0 t.starts (ap is_live (no_row t now x 0 bytes (t.consumer 0))) (λ d ne. no_row t now x d bytes (t.consumer d))))))
+    let kept : KeepsExchange (Some w) (t.exchange x) = rw is_there at (stands.exchanges x) in (
+      answer-accepted t event accepted,
+      stands_accepted t now event [] accepted refl s u stands moment steps received (last ∙ stands.last_start) (rw (next_is, stands.next) (omega arith))
+          (λ c. rw (consumers, no_row t now x c bytes (t.consumer c)) (stands.consumers c))
+          (keeps_update KeepsExchange (get nat_cmp s.exchanges) (get nat_cmp u.exchanges) t.exchange (λ y. exchange_after y (entry now event []) (t.exchange y)) x (Some (with_piece bytes delivered over w))
+          (λ y. rw is_there at (places y)) (λ y ne. quiet_piece now x y bytes (t.exchange y) ne)
+          (pieced now x bytes delivered over w (t.exchange x) delivered_is over_is (λ r is. (stands.sound.exchanges x r is).given_within) kept) stands.exchanges)
+          (ap btree_map_len consumers ∙ (stands.count ∙ sym (live_kept (λ c. consumer_after t c (entry now event []) (t.consumer c)) t.consumer 0 t.starts (ap is_live (no_row t now x 0 bytes (t.consumer 0))) (λ d ne. no_row t now x d bytes (t.consumer d))))),
+    )

@@ -45,8 +45,8 @@ new_row now c q = record { c = c; need = need.Disabled; request = q; opened = no
 as_it_is : {A : Type 0} (m : ℕ → Option A) (c : ℕ) (k : A) → m c ≡ Some k → (d : ℕ) → m d ≡ cond (eqb c d) (Some k) (m d)
 as_it_is m c k is d =
     elim (eqb_tells c d) [
-      inl e ↦ rw e.0 (subst (λ (x : ℕ). m x ≡ Some k) e.1 is)
-    | inr ne ↦ rw ne.0 refl
+      | inl e ↦ rw e.0 (subst (λ (x : ℕ). m x ≡ Some k) e.1 is)
+      | inr ne ↦ rw ne.0 refl
     ]
 
 -- What is kept of an exchange is what the table says of it.
@@ -67,13 +67,14 @@ module _ (s u : Cache) (t : Tables) (now c want : ℕ) (k : Consumer) (acts : Li
       let row : t.consumer c ≡ Some (row_of k) = rw is_there at (stands.consumers c) in
       let here : consumer_after t c (entry now event acts) (t.consumer c) ≡ Some (row_of j) = rw row becomes in
       let quiet = (λ (d : ℕ) (ne : c ≢ d). frame t now event acts accepted is d stands.sound ne refl) in
-      let lives : is_live (Some (row_of j)) ≡ is_live (Some (row_of k)) = live_stand j j.stand ∙ sym (live_stand k k.stand) in
-      (answer-accepted t event accepted ∙ is,
-       stands_accepted t now event acts accepted is s u stands moment steps received (last ∙ stands.last_start) (rw (next_is, stands.next) (omega arith))
-         (keeps_update KeepsConsumer (get nat_cmp s.consumers) (get nat_cmp u.consumers) t.consumer (λ d. consumer_after t d (entry now event acts) (t.consumer d)) c (Some j)
-           changed quiet here stands.consumers)
-         exchanges
-         (len ∙ (stands.count ∙ sym (live_kept (λ d. consumer_after t d (entry now event acts) (t.consumer d)) t.consumer c t.starts (rw (here, row) lives) quiet))))
+      let lives : is_live (Some (row_of j)) ≡ is_live (Some (row_of k)) = live_stand j j.stand ∙ sym (live_stand k k.stand) in (
+        answer-accepted t event accepted ∙ is,
+        stands_accepted t now event acts accepted is s u stands moment steps received (last ∙ stands.last_start) (rw (next_is, stands.next) (omega arith))
+            (keeps_update KeepsConsumer (get nat_cmp s.consumers) (get nat_cmp u.consumers) t.consumer (λ d. consumer_after t d (entry now event acts) (t.consumer d)) c (Some j)
+            changed quiet here stands.consumers)
+            exchanges
+            (len ∙ (stands.count ∙ sym (live_kept (λ d. consumer_after t d (entry now event acts) (t.consumer d)) t.consumer c t.starts (rw (here, row) lives) quiet))),
+      )
 
 -- a poll whose acts are of no exchange
 calm : (s u : Cache) (t : Tables) (e : _) → u.exchanges ≡ s.exchanges → StandsFor s t → ((x : ℕ) (o : Option tables.Exchange) → exchange_after x e o ≡ o) → (x : ℕ) → KeepsExchange (get nat_cmp u.exchanges x) (exchange_after x e (t.exchange x))
@@ -110,9 +111,9 @@ stands_opened s u t now c want k w stands accepted is_there line moment steps re
     let is : accepted_acts t (event.Poll c want) ≡ acts = rw stands.next (line_acts t c want k row line) in
     let new : t.exchange s.next ≡ None = stands.sound.new_exchanges s.next (rw stands.next (omega arith)) in
     stands_polled s u t now c want k acts stands accepted is is_there moment steps received last next_is
-      (keeps_update KeepsExchange (get nat_cmp s.exchanges) (get nat_cmp u.exchanges) t.exchange (λ y. exchange_after y (entry now (event.Poll c want) acts) (t.exchange y)) s.next (Some w)
-         inserts (λ y ne. not_opened now c want s.next y k.request (t.exchange y) ne) (rw (new, opened_exchange now c want s.next k.request) fresh) stands.exchanges)
-      (at_stand (stand.Direct s.next) k) (λ d. rw is_there at (places d)) len (opened_row t now c want s.next k)
+    (keeps_update KeepsExchange (get nat_cmp s.exchanges) (get nat_cmp u.exchanges) t.exchange (λ y. exchange_after y (entry now (event.Poll c want) acts) (t.exchange y)) s.next (Some w)
+    inserts (λ y ne. not_opened now c want s.next y k.request (t.exchange y) ne) (rw (new, opened_exchange now c want s.next k.request) fresh) stands.exchanges)
+    (at_stand (stand.Direct s.next) k) (λ d. rw is_there at (places d)) len (opened_row t now c want s.next k)
 
 -- Waiting for a head, and being shown it.
 
@@ -136,7 +137,7 @@ stands_pending : (s u : Cache) (t : Tables) (now c want : ℕ) (w : Wait) (k : C
     → (answer t (event.Poll c want) ≡ act.Pending c w ∷ []) × StandsFor u (next t now (event.Poll c want))
 stands_pending s u t now c want w k stands accepted is is_there moment steps received last next_is exchanges consumers =
     stands_polled s u t now c want k (act.Pending c w ∷ []) stands accepted is is_there moment steps received last (rw next_is (omega arith))
-      (calm s u t _ exchanges stands (λ x o. quiet_pending now c want x w o)) k (rw consumers (as_it_is (get nat_cmp s.consumers) c k is_there)) (ap btree_map_len consumers) (pending_row t now c want w k)
+    (calm s u t _ exchanges stands (λ x o. quiet_pending now c want x w o)) k (rw consumers (as_it_is (get nat_cmp s.consumers) c k is_there)) (ap btree_map_len consumers) (pending_row t now c want w k)
 
 pub stands_waiting : (s u : Cache) (t : Tables) (now c want x : ℕ) → StandsFor s t → refusal_of t (event.Poll c want) ≡ None
     → IsSomeAnd (get nat_cmp s.consumers c) (IsReader x false) → IsSomeAnd (get nat_cmp s.exchanges x) (λ w. w.head ≡ None)
@@ -164,9 +165,9 @@ showing_acts : (t : Tables) (c want x : ℕ) (k : Consumer) (r : tables.Exchange
     → accepted_acts t (event.Poll c want) ≡ shown_acts c x head hi
 showing_acts t c want x k r head hi row direct exchange is_headed hidden ends =
     rw (row, direct, exchange) (
-      ap (λ (o : Option Response). acts_of c (headed want x r (row_of k) o)) is_headed
-      ∙ ap (λ (b : Bool). acts_of c (cond b (reading want x r (row_of k)) (Shows x head (end_of r)))) hidden
-      ∙ ap (λ (o : Option ℕ). shown_acts c x head o) ends)
+    ap (λ (o : Option Response). acts_of c (headed want x r (row_of k) o)) is_headed
+    ∙ ap (λ (b : Bool). acts_of c (cond b (reading want x r (row_of k)) (Shows x head (end_of r)))) hidden
+    ∙ ap (λ (o : Option ℕ). shown_acts c x head o) ends)
 
 quiet_shown : (now c want x y : ℕ) (head : Response) (hi : Option ℕ) (o : Option tables.Exchange) → exchange_after y (entry now (event.Poll c want) (shown_acts c x head hi)) o ≡ o
 unfolding exchange_after
@@ -189,7 +190,7 @@ stands_shown s u t now c want x head hi stands accepted reader headed moment ste
     let row : t.consumer c ≡ Some (row_of k) = rw is_there at (stands.consumers c) in
     let is = showing_acts t c want x k r head hi row reads.direct exchange (sym kept.head ∙ is_headed.0) reads.shown_is (end-is w r kept ∙ is_headed.1) in
     stands_polled s u t now c want k (shown_acts c x head hi) stands accepted is is_there moment steps received last (rw next_is (omega arith))
-      (calm s u t _ exchanges stands (λ y o. quiet_shown now c want x y head hi o)) (once_shown k) (λ d. rw is_there at (places d)) len (shown_row t now c want x head hi k)
+    (calm s u t _ exchanges stands (λ y o. quiet_shown now c want x y head hi o)) (once_shown k) (λ d. rw is_there at (places d)) len (shown_row t now c want x head hi k)
 
 -- Reading: what is known of a consumer that was shown its head.
 pub record IsReadingRow (t : Tables) (c x offset : ℕ) (k : Consumer) (w : Exchange) (r : tables.Exchange) : Type 0 where
@@ -242,13 +243,13 @@ reading_acts : (t : Tables) (c want x offset : ℕ) (k : Consumer) (w : Exchange
     → accepted_acts t (event.Poll c want) ≡ acts_of c (cond (is_at w.promised offset) Ends (cond (ltb 0 (length w.held)) (Gives x offset (take want w.held)) (waits x w.asked)))
 reading_acts t c want x offset k w r known =
     rw (known.row, known.reads.direct, known.exchange) (
-      ap (λ (o : Option Response). acts_of c (headed want x r (row_of k) o)) known.headed
-      ∙ ap (λ (b : Bool). acts_of c (cond b (reading want x r (row_of k)) (Shows x known.head (end_of r)))) known.reads.shown_is
-      ∙ ap (λ (n : ℕ). acts_of c (cond (is_at (end_of r) n) Ends (cond (ltb n (length r.body)) (Gives x n (take want (drop n r.body))) (waits x r.asked)))) known.reads.offset_is
-      ∙ ap (λ (o : Option ℕ). acts_of c (cond (is_at o offset) Ends (cond (ltb offset (length r.body)) (Gives x offset (take want (drop offset r.body))) (waits x r.asked)))) (end-is w r known.kept)
-      ∙ ap (λ (b : Bool). acts_of c (cond (is_at w.promised offset) Ends (cond b (Gives x offset (take want (drop offset r.body))) (waits x r.asked)))) (sym (some_left offset r.body) ∙ ap (λ (bs : List ℕ). ltb 0 (length bs)) (sym held_is))
-      ∙ ap (λ (bs : List ℕ). acts_of c (cond (is_at w.promised offset) Ends (cond (ltb 0 (length w.held)) (Gives x offset (take want bs)) (waits x r.asked)))) (sym held_is)
-      ∙ ap (λ (b : Bool). acts_of c (cond (is_at w.promised offset) Ends (cond (ltb 0 (length w.held)) (Gives x offset (take want w.held)) (waits x b)))) (sym known.kept.asked))
+    ap (λ (o : Option Response). acts_of c (headed want x r (row_of k) o)) known.headed
+    ∙ ap (λ (b : Bool). acts_of c (cond b (reading want x r (row_of k)) (Shows x known.head (end_of r)))) known.reads.shown_is
+    ∙ ap (λ (n : ℕ). acts_of c (cond (is_at (end_of r) n) Ends (cond (ltb n (length r.body)) (Gives x n (take want (drop n r.body))) (waits x r.asked)))) known.reads.offset_is
+    ∙ ap (λ (o : Option ℕ). acts_of c (cond (is_at o offset) Ends (cond (ltb offset (length r.body)) (Gives x offset (take want (drop offset r.body))) (waits x r.asked)))) (end-is w r known.kept)
+    ∙ ap (λ (b : Bool). acts_of c (cond (is_at w.promised offset) Ends (cond b (Gives x offset (take want (drop offset r.body))) (waits x r.asked)))) (sym (some_left offset r.body) ∙ ap (λ (bs : List ℕ). ltb 0 (length bs)) (sym held_is))
+    ∙ ap (λ (bs : List ℕ). acts_of c (cond (is_at w.promised offset) Ends (cond (ltb 0 (length w.held)) (Gives x offset (take want bs)) (waits x r.asked)))) (sym held_is)
+    ∙ ap (λ (b : Bool). acts_of c (cond (is_at w.promised offset) Ends (cond (ltb 0 (length w.held)) (Gives x offset (take want w.held)) (waits x b)))) (sym known.kept.asked))
   where
     some_left : (n : ℕ) (bs : List ℕ) → ltb 0 (length (drop n bs)) ≡ ltb n (length bs)
     some_left n bs = grind (arith, nat_tests, length-drop {A = ℕ})
@@ -284,9 +285,9 @@ stands_asking s u t now c want x offset stands accepted reader empty moment step
     let (r, known) = reading_row s t c x offset k w stands is_there reads held in
     let is = reading_acts t c want x offset k w r known ∙ rw (read.not_at_end, none_left w read.none_held, read.asked_is) refl in
     stands_polled s u t now c want k (act.Ask x ∷ act.Pending c (wait.Body x) ∷ []) stands accepted is is_there moment steps received last (rw next_is (omega arith))
-      (keeps_update KeepsExchange (get nat_cmp s.exchanges) (get nat_cmp u.exchanges) t.exchange (λ y. exchange_after y (entry now (event.Poll c want) (act.Ask x ∷ act.Pending c (wait.Body x) ∷ [])) (t.exchange y)) x (Some (once_asked w))
-         (λ y. rw held at (places y)) (λ y ne. quiet_asked now c want x y (t.exchange y) ne) (rw known.exchange (asked_here now c want x w r known.kept)) stands.exchanges)
-      k (rw consumers (as_it_is (get nat_cmp s.consumers) c k is_there)) (ap btree_map_len consumers) (asked_row t now c want x k)
+    (keeps_update KeepsExchange (get nat_cmp s.exchanges) (get nat_cmp u.exchanges) t.exchange (λ y. exchange_after y (entry now (event.Poll c want) (act.Ask x ∷ act.Pending c (wait.Body x) ∷ [])) (t.exchange y)) x (Some (once_asked w))
+    (λ y. rw held at (places y)) (λ y ne. quiet_asked now c want x y (t.exchange y) ne) (rw known.exchange (asked_here now c want x w r known.kept)) stands.exchanges)
+    k (rw consumers (as_it_is (get nat_cmp s.consumers) c k is_there)) (ap btree_map_len consumers) (asked_row t now c want x k)
 
 pub stands_waiting_body : (s u : Cache) (t : Tables) (now c want x offset : ℕ) → StandsFor s t → refusal_of t (event.Poll c want) ≡ None
     → IsSomeAnd (get nat_cmp s.consumers c) (IsReading x offset) → IsSomeAnd (get nat_cmp s.exchanges x) (IsRead offset true)
@@ -334,9 +335,9 @@ stands_given s u t now c want x offset w bytes stands accepted reader held not_a
     let is : accepted_acts t (event.Poll c want) ≡ given_acts c x offset (take want w.held) = reading_acts t c want x offset k w r known ∙ rw (not_at_end, lt-ltb 0 (length w.held) some) refl in
     let is_bytes : accepted_acts t (event.Poll c want) ≡ given_acts c x offset bytes = rw bytes_are is in
     stands_polled s u t now c want k (given_acts c x offset bytes) stands accepted is_bytes is_there moment steps received last (rw next_is (omega arith))
-      (keeps_update KeepsExchange (get nat_cmp s.exchanges) (get nat_cmp u.exchanges) t.exchange (λ y. exchange_after y (entry now (event.Poll c want) (given_acts c x offset bytes)) (t.exchange y)) x (Some (without want w))
-         (λ y. rw held at (takes y)) (λ y ne. quiet_given now c want x y offset bytes (t.exchange y) ne) (rw (known.exchange, bytes_are) (given_here now c want x offset w r known.kept)) stands.exchanges)
-      (at_offset (offset + length bytes) k) (λ d. rw is_there at (places d)) len (given_row t now c want x offset bytes k reads.offset_is)
+    (keeps_update KeepsExchange (get nat_cmp s.exchanges) (get nat_cmp u.exchanges) t.exchange (λ y. exchange_after y (entry now (event.Poll c want) (given_acts c x offset bytes)) (t.exchange y)) x (Some (without want w))
+    (λ y. rw held at (takes y)) (λ y ne. quiet_given now c want x y offset bytes (t.exchange y) ne) (rw (known.exchange, bytes_are) (given_here now c want x offset w r known.kept)) stands.exchanges)
+    (at_offset (offset + length bytes) k) (λ d. rw is_there at (places d)) len (given_row t now c want x offset bytes k reads.offset_is)
 
 quiet_ended : (now c want y : ℕ) (o : Option tables.Exchange) → exchange_after y (entry now (event.Poll c want) (act.Ended c ∷ [])) o ≡ o
 unfolding exchange_after
@@ -366,10 +367,11 @@ stands_ended s u t now c want x offset stands accepted reader whole moment steps
     let gone : is_live (consumer_after t c (entry now event acts) (t.consumer c)) ≡ false = rw row (ended_row t now c want (row_of k)) in
     let was : is_live (t.consumer c) ≡ true = rw row (live_stand k k.stand) in
     let quiet = (λ (d : ℕ) (ne : c ≢ d). frame t now event acts accepted is d stands.sound ne refl) in
-    let fewer = live_gone (λ d. consumer_after t d (entry now event acts) (t.consumer d)) t.consumer c (t.last_start + 1) t.starts stands.sound.starts (stands.sound.started c (rw row refl)) gone was quiet in
-    (answer-accepted t event accepted ∙ is,
-     stands_accepted t now event acts accepted is s u stands moment steps received (last ∙ stands.last_start) (rw (next_is, stands.next) (omega arith))
-       (keeps_update KeepsConsumer (get nat_cmp s.consumers) (get nat_cmp u.consumers) t.consumer (λ d. consumer_after t d (entry now event acts) (t.consumer d)) c None
-         removes quiet gone stands.consumers)
-       (calm s u t _ exchanges stands (λ y o. quiet_ended now c want y o))
-       (let n = rw is_there at len in omega (arith, n, fewer, stands.count)))
+    let fewer = live_gone (λ d. consumer_after t d (entry now event acts) (t.consumer d)) t.consumer c (t.last_start + 1) t.starts stands.sound.starts (stands.sound.started c (rw row refl)) gone was quiet in (
+      answer-accepted t event accepted ∙ is,
+      stands_accepted t now event acts accepted is s u stands moment steps received (last ∙ stands.last_start) (rw (next_is, stands.next) (omega arith))
+          (keeps_update KeepsConsumer (get nat_cmp s.consumers) (get nat_cmp u.consumers) t.consumer (λ d. consumer_after t d (entry now event acts) (t.consumer d)) c None
+          removes quiet gone stands.consumers)
+          (calm s u t _ exchanges stands (λ y o. quiet_ended now c want y o))
+          (let n = rw is_there at len in omega (arith, n, fewer, stands.count)),
+    )

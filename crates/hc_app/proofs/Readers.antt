@@ -83,7 +83,6 @@ acted_given : (x s : ℕ) (w : Exchange) (m : Move) → IsQuiet m → StaysHeade
 acted_given x s w m none = (refl, λ e. e)
 acted_given x s w m closes = (refl, λ e. e)
 
-
 -- A consumer and its exchange.
 
 -- what an event says of a consumer leaves what it was shown and given
@@ -135,11 +134,11 @@ quiet_consumer t now c s event m r quiet sound is =
     record {
       in_line = λ line. let was = before.in_line (heard_line t now c event r line) in (shown ∙ was.0, offset ∙ was.1);
       reads = λ x v place there.
-        let was : r.place ≡ Direct x = heard_place t now c event r x place in
-        let (w, held) = of_there (t.exchange x) c (sound.readers c x (rw is was)) in
-        let (given, headed) = quiet_exchange x s event now m quiet w v (rw held at there) in
-        let known = before.reads x w was held in
-        (offset ∙ (known.0 ∙ sym given), λ e. headed (known.1 (sym shown ∙ e)));
+          let was : r.place ≡ Direct x = heard_place t now c event r x place in
+          let (w, held) = of_there (t.exchange x) c (sound.readers c x (rw is was)) in
+          let (given, headed) = quiet_exchange x s event now m quiet w v (rw held at there) in
+          let known = before.reads x w was held in
+          (offset ∙ (known.0 ∙ sym given), λ e. headed (known.1 (sym shown ∙ e)));
     }
 
 self : (c : ℕ) → eqb c c ≡ true
@@ -165,14 +164,14 @@ module _ (t : Tables) (now c want : ℕ) (r : Consumer) (sound : Sound t) (is : 
       → ((x : ℕ) (w : Exchange) → r.place ≡ Direct x → t.exchange x ≡ Some w → s.shown ≡ true → is_some w.head ≡ true)
       → (s.place ≡ Line → (s.shown ≡ false) × (s.offset ≡ 0)) → IsSoundConsumer s (after m)
   still m s stays place offset headed line = record {
-      in_line = line;
-      reads = λ x v direct there.
+    in_line = line;
+    reads = λ x v direct there.
         let was : r.place ≡ Direct x = place x direct in
         let (w, held) = of_there (t.exchange x) c (sound.readers c x (rw (is, was) refl)) in
         let kept : StaysHeaded w v = subst (λ (u : Exchange). StaysHeaded w u) (after_poll now c want x (acts_of c m) w v (rw held at there)) (stays x w) in
         let given : r.offset ≡ w.given = ((sound.consumers c r is).reads x w was held).0 in
         (offset ∙ (given ∙ sym kept.0), λ e. kept.1 (headed x w was held e));
-    }
+  }
 
   -- the row as it is, after acts that give nothing
   as_before : (m : Move) → ((x : ℕ) (w : Exchange) → StaysHeaded w (exchange_acted x (acts_of c m) w)) → IsSoundConsumer r (after m)
@@ -187,29 +186,29 @@ module _ (t : Tables) (now c want : ℕ) (r : Consumer) (sound : Sound t) (is : 
       record {
         in_line = λ e. cc;
         reads = λ x v direct there.
-          let at : t.opened + 1 ≡ x = cc in
-          let new : t.exchange x ≡ None = sound.new_exchanges x (omega arith) in
-          let made = made_by_poll now c want x (acts_of c (Opens (t.opened + 1) q)) v (rw new at there) in
-          let here : eqb (t.opened + 1) x ≡ true = grind (arith, nat_tests) in
-          let is_new : Some (record { c = c; need = need.Disabled; request = q; opened = now; head = None; body = []; given = 0; asked = false; is_ended = false; is_open = true }) ≡ Some v = rw here at made in
-          let given : 0 ≡ v.given = let f : record { c = c; need = need.Disabled; request = q; opened = now; head = None; body = []; given = 0; asked = false; is_ended = false; is_open = true } ≡ v = cc in ap (λ (u : Exchange). u.given) f in
-          (fresh.1 ∙ given, λ e. absurd (let f : false ≡ true = sym fresh.0 ∙ e in cc));
+            let at : t.opened + 1 ≡ x = cc in
+            let new : t.exchange x ≡ None = sound.new_exchanges x (omega arith) in
+            let made = made_by_poll now c want x (acts_of c (Opens (t.opened + 1) q)) v (rw new at there) in
+            let here : eqb (t.opened + 1) x ≡ true = grind (arith, nat_tests) in
+            let is_new : Some (record { c = c; need = need.Disabled; request = q; opened = now; head = None; body = []; given = 0; asked = false; is_ended = false; is_open = true }) ≡ Some v = rw here at made in
+            let given : 0 ≡ v.given = let f : record { c = c; need = need.Disabled; request = q; opened = now; head = None; body = []; given = 0; asked = false; is_ended = false; is_open = true } ≡ v = cc in ap (λ (u : Exchange). u.given) f in
+            (fresh.1 ∙ given, λ e. absurd (let f : false ≡ true = sym fresh.0 ∙ e in cc));
       }
 
   shown_now : (x : ℕ) (k : Reading t r x) (hi : Option ℕ) → IsSoundConsumer (record r { shown = true }) (after (Shows x k.head hi))
   shown_now y k hi =
       still (Shows y k.head hi) (record r { shown = true }) (λ x w. (refl, λ e. e)) (λ x e. e) refl
-        (λ x w place held shown.
-          let at : y ≡ x = let f : Direct y ≡ Direct x = sym k.place ∙ place in cc in
-          let here : t.exchange x ≡ Some k.w = subst (λ (z : ℕ). t.exchange z ≡ Some k.w) at k.exchange in
-          let same : k.w ≡ w = same_some _ _ _ here held in
-          ap (λ (v : Exchange). is_some v.head) (sym same) ∙ ap is_some k.headed)
-        (λ line. absurd (let f : Direct y ≡ Line = sym k.place ∙ line in cc))
+      (λ x w place held shown.
+      let at : y ≡ x = let f : Direct y ≡ Direct x = sym k.place ∙ place in cc in
+      let here : t.exchange x ≡ Some k.w = subst (λ (z : ℕ). t.exchange z ≡ Some k.w) at k.exchange in
+      let same : k.w ≡ w = same_some _ _ _ here held in
+      ap (λ (v : Exchange). is_some v.head) (sym same) ∙ ap is_some k.headed)
+      (λ line. absurd (let f : Direct y ≡ Line = sym k.place ∙ line in cc))
 
   given_now : (x at : ℕ) (k : Reading t r x) (bytes : List ℕ) → IsSoundConsumer (record r { offset = moved (bytes ++ []) r.offset }) (after (Gives x at bytes))
   given_now y at k bytes = record {
-      in_line = λ line. absurd (let f : Direct y ≡ Line = sym k.place ∙ line in cc);
-      reads = λ x v place there.
+    in_line = λ line. absurd (let f : Direct y ≡ Line = sym k.place ∙ line in cc);
+    reads = λ x v place there.
         let same_x : y ≡ x = let f : Direct y ≡ Direct x = sym k.place ∙ place in cc in
         let held : t.exchange x ≡ Some k.w = subst (λ (z : ℕ). t.exchange z ≡ Some k.w) same_x k.exchange in
         let here : eqb y x ≡ true = grind (arith, nat_tests) in
@@ -218,7 +217,7 @@ module _ (t : Tables) (now c want : ℕ) (r : Consumer) (sound : Sound t) (is : 
         let given : moved (bytes ++ []) k.w.given ≡ v.given = let f : (exchange_acted x (acts_of c (Gives y at bytes)) k.w).given ≡ v.given = ap (λ (u : Exchange). u.given) acted in rw here at f in
         let head : is_some k.w.head ≡ is_some v.head = ap (λ (u : Exchange). is_some u.head) acted in
         (ap (λ (n : ℕ). moved (bytes ++ []) n) known.0 ∙ given, λ e. sym head ∙ known.1 e);
-    }
+  }
 
   polled_consumer : (m : Move) → PollDoes t want r m → IsSoundConsumer (consumer_acted c (acts_of c m) r) (after m)
   polled_consumer m nothing = as_before Nothing (λ x w. (refl, λ e. e))
@@ -251,7 +250,7 @@ own_poll : (t : Tables) (now c want : ℕ) (o : Option Consumer) (r : Consumer) 
 unfolding consumer_after
 own_poll t now c want o r sound is same =
     subst (λ (p : Option Consumer). ConsumerAt t (record { now = now; event = event.Poll c want; acts = acts_of c (polled t want p) }) (consumer_after t c (record { now = now; event = event.Poll c want; acts = acts_of c (polled t want p) }) (Some r)))
-      same (polled_consumer t now c want r sound is (placed_move t want r r.place) (poll_does t want r))
+    same (polled_consumer t now c want r sound is (placed_move t want r r.place) (poll_does t want r))
 
 owner_of : (o : Option Exchange) (c : ℕ) → IsOf o c → owner o ≡ c
 owner_of None c of = absurd of
@@ -265,19 +264,19 @@ other_poll t now c d want r sound h is ne =
     rw same (record {
       in_line = (sound.consumers c r is).in_line;
       reads = λ x v place there.
-        let of : IsOf (t.exchange x) c = sound.readers c x (rw (is, place) refl) in
-        let apart : d ≢ owner (exchange_after x e (t.exchange x)) = λ f. ne (f ∙ owner_of _ c (of_stays x c e (t.exchange x) of)) in
-        let quiet : exchange_after x e (t.exchange x) ≡ t.exchange x = exchange_quiet t now x (event.Poll d want) (t.exchange x) (mine t (event.Poll d want) sound h) refl apart in
-        (sound.consumers c r is).reads x v place (sym quiet ∙ there);
+          let of : IsOf (t.exchange x) c = sound.readers c x (rw (is, place) refl) in
+          let apart : d ≢ owner (exchange_after x e (t.exchange x)) = λ f. ne (f ∙ owner_of _ c (of_stays x c e (t.exchange x) of)) in
+          let quiet : exchange_after x e (t.exchange x) ≡ t.exchange x = exchange_quiet t now x (event.Poll d want) (t.exchange x) (mine t (event.Poll d want) sound h) refl apart in
+          (sound.consumers c r is).reads x v place (sym quiet ∙ there);
     })
 
 poll_row : (t : Tables) (now c d want : ℕ) (r : Consumer) → Sound t → refusal_of t (event.Poll d want) ≡ None → t.consumer c ≡ Some r
     → ConsumerAt t (record { now = now; event = event.Poll d want; acts = accepted_acts t (event.Poll d want) }) (consumer_after t c (record { now = now; event = event.Poll d want; acts = accepted_acts t (event.Poll d want) }) (Some r))
 poll_row t now c d want r sound h is =
     elim (eqb_tells d c) [
-      inl at ↦ subst (λ (z : ℕ). ConsumerAt t (record { now = now; event = event.Poll z want; acts = accepted_acts t (event.Poll z want) }) (consumer_after t c (record { now = now; event = event.Poll z want; acts = accepted_acts t (event.Poll z want) }) (Some r)))
-        (sym at.1) (own_poll t now c want (t.consumer c) r sound is (sym is))
-    | inr other ↦ other_poll t now c d want r sound h is other.1
+      | inl at ↦ subst (λ (z : ℕ). ConsumerAt t (record { now = now; event = event.Poll z want; acts = accepted_acts t (event.Poll z want) }) (consumer_after t c (record { now = now; event = event.Poll z want; acts = accepted_acts t (event.Poll z want) }) (Some r)))
+          (sym at.1) (own_poll t now c want (t.consumer c) r sound is (sym is))
+      | inr other ↦ other_poll t now c d want r sound h is other.1
     ]
 
 made_row : (t : Tables) (c : ℕ) (e : Entry) → ConsumerAt t e (consumer_made c e.now e.event)

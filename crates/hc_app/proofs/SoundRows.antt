@@ -163,13 +163,13 @@ polled_sound t want x s r w m asks of is sound = asked_sound w t.received _ soun
 polled_sound t want x s r w m (shows k hidden) of is sound = sound
 polled_sound t want x s r w m (gives {x = y} k shown not_at some) of is sound =
     elim (eqb_tells y x) [
-      inl at ↦
-        let here : t.exchange x ≡ Some k.w = subst (λ (z : ℕ). t.exchange z ≡ Some k.w) at.1 k.exchange in
-        let same : k.w ≡ w = same_some _ _ _ here is in
-        let place : r.place ≡ Direct x = subst (λ (z : ℕ). r.place ≡ Direct z) at.1 k.place in
-        let given : r.offset ≡ w.given = (of.reads x w place is).0 in
-        rw (at.0, same) (given_sound w t.received r.offset want sound given)
-    | inr other ↦ rw other.0 sound
+      | inl at ↦
+          let here : t.exchange x ≡ Some k.w = subst (λ (z : ℕ). t.exchange z ≡ Some k.w) at.1 k.exchange in
+          let same : k.w ≡ w = same_some _ _ _ here is in
+          let place : r.place ≡ Direct x = subst (λ (z : ℕ). r.place ≡ Direct z) at.1 k.place in
+          let given : r.offset ≡ w.given = (of.reads x w place is).0 in
+          rw (at.0, same) (given_sound w t.received r.offset want sound given)
+      | inr other ↦ rw other.0 sound
     ]
 polled_sound t want x s r w m (ends k shown at) of is sound = sound
 polled_sound t want x s r w m fails of is sound = sound

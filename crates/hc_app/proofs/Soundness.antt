@@ -69,4 +69,3 @@ sound_run [] run = sound_start
 sound_run (e ∷ h) run =
     let is : tables (e ∷ h) ≡ next (tables h) e.now e.event = tables-step e h ∙ ap (λ (acts : List Act). after (tables h) (record { now = e.now; event = e.event; acts = acts })) run.2 in
     rw is (sound_step (tables h) e.now e.event (refusal_of (tables h) e.event) refl (sound_run h run.0))
-

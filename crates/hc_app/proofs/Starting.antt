@@ -45,8 +45,8 @@ stands_started s u t now c q stands accepted above moment steps received last ne
     let same = live_same (λ d. consumer_after t d (entry now (event.Start c q) []) (t.consumer d)) t.consumer c t.starts desc (λ d lt. frame t now (event.Start c q) [] accepted refl d stands.sound (omega arith) refl) in
     let absent : get nat_cmp s.consumers c ≡ None = kept_none _ (rw new at (stands.consumers c)) in
     stands_accepted t now (event.Start c q) [] accepted refl s u stands moment steps received last (rw (next_is, stands.next) (omega arith))
-      (keeps_update KeepsConsumer (get nat_cmp s.consumers) (get nat_cmp u.consumers) t.consumer (λ d. consumer_after t d (entry now (event.Start c q) []) (t.consumer d)) c _
-        changed (λ d ne. frame t now (event.Start c q) [] accepted refl d stands.sound ne refl)
-        row stands.consumers)
-      (λ x. rw (exchanges, no_exchange x now c q (t.exchange x)) (stands.exchanges x))
-      (len ∙ rw (absent, row, same, stands.count) (omega arith))
+    (keeps_update KeepsConsumer (get nat_cmp s.consumers) (get nat_cmp u.consumers) t.consumer (λ d. consumer_after t d (entry now (event.Start c q) []) (t.consumer d)) c _
+    changed (λ d ne. frame t now (event.Start c q) [] accepted refl d stands.sound ne refl)
+    row stands.consumers)
+    (λ x. rw (exchanges, no_exchange x now c q (t.exchange x)) (stands.exchanges x))
+    (len ∙ rw (absent, row, same, stands.count) (omega arith))

@@ -28,7 +28,7 @@ pub record Gate : Type 0 where
   pub last_start : ℕ
   pub live : ℕ
   pub is_live : ℕ → Bool
-  pub exchange : ℕ → Option Seen     -- the open ones
+  pub exchange : ℕ → Option Seen  -- the open ones
 
 abbrev pub start_refusal : Gate → ℕ → Option Refusal
 start_refusal g c = if nat_le c g.last_start then Some (refusal.NotRising g.last_start) else if nat_le 1024 g.live then Some refusal.TooManyConsumers else None

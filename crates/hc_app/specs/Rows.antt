@@ -17,12 +17,12 @@ pub record Exchange : Type 0 where
   pub c : ℕ
   pub need : Need
   pub request : Request
-  pub opened : ℕ             -- the moment of its opening
+  pub opened : ℕ  -- the moment of its opening
   pub head : Option Response
-  pub body : List ℕ          -- what its accepted pieces brought
-  pub given : ℕ              -- how many of these bytes were given
-  pub asked : Bool           -- an Ask of it stands after its last accepted piece
-  pub is_ended : Bool        -- it had an accepted End
+  pub body : List ℕ  -- what its accepted pieces brought
+  pub given : ℕ  -- how many of these bytes were given
+  pub asked : Bool  -- an Ask of it stands after its last accepted piece
+  pub is_ended : Bool  -- it had an accepted End
   pub is_open : Bool
 
 -- where a consumer stands
@@ -35,19 +35,19 @@ pub data Place : Type 0 where
 -- a consumer
 pub record Consumer : Type 0 where
   pub request : Request
-  pub since : ℕ              -- the moment of its start, or of its last starting over
+  pub since : ℕ  -- the moment of its start, or of its last starting over
   pub place : Place
   pub shown : Bool
-  pub offset : ℕ             -- how many bytes it was given
+  pub offset : ℕ  -- how many bytes it was given
   pub due : Option Cause
 
 pub record Tables : Type 0 where
   pub moment : ℕ
-  pub entries : ℕ            -- how many events there were
-  pub received : ℕ           -- how many bytes their pieces had
-  pub last_start : ℕ         -- of the accepted ones
-  pub starts : List ℕ        -- who started, the newest first
-  pub opened : ℕ             -- how many exchanges were opened
+  pub entries : ℕ  -- how many events there were
+  pub received : ℕ  -- how many bytes their pieces had
+  pub last_start : ℕ  -- of the accepted ones
+  pub starts : List ℕ  -- who started, the newest first
+  pub opened : ℕ  -- how many exchanges were opened
   pub exchange : ℕ → Option Exchange
   pub consumer : ℕ → Option Consumer
 

@@ -9,17 +9,14 @@ pub fn one_key()
     ensures consumers { KeepsConsumers }
     ensures exchanges { KeepsExchanges }
     ensures sound { RunsAreSound }
-{
-}
+{}
 
 /// What the tables say is what the list of entries says.
 pub fn tables_are_filters()
     ensures { RunsAreFiltered }
-{
-}
+{}
 
 /// Each consumer reads one interval of the body of one answer, complete at its clean end.
 pub fn runs_read_whole()
     ensures { RunsReadWhole }
-{
-}
+{}

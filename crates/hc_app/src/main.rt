@@ -13,10 +13,9 @@ mod schedule;
 
 use hc_io::{StdSink, StdSource};
 use run::{Status, run};
-use std::env;
-use std::io;
 use std::io::ErrorKind;
 use std::process::ExitCode;
+use std::{env, io};
 
 /// Calls `run` with the words after the program's name and the standard streams, and exits with
 /// what it answers.

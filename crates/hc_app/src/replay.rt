@@ -27,12 +27,7 @@ pub enum Ended {
 }
 
 /// Replays events on a new cache.
-pub fn replay<K: Sink>(
-    alloc: Global,
-    cache: &mut Cache,
-    events: &[Timed],
-    sink: &mut K,
-) -> Ended
+pub fn replay<K: Sink>(alloc: Global, cache: &mut Cache, events: &[Timed], sink: &mut K) -> Ended
     requires new { StandsFor cache.old (tables []) }
     requires replayable { IsReplayable events.now }
     ensures done { result ≡ Ended.Done → IsReported cache.new events.now (K.taken sink.old) (K.taken sink.new) }

@@ -113,12 +113,7 @@ fn replay_input<S: Source, K: Sink, D: Sink>(
 }
 
 /// Replays the events of a text, up to a line that is refused.
-fn replay_text<K: Sink, D: Sink>(
-    alloc: Global,
-    text: &[u8],
-    out: &mut K,
-    diag: &mut D,
-) -> Status
+fn replay_text<K: Sink, D: Sink>(alloc: Global, text: &[u8], out: &mut K, diag: &mut D) -> Status
     requires { length text.now ≤ 2 ^ 60 }
     ensures replays { Replays result text.now (K.taken out.old) (K.taken out.new) (D.taken diag.old) (D.taken diag.new) }
     ensures sink_failed { result ≡ Status.SinkFailed

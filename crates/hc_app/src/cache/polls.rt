@@ -17,7 +17,13 @@ use hc_text::NoMemory;
 
 impl Cache {
     /// A poll of a live consumer.
-    pub(super) fn poll(&mut self, now: u64, c: u64, want: u32, out: &mut Acts) -> Result<(), NoMemory>
+    pub(super) fn poll(
+        &mut self,
+        now: u64,
+        c: u64,
+        want: u32,
+        out: &mut Acts,
+    ) -> Result<(), NoMemory>
         requires stands { (t : Tables) × StandsFor self.old t }
         requires live { IsSome (get nat_cmp self.old.consumers c) }
         requires few { self.old.steps < 2 ^ 61 }

@@ -19,5 +19,5 @@ returns-clause-advances c = λ t stands accepted.
     let (w, held, holds) = there _ (Holds c.args.offset) c.requires.holds in
     let taken = if_there _ (λ v. c.in_ok-bytes.bytes ≡ take c.args.want v.held) w held c.in_ok-bytes.ensures.bytes in
     let done = stands_given c.args.self.now _ t c.args.now c.args.c c.args.want c.args.x c.args.offset w c.in_ok-bytes.bytes stands accepted c.requires.reader held holds.not_at_end holds.some taken refl refl refl refl refl
-        c.in_ok-bytes.ensures.ok (rw (c.as_slice.ensures.value ∙ c.bytes.view_is) at c.move_to.ensures.places) c.move_to.ensures.len in
+    c.in_ok-bytes.ensures.ok (rw (c.as_slice.ensures.value ∙ c.bytes.view_is) at c.move_to.ensures.places) c.move_to.ensures.len in
     (rw (c.in_ok-push.ensures.ok, done.0) refl, done.1)

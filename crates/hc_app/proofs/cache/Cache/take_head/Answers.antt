@@ -13,5 +13,5 @@ unreachable-requires-in-Unknown c =
 pub returns-clause-advances : goal.returns-clause-advances
 returns-clause-advances c = λ out t stands accepted.
     let done = stands_headed c.args.self.now _ t c.args.now c.args.x c.in-Promised.n c.args.response.now c.in-Some.exchange.now stands accepted (sym c.in-Some.ensures.value) (sym c.in-Promised.ensures) refl refl refl refl refl refl
-        (rw c.in_ok-head.ensures at c.set_head.ensures.places) in
+    (rw c.in_ok-head.ensures at c.set_head.ensures.places) in
     (rw done.0 (sym (append-nil out)), done.1)

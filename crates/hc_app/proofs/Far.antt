@@ -1,12 +1,11 @@
 -- Acts that don't name a consumer say nothing of it.
-use Rattle.std.proofs.Common.{◌≡◌, ◌≢◌, ℕ, ◌+◌, ◌<◌, ◌≤◌, List, [], ◌∷◌, Bool, true, false, cond, eqb, Option, Some, None, refl, sym, ap, ◌∙◌, subst, arith}
-use Rattle.std.specs.Prelude.{◌==◌, ◌||◌}
+use Rattle.std.proofs.Common.{◌≡◌, ◌≢◌, ℕ, List, [], ◌∷◌, false, eqb, Some, refl, ap, arith}
 use Rattle.std.proofs.lemmas.Bool.Decides.{nat_tests}
 use Rattle.hc_event.specs.declared.act.Act.{Act}
 use Rattle.hc_event.specs.declared.act.Act.TheVariants as act
-use Rattle.hc_event.specs.Filters.{Opening, opening_in, asks_in, closes_in, shows_in, given_in, leaves_in}
-use Rattle.hc_app.specs.Rows.{Tables, Exchange, Consumer, consumer_acted, placed, moved}
-use Rattle.hc_app.specs.Laws.{named, IsFar}
+use Rattle.hc_event.specs.Filters.{opening_in, shows_in, given_in, leaves_in}
+use Rattle.hc_app.specs.Rows.{Consumer, consumer_acted, placed}
+use Rattle.hc_app.specs.Laws.{IsFar}
 
 -- two numbers that differ
 pub apart : (c d : ℕ) → c ≢ d → eqb c d ≡ false

@@ -1,18 +1,16 @@
 -- What is refused is what the tables say, and a refusal changes the moment alone.
-use Rattle.std.proofs.Common.{◌≡◌, ◌≢◌, ℕ, ◌+◌, List, [], ◌∷◌, Bool, true, false, cond, Option, Some, None, refl, sym, ap, ap₂, ◌∙◌, subst, arith, length}
+use Rattle.std.proofs.Common.{◌≡◌, ℕ, [], ◌∷◌, Bool, true, false, cond, Option, Some, None, refl, sym, ap, ap₂, ◌∙◌}
 use mathlib.Core.Path.{fun_ext}
 use Rattle.std.specs.Prelude.{is_some, option_map}
-use Rattle.std.specs.Ordering.{nat_cmp}
-use Rattle.std.specs.BTreeMap.{get, btree_map_len}
+use Rattle.std.specs.BTreeMap.{btree_map_len}
 use Rattle.hc_event.specs.declared.event.Event.{Event}
-use Rattle.hc_event.specs.declared.act.Act.{Act}
 use Rattle.hc_event.specs.declared.act.Act.TheVariants as act
 use Rattle.hc_event.specs.declared.act.Refusal.{Refusal}
 use Rattle.hc_app.specs.Rows as tables
 use Rattle.hc_app.specs.Rows.{Tables, is_live}
 use Rattle.hc_app.specs.Tables.{tables as empty}
-use Rattle.hc_app.specs.Answers.{refusal_of, refusal_by, answer, gate, Gate, Seen, seen_open}
-use Rattle.hc_app.specs.Runs.{Sound, next}
+use Rattle.hc_app.specs.Answers.{refusal_of, refusal_by, answer, Seen, seen_open}
+use Rattle.hc_app.specs.Runs.{next}
 use Rattle.hc_app.proofs.Steps.{answer-denied}
 use Rattle.hc_app.proofs.Soundness.{denied-next, sound_denied, sound_start}
 use Rattle.hc_app.specs.declared.rows.Stand.{Stand}

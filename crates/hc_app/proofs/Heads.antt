@@ -1,13 +1,12 @@
 -- A head that declares its length keeps what the cache stands for.
-use Rattle.std.proofs.Common.{◌≡◌, ◌≢◌, ℕ, ◌+◌, List, [], ◌∷◌, ◌++◌, Bool, true, false, cond, eqb, Option, Some, None, refl, sym, ap, ◌∙◌, subst, arith}
-use Rattle.std.specs.Prelude.{is_some, option_map, ◌&&◌, not}
+use Rattle.std.proofs.Common.{◌≡◌, ◌≢◌, ℕ, ◌+◌, [], Bool, true, false, cond, eqb, Option, Some, None, refl, sym, ap, ◌∙◌, arith}
+use Rattle.std.specs.Prelude.{option_map, ◌&&◌}
 use Rattle.std.specs.Ordering.{nat_cmp}
 use Rattle.std.specs.BTreeMap.{get, btree_map_len}
 use Rattle.hc_event.specs.declared.event.Event.{Event}
 use Rattle.hc_event.specs.declared.event.Event.TheVariants as event
-use Rattle.hc_event.specs.declared.act.Act.{Act}
 use Rattle.hc_event.specs.declared.event.Response.{Response}
-use Rattle.hc_app.specs.Lengths.{length_of, length_by, is_head, promise, is_bad}
+use Rattle.hc_app.specs.Lengths.{length_of, length_by}
 use Rattle.hc_app.specs.declared.length.Length.{Length}
 use Rattle.hc_app.specs.declared.length.Length.TheVariants.{Promised}
 use Rattle.hc_app.specs.Rows as tables
@@ -18,7 +17,7 @@ use Rattle.hc_app.proofs.Steps.{answer-accepted}
 use Rattle.hc_app.proofs.Counts.{live_kept}
 use Rattle.hc_app.specs.declared.rows.Exchange.{Exchange}
 use Rattle.hc_app.specs.declared.cache.Cache.{Cache}
-use Rattle.hc_app.specs.Stands.{StandsFor, KeepsConsumer, KeepsExchange, IsCarried, with_head}
+use Rattle.hc_app.specs.Stands.{StandsFor, KeepsExchange, IsCarried, with_head}
 use Rattle.hc_app.proofs.Kept.{keeps_update, stands_accepted, entry, eqb-same, eqb-other}
 
 pub and_false : (b : Bool) → (b && false) ≡ false

@@ -1,5 +1,5 @@
 -- What is kept stands for the tables after one place changed on both sides.
-use Rattle.std.proofs.Common.{◌≡◌, ◌≢◌, ◌⊎◌, inl, inr, ℕ, ◌+◌, ◌<◌, ◌≤◌, List, [], ◌∷◌, Bool, true, false, cond, eqb, Option, Some, None, refl, sym, ap, ◌∙◌, subst, arith}
+use Rattle.std.proofs.Common.{◌≡◌, ◌≢◌, ◌⊎◌, inl, inr, ℕ, ◌+◌, List, true, false, cond, eqb, Option, Some, None, refl, ap, ◌∙◌, subst, arith}
 use Rattle.std.proofs.lemmas.Bool.Decides.{nat_tests, eqb_tells}
 use Rattle.std.specs.Prelude.{is_some, IsSomeAnd, IfSome}
 use Rattle.std.specs.Ordering.{nat_cmp}
@@ -8,7 +8,6 @@ use Rattle.hc_event.specs.Filters.{opening_in}
 use Rattle.hc_event.specs.declared.event.Event.{Event}
 use Rattle.hc_event.specs.declared.act.Act.{Act}
 use Rattle.hc_app.specs.Entries.{Entry}
-use Rattle.hc_app.specs.Rows as tables
 use Rattle.hc_app.specs.Rows.{Tables, consumer_after, exchange_after}
 use Rattle.hc_app.specs.Tables.{live_among, last_start_after, starts_after, after_accepted, received_in}
 use Rattle.hc_app.specs.Answers.{refusal_of, accepted_acts, subject}
@@ -18,7 +17,6 @@ use Rattle.hc_app.proofs.OneKey.{next-accepted, keeps_consumers}
 use Rattle.hc_app.proofs.Soundness.{sound_next}
 use Rattle.hc_app.specs.declared.cache.Cache.{Cache}
 use Rattle.hc_app.specs.declared.rows.Consumer.{Consumer}
-use Rattle.hc_app.specs.declared.rows.Exchange.{Exchange}
 use Rattle.hc_app.specs.Stands.{StandsFor, KeepsConsumer, KeepsExchange}
 
 same_or : (c d : ℕ) → (c ≡ d) ⊎ (c ≢ d)

@@ -1,5 +1,5 @@
 -- The length of a body, for the heads that are built.
-use Rattle.std.proofs.Common.{◌≡◌, ℕ, ◌+◌, ◌<◌, ◌≤◌, ◌^◌, List, [], ◌∷◌, length, get_or, Bool, true, false, cond, eqb, leb, ltb, Option, Some, None, refl, sym, ap, ◌∙◌, arith, lt-ltb, inl, inr}
+use Rattle.std.proofs.Common.{◌≡◌, ℕ, ◌<◌, ◌≤◌, ◌^◌, List, [], ◌∷◌, length, get_or, Bool, true, false, cond, leb, ltb, Option, Some, None, refl, sym, ◌∙◌, arith, lt-ltb, inl, inr}
 use Rattle.std.specs.Prelude.{codes, ◌&&◌, IfSome, IfNone}
 use Rattle.hc_text.specs.Numbers.{IsNumber}
 use Rattle.std.specs.List.{slice_get}
@@ -13,7 +13,7 @@ use Rattle.std.proofs.lemmas.Fmt.{decimal_nonempty, length-decimal-le, digits_de
 use Rattle.std.proofs.lemmas.Str.Parse.{IsNumeralModel, numerals_by_value, tells_all_ascii_digits}
 use Rattle.hc_event.specs.declared.event.Response.{Response}
 use Rattle.hc_app.specs.declared.length.Length.{Length}
-use Rattle.hc_app.specs.declared.length.Length.TheVariants.{Unknown, Promised, Bad}
+use Rattle.hc_app.specs.declared.length.Length.TheVariants.{Promised}
 use Rattle.hc_fields.specs.FieldList.{values_of}
 use Rattle.hc_app.specs.Lengths.{number_of, length_by, length_told}
 use Rattle.hc_app.specs.Schedule.{DeclaresLength}

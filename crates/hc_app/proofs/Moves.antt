@@ -1,13 +1,11 @@
 -- What a poll does, with what is so before it.
-use Rattle.std.proofs.Common.{◌≡◌, ℕ, ◌+◌, ◌<◌, ◌≤◌, List, [], ◌∷◌, length, take, drop, Bool, true, false, cond, eqb, ltb, Option, Some, None, refl, sym, ap, ◌∙◌, arith}
+use Rattle.std.proofs.Common.{◌≡◌, ℕ, ◌+◌, ◌<◌, length, take, drop, Bool, true, false, cond, ltb, Option, Some, None, refl, arith}
 use Rattle.std.proofs.lemmas.Bool.Decides.{nat_tests}
-use Rattle.hc_event.specs.declared.event.Event.{Event}
-use Rattle.hc_event.specs.declared.event.Event.TheVariants as event
 use Rattle.hc_event.specs.declared.event.Request.{Request}
 use Rattle.hc_event.specs.declared.event.Response.{Response}
 use Rattle.hc_event.specs.declared.act.Cause.{Cause}
 use Rattle.hc_app.specs.Rows.{Tables, Exchange, Consumer, Place, Line, Direct, Down, Over, brings_bad}
-use Rattle.hc_app.specs.Answers.{Move, Nothing, Opens, WaitsHead, WaitsBody, Asks, Shows, Gives, Ends, Fails, Closes, move_of, polled, placed_move, direct, headed, reading, is_at, end_of, waits, fails_or, left, closes_if_open, seen_open}
+use Rattle.hc_app.specs.Answers.{Move, Nothing, Opens, WaitsHead, WaitsBody, Asks, Shows, Gives, Ends, Fails, Closes, placed_move, direct, headed, is_at, end_of, fails_or, left, closes_if_open}
 
 -- a consumer of its own exchange, which has a head
 pub record Reading (t : Tables) (r : Consumer) (x : ℕ) : Type 0 where

@@ -1,16 +1,14 @@
 -- The law of one key.
-use Rattle.std.proofs.Common.{◌≡◌, ◌≢◌, ◌⊎◌, inl, inr, ℕ, List, [], ◌∷◌, Bool, true, false, cond, eqb, Option, Some, None, refl, sym, ap, ◌∙◌, subst, arith}
+use Rattle.std.proofs.Common.{◌≡◌, ◌≢◌, ◌⊎◌, inl, inr, ℕ, false, Option, Some, None, refl, ap, arith}
 use Rattle.std.proofs.lemmas.Bool.Decides.{nat_tests}
 use Rattle.hc_event.specs.declared.event.Event.{Event}
 use Rattle.hc_event.specs.declared.event.Event.TheVariants as event
-use Rattle.hc_event.specs.declared.act.Act.{Act}
-use Rattle.hc_app.specs.Entries.{Entry}
 use Rattle.hc_event.specs.Filters.{is_denied}
-use Rattle.hc_app.specs.Rows.{Tables, Exchange, Consumer, Place, Line, Direct, Down, Over, reads, brings_bad, consumer_heard, consumer_acted, consumer_after, consumer_made, exchange_after}
+use Rattle.hc_app.specs.Rows.{Tables, Exchange, Consumer, Place, Line, Direct, Down, Over, reads, consumer_heard, consumer_after, consumer_made}
 use Rattle.hc_app.specs.Tables.{after_accepted}
-use Rattle.hc_app.specs.Answers.{answer, accepted_acts, refusal_of, Move, Nothing, Opens, WaitsHead, WaitsBody, Asks, Shows, Gives, Ends, Fails, Closes, acts_of, move_of, owner, subject}
-use Rattle.hc_app.specs.Runs.{Sound, next, owed, Reads, IsOf}
-use Rattle.hc_app.specs.Laws.{named, IsFar, dooms, KeepsConsumers}
+use Rattle.hc_app.specs.Answers.{accepted_acts, refusal_of, Move, Nothing, Opens, WaitsHead, WaitsBody, Asks, Shows, Gives, Ends, Fails, Closes, acts_of, move_of, owner, subject}
+use Rattle.hc_app.specs.Runs.{Sound, next, IsOf}
+use Rattle.hc_app.specs.Laws.{IsFar, dooms, KeepsConsumers}
 use Rattle.hc_app.proofs.Steps.{after-accepted, answer-accepted}
 use Rattle.hc_app.proofs.Far.{acted_far, apart}
 

@@ -1,26 +1,22 @@
 -- Whose exchanges are, and who reads them, after one more entry.
 use Rattle.std.proofs.Common.{◌≡◌, ◌≢◌, ◌⊎◌, inl, inr, ℕ, ◌+◌, ◌<◌, ◌≤◌, List, [], ◌∷◌, Bool, true, false, cond, eqb, leb, ltb, Option, Some, None, refl, sym, ap, ◌∙◌, subst, arith}
-use Rattle.std.specs.Prelude.{length, IfSome, is_none, bytes_eq, option_and_then, is_some, not, ◌&&◌, ◌||◌}
+use Rattle.std.specs.Prelude.{length, is_none, bytes_eq, is_some, ◌&&◌, ◌||◌}
 use Rattle.std.proofs.lemmas.Bool.Decides.{nat_tests, eqb_tells}
 use Rattle.hc_event.specs.declared.event.Event.{Event}
 use Rattle.hc_event.specs.declared.event.Event.TheVariants as event
-use Rattle.hc_event.specs.declared.act.Act.{Act}
 use Rattle.hc_event.specs.declared.act.Need.TheVariants as need
 use Rattle.hc_event.specs.declared.act.Cause.{Cause}
 use Rattle.hc_event.specs.declared.event.Request.{Request}
 use Rattle.hc_event.specs.declared.event.Response.{Response}
 use Rattle.hc_event.specs.declared.act.Refusal.{Refusal}
 use Rattle.hc_event.specs.declared.act.Refusal.TheVariants as refusal
-use Rattle.hc_event.specs.declared.act.Act.TheVariants as act
-use Rattle.hc_app.specs.Entries.{Entry, History}
-use Rattle.hc_event.specs.Filters.{Opening, opening_in, is_denied, asks_in, closes_in}
+use Rattle.hc_app.specs.Entries.{Entry}
+use Rattle.hc_event.specs.Filters.{Opening, opening_in}
 use Rattle.hc_app.specs.Rows.{Tables, Exchange, Consumer, Place, Line, Direct, Down, Over, reads, consumer_heard, consumer_acted, consumer_after, consumer_made, exchange_after, exchange_heard, exchange_acted, exchange_made, brings_bad, ended, fell, cut_short, starts_over, promised}
-use Rattle.hc_app.specs.Tables.{after, after_accepted, after_denied, tables, last_start_after, starts_after, received_in}
-use Rattle.hc_app.specs.Runs.{IsRun}
-use Rattle.hc_app.specs.Answers.{answer, accepted_acts, refusal_of, refusal_by, gate, Move, Nothing, Opens, WaitsHead, WaitsBody, Asks, Shows, Gives, Ends, Fails, Closes, acts_of, move_of, owner, subject, polled, placed_move, direct, headed, reading, end_of, waits, fails_or, left, closes_if_open, seen_open, head_refusal}
-use Rattle.hc_app.specs.Runs.{Sound, IsSoundExchange, IsSoundConsumer, IsWithin, next, owed, Reads, IsOf, Descends, Among}
+use Rattle.hc_app.specs.Tables.{last_start_after, starts_after}
+use Rattle.hc_app.specs.Answers.{accepted_acts, refusal_of, Move, Nothing, Opens, WaitsHead, WaitsBody, Asks, Shows, Gives, Ends, Fails, Closes, acts_of, move_of, owner, subject, polled, placed_move, direct, headed, fails_or, left, closes_if_open, seen_open, head_refusal}
+use Rattle.hc_app.specs.Runs.{Sound, Reads, IsOf, Descends, Among}
 use Rattle.hc_app.specs.Laws.{KeepsExchanges}
-use Rattle.hc_app.proofs.Steps.{tables-step, after-denied, answer-denied}
 use Rattle.hc_app.proofs.Far.{apart}
 use Rattle.hc_app.proofs.OneKey.{next-accepted}
 

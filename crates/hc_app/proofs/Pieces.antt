@@ -1,20 +1,19 @@
 -- A piece keeps what the cache stands for.
-use Rattle.std.proofs.Common.{◌≡◌, ◌≢◌, ℕ, ◌+◌, ◌<◌, ◌≤◌, List, [], ◌∷◌, ◌++◌, length, drop, Bool, true, false, cond, eqb, Option, Some, None, refl, sym, ap, ◌∙◌, subst, arith, length-append}
-use Rattle.std.specs.Prelude.{is_some, option_map, ◌&&◌, not}
+use Rattle.std.proofs.Common.{◌≡◌, ◌≢◌, ℕ, ◌+◌, ◌≤◌, List, [], ◌++◌, length, Bool, cond, eqb, Option, Some, None, refl, sym, ap, ◌∙◌, arith, length-append}
+use Rattle.std.specs.Prelude.{option_map}
 use Rattle.std.specs.Ordering.{nat_cmp}
 use Rattle.std.specs.BTreeMap.{get, btree_map_len}
 use Rattle.hc_event.specs.declared.event.Event.{Event}
 use Rattle.hc_event.specs.declared.event.Event.TheVariants as event
-use Rattle.hc_event.specs.declared.act.Act.{Act}
 use Rattle.hc_app.specs.Rows as tables
 use Rattle.hc_app.specs.Rows.{Tables, consumer_after, exchange_after, is_live, is_reached, promised}
-use Rattle.hc_app.specs.Answers.{refusal_of, answer, accepted_acts}
-use Rattle.hc_app.specs.Runs.{Sound, next}
+use Rattle.hc_app.specs.Answers.{refusal_of, answer}
+use Rattle.hc_app.specs.Runs.{next}
 use Rattle.hc_app.proofs.Steps.{answer-accepted}
 use Rattle.hc_app.proofs.Counts.{live_kept}
 use Rattle.hc_app.specs.declared.rows.Exchange.{Exchange}
 use Rattle.hc_app.specs.declared.cache.Cache.{Cache}
-use Rattle.hc_app.specs.Stands.{StandsFor, KeepsConsumer, KeepsExchange, IsCarried, with_piece}
+use Rattle.hc_app.specs.Stands.{StandsFor, KeepsExchange, IsCarried, with_piece}
 use Rattle.hc_app.proofs.Kept.{keeps_update, stands_accepted, entry, eqb-same, eqb-other}
 use Rattle.hc_app.proofs.ListLemmas.{drop-append}
 

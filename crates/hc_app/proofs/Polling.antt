@@ -1,8 +1,8 @@
 -- A poll keeps what the cache stands for.
-use Rattle.std.proofs.Common.{◌≡◌, ◌≢◌, ◌⊎◌, inl, inr, ℕ, ◌+◌, ◌-◌, ◌<◌, ◌≤◌, List, [], ◌∷◌, ◌++◌, length, take, drop, Bool, true, false, cond, eqb, ltb, Option, Some, None, refl, sym, ap, ◌∙◌, subst, arith, lt-ltb, length-drop}
+use Rattle.std.proofs.Common.{◌≡◌, ◌≢◌, inl, inr, ℕ, ◌+◌, ◌-◌, ◌<◌, ◌≤◌, List, [], ◌∷◌, length, take, drop, Bool, true, false, cond, eqb, ltb, Option, Some, None, refl, sym, ap, ◌∙◌, subst, arith, lt-ltb, length-drop}
 use Rattle.std.proofs.lemmas.List.{append-nil}
 use Rattle.std.proofs.lemmas.Bool.Decides.{nat_tests, eqb_tells}
-use Rattle.std.specs.Prelude.{is_some, option_map, IsSomeAnd, ◌||◌, ◌&&◌}
+use Rattle.std.specs.Prelude.{is_some, option_map, IsSomeAnd}
 use Rattle.std.specs.Ordering.{nat_cmp}
 use Rattle.std.specs.BTreeMap.{get, btree_map_len}
 use Rattle.hc_event.specs.Filters.{opening_in}
@@ -16,19 +16,17 @@ use Rattle.hc_event.specs.declared.act.Need.TheVariants as need
 use Rattle.hc_event.specs.declared.act.Wait.{Wait}
 use Rattle.hc_event.specs.declared.act.Wait.TheVariants as wait
 use Rattle.hc_event.specs.declared.act.Why.TheVariants as reason
-use Rattle.hc_app.specs.Lengths.{is_head}
 use Rattle.hc_app.specs.Rows as tables
 use Rattle.hc_app.specs.Rows.{Tables, consumer_after, exchange_after, is_live, promised, moved}
 use Rattle.hc_app.specs.Answers.{refusal_of, answer, accepted_acts, acts_of, headed, reading, waits, Shows, Gives, Ends, is_at, end_by, end_of}
-use Rattle.hc_app.specs.Runs.{Sound, IsOf, next}
+use Rattle.hc_app.specs.Runs.{IsOf, next}
 use Rattle.hc_app.proofs.Steps.{answer-accepted}
 use Rattle.hc_app.proofs.Counts.{live_kept, live_gone}
-use Rattle.hc_app.specs.declared.rows.Stand.{Stand}
 use Rattle.hc_app.specs.declared.rows.Stand.TheVariants as stand
 use Rattle.hc_app.specs.declared.rows.Consumer.{Consumer}
 use Rattle.hc_app.specs.declared.rows.Exchange.{Exchange}
 use Rattle.hc_app.specs.declared.cache.Cache.{Cache}
-use Rattle.hc_app.specs.Stands.{StandsFor, InLine, IsReader, IsReading, IsRead, KeepsConsumer, KeepsExchange, IsCarried, row_of, at_stand, once_shown, at_offset, once_asked, without}
+use Rattle.hc_app.specs.Stands.{StandsFor, IsReader, IsReading, IsRead, KeepsConsumer, KeepsExchange, IsCarried, row_of, at_stand, once_shown, at_offset, once_asked, without}
 use Rattle.hc_app.proofs.Kept.{keeps_update, stands_accepted, frame, entry, eqb-same, eqb-other, there}
 use Rattle.hc_app.proofs.Gates.{live_stand}
 use Rattle.hc_app.proofs.ListLemmas.{drop-taken}

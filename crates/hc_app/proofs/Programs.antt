@@ -1,16 +1,16 @@
 -- What a replay did, by how its report ended.
-use Rattle.std.proofs.Common.{◌≡◌, ◌≢◌, ◌⊎◌, ℕ, ◌≤◌, ◌^◌, List, [], ◌∷◌, ◌++◌, length, Option, Bool, get_or, map, Global, refl, sym, ap, ◌∙◌, subst, inl, inr, arith}
+use Rattle.std.proofs.Common.{◌≡◌, ◌≢◌, ℕ, ◌≤◌, ◌^◌, List, [], ◌∷◌, ◌++◌, length, Option, Bool, get_or, map, Global, refl, sym, ap, ◌∙◌, subst, inr, arith}
 use Rattle.std.specs.Prelude.{Decides, bytes_eq, codes}
 use Rattle.std.specs.String.{string_bytes}
 use Rattle.std.specs.declared.string.String.{String}
 use Rattle.std.proofs.lemmas.List.{append-nil}
 use Rattle.std.proofs.lemmas.Slice.Eq.{bytes_eq-Decides}
-use Rattle.hc_io.specs.Sink.{Takes, TakesFront}
+use Rattle.hc_io.specs.Sink.{TakesFront}
 use Rattle.hc_io.proofs.Takings.{takes_none}
 use Rattle.hc_app.specs.Replayed.{IsReported, IsPartlyReported, IsReplayable, report_of}
-use Rattle.hc_app.specs.Schedule.{Item, Spells, IsRefused, events_of, text_of}
+use Rattle.hc_app.specs.Schedule.{events_of, text_of}
 use Rattle.hc_app.specs.Reading.{ReadsText, StopsAt, EndsAt}
-use Rattle.hc_app.specs.Program.{ReportsAll, ReportsSome, Replays, Reports, SaysRefusal, IsCutShort, IsReplay, Owes, nothing, refusal, refusal_text}
+use Rattle.hc_app.specs.Program.{ReportsAll, ReportsSome, Replays, Reports, SaysRefusal, IsCutShort, IsReplay, nothing, refusal, refusal_text}
 use Rattle.hc_app.specs.declared.cache.Cache.{Cache}
 use Rattle.hc_app.specs.declared.schedule.Timed.{Timed}
 use Rattle.hc_app.specs.declared.schedule.Refused.{Refused}

@@ -1,19 +1,18 @@
 -- A report goes on by one entry.
-use Rattle.std.proofs.Common.{◌≡◌, ℕ, suc, ◌+◌, ◌<◌, ◌≤◌, ◌^◌, List, [], ◌∷◌, ◌++◌, length, take, drop, get_or, Bool, true, false, cond, Option, Some, None, refl, sym, ap, ◌∙◌, subst, arith, append_assoc, length-append, All}
-use Rattle.std.proofs.lemmas.List.{append-nil, take-append-drop, take_more, length-take}
+use Rattle.std.proofs.Common.{◌≡◌, ℕ, suc, ◌+◌, ◌<◌, ◌≤◌, List, [], ◌∷◌, ◌++◌, length, take, drop, get_or, Option, refl, sym, ap, ◌∙◌, arith, append_assoc, length-append}
+use Rattle.std.proofs.lemmas.List.{append-nil, take-append-drop, take_more}
 use Rattle.std.proofs.Math.Seq.{drop-cons}
 use Rattle.hc_event.specs.Filters.{is_denied}
-use Rattle.hc_event.specs.declared.act.Act.{Act}
 use Rattle.hc_io.specs.Sink.{Takes, TakesFront}
 use Rattle.hc_io.proofs.Takings.{takes_more, takes_none}
 use Rattle.hc_app.specs.Entries.{Entry, History}
 use Rattle.hc_app.specs.Rows.{Tables}
-use Rattle.hc_app.specs.Tables.{tables, after, after_denied, after_accepted, received_in}
+use Rattle.hc_app.specs.Tables.{tables, after, received_in}
 use Rattle.hc_app.specs.Answers.{answer}
-use Rattle.hc_app.specs.Runs.{IsRun, next, owed}
+use Rattle.hc_app.specs.Runs.{IsRun, owed}
 use Rattle.hc_app.specs.Stands.{StandsFor}
 use Rattle.hc_app.specs.Report.{entry_text}
-use Rattle.hc_app.specs.Replayed.{Answers, IsReported, IsPartlyReported, IsReplayable, Rises, events_in, report_of, received_of}
+use Rattle.hc_app.specs.Replayed.{Answers, IsReported, IsPartlyReported, Rises, events_in, report_of, received_of}
 use Rattle.hc_app.specs.declared.schedule.Timed.{Timed}
 use Rattle.hc_app.specs.declared.cache.Cache.{Cache}
 use Rattle.hc_app.proofs.Steps.{tables-step}

@@ -1,23 +1,21 @@
 -- The rows of exchanges and consumers stay sound.
-use Rattle.std.proofs.Common.{◌≡◌, ◌≢◌, ◌⊎◌, inl, inr, ℕ, ◌+◌, ◌-◌, ◌<◌, ◌≤◌, List, [], ◌∷◌, ◌++◌, length, take, drop, min, Bool, true, false, cond, eqb, leb, ltb, Option, Some, None, refl, sym, ap, ◌∙◌, subst, arith, length-append, length-drop}
+use Rattle.std.proofs.Common.{◌≡◌, ◌≢◌, inl, inr, ℕ, ◌+◌, ◌-◌, ◌≤◌, List, [], ◌∷◌, ◌++◌, length, take, drop, Bool, true, false, cond, eqb, ltb, Option, Some, None, refl, sym, ap, ◌∙◌, subst, arith, length-append, length-drop}
 use Rattle.std.proofs.lemmas.List.{length-take, append-nil}
-use Rattle.std.specs.Prelude.{is_some, is_none, not, ◌&&◌, ◌||◌, IfSome}
+use Rattle.std.specs.Prelude.{is_some, not, ◌&&◌, IfSome}
 use Rattle.std.proofs.lemmas.Bool.Decides.{nat_tests, eqb_tells}
 use Rattle.std.proofs.lemmas.Bool.{eqb-true}
 use Rattle.hc_event.specs.Filters.{opening_in}
 use Rattle.hc_event.specs.declared.event.Event.{Event}
 use Rattle.hc_event.specs.declared.event.Event.TheVariants as event
-use Rattle.hc_event.specs.declared.event.Request.{Request}
 use Rattle.hc_event.specs.declared.event.Response.{Response}
-use Rattle.hc_event.specs.declared.act.Act.{Act}
 use Rattle.hc_event.specs.declared.act.Refusal.{Refusal}
 use Rattle.hc_app.specs.Entries.{Entry}
 use Rattle.hc_app.specs.Lengths.{length_of, promise}
-use Rattle.hc_app.specs.Rows.{Tables, Exchange, Consumer, Line, Direct, promised, is_reached, moved, exchange_heard, exchange_acted, exchange_made, exchange_after, consumer_after}
+use Rattle.hc_app.specs.Rows.{Tables, Exchange, Consumer, Direct, promised, is_reached, moved, exchange_heard, exchange_acted, exchange_made, exchange_after}
 use Rattle.hc_app.specs.Tables.{received_in}
-use Rattle.hc_app.specs.Answers.{refusal_of, Move, Nothing, Opens, WaitsHead, WaitsBody, Asks, Shows, Gives, Ends, Fails, Closes, acts_of, accepted_acts, subject, move_of, polled, Seen, seen, seen_open, head_refusal, piece_refusal, overlong}
+use Rattle.hc_app.specs.Answers.{refusal_of, Move, acts_of, accepted_acts, subject, move_of, polled, seen, seen_open, head_refusal, piece_refusal, overlong}
 use Rattle.hc_app.specs.Runs.{Sound, IsSoundExchange, IsSoundConsumer, IsWithin}
-use Rattle.hc_app.proofs.Moves.{Reading, PollDoes, nothing, opens, waits_head, waits_body, asks, shows, gives, ends, fails, poll_does, choose, IsQuiet, none, closes, head_quiet, cancel_quiet}
+use Rattle.hc_app.proofs.Moves.{PollDoes, nothing, opens, waits_head, waits_body, asks, shows, gives, ends, fails, poll_does, choose, IsQuiet, none, closes, head_quiet, cancel_quiet}
 
 pub more_received : (w : Exchange) (n k : ℕ) → IsSoundExchange w n → IsSoundExchange w (n + k)
 more_received w n k s = record { given_within = s.given_within; body_within = s.body_within; over = s.over; headless = s.headless; few = let few : length w.body ≤ n = s.few in omega arith }

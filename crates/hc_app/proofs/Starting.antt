@@ -1,10 +1,9 @@
 -- A start keeps what the cache stands for.
-use Rattle.std.proofs.Common.{◌≡◌, ◌≢◌, ◌⊎◌, inl, inr, ℕ, ◌+◌, ◌<◌, ◌≤◌, List, [], ◌∷◌, Bool, true, false, cond, eqb, Option, Some, None, refl, sym, ap, ◌∙◌, subst, arith}
+use Rattle.std.proofs.Common.{◌≡◌, ℕ, ◌+◌, ◌<◌, List, [], ◌∷◌, false, cond, eqb, Option, Some, None, refl, ◌∙◌, arith}
 use Rattle.std.specs.Prelude.{is_some}
 use Rattle.std.specs.Ordering.{nat_cmp}
 use Rattle.std.specs.BTreeMap.{get, btree_map_len}
 use Rattle.hc_event.specs.declared.event.Request.{Request}
-use Rattle.hc_event.specs.declared.event.Event.{Event}
 use Rattle.hc_event.specs.declared.event.Event.TheVariants as event
 use Rattle.hc_app.specs.Rows as tables
 use Rattle.hc_app.specs.Rows.{Tables, consumer_after, exchange_after}
@@ -12,7 +11,6 @@ use Rattle.hc_app.specs.Answers.{refusal_of}
 use Rattle.hc_app.specs.Runs.{next, Descends}
 use Rattle.hc_app.proofs.Counts.{live_same}
 use Rattle.hc_app.specs.declared.rows.Stand.TheVariants as stand
-use Rattle.hc_app.specs.declared.rows.Consumer.{Consumer}
 use Rattle.hc_app.specs.declared.cache.Cache.{Cache}
 use Rattle.hc_app.specs.Stands.{StandsFor, KeepsConsumer}
 use Rattle.hc_app.proofs.Kept.{keeps_update, stands_accepted, frame, entry, kept_none, eqb-same}

@@ -1,21 +1,16 @@
 -- What one more entry does to the tables.
-use Rattle.std.proofs.Common.{◌≡◌, ◌≢◌, ℕ, ◌+◌, ◌<◌, ◌≤◌, List, [], ◌∷◌, Bool, true, false, cond, eqb, Option, Some, None, refl, sym, ap, ◌∙◌, subst, arith}
-use Rattle.std.specs.Prelude.{◌==◌}
+use Rattle.std.proofs.Common.{◌≡◌, ◌≢◌, ℕ, [], ◌∷◌, true, false, Some, None, refl, ap, arith}
 use Rattle.std.proofs.lemmas.Bool.Decides.{nat_tests}
 use Rattle.hc_event.specs.declared.event.Event.{Event}
 use Rattle.hc_event.specs.declared.event.Event.TheVariants as event
-use Rattle.hc_event.specs.declared.act.Act.{Act}
 use Rattle.hc_event.specs.declared.act.Act.TheVariants as act
 use Rattle.hc_event.specs.declared.event.Request.{Request}
 use Rattle.hc_event.specs.declared.act.Refusal.{Refusal}
-use Rattle.hc_event.specs.declared.act.Need.TheVariants as need
-use Rattle.hc_event.specs.declared.act.Wait.TheVariants as wait
 use Rattle.hc_app.specs.Entries.{Entry, History}
-use Rattle.hc_event.specs.Filters.{is_denied, opening_in}
-use Rattle.hc_app.specs.Rows.{Tables, Exchange, Consumer, Line, exchange_after, consumer_after, consumer_made}
+use Rattle.hc_event.specs.Filters.{is_denied}
+use Rattle.hc_app.specs.Rows.{Tables, consumer_after}
 use Rattle.hc_app.specs.Tables.{after, after_accepted, after_denied, tables}
 use Rattle.hc_app.specs.Answers.{answer, accepted_acts, acts_unless, refusal_of}
-use Rattle.hc_app.specs.Runs.{owed, next}
 
 pub tables-step : (e : Entry) (h : History) → tables (e ∷ h) ≡ after (tables h) e
 unfolding tables

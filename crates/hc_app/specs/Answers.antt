@@ -1,6 +1,5 @@
 -- The acts that are owed to an event.
-use Rattle.std.specs.Prelude.{ℕ, ◌+◌, List, [], ◌∷◌, length, take, drop, Bool, true, false, Option, Some, None, is_some, is_none, if◌then◌else◌, ◌==◌, ◌&&◌, not, nat_lt, nat_le}
-use Rattle.std.specs.Option.{option_map_or}
+use Rattle.std.specs.Prelude.{ℕ, ◌+◌, List, [], ◌∷◌, length, take, drop, Bool, false, Option, Some, None, is_some, if◌then◌else◌, ◌==◌, not, nat_lt, nat_le}
 use Rattle.hc_event.specs.declared.event.Event.{Event}
 use Rattle.hc_event.specs.declared.event.Event.TheVariants as event
 use Rattle.hc_event.specs.declared.event.Request.{Request}

@@ -1,5 +1,5 @@
 -- What the list of entries says, entry by entry, of a consumer and of an exchange.
-use Rattle.std.specs.Prelude.{◌≡◌, ℕ, List, [], ◌∷◌, ◌++◌, length, Option, Some, None, is_some, option_map, option_and_then, if◌then◌else◌, ◌==◌, ◌||◌, ◌&&◌, not, Bool, false}
+use Rattle.std.specs.Prelude.{◌≡◌, ℕ, List, [], ◌∷◌, ◌++◌, length, Option, Some, None, option_map, option_and_then, if◌then◌else◌, ◌==◌, ◌||◌, ◌&&◌, not, Bool, false}
 use Rattle.std.specs.Option.{option_map_or}
 use Rattle.hc_event.specs.Filters.{is_denied, given_in}
 use Rattle.hc_event.specs.declared.event.Event.{Event}

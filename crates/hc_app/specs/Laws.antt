@@ -1,11 +1,11 @@
 -- The law of one key: an accepted event changes only what is said of one consumer and its exchanges.
-use Rattle.std.specs.Prelude.{◌≡◌, ◌≢◌, ℕ, List, [], ◌∷◌, Option, Some, None, Bool, true, false, bytes_eq}
+use Rattle.std.specs.Prelude.{◌≡◌, ◌≢◌, ℕ, List, [], ◌∷◌, Option, Some, None, Bool, false, bytes_eq}
 use Rattle.hc_event.specs.declared.event.Event.{Event}
 use Rattle.hc_event.specs.declared.event.Event.TheVariants as event
 use Rattle.hc_event.specs.declared.act.Act.{Act}
 use Rattle.hc_event.specs.declared.act.Act.TheVariants as act
 use Rattle.hc_app.specs.Entries.{History}
-use Rattle.hc_app.specs.Rows.{Tables, Exchange, Consumer}
+use Rattle.hc_app.specs.Rows.{Tables, Consumer}
 use Rattle.hc_app.specs.Tables.{tables}
 use Rattle.hc_app.specs.Answers.{refusal_of, subject, owner}
 use Rattle.hc_app.specs.Runs.{IsRun, Sound, next}

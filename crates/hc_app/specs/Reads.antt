@@ -3,7 +3,7 @@ use Rattle.std.specs.Prelude.{◌≡◌, ℕ, ◌+◌, ◌≤◌, List, [], ◌�
 use Rattle.hc_event.specs.declared.act.Act.{Act}
 use Rattle.hc_event.specs.declared.act.Act.TheVariants as act
 use Rattle.hc_event.specs.declared.act.Why.TheVariants as reason
-use Rattle.hc_app.specs.Entries.{Entry, History}
+use Rattle.hc_app.specs.Entries.{History}
 use Rattle.hc_app.specs.Runs.{IsRun}
 use Rattle.hc_app.specs.Histories.{Showing, showings_of, given_of, delivered_of, has_ended}
 

@@ -1,12 +1,11 @@
 -- What a replay wrote: the report of a run.
-use Rattle.std.specs.Prelude.{◌≡◌, ℕ, ◌+◌, ◌≤◌, ◌<◌, ◌^◌, List, [], ◌∷◌, ◌++◌, length, All, Option}
+use Rattle.std.specs.Prelude.{◌≡◌, ℕ, ◌+◌, ◌≤◌, ◌^◌, List, [], ◌∷◌, ◌++◌, length, All, Option}
 use Rattle.hc_io.specs.Sink.{Takes, TakesFront}
-use Rattle.hc_app.specs.Entries.{Entry, History}
+use Rattle.hc_app.specs.Entries.{History}
 use Rattle.hc_app.specs.Rows.{Tables}
 use Rattle.hc_app.specs.Tables.{tables, received_in}
 use Rattle.hc_app.specs.Answers.{answer}
 use Rattle.hc_app.specs.Runs.{IsRun, next}
-use Rattle.hc_app.specs.Reads.{ReadsWhole}
 use Rattle.hc_app.specs.Report.{entry_text}
 use Rattle.hc_app.specs.Schedule.{IsBuiltEvent}
 use Rattle.hc_app.specs.Stands.{StandsFor}

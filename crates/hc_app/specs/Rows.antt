@@ -1,5 +1,5 @@
 -- The consumer table: what the past says of each exchange and each consumer.
-use Rattle.std.specs.Prelude.{ℕ, ◌+◌, List, [], ◌∷◌, ◌++◌, length, bytes_eq, Bool, true, false, Option, Some, None, is_some, is_none, if◌then◌else◌, ◌==◌, ◌||◌, ◌&&◌, not, nat_lt, option_and_then}
+use Rattle.std.specs.Prelude.{ℕ, ◌+◌, List, [], ◌∷◌, ◌++◌, length, bytes_eq, Bool, true, false, Option, Some, None, is_none, if◌then◌else◌, ◌==◌, ◌||◌, ◌&&◌, not, nat_lt, option_and_then}
 use Rattle.hc_event.specs.Filters.{Opening, opening_in, asks_in, closes_in, shows_in, given_in, given_from, leaves_in}
 use Rattle.hc_event.specs.declared.event.Event.{Event}
 use Rattle.hc_event.specs.declared.event.Event.TheVariants as event

@@ -1,8 +1,8 @@
-use Rattle.std.proofs.Common.{◌≡◌, ◌<◌, ℕ, List, [], length, get_or, true, false, Some, sym, ◌∙◌, ap, refl, arith}
-use Rattle.std.specs.Prelude.{codes, not, ◌&&◌}
+use Rattle.std.proofs.Common.{[], Some, sym, ◌∙◌}
+use Rattle.std.specs.Prelude.{codes}
 use Rattle.std.proofs.lemmas.List.Folds.{list_all_at, list_all_more}
 use Rattle.hc_fields.specs.FieldList.{values_of}
-use Rattle.hc_app.specs.Lengths.{all_tell, is_same_number, number_of}
+use Rattle.hc_app.specs.Lengths.{is_same_number, number_of}
 use Rattle.hc_app.proofs.LengthLemmas.{value_at}
 use Rattle.hc_app.proofs.length.all_tell.Goals as goal
 

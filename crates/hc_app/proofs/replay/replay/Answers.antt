@@ -1,6 +1,5 @@
-use Rattle.std.proofs.Common.{◌≡◌, ◌+◌, ◌<◌, ◌≤◌, ◌^◌, ℕ, List, length, take, drop, get_or, refl, ◌∙◌, sym, ap, arith, subst}
+use Rattle.std.proofs.Common.{◌≡◌, ◌+◌, ◌<◌, ◌≤◌, ◌^◌, List, length, take, drop, refl, arith, subst}
 use Rattle.std.proofs.lemmas.List.{take_more, length-take}
-use Rattle.hc_app.specs.Schedule.{IsBuiltEvent}
 use Rattle.hc_app.specs.Replayed.{Rises, received_of}
 use Rattle.hc_app.specs.Tables.{tables, received_in}
 use Rattle.hc_app.specs.declared.schedule.Timed.{Timed}

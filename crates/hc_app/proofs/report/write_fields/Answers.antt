@@ -1,4 +1,4 @@
-use Rattle.std.proofs.Common.{◌++◌, take, refl, rules, append_assoc}
+use Rattle.std.proofs.Common.{take, refl, rules, append_assoc}
 use Rattle.hc_app.specs.Schedule.{field_text, fields_text}
 use Rattle.hc_app.specs.Parts.{IsKept}
 use Rattle.hc_app.proofs.Lines.{kept_before, texts_grow}

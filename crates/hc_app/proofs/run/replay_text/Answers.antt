@@ -1,4 +1,4 @@
-use Rattle.std.proofs.Common.{◌≡◌, refl, ap, ◌∙◌, inl}
+use Rattle.std.proofs.Common.{inl}
 use Rattle.hc_app.proofs.Programs.{read-replayable, refused-replayable, spelled, refused, cut_short, stops}
 use Rattle.hc_app.proofs.run.replay_text.Goals as goal
 

@@ -1,4 +1,4 @@
-use Rattle.std.proofs.Common.{refl, ◌∙◌, sym, ap, append_assoc}
+use Rattle.std.proofs.Common.{refl, append_assoc}
 use Rattle.hc_app.proofs.Polling.{stands_asking}
 use Rattle.hc_app.proofs.cache.Cache.ask.Goals as goal
 

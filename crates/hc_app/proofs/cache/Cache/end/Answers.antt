@@ -1,4 +1,4 @@
-use Rattle.std.proofs.Common.{refl, ◌∙◌, sym, ap}
+use Rattle.std.proofs.Common.{refl}
 use Rattle.hc_app.proofs.Kept.{update_at}
 use Rattle.hc_app.proofs.Polling.{stands_ended}
 use Rattle.hc_app.proofs.cache.Cache.end.Goals as goal

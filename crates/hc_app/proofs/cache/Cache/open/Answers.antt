@@ -1,4 +1,4 @@
-use Rattle.std.proofs.Common.{refl, ◌∙◌, sym, ap, append_assoc}
+use Rattle.std.proofs.Common.{refl, sym, append_assoc}
 use Rattle.hc_app.proofs.Kept.{update_at}
 use Rattle.hc_app.proofs.Polling.{stands_opened}
 use Rattle.hc_app.proofs.cache.Cache.open.Goals as goal

@@ -1,4 +1,4 @@
-use Rattle.std.proofs.Common.{refl, ◌∙◌, sym, ap}
+use Rattle.std.proofs.Common.{refl}
 use Rattle.hc_app.proofs.Polling.{stands_shown}
 use Rattle.hc_app.proofs.cache.Cache.show.Goals as goal
 

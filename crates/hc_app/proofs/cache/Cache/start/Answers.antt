@@ -1,4 +1,4 @@
-use Rattle.std.proofs.Common.{refl, ◌∙◌, sym, ap}
+use Rattle.std.proofs.Common.{refl, sym}
 use Rattle.std.proofs.lemmas.List.{append-nil}
 use Rattle.hc_app.proofs.Steps.{answer-accepted}
 use Rattle.hc_app.proofs.Kept.{is_at-nat}

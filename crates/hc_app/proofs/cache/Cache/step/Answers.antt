@@ -1,4 +1,4 @@
-use Rattle.std.proofs.Common.{refl, ◌∙◌, sym, ap}
+use Rattle.std.proofs.Common.{refl, ◌∙◌, sym}
 use Rattle.hc_app.proofs.Gates.{gate-is, stands_denied}
 use Rattle.hc_app.proofs.cache.Cache.step.Goals as goal
 

@@ -1,4 +1,4 @@
-use Rattle.std.proofs.Common.{refl, ◌∙◌, sym, ap, inl, inr}
+use Rattle.std.proofs.Common.{refl, ◌∙◌, sym, inl, inr}
 use Rattle.std.proofs.lemmas.List.{append-nil}
 use Rattle.hc_app.proofs.Heads.{stands_headed}
 use Rattle.hc_app.proofs.LengthLemmas.{declared_promises}

@@ -1,4 +1,4 @@
-use Rattle.std.proofs.Common.{◌+◌, length, refl, ◌∙◌, sym, ap}
+use Rattle.std.proofs.Common.{◌+◌, length, refl, sym}
 use Rattle.std.proofs.lemmas.List.{append-nil}
 use Rattle.std.proofs.lemmas.Result.{on_ok_weaker}
 use Rattle.hc_app.proofs.Pieces.{stands_pieced}

@@ -2,13 +2,14 @@
 use Rattle.std.proofs.Common.{◌≡◌, ◌≢◌, inl, inr, ℕ, ◌+◌, ◌-◌, ◌<◌, ◌≤◌, List, [], ◌∷◌, ◌++◌, length, take, drop, min, Bool, true, false, cond, eqb, ltb, Option, Some, None, refl, sym, ap, ◌∙◌, subst, arith, length-append, length-drop}
 use Rattle.std.proofs.lemmas.List.{append-nil, length-take, length-take-le, take-append-drop, take-append-le, take_min}
 use Rattle.std.proofs.Math.Seq.{take-append_seam, take-append-add}
-use Rattle.std.specs.Prelude.{is_some, not, ◌&&◌, IfSome}
+use Rattle.std.specs.Prelude.{is_some, not, ◌&&◌, IfSome, option_and_then}
 use Rattle.std.specs.Option.{option_map_or}
 use Rattle.std.proofs.lemmas.Bool.Decides.{nat_tests, eqb_tells}
 use Rattle.hc_event.specs.Filters.{Opening, opening_in, closes_in, given_in}
 use Rattle.hc_event.specs.declared.event.Event.{Event}
 use Rattle.hc_event.specs.declared.event.Event.TheVariants as event
 use Rattle.hc_event.specs.declared.event.Request.{Request}
+use Rattle.hc_event.specs.declared.event.Response.{Response}
 use Rattle.hc_event.specs.declared.act.Act.{Act}
 use Rattle.hc_event.specs.declared.act.Why.TheVariants as why
 use Rattle.hc_event.specs.declared.act.Refusal.{Refusal}
@@ -18,8 +19,8 @@ use Rattle.hc_app.specs.Rows.{Tables, Exchange, Consumer, Line, Direct, Over, pr
 use Rattle.hc_app.specs.Tables.{tables}
 use Rattle.hc_app.specs.Answers.{accepted_acts, refusal_of, Move, Nothing, Opens, WaitsHead, WaitsBody, Asks, Shows, Gives, Ends, Fails, Closes, acts_of, subject, polled, placed_move, end_by, end_of, is_at, seen, seen_open, head_refusal, piece_refusal}
 use Rattle.hc_app.specs.Runs.{Sound, IsWithin}
-use Rattle.hc_app.specs.Histories.{Showing, showings_in, showings_of, given_of, delivered_of, has_ended, IsFiltered}
-use Rattle.hc_app.specs.Reads.{WasShown, IsNext, IsAtEnd, IsWhole, ReadsActs, ReadsEach, RunsReadWhole}
+use Rattle.hc_app.specs.Histories.{Showing, head_of, showings_in, showings_of, given_of, delivered_of, has_ended, IsFiltered}
+use Rattle.hc_app.specs.Reads.{WasShown, IsShownHead, IsNext, IsAtEnd, IsWhole, ReadsActs, ReadsEach, RunsReadWhole}
 use Rattle.hc_app.proofs.Moves.{Reading, PollDoes, nothing, opens, waits_head, waits_body, asks, shows, gives, ends, fails, poll_does, IsQuiet, none, closes, head_quiet, cancel_quiet}
 use Rattle.hc_app.proofs.OneKey.{row_far}
 use Rattle.hc_app.proofs.Owners.{either, heard_place}
@@ -491,6 +492,9 @@ ended_is h t x w f is = sym (ap (λ (o : Option Exchange). option_map_or (λ (v 
 body_is : (h : History) (t : Tables) (x : ℕ) (w : Exchange) → IsFiltered h t → t.exchange x ≡ Some w → w.body ≡ delivered_of x h
 body_is h t x w f is = sym (ap (λ (o : Option Exchange). option_map_or (λ (v : Exchange). v.body) o []) is) ∙ f.bodies x
 
+head_is : (h : History) (t : Tables) (x : ℕ) (w : Exchange) (head : Response) → IsFiltered h t → t.exchange x ≡ Some w → w.head ≡ Some head → head_of x h ≡ Some head
+head_is h t x w head f is headed = sym (f.heads x) ∙ (ap (λ (o : Option Exchange). option_and_then (λ (v : Exchange). v.head) o) is ∙ headed)
+
 module _ (h : History) (t : Tables) (c want : ℕ) (r : Consumer) (sound : Sound t) (filtered : IsFiltered h t) (some_wanted : want ≢ 0) (f : IsReader r t.exchange (showings_of c h) (given_of c h)) where
   -- the offset of what was shown
   offset_is : (s : Showing) → IsShown r (t.exchange s.r) s (given_of c h) → s.lo + length (given_of c h) ≡ r.offset
@@ -529,13 +533,16 @@ module _ (h : History) (t : Tables) (c want : ℕ) (r : Consumer) (sound : Sound
       let end : IsEnd s.hi k.w = subst (λ (v : Exchange). IsEnd s.hi v) same known.end in
       (s, was, whole_end h s.r k.w s.hi r.offset _ (offset_is s known) (body_is h t s.r k.w filtered there) (ended_is h t s.r k.w filtered there) end at_last)
 
+  head_shown : (x : ℕ) (k : Reading t r x) → IsShownHead h x k.head.status k.head.fields 0
+  head_shown x k = record { response = k.head; head_is = head_is h t x k.w k.head filtered k.exchange k.headed; status_is = refl; fields_are = refl; first = refl }
+
   acts_read : (m : Move) → PollDoes t want r m → ReadsActs h (acts_of c m)
   acts_read m nothing = tt
   acts_read m (opens line) = (tt, (tt, tt))
   acts_read m waits_head = (tt, tt)
   acts_read m waits_body = (tt, tt)
   acts_read m asks = (tt, (tt, tt))
-  acts_read m (shows k hidden) = let (no_shown, no_given, zero) = f.hidden hidden in ((no_shown, no_given, refl), tt)
+  acts_read m (shows {x = x} k hidden) = let (no_shown, no_given, zero) = f.hidden hidden in ((no_shown, no_given, refl, head_shown x k), tt)
   acts_read m (gives {x = x} k shown not_at some) = (next_given x k shown some, tt)
   acts_read m (ends {x = x} k shown at) = (whole_given x k shown at, tt)
   acts_read m fails = (tt, tt)

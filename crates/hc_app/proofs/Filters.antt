@@ -65,7 +65,7 @@ module _ (P : History → Tables → Type 0) (start : P [] (tables [])) (accepts
 
 -- Lists.
 
-first_keeps : {A : Type 0} (xs ys : List A) (x : A) → first xs ≡ Some x → first (xs ++ ys) ≡ Some x
+pub first_keeps : {A : Type 0} (xs ys : List A) (x : A) → first xs ≡ Some x → first (xs ++ ys) ≡ Some x
 first_keeps [] ys x h = cc
 first_keeps (y ∷ xs) ys x h = h
 

@@ -2,7 +2,7 @@
 use Rattle.std.proofs.Common.{◌≡◌, ◌≢◌, inl, inr, ℕ, ◌+◌, ◌-◌, ◌<◌, ◌≤◌, List, [], ◌∷◌, ◌++◌, length, take, drop, min, Bool, true, false, cond, eqb, ltb, Option, Some, None, refl, sym, ap, ◌∙◌, subst, arith, length-append, length-drop}
 use Rattle.std.proofs.lemmas.List.{append-nil, length-take, length-take-le, take-append-drop, take-append-le, take_min}
 use Rattle.std.proofs.Math.Seq.{take-append_seam, take-append-add}
-use Rattle.std.specs.Prelude.{is_some, not, ◌&&◌, IfSome, option_and_then}
+use Rattle.std.specs.Prelude.{is_some, not, ◌&&◌, IfSome, option_map, option_and_then}
 use Rattle.std.specs.Option.{option_map_or}
 use Rattle.std.proofs.lemmas.Bool.Decides.{nat_tests, eqb_tells}
 use Rattle.hc_event.specs.Filters.{Opening, opening_in, closes_in, given_in}
@@ -15,17 +15,17 @@ use Rattle.hc_event.specs.declared.act.Why.TheVariants as why
 use Rattle.hc_event.specs.declared.act.Refusal.{Refusal}
 use Rattle.hc_event.specs.declared.act.Refusal.TheVariants as refusal
 use Rattle.hc_app.specs.Entries.{Entry, History}
-use Rattle.hc_app.specs.Rows.{Tables, Exchange, Consumer, Line, Direct, Over, promised, moved, exchange_heard, exchange_acted, exchange_made, exchange_after, consumer_heard, consumer_acted, consumer_made, consumer_after, is_live}
+use Rattle.hc_app.specs.Rows.{Tables, Exchange, Consumer, Place, Line, Direct, Over, promised, moved, exchange_heard, exchange_acted, exchange_made, exchange_after, consumer_heard, consumer_acted, consumer_made, consumer_after, is_live}
 use Rattle.hc_app.specs.Tables.{tables}
 use Rattle.hc_app.specs.Answers.{accepted_acts, refusal_of, Move, Nothing, Opens, WaitsHead, WaitsBody, Asks, Shows, Gives, Ends, Fails, Closes, acts_of, subject, polled, placed_move, end_by, end_of, is_at, seen, seen_open, head_refusal, piece_refusal}
-use Rattle.hc_app.specs.Runs.{Sound, IsWithin}
-use Rattle.hc_app.specs.Histories.{Showing, head_of, showings_in, showings_of, given_of, delivered_of, has_ended, IsFiltered}
+use Rattle.hc_app.specs.Runs.{Sound, IsWithin, Reads, IsOf}
+use Rattle.hc_app.specs.Histories.{Showing, each, if_accepted, request_in, request_of, head_of, showings_in, showings_of, given_of, delivered_of, has_ended, IsFiltered}
 use Rattle.hc_app.specs.Reads.{WasShown, IsShownHead, IsNext, IsAtEnd, IsWhole, ReadsActs, ReadsEach, RunsReadWhole}
 use Rattle.hc_app.proofs.Moves.{Reading, PollDoes, nothing, opens, waits_head, waits_body, asks, shows, gives, ends, fails, poll_does, IsQuiet, none, closes, head_quiet, cancel_quiet}
 use Rattle.hc_app.proofs.OneKey.{row_far}
-use Rattle.hc_app.proofs.Owners.{either, heard_place}
+use Rattle.hc_app.proofs.Owners.{either, heard_c, heard_place}
 use Rattle.hc_app.proofs.SoundRows.{moved-is, same_some}
-use Rattle.hc_app.proofs.Filters.{taken, Accepts, Denies, over_runs, no_head_before, heard_offset, quiet_given, far_given, absent_given, filters_start, filters_accepted, filters_denied}
+use Rattle.hc_app.proofs.Filters.{taken, denied, Accepts, Denies, over_runs, first_keeps, no_head_before, heard_offset, quiet_given, far_given, absent_given, filters_start, filters_accepted, filters_denied}
 
 -- Lists.
 
@@ -447,6 +447,79 @@ module _ (t : Tables) (now c : ℕ) (sound : Sound t) (stopped : (x : ℕ) → I
   row_reads (event.Cancel d) (Some r) h is f = quiet_reads t now _ c (event.Cancel d) _ r sh gv (cancel_quiet t d) (grows t (taken t now (event.Cancel d)) h stopped) f
   row_reads (event.Doom key) (Some r) h is f = quiet_reads t now (subject t (event.Doom key)) c (event.Doom key) Nothing r sh gv none (grows t (taken t now (event.Doom key)) h stopped) f
 
+-- The request of an exchange.
+
+-- the request is that of the consumer
+abbrev IsAsked : History → Option Exchange → Type 0
+IsAsked h None = Unit {0}
+IsAsked h (Some w) = request_of w.c h ≡ Some w.request
+
+abbrev IsAskedToOpen : History → Option Opening → Type 0
+IsAskedToOpen h None = Unit {0}
+IsAskedToOpen h (Some o) = request_of o.c h ≡ Some o.request
+
+request_stays : (e : Entry) (h : History) (c : ℕ) (request : Request) → request_of c h ≡ Some request → request_of c (e ∷ h) ≡ Some request
+request_stays e h c request is = first_keeps (each (λ e. if_accepted e (request_in c e.event)) h) (if_accepted e (request_in c e.event)) request is
+
+heard_asked : (x : ℕ) (event : Event) (w : Exchange) → (exchange_heard x event w).request ≡ w.request
+heard_asked x (event.Head y response) w = either (λ (v : Exchange). v.request ≡ w.request) (eqb y x) _ _ refl refl
+heard_asked x (event.Piece y bytes) w = either (λ (v : Exchange). v.request ≡ w.request) (eqb y x) _ _ refl refl
+heard_asked x (event.End y) w = either (λ (v : Exchange). v.request ≡ w.request) (eqb y x) _ _ refl refl
+heard_asked x (event.Fault y) w = either (λ (v : Exchange). v.request ≡ w.request) (eqb y x) _ _ refl refl
+heard_asked x (event.Start d request) w = refl
+heard_asked x (event.Poll d want) w = refl
+heard_asked x (event.Cancel d) w = refl
+heard_asked x (event.Doom key) w = refl
+
+made_asked : (x : ℕ) (e : Entry) (h : History) (o : Option Opening) → IsAskedToOpen h o → IsAsked (e ∷ h) (exchange_made x e o)
+made_asked x e h None f = tt
+made_asked x e h (Some o) f = either (IsAsked (e ∷ h)) (eqb o.x x) _ _ (request_stays e h o.c o.request f) tt
+
+asked_after : (x : ℕ) (e : Entry) (h : History) (o : Option Exchange) → IsAskedToOpen h (opening_in e.acts) → IsAsked h o → IsAsked (e ∷ h) (exchange_after x e o)
+unfolding exchange_after
+asked_after x e h None opening f = made_asked x e h (opening_in e.acts) opening
+asked_after x e h (Some w) opening f = ap (λ (c : ℕ). request_of c (e ∷ h)) (heard_c x e.event w) ∙ (request_stays e h w.c w.request f ∙ ap Some (sym (heard_asked x e.event w)))
+
+still_asked : (e : Entry) (h : History) (o : Option Exchange) → IsAsked h o → IsAsked (e ∷ h) o
+still_asked e h None f = tt
+still_asked e h (Some w) f = request_stays e h w.c w.request f
+
+-- a poll opens an exchange for the request of its consumer
+move_asked : (h : History) (t : Tables) (c want : ℕ) (r : Consumer) (m : Move) → request_of c h ≡ Some r.request → placed_move t want r r.place ≡ m → PollDoes t want r m → IsAskedToOpen h (opening_in (acts_of c m))
+move_asked h t c want r m is same (opens {q = q} line) =
+    let f : Opens (t.opened + 1) r.request ≡ Opens (t.opened + 1) q = sym (ap (λ (p : Place). placed_move t want r p) line) ∙ same in
+    let g : r.request ≡ q = cc in
+    is ∙ ap Some g
+move_asked h t c want r m is same nothing = tt
+move_asked h t c want r m is same waits_head = tt
+move_asked h t c want r m is same waits_body = tt
+move_asked h t c want r m is same asks = tt
+move_asked h t c want r m is same (shows k hidden) = tt
+move_asked h t c want r m is same (gives k shown not_at some) = tt
+move_asked h t c want r m is same (ends k shown at) = tt
+move_asked h t c want r m is same fails = tt
+
+request_is : (h : History) (t : Tables) (c : ℕ) (r : Consumer) → IsFiltered h t → t.consumer c ≡ Some r → request_of c h ≡ Some r.request
+request_is h t c r f is = sym (f.requests c) ∙ ap (λ (o : Option Consumer). option_map (λ (s : Consumer). s.request) o) is
+
+poll_asked : (h : History) (t : Tables) (c want : ℕ) (o : Option Consumer) → IsFiltered h t → t.consumer c ≡ o → IsAskedToOpen h (opening_in (acts_of c (polled t want o)))
+poll_asked h t c want None filtered is = tt
+poll_asked h t c want (Some r) filtered is = move_asked h t c want r _ (request_is h t c r filtered is) refl (poll_does t want r)
+
+quiet_asked : (h : History) (s : ℕ) (m : Move) → IsQuiet m → IsAskedToOpen h (opening_in (acts_of s m))
+quiet_asked h s m none = tt
+quiet_asked h s m closes = tt
+
+event_asked : (h : History) (t : Tables) (event : Event) → IsFiltered h t → IsAskedToOpen h (opening_in (accepted_acts t event))
+event_asked h t (event.Poll c want) filtered = poll_asked h t c want (t.consumer c) filtered refl
+event_asked h t (event.Start d request) filtered = tt
+event_asked h t (event.Head y response) filtered = quiet_asked h _ _ (head_quiet t y response)
+event_asked h t (event.Piece y bytes) filtered = tt
+event_asked h t (event.End y) filtered = tt
+event_asked h t (event.Fault y) filtered = tt
+event_asked h t (event.Cancel d) filtered = quiet_asked h _ _ (cancel_quiet t d)
+event_asked h t (event.Doom key) filtered = tt
+
 -- The acts.
 
 no_refusal : (b : Bool) (refusal : Refusal) (o : Option Refusal) → cond b (Some refusal) o ≡ None → (b ≡ false) × (o ≡ None)
@@ -495,7 +568,7 @@ body_is h t x w f is = sym (ap (λ (o : Option Exchange). option_map_or (λ (v :
 head_is : (h : History) (t : Tables) (x : ℕ) (w : Exchange) (head : Response) → IsFiltered h t → t.exchange x ≡ Some w → w.head ≡ Some head → head_of x h ≡ Some head
 head_is h t x w head f is headed = sym (f.heads x) ∙ (ap (λ (o : Option Exchange). option_and_then (λ (v : Exchange). v.head) o) is ∙ headed)
 
-module _ (h : History) (t : Tables) (c want : ℕ) (r : Consumer) (sound : Sound t) (filtered : IsFiltered h t) (some_wanted : want ≢ 0) (f : IsReader r t.exchange (showings_of c h) (given_of c h)) where
+module _ (h : History) (t : Tables) (c want : ℕ) (r : Consumer) (is : t.consumer c ≡ Some r) (sound : Sound t) (filtered : IsFiltered h t) (asked : (x : ℕ) → IsAsked h (t.exchange x)) (some_wanted : want ≢ 0) (f : IsReader r t.exchange (showings_of c h) (given_of c h)) where
   -- the offset of what was shown
   offset_is : (s : Showing) → IsShown r (t.exchange s.r) s (given_of c h) → s.lo + length (given_of c h) ≡ r.offset
   offset_is s known =
@@ -533,8 +606,25 @@ module _ (h : History) (t : Tables) (c want : ℕ) (r : Consumer) (sound : Sound
       let end : IsEnd s.hi k.w = subst (λ (v : Exchange). IsEnd s.hi v) same known.end in
       (s, was, whole_end h s.r k.w s.hi r.offset _ (offset_is s known) (body_is h t s.r k.w filtered there) (ended_is h t s.r k.w filtered there) end at_last)
 
-  head_shown : (x : ℕ) (k : Reading t r x) → IsShownHead h x k.head.status k.head.fields 0
-  head_shown x k = record { response = k.head; head_is = head_is h t x k.w k.head filtered k.exchange k.headed; status_is = refl; fields_are = refl; first = refl }
+  -- the exchange that it reads has its request
+  own_request : (x : ℕ) (k : Reading t r x) → request_of c h ≡ Some k.w.request
+  own_request x k =
+      let of : k.w.c ≡ c = subst (λ (o : Option Exchange). IsOf o c) k.exchange (sound.readers c x (subst (λ (o : Option Consumer). Reads o x) (sym is) k.place)) in
+      subst (λ (d : ℕ). request_of d h ≡ Some k.w.request) of (subst (IsAsked h) k.exchange (asked x))
+
+  head_shown : (x : ℕ) (k : Reading t r x) → IsShownHead h c x k.head.status k.head.fields 0 (end_of k.w)
+  head_shown x k = record {
+    request = k.w.request;
+    request_is = own_request x k;
+    response = k.head;
+    head_is = head_is h t x k.w k.head filtered k.exchange k.headed;
+    status_is = refl;
+    fields_are = refl;
+    first = refl;
+    end = ap (λ (o : Option Response). end_by (promised k.w.request o) k.w.is_ended (length k.w.body)) k.headed
+        ∙ (ap (λ (b : Bool). end_by (promised k.w.request (Some k.head)) b (length k.w.body)) (ended_is h t x k.w filtered k.exchange)
+        ∙ ap (λ (xs : List ℕ). end_by (promised k.w.request (Some k.head)) (has_ended x h) (length xs)) (body_is h t x k.w filtered k.exchange));
+  }
 
   acts_read : (m : Move) → PollDoes t want r m → ReadsActs h (acts_of c m)
   acts_read m nothing = tt
@@ -555,15 +645,16 @@ quiet_read h s m closes = (tt, tt)
 record IsReadSoFar (h : History) (t : Tables) : Type 0 where
   filtered : IsFiltered h t
   stopped : (x : ℕ) → IsStopped (t.exchange x)
+  asked : (x : ℕ) → IsAsked h (t.exchange x)
   readers : (c : ℕ) → ReadAt t.exchange (t.consumer c) (showings_of c h) (given_of c h)
   acts : ReadsEach h
 
-poll_read : (h : History) (t : Tables) (c want : ℕ) (o : Option Consumer) → Sound t → IsFiltered h t → want ≢ 0 → ReadAt t.exchange o (showings_of c h) (given_of c h) → ReadsActs h (acts_of c (polled t want o))
-poll_read h t c want None sound filtered some f = tt
-poll_read h t c want (Some r) sound filtered some f = acts_read h t c want r sound filtered some f _ (poll_does t want r)
+poll_read : (h : History) (t : Tables) (c want : ℕ) (o : Option Consumer) → t.consumer c ≡ o → Sound t → IsFiltered h t → ((x : ℕ) → IsAsked h (t.exchange x)) → want ≢ 0 → ReadAt t.exchange o (showings_of c h) (given_of c h) → ReadsActs h (acts_of c (polled t want o))
+poll_read h t c want None is sound filtered asked some f = tt
+poll_read h t c want (Some r) is sound filtered asked some f = acts_read h t c want r is sound filtered asked some f _ (poll_does t want r)
 
 event_read : (h : History) (t : Tables) (event : Event) → Sound t → refusal_of t event ≡ None → IsReadSoFar h t → ReadsActs h (accepted_acts t event)
-event_read h t (event.Poll c want) sound accepted f = poll_read h t c want (t.consumer c) sound f.filtered (wants_some t c want accepted) (f.readers c)
+event_read h t (event.Poll c want) sound accepted f = poll_read h t c want (t.consumer c) refl sound f.filtered f.asked (wants_some t c want accepted) (f.readers c)
 event_read h t (event.Start d request) sound accepted f = tt
 event_read h t (event.Head y response) sound accepted f = quiet_read h _ _ (head_quiet t y response)
 event_read h t (event.Piece y bytes) sound accepted f = tt
@@ -576,12 +667,13 @@ event_read h t (event.Doom key) sound accepted f = tt
 
 read_start : IsReadSoFar [] (tables [])
 unfolding tables
-read_start = record { filtered = filters_start; stopped = λ x. tt; readers = λ c. (refl, refl); acts = tt }
+read_start = record { filtered = filters_start; stopped = λ x. tt; asked = λ x. tt; readers = λ c. (refl, refl); acts = tt }
 
 read_accepted : Accepts IsReadSoFar
 read_accepted t h now event sound accepted f = record {
   filtered = filters_accepted t h now event sound accepted f.filtered;
   stopped = λ x. stopped_after x (taken t now event) (t.exchange x) (f.stopped x);
+  asked = λ x. asked_after x (taken t now event) h (t.exchange x) (event_asked h t event f.filtered) (f.asked x);
   readers = λ c. row_reads t now c sound f.stopped (showings_of c h) (given_of c h) event (t.consumer c) accepted refl (f.readers c);
   acts = (f.acts, event_read h t event sound accepted f);
 }
@@ -590,6 +682,7 @@ read_denied : Denies IsReadSoFar
 read_denied t h now event refusal f = record {
   filtered = filters_denied t h now event refusal f.filtered;
   stopped = f.stopped;
+  asked = λ x. still_asked (denied now event refusal) h (t.exchange x) (f.asked x);
   readers = λ c. same_lists (λ xs ys. ReadAt t.exchange (t.consumer c) xs ys) (showings_of c h) [] (given_of c h) [] refl refl (f.readers c);
   acts = (f.acts, (tt, tt));
 }

@@ -1,24 +1,31 @@
 -- What a consumer reads: one interval of the body of one answer, as its exchange delivered it.
 use Rattle.std.specs.Prelude.{◌≡◌, ℕ, ◌+◌, ◌≤◌, List, [], ◌∷◌, length, take, drop, Option, Some, None, IfSome, ◌≢◌, true}
+use Rattle.hc_event.specs.declared.event.Request.{Request}
 use Rattle.hc_event.specs.declared.event.Response.{Response}
 use Rattle.hc_event.specs.declared.act.Act.{Act}
 use Rattle.hc_event.specs.declared.act.Act.TheVariants as act
 use Rattle.hc_event.specs.declared.act.Why.TheVariants as reason
 use Rattle.hc_app.specs.Entries.{History}
+use Rattle.hc_app.specs.Rows.{promised}
+use Rattle.hc_app.specs.Answers.{end_by}
 use Rattle.hc_app.specs.Runs.{IsRun}
-use Rattle.hc_app.specs.Histories.{Showing, head_of, showings_of, given_of, delivered_of, has_ended}
+use Rattle.hc_app.specs.Histories.{Showing, request_of, head_of, showings_of, given_of, delivered_of, has_ended}
 
 -- the consumer was shown this, once
 abbrev pub WasShown : ℕ → History → Showing → Type 0
 WasShown c h s = showings_of c h ≡ s ∷ []
 
--- the head that is shown is that of the exchange, and its body is shown from the first byte on
-pub record IsShownHead (h : History) (x status : ℕ) (fields : List (List ℕ × List ℕ)) (lo : ℕ) : Type 0 where
+-- A consumer is shown the head of the exchange, and its body from the first byte to the end that this head promises for
+-- the consumer's request, or, where it promises none, to where the exchange ended, if it has.
+pub record IsShownHead (h : History) (c x status : ℕ) (fields : List (List ℕ × List ℕ)) (lo : ℕ) (hi : Option ℕ) : Type 0 where
+  pub request : Request
+  pub request_is : request_of c h ≡ Some request
   pub response : Response
   pub head_is : head_of x h ≡ Some response
   pub status_is : status ≡ response.status
   pub fields_are : fields ≡ response.fields
   pub first : lo ≡ 0
+  pub end : hi ≡ end_by (promised request (Some response)) (has_ended x h) (length (delivered_of x h))
 
 -- the bytes from a place on are what the exchange delivered next, and within the end of what is read
 pub record IsNext (h : History) (c : ℕ) (s : Showing) (x at : ℕ) (bytes : List ℕ) : Type 0 where
@@ -39,7 +46,7 @@ IsWhole h c s = IsAtEnd h s.r s.hi (s.lo + length (given_of c h))
 
 -- An act after these entries keeps what a reader may rely on.
 abbrev pub ReadsAct : History → Act → Type 0
-ReadsAct h (act.Shown c r why status fields lo hi) = (showings_of c h ≡ []) × (given_of c h ≡ []) × (why ≡ reason.Fetched r) × IsShownHead h r status fields lo
+ReadsAct h (act.Shown c r why status fields lo hi) = (showings_of c h ≡ []) × (given_of c h ≡ []) × (why ≡ reason.Fetched r) × IsShownHead h c r status fields lo hi
 ReadsAct h (act.Given c x at bytes) = (s : Showing) × WasShown c h s × IsNext h c s x at bytes
 ReadsAct h (act.Ended c) = (s : Showing) × WasShown c h s × IsWhole h c s
 ReadsAct h _ = Unit {0}

@@ -1,5 +1,5 @@
 //! The program as a function of its words and streams.
-ghost use Rattle.std.specs.Prelude.{◌≡◌, ◌⊎◌, ◌≤◌, ◌^◌, ◌++◌, length, map, Decides, OnOk};
+ghost use Rattle.std.specs.Prelude.{◌≡◌, ◌⊎◌, ◌≤◌, ◌^◌, ◌++◌, length, map, Some, Decides, OnOk};
 ghost use Rattle.std.specs.String.{string_bytes};
 ghost use Rattle.hc_io.specs.Faults.{HasRisen};
 ghost use Rattle.hc_app.specs.Replayed.{IsReplayable};
@@ -8,7 +8,7 @@ ghost use Rattle.hc_app.specs.Program.{Ends, IsReplay, ReplaysInput, Replays, Re
 use crate::cache::Cache;
 use crate::replay::{Ended, replay};
 use crate::schedule::{FeedError, Refused, SchedRefusal, Timed, read_whole};
-use hc_io::{ReadError, Sink, SinkError, Source, read_all, write_all};
+use hc_io::{PlainSink, PlainSource, ReadError, Sink, SinkError, Source, read_all, write_all};
 use hc_text::{NoMemory, write_number};
 use std::alloc::Global;
 
@@ -80,6 +80,21 @@ pub fn run<S: Source, K: Sink, D: Sink>(
         say_usage(diag)
     };
     status.code()
+}
+
+/// A run over streams that never fail: it ends with 0, 1 or 2, or for want of memory with 6.
+pub fn run_plain(
+    alloc: Global,
+    words: &[String],
+    input: &mut PlainSource,
+    out: &mut PlainSink,
+    diag: &mut PlainSink,
+) -> u8
+    ensures code { (result ≡ 0) ⊎ (result ≡ 1) ⊎ (result ≡ 2) ⊎ (result ≡ 6) }
+    ensures ends { Ends result (map string_bytes words.now) (Some input.old.left) (Some input.new.left)
+        (Some out.old) (Some out.new) (Some diag.old) (Some diag.new) }
+{
+    run(alloc, words, input, out, diag)
 }
 
 /// Whether the words are the command `replay`.

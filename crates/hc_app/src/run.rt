@@ -199,3 +199,6 @@ fn say_usage<D: Sink>(diag: &mut D) -> Status
         Err(SinkError::NoMemory) => Status::NoMemory,
     }
 }
+
+#[cfg(test)]
+mod tests;

@@ -1,0 +1,85 @@
+//! The program as a function of its words.
+ghost use Rattle.std.specs.Prelude.{◌≡◌, ◌≢◌, ◌*◌, ◌≤◌, ◌↔◌, ◌⊎◌, [], map, IfOk};
+ghost use Rattle.std.specs.String.{string_bytes};
+ghost use Rattle.hc_bench.specs.Words.{IsCommand, code_of};
+
+use crate::command::{Command, Subject, command_of};
+use crate::{fields, map};
+use hc_text::NoMemory;
+use std::alloc::Global;
+
+/// How the program ended.
+#[derive(Clone, Copy, Debug, PartialEq, Eq)]
+pub enum Status {
+    /// What the words ask for is done. Without words it is nothing.
+    Done,
+    /// A name that was added was not found. It never comes: that it is tested for keeps the looking
+    /// up in the program.
+    Lost,
+    /// The words are no command.
+    Usage,
+    /// There was not enough memory.
+    NoMemory,
+}
+
+impl Status {
+    /// The exit status.
+    pub fn code(self) -> u8
+        ensures { result ≡ code_of self }
+    {
+        match self {
+            Status::Done => 0,
+            Status::Lost => 1,
+            Status::Usage => 2,
+            Status::NoMemory => 6,
+        }
+    }
+}
+
+/// Does what the words say. Without words it does nothing.
+pub fn run(alloc: Global, words: &[String]) -> Status
+    ensures idle { map string_bytes words.now ≡ [] → result ≡ Status.Done }
+    ensures usage { (result ≡ Status.Usage) ↔ (map string_bytes words.now ≢ []) × (¬ (IsCommand (map string_bytes words.now))) }
+    ensures never_lost { result ≢ Status.Lost }
+{
+    if words.is_empty() {
+        return Status::Done;
+    }
+    match command_of(words) {
+        Some(command) => measure(alloc, command),
+        None => Status::Usage,
+    }
+}
+
+/// Looks up all names as often as the command says.
+fn measure(alloc: Global, command: Command) -> Status
+    ensures { (result ≡ Status.Done) ⊎ (result ≡ Status.NoMemory) }
+{
+    match found_by(alloc, command) {
+        Ok(found) if found == command.count * command.times => Status::Done,
+        Ok(_) => Status::Lost,
+        Err(NoMemory) => Status::NoMemory,
+    }
+}
+
+/// How many names were found in all rounds.
+fn found_by(alloc: Global, command: Command) -> Result<u64, NoMemory>
+    ensures { IfOk result (λ found. found ≡ command.count * command.times) }
+{
+    let mut found = 0;
+    for _round in 0..command.times {
+        found += look_up(alloc, command.subject, command.count as usize)? as u64;
+    }
+    Ok(found)
+}
+
+/// How many names were found in one round.
+fn look_up(alloc: Global, subject: Subject, count: usize) -> Result<usize, NoMemory>
+    requires { count ≤ 80 }
+    ensures { IfOk result (λ found. found ≡ count) }
+{
+    match subject {
+        Subject::Fields => fields::look_up(alloc, count),
+        Subject::Map => map::look_up(alloc, count),
+    }
+}

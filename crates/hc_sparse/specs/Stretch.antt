@@ -1,0 +1,21 @@
+-- The longest stretch from a position on that one exchange delivered.
+use Rattle.std.specs.Prelude.{ℕ, zero, suc, ◌+◌, List, [], ◌∷◌, Option, Some, None, if◌then◌else◌, ◌==◌}
+use Rattle.hc_sparse.specs.Cells.{Cells, Cell}
+use Rattle.hc_sparse.specs.declared.run.Run.{Run}
+
+abbrev pub goes_on : ℕ → Option Cell → List ℕ → List ℕ
+goes_on x None rest = []
+goes_on x (Some cell) rest = if cell.x == x then cell.byte ∷ rest else []
+
+-- The bytes of x from p on without a gap, at most so many.
+abbrev pub bytes_from : Cells → ℕ → ℕ → ℕ → List ℕ
+bytes_from f x p zero = []
+bytes_from f x p (suc n) = goes_on x (f p) (bytes_from f x (p + 1) n)
+
+abbrev pub stretch_of : Cells → ℕ → ℕ → Option Cell → Option Run
+stretch_of f p want None = None
+stretch_of f p want (Some cell) = Some (record { x = cell.x; at = p; bytes = bytes_from f cell.x p want })
+
+-- The stretch from p on, at most so long.
+unfoldable pub stretch : Cells → ℕ → ℕ → Option Run
+stretch f p want = stretch_of f p want (f p)

@@ -1,0 +1,5 @@
+pub mod CellLemmas
+pub mod SizeLemmas
+pub mod RunLemmas
+pub mod StretchLemmas
+pub mod PutLemmas

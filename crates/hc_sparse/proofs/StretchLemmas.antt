@@ -1,8 +1,11 @@
 -- Stretches of bytes of one exchange.
-use Rattle.std.proofs.Common.{◌≡◌, ◌≢◌, ℕ, zero, suc, ◌+◌, ◌<◌, List, [], ◌∷◌, ◌++◌, length, true, false, eqb, Some, None, refl, arith, get_or, zero-add}
-use Rattle.std.proofs.lemmas.Bool.Decides.{nat_tests}
-use Rattle.hc_sparse.specs.Cells.{Cells, Cell}
-use Rattle.hc_sparse.specs.Stretch.{bytes_from}
+use Rattle.std.proofs.Common.{◌≡◌, ◌≢◌, ◌⊎◌, inl, inr, ℕ, zero, suc, ◌+◌, ◌-◌, ◌<◌, ◌≤◌, List, [], ◌∷◌, ◌++◌, length, Bool, true, false, cond, eqb, Option, Some, None, refl, sym, ap, ◌∙◌, arith, get_or, take, zero-add, add-one, append_assoc}
+use Rattle.std.proofs.lemmas.Bool.Decides.{nat_tests, eqb_tells}
+use Rattle.std.specs.Prelude.{◌↔◌, IfSome}
+use Rattle.hc_sparse.specs.Cells.{Cells, Cell, AreOf, AreAbsent, written}
+use Rattle.hc_sparse.specs.Stretch.{bytes_from, goes_on, stretch, stretch_of, IsLongest}
+use Rattle.hc_sparse.specs.declared.run.Run.{Run}
+use Rattle.hc_sparse.proofs.CellLemmas.{inside-yes, inside-before, inside-past, inside-cases, split}
 
 -- Bytes of x that stand one after another.
 pub bytes-append : (f : Cells) (x : ℕ) (bytes : List ℕ) (p m : ℕ) → ((i : ℕ) → i < length bytes → f (p + i) ≡ Some (record { byte = get_or bytes i 0; x = x })) → bytes_from f x p (length bytes + m) ≡ bytes ++ bytes_from f x (p + length bytes) m
@@ -22,3 +25,167 @@ bytes-absent f x p (suc n) none = rw none refl
 pub bytes-other : (f : Cells) (x p most : ℕ) (cell : Cell) → f p ≡ Some cell → cell.x ≢ x → bytes_from f x p most ≡ []
 bytes-other f x p zero cell is other = refl
 bytes-other f x p (suc n) cell is other = let off : eqb cell.x x ≡ false = grind (arith, nat_tests) in rw (is, off) refl
+
+-- Bytes of x from p on, at most n, behind which none of x stands where there are fewer.
+pub record IsFront (f : Cells) (x p n : ℕ) (bytes : List ℕ) : Type 0 where
+  pub most : length bytes ≤ n
+  pub each : (i : ℕ) → i < length bytes → f (p + i) ≡ Some (record { byte = get_or bytes i 0; x = x })
+  pub ends : length bytes < n → (byte : ℕ) → f (p + length bytes) ≢ Some (record { byte = byte; x = x })
+
+cell-of : (cell : Cell) (x : ℕ) → cell.x ≡ x → cell ≡ record { byte = cell.byte; x = x }
+cell-of cell x same = rw (← same) refl
+
+each-of : (f : Cells) (x p : ℕ) (rest : List ℕ) (cell : Cell) → f p ≡ Some (record { byte = cell.byte; x = x }) → ((i : ℕ) → i < length rest → f (p + 1 + i) ≡ Some (record { byte = get_or rest i 0; x = x })) → (i : ℕ) → i < suc (length rest) → f (p + i) ≡ Some (record { byte = get_or (cell.byte ∷ rest) i 0; x = x })
+each-of f x p rest cell here each zero lt = let at-p : p + 0 ≡ p = omega arith in rw at-p here
+each-of f x p rest cell here each (suc i) lt = let at-next : p + suc i ≡ p + 1 + i = omega arith in rw at-next (each i (omega arith))
+
+front-of : (f : Cells) (x p n : ℕ) (rest : List ℕ) → IsFront f x (p + 1) n rest → (o : Option Cell) → f p ≡ o → IsFront f x p (suc n) (goes_on x o rest)
+front-of f x p n rest front None e = record {
+  most = omega arith;
+  each = λ i lt. absurd (omega arith);
+  ends = λ _ byte is. let at-p : p + 0 ≡ p = omega arith in let here = rw at-p at is in cc;
+}
+front-of f x p n rest front (Some cell) e = elim (eqb_tells cell.x x) [
+  | inr off ↦ rw off.0 (record {
+    most = omega arith;
+    each = λ i lt. absurd (omega arith);
+    ends = λ _ byte is. let at-p : p + 0 ≡ p = omega arith in let here = rw at-p at is in off.1 cc;
+  })
+  | inl same ↦ rw same.0 (record {
+    most = let most = front.most in omega arith;
+    each = λ i lt. each-of f x p rest cell (e ∙ ap Some (cell-of cell x same.1)) front.each i lt;
+    ends = λ lt byte is. front.ends (omega arith) byte (let at-next : p + 1 + length rest ≡ p + suc (length rest) = omega arith in rw at-next is);
+  })
+]
+
+pub front : (f : Cells) (x p n : ℕ) → IsFront f x p n (bytes_from f x p n)
+front f x p zero = record { most = omega arith; each = λ i lt. absurd (omega arith); ends = λ lt. absurd (omega arith) }
+front f x p (suc n) = front-of f x p n (bytes_from f x (p + 1) n) (front f x (p + 1) n) (f p) refl
+
+-- There is one such list.
+first-of : (f : Cells) (x p n : ℕ) (o : Option Cell) (rest : List ℕ) → f p ≡ o → IsFront f x p (suc n) [] → goes_on x o rest ≡ []
+first-of f x p n None rest e is = refl
+first-of f x p n (Some cell) rest e is = elim (eqb_tells cell.x x) [
+  | inr off ↦ rw off.0 refl
+  | inl same ↦ absurd (is.ends (omega arith) cell.byte (let at-p : p + 0 ≡ p = omega arith in rw at-p (e ∙ ap Some (cell-of cell x same.1))))
+]
+
+pub front-unique : (f : Cells) (x p n : ℕ) (bytes : List ℕ) → IsFront f x p n bytes → bytes_from f x p n ≡ bytes
+front-unique f x p zero [] is = refl
+front-unique f x p zero (b ∷ bs) is = absurd (let most = is.most in omega arith)
+front-unique f x p (suc n) [] is = first-of f x p n (f p) (bytes_from f x (p + 1) n) refl is
+front-unique f x p (suc n) (b ∷ bs) is =
+    let here : f p ≡ Some (record { byte = b; x = x }) = (let at-p : p + 0 ≡ p = omega arith in rw at-p at (is.each 0 (omega arith))) in
+    let same : eqb x x ≡ true = grind (arith, nat_tests) in
+    let rest : bytes_from f x (p + 1) n ≡ bs = front-unique f x (p + 1) n bs (record {
+      most = let most = is.most in omega arith;
+      each = λ i lt. let at-next : p + 1 + i ≡ p + suc i = omega arith in rw at-next (is.each (suc i) (omega arith));
+      ends = λ lt byte there. is.ends (omega arith) byte (let at-next : p + suc (length bs) ≡ p + 1 + length bs = omega arith in rw at-next there);
+    }) in
+    rw (here, same, rest) refl
+
+-- Fewer bytes are the first of more.
+front-take : (x n : ℕ) (o : Option Cell) (rest : List ℕ) → take (suc n) (goes_on x o rest) ≡ goes_on x o (take n rest)
+front-take x n None rest = refl
+front-take x n (Some cell) rest = elim (eqb_tells cell.x x) [ inl same ↦ rw same.0 refl | inr off ↦ rw off.0 refl ]
+
+pub bytes-take : (f : Cells) (x p n m : ℕ) → n ≤ m → take n (bytes_from f x p m) ≡ bytes_from f x p n
+bytes-take f x p zero m le = refl
+bytes-take f x p (suc n) zero le = absurd (omega arith)
+bytes-take f x p (suc n) (suc m) le = front-take x n (f p) (bytes_from f x (p + 1) m) ∙ ap (goes_on x (f p)) (bytes-take f x (p + 1) n m (omega arith))
+
+-- Bytes from p on are those of what is at p or past it.
+pub bytes-same : (f g : Cells) (x p n : ℕ) → ((q : ℕ) → p ≤ q → f q ≡ g q) → bytes_from f x p n ≡ bytes_from g x p n
+bytes-same f g x p zero same = refl
+bytes-same f g x p (suc n) same = rw (same p (omega arith), bytes-same f g x (p + 1) n (λ q le. same q (omega arith))) refl
+
+absent-of : (f : Cells) (p want : ℕ) (o : Option Cell) → (stretch_of f p want o ≡ None) ↔ (o ≡ None)
+absent-of f p want None = (λ _. refl, λ _. refl)
+absent-of f p want (Some cell) = (λ e. absurd cc, λ e. absurd cc)
+
+pub stretch-absent : (f : Cells) (p want : ℕ) → (stretch f p want ≡ None) ↔ (f p ≡ None)
+unfolding stretch
+stretch-absent f p want = absent-of f p want (f p)
+
+some-there : (f : Cells) (p want : ℕ) (cell : Cell) → f p ≡ Some cell → 0 < want → 0 < length (bytes_from f cell.x p want)
+some-there f p want cell here some = elim (split 0 (length (bytes_from f cell.x p want))) [
+  | inl more ↦ more
+  | inr none ↦ absurd ((front f cell.x p want).ends (omega arith) cell.byte (let at-p : p + length (bytes_from f cell.x p want) ≡ p = omega arith in rw at-p here))
+]
+
+longest-of : (f : Cells) (p want : ℕ) (o : Option Cell) → f p ≡ o → 0 < want → IfSome (stretch_of f p want o) (λ run. IsLongest f p want run)
+longest-of f p want None here some = tt
+longest-of f p want (Some cell) here some =
+    let is = front f cell.x p want in
+    record { from = refl; some = some-there f p want cell here some; most = is.most; each = is.each; ends = is.ends }
+
+pub stretch-longest : (f : Cells) (p want : ℕ) → 0 < want → IfSome (stretch f p want) (λ run. IsLongest f p want run)
+unfolding stretch
+stretch-longest f p want some = longest-of f p want (f p) refl some
+
+pub stretch-only : (f : Cells) (p want : ℕ) (run : Run) → IsLongest f p want run → stretch f p want ≡ Some run
+unfolding stretch
+stretch-only f p want run is =
+    let here : f p ≡ Some (record { byte = get_or run.bytes 0 0; x = run.x }) = (let at-p : p + 0 ≡ p = omega arith in rw at-p at (is.each 0 is.some)) in
+    let bytes : bytes_from f run.x p want ≡ run.bytes = front-unique f run.x p want run.bytes (record { most = is.most; each = is.each; ends = is.ends }) in
+    rw (here, bytes, ← is.from) refl
+
+-- What a put changes.
+same-of : (f g : Cells) (p want : ℕ) (o : Option Cell) → ((cell : Cell) → o ≡ Some cell → bytes_from g cell.x p want ≡ bytes_from f cell.x p want) → stretch_of g p want o ≡ stretch_of f p want o
+same-of f g p want None same = refl
+same-of f g p want (Some cell) same = rw (same cell refl) refl
+
+pub stretch-behind : (f : Cells) (at x : ℕ) (bytes : List ℕ) (p want : ℕ) → at + length bytes ≤ p → stretch (written at x bytes f) p want ≡ stretch f p want
+unfolding stretch
+stretch-behind f at x bytes p want past =
+    let kept = λ (q : ℕ) (le : p ≤ q). inside-past at (length bytes) q (omega arith) in
+    rw (inside-past at (length bytes) p past) (same-of f (written at x bytes f) p want (f p) (λ cell _. bytes-same (written at x bytes f) f cell.x p want (λ q le. rw (kept q le) refl)))
+
+bytes-of_other : (f : Cells) (at x y : ℕ) (bytes : List ℕ) (p n : ℕ) → AreAbsent f at (at + length bytes) → y ≢ x → bytes_from (written at x bytes f) y p n ≡ bytes_from f y p n
+bytes-of_other f at x y bytes p zero absent other = refl
+bytes-of_other f at x y bytes p (suc n) absent other = elim (inside-cases at (length bytes) p) [
+  | inl here ↦ let off : eqb x y ≡ false = grind (arith, nat_tests) in rw (here.0, absent p here.1 here.2, off) refl
+  | inr out ↦ rw (out.0, bytes-of_other f at x y bytes (p + 1) n absent other) refl
+]
+
+pub stretch-of_other : (f : Cells) (at x : ℕ) (bytes : List ℕ) (p want : ℕ) (cell : Cell) → AreAbsent f at (at + length bytes) → f p ≡ Some cell → cell.x ≢ x → stretch (written at x bytes f) p want ≡ stretch f p want
+unfolding stretch
+stretch-of_other f at x bytes p want cell absent here other = elim (inside-cases at (length bytes) p) [
+  | inl in-put ↦ absurd (let gone = absent p in-put.1 in-put.2 in cc)
+  | inr out ↦ rw (out.0, here, bytes-of_other f at x cell.x bytes p want absent other) refl
+]
+
+reached-length : (f : Cells) (x p at : ℕ) → p ≤ at → AreOf x f p at → length (bytes_from f x p (at - p)) ≡ at - p
+reached-length f x p at le of_x =
+    let is = front f x p (at - p) in
+    let most = is.most in
+    elim (split (length (bytes_from f x p (at - p))) (at - p)) [
+      | inr all ↦ omega arith
+      | inl less ↦ absurd (let there = of_x (p + length (bytes_from f x p (at - p))) (omega arith) (omega arith) in is.ends less there.0 there.1)
+    ]
+
+pub bytes-reaching : (f : Cells) (at x : ℕ) (bytes : List ℕ) (p want : ℕ) → p ≤ at → AreOf x f p at → bytes_from (written at x bytes f) x p want ≡ take want (bytes_from f x p (at - p) ++ bytes ++ bytes_from f x (at + length bytes) want)
+bytes-reaching f at x bytes p want le of_x =
+    let g : Cells = written at x bytes f in
+    let up-to : List ℕ = bytes_from f x p (at - p) in
+    let len : length up-to ≡ at - p = reached-length f x p at le of_x in
+    let before : bytes_from g x p (length up-to + (length bytes + want)) ≡ up-to ++ bytes_from g x (p + length up-to) (length bytes + want) = bytes-append g x up-to p (length bytes + want) (λ i lt.
+    rw (inside-before at (length bytes) (p + i) (omega arith)) ((front f x p (at - p)).each i lt)) in
+    let put : bytes_from g x at (length bytes + want) ≡ bytes ++ bytes_from g x (at + length bytes) want = bytes-append g x bytes at want (λ i lt.
+    let place : at + i - at ≡ i = omega arith in
+    rw (inside-yes at (length bytes) (at + i) (omega arith) (omega arith), place) refl) in
+    let behind : bytes_from g x (at + length bytes) want ≡ bytes_from f x (at + length bytes) want = bytes-same g f x (at + length bytes) want (λ q ge. rw (inside-past at (length bytes) q ge) refl) in
+    let joint : p + length up-to ≡ at = omega arith in
+    sym (bytes-take g x p want (length up-to + (length bytes + want)) (omega arith)) ∙ ap (take want) (before ∙ rw (joint, put, behind) (simp append_assoc))
+
+here-of : (f : Cells) (at x : ℕ) (bytes : List ℕ) (p : ℕ) → 0 < length bytes → p ≤ at → AreOf x f p at → (byte : ℕ) × (written at x bytes f p ≡ Some (record { byte = byte; x = x }))
+here-of f at x bytes p some le of_x = elim (split p at) [
+  | inl before ↦ let there = of_x p (omega arith) before in (there.0, rw (inside-before at (length bytes) p before) there.1)
+  | inr is ↦ (get_or bytes (p - at) 0, rw (inside-yes at (length bytes) p is (omega arith)) refl)
+]
+
+pub stretch-reaching : (f : Cells) (at x : ℕ) (bytes : List ℕ) (p want : ℕ) → 0 < length bytes → p ≤ at → AreOf x f p at → stretch (written at x bytes f) p want ≡ Some (record { x = x; at = p; bytes = take want (bytes_from f x p (at - p) ++ bytes ++ bytes_from f x (at + length bytes) want) })
+unfolding stretch
+stretch-reaching f at x bytes p want some le of_x =
+    let here = here-of f at x bytes p some le of_x in
+    ap (stretch_of (written at x bytes f) p want) here.1 ∙ rw (bytes-reaching f at x bytes p want le of_x) refl

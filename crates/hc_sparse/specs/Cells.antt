@@ -29,6 +29,10 @@ AreAbsent f lo hi = (p : ℕ) → lo ≤ p → p < hi → f p ≡ None
 abbrev pub EndsBy : ℕ → Cells → Type 0
 EndsBy n f = (p : ℕ) → n ≤ p → f p ≡ None
 
+-- Bytes of x are at each position from one to below another.
+abbrev pub AreOf : ℕ → Cells → ℕ → ℕ → Type 0
+AreOf x f lo hi = (p : ℕ) → lo ≤ p → p < hi → (byte : ℕ) × (f p ≡ Some (record { byte = byte; x = x }))
+
 -- Something is at each position from one to below another.
 abbrev pub Covers : Cells → ℕ → ℕ → Type 0
 Covers f lo hi = (p : ℕ) → lo ≤ p → p < hi → is_some (f p) ≡ true

@@ -1,5 +1,5 @@
 -- The longest stretch from a position on that one exchange delivered.
-use Rattle.std.specs.Prelude.{ℕ, zero, suc, ◌+◌, List, [], ◌∷◌, Option, Some, None, if◌then◌else◌, ◌==◌}
+use Rattle.std.specs.Prelude.{◌≡◌, ◌≢◌, ℕ, zero, suc, ◌+◌, ◌<◌, ◌≤◌, List, [], ◌∷◌, length, slice_index, Option, Some, None, if◌then◌else◌, ◌==◌}
 use Rattle.hc_sparse.specs.Cells.{Cells, Cell}
 use Rattle.hc_sparse.specs.declared.run.Run.{Run}
 
@@ -19,3 +19,11 @@ stretch_of f p want (Some cell) = Some (record { x = cell.x; at = p; bytes = byt
 -- The stretch from p on, at most so long.
 unfoldable pub stretch : Cells → ℕ → ℕ → Option Run
 stretch f p want = stretch_of f p want (f p)
+
+-- Bytes of one exchange from p on, at most so many, and where there are fewer, none of its bytes stands behind them.
+pub record IsLongest (f : Cells) (p want : ℕ) (run : Run) : Type 0 where
+  pub from : run.at ≡ p
+  pub some : 0 < length run.bytes
+  pub most : length run.bytes ≤ want
+  pub each : (i : ℕ) → i < length run.bytes → f (p + i) ≡ Some (record { byte = slice_index run.bytes i; x = run.x })
+  pub ends : length run.bytes < want → (byte : ℕ) → f (p + length run.bytes) ≢ Some (record { byte = byte; x = run.x })

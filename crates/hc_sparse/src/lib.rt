@@ -1,11 +1,16 @@
 //! Sparse bytes: at each position a byte and the exchange that delivered it, or nothing.
 #![tactic(auto)]
 
+mod law;
 mod presence;
 mod run;
 mod runs;
 mod sparse;
 
+pub use law::{a_put_lengthens_what_reaches_it, a_stretch_is_the_longest};
 pub use presence::{Presence, Span2, SparseBytes};
 pub use run::Run;
 pub use sparse::Sparse;
+
+#[cfg(test)]
+mod tests;

@@ -1,3 +1,4 @@
 pub mod Cells
 pub mod Stretch
 pub mod Runs
+pub mod Sparse

@@ -31,7 +31,9 @@ impl Sparse {
 }
 
 impl Presence for Sparse {
-    ghost cells = { λ s. cells_of s.runs.items };
+    ghost use Rattle.hc_sparse.specs.Sparse.{sparse_cells};
+
+    ghost cells = { sparse_cells };
 
     fn covers(&self, span: Span2) -> bool {
         covered(self.runs.as_slice(), span.lo, span.hi)

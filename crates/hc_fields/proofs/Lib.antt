@@ -5,3 +5,4 @@ pub mod Edits
 pub mod Kept
 pub mod Joins
 pub mod LineLemmas
+pub mod Ends

@@ -35,7 +35,7 @@ list_all-put q name value (f ∷ fs) here all =
           rw after (and_from (q f) (list_all q (put name value fs)) both.0 (list_all-put q name value fs here both.1))
     ]
 
-list_all_at : (p : Pair → Bool) (fs : List Pair) (k : ℕ) (d : Pair) → k < length fs → list_all p fs ≡ true → p (get_or fs k d) ≡ true
+pub list_all_at : (p : Pair → Bool) (fs : List Pair) (k : ℕ) (d : Pair) → k < length fs → list_all p fs ≡ true → p (get_or fs k d) ≡ true
 list_all_at p [] k d lt all = absurd (omega arith)
 list_all_at p (f ∷ fs) zero d lt all = (and_parts (p f) (list_all p fs) all).0
 list_all_at p (f ∷ fs) (suc k) d lt all = list_all_at p fs k d (omega arith) (and_parts (p f) (list_all p fs) all).1

@@ -182,4 +182,30 @@ mod tests {
         }
         Ok(())
     }
+
+    #[test]
+    fn takes_any_text(rt: HostRuntime) -> Result<(), Fail> {
+        let mut commas = Vec::new(rt.alloc());
+        commas.resize(10_000, b',')?;
+        let mut digits = b"\"".to_vec(rt.alloc())?;
+        digits.resize(10_001, b'7')?;
+        let mut quoted = digits.clone()?;
+        quoted.push(b'"')?;
+        let mut read = quoted.clone()?;
+        read.push(b' ')?;
+        let table: [(&[u8], &[u8]); 8] = [
+            (b"", b"none"),
+            (commas.as_slice(), b"none"),
+            (digits.as_slice(), b"none"),
+            (&digits.as_slice()[1..], b"none"),
+            (quoted.as_slice(), read.as_slice()),
+            (b"\"", b"none"),
+            (b"\"a\", W/\"", b"none"),
+            (b"\xff\xfe\xe9", b"none"),
+        ];
+        for (text, expected) in &table {
+            assert_tags(&rt, rt.alloc(), *text, *expected)?;
+        }
+        Ok(())
+    }
 }

@@ -109,6 +109,7 @@ fn is_asterisk(text: &[u8]) -> bool
 #[cfg(test)]
 mod tests {
     use super::*;
+    use std::test::Fail;
 
     #[test]
     fn reads_ranges(rt: HostRuntime) {
@@ -198,5 +199,29 @@ mod tests {
         for (text, range) in &table {
             assert_eq!(rt; read_content_range(text.as_bytes()), *range, "{text}");
         }
+    }
+
+    #[test]
+    fn takes_any_text(rt: HostRuntime) -> Result<(), Fail> {
+        let mut position = b"bytes=0-".to_vec(rt.alloc())?;
+        position.resize(10_008, b'0')?;
+        let mut length = b"bytes 0-0/".to_vec(rt.alloc())?;
+        length.resize(10_010, b'1')?;
+        let table: [&[u8]; 9] = [
+            b"",
+            position.as_slice(),
+            length.as_slice(),
+            b",,,,,,,,",
+            b"bytes=,-,",
+            b"bytes=\"0-1",
+            b"bytes \"0-0/1",
+            b"bytes=0-\xb1",
+            b"\xff\xfe\xe9\x80 0-0/1",
+        ];
+        for text in &table {
+            assert_eq!(rt; read_range(*text), None);
+            assert_eq!(rt; read_content_range(*text), None);
+        }
+        Ok(())
     }
 }

@@ -1,0 +1,4 @@
+pub mod Steps
+pub mod Signs
+pub mod Folds
+pub mod Caps

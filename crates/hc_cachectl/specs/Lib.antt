@@ -1,0 +1,3 @@
+pub mod Seconds
+pub mod Directives
+pub mod Found

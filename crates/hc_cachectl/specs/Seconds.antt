@@ -1,0 +1,32 @@
+-- Numbers of seconds in the arguments of directives.
+use Rattle.std.specs.Prelude.{ℕ, ◌^◌, ◌==◌, min, List, [], ◌∷◌, if◌then◌else◌, Option, Some, None}
+use Rattle.std.specs.Option.{option_map, option_and_then}
+use Rattle.std.specs.List.{list_all}
+use Rattle.std.specs.Char.{is_ascii_digit}
+use Rattle.std.specs.Str.Parse.{digits_value}
+use Rattle.hc_text.specs.Elements.{quote, backslash}
+
+-- more seconds count as this many
+abbrev pub most_seconds : ℕ
+most_seconds = 2 ^ 31
+
+-- one or more digits, however many
+abbrev pub plain_seconds : List ℕ → Option ℕ
+plain_seconds [] = None
+plain_seconds (d ∷ ds) =
+    if list_all is_ascii_digit (d ∷ ds) then Some (min (digits_value 10 (d ∷ ds)) most_seconds) else None
+
+-- What a quoted string says, from behind its opening quote up to the quote that closes it, where that is the last byte.
+-- A backslash stands before a byte that is taken as it is.
+abbrev pub unquoted : List ℕ → Option (List ℕ)
+unquoted [] = None
+unquoted (b ∷ []) = if b == quote then Some [] else None
+unquoted (b ∷ c ∷ text) =
+    if b == quote then None else (
+    if b == backslash then option_map (λ said. c ∷ said) (unquoted text)
+    else option_map (λ said. b ∷ said) (unquoted (c ∷ text)))
+
+-- the seconds that an argument tells, itself or within quotes
+abbrev pub seconds_of : List ℕ → Option ℕ
+seconds_of [] = None
+seconds_of (b ∷ text) = if b == quote then option_and_then plain_seconds (unquoted text) else plain_seconds (b ∷ text)

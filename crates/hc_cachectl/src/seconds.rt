@@ -1,0 +1,93 @@
+//! Numbers of seconds in arguments.
+ghost use Rattle.std.specs.Prelude.{◌≡◌, ◌≤◌, ◌+◌, ◌*◌, min, true, false, MatchOption};
+ghost use Rattle.std.specs.Char.{is_ascii_digit, digit_value};
+ghost use Rattle.std.specs.Option.{option_and_then};
+ghost use Rattle.hc_cachectl.specs.Seconds.{most_seconds, plain_seconds, unquoted, seconds_of};
+
+/// More seconds count as this many (RFC 9111 section 1.2.2).
+pub(crate) const MOST: u64 = 1 << 31;
+
+/// The seconds that an argument tells by one or more digits, however many, themselves or in a
+/// quoted string.
+pub(crate) fn read_seconds(argument: &[u8]) -> Option<u64>
+    ensures { result ≡ seconds_of argument.now }
+{
+    match argument {
+        [b'"', text @ ..] => read_quoted(text),
+        _ => read_plain(argument),
+    }
+}
+
+/// The seconds that digits tell.
+fn read_plain(digits: &[u8]) -> Option<u64>
+    ensures { result ≡ plain_seconds digits.now }
+{
+    let mut seconds = None;
+    for &digit in digits {
+        seconds = Some(with_digit(seconds.unwrap_or(0), digit)?);
+    }
+    seconds
+}
+
+/// The seconds that the digits of a quoted string tell, of which the opening quote is left out.
+fn read_quoted(text: &[u8]) -> Option<u64>
+    ensures { result ≡ option_and_then plain_seconds (unquoted text.now) }
+{
+    let mut seconds = None;
+    let mut at = 0;
+    while at + 1 < text.len() && text[at] != b'"' {
+        if text[at] == b'\\' {
+            at += 1;
+        }
+        seconds = Some(with_digit(seconds.unwrap_or(0), text[at])?);
+        at += 1;
+    }
+    if at + 1 == text.len() && text[at] == b'"' {
+        seconds
+    } else {
+        None
+    }
+}
+
+/// The seconds with one more digit, None where it isn't one.
+fn with_digit(seconds: u64, digit: u8) -> Option<u64>
+    requires { seconds ≤ most_seconds }
+    ensures { MatchOption result (is_ascii_digit digit ≡ false)
+        (λ more. (is_ascii_digit digit ≡ true) × (more ≡ min (seconds * 10 + digit_value digit) most_seconds)) }
+{
+    if digit.is_ascii_digit() {
+        let more = seconds * 10 + u64::from(digit - b'0');
+        Some(more.min(MOST))
+    } else {
+        None
+    }
+}
+
+#[cfg(test)]
+mod tests {
+    use super::*;
+    use std::test::Fail;
+
+    #[test]
+    fn reads_any_argument(rt: HostRuntime) -> Result<(), Fail> {
+        let mut digits = Vec::new(rt.alloc());
+        digits.resize(10_000, b'0')?;
+        digits.push(b'8')?;
+        let mut unclosed = b"\"".to_vec(rt.alloc())?;
+        unclosed.resize(10_000, b'9')?;
+        let table: [(&[u8], Option<u64>); 8] = [
+            (digits.as_slice(), Some(8)),
+            (unclosed.as_slice(), None),
+            (b"", None),
+            (b"\"\\", None),
+            (b"\"\\\"", None),
+            (b"\"\"\"", None),
+            (b"\"1\\", None),
+            (b"\xb2", None),
+        ];
+        for (argument, seconds) in &table {
+            assert_eq!(rt; read_seconds(argument), *seconds);
+        }
+        Ok(())
+    }
+}

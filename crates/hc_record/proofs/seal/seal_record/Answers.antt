@@ -1,0 +1,13 @@
+use Rattle.std.proofs.Common.{slice_set, sym, ap, ◌∙◌}
+use Rattle.hc_record.specs.Lines.{sealed, kind_byte, total_text}
+use Rattle.hc_record.proofs.Totals.{sealed-spelling, put_mid-replace_range}
+use Rattle.hc_record.proofs.seal.seal_record.Goals as goal
+
+pub returns-clause-bytes : goal.returns-clause-bytes
+returns-clause-bytes c = rw (c.copy_from_slice.ensures.after, c.total_text.ensures, c.byte.ensures)
+    (put_mid-replace_range (slice_set c.args.text.now 9 (kind_byte c.args.kind)) (total_text c.args.total))
+
+pub returns-clause-head : goal.returns-clause-head
+returns-clause-head c = λ head is.
+    sym (sealed-spelling c.args.kind c.args.total head)
+    ∙ (ap (sealed c.args.kind c.args.total) is ∙ sym (returns-clause-bytes c))

@@ -1,0 +1,47 @@
+-- The lines of a record before its fields.
+use Rattle.std.specs.Prelude.{ℕ, ◌-◌, ◌<◌, ◌^◌, List, [], ◌∷◌, ◌++◌, length, replicate, codes, Option, Some, None, slice_set}
+use Rattle.std.specs.Option.{ForSome}
+use Rattle.std.specs.List.{replace_range}
+use Rattle.std.specs.Fmt.{decimal}
+use Rattle.hc_record.specs.declared.kind.Kind.{Kind}
+use Rattle.hc_record.specs.declared.kind.Kind.TheVariants.{Growing, Whole, Truncated, Ranges}
+
+-- the line of this version
+abbrev pub version_line : List ℕ
+version_line = codes "record 1" ++ 10 ∷ []
+
+-- `G`, `W`, `T` or `R`
+abbrev pub kind_byte : Kind → ℕ
+kind_byte Growing = 71
+kind_byte Whole = 87
+kind_byte Truncated = 84
+kind_byte Ranges = 82
+
+-- numbers of a record are below this
+abbrev pub IsSmall : ℕ → Type 0
+IsSmall n = n < 2 ^ 62
+
+abbrev pub IsSmallTotal : Option ℕ → Type 0
+IsSmallTotal total = ForSome total IsSmall
+
+-- 20 digits with leading zeros, or 20 hyphens
+abbrev pub total_text : Option ℕ → List ℕ
+total_text None = replicate 20 45
+total_text (Some total) = replicate (20 - length (decimal total)) 48 ++ decimal total
+
+-- the line of kind and total
+abbrev pub seal_line : Kind → Option ℕ → List ℕ
+seal_line kind total = kind_byte kind ∷ 32 ∷ total_text total ++ 10 ∷ []
+
+-- a text with another kind at byte 9 and another total at bytes 11 to 30
+abbrev pub sealed : Kind → Option ℕ → List ℕ → List ℕ
+sealed kind total text = replace_range (slice_set text 9 (kind_byte kind)) 11 31 (total_text total)
+
+-- a plain number and the byte behind it
+abbrev pub ended : ℕ → ℕ → List ℕ
+ended end n = decimal n ++ end ∷ []
+
+-- the line of status, moments and counts of fields
+abbrev pub numbers_line : ℕ → ℕ → ℕ → ℕ → ℕ → List ℕ
+numbers_line status requested answered vary_count count =
+    ended 32 status ++ (ended 32 requested ++ (ended 32 answered ++ (ended 32 vary_count ++ ended 10 count)))

@@ -1,0 +1,111 @@
+//! A text that is read from its front.
+ghost use Rattle.std.specs.Prelude.{◌≡◌, ◌≢◌, ◌<◌, ◌↔◌, ◌∷◌, ◌++◌, [], ℕ, List, Option, true, length, IsTrue, MatchOption, ⊤, position, ◌==◌};
+ghost use Rattle.hc_record.specs.Lines.{ended, IsSmall, kind_byte, total_text, IsSmallTotal};
+ghost use Rattle.hc_record.specs.Reading.{Takes, lacks};
+
+use crate::kind::Kind;
+use hc_text::{read_number, read_plain};
+use std::marker::Model;
+
+/// What is left of a text.
+#[derive(Drop)]
+pub(crate) struct Cursor<'a> {
+    rest: &'a [u8],
+}
+
+impl<'a> Model for Cursor<'a> {
+    ghost use Rattle.std.specs.Prelude.{ℕ, List};
+
+    ghost Value = { List ℕ };
+
+    ghost view = { λ c. c.rest.now };
+}
+
+impl<'a> Cursor<'a> {
+    /// The whole text.
+    pub(crate) fn new(text: &'a [u8]) -> Self
+        ensures { result ≡ text.now }
+    {
+        Cursor { rest: text }
+    }
+
+    /// Whether nothing is left.
+    pub(crate) fn is_at_end(&self) -> bool
+        ensures { IsTrue result ↔ (self.now ≡ []) }
+    {
+        self.rest.is_empty()
+    }
+
+    /// Takes these bytes from the front, if they stand there.
+    pub(crate) fn take_bytes(&mut self, bytes: &[u8]) -> Option<()>
+        ensures { MatchOption result ((after : List ℕ) → bytes.now ++ after ≢ self.old) (λ _. bytes.now ++ self.new ≡ self.old) }
+    {
+        let rest = self.rest.strip_prefix(bytes)?;
+        self.rest = rest;
+        Some(())
+    }
+
+    /// Takes what stands before the next byte of this kind, and that byte.
+    pub(crate) fn take_until(&mut self, end: u8) -> Option<&'a [u8]>
+        ensures { MatchOption result (lacks end self.old ≡ true) (λ text. (lacks end text.now ≡ true) × (text.now ++ end ∷ self.new ≡ self.old)) }
+    {
+        let rest = self.rest;
+        let at = place_of(rest, end)?;
+        self.rest = &rest[at + 1..];
+        Some(&rest[..at])
+    }
+
+    /// Takes a plain number and the byte behind it, which is no digit.
+    pub(crate) fn take_number(&mut self, end: u8) -> Option<u64>
+        requires { end < 48 }
+        ensures { Takes (ended end) IsSmall self.old self.new result }
+    {
+        let text = self.take_until(end)?;
+        read_plain(text)
+    }
+
+    /// Takes the byte of a kind.
+    pub(crate) fn take_kind(&mut self) -> Option<Kind>
+        ensures { Takes (λ kind. kind_byte kind ∷ []) (λ _. ⊤) self.old self.new result }
+    {
+        let (first, rest) = self.rest.split_first()?;
+        let kind = Kind::from_byte(*first)?;
+        self.rest = rest;
+        Some(kind)
+    }
+
+    /// Takes the 20 bytes of a total.
+    pub(crate) fn take_total(&mut self) -> Option<Option<u64>>
+        ensures { Takes total_text IsSmallTotal self.old self.new result }
+    {
+        if self.rest.len() < 20 {
+            return None;
+        }
+        let (text, rest) = self.rest.split_at(20);
+        let total = read_total(text)?;
+        self.rest = rest;
+        Some(total)
+    }
+}
+
+/// Where the byte stands first.
+fn place_of(text: &[u8], byte: u8) -> Option<usize>
+    ensures { result ≡ position (λ b. b == byte) text.now }
+{
+    text.iter().position(|b| *b == byte)
+}
+
+/// The total of these 20 bytes.
+fn read_total(text: &[u8]) -> Option<Option<u64>>
+    requires { length text.now ≡ 20 }
+    ensures { MatchOption result ((total : Option ℕ) → IsSmallTotal total → total_text total ≢ text.now)
+        (λ total. IsSmallTotal total × (total_text total ≡ text.now)) }
+{
+    if text == b"--------------------".as_slice() {
+        return Some(None);
+    }
+    match read_number(text) {
+        Some(total) => Some(Some(total)),
+        None => None,
+    }
+}

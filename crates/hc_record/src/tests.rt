@@ -1,0 +1,128 @@
+use super::*;
+use hc_fields::{FieldError, Fields};
+use std::alloc::Global;
+use std::test::Fail;
+
+/// The beginning of a body of six bytes, stored at moment 1000.
+const EXAMPLE: &[u8] =
+    b"record 1\nT 00000000000000000006\n200 1000 1000 0 2\ncache-control: max-age=60\netag: \"a\"\n";
+
+fn example(alloc: Global) -> Result<StoredHead, FieldError> {
+    let vary_fields = Fields::new(alloc)?;
+    let mut fields = Fields::new(alloc)?;
+    fields.append(b"etag", b"\"a\"")?;
+    fields.append(b"cache-control", b"max-age=60")?;
+    if vary_fields.len() > 0 || !fields.modest() {
+        return Err(FieldError::TooMany);
+    }
+    Ok(StoredHead {
+        kind: Kind::Truncated,
+        total: Some(6),
+        status: 200,
+        requested: 1000,
+        answered: 1000,
+        vary_fields,
+        fields,
+    })
+}
+
+#[test]
+fn writes_and_reads_the_example(rt: HostRuntime) -> Result<(), Fail> {
+    let head = example(rt.alloc())?;
+    let mut record = Vec::new(rt.alloc());
+    write_record(&head.copy()?, &mut record)?;
+    assert_eq!(rt; record.len(), 86);
+    assert_eq!(rt; record.as_slice(), EXAMPLE);
+    let read = read_record(rt.alloc(), record.as_slice())?.ok_or("a head")?;
+    assert!(rt; read.kind == Kind::Truncated);
+    assert_eq!(rt; read.total, Some(6));
+    assert_eq!(rt;
+        (read.status, read.requested, read.answered),
+        (200, 1000, 1000)
+    );
+    assert_eq!(rt; (read.vary_fields.len(), read.fields.len()), (0, 2));
+    Ok(())
+}
+
+#[test]
+fn seals_in_place(rt: HostRuntime) -> Result<(), Fail> {
+    let mut record = EXAMPLE.to_vec(rt.alloc())?;
+    assert!(rt; record.len() >= 31);
+    seal_record(&mut record, Kind::Ranges, None);
+    assert_eq!(rt;
+        &record.as_slice()[..32],
+        b"record 1\nR --------------------\n".as_slice()
+    );
+    seal_record(&mut record, Kind::Whole, Some(4_611_686_018_427_387_903));
+    assert_eq!(rt;
+        &record.as_slice()[..32],
+        b"record 1\nW 04611686018427387903\n".as_slice()
+    );
+    let read = read_record(rt.alloc(), record.as_slice())?.ok_or("a head")?;
+    assert_eq!(rt; read.total, Some(4_611_686_018_427_387_903));
+    Ok(())
+}
+
+#[test]
+fn tells_records(rt: HostRuntime) -> Result<(), Fail> {
+    let table: [(&str, bool); 24] = [
+        (
+            "record 1\nG --------------------\n206 0 0 1 1\nrange: bytes=0-\na: \n",
+            true,
+        ),
+        (
+            "record 1\nW 00000000000000000000\n200 7 4611686018427387903 0 0\n",
+            true,
+        ),
+        ("", false),
+        ("record 2\nG --------------------\n200 0 0 0 0\n", false),
+        ("record 1\r\nG --------------------\n200 0 0 0 0\n", false),
+        ("record 1\nX --------------------\n200 0 0 0 0\n", false),
+        ("record 1\ng --------------------\n200 0 0 0 0\n", false),
+        ("record 1\nG -------------------\n200 0 0 0 0\n", false),
+        ("record 1\nG 6\n200 0 0 0 0\n", false),
+        ("record 1\nG 04611686018427387904\n200 0 0 0 0\n", false),
+        ("record 1\nG --------------------\n201 0 0 0 0\n", false),
+        ("record 1\nG --------------------\n200 00 0 0 0\n", false),
+        ("record 1\nG --------------------\n200 0  0 0 0\n", false),
+        (
+            "record 1\nG --------------------\n200 0 4611686018427387904 0 0\n",
+            false,
+        ),
+        ("record 1\nG --------------------\n200 0 0 0 0", false),
+        ("record 1\nG --------------------\n200 0 0 0 0\n\n", false),
+        ("record 1\nG --------------------\n200 0 0 0 1\n", false),
+        ("record 1\nG --------------------\n200 0 0 0 1\na: b", false),
+        (
+            "record 1\nG --------------------\n200 0 0 0 1\nA: b\n",
+            false,
+        ),
+        (
+            "record 1\nG --------------------\n200 0 0 0 1\na:b\n",
+            false,
+        ),
+        (
+            "record 1\nG --------------------\n200 0 0 0 1\na:  b\n",
+            false,
+        ),
+        (
+            "record 1\nG --------------------\n200 0 0 0 1\na b: c\n",
+            false,
+        ),
+        (
+            "record 1\nG --------------------\n200 0 0 0 2\nb: 1\na: 2\n",
+            false,
+        ),
+        (
+            "record 1\nG --------------------\n200 0 0 99999999999999999999 0\n",
+            false,
+        ),
+    ];
+    for (text, expected) in &table {
+        let read = read_record(rt.alloc(), text.as_bytes())?;
+        assert_eq!(rt; read.is_some(), *expected, "{text}");
+    }
+    let cut = read_record(rt.alloc(), &EXAMPLE[..85])?;
+    assert!(rt; cut.is_none());
+    Ok(())
+}

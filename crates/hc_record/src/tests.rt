@@ -126,3 +126,32 @@ fn tells_records(rt: HostRuntime) -> Result<(), Fail> {
     assert!(rt; cut.is_none());
     Ok(())
 }
+
+#[test]
+fn takes_any_text(rt: HostRuntime) -> Result<(), Fail> {
+    let mut digits = b"record 1\nG --------------------\n200 0 0 0 ".to_vec(rt.alloc())?;
+    digits.resize(10_000, b'9')?;
+    let mut total = b"record 1\nG ".to_vec(rt.alloc())?;
+    total.resize(10_000, b'0')?;
+    let table: [(&[u8], bool); 8] = [
+        (b"", false),
+        (digits.as_slice(), false),
+        (total.as_slice(), false),
+        (b",,,,,,,,,,,,,,,,,,,,,,,,,,,,,,,,", false),
+        (b"\"record 1\nG --------------------\n200 0 0 0 0\n", false),
+        (b"record 1\nG --------------------\n\xb200 0 0 0 0\n", false),
+        (
+            b"record 1\nG --------------------\n200 0 0 0 1\n\xe9: b\n",
+            false,
+        ),
+        (
+            b"record 1\nG --------------------\n200 0 0 0 1\na: \"\xe9\n",
+            true,
+        ),
+    ];
+    for (text, expected) in &table {
+        let read = read_record(rt.alloc(), *text)?;
+        assert_eq!(rt; read.is_some(), *expected);
+    }
+    Ok(())
+}

@@ -1,12 +1,13 @@
-//! What `bench/fields` times: lists of fields made and looked up again and again, by `hc_fields` or
-//! by the map of `http_header`.
+//! What the scripts of `bench` time: work of the libraries, again and again.
 #![tactic(auto)]
 
 mod command;
+mod download;
 mod fields;
 mod map;
 mod name;
 mod run;
+mod words;
 
 use run::{Status, run};
 use std::io::ErrorKind;
@@ -15,7 +16,7 @@ use std::{env, io};
 
 /// Calls `run` with the words after the program's name, and exits with what it answers.
 fn main(rt: HostRuntime) -> ExitCode {
-    let status = match words(&rt) {
+    let status = match arguments(&rt) {
         Ok(words) => run(rt.alloc(), words.as_slice()),
         Err(e) if e.kind() == ErrorKind::OutOfMemory => Status::NoMemory,
         // A word that isn't UTF-8 is no command.
@@ -25,7 +26,7 @@ fn main(rt: HostRuntime) -> ExitCode {
 }
 
 /// The words after the program's name.
-fn words(rt: &HostRuntime) -> io::Result<Vec<String>> {
+fn arguments(rt: &HostRuntime) -> io::Result<Vec<String>> {
     let mut words = Vec::new(rt.alloc());
     for word in env::args(rt)?.skip(1) {
         words.push(word)?;

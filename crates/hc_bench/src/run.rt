@@ -1,9 +1,11 @@
 //! The program as a function of its words.
-ghost use Rattle.std.specs.Prelude.{◌≡◌, ◌≢◌, ◌*◌, ◌≤◌, ◌↔◌, ◌⊎◌, [], map, IfOk};
+ghost use Rattle.std.specs.Prelude.{◌≡◌, ◌≢◌, ◌*◌, ◌≤◌, ◌↔◌, ◌⊎◌, [], map, IfOk, IsTrue};
 ghost use Rattle.std.specs.String.{string_bytes};
 ghost use Rattle.hc_bench.specs.Words.{IsCommand, code_of};
 
-use crate::command::{Command, Subject, command_of};
+use crate::command::{Command, Lists, Subject};
+use crate::download::whole_downloads;
+use crate::words::command_of;
 use crate::{fields, map};
 use hc_text::NoMemory;
 use std::alloc::Global;
@@ -13,8 +15,8 @@ use std::alloc::Global;
 pub enum Status {
     /// What the words ask for is done. Without words it is nothing.
     Done,
-    /// A name that was added was not found. It never comes: that it is tested for keeps the looking
-    /// up in the program.
+    /// A name that was added was not found, or a download lacks bytes. It never comes: that it is
+    /// tested for keeps the work in the program.
     Lost,
     /// The words are no command.
     Usage,
@@ -51,24 +53,36 @@ pub fn run(alloc: Global, words: &[String]) -> Status
     }
 }
 
-/// Looks up all names as often as the command says.
+/// Does all rounds of the command.
 fn measure(alloc: Global, command: Command) -> Status
     ensures { (result ≡ Status.Done) ⊎ (result ≡ Status.NoMemory) }
 {
-    match found_by(alloc, command) {
-        Ok(found) if found == command.count * command.times => Status::Done,
-        Ok(_) => Status::Lost,
+    match is_right(alloc, command) {
+        Ok(true) => Status::Done,
+        Ok(false) => Status::Lost,
         Err(NoMemory) => Status::NoMemory,
     }
 }
 
+/// Whether all rounds come out as they have to.
+fn is_right(alloc: Global, command: Command) -> Result<bool, NoMemory>
+    ensures { IfOk result IsTrue }
+{
+    match command {
+        Command::Lists(lists) => Ok(found_by(alloc, lists)? == lists.count * lists.times),
+        Command::Downloads(downloads) => {
+            Ok(whole_downloads(alloc, downloads)? == downloads.times)
+        }
+    }
+}
+
 /// How many names were found in all rounds.
-fn found_by(alloc: Global, command: Command) -> Result<u64, NoMemory>
-    ensures { IfOk result (λ found. found ≡ command.count * command.times) }
+fn found_by(alloc: Global, lists: Lists) -> Result<u64, NoMemory>
+    ensures { IfOk result (λ found. found ≡ lists.count * lists.times) }
 {
     let mut found = 0;
-    for _round in 0..command.times {
-        found += look_up(alloc, command.subject, command.count as usize)? as u64;
+    for _round in 0..lists.times {
+        found += look_up(alloc, lists.subject, lists.count as usize)? as u64;
     }
     Ok(found)
 }

@@ -1,7 +1,7 @@
 use Rattle.std.proofs.Common.{◌≡◌, sym, ◌∙◌, arith}
 use Rattle.std.proofs.lemmas.Fmt.{decimal_injective}
-use Rattle.hc_bench.proofs.command.number_of.Goals as goal
-use Rattle.hc_bench.proofs.command.number_of.Goals.{else-least-n-via-then-least-n+else-n-most, else-least-n-via-else-least-n}
+use Rattle.hc_bench.proofs.words.number_of.Goals as goal
+use Rattle.hc_bench.proofs.words.number_of.Goals.{else-least-n-via-then-least-n+else-n-most, else-least-n-via-else-least-n}
 
 pub returns-else-least-n-clause-none : goal.returns-else-least-n-clause-none
 returns-else-least-n-clause-none c n low high is =

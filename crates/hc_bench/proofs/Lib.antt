@@ -1,3 +1,4 @@
 pub mod Names
 pub mod Building
 pub mod Places
+pub mod Heads

@@ -2,3 +2,4 @@ pub mod Names
 pub mod Built
 pub mod Words
 pub mod Downloads
+pub mod Calls

@@ -2,13 +2,18 @@
 use Rattle.std.specs.Prelude.{◌≡◌, ℕ, List, [], ◌∷◌, codes}
 use Rattle.std.specs.Fmt.{decimal}
 use Rattle.hc_bench.specs.declared.command.Command.{Command}
-use Rattle.hc_bench.specs.declared.command.Command.TheVariants.{Lists, Downloads}
+use Rattle.hc_bench.specs.declared.command.Command.TheVariants as command
+use Rattle.hc_bench.specs.declared.command.Lists.{Lists}
+use Rattle.hc_bench.specs.declared.command.Downloads.{Downloads}
+use Rattle.hc_bench.specs.declared.command.Calls.{Calls}
 use Rattle.hc_bench.specs.declared.command.Subject.{Subject}
 use Rattle.hc_bench.specs.declared.command.Subject.TheVariants as subject
 use Rattle.hc_bench.specs.declared.command.Way.{Way}
 use Rattle.hc_bench.specs.declared.command.Way.TheVariants.{Append, Put}
 use Rattle.hc_bench.specs.declared.command.Order.{Order}
 use Rattle.hc_bench.specs.declared.command.Order.TheVariants.{Forward, Backward, Alternate}
+use Rattle.hc_bench.specs.declared.command.Call.{Call}
+use Rattle.hc_bench.specs.declared.command.Call.TheVariants as call
 use Rattle.hc_bench.specs.declared.run.Status.{Status}
 use Rattle.hc_bench.specs.declared.run.Status.TheVariants as status
 
@@ -28,14 +33,40 @@ abbrev pub way_word : Way → List ℕ
 way_word Append = codes "append"
 way_word (Put order) = order_word order
 
--- The words of a command, numbers as plain decimals. The limits of the numbers are part of its type.
+-- the name of a call
+abbrev pub call_word : Call → List ℕ
+call_word call.ReadTag = codes "read-tag"
+call_word call.ReadTagList = codes "read-tag-list"
+call_word call.WeakEqual = codes "weak-equal"
+call_word call.WriteTag = codes "write-tag"
+call_word call.ReadRange = codes "read-range"
+call_word call.ReadContentRange = codes "read-content-range"
+call_word call.Resolve = codes "resolve"
+call_word call.WriteRange = codes "write-range"
+call_word call.WriteContentRange = codes "write-content-range"
+call_word call.ReadResponse = codes "read-response"
+call_word call.ReadRequest = codes "read-request"
+call_word call.WriteRecord = codes "write-record"
+call_word call.ReadRecord = codes "read-record"
+
+-- The words of each kind of command, numbers as plain decimals. The limits of the numbers are part of the types.
+abbrev pub lists_words : Lists → List (List ℕ)
+lists_words lists = subject_word lists.subject ∷ decimal lists.count ∷ decimal lists.times ∷ []
+
+abbrev pub downloads_words : Downloads → List (List ℕ)
+downloads_words downloads = way_word downloads.way ∷ decimal downloads.pieces ∷ decimal downloads.times ∷ []
+
+abbrev pub calls_words : Calls → List (List ℕ)
+calls_words calls = codes "call" ∷ call_word calls.call ∷ decimal calls.times ∷ []
+
 abbrev pub words_of : Command → List (List ℕ)
-words_of (Lists lists) = subject_word lists.subject ∷ decimal lists.count ∷ decimal lists.times ∷ []
-words_of (Downloads downloads) = way_word downloads.way ∷ decimal downloads.pieces ∷ decimal downloads.times ∷ []
+words_of (command.Lists lists) = lists_words lists
+words_of (command.Downloads downloads) = downloads_words downloads
+words_of (command.Calls calls) = calls_words calls
 
 -- the words spell some command
 abbrev pub IsCommand : List (List ℕ) → Type 0
-IsCommand words = (command : Command) × (words ≡ words_of command)
+IsCommand words = (asked : Command) × (words ≡ words_of asked)
 
 -- the exit status
 abbrev pub code_of : Status → ℕ

@@ -6,6 +6,7 @@ ghost use Rattle.std.specs.Prelude.{◌≤◌, ◌^◌};
 pub enum Command {
     Lists(Lists),
     Downloads(Downloads),
+    Calls(Calls),
 }
 
 /// Lists of `count` fields, made and looked up `times` times.
@@ -57,4 +58,43 @@ pub enum Order {
     Backward,
     /// Every second one from the first on, and then the others.
     Alternate,
+}
+
+/// A call, made `times` times.
+#[derive(Clone, Copy, Debug, PartialEq, Eq)]
+pub struct Calls {
+    pub call: Call,
+    pub times: u64,
+    ghost bounded: { times ≤ 2 ^ 32 },
+}
+
+/// A call of the rules of HTTP.
+#[derive(Clone, Copy, Debug, PartialEq, Eq)]
+pub enum Call {
+    /// `read_tag` of `hc_etag`.
+    ReadTag,
+    /// `read_tag_list` of `hc_etag`.
+    ReadTagList,
+    /// `weak_equal` of `hc_etag`.
+    WeakEqual,
+    /// `write_tag` of `hc_etag`.
+    WriteTag,
+    /// `read_range` of `hc_range`.
+    ReadRange,
+    /// `read_content_range` of `hc_range`.
+    ReadContentRange,
+    /// `resolve` of `hc_range`.
+    Resolve,
+    /// `write_range` of `hc_range`.
+    WriteRange,
+    /// `write_content_range` of `hc_range`.
+    WriteContentRange,
+    /// `read_response` of `hc_cachectl`.
+    ReadResponse,
+    /// `read_request` of `hc_cachectl`.
+    ReadRequest,
+    /// `write_record` of `hc_record`.
+    WriteRecord,
+    /// `read_record` of `hc_record`.
+    ReadRecord,
 }

@@ -1,6 +1,7 @@
 //! What the scripts of `bench` time: work of the libraries, again and again.
 #![tactic(auto)]
 
+mod calls;
 mod command;
 mod download;
 mod fields;

@@ -3,6 +3,7 @@ ghost use Rattle.std.specs.Prelude.{◌≡◌, ◌≢◌, ◌*◌, ◌≤◌, �
 ghost use Rattle.std.specs.String.{string_bytes};
 ghost use Rattle.hc_bench.specs.Words.{IsCommand, code_of};
 
+use crate::calls::right_calls;
 use crate::command::{Command, Lists, Subject};
 use crate::download::whole_downloads;
 use crate::words::command_of;
@@ -15,8 +16,8 @@ use std::alloc::Global;
 pub enum Status {
     /// What the words ask for is done. Without words it is nothing.
     Done,
-    /// A name that was added was not found, or a download lacks bytes. It never comes: that it is
-    /// tested for keeps the work in the program.
+    /// A name that was added was not found, a download lacks bytes, or a call gave another answer.
+    /// It never comes: that it is tested for keeps the work in the program.
     Lost,
     /// The words are no command.
     Usage,
@@ -73,6 +74,7 @@ fn is_right(alloc: Global, command: Command) -> Result<bool, NoMemory>
         Command::Downloads(downloads) => {
             Ok(whole_downloads(alloc, downloads)? == downloads.times)
         }
+        Command::Calls(calls) => Ok(right_calls(alloc, calls)? == calls.times),
     }
 }
 

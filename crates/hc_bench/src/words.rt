@@ -1,37 +1,79 @@
 //! Words read as a command.
-ghost use Rattle.std.specs.Prelude.{◌≡◌, ◌≢◌, ℕ, ◌<◌, ◌≤◌, ◌^◌, map, IfSome, IfNone};
+ghost use Rattle.std.specs.Prelude.{◌≡◌, ◌≢◌, ℕ, ◌<◌, ◌≤◌, ◌^◌, [], ◌∷◌, map, IfSome, IfNone};
 ghost use Rattle.std.specs.Fmt.{decimal};
 ghost use Rattle.std.specs.String.{string_bytes};
 ghost use Rattle.hc_bench.specs.declared.command.Command.{Command};
+ghost use Rattle.hc_bench.specs.declared.command.Lists.{Lists};
+ghost use Rattle.hc_bench.specs.declared.command.Downloads.{Downloads};
+ghost use Rattle.hc_bench.specs.declared.command.Calls.{Calls};
 ghost use Rattle.hc_bench.specs.declared.command.Subject.{Subject};
 ghost use Rattle.hc_bench.specs.declared.command.Way.{Way};
-ghost use Rattle.hc_bench.specs.Words.{words_of, subject_word, way_word};
+ghost use Rattle.hc_bench.specs.declared.command.Call.{Call};
+ghost use Rattle.hc_bench.specs.Words.{words_of, lists_words, downloads_words, calls_words, subject_word, way_word, call_word};
 
-use crate::command::{Command, Downloads, Lists, Order, Subject, Way};
+use crate::command::{Call, Calls, Command, Downloads, Lists, Order, Subject, Way};
 use hc_text::read_plain;
 
-/// The command that the words spell: what is made, its size and how many times. It is `fields` or
-/// `map` with 1 to 80 fields, or `append`, `forward`, `backward` or `alternate` with 1 to 2^20
-/// pieces, up to 2^32 times.
+/// The command that the words spell: what is made, how much of it, and how many times.
+///
+/// It is `fields` or `map` with 1 to 80 fields, `append`, `forward`, `backward` or `alternate` with
+/// 1 to 2^20 pieces, or `call` with the name of a call, and then up to 2^32 times.
 pub fn command_of(words: &[String]) -> Option<Command>
     ensures found { IfSome result (λ command. map string_bytes words.now ≡ words_of command) }
     ensures none { IfNone result ((command : Command) → map string_bytes words.now ≢ words_of command) }
 {
-    let [first, size, times] = words else {
+    let [what, which, times] = words else {
         return None;
     };
+    let (what, which) = (what.as_str(), which.as_str());
     let times = number_of(times.as_str(), 0, 1 << 32)?;
-    if let Some(subject) = subject_of(first.as_str()) {
-        let count = number_of(size.as_str(), 1, 80)?;
-        return Some(Command::Lists(Lists {
-            subject,
-            count,
-            times,
-        }));
+    if let Some(lists) = lists_of(what, which, times) {
+        return Some(Command::Lists(lists));
     }
-    let way = way_of(first.as_str())?;
-    let pieces = number_of(size.as_str(), 1, 1 << 20)?;
-    Some(Command::Downloads(Downloads { way, pieces, times }))
+    if let Some(downloads) = downloads_of(what, which, times) {
+        return Some(Command::Downloads(downloads));
+    }
+    let calls = calls_of(what, which, times)?;
+    Some(Command::Calls(calls))
+}
+
+/// The lists that the words ask for.
+fn lists_of(what: &str, which: &str, times: u64) -> Option<Lists>
+    requires { times ≤ 2 ^ 32 }
+    ensures found { IfSome result (λ lists. what.now ∷ which.now ∷ decimal times ∷ [] ≡ lists_words lists) }
+    ensures none { IfNone result ((lists : Lists) → what.now ∷ which.now ∷ decimal times ∷ [] ≢ lists_words lists) }
+{
+    let subject = subject_of(what)?;
+    let count = number_of(which, 1, 80)?;
+    Some(Lists {
+        subject,
+        count,
+        times,
+    })
+}
+
+/// The downloads that the words ask for.
+fn downloads_of(what: &str, which: &str, times: u64) -> Option<Downloads>
+    requires { times ≤ 2 ^ 32 }
+    ensures found { IfSome result (λ downloads. what.now ∷ which.now ∷ decimal times ∷ [] ≡ downloads_words downloads) }
+    ensures none { IfNone result ((downloads : Downloads) → what.now ∷ which.now ∷ decimal times ∷ [] ≢ downloads_words downloads) }
+{
+    let way = way_of(what)?;
+    let pieces = number_of(which, 1, 1 << 20)?;
+    Some(Downloads { way, pieces, times })
+}
+
+/// The calls that the words ask for.
+fn calls_of(what: &str, which: &str, times: u64) -> Option<Calls>
+    requires { times ≤ 2 ^ 32 }
+    ensures found { IfSome result (λ calls. what.now ∷ which.now ∷ decimal times ∷ [] ≡ calls_words calls) }
+    ensures none { IfNone result ((calls : Calls) → what.now ∷ which.now ∷ decimal times ∷ [] ≢ calls_words calls) }
+{
+    if what != "call" {
+        return None;
+    }
+    let call = call_of(which)?;
+    Some(Calls { call, times })
 }
 
 /// What the word names of lists.
@@ -56,6 +98,29 @@ fn way_of(word: &str) -> Option<Way>
         "forward" => Some(Way::Put(Order::Forward)),
         "backward" => Some(Way::Put(Order::Backward)),
         "alternate" => Some(Way::Put(Order::Alternate)),
+        _ => None,
+    }
+}
+
+/// The call that the word names.
+fn call_of(word: &str) -> Option<Call>
+    ensures found { IfSome result (λ call. word.now ≡ call_word call) }
+    ensures none { IfNone result ((call : Call) → word.now ≢ call_word call) }
+{
+    match word {
+        "read-tag" => Some(Call::ReadTag),
+        "read-tag-list" => Some(Call::ReadTagList),
+        "weak-equal" => Some(Call::WeakEqual),
+        "write-tag" => Some(Call::WriteTag),
+        "read-range" => Some(Call::ReadRange),
+        "read-content-range" => Some(Call::ReadContentRange),
+        "resolve" => Some(Call::Resolve),
+        "write-range" => Some(Call::WriteRange),
+        "write-content-range" => Some(Call::WriteContentRange),
+        "read-response" => Some(Call::ReadResponse),
+        "read-request" => Some(Call::ReadRequest),
+        "write-record" => Some(Call::WriteRecord),
+        "read-record" => Some(Call::ReadRecord),
         _ => None,
     }
 }

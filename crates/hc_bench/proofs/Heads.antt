@@ -1,0 +1,97 @@
+-- Typical heads: they have records, and what their fields ask of a cache.
+use Rattle.std.proofs.Common.{◌≡◌, ℕ, Bool, true, false, List, [], ◌∷◌, length, Some, bytes_eq, refl, sym, ◌∙◌, subst, lit≤, arith}
+use Rattle.std.specs.Prelude.{◌&&◌, nat_lt, nat_le, codes, All}
+use Rattle.std.specs.List.{list_all}
+use Rattle.std.proofs.lemmas.Bool.{and_parts, ltb-true, leb-true}
+use Rattle.std.proofs.lemmas.List.Elements.{All-nil, All-cons}
+use Rattle.std.proofs.lemmas.Slice.Eq.{bytes_eq-Decides}
+use Rattle.http_header.specs.Token.{is_token_byte, lowercase}
+use Rattle.http_header.proofs.TokenLemmas.{AllPass-from_test}
+use Rattle.hc_text.specs.Elements.{elements}
+use Rattle.hc_fields.specs.FieldList.{is_own_value, IsField, IsFieldList, IsModest}
+use Rattle.hc_cachectl.specs.Directives.{of_response, of_request}
+use Rattle.hc_record.specs.declared.head.StoredHead.{StoredHead}
+use Rattle.hc_record.specs.declared.kind.Kind.TheVariants.{Whole}
+use Rattle.hc_record.specs.Lines.{IsSmall}
+use Rattle.hc_record.specs.Record.{spelling}
+use Rattle.hc_record.proofs.SameRecords.{same_head}
+use Rattle.hc_bench.specs.Calls.{typical_fields, IsTypical, IsTypicalRecord}
+
+abbrev pub Pair : Type 0
+Pair = List ℕ × List ℕ
+
+-- whether a list may have the field
+abbrev is_field : Pair → Bool
+is_field f =
+    nat_lt 0 (length f.0) && (list_all is_token_byte f.0 && (bytes_eq (lowercase f.0) f.0 && (is_own_value f.1 && nat_le (length f.1) 8192)))
+
+IsField-tested : (f : Pair) → is_field f ≡ true → IsField f
+IsField-tested f h =
+    let a = and_parts _ _ h in
+    let b = and_parts _ _ a.1 in
+    let d = and_parts _ _ b.1 in
+    let e = and_parts _ _ d.1 in
+    record {
+      is_name = (ltb-true 0 (length f.0) a.0, AllPass-from_test is_token_byte f.0 b.0);
+      is_lower = (bytes_eq-Decides (lowercase f.0) f.0).0 d.0;
+      is_value = e.0;
+      is_short = leb-true (length f.1) 8192 e.1;
+    }
+
+fields_tested : (fs : List Pair) → list_all is_field fs ≡ true → All IsField fs
+fields_tested [] h = All-nil IsField
+fields_tested (f ∷ fs) h = let both = and_parts (is_field f) (list_all is_field fs) h in All-cons IsField f fs (IsField-tested f both.0) (fields_tested fs both.1)
+
+abbrev pub vary_fields : List Pair
+vary_fields = (codes "accept-encoding", codes "gzip") ∷ []
+
+pub IsFieldList-vary : IsFieldList vary_fields
+unfolding is_token_byte
+IsFieldList-vary = record { fields = fields_tested vary_fields refl; sorted = refl; few = lit≤ tt; small = lit≤ tt }
+
+pub IsFieldList-typical : IsFieldList typical_fields
+unfolding is_token_byte typical_fields
+IsFieldList-typical = record { fields = fields_tested typical_fields refl; sorted = refl; few = lit≤ tt; small = lit≤ tt }
+
+pub IsModest-typical : IsModest typical_fields
+unfolding typical_fields
+IsModest-typical = record { few = lit≤ tt; small = lit≤ tt }
+
+-- a head with these moments
+unfoldable pub typical_head : (requested answered : ℕ) → IsSmall requested → IsSmall answered → StoredHead
+typical_head requested answered small_requested small_answered = record {
+  kind = Whole;
+  total = Some 12563;
+  status = 200;
+  requested = requested;
+  answered = answered;
+  vary_fields = vary_fields;
+  fields = typical_fields;
+  known_status = refl;
+  small_total = λ total is. let same : 12563 ≡ total = cc in omega arith;
+  small_requested = small_requested;
+  small_answered = small_answered;
+  vary_list = IsFieldList-vary;
+  list = IsFieldList-typical;
+  modest = IsModest-typical;
+}
+
+-- the head that a record spells is a typical one
+pub IsTypical-read : (head : StoredHead) (text : List ℕ) → IsTypicalRecord text → spelling head ≡ text → IsTypical head
+IsTypical-read head text record_of is = subst IsTypical (same_head record_of.0 head (record_of.2 ∙ sym is)) record_of.1
+
+pub length-typical_fields : length typical_fields ≡ 10
+unfolding typical_fields
+length-typical_fields = refl
+
+pub max_age-response : (of_response typical_fields).max_age ≡ Some 3600
+unfolding typical_fields elements
+max_age-response = refl
+
+pub max_age-request : (of_request typical_fields).max_age ≡ Some 3600
+unfolding typical_fields elements
+max_age-request = refl
+
+pub no_cache-request : (of_request typical_fields).no_cache ≡ false
+unfolding typical_fields elements
+no_cache-request = refl

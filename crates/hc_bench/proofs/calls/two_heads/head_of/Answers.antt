@@ -1,0 +1,5 @@
+use Rattle.hc_bench.proofs.Heads.{IsTypical-read}
+use Rattle.hc_bench.proofs.calls.two_heads.head_of.Goals as goal
+
+pub returns : goal.returns
+returns c = IsTypical-read c.in-Some.head c.record_text.result.now c.record_text.ensures (rw c.in-Some.is at c.in_ok-head.ensures.found)

@@ -1,5 +1,5 @@
 -- Typical heads: they have records, and what their fields ask of a cache.
-use Rattle.std.proofs.Common.{◌≡◌, ℕ, Bool, true, false, List, [], ◌∷◌, length, Some, bytes_eq, refl, sym, ◌∙◌, subst, lit≤, arith}
+use Rattle.std.proofs.Common.{◌≡◌, ℕ, Bool, true, false, List, [], ◌∷◌, length, None, Some, bytes_eq, refl, sym, ◌∙◌, subst, lit≤, arith}
 use Rattle.std.specs.Prelude.{◌&&◌, nat_lt, nat_le, codes, All}
 use Rattle.std.specs.List.{list_all}
 use Rattle.std.proofs.lemmas.Bool.{and_parts, ltb-true, leb-true}
@@ -9,6 +9,7 @@ use Rattle.http_header.specs.Token.{is_token_byte, lowercase}
 use Rattle.http_header.proofs.TokenLemmas.{AllPass-from_test}
 use Rattle.hc_text.specs.Elements.{elements}
 use Rattle.hc_fields.specs.FieldList.{is_own_value, IsField, IsFieldList, IsModest}
+use Rattle.hc_cachectl.specs.declared.directives.Directives.{Directives}
 use Rattle.hc_cachectl.specs.Directives.{of_response, of_request}
 use Rattle.hc_record.specs.declared.head.StoredHead.{StoredHead}
 use Rattle.hc_record.specs.declared.kind.Kind.TheVariants.{Whole}
@@ -84,14 +85,21 @@ pub length-typical_fields : length typical_fields ≡ 10
 unfolding typical_fields
 length-typical_fields = refl
 
-pub max_age-response : (of_response typical_fields).max_age ≡ Some 3600
-unfolding typical_fields elements
-max_age-response = refl
+abbrev pub typical_directives : Directives
+typical_directives = record {
+  max_age = Some 3600;
+  no_store = false;
+  no_cache = false;
+  must_revalidate = true;
+  only_if_cached = false;
+  min_fresh = None;
+  max_stale = None;
+}
 
-pub max_age-request : (of_request typical_fields).max_age ≡ Some 3600
+pub of_response-typical_fields : of_response typical_fields ≡ typical_directives
 unfolding typical_fields elements
-max_age-request = refl
+of_response-typical_fields = refl
 
-pub no_cache-request : (of_request typical_fields).no_cache ≡ false
+pub of_request-typical_fields : of_request typical_fields ≡ typical_directives
 unfolding typical_fields elements
-no_cache-request = refl
+of_request-typical_fields = refl

@@ -19,7 +19,16 @@ tag_count (Tags items) = length items
 -- the fields of a typical head
 unfoldable pub typical_fields : List (List ℕ × List ℕ)
 typical_fields =
-    (codes "accept-ranges", codes "bytes") ∷ (codes "cache-control", codes "public, max-age=3600, must-revalidate") ∷ (codes "content-language", codes "en") ∷ (codes "content-length", codes "12563") ∷ (codes "content-type", codes "text/html; charset=utf-8") ∷ (codes "date", codes "Tue, 14 Nov 2023 22:13:20 GMT") ∷ (codes "etag", 34 ∷ codes "33a64df551425fcc55e4d42a148795d9f25f89d4" ++ 34 ∷ []) ∷ (codes "last-modified", codes "Mon, 13 Nov 2023 08:00:00 GMT") ∷ (codes "server", codes "nginx") ∷ (codes "vary", codes "accept-encoding") ∷ []
+    (codes "accept-ranges", codes "bytes") ∷
+    (codes "cache-control", codes "public, max-age=3600, must-revalidate") ∷
+    (codes "content-language", codes "en") ∷
+    (codes "content-length", codes "12563") ∷
+    (codes "content-type", codes "text/html; charset=utf-8") ∷
+    (codes "date", codes "Tue, 14 Nov 2023 22:13:20 GMT") ∷
+    (codes "etag", 34 ∷ codes "33a64df551425fcc55e4d42a148795d9f25f89d4" ++ 34 ∷ []) ∷
+    (codes "last-modified", codes "Mon, 13 Nov 2023 08:00:00 GMT") ∷
+    (codes "server", codes "nginx") ∷
+    (codes "vary", codes "accept-encoding") ∷ []
 
 -- a head with these fields, whose record has 407 bytes
 pub record IsTypical (head : StoredHead) : Type 0 where

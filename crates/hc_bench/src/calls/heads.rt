@@ -3,10 +3,27 @@
 use crate::calls::Timed;
 use crate::calls::records::record_text;
 use crate::calls::two_heads::TwoHeads;
-use hc_cachectl::{read_request, read_response};
+use hc_cachectl::{Directives, read_request, read_response};
 use hc_record::{read_record, write_record};
 use hc_text::NoMemory;
 use std::alloc::Global;
+
+/// What the heads ask of a cache.
+const DIRECTIVES: Directives = Directives {
+    max_age: Some(3600),
+    no_store: false,
+    no_cache: false,
+    must_revalidate: true,
+    only_if_cached: false,
+    min_fresh: None,
+    max_stale: None,
+};
+
+/// How many fields the heads have.
+const FIELD_COUNT: usize = 10;
+
+/// How many bytes the records of the heads have.
+const RECORD_LEN: usize = 407;
 
 /// `read_response` of the fields of a head.
 #[derive(Drop)]
@@ -23,8 +40,7 @@ impl ReadResponse {
 
 impl Timed for ReadResponse {
     fn is_right(&mut self, _alloc: Global, round: u64) -> Result<bool, NoMemory> {
-        let directives = read_response(&self.heads.at(round).fields);
-        Ok(directives.max_age == Some(3600))
+        Ok(read_response(&self.heads.at(round).fields) == DIRECTIVES)
     }
 }
 
@@ -43,8 +59,7 @@ impl ReadRequest {
 
 impl Timed for ReadRequest {
     fn is_right(&mut self, _alloc: Global, round: u64) -> Result<bool, NoMemory> {
-        let directives = read_request(&self.heads.at(round).fields);
-        Ok(directives.max_age == Some(3600) && !directives.no_cache)
+        Ok(read_request(&self.heads.at(round).fields) == DIRECTIVES)
     }
 }
 
@@ -69,7 +84,7 @@ impl Timed for WriteRecord {
     fn is_right(&mut self, _alloc: Global, round: u64) -> Result<bool, NoMemory> {
         self.to.clear();
         write_record(self.heads.at(round), &mut self.to)?;
-        Ok(self.to.len() == 407)
+        Ok(self.to.len() == RECORD_LEN)
     }
 }
 
@@ -80,6 +95,6 @@ pub(crate) struct ReadRecord;
 impl Timed for ReadRecord {
     fn is_right(&mut self, alloc: Global, round: u64) -> Result<bool, NoMemory> {
         let read = read_record(alloc, record_text(round))?;
-        Ok(read.is_some_and(|head| head.fields.len() == 10))
+        Ok(read.is_some_and(|head| head.fields.len() == FIELD_COUNT))
     }
 }

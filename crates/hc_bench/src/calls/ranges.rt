@@ -95,6 +95,9 @@ fn resolve_case(round: u64) -> (Asked, Span)
     }
 }
 
+/// How long the text is that asks for a span of `span_at`.
+const RANGE_LEN: usize = 13;
+
 /// `write_range` of a span.
 #[derive(Drop)]
 pub(crate) struct WriteRange {
@@ -113,9 +116,12 @@ impl Timed for WriteRange {
     fn is_right(&mut self, _alloc: Global, round: u64) -> Result<bool, NoMemory> {
         self.to.clear();
         write_range(span_at(round), TOTAL, &mut self.to)?;
-        Ok(self.to.len() == 13)
+        Ok(self.to.len() == RANGE_LEN)
     }
 }
+
+/// How long the text is that tells a span of `span_at`.
+const CONTENT_RANGE_LEN: usize = 18;
 
 /// `write_content_range` of a span.
 #[derive(Drop)]
@@ -135,7 +141,7 @@ impl Timed for WriteContentRange {
     fn is_right(&mut self, _alloc: Global, round: u64) -> Result<bool, NoMemory> {
         self.to.clear();
         write_content_range(span_at(round), TOTAL, &mut self.to)?;
-        Ok(self.to.len() == 18)
+        Ok(self.to.len() == CONTENT_RANGE_LEN)
     }
 }
 
@@ -143,8 +149,8 @@ impl Timed for WriteContentRange {
 #[inline(never)]
 fn span_at(round: u64) -> Span
     ensures within { IsWithin result TOTAL }
-    ensures range { length (range_text result TOTAL) ≡ 13 }
-    ensures content_range { length (content_range_text result TOTAL) ≡ 18 }
+    ensures range { length (range_text result TOTAL) ≡ RANGE_LEN }
+    ensures content_range { length (content_range_text result TOTAL) ≡ CONTENT_RANGE_LEN }
 {
     if round % 2 == 0 {
         Span { lo: 500, hi: 1000 }

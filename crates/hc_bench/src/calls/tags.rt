@@ -1,8 +1,8 @@
 //! Calls on entity tags.
-ghost use Rattle.std.specs.Prelude.{◌≡◌, ℕ, List, Bool, false, length, IfOk};
+ghost use Rattle.std.specs.Prelude.{◌≡◌, ℕ, List, Bool, false, length};
 ghost use Rattle.hc_etag.specs.Etags.{SpellsTag};
 ghost use Rattle.hc_etag.specs.Tags.{IsTagList};
-ghost use Rattle.hc_bench.specs.Calls.{IsHash, tag_count};
+ghost use Rattle.hc_bench.specs.Calls.{tag_count};
 
 use crate::calls::Timed;
 use crate::calls::two_tags::TwoTags;
@@ -10,27 +10,30 @@ use hc_etag::{TagList, read_tag, read_tag_list, weak_equal, write_tag};
 use hc_text::NoMemory;
 use std::alloc::Global;
 
-/// `read_tag` of a tag with 40 or 13 bytes.
+/// `read_tag` of a tag with 40 bytes or 13.
 #[derive(Drop)]
 pub(crate) struct ReadTag;
 
 impl Timed for ReadTag {
     fn is_right(&mut self, alloc: Global, round: u64) -> Result<bool, NoMemory> {
-        let (text, len) = tag_case(round);
+        let (text, opaque) = tag_case(round);
         let read = read_tag(alloc, text)?;
-        Ok(read.is_some_and(|tag| tag.opaque.bytes.len() == len))
+        Ok(read.is_some_and(|tag| tag.opaque.bytes.as_slice() == opaque))
     }
 }
 
-/// A tag, and how many bytes stand between its quotes.
+/// A tag, and what stands between its quotes.
 #[inline(never)]
-fn tag_case(round: u64) -> (&'static [u8], usize)
-    ensures { (opaque : List ℕ) × SpellsTag result.0.now false opaque × (length opaque ≡ result.1) }
+fn tag_case(round: u64) -> (&'static [u8], &'static [u8])
+    ensures { SpellsTag result.0.now false result.1.now }
 {
     if round % 2 == 0 {
-        (b"\"33a64df551425fcc55e4d42a148795d9f25f89d4\"", 40)
+        (
+            b"\"33a64df551425fcc55e4d42a148795d9f25f89d4\"",
+            b"33a64df551425fcc55e4d42a148795d9f25f89d4",
+        )
     } else {
-        (b"\"6553f1f0-3113\"", 13)
+        (b"\"6553f1f0-3113\"", b"6553f1f0-3113")
     }
 }
 
@@ -93,6 +96,9 @@ impl Timed for WeakEqual {
     }
 }
 
+/// How many bytes a tag has that is written: 40 and two quotes.
+const TEXT_LEN: usize = 42;
+
 /// `write_tag` of a tag of 40 bytes.
 #[derive(Drop)]
 pub(crate) struct WriteTag {
@@ -114,6 +120,6 @@ impl Timed for WriteTag {
     fn is_right(&mut self, _alloc: Global, round: u64) -> Result<bool, NoMemory> {
         self.to.clear();
         write_tag(self.tags.at(round), &mut self.to)?;
-        Ok(self.to.len() == 42)
+        Ok(self.to.len() == TEXT_LEN)
     }
 }

@@ -3,7 +3,8 @@ use Rattle.std.proofs.Common.{◌≡◌, ◌≢◌, ◌⊎◌, ℕ, Bool, true, 
 use Rattle.std.proofs.lemmas.Bool.{both_ways}
 use Rattle.std.proofs.lemmas.List.{append_assoc, append-nil, nil_from_length}
 use Rattle.hc_etag.specs.Etags.{IsOpaque, tag_text, BeginsTag}
-use Rattle.hc_etag.specs.Tags.{comma, is_blank, SpellsTags, ends, blank, separator, tag}
+use Rattle.hc_text.specs.Elements.{comma, is_blank}
+use Rattle.hc_etag.specs.Tags.{SpellsTags, ends, blank, separator, tag}
 use Rattle.hc_etag.proofs.EtagLemmas.{tag_unique}
 
 -- the tags that are read, and what the rest of the text may be

@@ -1,5 +1,6 @@
 -- Lists of entity tags, as a recipient reads them (RFC 9110 sections 5.6.1 and 13.1.2).
-use Rattle.std.specs.Prelude.{◌≡◌, ◌≢◌, ℕ, ◌==◌, ◌||◌, Bool, true, false, List, [], ◌∷◌, ◌++◌, codes, map}
+use Rattle.std.specs.Prelude.{◌≡◌, ◌≢◌, ℕ, Bool, true, false, List, [], ◌∷◌, ◌++◌, codes, map}
+use Rattle.hc_text.specs.Elements.{comma, is_blank}
 use Rattle.hc_etag.specs.declared.tag.Tag.{Tag}
 use Rattle.hc_etag.specs.Etags.{IsOpaque, tag_text}
 
@@ -9,13 +10,6 @@ value_of tag = (tag.weak, tag.opaque)
 
 abbrev pub values_of : List Tag → List (Bool × List ℕ)
 values_of tags = map value_of tags
-
-abbrev pub comma : ℕ
-comma = 44
-
--- a space or a tab
-abbrev pub is_blank : ℕ → Bool
-is_blank b = b == 32 || b == 9
 
 -- The text spells these tags, where a tag may come first or may not, since another stands just before.
 pub data SpellsTags : Bool → List ℕ → List (Bool × List ℕ) → Type 0 where

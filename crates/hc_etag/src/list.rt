@@ -1,11 +1,11 @@
 //! Lists of entity tags.
 ghost use Rattle.std.specs.Prelude.{◌≡◌, ◌≢◌, ℕ, ◌++◌, List, Bool, true, map, IfOk, IfSome, IfNone, IsSomeAnd};
-ghost use Rattle.hc_etag.specs.Tags.{IsTagList, SpellsTags, any_text, values_of, is_blank};
+ghost use Rattle.hc_etag.specs.Tags.{IsTagList, SpellsTags, any_text, values_of};
 ghost use Rattle.hc_etag.specs.TagLists.{SpellsList, HoldsTags};
 
 use crate::front::front_tag;
 use crate::tag::Tag;
-use hc_text::NoMemory;
+use hc_text::{NoMemory, is_blank};
 use std::alloc::Global;
 use std::marker::Model;
 
@@ -108,13 +108,6 @@ fn read_tags(alloc: Global, text: &[u8]) -> Result<Option<Vec<Tag>>, NoMemory>
         }
     }
     Ok(Some(tags))
-}
-
-/// Whether the byte is a space or a tab.
-fn is_blank(byte: u8) -> bool
-    ensures { result ≡ is_blank byte }
-{
-    byte == b' ' || byte == b'\t'
 }
 
 #[cfg(test)]

@@ -4,6 +4,7 @@ use Rattle.std.specs.List.{list_all, sum_by, flat_map, position_or_len}
 use Rattle.std.specs.Ordering.{nat_cmp, is_lt}
 use Rattle.std.specs.Cmp.Lexicographic.{slice_cmp}
 use Rattle.http_header.specs.Token.{IsToken, lowercase, is_value_byte}
+use Rattle.hc_text.specs.Elements.{is_blank}
 use Rattle.hc_fields.specs.declared.error.FieldError.{FieldError}
 use Rattle.hc_fields.specs.declared.error.FieldError.TheVariants.{BadName, BadValue, TooMany, TooLong, NoMemory}
 
@@ -45,9 +46,6 @@ joined_of (v ∷ vs) = Some (v ++ separated_values vs)
 -- the bytes of all names and values
 abbrev pub size_of : List (List ℕ × List ℕ) → ℕ
 size_of fs = sum_by (λ f. length f.0 + length f.1) fs
-
-abbrev pub is_blank : ℕ → Bool
-is_blank b = b == 32 || b == 9
 
 -- no control byte but the tab, and no space or tab at an end
 abbrev pub is_own_value : List ℕ → Bool

@@ -3,9 +3,9 @@ ghost use Rattle.std.specs.Prelude.{◌≡◌, ◌≤◌, length, true, IfOk};
 ghost use Rattle.std.specs.List.{list_all};
 ghost use Rattle.http_header.specs.Token.{IsToken, lowercase, is_value_byte};
 ghost use Rattle.http_header.specs.FieldValue.{plain_value};
-ghost use Rattle.hc_fields.specs.FieldList.{is_own_value, is_blank};
+ghost use Rattle.hc_fields.specs.FieldList.{is_own_value};
 
-use hc_text::NoMemory;
+use hc_text::{NoMemory, is_blank};
 use http_header::{HeaderName, HeaderNameError, HeaderValue, HeaderValueError};
 use std::alloc::Global;
 
@@ -51,12 +51,6 @@ fn is_value_char(b: u8) -> bool
     ensures { result ≡ is_value_byte b }
 {
     b == b'\t' || (b >= b' ' && b != 0x7f)
-}
-
-fn is_blank(b: u8) -> bool
-    ensures { result ≡ is_blank b }
-{
-    b == b' ' || b == b'\t'
 }
 
 fn has_value_chars(value: &[u8]) -> bool

@@ -1,6 +1,7 @@
 //! Small types of bytes, numbers, tokens and lists of elements: the bottom of the workspace.
 #![tactic(auto)]
 
+mod blank;
 mod bytes;
 mod law;
 mod list;
@@ -8,6 +9,7 @@ mod memory;
 mod number;
 mod token;
 
+pub use blank::is_blank;
 pub use bytes::{Bytes, Key, MethodName, Value};
 pub use law::{a_text_has_one_cut, calls_give_the_elements};
 pub use list::{Item, next_item};

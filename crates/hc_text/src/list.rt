@@ -3,6 +3,8 @@ ghost use Rattle.std.specs.Prelude.{◌≡◌, ◌≢◌, ℕ, ◌<◌, ◌≤�
 ghost use Rattle.hc_text.specs.Elements.{elements, is_blank, cut, begin_with, trim_end, comma, Outside, Within};
 ghost use Rattle.hc_text.specs.Items.{IsNextItem};
 
+use crate::blank::is_blank;
+
 /// An element of a list: its bytes stand from `start` up to `end`, and the rest of the list begins
 /// at `next`.
 #[derive(Clone, Copy, Debug, PartialEq, Eq)]
@@ -26,13 +28,6 @@ pub fn next_item(text: &[u8], from: usize) -> Option<Item>
     let end = trimmed_end(text, start, stop);
     let next = text.len().min(stop + 1);
     Some(Item { start, end, next })
-}
-
-/// Whether the byte is a space or a tab.
-fn is_blank(byte: u8) -> bool
-    ensures { result ≡ is_blank byte }
-{
-    byte == b' ' || byte == b'\t'
 }
 
 /// Where the first element that isn't empty begins, at or after `from`.

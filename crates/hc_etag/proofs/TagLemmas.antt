@@ -11,6 +11,8 @@ use Rattle.hc_etag.proofs.EtagLemmas.{tag_unique}
 pub record IsReadUpTo (text : List ℕ) (read : List (Bool × List ℕ)) (may_come : Bool) (rest : List ℕ) : Type 0 where
   pub up : (tags : List (Bool × List ℕ)) → SpellsTags may_come rest tags → SpellsTags true text (read ++ tags)
   pub down : (all : List (Bool × List ℕ)) → SpellsTags true text all → (tags : List (Bool × List ℕ)) × SpellsTags may_come rest tags × (all ≡ read ++ tags)
+  pub before : List ℕ
+  pub place : text ≡ before ++ rest
 
 -- the tag that a text begins with, and those after it
 pub record FirstTag (text : List ℕ) (tags : List (Bool × List ℕ)) : Type 0 where
@@ -93,7 +95,11 @@ at_tag may_come b text tags no_b no_c spelled = at_tag_by no_b no_c (begins spel
 
 -- the steps of a reader
 pub read_start : (text : List ℕ) → IsReadUpTo text [] true text
-read_start text = record { up = λ tags spelled. spelled; down = λ all spelled. (all, spelled, refl) }
+read_start text = record { up = λ tags spelled. spelled; down = λ all spelled. (all, spelled, refl); before = []; place = refl }
+
+-- one more byte is read
+one_more : (text before rest : List ℕ) (b : ℕ) (after : List ℕ) → rest ≡ b ∷ after → text ≡ before ++ rest → text ≡ (before ++ b ∷ []) ++ after
+one_more text before rest b after e place = place ∙ ap (λ (l : List ℕ). before ++ l) e ∙ sym (append_assoc before (b ∷ []) after)
 
 pub read_blank : (text : List ℕ) (read : List (Bool × List ℕ)) (may_come : Bool) (rest : List ℕ) (b : ℕ) (after : List ℕ) → rest ≡ b ∷ after → is_blank b ≡ true
     → IsReadUpTo text read may_come rest → IsReadUpTo text read may_come after
@@ -102,6 +108,8 @@ read_blank text read may_come rest b after e is_b so_far = record {
   down = λ all spelled.
       let d = so_far.down all spelled in
       (d.0, after_blank may_come b after d.0 is_b (subst (λ (l : List ℕ). SpellsTags may_come l d.0) e d.1), d.2);
+  before = so_far.before ++ b ∷ [];
+  place = one_more text so_far.before rest b after e so_far.place;
 }
 
 pub read_comma : (text : List ℕ) (read : List (Bool × List ℕ)) (may_come : Bool) (rest : List ℕ) (b : ℕ) (after : List ℕ) → rest ≡ b ∷ after → b ≡ comma
@@ -111,6 +119,8 @@ read_comma text read may_come rest b after e is_c so_far = record {
   down = λ all spelled.
       let d = so_far.down all spelled in
       (d.0, after_comma may_come b after d.0 is_c (subst (λ (l : List ℕ). SpellsTags may_come l d.0) e d.1), d.2);
+  before = so_far.before ++ b ∷ [];
+  place = one_more text so_far.before rest b after e so_far.place;
 }
 
 -- the one tag that the text begins with
@@ -135,6 +145,8 @@ read_tag text read rest b after weak opaque left e no_b no_c is_opaque rest_is s
       let f = at_tag true b after d.0 no_b no_c (subst (λ (l : List ℕ). SpellsTags true l d.0) e d.1) in
       let g = one_first (b ∷ after) weak opaque left d.0 is_opaque (sym e ∙ rest_is) f.1 in
       (g.0, g.1, d.2 ∙ ap (λ (l : List (Bool × List ℕ)). read ++ l) g.2 ∙ sym (append_assoc read ((weak, opaque) ∷ []) g.0));
+  before = so_far.before ++ tag_text weak opaque;
+  place = so_far.place ∙ ap (λ (l : List ℕ). so_far.before ++ l) rest_is ∙ sym (append_assoc so_far.before (tag_text weak opaque) left);
 }
 
 -- no tag may come here

@@ -24,3 +24,7 @@ SpellsTag text weak opaque = IsOpaque opaque × (text ≡ tag_text weak opaque)
 -- the text begins with an entity tag
 abbrev pub BeginsTag : List ℕ → Type 0
 BeginsTag text = (weak : Bool) × (opaque : List ℕ) × (rest : List ℕ) × IsOpaque opaque × (text ≡ tag_text weak opaque ++ rest)
+
+-- an entity tag stands in the text
+abbrev pub HasTag : List ℕ → Type 0
+HasTag text = (before : List ℕ) × (after : List ℕ) × (text ≡ before ++ after) × BeginsTag after

@@ -1,5 +1,6 @@
 //! Lists of entity tags.
-ghost use Rattle.std.specs.Prelude.{◌≡◌, ◌≢◌, ℕ, ◌++◌, List, Bool, true, map, IfOk, IfSome, IfNone, IsSomeAnd};
+ghost use Rattle.std.specs.Prelude.{◌≡◌, ◌≢◌, ℕ, ◌++◌, List, Bool, true, map, IfOk, IfSome, IfNone, IsSomeAnd, OnErr};
+ghost use Rattle.hc_etag.specs.Etags.{HasTag};
 ghost use Rattle.hc_etag.specs.Tags.{IsTagList, SpellsTags, any_text, values_of};
 ghost use Rattle.hc_etag.specs.TagLists.{SpellsList, HoldsTags};
 
@@ -63,11 +64,13 @@ impl TagList {
 /// each element, at both ends of the text too.
 ///
 /// It is None exactly where the text is no such list. A backslash in a tag is an ordinary byte.
-/// The text is read once, so want of memory may be told before a fault further on.
+/// The text is read once, and memory is asked for at each tag, so want of memory may be told before a
+/// fault further on, but of no text without a tag.
 pub fn read_tag_list(alloc: Global, text: &[u8]) -> Result<Option<TagList>, NoMemory>
     ensures found { IfOk result (λ read. IfSome read (SpellsList text.now)) }
     ensures only { IfOk result (λ read. IfSome read (λ list. (tags : List (Bool × List ℕ)) → IsTagList text.now tags → HoldsTags list tags)) }
     ensures none { IfOk result (λ read. IfNone read ((text.now ≢ any_text) × ((tags : List (Bool × List ℕ)) → ¬ (IsTagList text.now tags)))) }
+    ensures err { OnErr result (HasTag text.now) }
 {
     if text == b"*".as_slice() {
         return Ok(Some(TagList::Any));
@@ -85,6 +88,7 @@ pub fn read_tag_list(alloc: Global, text: &[u8]) -> Result<Option<TagList>, NoMe
 fn read_tags(alloc: Global, text: &[u8]) -> Result<Option<Vec<Tag>>, NoMemory>
     ensures found { IfOk result (λ read. IfSome read (λ tags. SpellsTags true text.now (values_of tags.items))) }
     ensures only { IfOk result (λ read. (tags : List (Bool × List ℕ)) → SpellsTags true text.now tags → IsSomeAnd read (λ found. values_of found.items ≡ tags)) }
+    ensures err { OnErr result (HasTag text.now) }
 {
     let mut tags = Vec::new(alloc);
     let mut rest = text;

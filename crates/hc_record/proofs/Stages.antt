@@ -9,7 +9,7 @@ use Rattle.hc_record.specs.declared.parts.Seal.{Seal}
 use Rattle.hc_record.specs.declared.parts.Numbers.{Numbers}
 use Rattle.hc_record.specs.Lines.{IsSmall, version_line, seal_line}
 use Rattle.hc_record.specs.Parts.{seal_text, IsSmallSeal, numbers_text, AreSmall, IsListOf}
-use Rattle.hc_record.specs.Record.{later_lines, spelling}
+use Rattle.hc_record.specs.Record.{later_lines, spelling, HasFirstLines}
 use Rattle.hc_record.proofs.FieldTexts.{fields_once}
 use Rattle.hc_record.proofs.Once.{SameSeal, seal_once, SameNumbers, numbers_once}
 
@@ -80,3 +80,18 @@ after_fields head count fs fields rest same of_head of_fs is =
 pub after_lines : (head : StoredHead) (seal : Seal) (n : Numbers) (text lines later fields : List ℕ) → spelling head ≡ text → version_line ++ lines ≡ text → IsSmallSeal seal → seal_text seal ++ later ≡ lines → AreSmall n → numbers_text n ++ fields ≡ later → SameNumbers n (numbers_of head) fields (fields_text head.vary_fields ++ fields_text head.fields)
 after_lines head seal n text lines later fields same is small_seal seal_is small_n n_is =
     after_numbers head n later fields (after_seal head seal text lines later same is small_seal seal_is).rest small_n n_is
+
+pub has_first_lines : (seal : Seal) (n : Numbers) (status : ℕ) (text lines later fields : List ℕ) → version_line ++ lines ≡ text → seal_text seal ++ later ≡ lines → numbers_text n ++ fields ≡ later → status ≡ n.status → IsTrue (status == 200 || status == 206) → HasFirstLines text
+has_first_lines seal n status text lines later fields text_is seal_is n_is same known =
+    record {
+      kind = seal.kind;
+      total = seal.total;
+      status = n.status;
+      requested = n.requested;
+      answered = n.answered;
+      vary_count = n.vary_count;
+      count = n.count;
+      rest = fields;
+      known_status = rw same at known;
+      text_is = rw (n_is, seal_is) text_is;
+    }

@@ -1,5 +1,5 @@
 -- The record of a stored head.
-use Rattle.std.specs.Prelude.{ℕ, List, ◌++◌, length, Option}
+use Rattle.std.specs.Prelude.{◌≡◌, ℕ, ◌==◌, ◌||◌, IsTrue, List, ◌++◌, length, Option}
 use Rattle.hc_fields.specs.Lines.{fields_text}
 use Rattle.hc_record.specs.declared.kind.Kind.{Kind}
 use Rattle.hc_record.specs.declared.head.StoredHead.{StoredHead}
@@ -18,3 +18,16 @@ spelling_with kind total head = version_line ++ (seal_line kind total ++ later_l
 -- the record of the head
 abbrev pub spelling : StoredHead → List ℕ
 spelling head = spelling_with head.kind head.total head
+
+-- the text begins as a record, up to its fields
+pub record HasFirstLines (text : List ℕ) : Type 0 where
+  pub kind : Kind
+  pub total : Option ℕ
+  pub status : ℕ
+  pub requested : ℕ
+  pub answered : ℕ
+  pub vary_count : ℕ
+  pub count : ℕ
+  pub rest : List ℕ
+  pub known_status : IsTrue (status == 200 || status == 206)
+  pub text_is : version_line ++ (seal_line kind total ++ (numbers_line status requested answered vary_count count ++ rest)) ≡ text

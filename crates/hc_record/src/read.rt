@@ -1,7 +1,7 @@
 //! Reading records.
-ghost use Rattle.std.specs.Prelude.{◌≡◌, ◌≢◌, ◌==◌, ◌||◌, IsTrue, IfOk, IfSome, IfNone, MatchOption};
+ghost use Rattle.std.specs.Prelude.{◌≡◌, ◌≢◌, ◌==◌, ◌||◌, IsTrue, IfOk, IfSome, IfNone, OnErr, MatchOption};
 ghost use Rattle.hc_record.specs.declared.head.StoredHead.{StoredHead};
-ghost use Rattle.hc_record.specs.Record.{spelling};
+ghost use Rattle.hc_record.specs.Record.{spelling, HasFirstLines};
 
 use crate::cursor::Cursor;
 use crate::field_lines::take_fields;
@@ -22,9 +22,13 @@ fn status_of(number: u64) -> Option<u16>
 }
 
 /// The stored head whose record the text is. None exactly where the text is no record.
+///
+/// The text is read once. Memory is asked for only where its first three lines are those of a record,
+/// so want of memory may be told before a fault further on.
 pub fn read_record(alloc: Global, text: &[u8]) -> Result<Option<StoredHead>, NoMemory>
     ensures found { IfOk result (λ read. IfSome read (λ head. spelling head ≡ text.now)) }
     ensures none { IfOk result (λ read. IfNone read ((head : StoredHead) → spelling head ≢ text.now)) }
+    ensures err { OnErr result (HasFirstLines text.now) }
 {
     let mut rest = Cursor::new(text);
     let Some(()) = rest.take_bytes(b"record 1\n") else {

@@ -1,9 +1,10 @@
 use Rattle.std.proofs.Common.{[], sym, ◌∙◌}
 use Rattle.std.proofs.lemmas.Bool.{false≢true}
 use Rattle.std.proofs.lemmas.List.{append-nil}
+use Rattle.std.proofs.lemmas.Result.{err_from_is_err_and}
 use Rattle.hc_fields.specs.Lines.{fields_text}
 use Rattle.hc_record.specs.Record.{later_lines}
-use Rattle.hc_record.proofs.Stages.{numbers_of, AreSmall-numbers_of, status_cases, after_version, after_seal, after_lines, list_of_vary, list_of_fields, after_vary, after_fields}
+use Rattle.hc_record.proofs.Stages.{numbers_of, AreSmall-numbers_of, status_cases, after_version, after_seal, after_lines, list_of_vary, list_of_fields, after_vary, after_fields, has_first_lines}
 use Rattle.hc_record.proofs.read.read_record.Goals as goal
 
 pub returns-in_default-take_seal-clause-none : goal.returns-in_default-take_seal-clause-none
@@ -52,3 +53,13 @@ returns-then-not-modest-clause-none c = λ head same.
     let others = rw c.in-Some-3.is at c.in_ok-fields.ensures in
     let fields = after_fields head c.in-Some-take_numbers.numbers.count c.in-Some-3.fields c.take_fields.new.text c.take_fields-2.new.text vary.1 (list_of_fields head c.in-Some-take_numbers.numbers _ _ numbers) others.0 others.1 in
     false≢true (c.if-not-modest.ensures.value.1 (rw fields.0 head.modest))
+
+pub returns-in_err-vary_fields-clause-err : goal.returns-in_err-vary_fields-clause-err
+returns-in_err-vary_fields-clause-err c =
+    let failed = err_from_is_err_and c.from_residual.result c.from_residual.ensures.1 in rw failed.1
+    (has_first_lines c.in-Some-take_seal.seal c.in-Some-take_numbers.numbers c.in-Some-status_of.status c.args.text.now c.take_bytes.new.self c.take_seal.new.text c.take_numbers.new.text (c.in-Some.ensures ∙ c.new-rest.ensures) c.in-Some-take_seal.ensures.1 c.in-Some-take_numbers.ensures.1 c.in-Some-status_of.ensures.0 c.in-Some-status_of.ensures.1)
+
+pub returns-in_err-fields-clause-err : goal.returns-in_err-fields-clause-err
+returns-in_err-fields-clause-err c =
+    let failed = err_from_is_err_and c.from_residual-in_err-fields.result c.from_residual-in_err-fields.ensures.1 in rw failed.1
+    (has_first_lines c.in-Some-take_seal.seal c.in-Some-take_numbers.numbers c.in-Some-status_of.status c.args.text.now c.take_bytes.new.self c.take_seal.new.text c.take_numbers.new.text (c.in-Some.ensures ∙ c.new-rest.ensures) c.in-Some-take_seal.ensures.1 c.in-Some-take_numbers.ensures.1 c.in-Some-status_of.ensures.0 c.in-Some-status_of.ensures.1)

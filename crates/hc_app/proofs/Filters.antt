@@ -17,12 +17,12 @@ use Rattle.hc_app.specs.Rows.{Tables, Exchange, Consumer, Place, Line, Direct, D
 use Rattle.hc_app.specs.Tables.{after_accepted, after_denied, tables}
 use Rattle.hc_app.specs.Answers.{accepted_acts, refusal_of, Move, Nothing, Opens, WaitsHead, WaitsBody, Asks, Shows, Gives, Ends, Fails, Closes, acts_of, move_of, subject, polled, seen, seen_open, head_refusal, piece_refusal, end_refusal}
 use Rattle.hc_app.specs.Runs.{IsRun, Sound, owed, next}
-use Rattle.hc_app.specs.Histories.{each, first, if_accepted, request_in, head_in, bytes_in, ends_in, has_ended, delivered_of, given_of, IsFiltered, RunsAreFiltered}
+use Rattle.hc_app.specs.Histories.{each, first, if_accepted, request_in, head_in, bytes_in, ends_in, has_ended, delivered_of, opener_in, given_of, IsFiltered, RunsAreFiltered}
 use Rattle.hc_app.proofs.Steps.{tables-step, answer-accepted, answer-denied}
 use Rattle.hc_app.proofs.OneKey.{next-accepted}
 use Rattle.hc_app.proofs.Moves.{IsQuiet, none, closes, head_quiet, cancel_quiet}
 use Rattle.hc_app.proofs.SoundRows.{moved-is}
-use Rattle.hc_app.proofs.Owners.{either}
+use Rattle.hc_app.proofs.Owners.{either, heard_c}
 use Rattle.hc_app.proofs.Soundness.{sound_run, denied-next}
 
 -- Induction over runs.
@@ -150,6 +150,24 @@ row_request t c e None qs is = made_request c e.now e.event ∙ sym (first_next 
 row_request t c e (Some r) qs is =
     let same : SameRequest r (consumer_acted c e.acts (consumer_heard t e.now c e.event r)) = placed_request c (opening_in e.acts) (consumer_heard t e.now c e.event r) ∙ heard_request t e.now c e.event r in
     ap Some same ∙ sym (first_keeps qs (request_in c e.event) r.request (sym is))
+
+-- Openers.
+
+abbrev opener_at : Option Exchange → Option ℕ
+opener_at o = option_map (λ (w : Exchange). w.c) o
+
+opened_here : (b : Bool) (w : Exchange) → opener_at (cond b (Some w) None) ≡ first (cond b (w.c ∷ []) [])
+opened_here true w = refl
+opened_here false w = refl
+
+made_opener : (x : ℕ) (e : Entry) (o : Option Opening) → opener_at (exchange_made x e o) ≡ first (opener_in x o)
+made_opener x e None = refl
+made_opener x e (Some o) = opened_here (eqb o.x x) _
+
+row_opener : (x : ℕ) (e : Entry) (o : Option Exchange) (cs : List ℕ) → opener_at o ≡ first cs → opener_at (exchange_after x e o) ≡ first (cs ++ opener_in x (opening_in e.acts))
+unfolding exchange_after
+row_opener x e None cs is = made_opener x e (opening_in e.acts) ∙ sym (first_next cs (opener_in x (opening_in e.acts)) (sym is))
+row_opener x e (Some w) cs is = ap Some (heard_c x e.event w) ∙ sym (first_keeps cs (opener_in x (opening_in e.acts)) w.c (sym is))
 
 -- Heads and bodies.
 
@@ -421,13 +439,14 @@ row_offset t c now event (Some r) given is is_length =
 
 pub filters_start : IsFiltered [] (tables [])
 unfolding tables
-filters_start = record { requests = λ c. refl; heads = λ x. refl; bodies = λ x. refl; ends = λ x. refl; offsets = λ c. refl }
+filters_start = record { requests = λ c. refl; openers = λ x. refl; heads = λ x. refl; bodies = λ x. refl; ends = λ x. refl; offsets = λ c. refl }
 
 pub filters_accepted : Accepts IsFiltered
 filters_accepted t h now event sound accepted f =
     let e : Entry = taken t now event in
     record {
       requests = λ c. row_request t c e (t.consumer c) (each (λ e. if_accepted e (request_in c e.event)) h) (f.requests c) ∙ ap (λ (more : List Request). first (each (λ e. if_accepted e (request_in c e.event)) h ++ more)) (sym (brought t now event (request_in c event)));
+      openers = λ x. row_opener x e (t.exchange x) (each (λ e. opener_in x (opening_in e.acts)) h) (f.openers x);
       heads = λ x. row_head t x e accepted (t.exchange x) (each (λ e. if_accepted e (head_in x e.event)) h) refl (f.heads x) ∙ ap (λ (more : List Response). first (each (λ e. if_accepted e (head_in x e.event)) h ++ more)) (sym (brought t now event (head_in x event)));
       bodies = λ x. row_body t x e accepted (t.exchange x) (delivered_of x h) refl (f.bodies x) ∙ ap (λ (more : List ℕ). delivered_of x h ++ more) (sym (brought t now event (bytes_in x event)));
       ends = λ x. row_ended t x e (t.exchange x) (has_ended x h) accepted refl (f.ends x) ∙ ap (λ (b : Bool). (not b && ends_in x event) || has_ended x h) (sym (none_denied (subject t event) (move_of t event)));
@@ -437,6 +456,7 @@ filters_accepted t h now event sound accepted f =
 pub filters_denied : Denies IsFiltered
 filters_denied t h now event refusal f = record {
   requests = λ c. rw append-nil (f.requests c);
+  openers = λ x. rw append-nil (f.openers x);
   heads = λ x. rw append-nil (f.heads x);
   bodies = λ x. rw append-nil (f.bodies x);
   ends = f.ends;

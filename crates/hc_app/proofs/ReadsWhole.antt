@@ -19,7 +19,7 @@ use Rattle.hc_app.specs.Rows.{Tables, Exchange, Consumer, Place, Line, Direct, O
 use Rattle.hc_app.specs.Tables.{tables}
 use Rattle.hc_app.specs.Answers.{accepted_acts, refusal_of, Move, Nothing, Opens, WaitsHead, WaitsBody, Asks, Shows, Gives, Ends, Fails, Closes, acts_of, subject, polled, placed_move, end_by, end_of, is_at, seen, seen_open, head_refusal, piece_refusal}
 use Rattle.hc_app.specs.Runs.{Sound, IsWithin, Reads, IsOf}
-use Rattle.hc_app.specs.Histories.{Showing, each, if_accepted, request_in, request_of, head_of, showings_in, showings_of, given_of, delivered_of, has_ended, IsFiltered}
+use Rattle.hc_app.specs.Histories.{Showing, each, if_accepted, request_in, request_of, opener_of, head_of, showings_in, showings_of, given_of, delivered_of, has_ended, IsFiltered}
 use Rattle.hc_app.specs.Reads.{WasShown, IsShownHead, IsNext, IsAtEnd, IsWhole, ReadsActs, ReadsEach, RunsReadWhole}
 use Rattle.hc_app.proofs.Moves.{Reading, PollDoes, nothing, opens, waits_head, waits_body, asks, shows, gives, ends, fails, poll_does, IsQuiet, none, closes, head_quiet, cancel_quiet}
 use Rattle.hc_app.proofs.OneKey.{row_far}
@@ -568,6 +568,9 @@ body_is h t x w f is = sym (ap (λ (o : Option Exchange). option_map_or (λ (v :
 head_is : (h : History) (t : Tables) (x : ℕ) (w : Exchange) (head : Response) → IsFiltered h t → t.exchange x ≡ Some w → w.head ≡ Some head → head_of x h ≡ Some head
 head_is h t x w head f is headed = sym (f.heads x) ∙ (ap (λ (o : Option Exchange). option_and_then (λ (v : Exchange). v.head) o) is ∙ headed)
 
+opener_is : (h : History) (t : Tables) (x : ℕ) (w : Exchange) → IsFiltered h t → t.exchange x ≡ Some w → opener_of x h ≡ Some w.c
+opener_is h t x w f is = sym (f.openers x) ∙ ap (λ (o : Option Exchange). option_map (λ (v : Exchange). v.c) o) is
+
 module _ (h : History) (t : Tables) (c want : ℕ) (r : Consumer) (is : t.consumer c ≡ Some r) (sound : Sound t) (filtered : IsFiltered h t) (asked : (x : ℕ) → IsAsked h (t.exchange x)) (some_wanted : want ≢ 0) (f : IsReader r t.exchange (showings_of c h) (given_of c h)) where
   -- the offset of what was shown
   offset_is : (s : Showing) → IsShown r (t.exchange s.r) s (given_of c h) → s.lo + length (given_of c h) ≡ r.offset
@@ -606,16 +609,18 @@ module _ (h : History) (t : Tables) (c want : ℕ) (r : Consumer) (is : t.consum
       let end : IsEnd s.hi k.w = subst (λ (v : Exchange). IsEnd s.hi v) same known.end in
       (s, was, whole_end h s.r k.w s.hi r.offset _ (offset_is s known) (body_is h t s.r k.w filtered there) (ended_is h t s.r k.w filtered there) end at_last)
 
-  -- the exchange that it reads has its request
+  -- the exchange that it reads is its own, and has its request
+  own_exchange : (x : ℕ) (k : Reading t r x) → k.w.c ≡ c
+  own_exchange x k = subst (λ (o : Option Exchange). IsOf o c) k.exchange (sound.readers c x (subst (λ (o : Option Consumer). Reads o x) (sym is) k.place))
+
   own_request : (x : ℕ) (k : Reading t r x) → request_of c h ≡ Some k.w.request
-  own_request x k =
-      let of : k.w.c ≡ c = subst (λ (o : Option Exchange). IsOf o c) k.exchange (sound.readers c x (subst (λ (o : Option Consumer). Reads o x) (sym is) k.place)) in
-      subst (λ (d : ℕ). request_of d h ≡ Some k.w.request) of (subst (IsAsked h) k.exchange (asked x))
+  own_request x k = subst (λ (d : ℕ). request_of d h ≡ Some k.w.request) (own_exchange x k) (subst (IsAsked h) k.exchange (asked x))
 
   head_shown : (x : ℕ) (k : Reading t r x) → IsShownHead h c x k.head.status k.head.fields 0 (end_of k.w)
   head_shown x k = record {
     request = k.w.request;
     request_is = own_request x k;
+    opened_for = opener_is h t x k.w filtered k.exchange ∙ ap Some (own_exchange x k);
     response = k.head;
     head_is = head_is h t x k.w k.head filtered k.exchange k.headed;
     status_is = refl;

@@ -1,7 +1,7 @@
 -- What the list of entries says, entry by entry, of a consumer and of an exchange.
 use Rattle.std.specs.Prelude.{◌≡◌, ℕ, List, [], ◌∷◌, ◌++◌, length, Option, Some, None, option_map, option_and_then, if◌then◌else◌, ◌==◌, ◌||◌, ◌&&◌, not, Bool, false}
 use Rattle.std.specs.Option.{option_map_or}
-use Rattle.hc_event.specs.Filters.{is_denied, given_in}
+use Rattle.hc_event.specs.Filters.{Opening, opening_in, is_denied, given_in}
 use Rattle.hc_event.specs.declared.event.Event.{Event}
 use Rattle.hc_event.specs.declared.event.Event.TheVariants as event
 use Rattle.hc_event.specs.declared.event.Request.{Request}
@@ -60,6 +60,15 @@ abbrev pub has_ended : ℕ → History → Bool
 has_ended x [] = false
 has_ended x (e ∷ h) = (not (is_denied e.acts) && ends_in x e.event) || has_ended x h
 
+-- for whom an opening opens the exchange
+abbrev pub opener_in : ℕ → Option Opening → List ℕ
+opener_in x None = []
+opener_in x (Some o) = if o.x == x then o.c ∷ [] else []
+
+-- the consumer for which an exchange was opened
+abbrev pub opener_of : ℕ → History → Option ℕ
+opener_of x h = first (each (λ e. opener_in x (opening_in e.acts)) h)
+
 -- the bytes that a consumer was given
 abbrev pub given_of : ℕ → History → List ℕ
 given_of c h = each (λ e. given_in c e.acts) h
@@ -82,6 +91,7 @@ showings_of c h = each (λ e. showings_in c e.acts) h
 -- the columns of the tables are these
 pub record IsFiltered (h : History) (t : Tables) : Type 0 where
   pub requests : (c : ℕ) → option_map (λ (r : Consumer). r.request) (t.consumer c) ≡ request_of c h
+  pub openers : (x : ℕ) → option_map (λ (w : Exchange). w.c) (t.exchange x) ≡ opener_of x h
   pub heads : (x : ℕ) → option_and_then (λ (w : Exchange). w.head) (t.exchange x) ≡ head_of x h
   pub bodies : (x : ℕ) → option_map_or (λ (w : Exchange). w.body) (t.exchange x) [] ≡ delivered_of x h
   pub ends : (x : ℕ) → option_map_or (λ (w : Exchange). w.is_ended) (t.exchange x) false ≡ has_ended x h

@@ -9,17 +9,18 @@ use Rattle.hc_app.specs.Entries.{History}
 use Rattle.hc_app.specs.Rows.{promised}
 use Rattle.hc_app.specs.Answers.{end_by}
 use Rattle.hc_app.specs.Runs.{IsRun}
-use Rattle.hc_app.specs.Histories.{Showing, request_of, head_of, showings_of, given_of, delivered_of, has_ended}
+use Rattle.hc_app.specs.Histories.{Showing, request_of, opener_of, head_of, showings_of, given_of, delivered_of, has_ended}
 
 -- the consumer was shown this, once
 abbrev pub WasShown : ℕ → History → Showing → Type 0
 WasShown c h s = showings_of c h ≡ s ∷ []
 
--- A consumer is shown the head of the exchange, and its body from the first byte to the end that this head promises for
--- the consumer's request, or, where it promises none, to where the exchange ended, if it has.
+-- A consumer is shown the head of an exchange that was opened for it, and its body from the first byte to the end that
+-- this head promises for the consumer's request, or, where it promises none, to where the exchange ended, if it has.
 pub record IsShownHead (h : History) (c x status : ℕ) (fields : List (List ℕ × List ℕ)) (lo : ℕ) (hi : Option ℕ) : Type 0 where
   pub request : Request
   pub request_is : request_of c h ≡ Some request
+  pub opened_for : opener_of x h ≡ Some c
   pub response : Response
   pub head_is : head_of x h ≡ Some response
   pub status_is : status ≡ response.status

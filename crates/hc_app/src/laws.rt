@@ -16,7 +16,8 @@ pub fn tables_are_filters()
     ensures { RunsAreFiltered }
 {}
 
-/// Each consumer reads one interval of the body of one answer, complete at its clean end.
+/// Each consumer reads one interval of the body of one answer, whose exchange was opened for it,
+/// complete at its clean end.
 pub fn runs_read_whole()
     ensures { RunsReadWhole }
 {}

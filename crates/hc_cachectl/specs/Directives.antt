@@ -1,16 +1,11 @@
 -- What a list of elements asks of a cache.
 use Rattle.std.specs.Prelude.{ℕ, ◌≤◌, ◌==◌, ◌||◌, Bool, List, if◌then◌else◌, codes, bytes_eq, Option, Some, None, IfSome}
 use Rattle.std.specs.Option.{option_map, option_and_then, unwrap_or}
-use Rattle.std.specs.List.{flat_map, list_any, find, before_first, after_first}
+use Rattle.std.specs.List.{list_any, find, before_first, after_first}
 use Rattle.http_header.specs.Token.{lowercase}
-use Rattle.hc_text.specs.Elements.{elements}
-use Rattle.hc_fields.specs.FieldList.{values_of}
+use Rattle.hc_fields.specs.FieldElements.{elements_in}
 use Rattle.hc_cachectl.specs.Seconds.{most_seconds, seconds_of}
 use Rattle.hc_cachectl.specs.declared.directives.Directives.{Directives}
-
--- the elements of all values of a name, in order
-abbrev pub elements_in : List ℕ → List (List ℕ × List ℕ) → List (List ℕ)
-elements_in name fields = flat_map elements (values_of name fields)
 
 abbrev pub is_equals : ℕ → Bool
 is_equals b = b == 61

@@ -1,9 +1,8 @@
 -- The length of a body, for the heads that are built.
-use Rattle.std.proofs.Common.{◌≡◌, ℕ, ◌<◌, ◌≤◌, ◌^◌, List, [], ◌∷◌, length, get_or, Bool, true, false, cond, leb, ltb, Option, Some, None, refl, sym, ◌∙◌, arith, lt-ltb, inl, inr}
+use Rattle.std.proofs.Common.{◌≡◌, ℕ, ◌<◌, ◌≤◌, ◌^◌, List, [], ◌∷◌, ◌++◌, length, Bool, true, false, cond, leb, ltb, Option, Some, None, refl, sym, ap, ◌∙◌, arith, lt-ltb, inl, inr}
 use Rattle.std.specs.Prelude.{codes, ◌&&◌, IfSome, IfNone}
 use Rattle.hc_text.specs.Numbers.{IsNumber}
-use Rattle.std.specs.List.{slice_get}
-use Rattle.std.proofs.lemmas.Option.{slice_get_within, slice_get-get_or}
+use Rattle.std.proofs.lemmas.List.{append-nil}
 use Rattle.std.specs.Fmt.{decimal}
 use Rattle.std.specs.Str.{all_ascii_digits}
 use Rattle.std.specs.Str.Parse.{digits_value, IsNumeral}
@@ -14,10 +13,12 @@ use Rattle.std.proofs.lemmas.Str.Parse.{IsNumeralModel, numerals_by_value, tells
 use Rattle.hc_event.specs.declared.event.Response.{Response}
 use Rattle.hc_app.specs.declared.length.Length.{Length}
 use Rattle.hc_app.specs.declared.length.Length.TheVariants.{Promised}
-use Rattle.hc_fields.specs.FieldList.{values_of}
+use Rattle.hc_text.specs.Elements.{elements}
+use Rattle.hc_fields.specs.FieldElements.{elements_in}
 use Rattle.hc_app.specs.Lengths.{number_of, length_by, length_told}
 use Rattle.hc_app.specs.Schedule.{DeclaresLength}
 use Rattle.hc_app.proofs.Kept.{eqb-same}
+use Rattle.hc_app.proofs.PlainElements.{elements-decimal}
 
 digits : IsNumeralModel (λ ds. all_ascii_digits ds ≡ true) (digits_value 10)
 digits = numerals_by_value _ tells_all_ascii_digits
@@ -37,6 +38,9 @@ number_of-decimal n small =
 told-one : (n : ℕ) → n < 2 ^ 62 → length_told (decimal n ∷ []) ≡ Promised n
 told-one n small = rw (number_of-decimal n small, eqb-same n) refl
 
+told-decimal : (n : ℕ) → n < 2 ^ 62 → length_told (elements (decimal n) ++ []) ≡ Promised n
+told-decimal n small = ap length_told (append-nil (elements (decimal n)) ∙ elements-decimal n (omega arith)) ∙ told-one n small
+
 either_promises : (b : Bool) (l : Length) (n : ℕ) → l ≡ Promised n → (m : ℕ) × (cond b (Promised 0) l ≡ Promised m)
 either_promises true l n is = (0, refl)
 either_promises false l n is = (n, is)
@@ -45,7 +49,7 @@ either_promises false l n is = (n, is)
 pub declared_promises : (is_head : Bool) (response : Response) → DeclaresLength response.fields → (n : ℕ) × (length_by is_head response ≡ Promised n)
 declared_promises is_head response declared =
     let (n, small, is) = declared in
-    let told : length_told (values_of (codes "content-length") response.fields) ≡ Promised n = rw is (told-one n small) in
+    let told : length_told (elements_in (codes "content-length") response.fields) ≡ Promised n = rw is (told-decimal n small) in
     either_promises _ _ n told
 
 leb-le : (m n : ℕ) → leb m n ≡ true → m ≤ n
@@ -75,10 +79,3 @@ number_of-read text None found none =
           absurd (none (digits_value 10 text) (ltb-lt _ _ below, numeral, leb-le _ _ few, refl))
       | inr isnt ↦ sym (rw isnt refl)
     ]
-
--- the value at a place
-pub value_at : (values : List (List ℕ)) (i : ℕ) (value : List ℕ) → Some value ≡ slice_get values i → (i < length values) × (get_or values i [] ≡ value)
-value_at values i value is =
-    let lt : i < length values = slice_get_within values i value (sym is) in
-    let there : Some (get_or values i []) ≡ Some value = sym (slice_get-get_or values i [] lt) ∙ sym is in
-    (lt, cc)

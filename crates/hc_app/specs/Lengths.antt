@@ -3,7 +3,7 @@ use Rattle.std.specs.Prelude.{ℕ, ◌^◌, List, [], ◌∷◌, length, codes, 
 use Rattle.std.specs.List.{list_all}
 use Rattle.std.specs.Str.{all_ascii_digits}
 use Rattle.std.specs.Str.Parse.{digits_value}
-use Rattle.hc_fields.specs.FieldList.{values_of}
+use Rattle.hc_fields.specs.FieldElements.{elements_in}
 use Rattle.hc_event.specs.declared.event.Request.{Request}
 use Rattle.hc_event.specs.declared.event.Response.{Response}
 use Rattle.hc_app.specs.declared.length.Length.{Length}
@@ -21,21 +21,21 @@ abbrev pub told : Option ℕ → Length
 told None = Bad
 told (Some n) = Promised n
 
--- all values spell this number
+-- all elements spell this number
 abbrev pub all_tell : Option ℕ → List (List ℕ) → Bool
-all_tell n values = list_all (λ value. is_same_number n (number_of value)) values
+all_tell n elements = list_all (λ element. is_same_number n (number_of element)) elements
 
--- the values are to spell one number
+-- the elements are to spell one number
 abbrev pub length_told : List (List ℕ) → Length
 length_told [] = Unknown
-length_told (value ∷ values) = if all_tell (number_of value) (value ∷ values) then told (number_of value) else Bad
+length_told (element ∷ elements) = if all_tell (number_of element) (element ∷ elements) then told (number_of element) else Bad
 
 abbrev pub is_head : Request → Bool
 is_head request = bytes_eq request.method (codes "HEAD")
 
 -- the answer to a HEAD, and the statuses 204 and 304, have no body
 abbrev pub length_by : Bool → Response → Length
-length_by is_head response = if is_head || (response.status == 204 || response.status == 304) then Promised 0 else length_told (values_of (codes "content-length") response.fields)
+length_by is_head response = if is_head || (response.status == 204 || response.status == 304) then Promised 0 else length_told (elements_in (codes "content-length") response.fields)
 
 unfoldable pub length_of : Request → Response → Length
 length_of request response = length_by (is_head request) response

@@ -3,6 +3,7 @@ pub mod Reading
 pub mod Reader
 pub mod Entries
 pub mod Lengths
+pub mod LengthSoFar
 pub mod Rows
 pub mod Tables
 pub mod Answers

@@ -1,0 +1,20 @@
+-- What the elements so far tell of the length of a body, read one by one.
+use Rattle.std.specs.Prelude.{ℕ, List, [], ◌∷◌, if◌then◌else◌, Option, Some}
+use Rattle.hc_app.specs.declared.length.Length.{Length}
+use Rattle.hc_app.specs.declared.length.Length.TheVariants.{Unknown, Promised, Bad}
+use Rattle.hc_app.specs.Lengths.{number_of, is_same_number, told}
+
+-- with one more number: the first is promised, and each later one is to be the same
+abbrev pub with_number : Length → Option ℕ → Length
+with_number Unknown number = told number
+with_number (Promised n) number = if is_same_number (Some n) number then Promised n else Bad
+with_number Bad number = Bad
+
+-- with one more element
+abbrev pub with_element : Length → List ℕ → Length
+with_element so_far element = with_number so_far (number_of element)
+
+-- with more elements
+abbrev pub with_elements : Length → List (List ℕ) → Length
+with_elements so_far [] = so_far
+with_elements so_far (element ∷ elements) = with_elements (with_element so_far element) elements

@@ -12,7 +12,8 @@ use Rattle.http_header.specs.Token.{IsToken, is_token_byte, is_value_byte}
 use Rattle.http_header.proofs.TokenLemmas.{AllPass-from_test}
 use Rattle.hc_fields.specs.declared.error.FieldError.{FieldError}
 use Rattle.hc_fields.specs.declared.error.FieldError.TheVariants.{BadName, BadValue, TooMany, TooLong, NoMemory}
-use Rattle.hc_fields.specs.FieldList.{is_blank, is_own_value, Refuses}
+use Rattle.hc_text.specs.Elements.{is_blank}
+use Rattle.hc_fields.specs.FieldList.{is_own_value, Refuses}
 use Rattle.hc_app.proofs.Reading.Plain.{list_all-digits, AllDigits-decimal}
 
 IsToken-content_length : IsToken (codes "content-length")

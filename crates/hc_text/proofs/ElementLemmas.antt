@@ -218,3 +218,13 @@ before_blank text start end from kept blank =
       | inl before ↦ before
       | inr here ↦ let same : end - 1 ≡ start = omega arith in absurd (both_ways (is_blank (get_or text start 0)) kept (ap (λ (n : ℕ). is_blank (get_or text n 0)) (sym same) ∙ blank))
     ]
+
+-- one byte more before the end is a blank
+pub blanks_more : (text : List ℕ) (last stop : ℕ) → is_blank (get_or text last 0) ≡ true
+    → ((k : ℕ) → last < k → k < stop → is_blank (get_or text k 0) ≡ true)
+    → (k : ℕ) → last ≤ k → k < stop → is_blank (get_or text k 0) ≡ true
+blanks_more text last stop blank behind k from below =
+    elim (cases_lt last k) [
+      | inl more ↦ behind k more below
+      | inr less ↦ let same : last ≡ k = omega arith in subst (λ (n : ℕ). is_blank (get_or text n 0) ≡ true) same blank
+    ]

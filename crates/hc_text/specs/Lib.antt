@@ -1,3 +1,4 @@
 pub mod Numbers
 pub mod Elements
 pub mod Items
+pub mod Texts

@@ -33,8 +33,10 @@ pub fn next_item(text: &[u8], from: usize) -> Option<Item>
 /// Where the first element that isn't empty begins, at or after `from`.
 fn first_start(text: &[u8], from: usize) -> Option<usize>
     ensures bounds { IfSome result (λ start. (from ≤ start) × (start < length text.now)) }
-    ensures begins { IfSome result (λ start. (is_blank (slice_index text.now start) ≡ false) × (slice_index text.now start ≢ comma)) }
-    ensures skipped { IfSome result (λ start. elements (drop from text.now) ≡ elements (drop start text.now)) }
+    ensures begins { IfSome result (λ start. (is_blank (slice_index text.now start) ≡ false)
+        × (slice_index text.now start ≢ comma)) }
+    ensures skipped { IfSome result (λ start.
+        elements (drop from text.now) ≡ elements (drop start text.now)) }
     ensures none { IfNone result (elements (drop from text.now) ≡ []) }
 {
     for at in from..text.len() {
@@ -50,7 +52,8 @@ fn first_start(text: &[u8], from: usize) -> Option<usize>
 fn piece_end(text: &[u8], start: usize) -> usize
     requires { start ≤ length text.now }
     ensures bounds { (start ≤ result) × (result ≤ length text.now) }
-    ensures piece { cut Outside (drop start text.now) ≡ begin_with (slice_range text.now start result) (cut Outside (drop result text.now)) }
+    ensures piece { cut Outside (drop start text.now)
+        ≡ begin_with (slice_range text.now start result) (cut Outside (drop result text.now)) }
     ensures ends { result < length text.now → slice_index text.now result ≡ comma }
 {
     let mut at = start;
@@ -69,7 +72,8 @@ fn piece_end(text: &[u8], start: usize) -> usize
 fn string_end(text: &[u8], start: usize) -> usize
     requires { start ≤ length text.now }
     ensures bounds { (start ≤ result) × (result ≤ length text.now) }
-    ensures string { cut Within (drop start text.now) ≡ begin_with (slice_range text.now start result) (cut Outside (drop result text.now)) }
+    ensures string { cut Within (drop start text.now)
+        ≡ begin_with (slice_range text.now start result) (cut Outside (drop result text.now)) }
 {
     let mut taken = false;
     for at in start..text.len() {
@@ -89,7 +93,9 @@ fn trimmed_end(text: &[u8], start: usize, stop: usize) -> usize
     requires bounds { (start < stop) × (stop ≤ length text.now) }
     requires begins { is_blank (slice_index text.now start) ≡ false }
     ensures bounds { (start < result) × (result ≤ stop) }
-    ensures trimmed { trim_end (slice_range text.now start stop) ≡ slice_range text.now start result }
+    ensures trimmed { trim_end (slice_range text.now start stop)
+        ≡ slice_range text.now start result }
+    ensures blanks { (k : ℕ) → result ≤ k → k < stop → is_blank (slice_index text.now k) ≡ true }
 {
     let mut end = stop;
     while is_blank(text[end - 1]) {

@@ -13,5 +13,12 @@ returns-clause-found c =
       not_empty = c.trimmed_end-end.ensures.bounds.0;
       ends_before_next = omega arith;
       within = omega arith;
+      behind = record {
+        stop = c.piece_end-stop.result;
+        bounds = (c.trimmed_end-end.ensures.bounds.1, c.piece_end-stop.ensures.bounds.1);
+        blanks = c.trimmed_end-end.ensures.blanks;
+        at_comma = c.piece_end-stop.ensures.ends;
+        passed = omega (arith, c.min-next.ensures);
+      };
       element = c.in_ok-start.ensures.skipped ∙ first;
     }

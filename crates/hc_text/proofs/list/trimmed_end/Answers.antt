@@ -1,7 +1,7 @@
 use Rattle.std.proofs.Common.{◌≡◌, ◌-◌, ◌+◌, ◌∙◌, sym, ap, arith}
 use Rattle.std.specs.Prelude.{slice_range}
 use Rattle.hc_text.specs.Elements.{trim_end}
-use Rattle.hc_text.proofs.ElementLemmas.{before_blank, trim_end_less, trim_end_here}
+use Rattle.hc_text.proofs.ElementLemmas.{before_blank, blanks_more, trim_end_less, trim_end_here}
 use Rattle.hc_text.proofs.list.trimmed_end.Goals as goal
 
 pub loop-end-preserved : goal.loop-end-preserved
@@ -16,6 +16,7 @@ loop-end-preserved c =
       after = before;
       within = omega arith;
       same = c.loop-end.invariant.same ∙ ap (λ n. trim_end (slice_range text start n)) (sym more) ∙ trim_end_less text start last (omega arith) (omega arith) blank;
+      blanks = blanks_more text last c.args.stop blank (λ k from below. c.loop-end.invariant.blanks k (omega arith) below);
     }
 
 pub returns-clause-trimmed : goal.returns-clause-trimmed

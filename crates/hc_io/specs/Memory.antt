@@ -1,6 +1,6 @@
 -- What sources and sinks in memory hold.
-use Rattle.std.specs.Prelude.{ℕ, List, Contains, Bool, if◌then◌else◌}
-use Rattle.hc_io.specs.Faults.{one_more}
+use Rattle.std.specs.Prelude.{ℕ, List, Contains, Bool}
+use Rattle.hc_io.specs.Faults.{one_more, faults_after}
 
 -- The numbers of the calls that are to fail, from 1, and how many calls and faults there were.
 pub record Script : Type 0 where
@@ -14,7 +14,7 @@ FailsNext s = Contains s.fails (one_more s.calls)
 
 -- A script after one call, which failed or did not.
 abbrev pub after_call : Script → Bool → Script
-after_call s failed = record s { calls = one_more s.calls; faults = if failed then one_more s.faults else s.faults }
+after_call s failed = record s { calls = one_more s.calls; faults = faults_after s.faults failed }
 
 -- A script before the first call.
 abbrev pub unstarted : List ℕ → Script

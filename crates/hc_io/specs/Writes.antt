@@ -1,9 +1,9 @@
 -- What a loop of writes keeps.
-use Rattle.std.specs.Prelude.{ℕ, ◌≤◌, List, take, Option, length}
+use Rattle.std.specs.Prelude.{◌≡◌, ℕ, ◌≤◌, List, take, Option, length}
 use Rattle.hc_io.specs.Sink.{Takes}
 
--- The bytes before a place went in, and the count of faults did not fall.
+-- The bytes before a place went in, and no fault was counted.
 pub record HasWritten (old new : Option (List ℕ)) (before now : ℕ) (bytes : List ℕ) (at : ℕ) : Type 0 where
   pub within : at ≤ length bytes
   pub takes : Takes old new (take at bytes)
-  pub later : before ≤ now
+  pub calm : now ≡ before

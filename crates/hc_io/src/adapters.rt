@@ -1,6 +1,12 @@
-//! Sources and sinks over std's readers and writers. They tell no content.
-ghost use Rattle.std.specs.Prelude.{◌≡◌, ◌+◌, ◌<◌, ◌≤◌, ◌^◌, length, IfSome, None};
-ghost use Rattle.hc_io.specs.Faults.{HasRisen, one_more};
+//! Sources and sinks over std's readers and writers. As a `Source` and a `Sink` they tell no
+//! content; their own contracts say what becomes of the bytes that std knows of.
+ghost use Rattle.std.specs.Prelude.{◌≡◌, ◌+◌, ◌<◌, ◌≤◌, ◌^◌, length, IfOk, IfErr, OnOk, IsErrOf, IfSome, MatchOption, None, take};
+ghost use Rattle.std.specs.Result.{result_unwrap_or, is_err};
+ghost use Rattle.std.specs.Io.KnownBytes.{Keeps, Appends};
+ghost use Rattle.hc_io.specs.Faults.{faults_after};
+ghost use Rattle.hc_io.specs.Sink.{HasSinkCause};
+ghost use Rattle.hc_io.specs.Source.{HasSourceCause};
+ghost use Rattle.hc_io.specs.Adapters.{TakesFrom, ReadsOn, WritesOn};
 
 use crate::sink::{Sink, SinkError};
 use crate::source::{Source, SourceFailed};
@@ -11,7 +17,7 @@ use std::marker::Model;
 const MOST: u64 = 1 << 60;
 
 /// Gives what a reader of std gives. An error of the reader is a fault, and so is a read that would
-/// pass 2^60 bytes in all. It is seen as how many bytes it gave and how often it failed.
+/// pass 2^60 bytes in all. It is seen as its reader, how many bytes it gave and how often it failed.
 #[derive(Drop)]
 pub struct StdSource<R> {
     reader: R,
@@ -21,11 +27,11 @@ pub struct StdSource<R> {
 
 impl<R> Model for StdSource<R> {
     ghost use Rattle.std.specs.Prelude.{◌≤◌, ◌^◌};
-    ghost use Rattle.hc_io.specs.Adapters.{Counts};
+    ghost use Rattle.hc_io.specs.Adapters.{Reading};
 
-    ghost Value = { Counts };
+    ghost Value = { Reading R };
 
-    ghost view = { λ s. record { given = s.given; faults = s.faults } };
+    ghost view = { λ s. record { reader = s.reader; given = s.given; faults = s.faults } };
 
     ghost invariant = { λ s. s.given ≤ 2 ^ 60 };
 }
@@ -33,7 +39,7 @@ impl<R> Model for StdSource<R> {
 impl<R: Read> StdSource<R> {
     /// A source that gave nothing yet.
     pub fn new(from: R) -> Self
-        ensures { result ≡ record { given = 0; faults = 0 } }
+        ensures { result ≡ record { reader = from; given = 0; faults = 0 } }
     {
         StdSource {
             reader: from,
@@ -50,7 +56,18 @@ impl<R: Read> Source for StdSource<R> {
 
     ghost given = { λ s. s.given };
 
-    fn read(&mut self, into: &mut [u8]) -> Result<usize, SourceFailed> {
+    fn read(&mut self, into: &mut [u8]) -> Result<usize, SourceFailed>
+        ensures at_most { IfOk result (λ n. n ≤ length into.old) }
+        ensures count { self.new.given ≡ self.old.given + result_unwrap_or result 0 }
+        ensures in_all { self.new.given ≤ 2 ^ 60 }
+        ensures cause { HasSourceCause self.old.faults self.new.faults result }
+        ensures calm { OnOk result (self.new.faults ≡ self.old.faults) }
+
+        // What is given is what the reader gave, and 0 is its end. A fault is counted once.
+        ensures reads { ReadsOn (R.remaining self.old.reader) (R.remaining self.new.reader)
+            self.old.given into.new result }
+        ensures counted { self.new.faults ≡ faults_after self.old.faults (is_err result) }
+    {
         match read_retrying(&mut self.reader, into) {
             Some(n) if n as u64 <= MOST - self.given => {
                 self.given += n as u64;
@@ -64,11 +81,13 @@ impl<R: Read> Source for StdSource<R> {
     }
 }
 
-/// One read, again where a signal interrupts it. None is an error.
+/// One read, again where a signal interrupts it. None is an error, which took nothing.
 fn read_retrying<R: Read>(reader: &mut R, into: &mut [u8]) -> Option<usize>
-    ensures { IfSome result (λ n. n ≤ length into.old) }
+    ensures at_most { IfSome result (λ n. n ≤ length into.old) }
+    ensures takes { MatchOption result (Keeps (R.remaining reader.old) (R.remaining reader.new))
+        (λ n. TakesFrom (R.remaining reader.old) (R.remaining reader.new) into.new n) }
 {
-    for _ in 0..u64::MAX {
+    'signals: for _ in 0..u64::MAX {
         match reader.read(into) {
             Ok(n) => return Some(n),
             Err(e) => {
@@ -82,7 +101,7 @@ fn read_retrying<R: Read>(reader: &mut R, into: &mut [u8]) -> Option<usize>
 }
 
 /// Hands bytes to a writer of std. An error of the writer is a fault, and so is a write of nothing
-/// where there is something. It is seen as how often it failed.
+/// where there is something. It is seen as its writer and how often it failed.
 #[derive(Drop)]
 pub struct StdSink<W> {
     writer: W,
@@ -90,17 +109,17 @@ pub struct StdSink<W> {
 }
 
 impl<W> Model for StdSink<W> {
-    ghost use Rattle.std.specs.Prelude.{ℕ};
+    ghost use Rattle.hc_io.specs.Adapters.{Writing};
 
-    ghost Value = { ℕ };
+    ghost Value = { Writing W };
 
-    ghost view = { λ s. s.faults };
+    ghost view = { λ s. record { writer = s.writer; faults = s.faults } };
 }
 
 impl<W: Write> StdSink<W> {
     /// A sink that took nothing yet.
     pub fn new(to: W) -> Self
-        ensures { result ≡ 0 }
+        ensures { result ≡ record { writer = to; faults = 0 } }
     {
         StdSink {
             writer: to,
@@ -110,11 +129,23 @@ impl<W: Write> StdSink<W> {
 }
 
 impl<W: Write> Sink for StdSink<W> {
-    ghost faults = { λ s. s };
+    ghost faults = { λ s. s.faults };
 
     ghost taken = { λ _. None };
 
-    fn write(&mut self, from: &[u8]) -> Result<usize, SinkError> {
+    fn write(&mut self, from: &[u8]) -> Result<usize, SinkError>
+        ensures at_most { IfOk result (λ n. n ≤ length from.now) }
+        ensures some { IfOk result (λ n. 0 < length from.now → 0 < n) }
+        ensures cause { HasSinkCause self.old.faults self.new.faults result }
+        ensures calm { OnOk result (self.new.faults ≡ self.old.faults) }
+        ensures no_fault { IsErrOf result SinkError.NoMemory → self.new.faults ≡ self.old.faults }
+
+        // What is taken stands last in the writer. A fault is counted once, and memory never wants.
+        ensures writes { WritesOn (W.contents self.old.writer) (W.contents self.new.writer)
+            from.now result }
+        ensures counted { self.new.faults ≡ faults_after self.old.faults (is_err result) }
+        ensures never { IfErr result (λ e. e ≡ SinkError.SinkFailed) }
+    {
         if from.is_empty() {
             return Ok(0);
         }
@@ -128,11 +159,13 @@ impl<W: Write> Sink for StdSink<W> {
     }
 }
 
-/// One write, again where a signal interrupts it. None is an error.
+/// One write, again where a signal interrupts it. None is an error, which wrote nothing.
 fn write_retrying<W: Write>(writer: &mut W, from: &[u8]) -> Option<usize>
-    ensures { IfSome result (λ n. n ≤ length from.now) }
+    ensures at_most { IfSome result (λ n. n ≤ length from.now) }
+    ensures writes { MatchOption result (Keeps (W.contents writer.old) (W.contents writer.new))
+        (λ n. Appends (W.contents writer.old) (W.contents writer.new) (take n from.now)) }
 {
-    for _ in 0..u64::MAX {
+    'signals: for _ in 0..u64::MAX {
         match writer.write(from) {
             Ok(n) => return Some(n),
             Err(e) => {

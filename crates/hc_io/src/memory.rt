@@ -27,7 +27,12 @@ impl Model for MemorySource {
 
     ghost Value = { SourceState };
 
-    ghost view = { λ s. record { left = drop s.at s.bytes.items; given = s.at; step = s.step; script = s.failures } };
+    ghost view = { λ s. record {
+      left = drop s.at s.bytes.items;
+      given = s.at;
+      step = s.step;
+      script = s.failures;
+    } };
 
     ghost invariant = { λ s. (0 < s.step) × (s.at ≤ vec_len s.bytes) × (vec_len s.bytes ≤ 2 ^ 60) };
 }
@@ -37,7 +42,12 @@ impl MemorySource {
     pub fn new(bytes: Vec<u8>, step: usize, fails: Vec<u64>) -> Self
         requires moves { 0 < step }
         requires small { vec_len bytes ≤ 2 ^ 60 }
-        ensures { result ≡ record { left = bytes.items; given = 0; step = step; script = unstarted fails.items } }
+        ensures { result ≡ record {
+          left = bytes.items;
+          given = 0;
+          step = step;
+          script = unstarted fails.items;
+        } }
     {
         MemorySource {
             bytes,
@@ -57,17 +67,21 @@ impl Source for MemorySource {
 
     fn read(&mut self, into: &mut [u8]) -> Result<usize, SourceFailed>
         ensures at_most { IfOk result (λ n. n ≤ length into.old) }
-        ensures bytes { IfOk result (λ n. Gives (Some self.old.left) (Some self.new.left) (take n into.new)) }
+        ensures bytes { IfOk result (λ n.
+            Gives (Some self.old.left) (Some self.new.left) (take n into.new)) }
         ensures end { result ≡ Ok 0 → 0 < length into.old → IsAtEnd (Some self.new.left) }
         ensures err { OnErr result (Some self.new.left ≡ Some self.old.left) }
-        ensures rest { drop (result_unwrap_or result 0) into.new ≡ drop (result_unwrap_or result 0) into.old }
+        ensures rest { drop (result_unwrap_or result 0) into.new
+            ≡ drop (result_unwrap_or result 0) into.old }
         ensures count { self.new.given ≡ self.old.given + result_unwrap_or result 0 }
         ensures in_all { self.new.given ≤ 2 ^ 60 }
         ensures cause { HasSourceCause self.old.script.faults self.new.script.faults result }
+        ensures calm { OnOk result (self.new.script.faults ≡ self.old.script.faults) }
 
         // It fails exactly at the listed calls, and else gives as many bytes as a call may.
         ensures fails { IsErr result ↔ FailsNext self.old.script }
-        ensures amount { IfOk result (λ n. n ≡ min (min self.old.step (length self.old.left)) (length into.old)) }
+        ensures amount { IfOk result (λ n.
+            n ≡ min (min self.old.step (length self.old.left)) (length into.old)) }
         ensures same_step { self.new.step ≡ self.old.step }
         ensures script { self.new.script ≡ after_call self.old.script (is_err result) }
     {
@@ -125,16 +139,20 @@ impl Sink for MemorySink {
     fn write(&mut self, from: &[u8]) -> Result<usize, SinkError>
         ensures at_most { IfOk result (λ n. n ≤ length from.now) }
         ensures some { IfOk result (λ n. 0 < length from.now → 0 < n) }
-        ensures bytes { IfOk result (λ n. Takes (Some self.old.taken) (Some self.new.taken) (take n from.now)) }
+        ensures bytes { IfOk result (λ n.
+            Takes (Some self.old.taken) (Some self.new.taken) (take n from.now)) }
         ensures err { OnErr result (Some self.new.taken ≡ Some self.old.taken) }
         ensures cause { HasSinkCause self.old.script.faults self.new.script.faults result }
-        ensures no_fault { IsErrOf result SinkError.NoMemory → self.new.script.faults ≡ self.old.script.faults }
+        ensures calm { OnOk result (self.new.script.faults ≡ self.old.script.faults) }
+        ensures no_fault { IsErrOf result SinkError.NoMemory
+            → self.new.script.faults ≡ self.old.script.faults }
 
         // It fails exactly at the listed calls, and else takes all. A call that finds no memory does
         // not count.
         ensures fails { IsErrOf result SinkError.SinkFailed ↔ FailsNext self.old.script }
         ensures all { IfOk result (λ n. n ≡ length from.now) }
-        ensures counted { result ≢ Err SinkError.NoMemory → self.new.script ≡ after_call self.old.script (is_err result) }
+        ensures counted { result ≢ Err SinkError.NoMemory
+            → self.new.script ≡ after_call self.old.script (is_err result) }
         ensures no_memory { IsErrOf result SinkError.NoMemory → self.new ≡ self.old }
     {
         if self.failures.is_next() {

@@ -47,10 +47,12 @@ impl Source for PlainSource {
 
     fn read(&mut self, into: &mut [u8]) -> Result<usize, SourceFailed>
         ensures at_most { IfOk result (λ n. n ≤ length into.old) }
-        ensures bytes { IfOk result (λ n. Gives (Some self.old.left) (Some self.new.left) (take n into.new)) }
+        ensures bytes { IfOk result (λ n.
+            Gives (Some self.old.left) (Some self.new.left) (take n into.new)) }
         ensures end { result ≡ Ok 0 → 0 < length into.old → IsAtEnd (Some self.new.left) }
         ensures err { OnErr result (Some self.new.left ≡ Some self.old.left) }
-        ensures rest { drop (result_unwrap_or result 0) into.new ≡ drop (result_unwrap_or result 0) into.old }
+        ensures rest { drop (result_unwrap_or result 0) into.new
+            ≡ drop (result_unwrap_or result 0) into.old }
         ensures count { self.new.given ≡ self.old.given + result_unwrap_or result 0 }
         ensures in_all { self.new.given ≤ 2 ^ 60 }
         ensures cause { HasSourceCause 0 0 result }

@@ -47,11 +47,13 @@ pub trait Sink {
     fn write(&mut self, from: &[u8]) -> Result<usize, SinkError>
         ensures at_most { IfOk result (λ n. n ≤ length from.now) }
         ensures some { IfOk result (λ n. 0 < length from.now → 0 < n) }
-        ensures bytes { IfOk result (λ n. Takes (taken self.old) (taken self.new) (take n from.now)) }
+        ensures bytes { IfOk result (λ n.
+            Takes (taken self.old) (taken self.new) (take n from.now)) }
         ensures err { OnErr result (taken self.new ≡ taken self.old) }
 
-        // A fault is counted, and want of memory is none.
+        // A fault is counted, and none where none is answered. Want of memory is no fault.
         ensures cause { HasSinkCause (faults self.old) (faults self.new) result }
+        ensures calm { OnOk result (faults self.new ≡ faults self.old) }
         ensures no_fault { IsErrOf result SinkError.NoMemory → faults self.new ≡ faults self.old };
 }
 
@@ -59,7 +61,11 @@ pub trait Sink {
 pub fn write_all<K: Sink>(sink: &mut K, bytes: &[u8]) -> Result<(), SinkError>
     ensures ok { OnOk result (Takes (K.taken sink.old) (K.taken sink.new) bytes.now) }
     ensures front { TakesFront (K.taken sink.old) (K.taken sink.new) bytes.now }
+
+    // SinkFailed comes only where a fault was counted, and nothing else does.
     ensures cause { HasSinkCause (K.faults sink.old) (K.faults sink.new) result }
+    ensures calm { OnOk result (K.faults sink.new ≡ K.faults sink.old) }
+    ensures no_fault { IsErrOf result SinkError.NoMemory → K.faults sink.new ≡ K.faults sink.old }
 {
     let mut at = 0;
     while at < bytes.len() {

@@ -70,14 +70,16 @@ pub trait Source {
 
         // A source that tells its bytes leaves the rest of the slice as it was.
         ensures rest { OnSome (left self.old)
-            (drop (result_unwrap_or result 0) into.new ≡ drop (result_unwrap_or result 0) into.old) }
+            (drop (result_unwrap_or result 0) into.new
+            ≡ drop (result_unwrap_or result 0) into.old) }
 
         // In all at most 2^60 bytes are given.
         ensures count { given self.new ≡ given self.old + result_unwrap_or result 0 }
         ensures in_all { given self.new ≤ 2 ^ 60 }
 
-        // A fault is counted.
-        ensures cause { HasSourceCause (faults self.old) (faults self.new) result };
+        // A fault is counted, and none where none is answered.
+        ensures cause { HasSourceCause (faults self.old) (faults self.new) result }
+        ensures calm { OnOk result (faults self.new ≡ faults self.old) };
 }
 
 /// How many bytes are read at a time, at most.
@@ -85,12 +87,18 @@ const READ_SIZE: usize = 65_536;
 
 /// Reads to the end. After an error some first of the bytes left were taken.
 pub fn read_all<S: Source>(alloc: Global, source: &mut S) -> Result<Vec<u8>, ReadError>
-    ensures ok { IfOk result (λ bytes. GivesAll (S.left source.old) (S.left source.new) bytes.items) }
+    ensures ok { IfOk result (λ bytes.
+        GivesAll (S.left source.old) (S.left source.new) bytes.items) }
     ensures front { GivesFront (S.left source.old) (S.left source.new) }
 
     ensures small { IfOk result (λ bytes. vec_len bytes ≤ 2 ^ 60) }
     ensures count { IfOk result (λ bytes. S.given source.new ≡ S.given source.old + vec_len bytes) }
+
+    // SourceFailed comes only where a fault was counted, and nothing else does.
     ensures cause { HasReadCause (S.faults source.old) (S.faults source.new) result }
+    ensures calm { OnOk result (S.faults source.new ≡ S.faults source.old) }
+    ensures no_fault { IsErrOf result ReadError.NoMemory
+        → S.faults source.new ≡ S.faults source.old }
 {
     let mut bytes = Vec::new(alloc);
     let mut filled = 0;
@@ -125,12 +133,14 @@ fn read_at<S: Source>(source: &mut S, into: &mut [u8], at: usize) -> Result<usiz
     requires { at < length into.old }
     ensures front { take at into.new ≡ take at into.old }
     ensures at_most { IfOk result (λ n. at + n ≤ length into.new) }
-    ensures bytes { IfOk result (λ n. Gives (S.left source.old) (S.left source.new) (take n (drop at into.new))) }
+    ensures bytes { IfOk result (λ n.
+        Gives (S.left source.old) (S.left source.new) (take n (drop at into.new))) }
     ensures end { result ≡ Ok 0 → IsAtEnd (S.left source.new) }
     ensures err { OnErr result (S.left source.new ≡ S.left source.old) }
     ensures count { S.given source.new ≡ S.given source.old + result_unwrap_or result 0 }
     ensures in_all { S.given source.new ≤ 2 ^ 60 }
     ensures cause { HasSourceCause (S.faults source.old) (S.faults source.new) result }
+    ensures calm { OnOk result (S.faults source.new ≡ S.faults source.old) }
 {
     source.read(&mut into[at..])
 }

@@ -92,3 +92,71 @@ fn a_sink_over_std_fails_where_its_writer_takes_nothing(rt: HostRuntime) -> Resu
     assert_eq!(rt; &room, b"abcd");
     Ok(())
 }
+
+/// A reader of std that gives at most 777 bytes in a call, and that a signal interrupts at each third.
+#[derive(Drop)]
+struct Trickle<'a> {
+    left: &'a [u8],
+    calls: u32,
+}
+
+impl io::Read for Trickle<'_> {
+    fn read(&mut self, into: &mut [u8]) -> io::Result<usize> {
+        self.calls = self.calls.wrapping_add(1);
+        if self.calls % 3 == 0 {
+            return Err(ErrorKind::Interrupted.into());
+        }
+        let n = self.left.len().min(into.len()).min(777);
+        let (front, rest) = self.left.split_at(n);
+        into[..n].copy_from_slice(front);
+        self.left = rest;
+        Ok(n)
+    }
+}
+
+/// A writer of std that takes at most 999 bytes in a call, and that a signal interrupts at each third.
+#[derive(Drop)]
+struct Funnel {
+    taken: Vec<u8>,
+    calls: u32,
+}
+
+impl io::Write for Funnel {
+    fn write(&mut self, from: &[u8]) -> io::Result<usize> {
+        self.calls = self.calls.wrapping_add(1);
+        if self.calls % 3 == 0 {
+            return Err(ErrorKind::Interrupted.into());
+        }
+        let n = from.len().min(999);
+        self.taken.extend_from_slice(&from[..n])?;
+        Ok(n)
+    }
+
+    fn flush(&mut self) -> io::Result<()> {
+        Ok(())
+    }
+}
+
+#[test]
+fn moves_many_bytes_in_short_pieces(rt: HostRuntime) -> Result<(), Fail> {
+    let mut bytes = Vec::new(rt.alloc());
+    for i in 0..200_000u32 {
+        bytes.push((i % 251) as u8)?;
+    }
+    let mut source = StdSource::new(Trickle {
+        left: bytes.as_slice(),
+        calls: 0,
+    });
+    let read = read_all(rt.alloc(), &mut source)?;
+    assert!(rt; read.as_slice() == bytes.as_slice());
+
+    let mut to = Funnel {
+        taken: Vec::new(rt.alloc()),
+        calls: 0,
+    };
+    let mut sink = StdSink::new(&mut to);
+    assert_eq!(rt; write_all(&mut sink, bytes.as_slice()), Ok(()));
+    drop(sink);
+    assert!(rt; to.taken.as_slice() == bytes.as_slice());
+    Ok(())
+}

@@ -15,5 +15,5 @@ pub loop-at-preserved : goal.loop-at-preserved
 loop-at-preserved g c = record {
   within = within_next c.args.bytes.now c.loop-at.at c.in_ok-n.n c.loop-at-test.true c.in_ok-n.ensures.at_most;
   takes = takes_next _ _ _ c.args.bytes.now c.loop-at.at c.in_ok-n.n c.loop-at.invariant.takes c.in_ok-n.ensures.bytes;
-  later = omega (arith, c.loop-at.invariant.later, c.in_ok-n.ensures.cause.later);
+  calm = omega (arith, c.loop-at.invariant.calm, c.in_ok-n.ensures.calm);
 }

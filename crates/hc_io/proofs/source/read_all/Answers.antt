@@ -16,5 +16,5 @@ loop-bytes-preserved g c =
       gives = rw is (gives_next _ _ _ c.loop-bytes.bytes.items after c.loop-bytes.filled c.in_ok-n.n before.gives front read.bytes);
       count = omega (arith, read.count, before.count);
       small = omega (arith, read.count, before.count, read.in_all);
-      later = omega (arith, read.cause.later, before.later);
+      calm = omega (arith, read.calm, before.calm);
     }

@@ -1,30 +1,24 @@
--- What kept fields stand for once one was put or some went.
+-- What a text and its marks stand for once a line was put or some went.
 use Rattle.std.specs.Prelude.{filter, slice_get, Some}
 use Rattle.std.proofs.lemmas.Option.{slice_get-map, slice_get-get_or}
-use Rattle.std.proofs.Common.{◌≡◌, ℕ, true, set, get_or, ◌+◌, ◌-◌, ◌<◌, ◌≤◌, List, ◌∷◌, ◌++◌, length, take, drop, map, refl, sym, ◌∙◌, ap, arith}
-use Rattle.std.specs.List.{insert, remove_range}
+use Rattle.std.proofs.Common.{◌≡◌, ℕ, Bool, true, get_or, ◌+◌, ◌-◌, ◌<◌, ◌≤◌, List, [], ◌∷◌, ◌++◌, length, take, drop, map, refl, sym, ◌∙◌, ap, arith, add-zero}
+use Rattle.std.specs.List.{All, remove_range}
 use Rattle.std.specs.Char.{to_ascii_lowercase}
-use Rattle.std.proofs.lemmas.List.{length-map, get_or-map, take-map, drop-map, map-append, append_assoc, take_at, take_more_set, drop-set-lt}
+use Rattle.std.proofs.lemmas.List.{length-map, get_or-map, take-map, drop-map, map-append, take_at, take_all, drop_all, take-append-drop}
+use Rattle.std.proofs.lemmas.List.Elements.{All-append, All-take, All-drop}
 use Rattle.std.proofs.lemmas.List.Sums.{sum_by_more}
 use Rattle.http_header.specs.Token.{lowercase}
-use Rattle.http_header.specs.FieldValue.{plain_value}
 use Rattle.http_header.proofs.TokenLemmas.{IsHeaderName-lowercase}
-use Rattle.hc_fields.specs.declared.field.Field.{Field}
-use Rattle.hc_fields.specs.FieldList.{put, size_of, has_name, without, is_sorted, start_of, end_of, IsField, IsAllowed, HasPlace}
+use Rattle.hc_fields.specs.declared.mark.Mark.{Mark}
+use Rattle.hc_fields.specs.FieldList.{put, size_of, has_name, without, is_sorted, start_of, end_of, IsField, IsFieldList, IsAllowed, HasPlace}
 use Rattle.hc_fields.specs.declared.search.Place.{Place}
 use Rattle.hc_fields.specs.Place.{IsPlace}
-use Rattle.hc_fields.specs.Pairs.{pairs_of, IsKept}
+use Rattle.hc_fields.specs.Lines.{field_text, fields_text}
+use Rattle.hc_fields.specs.Marks.{field_at, fields_at, AreMarked, IsLineAt, IsKept}
 use Rattle.hc_fields.proofs.Sorted.{Pair, is_parted}
 use Rattle.hc_fields.proofs.Edits.{put-insert, put-without, size_of-put, IsFieldList-put, IsFieldList-without}
-
-abbrev pair : Field → Pair
-pair f = (f.name, f.value.bytes)
-
-pub pairs_of-insert : (items : List Field) (i : ℕ) (f : Field) → pairs_of (insert items i f) ≡ insert (pairs_of items) i (f.name, f.value.bytes)
-pairs_of-insert items i f = simp (map-append, take-map, drop-map)
-
-pub pairs_of-remove_range : (items : List Field) (i j : ℕ) → pairs_of (remove_range items i j) ≡ remove_range (pairs_of items) i j
-pairs_of-remove_range items i j = simp (map-append, take-map, drop-map)
+use Rattle.hc_fields.proofs.LineLemmas.{fields_text-push}
+use Rattle.hc_fields.proofs.MarkLemmas.{mark, marks_with, fields_at-with, lines-with}
 
 -- the lowered name and the value of an allowed field
 pub IsField-lowered : (count size : ℕ) (name value : List ℕ) → HasPlace count size name value → IsField (lowercase name, value)
@@ -33,99 +27,161 @@ IsField-lowered count size name value h =
     let own = IsHeaderName-lowercase name (h.is_name, omega arith) in
     record { is_name = own.0.0; is_lower = own.1; is_value = h.is_value; is_short = h.is_short }
 
-pub IsKept-put : (items new : List Field) (size : ℕ) (name value : List ℕ) → IsKept items size → IsAllowed (pairs_of items) name value → pairs_of new ≡ put (lowercase name) value (pairs_of items) → IsKept new (size + (length name + length value))
-IsKept-put items new size name value kept allowed is =
-    let lower : length (lowercase name) ≡ length name = length-map name to_ascii_lowercase in
-    let size_is = size_of-put (lowercase name) value (pairs_of items) in
+pub length-lowercase : (name : List ℕ) → length (lowercase name) ≡ length name
+length-lowercase name = length-map name to_ascii_lowercase
+
+pub length-fields_at : (text : List ℕ) (marks : List Mark) → length (fields_at text marks) ≡ length marks
+length-fields_at text marks = length-map marks (field_at text)
+
+-- a text with a line more, and the marks with that of the line in the place of those from i up to j
+pub record IsPut (text : List ℕ) (marks : List Mark) (name value : List ℕ) (i j : ℕ) (new_text : List ℕ) (new_marks : List Mark) : Type 0 where
+  pub text_is : new_text ≡ text ++ field_text (name, value)
+  pub marks_are : new_marks ≡ marks_with marks i j (mark text name value)
+
+-- the fields of all lines, with this one in the place of those from i up to j
+pub fields-put : (text : List ℕ) (marks : List Mark) (name value : List ℕ) (i j : ℕ) (new_text : List ℕ) (new_marks : List Mark) → All (IsLineAt text) marks → IsPut text marks name value i j new_text new_marks → fields_at new_text new_marks ≡ take i (fields_at text marks) ++ (name, value) ∷ drop j (fields_at text marks)
+fields-put text marks name value i j new_text new_marks lines is =
+    rw (is.text_is, is.marks_are) (fields_at-with text name value marks i j lines)
+
+-- a field that is put at the end of those of its name
+pub put_is : (text : List ℕ) (marks : List Mark) (name value : List ℕ) (at : ℕ) (new_text : List ℕ) (new_marks : List Mark) → All (IsLineAt text) marks → at ≡ end_of name (fields_at text marks) → IsPut text marks name value at at new_text new_marks → fields_at new_text new_marks ≡ put name value (fields_at text marks)
+put_is text marks name value at new_text new_marks lines at_is is =
+    fields-put text marks name value at at new_text new_marks lines is
+    ∙ rw at_is (sym (put-insert name value (fields_at text marks)))
+
+-- a field in the place of those of its name
+pub set_is : (text : List ℕ) (marks : List Mark) (name value : List ℕ) (p : Place) (new_text : List ℕ) (new_marks : List Mark) → All (IsLineAt text) marks → is_sorted (fields_at text marks) ≡ true → IsPlace name (fields_at text marks) p → IsPut text marks name value p.start (p.start + p.count) new_text new_marks → fields_at new_text new_marks ≡ put name value (without name (fields_at text marks))
+set_is text marks name value p new_text new_marks lines sorted place is =
+    fields-put text marks name value p.start (p.start + p.count) new_text new_marks lines is
+    ∙ rw (place.end_is, place.start_is) (sym (put-without name value (fields_at text marks) sorted))
+
+-- the lines stay in order where the new one is the last
+pub text-put : (text : List ℕ) (marks : List Mark) (name value : List ℕ) (i j : ℕ) (new_text : List ℕ) (new_marks : List Mark) → All (IsLineAt text) marks → IsPut text marks name value i j new_text new_marks → i ≡ length marks → i ≤ j → text ≡ fields_text (fields_at text marks) → new_text ≡ fields_text (fields_at new_text new_marks)
+text-put text marks name value i j new_text new_marks lines is i_is order text_is =
+    let fs = fields_at text marks in
+    let len = length-fields_at text marks in
+    let all : take i fs ≡ fs = take_all i fs (omega arith) in
+    let none : drop j fs ≡ [] = drop_all j fs (omega arith) in
+    let own : fields_at new_text new_marks ≡ fs ++ (name, value) ∷ [] =
+    fields-put text marks name value i j new_text new_marks lines is ∙ rw (all, none) refl in
+    is.text_is ∙ (rw own (rw (fields_text-push fs (name, value)) (ap (λ (l : List ℕ). l ++ field_text (name, value)) text_is)))
+
+pub lines-put : (text : List ℕ) (marks : List Mark) (name value : List ℕ) (i j : ℕ) (new_text : List ℕ) (new_marks : List Mark) → All (IsLineAt text) marks → IsPut text marks name value i j new_text new_marks → All (IsLineAt new_text) new_marks
+lines-put text marks name value i j new_text new_marks lines is =
+    rw (is.text_is, is.marks_are) (lines-with text name value marks i j lines)
+
+pub IsKept-put : (text : List ℕ) (marks : List Mark) (size : ℕ) (name value : List ℕ) (at : ℕ) (new_text : List ℕ) (new_marks : List Mark) (in_order new_order : Bool) → IsKept text marks size in_order → IsAllowed (fields_at text marks) name value → at ≡ end_of (lowercase name) (fields_at text marks) → IsPut text marks (lowercase name) value at at new_text new_marks → (new_order ≡ true → (in_order ≡ true) × (at ≡ length marks)) → IsKept new_text new_marks (size + (length name + length value)) new_order
+IsKept-put text marks size name value at new_text new_marks in_order new_order kept allowed at_is is stays =
+    let fs = fields_at text marks in
+    let lines = kept.marked.lines in
+    let lower = length-lowercase name in
+    let size_is = size_of-put (lowercase name) value fs in
     let was = kept.size_is in
     let fits = allowed.fits in
+    let own = put_is text marks (lowercase name) value at new_text new_marks lines at_is is in
     record {
-      list = rw is (IsFieldList-put (lowercase name) value (pairs_of items) kept.list (IsField-lowered _ _ name value allowed) allowed.has_place (omega arith));
-      size_is = rw is (omega arith);
+      marked = record {
+        lines = lines-put text marks (lowercase name) value at at new_text new_marks lines is;
+        list = rw own (IsFieldList-put (lowercase name) value fs kept.marked.list (IsField-lowered _ _ name value allowed) allowed.has_place (omega arith));
+      };
+      size_is = rw own (omega arith);
+      text_is = λ e.
+          let both = stays e in
+          text-put text marks (lowercase name) value at at new_text new_marks lines is both.1 (omega arith) (kept.text_is both.0);
     }
 
--- a field that is inserted at the end of those of its name is put
-pub put_is : (items new : List Field) (at : ℕ) (field : Field) (name value : List ℕ) → pairs_of new ≡ insert (pairs_of items) at (field.name, field.value.bytes) → at ≡ end_of name (pairs_of items) → field.name ≡ name → field.value ≡ plain_value value → pairs_of new ≡ put name value (pairs_of items)
-put_is items new at field name value is at_is name_is value_is =
-    is ∙ rw (at_is, name_is, value_is) (sym (put-insert name value (pairs_of items)))
-
 -- what was tested with the count and the size holds of the list
-pub IsAllowed-kept : (items : List Field) (count size : ℕ) (name value : List ℕ) → IsKept items size → count ≡ length items → HasPlace count size name value → IsAllowed (pairs_of items) name value
-IsAllowed-kept items count size name value kept count_is h =
-    let len = length-map items pair in rw (len, ← count_is, ← kept.size_is) h
+pub IsAllowed-kept : (text : List ℕ) (marks : List Mark) (count size : ℕ) (name value : List ℕ) (in_order : Bool) → IsKept text marks size in_order → count ≡ length marks → HasPlace count size name value → IsAllowed (fields_at text marks) name value
+IsAllowed-kept text marks count size name value in_order kept count_is h =
+    rw (length-fields_at text marks, ← count_is, ← kept.size_is) h
 
 -- the fields of a name, as a part of the list
-pub pairs_of-named : (items : List Field) (name : List ℕ) (start end : ℕ) → is_sorted (pairs_of items) ≡ true → start ≡ start_of name (pairs_of items) → end ≡ end_of name (pairs_of items) → pairs_of (take (end - start) (drop start items)) ≡ filter (has_name name) (pairs_of items)
-pairs_of-named items name start end sorted start_is end_is =
-    let parted = is_parted name (pairs_of items) sorted in
+pub fields_at-named : (text : List ℕ) (marks : List Mark) (name : List ℕ) (start end : ℕ) → is_sorted (fields_at text marks) ≡ true → start ≡ start_of name (fields_at text marks) → end ≡ end_of name (fields_at text marks) → fields_at text (take (end - start) (drop start marks)) ≡ filter (has_name name) (fields_at text marks)
+fields_at-named text marks name start end sorted start_is end_is =
+    let parted = is_parted name (fields_at text marks) sorted in
     let behind = parted.end_is in
-    let count : end - start ≡ length (filter (has_name name) (pairs_of items)) = omega arith in
-    sym (take-map pair (end - start) (drop start items))
-    ∙ rw (← drop-map pair start items, start_is, parted.named, ← start_is, count)
-    (take_at (filter (has_name name) (pairs_of items)) (drop (end_of name (pairs_of items)) (pairs_of items)) _ refl)
-
--- one field stands in the place of those from start up to end
-pub pairs_of-replaced : (items : List Field) (start end : ℕ) (f : Field) → start < end → end ≤ length items → pairs_of (remove_range (set items start f) (start + 1) end) ≡ take start (pairs_of items) ++ (f.name, f.value.bytes) ∷ drop end (pairs_of items)
-pairs_of-replaced items start end f order within =
-    rw (take_more_set items start f (omega arith), drop-set-lt end items start f order)
-    (simp (map-append, take-map, drop-map, append_assoc))
+    let count : end - start ≡ length (filter (has_name name) (fields_at text marks)) = omega arith in
+    sym (take-map (field_at text) (end - start) (drop start marks))
+    ∙ rw (← drop-map (field_at text) start marks, start_is, parted.named, ← start_is, count)
+    (take_at (filter (has_name name) (fields_at text marks)) (drop (end_of name (fields_at text marks)) (fields_at text marks)) _ refl)
 
 abbrev bytes : Pair → ℕ
 bytes f = length f.0 + length f.1
 
 -- the bytes of one more field
-pub size_of-more : (items : List Field) (i : ℕ) (f : Field) → i < length items → f ≡ get_or items i f → size_of (take (i + 1) (pairs_of items)) ≡ size_of (take i (pairs_of items)) + (length f.name + length f.value.bytes)
-size_of-more items i f lt is =
-    let len = length-map items pair in
-    let at : get_or (pairs_of items) i (pair f) ≡ pair f = get_or-map pair items i f (pair f) lt ∙ ap pair (sym is) in
-    sum_by_more bytes (pairs_of items) i (pair f) (omega arith) ∙ rw at refl
+pub size_of-more : (text : List ℕ) (marks : List Mark) (i : ℕ) (d : Mark) → i < length marks → size_of (take (i + 1) (fields_at text marks)) ≡ size_of (take i (fields_at text marks)) + (length (field_at text (get_or marks i d)).0 + length (field_at text (get_or marks i d)).1)
+size_of-more text marks i d lt =
+    let len = length-fields_at text marks in
+    let at : get_or (fields_at text marks) i (field_at text d) ≡ field_at text (get_or marks i d) =
+    get_or-map (field_at text) marks i d (field_at text d) lt in
+    sum_by_more bytes (fields_at text marks) i (field_at text d) (omega arith) ∙ rw at refl
 
-pub length-pairs_of : (items : List Field) → length (pairs_of items) ≡ length items
-length-pairs_of items = length-map items pair
+pub fields_at-remove_range : (text : List ℕ) (marks : List Mark) (i j : ℕ) → fields_at text (remove_range marks i j) ≡ remove_range (fields_at text marks) i j
+fields_at-remove_range text marks i j = simp (map-append, take-map, drop-map)
 
--- the fields but those of a name
-pub left_is : (items new : List Field) (name : List ℕ) (p : Place) → is_sorted (pairs_of items) ≡ true → IsPlace name (pairs_of items) p → new ≡ remove_range items p.start (p.start + p.count) → pairs_of new ≡ without name (pairs_of items)
-left_is items new name p sorted place is =
-    rw (is, pairs_of-remove_range items p.start (p.start + p.count), place.end_is, place.start_is)
-    (sym (is_parted name (pairs_of items) sorted).others)
+-- the fields of all other names are left
+pub left_is : (text : List ℕ) (marks new : List Mark) (name : List ℕ) (p : Place) → is_sorted (fields_at text marks) ≡ true → IsPlace name (fields_at text marks) p → new ≡ remove_range marks p.start (p.start + p.count) → fields_at text new ≡ without name (fields_at text marks)
+left_is text marks new name p sorted place is =
+    let parted = is_parted name (fields_at text marks) sorted in
+    rw (is, fields_at-remove_range text marks p.start (p.start + p.count), place.end_is, place.start_is) (sym parted.others)
 
-pub IsKept-left : (items new : List Field) (size : ℕ) (name : List ℕ) (p : Place) → IsKept items size → IsPlace name (pairs_of items) p → pairs_of new ≡ without name (pairs_of items) → IsKept new (size - p.size)
-IsKept-left items new size name p kept place is =
+pub IsKept-left : (text : List ℕ) (marks new : List Mark) (old : ℕ) (name : List ℕ) (p : Place) (in_order new_order : Bool) → IsKept text marks old in_order → IsPlace name (fields_at text marks) p → new ≡ remove_range marks p.start (p.start + p.count) → (new_order ≡ true → (in_order ≡ true) × (p.count ≡ 0)) → IsKept text new (old - p.size) new_order
+IsKept-left text marks new old name p in_order new_order kept place is stays =
+    let fs = fields_at text marks in
+    let lines = kept.marked.lines in
     let was = kept.size_is in
     let others = place.other_bytes in
+    let left = left_is text marks new name p kept.marked.list.sorted place is in
     record {
-      list = rw is (IsFieldList-without name (pairs_of items) kept.list);
-      size_is = rw is (omega (arith, was, others));
+      marked = record {
+        lines = rw is (All-append (IsLineAt text) (take p.start marks) (drop (p.start + p.count) marks) (All-take (IsLineAt text) p.start marks lines) (All-drop (IsLineAt text) (p.start + p.count) marks lines));
+        list = rw left (IsFieldList-without name fs kept.marked.list);
+      };
+      size_is = rw left (omega (arith, was, others));
+      text_is = λ e.
+          let both = stays e in
+          let same : new ≡ marks = is ∙ rw (both.1, add-zero) (take-append-drop p.start marks) in
+          rw same (kept.text_is both.0);
     }
 
 -- a field in place of those of its name
-pub set_is : (items new : List Field) (field : Field) (name value : List ℕ) (p : Place) → is_sorted (pairs_of items) ≡ true → IsPlace name (pairs_of items) p → pairs_of new ≡ take p.start (pairs_of items) ++ (field.name, field.value.bytes) ∷ drop (p.start + p.count) (pairs_of items) → field.name ≡ name → field.value ≡ plain_value value → pairs_of new ≡ put name value (without name (pairs_of items))
-set_is items new field name value p sorted place is name_is value_is =
-    is ∙ rw (place.end_is, place.start_is, name_is, value_is) (sym (put-without name value (pairs_of items) sorted))
-
-pub IsKept-set : (items new : List Field) (old : ℕ) (name value : List ℕ) (p : Place) → IsKept items old → IsPlace (lowercase name) (pairs_of items) p → IsAllowed (without (lowercase name) (pairs_of items)) name value → pairs_of new ≡ put (lowercase name) value (without (lowercase name) (pairs_of items)) → IsKept new (old - p.size + length name + length value)
-IsKept-set items new old name value p kept place allowed is =
-    let others = without (lowercase name) (pairs_of items) in
-    let lower : length (lowercase name) ≡ length name = length-map name to_ascii_lowercase in
+pub IsKept-set : (text : List ℕ) (marks : List Mark) (old : ℕ) (name value : List ℕ) (p : Place) (new_text : List ℕ) (new_marks : List Mark) (in_order new_order : Bool) → IsKept text marks old in_order → IsPlace (lowercase name) (fields_at text marks) p → IsAllowed (without (lowercase name) (fields_at text marks)) name value → IsPut text marks (lowercase name) value p.start (p.start + p.count) new_text new_marks → (new_order ≡ true → (in_order ≡ true) × (p.start ≡ length marks)) → IsKept new_text new_marks (old - p.size + length name + length value) new_order
+IsKept-set text marks old name value p new_text new_marks in_order new_order kept place allowed is stays =
+    let fs = fields_at text marks in
+    let lines = kept.marked.lines in
+    let others = without (lowercase name) fs in
+    let lower = length-lowercase name in
     let size_is = size_of-put (lowercase name) value others in
     let was = kept.size_is in
     let other_bytes = place.other_bytes in
     let fits = allowed.fits in
+    let own = set_is text marks (lowercase name) value p new_text new_marks lines kept.marked.list.sorted place is in
     record {
-      list = rw is (IsFieldList-put (lowercase name) value others (IsFieldList-without (lowercase name) (pairs_of items) kept.list) (IsField-lowered _ _ name value allowed) allowed.has_place (omega (arith, fits, lower)));
-      size_is = rw is (omega (arith, size_is, lower, was, other_bytes));
+      marked = record {
+        lines = lines-put text marks (lowercase name) value p.start (p.start + p.count) new_text new_marks lines is;
+        list = rw own (IsFieldList-put (lowercase name) value others (IsFieldList-without (lowercase name) fs kept.marked.list) (IsField-lowered _ _ name value allowed) allowed.has_place (omega (arith, fits, lower)));
+      };
+      size_is = rw own (omega (arith, size_is, lower, was, other_bytes));
+      text_is = λ e.
+          let both = stays e in
+          text-put text marks (lowercase name) value p.start (p.start + p.count) new_text new_marks lines is both.1 (omega arith) (kept.text_is both.0);
     }
 
 -- the count and the size of all other fields
-pub others_are : (items : List Field) (old : ℕ) (name : List ℕ) (p : Place) → IsKept items old → IsPlace name (pairs_of items) p → (length items - p.count ≡ length (without name (pairs_of items))) × (old - p.size ≡ size_of (without name (pairs_of items)))
-others_are items old name p kept place =
+pub others_are : (text : List ℕ) (marks : List Mark) (old : ℕ) (name : List ℕ) (p : Place) (in_order : Bool) → IsKept text marks old in_order → IsPlace name (fields_at text marks) p → (length marks - p.count ≡ length (without name (fields_at text marks))) × (old - p.size ≡ size_of (without name (fields_at text marks)))
+others_are text marks old name p in_order kept place =
     let was = kept.size_is in
     let other_count = place.others in
     let other_bytes = place.other_bytes in
-    let len = length-pairs_of items in
+    let len = length-fields_at text marks in
     (omega (arith, other_count, len), omega (arith, was, other_bytes))
 
 -- the value of the field at a place
-pub value_at : (items : List Field) (i : ℕ) (f : Field) → i < length items → f ≡ get_or items i f → slice_get (map (λ (g : Pair). g.1) (pairs_of items)) i ≡ Some f.value.bytes
-value_at items i f lt is =
-    rw (slice_get-map (λ (g : Pair). g.1) (pairs_of items) i, slice_get-map pair items i, slice_get-get_or items i f lt, ← is) refl
+pub value_at : (text : List ℕ) (marks : List Mark) (i : ℕ) (m : Mark) → i < length marks → m ≡ get_or marks i m → slice_get (map (λ (g : Pair). g.1) (fields_at text marks)) i ≡ Some (field_at text m).1
+value_at text marks i m lt is =
+    rw (slice_get-map (λ (g : Pair). g.1) (fields_at text marks) i, slice_get-map (field_at text) marks i, slice_get-get_or marks i m lt, ← is) refl
+
+-- the last field
+pub last_at : (text : List ℕ) (marks : List Mark) (d : Mark) → 1 ≤ length marks → slice_get (fields_at text marks) (length (fields_at text marks) - 1) ≡ Some (field_at text (get_or marks (length marks - 1) d))
+last_at text marks d some =
+    rw (length-fields_at text marks, slice_get-map (field_at text) marks (length marks - 1), slice_get-get_or marks (length marks - 1) d (omega arith)) refl

@@ -2,7 +2,13 @@ pub mod Names
 pub mod Sorted
 pub mod Places
 pub mod Edits
+pub mod MarkLemmas
 pub mod Kept
 pub mod Joins
 pub mod LineLemmas
 pub mod Ends
+pub mod Agreeing
+pub mod Cuts
+pub mod FieldTexts
+pub mod ReadLemmas
+pub mod NextLemmas

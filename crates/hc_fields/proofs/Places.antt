@@ -1,47 +1,77 @@
--- What a binary search over kept fields finds, as a place in their list.
-use Rattle.std.proofs.Common.{◌≡◌, ℕ, ◌<◌, ◌≤◌, Bool, true, false, not, List, [], length, get_or, refl, sym, arith}
-use Rattle.std.specs.List.{AllWithin, position_or_len}
-use Rattle.std.specs.List.Sorted.{IsPartitionedBy}
-use Rattle.std.proofs.lemmas.Bool.{not-true}
+-- What a binary search over marks finds, as a place in the list of their fields.
+use Rattle.std.proofs.Common.{◌≡◌, ℕ, ◌+◌, ◌<◌, ◌≤◌, Bool, true, false, not, List, [], length, get_or, refl, sym, arith}
+use Rattle.std.specs.List.{position_or_len}
+use Rattle.std.proofs.lemmas.Bool.{not-false, both_ways, true_from_ne_false}
 use Rattle.std.proofs.lemmas.List.{length-map, get_or-map}
 use Rattle.std.proofs.lemmas.List.Sums.{position_or_len_is}
-use Rattle.http_header.specs.FieldValue.{plain_value}
-use Rattle.hc_fields.specs.declared.field.Field.{Field}
+use Rattle.hc_fields.specs.declared.mark.Mark.{Mark}
 use Rattle.hc_fields.specs.FieldList.{comes_before, is_sorted}
-use Rattle.hc_fields.specs.Pairs.{pairs_of}
+use Rattle.hc_fields.specs.Marks.{field_at, fields_at}
 use Rattle.hc_fields.proofs.Names.{chain, upto_before}
-use Rattle.hc_fields.proofs.Sorted.{sorted_at}
+use Rattle.hc_fields.proofs.Sorted.{Pair, sorted_at}
 
-abbrev pair : Field → List ℕ × List ℕ
-pair f = (f.name, f.value.bytes)
+-- any mark, for reads past the end of a list
+abbrev pub no_mark : Mark
+no_mark = record { start = 0; colon = 0; end = 0 }
 
-abbrev nobody : Field
-nobody = record { name = []; value = plain_value [] }
+-- how far a search has come: before `low` the test fails, and from `high` on it passes
+pub record Searched (test : Pair → Bool) (fs : List Pair) (low high : ℕ) : Type 0 where
+  pub order : low ≤ high
+  pub within : high ≤ length fs
+  pub fails : (k : ℕ) → k < low → test (get_or fs k ([], [])) ≡ false
+  pub passes : (k : ℕ) → high ≤ k → k < length fs → test (get_or fs k ([], [])) ≡ true
 
--- the place before which a test fails, and from which on it passes
-pub place_is : (test : List ℕ × List ℕ → Bool) (items : List Field) (i : ℕ) → i ≤ length items → AllWithin (λ (f : Field). test (pair f) ≡ false) items 0 i → AllWithin (λ (f : Field). test (pair f) ≡ true) items i (length items) → i ≡ position_or_len test (pairs_of items)
-place_is test items i within fails passes =
-    let len = length-map items pair in
-    sym
-    (position_or_len_is test (pairs_of items) i ([], []) (omega arith)
-    (λ k lt. rw (get_or-map pair items k nobody ([], []) (omega arith)) (fails k nobody (omega arith) lt))
-    (λ lt. rw (get_or-map pair items i nobody ([], []) (omega arith)) (passes i nobody (omega arith) (omega arith))))
+-- where a field fails, so do all before it
+abbrev pub IsRising : (Pair → Bool) → List Pair → Type 0
+IsRising test fs =
+    (i j : ℕ) → i ≤ j → j < length fs → test (get_or fs j ([], [])) ≡ false → test (get_or fs i ([], [])) ≡ false
+
+pub searched_none : (test : Pair → Bool) (fs : List Pair) (high : ℕ) → high ≡ length fs → Searched test fs 0 high
+searched_none test fs high is =
+    record { order = omega arith; within = omega arith; fails = λ k lt. absurd (omega arith); passes = λ k le lt. absurd (omega arith) }
+
+pub searched_right : (test : Pair → Bool) (fs : List Pair) (low middle high : ℕ) → IsRising test fs → Searched test fs low high → middle < high → test (get_or fs middle ([], [])) ≡ false → Searched test fs (middle + 1) high
+searched_right test fs low middle high rising s lt here =
+    let within = s.within in
+    record {
+      order = omega arith;
+      within = within;
+      fails = λ k below. rising k middle (omega arith) (omega arith) here;
+      passes = s.passes;
+    }
+
+pub searched_left : (test : Pair → Bool) (fs : List Pair) (low middle high : ℕ) → IsRising test fs → Searched test fs low high → low ≤ middle → middle < high → test (get_or fs middle ([], [])) ≡ true → Searched test fs low middle
+searched_left test fs low middle high rising s le lt here =
+    let within = s.within in
+    record {
+      order = le;
+      within = omega arith;
+      fails = s.fails;
+      passes = λ k above k_lt. true_from_ne_false _ (λ e. both_ways _ (rising middle k above k_lt e) here);
+    }
+
+pub searched : (test : Pair → Bool) (fs : List Pair) (low high : ℕ) → Searched test fs low high → high ≤ low → low ≡ position_or_len test fs
+searched test fs low high s le =
+    let order = s.order in
+    let within = s.within in
+    sym (position_or_len_is test fs low ([], []) (omega arith) s.fails (λ lt. s.passes low (omega arith) lt))
+
+abbrev pub not_before : List ℕ → Pair → Bool
+not_before name f = not (comes_before f.0 name)
+
+abbrev pub is_behind : List ℕ → Pair → Bool
+is_behind name f = comes_before name f.0
 
 -- no kept field comes before an earlier one
-pub kept_sorted : (items : List Field) → is_sorted (pairs_of items) ≡ true → (i j : ℕ) (d : Field) → i ≤ j → j < length items → comes_before (get_or items j d).name (get_or items i d).name ≡ false
-kept_sorted items sorted i j d le lt =
-    let len = length-map items pair in
-    let at = sorted_at (pairs_of items) i j ([], []) sorted le (omega arith) in
-    rw (get_or-map pair items i d ([], []) (omega arith), get_or-map pair items j d ([], []) lt) at at
+pub rising_start : (name : List ℕ) (fs : List Pair) → is_sorted fs ≡ true → IsRising (not_before name) fs
+rising_start name fs sorted i j le lt h =
+    let before : comes_before (get_or fs j ([], [])).0 name ≡ true = not-false _ h in
+    rw (upto_before (get_or fs i ([], [])).0 (get_or fs j ([], [])).0 name (sorted_at fs i j ([], []) sorted le lt) before) refl
 
-pub before_first : (name : List ℕ) (items : List Field) → is_sorted (pairs_of items) ≡ true → IsPartitionedBy (λ (f : Field). comes_before f.name name) items
-before_first name items sorted i j d le lt h =
-    upto_before (get_or items i d).name (get_or items j d).name name (kept_sorted items sorted i j d le lt) h
+pub rising_end : (name : List ℕ) (fs : List Pair) → is_sorted fs ≡ true → IsRising (is_behind name) fs
+rising_end name fs sorted i j le lt h =
+    chain name (get_or fs j ([], [])).0 (get_or fs i ([], [])).0 h (sorted_at fs i j ([], []) sorted le lt)
 
-to_not : (b : Bool) → b ≡ false → not b ≡ true
-to_not b h = rw h refl
-
-pub upto_first : (name : List ℕ) (items : List Field) → is_sorted (pairs_of items) ≡ true → IsPartitionedBy (λ (f : Field). not (comes_before name f.name)) items
-upto_first name items sorted i j d le lt h =
-    to_not _
-    (chain name (get_or items j d).name (get_or items i d).name (not-true _ h) (kept_sorted items sorted i j d le lt))
+-- the field at a mark of the list
+pub nth_is : (text : List ℕ) (marks : List Mark) (i : ℕ) (d : Mark) → i < length marks → get_or (fields_at text marks) i ([], []) ≡ field_at text (get_or marks i d)
+nth_is text marks i d lt = get_or-map (field_at text) marks i d ([], []) lt

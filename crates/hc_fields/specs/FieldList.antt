@@ -47,12 +47,15 @@ joined_of (v ∷ vs) = Some (v ++ separated_values vs)
 abbrev pub size_of : List (List ℕ × List ℕ) → ℕ
 size_of fs = sum_by (λ f. length f.0 + length f.1) fs
 
+-- no space or tab at an end
+abbrev pub has_own_ends : List ℕ → Bool
+has_own_ends value =
+    length value == 0
+    || not (is_blank (slice_index value 0) || is_blank (slice_index value (length value - 1)))
+
 -- no control byte but the tab, and no space or tab at an end
 abbrev pub is_own_value : List ℕ → Bool
-is_own_value value =
-    list_all is_value_byte value
-    && (length value == 0
-    || not (is_blank (slice_index value 0) || is_blank (slice_index value (length value - 1))))
+is_own_value value = list_all is_value_byte value && has_own_ends value
 
 -- a field may be added where this many fields of this many bytes are
 pub record HasPlace (count size : ℕ) (name value : List ℕ) : Type 0 where
@@ -111,3 +114,8 @@ start_of name fs = position_or_len (λ (f : List ℕ × List ℕ). not (comes_be
 -- the first place whose name comes after this one
 abbrev pub end_of : List ℕ → List (List ℕ × List ℕ) → ℕ
 end_of name fs = position_or_len (λ (f : List ℕ × List ℕ). comes_before name f.0) fs
+
+-- the list has so many fields
+pub record IsListOf (count : ℕ) (fs : List (List ℕ × List ℕ)) : Type 0 where
+  pub list : IsFieldList fs
+  pub count_is : length fs ≡ count

@@ -1,30 +1,114 @@
-//! Fields as lines of text.
-ghost use Rattle.std.specs.Prelude.{◌≡◌, ◌++◌, OnOk, OnErr, vec_len, take};
+//! Lines of fields in a text.
+ghost use Rattle.std.specs.Prelude.{◌≡◌, ◌+◌, ◌<◌, ◌≤◌, ◌∷◌, ◌++◌, length, OnOk, OnErr, IfOk, All, vec_len, vec_capacity, take, drop};
+ghost use Rattle.std.specs.List.{remove_range};
+ghost use Rattle.http_header.specs.Token.{lowercase};
 ghost use Rattle.hc_fields.specs.Lines.{field_text, fields_text};
-ghost use Rattle.hc_fields.specs.Pairs.{pairs_of};
+ghost use Rattle.hc_fields.specs.Marks.{fields_at, mark_of, IsLineAt, IsPacked};
 
-use crate::field::Field;
+use crate::mark::Mark;
 use hc_text::NoMemory;
+use std::alloc::Global;
 
-/// Appends the field's line, or a part of it.
-fn write_line(field: &Field, to: &mut Vec<u8>) -> Result<(), NoMemory>
-    ensures ok { OnOk result (to.new.items ≡ to.old.items ++ field_text (field.now.name, field.now.value.bytes)) }
-    ensures err { OnErr result (take (vec_len to.old) to.new.items ≡ to.old.items) }
+/// Appends the line of a field, its name in lower case, or changes nothing.
+fn push_line(text: &mut Vec<u8>, name: &[u8], value: &[u8]) -> Result<Mark, NoMemory>
+    requires short_name { length name.now ≤ 49152 }
+    requires short_value { length value.now ≤ 49152 }
+    ensures ok { OnOk result
+        (text.new.items ≡ text.old.items ++ field_text (lowercase name.now, value.now)) }
+    ensures mark { IfOk result
+        (λ mark. mark ≡ mark_of (vec_len text.old) (length name.now) (length value.now)) }
+    ensures err { OnErr result (text.new.items ≡ text.old.items) }
 {
-    to.extend_from_slice(field.name.as_bytes())?;
-    to.extend_from_slice(b": ")?;
-    to.extend_from_slice(field.value.as_bytes())?;
-    to.push(b'\n')?;
+    let start = text.len();
+    text.reserve(name.len() + value.len() + 3)?;
+    text.extend_from_slice(name).unwrap();
+    text[start..].make_ascii_lowercase();
+    text.extend_from_slice(b": ").unwrap();
+    text.extend_from_slice(value).unwrap();
+    text.push(b'\n').unwrap();
+    Ok(Mark::new(start, name.len(), value.len()))
+}
+
+/// Puts the mark in the place of those from `start` up to `end`.
+fn put_mark(marks: &mut Vec<Mark>, start: usize, end: usize, mark: Mark)
+    requires order { start ≤ end }
+    requires within { end ≤ vec_len marks.old }
+    requires room { vec_len marks.old < vec_capacity marks.old }
+    ensures { marks.new.items ≡ take start marks.old.items ++ mark ∷ drop end marks.old.items }
+{
+    if start == end {
+        marks.insert(start, mark).unwrap();
+        return;
+    }
+    marks[start] = mark;
+    take_out(marks, start + 1, end);
+}
+
+/// Puts a field in the place of those from `start` up to `end`, or changes nothing. Its line comes
+/// last in the text.
+pub(crate) fn put_line(
+    text: &mut Vec<u8>,
+    marks: &mut Vec<Mark>,
+    start: usize,
+    end: usize,
+    name: &[u8],
+    value: &[u8],
+) -> Result<(), NoMemory>
+    requires order { start ≤ end }
+    requires within { end ≤ vec_len marks.old }
+    requires short_name { length name.now ≤ 49152 }
+    requires short_value { length value.now ≤ 49152 }
+    ensures text { OnOk result
+        (text.new.items ≡ text.old.items ++ field_text (lowercase name.now, value.now)) }
+    ensures marks { OnOk result (marks.new.items ≡ take start marks.old.items
+        ++ mark_of (vec_len text.old) (length name.now) (length value.now)
+        ∷ drop end marks.old.items) }
+    ensures text_stays { OnErr result (text.new.items ≡ text.old.items) }
+    ensures marks_stay { OnErr result (marks.new.items ≡ marks.old.items) }
+{
+    marks.reserve(1)?;
+    let mark = push_line(text, name, value)?;
+    put_mark(marks, start, end, mark);
     Ok(())
 }
 
-/// Appends the lines of the fields, or a part of them.
-pub(crate) fn write_each(fields: &[Field], to: &mut Vec<u8>) -> Result<(), NoMemory>
-    ensures ok { OnOk result (to.new.items ≡ to.old.items ++ fields_text (pairs_of fields.now)) }
+/// Appends the lines at the marks, or a part of them.
+pub(crate) fn write_each(text: &[u8], marks: &[Mark], to: &mut Vec<u8>) -> Result<(), NoMemory>
+    requires { All (IsLineAt text.now) marks.now }
+    ensures ok { OnOk result
+        (to.new.items ≡ to.old.items ++ fields_text (fields_at text.now marks.now)) }
     ensures err { OnErr result (take (vec_len to.old) to.new.items ≡ to.old.items) }
 {
-    for field in fields {
-        write_line(field, to)?;
+    for mark in marks {
+        to.extend_from_slice(mark.line(text))?;
     }
     Ok(())
+}
+
+/// The text of the lines at the marks, in order, with their marks in it.
+pub(crate) fn pack(
+    alloc: Global,
+    text: &[u8],
+    marks: &[Mark],
+) -> Result<(Vec<u8>, Vec<Mark>), NoMemory>
+    requires { All (IsLineAt text.now) marks.now }
+    ensures { IfOk result (λ packed. IsPacked text.now marks.now packed.0.items packed.1.items) }
+{
+    let mut lines = Vec::new(alloc);
+    let mut places = Vec::with_capacity(alloc, marks.len())?;
+    for mark in marks {
+        let start = lines.len();
+        lines.extend_from_slice(mark.line(text))?;
+        places.push(Mark::new(start, mark.name(text).len(), mark.value(text).len()))?;
+    }
+    Ok((lines, places))
+}
+
+/// Takes out the marks from `start` up to `end`.
+pub(crate) fn take_out(marks: &mut Vec<Mark>, start: usize, end: usize)
+    requires order { start ≤ end }
+    requires within { end ≤ vec_len marks.old }
+    ensures { marks.new.items ≡ remove_range marks.old.items start end }
+{
+    marks.drain(start..end);
 }

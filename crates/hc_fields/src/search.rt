@@ -1,13 +1,13 @@
 //! Where the fields of a name stand in a list sorted by name, by binary search.
-ghost use Rattle.std.specs.Prelude.{◌≡◌, ◌≤◌, length, true, filter};
+ghost use Rattle.std.specs.Prelude.{◌≡◌, ◌≤◌, ◌+◌, ◌<◌, length, true, filter, All, MatchBool};
 ghost use Rattle.std.specs.Ordering.{nat_cmp};
 ghost use Rattle.std.specs.Cmp.Lexicographic.{slice_cmp};
 ghost use Rattle.http_header.specs.Token.{lowercase};
-ghost use Rattle.hc_fields.specs.FieldList.{comes_before, is_sorted, start_of, end_of, has_name, size_of, IsFieldList};
-ghost use Rattle.hc_fields.specs.Pairs.{pairs_of};
+ghost use Rattle.hc_fields.specs.FieldList.{comes_before, start_of, end_of, has_name, size_of};
+ghost use Rattle.hc_fields.specs.Marks.{field_at, fields_at, AreMarked, IsLineAt};
 ghost use Rattle.hc_fields.specs.Place.{IsPlace};
 
-use crate::field::Field;
+use crate::mark::Mark;
 use std::cmp::Ordering;
 
 /// How a name, once lowered, compares with bytes.
@@ -19,66 +19,91 @@ fn compare_lowered(name: &[u8], bytes: &[u8]) -> Ordering
         .cmp(bytes.iter().copied())
 }
 
-/// Whether the field's name comes before this one.
-fn is_before(field: &Field, name: &[u8]) -> bool
-    ensures { result ≡ comes_before field.now.name (lowercase name.now) }
+/// Whether the name at the mark comes before this one.
+fn is_before(text: &[u8], mark: Mark, name: &[u8]) -> bool
+    requires { IsLineAt text.now mark }
+    ensures { result ≡ comes_before (field_at text.now mark).0 (lowercase name.now) }
 {
-    compare_lowered(name, field.name.as_bytes()).is_gt()
+    compare_lowered(name, mark.name(text)).is_gt()
 }
 
-/// Whether the field's name comes after this one.
-fn is_after(field: &Field, name: &[u8]) -> bool
-    ensures { result ≡ comes_before (lowercase name.now) field.now.name }
+/// Whether the name at the mark comes after this one.
+fn is_after(text: &[u8], mark: Mark, name: &[u8]) -> bool
+    requires { IsLineAt text.now mark }
+    ensures { result ≡ comes_before (lowercase name.now) (field_at text.now mark).0 }
 {
-    compare_lowered(name, field.name.as_bytes()).is_lt()
+    compare_lowered(name, mark.name(text)).is_lt()
 }
 
 /// Where the fields of a name begin: past all whose names come before it.
-fn start_place(items: &[Field], name: &[u8]) -> usize
-    requires { is_sorted (pairs_of items.now) ≡ true }
-    ensures place { result ≡ start_of (lowercase name.now) (pairs_of items.now) }
-    ensures within { result ≤ length items.now }
+fn start_place(text: &[u8], marks: &[Mark], name: &[u8]) -> usize
+    requires { AreMarked text.now marks.now }
+    ensures place { result ≡ start_of (lowercase name.now) (fields_at text.now marks.now) }
+    ensures within { result ≤ length marks.now }
 {
-    items.partition_point(|field| is_before(field, name))
+    let mut low = 0;
+    let mut high = marks.len();
+    while low < high {
+        let middle = low + (high - low) / 2;
+        if is_before(text, marks[middle], name) {
+            low = middle + 1;
+        } else {
+            high = middle;
+        }
+    }
+    low
 }
 
 /// Where the fields of a name end: before all whose names come after it.
-pub(crate) fn end_place(items: &[Field], name: &[u8]) -> usize
-    requires { is_sorted (pairs_of items.now) ≡ true }
-    ensures place { result ≡ end_of (lowercase name.now) (pairs_of items.now) }
-    ensures within { result ≤ length items.now }
+pub(crate) fn end_place(text: &[u8], marks: &[Mark], name: &[u8]) -> usize
+    requires { AreMarked text.now marks.now }
+    ensures place { result ≡ end_of (lowercase name.now) (fields_at text.now marks.now) }
+    ensures within { result ≤ length marks.now }
 {
-    items.partition_point(|field| !is_after(field, name))
+    let mut low = 0;
+    let mut high = marks.len();
+    while low < high {
+        let middle = low + (high - low) / 2;
+        if is_after(text, marks[middle], name) {
+            high = middle;
+        } else {
+            low = middle + 1;
+        }
+    }
+    low
 }
 
 /// Where the fields of a name begin and end.
-fn places(items: &[Field], name: &[u8]) -> (usize, usize)
-    requires { is_sorted (pairs_of items.now) ≡ true }
-    ensures start { result.0 ≡ start_of (lowercase name.now) (pairs_of items.now) }
-    ensures end { result.1 ≡ end_of (lowercase name.now) (pairs_of items.now) }
+fn places(text: &[u8], marks: &[Mark], name: &[u8]) -> (usize, usize)
+    requires { AreMarked text.now marks.now }
+    ensures start { result.0 ≡ start_of (lowercase name.now) (fields_at text.now marks.now) }
+    ensures end { result.1 ≡ end_of (lowercase name.now) (fields_at text.now marks.now) }
     ensures order { result.0 ≤ result.1 }
-    ensures within { result.1 ≤ length items.now }
+    ensures within { result.1 ≤ length marks.now }
 {
-    (start_place(items, name), end_place(items, name))
+    (start_place(text, marks, name), end_place(text, marks, name))
 }
 
-/// The fields of a name, in any case of it.
-pub(crate) fn named<'a>(items: &'a [Field], name: &[u8]) -> &'a [Field]
-    requires { is_sorted (pairs_of items.now) ≡ true }
-    ensures { pairs_of result.now ≡ filter (has_name (lowercase name.now)) (pairs_of items.now) }
+/// The marks of the fields of a name, in any case of it.
+pub(crate) fn named<'a>(text: &[u8], marks: &'a [Mark], name: &[u8]) -> &'a [Mark]
+    requires { AreMarked text.now marks.now }
+    ensures fields { fields_at text.now result.now
+        ≡ filter (has_name (lowercase name.now)) (fields_at text.now marks.now) }
+    ensures lines { All (IsLineAt text.now) result.now }
 {
-    let (start, end) = places(items, name);
-    &items[start..end]
+    let (start, end) = places(text, marks, name);
+    &marks[start..end]
 }
 
 /// How many bytes the names and values of these fields have.
-fn bytes_of(items: &[Field]) -> usize
-    requires { size_of (pairs_of items.now) ≤ 49152 }
-    ensures { result ≡ size_of (pairs_of items.now) }
+fn bytes_of(text: &[u8], marks: &[Mark]) -> usize
+    requires lines { All (IsLineAt text.now) marks.now }
+    requires small { size_of (fields_at text.now marks.now) ≤ 49152 }
+    ensures { result ≡ size_of (fields_at text.now marks.now) }
 {
     let mut total = 0;
-    for field in items {
-        total += field.name.as_bytes().len() + field.value.as_bytes().len();
+    for mark in marks {
+        total += mark.name(text).len() + mark.value(text).len();
     }
     total
 }
@@ -92,14 +117,14 @@ pub(crate) struct Place {
 }
 
 /// The place of a name, in any case of it.
-pub(crate) fn place_of(items: &[Field], name: &[u8]) -> Place
-    requires { IsFieldList (pairs_of items.now) }
-    ensures { IsPlace (lowercase name.now) (pairs_of items.now) result }
+pub(crate) fn place_of(text: &[u8], marks: &[Mark], name: &[u8]) -> Place
+    requires { AreMarked text.now marks.now }
+    ensures { IsPlace (lowercase name.now) (fields_at text.now marks.now) result }
 {
-    let (start, end) = places(items, name);
+    let (start, end) = places(text, marks, name);
     Place {
         start,
         count: end - start,
-        size: bytes_of(&items[start..end]),
+        size: bytes_of(text, &marks[start..end]),
     }
 }

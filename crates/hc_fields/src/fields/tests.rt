@@ -136,3 +136,115 @@ fn counts_fields_and_bytes(rt: HostRuntime) -> Result<(), Fail> {
     assert_eq!(rt; fields.append(b"x", b""), Ok(()));
     Ok(())
 }
+
+#[test]
+fn adds_tested_fields(rt: HostRuntime) -> Result<(), Fail> {
+    let mut fields = Fields::with_room(rt.alloc(), 2, 20)?;
+    if is_token(b"Vary") && is_own_value(b"a") {
+        fields.append_checked(b"Vary", b"a")?;
+    }
+    if is_token(b"age") && is_own_value(b"7") {
+        fields.append_checked(b"age", b"7")?;
+    }
+    expect_list(&rt, &fields, &[(b"age", b"7"), (b"vary", b"a")])?;
+    let mut lines = Vec::new(rt.alloc());
+    fields.write_lines(&mut lines)?;
+    assert_eq!(rt; lines.as_slice(), b"age: 7\nvary: a\n".as_slice());
+    let none = Fields::with_room(rt.alloc(), usize::MAX, usize::MAX)?;
+    assert_eq!(rt; none.len(), 0);
+    Ok(())
+}
+
+/// So many lines are read from the text, and have so many bytes; or they aren't there.
+fn expect_lines(
+    rt: &(impl Abort + Alloc<A = Global>),
+    text: &[u8],
+    count: u64,
+    want: Option<usize>,
+) -> Result<(), Fail> {
+    match Fields::read_lines(rt.alloc(), text, count)? {
+        None => assert!(rt; want.is_none()),
+        Some((fields, len)) => {
+            assert_eq!(rt; Some(len), want);
+            assert_eq!(rt; fields.len() as u64, count);
+            let mut lines = Vec::new(rt.alloc());
+            fields.write_lines(&mut lines)?;
+            assert!(rt; len <= text.len());
+            assert_eq!(rt; lines.as_slice(), &text[..len]);
+        }
+    }
+    Ok(())
+}
+
+#[test]
+fn reads_lines(rt: HostRuntime) -> Result<(), Fail> {
+    let table: [(&[u8], u64, Option<usize>); 20] = [
+        (b"", 0, Some(0)),
+        (b"rest", 0, Some(0)),
+        (b"", 1, None),
+        (b"a: 1\n", 1, Some(5)),
+        (b"a: 1\nb: 2\n", 1, Some(5)),
+        (b"a: 1\na: 0\nb: \nrest", 3, Some(14)),
+        (b"a: 1\nb: 2\n", 3, None),
+        (b"b: 1\na: 2\n", 2, None),
+        (b"A: 1\n", 1, None),
+        (b": 1\n", 1, None),
+        (b"a b: 1\n", 1, None),
+        (b"a:1\n", 1, None),
+        (b"a:  1\n", 1, None),
+        (b"a: 1 \n", 1, None),
+        (b"a: 1\r\n", 1, None),
+        (b"a: 1", 1, None),
+        (b"a", 1, None),
+        (b"a: x\ty: \xff\n", 1, Some(10)),
+        (b"a: \x7f\n", 1, None),
+        (b"a: 1\n", 81, None),
+    ];
+    for (text, count, want) in table {
+        expect_lines(&rt, text, count, want)?;
+    }
+    Ok(())
+}
+
+#[test]
+fn reads_lines_within_limits(rt: HostRuntime) -> Result<(), Fail> {
+    let mut text = Vec::new(rt.alloc());
+    for _i in 0..81usize {
+        text.extend_from_slice(b"n: v\n")?;
+    }
+    expect_lines(&rt, &text, 80, Some(400))?;
+    expect_lines(&rt, &text, 81, None)?;
+    let mut long = b"n: ".to_vec(rt.alloc())?;
+    long.resize(3 + 8192, b'v')?;
+    long.push(b'\n')?;
+    expect_lines(&rt, &long, 1, Some(8196))?;
+    for _i in 0..6usize {
+        let line = long[..8196.min(long.len())].to_vec(rt.alloc())?;
+        long.extend_from_slice(&line)?;
+    }
+    expect_lines(&rt, &long, 5, Some(5 * 8196))?;
+    expect_lines(&rt, &long, 6, None)?;
+    long.clear();
+    long.extend_from_slice(b"n: ")?;
+    long.resize(3 + 8193, b'v')?;
+    long.push(b'\n')?;
+    expect_lines(&rt, &long, 1, None)
+}
+
+#[test]
+fn copies_only_what_is_left(rt: HostRuntime) -> Result<(), Fail> {
+    let mut fields = Fields::new(rt.alloc())?;
+    for name in [b"b".as_slice(), b"a", b"c"] {
+        fields.append(name, b"1")?;
+    }
+    let copy = fields.copy()?;
+    expect_list(&rt, &copy, &[(b"a", b"1"), (b"b", b"1"), (b"c", b"1")])?;
+    fields.set(b"b", b"2")?;
+    fields.remove(b"c");
+    let copy = fields.copy()?;
+    expect_list(&rt, &copy, &[(b"a", b"1"), (b"b", b"2")])?;
+    let mut lines = Vec::new(rt.alloc());
+    copy.write_lines(&mut lines)?;
+    assert_eq!(rt; lines.as_slice(), b"a: 1\nb: 2\n".as_slice());
+    Ok(())
+}

@@ -1,7 +1,8 @@
 use Rattle.std.proofs.Common.{refl}
 use Rattle.hc_fields.proofs.Kept.{size_of-more}
+use Rattle.hc_fields.proofs.Places.{no_mark}
 use Rattle.hc_fields.proofs.search.bytes_of.Goals as goal
 
-pub loop-field-preserved : goal.loop-field-preserved
-loop-field-preserved c =
-    rw (size_of-more c.args.items.now c.loop-field.field-index c.field-item.result c.loop-field-test.true c.field-item.is, c.as_bytes.ensures.value, c.as_bytes-in-loop-field.ensures.value, c.loop-field.invariant) refl
+pub loop-mark-preserved : goal.loop-mark-preserved
+loop-mark-preserved c =
+    rw (size_of-more c.args.text.now c.args.marks.now c.loop-mark.mark-index no_mark c.loop-mark-test.true, c.name.ensures, c.value.ensures, c.loop-mark.invariant) refl

@@ -4,6 +4,7 @@ use Rattle.std.specs.Cmp.Lexicographic.{slice_cmp}
 use Rattle.std.specs.declared.cmp.Ordering.TheVariants.{Less, Equal, Greater}
 use Rattle.std.proofs.lemmas.Cmp.{nat_list_cmp_total}
 use Rattle.http_header.specs.Token.{lowercase}
+use Rattle.hc_fields.specs.Marks.{field_at}
 use Rattle.hc_fields.proofs.search.is_before.Goals as goal
 
 is_gt-reverse : (o : Ordering) → is_gt (ordering_reverse o) ≡ is_lt o
@@ -13,6 +14,6 @@ is_gt-reverse Greater = refl
 
 pub returns : goal.returns
 returns c =
-    let turned = nat_list_cmp_total.antisymm (lowercase c.args.name.now) c.args.field.now.name in
-    rw (c.is_gt.ensures, c.compare_lowered.ensures, c.as_bytes.ensures.value, turned)
-    (is_gt-reverse (slice_cmp nat_cmp c.args.field.now.name (lowercase c.args.name.now)))
+    let turned = nat_list_cmp_total.antisymm (lowercase c.args.name.now) (field_at c.args.text.now c.args.mark).0 in
+    rw (c.is_gt.ensures, c.compare_lowered.ensures, c.name.ensures, turned)
+    (is_gt-reverse (slice_cmp nat_cmp (field_at c.args.text.now c.args.mark).0 (lowercase c.args.name.now)))

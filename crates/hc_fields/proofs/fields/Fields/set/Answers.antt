@@ -1,35 +1,44 @@
-use Rattle.std.proofs.Common.{refl}
+use Rattle.std.proofs.Common.{◌≡◌, ◌+◌, refl, sym, ◌∙◌}
+use Rattle.std.proofs.lemmas.Bool.{eqb-true, both_ways}
 use Rattle.http_header.specs.Token.{lowercase}
-use Rattle.hc_fields.specs.FieldList.{without}
-use Rattle.hc_fields.specs.Pairs.{pairs_of}
+use Rattle.hc_fields.specs.FieldList.{put, without}
+use Rattle.hc_fields.specs.Marks.{fields_at}
 use Rattle.hc_fields.proofs.Edits.{sorted-without, values_of-put_same, values_of-put_other, values_of-without_same, values_of-without_other}
-use Rattle.hc_fields.proofs.Kept.{set_is, IsKept-set}
+use Rattle.hc_fields.proofs.Kept.{IsPut, length-lowercase, set_is, IsKept-set}
 use Rattle.hc_fields.proofs.fields.Fields.set.Goals as goal
+use Rattle.hc_fields.proofs.fields.Fields.set.Goals.{then-self, else-self}
+
+set : (c : goal.After-self-2-1) → IsPut c.self.inside.text.items c.self.inside.marks.items (lowercase c.args.name.now) c.args.value.now c.place_of-place.result.start (c.place_of-place.result.start + c.place_of-place.result.count) c.put_line.new.text.items c.put_line.new.marks.items
+set c = record { text_is = c.in_ok-put_line.ensures.text; marks_are = c.in_ok-put_line.ensures.marks ∙ rw (length-lowercase c.args.name.now, c.self.inside.text.ok.0) refl }
+
+fields-set : (c : goal.After-self-2-1) → fields_at c.put_line.new.text.items c.put_line.new.marks.items ≡ put (lowercase c.args.name.now) c.args.value.now (without (lowercase c.args.name.now) (fields_at c.self.inside.text.items c.self.inside.marks.items))
+fields-set c =
+    let place = rw (c.deref.ensures.value, c.deref-2.ensures.value) at c.place_of-place.ensures in
+    set_is c.self.inside.text.items c.self.inside.marks.items (lowercase c.args.name.now) c.args.value.now c.place_of-place.result c.put_line.new.text.items c.put_line.new.marks.items c.self.invariant.marked.lines c.self.invariant.marked.list.sorted place (set c)
 
 pub invariant_of-self-2 : goal.invariant_of-self-2
 invariant_of-self-2 c =
-    let place = rw c.as_slice.ensures.value at c.place_of-place.ensures in
+    let place = rw (c.deref.ensures.value, c.deref-2.ensures.value) at c.place_of-place.ensures in
     let allowed = rw (← c.self.view_is) at c.in_default.ensures in
-    let is = set_is c.self.inside.items.items c.replace.new.items.items c.in_ok-field.field (lowercase c.args.name.now) c.args.value.now c.place_of-place.result c.self.invariant.list.sorted place c.in_ok-replace.ensures.ok c.in_ok-field.ensures.0 c.in_ok-field.ensures.1 in
-    IsKept-set c.self.inside.items.items c.replace.new.items.items c.self.inside.size c.args.name.now c.args.value.now c.place_of-place.result c.self.invariant place allowed is
+    IsKept-set c.self.inside.text.items c.self.inside.marks.items c.self.inside.size c.args.name.now c.args.value.now c.place_of-place.result c.put_line.new.text.items c.put_line.new.marks.items c.self.inside.in_order c.if-self.self c.self.invariant place allowed (set c)
+    (λ e. elim c.if-self.branch [
+      | then-self w ↦ (w.if-self.true, eqb-true _ _ (sym w.self-is ∙ e) ∙ (c.len.ensures ∙ c.self.inside.marks.ok.0))
+      | else-self w ↦ absurd (both_ways _ (w.self-is ∙ w.if-self.false) e)
+    ])
 
 pub returns-clause-ok : goal.returns-clause-ok
-returns-clause-ok c =
-    let place = rw c.as_slice.ensures.value at c.place_of-place.ensures in
-    rw c.self.view_is at (set_is c.self.inside.items.items c.replace.new.items.items c.in_ok-field.field (lowercase c.args.name.now) c.args.value.now c.place_of-place.result c.self.invariant.list.sorted place c.in_ok-replace.ensures.ok c.in_ok-field.ensures.0 c.in_ok-field.ensures.1)
+returns-clause-ok c = rw c.self.view_is at (fields-set c)
 
 pub returns-clause-values : goal.returns-clause-values
 returns-clause-values c =
-    let place = rw c.as_slice.ensures.value at c.place_of-place.ensures in
     let name = lowercase c.args.name.now in
-    let fs = pairs_of c.self.inside.items.items in
-    rw (set_is c.self.inside.items.items c.replace.new.items.items c.in_ok-field.field name c.args.value.now c.place_of-place.result c.self.invariant.list.sorted place c.in_ok-replace.ensures.ok c.in_ok-field.ensures.0 c.in_ok-field.ensures.1, values_of-put_same name c.args.value.now (without name fs) (sorted-without name fs c.self.invariant.list.sorted), values_of-without_same name fs) refl
+    let fs = fields_at c.self.inside.text.items c.self.inside.marks.items in
+    rw (fields-set c, values_of-put_same name c.args.value.now (without name fs) (sorted-without name fs c.self.invariant.marked.list.sorted), values_of-without_same name fs) refl
 
 pub returns-clause-others : goal.returns-clause-others
 returns-clause-others c =
-    let place = rw c.as_slice.ensures.value at c.place_of-place.ensures in
     let name = lowercase c.args.name.now in
-    let fs = pairs_of c.self.inside.items.items in
+    let fs = fields_at c.self.inside.text.items c.self.inside.marks.items in
     λ other differ.
-    rw (set_is c.self.inside.items.items c.replace.new.items.items c.in_ok-field.field name c.args.value.now c.place_of-place.result c.self.invariant.list.sorted place c.in_ok-replace.ensures.ok c.in_ok-field.ensures.0 c.in_ok-field.ensures.1, ← c.self.view_is, values_of-put_other name c.args.value.now other (without name fs) differ)
+    rw (fields-set c, ← c.self.view_is, values_of-put_other name c.args.value.now other (without name fs) differ)
     (values_of-without_other name other fs differ)

@@ -5,6 +5,7 @@ use Rattle.hc_fields.proofs.fields.Fields.value.Goals as goal
 
 pub returns : goal.returns
 returns c =
-    let found = c.in_ok-field.ensures.lookup in
-    let is = value_at c.named.result.now c.args.i c.in_ok-field.field.now (ltb-true _ _ (sym found.0)) found.1 in
-    rw (c.as_bytes.ensures.value, ← c.self.view_is) (sym (rw (c.named.ensures, c.as_slice.ensures.value) at is))
+    let found = c.in_ok-mark.ensures.lookup in
+    let is = value_at c.self.inside.text.items c.named.result.now c.args.i c.in_ok-mark.mark.now (ltb-true _ _ (sym found.0)) found.1 in
+    let named = rw (c.deref.ensures.value, c.deref-2.ensures.value) at c.named.ensures.fields in
+    rw (c.value.ensures, c.deref-3.ensures.value, ← c.self.view_is) (sym (rw named at is))

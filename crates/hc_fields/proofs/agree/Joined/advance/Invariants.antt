@@ -1,0 +1,18 @@
+use Rattle.std.proofs.Common.{◌≡◌, ℕ, ◌+◌, ◌*◌, ◌-◌, length, List, Option, Some, None}
+use Rattle.std.specs.Option.{option_copied}
+use Rattle.hc_fields.specs.Joined.{all_values, bytes_left}
+use Rattle.hc_fields.proofs.agree.Joined.advance.Given as goal
+
+-- pieces that are told already
+abbrev pub told : Option (List ℕ) → ℕ
+told None = 0
+told (Some value) = 1
+
+abbrev pub invariant-loop-value : goal.invariant-loop-value
+invariant-loop-value l = record {
+  count : l.self.count ≡ length (all_values l.self);
+  left : bytes_left l.self ≡ bytes_left l.fn.self;
+}
+
+abbrev pub decreases-loop-value : goal.decreases-loop-value
+decreases-loop-value l = 2 * (l.self.count - l.self.next) + told (option_copied l.self.value)

@@ -1,0 +1,37 @@
+//! Which values a field may have.
+ghost use Rattle.std.specs.Prelude.{◌≡◌};
+ghost use Rattle.std.specs.List.{list_all};
+ghost use Rattle.http_header.specs.Token.{is_value_byte};
+ghost use Rattle.hc_fields.specs.FieldList.{is_own_value, has_own_ends};
+
+use hc_text::is_blank;
+
+/// Whether the byte is no control byte but a tab.
+pub(crate) fn is_value_char(b: u8) -> bool
+    ensures { result ≡ is_value_byte b }
+{
+    b == b'\t' || (b >= b' ' && b != 0x7f)
+}
+
+fn has_value_chars(value: &[u8]) -> bool
+    ensures { result ≡ list_all is_value_byte value.now }
+{
+    value.iter().all(|b| is_value_char(*b))
+}
+
+/// Whether no space or tab stands at an end.
+pub(crate) fn has_own_ends(value: &[u8]) -> bool
+    ensures { result ≡ has_own_ends value.now }
+{
+    if value.is_empty() {
+        return true;
+    }
+    !(is_blank(value[0]) || is_blank(value[value.len() - 1]))
+}
+
+/// Whether no byte but a tab is a control byte, and no space or tab stands at an end.
+pub(crate) fn is_own_value(value: &[u8]) -> bool
+    ensures { result ≡ is_own_value value.now }
+{
+    has_value_chars(value) && has_own_ends(value)
+}

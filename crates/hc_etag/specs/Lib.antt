@@ -1,3 +1,5 @@
 pub mod Etags
+pub mod TagTexts
+pub mod PlainTags
 pub mod Tags
 pub mod TagLists

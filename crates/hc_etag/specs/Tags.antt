@@ -2,11 +2,19 @@
 use Rattle.std.specs.Prelude.{◌≡◌, ◌≢◌, ℕ, Bool, true, false, List, [], ◌∷◌, ◌++◌, codes, map}
 use Rattle.hc_text.specs.Elements.{comma, is_blank}
 use Rattle.hc_etag.specs.declared.tag.Tag.{Tag}
-use Rattle.hc_etag.specs.Etags.{IsOpaque, tag_text}
+use Rattle.hc_etag.specs.Etags.{IsOpaque, SpellsOnly, SpellsTag, tag_text}
 
 -- a tag's mark and the bytes between its quotes
 abbrev pub value_of : Tag → Bool × List ℕ
 value_of tag = (tag.weak, tag.opaque)
+
+-- the tag is the text's
+abbrev pub IsTagOf : List ℕ → Tag → Type 0
+IsTagOf text tag = SpellsTag text tag.weak tag.opaque
+
+-- the text is no other tag
+abbrev pub IsOnlyTagOf : List ℕ → Tag → Type 0
+IsOnlyTagOf text tag = SpellsOnly text tag.weak tag.opaque
 
 abbrev pub values_of : List Tag → List (Bool × List ℕ)
 values_of tags = map value_of tags

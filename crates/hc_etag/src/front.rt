@@ -1,7 +1,7 @@
 //! The entity tag that a text begins with.
-ghost use Rattle.std.specs.Prelude.{◌≡◌, ◌≢◌, ℕ, ◌+◌, List, [], ◌∷◌, ◌++◌, IfOk, IfSome, IfNone};
+ghost use Rattle.std.specs.Prelude.{◌≡◌, ◌+◌, IfOk, IfSome, IfNone};
 ghost use Rattle.std.specs.List.{prefix_len};
-ghost use Rattle.hc_etag.specs.Etags.{is_etagc, IsOpaque, tag_text, BeginsTag, quote};
+ghost use Rattle.hc_etag.specs.Etags.{is_etagc, BeginsTag, BeginsWith, IsOpaque, IsQuoted, IsUnquoted};
 
 use crate::tag::Tag;
 use hc_text::{Bytes, NoMemory};
@@ -33,7 +33,8 @@ impl Front<'_> {
 /// The entity tag that the text begins with.
 pub fn front_tag(text: &[u8]) -> Option<Front<'_>>
     ensures opaque { IfSome result (λ front. IsOpaque front.opaque.now) }
-    ensures found { IfSome result (λ front. text.now ≡ tag_text front.weak front.opaque.now ++ front.rest.now) }
+    ensures found { IfSome result
+        (λ front. BeginsWith text.now front.weak front.opaque.now front.rest.now) }
     ensures none { IfNone result (¬ (BeginsTag text.now)) }
 {
     if text.len() >= 2 && text[0] == b'W' && text[1] == b'/' {
@@ -55,8 +56,8 @@ pub fn front_tag(text: &[u8]) -> Option<Front<'_>>
 /// The bytes between the quotes that the text begins with, and what follows the second quote.
 fn front_opaque(text: &[u8]) -> Option<(&[u8], &[u8])>
     ensures opaque { IfSome result (λ front. IsOpaque front.0.now) }
-    ensures found { IfSome result (λ front. text.now ≡ (quote ∷ front.0.now) ++ (quote ∷ front.1.now)) }
-    ensures none { IfNone result ((opaque rest : List ℕ) → IsOpaque opaque → text.now ≢ (quote ∷ opaque) ++ (quote ∷ rest)) }
+    ensures found { IfSome result (λ front. IsQuoted text.now front.0.now front.1.now) }
+    ensures none { IfNone result (IsUnquoted text.now) }
 {
     let (first, inside) = text.split_first()?;
     if *first != b'"' {
@@ -80,7 +81,7 @@ fn opaque_len(text: &[u8]) -> usize
 }
 
 /// Whether the byte may stand between the quotes of a tag.
-fn is_etagc(byte: u8) -> bool
+pub(crate) fn is_etagc(byte: u8) -> bool
     ensures { result ≡ is_etagc byte }
 {
     matches!(byte, 0x21 | 0x23..=0x7e | 0x80..)

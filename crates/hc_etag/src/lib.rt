@@ -5,7 +5,9 @@ mod front;
 mod list;
 mod read;
 mod tag;
+mod text;
 
 pub use list::{TagItems, TagList, read_tag_list};
 pub use read::{read_tag, write_tag};
 pub use tag::{Tag, strong_equal, weak_equal};
+pub use text::{TagText, strong_in, tag_in};

@@ -1,8 +1,7 @@
 //! Lists of entity tags.
-ghost use Rattle.std.specs.Prelude.{◌≡◌, ◌≢◌, ℕ, ◌++◌, List, Bool, true, map, IfOk, IfSome, IfNone, IsSomeAnd, OnErr};
+ghost use Rattle.std.specs.Prelude.{◌≡◌, IfOk, IfSome, IfNone, OnErr};
 ghost use Rattle.hc_etag.specs.Etags.{HasTag};
-ghost use Rattle.hc_etag.specs.Tags.{IsTagList, SpellsTags, any_text, values_of};
-ghost use Rattle.hc_etag.specs.TagLists.{SpellsList, HoldsTags};
+ghost use Rattle.hc_etag.specs.TagLists.{AreTagsOf, HasAll, HoldsOnly, IsNoList, SpellsList, SpellsNone};
 
 use crate::front::front_tag;
 use crate::tag::Tag;
@@ -68,8 +67,8 @@ impl TagList {
 /// fault further on, but of no text without a tag.
 pub fn read_tag_list(alloc: Global, text: &[u8]) -> Result<Option<TagList>, NoMemory>
     ensures found { IfOk result (λ read. IfSome read (SpellsList text.now)) }
-    ensures only { IfOk result (λ read. IfSome read (λ list. (tags : List (Bool × List ℕ)) → IsTagList text.now tags → HoldsTags list tags)) }
-    ensures none { IfOk result (λ read. IfNone read ((text.now ≢ any_text) × ((tags : List (Bool × List ℕ)) → ¬ (IsTagList text.now tags)))) }
+    ensures only { IfOk result (λ read. IfSome read (HoldsOnly text.now)) }
+    ensures none { IfOk result (λ read. IfNone read (IsNoList text.now)) }
     ensures err { OnErr result (HasTag text.now) }
 {
     if text == b"*".as_slice() {
@@ -86,8 +85,9 @@ pub fn read_tag_list(alloc: Global, text: &[u8]) -> Result<Option<TagList>, NoMe
 
 /// The entity tags between commas that the text is, none of them too.
 fn read_tags(alloc: Global, text: &[u8]) -> Result<Option<Vec<Tag>>, NoMemory>
-    ensures found { IfOk result (λ read. IfSome read (λ tags. SpellsTags true text.now (values_of tags.items))) }
-    ensures only { IfOk result (λ read. (tags : List (Bool × List ℕ)) → SpellsTags true text.now tags → IsSomeAnd read (λ found. values_of found.items ≡ tags)) }
+    ensures found { IfOk result (λ read. IfSome read (λ tags. AreTagsOf text.now tags.items)) }
+    ensures only { IfOk result (λ read. IfSome read (λ tags. HasAll text.now tags.items)) }
+    ensures none { IfOk result (λ read. IfNone read (SpellsNone text.now)) }
     ensures err { OnErr result (HasTag text.now) }
 {
     let mut tags = Vec::new(alloc);

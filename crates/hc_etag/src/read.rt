@@ -1,6 +1,7 @@
 //! Entity tags as text.
-ghost use Rattle.std.specs.Prelude.{◌≡◌, ◌≢◌, ℕ, ◌++◌, List, Bool, OnOk, OnErr, IfOk, IfSome, IfNone, IsSomeAnd};
-ghost use Rattle.hc_etag.specs.Etags.{SpellsTag, tag_text};
+ghost use Rattle.std.specs.Prelude.{◌≡◌, ◌++◌, OnOk, OnErr, IfOk, IfSome, IfNone};
+ghost use Rattle.hc_etag.specs.Etags.{IsNoTag, IsTag, tag_text};
+ghost use Rattle.hc_etag.specs.Tags.{IsOnlyTagOf, IsTagOf};
 
 use crate::front::front_tag;
 use crate::tag::Tag;
@@ -11,10 +12,10 @@ use std::alloc::Global;
 ///
 /// Memory is asked for only where the text is a tag.
 pub fn read_tag(alloc: Global, text: &[u8]) -> Result<Option<Tag>, NoMemory>
-    ensures found { IfOk result (λ read. IfSome read (λ tag. SpellsTag text.now tag.weak tag.opaque)) }
-    ensures only { IfOk result (λ read. IfSome read (λ tag. (weak : Bool) (opaque : List ℕ) → SpellsTag text.now weak opaque → (tag.weak ≡ weak) × (tag.opaque ≡ opaque))) }
-    ensures none { IfOk result (λ read. IfNone read ((weak : Bool) (opaque : List ℕ) → ¬ (SpellsTag text.now weak opaque))) }
-    ensures err { OnErr result ((weak : Bool) × (opaque : List ℕ) × SpellsTag text.now weak opaque) }
+    ensures found { IfOk result (λ read. IfSome read (IsTagOf text.now)) }
+    ensures only { IfOk result (λ read. IfSome read (IsOnlyTagOf text.now)) }
+    ensures none { IfOk result (λ read. IfNone read (IsNoTag text.now)) }
+    ensures err { OnErr result (IsTag text.now) }
 {
     let Some(front) = front_tag(text) else {
         return Ok(None);

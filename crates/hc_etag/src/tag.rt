@@ -1,6 +1,6 @@
 //! Entity tags as values.
-ghost use Rattle.std.specs.Prelude.{◌≡◌, false, ◌↔◌, IfOk, IsTrue};
-ghost use Rattle.hc_etag.specs.Etags.{IsOpaque};
+ghost use Rattle.std.specs.Prelude.{◌≡◌, ◌↔◌, IfOk, IsTrue};
+ghost use Rattle.hc_etag.specs.Etags.{AreStronglyEqual, IsOpaque};
 
 use hc_text::{Bytes, NoMemory};
 
@@ -27,7 +27,7 @@ impl Tag {
 
 /// The strong comparison (RFC 9110 section 8.8.3.2): neither tag is weak, and their bytes are equal.
 pub fn strong_equal(a: &Tag, b: &Tag) -> bool
-    ensures { IsTrue result ↔ ((a.now.weak ≡ false) × (b.now.weak ≡ false) × (a.now.opaque ≡ b.now.opaque)) }
+    ensures { IsTrue result ↔ AreStronglyEqual a.now.weak a.now.opaque b.now.weak b.now.opaque }
 {
     !a.weak && !b.weak && weak_equal(a, b)
 }

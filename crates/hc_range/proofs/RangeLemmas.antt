@@ -28,7 +28,9 @@ range_text_spells span total h = (
 pub content_range_text_spells : (span : Span) (total : ℕ) → IsWithin span total → SpellsContentRange (content_range_text span total) (Part span.lo (span.hi - 1) (Some total))
 content_range_text_spells span total h =
     let last = span.hi - 1 in (
+      98 ∷ 121 ∷ 116 ∷ 101 ∷ 115 ∷ 32 ∷ [],
       decimal span.lo ++ 45 ∷ [] ++ decimal last ++ 47 ∷ [] ++ decimal total,
+      refl,
       (
         decimal span.lo ++ 45 ∷ [] ++ decimal last,
         decimal total,

@@ -11,7 +11,7 @@ use Rattle.hc_range.specs.declared.range.Asked.{Asked}
 use Rattle.hc_range.specs.declared.range.Asked.TheVariants.{From, FromTo, Last}
 use Rattle.hc_range.specs.declared.range.ContentRange.{ContentRange}
 use Rattle.hc_range.specs.declared.range.ContentRange.TheVariants.{Part, Unsatisfied}
-use Rattle.hc_range.specs.Ranges.{SpellsPositions, SpellsSpec, SpellsRange, SpellsTotal, SpellsResponse}
+use Rattle.hc_range.specs.Ranges.{SpellsPositions, SpellsSpec, SpellsRange, SpellsTotal, SpellsResponse, SpellsContentRange}
 
 abbrev other : ℕ → ℕ → Bool
 other c b = not (eqb b c)
@@ -101,15 +101,23 @@ asks_positions text a b e lacks some more (FromTo first last) h = (first, last, 
 asks_positions text a b e lacks some more (Last n) h = absurd (some (ap length (spec_at text a b e lacks (Last n) h).0))
 
 -- the unit and what follows it
+unit_at : (word text unit rest x y : List ℕ) → length word ≡ 6 → unit ≡ take 6 text → rest ≡ drop 6 text → map to_ascii_lowercase x ≡ word → text ≡ x ++ y
+    → (unit ≡ x) × (rest ≡ y)
+unit_at word text unit rest x y six eu er lower e =
+    let long : length x ≡ 6 = sym (length-map x to_ascii_lowercase) ∙ ap length lower ∙ six in
+    (eu ∙ ap (take 6) e ∙ take_at x y 6 long, er ∙ ap (drop 6) e ∙ drop_at x y 6 long)
+
 pub range_at : (text unit spec : List ℕ) → unit ≡ take 6 text → spec ≡ drop 6 text → (asked : Asked) → SpellsRange text asked
     → (map to_ascii_lowercase unit ≡ 98 ∷ 121 ∷ 116 ∷ 101 ∷ 115 ∷ 61 ∷ []) × SpellsSpec spec asked
 range_at text unit spec eu es asked h =
-    let x = h.0 in
-    let y = h.1 in
-    let long : length x ≡ 6 = sym (length-map x to_ascii_lowercase) ∙ ap length h.2 in
-    let same_unit : unit ≡ x = eu ∙ ap (take 6) h.4 ∙ take_at x y 6 long in
-    let same_spec : spec ≡ y = es ∙ ap (drop 6) h.4 ∙ drop_at x y 6 long in
-    (ap (map to_ascii_lowercase) same_unit ∙ h.2, subst (λ (t : List ℕ). SpellsSpec t asked) (sym same_spec) h.3)
+    let same = unit_at (98 ∷ 121 ∷ 116 ∷ 101 ∷ 115 ∷ 61 ∷ []) text unit spec h.0 h.1 refl eu es h.2 h.4 in
+    (ap (map to_ascii_lowercase) same.0 ∙ h.2, subst (λ (t : List ℕ). SpellsSpec t asked) (sym same.1) h.3)
+
+pub content_range_at : (text unit response : List ℕ) → unit ≡ take 6 text → response ≡ drop 6 text → (range : ContentRange) → SpellsContentRange text range
+    → (map to_ascii_lowercase unit ≡ 98 ∷ 121 ∷ 116 ∷ 101 ∷ 115 ∷ 32 ∷ []) × SpellsResponse response range
+content_range_at text unit response eu er range h =
+    let same = unit_at (98 ∷ 121 ∷ 116 ∷ 101 ∷ 115 ∷ 32 ∷ []) text unit response h.0 h.1 refl eu er h.2 h.4 in
+    (ap (map to_ascii_lowercase) same.0 ∙ h.2, subst (λ (t : List ℕ). SpellsResponse t range) (sym same.1) h.3)
 
 -- positions have no slash, and are no asterisk
 lacks_slash : (text : List ℕ) (first last : ℕ) → SpellsPositions text first last → LacksByte 47 text

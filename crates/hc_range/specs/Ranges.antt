@@ -34,6 +34,8 @@ SpellsResponse text (Part first last total) =
     (positions : List ℕ) × (length : List ℕ) × SpellsPositions positions first last × SpellsTotal length last total × (text ≡ positions ++ codes "/" ++ length)
 SpellsResponse text (Unsatisfied total) = (length : List ℕ) × IsNumber length total × (text ≡ codes "*/" ++ length)
 
--- Content-Range, with one space
+-- Content-Range, the unit in any case, since names of range units are compared without case (RFC 9110 section 14.1), and
+-- with one space
 abbrev pub SpellsContentRange : List ℕ → ContentRange → Type 0
-SpellsContentRange text range = (response : List ℕ) × SpellsResponse response range × (text ≡ codes "bytes " ++ response)
+SpellsContentRange text range =
+    (unit : List ℕ) × (response : List ℕ) × (str_to_ascii_lowercase unit ≡ codes "bytes ") × SpellsResponse response range × (text ≡ unit ++ response)

@@ -45,7 +45,8 @@ fn read_spec(text: &[u8]) -> Option<Asked>
 /// A first and a last position.
 fn read_positions(text: &[u8]) -> Option<(u64, u64)>
     ensures found { IfSome result (λ p. SpellsPositions text.now p.0 p.1) }
-    ensures spelled { (first last : ℕ) → SpellsPositions text.now first last → result ≡ Some (first, last) }
+    ensures spelled { (first last : ℕ) → SpellsPositions text.now first last
+        → result ≡ Some (first, last) }
 {
     let (first, last) = split_once(text, b'-')?;
     let first = read_number(first)?;
@@ -56,14 +57,15 @@ fn read_positions(text: &[u8]) -> Option<(u64, u64)>
     Some((first, last))
 }
 
-/// What a Content-Range field tells: `bytes a-b/t`, `bytes a-b/*` or `bytes */t`, with one space, a
-/// at most b, and b below t. It is None exactly where the text is none of these.
+/// What a Content-Range field tells: `bytes ` in any case, then `a-b/t`, `a-b/*` or `*/t`, with one
+/// space, a at most b, and b below t. It is None exactly where the text is none of these.
 pub fn read_content_range(text: &[u8]) -> Option<ContentRange>
     ensures found { IfSome result (SpellsContentRange text.now) }
-    ensures spelled { (range : ContentRange) → SpellsContentRange text.now range → result ≡ Some range }
+    ensures spelled { (range : ContentRange) → SpellsContentRange text.now range
+        → result ≡ Some range }
 {
     let (unit, response) = text.split_at_checked(UNIT_LEN)?;
-    if unit != b"bytes ".as_slice() {
+    if !unit.eq_ignore_ascii_case(b"bytes ") {
         return None;
     }
     read_response(response)
@@ -160,7 +162,7 @@ mod tests {
 
     #[test]
     fn reads_content_ranges(rt: HostRuntime) {
-        let table: [(&str, Option<ContentRange>); 24] = [
+        let table: [(&str, Option<ContentRange>); 26] = [
             ("bytes 42-1233/1234", part(42, 1233, Some(1234))),
             ("bytes 42-1233/*", part(42, 1233, None)),
             (
@@ -179,7 +181,9 @@ mod tests {
                 ),
             ),
             ("bytes 0-1/4611686018427387904", None),
-            ("Bytes 0-1/2", None),
+            ("Bytes 0-1/2", part(0, 1, Some(2))),
+            ("bYTES */2", Some(ContentRange::Unsatisfied { total: 2 })),
+            ("Byte 0-1/2", None),
             ("bytes  0-1/2", None),
             ("bytes 0-1/2 ", None),
             ("bytes=0-1/2", None),

@@ -10,7 +10,8 @@ pub fn resolve(asked: Asked, total: u64) -> Option<Span>
     requires { IsInOrder asked }
     ensures value { result ≡ resolved asked total }
     ensures bounds { IfSome result (λ span. (span.lo < span.hi) × (span.hi ≤ total)) }
-    ensures positions { IfSome result (λ span. (p : ℕ) → Holds span p ↔ (Asks asked total p × (p < total))) }
+    ensures positions { IfSome result (λ span.
+        (p : ℕ) → Holds span p ↔ (Asks asked total p × (p < total))) }
     ensures none { IfNone result ((p : ℕ) → ¬ (Asks asked total p × (p < total))) }
 {
     let (lo, hi) = match asked {

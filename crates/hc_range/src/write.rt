@@ -34,7 +34,8 @@ pub fn write_content_range(span: Span, total: u64, to: &mut Vec<u8>) -> Result<(
     requires { IsWithin span total }
     ensures ok { OnOk result (to.new.items ≡ to.old.items ++ content_range_text span total) }
     ensures err { OnErr result (to.new.items ≡ to.old.items) }
-    ensures read_back { SpellsContentRange (content_range_text span total) (Part span.lo (span.hi - 1) (Some total)) }
+    ensures read_back { SpellsContentRange (content_range_text span total)
+        (Part span.lo (span.hi - 1) (Some total)) }
 {
     to.reserve(68)?;
     to.extend_from_slice(b"bytes ")?;

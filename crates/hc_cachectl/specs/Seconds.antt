@@ -1,14 +1,19 @@
 -- Numbers of seconds in the arguments of directives.
-use Rattle.std.specs.Prelude.{ℕ, ◌^◌, ◌==◌, min, List, [], ◌∷◌, if◌then◌else◌, Option, Some, None}
+use Rattle.std.specs.Prelude.{◌≡◌, ℕ, ◌+◌, ◌*◌, ◌^◌, ◌==◌, min, true, List, [], ◌∷◌, if◌then◌else◌, Option, Some, None}
 use Rattle.std.specs.Option.{option_map, option_and_then}
 use Rattle.std.specs.List.{list_all}
-use Rattle.std.specs.Char.{is_ascii_digit}
+use Rattle.std.specs.Char.{is_ascii_digit, digit_value}
 use Rattle.std.specs.Str.Parse.{digits_value}
 use Rattle.hc_text.specs.Elements.{quote, backslash}
 
 -- more seconds count as this many
 abbrev pub most_seconds : ℕ
 most_seconds = 2 ^ 31
+
+-- the byte is a digit, and behind it the seconds are this many
+abbrev pub GrowsBy : ℕ → ℕ → ℕ → Type 0
+GrowsBy digit seconds more =
+    (is_ascii_digit digit ≡ true) × (more ≡ min (seconds * 10 + digit_value digit) most_seconds)
 
 -- one or more digits, however many
 abbrev pub plain_seconds : List ℕ → Option ℕ

@@ -49,7 +49,8 @@ impl<'a> Directive<'a> {
 
     /// Its argument, where it has this name.
     pub(crate) fn argument_to(&self, name: &[u8]) -> Option<Argument>
-        ensures { result ≡ (if bytes_eq (lowercase self.now.name.now) (lowercase name.now) then Some self.now.argument else None) }
+        ensures { result ≡ (if bytes_eq (lowercase self.now.name.now) (lowercase name.now)
+            then Some self.now.argument else None) }
     {
         if self.is(name) {
             Some(self.argument)

@@ -7,6 +7,7 @@ mod found;
 mod seconds;
 
 pub use directives::{Directives, read_request, read_response};
+pub use seconds::read_delta_seconds;
 
 #[cfg(test)]
 mod tests;

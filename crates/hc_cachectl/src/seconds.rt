@@ -1,8 +1,8 @@
 //! Numbers of seconds in arguments.
-ghost use Rattle.std.specs.Prelude.{◌≡◌, ◌≤◌, ◌+◌, ◌*◌, min, true, false, MatchOption};
+ghost use Rattle.std.specs.Prelude.{◌≡◌, ◌≤◌, ◌+◌, ◌*◌, min, true, false, IfSome, MatchOption};
 ghost use Rattle.std.specs.Char.{is_ascii_digit, digit_value};
 ghost use Rattle.std.specs.Option.{option_and_then};
-ghost use Rattle.hc_cachectl.specs.Seconds.{most_seconds, plain_seconds, unquoted, seconds_of};
+ghost use Rattle.hc_cachectl.specs.Seconds.{GrowsBy, most_seconds, plain_seconds, unquoted, seconds_of};
 
 /// More seconds count as this many (RFC 9111 section 1.2.2).
 pub(crate) const MOST: u64 = 1 << 31;
@@ -14,13 +14,14 @@ pub(crate) fn read_seconds(argument: &[u8]) -> Option<u64>
 {
     match argument {
         [b'"', text @ ..] => read_quoted(text),
-        _ => read_plain(argument),
+        _ => read_delta_seconds(argument),
     }
 }
 
-/// The seconds that digits tell.
-fn read_plain(digits: &[u8]) -> Option<u64>
-    ensures { result ≡ plain_seconds digits.now }
+/// The seconds that one or more digits tell, however many (RFC 9111 section 1.2.2): 2^31 above that.
+pub fn read_delta_seconds(digits: &[u8]) -> Option<u64>
+    ensures value { result ≡ plain_seconds digits.now }
+    ensures capped { IfSome result (λ n. n ≤ most_seconds) }
 {
     let mut seconds = None;
     for &digit in digits {
@@ -52,8 +53,7 @@ fn read_quoted(text: &[u8]) -> Option<u64>
 /// The seconds with one more digit, None where it isn't one.
 fn with_digit(seconds: u64, digit: u8) -> Option<u64>
     requires { seconds ≤ most_seconds }
-    ensures { MatchOption result (is_ascii_digit digit ≡ false)
-        (λ more. (is_ascii_digit digit ≡ true) × (more ≡ min (seconds * 10 + digit_value digit) most_seconds)) }
+    ensures { MatchOption result (is_ascii_digit digit ≡ false) (GrowsBy digit seconds) }
 {
     if digit.is_ascii_digit() {
         let more = seconds * 10 + u64::from(digit - b'0');

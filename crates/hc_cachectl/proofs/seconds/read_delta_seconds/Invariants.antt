@@ -2,7 +2,7 @@ use Rattle.std.proofs.Common.{◌≡◌, ◌≤◌, drop}
 use Rattle.std.specs.Option.{unwrap_or}
 use Rattle.hc_cachectl.specs.Seconds.{most_seconds, plain_seconds}
 use Rattle.hc_cachectl.proofs.Steps.{seconds_after}
-use Rattle.hc_cachectl.proofs.seconds.read_plain.Given as goal
+use Rattle.hc_cachectl.proofs.seconds.read_delta_seconds.Given as goal
 
 abbrev pub invariant-loop-digit : goal.invariant-loop-digit
 invariant-loop-digit l = record {

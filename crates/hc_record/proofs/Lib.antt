@@ -1,7 +1,6 @@
 pub mod Totals
-pub mod Cuts
 pub mod TakenParts
 pub mod Once
-pub mod FieldTexts
+pub mod JoiningLemmas
 pub mod Stages
 pub mod SameRecords

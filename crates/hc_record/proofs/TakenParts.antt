@@ -8,8 +8,9 @@ use Rattle.std.specs.Fmt.{decimal}
 use Rattle.std.proofs.lemmas.List.{append_assoc, take_at}
 use Rattle.hc_text.specs.Numbers.{IsPlain, IsNumber}
 use Rattle.hc_record.specs.Lines.{ended, IsSmall, IsSmallTotal, total_text}
-use Rattle.hc_record.specs.Reading.{Takes, lacks}
-use Rattle.hc_record.proofs.Cuts.{cut_once, lacks-decimal}
+use Rattle.hc_record.specs.Reading.{Takes}
+use Rattle.hc_text.specs.Texts.{lacks}
+use Rattle.hc_fields.proofs.Cuts.{cut_once, lacks-decimal}
 use Rattle.hc_record.proofs.Totals.{length-total_text, IsNumber-total}
 
 ended_is : (e n : ℕ) (after : List ℕ) → ended e n ++ after ≡ decimal n ++ e ∷ after

@@ -12,9 +12,11 @@ use Rattle.std.proofs.lemmas.Str.Parse.{IsNumeralModel, numerals_by_value, tells
 use Rattle.hc_text.specs.Numbers.{IsNumber}
 use Rattle.std.proofs.lemmas.List.{length-replicate, append_assoc, drop_at, drop-drop}
 use Rattle.hc_record.specs.declared.kind.Kind.{Kind}
-use Rattle.hc_record.specs.declared.head.StoredHead.{StoredHead}
+use Rattle.hc_record.specs.declared.version.Version.{Version}
+use Rattle.hc_record.specs.declared.version.Version.TheVariants.{First, Second}
+use Rattle.hc_record.specs.Head.{Head, sealed_head}
 use Rattle.hc_record.specs.Lines.{IsSmall, IsSmallTotal, total_text, sealed}
-use Rattle.hc_record.specs.Record.{later_lines, spelling, spelling_with}
+use Rattle.hc_record.specs.Record.{later_lines, spelling}
 
 pub length-decimal : (n : ℕ) → IsSmall n → length (decimal n) ≤ 20
 length-decimal n small = length-decimal-le 20 n (omega arith) (omega arith) (omega arith)
@@ -27,12 +29,19 @@ length-total_text (Some n) small =
     ∙ omega (arith, le, length-replicate {A = ℕ} (20 - length (decimal n)) 48)
 
 -- kind and total stand at their places
-pub sealed-spelling : (kind : Kind) (total : Option ℕ) (head : StoredHead) → sealed kind total (spelling head) ≡ spelling_with kind total head
-sealed-spelling kind total head =
-    let rest : drop 20 ((total_text head.total ++ 10 ∷ []) ++ later_lines head) ≡ 10 ∷ later_lines head =
-    rw (append_assoc (total_text head.total) (10 ∷ []) (later_lines head))
-    (drop_at (total_text head.total) (10 ∷ later_lines head) 20 (length-total_text head.total head.small_total)) in
-    rw (rest, append_assoc (total_text total) (10 ∷ []) (later_lines head)) refl
+pub sealed-spelling : (kind : Kind) (total : Option ℕ) (version : Version) (head : Head) → IsSmallTotal head.total → sealed kind total (spelling version head) ≡ spelling version (sealed_head kind total head)
+sealed-spelling kind total First head small =
+    let later = later_lines First head in
+    let rest : drop 20 ((total_text head.total ++ 10 ∷ []) ++ later) ≡ 10 ∷ later =
+    rw (append_assoc (total_text head.total) (10 ∷ []) later)
+    (drop_at (total_text head.total) (10 ∷ later) 20 (length-total_text head.total small)) in
+    rw (rest, append_assoc (total_text total) (10 ∷ []) later) refl
+sealed-spelling kind total Second head small =
+    let later = later_lines Second head in
+    let rest : drop 20 ((total_text head.total ++ 10 ∷ []) ++ later) ≡ 10 ∷ later =
+    rw (append_assoc (total_text head.total) (10 ∷ []) later)
+    (drop_at (total_text head.total) (10 ∷ later) 20 (length-total_text head.total small)) in
+    rw (rest, append_assoc (total_text total) (10 ∷ []) later) refl
 
 -- a write to bytes 11 to 30
 pub put_mid-replace_range : (text bytes : List ℕ) → put_mid 11 20 text bytes ≡ replace_range text 11 31 bytes

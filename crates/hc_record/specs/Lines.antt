@@ -1,14 +1,19 @@
 -- The lines of a record before its fields.
-use Rattle.std.specs.Prelude.{ℕ, ◌-◌, ◌<◌, ◌^◌, List, [], ◌∷◌, ◌++◌, length, replicate, codes, Option, Some, None, slice_set}
-use Rattle.std.specs.Option.{ForSome}
+use Rattle.std.specs.Prelude.{ℕ, ◌-◌, List, [], ◌∷◌, ◌++◌, length, replicate, false, codes, Option, Some, None, slice_set}
 use Rattle.std.specs.List.{replace_range}
 use Rattle.std.specs.Fmt.{decimal}
+use Rattle.hc_etag.specs.Etags.{tag_text}
 use Rattle.hc_record.specs.declared.kind.Kind.{Kind}
 use Rattle.hc_record.specs.declared.kind.Kind.TheVariants.{Growing, Whole, Truncated, Ranges}
+use Rattle.hc_record.specs.declared.version.Version.{Version}
+use Rattle.hc_record.specs.declared.version.Version.TheVariants.{First, Second}
+pub use Rattle.hc_text.specs.Texts.{IsSmall}
+pub use Rattle.hc_record.specs.Head.{IsSmallTotal}
 
--- the line of this version
-abbrev pub version_line : List ℕ
-version_line = codes "record 1" ++ 10 ∷ []
+-- the line of a version
+abbrev pub version_line : Version → List ℕ
+version_line First = codes "record 1" ++ 10 ∷ []
+version_line Second = codes "record 2" ++ 10 ∷ []
 
 -- `G`, `W`, `T` or `R`
 abbrev pub kind_byte : Kind → ℕ
@@ -16,13 +21,6 @@ kind_byte Growing = 71
 kind_byte Whole = 87
 kind_byte Truncated = 84
 kind_byte Ranges = 82
-
--- numbers of a record are below this
-abbrev pub IsSmall : ℕ → Type 0
-IsSmall n = n < 2 ^ 62
-
-abbrev pub IsSmallTotal : Option ℕ → Type 0
-IsSmallTotal total = ForSome total IsSmall
 
 -- 20 digits with leading zeros, or 20 hyphens
 abbrev pub total_text : Option ℕ → List ℕ
@@ -45,3 +43,13 @@ ended end n = decimal n ++ end ∷ []
 abbrev pub numbers_line : ℕ → ℕ → ℕ → ℕ → ℕ → List ℕ
 numbers_line status requested answered vary_count count =
     ended 32 status ++ (ended 32 requested ++ (ended 32 answered ++ (ended 32 vary_count ++ ended 10 count)))
+
+-- the tag in its spelling, or a hyphen
+abbrev pub joining_text : Option (List ℕ) → List ℕ
+joining_text None = codes "-"
+joining_text (Some opaque) = tag_text false opaque
+
+-- the line of a tag's text, which the first version has not
+abbrev pub tag_line : Version → List ℕ → List ℕ
+tag_line First text = []
+tag_line Second text = codes "tag " ++ (text ++ 10 ∷ [])

@@ -1,10 +1,10 @@
 -- The parts of a record as a reader takes them.
-use Rattle.std.specs.Prelude.{◌≡◌, ℕ, true, List, length}
-use Rattle.hc_record.specs.Reading.{lacks}
-use Rattle.hc_fields.specs.FieldList.{IsFieldList}
+use Rattle.std.specs.Prelude.{◌≡◌, ℕ, ◌==◌, ◌||◌, IsTrue, List, ◌++◌}
+pub use Rattle.hc_fields.specs.FieldList.{IsListOf}
 use Rattle.hc_record.specs.declared.parts.Seal.{Seal}
 use Rattle.hc_record.specs.declared.parts.Numbers.{Numbers}
-use Rattle.hc_record.specs.Lines.{IsSmall, IsSmallTotal, seal_line, numbers_line}
+use Rattle.hc_record.specs.declared.parts.FirstLines.{FirstLines}
+use Rattle.hc_record.specs.Lines.{IsSmall, IsSmallTotal, version_line, seal_line, numbers_line}
 
 abbrev pub seal_text : Seal → List ℕ
 seal_text seal = seal_line seal.kind seal.total
@@ -22,11 +22,11 @@ pub record AreSmall (n : Numbers) : Type 0 where
   pub vary_count : IsSmall n.vary_count
   pub count : IsSmall n.count
 
--- the list that this many field lines spell
-pub record IsListOf (count : ℕ) (fs : List (List ℕ × List ℕ)) : Type 0 where
-  pub list : IsFieldList fs
-  pub count_is : length fs ≡ count
+abbrev pub first_text : FirstLines → List ℕ
+first_text first = version_line first.version ++ (seal_text first.seal ++ numbers_text first.numbers)
 
--- a name without a colon and a value without a line feed
-abbrev pub IsLine : List ℕ × List ℕ → Type 0
-IsLine f = (lacks 58 f.0 ≡ true) × (lacks 10 f.1 ≡ true)
+pub record AreFirst (first : FirstLines) : Type 0 where
+  pub seal : IsSmallSeal first.seal
+  pub numbers : AreSmall first.numbers
+  pub status_is : first.status ≡ first.numbers.status
+  pub known_status : IsTrue (first.status == 200 || first.status == 206)

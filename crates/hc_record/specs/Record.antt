@@ -2,25 +2,37 @@
 use Rattle.std.specs.Prelude.{◌≡◌, ℕ, ◌==◌, ◌||◌, IsTrue, List, ◌++◌, length, Option}
 use Rattle.hc_fields.specs.Lines.{fields_text}
 use Rattle.hc_record.specs.declared.kind.Kind.{Kind}
-use Rattle.hc_record.specs.declared.head.StoredHead.{StoredHead}
-use Rattle.hc_record.specs.Lines.{version_line, seal_line, numbers_line}
+use Rattle.hc_record.specs.declared.version.Version.{Version}
+use Rattle.hc_record.specs.Head.{Head}
+use Rattle.hc_record.specs.Lines.{version_line, seal_line, numbers_line, joining_text, tag_line}
+
+-- the line of status, moments and counts of fields of a head
+abbrev pub head_numbers : Head → List ℕ
+head_numbers head = numbers_line head.status head.requested head.answered (length head.vary_fields) (length head.fields)
+
+-- the lines of all fields
+abbrev pub field_lines : Head → List ℕ
+field_lines head = fields_text head.vary_fields ++ fields_text head.fields
 
 -- the lines behind that of kind and total
-abbrev pub later_lines : StoredHead → List ℕ
-later_lines head =
-    numbers_line head.status head.requested head.answered (length head.vary_fields) (length head.fields)
-    ++ (fields_text head.vary_fields ++ fields_text head.fields)
+abbrev pub later_lines : Version → Head → List ℕ
+later_lines version head = head_numbers head ++ (tag_line version (joining_text head.joining) ++ field_lines head)
 
 -- the record of the head with this kind and this total
-abbrev pub spelling_with : Kind → Option ℕ → StoredHead → List ℕ
-spelling_with kind total head = version_line ++ (seal_line kind total ++ later_lines head)
+abbrev pub spelling_with : Kind → Option ℕ → Version → Head → List ℕ
+spelling_with kind total version head = version_line version ++ (seal_line kind total ++ later_lines version head)
 
 -- the record of the head
-abbrev pub spelling : StoredHead → List ℕ
-spelling head = spelling_with head.kind head.total head
+abbrev pub spelling : Version → Head → List ℕ
+spelling version head = spelling_with head.kind head.total version head
+
+-- the text is the record of the head, of either version
+abbrev pub IsRecordOf : List ℕ → Head → Type 0
+IsRecordOf text head = (version : Version) × (spelling version head ≡ text)
 
 -- the text begins as a record, up to its fields
 pub record HasFirstLines (text : List ℕ) : Type 0 where
+  pub version : Version
   pub kind : Kind
   pub total : Option ℕ
   pub status : ℕ
@@ -30,4 +42,4 @@ pub record HasFirstLines (text : List ℕ) : Type 0 where
   pub count : ℕ
   pub rest : List ℕ
   pub known_status : IsTrue (status == 200 || status == 206)
-  pub text_is : version_line ++ (seal_line kind total ++ (numbers_line status requested answered vary_count count ++ rest)) ≡ text
+  pub text_is : version_line version ++ (seal_line kind total ++ (numbers_line status requested answered vary_count count ++ rest)) ≡ text

@@ -1,10 +1,15 @@
 //! A text that is read from its front.
-ghost use Rattle.std.specs.Prelude.{◌≡◌, ◌≢◌, ◌<◌, ◌↔◌, ◌∷◌, ◌++◌, [], ℕ, List, Option, true, length, IsTrue, MatchOption, ⊤, position, ◌==◌};
-ghost use Rattle.hc_record.specs.Lines.{ended, IsSmall, kind_byte, total_text, IsSmallTotal};
+ghost use Rattle.std.specs.Prelude.{◌≡◌, ◌≢◌, ◌<◌, ◌↔◌, ◌∷◌, ◌++◌, [], ℕ, List, Option, true, length, IsTrue, IfOk, IfNone, MatchOption, ⊤, position, ◌==◌};
+ghost use Rattle.hc_record.specs.Lines.{ended, IsSmall, kind_byte, total_text, IsSmallTotal, version_line};
+ghost use Rattle.hc_fields.specs.Lines.{fields_text};
+ghost use Rattle.hc_record.specs.Parts.{IsListOf};
 ghost use Rattle.hc_record.specs.Reading.{Takes, lacks};
 
 use crate::kind::Kind;
-use hc_text::{read_number, read_plain};
+use crate::version::Version;
+use hc_fields::Fields;
+use hc_text::{NoMemory, read_number, read_plain};
+use std::alloc::Global;
 use std::marker::Model;
 
 /// What is left of a text.
@@ -38,7 +43,9 @@ impl<'a> Cursor<'a> {
 
     /// Takes these bytes from the front, if they stand there.
     pub(crate) fn take_bytes(&mut self, bytes: &[u8]) -> Option<()>
-        ensures { MatchOption result ((after : List ℕ) → bytes.now ++ after ≢ self.old) (λ _. bytes.now ++ self.new ≡ self.old) }
+        ensures taken { MatchOption result ((after : List ℕ) → bytes.now ++ after ≢ self.old)
+            (λ _. bytes.now ++ self.new ≡ self.old) }
+        ensures stays { IfNone result (self.new ≡ self.old) }
     {
         let rest = self.rest.strip_prefix(bytes)?;
         self.rest = rest;
@@ -47,7 +54,8 @@ impl<'a> Cursor<'a> {
 
     /// Takes what stands before the next byte of this kind, and that byte.
     pub(crate) fn take_until(&mut self, end: u8) -> Option<&'a [u8]>
-        ensures { MatchOption result (lacks end self.old ≡ true) (λ text. (lacks end text.now ≡ true) × (text.now ++ end ∷ self.new ≡ self.old)) }
+        ensures { MatchOption result (lacks end self.old ≡ true)
+            (λ text. (lacks end text.now ≡ true) × (text.now ++ end ∷ self.new ≡ self.old)) }
     {
         let rest = self.rest;
         let at = place_of(rest, end)?;
@@ -62,6 +70,32 @@ impl<'a> Cursor<'a> {
     {
         let text = self.take_until(end)?;
         read_plain(text)
+    }
+
+    /// Takes the line of a version.
+    pub(crate) fn take_version(&mut self) -> Option<Version>
+        ensures { Takes version_line (λ _. ⊤) self.old self.new result }
+    {
+        if let Some(()) = self.take_bytes(b"record 2\n") {
+            return Some(Version::Second);
+        }
+        self.take_bytes(b"record 1\n")?;
+        Some(Version::First)
+    }
+
+    /// Takes this many field lines.
+    pub(crate) fn take_fields(
+        &mut self,
+        alloc: Global,
+        count: u64,
+    ) -> Result<Option<Fields>, NoMemory>
+        ensures { IfOk result (λ read. Takes fields_text (IsListOf count) self.old self.new read) }
+    {
+        let Some((fields, len)) = Fields::read_lines(alloc, self.rest, count)? else {
+            return Ok(None);
+        };
+        self.rest = &self.rest[len..];
+        Ok(Some(fields))
     }
 
     /// Takes the byte of a kind.
@@ -98,7 +132,8 @@ fn place_of(text: &[u8], byte: u8) -> Option<usize>
 /// The total of these 20 bytes.
 fn read_total(text: &[u8]) -> Option<Option<u64>>
     requires { length text.now ≡ 20 }
-    ensures { MatchOption result ((total : Option ℕ) → IsSmallTotal total → total_text total ≢ text.now)
+    ensures { MatchOption result
+        ((total : Option ℕ) → IsSmallTotal total → total_text total ≢ text.now)
         (λ total. IsSmallTotal total × (total_text total ≡ text.now)) }
 {
     if text == b"--------------------".as_slice() {

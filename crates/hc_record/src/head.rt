@@ -1,9 +1,10 @@
 //! Stored heads.
-ghost use Rattle.std.specs.Prelude.{◌≡◌, ◌==◌, ◌||◌, IfOk, IsTrue};
-ghost use Rattle.hc_fields.specs.FieldList.{IsFieldList, IsModest};
-ghost use Rattle.hc_record.specs.Lines.{IsSmall, IsSmallTotal};
+ghost use Rattle.std.specs.Prelude.{◌≡◌, false, IfOk};
+ghost use Rattle.std.specs.Option.{ForSome};
+ghost use Rattle.hc_record.specs.Head.{Head, IsHead, opaque_of};
 
 use crate::kind::Kind;
+use hc_etag::Tag;
 use hc_fields::Fields;
 use hc_text::NoMemory;
 
@@ -21,17 +22,23 @@ pub struct StoredHead {
     pub requested: u64,
     /// When its head came.
     pub answered: u64,
+    /// The tag of the one field `etag` of the head, where it is strong: `joining_tag` of the fields.
+    pub joining: Option<Tag>,
     /// The fields of the founding request that the head's Vary names.
     pub vary_fields: Fields,
     /// The fields of the head: at most 64 of at most 32,768 bytes.
     pub fields: Fields,
-    pub ghost known_status: { IsTrue (status == 200 || status == 206) },
-    pub ghost small_total: { IsSmallTotal total },
-    pub ghost small_requested: { IsSmall requested },
-    pub ghost small_answered: { IsSmall answered },
-    pub ghost vary_list: { IsFieldList vary_fields },
-    pub ghost list: { IsFieldList fields },
-    pub ghost modest: { IsModest fields },
+    pub ghost strong: { ForSome joining (λ tag. tag.weak ≡ false) },
+    pub ghost own: { IsHead (record {
+      kind = kind;
+      total = total;
+      status = status;
+      requested = requested;
+      answered = answered;
+      joining = opaque_of joining;
+      vary_fields = vary_fields;
+      fields = fields;
+    }) },
 }
 
 impl StoredHead {
@@ -39,6 +46,10 @@ impl StoredHead {
     pub fn copy(&self) -> Result<StoredHead, NoMemory>
         ensures { IfOk result (λ copy. copy ≡ self.now) }
     {
+        let joining = match &self.joining {
+            Some(tag) => Some(tag.copy()?),
+            None => None,
+        };
         let vary_fields = self.vary_fields.copy()?;
         let fields = self.fields.copy()?;
         Ok(StoredHead {
@@ -47,6 +58,7 @@ impl StoredHead {
             status: self.status,
             requested: self.requested,
             answered: self.answered,
+            joining,
             vary_fields,
             fields,
         })

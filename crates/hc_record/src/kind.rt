@@ -30,7 +30,8 @@ impl Kind {
 
     /// The kind of this byte.
     pub(crate) fn from_byte(byte: u8) -> Option<Kind>
-        ensures { MatchOption result ((kind : Kind) → kind_byte kind ≢ byte) (λ kind. kind_byte kind ≡ byte) }
+        ensures { MatchOption result ((kind : Kind) → kind_byte kind ≢ byte)
+            (λ kind. kind_byte kind ≡ byte) }
     {
         match byte {
             b'G' => Some(Kind::Growing),

@@ -2,20 +2,23 @@
 #![tactic(auto)]
 
 mod cursor;
-mod field_lines;
 mod head;
+mod joining;
 mod kind;
 mod law;
 mod parts;
 mod read;
 mod seal;
+mod version;
 mod write;
 
 pub use head::StoredHead;
+pub use joining::joining_tag;
 pub use kind::Kind;
 pub use law::records_tell_heads_apart;
 pub use read::read_record;
 pub use seal::seal_record;
+pub use version::Version;
 pub use write::write_record;
 
 #[cfg(test)]

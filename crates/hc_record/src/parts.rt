@@ -1,9 +1,12 @@
 //! The lines of a record before its fields.
-ghost use Rattle.hc_record.specs.Parts.{seal_text, IsSmallSeal, numbers_text, AreSmall};
-ghost use Rattle.hc_record.specs.Reading.{Takes};
+ghost use Rattle.std.specs.Prelude.{◌≡◌, ◌≢◌, ◌==◌, ◌||◌, ◌++◌, ℕ, List, true, IsTrue, IfSome, IfNone, MatchBool, MatchOption};
+ghost use Rattle.hc_record.specs.Lines.{tag_line};
+ghost use Rattle.hc_record.specs.Parts.{seal_text, IsSmallSeal, numbers_text, AreSmall, first_text, AreFirst};
+ghost use Rattle.hc_record.specs.Reading.{Takes, lacks};
 
 use crate::cursor::Cursor;
 use crate::kind::Kind;
+use crate::version::Version;
 
 /// Kind and total.
 #[derive(Clone, Copy)]
@@ -20,6 +23,70 @@ pub(crate) struct Numbers {
     pub(crate) answered: u64,
     pub(crate) vary_count: u64,
     pub(crate) count: u64,
+}
+
+/// The first three lines, and the status as that of a founding head.
+#[derive(Clone, Copy)]
+pub(crate) struct FirstLines {
+    pub(crate) version: Version,
+    pub(crate) seal: Seal,
+    pub(crate) numbers: Numbers,
+    pub(crate) status: u16,
+}
+
+/// The status of a founding head, 200 or 206.
+fn status_of(number: u64) -> Option<u16>
+    ensures { MatchOption result ((number ≢ 200) × (number ≢ 206))
+        (λ status. (status ≡ number) × IsTrue (status == 200 || status == 206)) }
+{
+    match number {
+        200 => Some(200),
+        206 => Some(206),
+        _ => None,
+    }
+}
+
+/// Takes the first three lines.
+pub(crate) fn take_first_lines(text: &mut Cursor<'_>) -> Option<FirstLines>
+    ensures { Takes first_text AreFirst text.old text.new result }
+{
+    let version = text.take_version()?;
+    let seal = take_seal(text)?;
+    let numbers = take_numbers(text)?;
+    let status = status_of(numbers.status)?;
+    Some(FirstLines {
+        version,
+        seal,
+        numbers,
+        status,
+    })
+}
+
+/// Takes the line of the tag, where the version has one, and gives the tag's text.
+pub(crate) fn take_tag_text<'a>(version: Version, text: &mut Cursor<'a>) -> Option<&'a [u8]>
+    ensures found { IfSome result (λ tag. (lacks 10 tag.now ≡ true)
+        × (tag_line version tag.now ++ text.new ≡ text.old)) }
+    ensures none { IfNone result ((tag after : List ℕ)
+        → lacks 10 tag ≡ true → tag_line version tag ++ after ≢ text.old) }
+{
+    match version {
+        Version::First => Some(b""),
+        Version::Second => {
+            text.take_bytes(b"tag ")?;
+            text.take_until(b'\n')
+        }
+    }
+}
+
+/// Whether the text is that of the record's own tag, where the version tells one.
+pub(crate) fn is_own_tag(version: Version, text: &[u8], own: &[u8]) -> bool
+    ensures { MatchBool result (tag_line version text.now ≡ tag_line version own.now)
+        (¬ (tag_line version text.now ≡ tag_line version own.now)) }
+{
+    match version {
+        Version::First => true,
+        Version::Second => text == own,
+    }
 }
 
 /// Takes the line of kind and total.

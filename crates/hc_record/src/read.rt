@@ -1,66 +1,54 @@
 //! Reading records.
-ghost use Rattle.std.specs.Prelude.{◌≡◌, ◌≢◌, ◌==◌, ◌||◌, IsTrue, IfOk, IfSome, IfNone, OnErr, MatchOption};
-ghost use Rattle.hc_record.specs.declared.head.StoredHead.{StoredHead};
-ghost use Rattle.hc_record.specs.Record.{spelling, HasFirstLines};
+ghost use Rattle.std.specs.Prelude.{IfOk, IfSome, IfNone, OnErr};
+ghost use Rattle.hc_record.specs.Head.{Head, IsHead};
+ghost use Rattle.hc_record.specs.Plain.{plain};
+ghost use Rattle.hc_record.specs.Record.{IsRecordOf, HasFirstLines};
 
 use crate::cursor::Cursor;
-use crate::field_lines::take_fields;
 use crate::head::StoredHead;
-use crate::parts::{take_numbers, take_seal};
+use crate::joining::{joining_tag, joining_text};
+use crate::parts::{is_own_tag, take_first_lines, take_tag_text};
 use hc_text::NoMemory;
 use std::alloc::Global;
 
-/// The status of a founding head, 200 or 206.
-fn status_of(number: u64) -> Option<u16>
-    ensures { MatchOption result ((number ≢ 200) × (number ≢ 206)) (λ status. (status ≡ number) × IsTrue (status == 200 || status == 206)) }
-{
-    match number {
-        200 => Some(200),
-        206 => Some(206),
-        _ => None,
-    }
-}
-
-/// The stored head whose record the text is. None exactly where the text is no record.
+/// The stored head whose record the text is, of either version. None exactly where the text is no
+/// record.
 ///
 /// The text is read once. Memory is asked for only where its first three lines are those of a record,
 /// so want of memory may be told before a fault further on.
 pub fn read_record(alloc: Global, text: &[u8]) -> Result<Option<StoredHead>, NoMemory>
-    ensures found { IfOk result (λ read. IfSome read (λ head. spelling head ≡ text.now)) }
-    ensures none { IfOk result (λ read. IfNone read ((head : StoredHead) → spelling head ≢ text.now)) }
+    ensures found { IfOk result (λ read. IfSome read (λ head. IsRecordOf text.now (plain head))) }
+    ensures none { IfOk result (λ read. IfNone read
+        ((head : Head) → IsHead head → ¬ (IsRecordOf text.now head))) }
     ensures err { OnErr result (HasFirstLines text.now) }
 {
     let mut rest = Cursor::new(text);
-    let Some(()) = rest.take_bytes(b"record 1\n") else {
+    let Some(first) = take_first_lines(&mut rest) else {
         return Ok(None);
     };
-    let Some(seal) = take_seal(&mut rest) else {
+    let Some(tag) = take_tag_text(first.version, &mut rest) else {
         return Ok(None);
     };
-    let Some(numbers) = take_numbers(&mut rest) else {
+    let Some(vary_fields) = rest.take_fields(alloc, first.numbers.vary_count)? else {
         return Ok(None);
     };
-    let Some(status) = status_of(numbers.status) else {
+    let Some(fields) = rest.take_fields(alloc, first.numbers.count)? else {
         return Ok(None);
     };
-    let Some(vary_fields) = take_fields(alloc, numbers.vary_count, &mut rest)? else {
-        return Ok(None);
-    };
-    let Some(fields) = take_fields(alloc, numbers.count, &mut rest)? else {
-        return Ok(None);
-    };
-    if !rest.is_at_end() {
+    if !rest.is_at_end() || !fields.modest() {
         return Ok(None);
     }
-    if !fields.modest() {
+    let joining = joining_tag(alloc, &fields)?;
+    if !is_own_tag(first.version, tag, joining_text(joining.is_some(), &fields)) {
         return Ok(None);
     }
     Ok(Some(StoredHead {
-        kind: seal.kind,
-        total: seal.total,
-        status,
-        requested: numbers.requested,
-        answered: numbers.answered,
+        kind: first.seal.kind,
+        total: first.seal.total,
+        status: first.status,
+        requested: first.numbers.requested,
+        answered: first.numbers.answered,
+        joining,
         vary_fields,
         fields,
     }))

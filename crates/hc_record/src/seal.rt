@@ -1,8 +1,9 @@
 //! Kind and total at their places in a record.
 ghost use Rattle.std.specs.Prelude.{◌≡◌, ◌≤◌, length};
 ghost use Rattle.hc_record.specs.Lines.{total_text, sealed};
-ghost use Rattle.hc_record.specs.declared.head.StoredHead.{StoredHead};
-ghost use Rattle.hc_record.specs.Record.{spelling, spelling_with};
+ghost use Rattle.hc_record.specs.declared.version.Version.{Version};
+ghost use Rattle.hc_record.specs.Head.{Head, IsHead, IsSmallTotal, sealed_head};
+ghost use Rattle.hc_record.specs.Record.{spelling};
 
 use crate::kind::Kind;
 use itoa::Buffer;
@@ -24,11 +25,15 @@ pub(crate) fn total_text(total: Option<u64>) -> [u8; 20]
 
 /// Overwrites kind and total in a record, and leaves every other byte as it is.
 pub fn seal_record(text: &mut [u8], kind: Kind, total: Option<u64>)
-    requires { 31 ≤ length text.old }
+    requires long { 31 ≤ length text.old }
+    requires small { IsSmallTotal total }
     ensures bytes { text.new ≡ sealed kind total text.old }
 
-    // The record of a head becomes that of the head with this kind and this total.
-    ensures head { (head : StoredHead) → spelling head ≡ text.old → spelling_with kind total head ≡ text.new }
+    // The record of a head, of either version, becomes that of the head with this kind and total.
+    ensures head { (version : Version) (head : Head)
+        → IsHead head → spelling version head ≡ text.old
+        → IsHead (sealed_head kind total head)
+        × (spelling version (sealed_head kind total head) ≡ text.new) }
 {
     text[9] = kind.byte();
     text[11..31].copy_from_slice(&total_text(total));

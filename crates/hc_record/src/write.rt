@@ -1,16 +1,19 @@
 //! Writing records.
-ghost use Rattle.std.specs.Prelude.{◌≡◌, ◌++◌, length, take, vec_len, OnOk, OnErr};
-ghost use Rattle.hc_record.specs.Lines.{ended, numbers_line, seal_line};
-ghost use Rattle.hc_record.specs.Record.{spelling};
+ghost use Rattle.std.specs.Prelude.{◌≡◌, ◌++◌, take, vec_len, OnOk, OnErr};
+ghost use Rattle.hc_record.specs.Lines.{ended, seal_line, joining_text, tag_line};
+ghost use Rattle.hc_record.specs.declared.version.Version.TheVariants.{Second};
+ghost use Rattle.hc_record.specs.Plain.{plain};
+ghost use Rattle.hc_record.specs.Record.{head_numbers, spelling};
 
 use crate::head::StoredHead;
+use crate::joining::joining_text;
 use crate::kind::Kind;
 use crate::seal::total_text;
 use hc_text::{NoMemory, write_number};
 
-/// Appends the record of the head. On an error nothing is appended.
+/// Appends the record of the head, in the second version. On an error nothing is appended.
 pub fn write_record(head: &StoredHead, to: &mut Vec<u8>) -> Result<(), NoMemory>
-    ensures ok { OnOk result (to.new.items ≡ to.old.items ++ spelling head.now) }
+    ensures ok { OnOk result (to.new.items ≡ to.old.items ++ spelling Second (plain head.now)) }
     ensures err { OnErr result (to.new.items ≡ to.old.items) }
 {
     let start = to.len();
@@ -23,12 +26,13 @@ pub fn write_record(head: &StoredHead, to: &mut Vec<u8>) -> Result<(), NoMemory>
 
 /// Appends the record of the head, or a part of it.
 fn write_parts(head: &StoredHead, to: &mut Vec<u8>) -> Result<(), NoMemory>
-    ensures ok { OnOk result (to.new.items ≡ to.old.items ++ spelling head.now) }
+    ensures ok { OnOk result (to.new.items ≡ to.old.items ++ spelling Second (plain head.now)) }
     ensures err { OnErr result (take (vec_len to.old) to.new.items ≡ to.old.items) }
 {
-    to.extend_from_slice(b"record 1\n")?;
+    to.extend_from_slice(b"record 2\n")?;
     write_seal(head.kind, head.total, to)?;
     write_numbers(head, to)?;
+    write_tag_line(head, to)?;
     head.vary_fields.write_lines(to)?;
     head.fields.write_lines(to)?;
     Ok(())
@@ -48,8 +52,7 @@ fn write_seal(kind: Kind, total: Option<u64>, to: &mut Vec<u8>) -> Result<(), No
 
 /// Appends the line of numbers, or a part of it.
 fn write_numbers(head: &StoredHead, to: &mut Vec<u8>) -> Result<(), NoMemory>
-    ensures ok { OnOk result (to.new.items ≡ to.old.items
-        ++ numbers_line head.now.status head.now.requested head.now.answered (length head.now.vary_fields) (length head.now.fields)) }
+    ensures ok { OnOk result (to.new.items ≡ to.old.items ++ head_numbers (plain head.now)) }
     ensures err { OnErr result (take (vec_len to.old) to.new.items ≡ to.old.items) }
 {
     write_ended(u64::from(head.status), b' ', to)?;
@@ -57,6 +60,18 @@ fn write_numbers(head: &StoredHead, to: &mut Vec<u8>) -> Result<(), NoMemory>
     write_ended(head.answered, b' ', to)?;
     write_ended(head.vary_fields.len() as u64, b' ', to)?;
     write_ended(head.fields.len() as u64, b'\n', to)?;
+    Ok(())
+}
+
+/// Appends the line of the tag, or a part of it.
+fn write_tag_line(head: &StoredHead, to: &mut Vec<u8>) -> Result<(), NoMemory>
+    ensures ok { OnOk result
+        (to.new.items ≡ to.old.items ++ tag_line Second (joining_text (plain head.now).joining)) }
+    ensures err { OnErr result (take (vec_len to.old) to.new.items ≡ to.old.items) }
+{
+    to.extend_from_slice(b"tag ")?;
+    to.extend_from_slice(joining_text(head.joining.is_some(), &head.fields))?;
+    to.push(b'\n')?;
     Ok(())
 }
 

@@ -1,65 +1,87 @@
-use Rattle.std.proofs.Common.{[], sym, ◌∙◌}
+use Rattle.std.proofs.Common.{◌≡◌, List, ℕ, Option, [], refl, ap, sym, ◌∙◌}
 use Rattle.std.proofs.lemmas.Bool.{false≢true}
 use Rattle.std.proofs.lemmas.List.{append-nil}
-use Rattle.std.proofs.lemmas.Result.{err_from_is_err_and}
 use Rattle.hc_fields.specs.Lines.{fields_text}
-use Rattle.hc_record.specs.Record.{later_lines}
-use Rattle.hc_record.proofs.Stages.{numbers_of, AreSmall-numbers_of, status_cases, after_version, after_seal, after_lines, list_of_vary, list_of_fields, after_vary, after_fields, has_first_lines}
+use Rattle.hc_record.specs.Head.{joining_of, opaque_of}
+use Rattle.hc_record.specs.Lines.{joining_text, tag_line}
+use Rattle.hc_record.specs.Record.{field_lines}
+use Rattle.hc_record.proofs.Stages.{first_of, AreFirst-of, rest_lines, whole, lacks-own, tag_first, vary_of, fields_of, after_tag, after_vary, after_fields, assembled}
 use Rattle.hc_record.proofs.read.read_record.Goals as goal
+use Rattle.hc_record.proofs.read.read_record.Goals.{then-not-is_at_end-via-then-not-is_at_end, then-not-is_at_end-via-else-not-is_at_end+then-not-modest}
 
-pub returns-in_default-take_seal-clause-none : goal.returns-in_default-take_seal-clause-none
-returns-in_default-take_seal-clause-none c = λ head same.
-    c.in_default-take_seal.ensures (record { kind = head.kind; total = head.total }) (later_lines head) head.small_total
-    (after_version head c.args.text.now c.take_bytes.new.self same (c.in-Some.ensures ∙ c.new-rest.ensures))
+pub returns-in_default-clause-none : goal.returns-in_default-clause-none
+returns-in_default-clause-none c = λ head own r.
+    c.in_default.ensures (first_of r.0 head) (rest_lines r.0 head) (AreFirst-of r.0 head own) (whole head own r.0 c.args.text.now r.1 ∙ sym c.new-rest.ensures)
 
-pub returns-in_default-take_numbers-clause-none : goal.returns-in_default-take_numbers-clause-none
-returns-in_default-take_numbers-clause-none c = λ head same.
-    let seal = after_seal head c.in-Some-take_seal.seal c.args.text.now c.take_bytes.new.self c.take_seal.new.text same (c.in-Some.ensures ∙ c.new-rest.ensures) c.in-Some-take_seal.ensures.0 c.in-Some-take_seal.ensures.1 in
-    c.in_default-take_numbers.ensures (numbers_of head) _ (AreSmall-numbers_of head) (sym seal.rest)
-
-pub returns-in_default-status_of-clause-none : goal.returns-in_default-status_of-clause-none
-returns-in_default-status_of-clause-none c = λ head same.
-    let numbers = after_lines head c.in-Some-take_seal.seal c.in-Some-take_numbers.numbers c.args.text.now c.take_bytes.new.self c.take_seal.new.text c.take_numbers.new.text same (c.in-Some.ensures ∙ c.new-rest.ensures) c.in-Some-take_seal.ensures.0 c.in-Some-take_seal.ensures.1 c.in-Some-take_numbers.ensures.0 c.in-Some-take_numbers.ensures.1 in
-    status_cases head.status head.known_status (rw numbers.status at c.in_default-status_of.ensures)
+pub returns-in_default-take_tag_text-clause-none : goal.returns-in_default-take_tag_text-clause-none
+returns-in_default-take_tag_text-clause-none c = λ head own r.
+    let is = c.in-Some.ensures.1 ∙ c.new-rest.ensures in
+    c.in_default-take_tag_text.ensures.none (joining_text head.joining) (field_lines head) (lacks-own head own r.0 c.args.text.now r.1)
+    (tag_first head own r.0 c.args.text.now r.1 c.in-Some.first c.take_first_lines.new.text c.in-Some.ensures.0 is)
 
 pub returns-in_default-2-clause-none : goal.returns-in_default-2-clause-none
-returns-in_default-2-clause-none c = λ head same.
-    let numbers = after_lines head c.in-Some-take_seal.seal c.in-Some-take_numbers.numbers c.args.text.now c.take_bytes.new.self c.take_seal.new.text c.take_numbers.new.text same (c.in-Some.ensures ∙ c.new-rest.ensures) c.in-Some-take_seal.ensures.0 c.in-Some-take_seal.ensures.1 c.in-Some-take_numbers.ensures.0 c.in-Some-take_numbers.ensures.1 in
+returns-in_default-2-clause-none c = λ head own r.
+    let is = c.in-Some.ensures.1 ∙ c.new-rest.ensures in
+    let tag = c.in-Some-take_tag_text.ensures.found in
     let none = rw c.in_default-2.is at c.in_ok-vary_fields.ensures in
-    none head.vary_fields (fields_text head.fields) (list_of_vary head c.in-Some-take_numbers.numbers _ _ numbers) (sym numbers.rest)
+    let behind = after_tag head own r.0 c.args.text.now r.1 c.in-Some.first c.take_first_lines.new.text c.in-Some.ensures.0 is c.in-Some-take_tag_text.tag.now c.take_tag_text.new.text tag.0 tag.1 in
+    none head.vary_fields (fields_text head.fields) (vary_of head own r.0 c.args.text.now r.1 c.in-Some.first c.take_first_lines.new.text c.in-Some.ensures.0 is) behind.1
 
 pub returns-in_default-3-clause-none : goal.returns-in_default-3-clause-none
-returns-in_default-3-clause-none c = λ head same.
-    let numbers = after_lines head c.in-Some-take_seal.seal c.in-Some-take_numbers.numbers c.args.text.now c.take_bytes.new.self c.take_seal.new.text c.take_numbers.new.text same (c.in-Some.ensures ∙ c.new-rest.ensures) c.in-Some-take_seal.ensures.0 c.in-Some-take_seal.ensures.1 c.in-Some-take_numbers.ensures.0 c.in-Some-take_numbers.ensures.1 in
-    let taken = rw c.in-Some-2.is at c.in_ok-vary_fields.ensures in
-    let vary = after_vary head c.in-Some-take_numbers.numbers.vary_count c.in-Some-2.vary_fields c.take_numbers.new.text c.take_fields.new.text numbers.rest (list_of_vary head c.in-Some-take_numbers.numbers _ _ numbers) taken.0 taken.1 in
+returns-in_default-3-clause-none c = λ head own r.
+    let is = c.in-Some.ensures.1 ∙ c.new-rest.ensures in
+    let tag = c.in-Some-take_tag_text.ensures.found in
+    let vary = rw c.in-Some-2.is at c.in_ok-vary_fields.ensures in
     let none = rw c.in_default-3.is at c.in_ok-fields.ensures in
-    none head.fields [] (list_of_fields head c.in-Some-take_numbers.numbers _ _ numbers) (append-nil (fields_text head.fields) ∙ sym vary.1)
+    let behind = after_vary head own r.0 c.args.text.now r.1 c.in-Some.first c.take_first_lines.new.text c.in-Some.ensures.0 is c.in-Some-take_tag_text.tag.now c.take_tag_text.new.text tag.0 tag.1 c.in-Some-2.vary_fields c.take_fields.new.self vary.0 vary.1 in
+    none head.fields [] (fields_of head own r.0 c.args.text.now r.1 c.in-Some.first c.take_first_lines.new.text c.in-Some.ensures.0 is) (append-nil (fields_text head.fields) ∙ sym behind.1)
 
 pub returns-then-not-is_at_end-clause-none : goal.returns-then-not-is_at_end-clause-none
-returns-then-not-is_at_end-clause-none c = λ head same.
-    let numbers = after_lines head c.in-Some-take_seal.seal c.in-Some-take_numbers.numbers c.args.text.now c.take_bytes.new.self c.take_seal.new.text c.take_numbers.new.text same (c.in-Some.ensures ∙ c.new-rest.ensures) c.in-Some-take_seal.ensures.0 c.in-Some-take_seal.ensures.1 c.in-Some-take_numbers.ensures.0 c.in-Some-take_numbers.ensures.1 in
-    let taken = rw c.in-Some-2.is at c.in_ok-vary_fields.ensures in
-    let vary = after_vary head c.in-Some-take_numbers.numbers.vary_count c.in-Some-2.vary_fields c.take_numbers.new.text c.take_fields.new.text numbers.rest (list_of_vary head c.in-Some-take_numbers.numbers _ _ numbers) taken.0 taken.1 in
-    let others = rw c.in-Some-3.is at c.in_ok-fields.ensures in
-    let fields = after_fields head c.in-Some-take_numbers.numbers.count c.in-Some-3.fields c.take_fields.new.text c.take_fields-2.new.text vary.1 (list_of_fields head c.in-Some-take_numbers.numbers _ _ numbers) others.0 others.1 in
-    false≢true (c.if-not-is_at_end.ensures.1 fields.1)
+returns-then-not-is_at_end-clause-none c = λ head own r.
+    let is = c.in-Some.ensures.1 ∙ c.new-rest.ensures in
+    let tag = c.in-Some-take_tag_text.ensures.found in
+    let vary = rw c.in-Some-2.is at c.in_ok-vary_fields.ensures in
+    let fields = rw c.in-Some-3.is at c.in_ok-fields.ensures in
+    let behind = after_fields head own r.0 c.args.text.now r.1 c.in-Some.first c.take_first_lines.new.text c.in-Some.ensures.0 is c.in-Some-take_tag_text.tag.now c.take_tag_text.new.text tag.0 tag.1 c.in-Some-2.vary_fields c.in-Some-3.fields c.take_fields.new.self c.take_fields-2.new.self vary.0 vary.1 fields.0 fields.1 in
+    elim c.then-not-is_at_end.branch [
+      | then-not-is_at_end-via-then-not-is_at_end w ↦ false≢true (w.if-not-is_at_end.ensures.1 behind.1)
+      | then-not-is_at_end-via-else-not-is_at_end+then-not-modest w ↦ false≢true (w.if-not-modest.ensures.value.1 (rw behind.0 own.modest))
+    ]
 
-pub returns-then-not-modest-clause-none : goal.returns-then-not-modest-clause-none
-returns-then-not-modest-clause-none c = λ head same.
-    let numbers = after_lines head c.in-Some-take_seal.seal c.in-Some-take_numbers.numbers c.args.text.now c.take_bytes.new.self c.take_seal.new.text c.take_numbers.new.text same (c.in-Some.ensures ∙ c.new-rest.ensures) c.in-Some-take_seal.ensures.0 c.in-Some-take_seal.ensures.1 c.in-Some-take_numbers.ensures.0 c.in-Some-take_numbers.ensures.1 in
-    let taken = rw c.in-Some-2.is at c.in_ok-vary_fields.ensures in
-    let vary = after_vary head c.in-Some-take_numbers.numbers.vary_count c.in-Some-2.vary_fields c.take_numbers.new.text c.take_fields.new.text numbers.rest (list_of_vary head c.in-Some-take_numbers.numbers _ _ numbers) taken.0 taken.1 in
-    let others = rw c.in-Some-3.is at c.in_ok-fields.ensures in
-    let fields = after_fields head c.in-Some-take_numbers.numbers.count c.in-Some-3.fields c.take_fields.new.text c.take_fields-2.new.text vary.1 (list_of_fields head c.in-Some-take_numbers.numbers _ _ numbers) others.0 others.1 in
-    false≢true (c.if-not-modest.ensures.value.1 (rw fields.0 head.modest))
+pub returns-then-not-is_own_tag-clause-none : goal.returns-then-not-is_own_tag-clause-none
+returns-then-not-is_own_tag-clause-none c = λ head own r.
+    let is = c.in-Some.ensures.1 ∙ c.new-rest.ensures in
+    let tag = c.in-Some-take_tag_text.ensures.found in
+    let vary = rw c.in-Some-2.is at c.in_ok-vary_fields.ensures in
+    let fields = rw c.in-Some-3.is at c.in_ok-fields.ensures in
+    let version = c.in-Some.first.version in
+    let mine = after_tag head own r.0 c.args.text.now r.1 c.in-Some.first c.take_first_lines.new.text c.in-Some.ensures.0 is c.in-Some-take_tag_text.tag.now c.take_tag_text.new.text tag.0 tag.1 in
+    let behind = after_fields head own r.0 c.args.text.now r.1 c.in-Some.first c.take_first_lines.new.text c.in-Some.ensures.0 is c.in-Some-take_tag_text.tag.now c.take_tag_text.new.text tag.0 tag.1 c.in-Some-2.vary_fields c.in-Some-3.fields c.take_fields.new.self c.take_fields-2.new.self vary.0 vary.1 fields.0 fields.1 in
+    let joining : head.joining ≡ joining_of c.in-Some-3.fields = own.own_joining ∙ ap joining_of (sym behind.0) in
+    c.if-not-is_own_tag.ensures
+    (sym mine.0 ∙ (ap (λ (j : Option (List ℕ)). tag_line version (joining_text j)) joining ∙ ap (λ (l : List ℕ). tag_line version l) (sym c.joining_text.ensures)))
 
-pub returns-in_err-vary_fields-clause-err : goal.returns-in_err-vary_fields-clause-err
-returns-in_err-vary_fields-clause-err c =
-    let failed = err_from_is_err_and c.from_residual.result c.from_residual.ensures.1 in rw failed.1
-    (has_first_lines c.in-Some-take_seal.seal c.in-Some-take_numbers.numbers c.in-Some-status_of.status c.args.text.now c.take_bytes.new.self c.take_seal.new.text c.take_numbers.new.text (c.in-Some.ensures ∙ c.new-rest.ensures) c.in-Some-take_seal.ensures.1 c.in-Some-take_numbers.ensures.1 c.in-Some-status_of.ensures.0 c.in-Some-status_of.ensures.1)
-
-pub returns-in_err-fields-clause-err : goal.returns-in_err-fields-clause-err
-returns-in_err-fields-clause-err c =
-    let failed = err_from_is_err_and c.from_residual-in_err-fields.result c.from_residual-in_err-fields.ensures.1 in rw failed.1
-    (has_first_lines c.in-Some-take_seal.seal c.in-Some-take_numbers.numbers c.in-Some-status_of.status c.args.text.now c.take_bytes.new.self c.take_seal.new.text c.take_numbers.new.text (c.in-Some.ensures ∙ c.new-rest.ensures) c.in-Some-take_seal.ensures.1 c.in-Some-take_numbers.ensures.1 c.in-Some-status_of.ensures.0 c.in-Some-status_of.ensures.1)
+pub returns-clause-found : goal.returns-clause-found
+returns-clause-found c =
+    let is = c.in-Some.ensures.1 ∙ c.new-rest.ensures in
+    let tag = c.in-Some-take_tag_text.ensures.found in
+    let vary = rw c.in-Some-2.is at c.in_ok-vary_fields.ensures in
+    let fields = rw c.in-Some-3.is at c.in_ok-fields.ensures in
+    let version = c.in-Some.first.version in
+    let own : tag_line version c.in-Some-take_tag_text.tag.now ≡ tag_line version (joining_text (opaque_of c.in_ok-joining.joining)) =
+    c.if-not-is_own_tag.ensures ∙ (ap (λ (l : List ℕ). tag_line version l) c.joining_text.ensures ∙ ap (λ (j : Option (List ℕ)). tag_line version (joining_text j)) (sym c.in_ok-joining.ensures.value)) in (
+      version,
+      assembled
+          (record {
+            kind = c.in-Some.first.seal.kind;
+            total = c.in-Some.first.seal.total;
+            status = c.in-Some.first.status;
+            requested = c.in-Some.first.numbers.requested;
+            answered = c.in-Some.first.numbers.answered;
+            joining = opaque_of c.in_ok-joining.joining;
+            vary_fields = c.in-Some-2.vary_fields;
+            fields = c.in-Some-3.fields;
+          })
+          c.in-Some.first c.args.text.now c.take_first_lines.new.text c.in-Some-take_tag_text.tag.now c.take_tag_text.new.text c.take_fields.new.self c.take_fields-2.new.self
+          c.in-Some.ensures.0 is tag.1 vary.1 fields.1 (c.if-not-is_at_end.ensures.0 refl) own refl refl c.in-Some.ensures.0.status_is refl refl vary.0.count_is fields.0.count_is,
+    )

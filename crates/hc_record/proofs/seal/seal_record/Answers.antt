@@ -8,6 +8,17 @@ returns-clause-bytes c = rw (c.copy_from_slice.ensures.after, c.total_text.ensur
     (put_mid-replace_range (slice_set c.args.text.now 9 (kind_byte c.args.kind)) (total_text c.args.total))
 
 pub returns-clause-head : goal.returns-clause-head
-returns-clause-head c = λ head is.
-    sym (sealed-spelling c.args.kind c.args.total head)
-    ∙ (ap (sealed c.args.kind c.args.total) is ∙ sym (returns-clause-bytes c))
+returns-clause-head c = λ version head own is. (
+  record {
+    known_status = own.known_status;
+    small_total = c.requires.small;
+    small_requested = own.small_requested;
+    small_answered = own.small_answered;
+    own_joining = own.own_joining;
+    vary_list = own.vary_list;
+    list = own.list;
+    modest = own.modest;
+  },
+  sym (sealed-spelling c.args.kind c.args.total version head own.small_total)
+      ∙ (ap (sealed c.args.kind c.args.total) is ∙ sym (returns-clause-bytes c)),
+)

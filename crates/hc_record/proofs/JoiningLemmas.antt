@@ -1,0 +1,87 @@
+-- The one strong tag of a list of values.
+use Rattle.std.proofs.Common.{◌≡◌, ◌≢◌, ℕ, ◌-◌, Bool, true, false, List, [], ◌∷◌, ◌++◌, length, take, Option, Some, None, IsTrue, refl, sym, ap, ◌∙◌, inl, inr, arith, length-append}
+use Rattle.std.specs.Prelude.{bytes_eq, ◌&&◌, is_some, slice_get}
+use Rattle.std.specs.List.{list_all}
+use Rattle.std.proofs.lemmas.Bool.{cases_Bool, cases_eq, ne_eqb, not_from_false, and_parts, and_from, both_ways}
+use Rattle.std.proofs.lemmas.List.{take_at}
+use Rattle.std.proofs.lemmas.Option.{none-some, same_Some}
+use Rattle.std.proofs.lemmas.Slice.Eq.{bytes_eq-Decides}
+use Rattle.hc_text.specs.Texts.{lacks}
+use Rattle.hc_etag.specs.Etags.{quote, is_etagc, IsOpaque, SpellsTag, tag_text}
+use Rattle.hc_record.specs.Head.{inside_of, strong_opaque, one_strong_opaque}
+use Rattle.hc_record.specs.Lines.{joining_text}
+
+pub one_value : (vs : List (List ℕ)) → length vs ≡ 1 → (v : List ℕ) × (vs ≡ v ∷ [])
+one_value [] h = absurd (omega arith)
+one_value (v ∷ []) h = (v, refl)
+one_value (v ∷ w ∷ vs) h = absurd (omega arith)
+
+pub none_unless_one : (vs : List (List ℕ)) → length vs ≢ 1 → one_strong_opaque vs ≡ None
+none_unless_one [] h = refl
+none_unless_one (v ∷ []) h = absurd (h refl)
+none_unless_one (v ∷ w ∷ vs) h = refl
+
+inside-tag : (opaque : List ℕ) → inside_of (tag_text false opaque) ≡ opaque
+inside-tag opaque =
+    let count : length (tag_text false opaque) - 2 ≡ length opaque = omega (arith, length-append opaque (quote ∷ [])) in
+    rw count (take_at opaque (quote ∷ []) (length opaque) refl)
+
+pub strong_opaque-tag : (opaque : List ℕ) → IsOpaque opaque → strong_opaque (tag_text false opaque) ≡ Some opaque
+strong_opaque-tag opaque h =
+    rw (inside-tag opaque, (bytes_eq-Decides (tag_text false opaque) (tag_text false opaque)).1 refl, h) refl
+
+pub strong_opaque-weak : (opaque : List ℕ) → strong_opaque (tag_text true opaque) ≡ None
+strong_opaque-weak opaque = refl
+
+abbrev is_strong : List ℕ → Bool
+is_strong v = bytes_eq v (quote ∷ inside_of v ++ quote ∷ []) && list_all is_etagc (inside_of v)
+
+pub tag-strong_opaque : (v opaque : List ℕ) → strong_opaque v ≡ Some opaque → IsOpaque opaque × (v ≡ tag_text false opaque)
+tag-strong_opaque v opaque h =
+    elim (cases_Bool (is_strong v)) [
+      | inl passes ↦
+          let both = and_parts _ _ passes in
+          let same : inside_of v ≡ opaque = same_Some _ _ (rw passes at h) in
+          (rw same at both.1, rw same at ((bytes_eq-Decides v (quote ∷ inside_of v ++ quote ∷ [])).0 both.0))
+      | inr fails ↦ absurd (none-some _ (rw fails at h))
+    ]
+
+pub own_tag : (vs : List (List ℕ)) (opaque : List ℕ) → one_strong_opaque vs ≡ Some opaque → IsOpaque opaque × (vs ≡ tag_text false opaque ∷ [])
+own_tag [] opaque h = absurd (none-some _ h)
+own_tag (v ∷ []) opaque h =
+    let own = tag-strong_opaque v opaque h in (own.0, rw (← own.1) refl)
+own_tag (v ∷ w ∷ vs) opaque h = absurd (none-some _ h)
+
+lacks-tag : (opaque : List ℕ) → IsOpaque opaque → lacks 10 (opaque ++ quote ∷ []) ≡ true
+lacks-tag [] h = refl
+lacks-tag (b ∷ opaque) h =
+    let both = and_parts (is_etagc b) (list_all is_etagc opaque) h in
+    elim (cases_eq b 10) [
+      | inl same ↦ absurd (both_ways _ refl (rw same at both.0))
+      | inr differs ↦ and_from _ _ (not_from_false _ (ne_eqb b 10 differs)) (lacks-tag opaque both.1)
+    ]
+
+-- no line ends in the text of a joining tag
+pub lacks-joining : (vs : List (List ℕ)) (joining : Option (List ℕ)) → joining ≡ one_strong_opaque vs → lacks 10 (joining_text joining) ≡ true
+lacks-joining vs None is = refl
+lacks-joining vs (Some opaque) is = lacks-tag opaque (own_tag vs opaque (sym is)).0
+
+-- the one value is the text of its tag
+pub joining_text-value : (vs : List (List ℕ)) (joining : Option (List ℕ)) → joining ≡ one_strong_opaque vs → is_some joining ≡ true → slice_get vs 0 ≡ Some (joining_text joining)
+joining_text-value vs None is some = absurd (both_ways _ refl some)
+joining_text-value vs (Some opaque) is some = rw ((own_tag vs opaque (sym is)).1) refl
+
+pub one_value_is : (vs : List (List ℕ)) (v : List ℕ) → length vs ≡ 1 → slice_get vs 0 ≡ Some v → vs ≡ v ∷ []
+one_value_is [] v h is = absurd (omega arith)
+one_value_is (u ∷ []) v h is = ap (λ (x : List ℕ). x ∷ []) (same_Some _ _ is)
+one_value_is (u ∷ w ∷ vs) v h is = absurd (omega arith)
+
+-- what is no tag is no strong one
+pub no_strong_opaque : (v : List ℕ) → ((weak : Bool) (opaque : List ℕ) → ¬ (SpellsTag v weak opaque)) → strong_opaque v ≡ None
+no_strong_opaque v none =
+    elim (cases_Bool (is_strong v)) [
+      | inl passes ↦
+          let both = and_parts _ _ passes in
+          absurd (none false (inside_of v) (both.1, (bytes_eq-Decides v (quote ∷ inside_of v ++ quote ∷ [])).0 both.0))
+      | inr fails ↦ rw fails refl
+    ]

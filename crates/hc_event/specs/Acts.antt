@@ -10,3 +10,7 @@ listed a = a.acts.items
 -- how many acts surely fit
 abbrev pub spare : Acts → ℕ
 spare a = vec_capacity a.acts - vec_len a.acts
+
+-- how many acts have room in all
+abbrev pub room : Acts → ℕ
+room a = vec_capacity a.acts

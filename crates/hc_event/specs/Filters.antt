@@ -59,3 +59,9 @@ leaves_in c [] = false
 leaves_in c (act.Ended d ∷ acts) = d == c || leaves_in c acts
 leaves_in c (act.Failed d cause ∷ acts) = d == c || leaves_in c acts
 leaves_in c (_ ∷ acts) = leaves_in c acts
+
+-- r makes room among these acts
+abbrev pub evicts_in : ℕ → List Act → Bool
+evicts_in r [] = false
+evicts_in r (act.Evicted s ∷ acts) = s == r || evicts_in r acts
+evicts_in r (_ ∷ acts) = evicts_in r acts

@@ -164,6 +164,10 @@ pub enum Act {
         r: u64,
         kind: LostKind,
     },
+    /// What is stored of the representation `r` makes room for more.
+    Evicted {
+        r: u64,
+    },
     /// The event is denied: it changes nothing but the moment.
     Denied {
         refusal: Refusal,
@@ -231,6 +235,7 @@ impl Act {
             },
             Act::Pending { c, wait } => Act::Pending { c: *c, wait: *wait },
             Act::Lost { r, kind } => Act::Lost { r: *r, kind: *kind },
+            Act::Evicted { r } => Act::Evicted { r: *r },
             Act::Denied { refusal } => Act::Denied { refusal: *refusal },
             _ => unreachable!(),
         }

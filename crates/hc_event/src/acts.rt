@@ -1,7 +1,9 @@
 //! The acts of a step, with room that can be made before.
-ghost use Rattle.std.specs.Prelude.{◌≡◌, ◌+◌, ◌<◌, ◌≤◌, ◌∷◌, ◌++◌, [], take, length, OnOk, OnErr, IsOk};
+ghost use Rattle.std.specs.Prelude.{◌≡◌, ◌+◌, ◌<◌, ◌≤◌, ◌∷◌, ◌++◌, [], take, length, reverse, OnOk, OnErr, IsOk, IfNone};
+ghost use Rattle.std.specs.Option.{option_to_list};
 
 use crate::act::Act;
+use crate::drain::Drain;
 use hc_text::NoMemory;
 use std::alloc::Global;
 
@@ -12,7 +14,8 @@ pub struct Acts {
 }
 
 impl Acts {
-    ghost use Rattle.hc_event.specs.Acts.{listed, spare};
+    ghost use Rattle.hc_event.specs.Acts.{listed, spare, room};
+    ghost use Rattle.hc_event.specs.Drain.{left_of, room_of, lender_of, KeepsAlong};
 
     /// No act.
     pub fn new(alloc: Global) -> Self
@@ -65,12 +68,41 @@ impl Acts {
         self.acts.truncate(n);
     }
 
-    /// No act is left, and `spare` does not fall.
+    /// No act is left, and the room is kept.
     pub fn clear(&mut self)
         ensures acts { listed self.new ≡ [] }
         ensures room { spare self.old ≤ spare self.new }
+        ensures kept { spare self.new ≡ length (listed self.old) + spare self.old }
     {
         self.acts.clear();
+    }
+
+    /// Hands out the acts by value, in order. Once what it answers is dropped, no act is left, and the
+    /// room is kept.
+    pub fn drain(&mut self) -> Drain<'_>
+        ensures left { left_of result ≡ listed self.old }
+        ensures room { room_of result ≡ length (listed self.old) + spare self.old }
+        ensures same_reference { lender_of result ≡ self.entry.ghost_name }
+        ensures stays { KeepsAlong result }
+    {
+        Drain::new(self)
+    }
+
+    /// The last act goes.
+    pub(crate) fn pop(&mut self) -> Option<Act>
+        ensures acts { listed self.old ≡ listed self.new ++ option_to_list result }
+        ensures none { IfNone result (listed self.old ≡ []) }
+        ensures room { room self.new ≡ room self.old }
+    {
+        self.acts.pop()
+    }
+
+    /// The last act stands first.
+    pub(crate) fn reverse(&mut self)
+        ensures acts { listed self.new ≡ reverse (listed self.old) }
+        ensures room { room self.new ≡ room self.old }
+    {
+        self.acts.as_mut_slice().reverse();
     }
 
     /// The acts, in order.

@@ -1,3 +1,6 @@
+ghost use Rattle.std.specs.Prelude.{◌≡◌, ◌+◌, [], length, IfOk};
+ghost use Rattle.hc_event.specs.Acts.{listed, spare};
+
 use super::*;
 use hc_fields::Fields;
 use hc_text::{Bytes, Key, MethodName, NoMemory};
@@ -64,6 +67,46 @@ fn copies_acts(rt: HostRuntime) -> Result<(), Fail> {
     };
     assert!(rt; given.copy().is_ok());
     Ok(())
+}
+
+#[test]
+fn hands_out_acts(rt: HostRuntime) -> Result<(), Fail> {
+    let mut acts = Acts::new(rt.alloc());
+    acts.reserve(3)?;
+    let spare = acts.spare();
+    acts.push(Act::Ask { x: 1 })?;
+    let bytes = piece(rt.alloc())?;
+    acts.push(Act::Given {
+        c: 1,
+        x: 2,
+        at: 3,
+        bytes,
+    })?;
+    acts.push(Act::Evicted { r: 4 })?;
+    let mut drain = acts.drain();
+    assert!(rt; matches!(drain.next(), Some(Act::Ask { x: 1 })));
+    match drain.next() {
+        Some(Act::Given { bytes, .. }) => assert!(rt; bytes.bytes.as_slice() == b"abc".as_slice()),
+        _ => panic!(rt; "no bytes"),
+    }
+    drop(drain);
+    assert!(rt; acts.list().is_empty());
+    assert_eq!(rt; acts.spare(), spare);
+    assert!(rt; moved(rt.alloc(), &mut acts)?.is_empty());
+    Ok(())
+}
+
+/// All acts, moved to a list of their own.
+fn moved(alloc: Global, acts: &mut Acts) -> Result<Vec<Act>, NoMemory>
+    ensures moved { IfOk result (λ own. own.items ≡ listed acts.old) }
+    ensures none_left { listed acts.new ≡ [] }
+    ensures room { spare acts.new ≡ length (listed acts.old) + spare acts.old }
+{
+    let mut own = Vec::new(alloc);
+    for act in acts.drain() {
+        own.push(act)?;
+    }
+    Ok(own)
 }
 
 #[test]

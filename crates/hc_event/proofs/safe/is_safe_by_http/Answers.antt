@@ -1,4 +1,4 @@
-use Rattle.std.proofs.Common.{◌≡◌, ℕ, false, List, codes, refl, sym, arith, rules, subst, inl, inr}
+use Rattle.std.proofs.Common.{◌≡◌, ℕ, false, List, codes, refl, sym, arith, subst, inl, inr}
 use Rattle.std.specs.Prelude.{bytes_eq}
 use Rattle.std.proofs.lemmas.Bool.{cases_Bool}
 use Rattle.std.proofs.lemmas.Slice.Eq.{bytes_eq-Decides}

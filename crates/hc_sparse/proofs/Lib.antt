@@ -3,3 +3,9 @@ pub mod SizeLemmas
 pub mod RunLemmas
 pub mod StretchLemmas
 pub mod PutLemmas
+pub mod PartLemmas
+pub mod ExtentLemmas
+pub mod ClaimLemmas
+pub mod BlockLemmas
+pub mod Filling
+pub mod OpLemmas

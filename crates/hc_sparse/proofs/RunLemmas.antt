@@ -1,14 +1,12 @@
 -- Runs one after another, and what they have.
 use Rattle.std.specs.List.Sorted.{IsPartitionedBy, IsPartitionPoint}
-use Rattle.std.proofs.Common.{◌≡◌, ◌⊎◌, inl, inr, ℕ, zero, suc, ◌+◌, ◌-◌, ◌<◌, ◌≤◌, ◌^◌, List, [], ◌∷◌, ◌++◌, length, true, false, Some, None, refl, ap, ◌∙◌, arith, add-one, get_or, take, drop, get_or-take, get_or-drop, length-take, length-drop, max}
+use Rattle.std.proofs.Common.{◌≡◌, ◌⊎◌, inl, inr, ℕ, zero, suc, ◌<◌, ◌≤◌, ◌^◌, List, [], ◌∷◌, length, true, false, Some, None, refl, arith, add-one, get_or, max}
 use Rattle.std.proofs.lemmas.Bool.{leb-true, le-leb}
 use Rattle.std.proofs.lemmas.Bool.Decides.{nat_tests}
 use Rattle.std.specs.Prelude.{nat_le}
 use Rattle.hc_sparse.specs.Cells.{EndsBy, IsNext}
-use Rattle.hc_sparse.specs.Runs.{cells_of, cell_in, ascend, place_of, end_of, IsRunFrom}
+use Rattle.hc_sparse.specs.Runs.{cells_of, ascend, place_of, end_of, IsRunFrom}
 use Rattle.hc_sparse.specs.declared.run.Run.{Run}
-use Rattle.hc_sparse.specs.Stretch.{bytes_from}
-use Rattle.hc_sparse.proofs.StretchLemmas.{bytes-append}
 use Rattle.hc_sparse.proofs.CellLemmas.{inside-yes, inside-before, inside-past}
 
 pub ascend-cons : (n : ℕ) (r : Run) (rs : List Run) → ascend n (r ∷ rs) ≡ true → (n ≤ r.at) × (0 < length r.bytes) × (ascend (end_of r) rs ≡ true)
@@ -110,20 +108,6 @@ place-is p (r ∷ rs) (suc i) le point =
     let here : nat_le (end_of r) p ≡ true = point.0 0 r (omega arith) (omega arith) in
     let rest = place-is p rs i (omega arith) ((λ k d lo hi. point.0 (suc k) d (omega arith) (omega arith)), (λ k d lo hi. point.1 (suc k) d (omega arith) (omega arith))) in
     rw here (omega arith)
-
--- What a run has of a stretch.
-pub run-part : (rs : List Run) (p x most : ℕ) (r : Run) → IsRunFrom rs p r → r.at ≤ p → r.x ≡ x → let part = take most (drop (p - r.at) r.bytes) in bytes_from (cells_of rs) x p most ≡ part ++ bytes_from (cells_of rs) x (p + length part) (most - length part)
-run-part rs p x most r has lo is =
-    let part : List ℕ = take most (drop (p - r.at) r.bytes) in
-    let past = has.past in
-    let len : length part ≤ most = omega (arith, length-take most (drop (p - r.at) r.bytes)) in
-    let short : length part ≤ length r.bytes - (p - r.at) = omega (arith, length-take most (drop (p - r.at) r.bytes), length-drop (p - r.at) r.bytes) in
-    let e : most ≡ length part + (most - length part) = omega arith in
-    let run = bytes-append (cells_of rs) x part p (most - length part) (λ i lt.
-    let at_i : cells_of rs (p + i) ≡ cell_in r (p + i) = has.cells (p + i) (omega arith) (omega arith) in
-    let place : p + i - r.at ≡ p - r.at + i = omega arith in
-    at_i ∙ rw (place, is, get_or-take most (drop (p - r.at) r.bytes) i 0 (omega arith), get_or-drop (p - r.at) r.bytes i 0) refl) in
-    ap (λ k. bytes_from (cells_of rs) x p k) e ∙ run
 
 -- The first position of that run from there on is the next that is present.
 pub next-is : (rs : List Run) (p n : ℕ) (r : Run) → IsRunFrom rs p r → n ≡ max r.at p → IsNext (cells_of rs) p (Some n)

@@ -1,4 +1,9 @@
 pub mod Cells
 pub mod Stretch
 pub mod Runs
+pub mod Plain
+pub mod Extents
+pub mod Blocks
+pub mod BlockMaps
 pub mod Sparse
+pub mod Ops

@@ -1,8 +1,8 @@
--- What sparse bytes that are kept as runs have.
+-- What sparse bytes that are kept as blocks have.
 use Rattle.hc_sparse.specs.Cells.{Cells}
-use Rattle.hc_sparse.specs.Runs.{cells_of}
+use Rattle.hc_sparse.specs.BlockMaps.{blocks_cells}
 use Rattle.hc_sparse.specs.declared.sparse.Sparse.{Sparse}
 
 -- What is at each position.
 abbrev pub sparse_cells : Sparse → Cells
-sparse_cells s = cells_of s.runs.items
+sparse_cells s = blocks_cells s.blocks

@@ -1,20 +1,28 @@
 //! Laws of stretches: each is the contract of a function that does nothing.
-ghost use Rattle.std.specs.Prelude.{◌≡◌, ◌≢◌, ◌↔◌, ◌<◌, ◌≤◌, ◌+◌, ◌-◌, ◌++◌, ℕ, List, length, take, IfSome, Some, None};
+ghost use Rattle.std.specs.Prelude.{◌≡◌, ◌≢◌, ◌↔◌, ◌<◌, ◌≤◌, ◌+◌, ℕ, List, length, IfSome, Some, None};
 ghost use Rattle.hc_sparse.specs.Cells.{Cells, Cell, AreAbsent, AreOf, written};
-ghost use Rattle.hc_sparse.specs.Stretch.{stretch, bytes_from, IsLongest};
+ghost use Rattle.hc_sparse.specs.Stretch.{stretch, reached, IsLongest};
 ghost use Rattle.hc_sparse.specs.declared.run.Run.{Run};
 
 /// What a stretch is: bytes of one exchange without a gap, as many as stand there and are wanted.
 pub fn a_stretch_is_the_longest()
     ensures absent { (f : Cells) (p want : ℕ) → (stretch f p want ≡ None) ↔ (f p ≡ None) }
-    ensures longest { (f : Cells) (p want : ℕ) → 0 < want → IfSome (stretch f p want) (λ run. IsLongest f p want run) }
-    ensures only { (f : Cells) (p want : ℕ) (run : Run) → IsLongest f p want run → stretch f p want ≡ Some run }
+    ensures longest { (f : Cells) (p want : ℕ) → 0 < want →
+        IfSome (stretch f p want) (λ run. IsLongest f p want run) }
+    ensures only { (f : Cells) (p want : ℕ) (run : Run) →
+        IsLongest f p want run → stretch f p want ≡ Some run }
 {}
 
 /// How a put changes stretches: those that begin behind it or are of another exchange stay, and
 /// those of its exchange that reach it go on with its bytes, and then with what stood behind them.
 pub fn a_put_lengthens_what_reaches_it()
-    ensures behind { (f : Cells) (at x : ℕ) (bytes : List ℕ) (p want : ℕ) → at + length bytes ≤ p → stretch (written at x bytes f) p want ≡ stretch f p want }
-    ensures other { (f : Cells) (at x : ℕ) (bytes : List ℕ) (p want : ℕ) (cell : Cell) → AreAbsent f at (at + length bytes) → f p ≡ Some cell → cell.x ≢ x → stretch (written at x bytes f) p want ≡ stretch f p want }
-    ensures reaches { (f : Cells) (at x : ℕ) (bytes : List ℕ) (p want : ℕ) → 0 < length bytes → p ≤ at → AreOf x f p at → stretch (written at x bytes f) p want ≡ Some (record { x = x; at = p; bytes = take want (bytes_from f x p (at - p) ++ bytes ++ bytes_from f x (at + length bytes) want) }) }
+    ensures behind { (f : Cells) (at x : ℕ) (bytes : List ℕ) (p want : ℕ) →
+        at + length bytes ≤ p →
+        stretch (written at x bytes f) p want ≡ stretch f p want }
+    ensures other { (f : Cells) (at x : ℕ) (bytes : List ℕ) (p want : ℕ) (cell : Cell) →
+        AreAbsent f at (at + length bytes) → f p ≡ Some cell → cell.x ≢ x →
+        stretch (written at x bytes f) p want ≡ stretch f p want }
+    ensures reaches { (f : Cells) (at x : ℕ) (bytes : List ℕ) (p want : ℕ) →
+        0 < length bytes → p ≤ at → AreOf x f p at →
+        stretch (written at x bytes f) p want ≡ Some (reached f at x bytes p want) }
 {}

@@ -37,7 +37,8 @@ pub trait SparseBytes: Presence {
     fn put(&mut self, at: u64, x: u64, bytes: &[u8]) -> Result<(), NoMemory>
         requires absent { AreAbsent (Self.cells self.old) at (at + length bytes.now) }
         requires end { at + length bytes.now ≤ 2 ^ 62 }
-        ensures ok { OnOk result (Self.cells self.new ≡ written at x bytes.now (Self.cells self.old)) }
+        ensures ok { OnOk result
+            (Self.cells self.new ≡ written at x bytes.now (Self.cells self.old)) }
         ensures err { OnErr result (Self.cells self.new ≡ Self.cells self.old) }
 
         // No bytes need no memory.

@@ -1,0 +1,73 @@
+-- Operations one after another.
+use Rattle.std.proofs.Common.{◌≡◌, inl, inr, ℕ, zero, suc, ◌+◌, ◌<◌, ◌≤◌, List, [], ◌∷◌, ◌++◌, length, take, Bool, true, false, Option, Some, None, refl, sym, ap, ◌∙◌, arith, add-one, get_or}
+use Rattle.std.proofs.Math.Seq.{take-suc}
+use Rattle.std.specs.Prelude.{is_some, not, ◌&&◌, nat_le, Result, Ok, Err, OnErr}
+use Rattle.hc_sparse.specs.Cells.{Cells, Cell, AreAbsent, IsNext}
+use Rattle.hc_sparse.specs.Ops.{are_absent, after, made, IsAnswer, AreAnswers, HasAnswered}
+use Rattle.hc_sparse.specs.declared.ops.SparseOp.{SparseOp}
+use Rattle.hc_sparse.specs.declared.ops.SparseAnswer.{SparseAnswer}
+use Rattle.hc_sparse.proofs.CellLemmas.{split}
+use Rattle.hc_sparse.proofs.RunLemmas.{le_cases}
+
+absent-is : (o : Option Cell) → is_some o ≡ false → o ≡ None
+absent-is None is = refl
+absent-is (Some cell) is = absurd cc
+
+-- The test says what it is named for.
+pub absent-all : (f : Cells) (p n : ℕ) → AreAbsent f p (p + n) → are_absent f p n ≡ true
+absent-all f p zero absent = refl
+absent-all f p (suc n) absent = rw (absent p (omega arith) (omega arith)) (absent-all f (p + 1) n (λ q ge lt. absent q (omega arith) (omega arith)))
+
+both : (b rest : Bool) → (not b && rest) ≡ true → (b ≡ false) × (rest ≡ true)
+both true rest is = absurd cc
+both false rest is = (refl, is)
+
+pub all-absent : (f : Cells) (p n : ℕ) → are_absent f p n ≡ true → AreAbsent f p (p + n)
+all-absent f p zero is q ge lt = absurd (omega arith)
+all-absent f p (suc n) is q ge lt =
+    let parts = both (is_some (f p)) (are_absent f (p + 1) n) is in
+    elim (split p q) [
+      | inl past ↦ all-absent f (p + 1) n parts.1 q (omega arith) (omega arith)
+      | inr by ↦ let here : q ≡ p = omega arith in rw here (absent-is (f p) parts.0)
+    ]
+
+one-of : (b : Bool) → (b ≡ true → ⊥) → b ≡ false
+one-of true never = absurd (never refl)
+one-of false never = refl
+
+pub present-not : (f : Cells) (p n q : ℕ) → is_some (f q) ≡ true → p ≤ q → q < p + n → are_absent f p n ≡ false
+present-not f p n q here ge lt = one-of (are_absent f p n) (λ is. let none = all-absent f p n is q ge lt in let never : false ≡ true = rw none at here in cc)
+
+-- The next position tells it.
+pub next-tells : (f : Cells) (p n m : ℕ) → IsNext f p (Some m) → nat_le (p + n) m ≡ are_absent f p n
+next-tells f p n m next = elim (le_cases (p + n) m) [
+  | inl far ↦ rw far.0 (sym (absent-all f p n (λ q ge lt. next.2 q ge (let end = far.1 in omega arith))))
+  | inr near ↦ rw near.0 (sym (present-not f p n m next.1 next.0 near.1))
+]
+
+pub on_err : {T E : Type 0} {P : Type 0} (r : Result T E) → P → OnErr r P
+on_err (Ok v) p = tt
+on_err (Err e) p = p
+
+made-append : (f : Cells) (os more : List SparseOp) → made f (os ++ more) ≡ made (made f os) more
+made-append f [] more = refl
+made-append f (o ∷ os) more = made-append (after o f) os more
+
+answers-append : (f : Cells) (os : List SparseOp) (rest : List SparseAnswer) (o : SparseOp) (a : SparseAnswer) → AreAnswers f os rest → IsAnswer (made f os) o a → AreAnswers f (os ++ o ∷ []) (rest ++ a ∷ [])
+answers-append f [] [] o a are is = (is, tt)
+answers-append f [] (b ∷ rest) o a are is = absurd are
+answers-append f (p ∷ os) [] o a are is = absurd are
+answers-append f (p ∷ os) (b ∷ rest) o a are is = (are.0, answers-append (after p f) os rest o a are.1 is)
+
+pub one-more : (os : List SparseOp) (i : ℕ) (o : SparseOp) → i < length os → o ≡ get_or os i o → take (i + 1) os ≡ take i os ++ o ∷ []
+one-more os i o lt is = rw (add-one i) (take-suc os i o lt ∙ ap (λ p. take i os ++ p ∷ []) (sym is))
+
+pub made-more : (f g h : Cells) (os : List SparseOp) (o : SparseOp) → g ≡ made f os → h ≡ after o g → h ≡ made f (os ++ o ∷ [])
+made-more f g h os o has makes = makes ∙ (ap (after o) has ∙ sym (made-append f os (o ∷ [])))
+
+-- One operation more.
+pub answered-more : (f g h : Cells) (os : List SparseOp) (rest : List SparseAnswer) (o : SparseOp) (a : SparseAnswer) → HasAnswered f g os rest → IsAnswer g o a → h ≡ after o g → HasAnswered f h (os ++ o ∷ []) (rest ++ a ∷ [])
+answered-more f g h os rest o a has is makes = record {
+  answers_are = answers-append f os rest o a has.answers_are (rw has.makes at is);
+  makes = made-more f g h os o has.makes makes;
+}

@@ -1,0 +1,75 @@
+//! Whose the offsets of a block are, as extents in order, none of which overlap.
+ghost use Rattle.std.specs.Prelude.{◌≡◌, ◌↔◌, ◌+◌, ◌≤◌, ◌<◌, IsTrue, ℕ, length, true, IfSome, IsNone, vec_len, vec_capacity};
+ghost use Rattle.hc_sparse.specs.Extents.{owners_of, ascend, place_of, end_of, AreFree, ClaimsExtent, IsExtentFrom};
+
+/// Offsets that are all of one exchange.
+#[derive(Clone, Copy, Debug, PartialEq, Eq)]
+pub(crate) struct Extent {
+    pub(crate) x: u64,
+    pub(crate) at: usize,
+    pub(crate) len: usize,
+}
+
+/// Whether an extent ends at an offset or before it.
+fn ends_by(extent: &Extent, o: usize) -> bool
+    ensures { IsTrue result ↔ (end_of extent.now ≤ o) }
+{
+    extent.at <= o && extent.len <= o - extent.at
+}
+
+/// How many extents end at an offset or before it.
+fn place_of(extents: &[Extent], o: usize) -> usize
+    requires { ascend 0 extents.now ≡ true }
+    ensures within { result ≤ length extents.now }
+    ensures place { result ≡ place_of o extents.now }
+{
+    extents.partition_point(|extent| ends_by(extent, o))
+}
+
+/// The first extent that ends past an offset.
+pub(crate) fn extent_from(extents: &[Extent], o: usize) -> Option<&Extent>
+    requires { ascend 0 extents.now ≡ true }
+    ensures none { IsNone result → (q : ℕ) → o ≤ q → owners_of extents.now q ≡ None }
+    ensures some { IfSome result (λ extent. IsExtentFrom extents.now o extent.now) }
+{
+    extents.get(place_of(extents, o))
+}
+
+/// The extent that has an offset.
+pub(crate) fn extent_with(extents: &[Extent], o: usize) -> Option<&Extent>
+    requires { ascend 0 extents.now ≡ true }
+    ensures none { IsNone result → owners_of extents.now o ≡ None }
+    ensures some { IfSome result
+        (λ extent. IsExtentFrom extents.now o extent.now × (extent.now.at ≤ o)) }
+{
+    match extent_from(extents, o) {
+        Some(extent) if extent.at <= o => Some(extent),
+        _ => None,
+    }
+}
+
+/// Makes offsets that nobody has an exchange's. There has to be room for one extent more.
+pub(crate) fn claim(extents: &mut Vec<Extent>, new: Extent)
+    requires ascend { ascend 0 extents.old.items ≡ true }
+    requires free { AreFree (owners_of extents.old.items) new.at (end_of new) }
+    requires some { 0 < new.len }
+    requires within { end_of new ≤ 4096 }
+    requires spare { vec_len extents.old < vec_capacity extents.old }
+    ensures ascend { ascend 0 extents.new.items ≡ true }
+    ensures owners { ClaimsExtent extents.old.items extents.new.items new }
+{
+    let place = place_of(extents.as_slice(), new.at);
+    if place > 0 && is_followed(&extents[place - 1], new.at, new.x) {
+        let before = &mut extents[place - 1];
+        before.len += new.len;
+        return;
+    }
+    let _ = extents.insert(place, new);
+}
+
+/// Whether an extent is of an exchange and ends just where more begins.
+fn is_followed(extent: &Extent, at: usize, x: u64) -> bool
+    ensures { IsTrue result ↔ (extent.now.x ≡ x) × (end_of extent.now ≡ at) }
+{
+    extent.x == x && extent.at <= at && extent.len == at - extent.at
+}

@@ -9,3 +9,4 @@ pub mod Items
 pub mod LineCounts
 pub mod Laws
 pub mod Progress
+pub mod Always

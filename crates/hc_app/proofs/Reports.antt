@@ -21,7 +21,7 @@ use Rattle.hc_app.proofs.Owners.{either}
 -- What the loop of a replay keeps: the first i events are reported.
 pub record IsWritten (cache : Cache) (events : List Timed) (i number : ℕ) (before after : Option (List ℕ)) (fewer more : ℕ) : Type 0 where
   pub reported : IsReported cache (take i events) before after
-  pub later : fewer ≤ more
+  pub calm : more ≡ fewer
   pub numbered : number ≡ i
   pub rises : Rises cache.last_moment (drop i events)
 

@@ -21,6 +21,7 @@ named (act.Ended c) = Some c
 named (act.Failed c cause) = Some c
 named (act.Pending c wait) = Some c
 named (act.Lost r kind) = None
+named (act.Evicted r) = None
 named (act.Denied refusal) = None
 
 -- no act names d

@@ -12,6 +12,7 @@ pub mod Laws
 pub mod Histories
 pub mod Reads
 pub mod Stands
+pub mod Changes
 pub mod Parts
 pub mod Report
 pub mod Replayed

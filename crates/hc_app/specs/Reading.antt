@@ -1,5 +1,5 @@
 -- What the reader of schedules adds to a list of events, and the laws of its grammar.
-use Rattle.std.specs.Prelude.{◌≡◌, ℕ, List, ◌++◌}
+use Rattle.std.specs.Prelude.{◌≡◌, ◌⊎◌, ℕ, List, ◌++◌}
 use Rattle.hc_app.specs.declared.schedule.FeedError.{FeedError}
 use Rattle.hc_app.specs.declared.schedule.FeedError.TheVariants.{Refused, NoMemory}
 use Rattle.hc_app.specs.declared.schedule.SchedRefusal.TheVariants.{NotBuilt}
@@ -39,3 +39,11 @@ IsNeverRefused = (text : List ℕ) (xs ys : List Item) (line : ℕ) → Spells t
 -- A refused text is refused at one line, after one list of items.
 abbrev pub HasOneRefusal : Type 0
 HasOneRefusal = (text : List ℕ) (xs ys : List Item) (m n : ℕ) → IsRefused text xs m → IsRefused text ys n → (xs ≡ ys) × (m ≡ n)
+
+-- The text spells items, or is refused at a line.
+abbrev pub IsRead : List ℕ → Type 0
+IsRead text = ((items : List Item) × Spells text items) ⊎ ((items : List Item) × (line : ℕ) × IsRefused text items line)
+
+-- Each text does.
+abbrev pub IsAlwaysRead : Type 0
+IsAlwaysRead = (text : List ℕ) → IsRead text

@@ -84,6 +84,7 @@ act_text (act.Ended c) = codes "ended " ++ decimal c ++ 10 ∷ []
 act_text (act.Failed c cause) = codes "failed " ++ decimal c ++ 32 ∷ cause_word cause ++ 10 ∷ []
 act_text (act.Pending c wait) = codes "pending " ++ decimal c ++ 32 ∷ wait_word wait ++ 10 ∷ []
 act_text (act.Lost r kind) = codes "lost " ++ decimal r ++ 32 ∷ kind_word kind ++ 10 ∷ []
+act_text (act.Evicted r) = codes "evicted " ++ decimal r ++ 10 ∷ []
 act_text (act.Denied refusal) = codes "denied " ++ refusal_word refusal ++ 10 ∷ []
 
 abbrev pub acts_text : List Act → List ℕ

@@ -8,20 +8,14 @@ use Rattle.hc_event.specs.declared.event.Event.{Event}
 use Rattle.hc_event.specs.declared.event.Event.TheVariants as event
 use Rattle.hc_event.specs.declared.event.Load.{Load}
 use Rattle.hc_event.specs.declared.event.Load.TheVariants as load
+pub use Rattle.hc_text.specs.Texts.{IsSmall}
+pub use Rattle.hc_fields.specs.Lines.{field_text, fields_text}
 use Rattle.hc_app.specs.declared.schedule.Timed.{Timed}
 
 -- An item of a schedule: a moment is set, or an event happens.
 pub data Item : Type 0 where
   Moment : (now : ℕ) → Item
   Happens : (event : Event) → Item
-
--- A field line: the name, a colon, a space and the value.
-abbrev pub field_text : List ℕ × List ℕ → List ℕ
-field_text field = field.0 ++ codes ": " ++ field.1 ++ 10 ∷ []
-
-abbrev pub fields_text : List (List ℕ × List ℕ) → List ℕ
-fields_text [] = []
-fields_text (field ∷ fields) = field_text field ++ fields_text fields
 
 abbrev pub load_word : Load → List ℕ
 load_word load.Normal = codes "normal"
@@ -64,10 +58,6 @@ pub record IsTarget (key : List ℕ) : Type 0 where
   pub begins : starts_with nat_eq key (codes "http://a.test/") ≡ true
   pub plain : list_all is_target_byte (drop 14 key) ≡ true
   pub short : length key ≤ 64
-
--- A number below 2 ^ 62: numbers are spelled in plain decimal.
-abbrev pub IsSmall : ℕ → Type 0
-IsSmall n = n < 2 ^ 62
 
 -- The fields are one content-length with a plain number.
 abbrev pub DeclaresLength : List (List ℕ × List ℕ) → Type 0

@@ -70,8 +70,10 @@ impl Cache {
         requires built { IsBuiltEvent event.now }
         requires few { self.old.steps < 2 ^ 61 }
         requires small { self.old.received + received_in event.now < 2 ^ 61 }
-        ensures answered { OnOk result (Steps self.old self.new (listed out.old) (listed out.new) now event.now) }
-        ensures denied { OnOk result (IsSome (refusal_by (gate_of self.old) event.now) → self.new ≡ counted now event.now self.old) }
+        ensures answered { OnOk result
+            (Steps self.old self.new (listed out.old) (listed out.new) now event.now) }
+        ensures denied { OnOk result (IsSome (refusal_by (gate_of self.old) event.now)
+            → self.new ≡ counted now event.now self.old) }
     {
         if let Some(refusal) = self.refuses(event) {
             out.push(Act::Denied { refusal })?;
@@ -102,7 +104,8 @@ impl Cache {
         requires few { self.old.steps < 2 ^ 61 }
         requires small { self.old.received + received_in event.now < 2 ^ 61 }
         requires accepted { refusal_by (gate_of self.old) event.now ≡ None }
-        ensures advances { OnOk result (Advances self.old self.new (listed out.old) (listed out.new) now event.now) }
+        ensures advances { OnOk result
+            (Advances self.old self.new (listed out.old) (listed out.new) now event.now) }
         ensures steps { OnOk result (self.new.steps ≡ self.old.steps) }
         ensures received { OnOk result (self.new.received ≡ self.old.received) }
     {
@@ -121,7 +124,8 @@ impl Cache {
     /// A consumer starts, and stands in line.
     fn start(&mut self, now: u64, c: u64, request: &Request) -> Result<(), NoMemory>
         requires { self.old.last_start < c }
-        ensures advances { OnOk result ((out : List Act) → Advances self.old self.new out out now (Event.Start c request.now)) }
+        ensures advances { OnOk result ((out : List Act)
+            → Advances self.old self.new out out now (Event.Start c request.now)) }
         ensures steps { self.new.steps ≡ self.old.steps }
         ensures received { self.new.received ≡ self.old.received }
     {
@@ -144,7 +148,8 @@ impl Cache {
     fn take_head(&mut self, now: u64, x: u64, response: &Response) -> Result<(), NoMemory>
         requires there { IsSome (get nat_cmp self.old.exchanges x) }
         requires declared { DeclaresLength response.now.fields }
-        ensures advances { OnOk result ((out : List Act) → Advances self.old self.new out out now (Event.Head x response.now)) }
+        ensures advances { OnOk result ((out : List Act)
+            → Advances self.old self.new out out now (Event.Head x response.now)) }
         ensures steps { self.new.steps ≡ self.old.steps }
         ensures received { self.new.received ≡ self.old.received }
     {
@@ -164,8 +169,10 @@ impl Cache {
     /// An exchange brings a piece.
     fn take_piece(&mut self, now: u64, x: u64, bytes: &[u8]) -> Result<(), NoMemory>
         requires there { IsSome (get nat_cmp self.old.exchanges x) }
-        requires small { IsSomeAnd (get nat_cmp self.old.exchanges x) (λ w. w.delivered + length bytes.now < 2 ^ 61) }
-        ensures advances { OnOk result ((out : List Act) → Advances self.old self.new out out now (Event.Piece x bytes.now)) }
+        requires small { IsSomeAnd (get nat_cmp self.old.exchanges x)
+            (λ w. w.delivered + length bytes.now < 2 ^ 61) }
+        ensures advances { OnOk result ((out : List Act)
+            → Advances self.old self.new out out now (Event.Piece x bytes.now)) }
         ensures steps { self.new.steps ≡ self.old.steps }
         ensures received { self.new.received ≡ self.old.received }
     {

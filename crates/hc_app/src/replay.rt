@@ -1,6 +1,6 @@
 //! Events go in, and the report of each goes out before the next is stepped.
-ghost use Rattle.std.specs.Prelude.{◌≡◌, ◌+◌, ◌<◌, ◌≤◌, ◌^◌, [], OnOk};
-ghost use Rattle.hc_io.specs.Faults.{HasRisen};
+ghost use Rattle.std.specs.Prelude.{◌≡◌, ◌+◌, ◌<◌, ◌≤◌, ◌^◌, [], OnOk, IsErrOf};
+ghost use Rattle.hc_io.specs.Sink.{HasSinkCause};
 ghost use Rattle.hc_app.specs.Rows.{Tables};
 ghost use Rattle.hc_app.specs.Tables.{tables, received_in};
 ghost use Rattle.hc_app.specs.Schedule.{IsBuiltEvent};
@@ -15,41 +15,33 @@ use hc_io::{Sink, SinkError, write_all};
 use hc_text::NoMemory;
 use std::alloc::Global;
 
-/// How a replay ended.
-#[derive(Clone, Copy, Debug, PartialEq, Eq)]
-pub enum Ended {
-    /// All events were stepped, and their report is written.
-    Done,
-    /// The sink failed, and counted that.
-    SinkFailed,
-    /// There was not enough memory.
-    NoMemory,
-}
-
-/// Replays events on a new cache.
-pub fn replay<K: Sink>(alloc: Global, cache: &mut Cache, events: &[Timed], sink: &mut K) -> Ended
+/// Replays events on a new cache. After an error some first part of the report is written.
+pub fn replay<K: Sink>(
+    alloc: Global,
+    cache: &mut Cache,
+    events: &[Timed],
+    sink: &mut K,
+) -> Result<(), SinkError>
     requires new { StandsFor cache.old (tables []) }
     requires replayable { IsReplayable events.now }
-    ensures done { result ≡ Ended.Done → IsReported cache.new events.now (K.taken sink.old) (K.taken sink.new) }
+    ensures done { OnOk result
+        (IsReported cache.new events.now (K.taken sink.old) (K.taken sink.new)) }
     ensures partly { IsPartlyReported events.now (K.taken sink.old) (K.taken sink.new) }
-    ensures failed { result ≡ Ended.SinkFailed → HasRisen (K.faults sink.old) (K.faults sink.new) }
-    ensures later { K.faults sink.old ≤ K.faults sink.new }
+
+    // SinkFailed comes only where a fault was counted, and nothing else does.
+    ensures cause { HasSinkCause (K.faults sink.old) (K.faults sink.new) result }
+    ensures calm { OnOk result (K.faults sink.new ≡ K.faults sink.old) }
+    ensures no_fault { IsErrOf result SinkError.NoMemory → K.faults sink.new ≡ K.faults sink.old }
 {
     let mut acts = Acts::new(alloc);
     let mut text = Vec::new(alloc);
     let mut number = 0;
     for timed in events {
         number += 1;
-        match answer(cache, number, timed, &mut acts, &mut text) {
-            Err(NoMemory) => return Ended::NoMemory,
-            Ok(()) => match write_all(sink, text.as_slice()) {
-                Ok(()) => {}
-                Err(SinkError::SinkFailed) => return Ended::SinkFailed,
-                Err(SinkError::NoMemory) => return Ended::NoMemory,
-            },
-        }
+        answer(cache, number, timed, &mut acts, &mut text)?;
+        write_all(sink, text.as_slice())?;
     }
-    Ended::Done
+    Ok(())
 }
 
 /// Steps one event, and makes the text of its entry.

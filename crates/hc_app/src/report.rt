@@ -189,7 +189,8 @@ fn write_fields(fields: &Fields, to: &mut Vec<u8>) -> Result<(), NoMemory>
 /// Writes the method, the key and the fields of a request that is opened.
 fn write_request(request: &Request, to: &mut Vec<u8>) -> Result<(), NoMemory>
     ensures ok { OnOk result (to.new.items
-        ≡ to.old.items ++ (32 ∷ request.now.method ++ 32 ∷ request.now.key ++ 32 ∷ decimal (length request.now.fields) ++ 10 ∷ fields_text request.now.fields)) }
+        ≡ to.old.items ++ (32 ∷ request.now.method ++ 32 ∷ request.now.key
+        ++ 32 ∷ decimal (length request.now.fields) ++ 10 ∷ fields_text request.now.fields)) }
     ensures err { OnErr result (IsKept to.old.items to.new.items) }
 {
     let parts = [
@@ -212,7 +213,8 @@ fn write_opened(
     request: &Request,
     to: &mut Vec<u8>,
 ) -> Result<(), NoMemory>
-    ensures ok { OnOk result (to.new.items ≡ to.old.items ++ act_text (Act.Opened x c need request.now)) }
+    ensures ok { OnOk result
+        (to.new.items ≡ to.old.items ++ act_text (Act.Opened x c need request.now)) }
     ensures err { OnErr result (IsKept to.old.items to.new.items) }
 {
     let parts = [Text(b"open "), Number(x), Text(b" "), Number(c), Text(b" ")];
@@ -247,7 +249,8 @@ fn write_head(
     to: &mut Vec<u8>,
 ) -> Result<(), NoMemory>
     ensures ok { OnOk result (to.new.items
-        ≡ to.old.items ++ (32 ∷ decimal status ++ 32 ∷ decimal lo ++ 32 ∷ end_word hi ++ 32 ∷ decimal (length fields.now) ++ 10 ∷ fields_text fields.now)) }
+        ≡ to.old.items ++ (32 ∷ decimal status ++ 32 ∷ decimal lo ++ 32 ∷ end_word hi
+        ++ 32 ∷ decimal (length fields.now) ++ 10 ∷ fields_text fields.now)) }
     ensures err { OnErr result (IsKept to.old.items to.new.items) }
 {
     let parts = [
@@ -264,7 +267,8 @@ fn write_head(
 }
 
 fn write_given(c: u64, x: u64, at: u64, bytes: &[u8], to: &mut Vec<u8>) -> Result<(), NoMemory>
-    ensures ok { OnOk result (to.new.items ≡ to.old.items ++ act_text (Act.Given c x at bytes.now)) }
+    ensures ok { OnOk result
+        (to.new.items ≡ to.old.items ++ act_text (Act.Given c x at bytes.now)) }
     ensures err { OnErr result (IsKept to.old.items to.new.items) }
 {
     let parts = [
@@ -348,6 +352,7 @@ fn write_act(act: &Act, to: &mut Vec<u8>) -> Result<(), NoMemory>
         Act::Failed { c, cause } => write_failed(*c, *cause, to),
         Act::Pending { c, wait } => write_pending(*c, *wait, to),
         Act::Lost { r, kind } => write_lost(*r, *kind, to),
+        Act::Evicted { r } => write_parts(&[Text(b"evicted "), Number(*r), Text(b"\n")], to),
         Act::Denied { refusal } => write_denied(*refusal, to),
     }
 }

@@ -1,7 +1,8 @@
 //! What is kept of each consumer and each exchange, and the changes of one of them at a time.
-ghost use Rattle.std.specs.Prelude.{◌≡◌, ◌+◌, ◌<◌, ◌^◌, ◌==◌, ℕ, option_map, if◌then◌else◌, length, take, drop, IfOk, OnOk, OnErr, IsSome, IfSome};
+ghost use Rattle.std.specs.Prelude.{◌≡◌, ◌+◌, ◌<◌, ◌^◌, length, take, IfOk, OnOk, OnErr, IsSome, IfSome};
 ghost use Rattle.std.specs.Ordering.{nat_cmp};
 ghost use Rattle.std.specs.BTreeMap.{get, btree_map_len};
+ghost use Rattle.hc_app.specs.Changes.{ChangesAt, SameEntries};
 ghost use Rattle.hc_app.specs.Stands.{at_stand, once_shown, at_offset, with_head, with_piece, once_asked, without};
 
 use crate::held::Held;
@@ -50,7 +51,7 @@ pub struct Exchange {
 
 /// The consumer stands there from now on.
 pub fn place(consumers: &mut BTreeMap<u64, Consumer>, c: u64, stand: Stand)
-    ensures places { (d : ℕ) → get nat_cmp consumers.new d ≡ (if c == d then option_map (at_stand stand) (get nat_cmp consumers.old c) else get nat_cmp consumers.old d) }
+    ensures places { ChangesAt consumers.old consumers.new c (at_stand stand) }
     ensures len { btree_map_len consumers.new ≡ btree_map_len consumers.old }
 {
     if let Some(consumer) = consumers.get_mut(&c) {
@@ -60,7 +61,7 @@ pub fn place(consumers: &mut BTreeMap<u64, Consumer>, c: u64, stand: Stand)
 
 /// The consumer was shown its head.
 pub fn mark_shown(consumers: &mut BTreeMap<u64, Consumer>, c: u64)
-    ensures places { (d : ℕ) → get nat_cmp consumers.new d ≡ (if c == d then option_map once_shown (get nat_cmp consumers.old c) else get nat_cmp consumers.old d) }
+    ensures places { ChangesAt consumers.old consumers.new c once_shown }
     ensures len { btree_map_len consumers.new ≡ btree_map_len consumers.old }
 {
     if let Some(consumer) = consumers.get_mut(&c) {
@@ -70,7 +71,7 @@ pub fn mark_shown(consumers: &mut BTreeMap<u64, Consumer>, c: u64)
 
 /// The consumer was given bytes up to this offset.
 pub fn move_to(consumers: &mut BTreeMap<u64, Consumer>, c: u64, offset: u64)
-    ensures places { (d : ℕ) → get nat_cmp consumers.new d ≡ (if c == d then option_map (at_offset offset) (get nat_cmp consumers.old c) else get nat_cmp consumers.old d) }
+    ensures places { ChangesAt consumers.old consumers.new c (at_offset offset) }
     ensures len { btree_map_len consumers.new ≡ btree_map_len consumers.old }
 {
     if let Some(consumer) = consumers.get_mut(&c) {
@@ -86,7 +87,7 @@ pub fn set_head(
     promised: Option<u64>,
     over: bool,
 )
-    ensures places { (y : ℕ) → get nat_cmp exchanges.new y ≡ (if x == y then option_map (with_head head promised over) (get nat_cmp exchanges.old x) else get nat_cmp exchanges.old y) }
+    ensures places { ChangesAt exchanges.old exchanges.new x (with_head head promised over) }
 {
     if let Some(exchange) = exchanges.get_mut(&x) {
         exchange.head = Some(head);
@@ -99,7 +100,7 @@ pub fn set_head(
 
 /// The exchange is asked for a piece.
 pub fn mark_asked(exchanges: &mut BTreeMap<u64, Exchange>, x: u64)
-    ensures places { (y : ℕ) → get nat_cmp exchanges.new y ≡ (if x == y then option_map once_asked (get nat_cmp exchanges.old x) else get nat_cmp exchanges.old y) }
+    ensures places { ChangesAt exchanges.old exchanges.new x once_asked }
 {
     if let Some(exchange) = exchanges.get_mut(&x) {
         exchange.asked = true;
@@ -115,8 +116,9 @@ pub fn hold_piece(
     delivered: u64,
     over: bool,
 ) -> Result<(), NoMemory>
-    ensures ok { OnOk result ((y : ℕ) → get nat_cmp exchanges.new y ≡ (if x == y then option_map (with_piece bytes.now delivered over) (get nat_cmp exchanges.old x) else get nat_cmp exchanges.old y)) }
-    ensures err { OnErr result ((y : ℕ) → get nat_cmp exchanges.new y ≡ get nat_cmp exchanges.old y) }
+    ensures ok { OnOk result
+        (ChangesAt exchanges.old exchanges.new x (with_piece bytes.now delivered over)) }
+    ensures err { OnErr result (SameEntries exchanges.old exchanges.new) }
 {
     if let Some(exchange) = exchanges.get_mut(&x) {
         exchange.held.put(bytes)?;
@@ -137,9 +139,10 @@ pub fn take_held(
     want: usize,
 ) -> Result<Bytes, NoMemory>
     requires { IsSome (get nat_cmp exchanges.old x) }
-    ensures bytes { IfOk result (λ bytes. IfSome (get nat_cmp exchanges.old x) (λ w. bytes ≡ take want w.held)) }
-    ensures ok { OnOk result ((y : ℕ) → get nat_cmp exchanges.new y ≡ (if x == y then option_map (without want) (get nat_cmp exchanges.old x) else get nat_cmp exchanges.old y)) }
-    ensures err { OnErr result ((y : ℕ) → get nat_cmp exchanges.new y ≡ get nat_cmp exchanges.old y) }
+    ensures bytes { IfOk result (λ bytes.
+        IfSome (get nat_cmp exchanges.old x) (λ w. bytes ≡ take want w.held)) }
+    ensures ok { OnOk result (ChangesAt exchanges.old exchanges.new x (without want)) }
+    ensures err { OnErr result (SameEntries exchanges.old exchanges.new) }
 {
     match exchanges.get_mut(&x) {
         Some(exchange) => exchange.held.take(want),

@@ -1,7 +1,7 @@
 //! The reader of schedules: a text in, its events out.
 ghost use Rattle.hc_app.specs.declared.schedule.FeedError.TheVariants.{NoMemory as no_memory};
 ghost use Rattle.std.specs.Prelude.{◌≡◌, ◌≤◌, ◌^◌, length, OnOk, IfErr};
-ghost use Rattle.hc_app.specs.Reading.{ReadsText, EndsAt, HasOneSpelling, IsNeverRefused, HasOneRefusal};
+ghost use Rattle.hc_app.specs.Reading.{ReadsText, EndsAt, HasOneSpelling, IsNeverRefused, HasOneRefusal, IsAlwaysRead};
 
 mod forms;
 mod item;
@@ -78,7 +78,8 @@ pub fn read_whole(alloc: Global, input: &[u8], out: &mut Vec<Timed>) -> Result<(
 
 /// The refusal of the line that was asked for last.
 fn refusal(lines: &Lines) -> FeedError
-    ensures { result ≡ FeedError.Refused (record { line = lines.now.number; why = SchedRefusal.NotBuilt }) }
+    ensures { result
+        ≡ FeedError.Refused (record { line = lines.now.number; why = SchedRefusal.NotBuilt }) }
 {
     FeedError::Refused(Refused {
         line: lines.number(),
@@ -86,9 +87,10 @@ fn refusal(lines: &Lines) -> FeedError
     })
 }
 
-/// A text has one reading: it spells one list of items at most, and then it isn't refused, and a
-/// refused text is refused at one line.
+/// A text has one reading: it spells items or is refused at a line. It spells one list of items at
+/// most, and then it isn't refused, and a refused text is refused at one line.
 pub fn one_reading()
+    ensures some { IsAlwaysRead }
     ensures spelling { HasOneSpelling }
     ensures accepted { IsNeverRefused }
     ensures refusal { HasOneRefusal }

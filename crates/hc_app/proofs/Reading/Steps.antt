@@ -6,6 +6,7 @@ use Rattle.std.proofs.lemmas.Bool.{cases_Bool, cases_lt, and_parts, eqb-true, eq
 use Rattle.std.proofs.lemmas.List.{take-append-drop, take_at, drop_at}
 use Rattle.std.proofs.lemmas.List.Sums.{passes_at_first, split_at_first}
 use Rattle.std.proofs.lemmas.Slice.Eq.{bytes_eq-Decides}
+pub use Rattle.hc_text.specs.Texts.{lacks}
 use Rattle.hc_app.specs.Reader.{◌>>=◌, cut, behind}
 
 pub none_or_some : {A : Type 0} (o : Option A) → (o ≡ None) ⊎ ((x : A) × (o ≡ Some x))
@@ -16,10 +17,6 @@ none_or_some (Some x) = inr (x, refl)
 pub bind-Some : {A B : Type 0} (o : Option A) (f : A → Option B) (y : B) → (o >>= f) ≡ Some y → (x : A) × (o ≡ Some x) × (f x ≡ Some y)
 bind-Some None f y h = cc h
 bind-Some (Some x) f y h = (x, refl, h)
-
--- no byte of the text is b
-abbrev pub lacks : ℕ → List ℕ → Bool
-lacks b text = list_all (λ x. not (x == b)) text
 
 pub lacks-append : (b : ℕ) (xs ys : List ℕ) → lacks b xs ≡ true → lacks b ys ≡ true → lacks b (xs ++ ys) ≡ true
 lacks-append b [] ys hx hy = hy

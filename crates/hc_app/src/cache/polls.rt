@@ -28,7 +28,8 @@ impl Cache {
         requires live { IsSome (get nat_cmp self.old.consumers c) }
         requires few { self.old.steps < 2 ^ 61 }
         requires small { self.old.received < 2 ^ 61 }
-        ensures advances { OnOk result (Advances self.old self.new (listed out.old) (listed out.new) now (Poll c want)) }
+        ensures advances { OnOk result
+            (Advances self.old self.new (listed out.old) (listed out.new) now (Poll c want)) }
         ensures steps { OnOk result (self.new.steps ≡ self.old.steps) }
         ensures received { OnOk result (self.new.received ≡ self.old.received) }
     {
@@ -48,7 +49,8 @@ impl Cache {
     fn open(&mut self, now: u64, c: u64, want: u32, out: &mut Acts) -> Result<(), NoMemory>
         requires line { IsSomeAnd (get nat_cmp self.old.consumers c) InLine }
         requires few { self.old.next < 2 ^ 62 }
-        ensures advances { OnOk result (Advances self.old self.new (listed out.old) (listed out.new) now (Poll c want)) }
+        ensures advances { OnOk result
+            (Advances self.old self.new (listed out.old) (listed out.new) now (Poll c want)) }
         ensures steps { self.new.steps ≡ self.old.steps }
         ensures received { self.new.received ≡ self.old.received }
     {
@@ -94,7 +96,8 @@ impl Cache {
     ) -> Result<(), NoMemory>
         requires reader { IsSomeAnd (get nat_cmp self.old.consumers c) (IsReader x false) }
         requires there { IsSome (get nat_cmp self.old.exchanges x) }
-        ensures advances { OnOk result (Advances self.old self.new (listed out.old) (listed out.new) now (Poll c want)) }
+        ensures advances { OnOk result
+            (Advances self.old self.new (listed out.old) (listed out.new) now (Poll c want)) }
         ensures steps { self.new.steps ≡ self.old.steps }
         ensures received { self.new.received ≡ self.old.received }
     {
@@ -122,7 +125,8 @@ impl Cache {
     ) -> Result<(), NoMemory>
         requires reader { IsSomeAnd (get nat_cmp self.old.consumers c) (IsReader x false) }
         requires headless { IsSomeAnd (get nat_cmp self.old.exchanges x) (λ w. w.head ≡ None) }
-        ensures advances { OnOk result (Advances self.old self.new (listed out.old) (listed out.new) now (Poll c want)) }
+        ensures advances { OnOk result
+            (Advances self.old self.new (listed out.old) (listed out.new) now (Poll c want)) }
         ensures same { self.new ≡ self.old }
     {
         let wait = Wait::Head(x);
@@ -141,8 +145,10 @@ impl Cache {
         out: &mut Acts,
     ) -> Result<(), NoMemory>
         requires reader { IsSomeAnd (get nat_cmp self.old.consumers c) (IsReader x false) }
-        requires headed { IsSomeAnd (get nat_cmp self.old.exchanges x) (λ w. (w.head ≡ Some head) × (w.promised ≡ promised)) }
-        ensures advances { OnOk result (Advances self.old self.new (listed out.old) (listed out.new) now (Poll c want)) }
+        requires headed { IsSomeAnd (get nat_cmp self.old.exchanges x)
+            (λ w. (w.head ≡ Some head) × (w.promised ≡ promised)) }
+        ensures advances { OnOk result
+            (Advances self.old self.new (listed out.old) (listed out.new) now (Poll c want)) }
         ensures steps { self.new.steps ≡ self.old.steps }
         ensures received { self.new.received ≡ self.old.received }
     {
@@ -174,7 +180,8 @@ impl Cache {
         requires small { self.old.received < 2 ^ 61 }
         requires reader { IsSomeAnd (get nat_cmp self.old.consumers c) (IsReading x offset) }
         requires there { IsSome (get nat_cmp self.old.exchanges x) }
-        ensures advances { OnOk result (Advances self.old self.new (listed out.old) (listed out.new) now (Poll c want)) }
+        ensures advances { OnOk result
+            (Advances self.old self.new (listed out.old) (listed out.new) now (Poll c want)) }
         ensures steps { self.new.steps ≡ self.old.steps }
         ensures received { self.new.received ≡ self.old.received }
     {
@@ -204,8 +211,10 @@ impl Cache {
         out: &mut Acts,
     ) -> Result<(), NoMemory>
         requires reader { IsSomeAnd (get nat_cmp self.old.consumers c) (IsReading x offset) }
-        requires whole { IsSomeAnd (get nat_cmp self.old.exchanges x) (λ w. w.promised ≡ Some offset) }
-        ensures advances { OnOk result (Advances self.old self.new (listed out.old) (listed out.new) now (Poll c want)) }
+        requires whole { IsSomeAnd (get nat_cmp self.old.exchanges x)
+            (λ w. w.promised ≡ Some offset) }
+        ensures advances { OnOk result
+            (Advances self.old self.new (listed out.old) (listed out.new) now (Poll c want)) }
         ensures steps { self.new.steps ≡ self.old.steps }
         ensures received { self.new.received ≡ self.old.received }
     {
@@ -226,7 +235,8 @@ impl Cache {
     ) -> Result<(), NoMemory>
         requires reader { IsSomeAnd (get nat_cmp self.old.consumers c) (IsReading x offset) }
         requires holds { IsSomeAnd (get nat_cmp self.old.exchanges x) (Holds offset) }
-        ensures advances { OnOk result (Advances self.old self.new (listed out.old) (listed out.new) now (Poll c want)) }
+        ensures advances { OnOk result
+            (Advances self.old self.new (listed out.old) (listed out.new) now (Poll c want)) }
         ensures steps { self.new.steps ≡ self.old.steps }
         ensures received { self.new.received ≡ self.old.received }
     {
@@ -254,7 +264,8 @@ impl Cache {
     ) -> Result<(), NoMemory>
         requires reader { IsSomeAnd (get nat_cmp self.old.consumers c) (IsReading x offset) }
         requires empty { IsSomeAnd (get nat_cmp self.old.exchanges x) (IsRead offset true) }
-        ensures advances { OnOk result (Advances self.old self.new (listed out.old) (listed out.new) now (Poll c want)) }
+        ensures advances { OnOk result
+            (Advances self.old self.new (listed out.old) (listed out.new) now (Poll c want)) }
         ensures same { self.new ≡ self.old }
     {
         let wait = Wait::Body(x);
@@ -273,7 +284,8 @@ impl Cache {
     ) -> Result<(), NoMemory>
         requires reader { IsSomeAnd (get nat_cmp self.old.consumers c) (IsReading x offset) }
         requires empty { IsSomeAnd (get nat_cmp self.old.exchanges x) (IsRead offset false) }
-        ensures advances { OnOk result (Advances self.old self.new (listed out.old) (listed out.new) now (Poll c want)) }
+        ensures advances { OnOk result
+            (Advances self.old self.new (listed out.old) (listed out.new) now (Poll c want)) }
         ensures steps { self.new.steps ≡ self.old.steps }
         ensures received { self.new.received ≡ self.old.received }
     {

@@ -61,7 +61,8 @@ pub fn read_item(alloc: Global, lines: &mut Lines) -> Result<Option<Item>, NoMem
     requires { lines.old.number < 2 ^ 61 }
     ensures item { IfOk result (λ r. MatchOption r (item_of lines.old.rest.now ≡ None)
         (λ item. item_of lines.old.rest.now ≡ Some (as_item item, lines.new.rest.now))) }
-    ensures number { OnOk result (lines.new.number ≡ lines.old.number + lines_of lines.old.rest.now) }
+    ensures number { OnOk result
+        (lines.new.number ≡ lines.old.number + lines_of lines.old.rest.now) }
 {
     let Some(line) = lines.next_line() else {
         return Ok(None);

@@ -45,7 +45,8 @@ impl Place {
 
     /// Passes the item, and appends its event, where it is one.
     pub fn pass(&mut self, item: Item, out: &mut Vec<Timed>) -> Result<(), NoMemory>
-        ensures out { OnOk result (out.new.items ≡ out.old.items ++ events_from self.old.moment (as_item item ∷ [])) }
+        ensures out { OnOk result
+            (out.new.items ≡ out.old.items ++ events_from self.old.moment (as_item item ∷ [])) }
         ensures place { OnOk result (self.new ≡ place_after self.old (as_item item)) }
         ensures err { OnErr result (out.new.items ≡ out.old.items) }
     {

@@ -10,7 +10,7 @@ pub loop-timed-init : goal.loop-timed-init
 unfolding tables
 loop-timed-init g c = record {
   reported = started c.args.cache.now _ c.requires.new;
-  later = omega arith;
+  calm = refl;
   numbered = refl;
   rises = rw (c.requires.new.moment) c.requires.replayable.rises;
 }
@@ -30,27 +30,17 @@ answer-requires-clause-small g c =
     let small : received_of c.args.events.now ≤ 2 ^ 60 = c.requires.replayable.small in
     omega arith
 
-pub returns-in-Err-clause-partly : goal.returns-in-Err-clause-partly
-returns-in-Err-clause-partly g c = partly c.loop-timed.cache c.args.events.now c.loop-timed.timed-index _ _ c.loop-timed.invariant.reported
+pub returns-in_err-answer-clause-partly : goal.returns-in_err-answer-clause-partly
+returns-in_err-answer-clause-partly g c = partly c.loop-timed.cache c.args.events.now c.loop-timed.timed-index _ _ c.loop-timed.invariant.reported
 
-pub returns-in-Err-SinkFailed-clause-partly : goal.returns-in-Err-SinkFailed-clause-partly
-returns-in-Err-SinkFailed-clause-partly g c =
+pub returns-in_err-write_all-clause-partly : goal.returns-in_err-write_all-clause-partly
+returns-in_err-write_all-clause-partly g c =
     let i = c.loop-timed.timed-index in
     let timed = c.timed-item.result in
     let split = from c.args.events.now i timed c.loop-timed-test.true c.timed-item.is in
     let rises = subst (λ (events : List Timed). Rises c.loop-timed.cache.last_moment events) split c.loop-timed.invariant.rises in
     let numbered : c.loop-timed.number + 1 ≡ length (take i c.args.events.now) + 1 = let n : c.loop-timed.number ≡ i = c.loop-timed.invariant.numbered in let lt : i < length c.args.events.now = c.loop-timed-test.true in omega (arith, length-take i c.args.events.now) in
-    let done = partly_more _ c.loop-timed.cache c.answer.new.cache _ timed (c.loop-timed.number + 1) c.answer.new.text.items _ _ c.loop-timed.invariant.reported c.in-Ok.ensures rises.0 numbered (drop (i + 1) c.args.events.now) (rw c.as_slice.ensures.value at c.in-Err-SinkFailed.ensures.front) in
-    rw (around c.args.events.now i timed c.loop-timed-test.true c.timed-item.is) at done
-
-pub returns-in-Err-NoMemory-clause-partly : goal.returns-in-Err-NoMemory-clause-partly
-returns-in-Err-NoMemory-clause-partly g c =
-    let i = c.loop-timed.timed-index in
-    let timed = c.timed-item.result in
-    let split = from c.args.events.now i timed c.loop-timed-test.true c.timed-item.is in
-    let rises = subst (λ (events : List Timed). Rises c.loop-timed.cache.last_moment events) split c.loop-timed.invariant.rises in
-    let numbered : c.loop-timed.number + 1 ≡ length (take i c.args.events.now) + 1 = let n : c.loop-timed.number ≡ i = c.loop-timed.invariant.numbered in let lt : i < length c.args.events.now = c.loop-timed-test.true in omega (arith, length-take i c.args.events.now) in
-    let done = partly_more _ c.loop-timed.cache c.answer.new.cache _ timed (c.loop-timed.number + 1) c.answer.new.text.items _ _ c.loop-timed.invariant.reported c.in-Ok.ensures rises.0 numbered (drop (i + 1) c.args.events.now) (rw c.as_slice.ensures.value at c.in-Err-NoMemory.ensures.front) in
+    let done = partly_more _ c.loop-timed.cache c.answer.new.cache _ timed (c.loop-timed.number + 1) c.answer.new.text.items _ _ c.loop-timed.invariant.reported c.in_ok-answer.ensures rises.0 numbered (drop (i + 1) c.args.events.now) (rw c.as_slice.ensures.value at c.in_err-write_all.ensures.front) in
     rw (around c.args.events.now i timed c.loop-timed-test.true c.timed-item.is) at done
 
 pub loop-timed-preserved : goal.loop-timed-preserved
@@ -60,11 +50,11 @@ loop-timed-preserved g c =
     let split = from c.args.events.now i timed c.loop-timed-test.true c.timed-item.is in
     let rises = subst (λ (events : List Timed). Rises c.loop-timed.cache.last_moment events) split c.loop-timed.invariant.rises in
     let numbered : c.loop-timed.number + 1 ≡ length (take i c.args.events.now) + 1 = let n : c.loop-timed.number ≡ i = c.loop-timed.invariant.numbered in let lt : i < length c.args.events.now = c.loop-timed-test.true in omega (arith, length-take i c.args.events.now) in
-    let more = reported_more _ c.loop-timed.cache c.answer.new.cache _ timed (c.loop-timed.number + 1) c.answer.new.text.items _ _ c.loop-timed.invariant.reported c.in-Ok.ensures rises.0 numbered (rw c.as_slice.ensures.value at c.in-Ok-write_all.ensures.ok) in
-    let moment = moment_on _ c.loop-timed.cache c.answer.new.cache _ timed (c.loop-timed.number + 1) c.answer.new.text.items _ (g.K.Sink.taken c.loop-timed.sink) c.loop-timed.invariant.reported c.in-Ok.ensures rises.0 numbered in
+    let more = reported_more _ c.loop-timed.cache c.answer.new.cache _ timed (c.loop-timed.number + 1) c.answer.new.text.items _ _ c.loop-timed.invariant.reported c.in_ok-answer.ensures rises.0 numbered (rw c.as_slice.ensures.value at c.in_ok-write_all.ensures.ok) in
+    let moment = moment_on _ c.loop-timed.cache c.answer.new.cache _ timed (c.loop-timed.number + 1) c.answer.new.text.items _ (g.K.Sink.taken c.loop-timed.sink) c.loop-timed.invariant.reported c.in_ok-answer.ensures rises.0 numbered in
     record {
       reported = rw (take_more c.args.events.now i timed c.loop-timed-test.true, ← c.timed-item.is) more;
-      later = omega (arith, c.loop-timed.invariant.later, c.in-Ok-write_all.ensures.cause.later);
+      calm = omega (arith, c.loop-timed.invariant.calm, c.in_ok-write_all.ensures.calm);
       numbered = let n : c.loop-timed.number ≡ i = c.loop-timed.invariant.numbered in omega arith;
       rises = rw moment rises.1;
     }

@@ -1,0 +1,7 @@
+pub mod Dates
+pub mod Lifetimes
+pub mod Ages
+pub mod Allowed
+pub mod Facts
+pub mod Vary
+pub mod Laws

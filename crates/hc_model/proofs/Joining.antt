@@ -1,0 +1,129 @@
+-- A head that joins brings positions of its hole.
+use Rattle.std.proofs.Common.{◌≡◌, ℕ, ◌+◌, ◌-◌, ◌<◌, ◌≤◌, Bool, true, false, cond, List, Option, Some, None, refl, sym, subst, arith}
+use Rattle.std.specs.Prelude.{codes, ◌==◌}
+use Rattle.std.proofs.lemmas.Bool.Decides.{nat_tests}
+use Rattle.hc_range.specs.declared.range.ContentRange.TheVariants as range
+use Rattle.hc_event.specs.declared.event.Response.{Response}
+use Rattle.hc_event.specs.declared.event.Request.{Request}
+use Rattle.hc_event.specs.declared.act.Need.{Need}
+use Rattle.hc_event.specs.declared.act.Need.TheVariants as need
+use Rattle.hc_rules.specs.declared.need.Route.{Route}
+use Rattle.hc_rules.specs.declared.need.Route.TheVariants as route
+use Rattle.hc_rules.specs.declared.heads.HeadCase.{HeadCase}
+use Rattle.hc_rules.specs.declared.heads.HeadCase.TheVariants as case
+use Rattle.hc_rules.specs.declared.heads.HeadView.{HeadView}
+use Rattle.hc_rules.specs.declared.length.Length.{Length}
+use Rattle.hc_rules.specs.declared.length.Length.TheVariants as length
+use Rattle.hc_rules.specs.HeadCases.{head_case, case_on, direct_case, turn_case, first_case, later_case}
+use Rattle.hc_rules.specs.Lengths.{length_of, length_told, part_length, has_no_body}
+use Rattle.hc_rules.specs.Needs.{route_of}
+use Rattle.hc_rules.specs.RangeTexts.{content_range_of}
+use Rattle.hc_rules.proofs.Cond.{either}
+use Rattle.hc_rules.proofs.JoinLaws.{joins-right}
+use Rattle.hc_fields.specs.FieldElements.{elements_in}
+use Rattle.hc_model.specs.Rows.{Representation}
+use Rattle.hc_model.specs.Cases.{is_joining, joins_row, joins_by}
+
+-- why a head is one that joins
+pub data MayJoin (v : HeadView) : HeadCase → Type 0 where
+  other : (c : HeadCase) → is_joining (Some c) ≡ false → MayJoin v c
+  joining : (c : HeadCase) → v.joins ≡ true → v.bad ≡ false → MayJoin v c
+
+-- what holds of each side holds of the choice
+pub mix : {A : Type 0} (P : A → Type 0) (b : Bool) (x y : A) → P x → P y → P (cond b x y)
+mix P true x y p q = p
+mix P false x y p q = q
+
+module _ (v : HeadView) where
+  by_direct : MayJoin v (direct_case v)
+  by_direct = mix (MayJoin v) _ _ _ (other case.DirectBad refl) (other case.DirectTaken refl)
+
+  by_turn : MayJoin v (turn_case v)
+  by_turn =
+      mix (MayJoin v) _ _ _ (other case.TurnBad refl)
+      (mix (MayJoin v) _ _ _ (other case.Validated refl)
+      (mix (MayJoin v) _ _ _ (other case.NotValidated refl)
+      (mix (MayJoin v) _ _ _ (other case.TurnServerError refl)
+      (mix (MayJoin v) _ _ _ (other case.FoundsWhole refl)
+      (mix (MayJoin v) _ _ _ (other case.FoundsRange refl) (other case.PassesBy refl))))))
+
+  by_first : MayJoin v (first_case v)
+  by_first =
+      either (MayJoin v) v.bad _ _ (λ h. other case.FirstBad refl) (λ good.
+      either (MayJoin v) v.joins _ _ (λ joined. joining case.FirstJoins joined good) (λ h.
+      mix (MayJoin v) _ _ _ (other case.FirstServerError refl)
+      (mix (MayJoin v) _ _ _ (other case.FirstChanged refl)
+      (mix (MayJoin v) _ _ _ (other case.FirstReplaced refl) (other case.FirstPassesBy refl)))))
+
+  by_later : MayJoin v (later_case v)
+  by_later =
+      either (MayJoin v) v.bad _ _ (λ h. other case.LaterBad refl) (λ good.
+      either (MayJoin v) v.joins _ _ (λ joined. joining case.LaterJoins joined good) (λ h. other case.LaterChanged refl))
+
+  by_route : (r : Route) → MayJoin v (case_on r v)
+  by_route route.Direct = by_direct
+  by_route route.Turn = by_turn
+  by_route route.Hole = mix (MayJoin v) v.shown _ _ by_later by_first
+
+  pub may_join : MayJoin v (head_case v)
+  unfolding head_case
+  may_join = by_route (route_of v.need)
+
+-- what a head that joins fills
+pub record IsFilling (n : Need) (o : Option Representation) (response : Response) : Type 0 where
+  pub from : ℕ
+  pub to : ℕ
+  pub need_is : n ≡ need.Hole from to
+  pub v : Representation
+  pub row : o ≡ Some v
+  pub last : ℕ
+  pub total : ℕ
+  pub part : content_range_of response.fields ≡ Some (range.Part from last (Some total))
+  pub within : last < to
+  pub status : response.status ≡ 206
+
+filling_by : (from to : ℕ) (v : Representation) (response : Response) (opaque : Option (List ℕ)) (total : Option ℕ) → joins_by opaque total (record { lo = from; hi = to }) response ≡ true → IsFilling (need.Hole from to) (Some v) response
+filling_by from to v response None total h = absurd (let never : false ≡ true = h in cc)
+filling_by from to v response (Some opaque) None h = absurd (let never : false ≡ true = h in cc)
+filling_by from to v response (Some opaque) (Some total) h =
+    let (last, j) = (joins-right (false, opaque) total (record { lo = from; hi = to }) response).0 h in
+    record { from = from; to = to; need_is = refl; v = v; row = refl; last = last; total = total; part = j.told; within = j.within; status = j.status }
+
+pub filling : (n : Need) (o : Option Representation) (response : Response) → joins_row n o response ≡ true → IsFilling n o response
+filling need.Disabled o response h = absurd (let never : false ≡ true = h in cc)
+filling need.TimedOut o response h = absurd (let never : false ≡ true = h in cc)
+filling need.Bypass o response h = absurd (let never : false ≡ true = h in cc)
+filling need.Miss o response h = absurd (let never : false ≡ true = h in cc)
+filling need.Vary o response h = absurd (let never : false ≡ true = h in cc)
+filling need.Validate o response h = absurd (let never : false ≡ true = h in cc)
+filling (need.Hole from to) None response h = absurd (let never : false ≡ true = h in cc)
+filling (need.Hole from to) (Some v) response h = filling_by from to v response v.head.joining v.head.total h
+filling need.Unsatisfied o response h = absurd (let never : false ≡ true = h in cc)
+
+-- where the length of a joining head lies: within the hole, or nowhere
+pub data LiesIn (from to : ℕ) : Length → Type 0 where
+  bad : LiesIn from to length.Bad
+  empty : LiesIn from to (length.Promised 0)
+  within : (n : ℕ) → ((p : ℕ) → from ≤ p → p < from + n → p < to) → LiesIn from to (length.Part from n)
+
+lies_part : (from to last total : ℕ) (said : Length) → last < to → LiesIn from to (part_length said (Some (range.Part from last (Some total))))
+lies_part from to last total said below =
+    mix (LiesIn from to) _ _ _ (within (last + 1 - from) (λ p le lt. omega arith)) bad
+
+first_side : (from to : ℕ) (b : Bool) (x y : Length) → b ≡ true → LiesIn from to x → LiesIn from to (cond b x y)
+first_side from to true x y is lies = lies
+first_side from to false x y is lies = absurd (let never : false ≡ true = is in cc)
+
+lies_hole : (from to last total : ℕ) (request : Request) (response : Response) → response.status ≡ 206 → content_range_of response.fields ≡ Some (range.Part from last (Some total)) → last < to → LiesIn from to (length_of (need.Hole from to) request response)
+unfolding length_of
+lies_hole from to last total request response status part below =
+    let is_part : (response.status == 206) ≡ true = grind (arith, nat_tests) in
+    let said = length_told (elements_in (codes "content-length") response.fields) in
+    let here : LiesIn from to (part_length said (content_range_of response.fields)) = rw part (lies_part from to last total said below) in
+    mix (LiesIn from to) (has_no_body request response.status) (length.Promised 0) _ empty (first_side from to (response.status == 206) _ _ is_part here)
+
+-- the head that joins is a 206 to a hole
+pub lies : (n : Need) (o : Option Representation) (request : Request) (response : Response) (f : IsFilling n o response) → LiesIn f.from f.to (length_of n request response)
+lies n o request response f =
+    subst (λ (m : Need). LiesIn f.from f.to (length_of m request response)) (sym f.need_is)
+    (lies_hole f.from f.to f.last f.total request response f.status f.part f.within)

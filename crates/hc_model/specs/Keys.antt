@@ -1,0 +1,125 @@
+-- The law of one key: an accepted event changes what is said of its own key, and else only how much is idle.
+use Rattle.std.specs.Prelude.{◌≡◌, ℕ, List, Bool, false, true, Option, Some, None}
+use Rattle.std.specs.Option.{option_map}
+use Rattle.hc_event.specs.Filters.{evicts_in}
+use Rattle.hc_event.specs.declared.event.Event.{Event}
+use Rattle.hc_event.specs.declared.event.Event.TheVariants as event
+use Rattle.hc_event.specs.declared.act.Act.{Act}
+use Rattle.hc_rules.specs.declared.room.Limits.{Limits}
+use Rattle.hc_model.specs.declared.place.Place.{Place}
+use Rattle.hc_model.specs.declared.place.Place.TheVariants as place
+use Rattle.hc_model.specs.Entries.{Entry}
+use Rattle.hc_model.specs.Flaws.{Flaw}
+use Rattle.hc_model.specs.Rows.{Tables, Exchange, Representation, Consumer}
+use Rattle.hc_model.specs.Dooms.{is_key}
+use Rattle.hc_model.specs.Tables.{after_accepted}
+use Rattle.hc_model.specs.Denials.{denial}
+use Rattle.hc_model.specs.Answers.{accepted}
+use Rattle.hc_model.specs.Reading.{reads}
+use Rattle.hc_model.specs.ConsumerRows.{back_in_line}
+use Rattle.hc_model.specs.Runs.{may_stand}
+use Rattle.hc_model.specs.Sound.{Sound, IsBound}
+
+-- THE KEY OF AN EVENT
+
+abbrev pub key_of_consumer : Tables → ℕ → Option (List ℕ)
+key_of_consumer t c = option_map (λ (k : Consumer). k.request.key) (t.consumer c)
+
+-- that of the consumer for which it was opened
+abbrev pub key_of_exchange : Tables → ℕ → Option (List ℕ)
+key_of_exchange t x = option_map (λ (w : Exchange). w.request.key) (t.exchange x)
+
+abbrev pub key_of_representation : Tables → ℕ → Option (List ℕ)
+key_of_representation t r = option_map (λ (v : Representation). v.key) (t.representation r)
+
+-- that of its consumer, of its exchange, or that which it dooms
+abbrev pub key_of : Tables → Event → Option (List ℕ)
+key_of t (event.Start c request) = Some request.key
+key_of t (event.Poll c want) = key_of_consumer t c
+key_of t (event.Head x response) = key_of_exchange t x
+key_of t (event.Piece x bytes) = key_of_exchange t x
+key_of t (event.End x) = key_of_exchange t x
+key_of t (event.Fault x) = key_of_exchange t x
+key_of t (event.Cancel c) = key_of_consumer t c
+key_of t (event.Doom key) = Some key
+
+abbrev pub is_of_key : Option (List ℕ) → Option (List ℕ) → Bool
+is_of_key key None = false
+is_of_key key (Some other) = is_key key other
+
+-- what the event may change: exchanges, representations and consumers of its key
+abbrev pub concerns_exchange : Tables → Event → ℕ → Bool
+concerns_exchange t event x = is_of_key (key_of t event) (key_of_exchange t x)
+
+abbrev pub concerns_representation : Tables → Event → ℕ → Bool
+concerns_representation t event r = is_of_key (key_of t event) (key_of_representation t r)
+
+abbrev pub concerns_consumer : Tables → Event → ℕ → Bool
+concerns_consumer t event c = is_of_key (key_of t event) (key_of_consumer t c)
+
+-- WHAT IS OF ONE KEY
+
+-- an exchange, its consumer, and the representations that it is about and joined
+pub record ExchangeKeys (t : Tables) : Type 0 where
+  pub opener : (x : ℕ) (w : Exchange) (k : Consumer) → t.exchange x ≡ Some w →
+      t.consumer w.c ≡ Some k → w.request.key ≡ k.request.key
+  pub aims : (x r : ℕ) (w : Exchange) (v : Representation) → t.exchange x ≡ Some w →
+      w.aim ≡ Some r → t.representation r ≡ Some v → v.key ≡ w.request.key
+  pub joined : (x r : ℕ) (w : Exchange) (v : Representation) → t.exchange x ≡ Some w →
+      w.joined ≡ Some r → t.representation r ≡ Some v → v.key ≡ w.request.key
+  pub founded : (r : ℕ) (w : Exchange) (v : Representation) → t.exchange r ≡ Some w →
+      t.representation r ≡ Some v → v.key ≡ w.request.key
+  pub writers : (r x : ℕ) (w : Exchange) (v : Representation) → t.representation r ≡ Some v →
+      v.writer ≡ Some x → t.exchange x ≡ Some w → v.key ≡ w.request.key
+
+-- a consumer, its own exchange, and what it reads or waits for
+pub record ConsumerKeys (t : Tables) : Type 0 where
+  pub own : (c x : ℕ) (k : Consumer) (w : Exchange) → t.consumer c ≡ Some k → k.own ≡ Some x →
+      t.exchange x ≡ Some w → w.request.key ≡ k.request.key
+  pub bound : (r c : ℕ) (k : Consumer) (v : Representation) → IsBound t r c k →
+      t.representation r ≡ Some v → v.key ≡ k.request.key
+  pub passed : (r c : ℕ) (kept : Option ℕ) (k : Consumer) (v : Representation) →
+      t.consumer c ≡ Some k → k.place ≡ place.Passed r kept → t.representation r ≡ Some v →
+      v.key ≡ k.request.key
+  pub undue : (c : ℕ) (k : Consumer) → t.consumer c ≡ Some k → reads k.place ≡ false →
+      k.due ≡ None
+
+-- THE LAW
+
+abbrev pub entry_of : Limits → Tables → ℕ → Event → Flaw → Entry
+entry_of limits t now event flaw =
+    record { now = now; event = event; acts = accepted limits t now event flaw }
+
+-- what is evicted is gone; nothing else is said of it
+abbrev pub IsEvicted : Option Representation → Option Representation → Type 0
+IsEvicted (Some v) (Some u) = u ≡ record v { is_gone = true }
+IsEvicted _ _ = ⊥
+
+-- it waits for what is evicted
+abbrev pub loses : List Act → Place → Bool
+loses acts (place.Passed r kept) = evicts_in r acts
+loses acts _ = false
+
+-- The rows of other keys stay, where they stood before; but what makes room is gone, and who waits for it starts over.
+pub record KeepsOthers (t u : Tables) (e : Entry) : Type 0 where
+  pub exchanges : (x : ℕ) (w : Exchange) → t.exchange x ≡ Some w →
+      concerns_exchange t e.event x ≡ false → u.exchange x ≡ Some w
+  pub representations : (r : ℕ) (v : Representation) → t.representation r ≡ Some v →
+      concerns_representation t e.event r ≡ false → evicts_in r e.acts ≡ false →
+      u.representation r ≡ Some v
+  pub evicted : (r : ℕ) → concerns_representation t e.event r ≡ false →
+      evicts_in r e.acts ≡ true → IsEvicted (t.representation r) (u.representation r)
+  pub consumers : (c : ℕ) (k : Consumer) → t.consumer c ≡ Some k →
+      concerns_consumer t e.event c ≡ false → loses e.acts k.place ≡ false →
+      u.consumer c ≡ Some k
+  pub losers : (c : ℕ) (k : Consumer) → t.consumer c ≡ Some k →
+      concerns_consumer t e.event c ≡ false → loses e.acts k.place ≡ true →
+      u.consumer c ≡ Some (back_in_line e.now k)
+
+abbrev pub LawOfOneKey : Type 0
+LawOfOneKey =
+    (limits : Limits) (t : Tables) (now : ℕ) (event : Event) (flaw : Flaw) →
+    Sound t → ExchangeKeys t → ConsumerKeys t → denial t event ≡ None →
+    may_stand limits t (entry_of limits t now event flaw) ≡ true →
+    KeepsOthers t (after_accepted t (entry_of limits t now event flaw))
+    (entry_of limits t now event flaw)

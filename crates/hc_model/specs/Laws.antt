@@ -1,0 +1,275 @@
+-- What holds over all interleavings of events.
+use Rattle.std.specs.Prelude.{◌≡◌, ◌≢◌, ◌⊎◌, ◌<◌, ◌≤◌, ℕ, ◌+◌, ◌-◌, List, [], ◌∷◌, length, true, false, Option, Some, None, if◌then◌else◌, not, ◌&&◌, ◌==◌, find}
+use Rattle.hc_sparse.specs.Cells.{Cell, AreAbsent, Covers, size}
+use Rattle.hc_record.specs.declared.kind.Kind.TheVariants as kind
+use Rattle.hc_event.specs.Filters.{is_denied}
+use Rattle.hc_event.specs.declared.event.Event.{Event}
+use Rattle.hc_event.specs.declared.event.Event.TheVariants as event
+use Rattle.hc_event.specs.declared.act.Act.{Act}
+use Rattle.hc_event.specs.declared.act.Act.TheVariants as act
+use Rattle.hc_event.specs.declared.act.Wait.TheVariants as wait
+use Rattle.hc_rules.specs.declared.need.Route.TheVariants as route
+use Rattle.hc_rules.specs.declared.room.Limits.{Limits}
+use Rattle.hc_rules.specs.Needs.{route_of}
+use Rattle.hc_rules.specs.Requests.{is_bypassing, is_disabled, is_only}
+use Rattle.hc_fresh.specs.Vary.{matches_vary}
+use Rattle.hc_model.specs.declared.place.Place.TheVariants as place
+use Rattle.hc_model.specs.Entries.{Entry, History, Content, Contents}
+use Rattle.hc_model.specs.Flaws.{Flaw}
+use Rattle.hc_model.specs.Rows.{Tables, Exchange, Representation, Consumer}
+use Rattle.hc_model.specs.Exchanges.{front, family, is_headless}
+use Rattle.hc_model.specs.Currents.{current}
+use Rattle.hc_model.specs.Cases.{was_shown}
+use Rattle.hc_model.specs.Reading.{is_written, bound}
+use Rattle.hc_model.specs.Dooms.{doomed, is_key}
+use Rattle.hc_model.specs.Lines.{turn}
+use Rattle.hc_model.specs.Tables.{tables, begun, after_accepted}
+use Rattle.hc_model.specs.Denials.{denial}
+use Rattle.hc_model.specs.Moves.{Move}
+use Rattle.hc_model.specs.Moves as move
+use Rattle.hc_model.specs.Polls.{move_of}
+use Rattle.hc_model.specs.Weights.{weights}
+use Rattle.hc_model.specs.Kinds.{kind_for}
+use Rattle.hc_model.specs.Contents.{contents_of}
+use Rattle.hc_model.specs.Beginnings.{may_begin}
+use Rattle.hc_model.specs.Denials.{live}
+use Rattle.hc_model.specs.Runs.{IsRun}
+use Rattle.hc_model.specs.Reads.{Delivers}
+use Rattle.hc_model.specs.Sound.{Sound, IsBound, Waits, OneAbout, OneCurrent, IsStored, IsListed, IsNamed}
+use Rattle.hc_model.specs.Keys.{entry_of}
+
+-- a fact of the tables of every run
+abbrev pub OfRuns : (Tables → Type 0) → Type 0
+OfRuns P =
+    (limits : Limits) (contents : Contents) (h : History) → IsRun limits contents h →
+    P (tables contents h)
+
+-- DELIVERED ONCE
+
+-- Where a piece is accepted, none of its positions has come yet.
+abbrev pub DeliversOnce : Tables → Type 0
+DeliversOnce t =
+    (x : ℕ) (bytes : List ℕ) (w : Exchange) (v : Representation) →
+    denial t (event.Piece x bytes) ≡ None → t.exchange x ≡ Some w →
+    t.representation (family x w) ≡ Some v → AreAbsent v.body (front w) (front w + length bytes)
+
+-- what a body has stays
+abbrev pub Grows : Tables → Tables → Type 0
+Grows old new =
+    (r at x : ℕ) (bytes : List ℕ) → Delivers old r at x bytes → Delivers new r at x bytes
+
+abbrev pub BodiesGrow : Limits → Contents → Type 0
+BodiesGrow limits contents =
+    (h : History) (e : Entry) → IsRun limits contents (e ∷ h) →
+    Grows (tables contents h) (tables contents (e ∷ h))
+
+-- ONE TURN
+
+-- Of a key at most one exchange of the turn waits for its head, and its consumer has the turn.
+abbrev pub HasOneTurn : Tables → Type 0
+HasOneTurn t =
+    (x : ℕ) (w : Exchange) → t.exchange x ≡ Some w → is_headless (Some w) ≡ true →
+    route_of w.need ≡ route.Turn → turn t w.request.key ≡ Some w.c
+
+-- NO CIRCULAR WAIT
+
+-- it waits for no turn and for nobody who reads
+pub record WaitsForNobody (t : Tables) (now want c : ℕ) (k : Consumer) : Type 0 where
+  pub turn : (d : ℕ) → move_of t now want c k ≢ move.Waits (wait.Turn d)
+  pub busy : (d : ℕ) → move_of t now want c k ≢ move.Waits (wait.Busy d)
+
+-- Who has the turn doesn't wait for it; who reads waits for no other consumer; whom a busy one waits for is bound; and
+-- what is current is read by somebody while its length isn't known or it is written by several.
+pub record WaitsEnd (t : Tables) : Type 0 where
+  pub turn_goes : (now c want d : ℕ) (k : Consumer) → t.consumer c ≡ Some k →
+      turn t k.request.key ≡ Some c → move_of t now want c k ≢ move.Waits (wait.Turn d)
+  pub reader_goes : (now c want r : ℕ) (k : Consumer) → IsBound t r c k →
+      WaitsForNobody t now want c k
+  pub direct_goes : (now c want x : ℕ) (k : Consumer) → t.consumer c ≡ Some k →
+      k.place ≡ place.Direct x → WaitsForNobody t now want c k
+  pub busy_reads : (now c want d : ℕ) (k : Consumer) → t.consumer c ≡ Some k →
+      move_of t now want c k ≡ move.Waits (wait.Busy d) → (r : ℕ) × (u : Consumer) × IsBound t r d u
+  pub is_read : (key : List ℕ) (r : ℕ) (v : Representation) → current t key ≡ Some r →
+      t.representation r ≡ Some v → (v.head.total ≡ None) ⊎ (is_written t v ≡ true) → bound t r ≢ []
+
+-- THE DOOM BARRIER
+
+abbrev pub barrier_at : Tables → Entry → ℕ → List ℕ → ℕ
+barrier_at t e before key =
+    if not (is_denied e.acts) && is_key (doomed t e) key then t.opened else before
+
+-- the last exchange that was opened before the last doom of a key; none of what a store begins with is behind a doom
+abbrev pub barrier : Contents → List ℕ → History → ℕ
+barrier contents key [] = 0
+barrier contents key (e ∷ h) = barrier_at (tables contents h) e (barrier contents key h) key
+
+-- What isn't gone was opened after the last doom of its key, and so was what a consumer becomes bound to.
+abbrev pub IsBehindDooms : Contents → History → Type 0
+IsBehindDooms contents h =
+    (r : ℕ) (v : Representation) → (tables contents h).representation r ≡ Some v →
+    v.is_gone ≡ false → barrier contents v.key h < r
+
+-- TRUTHFUL RECORDS
+
+abbrev pub IsWhole : Representation → Type 0
+IsWhole v = (total : ℕ) × (v.head.total ≡ Some total) × Covers v.stored 0 total
+
+abbrev pub IsFront : Representation → Type 0
+IsFront v =
+    (n : ℕ) × (0 < n) × Covers v.stored 0 n × ((p : ℕ) → n ≤ p → v.stored p ≡ None)
+
+-- What is Whole has every position below its total, and what is Truncated some first ones and nothing else.
+pub record IsTruthful (t : Tables) : Type 0 where
+  pub whole : (key : List ℕ) (r : ℕ) (v : Representation) → current t key ≡ Some r →
+      t.representation r ≡ Some v → kind_for t key ≡ Some kind.Whole → IsWhole v
+  pub truncated : (key : List ℕ) (r : ℕ) (v : Representation) → current t key ≡ Some r →
+      t.representation r ≡ Some v → kind_for t key ≡ Some kind.Truncated → IsFront v
+
+-- ROOM
+
+abbrev pub count_evicted : List Act → ℕ
+count_evicted [] = 0
+count_evicted (act.Evicted r ∷ acts) = 1 + count_evicted acts
+count_evicted (_ ∷ acts) = count_evicted acts
+
+-- a piece has at most 65,536 bytes
+abbrev pub IsSmallPiece : Event → Type 0
+IsSmallPiece (event.Piece x bytes) = length bytes ≤ 65536
+IsSmallPiece _ = Unit {0}
+
+-- An entry evicts at most two.
+abbrev pub EvictsFew : Limits → Contents → Type 0
+EvictsFew limits contents =
+    (h : History) (e : Entry) → IsRun limits contents (e ∷ h) → IsSmallPiece e.event →
+    count_evicted e.acts ≤ 2
+
+-- All that is stored stays within the limit.
+abbrev pub FitsLimit : Limits → Contents → Type 0
+FitsLimit limits contents =
+    may_begin limits contents ≡ true → (h : History) (e : Entry) → IsRun limits contents (e ∷ h) →
+    weights (tables contents h) e ≤ limits.max_total
+
+-- CONTENTS
+
+-- A store may begin with what a run leaves, once nobody is live, but for the limits of numbers.
+abbrev pub LeavesGood : Limits → Contents → Type 0
+LeavesGood limits contents =
+    may_begin limits contents ≡ true → (h : History) → IsRun limits contents h →
+    live (tables contents h) ≡ 0 → may_begin limits (contents_of (tables contents h)) ≡ true
+
+-- WHAT MAKES THESE INDUCTIVE
+
+-- who has passed was let through once: what it waits for is current, and its request is one that may read it
+pub record HasPassed (t : Tables) (r : ℕ) (k : Consumer) : Type 0 where
+  pub current_is : current t k.request.key ≡ Some r
+  pub plain : is_bypassing k.request ≡ false
+  pub cached : is_disabled k.request ≡ false
+  pub asks : is_only k.request ≡ false
+  pub v : Representation
+  pub row : t.representation r ≡ Some v
+  pub agrees : matches_vary v.head k.request ≡ true
+
+-- it waits for its head for this consumer
+pub record WaitsFor (t : Tables) (x c : ℕ) : Type 0 where
+  pub w : Exchange
+  pub row : t.exchange x ≡ Some w
+  pub headless : is_headless (Some w) ≡ true
+  pub opener : w.c ≡ c
+
+-- for one turn, and that waits end
+pub record Turns (t : Tables) : Type 0 where
+  pub one_holder : (c d x y : ℕ) (k u : Consumer) → t.consumer c ≡ Some k → t.consumer d ≡ Some u →
+      k.place ≡ place.Turn x → u.place ≡ place.Turn y → k.request.key ≡ u.request.key → c ≡ d
+  pub holds : (c x : ℕ) (k : Consumer) → t.consumer c ≡ Some k → k.place ≡ place.Turn x →
+      WaitsFor t x c
+  pub held : (x : ℕ) (w : Exchange) → t.exchange x ≡ Some w → is_headless (Some w) ≡ true →
+      route_of w.need ≡ route.Turn →
+      (k : Consumer) × (t.consumer w.c ≡ Some k) × (k.place ≡ place.Turn x)
+  pub passed : (c r : ℕ) (kept : Option ℕ) (k : Consumer) → t.consumer c ≡ Some k →
+      k.place ≡ place.Passed r kept → HasPassed t r k
+
+-- for the doom barrier: what may still found was opened after the last doom
+pub record IsBarred (contents : Contents) (h : History) : Type 0 where
+  pub founded : IsBehindDooms contents h
+  pub awaited : (x : ℕ) (w : Exchange) → (tables contents h).exchange x ≡ Some w →
+      is_headless (Some w) ≡ true → route_of w.need ≢ route.Direct →
+      was_shown ((tables contents h).consumer w.c) ≡ false → barrier contents w.request.key h < x
+
+-- for truthful records: the count is that of the positions
+abbrev pub IsCounted : Tables → Type 0
+IsCounted t = (r : ℕ) (v : Representation) → t.representation r ≡ Some v → v.size ≡ size v.stored
+
+-- DELIVERIES
+
+-- What is sound delivers once.
+abbrev pub SoundDeliversOnce : Type 0
+SoundDeliversOnce = (t : Tables) → Sound t → DeliversOnce t
+
+-- what is still to come is absent, and one open exchange at most is about a representation
+pub record KeepsDeliveries (u : Tables) : Type 0 where
+  pub waits : Waits u
+  pub one_about : OneAbout u
+
+-- after each accepted event, whatever the store loses
+abbrev pub DeliveriesAreKept : Type 0
+DeliveriesAreKept =
+    (limits : Limits) (t : Tables) (now : ℕ) (flaw : Flaw) → Sound t → (event : Event) →
+    denial t event ≡ None →
+    KeepsDeliveries (after_accepted t (entry_of limits t now event flaw))
+
+-- what has come of a body stays, at each accepted event
+abbrev pub KeepsBodies : Tables → Tables → Type 0
+KeepsBodies t u =
+    (r p : ℕ) (cell : Cell) (v w : Representation) → t.representation r ≡ Some v →
+    u.representation r ≡ Some w → v.body p ≡ Some cell → w.body p ≡ Some cell
+
+abbrev pub BodiesAreKept : Type 0
+BodiesAreKept =
+    (limits : Limits) (t : Tables) (now : ℕ) (flaw : Flaw) → Sound t → (event : Event) →
+    denial t event ≡ None → KeepsBodies t (after_accepted t (entry_of limits t now event flaw))
+
+-- of each key one representation at most isn't gone, after each accepted event
+abbrev pub OneCurrentIsKept : Type 0
+OneCurrentIsKept =
+    (limits : Limits) (t : Tables) (now : ℕ) (flaw : Flaw) → Sound t → (event : Event) →
+    OneCurrent (after_accepted t (entry_of limits t now event flaw))
+
+-- all that came is stored until it is lost, after each accepted event
+abbrev pub StoresAreKept : Type 0
+StoresAreKept =
+    (limits : Limits) (t : Tables) (now : ℕ) (flaw : Flaw) → Sound t → (event : Event) →
+    denial t event ≡ None → (r : ℕ) (v : Representation) →
+    (after_accepted t (entry_of limits t now event flaw)).representation r ≡ Some v → IsStored v
+
+-- each row has a number that was given out, after each accepted event
+abbrev pub NumbersAreKept : Type 0
+NumbersAreKept =
+    (limits : Limits) (t : Tables) (now : ℕ) (flaw : Flaw) → Sound t → (event : Event) →
+    denial t event ≡ None → IsListed (after_accepted t (entry_of limits t now event flaw))
+
+-- what exchanges name is there, after each accepted event
+abbrev pub NamesAreKept : Type 0
+NamesAreKept =
+    (limits : Limits) (t : Tables) (now : ℕ) (flaw : Flaw) → Sound t → (event : Event) →
+    denial t event ≡ None → IsNamed (after_accepted t (entry_of limits t now event flaw))
+
+-- What is called whole is whole.
+abbrev pub WholeIsWhole : Type 0
+WholeIsWhole =
+    (t : Tables) (key : List ℕ) (r : ℕ) (v : Representation) → current t key ≡ Some r →
+    t.representation r ≡ Some v → kind_for t key ≡ Some kind.Whole → IsWhole v
+
+-- the item with a number
+abbrev pub item_of : Contents → ℕ → Option Content
+item_of contents r = find (λ (item : Content). item.r == r) contents.items
+
+-- Contents whose numbers were given out, and each of which has a key of its own, are sound.
+pub record IsStart (contents : Contents) : Type 0 where
+  pub numbered : (r : ℕ) (item : Content) → item_of contents r ≡ Some item →
+      r ≤ contents.next_exchange - 1
+  pub apart : (r q : ℕ) (a b : Content) → item_of contents r ≡ Some a →
+      item_of contents q ≡ Some b →
+      a.key ≡ b.key → r ≡ q
+
+abbrev pub StartsAreSound : Type 0
+StartsAreSound = (contents : Contents) → IsStart contents → Sound (begun contents)

@@ -1,0 +1,53 @@
+//! What holds of all runs, each as the contract of a function that does nothing.
+ghost use Rattle.hc_model.specs.Histories.{RunsAreFiltered};
+ghost use Rattle.hc_model.specs.Reads.{OneHeadIsShown};
+ghost use Rattle.hc_model.specs.Laws.{SoundDeliversOnce, DeliveriesAreKept, BodiesAreKept, NumbersAreKept, NamesAreKept, OneCurrentIsKept, StoresAreKept, StartsAreSound, WholeIsWhole};
+
+/// Delivered once: where a piece is accepted, none of its positions has come; what shows this holds
+/// again after each accepted event, whatever the store loses; and what has come of a body stays.
+pub fn deliveries_come_once()
+    ensures once { SoundDeliversOnce }
+    ensures kept { DeliveriesAreKept }
+    ensures stay { BodiesAreKept }
+{}
+
+/// Each row of the tables has a number that was given out, and stands in its list, after each accepted
+/// event: so numbers rise, and no number names two. What exchanges name is there.
+pub fn numbers_are_given_out()
+    ensures listed { NumbersAreKept }
+    ensures named { NamesAreKept }
+{}
+
+/// All that came of a representation is stored until it is lost, what is stored came, and what is lost
+/// is gone, after each accepted event, whatever the store loses.
+pub fn stores_keep_what_came()
+    ensures { StoresAreKept }
+{}
+
+/// Of each key one representation at most isn't gone, after each accepted event, whatever the store loses.
+pub fn one_is_current()
+    ensures { OneCurrentIsKept }
+{}
+
+/// Contents whose numbers were given out, and each of which has a key of its own, are sound.
+pub fn stores_begin_sound()
+    ensures { StartsAreSound }
+{}
+
+/// Over a whole run a consumer is shown one head at most, and given nothing before that.
+pub fn one_head_is_shown()
+    ensures { OneHeadIsShown }
+{}
+
+/// What is called Whole has every position below its total.
+pub fn whole_is_whole()
+    ensures { WholeIsWhole }
+{}
+
+/// The columns of the tables are filters of the list of entries, each in the words of its own meaning:
+/// how an exchange was opened, its head, the bytes that it delivered, whether it ended and what it
+/// joined; the request of a consumer, when it started over last, how much it was given and whether it was
+/// shown a head; the pieces of a representation, those of them that are stored, and whether it was lost.
+pub fn columns_are_filters()
+    ensures { RunsAreFiltered }
+{}

@@ -1,0 +1,12 @@
+//! The definitions over histories: what a run of the cache is, without queue, store or state, and what
+//! holds of each run.
+#![tactic(auto)]
+
+mod laws;
+mod place;
+
+pub use laws::{
+    columns_are_filters, deliveries_come_once, numbers_are_given_out, one_head_is_shown,
+    one_is_current, stores_begin_sound, stores_keep_what_came, whole_is_whole,
+};
+pub use place::{BoundBy, Place};

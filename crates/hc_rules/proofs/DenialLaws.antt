@@ -1,0 +1,221 @@
+-- A denied event names the least refusal that applies.
+use Rattle.std.proofs.Common.{◌≡◌, ◌≢◌, ℕ, ◌+◌, ◌<◌, ◌≤◌, Bool, true, false, eqb, leb, ltb, length, Option, Some, None, refl, sym, ◌∙◌, arith, lit≤}
+use Rattle.std.specs.Prelude.{not}
+use Rattle.std.proofs.lemmas.Bool.{eqb-true}
+use Rattle.std.proofs.lemmas.Bool.Decides.{nat_tests}
+use Rattle.hc_event.specs.declared.event.Event.TheVariants.{Start, Poll, Head, Piece, End, Fault, Cancel, Doom}
+use Rattle.hc_event.specs.declared.act.Refusal.{Refusal}
+use Rattle.hc_event.specs.declared.act.Refusal.TheVariants.{NotRising, TooManyConsumers, NoConsumer, Finished, WantZero, NoExchange, HeadTwice, NoHeadYet, NotAsked, EmptyPiece, Overlong}
+use Rattle.hc_rules.specs.declared.refusal.Gate.{Gate}
+use Rattle.hc_rules.specs.declared.refusal.OpenExchange.{OpenExchange}
+use Rattle.hc_rules.specs.Refusals.{refusal_of, start_refusal, poll_refusal, consumer_refusal, head_refusal, piece_refusal, end_refusal, fault_refusal, overlong}
+use Rattle.hc_rules.specs.Laws.{rank, IsLeast, StopsClosed, DenialsAreLeast, StopsStart, StopsPoll, StopsCancel, StopsHead, StopsPiece, StopsEnd, StopsFault}
+use Rattle.hc_rules.proofs.Cond.{either}
+
+leb-le : (m n : ℕ) → leb m n ≡ true → m ≤ n
+leb-le m n h = grind (arith, nat_tests)
+
+leb-lt : (m n : ℕ) → leb m n ≡ false → n < m
+leb-lt m n h = grind (arith, nat_tests)
+
+ltb-lt : (m n : ℕ) → ltb m n ≡ true → m < n
+ltb-lt m n h = grind (arith, nat_tests)
+
+ltb-le : (m n : ℕ) → ltb m n ≡ false → n ≤ m
+ltb-le m n h = grind (arith, nat_tests)
+
+eqb-other : (m n : ℕ) → eqb m n ≡ false → m ≢ n
+eqb-other m n h = grind (arith, nat_tests)
+
+denied : (b : Bool) → not b ≡ true → b ≡ false
+denied true h = absurd (cc)
+denied false h = refl
+
+granted : (b : Bool) → not b ≡ false → b ≡ true
+granted true h = refl
+granted false h = absurd (cc)
+
+-- STARTS
+
+start-first : (g : Gate) (c : ℕ) (s : Refusal) → StopsStart g c s → 1 ≤ rank s
+start-first g c (NotRising last) h = lit≤ tt
+start-first g c TooManyConsumers h = lit≤ tt
+start-first g c _ h = absurd h
+
+start-second : (g : Gate) (c : ℕ) → g.last_start < c → (s : Refusal) → StopsStart g c s → 2 ≤ rank s
+start-second g c rises (NotRising last) h = absurd (let e : c ≤ g.last_start = h.0 in omega arith)
+start-second g c rises TooManyConsumers h = lit≤ tt
+start-second g c rises _ h = absurd h
+
+start-none : (g : Gate) (c : ℕ) → g.last_start < c → g.live < 1024 → (s : Refusal) → StopsStart g c s → ⊥
+start-none g c rises few (NotRising last) h = let e : c ≤ g.last_start = h.0 in omega arith
+start-none g c rises few TooManyConsumers h = let e : 1024 ≤ g.live = h in omega arith
+start-none g c rises few _ h = h
+
+start-least : (g : Gate) (c : ℕ) → IsLeast (StopsStart g c) (start_refusal g c)
+start-least g c =
+    either (IsLeast (StopsStart g c)) (leb c g.last_start) _ _ (λ h. ((leb-le c g.last_start h, refl), start-first g c)) (λ rises.
+    either (IsLeast (StopsStart g c)) (leb 1024 g.live) _ _
+    (λ h. (leb-le 1024 g.live h, start-second g c (leb-lt c g.last_start rises)))
+    (λ few. start-none g c (leb-lt c g.last_start rises) (leb-lt 1024 g.live few)))
+
+-- POLLS AND CANCELS
+
+poll-first : (g : Gate) (c want : ℕ) (s : Refusal) → StopsPoll g c want s → 3 ≤ rank s
+poll-first g c want NoConsumer h = lit≤ tt
+poll-first g c want Finished h = lit≤ tt
+poll-first g c want WantZero h = lit≤ tt
+poll-first g c want _ h = absurd h
+
+poll-second : (g : Gate) (c want : ℕ) → c ≤ g.last_start → (s : Refusal) → StopsPoll g c want s → 4 ≤ rank s
+poll-second g c want known NoConsumer h = absurd (let e : g.last_start < c = h in omega arith)
+poll-second g c want known Finished h = lit≤ tt
+poll-second g c want known WantZero h = lit≤ tt
+poll-second g c want known _ h = absurd h
+
+poll-third : (g : Gate) (c want : ℕ) → c ≤ g.last_start → g.is_live ≡ true → (s : Refusal) → StopsPoll g c want s → 5 ≤ rank s
+poll-third g c want known lives NoConsumer h = absurd (let e : g.last_start < c = h in omega arith)
+poll-third g c want known lives Finished h = let over : g.is_live ≡ false = h.1 in absurd (cc)
+poll-third g c want known lives WantZero h = lit≤ tt
+poll-third g c want known lives _ h = absurd h
+
+poll-none : (g : Gate) (c want : ℕ) → c ≤ g.last_start → g.is_live ≡ true → want ≢ 0 → (s : Refusal) → StopsPoll g c want s → ⊥
+poll-none g c want known lives wants NoConsumer h = let e : g.last_start < c = h in omega arith
+poll-none g c want known lives wants Finished h = let over : g.is_live ≡ false = h.1 in cc
+poll-none g c want known lives wants WantZero h = wants h
+poll-none g c want known lives wants _ h = h
+
+poll-least : (g : Gate) (c want : ℕ) → IsLeast (StopsPoll g c want) (poll_refusal g c want)
+poll-least g c want =
+    either (IsLeast (StopsPoll g c want)) (ltb g.last_start c) _ _ (λ h. (ltb-lt g.last_start c h, poll-first g c want)) (λ known.
+    let within = ltb-le g.last_start c known in
+    either (IsLeast (StopsPoll g c want)) (not g.is_live) _ _ (λ h. ((within, denied g.is_live h), poll-second g c want within)) (λ lives.
+    either (IsLeast (StopsPoll g c want)) (eqb want 0) _ _
+    (λ h. (eqb-true want 0 h, poll-third g c want within (granted g.is_live lives)))
+    (λ wants. poll-none g c want within (granted g.is_live lives) (eqb-other want 0 wants))))
+
+cancel-first : (g : Gate) (c : ℕ) (s : Refusal) → StopsCancel g c s → 3 ≤ rank s
+cancel-first g c NoConsumer h = lit≤ tt
+cancel-first g c Finished h = lit≤ tt
+cancel-first g c _ h = absurd h
+
+cancel-second : (g : Gate) (c : ℕ) → c ≤ g.last_start → (s : Refusal) → StopsCancel g c s → 4 ≤ rank s
+cancel-second g c known NoConsumer h = absurd (let e : g.last_start < c = h in omega arith)
+cancel-second g c known Finished h = lit≤ tt
+cancel-second g c known _ h = absurd h
+
+cancel-none : (g : Gate) (c : ℕ) → c ≤ g.last_start → g.is_live ≡ true → (s : Refusal) → StopsCancel g c s → ⊥
+cancel-none g c known lives NoConsumer h = let e : g.last_start < c = h in omega arith
+cancel-none g c known lives Finished h = let over : g.is_live ≡ false = h.1 in cc
+cancel-none g c known lives _ h = h
+
+cancel-least : (g : Gate) (c : ℕ) → IsLeast (StopsCancel g c) (consumer_refusal g c)
+cancel-least g c =
+    either (IsLeast (StopsCancel g c)) (ltb g.last_start c) _ _ (λ h. (ltb-lt g.last_start c h, cancel-first g c)) (λ known.
+    let within = ltb-le g.last_start c known in
+    either (IsLeast (StopsCancel g c)) (not g.is_live) _ _
+    (λ h. ((within, denied g.is_live h), cancel-second g c within))
+    (λ lives. cancel-none g c within (granted g.is_live lives)))
+
+-- EVENTS OF EXCHANGES
+
+closed-least : (s : Refusal) → StopsClosed s → 6 ≤ rank s
+closed-least NoExchange h = lit≤ tt
+closed-least _ h = absurd h
+
+head-first : (x : OpenExchange) (s : Refusal) → StopsHead (Some x) s → 7 ≤ rank s
+head-first x HeadTwice h = lit≤ tt
+head-first x _ h = absurd h
+
+head-none : (x : OpenExchange) → x.headed ≡ false → (s : Refusal) → StopsHead (Some x) s → ⊥
+head-none x headless HeadTwice h = cc
+head-none x headless _ h = h
+
+head-least : (x : Option OpenExchange) → IsLeast (StopsHead x) (head_refusal x)
+head-least None = (tt, closed-least)
+head-least (Some x) = either (IsLeast (StopsHead (Some x))) x.headed _ _ (λ h. (h, head-first x)) (λ headless. head-none x headless)
+
+end-first : (x : OpenExchange) (s : Refusal) → StopsEnd (Some x) s → 8 ≤ rank s
+end-first x NoHeadYet h = lit≤ tt
+end-first x _ h = absurd h
+
+end-none : (x : OpenExchange) → x.headed ≡ true → (s : Refusal) → StopsEnd (Some x) s → ⊥
+end-none x headed NoHeadYet h = cc
+end-none x headed _ h = h
+
+end-least : (x : Option OpenExchange) → IsLeast (StopsEnd x) (end_refusal x)
+end-least None = (tt, closed-least)
+end-least (Some x) =
+    either (IsLeast (StopsEnd (Some x))) (not x.headed) _ _ (λ h. (denied x.headed h, end-first x)) (λ headed. end-none x (granted x.headed headed))
+
+fault-least : (x : Option OpenExchange) → IsLeast (StopsFault x) (fault_refusal x)
+fault-least None = (tt, closed-least)
+fault-least (Some x) = λ s h. h
+
+piece-first : (x : OpenExchange) (n : ℕ) (s : Refusal) → StopsPiece (Some x) n s → 8 ≤ rank s
+piece-first x n NoHeadYet h = lit≤ tt
+piece-first x n NotAsked h = lit≤ tt
+piece-first x n EmptyPiece h = lit≤ tt
+piece-first x n (Overlong promised) h = lit≤ tt
+piece-first x n _ h = absurd h
+
+piece-second : (x : OpenExchange) (n : ℕ) → x.headed ≡ true → (s : Refusal) → StopsPiece (Some x) n s → 9 ≤ rank s
+piece-second x n headed NoHeadYet h = absurd (cc)
+piece-second x n headed NotAsked h = lit≤ tt
+piece-second x n headed EmptyPiece h = lit≤ tt
+piece-second x n headed (Overlong promised) h = lit≤ tt
+piece-second x n headed _ h = absurd h
+
+piece-third : (x : OpenExchange) (n : ℕ) → x.headed ≡ true → x.asked ≡ true → (s : Refusal) → StopsPiece (Some x) n s → 10 ≤ rank s
+piece-third x n headed asked NoHeadYet h = absurd (cc)
+piece-third x n headed asked NotAsked h = absurd (cc)
+piece-third x n headed asked EmptyPiece h = lit≤ tt
+piece-third x n headed asked (Overlong promised) h = lit≤ tt
+piece-third x n headed asked _ h = absurd h
+
+piece-last : (x : OpenExchange) (n : ℕ) → x.headed ≡ true → x.asked ≡ true → n ≢ 0 → (s : Refusal) → StopsPiece (Some x) n s → 11 ≤ rank s
+piece-last x n headed asked some NoHeadYet h = absurd (cc)
+piece-last x n headed asked some NotAsked h = absurd (cc)
+piece-last x n headed asked some EmptyPiece h = absurd (some h)
+piece-last x n headed asked some (Overlong promised) h = lit≤ tt
+piece-last x n headed asked some _ h = absurd h
+
+-- no piece that fits its promise is stopped
+piece-none : (x : OpenExchange) (n : ℕ) → x.headed ≡ true → x.asked ≡ true → n ≢ 0 → ((promised : ℕ) → x.promised ≡ Some promised → x.delivered + n ≤ promised) → (s : Refusal) → StopsPiece (Some x) n s → ⊥
+piece-none x n headed asked some fits NoHeadYet h = cc
+piece-none x n headed asked some fits NotAsked h = cc
+piece-none x n headed asked some fits EmptyPiece h = some h
+piece-none x n headed asked some fits (Overlong promised) h = let a : x.delivered + n ≤ promised = fits promised h.0 in let b : promised < x.delivered + n = h.1 in omega arith
+piece-none x n headed asked some fits _ h = h
+
+fits-same : (m promised n : ℕ) → Some m ≡ Some promised → n ≤ m → n ≤ promised
+fits-same m promised n same h = let e : m ≡ promised = cc in omega arith
+
+promise-least : (x : OpenExchange) (n : ℕ) (promised : Option ℕ) → x.promised ≡ promised → x.headed ≡ true → x.asked ≡ true → n ≢ 0 → IsLeast (StopsPiece (Some x) n) (overlong promised (x.delivered + n))
+promise-least x n None is headed asked some = piece-none x n headed asked some (λ promised told. let e : None ≡ Some promised = cc in absurd (cc))
+promise-least x n (Some m) is headed asked some =
+    either (IsLeast (StopsPiece (Some x) n)) (ltb m (x.delivered + n)) _ _
+    (λ h. ((is, ltb-lt m (x.delivered + n) h), piece-last x n headed asked some))
+    (λ h. piece-none x n headed asked some (λ promised told. let e : Some m ≡ Some promised = sym is ∙ told in fits-same m promised (x.delivered + n) e (ltb-le m (x.delivered + n) h)))
+
+piece-least : (x : Option OpenExchange) (n : ℕ) → IsLeast (StopsPiece x n) (piece_refusal x n)
+piece-least None n = (tt, closed-least)
+piece-least (Some x) n =
+    either (IsLeast (StopsPiece (Some x) n)) (not x.headed) _ _ (λ h. (denied x.headed h, piece-first x n)) (λ h.
+    let headed = granted x.headed h in
+    either (IsLeast (StopsPiece (Some x) n)) (not x.asked) _ _ (λ a. (denied x.asked a, piece-second x n headed)) (λ a.
+    let asked = granted x.asked a in
+    either (IsLeast (StopsPiece (Some x) n)) (eqb n 0) _ _
+    (λ none. (eqb-true n 0 none, piece-third x n headed asked))
+    (λ some. promise-least x n x.promised refl headed asked (eqb-other n 0 some))))
+
+pub denials-least : DenialsAreLeast
+unfolding refusal_of
+denials-least g (Start c request) = start-least g c
+denials-least g (Poll c want) = poll-least g c want
+denials-least g (Head x response) = head-least g.exchange
+denials-least g (Piece x bytes) = piece-least g.exchange (length bytes)
+denials-least g (End x) = end-least g.exchange
+denials-least g (Fault x) = fault-least g.exchange
+denials-least g (Cancel c) = cancel-least g c
+denials-least g (Doom key) = λ s h. h

@@ -1,0 +1,15 @@
+pub mod Numbers
+pub mod LengthFolds
+pub mod RangeReads
+pub mod LeastFolds
+pub mod RoomFolds
+pub mod Cond
+pub mod CaseLaws
+pub mod StepLaws
+pub mod PlanLaws
+pub mod RoomLaws
+pub mod LeastLaws
+pub mod DenialLaws
+pub mod TagReads
+pub mod JoinLaws
+pub mod AdmissionLaws

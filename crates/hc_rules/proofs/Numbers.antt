@@ -1,0 +1,64 @@
+-- What is read as a number is one, and what isn't is none.
+use Rattle.std.proofs.Common.{◌≡◌, ◌≢◌, ℕ, ◌<◌, ◌≤◌, ◌^◌, List, length, Bool, true, false, eqb, leb, ltb, Option, Some, None, refl, sym, arith, lt-ltb, inl, inr}
+use Rattle.std.specs.Prelude.{◌&&◌, IfSome, IfNone}
+use Rattle.hc_text.specs.Numbers.{IsNumber}
+use Rattle.std.specs.Str.{all_ascii_digits}
+use Rattle.std.specs.Str.Parse.{digits_value, IsNumeral}
+use Rattle.std.proofs.lemmas.Bool.{cases_Bool, and_parts}
+use Rattle.std.proofs.lemmas.Bool.Decides.{nat_tests}
+use Rattle.std.proofs.lemmas.Str.Parse.{IsNumeralModel, numerals_by_value, tells_all_ascii_digits}
+use Rattle.hc_rules.specs.RangeTexts.{number_of}
+
+digits : IsNumeralModel (λ ds. all_ascii_digits ds ≡ true) (digits_value 10)
+digits = numerals_by_value _ tells_all_ascii_digits
+
+pub eqb-same : (c : ℕ) → eqb c c ≡ true
+eqb-same c = grind (arith, nat_tests)
+
+pub eqb-other : (c d : ℕ) → c ≢ d → eqb c d ≡ false
+eqb-other c d differ = grind (arith, nat_tests)
+
+le-leb : (m n : ℕ) → m ≤ n → leb m n ≡ true
+le-leb m n h = grind (arith, nat_tests)
+
+leb-le : (m n : ℕ) → leb m n ≡ true → m ≤ n
+leb-le m n h = grind (arith, nat_tests)
+
+ltb-lt : (m n : ℕ) → ltb m n ≡ true → m < n
+ltb-lt m n h = grind (arith, nat_tests)
+
+abbrev is_number : List ℕ → Bool
+is_number text = leb 1 (length text) && leb (length text) 20 && all_ascii_digits text && ltb (digits_value 10 text) (2 ^ 62)
+
+-- a number is told
+pub number_of-number : (text : List ℕ) (n : ℕ) → IsNumber text n → number_of text ≡ Some n
+number_of-number text n found =
+    let (small, numeral, short, value) = found in
+    let some : leb 1 (length text) ≡ true = le-leb _ _ (let h : 0 < length text = numeral.0 in omega arith) in
+    let few : leb (length text) 20 ≡ true = le-leb _ _ short in
+    let below : ltb n (2 ^ 62) ≡ true = lt-ltb n (2 ^ 62) small in
+    rw (some, few, digits.from text numeral.1, value, below) refl
+
+-- what is told is a number
+IsNumber-tests : (text : List ℕ) → is_number text ≡ true → IsNumber text (digits_value 10 text)
+IsNumber-tests text is =
+    let (front, below) = and_parts (leb 1 (length text) && leb (length text) 20 && all_ascii_digits text) (ltb (digits_value 10 text) (2 ^ 62)) is in
+    let (sizes, all) = and_parts (leb 1 (length text) && leb (length text) 20) (all_ascii_digits text) front in
+    let (some, few) = and_parts (leb 1 (length text)) (leb (length text) 20) sizes in
+    let numeral : IsNumeral 10 text = (let h : 1 ≤ length text = leb-le _ _ some in omega arith, digits.to text all) in
+    (ltb-lt _ _ below, numeral, leb-le _ _ few, refl)
+
+pub IsNumber-told : (text : List ℕ) (n : ℕ) → number_of text ≡ Some n → IsNumber text n
+IsNumber-told text n told =
+    elim (cases_Bool (is_number text)) [
+      | inl is ↦ let e : Some (digits_value 10 text) ≡ Some n = rw is at told in let same : digits_value 10 text ≡ n = cc in rw (← same) (IsNumber-tests text is)
+      | inr isnt ↦ let e : None ≡ Some n = rw isnt at told in absurd (cc)
+    ]
+
+pub number_of-read : (text : List ℕ) (r : Option ℕ) → IfSome r (IsNumber text) → IfNone r ((n : ℕ) → ¬ (IsNumber text n)) → r ≡ number_of text
+number_of-read text (Some n) found none = sym (number_of-number text n found)
+number_of-read text None found none =
+    elim (cases_Bool (is_number text)) [
+      | inl is ↦ absurd (none (digits_value 10 text) (IsNumber-tests text is))
+      | inr isnt ↦ sym (rw isnt refl)
+    ]

@@ -1,0 +1,19 @@
+-- How many give way, told one by one.
+use Rattle.std.proofs.Common.{◌≡◌, ℕ, ◌+◌, ◌≤◌, true, leb, List, [], ◌∷◌, Option, Some, refl, sym, ap, ◌∙◌, arith}
+use Rattle.std.specs.Prelude.{option_map}
+use Rattle.std.proofs.lemmas.Bool.Decides.{nat_tests}
+use Rattle.hc_rules.specs.Rooms.{gives_way}
+
+le-leb : (m n : ℕ) → m ≤ n → leb m n ≡ true
+le-leb m n h = grind (arith, nat_tests)
+
+-- where the sum fits, none gives way
+none_gives_way : (most sum : ℕ) (idle : List ℕ) → sum ≤ most → gives_way most sum idle ≡ Some 0
+none_gives_way most sum [] fits = rw (le-leb sum most fits) refl
+none_gives_way most sum (weight ∷ idle) fits = rw (le-leb sum most fits) refl
+
+pub fits_now : (count most left : ℕ) (idle : List ℕ) (all : Option ℕ) → left ≤ most
+    → option_map (λ (n : ℕ). count + n) (gives_way most left idle) ≡ all → Some count ≡ all
+fits_now count most left idle all fits invariant =
+    let zero : count + 0 ≡ count = omega arith in
+    ap Some (sym zero) ∙ ap (option_map (λ (n : ℕ). count + n)) (sym (none_gives_way most left idle fits)) ∙ invariant

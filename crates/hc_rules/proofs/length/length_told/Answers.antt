@@ -1,0 +1,14 @@
+use Rattle.std.proofs.Common.{◌∙◌, sym}
+use Rattle.std.specs.Prelude.{codes}
+use Rattle.hc_fields.specs.FieldList.{values_of}
+use Rattle.hc_fields.specs.FieldElements.{elements_in}
+use Rattle.hc_rules.proofs.LengthFolds.{one_more, told_is}
+use Rattle.hc_rules.proofs.length.length_told.Goals as goal
+
+pub loop-i-init : goal.loop-i-init
+loop-i-init c = told_is (elements_in (codes "content-length") c.args.fields.now)
+
+pub loop-i-preserved : goal.loop-i-preserved
+loop-i-preserved c =
+    let value = rw c.unwrap.ensures at c.value.ensures in
+    one_more c.loop-i.length c.with_list-length.result (values_of (codes "content-length") c.args.fields.now) c.loop-i.i c.unwrap.result.now (sym value) c.with_list-length.ensures ∙ c.loop-i.invariant

@@ -1,0 +1,16 @@
+pub mod Needs
+pub mod RangeTexts
+pub mod TagTexts
+pub mod Requests
+pub mod Refusals
+pub mod Lengths
+pub mod LengthSoFar
+pub mod HeadCases
+pub mod Joins
+pub mod Plans
+pub mod Least
+pub mod Admissions
+pub mod Readings
+pub mod Rooms
+pub mod Survivors
+pub mod Laws

@@ -1,0 +1,4 @@
+pub mod Heads
+pub mod Slots
+pub mod Causes
+pub mod Entries

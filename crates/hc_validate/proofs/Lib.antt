@@ -1,0 +1,9 @@
+pub mod Settings
+pub mod Renewals
+pub mod Numbers
+pub mod Names
+pub mod Stored
+pub mod Sizes
+pub mod Listed
+pub mod Asked
+pub mod Common

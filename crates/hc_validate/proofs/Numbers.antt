@@ -1,0 +1,111 @@
+-- Numbers as values of fields.
+use Rattle.std.proofs.Common.{◌≡◌, ℕ, ◌-◌, ◌^◌, ◌<◌, ◌≤◌, Bool, true, false, not, ◌||◌, ◌==◌, List, [], ◌∷◌, ◌++◌, length, refl, ap, ◌∙◌, arith, length-append}
+use Rattle.std.specs.Prelude.{codes, slice_index}
+use Rattle.std.specs.List.{list_all}
+use Rattle.std.specs.Fmt.{decimal}
+use Rattle.std.specs.Int.{IsInRange}
+use Rattle.std.specs.Str.Parse.{AllDigits}
+use Rattle.std.proofs.lemmas.Bool.{or_right}
+use Rattle.std.proofs.lemmas.Bool.Decides.{nat_tests}
+use Rattle.std.proofs.lemmas.Fmt.{decimal_is_IsNumeral, length-decimal-le}
+use Rattle.std.proofs.lemmas.List.{get_or-append_right, get_or_append_left}
+use Rattle.std.proofs.lemmas.List.Folds.{list_all-append}
+use Rattle.std.proofs.lemmas.Str.Parse.{digit_at, digit_from_value}
+use Rattle.http_header.specs.Token.{is_value_byte}
+use Rattle.hc_text.specs.Elements.{is_blank}
+use Rattle.hc_fields.specs.FieldList.{is_own_value}
+use Rattle.hc_range.specs.declared.range.Span.{Span}
+use Rattle.hc_range.specs.Spans.{IsWithin, content_range_text}
+
+-- what holds of each digit holds of each byte of a number
+list_all-digits : (p : ℕ → Bool) → ((c : ℕ) → IsInRange 48 57 c → p c ≡ true) → (ds : List ℕ) → AllDigits 10 ds → list_all p ds ≡ true
+list_all-digits p each [] h = refl
+list_all-digits p each (c ∷ ds) h = rw (each c (digit_from_value c h.0)) (list_all-digits p each ds h.1)
+
+is_value_byte-digit : (c : ℕ) → IsInRange 48 57 c → is_value_byte c ≡ true
+is_value_byte-digit c h = grind (arith, nat_tests)
+
+is_blank-digit : (c : ℕ) → IsInRange 48 57 c → is_blank c ≡ false
+is_blank-digit c h = grind (arith, nat_tests)
+
+AllDigits-decimal : (n : ℕ) → n < 2 ^ 64 → AllDigits 10 (decimal n)
+AllDigits-decimal n h = (decimal_is_IsNumeral n (omega (arith, h))).0.1
+
+some-decimal : (n : ℕ) → n < 2 ^ 64 → 0 < length (decimal n)
+some-decimal n h = (decimal_is_IsNumeral n (omega (arith, h))).0.0
+
+values-decimal : (n : ℕ) → n < 2 ^ 64 → list_all is_value_byte (decimal n) ≡ true
+values-decimal n h = list_all-digits is_value_byte is_value_byte-digit (decimal n) (AllDigits-decimal n h)
+
+-- the last byte of a number is no blank
+last-decimal : (n : ℕ) → n < 2 ^ 64 → is_blank (slice_index (decimal n) (length (decimal n) - 1)) ≡ false
+last-decimal n h =
+    let some = some-decimal n h in
+    is_blank-digit (slice_index (decimal n) (length (decimal n) - 1)) (digit_at (decimal n) (length (decimal n) - 1) (AllDigits-decimal n h) (omega arith))
+
+-- a number is a value of a field
+pub own-decimal : (n : ℕ) → n < 2 ^ 64 → is_own_value (decimal n) ≡ true
+own-decimal n h =
+    let some = some-decimal n h in
+    let first = is_blank-digit (slice_index (decimal n) 0) (digit_at (decimal n) 0 (AllDigits-decimal n h) some) in
+    let last = last-decimal n h in
+    rw (values-decimal n h) (or_right (length (decimal n) == 0) (not (is_blank (slice_index (decimal n) 0) || is_blank (slice_index (decimal n) (length (decimal n) - 1)))) (rw (first, last) refl))
+
+pub short-decimal : (n : ℕ) → n < 2 ^ 64 → length (decimal n) ≤ 20
+short-decimal n h = length-decimal-le 20 n (omega arith) (omega (arith, h)) h
+
+-- a text that begins with no blank and ends with a number is a value of a field
+own-ends : (front : List ℕ) (n : ℕ) → n < 2 ^ 64 → 0 < length front → list_all is_value_byte front ≡ true → is_blank (slice_index front 0) ≡ false → is_own_value (front ++ decimal n) ≡ true
+own-ends front n h longer bytes first =
+    let some = some-decimal n h in
+    let all : list_all is_value_byte (front ++ decimal n) ≡ true = list_all-append is_value_byte front (decimal n) ∙ rw (bytes, values-decimal n h) refl in
+    let count = length-append front (decimal n) in
+    let begins : slice_index (front ++ decimal n) 0 ≡ slice_index front 0 = get_or_append_left front (decimal n) 0 0 longer in
+    let place : length (front ++ decimal n) - 1 - length front ≡ length (decimal n) - 1 = omega arith in
+    let ends : slice_index (front ++ decimal n) (length (front ++ decimal n) - 1) ≡ slice_index (decimal n) (length (decimal n) - 1) =
+    get_or-append_right front (decimal n) (length front) (length (front ++ decimal n) - 1) 0 refl (omega arith) ∙ ap (λ (i : ℕ). slice_index (decimal n) i) place in
+    rw all (or_right (length (front ++ decimal n) == 0)
+    (not (is_blank (slice_index (front ++ decimal n) 0) || is_blank (slice_index (front ++ decimal n) (length (front ++ decimal n) - 1))))
+    (rw (begins, ends, first, last-decimal n h) refl))
+
+-- the place of a part is a value of a field, of 68 bytes at most
+pub own-content_range : (span : Span) (total : ℕ) → IsWithin span total → is_own_value (content_range_text span total) ≡ true
+own-content_range span total within =
+    let last_fits : span.hi - 1 < 2 ^ 64 = omega (arith, within.within, within.small) in
+    let first_fits : span.lo < 2 ^ 64 = omega (arith, within.not_empty, within.within, within.small) in
+    own-ends (codes "bytes " ++ decimal span.lo ++ codes "-" ++ decimal (span.hi - 1) ++ codes "/") total (omega (arith, within.small))
+    (simp length-append (omega arith))
+    (simp list_all-append (rw (values-decimal span.lo first_fits, values-decimal (span.hi - 1) last_fits) refl)) refl
+
+pub short-content_range : (span : Span) (total : ℕ) → IsWithin span total → length (content_range_text span total) ≤ 68
+short-content_range span total within =
+    let last_fits : span.hi - 1 < 2 ^ 64 = omega (arith, within.within, within.small) in
+    let first_fits : span.lo < 2 ^ 64 = omega (arith, within.not_empty, within.within, within.small) in
+    let total_fits : total < 2 ^ 64 = omega (arith, within.small) in
+    simp length-append (omega (arith, short-decimal span.lo first_fits, short-decimal (span.hi - 1) last_fits, short-decimal total total_fits))
+
+abbrev pub quoted : ℕ → List ℕ
+quoted n = (34 ∷ decimal n) ++ 34 ∷ []
+
+-- a number in quotes is a value of a field
+pub own-quoted : (n : ℕ) → n < 2 ^ 64 → is_own_value (quoted n) ≡ true
+own-quoted n h =
+    let front : List ℕ = 34 ∷ decimal n in
+    let all : list_all is_value_byte (quoted n) ≡ true = list_all-append is_value_byte front (34 ∷ []) ∙ rw (values-decimal n h) refl in
+    let count = length-append front (34 ∷ []) in
+    let place : length (quoted n) - 1 - length front ≡ 0 = omega arith in
+    let ends : slice_index (quoted n) (length (quoted n) - 1) ≡ 34 =
+    get_or-append_right front (34 ∷ []) (length front) (length (quoted n) - 1) 0 refl (omega arith) ∙ ap (λ (i : ℕ). slice_index (34 ∷ []) i) place in
+    rw all (or_right (length (quoted n) == 0)
+    (not (is_blank (slice_index (quoted n) 0) || is_blank (slice_index (quoted n) (length (quoted n) - 1))))
+    (rw ends refl))
+
+pub length-quoted : (n : ℕ) → n < 2 ^ 64 → length (quoted n) ≤ 22
+length-quoted n h = simp length-append (omega (arith, short-decimal n h))
+
+-- a length that no range fits is a value of a field
+pub own-unsatisfied : (n : ℕ) → n < 2 ^ 64 → is_own_value (codes "bytes */" ++ decimal n) ≡ true
+own-unsatisfied n h = own-ends (codes "bytes */") n h (omega arith) refl refl
+
+pub short-unsatisfied : (n : ℕ) → n < 2 ^ 64 → length (codes "bytes */" ++ decimal n) ≤ 28
+short-unsatisfied n h = simp length-append (omega (arith, short-decimal n h))

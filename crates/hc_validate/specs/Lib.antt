@@ -1,0 +1,7 @@
+pub mod Heads
+pub mod Tags
+pub mod Conditions
+pub mod Selection
+pub mod Updates
+pub mod Showing
+pub mod Origin

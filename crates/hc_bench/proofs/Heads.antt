@@ -1,5 +1,5 @@
 -- Typical heads: they have records, and what their fields ask of a cache.
-use Rattle.std.proofs.Common.{◌≡◌, ℕ, Bool, true, false, List, [], ◌∷◌, length, None, Some, bytes_eq, refl, sym, ◌∙◌, subst, lit≤, arith}
+use Rattle.std.proofs.Common.{◌≡◌, ℕ, Bool, true, false, List, [], ◌∷◌, length, None, Some, bytes_eq, refl, sym, ◌∙◌, ap, subst, lit≤, arith}
 use Rattle.std.specs.Prelude.{◌&&◌, nat_lt, nat_le, codes, All}
 use Rattle.std.specs.List.{list_all}
 use Rattle.std.proofs.lemmas.Bool.{and_parts, ltb-true, leb-true}
@@ -11,11 +11,14 @@ use Rattle.hc_text.specs.Elements.{elements}
 use Rattle.hc_fields.specs.FieldList.{is_own_value, IsField, IsFieldList, IsModest}
 use Rattle.hc_cachectl.specs.declared.directives.Directives.{Directives}
 use Rattle.hc_cachectl.specs.Directives.{of_response, of_request}
-use Rattle.hc_record.specs.declared.head.StoredHead.{StoredHead}
+use Rattle.hc_record.specs.declared.version.Version.TheVariants.{Second}
+use Rattle.hc_record.specs.Head.{Head, IsHead}
 use Rattle.hc_record.specs.declared.kind.Kind.TheVariants.{Whole}
 use Rattle.hc_record.specs.Lines.{IsSmall}
-use Rattle.hc_record.specs.Record.{spelling}
+use Rattle.hc_record.specs.Record.{IsRecordOf}
 use Rattle.hc_record.proofs.SameRecords.{same_head}
+use Rattle.hc_fresh.specs.Lifetimes.{lifetime, lifetime_by}
+use Rattle.hc_validate.specs.Updates.{updated}
 use Rattle.hc_bench.specs.Calls.{typical_fields, IsTypical, IsTypicalRecord}
 
 abbrev pub Pair : Type 0
@@ -59,27 +62,35 @@ unfolding typical_fields
 IsModest-typical = record { few = lit≤ tt; small = lit≤ tt }
 
 -- a head with these moments
-unfoldable pub typical_head : (requested answered : ℕ) → IsSmall requested → IsSmall answered → StoredHead
-typical_head requested answered small_requested small_answered = record {
+unfoldable pub typical_head : (requested answered : ℕ) → Head
+typical_head requested answered = record {
   kind = Whole;
   total = Some 12563;
   status = 200;
   requested = requested;
   answered = answered;
+  joining = Some (codes "33a64df551425fcc55e4d42a148795d9f25f89d4");
   vary_fields = vary_fields;
   fields = typical_fields;
+}
+
+pub IsHead-typical : (requested answered : ℕ) → IsSmall requested → IsSmall answered → IsHead (typical_head requested answered)
+unfolding typical_head typical_fields
+IsHead-typical requested answered small_requested small_answered = record {
   known_status = refl;
   small_total = λ total is. let same : 12563 ≡ total = cc in omega arith;
   small_requested = small_requested;
   small_answered = small_answered;
+  own_joining = refl;
   vary_list = IsFieldList-vary;
   list = IsFieldList-typical;
   modest = IsModest-typical;
 }
 
 -- the head that a record spells is a typical one
-pub IsTypical-read : (head : StoredHead) (text : List ℕ) → IsTypicalRecord text → spelling head ≡ text → IsTypical head
-IsTypical-read head text record_of is = subst IsTypical (same_head record_of.0 head (record_of.2 ∙ sym is)) record_of.1
+pub IsTypical-read : (head : Head) (text : List ℕ) → IsHead head → IsTypicalRecord text → IsRecordOf text head → IsTypical head
+IsTypical-read head text own record_of is =
+    subst IsTypical (same_head record_of.0 head Second is.0 record_of.1.own own (record_of.2 ∙ sym is.1)).0 record_of.1
 
 pub length-typical_fields : length typical_fields ≡ 10
 unfolding typical_fields
@@ -103,3 +114,14 @@ of_response-typical_fields = refl
 pub of_request-typical_fields : of_request typical_fields ≡ typical_directives
 unfolding typical_fields elements
 of_request-typical_fields = refl
+
+-- for how long such a head is fresh
+pub lifetime-typical : (head : Head) → head.fields ≡ typical_fields → lifetime head ≡ 3600
+unfolding lifetime
+lifetime-typical head fields_are =
+    ap (λ (d : Directives). lifetime_by d.max_age head) (ap of_response fields_are ∙ of_response-typical_fields)
+
+-- an update by fields of the same names keeps their count
+pub length-updated : length (updated typical_fields typical_fields) ≡ 10
+unfolding typical_fields
+length-updated = refl

@@ -1,9 +1,11 @@
 -- What calls are made with, and what they answer.
-use Rattle.std.specs.Prelude.{◌≡◌, ℕ, List, [], ◌∷◌, ◌++◌, length, false, codes}
+use Rattle.std.specs.Prelude.{◌≡◌, ℕ, ◌≤◌, List, [], ◌∷◌, ◌++◌, length, false, codes}
 use Rattle.hc_etag.specs.declared.tag.Tag.{Tag}
 use Rattle.hc_etag.specs.declared.list.TagList.{TagList}
 use Rattle.hc_etag.specs.declared.list.TagList.TheVariants.{Any, Tags}
-use Rattle.hc_record.specs.declared.head.StoredHead.{StoredHead}
+use Rattle.hc_record.specs.declared.version.Version.TheVariants.{Second}
+use Rattle.hc_record.specs.Head.{Head, IsHead}
+use Rattle.hc_fields.specs.Lines.{fields_text}
 use Rattle.hc_record.specs.Record.{spelling}
 
 -- a strong tag of this hash
@@ -30,11 +32,15 @@ typical_fields =
     (codes "server", codes "nginx") ∷
     (codes "vary", codes "accept-encoding") ∷ []
 
--- a head with these fields, whose record has 407 bytes
-pub record IsTypical (head : StoredHead) : Type 0 where
+-- a head with these fields, whose record has 454 bytes
+pub record IsTypical (head : Head) : Type 0 where
+  pub own : IsHead head
+  pub came : head.requested ≤ head.answered
   pub fields_are : head.fields ≡ typical_fields
-  pub len : length (spelling head) ≡ 407
+  pub count : length head.fields ≡ 10
+  pub lines : length (fields_text head.fields) ≡ 322
+  pub len : length (spelling Second head) ≡ 454
 
 -- the record of such a head
 abbrev pub IsTypicalRecord : List ℕ → Type 0
-IsTypicalRecord text = (head : StoredHead) × IsTypical head × (spelling head ≡ text)
+IsTypicalRecord text = (head : Head) × IsTypical head × (spelling Second head ≡ text)

@@ -1,19 +1,23 @@
 //! Calls of the rules of HTTP.
 ghost use Rattle.std.specs.Prelude.{◌≡◌, IfOk, IsTrue};
 
+mod freshness;
 mod heads;
 mod ranges;
 mod records;
 mod tags;
-mod two_heads;
+pub(crate) mod two_heads;
 mod two_tags;
+mod validation;
 
 use crate::command::{Call, Calls};
+use freshness::{AllowedTo, Facts};
 use hc_text::NoMemory;
-use heads::{ReadRecord, ReadRequest, ReadResponse, WriteRecord};
+use heads::{CopyFields, ReadRecord, ReadRequest, ReadResponse, WriteLines, WriteRecord};
 use ranges::{ReadContentRange, ReadRange, Resolve, WriteContentRange, WriteRange};
 use std::alloc::Global;
 use tags::{ReadTag, ReadTagList, WeakEqual, WriteTag};
+use validation::{Conditional, Shown, Update};
 
 /// A call with all that it is made with.
 ///
@@ -42,8 +46,15 @@ pub(crate) fn right_calls(alloc: Global, calls: Calls) -> Result<u64, NoMemory>
         Call::WriteContentRange => right_rounds(alloc, &mut WriteContentRange::new(alloc), times),
         Call::ReadResponse => right_rounds(alloc, &mut ReadResponse::new(alloc)?, times),
         Call::ReadRequest => right_rounds(alloc, &mut ReadRequest::new(alloc)?, times),
+        Call::CopyFields => right_rounds(alloc, &mut CopyFields::new(alloc)?, times),
+        Call::WriteLines => right_rounds(alloc, &mut WriteLines::new(alloc)?, times),
         Call::WriteRecord => right_rounds(alloc, &mut WriteRecord::new(alloc)?, times),
         Call::ReadRecord => right_rounds(alloc, &mut ReadRecord, times),
+        Call::Conditional => right_rounds(alloc, &mut Conditional::new(alloc)?, times),
+        Call::Shown => right_rounds(alloc, &mut Shown::new(alloc)?, times),
+        Call::Update => right_rounds(alloc, &mut Update::new(alloc)?, times),
+        Call::HeadFacts => right_rounds(alloc, &mut Facts::new(alloc)?, times),
+        Call::AllowedTo => right_rounds(alloc, &mut AllowedTo, times),
     }
 }
 

@@ -6,6 +6,8 @@ ghost use Rattle.std.specs.Prelude.{◌≤◌, ◌^◌};
 pub enum Command {
     Lists(Lists),
     Downloads(Downloads),
+    Reads(Reads),
+    Stores(Stores),
     Calls(Calls),
 }
 
@@ -46,7 +48,16 @@ pub enum Way {
     /// Each piece is appended to a list of bytes.
     Append,
     /// The pieces are put into sparse bytes in this order.
-    Put(Order),
+    Put(Kept, Order),
+}
+
+/// How sparse bytes are kept.
+#[derive(Clone, Copy, Debug, PartialEq, Eq)]
+pub enum Kept {
+    /// As blocks, by `Sparse`.
+    Blocks,
+    /// As a list of runs, by `PlainSparse`.
+    Runs,
 }
 
 /// The order in which pieces come.
@@ -58,6 +69,52 @@ pub enum Order {
     Backward,
     /// Every second one from the first on, and then the others.
     Alternate,
+}
+
+/// A body of `pieces` pieces, read back `times` times.
+#[derive(Clone, Copy, Debug, PartialEq, Eq)]
+pub struct Reads {
+    pub body: Body,
+    pub pieces: u64,
+    pub times: u64,
+    ghost some: { 1 ≤ pieces },
+    ghost few: { pieces ≤ 2 ^ 20 },
+    ghost bounded: { times ≤ 2 ^ 32 },
+}
+
+/// What a body is read from.
+#[derive(Clone, Copy, Debug, PartialEq, Eq)]
+pub enum Body {
+    /// A list of bytes.
+    List,
+    /// Sparse bytes.
+    Sparse(Kept),
+}
+
+/// A call of a store in memory with so many live slots, made `times` times.
+#[derive(Clone, Copy, Debug, PartialEq, Eq)]
+pub struct Stores {
+    pub call: StoreCall,
+    pub slots: u64,
+    pub times: u64,
+    ghost some: { 1 ≤ slots },
+    ghost few: { slots ≤ 2 ^ 16 },
+    ghost bounded: { times ≤ 2 ^ 32 },
+}
+
+/// A call of a store.
+#[derive(Clone, Copy, Debug, PartialEq, Eq)]
+pub enum StoreCall {
+    /// `create`, and the drop of the slot.
+    Create,
+    /// `put` of some bytes behind those that were put before.
+    Put,
+    /// `read_record`.
+    ReadRecord,
+    /// `run_at` of some bytes.
+    RunAt,
+    /// `seal`.
+    Seal,
 }
 
 /// A call, made `times` times.
@@ -93,8 +150,22 @@ pub enum Call {
     ReadResponse,
     /// `read_request` of `hc_cachectl`.
     ReadRequest,
+    /// `copy` of the fields of `hc_fields`.
+    CopyFields,
+    /// `write_lines` of the fields of `hc_fields`.
+    WriteLines,
     /// `write_record` of `hc_record`.
     WriteRecord,
     /// `read_record` of `hc_record`.
     ReadRecord,
+    /// `conditional` of `hc_validate`.
+    Conditional,
+    /// `shown` of `hc_validate`.
+    Shown,
+    /// `update` of `hc_validate`.
+    Update,
+    /// What `hc_fresh` keeps of a head.
+    HeadFacts,
+    /// `allowed_to` of `hc_fresh`.
+    AllowedTo,
 }

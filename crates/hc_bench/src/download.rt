@@ -1,14 +1,15 @@
 //! Downloads: pieces of one exchange that make a body.
 ghost use Rattle.std.specs.Prelude.{◌≡◌, ◌*◌, ◌<◌, ◌≤◌, ◌^◌, length, IfOk};
+ghost use Rattle.hc_sparse.specs.Cells.{nothing};
 ghost use Rattle.hc_bench.specs.Downloads.{place_of};
 
-use crate::command::{Downloads, Order, Way};
-use hc_sparse::{Sparse, SparseBytes};
+use crate::command::{Downloads, Kept, Order, Way};
+use hc_sparse::{PlainSparse, Sparse, SparseBytes};
 use hc_text::NoMemory;
 use std::alloc::Global;
 
 /// How many bytes a piece has.
-const PIECE_LEN: u64 = 1460;
+pub(crate) const PIECE_LEN: u64 = 1460;
 
 /// The exchange that brings the pieces.
 const EXCHANGE: u64 = 1;
@@ -37,7 +38,8 @@ fn download(alloc: Global, way: Way, piece: &[u8], pieces: u64) -> Result<u64, N
 {
     match way {
         Way::Append => append(alloc, piece, pieces),
-        Way::Put(order) => put(alloc, order, piece, pieces),
+        Way::Put(Kept::Blocks, order) => put(&mut Sparse::new(alloc), order, piece, pieces),
+        Way::Put(Kept::Runs, order) => put(&mut PlainSparse::new(alloc), order, piece, pieces),
     }
 }
 
@@ -54,12 +56,17 @@ fn append(alloc: Global, piece: &[u8], pieces: u64) -> Result<u64, NoMemory>
 }
 
 /// Puts the pieces into sparse bytes in this order.
-fn put(alloc: Global, order: Order, piece: &[u8], pieces: u64) -> Result<u64, NoMemory>
+pub(crate) fn put<M: SparseBytes>(
+    body: &mut M,
+    order: Order,
+    piece: &[u8],
+    pieces: u64,
+) -> Result<u64, NoMemory>
+    requires empty { M.cells body.old ≡ nothing }
     requires piece { length piece.now ≡ PIECE_LEN }
     requires few { pieces ≤ 2 ^ 20 }
     ensures { IfOk result (λ size. size ≡ PIECE_LEN * pieces) }
 {
-    let mut body = Sparse::new(alloc);
     for k in 0..pieces {
         body.put(PIECE_LEN * place(order, k, pieces), EXCHANGE, piece)?;
     }

@@ -7,7 +7,9 @@ mod download;
 mod fields;
 mod map;
 mod name;
+mod reading;
 mod run;
+mod stores;
 mod words;
 
 use run::{Status, run};

@@ -6,6 +6,8 @@ ghost use Rattle.hc_bench.specs.Words.{IsCommand, code_of};
 use crate::calls::right_calls;
 use crate::command::{Command, Lists, Subject};
 use crate::download::whole_downloads;
+use crate::reading::read_rounds;
+use crate::stores::store_rounds;
 use crate::words::command_of;
 use crate::{fields, map};
 use hc_text::NoMemory;
@@ -42,7 +44,8 @@ impl Status {
 /// Does what the words say. Without words it does nothing.
 pub fn run(alloc: Global, words: &[String]) -> Status
     ensures idle { map string_bytes words.now ≡ [] → result ≡ Status.Done }
-    ensures usage { (result ≡ Status.Usage) ↔ (map string_bytes words.now ≢ []) × (¬ (IsCommand (map string_bytes words.now))) }
+    ensures usage { (result ≡ Status.Usage)
+        ↔ (map string_bytes words.now ≢ []) × (¬ (IsCommand (map string_bytes words.now))) }
     ensures never_lost { result ≢ Status.Lost }
 {
     if words.is_empty() {
@@ -74,6 +77,8 @@ fn is_right(alloc: Global, command: Command) -> Result<bool, NoMemory>
         Command::Downloads(downloads) => {
             Ok(whole_downloads(alloc, downloads)? == downloads.times)
         }
+        Command::Reads(reads) => Ok(read_rounds(alloc, reads)? == reads.times),
+        Command::Stores(stores) => Ok(store_rounds(alloc, stores)? == stores.times),
         Command::Calls(calls) => Ok(right_calls(alloc, calls)? == calls.times),
     }
 }

@@ -9,18 +9,28 @@ ghost use Rattle.hc_bench.specs.declared.command.Calls.{Calls};
 ghost use Rattle.hc_bench.specs.declared.command.Subject.{Subject};
 ghost use Rattle.hc_bench.specs.declared.command.Way.{Way};
 ghost use Rattle.hc_bench.specs.declared.command.Call.{Call};
-ghost use Rattle.hc_bench.specs.Words.{words_of, lists_words, downloads_words, calls_words, subject_word, way_word, call_word};
+ghost use Rattle.hc_bench.specs.declared.command.Reads.{Reads};
+ghost use Rattle.hc_bench.specs.declared.command.Body.{Body};
+ghost use Rattle.hc_bench.specs.declared.command.Stores.{Stores};
+ghost use Rattle.hc_bench.specs.declared.command.StoreCall.{StoreCall};
+ghost use Rattle.hc_bench.specs.Words.{words_of, lists_words, downloads_words, calls_words, reads_words, stores_words, subject_word, way_word, call_word, body_word, store_word};
 
-use crate::command::{Call, Calls, Command, Downloads, Lists, Order, Subject, Way};
+use crate::command::{
+    Body, Call, Calls, Command, Downloads, Kept, Lists, Order, Reads, StoreCall, Stores, Subject,
+    Way,
+};
 use hc_text::read_plain;
 
 /// The command that the words spell: what is made, how much of it, and how many times.
 ///
-/// It is `fields` or `map` with 1 to 80 fields, `append`, `forward`, `backward` or `alternate` with
-/// 1 to 2^20 pieces, or `call` with the name of a call, and then up to 2^32 times.
+/// It is `fields` or `map` with 1 to 80 fields, `append`, `forward`, `backward` or `alternate`, of
+/// which `runs-` may stand before the last three, with 1 to 2^20 pieces, `read-list`, `read-blocks` or
+/// `read-runs` with as many, `store-create`, `store-put`, `store-read`, `store-run` or `store-seal`
+/// with 1 to 2^16 slots, or `call` with the name of a call, and then up to 2^32 times.
 pub fn command_of(words: &[String]) -> Option<Command>
     ensures found { IfSome result (λ command. map string_bytes words.now ≡ words_of command) }
-    ensures none { IfNone result ((command : Command) → map string_bytes words.now ≢ words_of command) }
+    ensures none { IfNone result
+        ((command : Command) → map string_bytes words.now ≢ words_of command) }
 {
     let [what, which, times] = words else {
         return None;
@@ -33,6 +43,12 @@ pub fn command_of(words: &[String]) -> Option<Command>
     if let Some(downloads) = downloads_of(what, which, times) {
         return Some(Command::Downloads(downloads));
     }
+    if let Some(reads) = reads_of(what, which, times) {
+        return Some(Command::Reads(reads));
+    }
+    if let Some(stores) = stores_of(what, which, times) {
+        return Some(Command::Stores(stores));
+    }
     let calls = calls_of(what, which, times)?;
     Some(Command::Calls(calls))
 }
@@ -40,8 +56,10 @@ pub fn command_of(words: &[String]) -> Option<Command>
 /// The lists that the words ask for.
 fn lists_of(what: &str, which: &str, times: u64) -> Option<Lists>
     requires { times ≤ 2 ^ 32 }
-    ensures found { IfSome result (λ lists. what.now ∷ which.now ∷ decimal times ∷ [] ≡ lists_words lists) }
-    ensures none { IfNone result ((lists : Lists) → what.now ∷ which.now ∷ decimal times ∷ [] ≢ lists_words lists) }
+    ensures found { IfSome result
+        (λ lists. what.now ∷ which.now ∷ decimal times ∷ [] ≡ lists_words lists) }
+    ensures none { IfNone result
+        ((lists : Lists) → what.now ∷ which.now ∷ decimal times ∷ [] ≢ lists_words lists) }
 {
     let subject = subject_of(what)?;
     let count = number_of(which, 1, 80)?;
@@ -55,19 +73,54 @@ fn lists_of(what: &str, which: &str, times: u64) -> Option<Lists>
 /// The downloads that the words ask for.
 fn downloads_of(what: &str, which: &str, times: u64) -> Option<Downloads>
     requires { times ≤ 2 ^ 32 }
-    ensures found { IfSome result (λ downloads. what.now ∷ which.now ∷ decimal times ∷ [] ≡ downloads_words downloads) }
-    ensures none { IfNone result ((downloads : Downloads) → what.now ∷ which.now ∷ decimal times ∷ [] ≢ downloads_words downloads) }
+    ensures found { IfSome result
+        (λ downloads. what.now ∷ which.now ∷ decimal times ∷ [] ≡ downloads_words downloads) }
+    ensures none { IfNone result
+        ((downloads : Downloads) → what.now ∷ which.now ∷ decimal times ∷ []
+        ≢ downloads_words downloads) }
 {
     let way = way_of(what)?;
     let pieces = number_of(which, 1, 1 << 20)?;
     Some(Downloads { way, pieces, times })
 }
 
+/// The reads that the words ask for.
+fn reads_of(what: &str, which: &str, times: u64) -> Option<Reads>
+    requires { times ≤ 2 ^ 32 }
+    ensures found { IfSome result
+        (λ reads. what.now ∷ which.now ∷ decimal times ∷ [] ≡ reads_words reads) }
+    ensures none { IfNone result
+        ((reads : Reads) → what.now ∷ which.now ∷ decimal times ∷ [] ≢ reads_words reads) }
+{
+    let body = body_of(what)?;
+    let pieces = number_of(which, 1, 1 << 20)?;
+    Some(Reads {
+        body,
+        pieces,
+        times,
+    })
+}
+
+/// The calls of a store that the words ask for.
+fn stores_of(what: &str, which: &str, times: u64) -> Option<Stores>
+    requires { times ≤ 2 ^ 32 }
+    ensures found { IfSome result
+        (λ stores. what.now ∷ which.now ∷ decimal times ∷ [] ≡ stores_words stores) }
+    ensures none { IfNone result
+        ((stores : Stores) → what.now ∷ which.now ∷ decimal times ∷ [] ≢ stores_words stores) }
+{
+    let call = store_call_of(what)?;
+    let slots = number_of(which, 1, 1 << 16)?;
+    Some(Stores { call, slots, times })
+}
+
 /// The calls that the words ask for.
 fn calls_of(what: &str, which: &str, times: u64) -> Option<Calls>
     requires { times ≤ 2 ^ 32 }
-    ensures found { IfSome result (λ calls. what.now ∷ which.now ∷ decimal times ∷ [] ≡ calls_words calls) }
-    ensures none { IfNone result ((calls : Calls) → what.now ∷ which.now ∷ decimal times ∷ [] ≢ calls_words calls) }
+    ensures found { IfSome result
+        (λ calls. what.now ∷ which.now ∷ decimal times ∷ [] ≡ calls_words calls) }
+    ensures none { IfNone result
+        ((calls : Calls) → what.now ∷ which.now ∷ decimal times ∷ [] ≢ calls_words calls) }
 {
     if what != "call" {
         return None;
@@ -95,9 +148,40 @@ fn way_of(word: &str) -> Option<Way>
 {
     match word {
         "append" => Some(Way::Append),
-        "forward" => Some(Way::Put(Order::Forward)),
-        "backward" => Some(Way::Put(Order::Backward)),
-        "alternate" => Some(Way::Put(Order::Alternate)),
+        "forward" => Some(Way::Put(Kept::Blocks, Order::Forward)),
+        "backward" => Some(Way::Put(Kept::Blocks, Order::Backward)),
+        "alternate" => Some(Way::Put(Kept::Blocks, Order::Alternate)),
+        "runs-forward" => Some(Way::Put(Kept::Runs, Order::Forward)),
+        "runs-backward" => Some(Way::Put(Kept::Runs, Order::Backward)),
+        "runs-alternate" => Some(Way::Put(Kept::Runs, Order::Alternate)),
+        _ => None,
+    }
+}
+
+/// What a body is read from, as the word names it.
+fn body_of(word: &str) -> Option<Body>
+    ensures found { IfSome result (λ body. word.now ≡ body_word body) }
+    ensures none { IfNone result ((body : Body) → word.now ≢ body_word body) }
+{
+    match word {
+        "read-list" => Some(Body::List),
+        "read-blocks" => Some(Body::Sparse(Kept::Blocks)),
+        "read-runs" => Some(Body::Sparse(Kept::Runs)),
+        _ => None,
+    }
+}
+
+/// The call of a store that the word names.
+fn store_call_of(word: &str) -> Option<StoreCall>
+    ensures found { IfSome result (λ call. word.now ≡ store_word call) }
+    ensures none { IfNone result ((call : StoreCall) → word.now ≢ store_word call) }
+{
+    match word {
+        "store-create" => Some(StoreCall::Create),
+        "store-put" => Some(StoreCall::Put),
+        "store-read" => Some(StoreCall::ReadRecord),
+        "store-run" => Some(StoreCall::RunAt),
+        "store-seal" => Some(StoreCall::Seal),
         _ => None,
     }
 }
@@ -119,8 +203,15 @@ fn call_of(word: &str) -> Option<Call>
         "write-content-range" => Some(Call::WriteContentRange),
         "read-response" => Some(Call::ReadResponse),
         "read-request" => Some(Call::ReadRequest),
+        "copy-fields" => Some(Call::CopyFields),
+        "write-lines" => Some(Call::WriteLines),
         "write-record" => Some(Call::WriteRecord),
         "read-record" => Some(Call::ReadRecord),
+        "conditional" => Some(Call::Conditional),
+        "shown" => Some(Call::Shown),
+        "update" => Some(Call::Update),
+        "head-facts" => Some(Call::HeadFacts),
+        "allowed-to" => Some(Call::AllowedTo),
         _ => None,
     }
 }

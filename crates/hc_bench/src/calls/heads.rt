@@ -22,8 +22,11 @@ const DIRECTIVES: Directives = Directives {
 /// How many fields the heads have.
 const FIELD_COUNT: usize = 10;
 
+/// How many bytes the lines of the fields have.
+const LINES_LEN: usize = 322;
+
 /// How many bytes the records of the heads have.
-const RECORD_LEN: usize = 407;
+const RECORD_LEN: usize = 454;
 
 /// `read_response` of the fields of a head.
 #[derive(Drop)]
@@ -60,6 +63,51 @@ impl ReadRequest {
 impl Timed for ReadRequest {
     fn is_right(&mut self, _alloc: Global, round: u64) -> Result<bool, NoMemory> {
         Ok(read_request(&self.heads.at(round).fields) == DIRECTIVES)
+    }
+}
+
+/// `copy` of the fields of a head.
+#[derive(Drop)]
+pub(crate) struct CopyFields {
+    heads: TwoHeads,
+}
+
+impl CopyFields {
+    pub(crate) fn new(alloc: Global) -> Result<CopyFields, NoMemory> {
+        let heads = TwoHeads::new(alloc)?;
+        Ok(CopyFields { heads })
+    }
+}
+
+impl Timed for CopyFields {
+    fn is_right(&mut self, _alloc: Global, round: u64) -> Result<bool, NoMemory> {
+        let copy = self.heads.at(round).fields.copy()?;
+        Ok(copy.len() == FIELD_COUNT)
+    }
+}
+
+/// `write_lines` of the fields of a head.
+#[derive(Drop)]
+pub(crate) struct WriteLines {
+    heads: TwoHeads,
+    to: Vec<u8>,
+}
+
+impl WriteLines {
+    pub(crate) fn new(alloc: Global) -> Result<WriteLines, NoMemory> {
+        let heads = TwoHeads::new(alloc)?;
+        Ok(WriteLines {
+            heads,
+            to: Vec::new(alloc),
+        })
+    }
+}
+
+impl Timed for WriteLines {
+    fn is_right(&mut self, _alloc: Global, round: u64) -> Result<bool, NoMemory> {
+        self.to.clear();
+        self.heads.at(round).fields.write_lines(&mut self.to)?;
+        Ok(self.to.len() == LINES_LEN)
     }
 }
 

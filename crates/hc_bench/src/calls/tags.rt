@@ -52,7 +52,8 @@ impl Timed for ReadTagList {
 /// A list of tags, and how many there are.
 #[inline(never)]
 fn tag_list_case(round: u64) -> (&'static [u8], usize)
-    ensures { (tags : List (Bool × List ℕ)) × IsTagList result.0.now tags × (length tags ≡ result.1) }
+    ensures { (tags : List (Bool × List ℕ))
+        × IsTagList result.0.now tags × (length tags ≡ result.1) }
 {
     if round % 2 == 0 {
         (

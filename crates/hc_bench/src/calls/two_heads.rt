@@ -1,6 +1,7 @@
 //! Two stored heads.
 ghost use Rattle.std.specs.Prelude.{IfOk};
 ghost use Rattle.hc_bench.specs.Calls.{IsTypical};
+ghost use Rattle.hc_record.specs.Plain.{plain};
 
 use crate::calls::records::record_text;
 use hc_record::{StoredHead, read_record};
@@ -12,8 +13,8 @@ use std::alloc::Global;
 pub(crate) struct TwoHeads {
     first: StoredHead,
     second: StoredHead,
-    ghost first_is: { IsTypical first },
-    ghost second_is: { IsTypical second },
+    ghost first_is: { IsTypical (plain first) },
+    ghost second_is: { IsTypical (plain second) },
 }
 
 impl TwoHeads {
@@ -26,7 +27,7 @@ impl TwoHeads {
     /// One of the heads, by turns.
     #[inline(never)]
     pub(crate) fn at(&self, round: u64) -> &StoredHead
-        ensures { IsTypical result.now }
+        ensures { IsTypical (plain result.now) }
     {
         if round % 2 == 0 {
             &self.first
@@ -38,7 +39,7 @@ impl TwoHeads {
 
 /// The head of the record of a round.
 fn head_of(alloc: Global, round: u64) -> Result<StoredHead, NoMemory>
-    ensures { IfOk result IsTypical }
+    ensures { IfOk result (λ head. IsTypical (plain head)) }
 {
     match read_record(alloc, record_text(round))? {
         Some(head) => Ok(head),

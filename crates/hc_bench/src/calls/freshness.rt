@@ -1,0 +1,79 @@
+//! Calls of freshness.
+ghost use Rattle.std.specs.Prelude.{◌≤◌, ◌<◌};
+
+use crate::calls::Timed;
+use crate::calls::two_heads::TwoHeads;
+use hc_cachectl::Directives;
+use hc_event::{Load, Why};
+use hc_fresh::{HeadFacts, RequestFacts, allowed_to};
+use hc_text::NoMemory;
+use std::alloc::Global;
+
+/// For how many seconds the heads are fresh.
+const LIFETIME: u64 = 3600;
+
+/// What is kept of a head.
+#[derive(Drop)]
+pub(crate) struct Facts {
+    heads: TwoHeads,
+}
+
+impl Facts {
+    pub(crate) fn new(alloc: Global) -> Result<Facts, NoMemory> {
+        let heads = TwoHeads::new(alloc)?;
+        Ok(Facts { heads })
+    }
+}
+
+impl Timed for Facts {
+    fn is_right(&mut self, _alloc: Global, round: u64) -> Result<bool, NoMemory> {
+        Ok(HeadFacts::of(self.heads.at(round)).lifetime == LIFETIME)
+    }
+}
+
+/// `allowed_to` of a head by what is kept of it.
+#[derive(Drop)]
+pub(crate) struct AllowedTo;
+
+/// What is kept of a head that came at second 1,000.
+const HEAD: HeadFacts = HeadFacts {
+    answered: 1000,
+    initial_age: 20,
+    lifetime: LIFETIME,
+    no_cache: false,
+    must_revalidate: true,
+};
+
+/// What is kept of a request that asks for nothing.
+const REQUEST: RequestFacts = RequestFacts {
+    load: Load::Normal,
+    directives: Directives {
+        max_age: None,
+        no_store: false,
+        no_cache: false,
+        must_revalidate: false,
+        only_if_cached: false,
+        min_fresh: None,
+        max_stale: None,
+    },
+};
+
+impl Timed for AllowedTo {
+    fn is_right(&mut self, _alloc: Global, round: u64) -> Result<bool, NoMemory> {
+        let now = now_of(round);
+        let why = Why::Fresh {
+            age: now - 980,
+            lifetime: LIFETIME,
+        };
+        Ok(allowed_to(&HEAD, &REQUEST, now) == Some(why))
+    }
+}
+
+/// A moment at which the head is fresh.
+#[inline(never)]
+fn now_of(round: u64) -> u64
+    ensures came { 1000 ≤ result }
+    ensures fresh { result < 4580 }
+{
+    1000 + round % 3000
+}

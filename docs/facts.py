@@ -1,0 +1,273 @@
+"""Facts of the states of runs, tested by the definitions of hc_model: soundness, turns, the doom barrier, sums and keys at each state,
+the law of one key and what entries may change at each entry, and filters and reads of whole histories.
+
+`Facts(definition)` is called after each entry, and `whole` at the end of a run. `definition(path, crate)` gives a definition."""
+import collections
+
+
+def of(option):
+    """None, or what is in the Some."""
+    return None if option._name == "None" else option.args()[0]
+
+
+TURNS = ("Bypass", "Miss", "Vary", "Validate")
+CONSTANTS = {"Exchanges": "base promised front", "Currents": "current", "Reading": "is_written bound offset hi_of own_open source",
+             "Writers": "came_alone exclusive", "Dooms": "doomed", "Lines": "turn", "Weights": "weights", "Polls": "move_of has_joined",
+             "Keys": "concerns_exchange concerns_representation concerns_consumer loses", "ConsumerRows": "back_in_line",
+             "Histories": "opened_in answered_in opening_of head_of delivered_of has_ended joined_of request_of since_of given_of shown_of "
+                          "was_lost pieces_of stored_of over begun_with", "Reads": "ReadsEach body_of"}
+
+
+class Facts:
+    def __init__(self, definition):
+        for file, names in CONSTANTS.items():
+            for name in names.split():
+                setattr(self, name, definition(file + "." + name))
+        self.is_denied = definition("Filters.is_denied", "hc_event")
+        self.evicts_in = definition("Filters.evicts_in", "hc_event")
+        self.matches = definition("Vary.matches_vary", "hc_fresh")
+        self.requests = [definition("Requests." + name, "hc_rules") for name in ("is_bypassing", "is_disabled", "is_only")]
+        self.broken, self.met = collections.Counter(), collections.Counter()
+        self.begin(None)
+
+    def begin(self, contents):
+        self.contents, self.barrier, self.entries = contents, {}, []
+
+    def holds(self, name, truth):
+        self.met[name] += 1
+        if not truth:
+            self.broken[name] += 1
+            raise AssertionError("the fact %r doesn't hold" % name)
+
+    def state(self, t, limits, old, entry):
+        """All of one state, and of the entry that led to it."""
+        self.t, self.entry = t, entry
+        self.W = {x: of(t.exchange(x)) for x in t.openings}
+        self.V = {r: of(t.representation(r)) for r in t.founded}
+        self.K = {c: of(t.consumer(c)) for c in t.starts}
+        self.about = collections.defaultdict(list)
+        for x, w in self.W.items():
+            family = self.family(x)
+            if w.is_open and of(w.head) is not None and family in self.V:
+                self.about[family].append(x)
+            elif w.is_open and of(w.head) is None and w.need._name == "Hole":
+                self.about[of(w.aim)].append(x)
+        self.numbered()
+        for x, w in self.W.items():
+            self.exchange(x, w)
+        for r, v in self.V.items():
+            self.representation(r, v)
+        for c, k in self.K.items():
+            self.consumer(c, k)
+        self.turns()
+        self.dooms(old, entry)
+        if not self.is_denied(entry.acts):
+            self.holds("within the limit", self.weights(old, entry) <= limits.max_total or not self.writes(entry))
+            self.holds("few are evicted", sum(act._name == "Evicted" for act in entry.acts) <= 2)
+            self.one_key(old, t, entry)
+        self.entries.insert(0, entry)
+
+    def writes(self, entry):
+        return entry.event._name in ("Head", "Piece")
+
+    def family(self, x):
+        joined = of(self.W[x].joined)
+        return x if joined is None else joined
+
+    def place(self, c):
+        return self.K[c].place
+
+    def bound_to(self, r):
+        return [c for c in self.K if self.place(c)._name == "Bound" and self.place(c).args()[0] == r]
+
+    def numbered(self):
+        t = self.t
+        for rows in (self.W, self.V, self.K):
+            self.holds("each number has a row", None not in rows.values())
+        self.holds("each stands once", all(len(set(ns)) == len(ns) for ns in (t.openings, t.founded, t.starts))
+                   and sorted(t.used) == sorted(t.founded))
+        keys = collections.Counter(bytes(v.key) for v in self.V.values() if not v.is_gone)
+        self.holds("one current", all(n == 1 for n in keys.values()))
+
+    def exchange(self, x, w):
+        self.holds("opened for who started", w.c in self.K)
+        self.holds("of its consumer's key", w.request.key == self.K[w.c].request.key)
+        for number in (of(w.aim), of(w.joined)):
+            if number is not None:
+                self.holds("about what was founded", number in self.V)
+                self.holds("about what is of its key", self.V[number].key == w.request.key)
+        if of(w.head) is None:
+            self.holds("headless", not w.body and of(w.joined) is None and x not in self.V)
+        if w.is_open and of(w.head) is None:
+            self.holds("headless is own", of(self.K[w.c].own) == x)
+
+    def representation(self, r, v):
+        t, on, bound = self.t, self.is_written(self.t, v), self.bound_to(r)
+        body = {p for p in range(v.reach + 3) if of(v.body(p)) is not None}
+        stored = {p for p in range(v.reach + 3) if of(v.stored(p)) is not None}
+        self.holds("ends", all(p < v.reach for p in body))
+        self.holds("stored is body", all(v.stored(p) == v.body(p) for p in stored) and (v.is_lost or stored == body))
+        self.holds("is counted", v.size == len(stored))
+        self.holds("lost is gone", v.is_gone or not v.is_lost)
+        self.holds("nobody alone", v.is_lost or of(v.alone) is None)
+        self.holds("one about", len(self.about[r]) <= 1)
+        self.holds("has bound", bound or not on)
+        total = of(v.head.total)
+        if r in self.W:
+            self.holds("founded is of the key", self.W[r].request.key == v.key)
+        if on:
+            x = of(v.writer)
+            promised = of(self.promised(self.W[x]))
+            self.holds("growing", stored == set(range(v.reach)) and self.front(self.W[x]) == v.reach and self.family(x) == r
+                       and total == (None if promised is None else self.base(self.W[x]) + promised))
+        for x in self.about[r]:
+            self.waits(x, body)
+        pens = self.pens(r, v, bound)
+        for c in bound:
+            self.reader(r, v, c, on, pens, stored)
+        for x in self.about[r]:
+            self.holds("had", (on and of(v.writer) == x) or any(
+                c in bound and of(self.own_open(t, self.K[c])) == x and of(self.K[c].due) is None for c in pens))
+        if of(v.alone) in bound:
+            self.alone(v, of(v.alone))
+        if not v.is_gone and (total is None or on):
+            self.holds("is read", bool(bound))
+
+    def waits(self, x, body):
+        w = self.W[x]
+        if of(w.head) is None:
+            lo, hi = w.need.args()
+        else:
+            promised = of(self.promised(w))
+            lo, hi = self.front(w), None if promised is None else self.base(w) + promised
+        self.holds("what is to come is absent", not any(lo <= p and (hi is None or p < hi) for p in body))
+
+    def pens(self, r, v, bound):
+        first = [c for c in bound if self.came_alone(self.t, self.place(c))]
+        self.holds("one first", len(first) <= 1)
+        return ([] if of(v.alone) is None else [of(v.alone)]) if v.is_lost else first
+
+    def reader(self, r, v, c, on, pens, stored):
+        k = self.K[c]
+        offset, hi = self.offset(self.t, k), of(self.hi_of(self.t, k.place))
+        self.holds("reads its key", v.key == k.request.key)
+        self.holds("known end", of(k.place.args()[2]) is not None or not self.came_alone(self.t, k.place))
+        own = of(self.own_open(self.t, k))
+        self.holds("own about", own is None or own in self.about[r])
+        self.holds("undue", of(k.due) is None or not on)
+        if of(k.due) is None:
+            self.holds("served", on or c in pens or hi is not None and all(p in stored for p in range(offset, hi)))
+        if not k.shown:
+            by = k.place.args()[3]
+            waits = by._name == "FirstHole" and own == by.args()[0] and of(self.W[own].head) is None
+            self.holds("to be shown", by._name == "Founding" or waits
+                       or by._name == "FirstHole" and bool(self.has_joined(self.t.exchange(by.args()[0]))))
+
+    def alone(self, v, c):
+        k = self.K[c]
+        self.holds("alone has its own", of(k.own) is not None)
+        offset, front = self.offset(self.t, k), self.front(self.W[of(k.own)])
+        self.holds("alone is covered", all(of(v.body(p)) is not None for p in range(offset, front)))
+        self.holds("alone ahead", all(v.stored(p) == v.body(p) for p in range(max(offset, front), v.reach + 1)))
+
+    def consumer(self, c, k):
+        place = k.place
+        if place._name not in ("Bound", "Direct"):
+            self.holds("nothing due", of(k.due) is None)
+        own = of(k.own)
+        if own is not None:
+            self.holds("own is of its key", self.W[own].request.key == k.request.key)
+        if place._name == "Bound":
+            self.holds("bound to what was founded", place.args()[0] in self.V)
+        if place._name == "Passed":
+            r = place.args()[0]
+            self.holds("has passed", of(self.current(self.t, k.request.key)) == r and not any(f(k.request) for f in self.requests)
+                       and bool(self.matches(self.V[r].head, k.request)))
+        if place._name in ("Bound", "Direct"):
+            move = self.move_of(self.t, self.t.moment, 1, c, k)
+            self.holds("who reads waits for nobody", move._name != "Waits" or move.args()[0]._name not in ("Turn", "Busy"))
+
+    def turns(self):
+        holders = collections.Counter(bytes(k.request.key) for k in self.K.values() if k.place._name == "Turn")
+        self.holds("one turn", all(n == 1 for n in holders.values()))
+        for x, w in self.W.items():
+            if w.is_open and of(w.head) is None and w.need._name in TURNS:
+                self.holds("the turn waits", of(self.turn(self.t, w.request.key)) == w.c and self.place(w.c).args() == (x,))
+        for c, k in self.K.items():
+            if k.place._name in ("Line", "Turn", "Passed"):
+                move = self.move_of(self.t, self.t.moment, 1, c, k)
+                waits = move.args()[0] if move._name == "Waits" else None
+                if of(self.turn(self.t, k.request.key)) == c:
+                    self.holds("the turn goes", waits is None or waits._name != "Turn")
+                if waits is not None and waits._name == "Busy":
+                    self.holds("busy reads", self.place(waits.args()[0])._name == "Bound")
+
+    def dooms(self, old, entry):
+        key = None if self.is_denied(entry.acts) else of(self.doomed(old, entry))
+        if key is not None:
+            self.barrier[bytes(key)] = old.opened
+        for r, v in self.V.items():
+            self.holds("behind dooms", v.is_gone or self.barrier.get(bytes(v.key), 0) < r)
+        for x, w in self.W.items():
+            if w.is_open and of(w.head) is None and (w.need._name in TURNS or w.need._name == "Hole" and not self.K[w.c].shown):
+                self.holds("awaited behind dooms", self.barrier.get(bytes(w.request.key), 0) < x)
+
+    def one_key(self, old, new, entry):
+        for x in old.openings:
+            if not self.concerns_exchange(old, entry.event, x):
+                self.holds("one key: exchanges", same(new.exchange(x), old.exchange(x)))
+        for r in old.founded:
+            if not self.concerns_representation(old, entry.event, r):
+                v = of(old.representation(r))
+                gone = self.evicts_in(r, entry.acts)
+                self.holds("one key: representations", same_row(of(new.representation(r)), v.with_fields(is_gone=True) if gone else v))
+        for c in old.starts:
+            if not self.concerns_consumer(old, entry.event, c):
+                k = of(old.consumer(c))
+                owed = self.back_in_line(entry.now, k) if self.loses(entry.acts, k.place) else k
+                self.holds("one key: consumers", of(new.consumer(c)) == owed)
+
+    def whole(self, t):
+        """Filters and reads of the whole history, in which `tables` gives those that were met."""
+        h, contents = tuple(self.entries), self.contents
+        for x in t.openings:
+            w = of(t.exchange(x))
+            self.holds("filters: openings", self.opened_in(w) == of(self.opening_of(x, h)))
+            self.holds("filters: heads", self.answered_in(w) == self.head_of(x, h))
+            self.holds("filters: bodies", w.body == self.delivered_of(x, h))
+            self.holds("filters: ends", w.is_ended == self.has_ended(x, h))
+            self.holds("filters: joins", w.joined == self.joined_of(contents, x, h))
+        for c in t.starts:
+            k = of(t.consumer(c))
+            self.holds("filters: requests", k.request == of(self.request_of(c, h)))
+            self.holds("filters: starts", k.since == of(self.since_of(contents, c, h)))
+            self.holds("filters: offsets", k.given == len(self.given_of(c, h)))
+            self.holds("filters: shown", k.shown == (len(self.shown_of(c, h)) == 1) and len(self.shown_of(c, h)) <= 1)
+            self.holds("reads its body", self.reads_body(t, self.shown_of(c, h), self.given_of(c, h)))
+        for r in t.founded:
+            v, begun = of(t.representation(r)), self.begun_with(contents, r)
+            self.holds("filters: losses", v.is_lost == self.was_lost(contents, r, h))
+            for cells, runs in ((v.body, self.pieces_of(contents, r, h)), (v.stored, self.stored_of(contents, r, h))):
+                over = self.over(runs, begun)
+                self.holds("filters: pieces", all(cells(p) == over(p) for p in range(v.reach + 2)))
+        self.holds("reads whole", bool(self.ReadsEach(contents, h)))
+
+    def reads_body(self, t, shown, given):
+        cells = [of(self.body_of(t, shown[0].r, shown[0].lo + i)) for i in range(len(given))] if shown else []
+        return [cell.byte for cell in cells if cell is not None] == list(given)
+
+
+def same(a, b):
+    return a == b
+
+
+def same_row(a, b):
+    """Equal but for functions, which are equal at each position that they have."""
+    for name in a._fields:
+        x, y = getattr(a, name), getattr(b, name)
+        if callable(x) and callable(y):
+            if any(x(p) != y(p) for p in range(max(a.reach, b.reach) + 1)):
+                return False
+        elif x != y:
+            return False
+    return True

@@ -13,7 +13,7 @@ use Rattle.hc_rules.specs.declared.heads.HeadCase.{HeadCase}
 use Rattle.hc_rules.specs.declared.heads.HeadCase.TheVariants as case
 use Rattle.hc_rules.specs.declared.heads.HeadView.{HeadView}
 use Rattle.hc_rules.specs.declared.length.Length.{Length}
-use Rattle.hc_rules.specs.declared.length.Length.TheVariants as length
+use Rattle.hc_rules.specs.declared.length.Length.TheVariants as told
 use Rattle.hc_rules.specs.HeadCases.{head_case, case_on, direct_case, turn_case, first_case, later_case}
 use Rattle.hc_rules.specs.Lengths.{length_of, length_told, part_length, has_no_body}
 use Rattle.hc_rules.specs.Needs.{route_of}
@@ -102,9 +102,9 @@ filling need.Unsatisfied o response h = absurd (let never : false ≡ true = h i
 
 -- where the length of a joining head lies: within the hole, or nowhere
 pub data LiesIn (from to : ℕ) : Length → Type 0 where
-  bad : LiesIn from to length.Bad
-  empty : LiesIn from to (length.Promised 0)
-  within : (n : ℕ) → ((p : ℕ) → from ≤ p → p < from + n → p < to) → LiesIn from to (length.Part from n)
+  bad : LiesIn from to told.Bad
+  empty : LiesIn from to (told.Promised 0)
+  within : (n : ℕ) → ((p : ℕ) → from ≤ p → p < from + n → p < to) → LiesIn from to (told.Part from n)
 
 lies_part : (from to last total : ℕ) (said : Length) → last < to → LiesIn from to (part_length said (Some (range.Part from last (Some total))))
 lies_part from to last total said below =
@@ -120,7 +120,7 @@ lies_hole from to last total request response status part below =
     let is_part : (response.status == 206) ≡ true = grind (arith, nat_tests) in
     let said = length_told (elements_in (codes "content-length") response.fields) in
     let here : LiesIn from to (part_length said (content_range_of response.fields)) = rw part (lies_part from to last total said below) in
-    mix (LiesIn from to) (has_no_body request response.status) (length.Promised 0) _ empty (first_side from to (response.status == 206) _ _ is_part here)
+    mix (LiesIn from to) (has_no_body request response.status) (told.Promised 0) _ empty (first_side from to (response.status == 206) _ _ is_part here)
 
 -- the head that joins is a 206 to a hole
 pub lies : (n : Need) (o : Option Representation) (request : Request) (response : Response) (f : IsFilling n o response) → LiesIn f.from f.to (length_of n request response)

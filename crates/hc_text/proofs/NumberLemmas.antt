@@ -1,13 +1,11 @@
 -- What the two words for numbers in decimal have to do with one another.
-use Rattle.std.proofs.Common.{◌≡◌, ℕ, ◌<◌, ◌^◌, List, length, get_or, sym, ap, ◌∙◌, subst, inl, inr, arith, rules, true}
+use Rattle.std.proofs.Common.{◌≡◌, ℕ, ◌<◌, ◌≤◌, ◌^◌, List, length, get_or, sym, ap, ◌∙◌, subst, inl, inr, arith, rules, true}
 use Rattle.std.specs.Char.{is_ascii_digit}
 use Rattle.std.specs.Fmt.{decimal}
 use Rattle.std.specs.List.{list_all}
 use Rattle.std.specs.Str.Parse.{AllDigits, digits_value}
 use Rattle.std.proofs.lemmas.Bool.{cases_lt}
-use Rattle.std.proofs.lemmas.Fmt.{decimal_is_IsNumeral, decimal_digit, first_decimal, length-decimal-le, decimal-digits_value, IsAscii-from_digits}
-use Rattle.std.proofs.lemmas.Str.{IsUtf8-from_ascii}
-use Rattle.std.specs.Str.{IsUtf8}
+use Rattle.std.proofs.lemmas.Fmt.{decimal_is_IsNumeral, decimal_digit, first_decimal, length-decimal-le, decimal-digits_value}
 use Rattle.std.proofs.lemmas.Str.Parse.{IsNumeralModel, numerals_by_value, tells_digits}
 use Rattle.hc_text.specs.Numbers.{IsPlain, IsNumber}
 
@@ -44,5 +42,6 @@ tested = numerals_by_value _ (search rules)
 pub tested-AllDigits : (text : List ℕ) → AllDigits 10 text → list_all is_ascii_digit text ≡ true
 tested-AllDigits text h = tested.from text h
 
-pub IsUtf8-digits : (text : List ℕ) → AllDigits 10 text → IsUtf8 text
-IsUtf8-digits text h = IsUtf8-from_ascii text (IsAscii-from_digits text h)
+-- what has bytes that are digits alone, and not too many, is a number
+pub IsNumber-tested : (text : List ℕ) (n : ℕ) → 0 < length text → length text ≤ 20 → list_all is_ascii_digit text ≡ true → n ≡ digits_value 10 text → n < 2 ^ 62 → IsNumber text n
+IsNumber-tested text n some few all is small = (small, (some, tested.to text all), few, sym is)

@@ -1,8 +1,7 @@
 //! Numbers in decimal, below 2^62.
-ghost use Rattle.std.specs.Prelude.{◌≡◌, ℕ, ◌<◌, ◌^◌, ◌++◌, drop, IfSome, IfNone, OnOk, OnErr, vec_len, vec_capacity, ◌+◌, ◌≤◌};
+ghost use Rattle.std.specs.Prelude.{◌≡◌, ℕ, true, false, MatchOption, ◌<◌, ◌^◌, ◌++◌, drop, IfSome, IfNone, OnOk, OnErr, vec_len, vec_capacity, ◌+◌, ◌≤◌};
 ghost use Rattle.std.specs.Fmt.{decimal};
-ghost use Rattle.std.specs.Char.{is_ascii_digit};
-ghost use Rattle.std.specs.List.{list_all};
+ghost use Rattle.std.specs.Char.{is_ascii_digit, digit_value};
 ghost use Rattle.hc_text.specs.Numbers.{IsPlain, IsNumber};
 
 use crate::memory::NoMemory;
@@ -15,20 +14,23 @@ const LIMIT: u64 = 1 << 62;
 const MOST_DIGITS: usize = 20;
 
 /// The value of 1 to 20 digits, where it is below 2^62. Leading zeros are allowed.
+///
+/// Each byte is looked at once, since a record has five numbers and is read often.
 pub fn read_number(text: &[u8]) -> Option<u64>
     ensures found { IfSome result (IsNumber text.now) }
     ensures none { IfNone result ((n : ℕ) → ¬ (IsNumber text.now n)) }
 {
-    if text.len() > MOST_DIGITS {
+    if text.is_empty() || text.len() > MOST_DIGITS {
         return None;
     }
-    if !is_digits(text) {
-        return None;
+    let mut n = 0;
+    for b in text {
+        let digit = digit_of(*b)?;
+        if n > (LIMIT - 1) / 10 {
+            return None;
+        }
+        n = n * 10 + digit;
     }
-    let Ok(digits) = str::from_utf8(text) else {
-        return None;
-    };
-    let n = digits.parse::<u64>().ok()?;
     if n < LIMIT { Some(n) } else { None }
 }
 
@@ -59,11 +61,15 @@ pub fn write_number(n: u64, to: &mut Vec<u8>) -> Result<(), NoMemory>
     Ok(())
 }
 
-/// Whether each byte is a decimal digit.
-fn is_digits(text: &[u8]) -> bool
-    ensures { result ≡ list_all is_ascii_digit text.now }
+/// The value of a decimal digit.
+fn digit_of(b: u8) -> Option<u64>
+    ensures { MatchOption result (is_ascii_digit b ≡ false)
+        (λ digit. (is_ascii_digit b ≡ true) × (digit ≡ digit_value b) × (digit < 10)) }
 {
-    text.iter().all(u8::is_ascii_digit)
+    if !b.is_ascii_digit() {
+        return None;
+    }
+    Some(u64::from(b - b'0'))
 }
 
 #[cfg(test)]

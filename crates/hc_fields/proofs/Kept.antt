@@ -10,11 +10,11 @@ use Rattle.std.proofs.lemmas.List.Sums.{sum_by_more}
 use Rattle.http_header.specs.Token.{lowercase}
 use Rattle.http_header.proofs.TokenLemmas.{IsHeaderName-lowercase}
 use Rattle.hc_fields.specs.declared.mark.Mark.{Mark}
-use Rattle.hc_fields.specs.FieldList.{put, size_of, has_name, without, is_sorted, start_of, end_of, IsField, IsFieldList, IsAllowed, HasPlace}
+use Rattle.hc_fields.specs.FieldList.{put, size_of, has_name, without, is_sorted, start_of, end_of, IsField, IsAllowed, HasPlace}
 use Rattle.hc_fields.specs.declared.search.Place.{Place}
 use Rattle.hc_fields.specs.Place.{IsPlace}
 use Rattle.hc_fields.specs.Lines.{field_text, fields_text}
-use Rattle.hc_fields.specs.Marks.{field_at, fields_at, AreMarked, IsLineAt, IsKept}
+use Rattle.hc_fields.specs.Marks.{field_at, fields_at, IsLineAt, IsKept}
 use Rattle.hc_fields.proofs.Sorted.{Pair, is_parted}
 use Rattle.hc_fields.proofs.Edits.{put-insert, put-without, size_of-put, IsFieldList-put, IsFieldList-without}
 use Rattle.hc_fields.proofs.LineLemmas.{fields_text-push}

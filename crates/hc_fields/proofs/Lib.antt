@@ -9,6 +9,7 @@ pub mod LineLemmas
 pub mod Ends
 pub mod Agreeing
 pub mod Cuts
+pub mod FirstBytes
 pub mod FieldTexts
 pub mod ReadLemmas
 pub mod NextLemmas

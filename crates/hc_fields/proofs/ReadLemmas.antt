@@ -1,17 +1,17 @@
 -- A field line at the front of a text, byte by byte.
-use Rattle.std.proofs.Common.{◌≡◌, ◌≢◌, ℕ, zero, suc, ◌+◌, ◌<◌, ◌≤◌, Bool, true, false, not, cond, List, [], ◌∷◌, ◌++◌, length, take, drop, get_or, map, Option, Some, None, IsTrue, refl, sym, ap, ◌∙◌, inl, inr, arith, one-add, length-append}
-use Rattle.std.specs.Prelude.{position, nat_lt, ◌&&◌}
+use Rattle.std.proofs.Common.{◌≡◌, ◌≢◌, ℕ, zero, suc, ◌<◌, ◌≤◌, Bool, true, false, not, List, [], ◌∷◌, ◌++◌, length, take, drop, get_or, Some, None, IsTrue, refl, sym, ◌∙◌, inl, inr, arith, one-add, length-append}
+use Rattle.std.specs.Prelude.{position}
 use Rattle.std.specs.List.{list_all, position_or_len}
 use Rattle.std.specs.Char.{to_ascii_lowercase, is_ascii_uppercase}
-use Rattle.std.proofs.lemmas.Bool.{cases_Bool, cases_eq, and_parts, and_from, both_ways, not-false, not-true, lt-ltb, ne_eqb, not_from_false}
+use Rattle.std.proofs.lemmas.Bool.{cases_eq, and_parts, and_from, both_ways, not-false, not-true, lt-ltb, ne_eqb, not_from_false}
 use Rattle.std.proofs.lemmas.Option.{none-some, same_Some}
-use Rattle.std.proofs.lemmas.List.{append_assoc, take_at, drop_at, take-append-drop, drop_more}
+use Rattle.std.proofs.lemmas.List.{drop_at}
 use Rattle.std.proofs.lemmas.List.Elements.{All-head, All-tail, All-cons, All-nil}
 use Rattle.std.proofs.lemmas.List.Quantifiers.{position-Some}
 use Rattle.std.proofs.lemmas.Bool.Decides.{nat_tests}
-use Rattle.http_header.specs.Token.{AllPass, IsToken, lowercase, is_token_byte, is_value_byte}
+use Rattle.http_header.specs.Token.{AllPass, lowercase, is_token_byte, is_value_byte}
 use Rattle.hc_text.specs.Texts.{lacks}
-use Rattle.hc_fields.specs.FieldList.{IsField, is_own_value, has_own_ends}
+use Rattle.hc_fields.specs.FieldList.{IsField, has_own_ends}
 use Rattle.hc_fields.specs.Lines.{field_text, is_lower_byte, BeginsWith, IsCut}
 use Rattle.hc_fields.proofs.Cuts.{cut_once}
 use Rattle.hc_fields.proofs.FieldTexts.{field_apart, field_once, IsLine, IsLine-field}
@@ -63,7 +63,7 @@ colon_ends = refl
 pub feed_ends : is_value_byte 10 ≡ false
 feed_ends = refl
 
-lacks-kind : (p : ℕ → Bool) (e : ℕ) (xs : List ℕ) → p e ≡ false → list_all p xs ≡ true → lacks e xs ≡ true
+pub lacks-kind : (p : ℕ → Bool) (e : ℕ) (xs : List ℕ) → p e ≡ false → list_all p xs ≡ true → lacks e xs ≡ true
 lacks-kind p e [] fails all = refl
 lacks-kind p e (x ∷ xs) fails all =
     let both = and_parts (p x) (list_all p xs) all in

@@ -1,5 +1,5 @@
 -- When two lists say the same under a name (RFC 9110 section 5.3).
-use Rattle.std.specs.Prelude.{ℕ, ◌++◌, Bool, true, false, List, [], Option, Some, None, bytes_eq}
+use Rattle.std.specs.Prelude.{ℕ, ◌++◌, Bool, true, false, List, Option, Some, None, bytes_eq}
 use Rattle.hc_fields.specs.FieldList.{joined_of, separated_values, values_of}
 
 -- both are absent, or have equal bytes

@@ -1,5 +1,5 @@
 -- What is left of the joined values of a name while they are read.
-use Rattle.std.specs.Prelude.{◌≡◌, ℕ, List, length, drop, Option}
+use Rattle.std.specs.Prelude.{ℕ, List, drop}
 use Rattle.std.specs.Option.{option_copied}
 use Rattle.http_header.specs.Token.{lowercase}
 use Rattle.hc_fields.specs.FieldList.{values_of}

@@ -1,6 +1,7 @@
 //! The fields of a head.
 ghost use Rattle.std.specs.Prelude.{◌≡◌, ◌≢◌, ℕ, List, ◌≤◌, ◌⊎◌, ◌∷◌, ◌++◌, [], length, true, OnOk, OnErr, IfOk, IfErr, IfSome, IfNone, MatchResult, MatchOption, ◌<◌, ◌↔◌, IsTrue, option_copied, slice_get, Some};
 ghost use Rattle.http_header.specs.Token.{lowercase, IsToken};
+ghost use Rattle.hc_fields.specs.FirstValues.{only_of};
 ghost use Rattle.hc_fields.specs.FieldList.{put, size_of, HasPlace, LacksPlace, Refuses, IsAllowed, IsFieldList, IsModest, values_of, joined_of, without, KeepsOthers, is_own_value, is_sorted, IsListOf};
 ghost use Rattle.hc_fields.specs.Lines.{fields_text, BeginsWith};
 ghost use Rattle.hc_fields.specs.Place.{IsPlace};
@@ -329,6 +330,16 @@ impl Fields {
         ensures { option_copied result ≡ slice_get (values_of (lowercase name.now) self.now) 0 }
     {
         self.value(name, 0)
+    }
+
+    /// The value of a name that stands once. None exactly where it is absent or stands more often.
+    pub(crate) fn only(&self, name: &[u8]) -> Option<&[u8]>
+        ensures { option_copied result ≡ only_of (values_of (lowercase name.now) self.now) }
+    {
+        match named(&self.text, &self.marks, name) {
+            [mark] => Some(mark.value(&self.text)),
+            _ => None,
+        }
     }
 
     /// The name and the value at place `i` of the whole list.

@@ -17,9 +17,5 @@ pub fn has_field(fields: &Fields, name: &[u8]) -> bool
 pub fn only_value<'a>(fields: &'a Fields, name: &[u8]) -> Option<&'a [u8]>
     ensures { option_copied result ≡ only_of (values_of (lowercase name.now) fields.now) }
 {
-    if fields.count(name) == 1 {
-        fields.get(name)
-    } else {
-        None
-    }
+    fields.only(name)
 }

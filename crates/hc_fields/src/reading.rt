@@ -1,5 +1,5 @@
 //! Field lines at the front of a text.
-ghost use Rattle.std.specs.Prelude.{◌≡◌, ◌≢◌, ◌↔◌, ℕ, List, [], ◌∷◌, ◌++◌, ◌+◌, ◌≤◌, Bool, true, not, length, take, drop, IsTrue, IfOk, IfSome, IfNone, position, vec_len};
+ghost use Rattle.std.specs.Prelude.{◌≡◌, ◌≢◌, ◌↔◌, ℕ, List, [], ◌∷◌, ◌++◌, ◌+◌, ◌≤◌, Bool, true, not, length, take, drop, IsTrue, IfOk, IfSome, IfNone, position, ◌==◌, vec_len};
 ghost use Rattle.std.specs.List.{list_all};
 ghost use Rattle.http_header.specs.Token.{is_value_byte};
 ghost use Rattle.hc_fields.specs.FieldList.{IsField, IsFieldList, IsListOf, comes_before, size_of};
@@ -8,15 +8,37 @@ ghost use Rattle.hc_fields.specs.Marks.{fields_at, field_at, IsLineAt, AreMarked
 ghost use Rattle.hc_fields.specs.Read.{IsRead};
 
 use crate::mark::Mark;
-use crate::value::{has_own_ends, is_value_char};
+use crate::value::{has_own_ends, has_value_chars};
 use hc_text::NoMemory;
-use http_header::is_token_char;
+use memchr::memchr;
+
+// 1 at each byte that may stand in a name in lower case.
+#[rattlefmt::skip]
+static LOWER_CHARS: [u8; 256] = [
+    0, 0, 0, 0, 0, 0, 0, 0, 0, 0, 0, 0, 0, 0, 0, 0,
+    0, 0, 0, 0, 0, 0, 0, 0, 0, 0, 0, 0, 0, 0, 0, 0,
+    0, 1, 0, 1, 1, 1, 1, 1, 0, 0, 1, 1, 0, 1, 1, 0,
+    1, 1, 1, 1, 1, 1, 1, 1, 1, 1, 0, 0, 0, 0, 0, 0,
+    0, 0, 0, 0, 0, 0, 0, 0, 0, 0, 0, 0, 0, 0, 0, 0,
+    0, 0, 0, 0, 0, 0, 0, 0, 0, 0, 0, 0, 0, 0, 1, 1,
+    1, 1, 1, 1, 1, 1, 1, 1, 1, 1, 1, 1, 1, 1, 1, 1,
+    1, 1, 1, 1, 1, 1, 1, 1, 1, 1, 1, 0, 1, 0, 1, 0,
+    0, 0, 0, 0, 0, 0, 0, 0, 0, 0, 0, 0, 0, 0, 0, 0,
+    0, 0, 0, 0, 0, 0, 0, 0, 0, 0, 0, 0, 0, 0, 0, 0,
+    0, 0, 0, 0, 0, 0, 0, 0, 0, 0, 0, 0, 0, 0, 0, 0,
+    0, 0, 0, 0, 0, 0, 0, 0, 0, 0, 0, 0, 0, 0, 0, 0,
+    0, 0, 0, 0, 0, 0, 0, 0, 0, 0, 0, 0, 0, 0, 0, 0,
+    0, 0, 0, 0, 0, 0, 0, 0, 0, 0, 0, 0, 0, 0, 0, 0,
+    0, 0, 0, 0, 0, 0, 0, 0, 0, 0, 0, 0, 0, 0, 0, 0,
+    0, 0, 0, 0, 0, 0, 0, 0, 0, 0, 0, 0, 0, 0, 0, 0,
+];
 
 /// Whether the byte may stand in a name in lower case.
+#[inline(always)]
 fn is_lower_char(b: u8) -> bool
     ensures { result ≡ is_lower_byte b }
 {
-    is_token_char(b) && !b.is_ascii_uppercase()
+    LOWER_CHARS[usize::from(b)] == 1
 }
 
 /// How many bytes stand before the first that no name in lower case has.
@@ -26,11 +48,11 @@ fn name_len(text: &[u8]) -> Option<usize>
     text.iter().position(|b| !is_lower_char(*b))
 }
 
-/// How many bytes stand before the first that no value has.
-fn value_len(text: &[u8]) -> Option<usize>
-    ensures { result ≡ position (λ b. not (is_value_byte b)) text.now }
+/// Where the first line feed stands.
+fn feed_place(text: &[u8]) -> Option<usize>
+    ensures { result ≡ position (λ b. b == 10) text.now }
 {
-    text.iter().position(|b| !is_value_char(*b))
+    memchr(b'\n', text)
 }
 
 /// Takes the bytes of a name in lower case, a colon and a space from the front of the text.
@@ -53,10 +75,12 @@ fn take_value(text: &[u8]) -> Option<(&[u8], &[u8])>
     ensures none { IfNone result ((value rest : List ℕ)
         → list_all is_value_byte value ≡ true → value ++ 10 ∷ rest ≢ text.now) }
 {
-    let end = value_len(text)?;
-    let (value, rest) = text.split_at(end);
-    let rest = rest.strip_prefix(b"\n")?;
-    Some((value, rest))
+    let end = feed_place(text)?;
+    let value = &text[..end];
+    if !has_value_chars(value) {
+        return None;
+    }
+    Some((value, &text[end + 1..]))
 }
 
 /// The bytes of a name in lower case and, behind a colon and a space, those of a value, which a line

@@ -13,10 +13,16 @@ pub(crate) fn is_value_char(b: u8) -> bool
     b == b'\t' || (b >= b' ' && b != 0x7f)
 }
 
-fn has_value_chars(value: &[u8]) -> bool
+/// Whether no byte but a tab is a control byte.
+// The loop has no early exit, so that it is compiled to vector code.
+pub(crate) fn has_value_chars(value: &[u8]) -> bool
     ensures { result ≡ list_all is_value_byte value.now }
 {
-    value.iter().all(|b| is_value_char(*b))
+    let mut valid = true;
+    for b in value {
+        valid &= is_value_char(*b);
+    }
+    valid
 }
 
 /// Whether no space or tab stands at an end.

@@ -1,4 +1,4 @@
-use Rattle.std.proofs.Common.{◌++◌, ◌∷◌, [], ◌∙◌, ap, sym, refl}
+use Rattle.std.proofs.Common.{◌∙◌, refl}
 use Rattle.hc_fields.proofs.MarkLemmas.{packed_more}
 use Rattle.hc_fields.proofs.Places.{no_mark}
 use Rattle.hc_fields.proofs.lines.pack.Goals as goal

@@ -1,4 +1,3 @@
-use Rattle.std.proofs.Common.{sym}
 use Rattle.hc_fields.proofs.ReadLemmas.{cut_behind, begins_with_line}
 use Rattle.hc_fields.proofs.reading.cut_line.Goals as goal
 

@@ -1,7 +1,4 @@
-use Rattle.std.proofs.Common.{◌-◌, length, get_or, Some, refl, arith, ◌∙◌, sym}
-use Rattle.std.specs.Prelude.{slice_get}
-use Rattle.std.proofs.lemmas.List.{length-map}
-use Rattle.std.proofs.lemmas.Option.{slice_get-map, slice_get-get_or}
+use Rattle.std.proofs.Common.{◌-◌, length, get_or}
 use Rattle.hc_fields.specs.Marks.{field_at, fields_at}
 use Rattle.hc_fields.proofs.Ends.{none_after-last}
 use Rattle.hc_fields.proofs.Kept.{last_at}

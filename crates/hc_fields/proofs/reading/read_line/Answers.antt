@@ -1,8 +1,7 @@
-use Rattle.std.proofs.Common.{◌≡◌, ℕ, ◌<◌, length, true, false, refl, sym, ◌∙◌, arith}
+use Rattle.std.proofs.Common.{◌≡◌, ℕ, ◌<◌, length, false, sym, ◌∙◌, arith}
 use Rattle.std.specs.Prelude.{◌==◌}
 use Rattle.std.proofs.lemmas.Bool.Decides.{nat_tests}
-use Rattle.std.proofs.lemmas.Bool.{both_ways, and_parts, eqb-true, not-true}
-use Rattle.hc_fields.proofs.FieldTexts.{field_once, IsLine-field}
+use Rattle.std.proofs.lemmas.Bool.{both_ways, and_parts, eqb-true}
 use Rattle.hc_fields.proofs.ReadLemmas.{IsCut-field, IsField-cut, same_line}
 use Rattle.hc_fields.proofs.reading.read_line.Goals as goal
 use Rattle.hc_fields.proofs.reading.read_line.Goals.{then-is_empty-via-then-is_empty, then-is_empty-via-else-is_empty+then-value-gt8192, then-is_empty-via-else-is_empty+else-value-gt8192+then-not-has_own_ends}

@@ -1,23 +1,24 @@
-use Rattle.std.proofs.Common.{ℕ, List, [], ◌∷◌, ◌++◌, take, ap, sym, ◌∙◌}
-use Rattle.std.proofs.lemmas.Bool.Decides.{Decides-eqb}
-use Rattle.std.proofs.lemmas.List.{take-append-drop}
-use Rattle.std.proofs.lemmas.Slice.Eq.{strip_prefix_is}
+use Rattle.std.proofs.Common.{◌+◌, ◌-◌, length, drop, sym, ◌∙◌, arith}
+use Rattle.std.proofs.lemmas.Bool.{both_ways}
+use Rattle.std.proofs.lemmas.List.{take_all, length-drop}
 use Rattle.http_header.specs.Token.{is_value_byte}
-use Rattle.hc_fields.specs.Lines.{is_lower_byte}
-use Rattle.hc_fields.proofs.ReadLemmas.{no_other, kind-position, behind-kind, feed_ends}
+use Rattle.hc_fields.proofs.Cuts.{lacks-all, lacks-not, cut-position, cut_once}
+use Rattle.hc_fields.proofs.ReadLemmas.{lacks-kind, feed_ends}
 use Rattle.hc_fields.proofs.reading.take_value.Goals as goal
 
 pub returns-in_err-end-clause-none : goal.returns-in_err-end-clause-none
-returns-in_err-end-clause-none c = rw c.from_residual.ensures (λ start rest all.
-    no_other is_value_byte start (rest) c.args.text.now 10 (sym c.in_err-end.ensures) all feed_ends)
+returns-in_err-end-clause-none c = rw c.from_residual.ensures (λ start rest all is.
+    lacks-not 10 start (rest) (rw (← is) at (lacks-all 10 c.args.text.now (sym c.in_err-end.ensures))))
 
-pub returns-in_err-rest-clause-none : goal.returns-in_err-rest-clause-none
-returns-in_err-rest-clause-none c = rw c.from_residual-in_err-rest.ensures (λ start rest all is.
-    let none = rw c.in_err-rest.was at (strip_prefix_is Decides-eqb c.split_at.result.1.now (10 ∷ []) c.strip_prefix.result c.strip_prefix.ensures.cases) in
-    let behind = behind-kind is_value_byte start (rest) c.args.text.now 10 c.in_ok-end.end (sym c.in_ok-end.ensures) all feed_ends is in
-    none rest (c.split_at.ensures.back ∙ behind))
+pub returns-then-not-has_value_chars-clause-none :
+    goal.returns-then-not-has_value_chars-clause-none
+returns-then-not-has_value_chars-clause-none c = λ start rest all is.
+    let cut = cut-position 10 c.args.text.now c.in_ok-end.end (sym c.in_ok-end.ensures) in
+    let once = cut_once 10 _ _ start (rest) cut.before (lacks-kind is_value_byte 10 start feed_ends all) (cut.whole ∙ sym is) in
+    both_ways _ (sym c.if-not-has_value_chars.ensures) (rw once.0 all)
 
 pub returns-clause-found : goal.returns-clause-found
 returns-clause-found c =
-    let some = rw c.in_ok-rest.was at (strip_prefix_is Decides-eqb c.split_at.result.1.now (10 ∷ []) c.strip_prefix.result c.strip_prefix.ensures.cases) in
-    rw c.split_at.ensures.front (kind-position is_value_byte c.args.text.now c.in_ok-end.end (sym c.in_ok-end.ensures), ap (λ (l : List ℕ). take c.in_ok-end.end c.args.text.now ++ l) (sym some ∙ c.split_at.ensures.back) ∙ take-append-drop c.in_ok-end.end c.args.text.now)
+    let cut = cut-position 10 c.args.text.now c.in_ok-end.end (sym c.in_ok-end.ensures) in
+    let all = take_all (length c.args.text.now - (c.in_ok-end.end + 1)) (drop (c.in_ok-end.end + 1) c.args.text.now) (omega (arith, length-drop (c.in_ok-end.end + 1) c.args.text.now)) in
+    (sym c.if-not-has_value_chars.ensures, rw all cut.whole)

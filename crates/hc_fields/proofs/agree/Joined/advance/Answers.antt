@@ -1,8 +1,8 @@
-use Rattle.std.proofs.Common.{◌≡◌, ◌∙◌, ◌<◌, length, [], Option, Some, None, arith, refl, ap, sym}
+use Rattle.std.proofs.Common.{◌≡◌, ◌∙◌, ◌<◌, length, [], None, refl, ap, sym}
 use Rattle.std.proofs.lemmas.Bool.{eqb-true}
 use Rattle.std.proofs.lemmas.List.{nil_from_length}
 use Rattle.std.specs.Option.{option_copied}
-use Rattle.hc_fields.specs.Joined.{all_values, bytes_left}
+use Rattle.hc_fields.specs.Joined.{all_values}
 use Rattle.hc_fields.proofs.Agreeing.{next_piece}
 use Rattle.hc_fields.proofs.agree.Joined.advance.Goals as goal
 

@@ -1,4 +1,3 @@
-use Rattle.std.proofs.Common.{◌≡◌}
 use Rattle.std.proofs.lemmas.Result.{on_ok_weaker}
 use Rattle.http_header.specs.Token.{lowercase}
 use Rattle.hc_fields.proofs.Edits.{values_of-put_same, values_of-put_other}

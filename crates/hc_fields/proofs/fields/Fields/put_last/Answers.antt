@@ -1,7 +1,6 @@
-use Rattle.std.proofs.Common.{◌≡◌, refl, sym, ◌∙◌}
+use Rattle.std.proofs.Common.{refl, sym, ◌∙◌}
 use Rattle.std.proofs.lemmas.Bool.{eqb-true, both_ways}
 use Rattle.http_header.specs.Token.{lowercase}
-use Rattle.hc_fields.specs.Marks.{fields_at}
 use Rattle.hc_fields.proofs.Kept.{IsPut, length-lowercase, put_is, IsKept-put}
 use Rattle.hc_fields.proofs.fields.Fields.put_last.Goals as goal
 use Rattle.hc_fields.proofs.fields.Fields.put_last.Goals.{then-self, else-self}

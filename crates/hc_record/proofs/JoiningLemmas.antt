@@ -1,5 +1,5 @@
 -- The one strong tag of a list of values.
-use Rattle.std.proofs.Common.{◌≡◌, ◌≢◌, ℕ, ◌-◌, Bool, true, false, List, [], ◌∷◌, ◌++◌, length, take, Option, Some, None, IsTrue, refl, sym, ap, ◌∙◌, inl, inr, arith, length-append}
+use Rattle.std.proofs.Common.{◌≡◌, ℕ, ◌-◌, Bool, true, false, List, [], ◌∷◌, ◌++◌, length, Option, Some, None, refl, sym, ap, inl, inr, arith, length-append}
 use Rattle.std.specs.Prelude.{bytes_eq, ◌&&◌, is_some, slice_get}
 use Rattle.std.specs.List.{list_all}
 use Rattle.std.proofs.lemmas.Bool.{cases_Bool, cases_eq, ne_eqb, not_from_false, and_parts, and_from, both_ways}
@@ -8,18 +8,15 @@ use Rattle.std.proofs.lemmas.Option.{none-some, same_Some}
 use Rattle.std.proofs.lemmas.Slice.Eq.{bytes_eq-Decides}
 use Rattle.hc_text.specs.Texts.{lacks}
 use Rattle.hc_etag.specs.Etags.{quote, is_etagc, IsOpaque, SpellsTag, tag_text}
+use Rattle.hc_fields.specs.FirstValues.{only_of}
 use Rattle.hc_record.specs.Head.{inside_of, strong_opaque, one_strong_opaque}
 use Rattle.hc_record.specs.Lines.{joining_text}
 
-pub one_value : (vs : List (List ℕ)) → length vs ≡ 1 → (v : List ℕ) × (vs ≡ v ∷ [])
-one_value [] h = absurd (omega arith)
-one_value (v ∷ []) h = (v, refl)
-one_value (v ∷ w ∷ vs) h = absurd (omega arith)
-
-pub none_unless_one : (vs : List (List ℕ)) → length vs ≢ 1 → one_strong_opaque vs ≡ None
-none_unless_one [] h = refl
-none_unless_one (v ∷ []) h = absurd (h refl)
-none_unless_one (v ∷ w ∷ vs) h = refl
+-- where no value stands alone, no tag does
+pub none_unless_only : (vs : List (List ℕ)) → only_of vs ≡ None → one_strong_opaque vs ≡ None
+none_unless_only [] h = refl
+none_unless_only (v ∷ []) h = absurd (none-some _ (sym h))
+none_unless_only (v ∷ w ∷ vs) h = refl
 
 inside-tag : (opaque : List ℕ) → inside_of (tag_text false opaque) ≡ opaque
 inside-tag opaque =
@@ -71,10 +68,10 @@ pub joining_text-value : (vs : List (List ℕ)) (joining : Option (List ℕ)) �
 joining_text-value vs None is some = absurd (both_ways _ refl some)
 joining_text-value vs (Some opaque) is some = rw ((own_tag vs opaque (sym is)).1) refl
 
-pub one_value_is : (vs : List (List ℕ)) (v : List ℕ) → length vs ≡ 1 → slice_get vs 0 ≡ Some v → vs ≡ v ∷ []
-one_value_is [] v h is = absurd (omega arith)
-one_value_is (u ∷ []) v h is = ap (λ (x : List ℕ). x ∷ []) (same_Some _ _ is)
-one_value_is (u ∷ w ∷ vs) v h is = absurd (omega arith)
+pub only_value_is : (vs : List (List ℕ)) (v : List ℕ) → only_of vs ≡ Some v → vs ≡ v ∷ []
+only_value_is [] v is = absurd (none-some _ is)
+only_value_is (u ∷ []) v is = ap (λ (x : List ℕ). x ∷ []) (same_Some _ _ is)
+only_value_is (u ∷ w ∷ vs) v is = absurd (none-some _ is)
 
 -- what is no tag is no strong one
 pub no_strong_opaque : (v : List ℕ) → ((weak : Bool) (opaque : List ℕ) → ¬ (SpellsTag v weak opaque)) → strong_opaque v ≡ None

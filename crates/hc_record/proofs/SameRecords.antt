@@ -1,7 +1,6 @@
 -- Two heads of which one's record begins the other's.
-use Rattle.std.proofs.Common.{◌≡◌, ℕ, List, [], ◌++◌, length, Option, refl, sym, ap, ◌∙◌}
+use Rattle.std.proofs.Common.{◌≡◌, ℕ, List, [], ◌++◌, Option, refl, sym, ap, ◌∙◌}
 use Rattle.std.proofs.lemmas.List.{append_assoc, append-nil}
-use Rattle.hc_fields.specs.FieldList.{IsListOf}
 use Rattle.hc_fields.specs.Lines.{fields_text}
 use Rattle.hc_fields.proofs.FieldTexts.{fields_once}
 use Rattle.hc_record.specs.declared.kind.Kind.{Kind}

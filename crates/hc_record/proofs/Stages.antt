@@ -1,11 +1,10 @@
 -- A record read from its front: what is left behind each of its parts.
-use Rattle.std.proofs.Common.{◌≡◌, ◌≢◌, ℕ, Bool, true, false, List, [], ◌∷◌, ◌++◌, length, take, drop, get_or, IsTrue, refl, sym, ap, ◌∙◌, inl, inr, arith}
-use Rattle.std.specs.Prelude.{◌==◌, ◌||◌, codes, bytes_eq, MatchBool}
-use Rattle.std.proofs.lemmas.Bool.{or_cases, eqb-true, both_ways}
-use Rattle.std.proofs.lemmas.Slice.Eq.{bytes_eq-Decides}
+use Rattle.std.proofs.Common.{◌≡◌, ◌≢◌, ℕ, true, List, [], ◌∷◌, ◌++◌, length, take, drop, get_or, IsTrue, refl, sym, ap, ◌∙◌, inl, inr, arith}
+use Rattle.std.specs.Prelude.{◌==◌, ◌||◌, codes}
+use Rattle.std.proofs.lemmas.Bool.{or_cases, eqb-true}
 use Rattle.std.proofs.lemmas.List.{append_assoc, append-nil, append_cancel_left, append_cancel_right, take_at, drop_at}
 use Rattle.hc_text.specs.Texts.{lacks}
-use Rattle.hc_fields.specs.FieldList.{values_of, IsFieldList, IsListOf}
+use Rattle.hc_fields.specs.FieldList.{values_of, IsListOf}
 use Rattle.hc_fields.specs.Lines.{fields_text}
 use Rattle.hc_fields.proofs.Cuts.{cut_once, lacks-not}
 use Rattle.hc_fields.proofs.FieldTexts.{fields_once}
@@ -15,7 +14,7 @@ use Rattle.hc_record.specs.declared.parts.Seal.{Seal}
 use Rattle.hc_record.specs.declared.parts.Numbers.{Numbers}
 use Rattle.hc_record.specs.declared.parts.FirstLines.{FirstLines}
 use Rattle.hc_record.specs.Head.{Head, IsHead}
-use Rattle.hc_record.specs.Lines.{IsSmall, version_line, seal_line, numbers_line, joining_text, tag_line}
+use Rattle.hc_record.specs.Lines.{IsSmall, version_line, seal_line, joining_text, tag_line}
 use Rattle.hc_record.specs.Parts.{seal_text, IsSmallSeal, numbers_text, AreSmall, first_text, AreFirst}
 use Rattle.hc_record.specs.Record.{field_lines, spelling, HasFirstLines}
 use Rattle.hc_record.proofs.JoiningLemmas.{lacks-joining}
@@ -218,8 +217,3 @@ no_status version seal n text one two three version_is small seal_is small_n n_i
 
 pub tag_text_once : (t u : List ℕ) → tag_line Second t ≡ tag_line Second u → t ≡ u
 tag_text_once t u same = append_cancel_right t u (10 ∷ []) (append_cancel_left (codes "tag ") _ _ same)
-
--- whether two texts make one line
-pub own_cases : (b : Bool) (t u : List ℕ) → b ≡ bytes_eq t u → MatchBool b (tag_line Second t ≡ tag_line Second u) (¬ (tag_line Second t ≡ tag_line Second u))
-own_cases true t u is = ap (λ (l : List ℕ). tag_line Second l) ((bytes_eq-Decides t u).0 (sym is))
-own_cases false t u is = λ same. both_ways _ (sym is) ((bytes_eq-Decides t u).1 (tag_text_once t u same))

@@ -4,7 +4,7 @@ use Rattle.std.specs.Option.{ForSome, option_map}
 use Rattle.std.specs.List.{list_all}
 use Rattle.hc_text.specs.Texts.{IsSmall}
 use Rattle.hc_etag.specs.declared.tag.Tag.{Tag}
-use Rattle.hc_etag.specs.Etags.{is_etagc, quote, tag_text}
+use Rattle.hc_etag.specs.Etags.{is_etagc, quote}
 use Rattle.hc_fields.specs.FieldList.{values_of, IsFieldList, IsModest}
 use Rattle.hc_record.specs.declared.kind.Kind.{Kind}
 

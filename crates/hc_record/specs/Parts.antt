@@ -1,10 +1,11 @@
 -- The parts of a record as a reader takes them.
-use Rattle.std.specs.Prelude.{◌≡◌, ℕ, ◌==◌, ◌||◌, IsTrue, List, ◌++◌}
+use Rattle.std.specs.Prelude.{◌≡◌, ℕ, ◌==◌, ◌||◌, Bool, IsTrue, List, ◌++◌, MatchBool}
 pub use Rattle.hc_fields.specs.FieldList.{IsListOf}
 use Rattle.hc_record.specs.declared.parts.Seal.{Seal}
 use Rattle.hc_record.specs.declared.parts.Numbers.{Numbers}
 use Rattle.hc_record.specs.declared.parts.FirstLines.{FirstLines}
-use Rattle.hc_record.specs.Lines.{IsSmall, IsSmallTotal, version_line, seal_line, numbers_line}
+use Rattle.hc_record.specs.declared.version.Version.{Version}
+use Rattle.hc_record.specs.Lines.{IsSmall, IsSmallTotal, version_line, seal_line, numbers_line, tag_line}
 
 abbrev pub seal_text : Seal → List ℕ
 seal_text seal = seal_line seal.kind seal.total
@@ -30,3 +31,9 @@ pub record AreFirst (first : FirstLines) : Type 0 where
   pub numbers : AreSmall first.numbers
   pub status_is : first.status ≡ first.numbers.status
   pub known_status : IsTrue (first.status == 200 || first.status == 206)
+
+-- it is told whether two texts make one line in this version
+abbrev pub TellsSame : Version → List ℕ → List ℕ → Bool → Type 0
+TellsSame version text own same =
+    MatchBool same (tag_line version text ≡ tag_line version own)
+    (¬ (tag_line version text ≡ tag_line version own))

@@ -7,7 +7,7 @@ ghost use Rattle.hc_record.specs.Head.{joining_of, opaque_of};
 ghost use Rattle.hc_record.specs.Lines.{joining_text};
 
 use hc_etag::{Tag, read_tag};
-use hc_fields::Fields;
+use hc_fields::{Fields, only_value};
 use hc_text::NoMemory;
 use std::alloc::Global;
 
@@ -21,10 +21,9 @@ pub fn joining_tag(alloc: Global, fields: &Fields) -> Result<Option<Tag>, NoMemo
     ensures err { OnErr result ((weak : Bool) × (opaque : List ℕ) × IsOpaque opaque
         × (values_of (codes "etag") fields.now ≡ tag_text weak opaque ∷ [])) }
 {
-    if fields.count(b"etag") != 1 {
+    let Some(value) = only_value(fields, b"etag") else {
         return Ok(None);
-    }
-    let value = fields.get(b"etag").unwrap();
+    };
     match read_tag(alloc, value)? {
         Some(tag) if !tag.weak => Ok(Some(tag)),
         _ => Ok(None),

@@ -1,12 +1,15 @@
 //! The lines of a record before its fields.
-ghost use Rattle.std.specs.Prelude.{◌≡◌, ◌≢◌, ◌==◌, ◌||◌, ◌++◌, ℕ, List, true, IsTrue, IfSome, IfNone, MatchBool, MatchOption};
-ghost use Rattle.hc_record.specs.Lines.{tag_line};
-ghost use Rattle.hc_record.specs.Parts.{seal_text, IsSmallSeal, numbers_text, AreSmall, first_text, AreFirst};
+ghost use Rattle.std.specs.Prelude.{◌≡◌, ◌≢◌, ◌↔◌, ◌==◌, ◌||◌, ◌∷◌, [], ◌++◌, ℕ, List, true, IsTrue, IfSome, IfNone, MatchOption};
+ghost use Rattle.hc_etag.specs.Etags.{quote};
+ghost use Rattle.hc_record.specs.Head.{opaque_of};
+ghost use Rattle.hc_record.specs.Lines.{joining_text, tag_line};
+ghost use Rattle.hc_record.specs.Parts.{seal_text, IsSmallSeal, numbers_text, AreSmall, first_text, AreFirst, TellsSame};
 ghost use Rattle.hc_record.specs.Reading.{Takes, lacks};
 
 use crate::cursor::Cursor;
 use crate::kind::Kind;
 use crate::version::Version;
+use hc_etag::Tag;
 
 /// Kind and total.
 #[derive(Clone, Copy)]
@@ -78,15 +81,37 @@ pub(crate) fn take_tag_text<'a>(version: Version, text: &mut Cursor<'a>) -> Opti
     }
 }
 
-/// Whether the text is that of the record's own tag, where the version tells one.
-pub(crate) fn is_own_tag(version: Version, text: &[u8], own: &[u8]) -> bool
-    ensures { MatchBool result (tag_line version text.now ≡ tag_line version own.now)
-        (¬ (tag_line version text.now ≡ tag_line version own.now)) }
+/// Whether the text is that of the joining tag, where the version tells one.
+pub(crate) fn is_own_tag(version: Version, text: &[u8], joining: &Option<Tag>) -> bool
+    ensures { TellsSame version text.now (joining_text (opaque_of joining.now)) result }
 {
     match version {
         Version::First => true,
-        Version::Second => text == own,
+        Version::Second => is_joining_text(text, joining),
     }
+}
+
+/// Whether the text is that of the joining tag.
+fn is_joining_text(text: &[u8], joining: &Option<Tag>) -> bool
+    ensures { IsTrue result ↔ (text.now ≡ joining_text (opaque_of joining.now)) }
+{
+    match joining {
+        None => text == b"-".as_slice(),
+        Some(tag) => is_quoted(text, &tag.opaque.bytes),
+    }
+}
+
+/// Whether the text is these bytes between two quotes.
+fn is_quoted(text: &[u8], inside: &[u8]) -> bool
+    ensures { IsTrue result ↔ (text.now ≡ quote ∷ inside.now ++ quote ∷ []) }
+{
+    let Some((first, rest)) = text.split_first() else {
+        return false;
+    };
+    let Some((last, found)) = rest.split_last() else {
+        return false;
+    };
+    *first == b'"' && *last == b'"' && found == inside
 }
 
 /// Takes the line of kind and total.

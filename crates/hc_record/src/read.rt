@@ -6,7 +6,7 @@ ghost use Rattle.hc_record.specs.Record.{IsRecordOf, HasFirstLines};
 
 use crate::cursor::Cursor;
 use crate::head::StoredHead;
-use crate::joining::{joining_tag, joining_text};
+use crate::joining::joining_tag;
 use crate::parts::{is_own_tag, take_first_lines, take_tag_text};
 use hc_text::NoMemory;
 use std::alloc::Global;
@@ -39,7 +39,7 @@ pub fn read_record(alloc: Global, text: &[u8]) -> Result<Option<StoredHead>, NoM
         return Ok(None);
     }
     let joining = joining_tag(alloc, &fields)?;
-    if !is_own_tag(first.version, tag, joining_text(joining.is_some(), &fields)) {
+    if !is_own_tag(first.version, tag, &joining) {
         return Ok(None);
     }
     Ok(Some(StoredHead {

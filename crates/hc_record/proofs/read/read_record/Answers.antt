@@ -59,7 +59,7 @@ returns-then-not-is_own_tag-clause-none c = λ head own r.
     let behind = after_fields head own r.0 c.args.text.now r.1 c.in-Some.first c.take_first_lines.new.text c.in-Some.ensures.0 is c.in-Some-take_tag_text.tag.now c.take_tag_text.new.text tag.0 tag.1 c.in-Some-2.vary_fields c.in-Some-3.fields c.take_fields.new.self c.take_fields-2.new.self vary.0 vary.1 fields.0 fields.1 in
     let joining : head.joining ≡ joining_of c.in-Some-3.fields = own.own_joining ∙ ap joining_of (sym behind.0) in
     c.if-not-is_own_tag.ensures
-    (sym mine.0 ∙ (ap (λ (j : Option (List ℕ)). tag_line version (joining_text j)) joining ∙ ap (λ (l : List ℕ). tag_line version l) (sym c.joining_text.ensures)))
+    (sym mine.0 ∙ ap (λ (j : Option (List ℕ)). tag_line version (joining_text j)) (joining ∙ sym c.in_ok-joining.ensures.value))
 
 pub returns-clause-found : goal.returns-clause-found
 returns-clause-found c =
@@ -69,7 +69,7 @@ returns-clause-found c =
     let fields = rw c.in-Some-3.is at c.in_ok-fields.ensures in
     let version = c.in-Some.first.version in
     let own : tag_line version c.in-Some-take_tag_text.tag.now ≡ tag_line version (joining_text (opaque_of c.in_ok-joining.joining)) =
-    c.if-not-is_own_tag.ensures ∙ (ap (λ (l : List ℕ). tag_line version l) c.joining_text.ensures ∙ ap (λ (j : Option (List ℕ)). tag_line version (joining_text j)) (sym c.in_ok-joining.ensures.value)) in (
+    c.if-not-is_own_tag.ensures in (
       version,
       assembled
           (record {

@@ -1,0 +1,12 @@
+//! Stitching: a span that is read in part from the store and in part from the origin.
+#![tactic(auto)]
+
+mod holes;
+mod stitch;
+
+pub use hc_rules::{HoleAnswer, ReadStep};
+pub use holes::{first_hole, hole_end, is_stored, stored_end};
+pub use stitch::{Part, Stitch, accepts, next};
+
+#[cfg(test)]
+mod tests;

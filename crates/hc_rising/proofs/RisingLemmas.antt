@@ -1,11 +1,30 @@
 -- Where a number stands in a list whose numbers rise, and what changes there leave.
 use Rattle.std.proofs.Common.{◌≡◌, ◌⊎◌, ℕ, zero, suc, ◌+◌, ◌<◌, ◌≤◌, List, [], ◌∷◌, ◌++◌, length, get_or, take, drop, set, map, Bool, true, false, not, cond, eqb, leb, ltb, Option, Some, None, refl, sym, ap, ◌∙◌, inl, inr, arith, lt-ltb}
-use Rattle.std.specs.Prelude.{◌&&◌, filter, find, is_some}
+use Rattle.std.specs.Prelude.{◌&&◌, ◌||◌, filter, find, is_some}
 use Rattle.std.specs.List.{list_any, insert, remove, position_or_len, AllWithin}
 use Rattle.std.specs.List.Sorted.{IsNonDecreasingBy, IsPartitionPoint}
 use Rattle.std.proofs.lemmas.Bool.{cases_Bool, and_parts, le-ltb, le-leb, lt-leb, ltb-true, ltb-false, leb-true, leb-false, eqb-true, eqb-false, eq-eqb, ne_eqb}
 use Rattle.std.proofs.lemmas.List.Sums.{position_or_len_is, prefix_len-le-length}
 use Rattle.hc_rising.specs.Rising.{above, rises, is_at, has, found, with_item, without, replaced, place}
+
+or_swap : (a b c : Bool) → a || (b || c) ≡ b || (a || c)
+or_swap true true c = refl
+or_swap true false c = refl
+or_swap false true c = refl
+or_swap false false c = refl
+
+and_false : (a : Bool) → a && false ≡ false
+and_false true = refl
+and_false false = refl
+
+and_or : (a b : Bool) → not a && b ≡ not a && (a || b)
+and_or true b = refl
+and_or false b = refl
+
+kept_or : (a b c : Bool) → (a ≡ true → b ≡ true → ⊥) → a || (not b && c) ≡ not b && (a || c)
+kept_or true true c apart = absurd (apart refl refl)
+kept_or true false c apart = refl
+kept_or false b c apart = refl
 
 any_none : {X : Type 0} (p : X → Bool) (x : X) (xs : List X) → list_any p (x ∷ xs) ≡ false → (p x ≡ false) × (list_any p xs ≡ false)
 any_none p x xs h = elim (cases_Bool (p x)) [
@@ -283,3 +302,29 @@ module _ {X : Type 0} (number : X → ℕ) where
 
   pub found_past : (n : ℕ) (xs : List X) (i : ℕ) → i ≡ place number n xs → length xs ≤ i → None ≡ found number n xs
   found_past n xs i at past = sym (found-past n xs (omega arith))
+
+  -- nothing goes where none has the number
+  pub without-none : (n : ℕ) (xs : List X) → has number n xs ≡ false → without number n xs ≡ xs
+  without-none n [] none = refl
+  without-none n (x ∷ xs) none =
+      let (off, rest) = any_none (is_at number n) x xs none in
+      rw off (ap (λ (l : List X). x ∷ l) (without-none n xs rest))
+
+  -- who is there with one more
+  pub has-with : (n : ℕ) (x : X) (xs : List X) → has number n (with_item number x xs) ≡ is_at number n x || has number n xs
+  has-with n x [] = refl
+  has-with n x (y ∷ ys) = elim (cases_Bool (leb (number x) (number y))) [
+    | inl before ↦ rw before refl
+    | inr after ↦ rw (after, has-with n x ys) (or_swap (is_at number n y) (is_at number n x) (has number n ys))
+  ]
+
+  -- who is there without one
+  pub has-without : (n m : ℕ) (xs : List X) → has number n (without number m xs) ≡ not (eqb m n) && has number n xs
+  has-without n m [] = sym (and_false (not (eqb m n)))
+  has-without n m (x ∷ xs) = elim (cases_Bool (eqb (number x) m)) [
+    | inl gone ↦
+        let e = eqb-true (number x) m gone in
+        rw (gone, has-without n m xs, e) (and_or (eqb m n) (has number n xs))
+    | inr kept ↦
+        rw (kept, has-without n m xs) (kept_or (eqb (number x) n) (eqb m n) (has number n xs) (λ at on. let ne = eqb-false (number x) m kept in ne (eqb-true (number x) n at ∙ sym (eqb-true m n on))))
+  ]

@@ -102,6 +102,19 @@ pub fn take_out<T: Numbered>(items: &mut Vec<T>, n: u64) -> T
     items.remove(at)
 }
 
+/// That with this number goes, if there is one.
+pub fn leave_out<T: Numbered + Drop>(items: &mut Vec<T>, n: u64)
+    requires { rises T.number items.old.items ≡ true }
+    ensures items { items.new.items ≡ without T.number n items.old.items }
+    ensures ordered { rises T.number items.new.items ≡ true }
+    ensures len { vec_len items.new ≤ vec_len items.old }
+    ensures capacity { vec_capacity items.new ≡ vec_capacity items.old }
+{
+    if has_item(items.as_slice(), n) {
+        take_out(items, n);
+    }
+}
+
 /// Another in place of that with its number.
 pub fn replace_in<T: Numbered + Drop>(items: &mut Vec<T>, item: T)
     requires ordered { rises T.number items.old.items ≡ true }

@@ -34,7 +34,7 @@ agrees-at x w v t h wanted idle at_wanted at_idle =
       idle = λ y. elim (cases_Bool (eqb y x)) [
         | inl on ↦ let e = eqb-true y x on in rw e at_idle
         | inr off ↦ idle y (eqb-false y x off) ∙ h.idle y (eqb-false y x off)
-      ]
+      ];
     }
 
 pub agrees-leaves : (x : ℕ) (w : Wished) (t : Table) → AgreesBut x w t → (t x).running ≡ None → Agrees (leaves x w) t
@@ -59,9 +59,9 @@ pub agrees-wanted : (x : ℕ) (w : Wished) (t : Table) (o : Open) → AgreesBut 
 agrees-wanted x w t o h is on not_idle =
     agrees-at x w w t h (λ y ne. refl) (λ y ne. refl)
     (elim (cases_Bool (is_among x w.wanted)) [
-        | inl there ↦ there ∙ sym (ap is_wanted is ∙ on)
-        | inr off ↦ absurd (let yes_idle = h.there (ap is_some is) off in cc)
-      ])
+      | inl there ↦ there ∙ sym (ap is_wanted is ∙ on)
+      | inr off ↦ absurd (let yes_idle = h.there (ap is_some is) off in cc)
+    ])
     (not_idle ∙ sym (ap is_idle is ∙ ap not on))
 
 pub agrees-idle : (x : ℕ) (w : Wished) (t : Table) (o : Open) → AgreesBut x w t → (t x).running ≡ Some o → is_wanted (Some o) ≡ false → is_among x w.wanted ≡ false → Agrees w t
@@ -95,8 +95,8 @@ agrees_but f x w t u h change was =
       idle = λ y ne. h.idle y ∙ ap (λ (k : Known). is_idle k.running) (sym (changes-other f x t u change y ne));
       once = λ on. h.idle x ∙ once (t x).running (sym (h.wanted x) ∙ on);
       there = λ some off.
-        let is = changes-same f x t u change in
-        h.idle x ∙ there (t x).running (was (ap (λ (k : Known). is_some k.running) (sym is) ∙ some)) (sym (h.wanted x) ∙ off)
+          let is = changes-same f x t u change in
+          h.idle x ∙ there (t x).running (was (ap (λ (k : Known). is_some k.running) (sym is) ∙ some)) (sym (h.wanted x) ∙ off);
     }
 
 -- a number that is still to come stands in the list of the wanted ones
@@ -106,5 +106,5 @@ agrees_but-new x w t u h new others =
       wanted = λ y ne. with-other x y w.wanted ne ∙ (h.wanted y ∙ ap (λ (k : Known). is_wanted k.running) (sym (others y ne)));
       idle = λ y ne. h.idle y ∙ ap (λ (k : Known). is_idle k.running) (sym (others y ne));
       once = λ on. h.idle x ∙ ap (λ (k : Known). is_idle k.running) new;
-      there = λ some off. absurd (let on = with-same x w.wanted in cc)
+      there = λ some off. absurd (let on = with-same x w.wanted in cc);
     }

@@ -49,7 +49,7 @@ pub IsCounted-push : (pieces : List (List ℕ)) (read left : ℕ) (piece : List 
 IsCounted-push pieces read left piece now count h is len =
     record {
       all = rw (is, joined-push pieces piece, length-append (joined pieces) piece) (let all = h.all in omega arith);
-      front = rw is (first-push pieces piece read h.front)
+      front = rw is (first-push pieces piece read h.front);
     }
 
 pub view-push : (pieces : List (List ℕ)) (read : ℕ) (piece : List ℕ) (now : List (List ℕ)) → read ≤ first_length pieces → now ≡ pieces ++ piece ∷ []
@@ -105,5 +105,5 @@ takes-piece pieces now piece read count none is len =
     record {
       bytes = rw (none, is) (taken_is piece (joined now) (piece ++ joined now) count refl size);
       rest = rw (none, is) (rest_is piece (joined now) (piece ++ joined now) count refl size);
-      front = omega arith
+      front = omega arith;
     }

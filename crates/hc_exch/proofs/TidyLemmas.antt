@@ -27,7 +27,7 @@ tidy-same next old now same h =
     record {
       keeps = λ y. ap keeps (same y) ∙ h.keeps y;
       new = λ y le. rows-same old now same y ∙ h.new y le;
-      counted = λ y. ap fits (rows-same old now same y) ∙ h.counted y
+      counted = λ y. ap fits (rows-same old now same y) ∙ h.counted y;
     }
 
 pub agrees-rows : (w : Wished) (old now : Rows) → ((y : ℕ) → get nat_eq now y ≡ get nat_eq old y) → Agrees w (rows_of old) → Agrees w (rows_of now)
@@ -50,7 +50,7 @@ tidy-changes next x f old mid now h change same first second keep new fit =
       counted = λ y. elim (cases_Bool (eqb y x)) [
         | inl on ↦ let e = eqb-true y x on in ap fits (same y) ∙ rw e (ap fits (changes-same f x (rows_of old) (rows_of mid) change) ∙ fit)
         | inr off ↦ ap fits (same y ∙ changes-other f x (rows_of old) (rows_of mid) change y (eqb-false y x off)) ∙ h.counted y
-      ]
+      ];
     }
 
 -- what was begun and refused leaves nothing
@@ -82,5 +82,5 @@ module _ (c : ℕ) (role : Role) (need : Need) (request : Request) (moment : ℕ
         counted = λ y. elim (cases_Bool (eqb y x)) [
           | inl on ↦ let e = eqb-true y x on in rw e (ap fits at)
           | inr off ↦ ap fits (changes-other (launched c role need request moment) x (rows_of old) (rows_of now) change y (eqb-false y x off)) ∙ h.counted y
-        ]
+        ];
       }

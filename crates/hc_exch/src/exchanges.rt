@@ -160,7 +160,7 @@ impl Exchanges {
             ≡ Ok (not (is_bad (length_by (table_of self.old x).running response.now))) }
         ensures good { is_bad (length_by (table_of self.old x).running response.now) ≡ false
             → Becomes (headed (length_by (table_of self.old x).running response.now))
-                x self.old self.new }
+            x self.old self.new }
         ensures bad { is_bad (length_by (table_of self.old x).running response.now) ≡ true
             → Stays self.old self.new }
     {
@@ -230,10 +230,8 @@ fn named(event: &Event) -> u64
     ensures { result ≡ named event.now }
 {
     match event {
-        Event::Head { x, .. }
-        | Event::Piece { x, .. }
-        | Event::End { x }
-        | Event::Fault { x } => *x,
+        Event::Head { x, .. } | Event::Piece { x, .. } | Event::End { x } | Event::Fault { x } =>
+            *x,
         _ => 0,
     }
 }

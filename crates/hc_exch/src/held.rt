@@ -22,8 +22,8 @@ pub(crate) struct Held {
 impl Model for Held {
     ghost use Rattle.std.specs.Prelude.{List, ℕ, drop};
     ghost use Rattle.std.specs.Prelude.{vec_len, vec_capacity};
-ghost use Rattle.std.specs.VecDeque.{deque_len};
-ghost use Rattle.hc_exch.specs.Pieces.{joined, IsCounted};
+    ghost use Rattle.std.specs.VecDeque.{deque_len};
+    ghost use Rattle.hc_exch.specs.Pieces.{joined, IsCounted};
 
     ghost Value = { List ℕ };
 
@@ -116,12 +116,7 @@ fn take_front(
 
 /// What is left of the first piece, or so many bytes of it, goes to the end of what is taken. How many
 /// bytes are read then of the piece that is the first.
-fn take_part(
-    pieces: &mut VecDeque<Bytes>,
-    read: usize,
-    most: usize,
-    taken: &mut Vec<u8>,
-) -> usize
+fn take_part(pieces: &mut VecDeque<Bytes>, read: usize, most: usize, taken: &mut Vec<u8>) -> usize
     requires front { read ≤ first_length pieces.old.items }
     requires some { 0 < deque_len pieces.old }
     requires wanted { 0 < most }

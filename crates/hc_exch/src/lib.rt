@@ -11,3 +11,6 @@ mod wishes;
 pub use exchanges::Exchanges;
 pub use role::Role;
 pub use row::{ExchangeView, Opening};
+
+#[cfg(test)]
+mod tests;

@@ -28,6 +28,7 @@ pub struct ExchangeView {
 }
 
 /// What an exchange was opened with. The moment is in whole seconds since 1970.
+#[derive(Clone, Copy)]
 pub struct Opening<'a> {
     pub need: &'a Need,
     pub request: &'a Request,

@@ -7,9 +7,9 @@ ghost use Rattle.hc_exch.specs.Rows.{running_in, held_in, rows_of, begins, keeps
 ghost use Rattle.std.specs.Prelude.{◌≢◌, nat_eq};
 ghost use Rattle.std.specs.HashMap.{get};
 
+use crate::held::Held;
 use crate::role::Role;
 use crate::row::{Open, Row};
-use crate::held::Held;
 use hc_rules::Length;
 use hc_text::{Bytes, NoMemory};
 use std::alloc::Global;

@@ -1,7 +1,7 @@
 //! Lists whose numbers rise: what has a number is found by halving, and changed where it stands.
 #![tactic(auto)]
 
-ghost use Rattle.std.specs.Prelude.{◌≡◌, ℕ, ◌+◌, ◌<◌, ◌≤◌, true, false, Some, length, vec_len, vec_capacity, IsOk, OnOk, OnErr};
+ghost use Rattle.std.specs.Prelude.{◌≡◌, ℕ, ◌+◌, ◌<◌, ◌≤◌, true, false, Some, if◌then◌else◌, length, vec_len, vec_capacity, IsOk, OnOk, OnErr};
 ghost use Rattle.std.specs.Option.{option_copied};
 ghost use Rattle.hc_rising.specs.Rising.{rises, has, found, with_item, without, replaced, place};
 
@@ -107,7 +107,8 @@ pub fn leave_out<T: Numbered + Drop>(items: &mut Vec<T>, n: u64)
     requires { rises T.number items.old.items ≡ true }
     ensures items { items.new.items ≡ without T.number n items.old.items }
     ensures ordered { rises T.number items.new.items ≡ true }
-    ensures len { vec_len items.new ≤ vec_len items.old }
+    ensures len { vec_len items.new + (if has T.number n items.old.items then 1 else 0)
+        ≡ vec_len items.old }
     ensures capacity { vec_capacity items.new ≡ vec_capacity items.old }
 {
     if has_item(items.as_slice(), n) {

@@ -11,9 +11,9 @@ returns-in-None c =
 pub returns-then-is_idle : goal.returns-then-is_idle
 returns-then-is_idle c =
     rw c.ask.ensures (agrees-asks c.args.x c.args.wishes.now (rows_of c.args.rows.now) c.in-Some.open.now c.requires
-      (sym c.running_in.ensures ∙ ap option_copied c.in-Some.is) (sym c.is_wanted-wanted.ensures ∙ c.if-wanted.true))
+    (sym c.running_in.ensures ∙ ap option_copied c.in-Some.is) (sym c.is_wanted-wanted.ensures ∙ c.if-wanted.true))
 
 pub returns-then-is_wanted : goal.returns-then-is_wanted
 returns-then-is_wanted c =
     rw c.rest.ensures (agrees-rests c.args.x c.args.wishes.now (rows_of c.args.rows.now) c.in-Some.open.now c.requires
-      (sym c.running_in.ensures ∙ ap option_copied c.in-Some.is) (sym c.is_wanted-wanted.ensures ∙ (let off = c.if-not-wanted.true in search rules)))
+    (sym c.running_in.ensures ∙ ap option_copied c.in-Some.is) (sym c.is_wanted-wanted.ensures ∙ (let off = c.if-not-wanted.true in search rules)))

@@ -12,5 +12,5 @@ returns-clause-ok c =
     record {
       bytes = taken_is c.loop-bytes.bytes.items _ _ _ i.all size;
       rest = rest_is c.loop-bytes.bytes.items _ _ _ i.all size;
-      front = i.front
+      front = i.front;
     }

@@ -6,5 +6,5 @@ invariant_of-self c =
     let e = c.args.self.now in
     record {
       agree = agrees-rows e.wishes e.rows c.take_in.new.rows c.in_err-bytes.ensures.err e.agree;
-      tidy = tidy-same e.next e.rows c.take_in.new.rows c.in_err-bytes.ensures.err e.tidy
+      tidy = tidy-same e.next e.rows c.take_in.new.rows c.in_err-bytes.ensures.err e.tidy;
     }

@@ -1,0 +1,7 @@
+//! The line of a key, and who is bound to a representation.
+#![tactic(auto)]
+
+mod active;
+
+pub use active::ActiveEntry;
+pub use hc_rules::{Admission, Plan};

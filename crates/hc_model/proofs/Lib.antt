@@ -30,3 +30,9 @@ pub mod NumbersKeep
 pub mod ShownOnce
 pub mod OneHead
 pub mod NamesKeep
+pub mod PollKeys
+pub mod KeyNames
+pub mod ActParts
+pub mod KeyActs
+pub mod KeyRows
+pub mod OneKey

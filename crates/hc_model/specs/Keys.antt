@@ -1,7 +1,7 @@
 -- The law of one key: an accepted event changes what is said of its own key, and else only how much is idle.
 use Rattle.std.specs.Prelude.{◌≡◌, ℕ, List, Bool, false, true, Option, Some, None}
 use Rattle.std.specs.Option.{option_map}
-use Rattle.hc_event.specs.Filters.{evicts_in}
+use Rattle.hc_event.specs.Filters.{evicts_in, is_denied}
 use Rattle.hc_event.specs.declared.event.Event.{Event}
 use Rattle.hc_event.specs.declared.event.Event.TheVariants as event
 use Rattle.hc_event.specs.declared.act.Act.{Act}
@@ -13,12 +13,11 @@ use Rattle.hc_model.specs.Flaws.{Flaw}
 use Rattle.hc_model.specs.Rows.{Tables, Exchange, Representation, Consumer}
 use Rattle.hc_model.specs.Dooms.{is_key}
 use Rattle.hc_model.specs.Tables.{after_accepted}
-use Rattle.hc_model.specs.Denials.{denial}
 use Rattle.hc_model.specs.Answers.{accepted}
 use Rattle.hc_model.specs.Reading.{reads}
 use Rattle.hc_model.specs.ConsumerRows.{back_in_line}
-use Rattle.hc_model.specs.Runs.{may_stand}
-use Rattle.hc_model.specs.Sound.{Sound, IsBound}
+use Rattle.hc_model.specs.Runs.{IsOwed}
+use Rattle.hc_model.specs.Sound.{IsBound}
 
 -- THE KEY OF AN EVENT
 
@@ -118,8 +117,5 @@ pub record KeepsOthers (t u : Tables) (e : Entry) : Type 0 where
 
 abbrev pub LawOfOneKey : Type 0
 LawOfOneKey =
-    (limits : Limits) (t : Tables) (now : ℕ) (event : Event) (flaw : Flaw) →
-    Sound t → ExchangeKeys t → ConsumerKeys t → denial t event ≡ None →
-    may_stand limits t (entry_of limits t now event flaw) ≡ true →
-    KeepsOthers t (after_accepted t (entry_of limits t now event flaw))
-    (entry_of limits t now event flaw)
+    (limits : Limits) (t : Tables) (e : Entry) → ExchangeKeys t → ConsumerKeys t →
+    IsOwed limits t e → is_denied e.acts ≡ false → KeepsOthers t (after_accepted t e) e

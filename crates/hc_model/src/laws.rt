@@ -1,6 +1,7 @@
 //! What holds of all runs, each as the contract of a function that does nothing.
 ghost use Rattle.hc_model.specs.Histories.{RunsAreFiltered};
 ghost use Rattle.hc_model.specs.Reads.{OneHeadIsShown};
+ghost use Rattle.hc_model.specs.Keys.{LawOfOneKey};
 ghost use Rattle.hc_model.specs.Laws.{SoundDeliversOnce, DeliveriesAreKept, BodiesAreKept, NumbersAreKept, NamesAreKept, OneCurrentIsKept, StoresAreKept, StartsAreSound, WholeIsWhole};
 
 /// Delivered once: where a piece is accepted, none of its positions has come; what shows this holds
@@ -50,4 +51,10 @@ pub fn whole_is_whole()
 /// shown a head; the pieces of a representation, those of them that are stored, and whether it was lost.
 pub fn columns_are_filters()
     ensures { RunsAreFiltered }
+{}
+
+/// The law of one key: an entry of a run changes nothing of exchanges, representations and consumers of
+/// other keys than that of its event; but what makes room is gone, and who waits for that starts over.
+pub fn other_keys_stay()
+    ensures { LawOfOneKey }
 {}

@@ -1,0 +1,167 @@
+-- What an event names is of its key: the representation of an exchange, and what a consumer reads from.
+use Rattle.std.proofs.Common.{◌≡◌, ◌⊎◌, inl, inr, ℕ, List, Bool, true, false, Option, Some, None, refl, ap, sym, ◌∙◌}
+use Rattle.std.specs.Prelude.{◌&&◌, ◌||◌, if◌then◌else◌, unwrap_or, nat_eq}
+use Rattle.std.proofs.Common.{arith}
+use Rattle.std.specs.Option.{option_and_then, option_or}
+use Rattle.std.proofs.lemmas.Bool.Decides.{nat_tests}
+use Rattle.hc_event.specs.declared.event.Event.{Event}
+use Rattle.hc_event.specs.declared.event.Event.TheVariants as event
+use Rattle.hc_event.specs.declared.event.Response.{Response}
+use Rattle.hc_rules.specs.declared.heads.HeadCase.{HeadCase}
+use Rattle.hc_rules.specs.declared.heads.HeadCase.TheVariants as case
+use Rattle.hc_rules.proofs.RangeReads.{bytes_eq-same, same_bytes}
+use Rattle.hc_model.specs.declared.place.Place.{Place}
+use Rattle.hc_model.specs.declared.place.Place.TheVariants as place
+use Rattle.hc_model.specs.declared.place.BoundBy.{BoundBy}
+use Rattle.hc_model.specs.Cases.{case_at}
+use Rattle.hc_model.specs.Currents.{current, is_usable, is_number, is_current}
+use Rattle.hc_model.specs.Dooms.{doomed, doomed_in, doomed_by_head, doomed_by_case, doomed_if, changes, is_key}
+use Rattle.hc_model.specs.Entries.{Entry}
+use Rattle.hc_model.specs.Exchanges.{family, is_open}
+use Rattle.hc_model.specs.Keys.{key_of, is_of_key, key_of_exchange, ExchangeKeys, ConsumerKeys}
+use Rattle.hc_model.specs.Reading.{own_open, if_open, shared, writing_in, is_written, source, is_bound, is_bound_place}
+use Rattle.hc_model.specs.Rows.{Tables, Exchange, Representation, Consumer}
+use Rattle.hc_model.specs.Sound.{IsBound}
+use Rattle.hc_model.specs.Sound as sound
+use Rattle.hc_model.proofs.PieceKeeps.{some_inj}
+use Rattle.hc_model.proofs.PollKeeps.{find_passes}
+
+-- WORDS
+
+pub not_true : (b : Bool) → (b ≡ true → ⊥) → b ≡ false
+not_true true h = absurd (h refl)
+not_true false h = refl
+
+pub and_left : (a b : Bool) → (a && b) ≡ true → a ≡ true
+and_left true b h = refl
+and_left false b h = h
+
+pub and_then : (a b : Bool) → (a && b) ≡ true → b ≡ true
+and_then true b h = h
+and_then false b h = absurd (let never : false ≡ true = h in cc)
+
+pub or_cases : (a b : Bool) → (a || b) ≡ true → (a ≡ true) ⊎ (b ≡ true)
+or_cases true b h = inl refl
+or_cases false b h = inr h
+
+pub eq_is : (a b : ℕ) → nat_eq a b ≡ true → a ≡ b
+eq_is a b h = grind (arith, nat_tests)
+
+pub number_is : (o : Option ℕ) (n : ℕ) → is_number o n ≡ true → o ≡ Some n
+number_is None n h = absurd (let never : false ≡ true = h in cc)
+number_is (Some m) n h = ap Some (eq_is m n h)
+
+pub key_is : (o : Option (List ℕ)) (key : List ℕ) → is_key o key ≡ true → o ≡ Some key
+key_is None key h = absurd (let never : false ≡ true = h in cc)
+key_is (Some k) key h = ap Some (same_bytes k key h)
+
+-- WHAT IS OF ANOTHER KEY
+
+-- the key isn't that of the event
+abbrev pub IsOther : Tables → Event → List ℕ → Type 0
+IsOther t ev key = is_of_key (key_of t ev) (Some key) ≡ false
+
+pub not_other : (t : Tables) (ev : Event) (key : List ℕ) → key_of t ev ≡ Some key → IsOther t ev key → ⊥
+not_other t ev key is other =
+    let yes : is_of_key (key_of t ev) (Some key) ≡ true = ap (λ o. is_of_key o (Some key)) is ∙ bytes_eq-same key key refl in
+    let no : true ≡ false = sym yes ∙ other in
+    cc
+
+-- DOOMS
+
+doomed_case : (c : Option HeadCase) (w : Exchange) (response : Response) (key : List ℕ) → doomed_by_case c w response ≡ Some key → w.request.key ≡ key
+doomed_case (Some case.DirectBad) w response key is = by_test (changes w response) is
+  where
+    by_test : (b : Bool) → doomed_if b w ≡ Some key → w.request.key ≡ key
+    by_test true h = some_inj _ key h
+    by_test false h = absurd (let never : None ≡ Some key = h in cc)
+doomed_case (Some case.DirectTaken) w response key is = by_test (changes w response) is
+  where
+    by_test : (b : Bool) → doomed_if b w ≡ Some key → w.request.key ≡ key
+    by_test true h = some_inj _ key h
+    by_test false h = absurd (let never : None ≡ Some key = h in cc)
+doomed_case _ w response key is = absurd (let never : None ≡ Some key = is in cc)
+
+-- what is doomed is the key of the event
+pub doomed_key : (t : Tables) (e : Entry) (key : List ℕ) → doomed t e ≡ Some key → key_of t e.event ≡ Some key
+unfolding doomed
+doomed_key t e key is = by_event e.event is
+  where
+    by_row : (x : ℕ) (response : Response) (o : Option Exchange) → t.exchange x ≡ o → doomed_by_head t e response o ≡ Some key → key_of_exchange t x ≡ Some key
+    by_row x response None row h = absurd (let never : None ≡ Some key = h in cc)
+    by_row x response (Some w) row h = rw row (ap Some (doomed_case (case_at t e) w response key h))
+
+    by_event : (ev : Event) → doomed_in t e ev ≡ Some key → key_of t ev ≡ Some key
+    by_event (event.Doom other) h = h
+    by_event (event.Head x response) h = by_row x response (t.exchange x) refl h
+    by_event _ h = absurd (let never : None ≡ Some key = h in cc)
+
+-- EXCHANGES AND THEIR REPRESENTATIONS
+
+-- the representation of an exchange is of its key
+pub family_key : (t : Tables) (x r : ℕ) (w : Exchange) (v : Representation) → ExchangeKeys t → t.exchange x ≡ Some w → family x w ≡ r → t.representation r ≡ Some v → v.key ≡ w.request.key
+family_key t x r w v keys row is there = by_joined w.joined refl is
+  where
+    by_joined : (o : Option ℕ) → w.joined ≡ o → unwrap_or o x ≡ r → v.key ≡ w.request.key
+    by_joined None joined h = keys.founded r w v (ap t.exchange (sym h) ∙ row) there
+    by_joined (Some q) joined h = keys.joined x r w v row (joined ∙ ap Some h) there
+
+-- what is current is of the key
+pub current_key : (t : Tables) (key : List ℕ) (r : ℕ) (v : Representation) → current t key ≡ Some r → t.representation r ≡ Some v → v.key ≡ key
+unfolding current
+current_key t key r v is row =
+    let passes : is_usable key (Some v) ≡ true = sym (ap (is_usable key) row) ∙ find_passes (λ q. is_usable key (t.representation q)) t.founded r is in
+    same_bytes v.key key (and_left _ _ passes)
+
+-- CONSUMERS AND WHAT THEY READ FROM
+
+own_is : (t : Tables) (k : Consumer) (x : ℕ) → own_open t k ≡ Some x → k.own ≡ Some x
+own_is t k x is = by_own k.own is
+  where
+    by_test : (y : ℕ) (b : Bool) → (if b then Some y else None) ≡ Some x → Some y ≡ Some x
+    by_test y true h = h
+    by_test y false h = absurd (let never : None ≡ Some x = h in cc)
+
+    by_own : (o : Option ℕ) → option_and_then (if_open t) o ≡ Some x → o ≡ Some x
+    by_own None h = absurd (let never : None ≡ Some x = h in cc)
+    by_own (Some y) h = by_test y (is_open (t.exchange y)) h
+
+module _ (t : Tables) (c : ℕ) (k : Consumer) (exchanges : ExchangeKeys t) (consumers : ConsumerKeys t) (is_row : t.consumer c ≡ Some k) where
+  pub own_key : (x : ℕ) (w : Exchange) → own_open t k ≡ Some x → t.exchange x ≡ Some w → w.request.key ≡ k.request.key
+  own_key x w is row = consumers.own c x k w is_row (own_is t k x is) row
+
+  pub bound_key : (r lo : ℕ) (hi : Option ℕ) (how : BoundBy) (v : Representation) → k.place ≡ place.Bound r lo hi how → t.representation r ≡ Some v → v.key ≡ k.request.key
+  bound_key r lo hi how v at row = consumers.bound r c k v (sound.is_bound lo hi how is_row at) row
+
+  pub shared_key : (place : Place) (x : ℕ) (w : Exchange) → k.place ≡ place → shared t place ≡ Some x → t.exchange x ≡ Some w → w.request.key ≡ k.request.key
+  shared_key (place.Bound r lo hi how) x w at is row = by_row (t.representation r) refl is
+    where
+      by_test : (v : Representation) (b : Bool) → (if b then v.writer else None) ≡ Some x → v.writer ≡ Some x
+      by_test v true h = h
+      by_test v false h = absurd (let never : None ≡ Some x = h in cc)
+
+      by_row : (o : Option Representation) → t.representation r ≡ o → writing_in t o ≡ Some x → w.request.key ≡ k.request.key
+      by_row None there h = absurd (let never : None ≡ Some x = h in cc)
+      by_row (Some v) there h =
+          let writes : v.writer ≡ Some x = by_test v (is_written t v) h in
+          sym (exchanges.writers r x w v there writes row) ∙ bound_key r lo hi how v at there
+  shared_key _ x w at is row = absurd (let never : None ≡ Some x = is in cc)
+
+  -- what it reads from is of its key
+  pub source_key : (x : ℕ) (w : Exchange) → source t k ≡ Some x → t.exchange x ≡ Some w → w.request.key ≡ k.request.key
+  source_key x w is row = by_own (own_open t k) refl is
+    where
+      by_own : (o : Option ℕ) → own_open t k ≡ o → option_or o (shared t k.place) ≡ Some x → w.request.key ≡ k.request.key
+      by_own None own h = shared_key k.place x w refl h row
+      by_own (Some y) own h = own_key x w (own ∙ h) row
+
+  -- what is near it is of its key
+  pub near_key : (r : ℕ) (v : Representation) → t.representation r ≡ Some v → (is_bound r (Some k) || is_current t k.request.key r) ≡ true → v.key ≡ k.request.key
+  near_key r v row near = elim (or_cases _ _ near) [
+    | inl bound ↦ by_place k.place refl bound
+    | inr now ↦ current_key t k.request.key r v (number_is _ r now) row
+  ]
+    where
+      by_place : (place : Place) → k.place ≡ place → is_bound_place r place ≡ true → v.key ≡ k.request.key
+      by_place (place.Bound q lo hi how) at h = bound_key r lo hi how v (at ∙ ap (λ n. place.Bound n lo hi how) (eq_is q r h)) row
+      by_place _ at h = absurd (let never : false ≡ true = h in cc)

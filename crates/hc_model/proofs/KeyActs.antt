@@ -36,7 +36,7 @@ use Rattle.hc_model.specs.Writes.{written, written_in, head_writes, may_validate
 use Rattle.hc_model.proofs.ActParts.{IsAnswer, IsSaid, IsFarFrom, AllPass, answer_is, said_is, asks_evicted, asks_closed, asks_closes, asks_lost, asks_loss, closes_evicted, closes_lost, closes_before, closes_filter, loses_evicted, loses_closed, loses_before, evicts_closes, evicts_lost, evicts_closed, evicts_all, said_closes, far_loss, far_lost_only, far_closing, far_closed, far_evicted, far_said, leaver_lost}
 use Rattle.hc_model.proofs.ActParts as parts
 use Rattle.hc_model.proofs.HoleLemmas.{bool_cases}
-use Rattle.hc_model.proofs.KeyNames.{not_true, and_left, and_then, or_cases, eq_is, number_is, key_is, IsOther, not_other, doomed_key, family_key, own_key, shared_key, source_key, near_key}
+use Rattle.hc_model.proofs.KeyNames.{aims_key, writer_key, not_true, and_left, and_then, or_cases, eq_is, number_is, key_is, IsOther, not_other, doomed_key, family_key, own_key, shared_key, source_key, near_key}
 use Rattle.hc_model.proofs.PieceKeeps.{eq_cases, some_inj}
 use Rattle.hc_model.proofs.PollKeys.{IsNear}
 use Rattle.hc_model.proofs.PollKeys as polls
@@ -55,7 +55,7 @@ asks_move x t c k _ rest polls.nothing other = refl
 asks_move x t c k _ rest (polls.waits wait) other = refl
 asks_move x t c k _ rest (polls.asks y from) other = rw (other y from) refl
 asks_move x t c k _ rest (polls.opens y n request same) other = refl
-asks_move x t c k _ rest (polls.shows r why head lo hi) other = refl
+asks_move x t c k _ rest (polls.shows r why head lo hi now) other = refl
 asks_move x t c k _ rest (polls.given run) other = refl
 asks_move x t c k _ rest polls.ends other = refl
 asks_move x t c k _ rest (polls.fails cause) other = refl
@@ -69,7 +69,7 @@ opens_move t c k _ rest o (polls.opens y n request same) none h = ap (λ (q : Op
 opens_move t c k _ rest o polls.nothing none h = absurd (none_some o (sym none ∙ h))
 opens_move t c k _ rest o (polls.waits wait) none h = absurd (none_some o (sym none ∙ h))
 opens_move t c k _ rest o (polls.asks y from) none h = absurd (none_some o (sym none ∙ h))
-opens_move t c k _ rest o (polls.shows r why head lo hi) none h = absurd (none_some o (sym none ∙ h))
+opens_move t c k _ rest o (polls.shows r why head lo hi now) none h = absurd (none_some o (sym none ∙ h))
 opens_move t c k _ rest o (polls.given run) none h = absurd (none_some o (sym none ∙ h))
 opens_move t c k _ rest o polls.ends none h = absurd (none_some o (sym none ∙ h))
 opens_move t c k _ rest o (polls.fails cause) none h = absurd (none_some o (sym none ∙ h))
@@ -195,7 +195,7 @@ module _ (limits : Limits) (t : Tables) (e : Entry) (flaw : Flaw) (exchanges : E
 
     head_cases : (x : ℕ) (w : Exchange) (a b : Bool) → t.exchange x ≡ Some w → (if a then Some x else if b then w.aim else None) ≡ Some r → v.key ≡ w.request.key
     head_cases x w true b row h = exchanges.founded r w v (ap t.exchange (sym (some_inj x r h)) ∙ row) there
-    head_cases x w false true row h = exchanges.aims x r w v row h there
+    head_cases x w false true row h = aims_key t x r w v exchanges row h there
     head_cases x w false false row h = absurd (none_some r h)
 
     head_row : (x : ℕ) (response : Response) (o : Option Exchange) → t.exchange x ≡ o → head_writes t (lossless e) x response o ≡ Some r → key_of_exchange t x ≡ Some v.key
@@ -244,7 +244,7 @@ module _ (limits : Limits) (t : Tables) (e : Entry) (flaw : Flaw) (exchanges : E
         let writes : v.writer ≡ Some x = number_is v.writer x (and_left _ _ both) in
         let losing = and_left _ _ (and_then (is_number v.writer x) (loses_writing t seen r v) both) in
         let now_lost : loses_in r (lost flaw) ≡ true = sym (said_closes x r t e.now e.event flaw asked_of (lost flaw) said_here).loses ∙ and_then _ _ losing in
-        not_it (body_lost r v there (and_left _ _ losing) now_lost ∙ ap Some (exchanges.writers r x w v there writes row))
+        not_it (body_lost r v there (and_left _ _ losing) now_lost ∙ ap Some (writer_key t r x w v exchanges there writes row))
 
     left_by : (c : ℕ) (o : Option Consumer) → t.consumer c ≡ o → ((k : Consumer) → t.consumer c ≡ Some k → key_of t e.event ≡ Some k.request.key) → is_left_by t x c o ≡ true → ⊥
     left_by c None is_row of_key h = let never : false ≡ true = h in cc

@@ -18,11 +18,12 @@ use Rattle.hc_model.specs.Currents.{current, is_usable, is_number, is_current}
 use Rattle.hc_model.specs.Dooms.{doomed, doomed_in, doomed_by_head, doomed_by_case, doomed_if, changes, is_key}
 use Rattle.hc_model.specs.Entries.{Entry}
 use Rattle.hc_model.specs.Exchanges.{family, is_open}
-use Rattle.hc_model.specs.Keys.{key_of, is_of_key, key_of_exchange, ExchangeKeys, ConsumerKeys}
+use Rattle.hc_model.specs.Keys.{HasRow, key_of, is_of_key, key_of_exchange, ExchangeKeys, ConsumerKeys}
 use Rattle.hc_model.specs.Reading.{own_open, if_open, shared, writing_in, is_written, source, is_bound, is_bound_place}
 use Rattle.hc_model.specs.Rows.{Tables, Exchange, Representation, Consumer}
 use Rattle.hc_model.specs.Sound.{IsBound}
 use Rattle.hc_model.specs.Sound as sound
+use Rattle.hc_model.proofs.Pens.{same_row}
 use Rattle.hc_model.proofs.PieceKeeps.{some_inj}
 use Rattle.hc_model.proofs.PollKeeps.{find_passes}
 
@@ -98,13 +99,30 @@ doomed_key t e key is = by_event e.event is
 
 -- EXCHANGES AND THEIR REPRESENTATIONS
 
+-- what has a row of a key is of that key
+pub of_row : (t : Tables) (r : ℕ) (key : List ℕ) (v : Representation) → HasRow t r key → t.representation r ≡ Some v → v.key ≡ key
+of_row t r key v has row = ap (λ (u : Representation). u.key) (same_row (t.representation r) v has.0 row has.1) ∙ has.2
+
+pub aims_key : (t : Tables) (x r : ℕ) (w : Exchange) (v : Representation) → ExchangeKeys t → t.exchange x ≡ Some w → w.aim ≡ Some r → t.representation r ≡ Some v → v.key ≡ w.request.key
+aims_key t x r w v keys row is there = of_row t r w.request.key v (keys.aims x r w row is) there
+
+pub writer_key : (t : Tables) (r x : ℕ) (w : Exchange) (v : Representation) → ExchangeKeys t → t.representation r ≡ Some v → v.writer ≡ Some x → t.exchange x ≡ Some w → v.key ≡ w.request.key
+writer_key t r x w v keys there is row =
+    let h = keys.writers r x v there is in
+    h.2 ∙ ap (λ (u : Exchange). u.request.key) (same_row (t.exchange x) h.0 w h.1 row)
+
+pub opener_key : (t : Tables) (x : ℕ) (w : Exchange) (k : Consumer) → ExchangeKeys t → t.exchange x ≡ Some w → t.consumer w.c ≡ Some k → w.request.key ≡ k.request.key
+opener_key t x w k keys row is =
+    let h = keys.opener x w row in
+    h.2 ∙ ap (λ (u : Consumer). u.request.key) (same_row (t.consumer w.c) h.0 k h.1 is)
+
 -- the representation of an exchange is of its key
 pub family_key : (t : Tables) (x r : ℕ) (w : Exchange) (v : Representation) → ExchangeKeys t → t.exchange x ≡ Some w → family x w ≡ r → t.representation r ≡ Some v → v.key ≡ w.request.key
 family_key t x r w v keys row is there = by_joined w.joined refl is
   where
     by_joined : (o : Option ℕ) → w.joined ≡ o → unwrap_or o x ≡ r → v.key ≡ w.request.key
     by_joined None joined h = keys.founded r w v (ap t.exchange (sym h) ∙ row) there
-    by_joined (Some q) joined h = keys.joined x r w v row (joined ∙ ap Some h) there
+    by_joined (Some q) joined h = of_row t r w.request.key v (keys.joined x r w row (joined ∙ ap Some h)) there
 
 -- what is current is of the key
 pub current_key : (t : Tables) (key : List ℕ) (r : ℕ) (v : Representation) → current t key ≡ Some r → t.representation r ≡ Some v → v.key ≡ key
@@ -128,10 +146,12 @@ own_is t k x is = by_own k.own is
 
 module _ (t : Tables) (c : ℕ) (k : Consumer) (exchanges : ExchangeKeys t) (consumers : ConsumerKeys t) (is_row : t.consumer c ≡ Some k) where
   pub own_key : (x : ℕ) (w : Exchange) → own_open t k ≡ Some x → t.exchange x ≡ Some w → w.request.key ≡ k.request.key
-  own_key x w is row = consumers.own c x k w is_row (own_is t k x is) row
+  own_key x w is row =
+      let h = consumers.own c x k is_row (own_is t k x is) in
+      ap (λ (u : Exchange). u.request.key) (same_row (t.exchange x) w h.0 row h.1) ∙ h.2
 
   pub bound_key : (r lo : ℕ) (hi : Option ℕ) (how : BoundBy) (v : Representation) → k.place ≡ place.Bound r lo hi how → t.representation r ≡ Some v → v.key ≡ k.request.key
-  bound_key r lo hi how v at row = consumers.bound r c k v (sound.is_bound lo hi how is_row at) row
+  bound_key r lo hi how v at row = of_row t r k.request.key v (consumers.bound r c k (sound.is_bound lo hi how is_row at)) row
 
   pub shared_key : (place : Place) (x : ℕ) (w : Exchange) → k.place ≡ place → shared t place ≡ Some x → t.exchange x ≡ Some w → w.request.key ≡ k.request.key
   shared_key (place.Bound r lo hi how) x w at is row = by_row (t.representation r) refl is
@@ -144,7 +164,7 @@ module _ (t : Tables) (c : ℕ) (k : Consumer) (exchanges : ExchangeKeys t) (con
       by_row None there h = absurd (let never : None ≡ Some x = h in cc)
       by_row (Some v) there h =
           let writes : v.writer ≡ Some x = by_test v (is_written t v) h in
-          sym (exchanges.writers r x w v there writes row) ∙ bound_key r lo hi how v at there
+          sym (writer_key t r x w v exchanges there writes row) ∙ bound_key r lo hi how v at there
   shared_key _ x w at is row = absurd (let never : None ≡ Some x = is in cc)
 
   -- what it reads from is of its key

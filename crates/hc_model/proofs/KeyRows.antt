@@ -30,7 +30,7 @@ use Rattle.hc_model.specs.StartingOver.{starts_over, sends_back, loses_what_it_w
 use Rattle.hc_model.specs.Writers.{loses_writing}
 use Rattle.hc_model.proofs.ActParts.{IsFarFrom}
 use Rattle.hc_model.proofs.HoleLemmas.{bool_cases}
-use Rattle.hc_model.proofs.KeyNames.{not_true, and_left, and_then, or_cases, eq_is, number_is, key_is, IsOther, not_other, doomed_key, family_key, current_key, source_key, bound_key}
+use Rattle.hc_model.proofs.KeyNames.{aims_key, opener_key, of_row, not_true, and_left, and_then, or_cases, eq_is, number_is, key_is, IsOther, not_other, doomed_key, family_key, current_key, source_key, bound_key}
 use Rattle.hc_model.proofs.PieceKeeps.{eq_cases, some_inj}
 
 -- WORDS
@@ -124,7 +124,7 @@ module _ (t : Tables) (e : Entry) (exchanges : ExchangeKeys t) (consumers : Cons
     head_stays : (x : ℕ) (response : Response) (o : Option Exchange) → key_of t e.event ≡ key_of_exchange t x → t.exchange x ≡ o → headed t e r x response o v ≡ v
     head_stays x response None of_key row = refl
     head_stays x response (Some w) of_key row = stays_if (updates t e r w v) _ (λ h.
-        not_ours x w of_key row (exchanges.aims x r w v row (number_is w.aim r (and_then _ _ (and_left _ _ h))) there))
+        not_ours x w of_key row (aims_key t x r w v exchanges row (number_is w.aim r (and_then _ _ (and_left _ _ h))) there))
 
     piece_stays : (x : ℕ) (bytes : List ℕ) (o : Option Exchange) → key_of t e.event ≡ key_of_exchange t x → t.exchange x ≡ o → pieced e r x bytes o v ≡ v
     piece_stays x bytes None of_key row = refl
@@ -161,7 +161,7 @@ module _ (t : Tables) (e : Entry) (exchanges : ExchangeKeys t) (consumers : Cons
     by_exchange : (x : ℕ) (o : Option Exchange) → key_of t e.event ≡ key_of_exchange t x → t.exchange x ≡ o → goes_by_exchange t e r o ≡ true → ⊥
     by_exchange x None of_key row h = let never : false ≡ true = h in cc
     by_exchange x (Some w) of_key row h = elim (by_case (case_at t e) w h) [
-      | inl aims ↦ not_ours x w of_key row (exchanges.aims x r w v row aims there)
+      | inl aims ↦ not_ours x w of_key row (aims_key t x r w v exchanges row aims there)
       | inr now ↦ not_ours x w of_key row (current_key t w.request.key r v (number_is _ r now) there)
     ]
 
@@ -211,7 +211,7 @@ module _ (t : Tables) (e : Entry) (exchanges : ExchangeKeys t) (consumers : Cons
 
     not_mine : (x : ℕ) (w : Exchange) → key_of t e.event ≡ key_of_exchange t x → t.exchange x ≡ Some w → nat_eq w.c c ≡ true → ⊥
     not_mine x w of_key row h =
-        let same = exchanges.opener x w k row (ap t.consumer (eq_is w.c c h) ∙ is_row) in
+        let same = opener_key t x w k exchanges row (ap t.consumer (eq_is w.c c h) ∙ is_row) in
         not_other t e.event k.request.key (of_key ∙ (exchange_key x w row ∙ ap Some same)) other
 
     keeps_if : (b : Bool) (u : Consumer) → (b ≡ true → ⊥) → (if b then u else k) ≡ k
@@ -340,7 +340,7 @@ module _ (t : Tables) (e : Entry) (exchanges : ExchangeKeys t) (consumers : Cons
       | inr none ↦ sym none
       | inl gone ↦ absurd (none_some _ (sym there ∙ (far.evicted r gone).1))
     ]
-    goes_row r kept (Some v) at there = going_row r v there (consumers.passed r c kept k v is_row at there)
+    goes_row r kept (Some v) at there = going_row r v there (of_row t r k.request.key v (consumers.passed r c kept k is_row at) there)
 
     waits_for : (place : Place) → k.place ≡ place → loses_what_it_waits_for t e c place ≡ loses e.acts place
     waits_for (place.Passed r kept) at = rw said.fails (and_yes _ ∙ goes_row r kept (t.representation r) at refl)

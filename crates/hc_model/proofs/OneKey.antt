@@ -1,9 +1,11 @@
 -- The law of one key: an entry of a run changes what is said of its own key, and else only how much is idle.
-use Rattle.std.proofs.Common.{◌≡◌, ℕ, length, true, false, Option, Some, None, refl, ap, sym, ◌∙◌}
+use Rattle.std.proofs.Common.{◌≡◌, Bool, ℕ, length, true, false, Option, Some, None, refl, ap, sym, ◌∙◌}
+use Rattle.std.specs.Prelude.{if◌then◌else◌, ◌==◌, ◌&&◌}
 use Rattle.std.specs.Option.{option_map}
-use Rattle.hc_event.specs.Filters.{evicts_in, is_denied}
+use Rattle.hc_event.specs.Filters.{Opening, opening_in, evicts_in, is_denied}
 use Rattle.hc_event.specs.declared.event.Event.{Event}
 use Rattle.hc_event.specs.declared.event.Event.TheVariants as event
+use Rattle.hc_event.specs.declared.event.Response.{Response}
 use Rattle.hc_rules.specs.Refusals as refusals
 use Rattle.hc_rules.specs.Refusals.{head_refusal, piece_refusal, end_refusal, fault_refusal}
 use Rattle.hc_rules.specs.declared.room.Limits.{Limits}
@@ -12,7 +14,10 @@ use Rattle.hc_model.specs.Entries.{Entry}
 use Rattle.hc_model.specs.Exchanges.{exchange_in}
 use Rattle.hc_model.specs.Flaws.{flaw_in}
 use Rattle.hc_model.specs.Keys.{key_of, is_of_key, concerns_exchange, concerns_representation, concerns_consumer, ExchangeKeys, ConsumerKeys, IsEvicted, LawOfOneKey}
-use Rattle.hc_model.specs.RepresentationRows.{representation_after}
+use Rattle.hc_model.specs.ExchangeRows.{exchange_after, exchange_made, exchange_opened}
+use Rattle.hc_model.specs.ConsumerRows.{consumer_after, consumer_made, started}
+use Rattle.hc_model.specs.Cases.{case_at, is_founding}
+use Rattle.hc_model.specs.RepresentationRows.{represented, founded_at, representation_after}
 use Rattle.hc_model.specs.Rows.{Tables, Exchange, Representation, Consumer}
 use Rattle.hc_model.specs.Runs.{IsOwed, may_stand, may_be}
 use Rattle.hc_model.proofs.KeyActs as acts
@@ -21,6 +26,9 @@ use Rattle.hc_model.proofs.KeyRows.{IsFarEntry, exchange_stays, representation_r
 use Rattle.hc_model.proofs.Once.{never}
 use Rattle.hc_model.proofs.Owed.{acts_are, goes}
 use Rattle.hc_model.proofs.PieceKeeps.{some_inj}
+
+none_some : {A : Type 0} (a : A) → None ≡ Some a → ⊥
+none_some a h = cc
 
 -- an accepted event of an exchange is of one that is there
 came : (o : Option Exchange) → (o ≡ None → ⊥) → (w : Exchange) × (o ≡ Some w)
@@ -72,10 +80,57 @@ module _ (limits : Limits) (t : Tables) (e : Entry) (exchanges : ExchangeKeys t)
         evicted = acts.evicted_row limits t e (flaw_in e.acts) exchanges consumers acts_is refl may;
       }
 
+  opened_key : (o : Opening) → opening_in e.acts ≡ Some o → key_of t e.event ≡ Some o.request.key
+  opened_key =
+      acts.opens_key limits t e (flaw_in e.acts) exchanges consumers (acts_are limits t e owed accepted) refl (may_of limits t e accepted owed.flaw)
+
   gone_row : (r : ℕ) → concerns_representation t e.event r ≡ false → evicts_in r e.acts ≡ true → IsEvicted (t.representation r) (representation_after t e r (t.representation r))
   gone_row r other gone =
       let row = far_entry.evicted r gone in
       evicted_is _ _ row.0 row.1 (representation_row t e exchanges consumers far_entry r row.0 row.1 (other_representation t e.event r row.0 row.1 other) true gone)
+
+  -- WHAT IS NEW
+
+  new_exchange : (x : ℕ) (w : Exchange) (o : Option Opening) → opening_in e.acts ≡ o → exchange_made t e x o ≡ Some w → key_of t e.event ≡ Some w.request.key
+  new_exchange x w None is made = absurd (none_some w made)
+  new_exchange x w (Some o) is made = by_test (o.x == x) made
+    where
+      by_test : (b : Bool) → (if b then Some (exchange_opened t e o) else None) ≡ Some w → key_of t e.event ≡ Some w.request.key
+      by_test true h = opened_key o is ∙ ap (λ (u : Exchange). Some u.request.key) (some_inj _ w h)
+      by_test false h = absurd (none_some w h)
+
+  exchange_new : (x : ℕ) (w : Exchange) (o : Option Exchange) → o ≡ None → exchange_after t e x o ≡ Some w → key_of t e.event ≡ Some w.request.key
+  unfolding exchange_after
+  exchange_new x w None is made = new_exchange x w (opening_in e.acts) refl made
+  exchange_new x w (Some u) is made = absurd (never u is)
+
+  founded_row : (x r : ℕ) (response : Response) (v : Representation) (b : Bool) (o : Option Exchange) → e.event ≡ event.Head x response → t.exchange x ≡ o → (if b then option_map (represented r e response) o else None) ≡ Some v → key_of t e.event ≡ Some v.key
+  founded_row x r response v false o at row made = absurd (none_some v made)
+  founded_row x r response v true None at row made = absurd (none_some v made)
+  founded_row x r response v true (Some w) at row made =
+      ap (key_of t) at ∙ (ap (option_map (λ (w : Exchange). w.request.key)) row ∙ ap (λ (u : Representation). Some u.key) (some_inj (represented r e response w) v made))
+
+  founded_key : (r : ℕ) (v : Representation) (ev : Event) → e.event ≡ ev → founded_at t e r ev ≡ Some v → key_of t e.event ≡ Some v.key
+  founded_key r v (event.Head x response) at made = founded_row x r response v (is_founding (case_at t e) && x == r) (t.exchange x) at refl made
+  founded_key r v _ at made = absurd (none_some v made)
+
+  representation_new : (r : ℕ) (v : Representation) (o : Option Representation) → o ≡ None → representation_after t e r o ≡ Some v → key_of t e.event ≡ Some v.key
+  unfolding representation_after
+  representation_new r v None is made = founded_key r v e.event refl made
+  representation_new r v (Some u) is made = absurd (never u is)
+
+  started_key : (c : ℕ) (k : Consumer) (ev : Event) → e.event ≡ ev → consumer_made c e.now ev ≡ Some k → key_of t e.event ≡ Some k.request.key
+  started_key c k (event.Start d request) at made = by_test (d == c) made
+    where
+      by_test : (b : Bool) → (if b then Some (started e.now request) else None) ≡ Some k → key_of t e.event ≡ Some k.request.key
+      by_test true h = ap (key_of t) at ∙ ap (λ (u : Consumer). Some u.request.key) (some_inj (started e.now request) k h)
+      by_test false h = absurd (none_some k h)
+  started_key c k _ at made = absurd (none_some k made)
+
+  consumer_new : (c : ℕ) (k : Consumer) (o : Option Consumer) → o ≡ None → consumer_after t e c o ≡ Some k → key_of t e.event ≡ Some k.request.key
+  unfolding consumer_after
+  consumer_new c k None is made = started_key c k e.event refl made
+  consumer_new c k (Some u) is made = absurd (never u is)
 
 pub law_of_one_key : LawOfOneKey
 law_of_one_key limits t e exchanges consumers owed accepted =
@@ -86,4 +141,7 @@ law_of_one_key limits t e exchanges consumers owed accepted =
       evicted = λ r other gone. gone_row limits t e exchanges consumers owed accepted r other gone;
       consumers = λ c k row other stays. consumer_row t e exchanges consumers far c k row (other_consumer t e.event c k row other) false stays;
       losers = λ c k row other over. consumer_row t e exchanges consumers far c k row (other_consumer t e.event c k row other) true over;
+      new_exchanges = λ x w none made. exchange_new limits t e exchanges consumers owed accepted x w (t.exchange x) none made;
+      new_representations = λ r v none made. representation_new limits t e exchanges consumers owed accepted r v (t.representation r) none made;
+      new_consumers = λ c k none made. consumer_new limits t e exchanges consumers owed accepted c k (t.consumer c) none made;
     }

@@ -1,5 +1,5 @@
 -- What a poll asks for and opens is of its consumer's key.
-use Rattle.std.proofs.Common.{◌≡◌, inl, inr, ℕ, Bool, true, false, cond, Option, Some, None, refl, subst}
+use Rattle.std.proofs.Common.{◌≡◌, inl, inr, ℕ, Bool, true, false, cond, Option, Some, None, refl, ap, sym, ◌∙◌, subst}
 use Rattle.std.specs.Prelude.{if◌then◌else◌}
 use Rattle.std.specs.Option.{option_and_then}
 use Rattle.hc_range.specs.declared.range.Span.{Span}
@@ -25,7 +25,7 @@ use Rattle.hc_model.specs.declared.place.BoundBy.{BoundBy}
 use Rattle.hc_model.specs.declared.place.BoundBy.TheVariants as by
 use Rattle.hc_model.specs.Rows.{Tables, Exchange, Representation, Consumer}
 use Rattle.hc_model.specs.Currents.{current}
-use Rattle.hc_model.specs.Reading.{hi_of, own_open, source}
+use Rattle.hc_model.specs.Reading.{reads, hi_of, own_open, source}
 use Rattle.hc_model.specs.Moves as moves
 use Rattle.hc_model.specs.Moves.{Move, Nothing, Asks, Opens, Shows, Gives, Ends, Fails, opens_hole, shows_stored, gives, waits_for}
 use Rattle.hc_model.specs.Planning.{plan_view, plan_move, planned, fetched, conditional_on, current_row, binds_current}
@@ -41,15 +41,19 @@ pub data IsNear (t : Tables) (k : Consumer) : Move → Type 0 where
   waits : (wait : Wait) → IsNear t k (moves.Waits wait)
   asks : (x : ℕ) → source t k ≡ Some x → IsNear t k (Asks x)
   opens : (x : ℕ) (n : Need) (request : Request) → request.key ≡ k.request.key → IsNear t k (Opens x n request)
-  shows : (r : ℕ) (why : Why) (head : Response) (lo : ℕ) (hi : Option ℕ) → IsNear t k (Shows r why head lo hi)
+  shows : (r : ℕ) (why : Why) (head : Response) (lo : ℕ) (hi : Option ℕ) → (reads k.place ≡ false → current t k.request.key ≡ Some r) → IsNear t k (Shows r why head lo hi)
   given : (run : Run) → IsNear t k (Gives run)
   ends : IsNear t k Ends
   fails : (cause : Cause) → IsNear t k (Fails cause)
 
 module _ (t : Tables) (c : ℕ) (k : Consumer) where
-  near_stored : (r : ℕ) (why : Why) (ranged : Bool) (lo : ℕ) (hi : Option ℕ) (o : Option Representation) → IsNear t k (shows_stored r why ranged lo hi o)
-  near_stored r why ranged lo hi None = nothing
-  near_stored r why ranged lo hi (Some v) = shows r why _ lo hi
+  near_stored : (r : ℕ) (why : Why) (ranged : Bool) (lo : ℕ) (hi : Option ℕ) (o : Option Representation) → (reads k.place ≡ false → current t k.request.key ≡ Some r) → IsNear t k (shows_stored r why ranged lo hi o)
+  near_stored r why ranged lo hi None now = nothing
+  near_stored r why ranged lo hi (Some v) now = shows r why _ lo hi now
+
+  -- who reads already
+  reading_already : {A : Type 0} (place : Place) → k.place ≡ place → reads place ≡ true → reads k.place ≡ false → A
+  reading_already place at there none = absurd (let never : true ≡ false = sym there ∙ (ap reads (sym at) ∙ none) in cc)
 
   near_hole : (o : Option Representation) (hole : Span) → IsNear t k (opens_hole t k.request o hole)
   near_hole None hole = nothing
@@ -118,16 +122,16 @@ module _ (t : Tables) (c : ℕ) (k : Consumer) where
   fetched_key (need.Hole from to) = refl
   fetched_key need.Unsatisfied = refl
 
-  near_binds : (why : Why) (span : Option Span) (o : Option ℕ) → IsNear t k (binds_current t k why span o)
-  near_binds why span None = nothing
-  near_binds why None (Some r) = near_stored r why _ _ _ (t.representation r)
-  near_binds why (Some span) (Some r) = near_stored r why _ span.lo (Some span.hi) (t.representation r)
+  near_binds : (why : Why) (span : Option Span) (o : Option ℕ) → current t k.request.key ≡ o → IsNear t k (binds_current t k why span o)
+  near_binds why span None now = nothing
+  near_binds why None (Some r) now = near_stored r why _ _ _ (t.representation r) (λ _. now)
+  near_binds why (Some span) (Some r) now = near_stored r why _ span.lo (Some span.hi) (t.representation r) (λ _. now)
 
   near_plan : (p : Plan) → IsNear t k (plan_move t k p)
   near_plan (plan.Direct n) = opens _ n _ refl
   near_plan (plan.Turn d) = waits _
   near_plan (plan.Fetch n) = opens _ n _ (fetched_key n)
-  near_plan (plan.Bind why span) = near_binds why span (current t k.request.key)
+  near_plan (plan.Bind why span) = near_binds why span (current t k.request.key) refl
   near_plan (plan.FirstHole span hole) = near_hole (current_row t k) hole
   near_plan (plan.Busy d kept) = waits _
   near_plan plan.Miss = fails _
@@ -142,30 +146,30 @@ module _ (t : Tables) (c : ℕ) (k : Consumer) where
   near_waits None n is = absurd (let never : None ≡ Some n = is in cc)
   near_waits (Some x) n is = subst (IsNear t k) (some_inj _ n is) (waits _)
 
-  near_answer : (x : ℕ) (w : Exchange) (o : Option Response) (n : Move) → shows_answer t x w o ≡ Some n → IsNear t k n
-  near_answer x w None n is = absurd (let never : None ≡ Some n = is in cc)
-  near_answer x w (Some response) n is = subst (IsNear t k) (some_inj _ n is) (shows _ _ _ _ _)
+  near_answer : (x : ℕ) (w : Exchange) (o : Option Response) (n : Move) → k.place ≡ place.Direct x → shows_answer t x w o ≡ Some n → IsNear t k n
+  near_answer x w None n at is = absurd (let never : None ≡ Some n = is in cc)
+  near_answer x w (Some response) n at is = subst (IsNear t k) (some_inj _ n is) (shows _ _ _ _ _ (reading_already (place.Direct x) at refl))
 
-  near_direct : (x : ℕ) (o : Option Exchange) (n : Move) → shows_direct t x o ≡ Some n → IsNear t k n
-  near_direct x None n is = absurd (let never : None ≡ Some n = is in cc)
-  near_direct x (Some w) n is = near_answer x w w.head n is
+  near_direct : (x : ℕ) (o : Option Exchange) (n : Move) → k.place ≡ place.Direct x → shows_direct t x o ≡ Some n → IsNear t k n
+  near_direct x None n at is = absurd (let never : None ≡ Some n = is in cc)
+  near_direct x (Some w) n at is = near_answer x w w.head n at is
 
-  near_bound : (r lo : ℕ) (hi : Option ℕ) (how : BoundBy) (n : Move) → shows_bound t k r lo hi how ≡ Some n → IsNear t k n
-  near_bound r lo hi by.Founding n is = subst (IsNear t k) (some_inj _ n is) (near_stored r _ _ lo hi (t.representation r))
-  near_bound r lo hi (by.FirstHole y) n is = elim (bool_cases (has_joined (t.exchange y))) [
-    | inl joined ↦ subst (IsNear t k) (some_inj _ n (rw joined at is)) (near_stored r _ _ lo hi (t.representation r))
+  near_bound : (r lo : ℕ) (hi : Option ℕ) (how : BoundBy) (n : Move) → reads k.place ≡ true → shows_bound t k r lo hi how ≡ Some n → IsNear t k n
+  near_bound r lo hi by.Founding n there is = subst (IsNear t k) (some_inj _ n is) (near_stored r _ _ lo hi (t.representation r) (reading_already k.place refl there))
+  near_bound r lo hi (by.FirstHole y) n there is = elim (bool_cases (has_joined (t.exchange y))) [
+    | inl joined ↦ subst (IsNear t k) (some_inj _ n (rw joined at is)) (near_stored r _ _ lo hi (t.representation r) (reading_already k.place refl there))
     | inr not_joined ↦ absurd (let never : None ≡ Some n = rw not_joined at is in cc)
   ]
-  near_bound r lo hi by.Plan n is = absurd (let never : None ≡ Some n = is in cc)
+  near_bound r lo hi by.Plan n there is = absurd (let never : None ≡ Some n = is in cc)
 
-  near_at : (place : Place) (n : Move) → shows_at t k place ≡ Some n → IsNear t k n
-  near_at (place.Bound r lo hi how) n is = near_bound r lo (hi_of t k.place) how n is
-  near_at (place.Direct x) n is = near_direct x (t.exchange x) n is
-  near_at _ n is = absurd (let never : None ≡ Some n = is in cc)
+  near_at : (place : Place) (n : Move) → k.place ≡ place → shows_at t k place ≡ Some n → IsNear t k n
+  near_at (place.Bound r lo hi how) n at is = near_bound r lo (hi_of t k.place) how n (ap reads at) is
+  near_at (place.Direct x) n at is = near_direct x (t.exchange x) n at is
+  near_at _ n at is = absurd (let never : None ≡ Some n = is in cc)
 
   near_head : (b : Bool) (n : Move) → cond b None (shows_at t k k.place) ≡ Some n → IsNear t k n
   near_head true n is = absurd (let never : None ≡ Some n = is in cc)
-  near_head false n is = near_at k.place n is
+  near_head false n is = near_at k.place n refl is
 
   -- ALL MOVES
 

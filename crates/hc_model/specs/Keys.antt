@@ -1,4 +1,5 @@
--- The law of one key: an accepted event changes what is said of its own key, and else only how much is idle.
+-- The law of one key: an accepted event changes what is said of its own key, and else only how much
+-- is idle.
 use Rattle.std.specs.Prelude.{◌≡◌, ℕ, List, Bool, false, true, Option, Some, None}
 use Rattle.std.specs.Option.{option_map}
 use Rattle.hc_event.specs.Filters.{evicts_in, is_denied}
@@ -8,16 +9,17 @@ use Rattle.hc_event.specs.declared.act.Act.{Act}
 use Rattle.hc_rules.specs.declared.room.Limits.{Limits}
 use Rattle.hc_model.specs.declared.place.Place.{Place}
 use Rattle.hc_model.specs.declared.place.Place.TheVariants as place
-use Rattle.hc_model.specs.Entries.{Entry}
+use Rattle.hc_model.specs.Entries.{Entry, Contents}
 use Rattle.hc_model.specs.Flaws.{Flaw}
 use Rattle.hc_model.specs.Rows.{Tables, Exchange, Representation, Consumer}
 use Rattle.hc_model.specs.Dooms.{is_key}
-use Rattle.hc_model.specs.Tables.{after_accepted}
+use Rattle.hc_model.specs.Tables.{after_accepted, begun}
+use Rattle.hc_model.specs.Denials.{denial}
 use Rattle.hc_model.specs.Answers.{accepted}
 use Rattle.hc_model.specs.Reading.{reads}
 use Rattle.hc_model.specs.ConsumerRows.{back_in_line}
 use Rattle.hc_model.specs.Runs.{IsOwed}
-use Rattle.hc_model.specs.Sound.{IsBound}
+use Rattle.hc_model.specs.Sound.{Sound, IsBound}
 
 -- THE KEY OF AN EVENT
 
@@ -58,28 +60,30 @@ concerns_consumer t event c = is_of_key (key_of t event) (key_of_consumer t c)
 
 -- WHAT IS OF ONE KEY
 
--- an exchange, its consumer, and the representations that it is about and joined
+-- what it names has a row of this key
+abbrev pub HasRow : Tables → ℕ → List ℕ → Type 0
+HasRow t r key = (v : Representation) × (t.representation r ≡ Some v) × (v.key ≡ key)
+
+-- an exchange, its consumer, and the representations that it is about, joined, founded and writes
 pub record ExchangeKeys (t : Tables) : Type 0 where
-  pub opener : (x : ℕ) (w : Exchange) (k : Consumer) → t.exchange x ≡ Some w →
-      t.consumer w.c ≡ Some k → w.request.key ≡ k.request.key
-  pub aims : (x r : ℕ) (w : Exchange) (v : Representation) → t.exchange x ≡ Some w →
-      w.aim ≡ Some r → t.representation r ≡ Some v → v.key ≡ w.request.key
-  pub joined : (x r : ℕ) (w : Exchange) (v : Representation) → t.exchange x ≡ Some w →
-      w.joined ≡ Some r → t.representation r ≡ Some v → v.key ≡ w.request.key
+  pub opener : (x : ℕ) (w : Exchange) → t.exchange x ≡ Some w →
+      (k : Consumer) × (t.consumer w.c ≡ Some k) × (w.request.key ≡ k.request.key)
+  pub aims : (x r : ℕ) (w : Exchange) → t.exchange x ≡ Some w → w.aim ≡ Some r →
+      HasRow t r w.request.key
+  pub joined : (x r : ℕ) (w : Exchange) → t.exchange x ≡ Some w → w.joined ≡ Some r →
+      HasRow t r w.request.key
   pub founded : (r : ℕ) (w : Exchange) (v : Representation) → t.exchange r ≡ Some w →
       t.representation r ≡ Some v → v.key ≡ w.request.key
-  pub writers : (r x : ℕ) (w : Exchange) (v : Representation) → t.representation r ≡ Some v →
-      v.writer ≡ Some x → t.exchange x ≡ Some w → v.key ≡ w.request.key
+  pub writers : (r x : ℕ) (v : Representation) → t.representation r ≡ Some v →
+      v.writer ≡ Some x → (w : Exchange) × (t.exchange x ≡ Some w) × (v.key ≡ w.request.key)
 
 -- a consumer, its own exchange, and what it reads or waits for
 pub record ConsumerKeys (t : Tables) : Type 0 where
-  pub own : (c x : ℕ) (k : Consumer) (w : Exchange) → t.consumer c ≡ Some k → k.own ≡ Some x →
-      t.exchange x ≡ Some w → w.request.key ≡ k.request.key
-  pub bound : (r c : ℕ) (k : Consumer) (v : Representation) → IsBound t r c k →
-      t.representation r ≡ Some v → v.key ≡ k.request.key
-  pub passed : (r c : ℕ) (kept : Option ℕ) (k : Consumer) (v : Representation) →
-      t.consumer c ≡ Some k → k.place ≡ place.Passed r kept → t.representation r ≡ Some v →
-      v.key ≡ k.request.key
+  pub own : (c x : ℕ) (k : Consumer) → t.consumer c ≡ Some k → k.own ≡ Some x →
+      (w : Exchange) × (t.exchange x ≡ Some w) × (w.request.key ≡ k.request.key)
+  pub bound : (r c : ℕ) (k : Consumer) → IsBound t r c k → HasRow t r k.request.key
+  pub passed : (r c : ℕ) (kept : Option ℕ) (k : Consumer) → t.consumer c ≡ Some k →
+      k.place ≡ place.Passed r kept → HasRow t r k.request.key
   pub undue : (c : ℕ) (k : Consumer) → t.consumer c ≡ Some k → reads k.place ≡ false →
       k.due ≡ None
 
@@ -99,7 +103,8 @@ abbrev pub loses : List Act → Place → Bool
 loses acts (place.Passed r kept) = evicts_in r acts
 loses acts _ = false
 
--- The rows of other keys stay, where they stood before; but what makes room is gone, and who waits for it starts over.
+-- The rows of other keys stay; but what makes room is gone, and who waits for it starts over.
+-- What is new is of the event's key.
 pub record KeepsOthers (t u : Tables) (e : Entry) : Type 0 where
   pub exchanges : (x : ℕ) (w : Exchange) → t.exchange x ≡ Some w →
       concerns_exchange t e.event x ≡ false → u.exchange x ≡ Some w
@@ -114,8 +119,28 @@ pub record KeepsOthers (t u : Tables) (e : Entry) : Type 0 where
   pub losers : (c : ℕ) (k : Consumer) → t.consumer c ≡ Some k →
       concerns_consumer t e.event c ≡ false → loses e.acts k.place ≡ true →
       u.consumer c ≡ Some (back_in_line e.now k)
+  pub new_exchanges : (x : ℕ) (w : Exchange) → t.exchange x ≡ None → u.exchange x ≡ Some w →
+      key_of t e.event ≡ Some w.request.key
+  pub new_representations : (r : ℕ) (v : Representation) → t.representation r ≡ None →
+      u.representation r ≡ Some v → key_of t e.event ≡ Some v.key
+  pub new_consumers : (c : ℕ) (k : Consumer) → t.consumer c ≡ None → u.consumer c ≡ Some k →
+      key_of t e.event ≡ Some k.request.key
 
 abbrev pub LawOfOneKey : Type 0
 LawOfOneKey =
     (limits : Limits) (t : Tables) (e : Entry) → ExchangeKeys t → ConsumerKeys t →
     IsOwed limits t e → is_denied e.acts ≡ false → KeepsOthers t (after_accepted t e) e
+
+-- what is of one key stays so, after each accepted event, whatever the store loses
+pub record IsOfOneKey (t : Tables) : Type 0 where
+  pub exchanges : ExchangeKeys t
+  pub consumers : ConsumerKeys t
+
+abbrev pub KeysAreKept : Type 0
+KeysAreKept =
+    (limits : Limits) (t : Tables) (now : ℕ) (flaw : Flaw) → Sound t → IsOfOneKey t →
+    (event : Event) → denial t event ≡ None →
+    IsOfOneKey (after_accepted t (entry_of limits t now event flaw))
+
+abbrev pub KeysBegin : Type 0
+KeysBegin = (contents : Contents) → IsOfOneKey (begun contents)

@@ -36,3 +36,5 @@ pub mod ActParts
 pub mod KeyActs
 pub mod KeyRows
 pub mod OneKey
+pub mod KeysKeep
+pub mod KeysPlaces

@@ -1,7 +1,7 @@
 //! What holds of all runs, each as the contract of a function that does nothing.
 ghost use Rattle.hc_model.specs.Histories.{RunsAreFiltered};
 ghost use Rattle.hc_model.specs.Reads.{OneHeadIsShown};
-ghost use Rattle.hc_model.specs.Keys.{LawOfOneKey};
+ghost use Rattle.hc_model.specs.Keys.{LawOfOneKey, KeysAreKept, KeysBegin};
 ghost use Rattle.hc_model.specs.Laws.{SoundDeliversOnce, DeliveriesAreKept, BodiesAreKept, NumbersAreKept, NamesAreKept, OneCurrentIsKept, StoresAreKept, StartsAreSound, WholeIsWhole};
 
 /// Delivered once: where a piece is accepted, none of its positions has come; what shows this holds
@@ -54,7 +54,10 @@ pub fn columns_are_filters()
 {}
 
 /// The law of one key: an entry of a run changes nothing of exchanges, representations and consumers of
-/// other keys than that of its event; but what makes room is gone, and who waits for that starts over.
+/// other keys than that of its event, and what is new is of that key; but what makes room is gone, and who
+/// waits for that starts over. What is of one key is so from the beginning, and stays so.
 pub fn other_keys_stay()
-    ensures { LawOfOneKey }
+    ensures law { LawOfOneKey }
+    ensures kept { KeysAreKept }
+    ensures begin { KeysBegin }
 {}

@@ -84,7 +84,7 @@ module _ (limits : Limits) (t : Tables) (now : ℕ) (flaw : Flaw) (s : Sound t) 
       let piece : IsPiece t now x bytes (accepted limits t now (event.Piece x bytes) flaw) w = record { row = row; was_open = got.is_open; headed = got.headed; opens_none = told (event.Piece x bytes) } in
       record { waits = piece_waits t now x bytes _ w s piece; one_about = piece_one_about t now x bytes _ w s piece }
 
-  head_taken : (w : Exchange) → head_refusal (as_open (Some w)) ≡ None → (w.is_open ≡ true) × (w.head ≡ None)
+  pub head_taken : (w : Exchange) → head_refusal (as_open (Some w)) ≡ None → (w.is_open ≡ true) × (w.head ≡ None)
   head_taken w goes = let parts = head_by w.is_open (is_some w.head) w.asked (length w.body) (promised w) goes in (parts.0, no_head w.head parts.1)
 
   head_is : (x : ℕ) (response : Response) (o : Option Exchange) → t.exchange x ≡ o → head_refusal (as_open o) ≡ None → KeepsDeliveries (after_accepted t (owed_entry limits t now (event.Head x response) flaw))

@@ -38,3 +38,13 @@ pub mod KeyRows
 pub mod OneKey
 pub mod KeysKeep
 pub mod KeysPlaces
+pub mod BoundFrom
+pub mod PlanBy
+pub mod MoveBy
+pub mod Said
+pub mod ShownFrom
+pub mod RepFrom
+pub mod BoundKeeps
+pub mod OpensFrom
+pub mod FoundBy
+pub mod FirstKeeps

@@ -1,5 +1,5 @@
 -- What holds over all interleavings of events.
-use Rattle.std.specs.Prelude.{◌≡◌, ◌≢◌, ◌⊎◌, ◌<◌, ◌≤◌, ℕ, ◌+◌, ◌-◌, List, [], ◌∷◌, length, true, false, Option, Some, None, if◌then◌else◌, not, ◌&&◌, ◌==◌, find}
+use Rattle.std.specs.Prelude.{◌≡◌, ◌≢◌, ◌⊎◌, ◌<◌, ◌≤◌, ℕ, ◌+◌, ◌-◌, List, [], ◌∷◌, length, true, false, Option, Some, None, is_some, if◌then◌else◌, not, ◌&&◌, ◌==◌, find}
 use Rattle.hc_sparse.specs.Cells.{Cell, AreAbsent, Covers, size}
 use Rattle.hc_record.specs.declared.kind.Kind.TheVariants as kind
 use Rattle.hc_event.specs.Filters.{is_denied}
@@ -14,6 +14,7 @@ use Rattle.hc_rules.specs.Needs.{route_of}
 use Rattle.hc_rules.specs.Requests.{is_bypassing, is_disabled, is_only}
 use Rattle.hc_fresh.specs.Vary.{matches_vary}
 use Rattle.hc_model.specs.declared.place.Place.TheVariants as place
+use Rattle.hc_model.specs.declared.place.BoundBy.{BoundBy}
 use Rattle.hc_model.specs.Entries.{Entry, History, Content, Contents}
 use Rattle.hc_model.specs.Flaws.{Flaw}
 use Rattle.hc_model.specs.Rows.{Tables, Exchange, Representation, Consumer}
@@ -21,6 +22,7 @@ use Rattle.hc_model.specs.Exchanges.{front, family, is_headless}
 use Rattle.hc_model.specs.Currents.{current}
 use Rattle.hc_model.specs.Cases.{was_shown}
 use Rattle.hc_model.specs.Reading.{is_written, bound}
+use Rattle.hc_model.specs.Writers.{came_alone}
 use Rattle.hc_model.specs.Dooms.{doomed, is_key}
 use Rattle.hc_model.specs.Lines.{turn}
 use Rattle.hc_model.specs.Tables.{tables, begun, after_accepted}
@@ -273,3 +275,22 @@ pub record IsStart (contents : Contents) : Type 0 where
 
 abbrev pub StartsAreSound : Type 0
 StartsAreSound = (contents : Contents) → IsStart contents → Sound (begun contents)
+
+-- READERS
+
+-- a fact that holds after each accepted event of what is sound, whatever the store loses
+abbrev pub AfterEach : (Tables → Type 0) → Type 0
+AfterEach P =
+    (limits : Limits) (t : Tables) (now : ℕ) (flaw : Flaw) → Sound t → (event : Event) →
+    denial t event ≡ None → P (after_accepted t (entry_of limits t now event flaw))
+
+-- whoever is bound is bound to what is there
+abbrev pub AreBound : Tables → Type 0
+AreBound t = (r c : ℕ) (k : Consumer) → IsBound t r c k → is_some (t.representation r) ≡ true
+
+-- whoever became bound as the only one knows the end of what it reads
+abbrev pub KnowEnds : Tables → Type 0
+KnowEnds t =
+    (r c lo : ℕ) (hi : Option ℕ) (by : BoundBy) (k : Consumer) → t.consumer c ≡ Some k →
+    k.place ≡ place.Bound r lo hi by → came_alone t (place.Bound r lo hi by) ≡ true →
+    is_some hi ≡ true

@@ -2,7 +2,8 @@
 ghost use Rattle.hc_model.specs.Histories.{RunsAreFiltered};
 ghost use Rattle.hc_model.specs.Reads.{OneHeadIsShown};
 ghost use Rattle.hc_model.specs.Keys.{LawOfOneKey, KeysAreKept, KeysBegin};
-ghost use Rattle.hc_model.specs.Laws.{SoundDeliversOnce, DeliveriesAreKept, BodiesAreKept, NumbersAreKept, NamesAreKept, OneCurrentIsKept, StoresAreKept, StartsAreSound, WholeIsWhole};
+ghost use Rattle.hc_model.specs.Laws.{SoundDeliversOnce, DeliveriesAreKept, BodiesAreKept, NumbersAreKept, NamesAreKept, OneCurrentIsKept, StoresAreKept, StartsAreSound, WholeIsWhole, AfterEach, AreBound, KnowEnds};
+ghost use Rattle.hc_model.specs.Sound.{OneFirst};
 
 /// Delivered once: where a piece is accepted, none of its positions has come; what shows this holds
 /// again after each accepted event, whatever the store loses; and what has come of a body stays.
@@ -60,4 +61,12 @@ pub fn other_keys_stay()
     ensures law { LawOfOneKey }
     ensures kept { KeysAreKept }
     ensures begin { KeysBegin }
+{}
+
+/// Whoever is bound to a representation is bound to one that is there; one at most became bound to it as
+/// the only one, and that one knows its end: after each accepted event, whatever the store loses.
+pub fn readers_are_bound()
+    ensures there { AfterEach AreBound }
+    ensures one { AfterEach OneFirst }
+    ensures ends { AfterEach KnowEnds }
 {}

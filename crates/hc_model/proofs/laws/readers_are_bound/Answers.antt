@@ -1,0 +1,13 @@
+-- Readers are bound to what is there.
+use Rattle.hc_model.proofs.BoundKeeps.{binds_kept}
+use Rattle.hc_model.proofs.FirstKeeps.{ends_kept, one_first_kept}
+use Rattle.hc_model.proofs.laws.readers_are_bound.Goals as goal
+
+pub returns-clause-there : goal.returns-clause-there
+returns-clause-there c = λ limits t now flaw s event goes. binds_kept limits t now flaw s event goes
+
+pub returns-clause-one : goal.returns-clause-one
+returns-clause-one c = λ limits t now flaw s event goes. one_first_kept limits t now flaw s event goes
+
+pub returns-clause-ends : goal.returns-clause-ends
+returns-clause-ends c = λ limits t now flaw s event goes. ends_kept limits t now flaw s event goes

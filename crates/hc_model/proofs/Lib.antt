@@ -48,3 +48,14 @@ pub mod BoundKeeps
 pub mod OpensFrom
 pub mod FoundBy
 pub mod FirstKeeps
+pub mod Closed
+pub mod OwnFrom
+pub mod ExchangeFrom
+pub mod OpenedAs
+pub mod WaitedAs
+pub mod Forward
+pub mod OwnersKeep
+pub mod Unclosed
+pub mod SaidActs
+pub mod Waiters
+pub mod ToBeShown

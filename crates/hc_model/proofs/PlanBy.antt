@@ -33,10 +33,10 @@ pub record IsAlone (v : PlanView) (span : Span) (hole : Option Span) : Type 0 wh
 
 pub data PlanBy (v : PlanView) : Plan → Type 0 where
   turn : (d : ℕ) → PlanBy v (plan.Turn d)
-  busy : (d : ℕ) (kept : Option ℕ) → PlanBy v (plan.Busy d kept)
+  busy : (d : ℕ) (kept : Option ℕ) → v.class.bypassing ≡ false → PlanBy v (plan.Busy d kept)
   misses : PlanBy v plan.Miss
   passes_by : (n : Need) → route_of n ≡ route.Direct → PlanBy v (plan.Direct n)
-  fetches : (n : Need) → route_of n ≡ route.Turn → PlanBy v (plan.Fetch n)
+  fetches : (n : Need) → route_of n ≡ route.Turn → (n ≡ need.Validate → v.class.bypassing ≡ false) → PlanBy v (plan.Fetch n)
   joins : (why : Why) → JoinsWriting v → PlanBy v (plan.Bind why None)
   reads : (why : Why) (span : Span) → IsAlone v span None → PlanBy v (plan.Bind why (Some span))
   fills : (span hole : Span) (a : IsAlone v span (Some hole)) → a.s.least_bound ≡ None → PlanBy v (plan.FirstHole span hole)
@@ -45,10 +45,10 @@ and_right : (a b : Bool) → (a && b) ≡ true → b ≡ true
 and_right true b h = h
 and_right false b h = absurd (let never : false ≡ true = h in cc)
 
-module _ (v : PlanView) (s : Candidate) (current : v.current ≡ Some s) where
+module _ (v : PlanView) (plain : v.class.bypassing ≡ false) (s : Candidate) (current : v.current ≡ Some s) where
   bound_by : (span hole : Span) (o : Option ℕ) → s.span ≡ wanted.Interval span → s.writing ≡ false → s.hole ≡ Some hole → s.least_bound ≡ o → PlanBy v (by_bound v span hole o)
   bound_by span hole None at off found nobody = fills span hole (record { s = s; current = current; wanted_is = at; unwritten = off; hole_is = found }) nobody
-  bound_by span hole (Some d) at off found nobody = busy d v.kept
+  bound_by span hole (Some d) at off found nobody = busy d v.kept plain
 
   hole_by : (why : Why) (span : Span) (o : Option Span) → s.span ≡ wanted.Interval span → s.writing ≡ false → s.hole ≡ o → PlanBy v (by_hole v s why span o)
   hole_by why span None at off found = reads why span (record { s = s; current = current; wanted_is = at; unwritten = off; hole_is = found })
@@ -56,33 +56,36 @@ module _ (v : PlanView) (s : Candidate) (current : v.current ≡ Some s) where
 
   exclusive_by : (why : Why) (span : Span) (o : Option ℕ) → s.span ≡ wanted.Interval span → s.writing ≡ false → PlanBy v (by_exclusive v s why span o)
   exclusive_by why span None at off = hole_by why span s.hole at off refl
-  exclusive_by why span (Some d) at off = busy d v.kept
+  exclusive_by why span (Some d) at off = busy d v.kept plain
 
   wanted_by : (why : Why) (w : Wanted) → s.span ≡ w → PlanBy v (by_wanted v s why w)
-  wanted_by why wanted.TotalUnknown at = busy _ _
+  wanted_by why wanted.TotalUnknown at = busy _ _ plain
   wanted_by why wanted.Unsatisfiable at = passes_by need.Unsatisfied refl
-  wanted_by why (wanted.Interval span) at = either (PlanBy v) s.writing _ _ (λ on. busy _ _) (λ off. exclusive_by why span s.exclusive at off)
+  wanted_by why (wanted.Interval span) at = either (PlanBy v) s.writing _ _ (λ on. busy _ _ plain) (λ off. exclusive_by why span s.exclusive at off)
 
   on_by : (why : Why) → PlanBy v (plan_on v s why)
   on_by why = either (PlanBy v) (is_none v.class.range && s.writing) _ _ (λ h. joins why (record { s = s; current = current; writing = and_right (is_none v.class.range) s.writing h })) (λ h. wanted_by why s.span refl)
 
   why_then : (o : Option Why) → PlanBy v (by_why v s o)
-  why_then None = fetches need.Validate refl
+  why_then None = fetches need.Validate refl (λ is. plain)
   why_then (Some why) = on_by why
 
-current_by : (v : PlanView) (o : Option Candidate) → v.current ≡ o → PlanBy v (by_current v o)
-current_by v None is = fetches need.Miss refl
-current_by v (Some s) is = mix (PlanBy v) s.vary _ _ (why_then v s is (why_by v.kept s.allowed)) (fetches need.Vary refl)
+current_by : (v : PlanView) (o : Option Candidate) → v.class.bypassing ≡ false → v.current ≡ o → PlanBy v (by_current v o)
+current_by v None plain is = fetches need.Miss refl (λ at. plain)
+current_by v (Some s) plain is = mix (PlanBy v) s.vary _ _ (why_then v plain s is (why_by v.kept s.allowed)) (fetches need.Vary refl (λ at. plain))
+
+bypass_is : need.Bypass ≡ need.Validate → ⊥
+bypass_is is = cc
 
 bare_by : (v : PlanView) → PlanBy v (bare_plan v)
 bare_by v =
     mix (PlanBy v) _ _ _ (passes_by need.Disabled refl)
     (mix (PlanBy v) _ _ _ (turn _)
-    (mix (PlanBy v) _ _ _ (fetches need.Bypass refl) (current_by v v.current refl)))
+    (either (PlanBy v) v.class.bypassing _ _ (λ on. fetches need.Bypass refl (λ is. absurd (bypass_is is))) (λ off. current_by v v.current off refl)))
 
 in_time_by : (v : PlanView) (p : Plan) → PlanBy v p → PlanBy v (in_time v p)
 in_time_by v (plan.Turn d) is = mix (PlanBy v) _ _ _ (passes_by need.TimedOut refl) (turn d)
-in_time_by v (plan.Busy d kept) is = mix (PlanBy v) _ _ _ (passes_by need.TimedOut refl) (busy d kept)
+in_time_by v (plan.Busy d kept) is = mix (PlanBy v) _ _ _ (passes_by need.TimedOut refl) is
 in_time_by v plan.Miss is = is
 in_time_by v (plan.Direct n) is = is
 in_time_by v (plan.Fetch n) is = is

@@ -37,7 +37,8 @@ use Rattle.hc_model.specs.Beginnings.{may_begin}
 use Rattle.hc_model.specs.Denials.{live}
 use Rattle.hc_model.specs.Runs.{IsRun}
 use Rattle.hc_model.specs.Reads.{Delivers}
-use Rattle.hc_model.specs.Sound.{Sound, IsBound, Waits, OneAbout, OneCurrent, IsStored, IsListed, IsNamed}
+use Rattle.hc_model.specs.Sound.{Sound, IsBound, IsToBeShown, Waits, OneAbout, OneCurrent, IsStored, IsListed, IsNamed}
+use Rattle.hc_model.specs.Owners.{Owners}
 use Rattle.hc_model.specs.Keys.{entry_of}
 
 -- a fact of the tables of every run
@@ -294,3 +295,15 @@ KnowEnds t =
     (r c lo : ℕ) (hi : Option ℕ) (by : BoundBy) (k : Consumer) → t.consumer c ≡ Some k →
     k.place ≡ place.Bound r lo hi by → came_alone t (place.Bound r lo hi by) ≡ true →
     is_some hi ≡ true
+
+-- the same of what is sound and has known owners
+abbrev pub OwnedAfterEach : (Tables → Type 0) → Type 0
+OwnedAfterEach P =
+    (limits : Limits) (t : Tables) (now : ℕ) (flaw : Flaw) → Sound t → Owners t → (event : Event) →
+    denial t event ≡ None → P (after_accepted t (entry_of limits t now event flaw))
+
+-- whoever is bound and wasn't shown a head founded, or waits for the head of its first hole, or may be shown it
+abbrev pub AreToBeShown : Tables → Type 0
+AreToBeShown t =
+    (c r lo : ℕ) (hi : Option ℕ) (by : BoundBy) (k : Consumer) → t.consumer c ≡ Some k →
+    k.place ≡ place.Bound r lo hi by → k.shown ≡ false → IsToBeShown t k by

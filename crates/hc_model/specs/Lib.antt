@@ -35,4 +35,5 @@ pub mod Histories
 pub mod Reads
 pub mod Sound
 pub mod Keys
+pub mod Owners
 pub mod Laws

@@ -2,7 +2,7 @@
 ghost use Rattle.hc_model.specs.Histories.{RunsAreFiltered};
 ghost use Rattle.hc_model.specs.Reads.{OneHeadIsShown};
 ghost use Rattle.hc_model.specs.Keys.{LawOfOneKey, KeysAreKept, KeysBegin};
-ghost use Rattle.hc_model.specs.Laws.{SoundDeliversOnce, DeliveriesAreKept, BodiesAreKept, NumbersAreKept, NamesAreKept, OneCurrentIsKept, StoresAreKept, StartsAreSound, WholeIsWhole, AfterEach, AreBound, KnowEnds};
+ghost use Rattle.hc_model.specs.Laws.{SoundDeliversOnce, DeliveriesAreKept, BodiesAreKept, NumbersAreKept, NamesAreKept, OneCurrentIsKept, StoresAreKept, StartsAreSound, WholeIsWhole, AfterEach, AreBound, KnowEnds, OwnedAfterEach, AreToBeShown};
 ghost use Rattle.hc_model.specs.Sound.{OneFirst};
 
 /// Delivered once: where a piece is accepted, none of its positions has come; what shows this holds
@@ -64,9 +64,11 @@ pub fn other_keys_stay()
 {}
 
 /// Whoever is bound to a representation is bound to one that is there; one at most became bound to it as
-/// the only one, and that one knows its end: after each accepted event, whatever the store loses.
+/// the only one, and that one knows its end; and whoever is bound and was shown no head founded, or its
+/// first hole joined or is awaited: after each accepted event, whatever the store loses.
 pub fn readers_are_bound()
     ensures there { AfterEach AreBound }
     ensures one { AfterEach OneFirst }
     ensures ends { AfterEach KnowEnds }
+    ensures shown { OwnedAfterEach AreToBeShown }
 {}

@@ -1,6 +1,7 @@
 -- Readers are bound to what is there.
 use Rattle.hc_model.proofs.BoundKeeps.{binds_kept}
 use Rattle.hc_model.proofs.FirstKeeps.{ends_kept, one_first_kept}
+use Rattle.hc_model.proofs.ToBeShown.{unshown_kept}
 use Rattle.hc_model.proofs.laws.readers_are_bound.Goals as goal
 
 pub returns-clause-there : goal.returns-clause-there
@@ -11,3 +12,6 @@ returns-clause-one c = λ limits t now flaw s event goes. one_first_kept limits 
 
 pub returns-clause-ends : goal.returns-clause-ends
 returns-clause-ends c = λ limits t now flaw s event goes. ends_kept limits t now flaw s event goes
+
+pub returns-clause-shown : goal.returns-clause-shown
+returns-clause-shown c = λ limits t now flaw s o event goes. unshown_kept limits t now flaw s o event goes

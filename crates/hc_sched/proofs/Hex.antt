@@ -1,0 +1,113 @@
+-- Lower-case hexadecimal.
+use Rattle.std.proofs.Common.{◌≡◌, ℕ, zero, suc, ◌+◌, ◌*◌, ◌/◌, ◌%◌, ◌<◌, ◌≤◌, ◌==◌, Bool, true, false, not, ◌&&◌, ◌||◌, List, [], ◌∷◌, length, slice_index, Option, Some, None, unwrap_or, Result, Ok, Err, refl, sym, ap, subst, ◌∙◌, arith, inl, inr}
+use Rattle.std.proofs.lemmas.Bool.{and_parts, cases_lt, eqb-true, eq-eqb, leb-true, le-leb}
+use Rattle.std.specs.Prelude.{nat_lt, All, bytes_eq, codes, if◌then◌else◌}
+use Rattle.std.proofs.lemmas.Slice.Eq.{bytes_eq-Decides}
+use Rattle.std.proofs.lemmas.List.{get_or_past}
+use Rattle.hc_text.specs.Texts.{lacks}
+use Rattle.std.proofs.lemmas.Bool.Decides.{nat_tests}
+use Rattle.std.specs.List.{AllPass, list_all}
+use Rattle.std.proofs.lemmas.List.Elements.{All-weaker, All-head, All-tail, All-nil, All-from_get_or}
+use Rattle.std.proofs.lemmas.List.Sums.{AllPass-from_list_all}
+use Rattle.hex.proofs.HexLemmas.{decode_of-digits, decode_of-even, decode_of-ok, decode_of-encode_lower, length-encode_with}
+use Rattle.std.specs.Result.{result_ok, result_unwrap_or}
+use Rattle.hex.specs.Hex.{IsBytes, decode_of, decode_pairs, encode_lower, digit_or_error, is_hex_digit, encode_with, hex_digit_value, lower_digits, pair_value, value_at, ◌>>=◌}
+use Rattle.hex.specs.declared.error.FromHexError.{FromHexError}
+use Rattle.hc_sched.specs.Pieces.{piece_text, is_lower_digit, is_hex_text, is_piece_text, bytes_of}
+
+-- a lower-case digit stands in the table at the place of its value
+abbrev back : ℕ → Bool
+back a = not (is_lower_digit a) || (slice_index lower_digits (unwrap_or (hex_digit_value a) 0) == a)
+
+abbrev all_back : ℕ → Bool
+all_back zero = true
+all_back (suc n) = back n && all_back n
+
+all_back-at : (n k : ℕ) → all_back n ≡ true → k < n → back k ≡ true
+all_back-at zero k h lt = absurd (omega arith)
+all_back-at (suc n) k h lt =
+    let parts = and_parts (back n) (all_back n) h in
+    elim (cases_lt k n) [
+      | inl below ↦ all_back-at n k parts.1 below
+      | inr top ↦ let e : k ≡ n = omega arith in rw e parts.0
+    ]
+
+digit_back : (a v : ℕ) → is_lower_digit a ≡ true → hex_digit_value a ≡ Some v → slice_index lower_digits v ≡ a
+digit_back a v lower read =
+    let small : a < 103 = grind (arith, nat_tests) in
+    let t = all_back-at 103 a refl small in
+    eqb-true (slice_index lower_digits v) a (rw (lower, read) at t)
+
+value_small : (c v : ℕ) → hex_digit_value c ≡ Some v → v < 16
+value_small c v h = grind (arith)
+
+bind_ok : {A B : Type 0} (r : Result A FromHexError) (f : A → Result B FromHexError) (y : B)
+    → (r >>= f) ≡ Ok y → (x : A) × (r ≡ Ok x) × (f x ≡ Ok y)
+bind_ok (Ok x) f y h = (x, refl, h)
+bind_ok (Err e) f y h = cc h
+
+digit_read : (c i : ℕ) (o : Option ℕ) (v : ℕ) → digit_or_error c i o ≡ Ok v → o ≡ Some v
+digit_read c i (Some w) v h = ap Some (ap (λ (r : Result ℕ FromHexError). result_unwrap_or r 0) h)
+digit_read c i None v h = cc h
+
+pub encode-decode_lower : (i : ℕ) (s bytes : List ℕ) → list_all is_lower_digit s ≡ true
+    → decode_pairs i s ≡ Ok bytes → encode_with lower_digits bytes ≡ s
+unfolding encode_with decode_pairs
+encode-decode_lower i [] bytes all h =
+    let e : [] ≡ bytes = ap (λ (r : Result (List ℕ) FromHexError). result_unwrap_or r []) h in rw (← e) refl
+encode-decode_lower i (a ∷ []) bytes all h = cc h
+encode-decode_lower i (a ∷ b ∷ rest) bytes all h =
+    let p0 = bind_ok (pair_value a b i) _ bytes h in
+    let p1 = bind_ok (value_at a i) _ p0.0 p0.1 in
+    let p2 = bind_ok (value_at b (i + 1)) _ p0.0 p1.2 in
+    let p3 = bind_ok (decode_pairs (i + 2) rest) _ bytes p0.2 in
+    let first = and_parts _ _ all in
+    let second = and_parts _ _ first.1 in
+    let ih = encode-decode_lower (i + 2) rest p3.0 second.1 p3.1 in
+    let e : p0.0 ∷ p3.0 ≡ bytes = ap (λ (r : Result (List ℕ) FromHexError). result_unwrap_or r []) p3.2 in
+    let va = digit_read a i (hex_digit_value a) p1.0 p1.1 in
+    let vb = digit_read b (i + 1) (hex_digit_value b) p2.0 p2.1 in
+    let small = value_small b p2.0 vb in
+    let byte : p1.0 * 16 + p2.0 ≡ p0.0 = ap (λ (r : Result ℕ FromHexError). result_unwrap_or r 0) p2.2 in
+    let high : p0.0 / 16 ≡ p1.0 = omega arith in
+    let low : p0.0 % 16 ≡ p2.0 = omega arith in
+    rw (← e) (rw (high, low, digit_back a p1.0 first.0 va, digit_back b p2.0 second.0 vb, ih) refl)
+
+is_hex_digit-lower : (b : ℕ) → is_lower_digit b ≡ true → is_hex_digit b ≡ true
+is_hex_digit-lower b h = grind (arith, nat_tests)
+
+AllPass-lower : (s : List ℕ) → list_all is_lower_digit s ≡ true → AllPass is_hex_digit s
+AllPass-lower s h =
+    All-weaker (λ b. is_lower_digit b ≡ true) (λ b. is_hex_digit b ≡ true) is_hex_digit-lower s
+    (AllPass-from_list_all is_lower_digit s h)
+
+-- the parts of the test
+pub record IsHexText (text : List ℕ) : Type 0 where
+  pub some : 2 ≤ length text
+  pub short : length text ≤ 131072
+  pub even : length text % 2 ≡ 0
+  pub lower : list_all is_lower_digit text ≡ true
+
+pub IsHexText-from_test : (text : List ℕ) → is_hex_text text ≡ true → IsHexText text
+unfolding is_hex_text
+IsHexText-from_test text h =
+    let all = and_parts _ _ h in
+    let front = and_parts _ _ all.0 in
+    let bounds = and_parts _ _ front.0 in
+    record {
+      some = leb-true 2 (length text) bounds.0;
+      short = leb-true (length text) 131072 bounds.1;
+      even = eqb-true (length text % 2) 0 front.1;
+      lower = all.1;
+    }
+
+pub is_hex_text-from : (text : List ℕ) → IsHexText text → is_hex_text text ≡ true
+unfolding is_hex_text
+is_hex_text-from text h =
+    rw (le-leb 2 (length text) h.some, le-leb (length text) 131072 h.short, eq-eqb (length text % 2) 0 h.even) h.lower
+
+-- such a text is decoded
+pub decode_of-lower : (text : List ℕ) → is_hex_text text ≡ true → (bytes : List ℕ) × (decode_of text ≡ Ok bytes)
+decode_of-lower text h =
+    let is = IsHexText-from_test text h in
+    decode_of-digits text is.even (AllPass-lower text is.lower)

@@ -1,0 +1,11 @@
+use Rattle.std.proofs.Common.{sym, rules}
+use Rattle.hc_sched.proofs.TargetLemmas.{is_target-not_utf8, is_target-own}
+use Rattle.hc_sched.proofs.target.is_target.Goals as goal
+
+pub returns-in_default-clause-value : goal.returns-in_default-clause-value
+returns-in_default-clause-value c = sym (is_target-not_utf8 c.args.text.now c.in_default.ensures.cases.0)
+
+pub returns-in-Ok-parse-clause-value : goal.returns-in-Ok-parse-clause-value
+returns-in-Ok-parse-clause-value c =
+    let told = c.in-Ok.ensures.cases in
+    is_target-own c.args.text.now c.in-Ok.text.now c.in-Ok-parse.url c.has_own_text.result (search rules) told.0 told.1 c.in-Ok-parse.ensures c.has_own_text.ensures

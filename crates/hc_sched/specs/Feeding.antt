@@ -1,0 +1,97 @@
+-- What a feed stands for, and what it makes of the pieces that it is given.
+use Rattle.std.specs.Prelude.{◌≡◌, ℕ, ◌+◌, ◌<◌, ◌≤◌, ◌==◌, ◌&&◌, Bool, is_none, nat_lt, List, [], ◌++◌, length, Option, Some, None, Result, Ok, Err, if◌then◌else◌}
+use Rattle.hc_sched.specs.declared.begun.Begun.{Begun}
+use Rattle.hc_sched.specs.declared.place.Place.{Place}
+use Rattle.hc_sched.specs.declared.reader.Reader.{Reader}
+use Rattle.hc_sched.specs.declared.schedule.FeedError.{FeedError}
+use Rattle.hc_sched.specs.declared.schedule.FeedError.TheVariants as error
+use Rattle.hc_sched.specs.declared.schedule.Refused.{Refused}
+use Rattle.hc_sched.specs.declared.schedule.SchedRefusal.TheVariants as why
+use Rattle.hc_sched.specs.declared.schedule.Timed.{Timed}
+use Rattle.hc_sched.specs.Limits.{MayBegun}
+use Rattle.hc_sched.specs.Reading.{Progress, Reads, Stopped, Spent, Step, first_place, refuse, take_line, after, events_in}
+
+-- the reading of a text at its beginning, at this moment
+abbrev pub beginning : ℕ → Progress
+beginning moment = Reads (first_place moment) []
+
+-- what a feed stands for, by its error
+abbrev pub progress_of : Option FeedError → Reader → Progress
+progress_of None reader = Reads reader.place reader.line.items
+progress_of (Some (error.Refused refused)) reader = Stopped refused
+progress_of (Some error.NoMemory) reader = Spent
+
+-- where the reading stands at an error
+abbrev pub stopped_by : FeedError → Progress
+stopped_by (error.Refused refused) = Stopped refused
+stopped_by error.NoMemory = Spent
+
+-- no line is too long, and no item too large
+pub record IsWithin (reader : Reader) : Type 0 where
+  pub line : length reader.line.items ≤ 140000
+  pub item : MayBegun reader.place.begun
+
+-- the lines that are passed
+abbrev pub lines_in : Progress → ℕ
+lines_in (Reads place line) = place.lines
+lines_in (Stopped refused) = 0
+lines_in Spent = 0
+
+-- the bytes of the lines of the item that was begun
+abbrev pub bytes_before : Option Begun → ℕ
+bytes_before None = 0
+bytes_before (Some begun) = begun.bytes
+
+-- the bytes of the item that isn't finished
+abbrev pub held_in : Progress → ℕ
+held_in (Reads place line) = bytes_before place.begun + length line
+held_in (Stopped refused) = 0
+held_in Spent = 0
+
+-- the first of the events that these bytes bring were added
+pub record AddsFirst (progress : Progress) (piece : List ℕ) (old new : List Timed) : Type 0 where
+  pub some : List Timed
+  pub rest : List Timed
+  pub whole : some ++ rest ≡ events_in progress piece
+  pub adds : new ≡ old ++ some
+
+-- the events that these bytes bring were added, and the reading stands where they lead
+pub record ReadsOn (progress : Progress) (piece : List ℕ) (new : Progress) (before after_ : List Timed) : Type 0 where
+  pub leads : after progress piece ≡ new
+  pub adds : after_ ≡ before ++ events_in progress piece
+
+-- The pieces are read, up to the refusal where there is one.
+abbrev pub Feeds : Progress → List ℕ → Result (Unit {0}) FeedError → Progress → List Timed → List Timed → Type 0
+Feeds progress piece (Ok done) new old after_ = ReadsOn progress piece new old after_
+Feeds progress piece (Err (error.Refused refused)) new old after_ = ReadsOn progress piece (Stopped refused) old after_
+Feeds progress piece (Err error.NoMemory) new old after_ = AddsFirst progress piece old after_
+
+-- what stands behind the error
+abbrev pub StandsAt : Result (Unit {0}) FeedError → Progress → Type 0
+StandsAt (Ok done) progress = (place : Place) × (line : List ℕ) × (progress ≡ Reads place line)
+StandsAt (Err (error.Refused refused)) progress = progress ≡ Stopped refused
+StandsAt (Err error.NoMemory) progress = progress ≡ Spent
+
+-- a whole line that comes behind these bytes of it
+unfoldable pub join_line : Place → List ℕ → Step
+join_line place line = if nat_lt 140000 (length line) then refuse place why.LineTooLong else take_line place line
+
+-- nothing is left of a line or of an item
+abbrev pub is_between : Place → List ℕ → Bool
+is_between place line = is_none place.begun && length line == 0
+
+-- the refusal of a text that ends here
+abbrev pub ending : Progress → Result (Unit {0}) FeedError
+ending (Reads place line) =
+    if is_between place line then Ok tt
+    else Err (error.Refused (record { line = place.lines + 1; why = why.CutShort }))
+ending (Stopped refused) = Err (error.Refused refused)
+ending Spent = Err error.NoMemory
+
+-- where the reading stands then
+abbrev pub ended : Progress → Progress
+ended (Reads place line) =
+    if is_between place line then Reads place line
+    else Stopped (record { line = place.lines + 1; why = why.CutShort })
+ended (Stopped refused) = Stopped refused
+ended Spent = Spent

@@ -1,0 +1,12 @@
+pub mod Parts
+pub mod Report
+pub mod Words
+pub mod Targets
+pub mod Pieces
+pub mod FirstLines
+pub mod FieldLines
+pub mod Lent
+pub mod Limits
+pub mod Taking
+pub mod Feeding
+pub mod Reading

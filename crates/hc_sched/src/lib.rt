@@ -1,0 +1,19 @@
+//! The text of schedules, read as a stream, and the text of reports.
+#![tactic(auto)]
+
+mod begun;
+mod feed;
+mod field;
+mod first;
+mod piece;
+mod place;
+mod reader;
+mod report;
+mod schedule;
+mod target;
+mod words;
+
+pub use feed::Feed;
+pub use report::write_acts;
+pub use schedule::{Ended, FeedError, Refused, SchedRefusal, Timed};
+pub use target::is_target;

@@ -2,6 +2,8 @@
 #![tactic(auto)]
 
 mod active;
+mod line;
 
 pub use active::ActiveEntry;
 pub use hc_rules::{Admission, Plan};
+pub use line::{KeyLine, Place};

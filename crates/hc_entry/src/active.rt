@@ -1,7 +1,7 @@
 //! Who is bound to a representation.
-ghost use Rattle.std.specs.Prelude.{◌≡◌, ◌≤◌, [], Ok, true, false, IfSome, OnOk, OnErr};
+ghost use Rattle.std.specs.Prelude.{◌≡◌, ◌≤◌, [], Ok, true, false, is_some, IfSome, OnOk, OnErr};
 ghost use Rattle.hc_rules.specs.declared.admission.BoundKind.TheVariants as way;
-ghost use Rattle.hc_rules.specs.Admissions.{admission_of, least_bound, is_same_kind};
+ghost use Rattle.hc_rules.specs.Admissions.{admission_of, least_of, least_bound, is_same_kind};
 ghost use Rattle.hc_entry.specs.Users.{nobody, is_bound, is_bound_as, with_user, admitted, rebound, settled, all_unshared, left_by, are_all, first_of, admission_by, kind_by};
 
 use hc_rising::{has_item, put_reserved, take_out};
@@ -97,6 +97,24 @@ impl ActiveEntry {
         ensures { result ≡ least_bound self.now.bound }
     {
         first_of(self.consumers.as_slice())
+    }
+
+    /// Whether the shared writing is on.
+    pub fn is_writing(&self) -> bool
+        ensures { result ≡ is_some (least_of way.Shared self.now.bound) }
+    {
+        is_shared(self.kind) && first_of(self.consumers.as_slice()).is_some()
+    }
+
+    /// The exclusive writer.
+    pub fn exclusive(&self) -> Option<u64>
+        ensures { result ≡ least_of way.Exclusive self.now.bound }
+    {
+        if is_exclusive(self.kind) {
+            first_of(self.consumers.as_slice())
+        } else {
+            None
+        }
     }
 
     /// The consumer is bound as `admission` answers; where that is `Behind`, nothing changes.

@@ -102,3 +102,10 @@ unfolding first_hole
 first_hole-some f span a b at inside end =
     let test : leb span.hi (absent_from f span.lo span.hi) ≡ false = lt-leb span.hi (absent_from f span.lo span.hi) (omega arith) in
     rw (test, ← at, ← end) refl
+
+-- an empty span has no hole
+pub first_hole-empty : (f : Cells) (span : Span) → span.hi ≤ span.lo → None ≡ first_hole f span
+unfolding absent_from
+first_hole-empty f span empty =
+    let low = first_place-low is_none f (span.hi - span.lo) span.lo in
+    first_hole-none f span (absent_from f span.lo span.hi) refl (let h = low.0 in omega arith)

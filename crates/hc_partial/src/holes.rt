@@ -1,5 +1,5 @@
 //! Where what is stored ends, and where a hole does.
-ghost use Rattle.std.specs.Prelude.{◌≡◌, ◌≤◌, is_some};
+ghost use Rattle.std.specs.Prelude.{◌≡◌, ◌≤◌, ◌<◌, ◌^◌, is_some, IsTrue};
 ghost use Rattle.hc_partial.specs.Holes.{absent_from, present_from, first_hole};
 
 use hc_range::Span;
@@ -39,16 +39,21 @@ pub fn hole_end<P: Presence>(store: &P, from: u64, hi: u64) -> u64
 
 /// Whether a byte is stored at the position.
 pub fn is_stored<P: Presence>(store: &P, position: u64) -> bool
-    ensures { result ≡ is_some (P.cells store.now position) }
+    ensures stored { result ≡ is_some (P.cells store.now position) }
+
+    // Nothing is at 2^62 or past it.
+    ensures below { IsTrue result → position < 2 ^ 62 }
 {
     store.next_present(position) == Some(position)
 }
 
 /// The first hole of the span in what is stored. None where all of it is.
 pub fn first_hole<P: Presence>(store: &P, span: Span) -> Option<Span>
-    requires { span.lo ≤ span.hi }
     ensures { result ≡ first_hole (P.cells store.now) span }
 {
+    if span.hi <= span.lo {
+        return None;
+    }
     let lo = stored_end(store, span.lo, span.hi);
     if span.hi <= lo {
         return None;

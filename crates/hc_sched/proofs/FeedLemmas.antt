@@ -53,7 +53,7 @@ byte_passes : (p : Place) (line : List ℕ) (b : ℕ) → not (b == 10) ≡ true
 unfolding take_byte
 byte_passes p line b other le = rw (not-true (b == 10) other, le-ltb (length line) 140000 le) refl
 
-join_short : (p : Place) (line : List ℕ) → length line ≤ 140000 → join_line p line ≡ take_line p line
+pub join_short : (p : Place) (line : List ℕ) → length line ≤ 140000 → join_line p line ≡ take_line p line
 unfolding join_line
 join_short p line le = rw (le-ltb 140000 (length line) le) refl
 

@@ -1,6 +1,6 @@
 -- Lower-case hexadecimal.
 use Rattle.std.proofs.Common.{◌≡◌, ℕ, zero, suc, ◌+◌, ◌*◌, ◌/◌, ◌%◌, ◌<◌, ◌≤◌, ◌==◌, Bool, true, false, not, ◌&&◌, ◌||◌, List, [], ◌∷◌, length, slice_index, Option, Some, None, unwrap_or, Result, Ok, Err, refl, sym, ap, subst, ◌∙◌, arith, inl, inr}
-use Rattle.std.proofs.lemmas.Bool.{and_parts, cases_lt, eqb-true, eq-eqb, leb-true, le-leb}
+use Rattle.std.proofs.lemmas.Bool.{and_parts, cases_Bool, cases_lt, eqb-true, eq-eqb, leb-true, le-leb, false_from_ne_true, agree_below_at}
 use Rattle.std.specs.Prelude.{nat_lt, All, bytes_eq, codes, if◌then◌else◌}
 use Rattle.std.proofs.lemmas.Slice.Eq.{bytes_eq-Decides}
 use Rattle.std.proofs.lemmas.List.{get_or_past}
@@ -111,3 +111,106 @@ pub decode_of-lower : (text : List ℕ) → is_hex_text text ≡ true → (bytes
 decode_of-lower text h =
     let is = IsHexText-from_test text h in
     decode_of-digits text is.even (AllPass-lower text is.lower)
+
+-- the bytes of a piece
+pub record IsPiece (bytes : List ℕ) : Type 0 where
+  pub short : length bytes ≤ 65536
+  pub small : All (λ b. b < 256) bytes
+
+lower_glyph : (k : ℕ) → k < 16 → is_lower_digit (slice_index lower_digits k) ≡ true
+lower_glyph k h = agree_below_at (λ n. is_lower_digit (slice_index lower_digits n)) (λ _. true) 16 k refl h
+
+list_all-encode_with : (xs : List ℕ) → All (λ b. b < 256) xs → list_all is_lower_digit (encode_with lower_digits xs) ≡ true
+unfolding encode_with
+list_all-encode_with [] h = refl
+list_all-encode_with (x ∷ xs) h =
+    let byte : x < 256 = All-head (λ b. b < 256) x xs h in
+    let high = lower_glyph (x / 16) (omega arith) in
+    let low = lower_glyph (x % 16) (omega arith) in
+    rw (high, low) (list_all-encode_with xs (All-tail (λ b. b < 256) x xs h))
+
+byte_at : (xs : List ℕ) → All (λ b. b < 256) xs → IsBytes xs
+byte_at xs h i =
+    elim (cases_lt i (length xs)) [
+      | inl inside ↦ h i 0 inside
+      | inr past ↦ rw (get_or_past xs i 0 past) (omega arith)
+    ]
+
+-- the text of some bytes
+pub record IsSpelled (b : ℕ) (bytes : List ℕ) : Type 0 where
+  pub hex : is_hex_text (encode_lower (b ∷ bytes)) ≡ true
+  pub other : bytes_eq (encode_lower (b ∷ bytes)) (codes "-") ≡ false
+  pub twice : length (encode_lower (b ∷ bytes)) ≡ 2 * length (b ∷ bytes)
+
+IsSpelled-piece : (b : ℕ) (bytes : List ℕ) → IsPiece (b ∷ bytes) → IsSpelled b bytes
+IsSpelled-piece b bytes h =
+    let text = encode_lower (b ∷ bytes) in
+    let twice : length text ≡ 2 * length (b ∷ bytes) = length-encode_with lower_digits (b ∷ bytes) in
+    let long : 2 ≤ length text = omega arith in
+    record {
+      hex = is_hex_text-from text (record {
+        some = long;
+        short = omega (arith, h.short);
+        even = omega arith;
+        lower = list_all-encode_with (b ∷ bytes) h.small;
+      });
+      other = false_from_ne_true (bytes_eq text (codes "-")) (λ e. omega (arith, long, ap length ((bytes_eq-Decides text (codes "-")).0 e)));
+      twice = twice;
+    }
+
+pub is_piece_text-of : (bytes : List ℕ) → IsPiece bytes → is_piece_text (piece_text bytes) ≡ true
+unfolding is_piece_text
+is_piece_text-of [] h = refl
+is_piece_text-of (b ∷ bytes) h = let is = IsSpelled-piece b bytes h in rw is.other is.hex
+
+pub bytes_of-piece_text : (bytes : List ℕ) → IsPiece bytes → bytes_of (piece_text bytes) ≡ bytes
+unfolding bytes_of
+bytes_of-piece_text [] h = refl
+bytes_of-piece_text (b ∷ bytes) h =
+    let is = IsSpelled-piece b bytes h in
+    rw (is.other, decode_of-encode_lower (b ∷ bytes) (byte_at (b ∷ bytes) h.small)) refl
+
+pub length-piece_text : (bytes : List ℕ) → IsPiece bytes → length (piece_text bytes) ≤ 131072
+length-piece_text [] h = omega arith
+length-piece_text (b ∷ bytes) h = let is = IsSpelled-piece b bytes h in omega (arith, is.twice, h.short)
+
+is_lower_digit-other : (b x : ℕ) → b < 48 → is_lower_digit x ≡ true → not (x == b) ≡ true
+is_lower_digit-other b x low h = grind (arith, nat_tests)
+
+lacks-lower : (b : ℕ) (text : List ℕ) → b < 48 → list_all is_lower_digit text ≡ true → lacks b text ≡ true
+lacks-lower b [] low h = refl
+lacks-lower b (x ∷ text) low h =
+    let parts = and_parts (is_lower_digit x) (list_all is_lower_digit text) h in
+    rw (is_lower_digit-other b x low parts.0) (lacks-lower b text low parts.1)
+
+-- the text of a piece has no line feed
+pub lacks-piece_text : (bytes : List ℕ) → IsPiece bytes → lacks 10 (piece_text bytes) ≡ true
+lacks-piece_text [] h = refl
+lacks-piece_text (x ∷ bytes) h =
+    lacks-lower 10 (encode_lower (x ∷ bytes)) (omega arith) (list_all-encode_with (x ∷ bytes) h.small)
+
+-- a text that is decoded is that of its bytes
+IsPiece-decoded : (text bytes : List ℕ) → IsHexText text → decode_of text ≡ Ok bytes → IsPiece bytes × (piece_text bytes ≡ text)
+IsPiece-decoded text [] is h = absurd (omega (arith, is.some, (decode_of-ok text [] h).2))
+IsPiece-decoded text (b ∷ bytes) is h =
+    let good = decode_of-ok text (b ∷ bytes) h in (
+      record {
+        short = omega (arith, is.short, good.2);
+        small = All-from_get_or (λ x. x < 256) (b ∷ bytes) 0 (λ i inside. good.3 i);
+      },
+      encode-decode_lower 0 text (b ∷ bytes) is.lower (sym (decode_of-even text is.even) ∙ h),
+    )
+
+pub IsPiece-text : (text : List ℕ) → is_piece_text text ≡ true → IsPiece (bytes_of text) × (piece_text (bytes_of text) ≡ text)
+unfolding is_piece_text bytes_of
+IsPiece-text text h =
+    elim (cases_Bool (bytes_eq text (codes "-"))) [
+      | inl hyphen ↦
+          let is : text ≡ codes "-" = (bytes_eq-Decides text (codes "-")).0 hyphen in
+          rw hyphen (record { short = omega arith; small = All-nil (λ b. b < 256) }, sym is)
+      | inr other ↦
+          let hex : is_hex_text text ≡ true = rw other at h in
+          let read = decode_of-lower text hex in
+          let piece = IsPiece-decoded text read.0 (IsHexText-from_test text hex) read.1 in
+          rw (other, read.1) piece
+    ]

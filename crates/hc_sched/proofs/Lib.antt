@@ -5,3 +5,9 @@ pub mod Hex
 pub mod FieldLemmas
 pub mod TargetLemmas
 pub mod FeedLemmas
+pub mod FieldReads
+pub mod Forms
+pub mod Spelled
+pub mod Sound
+pub mod Standing
+pub mod OneReading

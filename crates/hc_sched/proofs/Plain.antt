@@ -11,7 +11,8 @@ use Rattle.std.proofs.lemmas.Fmt.{decimal_is_IsNumeral, length-decimal-le}
 use Rattle.std.proofs.lemmas.Slice.Eq.{bytes_eq-Decides}
 use Rattle.hc_text.specs.Numbers.{IsPlain}
 use Rattle.hc_sched.specs.Words.{plain_of}
-use Rattle.hc_sched.proofs.Steps.{none_or_some, lacks}
+use Rattle.hc_sched.proofs.Steps.{none_or_some}
+use Rattle.hc_text.specs.Texts.{lacks}
 
 abbrev is_plain : List ℕ → Bool
 is_plain text = nat_lt (digits_value 10 text) (2 ^ 62) && bytes_eq text (decimal (digits_value 10 text))
@@ -72,7 +73,7 @@ IsPlain-some text h =
     ]
 
 -- such a number has at most 19 digits
-plain-short : (text : List ℕ) (n : ℕ) → IsPlain text n → length text ≤ 19
+pub plain-short : (text : List ℕ) (n : ℕ) → IsPlain text n → length text ≤ 19
 plain-short text n h = rw h.1 (length-decimal-le 19 n (omega arith) (omega (arith, h.0)) (omega (arith, h.0)))
 
 pub plain_short : (text : List ℕ) (r : Option ℕ) → IfSome r (IsPlain text) → OnSome r (length text ≤ 19)

@@ -56,15 +56,17 @@ pub record AddsFirst (progress : Progress) (piece : List ℕ) (old new : List Ti
   pub adds : new ≡ old ++ some
 
 -- the events that these bytes bring were added, and the reading stands where they lead
-pub record ReadsOn (progress : Progress) (piece : List ℕ) (new : Progress) (before after_ : List Timed) : Type 0 where
-  pub leads : after progress piece ≡ new
-  pub adds : after_ ≡ before ++ events_in progress piece
+pub record ReadsOn (s : Progress) (piece : List ℕ) (t : Progress) (old new : List Timed)
+    : Type 0 where
+  pub leads : after s piece ≡ t
+  pub adds : new ≡ old ++ events_in s piece
 
 -- The pieces are read, up to the refusal where there is one.
-abbrev pub Feeds : Progress → List ℕ → Result (Unit {0}) FeedError → Progress → List Timed → List Timed → Type 0
-Feeds progress piece (Ok done) new old after_ = ReadsOn progress piece new old after_
-Feeds progress piece (Err (error.Refused refused)) new old after_ = ReadsOn progress piece (Stopped refused) old after_
-Feeds progress piece (Err error.NoMemory) new old after_ = AddsFirst progress piece old after_
+abbrev pub Feeds
+    : Progress → List ℕ → Result (Unit {0}) FeedError → Progress → List Timed → List Timed → Type 0
+Feeds s piece (Ok done) t old new = ReadsOn s piece t old new
+Feeds s piece (Err (error.Refused refused)) t old new = ReadsOn s piece (Stopped refused) old new
+Feeds s piece (Err error.NoMemory) t old new = AddsFirst s piece old new
 
 -- what stands behind the error
 abbrev pub StandsAt : Result (Unit {0}) FeedError → Progress → Type 0
@@ -74,7 +76,8 @@ StandsAt (Err error.NoMemory) progress = progress ≡ Spent
 
 -- a whole line that comes behind these bytes of it
 unfoldable pub join_line : Place → List ℕ → Step
-join_line place line = if nat_lt 140000 (length line) then refuse place why.LineTooLong else take_line place line
+join_line place line =
+    if nat_lt 140000 (length line) then refuse place why.LineTooLong else take_line place line
 
 -- nothing is left of a line or of an item
 abbrev pub is_between : Place → List ℕ → Bool

@@ -95,7 +95,10 @@ first_of line =
     or_else (behind (codes "at ") line) (λ words. option_map Sets (plain_of words)) (
     or_else (behind (codes "start ") line) start_of (
     or_else (behind (codes "head ") line) head_of (
-    or_else (behind (codes "end ") line) (λ words. option_map (λ x. Tells (event.End x)) (plain_of words)) (
-    or_else (behind (codes "fault ") line) (λ words. option_map (λ x. Tells (event.Fault x)) (plain_of words)) (
-    or_else (behind (codes "cancel ") line) (λ words. option_map (λ c. Tells (event.Cancel c)) (plain_of words)) (
+    or_else (behind (codes "end ") line)
+    (λ words. option_map (λ x. Tells (event.End x)) (plain_of words)) (
+    or_else (behind (codes "fault ") line)
+    (λ words. option_map (λ x. Tells (event.Fault x)) (plain_of words)) (
+    or_else (behind (codes "cancel ") line)
+    (λ words. option_map (λ c. Tells (event.Cancel c)) (plain_of words)) (
     or_else (behind (codes "doom ") line) doom_of None))))))))

@@ -7,7 +7,8 @@ use Rattle.hc_sched.specs.Pieces.{is_piece_text}
 
 abbrev pub as_first : Lent → First
 as_first (lent.Sets now) = Sets now
-as_first (lent.Starts start) = Starts start.c start.method.now start.load start.target.now start.count
+as_first (lent.Starts start) =
+    Starts start.c start.method.now start.load start.target.now start.count
 as_first (lent.Heads x status count) = Heads x status count
 as_first (lent.Brings x text) = Brings x text.now
 as_first (lent.Dooms target) = Dooms target.now

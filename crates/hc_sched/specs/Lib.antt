@@ -9,4 +9,6 @@ pub mod Lent
 pub mod Limits
 pub mod Taking
 pub mod Feeding
+pub mod Schedule
+pub mod Laws
 pub mod Reading

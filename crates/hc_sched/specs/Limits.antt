@@ -3,7 +3,8 @@ use Rattle.std.specs.Prelude.{ℕ, ◌+◌, ◌*◌, ◌<◌, ◌≤◌, length,
 use Rattle.hc_fields.specs.FieldList.{size_of}
 use Rattle.hc_sched.specs.declared.begun.Begun.{Begun}
 
--- A line is missing, and there are few fields, small ones, beside a first line of at most 8,400 bytes.
+-- A line is missing, and there are few fields, small ones, beside a first line of at most 8,400
+-- bytes.
 pub record IsBegun (begun : Begun) : Type 0 where
   pub some : 0 < begun.missing
   pub few : length begun.fields + begun.missing ≤ 64

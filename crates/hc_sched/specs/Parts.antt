@@ -1,8 +1,8 @@
 -- A line as a list of parts.
 use Rattle.std.specs.Prelude.{◌≡◌, ℕ, List, [], ◌∷◌, ◌++◌}
 use Rattle.std.specs.Fmt.{decimal}
-use Rattle.hc_sched.specs.declared.report.Part.{Part}
-use Rattle.hc_sched.specs.declared.report.Part.TheVariants.{Text, Number}
+use Rattle.hc_sched.specs.declared.parts.Part.{Part}
+use Rattle.hc_sched.specs.declared.parts.Part.TheVariants.{Text, Number}
 
 abbrev pub part_text : Part → List ℕ
 part_text (Text bytes) = bytes.now

@@ -18,7 +18,8 @@ use Rattle.hc_sched.specs.FieldLines.{field_of}
 
 -- Where the reading of a schedule stands.
 pub data Progress : Type 0 where
-  -- within a text that isn't refused: what was said so far, and the bytes of the line that isn't finished
+  -- within a text that isn't refused: what was said so far, and the bytes of the line that isn't
+  -- finished
   Reads : (place : Place) (line : List ℕ) → Progress
   -- at the refused line
   Stopped : (refused : Refused) → Progress
@@ -41,7 +42,10 @@ refuse p why = record { next = Stopped (record { line = p.lines + 1; why = why }
 -- the line is passed
 abbrev pub pass : Place → ℕ → Option Begun → List Timed → Step
 pass p moment begun events =
-    record { next = Reads (record { moment = moment; lines = p.lines + 1; begun = begun }) []; events = events }
+    record {
+      next = Reads (record { moment = moment; lines = p.lines + 1; begun = begun }) [];
+      events = events;
+    }
 
 -- the line ends the item of this event
 abbrev pub happen : Place → Event → Step
@@ -57,11 +61,13 @@ event_of (opening.Head x status) fields = event.Head x (record { status = status
 abbrev pub begin : Place → Opening → ℕ → ℕ → Step
 begin p opening count bytes =
     if count == 0 then happen p (event_of opening [])
-    else pass p p.moment (Some (record { opening = opening; fields = []; missing = count; bytes = bytes + 1 })) []
+    else pass p p.moment
+    (Some (record { opening = opening; fields = []; missing = count; bytes = bytes + 1 })) []
 
 -- the moment is set, and doesn't go back
 abbrev pub set_moment : Place → ℕ → Step
-set_moment p now = if nat_lt now p.moment then refuse p (why.MomentBack p.moment) else pass p now None []
+set_moment p now =
+    if nat_lt now p.moment then refuse p (why.MomentBack p.moment) else pass p now None []
 
 -- the first line of an item
 abbrev pub take_first : Place → ℕ → Option First → Step
@@ -82,7 +88,12 @@ take_field p begun bytes None = refuse p why.BadLine
 take_field p begun bytes (Some field) =
     let fields = put field.0 field.1 begun.fields in
     if begun.missing == 1 then happen p (event_of begun.opening fields)
-    else pass p p.moment (Some (record { opening = begun.opening; fields = fields; missing = begun.missing - 1; bytes = begun.bytes + bytes + 1 })) []
+    else pass p p.moment (Some (record {
+      opening = begun.opening;
+      fields = fields;
+      missing = begun.missing - 1;
+      bytes = begun.bytes + bytes + 1;
+    })) []
 
 abbrev pub take_next : Place → Option Begun → List ℕ → Step
 take_next p None line = take_first p (length line) (first_of line)
@@ -113,4 +124,5 @@ after progress (b ∷ text) = after (take_byte progress b).next text
 -- the events that these bytes bring
 abbrev pub events_in : Progress → List ℕ → List Timed
 events_in progress [] = []
-events_in progress (b ∷ text) = (take_byte progress b).events ++ events_in (take_byte progress b).next text
+events_in progress (b ∷ text) =
+    (take_byte progress b).events ++ events_in (take_byte progress b).next text

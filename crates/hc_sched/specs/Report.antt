@@ -37,12 +37,14 @@ wait_word (wait.Body x) = codes "body:" ++ decimal x
 abbrev pub why_word : Why → List ℕ
 why_word (why.Fetched x) = codes "fetched:" ++ decimal x
 why_word (why.Fresh age lifetime) = codes "fresh:" ++ decimal age ++ codes "/" ++ decimal lifetime
-why_word (why.StaleAllowed age lifetime) = codes "stale:" ++ decimal age ++ codes "/" ++ decimal lifetime
+why_word (why.StaleAllowed age lifetime) =
+    codes "stale:" ++ decimal age ++ codes "/" ++ decimal lifetime
 why_word (why.Validated x) = codes "validated:" ++ decimal x
 
 abbrev pub cause_word : Cause → List ℕ
 cause_word (cause.Net x) = codes "net:" ++ decimal x
-cause_word (cause.Short x got promised) = codes "short:" ++ decimal x ++ codes ":" ++ decimal got ++ codes "/" ++ decimal promised
+cause_word (cause.Short x got promised) =
+    codes "short:" ++ decimal x ++ codes ":" ++ decimal got ++ codes "/" ++ decimal promised
 cause_word (cause.Changed x) = codes "changed:" ++ decimal x
 cause_word (cause.StoreWrite r) = codes "store-write:" ++ decimal r
 cause_word (cause.StoreRead r) = codes "store-read:" ++ decimal r
@@ -75,11 +77,17 @@ end_word (Some hi) = decimal hi
 
 -- the lines of an act, each ended by a line feed
 abbrev pub act_text : Act → List ℕ
-act_text (act.Opened x c need request) = codes "open " ++ decimal x ++ 32 ∷ decimal c ++ 32 ∷ need_word need ++ 32 ∷ request.method ++ 32 ∷ request.key ++ 32 ∷ decimal (length request.fields) ++ 10 ∷ fields_text request.fields
+act_text (act.Opened x c need request) =
+    codes "open " ++ decimal x ++ 32 ∷ decimal c ++ 32 ∷ need_word need ++ 32 ∷ request.method
+    ++ 32 ∷ request.key ++ 32 ∷ decimal (length request.fields) ++ 10 ∷ fields_text request.fields
 act_text (act.Ask x) = codes "ask " ++ decimal x ++ 10 ∷ []
 act_text (act.Close x) = codes "close " ++ decimal x ++ 10 ∷ []
-act_text (act.Shown c r why status fields lo hi) = codes "shown " ++ decimal c ++ 32 ∷ decimal r ++ 32 ∷ why_word why ++ 32 ∷ decimal status ++ 32 ∷ decimal lo ++ 32 ∷ end_word hi ++ 32 ∷ decimal (length fields) ++ 10 ∷ fields_text fields
-act_text (act.Given c x at bytes) = codes "data " ++ decimal c ++ 32 ∷ decimal x ++ 32 ∷ decimal at ++ 32 ∷ encode_lower bytes ++ 10 ∷ []
+act_text (act.Shown c r why status fields lo hi) =
+    codes "shown " ++ decimal c ++ 32 ∷ decimal r ++ 32 ∷ why_word why ++ 32 ∷ decimal status
+    ++ 32 ∷ decimal lo ++ 32 ∷ end_word hi ++ 32 ∷ decimal (length fields)
+    ++ 10 ∷ fields_text fields
+act_text (act.Given c x at bytes) =
+    codes "data " ++ decimal c ++ 32 ∷ decimal x ++ 32 ∷ decimal at ++ 32 ∷ encode_lower bytes ++ 10 ∷ []
 act_text (act.Ended c) = codes "ended " ++ decimal c ++ 10 ∷ []
 act_text (act.Failed c cause) = codes "failed " ++ decimal c ++ 32 ∷ cause_word cause ++ 10 ∷ []
 act_text (act.Pending c wait) = codes "pending " ++ decimal c ++ 32 ∷ wait_word wait ++ 10 ∷ []

@@ -15,9 +15,10 @@ abbrev pub gives_text : Parsed Parts → List ℕ → Bool
 gives_text (Ok url) text = has_own_text url text
 gives_text (Err e) text = false
 
--- 1 to 8,192 bytes without a space
+-- 1 to 8,192 bytes without a space or a line feed
 unfoldable pub is_short_word : List ℕ → Bool
-is_short_word text = nat_le 1 (length text) && nat_le (length text) 8192 && lacks 32 text
+is_short_word text =
+    nat_le 1 (length text) && nat_le (length text) 8192 && lacks 32 text && lacks 10 text
 
 -- such bytes, which the URL Standard reads and writes alike
 unfoldable pub is_target : List ℕ → Bool
@@ -25,4 +26,6 @@ is_target text = is_short_word text && is_utf8 text && gives_text (parse_url Non
 
 -- what `url` tells besides: the URL that is read is valid
 abbrev pub ReadsTarget : List ℕ → Type 0
-ReadsTarget text = (url : Parts) × (parse_url None text ≡ Ok url) × IsValid url × (has_own_text url text ≡ true)
+ReadsTarget text =
+    (url : Parts) × (parse_url None text ≡ Ok url) × IsValid url
+    × (has_own_text url text ≡ true)

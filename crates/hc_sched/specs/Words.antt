@@ -20,12 +20,14 @@ cut b text = option_map (λ at. (take at text, drop (at + 1) text)) (position (�
 
 -- the text behind the prefix
 unfoldable pub behind : List ℕ → List ℕ → Option (List ℕ)
-behind prefix text = if bytes_eq (take (length prefix) text) prefix then Some (drop (length prefix) text) else None
+behind prefix text =
+    if bytes_eq (take (length prefix) text) prefix then Some (drop (length prefix) text) else None
 
 -- the number whose plain decimal the text is
 unfoldable pub plain_of : List ℕ → Option ℕ
 plain_of text =
-    let n = digits_value 10 text in if nat_lt n (2 ^ 62) && bytes_eq text (decimal n) then Some n else None
+    let n = digits_value 10 text in
+    if nat_lt n (2 ^ 62) && bytes_eq text (decimal n) then Some n else None
 
 -- the number from low to high whose plain decimal the text is
 unfoldable pub plain_within : ℕ → ℕ → List ℕ → Option ℕ

@@ -56,6 +56,7 @@ impl Feed {
         requires { lines_in self.old + length piece.now ≤ 2 ^ 60 }
         ensures feeds { Feeds self.old piece.now result self.new out.old.items out.new.items }
         ensures stands { StandsAt result self.new }
+        ensures lines { lines_in self.new ≤ lines_in self.old + length piece.now }
     {
         if let Some(e) = self.error {
             return Err(e);
@@ -104,3 +105,6 @@ impl Feed {
         self.reader.held()
     }
 }
+
+#[cfg(test)]
+mod tests;

@@ -2,12 +2,11 @@
 ghost use Rattle.std.specs.Prelude.{◌≡◌, ◌+◌, ◌≤◌, length, IsTrue, IfSome, OnSome, option_map};
 ghost use Rattle.std.specs.List.{list_all};
 ghost use Rattle.http_header.specs.Token.{is_token_byte};
-ghost use Rattle.hc_text.specs.Texts.{lacks};
 ghost use Rattle.hc_sched.specs.FirstLines.{is_method, is_word, load_of, how_of, start_of, poll_of, head_of, piece_of, doom_of, first_of};
 ghost use Rattle.hc_sched.specs.Lent.{as_first, Suits};
 
 use crate::piece::is_piece_text;
-use crate::words::{cut, numbered, plain, plain_within};
+use crate::words::{cut, lacks, numbered, plain, plain_within};
 use hc_event::{Event, Load};
 use http_header::is_token_char;
 
@@ -60,18 +59,12 @@ fn is_method(text: &[u8]) -> bool
     is_token_text(text) && 1 <= text.len() && text.len() <= 15 && text != b"CONNECT".as_slice()
 }
 
-fn lacks_space(text: &[u8]) -> bool
-    ensures { result ≡ lacks 32 text.now }
-{
-    text.iter().all(|b| *b != b' ')
-}
-
 /// Whether the text is one or more bytes without a space.
 #[tactic(auto, unfolding(crate::specs::FirstLines::is_word))]
 fn is_word(text: &[u8]) -> bool
     ensures { result ≡ is_word text.now }
 {
-    1 <= text.len() && lacks_space(text)
+    1 <= text.len() && lacks(text, b' ')
 }
 
 #[tactic(auto, unfolding(crate::specs::FirstLines::load_of))]

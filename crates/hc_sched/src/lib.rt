@@ -2,9 +2,12 @@
 #![tactic(auto)]
 
 mod begun;
+mod event;
 mod feed;
 mod field;
 mod first;
+mod laws;
+mod parts;
 mod piece;
 mod place;
 mod reader;
@@ -13,7 +16,9 @@ mod schedule;
 mod target;
 mod words;
 
+pub use event::write_event;
 pub use feed::Feed;
+pub use laws::a_text_has_one_reading;
 pub use report::write_acts;
 pub use schedule::{Ended, FeedError, Refused, SchedRefusal, Timed};
 pub use target::is_target;

@@ -61,6 +61,7 @@ impl Place {
         ensures err { OnErr result (out.new.items ≡ out.old.items) }
         ensures count { OnOk result (self.new.lines ≡ self.old.lines + 1) }
         ensures kept { MayBegun self.new.begun }
+        ensures lines { self.new.lines ≤ self.old.lines + 1 }
     {
         let now = self.moment;
         out.push(Timed { now, event })?;
@@ -86,6 +87,7 @@ impl Place {
         ensures err { OnErr result (out.new.items ≡ out.old.items) }
         ensures count { OnOk result (self.new.lines ≡ self.old.lines + 1) }
         ensures kept { MayBegun self.new.begun }
+        ensures lines { self.new.lines ≤ self.old.lines + 1 }
     {
         let fields = Fields::new(alloc)?;
         if count == 0 {
@@ -108,6 +110,7 @@ impl Place {
         ensures takes { Takes (set_moment self.old now) result self.new [] [] }
         ensures count { OnOk result (self.new.lines ≡ self.old.lines + 1) }
         ensures kept { MayBegun self.new.begun }
+        ensures lines { self.new.lines ≤ self.old.lines + 1 }
     {
         let last = self.moment;
         if now < last {
@@ -135,6 +138,7 @@ impl Place {
             result self.new out.old.items out.new.items }
         ensures count { OnOk result (self.new.lines ≡ self.old.lines + 1) }
         ensures kept { MayBegun self.new.begun }
+        ensures lines { self.new.lines ≤ self.old.lines + 1 }
     {
         if !is_target(alloc, start.target)? {
             return Err(self.refusal(SchedRefusal::BadTarget));
@@ -153,6 +157,7 @@ impl Place {
             result self.new out.old.items out.new.items }
         ensures count { OnOk result (self.new.lines ≡ self.old.lines + 1) }
         ensures kept { MayBegun self.new.begun }
+        ensures lines { self.new.lines ≤ self.old.lines + 1 }
     {
         if !is_target(alloc, target)? {
             return Err(self.refusal(SchedRefusal::BadTarget));
@@ -178,6 +183,7 @@ impl Place {
         ensures err { OnErr result (out.new.items ≡ out.old.items) }
         ensures count { OnOk result (self.new.lines ≡ self.old.lines + 1) }
         ensures kept { MayBegun self.new.begun }
+        ensures lines { self.new.lines ≤ self.old.lines + 1 }
     {
         let bytes = read_bytes(alloc, text)?;
         self.happen(Event::Piece { x, bytes }, out)
@@ -196,6 +202,7 @@ impl Place {
             result self.new out.old.items out.new.items }
         ensures count { OnOk result (self.new.lines ≡ self.old.lines + 1) }
         ensures kept { MayBegun self.new.begun }
+        ensures lines { self.new.lines ≤ self.old.lines + 1 }
     {
         let Some(first) = read_first(line) else {
             return Err(self.refusal(SchedRefusal::BadLine));
@@ -229,6 +236,7 @@ impl Place {
             result self.new out.old.items out.new.items }
         ensures count { OnOk result (self.new.lines ≡ self.old.lines + 1) }
         ensures kept { MayBegun self.new.begun }
+        ensures lines { self.new.lines ≤ self.old.lines + 1 }
     {
         let mut begun = begun;
         let Some((name, value)) = read_field(&begun.fields, line) else {
@@ -261,6 +269,7 @@ impl Place {
             result self.new out.old.items out.new.items }
         ensures count { OnOk result (self.new.lines ≡ self.old.lines + 1) }
         ensures kept { MayBegun self.new.begun }
+        ensures lines { self.new.lines ≤ self.old.lines + 1 }
     {
         match self.begun.take() {
             None => self.take_first(alloc, line, out),

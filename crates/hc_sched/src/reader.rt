@@ -82,6 +82,7 @@ impl Reader {
         ensures line { OnOk result (self.new.line.items ≡ []) }
         ensures within { IsWithin self.new }
         ensures count { OnOk result (self.new.place.lines ≡ self.old.place.lines + 1) }
+        ensures lines { self.new.place.lines ≤ self.old.place.lines + 1 }
     {
         if rest.len() > MOST_LINE - self.line.len() {
             return Err(self.place.refusal(SchedRefusal::LineTooLong));
@@ -100,10 +101,11 @@ impl Reader {
     fn grow_line(&mut self, rest: &[u8]) -> Result<(), FeedError>
         requires lines { self.old.place.lines < 2 ^ 62 }
         requires within { IsWithin self.old }
-        requires open { lacks 10 rest.now ≡ true }
+        requires unfinished { lacks 10 rest.now ≡ true }
         ensures feeds { Feeds (Reads self.old.place self.old.line.items) rest.now
             result (Reads self.new.place self.new.line.items) [] [] }
         ensures within { IsWithin self.new }
+        ensures lines { self.new.place.lines ≡ self.old.place.lines }
     {
         if rest.len() > MOST_LINE - self.line.len() {
             return Err(self.place.refusal(SchedRefusal::LineTooLong));
@@ -119,6 +121,7 @@ impl Reader {
         ensures feeds { Feeds (Reads self.old.place self.old.line.items) piece.now
             result (Reads self.new.place self.new.line.items) out.old.items out.new.items }
         ensures within { IsWithin self.new }
+        ensures lines { self.new.place.lines ≤ self.old.place.lines + length piece.now }
     {
         let mut rest = piece;
         while let Some((line, behind)) = next_line(rest) {

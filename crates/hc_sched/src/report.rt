@@ -6,41 +6,11 @@ ghost use Rattle.hc_sched.specs.Parts.{part_text, parts_text, IsKept};
 ghost use Rattle.hc_fields.specs.Lines.{fields_text};
 ghost use Rattle.hc_sched.specs.Report.{need_word, wait_word, why_word, cause_word, kind_word, refusal_word, end_word, act_text, acts_text, entry_text};
 
+use crate::parts::Part::{Number, Text};
+use crate::parts::{write_hex, write_parts};
 use hc_event::{Act, Cause, LostKind, Need, Refusal, Request, Wait, Why};
 use hc_fields::Fields;
-use hc_text::{NoMemory, write_number};
-
-/// A part of a line.
-#[derive(Clone, Copy)]
-enum Part<'a> {
-    Text(&'a [u8]),
-    Number(u64),
-}
-
-use Part::{Number, Text};
-
-/// Writes the part.
-fn write_part(part: &Part<'_>, to: &mut Vec<u8>) -> Result<(), NoMemory>
-    ensures ok { OnOk result (to.new.items ≡ to.old.items ++ part_text part.now) }
-    ensures err { OnErr result (to.new.items ≡ to.old.items) }
-{
-    match part {
-        Text(bytes) => to.extend_from_slice(bytes)?,
-        Number(n) => write_number(*n, to)?,
-    }
-    Ok(())
-}
-
-/// Writes the parts, one after another.
-fn write_parts(parts: &[Part<'_>], to: &mut Vec<u8>) -> Result<(), NoMemory>
-    ensures ok { OnOk result (to.new.items ≡ to.old.items ++ parts_text parts.now) }
-    ensures err { OnErr result (IsKept to.old.items to.new.items) }
-{
-    for part in parts {
-        write_part(part, to)?;
-    }
-    Ok(())
-}
+use hc_text::NoMemory;
 
 fn write_need(need: Need, to: &mut Vec<u8>) -> Result<(), NoMemory>
     ensures ok { OnOk result (to.new.items ≡ to.old.items ++ need_word need) }
@@ -159,19 +129,6 @@ fn write_end(end: Option<u64>, to: &mut Vec<u8>) -> Result<(), NoMemory>
         None => write_parts(&[Text(b"-")], to),
         Some(hi) => write_parts(&[Number(hi)], to),
     }
-}
-
-/// Writes the bytes in lower-case hexadecimal.
-fn write_hex(bytes: &[u8], to: &mut Vec<u8>) -> Result<(), NoMemory>
-    ensures ok { OnOk result (to.new.items ≡ to.old.items ++ encode_lower bytes.now) }
-    ensures err { OnErr result (to.new.items ≡ to.old.items) }
-{
-    let start = to.len();
-    let digits = 2 * bytes.len();
-    to.reserve(digits)?;
-    to.resize(start + digits, 0)?;
-    hex::encode_to_slice(bytes, &mut to.as_mut_slice()[start..]).unwrap();
-    Ok(())
 }
 
 /// Writes the method, the key and the fields of a request that is opened.
@@ -357,8 +314,8 @@ fn write_entry(n: u64, acts: &[Act], to: &mut Vec<u8>) -> Result<(), NoMemory>
     Ok(())
 }
 
-/// Appends what the report says of event number `n`, from 1, or nothing: a line with the number, and
-/// the lines of its acts.
+/// Appends what the report says of event number `n`, from 1, or nothing: a line with the number,
+/// and the lines of its acts.
 pub fn write_acts(n: u64, acts: &[Act], to: &mut Vec<u8>) -> Result<(), NoMemory>
     ensures ok { OnOk result (to.new.items ≡ to.old.items ++ entry_text n acts.now) }
     ensures err { OnErr result (to.new.items ≡ to.old.items) }

@@ -19,8 +19,8 @@ pub enum SchedRefusal {
     BadLine,
     /// The line has more than 140,000 bytes. Its number is 2; it is told as soon as they are there.
     LineTooLong,
-    /// The target is no web URL in its one spelling (URL Standard), has a fragment, or has more than
-    /// 8,192 bytes. Its number is 3.
+    /// The target is no web URL in its one spelling (URL Standard), has a fragment, or has more
+    /// than 8,192 bytes. Its number is 3.
     BadTarget,
     /// The moment is below `last`, the one that was set before. Its number is 4.
     MomentBack { last: u64 },

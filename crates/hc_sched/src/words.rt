@@ -1,5 +1,6 @@
 //! Words of a line.
 ghost use Rattle.std.specs.Prelude.{◌≡◌, ◌==◌, ◌+◌, ◌≤◌, length, IfSome, OnSome, option_map, position};
+ghost use Rattle.hc_text.specs.Texts.{lacks};
 ghost use Rattle.hc_sched.specs.Words.{cut, numbered, plain_of, plain_within};
 
 use hc_text::read_plain;
@@ -52,4 +53,11 @@ pub(crate) fn numbered(words: &[u8]) -> Option<(u64, &[u8])>
     let (number, rest) = cut(words, b' ')?;
     let n = plain(number)?;
     Some((n, rest))
+}
+
+/// Whether the byte does not stand in the text.
+pub(crate) fn lacks(text: &[u8], byte: u8) -> bool
+    ensures { result ≡ lacks byte text.now }
+{
+    text.iter().all(|b| *b != byte)
 }

@@ -8,7 +8,7 @@ abbrev pub invariant-loop-line : goal.invariant-loop-line
 invariant-loop-line l = record {
   still : Still (Reads l.fn.self.place l.fn.self.line.items) l.fn.piece l.fn.out.items l.self.place l.self.line.items l.rest l.out.items;
   within : IsWithin l.self;
-  few : l.self.place.lines + length l.rest ≤ 2 ^ 60;
+  few : l.self.place.lines + length l.rest ≤ l.fn.self.place.lines + length l.fn.piece;
 }
 
 abbrev pub decreases-loop-line : goal.decreases-loop-line

@@ -1,0 +1,85 @@
+-- A field line that is spelled is read.
+use Rattle.std.proofs.Common.{◌≡◌, ℕ, ◌+◌, ◌<◌, ◌≤◌, ◌==◌, not, true, false, List, [], ◌∷◌, ◌++◌, length, Some, None, refl, sym, ap, ◌∙◌, inl, inr, arith, append_assoc, length-append, le-leb}
+use Rattle.std.specs.Prelude.{codes, Bool}
+use Rattle.std.specs.List.{list_all}
+use Rattle.std.proofs.lemmas.Bool.{and_parts, cases_eq, both_ways, and_from, not_from_false, ne_eqb}
+use Rattle.std.proofs.lemmas.List.Sums.{sum_by-append}
+use Rattle.http_header.specs.Token.{is_token_byte}
+use Rattle.hc_text.specs.Texts.{lacks}
+use Rattle.hc_fields.specs.FieldList.{IsField, IsFieldList, size_of, put}
+use Rattle.hc_fields.specs.Lines.{field_text, is_lower_byte}
+use Rattle.hc_fields.proofs.Ends.{IsField-last, IsFieldList-prefix, sorted-last, put-last}
+use Rattle.hc_fields.proofs.FieldTexts.{IsLine-field}
+use Rattle.hc_fields.proofs.ReadLemmas.{IsCut-field}
+use Rattle.hc_sched.specs.FieldLines.{named, is_lower_token, has_room, may_follow, keeps_order, field_of}
+use Rattle.hc_sched.specs.Schedule.{IsHead}
+use Rattle.hc_sched.proofs.Steps.{cut-first, behind-append, lacks-append}
+
+abbrev pub Pair : Type 0
+Pair = List ℕ × List ℕ
+
+-- a byte that fails a test does not stand in a text of bytes that pass it
+pub lacks-failing : (p : ℕ → Bool) (b : ℕ) (text : List ℕ) → p b ≡ false → list_all p text ≡ true → lacks b text ≡ true
+lacks-failing p b [] fails h = refl
+lacks-failing p b (x ∷ text) fails h =
+    let both = and_parts (p x) (list_all p text) h in
+    elim (cases_eq x b) [
+      | inl same ↦ absurd (both_ways _ fails (rw same at both.0))
+      | inr other ↦ and_from _ _ (not_from_false _ (ne_eqb x b other)) (lacks-failing p b text fails both.1)
+    ]
+
+-- the line of a field
+abbrev pub line_of : Pair → List ℕ
+line_of f = f.0 ++ 58 ∷ 32 ∷ f.1
+
+pub field_text-line : (f : Pair) → field_text f ≡ line_of f ++ 10 ∷ []
+field_text-line f = simp append_assoc
+
+feed_ends : is_lower_byte 10 ≡ false
+unfolding is_token_byte
+feed_ends = refl
+
+pub lacks-field : (f : Pair) → IsField f → lacks 10 (line_of f) ≡ true
+lacks-field f h =
+    lacks-append 10 f.0 (58 ∷ 32 ∷ f.1) (lacks-failing is_lower_byte 10 f.0 feed_ends (IsCut-field f h).0) (IsLine-field f h).1
+
+named-line : (f : Pair) → IsField f → named (line_of f) ≡ Some f
+unfolding named
+named-line f h = rw (cut-first 58 f.0 (32 ∷ f.1) (IsLine-field f h).0, behind-append (codes " ") f.1) refl
+
+size-push : (fs : List Pair) (f : Pair) → size_of (fs ++ f ∷ []) ≡ size_of fs + (length f.0 + length f.1)
+size-push fs f = sum_by-append (λ (g : Pair). length g.0 + length g.1) fs (f ∷ []) ∙ omega arith
+
+may_follow-last : (fs : List Pair) (f : Pair) → IsHead (fs ++ f ∷ []) → may_follow fs f ≡ true
+unfolding may_follow is_lower_token has_room
+may_follow-last fs f h =
+    let field = IsField-last fs f h.list in
+    let cut = IsCut-field f field in
+    let bytes = size-push fs f in
+    let some = le-leb 1 (length f.0) (omega (arith, field.is_name.0)) in
+    let short = le-leb (length f.1) 8192 field.is_short in
+    let small = le-leb (size_of fs + length f.0 + length f.1) 32768 (omega (arith, h.modest.small, bytes)) in
+    rw (some, cut.0, field.is_value, short, small) (sorted-last fs f h.list.sorted)
+
+-- the line of a further field is read
+pub field_of-line : (fs : List Pair) (f : Pair) → IsHead (fs ++ f ∷ []) → field_of fs (line_of f) ≡ Some f
+unfolding field_of
+field_of-line fs f h = rw (named-line f (IsField-last fs f h.list), may_follow-last fs f h) refl
+
+pub put-head : (fs : List Pair) (f : Pair) → IsHead (fs ++ f ∷ []) → put f.0 f.1 fs ≡ fs ++ f ∷ []
+put-head fs f h = put-last f.0 f.1 fs (sorted-last fs f h.list.sorted)
+
+pub IsHead-prefix : (fs gs : List Pair) → IsHead (fs ++ gs) → IsHead fs
+IsHead-prefix fs gs h =
+    let sizes = sum_by-append (λ (f : Pair). length f.0 + length f.1) fs gs in
+    record {
+      list = IsFieldList-prefix fs gs h.list;
+      modest = record {
+        few = omega (arith, h.modest.few, length-append fs gs);
+        small = omega (arith, h.modest.small, sizes);
+      };
+    }
+
+-- the line of a field of a head is short
+pub field-short : (fs : List Pair) (f : Pair) → IsHead (fs ++ f ∷ []) → length (line_of f) ≤ 140000
+field-short fs f h = omega (arith, h.modest.small, size-push fs f, length-append f.0 (58 ∷ 32 ∷ f.1))

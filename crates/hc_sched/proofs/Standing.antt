@@ -1,0 +1,299 @@
+-- A text that is read is spelled: what a place of the reading stands for, byte by byte.
+use Rattle.std.proofs.Common.{◌≡◌, ℕ, suc, ◌+◌, ◌-◌, ◌<◌, ◌≤◌, ◌==◌, true, false, List, [], ◌∷◌, ◌++◌, length, Option, Some, None, refl, sym, ap, subst, ◌∙◌, inl, inr, arith, append_assoc, length-append, lt-ltb}
+use Rattle.std.specs.Prelude.{codes, nat_lt, if◌then◌else◌}
+use Rattle.std.specs.Fmt.{decimal}
+use Rattle.std.proofs.lemmas.Bool.{cases_Bool, cases_lt, cases_eq, eq-eqb, ne_eqb, eqb-true, le-ltb}
+use Rattle.std.proofs.lemmas.List.{append-nil}
+use Rattle.hc_text.specs.Texts.{IsSmall}
+use Rattle.hc_event.specs.declared.event.Event.{Event}
+use Rattle.hc_event.specs.declared.event.Event.TheVariants as event
+use Rattle.hc_fields.specs.FieldList.{IsFieldList, IsModest, put, size_of}
+use Rattle.hc_fields.specs.Lines.{field_text, fields_text}
+use Rattle.hc_fields.proofs.Edits.{IsFieldList-put, length-put, size_of-put}
+use Rattle.hc_fields.proofs.Ends.{put-last}
+use Rattle.hc_fields.proofs.LineLemmas.{fields_text-push}
+use Rattle.hc_sched.specs.declared.begun.Begun.{Begun}
+use Rattle.hc_sched.specs.declared.begun.Opening.{Opening}
+use Rattle.hc_sched.specs.declared.begun.Opening.TheVariants as opening
+use Rattle.hc_sched.specs.declared.place.Place.{Place}
+use Rattle.hc_sched.specs.declared.schedule.Refused.{Refused}
+use Rattle.hc_sched.specs.Words.{◌>>=◌, cut, behind}
+use Rattle.hc_sched.specs.Pieces.{piece_text, bytes_of}
+use Rattle.hc_sched.specs.Targets.{is_target}
+use Rattle.hc_sched.specs.FirstLines.{First, Sets, Starts, Heads, Brings, Dooms, Tells, is_method, first_of}
+use Rattle.hc_sched.specs.FieldLines.{named, may_follow, field_of}
+use Rattle.hc_sched.specs.Reading.{Progress, Reads, Stopped, Spent, Step, refuse, pass, happen, begin, event_of, set_moment, take_first, take_field, take_next, take_line, take_byte, after}
+use Rattle.hc_sched.specs.Schedule.{Item, Moment, Happens, load_word, event_line, item_line, item_fields, item_text, fields_in, text_of, IsHead, IsEvent, IsItem, IsSchedule, moment_after, moment_end}
+use Rattle.hc_sched.proofs.Steps.{none_or_some, bind-Some, append-cut, append-behind}
+use Rattle.hc_sched.proofs.FieldLemmas.{Follows, Follows-from_test}
+use Rattle.hc_sched.proofs.FieldReads.{Pair, line_of, field_text-line}
+use Rattle.hc_sched.proofs.Sound.{Says, first_of-says, test_passes}
+
+-- the first line of an item with so many fields
+abbrev pub opening_line : Opening → ℕ → List ℕ
+opening_line (opening.Start c method key kind) count = codes "start " ++ (decimal c ++ 32 ∷ (method ++ 32 ∷ (load_word kind ++ 32 ∷ (key ++ 32 ∷ decimal count))))
+opening_line (opening.Head x status) count = codes "head " ++ (decimal x ++ 32 ∷ (decimal status ++ 32 ∷ decimal count))
+
+abbrev pub IsOpening : Opening → Type 0
+IsOpening (opening.Start c method key kind) = IsSmall c × (is_method method ≡ true) × (is_target key ≡ true)
+IsOpening (opening.Head x status) = IsSmall x × (200 ≤ status) × (status ≤ 599)
+
+event_line-opening : (o : Opening) (fields : List Pair) → event_line (event_of o fields) ≡ opening_line o (length fields)
+event_line-opening (opening.Start c method key kind) fields = refl
+event_line-opening (opening.Head x status) fields = refl
+
+fields_in-opening : (o : Opening) (fields : List Pair) → fields_in (event_of o fields) ≡ fields
+fields_in-opening (opening.Start c method key kind) fields = refl
+fields_in-opening (opening.Head x status) fields = refl
+
+IsEvent-opening : (o : Opening) (fields : List Pair) → IsOpening o → IsHead fields → IsEvent (event_of o fields)
+IsEvent-opening (opening.Start c method key kind) fields h head = (h.0, h.1, h.2, head)
+IsEvent-opening (opening.Head x status) fields h head = (h.0, h.1, h.2, head)
+
+-- the lines of an item that was begun
+abbrev pub begun_text : Option Begun → List ℕ
+begun_text None = []
+begun_text (Some b) = opening_line b.opening (length b.fields + b.missing) ++ 10 ∷ fields_text b.fields
+
+pub record IsUnder (b : Begun) : Type 0 where
+  pub is_opening : IsOpening b.opening
+  pub head : IsHead b.fields
+  pub some : 0 < b.missing
+  pub few : length b.fields + b.missing ≤ 64
+
+abbrev pub MayUnder : Option Begun → Type 0
+MayUnder None = Unit {0}
+MayUnder (Some b) = IsUnder b
+
+-- whole items were read, and what was begun
+pub record Stands (start : ℕ) (text : List ℕ) (moment : ℕ) (begun : Option Begun) (line : List ℕ) : Type 0 where
+  pub items : List Item
+  pub schedule : IsSchedule start items
+  pub whole : text_of items ++ (begun_text begun ++ line) ≡ text
+  pub moment_is : moment ≡ moment_end start items
+  pub under : MayUnder begun
+
+abbrev pub StandsFor : ℕ → List ℕ → Progress → Type 0
+StandsFor start text (Reads p line) = Stands start text p.moment p.begun line
+StandsFor start text (Stopped refused) = Unit {0}
+StandsFor start text Spent = ⊥
+
+-- items behind items
+text_of-push : (items : List Item) (item : Item) → text_of (items ++ item ∷ []) ≡ text_of items ++ item_text item
+text_of-push [] item = append-nil (item_text item)
+text_of-push (i ∷ items) item = ap (λ (l : List ℕ). item_text i ++ l) (text_of-push items item) ∙ sym (append_assoc (item_text i) (text_of items) (item_text item))
+
+moment_end-push : (now : ℕ) (items : List Item) (item : Item) → moment_end now (items ++ item ∷ []) ≡ moment_after (moment_end now items) item
+moment_end-push now [] item = refl
+moment_end-push now (i ∷ items) item = moment_end-push (moment_after now i) items item
+
+IsSchedule-push : (now : ℕ) (items : List Item) (item : Item) → IsSchedule now items → IsItem item → moment_end now items ≤ moment_after (moment_end now items) item → IsSchedule now (items ++ item ∷ [])
+IsSchedule-push now [] item h is later = (is, later, tt)
+IsSchedule-push now (i ∷ items) item h is later = (h.0, h.1, IsSchedule-push (moment_after now i) items item h.2 is later)
+
+module _ (start : ℕ) where
+  -- an item ends with the line
+  ends_item : (text line front : List ℕ) (m : ℕ) (begun : Option Begun) (item : Item) (h : Stands start text m begun line) → IsItem item → m ≤ moment_after m item
+      → item_text item ≡ begun_text begun ++ (line ++ 10 ∷ []) → Stands start (text ++ 10 ∷ []) (moment_after m item) None []
+  ends_item text line front m begun item h is later spelled =
+      let last : moment_end start h.items ≤ moment_after (moment_end start h.items) item = rw h.moment_is at later in
+      record {
+        items = h.items ++ item ∷ [];
+        schedule = IsSchedule-push start h.items item h.schedule is last;
+        whole =
+            append-nil (text_of (h.items ++ item ∷ []))
+            ∙ text_of-push h.items item
+            ∙ ap (λ (l : List ℕ). text_of h.items ++ l) (spelled ∙ sym (append_assoc (begun_text begun) line (10 ∷ [])))
+            ∙ sym (append_assoc (text_of h.items) (begun_text begun ++ line) (10 ∷ []))
+            ∙ ap (λ (l : List ℕ). l ++ 10 ∷ []) h.whole;
+        moment_is = ap (λ (k : ℕ). moment_after k item) h.moment_is ∙ sym (moment_end-push start h.items item);
+        under = tt;
+      }
+
+  -- one line is an item
+  one_item : (text line : List ℕ) (m : ℕ) (item : Item) → Stands start text m None line → IsItem item → m ≤ moment_after m item → item_line item ≡ line → item_fields item ≡ []
+      → Stands start (text ++ 10 ∷ []) (moment_after m item) None []
+  one_item text line m item h is later same none =
+      ends_item text line [] m None item h is later (ap (λ (l : List Pair). item_line item ++ 10 ∷ fields_text l) none ∙ ap (λ (l : List ℕ). l ++ 10 ∷ []) same)
+
+  -- the first line of an item with fields
+  begins_item : (text line : List ℕ) (p : Place) (o : Opening) (count bytes : ℕ) → Stands start text p.moment None line → IsOpening o → opening_line o count ≡ line → count ≤ 64
+      → StandsFor start (text ++ 10 ∷ []) (begin p o count bytes).next
+  begins_item text line p o count bytes h is same few =
+      elim (cases_eq count 0) [
+        | inl zero ↦
+            let event = event_of o [] in
+            let none : IsHead [] = record { list = record { fields = λ k d lt. absurd (omega arith); sorted = refl; few = omega arith; small = omega arith }; modest = record { few = omega arith; small = omega arith } } in
+            let line_is : item_line (Happens event) ≡ line = event_line-opening o [] ∙ (ap (opening_line o) (sym zero) ∙ same) in
+            rw (eq-eqb count 0 zero) (one_item text line p.moment (Happens event) h (IsEvent-opening o [] is none) (omega arith) line_is (fields_in-opening o []))
+        | inr some ↦
+            let none : IsHead [] = record { list = record { fields = λ k d lt. absurd (omega arith); sorted = refl; few = omega arith; small = omega arith }; modest = record { few = omega arith; small = omega arith } } in
+            let stands : Stands start (text ++ 10 ∷ []) p.moment (Some (record { opening = o; fields = []; missing = count; bytes = bytes + 1 })) [] = record {
+              items = h.items;
+              schedule = h.schedule;
+              whole =
+                  ap (λ (l : List ℕ). text_of h.items ++ l) (append-nil (opening_line o (0 + count) ++ 10 ∷ []) ∙ ap (λ (k : ℕ). opening_line o k ++ 10 ∷ []) (omega arith) ∙ ap (λ (l : List ℕ). l ++ 10 ∷ []) same)
+                  ∙ sym (append_assoc (text_of h.items) line (10 ∷ []))
+                  ∙ ap (λ (l : List ℕ). l ++ 10 ∷ []) h.whole;
+              moment_is = h.moment_is;
+              under = record { is_opening = is; head = none; some = omega arith; few = omega arith };
+            } in
+            rw (ne_eqb count 0 some) stands
+      ]
+
+  -- a first line
+  says_step : (text line : List ℕ) (p : Place) (bytes : ℕ) (f : First) → Stands start text p.moment None line → Says line f
+      → StandsFor start (text ++ 10 ∷ []) (take_first p bytes (Some f)).next
+  says_step text line p bytes (Sets now) h says =
+      elim (cases_lt now p.moment) [
+        | inl back ↦ rw (lt-ltb now p.moment back) tt
+        | inr later ↦ rw (le-ltb now p.moment later) (one_item text line p.moment (Moment now) h says.1 later says.0 refl)
+      ]
+  says_step text line p bytes (Starts c method kind target count) h says =
+      elim (cases_Bool (is_target target)) [
+        | inl is ↦ rw is (begins_item text line p (opening.Start c method target kind) count bytes h (says.1, says.2, is) says.0 says.3)
+        | inr bad ↦ rw bad tt
+      ]
+  says_step text line p bytes (Heads x status count) h says =
+      begins_item text line p (opening.Head x status) count bytes h (says.1, says.2, says.3) says.0 says.4
+  says_step text line p bytes (Brings x word) h says =
+      one_item text line p.moment (Happens (event.Piece x (bytes_of word))) h (says.1, says.2.short, says.2.small) (omega arith) says.0 refl
+  says_step text line p bytes (Dooms target) h says =
+      elim (cases_Bool (is_target target)) [
+        | inl is ↦ rw is (one_item text line p.moment (Happens (event.Doom target)) h is (omega arith) says refl)
+        | inr bad ↦ rw bad tt
+      ]
+  says_step text line p bytes (Tells event) h says = one_item text line p.moment (Happens event) h says.1 (omega arith) says.0 says.2
+
+  first_step : (text line : List ℕ) (p : Place) (bytes : ℕ) → Stands start text p.moment None line → StandsFor start (text ++ 10 ∷ []) (take_first p bytes (first_of line)).next
+  first_step text line p bytes h =
+      elim (none_or_some (first_of line)) [
+        | inl none ↦ rw none tt
+        | inr some ↦ rw some.1 (says_step text line p bytes some.0 h (first_of-says line some.0 some.1))
+      ]
+
+-- a field line
+record IsNext (fields : List Pair) (line : List ℕ) (f : Pair) : Type 0 where
+  line_is : line_of f ≡ line
+  put_is : put f.0 f.1 fields ≡ fields ++ f ∷ []
+  head : IsHead (put f.0 f.1 fields)
+
+named-parts : (line : List ℕ) (f : Pair) → named line ≡ Some f → line_of f ≡ line
+unfolding named
+named-parts line f h =
+    let first = bind-Some (cut 58 line) _ f h in
+    let second = bind-Some (behind (codes " ") first.0.1) _ f first.2 in
+    let same : (first.0.0, second.0) ≡ f = cc second.2 in
+    let text = ap (λ (l : List ℕ). first.0.0 ++ 58 ∷ l) (append-behind (codes " ") first.0.1 second.0 second.1) ∙ append-cut 58 line first.0 first.1 in
+    subst (λ (g : Pair). line_of g ≡ line) same text
+
+field_of-parts : (fields : List Pair) (line : List ℕ) (f : Pair) → IsHead fields → length fields < 64 → field_of fields line ≡ Some f → IsNext fields line f
+unfolding field_of
+field_of-parts fields line f head few h =
+    let first = bind-Some (named line) _ f h in
+    let passes = test_passes (may_follow fields first.0) first.0 f first.2 in
+    let follows = Follows-from_test fields first.0 passes.0 in
+    let name = first.0.0 in
+    let value = first.0.1 in
+    subst (λ (g : Pair). IsNext fields line g) passes.1 (record {
+      line_is = named-parts line first.0 first.1;
+      put_is = put-last name value fields follows.order;
+      head = record {
+        list = IsFieldList-put name value fields head.list follows.is (omega arith) (omega (arith, follows.fits));
+        modest = record {
+          few = omega (arith, length-put name value fields);
+          small = omega (arith, follows.fits, size_of-put name value fields);
+        };
+      };
+    })
+
+-- the lines of an item with one field more
+grown : (o : Opening) (count : ℕ) (fields : List Pair) (f : Pair) (line : List ℕ) → line_of f ≡ line
+    → (opening_line o count ++ 10 ∷ fields_text fields) ++ (line ++ 10 ∷ []) ≡ opening_line o count ++ 10 ∷ fields_text (fields ++ f ∷ [])
+grown o count fields f line is =
+    append_assoc (opening_line o count) (10 ∷ fields_text fields) (line ++ 10 ∷ [])
+    ∙ ap (λ (l : List ℕ). opening_line o count ++ 10 ∷ l) (ap (λ (l : List ℕ). fields_text fields ++ (l ++ 10 ∷ [])) (sym is) ∙ ap (λ (l : List ℕ). fields_text fields ++ l) (sym (field_text-line f)) ∙ sym (fields_text-push fields f))
+
+module _ (start : ℕ) where
+  next_step : (text line : List ℕ) (p : Place) (b : Begun) (bytes : ℕ) (f : Pair) → Stands start text p.moment (Some b) line → IsNext b.fields line f
+      → StandsFor start (text ++ 10 ∷ []) (take_field p b bytes (Some f)).next
+  next_step text line p b bytes f h next =
+      let fields = put f.0 f.1 b.fields in
+      let more = length-put f.0 f.1 b.fields in
+      elim (cases_eq b.missing 1) [
+        | inl one ↦
+            let count : length b.fields + b.missing ≡ length fields = omega (arith, more, one) in
+            let spelled : item_text (Happens (event_of b.opening fields)) ≡ begun_text (Some b) ++ (line ++ 10 ∷ []) =
+            ap (λ (l : List Pair). event_line (event_of b.opening fields) ++ 10 ∷ fields_text l) (fields_in-opening b.opening fields)
+            ∙ ap (λ (l : List ℕ). l ++ 10 ∷ fields_text fields) (event_line-opening b.opening fields)
+            ∙ ap (λ (k : ℕ). opening_line b.opening k ++ 10 ∷ fields_text fields) (sym count)
+            ∙ ap (λ (l : List Pair). opening_line b.opening (length b.fields + b.missing) ++ 10 ∷ fields_text l) next.put_is
+            ∙ sym (grown b.opening (length b.fields + b.missing) b.fields f line next.line_is) in
+            rw (eq-eqb b.missing 1 one) (ends_item start text line [] p.moment (Some b) (Happens (event_of b.opening fields)) h (IsEvent-opening b.opening fields h.under.is_opening next.head) (omega arith) spelled)
+        | inr others ↦
+            let count : length fields + (b.missing - 1) ≡ length b.fields + b.missing = omega (arith, more, h.under.some) in
+            let stands : Stands start (text ++ 10 ∷ []) p.moment (Some (record { opening = b.opening; fields = fields; missing = b.missing - 1; bytes = b.bytes + bytes + 1 })) [] = record {
+              items = h.items;
+              schedule = h.schedule;
+              whole =
+                  ap (λ (l : List ℕ). text_of h.items ++ l)
+                  (append-nil (opening_line b.opening (length fields + (b.missing - 1)) ++ 10 ∷ fields_text fields)
+                  ∙ ap (λ (k : ℕ). opening_line b.opening k ++ 10 ∷ fields_text fields) count
+                  ∙ ap (λ (l : List Pair). opening_line b.opening (length b.fields + b.missing) ++ 10 ∷ fields_text l) next.put_is
+                  ∙ sym (grown b.opening (length b.fields + b.missing) b.fields f line next.line_is)
+                  ∙ sym (append_assoc (begun_text (Some b)) line (10 ∷ [])))
+                  ∙ sym (append_assoc (text_of h.items) (begun_text (Some b) ++ line) (10 ∷ []))
+                  ∙ ap (λ (l : List ℕ). l ++ 10 ∷ []) h.whole;
+              moment_is = h.moment_is;
+              under = record {
+                is_opening = h.under.is_opening;
+                head = next.head;
+                some = omega (arith, h.under.some);
+                few = omega (arith, h.under.few, count);
+              };
+            } in
+            rw (ne_eqb b.missing 1 others) stands
+      ]
+
+  line_step : (text line : List ℕ) (p : Place) (begun : Option Begun) → Stands start text p.moment begun line → StandsFor start (text ++ 10 ∷ []) (take_next p begun line).next
+  line_step text line p None h = first_step start text line p (length line) h
+  line_step text line p (Some b) h =
+      elim (none_or_some (field_of b.fields line)) [
+        | inl none ↦ rw none tt
+        | inr some ↦
+            let few : length b.fields < 64 = omega (arith, h.under.few, h.under.some) in
+            rw some.1 (next_step text line p b (length line) some.0 h (field_of-parts b.fields line some.0 h.under.head few some.1))
+      ]
+
+  -- one byte more
+  byte_step : (text : List ℕ) (s : Progress) (b : ℕ) → StandsFor start text s → StandsFor start (text ++ b ∷ []) (take_byte s b).next
+  unfolding take_byte take_line
+  byte_step text (Reads p line) b h =
+      elim (cases_Bool (b == 10)) [
+        | inl feed ↦
+            let is : b ≡ 10 = eqb-true b 10 feed in
+            rw feed (subst (λ (c : ℕ). StandsFor start (text ++ c ∷ []) (take_next p p.begun line).next) (sym is) (line_step text line p p.begun h))
+        | inr other ↦
+            elim (cases_lt (length line) 140000) [
+              | inl short ↦
+                  let stands : Stands start (text ++ b ∷ []) p.moment p.begun (line ++ b ∷ []) = record {
+                    items = h.items;
+                    schedule = h.schedule;
+                    whole =
+                        ap (λ (l : List ℕ). text_of h.items ++ l) (sym (append_assoc (begun_text p.begun) line (b ∷ [])))
+                        ∙ sym (append_assoc (text_of h.items) (begun_text p.begun ++ line) (b ∷ []))
+                        ∙ ap (λ (l : List ℕ). l ++ b ∷ []) h.whole;
+                    moment_is = h.moment_is;
+                    under = h.under;
+                  } in
+                  rw (other, lt-ltb (length line) 140000 short) stands
+              | inr full ↦ rw (other, le-ltb (length line) 140000 full) tt
+            ]
+      ]
+  byte_step text (Stopped refused) b h = tt
+  byte_step text Spent b h = absurd h
+
+  pub text_step : (done text : List ℕ) (s : Progress) → StandsFor start done s → StandsFor start (done ++ text) (after s text)
+  text_step done [] s h = rw (append-nil done) h
+  text_step done (b ∷ text) s h =
+      rw (← append_assoc done (b ∷ []) text) (text_step (done ++ b ∷ []) text (take_byte s b).next (byte_step done s b h))

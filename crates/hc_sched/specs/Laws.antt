@@ -1,0 +1,69 @@
+-- Laws of schedules.
+use Rattle.std.specs.Prelude.{◌≡◌, ◌≢◌, ℕ, ◌+◌, List, [], ◌∷◌, ◌++◌, Option, Some, None, if◌then◌else◌}
+use Rattle.hc_sched.specs.declared.place.Place.{Place}
+use Rattle.hc_sched.specs.declared.schedule.Refused.{Refused}
+use Rattle.hc_sched.specs.declared.schedule.SchedRefusal.TheVariants as why
+use Rattle.hc_sched.specs.declared.schedule.Timed.{Timed}
+use Rattle.hc_sched.specs.Reading.{Progress, Reads, Stopped, Spent, after, events_in}
+use Rattle.hc_sched.specs.Feeding.{beginning, is_between}
+use Rattle.hc_sched.specs.Schedule.{Item, Spells, events_of, timed_text}
+
+-- between two items, behind so many lines
+abbrev pub at_rest : ℕ → ℕ → Place
+at_rest moment lines = record { moment = moment; lines = lines; begun = None }
+
+-- the bytes lead from one reading to another, and bring these events
+pub record Gives (s : Progress) (text : List ℕ) (t : Progress) (events : List Timed) : Type 0 where
+  pub leads : after s text ≡ t
+  pub brings : events_in s text ≡ events
+
+-- The text of an event behind a moment is read back as that event, wherever it stands behind that
+-- moment, and then its own moment is the last one.
+abbrev pub IsReadBack : ℕ → Timed → Type 0
+IsReadBack last timed =
+    (lines : ℕ) → (more : ℕ)
+    × Gives (Reads (at_rest last lines) []) (timed_text last timed)
+    (Reads (at_rest timed.now more) []) (timed ∷ [])
+
+-- the refusal of a text that ends where the reading stands
+abbrev pub refusal_at : Progress → Option Refused
+refusal_at (Reads place line) =
+    if is_between place line then None
+    else Some (record { line = place.lines + 1; why = why.CutShort })
+refusal_at (Stopped refused) = Some refused
+refusal_at Spent = None
+
+-- the first refusal of a text that begins at this moment
+abbrev pub refusal_of : ℕ → List ℕ → Option Refused
+refusal_of now text = refusal_at (after (beginning now) text)
+
+-- a text that spells items isn't refused, and brings their events
+abbrev pub IsReadAsSpelled : Type 0
+IsReadAsSpelled =
+    (now : ℕ) (text : List ℕ) (items : List Item) → Spells now text items
+    → (refusal_of now text ≡ None) × (events_in (beginning now) text ≡ events_of now items)
+
+-- a text that isn't refused spells items
+abbrev pub IsSpelledAsRead : Type 0
+IsSpelledAsRead =
+    (now : ℕ) (text : List ℕ) → refusal_of now text ≡ None
+    → (items : List Item) × Spells now text items
+
+-- a text spells one list of items at most
+abbrev pub HasOneSpelling : Type 0
+HasOneSpelling =
+    (now : ℕ) (text : List ℕ) (xs ys : List Item) → Spells now text xs → Spells now text ys
+    → xs ≡ ys
+
+-- a refused text stays refused so, whatever follows, but for one that is cut short
+abbrev pub StaysRefused : Type 0
+StaysRefused =
+    (now : ℕ) (text more : List ℕ) (refused : Refused) → refusal_of now text ≡ Some refused
+    → refused.why ≢ why.CutShort
+    → refusal_of now (text ++ more) ≡ Some refused
+
+-- a text is read piece by piece
+abbrev pub IsReadPiecewise : Type 0
+IsReadPiecewise = (s : Progress) (xs ys : List ℕ)
+    → (after s (xs ++ ys) ≡ after (after s xs) ys)
+    × (events_in s (xs ++ ys) ≡ events_in s xs ++ events_in (after s xs) ys)

@@ -1,0 +1,152 @@
+//! The writer of schedules.
+ghost use Rattle.std.specs.Prelude.{◌≡◌, ◌≤◌, ◌++◌, ◌∷◌, OnOk, OnErr};
+ghost use Rattle.hc_sched.specs.Parts.{IsKept};
+ghost use Rattle.hc_sched.specs.Schedule.{Happens, Moment, IsEvent, IsSmall, load_word, item_text, items_of, text_of, timed_text};
+ghost use Rattle.hc_sched.specs.Laws.{IsReadBack};
+
+use crate::parts::Part::{Number, Text};
+use crate::parts::{write_hex, write_parts};
+use crate::schedule::Timed;
+use hc_event::{Event, Load, Request, Response};
+use hc_text::NoMemory;
+
+fn load_text(load: Load) -> &'static [u8]
+    ensures { result.now ≡ load_word load }
+{
+    match load {
+        Load::Normal => b"normal",
+        Load::Validate => b"validate",
+        Load::Bypass => b"bypass",
+        Load::Skip => b"skip",
+        Load::Only => b"only",
+        Load::Disable => b"disable",
+    }
+}
+
+/// Writes the lines of a request.
+fn write_start(c: u64, request: &Request, to: &mut Vec<u8>) -> Result<(), NoMemory>
+    ensures ok { OnOk result (to.new.items
+        ≡ to.old.items ++ item_text (Happens (Event.Start c request.now))) }
+    ensures err { OnErr result (IsKept to.old.items to.new.items) }
+{
+    let parts = [
+        Text(b"start "),
+        Number(c),
+        Text(b" "),
+        Text(request.method.bytes.as_slice()),
+        Text(b" "),
+        Text(load_text(request.load)),
+        Text(b" "),
+        Text(request.key.bytes.as_slice()),
+        Text(b" "),
+        Number(request.fields.len() as u64),
+        Text(b"\n"),
+    ];
+    write_parts(&parts, to)?;
+    request.fields.write_lines(to)
+}
+
+/// Writes the lines of a head.
+fn write_head(x: u64, response: &Response, to: &mut Vec<u8>) -> Result<(), NoMemory>
+    ensures ok { OnOk result (to.new.items
+        ≡ to.old.items ++ item_text (Happens (Event.Head x response.now))) }
+    ensures err { OnErr result (IsKept to.old.items to.new.items) }
+{
+    let parts = [
+        Text(b"head "),
+        Number(x),
+        Text(b" "),
+        Number(u64::from(response.status)),
+        Text(b" "),
+        Number(response.fields.len() as u64),
+        Text(b"\n"),
+    ];
+    write_parts(&parts, to)?;
+    response.fields.write_lines(to)
+}
+
+/// Writes the line of a piece.
+fn write_piece(x: u64, bytes: &[u8], to: &mut Vec<u8>) -> Result<(), NoMemory>
+    ensures ok { OnOk result (to.new.items
+        ≡ to.old.items ++ item_text (Happens (Event.Piece x bytes.now))) }
+    ensures err { OnErr result (IsKept to.old.items to.new.items) }
+{
+    write_parts(&[Text(b"piece "), Number(x), Text(b" ")], to)?;
+    if bytes.is_empty() {
+        write_parts(&[Text(b"-")], to)?;
+    } else {
+        write_hex(bytes, to)?;
+    }
+    write_parts(&[Text(b"\n")], to)
+}
+
+/// Writes the lines of the event.
+fn write_item(event: &Event, to: &mut Vec<u8>) -> Result<(), NoMemory>
+    ensures ok { OnOk result (to.new.items ≡ to.old.items ++ item_text (Happens event.now)) }
+    ensures err { OnErr result (IsKept to.old.items to.new.items) }
+{
+    match event {
+        Event::Start { c, request } => write_start(*c, request, to),
+        Event::Poll { c, want } => {
+            let parts = [
+                Text(b"poll "),
+                Number(*c),
+                Text(b" "),
+                Number(u64::from(*want)),
+                Text(b"\n"),
+            ];
+            write_parts(&parts, to)
+        }
+        Event::Head { x, response } => write_head(*x, response, to),
+        Event::Piece { x, bytes } => write_piece(*x, bytes.bytes.as_slice(), to),
+        Event::End { x } => write_parts(&[Text(b"end "), Number(*x), Text(b"\n")], to),
+        Event::Fault { x } => write_parts(&[Text(b"fault "), Number(*x), Text(b"\n")], to),
+        Event::Cancel { c } => write_parts(&[Text(b"cancel "), Number(*c), Text(b"\n")], to),
+        Event::Doom { key } => {
+            let parts = [Text(b"doom "), Text(key.bytes.as_slice()), Text(b"\n")];
+            write_parts(&parts, to)
+        }
+    }
+}
+
+/// Writes the line of the moment.
+fn write_moment(now: u64, to: &mut Vec<u8>) -> Result<(), NoMemory>
+    ensures ok { OnOk result (to.new.items ≡ to.old.items ++ item_text (Moment now)) }
+    ensures err { OnErr result (IsKept to.old.items to.new.items) }
+{
+    write_parts(&[Text(b"at "), Number(now), Text(b"\n")], to)
+}
+
+/// Writes the items of the event.
+fn write_items(last: u64, timed: &Timed, to: &mut Vec<u8>) -> Result<(), NoMemory>
+    ensures ok { OnOk result (to.new.items ≡ to.old.items ++ timed_text last timed.entry.now) }
+    ensures err { OnErr result (IsKept to.old.items to.new.items) }
+{
+    if timed.now != last {
+        write_moment(timed.now, to)?;
+    }
+    write_item(&timed.event, to)
+}
+
+/// Appends the text of an event behind the moment `last`, or nothing: a line with its moment, where
+/// that is another, and its lines.
+///
+/// It is read back as that event, behind any schedule that ends at that moment.
+pub fn write_event(last: u64, timed: &Timed, to: &mut Vec<u8>) -> Result<(), NoMemory>
+    requires event { IsEvent timed.now.event }
+    requires moment { IsSmall timed.now.now }
+    requires later { last ≤ timed.now.now }
+    ensures ok { OnOk result (to.new.items ≡ to.old.items ++ timed_text last timed.entry.now) }
+    ensures err { OnErr result (to.new.items ≡ to.old.items) }
+    ensures read_back { IsReadBack last timed.entry.now }
+{
+    let start = to.len();
+    let written = write_items(last, timed, to);
+    if written.is_err() {
+        to.truncate(start);
+    }
+    written
+}
+
+#[cfg(test)]
+mod tests;

@@ -12,7 +12,7 @@ use Rattle.hc_sched.specs.declared.schedule.Refused.{Refused}
 use Rattle.hc_sched.specs.declared.schedule.SchedRefusal.TheVariants as why
 use Rattle.hc_sched.specs.declared.schedule.Timed.{Timed}
 use Rattle.hc_sched.specs.Reading.{Progress, Reads, Stopped, Spent, Step, refuse, quiet, take_line, take_byte, after, events_in}
-use Rattle.hc_sched.specs.Feeding.{join_line, AddsFirst, ReadsOn, Feeds, IsWithin, progress_of}
+use Rattle.hc_sched.specs.Feeding.{join_line, AddsFirst, ReadsOn, Feeds, IsWithin, AnswersAgain, progress_of}
 use Rattle.hc_sched.specs.Taking.{Does, Takes}
 
 -- A refused text stays so.
@@ -236,3 +236,7 @@ feeds_again (error.Refused r) reader s piece old is =
       adds = sym (ap (λ (l : List Timed). old ++ l) (events_in-stopped r piece) ∙ append-nil old);
     })
 feeds_again error.NoMemory reader s piece old is = record { some = []; rest = events_in s piece; whole = refl; adds = sym (append-nil old) }
+
+pub answers_again : (e : FeedError) (reader : Reader) (s : Progress) → progress_of (Some e) reader ≡ s → AnswersAgain s (Err e)
+answers_again (error.Refused r) reader s is = rw (← is) refl
+answers_again error.NoMemory reader s is = rw (← is) refl

@@ -1,5 +1,5 @@
 -- A text has one reading.
-use Rattle.std.proofs.Common.{◌≡◌, ◌≢◌, ◌⊎◌, ℕ, ◌+◌, ◌==◌, ◌&&◌, Bool, true, false, List, [], ◌∷◌, ◌++◌, length, Option, Some, None, refl, sym, ap, subst, ◌∙◌, inl, inr, arith, append_assoc, length-append}
+use Rattle.std.proofs.Common.{◌≡◌, ◌≢◌, ◌⊎◌, ℕ, ◌+◌, ◌≤◌, ◌==◌, ◌&&◌, Bool, true, false, List, [], ◌∷◌, ◌++◌, length, Option, Some, None, refl, sym, ap, subst, ◌∙◌, inl, inr, arith, append_assoc, length-append}
 use Rattle.std.specs.Prelude.{is_none, if◌then◌else◌}
 use Rattle.std.proofs.lemmas.Bool.{cases_Bool, and_parts, eqb-true}
 use Rattle.std.proofs.lemmas.List.{append-nil}
@@ -12,15 +12,16 @@ use Rattle.hc_fields.proofs.FieldTexts.{fields_once}
 use Rattle.hc_sched.specs.declared.begun.Begun.{Begun}
 use Rattle.hc_sched.specs.declared.place.Place.{Place}
 use Rattle.hc_sched.specs.declared.schedule.Refused.{Refused}
+use Rattle.hc_sched.specs.declared.schedule.Timed.{Timed}
 use Rattle.hc_sched.specs.declared.schedule.SchedRefusal.TheVariants as why
 use Rattle.hc_sched.specs.Pieces.{piece_text, bytes_of}
 use Rattle.hc_sched.specs.FirstLines.{First, Sets, Starts, Heads, Brings, Dooms, Tells, first_of}
 use Rattle.hc_sched.specs.Reading.{Progress, Reads, Stopped, Spent, after, events_in}
 use Rattle.hc_sched.specs.Feeding.{beginning, is_between}
-use Rattle.hc_sched.specs.Schedule.{Item, Moment, Happens, item_line, item_fields, item_text, text_of, IsHead, IsItem, IsSchedule, Spells, moment_after, moment_end, events_of}
-use Rattle.hc_sched.specs.Laws.{Gives, at_rest, refusal_at, refusal_of}
+use Rattle.hc_sched.specs.Schedule.{Item, Moment, Happens, item_line, item_fields, item_text, text_of, IsHead, IsItem, IsSmall, IsSchedule, Spells, moment_after, moment_end, events_of}
+use Rattle.hc_sched.specs.Laws.{Gives, HasRead, AreTimed, at_rest, refusal_at, refusal_of}
 use Rattle.hc_sched.proofs.FieldReads.{Pair}
-use Rattle.hc_sched.proofs.FeedLemmas.{after-append, after-stopped}
+use Rattle.hc_sched.proofs.FeedLemmas.{after-append, after-stopped, events_in-append}
 use Rattle.hc_sched.proofs.Forms.{first_for, first_of-line, line-short}
 use Rattle.hc_sched.proofs.Hex.{bytes_of-piece_text}
 use Rattle.hc_sched.proofs.Spelled.{items_read}
@@ -40,8 +41,8 @@ nothing_left None [] h = (refl, refl)
 nothing_left None (b ∷ line) h = absurd (omega (arith, eqb-true (length (b ∷ line)) 0 h))
 nothing_left (Some b) line h = cc h
 
-spelled_at : (now : ℕ) (text : List ℕ) (s : Progress) → StandsFor now text s → refusal_at s ≡ None → (items : List Item) × Spells now text items
-spelled_at now text (Reads p line) h none =
+spelled_at : (now : ℕ) (text : List ℕ) (es : List Timed) (s : Progress) → StandsFor now text es s → refusal_at s ≡ None → (items : List Item) × Spells now text items
+spelled_at now text es (Reads p line) h none =
     elim (cases_Bool (is_between p line)) [
       | inl rest ↦
           let left = nothing_left p.begun line rest in
@@ -49,13 +50,48 @@ spelled_at now text (Reads p line) h none =
           (h.items, record { schedule = h.schedule; text_is = sym (append-nil (text_of h.items)) ∙ whole })
       | inr more ↦ cc (rw more at none)
     ]
-spelled_at now text (Stopped refused) h none = cc none
-spelled_at now text Spent h none = absurd h
+spelled_at now text es (Stopped refused) h none = cc none
+spelled_at now text es Spent h none = absurd h
+
+-- where the reading of a text stands
+stands_at : (now : ℕ) (text : List ℕ) → StandsFor now text (events_in (beginning now) text) (after (beginning now) text)
+stands_at now text =
+    let first : StandsFor now [] [] (beginning now) = record { items = []; schedule = tt; whole = refl; events = refl; moment_is = refl; under = tt } in
+    text_step now [] text [] (beginning now) first
 
 pub is_spelled : (now : ℕ) (text : List ℕ) → refusal_of now text ≡ None → (items : List Item) × Spells now text items
-is_spelled now text none =
-    let first : StandsFor now [] (beginning now) = record { items = []; schedule = tt; whole = refl; moment_is = refl; under = tt } in
-    spelled_at now text (after (beginning now) text) (text_step now [] text (beginning now) first) none
+is_spelled now text none = spelled_at now text (events_in (beginning now) text) (after (beginning now) text) (stands_at now text) none
+
+has_read : (now : ℕ) (text : List ℕ) (es : List Timed) (s : Progress) → StandsFor now text es s → HasRead now text es
+has_read now text es (Reads p line) h = record {
+  items = h.items;
+  rest = begun_text p.begun ++ line;
+  schedule = h.schedule;
+  whole = h.whole;
+  events_are = h.events;
+}
+has_read now text es (Stopped refused) h = h
+has_read now text es Spent h = absurd h
+
+pub brings_items : (now : ℕ) (text : List ℕ) → HasRead now text (events_in (beginning now) text)
+brings_items now text = has_read now text (events_in (beginning now) text) (after (beginning now) text) (stands_at now text)
+
+timed_of : (last now : ℕ) (items : List Item) → last ≤ now → IsSmall now → IsSchedule now items → AreTimed last (events_of now items)
+timed_of last now [] le small h = tt
+timed_of last now (Moment later ∷ items) le small h = timed_of last later items (omega (arith, le, h.1)) h.0 h.2
+timed_of last now (Happens event ∷ items) le small h = (h.0, small, le, timed_of now now items (omega arith) small h.2)
+
+pub brings_timed : (now : ℕ) (text : List ℕ) → IsSmall now → AreTimed now (events_in (beginning now) text)
+brings_timed now text small =
+    let read = brings_items now text in rw read.events_are (timed_of now now read.items (omega arith) small read.schedule)
+
+pub brings_all : (now : ℕ) (items : List Item) (rest : List ℕ) → IsSchedule now items
+    → (more : List Timed) × (events_in (beginning now) (text_of items ++ rest) ≡ events_of now items ++ more)
+brings_all now items rest h =
+    let off = items_read now 0 items h in (
+      events_in (after (beginning now) (text_of items)) rest,
+      events_in-append (beginning now) (text_of items) rest ∙ ap (λ (l : List Timed). l ++ events_in (after (beginning now) (text_of items)) rest) off.gives.brings,
+    )
 
 -- An item by its first line and its fields.
 item_from : First → List Pair → Item

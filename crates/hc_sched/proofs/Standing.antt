@@ -17,13 +17,15 @@ use Rattle.hc_sched.specs.declared.begun.Opening.{Opening}
 use Rattle.hc_sched.specs.declared.begun.Opening.TheVariants as opening
 use Rattle.hc_sched.specs.declared.place.Place.{Place}
 use Rattle.hc_sched.specs.declared.schedule.Refused.{Refused}
+use Rattle.hc_sched.specs.declared.schedule.Timed.{Timed}
 use Rattle.hc_sched.specs.Words.{◌>>=◌, cut, behind}
 use Rattle.hc_sched.specs.Pieces.{piece_text, bytes_of}
 use Rattle.hc_sched.specs.Targets.{is_target}
 use Rattle.hc_sched.specs.FirstLines.{First, Sets, Starts, Heads, Brings, Dooms, Tells, is_method, first_of}
 use Rattle.hc_sched.specs.FieldLines.{named, may_follow, field_of}
-use Rattle.hc_sched.specs.Reading.{Progress, Reads, Stopped, Spent, Step, refuse, pass, happen, begin, event_of, set_moment, take_first, take_field, take_next, take_line, take_byte, after}
-use Rattle.hc_sched.specs.Schedule.{Item, Moment, Happens, load_word, event_line, item_line, item_fields, item_text, fields_in, text_of, IsHead, IsEvent, IsItem, IsSchedule, moment_after, moment_end}
+use Rattle.hc_sched.specs.Reading.{Progress, Reads, Stopped, Spent, Step, refuse, pass, happen, begin, event_of, set_moment, take_first, take_field, take_next, take_line, take_byte, after, events_in}
+use Rattle.hc_sched.specs.Schedule.{Item, Moment, Happens, load_word, event_line, item_line, item_fields, item_text, fields_in, text_of, IsHead, IsEvent, IsItem, IsSchedule, moment_after, moment_end, event_at, events_of}
+use Rattle.hc_sched.specs.Laws.{HasRead}
 use Rattle.hc_sched.proofs.Steps.{none_or_some, bind-Some, append-cut, append-behind}
 use Rattle.hc_sched.proofs.FieldLemmas.{Follows, Follows-from_test}
 use Rattle.hc_sched.proofs.FieldReads.{Pair, line_of, field_text-line}
@@ -66,17 +68,22 @@ MayUnder None = Unit {0}
 MayUnder (Some b) = IsUnder b
 
 -- whole items were read, and what was begun
-pub record Stands (start : ℕ) (text : List ℕ) (moment : ℕ) (begun : Option Begun) (line : List ℕ) : Type 0 where
+pub record Stands (start : ℕ) (text : List ℕ) (es : List Timed) (moment : ℕ) (begun : Option Begun) (line : List ℕ) : Type 0 where
   pub items : List Item
   pub schedule : IsSchedule start items
   pub whole : text_of items ++ (begun_text begun ++ line) ≡ text
+  pub events : es ≡ events_of start items
   pub moment_is : moment ≡ moment_end start items
   pub under : MayUnder begun
 
-abbrev pub StandsFor : ℕ → List ℕ → Progress → Type 0
-StandsFor start text (Reads p line) = Stands start text p.moment p.begun line
-StandsFor start text (Stopped refused) = Unit {0}
-StandsFor start text Spent = ⊥
+abbrev pub StandsFor : ℕ → List ℕ → List Timed → Progress → Type 0
+StandsFor start text es (Reads p line) = Stands start text es p.moment p.begun line
+StandsFor start text es (Stopped refused) = HasRead start text es
+StandsFor start text es Spent = ⊥
+
+-- what a step leads to
+abbrev StepsTo : ℕ → List ℕ → List Timed → Step → Type 0
+StepsTo start text es step = StandsFor start text (es ++ step.events) step.next
 
 -- items behind items
 text_of-push : (items : List Item) (item : Item) → text_of (items ++ item ∷ []) ≡ text_of items ++ item_text item
@@ -87,15 +94,33 @@ moment_end-push : (now : ℕ) (items : List Item) (item : Item) → moment_end n
 moment_end-push now [] item = refl
 moment_end-push now (i ∷ items) item = moment_end-push (moment_after now i) items item
 
+events_of-push : (now : ℕ) (items : List Item) (item : Item) → events_of now (items ++ item ∷ []) ≡ events_of now items ++ event_at (moment_end now items) item
+events_of-push now [] item = append-nil (event_at now item)
+events_of-push now (i ∷ items) item =
+    ap (λ (l : List Timed). event_at now i ++ l) (events_of-push (moment_after now i) items item)
+    ∙ sym (append_assoc (event_at now i) (events_of (moment_after now i) items) (event_at (moment_end (moment_after now i) items) item))
+
 IsSchedule-push : (now : ℕ) (items : List Item) (item : Item) → IsSchedule now items → IsItem item → moment_end now items ≤ moment_after (moment_end now items) item → IsSchedule now (items ++ item ∷ [])
 IsSchedule-push now [] item h is later = (is, later, tt)
 IsSchedule-push now (i ∷ items) item h is later = (h.0, h.1, IsSchedule-push (moment_after now i) items item h.2 is later)
 
+-- the text goes on, and no item more is read of it
+stops : (start : ℕ) (text more : List ℕ) (es : List Timed) (m : ℕ) (begun : Option Begun) (line : List ℕ) → Stands start text es m begun line → HasRead start (text ++ more) (es ++ [])
+stops start text more es m begun line h = record {
+  items = h.items;
+  rest = begun_text begun ++ line ++ more;
+  schedule = h.schedule;
+  whole =
+      sym (append_assoc (text_of h.items) (begun_text begun ++ line) more)
+      ∙ ap (λ (l : List ℕ). l ++ more) h.whole;
+  events_are = append-nil es ∙ h.events;
+}
+
 module _ (start : ℕ) where
   -- an item ends with the line
-  ends_item : (text line front : List ℕ) (m : ℕ) (begun : Option Begun) (item : Item) (h : Stands start text m begun line) → IsItem item → m ≤ moment_after m item
-      → item_text item ≡ begun_text begun ++ (line ++ 10 ∷ []) → Stands start (text ++ 10 ∷ []) (moment_after m item) None []
-  ends_item text line front m begun item h is later spelled =
+  ends_item : (text line : List ℕ) (es : List Timed) (m : ℕ) (begun : Option Begun) (item : Item) (h : Stands start text es m begun line) → IsItem item → m ≤ moment_after m item
+      → item_text item ≡ begun_text begun ++ (line ++ 10 ∷ []) → Stands start (text ++ 10 ∷ []) (es ++ event_at m item) (moment_after m item) None []
+  ends_item text line es m begun item h is later spelled =
       let last : moment_end start h.items ≤ moment_after (moment_end start h.items) item = rw h.moment_is at later in
       record {
         items = h.items ++ item ∷ [];
@@ -106,35 +131,40 @@ module _ (start : ℕ) where
             ∙ ap (λ (l : List ℕ). text_of h.items ++ l) (spelled ∙ sym (append_assoc (begun_text begun) line (10 ∷ [])))
             ∙ sym (append_assoc (text_of h.items) (begun_text begun ++ line) (10 ∷ []))
             ∙ ap (λ (l : List ℕ). l ++ 10 ∷ []) h.whole;
+        events =
+            ap (λ (l : List Timed). l ++ event_at m item) h.events
+            ∙ ap (λ (k : ℕ). events_of start h.items ++ event_at k item) h.moment_is
+            ∙ sym (events_of-push start h.items item);
         moment_is = ap (λ (k : ℕ). moment_after k item) h.moment_is ∙ sym (moment_end-push start h.items item);
         under = tt;
       }
 
   -- one line is an item
-  one_item : (text line : List ℕ) (m : ℕ) (item : Item) → Stands start text m None line → IsItem item → m ≤ moment_after m item → item_line item ≡ line → item_fields item ≡ []
-      → Stands start (text ++ 10 ∷ []) (moment_after m item) None []
-  one_item text line m item h is later same none =
-      ends_item text line [] m None item h is later (ap (λ (l : List Pair). item_line item ++ 10 ∷ fields_text l) none ∙ ap (λ (l : List ℕ). l ++ 10 ∷ []) same)
+  one_item : (text line : List ℕ) (es : List Timed) (m : ℕ) (item : Item) → Stands start text es m None line → IsItem item → m ≤ moment_after m item → item_line item ≡ line → item_fields item ≡ []
+      → Stands start (text ++ 10 ∷ []) (es ++ event_at m item) (moment_after m item) None []
+  one_item text line es m item h is later same none =
+      ends_item text line es m None item h is later (ap (λ (l : List Pair). item_line item ++ 10 ∷ fields_text l) none ∙ ap (λ (l : List ℕ). l ++ 10 ∷ []) same)
 
   -- the first line of an item with fields
-  begins_item : (text line : List ℕ) (p : Place) (o : Opening) (count bytes : ℕ) → Stands start text p.moment None line → IsOpening o → opening_line o count ≡ line → count ≤ 64
-      → StandsFor start (text ++ 10 ∷ []) (begin p o count bytes).next
-  begins_item text line p o count bytes h is same few =
+  begins_item : (text line : List ℕ) (es : List Timed) (p : Place) (o : Opening) (count bytes : ℕ) → Stands start text es p.moment None line → IsOpening o → opening_line o count ≡ line → count ≤ 64
+      → StepsTo start (text ++ 10 ∷ []) es (begin p o count bytes)
+  begins_item text line es p o count bytes h is same few =
       elim (cases_eq count 0) [
         | inl zero ↦
             let event = event_of o [] in
             let none : IsHead [] = record { list = record { fields = λ k d lt. absurd (omega arith); sorted = refl; few = omega arith; small = omega arith }; modest = record { few = omega arith; small = omega arith } } in
             let line_is : item_line (Happens event) ≡ line = event_line-opening o [] ∙ (ap (opening_line o) (sym zero) ∙ same) in
-            rw (eq-eqb count 0 zero) (one_item text line p.moment (Happens event) h (IsEvent-opening o [] is none) (omega arith) line_is (fields_in-opening o []))
+            rw (eq-eqb count 0 zero) (one_item text line es p.moment (Happens event) h (IsEvent-opening o [] is none) (omega arith) line_is (fields_in-opening o []))
         | inr some ↦
             let none : IsHead [] = record { list = record { fields = λ k d lt. absurd (omega arith); sorted = refl; few = omega arith; small = omega arith }; modest = record { few = omega arith; small = omega arith } } in
-            let stands : Stands start (text ++ 10 ∷ []) p.moment (Some (record { opening = o; fields = []; missing = count; bytes = bytes + 1 })) [] = record {
+            let stands : Stands start (text ++ 10 ∷ []) (es ++ []) p.moment (Some (record { opening = o; fields = []; missing = count; bytes = bytes + 1 })) [] = record {
               items = h.items;
               schedule = h.schedule;
               whole =
                   ap (λ (l : List ℕ). text_of h.items ++ l) (append-nil (opening_line o (0 + count) ++ 10 ∷ []) ∙ ap (λ (k : ℕ). opening_line o k ++ 10 ∷ []) (omega arith) ∙ ap (λ (l : List ℕ). l ++ 10 ∷ []) same)
                   ∙ sym (append_assoc (text_of h.items) line (10 ∷ []))
                   ∙ ap (λ (l : List ℕ). l ++ 10 ∷ []) h.whole;
+              events = append-nil es ∙ h.events;
               moment_is = h.moment_is;
               under = record { is_opening = is; head = none; some = omega arith; few = omega arith };
             } in
@@ -142,34 +172,34 @@ module _ (start : ℕ) where
       ]
 
   -- a first line
-  says_step : (text line : List ℕ) (p : Place) (bytes : ℕ) (f : First) → Stands start text p.moment None line → Says line f
-      → StandsFor start (text ++ 10 ∷ []) (take_first p bytes (Some f)).next
-  says_step text line p bytes (Sets now) h says =
+  says_step : (text line : List ℕ) (es : List Timed) (p : Place) (bytes : ℕ) (f : First) → Stands start text es p.moment None line → Says line f
+      → StepsTo start (text ++ 10 ∷ []) es (take_first p bytes (Some f))
+  says_step text line es p bytes (Sets now) h says =
       elim (cases_lt now p.moment) [
-        | inl back ↦ rw (lt-ltb now p.moment back) tt
-        | inr later ↦ rw (le-ltb now p.moment later) (one_item text line p.moment (Moment now) h says.1 later says.0 refl)
+        | inl back ↦ rw (lt-ltb now p.moment back) (stops start text (10 ∷ []) es p.moment None line h)
+        | inr later ↦ rw (le-ltb now p.moment later) (one_item text line es p.moment (Moment now) h says.1 later says.0 refl)
       ]
-  says_step text line p bytes (Starts c method kind target count) h says =
+  says_step text line es p bytes (Starts c method kind target count) h says =
       elim (cases_Bool (is_target target)) [
-        | inl is ↦ rw is (begins_item text line p (opening.Start c method target kind) count bytes h (says.1, says.2, is) says.0 says.3)
-        | inr bad ↦ rw bad tt
+        | inl is ↦ rw is (begins_item text line es p (opening.Start c method target kind) count bytes h (says.1, says.2, is) says.0 says.3)
+        | inr bad ↦ rw bad (stops start text (10 ∷ []) es p.moment None line h)
       ]
-  says_step text line p bytes (Heads x status count) h says =
-      begins_item text line p (opening.Head x status) count bytes h (says.1, says.2, says.3) says.0 says.4
-  says_step text line p bytes (Brings x word) h says =
-      one_item text line p.moment (Happens (event.Piece x (bytes_of word))) h (says.1, says.2.short, says.2.small) (omega arith) says.0 refl
-  says_step text line p bytes (Dooms target) h says =
+  says_step text line es p bytes (Heads x status count) h says =
+      begins_item text line es p (opening.Head x status) count bytes h (says.1, says.2, says.3) says.0 says.4
+  says_step text line es p bytes (Brings x word) h says =
+      one_item text line es p.moment (Happens (event.Piece x (bytes_of word))) h (says.1, says.2.short, says.2.small) (omega arith) says.0 refl
+  says_step text line es p bytes (Dooms target) h says =
       elim (cases_Bool (is_target target)) [
-        | inl is ↦ rw is (one_item text line p.moment (Happens (event.Doom target)) h is (omega arith) says refl)
-        | inr bad ↦ rw bad tt
+        | inl is ↦ rw is (one_item text line es p.moment (Happens (event.Doom target)) h is (omega arith) says refl)
+        | inr bad ↦ rw bad (stops start text (10 ∷ []) es p.moment None line h)
       ]
-  says_step text line p bytes (Tells event) h says = one_item text line p.moment (Happens event) h says.1 (omega arith) says.0 says.2
+  says_step text line es p bytes (Tells event) h says = one_item text line es p.moment (Happens event) h says.1 (omega arith) says.0 says.2
 
-  first_step : (text line : List ℕ) (p : Place) (bytes : ℕ) → Stands start text p.moment None line → StandsFor start (text ++ 10 ∷ []) (take_first p bytes (first_of line)).next
-  first_step text line p bytes h =
+  first_step : (text line : List ℕ) (es : List Timed) (p : Place) (bytes : ℕ) → Stands start text es p.moment None line → StepsTo start (text ++ 10 ∷ []) es (take_first p bytes (first_of line))
+  first_step text line es p bytes h =
       elim (none_or_some (first_of line)) [
-        | inl none ↦ rw none tt
-        | inr some ↦ rw some.1 (says_step text line p bytes some.0 h (first_of-says line some.0 some.1))
+        | inl none ↦ rw none (stops start text (10 ∷ []) es p.moment None line h)
+        | inr some ↦ rw some.1 (says_step text line es p bytes some.0 h (first_of-says line some.0 some.1))
       ]
 
 -- a field line
@@ -215,9 +245,9 @@ grown o count fields f line is =
     ∙ ap (λ (l : List ℕ). opening_line o count ++ 10 ∷ l) (ap (λ (l : List ℕ). fields_text fields ++ (l ++ 10 ∷ [])) (sym is) ∙ ap (λ (l : List ℕ). fields_text fields ++ l) (sym (field_text-line f)) ∙ sym (fields_text-push fields f))
 
 module _ (start : ℕ) where
-  next_step : (text line : List ℕ) (p : Place) (b : Begun) (bytes : ℕ) (f : Pair) → Stands start text p.moment (Some b) line → IsNext b.fields line f
-      → StandsFor start (text ++ 10 ∷ []) (take_field p b bytes (Some f)).next
-  next_step text line p b bytes f h next =
+  next_step : (text line : List ℕ) (es : List Timed) (p : Place) (b : Begun) (bytes : ℕ) (f : Pair) → Stands start text es p.moment (Some b) line → IsNext b.fields line f
+      → StepsTo start (text ++ 10 ∷ []) es (take_field p b bytes (Some f))
+  next_step text line es p b bytes f h next =
       let fields = put f.0 f.1 b.fields in
       let more = length-put f.0 f.1 b.fields in
       elim (cases_eq b.missing 1) [
@@ -229,10 +259,10 @@ module _ (start : ℕ) where
             ∙ ap (λ (k : ℕ). opening_line b.opening k ++ 10 ∷ fields_text fields) (sym count)
             ∙ ap (λ (l : List Pair). opening_line b.opening (length b.fields + b.missing) ++ 10 ∷ fields_text l) next.put_is
             ∙ sym (grown b.opening (length b.fields + b.missing) b.fields f line next.line_is) in
-            rw (eq-eqb b.missing 1 one) (ends_item start text line [] p.moment (Some b) (Happens (event_of b.opening fields)) h (IsEvent-opening b.opening fields h.under.is_opening next.head) (omega arith) spelled)
+            rw (eq-eqb b.missing 1 one) (ends_item start text line es p.moment (Some b) (Happens (event_of b.opening fields)) h (IsEvent-opening b.opening fields h.under.is_opening next.head) (omega arith) spelled)
         | inr others ↦
             let count : length fields + (b.missing - 1) ≡ length b.fields + b.missing = omega (arith, more, h.under.some) in
-            let stands : Stands start (text ++ 10 ∷ []) p.moment (Some (record { opening = b.opening; fields = fields; missing = b.missing - 1; bytes = b.bytes + bytes + 1 })) [] = record {
+            let stands : Stands start (text ++ 10 ∷ []) (es ++ []) p.moment (Some (record { opening = b.opening; fields = fields; missing = b.missing - 1; bytes = b.bytes + bytes + 1 })) [] = record {
               items = h.items;
               schedule = h.schedule;
               whole =
@@ -244,6 +274,7 @@ module _ (start : ℕ) where
                   ∙ sym (append_assoc (begun_text (Some b)) line (10 ∷ [])))
                   ∙ sym (append_assoc (text_of h.items) (begun_text (Some b) ++ line) (10 ∷ []))
                   ∙ ap (λ (l : List ℕ). l ++ 10 ∷ []) h.whole;
+              events = append-nil es ∙ h.events;
               moment_is = h.moment_is;
               under = record {
                 is_opening = h.under.is_opening;
@@ -255,45 +286,53 @@ module _ (start : ℕ) where
             rw (ne_eqb b.missing 1 others) stands
       ]
 
-  line_step : (text line : List ℕ) (p : Place) (begun : Option Begun) → Stands start text p.moment begun line → StandsFor start (text ++ 10 ∷ []) (take_next p begun line).next
-  line_step text line p None h = first_step start text line p (length line) h
-  line_step text line p (Some b) h =
+  line_step : (text line : List ℕ) (es : List Timed) (p : Place) (begun : Option Begun) → Stands start text es p.moment begun line → StepsTo start (text ++ 10 ∷ []) es (take_next p begun line)
+  line_step text line es p None h = first_step start text line es p (length line) h
+  line_step text line es p (Some b) h =
       elim (none_or_some (field_of b.fields line)) [
-        | inl none ↦ rw none tt
+        | inl none ↦ rw none (stops start text (10 ∷ []) es p.moment (Some b) line h)
         | inr some ↦
             let few : length b.fields < 64 = omega (arith, h.under.few, h.under.some) in
-            rw some.1 (next_step text line p b (length line) some.0 h (field_of-parts b.fields line some.0 h.under.head few some.1))
+            rw some.1 (next_step text line es p b (length line) some.0 h (field_of-parts b.fields line some.0 h.under.head few some.1))
       ]
 
   -- one byte more
-  byte_step : (text : List ℕ) (s : Progress) (b : ℕ) → StandsFor start text s → StandsFor start (text ++ b ∷ []) (take_byte s b).next
+  byte_step : (text : List ℕ) (es : List Timed) (s : Progress) (b : ℕ) → StandsFor start text es s → StepsTo start (text ++ b ∷ []) es (take_byte s b)
   unfolding take_byte take_line
-  byte_step text (Reads p line) b h =
+  byte_step text es (Reads p line) b h =
       elim (cases_Bool (b == 10)) [
         | inl feed ↦
             let is : b ≡ 10 = eqb-true b 10 feed in
-            rw feed (subst (λ (c : ℕ). StandsFor start (text ++ c ∷ []) (take_next p p.begun line).next) (sym is) (line_step text line p p.begun h))
+            rw feed (subst (λ (c : ℕ). StepsTo start (text ++ c ∷ []) es (take_next p p.begun line)) (sym is) (line_step text line es p p.begun h))
         | inr other ↦
             elim (cases_lt (length line) 140000) [
               | inl short ↦
-                  let stands : Stands start (text ++ b ∷ []) p.moment p.begun (line ++ b ∷ []) = record {
+                  let stands : Stands start (text ++ b ∷ []) (es ++ []) p.moment p.begun (line ++ b ∷ []) = record {
                     items = h.items;
                     schedule = h.schedule;
                     whole =
                         ap (λ (l : List ℕ). text_of h.items ++ l) (sym (append_assoc (begun_text p.begun) line (b ∷ [])))
                         ∙ sym (append_assoc (text_of h.items) (begun_text p.begun ++ line) (b ∷ []))
                         ∙ ap (λ (l : List ℕ). l ++ b ∷ []) h.whole;
+                    events = append-nil es ∙ h.events;
                     moment_is = h.moment_is;
                     under = h.under;
                   } in
                   rw (other, lt-ltb (length line) 140000 short) stands
-              | inr full ↦ rw (other, le-ltb (length line) 140000 full) tt
+              | inr full ↦ rw (other, le-ltb (length line) 140000 full) (stops start text (b ∷ []) es p.moment p.begun line h)
             ]
       ]
-  byte_step text (Stopped refused) b h = tt
-  byte_step text Spent b h = absurd h
+  byte_step text es (Stopped refused) b h = record {
+    items = h.items;
+    rest = h.rest ++ b ∷ [];
+    schedule = h.schedule;
+    whole = sym (append_assoc (text_of h.items) h.rest (b ∷ [])) ∙ ap (λ (l : List ℕ). l ++ b ∷ []) h.whole;
+    events_are = append-nil es ∙ h.events_are;
+  }
+  byte_step text es Spent b h = absurd h
 
-  pub text_step : (done text : List ℕ) (s : Progress) → StandsFor start done s → StandsFor start (done ++ text) (after s text)
-  text_step done [] s h = rw (append-nil done) h
-  text_step done (b ∷ text) s h =
-      rw (← append_assoc done (b ∷ []) text) (text_step (done ++ b ∷ []) text (take_byte s b).next (byte_step done s b h))
+  pub text_step : (done text : List ℕ) (es : List Timed) (s : Progress) → StandsFor start done es s → StandsFor start (done ++ text) (es ++ events_in s text) (after s text)
+  text_step done [] es s h = rw (append-nil done, append-nil es) h
+  text_step done (b ∷ text) es s h =
+      rw (← append_assoc done (b ∷ []) text, ← append_assoc es (take_byte s b).events (events_in (take_byte s b).next text))
+      (text_step (done ++ b ∷ []) text (es ++ (take_byte s b).events) (take_byte s b).next (byte_step done es s b h))

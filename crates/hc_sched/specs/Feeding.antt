@@ -68,6 +68,12 @@ Feeds s piece (Ok done) t old new = ReadsOn s piece t old new
 Feeds s piece (Err (error.Refused refused)) t old new = ReadsOn s piece (Stopped refused) old new
 Feeds s piece (Err error.NoMemory) t old new = AddsFirst s piece old new
 
+-- after an error it is answered again
+abbrev pub AnswersAgain : Progress → Result (Unit {0}) FeedError → Type 0
+AnswersAgain (Reads place line) result = Unit {0}
+AnswersAgain (Stopped refused) result = result ≡ Err (error.Refused refused)
+AnswersAgain Spent result = result ≡ Err error.NoMemory
+
 -- what stands behind the error
 abbrev pub StandsAt : Result (Unit {0}) FeedError → Progress → Type 0
 StandsAt (Ok done) progress = (place : Place) × (line : List ℕ) × (progress ≡ Reads place line)

@@ -1,12 +1,12 @@
 -- Laws of schedules.
-use Rattle.std.specs.Prelude.{◌≡◌, ◌≢◌, ℕ, ◌+◌, List, [], ◌∷◌, ◌++◌, Option, Some, None, if◌then◌else◌}
+use Rattle.std.specs.Prelude.{◌≡◌, ◌≢◌, ℕ, ◌+◌, ◌≤◌, List, [], ◌∷◌, ◌++◌, Option, Some, None, if◌then◌else◌}
 use Rattle.hc_sched.specs.declared.place.Place.{Place}
 use Rattle.hc_sched.specs.declared.schedule.Refused.{Refused}
 use Rattle.hc_sched.specs.declared.schedule.SchedRefusal.TheVariants as why
 use Rattle.hc_sched.specs.declared.schedule.Timed.{Timed}
 use Rattle.hc_sched.specs.Reading.{Progress, Reads, Stopped, Spent, after, events_in}
 use Rattle.hc_sched.specs.Feeding.{beginning, is_between}
-use Rattle.hc_sched.specs.Schedule.{Item, Spells, events_of, timed_text}
+use Rattle.hc_sched.specs.Schedule.{Item, IsEvent, IsSmall, IsSchedule, Spells, text_of, events_of, timed_text}
 
 -- between two items, behind so many lines
 abbrev pub at_rest : ℕ → ℕ → Place
@@ -36,6 +36,36 @@ refusal_at Spent = None
 -- the first refusal of a text that begins at this moment
 abbrev pub refusal_of : ℕ → List ℕ → Option Refused
 refusal_of now text = refusal_at (after (beginning now) text)
+
+-- The text begins with these items of a schedule, and brings their events.
+pub record HasRead (now : ℕ) (text : List ℕ) (events : List Timed) : Type 0 where
+  pub items : List Item
+  pub rest : List ℕ
+  pub schedule : IsSchedule now items
+  pub whole : text_of items ++ rest ≡ text
+  pub events_are : events ≡ events_of now items
+
+-- a text brings the events of items that it begins with, and no other events, refused or not
+abbrev pub BringsItems : Type 0
+BringsItems = (now : ℕ) (text : List ℕ) → HasRead now text (events_in (beginning now) text)
+
+-- it brings those of all of them: whatever follows, the events of these items come first
+abbrev pub BringsAllItems : Type 0
+BringsAllItems =
+    (now : ℕ) (items : List Item) (rest : List ℕ) → IsSchedule now items
+    → (more : List Timed)
+    × (events_in (beginning now) (text_of items ++ rest) ≡ events_of now items ++ more)
+
+-- events that have a spelling behind a moment, and whose moments don't go back
+abbrev pub AreTimed : ℕ → List Timed → Type 0
+AreTimed last [] = Unit {0}
+AreTimed last (timed ∷ events) =
+    IsEvent timed.event × IsSmall timed.now × (last ≤ timed.now) × AreTimed timed.now events
+
+-- a text brings such events
+abbrev pub BringsTimed : Type 0
+BringsTimed =
+    (now : ℕ) (text : List ℕ) → IsSmall now → AreTimed now (events_in (beginning now) text)
 
 -- a text that spells items isn't refused, and brings their events
 abbrev pub IsReadAsSpelled : Type 0

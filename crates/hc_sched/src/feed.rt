@@ -28,7 +28,7 @@ impl Model for Feed {
 }
 
 impl Feed {
-    ghost use Rattle.hc_sched.specs.Feeding.{beginning, lines_in, held_in, Feeds, StandsAt, ending, ended, stopped_by};
+    ghost use Rattle.hc_sched.specs.Feeding.{beginning, lines_in, held_in, Feeds, StandsAt, AnswersAgain, ending, ended, stopped_by};
 
     /// A feed at the beginning of a text, at moment 0.
     pub fn new(alloc: Global) -> Feed
@@ -56,6 +56,7 @@ impl Feed {
         requires { lines_in self.old + length piece.now ≤ 2 ^ 60 }
         ensures feeds { Feeds self.old piece.now result self.new out.old.items out.new.items }
         ensures stands { StandsAt result self.new }
+        ensures again { AnswersAgain self.old result }
         ensures lines { lines_in self.new ≤ lines_in self.old + length piece.now }
     {
         if let Some(e) = self.error {

@@ -281,3 +281,90 @@ fn keeps_what_a_request_says(rt: HostRuntime) -> Result<(), Fail> {
     assert_eq!(rt; request.fields.value(b"a", 1), Some(b"".as_slice()));
     Ok(())
 }
+
+/// A text with `count` copies of some bytes in its middle.
+fn text_of(
+    alloc: Global,
+    front: &[u8],
+    bytes: &[u8],
+    count: usize,
+    back: &[u8],
+) -> Result<Vec<u8>, AllocError> {
+    let mut text = Vec::from_slice(alloc, front)?;
+    for _ in 0..count {
+        text.extend_from_slice(bytes)?;
+    }
+    text.extend_from_slice(back)?;
+    Ok(text)
+}
+
+/// The front of a text, bytes that stand in it as often as allowed, the number of these, and its
+/// back. With one copy more it is refused in this line, for this reason.
+type Limit = (
+    &'static [u8],
+    &'static [u8],
+    usize,
+    &'static [u8],
+    u64,
+    SchedRefusal,
+);
+
+const LIMITS: &[Limit] = &[
+    (b"piece 1 ", b"0f", 65_536, b"\n", 1, BAD),
+    (b"start 1 ", b"M", 15, b" normal http://a.test/ 0\n", 1, BAD),
+    (b"doom http://a.test/", b"x", 8_178, b"\n", 1, TARGET),
+    (b"head 1 200 1\nx: ", b"v", 8_192, b"\n", 2, BAD),
+    (
+        b"head 1 200 5\na: v\nb: v\nc: v\nd: v\n",
+        b"e",
+        32_760,
+        b": \n",
+        6,
+        BAD,
+    ),
+    (b"", b"a", 140_000, b"", 1, SchedRefusal::LineTooLong),
+];
+
+#[test]
+fn refuses_past_each_limit(rt: HostRuntime) -> Result<(), Fail> {
+    for (front, bytes, most, back, line, why) in LIMITS {
+        assert!(rt; front.len() < 100 && *most < 150_000);
+        for count in [*most, *most + 1] {
+            let text = text_of(rt.alloc(), front, bytes, count, back)?;
+            assert!(rt; text.len() < 400_000);
+            let read = read(rt.alloc(), &text, 7_000)?;
+            let refused = FeedError::Refused(Refused {
+                line: *line,
+                why: *why,
+            });
+            assert_eq!(rt; read.ended == Err(refused), count > *most, "{line}");
+        }
+    }
+    Ok(())
+}
+
+#[test]
+fn is_cut_short_within_each_item(rt: HostRuntime) -> Result<(), Fail> {
+    let mut whole = 0_u64;
+    for len in 0..EACH_FORM.len() + 1 {
+        let read = read(rt.alloc(), &EACH_FORM[..len], 11)?;
+        match read.ended {
+            Ok(()) => whole = whole.wrapping_add(1),
+            Err(FeedError::Refused(refused)) => assert_eq!(rt; refused.why, CUT, "{len}"),
+            Err(FeedError::NoMemory) => return Err("no memory".into()),
+        }
+    }
+    assert_eq!(rt; whole, 16, "before the first item, and behind each");
+    Ok(())
+}
+
+#[test]
+fn refuses_what_is_no_text(rt: HostRuntime) -> Result<(), Fail> {
+    let read = read(rt.alloc(), b"doom http://a.test/\xe9\n", 4)?;
+    let refused = FeedError::Refused(Refused {
+        line: 1,
+        why: TARGET,
+    });
+    assert_eq!(rt; read.ended, Err(refused));
+    Ok(())
+}

@@ -1,5 +1,5 @@
 use Rattle.hc_sched.proofs.FeedLemmas.{after-append, events_in-append}
-use Rattle.hc_sched.proofs.OneReading.{is_read, is_spelled, one_spelling, stays_refused}
+use Rattle.hc_sched.proofs.OneReading.{is_read, is_spelled, one_spelling, stays_refused, brings_items, brings_all, brings_timed}
 use Rattle.hc_sched.proofs.laws.a_text_has_one_reading.Goals as goal
 
 pub returns-clause-spelled : goal.returns-clause-spelled
@@ -16,3 +16,12 @@ returns-clause-stays c = stays_refused
 
 pub returns-clause-pieces : goal.returns-clause-pieces
 returns-clause-pieces c = λ s xs ys. (after-append s xs ys, events_in-append s xs ys)
+
+pub returns-clause-items : goal.returns-clause-items
+returns-clause-items c = brings_items
+
+pub returns-clause-all : goal.returns-clause-all
+returns-clause-all c = brings_all
+
+pub returns-clause-timed : goal.returns-clause-timed
+returns-clause-timed c = brings_timed

@@ -71,7 +71,7 @@ module _ (t : Tables) (e : Entry) where
 
   -- AN OPEN EXCHANGE
 
-  heard_other : (x : ℕ) (ev : Event) (w : Exchange) → (exchange_in ev ≡ Some x → ⊥) → exchange_heard t e x ev w ≡ w
+  pub heard_other : (x : ℕ) (ev : Event) (w : Exchange) → (exchange_in ev ≡ Some x → ⊥) → exchange_heard t e x ev w ≡ w
   heard_other x (event.Start c request) w other = refl
   heard_other x (event.Poll c want) w other = refl
   heard_other x (event.Head y response) w other = elim (eq_cases y x) [ inl here ↦ absurd (other (ap Some here.1)) | inr off ↦ rw off.0 refl ]

@@ -20,20 +20,20 @@ pub data CaseBy (v : HeadView) : HeadCase → Type 0 where
   direct_bad : route_of v.need ≡ route.Direct → v.bad ≡ true → CaseBy v case.DirectBad
   direct_taken : route_of v.need ≡ route.Direct → CaseBy v case.DirectTaken
   turn_bad : route_of v.need ≡ route.Turn → v.bad ≡ true → CaseBy v case.TurnBad
-  validated : route_of v.need ≡ route.Turn → v.status ≡ 304 → v.lost ≡ false → CaseBy v case.Validated
+  validated : route_of v.need ≡ route.Turn → v.status ≡ 304 → v.conditional ≡ true → v.lost ≡ false → CaseBy v case.Validated
   not_validated : route_of v.need ≡ route.Turn → v.status ≡ 304 → CaseBy v case.NotValidated
   turn_server_error : route_of v.need ≡ route.Turn → CaseBy v case.TurnServerError
   founds_whole : route_of v.need ≡ route.Turn → v.status ≡ 200 → v.lost ≡ false → v.bad ≡ false → CaseBy v case.FoundsWhole
   founds_range : route_of v.need ≡ route.Turn → v.status ≡ 206 → v.fits ≡ true → v.lost ≡ false → v.bad ≡ false → CaseBy v case.FoundsRange
   passes_by : route_of v.need ≡ route.Turn → CaseBy v case.PassesBy
   first_bad : route_of v.need ≡ route.Hole → v.shown ≡ false → v.bad ≡ true → CaseBy v case.FirstBad
-  first_joins : route_of v.need ≡ route.Hole → v.shown ≡ false → v.joins ≡ true → CaseBy v case.FirstJoins
+  first_joins : route_of v.need ≡ route.Hole → v.shown ≡ false → v.joins ≡ true → v.bad ≡ false → CaseBy v case.FirstJoins
   first_server_error : route_of v.need ≡ route.Hole → v.shown ≡ false → CaseBy v case.FirstServerError
   first_changed : route_of v.need ≡ route.Hole → v.shown ≡ false → CaseBy v case.FirstChanged
   first_replaced : route_of v.need ≡ route.Hole → v.shown ≡ false → v.status ≡ 200 → v.lost ≡ false → v.bad ≡ false → CaseBy v case.FirstReplaced
   first_passes_by : route_of v.need ≡ route.Hole → v.shown ≡ false → CaseBy v case.FirstPassesBy
   later_bad : route_of v.need ≡ route.Hole → v.shown ≡ true → v.bad ≡ true → CaseBy v case.LaterBad
-  later_joins : route_of v.need ≡ route.Hole → v.shown ≡ true → v.joins ≡ true → CaseBy v case.LaterJoins
+  later_joins : route_of v.need ≡ route.Hole → v.shown ≡ true → v.joins ≡ true → v.bad ≡ false → CaseBy v case.LaterJoins
   later_changed : route_of v.need ≡ route.Hole → v.shown ≡ true → CaseBy v case.LaterChanged
 
 left : (a b : Bool) → (a && b) ≡ true → a ≡ true
@@ -58,7 +58,7 @@ module _ (v : HeadView) where
   turn : route_of v.need ≡ route.Turn → CaseBy v (turn_case v)
   turn way =
       either (CaseBy v) v.bad _ _ (turn_bad way) (λ good.
-      either (CaseBy v) (v.status == 304 && v.conditional && v.selects && not v.lost) _ _ (λ h. validated way (is_number v.status 304 (left (v.status == 304) _ (left _ v.selects (left _ (not v.lost) h)))) (not_true v.lost (right _ (not v.lost) h))) (λ h0.
+      either (CaseBy v) (v.status == 304 && v.conditional && v.selects && not v.lost) _ _ (λ h. validated way (is_number v.status 304 (left (v.status == 304) _ (left _ v.selects (left _ (not v.lost) h)))) (right (v.status == 304) v.conditional (left _ v.selects (left _ (not v.lost) h))) (not_true v.lost (right _ (not v.lost) h))) (λ h0.
       either (CaseBy v) (v.status == 304 && v.conditional) _ _ (λ h. not_validated way (is_number v.status 304 (left (v.status == 304) _ h))) (λ h1.
       either (CaseBy v) (nat_le 500 v.status) _ _ (λ h. turn_server_error way) (λ h2.
       either (CaseBy v) (v.status == 200 && v.storable && not v.lost) _ _ (λ h. founds_whole way (is_number v.status 200 (left (v.status == 200) _ (left _ (not v.lost) h))) (not_true v.lost (right _ (not v.lost) h)) good) (λ h3.
@@ -67,7 +67,7 @@ module _ (v : HeadView) where
   first : route_of v.need ≡ route.Hole → v.shown ≡ false → CaseBy v (first_case v)
   first way shown =
       either (CaseBy v) v.bad _ _ (first_bad way shown) (λ good.
-      either (CaseBy v) v.joins _ _ (first_joins way shown) (λ h0.
+      either (CaseBy v) v.joins _ _ (λ h. first_joins way shown h good) (λ h0.
       either (CaseBy v) (nat_le 500 v.status) _ _ (λ h. first_server_error way shown) (λ h1.
       either (CaseBy v) (v.status == 206 || v.status == 304 || v.status == 416) _ _ (λ h. first_changed way shown) (λ h2.
       either (CaseBy v) (v.status == 200 && v.storable && not v.lost) _ _ (λ h. first_replaced way shown (is_number v.status 200 (left (v.status == 200) _ (left _ (not v.lost) h))) (not_true v.lost (right _ (not v.lost) h)) good) (λ h3. first_passes_by way shown)))))
@@ -75,7 +75,7 @@ module _ (v : HeadView) where
   later : route_of v.need ≡ route.Hole → v.shown ≡ true → CaseBy v (later_case v)
   later way shown =
       either (CaseBy v) v.bad _ _ (later_bad way shown) (λ good.
-      either (CaseBy v) v.joins _ _ (later_joins way shown) (λ h. later_changed way shown))
+      either (CaseBy v) v.joins _ _ (λ h. later_joins way shown h good) (λ h. later_changed way shown))
 
   by_route : (way : Route) → route_of v.need ≡ way → CaseBy v (case_on way v)
   by_route route.Direct way = direct way

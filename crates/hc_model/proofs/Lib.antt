@@ -59,3 +59,10 @@ pub mod Unclosed
 pub mod SaidActs
 pub mod Waiters
 pub mod ToBeShown
+pub mod WaitingKeeps
+pub mod OpeningPoll
+pub mod WaitingNew
+pub mod PassedKeeps
+pub mod LossStands
+pub mod ApartKeeps
+pub mod OwnersKept

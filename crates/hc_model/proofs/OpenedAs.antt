@@ -57,6 +57,7 @@ module _ (t : Tables) (now c : ℕ) (k : Consumer) where
   pub record OpenedAs (n : Need) (request : Request) : Type 0 where
     pub key_is : request.key ≡ k.request.key
     pub plain : n ≡ need.Validate → is_bypassing k.request ≡ false
+    pub bypasses : n ≡ need.Bypass → is_bypassing k.request ≡ true
     pub heard : IsHeard t k
     pub way : Way n
 
@@ -103,6 +104,9 @@ module _ (t : Tables) (now c : ℕ) (k : Consumer) where
     hole_other : need.Validate ≡ n → (hole : Span) → n ≡ need.Hole hole.lo hole.hi → ⊥
     hole_other a hole b = let never : need.Validate ≡ need.Hole hole.lo hole.hi = a ∙ b in cc
 
+    hole_bypass : need.Bypass ≡ n → (hole : Span) → n ≡ need.Hole hole.lo hole.hi → ⊥
+    hole_bypass a hole b = let never : need.Bypass ≡ need.Hole hole.lo hole.hi = a ∙ b in cc
+
     none_row : (v : Representation) → row_of t None ≡ Some v → ⊥
     none_row v is = let never : None ≡ Some v = is in cc
 
@@ -113,6 +117,7 @@ module _ (t : Tables) (now c : ℕ) (k : Consumer) where
     later_by hole (place.Bound r lo hi how) heard at h v row = record {
       key_is = h.key_is;
       plain = λ is. absurd (hole_other (sym is) hole h.need_is);
+      bypasses = λ is. absurd (hole_bypass (sym is) hole h.need_is);
       heard = heard;
       way = goes_on r lo hi how at (ap route_of h.need_is);
     }
@@ -152,6 +157,9 @@ module _ (t : Tables) (now c : ℕ) (k : Consumer) where
     direct_other : (m : Need) → route_of m ≡ route.Direct → m ≡ need.Validate → ⊥
     direct_other m way is = let never : route.Turn ≡ route.Direct = sym (ap route_of is) ∙ way in cc
 
+    direct_bypass : (m : Need) → route_of m ≡ route.Direct → m ≡ need.Bypass → ⊥
+    direct_bypass m way is = let never : route.Turn ≡ route.Direct = sym (ap route_of is) ∙ way in cc
+
     binds_opens : (why : Why) (span : Option Span) (o : Option ℕ) → binds_current t k why span o ≡ open_it → ⊥
     binds_opens why span None is = cc
     binds_opens why None (Some r) is = stored_opens r why _ 0 _ (t.representation r) is
@@ -163,6 +171,7 @@ module _ (t : Tables) (now c : ℕ) (k : Consumer) where
         record {
           key_is = h.key_is;
           plain = λ is. absurd (hole_other (sym is) hole h.need_is);
+          bypasses = λ is. absurd (hole_bypass (sym is) hole h.need_is);
           heard = heard;
           way = fills a.r a.v span free (ap route_of h.need_is) a.current_is a.row (sym a.span_is ∙ j.wanted_is);
         }
@@ -173,10 +182,10 @@ module _ (t : Tables) (now c : ℕ) (k : Consumer) where
     by_plan _ plans.misses free heard is = absurd (let never : Fails cause.Miss ≡ open_it = is in cc)
     by_plan _ (plans.passes_by m way) free heard is =
         let same = opens_same (t.opened + 1) m k.request is in
-        record { key_is = sym (ap (λ (z : Request). z.key) same.1); plain = λ at. absurd (direct_other m way (same.0 ∙ at)); heard = heard; way = passes_by free (sym (ap route_of same.0) ∙ way) }
-    by_plan _ (plans.fetches m way plain) free heard is =
+        record { key_is = sym (ap (λ (z : Request). z.key) same.1); plain = λ at. absurd (direct_other m way (same.0 ∙ at)); bypasses = λ at. absurd (direct_bypass m way (same.0 ∙ at)); heard = heard; way = passes_by free (sym (ap route_of same.0) ∙ way) }
+    by_plan _ (plans.fetches m way plain bypass) free heard is =
         let same = opens_same (t.opened + 1) m (fetched t k m) is in
-        record { key_is = sym (ap (λ (z : Request). z.key) same.1) ∙ fetched_key m; plain = λ at. sym (bypassing_is k.request) ∙ plain (same.0 ∙ at); heard = heard; way = fetches free (sym (ap route_of same.0) ∙ way) }
+        record { key_is = sym (ap (λ (z : Request). z.key) same.1) ∙ fetched_key m; plain = λ at. sym (bypassing_is k.request) ∙ plain (same.0 ∙ at); bypasses = λ at. sym (bypassing_is k.request) ∙ bypass (same.0 ∙ at); heard = heard; way = fetches free (sym (ap route_of same.0) ∙ way) }
     by_plan _ (plans.joins why j) free heard is = absurd (binds_opens why None (current t k.request.key) is)
     by_plan _ (plans.reads why span j) free heard is = absurd (binds_opens why (Some span) (current t k.request.key) is)
     by_plan _ (plans.fills span hole j nobody) free heard is = first_by span hole j free heard ((hole_opens k.request (current_row t k) hole is).2)
@@ -216,7 +225,7 @@ module _ (t : Tables) (now c : ℕ) (k : Consumer) where
     by_move want _ (by.reads shown heard) is = step_opens want (read_step (read_view t want c k)) heard is
     by_move want _ (by.plans shown free none heard) is = by_plan (plan_of (plan_view t now c k)) (plan_by (plan_view t now c k)) free heard is
 
-  opening_is : (o : Opening) (m : Move) → IsOpening o m → m ≡ Opens o.x o.need o.request
+  pub opening_is : (o : Opening) (m : Move) → IsOpening o m → m ≡ Opens o.x o.need o.request
   opening_is o _ said.opens = refl
 
   pub opened_as : (want : ℕ) (o : Opening) → Sound t → t.consumer c ≡ Some k → IsOpening o (move_of t now want c k) → OpenedAs o.need o.request

@@ -36,10 +36,22 @@ pub data PlanBy (v : PlanView) : Plan → Type 0 where
   busy : (d : ℕ) (kept : Option ℕ) → v.class.bypassing ≡ false → PlanBy v (plan.Busy d kept)
   misses : PlanBy v plan.Miss
   passes_by : (n : Need) → route_of n ≡ route.Direct → PlanBy v (plan.Direct n)
-  fetches : (n : Need) → route_of n ≡ route.Turn → (n ≡ need.Validate → v.class.bypassing ≡ false) → PlanBy v (plan.Fetch n)
+  fetches : (n : Need) → route_of n ≡ route.Turn → (n ≡ need.Validate → v.class.bypassing ≡ false) → (n ≡ need.Bypass → v.class.bypassing ≡ true) → PlanBy v (plan.Fetch n)
   joins : (why : Why) → JoinsWriting v → PlanBy v (plan.Bind why None)
   reads : (why : Why) (span : Span) → IsAlone v span None → PlanBy v (plan.Bind why (Some span))
   fills : (span hole : Span) (a : IsAlone v span (Some hole)) → a.s.least_bound ≡ None → PlanBy v (plan.FirstHole span hole)
+
+bypass_is : need.Bypass ≡ need.Validate → ⊥
+bypass_is is = cc
+
+validate_bypass : need.Validate ≡ need.Bypass → ⊥
+validate_bypass is = cc
+
+miss_bypass : need.Miss ≡ need.Bypass → ⊥
+miss_bypass is = cc
+
+vary_bypass : need.Vary ≡ need.Bypass → ⊥
+vary_bypass is = cc
 
 and_right : (a b : Bool) → (a && b) ≡ true → b ≡ true
 and_right true b h = h
@@ -67,21 +79,18 @@ module _ (v : PlanView) (plain : v.class.bypassing ≡ false) (s : Candidate) (c
   on_by why = either (PlanBy v) (is_none v.class.range && s.writing) _ _ (λ h. joins why (record { s = s; current = current; writing = and_right (is_none v.class.range) s.writing h })) (λ h. wanted_by why s.span refl)
 
   why_then : (o : Option Why) → PlanBy v (by_why v s o)
-  why_then None = fetches need.Validate refl (λ is. plain)
+  why_then None = fetches need.Validate refl (λ is. plain) (λ is. absurd (validate_bypass is))
   why_then (Some why) = on_by why
 
 current_by : (v : PlanView) (o : Option Candidate) → v.class.bypassing ≡ false → v.current ≡ o → PlanBy v (by_current v o)
-current_by v None plain is = fetches need.Miss refl (λ at. plain)
-current_by v (Some s) plain is = mix (PlanBy v) s.vary _ _ (why_then v plain s is (why_by v.kept s.allowed)) (fetches need.Vary refl (λ at. plain))
-
-bypass_is : need.Bypass ≡ need.Validate → ⊥
-bypass_is is = cc
+current_by v None plain is = fetches need.Miss refl (λ at. plain) (λ at. absurd (miss_bypass at))
+current_by v (Some s) plain is = mix (PlanBy v) s.vary _ _ (why_then v plain s is (why_by v.kept s.allowed)) (fetches need.Vary refl (λ at. plain) (λ at. absurd (vary_bypass at)))
 
 bare_by : (v : PlanView) → PlanBy v (bare_plan v)
 bare_by v =
     mix (PlanBy v) _ _ _ (passes_by need.Disabled refl)
     (mix (PlanBy v) _ _ _ (turn _)
-    (either (PlanBy v) v.class.bypassing _ _ (λ on. fetches need.Bypass refl (λ is. absurd (bypass_is is))) (λ off. current_by v v.current off refl)))
+    (either (PlanBy v) v.class.bypassing _ _ (λ on. fetches need.Bypass refl (λ is. absurd (bypass_is is)) (λ is. on)) (λ off. current_by v v.current off refl)))
 
 in_time_by : (v : PlanView) (p : Plan) → PlanBy v p → PlanBy v (in_time v p)
 in_time_by v (plan.Turn d) is = mix (PlanBy v) _ _ _ (passes_by need.TimedOut refl) (turn d)

@@ -10,7 +10,7 @@ use Rattle.hc_event.specs.declared.act.Act.TheVariants as act
 use Rattle.hc_rules.specs.declared.room.Limits.{Limits}
 use Rattle.hc_model.specs.ActFilters.{has_loss, leaver_in}
 use Rattle.hc_model.specs.Answers.{accepted, poll_acts, lost}
-use Rattle.hc_model.specs.Closings.{closing}
+use Rattle.hc_model.specs.Closings.{closing, leaver_by}
 use Rattle.hc_model.specs.Flaws.{Flaw, NoFlaw, Loses, Misreads}
 use Rattle.hc_model.specs.Moves as moves
 use Rattle.hc_model.specs.Moves.{Move, Nothing, Asks, Opens, Shows, Gives, Ends, Fails, acts_of}
@@ -19,6 +19,7 @@ use Rattle.hc_model.specs.Rows.{Tables}
 use Rattle.hc_model.specs.Sound.{Sound}
 use Rattle.hc_model.specs.Weights.{evicted}
 use Rattle.hc_model.proofs.Closed.{before}
+use Rattle.hc_model.proofs.PieceServes.{quiet_acts}
 
 -- LOSSES
 
@@ -113,3 +114,48 @@ module _ (limits : Limits) (t : Tables) (now : ℕ) (flaw : Flaw) (s : Sound t) 
   leaver_leaves (event.Fault x) d is = absurd (lost_leaves d flaw is)
   leaver_leaves (event.Cancel c) d is = absurd (lost_leaves d flaw is)
   leaver_leaves (event.Doom key) d is = absurd (lost_leaves d flaw is)
+
+  -- and who leaves is seen by them
+  pub closes_leave : (d : ℕ) (xs : List ℕ) (f : Flaw) → leaves_in d (map act.Close xs ++ lost f) ≡ false
+  closes_leave d [] NoFlaw = refl
+  closes_leave d [] (Loses r kind) = refl
+  closes_leave d [] (Misreads r) = refl
+  closes_leave d (x ∷ xs) f = closes_leave d xs f
+
+  false_true : false ≡ true → ⊥
+  false_true h = cc
+
+  one_leaves : (c d : ℕ) (xs : List ℕ) (f : Flaw) → (nat_eq c d || leaves_in d (map act.Close xs ++ lost f)) ≡ true → Some c ≡ Some d
+  one_leaves c d xs f h = by_test (nat_eq c d) refl
+    where
+      by_test : (b : Bool) → nat_eq c d ≡ b → Some c ≡ Some d
+      by_test true is = let same : c ≡ d = grind (arith, nat_tests) in ap Some same
+      by_test false is = absurd (false_true (rw (is, closes_leave d xs f) at h))
+
+  move_leaver : (c d : ℕ) (m : Move) (f g : Flaw) (xs : List ℕ) → leaves_in d (acts_of c m ++ (map act.Close xs ++ lost f)) ≡ true → leaver_in (acts_of c m ++ lost g) ≡ Some d
+  move_leaver c d Nothing f g xs h = absurd (false_true (sym (closes_leave d xs f) ∙ h))
+  move_leaver c d (moves.Waits wait) f g xs h = absurd (false_true (sym (closes_leave d xs f) ∙ h))
+  move_leaver c d (Asks x) f g xs h = absurd (false_true (sym (closes_leave d xs f) ∙ h))
+  move_leaver c d (Opens x need request) f g xs h = absurd (false_true (sym (closes_leave d xs f) ∙ h))
+  move_leaver c d (Shows r why head lo hi) f g xs h = absurd (false_true (sym (closes_leave d xs f) ∙ h))
+  move_leaver c d (Gives run) f g xs h = absurd (false_true (sym (closes_leave d xs f) ∙ h))
+  move_leaver c d Ends f g xs h = one_leaves c d xs f h
+  move_leaver c d (Fails cause) f g xs h = one_leaves c d xs f h
+
+  poll_leaver : (c d want : ℕ) (z f g : Flaw) (xs : List ℕ) → leaves_in d (poll_acts t now want c z ++ (map act.Close xs ++ lost f)) ≡ true → leaver_in (poll_acts t now want c z ++ lost g) ≡ Some d
+  poll_leaver c d want NoFlaw f g xs h = move_leaver c d (polled t now want c (t.consumer c)) f g xs h
+  poll_leaver c d want (Loses r kind) f g xs h = move_leaver c d (polled t now want c (t.consumer c)) f g xs h
+  poll_leaver c d want (Misreads r) f g xs h = one_leaves c d xs f h
+
+  told_leaves : (ev : Event) (d : ℕ) → leaves_in d (map act.Evicted (evicted limits t now ev) ++ (lost flaw ++ map act.Close (closing t (record { now = now; event = ev; acts = lost flaw })))) ≡ false
+  told_leaves ev d = (quiet_acts (evicted limits t now ev) (closing t (record { now = now; event = ev; acts = lost flaw })) flaw).leaves d
+
+  pub leaves_leaver : (ev : Event) (d : ℕ) → leaves_in d (accepted limits t now ev flaw) ≡ true → leaver_by ev (before limits t now flaw s ev).acts ≡ Some d
+  leaves_leaver (event.Start c request) d h = absurd (false_true (sym (told_leaves (event.Start c request) d) ∙ h))
+  leaves_leaver (event.Poll c want) d h = poll_leaver c d want flaw flaw flaw (closing t (before limits t now flaw s (event.Poll c want))) h
+  leaves_leaver (event.Head x response) d h = absurd (false_true (sym (told_leaves (event.Head x response) d) ∙ h))
+  leaves_leaver (event.Piece x bytes) d h = absurd (false_true (sym (told_leaves (event.Piece x bytes) d) ∙ h))
+  leaves_leaver (event.End x) d h = absurd (false_true (sym (told_leaves (event.End x) d) ∙ h))
+  leaves_leaver (event.Fault x) d h = absurd (false_true (sym (told_leaves (event.Fault x) d) ∙ h))
+  leaves_leaver (event.Cancel c) d h = absurd (false_true (sym (closes_leave d (closing t (before limits t now flaw s (event.Cancel c))) flaw) ∙ h))
+  leaves_leaver (event.Doom key) d h = absurd (false_true (sym (told_leaves (event.Doom key) d) ∙ h))

@@ -128,7 +128,7 @@ module _ (t : Tables) (now c : ℕ) (k : Consumer) where
     by_plan _ (plans.busy d kept plain) is = absurd (let never : moves.Waits (wait.Busy d) ≡ show = is in cc)
     by_plan _ plans.misses is = absurd (let never : Fails cause.Miss ≡ show = is in cc)
     by_plan _ (plans.passes_by n way) is = absurd (let never : moves.Opens (t.opened + 1) n k.request ≡ show = is in cc)
-    by_plan _ (plans.fetches n way plain) is = absurd (let never : moves.Opens (t.opened + 1) n (fetched t k n) ≡ show = is in cc)
+    by_plan _ (plans.fetches n way plain bypass) is = absurd (let never : moves.Opens (t.opened + 1) n (fetched t k n) ≡ show = is in cc)
     by_plan _ (plans.joins why j) is = joined why j (current t k.request.key) refl is
     by_plan _ (plans.reads why span j) is = read why span j (current t k.request.key) refl is
     by_plan _ (plans.fills span hole j nobody) is = absurd (hole_shows k.request _ hole is)

@@ -106,20 +106,20 @@ module _ (limits : Limits) (t : Tables) (now : ℕ) (flaw : Flaw) (s : Sound t) 
   first_case w response _ (cases.direct_bad way h) hole off = absurd (direct_hole (sym way ∙ hole))
   first_case w response _ (cases.direct_taken way) hole off = absurd (direct_hole (sym way ∙ hole))
   first_case w response _ (cases.turn_bad way h) hole off = absurd (turn_hole (sym way ∙ hole))
-  first_case w response _ (cases.validated way h l) hole off = absurd (turn_hole (sym way ∙ hole))
+  first_case w response _ (cases.validated way h d l) hole off = absurd (turn_hole (sym way ∙ hole))
   first_case w response _ (cases.not_validated way h) hole off = absurd (turn_hole (sym way ∙ hole))
   first_case w response _ (cases.turn_server_error way) hole off = absurd (turn_hole (sym way ∙ hole))
   first_case w response _ (cases.founds_whole way h l g) hole off = absurd (turn_hole (sym way ∙ hole))
   first_case w response _ (cases.founds_range way h f l g) hole off = absurd (turn_hole (sym way ∙ hole))
   first_case w response _ (cases.passes_by way) hole off = absurd (turn_hole (sym way ∙ hole))
   first_case w response _ (cases.first_bad way shown h) hole off = bad
-  first_case w response _ (cases.first_joins way shown h) hole off = joins
+  first_case w response _ (cases.first_joins way shown h g) hole off = joins
   first_case w response _ (cases.first_server_error way shown) hole off = server_error
   first_case w response _ (cases.first_changed way shown) hole off = changed
   first_case w response _ (cases.first_replaced way shown h l g) hole off = replaced
   first_case w response _ (cases.first_passes_by way shown) hole off = passes_by
   first_case w response _ (cases.later_bad way shown h) hole off = absurd (false_true (sym off ∙ shown))
-  first_case w response _ (cases.later_joins way shown h) hole off = absurd (false_true (sym off ∙ shown))
+  first_case w response _ (cases.later_joins way shown h g) hole off = absurd (false_true (sym off ∙ shown))
   first_case w response _ (cases.later_changed way shown) hole off = absurd (false_true (sym off ∙ shown))
 
   -- NOTHING IS SAID BUT BY A POLL

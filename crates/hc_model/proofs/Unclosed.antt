@@ -1,5 +1,5 @@
 -- What is closed had to be.
-use Rattle.std.proofs.Common.{◌≡◌, ◌⊎◌, inl, inr, ℕ, List, [], ◌∷◌, ◌++◌, Bool, true, false, Some, refl, ap, sym, ◌∙◌, arith}
+use Rattle.std.proofs.Common.{◌≡◌, ◌⊎◌, inl, inr, ℕ, List, [], ◌∷◌, ◌++◌, Bool, true, false, Option, Some, None, refl, ap, sym, ◌∙◌, arith}
 use Rattle.std.specs.Prelude.{map, filter, reverse, ◌&&◌, ◌||◌, nat_eq}
 use Rattle.std.proofs.lemmas.Bool.Decides.{nat_tests}
 use Rattle.hc_event.specs.Filters.{closes_in}
@@ -108,3 +108,12 @@ module _ (limits : Limits) (t : Tables) (now : ℕ) (flaw : Flaw) (s : Sound t) 
   had_to ev x w row h =
       let test = among_test x (λ y. closes_row t (before limits t now flaw s ev) y (t.exchange y)) (reverse t.openings) (closed_by ev x h) in
       and_left _ _ (sym (ap (closes_row t (before limits t now flaw s ev) x) row) ∙ test)
+
+  none_test : (ev : Event) (x : ℕ) (o : Option Exchange) → closes_row t (before limits t now flaw s ev) x o ≡ true → o ≡ None → ⊥
+  none_test ev x None h none = false_true h
+  none_test ev x (Some w) h none = let never : Some w ≡ None = none in cc
+
+  -- and there
+  pub had_row : (ev : Event) (x : ℕ) → closes_in x (accepted limits t now ev flaw) ≡ true → t.exchange x ≡ None → ⊥
+  unfolding closing
+  had_row ev x h none = none_test ev x (t.exchange x) (among_test x (λ y. closes_row t (before limits t now flaw s ev) y (t.exchange y)) (reverse t.openings) (closed_by ev x h)) none

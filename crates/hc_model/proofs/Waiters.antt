@@ -100,7 +100,7 @@ module _ (limits : Limits) (t : Tables) (now : ℕ) (flaw : Flaw) (s : Sound t) 
       let p = o.opener y w row in
       (a.k, record { row = a.row; exchange_row = row; for_it = refl; own = a.own; was_open = on; bare = bare; key_is = p.key_is ∙ ap (λ (z : Consumer). z.request.key) (same_row (t.consumer w.c) p.k a.k p.row a.row); at = a.at })
 
-  case_same : case_at t e ≡ case_at t b
+  pub case_same : case_at t e ≡ case_at t b
   case_same = ap (λ lost. case_of t lost ev) (loss_is limits t now flaw s ev)
 
   doomed_row : (response : Response) (z : Option Exchange) → doomed_by_head t e response z ≡ doomed_by_head t b response z
@@ -117,12 +117,12 @@ module _ (limits : Limits) (t : Tables) (now : ℕ) (flaw : Flaw) (s : Sound t) 
   doomed_by (event.Cancel c) = refl
   doomed_by (event.Doom key) = refl
 
-  doomed_same : doomed t e ≡ doomed t b
+  pub doomed_same : doomed t e ≡ doomed t b
   unfolding doomed
   doomed_same = doomed_by ev
 
   module _ (c y : ℕ) (k : Consumer) (w : Exchange) (is : IsWaiter t c y k w) where
-    headless_is : is_headless (t.exchange y) ≡ true
+    pub headless_is : is_headless (t.exchange y) ≡ true
     headless_is = ap is_headless is.exchange_row ∙ both w.is_open w.head is.was_open is.bare
       where
         both : (a : Bool) (z : Option Response) → a ≡ true → z ≡ None → (a && is_none z) ≡ true
@@ -174,7 +174,7 @@ module _ (limits : Limits) (t : Tables) (now : ℕ) (flaw : Flaw) (s : Sound t) 
       | inl on ↦ absurd (let losing : loses_writing t e r v ≡ true = and_left (loses_writing t e r v) (is_number (survivor t r v) c) on in unwritten r lo hi how v v.writer at row (and_right _ _ losing) refl)
     ]
 
-    own_stays : (p : Place) → k.place ≡ p → own_after t e c p (Some y) ≡ Some y
+    pub own_stays : (p : Place) → k.place ≡ p → own_after t e c p (Some y) ≡ Some y
     own_stays place.Line at = refl
     own_stays (place.Passed r kept) at = refl
     own_stays (place.Turn x) at = refl
@@ -183,7 +183,7 @@ module _ (limits : Limits) (t : Tables) (now : ℕ) (flaw : Flaw) (s : Sound t) 
     own_stays (place.Down cause) at = refl
     own_stays place.Over at = refl
 
-    opening_stays : (q : Consumer) (z : Option Opening) → opening_in e.acts ≡ z → by_opening t c z q ≡ q
+    pub opening_stays : (q : Consumer) (z : Option Opening) → opening_in e.acts ≡ z → by_opening t c z q ≡ q
     opening_stays q None opens = refl
     opening_stays q (Some p) opens = elim (eq_cases p.c c) [
       | inl here ↦ absurd (no_opening p opens here.1)

@@ -35,7 +35,7 @@ use Rattle.hc_model.specs.Kinds.{kind_for}
 use Rattle.hc_model.specs.Contents.{contents_of}
 use Rattle.hc_model.specs.Beginnings.{may_begin}
 use Rattle.hc_model.specs.Denials.{live}
-use Rattle.hc_model.specs.Runs.{IsRun}
+use Rattle.hc_model.specs.Runs.{IsRun, may_stand}
 use Rattle.hc_model.specs.Reads.{Delivers}
 use Rattle.hc_model.specs.Sound.{Sound, IsBound, IsToBeShown, Waits, OneAbout, OneCurrent, IsStored, IsListed, IsNamed}
 use Rattle.hc_model.specs.Owners.{Owners}
@@ -307,3 +307,13 @@ abbrev pub AreToBeShown : Tables → Type 0
 AreToBeShown t =
     (c r lo : ℕ) (hi : Option ℕ) (by : BoundBy) (k : Consumer) → t.consumer c ≡ Some k →
     k.place ≡ place.Bound r lo hi by → k.shown ≡ false → IsToBeShown t k by
+
+-- and of entries that a store may stand behind
+abbrev pub OwedAfterEach : (Tables → Type 0) → Type 0
+OwedAfterEach P =
+    (limits : Limits) (t : Tables) (now : ℕ) (flaw : Flaw) → Sound t → Owners t → (event : Event) →
+    denial t event ≡ None → may_stand limits t (entry_of limits t now event flaw) ≡ true →
+    P (after_accepted t (entry_of limits t now event flaw))
+
+abbrev pub OwnersAreKnown : Type 0
+OwnersAreKnown = (contents : Contents) → Owners (begun contents)

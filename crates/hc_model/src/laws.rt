@@ -2,7 +2,8 @@
 ghost use Rattle.hc_model.specs.Histories.{RunsAreFiltered};
 ghost use Rattle.hc_model.specs.Reads.{OneHeadIsShown};
 ghost use Rattle.hc_model.specs.Keys.{LawOfOneKey, KeysAreKept, KeysBegin};
-ghost use Rattle.hc_model.specs.Laws.{SoundDeliversOnce, DeliveriesAreKept, BodiesAreKept, NumbersAreKept, NamesAreKept, OneCurrentIsKept, StoresAreKept, StartsAreSound, WholeIsWhole, AfterEach, AreBound, KnowEnds, OwnedAfterEach, AreToBeShown};
+ghost use Rattle.hc_model.specs.Laws.{SoundDeliversOnce, DeliveriesAreKept, BodiesAreKept, NumbersAreKept, NamesAreKept, OneCurrentIsKept, StoresAreKept, StartsAreSound, WholeIsWhole, AfterEach, AreBound, KnowEnds, OwnedAfterEach, AreToBeShown, OwedAfterEach, OwnersAreKnown};
+ghost use Rattle.hc_model.specs.Owners.{Owners};
 ghost use Rattle.hc_model.specs.Sound.{OneFirst};
 
 /// Delivered once: where a piece is accepted, none of its positions has come; what shows this holds
@@ -71,4 +72,13 @@ pub fn readers_are_bound()
     ensures one { AfterEach OneFirst }
     ensures ends { AfterEach KnowEnds }
     ensures shown { OwnedAfterEach AreToBeShown }
+{}
+
+/// Whose each exchange is, and where its consumer waits for its head, is told at the beginning and after
+/// each accepted event that a store may stand behind: an exchange is the own one of one consumer at most,
+/// one without a head is that of the consumer for which it was opened, which stands where it waits for it,
+/// and one that writes for several is nobody's own.
+pub fn owners_stay_known()
+    ensures begun { OwnersAreKnown }
+    ensures kept { OwedAfterEach Owners }
 {}

@@ -142,7 +142,7 @@ goes_too t e q x response w v at row is now =
 eq-refl : (r : ℕ) → nat_eq r r ≡ true
 eq-refl r = grind (arith, nat_tests)
 
-usable : (key : List ℕ) (o : Option Representation) (v : Representation) → o ≡ Some v → v.key ≡ key → v.is_gone ≡ false → is_usable key o ≡ true
+pub usable : (key : List ℕ) (o : Option Representation) (v : Representation) → o ≡ Some v → v.key ≡ key → v.is_gone ≡ false → is_usable key o ≡ true
 usable key o v row of_key fresh = rw (row, fresh) (and_true (bytes_eq v.key key) (bytes_eq-same v.key key of_key))
   where
     and_true : (a : Bool) → a ≡ true → (a && not false) ≡ true
@@ -150,7 +150,7 @@ usable key o v row of_key fresh = rw (row, fresh) (and_true (bytes_eq v.key key)
     and_true false h = absurd (let never : false ≡ true = h in cc)
 
 -- the first that passes a test which only one number passes is that number
-find_only : (test : ℕ → Bool) (ns : List ℕ) (q : ℕ) → Among q ns → test q ≡ true → ((n : ℕ) → test n ≡ true → n ≡ q) → find test ns ≡ Some q
+pub find_only : (test : ℕ → Bool) (ns : List ℕ) (q : ℕ) → Among q ns → test q ≡ true → ((n : ℕ) → test n ≡ true → n ≡ q) → find test ns ≡ Some q
 find_only test [] q among passes one = absurd among
 find_only test (n ∷ ns) q among passes one = elim (bool_cases (test n)) [
   | inl also ↦ rw also (ap Some (one n also))
@@ -161,17 +161,17 @@ find_only test (n ∷ ns) q among passes one = elim (bool_cases (test n)) [
     others (inl here) fails = absurd (let never : true ≡ false = sym (ap test here ∙ passes) ∙ fails in cc)
     others (inr there) fails = there
 
-record IsUsable (t : Tables) (key : List ℕ) (n : ℕ) : Type 0 where
-  v : Representation
-  row : t.representation n ≡ Some v
-  of_key : v.key ≡ key
-  fresh : v.is_gone ≡ false
+pub record IsUsable (t : Tables) (key : List ℕ) (n : ℕ) : Type 0 where
+  pub v : Representation
+  pub row : t.representation n ≡ Some v
+  pub of_key : v.key ≡ key
+  pub fresh : v.is_gone ≡ false
 
 not_gone : (b : Bool) → not b ≡ true → b ≡ false
 not_gone true h = absurd (let never : false ≡ true = h in cc)
 not_gone false h = refl
 
-usable_row : (t : Tables) (key : List ℕ) (n : ℕ) (o : Option Representation) → t.representation n ≡ o → is_usable key o ≡ true → IsUsable t key n
+pub usable_row : (t : Tables) (key : List ℕ) (n : ℕ) (o : Option Representation) → t.representation n ≡ o → is_usable key o ≡ true → IsUsable t key n
 usable_row t key n None row h = absurd (let never : false ≡ true = h in cc)
 usable_row t key n (Some v) row h =
     let parts = and_both (bytes_eq v.key key) (not v.is_gone) h in

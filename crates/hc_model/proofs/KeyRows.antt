@@ -42,7 +42,7 @@ or_none true b p q = absurd (let never : true ≡ false = p in cc)
 all_none : (a b c d f : Bool) → a ≡ false → b ≡ false → c ≡ false → d ≡ false → f ≡ false → (a || b || c || d || f) ≡ false
 all_none a b c d f p q x y z = rw (p, q, x, y, z) refl
 
-same_number : (o p : Option ℕ) (x : ℕ) → p ≡ Some x → is_same_number o p ≡ true → o ≡ Some x
+pub same_number : (o p : Option ℕ) (x : ℕ) → p ≡ Some x → is_same_number o p ≡ true → o ≡ Some x
 same_number None p x is h = absurd (let never : false ≡ true = h in cc)
 same_number (Some m) None x is h = absurd (let never : false ≡ true = h in cc)
 same_number (Some m) (Some n) x is h = ap Some (eq_is m n h) ∙ is

@@ -66,3 +66,12 @@ pub mod PassedKeeps
 pub mod LossStands
 pub mod ApartKeeps
 pub mod OwnersKept
+pub mod TurnPlans
+pub mod TurnMoves
+pub mod TurnFacts
+pub mod TurnStays
+pub mod TurnOpens
+pub mod TurnPlaces
+pub mod VaryKeeps
+pub mod TurnHeads
+pub mod TurnsKeep

@@ -269,7 +269,7 @@ module _ (t : Tables) (c : ℕ) (k : Consumer) where
   shows_of place at shown none = sym (cond_false k.shown None (shows_at t k k.place) shown ∙ ap (shows_at t k) at) ∙ none
 
   -- who is bound and wasn't shown a head is shown it now, or waits for it
-  never_plans : (r lo : ℕ) (hi : Option ℕ) (how : BoundBy) → k.place ≡ place.Bound r lo hi how → k.shown ≡ false → IsToBeShown t k how → shows_head t k ≡ None → option_and_then (if_headless t) (own_open t k) ≡ None → ⊥
+  pub never_plans : (r lo : ℕ) (hi : Option ℕ) (how : BoundBy) → k.place ≡ place.Bound r lo hi how → k.shown ≡ false → IsToBeShown t k how → shows_head t k ≡ None → option_and_then (if_headless t) (own_open t k) ≡ None → ⊥
   never_plans r lo hi _ at shown sound.founded none not_waiting = let never : shows_at t k (place.Bound r lo hi by.Founding) ≡ None = shows_of _ at shown none in cc
   never_plans r lo hi _ at shown (sound.joined y joined) none not_waiting = let never : shows_at t k (place.Bound r lo hi (by.FirstHole y)) ≡ None = shows_of _ at shown none in let also = rw joined at never in cc
   never_plans r lo hi _ at shown (sound.waits y own headless) none not_waiting = let never : Some y ≡ None = rw (own, headless) at not_waiting in cc

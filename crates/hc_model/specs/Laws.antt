@@ -7,12 +7,16 @@ use Rattle.hc_event.specs.declared.event.Event.{Event}
 use Rattle.hc_event.specs.declared.event.Event.TheVariants as event
 use Rattle.hc_event.specs.declared.act.Act.{Act}
 use Rattle.hc_event.specs.declared.act.Act.TheVariants as act
+use Rattle.hc_event.specs.declared.act.Need.TheVariants as need
 use Rattle.hc_event.specs.declared.act.Wait.TheVariants as wait
+use Rattle.hc_rules.specs.declared.need.Route.{Route}
 use Rattle.hc_rules.specs.declared.need.Route.TheVariants as route
 use Rattle.hc_rules.specs.declared.room.Limits.{Limits}
 use Rattle.hc_rules.specs.Needs.{route_of}
 use Rattle.hc_rules.specs.Requests.{is_bypassing, is_disabled, is_only}
 use Rattle.hc_fresh.specs.Vary.{matches_vary}
+use Rattle.hc_model.specs.declared.place.BoundBy.{BoundBy}
+use Rattle.hc_model.specs.declared.place.BoundBy.TheVariants as by
 use Rattle.hc_model.specs.declared.place.Place.TheVariants as place
 use Rattle.hc_model.specs.declared.place.BoundBy.{BoundBy}
 use Rattle.hc_model.specs.Entries.{Entry, History, Content, Contents}
@@ -35,11 +39,11 @@ use Rattle.hc_model.specs.Kinds.{kind_for}
 use Rattle.hc_model.specs.Contents.{contents_of}
 use Rattle.hc_model.specs.Beginnings.{may_begin}
 use Rattle.hc_model.specs.Denials.{live}
-use Rattle.hc_model.specs.Runs.{IsRun, may_stand}
+use Rattle.hc_model.specs.Runs.{IsRun, may_stand, IsOwed}
 use Rattle.hc_model.specs.Reads.{Delivers}
 use Rattle.hc_model.specs.Sound.{Sound, IsBound, IsToBeShown, Waits, OneAbout, OneCurrent, IsStored, IsListed, IsNamed}
 use Rattle.hc_model.specs.Owners.{Owners}
-use Rattle.hc_model.specs.Keys.{entry_of}
+use Rattle.hc_model.specs.Keys.{entry_of, IsOfOneKey}
 
 -- a fact of the tables of every run
 abbrev pub OfRuns : (Tables → Type 0) → Type 0
@@ -172,24 +176,40 @@ pub record HasPassed (t : Tables) (r : ℕ) (k : Consumer) : Type 0 where
   pub row : t.representation r ≡ Some v
   pub agrees : matches_vary v.head k.request ≡ true
 
--- it waits for its head for this consumer
-pub record WaitsFor (t : Tables) (x c : ℕ) : Type 0 where
-  pub w : Exchange
-  pub row : t.exchange x ≡ Some w
-  pub headless : is_headless (Some w) ≡ true
-  pub opener : w.c ≡ c
+-- who has a headless exchange x as its own, by what that may become: it is direct, has the turn,
+-- waits with a first hole, or reads on behind a later one
+pub data StandsFor (x : ℕ) (k : Consumer) : Route → Type 0 where
+  direct : k.place ≡ place.Direct x → StandsFor x k route.Direct
+  has_turn : k.place ≡ place.Turn x → k.shown ≡ false → StandsFor x k route.Turn
+  first : (r lo : ℕ) (hi : Option ℕ) → k.place ≡ place.Bound r lo hi (by.FirstHole x) →
+      k.shown ≡ false → StandsFor x k route.Hole
+  later : (r lo : ℕ) (hi : Option ℕ) (by : BoundBy) → k.place ≡ place.Bound r lo hi by →
+      k.shown ≡ true → StandsFor x k route.Hole
+
+-- a headless exchange is its consumer's own
+pub record IsAwaited (t : Tables) (x : ℕ) (w : Exchange) : Type 0 where
+  pub k : Consumer
+  pub row : t.consumer w.c ≡ Some k
+  pub own : k.own ≡ Some x
+  pub stands : StandsFor x k (route_of w.need)
 
 -- for one turn, and that waits end
 pub record Turns (t : Tables) : Type 0 where
+  pub awaited : (x : ℕ) (w : Exchange) → t.exchange x ≡ Some w → is_headless (Some w) ≡ true →
+      IsAwaited t x w
   pub one_holder : (c d x y : ℕ) (k u : Consumer) → t.consumer c ≡ Some k → t.consumer d ≡ Some u →
       k.place ≡ place.Turn x → u.place ≡ place.Turn y → k.request.key ≡ u.request.key → c ≡ d
-  pub holds : (c x : ℕ) (k : Consumer) → t.consumer c ≡ Some k → k.place ≡ place.Turn x →
-      WaitsFor t x c
-  pub held : (x : ℕ) (w : Exchange) → t.exchange x ≡ Some w → is_headless (Some w) ≡ true →
-      route_of w.need ≡ route.Turn →
-      (k : Consumer) × (t.consumer w.c ≡ Some k) × (k.place ≡ place.Turn x)
+  pub queued : (c x : ℕ) (k : Consumer) → t.consumer c ≡ Some k → k.place ≡ place.Turn x →
+      (is_disabled k.request ≡ false) × (is_only k.request ≡ false)
   pub passed : (c r : ℕ) (kept : Option ℕ) (k : Consumer) → t.consumer c ≡ Some k →
       k.place ≡ place.Passed r kept → HasPassed t r k
+  pub first_hole : (c r lo y : ℕ) (hi : Option ℕ) (k : Consumer) → t.consumer c ≡ Some k →
+      k.place ≡ place.Bound r lo hi (by.FirstHole y) → k.shown ≡ true →
+      (w : Exchange) × (t.exchange y ≡ Some w) × (is_headless (Some w) ≡ false)
+  pub validates : (x r : ℕ) (w : Exchange) (k : Consumer) (v : Representation) →
+      t.exchange x ≡ Some w → is_headless (Some w) ≡ true → w.need ≡ need.Validate →
+      w.aim ≡ Some r → t.consumer w.c ≡ Some k → t.representation r ≡ Some v →
+      (is_bypassing k.request ≡ false) × (matches_vary v.head k.request ≡ true)
 
 -- for the doom barrier: what may still found was opened after the last doom
 pub record IsBarred (contents : Contents) (h : History) : Type 0 where
@@ -317,3 +337,17 @@ OwedAfterEach P =
 
 abbrev pub OwnersAreKnown : Type 0
 OwnersAreKnown = (contents : Contents) → Owners (begun contents)
+
+-- ONE TURN
+
+-- what shows that turns are one holds from the beginning, and stays so at each accepted entry
+abbrev pub TurnsAreKept : Type 0
+TurnsAreKept =
+    (limits : Limits) (t : Tables) (e : Entry) → Sound t → IsOfOneKey t → Turns t →
+    IsOwed limits t e → is_denied e.acts ≡ false → Turns (after_accepted t e)
+
+abbrev pub TurnsBegin : Type 0
+TurnsBegin = (contents : Contents) → Turns (begun contents)
+
+abbrev pub TurnsAreOne : Type 0
+TurnsAreOne = (t : Tables) → Sound t → IsOfOneKey t → Turns t → HasOneTurn t

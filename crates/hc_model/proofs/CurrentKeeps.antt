@@ -53,7 +53,7 @@ heard_same t e r (event.Cancel c) v = same v
 heard_same t e r (event.Doom key) v = same v
 
 -- a row after an entry was there, and doesn't become gone where it isn't gone; or it is founded
-data WasOrFounded (t : Tables) (e : Entry) (r : ℕ) (u : Representation) : Type 0 where
+pub data WasOrFounded (t : Tables) (e : Entry) (r : ℕ) (u : Representation) : Type 0 where
   was : (v : Representation) → t.representation r ≡ Some v → u.key ≡ v.key → u.is_gone ≡ (becomes_gone t e r v || v.is_gone) → WasOrFounded t e r u
   founded : (x : ℕ) (response : Response) (w : Exchange) → e.event ≡ event.Head x response → x ≡ r → is_founding (case_at t e) ≡ true → t.exchange x ≡ Some w → u.key ≡ w.request.key → t.representation r ≡ None → WasOrFounded t e r u
 
@@ -83,7 +83,7 @@ of_none t e r (event.Fault x) u at none h = absurd (let never : None ≡ Some u 
 of_none t e r (event.Cancel c) u at none h = absurd (let never : None ≡ Some u = h in cc)
 of_none t e r (event.Doom key) u at none h = absurd (let never : None ≡ Some u = h in cc)
 
-was_or_founded : (t : Tables) (e : Entry) (r : ℕ) (o : Option Representation) (u : Representation) → t.representation r ≡ o → representation_after t e r o ≡ Some u → WasOrFounded t e r u
+pub was_or_founded : (t : Tables) (e : Entry) (r : ℕ) (o : Option Representation) (u : Representation) → t.representation r ≡ o → representation_after t e r o ≡ Some u → WasOrFounded t e r u
 unfolding representation_after
 was_or_founded t e r None u row h = of_none t e r e.event u refl row h
 was_or_founded t e r (Some v) u row h =
@@ -177,7 +177,7 @@ usable_row t key n (Some v) row h =
     let parts = and_both (bytes_eq v.key key) (not v.is_gone) h in
     record { v = v; row = row; of_key = same_bytes v.key key parts.0; fresh = not_gone v.is_gone parts.1 }
 
-current_is : (t : Tables) (key : List ℕ) (q : ℕ) (v : Representation) → Sound t → t.representation q ≡ Some v → v.key ≡ key → v.is_gone ≡ false → current t key ≡ Some q
+pub current_is : (t : Tables) (key : List ℕ) (q : ℕ) (v : Representation) → Sound t → t.representation q ≡ Some v → v.key ≡ key → v.is_gone ≡ false → current t key ≡ Some q
 unfolding current
 current_is t key q v s row of_key fresh =
     find_only (λ r. is_usable key (t.representation r)) t.founded q

@@ -75,3 +75,5 @@ pub mod TurnPlaces
 pub mod VaryKeeps
 pub mod TurnHeads
 pub mod TurnsKeep
+pub mod Barred
+pub mod InRuns

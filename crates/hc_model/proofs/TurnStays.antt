@@ -323,7 +323,7 @@ module _ (limits : Limits) (t : Tables) (e : Entry) (taken : IsTaken limits t e)
 
   -- IT DOESN'T START OVER
 
-  dooms : is_key (doomed t e) k.request.key ≡ true → is_number (awaited k.place) x ≡ true → ⊥
+  pub dooms : is_key (doomed t e) k.request.key ≡ true → is_number (awaited k.place) x ≡ true → ⊥
   dooms doom waits =
       let key_of = opener_key t x w k one.exchanges row it.row in
       let for_it : is_key (doomed t (seen limits t e taken)) w.request.key ≡ true = ap (λ o. is_key o w.request.key) (sym (same_doom limits t e taken)) ∙ (ap (is_key (doomed t e)) key_of ∙ doom) in

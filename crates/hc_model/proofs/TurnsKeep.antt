@@ -181,7 +181,7 @@ apart test p q a b is = absurd (let no_one : true ≡ false = sym a ∙ (ap test
 -- HEADLESS BEFORE
 
 module _ (t : Tables) (e : Entry) (x : ℕ) (w : Exchange) where
-  abbrev Stays : Exchange → Type 0
+  abbrev pub Stays : Exchange → Type 0
   Stays z = is_headless (Some (exchange_acted x e.acts z)) ≡ true
 
   still : Stays w → is_headless (Some w) ≡ true
@@ -278,7 +278,7 @@ module _ (limits : Limits) (t : Tables) (e : Entry) (taken : IsTaken limits t e)
 
   -- EXCHANGES
 
-  data WasHeadless (x : ℕ) (z : Exchange) : Type 0 where
+  pub data WasHeadless (x : ℕ) (z : Exchange) : Type 0 where
     was : (w : Exchange) → t.exchange x ≡ Some w → is_headless (Some w) ≡ true → z ≡ exchange_acted x e.acts (exchange_heard t e x e.event w) → Stays t e x w (exchange_heard t e x e.event w) → WasHeadless x z
     new : (o : Opening) → opening_in e.acts ≡ Some o → o.x ≡ x → z ≡ exchange_opened t e o → WasHeadless x z
 
@@ -286,7 +286,7 @@ module _ (limits : Limits) (t : Tables) (e : Entry) (taken : IsTaken limits t e)
   new_headless x z none (keeps.was w row same) = absurd (none_some w (sym none ∙ row))
   new_headless x z none (keeps.new o is here made absent) = new o is here made
 
-  was_headless : (x : ℕ) (o : Option Exchange) (z : Exchange) → t.exchange x ≡ o → exchange_after t e x o ≡ Some z → is_headless (Some z) ≡ true → WasHeadless x z
+  pub was_headless : (x : ℕ) (o : Option Exchange) (z : Exchange) → t.exchange x ≡ o → exchange_after t e x o ≡ Some z → is_headless (Some z) ≡ true → WasHeadless x z
   unfolding exchange_after
   was_headless x None z row h bare = new_headless x z row (exchange_was t e x None z row h)
   was_headless x (Some w) z row h bare =
@@ -390,7 +390,7 @@ module _ (limits : Limits) (t : Tables) (e : Entry) (taken : IsTaken limits t e)
 
   -- WHAT IS CURRENT STAYS SO
 
-  same_entry : entry_of limits t e.now e.event (flaw_in e.acts) ≡ e
+  pub same_entry : entry_of limits t e.now e.event (flaw_in e.acts) ≡ e
   same_entry = ap entry_with (sym (acts_is limits t e taken))
     where
       entry_with : List Act → Entry

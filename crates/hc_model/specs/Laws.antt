@@ -41,9 +41,9 @@ use Rattle.hc_model.specs.Beginnings.{may_begin}
 use Rattle.hc_model.specs.Denials.{live}
 use Rattle.hc_model.specs.Runs.{IsRun, may_stand, IsOwed}
 use Rattle.hc_model.specs.Reads.{Delivers}
-use Rattle.hc_model.specs.Sound.{Sound, IsBound, IsToBeShown, Waits, OneAbout, OneCurrent, IsStored, IsListed, IsNamed}
+use Rattle.hc_model.specs.Sound.{Sound, IsBound, IsToBeShown, Waits, OneAbout, OneCurrent, IsStored, IsListed, IsNamed, RunsAreSound}
 use Rattle.hc_model.specs.Owners.{Owners}
-use Rattle.hc_model.specs.Keys.{entry_of, IsOfOneKey}
+use Rattle.hc_model.specs.Keys.{entry_of, IsOfOneKey, KeepsOthers}
 
 -- a fact of the tables of every run
 abbrev pub OfRuns : (Tables → Type 0) → Type 0
@@ -211,8 +211,9 @@ pub record Turns (t : Tables) : Type 0 where
       w.aim ≡ Some r → t.consumer w.c ≡ Some k → t.representation r ≡ Some v →
       (is_bypassing k.request ≡ false) × (matches_vary v.head k.request ≡ true)
 
--- for the doom barrier: what may still found was opened after the last doom
+-- for the doom barrier: what may still found was opened after the last doom, which came after openings
 pub record IsBarred (contents : Contents) (h : History) : Type 0 where
+  pub within : (key : List ℕ) → barrier contents key h ≤ (tables contents h).opened
   pub founded : IsBehindDooms contents h
   pub awaited : (x : ℕ) (w : Exchange) → (tables contents h).exchange x ≡ Some w →
       is_headless (Some w) ≡ true → route_of w.need ≢ route.Direct →
@@ -351,3 +352,36 @@ TurnsBegin = (contents : Contents) → Turns (begun contents)
 
 abbrev pub TurnsAreOne : Type 0
 TurnsAreOne = (t : Tables) → Sound t → IsOfOneKey t → Turns t → HasOneTurn t
+
+-- THE DOOM BARRIER STAYS
+
+-- each entry of a run leaves what isn't gone, and what may still found, behind the last doom of its key
+abbrev pub BarrierIsKept : Type 0
+BarrierIsKept =
+    (limits : Limits) (contents : Contents) (h : History) (e : Entry) →
+    Sound (tables contents h) → IsOfOneKey (tables contents h) → Turns (tables contents h) →
+    IsBarred contents h → IsOwed limits (tables contents h) e → IsBarred contents (e ∷ h)
+
+-- numbers begin with 1
+abbrev pub AreNumbered : Contents → Type 0
+AreNumbered contents = (r : ℕ) (item : Content) → item_of contents r ≡ Some item → 0 < r
+
+abbrev pub BarrierBegins : Type 0
+BarrierBegins = (contents : Contents) → AreNumbered contents → IsBarred contents []
+
+-- IN RUNS
+
+-- of each run, once runs are sound
+abbrev pub TurnsInRuns : Type 0
+TurnsInRuns = RunsAreSound → OfRuns HasOneTurn
+
+abbrev pub DoomsInRuns : Type 0
+DoomsInRuns =
+    RunsAreSound → (limits : Limits) (contents : Contents) (h : History) → AreNumbered contents →
+    IsRun limits contents h → IsBehindDooms contents h
+
+abbrev pub KeysInRuns : Type 0
+KeysInRuns =
+    RunsAreSound → (limits : Limits) (contents : Contents) (h : History) (e : Entry) →
+    IsRun limits contents (e ∷ h) → is_denied e.acts ≡ false →
+    KeepsOthers (tables contents h) (tables contents (e ∷ h)) e

@@ -2,7 +2,7 @@
 ghost use Rattle.hc_model.specs.Histories.{RunsAreFiltered};
 ghost use Rattle.hc_model.specs.Reads.{OneHeadIsShown};
 ghost use Rattle.hc_model.specs.Keys.{LawOfOneKey, KeysAreKept, KeysBegin};
-ghost use Rattle.hc_model.specs.Laws.{SoundDeliversOnce, DeliveriesAreKept, BodiesAreKept, NumbersAreKept, NamesAreKept, OneCurrentIsKept, StoresAreKept, StartsAreSound, WholeIsWhole, AfterEach, AreBound, KnowEnds, OwnedAfterEach, AreToBeShown, OwedAfterEach, OwnersAreKnown, TurnsAreOne, TurnsAreKept, TurnsBegin};
+ghost use Rattle.hc_model.specs.Laws.{SoundDeliversOnce, DeliveriesAreKept, BodiesAreKept, NumbersAreKept, NamesAreKept, OneCurrentIsKept, StoresAreKept, StartsAreSound, WholeIsWhole, AfterEach, AreBound, KnowEnds, OwnedAfterEach, AreToBeShown, OwedAfterEach, OwnersAreKnown, TurnsAreOne, TurnsAreKept, TurnsBegin, TurnsInRuns, KeysInRuns, BarrierIsKept, BarrierBegins, DoomsInRuns};
 ghost use Rattle.hc_model.specs.Owners.{Owners};
 ghost use Rattle.hc_model.specs.Sound.{OneFirst};
 
@@ -62,6 +62,7 @@ pub fn other_keys_stay()
     ensures law { LawOfOneKey }
     ensures kept { KeysAreKept }
     ensures begin { KeysBegin }
+    ensures runs { KeysInRuns }
 {}
 
 /// Whoever is bound to a representation is bound to one that is there; one at most became bound to it as
@@ -89,4 +90,13 @@ pub fn one_has_the_turn()
     ensures one { TurnsAreOne }
     ensures kept { TurnsAreKept }
     ensures begin { TurnsBegin }
+    ensures runs { TurnsInRuns }
+{}
+
+/// What isn't gone was opened after the last doom of its key, and so was what may still found. This holds from
+/// the beginning, and after each entry of a run.
+pub fn dooms_are_a_barrier()
+    ensures kept { BarrierIsKept }
+    ensures begin { BarrierBegins }
+    ensures runs { DoomsInRuns }
 {}

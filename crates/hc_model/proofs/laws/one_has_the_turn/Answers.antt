@@ -1,4 +1,5 @@
 -- One has the turn, and what shows this is kept.
+use Rattle.hc_model.proofs.InRuns.{turns_in_runs}
 use Rattle.hc_model.proofs.TurnsKeep.{turns_are_one, turns_are_kept, turns_begin}
 use Rattle.hc_model.proofs.laws.one_has_the_turn.Goals as goal
 
@@ -10,3 +11,6 @@ returns-clause-kept c = turns_are_kept
 
 pub returns-clause-begin : goal.returns-clause-begin
 returns-clause-begin c = turns_begin
+
+pub returns-clause-runs : goal.returns-clause-runs
+returns-clause-runs c = turns_in_runs

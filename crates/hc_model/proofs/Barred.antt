@@ -1,0 +1,278 @@
+-- What isn't gone, and what may still found, was opened after the last doom of its key.
+use Rattle.std.proofs.Common.{◌≡◌, ◌≢◌, ◌⊎◌, inl, inr, ℕ, ◌+◌, ◌<◌, ◌≤◌, List, ◌∷◌, Bool, true, false, Option, Some, None, refl, ap, sym, ◌∙◌, subst, arith}
+use Rattle.std.specs.Prelude.{◌||◌, nat_eq, if◌then◌else◌}
+use Rattle.std.specs.Option.{option_map}
+use Rattle.hc_event.specs.Filters.{Opening, opening_in, is_denied}
+use Rattle.hc_event.specs.declared.event.Event.TheVariants as event
+use Rattle.hc_event.specs.declared.event.Request.{Request}
+use Rattle.hc_event.specs.declared.event.Response.{Response}
+use Rattle.hc_rules.specs.Needs.{route_of}
+use Rattle.hc_rules.specs.Refusals as refusals
+use Rattle.hc_rules.specs.Refusals.{head_refusal}
+use Rattle.hc_rules.specs.HeadCases.{head_case, case_on, direct_case, first_case, later_case}
+use Rattle.hc_rules.specs.declared.heads.HeadCase.{HeadCase}
+use Rattle.hc_rules.specs.declared.heads.HeadCase.TheVariants as case
+use Rattle.hc_rules.specs.declared.heads.HeadView.{HeadView}
+use Rattle.hc_rules.specs.declared.need.Route.{Route}
+use Rattle.hc_rules.specs.declared.need.Route.TheVariants as route
+use Rattle.hc_rules.specs.declared.room.Limits.{Limits}
+use Rattle.hc_model.specs.ActFilters.{has_loss}
+use Rattle.hc_model.specs.Cases.{case_at, case_of, head_view, is_founding, was_shown}
+use Rattle.hc_model.specs.Currents.{is_current, is_number}
+use Rattle.hc_model.specs.Denials.{denial, as_open}
+use Rattle.hc_model.specs.Dooms.{doomed, doomed_in, doomed_by_head, doomed_by_case, is_key}
+use Rattle.hc_model.specs.Entries.{Entry, History, Content, Contents}
+use Rattle.hc_model.specs.ExchangeRows.{exchange_heard}
+use Rattle.hc_model.specs.Exchanges.{is_headless}
+use Rattle.hc_model.specs.Gone.{becomes_gone}
+use Rattle.hc_model.specs.Keys.{IsOfOneKey}
+use Rattle.hc_model.specs.Laws.{Turns, StandsFor, IsBarred, IsBehindDooms, BarrierIsKept, BarrierBegins, AreNumbered, barrier, barrier_at, item_of}
+use Rattle.hc_model.specs.Laws as laws
+use Rattle.hc_model.specs.Rows.{Tables, Exchange, Representation, Consumer}
+use Rattle.hc_model.specs.Runs.{IsOwed}
+use Rattle.hc_model.specs.Sound.{Sound}
+use Rattle.hc_model.specs.Tables.{tables, after, after_accepted, after_denied, loaded, opened_after}
+use Rattle.hc_model.proofs.CurrentKeeps.{current_is, WasOrFounded, was_or_founded}
+use Rattle.hc_model.proofs.CurrentKeeps as current
+use Rattle.hc_model.proofs.KeysKeep.{same_exchange}
+use Rattle.hc_model.specs.StartingOver.{awaited}
+use Rattle.hc_model.proofs.HoleLemmas.{bool_cases}
+use Rattle.hc_model.proofs.Joining.{mix}
+use Rattle.hc_model.proofs.KeyNames.{not_true, key_is, opener_key}
+use Rattle.hc_model.proofs.Owed.{goes}
+use Rattle.hc_model.proofs.PieceKeeps.{eq_cases}
+use Rattle.hc_model.proofs.TurnFacts.{IsTaken}
+use Rattle.hc_model.proofs.TurnOpens.{opened_at}
+use Rattle.hc_model.proofs.TurnStays.{head_opens, dooms, after_same}
+use Rattle.hc_model.proofs.TurnsKeep.{WasHeadless, was_headless}
+use Rattle.hc_model.proofs.TurnsKeep as keeps
+
+none_some : {A : Type 0} (a : A) → None ≡ Some a → ⊥
+none_some a h = cc
+
+-- THE FOUNDING CASES
+
+abbrev Quiet : HeadCase → Type 0
+Quiet c = is_founding (Some c) ≡ false
+
+module _ (v : HeadView) where
+  direct_quiet : Quiet (direct_case v)
+  direct_quiet = mix Quiet v.bad case.DirectBad case.DirectTaken refl refl
+
+  later_quiet : Quiet (later_case v)
+  later_quiet = mix Quiet v.bad case.LaterBad _ refl (mix Quiet v.joins case.LaterJoins case.LaterChanged refl refl)
+
+  by_shown : (b : Bool) → is_founding (Some (if b then later_case v else first_case v)) ≡ true → b ≡ false
+  by_shown true h = absurd (let no_one : false ≡ true = sym later_quiet ∙ h in cc)
+  by_shown false h = refl
+
+  -- what founds has the turn, or a first hole
+  founds_by : (way : Route) → is_founding (Some (case_on way v)) ≡ true → (way ≡ route.Turn) ⊎ ((way ≡ route.Hole) × (v.shown ≡ false))
+  founds_by route.Direct h = absurd (let no_one : false ≡ true = sym direct_quiet ∙ h in cc)
+  founds_by route.Turn h = inl refl
+  founds_by route.Hole h = inr (refl, by_shown v.shown h)
+
+-- a case that founds dooms nothing
+no_doom : (c : Option HeadCase) (w : Exchange) (response : Response) → is_founding c ≡ true → doomed_by_case c w response ≡ None
+no_doom (Some case.FoundsWhole) w response h = refl
+no_doom (Some case.FoundsRange) w response h = refl
+no_doom (Some case.FirstReplaced) w response h = refl
+no_doom _ w response h = absurd (let no_one : false ≡ true = h in cc)
+
+stands_turn : (x : ℕ) (k : Consumer) (way : Route) → StandsFor x k way → way ≡ route.Turn → k.shown ≡ false
+stands_turn x k _ (laws.has_turn at unshown) is = unshown
+stands_turn x k _ (laws.direct at) is = absurd (let no_one : route.Direct ≡ route.Turn = is in cc)
+stands_turn x k _ (laws.first r lo hi at unshown) is = unshown
+stands_turn x k _ (laws.later r lo hi how at shown) is = absurd (let no_one : route.Hole ≡ route.Turn = is in cc)
+
+-- BARRIERS
+
+-- what IsBarred says, of tables and barriers alone
+record Bars (u : Tables) (bar : List ℕ → ℕ) : Type 0 where
+  within : (key : List ℕ) → bar key ≤ u.opened
+  founded : (r : ℕ) (v : Representation) → u.representation r ≡ Some v → v.is_gone ≡ false → bar v.key < r
+  awaited : (x : ℕ) (w : Exchange) → u.exchange x ≡ Some w → is_headless (Some w) ≡ true → route_of w.need ≢ route.Direct → was_shown (u.consumer w.c) ≡ false → bar w.request.key < x
+
+of_bars : (contents : Contents) (h : History) → Bars (tables contents h) (λ key. barrier contents key h) → IsBarred contents h
+of_bars contents h bars = record { within = bars.within; founded = bars.founded; awaited = bars.awaited }
+
+module _ (limits : Limits) (t : Tables) (e : Entry) (taken : IsTaken limits t e) (s : Sound t) (one : IsOfOneKey t) (turns : Turns t) (old : List ℕ → ℕ) (bars : Bars t old) where
+  abbrev u : Tables
+  u = after_accepted t e
+
+  abbrev bar : List ℕ → ℕ
+  bar key = barrier_at t e (old key) key
+
+  bar_doomed : (key : List ℕ) → is_key (doomed t e) key ≡ true → bar key ≡ t.opened
+  bar_doomed key doom = rw (taken.not_denied, doom) refl
+
+  bar_same : (key : List ℕ) → is_key (doomed t e) key ≡ false → bar key ≡ old key
+  bar_same key free = rw (taken.not_denied, free) refl
+
+  bar_within : (key : List ℕ) → bar key ≤ t.opened
+  bar_within key = elim (bool_cases (is_key (doomed t e) key)) [
+    | inl doom ↦ let is : bar key ≡ t.opened = bar_doomed key doom in omega arith
+    | inr free ↦ let is : bar key ≡ old key = bar_same key free in let less : old key ≤ t.opened = bars.within key in omega arith
+  ]
+
+  opened_more : (o : Option Opening) → opening_in e.acts ≡ o → t.opened ≤ opened_after o t.opened
+  opened_more None is = omega arith
+  opened_more (Some o) is = let next : o.x ≡ t.opened + 1 = (opened_at limits t e taken s turns o is).next in omega arith
+
+  stays_within : (key : List ℕ) → bar key ≤ u.opened
+  stays_within key =
+      let less : bar key ≤ t.opened = bar_within key in
+      let more : t.opened ≤ u.opened = opened_more (opening_in e.acts) refl in
+      omega arith
+
+  -- WHAT ISN'T GONE
+
+  goes_by_doom : (r : ℕ) (v : Representation) → is_current t v.key r ≡ true → is_key (doomed t e) v.key ≡ true → becomes_gone t e r v ≡ true
+  unfolding becomes_gone
+  goes_by_doom r v now doom = rw (now, doom) refl
+
+  eq-refl : (r : ℕ) → nat_eq r r ≡ true
+  eq-refl r = elim (eq_cases r r) [ inl same ↦ same.0 | inr other ↦ absurd (other.1 refl) ]
+
+  or_both : (a b : Bool) → (a || b) ≡ false → (a ≡ false) × (b ≡ false)
+  or_both false false h = (refl, refl)
+  or_both false true h = absurd (let no_one : true ≡ false = h in cc)
+  or_both true b h = absurd (let no_one : true ≡ false = h in cc)
+
+  was_there : (r : ℕ) (v z : Representation) → t.representation r ≡ Some v → z.key ≡ v.key → z.is_gone ≡ (becomes_gone t e r v || v.is_gone) → z.is_gone ≡ false → bar z.key < r
+  was_there r v z row key_is gone_is fresh =
+      let both = or_both (becomes_gone t e r v) v.is_gone (sym gone_is ∙ fresh) in
+      let now : is_current t v.key r ≡ true = ap (λ o. is_number o r) (current_is t v.key r v s row refl both.1) ∙ eq-refl r in
+      let free : is_key (doomed t e) v.key ≡ false = not_true _ (λ doom. let no_one : true ≡ false = sym (goes_by_doom r v now doom) ∙ both.0 in cc) in
+      let is : bar z.key ≡ old v.key = ap bar key_is ∙ bar_same v.key free in
+      let less : old v.key < r = bars.founded r v row both.1 in
+      omega arith
+
+  goes_on : denial t e.event ≡ None
+  goes_on = goes limits t e taken.owed taken.not_denied
+
+  head_bare : (x : ℕ) (response : Response) (w : Exchange) → e.event ≡ event.Head x response → t.exchange x ≡ Some w → is_headless (Some w) ≡ true
+  unfolding refusals.refusal_of
+  head_bare x response w at row =
+      let here : denial t (event.Head x response) ≡ None = sym (ap (denial t) at) ∙ goes_on in
+      head_opens w (sym (ap (λ o. head_refusal (as_open o)) row) ∙ here)
+
+  case_here : (x : ℕ) (response : Response) (w : Exchange) (b : Bool) → t.exchange x ≡ Some w → is_founding (case_of t b (event.Head x response)) ≡ true → is_founding (Some (case_on (route_of w.need) (head_view t b w response))) ≡ true
+  unfolding case_of head_case
+  case_here x response w b row h = sym (ap (λ o. is_founding (option_map (λ w. head_case (head_view t b w response)) o)) row) ∙ h
+
+  new_behind : (x : ℕ) (response : Response) (w : Exchange) → e.event ≡ event.Head x response → t.exchange x ≡ Some w → is_founding (case_at t e) ≡ true → old w.request.key < x
+  new_behind x response w at row founding =
+      let lost = has_loss e.acts in
+      let here = case_here x response w lost row (sym (ap (λ ev. is_founding (case_of t lost ev)) at) ∙ founding) in
+      by_route (founds_by (head_view t lost w response) (route_of w.need) here)
+    where
+      by_route : (route_of w.need ≡ route.Turn) ⊎ ((route_of w.need ≡ route.Hole) × (was_shown (t.consumer w.c) ≡ false)) → old w.request.key < x
+      by_route (inl way) =
+          let bare = head_bare x response w at row in
+          let it = turns.awaited x w row bare in
+          bars.awaited x w row bare (λ direct. let no_one : route.Turn ≡ route.Direct = sym way ∙ direct in cc) (ap was_shown it.row ∙ stands_turn x it.k (route_of w.need) it.stands way)
+      by_route (inr both) =
+          bars.awaited x w row (head_bare x response w at row) (λ direct. let no_one : route.Hole ≡ route.Direct = sym both.0 ∙ direct in cc) both.1
+
+  doom_free : (x : ℕ) (response : Response) (w : Exchange) → e.event ≡ event.Head x response → t.exchange x ≡ Some w → is_founding (case_at t e) ≡ true → doomed t e ≡ None
+  unfolding doomed
+  doom_free x response w at row founding =
+      ap (doomed_in t e) at ∙ (ap (doomed_by_head t e response) row ∙ no_doom (case_at t e) w response founding)
+
+  behind : (r : ℕ) (z : Representation) → WasOrFounded t e r z → z.is_gone ≡ false → bar z.key < r
+  behind r z (current.was v row key_is gone_is) fresh = was_there r v z row key_is gone_is fresh
+  behind r z (current.founded x response w at here founding row key none) fresh =
+      let free : is_key (doomed t e) z.key ≡ false = ap (λ o. is_key o z.key) (doom_free x response w at row founding) in
+      let is : bar z.key ≡ old w.request.key = bar_same z.key free ∙ ap old key in
+      let less : old w.request.key < x = new_behind x response w at row founding in
+      omega arith
+
+  -- WHAT MAY STILL FOUND
+
+  unshown_stand : (x : ℕ) (w : Exchange) (row : t.exchange x ≡ Some w) (bare : is_headless (Some w) ≡ true) → keeps.Stays t e x w (exchange_heard t e x e.event w) → was_shown (u.consumer w.c) ≡ false → (turns.awaited x w row bare).k.shown ≡ false
+  unshown_stand x w row bare stays unshown =
+      let a = after_same limits t e taken s one turns x w row bare stays in
+      sym a.2.shown ∙ (sym (ap was_shown a.1) ∙ unshown)
+
+  not_closed : (x : ℕ) (w : Exchange) (row : t.exchange x ≡ Some w) (bare : is_headless (Some w) ≡ true) → keeps.Stays t e x w (exchange_heard t e x e.event w) → route_of w.need ≢ route.Direct → (turns.awaited x w row bare).k.shown ≡ false → is_key (doomed t e) w.request.key ≡ true → ⊥
+  not_closed x w row bare stays way unshown doom = by_stand (route_of w.need) it.stands way
+    where
+      it : laws.IsAwaited t x w
+      it = turns.awaited x w row bare
+
+      doom_k : is_key (doomed t e) it.k.request.key ≡ true
+      doom_k = ap (is_key (doomed t e)) (sym (opener_key t x w it.k one.exchanges row it.row)) ∙ doom
+
+      waits : is_number (awaited it.k.place) x ≡ true → ⊥
+      waits h = dooms limits t e taken s one turns x w row bare stays doom_k h
+
+      by_stand : (r : Route) → StandsFor x it.k r → r ≢ route.Direct → ⊥
+      by_stand _ (laws.direct at) other = other refl
+      by_stand _ (laws.has_turn at shown) other = waits (ap (λ p. is_number (awaited p) x) at ∙ eq-refl x)
+      by_stand _ (laws.first r lo hi at shown) other = waits (ap (λ p. is_number (awaited p) x) at ∙ eq-refl x)
+      by_stand _ (laws.later r lo hi how at shown) other = let no_one : false ≡ true = sym unshown ∙ shown in cc
+
+  awaits_behind : (x : ℕ) (z : Exchange) → WasHeadless limits t e taken s one turns x z → route_of z.need ≢ route.Direct → was_shown (u.consumer z.c) ≡ false → bar z.request.key < x
+  awaits_behind x z (keeps.was w row bare is stays) way unshown =
+      let same = same_exchange t e x e.event w in
+      let c_is : z.c ≡ w.c = ap (λ (y : Exchange). y.c) is ∙ same.c_is in
+      let need_is : z.need ≡ w.need = ap (λ (y : Exchange). y.need) is ∙ same.need_is in
+      let request_is : z.request ≡ w.request = ap (λ (y : Exchange). y.request) is ∙ same.request_is in
+      let hidden = unshown_stand x w row bare stays (ap (λ d. was_shown (u.consumer d)) (sym c_is) ∙ unshown) in
+      let apart : route_of w.need ≢ route.Direct = λ h. way (ap route_of need_is ∙ h) in
+      let free : is_key (doomed t e) w.request.key ≡ false = not_true _ (not_closed x w row bare stays apart hidden) in
+      let it = turns.awaited x w row bare in
+      let less : old w.request.key < x = bars.awaited x w row bare apart (ap was_shown it.row ∙ hidden) in
+      let here : bar z.request.key ≡ old w.request.key = ap (λ (q : Request). bar q.key) request_is ∙ bar_same w.request.key free in
+      omega arith
+  awaits_behind x z (keeps.new o is here made) way unshown =
+      let next : o.x ≡ t.opened + 1 = (opened_at limits t e taken s turns o is).next in
+      let less : bar z.request.key ≤ t.opened = bar_within z.request.key in
+      let at : o.x ≡ x = here in
+      omega arith
+
+  bars_kept : Bars u bar
+  bars_kept = record {
+    within = stays_within;
+    founded = λ r z row fresh. behind r z (was_or_founded t e r (t.representation r) z refl row) fresh;
+    awaited = λ x z row bare way unshown. awaits_behind x z (was_headless limits t e taken s one turns x (t.exchange x) z refl row bare) way unshown;
+  }
+
+-- an accepted entry, and a denied one
+pub next_tables : (contents : Contents) (h : History) (e : Entry) → is_denied e.acts ≡ false → after_accepted (tables contents h) e ≡ tables contents (e ∷ h)
+unfolding tables after
+next_tables contents h e accepted = rw accepted refl
+
+pub denied_tables : (contents : Contents) (h : History) (e : Entry) → is_denied e.acts ≡ true → after_denied (tables contents h) e ≡ tables contents (e ∷ h)
+unfolding tables after
+denied_tables contents h e denied = rw denied refl
+
+barred_by : (limits : Limits) (contents : Contents) (h : History) (e : Entry) (b : Bool) → is_denied e.acts ≡ b → Sound (tables contents h) → IsOfOneKey (tables contents h) → Turns (tables contents h) → IsBarred contents h → IsOwed limits (tables contents h) e → IsBarred contents (e ∷ h)
+barred_by limits contents h e false accepted s one turns barred owed =
+    let bars : Bars (tables contents h) (λ key. barrier contents key h) = record { within = barred.within; founded = barred.founded; awaited = barred.awaited } in
+    let kept = bars_kept limits (tables contents h) e (record { owed = owed; not_denied = accepted }) s one turns (λ key. barrier contents key h) bars in
+    of_bars contents (e ∷ h) (subst (λ u. Bars u (λ key. barrier contents key (e ∷ h))) (next_tables contents h e accepted) kept)
+barred_by limits contents h e true denied s one turns barred owed =
+    let same : (key : List ℕ) → barrier contents key (e ∷ h) ≡ barrier contents key h = λ key. rw denied refl in
+    let bars : Bars (after_denied (tables contents h) e) (λ key. barrier contents key (e ∷ h)) = record {
+      within = λ key. let is : barrier contents key (e ∷ h) ≡ barrier contents key h = same key in let less : barrier contents key h ≤ (tables contents h).opened = barred.within key in omega arith;
+      founded = λ r v row fresh. let is : barrier contents v.key (e ∷ h) ≡ barrier contents v.key h = same v.key in let less : barrier contents v.key h < r = barred.founded r v row fresh in omega arith;
+      awaited = λ x w row bare way unshown. let is : barrier contents w.request.key (e ∷ h) ≡ barrier contents w.request.key h = same w.request.key in let less : barrier contents w.request.key h < x = barred.awaited x w row bare way unshown in omega arith;
+    } in
+    of_bars contents (e ∷ h) (subst (λ u. Bars u (λ key. barrier contents key (e ∷ h))) (denied_tables contents h e denied) bars)
+
+pub barrier_is_kept : BarrierIsKept
+barrier_is_kept limits contents h e s one turns barred owed = barred_by limits contents h e (is_denied e.acts) refl s one turns barred owed
+
+item_row : (contents : Contents) (r : ℕ) (o : Option Content) (v : Representation) → AreNumbered contents → item_of contents r ≡ o → option_map loaded o ≡ Some v → 0 < r
+item_row contents r None v numbered is row = absurd (none_some v row)
+item_row contents r (Some item) v numbered is row = numbered r item is
+
+pub barrier_begins : BarrierBegins
+unfolding tables
+barrier_begins contents numbered = record {
+  within = λ key. omega arith;
+  founded = λ r v row fresh. item_row contents r (item_of contents r) v numbered refl row;
+  awaited = λ x w row bare way unshown. absurd (none_some w row);
+}

@@ -1,8 +1,8 @@
 -- Typical heads: they have records, and what their fields ask of a cache.
-use Rattle.std.proofs.Common.{◌≡◌, ℕ, Bool, true, false, List, [], ◌∷◌, length, None, Some, bytes_eq, refl, sym, ◌∙◌, ap, subst, lit≤, arith}
+use Rattle.std.proofs.Common.{◌≡◌, ℕ, Bool, true, false, List, [], ◌∷◌, length, None, Some, bytes_eq, inl, inr, refl, sym, ◌∙◌, ap, subst, lit≤, arith}
 use Rattle.std.specs.Prelude.{◌&&◌, nat_lt, nat_le, codes, All}
 use Rattle.std.specs.List.{list_all}
-use Rattle.std.proofs.lemmas.Bool.{and_parts, ltb-true, leb-true}
+use Rattle.std.proofs.lemmas.Bool.{cases_Bool, and_parts, ltb-true, leb-true}
 use Rattle.std.proofs.lemmas.List.Elements.{All-nil, All-cons}
 use Rattle.std.proofs.lemmas.Slice.Eq.{bytes_eq-Decides}
 use Rattle.http_header.specs.Token.{is_token_byte, lowercase}
@@ -17,9 +17,14 @@ use Rattle.hc_record.specs.declared.kind.Kind.TheVariants.{Whole}
 use Rattle.hc_record.specs.Lines.{IsSmall}
 use Rattle.hc_record.specs.Record.{IsRecordOf}
 use Rattle.hc_record.proofs.SameRecords.{same_head}
+use Rattle.hc_event.specs.declared.event.Request.{Request}
+use Rattle.hc_event.specs.declared.event.Load.{Load}
+use Rattle.hc_event.specs.declared.event.Load.TheVariants as load
+use Rattle.hc_fresh.specs.Allowed.{allowed_by}
+use Rattle.hc_fresh.specs.Facts.{allowed}
 use Rattle.hc_fresh.specs.Lifetimes.{lifetime, lifetime_by}
 use Rattle.hc_validate.specs.Updates.{updated}
-use Rattle.hc_bench.specs.Calls.{typical_fields, IsTypical, IsTypicalRecord}
+use Rattle.hc_bench.specs.Calls.{typical_fields, IsTypical, IsTypicalRecord, is_fresh_or_none}
 
 abbrev pub Pair : Type 0
 Pair = List ℕ × List ℕ
@@ -92,7 +97,7 @@ pub IsTypical-read : (head : Head) (text : List ℕ) → IsHead head → IsTypic
 IsTypical-read head text own record_of is =
     subst IsTypical (same_head record_of.0 head Second is.0 record_of.1.own own (record_of.2 ∙ sym is.1)).0 record_of.1
 
-pub length-typical_fields : length typical_fields ≡ 10
+pub length-typical_fields : length typical_fields ≡ 7
 unfolding typical_fields
 length-typical_fields = refl
 
@@ -122,6 +127,40 @@ lifetime-typical head fields_are =
     ap (λ (d : Directives). lifetime_by d.max_age head) (ap of_response fields_are ∙ of_response-typical_fields)
 
 -- an update by fields of the same names keeps their count
-pub length-updated : length (updated typical_fields typical_fields) ≡ 10
+pub length-updated : length (updated typical_fields typical_fields) ≡ 7
 unfolding typical_fields
 length-updated = refl
+
+abbrev pub bare_directives : Directives
+bare_directives = record {
+  max_age = None;
+  no_store = false;
+  no_cache = false;
+  must_revalidate = false;
+  only_if_cached = false;
+  min_fresh = None;
+  max_stale = None;
+}
+
+of_request-none : of_request [] ≡ bare_directives
+unfolding elements
+of_request-none = refl
+
+-- while it is fresh it may be used, and then no more
+fresh-or-none : (age : ℕ) → is_fresh_or_none (allowed_by false true bare_directives load.Normal age 3600) ≡ true
+fresh-or-none age = elim (cases_Bool (nat_lt age 3600)) [
+  | inl fresh ↦ rw fresh refl
+  | inr stale ↦ rw stale refl
+]
+
+by_facts : (no_cache must_revalidate : Bool) (asked : Directives) (mode : Load) (age seconds : ℕ) → no_cache ≡ false → must_revalidate ≡ true → asked ≡ bare_directives → mode ≡ load.Normal → seconds ≡ 3600 → is_fresh_or_none (allowed_by no_cache must_revalidate asked mode age seconds) ≡ true
+by_facts no_cache must_revalidate asked mode age seconds a b d e f = rw (a, b, d, e, f) (fresh-or-none age)
+
+-- such a head is allowed while it is fresh
+pub allowed-typical : (head : Head) (request : Request) (now : ℕ) → head.fields ≡ typical_fields → request.fields ≡ [] → request.load ≡ load.Normal → is_fresh_or_none (allowed head request now) ≡ true
+unfolding lifetime
+allowed-typical head request now fields_are bare normal =
+    let said = ap of_response fields_are ∙ of_response-typical_fields in
+    by_facts _ _ _ _ _ _
+    (ap (λ (d : Directives). d.no_cache) said) (ap (λ (d : Directives). d.must_revalidate) said)
+    (ap of_request bare ∙ of_request-none) normal (lifetime-typical head fields_are)

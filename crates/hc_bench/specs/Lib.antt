@@ -3,3 +3,4 @@ pub mod Built
 pub mod Words
 pub mod Downloads
 pub mod Calls
+pub mod Stores

@@ -21,6 +21,10 @@ use Rattle.hc_bench.specs.declared.command.Order.{Order}
 use Rattle.hc_bench.specs.declared.command.Order.TheVariants.{Forward, Backward, Alternate}
 use Rattle.hc_bench.specs.declared.command.Call.{Call}
 use Rattle.hc_bench.specs.declared.command.Call.TheVariants as call
+use Rattle.hc_bench.specs.declared.command.TextCall.{TextCall}
+use Rattle.hc_bench.specs.declared.command.TextCall.TheVariants as text
+use Rattle.hc_bench.specs.declared.command.HeadCall.{HeadCall}
+use Rattle.hc_bench.specs.declared.command.HeadCall.TheVariants as head
 use Rattle.hc_bench.specs.declared.run.Status.{Status}
 use Rattle.hc_bench.specs.declared.run.Status.TheVariants as status
 
@@ -41,28 +45,37 @@ way_word Append = codes "append"
 way_word (Put Blocks order) = order_word order
 way_word (Put Runs order) = codes "runs-" ++ order_word order
 
+-- the name of a call of a text
+abbrev pub text_call_word : TextCall → List ℕ
+text_call_word text.ReadTag = codes "read-tag"
+text_call_word text.ReadTagList = codes "read-tag-list"
+text_call_word text.WeakEqual = codes "weak-equal"
+text_call_word text.WriteTag = codes "write-tag"
+text_call_word text.ReadRange = codes "read-range"
+text_call_word text.ReadContentRange = codes "read-content-range"
+text_call_word text.Resolve = codes "resolve"
+text_call_word text.WriteRange = codes "write-range"
+text_call_word text.WriteContentRange = codes "write-content-range"
+
+-- the name of a call with a head
+abbrev pub head_call_word : HeadCall → List ℕ
+head_call_word head.ReadResponse = codes "read-response"
+head_call_word head.ReadRequest = codes "read-request"
+head_call_word head.CopyFields = codes "copy-fields"
+head_call_word head.WriteLines = codes "write-lines"
+head_call_word head.WriteRecord = codes "write-record"
+head_call_word head.ReadRecord = codes "read-record"
+head_call_word head.Conditional = codes "conditional"
+head_call_word head.Shown = codes "shown"
+head_call_word head.Update = codes "update"
+head_call_word head.HeadFacts = codes "head-facts"
+head_call_word head.Allowed = codes "allowed"
+head_call_word head.AllowedTo = codes "allowed-to"
+
 -- the name of a call
 abbrev pub call_word : Call → List ℕ
-call_word call.ReadTag = codes "read-tag"
-call_word call.ReadTagList = codes "read-tag-list"
-call_word call.WeakEqual = codes "weak-equal"
-call_word call.WriteTag = codes "write-tag"
-call_word call.ReadRange = codes "read-range"
-call_word call.ReadContentRange = codes "read-content-range"
-call_word call.Resolve = codes "resolve"
-call_word call.WriteRange = codes "write-range"
-call_word call.WriteContentRange = codes "write-content-range"
-call_word call.ReadResponse = codes "read-response"
-call_word call.ReadRequest = codes "read-request"
-call_word call.CopyFields = codes "copy-fields"
-call_word call.WriteLines = codes "write-lines"
-call_word call.WriteRecord = codes "write-record"
-call_word call.ReadRecord = codes "read-record"
-call_word call.Conditional = codes "conditional"
-call_word call.Shown = codes "shown"
-call_word call.Update = codes "update"
-call_word call.HeadFacts = codes "head-facts"
-call_word call.AllowedTo = codes "allowed-to"
+call_word (call.Text asked) = text_call_word asked
+call_word (call.Head asked) = head_call_word asked
 
 -- the word for what a body is read from
 abbrev pub body_word : Body → List ℕ

@@ -10,8 +10,8 @@ pub(crate) mod two_heads;
 mod two_tags;
 mod validation;
 
-use crate::command::{Call, Calls};
-use freshness::{AllowedTo, Facts};
+use crate::command::{Call, Calls, HeadCall, TextCall};
+use freshness::{Allowed, AllowedTo, Facts};
 use hc_text::NoMemory;
 use heads::{CopyFields, ReadRecord, ReadRequest, ReadResponse, WriteLines, WriteRecord};
 use ranges::{ReadContentRange, ReadRange, Resolve, WriteContentRange, WriteRange};
@@ -33,28 +33,48 @@ pub(crate) trait Timed {
 pub(crate) fn right_calls(alloc: Global, calls: Calls) -> Result<u64, NoMemory>
     ensures { IfOk result (λ right. right ≡ calls.times) }
 {
-    let times = calls.times;
     match calls.call {
-        Call::ReadTag => right_rounds(alloc, &mut ReadTag, times),
-        Call::ReadTagList => right_rounds(alloc, &mut ReadTagList, times),
-        Call::WeakEqual => right_rounds(alloc, &mut WeakEqual::new(alloc)?, times),
-        Call::WriteTag => right_rounds(alloc, &mut WriteTag::new(alloc)?, times),
-        Call::ReadRange => right_rounds(alloc, &mut ReadRange, times),
-        Call::ReadContentRange => right_rounds(alloc, &mut ReadContentRange, times),
-        Call::Resolve => right_rounds(alloc, &mut Resolve, times),
-        Call::WriteRange => right_rounds(alloc, &mut WriteRange::new(alloc), times),
-        Call::WriteContentRange => right_rounds(alloc, &mut WriteContentRange::new(alloc), times),
-        Call::ReadResponse => right_rounds(alloc, &mut ReadResponse::new(alloc)?, times),
-        Call::ReadRequest => right_rounds(alloc, &mut ReadRequest::new(alloc)?, times),
-        Call::CopyFields => right_rounds(alloc, &mut CopyFields::new(alloc)?, times),
-        Call::WriteLines => right_rounds(alloc, &mut WriteLines::new(alloc)?, times),
-        Call::WriteRecord => right_rounds(alloc, &mut WriteRecord::new(alloc)?, times),
-        Call::ReadRecord => right_rounds(alloc, &mut ReadRecord, times),
-        Call::Conditional => right_rounds(alloc, &mut Conditional::new(alloc)?, times),
-        Call::Shown => right_rounds(alloc, &mut Shown::new(alloc)?, times),
-        Call::Update => right_rounds(alloc, &mut Update::new(alloc)?, times),
-        Call::HeadFacts => right_rounds(alloc, &mut Facts::new(alloc)?, times),
-        Call::AllowedTo => right_rounds(alloc, &mut AllowedTo, times),
+        Call::Text(call) => right_text_calls(alloc, call, calls.times),
+        Call::Head(call) => right_head_calls(alloc, call, calls.times),
+    }
+}
+
+/// The same of a call of a text.
+fn right_text_calls(alloc: Global, call: TextCall, times: u64) -> Result<u64, NoMemory>
+    ensures { IfOk result (λ right. right ≡ times) }
+{
+    match call {
+        TextCall::ReadTag => right_rounds(alloc, &mut ReadTag, times),
+        TextCall::ReadTagList => right_rounds(alloc, &mut ReadTagList, times),
+        TextCall::WeakEqual => right_rounds(alloc, &mut WeakEqual::new(alloc)?, times),
+        TextCall::WriteTag => right_rounds(alloc, &mut WriteTag::new(alloc)?, times),
+        TextCall::ReadRange => right_rounds(alloc, &mut ReadRange, times),
+        TextCall::ReadContentRange => right_rounds(alloc, &mut ReadContentRange, times),
+        TextCall::Resolve => right_rounds(alloc, &mut Resolve, times),
+        TextCall::WriteRange => right_rounds(alloc, &mut WriteRange::new(alloc), times),
+        TextCall::WriteContentRange => {
+            right_rounds(alloc, &mut WriteContentRange::new(alloc), times)
+        }
+    }
+}
+
+/// The same of a call with a head.
+fn right_head_calls(alloc: Global, call: HeadCall, times: u64) -> Result<u64, NoMemory>
+    ensures { IfOk result (λ right. right ≡ times) }
+{
+    match call {
+        HeadCall::ReadResponse => right_rounds(alloc, &mut ReadResponse::new(alloc)?, times),
+        HeadCall::ReadRequest => right_rounds(alloc, &mut ReadRequest::new(alloc)?, times),
+        HeadCall::CopyFields => right_rounds(alloc, &mut CopyFields::new(alloc)?, times),
+        HeadCall::WriteLines => right_rounds(alloc, &mut WriteLines::new(alloc)?, times),
+        HeadCall::WriteRecord => right_rounds(alloc, &mut WriteRecord::new(alloc)?, times),
+        HeadCall::ReadRecord => right_rounds(alloc, &mut ReadRecord, times),
+        HeadCall::Conditional => right_rounds(alloc, &mut Conditional::new(alloc)?, times),
+        HeadCall::Shown => right_rounds(alloc, &mut Shown::new(alloc)?, times),
+        HeadCall::Update => right_rounds(alloc, &mut Update::new(alloc)?, times),
+        HeadCall::HeadFacts => right_rounds(alloc, &mut Facts::new(alloc)?, times),
+        HeadCall::Allowed => right_rounds(alloc, &mut Allowed::new(alloc)?, times),
+        HeadCall::AllowedTo => right_rounds(alloc, &mut AllowedTo, times),
     }
 }
 

@@ -128,6 +128,15 @@ pub struct Calls {
 /// A call of the rules of HTTP.
 #[derive(Clone, Copy, Debug, PartialEq, Eq)]
 pub enum Call {
+    /// Of a text.
+    Text(TextCall),
+    /// Of a head.
+    Head(HeadCall),
+}
+
+/// A call that reads or writes the text of a tag or a range.
+#[derive(Clone, Copy, Debug, PartialEq, Eq)]
+pub enum TextCall {
     /// `read_tag` of `hc_etag`.
     ReadTag,
     /// `read_tag_list` of `hc_etag`.
@@ -146,6 +155,11 @@ pub enum Call {
     WriteRange,
     /// `write_content_range` of `hc_range`.
     WriteContentRange,
+}
+
+/// A call that is made with a head.
+#[derive(Clone, Copy, Debug, PartialEq, Eq)]
+pub enum HeadCall {
     /// `read_response` of `hc_cachectl`.
     ReadResponse,
     /// `read_request` of `hc_cachectl`.
@@ -166,6 +180,8 @@ pub enum Call {
     Update,
     /// What `hc_fresh` keeps of a head.
     HeadFacts,
+    /// `allowed` of `hc_fresh`.
+    Allowed,
     /// `allowed_to` of `hc_fresh`.
     AllowedTo,
 }

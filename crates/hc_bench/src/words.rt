@@ -9,15 +9,17 @@ ghost use Rattle.hc_bench.specs.declared.command.Calls.{Calls};
 ghost use Rattle.hc_bench.specs.declared.command.Subject.{Subject};
 ghost use Rattle.hc_bench.specs.declared.command.Way.{Way};
 ghost use Rattle.hc_bench.specs.declared.command.Call.{Call};
+ghost use Rattle.hc_bench.specs.declared.command.TextCall.{TextCall};
+ghost use Rattle.hc_bench.specs.declared.command.HeadCall.{HeadCall};
 ghost use Rattle.hc_bench.specs.declared.command.Reads.{Reads};
 ghost use Rattle.hc_bench.specs.declared.command.Body.{Body};
 ghost use Rattle.hc_bench.specs.declared.command.Stores.{Stores};
 ghost use Rattle.hc_bench.specs.declared.command.StoreCall.{StoreCall};
-ghost use Rattle.hc_bench.specs.Words.{words_of, lists_words, downloads_words, calls_words, reads_words, stores_words, subject_word, way_word, call_word, body_word, store_word};
+ghost use Rattle.hc_bench.specs.Words.{words_of, lists_words, downloads_words, calls_words, reads_words, stores_words, subject_word, way_word, call_word, text_call_word, head_call_word, body_word, store_word};
 
 use crate::command::{
-    Body, Call, Calls, Command, Downloads, Kept, Lists, Order, Reads, StoreCall, Stores, Subject,
-    Way,
+    Body, Call, Calls, Command, Downloads, HeadCall, Kept, Lists, Order, Reads, StoreCall, Stores,
+    Subject, TextCall, Way,
 };
 use hc_text::read_plain;
 
@@ -191,27 +193,50 @@ fn call_of(word: &str) -> Option<Call>
     ensures found { IfSome result (λ call. word.now ≡ call_word call) }
     ensures none { IfNone result ((call : Call) → word.now ≢ call_word call) }
 {
+    if let Some(call) = text_call_of(word) {
+        return Some(Call::Text(call));
+    }
+    let call = head_call_of(word)?;
+    Some(Call::Head(call))
+}
+
+/// The call of a text that the word names.
+fn text_call_of(word: &str) -> Option<TextCall>
+    ensures found { IfSome result (λ call. word.now ≡ text_call_word call) }
+    ensures none { IfNone result ((call : TextCall) → word.now ≢ text_call_word call) }
+{
     match word {
-        "read-tag" => Some(Call::ReadTag),
-        "read-tag-list" => Some(Call::ReadTagList),
-        "weak-equal" => Some(Call::WeakEqual),
-        "write-tag" => Some(Call::WriteTag),
-        "read-range" => Some(Call::ReadRange),
-        "read-content-range" => Some(Call::ReadContentRange),
-        "resolve" => Some(Call::Resolve),
-        "write-range" => Some(Call::WriteRange),
-        "write-content-range" => Some(Call::WriteContentRange),
-        "read-response" => Some(Call::ReadResponse),
-        "read-request" => Some(Call::ReadRequest),
-        "copy-fields" => Some(Call::CopyFields),
-        "write-lines" => Some(Call::WriteLines),
-        "write-record" => Some(Call::WriteRecord),
-        "read-record" => Some(Call::ReadRecord),
-        "conditional" => Some(Call::Conditional),
-        "shown" => Some(Call::Shown),
-        "update" => Some(Call::Update),
-        "head-facts" => Some(Call::HeadFacts),
-        "allowed-to" => Some(Call::AllowedTo),
+        "read-tag" => Some(TextCall::ReadTag),
+        "read-tag-list" => Some(TextCall::ReadTagList),
+        "weak-equal" => Some(TextCall::WeakEqual),
+        "write-tag" => Some(TextCall::WriteTag),
+        "read-range" => Some(TextCall::ReadRange),
+        "read-content-range" => Some(TextCall::ReadContentRange),
+        "resolve" => Some(TextCall::Resolve),
+        "write-range" => Some(TextCall::WriteRange),
+        "write-content-range" => Some(TextCall::WriteContentRange),
+        _ => None,
+    }
+}
+
+/// The call with a head that the word names.
+fn head_call_of(word: &str) -> Option<HeadCall>
+    ensures found { IfSome result (λ call. word.now ≡ head_call_word call) }
+    ensures none { IfNone result ((call : HeadCall) → word.now ≢ head_call_word call) }
+{
+    match word {
+        "read-response" => Some(HeadCall::ReadResponse),
+        "read-request" => Some(HeadCall::ReadRequest),
+        "copy-fields" => Some(HeadCall::CopyFields),
+        "write-lines" => Some(HeadCall::WriteLines),
+        "write-record" => Some(HeadCall::WriteRecord),
+        "read-record" => Some(HeadCall::ReadRecord),
+        "conditional" => Some(HeadCall::Conditional),
+        "shown" => Some(HeadCall::Shown),
+        "update" => Some(HeadCall::Update),
+        "head-facts" => Some(HeadCall::HeadFacts),
+        "allowed" => Some(HeadCall::Allowed),
+        "allowed-to" => Some(HeadCall::AllowedTo),
         _ => None,
     }
 }

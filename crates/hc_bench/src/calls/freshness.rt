@@ -1,11 +1,14 @@
 //! Calls of freshness.
-ghost use Rattle.std.specs.Prelude.{◌≤◌, ◌<◌};
+ghost use Rattle.std.specs.Prelude.{◌≡◌, [], ◌≤◌, ◌<◌};
+ghost use Rattle.hc_event.specs.declared.event.Load.TheVariants as load;
+ghost use Rattle.hc_bench.specs.Calls.{is_fresh_or_none};
 
 use crate::calls::Timed;
 use crate::calls::two_heads::TwoHeads;
+use crate::calls::validation::bare_request;
 use hc_cachectl::Directives;
-use hc_event::{Load, Why};
-use hc_fresh::{HeadFacts, RequestFacts, allowed_to};
+use hc_event::{Load, Request, Why};
+use hc_fresh::{HeadFacts, RequestFacts, allowed, allowed_to};
 use hc_text::NoMemory;
 use std::alloc::Global;
 
@@ -28,6 +31,41 @@ impl Facts {
 impl Timed for Facts {
     fn is_right(&mut self, _alloc: Global, round: u64) -> Result<bool, NoMemory> {
         Ok(HeadFacts::of(self.heads.at(round)).lifetime == LIFETIME)
+    }
+}
+
+/// `allowed` of a stored head and a request without fields, at the moment at which the head came.
+#[derive(Drop)]
+pub(crate) struct Allowed {
+    heads: TwoHeads,
+    request: Request,
+    ghost bare: { request.fields ≡ [] },
+    ghost normal: { request.load ≡ load.Normal },
+}
+
+impl Allowed {
+    pub(crate) fn new(alloc: Global) -> Result<Allowed, NoMemory> {
+        let heads = TwoHeads::new(alloc)?;
+        let request = bare_request(alloc)?;
+        Ok(Allowed { heads, request })
+    }
+}
+
+impl Timed for Allowed {
+    fn is_right(&mut self, _alloc: Global, round: u64) -> Result<bool, NoMemory> {
+        let head = self.heads.at(round);
+        Ok(is_fresh_or_none(allowed(head, &self.request, head.answered)))
+    }
+}
+
+/// Whether it is allowed while it is fresh, if at all: the heads must be validated once they are stale.
+fn is_fresh_or_none(why: Option<Why>) -> bool
+    ensures { result ≡ is_fresh_or_none why }
+{
+    match why {
+        Some(Why::Fresh { lifetime, .. }) => lifetime == LIFETIME,
+        Some(_) => false,
+        None => true,
     }
 }
 

@@ -20,13 +20,13 @@ const DIRECTIVES: Directives = Directives {
 };
 
 /// How many fields the heads have.
-const FIELD_COUNT: usize = 10;
+const FIELD_COUNT: usize = 7;
 
 /// How many bytes the lines of the fields have.
-const LINES_LEN: usize = 322;
+const LINES_LEN: usize = 266;
 
 /// How many bytes the records of the heads have.
-const RECORD_LEN: usize = 454;
+const RECORD_LEN: usize = 397;
 
 /// `read_response` of the fields of a head.
 #[derive(Drop)]

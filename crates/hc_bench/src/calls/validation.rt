@@ -11,10 +11,10 @@ use hc_validate::{conditional, shown, update};
 use std::alloc::Global;
 
 /// How many fields the heads have.
-const FIELD_COUNT: usize = 10;
+const FIELD_COUNT: usize = 7;
 
 /// A GET without fields.
-fn bare_request(alloc: Global) -> Result<Request, NoMemory>
+pub(crate) fn bare_request(alloc: Global) -> Result<Request, NoMemory>
     ensures fields { IfOk result (λ request. request.fields ≡ []) }
     ensures normal { IfOk result (λ request. request.load ≡ load.Normal) }
 {

@@ -1,6 +1,7 @@
 use Rattle.std.proofs.Common.{◌≡◌, true}
 use Rattle.hc_store.specs.Slots.{is_live}
+use Rattle.hc_bench.specs.Stores.{slots_in}
 use Rattle.hc_bench.proofs.stores.seal_rounds.Given as goal
 
 abbrev pub invariant-loop-round : goal.invariant-loop-round
-invariant-loop-round g l = (l.rounds ≡ l.round) × (is_live (g.B.Backend.slots l.store) l.slot.n ≡ true)
+invariant-loop-round l = (l.rounds ≡ l.round) × (is_live (slots_in l.store) l.slot.n ≡ true)

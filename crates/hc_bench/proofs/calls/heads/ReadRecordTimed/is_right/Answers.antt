@@ -13,7 +13,7 @@ right : (read : Option StoredHead) (text : List ℕ) (r : Bool) (Post : StoredHe
     → IfSome read (λ head. IsRecordOf text (plain head))
     → IfNone read ((head : Head) → IsHead head → ¬ (IsRecordOf text head))
     → MatchOption read (r ≡ false) Post
-    → ((head : StoredHead) → length head.fields ≡ 10 → Post head → r ≡ true)
+    → ((head : StoredHead) → length head.fields ≡ 7 → Post head → r ≡ true)
     → r ≡ true
 right None text r Post typical found none cases then = absurd (none typical.0 typical.1.own (Second, typical.2))
 right (Some head) text r Post typical found none cases then =

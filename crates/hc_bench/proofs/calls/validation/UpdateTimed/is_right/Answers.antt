@@ -11,5 +11,5 @@ returns c =
     let from = c.at-from.ensures.fields_are in
     let same = ap (λ (f : FieldPairs). updated f c.at-from.result.now.fields) stored ∙ ap (updated typical_fields) from in
     let count = ap length (c.in_ok-fields.ensures ∙ same) ∙ length-updated in
-    let n : c.len.result ≡ 10 = c.len.ensures.value ∙ count in
+    let n : c.len.result ≡ 7 = c.len.ensures.value ∙ count in
     rw n refl

@@ -27,7 +27,12 @@ impl Model for ActiveEntry {
 
     ghost Value = { Users };
 
-    ghost view = { λ e. record { r = e.r; bound = map (bound_as e.kind) e.consumers.items; spare = vec_capacity e.consumers - vec_len e.consumers; gone = e.gone } };
+    ghost view = { λ e. record {
+      r = e.r;
+      bound = map (bound_as e.kind) e.consumers.items;
+      spare = vec_capacity e.consumers - vec_len e.consumers;
+      gone = e.gone;
+    } };
 
     ghost invariant = { λ e. IsOneKind e.kind e.consumers.items (vec_len e.consumers) };
 }
@@ -89,7 +94,12 @@ impl ActiveEntry {
     pub fn admission(&self, _c: u64, ranged: bool, holes: bool) -> Admission
         ensures { result ≡ admission_of self.now.bound ranged holes }
     {
-        admission_by(self.kind, first_of(self.consumers.as_slice()), ranged, holes)
+        admission_by(
+            self.kind,
+            first_of(self.consumers.as_slice()),
+            ranged,
+            holes,
+        )
     }
 
     /// The least consumer that is bound.

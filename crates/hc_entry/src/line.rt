@@ -32,9 +32,16 @@ impl Model for KeyLine {
 
     ghost Value = { Line };
 
-    ghost view = { λ l. record { in_line = l.in_line.items; passed = l.passed.items; away = l.away.items; holder = l.holder } };
+    ghost view = { λ l. record {
+      in_line = l.in_line.items;
+      passed = l.passed.items;
+      away = l.away.items;
+      holder = l.holder;
+    } };
 
-    ghost invariant = { λ l. IsInPlace l.in_line.items l.passed.items l.away.items l.holder × HasRoom (vec_len l.in_line + vec_len l.passed + vec_len l.away) (vec_capacity l.in_line) (vec_capacity l.passed) (vec_capacity l.away) };
+    ghost invariant = { λ l. IsInPlace l.in_line.items l.passed.items l.away.items l.holder
+        × HasRoom (vec_len l.in_line + vec_len l.passed + vec_len l.away)
+        (vec_capacity l.in_line) (vec_capacity l.passed) (vec_capacity l.away) };
 }
 
 impl KeyLine {
@@ -162,7 +169,7 @@ fn vacate(line: &mut Vec<u64>, passed: &mut Vec<u64>, away: &mut Vec<u64>, c: u6
     ensures away_rise { rises itself away.new.items ≡ true }
     ensures len { vec_len line.new + vec_len passed.new + vec_len away.new
         + (one (is_among c line.old.items) + one (is_among c passed.old.items)
-            + one (is_among c away.old.items))
+        + one (is_among c away.old.items))
         ≡ vec_len line.old + vec_len passed.old + vec_len away.old }
     ensures line_room { vec_capacity line.new ≡ vec_capacity line.old }
     ensures passed_room { vec_capacity passed.new ≡ vec_capacity passed.old }

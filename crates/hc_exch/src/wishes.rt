@@ -24,7 +24,8 @@ impl Model for Wishes {
 
     ghost view = { λ w. record { wanted = w.wanted.items; idle = w.idle.items } };
 
-    ghost invariant = { λ w. HasRoom w.wanted.items w.idle.items (vec_len w.wanted) (vec_len w.idle) (vec_capacity w.wanted) (vec_capacity w.idle) };
+    ghost invariant = { λ w. HasRoom w.wanted.items w.idle.items
+        (vec_len w.wanted) (vec_len w.idle) (vec_capacity w.wanted) (vec_capacity w.idle) };
 }
 
 impl Wishes {

@@ -20,12 +20,12 @@ pub struct Writers {
 }
 
 impl Model for Writers {
-    ghost use Rattle.hc_writers.specs.Writings.{Writing};
+    ghost use Rattle.hc_writers.specs.Writings.{Writing, writing};
     ghost use Rattle.hc_writers.specs.Members.{IsInOrder};
 
     ghost Value = { Writing };
 
-    ghost view = { λ w. record { exchange = w.x; end = w.end; alone = w.alone; over = w.over; members = w.members.items } };
+    ghost view = { λ w. writing w.x w.end w.alone w.over w.members.items };
 
     ghost invariant = { λ w. IsInOrder w.end w.alone w.members.items };
 }

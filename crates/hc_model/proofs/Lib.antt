@@ -77,3 +77,4 @@ pub mod TurnHeads
 pub mod TurnsKeep
 pub mod Barred
 pub mod InRuns
+pub mod Counted

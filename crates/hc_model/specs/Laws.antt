@@ -1,5 +1,5 @@
 -- What holds over all interleavings of events.
-use Rattle.std.specs.Prelude.{◌≡◌, ◌≢◌, ◌⊎◌, ◌<◌, ◌≤◌, ℕ, ◌+◌, ◌-◌, List, [], ◌∷◌, length, true, false, Option, Some, None, is_some, if◌then◌else◌, not, ◌&&◌, ◌==◌, find}
+use Rattle.std.specs.Prelude.{◌≡◌, ◌≢◌, ◌⊎◌, ◌<◌, ◌≤◌, ℕ, ◌+◌, ◌-◌, List, [], ◌∷◌, length, true, false, Option, Some, None, is_some, if◌then◌else◌, not, ◌&&◌, ◌==◌, find, ◌^◌}
 use Rattle.hc_sparse.specs.Cells.{Cell, AreAbsent, Covers, size}
 use Rattle.hc_record.specs.declared.kind.Kind.TheVariants as kind
 use Rattle.hc_event.specs.Filters.{is_denied}
@@ -144,11 +144,11 @@ abbrev pub IsSmallPiece : Event → Type 0
 IsSmallPiece (event.Piece x bytes) = length bytes ≤ 65536
 IsSmallPiece _ = Unit {0}
 
--- An entry evicts at most two.
+-- An entry evicts at most two, of a store that began within its limit.
 abbrev pub EvictsFew : Limits → Contents → Type 0
 EvictsFew limits contents =
-    (h : History) (e : Entry) → IsRun limits contents (e ∷ h) → IsSmallPiece e.event →
-    count_evicted e.acts ≤ 2
+    may_begin limits contents ≡ true → (h : History) (e : Entry) → IsRun limits contents (e ∷ h) →
+    IsSmallPiece e.event → count_evicted e.acts ≤ 2
 
 -- All that is stored stays within the limit.
 abbrev pub FitsLimit : Limits → Contents → Type 0
@@ -385,3 +385,25 @@ KeysInRuns =
     RunsAreSound → (limits : Limits) (contents : Contents) (h : History) (e : Entry) →
     IsRun limits contents (e ∷ h) → is_denied e.acts ≡ false →
     KeepsOthers (tables contents h) (tables contents (e ∷ h)) e
+
+-- RECORDS ARE TRUTHFUL
+
+-- a piece ends where positions do at the latest
+abbrev pub EndsInTime : Tables → Event → Type 0
+EndsInTime t (event.Piece x bytes) =
+    (w : Exchange) → t.exchange x ≡ Some w → front w + length bytes ≤ 2 ^ 62
+EndsInTime t _ = Unit {0}
+
+-- the count stays that of the positions, after each accepted event
+abbrev pub CountsAreKept : Type 0
+CountsAreKept =
+    (limits : Limits) (t : Tables) (now : ℕ) (flaw : Flaw) → Sound t → IsCounted t →
+    (event : Event) → denial t event ≡ None → EndsInTime t event →
+    IsCounted (after_accepted t (entry_of limits t now event flaw))
+
+-- What is called truncated has some first positions and no other.
+abbrev pub TruncatedIsFront : Type 0
+TruncatedIsFront =
+    (t : Tables) → Sound t → IsCounted t → (key : List ℕ) (r : ℕ) (v : Representation) →
+    current t key ≡ Some r → t.representation r ≡ Some v → v.reach ≤ 2 ^ 62 →
+    kind_for t key ≡ Some kind.Truncated → IsFront v

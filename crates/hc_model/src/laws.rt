@@ -2,7 +2,7 @@
 ghost use Rattle.hc_model.specs.Histories.{RunsAreFiltered};
 ghost use Rattle.hc_model.specs.Reads.{OneHeadIsShown};
 ghost use Rattle.hc_model.specs.Keys.{LawOfOneKey, KeysAreKept, KeysBegin};
-ghost use Rattle.hc_model.specs.Laws.{SoundDeliversOnce, DeliveriesAreKept, BodiesAreKept, NumbersAreKept, NamesAreKept, OneCurrentIsKept, StoresAreKept, StartsAreSound, WholeIsWhole, AfterEach, AreBound, KnowEnds, OwnedAfterEach, AreToBeShown, OwedAfterEach, OwnersAreKnown, TurnsAreOne, TurnsAreKept, TurnsBegin, TurnsInRuns, KeysInRuns, BarrierIsKept, BarrierBegins, DoomsInRuns};
+ghost use Rattle.hc_model.specs.Laws.{SoundDeliversOnce, DeliveriesAreKept, BodiesAreKept, NumbersAreKept, NamesAreKept, OneCurrentIsKept, StoresAreKept, StartsAreSound, WholeIsWhole, AfterEach, AreBound, KnowEnds, OwnedAfterEach, AreToBeShown, OwedAfterEach, OwnersAreKnown, TurnsAreOne, TurnsAreKept, TurnsBegin, TurnsInRuns, KeysInRuns, BarrierIsKept, BarrierBegins, DoomsInRuns, TruncatedIsFront, CountsAreKept};
 ghost use Rattle.hc_model.specs.Owners.{Owners};
 ghost use Rattle.hc_model.specs.Sound.{OneFirst};
 
@@ -99,4 +99,11 @@ pub fn dooms_are_a_barrier()
     ensures kept { BarrierIsKept }
     ensures begin { BarrierBegins }
     ensures runs { DoomsInRuns }
+{}
+
+/// What is called Truncated has some first positions and no other, where the count of what is stored is that of
+/// its positions; and that count stays so at each accepted event whose piece ends by 2^62.
+pub fn truncated_is_a_front()
+    ensures front { TruncatedIsFront }
+    ensures kept { CountsAreKept }
 {}

@@ -1,0 +1,9 @@
+-- What is called truncated is a front, as long as counts are kept.
+use Rattle.hc_model.proofs.Counted.{truncated_is, counts_are_kept}
+use Rattle.hc_model.proofs.laws.truncated_is_a_front.Goals as goal
+
+pub returns-clause-front : goal.returns-clause-front
+returns-clause-front c = truncated_is
+
+pub returns-clause-kept : goal.returns-clause-kept
+returns-clause-kept c = counts_are_kept

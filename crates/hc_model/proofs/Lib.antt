@@ -78,3 +78,4 @@ pub mod TurnsKeep
 pub mod Barred
 pub mod InRuns
 pub mod Counted
+pub mod Going

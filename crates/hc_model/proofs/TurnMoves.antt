@@ -1,6 +1,6 @@
 -- What a poll does, and why: who opens for the turn has it, who waits for a body may read what is current.
 use Rattle.std.proofs.Common.{◌≡◌, inl, inr, ℕ, ◌+◌, Bool, true, false, cond, Option, Some, None, refl, ap, sym, ◌∙◌, subst}
-use Rattle.std.specs.Prelude.{if◌then◌else◌}
+use Rattle.std.specs.Prelude.{◌==◌, if◌then◌else◌}
 use Rattle.std.specs.Option.{option_and_then, option_map}
 use Rattle.hc_range.specs.declared.range.Span.{Span}
 use Rattle.hc_sparse.specs.declared.run.Run.{Run}
@@ -71,8 +71,8 @@ pub record IsNew (k : Consumer) : Type 0 where
 
 pub data Does (t : Tables) (c : ℕ) (k : Consumer) : Move → Type 0 where
   nothing : Does t c k Nothing
-  waits_turn : (d : ℕ) → Does t c k (moves.Waits (wait.Turn d))
-  passes : (d r : ℕ) → Queues k → MayRead t k r → Does t c k (moves.Waits (wait.Busy d))
+  waits_turn : (d : ℕ) → IsNew k → (turn_with t k.request.key c == c) ≡ false → Does t c k (moves.Waits (wait.Turn d))
+  passes : (d r : ℕ) → IsNew k → Queues k → MayRead t k r → Does t c k (moves.Waits (wait.Busy d))
   waits_head : (x : ℕ) → Does t c k (moves.Waits (wait.Head x))
   waits_body : (x : ℕ) → Does t c k (moves.Waits (wait.Body x))
   asks : (x : ℕ) → Does t c k (Asks x)
@@ -282,13 +282,13 @@ module _ (t : Tables) (c : ℕ) (k : Consumer) where
 
     does_plan : IsNew k → (p : Plan) → Planned view p → Does t c k (plan_move t k p)
     does_plan is_new _ (plans.past n way) = past n _ way is_new
-    does_plan is_new _ (plans.waits_turn d) = waits_turn d
+    does_plan is_new _ (plans.waits_turn d other) = waits_turn d is_new other
     does_plan is_new _ (plans.fetches n way queue turn_is varied bypass) =
         fetches n _ way is_new (queueing queue) turn_is (λ is. may_read (varied is).1 (plain_is (varied is).0)) (λ is. bypass_is (bypass is))
     does_plan is_new _ (plans.binds why span) = does_binds why span (current t k.request.key) is_new.bound
     does_plan is_new _ (plans.first span hole z current_is at) = binds_first hole span z is_new at (candidate_is (current t k.request.key) z refl current_is)
     does_plan is_new _ (plans.busy d kept queue plain varied) =
-        let m = may_read varied (plain_is plain) in passes d m.0 (queueing queue) m.1
+        let m = may_read varied (plain_is plain) in passes d m.0 is_new (queueing queue) m.1
     does_plan is_new _ plans.misses = fails _
 
     does_planned : IsNew k → Does t c k (planned t now c k)

@@ -16,7 +16,7 @@ use Rattle.hc_rules.specs.declared.request.Wanted.TheVariants as wanted
 use Rattle.hc_rules.specs.Needs.{route_of}
 use Rattle.hc_rules.specs.Plans.{plan_of, bare_plan, queues, is_back, by_current, by_why, why_by, by_wanted, by_exclusive, by_hole, by_bound, in_time, from_store}
 use Rattle.hc_model.proofs.Joining.{mix}
-use Rattle.hc_model.proofs.KeyNames.{eq_is}
+use Rattle.hc_model.proofs.KeyNames.{eq_is, and_left, and_then}
 
 -- what is current answers the request too
 pub record IsVaried (v : PlanView) : Type 0 where
@@ -31,7 +31,7 @@ pub record IsQueueing (v : PlanView) : Type 0 where
 
 pub data Planned (v : PlanView) : Plan → Type 0 where
   past : (n : Need) → route_of n ≡ route.Direct → Planned v (plan.Direct n)
-  waits_turn : (d : ℕ) → Planned v (plan.Turn d)
+  waits_turn : (d : ℕ) → (v.turn == v.c) ≡ false → Planned v (plan.Turn d)
   fetches : (n : Need) → route_of n ≡ route.Turn → IsQueueing v → v.turn ≡ v.c → (n ≡ need.Validate → (v.class.bypassing ≡ false) × IsVaried v) → (n ≡ need.Bypass → v.class.bypassing ≡ true) → Planned v (plan.Fetch n)
   binds : (why : Why) (span : Option Span) → Planned v (plan.Bind why span)
   first : (span hole : Span) (s : Candidate) → v.current ≡ Some s → s.span ≡ wanted.Interval span → Planned v (plan.FirstHole span hole)
@@ -54,6 +54,10 @@ turn_by false same only a b h = absurd (let no_one : false ≡ true = a in cc)
 back_by : (passed back : Bool) → back ≡ true → (not passed || back) ≡ true
 back_by true back is = is
 back_by false back is = refl
+
+not_same : (b : Bool) → not b ≡ true → b ≡ false
+not_same true h = absurd (let no_one : false ≡ true = h in cc)
+not_same false h = refl
 
 -- v is let through with what it has passed for
 module _ (v : PlanView) (through : v.passed ≡ true → (v.class.bypassing ≡ false) × IsVaried v) where
@@ -117,7 +121,7 @@ module _ (v : PlanView) (through : v.passed ≡ true → (v.class.bypassing ≡ 
     by_class false is = by_current_is v.current refl is
 
   by_queue : (b : Bool) → IsQueueing v → queues v ≡ b → Planned v (if b then plan.Turn v.turn else if v.class.bypassing then plan.Fetch need.Bypass else by_current v v.current)
-  by_queue true queueing is = waits_turn v.turn
+  by_queue true queueing is = waits_turn v.turn (not_same (v.turn == v.c) (and_then (not v.passed || is_back v) _ (and_left _ _ is)))
   by_queue false queueing is = by_class queueing is v.class.bypassing refl
 
   bare_is : (b : Bool) → v.class.only ≡ false → v.class.disabled ≡ b → Planned v (if b then plan.Direct need.Disabled else if queues v then plan.Turn v.turn else if v.class.bypassing then plan.Fetch need.Bypass else by_current v v.current)

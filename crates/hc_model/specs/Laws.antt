@@ -85,7 +85,8 @@ pub record WaitsForNobody (t : Tables) (now want c : ℕ) (k : Consumer) : Type 
   pub turn : (d : ℕ) → move_of t now want c k ≢ move.Waits (wait.Turn d)
   pub busy : (d : ℕ) → move_of t now want c k ≢ move.Waits (wait.Busy d)
 
--- Who has the turn doesn't wait for it; who reads waits for no other consumer; whom a busy one waits for is bound; and
+-- Who has the turn doesn't wait for it; who reads waits for no other consumer; whom a busy one
+-- waits for is bound; and
 -- what is current is read by somebody while its length isn't known or it is written by several.
 pub record WaitsEnd (t : Tables) : Type 0 where
   pub turn_goes : (now c want d : ℕ) (k : Consumer) → t.consumer c ≡ Some k →
@@ -105,12 +106,14 @@ abbrev pub barrier_at : Tables → Entry → ℕ → List ℕ → ℕ
 barrier_at t e before key =
     if not (is_denied e.acts) && is_key (doomed t e) key then t.opened else before
 
--- the last exchange that was opened before the last doom of a key; none of what a store begins with is behind a doom
+-- the last exchange that was opened before the last doom of a key; none of what a store begins
+-- with is behind a doom
 abbrev pub barrier : Contents → List ℕ → History → ℕ
 barrier contents key [] = 0
 barrier contents key (e ∷ h) = barrier_at (tables contents h) e (barrier contents key h) key
 
--- What isn't gone was opened after the last doom of its key, and so was what a consumer becomes bound to.
+-- What isn't gone was opened after the last doom of its key, and so was what a consumer becomes
+-- bound to.
 abbrev pub IsBehindDooms : Contents → History → Type 0
 IsBehindDooms contents h =
     (r : ℕ) (v : Representation) → (tables contents h).representation r ≡ Some v →
@@ -125,7 +128,8 @@ abbrev pub IsFront : Representation → Type 0
 IsFront v =
     (n : ℕ) × (0 < n) × Covers v.stored 0 n × ((p : ℕ) → n ≤ p → v.stored p ≡ None)
 
--- What is Whole has every position below its total, and what is Truncated some first ones and nothing else.
+-- What is Whole has every position below its total, and what is Truncated some first ones and
+-- nothing else.
 pub record IsTruthful (t : Tables) : Type 0 where
   pub whole : (key : List ℕ) (r : ℕ) (v : Representation) → current t key ≡ Some r →
       t.representation r ≡ Some v → kind_for t key ≡ Some kind.Whole → IsWhole v
@@ -166,7 +170,8 @@ LeavesGood limits contents =
 
 -- WHAT MAKES THESE INDUCTIVE
 
--- who has passed was let through once: what it waits for is current, and its request is one that may read it
+-- who has passed was let through once: what it waits for is current, and its request is one that
+-- may read it
 pub record HasPassed (t : Tables) (r : ℕ) (k : Consumer) : Type 0 where
   pub current_is : current t k.request.key ≡ Some r
   pub plain : is_bypassing k.request ≡ false
@@ -211,7 +216,8 @@ pub record Turns (t : Tables) : Type 0 where
       w.aim ≡ Some r → t.consumer w.c ≡ Some k → t.representation r ≡ Some v →
       (is_bypassing k.request ≡ false) × (matches_vary v.head k.request ≡ true)
 
--- for the doom barrier: what may still found was opened after the last doom, which came after openings
+-- for the doom barrier: what may still found was opened after the last doom, which came after
+-- openings
 pub record IsBarred (contents : Contents) (h : History) : Type 0 where
   pub within : (key : List ℕ) → barrier contents key h ≤ (tables contents h).opened
   pub founded : IsBehindDooms contents h
@@ -355,7 +361,8 @@ TurnsAreOne = (t : Tables) → Sound t → IsOfOneKey t → Turns t → HasOneTu
 
 -- THE DOOM BARRIER STAYS
 
--- each entry of a run leaves what isn't gone, and what may still found, behind the last doom of its key
+-- each entry of a run leaves what isn't gone, and what may still found, behind the last doom of
+-- its key
 abbrev pub BarrierIsKept : Type 0
 BarrierIsKept =
     (limits : Limits) (contents : Contents) (h : History) (e : Entry) →
@@ -407,3 +414,17 @@ TruncatedIsFront =
     (t : Tables) → Sound t → IsCounted t → (key : List ℕ) (r : ℕ) (v : Representation) →
     current t key ≡ Some r → t.representation r ≡ Some v → v.reach ≤ 2 ^ 62 →
     kind_for t key ≡ Some kind.Truncated → IsFront v
+
+-- WHO GOES ON
+
+-- Who has the turn doesn't wait for it.
+abbrev pub TurnsGo : Type 0
+TurnsGo =
+    (t : Tables) → Sound t → Turns t → (now c want d : ℕ) (k : Consumer) → t.consumer c ≡ Some k →
+    turn t k.request.key ≡ Some c → move_of t now want c k ≢ move.Waits (wait.Turn d)
+
+-- Who is bound waits for no turn, and for no other consumer.
+abbrev pub ReadersGo : Type 0
+ReadersGo =
+    (t : Tables) → Sound t → Turns t → (now c want r : ℕ) (k : Consumer) → IsBound t r c k →
+    WaitsForNobody t now want c k

@@ -1,22 +1,27 @@
 -- The count of what is stored is that of its positions, so what is called truncated is some first bytes.
-use Rattle.std.proofs.Common.{◌≡◌, inl, inr, ℕ, zero, suc, ◌+◌, ◌<◌, ◌≤◌, ◌^◌, List, length, Bool, true, false, cond, Option, Some, None, refl, ap, sym, ◌∙◌, subst, arith}
+use Rattle.std.proofs.Common.{◌≡◌, inl, inr, ℕ, zero, suc, ◌+◌, ◌<◌, ◌≤◌, ◌^◌, List, [], ◌∷◌, length, Bool, true, false, cond, Option, Some, None, refl, ap, sym, ◌∙◌, subst, arith}
 use Rattle.std.specs.Prelude.{◌&&◌, ◌||◌, ◌==◌, nat_lt, nat_le, not, is_some, if◌then◌else◌, option_map}
 use Rattle.std.specs.Option.{option_and_then}
 use Rattle.std.proofs.lemmas.Bool.Decides.{nat_tests}
+use Rattle.std.proofs.lemmas.List.Sums.{sum_by-cons}
 use Rattle.hc_event.specs.declared.event.Event.{Event}
 use Rattle.hc_event.specs.declared.event.Event.TheVariants as event
 use Rattle.hc_event.specs.declared.event.Response.{Response}
 use Rattle.hc_record.specs.declared.kind.Kind.TheVariants as kind
 use Rattle.hc_sparse.specs.Cells.{Cells, Cell, nothing, AreAbsent, Covers, size, size_below}
+use Rattle.hc_sparse.specs.Runs.{cells_of, end_of, ascend}
+use Rattle.hc_sparse.specs.declared.run.Run.{Run}
+use Rattle.hc_sparse.proofs.RunLemmas.{cells-before}
+use Rattle.hc_model.specs.Tables.{loaded, bytes_in}
 use Rattle.hc_sparse.proofs.SizeLemmas.{size-none, size-written}
 use Rattle.hc_model.specs.ActFilters.{loses_in}
 use Rattle.hc_model.specs.Cases.{case_at, is_founding}
 use Rattle.hc_model.specs.Denials.{denial}
-use Rattle.hc_model.specs.Entries.{Entry}
+use Rattle.hc_model.specs.Entries.{Entry, Content}
 use Rattle.hc_model.specs.Exchanges.{front, family}
 use Rattle.hc_model.specs.Keys.{entry_of}
 use Rattle.hc_model.specs.Kinds.{kind_of, kind_at, is_growing, is_complete, is_front}
-use Rattle.hc_model.specs.Laws.{IsCounted, IsFront, EndsInTime, CountsAreKept, TruncatedIsFront}
+use Rattle.hc_model.specs.Laws.{IsCounted, IsFront, EndsInTime, CountsAreKept, CountsBegin, TruncatedIsFront, item_of}
 use Rattle.hc_model.specs.RepresentationRows.{representation_after, representation_heard, representation_acted, founded_at, represented, headed, renewed, updates, pieced, filled, ended, length_in}
 use Rattle.hc_model.specs.Rows.{Tables, Exchange, Representation}
 use Rattle.hc_model.specs.Sound.{Sound, IsStored}
@@ -159,3 +164,34 @@ module _ (t : Tables) (e : Entry) (s : Sound t) (goes : denial t e.event ≡ Non
 pub counts_are_kept : CountsAreKept
 counts_are_kept limits t now flaw s counted event goes ends r u row =
     after_counts t (entry_of limits t now event flaw) s goes r (t.representation r) u refl counted ends row
+
+-- FROM THE BEGINNING
+
+ascend_bound : (n : ℕ) (rs : List Run) → ascend n rs ≡ true → n ≤ 2 ^ 62
+ascend_bound n [] h = grind (arith, nat_tests)
+ascend_bound n (r ∷ rs) h =
+    let first : nat_le n r.at ≡ true = and_left (nat_le n r.at) _ (and_left _ (ascend (end_of r) rs) h) in
+    let rest : end_of r ≤ 2 ^ 62 = ascend_bound (end_of r) rs (and_then _ (ascend (end_of r) rs) h) in
+    by_steps n r.at (length r.bytes) (2 ^ 62) (grind (arith, nat_tests)) rest
+  where
+    by_steps : (a b n m : ℕ) → a ≤ b → b + n ≤ m → a ≤ m
+    by_steps a b n m p q = omega arith
+
+runs_size : (n : ℕ) (rs : List Run) → ascend n rs ≡ true → bytes_in rs ≡ size (cells_of rs)
+runs_size n [] h = sym (size-none (cells_of []) (λ p. refl))
+runs_size n (r ∷ rs) h =
+    let later : ascend (end_of r) rs ≡ true = and_then _ (ascend (end_of r) rs) h in
+    let rest : bytes_in rs ≡ size (cells_of rs) = runs_size (end_of r) rs later in
+    let more = size-written (cells_of rs) r.at r.x r.bytes (λ p lo hi. cells-before (end_of r) rs later p hi) (ascend_bound (end_of r) rs later) in
+    let sum : bytes_in (r ∷ rs) ≡ length r.bytes + bytes_in rs = sum_by-cons (λ (run : Run). length run.bytes) r rs in
+    sum ∙ (ap (λ n. length r.bytes + n) rest ∙ (turned (length r.bytes) (size (cells_of rs)) ∙ sym more))
+  where
+    turned : (a b : ℕ) → a + b ≡ b + a
+    turned a b = omega arith
+
+item_counts : (o : Option Content) (v : Representation) → ((item : Content) → o ≡ Some item → ascend 0 item.runs ≡ true) → option_map loaded o ≡ Some v → Counts v
+item_counts None v rising h = absurd (none_some v h)
+item_counts (Some item) v rising h = subst Counts (some_inj (loaded item) v h) (runs_size 0 item.runs (rising item refl))
+
+pub counts_begin : CountsBegin
+counts_begin contents rising r v row = item_counts (item_of contents r) v (λ item is. rising r item is) row

@@ -1,11 +1,9 @@
 -- Who has the turn doesn't wait for it, and who is bound waits for nobody.
-use Rattle.std.proofs.Common.{◌≡◌, ◌≢◌, inl, inr, ℕ, List, [], ◌∷◌, Bool, true, false, Option, Some, None, refl, ap, sym, ◌∙◌, min, arith}
-use Rattle.std.specs.Prelude.{◌==◌, nat_eq, unwrap_or}
+use Rattle.std.proofs.Common.{◌≡◌, inl, inr, ℕ, List, Bool, true, false, Option, Some, None, refl, ap, sym, ◌∙◌, arith}
+use Rattle.std.specs.Prelude.{nat_eq, unwrap_or}
 use Rattle.std.specs.Option.{option_or}
-use Rattle.hc_event.specs.declared.act.Wait.{Wait}
 use Rattle.hc_event.specs.declared.act.Wait.TheVariants as wait
 use Rattle.hc_rules.specs.Least.{least, lesser}
-use Rattle.hc_model.specs.declared.place.Place.{Place}
 use Rattle.hc_model.specs.Laws.{Turns, WaitsForNobody, TurnsGo, ReadersGo}
 use Rattle.hc_model.specs.Lines.{turn, turn_with, holder, line}
 use Rattle.hc_model.specs.Moves as moves

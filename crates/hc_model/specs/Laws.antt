@@ -1,6 +1,7 @@
 -- What holds over all interleavings of events.
 use Rattle.std.specs.Prelude.{◌≡◌, ◌≢◌, ◌⊎◌, ◌<◌, ◌≤◌, ℕ, ◌+◌, ◌-◌, List, [], ◌∷◌, length, true, false, Option, Some, None, is_some, if◌then◌else◌, not, ◌&&◌, ◌==◌, find, ◌^◌}
 use Rattle.hc_sparse.specs.Cells.{Cell, AreAbsent, Covers, size}
+use Rattle.hc_sparse.specs.Runs.{ascend}
 use Rattle.hc_record.specs.declared.kind.Kind.TheVariants as kind
 use Rattle.hc_event.specs.Filters.{is_denied}
 use Rattle.hc_event.specs.declared.event.Event.{Event}
@@ -407,6 +408,13 @@ CountsAreKept =
     (limits : Limits) (t : Tables) (now : ℕ) (flaw : Flaw) → Sound t → IsCounted t →
     (event : Event) → denial t event ≡ None → EndsInTime t event →
     IsCounted (after_accepted t (entry_of limits t now event flaw))
+
+-- and it is so from the beginning, where runs rise without overlap
+abbrev pub CountsBegin : Type 0
+CountsBegin =
+    (contents : Contents) →
+    ((r : ℕ) (item : Content) → item_of contents r ≡ Some item → ascend 0 item.runs ≡ true) →
+    IsCounted (begun contents)
 
 -- What is called truncated has some first positions and no other.
 abbrev pub TruncatedIsFront : Type 0

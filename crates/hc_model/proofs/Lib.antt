@@ -79,3 +79,4 @@ pub mod Barred
 pub mod InRuns
 pub mod Counted
 pub mod Going
+pub mod FewGiveWay

@@ -20,7 +20,7 @@ use Rattle.hc_model.specs.declared.place.BoundBy.{BoundBy}
 use Rattle.hc_model.specs.declared.place.BoundBy.TheVariants as by
 use Rattle.hc_model.specs.declared.place.Place.TheVariants as place
 use Rattle.hc_model.specs.declared.place.BoundBy.{BoundBy}
-use Rattle.hc_model.specs.Entries.{Entry, History, Content, Contents}
+use Rattle.hc_model.specs.Entries.{Entry, History, Content, Contents, unanswered}
 use Rattle.hc_model.specs.Flaws.{Flaw}
 use Rattle.hc_model.specs.Rows.{Tables, Exchange, Representation, Consumer}
 use Rattle.hc_model.specs.Exchanges.{front, family, is_headless}
@@ -36,6 +36,7 @@ use Rattle.hc_model.specs.Moves.{Move}
 use Rattle.hc_model.specs.Moves as move
 use Rattle.hc_model.specs.Polls.{move_of}
 use Rattle.hc_model.specs.Weights.{weights}
+use Rattle.hc_model.specs.Answers.{accepted}
 use Rattle.hc_model.specs.Kinds.{kind_for}
 use Rattle.hc_model.specs.Contents.{contents_of}
 use Rattle.hc_model.specs.Beginnings.{may_begin}
@@ -436,3 +437,12 @@ abbrev pub ReadersGo : Type 0
 ReadersGo =
     (t : Tables) → Sound t → Turns t → (now c want r : ℕ) (k : Consumer) → IsBound t r c k →
     WaitsForNobody t now want c k
+
+-- WHAT GIVES WAY
+
+-- An entry evicts at most two, where what is stored before it fits the limit.
+abbrev pub FewGiveWay : Type 0
+FewGiveWay =
+    (limits : Limits) (t : Tables) (now : ℕ) (event : Event) (flaw : Flaw) →
+    weights t (unanswered now event) ≤ limits.max_total → IsSmallPiece event →
+    count_evicted (accepted limits t now event flaw) ≤ 2

@@ -2,7 +2,7 @@
 ghost use Rattle.hc_model.specs.Histories.{RunsAreFiltered};
 ghost use Rattle.hc_model.specs.Reads.{OneHeadIsShown};
 ghost use Rattle.hc_model.specs.Keys.{LawOfOneKey, KeysAreKept, KeysBegin};
-ghost use Rattle.hc_model.specs.Laws.{SoundDeliversOnce, DeliveriesAreKept, BodiesAreKept, NumbersAreKept, NamesAreKept, OneCurrentIsKept, StoresAreKept, StartsAreSound, WholeIsWhole, AfterEach, AreBound, KnowEnds, OwnedAfterEach, AreToBeShown, OwedAfterEach, OwnersAreKnown, TurnsAreOne, TurnsAreKept, TurnsBegin, TurnsInRuns, KeysInRuns, BarrierIsKept, BarrierBegins, DoomsInRuns, TruncatedIsFront, CountsAreKept, TurnsGo, ReadersGo, CountsBegin};
+ghost use Rattle.hc_model.specs.Laws.{SoundDeliversOnce, DeliveriesAreKept, BodiesAreKept, NumbersAreKept, NamesAreKept, OneCurrentIsKept, StoresAreKept, StartsAreSound, WholeIsWhole, AfterEach, AreBound, KnowEnds, OwnedAfterEach, AreToBeShown, OwedAfterEach, OwnersAreKnown, TurnsAreOne, TurnsAreKept, TurnsBegin, TurnsInRuns, KeysInRuns, BarrierIsKept, BarrierBegins, DoomsInRuns, TruncatedIsFront, CountsAreKept, TurnsGo, ReadersGo, CountsBegin, FewGiveWay};
 ghost use Rattle.hc_model.specs.Owners.{Owners};
 ghost use Rattle.hc_model.specs.Sound.{OneFirst};
 
@@ -55,9 +55,10 @@ pub fn columns_are_filters()
     ensures { RunsAreFiltered }
 {}
 
-/// The law of one key: an entry of a run changes nothing of exchanges, representations and consumers of
-/// other keys than that of its event, and what is new is of that key; but what makes room is gone, and who
-/// waits for that starts over. What is of one key is so from the beginning, and stays so.
+/// The law of one key: an entry of a run changes nothing of exchanges, representations and
+/// consumers of other keys than that of its event, and what is new is of that key; but what makes
+/// room is gone, and who waits for that starts over. What is of one key is so from the beginning,
+/// and stays so.
 pub fn other_keys_stay()
     ensures law { LawOfOneKey }
     ensures kept { KeysAreKept }
@@ -86,6 +87,10 @@ pub fn owners_stay_known()
 
 /// Of a key at most one exchange of the turn waits for its head, and its consumer has the turn. What shows
 /// this holds from the beginning, and after each accepted entry of a run.
+{}
+
+/// Of a key at most one exchange of the turn waits for its head, and its consumer has the turn.
+/// What shows this holds from the beginning, and after each accepted entry of a run.
 pub fn one_has_the_turn()
     ensures one { TurnsAreOne }
     ensures kept { TurnsAreKept }
@@ -93,25 +98,32 @@ pub fn one_has_the_turn()
     ensures runs { TurnsInRuns }
 {}
 
-/// What isn't gone was opened after the last doom of its key, and so was what may still found. This holds from
-/// the beginning, and after each entry of a run.
+/// What isn't gone was opened after the last doom of its key, and so was what may still found.
+/// This holds from the beginning, and after each entry of a run.
 pub fn dooms_are_a_barrier()
     ensures kept { BarrierIsKept }
     ensures begin { BarrierBegins }
     ensures runs { DoomsInRuns }
 {}
 
-/// What is called Truncated has some first positions and no other, where the count of what is stored is that of
-/// its positions. That count is so from the beginning, where runs rise without overlap, and stays so at each
-/// accepted event whose piece ends by 2^62.
+/// What is called Truncated has some first positions and no other, where the count of what is
+/// stored is that of its positions. That count is so from the beginning, where runs rise without
+/// overlap, and stays so at each accepted event whose piece ends by 2^62.
 pub fn truncated_is_a_front()
     ensures front { TruncatedIsFront }
     ensures kept { CountsAreKept }
     ensures begin { CountsBegin }
 {}
 
-/// Who has the turn of its key doesn't wait for it, and who is bound waits for no turn and for no other consumer.
+/// Who has the turn of its key doesn't wait for it, and who is bound waits for no turn and for no
+/// other consumer.
 pub fn some_go_on()
     ensures turn { TurnsGo }
     ensures reader { ReadersGo }
+{}
+
+/// An entry evicts at most two, where what is stored before it fits the limit: a piece has at
+/// most twice what a slot weighs.
+pub fn few_give_way()
+    ensures { FewGiveWay }
 {}

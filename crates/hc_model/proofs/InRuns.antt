@@ -1,4 +1,4 @@
--- One key, one turn and the barrier of dooms in each run, once runs are sound.
+-- One key, one turn and the barrier of dooms in each run from a beginning whose runs are sound.
 use Rattle.std.proofs.Common.{◌≡◌, ℕ, [], ◌∷◌, Bool, true, false, refl, subst}
 use Rattle.hc_event.specs.Filters.{is_denied}
 use Rattle.hc_rules.specs.declared.room.Limits.{Limits}
@@ -6,10 +6,10 @@ use Rattle.hc_model.specs.Currents.{current}
 use Rattle.hc_model.specs.Entries.{Entry, History, Contents}
 use Rattle.hc_model.specs.Flaws.{flaw_in}
 use Rattle.hc_model.specs.Keys.{IsOfOneKey, KeepsOthers}
-use Rattle.hc_model.specs.Laws.{Turns, HasPassed, IsBarred, AreNumbered, TurnsInRuns, DoomsInRuns, KeysInRuns}
+use Rattle.hc_model.specs.Laws.{AreSound, HasOneTurn, Turns, HasPassed, IsBarred, AreNumbered, TurnsInRuns, DoomsInRuns, KeysInRuns}
 use Rattle.hc_model.specs.Rows.{Tables, Consumer}
 use Rattle.hc_model.specs.Runs.{IsRun, IsOwed}
-use Rattle.hc_model.specs.Sound.{Sound, RunsAreSound, IsBound}
+use Rattle.hc_model.specs.Sound.{Sound, IsBound}
 use Rattle.hc_model.specs.Sound as sound
 use Rattle.hc_model.specs.Tables.{tables, after_accepted, after_denied}
 use Rattle.hc_model.proofs.Barred.{next_tables, denied_tables, barrier_is_kept, barrier_begins}
@@ -76,28 +76,32 @@ by_denial limits contents h e false accepted s owed held =
       turns = subst Turns (next_tables contents h e accepted) (turns_are_kept limits t e s held.one held.turns owed accepted);
     }
 
-holds : (limits : Limits) (contents : Contents) (h : History) → RunsAreSound → IsRun limits contents h → Holds contents h
-unfolding tables
-holds limits contents [] runs run = record { one = keys_begin contents; turns = turns_begin contents }
-holds limits contents (e ∷ h) runs run =
-    by_denial limits contents h e (is_denied e.acts) refl (runs limits contents h run.0) run.1 (holds limits contents h runs run.0)
+module _ (limits : Limits) (contents : Contents) (runs : AreSound limits contents) where
+  holds : (h : History) → IsRun limits contents h → Holds contents h
+  unfolding tables
+  holds [] run = record { one = keys_begin contents; turns = turns_begin contents }
+  holds (e ∷ h) run = by_denial limits contents h e (is_denied e.acts) refl (runs h run.0) run.1 (holds h run.0)
+
+  one_turn : (h : History) → IsRun limits contents h → HasOneTurn (tables contents h)
+  one_turn h run = let held = holds h run in turns_are_one (tables contents h) (runs h run) held.one held.turns
+
+  barred : AreNumbered contents → (h : History) → IsRun limits contents h → IsBarred contents h
+  barred numbered [] run = barrier_begins contents numbered
+  barred numbered (e ∷ h) run =
+      let held = holds h run.0 in
+      barrier_is_kept limits contents h e (runs h run.0) held.one held.turns (barred numbered h run.0) run.1
+
+  others_stay : (h : History) (e : Entry) → IsRun limits contents (e ∷ h) → is_denied e.acts ≡ false → KeepsOthers (tables contents h) (tables contents (e ∷ h)) e
+  others_stay h e run accepted =
+      let held = holds h run.0 in
+      subst (λ u. KeepsOthers (tables contents h) u e) (next_tables contents h e accepted)
+      (law_of_one_key limits (tables contents h) e held.one.exchanges held.one.consumers run.1 accepted)
 
 pub turns_in_runs : TurnsInRuns
-turns_in_runs runs limits contents h run =
-    let held = holds limits contents h runs run in
-    turns_are_one (tables contents h) (runs limits contents h run) held.one held.turns
-
-barred : (limits : Limits) (contents : Contents) (h : History) → RunsAreSound → AreNumbered contents → IsRun limits contents h → IsBarred contents h
-barred limits contents [] runs numbered run = barrier_begins contents numbered
-barred limits contents (e ∷ h) runs numbered run =
-    let held = holds limits contents h runs run.0 in
-    barrier_is_kept limits contents h e (runs limits contents h run.0) held.one held.turns (barred limits contents h runs numbered run.0) run.1
+turns_in_runs limits contents runs h run = one_turn limits contents runs h run
 
 pub dooms_in_runs : DoomsInRuns
-dooms_in_runs runs limits contents h numbered run = (barred limits contents h runs numbered run).founded
+dooms_in_runs limits contents runs numbered h run = (barred limits contents runs numbered h run).founded
 
 pub keys_in_runs : KeysInRuns
-keys_in_runs runs limits contents h e run accepted =
-    let held = holds limits contents h runs run.0 in
-    subst (λ u. KeepsOthers (tables contents h) u e) (next_tables contents h e accepted)
-    (law_of_one_key limits (tables contents h) e held.one.exchanges held.one.consumers run.1 accepted)
+keys_in_runs limits contents runs h e run accepted = others_stay limits contents runs h e run accepted

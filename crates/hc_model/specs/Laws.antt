@@ -380,18 +380,25 @@ BarrierBegins = (contents : Contents) → AreNumbered contents → IsBarred cont
 
 -- IN RUNS
 
--- of each run, once runs are sound
+-- the runs from one beginning are sound
+abbrev pub AreSound : Limits → Contents → Type 0
+AreSound limits contents =
+    (h : History) → IsRun limits contents h → Sound (tables contents h)
+
+-- of each run from there
 abbrev pub TurnsInRuns : Type 0
-TurnsInRuns = RunsAreSound → OfRuns HasOneTurn
+TurnsInRuns =
+    (limits : Limits) (contents : Contents) → AreSound limits contents → (h : History) →
+    IsRun limits contents h → HasOneTurn (tables contents h)
 
 abbrev pub DoomsInRuns : Type 0
 DoomsInRuns =
-    RunsAreSound → (limits : Limits) (contents : Contents) (h : History) → AreNumbered contents →
-    IsRun limits contents h → IsBehindDooms contents h
+    (limits : Limits) (contents : Contents) → AreSound limits contents → AreNumbered contents →
+    (h : History) → IsRun limits contents h → IsBehindDooms contents h
 
 abbrev pub KeysInRuns : Type 0
 KeysInRuns =
-    RunsAreSound → (limits : Limits) (contents : Contents) (h : History) (e : Entry) →
+    (limits : Limits) (contents : Contents) → AreSound limits contents → (h : History) (e : Entry) →
     IsRun limits contents (e ∷ h) → is_denied e.acts ≡ false →
     KeepsOthers (tables contents h) (tables contents (e ∷ h)) e
 

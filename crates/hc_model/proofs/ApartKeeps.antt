@@ -102,7 +102,7 @@ module _ (limits : Limits) (t : Tables) (now : ℕ) (flaw : Flaw) (s : Sound t) 
 
   -- A WRITING THAT WAS ON
 
-  was_written : (r x : ℕ) (v u : Representation) → IsKept t e r v u → IsOn now_on u x → u.writer ≡ v.writer → u.writer ≡ Some x → (is_written t v ≡ true) × (v.writer ≡ Some x) × (loses_in r e.acts ≡ false)
+  pub was_written : (r x : ℕ) (v u : Representation) → IsKept t e r v u → IsOn now_on u x → u.writer ≡ v.writer → u.writer ≡ Some x → (is_written t v ≡ true) × (v.writer ≡ Some x) × (loses_in r e.acts ≡ false)
   was_written r x v u kept on same writer =
       let parts = or_false (loses_in r e.acts) v.is_lost (sym kept.lost_is ∙ on.kept) in
       let writes : v.writer ≡ Some x = sym same ∙ writer in
@@ -206,7 +206,7 @@ module _ (limits : Limits) (t : Tables) (now : ℕ) (flaw : Flaw) (s : Sound t) 
   range_206 : (lost : Bool) (w : Exchange) (response : Response) → CaseBy (head_view t lost w response) case.FoundsRange → response.status ≡ 206
   range_206 lost w response (cases.founds_range way status fits kept good) = status
 
-  founded_shared : (r x : ℕ) (response : Response) (w : Exchange) (g : Option HeadCase) → ev ≡ event.Head r response → t.exchange r ≡ Some w → case_at t e ≡ g → is_founding g ≡ true → writer_at r response ≡ Some x → becomes_shared t e response w g ≡ true
+  pub founded_shared : (r x : ℕ) (response : Response) (w : Exchange) (g : Option HeadCase) → ev ≡ event.Head r response → t.exchange r ≡ Some w → case_at t e ≡ g → is_founding g ≡ true → writer_at r response ≡ Some x → becomes_shared t e response w g ≡ true
   founded_shared r x response w None here row is on writer = absurd (false_true on)
   founded_shared r x response w (Some case.FoundsWhole) here row is on writer = refl
   founded_shared r x response w (Some case.FirstReplaced) here row is on writer = refl
@@ -232,7 +232,7 @@ module _ (limits : Limits) (t : Tables) (now : ℕ) (flaw : Flaw) (s : Sound t) 
   founded_shared r x response w (Some case.LaterJoins) here row is on writer = absurd (false_true on)
   founded_shared r x response w (Some case.LaterChanged) here row is on writer = absurd (false_true on)
 
-  writer_is : (r x : ℕ) (response : Response) → writer_at r response ≡ Some x → r ≡ x
+  pub writer_is : (r x : ℕ) (response : Response) → writer_at r response ≡ Some x → r ≡ x
   writer_is r x response is = by_test (response.status == 206) is
     where
       by_test : (b : Bool) → (if b then None else Some r) ≡ Some x → r ≡ x

@@ -81,7 +81,7 @@ module _ (t : Tables) (e : Entry) where
   heard_other x (event.Cancel c) w other = refl
   heard_other x (event.Doom key) w other = refl
 
-  after_is : (x : ℕ) (w : Exchange) (z : Option Exchange) → z ≡ Some w → exchange_after t e x z ≡ Some (exchange_acted x e.acts (exchange_heard t e x e.event w))
+  pub after_is : (x : ℕ) (w : Exchange) (z : Option Exchange) → z ≡ Some w → exchange_after t e x z ≡ Some (exchange_acted x e.acts (exchange_heard t e x e.event w))
   unfolding exchange_after
   after_is x w None is = absurd (let never : None ≡ Some w = is in cc)
   after_is x w (Some u) is = ap (λ (q : Exchange). Some (exchange_acted x e.acts (exchange_heard t e x e.event q))) (some_inj u w is)

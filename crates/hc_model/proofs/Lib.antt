@@ -80,3 +80,5 @@ pub mod InRuns
 pub mod Counted
 pub mod Going
 pub mod FewGiveWay
+pub mod MemberStays
+pub mod HasBound

@@ -154,10 +154,10 @@ module _ (limits : Limits) (t : Tables) (now : ℕ) (flaw : Flaw) (s : Sound t) 
     sent_back : {response : Response} → ev ≡ event.Head y response → case_at t e ≡ Some case.FirstChanged → ⊥
     unfolding starts_over
     sent_back {response} here is_case =
-        let none : (sends_back (case_at t e) && is_for (exchange_at t ev) c) ≡ false = ((or_false _ _ ((or_false _ _ row.stays).0)).1) in
         let sends : sends_back (case_at t e) ≡ true = ap sends_back is_case in
         let number : nat_eq w.c c ≡ true = (let same : w.c ≡ c = is.for_it in grind (arith, nat_tests)) in
         let it : is_for (exchange_at t ev) c ≡ true = ap (λ v. is_for (exchange_at t v) c) here ∙ (ap (λ z. is_for z c) is.exchange_row ∙ number) in
+        let none : (sends_back (case_at t e) && is_for (exchange_at t ev) c) ≡ false = ((or_false _ _ ((or_false _ _ row.stays).0)).1) in
         false_true (sym none ∙ and_both sends it)
       where
         and_both : {p q : Bool} → p ≡ true → q ≡ true → (p && q) ≡ true

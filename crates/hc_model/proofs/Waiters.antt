@@ -121,6 +121,15 @@ module _ (limits : Limits) (t : Tables) (now : ℕ) (flaw : Flaw) (s : Sound t) 
   unfolding doomed
   doomed_same = doomed_by ev
 
+  -- an accepted fault is one of an open exchange
+  pub fault_open_of : (x : ℕ) (u : Exchange) → denial t (event.Fault x) ≡ None → t.exchange x ≡ Some u → u.is_open ≡ true
+  unfolding refusals.refusal_of
+  fault_open_of x u h row = by_test u.is_open refl
+    where
+      by_test : (a : Bool) → u.is_open ≡ a → a ≡ true
+      by_test true on = refl
+      by_test false off = absurd (never _ (rw (row, off) at h))
+
   module _ (c y : ℕ) (k : Consumer) (w : Exchange) (is : IsWaiter t c y k w) where
     pub headless_is : is_headless (t.exchange y) ≡ true
     headless_is = ap is_headless is.exchange_row ∙ both w.is_open w.head is.was_open is.bare
@@ -158,7 +167,7 @@ module _ (limits : Limits) (t : Tables) (now : ℕ) (flaw : Flaw) (s : Sound t) 
         let hole = hole_is w.need way in
         sound.asks w hole.from hole.to is.exchange_row is.was_open is.bare hole.is (aim ∙ ap Some same.number)
 
-    unwritten : (r lo : ℕ) (hi : Option ℕ) (how : BoundBy) (v : Representation) (x : Option ℕ) → k.place ≡ place.Bound r lo hi how → t.representation r ≡ Some v → is_written t v ≡ true → v.writer ≡ x → ⊥
+    pub unwritten : (r lo : ℕ) (hi : Option ℕ) (how : BoundBy) (v : Representation) (x : Option ℕ) → k.place ≡ place.Bound r lo hi how → t.representation r ≡ Some v → is_written t v ≡ true → v.writer ≡ x → ⊥
     unwritten r lo hi how v None at row on writer = writer_some t v on writer
     unwritten r lo hi how v (Some x) at row on writer =
         let one : x ≡ y = s.one_about r x y (writer_about t r x v s row on writer) (asks_about r lo hi how at is.at) in
@@ -196,18 +205,10 @@ module _ (limits : Limits) (t : Tables) (now : ℕ) (flaw : Flaw) (s : Sound t) 
         let opened : (by_opening t c (opening_in e.acts) (waiting t e c k)).own ≡ Some y = ap (λ (q : Consumer). q.own) (opening_stays (waiting t e c k) (opening_in e.acts) refl) ∙ is.own in
         ap (own_after t e c k.place) opened ∙ own_stays k.place refl
 
-    fault_open : (x : ℕ) (u : Exchange) → denial t (event.Fault x) ≡ None → t.exchange x ≡ Some u → u.is_open ≡ true
-    unfolding refusals.refusal_of
-    fault_open x u h row = by_test u.is_open refl
-      where
-        by_test : (a : Bool) → u.is_open ≡ a → a ≡ true
-        by_test true on = refl
-        by_test false off = absurd (never _ (rw (row, off) at h))
-
     -- a fault before a head for it is that of its exchange
     fault_is_own : (x : ℕ) (u : Exchange) → ev ≡ event.Fault x → t.exchange x ≡ Some u → (u.c == c) ≡ true → is_none u.head ≡ true → x ≡ y
     fault_is_own x u at row here none =
-        let on = fault_open x u (sym (ap (denial t) at) ∙ goes) row in
+        let on = fault_open_of x u (sym (ap (denial t) at) ∙ goes) row in
         let a = o.waiting x u row on (none_of u.head none) in
         let test : nat_eq u.c c ≡ true = here in
         let same : u.c ≡ c = grind (arith, nat_tests) in

@@ -331,7 +331,8 @@ OwnedAfterEach P =
     (limits : Limits) (t : Tables) (now : ℕ) (flaw : Flaw) → Sound t → Owners t → (event : Event) →
     denial t event ≡ None → P (after_accepted t (entry_of limits t now event flaw))
 
--- whoever is bound and wasn't shown a head founded, or waits for the head of its first hole, or may be shown it
+-- whoever is bound and wasn't shown a head founded, or waits for the head of its first hole, or may
+-- be shown it
 abbrev pub AreToBeShown : Tables → Type 0
 AreToBeShown t =
     (c r lo : ℕ) (hi : Option ℕ) (by : BoundBy) (k : Consumer) → t.consumer c ≡ Some k →
@@ -453,3 +454,9 @@ FewGiveWay =
     (limits : Limits) (t : Tables) (now : ℕ) (event : Event) (flaw : Flaw) →
     weights t (unanswered now event) ≤ limits.max_total → IsSmallPiece event →
     count_evicted (accepted limits t now event flaw) ≤ 2
+
+-- what is being written for several has a reader
+abbrev pub AreRead : Tables → Type 0
+AreRead t =
+    (r : ℕ) (v : Representation) → t.representation r ≡ Some v → is_written t v ≡ true →
+    bound t r ≢ []

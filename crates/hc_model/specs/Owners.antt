@@ -1,4 +1,4 @@
--- Whose an exchange is, and where its consumer waits for its head: what makes it inductive that runs are sound.
+-- Whose an exchange is, and where its consumer waits for its head: what makes soundness inductive.
 use Rattle.std.specs.Prelude.{◌≡◌, ℕ, true, false, Option, Some, None, is_some}
 use Rattle.hc_event.specs.declared.act.Need.TheVariants as need
 use Rattle.hc_rules.specs.declared.need.Route.TheVariants as route

@@ -2,7 +2,7 @@
 ghost use Rattle.hc_model.specs.Histories.{RunsAreFiltered};
 ghost use Rattle.hc_model.specs.Reads.{OneHeadIsShown};
 ghost use Rattle.hc_model.specs.Keys.{LawOfOneKey, KeysAreKept, KeysBegin};
-ghost use Rattle.hc_model.specs.Laws.{SoundDeliversOnce, DeliveriesAreKept, BodiesAreKept, NumbersAreKept, NamesAreKept, OneCurrentIsKept, StoresAreKept, StartsAreSound, WholeIsWhole, AfterEach, AreBound, KnowEnds, OwnedAfterEach, AreToBeShown, OwedAfterEach, OwnersAreKnown, TurnsAreOne, TurnsAreKept, TurnsBegin, TurnsInRuns, KeysInRuns, BarrierIsKept, BarrierBegins, DoomsInRuns, TruncatedIsFront, CountsAreKept, TurnsGo, ReadersGo, CountsBegin, FewGiveWay};
+ghost use Rattle.hc_model.specs.Laws.{SoundDeliversOnce, DeliveriesAreKept, BodiesAreKept, NumbersAreKept, NamesAreKept, OneCurrentIsKept, StoresAreKept, StartsAreSound, WholeIsWhole, AfterEach, AreBound, KnowEnds, OwnedAfterEach, AreToBeShown, OwedAfterEach, OwnersAreKnown, TurnsAreOne, TurnsAreKept, TurnsBegin, TurnsInRuns, KeysInRuns, BarrierIsKept, BarrierBegins, DoomsInRuns, TruncatedIsFront, CountsAreKept, TurnsGo, ReadersGo, CountsBegin, FewGiveWay, AreRead};
 ghost use Rattle.hc_model.specs.Owners.{Owners};
 ghost use Rattle.hc_model.specs.Sound.{OneFirst};
 
@@ -68,18 +68,20 @@ pub fn other_keys_stay()
 
 /// Whoever is bound to a representation is bound to one that is there; one at most became bound to it as
 /// the only one, and that one knows its end; and whoever is bound and was shown no head founded, or its
-/// first hole joined or is awaited: after each accepted event, whatever the store loses.
+/// first hole joined or is awaited: after each accepted event, whatever the store loses. What is being
+/// written for several has a reader, after each accepted event that a store may stand behind.
 pub fn readers_are_bound()
     ensures there { AfterEach AreBound }
     ensures one { AfterEach OneFirst }
     ensures ends { AfterEach KnowEnds }
     ensures shown { OwnedAfterEach AreToBeShown }
+    ensures read { OwedAfterEach AreRead }
 {}
 
-/// Whose each exchange is, and where its consumer waits for its head, is told at the beginning and after
-/// each accepted event that a store may stand behind: an exchange is the own one of one consumer at most,
-/// one without a head is that of the consumer for which it was opened, which stands where it waits for it,
-/// and one that writes for several is nobody's own.
+/// Whose each exchange is, and where its consumer waits for its head, is told at the beginning and
+/// after each accepted event that a store may stand behind: an exchange is the own one of one consumer
+/// at most, one without a head is that of the consumer for which it was opened, which stands where it
+/// waits for it, and one that writes for several is nobody's own.
 pub fn owners_stay_known()
     ensures begun { OwnersAreKnown }
     ensures kept { OwedAfterEach Owners }

@@ -1,6 +1,7 @@
 -- Readers are bound to what is there.
 use Rattle.hc_model.proofs.BoundKeeps.{binds_kept}
 use Rattle.hc_model.proofs.FirstKeeps.{ends_kept, one_first_kept}
+use Rattle.hc_model.proofs.HasBound.{has_bound_kept}
 use Rattle.hc_model.proofs.ToBeShown.{unshown_kept}
 use Rattle.hc_model.proofs.laws.readers_are_bound.Goals as goal
 
@@ -15,3 +16,6 @@ returns-clause-ends c = λ limits t now flaw s event goes. ends_kept limits t no
 
 pub returns-clause-shown : goal.returns-clause-shown
 returns-clause-shown c = λ limits t now flaw s o event goes. unshown_kept limits t now flaw s o event goes
+
+pub returns-clause-read : goal.returns-clause-read
+returns-clause-read c = λ limits t now flaw s o event goes stand. has_bound_kept limits t now flaw s o event goes stand

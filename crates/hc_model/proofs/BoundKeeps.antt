@@ -61,7 +61,7 @@ module _ (limits : Limits) (t : Tables) (now : ℕ) (flaw : Flaw) (s : Sound t) 
       let here : c ≡ d = cc in
       (here, cc, same_row (t.consumer d) k u (sym (ap t.consumer here) ∙ a.row) b.row)
 
-  opens_none : (z : Showing) → ShowsBy t now ev z → (o : Option Opening) → opening_in e.acts ≡ o → o ≡ None
+  pub opens_none : (z : Showing) → ShowsBy t now ev z → (o : Option Opening) → opening_in e.acts ≡ o → o ≡ None
   opens_none z shows None is = refl
   opens_none z shows (Some o) is =
       let opens = opening_by limits t now flaw s ev goes o is in
@@ -77,6 +77,13 @@ module _ (limits : Limits) (t : Tables) (now : ℕ) (flaw : Flaw) (s : Sound t) 
 
   quiet_place : (c : ℕ) (k : Consumer) → opening_in e.acts ≡ None → wait_in c e.acts ≡ None → (by_opening t c (opening_in e.acts) (waiting t e c k)).place ≡ k.place
   quiet_place c k none quiet = ap (λ (o : Option Opening). (by_opening t c o (waiting t e c k)).place) none ∙ ap (λ (o : Option Wait). waiting_place t k o) quiet
+
+  -- who is shown a head stands where it stood
+  pub shown_place_is : (z : Showing) (k : Consumer) → showing_in e.acts ≡ Some z → (by_opening t z.c (opening_in e.acts) (waiting t e z.c (consumer_heard t e z.c ev k))).place ≡ k.place
+  shown_place_is z k is =
+      let shows = showing_by limits t now flaw s ev goes z is in
+      let heard : consumer_heard t e z.c ev k ≡ k = ap (λ v. consumer_heard t e z.c v k) shows.poll.at in
+      quiet_place z.c (consumer_heard t e z.c ev k) (opens_none z shows (opening_in e.acts) refl) (waits_none z shows (wait_in z.c e.acts) refl) ∙ ap (λ (u : Consumer). u.place) heard
 
   -- who is shown a head, and read nothing, was shown it by its plan
   pub planned_at : (z : Showing) (k : Consumer) → t.consumer z.c ≡ Some k → showing_in e.acts ≡ Some z → reads (by_opening t z.c (opening_in e.acts) (waiting t e z.c (consumer_heard t e z.c ev k))).place ≡ false → IsPlanned t now z.c k z

@@ -82,3 +82,6 @@ pub mod Going
 pub mod FewGiveWay
 pub mod MemberStays
 pub mod HasBound
+pub mod Dues
+pub mod FirstDues
+pub mod FirstDueKeeps

@@ -13,6 +13,8 @@ use Rattle.hc_model.specs.Runs.{may_stand}
 use Rattle.hc_model.specs.Sound.{Sound}
 use Rattle.hc_model.specs.Tables.{after_accepted, begun, loaded}
 use Rattle.hc_model.proofs.ApartKeeps.{apart_kept}
+use Rattle.hc_model.proofs.FirstDueKeeps.{first_due_kept}
+use Rattle.hc_model.proofs.FirstDues.{idle_kept}
 use Rattle.hc_model.proofs.OwnersKeep.{openers_kept, there_kept, one_kept, first_kept, writers_kept}
 use Rattle.hc_model.proofs.PassedKeeps.{passed_kept}
 use Rattle.hc_model.proofs.WaitingKeeps.{waiting_kept}
@@ -27,6 +29,8 @@ owners_kept limits t now flaw s o ev goes stand = record {
   first_own = λ c r lo y hi u row at. first_kept limits t now flaw s o ev goes c r lo y hi u row at;
   passed = λ c r kept u row at. passed_kept limits t now flaw s o ev goes c r kept u row at;
   writers = λ r x u row is. writers_kept limits t now flaw s o ev goes r x u row is;
+  idle_due = λ c u row idle. idle_kept limits t now flaw s o ev goes c u row idle;
+  first_due = λ r c d v k u after kept is_first row none reader. first_due_kept limits t now flaw s o ev goes r c d v k u after kept is_first row none reader;
 }
 
 none_some : {A : Type 0} (a : A) → None ≡ Some a → ⊥
@@ -46,4 +50,6 @@ owners_begun contents = record {
   first_own = λ c r lo y hi k row at. absurd (none_some k row);
   passed = λ c r kept k row at. absurd (none_some k row);
   writers = λ r x v row writer. absurd (loaded_writer _ v x row writer);
+  idle_due = λ c k row idle. absurd (none_some k row);
+  first_due = λ r c d v k u row kept is_first also none reader. absurd (none_some k also);
 }

@@ -159,7 +159,7 @@ module _ (limits : Limits) (t : Tables) (now : ℕ) (flaw : Flaw) (s : Sound t) 
         not_heard (subst (IsHeard t) one opened.way.heard)
 
     -- of what it reads no writing is on
-    asks_about : (r lo : ℕ) (hi : Option ℕ) (how : BoundBy) → k.place ≡ place.Bound r lo hi how → IsAwaiting y w k.place → IsAbout t r y
+    pub asks_about : (r lo : ℕ) (hi : Option ℕ) (how : BoundBy) → k.place ≡ place.Bound r lo hi how → IsAwaiting y w k.place → IsAbout t r y
     asks_about r lo hi how at (owners.direct way stands) = absurd (let never : place.Direct y ≡ place.Bound r lo hi how = sym stands ∙ at in cc)
     asks_about r lo hi how at (owners.turn way stands) = absurd (let never : place.Turn y ≡ place.Bound r lo hi how = sym stands ∙ at in cc)
     asks_about r lo hi how at (owners.hole q a z d way aim stands) =
@@ -268,7 +268,7 @@ module _ (limits : Limits) (t : Tables) (now : ℕ) (flaw : Flaw) (s : Sound t) 
         let waits : is_number (awaited k.place) y ≡ true = sym (ap (λ z. awaits z y) (ap t.consumer is.for_it ∙ is.row)) ∙ and_right _ (awaits (t.consumer w.c) y) h in
         or_left _ _ (or_left _ _ (and_both _ _ key (waits_place k.place (number_is (awaited k.place) y waits))))
 
-    left_number : (d : ℕ) (q : Consumer) → t.consumer d ≡ Some q → own_open t q ≡ Some y → d ≡ c
+    pub left_number : (d : ℕ) (q : Consumer) → t.consumer d ≡ Some q → own_open t q ≡ Some y → d ≡ c
     left_number d q row own = o.one d c y q k row is.row (own_of q.own own) is.own
       where
         own_of : (z : Option ℕ) → option_and_then (if_open t) z ≡ Some y → z ≡ Some y

@@ -8,7 +8,8 @@ use Rattle.hc_model.specs.declared.place.Place.{Place}
 use Rattle.hc_model.specs.declared.place.Place.TheVariants as place
 use Rattle.hc_model.specs.declared.place.BoundBy.{BoundBy}
 use Rattle.hc_model.specs.declared.place.BoundBy.TheVariants as by
-use Rattle.hc_model.specs.Reading.{is_written}
+use Rattle.hc_model.specs.Reading.{is_written, reads}
+use Rattle.hc_model.specs.Sound.{IsBound, IsFirst}
 use Rattle.hc_model.specs.Rows.{Tables, Exchange, Representation, Consumer}
 
 -- where a consumer stands for whom this exchange waits for its head
@@ -54,3 +55,8 @@ pub record Owners (t : Tables) : Type 0 where
       k.place ≡ place.Passed r kept → is_bypassing k.request ≡ false
   pub writers : (r x : ℕ) (v : Representation) → t.representation r ≡ Some v →
       v.writer ≡ Some x → is_some (t.exchange x) ≡ true
+  pub idle_due : (c : ℕ) (k : Consumer) → t.consumer c ≡ Some k → reads k.place ≡ false →
+      k.due ≡ None
+  pub first_due : (r c d : ℕ) (v : Representation) (k u : Consumer) → t.representation r ≡ Some v →
+      v.is_lost ≡ false → IsFirst t r c → t.consumer c ≡ Some k → k.due ≡ None →
+      IsBound t r d u → u.due ≡ None

@@ -1,0 +1,218 @@
+-- As long as nothing is due for the one that became bound alone, nothing is due for whoever reads beside it.
+use Rattle.std.proofs.Common.{◌≡◌, ◌≢◌, ◌⊎◌, inl, inr, ℕ, List, [], Bool, true, false, cond, Option, Some, None, refl, ap, sym, ◌∙◌, subst, arith}
+use Rattle.std.specs.Prelude.{if◌then◌else◌, is_some, ◌&&◌, ◌||◌, not, nat_eq}
+use Rattle.std.specs.Option.{option_or, option_and_then}
+use Rattle.std.proofs.lemmas.Bool.Decides.{nat_tests}
+use Rattle.hc_event.specs.Filters.{Opening, opening_in}
+use Rattle.hc_event.specs.declared.event.Event.{Event}
+use Rattle.hc_event.specs.declared.event.Event.TheVariants as event
+use Rattle.hc_event.specs.declared.event.Response.{Response}
+use Rattle.hc_event.specs.declared.act.Cause.{Cause}
+use Rattle.hc_rules.specs.declared.room.Limits.{Limits}
+use Rattle.hc_rules.specs.Lengths.{is_same_number}
+use Rattle.hc_model.specs.declared.place.Place.{Place}
+use Rattle.hc_model.specs.declared.place.Place.TheVariants as place
+use Rattle.hc_model.specs.declared.place.BoundBy.{BoundBy}
+use Rattle.hc_model.specs.declared.place.BoundBy.TheVariants as by
+use Rattle.hc_model.specs.ActFilters.{loses_in, showing_in}
+use Rattle.hc_model.specs.Cases.{case_at}
+use Rattle.hc_model.specs.ConsumerRows.{consumer_heard, consumer_acted, consumer_made, consumer_after, due_after, back_in_line}
+use Rattle.hc_model.specs.Denials.{denial}
+use Rattle.hc_model.specs.Entries.{Entry}
+use Rattle.hc_model.specs.Exchanges.{exchange_in, is_for, is_open}
+use Rattle.hc_model.specs.Failures.{becomes_due, cause_of_stop, cause_of_loss, cause_by_loss, cause_of_head, cause_by_case, stop_cause}
+use Rattle.hc_model.specs.Flaws.{Flaw}
+use Rattle.hc_model.specs.Keys.{entry_of}
+use Rattle.hc_model.specs.Owners.{Owners}
+use Rattle.hc_model.specs.Reading.{is_written, bound, own_open, source, shared, writing_in, reads}
+use Rattle.hc_model.specs.Rows.{Tables, Exchange, Representation, Consumer}
+use Rattle.hc_model.specs.Sound.{Sound, IsBound, IsFirst, HasPen, IsAbout}
+use Rattle.hc_model.specs.Sound as sound
+use Rattle.hc_model.specs.StartingOver.{starts_over}
+use Rattle.hc_model.specs.Tables.{after_accepted}
+use Rattle.hc_model.specs.Writers.{came_alone, loses_writing, brings_body}
+use Rattle.hc_model.proofs.BoundFrom.{BoundFrom, IsRow, bound_from}
+use Rattle.hc_model.proofs.BoundFrom as from
+use Rattle.hc_model.proofs.BoundKeeps.{opens_none, planned_at}
+use Rattle.hc_model.proofs.Dues.{IsUndue, undue_parts, undue_of, stop_none, other_stop, loss_at, loss_free, due_none, due_before}
+use Rattle.hc_model.proofs.FirstKeeps.{is_new, came_kept, open_free}
+use Rattle.hc_model.proofs.Forward.{is_kept}
+use Rattle.hc_model.proofs.HoleLemmas.{bool_cases}
+use Rattle.hc_model.proofs.OwnersKeep.{is_opened}
+use Rattle.hc_model.proofs.PieceKeeps.{eq_cases, some_inj}
+use Rattle.hc_model.proofs.Pens.{same_row, bound_some, writer_some}
+use Rattle.hc_model.proofs.RepFrom.{RepFrom, rep_from}
+use Rattle.hc_model.proofs.RepFrom as rep
+use Rattle.hc_model.proofs.Said.{showing_by}
+use Rattle.hc_model.proofs.Stops.{source_is}
+use Rattle.hc_model.proofs.Waiters.{IsWaiter, waiter_of, asks_about, unwritten, own_open_is}
+
+false_true : false ≡ true → ⊥
+false_true h = cc
+
+none_some : {A : Type 0} (a : A) → None ≡ Some a → ⊥
+none_some a is = cc
+
+and_left : (a b : Bool) → (a && b) ≡ true → a ≡ true
+and_left true b h = refl
+and_left false b h = absurd (false_true h)
+
+and_right : (a b : Bool) → (a && b) ≡ true → b ≡ true
+and_right true b h = h
+and_right false b h = absurd (false_true h)
+
+or_false : (a b : Bool) → (a || b) ≡ false → (a ≡ false) × (b ≡ false)
+or_false false false h = (refl, refl)
+or_false false true h = absurd (let no : true ≡ false = h in cc)
+or_false true b h = absurd (let no : true ≡ false = h in cc)
+
+not_so : (b : Bool) → (b ≡ true → ⊥) → b ≡ false
+not_so true off = absurd (off refl)
+not_so false off = refl
+
+module _ (limits : Limits) (t : Tables) (now : ℕ) (flaw : Flaw) (s : Sound t) (o : Owners t) (ev : Event) (goes : denial t ev ≡ None) where
+  abbrev e : Entry
+  e = entry_of limits t now ev flaw
+
+  abbrev now_on : Tables
+  now_on = after_accepted t e
+
+  -- IDLE CONSUMERS
+
+  idle_by : (q u : Consumer) (cause : Option Cause) (over reading : Bool) → reads q.place ≡ reading → (cond over (back_in_line e.now q) (record q { due = if reading then cause else None })) ≡ u → reads u.place ≡ false → u.due ≡ None
+  idle_by q u cause true reading at is idle = sym (ap (λ (z : Consumer). z.due) is)
+  idle_by q u cause false true at is idle = absurd (false_true (sym idle ∙ (sym (ap (λ (z : Consumer). reads z.place) is) ∙ at)))
+  idle_by q u cause false false at is idle = sym (ap (λ (z : Consumer). z.due) is)
+
+  started : (c : ℕ) (v : Event) (u : Consumer) → consumer_made c e.now v ≡ Some u → u.due ≡ None
+  started c (event.Start d request) u is = elim (eq_cases d c) [
+    | inl here ↦ sym (ap (λ (z : Consumer). z.due) (some_inj _ u (rw here.0 at is)))
+    | inr off ↦ absurd (none_some u (rw off.0 at is))
+  ]
+  started c (event.Poll d want) u is = absurd (none_some u is)
+  started c (event.Head x response) u is = absurd (none_some u is)
+  started c (event.Piece x bytes) u is = absurd (none_some u is)
+  started c (event.End x) u is = absurd (none_some u is)
+  started c (event.Fault x) u is = absurd (none_some u is)
+  started c (event.Cancel d) u is = absurd (none_some u is)
+  started c (event.Doom key) u is = absurd (none_some u is)
+
+  idle_row : (c : ℕ) (z : Option Consumer) (u : Consumer) → consumer_after t e c z ≡ Some u → reads u.place ≡ false → u.due ≡ None
+  unfolding consumer_after
+  idle_row c None u is idle = started c ev u is
+  idle_row c (Some k) u is idle = let q = consumer_acted t e c (consumer_heard t e c ev k) in idle_by q u (option_or k.due (becomes_due t e c k)) (starts_over t e c k) (reads q.place) refl (some_inj _ u is) idle
+
+  pub idle_kept : (c : ℕ) (u : Consumer) → now_on.consumer c ≡ Some u → reads u.place ≡ false → u.due ≡ None
+  idle_kept c u row idle = idle_row c (t.consumer c) u row idle
+
+  -- AT A POLL NOTHING BECOMES DUE
+
+  pub poll_undue : (c d want : ℕ) (k : Consumer) → ev ≡ event.Poll d want → IsUndue t e c k
+  poll_undue c d want k here = record {
+    stop = stop_none t e k (ap (stop_cause t) here);
+    loss = loss_poll k.place;
+    head = ap (cause_of_head t e c) here;
+  }
+    where
+      off : (r : ℕ) (v : Representation) → loses_writing t e r v ≡ false
+      off r v = ap (λ z. brings_body z && loses_in r e.acts && is_written t v) here
+
+      by_row : (r : ℕ) (z : Option Representation) → cause_by_loss t e c r z ≡ None
+      by_row r None = refl
+      by_row r (Some v) = rw (off r v) refl
+
+      loss_poll : (p : Place) → cause_of_loss t e c p ≡ None
+      loss_poll place.Line = refl
+      loss_poll (place.Passed r kept) = refl
+      loss_poll (place.Turn x) = refl
+      loss_poll (place.Bound r lo hi how) = by_row r (t.representation r)
+      loss_poll (place.Direct x) = refl
+      loss_poll (place.Down cause) = refl
+      loss_poll place.Over = refl
+
+  -- A READER BESIDE THE FIRST ONE
+
+  -- what isn't lost after the entry wasn't before
+  pub unlost : (r : ℕ) (v u : Representation) → t.representation r ≡ Some v → now_on.representation r ≡ Some u → u.is_lost ≡ false → (v.is_lost ≡ false) × (loses_in r e.acts ≡ false)
+  unlost r v u row after kept = by_from (rep_from t e r (t.representation r) u refl after)
+    where
+      by_from : RepFrom t e r u → (v.is_lost ≡ false) × (loses_in r e.acts ≡ false)
+      by_from (rep.was q is) =
+          let all = or_false (loses_in r e.acts) q.is_lost (sym is.lost_is ∙ kept) in
+          (ap (λ (z : Representation). z.is_lost) (same_row (t.representation r) v q row is.row) ∙ all.1, all.0)
+      by_from (rep.founded response w none at exchange on is) = absurd (let never : None ≡ Some v = sym none ∙ row in cc)
+
+  row_of : (r c : ℕ) (k : Consumer) → IsBound t r c k → t.consumer c ≡ Some k
+  row_of r c k (sound.is_bound lo hi how row at) = row
+
+  own_of : (k : Consumer) (x : ℕ) (z : Option ℕ) → k.own ≡ z → own_open t k ≡ Some x → k.own ≡ Some x
+  own_of k x None is h = absurd (none_some x (rw is at h))
+  own_of k x (Some y) is h = by_open (is_open (t.exchange y)) refl
+    where
+      by_open : (b : Bool) → is_open (t.exchange y) ≡ b → k.own ≡ Some x
+      by_open true on = is ∙ (let h1 : Some y ≡ Some x = rw (is, on) at h in h1)
+      by_open false off = absurd (none_some x (rw (is, off) at h))
+
+  module _ (r c d : ℕ) (v : Representation) (k u : Consumer) (there : t.representation r ≡ Some v) (fresh : v.is_lost ≡ false) (kept : loses_in r e.acts ≡ false) (first : IsFirst t r c) (reader_c : IsBound t r c k) (none_c : k.due ≡ None) (undue_c : becomes_due t e c k ≡ None) (reader_d : IsBound t r d u) (apart : d ≡ c → ⊥) where
+    -- another reader has no open exchange of its own
+    no_own : (x : ℕ) → own_open t u ≡ Some x → ⊥
+    no_own x own = elim (s.writes.had r x v there (s.writes.own_about r d x u reader_d own)) [
+      | sound.shared on writer ↦ o.apart r x d v u there on writer (row_of r d u reader_d) (own_of u x u.own refl own)
+      | sound.own g z reader theirs none pen ↦ by_pen g z reader theirs pen
+    ]
+      where
+        by_pen : (g : ℕ) (z : Consumer) → IsBound t r g z → own_open t z ≡ Some x → HasPen t r v g → ⊥
+        by_pen g z reader theirs (sound.alone lost is) = false_true (sym fresh ∙ lost)
+        by_pen g z reader theirs (sound.first kept_too is) =
+            let same : g ≡ c = s.writes.one_first r g c is first in
+            apart (o.one d g x u z (row_of r d u reader_d) (row_of r g z reader) (own_of u x u.own refl own) (own_of z x z.own refl theirs) ∙ same)
+
+    no_waiter : (x : ℕ) (w : Exchange) → t.exchange x ≡ Some w → w.is_open ≡ true → w.head ≡ None → w.c ≡ d → ⊥
+    no_waiter x w row opened bare mine =
+        let got = waiter_of limits t now flaw s o ev goes x w row opened bare in
+        let one : got.0 ≡ u = same_row (t.consumer d) got.0 u (sym (ap t.consumer mine) ∙ got.1.row) (row_of r d u reader_d) in
+        no_own x (sym (ap (own_open t) one) ∙ own_open_is limits t now flaw s o ev goes w.c x got.0 w got.1)
+
+    head_by : (x : ℕ) (response : Response) (z : Option Exchange) → ev ≡ event.Head x response → t.exchange x ≡ z → (if is_for z d then cause_by_case (case_at t e) x else None) ≡ None
+    head_by x response None here row = refl
+    head_by x response (Some w) here row = elim (eq_cases w.c d) [
+      | inr off ↦ rw off.0 refl
+      | inl mine ↦ absurd (let new = is_new limits t now flaw s ev goes x response w here row in no_waiter x w row new.is_open new.bare mine.1)
+    ]
+
+    head_none : (z : Event) → ev ≡ z → cause_of_head t e d z ≡ None
+    head_none (event.Start b request) here = refl
+    head_none (event.Poll b want) here = refl
+    head_none (event.Head x response) here = head_by x response (t.exchange x) here refl
+    head_none (event.Piece x bytes) here = refl
+    head_none (event.End x) here = refl
+    head_none (event.Fault x) here = refl
+    head_none (event.Cancel b) here = refl
+    head_none (event.Doom key) here = refl
+
+    loses_none : loses_writing t e r v ≡ false
+    loses_none = not_so _ (λ h. false_true (sym kept ∙ and_right _ _ (and_left _ _ h)))
+
+    loss_none : IsBound t r d u → cause_of_loss t e d u.place ≡ None
+    loss_none (sound.is_bound lo hi how row at) = loss_at t e d r lo hi how u v at there loses_none
+
+    -- what stops for it stops for the first one
+    source_same : (z y : Option ℕ) → own_open t u ≡ z → is_written t v ≡ true → v.writer ≡ y → (source t u ≡ source t k)
+    source_same z None own on writer = absurd (writer_some t v on writer)
+    source_same z (Some x) own on writer = source_is t r d x v u s there reader_d on writer ∙ sym (source_is t r c x v k s there reader_c on writer)
+
+    shared_off : IsBound t r d u → is_written t v ≡ false → shared t u.place ≡ None
+    shared_off (sound.is_bound lo hi how row at) off = ap (shared t) at ∙ (ap (writing_in t) there ∙ rw off refl)
+
+    stop_by : (z : Option ℕ) (b : Bool) → own_open t u ≡ z → is_written t v ≡ b → cause_of_stop t e u ≡ None
+    stop_by (Some x) b own on = absurd (no_own x own)
+    stop_by None true own on =
+        let same = source_same None v.writer own on refl in
+        ap (λ (z : Option ℕ). if is_same_number z (exchange_in e.event) then stop_cause t e.event else None) same ∙ (undue_parts t e c k undue_c).stop
+    stop_by None false own off =
+        let none : source t u ≡ None = ap (λ z. option_or z (shared t u.place)) own ∙ shared_off reader_d off in
+        ap (λ (z : Option ℕ). if is_same_number z (exchange_in e.event) then stop_cause t e.event else None) none
+
+    pub beside : (u.due ≡ None) × (becomes_due t e d u ≡ None)
+    beside = (o.first_due r c d v k u there fresh first (row_of r c k reader_c) none_c reader_d,
+        undue_of t e d u (record { stop = stop_by (own_open t u) (is_written t v) refl refl; loss = loss_none reader_d; head = head_none ev refl }))

@@ -1,15 +1,13 @@
 -- As long as nothing is due for the one that became bound alone, nothing is due for whoever reads beside it: after each accepted event too.
-use Rattle.std.proofs.Common.{◌≡◌, ◌≢◌, ◌⊎◌, inl, inr, ℕ, List, [], Bool, true, false, Option, Some, None, refl, ap, sym, ◌∙◌, subst}
+use Rattle.std.proofs.Common.{◌≡◌, inl, inr, ℕ, true, false, Option, Some, None, refl, ap, sym, ◌∙◌, subst}
 use Rattle.std.specs.Prelude.{is_some}
 use Rattle.hc_event.specs.Filters.{Opening, opening_in}
 use Rattle.hc_event.specs.declared.event.Event.{Event}
 use Rattle.hc_event.specs.declared.event.Event.TheVariants as event
 use Rattle.hc_event.specs.declared.event.Response.{Response}
 use Rattle.hc_rules.specs.declared.room.Limits.{Limits}
-use Rattle.hc_model.specs.declared.place.Place.{Place}
 use Rattle.hc_model.specs.declared.place.Place.TheVariants as place
 use Rattle.hc_model.specs.declared.place.BoundBy.{BoundBy}
-use Rattle.hc_model.specs.declared.place.BoundBy.TheVariants as by
 use Rattle.hc_model.specs.ActFilters.{Showing, showing_in}
 use Rattle.hc_model.specs.ConsumerRows.{consumer_heard, consumer_acted, by_opening, waiting}
 use Rattle.hc_rules.specs.Needs.{route_of}
@@ -20,7 +18,7 @@ use Rattle.hc_model.specs.Entries.{Entry}
 use Rattle.hc_model.specs.Flaws.{Flaw}
 use Rattle.hc_model.specs.Keys.{entry_of}
 use Rattle.hc_model.specs.Owners.{Owners}
-use Rattle.hc_model.specs.Reading.{bound, bound_to, reads}
+use Rattle.hc_model.specs.Reading.{bound_to, reads}
 use Rattle.hc_model.specs.Rows.{Tables, Exchange, Representation, Consumer}
 use Rattle.hc_model.specs.Sound.{Sound, IsBound, IsFirst}
 use Rattle.hc_model.specs.Sound as sound
@@ -71,7 +69,7 @@ module _ (limits : Limits) (t : Tables) (now : ℕ) (flaw : Flaw) (s : Sound t) 
         let none = sym (ap t.representation of_r) ∙ (is_new limits t now flaw s ev goes x response w here row).unfounded in
         false_true (sym (ap (λ (z : Option Representation). is_some z) none) ∙ there)
 
-    head_opens : (x : ℕ) (response : Response) (p : Opening) → ev ≡ event.Head x response → opening_in e.acts ≡ Some p → ⊥
+    pub head_opens : (x : ℕ) (response : Response) (p : Opening) → ev ≡ event.Head x response → opening_in e.acts ≡ Some p → ⊥
     head_opens x response p here opens = let opened = is_opened limits t now flaw s o ev goes p opens in let no : event.Head x response ≡ event.Poll p.c opened.want = sym here ∙ opened.at in cc
 
     some_none : {A : Type 0} (a : A) → Some a ≡ None → ⊥

@@ -1,9 +1,7 @@
 -- As long as nothing is due for the one that became bound alone, nothing is due for whoever reads beside it.
-use Rattle.std.proofs.Common.{◌≡◌, ◌≢◌, ◌⊎◌, inl, inr, ℕ, List, [], Bool, true, false, cond, Option, Some, None, refl, ap, sym, ◌∙◌, subst, arith}
-use Rattle.std.specs.Prelude.{if◌then◌else◌, is_some, ◌&&◌, ◌||◌, not, nat_eq}
-use Rattle.std.specs.Option.{option_or, option_and_then}
-use Rattle.std.proofs.lemmas.Bool.Decides.{nat_tests}
-use Rattle.hc_event.specs.Filters.{Opening, opening_in}
+use Rattle.std.proofs.Common.{◌≡◌, inl, inr, ℕ, Bool, true, false, cond, Option, Some, None, refl, ap, sym, ◌∙◌}
+use Rattle.std.specs.Prelude.{if◌then◌else◌, ◌&&◌, ◌||◌}
+use Rattle.std.specs.Option.{option_or}
 use Rattle.hc_event.specs.declared.event.Event.{Event}
 use Rattle.hc_event.specs.declared.event.Event.TheVariants as event
 use Rattle.hc_event.specs.declared.event.Response.{Response}
@@ -12,11 +10,9 @@ use Rattle.hc_rules.specs.declared.room.Limits.{Limits}
 use Rattle.hc_rules.specs.Lengths.{is_same_number}
 use Rattle.hc_model.specs.declared.place.Place.{Place}
 use Rattle.hc_model.specs.declared.place.Place.TheVariants as place
-use Rattle.hc_model.specs.declared.place.BoundBy.{BoundBy}
-use Rattle.hc_model.specs.declared.place.BoundBy.TheVariants as by
-use Rattle.hc_model.specs.ActFilters.{loses_in, showing_in}
+use Rattle.hc_model.specs.ActFilters.{loses_in}
 use Rattle.hc_model.specs.Cases.{case_at}
-use Rattle.hc_model.specs.ConsumerRows.{consumer_heard, consumer_acted, consumer_made, consumer_after, due_after, back_in_line}
+use Rattle.hc_model.specs.ConsumerRows.{consumer_heard, consumer_acted, consumer_made, consumer_after, back_in_line}
 use Rattle.hc_model.specs.Denials.{denial}
 use Rattle.hc_model.specs.Entries.{Entry}
 use Rattle.hc_model.specs.Exchanges.{exchange_in, is_for, is_open}
@@ -24,28 +20,21 @@ use Rattle.hc_model.specs.Failures.{becomes_due, cause_of_stop, cause_of_loss, c
 use Rattle.hc_model.specs.Flaws.{Flaw}
 use Rattle.hc_model.specs.Keys.{entry_of}
 use Rattle.hc_model.specs.Owners.{Owners}
-use Rattle.hc_model.specs.Reading.{is_written, bound, own_open, source, shared, writing_in, reads}
+use Rattle.hc_model.specs.Reading.{is_written, own_open, source, shared, writing_in, reads}
 use Rattle.hc_model.specs.Rows.{Tables, Exchange, Representation, Consumer}
 use Rattle.hc_model.specs.Sound.{Sound, IsBound, IsFirst, HasPen, IsAbout}
 use Rattle.hc_model.specs.Sound as sound
 use Rattle.hc_model.specs.StartingOver.{starts_over}
 use Rattle.hc_model.specs.Tables.{after_accepted}
-use Rattle.hc_model.specs.Writers.{came_alone, loses_writing, brings_body}
-use Rattle.hc_model.proofs.BoundFrom.{BoundFrom, IsRow, bound_from}
-use Rattle.hc_model.proofs.BoundFrom as from
-use Rattle.hc_model.proofs.BoundKeeps.{opens_none, planned_at}
-use Rattle.hc_model.proofs.Dues.{IsUndue, undue_parts, undue_of, stop_none, other_stop, loss_at, loss_free, due_none, due_before}
-use Rattle.hc_model.proofs.FirstKeeps.{is_new, came_kept, open_free}
-use Rattle.hc_model.proofs.Forward.{is_kept}
-use Rattle.hc_model.proofs.HoleLemmas.{bool_cases}
-use Rattle.hc_model.proofs.OwnersKeep.{is_opened}
+use Rattle.hc_model.specs.Writers.{loses_writing, brings_body}
+use Rattle.hc_model.proofs.Dues.{IsUndue, undue_parts, undue_of, stop_none, loss_at}
+use Rattle.hc_model.proofs.FirstKeeps.{is_new}
 use Rattle.hc_model.proofs.PieceKeeps.{eq_cases, some_inj}
-use Rattle.hc_model.proofs.Pens.{same_row, bound_some, writer_some}
+use Rattle.hc_model.proofs.Pens.{same_row, writer_some}
 use Rattle.hc_model.proofs.RepFrom.{RepFrom, rep_from}
 use Rattle.hc_model.proofs.RepFrom as rep
-use Rattle.hc_model.proofs.Said.{showing_by}
 use Rattle.hc_model.proofs.Stops.{source_is}
-use Rattle.hc_model.proofs.Waiters.{IsWaiter, waiter_of, asks_about, unwritten, own_open_is}
+use Rattle.hc_model.proofs.Waiters.{waiter_of, own_open_is}
 
 false_true : false ≡ true → ⊥
 false_true h = cc
@@ -214,5 +203,7 @@ module _ (limits : Limits) (t : Tables) (now : ℕ) (flaw : Flaw) (s : Sound t) 
         ap (λ (z : Option ℕ). if is_same_number z (exchange_in e.event) then stop_cause t e.event else None) none
 
     pub beside : (u.due ≡ None) × (becomes_due t e d u ≡ None)
-    beside = (o.first_due r c d v k u there fresh first (row_of r c k reader_c) none_c reader_d,
-        undue_of t e d u (record { stop = stop_by (own_open t u) (is_written t v) refl refl; loss = loss_none reader_d; head = head_none ev refl }))
+    beside = (
+      o.first_due r c d v k u there fresh first (row_of r c k reader_c) none_c reader_d,
+      undue_of t e d u (record { stop = stop_by (own_open t u) (is_written t v) refl refl; loss = loss_none reader_d; head = head_none ev refl }),
+    )

@@ -311,7 +311,7 @@ module _ (limits : Limits) (t : Tables) (now : ℕ) (flaw : Flaw) (s : Sound t) 
   direct_hole : route.Direct ≡ route.Hole → ⊥
   direct_hole h = cc
 
-  joins_way : (t : Tables) (lost : Bool) (w : Exchange) (response : Response) (g : HeadCase) → CaseBy (head_view t lost w response) g → is_joining (Some g) ≡ true → route_of w.need ≡ route.Hole
+  pub joins_way : (t : Tables) (lost : Bool) (w : Exchange) (response : Response) (g : HeadCase) → CaseBy (head_view t lost w response) g → is_joining (Some g) ≡ true → route_of w.need ≡ route.Hole
   joins_way t lost w response _ (cases.first_joins way shown joins good) on = way
   joins_way t lost w response _ (cases.later_joins way shown joins good) on = way
   joins_way t lost w response _ (cases.direct_bad way h) on = absurd (false_true on)

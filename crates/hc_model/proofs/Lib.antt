@@ -85,3 +85,4 @@ pub mod HasBound
 pub mod Dues
 pub mod FirstDues
 pub mod FirstDueKeeps
+pub mod UndueKeeps

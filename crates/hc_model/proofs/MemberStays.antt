@@ -78,13 +78,13 @@ module _ (limits : Limits) (t : Tables) (now : ℕ) (flaw : Flaw) (s : Sound t) 
 
   module _ (c r lo : ℕ) (hi : Option ℕ) (how : BoundBy) (k : Consumer) (v : Representation) (row : t.consumer c ≡ Some k) (at : k.place ≡ place.Bound r lo hi how) (there : t.representation r ≡ Some v) (on : is_written t v ≡ true) where
     -- it waits for no head
-    no_waiter : (y : ℕ) (w : Exchange) → t.exchange y ≡ Some w → w.is_open ≡ true → w.head ≡ None → w.c ≡ c → ⊥
+    pub no_waiter : (y : ℕ) (w : Exchange) → t.exchange y ≡ Some w → w.is_open ≡ true → w.head ≡ None → w.c ≡ c → ⊥
     no_waiter y w exchange_row opened bare mine =
         let got = waiter_of limits t now flaw s o ev goes y w exchange_row opened bare in
         let one : got.0 ≡ k = same_row (t.consumer c) got.0 k (sym (ap t.consumer mine) ∙ got.1.row) row in
         unwritten limits t now flaw s o ev goes w.c y got.0 w got.1 r lo hi how v v.writer (ap (λ (z : Consumer). z.place) one ∙ at) there on refl
 
-    head_not : (x : ℕ) (response : Response) (w : Exchange) → ev ≡ event.Head x response → t.exchange x ≡ Some w → w.c ≡ c → ⊥
+    pub head_not : (x : ℕ) (response : Response) (w : Exchange) → ev ≡ event.Head x response → t.exchange x ≡ Some w → w.c ≡ c → ⊥
     head_not x response w here exchange_row mine = let new = is_new limits t now flaw s ev goes x response w here exchange_row in no_waiter x w exchange_row new.is_open new.bare mine
 
     heard_same : (u : Event) → ev ≡ u → (u ≡ event.Cancel c → ⊥) → consumer_heard t e c u k ≡ k

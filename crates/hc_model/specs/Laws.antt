@@ -460,3 +460,9 @@ abbrev pub AreRead : Tables → Type 0
 AreRead t =
     (r : ℕ) (v : Representation) → t.representation r ≡ Some v → is_written t v ≡ true →
     bound t r ≢ []
+
+-- and nothing is due for whoever reads it
+abbrev pub AreUndue : Tables → Type 0
+AreUndue t =
+    (r c : ℕ) (v : Representation) (k : Consumer) → t.representation r ≡ Some v →
+    IsBound t r c k → is_written t v ≡ true → k.due ≡ None

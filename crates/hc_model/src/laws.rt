@@ -2,7 +2,7 @@
 ghost use Rattle.hc_model.specs.Histories.{RunsAreFiltered};
 ghost use Rattle.hc_model.specs.Reads.{OneHeadIsShown};
 ghost use Rattle.hc_model.specs.Keys.{LawOfOneKey, KeysAreKept, KeysBegin};
-ghost use Rattle.hc_model.specs.Laws.{SoundDeliversOnce, DeliveriesAreKept, BodiesAreKept, NumbersAreKept, NamesAreKept, OneCurrentIsKept, StoresAreKept, StartsAreSound, WholeIsWhole, AfterEach, AreBound, KnowEnds, OwnedAfterEach, AreToBeShown, OwedAfterEach, OwnersAreKnown, TurnsAreOne, TurnsAreKept, TurnsBegin, TurnsInRuns, KeysInRuns, BarrierIsKept, BarrierBegins, DoomsInRuns, TruncatedIsFront, CountsAreKept, TurnsGo, ReadersGo, CountsBegin, FewGiveWay, AreRead};
+ghost use Rattle.hc_model.specs.Laws.{SoundDeliversOnce, DeliveriesAreKept, BodiesAreKept, NumbersAreKept, NamesAreKept, OneCurrentIsKept, StoresAreKept, StartsAreSound, WholeIsWhole, AfterEach, AreBound, KnowEnds, OwnedAfterEach, AreToBeShown, OwedAfterEach, OwnersAreKnown, TurnsAreOne, TurnsAreKept, TurnsBegin, TurnsInRuns, KeysInRuns, BarrierIsKept, BarrierBegins, DoomsInRuns, TruncatedIsFront, CountsAreKept, TurnsGo, ReadersGo, CountsBegin, FewGiveWay, AreRead, AreUndue};
 ghost use Rattle.hc_model.specs.Owners.{Owners};
 ghost use Rattle.hc_model.specs.Sound.{OneFirst};
 
@@ -69,13 +69,15 @@ pub fn other_keys_stay()
 /// Whoever is bound to a representation is bound to one that is there; one at most became bound to it as
 /// the only one, and that one knows its end; and whoever is bound and was shown no head founded, or its
 /// first hole joined or is awaited: after each accepted event, whatever the store loses. What is being
-/// written for several has a reader, after each accepted event that a store may stand behind.
+/// written for several has a reader, and nothing is due for whoever reads it, after each accepted event
+/// that a store may stand behind.
 pub fn readers_are_bound()
     ensures there { AfterEach AreBound }
     ensures one { AfterEach OneFirst }
     ensures ends { AfterEach KnowEnds }
     ensures shown { OwnedAfterEach AreToBeShown }
     ensures read { OwedAfterEach AreRead }
+    ensures undue { OwedAfterEach AreUndue }
 {}
 
 /// Whose each exchange is, and where its consumer waits for its head, is told at the beginning and

@@ -2,6 +2,7 @@
 use Rattle.hc_model.proofs.BoundKeeps.{binds_kept}
 use Rattle.hc_model.proofs.FirstKeeps.{ends_kept, one_first_kept}
 use Rattle.hc_model.proofs.HasBound.{has_bound_kept}
+use Rattle.hc_model.proofs.UndueKeeps.{undue_kept}
 use Rattle.hc_model.proofs.ToBeShown.{unshown_kept}
 use Rattle.hc_model.proofs.laws.readers_are_bound.Goals as goal
 
@@ -19,3 +20,6 @@ returns-clause-shown c = λ limits t now flaw s o event goes. unshown_kept limit
 
 pub returns-clause-read : goal.returns-clause-read
 returns-clause-read c = λ limits t now flaw s o event goes stand. has_bound_kept limits t now flaw s o event goes stand
+
+pub returns-clause-undue : goal.returns-clause-undue
+returns-clause-undue c = λ limits t now flaw s o event goes stand. undue_kept limits t now flaw s o event goes stand

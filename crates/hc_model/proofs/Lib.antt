@@ -86,3 +86,4 @@ pub mod Dues
 pub mod FirstDues
 pub mod FirstDueKeeps
 pub mod UndueKeeps
+pub mod Starts

@@ -466,3 +466,8 @@ abbrev pub AreUndue : Tables → Type 0
 AreUndue t =
     (r c : ℕ) (v : Representation) (k : Consumer) → t.representation r ≡ Some v →
     IsBound t r c k → is_written t v ≡ true → k.due ≡ None
+
+-- Contents by which a store may begin are such.
+abbrev pub BeginningsAreStarts : Type 0
+BeginningsAreStarts =
+    (limits : Limits) (contents : Contents) → may_begin limits contents ≡ true → IsStart contents

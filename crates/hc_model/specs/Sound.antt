@@ -14,6 +14,7 @@ use Rattle.hc_model.specs.Reading.{is_written, bound, offset, hi_of, own_open}
 use Rattle.hc_model.specs.Writers.{came_alone}
 use Rattle.hc_model.specs.Tables.{tables}
 use Rattle.hc_model.specs.Polls.{has_joined}
+use Rattle.hc_model.specs.Beginnings.{may_begin}
 use Rattle.hc_model.specs.Runs.{IsRun}
 
 -- NUMBERS
@@ -201,5 +202,5 @@ pub record Sound (t : Tables) : Type 0 where
 
 abbrev pub RunsAreSound : Type 0
 RunsAreSound =
-    (limits : Limits) (contents : Contents) (h : History) → IsRun limits contents h →
-    Sound (tables contents h)
+    (limits : Limits) (contents : Contents) (h : History) → may_begin limits contents ≡ true →
+    IsRun limits contents h → Sound (tables contents h)

@@ -87,3 +87,4 @@ pub mod FirstDues
 pub mod FirstDueKeeps
 pub mod UndueKeeps
 pub mod Starts
+pub mod Founders

@@ -97,7 +97,7 @@ is_joined : (f : Bool) (j : Bool) (v : Bool) (x aim : Option ℕ) → f ≡ fals
 is_joined f j true x aim off on = rw off refl
 is_joined f j false x aim off on = rw (off, on) refl
 
-not_founding : (c : HeadCase) → is_joining (Some c) ≡ true → is_founding (Some c) ≡ false
+pub not_founding : (c : HeadCase) → is_joining (Some c) ≡ true → is_founding (Some c) ≡ false
 not_founding case.FirstJoins on = refl
 not_founding case.LaterJoins on = refl
 not_founding case.DirectBad on = refl

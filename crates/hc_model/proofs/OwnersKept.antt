@@ -15,6 +15,7 @@ use Rattle.hc_model.specs.Tables.{after_accepted, begun, loaded}
 use Rattle.hc_model.proofs.ApartKeeps.{apart_kept}
 use Rattle.hc_model.proofs.FirstDueKeeps.{first_due_kept}
 use Rattle.hc_model.proofs.FirstDues.{idle_kept}
+use Rattle.hc_model.proofs.Founders.{founders_kept}
 use Rattle.hc_model.proofs.OwnersKeep.{openers_kept, there_kept, one_kept, first_kept, writers_kept}
 use Rattle.hc_model.proofs.PassedKeeps.{passed_kept}
 use Rattle.hc_model.proofs.WaitingKeeps.{waiting_kept}
@@ -29,6 +30,7 @@ owners_kept limits t now flaw s o ev goes stand = record {
   first_own = λ c r lo y hi u row at. first_kept limits t now flaw s o ev goes c r lo y hi u row at;
   passed = λ c r kept u row at. passed_kept limits t now flaw s o ev goes c r kept u row at;
   writers = λ r x u row is. writers_kept limits t now flaw s o ev goes r x u row is;
+  founders = λ r u v row also. founders_kept limits t now flaw s o ev goes r u v row also;
   idle_due = λ c u row idle. idle_kept limits t now flaw s o ev goes c u row idle;
   first_due = λ r c d v k u after kept is_first row none reader. first_due_kept limits t now flaw s o ev goes r c d v k u after kept is_first row none reader;
 }
@@ -50,6 +52,7 @@ owners_begun contents = record {
   first_own = λ c r lo y hi k row at. absurd (none_some k row);
   passed = λ c r kept k row at. absurd (none_some k row);
   writers = λ r x v row writer. absurd (loaded_writer _ v x row writer);
+  founders = λ r w v row also. absurd (none_some w row);
   idle_due = λ c k row idle. absurd (none_some k row);
   first_due = λ r c d v k u row kept is_first also none reader. absurd (none_some k also);
 }

@@ -60,3 +60,5 @@ pub record Owners (t : Tables) : Type 0 where
   pub first_due : (r c d : ℕ) (v : Representation) (k u : Consumer) → t.representation r ≡ Some v →
       v.is_lost ≡ false → IsFirst t r c → t.consumer c ≡ Some k → k.due ≡ None →
       IsBound t r d u → u.due ≡ None
+  pub founders : (r : ℕ) (w : Exchange) (v : Representation) → t.exchange r ≡ Some w →
+      t.representation r ≡ Some v → w.joined ≡ None

@@ -88,3 +88,5 @@ pub mod FirstDueKeeps
 pub mod UndueKeeps
 pub mod Starts
 pub mod Founders
+pub mod DeniedKeeps
+pub mod SoundRuns

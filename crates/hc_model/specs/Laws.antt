@@ -30,7 +30,7 @@ use Rattle.hc_model.specs.Reading.{is_written, bound}
 use Rattle.hc_model.specs.Writers.{came_alone}
 use Rattle.hc_model.specs.Dooms.{doomed, is_key}
 use Rattle.hc_model.specs.Lines.{turn}
-use Rattle.hc_model.specs.Tables.{tables, begun, after_accepted}
+use Rattle.hc_model.specs.Tables.{tables, begun, after_accepted, after_denied}
 use Rattle.hc_model.specs.Denials.{denial}
 use Rattle.hc_model.specs.Moves.{Move}
 use Rattle.hc_model.specs.Moves as move
@@ -471,3 +471,9 @@ AreUndue t =
 abbrev pub BeginningsAreStarts : Type 0
 BeginningsAreStarts =
     (limits : Limits) (contents : Contents) → may_begin limits contents ≡ true → IsStart contents
+
+-- DENIED ENTRIES
+
+-- a denied entry changes nothing that is said of soundness
+abbrev pub AfterDenials : (Tables → Type 0) → Type 0
+AfterDenials P = (t : Tables) (e : Entry) → P t → P (after_denied t e)

@@ -2,9 +2,9 @@
 ghost use Rattle.hc_model.specs.Histories.{RunsAreFiltered};
 ghost use Rattle.hc_model.specs.Reads.{OneHeadIsShown};
 ghost use Rattle.hc_model.specs.Keys.{LawOfOneKey, KeysAreKept, KeysBegin};
-ghost use Rattle.hc_model.specs.Laws.{SoundDeliversOnce, DeliveriesAreKept, BodiesAreKept, NumbersAreKept, NamesAreKept, OneCurrentIsKept, StoresAreKept, StartsAreSound, WholeIsWhole, AfterEach, AreBound, KnowEnds, OwnedAfterEach, AreToBeShown, OwedAfterEach, OwnersAreKnown, TurnsAreOne, TurnsAreKept, TurnsBegin, TurnsInRuns, KeysInRuns, BarrierIsKept, BarrierBegins, DoomsInRuns, TruncatedIsFront, CountsAreKept, TurnsGo, ReadersGo, CountsBegin, FewGiveWay, AreRead, AreUndue, BeginningsAreStarts};
+ghost use Rattle.hc_model.specs.Laws.{SoundDeliversOnce, DeliveriesAreKept, BodiesAreKept, NumbersAreKept, NamesAreKept, OneCurrentIsKept, StoresAreKept, StartsAreSound, WholeIsWhole, AfterEach, AreBound, KnowEnds, OwnedAfterEach, AreToBeShown, OwedAfterEach, OwnersAreKnown, TurnsAreOne, TurnsAreKept, TurnsBegin, TurnsInRuns, KeysInRuns, BarrierIsKept, BarrierBegins, DoomsInRuns, TruncatedIsFront, CountsAreKept, TurnsGo, ReadersGo, CountsBegin, FewGiveWay, AreRead, AreUndue, BeginningsAreStarts, AfterDenials};
 ghost use Rattle.hc_model.specs.Owners.{Owners};
-ghost use Rattle.hc_model.specs.Sound.{OneFirst};
+ghost use Rattle.hc_model.specs.Sound.{OneFirst, Sound};
 
 /// Delivered once: where a piece is accepted, none of its positions has come; what shows this holds
 /// again after each accepted event, whatever the store loses; and what has come of a body stays.
@@ -132,4 +132,10 @@ pub fn some_go_on()
 /// most twice what a slot weighs.
 pub fn few_give_way()
     ensures { FewGiveWay }
+{}
+
+/// A denied entry leaves sound tables sound, and owners known.
+pub fn denials_keep_soundness()
+    ensures sound { AfterDenials Sound }
+    ensures owned { AfterDenials Owners }
 {}

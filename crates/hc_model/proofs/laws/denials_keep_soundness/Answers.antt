@@ -1,0 +1,9 @@
+-- A denied entry changes nothing that soundness speaks of.
+use Rattle.hc_model.proofs.DeniedKeeps.{denied_sound, denied_owners}
+use Rattle.hc_model.proofs.laws.denials_keep_soundness.Goals as goal
+
+pub returns-clause-sound : goal.returns-clause-sound
+returns-clause-sound c = denied_sound
+
+pub returns-clause-owned : goal.returns-clause-owned
+returns-clause-owned c = denied_owners

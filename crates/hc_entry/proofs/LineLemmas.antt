@@ -52,7 +52,7 @@ module _ (a p w : List ℕ) (h : Option ℕ) (inside : IsInPlace a p w h) (c : �
           | inl on ↦ rw (ea, ep, ew, left-same c d a on, left-same c d p on, left-same c d w on) (omega arith)
           | inr off ↦ rw (ea, ep, ew, left-other c d a off, left-other c d p off, left-other c d w off) (inside.apart d)
         ];
-        holder = rw (ea, eh) (stands-left c h a inside.holder)
+        holder = rw (ea, eh) (stands-left c h a inside.holder);
       }
 
   -- one who stands nowhere comes to the passed ones
@@ -67,7 +67,7 @@ module _ (a p w : List ℕ) (h : Option ℕ) (inside : IsInPlace a p w h) (c : �
               rw (is, with-same c d p on, ap (λ k. is_among k a) (sym e) ∙ off_a, ap (λ k. is_among k w) (sym e) ∙ off_w) (omega arith)
           | inr off ↦ rw (is, with-other c d p off) (inside.apart d)
         ];
-        holder = inside.holder
+        holder = inside.holder;
       }
 
   pub in_place-away : (w' : List ℕ) → is_among c a ≡ false → is_among c p ≡ false → is_among c w ≡ false → w' ≡ with_item itself c w → IsInPlace a p w' h
@@ -81,7 +81,7 @@ module _ (a p w : List ℕ) (h : Option ℕ) (inside : IsInPlace a p w h) (c : �
               rw (is, with-same c d w on, ap (λ k. is_among k a) (sym e) ∙ off_a, ap (λ k. is_among k p) (sym e) ∙ off_p) (omega arith)
           | inr off ↦ rw (is, with-other c d w off) (inside.apart d)
         ];
-        holder = inside.holder
+        holder = inside.holder;
       }
 
   pub in_place-in_line : (a' : List ℕ) → is_among c a ≡ false → is_among c p ≡ false → is_among c w ≡ false → a' ≡ with_item itself c a → IsInPlace a' p w h
@@ -95,7 +95,7 @@ module _ (a p w : List ℕ) (h : Option ℕ) (inside : IsInPlace a p w h) (c : �
               rw (is, with-same c d a on, ap (λ k. is_among k p) (sym e) ∙ off_p, ap (λ k. is_among k w) (sym e) ∙ off_w) (omega arith)
           | inr off ↦ rw (is, with-other c d a off) (inside.apart d)
         ];
-        holder = rw is (stands-with c h a inside.holder)
+        holder = rw is (stands-with c h a inside.holder);
       }
 
   -- who has the turn stands in line
@@ -106,14 +106,15 @@ module _ (a p w : List ℕ) (h : Option ℕ) (inside : IsInPlace a p w h) (c : �
         passed_rise = inside.passed_rise;
         away_rise = inside.away_rise;
         apart = inside.apart;
-        holder = held h inside.holder turn
+        holder = held h inside.holder turn;
       } where
-    first-stands : (cs : List ℕ) → first_of cs ≡ Some c → is_among c cs ≡ true
-    first-stands [] is = absurd (cc)
-    first-stands (d ∷ cs) is = let e : d ≡ c = cc in rw (eq-eqb d c e) refl
-    held : (o : Option ℕ) → stands o a ≡ true → holder_or o (least a) ≡ Some c → is_among c a ≡ true
-    held None in_line is = first-stands a (sym (least-rising a inside.line_rises) ∙ is)
-    held (Some d) in_line is = let e : d ≡ c = cc in ap (λ k. is_among k a) (sym e) ∙ in_line
+        first-stands : (cs : List ℕ) → first_of cs ≡ Some c → is_among c cs ≡ true
+        first-stands [] is = absurd (cc)
+        first-stands (d ∷ cs) is = let e : d ≡ c = cc in rw (eq-eqb d c e) refl
+
+        held : (o : Option ℕ) → stands o a ≡ true → holder_or o (least a) ≡ Some c → is_among c a ≡ true
+        held None in_line is = first-stands a (sym (least-rising a inside.line_rises) ∙ is)
+        held (Some d) in_line is = let e : d ≡ c = cc in ap (λ k. is_among k a) (sym e) ∙ in_line
 
 -- one who stands in the line stands in one list of it
 pub counts : (c : ℕ) (a p w : List ℕ) → is_among c a || is_among c p || is_among c w ≡ true → 1 ≤ one (is_among c a) + one (is_among c p) + one (is_among c w)

@@ -7,3 +7,6 @@ mod line;
 pub use active::ActiveEntry;
 pub use hc_rules::{Admission, Plan};
 pub use line::{KeyLine, Place};
+
+#[cfg(test)]
+mod tests;

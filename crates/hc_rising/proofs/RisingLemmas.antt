@@ -33,7 +33,6 @@ any_none p x xs h = elim (cases_Bool (p x)) [
 ]
 
 module _ {X : Type 0} (number : X → ℕ) where
-
   -- what is above a number is above every lower one
   pub above-lower : (m n : ℕ) (xs : List X) → m ≤ n → above number n xs ≡ true → above number m xs ≡ true
   above-lower m n [] le up = refl
@@ -96,8 +95,8 @@ module _ {X : Type 0} (number : X → ℕ) where
       → IsPartitionPoint (λ x. ltb (number x) n ≡ true) (λ x. ltb (number x) n ≡ false) xs i → i ≡ place number n xs
   point_is n xs i d within split =
       sym (position_or_len_is (λ x. leb n (number x)) xs i d within
-        (λ k lt. let h = ltb-true (number (get_or xs k d)) n (split.0 k d (omega arith) lt) in lt-leb n (number (get_or xs k d)) h)
-        (λ lt. let h = split.1 i d (omega arith) lt in let low = ltb-false (number (get_or xs i d)) n h in le-leb n (number (get_or xs i d)) low))
+      (λ k lt. let h = ltb-true (number (get_or xs k d)) n (split.0 k d (omega arith) lt) in lt-leb n (number (get_or xs k d)) h)
+      (λ lt. let h = split.1 i d (omega arith) lt in let low = ltb-false (number (get_or xs i d)) n h in le-leb n (number (get_or xs i d)) low))
 
   -- where a halving ends is the place
   pub place_is : (n : ℕ) (xs : List X) (i : ℕ) → i ≤ length xs
@@ -127,9 +126,9 @@ module _ {X : Type 0} (number : X → ℕ) where
   found-place n [] d up lt = absurd (omega arith)
   found-place n (x ∷ xs) d up lt = elim (cases_Bool (leb n (number x))) [
     | inl reached ↦ rw reached (elim (cases_Bool (eqb (number x) n)) [
-        | inl same ↦ rw same refl
-        | inr other ↦ rw other (found-above (number x) n xs (leb-true n (number x) reached) up)
-      ])
+      | inl same ↦ rw same refl
+      | inr other ↦ rw other (found-above (number x) n xs (leb-true n (number x) reached) up)
+    ])
     | inr low ↦
         let less = leb-false n (number x) low in
         let off : eqb (number x) n ≡ false = ne_eqb (number x) n (λ e. omega arith) in

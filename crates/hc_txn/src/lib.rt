@@ -10,3 +10,6 @@ pub use hc_rules::Plan;
 pub use planning::{Current, View, decide};
 pub use reading::ReadView;
 pub use transaction::{State, Transaction};
+
+#[cfg(test)]
+mod tests;

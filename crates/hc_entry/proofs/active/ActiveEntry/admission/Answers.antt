@@ -8,4 +8,4 @@ pub returns : goal.returns
 returns c =
     c.admission_by.ensures ∙ rw (c.first_of.ensures, c.as_slice.ensures.value)
     (admission-map c.self.inside.kind c.self.inside.consumers.items c.args.ranged c.args.holes c.self.invariant.rising
-      ∙ ap (λ (u : Users). admission_of u.bound c.args.ranged c.args.holes) c.self.view_is)
+    ∙ ap (λ (u : Users). admission_of u.bound c.args.ranged c.args.holes) c.self.view_is)

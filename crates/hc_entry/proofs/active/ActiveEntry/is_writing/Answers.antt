@@ -10,4 +10,4 @@ pub returns-else-is_shared : goal.returns-else-is_shared
 returns-else-is_shared c =
     c.if-is_shared.false
     ∙ ap is_some (sym (least_of-other c.self.inside.kind kind.Shared c.self.inside.consumers.items (sym c.is_shared.ensures ∙ c.if-is_shared.false))
-      ∙ ap (λ (u : Users). least_of kind.Shared u.bound) c.self.view_is)
+    ∙ ap (λ (u : Users). least_of kind.Shared u.bound) c.self.view_is)

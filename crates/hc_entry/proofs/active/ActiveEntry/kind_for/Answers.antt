@@ -12,7 +12,7 @@ by c = c.kind_by.ensures ∙ ap kind_by (c.admission_by.ensures ∙ ap (λ o. ad
 pub returns-clause-kind : goal.returns-clause-kind
 returns-clause-kind c =
     by c ∙ ap kind_by (admission-map c.self.inside.kind c.self.inside.consumers.items c.args.ranged c.args.holes c.self.invariant.rising
-      ∙ ap (λ (u : Users). admission_of u.bound c.args.ranged c.args.holes) c.self.view_is)
+    ∙ ap (λ (u : Users). admission_of u.bound c.args.ranged c.args.holes) c.self.view_is)
 
 pub returns-clause-same : goal.returns-clause-same
 returns-clause-same c =

@@ -14,5 +14,5 @@ returns c =
     let len = c.take_out.ensures.len in
     let room = c.take_out.ensures.capacity in
     made i.r i.gone _ _ (vec_capacity c.take_out.new.items - vec_len c.take_out.new.items) (vec_capacity i.consumers - vec_len i.consumers + 1)
-      (rw c.take_out.ensures.items (without-map i.kind c.args.c i.consumers.items)) (omega arith)
+    (rw c.take_out.ensures.items (without-map i.kind c.args.c i.consumers.items)) (omega arith)
     ∙ ap (left_by c.args.c) c.self.view_is

@@ -12,7 +12,7 @@ pub returns : goal.returns
 returns c =
     let i = c.self.inside in
     let (writes, there) = and_parts (is_same_kind i.kind kind.Exclusive) (has itself c.args.c i.consumers.items)
-      (sym (bound_as-map i.kind kind.Exclusive c.args.c i.consumers.items) ∙ (ap (is_bound_as kind.Exclusive c.args.c) c.self.view_is ∙ c.requires)) in
+    (sym (bound_as-map i.kind kind.Exclusive c.args.c i.consumers.items) ∙ (ap (is_bound_as kind.Exclusive c.args.c) c.self.view_is ∙ c.requires)) in
     let alone = c.self.invariant.alone writes in
     let ok = i.consumers.ok in
     let few : length i.consumers.items ≤ 1 = omega arith in

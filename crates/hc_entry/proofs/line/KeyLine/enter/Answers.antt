@@ -19,8 +19,9 @@ invariant_of-self-2 c =
     let put_room = c.put_reserved.ensures.capacity in
     let n = c.len-line.ensures in
     let m = c.len-passed.ensures in
-    let k = c.len-away.ensures in
-    (rw (c.in_ok-reserve-2.ensures.items, c.in_ok-reserve-3.ensures.items)
-       (in_place-in_line i.in_line.items i.passed.items i.away.items i.holder c.self.invariant.0 c.args.c c.put_reserved.new.items.items off_line off_passed off_away
-         (c.put_reserved.ensures.items ∙ ap (with_item itself c.args.c) c.in_ok-reserve.ensures.items)),
-     record { line = omega arith; passed = omega arith; away = omega arith })
+    let k = c.len-away.ensures in (
+      rw (c.in_ok-reserve-2.ensures.items, c.in_ok-reserve-3.ensures.items)
+          (in_place-in_line i.in_line.items i.passed.items i.away.items i.holder c.self.invariant.0 c.args.c c.put_reserved.new.items.items off_line off_passed off_away
+          (c.put_reserved.ensures.items ∙ ap (with_item itself c.args.c) c.in_ok-reserve.ensures.items)),
+      record { line = omega arith; passed = omega arith; away = omega arith },
+    )

@@ -8,7 +8,7 @@ invariant_of-self c =
     let i = c.self.inside in
     let v = c.vacate.new in
     let left = in_place-left i.in_line.items i.passed.items i.away.items i.holder c.self.invariant.0 c.args.c v.line.items v.passed.items v.away.items
-      c.released-self-inside.result c.vacate.ensures.line c.vacate.ensures.passed c.vacate.ensures.away c.released-self-inside.ensures in
+    c.released-self-inside.result c.vacate.ensures.line c.vacate.ensures.passed c.vacate.ensures.away c.released-self-inside.ensures in
     let room = c.self.invariant.1 in
     let total = c.vacate.ensures.len in
     let line_fits = room.line in

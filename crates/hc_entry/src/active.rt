@@ -89,8 +89,8 @@ impl ActiveEntry {
         self.consumers.capacity() - self.consumers.len()
     }
 
-    /// How one more consumer may be bound, where it wants a range or not, and where what it wants has
-    /// holes or not.
+    /// How one more consumer may be bound, where it wants a range or not, and where what it wants
+    /// has holes or not.
     pub fn admission(&self, _c: u64, ranged: bool, holes: bool) -> Admission
         ensures { result ≡ admission_of self.now.bound ranged holes }
     {

@@ -16,8 +16,8 @@ pub struct Place {
     pub key: usize,
 }
 
-/// The consumers of a key that wait: in line for the turn, passed, or away. Each list has room for all
-/// of them, so that one that goes from list to list takes no memory.
+/// The consumers of a key that wait: in line for the turn, passed, or away. Each list has room for
+/// all of them, so that one that goes from list to list takes no memory.
 #[derive(Drop)]
 pub struct KeyLine {
     in_line: Vec<u64>,

@@ -96,8 +96,8 @@ enum Step {
     Doom,
 }
 
-/// A step, and after it: who is bound with the least number, whether the shared writing is on, and who
-/// writes alone.
+/// A step, and after it: who is bound with the least number, whether the shared writing is on, and
+/// who writes alone.
 #[derive(Clone, Copy)]
 struct Row(Step, Option<u64>, bool, Option<u64>);
 

@@ -116,8 +116,8 @@ impl Exchanges {
         })
     }
 
-    /// Those that are wanted, by number: the open ones that have no head, or of which a piece was asked
-    /// for.
+    /// Those that are wanted, by number: the open ones that have no head, or of which a piece was
+    /// asked for.
     pub fn wanted(&self) -> &[u64]
         ensures rising { rises itself result.now ≡ true }
         ensures wanted { (x : ℕ) → is_among x result.now
@@ -152,8 +152,8 @@ impl Exchanges {
         settle(&mut self.rows, &mut self.wishes, x);
     }
 
-    /// Its head came. False exactly where the length that it declares is bad, and then nothing changes.
-    /// It needs no memory.
+    /// Its head came. False exactly where the length that it declares is bad, and then nothing
+    /// changes. It needs no memory.
     pub fn head(&mut self, x: u64, response: &Response, _now: u64) -> Result<bool, NoMemory>
         requires { head_refusal (option_map seen (table_of self.old x).running) ≡ None }
         ensures answer { result
@@ -236,8 +236,8 @@ fn named(event: &Event) -> u64
     }
 }
 
-/// The exchange, which changed, goes to the list in which it belongs, and is forgotten where it is over
-/// and read.
+/// The exchange, which changed, goes to the list in which it belongs, and is forgotten where it is
+/// over and read.
 fn settle(rows: &mut HashMap<u64, Row>, wishes: &mut Wishes, x: u64)
     requires { AgreesBut x wishes.old (rows_of rows.old) }
     ensures agree { Agrees wishes.new (rows_of rows.new) }

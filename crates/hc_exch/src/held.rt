@@ -9,8 +9,8 @@ use std::alloc::Global;
 use std::collections::VecDeque;
 use std::marker::Model;
 
-/// Bytes in the order in which they came, as the pieces that brought them. Seen as the list of those
-/// that are left.
+/// Bytes in the order in which they came, as the pieces that brought them. Seen as the list of
+/// those that are left.
 #[derive(Drop)]
 pub(crate) struct Held {
     pieces: VecDeque<Bytes>,
@@ -64,8 +64,8 @@ impl Held {
         Ok(())
     }
 
-    /// The first bytes, at most `want`, which are gone then. The piece that brought them is moved where
-    /// it has just these.
+    /// The first bytes, at most `want`, which are gone then. The piece that brought them is moved
+    /// where it has just these.
     pub(crate) fn take(&mut self, want: usize) -> Result<Bytes, NoMemory>
         ensures bytes { IfOk result (λ bytes. bytes ≡ take want self.old) }
         ensures ok { OnOk result (self.new ≡ drop want self.old) }
@@ -89,8 +89,8 @@ fn first_len(pieces: &VecDeque<Bytes>) -> usize
     }
 }
 
-/// So many bytes behind those of the first piece that are read; and how many of the piece that is then
-/// the first are read. A piece of just these bytes is moved, and else they are copied.
+/// So many bytes behind those of the first piece that are read; and how many of the piece that is
+/// then the first are read. A piece of just these bytes is moved, and else they are copied.
 fn take_front(
     pieces: &mut VecDeque<Bytes>,
     read: usize,
@@ -114,8 +114,8 @@ fn take_front(
     Ok((Bytes { bytes }, read))
 }
 
-/// What is left of the first piece, or so many bytes of it, goes to the end of what is taken. How many
-/// bytes are read then of the piece that is the first.
+/// What is left of the first piece, or so many bytes of it, goes to the end of what is taken. How
+/// many bytes are read then of the piece that is the first.
 fn take_part(pieces: &mut VecDeque<Bytes>, read: usize, most: usize, taken: &mut Vec<u8>) -> usize
     requires front { read ≤ first_length pieces.old.items }
     requires some { 0 < deque_len pieces.old }

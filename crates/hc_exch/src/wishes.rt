@@ -8,8 +8,8 @@ use hc_text::NoMemory;
 use std::alloc::Global;
 use std::marker::Model;
 
-/// The wanted exchanges, and those that wait for an ask, each by number. Each list has room for all of
-/// them, so that one that goes from list to list takes no memory.
+/// The wanted exchanges, and those that wait for an ask, each by number. Each list has room for all
+/// of them, so that one that goes from list to list takes no memory.
 #[derive(Drop)]
 pub(crate) struct Wishes {
     wanted: Vec<u64>,

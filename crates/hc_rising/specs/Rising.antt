@@ -1,5 +1,5 @@
 -- Lists whose numbers rise.
-use Rattle.std.specs.Prelude.{ℕ, ◌==◌, ◌&&◌, nat_lt, nat_le, not, Bool, true, false, List, [], ◌∷◌, if◌then◌else◌, Option, Some, None, map, filter, find}
+use Rattle.std.specs.Prelude.{ℕ, ◌==◌, ◌&&◌, nat_lt, nat_le, not, Bool, true, List, [], ◌∷◌, if◌then◌else◌, Option, map, filter, find}
 use Rattle.std.specs.List.{list_any, position_or_len}
 
 module _ {X : Type 0} (number : X → ℕ) where

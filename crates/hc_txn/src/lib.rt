@@ -1,4 +1,5 @@
-//! The transaction of a consumer: what is kept of it, what is planned for it, and what it reads next.
+//! The transaction of a consumer: what is kept of it, what is planned for it, and what it reads
+//! next.
 #![tactic(auto)]
 
 mod planning;

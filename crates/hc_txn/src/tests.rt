@@ -191,48 +191,63 @@ static PLANS: &'static [Planned] = &[
     ),
 ];
 
-fn plan(
-    alloc: Global,
-    entry: &ActiveEntry,
-    lines: &[Line],
+/// What is looked at, beside who is bound.
+#[derive(Drop)]
+struct Stored {
+    head: StoredHead,
+    store: Sparse,
+    request: Request,
+}
+
+fn plan<'a>(
+    held: &'a Stored,
+    entry: &'a ActiveEntry,
     passed: bool,
     turn: Option<u64>,
     now: u64,
-) -> Result<Option<Plan>, Fail> {
-    let head = head(alloc)?;
-    let store = store(alloc)?;
-    let request = request(alloc, lines)?;
+) -> Option<Plan> {
+    let head = &held.head;
     let view = View {
         c: 3,
-        request: &request,
+        request: &held.request,
         since: 1001,
         passed,
         kept: None,
         turn,
         current: Some(Current {
             r: 1,
-            head: &head,
+            head,
             entry,
-            store: &store,
+            store: &held.store,
         }),
     };
     if head.requested <= head.answered && head.answered <= now && now < 10_000 {
-        return Ok(Some(decide(&view, now)));
+        return Some(decide(&view, now));
     }
-    Ok(None)
+    None
+}
+
+fn stored_for(alloc: Global, lines: &[Line]) -> Result<Stored, Fail> {
+    Ok(Stored {
+        head: head(alloc)?,
+        store: store(alloc)?,
+        request: request(alloc, lines)?,
+    })
 }
 
 #[test]
 fn plans(rt: HostRuntime) -> Result<(), Fail> {
     let mut entry = ActiveEntry::new(rt.alloc(), 1);
     for (lines, passed, turn, now, expected) in PLANS {
-        let plan = plan(rt.alloc(), &entry, lines, *passed, *turn, *now)?;
+        let held = stored_for(rt.alloc(), lines)?;
+        let plan = plan(&held, &entry, *passed, *turn, *now);
         assert_eq!(rt; plan, Some(*expected), "{now}");
     }
     entry.reserve()?;
     assert!(rt; entry.spare() >= 1 && !entry.is_bound(7));
     assert!(rt; entry.admit(7, true, true) == Admission::Exclusive);
-    let waits = plan(rt.alloc(), &entry, &[], false, None, 1001)?;
+    let held = stored_for(rt.alloc(), &[])?;
+    let waits = plan(&held, &entry, false, None, 1001);
     assert_eq!(rt; waits, Some(Plan::Busy { d: 7, kept: None }));
     Ok(())
 }

@@ -25,7 +25,8 @@ pub enum State {
     Over,
 }
 
-/// What is kept of a consumer. Moments are whole seconds since 1970, positions those of what it reads.
+/// What is kept of a consumer. Moments are whole seconds since 1970, positions those of what it
+/// reads.
 #[derive(Drop)]
 pub struct Transaction {
     /// Its number.

@@ -1,7 +1,7 @@
 -- The members of a shared writing, by their numbers.
-use Rattle.std.specs.Prelude.{◌≡◌, ℕ, ◌≤◌, nat_le, Bool, true, false, List, length, map, if◌then◌else◌}
+use Rattle.std.specs.Prelude.{◌≡◌, ℕ, ◌≤◌, nat_le, Bool, true, List, length}
 use Rattle.std.specs.List.{list_all}
-use Rattle.hc_rising.specs.Rising.{rises, has, with_item, without, replaced}
+use Rattle.hc_rising.specs.Rising.{rises}
 use Rattle.hc_rules.specs.declared.survivor.Member.{Member}
 
 abbrev pub number_of : Member → ℕ

@@ -20,19 +20,25 @@ pub struct Writers {
 }
 
 impl Model for Writers {
-    ghost use Rattle.hc_writers.specs.Writings.{Writing, writing};
+    ghost use Rattle.hc_writers.specs.Writings.{Writing};
     ghost use Rattle.hc_writers.specs.Members.{IsInOrder};
 
     ghost Value = { Writing };
 
-    ghost view = { λ w. writing w.x w.end w.alone w.over w.members.items };
+    ghost view = { λ w. record {
+      exchange = w.x;
+      end = w.end;
+      alone = w.alone;
+      over = w.over;
+      members = w.members.items;
+    } };
 
     ghost invariant = { λ w. IsInOrder w.end w.alone w.members.items };
 }
 
 impl Writers {
-    /// The writing of the exchange `x`, of which `end` bytes are stored, with one member. It has read
-    /// nothing.
+    /// The writing of the exchange `x`, of which `end` bytes are stored, with one member. It has
+    /// read nothing.
     pub fn new(alloc: Global, x: u64, c: u64, end: u64) -> Result<Writers, NoMemory>
         ensures { IfOk result (λ writers. writers ≡ founded x c end) }
     {
@@ -108,8 +114,8 @@ impl Writers {
         self.alone
     }
 
-    /// The store is lost. Who stands at the stored end with the least number goes on alone, past the
-    /// store. None exactly where nobody stands there, and then no member is left.
+    /// The store is lost. Who stands at the stored end with the least number goes on alone, past
+    /// the store. None exactly where nobody stands there, and then no member is left.
     pub fn lost(&mut self) -> Option<u64>
         ensures survivor { result ≡ survivor_of self.old }
         ensures stays { self.new ≡ lost self.old }
@@ -120,8 +126,8 @@ impl Writers {
         survivor
     }
 
-    /// The member leaves. Where it is the last one, `keepable` says whether what is stored is worth to
-    /// be kept.
+    /// The member leaves. Where it is the last one, `keepable` says whether what is stored is worth
+    /// to be kept.
     pub fn leave(&mut self, c: u64, keepable: bool) -> Left
         requires { is_member c self.old ≡ true }
         ensures left { result ≡ left_of self.new.members keepable }

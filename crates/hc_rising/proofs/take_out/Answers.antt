@@ -1,4 +1,4 @@
-use Rattle.std.proofs.Common.{◌≡◌, length, vec_len, not, refl, arith, sym, ap, ◌∙◌, Some, get_or}
+use Rattle.std.proofs.Common.{◌≡◌, length, vec_len, not, refl, arith, sym, ap, ◌∙◌, Some}
 use Rattle.hc_rising.specs.Rising.{is_at, place}
 use Rattle.hc_rising.proofs.RisingLemmas.{place-has, remove-place, found-has, rises-filter}
 use Rattle.hc_rising.proofs.take_out.Goals as goal

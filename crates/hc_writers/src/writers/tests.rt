@@ -12,8 +12,8 @@ enum Step {
     Leave(u64, bool, Left),
 }
 
-/// A step, and the members with their offsets after it, the stored end, and whether it goes past the
-/// store.
+/// A step, and the members with their offsets after it, the stored end, and whether it goes past
+/// the store.
 #[derive(Clone, Copy)]
 struct Row(Step, &'static [(u64, u64)], u64, bool);
 

@@ -1,4 +1,4 @@
-use Rattle.std.proofs.Common.{◌≡◌, refl, sym, ap, ◌∙◌, rules, of_calls}
+use Rattle.std.proofs.Common.{◌≡◌, ap, rules, of_calls}
 use Rattle.std.specs.Prelude.{filter}
 use Rattle.std.proofs.lemmas.Fn.{filter_same}
 use Rattle.hc_writers.specs.Writings.{Writing, is_survivor, survivor_of}

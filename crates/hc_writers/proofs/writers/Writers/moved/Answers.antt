@@ -1,4 +1,4 @@
-use Rattle.std.proofs.Common.{◌≤◌, ◌∙◌, ap, subst, sym, arith}
+use Rattle.std.proofs.Common.{ap, arith}
 use Rattle.hc_writers.specs.Writings.{Writing}
 use Rattle.hc_writers.proofs.MemberLemmas.{IsInOrder-moved}
 use Rattle.hc_writers.proofs.writers.Writers.moved.Goals as goal

@@ -1,5 +1,5 @@
 -- The next part of what is stitched together from stored bytes and fetched ones.
-use Rattle.std.specs.Prelude.{ℕ, nat_le, if◌then◌else◌, is_some}
+use Rattle.std.specs.Prelude.{nat_le, if◌then◌else◌, is_some}
 use Rattle.hc_sparse.specs.Cells.{Cells}
 use Rattle.hc_partial.specs.declared.stitch.Stitch.{Stitch}
 use Rattle.hc_partial.specs.declared.stitch.Part.{Part}

@@ -1,4 +1,4 @@
-use Rattle.std.proofs.Common.{◌≤◌, ◌≡◌, ◌+◌, arith}
+use Rattle.std.proofs.Common.{◌≡◌, ◌+◌, arith}
 use Rattle.hc_partial.proofs.HoleLemmas.{absent_from_is, not_covered}
 use Rattle.hc_partial.proofs.holes.stored_end.Goals as goal
 

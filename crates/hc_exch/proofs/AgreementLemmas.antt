@@ -1,9 +1,8 @@
 -- The lists of wanted exchanges, as an exchange changes.
-use Rattle.std.proofs.Common.{◌≡◌, ◌≢◌, ℕ, ◌≤◌, List, Bool, true, false, not, cond, eqb, leb, Option, Some, None, refl, sym, ap, ◌∙◌, inl, inr, arith}
-use Rattle.std.specs.Prelude.{◌||◌, ◌&&◌, is_some, nat_eq}
-use Rattle.std.specs.HashMap.{get}
+use Rattle.std.proofs.Common.{◌≡◌, ◌≢◌, ℕ, List, true, false, not, eqb, Option, Some, None, refl, sym, ap, ◌∙◌, inl, inr}
+use Rattle.std.specs.Prelude.{is_some}
 use Rattle.std.proofs.lemmas.Bool.{cases_Bool, eq-eqb, ne_eqb, eqb-true, eqb-false}
-use Rattle.hc_rising.specs.Rising.{has, with_item, without}
+use Rattle.hc_rising.specs.Rising.{with_item, without}
 use Rattle.hc_rising.proofs.RisingLemmas.{has-with, has-without}
 use Rattle.hc_exch.specs.declared.row.Open.{Open}
 use Rattle.hc_exch.specs.Wishes.{Wished, itself, is_among, asks, rests, leaves, wants_more}

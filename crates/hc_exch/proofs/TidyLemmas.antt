@@ -1,12 +1,11 @@
 -- Each row says something, none has a number that is still to come, and not more is held than came.
-use Rattle.std.proofs.Common.{◌≡◌, ◌≢◌, ℕ, ◌+◌, ◌<◌, ◌≤◌, List, length, Bool, true, false, eqb, leb, Option, Some, None, refl, sym, ap, ◌∙◌, inl, inr, arith}
-use Rattle.std.specs.Prelude.{◌||◌, is_some, nat_eq}
+use Rattle.std.proofs.Common.{◌≡◌, ◌≢◌, ℕ, ◌+◌, ◌≤◌, true, eqb, Option, Some, None, refl, ap, ◌∙◌, inl, inr, arith}
+use Rattle.std.specs.Prelude.{is_some, nat_eq}
 use Rattle.std.specs.HashMap.{get}
-use Rattle.std.proofs.lemmas.Bool.{cases_Bool, eqb-true, eqb-false, eq-eqb}
+use Rattle.std.proofs.lemmas.Bool.{cases_Bool, eqb-true, eqb-false}
 use Rattle.hc_event.specs.declared.act.Need.{Need}
 use Rattle.hc_event.specs.declared.event.Request.{Request}
 use Rattle.hc_exch.specs.declared.role.Role.{Role}
-use Rattle.hc_exch.specs.declared.row.Open.{Open}
 use Rattle.hc_exch.specs.declared.row.Row.{Row}
 use Rattle.hc_exch.specs.Wishes.{Wished, wants_more, leaves}
 use Rattle.hc_exch.specs.Known.{Known, unknown, launched, opened, is_idle, Changes, fits}

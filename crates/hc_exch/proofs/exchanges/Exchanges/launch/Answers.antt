@@ -1,4 +1,4 @@
-use Rattle.std.proofs.Common.{◌≡◌, ◌≤◌, arith}
+use Rattle.std.proofs.Common.{arith}
 use Rattle.hc_exch.proofs.TidyLemmas.{agrees-refused, agrees-launched, tidy-launched, tidy-same}
 use Rattle.hc_exch.proofs.exchanges.Exchanges.launch.Goals as goal
 

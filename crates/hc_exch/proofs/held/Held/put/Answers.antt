@@ -1,4 +1,4 @@
-use Rattle.std.proofs.Common.{◌≡◌, length, ◌++◌, ◌∙◌, ap, sym}
+use Rattle.std.proofs.Common.{length, ◌∙◌, ap}
 use Rattle.hc_exch.proofs.PieceLemmas.{IsCounted-push, view-push}
 use Rattle.hc_exch.proofs.held.Held.put.Goals as goal
 

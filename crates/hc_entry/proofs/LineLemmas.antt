@@ -1,13 +1,13 @@
 -- Consumers that go from list to list.
-use Rattle.std.proofs.Common.{◌≡◌, ◌≢◌, ℕ, ◌+◌, ◌<◌, ◌≤◌, List, [], ◌∷◌, Bool, true, false, not, eqb, Option, Some, None, refl, sym, ap, ◌∙◌, subst, inl, inr, arith}
-use Rattle.std.specs.Prelude.{◌&&◌, ◌||◌, min}
+use Rattle.std.proofs.Common.{◌≡◌, ℕ, ◌+◌, ◌≤◌, List, [], ◌∷◌, Bool, true, false, not, eqb, Option, Some, None, refl, sym, ap, ◌∙◌, inl, inr, arith}
+use Rattle.std.specs.Prelude.{◌||◌, min}
 use Rattle.std.specs.Option.{option_or}
 use Rattle.std.proofs.lemmas.Bool.{cases_Bool, eqb-true, eqb-false, eq-eqb, ne_eqb}
-use Rattle.hc_rising.specs.Rising.{rises, has, is_at, with_item, without}
+use Rattle.hc_rising.specs.Rising.{is_at, with_item, without}
 use Rattle.hc_rising.proofs.RisingLemmas.{has-with, has-without, rises-with, rises-filter}
-use Rattle.hc_rules.specs.Least.{least, lesser}
+use Rattle.hc_rules.specs.Least.{least}
 use Rattle.hc_entry.specs.Users.{itself, first_of}
-use Rattle.hc_entry.specs.Lines.{is_among, one, stands, released, is_held_by, IsInPlace, Line, is_in, holder_or, turn_of, turn_with}
+use Rattle.hc_entry.specs.Lines.{is_among, one, stands, released, IsInPlace, Line, holder_or, turn_with}
 use Rattle.hc_entry.proofs.UserLemmas.{least-rising}
 
 -- who left a list isn't in it

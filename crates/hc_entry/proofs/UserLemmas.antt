@@ -1,14 +1,12 @@
 -- Consumers that are all bound in one way.
-use Rattle.std.proofs.Common.{◌≡◌, ◌⊎◌, ℕ, zero, suc, ◌+◌, ◌<◌, ◌≤◌, List, [], ◌∷◌, length, map, Bool, true, false, not, cond, eqb, leb, ltb, Option, Some, None, refl, sym, ap, ◌∙◌, inl, inr, arith}
+use Rattle.std.proofs.Common.{◌≡◌, ◌⊎◌, ℕ, ◌≤◌, List, [], ◌∷◌, length, map, Bool, true, false, eqb, leb, ltb, Option, Some, None, refl, sym, ap, ◌∙◌, inl, inr, arith}
 use Rattle.std.specs.Prelude.{◌&&◌, ◌||◌, filter, min, IfSome}
-use Rattle.std.specs.List.{list_any, list_all}
+use Rattle.std.specs.List.{list_any}
 use Rattle.std.proofs.lemmas.Bool.{cases_Bool, and_parts, ltb-true, eqb-true}
 use Rattle.hc_rising.specs.Rising.{above, rises, has, with_item, without, replaced}
 use Rattle.hc_rules.specs.declared.admission.Bound.{Bound}
 use Rattle.hc_rules.specs.declared.admission.BoundKind.{BoundKind}
 use Rattle.hc_rules.specs.declared.admission.BoundKind.TheVariants as kind
-use Rattle.hc_rules.specs.declared.admission.Admission.{Admission}
-use Rattle.hc_rules.specs.declared.admission.Admission.TheVariants as admission
 use Rattle.hc_rules.specs.Admissions.{is_same_kind, is_of, numbers, least_of, least_bound, admission_of}
 use Rattle.hc_rules.specs.Least.{lesser, least}
 use Rattle.hc_entry.specs.Users.{itself, consumer_of, bound_as, unshared, are_all, first_of, admission_by, kind_by, Users, is_bound_as, settled, rebound}

@@ -1,5 +1,5 @@
 -- The line of a key: who waits for the turn, who passed, and who is away.
-use Rattle.std.specs.Prelude.{◌≡◌, ℕ, ◌+◌, ◌≤◌, ◌==◌, ◌||◌, Bool, true, false, List, [], if◌then◌else◌, Option, Some, None, min}
+use Rattle.std.specs.Prelude.{◌≡◌, ℕ, ◌+◌, ◌≤◌, ◌==◌, ◌||◌, Bool, true, false, List, [], if◌then◌else◌, Option, Some, None}
 use Rattle.hc_rising.specs.Rising.{rises, has, with_item, without}
 use Rattle.hc_rules.specs.Least.{least, lesser}
 use Rattle.hc_entry.specs.Users.{itself}

@@ -1,5 +1,5 @@
 use Rattle.std.proofs.Common.{refl, sym, ap, ◌∙◌}
-use Rattle.hc_entry.specs.Users.{Users, all_unshared}
+use Rattle.hc_entry.specs.Users.{all_unshared}
 use Rattle.hc_entry.proofs.UserLemmas.{unshared-map, reader-map, made}
 use Rattle.hc_entry.proofs.active.ActiveEntry.end_shared.Goals as goal
 

@@ -1,5 +1,5 @@
 use Rattle.std.proofs.Common.{sym, ap, ◌∙◌}
-use Rattle.hc_entry.specs.Users.{Users, is_bound}
+use Rattle.hc_entry.specs.Users.{is_bound}
 use Rattle.hc_entry.proofs.UserLemmas.{has-map}
 use Rattle.hc_entry.proofs.active.ActiveEntry.is_bound.Goals as goal
 

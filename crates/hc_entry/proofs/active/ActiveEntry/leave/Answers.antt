@@ -1,5 +1,5 @@
-use Rattle.std.proofs.Common.{◌≡◌, ◌+◌, ◌-◌, vec_len, vec_capacity, sym, ap, ◌∙◌, arith}
-use Rattle.hc_entry.specs.Users.{Users, is_bound, left_by}
+use Rattle.std.proofs.Common.{◌+◌, ◌-◌, vec_len, vec_capacity, sym, ap, ◌∙◌, arith}
+use Rattle.hc_entry.specs.Users.{is_bound, left_by}
 use Rattle.hc_entry.proofs.UserLemmas.{has-map, without-map, made}
 use Rattle.hc_entry.proofs.active.ActiveEntry.leave.Goals as goal
 

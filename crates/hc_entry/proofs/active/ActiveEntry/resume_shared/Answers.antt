@@ -1,10 +1,9 @@
-use Rattle.std.proofs.Common.{◌≡◌, ◌≤◌, length, true, refl, sym, ap, ◌∙◌, arith}
+use Rattle.std.proofs.Common.{◌≤◌, length, refl, sym, ap, ◌∙◌, arith}
 use Rattle.std.proofs.lemmas.Bool.{and_parts}
-use Rattle.std.specs.Prelude.{◌&&◌}
 use Rattle.hc_rising.specs.Rising.{has}
 use Rattle.hc_rules.specs.declared.admission.BoundKind.TheVariants as kind
 use Rattle.hc_rules.specs.Admissions.{is_same_kind}
-use Rattle.hc_entry.specs.Users.{Users, itself, is_bound_as, rebound}
+use Rattle.hc_entry.specs.Users.{itself, is_bound_as, rebound}
 use Rattle.hc_entry.proofs.UserLemmas.{bound_as-map, rebound-one, made}
 use Rattle.hc_entry.proofs.active.ActiveEntry.resume_shared.Goals as goal
 

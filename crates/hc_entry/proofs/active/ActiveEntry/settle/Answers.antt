@@ -3,7 +3,7 @@ use Rattle.std.specs.Prelude.{◌&&◌}
 use Rattle.hc_rising.specs.Rising.{has}
 use Rattle.hc_rules.specs.declared.admission.BoundKind.TheVariants as kind
 use Rattle.hc_rules.specs.Admissions.{is_same_kind}
-use Rattle.hc_entry.specs.Users.{Users, itself, is_bound, is_bound_as, rebound, settled}
+use Rattle.hc_entry.specs.Users.{itself, is_bound, is_bound_as, rebound}
 use Rattle.hc_entry.proofs.UserLemmas.{has-map, bound_as-map, rebound-one, made, settled-writer, settled-other}
 use Rattle.hc_entry.proofs.active.ActiveEntry.settle.Goals as goal
 

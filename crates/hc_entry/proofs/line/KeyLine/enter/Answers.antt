@@ -1,4 +1,4 @@
-use Rattle.std.proofs.Common.{◌≡◌, ◌∙◌, ap, arith}
+use Rattle.std.proofs.Common.{◌∙◌, ap, arith}
 use Rattle.hc_rising.specs.Rising.{with_item}
 use Rattle.hc_entry.specs.Users.{itself}
 use Rattle.hc_entry.specs.Lines.{is_in}

@@ -1,5 +1,4 @@
-use Rattle.std.proofs.Common.{◌≡◌, ◌+◌, ◌≤◌, vec_len, true, sym, ap, ◌∙◌, arith}
-use Rattle.hc_entry.specs.Lines.{Line, is_in, is_among, one}
+use Rattle.std.proofs.Common.{arith}
 use Rattle.hc_entry.proofs.LineLemmas.{in_place-left}
 use Rattle.hc_entry.proofs.line.KeyLine.leave.Goals as goal
 

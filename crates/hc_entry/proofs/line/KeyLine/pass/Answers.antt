@@ -1,5 +1,5 @@
-use Rattle.std.proofs.Common.{◌≡◌, ◌+◌, ◌≤◌, vec_len, true, sym, ap, ◌∙◌, arith}
-use Rattle.hc_entry.specs.Lines.{Line, is_in, is_among, one}
+use Rattle.std.proofs.Common.{ap, ◌∙◌, arith}
+use Rattle.hc_entry.specs.Lines.{is_in}
 use Rattle.hc_entry.proofs.LineLemmas.{gone, in_place-left, in_place-passed, counts}
 use Rattle.hc_entry.proofs.line.KeyLine.pass.Goals as goal
 

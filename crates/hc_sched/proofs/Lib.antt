@@ -4,6 +4,7 @@ pub mod Plain
 pub mod Hex
 pub mod FieldLemmas
 pub mod TargetLemmas
+pub mod PlainTargets
 pub mod FeedLemmas
 pub mod FieldReads
 pub mod Forms

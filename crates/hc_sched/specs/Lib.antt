@@ -2,6 +2,7 @@ pub mod Parts
 pub mod Report
 pub mod Words
 pub mod Targets
+pub mod PlainTargets
 pub mod Pieces
 pub mod FirstLines
 pub mod FieldLines

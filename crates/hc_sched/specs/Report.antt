@@ -87,7 +87,8 @@ act_text (act.Shown c r why status fields lo hi) =
     ++ 32 ∷ decimal lo ++ 32 ∷ end_word hi ++ 32 ∷ decimal (length fields)
     ++ 10 ∷ fields_text fields
 act_text (act.Given c x at bytes) =
-    codes "data " ++ decimal c ++ 32 ∷ decimal x ++ 32 ∷ decimal at ++ 32 ∷ encode_lower bytes ++ 10 ∷ []
+    codes "data " ++ decimal c ++ 32 ∷ decimal x ++ 32 ∷ decimal at
+    ++ 32 ∷ encode_lower bytes ++ 10 ∷ []
 act_text (act.Ended c) = codes "ended " ++ decimal c ++ 10 ∷ []
 act_text (act.Failed c cause) = codes "failed " ++ decimal c ++ 32 ∷ cause_word cause ++ 10 ∷ []
 act_text (act.Pending c wait) = codes "pending " ++ decimal c ++ 32 ∷ wait_word wait ++ 10 ∷ []

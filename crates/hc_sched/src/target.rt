@@ -1,8 +1,10 @@
 //! Targets: web URLs in the one spelling that the URL Standard gives them.
 ghost use Rattle.std.specs.Prelude.{◌≡◌, ◌≤◌, length, IfOk, IsTrue};
+ghost use Rattle.std.specs.List.{list_all};
+ghost use Rattle.hc_sched.specs.PlainTargets.{is_host_byte, is_path_byte, is_plain_target};
 ghost use Rattle.hc_sched.specs.Targets.{is_target, is_short_word, has_own_text, ReadsTarget};
 
-use crate::words::lacks;
+use crate::words::{cut, lacks};
 use hc_text::NoMemory;
 use std::alloc::Global;
 use std::str;
@@ -20,6 +22,33 @@ fn is_short_word(text: &[u8]) -> bool
     1 <= text.len() && text.len() <= MOST_TARGET && lacks(text, b' ') && lacks(text, b'\n')
 }
 
+fn has_host_bytes(host: &[u8]) -> bool
+    ensures { result ≡ list_all is_host_byte host.now }
+{
+    host.iter().all(|b| matches!(*b, b'a'..=b'z' | b'-' | b'.'))
+}
+
+fn has_path_bytes(path: &[u8]) -> bool
+    ensures { result ≡ list_all is_path_byte path.now }
+{
+    path.iter().all(|b| matches!(*b, b'a'..=b'z' | b'A'..=b'Z' | b'/'..=b'9' | b'-' | b'_' | b'~'))
+}
+
+/// Whether the text is a target that needs no reading: a host of lower-case letters, dots and
+/// hyphens, and a path of letters, digits, `-`, `_`, `~` and slashes.
+#[tactic(auto, unfolding(crate::specs::Words::behind, crate::specs::PlainTargets::is_plain_target))]
+fn is_plain_target(text: &[u8]) -> bool
+    ensures { result ≡ is_plain_target text.now }
+{
+    let Some(rest) = text.strip_prefix(b"http://") else {
+        return false;
+    };
+    let Some((host, path)) = cut(rest, b'/') else {
+        return false;
+    };
+    1 <= host.len() && has_host_bytes(host) && has_path_bytes(path)
+}
+
 /// Whether the text is a target: 1 to 8,192 bytes without a space or a line feed, which are an
 /// `http` or `https` URL without a fragment as the URL Standard writes it. So equal targets are
 /// equal texts.
@@ -31,6 +60,9 @@ pub fn is_target(alloc: Global, text: &[u8]) -> Result<bool, NoMemory>
 {
     if !is_short_word(text) {
         return Ok(false);
+    }
+    if is_plain_target(text) {
+        return Ok(true);
     }
     let Ok(text) = str::from_utf8(text) else {
         return Ok(false);

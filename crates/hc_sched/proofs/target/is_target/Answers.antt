@@ -1,5 +1,6 @@
 use Rattle.std.proofs.Common.{sym, rules}
 use Rattle.hc_sched.proofs.TargetLemmas.{is_target-not_utf8, is_target-own}
+use Rattle.hc_sched.proofs.PlainTargets.{plain_target}
 use Rattle.hc_sched.proofs.target.is_target.Goals as goal
 
 pub returns-in_default-clause-value : goal.returns-in_default-clause-value
@@ -9,3 +10,9 @@ pub returns-in-Ok-parse-clause-value : goal.returns-in-Ok-parse-clause-value
 returns-in-Ok-parse-clause-value c =
     let told = c.in-Ok.ensures.cases in
     is_target-own c.args.text.now c.in-Ok.text.now c.in-Ok-parse.url c.has_own_text.result (search rules) told.0 told.1 c.in-Ok-parse.ensures c.has_own_text.ensures
+
+pub returns-then-is_plain_target-clause-value : goal.returns-then-is_plain_target-clause-value
+returns-then-is_plain_target-clause-value c = sym (plain_target c.args.text.now (search rules) (search rules)).0
+
+pub returns-then-is_plain_target-clause-read : goal.returns-then-is_plain_target-clause-read
+returns-then-is_plain_target-clause-read c = λ is. (plain_target c.args.text.now (search rules) (search rules)).1

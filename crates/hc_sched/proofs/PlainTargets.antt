@@ -1,0 +1,271 @@
+-- A plain target is a target.
+use Rattle.std.proofs.Common.{◌≡◌, ℕ, ◌+◌, ◌<◌, ◌≤◌, ◌==◌, ◌&&◌, ◌||◌, not, Bool, true, false, List, [], ◌∷◌, ◌++◌, length, get_or, Option, Some, None, refl, sym, ap, subst, ◌∙◌, inl, inr, arith, append_assoc, leb-true, le-leb}
+use Rattle.std.specs.Prelude.{codes, All, IsUtf8, IsAscii, Ok, bytes_eq, nat_le, if◌then◌else◌}
+use Rattle.std.specs.List.{list_all}
+use Rattle.std.specs.Char.{is_ascii_digit, is_digit, to_ascii_lowercase}
+use Rattle.std.proofs.lemmas.Bool.{cases_Bool, cases_eq, and_parts, and_from, both_ways, eqb-true, ne_eqb}
+use Rattle.std.proofs.lemmas.Bool.Decides.{nat_tests}
+use Rattle.std.proofs.lemmas.List.{append-nil}
+use Rattle.std.proofs.lemmas.List.Elements.{All-nil, All-cons, All-head, All-tail}
+use Rattle.std.proofs.lemmas.Str.{IsUtf8-from_ascii}
+use Rattle.std.proofs.lemmas.Slice.Eq.{bytes_eq-Decides}
+use Rattle.percent_encoding.specs.Percent.{IsKept}
+use Rattle.url.proofs.SetLemmas.{kept_from_passes}
+use Rattle.url.proofs.Theorems.{parse_url-serialize_special}
+use Rattle.url.specs.Parser.{parse_url}
+use Rattle.url.specs.declared.sets.TheConstants.{FORBIDDEN_DOMAIN, PATH, USERINFO}
+use Rattle.url.specs.declared.scheme.SchemeType.TheVariants.{SpecialNotFile}
+use Rattle.url.specs.Input.{rsplit_once, rsplit_step, lowercase, is_empty}
+use Rattle.url.specs.Ipv4.{ends_in_a_number, last_label, last_label_of, parse_number, is_number}
+use Rattle.url.specs.Host.{IsDomain}
+use Rattle.url.specs.Path.{IsSegment, IsSegmentList, join_segments, dot_count, dot_len}
+use Rattle.url.specs.Scheme.{IsScheme, default_port, scheme_type, is_slash, scheme_len}
+use Rattle.url.specs.Parts.{Parts, IsValid, IsValidHead, serialize, kind_of}
+use Rattle.url.proofs.ValidLemmas.{IsAscii-serialize}
+use Rattle.hc_sched.specs.Words.{cut, behind}
+use Rattle.hc_sched.specs.Targets.{is_target, is_short_word, has_own_text, ReadsTarget}
+use Rattle.hc_sched.specs.PlainTargets.{is_host_byte, is_path_byte, is_plain_rest, is_plain_target, plain_url}
+use Rattle.hc_sched.proofs.Steps.{none_or_some, append-cut, append-behind}
+use Rattle.hc_sched.proofs.TargetLemmas.{is_target-own}
+
+-- bytes
+
+keeps_domain : (b : ℕ) → is_host_byte b ≡ true → IsKept FORBIDDEN_DOMAIN b
+keeps_domain b h = kept_from_passes is_host_byte FORBIDDEN_DOMAIN refl b (grind (arith, nat_tests)) h
+
+keeps_path : (b : ℕ) → is_path_byte b ≡ true → IsKept PATH b
+keeps_path b h = kept_from_passes is_path_byte PATH refl b (grind (arith, nat_tests)) h
+
+small_host : (b : ℕ) → is_host_byte b ≡ true → b < 128
+small_host b h = grind (arith, nat_tests)
+
+small_path : (b : ℕ) → is_path_byte b ≡ true → b < 128
+small_path b h = grind (arith, nat_tests)
+
+no_digit : (b : ℕ) → is_host_byte b ≡ true → is_ascii_digit b ≡ false
+no_digit b h = grind (arith, nat_tests)
+
+no_decimal : (b : ℕ) → is_host_byte b ≡ true → is_digit b 10 ≡ false
+no_decimal b h = grind (arith, nat_tests)
+
+not_zero : (b : ℕ) → is_host_byte b ≡ true → (b == 48) ≡ false
+not_zero b h = grind (arith, nat_tests)
+
+is_lower : (b : ℕ) → is_host_byte b ≡ true → to_ascii_lowercase b ≡ b
+is_lower b h = grind (arith, nat_tests)
+
+All-passing : (p : ℕ → Bool) (P : ℕ → Type 0) → ((b : ℕ) → p b ≡ true → P b) → (bytes : List ℕ) → list_all p bytes ≡ true → All P bytes
+All-passing p P each [] h = All-nil P
+All-passing p P each (b ∷ bytes) h =
+    let both = and_parts (p b) (list_all p bytes) h in All-cons P b bytes (each b both.0) (All-passing p P each bytes both.1)
+
+-- hosts
+
+lower_host : (host : List ℕ) → list_all is_host_byte host ≡ true → lowercase host ≡ host
+lower_host [] h = refl
+lower_host (b ∷ host) h =
+    let both = and_parts (is_host_byte b) (list_all is_host_byte host) h in
+    let first = is_lower b both.0 in
+    let rest = lower_host host both.1 in
+    cc
+
+abbrev FrontPasses : (ℕ → Bool) → Option (List ℕ) → Type 0
+FrontPasses p None = Unit {0}
+FrontPasses p (Some front) = list_all p front ≡ true
+
+abbrev BothPass : (ℕ → Bool) → Option (List ℕ) → List ℕ → Type 0
+BothPass p o back = FrontPasses p o × (list_all p back ≡ true)
+
+step_passes : (p : ℕ → Bool) (sep b : ℕ) (o : Option (List ℕ)) (back : List ℕ) → p b ≡ true → BothPass p o back
+    → BothPass p (rsplit_step sep b o back).0 (rsplit_step sep b o back).1
+step_passes p sep b (Some front) back is h = (and_from (p b) (list_all p front) is h.0, h.1)
+step_passes p sep b None back is h =
+    elim (cases_Bool (b == sep)) [
+      | inl same ↦ rw same (refl, h.1)
+      | inr other ↦ rw other (tt, and_from (p b) (list_all p back) is h.1)
+    ]
+
+split_passes : (p : ℕ → Bool) (sep : ℕ) (bytes : List ℕ) → list_all p bytes ≡ true → BothPass p (rsplit_once sep bytes).0 (rsplit_once sep bytes).1
+unfolding rsplit_once
+split_passes p sep [] h = (tt, refl)
+split_passes p sep (b ∷ bytes) h =
+    let both = and_parts (p b) (list_all p bytes) h in
+    step_passes p sep b (rsplit_once sep bytes).0 (rsplit_once sep bytes).1 both.0 (split_passes p sep bytes both.1)
+
+label_passes : (p : ℕ → Bool) (o : Option (List ℕ)) (back : List ℕ) → BothPass p o back → list_all p (last_label_of o back) ≡ true
+label_passes p None back h = h.1
+label_passes p (Some front) back h =
+    elim (cases_Bool (is_empty back)) [
+      | inl none ↦ rw none (split_passes p 46 front h.0).1
+      | inr some ↦ rw some h.1
+    ]
+
+no_number : (last : List ℕ) → list_all is_host_byte last ≡ true → ((not (is_empty last) && list_all is_ascii_digit last) || is_number (parse_number last)) ≡ false
+unfolding parse_number
+no_number [] h = refl
+no_number (b ∷ last) h =
+    let both = and_parts (is_host_byte b) (list_all is_host_byte last) h in
+    let digit = no_digit b both.0 in
+    let zero = not_zero b both.0 in
+    let some : is_empty (b ∷ last) ≡ false = ne_eqb (length (b ∷ last)) 0 (λ e. omega (arith, e)) in
+    rw (some, digit, zero, no_decimal b both.0) refl
+
+named_host : (host : List ℕ) → list_all is_host_byte host ≡ true → ends_in_a_number host ≡ false
+unfolding ends_in_a_number
+named_host host h =
+    let split = split_passes is_host_byte 46 host h in
+    no_number (last_label host) (label_passes is_host_byte (rsplit_once 46 host).0 (rsplit_once 46 host).1 split)
+
+domain_is : (host : List ℕ) → list_all is_host_byte host ≡ true → IsDomain host
+domain_is host h = record {
+  allowed = All-passing is_host_byte (IsKept FORBIDDEN_DOMAIN) keeps_domain host h;
+  lower = lower_host host h;
+  named = named_host host h;
+}
+
+-- paths
+
+abbrev is_segment_byte : ℕ → Bool
+is_segment_byte b = is_path_byte b && not (b == 47)
+
+abbrev begin_with : ℕ → List (List ℕ) → List (List ℕ)
+begin_with b [] = (b ∷ []) ∷ []
+begin_with b (s ∷ ss) = (b ∷ s) ∷ ss
+
+abbrev parts_of : List ℕ → List (List ℕ)
+parts_of [] = [] ∷ []
+parts_of (b ∷ path) = if b == 47 then [] ∷ parts_of path else begin_with b (parts_of path)
+
+join_begun : (b : ℕ) (path : List ℕ) (ss : List (List ℕ)) → 47 ∷ path ≡ join_segments ss → 47 ∷ b ∷ path ≡ join_segments (begin_with b ss)
+join_begun b path [] h = cc h
+join_begun b path (s ∷ ss) h = let rest : path ≡ s ++ join_segments ss = cc h in ap (λ (l : List ℕ). 47 ∷ b ∷ l) rest
+
+joined : (path : List ℕ) → 47 ∷ path ≡ join_segments (parts_of path)
+joined [] = refl
+joined (b ∷ path) =
+    elim (cases_Bool (b == 47)) [
+      | inl slash ↦ let is : b ≡ 47 = eqb-true b 47 slash in rw slash (rw is (ap (λ (l : List ℕ). 47 ∷ l) (joined path)))
+      | inr other ↦ rw other (join_begun b path (parts_of path) (joined path))
+    ]
+
+begun_passes : (b : ℕ) (ss : List (List ℕ)) → is_segment_byte b ≡ true → list_all (λ s. list_all is_segment_byte s) ss ≡ true
+    → list_all (λ s. list_all is_segment_byte s) (begin_with b ss) ≡ true
+begun_passes b [] is h = rw is refl
+begun_passes b (s ∷ ss) is h = let both = and_parts (list_all is_segment_byte s) (list_all (λ t. list_all is_segment_byte t) ss) h in rw (is, both.0) both.1
+
+parts_pass : (path : List ℕ) → list_all is_path_byte path ≡ true → list_all (λ s. list_all is_segment_byte s) (parts_of path) ≡ true
+parts_pass [] h = refl
+parts_pass (b ∷ path) h =
+    let both = and_parts (is_path_byte b) (list_all is_path_byte path) h in
+    elim (cases_Bool (b == 47)) [
+      | inl slash ↦ rw slash (parts_pass path both.1)
+      | inr other ↦ rw other (begun_passes b (parts_of path) (rw (both.0, other) refl) (parts_pass path both.1))
+    ]
+
+kept_segment : (b : ℕ) → is_segment_byte b ≡ true → IsKept PATH b
+kept_segment b h = keeps_path b (and_parts (is_path_byte b) (not (b == 47)) h).0
+
+whole_segment : (b : ℕ) → is_segment_byte b ≡ true → is_slash SpecialNotFile b ≡ false
+whole_segment b h = grind (arith, nat_tests)
+
+no_dot : (segment : List ℕ) → list_all is_segment_byte segment ≡ true → dot_count segment ≡ 0
+unfolding dot_count
+no_dot [] h = refl
+no_dot (b ∷ segment) h =
+    let both = and_parts (is_segment_byte b) (list_all is_segment_byte segment) h in
+    let byte = and_parts (is_path_byte b) (not (b == 47)) both.0 in
+    let dot_ : (b == 46) ≡ false = grind (arith, nat_tests) in
+    let percent : (b == 37) ≡ false = grind (arith, nat_tests) in
+    rw (dot_, percent) refl
+
+segment_is : (segment : List ℕ) → list_all is_segment_byte segment ≡ true → IsSegment SpecialNotFile segment
+segment_is segment h = record {
+  escaped = All-passing is_segment_byte (IsKept PATH) kept_segment segment h;
+  whole = All-passing is_segment_byte (λ b. is_slash SpecialNotFile b ≡ false) whole_segment segment h;
+  resolved = no_dot segment h;
+}
+
+segments_are : (ss : List (List ℕ)) → list_all (λ s. list_all is_segment_byte s) ss ≡ true → All (IsSegment SpecialNotFile) ss
+segments_are [] h = All-nil (IsSegment SpecialNotFile)
+segments_are (s ∷ ss) h =
+    let both = and_parts (list_all is_segment_byte s) (list_all (λ t. list_all is_segment_byte t) ss) h in
+    All-cons (IsSegment SpecialNotFile) s ss (segment_is s both.0) (segments_are ss both.1)
+
+path_is : (path : List ℕ) → list_all is_path_byte path ≡ true → IsSegmentList SpecialNotFile (47 ∷ path)
+path_is path h = record { segments = parts_of path; joined = joined path; each = segments_are (parts_of path) (parts_pass path h) }
+
+-- URLs
+
+head_is : (host path : List ℕ) → 1 ≤ length host → list_all is_host_byte host ≡ true → IsValidHead (plain_url host path)
+unfolding default_port scheme_type scheme_len
+head_is host path some h = record {
+  scheme = record { nonempty = omega arith; whole = refl; lower = refl };
+  username = All-nil (IsKept USERINFO);
+  password = All-nil (IsKept USERINFO);
+  host = (domain_is host h, omega arith);
+  port = tt;
+  bare = λ e. (refl, refl, refl);
+}
+
+kind_is : (host path : List ℕ) → kind_of (plain_url host path) ≡ SpecialNotFile
+unfolding default_port scheme_type
+kind_is host path = refl
+
+url_is : (host path : List ℕ) → 1 ≤ length host → list_all is_host_byte host ≡ true → list_all is_path_byte path ≡ true → IsValid (plain_url host path)
+unfolding default_port scheme_type
+url_is host path some h k = record {
+  head = head_is host path some h;
+  path = inl (path_is path k, λ e. omega arith);
+  query = tt;
+  fragment = tt;
+}
+
+text_is : (host path : List ℕ) → serialize (plain_url host path) ≡ codes "http://" ++ (host ++ 47 ∷ path)
+text_is host path = ap (λ (l : List ℕ). codes "http://" ++ (host ++ 47 ∷ l)) (append-nil path)
+
+-- a text by its host and its path
+record IsPlain (text : List ℕ) : Type 0 where
+  host : List ℕ
+  path : List ℕ
+  whole : codes "http://" ++ (host ++ 47 ∷ path) ≡ text
+  some : 1 ≤ length host
+  host_passes : list_all is_host_byte host ≡ true
+  path_passes : list_all is_path_byte path ≡ true
+
+plain_parts : (text : List ℕ) → is_plain_target text ≡ true → IsPlain text
+unfolding is_plain_target
+plain_parts text h =
+    elim (none_or_some (behind (codes "http://") text)) [
+      | inl none ↦ cc (rw none at h)
+      | inr web ↦
+          let rest : is_plain_rest (cut 47 web.0) ≡ true = rw web.1 at h in
+          elim (none_or_some (cut 47 web.0)) [
+            | inl none ↦ cc (rw none at rest)
+            | inr parts ↦
+                let tests : is_plain_rest (Some parts.0) ≡ true = rw parts.1 at rest in
+                let outer = and_parts _ _ tests in
+                let inner = and_parts (nat_le 1 (length parts.0.0)) (list_all is_host_byte parts.0.0) outer.0 in
+                record {
+                  host = parts.0.0;
+                  path = parts.0.1;
+                  whole = ap (λ (l : List ℕ). codes "http://" ++ l) (append-cut 47 web.0 parts.0 parts.1) ∙ append-behind (codes "http://") text web.0 web.1;
+                  some = leb-true 1 (length parts.0.0) inner.0;
+                  host_passes = inner.1;
+                  path_passes = outer.1;
+                }
+          ]
+    ]
+
+-- a plain text is a target, and its URL is valid
+pub plain_target : (text : List ℕ) → is_short_word text ≡ true → is_plain_target text ≡ true → (is_target text ≡ true) × ReadsTarget text
+plain_target text word plain =
+    let p = plain_parts text plain in
+    let url = plain_url p.host p.path in
+    let valid = url_is p.host p.path p.some p.host_passes p.path_passes in
+    let same : serialize url ≡ text = text_is p.host p.path ∙ p.whole in
+    let read : parse_url None text ≡ Ok url = subst (λ (t : List ℕ). parse_url None t ≡ Ok url) same (parse_url-serialize_special url None valid (kind_is p.host p.path)) in
+    let utf8 : IsUtf8 text = IsUtf8-from_ascii text (subst IsAscii same (IsAscii-serialize url valid)) in
+    let own : has_own_text url text ≡ true = rw ((bytes_eq-Decides (serialize url) text).1 same) refl in (
+      sym (is_target-own text text url true word refl utf8 read (sym own)),
+      (url, read, valid, own),
+    )

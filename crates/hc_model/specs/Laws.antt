@@ -43,15 +43,15 @@ use Rattle.hc_model.specs.Beginnings.{may_begin}
 use Rattle.hc_model.specs.Denials.{live}
 use Rattle.hc_model.specs.Runs.{IsRun, may_stand, IsOwed}
 use Rattle.hc_model.specs.Reads.{Delivers}
-use Rattle.hc_model.specs.Sound.{Sound, IsBound, IsToBeShown, Waits, OneAbout, OneCurrent, IsStored, IsListed, IsNamed, RunsAreSound}
+use Rattle.hc_model.specs.Sound.{Sound, IsBound, IsToBeShown, Waits, OneAbout, OneCurrent, IsStored, IsListed, IsNamed}
 use Rattle.hc_model.specs.Owners.{Owners}
 use Rattle.hc_model.specs.Keys.{entry_of, IsOfOneKey, KeepsOthers}
 
--- a fact of the tables of every run
+-- a fact of the tables of every run from contents by which a store may begin
 abbrev pub OfRuns : (Tables → Type 0) → Type 0
 OfRuns P =
-    (limits : Limits) (contents : Contents) (h : History) → IsRun limits contents h →
-    P (tables contents h)
+    (limits : Limits) (contents : Contents) (h : History) → may_begin limits contents ≡ true →
+    IsRun limits contents h → P (tables contents h)
 
 -- DELIVERED ONCE
 
@@ -69,7 +69,7 @@ Grows old new =
 
 abbrev pub BodiesGrow : Limits → Contents → Type 0
 BodiesGrow limits contents =
-    (h : History) (e : Entry) → IsRun limits contents (e ∷ h) →
+    may_begin limits contents ≡ true → (h : History) (e : Entry) → IsRun limits contents (e ∷ h) →
     Grows (tables contents h) (tables contents (e ∷ h))
 
 -- ONE TURN

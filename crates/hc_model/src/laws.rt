@@ -91,10 +91,6 @@ pub fn owners_stay_known()
     ensures kept { OwedAfterEach Owners }
 {}
 
-/// Of a key at most one exchange of the turn waits for its head, and its consumer has the turn. What shows
-/// this holds from the beginning, and after each accepted entry of a run.
-{}
-
 /// Of a key at most one exchange of the turn waits for its head, and its consumer has the turn.
 /// What shows this holds from the beginning, and after each accepted entry of a run.
 pub fn one_has_the_turn()

@@ -2,8 +2,7 @@
 use Rattle.std.proofs.Common.{◌≡◌, ℕ, ◌+◌, ◌<◌, ◌≤◌, true, List, length, arith, leb-true, refl, inl, inr}
 use Rattle.std.specs.List.{list_all}
 use Rattle.std.proofs.lemmas.Bool.{and_parts}
-use Rattle.hc_fields.specs.FieldList.{IsField, Refuses, is_own_value, has_own_ends, size_of}
-use Rattle.hc_fields.specs.Lines.{is_lower_byte}
+use Rattle.hc_fields.specs.FieldList.{IsField, Refuses, has_own_ends, size_of}
 use Rattle.http_header.specs.Token.{is_value_byte}
 use Rattle.hc_fields.specs.declared.error.FieldError.{FieldError}
 use Rattle.hc_fields.specs.declared.error.FieldError.TheVariants as error

@@ -1,17 +1,17 @@
 -- A field line that is spelled is read.
-use Rattle.std.proofs.Common.{◌≡◌, ℕ, ◌+◌, ◌<◌, ◌≤◌, ◌==◌, not, true, false, List, [], ◌∷◌, ◌++◌, length, Some, None, refl, sym, ap, ◌∙◌, inl, inr, arith, append_assoc, length-append, le-leb}
+use Rattle.std.proofs.Common.{◌≡◌, ℕ, ◌+◌, ◌≤◌, true, false, List, [], ◌∷◌, ◌++◌, length, Some, refl, ◌∙◌, inl, inr, arith, append_assoc, length-append, le-leb}
 use Rattle.std.specs.Prelude.{codes, Bool}
 use Rattle.std.specs.List.{list_all}
 use Rattle.std.proofs.lemmas.Bool.{and_parts, cases_eq, both_ways, and_from, not_from_false, ne_eqb}
 use Rattle.std.proofs.lemmas.List.Sums.{sum_by-append}
 use Rattle.http_header.specs.Token.{is_token_byte}
 use Rattle.hc_text.specs.Texts.{lacks}
-use Rattle.hc_fields.specs.FieldList.{IsField, IsFieldList, size_of, put}
+use Rattle.hc_fields.specs.FieldList.{IsField, size_of, put}
 use Rattle.hc_fields.specs.Lines.{field_text, is_lower_byte}
 use Rattle.hc_fields.proofs.Ends.{IsField-last, IsFieldList-prefix, sorted-last, put-last}
 use Rattle.hc_fields.proofs.FieldTexts.{IsLine-field}
 use Rattle.hc_fields.proofs.ReadLemmas.{IsCut-field}
-use Rattle.hc_sched.specs.FieldLines.{named, is_lower_token, has_room, may_follow, keeps_order, field_of}
+use Rattle.hc_sched.specs.FieldLines.{named, is_lower_token, has_room, may_follow, field_of}
 use Rattle.hc_sched.specs.Schedule.{IsHead}
 use Rattle.hc_sched.proofs.Steps.{cut-first, behind-append, lacks-append}
 

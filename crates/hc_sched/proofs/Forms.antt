@@ -1,22 +1,18 @@
 -- The first line of an item that is spelled is read.
-use Rattle.std.proofs.Common.{◌≡◌, ℕ, ◌+◌, ◌*◌, ◌^◌, ◌<◌, ◌≤◌, not, true, false, List, [], ◌∷◌, ◌++◌, length, Option, Some, None, refl, sym, ap, ◌∙◌, arith, length-append, le-leb, leb-true}
-use Rattle.std.specs.Prelude.{codes, All, nat_le, bytes_eq, option_map}
+use Rattle.std.proofs.Common.{◌≡◌, ℕ, ◌≤◌, true, false, List, ◌∷◌, ◌++◌, length, Some, refl, ap, ◌∙◌, arith, length-append, le-leb, leb-true}
+use Rattle.std.specs.Prelude.{codes, option_map}
 use Rattle.std.specs.Fmt.{decimal}
-use Rattle.std.specs.List.{list_all}
 use Rattle.std.proofs.lemmas.Bool.{and_parts}
 use Rattle.http_header.specs.Token.{is_token_byte}
 use Rattle.hc_text.specs.Texts.{lacks, IsSmall}
-use Rattle.hc_event.specs.declared.event.Event.{Event}
 use Rattle.hc_event.specs.declared.event.Event.TheVariants as event
 use Rattle.hc_event.specs.declared.event.Load.{Load}
 use Rattle.hc_event.specs.declared.event.Load.TheVariants as load
-use Rattle.hc_event.specs.declared.event.Request.{Request}
-use Rattle.hc_event.specs.declared.event.Response.{Response}
-use Rattle.hc_sched.specs.Words.{◌>>=◌, or_else, cut, behind, plain_of, plain_within, numbered}
-use Rattle.hc_sched.specs.Pieces.{piece_text, is_piece_text}
+use Rattle.hc_sched.specs.Words.{behind, plain_of, plain_within, numbered}
+use Rattle.hc_sched.specs.Pieces.{piece_text}
 use Rattle.hc_sched.specs.Targets.{is_target, is_short_word}
 use Rattle.hc_sched.specs.FirstLines.{First, Sets, Starts, Heads, Brings, Dooms, Tells, is_method, is_word, load_of, how_of, start_of, poll_of, head_of, piece_of, doom_of, first_of}
-use Rattle.hc_sched.specs.Schedule.{Item, Moment, Happens, load_word, event_line, item_line, fields_in, IsEvent, IsItem, IsHead}
+use Rattle.hc_sched.specs.Schedule.{Item, Moment, Happens, load_word, item_line, IsItem}
 use Rattle.hc_sched.proofs.Steps.{cut-first, lacks-append}
 use Rattle.hc_sched.proofs.Plain.{plain_of-decimal, lacks-decimal, plain-short}
 use Rattle.hc_sched.proofs.Hex.{IsPiece, is_piece_text-of, lacks-piece_text, length-piece_text}

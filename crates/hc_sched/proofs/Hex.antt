@@ -1,7 +1,7 @@
 -- Lower-case hexadecimal.
-use Rattle.std.proofs.Common.{◌≡◌, ℕ, zero, suc, ◌+◌, ◌*◌, ◌/◌, ◌%◌, ◌<◌, ◌≤◌, ◌==◌, Bool, true, false, not, ◌&&◌, ◌||◌, List, [], ◌∷◌, length, slice_index, Option, Some, None, unwrap_or, Result, Ok, Err, refl, sym, ap, subst, ◌∙◌, arith, inl, inr}
+use Rattle.std.proofs.Common.{◌≡◌, ℕ, zero, suc, ◌+◌, ◌*◌, ◌/◌, ◌%◌, ◌<◌, ◌≤◌, ◌==◌, Bool, true, false, not, ◌&&◌, ◌||◌, List, [], ◌∷◌, length, slice_index, Option, Some, None, unwrap_or, Result, Ok, Err, refl, sym, ap, ◌∙◌, arith, inl, inr}
 use Rattle.std.proofs.lemmas.Bool.{and_parts, cases_Bool, cases_lt, eqb-true, eq-eqb, leb-true, le-leb, false_from_ne_true, agree_below_at}
-use Rattle.std.specs.Prelude.{nat_lt, All, bytes_eq, codes, if◌then◌else◌}
+use Rattle.std.specs.Prelude.{All, bytes_eq, codes}
 use Rattle.std.proofs.lemmas.Slice.Eq.{bytes_eq-Decides}
 use Rattle.std.proofs.lemmas.List.{get_or_past}
 use Rattle.hc_text.specs.Texts.{lacks}
@@ -10,7 +10,7 @@ use Rattle.std.specs.List.{AllPass, list_all}
 use Rattle.std.proofs.lemmas.List.Elements.{All-weaker, All-head, All-tail, All-nil, All-from_get_or}
 use Rattle.std.proofs.lemmas.List.Sums.{AllPass-from_list_all}
 use Rattle.hex.proofs.HexLemmas.{decode_of-digits, decode_of-even, decode_of-ok, decode_of-encode_lower, length-encode_with}
-use Rattle.std.specs.Result.{result_ok, result_unwrap_or}
+use Rattle.std.specs.Result.{result_unwrap_or}
 use Rattle.hex.specs.Hex.{IsBytes, decode_of, decode_pairs, encode_lower, digit_or_error, is_hex_digit, encode_with, hex_digit_value, lower_digits, pair_value, value_at, ◌>>=◌}
 use Rattle.hex.specs.declared.error.FromHexError.{FromHexError}
 use Rattle.hc_sched.specs.Pieces.{piece_text, is_lower_digit, is_hex_text, is_piece_text, bytes_of}

@@ -1,12 +1,12 @@
 -- A plain target is a target.
-use Rattle.std.proofs.Common.{◌≡◌, ℕ, ◌+◌, ◌<◌, ◌≤◌, ◌==◌, ◌&&◌, ◌||◌, not, Bool, true, false, List, [], ◌∷◌, ◌++◌, length, get_or, Option, Some, None, refl, sym, ap, subst, ◌∙◌, inl, inr, arith, append_assoc, leb-true, le-leb}
-use Rattle.std.specs.Prelude.{codes, All, IsUtf8, IsAscii, Ok, bytes_eq, nat_le, if◌then◌else◌}
+use Rattle.std.proofs.Common.{◌≡◌, ℕ, ◌<◌, ◌≤◌, ◌==◌, ◌&&◌, ◌||◌, not, Bool, true, false, List, [], ◌∷◌, ◌++◌, length, Option, Some, None, refl, sym, ap, subst, ◌∙◌, inl, inr, arith, leb-true}
+use Rattle.std.specs.Prelude.{codes, All, IsUtf8, IsAscii, Ok, nat_le, if◌then◌else◌}
 use Rattle.std.specs.List.{list_all}
 use Rattle.std.specs.Char.{is_ascii_digit, is_digit, to_ascii_lowercase}
-use Rattle.std.proofs.lemmas.Bool.{cases_Bool, cases_eq, and_parts, and_from, both_ways, eqb-true, ne_eqb}
+use Rattle.std.proofs.lemmas.Bool.{cases_Bool, and_parts, and_from, eqb-true, ne_eqb}
 use Rattle.std.proofs.lemmas.Bool.Decides.{nat_tests}
 use Rattle.std.proofs.lemmas.List.{append-nil}
-use Rattle.std.proofs.lemmas.List.Elements.{All-nil, All-cons, All-head, All-tail}
+use Rattle.std.proofs.lemmas.List.Elements.{All-nil, All-cons}
 use Rattle.std.proofs.lemmas.Str.{IsUtf8-from_ascii}
 use Rattle.std.proofs.lemmas.Slice.Eq.{bytes_eq-Decides}
 use Rattle.percent_encoding.specs.Percent.{IsKept}
@@ -18,9 +18,9 @@ use Rattle.url.specs.declared.scheme.SchemeType.TheVariants.{SpecialNotFile}
 use Rattle.url.specs.Input.{rsplit_once, rsplit_step, lowercase, is_empty}
 use Rattle.url.specs.Ipv4.{ends_in_a_number, last_label, last_label_of, parse_number, is_number}
 use Rattle.url.specs.Host.{IsDomain}
-use Rattle.url.specs.Path.{IsSegment, IsSegmentList, join_segments, dot_count, dot_len}
-use Rattle.url.specs.Scheme.{IsScheme, default_port, scheme_type, is_slash, scheme_len}
-use Rattle.url.specs.Parts.{Parts, IsValid, IsValidHead, serialize, kind_of}
+use Rattle.url.specs.Path.{IsSegment, IsSegmentList, join_segments, dot_count}
+use Rattle.url.specs.Scheme.{default_port, scheme_type, is_slash, scheme_len}
+use Rattle.url.specs.Parts.{IsValid, IsValidHead, serialize, kind_of}
 use Rattle.url.proofs.ValidLemmas.{IsAscii-serialize}
 use Rattle.hc_sched.specs.Words.{cut, behind}
 use Rattle.hc_sched.specs.Targets.{is_target, is_short_word, has_own_text, ReadsTarget}

@@ -1,26 +1,19 @@
 -- A text that is spelled is read: as its events, and to the end of an item.
-use Rattle.std.proofs.Common.{◌≡◌, ℕ, suc, ◌+◌, ◌-◌, ◌<◌, ◌≤◌, ◌==◌, true, false, List, [], ◌∷◌, ◌++◌, length, Option, Some, None, refl, sym, ap, subst, ◌∙◌, arith, inl, inr, append_assoc, length-append}
-use Rattle.std.specs.Prelude.{nat_lt, if◌then◌else◌}
+use Rattle.std.proofs.Common.{◌≡◌, ℕ, ◌+◌, ◌-◌, ◌<◌, ◌≤◌, ◌==◌, true, false, List, [], ◌∷◌, ◌++◌, length, Option, Some, None, refl, sym, ap, subst, ◌∙◌, arith, inl, inr, append_assoc}
 use Rattle.std.proofs.lemmas.Bool.{le-ltb, ne_eqb, eq-eqb, cases_eq}
 use Rattle.std.proofs.lemmas.List.{append-nil}
 use Rattle.hc_text.specs.Texts.{lacks}
 use Rattle.hc_event.specs.declared.event.Event.{Event}
 use Rattle.hc_event.specs.declared.event.Event.TheVariants as event
-use Rattle.hc_event.specs.declared.event.Request.{Request}
-use Rattle.hc_event.specs.declared.event.Response.{Response}
-use Rattle.hc_fields.specs.FieldList.{put}
 use Rattle.hc_fields.specs.Lines.{field_text, fields_text}
-use Rattle.hc_sched.specs.declared.begun.Begun.{Begun}
 use Rattle.hc_sched.specs.declared.begun.Opening.{Opening}
 use Rattle.hc_sched.specs.declared.begun.Opening.TheVariants as opening
 use Rattle.hc_sched.specs.declared.place.Place.{Place}
 use Rattle.hc_sched.specs.declared.schedule.Timed.{Timed}
-use Rattle.hc_sched.specs.Pieces.{piece_text, bytes_of}
 use Rattle.hc_sched.specs.FirstLines.{First, first_of}
-use Rattle.hc_sched.specs.FieldLines.{field_of}
 use Rattle.hc_sched.specs.Targets.{is_target}
-use Rattle.hc_sched.specs.Reading.{Progress, Reads, Step, refuse, pass, happen, begin, event_of, take_first, take_field, take_next, take_line, after, events_in}
-use Rattle.hc_sched.specs.Schedule.{Item, Moment, Happens, item_text, item_line, item_fields, fields_in, text_of, IsHead, IsItem, IsEvent, IsSmall, IsSchedule, moment_after, moment_end, event_at, events_of}
+use Rattle.hc_sched.specs.Reading.{Progress, Reads, Step, pass, happen, begin, event_of, take_first, take_field, take_line, after, events_in}
+use Rattle.hc_sched.specs.Schedule.{Item, Moment, Happens, item_text, item_line, item_fields, text_of, IsHead, IsItem, IsEvent, IsSmall, IsSchedule, moment_after, moment_end, event_at, events_of}
 use Rattle.hc_sched.specs.Laws.{Gives, at_rest, IsReadBack}
 use Rattle.hc_sched.proofs.Hex.{IsPiece, bytes_of-piece_text}
 use Rattle.hc_sched.proofs.FeedLemmas.{line_passes, join_short, after-append, events_in-append}

@@ -1,6 +1,6 @@
 -- Targets and texts that are none.
 use Rattle.std.proofs.Common.{◌≡◌, ℕ, Bool, true, false, List, refl, sym, ap, ◌∙◌, ◌&&◌}
-use Rattle.std.specs.Prelude.{IsUtf8, None, Ok, Err}
+use Rattle.std.specs.Prelude.{IsUtf8, None, Ok}
 use Rattle.std.specs.Str.{is_utf8}
 use Rattle.std.proofs.lemmas.Bool.{and_parts, false_from_ne_true}
 use Rattle.std.proofs.lemmas.Str.{IsUtf8-from_is_utf8, is_utf8-from_IsUtf8}

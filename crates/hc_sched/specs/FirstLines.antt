@@ -1,5 +1,5 @@
 -- The first line of an item: its forms, and which of them a line is.
-use Rattle.std.specs.Prelude.{ℕ, ◌==◌, ◌&&◌, not, nat_le, Bool, List, [], ◌∷◌, length, codes, bytes_eq, Option, Some, None, option_map, if◌then◌else◌}
+use Rattle.std.specs.Prelude.{ℕ, ◌&&◌, not, nat_le, Bool, List, length, codes, bytes_eq, Option, Some, None, option_map, if◌then◌else◌}
 use Rattle.std.specs.List.{list_all}
 use Rattle.http_header.specs.Token.{is_token_byte}
 use Rattle.hc_text.specs.Texts.{lacks}

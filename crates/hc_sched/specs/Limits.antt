@@ -1,5 +1,5 @@
 -- What holds of an item while its field lines are coming.
-use Rattle.std.specs.Prelude.{ℕ, ◌+◌, ◌*◌, ◌<◌, ◌≤◌, length, Option, Some, None}
+use Rattle.std.specs.Prelude.{◌+◌, ◌*◌, ◌<◌, ◌≤◌, length, Option, Some, None}
 use Rattle.hc_fields.specs.FieldList.{size_of}
 use Rattle.hc_sched.specs.declared.begun.Begun.{Begun}
 

@@ -1,5 +1,5 @@
 -- Targets: web URLs without a fragment, in the one spelling that the URL Standard gives them.
-use Rattle.std.specs.Prelude.{◌≡◌, ◌≢◌, ℕ, ◌≤◌, ◌⊎◌, ◌&&◌, ◌||◌, nat_le, Bool, true, false, List, length, codes, bytes_eq, is_none, None, Ok, Err, IsUtf8}
+use Rattle.std.specs.Prelude.{◌≡◌, ℕ, ◌&&◌, ◌||◌, nat_le, Bool, true, false, List, length, codes, bytes_eq, is_none, None, Ok, Err}
 use Rattle.std.specs.Str.{is_utf8}
 use Rattle.hc_text.specs.Texts.{lacks}
 use Rattle.url.specs.Parts.{Parts, serialize, IsValid}

@@ -1,5 +1,4 @@
-use Rattle.std.proofs.Common.{◌≡◌, ◌+◌, ◌<◌, ◌≤◌, ◌++◌, length, refl, sym, arith, length-append}
-use Rattle.hc_sched.specs.Reading.{Reads}
+use Rattle.std.proofs.Common.{◌<◌, ◌≤◌, ◌++◌, length, arith, length-append}
 use Rattle.hc_sched.proofs.FeedLemmas.{line_grows, line_too_long, ReadsOn-from}
 use Rattle.hc_sched.proofs.reader.Reader.grow_line.Goals as goal
 

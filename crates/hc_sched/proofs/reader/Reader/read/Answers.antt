@@ -1,8 +1,7 @@
-use Rattle.std.proofs.Common.{◌≡◌, ◌+◌, ◌≤◌, ◌^◌, ◌∷◌, ◌++◌, [], Err, length, arith, rules, length-append, ap}
-use Rattle.hc_sched.specs.Reading.{Reads}
+use Rattle.std.proofs.Common.{◌≡◌, ◌∷◌, ◌++◌, [], Err, length, arith, rules, length-append, ap}
 use Rattle.hc_sched.specs.Feeding.{join_line}
 use Rattle.hc_sched.specs.Taking.{Does}
-use Rattle.hc_sched.proofs.FeedLemmas.{Still, Still-next, Still-fails}
+use Rattle.hc_sched.proofs.FeedLemmas.{Still-next, Still-fails}
 use Rattle.hc_sched.proofs.reader.Reader.read.Goals as goal
 
 pub returns-in_err-end_line-clause-feeds : goal.returns-in_err-end_line-clause-feeds

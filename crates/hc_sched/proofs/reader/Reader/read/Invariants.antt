@@ -1,4 +1,4 @@
-use Rattle.std.proofs.Common.{◌+◌, ◌≤◌, ◌^◌, length}
+use Rattle.std.proofs.Common.{◌+◌, ◌≤◌, length}
 use Rattle.hc_sched.specs.Reading.{Reads}
 use Rattle.hc_sched.specs.Feeding.{IsWithin}
 use Rattle.hc_sched.proofs.FeedLemmas.{Still}

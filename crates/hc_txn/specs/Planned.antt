@@ -1,5 +1,5 @@
 -- What a plan looks at.
-use Rattle.std.specs.Prelude.{ℕ, Bool, List, Option, Some, None, is_some, unwrap_or}
+use Rattle.std.specs.Prelude.{ℕ, Bool, List, Option, None, is_some, unwrap_or}
 use Rattle.hc_event.specs.declared.event.Request.{Request}
 use Rattle.hc_range.specs.declared.range.Asked.{Asked}
 use Rattle.hc_range.specs.declared.range.Span.{Span}

@@ -1,5 +1,5 @@
 -- What the reading of a consumer looks at.
-use Rattle.std.specs.Prelude.{ℕ, ◌^◌, nat_lt, Bool, if◌then◌else◌, Option, Some, None, is_some, unwrap_or}
+use Rattle.std.specs.Prelude.{ℕ, ◌^◌, nat_lt, if◌then◌else◌, Option, Some, None, is_some, unwrap_or}
 use Rattle.std.specs.Option.{option_and_then}
 use Rattle.hc_event.specs.declared.act.Cause.{Cause}
 use Rattle.hc_sparse.specs.Cells.{Cells}

@@ -1,5 +1,5 @@
 //! Calls of freshness.
-ghost use Rattle.std.specs.Prelude.{◌≡◌, [], ◌≤◌, ◌<◌};
+ghost use Rattle.std.specs.Prelude.{◌≡◌, [], ◌≤◌, ◌<◌, true};
 ghost use Rattle.hc_event.specs.declared.event.Load.TheVariants as load;
 ghost use Rattle.hc_bench.specs.Calls.{is_fresh_or_none};
 
@@ -69,18 +69,42 @@ fn is_fresh_or_none(why: Option<Why>) -> bool
     }
 }
 
-/// `allowed_to` of a head by what is kept of it.
+/// `allowed_to` of a head by what is kept of it, while it is fresh and after.
 #[derive(Drop)]
 pub(crate) struct AllowedTo;
 
-/// What is kept of a head that came at second 1,000.
-const HEAD: HeadFacts = HeadFacts {
-    answered: 1000,
-    initial_age: 20,
-    lifetime: LIFETIME,
-    no_cache: false,
-    must_revalidate: true,
-};
+impl Timed for AllowedTo {
+    fn is_right(&mut self, _alloc: Global, round: u64) -> Result<bool, NoMemory> {
+        let why = allowed_to(&facts_of(round), &REQUEST, now_of(round));
+        Ok(is_fresh_or_none(why))
+    }
+}
+
+/// What is kept of a head that came at second 1,000, with another age by turns.
+#[inline(never)]
+fn facts_of(round: u64) -> HeadFacts
+    ensures came { result.answered ≡ 1000 }
+    ensures age { result.initial_age < 2 }
+    ensures lifetime { result.lifetime ≡ 3600 }
+    ensures must_revalidate { result.must_revalidate ≡ true }
+{
+    HeadFacts {
+        answered: 1000,
+        initial_age: round % 2,
+        lifetime: LIFETIME,
+        no_cache: false,
+        must_revalidate: true,
+    }
+}
+
+/// A moment from then on.
+#[inline(never)]
+fn now_of(round: u64) -> u64
+    ensures came { 1000 ≤ result }
+    ensures small { result < 10000 }
+{
+    1000 + round % 7200
+}
 
 /// What is kept of a request that asks for nothing.
 const REQUEST: RequestFacts = RequestFacts {
@@ -95,23 +119,3 @@ const REQUEST: RequestFacts = RequestFacts {
         max_stale: None,
     },
 };
-
-impl Timed for AllowedTo {
-    fn is_right(&mut self, _alloc: Global, round: u64) -> Result<bool, NoMemory> {
-        let now = now_of(round);
-        let why = Why::Fresh {
-            age: now - 980,
-            lifetime: LIFETIME,
-        };
-        Ok(allowed_to(&HEAD, &REQUEST, now) == Some(why))
-    }
-}
-
-/// A moment at which the head is fresh.
-#[inline(never)]
-fn now_of(round: u64) -> u64
-    ensures came { 1000 ≤ result }
-    ensures fresh { result < 4580 }
-{
-    1000 + round % 3000
-}

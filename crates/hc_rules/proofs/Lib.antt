@@ -5,6 +5,7 @@ pub mod LeastFolds
 pub mod RoomFolds
 pub mod Cond
 pub mod CaseLaws
+pub mod LengthLaws
 pub mod StepLaws
 pub mod PlanLaws
 pub mod RoomLaws

@@ -1,5 +1,5 @@
 -- What the tables come to.
-use Rattle.std.specs.Prelude.{◌≡◌, ◌≢◌, ◌↔◌, ℕ, ◌+◌, ◌-◌, ◌<◌, ◌≤◌, ◌⊎◌, Bool, true, false, List, [], length, take, sum, map, filter, All, Contains, Option, Some, None, is_some, unwrap_or, IsSome, IfSome}
+use Rattle.std.specs.Prelude.{◌≡◌, ◌≢◌, ◌↔◌, ℕ, ◌+◌, ◌-◌, ◌<◌, ◌≤◌, ◌⊎◌, Bool, true, false, List, [], length, take, sum, map, filter, All, Contains, Option, Some, None, is_some, unwrap_or, IsSome, IfSome, codes}
 use Rattle.hc_range.specs.declared.range.Span.{Span}
 use Rattle.hc_range.specs.declared.range.Asked.{Asked}
 use Rattle.hc_range.specs.declared.range.ContentRange.{ContentRange}
@@ -7,12 +7,18 @@ use Rattle.hc_range.specs.declared.range.ContentRange.TheVariants as range
 use Rattle.hc_cachectl.specs.Directives.{of_response}
 use Rattle.hc_range.specs.Ranges.{SpellsRange, SpellsContentRange}
 use Rattle.hc_etag.specs.Etags.{SpellsTag}
-use Rattle.hc_rules.specs.RangeTexts.{asked_in, content_range_in, content_range_of}
+use Rattle.hc_rules.specs.RangeTexts.{asked_in, content_range_in, content_range_of, number_of}
+use Rattle.hc_rules.specs.Lengths.{has_no_body, tells_part, length_of}
 use Rattle.hc_etag.specs.TagTexts.{strong_in}
 use Rattle.hc_rules.specs.TagTexts.{strong_of}
 use Rattle.hc_event.specs.declared.event.Event.{Event}
 use Rattle.hc_event.specs.declared.event.Event.TheVariants as event
+use Rattle.hc_fields.specs.FieldElements.{elements_in}
+use Rattle.hc_event.specs.declared.event.Request.{Request}
 use Rattle.hc_event.specs.declared.event.Response.{Response}
+use Rattle.hc_event.specs.declared.act.Need.{Need}
+use Rattle.hc_rules.specs.declared.length.Length.{Length}
+use Rattle.hc_rules.specs.declared.length.Length.TheVariants as told
 use Rattle.hc_event.specs.declared.act.Why.{Why}
 use Rattle.hc_event.specs.declared.act.Refusal.{Refusal}
 use Rattle.hc_event.specs.declared.act.Refusal.TheVariants as refusal
@@ -137,6 +143,42 @@ IsLeast Stops (Some r) = Stops r × ((s : Refusal) → Stops s → rank r ≤ ra
 -- a denied event names the least refusal that applies, and an accepted one has none
 abbrev pub DenialsAreLeast : Type 0
 DenialsAreLeast = (g : Gate) (e : Event) → IsLeast (Applies g e) (refusal_of g e)
+
+-- LENGTHS
+
+-- the elements of Content-Length
+abbrev pub declared_in : Response → List (List ℕ)
+declared_in response = elements_in (codes "content-length") response.fields
+
+-- there are some, and each spells this number
+abbrev pub AllSay : ℕ → List (List ℕ) → Type 0
+AllSay n elements = (elements ≢ []) × All (λ element. number_of element ≡ Some n) elements
+
+-- Content-Range says the bytes from this position on, and so many; Content-Length says nothing else
+pub record SaysPart (response : Response) (base count : ℕ) : Type 0 where
+  pub last : ℕ
+  pub total : Option ℕ
+  pub range : content_range_of response.fields ≡ Some (range.Part base last total)
+  pub count_is : count ≡ last + 1 - base
+  pub agrees : (declared_in response ≡ []) ⊎ AllSay count (declared_in response)
+
+-- What is promised is none of an answer without a body, or what Content-Length says; a part is what Content-Range says;
+-- where nothing is known nothing was said, and what is bad has a body and said something, or had to tell a part.
+abbrev pub IsRightLength : Need → Request → Response → Length → Type 0
+IsRightLength need request response told.Unknown =
+    (has_no_body request response.status ≡ false) × (declared_in response ≡ [])
+IsRightLength need request response (told.Promised n) =
+    ((has_no_body request response.status ≡ true) × (n ≡ 0)) ⊎ AllSay n (declared_in response)
+IsRightLength need request response (told.Part base count) =
+    (response.status ≡ 206) × (route_of need ≢ route.Direct) × SaysPart response base count
+IsRightLength need request response told.Bad =
+    (has_no_body request response.status ≡ false)
+    × ((declared_in response ≢ []) ⊎ (tells_part (route_of need) response.status ≡ true))
+
+abbrev pub LengthsAreRight : Type 0
+LengthsAreRight =
+    (need : Need) (request : Request) (response : Response) →
+    IsRightLength need request response (length_of need request response)
 
 -- CASES OF HEADS
 

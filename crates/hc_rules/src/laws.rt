@@ -1,5 +1,5 @@
 //! What the tables come to, as the contracts of functions without a body.
-ghost use Rattle.hc_rules.specs.Laws.{RangesAreSpelled, PartsAreSpelled, StrongTagsAreSpelled, DenialsAreLeast, CasesAreRight, JoinsAreRight, PlansAreRight, StepsAreRight, ShortestGivesWay, SurvivorsAreLeast, AdmissionsAreRight, AdmitsAsPlanned};
+ghost use Rattle.hc_rules.specs.Laws.{RangesAreSpelled, PartsAreSpelled, StrongTagsAreSpelled, DenialsAreLeast, CasesAreRight, LengthsAreRight, JoinsAreRight, PlansAreRight, StepsAreRight, ShortestGivesWay, SurvivorsAreLeast, AdmissionsAreRight, AdmitsAsPlanned};
 
 /// What is read of Range, Content-Range and a strong ETag is what the grammar of RFC 9110 spells
 /// (sections 8.8.3, 14.1.2 and 14.4).
@@ -12,6 +12,12 @@ pub fn texts_are_spelled()
 /// A denied event names the least refusal that applies to it, and to an accepted one none applies.
 pub fn denials_are_least()
     ensures { DenialsAreLeast }
+{}
+
+/// Promised is what Content-Length says, or nothing of an answer without a body; a part is what
+/// Content-Range says, and Content-Length says nothing else; where nothing is known, nothing was said.
+pub fn lengths_are_right()
+    ensures { LengthsAreRight }
 {}
 
 /// What a head founds may be stored and its write isn't lost; what validates or joins does so; only

@@ -21,8 +21,8 @@ pub use admission::{Admission, Bound, BoundKind, admission_of, least_bound, leas
 pub use heads::{HeadCase, HeadView, fits_to_found, head_case, is_conditional, is_storable};
 pub use joins::{HoleAnswer, hole_answer};
 pub use laws::{
-    admissions_are_right, cases_are_right, denials_are_least, joins_are_right, plans_are_right,
-    shortest_gives_way, steps_are_right, survivors_are_least, texts_are_spelled,
+    admissions_are_right, cases_are_right, denials_are_least, joins_are_right, lengths_are_right,
+    plans_are_right, shortest_gives_way, steps_are_right, survivors_are_least, texts_are_spelled,
 };
 pub use length::{Length, length_of};
 pub use need::{Route, route_of};

@@ -1,0 +1,95 @@
+-- What is said of the length of a body is what its head says.
+use Rattle.std.proofs.Common.{◌≡◌, ◌≢◌, ◌⊎◌, ℕ, ◌+◌, ◌-◌, true, false, List, [], ◌∷◌, Option, Some, None, refl, sym, ap, inl, inr}
+use Rattle.std.specs.Prelude.{All}
+use Rattle.std.specs.List.{list_all}
+use Rattle.std.proofs.lemmas.Bool.{and_parts, eqb-true, both_ways}
+use Rattle.std.proofs.lemmas.List.Elements.{All-nil, All-cons}
+use Rattle.hc_range.specs.declared.range.ContentRange.{ContentRange}
+use Rattle.hc_range.specs.declared.range.ContentRange.TheVariants as range
+use Rattle.hc_event.specs.declared.event.Request.{Request}
+use Rattle.hc_event.specs.declared.event.Response.{Response}
+use Rattle.hc_event.specs.declared.act.Need.{Need}
+use Rattle.hc_rules.specs.declared.need.Route.{Route}
+use Rattle.hc_rules.specs.declared.need.Route.TheVariants as route
+use Rattle.hc_rules.specs.declared.length.Length.{Length}
+use Rattle.hc_rules.specs.declared.length.Length.TheVariants.{Unknown, Promised, Part, Bad}
+use Rattle.hc_rules.specs.Needs.{route_of}
+use Rattle.hc_rules.specs.Lengths.{is_same_number, told, all_tell, length_told, has_no_body, agrees, part_length, tells_part, length_of}
+use Rattle.hc_rules.specs.RangeTexts.{number_of, content_range_of}
+use Rattle.hc_rules.specs.Laws.{declared_in, AllSay, IsRightLength, LengthsAreRight}
+use Rattle.hc_rules.proofs.Cond.{either}
+
+same : (n : ℕ) (o : Option ℕ) → is_same_number (Some n) o ≡ true → o ≡ Some n
+same n None h = absurd (both_ways _ refl h)
+same n (Some m) h = ap Some (sym (eqb-true n m h))
+
+all_say : (n : ℕ) (es : List (List ℕ)) → list_all (λ e. is_same_number (Some n) (number_of e)) es ≡ true → All (λ e. number_of e ≡ Some n) es
+all_say n [] h = All-nil (λ e. number_of e ≡ Some n)
+all_say n (e ∷ es) h =
+    let both = and_parts _ _ h in
+    All-cons (λ d. number_of d ≡ Some n) e es (same n (number_of e) both.0) (all_say n es both.1)
+
+some : (e : List ℕ) (es : List (List ℕ)) → e ∷ es ≢ []
+some e es is = absurd (cc)
+
+-- what Content-Length tells, by its elements
+abbrev Told : List (List ℕ) → Length → Type 0
+Told es Unknown = es ≡ []
+Told es (Promised n) = AllSay n es
+Told es (Part base n) = ⊥
+Told es Bad = es ≢ []
+
+by_number : (e : List ℕ) (es : List (List ℕ)) (o : Option ℕ) → all_tell o (e ∷ es) ≡ true → Told (e ∷ es) (told o)
+by_number e es None h = some e es
+by_number e es (Some n) h = (some e es, all_say n (e ∷ es) h)
+
+told_right : (es : List (List ℕ)) → Told es (length_told es)
+told_right [] = refl
+told_right (e ∷ es) =
+    either (Told (e ∷ es)) (all_tell (number_of e) (e ∷ es)) _ _ (by_number e es (number_of e)) (λ _. some e es)
+
+module _ (need : Need) (request : Request) (response : Response) (body : has_no_body request response.status ≡ false) where
+  whole : (said : Length) → Told (declared_in response) said → IsRightLength need request response said
+  whole Unknown t = (body, t)
+  whole (Promised n) t = inr t
+  whole (Part base n) t = absurd t
+  whole Bad t = (body, inl t)
+
+  agreed : (said : Length) (n : ℕ) → Told (declared_in response) said → agrees said n ≡ true → (declared_in response ≡ []) ⊎ AllSay n (declared_in response)
+  agreed Unknown n t h = inl t
+  agreed (Promised m) n t h = inr (rw (sym (eqb-true m n h)) t)
+  agreed (Part base m) n t h = absurd t
+  agreed Bad n t h = absurd (both_ways _ refl h)
+
+  turned : (r : Route) (status : ℕ) → tells_part r status ≡ true → (status ≡ 206) × (r ≢ route.Direct)
+  turned route.Direct status h = absurd (both_ways _ refl h)
+  turned route.Turn status h = (eqb-true status 206 h, λ is. absurd (cc))
+  turned route.Hole status h = (eqb-true status 206 h, λ is. absurd (cc))
+
+  part : (said : Length) (told_range : Option ContentRange) → content_range_of response.fields ≡ told_range → Told (declared_in response) said → tells_part (route_of need) response.status ≡ true → IsRightLength need request response (part_length said told_range)
+  part said None is t tells = (body, inr tells)
+  part said (Some (range.Unsatisfied total)) is t tells = (body, inr tells)
+  part said (Some (range.Part first last total)) is t tells =
+      let turn = turned (route_of need) response.status tells in
+      either (IsRightLength need request response) (agrees said (last + 1 - first)) _ _
+      (λ h. (
+        turn.0,
+        turn.1,
+        record {
+          last = last;
+          total = total;
+          range = is;
+          count_is = refl;
+          agrees = agreed said (last + 1 - first) t h;
+        },
+      ))
+      (λ _. (body, inr tells))
+
+pub lengths-right : LengthsAreRight
+unfolding length_of
+lengths-right need request response =
+    let t = told_right (declared_in response) in
+    either (IsRightLength need request response) (has_no_body request response.status) _ _ (λ none. inl (none, refl))
+    (λ body. either (IsRightLength need request response) (tells_part (route_of need) response.status) _ _
+    (part need request response body _ _ refl t)
+    (λ _. whole need request response body _ t))

@@ -112,4 +112,5 @@ module _ (t : Tables) (e : Entry) where
     idle_due = o.idle_due;
     first_due = λ r c d v k z row kept first also none reader. o.first_due r c d v k z row kept (was_first r c first) also none (was_bound r d z reader);
     founders = o.founders;
+    reading = o.reading;
   }

@@ -89,4 +89,7 @@ pub mod UndueKeeps
 pub mod Starts
 pub mod Founders
 pub mod DeniedKeeps
+pub mod HeadedAs
+pub mod ReadingKeeps
+pub mod AboutKeeps
 pub mod SoundRuns

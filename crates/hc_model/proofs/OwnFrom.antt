@@ -97,7 +97,7 @@ module _ (t : Tables) (e : Entry) (c x : ℕ) where
     })
   ]
 
-  after_by : (p : Place) (own : Option ℕ) → own_after t e c p own ≡ Some x → (own ≡ Some x) ⊎ IsLeft p
+  pub after_by : (p : Place) (own : Option ℕ) → own_after t e c p own ≡ Some x → (own ≡ Some x) ⊎ IsLeft p
   after_by place.Line own is = inl is
   after_by (place.Passed r kept) own is = inl is
   after_by (place.Turn y) own is = inl is

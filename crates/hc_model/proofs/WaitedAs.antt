@@ -49,6 +49,8 @@ module _ (t : Tables) (now c : ℕ) (k : Consumer) where
   pub record WaitedAs (z : Wait) : Type 0 where
     pub heard : IsHeard t k
     pub free : bound_to k.place ≡ None
+    pub unshown : k.shown ≡ false
+    pub none : shows_at t k k.place ≡ None
     pub plain : (d : ℕ) → z ≡ wait.Busy d → is_bypassing k.request ≡ false
 
   module _ (z : Wait) (others : IsForOthers z) where
@@ -144,7 +146,7 @@ module _ (t : Tables) (now c : ℕ) (k : Consumer) where
     by_move want _ (by.down why at) is = absurd (let never : Fails why ≡ wait_it = is in cc)
     by_move want _ (by.over at) is = absurd (let never : Nothing ≡ wait_it = is in cc)
     by_move want _ (by.reads shown heard) is = absurd (step_waits want (read_step (read_view t want c k)) is)
-    by_move want _ (by.plans shown free none heard) is = record { heard = heard; free = free; plain = by_plan (plan_of (plan_view t now c k)) (plan_by (plan_view t now c k)) is }
+    by_move want _ (by.plans shown free none heard) is = record { heard = heard; free = free; unshown = shown; none = none; plain = by_plan (plan_of (plan_view t now c k)) (plan_by (plan_view t now c k)) is }
 
     by_as : (m : Move) → WaitsAs z m → m ≡ wait_it
     by_as _ said.waits = refl

@@ -26,7 +26,7 @@ use Rattle.hc_model.specs.Rows.{Tables, Exchange, Representation, Consumer}
 use Rattle.hc_model.specs.Exchanges.{front, family, is_headless}
 use Rattle.hc_model.specs.Currents.{current}
 use Rattle.hc_model.specs.Cases.{was_shown}
-use Rattle.hc_model.specs.Reading.{is_written, bound}
+use Rattle.hc_model.specs.Reading.{is_written, bound, own_open}
 use Rattle.hc_model.specs.Writers.{came_alone}
 use Rattle.hc_model.specs.Dooms.{doomed, is_key}
 use Rattle.hc_model.specs.Lines.{turn}
@@ -43,7 +43,7 @@ use Rattle.hc_model.specs.Beginnings.{may_begin}
 use Rattle.hc_model.specs.Denials.{live}
 use Rattle.hc_model.specs.Runs.{IsRun, may_stand, IsOwed}
 use Rattle.hc_model.specs.Reads.{Delivers}
-use Rattle.hc_model.specs.Sound.{Sound, IsBound, IsToBeShown, Waits, OneAbout, OneCurrent, IsStored, IsListed, IsNamed}
+use Rattle.hc_model.specs.Sound.{Sound, IsBound, IsAbout, IsToBeShown, Waits, OneAbout, OneCurrent, IsStored, IsListed, IsNamed}
 use Rattle.hc_model.specs.Owners.{Owners}
 use Rattle.hc_model.specs.Keys.{entry_of, IsOfOneKey, KeepsOthers}
 
@@ -466,6 +466,11 @@ abbrev pub AreUndue : Tables → Type 0
 AreUndue t =
     (r c : ℕ) (v : Representation) (k : Consumer) → t.representation r ≡ Some v →
     IsBound t r c k → is_written t v ≡ true → k.due ≡ None
+
+-- the open exchange of who is bound is about what that is bound to
+abbrev pub ReadAbout : Tables → Type 0
+ReadAbout t =
+    (r c x : ℕ) (k : Consumer) → IsBound t r c k → own_open t k ≡ Some x → IsAbout t r x
 
 -- Contents by which a store may begin are such.
 abbrev pub BeginningsAreStarts : Type 0

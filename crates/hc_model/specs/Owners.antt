@@ -26,6 +26,11 @@ pub record Awaits (t : Tables) (x : ℕ) (w : Exchange) : Type 0 where
   pub own : k.own ≡ Some x
   pub at : IsAwaiting x w k.place
 
+-- where a consumer stands whose open exchange has a head: it reads that past the store, or is bound
+pub data IsReading (x : ℕ) (p : Place) : Type 0 where
+  direct : p ≡ place.Direct x → IsReading x p
+  bound : (r lo : ℕ) (hi : Option ℕ) (by : BoundBy) → p ≡ place.Bound r lo hi by → IsReading x p
+
 -- the request of an exchange is of the key of its consumer's
 pub record IsOpener (t : Tables) (w : Exchange) : Type 0 where
   pub k : Consumer
@@ -62,3 +67,6 @@ pub record Owners (t : Tables) : Type 0 where
       IsBound t r d u → u.due ≡ None
   pub founders : (r : ℕ) (w : Exchange) (v : Representation) → t.exchange r ≡ Some w →
       t.representation r ≡ Some v → w.joined ≡ None
+  pub reading : (c x : ℕ) (k : Consumer) (w : Exchange) → t.consumer c ≡ Some k →
+      k.own ≡ Some x → t.exchange x ≡ Some w → w.is_open ≡ true → is_some w.head ≡ true →
+      IsReading x k.place

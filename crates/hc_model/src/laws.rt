@@ -2,7 +2,7 @@
 ghost use Rattle.hc_model.specs.Histories.{RunsAreFiltered};
 ghost use Rattle.hc_model.specs.Reads.{OneHeadIsShown};
 ghost use Rattle.hc_model.specs.Keys.{LawOfOneKey, KeysAreKept, KeysBegin};
-ghost use Rattle.hc_model.specs.Laws.{SoundDeliversOnce, DeliveriesAreKept, BodiesAreKept, NumbersAreKept, NamesAreKept, OneCurrentIsKept, StoresAreKept, StartsAreSound, WholeIsWhole, AfterEach, AreBound, KnowEnds, OwnedAfterEach, AreToBeShown, OwedAfterEach, OwnersAreKnown, TurnsAreOne, TurnsAreKept, TurnsBegin, TurnsInRuns, KeysInRuns, BarrierIsKept, BarrierBegins, DoomsInRuns, TruncatedIsFront, CountsAreKept, TurnsGo, ReadersGo, CountsBegin, FewGiveWay, AreRead, AreUndue, BeginningsAreStarts, AfterDenials};
+ghost use Rattle.hc_model.specs.Laws.{SoundDeliversOnce, DeliveriesAreKept, BodiesAreKept, NumbersAreKept, NamesAreKept, OneCurrentIsKept, StoresAreKept, StartsAreSound, WholeIsWhole, AfterEach, AreBound, KnowEnds, OwnedAfterEach, AreToBeShown, OwedAfterEach, OwnersAreKnown, TurnsAreOne, TurnsAreKept, TurnsBegin, TurnsInRuns, KeysInRuns, BarrierIsKept, BarrierBegins, DoomsInRuns, TruncatedIsFront, CountsAreKept, TurnsGo, ReadersGo, CountsBegin, FewGiveWay, AreRead, AreUndue, ReadAbout, BeginningsAreStarts, AfterDenials};
 ghost use Rattle.hc_model.specs.Owners.{Owners};
 ghost use Rattle.hc_model.specs.Sound.{OneFirst, Sound};
 
@@ -72,7 +72,7 @@ pub fn other_keys_stay()
 /// the only one, and that one knows its end; and whoever is bound and was shown no head founded, or its
 /// first hole joined or is awaited: after each accepted event, whatever the store loses. What is being
 /// written for several has a reader, and nothing is due for whoever reads it, after each accepted event
-/// that a store may stand behind.
+/// that a store may stand behind; and the open exchange of who is bound is about what that is bound to.
 pub fn readers_are_bound()
     ensures there { AfterEach AreBound }
     ensures one { AfterEach OneFirst }
@@ -80,12 +80,14 @@ pub fn readers_are_bound()
     ensures shown { OwnedAfterEach AreToBeShown }
     ensures read { OwedAfterEach AreRead }
     ensures undue { OwedAfterEach AreUndue }
+    ensures about { OwedAfterEach ReadAbout }
 {}
 
 /// Whose each exchange is, and where its consumer waits for its head, is told at the beginning and
 /// after each accepted event that a store may stand behind: an exchange is the own one of one consumer
 /// at most, one without a head is that of the consumer for which it was opened, which stands where it
-/// waits for it, and one that writes for several is nobody's own.
+/// waits for it, whose open one has its head reads that past the store or is bound, and one that writes
+/// for several is nobody's own.
 pub fn owners_stay_known()
     ensures begun { OwnersAreKnown }
     ensures kept { OwedAfterEach Owners }

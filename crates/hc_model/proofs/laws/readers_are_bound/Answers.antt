@@ -1,4 +1,5 @@
 -- Readers are bound to what is there.
+use Rattle.hc_model.proofs.AboutKeeps.{own_about_kept}
 use Rattle.hc_model.proofs.BoundKeeps.{binds_kept}
 use Rattle.hc_model.proofs.FirstKeeps.{ends_kept, one_first_kept}
 use Rattle.hc_model.proofs.HasBound.{has_bound_kept}
@@ -23,3 +24,6 @@ returns-clause-read c = λ limits t now flaw s o event goes stand. has_bound_kep
 
 pub returns-clause-undue : goal.returns-clause-undue
 returns-clause-undue c = λ limits t now flaw s o event goes stand. undue_kept limits t now flaw s o event goes stand
+
+pub returns-clause-about : goal.returns-clause-about
+returns-clause-about c = λ limits t now flaw s o event goes stand. own_about_kept limits t now flaw s o event goes stand

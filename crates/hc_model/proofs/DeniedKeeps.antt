@@ -1,6 +1,7 @@
 -- A denied entry changes nothing that soundness speaks of.
 use Rattle.std.proofs.Common.{◌≡◌, ℕ, refl, sym, ◌∙◌}
 use Rattle.hc_model.specs.Entries.{Entry}
+use Rattle.hc_model.specs.Measures.{Measures}
 use Rattle.hc_model.specs.Owners.{Owners}
 use Rattle.hc_model.specs.Reading.{is_written, bound}
 use Rattle.hc_model.specs.Rows.{Tables, Exchange, Representation, Consumer}
@@ -114,3 +115,6 @@ module _ (t : Tables) (e : Entry) where
     founders = o.founders;
     reading = o.reading;
   }
+
+  pub denied_measures : Measures t → Measures u
+  denied_measures m = record { brings = m.brings; tight = m.tight; within = m.within }

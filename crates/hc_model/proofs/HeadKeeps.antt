@@ -41,7 +41,7 @@ join_of : (t : Tables) (lost : Bool) (w : Exchange) (response : Response) (c : H
 join_of t lost w response c (join.other _ off) is = absurd (let never : false ≡ true = sym off ∙ is in cc)
 join_of t lost w response c (join.joining _ joined good) is = record { fills = filling w.need (row_of t w.aim) response joined; good = good }
 
-is_join : (t : Tables) (lost : Bool) (w : Exchange) (response : Response) → is_joining (Some (head_case (head_view t lost w response))) ≡ true → IsJoin t w response
+pub is_join : (t : Tables) (lost : Bool) (w : Exchange) (response : Response) → is_joining (Some (head_case (head_view t lost w response))) ≡ true → IsJoin t w response
 is_join t lost w response is = join_of t lost w response (head_case (head_view t lost w response)) (may_join (head_view t lost w response)) is
 
 pub record IsAimed (t : Tables) (w : Exchange) : Type 0 where

@@ -92,4 +92,9 @@ pub mod DeniedKeeps
 pub mod HeadedAs
 pub mod ReadingKeeps
 pub mod AboutKeeps
+pub mod PartTold
+pub mod Fills
+pub mod MeasuresKeep
+pub mod MeasuresBegin
+pub mod GrowingKeeps
 pub mod SoundRuns

@@ -28,6 +28,7 @@ ends_by (Some m) w n p fits lt = elim (bool_cases (nat_lt m (length w.body + n))
 pub record IsTaken (w : Exchange) (n : ℕ) : Type 0 where
   pub is_open : w.is_open ≡ true
   pub headed : is_some w.head ≡ true
+  pub some : 0 < n
   pub fits : overlong (promised w) (length w.body + n) ≡ None
 
 -- what the refusals test, one after another
@@ -35,13 +36,13 @@ module _ (delivered : ℕ) (o : Option ℕ) where
   gate_of : Bool → Bool → Bool → Option OpenExchange
   gate_of is_open headed asked = if is_open then Some (record { headed = headed; asked = asked; delivered = delivered; promised = o }) else None
 
-  fits_by : (n : ℕ) → (if n == 0 then Some refusal.EmptyPiece else overlong o (delivered + n)) ≡ None → overlong o (delivered + n) ≡ None
+  fits_by : (n : ℕ) → (if n == 0 then Some refusal.EmptyPiece else overlong o (delivered + n)) ≡ None → (0 < n) × (overlong o (delivered + n) ≡ None)
   fits_by n h = elim (bool_cases (n == 0)) [
     | inl none ↦ absurd (never _ (rw none at h))
-    | inr some ↦ rw some at h
+    | inr some ↦ (grind (arith, nat_tests), rw some at h)
   ]
 
-  taken_by : (is_open headed asked : Bool) (n : ℕ) → piece_refusal (gate_of is_open headed asked) n ≡ None → (is_open ≡ true) × (headed ≡ true) × (overlong o (delivered + n) ≡ None)
+  taken_by : (is_open headed asked : Bool) (n : ℕ) → piece_refusal (gate_of is_open headed asked) n ≡ None → (is_open ≡ true) × (headed ≡ true) × ((0 < n) × (overlong o (delivered + n) ≡ None))
   unfolding gate_of
   taken_by false headed asked n h = absurd (never _ h)
   taken_by true false asked n h = absurd (never _ h)
@@ -52,7 +53,7 @@ pub taken : (n : ℕ) (w : Exchange) → piece_refusal (as_open (Some w)) n ≡ 
 unfolding gate_of
 taken n w h =
     let parts = taken_by (length w.body) (promised w) w.is_open (is_some w.head) w.asked n h in
-    record { is_open = parts.0; headed = parts.1; fits = parts.2 }
+    record { is_open = parts.0; headed = parts.1; some = parts.2.0; fits = parts.2.1 }
 
 pub delivers_once : (t : Tables) → Sound t → DeliversOnce t
 unfolding refusals.refusal_of

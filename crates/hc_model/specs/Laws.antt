@@ -43,8 +43,9 @@ use Rattle.hc_model.specs.Beginnings.{may_begin}
 use Rattle.hc_model.specs.Denials.{live}
 use Rattle.hc_model.specs.Runs.{IsRun, may_stand, IsOwed}
 use Rattle.hc_model.specs.Reads.{Delivers}
-use Rattle.hc_model.specs.Sound.{Sound, IsBound, IsAbout, IsToBeShown, Waits, OneAbout, OneCurrent, IsStored, IsListed, IsNamed}
+use Rattle.hc_model.specs.Sound.{Sound, IsBound, IsAbout, IsGrowing, IsToBeShown, Waits, OneAbout, OneCurrent, IsStored, IsListed, IsNamed}
 use Rattle.hc_model.specs.Owners.{Owners}
+use Rattle.hc_model.specs.Measures.{Measures}
 use Rattle.hc_model.specs.Keys.{entry_of, IsOfOneKey, KeepsOthers}
 
 -- a fact of the tables of every run from contents by which a store may begin
@@ -471,6 +472,26 @@ AreUndue t =
 abbrev pub ReadAbout : Tables → Type 0
 ReadAbout t =
     (r c x : ℕ) (k : Consumer) → IsBound t r c k → own_open t k ≡ Some x → IsAbout t r x
+
+-- the same of what is measured too
+abbrev pub MeasuredAfterEach : (Tables → Type 0) → Type 0
+MeasuredAfterEach P =
+    (limits : Limits) (t : Tables) (now : ℕ) (flaw : Flaw) → Sound t → Owners t → Measures t →
+    (event : Event) → denial t event ≡ None →
+    may_stand limits t (entry_of limits t now event flaw) ≡ true →
+    P (after_accepted t (entry_of limits t now event flaw))
+
+abbrev pub BeginningsAreMeasured : Type 0
+BeginningsAreMeasured =
+    (limits : Limits) (contents : Contents) → may_begin limits contents ≡ true →
+    Measures (begun contents)
+
+-- while a writing is on, just what its exchange has brought is stored, and it promises all that is
+-- missing
+abbrev pub AreGrowing : Tables → Type 0
+AreGrowing t =
+    (r x : ℕ) (v : Representation) → t.representation r ≡ Some v → is_written t v ≡ true →
+    v.writer ≡ Some x → (w : Exchange) × IsGrowing t r v x w
 
 -- Contents by which a store may begin are such.
 abbrev pub BeginningsAreStarts : Type 0

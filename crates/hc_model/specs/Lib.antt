@@ -36,4 +36,5 @@ pub mod Reads
 pub mod Sound
 pub mod Keys
 pub mod Owners
+pub mod Measures
 pub mod Laws

@@ -2,8 +2,9 @@
 ghost use Rattle.hc_model.specs.Histories.{RunsAreFiltered};
 ghost use Rattle.hc_model.specs.Reads.{OneHeadIsShown};
 ghost use Rattle.hc_model.specs.Keys.{LawOfOneKey, KeysAreKept, KeysBegin};
-ghost use Rattle.hc_model.specs.Laws.{SoundDeliversOnce, DeliveriesAreKept, BodiesAreKept, NumbersAreKept, NamesAreKept, OneCurrentIsKept, StoresAreKept, StartsAreSound, WholeIsWhole, AfterEach, AreBound, KnowEnds, OwnedAfterEach, AreToBeShown, OwedAfterEach, OwnersAreKnown, TurnsAreOne, TurnsAreKept, TurnsBegin, TurnsInRuns, KeysInRuns, BarrierIsKept, BarrierBegins, DoomsInRuns, TruncatedIsFront, CountsAreKept, TurnsGo, ReadersGo, CountsBegin, FewGiveWay, AreRead, AreUndue, ReadAbout, BeginningsAreStarts, AfterDenials};
+ghost use Rattle.hc_model.specs.Laws.{SoundDeliversOnce, DeliveriesAreKept, BodiesAreKept, NumbersAreKept, NamesAreKept, OneCurrentIsKept, StoresAreKept, StartsAreSound, WholeIsWhole, AfterEach, AreBound, KnowEnds, OwnedAfterEach, AreToBeShown, OwedAfterEach, OwnersAreKnown, TurnsAreOne, TurnsAreKept, TurnsBegin, TurnsInRuns, KeysInRuns, BarrierIsKept, BarrierBegins, DoomsInRuns, TruncatedIsFront, CountsAreKept, TurnsGo, ReadersGo, CountsBegin, FewGiveWay, AreRead, AreUndue, ReadAbout, MeasuredAfterEach, BeginningsAreMeasured, AreGrowing, BeginningsAreStarts, AfterDenials};
 ghost use Rattle.hc_model.specs.Owners.{Owners};
+ghost use Rattle.hc_model.specs.Measures.{Measures};
 ghost use Rattle.hc_model.specs.Sound.{OneFirst, Sound};
 
 /// Delivered once: where a piece is accepted, none of its positions has come; what shows this holds
@@ -93,6 +94,20 @@ pub fn owners_stay_known()
     ensures kept { OwedAfterEach Owners }
 {}
 
+/// What came of a body ends at its reach, which is within its length, and an open exchange brings no more
+/// than there is to come of it: from the beginning, and after each accepted event that a store may stand
+/// behind.
+pub fn bodies_stay_measured()
+    ensures begun { BeginningsAreMeasured }
+    ensures kept { MeasuredAfterEach Measures }
+{}
+
+/// While a writing is on, just what its exchange has brought is stored, from the first position on, and it
+/// promises all that is missing: after each accepted event that a store may stand behind.
+pub fn writings_grow()
+    ensures { MeasuredAfterEach AreGrowing }
+{}
+
 /// Of a key at most one exchange of the turn waits for its head, and its consumer has the turn.
 /// What shows this holds from the beginning, and after each accepted entry of a run.
 pub fn one_has_the_turn()
@@ -132,8 +147,9 @@ pub fn few_give_way()
     ensures { FewGiveWay }
 {}
 
-/// A denied entry leaves sound tables sound, and owners known.
+/// A denied entry leaves sound tables sound, owners known and bodies measured.
 pub fn denials_keep_soundness()
     ensures sound { AfterDenials Sound }
     ensures owned { AfterDenials Owners }
+    ensures measured { AfterDenials Measures }
 {}

@@ -117,4 +117,4 @@ module _ (t : Tables) (e : Entry) where
   }
 
   pub denied_measures : Measures t → Measures u
-  denied_measures m = record { brings = m.brings; tight = m.tight; within = m.within }
+  denied_measures m = record { brings = m.brings; tight = m.tight; within = m.within; ends = m.ends }

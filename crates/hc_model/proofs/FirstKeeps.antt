@@ -59,10 +59,10 @@ pub case_of_head : (t : Tables) (e : Entry) (x : ℕ) (response : Response) (w :
 case_of_head t e x response w c at row is =
     subst (CaseBy (head_view t (has_loss e.acts) w response)) (some_inj (head_case (head_view t (has_loss e.acts) w response)) c (sym (case_is t e x response w at row) ∙ is)) (case_by (head_view t (has_loss e.acts) w response))
 
-whole_200 : (t : Tables) (lost : Bool) (w : Exchange) (response : Response) → CaseBy (head_view t lost w response) case.FoundsWhole → response.status ≡ 200
+pub whole_200 : (t : Tables) (lost : Bool) (w : Exchange) (response : Response) → CaseBy (head_view t lost w response) case.FoundsWhole → response.status ≡ 200
 whole_200 t lost w response (cases.founds_whole way status kept good) = status
 
-replaced_200 : (t : Tables) (lost : Bool) (w : Exchange) (response : Response) → CaseBy (head_view t lost w response) case.FirstReplaced → response.status ≡ 200
+pub replaced_200 : (t : Tables) (lost : Bool) (w : Exchange) (response : Response) → CaseBy (head_view t lost w response) case.FirstReplaced → response.status ≡ 200
 replaced_200 t lost w response (cases.first_replaced way shown status kept good) = status
 
 -- who founds with all of a body founds by a 200, and else knows its end

@@ -97,4 +97,5 @@ pub mod Fills
 pub mod MeasuresKeep
 pub mod MeasuresBegin
 pub mod GrowingKeeps
+pub mod EndsKeep
 pub mod SoundRuns

@@ -115,5 +115,6 @@ module _ (limits : Limits) (contents : Contents) where
     measures_begin = record {
       brings = λ x w v row on headed there. absurd (none_some w row);
       tight = λ r n v row ends. tight_of r n (find (of_number r) contents.items) v refl row ends;
+      ends = λ r c lo hi how k v row at there. absurd (none_some k row);
       within = λ r total v row known. within_of r total (find (of_number r) contents.items) v refl row known;
     }

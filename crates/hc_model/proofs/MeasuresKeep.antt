@@ -60,7 +60,7 @@ false_true h = cc
 none_some : {A : Type 0} (a : A) → None ≡ Some a → ⊥
 none_some a is = cc
 
-number_not : (n m : ℕ) → (n ≡ m → ⊥) → nat_eq n m ≡ false
+pub number_not : (n m : ℕ) → (n ≡ m → ⊥) → nat_eq n m ≡ false
 number_not n m off = grind (arith, nat_tests)
 
 -- a part that fits to found tells its length
@@ -428,10 +428,11 @@ module _ (limits : Limits) (t : Tables) (now : ℕ) (flaw : Flaw) (s : Sound t) 
       by_total (inl same) = by_fills (sym same ∙ known) (fills t e r v u kept)
       by_total (inr is) = by_ended is v.head.total refl
 
-  -- Measures stay.
-  pub measures_kept : Measures now_on
-  measures_kept = record {
-    brings = λ x z u after on headed there. brings_by x z u after on headed there (exchange_from t e x (t.exchange x) z refl after);
-    tight = λ r n u row ends. tight_by r n u ends (rep_from t e r (t.representation r) u refl row);
-    within = λ r total u row known. within_by r total u known (rep_from t e r (t.representation r) u refl row);
-  }
+  pub brings_kept : (x : ℕ) (z : Exchange) (u : Representation) → now_on.exchange x ≡ Some z → z.is_open ≡ true → is_some z.head ≡ true → now_on.representation (family x z) ≡ Some u → IsMeasured z u
+  brings_kept x z u after on headed there = brings_by x z u after on headed there (exchange_from t e x (t.exchange x) z refl after)
+
+  pub tight_kept : (r n : ℕ) (u : Representation) → now_on.representation r ≡ Some u → u.reach ≡ n + 1 → is_some (u.body n) ≡ true
+  tight_kept r n u row ends = tight_by r n u ends (rep_from t e r (t.representation r) u refl row)
+
+  pub within_kept : (r total : ℕ) (u : Representation) → now_on.representation r ≡ Some u → u.head.total ≡ Some total → u.reach ≤ total
+  within_kept r total u row known = within_by r total u known (rep_from t e r (t.representation r) u refl row)

@@ -94,9 +94,9 @@ pub fn owners_stay_known()
     ensures kept { OwedAfterEach Owners }
 {}
 
-/// What came of a body ends at its reach, which is within its length, and an open exchange brings no more
-/// than there is to come of it: from the beginning, and after each accepted event that a store may stand
-/// behind.
+/// What came of a body ends at its reach, which is within its length, as is where a consumer stops reading
+/// it; and an open exchange brings no more than there is to come of it: from the beginning, and after each
+/// accepted event that a store may stand behind.
 pub fn bodies_stay_measured()
     ensures begun { BeginningsAreMeasured }
     ensures kept { MeasuredAfterEach Measures }

@@ -109,16 +109,16 @@ first_some : (f : ℕ → Option ℕ) (x : ℕ) (others : Option ℕ) (r : ℕ) 
 first_some f x others r None is h rest = rest h
 first_some f x others r (Some q) is h rest = (x, is ∙ h)
 
-found_some : (f : ℕ → Option ℕ) (xs : List ℕ) (r : ℕ) → first_found f xs ≡ Some r → (x : ℕ) × (f x ≡ Some r)
+pub found_some : (f : ℕ → Option ℕ) (xs : List ℕ) (r : ℕ) → first_found f xs ≡ Some r → (x : ℕ) × (f x ≡ Some r)
 found_some f [] r h = absurd (none_some r h)
 found_some f (x ∷ xs) r h = first_some f x (first_found f xs) r (f x) refl h (λ rest. found_some f xs r rest)
 
-closes_lossless : (x : ℕ) (acts : List Act) → closes_in x (without_losses acts) ≡ closes_in x acts
+pub closes_lossless : (x : ℕ) (acts : List Act) → closes_in x (without_losses acts) ≡ closes_in x acts
 closes_lossless x [] = refl
 closes_lossless x (act.Close y ∷ acts) = ap (λ b. (y == x) || b) (closes_lossless x acts)
 closes_lossless x (_ ∷ acts) = closes_lossless x acts
 
-test_some : {A : Type 0} (b : Bool) (o : Option A) (a : A) → (if b then o else None) ≡ Some a → (b ≡ true) × (o ≡ Some a)
+pub test_some : {A : Type 0} (b : Bool) (o : Option A) (a : A) → (if b then o else None) ≡ Some a → (b ≡ true) × (o ≡ Some a)
 test_some true o a h = (refl, h)
 test_some false o a h = absurd (none_some a h)
 

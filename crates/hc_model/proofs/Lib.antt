@@ -98,4 +98,6 @@ pub mod MeasuresKeep
 pub mod MeasuresBegin
 pub mod GrowingKeeps
 pub mod EndsKeep
+pub mod LossBy
+pub mod WriterEnds
 pub mod SoundRuns

@@ -10,6 +10,7 @@ use Rattle.hc_event.specs.declared.act.Act.TheVariants as act
 use Rattle.hc_rules.specs.declared.room.Limits.{Limits}
 use Rattle.hc_model.specs.Answers.{accepted, poll_acts, lost}
 use Rattle.hc_model.specs.Closings.{closing, closes_row, must_close}
+use Rattle.hc_model.specs.ExchangeRows.{exchange_heard}
 use Rattle.hc_model.specs.Flaws.{Flaw, NoFlaw, Loses, Misreads}
 use Rattle.hc_model.specs.Moves as moves
 use Rattle.hc_model.specs.Moves.{Move, Nothing, Asks, Opens, Shows, Gives, Ends, Fails, acts_of}
@@ -88,6 +89,10 @@ and_left : (a b : Bool) → (a && b) ≡ true → a ≡ true
 and_left true b h = refl
 and_left false b h = absurd (false_true h)
 
+and_right : (a b : Bool) → (a && b) ≡ true → b ≡ true
+and_right true b h = h
+and_right false b h = absurd (false_true h)
+
 module _ (limits : Limits) (t : Tables) (now : ℕ) (flaw : Flaw) (s : Sound t) where
   told : (ev : Event) (x : ℕ) → closes_in x (map act.Evicted (evicted limits t now ev) ++ (lost flaw ++ map act.Close (closing t (record { now = now; event = ev; acts = lost flaw })))) ≡ true → Among x (closing t (record { now = now; event = ev; acts = lost flaw }))
   told ev x h = in_all x (closing t (record { now = now; event = ev; acts = lost flaw })) (in_lost x flaw _ (in_evicted x (evicted limits t now ev) _ h))
@@ -117,3 +122,12 @@ module _ (limits : Limits) (t : Tables) (now : ℕ) (flaw : Flaw) (s : Sound t) 
   pub had_row : (ev : Event) (x : ℕ) → closes_in x (accepted limits t now ev flaw) ≡ true → t.exchange x ≡ None → ⊥
   unfolding closing
   had_row ev x h none = none_test ev x (t.exchange x) (among_test x (λ y. closes_row t (before limits t now flaw s ev) y (t.exchange y)) (reverse t.openings) (closed_by ev x h)) none
+
+  row_test : (ev : Event) (x : ℕ) (w : Exchange) (o : Option Exchange) → o ≡ Some w → closes_row t (before limits t now flaw s ev) x o ≡ true → (exchange_heard t (before limits t now flaw s ev) x ev w).is_open ≡ true
+  row_test ev x w None is h = absurd (false_true h)
+  row_test ev x w (Some z) is h = let same : z ≡ w = (let is_it : Some z ≡ Some w = is in cc) in ap (λ (q : Exchange). (exchange_heard t (before limits t now flaw s ev) x ev q).is_open) (sym same) ∙ and_right _ _ h
+
+  -- and the event left it open
+  pub had_open : (ev : Event) (x : ℕ) (w : Exchange) → t.exchange x ≡ Some w → closes_in x (accepted limits t now ev flaw) ≡ true → (exchange_heard t (before limits t now flaw s ev) x ev w).is_open ≡ true
+  unfolding closing
+  had_open ev x w row h = row_test ev x w (t.exchange x) row (among_test x (λ y. closes_row t (before limits t now flaw s ev) y (t.exchange y)) (reverse t.openings) (closed_by ev x h))

@@ -51,7 +51,7 @@ same_if : (b : Bool) (k u : Consumer) → IsSame k u → IsSame k (cond b u k)
 same_if true k u is = is
 same_if false k u is = same k
 
-heard_same : (t : Tables) (e : Entry) (c : ℕ) (ev : Event) (k : Consumer) → IsSame k (consumer_heard t e c ev k)
+pub heard_same : (t : Tables) (e : Entry) (c : ℕ) (ev : Event) (k : Consumer) → IsSame k (consumer_heard t e c ev k)
 heard_same t e c (event.Start d request) k = same k
 heard_same t e c (event.Poll d want) k = same k
 heard_same t e c (event.Head x response) k = by_row (t.exchange x)

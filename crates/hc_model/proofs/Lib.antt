@@ -100,4 +100,6 @@ pub mod GrowingKeeps
 pub mod EndsKeep
 pub mod LossBy
 pub mod WriterEnds
+pub mod ServedKeeps
+pub mod OfEntries
 pub mod SoundRuns

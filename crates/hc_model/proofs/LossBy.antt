@@ -1,20 +1,17 @@
 -- What is lost by an entry of a run: what its head or piece writes, or what is sealed since an exchange of its family ends without a piece.
-use Rattle.std.proofs.Common.{◌≡◌, ◌⊎◌, inl, inr, ℕ, List, [], ◌∷◌, ◌++◌, Bool, true, false, Option, Some, None, refl, ap, sym, ◌∙◌, subst, arith}
-use Rattle.std.specs.Prelude.{if◌then◌else◌, is_some, ◌==◌, ◌&&◌, ◌||◌, not, nat_eq, unwrap_or, map}
+use Rattle.std.proofs.Common.{◌≡◌, ◌⊎◌, inl, inr, ℕ, Bool, true, false, Option, Some, None, refl, ap, sym, ◌∙◌, arith}
+use Rattle.std.specs.Prelude.{is_some, ◌==◌, ◌&&◌, ◌||◌, not, nat_eq, unwrap_or}
 use Rattle.std.proofs.lemmas.Bool.Decides.{nat_tests}
 use Rattle.hc_event.specs.Filters.{closes_in, is_denied}
 use Rattle.hc_event.specs.declared.act.LostKind.{LostKind}
 use Rattle.hc_event.specs.declared.event.Event.{Event}
 use Rattle.hc_event.specs.declared.event.Event.TheVariants as event
-use Rattle.hc_event.specs.declared.event.Response.{Response}
-use Rattle.hc_rules.specs.Refusals as refusals
-use Rattle.hc_rules.specs.Refusals.{fault_refusal}
 use Rattle.hc_rules.specs.declared.room.Limits.{Limits}
 use Rattle.hc_model.specs.ActFilters.{loses_in, without_losses}
 use Rattle.hc_model.specs.Answers.{lost, said, accepted}
 use Rattle.hc_model.specs.Closings.{closing}
 use Rattle.hc_model.specs.Currents.{is_number}
-use Rattle.hc_model.specs.Denials.{denial, as_open}
+use Rattle.hc_model.specs.Denials.{denial}
 use Rattle.hc_model.specs.Entries.{Entry}
 use Rattle.hc_model.specs.ExchangeRows.{exchange_heard}
 use Rattle.hc_model.specs.Exchanges.{family}
@@ -28,15 +25,14 @@ use Rattle.hc_model.specs.Sound.{Sound, IsAbout}
 use Rattle.hc_model.specs.Sound as sound
 use Rattle.hc_model.specs.Weights.{evicted}
 use Rattle.hc_model.specs.Writers.{brings_body}
-use Rattle.hc_model.specs.Writes.{written, written_in, lossless, sealed, seals_at, sealed_by, is_sealed, stops}
+use Rattle.hc_model.specs.Writes.{written, written_in, lossless, seals_at, sealed_by, is_sealed, stops}
 use Rattle.hc_model.proofs.ActParts.{said_is, said_closes, loses_evicted, loses_closed, loses_before}
 use Rattle.hc_model.proofs.Closed.{before}
-use Rattle.hc_model.proofs.HoleLemmas.{bool_cases}
 use Rattle.hc_model.proofs.KeyActs.{found_some, closes_lossless, test_some}
 use Rattle.hc_model.proofs.MeasuresKeep.{ender}
 use Rattle.hc_model.proofs.PieceKeeps.{eq_cases, some_inj}
 use Rattle.hc_model.proofs.Pens.{same_row}
-use Rattle.hc_model.proofs.Unclosed.{had_open, had_row}
+use Rattle.hc_model.proofs.Unclosed.{had_open}
 use Rattle.hc_model.proofs.Waiters.{fault_open_of}
 
 false_true : false ≡ true → ⊥

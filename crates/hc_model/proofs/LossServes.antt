@@ -92,7 +92,7 @@ number_is None c h = absurd (let never : false ≡ true = h in cc)
 number_is (Some d) c h = let same : d ≡ c = grind (arith, nat_tests) in ap Some same
 
 -- a member to which nothing becomes due at the loss of the writing is the survivor
-survives : (b n : Bool) (a : Cause) → b ≡ true → (cond (b && not n) (Some a) None) ≡ None → n ≡ true
+pub survives : (b n : Bool) (a : Cause) → b ≡ true → (cond (b && not n) (Some a) None) ≡ None → n ≡ true
 survives b true a on h = refl
 survives true false a on h = absurd (let never : Some a ≡ None = h in cc)
 survives false false a on h = absurd (let never : false ≡ true = on in cc)

@@ -1,6 +1,6 @@
 -- Where a shared writing ends while somebody reads it to whom nothing becomes due, all of it is stored.
-use Rattle.std.proofs.Common.{◌≡◌, ◌⊎◌, inl, inr, ℕ, ◌+◌, ◌<◌, ◌≤◌, List, [], ◌∷◌, length, ◌++◌, Bool, true, false, Option, Some, None, refl, ap, sym, ◌∙◌, subst, arith}
-use Rattle.std.specs.Prelude.{if◌then◌else◌, is_some, is_none, ◌==◌, ◌&&◌, ◌||◌, not, nat_eq, nat_lt, filter, unwrap_or}
+use Rattle.std.proofs.Common.{◌≡◌, ◌⊎◌, inl, inr, ℕ, ◌+◌, ◌<◌, ◌≤◌, List, [], ◌∷◌, length, ◌++◌, Bool, true, false, Option, Some, None, refl, ap, sym, ◌∙◌, arith}
+use Rattle.std.specs.Prelude.{if◌then◌else◌, is_some, is_none, ◌==◌, ◌&&◌, ◌||◌, not, nat_eq, nat_lt, unwrap_or}
 use Rattle.std.specs.List.{list_all}
 use Rattle.std.specs.Option.{option_or, option_and_then}
 use Rattle.std.proofs.lemmas.Bool.Decides.{nat_tests}
@@ -9,7 +9,6 @@ use Rattle.hc_event.specs.Filters.{leaves_in, closes_in}
 use Rattle.hc_event.specs.declared.event.Event.{Event}
 use Rattle.hc_event.specs.declared.event.Event.TheVariants as event
 use Rattle.hc_event.specs.declared.event.Response.{Response}
-use Rattle.hc_event.specs.declared.act.Cause.{Cause}
 use Rattle.hc_event.specs.declared.act.Cause.TheVariants as cause
 use Rattle.hc_rules.specs.Lengths.{is_same_number}
 use Rattle.hc_rules.specs.declared.room.Limits.{Limits}
@@ -24,21 +23,21 @@ use Rattle.hc_model.specs.ConsumerRows.{consumer_heard}
 use Rattle.hc_model.specs.Currents.{is_number}
 use Rattle.hc_model.specs.Denials.{denial}
 use Rattle.hc_model.specs.Entries.{Entry}
-use Rattle.hc_model.specs.ExchangeRows.{exchange_heard, exchange_acted}
-use Rattle.hc_model.specs.Exchanges.{exchange_in, is_open, is_headless, is_reached, family, front, base, promised}
-use Rattle.hc_model.specs.Failures.{becomes_due, cause_of_stop, stop_cause, short_cause, short_of}
+use Rattle.hc_model.specs.ExchangeRows.{exchange_heard}
+use Rattle.hc_model.specs.Exchanges.{exchange_in, is_open, is_reached, family, front, base, promised}
+use Rattle.hc_model.specs.Failures.{becomes_due, stop_cause, short_cause, short_of}
 use Rattle.hc_model.specs.Flaws.{Flaw}
 use Rattle.hc_model.specs.Keys.{entry_of}
 use Rattle.hc_model.specs.Measures.{Measures, IsMeasured}
 use Rattle.hc_model.specs.Measures as measures
 use Rattle.hc_model.specs.Owners.{Owners}
 use Rattle.hc_model.specs.Reading.{is_written, bound, is_bound, own_open, if_open, shared, writing_in, source}
-use Rattle.hc_model.specs.RepresentationRows.{representation_heard, representation_acted, ended, length_in}
+use Rattle.hc_model.specs.RepresentationRows.{representation_heard, length_in}
 use Rattle.hc_model.specs.Rows.{Tables, Exchange, Representation, Consumer}
 use Rattle.hc_model.specs.Sound.{Sound, Among, IsBound, IsGrowing, end_from}
 use Rattle.hc_model.specs.Sound as sound
 use Rattle.hc_model.specs.Tables.{after_accepted}
-use Rattle.hc_model.specs.Writers.{brings_body, loses_writing, survivor}
+use Rattle.hc_model.specs.Writers.{brings_body, loses_writing}
 use Rattle.hc_model.proofs.ActParts.{said_is, said_closes}
 use Rattle.hc_model.proofs.ApartKeeps.{is_on}
 use Rattle.hc_model.proofs.BoundFrom.{IsRow}
@@ -55,7 +54,7 @@ use Rattle.hc_model.proofs.PieceKeeps.{eq_cases, some_inj}
 use Rattle.hc_model.proofs.Pens.{same_row}
 use Rattle.hc_model.proofs.RepFrom.{IsKept}
 use Rattle.hc_model.proofs.SaidActs.{leaver_leaves}
-use Rattle.hc_model.proofs.Stops.{writer_about, source_is, last_piece, clean_end}
+use Rattle.hc_model.proofs.Stops.{source_is, last_piece, clean_end}
 use Rattle.hc_model.proofs.ToBeShown.{heard_place}
 use Rattle.hc_model.proofs.Unclosed.{had_to}
 

@@ -43,7 +43,7 @@ use Rattle.hc_model.specs.Beginnings.{may_begin}
 use Rattle.hc_model.specs.Denials.{live}
 use Rattle.hc_model.specs.Runs.{IsRun, may_stand, IsOwed}
 use Rattle.hc_model.specs.Reads.{Delivers}
-use Rattle.hc_model.specs.Sound.{Sound, IsBound, IsAbout, IsGrowing, IsToBeShown, Waits, OneAbout, OneCurrent, IsStored, IsListed, IsNamed}
+use Rattle.hc_model.specs.Sound.{Sound, IsBound, IsAbout, IsGrowing, IsServed, IsToBeShown, Waits, OneAbout, OneCurrent, IsStored, IsListed, IsNamed}
 use Rattle.hc_model.specs.Owners.{Owners}
 use Rattle.hc_model.specs.Measures.{Measures}
 use Rattle.hc_model.specs.Keys.{entry_of, IsOfOneKey, KeepsOthers}
@@ -492,6 +492,18 @@ abbrev pub AreGrowing : Tables → Type 0
 AreGrowing t =
     (r x : ℕ) (v : Representation) → t.representation r ≡ Some v → is_written t v ≡ true →
     v.writer ≡ Some x → (w : Exchange) × IsGrowing t r v x w
+
+-- what is kept by each accepted entry of a run
+abbrev pub KeptByEntries : (Tables → Type 0) → Type 0
+KeptByEntries P =
+    (limits : Limits) (t : Tables) (e : Entry) → Sound t → Owners t → Measures t →
+    IsOwed limits t e → is_denied e.acts ≡ false → P (after_accepted t e)
+
+-- whoever is bound and has nothing due reads with others, has the pen, or needs nothing more
+abbrev pub AreServed : Tables → Type 0
+AreServed t =
+    (r c : ℕ) (v : Representation) (k : Consumer) → t.representation r ≡ Some v →
+    IsBound t r c k → k.due ≡ None → IsServed t r v c k
 
 -- Contents by which a store may begin are such.
 abbrev pub BeginningsAreStarts : Type 0

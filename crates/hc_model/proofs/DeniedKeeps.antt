@@ -2,7 +2,8 @@
 use Rattle.std.proofs.Common.{◌≡◌, ℕ, refl, sym, ◌∙◌}
 use Rattle.hc_model.specs.Entries.{Entry}
 use Rattle.hc_model.specs.Measures.{Measures}
-use Rattle.hc_model.specs.Owners.{Owners}
+use Rattle.hc_model.specs.Owners.{Owners, IsPast}
+use Rattle.hc_model.specs.Owners as owners
 use Rattle.hc_model.specs.Reading.{is_written, bound}
 use Rattle.hc_model.specs.Rows.{Tables, Exchange, Representation, Consumer}
 use Rattle.hc_model.specs.Sound.{Sound, IsBound, IsAbout, IsFirst, HasPen, IsServed, IsHad, IsGrowing, IsAlone, IsToBeShown}
@@ -100,6 +101,10 @@ module _ (t : Tables) (e : Entry) where
     alone = λ r c v k row is reader. goes_alone v k (s.alone r c v k row is (was_bound r c k reader));
   }
 
+  still_past : (x : ℕ) (k : Consumer) → IsPast t x k → IsPast u x k
+  still_past x k (owners.answered w row headed) = owners.answered w row headed
+  still_past x k (owners.waits w own row opened bare) = owners.waits w own row opened bare
+
   pub denied_owners : Owners t → Owners u
   denied_owners o = record {
     opener = λ x w row. let p = o.opener x w row in record { k = p.k; row = p.row; key_is = p.key_is; plain = p.plain };
@@ -114,6 +119,7 @@ module _ (t : Tables) (e : Entry) where
     first_due = λ r c d v k z row kept first also none reader. o.first_due r c d v k z row kept (was_first r c first) also none (was_bound r d z reader);
     founders = o.founders;
     reading = o.reading;
+    past = λ c x k row at off. still_past x k (o.past c x k row at off);
   }
 
   pub denied_measures : Measures t → Measures u

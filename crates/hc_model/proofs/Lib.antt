@@ -90,6 +90,7 @@ pub mod Starts
 pub mod Founders
 pub mod DeniedKeeps
 pub mod HeadedAs
+pub mod PastKeeps
 pub mod ReadingKeeps
 pub mod AboutKeeps
 pub mod PartTold

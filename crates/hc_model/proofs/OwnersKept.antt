@@ -18,6 +18,7 @@ use Rattle.hc_model.proofs.FirstDues.{idle_kept}
 use Rattle.hc_model.proofs.Founders.{founders_kept}
 use Rattle.hc_model.proofs.OwnersKeep.{openers_kept, there_kept, one_kept, first_kept, writers_kept}
 use Rattle.hc_model.proofs.PassedKeeps.{passed_kept}
+use Rattle.hc_model.proofs.PastKeeps.{past_kept}
 use Rattle.hc_model.proofs.ReadingKeeps.{reading_kept}
 use Rattle.hc_model.proofs.WaitingKeeps.{waiting_kept}
 
@@ -33,6 +34,7 @@ owners_kept limits t now flaw s o ev goes stand = record {
   writers = λ r x u row is. writers_kept limits t now flaw s o ev goes r x u row is;
   founders = λ r u v row also. founders_kept limits t now flaw s o ev goes r u v row also;
   reading = λ c x u z row own also opened headed. reading_kept limits t now flaw s o ev goes c x u z row own also opened headed;
+  past = λ c x u row at off. past_kept limits t now flaw s o ev goes stand c x u row at off;
   idle_due = λ c u row idle. idle_kept limits t now flaw s o ev goes c u row idle;
   first_due = λ r c d v k u after kept is_first row none reader. first_due_kept limits t now flaw s o ev goes r c d v k u after kept is_first row none reader;
 }
@@ -56,6 +58,7 @@ owners_begun contents = record {
   writers = λ r x v row writer. absurd (loaded_writer _ v x row writer);
   founders = λ r w v row also. absurd (none_some w row);
   reading = λ c x k w row is also opened headed. absurd (none_some k row);
+  past = λ c x k row at off. absurd (none_some k row);
   idle_due = λ c k row idle. absurd (none_some k row);
   first_due = λ r c d v k u row kept is_first also none reader. absurd (none_some k also);
 }

@@ -31,6 +31,12 @@ pub data IsReading (x : ℕ) (p : Place) : Type 0 where
   direct : p ≡ place.Direct x → IsReading x p
   bound : (r lo : ℕ) (hi : Option ℕ) (by : BoundBy) → p ≡ place.Bound r lo hi by → IsReading x p
 
+-- who reads past the store and wasn't shown a head may be shown it, or waits for it
+pub data IsPast (t : Tables) (x : ℕ) (k : Consumer) : Type 0 where
+  answered : (w : Exchange) → t.exchange x ≡ Some w → is_some w.head ≡ true → IsPast t x k
+  waits : (w : Exchange) → k.own ≡ Some x → t.exchange x ≡ Some w → w.is_open ≡ true →
+      w.head ≡ None → IsPast t x k
+
 -- the request of an exchange is of the key of its consumer's
 pub record IsOpener (t : Tables) (w : Exchange) : Type 0 where
   pub k : Consumer
@@ -70,3 +76,5 @@ pub record Owners (t : Tables) : Type 0 where
   pub reading : (c x : ℕ) (k : Consumer) (w : Exchange) → t.consumer c ≡ Some k →
       k.own ≡ Some x → t.exchange x ≡ Some w → w.is_open ≡ true → is_some w.head ≡ true →
       IsReading x k.place
+  pub past : (c x : ℕ) (k : Consumer) → t.consumer c ≡ Some k → k.place ≡ place.Direct x →
+      k.shown ≡ false → IsPast t x k

@@ -142,7 +142,7 @@ bound_row : (t : Tables) (r d : ℕ) (z : Option Consumer) → t.consumer d ≡ 
 bound_row t r d None row h = absurd (false_true h)
 bound_row t r d (Some k) row h = (k, bound_at t r d k k.place row refl h)
 
-reader_of : (t : Tables) (r d : ℕ) → Among d (bound t r) → (k : Consumer) × IsBound t r d k
+pub reader_of : (t : Tables) (r d : ℕ) → Among d (bound t r) → (k : Consumer) × IsBound t r d k
 unfolding bound
 reader_of t r d there = bound_row t r d (t.consumer d) refl (among_passes (λ c. is_bound r (t.consumer c)) d t.starts there)
 
@@ -185,7 +185,7 @@ module _ (limits : Limits) (t : Tables) (now : ℕ) (flaw : Flaw) (s : Sound t) 
   heard_open x (event.Doom key) w = refl
 
   -- what stays open had not to be closed
-  not_must : (x : ℕ) (w : Exchange) → t.exchange x ≡ Some w → is_open (now_on.exchange x) ≡ true → must_close t b x w ≡ true → ⊥
+  pub not_must : (x : ℕ) (w : Exchange) → t.exchange x ≡ Some w → is_open (now_on.exchange x) ≡ true → must_close t b x w ≡ true → ⊥
   not_must x w row on must =
       let is : now_on.exchange x ≡ Some (exchange_acted x e.acts (exchange_heard t e x ev w)) = after_is t e x w (t.exchange x) row in
       let acted : (not (closes_in x e.acts) && (exchange_heard t e x ev w).is_open) ≡ true = sym (ap is_open is) ∙ on in
@@ -284,7 +284,7 @@ module _ (limits : Limits) (t : Tables) (now : ℕ) (flaw : Flaw) (s : Sound t) 
     unpassed (place.Down cause) at h = false_true h
     unpassed place.Over at h = false_true h
 
-    stays_on : starts_over t e c k ≡ false
+    pub stays_on : starts_over t e c k ≡ false
     unfolding starts_over
     stays_on = not_so _ (λ over. elim (or_cases _ (loses_what_it_waits_for t e c k.place) over) [
       | inr lost ↦ unpassed k.place refl lost
@@ -298,7 +298,7 @@ module _ (limits : Limits) (t : Tables) (now : ℕ) (flaw : Flaw) (s : Sound t) 
     settled q over off = rw off refl
 
     -- its consumer stands where the head puts it
-    head_stands : (u : Consumer) × (now_on.consumer c ≡ Some u) × (u.place ≡ place_by_case x response w k (case_at t e))
+    pub head_stands : (u : Consumer) × (now_on.consumer c ≡ Some u) × (u.place ≡ place_by_case x response w k (case_at t e))
     head_stands =
         let on = is_kept t e c k is.row in
         let made : due_after t e c k (consumer_acted t e c (consumer_heard t e c ev k)) ≡ on.u = sym (settled (consumer_acted t e c (consumer_heard t e c ev k)) (starts_over t e c k) stays_on) ∙ on.is in
@@ -331,7 +331,7 @@ module _ (limits : Limits) (t : Tables) (now : ℕ) (flaw : Flaw) (s : Sound t) 
   joins_way t lost w response _ (cases.later_bad way shown h) on = absurd (false_true on)
   joins_way t lost w response _ (cases.later_changed way shown) on = absurd (false_true on)
 
-  joins_place : (x : ℕ) (response : Response) (w : Exchange) (k : Consumer) (g : Option HeadCase) → is_joining g ≡ true → place_by_case x response w k g ≡ k.place
+  pub joins_place : (x : ℕ) (response : Response) (w : Exchange) (k : Consumer) (g : Option HeadCase) → is_joining g ≡ true → place_by_case x response w k g ≡ k.place
   joins_place x response w k None h = absurd (false_true h)
   joins_place x response w k (Some case.FirstJoins) h = refl
   joins_place x response w k (Some case.LaterJoins) h = refl
@@ -357,7 +357,7 @@ module _ (limits : Limits) (t : Tables) (now : ℕ) (flaw : Flaw) (s : Sound t) 
   or_left false c h = absurd (false_true h)
 
   -- the consumer of a head that joins reads what it joins
-  awaiting_bound : (x r : ℕ) (w : Exchange) (p : Place) → route_of w.need ≡ route.Hole → w.aim ≡ Some r → IsAwaiting x w p → (lo : ℕ) × (hi : Option ℕ) × (how : BoundBy) × (p ≡ place.Bound r lo hi how)
+  pub awaiting_bound : (x r : ℕ) (w : Exchange) (p : Place) → route_of w.need ≡ route.Hole → w.aim ≡ Some r → IsAwaiting x w p → (lo : ℕ) × (hi : Option ℕ) × (how : BoundBy) × (p ≡ place.Bound r lo hi how)
   awaiting_bound x r w p hole aim (owners.direct way stands) = absurd (direct_hole (sym way ∙ hole))
   awaiting_bound x r w p hole aim (owners.turn way stands) = absurd (turn_hole (sym way ∙ hole))
   awaiting_bound x r w p hole aim (owners.hole q lo hi how way aimed stands) = (lo, hi, how, stands ∙ ap (λ z. place.Bound z lo hi how) (some_inj q r (sym aimed ∙ aim)))

@@ -103,4 +103,7 @@ pub mod LossBy
 pub mod WriterEnds
 pub mod ServedKeeps
 pub mod OfEntries
+pub mod BoundStays
+pub mod HadKeeps
+pub mod HadNew
 pub mod SoundRuns

@@ -60,6 +60,7 @@ module _ (t : Tables) (now c : ℕ) (k : Consumer) where
     pub bypasses : n ≡ need.Bypass → is_bypassing k.request ≡ true
     pub heard : IsHeard t k
     pub unread : bound_to k.place ≡ None → shows_at t k k.place ≡ None
+    pub unshown : bound_to k.place ≡ None → k.shown ≡ false
     pub way : Way n
 
   module _ (x : ℕ) (n : Need) (request : Request) where
@@ -121,6 +122,7 @@ module _ (t : Tables) (now c : ℕ) (k : Consumer) where
       bypasses = λ is. absurd (hole_bypass (sym is) hole h.need_is);
       heard = heard;
       unread = λ free. absurd (let no : Some r ≡ None = sym (ap bound_to at) ∙ free in cc);
+      unshown = λ free. absurd (let no : Some r ≡ None = sym (ap bound_to at) ∙ free in cc);
       way = goes_on r lo hi how at (ap route_of h.need_is);
     }
     later_by hole (place.Direct y) heard at h v row = absurd (none_row v row)
@@ -167,8 +169,8 @@ module _ (t : Tables) (now c : ℕ) (k : Consumer) where
     binds_opens why None (Some r) is = stored_opens r why _ 0 _ (t.representation r) is
     binds_opens why (Some span) (Some r) is = stored_opens r why _ span.lo (Some span.hi) (t.representation r) is
 
-    first_by : (span hole : Span) (j : plans.IsAlone (plan_view t now c k) span (Some hole)) → bound_to k.place ≡ None → shows_at t k k.place ≡ None → IsHeard t k → IsForHole k.request hole → OpenedAs n request
-    first_by span hole j free none heard h =
+    first_by : (span hole : Span) (j : plans.IsAlone (plan_view t now c k) span (Some hole)) → bound_to k.place ≡ None → k.shown ≡ false → shows_at t k k.place ≡ None → IsHeard t k → IsForHole k.request hole → OpenedAs n request
+    first_by span hole j free off none heard h =
         let a = candidate_is t now c k j.s j.current in
         record {
           key_is = h.key_is;
@@ -176,22 +178,23 @@ module _ (t : Tables) (now c : ℕ) (k : Consumer) where
           bypasses = λ is. absurd (hole_bypass (sym is) hole h.need_is);
           heard = heard;
           unread = λ is. none;
+          unshown = λ is. off;
           way = fills a.r a.v span free (ap route_of h.need_is) a.current_is a.row (sym a.span_is ∙ j.wanted_is);
         }
 
-    by_plan : (p : Plan) → PlanBy (plan_view t now c k) p → bound_to k.place ≡ None → shows_at t k k.place ≡ None → IsHeard t k → plan_move t k p ≡ open_it → OpenedAs n request
-    by_plan _ (plans.turn d) free none heard is = absurd (let never : moves.Waits (wait.Turn d) ≡ open_it = is in cc)
-    by_plan _ (plans.busy d kept plain) free none heard is = absurd (let never : moves.Waits (wait.Busy d) ≡ open_it = is in cc)
-    by_plan _ plans.misses free none heard is = absurd (let never : Fails cause.Miss ≡ open_it = is in cc)
-    by_plan _ (plans.passes_by m way) free none heard is =
+    by_plan : (p : Plan) → PlanBy (plan_view t now c k) p → bound_to k.place ≡ None → k.shown ≡ false → shows_at t k k.place ≡ None → IsHeard t k → plan_move t k p ≡ open_it → OpenedAs n request
+    by_plan _ (plans.turn d) free off none heard is = absurd (let never : moves.Waits (wait.Turn d) ≡ open_it = is in cc)
+    by_plan _ (plans.busy d kept plain) free off none heard is = absurd (let never : moves.Waits (wait.Busy d) ≡ open_it = is in cc)
+    by_plan _ plans.misses free off none heard is = absurd (let never : Fails cause.Miss ≡ open_it = is in cc)
+    by_plan _ (plans.passes_by m way) free off none heard is =
         let same = opens_same (t.opened + 1) m k.request is in
-        record { key_is = sym (ap (λ (z : Request). z.key) same.1); plain = λ at. absurd (direct_other m way (same.0 ∙ at)); bypasses = λ at. absurd (direct_bypass m way (same.0 ∙ at)); heard = heard; unread = λ is. none; way = passes_by free (sym (ap route_of same.0) ∙ way) }
-    by_plan _ (plans.fetches m way plain bypass) free none heard is =
+        record { key_is = sym (ap (λ (z : Request). z.key) same.1); plain = λ at. absurd (direct_other m way (same.0 ∙ at)); bypasses = λ at. absurd (direct_bypass m way (same.0 ∙ at)); heard = heard; unread = λ is. none; unshown = λ is. off; way = passes_by free (sym (ap route_of same.0) ∙ way) }
+    by_plan _ (plans.fetches m way plain bypass) free off none heard is =
         let same = opens_same (t.opened + 1) m (fetched t k m) is in
-        record { key_is = sym (ap (λ (z : Request). z.key) same.1) ∙ fetched_key m; plain = λ at. sym (bypassing_is k.request) ∙ plain (same.0 ∙ at); bypasses = λ at. sym (bypassing_is k.request) ∙ bypass (same.0 ∙ at); heard = heard; unread = λ is. none; way = fetches free (sym (ap route_of same.0) ∙ way) }
-    by_plan _ (plans.joins why j) free none heard is = absurd (binds_opens why None (current t k.request.key) is)
-    by_plan _ (plans.reads why span j) free none heard is = absurd (binds_opens why (Some span) (current t k.request.key) is)
-    by_plan _ (plans.fills span hole j nobody) free none heard is = first_by span hole j free none heard ((hole_opens k.request (current_row t k) hole is).2)
+        record { key_is = sym (ap (λ (z : Request). z.key) same.1) ∙ fetched_key m; plain = λ at. sym (bypassing_is k.request) ∙ plain (same.0 ∙ at); bypasses = λ at. sym (bypassing_is k.request) ∙ bypass (same.0 ∙ at); heard = heard; unread = λ is. none; unshown = λ is. off; way = fetches free (sym (ap route_of same.0) ∙ way) }
+    by_plan _ (plans.joins why j) free off none heard is = absurd (binds_opens why None (current t k.request.key) is)
+    by_plan _ (plans.reads why span j) free off none heard is = absurd (binds_opens why (Some span) (current t k.request.key) is)
+    by_plan _ (plans.fills span hole j nobody) free off none heard is = first_by span hole j free off none heard ((hole_opens k.request (current_row t k) hole is).2)
 
     -- SHOWING
 
@@ -226,7 +229,7 @@ module _ (t : Tables) (now c : ℕ) (k : Consumer) where
     by_move want _ (by.down why at) is = absurd (let never : Fails why ≡ open_it = is in cc)
     by_move want _ (by.over at) is = absurd (let never : Nothing ≡ open_it = is in cc)
     by_move want _ (by.reads shown heard) is = step_opens want (read_step (read_view t want c k)) heard is
-    by_move want _ (by.plans shown free none heard) is = by_plan (plan_of (plan_view t now c k)) (plan_by (plan_view t now c k)) free none heard is
+    by_move want _ (by.plans shown free none heard) is = by_plan (plan_of (plan_view t now c k)) (plan_by (plan_view t now c k)) free shown none heard is
 
   pub opening_is : (o : Opening) (m : Move) → IsOpening o m → m ≡ Opens o.x o.need o.request
   opening_is o _ said.opens = refl

@@ -83,7 +83,7 @@ not_so true off = absurd (off refl)
 not_so false off = refl
 
 -- by a head that founds or joins nothing becomes due
-no_cause : (g : Option HeadCase) (x : ℕ) → (is_founding g || is_joining g) ≡ true → cause_by_case g x ≡ None
+pub no_cause : (g : Option HeadCase) (x : ℕ) → (is_founding g || is_joining g) ≡ true → cause_by_case g x ≡ None
 no_cause None x h = absurd (false_true h)
 no_cause (Some case.FoundsWhole) x h = refl
 no_cause (Some case.FoundsRange) x h = refl
@@ -197,7 +197,7 @@ module _ (limits : Limits) (t : Tables) (now : ℕ) (flaw : Flaw) (s : Sound t) 
 
   -- AT A HEAD THAT BEGINS A WRITING
 
-  head_undue : (c x : ℕ) (response : Response) (a : Consumer) → ev ≡ event.Head x response → (is_founding (case_at t e) || is_joining (case_at t e)) ≡ true → cause_of_loss t e c a.place ≡ None → becomes_due t e c a ≡ None
+  pub head_undue : (c x : ℕ) (response : Response) (a : Consumer) → ev ≡ event.Head x response → (is_founding (case_at t e) || is_joining (case_at t e)) ≡ true → cause_of_loss t e c a.place ≡ None → becomes_due t e c a ≡ None
   head_undue c x response a here binds loss =
       undue_of t e c a (record { stop = stop_none t e a (ap (stop_cause t) here); loss = loss; head = ap (cause_of_head t e c) here ∙ by_test (is_for (t.exchange x) c) })
     where
@@ -218,7 +218,7 @@ module _ (limits : Limits) (t : Tables) (now : ℕ) (flaw : Flaw) (s : Sound t) 
   number_is (Some m) n h = let same : m ≡ n = grind (arith, nat_tests) in ap Some same
 
   -- who waits for a hole of r has nothing due, and has the pen
-  waits_undue : (r c x lo : ℕ) (hi : Option ℕ) (how : BoundBy) (v : Representation) (k : Consumer) (w : Exchange) → IsWaiter t c x k w → k.place ≡ place.Bound r lo hi how → t.representation r ≡ Some v → (k.due ≡ None) × HasPen t r v c
+  pub waits_undue : (r c x lo : ℕ) (hi : Option ℕ) (how : BoundBy) (v : Representation) (k : Consumer) (w : Exchange) → IsWaiter t c x k w → k.place ≡ place.Bound r lo hi how → t.representation r ≡ Some v → (k.due ≡ None) × HasPen t r v c
   waits_undue r c x lo hi how v k w is at there = by_had (s.writes.had r x v there (asks_about limits t now flaw s o ev goes c x k w is r lo hi how at is.at))
     where
       by_had : sound.IsHad t r v x → (k.due ≡ None) × HasPen t r v c
@@ -256,7 +256,7 @@ module _ (limits : Limits) (t : Tables) (now : ℕ) (flaw : Flaw) (s : Sound t) 
 
   -- FOUNDED
 
-  founder_undue : (x c : ℕ) (response : Response) (w : Exchange) (k : Consumer) → ev ≡ event.Head x response → t.exchange x ≡ Some w → is_founding (case_at t e) ≡ true → IsWaiter t c x k w → IsAwaiting x w k.place → (k.due ≡ None) × (becomes_due t e c k ≡ None)
+  pub founder_undue : (x c : ℕ) (response : Response) (w : Exchange) (k : Consumer) → ev ≡ event.Head x response → t.exchange x ≡ Some w → is_founding (case_at t e) ≡ true → IsWaiter t c x k w → IsAwaiting x w k.place → (k.due ≡ None) × (becomes_due t e c k ≡ None)
   founder_undue x c response w k here row on is (owners.direct way stands) =
       absurd (founds_way t (has_loss e.acts) w response (head_case (head_view t (has_loss e.acts) w response)) (case_by (head_view t (has_loss e.acts) w response)) (sym (ap is_founding (case_is t e x response w here row)) ∙ on) way)
   founder_undue x c response w k here row on is (owners.turn way stands) =

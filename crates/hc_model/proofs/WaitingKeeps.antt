@@ -280,7 +280,7 @@ module _ (limits : Limits) (t : Tables) (now : ℕ) (flaw : Flaw) (s : Sound t) 
       false_true (sym (ap (λ (z : Option Response). is_some z) bare) ∙ got.headed)
 
   -- no event is of an exchange that waits for its head and goes on waiting
-  unmet : (v : Event) (x : ℕ) (w u : Exchange) → ev ≡ v → t.exchange x ≡ Some w → IsSame t e x w u → u.is_open ≡ true → u.head ≡ None → exchange_in v ≡ Some x → ⊥
+  pub unmet : (v : Event) (x : ℕ) (w u : Exchange) → ev ≡ v → t.exchange x ≡ Some w → IsSame t e x w u → u.is_open ≡ true → u.head ≡ None → exchange_in v ≡ Some x → ⊥
   unmet (event.Start d request) x w u at row same on bare h = none_some x h
   unmet (event.Poll d want) x w u at row same on bare h = none_some x h
   unmet (event.Head z response) x w u at row same on bare h = same.unheard bare response (at ∙ ap (λ n. event.Head n response) (some_inj z x h))

@@ -23,10 +23,9 @@ use Rattle.hc_model.specs.Exchanges.{exchange_at, is_for, is_headless}
 use Rattle.hc_model.specs.Flaws.{Flaw}
 use Rattle.hc_model.specs.Keys.{entry_of}
 use Rattle.hc_model.specs.Owners.{Owners}
-use Rattle.hc_model.specs.Reading.{is_written, bound_to}
-use Rattle.hc_model.specs.Rows.{Tables, Exchange, Representation, Consumer}
-use Rattle.hc_model.specs.Sound.{Sound, IsBound}
-use Rattle.hc_model.specs.Sound as sound
+use Rattle.hc_model.specs.Reading.{bound_to}
+use Rattle.hc_model.specs.Rows.{Tables, Exchange, Consumer}
+use Rattle.hc_model.specs.Sound.{Sound}
 use Rattle.hc_model.specs.StartingOver.{starts_over, waits_at, sends_back, loses_what_it_waits_for}
 use Rattle.hc_model.specs.Tables.{after_accepted}
 use Rattle.hc_model.proofs.FirstKeeps.{is_new}
@@ -37,7 +36,7 @@ use Rattle.hc_model.proofs.Pens.{same_row}
 use Rattle.hc_model.proofs.Said.{waiting_by}
 use Rattle.hc_model.proofs.WaitedAs.{IsForOthers, waited_as}
 use Rattle.hc_model.proofs.WaitedAs as waited
-use Rattle.hc_model.proofs.Waiters.{waiter_of, unwritten, fault_open_of}
+use Rattle.hc_model.proofs.Waiters.{fault_open_of}
 
 false_true : false ≡ true → ⊥
 false_true h = cc

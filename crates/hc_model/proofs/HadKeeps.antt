@@ -1,59 +1,50 @@
 -- Whose an open exchange is that is about a representation: the writing's, or that of the one who has the pen.
-use Rattle.std.proofs.Common.{◌≡◌, ◌⊎◌, inl, inr, ℕ, ◌+◌, ◌<◌, ◌≤◌, List, [], ◌∷◌, length, Bool, true, false, cond, Option, Some, None, refl, ap, sym, ◌∙◌, subst, arith, min}
-use Rattle.std.specs.Prelude.{if◌then◌else◌, is_some, is_none, ◌==◌, ◌&&◌, ◌||◌, not, nat_eq, nat_le, unwrap_or, map, filter, ◌≢◌}
-use Rattle.std.specs.Option.{option_or, option_and_then}
+use Rattle.std.proofs.Common.{◌≡◌, ◌⊎◌, inl, inr, ℕ, ◌<◌, ◌≤◌, List, [], ◌∷◌, Bool, true, false, cond, Option, Some, None, refl, ap, sym, ◌∙◌, subst, arith, min}
+use Rattle.std.specs.Prelude.{if◌then◌else◌, is_some, is_none, ◌&&◌, ◌||◌, nat_eq, nat_le, map, filter}
+use Rattle.std.specs.Option.{option_or}
 use Rattle.std.proofs.lemmas.Bool.Decides.{nat_tests}
-use Rattle.hc_event.specs.Filters.{Opening, opening_in, leaves_in, closes_in}
+use Rattle.hc_event.specs.Filters.{Opening, opening_in, leaves_in}
 use Rattle.hc_event.specs.declared.event.Event.{Event}
 use Rattle.hc_event.specs.declared.event.Event.TheVariants as event
 use Rattle.hc_event.specs.declared.event.Response.{Response}
-use Rattle.hc_event.specs.declared.act.Cause.{Cause}
-use Rattle.hc_event.specs.declared.act.Need.TheVariants as need
-use Rattle.hc_rules.specs.declared.heads.HeadCase.{HeadCase}
-use Rattle.hc_rules.specs.declared.heads.HeadCase.TheVariants as case
 use Rattle.hc_rules.specs.declared.need.Route.TheVariants as route
 use Rattle.hc_rules.specs.declared.room.Limits.{Limits}
 use Rattle.hc_rules.specs.declared.survivor.Member.{Member}
-use Rattle.hc_rules.specs.HeadCases.{head_case}
 use Rattle.hc_rules.specs.Least.{least, lesser}
 use Rattle.hc_rules.specs.Lengths.{is_same_number}
 use Rattle.hc_rules.specs.Needs.{route_of}
-use Rattle.hc_rules.specs.Survivors.{survivor_at, stands_at}
-use Rattle.hc_model.specs.declared.place.Place.{Place}
+use Rattle.hc_rules.specs.Survivors.{stands_at}
 use Rattle.hc_model.specs.declared.place.Place.TheVariants as place
 use Rattle.hc_model.specs.declared.place.BoundBy.{BoundBy}
-use Rattle.hc_model.specs.declared.place.BoundBy.TheVariants as by
 use Rattle.hc_model.specs.ActFilters.{loses_in, has_loss}
-use Rattle.hc_model.specs.Cases.{case_at, head_view, is_founding, is_joining}
-use Rattle.hc_model.specs.Closings.{must_close, is_left, is_left_by, has_no_survivor, leaver, leaver_by}
+use Rattle.hc_model.specs.Cases.{case_at, is_joining}
+use Rattle.hc_model.specs.Closings.{is_left, is_left_by, has_no_survivor, leaver, leaver_by}
 use Rattle.hc_model.specs.ConsumerRows.{consumer_heard, consumer_acted, by_opening, own_after, left_to, waiting, due_after, back_in_line}
-use Rattle.hc_model.specs.Currents.{is_number, current, row_of}
+use Rattle.hc_model.specs.Currents.{is_number}
 use Rattle.hc_model.specs.Denials.{denial}
 use Rattle.hc_model.specs.Entries.{Entry}
-use Rattle.hc_model.specs.ExchangeRows.{exchange_opened, aim_from}
-use Rattle.hc_model.specs.Exchanges.{exchange_in, is_for, is_open, is_headless, family}
+use Rattle.hc_model.specs.ExchangeRows.{aim_from}
+use Rattle.hc_model.specs.Exchanges.{exchange_in, is_for, is_open, family}
 use Rattle.hc_model.specs.Failures.{becomes_due, cause_of_stop, cause_of_loss, cause_by_loss, cause_of_head, cause_by_case, stop_cause}
 use Rattle.hc_model.specs.Flaws.{Flaw}
 use Rattle.hc_model.specs.Keys.{entry_of}
 use Rattle.hc_model.specs.Measures.{Measures}
 use Rattle.hc_model.specs.Owners.{Owners, IsAwaiting, Awaits}
 use Rattle.hc_model.specs.Owners as owners
-use Rattle.hc_model.specs.Polls.{shows_at, shows_direct, move_of}
+use Rattle.hc_model.specs.Polls.{move_of}
 use Rattle.hc_model.specs.Reading.{is_written, bound, bound_to, own_open, reads, source, shared}
 use Rattle.hc_model.specs.Rows.{Tables, Exchange, Representation, Consumer}
 use Rattle.hc_model.specs.Sound.{Sound, Among, IsBound, IsAbout, IsHad, HasPen, IsFirst, IsGrowing}
 use Rattle.hc_model.specs.Sound as sound
 use Rattle.hc_model.specs.StartingOver.{starts_over}
 use Rattle.hc_model.specs.Tables.{after_accepted}
-use Rattle.hc_model.specs.Writers.{brings_body, came_alone, has_more, loses_writing, survivor, member, goes_on_with, exclusive, may_write}
-use Rattle.hc_model.proofs.AboutKeeps.{IsOwn, own_open_of, own_open_is}
+use Rattle.hc_model.specs.Writers.{brings_body, came_alone, loses_writing, survivor, member, may_write}
+use Rattle.hc_model.proofs.AboutKeeps.{own_open_of, own_open_is}
 use Rattle.hc_model.proofs.ApartKeeps.{written_by, is_on}
-use Rattle.hc_model.proofs.BoundFrom as from
 use Rattle.hc_model.proofs.BoundStays.{Stays, bound_stays}
 use Rattle.hc_model.proofs.Closed.{before}
-use Rattle.hc_model.proofs.Dues.{IsUndue, undue_of, stop_none, other_stop, loss_at, due_none}
-use Rattle.hc_model.proofs.ExchangeFrom.{ExchangeFrom, IsSame, IsHeaded, exchange_from}
-use Rattle.hc_model.proofs.ExchangeFrom as exchange
+use Rattle.hc_model.proofs.Dues.{undue_of, stop_none, other_stop, loss_at, due_none}
+use Rattle.hc_model.proofs.ExchangeFrom.{IsSame}
 use Rattle.hc_model.proofs.FirstKeeps.{came_kept, case_is, is_new}
 use Rattle.hc_model.proofs.Forward as forward
 use Rattle.hc_model.proofs.HasBound.{not_must, reader_of}
@@ -74,9 +65,9 @@ use Rattle.hc_model.proofs.Said.{IsOpening, opening_by, leaving_by}
 use Rattle.hc_model.proofs.SaidActs.{leaves_leaver}
 use Rattle.hc_model.proofs.ServedKeeps.{lost_alone, kept_alone, over}
 use Rattle.hc_model.proofs.Stops.{writer_about}
-use Rattle.hc_model.proofs.UndueKeeps.{waits_undue, head_undue, founder_undue}
-use Rattle.hc_model.proofs.WaitingKeeps.{stands, stays_on, unmet, waiting_kept}
-use Rattle.hc_model.proofs.Waiters.{IsWaiter, waiter_of, asks_about, unwritten, left_number, head_is_own}
+use Rattle.hc_model.proofs.UndueKeeps.{waits_undue}
+use Rattle.hc_model.proofs.WaitingKeeps.{stands, stays_on, unmet}
+use Rattle.hc_model.proofs.Waiters.{IsWaiter, waiter_of, unwritten, head_is_own}
 use Rattle.hc_model.proofs.WriterEnds.{loses_same}
 
 false_true : false ≡ true → ⊥

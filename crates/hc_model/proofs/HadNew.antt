@@ -1,79 +1,46 @@
 -- Whose an exchange is that is opened for a hole, or whose head comes.
-use Rattle.std.proofs.Common.{◌≡◌, ◌⊎◌, inl, inr, ℕ, ◌+◌, List, [], ◌∷◌, Bool, true, false, cond, Option, Some, None, refl, ap, sym, ◌∙◌, subst, arith}
-use Rattle.std.specs.Prelude.{if◌then◌else◌, is_some, is_none, ◌==◌, ◌&&◌, ◌||◌, not, nat_eq, nat_le, unwrap_or, ◌≢◌}
-use Rattle.std.proofs.lemmas.Bool.Decides.{nat_tests}
-use Rattle.hc_range.specs.declared.range.Asked.{Asked}
-use Rattle.hc_range.specs.declared.range.ContentRange.{ContentRange}
-use Rattle.hc_range.specs.declared.range.ContentRange.TheVariants as range
-use Rattle.hc_range.specs.declared.range.Span.{Span}
-use Rattle.hc_range.specs.Spans.{resolved}
+use Rattle.std.proofs.Common.{◌≡◌, ℕ, Bool, true, false, Option, Some, None, refl, ap, sym, ◌∙◌, subst}
+use Rattle.std.specs.Prelude.{is_some, ◌&&◌, ◌||◌}
 use Rattle.hc_event.specs.Filters.{Opening, opening_in}
-use Rattle.hc_event.specs.declared.act.Act.{Act}
-use Rattle.hc_event.specs.declared.act.Act.TheVariants as act
 use Rattle.hc_event.specs.declared.event.Event.{Event}
 use Rattle.hc_event.specs.declared.event.Event.TheVariants as event
 use Rattle.hc_event.specs.declared.event.Response.{Response}
-use Rattle.hc_rules.specs.declared.heads.HeadCase.{HeadCase}
-use Rattle.hc_rules.specs.declared.heads.HeadCase.TheVariants as case
 use Rattle.hc_rules.specs.declared.need.Route.TheVariants as route
-use Rattle.hc_rules.specs.declared.request.Wanted.{Wanted}
-use Rattle.hc_rules.specs.declared.request.Wanted.TheVariants as wanted
 use Rattle.hc_rules.specs.declared.room.Limits.{Limits}
-use Rattle.hc_rules.specs.HeadCases.{head_case, fits_to_found, fits_part, begins_at}
 use Rattle.hc_rules.specs.Needs.{route_of}
-use Rattle.hc_rules.specs.RangeTexts.{content_range_of}
-use Rattle.hc_rules.specs.Requests.{range_of, wanted_of}
 use Rattle.hc_model.specs.declared.place.Place.{Place}
 use Rattle.hc_model.specs.declared.place.Place.TheVariants as place
 use Rattle.hc_model.specs.declared.place.BoundBy.{BoundBy}
-use Rattle.hc_model.specs.declared.place.BoundBy.TheVariants as by
-use Rattle.hc_model.specs.ActFilters.{loses_in, has_loss}
-use Rattle.hc_model.specs.Cases.{case_at, head_view, is_founding, is_joining, fits_asker}
-use Rattle.hc_model.specs.ConsumerRows.{consumer_heard, consumer_acted, by_head, with_head, by_opening, own_after, left_to, waiting, due_after, back_in_line, place_by_case, becomes_shared, is_resumed, bound_to_wanted}
-use Rattle.hc_model.specs.Currents.{is_number, current, row_of}
+use Rattle.hc_model.specs.ActFilters.{loses_in}
+use Rattle.hc_model.specs.ConsumerRows.{consumer_heard, consumer_acted, waiting, due_after}
 use Rattle.hc_model.specs.Denials.{denial}
 use Rattle.hc_model.specs.Entries.{Entry}
 use Rattle.hc_model.specs.ExchangeRows.{exchange_opened, aim_from}
-use Rattle.hc_model.specs.Exchanges.{exchange_in, is_for, is_open, is_headless, family}
-use Rattle.hc_model.specs.Failures.{becomes_due, cause_of_head, cause_by_case}
+use Rattle.hc_model.specs.Exchanges.{is_headless}
+use Rattle.hc_model.specs.Failures.{becomes_due}
 use Rattle.hc_model.specs.Flaws.{Flaw}
-use Rattle.hc_model.specs.Heads.{founded_total, total_of_part}
 use Rattle.hc_model.specs.Keys.{entry_of}
 use Rattle.hc_model.specs.Measures.{Measures}
 use Rattle.hc_model.specs.Owners.{Owners, IsAwaiting, Awaits, IsPast}
 use Rattle.hc_model.specs.Owners as owners
 use Rattle.hc_model.specs.Polls.{shows_at, shows_direct, move_of, if_headless}
-use Rattle.hc_model.specs.Reading.{is_written, bound, bound_to, own_open, reads}
-use Rattle.hc_model.specs.RepresentationRows.{representation_heard, representation_acted, represented, resumes, updates, writer_at, renewed, headed}
+use Rattle.hc_model.specs.Reading.{bound, bound_to, own_open, reads}
 use Rattle.hc_model.specs.Rows.{Tables, Exchange, Representation, Consumer}
 use Rattle.hc_model.specs.Sound.{Sound, IsBound, IsAbout, IsHad, HasPen, IsFirst}
 use Rattle.hc_model.specs.Sound as sound
-use Rattle.hc_model.specs.StartingOver.{starts_over}
 use Rattle.hc_model.specs.Tables.{after_accepted}
-use Rattle.hc_model.specs.Writers.{brings_body, came_alone, status_in, loses_writing}
+use Rattle.hc_model.specs.Writers.{brings_body, came_alone}
 use Rattle.hc_model.proofs.AboutKeeps.{own_open_is}
-use Rattle.hc_model.proofs.ApartKeeps.{written_by}
 use Rattle.hc_model.proofs.BoundFrom.{BoundFrom, IsRow, bound_from}
 use Rattle.hc_model.proofs.BoundFrom as from
 use Rattle.hc_model.proofs.BoundKeeps.{opens_none}
 use Rattle.hc_model.proofs.Dues.{undue_of, due_none}
-use Rattle.hc_model.proofs.ExchangeFrom.{ExchangeFrom, IsSame, IsHeaded, exchange_from}
-use Rattle.hc_model.proofs.ExchangeFrom as exchange
 use Rattle.hc_model.proofs.FirstDues.{poll_undue}
-use Rattle.hc_model.proofs.FirstKeeps.{came_kept, case_is, is_new, is_opener, open_free}
-use Rattle.hc_model.proofs.FoundBy.{CaseBy, case_by}
-use Rattle.hc_model.proofs.FoundBy as cases
-use Rattle.hc_model.proofs.Forward as forward
-use Rattle.hc_model.proofs.HadKeeps.{own_had, settled, bare_had, was_headed}
-use Rattle.hc_model.proofs.HasBound.{head_stands, joins_place, awaiting_bound}
-use Rattle.hc_model.proofs.HasBound as has_bound
-use Rattle.hc_model.proofs.HeadKeeps.{is_join}
-use Rattle.hc_model.proofs.HoleLemmas.{bool_cases}
+use Rattle.hc_model.proofs.FirstKeeps.{came_kept, is_opener, open_free}
 use Rattle.hc_model.proofs.LossBy.{IsReal, IsSealing, sealed_loss}
-use Rattle.hc_model.proofs.MeasuresKeep.{founder_not}
 use Rattle.hc_model.proofs.OpensFrom.{opens_hole, hole_is}
 use Rattle.hc_model.proofs.OwnersKeep.{is_opened}
-use Rattle.hc_model.proofs.PieceKeeps.{eq_cases, some_inj}
+use Rattle.hc_model.proofs.PieceKeeps.{some_inj}
 use Rattle.hc_model.proofs.Pens.{same_row, bound_some, none_about, has_pen, none_about_hole}
 use Rattle.hc_model.proofs.PollKeeps.{current_stays}
 use Rattle.hc_model.proofs.PollTree as tree
@@ -81,9 +48,7 @@ use Rattle.hc_model.proofs.RepFrom.{RepFrom, rep_from, IsKept, IsResumed}
 use Rattle.hc_model.proofs.RepFrom as rep
 use Rattle.hc_model.proofs.Said.{IsOpening, opening_by, showing_by}
 use Rattle.hc_model.proofs.ServedKeeps.{kept_alone}
-use Rattle.hc_model.proofs.UndueKeeps.{waits_undue, head_undue, founder_undue, no_cause}
 use Rattle.hc_model.proofs.WaitingKeeps.{waiting_kept}
-use Rattle.hc_model.proofs.Waiters.{IsWaiter, waiter_of, unwritten}
 
 false_true : false ≡ true → ⊥
 false_true h = cc
@@ -246,7 +211,7 @@ module _ (limits : Limits) (t : Tables) (now : ℕ) (flaw : Flaw) (s : Sound t) 
         by_way (from.shows k y row is all) from_it =
             absurd (some_none q (opens_none limits t now flaw s ev goes y (showing_by limits t now flaw s ev goes y is) (Some q) opens))
 
-  new_had : (r x : ℕ) (q : Opening) (z : Exchange) (p : Representation) → opening_in e.acts ≡ Some q → exchange_opened t e q ≡ z → now_on.exchange x ≡ Some z → z.is_open ≡ true → z.head ≡ None → z.aim ≡ Some r → route_of z.need ≡ route.Hole → now_on.representation r ≡ Some p → IsHad now_on r p x
+  pub new_had : (r x : ℕ) (q : Opening) (z : Exchange) (p : Representation) → opening_in e.acts ≡ Some q → exchange_opened t e q ≡ z → now_on.exchange x ≡ Some z → z.is_open ≡ true → z.head ≡ None → z.aim ≡ Some r → route_of z.need ≡ route.Hole → now_on.representation r ≡ Some p → IsHad now_on r p x
   new_had r x q z p opens made after_x on bare aim hole after = by_place a.at
     where
       a : Awaits now_on x z

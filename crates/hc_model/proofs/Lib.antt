@@ -106,4 +106,5 @@ pub mod OfEntries
 pub mod BoundStays
 pub mod HadKeeps
 pub mod HadNew
+pub mod HadHeaded
 pub mod SoundRuns

@@ -336,11 +336,11 @@ module _ (limits : Limits) (t : Tables) (now : ℕ) (flaw : Flaw) (s : Sound t) 
       still_waits =
           let on = is_on t e y w waiter.exchange_row in
           head_by on.u on.row on.u.head refl (λ bare.
-              let other = unmet on.u on.same bare ev refl in
-              let shut = unclosed limits t now flaw s o ev goes c y k w waiter other cancel_not is.leaves is.stays in
-              let un = is_untouched t e y w waiter.exchange_row other shut in
-              let one : un.u ≡ on.u = same_row (now_on.exchange y) un.u on.u un.row on.row in
-              own_by on.u on.row (sym (ap (λ (q : Exchange). q.is_open) one) ∙ (un.open_is ∙ waiter.was_open)) bare (on.same.c_is ∙ waiter.for_it))
+          let other = unmet on.u on.same bare ev refl in
+          let shut = unclosed limits t now flaw s o ev goes c y k w waiter other cancel_not is.leaves is.stays in
+          let un = is_untouched t e y w waiter.exchange_row other shut in
+          let one : un.u ≡ on.u = same_row (now_on.exchange y) un.u on.u un.row on.row in
+          own_by on.u on.row (sym (ap (λ (q : Exchange). q.is_open) one) ∙ (un.open_is ∙ waiter.was_open)) bare (on.same.c_is ∙ waiter.for_it))
 
     was_past : k.shown ≡ false → IsPast t y k → IsPast now_on y u
     was_past unshown (owners.answered w row headed) = let on = is_on t e y w row in owners.answered on.u on.row (some_kept w on.u on.same headed)

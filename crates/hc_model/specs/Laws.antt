@@ -43,7 +43,7 @@ use Rattle.hc_model.specs.Beginnings.{may_begin}
 use Rattle.hc_model.specs.Denials.{live}
 use Rattle.hc_model.specs.Runs.{IsRun, may_stand, IsOwed}
 use Rattle.hc_model.specs.Reads.{Delivers}
-use Rattle.hc_model.specs.Sound.{Sound, IsBound, IsAbout, IsGrowing, IsServed, IsToBeShown, Waits, OneAbout, OneCurrent, IsStored, IsListed, IsNamed}
+use Rattle.hc_model.specs.Sound.{Sound, IsBound, IsAbout, IsGrowing, IsServed, IsHad, IsToBeShown, Waits, OneAbout, OneCurrent, IsStored, IsListed, IsNamed}
 use Rattle.hc_model.specs.Owners.{Owners}
 use Rattle.hc_model.specs.Measures.{Measures}
 use Rattle.hc_model.specs.Keys.{entry_of, IsOfOneKey, KeepsOthers}
@@ -504,6 +504,12 @@ abbrev pub AreServed : Tables → Type 0
 AreServed t =
     (r c : ℕ) (v : Representation) (k : Consumer) → t.representation r ≡ Some v →
     IsBound t r c k → k.due ≡ None → IsServed t r v c k
+
+-- an open exchange about r is that of its writing, or of the one who has the pen
+abbrev pub AreHad : Tables → Type 0
+AreHad t =
+    (r x : ℕ) (v : Representation) → t.representation r ≡ Some v → IsAbout t r x →
+    IsHad t r v x
 
 -- Contents by which a store may begin are such.
 abbrev pub BeginningsAreStarts : Type 0

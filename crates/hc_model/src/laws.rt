@@ -2,7 +2,7 @@
 ghost use Rattle.hc_model.specs.Histories.{RunsAreFiltered};
 ghost use Rattle.hc_model.specs.Reads.{OneHeadIsShown};
 ghost use Rattle.hc_model.specs.Keys.{LawOfOneKey, KeysAreKept, KeysBegin};
-ghost use Rattle.hc_model.specs.Laws.{SoundDeliversOnce, DeliveriesAreKept, BodiesAreKept, NumbersAreKept, NamesAreKept, OneCurrentIsKept, StoresAreKept, StartsAreSound, WholeIsWhole, AfterEach, AreBound, KnowEnds, OwnedAfterEach, AreToBeShown, OwedAfterEach, OwnersAreKnown, TurnsAreOne, TurnsAreKept, TurnsBegin, TurnsInRuns, KeysInRuns, BarrierIsKept, BarrierBegins, DoomsInRuns, TruncatedIsFront, CountsAreKept, TurnsGo, ReadersGo, CountsBegin, FewGiveWay, AreRead, AreUndue, ReadAbout, MeasuredAfterEach, BeginningsAreMeasured, AreGrowing, KeptByEntries, AreServed, BeginningsAreStarts, AfterDenials};
+ghost use Rattle.hc_model.specs.Laws.{SoundDeliversOnce, DeliveriesAreKept, BodiesAreKept, NumbersAreKept, NamesAreKept, OneCurrentIsKept, StoresAreKept, StartsAreSound, WholeIsWhole, AfterEach, AreBound, KnowEnds, OwnedAfterEach, AreToBeShown, OwedAfterEach, OwnersAreKnown, TurnsAreOne, TurnsAreKept, TurnsBegin, TurnsInRuns, KeysInRuns, BarrierIsKept, BarrierBegins, DoomsInRuns, TruncatedIsFront, CountsAreKept, TurnsGo, ReadersGo, CountsBegin, FewGiveWay, AreRead, AreUndue, ReadAbout, MeasuredAfterEach, BeginningsAreMeasured, AreGrowing, KeptByEntries, AreServed, AreHad, BeginningsAreStarts, AfterDenials};
 ghost use Rattle.hc_model.specs.Owners.{Owners};
 ghost use Rattle.hc_model.specs.Measures.{Measures};
 ghost use Rattle.hc_model.specs.Sound.{OneFirst, Sound};
@@ -109,9 +109,11 @@ pub fn writings_grow()
 {}
 
 /// Whoever is bound and has no failure due reads with others from a writing that is on, has the pen, or has
-/// all that it needs stored: after each accepted entry of a run.
+/// all that it needs stored; and each open exchange about a representation is that of its writing, or the
+/// own one of who has the pen: after each accepted entry of a run.
 pub fn readers_are_served()
-    ensures { KeptByEntries AreServed }
+    ensures served { KeptByEntries AreServed }
+    ensures had { KeptByEntries AreHad }
 {}
 
 /// Of a key at most one exchange of the turn waits for its head, and its consumer has the turn.

@@ -107,4 +107,5 @@ pub mod BoundStays
 pub mod HadKeeps
 pub mod HadNew
 pub mod HadHeaded
+pub mod SoundKept
 pub mod SoundRuns

@@ -107,7 +107,7 @@ number_is : (o : Option ℕ) (n : ℕ) → is_number o n ≡ true → o ≡ Some
 number_is None n h = absurd (false_true h)
 number_is (Some m) n h = let same : m ≡ n = grind (arith, nat_tests) in ap Some same
 
-number_yes : (o : Option ℕ) (n : ℕ) → o ≡ Some n → is_number o n ≡ true
+pub number_yes : (o : Option ℕ) (n : ℕ) → o ≡ Some n → is_number o n ≡ true
 number_yes None n is = absurd (none_some n is)
 number_yes (Some m) n is = let same : m ≡ n = some_inj m n is in let test : nat_eq m n ≡ true = grind (arith, nat_tests) in test
 
@@ -135,7 +135,7 @@ among_members t end c (d ∷ ds) there = elim (bool_cases (stands_at end (member
       elim either [ inl here ↦ inl here | inr more ↦ inr (among_members t end c ds more) ]
 ]
 
-survivor_bound : (t : Tables) (r c : ℕ) (v : Representation) → survivor t r v ≡ Some c → Among c (bound t r)
+pub survivor_bound : (t : Tables) (r c : ℕ) (v : Representation) → survivor t r v ≡ Some c → Among c (bound t r)
 survivor_bound t r c v is = among_members t v.reach c (bound t r) (among_least _ c is)
 
 module _ (limits : Limits) (t : Tables) (now : ℕ) (flaw : Flaw) (s : Sound t) (o : Owners t) (m : Measures t) (ev : Event) (goes : denial t ev ≡ None) (real : IsReal limits t now ev flaw) where

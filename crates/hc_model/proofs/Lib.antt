@@ -108,4 +108,5 @@ pub mod HadKeeps
 pub mod HadNew
 pub mod HadHeaded
 pub mod SoundKept
+pub mod Survives
 pub mod SoundRuns

@@ -1,5 +1,5 @@
 -- What is kept by each real entry is kept by each owed one.
-use Rattle.std.proofs.Common.{◌≡◌, ℕ, List, None, ap, sym, ◌∙◌, subst}
+use Rattle.std.proofs.Common.{◌≡◌, false, ℕ, List, None, ap, sym, ◌∙◌, subst}
 use Rattle.hc_event.specs.Filters.{is_denied}
 use Rattle.hc_event.specs.declared.event.Event.{Event}
 use Rattle.hc_event.specs.declared.act.Act.{Act}
@@ -12,7 +12,7 @@ use Rattle.hc_model.specs.Laws.{KeptByEntries}
 use Rattle.hc_model.specs.Measures.{Measures}
 use Rattle.hc_model.specs.Owners.{Owners}
 use Rattle.hc_model.specs.Rows.{Tables}
-use Rattle.hc_model.specs.Runs.{may_stand}
+use Rattle.hc_model.specs.Runs.{IsOwed, may_stand}
 use Rattle.hc_model.specs.Sound.{Sound}
 use Rattle.hc_model.specs.Tables.{after_accepted}
 use Rattle.hc_model.proofs.LossBy.{IsReal}
@@ -31,3 +31,15 @@ of_entries P keeps limits t e s o m owed not_denied =
       taken = ap is_denied (sym acts) ∙ not_denied;
     } in
     subst (λ (z : Entry). P (after_accepted t z)) same (keeps limits t e.now (flaw_in e.acts) s o m e.event (goes limits t e owed not_denied) real)
+
+-- what holds of each real entry holds of each owed one
+pub of_real : (limits : Limits) (t : Tables) (e : Entry) (Q : Entry → Type 0) → IsOwed limits t e → is_denied e.acts ≡ false → (denial t e.event ≡ None → IsReal limits t e.now e.event (flaw_in e.acts) → Q (entry_of limits t e.now e.event (flaw_in e.acts))) → Q e
+of_real limits t e Q owed not_denied holds =
+    let acts = acts_are limits t e owed not_denied in
+    let same : entry_of limits t e.now e.event (flaw_in e.acts) ≡ e = ap (λ (acts : List Act). record e { acts = acts }) (sym acts) in
+    let real : IsReal limits t e.now e.event (flaw_in e.acts) = record {
+      stand = ap (may_stand limits t) same ∙ owed.flaw;
+      shown = ap flaw_in (sym acts);
+      taken = ap is_denied (sym acts) ∙ not_denied;
+    } in
+    subst Q same (holds (goes limits t e owed not_denied) real)

@@ -27,7 +27,7 @@ use Rattle.hc_model.specs.Exchanges.{front, family, is_headless}
 use Rattle.hc_model.specs.Currents.{current}
 use Rattle.hc_model.specs.Cases.{was_shown}
 use Rattle.hc_model.specs.Reading.{is_written, bound, own_open}
-use Rattle.hc_model.specs.Writers.{came_alone}
+use Rattle.hc_model.specs.Writers.{came_alone, loses_writing, survivor}
 use Rattle.hc_model.specs.Dooms.{doomed, is_key}
 use Rattle.hc_model.specs.Lines.{turn}
 use Rattle.hc_model.specs.Tables.{tables, begun, after_accepted, after_denied}
@@ -43,7 +43,7 @@ use Rattle.hc_model.specs.Beginnings.{may_begin}
 use Rattle.hc_model.specs.Denials.{live}
 use Rattle.hc_model.specs.Runs.{IsRun, may_stand, IsOwed}
 use Rattle.hc_model.specs.Reads.{Delivers}
-use Rattle.hc_model.specs.Sound.{Sound, IsBound, IsAbout, IsGrowing, IsServed, IsHad, IsToBeShown, Waits, OneAbout, OneCurrent, IsStored, IsListed, IsNamed}
+use Rattle.hc_model.specs.Sound.{Sound, IsBound, IsAbout, IsGrowing, IsServed, IsHad, IsAlone, IsToBeShown, Waits, OneAbout, OneCurrent, IsStored, IsListed, IsNamed}
 use Rattle.hc_model.specs.Owners.{Owners}
 use Rattle.hc_model.specs.Measures.{Measures}
 use Rattle.hc_model.specs.Keys.{entry_of, IsOfOneKey, KeepsOthers}
@@ -510,6 +510,16 @@ abbrev pub AreHad : Tables → Type 0
 AreHad t =
     (r x : ℕ) (v : Representation) → t.representation r ≡ Some v → IsAbout t r x →
     IsHad t r v x
+
+-- Who survives the loss of what is written for several goes on alone: it has its exchange, all that
+-- came up to where that goes on, and nothing past it came that isn't stored.
+abbrev pub SurvivorsGoOn : Type 0
+SurvivorsGoOn =
+    (limits : Limits) (t : Tables) (e : Entry) → Sound t → Owners t → Measures t →
+    IsOwed limits t e → is_denied e.acts ≡ false → (r c : ℕ) (v p : Representation) (u : Consumer) →
+    t.representation r ≡ Some v → loses_writing t e r v ≡ true → survivor t r v ≡ Some c →
+    (after_accepted t e).representation r ≡ Some p → (after_accepted t e).consumer c ≡ Some u →
+    IsAlone (after_accepted t e) p u
 
 -- Contents by which a store may begin are such.
 abbrev pub BeginningsAreStarts : Type 0

@@ -2,7 +2,7 @@
 ghost use Rattle.hc_model.specs.Histories.{RunsAreFiltered};
 ghost use Rattle.hc_model.specs.Reads.{OneHeadIsShown};
 ghost use Rattle.hc_model.specs.Keys.{LawOfOneKey, KeysAreKept, KeysBegin};
-ghost use Rattle.hc_model.specs.Laws.{SoundDeliversOnce, DeliveriesAreKept, BodiesAreKept, NumbersAreKept, NamesAreKept, OneCurrentIsKept, StoresAreKept, StartsAreSound, WholeIsWhole, AfterEach, AreBound, KnowEnds, OwnedAfterEach, AreToBeShown, OwedAfterEach, OwnersAreKnown, TurnsAreOne, TurnsAreKept, TurnsBegin, TurnsInRuns, KeysInRuns, BarrierIsKept, BarrierBegins, DoomsInRuns, TruncatedIsFront, CountsAreKept, TurnsGo, ReadersGo, CountsBegin, FewGiveWay, AreRead, AreUndue, ReadAbout, MeasuredAfterEach, BeginningsAreMeasured, AreGrowing, KeptByEntries, AreServed, AreHad, BeginningsAreStarts, AfterDenials};
+ghost use Rattle.hc_model.specs.Laws.{SoundDeliversOnce, DeliveriesAreKept, BodiesAreKept, NumbersAreKept, NamesAreKept, OneCurrentIsKept, StoresAreKept, StartsAreSound, WholeIsWhole, AfterEach, AreBound, KnowEnds, OwnedAfterEach, AreToBeShown, OwedAfterEach, OwnersAreKnown, TurnsAreOne, TurnsAreKept, TurnsBegin, TurnsInRuns, KeysInRuns, BarrierIsKept, BarrierBegins, DoomsInRuns, TruncatedIsFront, CountsAreKept, TurnsGo, ReadersGo, CountsBegin, FewGiveWay, AreRead, AreUndue, ReadAbout, MeasuredAfterEach, BeginningsAreMeasured, AreGrowing, KeptByEntries, AreServed, AreHad, SurvivorsGoOn, BeginningsAreStarts, AfterDenials};
 ghost use Rattle.hc_model.specs.Owners.{Owners};
 ghost use Rattle.hc_model.specs.Measures.{Measures};
 ghost use Rattle.hc_model.specs.Sound.{OneFirst, Sound};
@@ -88,7 +88,8 @@ pub fn readers_are_bound()
 /// after each accepted event that a store may stand behind: an exchange is the own one of one consumer
 /// at most, one without a head is that of the consumer for which it was opened, which stands where it
 /// waits for it, whose open one has its head reads that past the store or is bound, and one that writes
-/// for several is nobody's own.
+/// for several is nobody's own. Who reads past the store and was shown no head may be shown it, or waits
+/// for it.
 pub fn owners_stay_known()
     ensures begun { OwnersAreKnown }
     ensures kept { OwedAfterEach Owners }
@@ -114,6 +115,12 @@ pub fn writings_grow()
 pub fn readers_are_served()
     ensures served { KeptByEntries AreServed }
     ensures had { KeptByEntries AreHad }
+{}
+
+/// Who survives the loss of what is written for several goes on alone: it has its exchange, all that came up
+/// to where that goes on, and nothing past it came that isn't stored.
+pub fn survivors_go_on()
+    ensures { SurvivorsGoOn }
 {}
 
 /// Of a key at most one exchange of the turn waits for its head, and its consumer has the turn.

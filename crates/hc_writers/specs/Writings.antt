@@ -15,10 +15,6 @@ pub record Writing : Type 0 where
   pub over : Bool
   pub members : List Member
 
-abbrev pub writing : ℕ → ℕ → Bool → Bool → List Member → Writing
-writing x end alone over members =
-    record { exchange = x; end = end; alone = alone; over = over; members = members }
-
 abbrev pub member_at : ℕ → ℕ → Member
 member_at c offset = record { c = c; offset = offset }
 

@@ -59,6 +59,7 @@ class Facts:
             self.representation(r, v)
         for c, k in self.K.items():
             self.consumer(c, k)
+        self.owners()
         self.turns()
         self.dooms(old, entry)
         if not self.is_denied(entry.acts):
@@ -79,6 +80,90 @@ class Facts:
 
     def bound_to(self, r):
         return [c for c in self.K if self.place(c)._name == "Bound" and self.place(c).args()[0] == r]
+
+    def owners(self):
+        t = self.t
+        owners = collections.Counter(of(k.own) for k in self.K.values() if of(k.own) is not None)
+        self.holds("own: one", all(n == 1 for n in owners.values()))
+        for x, w in self.W.items():
+            k = self.K[w.c]
+            if w.need._name == "Validate":
+                self.holds("own: validates", not self.requests[0](k.request))
+            if w.is_open and of(w.head) is None:
+                p = k.place
+                way = "Direct" if w.need._name in ("Disabled", "TimedOut", "Unsatisfied") else "Hole" if w.need._name == "Hole" else "Turn"
+                self.holds("own: waiting " + way, of(k.own) == x and ((way == "Direct" and p._name == "Direct" and p.args()[0] == x)
+                    or (way == "Turn" and p._name == "Turn" and p.args()[0] == x)
+                    or (way == "Hole" and p._name == "Bound" and p.args()[0] == of(w.aim))))
+        for c, k in self.K.items():
+            p = k.place
+            if p._name == "Passed":
+                self.holds("own: plain", not self.requests[0](k.request))
+            if p._name == "Bound" and p.args()[3]._name == "FirstHole":
+                y = p.args()[3].args()[0]
+                self.holds("own: first own", self.W[y].c == c)
+            if p._name == "Direct" and not k.shown:
+                w = self.W[p.args()[0]]
+                self.holds("own: past", of(w.head) is not None or (of(k.own) == p.args()[0] and w.is_open))
+            own = of(self.own_open(t, k))
+            if own is not None:
+                self.holds("own: reads", p._name in ("Bound", "Direct") or (p._name == "Turn" and p.args()[0] == own and of(self.W[own].head) is None))
+                if p._name == "Direct":
+                    self.holds("own: direct", p.args()[0] == own)
+            if of(k.own) is not None:
+                self.holds("own: apart", not any(self.is_written(t, v) and of(v.writer) == of(k.own) for v in self.V.values()))
+            if p._name == "Bound":
+                lo, hi = p.args()[1], of(p.args()[2])
+                v = self.V[p.args()[0]]
+                total = of(v.head.total)
+                if hi is not None:
+                    self.holds("own: hi total", total is not None and hi <= total)
+                if total is not None:
+                    self.holds("own: offset", self.offset(t, k) <= (hi if hi is not None else total))
+        for x, w in self.W.items():
+            if w.is_open and of(w.head) is not None and self.family(x) in self.V:
+                v = self.V[self.family(x)]
+                n, total = of(self.promised(w)), of(v.head.total)
+                if n is None:
+                    self.holds("own: untold", total is None and self.base(w) == 0 and v.reach == len(w.body) and self.family(x) == x)
+                else:
+                    self.holds("own: told", total is not None and self.base(w) + n <= total)
+        for r, v in self.V.items():
+            for c in self.bound_to(r):
+                k = self.K[c]
+                first = not v.is_lost and self.came_alone(t, k.place)
+                pen = first or (v.is_lost and of(v.alone) == c)
+                if pen and of(k.own) is not None:
+                    w = self.W[of(k.own)]
+                    start = (w.need.args()[0] if w.need._name == "Hole" else 0) if of(w.head) is None else self.front(w)
+                    self.holds("pen: covered", all(of(v.body(p)) is not None for p in range(self.offset(t, k), start)))
+                if v.is_lost and of(v.alone) == c:
+                    self.holds("pen: own", of(k.own) is not None)
+                if first and of(k.due) is None and of(k.own) is None and not self.is_written(t, v):
+                    hi = of(self.hi_of(t, k.place))
+                    self.holds("pen: rested", hi is not None and all(of(v.stored(p)) is not None for p in range(self.offset(t, k), hi)))
+        for r, v in self.V.items():
+            total = of(v.head.total)
+            if total is not None:
+                self.holds("own: reach", v.reach <= total)
+            if v.reach > 0:
+                self.holds("own: tight", of(v.body(v.reach - 1)) is not None)
+            if r in self.W:
+                self.holds("own: founders", of(self.W[r].joined) is None)
+            if not v.is_lost:
+                for c in self.bound_to(r):
+                    k = self.K[c]
+                    if self.came_alone(t, k.place) and of(k.due) is None:
+                        self.holds("own: all undue", all(of(self.K[d].due) is None for d in self.bound_to(r)))
+                        hi = of(self.hi_of(t, k.place))
+                        if of(k.own) is None and not self.is_written(t, v):
+                            off = self.offset(t, k)
+                            self.holds("own: first has own or rest", all(of(v.stored(p)) is not None for p in range(off, hi)))
+            if v.is_lost and of(v.alone) in self.bound_to(r):
+                k = self.K[of(v.alone)]
+                x = of(k.own)
+                if x is not None and self.W[x].is_open and of(self.W[x].head) is None:
+                    self.holds("own: alone at its hole", self.W[x].need.args()[0] == self.offset(t, k))
 
     def numbered(self):
         t = self.t

@@ -1,4 +1,5 @@
 //! The program as a function of its words.
+ghost use Rattle.std.specs.Prelude.{◌≡◌, ◌≤◌, ◌^◌, []};
 
 use crate::line::{Order, walk};
 use hc_text::{NoMemory, read_plain};
@@ -30,14 +31,21 @@ impl Status {
 }
 
 /// `forward`, `backward` or `alternate` with up to 2^20 consumers walks a line of them so many times.
-pub fn run(alloc: Global, words: &[String]) -> Status {
+pub fn run(alloc: Global, words: &[String]) -> Status
+    ensures idle { words.now ≡ [] → result ≡ Status.Done }
+{
     match words {
         [] => Status::Done,
         [order, count, times] => {
             let order = order_of(order.as_str());
-            let count = read_plain(count.as_bytes()).filter(|count| *count <= MOST);
-            match (order, count, read_plain(times.as_bytes())) {
-                (Some(order), Some(count), Some(times)) => walks(alloc, order, count, times),
+            match (
+                order,
+                read_plain(count.as_bytes()),
+                read_plain(times.as_bytes()),
+            ) {
+                (Some(order), Some(count), Some(times)) if count <= MOST => {
+                    walks(alloc, order, count, times)
+                }
                 _ => Status::Usage,
             }
         }
@@ -55,9 +63,11 @@ fn order_of(word: &str) -> Option<Order> {
 }
 
 /// Walks a line so many times.
-fn walks(alloc: Global, order: Order, count: u64, times: u64) -> Status {
+fn walks(alloc: Global, order: Order, count: u64, times: u64) -> Status
+    requires { count ≤ 2 ^ 20 }
+{
     for _round in 0..times {
-        if let Err(NoMemory) = walk(alloc, order, count.min(MOST)) {
+        if let Err(NoMemory) = walk(alloc, order, count) {
             return Status::NoMemory;
         }
     }

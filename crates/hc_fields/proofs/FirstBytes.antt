@@ -1,5 +1,5 @@
 -- The first of some byte in a text, as a search tells it.
-use Rattle.std.proofs.Common.{◌≡◌, ℕ, true, false, List, length, Option, Some, None, refl, inl, inr, arith}
+use Rattle.std.proofs.Common.{◌≡◌, ℕ, ◌<◌, Bool, true, false, List, length, get_or, Option, Some, None, refl, inl, inr, arith}
 use Rattle.std.specs.Prelude.{◌==◌, position}
 use Rattle.std.specs.List.{position_or_len}
 use Rattle.std.proofs.lemmas.Bool.{lt-ltb, le-ltb, cases_Bool}
@@ -12,10 +12,19 @@ not_at e b not = elim (cases_Bool (b == e)) [
   | inr isn't ↦ isn't
 ]
 
+-- a search that has passed a part of a text, and what it answers
+pub position-none : (p : ℕ → Bool) (xs : List ℕ) → ((k : ℕ) → k < length xs → p (get_or xs k 0) ≡ false) → None ≡ position p xs
+position-none p xs nowhere =
+    let end : position_or_len p xs ≡ length xs = position_or_len_is p xs (length xs) 0 (omega arith) nowhere (λ lt. absurd (omega (arith, lt))) in
+    rw (end, le-ltb (length xs) (length xs) (omega arith)) refl
+
+pub position-some : (p : ℕ → Bool) (xs : List ℕ) (i : ℕ) → i < length xs → ((k : ℕ) → k < i → p (get_or xs k 0) ≡ false) → p (get_or xs i 0) ≡ true → Some i ≡ position p xs
+position-some p xs i within before at =
+    let place : position_or_len p xs ≡ i = position_or_len_is p xs i 0 (omega arith) before (λ lt. at) in
+    rw (place, lt-ltb i (length xs) within) refl
+
 pub first-position : (e : ℕ) (xs : List ℕ) (r : Option ℕ) → IsFirstByte (is_byte e) xs r → r ≡ position (λ b. b == e) xs
 first-position e xs None nowhere =
-    let end : position_or_len (λ b. b == e) xs ≡ length xs = position_or_len_is (λ b. b == e) xs (length xs) 0 (omega arith) (λ k lt. not_at e _ (nowhere k (omega arith) lt)) (λ lt. absurd (omega (arith, lt))) in
-    rw (end, le-ltb (length xs) (length xs) (omega arith)) refl
+    position-none (λ b. b == e) xs (λ k lt. not_at e _ (nowhere k (omega arith) lt))
 first-position e xs (Some i) (before, at) =
-    let place : position_or_len (λ b. b == e) xs ≡ i = position_or_len_is (λ b. b == e) xs i 0 (omega (arith, before.high)) (λ k lt. not_at e _ (before.before k (omega arith) lt)) (λ lt. at) in
-    rw (place, lt-ltb i (length xs) before.high) refl
+    position-some (λ b. b == e) xs i before.high (λ k lt. not_at e _ (before.before k (omega arith) lt)) at

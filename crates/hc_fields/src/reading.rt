@@ -42,10 +42,17 @@ fn is_lower_char(b: u8) -> bool
 }
 
 /// How many bytes stand before the first that no name in lower case has.
+// By itself the loop takes half as many instructions a byte as where it is inlined.
+#[inline(never)]
 fn name_len(text: &[u8]) -> Option<usize>
     ensures { result ≡ position (λ b. not (is_lower_byte b)) text.now }
 {
-    text.iter().position(|b| !is_lower_char(*b))
+    for (i, b) in text.iter().enumerate() {
+        if !is_lower_char(*b) {
+            return Some(i);
+        }
+    }
+    None
 }
 
 /// Where the first line feed stands.

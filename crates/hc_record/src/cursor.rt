@@ -9,6 +9,7 @@ use crate::kind::Kind;
 use crate::version::Version;
 use hc_fields::Fields;
 use hc_text::{NoMemory, read_number, read_plain};
+use memchr::memchr;
 use std::alloc::Global;
 use std::marker::Model;
 
@@ -59,6 +60,17 @@ impl<'a> Cursor<'a> {
     {
         let rest = self.rest;
         let at = place_of(rest, end)?;
+        self.rest = &rest[at + 1..];
+        Some(&rest[..at])
+    }
+
+    /// Takes what stands before the next line feed, and that byte.
+    pub(crate) fn take_line(&mut self) -> Option<&'a [u8]>
+        ensures { MatchOption result (lacks 10 self.old ≡ true)
+            (λ text. (lacks 10 text.now ≡ true) × (text.now ++ 10 ∷ self.new ≡ self.old)) }
+    {
+        let rest = self.rest;
+        let at = feed_place(rest)?;
         self.rest = &rest[at + 1..];
         Some(&rest[..at])
     }
@@ -127,6 +139,13 @@ fn place_of(text: &[u8], byte: u8) -> Option<usize>
     ensures { result ≡ position (λ b. b == byte) text.now }
 {
     text.iter().position(|b| *b == byte)
+}
+
+/// Where the first line feed stands.
+fn feed_place(text: &[u8]) -> Option<usize>
+    ensures { result ≡ position (λ b. b == 10) text.now }
+{
+    memchr(b'\n', text)
 }
 
 /// The total of these 20 bytes.

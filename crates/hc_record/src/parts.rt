@@ -76,7 +76,7 @@ pub(crate) fn take_tag_text<'a>(version: Version, text: &mut Cursor<'a>) -> Opti
         Version::First => Some(b""),
         Version::Second => {
             text.take_bytes(b"tag ")?;
-            text.take_until(b'\n')
+            text.take_line()
         }
     }
 }

@@ -1,2 +1,4 @@
 pub mod UserLemmas
 pub mod LineLemmas
+pub mod TournamentLemmas
+pub mod SeatLemmas

@@ -1,2 +1,4 @@
 pub mod Users
 pub mod Lines
+pub mod Tournaments
+pub mod Seats

@@ -3,6 +3,8 @@
 
 mod active;
 mod line;
+mod seat;
+mod tournament;
 
 pub use active::ActiveEntry;
 pub use hc_rules::{Admission, Plan};

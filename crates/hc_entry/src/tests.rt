@@ -11,7 +11,6 @@ enum Move {
     Away(u64),
     Back(u64),
     Leave(u64),
-    LeaveAt(u64),
 }
 
 /// A move, whose turn it is after it, and whose turn it would be with 5 in line.
@@ -28,7 +27,7 @@ static LINE: &'static [Turned] = &[
     Turned(Move::Away(3), Some(2), 2),
     Turned(Move::Hold(2), Some(2), 2),
     Turned(Move::Enter(1), Some(2), 2),
-    Turned(Move::LeaveAt(2), Some(1), 1),
+    Turned(Move::Leave(2), Some(1), 1),
     Turned(Move::Away(1), Some(9), 5),
     Turned(Move::Back(3), Some(3), 3),
     Turned(Move::Pass(3), Some(9), 5),
@@ -54,17 +53,11 @@ fn go<R: Abort>(rt: &R, line: &mut KeyLine, step: Move) -> Result<(), Fail> {
     match step {
         Move::Enter(c) => {
             assert!(rt; !line.is_in(c));
-            let place = line.enter(c)?;
-            assert!(rt; place.key as u64 == c);
+            line.enter(c)?;
         }
         Move::Hold(c) => {
             assert!(rt; line.is_in(c) && line.turn() == Some(c));
             line.hold(c);
-        }
-        Move::LeaveAt(c) => {
-            let place = Place { key: c as usize };
-            assert!(rt; line.is_in(c));
-            line.leave_at(place);
         }
         Move::Pass(c) => {
             assert!(rt; line.is_in(c));
@@ -83,6 +76,38 @@ fn go<R: Abort>(rt: &R, line: &mut KeyLine, step: Move) -> Result<(), Fail> {
             line.leave(c);
         }
     }
+    Ok(())
+}
+
+#[test]
+fn leaves_by_its_place(rt: HostRuntime) -> Result<(), Fail> {
+    let mut line = KeyLine::new(rt.alloc());
+    let first = line.enter(3)?;
+    assert!(rt; !line.is_in(2));
+    let second = line.enter(2)?;
+    assert!(rt; first != second && line.is_in(3));
+    line.pass(3);
+    line.leave_at(second);
+    assert!(rt; line.turn().is_none() && !line.is_in(2) && line.is_in(3));
+    line.back(3);
+    assert!(rt; line.turn() == Some(3));
+    Ok(())
+}
+
+/// A hundred enter from the last to the first, and leave from the first to the last.
+#[test]
+fn grows(rt: HostRuntime) -> Result<(), Fail> {
+    let mut line = KeyLine::new(rt.alloc());
+    for c in (0..100).rev() {
+        assert!(rt; !line.is_in(c));
+        line.enter(c)?;
+        assert!(rt; line.turn() == Some(c));
+    }
+    for c in 0..100 {
+        assert!(rt; line.turn() == Some(c) && line.is_in(c));
+        line.leave(c);
+    }
+    assert!(rt; line.turn().is_none());
     Ok(())
 }
 
@@ -203,6 +228,13 @@ fn resumes_a_writing(rt: HostRuntime) -> Result<(), Fail> {
     let admission = entry.admit(3, true, true);
     assert!(rt; admission == Admission::Exclusive);
     assert!(rt; entry.exclusive() == Some(3) && !entry.is_writing());
+    assert!(rt; entry.admission(4, false, false) == Admission::Behind(3));
+    entry.resume_shared(3);
+    assert!(rt; entry.exclusive().is_none() && entry.is_writing());
+    assert!(rt; entry.admission(4, false, false) == Admission::Shared);
+    assert!(rt; entry.admission(4, true, false) == Admission::Behind(3));
+    entry.end_shared();
+    assert!(rt; !entry.is_writing() && entry.admission(4, true, false) == Admission::Reader);
     Ok(())
 }
 

@@ -1,9 +1,21 @@
 use Rattle.std.proofs.Common.{ap, ◌∙◌}
+use Rattle.hc_entry.specs.declared.seat.Stand.TheVariants as stand
+use Rattle.hc_entry.specs.Seats.{standing}
 use Rattle.hc_entry.specs.Lines.{turn_of}
-use Rattle.hc_entry.proofs.LineLemmas.{in_place-held}
+use Rattle.hc_entry.proofs.LineLemmas.{stands-held}
+use Rattle.hc_entry.proofs.SeatLemmas.{standing-rises}
 use Rattle.hc_entry.proofs.line.KeyLine.hold.Goals as goal
 
 pub invariant_of-self : goal.invariant_of-self
 invariant_of-self c =
     let i = c.self.inside in
-    (in_place-held i.in_line.items i.passed.items i.away.items i.holder c.self.invariant.0 c.args.c (ap turn_of c.self.view_is ∙ c.requires.turn), c.self.invariant.1)
+    let was = c.self.invariant in
+    let rise = standing-rises stand.InLine i.seats.entries was.distinct in
+    record {
+      distinct = was.distinct;
+      placed = was.placed;
+      seated = was.seated;
+      plays = was.plays;
+      room = was.room;
+      holds = stands-held c.args.c i.holder (standing stand.InLine i.seats.entries) rise was.holds (ap turn_of c.self.view_is ∙ c.requires.turn);
+    }

@@ -1,19 +1,31 @@
-use Rattle.std.proofs.Common.{arith}
-use Rattle.hc_entry.proofs.LineLemmas.{in_place-left}
+use Rattle.std.proofs.Common.{sym, ap, ◌∙◌}
+use Rattle.hc_entry.specs.Seats.{seat_of}
+use Rattle.hc_entry.specs.Lines.{is_in, left_by}
+use Rattle.hc_entry.proofs.SeatLemmas.{seat-in, some-seat, seated-left, places-left, line-left}
 use Rattle.hc_entry.proofs.line.KeyLine.leave.Goals as goal
+
+pub unreachable-requires : goal.unreachable-requires
+unreachable-requires c =
+    let i = c.self.inside in
+    let rise = c.self.invariant.distinct in
+    let (seat, is) = some-seat (seat_of i.seats.entries c.args.c) (seat-in c.args.c i.seats.entries rise ∙ (ap (is_in c.args.c) c.self.view_is ∙ c.requires)) in
+    c.in_default.not-Some seat (c.remove.ensures.value ∙ is)
 
 pub invariant_of-self : goal.invariant_of-self
 invariant_of-self c =
     let i = c.self.inside in
-    let v = c.vacate.new in
-    let left = in_place-left i.in_line.items i.passed.items i.away.items i.holder c.self.invariant.0 c.args.c v.line.items v.passed.items v.away.items
-    c.released-self-inside.result c.vacate.ensures.line c.vacate.ensures.passed c.vacate.ensures.away c.released-self-inside.ensures in
-    let room = c.self.invariant.1 in
-    let total = c.vacate.ensures.len in
-    let line_fits = room.line in
-    let passed_fit = room.passed in
-    let away_fit = room.away in
-    let line_room = c.vacate.ensures.line_room in
-    let passed_room = c.vacate.ensures.passed_room in
-    let away_room = c.vacate.ensures.away_room in
-    (left, record { line = omega arith; passed = omega arith; away = omega arith })
+    let is = sym c.remove.ensures.value ∙ c.in-Some.is in
+    seated-left i.seats.entries i.places.slots i.in_line i.holder c.self.invariant c.args.c c.in-Some.seat is
+    c.remove.new.self.entries (record { changes = c.remove.ensures.updates.0; distinct = c.remove.ensures.unique })
+    c.remove-2.new.self.slots c.set.new.self c.released-self-inside.result c.remove-2.ensures.slots c.set.ensures c.released-self-inside.ensures
+
+pub returns : goal.returns
+returns c =
+    let i = c.self.inside in
+    let is = sym c.remove.ensures.value ∙ c.in-Some.is in
+    let rise = c.self.invariant.distinct in
+    line-left i.seats.entries i.places.slots i.holder rise c.args.c c.in-Some.seat.place c.remove.new.self.entries c.released-self-inside.result c.released-self-inside.ensures
+    c.remove-2.new.self.slots
+    (c.remove-2.ensures.slots ∙ sym (places-left i.seats.entries i.places.slots i.in_line i.holder c.self.invariant c.args.c c.in-Some.seat is c.remove.new.self.entries (record { changes = c.remove.ensures.updates.0; distinct = c.remove.ensures.unique })))
+    (record { changes = c.remove.ensures.updates.0; distinct = c.remove.ensures.unique })
+    ∙ ap (left_by c.args.c) c.self.view_is

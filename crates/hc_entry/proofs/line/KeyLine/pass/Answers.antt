@@ -1,29 +1,37 @@
-use Rattle.std.proofs.Common.{ap, ◌∙◌, arith}
-use Rattle.hc_entry.specs.Lines.{is_in}
-use Rattle.hc_entry.proofs.LineLemmas.{gone, in_place-left, in_place-passed, counts}
+use Rattle.std.proofs.Common.{ap, ◌∙◌}
+use Rattle.hc_entry.specs.declared.seat.Stand.TheVariants as stand
+use Rattle.hc_entry.specs.Seats.{seat_of}
+use Rattle.hc_entry.specs.Lines.{is_in, passed}
+use Rattle.hc_entry.proofs.SeatLemmas.{seat-in, some-seat, place-room, seated-moved, line-passed}
 use Rattle.hc_entry.proofs.line.KeyLine.pass.Goals as goal
 
-pub put_reserved-requires-clause-absent : goal.put_reserved-requires-clause-absent
-put_reserved-requires-clause-absent c = gone c.args.c _ _ c.vacate.ensures.passed
+pub reseat-place-requires : goal.reseat-place-requires
+reseat-place-requires c =
+    let i = c.self.inside in
+    seat-in c.args.c i.seats.entries c.self.invariant.distinct ∙ (ap (is_in c.args.c) c.self.view_is ∙ c.requires)
+
+pub set-requires : goal.set-requires
+set-requires c =
+    let i = c.self.inside in
+    let rise = c.self.invariant.distinct in
+    let (seat, is) = some-seat (seat_of i.seats.entries c.args.c) (seat-in c.args.c i.seats.entries rise ∙ (ap (is_in c.args.c) c.self.view_is ∙ c.requires)) in
+    let at_place = rw is at c.reseat-place.ensures.place in
+    rw (← at_place) (place-room i.seats.entries i.places.slots i.in_line i.holder c.self.invariant c.args.c seat is)
 
 pub invariant_of-self : goal.invariant_of-self
 invariant_of-self c =
     let i = c.self.inside in
-    let v = c.vacate.new in
-    let left = in_place-left i.in_line.items i.passed.items i.away.items i.holder c.self.invariant.0 c.args.c v.line.items v.passed.items v.away.items
-    c.released-self-inside.result c.vacate.ensures.line c.vacate.ensures.passed c.vacate.ensures.away c.released-self-inside.ensures in
-    let some = counts c.args.c i.in_line.items i.passed.items i.away.items (ap (is_in c.args.c) c.self.view_is ∙ c.requires) in
-    let room = c.self.invariant.1 in
-    let total = c.vacate.ensures.len in
-    let more = c.put_reserved.ensures.len in
-    let line_fits = room.line in
-    let passed_fit = room.passed in
-    let away_fit = room.away in
-    let line_room = c.vacate.ensures.line_room in
-    let passed_room = c.vacate.ensures.passed_room in
-    let away_room = c.vacate.ensures.away_room in
-    let put_room = c.put_reserved.ensures.capacity in (
-      in_place-passed v.line.items v.passed.items v.away.items c.released-self-inside.result left c.args.c c.put_reserved.new.items.items
-          (gone c.args.c _ _ c.vacate.ensures.line) (gone c.args.c _ _ c.vacate.ensures.passed) (gone c.args.c _ _ c.vacate.ensures.away) c.put_reserved.ensures.items,
-      record { line = omega arith; passed = omega arith; away = omega arith },
-    )
+    let rise = c.self.invariant.distinct in
+    let (seat, is) = some-seat (seat_of i.seats.entries c.args.c) (seat-in c.args.c i.seats.entries rise ∙ (ap (is_in c.args.c) c.self.view_is ∙ c.requires)) in
+    let at_place = rw is at c.reseat-place.ensures.place in
+    seated-moved i.seats.entries i.places.slots i.in_line i.holder c.self.invariant c.args.c seat is stand.Passed c.reseat-place.result at_place
+    c.reseat-place.new.seats.entries (record { changes = c.reseat-place.ensures.seats; distinct = c.reseat-place.ensures.distinct })
+    c.set.new.self c.released-self-inside.result c.set.ensures c.released-self-inside.ensures
+
+pub returns : goal.returns
+returns c =
+    let i = c.self.inside in
+    let rise = c.self.invariant.distinct in
+    line-passed i.seats.entries i.places.slots i.holder rise c.args.c c.reseat-place.result c.reseat-place.new.seats.entries c.released-self-inside.result c.released-self-inside.ensures
+    (record { changes = c.reseat-place.ensures.seats; distinct = c.reseat-place.ensures.distinct })
+    ∙ ap (passed c.args.c) c.self.view_is

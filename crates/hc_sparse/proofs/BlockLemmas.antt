@@ -1,16 +1,21 @@
--- What blocks have, by the position.
-use Rattle.std.proofs.Common.{◌≡◌, ◌≢◌, inl, inr, ℕ, ◌+◌, ◌-◌, ◌/◌, ◌%◌, ◌<◌, ◌≤◌, ◌^◌, List, ◌++◌, length, get_or, true, false, Option, Some, None, refl, sym, ap, ◌∙◌, arith}
-use mathlib.Core.Path.{fun_ext}
-use Rattle.std.specs.Prelude.{is_some}
+-- What blocks and the list of all bytes have, by the position.
+use Rattle.std.proofs.Common.{◌≡◌, ◌≢◌, inl, inr, ℕ, ◌+◌, ◌-◌, ◌/◌, ◌%◌, ◌<◌, ◌≤◌, ◌^◌, List, ◌++◌, length, get_or, true, false, Option, Some, None, refl, sym, ap, ◌∙◌, arith, length-append}
+use Rattle.std.proofs.lemmas.Bool.{lt-ltb}
+use borrow.Author.Tests.{ltb-true}
+use Rattle.std.proofs.lemmas.List.{get_or_append_left, get_or-append-add}
+use Rattle.std.proofs.lemmas.List.Edits.{length-between, get_or-between}
+use Rattle.std.specs.Prelude.{is_some, slice_range, Result, Ok, Err, OnOk, OnErr}
+use Rattle.hc_sparse.proofs.SizeLemmas.{size-put, size-same}
 use Rattle.std.specs.Ordering.{nat_cmp}
 use Rattle.std.specs.BTreeMap.{BTreeMap, get}
-use Rattle.std.proofs.lemmas.Bool.Decides.{nat_tests}
-use Rattle.hc_sparse.specs.Cells.{Cells, inside, written, AreAbsent}
-use Rattle.hc_sparse.specs.Extents.{claimed, AreFree}
-use Rattle.hc_sparse.specs.Blocks.{cell_of, owners_in}
-use Rattle.hc_sparse.specs.BlockMaps.{blocks_cells, owners, bytes, block_of, owner_at, is_spare, AreBelow, AreReady}
+use Rattle.hc_sparse.specs.Cells.{written, AreAbsent, size}
+use Rattle.hc_sparse.specs.Extents.{Mark, mark, claimed, end_of, AreFree, IsExtentFrom}
+use Rattle.hc_sparse.specs.Stretch.{IsPart}
+use Rattle.hc_sparse.specs.declared.extents.Extent.{Extent}
+use Rattle.hc_sparse.specs.Blocks.{marks_in}
+use Rattle.hc_sparse.specs.BlockMaps.{blocks_cells, cell_of, marks, is_spare, AreBelow, is_within, AreWithin, AreReady, HaveSame}
 use Rattle.hc_sparse.specs.declared.block.Block.{Block}
-use Rattle.hc_sparse.proofs.CellLemmas.{inside-yes, inside-past, inside-cases, split, written-append}
+use Rattle.hc_sparse.proofs.CellLemmas.{inside-past, inside-cases, split}
 
 block-is : (p i : ℕ) → p % 4096 + i < 4096 → (p + i) / 4096 ≡ p / 4096
 block-is p i lt = omega arith
@@ -25,132 +30,144 @@ pub number-below : (p : ℕ) → p < 2 ^ 62 → p / 4096 < 2 ^ 50
 number-below p lt = omega arith
 
 -- What is nobody's is absent, and what is absent is nobody's.
-pub owner-none : (byte : ℕ) (o : Option ℕ) → cell_of byte o ≡ None → o ≡ None
-owner-none byte None is = refl
-owner-none byte (Some x) is = absurd cc
+pub mark-none : (bytes : List ℕ) (o : Option Mark) → cell_of bytes o ≡ None → o ≡ None
+mark-none bytes None is = refl
+mark-none bytes (Some mark) is = absurd cc
 
-pub cell-none : (byte : ℕ) (o : Option ℕ) → o ≡ None → cell_of byte o ≡ None
-cell-none byte o is = rw is refl
+pub absent-free : (m : BTreeMap ℕ Block) (bytes : List ℕ) (lo hi : ℕ) → AreAbsent (blocks_cells m bytes) lo hi → AreFree (marks m) lo hi
+absent-free m bytes lo hi absent q ge lt = mark-none bytes (marks m q) (absent q ge lt)
 
-pub absent-free : (m : BTreeMap ℕ Block) (lo hi : ℕ) → AreAbsent (blocks_cells m) lo hi → AreFree (owners m) lo hi
-absent-free m lo hi absent q ge lt = owner-none (bytes m q) (owners m q) (absent q ge lt)
+-- An offset's mark, by the position.
+pub marks-here : (m : BTreeMap ℕ Block) (p i : ℕ) (b : Block) → get nat_cmp m (p / 4096) ≡ Some b → p % 4096 + i < 4096 → marks m (p + i) ≡ marks_in b (p % 4096 + i)
+marks-here m p i b there lt = rw (block-is p i lt, offset-is p i lt, there) refl
 
--- An offset's owner, by the position.
-pub owners-here : (m : BTreeMap ℕ Block) (p i : ℕ) (b : Block) → get nat_cmp m (p / 4096) ≡ Some b → p % 4096 + i < 4096 → owners m (p + i) ≡ owners_in b (p % 4096 + i)
-owners-here m p i b there lt = rw (block-is p i lt, offset-is p i lt, there) refl
-
-pub free-here : (m : BTreeMap ℕ Block) (p len : ℕ) (b : Block) → get nat_cmp m (p / 4096) ≡ Some b → p % 4096 + len ≤ 4096 → AreFree (owners m) p (p + len) → AreFree (owners_in b) (p % 4096) (p % 4096 + len)
+pub free-here : (m : BTreeMap ℕ Block) (p len : ℕ) (b : Block) → get nat_cmp m (p / 4096) ≡ Some b → p % 4096 + len ≤ 4096 → AreFree (marks m) p (p + len) → AreFree (marks_in b) (p % 4096) (p % 4096 + len)
 free-here m p len b there within free q ge lt =
     let i : ℕ = q - p % 4096 in
     let place : p % 4096 + i ≡ q = omega arith in
-    let here = owners-here m p i b there (omega arith) in
+    let here = marks-here m p i b there (omega arith) in
     let none = free (p + i) (omega arith) (omega arith) in
     rw place at (sym here ∙ none)
 
-same-cell : (b c : ℕ) (v w : Option ℕ) → w ≡ v → ((x : ℕ) → v ≡ Some x → c ≡ b) → cell_of c w ≡ cell_of b v
-same-cell b c None w is same = rw is refl
-same-cell b c (Some x) w is same = rw (is, same x refl) refl
-
-some-block : (o : Option Block) (q x : ℕ) → owner_at o q ≡ Some x → is_some o ≡ true
-some-block None q x is = absurd cc
-some-block (Some b) q x is = refl
-
--- Bytes that are written where nothing is change nothing.
-pub filled-same : (m n : BTreeMap ℕ Block) (p len : ℕ) → AreFree (owners m) p (p + len) → ((q : ℕ) → owners n q ≡ owners m q) → ((q : ℕ) → is_some (block_of m q) ≡ true → inside p len q ≡ false → bytes n q ≡ bytes m q) → (q : ℕ) → blocks_cells n q ≡ blocks_cells m q
-filled-same m n p len free own keeps q =
-    same-cell (bytes m q) (bytes n q) (owners m q) (owners n q) (own q) (λ x is.
-    elim (inside-cases p len q) [
-      | inl here ↦ absurd (let none = free q here.1 here.2 in let never : None ≡ Some x = sym none ∙ is in cc)
-      | inr off ↦ keeps q (some-block (block_of m q) (q % 4096) x is) off.0
-    ])
-
-pub below-filled : (m n : BTreeMap ℕ Block) (p : ℕ) → p < 2 ^ 62 → AreBelow m → ((k : ℕ) → k ≢ p / 4096 → get nat_cmp n k ≡ get nat_cmp m k) → AreBelow n
-below-filled m n p lt below others k le = rw (others k (λ same. absurd (omega arith))) (below k le)
-
-spare-some : (o : Option Block) → is_spare o ≡ true → is_some o ≡ true
-spare-some None is = absurd (let never : false ≡ true = is in cc)
-spare-some (Some b) is = refl
-
-pub ready-more : (m n : BTreeMap ℕ Block) (at done : ℕ) (piece part : List ℕ) → done + length part ≤ length piece
-    → ((i : ℕ) → i < length part → get_or part i 0 ≡ get_or piece (done + i) 0)
-    → ((i : ℕ) → i < done → bytes m (at + i) ≡ get_or piece i 0) → ((i : ℕ) → i < done → is_spare (block_of m (at + i)) ≡ true)
-    → ((q : ℕ) → is_some (block_of m q) ≡ true → inside (at + done) (length part) q ≡ false → bytes n q ≡ bytes m q)
-    → AreReady n (at + done) part → (i : ℕ) → i < done + length part → bytes n (at + i) ≡ get_or piece i 0
-ready-more m n at done piece part fits is there spare keeps ready i lt =
-    elim (split i done) [
-      | inl before ↦ keeps (at + i) (spare-some (block_of m (at + i)) (spare i before)) (let off : inside (at + done) (length part) (at + i) ≡ false = grind (arith, nat_tests) in off) ∙ there i before
-      | inr from ↦
-          let j : ℕ = i - done in
-          let place : at + done + j ≡ at + i = omega arith in
-          let index : done + j ≡ i = omega arith in
-          let here = ready.there j (omega arith) in
-          let was = is j (omega arith) in
-          rw (place, index) at (here ∙ was)
-    ]
-
-pub spare-more : (m n : BTreeMap ℕ Block) (at done : ℕ) (part : List ℕ)
-    → ((i : ℕ) → i < done → is_spare (block_of m (at + i)) ≡ true) → ((k : ℕ) → is_spare (get nat_cmp m k) ≡ true → is_spare (get nat_cmp n k) ≡ true)
-    → AreReady n (at + done) part → (i : ℕ) → i < done + length part → is_spare (block_of n (at + i)) ≡ true
-spare-more m n at done part spare keeps ready i lt =
-    elim (split i done) [
-      | inl before ↦ keeps ((at + i) / 4096) (spare i before)
-      | inr from ↦
-          let place : at + done + (i - done) ≡ at + i = omega arith in
-          rw place at (ready.spare (i - done) (omega arith))
-    ]
-
--- What bytes that are there have become, once they are somebody's.
-pub put-cells : (m n k : BTreeMap ℕ Block) (at x : ℕ) (piece : List ℕ) → ((q : ℕ) → blocks_cells n q ≡ blocks_cells m q) → AreReady n at piece
-    → ((q : ℕ) → owners k q ≡ claimed at (length piece) x (owners n) q) → ((q : ℕ) → bytes k q ≡ bytes n q) → (q : ℕ) → blocks_cells k q ≡ written at x piece (blocks_cells m) q
-put-cells m n k at x piece same ready own kept q =
-    elim (inside-cases at (length piece) q) [
-      | inl here ↦
-          let place : at + (q - at) ≡ q = omega arith in
-          let there = rw place at (ready.there (q - at) (omega arith)) in
-          let mine = own q in
-          let byte = kept q in
-          rw (mine, byte, here.0, there) refl
-      | inr off ↦
-          let others = own q in
-          let byte = kept q in
-          rw (others, byte, off.0) (same q)
-    ]
+pub below-others : (m n : BTreeMap ℕ Block) (k : ℕ) → k < 2 ^ 50 → AreBelow m → ((j : ℕ) → j ≢ k → get nat_cmp n j ≡ get nat_cmp m j) → AreBelow n
+below-others m n k lt below others j le = rw (others j (λ same. absurd (omega arith))) (below j le)
 
 pub below-kept : (m n : BTreeMap ℕ Block) → AreBelow m → ((k : ℕ) → is_some (get nat_cmp n k) ≡ is_some (get nat_cmp m k)) → AreBelow n
 below-kept m n below kept k le = kept k ∙ below k le
 
--- What is put into one block, where the others stay.
-pub part-put : (m n : BTreeMap ℕ Block) (p x : ℕ) (part : List ℕ) → AreFree (owners m) p (p + length part) → ((q : ℕ) → owners n q ≡ claimed p (length part) x (owners m) q)
-    → ((q : ℕ) → is_some (block_of m q) ≡ true → inside p (length part) q ≡ false → bytes n q ≡ bytes m q) → ((i : ℕ) → i < length part → bytes n (p + i) ≡ get_or part i 0)
-    → (q : ℕ) → blocks_cells n q ≡ written p x part (blocks_cells m) q
-part-put m n p x part free own keeps there q =
-    elim (inside-cases p (length part) q) [
-      | inl here ↦
-          let place : p + (q - p) ≡ q = omega arith in
-          let byte = rw place at (there (q - p) (omega arith)) in
-          let mine = own q in
-          rw (mine, here.0, byte) refl
-      | inr off ↦
-          let mine = own q in
-          rw (off.0, same-cell (bytes m q) (bytes n q) (owners m q) (owners n q) (rw off.0 at mine) (λ y is. keeps q (some-block (block_of m q) (q % 4096) y is) off.0)) refl
+pub ready-more : (m n : BTreeMap ℕ Block) (at done more : ℕ) → ((at + done) % 4096 + more ≤ 4096) → AreReady m at done → ((k : ℕ) → is_spare (get nat_cmp m k) ≡ true → is_spare (get nat_cmp n k) ≡ true)
+    → is_spare (get nat_cmp n ((at + done) / 4096)) ≡ true → AreReady n at (done + more)
+ready-more m n at done more within ready keeps here i lt =
+    elim (split i done) [
+      | inl before ↦ keeps ((at + i) / 4096) (ready i before)
+      | inr from ↦
+          let place : at + done + (i - done) ≡ at + i = omega arith in
+          let number = block-is (at + done) (i - done) (omega arith) in
+          rw place at (rw (← number) at here)
     ]
 
 -- What was ready in other blocks is so still.
-pub ready-kept : (m n : BTreeMap ℕ Block) (p k : ℕ) (rest : List ℕ) → (0 < length rest → p % 4096 + k ≡ 4096) → ((j : ℕ) → j ≢ p / 4096 → get nat_cmp n j ≡ get nat_cmp m j) → AreReady m (p + k) rest → AreReady n (p + k) rest
-ready-kept m n p k rest end others ready = record {
-  there = λ i lt. let off = past-block p k (p + k + i) (end (omega arith)) (omega arith) in rw (others ((p + k + i) / 4096) off) (ready.there i lt);
-  spare = λ i lt. let off = past-block p k (p + k + i) (end (omega arith)) (omega arith) in rw (others ((p + k + i) / 4096) off) (ready.spare i lt);
+pub ready-kept : (m n : BTreeMap ℕ Block) (p k rest : ℕ) → (0 < rest → p % 4096 + k ≡ 4096) → ((j : ℕ) → j ≢ p / 4096 → get nat_cmp n j ≡ get nat_cmp m j) → AreReady m (p + k) rest → AreReady n (p + k) rest
+ready-kept m n p k rest end others ready i lt =
+    let off = past-block p k (p + k + i) (end (omega arith)) (omega arith) in
+    rw (others ((p + k + i) / 4096) off) (ready i lt)
+
+pub free-same : (m n : BTreeMap ℕ Block) (lo hi : ℕ) → AreFree (marks m) lo hi → HaveSame m n → AreFree (marks n) lo hi
+free-same m n lo hi free same q ge lt = same q ∙ free q ge lt
+
+pub free-behind : (m n : BTreeMap ℕ Block) (p k x from hi : ℕ) → AreFree (marks m) (p + k) hi → ((q : ℕ) → marks n q ≡ claimed p k x from (marks m) q) → AreFree (marks n) (p + k) hi
+free-behind m n p k x from hi free own q ge lt = own q ∙ rw (inside-past p k q ge) (free q ge lt)
+
+kept-cell : (bytes piece : List ℕ) (o : Option Mark) → is_within (length bytes) o ≡ true → cell_of (bytes ++ piece) o ≡ cell_of bytes o
+kept-cell bytes piece None within = refl
+kept-cell bytes piece (Some mark) within = let lt : mark.place < length bytes = ltb-true mark.place (length bytes) within in rw (get_or_append_left bytes piece 0 mark.place lt) refl
+
+-- Positions are given to an exchange, whose bytes come behind all others: they are put.
+pub put-cells : (m n : BTreeMap ℕ Block) (bytes piece : List ℕ) (at x : ℕ) → AreWithin m (length bytes) → ((q : ℕ) → marks n q ≡ claimed at (length piece) x (length bytes) (marks m) q)
+    → (q : ℕ) → blocks_cells n (bytes ++ piece) q ≡ written at x piece (blocks_cells m bytes) q
+put-cells m n bytes piece at x within own q =
+    let mine = own q in
+    elim (inside-cases at (length piece) q) [
+      | inl here ↦ rw (mine, here.0, get_or-append-add bytes piece (q - at) 0) refl
+      | inr off ↦ rw (mine, off.0) (kept-cell bytes piece (marks m q) (within q))
+    ]
+
+more-within : (n k : ℕ) (o : Option Mark) → n ≤ k → is_within n o ≡ true → is_within k o ≡ true
+more-within n k None le within = refl
+more-within n k (Some mark) le within = let lt : mark.place < n = ltb-true mark.place n within in lt-ltb mark.place k (omega arith)
+
+pub put-within : (m n : BTreeMap ℕ Block) (at len x count : ℕ) → AreWithin m count → ((q : ℕ) → marks n q ≡ claimed at len x count (marks m) q) → AreWithin n (count + len)
+put-within m n at len x count within own q =
+    let mine = own q in
+    elim (inside-cases at len q) [
+      | inl here ↦ rw (mine, here.0) (lt-ltb (count + (q - at)) (count + len) (omega arith))
+      | inr off ↦ rw (mine, off.0) (more-within count (count + len) (marks m q) (omega arith) (within q))
+    ]
+
+pub same-cells : (m n : BTreeMap ℕ Block) (bytes : List ℕ) → HaveSame m n → (q : ℕ) → blocks_cells n bytes q ≡ blocks_cells m bytes q
+same-cells m n bytes same q = ap (cell_of bytes) (same q)
+
+pub same-within : (m n : BTreeMap ℕ Block) (count : ℕ) → HaveSame m n → AreWithin m count → AreWithin n count
+same-within m n count same within q = rw (same q) (within q)
+
+-- Where the bytes of an extent's offsets stand.
+pub place-within : (m : BTreeMap ℕ Block) (count p i : ℕ) (b : Block) (k : Mark) → AreWithin m count → get nat_cmp m (p / 4096) ≡ Some b → p % 4096 + i < 4096 → marks_in b (p % 4096 + i) ≡ Some k → k.place < count
+place-within m count p i b k within there lt is =
+    let here = marks-here m p i b there lt ∙ is in
+    ltb-true k.place count (rw here at (within (p + i)))
+
+pub part-within : (m : BTreeMap ℕ Block) (count p : ℕ) (b : Block) (e : Extent) → AreWithin m count → get nat_cmp m (p / 4096) ≡ Some b → IsExtentFrom b.extents.items (p % 4096) e → e.at ≤ p % 4096 → e.from + e.len ≤ count
+part-within m count p b e within there is by =
+    let past = is.past in
+    let end = is.end in
+    let i : ℕ = end_of e - 1 - p % 4096 in
+    let last = place-within m count p i b (mark e.x e.from e.at (p % 4096 + i)) within there (omega arith) (is.marks (p % 4096 + i) (omega arith) (omega arith)) in
+    omega (arith, last)
+
+some-number : (m : BTreeMap ℕ Block) (n : ℕ) (b : Block) → AreBelow m → get nat_cmp m n ≡ Some b → n < 2 ^ 50
+some-number m n b below there =
+    elim (split n (2 ^ 50)) [
+      | inl lt ↦ lt
+      | inr le ↦ absurd (let never : true ≡ false = rw there at (below n le) in cc)
+    ]
+
+cell-here : (m : BTreeMap ℕ Block) (bytes : List ℕ) (p i place x : ℕ) (b : Block) → get nat_cmp m (p / 4096) ≡ Some b → p % 4096 + i < 4096 → marks_in b (p % 4096 + i) ≡ Some (record { x = x; place = place }) → blocks_cells m bytes (p + i) ≡ Some (record { byte = get_or bytes place 0; x = x })
+cell-here m bytes p i place x b there lt is = ap (cell_of bytes) (marks-here m p i b there lt ∙ is)
+
+-- The bytes of an extent from an offset on are a part.
+pub extent-part : (m : BTreeMap ℕ Block) (bytes : List ℕ) (p : ℕ) (b : Block) (e : Extent) → AreBelow m → AreWithin m (length bytes) → get nat_cmp m (p / 4096) ≡ Some b → IsExtentFrom b.extents.items (p % 4096) e → e.at ≤ p % 4096
+    → IsPart (blocks_cells m bytes) p e.x (slice_range bytes (e.from + (p % 4096 - e.at)) (e.from + e.len))
+extent-part m bytes p b e below within there is by =
+    let past = is.past in
+    let ends = is.end in
+    let fits = part-within m (length bytes) p b e within there is by in
+    let number = some-number m (p / 4096) b below there in
+    let start : ℕ = e.from + (p % 4096 - e.at) in
+    let is-len : length (slice_range bytes start (e.from + e.len)) ≡ e.from + e.len - start = length-between bytes start (e.from + e.len) fits in
+    record {
+      some = omega (arith, is-len);
+      end = omega (arith, is-len);
+      each = λ i lt.
+          let place : e.from + (p % 4096 + i - e.at) ≡ start + i = omega arith in
+          let byte : get_or (slice_range bytes start (e.from + e.len)) i 0 ≡ get_or bytes (start + i) 0 = get_or-between bytes start (e.from + e.len) i 0 (omega (arith, is-len)) in
+          let here = cell-here m bytes p i (e.from + (p % 4096 + i - e.at)) e.x b there (omega (arith, is-len)) (is.marks (p % 4096 + i) (omega arith) (omega (arith, is-len))) in
+          rw byte (rw place at here);
+    }
+
+-- What a put leaves: all bytes are of some mark, and there are as many as positions.
+pub record IsKept (m : BTreeMap ℕ Block) (bytes : List ℕ) : Type 0 where
+  pub within : AreWithin m (length bytes)
+  pub counts : length bytes ≡ size (blocks_cells m bytes)
+
+pub put-kept : {T E : Type 0} (r : Result T E) (m n : BTreeMap ℕ Block) (bytes more piece : List ℕ) (at x : ℕ) → IsKept m bytes → AreAbsent (blocks_cells m bytes) at (at + length piece) → at + length piece ≤ 2 ^ 62
+    → OnOk r ((q : ℕ) → marks n q ≡ claimed at (length piece) x (length bytes) (marks m) q) → OnOk r (more ≡ bytes ++ piece) → OnErr r (HaveSame m n) → OnErr r (more ≡ bytes) → IsKept n more
+put-kept (Ok v) m n bytes more piece at x kept absent end own longer same unchanged =
+    let len : length more ≡ length bytes + length piece = ap length longer ∙ length-append bytes piece in
+    record {
+      within = rw len (put-within m n at (length piece) x (length bytes) kept.within own);
+      counts = len ∙ (ap (λ n. n + length piece) kept.counts ∙ sym (size-put (blocks_cells m bytes) (blocks_cells n more) at x piece (λ q. rw longer (put-cells m n bytes piece at x kept.within own q)) absent end));
+    }
+put-kept (Err e) m n bytes more piece at x kept absent end own longer same unchanged = record {
+  within = rw unchanged (same-within m n (length bytes) same kept.within);
+  counts = rw unchanged (kept.counts ∙ size-same (blocks_cells m bytes) (blocks_cells n bytes) (λ q. sym (same-cells m n bytes same q)));
 }
-
-pub free-behind : (m n : BTreeMap ℕ Block) (p k x hi : ℕ) → AreFree (owners m) (p + k) hi → ((q : ℕ) → owners n q ≡ claimed p k x (owners m) q) → AreFree (owners n) (p + k) hi
-free-behind m n p k x hi free own q ge lt = own q ∙ rw (inside-past p k q ge) (free q ge lt)
-
--- A first part and the rest are put: the whole piece is.
-pub whole-put : (m n k j : BTreeMap ℕ Block) (at x : ℕ) (piece part rest : List ℕ) (len : ℕ) → piece ≡ part ++ rest → length part ≡ len
-    → ((q : ℕ) → blocks_cells n q ≡ blocks_cells m q) → ((q : ℕ) → blocks_cells k q ≡ written at x part (blocks_cells n) q) → AreReady k (at + len) rest
-    → ((q : ℕ) → owners j q ≡ claimed (at + len) (length rest) x (owners k) q) → ((q : ℕ) → bytes j q ≡ bytes k q) → (q : ℕ) → blocks_cells j q ≡ written at x piece (blocks_cells m) q
-whole-put m n k j at x piece part rest len whole is same first ready own kept q =
-    let later = put-cells k k j (at + len) x rest (λ p. refl) ready own kept q in
-    let before : blocks_cells k ≡ written at x part (blocks_cells m) = fun_ext (λ p. first p ∙ ap (λ (f : Cells). written at x part f p) (fun_ext same)) in
-    let joined = written-append at x part rest (blocks_cells m) q ∙ ap (λ l. written (at + l) x rest (written at x part (blocks_cells m)) q) is in
-    later ∙ (ap (λ (f : Cells). written (at + len) x rest f q) before ∙ (sym joined ∙ ap (λ bs. written at x bs (blocks_cells m) q) (sym whole)))

@@ -1,47 +1,49 @@
 -- Offsets made an exchange's.
-use Rattle.std.proofs.Common.{◌≡◌, inl, inr, ℕ, zero, suc, ◌+◌, ◌<◌, ◌≤◌, List, [], ◌∷◌, length, Bool, true, false, cond, Option, Some, None, refl, sym, ap, ◌∙◌, arith, add-one, get_or, set}
+use Rattle.std.proofs.Common.{◌≡◌, inl, inr, ℕ, zero, suc, ◌+◌, ◌-◌, ◌<◌, ◌≤◌, List, [], ◌∷◌, length, Bool, true, false, cond, Option, Some, None, refl, sym, ap, ◌∙◌, arith, add-one, get_or, set}
 use Rattle.std.specs.Prelude.{Result, Ok, Err, IsOk, is_ok}
 use Rattle.std.proofs.lemmas.Bool.Decides.{nat_tests}
 use Rattle.std.specs.List.{insert}
 use Rattle.hc_sparse.specs.Cells.{inside}
-use Rattle.hc_sparse.specs.Extents.{Owners, owners_of, ascend, place_of, end_of, lengthened, claimed, AreFree}
+use Rattle.hc_sparse.specs.Extents.{Mark, Marks, mark, marks_of, ascend, place_of, end_of, lengthened, claimed, AreFree}
 use Rattle.hc_sparse.specs.declared.extents.Extent.{Extent}
 use Rattle.hc_sparse.proofs.CellLemmas.{inside-yes, inside-before, inside-past, inside-cases}
 use Rattle.hc_sparse.proofs.RunLemmas.{le_cases}
 use Rattle.hc_sparse.proofs.ExtentLemmas.{ascend-cons, ascend-with, at-from}
 
 -- Extents none of which has an offset up to one ascend from there.
-ascend-past : (n m : ℕ) (es : List Extent) → ascend n es ≡ true → AreFree (owners_of es) n m → m ≤ 4096 → ascend m es ≡ true
+ascend-past : (n m : ℕ) (es : List Extent) → ascend n es ≡ true → AreFree (marks_of es) n m → m ≤ 4096 → ascend m es ≡ true
 ascend-past n m [] asc absent end = grind (arith, nat_tests)
 ascend-past n m (e ∷ es) asc absent end =
     let parts = ascend-cons n e es asc in
     elim (le_cases m e.at) [
       | inl far ↦ ascend-with m e es far.1 parts.1 parts.2
-      | inr near ↦ absurd (let gone = absent e.at parts.0 near.1 in let never : Some e.x ≡ None = rw (inside-yes e.at (e.len) e.at (omega arith) (omega arith)) at gone in cc)
+      | inr near ↦ absurd (let gone = absent e.at parts.0 near.1 in let never : Some (mark e.x e.from e.at e.at) ≡ None = rw (inside-yes e.at (e.len) e.at (omega arith) (omega arith)) at gone in cc)
     ]
 
-two-claims : (a b : Bool) (v w o : Option ℕ) → (a ≡ true → b ≡ true → v ≡ w) → cond a v (cond b w o) ≡ cond b w (cond a v o)
+two-claims : (a b : Bool) (v w o : Option Mark) → (a ≡ true → b ≡ true → v ≡ w) → cond a v (cond b w o) ≡ cond b w (cond a v o)
 two-claims true true v w o same = same refl refl
 two-claims true false v w o same = refl
 two-claims false true v w o same = refl
 two-claims false false v w o same = refl
 
 -- Claims of offsets of which none are the same may change places.
-claimed-claimed : (e : Extent) (at len x : ℕ) (f : Owners) → end_of e ≤ at → (p : ℕ) → claimed e.at e.len e.x (claimed at len x f) p ≡ claimed at len x (claimed e.at e.len e.x f) p
-claimed-claimed e at len x f past p =
-    two-claims (inside e.at e.len p) (inside at len p) (Some e.x) (Some x) (f p)
+claimed-claimed : (e : Extent) (at len x from : ℕ) (f : Marks) → end_of e ≤ at → (p : ℕ) → claimed e.at e.len e.x e.from (claimed at len x from f) p ≡ claimed at len x from (claimed e.at e.len e.x e.from f) p
+claimed-claimed e at len x from f past p =
+    two-claims (inside e.at e.len p) (inside at len p) (Some (mark e.x e.from e.at p)) (Some (mark x from at p)) (f p)
     (λ a b. elim (inside-cases e.at e.len p) [
       | inr off ↦ absurd (let never : false ≡ true = sym off.0 ∙ a in cc)
       | inl here ↦ elim (inside-cases at len p) [ inr off ↦ absurd (let never : false ≡ true = sym off.0 ∙ b in cc) | inl there ↦ absurd (omega arith) ]
     ])
 
--- Claims of offsets one after another are one claim.
-pub claimed-append : (at len more x : ℕ) (f : Owners) (p : ℕ) → claimed at (len + more) x f p ≡ claimed (at + len) more x (claimed at len x f) p
-claimed-append at len more x f p =
+-- Claims of offsets one after another, whose bytes stand one after another, are one claim.
+pub claimed-append : (at len more x from : ℕ) (f : Marks) (p : ℕ) → claimed at (len + more) x from f p ≡ claimed (at + len) more x (from + len) (claimed at len x from f) p
+claimed-append at len more x from f p =
     elim (inside-cases at len p) [
       | inl here ↦ rw (here.0, inside-yes at (len + more) p (omega arith) (omega arith), inside-before (at + len) more p (omega arith)) refl
       | inr off ↦ elim (inside-cases (at + len) more p) [
-        | inl there ↦ rw (there.0, inside-yes at (len + more) p (omega arith) (omega arith)) refl
+        | inl there ↦
+            let place : from + (p - at) ≡ from + len + (p - (at + len)) = omega arith in
+            rw (there.0, inside-yes at (len + more) p (omega arith) (omega arith), place) refl
         | inr out ↦
             let miss : inside at (len + more) p ≡ false = elim off.1 [
               | inl before ↦ inside-before at (len + more) p before
@@ -55,27 +57,27 @@ insert-more : (new e : Extent) (es : List Extent) (k : ℕ) → insert (e ∷ es
 insert-more new e es k = rw (add-one k) refl
 
 -- What is free among all extents is free among those behind the first.
-absent-behind : (e : Extent) (es : List Extent) (lo hi : ℕ) → end_of e ≤ lo → AreFree (owners_of (e ∷ es)) lo hi → AreFree (owners_of es) lo hi
+absent-behind : (e : Extent) (es : List Extent) (lo hi : ℕ) → end_of e ≤ lo → AreFree (marks_of (e ∷ es)) lo hi → AreFree (marks_of es) lo hi
 absent-behind e es lo hi past absent p le lt = rw (inside-past e.at (e.len) p (omega arith)) at (absent p le lt)
 
-owners-inserted : (n : ℕ) (new : Extent) (es : List Extent) → ascend n es ≡ true → AreFree (owners_of es) new.at (end_of new) → (p : ℕ) → owners_of (insert es (place_of new.at es) new) p ≡ claimed new.at new.len new.x (owners_of es) p
-owners-inserted n new [] asc absent p = refl
-owners-inserted n new (e ∷ es) asc absent p =
+marks-inserted : (n : ℕ) (new : Extent) (es : List Extent) → ascend n es ≡ true → AreFree (marks_of es) new.at (end_of new) → (p : ℕ) → marks_of (insert es (place_of new.at es) new) p ≡ claimed new.at new.len new.x new.from (marks_of es) p
+marks-inserted n new [] asc absent p = refl
+marks-inserted n new (e ∷ es) asc absent p =
     let parts = ascend-cons n e es asc in
     elim (le_cases (end_of e) new.at) [
       | inr past ↦ rw past.0 refl
       | inl by ↦
-          let rest = owners-inserted (end_of e) new es parts.2 (absent-behind e es new.at (end_of new) by.1 absent) p in
-          rw (by.0, insert-more new e es (place_of new.at es), rest) (claimed-claimed e new.at new.len new.x (owners_of es) by.1 p)
+          let rest = marks-inserted (end_of e) new es parts.2 (absent-behind e es new.at (end_of new) by.1 absent) p in
+          rw (by.0, insert-more new e es (place_of new.at es), rest) (claimed-claimed e new.at new.len new.x new.from (marks_of es) by.1 p)
     ]
 
-ascend-inserted : (n : ℕ) (new : Extent) (es : List Extent) → ascend n es ≡ true → AreFree (owners_of es) new.at (end_of new) → 0 < new.len → n ≤ new.at → end_of new ≤ 4096 → ascend n (insert es (place_of new.at es) new) ≡ true
+ascend-inserted : (n : ℕ) (new : Extent) (es : List Extent) → ascend n es ≡ true → AreFree (marks_of es) new.at (end_of new) → 0 < new.len → n ≤ new.at → end_of new ≤ 4096 → ascend n (insert es (place_of new.at es) new) ≡ true
 ascend-inserted n new [] asc absent some from end = let last : ascend (end_of new) [] ≡ true = grind (arith, nat_tests) in ascend-with n new [] from some last
 ascend-inserted n new (e ∷ es) asc absent some from end =
     let parts = ascend-cons n e es asc in
     elim (le_cases (end_of e) new.at) [
       | inr past ↦ rw past.0 (elim (inside-cases e.at (e.len) new.at) [
-        | inl here ↦ absurd (let gone = absent new.at (omega arith) (omega arith) in let never : Some e.x ≡ None = rw here.0 at gone in cc)
+        | inl here ↦ absurd (let gone = absent new.at (omega arith) (omega arith) in let never : Some (mark e.x e.from e.at new.at) ≡ None = rw here.0 at gone in cc)
         | inr off ↦ elim off.1 [
           | inr after ↦ absurd (omega arith)
           | inl before ↦ ascend-with n new (e ∷ es) from some (ascend-past new.at (end_of new) (e ∷ es) (ascend-with new.at e es (omega arith) parts.1 parts.2) absent end)
@@ -85,17 +87,17 @@ ascend-inserted n new (e ∷ es) asc absent some from end =
           (ascend-with n e (insert es (place_of new.at es) new) parts.0 parts.1 (ascend-inserted (end_of e) new es parts.2 (absent-behind e es new.at (end_of new) by.1 absent) some by.1 end))
     ]
 
-owners-lengthened : (n i : ℕ) (es : List Extent) (d : Extent) (more : ℕ) → ascend n es ≡ true → i < length es → AreFree (owners_of es) (end_of (get_or es i d)) (end_of (get_or es i d) + more) → (p : ℕ) → owners_of (set es i (lengthened (get_or es i d) more)) p ≡ claimed (end_of (get_or es i d)) more (get_or es i d).x (owners_of es) p
-owners-lengthened n i [] d more asc lt absent p = absurd (omega arith)
-owners-lengthened n zero (e ∷ es) d more asc lt absent p = claimed-append e.at e.len more e.x (owners_of es) p
-owners-lengthened n (suc i) (e ∷ es) d more asc lt absent p =
+marks-lengthened : (n i : ℕ) (es : List Extent) (d : Extent) (more : ℕ) → ascend n es ≡ true → i < length es → AreFree (marks_of es) (end_of (get_or es i d)) (end_of (get_or es i d) + more) → (p : ℕ) → marks_of (set es i (lengthened (get_or es i d) more)) p ≡ claimed (end_of (get_or es i d)) more (get_or es i d).x ((get_or es i d).from + (get_or es i d).len) (marks_of es) p
+marks-lengthened n i [] d more asc lt absent p = absurd (omega arith)
+marks-lengthened n zero (e ∷ es) d more asc lt absent p = claimed-append e.at e.len more e.x e.from (marks_of es) p
+marks-lengthened n (suc i) (e ∷ es) d more asc lt absent p =
     let parts = ascend-cons n e es asc in
     let from = at-from (end_of e) es i d parts.2 (omega arith) in
     let past : end_of e ≤ end_of (get_or es i d) = omega arith in
-    let rest = owners-lengthened (end_of e) i es d more parts.2 (omega arith) (absent-behind e es (end_of (get_or es i d)) (end_of (get_or es i d) + more) past absent) p in
-    rw rest (claimed-claimed e (end_of (get_or es i d)) more (get_or es i d).x (owners_of es) past p)
+    let rest = marks-lengthened (end_of e) i es d more parts.2 (omega arith) (absent-behind e es (end_of (get_or es i d)) (end_of (get_or es i d) + more) past absent) p in
+    rw rest (claimed-claimed e (end_of (get_or es i d)) more (get_or es i d).x ((get_or es i d).from + (get_or es i d).len) (marks_of es) past p)
 
-ascend-lengthened : (n i : ℕ) (es : List Extent) (d : Extent) (more : ℕ) → ascend n es ≡ true → i < length es → AreFree (owners_of es) (end_of (get_or es i d)) (end_of (get_or es i d) + more) → end_of (get_or es i d) + more ≤ 4096 → ascend n (set es i (lengthened (get_or es i d) more)) ≡ true
+ascend-lengthened : (n i : ℕ) (es : List Extent) (d : Extent) (more : ℕ) → ascend n es ≡ true → i < length es → AreFree (marks_of es) (end_of (get_or es i d)) (end_of (get_or es i d) + more) → end_of (get_or es i d) + more ≤ 4096 → ascend n (set es i (lengthened (get_or es i d) more)) ≡ true
 ascend-lengthened n i [] d more asc lt absent end = absurd (omega arith)
 ascend-lengthened n zero (e ∷ es) d more asc lt absent end =
     let parts = ascend-cons n e es asc in
@@ -112,28 +114,29 @@ same-at (t ∷ es) zero e s lt a b = cc
 same-at (t ∷ es) (suc i) e s lt a b = same-at es i e s (omega arith) a b
 
 -- What a claim leaves: the extents ascend, and have the offsets.
-pub record IsClaimed (es ss : List Extent) (at len x : ℕ) : Type 0 where
+pub record IsClaimed (es ss : List Extent) (at len x from : ℕ) : Type 0 where
   pub ascends : ascend 0 ss ≡ true
-  pub owners : (p : ℕ) → owners_of ss p ≡ claimed at len x (owners_of es) p
+  pub marks : (p : ℕ) → marks_of ss p ≡ claimed at len x from (marks_of es) p
 
-pub claim-inserted : (es ss : List Extent) (new : Extent) (place : ℕ) → ascend 0 es ≡ true → AreFree (owners_of es) new.at (end_of new) → 0 < new.len → end_of new ≤ 4096 → place ≡ place_of new.at es → ss ≡ insert es place new → IsClaimed es ss new.at new.len new.x
+pub claim-inserted : (es ss : List Extent) (new : Extent) (place : ℕ) → ascend 0 es ≡ true → AreFree (marks_of es) new.at (end_of new) → 0 < new.len → end_of new ≤ 4096 → place ≡ place_of new.at es → ss ≡ insert es place new → IsClaimed es ss new.at new.len new.x new.from
 claim-inserted es ss new place asc absent some end there is =
     let at-place : ss ≡ insert es (place_of new.at es) new = is ∙ ap (λ k. insert es k new) there in
     record {
       ascends = ap (ascend 0) at-place ∙ ascend-inserted 0 new es asc absent some (omega arith) end;
-      owners = λ p. ap (λ ts. owners_of ts p) at-place ∙ owners-inserted 0 new es asc absent p;
+      marks = λ p. ap (λ ts. marks_of ts p) at-place ∙ marks-inserted 0 new es asc absent p;
     }
 
-pub claim-lengthened : (es ss : List Extent) (i : ℕ) (e s : Extent) (at x : ℕ) (more : ℕ) → ascend 0 es ≡ true → i < length es → e ≡ get_or es i e → s ≡ get_or es i s → s.x ≡ x → end_of s ≡ at → AreFree (owners_of es) at (at + more) → at + more ≤ 4096 → ss ≡ set es i (lengthened e more) → IsClaimed es ss at more x
-claim-lengthened es ss i e s at x more asc lt e-is s-is of_x ends absent end is =
+pub claim-lengthened : (es ss : List Extent) (i : ℕ) (e s : Extent) (at x from : ℕ) (more : ℕ) → ascend 0 es ≡ true → i < length es → e ≡ get_or es i e → s ≡ get_or es i s → s.x ≡ x → end_of s ≡ at → s.from + s.len ≡ from → AreFree (marks_of es) at (at + more) → at + more ≤ 4096 → ss ≡ set es i (lengthened e more) → IsClaimed es ss at more x from
+claim-lengthened es ss i e s at x from more asc lt e-is s-is of_x ends behind absent end is =
     let same : get_or es i e ≡ s = sym e-is ∙ same-at es i e s lt e-is s-is in
     let longer : ss ≡ set es i (lengthened (get_or es i e) more) = is ∙ ap (λ t. set es i (lengthened t more)) e-is in
     let at-end : end_of (get_or es i e) ≡ at = ap end_of same ∙ ends in
     let with-x : (get_or es i e).x ≡ x = ap (λ (t : Extent). t.x) same ∙ of_x in
-    let fresh : AreFree (owners_of es) (end_of (get_or es i e)) (end_of (get_or es i e) + more) = rw at-end absent in
+    let stands : (get_or es i e).from + (get_or es i e).len ≡ from = ap (λ (t : Extent). t.from + t.len) same ∙ behind in
+    let fresh : AreFree (marks_of es) (end_of (get_or es i e)) (end_of (get_or es i e) + more) = rw at-end absent in
     record {
       ascends = ap (ascend 0) longer ∙ ascend-lengthened 0 i es e more asc lt fresh (rw at-end end);
-      owners = λ p. ap (λ ts. owners_of ts p) longer ∙ (owners-lengthened 0 i es e more asc lt fresh p ∙ rw (at-end, with-x) refl);
+      marks = λ p. ap (λ ts. marks_of ts p) longer ∙ (marks-lengthened 0 i es e more asc lt fresh p ∙ rw (at-end, with-x, stands) refl);
     }
 
 pub ok-is : {T E : Type 0} (r : Result T E) → IsOk r → is_ok r ≡ true

@@ -4,7 +4,7 @@ use Rattle.std.proofs.Common.{◌≡◌, inl, inr, ℕ, zero, suc, ◌<◌, ◌�
 use Rattle.std.proofs.lemmas.Bool.{leb-true, le-leb}
 use Rattle.std.proofs.lemmas.Bool.Decides.{nat_tests}
 use Rattle.std.specs.Prelude.{nat_le}
-use Rattle.hc_sparse.specs.Extents.{owners_of, ascend, place_of, end_of, IsExtentFrom}
+use Rattle.hc_sparse.specs.Extents.{marks_of, ascend, place_of, end_of, IsExtentFrom}
 use Rattle.hc_sparse.specs.declared.extents.Extent.{Extent}
 use Rattle.hc_sparse.proofs.CellLemmas.{inside-yes, inside-before, inside-past}
 use Rattle.hc_sparse.proofs.RunLemmas.{le_cases}
@@ -19,18 +19,18 @@ pub ascend-end : (n : ℕ) (es : List Extent) → ascend n es ≡ true → n ≤
 ascend-end n [] asc = grind (arith, nat_tests)
 ascend-end n (e ∷ es) asc = let parts = ascend-cons n e es asc in let rest = ascend-end (end_of e) es parts.2 in omega arith
 
-pub owners-before : (n : ℕ) (es : List Extent) → ascend n es ≡ true → (p : ℕ) → p < n → owners_of es p ≡ None
-owners-before n [] asc p lt = refl
-owners-before n (e ∷ es) asc p lt =
+pub marks-before : (n : ℕ) (es : List Extent) → ascend n es ≡ true → (p : ℕ) → p < n → marks_of es p ≡ None
+marks-before n [] asc p lt = refl
+marks-before n (e ∷ es) asc p lt =
     let parts = ascend-cons n e es asc in
-    rw (inside-before e.at (e.len) p (omega arith)) (owners-before (end_of e) es parts.2 p (omega arith))
+    rw (inside-before e.at (e.len) p (omega arith)) (marks-before (end_of e) es parts.2 p (omega arith))
 
-pub owners-past : (n : ℕ) (es : List Extent) → ascend n es ≡ true → ((p : ℕ) → 4096 ≤ p → owners_of es p ≡ None)
-owners-past n [] asc p le = refl
-owners-past n (e ∷ es) asc p le =
+pub marks-past : (n : ℕ) (es : List Extent) → ascend n es ≡ true → ((p : ℕ) → 4096 ≤ p → marks_of es p ≡ None)
+marks-past n [] asc p le = refl
+marks-past n (e ∷ es) asc p le =
     let parts = ascend-cons n e es asc in
     let end = ascend-end (end_of e) es parts.2 in
-    rw (inside-past e.at (e.len) p (omega arith)) (owners-past (end_of e) es parts.2 p le)
+    rw (inside-past e.at (e.len) p (omega arith)) (marks-past (end_of e) es parts.2 p le)
 
 -- The extent at the place of an offset is the first that ends past it.
 record IsAt (n p : ℕ) (es : List Extent) (e : Extent) : Type 0 where
@@ -48,8 +48,8 @@ at-place n p (e ∷ es) d asc lt =
           some = parts.1;
           past = past.1;
           end = ascend-end (end_of e) es parts.2;
-          owners = λ q lo hi. rw (inside-yes e.at (e.len) q lo hi) refl;
-          before = λ q lo hi. rw (inside-before e.at (e.len) q hi) (owners-before (end_of e) es parts.2 q (omega arith));
+          marks = λ q lo hi. rw (inside-yes e.at (e.len) q lo hi) refl;
+          before = λ q lo hi. rw (inside-before e.at (e.len) q hi) (marks-before (end_of e) es parts.2 q (omega arith));
         };
       })
       | inl by ↦
@@ -61,7 +61,7 @@ at-place n p (e ∷ es) d asc lt =
               some = rest.is.some;
               past = rest.is.past;
               end = rest.is.end;
-              owners = λ q lo hi. rw (inside-past e.at (e.len) q (omega arith)) (rest.is.owners q lo hi);
+              marks = λ q lo hi. rw (inside-past e.at (e.len) q (omega arith)) (rest.is.marks q lo hi);
               before = λ q lo hi. rw (inside-past e.at (e.len) q (omega arith)) (rest.is.before q lo hi);
             };
           })
@@ -70,7 +70,7 @@ at-place n p (e ∷ es) d asc lt =
 pub extent-at_place : (p : ℕ) (es : List Extent) (d : Extent) → ascend 0 es ≡ true → place_of p es < length es → IsExtentFrom es p (get_or es (place_of p es) d)
 extent-at_place p es d asc lt = (at-place 0 p es d asc lt).is
 
-pub none-from_place : (p : ℕ) (es : List Extent) → length es ≤ place_of p es → ((q : ℕ) → p ≤ q → owners_of es q ≡ None)
+pub none-from_place : (p : ℕ) (es : List Extent) → length es ≤ place_of p es → ((q : ℕ) → p ≤ q → marks_of es q ≡ None)
 none-from_place p [] le q from = refl
 none-from_place p (e ∷ es) le q from =
     elim (le_cases (end_of e) p) [

@@ -1,28 +1,42 @@
--- Which exchange delivered what is at each offset of a block.
-use Rattle.std.specs.Prelude.{◌≡◌, ℕ, ◌+◌, ◌<◌, ◌≤◌, List, [], ◌∷◌, Bool, Option, Some, None, if◌then◌else◌, ◌&&◌, nat_lt, nat_le}
+-- Which exchange delivered what is at each offset of a block, and where its byte stands.
+use Rattle.std.specs.Prelude.{◌≡◌, ℕ, ◌+◌, ◌-◌, ◌<◌, ◌≤◌, List, [], ◌∷◌, Bool, true, is_some, Option, Some, None, if◌then◌else◌, ◌&&◌, nat_lt, nat_le}
 use Rattle.hc_sparse.specs.Cells.{inside}
 use Rattle.hc_sparse.specs.declared.extents.Extent.{Extent}
 
--- The exchange at each offset, or nobody.
-abbrev pub Owners : Type 0
-Owners = ℕ → Option ℕ
+-- An exchange, and the place of a byte that it delivered in the list of all bytes.
+pub record Mark : Type 0 where
+  pub x : ℕ
+  pub place : ℕ
+
+-- The mark of an offset among those from another on, whose bytes stand from a place on.
+abbrev pub mark : ℕ → ℕ → ℕ → ℕ → Mark
+mark x from at o = record { x = x; place = from + (o - at) }
+
+-- The mark of each offset, or nobody's.
+abbrev pub Marks : Type 0
+Marks = ℕ → Option Mark
 
 -- The offset past the last of an extent.
 abbrev pub end_of : Extent → ℕ
 end_of e = e.at + e.len
 
--- So many offsets from one on are an exchange's, over whose they were.
-abbrev pub claimed : ℕ → ℕ → ℕ → Owners → Owners
-claimed at len x f o = if inside at len o then Some x else f o
+-- So many offsets from one on are an exchange's, whose bytes stand from a place on, over whose they were.
+abbrev pub claimed : ℕ → ℕ → ℕ → ℕ → Marks → Marks
+claimed at len x from f o = if inside at len o then Some (mark x from at o) else f o
 
--- Whose each offset is.
-abbrev pub owners_of : List Extent → Owners
-owners_of [] o = None
-owners_of (e ∷ es) o = claimed e.at e.len e.x (owners_of es) o
+-- The mark of each offset.
+abbrev pub marks_of : List Extent → Marks
+marks_of [] o = None
+marks_of (e ∷ es) o = claimed e.at e.len e.x e.from (marks_of es) o
 
 -- Nobody has an offset from one to below another.
-abbrev pub AreFree : Owners → ℕ → ℕ → Type 0
+abbrev pub AreFree : Marks → ℕ → ℕ → Type 0
 AreFree f lo hi = (o : ℕ) → lo ≤ o → o < hi → f o ≡ None
+
+-- The least offset from one on that somebody has.
+abbrev pub IsNextMark : Marks → ℕ → Option ℕ → Type 0
+IsNextMark f o None = (q : ℕ) → o ≤ q → f q ≡ None
+IsNextMark f o (Some n) = (o ≤ n) × (is_some (f n) ≡ true) × AreFree f o n
 
 -- Each begins where the one before it ends, or later, and isn't empty. The last ends by the end of a block.
 abbrev pub ascend : ℕ → List Extent → Bool
@@ -38,14 +52,18 @@ place_of o (e ∷ es) = if nat_le (end_of e) o then place_of o es + 1 else 0
 abbrev pub lengthened : Extent → ℕ → Extent
 lengthened e more = record e { len = e.len + more }
 
+-- An extent goes on just where another ends, with bytes of its exchange that stand behind its own.
+abbrev pub Follows : Extent → Extent → Type 0
+Follows e new = (e.x ≡ new.x) × (end_of e ≡ new.at) × (e.from + e.len ≡ new.from)
+
 -- An extent is the first that ends past an offset.
 pub record IsExtentFrom (es : List Extent) (o : ℕ) (e : Extent) : Type 0 where
   pub some : 0 < e.len
   pub past : o < end_of e
   pub end : end_of e ≤ 4096
-  pub owners : (q : ℕ) → e.at ≤ q → q < end_of e → owners_of es q ≡ Some e.x
-  pub before : AreFree (owners_of es) o e.at
+  pub marks : (q : ℕ) → e.at ≤ q → q < end_of e → marks_of es q ≡ Some (mark e.x e.from e.at q)
+  pub before : AreFree (marks_of es) o e.at
 
 -- The offsets of an extent are its exchange's, and every other is as it was.
 abbrev pub ClaimsExtent : List Extent → List Extent → Extent → Type 0
-ClaimsExtent es fs e = (o : ℕ) → owners_of fs o ≡ claimed e.at e.len e.x (owners_of es) o
+ClaimsExtent es fs e = (o : ℕ) → marks_of fs o ≡ claimed e.at e.len e.x e.from (marks_of es) o

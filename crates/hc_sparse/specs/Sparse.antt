@@ -5,4 +5,4 @@ use Rattle.hc_sparse.specs.declared.sparse.Sparse.{Sparse}
 
 -- What is at each position.
 abbrev pub sparse_cells : Sparse → Cells
-sparse_cells s = blocks_cells s.blocks
+sparse_cells s = blocks_cells s.blocks s.bytes.items

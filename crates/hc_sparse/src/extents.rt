@@ -1,13 +1,14 @@
 //! Whose the offsets of a block are, as extents in order, none of which overlap.
 ghost use Rattle.std.specs.Prelude.{◌≡◌, ◌↔◌, ◌+◌, ◌≤◌, ◌<◌, IsTrue, ℕ, length, true, IfSome, IsNone, vec_len, vec_capacity};
-ghost use Rattle.hc_sparse.specs.Extents.{owners_of, ascend, place_of, end_of, AreFree, ClaimsExtent, IsExtentFrom};
+ghost use Rattle.hc_sparse.specs.Extents.{marks_of, ascend, place_of, end_of, AreFree, ClaimsExtent, Follows, IsExtentFrom};
 
-/// Offsets that are all of one exchange.
+/// Offsets that are all of one exchange. Their bytes stand one after another from the place `from` on.
 #[derive(Clone, Copy, Debug, PartialEq, Eq)]
 pub(crate) struct Extent {
     pub(crate) x: u64,
     pub(crate) at: usize,
     pub(crate) len: usize,
+    pub(crate) from: usize,
 }
 
 /// Whether an extent ends at an offset or before it.
@@ -29,7 +30,7 @@ fn place_of(extents: &[Extent], o: usize) -> usize
 /// The first extent that ends past an offset.
 pub(crate) fn extent_from(extents: &[Extent], o: usize) -> Option<&Extent>
     requires { ascend 0 extents.now ≡ true }
-    ensures none { IsNone result → (q : ℕ) → o ≤ q → owners_of extents.now q ≡ None }
+    ensures none { IsNone result → (q : ℕ) → o ≤ q → marks_of extents.now q ≡ None }
     ensures some { IfSome result (λ extent. IsExtentFrom extents.now o extent.now) }
 {
     extents.get(place_of(extents, o))
@@ -38,7 +39,7 @@ pub(crate) fn extent_from(extents: &[Extent], o: usize) -> Option<&Extent>
 /// The extent that has an offset.
 pub(crate) fn extent_with(extents: &[Extent], o: usize) -> Option<&Extent>
     requires { ascend 0 extents.now ≡ true }
-    ensures none { IsNone result → owners_of extents.now o ≡ None }
+    ensures none { IsNone result → marks_of extents.now o ≡ None }
     ensures some { IfSome result
         (λ extent. IsExtentFrom extents.now o extent.now × (extent.now.at ≤ o)) }
 {
@@ -51,15 +52,15 @@ pub(crate) fn extent_with(extents: &[Extent], o: usize) -> Option<&Extent>
 /// Makes offsets that nobody has an exchange's. There has to be room for one extent more.
 pub(crate) fn claim(extents: &mut Vec<Extent>, new: Extent)
     requires ascend { ascend 0 extents.old.items ≡ true }
-    requires free { AreFree (owners_of extents.old.items) new.at (end_of new) }
+    requires free { AreFree (marks_of extents.old.items) new.at (end_of new) }
     requires some { 0 < new.len }
     requires within { end_of new ≤ 4096 }
     requires spare { vec_len extents.old < vec_capacity extents.old }
     ensures ascend { ascend 0 extents.new.items ≡ true }
-    ensures owners { ClaimsExtent extents.old.items extents.new.items new }
+    ensures marks { ClaimsExtent extents.old.items extents.new.items new }
 {
     let place = place_of(extents.as_slice(), new.at);
-    if place > 0 && is_followed(&extents[place - 1], new.at, new.x) {
+    if place > 0 && is_followed(&extents[place - 1], new) {
         let before = &mut extents[place - 1];
         before.len += new.len;
         return;
@@ -67,9 +68,14 @@ pub(crate) fn claim(extents: &mut Vec<Extent>, new: Extent)
     let _ = extents.insert(place, new);
 }
 
-/// Whether an extent is of an exchange and ends just where more begins.
-fn is_followed(extent: &Extent, at: usize, x: u64) -> bool
-    ensures { IsTrue result ↔ (extent.now.x ≡ x) × (end_of extent.now ≡ at) }
+/// Whether another extent goes on just where this one ends, with bytes of its exchange that stand
+/// behind its own.
+fn is_followed(extent: &Extent, new: Extent) -> bool
+    ensures { IsTrue result ↔ Follows extent.now new }
 {
-    extent.x == x && extent.at <= at && extent.len == at - extent.at
+    extent.x == new.x
+        && extent.at <= new.at
+        && extent.len == new.at - extent.at
+        && extent.from <= new.from
+        && extent.len == new.from - extent.from
 }

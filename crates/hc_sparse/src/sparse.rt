@@ -1,11 +1,11 @@
 //! Sparse bytes as blocks.
-ghost use Rattle.std.specs.Prelude.{◌≡◌};
+ghost use Rattle.std.specs.Prelude.{◌≡◌, length};
 ghost use Rattle.hc_sparse.specs.Cells.{nothing, size};
-ghost use Rattle.hc_sparse.specs.BlockMaps.{blocks_cells, AreBelow};
+ghost use Rattle.hc_sparse.specs.BlockMaps.{blocks_cells, AreBelow, AreWithin};
 ghost use Rattle.std.proofs.Props.{props};
 
-use crate::block::{Block, LEN};
-use crate::blocks::{block_from, part_in, put_in};
+use crate::block::Block;
+use crate::blocks::{next_in, part_in, put_in};
 use crate::parts::{Parts, covered, stretch_at};
 use crate::presence::{Presence, Span2, SparseBytes};
 use crate::run::Run;
@@ -13,18 +13,19 @@ use hc_text::NoMemory;
 use std::alloc::Global;
 use std::collections::BTreeMap;
 
-/// Sparse bytes as blocks of 4,096 positions, found by their positions divided by 4,096. Each has
-/// its bytes and the list of its stretches by exchange.
+/// Sparse bytes as blocks of 4,096 positions, found by their positions divided by 4,096. Each has the
+/// list of its stretches by exchange, which tell where their bytes stand: those of all blocks are kept
+/// one after another as they came, so no byte is moved and none is kept for an absent position.
 ///
-/// A put looks up the blocks of its positions, whatever was put before. A block takes its bytes and
-/// some 100 more.
+/// A put looks up the blocks of its positions, whatever was put before. A block takes some 200 bytes,
+/// and some 30 for each of its stretches beyond the fourth.
 #[derive(Drop)]
 pub struct Sparse {
-    alloc: Global,
     blocks: BTreeMap<u64, Block>,
-    count: u64,
+    bytes: Vec<u8>,
     ghost below: { AreBelow blocks } by { Prim.hlevel props },
-    ghost counts: { count ≡ size (blocks_cells blocks) },
+    ghost within: { AreWithin blocks (length bytes.items) } by { Prim.hlevel props },
+    ghost counts: { length bytes.items ≡ size (blocks_cells blocks bytes.items) },
 }
 
 impl Sparse {
@@ -33,9 +34,8 @@ impl Sparse {
         ensures { ⟦<Sparse as Presence>⟧.cells result ≡ nothing }
     {
         Sparse {
-            alloc,
             blocks: BTreeMap::new(alloc),
-            count: 0,
+            bytes: Vec::new(alloc),
         }
     }
 }
@@ -50,15 +50,7 @@ impl Presence for Sparse {
     }
 
     fn next_present(&self, p: u64) -> Option<u64> {
-        let mut from = p;
-        loop {
-            let (n, block) = block_from(&self.blocks, from / LEN as u64)?;
-            let start = n * LEN as u64;
-            if let Some(o) = block.next(from.saturating_sub(start) as usize) {
-                return Some(start + o as u64);
-            }
-            from = start + LEN as u64;
-        }
+        next_in(&self.blocks, p)
     }
 }
 
@@ -68,7 +60,7 @@ impl Parts for Sparse {
     ghost kept = { sparse_cells };
 
     fn part(&self, p: u64) -> Option<(u64, &[u8])> {
-        part_in(&self.blocks, p)
+        part_in(&self.blocks, self.bytes.as_slice(), p)
     }
 }
 
@@ -77,16 +69,16 @@ impl SparseBytes for Sparse {
         if bytes.is_empty() {
             return Ok(());
         }
-        put_in(self.alloc, &mut self.blocks, at, x, bytes)?;
-        self.count += bytes.len() as u64;
+        let alloc = *self.bytes.allocator();
+        put_in(alloc, &mut self.blocks, &mut self.bytes, at, x, bytes)?;
         Ok(())
     }
 
     fn run_at(&self, p: u64, want: usize) -> Result<Option<Run>, NoMemory> {
-        stretch_at(self.alloc, self, p, want, self.count as usize)
+        stretch_at(*self.bytes.allocator(), self, p, want, self.bytes.len())
     }
 
     fn size(&self) -> u64 {
-        self.count
+        self.bytes.len() as u64
     }
 }

@@ -1,5 +1,5 @@
 //! A block: whose its offsets are.
-ghost use Rattle.std.specs.Prelude.{◌≡◌, ◌+◌, ◌≤◌, ◌<◌, ℕ, None, true, IfSome, IsNone, OnOk};
+ghost use Rattle.std.specs.Prelude.{◌≡◌, ◌+◌, ◌≤◌, ◌<◌, ℕ, None, true, IfOk, IfSome, IsNone, OnOk};
 ghost use Rattle.hc_sparse.specs.Extents.{ascend};
 
 use crate::extents::{Extent, claim, extent_from, extent_with};
@@ -20,13 +20,13 @@ impl Block {
     ghost use Rattle.hc_sparse.specs.Extents.{claimed, AreFree, end_of, IsExtentFrom, IsNextMark};
     ghost use Rattle.hc_sparse.specs.Blocks.{marks_in, has_spare};
 
-    /// Nobody has anything.
-    pub(crate) fn new(alloc: Global) -> Block
-        ensures { (o : ℕ) → marks_in result o ≡ None }
+    /// Nobody has anything, and there is room for an extent.
+    pub(crate) fn new(alloc: Global) -> Result<Block, NoMemory>
+        ensures marks { IfOk result (λ block. (o : ℕ) → marks_in block o ≡ None) }
+        ensures spare { IfOk result (λ block. has_spare block ≡ true) }
     {
-        Block {
-            extents: Vec::new(alloc),
-        }
+        let extents = Vec::with_capacity(alloc, 1)?;
+        Ok(Block { extents })
     }
 
     /// The extent that has an offset.

@@ -27,7 +27,10 @@ pub(crate) fn part_in<'a>(
     let o = (p % LEN as u64) as usize;
     let extent = blocks.get(&(p / LEN as u64))?.extent(o)?;
     let skipped = o - extent.at;
-    Some((extent.x, &bytes[extent.from + skipped..extent.from + extent.len]))
+    Some((
+        extent.x,
+        &bytes[extent.from + skipped..extent.from + extent.len],
+    ))
 }
 
 /// Puts bytes of an exchange at positions that nobody has, all of them or none.
@@ -91,8 +94,7 @@ fn put_part(
         block.claim(extent);
         return Ok(());
     }
-    let mut block = Block::new(alloc);
-    block.make_room()?;
+    let mut block = Block::new(alloc)?;
     block.claim(extent);
     blocks.insert(n, block)?;
     Ok(())
@@ -121,11 +123,7 @@ fn prepare(
 }
 
 /// Does so in one block.
-fn prepare_block(
-    alloc: Global,
-    blocks: &mut BTreeMap<u64, Block>,
-    n: u64,
-) -> Result<(), NoMemory>
+fn prepare_block(alloc: Global, blocks: &mut BTreeMap<u64, Block>, n: u64) -> Result<(), NoMemory>
     ensures same { HaveSame blocks.old blocks.new }
     ensures others { (m : ℕ) → m ≢ n → get nat_cmp blocks.new m ≡ get nat_cmp blocks.old m }
     ensures ok { OnOk result (is_spare (get nat_cmp blocks.new n) ≡ true) }
@@ -135,8 +133,7 @@ fn prepare_block(
         block.make_room()?;
         return Ok(());
     }
-    let mut block = Block::new(alloc);
-    block.make_room()?;
+    let block = Block::new(alloc)?;
     blocks.insert(n, block)?;
     Ok(())
 }

@@ -14,11 +14,11 @@ use std::alloc::Global;
 use std::collections::BTreeMap;
 
 /// Sparse bytes as blocks of 4,096 positions, found by their positions divided by 4,096. Each has the
-/// list of its stretches by exchange, which tell where their bytes stand: those of all blocks are kept
-/// one after another as they came, so no byte is moved and none is kept for an absent position.
+/// list of its stretches by exchange, which tell where their bytes stand: the bytes of all blocks stand
+/// in one list, in the order in which they came, so none is kept for an absent position.
 ///
-/// A put looks up the blocks of its positions, whatever was put before. A block takes some 200 bytes,
-/// and some 30 for each of its stretches beyond the fourth.
+/// A put looks up the blocks of its positions, whatever was put before. A block takes some 120 bytes,
+/// and some 32 for each of its stretches but the first.
 #[derive(Drop)]
 pub struct Sparse {
     blocks: BTreeMap<u64, Block>,

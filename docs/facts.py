@@ -213,7 +213,7 @@ class Facts:
         for x in self.about[r]:
             self.holds("had", (on and of(v.writer) == x) or any(
                 c in bound and of(self.own_open(t, self.K[c])) == x and of(self.K[c].due) is None for c in pens))
-        if of(v.alone) in bound:
+        if of(v.alone) in bound and of(self.K[of(v.alone)].due) is None:
             self.alone(v, of(v.alone))
         if not v.is_gone and (total is None or on):
             self.holds("is read", bool(bound))

@@ -139,5 +139,5 @@ begun_sound contents start = record {
       let b = is_loaded contents q (item_of contents q) u refl other in
       start.apart r q a.item b.item a.found b.found (ap (λ (z : Representation). z.key) a.row ∙ (same ∙ sym (ap (λ (z : Representation). z.key) b.row)));
   unshown = λ c r lo hi how k row place shown. absurd (none_some k row);
-  alone = λ r c v k row is reader. absurd (no_consumer contents r c k reader);
+  alone = λ r c v k row is reader none. absurd (no_consumer contents r c k reader);
 }

@@ -12,10 +12,10 @@ use Rattle.hc_model.specs.Tables.{after_denied}
 use Rattle.hc_model.specs.declared.place.BoundBy.{BoundBy}
 
 module _ (t : Tables) (e : Entry) where
-  abbrev u : Tables
+  abbrev pub u : Tables
   u = after_denied t e
 
-  written_same : (v : Representation) → is_written u v ≡ is_written t v
+  pub written_same : (v : Representation) → is_written u v ≡ is_written t v
   unfolding is_written
   written_same v = refl
 
@@ -23,7 +23,7 @@ module _ (t : Tables) (e : Entry) where
   unfolding bound
   bound_same r = refl
 
-  was_bound : (r c : ℕ) (k : Consumer) → IsBound u r c k → IsBound t r c k
+  pub was_bound : (r c : ℕ) (k : Consumer) → IsBound u r c k → IsBound t r c k
   was_bound r c k (sound.is_bound lo hi how row at) = sound.is_bound lo hi how row at
 
   is_bound : (r c : ℕ) (k : Consumer) → IsBound t r c k → IsBound u r c k
@@ -37,7 +37,7 @@ module _ (t : Tables) (e : Entry) where
   is_about r x (sound.headed w row on head fam there) = sound.headed w row on head fam there
   is_about r x (sound.asks w from to row on bare need aim) = sound.asks w from to row on bare need aim
 
-  was_first : (r c : ℕ) → IsFirst u r c → IsFirst t r c
+  pub was_first : (r c : ℕ) → IsFirst u r c → IsFirst t r c
   was_first r c (sound.first k lo hi how row at alone) = sound.first k lo hi how row at alone
 
   is_first : (r c : ℕ) → IsFirst t r c → IsFirst u r c
@@ -46,6 +46,10 @@ module _ (t : Tables) (e : Entry) where
   has_pen : (r c : ℕ) (v : Representation) → HasPen t r v c → HasPen u r v c
   has_pen r c v (sound.first kept is) = sound.first kept (is_first r c is)
   has_pen r c v (sound.alone lost is) = sound.alone lost is
+
+  pub was_pen : (r c : ℕ) (v : Representation) → HasPen u r v c → HasPen t r v c
+  was_pen r c v (sound.first kept is) = sound.first kept (was_first r c is)
+  was_pen r c v (sound.alone lost is) = sound.alone lost is
 
   is_served : (r c : ℕ) (v : Representation) (k : Consumer) → IsServed t r v c k → IsServed u r v c k
   is_served r c v k (sound.shares on) = sound.shares (written_same v ∙ on)
@@ -98,7 +102,7 @@ module _ (t : Tables) (e : Entry) where
     };
     one_current = s.one_current;
     unshown = λ c r lo hi how k row at off. to_be_shown k how (s.unshown c r lo hi how k row at off);
-    alone = λ r c v k row is reader. goes_alone v k (s.alone r c v k row is (was_bound r c k reader));
+    alone = λ r c v k row is reader none. goes_alone v k (s.alone r c v k row is (was_bound r c k reader) none);
   }
 
   still_past : (x : ℕ) (k : Consumer) → IsPast t x k → IsPast u x k
@@ -107,7 +111,7 @@ module _ (t : Tables) (e : Entry) where
 
   pub denied_owners : Owners t → Owners u
   denied_owners o = record {
-    opener = λ x w row. let p = o.opener x w row in record { k = p.k; row = p.row; key_is = p.key_is; plain = p.plain };
+    opener = λ x w row. let p = o.opener x w row in record { k = p.k; row = p.row; key_is = p.key_is; method_is = p.method_is; plain = p.plain };
     there = o.there;
     one = o.one;
     apart = λ r x c v k row on writer also is. o.apart r x c v k row (sym (written_same v) ∙ on) writer also is;

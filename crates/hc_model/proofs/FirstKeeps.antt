@@ -114,7 +114,7 @@ module _ (limits : Limits) (t : Tables) (now : ℕ) (flaw : Flaw) (s : Sound t) 
       let one : answer ≡ response = ap (λ v. response_in v answer) (sym here ∙ at) in
       sym (ap (λ (z : Representation). z.head.status) is) ∙ ap (λ (z : Response). z.status) one
 
-  founded_came : (x lo : ℕ) (hi : Option ℕ) (response : Response) (o : Option Representation) → ev ≡ event.Head x response → t.representation x ≡ None → now_on.representation x ≡ o → (status_in o == 206) ≡ true → response.status ≡ 206
+  pub founded_came : (x lo : ℕ) (hi : Option ℕ) (response : Response) (o : Option Representation) → ev ≡ event.Head x response → t.representation x ≡ None → now_on.representation x ≡ o → (status_in o == 206) ≡ true → response.status ≡ 206
   founded_came x lo hi response None at none is alone = absurd (let never : false ≡ true = alone in cc)
   founded_came x lo hi response (Some u) at none is alone =
       let status : u.head.status ≡ response.status = founded_status x response u at none (rep_from t e x (t.representation x) u refl is) in

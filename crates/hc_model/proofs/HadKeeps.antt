@@ -122,7 +122,7 @@ least_by n ns c (Some a) is h rest =
       | inr more ↦ let lt : n < a = grind (arith, nat_tests) in let same : n ≡ c = omega arith in inl same
     ]
 
-among_least : (ns : List ℕ) (c : ℕ) → least ns ≡ Some c → Among c ns
+pub among_least : (ns : List ℕ) (c : ℕ) → least ns ≡ Some c → Among c ns
 among_least [] c h = absurd (none_some c h)
 among_least (n ∷ ns) c h = least_by n ns c (least ns) refl h (λ a is. among_least ns a is)
 
@@ -276,8 +276,8 @@ module _ (limits : Limits) (t : Tables) (now : ℕ) (flaw : Flaw) (s : Sound t) 
 
         by_way : opened.Way t now q.c got.k q.need → ⊥
         by_way (opened.passes_by free way) = free_not free
-        by_way (opened.fetches free way) = free_not free
-        by_way (opened.fills n v2 span free way is there2 wanted) = free_not free
+        by_way (opened.fetches free way cached) = free_not free
+        by_way (opened.fills n v2 span hole free way is there2 wanted found need_is cached) = free_not free
         by_way (opened.goes_on n l h g placed way) =
             let poll = opening_by limits t now flaw s ev goes q opens in
             let same_k : poll.k ≡ k = same_row (t.consumer c) poll.k k (sym (ap t.consumer mine) ∙ poll.poll.row) row in

@@ -68,6 +68,33 @@ covers_all f reach lo hi h p le lt =
     let far : hi ≤ absent_from f reach lo hi = grind (arith, nat_tests) in
     some_of (f p) (first_before is_none f lo (min hi reach - lo) p le (omega arith))
 
+-- and where each position has something, it covers
+pub covers_yes : (f : Cells) (reach lo hi : ℕ) → EndsBy reach f → Covers f lo hi → covers f reach lo hi ≡ true
+covers_yes f reach lo hi ends all = grind (arith, nat_tests, far)
+  where
+    within : lo < hi → hi ≤ reach
+    within lt = elim (lt_cases (hi - 1) reach) [
+      | inl less ↦ omega arith
+      | inr past ↦ absurd (let none : f (hi - 1) ≡ None = ends (hi - 1) past.1 in let there : is_some (f (hi - 1)) ≡ true = all (hi - 1) (omega arith) (omega arith) in let never : false ≡ true = rw none at there in cc)
+    ]
+
+    none_there : (q : ℕ) → lo ≤ q → q < hi → is_none (f q) ≡ true → ⊥
+    none_there q le lt none = let there : is_some (f q) ≡ true = all q le lt in let never : false ≡ true = rw (not_none (f q) none) at there in cc
+
+    far : hi ≤ absent_from f reach lo hi
+    far = elim (lt_cases lo hi) [
+      | inr empty ↦ let start = first_from is_none f lo (min hi reach - lo) in omega arith
+      | inl some ↦
+          let whole : hi ≤ reach = within some.1 in
+          elim (lt_cases (first_place is_none f lo (min hi reach - lo)) (lo + (min hi reach - lo))) [
+            | inr behind ↦ omega arith
+            | inl before ↦
+                let passes = first_passes is_none f lo (min hi reach - lo) before.1 in
+                let start = first_from is_none f lo (min hi reach - lo) in
+                absurd (none_there (first_place is_none f lo (min hi reach - lo)) start (omega arith) passes)
+          ]
+    ]
+
 -- the end of a hole: the next place where something is, or the end of the span
 end_cases : (f : Cells) (reach p hi : ℕ) →
     let next = first_place is_some f p (reach - p) in

@@ -14,7 +14,7 @@ use Rattle.hc_model.proofs.HoleLemmas.{bool_cases, none_of, hole_absent}
 use Rattle.hc_model.proofs.Pens.{IsAtHole, has_pen}
 
 -- what is stored ends where the body ends
-stored_ends : (t : Tables) (r : ℕ) (v : Representation) → IsSoundRepresentation t r v → EndsBy v.reach v.stored
+pub stored_ends : (t : Tables) (r : ℕ) (v : Representation) → IsSoundRepresentation t r v → EndsBy v.reach v.stored
 stored_ends t r v row p le = elim (bool_cases (is_some (v.stored p))) [
   | inr none ↦ none_of (v.stored p) none
   | inl some ↦ row.store.some_stored p some ∙ row.store.ends p le
@@ -33,14 +33,14 @@ later_absent t r c hi v k s at none p le lt =
     by_pen : HasPen t r v c → IsSoundRepresentation t r v → v.stored p ≡ None → v.body p ≡ None
     by_pen (sound.first kept came) row missing = sym (row.store.all_stored kept p) ∙ missing
     by_pen (sound.alone lost is) row missing =
-        let a = s.alone r c v k at.row is at.is_reader in
+        let a = s.alone r c v k at.row is at.is_reader at.none_due in
         elim (split (offset t k) (front a.w)) [
           | inl before ↦ absurd (let there = a.covered (offset t k) (omega arith) before in let never : false ≡ true = rw none at there in cc)
           | inr past ↦ sym (a.ahead p (omega arith) le) ∙ missing
         ]
 
 -- the first hole of a span
-first_hole_is : (f : Cells) (reach : ℕ) (span hole : Span) → first_hole f reach span ≡ Some hole → hole ≡ hole_at f reach (absent_from f reach span.lo span.hi) span.hi
+pub first_hole_is : (f : Cells) (reach : ℕ) (span hole : Span) → first_hole f reach span ≡ Some hole → hole ≡ hole_at f reach (absent_from f reach span.lo span.hi) span.hi
 first_hole_is f reach span hole is = elim (bool_cases (covers f reach span.lo span.hi)) [
   | inl covered ↦ absurd (let never : None ≡ Some hole = rw covered at is in cc)
   | inr not_covered ↦ let some : Some (hole_at f reach (absent_from f reach span.lo span.hi) span.hi) ≡ Some hole = rw not_covered at is in cc

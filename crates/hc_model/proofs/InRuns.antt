@@ -1,4 +1,4 @@
--- One key, one turn and the barrier of dooms in each run from a beginning whose runs are sound.
+-- One key, one turn and the barrier of dooms in each run from contents by which a store may begin.
 use Rattle.std.proofs.Common.{◌≡◌, ℕ, [], ◌∷◌, Bool, true, false, refl, subst}
 use Rattle.hc_event.specs.Filters.{is_denied}
 use Rattle.hc_rules.specs.declared.room.Limits.{Limits}
@@ -6,7 +6,8 @@ use Rattle.hc_model.specs.Currents.{current}
 use Rattle.hc_model.specs.Entries.{Entry, History, Contents}
 use Rattle.hc_model.specs.Flaws.{flaw_in}
 use Rattle.hc_model.specs.Keys.{IsOfOneKey, KeepsOthers}
-use Rattle.hc_model.specs.Laws.{AreSound, HasOneTurn, Turns, HasPassed, IsBarred, AreNumbered, TurnsInRuns, DoomsInRuns, KeysInRuns}
+use Rattle.hc_model.specs.Beginnings.{may_begin}
+use Rattle.hc_model.specs.Laws.{OfRuns, DeliversOnce, HasOneTurn, Turns, HasPassed, IsBarred, DoomsInRuns, KeysInRuns}
 use Rattle.hc_model.specs.Rows.{Tables, Consumer}
 use Rattle.hc_model.specs.Runs.{IsRun, IsOwed}
 use Rattle.hc_model.specs.Sound.{Sound, IsBound}
@@ -15,7 +16,10 @@ use Rattle.hc_model.specs.Tables.{tables, after_accepted, after_denied}
 use Rattle.hc_model.proofs.Barred.{next_tables, denied_tables, barrier_is_kept, barrier_begins}
 use Rattle.hc_model.proofs.KeysPlaces.{keys_are_kept, keys_begin}
 use Rattle.hc_model.proofs.OneKey.{law_of_one_key}
+use Rattle.hc_model.proofs.Once.{delivers_once}
 use Rattle.hc_model.proofs.Owed.{goes}
+use Rattle.hc_model.proofs.SoundRuns.{runs_are_sound}
+use Rattle.hc_model.proofs.Starts.{numbers_begin}
 use Rattle.hc_model.proofs.TurnFacts.{IsTaken}
 use Rattle.hc_model.proofs.TurnsKeep.{turns_are_kept, turns_begin, turns_are_one, same_entry}
 
@@ -76,20 +80,25 @@ by_denial limits contents h e false accepted s owed held =
       turns = subst Turns (next_tables contents h e accepted) (turns_are_kept limits t e s held.one held.turns owed accepted);
     }
 
-module _ (limits : Limits) (contents : Contents) (runs : AreSound limits contents) where
+-- what is of one key and who has the turn, of every run
+pub record IsTurned (t : Tables) : Type 0 where
+  pub one : IsOfOneKey t
+  pub turns : Turns t
+
+module _ (limits : Limits) (contents : Contents) (may : may_begin limits contents ≡ true) where
+  sound_run : (h : History) → IsRun limits contents h → Sound (tables contents h)
+  sound_run h run = runs_are_sound limits contents h may run
+
   holds : (h : History) → IsRun limits contents h → Holds contents h
   unfolding tables
   holds [] run = record { one = keys_begin contents; turns = turns_begin contents }
-  holds (e ∷ h) run = by_denial limits contents h e (is_denied e.acts) refl (runs h run.0) run.1 (holds h run.0)
+  holds (e ∷ h) run = by_denial limits contents h e (is_denied e.acts) refl (sound_run h run.0) run.1 (holds h run.0)
 
-  one_turn : (h : History) → IsRun limits contents h → HasOneTurn (tables contents h)
-  one_turn h run = let held = holds h run in turns_are_one (tables contents h) (runs h run) held.one held.turns
-
-  barred : AreNumbered contents → (h : History) → IsRun limits contents h → IsBarred contents h
-  barred numbered [] run = barrier_begins contents numbered
-  barred numbered (e ∷ h) run =
+  barred : (h : History) → IsRun limits contents h → IsBarred contents h
+  barred [] run = barrier_begins contents (numbers_begin limits contents may)
+  barred (e ∷ h) run =
       let held = holds h run.0 in
-      barrier_is_kept limits contents h e (runs h run.0) held.one held.turns (barred numbered h run.0) run.1
+      barrier_is_kept limits contents h e (sound_run h run.0) held.one held.turns (barred h run.0) run.1
 
   others_stay : (h : History) (e : Entry) → IsRun limits contents (e ∷ h) → is_denied e.acts ≡ false → KeepsOthers (tables contents h) (tables contents (e ∷ h)) e
   others_stay h e run accepted =
@@ -97,11 +106,18 @@ module _ (limits : Limits) (contents : Contents) (runs : AreSound limits content
       subst (λ u. KeepsOthers (tables contents h) u e) (next_tables contents h e accepted)
       (law_of_one_key limits (tables contents h) e held.one.exchanges held.one.consumers run.1 accepted)
 
-pub turns_in_runs : TurnsInRuns
-turns_in_runs limits contents runs h run = one_turn limits contents runs h run
+-- Turns and keys hold of every run.
+pub turned_in_runs : OfRuns IsTurned
+turned_in_runs limits contents h may run = let held = holds limits contents may h run in record { one = held.one; turns = held.turns }
+
+pub turns_in_runs : OfRuns HasOneTurn
+turns_in_runs limits contents h may run = let held = holds limits contents may h run in turns_are_one (tables contents h) (runs_are_sound limits contents h may run) held.one held.turns
 
 pub dooms_in_runs : DoomsInRuns
-dooms_in_runs limits contents runs numbered h run = (barred limits contents runs numbered h run).founded
+dooms_in_runs limits contents h may run = (barred limits contents may h run).founded
 
 pub keys_in_runs : KeysInRuns
-keys_in_runs limits contents runs h e run accepted = others_stay limits contents runs h e run accepted
+keys_in_runs limits contents h e may run accepted = others_stay limits contents may h e run accepted
+
+pub delivers_in_runs : OfRuns DeliversOnce
+delivers_in_runs limits contents h may run = delivers_once (tables contents h) (runs_are_sound limits contents h may run)

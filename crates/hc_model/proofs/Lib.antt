@@ -109,4 +109,17 @@ pub mod HadNew
 pub mod HadHeaded
 pub mod SoundKept
 pub mod Survives
+pub mod Beside
+pub mod OwnNone
+pub mod CachedKeeps
+pub mod HeadTo
+pub mod Exclusives
+pub mod PenFrom
+pub mod Covers
+pub mod CoversNew
+pub mod CoversKept
+pub mod Rests
+pub mod GoAlone
+pub mod BesideKeeps
 pub mod SoundRuns
+pub mod GrowsInRuns

@@ -1,6 +1,7 @@
 -- What an exchange is opened as: past the store, with the turn, for a first hole, or for a later one of who is bound.
 use Rattle.std.proofs.Common.{◌≡◌, inl, inr, ℕ, ◌+◌, Bool, true, false, cond, Option, Some, None, refl, ap, sym, ◌∙◌}
 use Rattle.hc_text.specs.declared.bytes.Key.{Key}
+use Rattle.hc_text.specs.declared.bytes.MethodName.{MethodName}
 use Rattle.hc_range.specs.declared.range.Span.{Span}
 use Rattle.hc_sparse.specs.declared.run.Run.{Run}
 use Rattle.hc_event.specs.Filters.{Opening}
@@ -19,15 +20,16 @@ use Rattle.hc_rules.specs.declared.request.Wanted.TheVariants as wanted
 use Rattle.hc_rules.specs.Needs.{route_of}
 use Rattle.hc_rules.specs.Plans.{plan_of}
 use Rattle.hc_rules.specs.Readings.{read_step}
-use Rattle.hc_rules.specs.Requests.{class_of, is_bypassing, range_of, wanted_of}
+use Rattle.hc_rules.specs.Requests.{class_of, is_bypassing, is_disabled, range_of, wanted_of}
 use Rattle.hc_model.specs.declared.place.Place.{Place}
 use Rattle.hc_model.specs.declared.place.Place.TheVariants as place
 use Rattle.hc_model.specs.declared.place.BoundBy.{BoundBy}
 use Rattle.hc_model.specs.declared.place.BoundBy.TheVariants as by_how
 use Rattle.hc_model.specs.Currents.{current, row_of}
+use Rattle.hc_model.specs.Holes.{first_hole}
 use Rattle.hc_model.specs.Moves as moves
 use Rattle.hc_model.specs.Moves.{Move, Nothing, Fails, Opens, gives, waits_for, opens_hole, shows_stored}
-use Rattle.hc_model.specs.Planning.{plan_view, plan_move, fetched, conditional_on, current_row, binds_current}
+use Rattle.hc_model.specs.Planning.{plan_view, plan_move, fetched, conditional_on, current_row, binds_current, hole_of}
 use Rattle.hc_model.specs.Polls.{shows_at, shows_bound, shows_direct, shows_answer, has_joined, move_of}
 use Rattle.hc_model.specs.Reading.{bound_to}
 use Rattle.hc_model.specs.Rows.{Tables, Exchange, Representation, Consumer}
@@ -50,12 +52,13 @@ bypassing_is request = refl
 module _ (t : Tables) (now c : ℕ) (k : Consumer) where
   pub data Way (n : Need) : Type 0 where
     passes_by : bound_to k.place ≡ None → route_of n ≡ route.Direct → Way n
-    fetches : bound_to k.place ≡ None → route_of n ≡ route.Turn → Way n
-    fills : (r : ℕ) (v : Representation) (span : Span) → bound_to k.place ≡ None → route_of n ≡ route.Hole → current t k.request.key ≡ Some r → t.representation r ≡ Some v → wanted_of (range_of k.request) v.head.total ≡ wanted.Interval span → Way n
+    fetches : bound_to k.place ≡ None → route_of n ≡ route.Turn → is_disabled k.request ≡ false → Way n
+    fills : (r : ℕ) (v : Representation) (span hole : Span) → bound_to k.place ≡ None → route_of n ≡ route.Hole → current t k.request.key ≡ Some r → t.representation r ≡ Some v → wanted_of (range_of k.request) v.head.total ≡ wanted.Interval span → first_hole v.stored v.reach span ≡ Some hole → n ≡ need.Hole hole.lo hole.hi → is_disabled k.request ≡ false → Way n
     goes_on : (r lo : ℕ) (hi : Option ℕ) (how : BoundBy) → k.place ≡ place.Bound r lo hi how → route_of n ≡ route.Hole → Way n
 
   pub record OpenedAs (n : Need) (request : Request) : Type 0 where
     pub key_is : request.key ≡ k.request.key
+    pub method_is : request.method ≡ k.request.method
     pub plain : n ≡ need.Validate → is_bypassing k.request ≡ false
     pub bypasses : n ≡ need.Bypass → is_bypassing k.request ≡ true
     pub heard : IsHeard t k
@@ -86,14 +89,19 @@ module _ (t : Tables) (now c : ℕ) (k : Consumer) where
     record IsForHole (asked : Request) (hole : Span) : Type 0 where
       need_is : n ≡ need.Hole hole.lo hole.hi
       key_is : request.key ≡ asked.key
+      method_is : request.method ≡ asked.method
 
     hole_opens : (asked : Request) (o : Option Representation) (hole : Span) → opens_hole t asked o hole ≡ open_it → (v : Representation) × (o ≡ Some v) × IsForHole asked hole
     hole_opens asked None hole is = absurd (let never : Nothing ≡ open_it = is in cc)
-    hole_opens asked (Some v) hole is = (v, refl, record { need_is = cc; key_is = sym (ap (λ m. key_in m) is) })
+    hole_opens asked (Some v) hole is = (v, refl, record { need_is = cc; key_is = sym (ap (λ m. key_in m) is); method_is = sym (ap (λ m. method_in m) is) })
       where
         key_in : Move → Key
         key_in (Opens y m r) = r.key
         key_in _ = k.request.key
+
+        method_in : Move → MethodName
+        method_in (Opens y m r) = r.method
+        method_in _ = k.request.method
 
     -- READING
 
@@ -118,6 +126,7 @@ module _ (t : Tables) (now c : ℕ) (k : Consumer) where
     later_by hole (place.Turn y) heard at h v row = absurd (none_row v row)
     later_by hole (place.Bound r lo hi how) heard at h v row = record {
       key_is = h.key_is;
+      method_is = h.method_is;
       plain = λ is. absurd (hole_other (sym is) hole h.need_is);
       bypasses = λ is. absurd (hole_bypass (sym is) hole h.need_is);
       heard = heard;
@@ -155,6 +164,24 @@ module _ (t : Tables) (now c : ℕ) (k : Consumer) where
     fetched_key (need.Hole from to) = refl
     fetched_key need.Unsatisfied = refl
 
+    fetched_method : (m : Need) → (fetched t k m).method ≡ k.request.method
+    fetched_method need.Disabled = refl
+    fetched_method need.TimedOut = refl
+    fetched_method need.Bypass = refl
+    fetched_method need.Miss = refl
+    fetched_method need.Vary = refl
+    fetched_method need.Validate = by_row (current_row t k)
+      where
+        by_row : (o : Option Representation) → (conditional_on o k.request).method ≡ k.request.method
+        by_row None = refl
+        by_row (Some v) = refl
+    fetched_method (need.Hole from to) = refl
+    fetched_method need.Unsatisfied = refl
+
+    cached_is : (plan_view t now c k).class.disabled ≡ false → is_disabled k.request ≡ false
+    unfolding class_of
+    cached_is h = h
+
     opens_same : (y : ℕ) (m : Need) (asked : Request) → Opens y m asked ≡ open_it → (m ≡ n) × (asked ≡ request)
     opens_same y m asked is = (cc, cc)
 
@@ -169,17 +196,18 @@ module _ (t : Tables) (now c : ℕ) (k : Consumer) where
     binds_opens why None (Some r) is = stored_opens r why _ 0 _ (t.representation r) is
     binds_opens why (Some span) (Some r) is = stored_opens r why _ span.lo (Some span.hi) (t.representation r) is
 
-    first_by : (span hole : Span) (j : plans.IsAlone (plan_view t now c k) span (Some hole)) → bound_to k.place ≡ None → k.shown ≡ false → shows_at t k k.place ≡ None → IsHeard t k → IsForHole k.request hole → OpenedAs n request
-    first_by span hole j free off none heard h =
+    first_by : (span hole : Span) → is_disabled k.request ≡ false → (j : plans.IsAlone (plan_view t now c k) span (Some hole)) → bound_to k.place ≡ None → k.shown ≡ false → shows_at t k k.place ≡ None → IsHeard t k → IsForHole k.request hole → OpenedAs n request
+    first_by span hole cached j free off none heard h =
         let a = candidate_is t now c k j.s j.current in
         record {
           key_is = h.key_is;
+          method_is = h.method_is;
           plain = λ is. absurd (hole_other (sym is) hole h.need_is);
           bypasses = λ is. absurd (hole_bypass (sym is) hole h.need_is);
           heard = heard;
           unread = λ is. none;
           unshown = λ is. off;
-          way = fills a.r a.v span free (ap route_of h.need_is) a.current_is a.row (sym a.span_is ∙ j.wanted_is);
+          way = fills a.r a.v span hole free (ap route_of h.need_is) a.current_is a.row (sym a.span_is ∙ j.wanted_is) (sym (ap (hole_of a.v) j.wanted_is) ∙ (sym a.hole_is ∙ j.hole_is)) h.need_is cached;
         }
 
     by_plan : (p : Plan) → PlanBy (plan_view t now c k) p → bound_to k.place ≡ None → k.shown ≡ false → shows_at t k k.place ≡ None → IsHeard t k → plan_move t k p ≡ open_it → OpenedAs n request
@@ -188,13 +216,13 @@ module _ (t : Tables) (now c : ℕ) (k : Consumer) where
     by_plan _ plans.misses free off none heard is = absurd (let never : Fails cause.Miss ≡ open_it = is in cc)
     by_plan _ (plans.passes_by m way) free off none heard is =
         let same = opens_same (t.opened + 1) m k.request is in
-        record { key_is = sym (ap (λ (z : Request). z.key) same.1); plain = λ at. absurd (direct_other m way (same.0 ∙ at)); bypasses = λ at. absurd (direct_bypass m way (same.0 ∙ at)); heard = heard; unread = λ is. none; unshown = λ is. off; way = passes_by free (sym (ap route_of same.0) ∙ way) }
-    by_plan _ (plans.fetches m way plain bypass) free off none heard is =
+        record { key_is = sym (ap (λ (z : Request). z.key) same.1); method_is = sym (ap (λ (z : Request). z.method) same.1); plain = λ at. absurd (direct_other m way (same.0 ∙ at)); bypasses = λ at. absurd (direct_bypass m way (same.0 ∙ at)); heard = heard; unread = λ is. none; unshown = λ is. off; way = passes_by free (sym (ap route_of same.0) ∙ way) }
+    by_plan _ (plans.fetches m way plain bypass cached) free off none heard is =
         let same = opens_same (t.opened + 1) m (fetched t k m) is in
-        record { key_is = sym (ap (λ (z : Request). z.key) same.1) ∙ fetched_key m; plain = λ at. sym (bypassing_is k.request) ∙ plain (same.0 ∙ at); bypasses = λ at. sym (bypassing_is k.request) ∙ bypass (same.0 ∙ at); heard = heard; unread = λ is. none; unshown = λ is. off; way = fetches free (sym (ap route_of same.0) ∙ way) }
-    by_plan _ (plans.joins why j) free off none heard is = absurd (binds_opens why None (current t k.request.key) is)
-    by_plan _ (plans.reads why span j) free off none heard is = absurd (binds_opens why (Some span) (current t k.request.key) is)
-    by_plan _ (plans.fills span hole j nobody) free off none heard is = first_by span hole j free off none heard ((hole_opens k.request (current_row t k) hole is).2)
+        record { key_is = sym (ap (λ (z : Request). z.key) same.1) ∙ fetched_key m; method_is = sym (ap (λ (z : Request). z.method) same.1) ∙ fetched_method m; plain = λ at. sym (bypassing_is k.request) ∙ plain (same.0 ∙ at); bypasses = λ at. sym (bypassing_is k.request) ∙ bypass (same.0 ∙ at); heard = heard; unread = λ is. none; unshown = λ is. off; way = fetches free (sym (ap route_of same.0) ∙ way) (cached_is cached) }
+    by_plan _ (plans.joins why cached j) free off none heard is = absurd (binds_opens why None (current t k.request.key) is)
+    by_plan _ (plans.reads why span cached j) free off none heard is = absurd (binds_opens why (Some span) (current t k.request.key) is)
+    by_plan _ (plans.fills span hole cached j nobody) free off none heard is = first_by span hole (cached_is cached) j free off none heard ((hole_opens k.request (current_row t k) hole is).2)
 
     -- SHOWING
 

@@ -66,6 +66,7 @@ module _ (limits : Limits) (t : Tables) (now : ℕ) (flaw : Flaw) (s : Sound t) 
         k = on.u;
         row = subst (λ c. now_on.consumer c ≡ Some on.u) (sym c_is) on.row;
         key_is = ap (λ (z : Request). z.key) request_is ∙ (before.key_is ∙ sym (ap (λ (z : Request). z.key) on.request_is));
+        method_is = ap (λ (z : Request). z.method) request_is ∙ (before.method_is ∙ sym (ap (λ (z : Request). z.method) on.request_is));
         plain = λ is. ap is_bypassing on.request_is ∙ before.plain (sym need_is ∙ is);
       }
 
@@ -91,6 +92,7 @@ module _ (limits : Limits) (t : Tables) (now : ℕ) (flaw : Flaw) (s : Sound t) 
         k = on.u;
         row = on.row;
         key_is = opened.way.key_is ∙ sym (ap (λ (z : Request). z.key) on.request_is);
+        method_is = opened.way.method_is ∙ sym (ap (λ (z : Request). z.method) on.request_is);
         plain = λ at. ap is_bypassing on.request_is ∙ opened.way.plain at;
       })
 

@@ -58,7 +58,7 @@ use Rattle.hc_model.proofs.Forward as forward
 use Rattle.hc_model.proofs.HoleLemmas.{bool_cases, covers_all}
 use Rattle.hc_model.proofs.LossBy.{IsReal, IsSealing, sealed_loss, seals_one, fresh}
 use Rattle.hc_model.proofs.LossServes.{survives}
-use Rattle.hc_model.proofs.Losses.{goes_on_or_rests}
+use Rattle.hc_model.proofs.Losses.{HasRest, goes_on_or_rests}
 use Rattle.hc_model.proofs.OwnersKeep.{is_opened}
 use Rattle.hc_model.proofs.PieceKeeps.{some_inj}
 use Rattle.hc_model.proofs.Pens.{same_row, writer_some, none_about}
@@ -100,7 +100,7 @@ or_false : (a b : Bool) → a ≡ false → b ≡ false → (a || b) ≡ false
 or_false a b p q = rw (p, q) refl
 
 -- what was written over stays there
-written_covers : (at x lo hi : ℕ) (bytes : List ℕ) (f : Cells) → Covers f lo hi → Covers (written at x bytes f) lo hi
+pub written_covers : (at x lo hi : ℕ) (bytes : List ℕ) (f : Cells) → Covers f lo hi → Covers (written at x bytes f) lo hi
 written_covers at x lo hi bytes f all p from_lo lt = elim (inside-cases at (length bytes) p) [
   | inl here ↦ rw here.0 refl
   | inr off ↦ rw off.0 (all p from_lo lt)
@@ -178,8 +178,14 @@ module _ (limits : Limits) (t : Tables) (now : ℕ) (flaw : Flaw) (s : Sound t) 
 
     -- ALL THAT IS WANTED IS THERE
 
+    rests_to : (n at : ℕ) → hi_of now_on u.place ≡ Some n → Covers p.stored at n → at ≤ offset now_on u → HasRest now_on p u
+    rests_to n at end all le = record { hi = n; end = end; covered = λ d from_lo lt. all d (let before : offset now_on u ≤ d = from_lo in omega arith) lt }
+
+    reads_rest : HasRest now_on p u → Served
+    reads_rest rest = sound.reads rest.hi rest.end rest.covered
+
     reads_to : (n at : ℕ) → hi_of now_on u.place ≡ Some n → Covers p.stored at n → at ≤ offset now_on u → Served
-    reads_to n at end all le = sound.reads n end (λ d from_lo lt. all d (let before : offset now_on u ≤ d = from_lo in omega arith) lt)
+    reads_to n at end all le = reads_rest (rests_to n at end all le)
 
     end_is : (z : Option ℕ) → p.head.total ≡ z → hi_of now_on u.place ≡ option_or hi z
     end_is z total = ap (hi_of now_on) stands ∙ (ap (λ q. option_or hi (Rattle.hc_model.specs.Currents.total_in q)) after ∙ ap (option_or hi) total)
@@ -187,13 +193,16 @@ module _ (limits : Limits) (t : Tables) (now : ℕ) (flaw : Flaw) (s : Sound t) 
     offset_is : offset now_on u ≡ lo + u.given
     offset_is = ap (λ q. Rattle.hc_model.specs.Reading.lo_of now_on q + u.given) stands
 
-    by_all : IsAll p → (z : Option ℕ) → hi ≡ z → Served
-    by_all all None is = reads_to all.total 0 (end_is (Some all.total) all.known ∙ ap (λ q. option_or q (Some all.total)) is) all.covered (omega arith)
-    by_all all (Some n) is =
+    pub rest_by : IsAll p → (z : Option ℕ) → hi ≡ z → HasRest now_on p u
+    rest_by all None is = rests_to all.total 0 (end_is (Some all.total) all.known ∙ ap (λ q. option_or q (Some all.total)) is) all.covered (omega arith)
+    rest_by all (Some n) is =
         let w = (measures_kept limits t now flaw s o m ev goes).ends r c lo n how u p after_row (stands ∙ ap (λ q. place.Bound r lo q how) is) after in
         let same : w.total ≡ all.total = some_inj w.total all.total (sym w.known ∙ all.known) in
         let le : n ≤ w.total = w.ends in
-        reads_to n 0 (end_is (Some all.total) all.known ∙ ap (λ q. option_or q (Some all.total)) is) (λ d from_lo lt. all.covered d from_lo (omega arith)) (omega arith)
+        rests_to n 0 (end_is (Some all.total) all.known ∙ ap (λ q. option_or q (Some all.total)) is) (λ d from_lo lt. all.covered d from_lo (omega arith)) (omega arith)
+
+    by_all : IsAll p → (z : Option ℕ) → hi ≡ z → Served
+    by_all all z is = reads_rest (rest_by all z is)
 
     first_now : p.is_lost ≡ false → came_alone now_on (place.Bound r lo hi how) ≡ true → Served
     first_now kept alone = sound.writes (sound.first kept (sound.first u lo hi how after_row stands alone))
@@ -220,12 +229,15 @@ module _ (limits : Limits) (t : Tables) (now : ℕ) (flaw : Flaw) (s : Sound t) 
       end_by n None is h = end_is (Some n) (known_kept limits t now flaw s o m ev goes r n v p kept (sym (ap (λ q. option_or q v.head.total) is) ∙ h)) ∙ ap (λ q. option_or q (Some n)) is
       end_by n (Some a) is h = end_is p.head.total refl ∙ (ap (λ q. option_or q p.head.total) is ∙ (sym (ap (λ q. option_or q v.head.total) is) ∙ h))
 
-      still_reads : (n : ℕ) → hi_of t k.place ≡ Some n → Covers v.stored (offset t k) n → Served
-      still_reads n end covered =
+      pub still_rests : (n : ℕ) → hi_of t k.place ≡ Some n → Covers v.stored (offset t k) n → HasRest now_on p u
+      still_rests n end covered =
           let more : k.given ≤ u.given = given_more in
           let now_at : offset now_on u ≡ lo + u.given = offset_is in
           let was_at : offset t k ≡ lo + k.given = offset_before in
-          reads_to n (offset t k) (end_by n hi refl (sym end_before ∙ end)) (stored_covers r (offset t k) n v p kept covered) (omega arith)
+          rests_to n (offset t k) (end_by n hi refl (sym end_before ∙ end)) (stored_covers r (offset t k) n v p kept covered) (omega arith)
+
+      still_reads : (n : ℕ) → hi_of t k.place ≡ Some n → Covers v.stored (offset t k) n → Served
+      still_reads n end covered = reads_rest (still_rests n end covered)
 
       alone_now : p.is_lost ≡ true → p.alone ≡ Some c → Served
       alone_now lost is = sound.writes (sound.alone lost is)
@@ -246,7 +258,7 @@ module _ (limits : Limits) (t : Tables) (now : ℕ) (flaw : Flaw) (s : Sound t) 
             by_all (all_stored limits t now flaw s o m ev goes real r c x lo hi how k u v p row at stands there on writer undue kept (inr other) off) hi refl
       ]
 
-      resumed_not : is_written t v ≡ true → (x : ℕ) → v.writer ≡ Some x → IsResumed t e r v p.writer → ⊥
+      pub resumed_not : is_written t v ≡ true → (x : ℕ) → v.writer ≡ Some x → IsResumed t e r v p.writer → ⊥
       resumed_not on x writer R =
           let new = is_new limits t now flaw s ev goes R.x R.response R.w R.at R.row in
           let aim : R.w.aim ≡ Some r = number_is R.w.aim r (and_right _ (is_number R.w.aim r) (and_left _ _ R.renews)) in
@@ -509,7 +521,7 @@ module _ (limits : Limits) (t : Tables) (now : ℕ) (flaw : Flaw) (s : Sound t) 
           ]
 
       -- where its exchange is over at once, it has no body
-      none_promised : is_refused (case_at t e) ≡ false → doomed_by_case (case_at t e) w response ≡ None → is_open (now_on.exchange x) ≡ false → promise_in w response ≡ Some 0
+      pub none_promised : is_refused (case_at t e) ≡ false → doomed_by_case (case_at t e) w response ≡ None → is_open (now_on.exchange x) ≡ false → promise_in w response ≡ Some 0
       none_promised unrefused undoomed off = is_reached_zero (promise_in w response) (by_test (is_reached (promise_in w response) 0) refl)
         where
           self : nat_eq x x ≡ true

@@ -12,7 +12,7 @@ use Rattle.hc_rules.specs.declared.plan.Candidate.{Candidate}
 use Rattle.hc_rules.specs.declared.request.Wanted.TheVariants as wanted
 use Rattle.hc_rules.specs.Least.{least}
 use Rattle.hc_rules.specs.Plans.{plan_of}
-use Rattle.hc_rules.specs.Requests.{range_of, wanted_of}
+use Rattle.hc_rules.specs.Requests.{class_of, is_disabled, range_of, wanted_of}
 use Rattle.hc_model.specs.declared.place.Place.{Place}
 use Rattle.hc_model.specs.declared.place.Place.TheVariants as place
 use Rattle.hc_model.specs.ActFilters.{Showing}
@@ -123,15 +123,19 @@ module _ (t : Tables) (now c : ℕ) (k : Consumer) where
         let hole : first_hole a.v.stored a.v.reach span ≡ None = sym (ap (hole_of a.v) j.wanted_is) ∙ (sym a.hole_is ∙ j.hole_is) in
         stored a.v span (at ∙ ap Some shown.number) row (sym a.writing_is ∙ j.unwritten) (sym a.span_is ∙ j.wanted_is) hole (sym shown.from) (sym shown.to)
 
-    by_plan : (p : Plan) → PlanBy (plan_view t now c k) p → plan_move t k p ≡ show → ShownAs r lo hi
+    cached_is : (plan_view t now c k).class.disabled ≡ false → is_disabled k.request ≡ false
+    unfolding class_of
+    cached_is h = h
+
+    by_plan : (p : Plan) → PlanBy (plan_view t now c k) p → plan_move t k p ≡ show → (is_disabled k.request ≡ false) × ShownAs r lo hi
     by_plan _ (plans.turn d) is = absurd (let never : moves.Waits (wait.Turn d) ≡ show = is in cc)
     by_plan _ (plans.busy d kept plain) is = absurd (let never : moves.Waits (wait.Busy d) ≡ show = is in cc)
     by_plan _ plans.misses is = absurd (let never : Fails cause.Miss ≡ show = is in cc)
     by_plan _ (plans.passes_by n way) is = absurd (let never : moves.Opens (t.opened + 1) n k.request ≡ show = is in cc)
-    by_plan _ (plans.fetches n way plain bypass) is = absurd (let never : moves.Opens (t.opened + 1) n (fetched t k n) ≡ show = is in cc)
-    by_plan _ (plans.joins why j) is = joined why j (current t k.request.key) refl is
-    by_plan _ (plans.reads why span j) is = read why span j (current t k.request.key) refl is
-    by_plan _ (plans.fills span hole j nobody) is = absurd (hole_shows k.request _ hole is)
+    by_plan _ (plans.fetches n way plain bypass cached) is = absurd (let never : moves.Opens (t.opened + 1) n (fetched t k n) ≡ show = is in cc)
+    by_plan _ (plans.joins why cached j) is = (cached_is cached, joined why j (current t k.request.key) refl is)
+    by_plan _ (plans.reads why span cached j) is = (cached_is cached, read why span j (current t k.request.key) refl is)
+    by_plan _ (plans.fills span hole cached j nobody) is = absurd (hole_shows k.request _ hole is)
 
     -- who reads nothing isn't shown a head that is there for who reads
     unread : (p : Place) → reads p ≡ false → shows_at t k p ≡ Some show → ⊥
@@ -143,7 +147,7 @@ module _ (t : Tables) (now c : ℕ) (k : Consumer) where
     unread (place.Down why_down) free is = none_some show is
     unread place.Over free is = none_some show is
 
-    by_move : (want : ℕ) (m : Move) → MoveBy t now want c k m → m ≡ move_of t now want c k → m ≡ show → reads k.place ≡ false → (k.shown ≡ false) × (bound_to k.place ≡ None) × IsHeard t k × ShownAs r lo hi
+    by_move : (want : ℕ) (m : Move) → MoveBy t now want c k m → m ≡ move_of t now want c k → m ≡ show → reads k.place ≡ false → (k.shown ≡ false) × (bound_to k.place ≡ None) × IsHeard t k × ((is_disabled k.request ≡ false) × ShownAs r lo hi)
     by_move want m (by.shows _ shown at) here is free = absurd (unread k.place free (at ∙ ap Some is))
     by_move want _ (by.waits x own bare) here is free = absurd (let never : moves.Waits (wait.Head x) ≡ show = is in cc)
     by_move want _ (by.down why_down at) here is free = absurd (let never : Fails why_down ≡ show = is in cc)
@@ -161,9 +165,10 @@ module _ (t : Tables) (now c : ℕ) (k : Consumer) where
     pub free : bound_to k.place ≡ None
     pub heard : IsHeard t k
     pub shown_as : ShownAs z.r z.lo z.hi
+    pub cached : is_disabled k.request ≡ false
 
   pub shown_from : (want : ℕ) (z : Showing) → Sound t → t.consumer c ≡ Some k → IsShowing z (move_of t now want c k) → reads k.place ≡ false → IsPlanned z
   shown_from want z s row show free =
       let is = showing_is z (move_of t now want c k) show in
       let all = by_move z.r z.lo z.hi is.0 is.1 want (move_of t now want c k) (move_by t now want c k s row) refl is.2 free in
-      record { unshown = all.0; free = all.1; heard = all.2; shown_as = all.3 }
+      record { unshown = all.0; free = all.1; heard = all.2; shown_as = all.3.1; cached = all.3.0 }

@@ -7,7 +7,7 @@ use Rattle.hc_rules.specs.declared.room.Limits.{Limits}
 use Rattle.hc_rules.proofs.RangeReads.{bytes_eq-same}
 use Rattle.hc_model.specs.Beginnings.{may_begin, are_good, is_good, is_given_out, has_own_numbers}
 use Rattle.hc_model.specs.Entries.{Content, Contents}
-use Rattle.hc_model.specs.Laws.{IsStart}
+use Rattle.hc_model.specs.Laws.{AreNumbered, IsStart}
 use Rattle.hc_model.proofs.PieceKeeps.{eq_cases, some_inj}
 
 false_true : false ≡ true → ⊥
@@ -96,6 +96,17 @@ module _ (limits : Limits) (contents : Contents) where
   given_below n r given same =
       let test : nat_lt n contents.next_exchange ≡ true = and_right (nat_lt 0 n) (nat_lt n contents.next_exchange) given in
       let under : n < contents.next_exchange = grind (arith, nat_tests) in
+      omega arith
+
+  -- numbers begin with 1
+  pub numbers_begin : may_begin limits contents ≡ true → AreNumbered contents
+  unfolding may_begin
+  numbers_begin may r item is =
+      let good : are_good limits contents [] contents.items ≡ true = and_left _ _ (and_left _ _ (and_left _ _ (and_left _ _ (and_left _ _ may)))) in
+      let all = numbered r item [] contents.items good is in
+      let test : nat_lt 0 item.r ≡ true = and_left (nat_lt 0 item.r) (nat_lt item.r contents.next_exchange) all.0 in
+      let same : item.r ≡ r = all.1 in
+      let some : 0 < item.r = grind (arith, nat_tests) in
       omega arith
 
   pub starts : may_begin limits contents ≡ true → IsStart contents

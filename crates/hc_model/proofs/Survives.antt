@@ -74,6 +74,11 @@ not_so : (b : Bool) → (b ≡ true → ⊥) → b ≡ false
 not_so true off = absurd (off refl)
 not_so false off = refl
 
+-- its exchange has its head
+pub record GoesOn (t : Tables) (v : Representation) (k : Consumer) : Type 0 where
+  pub is : IsAlone t v k
+  pub headed : is_some is.w.head ≡ true
+
 -- IT STANDS WHERE WHAT IS STORED ENDS
 
 least_there : (t : Tables) (end c : ℕ) (ds : List ℕ) → least (map (λ (m : Member). m.c) (filter (stands_at end) (map (member t) ds))) ≡ Some c → stands_at end (member t c) ≡ true
@@ -148,7 +153,7 @@ module _ (limits : Limits) (t : Tables) (now : ℕ) (flaw : Flaw) (s : Sound t) 
         piece_bytes : (a b : ℕ) (d f : List ℕ) → event.Piece a d ≡ event.Piece b f → d ≡ f
         piece_bytes a b d f is = cc
 
-    pub survivor_alone : IsAlone now_on p u
+    pub survivor_alone : GoesOn now_on p u
     survivor_alone =
         let waiterless = member_stays.no_waiter limits t now flaw s o ev goes c r lo hi how k v row at there on in
         let st = bound_stays limits t now flaw s o ev goes c r lo hi how k row at waiterless (λ here. false_true (sym (ap brings_body here) ∙ brings_one)) (not_so (leaves_in c e.acts) (λ leaves. let got = leaving_by limits t now flaw s ev goes c leaves in unpolled c got.want got.poll.at)) in
@@ -166,14 +171,21 @@ module _ (limits : Limits) (t : Tables) (now : ℕ) (flaw : Flaw) (s : Sound t) 
         let stands_u : offset now_on u ≡ lo + st.u.given = ap (λ (q : Consumer). offset now_on q) (sym one) ∙ ap (λ q. lo_of now_on q + st.u.given) st.stands in
         let f = by_heard grows.0 goes_on.u g goes_on.row goes_on.same goes_on.same.heard_or in
         record {
-          x = x;
-          w = goes_on.u;
-          own = sym (ap (λ (q : Consumer). q.own) one) ∙ own_st;
-          row = goes_on.row;
-          covered = f.covered (offset now_on u) (omega arith);
-          ahead = λ q le from_offset. f.ahead q le;
+          is = record {
+            x = x;
+            w = goes_on.u;
+            own = sym (ap (λ (q : Consumer). q.own) one) ∙ own_st;
+            row = goes_on.row;
+            covered = f.covered (offset now_on u) (omega arith);
+            ahead = λ q le from_offset. f.ahead q le;
+          };
+          headed = still_headed grows.0 goes_on.u g goes_on.same.heard_or;
         }
       where
+        still_headed : (w z : Exchange) → IsGrowing t r v x w → ((z.head ≡ w.head) × (z.joined ≡ w.joined)) ⊎ IsHeaded t e x w z → is_some z.head ≡ true
+        still_headed w z g (inl still) = ap (λ (a : Option Response). is_some a) still.0 ∙ g.headed
+        still_headed w z g (inr got) = ap (λ (a : Option Response). is_some a) got.head_is
+
         by_heard : (w z : Exchange) → IsGrowing t r v x w → now_on.exchange x ≡ Some z → IsSame t e x w z → ((z.head ≡ w.head) × (z.joined ≡ w.joined)) ⊎ IsHeaded t e x w z → IsFront z
         by_heard w z g after_x same (inl still) = fronts w z g same (sym (ap is_open g.row) ∙ (is_on t v x on writer).open_now) (held limits t now flaw s o m ev goes x w z same still.0 still.1) (brings t e x w z g.row after_x) (fills t e r v p kept)
         by_heard w z g after_x same (inr got) =
@@ -181,19 +193,19 @@ module _ (limits : Limits) (t : Tables) (now : ℕ) (flaw : Flaw) (s : Sound t) 
             absurd (false_true (sym (ap (λ (a : Option Response). is_some a) none) ∙ g.headed))
 
   -- of any reader that survives
-  by_reader : (r c x : ℕ) (k u : Consumer) (v p : Representation) → IsBound t r c k → t.representation r ≡ Some v → IsKept t e r v p → is_written t v ≡ true → v.writer ≡ Some x → survivor t r v ≡ Some c → loses_in r e.acts ≡ true → brings_body ev ≡ true → now_on.consumer c ≡ Some u → IsAlone now_on p u
+  by_reader : (r c x : ℕ) (k u : Consumer) (v p : Representation) → IsBound t r c k → t.representation r ≡ Some v → IsKept t e r v p → is_written t v ≡ true → v.writer ≡ Some x → survivor t r v ≡ Some c → loses_in r e.acts ≡ true → brings_body ev ≡ true → now_on.consumer c ≡ Some u → GoesOn now_on p u
   by_reader r c x k u v p (sound.is_bound lo hi how row at) there kept on writer is loses brings_one after_row = survivor_alone r c x lo hi how k u v p row at there kept on writer is loses brings_one after_row
 
-  by_writer : (r c : ℕ) (z : Option ℕ) (u : Consumer) (v p : Representation) → t.representation r ≡ Some v → IsKept t e r v p → loses_writing t e r v ≡ true → v.writer ≡ z → survivor t r v ≡ Some c → now_on.consumer c ≡ Some u → IsAlone now_on p u
+  by_writer : (r c : ℕ) (z : Option ℕ) (u : Consumer) (v p : Representation) → t.representation r ≡ Some v → IsKept t e r v p → loses_writing t e r v ≡ true → v.writer ≡ z → survivor t r v ≡ Some c → now_on.consumer c ≡ Some u → GoesOn now_on p u
   by_writer r c None u v p there kept losing writer is after_row = absurd (writer_some t v (and_right _ _ losing) writer)
   by_writer r c (Some x) u v p there kept losing writer is after_row =
       let reader = reader_of t r c (survivor_bound t r c v is) in
       by_reader r c x reader.0 u v p reader.1 there kept (and_right _ _ losing) writer is (and_right _ _ (and_left _ _ losing)) (and_left _ _ (and_left _ _ losing)) after_row
 
-  pub goes_on : (r c : ℕ) (v p : Representation) (u : Consumer) → t.representation r ≡ Some v → loses_writing t e r v ≡ true → survivor t r v ≡ Some c → now_on.representation r ≡ Some p → now_on.consumer c ≡ Some u → IsAlone now_on p u
+  pub goes_on : (r c : ℕ) (v p : Representation) (u : Consumer) → t.representation r ≡ Some v → loses_writing t e r v ≡ true → survivor t r v ≡ Some c → now_on.representation r ≡ Some p → now_on.consumer c ≡ Some u → GoesOn now_on p u
   goes_on r c v p u there losing is after after_row = by_rep (rep_from t e r (t.representation r) p refl after)
     where
-      by_rep : RepFrom t e r p → IsAlone now_on p u
+      by_rep : RepFrom t e r p → GoesOn now_on p u
       by_rep (rep.founded response w none here exchange_row on made) = absurd (none_some v (sym none ∙ there))
       by_rep (rep.was q kept) =
           let one : q ≡ v = same_row (t.representation r) q v kept.row there in
@@ -203,4 +215,4 @@ module _ (limits : Limits) (t : Tables) (now : ℕ) (flaw : Flaw) (s : Sound t) 
 pub survivors_go_on : SurvivorsGoOn
 survivors_go_on limits t e s o m owed not_denied r c v p u there losing is after after_row =
     of_real limits t e (λ z. loses_writing t z r v ≡ true → (after_accepted t z).representation r ≡ Some p → (after_accepted t z).consumer c ≡ Some u → IsAlone (after_accepted t z) p u) owed not_denied
-    (λ going real losing_now after_now row_now. goes_on limits t e.now (flaw_in e.acts) s o m e.event going real r c v p u there losing_now is after_now row_now) losing after after_row
+    (λ going real losing_now after_now row_now. (goes_on limits t e.now (flaw_in e.acts) s o m e.event going real r c v p u there losing_now is after_now row_now).is) losing after after_row

@@ -105,7 +105,7 @@ no_cause (Some case.LaterBad) x h = absurd (false_true h)
 no_cause (Some case.LaterChanged) x h = absurd (false_true h)
 
 -- what founds isn't past the store
-founds_way : (t : Tables) (lost : Bool) (w : Exchange) (response : Response) (g : HeadCase) → CaseBy (head_view t lost w response) g → is_founding (Some g) ≡ true → route_of w.need ≡ route.Direct → ⊥
+pub founds_way : (t : Tables) (lost : Bool) (w : Exchange) (response : Response) (g : HeadCase) → CaseBy (head_view t lost w response) g → is_founding (Some g) ≡ true → route_of w.need ≡ route.Direct → ⊥
 founds_way t lost w response _ (cases.founds_whole way h l g) on past = let no : route.Turn ≡ route.Direct = sym way ∙ past in cc
 founds_way t lost w response _ (cases.founds_range way h f l g) on past = let no : route.Turn ≡ route.Direct = sym way ∙ past in cc
 founds_way t lost w response _ (cases.first_replaced way shown h l g) on past = let no : route.Hole ≡ route.Direct = sym way ∙ past in cc

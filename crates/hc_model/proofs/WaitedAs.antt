@@ -110,10 +110,10 @@ module _ (t : Tables) (now c : ℕ) (k : Consumer) where
     by_plan _ (plans.busy d kept plain) is b at = sym (bypassing_is k.request) ∙ plain
     by_plan _ plans.misses is b at = absurd (let never : Fails cause.Miss ≡ wait_it = is in cc)
     by_plan _ (plans.passes_by m way) is b at = absurd (let never : moves.opens t m k.request ≡ wait_it = is in cc)
-    by_plan _ (plans.fetches m way plain bypass) is b at = absurd (let never : moves.opens t m (fetched t k m) ≡ wait_it = is in cc)
-    by_plan _ (plans.joins why j) is b at = absurd (binds_waits why None (current t k.request.key) is)
-    by_plan _ (plans.reads why span j) is b at = absurd (binds_waits why (Some span) (current t k.request.key) is)
-    by_plan _ (plans.fills span hole j nobody) is b at = absurd (hole_waits k.request (current_row t k) hole is)
+    by_plan _ (plans.fetches m way plain bypass cached) is b at = absurd (let never : moves.opens t m (fetched t k m) ≡ wait_it = is in cc)
+    by_plan _ (plans.joins why cached j) is b at = absurd (binds_waits why None (current t k.request.key) is)
+    by_plan _ (plans.reads why span cached j) is b at = absurd (binds_waits why (Some span) (current t k.request.key) is)
+    by_plan _ (plans.fills span hole cached j nobody) is b at = absurd (hole_waits k.request (current_row t k) hole is)
 
     answer_waits : (y : ℕ) (w : Exchange) (o : Option Response) → shows_answer t y w o ≡ Some wait_it → ⊥
     answer_waits y w None is = cc

@@ -210,8 +210,8 @@ module _ (limits : Limits) (t : Tables) (now : ℕ) (flaw : Flaw) (s : Sound t) 
 
     awaits_by : Way t now c k p.need → IsAwaiting p.x (exchange_opened t e p) stands_at
     awaits_by (opened.passes_by free way) = owners.direct way (free_place route.Direct free way)
-    awaits_by (opened.fetches free way) = owners.turn way (free_place route.Turn free way)
-    awaits_by (opened.fills r v span free way is there want_is) =
+    awaits_by (opened.fetches free way cached) = owners.turn way (free_place route.Turn free way)
+    awaits_by (opened.fills r v span hole free way is there want_is found need_is cached) =
         owners.hole r span.lo (Some span.hi) (by.FirstHole p.x) way (aim_is ∙ (aim_free t k.request.key k.place free ∙ is)) (free_place route.Hole free way ∙ first_place r v span is there want_is)
     awaits_by (opened.goes_on r lo hi how at way) =
         owners.hole r lo hi how way (aim_is ∙ ap (aim_from t k.request.key) at) (bound_place r lo hi how at)

@@ -382,27 +382,22 @@ BarrierBegins = (contents : Contents) → AreNumbered contents → IsBarred cont
 
 -- IN RUNS
 
--- the runs from one beginning are sound
-abbrev pub AreSound : Limits → Contents → Type 0
-AreSound limits contents =
-    (h : History) → IsRun limits contents h → Sound (tables contents h)
-
--- of each run from there
-abbrev pub TurnsInRuns : Type 0
-TurnsInRuns =
-    (limits : Limits) (contents : Contents) → AreSound limits contents → (h : History) →
-    IsRun limits contents h → HasOneTurn (tables contents h)
-
+-- what isn't gone is behind the last doom of its key, in each run from contents by which a store may begin
 abbrev pub DoomsInRuns : Type 0
 DoomsInRuns =
-    (limits : Limits) (contents : Contents) → AreSound limits contents → AreNumbered contents →
-    (h : History) → IsRun limits contents h → IsBehindDooms contents h
+    (limits : Limits) (contents : Contents) (h : History) → may_begin limits contents ≡ true →
+    IsRun limits contents h → IsBehindDooms contents h
 
+-- each accepted entry of such a run leaves what is of other keys
 abbrev pub KeysInRuns : Type 0
 KeysInRuns =
-    (limits : Limits) (contents : Contents) → AreSound limits contents → (h : History) (e : Entry) →
-    IsRun limits contents (e ∷ h) → is_denied e.acts ≡ false →
+    (limits : Limits) (contents : Contents) (h : History) (e : Entry) →
+    may_begin limits contents ≡ true → IsRun limits contents (e ∷ h) → is_denied e.acts ≡ false →
     KeepsOthers (tables contents h) (tables contents (e ∷ h)) e
+
+-- what a body has stays, at each entry of such a run
+abbrev pub BodiesGrowInRuns : Type 0
+BodiesGrowInRuns = (limits : Limits) (contents : Contents) → BodiesGrow limits contents
 
 -- RECORDS ARE TRUTHFUL
 

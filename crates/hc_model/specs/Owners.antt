@@ -37,11 +37,12 @@ pub data IsPast (t : Tables) (x : ℕ) (k : Consumer) : Type 0 where
   waits : (w : Exchange) → k.own ≡ Some x → t.exchange x ≡ Some w → w.is_open ≡ true →
       w.head ≡ None → IsPast t x k
 
--- the request of an exchange is of the key of its consumer's
+-- the request of an exchange is of the key and the method of its consumer's
 pub record IsOpener (t : Tables) (w : Exchange) : Type 0 where
   pub k : Consumer
   pub row : t.consumer w.c ≡ Some k
   pub key_is : w.request.key ≡ k.request.key
+  pub method_is : w.request.method ≡ k.request.method
   pub plain : w.need ≡ need.Validate → is_bypassing k.request ≡ false
 
 -- it was opened for this consumer

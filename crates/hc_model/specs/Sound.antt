@@ -163,7 +163,7 @@ pub record IsSoundRepresentation (t : Tables) (r : ℕ) (v : Representation) : T
   pub growing : (x : ℕ) → is_written t v ≡ true → v.writer ≡ Some x →
       (w : Exchange) × IsGrowing t r v x w
 
--- who goes on alone reads up to the front of its exchange, and nothing that isn't stored stands past that
+-- who goes on alone, as long as no failure is due to it, reads up to the front of its exchange, and nothing that isn't stored stands past that
 pub record IsAlone (t : Tables) (v : Representation) (k : Consumer) : Type 0 where
   pub x : ℕ
   pub w : Exchange
@@ -198,7 +198,7 @@ pub record Sound (t : Tables) : Type 0 where
   pub unshown : (c r lo : ℕ) (hi : Option ℕ) (by : BoundBy) (k : Consumer) →
       t.consumer c ≡ Some k → k.place ≡ place.Bound r lo hi by → k.shown ≡ false → IsToBeShown t k by
   pub alone : (r c : ℕ) (v : Representation) (k : Consumer) → t.representation r ≡ Some v →
-      v.alone ≡ Some c → IsBound t r c k → IsAlone t v k
+      v.alone ≡ Some c → IsBound t r c k → k.due ≡ None → IsAlone t v k
 
 abbrev pub RunsAreSound : Type 0
 RunsAreSound =

@@ -2,14 +2,24 @@
 ghost use Rattle.hc_model.specs.Histories.{RunsAreFiltered};
 ghost use Rattle.hc_model.specs.Reads.{OneHeadIsShown};
 ghost use Rattle.hc_model.specs.Keys.{LawOfOneKey, KeysAreKept, KeysBegin};
-ghost use Rattle.hc_model.specs.Laws.{SoundDeliversOnce, DeliveriesAreKept, BodiesAreKept, NumbersAreKept, NamesAreKept, OneCurrentIsKept, StoresAreKept, StartsAreSound, WholeIsWhole, AfterEach, AreBound, KnowEnds, OwnedAfterEach, AreToBeShown, OwedAfterEach, OwnersAreKnown, TurnsAreOne, TurnsAreKept, TurnsBegin, TurnsInRuns, KeysInRuns, BarrierIsKept, BarrierBegins, DoomsInRuns, TruncatedIsFront, CountsAreKept, TurnsGo, ReadersGo, CountsBegin, FewGiveWay, AreRead, AreUndue, ReadAbout, MeasuredAfterEach, BeginningsAreMeasured, AreGrowing, KeptByEntries, AreServed, AreHad, SurvivorsGoOn, BeginningsAreStarts, AfterDenials};
+ghost use Rattle.hc_model.specs.Laws.{SoundDeliversOnce, DeliveriesAreKept, BodiesAreKept, NumbersAreKept, NamesAreKept, OneCurrentIsKept, StoresAreKept, StartsAreSound, WholeIsWhole, AfterEach, AreBound, KnowEnds, OwnedAfterEach, AreToBeShown, OwedAfterEach, OwnersAreKnown, TurnsAreOne, TurnsAreKept, TurnsBegin, HasOneTurn, KeysInRuns, BarrierIsKept, BarrierBegins, DoomsInRuns, TruncatedIsFront, CountsAreKept, TurnsGo, ReadersGo, CountsBegin, FewGiveWay, AreRead, AreUndue, ReadAbout, MeasuredAfterEach, BeginningsAreMeasured, AreGrowing, KeptByEntries, AreServed, AreHad, SurvivorsGoOn, BeginningsAreStarts, AfterDenials, OfRuns, DeliversOnce, BodiesGrowInRuns};
 ghost use Rattle.hc_model.specs.Owners.{Owners};
 ghost use Rattle.hc_model.specs.Measures.{Measures};
-ghost use Rattle.hc_model.specs.Sound.{OneFirst, Sound};
+ghost use Rattle.hc_model.specs.Sound.{OneFirst, Sound, RunsAreSound};
 
-/// Delivered once: where a piece is accepted, none of its positions has come; what shows this holds
-/// again after each accepted event, whatever the store loses; and what has come of a body stays.
+/// What shows the other laws holds of the tables of every run, from contents by which a store may begin: they
+/// are sound, it is known whose each exchange is, and bodies are measured.
+pub fn runs_are_sound()
+    ensures sound { RunsAreSound }
+    ensures owned { OfRuns Owners }
+    ensures measured { OfRuns Measures }
+{}
+
+/// Delivered once, in every run: where a piece is accepted, none of its positions has come, and what a body
+/// has stays. What shows this holds again after each accepted event, whatever the store loses.
 pub fn deliveries_come_once()
+    ensures runs { OfRuns DeliversOnce }
+    ensures grow { BodiesGrowInRuns }
     ensures once { SoundDeliversOnce }
     ensures kept { DeliveriesAreKept }
     ensures stay { BodiesAreKept }
@@ -123,17 +133,17 @@ pub fn survivors_go_on()
     ensures { SurvivorsGoOn }
 {}
 
-/// Of a key at most one exchange of the turn waits for its head, and its consumer has the turn.
-/// What shows this holds from the beginning, and after each accepted entry of a run.
+/// Of a key at most one exchange of the turn waits for its head, and its consumer has the turn, in every
+/// run. What shows this holds from the beginning, and after each accepted entry.
 pub fn one_has_the_turn()
     ensures one { TurnsAreOne }
     ensures kept { TurnsAreKept }
     ensures begin { TurnsBegin }
-    ensures runs { TurnsInRuns }
+    ensures runs { OfRuns HasOneTurn }
 {}
 
-/// What isn't gone was opened after the last doom of its key, and so was what may still found.
-/// This holds from the beginning, and after each entry of a run.
+/// What isn't gone was opened after the last doom of its key, in every run. What shows this holds from the
+/// beginning, and after each entry.
 pub fn dooms_are_a_barrier()
     ensures kept { BarrierIsKept }
     ensures begin { BarrierBegins }

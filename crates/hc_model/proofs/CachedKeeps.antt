@@ -1,0 +1,151 @@
+-- Who waits for its head with the turn, or is bound, isn't past the store.
+use Rattle.std.proofs.Common.{◌≡◌, inl, inr, ℕ, true, false, Option, Some, None, refl, ap, sym, ◌∙◌, subst}
+use Rattle.hc_event.specs.Filters.{Opening, opening_in}
+use Rattle.hc_event.specs.declared.event.Event.{Event}
+use Rattle.hc_event.specs.declared.event.Event.TheVariants as event
+use Rattle.hc_event.specs.declared.event.Response.{Response}
+use Rattle.hc_rules.specs.declared.need.Route.TheVariants as route
+use Rattle.hc_rules.specs.declared.room.Limits.{Limits}
+use Rattle.hc_rules.specs.HeadCases.{head_case}
+use Rattle.hc_rules.specs.Needs.{route_of}
+use Rattle.hc_rules.specs.Requests.{is_disabled}
+use Rattle.hc_model.specs.declared.place.Place.{Place}
+use Rattle.hc_model.specs.declared.place.Place.TheVariants as place
+use Rattle.hc_model.specs.declared.place.BoundBy.{BoundBy}
+use Rattle.hc_model.specs.ActFilters.{has_loss}
+use Rattle.hc_model.specs.Cases.{case_at, head_view, is_founding}
+use Rattle.hc_model.specs.ConsumerRows.{consumer_after, consumer_made}
+use Rattle.hc_model.specs.Denials.{denial}
+use Rattle.hc_model.specs.Entries.{Entry}
+use Rattle.hc_model.specs.Flaws.{Flaw}
+use Rattle.hc_model.specs.Keys.{entry_of}
+use Rattle.hc_model.specs.Owners.{Owners, IsAwaiting}
+use Rattle.hc_model.specs.Owners as owners
+use Rattle.hc_model.specs.Reading.{reads}
+use Rattle.hc_model.specs.Rows.{Tables, Exchange, Consumer}
+use Rattle.hc_model.specs.Sound.{Sound}
+use Rattle.hc_model.specs.Tables.{after_accepted}
+use Rattle.hc_model.proofs.Beside.{IsBeside, is_cached_place}
+use Rattle.hc_model.proofs.BoundFrom.{BoundFrom, IsRow, bound_from}
+use Rattle.hc_model.proofs.BoundFrom as from
+use Rattle.hc_model.proofs.BoundKeeps.{planned_at, founding_is}
+use Rattle.hc_model.proofs.FirstKeeps.{case_is, is_new}
+use Rattle.hc_model.proofs.Forward as forward
+use Rattle.hc_model.proofs.FoundBy.{case_by}
+use Rattle.hc_model.proofs.OpenedAs as opened
+use Rattle.hc_model.proofs.OwnersKeep.{is_opened}
+use Rattle.hc_model.proofs.Pens.{same_row}
+use Rattle.hc_model.proofs.PieceKeeps.{eq_cases, some_inj}
+use Rattle.hc_model.proofs.TurnPlaces.{ComesFrom, IsPlain, is_after}
+use Rattle.hc_model.proofs.TurnPlaces as turn
+use Rattle.hc_model.proofs.UndueKeeps.{founds_way}
+use Rattle.hc_model.proofs.Waiters.{waiter_of}
+
+none_some : {A : Type 0} (a : A) → None ≡ Some a → ⊥
+none_some a is = cc
+
+false_true : false ≡ true → ⊥
+false_true h = cc
+
+-- who starts stands in the line
+starts_line : (c now : ℕ) (ev : Event) (u : Consumer) → consumer_made c now ev ≡ Some u → u.place ≡ place.Line
+starts_line c now (event.Start d request) u is = elim (eq_cases d c) [
+  | inl here ↦ sym (ap (λ (z : Consumer). z.place) (some_inj _ u (rw here.0 at is)))
+  | inr other ↦ absurd (none_some u (rw other.0 at is))
+]
+starts_line c now (event.Poll d want) u is = absurd (none_some u is)
+starts_line c now (event.Head x response) u is = absurd (none_some u is)
+starts_line c now (event.Piece x bytes) u is = absurd (none_some u is)
+starts_line c now (event.End x) u is = absurd (none_some u is)
+starts_line c now (event.Fault x) u is = absurd (none_some u is)
+starts_line c now (event.Cancel d) u is = absurd (none_some u is)
+starts_line c now (event.Doom key) u is = absurd (none_some u is)
+
+module _ (limits : Limits) (t : Tables) (now : ℕ) (flaw : Flaw) (s : Sound t) (o : Owners t) (i : IsBeside t) (ev : Event) (goes : denial t ev ≡ None) where
+  abbrev e : Entry
+  e = entry_of limits t now ev flaw
+
+  abbrev now_on : Tables
+  now_on = after_accepted t e
+
+  at_place : (c : ℕ) (k : Consumer) (p : Place) → t.consumer c ≡ Some k → k.place ≡ p → is_cached_place p ≡ true → is_disabled k.request ≡ false
+  at_place c k p row at on = i.cached c k row (ap is_cached_place at ∙ on)
+
+  -- WHAT IS OPENED
+
+  by_way : (p : Opening) (k : Consumer) → t.consumer p.c ≡ Some k → (route_of p.need ≡ route.Direct → ⊥) → opened.Way t now p.c k p.need → is_disabled k.request ≡ false
+  by_way p k row past (opened.passes_by free way) = absurd (past way)
+  by_way p k row past (opened.fetches free way cached) = cached
+  by_way p k row past (opened.fills r v span hole free way is there wanted found need_is cached) = cached
+  by_way p k row past (opened.goes_on r lo hi how at way) = at_place p.c k (place.Bound r lo hi how) row at refl
+
+  opens_cached : (p : Opening) (c : ℕ) (k : Consumer) → opening_in e.acts ≡ Some p → p.c ≡ c → t.consumer c ≡ Some k → (route_of p.need ≡ route.Direct → ⊥) → is_disabled k.request ≡ false
+  opens_cached p c k is mine row past =
+      let by_poll = is_opened limits t now flaw s o ev goes p is in
+      let one : by_poll.k ≡ k = same_row (t.consumer c) by_poll.k k (sym (ap t.consumer mine) ∙ by_poll.row) row in
+      sym (ap (λ (z : Consumer). is_disabled z.request) one) ∙ by_way p by_poll.k by_poll.row past by_poll.way.way
+
+  -- WITH THE TURN
+
+  turn_from : (c : ℕ) (k : Consumer) (p : Place) → t.consumer c ≡ Some k → ComesFrom t e c k p → (x : ℕ) → p ≡ place.Turn x → is_disabled k.request ≡ false
+  turn_from c k _ row turn.kept x at = at_place c k (place.Turn x) row at refl
+  turn_from c k p row (turn.plain _ is) x at = absurd (subst IsPlain at is)
+  turn_from c k _ row (turn.turned p is mine way) x at = opens_cached p c k is mine row (λ past. let no : route.Turn ≡ route.Direct = sym way ∙ past in cc)
+  turn_from c k _ row (turn.first_of p r lo hi is mine way) x at = absurd (let no : place.Bound r lo hi _ ≡ place.Turn x = at in cc)
+  turn_from c k _ row (turn.busy d r keeps waits is) x at = absurd (let no : place.Passed r keeps ≡ place.Turn x = at in cc)
+  turn_from c k _ row (turn.validated y r response w here exchange_row mine is aim) x at = absurd (let no : place.Passed r (Some y) ≡ place.Turn x = at in cc)
+
+  -- BOUND
+
+  awaits_cached : (c x : ℕ) (k : Consumer) (w : Exchange) → t.consumer c ≡ Some k → (route_of w.need ≡ route.Direct → ⊥) → IsAwaiting x w k.place → is_disabled k.request ≡ false
+  awaits_cached c x k w row past (owners.direct way at) = absurd (past way)
+  awaits_cached c x k w row past (owners.turn way at) = at_place c k (place.Turn x) row at refl
+  awaits_cached c x k w row past (owners.hole r lo hi how way aim at) = at_place c k (place.Bound r lo hi how) row at refl
+
+  founds_cached : (c x : ℕ) (response : Response) (w : Exchange) (k : Consumer) → ev ≡ event.Head x response → t.exchange x ≡ Some w → w.c ≡ c → t.consumer c ≡ Some k → is_founding (case_at t e) ≡ true → is_disabled k.request ≡ false
+  founds_cached c x response w k here exchange_row mine row founding =
+      let new = is_new limits t now flaw s ev goes x response w here exchange_row in
+      let got = waiter_of limits t now flaw s o ev goes x w exchange_row new.is_open new.bare in
+      let one : got.0 ≡ k = same_row (t.consumer c) got.0 k (sym (ap t.consumer mine) ∙ got.1.row) row in
+      let view = head_view t (has_loss e.acts) w response in
+      awaits_cached c x k w row (founds_way t (has_loss e.acts) w response (head_case view) (case_by view) (sym (ap is_founding (case_is t e x response w here exchange_row)) ∙ founding)) (subst (λ (z : Consumer). IsAwaiting x w z.place) one got.1.at)
+
+  bound_cached : (c r lo : ℕ) (hi : Option ℕ) (how : BoundBy) (u k : Consumer) → t.consumer c ≡ Some k → BoundFrom t e c r lo hi how u → is_disabled k.request ≡ false
+  bound_cached c r lo hi how u k there (from.stays z row at) = by_row z row.row (at_place c z (place.Bound r lo hi how) row.row at refl)
+    where
+      by_row : (z : Consumer) → t.consumer c ≡ Some z → is_disabled z.request ≡ false → is_disabled k.request ≡ false
+      by_row z row is = sym (ap (λ (q : Consumer). is_disabled q.request) (same_row (t.consumer c) z k row there)) ∙ is
+  bound_cached c r lo hi how u k there (from.founds z x response w row here exchange_row mine of_r by_is all) =
+      founds_cached c x response w k here exchange_row mine there (founding_is t e c r lo hi how x response w z (case_at t e) all)
+  bound_cached c r lo hi how u k there (from.opens z p row opens mine free way hole) =
+      opens_cached p c k opens mine there (λ past. let no : route.Hole ≡ route.Direct = sym way ∙ past in cc)
+  bound_cached c r lo hi how u k there (from.shows z p row is all) =
+      let planned = planned_at limits t now flaw s ev goes p z (ap t.consumer all.at ∙ row.row) is (subst (λ d. reads (Rattle.hc_model.specs.ConsumerRows.by_opening t d (opening_in e.acts) (Rattle.hc_model.specs.ConsumerRows.waiting t e d (Rattle.hc_model.specs.ConsumerRows.consumer_heard t e d ev z))).place ≡ false) (sym all.at) all.free) in
+      sym (ap (λ (q : Consumer). is_disabled q.request) (same_row (t.consumer c) z k row.row there)) ∙ planned.cached
+
+  -- EITHER
+
+  was_cached : (c : ℕ) (k u : Consumer) (p : Place) → t.consumer c ≡ Some k → now_on.consumer c ≡ Some u → u.place ≡ p → is_cached_place p ≡ true → is_disabled k.request ≡ false
+  was_cached c k u (place.Turn x) row after at on = turn_from c k u.place row (is_after t e c k u row after).from x at
+  was_cached c k u (place.Bound r lo hi how) row after at on = bound_cached c r lo hi how u k row (bound_from t e c r lo hi how (t.consumer c) u refl after at)
+  was_cached c k u place.Line row after at on = absurd (false_true on)
+  was_cached c k u (place.Passed r kept) row after at on = absurd (false_true on)
+  was_cached c k u (place.Direct x) row after at on = absurd (false_true on)
+  was_cached c k u (place.Down why) row after at on = absurd (false_true on)
+  was_cached c k u place.Over row after at on = absurd (false_true on)
+
+  made_not : (c : ℕ) (u : Consumer) → t.consumer c ≡ None → now_on.consumer c ≡ Some u → is_cached_place u.place ≡ true → ⊥
+  unfolding consumer_after
+  made_not c u none after on =
+      let made : consumer_made c now ev ≡ Some u = ap (consumer_after t e c) (sym none) ∙ after in
+      false_true (sym (ap is_cached_place (starts_line c now ev u made)) ∙ on)
+
+  by_row : (c : ℕ) (u : Consumer) (z : Option Consumer) → t.consumer c ≡ z → now_on.consumer c ≡ Some u → is_cached_place u.place ≡ true → is_disabled u.request ≡ false
+  by_row c u None row after on = absurd (made_not c u row after on)
+  by_row c u (Some k) row after on =
+      let kept = forward.is_kept t e c k row in
+      let one : kept.u ≡ u = same_row (now_on.consumer c) kept.u u kept.row after in
+      ap is_disabled (sym (ap (λ (q : Consumer). q.request) one) ∙ kept.request_is) ∙ was_cached c k u u.place row after refl on
+
+  pub cached_kept : (c : ℕ) (u : Consumer) → now_on.consumer c ≡ Some u → is_cached_place u.place ≡ true → is_disabled u.request ≡ false
+  cached_kept c u after on = by_row c u (t.consumer c) refl after on

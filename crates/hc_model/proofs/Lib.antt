@@ -123,3 +123,6 @@ pub mod GoAlone
 pub mod BesideKeeps
 pub mod SoundRuns
 pub mod GrowsInRuns
+pub mod BusyPlans
+pub mod Unknowns
+pub mod WaitsInRuns

@@ -55,7 +55,7 @@ ends_tight n a x (run ∷ runs) good ends =
     by_side run (inl before) bytes (inr here) again = absurd (omega arith)
     by_side run (inr past) bytes (inr here) again = absurd (omega arith)
 
-abbrev of_number : ℕ → Content → Bool
+abbrev pub of_number : ℕ → Content → Bool
 of_number r item = item.r == r
 
 -- what is asked of the runs of an item
@@ -109,6 +109,10 @@ module _ (limits : Limits) (contents : Contents) where
         let at : last_end item.runs ≡ v.reach = ap (λ (q : Representation). q.reach) same in
         let most : last_end item.runs ≤ total = kind_within item total item.head.total (ap (λ (q : Representation). q.head.total) same ∙ known) l.right in
         omega arith
+
+    -- its length is known, and its kind is that of its runs
+    pub known_item : (r : ℕ) (item : Content) → find (of_number r) contents.items ≡ Some item → is_kind_right item item.head.total ≡ true
+    known_item r item found = (laid r item [] contents.items good found).right
 
     -- What a store may begin with is measured.
     pub measures_begin : Measures (begun contents)

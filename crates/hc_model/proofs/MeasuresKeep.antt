@@ -84,7 +84,7 @@ fits_by : (o : Option Asked) (response : Response) → fits_to_found o response 
 fits_by None response h = absurd (false_true h)
 fits_by (Some asked) response h = part_by asked response (content_range_of response.fields) refl (and_right _ _ h)
 
-asker_by : (o : Option Consumer) (response : Response) → fits_asker o response ≡ true → IsPart response
+pub asker_by : (o : Option Consumer) (response : Response) → fits_asker o response ≡ true → IsPart response
 asker_by None response h = absurd (false_true h)
 asker_by (Some k) response h = fits_by (range_of k.request) response h
 

@@ -25,6 +25,7 @@ use Rattle.hc_model.specs.Polls.{shows_at, move_of}
 use Rattle.hc_model.specs.Reading.{is_written, bound, bound_to, reads}
 use Rattle.hc_model.specs.Rows.{Tables, Representation, Consumer}
 use Rattle.hc_model.specs.Sound.{Sound}
+use Rattle.hc_model.specs.Writers.{exclusive}
 use Rattle.hc_model.proofs.MoveBy.{MoveBy, IsHeard, move_by}
 use Rattle.hc_model.proofs.MoveBy as by
 use Rattle.hc_model.proofs.PieceKeeps.{some_inj}
@@ -46,6 +47,7 @@ pub record IsCandidate (t : Tables) (k : Consumer) (s : Candidate) : Type 0 wher
   pub hole_is : s.hole ≡ hole_of v s.span
   pub writing_is : s.writing ≡ is_written t v
   pub least_is : s.least_bound ≡ least (bound t r)
+  pub exclusive_is : s.exclusive ≡ exclusive t r v
 
 none_some : {A : Type 0} (a : A) → None ≡ Some a → ⊥
 none_some a is = cc
@@ -64,6 +66,7 @@ module _ (t : Tables) (now c : ℕ) (k : Consumer) where
         hole_is = sym (ap (λ (z : Candidate). z.hole) same) ∙ ap (λ (z : Candidate). hole_of v z.span) same;
         writing_is = sym (ap (λ (z : Candidate). z.writing) same);
         least_is = sym (ap (λ (z : Candidate). z.least_bound) same);
+        exclusive_is = sym (ap (λ (z : Candidate). z.exclusive) same);
       }
 
   by_current : (o : Option ℕ) (s : Candidate) → current t k.request.key ≡ o → (plan_view t now c k).current ≡ Some s → IsCandidate t k s

@@ -9,6 +9,7 @@ use Rattle.hc_event.specs.declared.act.Wait.{Wait}
 use Rattle.hc_event.specs.declared.act.Wait.TheVariants as wait
 use Rattle.hc_event.specs.declared.act.Why.{Why}
 use Rattle.hc_rules.specs.declared.plan.Plan.{Plan}
+use Rattle.hc_rules.specs.declared.plan.Plan.TheVariants as plan
 use Rattle.hc_rules.specs.declared.reading.ReadStep.{ReadStep}
 use Rattle.hc_rules.specs.declared.reading.ReadStep.TheVariants as step
 use Rattle.hc_rules.specs.Plans.{plan_of}
@@ -46,12 +47,18 @@ unfolding class_of
 bypassing_is request = refl
 
 module _ (t : Tables) (now c : ℕ) (k : Consumer) where
+  -- its plan is to wait behind d
+  pub record IsBusy (d : ℕ) : Type 0 where
+    pub kept : Option ℕ
+    pub is : plan_of (plan_view t now c k) ≡ plan.Busy d kept
+
   pub record WaitedAs (z : Wait) : Type 0 where
     pub heard : IsHeard t k
     pub free : bound_to k.place ≡ None
     pub unshown : k.shown ≡ false
     pub none : shows_at t k k.place ≡ None
     pub plain : (d : ℕ) → z ≡ wait.Busy d → is_bypassing k.request ≡ false
+    pub plan_is : (d : ℕ) → z ≡ wait.Busy d → IsBusy d
 
   module _ (z : Wait) (others : IsForOthers z) where
     abbrev wait_it : Move
@@ -115,6 +122,19 @@ module _ (t : Tables) (now c : ℕ) (k : Consumer) where
     by_plan _ (plans.reads why span cached j) is b at = absurd (binds_waits why (Some span) (current t k.request.key) is)
     by_plan _ (plans.fills span hole cached j nobody) is b at = absurd (hole_waits k.request (current_row t k) hole is)
 
+    busy_at : (p : Plan) → PlanBy (plan_view t now c k) p → plan_move t k p ≡ wait_it → (d : ℕ) → z ≡ wait.Busy d → (kept : Option ℕ) × (p ≡ plan.Busy d kept)
+    busy_at _ (plans.turn d) is b at = absurd (let same : wait.Turn d ≡ wait.Busy b = wait_inj (wait.Turn d) is ∙ at in cc)
+    busy_at _ (plans.busy d kept plain) is b at = let same : wait.Busy d ≡ wait.Busy b = wait_inj (wait.Busy d) is ∙ at in let number : d ≡ b = cc in (kept, ap (λ n. plan.Busy n kept) number)
+    busy_at _ plans.misses is b at = absurd (let never : Fails cause.Miss ≡ wait_it = is in cc)
+    busy_at _ (plans.passes_by m way) is b at = absurd (let never : moves.opens t m k.request ≡ wait_it = is in cc)
+    busy_at _ (plans.fetches m way plain bypass cached) is b at = absurd (let never : moves.opens t m (fetched t k m) ≡ wait_it = is in cc)
+    busy_at _ (plans.joins why cached j) is b at = absurd (binds_waits why None (current t k.request.key) is)
+    busy_at _ (plans.reads why span cached j) is b at = absurd (binds_waits why (Some span) (current t k.request.key) is)
+    busy_at _ (plans.fills span hole cached j nobody) is b at = absurd (hole_waits k.request (current_row t k) hole is)
+
+    busy_is : plan_move t k (plan_of (plan_view t now c k)) ≡ wait_it → (d : ℕ) → z ≡ wait.Busy d → IsBusy d
+    busy_is is d at = let all = busy_at (plan_of (plan_view t now c k)) (plan_by (plan_view t now c k)) is d at in record { kept = all.0; is = all.1 }
+
     answer_waits : (y : ℕ) (w : Exchange) (o : Option Response) → shows_answer t y w o ≡ Some wait_it → ⊥
     answer_waits y w None is = cc
     answer_waits y w (Some response) is = cc
@@ -146,7 +166,7 @@ module _ (t : Tables) (now c : ℕ) (k : Consumer) where
     by_move want _ (by.down why at) is = absurd (let never : Fails why ≡ wait_it = is in cc)
     by_move want _ (by.over at) is = absurd (let never : Nothing ≡ wait_it = is in cc)
     by_move want _ (by.reads shown heard) is = absurd (step_waits want (read_step (read_view t want c k)) is)
-    by_move want _ (by.plans shown free none heard) is = record { heard = heard; free = free; unshown = shown; none = none; plain = by_plan (plan_of (plan_view t now c k)) (plan_by (plan_view t now c k)) is }
+    by_move want _ (by.plans shown free none heard) is = record { heard = heard; free = free; unshown = shown; none = none; plain = by_plan (plan_of (plan_view t now c k)) (plan_by (plan_view t now c k)) is; plan_is = busy_is is }
 
     by_as : (m : Move) → WaitsAs z m → m ≡ wait_it
     by_as _ said.waits = refl

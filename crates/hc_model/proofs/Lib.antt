@@ -126,3 +126,7 @@ pub mod GrowsInRuns
 pub mod BusyPlans
 pub mod Unknowns
 pub mod WaitsInRuns
+pub mod Sums
+pub mod Weighed
+pub mod FitsKept
+pub mod FitsRuns

@@ -399,6 +399,13 @@ KeysInRuns =
 abbrev pub BodiesGrowInRuns : Type 0
 BodiesGrowInRuns = (limits : Limits) (contents : Contents) → BodiesGrow limits contents
 
+-- all that is stored fits, and few give way, in every run
+abbrev pub FitsInRuns : Type 0
+FitsInRuns = (limits : Limits) (contents : Contents) → FitsLimit limits contents
+
+abbrev pub FewInRuns : Type 0
+FewInRuns = (limits : Limits) (contents : Contents) → EvictsFew limits contents
+
 -- RECORDS ARE TRUTHFUL
 
 -- a piece ends where positions do at the latest

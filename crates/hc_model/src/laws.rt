@@ -2,7 +2,7 @@
 ghost use Rattle.hc_model.specs.Histories.{RunsAreFiltered};
 ghost use Rattle.hc_model.specs.Reads.{OneHeadIsShown};
 ghost use Rattle.hc_model.specs.Keys.{LawOfOneKey, KeysAreKept, KeysBegin};
-ghost use Rattle.hc_model.specs.Laws.{SoundDeliversOnce, DeliveriesAreKept, BodiesAreKept, NumbersAreKept, NamesAreKept, OneCurrentIsKept, StoresAreKept, StartsAreSound, WholeIsWhole, AfterEach, AreBound, KnowEnds, OwnedAfterEach, AreToBeShown, OwedAfterEach, OwnersAreKnown, TurnsAreOne, TurnsAreKept, TurnsBegin, HasOneTurn, KeysInRuns, BarrierIsKept, BarrierBegins, DoomsInRuns, TruncatedIsFront, CountsAreKept, TurnsGo, ReadersGo, CountsBegin, FewGiveWay, AreRead, AreUndue, ReadAbout, MeasuredAfterEach, BeginningsAreMeasured, AreGrowing, KeptByEntries, AreServed, AreHad, SurvivorsGoOn, BeginningsAreStarts, AfterDenials, OfRuns, DeliversOnce, BodiesGrowInRuns, WaitsEnd};
+ghost use Rattle.hc_model.specs.Laws.{SoundDeliversOnce, DeliveriesAreKept, BodiesAreKept, NumbersAreKept, NamesAreKept, OneCurrentIsKept, StoresAreKept, StartsAreSound, WholeIsWhole, AfterEach, AreBound, KnowEnds, OwnedAfterEach, AreToBeShown, OwedAfterEach, OwnersAreKnown, TurnsAreOne, TurnsAreKept, TurnsBegin, HasOneTurn, KeysInRuns, BarrierIsKept, BarrierBegins, DoomsInRuns, TruncatedIsFront, CountsAreKept, TurnsGo, ReadersGo, CountsBegin, FewGiveWay, AreRead, AreUndue, ReadAbout, MeasuredAfterEach, BeginningsAreMeasured, AreGrowing, KeptByEntries, AreServed, AreHad, SurvivorsGoOn, BeginningsAreStarts, AfterDenials, OfRuns, DeliversOnce, BodiesGrowInRuns, WaitsEnd, FitsInRuns, FewInRuns};
 ghost use Rattle.hc_model.specs.Owners.{Owners};
 ghost use Rattle.hc_model.specs.Measures.{Measures};
 ghost use Rattle.hc_model.specs.Sound.{OneFirst, Sound, RunsAreSound};
@@ -168,10 +168,12 @@ pub fn some_go_on()
     ensures reader { ReadersGo }
 {}
 
-/// An entry evicts at most two, where what is stored before it fits the limit: a piece has at
-/// most twice what a slot weighs.
+/// What is stored fits the limit in every run, and an entry evicts at most two: a piece has at most twice what
+/// a slot weighs. The latter holds wherever what is stored before it fits.
 pub fn few_give_way()
-    ensures { FewGiveWay }
+    ensures fits { FitsInRuns }
+    ensures runs { FewInRuns }
+    ensures few { FewGiveWay }
 {}
 
 /// A denied entry leaves sound tables sound, owners known and bodies measured.

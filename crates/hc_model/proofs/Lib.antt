@@ -130,3 +130,4 @@ pub mod Sums
 pub mod Weighed
 pub mod FitsKept
 pub mod FitsRuns
+pub mod TruthRuns

@@ -114,6 +114,10 @@ module _ (limits : Limits) (contents : Contents) where
     pub known_item : (r : ℕ) (item : Content) → find (of_number r) contents.items ≡ Some item → is_kind_right item item.head.total ≡ true
     known_item r item found = (laid r item [] contents.items good found).right
 
+    -- its runs rise without overlap
+    pub rising_item : (r : ℕ) (item : Content) → find (of_number r) contents.items ≡ Some item → ascend_from 0 0 item.runs ≡ true
+    rising_item r item found = (laid r item [] contents.items good found).rise
+
     -- What a store may begin with is measured.
     pub measures_begin : Measures (begun contents)
     measures_begin = record {

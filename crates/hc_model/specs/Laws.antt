@@ -30,7 +30,7 @@ use Rattle.hc_model.specs.Reading.{is_written, bound, own_open}
 use Rattle.hc_model.specs.Writers.{came_alone, loses_writing, survivor}
 use Rattle.hc_model.specs.Dooms.{doomed, is_key}
 use Rattle.hc_model.specs.Lines.{turn}
-use Rattle.hc_model.specs.Tables.{tables, begun, after_accepted, after_denied}
+use Rattle.hc_model.specs.Tables.{tables, begun, after_accepted, after_denied, last_end}
 use Rattle.hc_model.specs.Denials.{denial}
 use Rattle.hc_model.specs.Moves.{Move}
 use Rattle.hc_model.specs.Moves as move
@@ -427,6 +427,18 @@ CountsBegin =
     (contents : Contents) →
     ((r : ℕ) (item : Content) → item_of contents r ≡ Some item → ascend 0 item.runs ≡ true) →
     IsCounted (begun contents)
+
+-- the store began with nothing past where positions end, and no piece ends past that
+abbrev pub EndInTime : Contents → History → Type 0
+EndInTime contents [] =
+    (r : ℕ) (item : Content) → item_of contents r ≡ Some item → last_end item.runs ≤ 2 ^ 62
+EndInTime contents (e ∷ h) = EndInTime contents h × EndsInTime (tables contents h) e.event
+
+-- records are truthful in every run whose positions end in time
+abbrev pub TruthInRuns : Type 0
+TruthInRuns =
+    (limits : Limits) (contents : Contents) (h : History) → may_begin limits contents ≡ true →
+    IsRun limits contents h → EndInTime contents h → IsTruthful (tables contents h)
 
 -- What is called truncated has some first positions and no other.
 abbrev pub TruncatedIsFront : Type 0

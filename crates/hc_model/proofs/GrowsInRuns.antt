@@ -134,7 +134,7 @@ module _ (limits : Limits) (t : Tables) (now : ℕ) (flaw : Flaw) (s : Sound t) 
   cell_grows r p None cell row h = direct_grows r p (t.exchange r) cell row refl h
   cell_grows r p (Some v) cell row h = kept_grows r p v (now_on.representation r) cell row refl h
 
-  grows : Grows t now_on
+  pub grows : Grows t now_on
   grows r at x bytes delivers n lt = cell_grows r (at + n) (t.representation r) (record { byte = slice_index bytes n; x = x }) refl (delivers n lt)
 
 denied_grows : (t : Tables) (e : Entry) → Grows t (after_denied t e)

@@ -131,3 +131,10 @@ pub mod Weighed
 pub mod FitsKept
 pub mod FitsRuns
 pub mod TruthRuns
+pub mod GivenNext
+pub mod PastApart
+pub mod PollActs
+pub mod ShownStays
+pub mod AsideKeeps
+pub mod ReadAs
+pub mod ReadJoined

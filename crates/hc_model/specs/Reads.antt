@@ -18,6 +18,7 @@ use Rattle.hc_model.specs.Currents.{is_number}
 use Rattle.hc_model.specs.Cases.{case_at}
 use Rattle.hc_model.specs.Reading.{end_in}
 use Rattle.hc_model.specs.Tables.{tables}
+use Rattle.hc_model.specs.Beginnings.{may_begin}
 use Rattle.hc_model.specs.Runs.{IsRun}
 use Rattle.hc_model.specs.Histories.{Opened, Shown, request_of, opening_of, shown_in, shown_of, given_of, joined_of}
 
@@ -164,7 +165,13 @@ pub record ReadsWhole (contents : Contents) (h : History) : Type 0 where
   pub acts : ReadsEach contents h
   pub bodies : (c : ℕ) → ReadsBody contents h c
 
+-- what a consumer was given, joined, is of the body that it was shown, in every run from contents by which a store may begin
+abbrev pub BodiesAreRead : Type 0
+BodiesAreRead =
+    (limits : Limits) (contents : Contents) (h : History) → may_begin limits contents ≡ true →
+    IsRun limits contents h → (c : ℕ) → ReadsBody contents h c
+
 abbrev pub RunsReadWhole : Type 0
 RunsReadWhole =
-    (limits : Limits) (contents : Contents) (h : History) → IsRun limits contents h →
-    ReadsWhole contents h
+    (limits : Limits) (contents : Contents) (h : History) → may_begin limits contents ≡ true →
+    IsRun limits contents h → ReadsWhole contents h

@@ -138,3 +138,4 @@ pub mod ShownStays
 pub mod AsideKeeps
 pub mod ReadAs
 pub mod ReadJoined
+pub mod ReadNext

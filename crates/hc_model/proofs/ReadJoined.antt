@@ -1,6 +1,6 @@
 -- What a consumer was given over a run, joined, is the body of what it was shown, from where it was shown it.
 use Rattle.std.proofs.Common.{◌≡◌, inl, inr, ℕ, zero, suc, ◌+◌, ◌-◌, ◌<◌, ◌≤◌, List, [], ◌∷◌, ◌++◌, length, Bool, true, false, Option, Some, None, refl, ap, sym, ◌∙◌, subst, arith, length-append}
-use Rattle.std.specs.Prelude.{slice_index, nat_lt, not}
+use Rattle.std.specs.Prelude.{IfSome, slice_index, nat_lt, not}
 use Rattle.std.specs.Option.{option_map_or}
 use Rattle.std.proofs.Math.ListN.{get_or-append}
 use Rattle.std.proofs.Math.Seq.{get_or-append_right}
@@ -25,7 +25,7 @@ use Rattle.hc_model.specs.Moves.{Move, Gives, Nothing, Fails}
 use Rattle.hc_event.specs.declared.act.Wait.TheVariants as wait
 use Rattle.hc_model.specs.Owners.{Owners}
 use Rattle.hc_model.specs.Polls.{move_of}
-use Rattle.hc_model.specs.Reading.{reads, lo_of}
+use Rattle.hc_model.specs.Reading.{reads, hi_of, lo_of}
 use Rattle.hc_model.specs.Reads.{Delivers, Holds, BodiesAreRead, body_of}
 use Rattle.hc_model.specs.Rows.{Tables, Consumer}
 use Rattle.hc_model.specs.Runs.{IsRun, IsOwed}
@@ -226,6 +226,15 @@ module _ (limits : Limits) (t : Tables) (now : ℕ) (flaw : Flaw) (s : Sound t) 
       pub at_is : run.at ≡ z.lo + length (given c)
       pub some : 0 < length run.bytes
       pub delivered : Delivers t z.r run.at run.x run.bytes
+      pub within : IfSome z.hi (λ hi. run.at + length run.bytes ≤ hi)
+
+    until : (o q : Option ℕ) (n : ℕ) → ((m : ℕ) → o ≡ Some m → q ≡ Some m) → IfSome q (λ hi. n ≤ hi) → IfSome o (λ hi. n ≤ hi)
+    until None q n to all = tt
+    until (Some m) q n to all = at_some q (to m refl) all
+      where
+        at_some : (p : Option ℕ) → p ≡ Some m → IfSome p (λ hi. n ≤ hi) → n ≤ m
+        at_some None is le = absurd (none_some m is)
+        at_some (Some hi) is le = let one : hi ≡ m = Rattle.hc_model.proofs.PieceKeeps.some_inj hi m is in omega arith
 
     pub next_of : (want : ℕ) (k : Consumer) (run : Run) (z : Shown) → ev ≡ event.Poll c want → t.consumer c ≡ Some k → move_of t now want c k ≡ Gives run → shown c ≡ z ∷ [] → IsNextOf z run
     next_of want k run z at row move was =
@@ -240,6 +249,7 @@ module _ (limits : Limits) (t : Tables) (now : ℕ) (flaw : Flaw) (s : Sound t) 
           at_is = omega arith;
           some = g.1.some;
           delivered = subst (λ r. Delivers t r run.at run.x run.bytes) number g.1.delivered;
+          within = until z.hi (hi_of t k.place) (run.at + length run.bytes) read.to g.1.within;
         }
 
     grown : Grows t now_on
@@ -267,11 +277,11 @@ module _ (limits : Limits) (t : Tables) (now : ℕ) (flaw : Flaw) (s : Sound t) 
     held = λ c z is. held_by c z is (to_one t now c limits flaw ev);
   }
 
-abbrev Joined : Contents → History → Type 0
+abbrev pub Joined : Contents → History → Type 0
 Joined contents h = IsJoined (tables contents h) (λ c. shown_of c h) (λ c. given_of c h)
 
 module _ (limits : Limits) (contents : Contents) (h : History) (run : IsRun limits contents h) where
-  abbrev t_run : Tables
+  abbrev pub t_run : Tables
   t_run = tables contents h
 
   shown_is : (c : ℕ) (q : Option Consumer) → t_run.consumer c ≡ q → option_map_or (λ (k : Consumer). not k.shown) q true ≡ true → shown_of c h ≡ []
@@ -279,7 +289,7 @@ module _ (limits : Limits) (contents : Contents) (h : History) (run : IsRun limi
       let all = (consumers_are_filtered limits contents h run).shown c in
       no_first (shown_of c h) (sym all ∙ (ap (λ (z : Option Consumer). option_map_or (λ (k : Consumer). not k.shown) z true) row ∙ off))
 
-  is_told : IsTold t_run (λ c. shown_of c h) (λ c. given_of c h)
+  pub is_told : IsTold t_run (λ c. shown_of c h) (λ c. given_of c h)
   is_told = record {
     absent = λ c row. shown_is c None row refl;
     unshown = λ c k row off. shown_is c (Some k) row (ap not off);
@@ -304,7 +314,7 @@ by_denial limits contents h e false accepted may run owed j =
     subst (λ u. IsJoined u (λ c. shown_of c (e ∷ h)) (λ c. given_of c (e ∷ h))) (next_tables contents h e accepted)
     (of_real limits t e (λ z. IsJoined (after_accepted t z) (λ c. shown_of c h ++ shown_in c z.acts) (λ c. given_of c h ++ given_in c z.acts)) owed accepted (λ going real. joined_on limits t e.now (flaw_in e.acts) k.is_sound k.is_owned e.event going (aside limits contents h may run) (λ c. shown_of c h) (λ c. given_of c h) (is_told limits contents h run) j))
 
-joined_in_runs : (limits : Limits) (contents : Contents) (h : History) → may_begin limits contents ≡ true → IsRun limits contents h → Joined contents h
+pub joined_in_runs : (limits : Limits) (contents : Contents) (h : History) → may_begin limits contents ≡ true → IsRun limits contents h → Joined contents h
 joined_in_runs limits contents [] may run = record { read = λ c k z row was on. absurd (nil_cons z [] was); held = λ c z was. absurd (nil_cons z [] was) }
 joined_in_runs limits contents (e ∷ h) may run = by_denial limits contents h e (is_denied e.acts) refl may run.0 run.1 (joined_in_runs limits contents h may run.0)
 

@@ -1,5 +1,5 @@
 -- What a consumer reads: one interval of the body of one representation, as its exchanges delivered it.
-use Rattle.std.specs.Prelude.{◌≡◌, ◌≢◌, ℕ, ◌+◌, ◌-◌, ◌≤◌, ◌<◌, List, [], ◌∷◌, ◌++◌, length, slice_index, Option, Some, None, IfSome, Bool, true, false, IsTrue, option_map, if◌then◌else◌, nat_le, nat_lt, ◌&&◌, ◌||◌, not}
+use Rattle.std.specs.Prelude.{◌≡◌, ◌≢◌, ◌⊎◌, ℕ, ◌+◌, ◌-◌, ◌≤◌, ◌<◌, List, [], ◌∷◌, ◌++◌, length, slice_index, Option, Some, None, IfSome, Bool, true, false, IsTrue, option_map, if◌then◌else◌, nat_le, nat_lt, ◌&&◌, ◌||◌, not}
 use Rattle.hc_sparse.specs.Cells.{Cell}
 use Rattle.hc_event.specs.Filters.{is_denied, given_in}
 use Rattle.hc_event.specs.declared.event.Request.{Request}
@@ -165,7 +165,21 @@ pub record ReadsWhole (contents : Contents) (h : History) : Type 0 where
   pub acts : ReadsEach contents h
   pub bodies : (c : ℕ) → ReadsBody contents h c
 
--- what a consumer was given, joined, is of the body that it was shown, in every run from contents by which a store may begin
+-- an act is among these
+abbrev pub Says : Act → List Act → Type 0
+Says act [] = ⊥
+Says act (other ∷ acts) = (other ≡ act) ⊎ Says act acts
+
+-- what a consumer is given is next in the body that it was shown, and within its end, in every run from contents by which a store
+-- may begin
+abbrev pub GivesNext : Type 0
+GivesNext =
+    (limits : Limits) (contents : Contents) (h : History) (e : Entry) →
+    may_begin limits contents ≡ true → IsRun limits contents (e ∷ h) →
+    (c x at : ℕ) (bytes : List ℕ) → Says (act.Given c x at bytes) e.acts →
+    ReadsAct contents h e.now [] (act.Given c x at bytes)
+
+-- and joined it is of that body
 abbrev pub BodiesAreRead : Type 0
 BodiesAreRead =
     (limits : Limits) (contents : Contents) (h : History) → may_begin limits contents ≡ true →

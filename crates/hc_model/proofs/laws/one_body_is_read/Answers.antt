@@ -1,5 +1,9 @@
 use Rattle.hc_model.proofs.ReadJoined.{bodies_are_read}
+use Rattle.hc_model.proofs.ReadNext.{gives_next}
 use Rattle.hc_model.proofs.laws.one_body_is_read.Goals as goal
 
-pub returns : goal.returns
-returns c = bodies_are_read
+pub returns-clause-joined : goal.returns-clause-joined
+returns-clause-joined c = bodies_are_read
+
+pub returns-clause-next : goal.returns-clause-next
+returns-clause-next c = gives_next

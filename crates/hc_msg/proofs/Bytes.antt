@@ -1,0 +1,187 @@
+-- Where bytes lead within heads, chunk lines and bodies.
+use Rattle.std.proofs.Common.{◌≡◌, ℕ, ◌+◌, ◌-◌, ◌<◌, ◌≤◌, ◌==◌, true, false, List, [], ◌∷◌, ◌++◌, length, take, refl, sym, ap, subst, ◌∙◌, arith, append_assoc, length-append, lt-ltb}
+use Rattle.std.specs.Prelude.{not, nat_lt, map}
+use Rattle.std.proofs.lemmas.Bool.{and_parts, ne_eqb, le-ltb}
+use Rattle.std.proofs.lemmas.List.{append-nil, take_at}
+use Rattle.hc_text.specs.Texts.{lacks}
+use Rattle.hc_msg.specs.declared.message.MsgError.TheVariants as error
+use Rattle.hc_msg.specs.declared.scan.Scan.{Scan}
+use Rattle.hc_msg.specs.declared.scan.Scan.TheVariants.{Before, BeforeReturn, Within, Beginning, BeginningReturn, Ended}
+use Rattle.hc_msg.specs.Scans.{scan_byte, scan_all, is_open, IsHeadEnd, IsLineBefore}
+use Rattle.hc_msg.specs.Reading.{Kind, Reading, Heading, Counts, Runs, Sizing, Chunk, Failed, Byte, Step, quiet, fails, counts, chunk, move_of, HeadMakes, LineMakes, Makes, Leads}
+use Rattle.hc_msg.specs.Finding.{IsLong, IsLongLine}
+use Rattle.hc_msg.proofs.ScanLemmas.{not_equal}
+use Rattle.hc_msg.proofs.Leading.{leads_on, leads_byte, stays_failed}
+
+open_before : (scan : Scan) (bytes : List ℕ) → is_open (scan_all scan bytes) ≡ true → is_open scan ≡ true
+open_before Before bytes h = refl
+open_before BeforeReturn bytes h = refl
+open_before Within bytes h = refl
+open_before Beginning bytes h = refl
+open_before BeginningReturn bytes h = refl
+open_before Ended [] h = h
+open_before Ended (b ∷ bytes) h = open_before Ended bytes h
+
+goes_in_head : (kind : Kind) (scan : Scan) (text : List ℕ) (b : ℕ) → length text < 32768 → is_open (scan_byte scan b) ≡ true
+    → Makes (move_of (Heading kind scan text) b) (quiet (Heading kind (scan_byte scan b) (text ++ b ∷ [])))
+unfolding move_of
+goes_in_head kind scan text b short still =
+    let small : nat_lt (length text) 32768 ≡ true = lt-ltb (length text) 32768 short in
+    rw (small, still) refl
+
+ends_head : (kind : Kind) (scan : Scan) (text : List ℕ) (b : ℕ) (step : Step) → length text < 32768 → is_open (scan_byte scan b) ≡ false → HeadMakes kind (text ++ b ∷ []) step
+    → Makes (move_of (Heading kind scan text) b) step
+unfolding move_of
+ends_head kind scan text b step short over h =
+    let small : nat_lt (length text) 32768 ≡ true = lt-ltb (length text) 32768 short in
+    rw (small, over) h
+
+passes_head : (kind : Kind) (scan : Scan) (text : List ℕ) (b : ℕ) → 32768 ≤ length text → Makes (move_of (Heading kind scan text) b) (fails error.HeadTooLong)
+unfolding move_of
+passes_head kind scan text b long =
+    let large : nat_lt (length text) 32768 ≡ false = le-ltb (length text) 32768 long in
+    rw large refl
+
+pub heading_on : (kind : Kind) (bytes : List ℕ) (scan : Scan) (text : List ℕ) → is_open (scan_all scan bytes) ≡ true → length text + length bytes ≤ 32768
+    → Leads (Heading kind scan text) bytes [] (Heading kind (scan_all scan bytes) (text ++ bytes))
+heading_on kind [] scan text still short = (refl, ap (Heading kind scan) (append-nil text))
+heading_on kind (b ∷ bytes) scan text still short =
+    let next = scan_byte scan b in
+    let rest = heading_on kind bytes next (text ++ b ∷ []) still (simp length-append (omega arith)) in
+    let same : (text ++ b ∷ []) ++ bytes ≡ text ++ (b ∷ bytes) = append_assoc text (b ∷ []) bytes in (
+      quiet (Heading kind next (text ++ b ∷ [])),
+      [],
+      goes_in_head kind scan text b (omega arith) (open_before next bytes still),
+      subst (λ (t : List ℕ). Leads (Heading kind next (text ++ b ∷ [])) bytes [] (Heading kind (scan_all next bytes) t)) same rest,
+      refl,
+    )
+
+-- the bytes that a head ends with
+pub end_of_head : (scan : Scan) (piece : List ℕ) (n : ℕ) (h : IsHeadEnd scan piece n) → take n piece ≡ h.front ++ 10 ∷ []
+end_of_head scan piece n h =
+    ap (take n) (sym h.whole ∙ sym (append_assoc h.front (10 ∷ []) h.rest)) ∙ take_at (h.front ++ 10 ∷ []) h.rest n (simp length-append (omega (arith, h.len)))
+
+pub heading_ends : (kind : Kind) (scan : Scan) (text piece : List ℕ) (n : ℕ) (step : Step) → IsHeadEnd scan piece n → length text + n ≤ 32768
+    → HeadMakes kind (text ++ take n piece) step → Leads (Heading kind scan text) (take n piece) step.told step.next
+heading_ends kind scan text piece n step h short makes =
+    let last = end_of_head scan piece n h in
+    let mid = Heading kind (scan_all scan h.front) (text ++ h.front) in
+    let whole : text ++ take n piece ≡ (text ++ h.front) ++ 10 ∷ [] =
+    ap (λ (t : List ℕ). text ++ t) last ∙ sym (append_assoc text h.front (10 ∷ [])) in
+    let made : HeadMakes kind ((text ++ h.front) ++ 10 ∷ []) step = subst (λ (t : List ℕ). HeadMakes kind t step) whole makes in
+    let on = heading_on kind h.front scan text h.open_before (omega (arith, h.len)) in
+    let off = leads_byte mid 10 step (ends_head kind (scan_all scan h.front) (text ++ h.front) 10 step (simp length-append (omega (arith, h.len))) (ap is_open h.ends) made) in
+    rw last (leads_on (Heading kind scan text) h.front (10 ∷ []) [] step.told mid step.next on off)
+
+pub heading_long : (kind : Kind) (scan : Scan) (text piece : List ℕ) → IsLong (length text) scan piece → Leads (Heading kind scan text) piece [] (Failed error.HeadTooLong)
+heading_long kind scan text piece h = past h.rest h.some h.whole where
+  past : (rest : List ℕ) → 0 < length rest → h.front ++ rest ≡ piece → Leads (Heading kind scan text) piece [] (Failed error.HeadTooLong)
+  past [] some whole = absurd (omega arith)
+  past (b ∷ rest) some whole =
+      let mid = Heading kind (scan_all scan h.front) (text ++ h.front) in
+      let on = heading_on kind h.front scan text h.still_open (omega (arith, h.len)) in
+      let over : Makes (move_of mid b) (fails error.HeadTooLong) = passes_head kind (scan_all scan h.front) (text ++ h.front) b (simp length-append (omega (arith, h.len))) in
+      subst (λ (t : List ℕ). Leads (Heading kind scan text) t [] (Failed error.HeadTooLong)) whole
+      (leads_on (Heading kind scan text) h.front (b ∷ rest) [] [] mid (Failed error.HeadTooLong) on
+      (fails error.HeadTooLong, [], over, stays_failed error.HeadTooLong rest, refl))
+
+-- chunk lines
+goes_in_line : (text : List ℕ) (b : ℕ) → length text < 1024 → (b == 10) ≡ false → Makes (move_of (Sizing text) b) (quiet (Sizing (text ++ b ∷ [])))
+unfolding move_of
+goes_in_line text b short other =
+    let small : nat_lt (length text) 1024 ≡ true = lt-ltb (length text) 1024 short in
+    rw (small, other) refl
+
+ends_line : (text : List ℕ) (step : Step) → length text < 1024 → LineMakes (text ++ 10 ∷ []) step → Makes (move_of (Sizing text) 10) step
+unfolding move_of
+ends_line text step short h =
+    let small : nat_lt (length text) 1024 ≡ true = lt-ltb (length text) 1024 short in
+    rw small h
+
+passes_line : (text : List ℕ) (b : ℕ) → 1024 ≤ length text → Makes (move_of (Sizing text) b) (fails error.BadChunk)
+unfolding move_of
+passes_line text b long =
+    let large : nat_lt (length text) 1024 ≡ false = le-ltb (length text) 1024 long in
+    rw large refl
+
+pub line_on : (bytes text : List ℕ) → lacks 10 bytes ≡ true → length text + length bytes ≤ 1024 → Leads (Sizing text) bytes [] (Sizing (text ++ bytes))
+line_on [] text h short = (refl, ap Sizing (append-nil text))
+line_on (b ∷ bytes) text h short =
+    let parts = and_parts (not (b == 10)) (lacks 10 bytes) h in
+    let rest = line_on bytes (text ++ b ∷ []) parts.1 (simp length-append (omega arith)) in (
+      quiet (Sizing (text ++ b ∷ [])),
+      [],
+      goes_in_line text b (omega arith) (not_equal b 10 parts.0),
+      subst (λ (t : List ℕ). Leads (Sizing (text ++ b ∷ [])) bytes [] (Sizing t)) (append_assoc text (b ∷ []) bytes) rest,
+      refl,
+    )
+
+pub end_of_line : (piece : List ℕ) (at : ℕ) (h : IsLineBefore piece at) → take (at + 1) piece ≡ h.line ++ 10 ∷ []
+end_of_line piece at h =
+    ap (take (at + 1)) (sym h.whole ∙ sym (append_assoc h.line (10 ∷ []) h.rest)) ∙ take_at (h.line ++ 10 ∷ []) h.rest (at + 1) (simp length-append (omega (arith, h.len)))
+
+pub line_ends : (text piece : List ℕ) (at : ℕ) (step : Step) → IsLineBefore piece at → length text + (at + 1) ≤ 1024
+    → LineMakes (text ++ take (at + 1) piece) step → Leads (Sizing text) (take (at + 1) piece) step.told step.next
+line_ends text piece at step h short makes =
+    let last = end_of_line piece at h in
+    let whole : text ++ take (at + 1) piece ≡ (text ++ h.line) ++ 10 ∷ [] =
+    ap (λ (t : List ℕ). text ++ t) last ∙ sym (append_assoc text h.line (10 ∷ [])) in
+    let made : LineMakes ((text ++ h.line) ++ 10 ∷ []) step = subst (λ (t : List ℕ). LineMakes t step) whole makes in
+    let on = line_on h.line text h.is_line (omega (arith, h.len)) in
+    let off = leads_byte (Sizing (text ++ h.line)) 10 step (ends_line (text ++ h.line) step (simp length-append (omega (arith, h.len))) made) in
+    rw last (leads_on (Sizing text) h.line (10 ∷ []) [] step.told (Sizing (text ++ h.line)) step.next on off)
+
+pub line_long : (text piece : List ℕ) → IsLongLine (length text) piece → Leads (Sizing text) piece [] (Failed error.BadChunk)
+line_long text piece h = past h.rest h.some h.whole where
+  past : (rest : List ℕ) → 0 < length rest → h.front ++ rest ≡ piece → Leads (Sizing text) piece [] (Failed error.BadChunk)
+  past [] some whole = absurd (omega arith)
+  past (b ∷ rest) some whole =
+      let on = line_on h.front text h.is_line (omega (arith, h.len)) in
+      let over : Makes (move_of (Sizing (text ++ h.front)) b) (fails error.BadChunk) = passes_line (text ++ h.front) b (simp length-append (omega (arith, h.len))) in
+      subst (λ (t : List ℕ). Leads (Sizing text) t [] (Failed error.BadChunk)) whole
+      (leads_on (Sizing text) h.front (b ∷ rest) [] [] (Sizing (text ++ h.front)) (Failed error.BadChunk) on
+      (fails error.BadChunk, [], over, stays_failed error.BadChunk rest, refl))
+
+-- bodies
+pub counts_some : (left : ℕ) → 0 < left → counts left ≡ Counts left
+counts_some left some = let none : (left == 0) ≡ false = ne_eqb left 0 (omega arith) in rw none refl
+
+chunk_some : (left : ℕ) → 0 < left → chunk left ≡ Chunk left
+chunk_some left some = let none : (left == 0) ≡ false = ne_eqb left 0 (omega arith) in rw none refl
+
+less_none : (n : ℕ) → n - 0 ≡ n
+less_none n = omega arith
+
+pub counts_on : (bytes : List ℕ) (left : ℕ) → length bytes ≤ left → Leads (counts left) bytes (map Byte bytes) (counts (left - length bytes))
+unfolding move_of
+counts_on [] left h = (refl, ap counts (less_none left))
+counts_on (b ∷ bytes) left h =
+    let rest = counts_on bytes (left - 1) (omega arith) in
+    let same : (left - 1) - length bytes ≡ left - length (b ∷ bytes) = omega arith in
+    subst (λ (s : Reading). Leads s (b ∷ bytes) (map Byte (b ∷ bytes)) (counts (left - length (b ∷ bytes)))) (sym (counts_some left (omega arith))) (
+      record { told = Byte b ∷ []; next = counts (left - 1) },
+      map Byte bytes,
+      refl,
+      subst (λ (n : ℕ). Leads (counts (left - 1)) bytes (map Byte bytes) (counts n)) same rest,
+      refl,
+    )
+
+pub chunk_on : (bytes : List ℕ) (left : ℕ) → length bytes ≤ left → 0 < left → Leads (Chunk left) bytes (map Byte bytes) (chunk (left - length bytes))
+unfolding move_of
+chunk_on [] left h some = (refl, ap chunk (less_none left) ∙ chunk_some left some)
+chunk_on (b ∷ []) left h some = (record { told = Byte b ∷ []; next = chunk (left - 1) }, [], refl, (refl, refl), refl)
+chunk_on (b ∷ c ∷ bytes) left h some =
+    let rest = chunk_on (c ∷ bytes) (left - 1) (omega arith) (omega arith) in
+    let same : (left - 1) - length (c ∷ bytes) ≡ left - length (b ∷ c ∷ bytes) = omega arith in
+    let moved = subst (λ (n : ℕ). Leads (Chunk (left - 1)) (c ∷ bytes) (map Byte (c ∷ bytes)) (chunk n)) same rest in (
+      record { told = Byte b ∷ []; next = chunk (left - 1) },
+      map Byte (c ∷ bytes),
+      refl,
+      subst (λ (s : Reading). Leads s (c ∷ bytes) (map Byte (c ∷ bytes)) (chunk (left - length (b ∷ c ∷ bytes)))) (sym (chunk_some (left - 1) (omega arith))) moved,
+      refl,
+    )
+
+pub runs_on : (bytes : List ℕ) → Leads Runs bytes (map Byte bytes) Runs
+unfolding move_of
+runs_on [] = (refl, refl)
+runs_on (b ∷ bytes) = (record { told = Byte b ∷ []; next = Runs }, map Byte bytes, refl, runs_on bytes, refl)

@@ -1,0 +1,10 @@
+pub mod ScanLemmas
+pub mod Leading
+pub mod Heads
+pub mod HeadFacts
+pub mod CodingFolds
+pub mod Bytes
+pub mod Fronts
+pub mod Lines
+pub mod Replies
+pub mod Moves

@@ -1,0 +1,13 @@
+//! The laws of messages.
+ghost use Rattle.hc_msg.specs.Laws.{IsReadOneWay, IsReadPiecewise, StaysFailed};
+
+/// Bytes are read one way, however they are cut.
+///
+/// From where a reading stands, bytes tell one list of heads and bytes of bodies at most, and lead to
+/// one place at most. What they tell is what their pieces tell, one after another, and the last piece
+/// leads where they lead. Behind an error nothing is told.
+pub fn bytes_are_read_one_way()
+    ensures one { IsReadOneWay }
+    ensures pieces { IsReadPiecewise }
+    ensures stays { StaysFailed }
+{}

@@ -1,0 +1,20 @@
+//! HTTP/1.1 messages (RFC 9112): requests and answers that come in pieces, however they are cut, and
+//! the bytes of those that are sent.
+#![tactic(auto)]
+
+mod answer;
+mod fields;
+mod framing;
+mod head;
+mod laws;
+mod lengths;
+mod line;
+mod message;
+mod reader;
+mod response;
+mod scan;
+mod trailer;
+
+pub use laws::bytes_are_read_one_way;
+pub use message::{MsgError, Taken, WirePart, WireRequest};
+pub use reader::ResponseReader;

@@ -1,0 +1,76 @@
+//! Answers that come in pieces, however they are cut.
+ghost use Rattle.std.specs.Prelude.{◌≡◌, ◌<◌};
+
+use crate::answer::{Answer, State};
+use crate::message::{MsgError, Taken, WirePart};
+use std::alloc::Global;
+use std::marker::Model;
+
+/// A reader of one answer, which comes in pieces, however they are cut. 1xx answers before it are
+/// passed over.
+///
+/// A contract sees it as where the reading of the bytes so far stands.
+#[derive(Drop)]
+pub struct ResponseReader {
+    answer: Answer,
+}
+
+impl Model for ResponseReader {
+    ghost use Rattle.hc_msg.specs.Reading.{Reading};
+    ghost use Rattle.hc_msg.specs.Taking.{reading_of, IsKept};
+
+    ghost Value = { Reading };
+
+    ghost view = { λ r. reading_of r.answer };
+
+    ghost invariant = { λ r. IsKept r.answer };
+}
+
+impl ResponseReader {
+    ghost use Rattle.hc_msg.specs.Reading.{Responses, heading};
+    ghost use Rattle.hc_msg.specs.Taking.{Takes, AnswersAgain, StandsAt, ending, ended};
+
+    /// A reader at the beginning of an answer. `no_body` tells that the request was a HEAD, whose
+    /// answer has no body (RFC 9110 section 9.3.2).
+    pub fn new(alloc: Global, no_body: bool) -> ResponseReader
+        ensures { result ≡ heading (Responses no_body) }
+    {
+        ResponseReader {
+            answer: Answer::new(alloc, no_body),
+        }
+    }
+
+    /// Reads the next bytes of the answer, up to the first part that they complete: its head, the
+    /// longest run of bytes of the body that stand together in the piece, of one chunk where the
+    /// body is chunked, of at most `most` bytes, or its end. Without a part all of the piece was
+    /// used. No byte past the answer is used. After an error it is answered again at every call.
+    pub fn take(&mut self, piece: &[u8], most: usize) -> Result<Taken<WirePart>, MsgError>
+        requires { 0 < most }
+        ensures takes { Takes self.old piece.now most result self.new }
+        ensures again { AnswersAgain self.old result }
+        ensures stands { StandsAt result self.new }
+    {
+        match self.answer.state {
+            State::Failed(e) => return Err(e),
+            State::Done => return Ok(Taken { used: 0, got: None }),
+            _ => {}
+        }
+        match self.answer.take(piece, most) {
+            Ok(taken) => Ok(taken),
+            Err(e) => {
+                self.answer.stop(e);
+                Err(e)
+            }
+        }
+    }
+
+    /// The connection is closed, and no further byte comes. The answer is cut off where its head or
+    /// its chunked body isn't whole; a body that is shorter than its Content-Length has its end, and
+    /// whoever asked for it compares the lengths. An error is answered again.
+    pub fn finish(&mut self) -> Result<WirePart, MsgError>
+        ensures value { result ≡ ending self.old }
+        ensures after { self.new ≡ ended self.old }
+    {
+        self.answer.finish()
+    }
+}

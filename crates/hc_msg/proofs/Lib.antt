@@ -8,3 +8,6 @@ pub mod Fronts
 pub mod Lines
 pub mod Replies
 pub mod Moves
+pub mod Calls
+pub mod Hosts
+pub mod Keys

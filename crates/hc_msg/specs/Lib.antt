@@ -10,3 +10,5 @@ pub mod Replies
 pub mod Finding
 pub mod Taking
 pub mod Laws
+pub mod Calls
+pub mod Asking

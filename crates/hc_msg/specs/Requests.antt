@@ -27,11 +27,14 @@ asked_text target fields =
     then option_map (λ host. codes "http://" ++ (host ++ target)) (only_of (values_of (codes "host") fields))
     else if begins_with (codes "http://") target then Some target else None
 
+-- the text of the URL, where that is a target
+abbrev pub own_key : Parts → Option (List ℕ)
+own_key url = if is_target (serialize url) then Some (serialize url) else None
+
 -- the URL without its fragment, where that is a target
 abbrev pub key_in : Parsed Parts → Option (List ℕ)
 key_in (Err e) = None
-key_in (Ok url) =
-    let key = serialize (set_fragment url None) in if is_target key then Some key else None
+key_in (Ok url) = own_key (set_fragment url None)
 
 -- what the URL Standard reads the text as
 unfoldable pub key_of : List ℕ → Option (List ℕ)
@@ -50,19 +53,22 @@ pub data Asked : Type 0 where
   Grants : (request : WireRequest) → Asked
   Denies : (e : MsgError) → Asked
 
+-- the request, without the fields that its key and its want of a body tell
+abbrev pub request_of : List ℕ → ℕ → List (List ℕ × List ℕ) → List ℕ → WireRequest
+request_of method minor fields key = record {
+  request = record {
+    method = method;
+    key = key;
+    load = Normal;
+    fields = kept_of Address fields;
+  };
+  old = minor == 0;
+}
+
 abbrev pub with_key : List ℕ → ℕ → List (List ℕ × List ℕ) → Option (List ℕ) → Asked
 with_key method minor fields None = Denies BadHead
 with_key method minor fields (Some key) =
-    if may_have_body fields then Denies BadLength
-    else Grants (record {
-      request = record {
-        method = method;
-        key = key;
-        load = Normal;
-        fields = kept_of Address fields;
-      };
-      old = minor == 0;
-    })
+    if may_have_body fields then Denies BadLength else Grants (request_of method minor fields key)
 
 -- by the parts of the head
 unfoldable pub asked_of : List ℕ → List ℕ → ℕ → List (List ℕ × List ℕ) → Asked

@@ -1,8 +1,8 @@
-//! HTTP/1.1 messages (RFC 9112): requests and answers that come in pieces, however they are cut, and
-//! the bytes of those that are sent.
+//! HTTP/1.1 messages (RFC 9112): requests and answers that come in pieces, however they are cut.
 #![tactic(auto)]
 
 mod answer;
+mod call;
 mod fields;
 mod framing;
 mod head;
@@ -11,6 +11,8 @@ mod lengths;
 mod line;
 mod message;
 mod reader;
+mod request;
+mod requests;
 mod response;
 mod scan;
 mod trailer;
@@ -18,3 +20,4 @@ mod trailer;
 pub use laws::bytes_are_read_one_way;
 pub use message::{MsgError, Taken, WirePart, WireRequest};
 pub use reader::ResponseReader;
+pub use requests::RequestReader;

@@ -1,0 +1,38 @@
+-- What a reader of requests stands for, and what it makes of the pieces that it is given.
+use Rattle.std.specs.Prelude.{◌≡◌, ℕ, ◌≤◌, ◌⊎◌, true, List, [], ◌∷◌, length, take, Option, Some, None, Result, Ok, Err}
+use Rattle.hc_msg.specs.declared.call.Call.{Call}
+use Rattle.hc_msg.specs.declared.message.MsgError.{MsgError}
+use Rattle.hc_msg.specs.declared.message.MsgError.TheVariants as error
+use Rattle.hc_msg.specs.declared.message.Taken.{Taken}
+use Rattle.hc_msg.specs.declared.message.WireRequest.{WireRequest}
+use Rattle.hc_msg.specs.Scans.{is_open}
+use Rattle.hc_msg.specs.Reading.{Reading, Heading, Requests, Failed, Asks, Leads}
+use Rattle.hc_msg.specs.Calls.{CallsFor}
+
+abbrev pub asking : Call → Reading
+asking call = Heading Requests call.scan call.held.items
+
+-- by the error that was answered
+abbrev pub asking_by : Option MsgError → Call → Reading
+asking_by None call = asking call
+asking_by (Some e) call = Failed e
+
+pub record IsAsking (call : Call) : Type 0 where
+  pub still_open : is_open call.scan ≡ true
+  pub short : length call.held.items ≤ 32768
+
+-- the text asks for something or is refused, or memory was refused
+abbrev pub Called : List ℕ → Result WireRequest MsgError → Type 0
+Called text result = (result ≡ Err error.NoMemory) ⊎ CallsFor text result
+
+-- the first bytes of a piece end a request, or all of them were used
+abbrev pub CompletesRequest : Reading → List ℕ → ℕ → Option WireRequest → Reading → Type 0
+CompletesRequest s piece used None t = (used ≡ length piece) × Leads s piece [] t
+CompletesRequest s piece used (Some request) t = Leads s (take used piece) (Asks request ∷ []) t
+
+-- what a piece comes to
+abbrev pub TakesRequest
+    : Reading → List ℕ → Result (Taken WireRequest) MsgError → Reading → Type 0
+TakesRequest s piece (Ok taken) t =
+    (taken.used ≤ length piece) × CompletesRequest s piece taken.used taken.got t
+TakesRequest s piece (Err e) t = (e ≡ error.NoMemory) ⊎ Leads s piece [] (Failed e)

@@ -74,3 +74,6 @@ impl ResponseReader {
         self.answer.finish()
     }
 }
+
+#[cfg(test)]
+mod tests;

@@ -1,0 +1,119 @@
+-- Connections that change, and those that come.
+use Rattle.std.proofs.Common.{◌≡◌, ℕ, ◌<◌, ◌≤◌, List, [], ◌∷◌, ◌++◌, length, get_or, set, Bool, true, false, eqb, ltb, Some, None, refl, sym, ap, ◌∙◌, inl, inr, arith}
+use Rattle.std.specs.Prelude.{position}
+use Rattle.std.specs.List.{position_or_len}
+use Rattle.std.proofs.Math.Numerals.{one-add}
+use Rattle.std.proofs.lemmas.Bool.{cases_Bool, eqb-true, eqb-false, eq-eqb, ne_eqb, ltb-true, ltb-false}
+use Rattle.hc_wire.specs.declared.event.WireEvent.{WireEvent}
+use Rattle.hc_wire.specs.declared.event.WireEvent.TheVariants as event
+use Rattle.hc_wire.specs.Events.{Unseen, Open, Closed, with_stage, closed_of, stages_after, IsOfOpen}
+use Rattle.hc_wire.specs.Logs.{Taker, is_numbered, stage_of, stage_in, changed_at, fresh, shut, joined}
+
+-- a change that keeps number and life keeps each stage
+module _ (k : ℕ) (change : Taker → Taker) (number : (c : Taker) → (change c).k ≡ c.k) where
+  pub stages-same : ((c : Taker) → (change c).live ≡ c.live) → (cs : List Taker) (j : ℕ) → stage_in (changed_at k change cs) j ≡ stage_in cs j
+  stages-same same [] j = refl
+  stages-same same (c ∷ cs) j = elim (cases_Bool (eqb c.k k)) [
+    | inl on ↦ elim (cases_Bool (eqb c.k j)) [
+      | inl here ↦ rw (on, number c, here, same c) refl
+      | inr off ↦ rw (on, number c, off) refl
+    ]
+    | inr out ↦ elim (cases_Bool (eqb c.k j)) [
+      | inl here ↦ rw (out, here) refl
+      | inr off ↦ rw (out, off) (stages-same same cs j)
+    ]
+  ]
+
+pub stages-shut : (k : ℕ) (cs : List Taker) (j : ℕ) → stage_in (changed_at k shut cs) j ≡ with_stage k (closed_of (stage_in cs k)) (stage_in cs) j
+stages-shut k [] j = elim (cases_Bool (eqb j k)) [
+  | inl on ↦ rw on refl
+  | inr off ↦ rw off refl
+]
+stages-shut k (c ∷ cs) j = elim (cases_Bool (eqb c.k k)) [
+  | inl on ↦ elim (cases_Bool (eqb j k)) [
+    | inl here ↦
+        let same : eqb c.k j ≡ true = let e = eqb-true c.k k on in let h = eqb-true j k here in eq-eqb c.k j (e ∙ sym h) in
+        rw (on, same, here) (life c.live)
+    | inr off ↦
+        let apart : eqb c.k j ≡ false = ne_eqb c.k j (λ e. eqb-false j k off (sym e ∙ eqb-true c.k k on)) in
+        rw (on, apart, off) refl
+  ]
+  | inr out ↦ elim (cases_Bool (eqb c.k j)) [
+    | inl here ↦
+        let apart : eqb j k ≡ false = ne_eqb j k (λ e. eqb-false c.k k out (eqb-true c.k j here ∙ e)) in
+        rw (out, here, apart) refl
+    | inr off ↦ rw (out, off) (stages-shut k cs j)
+  ]
+] where
+  life : (b : Bool) → Closed ≡ closed_of (stage_of (record { k = 0; sent = []; reads = true; short = None; live = b }))
+  life true = refl
+  life false = refl
+
+-- one more is open
+pub stages-fresh : (k : ℕ) (cs : List Taker) (j : ℕ) → stage_in cs k ≡ Unseen → stage_in (cs ++ fresh k ∷ []) j ≡ with_stage k Open (stage_in cs) j
+stages-fresh k [] j new = elim (cases_Bool (eqb j k)) [
+  | inl on ↦ rw (on, eq-eqb k j (sym (eqb-true j k on))) refl
+  | inr off ↦ rw (off, ne_eqb k j (λ e. eqb-false j k off (sym e))) refl
+]
+stages-fresh k (c ∷ cs) j new = elim (cases_Bool (eqb c.k k)) [
+  | inl on ↦ absurd (seen c.live (rw on at new))
+  | inr out ↦ elim (cases_Bool (eqb c.k j)) [
+    | inl here ↦
+        let apart : eqb j k ≡ false = ne_eqb j k (λ e. eqb-false c.k k out (eqb-true c.k j here ∙ e)) in
+        rw (here, apart) refl
+    | inr off ↦ rw off (stages-fresh k cs j (rw out at new))
+  ]
+] where
+  seen : (b : Bool) → stage_of (record { k = 0; sent = []; reads = true; short = None; live = b }) ≡ Unseen → ⊥
+  seen true is = cc
+  seen false is = cc
+
+-- what an event says of connections
+pub stages-joined : (what : WireEvent) (cs : List Taker) → IsOfOpen what (stage_in cs) → (j : ℕ) → stage_in (joined what cs) j ≡ stages_after what (stage_in cs) j
+stages-joined (event.Accepted k) cs new j = stages-fresh k cs j new
+stages-joined (event.Got k n) cs is j = refl
+stages-joined (event.Ended k) cs is j = refl
+stages-joined (event.Broke k) cs is j = refl
+stages-joined (event.Room k) cs is j = refl
+stages-joined event.Quiet cs is j = refl
+
+-- one more with another number
+pub unseen-more : (k : ℕ) (cs : List Taker) (c : Taker) → stage_in cs k ≡ Unseen → eqb c.k k ≡ false → stage_in (cs ++ c ∷ []) k ≡ Unseen
+unseen-more k [] c new off = rw off refl
+unseen-more k (d ∷ cs) c new off = elim (cases_Bool (eqb d.k k)) [
+  | inl on ↦ let h = rw on at new in rw on h
+  | inr out ↦ rw out (unseen-more k cs c (rw out at new) off)
+]
+
+-- the first with a number is changed
+module _ (k : ℕ) (f : Taker → Taker) where
+  set-first : (cs : List Taker) (d : Taker) → position_or_len (is_numbered k) cs < length cs
+      → set cs (position_or_len (is_numbered k) cs) (f (get_or cs (position_or_len (is_numbered k) cs) d)) ≡ changed_at k f cs
+  set-first [] d lt = absurd (omega (arith, lt))
+  set-first (c ∷ cs) d lt = elim (cases_Bool (eqb c.k k)) [
+    | inl on ↦ rw on refl
+    | inr off ↦
+        let less = rw off at lt in
+        rw (off, one-add) (ap (λ (l : List Taker). c ∷ l) (set-first cs d (omega (arith, less))))
+  ]
+
+  kept-all : (cs : List Taker) → length cs ≤ position_or_len (is_numbered k) cs → cs ≡ changed_at k f cs
+  kept-all [] le = refl
+  kept-all (c ∷ cs) le = elim (cases_Bool (eqb c.k k)) [
+    | inl on ↦ let h = rw on at le in absurd (omega (arith, h))
+    | inr off ↦ let h = rw off at le in rw off (ap (λ (l : List Taker). c ∷ l) (kept-all cs (omega (arith, h))))
+  ]
+
+  pub changed-some : (cs : List Taker) (i : ℕ) (old new : Taker) → position (is_numbered k) cs ≡ Some i → old ≡ get_or cs i old → new ≡ f old → set cs i new ≡ changed_at k f cs
+  changed-some cs i old new is at_i changed = elim (cases_Bool (ltb (position_or_len (is_numbered k) cs) (length cs))) [
+    | inl within ↦
+        let here : position_or_len (is_numbered k) cs ≡ i = let h = rw within at is in cc in
+        rw (changed, at_i, ← here) (set-first cs old (ltb-true _ _ within))
+    | inr past ↦ let h = rw past at is in absurd (cc)
+  ]
+
+  pub changed-none : (cs : List Taker) → position (is_numbered k) cs ≡ None → cs ≡ changed_at k f cs
+  changed-none cs is = elim (cases_Bool (ltb (position_or_len (is_numbered k) cs) (length cs))) [
+    | inl within ↦ let h = rw within at is in absurd (cc)
+    | inr past ↦ kept-all cs (ltb-false _ _ past)
+  ]

@@ -1,0 +1,7 @@
+use Rattle.std.proofs.Common.{◌≡◌, ℕ, ◌<◌, take}
+use Rattle.hc_wire.specs.Events.{Unseen}
+use Rattle.hc_wire.specs.Logs.{stage_in}
+use Rattle.hc_wire.proofs.connection.greatest_in.Given as goal
+
+abbrev pub invariant-loop-c : goal.invariant-loop-c
+invariant-loop-c l = (k : ℕ) → l.greatest < k → stage_in (take l.c-index l.connections) k ≡ Unseen

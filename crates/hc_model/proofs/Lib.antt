@@ -139,3 +139,6 @@ pub mod AsideKeeps
 pub mod ReadAs
 pub mod ReadJoined
 pub mod ReadNext
+pub mod Bounded
+pub mod Givers
+pub mod ReadEnds

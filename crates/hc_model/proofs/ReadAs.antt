@@ -61,6 +61,7 @@ pub record IsRead (t : Tables) (k : Consumer) (s : Shown) : Type 0 where
   pub number : read_of k.place ≡ Some s.r
   pub from : lo_of t k.place ≡ s.lo
   pub to : (n : ℕ) → s.hi ≡ Some n → hi_of t k.place ≡ Some n
+  pub open_end : s.hi ≡ None → (r lo : ℕ) (hi : Option ℕ) (how : BoundBy) → k.place ≡ place.Bound r lo hi how → hi ≡ None
 
 -- what it reads past the store has its head
 abbrev pub HasHead : Tables → Place → Type 0
@@ -199,6 +200,7 @@ module _ (limits : Limits) (t : Tables) (now : ℕ) (flaw : Flaw) (s : Sound t) 
     number = ap read_of same ∙ read.number;
     from = ap (lo_of now_on) same ∙ (lo_stays k.place has ∙ read.from);
     to = λ n is. ap (hi_of now_on) same ∙ hi_stays k.place n has (read.to n is);
+    open_end = λ is r lo hi how at. read.open_end is r lo hi how (sym same ∙ at);
   }
 
 -- WHERE IT IS SHOWN IT
@@ -235,16 +237,20 @@ module _ (t : Tables) (now c want r lo : ℕ) (why : Why) (head : Response) (hi 
   direct_part y None row is = absurd (none_some show is)
   direct_part y (Some w) row is = let p = answer_part y w w.head is in record { number = p.number; from = ap base_in row ∙ p.from; to = p.to }
 
+  or_none : (b z : Option ℕ) → option_or b z ≡ None → b ≡ None
+  or_none None z is = refl
+  or_none (Some n) z is = absurd (none_some n (sym is))
+
   read_by : (p : Place) → k.place ≡ p → shows_at t k p ≡ Some show → IsRead t k as_shown
   read_by place.Line at is = absurd (none_some show is)
   read_by (place.Passed q kept) at is = absurd (none_some show is)
   read_by (place.Turn x) at is = absurd (none_some show is)
   read_by (place.Bound q a b how) at is =
       let p = bound_part q a (hi_of t k.place) how is in
-      record { number = ap read_of at ∙ ap Some p.number; from = ap (lo_of t) at ∙ p.from; to = λ n known. p.to ∙ known }
+      record { number = ap read_of at ∙ ap Some p.number; from = ap (lo_of t) at ∙ p.from; to = λ n known. p.to ∙ known; open_end = λ none q1 a1 b1 how1 at1. or_none b1 _ (sym (ap (hi_of t) at1) ∙ (p.to ∙ none)) }
   read_by (place.Direct y) at is =
       let p = direct_part y (t.exchange y) refl is in
-      record { number = ap read_of at ∙ ap Some p.number; from = ap (lo_of t) at ∙ p.from; to = λ n known. ap (hi_of t) at ∙ (p.to ∙ known) }
+      record { number = ap read_of at ∙ ap Some p.number; from = ap (lo_of t) at ∙ p.from; to = λ n known. ap (hi_of t) at ∙ (p.to ∙ known); open_end = λ none q1 a1 b1 how1 at1. absurd (let no : place.Direct y ≡ place.Bound q1 a1 b1 how1 = sym at ∙ at1 in cc) }
   read_by (place.Down cause) at is = absurd (none_some show is)
   read_by place.Over at is = absurd (none_some show is)
 
@@ -281,6 +287,9 @@ module _ (limits : Limits) (t : Tables) (now : ℕ) (flaw : Flaw) (s : Sound t) 
   pub landed_read : (c : ℕ) (k u : Consumer) → t.consumer c ≡ Some k → k.shown ≡ false → reads u.place ≡ true → (l : IsLanding limits t now flaw s o ev goes c k u) → IsRead (after_accepted t (entry_of limits t now ev flaw)) u (record { r = l.r; why = l.why; lo = l.lo; hi = l.hi })
   landed_read c k u row off old l = by_lands l.lands
     where
+      place_hi : (r q lo a : ℕ) (hi b : Option ℕ) (how g : BoundBy) → place.Bound r lo hi how ≡ place.Bound q a b g → hi ≡ b
+      place_hi r q lo a hi b how g same = cc
+
       head_at : (y : ℕ) → k.place ≡ place.Direct y → IsHeadedRow t y
       head_at y at = shown_headed limits t now flaw s o ev goes c y l.want l.r l.lo l.why l.head l.hi k row at off l.move_is
 
@@ -300,4 +309,5 @@ module _ (limits : Limits) (t : Tables) (now : ℕ) (flaw : Flaw) (s : Sound t) 
         number = ap read_of is;
         from = ap (lo_of (after_accepted t (entry_of limits t now ev flaw))) is;
         to = λ n known. ap (hi_of (after_accepted t (entry_of limits t now ev flaw))) is ∙ ap (λ (z : Option ℕ). option_or z (total_in ((after_accepted t (entry_of limits t now ev flaw)).representation l.r))) known;
+        open_end = λ none q1 a1 b1 how1 at1. sym (place_hi l.r q1 l.lo a1 l.hi b1 by.Plan how1 (sym is ∙ at1)) ∙ none;
       }

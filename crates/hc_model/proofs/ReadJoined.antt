@@ -10,7 +10,6 @@ use Rattle.hc_event.specs.Filters.{is_denied, given_in}
 use Rattle.hc_event.specs.declared.event.Event.{Event}
 use Rattle.hc_event.specs.declared.event.Event.TheVariants as event
 use Rattle.hc_rules.specs.declared.room.Limits.{Limits}
-use Rattle.hc_rules.specs.Refusals as refusals
 use Rattle.hc_model.specs.declared.place.Place.{Place}
 use Rattle.hc_model.specs.declared.place.Place.TheVariants as place
 use Rattle.hc_model.specs.Beginnings.{may_begin}
@@ -20,9 +19,7 @@ use Rattle.hc_model.specs.Flaws.{Flaw, flaw_in}
 use Rattle.hc_model.specs.Histories.{Shown, shown_in, shown_of, given_of}
 use Rattle.hc_model.specs.Keys.{entry_of}
 use Rattle.hc_model.specs.Laws.{Grows, OfRuns}
-use Rattle.hc_model.specs.Moves as moves
-use Rattle.hc_model.specs.Moves.{Move, Gives, Nothing, Fails}
-use Rattle.hc_event.specs.declared.act.Wait.TheVariants as wait
+use Rattle.hc_model.specs.Moves.{Gives}
 use Rattle.hc_model.specs.Owners.{Owners}
 use Rattle.hc_model.specs.Polls.{move_of}
 use Rattle.hc_model.specs.Reading.{reads, hi_of, lo_of}
@@ -30,14 +27,13 @@ use Rattle.hc_model.specs.Reads.{Delivers, Holds, BodiesAreRead, body_of}
 use Rattle.hc_model.specs.Rows.{Tables, Consumer}
 use Rattle.hc_model.specs.Runs.{IsRun, IsOwed}
 use Rattle.hc_model.specs.Sound.{Sound}
-use Rattle.hc_model.specs.Steps.{reading}
 use Rattle.hc_model.specs.Tables.{tables, after_accepted, after_denied}
 use Rattle.hc_model.proofs.AsideKeeps.{landing_by, aside_begun, aside_denied, aside_kept}
 use Rattle.hc_model.proofs.Barred.{next_tables, denied_tables}
 use Rattle.hc_model.proofs.GivenNext.{read_of, given_next}
+use Rattle.hc_model.proofs.Givers.{some_want, gives_of}
 use Rattle.hc_model.proofs.GrowsInRuns.{grows}
-use Rattle.hc_model.proofs.MoveBy.{MoveBy, move_by}
-use Rattle.hc_model.proofs.MoveBy as by_move
+use Rattle.hc_model.proofs.MoveBy.{move_by}
 use Rattle.hc_model.proofs.OfEntries.{of_real}
 use Rattle.hc_model.proofs.OneHead.{one_head_is_shown}
 use Rattle.hc_model.proofs.Owed.{denied_gives, denied_shows}
@@ -190,28 +186,6 @@ module _ (limits : Limits) (t : Tables) (now : ℕ) (flaw : Flaw) (s : Sound t) 
 
     -- GIVING
 
-    some_want : (want : ℕ) → ev ≡ event.Poll c want → 0 < want
-    unfolding refusals.refusal_of
-    some_want zero at = absurd (let refused : denial t (event.Poll c 0) ≡ None = sym (ap (denial t) at) ∙ goes in zero_refused refused)
-      where
-        zero_refused : denial t (event.Poll c 0) ≡ None → ⊥
-        zero_refused h = absurd (elim (Rattle.hc_model.proofs.HoleLemmas.bool_cases (nat_lt t.last_start c)) [
-          | inl early ↦ Rattle.hc_model.proofs.Once.never _ (rw early at h)
-          | inr on ↦ elim (Rattle.hc_model.proofs.HoleLemmas.bool_cases (Rattle.hc_model.specs.Denials.is_live (t.consumer c))) [
-            | inl live ↦ Rattle.hc_model.proofs.Once.never _ (rw (on, live) at h)
-            | inr over ↦ Rattle.hc_model.proofs.Once.never _ (rw (on, over) at h)
-          ]
-        ])
-    some_want (suc n) at = omega arith
-
-    gives_of : (want : ℕ) (k : Consumer) (run : Run) (m : Move) → MoveBy t now want c k m → m ≡ Gives run → k.shown ≡ true → reading t want c k ≡ Gives run
-    gives_of want k run m (by_move.shows _ unshown at) is on = absurd (false_true (sym unshown ∙ on))
-    gives_of want k run _ (by_move.waits x own bare) is on = absurd (let no : moves.Waits (wait.Head x) ≡ Gives run = is in cc)
-    gives_of want k run _ (by_move.down why_down at) is on = absurd (let no : Fails why_down ≡ Gives run = is in cc)
-    gives_of want k run _ (by_move.over at) is on = absurd (let no : Nothing ≡ Gives run = is in cc)
-    gives_of want k run _ (by_move.reads shown_on heard) is on = is
-    gives_of want k run _ (by_move.plans unshown free none heard) is on = absurd (false_true (sym unshown ∙ on))
-
     read_reads : (p : Place) (r : ℕ) → read_of p ≡ Some r → reads p ≡ true
     read_reads (place.Bound q lo hi how) r is = refl
     read_reads (place.Direct y) r is = refl
@@ -239,7 +213,7 @@ module _ (limits : Limits) (t : Tables) (now : ℕ) (flaw : Flaw) (s : Sound t) 
     pub next_of : (want : ℕ) (k : Consumer) (run : Run) (z : Shown) → ev ≡ event.Poll c want → t.consumer c ≡ Some k → move_of t now want c k ≡ Gives run → shown c ≡ z ∷ [] → IsNextOf z run
     next_of want k run z at row move was =
         let on = was_shown k z k.shown refl row was in
-        let g = given_next t want c k run s (some_want want at) (λ x stood. a.apart.unfounded c x k row stood) (gives_of want k run (move_of t now want c k) (move_by t now want c k s row) move on) in
+        let g = given_next t want c k run s (some_want t c want ev goes at) (λ x stood. a.apart.unfounded c x k row stood) (gives_of t now c want k run (move_of t now want c k) (move_by t now want c k s row) move on) in
         let read = joined.read c k z row was (read_reads k.place g.0 g.1.number) in
         let number : g.0 ≡ z.r = Rattle.hc_model.proofs.PieceKeeps.some_inj g.0 z.r (sym g.1.number ∙ read.number) in
         let first : lo_of t k.place ≡ z.lo = read.from in
@@ -299,7 +273,7 @@ module _ (limits : Limits) (contents : Contents) (h : History) (run : IsRun limi
 
 denied_joined : (contents : Contents) (h : History) (e : Entry) → is_denied e.acts ≡ true → Joined contents h → IsJoined (after_denied (tables contents h) e) (λ c. shown_of c (e ∷ h)) (λ c. given_of c (e ∷ h))
 denied_joined contents h e denied j = record {
-  read = λ c k z row was on. let r = j.read c k z row (old_shown c z was) on in record { number = r.number; from = r.from; to = r.to };
+  read = λ c k z row was on. let r = j.read c k z row (old_shown c z was) on in record { number = r.number; from = r.from; to = r.to; open_end = r.open_end };
   held = λ c z was. subst (Holds (tables contents h) z.r z.lo) (sym (ap (λ xs. given_of c h ++ xs) (denied_gives c e.acts denied) ∙ append_none (given_of c h))) (j.held c z (old_shown c z was));
 }
   where

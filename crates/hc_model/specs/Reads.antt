@@ -179,7 +179,14 @@ GivesNext =
     (c x at : ℕ) (bytes : List ℕ) → Says (act.Given c x at bytes) e.acts →
     ReadsAct contents h e.now [] (act.Given c x at bytes)
 
--- and joined it is of that body
+-- who is told the end was given all up to it
+abbrev pub EndsWell : Type 0
+EndsWell =
+    (limits : Limits) (contents : Contents) (h : History) (e : Entry) →
+    may_begin limits contents ≡ true → IsRun limits contents (e ∷ h) →
+    (c : ℕ) → Says (act.Ended c) e.acts → ReadsAct contents h e.now [] (act.Ended c)
+
+-- and joined what it was given is of that body
 abbrev pub BodiesAreRead : Type 0
 BodiesAreRead =
     (limits : Limits) (contents : Contents) (h : History) → may_begin limits contents ≡ true →

@@ -1,3 +1,4 @@
+use Rattle.hc_model.proofs.ReadEnds.{ends_well}
 use Rattle.hc_model.proofs.ReadJoined.{bodies_are_read}
 use Rattle.hc_model.proofs.ReadNext.{gives_next}
 use Rattle.hc_model.proofs.laws.one_body_is_read.Goals as goal
@@ -7,3 +8,6 @@ returns-clause-joined c = bodies_are_read
 
 pub returns-clause-next : goal.returns-clause-next
 returns-clause-next c = gives_next
+
+pub returns-clause-ended : goal.returns-clause-ended
+returns-clause-ended c = ends_well

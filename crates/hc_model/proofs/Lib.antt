@@ -142,3 +142,8 @@ pub mod ReadNext
 pub mod Bounded
 pub mod Givers
 pub mod ReadEnds
+pub mod PassedFrom
+pub mod WhyShown
+pub mod Aimed
+pub mod Reasons
+pub mod ReadWhole

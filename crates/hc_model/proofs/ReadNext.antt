@@ -9,6 +9,7 @@ use Rattle.hc_event.specs.declared.event.Event.TheVariants as event
 use Rattle.hc_event.specs.declared.act.Act.{Act}
 use Rattle.hc_event.specs.declared.act.Act.TheVariants as act
 use Rattle.hc_event.specs.declared.act.Cause.TheVariants as cause
+use Rattle.hc_event.specs.declared.act.Why.{Why}
 use Rattle.hc_rules.specs.declared.room.Limits.{Limits}
 use Rattle.hc_model.specs.Answers.{accepted, said, lost, closed}
 use Rattle.hc_model.specs.Beginnings.{may_begin}
@@ -54,19 +55,24 @@ says_part a (x ∷ xs) ys (inr later) = elim (says_part a xs ys later) [
 pub data IsTold : Act → Type 0 where
   gives : (c x at : ℕ) (bytes : List ℕ) → IsTold (act.Given c x at bytes)
   ends : (c : ℕ) → IsTold (act.Ended c)
+  shows : (c r : ℕ) (why : Why) (status : ℕ) (fields : List (List ℕ × List ℕ)) (lo : ℕ) (hi : Option ℕ) → IsTold (act.Shown c r why status fields lo hi)
 
 close_not : (a : Act) (x : ℕ) → IsTold a → act.Close x ≡ a → ⊥
 close_not _ x (gives c y at bytes) is = cc
 close_not _ x (ends c) is = cc
+close_not _ x (shows c r why status fields lo hi) is = cc
 
 evict_not : (a : Act) (r : ℕ) → IsTold a → act.Evicted r ≡ a → ⊥
 evict_not _ r (gives c y at bytes) is = cc
 evict_not _ r (ends c) is = cc
+evict_not _ r (shows c q why status fields lo hi) is = cc
 
 lost_not : (a : Act) (flaw : Flaw) → IsTold a → Says a (lost flaw) → ⊥
 lost_not a NoFlaw told h = h
 lost_not _ (Loses r kind) (gives c y at bytes) (inl is) = cc
 lost_not _ (Loses r kind) (ends c) (inl is) = cc
+lost_not _ (Loses r kind) (shows c q why status fields lo hi) (inl is) = cc
+lost_not _ (Loses r kind) (shows c q why status fields lo hi) (inr h) = h
 lost_not _ (Loses r kind) (gives c y at bytes) (inr h) = h
 lost_not _ (Loses r kind) (ends c) (inr h) = h
 lost_not a (Misreads r) told h = h

@@ -1,6 +1,6 @@
 //! What holds of all runs, each as the contract of a function that does nothing.
 ghost use Rattle.hc_model.specs.Histories.{RunsAreFiltered};
-ghost use Rattle.hc_model.specs.Reads.{OneHeadIsShown, BodiesAreRead, GivesNext, EndsWell};
+ghost use Rattle.hc_model.specs.Reads.{OneHeadIsShown, BodiesAreRead, GivesNext, EndsWell, RunsReadWhole};
 ghost use Rattle.hc_model.specs.Keys.{LawOfOneKey, KeysAreKept, KeysBegin};
 ghost use Rattle.hc_model.specs.Laws.{SoundDeliversOnce, DeliveriesAreKept, BodiesAreKept, NumbersAreKept, NamesAreKept, OneCurrentIsKept, StoresAreKept, StartsAreSound, WholeIsWhole, AfterEach, AreBound, KnowEnds, OwnedAfterEach, AreToBeShown, OwedAfterEach, OwnersAreKnown, TurnsAreOne, TurnsAreKept, TurnsBegin, HasOneTurn, KeysInRuns, BarrierIsKept, BarrierBegins, DoomsInRuns, TruncatedIsFront, TruthInRuns, CountsAreKept, TurnsGo, ReadersGo, CountsBegin, FewGiveWay, AreRead, AreUndue, ReadAbout, MeasuredAfterEach, BeginningsAreMeasured, AreGrowing, KeptByEntries, AreServed, AreHad, SurvivorsGoOn, BeginningsAreStarts, AfterDenials, OfRuns, DeliversOnce, BodiesGrowInRuns, WaitsEnd, FitsInRuns, FewInRuns};
 ghost use Rattle.hc_model.specs.Owners.{Owners};
@@ -53,6 +53,14 @@ pub fn stores_begin_sound()
 /// Over a whole run a consumer is shown one head at most, and given nothing before that.
 pub fn one_head_is_shown()
     ensures { OneHeadIsShown }
+{}
+
+/// Every run reads whole. Each consumer is shown one head at most, before it is given anything, for a reason that
+/// holds: the head came for it, or for its first hole, which joined; freshness allows it at that moment; or a
+/// 304 that came for it selected what it is shown. What it is given after that is next in the body of that, as
+/// its exchanges delivered it, and within the end that was shown; and it is told the end where that is.
+pub fn runs_read_whole()
+    ensures { RunsReadWhole }
 {}
 
 /// Over a whole run the bytes that a consumer was given, joined, are those of the body that it was shown,

@@ -165,11 +165,18 @@ FitsLimit limits contents =
 
 -- CONTENTS
 
+-- the moment and the numbers are within those with which a store may begin
+pub record IsInLimits (t : Tables) : Type 0 where
+  pub moment : t.moment < 2 ^ 62
+  pub consumers : t.last_start < 2 ^ 62
+  pub exchanges : t.opened < 2 ^ 60
+
 -- A store may begin with what a run leaves, once nobody is live, but for the limits of numbers.
 abbrev pub LeavesGood : Limits → Contents → Type 0
 LeavesGood limits contents =
     may_begin limits contents ≡ true → (h : History) → IsRun limits contents h →
-    live (tables contents h) ≡ 0 → may_begin limits (contents_of (tables contents h)) ≡ true
+    live (tables contents h) ≡ 0 → IsInLimits (tables contents h) →
+    may_begin limits (contents_of (tables contents h)) ≡ true
 
 -- WHAT MAKES THESE INDUCTIVE
 

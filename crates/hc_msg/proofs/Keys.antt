@@ -1,11 +1,13 @@
 -- The key of a text: what the URL Standard reads it as.
-use Rattle.std.proofs.Common.{◌≡◌, ℕ, true, false, List, refl, sym, ap, ◌∙◌}
-use Rattle.std.specs.Prelude.{◌&&◌, ◌||◌, IfOk, Result, Option, Some, None, Ok, Err, IsUtf8, bytes_eq, codes, is_none}
+use Rattle.std.proofs.Common.{◌≡◌, ℕ, true, false, List, inl, inr, refl, sym, ap, ◌∙◌}
+use Rattle.std.specs.Prelude.{◌&&◌, ◌||◌, ◌⊎◌, IfOk, Result, Option, Some, None, Ok, Err, IsUtf8, bytes_eq, codes, is_none}
 use Rattle.std.specs.Str.{is_utf8}
 use Rattle.std.proofs.lemmas.Bool.{and_parts, false_from_ne_true}
 use Rattle.std.proofs.lemmas.Str.{IsUtf8-from_is_utf8, is_utf8-from_IsUtf8}
 use Rattle.url.specs.Parts.{Parts, serialize, IsValid}
 use Rattle.url.proofs.ValidLemmas.{with_own_tail}
+use Rattle.url.specs.declared.error.ParseError.{ParseError}
+use Rattle.url.specs.declared.error.ParseError.TheVariants.{OutOfMemory, Overflow}
 use Rattle.url.specs.Parser.{Parsed, parse_url, with_tail}
 use Rattle.url.specs.Setters.{set_fragment}
 use Rattle.hc_text.specs.declared.memory.NoMemory.{NoMemory}
@@ -54,3 +56,24 @@ read_key_is text own read same utf8 is =
 pub key_given : (result : Result (Option (List ℕ)) NoMemory) (text : List ℕ) (url : Parts) → IfOk result (λ key. key ≡ own_key url) → key_of text ≡ own_key url → IfOk result (λ key. key ≡ key_of text)
 key_given (Ok key) text url h same = h ∙ sym same
 key_given (Err e) text url h same = tt
+
+pub target_text : (text : List ℕ) → is_target text ≡ true → IsUtf8 text
+target_text text h = IsUtf8-from_is_utf8 text (target_utf8 text h)
+
+-- a target is read
+pub target_reads : (text own : List ℕ) (e : ParseError) → is_target text ≡ true → own ≡ text → parse_url None own ≡ Err e → ⊥
+unfolding is_target
+target_reads text own e h same fails =
+    let read : parse_url None text ≡ Err e = ap (λ (t : List ℕ). parse_url None t) (sym same) ∙ fails in
+    let outer = and_parts (is_short_word text && is_utf8 text) (gives_text (parse_url None text) text) h in
+    let none : false ≡ true = ap (λ (r : Parsed Parts). gives_text r text) (sym read) ∙ outer.1 in
+    cc
+
+pub same_read : (read : Parsed Parts) (a b : Parts) → read ≡ Ok a → read ≡ Ok b → a ≡ b
+same_read read a b x y = cc
+
+pub target_faults : (text own : List ℕ) (e : ParseError) → is_target text ≡ true → own ≡ text
+    → (parse_url None own ≡ Err e) ⊎ (e ≡ OutOfMemory) ⊎ (e ≡ Overflow) → ¬ (e ≡ OutOfMemory) → ¬ (e ≡ Overflow) → ⊥
+target_faults text own e h same (inl fails) a b = target_reads text own e h same fails
+target_faults text own e h same (inr (inl memory)) a b = a memory
+target_faults text own e h same (inr (inr over)) a b = b over

@@ -11,3 +11,4 @@ pub mod Moves
 pub mod Calls
 pub mod Hosts
 pub mod Keys
+pub mod Chains

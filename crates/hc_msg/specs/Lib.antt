@@ -12,3 +12,4 @@ pub mod Taking
 pub mod Laws
 pub mod Calls
 pub mod Asking
+pub mod Writing

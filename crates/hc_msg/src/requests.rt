@@ -63,3 +63,6 @@ impl RequestReader {
         }
     }
 }
+
+#[cfg(test)]
+mod tests;

@@ -1,8 +1,8 @@
 -- The pieces of a download, put at their places one after another.
-use Rattle.std.proofs.Common.{◌≡◌, ℕ, ◌+◌, ◌*◌, ◌<◌, ◌≤◌, ◌^◌, List, length, inl, inr, ap, ◌∙◌, arith}
+use Rattle.std.proofs.Common.{◌≡◌, ℕ, ◌+◌, ◌*◌, ◌<◌, ◌≤◌, ◌^◌, List, length, None, inl, inr, ap, ◌∙◌, arith}
 use Rattle.std.proofs.lemmas.Bool.Decides.{nat_tests}
 use Rattle.hc_sparse.specs.Cells.{Cells, AreAbsent, nothing, size, written}
-use Rattle.hc_sparse.proofs.CellLemmas.{inside-cases}
+use Rattle.hc_sparse.proofs.CellLemmas.{inside-cases, inside-past}
 use Rattle.hc_sparse.proofs.SizeLemmas.{size-none, size-written}
 use Rattle.hc_bench.specs.declared.command.Order.{Order}
 use Rattle.hc_bench.specs.declared.command.Order.TheVariants.{Forward, Backward, Alternate}
@@ -54,4 +54,25 @@ HasFirst-more order pieces k x piece old new len more few has is =
                 absurd (omega arith)
             | inr off ↦ rw off.0 (has.absent j (omega arith) high p from past)
           ];
+    }
+
+-- the first k single bytes are there, and nothing is behind them
+pub record HasAlone (k : ℕ) (cells : Cells) : Type 0 where
+  pub size_is : size cells ≡ k
+  pub absent : (p : ℕ) → 1048576 * k ≤ p → cells p ≡ None
+
+pub HasAlone-none : (cells : Cells) → cells ≡ nothing → HasAlone 0 cells
+HasAlone-none cells is = record {
+  size_is = size-none cells (λ p. ap (λ (f : Cells). f p) is);
+  absent = λ p from. ap (λ (f : Cells). f p) is;
+}
+
+pub HasAlone-more : (k x : ℕ) (piece : List ℕ) (old new : Cells) → length piece ≡ 1 → k < 2 ^ 20 → HasAlone k old → new ≡ written (1048576 * k) x piece old → HasAlone (k + 1) new
+HasAlone-more k x piece old new len few has is =
+    let free : AreAbsent old (1048576 * k) (1048576 * k + length piece) = λ p from past. has.absent p from in
+    let grown = size-written old (1048576 * k) x piece free (omega arith) in
+    let was = has.size_is in
+    record {
+      size_is = ap size is ∙ (omega (arith, grown));
+      absent = λ p from. ap (λ (f : Cells). f p) is ∙ rw (inside-past (1048576 * k) (length piece) p (omega arith)) (has.absent p (omega arith));
     }

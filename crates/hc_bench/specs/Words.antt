@@ -15,7 +15,7 @@ use Rattle.hc_bench.specs.declared.command.StoreCall.TheVariants as store_call
 use Rattle.hc_bench.specs.declared.command.Subject.{Subject}
 use Rattle.hc_bench.specs.declared.command.Subject.TheVariants as subject
 use Rattle.hc_bench.specs.declared.command.Way.{Way}
-use Rattle.hc_bench.specs.declared.command.Way.TheVariants.{Append, Put}
+use Rattle.hc_bench.specs.declared.command.Way.TheVariants.{Append, Put, Lone}
 use Rattle.hc_bench.specs.declared.command.Kept.TheVariants.{Blocks, Runs}
 use Rattle.hc_bench.specs.declared.command.Order.{Order}
 use Rattle.hc_bench.specs.declared.command.Order.TheVariants.{Forward, Backward, Alternate}
@@ -42,6 +42,7 @@ order_word Alternate = codes "alternate"
 -- the word for a way of a download
 abbrev pub way_word : Way → List ℕ
 way_word Append = codes "append"
+way_word Lone = codes "lone"
 way_word (Put Blocks order) = order_word order
 way_word (Put Runs order) = codes "runs-" ++ order_word order
 

@@ -49,6 +49,8 @@ pub enum Way {
     Append,
     /// The pieces are put into sparse bytes in this order.
     Put(Kept, Order),
+    /// Pieces of one byte are put into blocks, each into a block of its own.
+    Lone,
 }
 
 /// How sparse bytes are kept.

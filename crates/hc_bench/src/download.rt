@@ -1,7 +1,7 @@
 //! Downloads: pieces of one exchange that make a body.
 ghost use Rattle.std.specs.Prelude.{◌≡◌, ◌*◌, ◌<◌, ◌≤◌, ◌^◌, length, IfOk};
 ghost use Rattle.hc_sparse.specs.Cells.{nothing};
-ghost use Rattle.hc_bench.specs.Downloads.{place_of};
+ghost use Rattle.hc_bench.specs.Downloads.{place_of, size_of};
 
 use crate::command::{Downloads, Kept, Order, Way};
 use hc_sparse::{PlainSparse, Sparse, SparseBytes};
@@ -14,6 +14,9 @@ pub(crate) const PIECE_LEN: u64 = 1460;
 /// The exchange that brings the pieces.
 const EXCHANGE: u64 = 1;
 
+/// How far from one another single bytes stand, so that each has a block of its own.
+const STEP: u64 = 1 << 20;
+
 /// How many of all downloads have as many bytes as their pieces.
 pub(crate) fn whole_downloads(alloc: Global, downloads: Downloads) -> Result<u64, NoMemory>
     ensures { IfOk result (λ whole. whole ≡ downloads.times) }
@@ -22,7 +25,7 @@ pub(crate) fn whole_downloads(alloc: Global, downloads: Downloads) -> Result<u64
     let mut whole = 0;
     for _round in 0..downloads.times {
         if download(alloc, downloads.way, &piece, downloads.pieces)?
-            == PIECE_LEN * downloads.pieces
+            == size_of(downloads.way, downloads.pieces)
         {
             whole += 1;
         }
@@ -30,16 +33,28 @@ pub(crate) fn whole_downloads(alloc: Global, downloads: Downloads) -> Result<u64
     Ok(whole)
 }
 
+/// How many bytes a download of so many pieces has.
+fn size_of(way: Way, pieces: u64) -> u64
+    requires { pieces ≤ 2 ^ 20 }
+    ensures { result ≡ size_of way pieces }
+{
+    match way {
+        Way::Append | Way::Put(_, _) => PIECE_LEN * pieces,
+        Way::Lone => pieces,
+    }
+}
+
 /// Makes a download of the piece, again and again, and answers how many bytes it has.
 fn download(alloc: Global, way: Way, piece: &[u8], pieces: u64) -> Result<u64, NoMemory>
     requires piece { length piece.now ≡ PIECE_LEN }
     requires few { pieces ≤ 2 ^ 20 }
-    ensures { IfOk result (λ size. size ≡ PIECE_LEN * pieces) }
+    ensures { IfOk result (λ size. size ≡ size_of way pieces) }
 {
     match way {
         Way::Append => append(alloc, piece, pieces),
         Way::Put(Kept::Blocks, order) => put(&mut Sparse::new(alloc), order, piece, pieces),
         Way::Put(Kept::Runs, order) => put(&mut PlainSparse::new(alloc), order, piece, pieces),
+        Way::Lone => put_alone(alloc, pieces),
     }
 }
 
@@ -53,6 +68,18 @@ fn append(alloc: Global, piece: &[u8], pieces: u64) -> Result<u64, NoMemory>
         body.extend_from_slice(piece)?;
     }
     Ok(body.len() as u64)
+}
+
+/// Puts so many single bytes, each into a block of its own.
+fn put_alone(alloc: Global, count: u64) -> Result<u64, NoMemory>
+    requires { count ≤ 2 ^ 20 }
+    ensures { IfOk result (λ size. size ≡ count) }
+{
+    let mut body = Sparse::new(alloc);
+    for k in 0..count {
+        body.put(STEP * k, EXCHANGE, b"x")?;
+    }
+    Ok(body.size())
 }
 
 /// Puts the pieces into sparse bytes in this order.

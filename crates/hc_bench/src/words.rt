@@ -25,8 +25,8 @@ use hc_text::read_plain;
 
 /// The command that the words spell: what is made, how much of it, and how many times.
 ///
-/// It is `fields` or `map` with 1 to 80 fields, `append`, `forward`, `backward` or `alternate`, of
-/// which `runs-` may stand before the last three, with 1 to 2^20 pieces, `read-list`, `read-blocks` or
+/// It is `fields` or `map` with 1 to 80 fields, `append`, `lone`, `forward`, `backward` or `alternate`,
+/// of which `runs-` may stand before the last three, with 1 to 2^20 pieces, `read-list`, `read-blocks` or
 /// `read-runs` with as many, `store-create`, `store-put`, `store-read`, `store-run` or `store-seal`
 /// with 1 to 2^16 slots, or `call` with the name of a call, and then up to 2^32 times.
 pub fn command_of(words: &[String]) -> Option<Command>
@@ -150,6 +150,7 @@ fn way_of(word: &str) -> Option<Way>
 {
     match word {
         "append" => Some(Way::Append),
+        "lone" => Some(Way::Lone),
         "forward" => Some(Way::Put(Kept::Blocks, Order::Forward)),
         "backward" => Some(Way::Put(Kept::Blocks, Order::Backward)),
         "alternate" => Some(Way::Put(Kept::Blocks, Order::Alternate)),

@@ -11,12 +11,9 @@ use crate::connection::{
 };
 use crate::event::{Address, WireError, WireEvent};
 use crate::scripted::Scripted;
-use crate::wire::Wire;
+use crate::wire::{MOST_EVENTS, Wire};
 use hc_text::NoMemory;
 use std::alloc::Global;
-
-/// The most events that are handed out.
-pub(crate) const MOST_EVENTS: u64 = 1 << 45;
 
 /// How many bytes more a connection takes.
 #[derive(Clone, Copy, Debug, PartialEq, Eq)]

@@ -5,6 +5,8 @@ use std::alloc::Global;
 use std::process::Abort;
 use std::test::Fail;
 
+mod sockets;
+
 /// An event of a script, with its bytes as a text.
 #[derive(Clone, Copy)]
 struct Line(u64, WireEvent, &'static str);

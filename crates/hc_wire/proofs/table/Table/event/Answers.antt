@@ -1,0 +1,15 @@
+use Rattle.std.proofs.Common.{Option, None, Some, ◌∙◌}
+use Rattle.std.specs.Prelude.{IfSome}
+use Rattle.hc_wire.specs.declared.event.WireEvent.{WireEvent}
+use Rattle.hc_wire.specs.Sockets.{life, IsOfLive}
+use Rattle.hc_wire.proofs.SocketLemmas.{live-same}
+use Rattle.hc_wire.proofs.table.Table.event.Goals as goal
+
+pub returns-then-is_some-clause-of_live : goal.returns-then-is_some-clause-of_live
+returns-then-is_some-clause-of_live c = of c.event_in-event.result c.event_in-event.ensures.of_live where
+  of : (o : Option WireEvent) → IfSome o (IsOfLive (life c.loop.self.sockets)) → IfSome o (IsOfLive (life c.args.self.now.sockets))
+  of None is = is
+  of (Some e) is = live-same (life c.args.self.now.sockets) (life c.loop.self.sockets) c.loop.invariant.1 e is
+
+pub returns-then-is_some-clause-kept : goal.returns-then-is_some-clause-kept
+returns-then-is_some-clause-kept c = λ j. c.queue.ensures j ∙ (c.event_in-event.ensures.kept j ∙ c.loop.invariant.1 j)

@@ -1,0 +1,248 @@
+//! A connection over a socket.
+ghost use Rattle.std.specs.Prelude.{◌≡◌, ◌<◌, ◌≤◌, false, length, IfOk, IfSome};
+ghost use Rattle.hc_wire.specs.Events.{FitsIn};
+ghost use Rattle.hc_wire.specs.Sockets.{IsOf};
+
+use crate::event::WireEvent;
+use mio::event::Event;
+use mio::net::TcpStream;
+use std::alloc::{AllocError, Global};
+use std::io::{ErrorKind, Read, Write};
+
+/// How many bytes that aren't sent yet are held, at most.
+const HOLD: usize = 65_536;
+
+/// A connection: its socket, and what is known of it.
+#[derive(Drop)]
+pub(crate) struct Socket {
+    /// None where it could not be made.
+    stream: Option<TcpStream>,
+    /// The bytes that were taken, of which the first were sent.
+    held: Vec<u8>,
+    sent: usize,
+    /// The system may have bytes of it.
+    readable: bool,
+    /// The other side has told its end.
+    ending: bool,
+    /// The system takes none of its bytes now.
+    blocked: bool,
+    /// A send took less than it was offered.
+    short: bool,
+    reads: bool,
+    broken: bool,
+    /// That it ended was handed out.
+    ended: bool,
+    /// That it is broken was handed out.
+    told: bool,
+    /// It stands among those that are due.
+    queued: bool,
+    /// It stands among those that hold bytes.
+    unsent: bool,
+    pub(crate) closed: bool,
+}
+
+impl Socket {
+    /// A connection that isn't closed. Without a stream it is broken.
+    pub(crate) fn new(alloc: Global, stream: Option<TcpStream>) -> Socket
+        ensures { result.closed ≡ false }
+    {
+        let broken = stream.is_none();
+        Socket {
+            stream,
+            held: Vec::new(alloc),
+            sent: 0,
+            readable: false,
+            ending: false,
+            blocked: false,
+            short: false,
+            reads: true,
+            broken,
+            ended: false,
+            told: false,
+            queued: false,
+            unsent: false,
+            closed: false,
+        }
+    }
+
+    /// What the system tells of it.
+    pub(crate) fn mark(&mut self, event: &Event)
+        ensures { self.new.closed ≡ self.old.closed }
+    {
+        if event.is_readable() || event.is_read_closed() || event.is_error() {
+            self.readable = true;
+        }
+        if event.is_read_closed() || event.is_error() {
+            self.ending = true;
+        }
+        if event.is_writable() || event.is_error() {
+            self.blocked = false;
+            self.flush();
+        }
+    }
+
+    /// Whether an event of it is due that isn't noted yet. Then it is noted.
+    pub(crate) fn note_due(&mut self) -> bool
+        ensures { self.new.closed ≡ self.old.closed }
+    {
+        let more = self.is_due() && !self.queued;
+        self.queued = self.queued || more;
+        more
+    }
+
+    /// It isn't noted any more that an event of it is due.
+    pub(crate) fn forget_due(&mut self)
+        ensures { self.new.closed ≡ self.old.closed }
+    {
+        self.queued = false;
+    }
+
+    /// Whether it holds bytes, and that isn't noted yet. Then it is noted.
+    pub(crate) fn note_held(&mut self) -> bool
+        ensures { self.new.closed ≡ self.old.closed }
+    {
+        let more = !self.is_sent() && !self.unsent;
+        self.unsent = self.unsent || more;
+        more
+    }
+
+    /// It isn't noted any more that it holds bytes.
+    pub(crate) fn forget_held(&mut self)
+        ensures { self.new.closed ≡ self.old.closed }
+    {
+        self.unsent = false;
+    }
+
+    /// Whether an event of it is due.
+    pub(crate) fn is_due(&self) -> bool {
+        !self.closed
+            && (self.broken && !self.told
+                || self.has_room()
+                || self.reads && self.readable && !self.ended && !self.broken)
+    }
+
+    /// Whether it takes bytes again, after it took less than it was offered.
+    fn has_room(&self) -> bool {
+        self.short && !self.blocked && self.is_sent() && !self.broken
+    }
+
+    /// Whether all that was taken is sent, or never will be.
+    pub(crate) fn is_sent(&self) -> bool {
+        self.broken || self.sent >= self.held.len()
+    }
+
+    /// The event that is due of it, if one is. The bytes of a `Got` are copied into the slice.
+    pub(crate) fn event(&mut self, k: u64, into: &mut [u8]) -> Option<WireEvent>
+        requires { 0 < length into.old }
+        ensures of { IfSome result (IsOf k) }
+        ensures fits { IfSome result (λ e. FitsIn e (length into.old)) }
+        ensures closed { self.new.closed ≡ self.old.closed }
+    {
+        if self.has_room() {
+            self.short = false;
+            return Some(WireEvent::Room(k));
+        }
+        if self.reads && self.readable && !self.ended && !self.broken {
+            match self.read(into) {
+                Some(0) => {
+                    self.ended = true;
+                    return Some(WireEvent::Ended(k));
+                }
+                Some(n) => return Some(WireEvent::Got(k, n)),
+                None => {}
+            }
+        }
+        if self.broken && !self.told {
+            self.told = true;
+            return Some(WireEvent::Broke(k));
+        }
+        None
+    }
+
+    /// Reads what there is: 0 is its end, and None that there is nothing now.
+    fn read(&mut self, into: &mut [u8]) -> Option<usize>
+        requires { 0 < length into.old }
+        ensures within { IfSome result (λ n. n ≤ length into.old) }
+        ensures closed { self.new.closed ≡ self.old.closed }
+    {
+        let mut stream = self.stream.as_ref()?;
+        match stream.read(into) {
+            Ok(n) => {
+                if n < into.len() && !self.ending {
+                    self.readable = false;
+                }
+                Some(n)
+            }
+            Err(e) if e.kind() == ErrorKind::WouldBlock => {
+                self.readable = false;
+                None
+            }
+            // A signal came first: it is read again when its turn comes.
+            Err(e) if e.kind() == ErrorKind::Interrupted => None,
+            Err(_) => {
+                self.broken = true;
+                None
+            }
+        }
+    }
+
+    /// How many bytes of the slice it takes. One that is broken takes all.
+    pub(crate) fn take(&mut self, from: &[u8]) -> Result<usize, AllocError>
+        ensures within { IfOk result (λ n. n ≤ length from.now) }
+        ensures closed { self.new.closed ≡ self.old.closed }
+    {
+        if self.broken || self.closed {
+            return Ok(from.len());
+        }
+        if self.held.len() >= HOLD {
+            self.flush();
+        }
+        let n = from.len().min(HOLD.saturating_sub(self.held.len()));
+        self.held.extend_from_slice(&from[..n])?;
+        self.short = n < from.len();
+        if self.held.len() >= HOLD {
+            self.flush();
+        }
+        Ok(n)
+    }
+
+    /// Reading is on or off.
+    pub(crate) fn set_reading(&mut self, on: bool)
+        ensures { self.new.closed ≡ self.old.closed }
+    {
+        self.reads = on;
+    }
+
+    /// Sends what is held, as far as the system takes it.
+    pub(crate) fn flush(&mut self)
+        ensures { self.new.closed ≡ self.old.closed }
+    {
+        for _ in 0..u64::MAX {
+            if self.blocked || self.is_sent() {
+                break;
+            }
+            self.write();
+        }
+        if self.is_sent() {
+            self.held.clear();
+            self.sent = 0;
+        }
+    }
+
+    /// One write of what is held.
+    fn write(&mut self)
+        ensures { self.new.closed ≡ self.old.closed }
+    {
+        let Some(mut stream) = self.stream.as_ref() else {
+            return;
+        };
+        match stream.write(self.held.get(self.sent..).unwrap_or(&[])) {
+            Ok(0) => self.broken = true,
+            Ok(n) => self.sent = self.sent.saturating_add(n),
+            Err(e) if e.kind() == ErrorKind::WouldBlock => self.blocked = true,
+            // A signal came first: it is written again.
+            Err(e) if e.kind() == ErrorKind::Interrupted => {}
+            Err(_) => self.broken = true,
+        }
+    }
+}

@@ -1,0 +1,250 @@
+//! The sockets of a wire, by number.
+ghost use Rattle.std.specs.Prelude.{◌≡◌, ◌<◌, ◌≤◌, ℕ, false, length, OnOk, OnErr, IfOk, IfSome};
+ghost use Rattle.hc_wire.specs.Events.{Open, Closed, FitsIn, with_stage, closed_of};
+ghost use Rattle.hc_wire.specs.Sockets.{life, IsOfLive};
+
+use crate::event::WireEvent;
+use crate::socket::Socket;
+use mio::event::Event;
+use std::alloc::{AllocError, Global};
+use std::collections::{HashMap, VecDeque};
+
+/// Connections by number, and of which something may be due or unsent.
+#[derive(Drop)]
+pub(crate) struct Table {
+    pub(crate) sockets: HashMap<u64, Socket>,
+    /// Of which events may be due, each once.
+    due: VecDeque<u64>,
+    /// There was no memory to note one of them.
+    missed: bool,
+    /// Which hold bytes, each once.
+    unsent: VecDeque<u64>,
+}
+
+impl Table {
+    /// There are none.
+    pub(crate) fn new(alloc: Global) -> Table
+        ensures { (j : ℕ) → life result.sockets j ≡ Closed }
+    {
+        Table {
+            sockets: HashMap::new(alloc),
+            due: VecDeque::new(alloc),
+            missed: false,
+            unsent: VecDeque::new(alloc),
+        }
+    }
+
+    /// One more, that is open.
+    pub(crate) fn insert(&mut self, k: u64, socket: Socket) -> Result<(), AllocError>
+        requires { socket.closed ≡ false }
+        ensures ok { OnOk result ((j : ℕ) → life self.new.sockets j
+            ≡ with_stage k Open (life self.old.sockets) j) }
+        ensures err { OnErr result ((j : ℕ) → life self.new.sockets j
+            ≡ life self.old.sockets j) }
+    {
+        self.sockets.insert(k, socket)?;
+        self.queue(k);
+        Ok(())
+    }
+
+    /// Notes the connection where an event of it is due.
+    pub(crate) fn queue(&mut self, k: u64)
+        ensures { (j : ℕ) → life self.new.sockets j ≡ life self.old.sockets j }
+    {
+        if queue_in(&mut self.sockets, k) && self.due.push_back(k).is_err() {
+            self.missed = true;
+        }
+    }
+
+    /// What the system tells of it.
+    pub(crate) fn mark(&mut self, k: u64, event: &Event)
+        ensures { (j : ℕ) → life self.new.sockets j ≡ life self.old.sockets j }
+    {
+        mark_in(&mut self.sockets, k, event);
+        forget_in(&mut self.sockets, k);
+        self.queue(k);
+    }
+
+    /// The next event that is due.
+    pub(crate) fn event(&mut self, into: &mut [u8]) -> Option<WireEvent>
+        requires { 0 < length into.old }
+        ensures of_live { IfSome result (IsOfLive (life self.old.sockets)) }
+        ensures fits { IfSome result (λ e. FitsIn e (length into.old)) }
+        ensures kept { (j : ℕ) → life self.new.sockets j ≡ life self.old.sockets j }
+    {
+        if self.missed {
+            return self.missed_event(into);
+        }
+        for _ in 0..u64::MAX {
+            let Some(k) = self.due.pop_front() else {
+                break;
+            };
+            let event = event_in(&mut self.sockets, k, into);
+            self.queue(k);
+            if event.is_some() {
+                return event;
+            }
+        }
+        None
+    }
+
+    /// The same of one of all connections, where some that are due weren't noted.
+    fn missed_event(&mut self, into: &mut [u8]) -> Option<WireEvent>
+        requires { 0 < length into.old }
+        ensures of_live { IfSome result (IsOfLive (life self.old.sockets)) }
+        ensures fits { IfSome result (λ e. FitsIn e (length into.old)) }
+        ensures kept { (j : ℕ) → life self.new.sockets j ≡ life self.old.sockets j }
+    {
+        let k = match self.sockets.iter().find(|entry| entry.1.is_due()) {
+            Some((k, _)) => *k,
+            None => {
+                self.missed = false;
+                return None;
+            }
+        };
+        event_in(&mut self.sockets, k, into)
+    }
+
+    /// How many bytes the connection takes. One that isn't there takes all.
+    pub(crate) fn send(&mut self, k: u64, from: &[u8]) -> Result<usize, AllocError>
+        ensures within { IfOk result (λ n. n ≤ length from.now) }
+        ensures kept { (j : ℕ) → life self.new.sockets j ≡ life self.old.sockets j }
+    {
+        self.unsent.reserve(1)?;
+        let n = take_in(&mut self.sockets, k, from)?;
+        if hold_in(&mut self.sockets, k) {
+            self.unsent.push_back(k)?;
+        }
+        self.queue(k);
+        Ok(n)
+    }
+
+    /// Sends what is held.
+    pub(crate) fn flush(&mut self)
+        ensures { (j : ℕ) → life self.new.sockets j ≡ life self.old.sockets j }
+    {
+        for _ in 0..u64::MAX {
+            let Some(k) = self.unsent.pop_front() else {
+                break;
+            };
+            flush_in(&mut self.sockets, k);
+            forget_in(&mut self.sockets, k);
+            self.queue(k);
+        }
+    }
+
+    /// Reading of the connection is on or off.
+    pub(crate) fn read(&mut self, k: u64, on: bool)
+        ensures { (j : ℕ) → life self.new.sockets j ≡ life self.old.sockets j }
+    {
+        read_in(&mut self.sockets, k, on);
+        self.queue(k);
+    }
+
+    /// The connection is closed: what is held is sent.
+    pub(crate) fn close(&mut self, k: u64)
+        ensures { (j : ℕ) → life self.new.sockets j
+            ≡ with_stage k (closed_of (life self.old.sockets k)) (life self.old.sockets) j }
+    {
+        close_in(&mut self.sockets, k);
+        flush_in(&mut self.sockets, k);
+        forget_in(&mut self.sockets, k);
+    }
+}
+
+/// Whether an event of the connection is due that isn't noted yet. Then it is noted.
+fn queue_in(sockets: &mut HashMap<u64, Socket>, k: u64) -> bool
+    ensures { (j : ℕ) → life sockets.new j ≡ life sockets.old j }
+{
+    match sockets.get_mut(&k) {
+        Some(socket) => socket.note_due(),
+        None => false,
+    }
+}
+
+/// What the system tells of it.
+fn mark_in(sockets: &mut HashMap<u64, Socket>, k: u64, event: &Event)
+    ensures { (j : ℕ) → life sockets.new j ≡ life sockets.old j }
+{
+    if let Some(socket) = sockets.get_mut(&k) {
+        socket.mark(event);
+    }
+}
+
+/// The event that is due of the connection. It isn't noted any more.
+fn event_in(sockets: &mut HashMap<u64, Socket>, k: u64, into: &mut [u8]) -> Option<WireEvent>
+    requires { 0 < length into.old }
+    ensures of_live { IfSome result (IsOfLive (life sockets.old)) }
+    ensures fits { IfSome result (λ e. FitsIn e (length into.old)) }
+    ensures kept { (j : ℕ) → life sockets.new j ≡ life sockets.old j }
+{
+    let socket = sockets.get_mut(&k)?;
+    socket.forget_due();
+    if socket.closed {
+        return None;
+    }
+    socket.event(k, into)
+}
+
+/// How many bytes the connection takes.
+fn take_in(sockets: &mut HashMap<u64, Socket>, k: u64, from: &[u8]) -> Result<usize, AllocError>
+    ensures within { IfOk result (λ n. n ≤ length from.now) }
+    ensures kept { (j : ℕ) → life sockets.new j ≡ life sockets.old j }
+{
+    match sockets.get_mut(&k) {
+        Some(socket) => socket.take(from),
+        None => Ok(from.len()),
+    }
+}
+
+/// Whether the connection holds bytes, and that isn't noted yet. Then it is noted.
+fn hold_in(sockets: &mut HashMap<u64, Socket>, k: u64) -> bool
+    ensures { (j : ℕ) → life sockets.new j ≡ life sockets.old j }
+{
+    match sockets.get_mut(&k) {
+        Some(socket) => socket.note_held(),
+        None => false,
+    }
+}
+
+/// Sends what the connection holds. That isn't noted any more.
+fn flush_in(sockets: &mut HashMap<u64, Socket>, k: u64)
+    ensures { (j : ℕ) → life sockets.new j ≡ life sockets.old j }
+{
+    if let Some(socket) = sockets.get_mut(&k) {
+        socket.forget_held();
+        socket.flush();
+    }
+}
+
+/// Reading of the connection is on or off.
+fn read_in(sockets: &mut HashMap<u64, Socket>, k: u64, on: bool)
+    ensures { (j : ℕ) → life sockets.new j ≡ life sockets.old j }
+{
+    if let Some(socket) = sockets.get_mut(&k) {
+        socket.set_reading(on);
+    }
+}
+
+/// The connection is closed.
+fn close_in(sockets: &mut HashMap<u64, Socket>, k: u64)
+    ensures { (j : ℕ) → life sockets.new j
+        ≡ with_stage k (closed_of (life sockets.old k)) (life sockets.old) j }
+{
+    if let Some(socket) = sockets.get_mut(&k) {
+        socket.closed = true;
+    }
+}
+
+/// One that is closed, and has nothing to send, is no more.
+fn forget_in(sockets: &mut HashMap<u64, Socket>, k: u64)
+    ensures { (j : ℕ) → life sockets.new j ≡ life sockets.old j }
+{
+    let over = match sockets.get(&k) {
+        Some(socket) => socket.closed && socket.is_sent(),
+        None => false,
+    };
+    if over {
+        sockets.remove(&k);
+    }
+}

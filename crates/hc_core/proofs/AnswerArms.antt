@@ -1,0 +1,269 @@
+-- The head of an exchange past the store that can be used: its consumer is to be shown it.
+use Rattle.std.proofs.Common.{◌≡◌, ℕ, ◌+◌, ◌≤◌, ◌<◌, ◌^◌, List, [], length, Bool, true, false, cond, eqb, Option, Some, None, refl, ap, sym, ◌∙◌, subst, arith}
+use Rattle.std.proofs.lemmas.List.{append-nil}
+use Rattle.std.specs.Prelude.{◌&&◌, not}
+use Rattle.std.specs.Option.{option_or}
+use Rattle.std.proofs.lemmas.Bool.Decides.{nat_tests}
+use Rattle.hc_event.specs.declared.event.Event.TheVariants as event
+use Rattle.hc_event.specs.declared.event.Response.{Response}
+use Rattle.hc_event.specs.declared.act.Act.{Act}
+use Rattle.hc_event.specs.declared.act.Cause.{Cause}
+use Rattle.hc_rules.specs.declared.heads.HeadCase.TheVariants as case
+use Rattle.hc_rules.specs.Lengths.{is_bad}
+use Rattle.hc_rules.specs.declared.room.Limits.{Limits}
+use Rattle.hc_model.specs.declared.place.Place.TheVariants as place
+use Rattle.hc_model.specs.Cases.{case_at}
+use Rattle.hc_model.specs.ConsumerRows.{consumer_after, by_head}
+use Rattle.hc_model.specs.Entries.{Entry}
+use Rattle.hc_model.specs.ExchangeRows.{exchange_after}
+use Rattle.hc_model.specs.Exchanges.{base, is_reached}
+use Rattle.hc_model.specs.Reading.{end_in, end_of_direct, lo_of, hi_of}
+use Rattle.hc_model.specs.Rows as rows
+use Rattle.hc_model.specs.Rows.{Tables, Exchange}
+use Rattle.hc_model.specs.Runs.{has_room}
+use Rattle.hc_model.specs.Tables.{after_accepted}
+use Rattle.hc_model.specs.Weights.{first_idle}
+use Rattle.hc_exch.specs.Exchanges as exch
+use Rattle.hc_exch.specs.Exchanges.{table_of, next_of}
+use Rattle.hc_exch.specs.Known as known
+use Rattle.hc_exch.specs.Known.{Known}
+use Rattle.hc_exch.specs.declared.row.Open.{Open}
+use Rattle.hc_core.specs.declared.consumer.Consumer.{Consumer}
+use Rattle.hc_core.specs.declared.rows.Rows.{Rows}
+use Rattle.hc_core.specs.Changes.{ChangesAt}
+use Rattle.hc_core.specs.Past.{ReadsPast}
+use Rattle.hc_core.specs.Kept.{IsKept, KeepsRunning, held_for, answer_for}
+use Rattle.hc_core.specs.Stands.{RowsStand, Answered}
+use Rattle.hc_core.proofs.Words.{eqb-same, none_some, false_true, same_row}
+use Rattle.hc_core.proofs.PastEntries.{unfounded}
+use Rattle.hc_core.proofs.PastCloses.{told_of, told_answered, closing_none}
+use Rattle.hc_core.proofs.DirectPolls.{known_other, known_here, changed}
+use Rattle.hc_core.proofs.DirectArms.{held_is}
+use Rattle.hc_core.proofs.Hearing.{Hears, told_entry, told_only, told_row, told_acted}
+use Rattle.hc_rules.specs.declared.length.Length.{Length}
+use Rattle.hc_rules.specs.Lengths.{promise_of, base_of}
+use Rattle.hc_model.specs.Exchanges.{is_for}
+use Rattle.hc_model.specs.Failures.{cause_of_head}
+use Rattle.hc_model.proofs.Dues.{stop_none}
+use Rattle.hc_exch.specs.Known.{is_all}
+use Rattle.hc_core.specs.Changes.{with_answer}
+use Rattle.hc_core.specs.Past.{IsWithin}
+use Rattle.hc_core.proofs.Direct.{reads_on}
+use Rattle.hc_core.proofs.Hearing.{told_due}
+use Rattle.hc_core.proofs.Lengths.{IsPlain, direct_plain}
+use Rattle.hc_core.proofs.DownArms.{headless_is}
+use Rattle.hc_core.proofs.HeadArms.{head_news, length_told, head_case_is, no_founding, no_sending, room_is}
+
+abbrev headed : ℕ → Response → Exchange → Exchange
+headed now response w = record w {
+  head = Some response;
+  answered = now;
+  is_open = not (is_reached (promise_of (length_told w response)) 0) && w.is_open;
+}
+
+answer_shown : (s : Tables) (x : ℕ) (v : rows.Consumer) (z : Exchange) → v.shown ≡ false → v.place ≡ place.Direct x → s.exchange x ≡ Some z → answer_for s v ≡ z.head
+answer_shown s x v z unshown at is = rw (unshown, at, is) refl
+
+lows_are : (s : Tables) (x : ℕ) (v : rows.Consumer) (z : Exchange) → v.place ≡ place.Direct x → s.exchange x ≡ Some z → lo_of s v.place ≡ base z
+lows_are s x v z at is = rw (at, is) refl
+
+highs_here : (s : Tables) (x : ℕ) (v : rows.Consumer) (z : Exchange) → v.place ≡ place.Direct x → s.exchange x ≡ Some z → hi_of s v.place ≡ end_in (Some z)
+highs_here s x v z at is = rw (at, is) refl
+
+all_reached : (o : Option ℕ) (n : ℕ) → is_all o n ≡ is_reached o n
+all_reached None n = refl
+all_reached (Some p) n = refl
+
+-- what is promised is where it ends, since it begins at 0
+end_promised : (o : Option ℕ) (z : Exchange) → base z ≡ 0 → z.is_ended ≡ false → end_of_direct o z ≡ o
+end_promised None z zero unended = rw unended refl
+end_promised (Some n) z zero unended = rw zero (ap Some (plus_zero n))
+  where
+    plus_zero : (n : ℕ) → 0 + n ≡ n
+    plus_zero n = omega arith
+
+within_nothing : (n : ℕ) (o : Option ℕ) → ((p : ℕ) → o ≡ Some p → p < 2 ^ 62) → IsWithin n o 0
+within_nothing n None small = omega arith
+within_nothing n (Some p) small = (small p refl, omega arith)
+
+reached_zero : (o : Option ℕ) → is_reached o 0 ≡ true → o ≡ Some 0
+reached_zero None h = false_true h
+reached_zero (Some p) h = ap Some (grind (arith, nat_tests))
+
+headed_row : (t : Tables) (now x : ℕ) (response : Response) (w : Exchange) → case_at t (told_of now (event.Head x response) []) ≡ Some case.DirectTaken → exchange_after t (told_of now (event.Head x response) []) x (Some w) ≡ Some (headed now response w)
+unfolding exchange_after
+headed_row t now x response w case_here = rw (eqb-same x, case_here) refl
+
+module _ {B : Type 0} (r u : Rows B) (t : Tables) (now x : ℕ) (response : Response) (o : Open) (stands : RowsStand r t) (hears : Hears r t x o) (headless : o.headed ≡ false) (running : (table_of r.exchanges x).running ≡ Some o)
+    (is : is_bad (length_told hears.reading.reads.w response) ≡ false)
+    (received : u.received ≡ r.received) (last : u.last_start ≡ r.last_start) (becomes : exch.Becomes (known.headed (length_told hears.reading.reads.w response)) x r.exchanges u.exchanges)
+    (changes : ChangesAt r.consumers u.consumers o.c (with_answer response (promise_of (length_told hears.reading.reads.w response)))) where
+  abbrev c : ℕ
+  c = o.c
+
+  abbrev k : Consumer
+  k = hears.k
+
+  abbrev v : rows.Consumer
+  v = hears.reading.v
+
+  abbrev w : Exchange
+  w = hears.reading.reads.w
+
+  abbrev l : Length
+  l = length_told w response
+
+  abbrev e : Entry
+  e = told_of now (event.Head x response) []
+
+  abbrev after : Tables
+  after = after_accepted t e
+
+  taken_case : case_at t e ≡ Some case.DirectTaken
+  taken_case = head_case_is r u t now x response o stands hears headless [] false is refl
+
+  plain : IsPlain l
+  plain = direct_plain w.need w.request response hears.reading.reads.past
+
+  no_head : w.head ≡ None
+  no_head = headless_is o w hears.is headless
+
+  unshown : v.shown ≡ false
+  unshown = (hears.reading.reads.unheard no_head).0
+
+  nothing : w.body ≡ []
+  nothing = (hears.reading.reads.unheard no_head).1
+
+  unended : w.is_ended ≡ false
+  unended = hears.reading.reads.unended hears.is.is_open
+
+  exchange : after.exchange x ≡ Some (headed now response w)
+  exchange = ap (exchange_after t e x) hears.reading.reads.row ∙ headed_row t now x response w taken_case
+
+  heard : (z : Option Exchange) → z ≡ Some w → by_head t e c x response z v ≡ v
+  heard z row =
+      let mine : eqb w.c c ≡ true = rw hears.reading.reads.for_it (eqb-same c) in
+      let case_here = taken_case in
+      ap (λ (y : Option Exchange). by_head t e c x response y v) row ∙ rw (mine, case_here) refl
+
+  no_cause : cause_of_head t e c (event.Head x response) ≡ None
+  no_cause =
+      let mine : is_for (t.exchange x) c ≡ true = rw hears.reading.reads.row (rw hears.reading.reads.for_it (eqb-same c)) in
+      let case_here = taken_case in
+      rw (mine, case_here) refl
+
+  row_after : after.consumer c ≡ Some v
+  row_after =
+      let at = hears.reading.at in
+      let sends = no_sending r u t now x response o stands hears headless [] false is refl in
+      let due = told_due t now c x (event.Head x response) [] v at sends None (stop_none t e v refl) no_cause in
+      ap (consumer_after t e c) hears.reading.row
+      ∙ (told_row t now c x (event.Head x response) [] v at sends v (heard (t.exchange x) hears.reading.reads.row) (told_acted t now c x (event.Head x response) [] v at sends v (heard (t.exchange x) hears.reading.reads.row)) true (rw at refl)
+      ∙ ap (λ (y : Option Cause). Some (record v { due = y })) (ap (option_or v.due) due ∙ or_nothing v.due))
+    where
+      or_nothing : (a : Option Cause) → option_or a None ≡ a
+      or_nothing None = refl
+      or_nothing (Some y) = refl
+
+  kept_after : IsKept after (with_answer response (promise_of l) k) v
+  kept_after =
+      let kp = hears.reading.kept in
+      let rd = hears.reading.reads in
+      let at = hears.reading.at in
+      record {
+        is_there = kp.is_there;
+        request = kp.request;
+        since = kp.since;
+        place = kp.place;
+        own = kp.own;
+        shown = kp.shown;
+        answer = sym (answer_shown after x v (headed now response w) unshown at exchange);
+        begins = kp.begins ∙ (lows_are t x v w at rd.row ∙ (rd.begins ∙ (sym plain.begins ∙ sym (lows_are after x v (headed now response w) at exchange))));
+        ends = sym (highs_here after x v (headed now response w) at exchange ∙ end_promised (promise_of l) (headed now response w) plain.begins unended);
+        given = kp.given;
+        due = kp.due;
+      }
+
+  none_given : v.given ≡ 0
+  none_given = let le : v.given ≤ length w.body = hears.reading.reads.given in let none : length w.body ≡ 0 = ap length nothing in omega (arith, le, none)
+
+  reads_after : ReadsPast u.received after c x v
+  reads_after =
+      let rd = hears.reading.reads in
+      record {
+        w = headed now response w;
+        row = exchange;
+        for_it = rd.for_it;
+        own = rd.own;
+        past = rd.past;
+        joined = rd.joined;
+        unfounded = unfounded t e (no_founding r u t now x response o stands hears headless [] false is refl) x rd.unfounded;
+        begins = plain.begins;
+        within = subst (λ (bytes : List ℕ). IsWithin u.received (promise_of l) (length bytes)) (sym nothing) (within_nothing u.received (promise_of l) plain.small);
+        given = rd.given;
+        awaited = λ none. none_some response (sym none);
+        unheard = λ none. none_some response (sym none);
+        told = rd.told;
+        unended = λ on. unended;
+        finished = λ over none. finished_if (is_reached (promise_of l) 0) refl over;
+      }
+    where
+      finished_if : (b : Bool) → is_reached (promise_of l) 0 ≡ b → (not (is_reached (promise_of l) 0) && w.is_open) ≡ false → end_in (Some (headed now response w)) ≡ Some (length w.body)
+      finished_if true reached over = end_promised (promise_of l) (headed now response w) plain.begins unended ∙ (reached_zero (promise_of l) reached ∙ ap (λ (bytes : List ℕ). Some (length bytes)) (sym nothing))
+      finished_if false reached over = let on : w.is_open ≡ false = rw reached at over in false_true (sym on ∙ hears.is.is_open)
+
+  here : table_of u.exchanges x ≡ known.headed l (table_of r.exchanges x)
+  here = known_here (known.headed l) x r.exchanges u.exchanges becomes
+
+  running_after : (b : Bool) → is_reached (promise_of l) 0 ≡ b → KeepsRunning (cond b None (Some (record o { headed = true; base = base_of l; promised = promise_of l }))) (Some (headed now response w))
+  running_after true reached = rw reached refl
+  running_after false reached =
+      let was = hears.is in
+      record {
+        is_open = rw reached was.is_open;
+        c = was.c;
+        need = was.need;
+        request = was.request;
+        moment = was.moment;
+        headed = refl;
+        asked = was.asked;
+        base_is = refl;
+        delivered = was.delivered;
+        promised_is = refl;
+      }
+
+  running_is : (b : Bool) → is_all (promise_of l) 0 ≡ b → (known.headed l (table_of r.exchanges x)).running ≡ cond b None (Some (record o { headed = true; base = base_of l; promised = promise_of l }))
+  running_is true reached = rw reached refl
+  running_is false reached = rw (reached, running) refl
+
+  held_is_same : (b : Bool) → is_all (promise_of l) 0 ≡ b → (known.headed l (table_of r.exchanges x)).held ≡ (table_of r.exchanges x).held
+  held_is_same true reached = rw reached refl
+  held_is_same false reached = rw reached refl
+
+  held_after : (table_of u.exchanges x).held ≡ held_for after x (Some (headed now response w))
+  held_after =
+      let rd = hears.reading.reads in
+      ap (λ (y : Known). y.held) here
+      ∙ (held_is_same (is_all (promise_of l) 0) refl
+      ∙ (((stands.exchanges x).held ∙ ap (held_for t x) rd.row) ∙ (held_is t x c w v hears.reading.row rd.for_it hears.reading.at ∙ sym (held_is after x c (headed now response w) v row_after rd.for_it hears.reading.at))))
+
+  stands_answered : RowsStand u after
+  stands_answered =
+      let rd = hears.reading.reads in
+      let reached = all_reached (promise_of l) 0 in
+      reads_on r u t e c x v stands (told_entry t now c x (event.Head x response) [] (head_news x response) w rd.row rd.for_it (no_sending r u t now x response o stands hears headless [] false is refl) (no_founding r u t now x response o stands hears headless [] false is refl)) (told_only t now c x (event.Head x response) [] (head_news x response) w rd.row rd.for_it (λ y ne. refl)) refl refl refl (λ d. refl)
+      hears.reading.row rd hears.reading.at (rw received (omega arith)) last becomes.next (λ y ne. known_other (known.headed l) x r.exchanges u.exchanges becomes y ne)
+      (λ y row over. (let one : w ≡ y = same_row (t.exchange x) w y rd.row row in false_true (sym over ∙ (ap (λ (a : Exchange). a.is_open) (sym one) ∙ hears.is.is_open))))
+      (record {
+        running = rw (here, running_is (is_all (promise_of l) 0) refl, reached, exchange) (running_after (is_reached (promise_of l) 0) refl);
+        held = held_after ∙ ap (held_for after x) (sym exchange);
+      })
+      (with_answer response (promise_of l) k) v (changed r.consumers u.consumers c (with_answer response (promise_of l)) k changes hears.there) row_after hears.reading.at kept_after reads_after
+
+  pub taken_answered : (limits : Limits) (before : List Act) → Answered limits u t before before now (event.Head x response)
+  taken_answered limits before =
+      let case_here = taken_case in
+      told_answered limits u t now (event.Head x response) [] before before refl
+      (ap (first_idle t (told_of now (event.Head x response) [])) (room_is r u t now x response o stands hears headless false is limits)) (ap has_room (room_is r u t now x response o stands hears headless false is limits))
+      (closing_none r.received t (told_of now (event.Head x response) []) stands.past (λ q. refl) (λ y. rw case_here refl) (λ y. refl))
+      (sym (append-nil before)) stands_answered

@@ -1,0 +1,170 @@
+-- An exchange past the store breaks before its head, or brings one that can't be used: its consumer is to fail.
+use Rattle.std.proofs.Common.{◌≡◌, ◌≢◌, ℕ, ◌≤◌, List, [], length, drop, Bool, true, false, cond, Option, Some, None, refl, ap, ap₂, sym, ◌∙◌, subst, arith}
+use Rattle.std.specs.Prelude.{is_some, map}
+use Rattle.hc_event.specs.Filters.{closes_in, opening_in}
+use Rattle.hc_event.specs.declared.event.Event.{Event}
+use Rattle.hc_event.specs.declared.event.Response.{Response}
+use Rattle.hc_event.specs.declared.act.Act.TheVariants as act
+use Rattle.hc_event.specs.declared.act.Cause.{Cause}
+use Rattle.hc_model.specs.declared.place.Place.TheVariants as place
+use Rattle.hc_model.specs.Cases.{case_at, is_founding}
+use Rattle.hc_model.specs.ConsumerRows.{consumer_after, consumer_heard}
+use Rattle.hc_model.specs.Denials.{is_live_place}
+use Rattle.hc_model.specs.Exchanges.{base, promised, is_open}
+use Rattle.hc_model.specs.Reading.{end_in, end_of_direct, lo_of, hi_of, base_in}
+use Rattle.hc_model.specs.Rows as rows
+use Rattle.hc_model.specs.Rows.{Tables, Exchange}
+use Rattle.hc_model.specs.StartingOver.{sends_back}
+use Rattle.hc_model.specs.Tables.{after_accepted, last_start_after, starts_after}
+use Rattle.hc_exch.specs.Exchanges as exch
+use Rattle.hc_exch.specs.Exchanges.{table_of, next_of}
+use Rattle.hc_exch.specs.Known as known
+use Rattle.hc_exch.specs.Known.{Known}
+use Rattle.hc_exch.specs.declared.row.Open.{Open}
+use Rattle.hc_core.specs.declared.consumer.Consumer.{Consumer}
+use Rattle.hc_core.specs.declared.rows.Rows.{Rows}
+use Rattle.hc_core.specs.Changes.{ChangesAt, put_down}
+use Rattle.hc_core.specs.Past.{StandsPast, down, is_misread}
+use Rattle.hc_core.specs.Kept.{IsKept, KeepsRunning, IsRunning, held_for, answer_for}
+use Rattle.hc_core.specs.Stands.{RowsStand}
+use Rattle.hc_core.proofs.Words.{false_true, same_row}
+use Rattle.hc_core.proofs.PastCloses.{told_of}
+use Rattle.hc_core.proofs.Direct.{reads_no_more}
+use Rattle.hc_core.proofs.DirectPolls.{known_other, known_here, changed}
+use Rattle.hc_core.proofs.DirectArms.{held_is}
+use Rattle.hc_core.proofs.Hearing.{Hears, IsNews, told_entry, told_only, told_row, told_acted}
+
+abbrev pub none_of : (A : Type 0) → Option A
+none_of A = None
+
+pub headless_is : (o : Open) (w : Exchange) → IsRunning o w → o.headed ≡ false → w.head ≡ None
+headless_is o w is off = by_head w.head (sym is.headed ∙ off)
+  where
+    by_head : (h : Option Response) → is_some h ≡ false → h ≡ None
+    by_head None none = refl
+    by_head (Some a) none = false_true (sym none)
+
+pub headless_base : (w : Exchange) → w.head ≡ None → base w ≡ 0
+headless_base w none = rw none refl
+
+headless_promised : (w : Exchange) → w.head ≡ None → promised w ≡ None
+headless_promised w none = rw none refl
+
+pub headless_end : (w : Exchange) → w.head ≡ None → w.is_ended ≡ false → end_in (Some w) ≡ None
+headless_end w none unended = ap (λ (n : Option ℕ). end_of_direct n w) (headless_promised w none) ∙ rw unended refl
+
+either_none : {A : Type 0} (b : Bool) → cond b (none_of A) (none_of A) ≡ None
+either_none true = refl
+either_none false = refl
+
+answers_none : (t : Tables) (x : ℕ) (v : rows.Consumer) (w : Exchange) → v.place ≡ place.Direct x → t.exchange x ≡ Some w → w.head ≡ None → answer_for t v ≡ None
+answers_none t x v w at row none = rw (at, row, none) (either_none v.shown)
+
+module _ {B : Type 0} (r u : Rows B) (t : Tables) (now x : ℕ) (ev : Event) (ys : List ℕ) (o : Open) (z : Exchange) (reason : Cause) (stands : RowsStand r t) (hears : Hears r t x o) (news : IsNews ev x) (headless : o.headed ≡ false)
+    (sends : sends_back (case_at t (told_of now ev ys)) ≡ false) (founds : is_founding (case_at t (told_of now ev ys)) ≡ false)
+    (lasts : last_start_after ev t.last_start ≡ t.last_start) (starts : starts_after ev t.starts ≡ t.starts)
+    (closes : (y : ℕ) → y ≢ x → closes_in y (map act.Close ys) ≡ false) (unopened : opening_in (map act.Close ys) ≡ None)
+    (heard : (q : rows.Consumer) → q.shown ≡ false → consumer_heard t (told_of now ev ys) o.c ev q ≡ record q { place = place.Down reason })
+    (exchange : (after_accepted t (told_of now ev ys)).exchange x ≡ Some z) (same_c : z.c ≡ hears.reading.reads.w.c) (over : z.is_open ≡ false)
+    (received : u.received ≡ r.received) (last : u.last_start ≡ r.last_start) (becomes : exch.Becomes known.closed x r.exchanges u.exchanges) (changes : ChangesAt r.consumers u.consumers o.c (put_down reason)) (told : is_misread (Some reason) ≡ false) where
+  abbrev c : ℕ
+  c = o.c
+
+  abbrev k : Consumer
+  k = hears.k
+
+  abbrev v : rows.Consumer
+  v = hears.reading.v
+
+  abbrev w : Exchange
+  w = hears.reading.reads.w
+
+  abbrev after : Tables
+  after = after_accepted t (told_of now ev ys)
+
+  no_head : w.head ≡ None
+  no_head = headless_is o w hears.is headless
+
+  unshown : v.shown ≡ false
+  unshown = (hears.reading.reads.unheard no_head).0
+
+  nothing : w.body ≡ []
+  nothing = (hears.reading.reads.unheard no_head).1
+
+  none_given : v.given ≡ 0
+  none_given = let le : v.given ≤ length w.body = hears.reading.reads.given in let none : length w.body ≡ 0 = ap length nothing in omega (arith, le, none)
+
+  v_down : rows.Consumer
+  v_down = record v { place = place.Down reason; due = None }
+
+  row_after : after.consumer c ≡ Some v_down
+  unfolding v_down
+  row_after =
+      let e = told_of now ev ys in
+      let at = hears.reading.at in
+      ap (consumer_after t e c) hears.reading.row
+      ∙ told_row t now c x ev ys v at sends (record v { place = place.Down reason }) (heard v unshown) (told_acted t now c x ev ys v at sends (record v { place = place.Down reason }) (heard (record v { place = place.Down reason }) unshown)) false refl
+
+  kept_down : IsKept after (put_down reason k) v_down
+  unfolding v_down
+  kept_down =
+      let kp = hears.reading.kept in
+      let rd = hears.reading.reads in
+      let at = hears.reading.at in
+      record {
+        is_there = refl;
+        request = kp.request;
+        since = kp.since;
+        place = refl;
+        own = kp.own;
+        shown = kp.shown;
+        answer = kp.answer ∙ (answers_none t x v w at rd.row no_head ∙ sym (either_none v.shown));
+        begins = kp.begins ∙ (ap (lo_of t) at ∙ (ap base_in rd.row ∙ headless_base w no_head));
+        ends = kp.ends ∙ (ap (hi_of t) at ∙ (ap end_in rd.row ∙ headless_end w no_head (rd.unended hears.is.is_open)));
+        given = kp.given;
+        due = kp.due ∙ (rd.unheard no_head).2;
+      }
+
+  stands_down_past : StandsPast u.received after c v_down
+  unfolding v_down
+  stands_down_past = down reason x z refl hears.reading.reads.own exchange over unshown none_given refl told
+
+  here : table_of u.exchanges x ≡ known.closed (table_of r.exchanges x)
+  here = known_here known.closed x r.exchanges u.exchanges becomes
+
+  held_before : (table_of r.exchanges x).held ≡ []
+  held_before =
+      let rd = hears.reading.reads in
+      ((stands.exchanges x).held ∙ ap (held_for t x) rd.row) ∙ (held_is t x c w v hears.reading.row rd.for_it hears.reading.at ∙ (ap₂ (λ (n : ℕ) (bytes : List ℕ). drop n bytes) none_given nothing))
+
+  none_after : held_for after x (Some z) ≡ []
+  unfolding v_down
+  none_after = rw (same_c, hears.reading.reads.for_it, row_after) refl
+
+  closed_row : is_open (after.exchange x) ≡ false
+  closed_row = ap is_open exchange ∙ over
+
+  pub stands_down : RowsStand u after
+  unfolding v_down
+  stands_down =
+      let rd = hears.reading.reads in
+      let e = told_of now ev ys in
+      reads_no_more r u t e c x v stands (told_entry t now c x ev ys news w rd.row rd.for_it sends founds) (told_only t now c x ev ys news w rd.row rd.for_it closes) unopened lasts starts (λ d. news.makes d now)
+      hears.reading.row rd hears.reading.at (rw received (omega arith)) last becomes.next (λ y ne. known_other known.closed x r.exchanges u.exchanges becomes y ne)
+      (λ y row is. (z, exchange, over))
+      (record {
+        running = subst (λ (y : Known). KeepsRunning y.running (after.exchange x)) (sym here) closed_row;
+        held = ap (λ (y : Known). y.held) here ∙ (held_before ∙ (sym none_after ∙ ap (held_for after x) (sym exchange)));
+      })
+      (Some (put_down reason k)) v_down (changed r.consumers u.consumers c (put_down reason) k changes hears.there) row_after
+      not_direct undue_down lives_down kept_down (λ live. stands_down_past)
+      (λ y row opened. false_true (sym over ∙ (ap (λ (a : Exchange). a.is_open) (same_row (after.exchange x) z y exchange row) ∙ opened)))
+    where
+      not_direct : (y : ℕ) → v_down.place ≡ place.Direct y → ⊥
+      not_direct y at = let never : place.Down reason ≡ place.Direct y = at in cc
+
+      undue_down : v_down.due ≡ None
+      undue_down = refl
+
+      lives_down : true ≡ is_live_place v_down.place
+      lives_down = refl

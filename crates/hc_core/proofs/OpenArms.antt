@@ -1,0 +1,185 @@
+-- A consumer that reads nothing is cancelled, opens its exchange or starts; and a doom.
+use Rattle.std.proofs.Common.{◌≡◌, ◌≢◌, inl, inr, ℕ, ◌+◌, ◌<◌, List, [], Bool, false, cond, eqb, Option, Some, None, refl, ap, sym, ◌∙◌, subst, arith}
+use Rattle.std.proofs.lemmas.List.{append-nil}
+use Rattle.std.specs.Prelude.{nat_eq}
+use Rattle.std.specs.HashMap.{get, hash_map_len}
+use Rattle.hc_event.specs.declared.event.Event.TheVariants as event
+use Rattle.hc_event.specs.declared.act.Act.{Act}
+use Rattle.hc_rules.specs.declared.room.Limits.{Limits}
+use Rattle.hc_model.specs.declared.place.Place.{Place}
+use Rattle.hc_model.specs.declared.place.Place.TheVariants as place
+use Rattle.hc_model.specs.Cases.{case_of}
+use Rattle.hc_model.specs.ConsumerRows.{consumer_after}
+use Rattle.hc_model.specs.Denials.{is_live, is_live_place, live}
+use Rattle.hc_model.specs.Reading.{reads}
+use Rattle.hc_model.specs.Rows as rows
+use Rattle.hc_model.specs.Rows.{Tables, Exchange}
+use Rattle.hc_model.specs.Tables.{after_accepted}
+use Rattle.hc_model.specs.Weights.{room_for}
+use Rattle.hc_core.specs.declared.consumer.Consumer.{Consumer}
+use Rattle.hc_core.specs.declared.rows.Rows.{Rows}
+use Rattle.hc_core.specs.Changes.{BecomesAt}
+use Rattle.hc_core.specs.Past.{StandsPast, line, direct, down}
+use Rattle.hc_core.specs.Kept.{KeepsConsumer, held_for}
+use Rattle.hc_core.specs.Stands.{RowsStand, Answered}
+use Rattle.hc_core.proofs.Words.{same_or, eqb-same, eqb-other, none_some, false_true}
+use Rattle.hc_core.proofs.Frames.{consumer_absent}
+use Rattle.hc_core.proofs.Moved.{IsSameOrBack, stands_moved, kept_row, kept_none}
+use Rattle.hc_core.proofs.PastEntries.{IsPastEntry, IsOnly, others, other_exchanges, unfounded}
+use Rattle.hc_core.proofs.Listed.{numbers_stay}
+use Rattle.hc_model.specs.ConsumerRows.{consumer_heard, consumer_acted, consumer_settled}
+use Rattle.hc_model.specs.Dooms.{doomed}
+use Rattle.hc_model.specs.Reading.{own_open}
+use Rattle.hc_model.specs.StartingOver.{starts_over}
+use Rattle.hc_model.proofs.ActParts.{far_closed}
+use Rattle.hc_core.proofs.Frames.{acted_stays}
+use Rattle.hc_core.proofs.PastCloses.{cancel_of, told_of, closing_none, cancel_answered, told_answered}
+use Rattle.hc_core.proofs.PollRows.{IsGone}
+use Rattle.hc_core.proofs.Apart.{next_free, nobody_reads, stands_apart}
+use Rattle.hc_core.proofs.LiveCounts.{counted, counted_same, not_among}
+use Rattle.hc_core.proofs.Direct.{same_lives}
+use Rattle.hc_core.proofs.ApartArms.{unleft, not_over_direct, closed_own}
+
+-- A CANCEL
+
+-- it is in line, or is to fail
+pub record IsIdle {B : Type 0} (r : Rows B) (t : Tables) (c : ℕ) : Type 0 where
+  pub v : rows.Consumer
+  pub row : t.consumer c ≡ Some v
+  pub off : (x : ℕ) → v.place ≡ place.Direct x → ⊥
+  pub free : (q lo : ℕ) (hi : Option ℕ) (by : _) → v.place ≡ place.Bound q lo hi by → ⊥
+  pub unpassed : (q : ℕ) (kept : Option ℕ) → v.place ≡ place.Passed q kept → ⊥
+  pub unowned : own_open t v ≡ None
+
+idle_by : {B : Type 0} (r : Rows B) (t : Tables) (c : ℕ) (v : rows.Consumer) → t.consumer c ≡ Some v → ((x : ℕ) → v.place ≡ place.Direct x → ⊥) → StandsPast r.received t c v → IsIdle r t c
+idle_by r t c v row off (line at own shown given due disabled plain) = record {
+  v = v;
+  row = row;
+  off = off;
+  free = λ q lo hi by is. (let never : place.Line ≡ place.Bound q lo hi by = sym at ∙ is in cc);
+  unpassed = λ q kept is. (let never : place.Line ≡ place.Passed q kept = sym at ∙ is in cc);
+  unowned = rw own refl;
+}
+idle_by r t c v row off (direct x at reads) = absurd (off x at)
+idle_by r t c v row off (down why x w at own there over shown given due told) = record {
+  v = v;
+  row = row;
+  off = off;
+  free = λ q lo hi by is. (let never : place.Down why ≡ place.Bound q lo hi by = sym at ∙ is in cc);
+  unpassed = λ q kept is. (let never : place.Down why ≡ place.Passed q kept = sym at ∙ is in cc);
+  unowned = closed_own t v x w own there over;
+}
+
+pub idle_of : {B : Type 0} (r : Rows B) (t : Tables) (c : ℕ) (k : Consumer) → RowsStand r t → get nat_eq r.consumers c ≡ Some k → ((x : ℕ) → k.place ≡ place.Direct x → ⊥) → IsIdle r t c
+idle_of r t c k stands there off =
+    let (v, row, kept) = kept_row t k (t.consumer c) (rw there at (stands.consumers c)) in
+    idle_by r t c v row (λ x is. off x (kept.place ∙ is)) (stands.past.places c v row kept.is_there)
+
+cancel_past : (t : Tables) (now c : ℕ) → IsPastEntry t (cancel_of now c []) c
+unfolding case_of
+cancel_past t now c = record {
+  about = λ y is. none_some y is;
+  cancels = λ d is. (let same : event.Cancel c ≡ event.Cancel d = is in let one : c ≡ d = cc in sym one);
+  makes = λ d ne. refl;
+  far = λ d ne. far_closed d [];
+  lossless = λ q. refl;
+  sends = refl;
+  founds = refl;
+}
+
+cancel_nothing : (now c x : ℕ) → IsOnly (cancel_of now c []) x
+cancel_nothing now c x = record { hears = λ y is. none_some y is; asks = λ y ne. refl; closes = λ y ne. refl; opens = λ o is. none_some o is }
+
+over_goes_on : (t : Tables) (now c : ℕ) (v : rows.Consumer) (p : Place) → v.place ≡ p → ((q : ℕ) (kept : Option ℕ) → p ≡ place.Passed q kept → ⊥) → starts_over t (cancel_of now c []) c v ≡ false
+unfolding starts_over doomed case_of
+over_goes_on t now c v place.Line at off = rw at refl
+over_goes_on t now c v (place.Passed q kept) at off = absurd (off q kept refl)
+over_goes_on t now c v (place.Turn x) at off = rw at refl
+over_goes_on t now c v (place.Bound q lo hi by) at off = rw at refl
+over_goes_on t now c v (place.Direct x) at off = rw at refl
+over_goes_on t now c v (place.Down why) at off = rw at refl
+over_goes_on t now c v place.Over at off = rw at refl
+
+cancelled : (t : Tables) (now c : ℕ) (v : rows.Consumer) → starts_over t (cancel_of now c []) c v ≡ false → IsGone (consumer_after t (cancel_of now c []) c (Some v))
+unfolding consumer_after
+cancelled t now c v goes_on =
+    let e = cancel_of now c [] in
+    let heard : consumer_heard t e c (event.Cancel c) v ≡ record v { place = place.Over } = rw (eqb-same c) refl in
+    let acted : consumer_acted t e c (record v { place = place.Over }) ≡ record v { place = place.Over } = acted_stays t e c (record v { place = place.Over }) (far_closed c []) (λ q. refl) (rw (eqb-same c) refl) in
+    record {
+      v = record v { place = place.Over; due = None };
+      row = ap (λ (z : rows.Consumer). Some (consumer_settled t e c v z)) (ap (consumer_acted t e c) heard ∙ acted) ∙ rw goes_on refl;
+      place_is = refl;
+      undue = refl;
+    }
+
+pub idle_cancelled : {B : Type 0} (r u : Rows B) (t : Tables) (now c : ℕ) (before : List Act) (limits : Limits) → RowsStand r t → (idle : IsIdle r t c) → u.received ≡ r.received → u.last_start ≡ r.last_start → u.exchanges ≡ r.exchanges → BecomesAt r.consumers u.consumers c None → Answered limits u t before before now (event.Cancel c)
+unfolding case_of
+idle_cancelled r u t now c before limits stands idle received last exchanges becomes =
+    let e = cancel_of now c [] in
+    let gone : IsGone ((after_accepted t e).consumer c) = subst (λ o. IsGone (consumer_after t e c o)) (sym idle.row) (cancelled t now c idle.v (over_goes_on t now c idle.v idle.v.place refl (λ q kept is. idle.unpassed q kept is))) in
+    let lives : is_live_place gone.v.place ≡ false = ap is_live_place gone.place_is in
+    cancel_answered limits u t now c [] before before
+    (closing_none r.received t e stands.past (λ q. refl) (λ y. refl) (λ y. unleft t c y idle.v idle.v.place idle.row refl idle.unowned (λ q lo hi by is. idle.free q lo hi by is)))
+    (sym (append-nil before))
+    (stands_apart r u t e c idle.v gone.v None stands (cancel_past t now c) (λ x free. cancel_nothing now c x) refl refl refl (λ d. refl)
+    idle.row idle.off gone.row (λ y is. not_over_direct y gone.v.place gone.place_is is)
+    received last exchanges becomes gone.undue (sym lives) lives (λ live. false_true (sym lives ∙ live)))
+
+-- A DOOM
+
+-- where whoever changes is none of those that started, as many are live as before
+still_count : {B : Type 0} (r : Rows B) (t s : Tables) (now c : ℕ) → RowsStand r t → s.starts ≡ t.starts → t.last_start < c → ((d : ℕ) → d ≢ c → IsSameOrBack now (t.consumer d) (s.consumer d)) → hash_map_len r.consumers ≡ live s
+still_count r t s now c stands starts lt others =
+    let f : ℕ → Bool = λ d. is_live (t.consumer d) in
+    let g : ℕ → Bool = λ d. is_live (s.consumer d) in
+    let alike : counted g t.starts ≡ counted f t.starts = counted_same f g c t.starts (λ h. not_among (t.last_start + 1) c t.starts stands.numbers.starts (omega (arith, lt)) h) (λ d ne. same_lives now _ _ (others d ne)) in
+    stands.count ∙ (sym alike ∙ ap (counted g) (sym starts))
+
+doom_past : (t : Tables) (now c : ℕ) (key : List ℕ) → IsPastEntry t (told_of now (event.Doom key) []) c
+unfolding case_of
+doom_past t now c key = record {
+  about = λ y is. none_some y is;
+  cancels = λ d is. absurd (let never : event.Doom key ≡ event.Cancel d = is in cc);
+  makes = λ d ne. refl;
+  far = λ d ne. far_closed d [];
+  lossless = λ q. refl;
+  sends = refl;
+  founds = refl;
+}
+
+doom_nothing : (now x : ℕ) (key : List ℕ) → IsOnly (told_of now (event.Doom key) []) x
+doom_nothing now x key = record { hears = λ y is. none_some y is; asks = λ y ne. refl; closes = λ y ne. refl; opens = λ o is. none_some o is }
+
+pub doom_answered : {B : Type 0} (r : Rows B) (t : Tables) (now : ℕ) (key : List ℕ) (before : List Act) (limits : Limits) → RowsStand r t → Answered limits r t before before now (event.Doom key)
+unfolding case_of room_for
+doom_answered r t now key before limits stands =
+    let e = told_of now (event.Doom key) [] in
+    let s : Tables = after_accepted t e in
+    let c : ℕ = t.last_start + 1 in
+    let x : ℕ = t.opened + 1 in
+    let none : t.consumer c ≡ None = stands.numbers.new_consumers c (omega arith) in
+    let none_after : s.consumer c ≡ None = ap (consumer_after t e c) none ∙ consumer_absent t e c refl in
+    let free : t.exchange x ≡ None = next_free r t stands in
+    let every : (y : ℕ) → s.exchange y ≡ t.exchange y = λ y. other_exchanges t e (y + 1) (doom_nothing now (y + 1) key) y (omega arith) in
+    let all_others = others r.received t e c stands.past (doom_past t now c key) in
+    let known_x = stands.exchanges x in
+    let absent : get nat_eq r.consumers c ≡ None = kept_none t (get nat_eq r.consumers c) (subst (λ o. KeepsConsumer t (get nat_eq r.consumers c) o) none (stands.consumers c)) in
+    told_answered limits r t now (event.Doom key) [] before before refl refl refl
+    (closing_none r.received t e stands.past (λ q. refl) (λ y. refl) (λ y. refl))
+    (sym (append-nil before))
+    (stands_moved r r t s now c x None stands (numbers_stay t e stands.numbers refl refl refl (λ d. refl) refl) (omega arith) stands.last_start stands.next
+    (record { places = λ d. stays_none (get nat_eq r.consumers) c absent d; len = rw absent refl })
+    (still_count r t s now c stands refl (omega arith) all_others)
+    all_others (λ y ne. every y) (λ w there over. none_some w (sym free ∙ there)) (λ q row. unfounded t e refl q row) (λ y ne. refl)
+    (rw none_after refl) (λ z row live. none_some z (sym none_after ∙ row)) (λ z row off. none_some z (sym none_after ∙ row))
+    (record { running = rw (every x) known_x.running; held = rw (every x, free) (known_x.held ∙ ap (held_for t x) free) })
+    (λ w there opened. none_some w (sym (every x ∙ free) ∙ there))
+    (λ d j ne row at. nobody_reads r t x d j stands free row at)
+    (λ y j ne row at. none_some j (sym none ∙ row)) (λ y j ne row at. none_some j (sym none_after ∙ row)))
+  where
+    stays_none : {A : Type 0} (f : ℕ → Option A) (c : ℕ) → f c ≡ None → (d : ℕ) → f d ≡ cond (eqb c d) None (f d)
+    stays_none f c none d = elim (same_or c d) [
+      | inl eq ↦ rw (← eq, eqb-same c) none
+      | inr ne ↦ rw (eqb-other c d ne) refl
+    ]

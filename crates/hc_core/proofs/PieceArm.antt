@@ -1,0 +1,219 @@
+-- A piece of an exchange past the store is held for its consumer.
+use Rattle.std.proofs.Common.{◌≡◌, ℕ, ◌+◌, ◌≤◌, List, [], ◌++◌, length, drop, Bool, true, false, cond, eqb, Option, Some, None, refl, ap, ap₂, sym, ◌∙◌, arith}
+use Rattle.std.proofs.lemmas.Bool.Decides.{nat_tests}
+use Rattle.std.proofs.lemmas.List.{length-append, drop-append-le, append-nil}
+use Rattle.std.specs.Prelude.{is_some, nat_lt, ◌&&◌, not}
+use Rattle.std.specs.Option.{option_or}
+use Rattle.hc_event.specs.declared.event.Event.TheVariants as event
+use Rattle.hc_event.specs.declared.act.Act.{Act}
+use Rattle.hc_event.specs.declared.act.Cause.{Cause}
+use Rattle.hc_rules.specs.Refusals.{piece_refusal, overlong}
+use Rattle.hc_rules.specs.declared.room.Limits.{Limits}
+use Rattle.hc_rules.specs.declared.room.Room.TheVariants as room
+use Rattle.hc_model.specs.Cases.{case_of}
+use Rattle.hc_model.specs.ConsumerRows.{consumer_after}
+use Rattle.hc_model.specs.ExchangeRows.{exchange_after}
+use Rattle.hc_model.specs.Exchanges.{base, promised, is_reached}
+use Rattle.hc_model.specs.Reading.{end_in, end_of_direct}
+use Rattle.hc_model.specs.Rows as rows
+use Rattle.hc_model.specs.Rows.{Tables, Exchange}
+use Rattle.hc_model.specs.Runs.{has_room}
+use Rattle.hc_model.specs.Tables.{after_accepted}
+use Rattle.hc_model.specs.Weights.{room_for, write_in, room_by, first_idle}
+use Rattle.hc_model.proofs.Dues.{stop_none}
+use Rattle.hc_exch.specs.Exchanges as exch
+use Rattle.hc_exch.specs.Exchanges.{table_of, next_of}
+use Rattle.hc_exch.specs.Known as known
+use Rattle.hc_exch.specs.Known.{Known, is_all, is_last_of, seen}
+use Rattle.hc_exch.specs.declared.row.Open.{Open}
+use Rattle.hc_core.specs.declared.rows.Rows.{Rows}
+use Rattle.hc_core.specs.Past.{ReadsPast, IsWithin}
+use Rattle.hc_core.specs.Kept.{KeepsRunning, IsRunning, held_for}
+use Rattle.hc_core.specs.Stands.{RowsStand, Answered}
+use Rattle.hc_core.proofs.Words.{eqb-same, none_some, false_true, same_row}
+use Rattle.hc_core.proofs.PastEntries.{unfounded}
+use Rattle.hc_core.proofs.PastCloses.{told_of, told_answered, closing_none}
+use Rattle.hc_core.proofs.Direct.{reads_on}
+use Rattle.hc_core.proofs.DirectPolls.{known_other, known_here, unchanged}
+use Rattle.hc_core.proofs.DirectArms.{kept_with, held_is}
+use Rattle.hc_core.proofs.Hearing.{Hears, IsNews, told_entry, told_only, told_row, told_acted, told_due}
+
+-- WHAT A PIECE LEAVES
+
+abbrev pieced : List ℕ → Exchange → Exchange
+pieced bytes w = record w { body = w.body ++ bytes; asked = false; is_open = not (is_reached (promised w) (length (w.body ++ bytes))) && w.is_open }
+
+exchange_pieced : (t : Tables) (now x : ℕ) (bytes : List ℕ) (w : Exchange) → exchange_after t (told_of now (event.Piece x bytes) []) x (Some w) ≡ Some (pieced bytes w)
+unfolding exchange_after
+exchange_pieced t now x bytes w = rw (eqb-same x) refl
+
+all_reached : (o : Option ℕ) (n : ℕ) → is_all o n ≡ is_reached o n
+all_reached None n = refl
+all_reached (Some p) n = refl
+
+reached_end : (o : Option ℕ) (n : ℕ) (w : Exchange) → base w ≡ 0 → is_reached o n ≡ true → end_of_direct o w ≡ Some n
+reached_end None n w zero h = false_true h
+reached_end (Some p) n w zero h = let same : p ≡ n = grind (arith, nat_tests) in rw zero (ap Some (omega (arith, same)))
+
+end_pieced : (o : Option ℕ) (bytes : List ℕ) (w : Exchange) → w.is_ended ≡ false → end_of_direct o (pieced bytes w) ≡ end_of_direct o w
+end_pieced None bytes w unended = rw unended refl
+end_pieced (Some n) bytes w unended = refl
+
+headed_is : (o : Open) (w : Exchange) → IsRunning o w → o.headed ≡ true → is_some w.head ≡ true
+headed_is o w is headed = sym is.headed ∙ headed
+
+piece_news : (x : ℕ) (bytes : List ℕ) → IsNews (event.Piece x bytes) x
+piece_news x bytes = record { names = refl; makes = λ d now. refl; cancels = λ d is. (let never : event.Piece x bytes ≡ event.Cancel d = is in cc) }
+
+-- what an accepted piece says
+pub record IsFit (o : Open) (n : ℕ) : Type 0 where
+  pub headed : o.headed ≡ true
+  pub fits : overlong o.promised (o.delivered + n) ≡ None
+
+pub fit_of : (o : Open) (n : ℕ) → piece_refusal (Some (seen o)) n ≡ None → IsFit o n
+fit_of o n accepted = by_head o.headed o.asked (eqb n 0) refl refl refl
+  where
+    by_head : (h a z : Bool) → o.headed ≡ h → o.asked ≡ a → eqb n 0 ≡ z → IsFit o n
+    by_head false a z hi ai zi = none_some _ (sym (rw hi at accepted))
+    by_head true false z hi ai zi = none_some _ (sym (rw (hi, ai) at accepted))
+    by_head true true true hi ai zi = none_some _ (sym (rw (hi, ai, zi) at accepted))
+    by_head true true false hi ai zi = record { headed = hi; fits = rw (hi, ai, zi) at accepted }
+
+pub within_piece : (o : Option ℕ) (n m count more : ℕ) → m ≡ n + more → overlong o (count + more) ≡ None → IsWithin n o count → IsWithin m o (count + more)
+within_piece None n m count more is fits h = omega (arith, is, h)
+within_piece (Some p) n m count more is fits h = (h.0, below (nat_lt p (count + more)) refl)
+  where
+    below : (b : Bool) → nat_lt p (count + more) ≡ b → count + more ≤ p
+    below true lt = none_some _ (sym (rw lt at fits))
+    below false lt = grind (arith, nat_tests)
+
+module _ {B : Type 0} (r u : Rows B) (t : Tables) (now x : ℕ) (bytes : List ℕ) (o : Open) (stands : RowsStand r t) (hears : Hears r t x o) (fit : IsFit o (length bytes))
+    (received : u.received ≡ r.received + length bytes) (last : u.last_start ≡ r.last_start) (same_map : u.consumers ≡ r.consumers) (becomes : exch.Becomes (known.with_piece bytes true) x r.exchanges u.exchanges) (running : (table_of r.exchanges x).running ≡ Some o) where
+  abbrev c : ℕ
+  c = o.c
+
+  abbrev v : rows.Consumer
+  v = hears.reading.v
+
+  abbrev w : Exchange
+  w = hears.reading.reads.w
+
+  abbrev after : Tables
+  after = after_accepted t (told_of now (event.Piece x bytes) [])
+
+  row_after : after.consumer c ≡ Some v
+  unfolding case_of
+  row_after =
+      let e = told_of now (event.Piece x bytes) [] in
+      let at = hears.reading.at in
+      let due = told_due t now c x (event.Piece x bytes) [] v at refl None (stop_none t e v refl) refl in
+      ap (consumer_after t e c) hears.reading.row
+      ∙ (told_row t now c x (event.Piece x bytes) [] v at refl v refl (told_acted t now c x (event.Piece x bytes) [] v at refl v refl) true (rw at refl)
+      ∙ ap (λ (z : Option Cause). Some (record v { due = z })) (ap (option_or v.due) due ∙ or_nothing v.due))
+    where
+      or_nothing : (o : Option Cause) → option_or o None ≡ o
+      or_nothing None = refl
+      or_nothing (Some a) = refl
+
+  exchange : after.exchange x ≡ Some (pieced bytes w)
+  exchange = ap (exchange_after t (told_of now (event.Piece x bytes) []) x) hears.reading.reads.row ∙ exchange_pieced t now x bytes w
+
+  -- how much came, of how much
+  count_is : o.delivered + length bytes ≡ length (w.body ++ bytes)
+  count_is = ap (λ n. n + length bytes) hears.is.delivered ∙ sym (length-append w.body bytes)
+
+  last_is : is_last_of (Some o) (length bytes) ≡ is_reached (promised w) (length (w.body ++ bytes))
+  last_is = ap₂ is_all hears.is.promised_is count_is ∙ all_reached (promised w) (length (w.body ++ bytes))
+
+  here : table_of u.exchanges x ≡ known.with_piece bytes true (table_of r.exchanges x)
+  here = known_here (known.with_piece bytes true) x r.exchanges u.exchanges becomes
+
+  running_after : (b : Bool) → is_reached (promised w) (length (w.body ++ bytes)) ≡ b → KeepsRunning (cond b None (Some (record o { delivered = o.delivered + length bytes; asked = false }))) (Some (pieced bytes w))
+  running_after true reached = rw reached refl
+  running_after false reached =
+      let is = hears.is in
+      record {
+        is_open = rw reached is.is_open;
+        c = is.c;
+        need = is.need;
+        request = is.request;
+        moment = is.moment;
+        headed = is.headed;
+        asked = refl;
+        base_is = is.base_is;
+        delivered = count_is;
+        promised_is = is.promised_is;
+      }
+
+  headed_w : is_some w.head ≡ true
+  headed_w = headed_is o w hears.is fit.headed
+
+  no_head : {P : Type 0} → w.head ≡ None → P
+  no_head none = false_true (sym (ap is_some none) ∙ headed_w)
+
+  reads_after : ReadsPast u.received after c x v
+  unfolding case_of
+  reads_after =
+      let rd = hears.reading.reads in
+      record {
+        w = pieced bytes w;
+        row = exchange;
+        for_it = rd.for_it;
+        own = rd.own;
+        past = rd.past;
+        joined = rd.joined;
+        unfounded = unfounded t (told_of now (event.Piece x bytes) []) refl x rd.unfounded;
+        begins = rd.begins;
+        within = rw (length-append w.body bytes) (within_piece (promised w) r.received u.received (length w.body) (length bytes) received (rw (← hears.is.promised_is, ← hears.is.delivered) fit.fits) rd.within);
+        given = rw (length-append w.body bytes) (omega (arith, rd.given));
+        awaited = λ none. no_head none;
+        unheard = λ none. no_head none;
+        told = rd.told;
+        unended = λ h. rd.unended hears.is.is_open;
+        finished = λ over none. by_reached (is_reached (promised w) (length (w.body ++ bytes))) refl over;
+      }
+    where
+      by_reached : (b : Bool) → is_reached (promised w) (length (w.body ++ bytes)) ≡ b → (not (is_reached (promised w) (length (w.body ++ bytes))) && w.is_open) ≡ false → end_in (Some (pieced bytes w)) ≡ Some (length (w.body ++ bytes))
+      by_reached true reached over = reached_end (promised w) (length (w.body ++ bytes)) (pieced bytes w) hears.reading.reads.begins reached
+      by_reached false reached over = let on : w.is_open ≡ false = rw reached at over in false_true (sym on ∙ hears.is.is_open)
+
+  held_after : (table_of u.exchanges x).held ≡ held_for after x (Some (pieced bytes w))
+  held_after =
+      let rd = hears.reading.reads in
+      let before : (table_of r.exchanges x).held ≡ drop v.given w.body = ((stands.exchanges x).held ∙ ap (held_for t x) rd.row) ∙ held_is t x c w v hears.reading.row rd.for_it hears.reading.at in
+      ap (λ (z : Known). z.held) here
+      ∙ (ap (λ (zs : List ℕ). zs ++ bytes) before ∙ (sym (drop-append-le v.given w.body bytes rd.given) ∙ sym (held_is after x c (pieced bytes w) v row_after rd.for_it hears.reading.at)))
+
+  pub stands_pieced : RowsStand u after
+  unfolding case_of
+  stands_pieced =
+      let rd = hears.reading.reads in
+      let e = told_of now (event.Piece x bytes) [] in
+      reads_on r u t e c x v stands (told_entry t now c x (event.Piece x bytes) [] (piece_news x bytes) w rd.row rd.for_it refl refl) (told_only t now c x (event.Piece x bytes) [] (piece_news x bytes) w rd.row rd.for_it (λ y ne. refl)) refl refl refl (λ d. refl)
+      hears.reading.row rd hears.reading.at (rw received (omega arith)) last becomes.next (λ y ne. known_other (known.with_piece bytes true) x r.exchanges u.exchanges becomes y ne)
+      (λ z row over. (let one : w ≡ z = same_row (t.exchange x) w z rd.row row in false_true (sym over ∙ (ap (λ (y : Exchange). y.is_open) (sym one) ∙ hears.is.is_open))))
+      (record {
+        running = rw (here, running, last_is, exchange) (running_after (is_reached (promised w) (length (w.body ++ bytes))) refl);
+        held = held_after ∙ ap (held_for after x) (sym exchange);
+      })
+      hears.k v (unchanged r.consumers u.consumers c hears.k same_map hears.there) row_after hears.reading.at
+      (kept_with t after x hears.k v w (pieced bytes w) hears.reading.at rd.row exchange refl refl (end_pieced (promised w) bytes w (rd.unended hears.is.is_open)) hears.reading.kept)
+      reads_after
+
+  -- nothing of it is stored
+  no_write : write_in t (record { now = now; event = event.Piece x bytes; acts = [] }) (event.Piece x bytes) ≡ None
+  no_write =
+      let rd = hears.reading.reads in
+      rw (rd.row, rd.joined, rd.unfounded) refl
+
+  pub room_is : (limits : Limits) → room_for limits t now (event.Piece x bytes) ≡ room.After 0
+  unfolding room_for
+  room_is limits = ap (room_by limits t (record { now = now; event = event.Piece x bytes; acts = [] })) no_write
+
+  pub piece_answered : (limits : Limits) (before : List Act) → Answered limits u t before before now (event.Piece x bytes)
+  unfolding case_of
+  piece_answered limits before =
+      told_answered limits u t now (event.Piece x bytes) [] before before refl
+      (ap (first_idle t (record { now = now; event = event.Piece x bytes; acts = [] })) (room_is limits) ∙ refl) (ap has_room (room_is limits))
+      (closing_none r.received t (told_of now (event.Piece x bytes) []) stands.past (λ q. refl) (λ y. refl) (λ y. refl))
+      (sym (append-nil before)) stands_pieced

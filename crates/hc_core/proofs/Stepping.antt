@@ -1,0 +1,141 @@
+-- The step of a cache: one entry more, denied or accepted.
+use Rattle.std.proofs.Common.{◌≡◌, ℕ, ◌+◌, ◌≤◌, List, [], ◌∷◌, ◌++◌, Bool, true, false, Option, Some, None, refl, ap, sym, ◌∙◌, subst, arith}
+use Rattle.std.proofs.lemmas.Bool.Decides.{nat_tests}
+use Rattle.std.specs.Prelude.{nat_eq, nat_le, ◌||◌}
+use Rattle.std.specs.HashMap.{get, hash_map_len}
+use Rattle.hc_event.specs.Filters.{is_denied}
+use Rattle.hc_event.specs.declared.event.Event.{Event}
+use Rattle.hc_event.specs.declared.act.Act.{Act}
+use Rattle.hc_event.specs.declared.act.Act.TheVariants as act
+use Rattle.hc_event.specs.declared.act.Refusal.{Refusal}
+use Rattle.hc_rules.specs.declared.room.Limits.{Limits}
+use Rattle.hc_rules.specs.Refusals.{refusal_of}
+use Rattle.hc_exch.specs.Exchanges.{table_of, next_of}
+use Rattle.hc_exch.specs.Known.{unknown}
+use Rattle.hc_model.specs.Answers.{answer, accepted, denied_or}
+use Rattle.hc_model.specs.Beginnings.{may_begin}
+use Rattle.hc_model.specs.Denials.{denial}
+use Rattle.hc_model.specs.Entries.{Entry, History, Contents, no_contents}
+use Rattle.hc_model.specs.Flaws.{Flaw, NoFlaw, flaw_in}
+use Rattle.hc_model.specs.Rows.{Tables}
+use Rattle.hc_model.specs.Runs.{IsRun, IsOwed, may_stand, may_be}
+use Rattle.hc_model.specs.Tables.{tables, after_accepted, after_denied, received_in}
+use Rattle.hc_model.proofs.Barred.{next_tables, denied_tables}
+use Rattle.hc_core.specs.declared.rows.Rows.{Rows}
+use Rattle.hc_core.specs.declared.cache.Cache.{Cache}
+use Rattle.hc_core.specs.Stands.{RowsStand, StandsForSome, Answers, gate_of}
+use Rattle.hc_core.specs.Good.{counted}
+use Rattle.hc_core.specs.Steps.{StandsFor, Steps}
+use Rattle.hc_core.proofs.Gates.{denies_as}
+use Rattle.hc_core.proofs.Undenied.{undenied}
+use Rattle.hc_core.proofs.Denying.{stands_denied, stands_begun}
+
+-- THE BEGINNING
+
+begins : (limits : Limits) → may_begin limits no_contents ≡ true
+unfolding may_begin
+begins limits = let last : nat_le 0 limits.max_total ≡ true = grind (arith, nat_tests) in rw last refl
+
+pub stands_beginning : {B : Type 0} (s : Cache B) → s.last_moment ≡ 0 → s.steps ≡ 0 → s.rows.received ≡ 0 → s.rows.last_start ≡ 0 → next_of s.rows.exchanges ≡ 1 → hash_map_len s.rows.consumers ≡ 0 → ((c : ℕ) → get nat_eq s.rows.consumers c ≡ None) → ((x : ℕ) → table_of s.rows.exchanges x ≡ unknown)
+    → StandsFor s no_contents []
+unfolding tables
+stands_beginning s moment steps received last next count none unopened = record {
+  begins = begins s.rows.limits;
+  run = tt;
+  moment = moment;
+  entries = steps;
+  received = received;
+  rows = stands_begun s.rows last next count none unopened;
+}
+
+-- WHAT IS OWED
+
+answer_accepted : (limits : Limits) (t : Tables) (now : ℕ) (ev : Event) (flaw : Flaw) → denial t ev ≡ None → answer limits t now ev flaw ≡ accepted limits t now ev flaw
+unfolding answer
+answer_accepted limits t now ev flaw none = ap (λ o. denied_or o (accepted limits t now ev flaw)) none
+
+answer_denied : (limits : Limits) (t : Tables) (now : ℕ) (ev : Event) (flaw : Flaw) (why : Refusal) → denial t ev ≡ Some why → answer limits t now ev flaw ≡ act.Denied why ∷ []
+unfolding answer
+answer_denied limits t now ev flaw why some = ap (λ o. denied_or o (accepted limits t now ev flaw)) some
+
+or_second : (a b : Bool) → b ≡ true → (a || b) ≡ true
+or_second true b on = refl
+or_second false b on = on
+
+may_stand_accepted : (limits : Limits) (t : Tables) (e : Entry) (flaw : Flaw) → flaw_in e.acts ≡ flaw → may_be limits t e flaw ≡ true → may_stand limits t e ≡ true
+unfolding may_stand
+may_stand_accepted limits t e flaw shown may = or_second (is_denied e.acts) (may_be limits t e (flaw_in e.acts)) (ap (may_be limits t e) shown ∙ may)
+
+may_stand_denied : (limits : Limits) (t : Tables) (e : Entry) → is_denied e.acts ≡ true → may_stand limits t e ≡ true
+unfolding may_stand
+may_stand_denied limits t e denied = rw denied refl
+
+-- THE STEP
+
+module _ {B : Type 0} (r u : Rows B) (now : ℕ) (ev : Event) (before out : List Act)
+    (denied : (why : Refusal) → refusal_of (gate_of r ev) ev ≡ Some why → (u ≡ counted ev r) × (out ≡ before ++ act.Denied why ∷ []))
+    (answered : refusal_of (gate_of r ev) ev ≡ None → Answers r u before out now ev) where
+  pub some_after : StandsForSome r → StandsForSome u
+  some_after past = by_refusal (refusal_of (gate_of r ev) ev) refl
+    where
+      by_refusal : (o : Option Refusal) → refusal_of (gate_of r ev) ev ≡ o → StandsForSome u
+      by_refusal None is = let done = answered is past.0 past.1 (sym (denies_as r past.0 ev past.1) ∙ is) in (_, done.rows)
+      by_refusal (Some why) is =
+          let e : Entry = record { now = now; event = ev; acts = [] } in
+          (after_denied past.0 e, subst (λ z. RowsStand z (after_denied past.0 e)) (sym (denied why is).0) (stands_denied r past.0 e past.1))
+
+module _ {B : Type 0} (s u : Cache B) (contents : Contents) (h : History) (now : ℕ) (ev : Event) (before out : List Act)
+    (denied : (why : Refusal) → refusal_of (gate_of s.rows ev) ev ≡ Some why → (u.rows ≡ counted ev s.rows) × (out ≡ before ++ act.Denied why ∷ []))
+    (answered : refusal_of (gate_of s.rows ev) ev ≡ None → Answers s.rows u.rows before out now ev)
+    (later : s.last_moment ≤ now) (moment : u.last_moment ≡ now) (count : u.steps ≡ s.steps + 1) (bytes : u.rows.received ≡ s.rows.received + received_in ev) (limits : u.rows.limits ≡ s.rows.limits) (stands : StandsFor s contents h) where
+  abbrev t : Tables
+  t = tables contents h
+
+  abbrev with_acts : List Act → Entry
+  with_acts acts = record { now = now; event = ev; acts = acts }
+
+  -- whatever was owed, the cache stands for it
+  stands_with : (acts : List Act) (after : Tables) → after ≡ tables contents (with_acts acts ∷ h) → after.moment ≡ now → after.entries ≡ t.entries + 1 → after.received ≡ t.received + received_in ev
+      → IsOwed s.rows.limits t (with_acts acts) → RowsStand u.rows after → StandsFor u contents (with_acts acts ∷ h)
+  stands_with acts after is now_is entries_are received_is owed rows = record {
+    begins = ap (λ l. may_begin l contents) limits ∙ stands.begins;
+    run = subst (λ l. IsRun l contents (with_acts acts ∷ h)) (sym limits) (stands.run, owed);
+    moment = moment ∙ (sym now_is ∙ ap (λ (z : Tables). z.moment) is);
+    entries = count ∙ (ap (λ n. n + 1) stands.entries ∙ (sym entries_are ∙ ap (λ (z : Tables). z.entries) is));
+    received = bytes ∙ (ap (λ n. n + received_in ev) stands.received ∙ (sym received_is ∙ ap (λ (z : Tables). z.received) is));
+    rows = subst (RowsStand u.rows) is rows;
+  }
+
+  in_time : t.moment ≤ now
+  in_time = subst (λ m. m ≤ now) stands.moment later
+
+  by_refusal : (o : Option Refusal) → refusal_of (gate_of s.rows ev) ev ≡ o → Steps u contents h before out now ev
+  by_refusal None is =
+      let free : denial t ev ≡ None = sym (denies_as s.rows t ev stands.rows) ∙ is in
+      let done = answered is t stands.rows free in
+      let acts = accepted s.rows.limits t now ev done.flaw in
+      let e : Entry = with_acts acts in
+      record {
+        acts = acts;
+        told = done.acts;
+        stands = stands_with acts (after_accepted t e) (next_tables contents h e (undenied s.rows.limits t now ev done.flaw)) refl refl refl
+            (record {
+              later = in_time;
+              acts = sym (ap (answer s.rows.limits t now ev) done.shown ∙ answer_accepted s.rows.limits t now ev done.flaw free);
+              flaw = may_stand_accepted s.rows.limits t e done.flaw done.shown done.may;
+            }) done.rows;
+      }
+  by_refusal (Some why) is =
+      let some : denial t ev ≡ Some why = sym (denies_as s.rows t ev stands.rows) ∙ is in
+      let acts = act.Denied why ∷ [] in
+      let e : Entry = with_acts acts in
+      record {
+        acts = acts;
+        told = (denied why is).1;
+        stands = stands_with acts (after_denied t e) (denied_tables contents h e refl) refl refl refl
+            (record { later = in_time; acts = sym (answer_denied s.rows.limits t now ev NoFlaw why some); flaw = may_stand_denied s.rows.limits t e refl })
+            (subst (λ z. RowsStand z (after_denied t e)) (sym (denied why is).0) (stands_denied s.rows t e stands.rows));
+      }
+
+  pub steps_on : Steps u contents h before out now ev
+  steps_on = by_refusal (refusal_of (gate_of s.rows ev) ev) refl

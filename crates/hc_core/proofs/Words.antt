@@ -1,0 +1,59 @@
+-- Small facts on tests, options and numbers.
+use Rattle.std.proofs.Common.{◌≡◌, ◌≢◌, ◌⊎◌, inl, inr, ℕ, Bool, true, false, cond, eqb, Option, Some, None, Result, Ok, Err, refl, sym, ◌∙◌, arith}
+use Rattle.std.proofs.lemmas.Bool.Decides.{nat_tests, eqb_tells}
+use Rattle.std.specs.Prelude.{is_some, IsSomeAnd, OnErr, ◌||◌, ◌&&◌}
+
+pub same_or : (c d : ℕ) → (c ≡ d) ⊎ (c ≢ d)
+same_or c d = elim (eqb_tells c d) [ inl e ↦ inl e.1 | inr e ↦ inr e.1 ]
+
+pub eqb-same : (c : ℕ) → eqb c c ≡ true
+eqb-same c = grind (arith, nat_tests)
+
+pub eqb-other : (c d : ℕ) → c ≢ d → eqb c d ≡ false
+eqb-other c d ne = grind (arith, nat_tests)
+
+pub none_some : {A P : Type 0} (a : A) → None ≡ Some a → P
+none_some a h = absurd (let never : None ≡ Some a = h in cc)
+
+pub false_true : {P : Type 0} → false ≡ true → P
+false_true h = absurd (let never : false ≡ true = h in cc)
+
+pub some_is : {A : Type 0} (a b : A) → Some a ≡ Some b → a ≡ b
+some_is a b h = cc
+
+pub same_row : {A : Type 0} (o : Option A) (a b : A) → o ≡ Some a → o ≡ Some b → a ≡ b
+same_row o a b is at = some_is a b (sym is ∙ at)
+
+-- a value that is there, and what is known of it
+pub there : {A : Type 0} (o : Option A) (P : A → Type 0) → IsSomeAnd o P → (k : A) × (o ≡ Some k) × P k
+there None P h = absurd h
+there (Some k) P h = (k, refl, h)
+
+pub is_there : {A : Type 0} (o : Option A) → is_some o ≡ true → (k : A) × (o ≡ Some k)
+is_there None h = false_true h
+is_there (Some k) h = (k, refl)
+
+-- what holds, where a call failed
+pub err_with : {A E P : Type 0} (r : Result A E) → P → OnErr r P
+err_with (Ok x) p = tt
+err_with (Err e) p = p
+
+pub or_false : (a b : Bool) → a ≡ false → b ≡ false → (a || b) ≡ false
+or_false false b p q = q
+or_false true b p q = false_true (sym p)
+
+pub and_false : (a b : Bool) → a ≡ false → (a && b) ≡ false
+and_false false b p = refl
+and_false true b p = false_true (sym p)
+
+pub then_false : (a b : Bool) → b ≡ false → (a && b) ≡ false
+then_false false b p = refl
+then_false true b p = p
+
+pub not_true : (b : Bool) → (b ≡ true → ⊥) → b ≡ false
+not_true true off = absurd (off refl)
+not_true false off = refl
+
+pub or_none : {A : Type 0} (o : Option A) → cond (is_some o) o None ≡ o
+or_none None = refl
+or_none (Some a) = refl

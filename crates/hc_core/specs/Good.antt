@@ -1,0 +1,29 @@
+-- What a cache is that may step, and what a step needs.
+use Rattle.std.specs.Prelude.{ℕ, ◌+◌, ◌≤◌, ◌^◌, Bool, true, false, is_some}
+use Rattle.hc_event.specs.declared.event.Event.{Event}
+use Rattle.hc_event.specs.declared.event.Event.TheVariants as event
+use Rattle.hc_rules.specs.Refusals.{refusal_of}
+use Rattle.hc_exch.specs.Exchanges.{next_of}
+use Rattle.hc_model.specs.Tables.{received_in}
+use Rattle.hc_core.specs.declared.rows.Rows.{Rows}
+use Rattle.hc_core.specs.Stands.{StandsForSome, gate_of}
+
+-- its rows stand for some tables, and each step opened one exchange at most
+abbrev pub IsGood : {B : Type 0} → Rows B → ℕ → Type 0
+IsGood r n = ∥ StandsForSome r ∥₁ × (next_of r.exchanges ≤ 2 ^ 60 + n)
+
+-- the event is denied
+abbrev pub is_refused : {B : Type 0} → Rows B → Event → Bool
+is_refused r event = is_some (refusal_of (gate_of r event) event)
+
+-- a denied event is counted
+abbrev pub counted : {B : Type 0} → Event → Rows B → Rows B
+counted event r = record r { received = r.received + received_in event }
+
+-- whoever leaves, and what ends, breaks or is doomed, is told without memory
+abbrev pub takes_no_memory : Event → Bool
+takes_no_memory (event.End x) = true
+takes_no_memory (event.Fault x) = true
+takes_no_memory (event.Cancel c) = true
+takes_no_memory (event.Doom key) = true
+takes_no_memory _ = false

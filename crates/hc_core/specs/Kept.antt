@@ -1,0 +1,87 @@
+-- What is kept of consumers and exchanges is what the tables say of them.
+use Rattle.std.specs.Prelude.{◌≡◌, ℕ, List, [], length, drop, Bool, true, false, Option, Some, None, is_some, if◌then◌else◌, ◌==◌}
+use Rattle.hc_event.specs.declared.event.Response.{Response}
+use Rattle.hc_rules.specs.Requests.{is_disabled}
+use Rattle.hc_model.specs.declared.place.Place.{Place}
+use Rattle.hc_model.specs.declared.place.Place.TheVariants as place
+use Rattle.hc_model.specs.Rows as rows
+use Rattle.hc_model.specs.Rows.{Tables, Exchange}
+use Rattle.hc_model.specs.Exchanges.{base, promised, is_open}
+use Rattle.hc_model.specs.Reading.{lo_of, hi_of}
+use Rattle.hc_model.specs.Denials.{is_live, is_live_place}
+use Rattle.hc_exch.specs.declared.row.Open.{Open}
+use Rattle.hc_exch.specs.Known.{Known}
+use Rattle.hc_core.specs.declared.consumer.Consumer.{Consumer}
+
+-- CONSUMERS
+
+abbrev pub head_in : Option Exchange → Option Response
+head_in None = None
+head_in (Some w) = w.head
+
+abbrev pub answer_at : Tables → Place → Option Response
+answer_at t (place.Direct x) = head_in (t.exchange x)
+answer_at t _ = None
+
+-- the head of an answer past the store that is to be shown
+abbrev pub answer_for : Tables → rows.Consumer → Option Response
+answer_for t v = if v.shown then None else answer_at t v.place
+
+-- A consumer is kept as the tables have it. Since when it waits is looked at only where it may wait
+-- for another.
+pub record IsKept (t : Tables) (k : Consumer) (v : rows.Consumer) : Type 0 where
+  pub is_there : is_live_place v.place ≡ true
+  pub request : k.request ≡ v.request
+  pub since : is_disabled v.request ≡ false → k.since ≡ v.since
+  pub place : k.place ≡ v.place
+  pub own : k.own ≡ v.own
+  pub shown : k.shown ≡ v.shown
+  pub answer : k.answer ≡ answer_for t v
+  pub begins : k.lo ≡ lo_of t v.place
+  pub ends : k.hi ≡ hi_of t v.place
+  pub given : k.given ≡ v.given
+  pub due : k.due ≡ v.due
+
+-- who isn't kept isn't live
+abbrev pub KeepsConsumer : Tables → Option Consumer → Option rows.Consumer → Type 0
+KeepsConsumer t None row = is_live row ≡ false
+KeepsConsumer t (Some k) None = ⊥
+KeepsConsumer t (Some k) (Some v) = IsKept t k v
+
+-- EXCHANGES
+
+-- An open exchange is kept as the tables have it.
+pub record IsRunning (o : Open) (w : Exchange) : Type 0 where
+  pub is_open : w.is_open ≡ true
+  pub c : o.c ≡ w.c
+  pub need : o.need ≡ w.need
+  pub request : o.request ≡ w.request
+  pub moment : o.moment ≡ w.opened
+  pub headed : o.headed ≡ is_some w.head
+  pub asked : o.asked ≡ w.asked
+  pub base_is : o.base ≡ base w
+  pub delivered : o.delivered ≡ length w.body
+  pub promised_is : o.promised ≡ promised w
+
+-- what isn't kept isn't open
+abbrev pub KeepsRunning : Option Open → Option Exchange → Type 0
+KeepsRunning None row = is_open row ≡ false
+KeepsRunning (Some o) None = ⊥
+KeepsRunning (Some o) (Some w) = IsRunning o w
+
+abbrev pub is_direct : Place → ℕ → Bool
+is_direct (place.Direct y) x = y == x
+is_direct _ x = false
+
+abbrev pub unread : ℕ → Exchange → Option rows.Consumer → List ℕ
+unread x w None = []
+unread x w (Some k) = if is_direct k.place x then drop k.given w.body else []
+
+-- what is held of an exchange: what its consumer has yet to read of it past the store
+abbrev pub held_for : Tables → ℕ → Option Exchange → List ℕ
+held_for t x None = []
+held_for t x (Some w) = unread x w (t.consumer w.c)
+
+pub record KeepsExchange (t : Tables) (x : ℕ) (known : Known) : Type 0 where
+  pub running : KeepsRunning known.running (t.exchange x)
+  pub held : known.held ≡ held_for t x (t.exchange x)

@@ -1,0 +1,20 @@
+//! The cache: what it keeps of the past.
+ghost use Rattle.std.specs.Prelude.{◌≡◌, false};
+ghost use Rattle.std.proofs.Props.{props};
+ghost use Rattle.hc_core.specs.Good.{IsGood};
+
+mod step;
+mod views;
+
+use crate::rows::Rows;
+
+/// A cache over a store. Moments are whole seconds since 1970.
+#[derive(Drop)]
+pub struct Cache<B> {
+    /// Memory was refused in a step: it answers nothing any more.
+    failed: bool,
+    last_moment: u64,
+    steps: u64,
+    rows: Rows<B>,
+    ghost good: { failed ≡ false → IsGood rows steps } by { Prim.hlevel props },
+}

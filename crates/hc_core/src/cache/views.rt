@@ -1,0 +1,54 @@
+//! What the cache says of itself.
+ghost use Rattle.std.specs.Prelude.{◌≡◌, ℕ};
+ghost use Rattle.hc_model.specs.Entries.{Contents, History};
+ghost use Rattle.hc_model.specs.Exchanges.{is_open};
+ghost use Rattle.hc_model.specs.Denials.{live};
+ghost use Rattle.hc_model.specs.Tables.{tables};
+ghost use Rattle.hc_core.specs.Steps.{StandsFor, last_moment, steps, received, store_in};
+
+use crate::cache::Cache;
+
+impl<B> Cache<B> {
+    /// The moment of the last step, 0 before the first.
+    pub fn last_moment(&self) -> u64
+        ensures { result ≡ last_moment self.now }
+    {
+        self.last_moment
+    }
+
+    /// How many steps were made.
+    pub fn steps(&self) -> u64
+        ensures { result ≡ steps self.now }
+    {
+        self.steps
+    }
+
+    /// How many bytes the pieces had that were handed in.
+    pub fn received(&self) -> u64
+        ensures { result ≡ received self.now }
+    {
+        self.rows.received
+    }
+
+    /// How many consumers are live.
+    pub fn live(&self) -> usize
+        ensures { (contents : Contents) (h : History) → StandsFor self.now contents h
+            → result ≡ live (tables contents h) }
+    {
+        self.rows.consumers.len()
+    }
+
+    /// The exchange is open.
+    pub fn is_open(&self, x: u64) -> bool
+        ensures { (contents : Contents) (h : History) → StandsFor self.now contents h
+            → result ≡ is_open ((tables contents h).exchange x) }
+    {
+        self.rows.exchanges.view(x).is_some()
+    }
+
+    pub fn store(&self) -> &B
+        ensures { result.now ≡ store_in self.now }
+    {
+        &self.rows.store
+    }
+}

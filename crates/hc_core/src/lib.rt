@@ -1,0 +1,14 @@
+//! The cache: what is answered to each event, over a store.
+#![tactic(auto)]
+
+mod acts;
+mod built;
+mod cache;
+mod changes;
+mod consumer;
+mod rows;
+#[cfg(test)]
+mod tests;
+
+pub use built::is_built;
+pub use cache::Cache;

@@ -1,0 +1,82 @@
+//! What is kept: live consumers, exchanges and the store.
+ghost use Rattle.std.specs.Prelude.{◌≡◌, ◌+◌, ◌≤◌, ◌<◌, ◌^◌, true, None, IsOk, OnOk, OnErr};
+ghost use Rattle.hc_event.specs.Acts.{listed, spare};
+ghost use Rattle.hc_rules.specs.Refusals.{refusal_of};
+ghost use Rattle.hc_exch.specs.Exchanges.{next_of};
+ghost use Rattle.hc_model.specs.Tables.{received_in};
+ghost use Rattle.hc_core.specs.Past.{IsBuilt};
+ghost use Rattle.hc_core.specs.Stands.{gate_of, Stays, Answers, StandsForSome};
+ghost use Rattle.hc_core.specs.Good.{takes_no_memory};
+
+pub(crate) mod answer;
+mod gate;
+mod heard;
+mod leave;
+mod poll;
+mod read;
+mod start;
+
+use crate::consumer::Consumer;
+use hc_event::{Acts, Event};
+use hc_exch::Exchanges;
+use hc_rules::Limits;
+use hc_text::NoMemory;
+use std::alloc::Global;
+use std::collections::HashMap;
+
+/// What is kept of the past: live consumers, open exchanges and what is held of them, and the store.
+#[derive(Drop)]
+pub struct Rows<B> {
+    pub(crate) limits: Limits,
+    /// The number of the last consumer that started.
+    pub(crate) last_start: u64,
+    /// How many bytes pieces had so far.
+    pub(crate) received: u64,
+    /// The live ones, by number.
+    pub(crate) consumers: HashMap<u64, Consumer>,
+    pub(crate) exchanges: Exchanges,
+    pub(crate) store: B,
+}
+
+impl<B> Rows<B> {
+    /// Does what an event says that isn't denied.
+    pub(crate) fn accept(&mut self, now: u64, event: &Event, out: &mut Acts) -> Result<(), NoMemory>
+        requires stands { ∥ StandsForSome self.old ∥₁ }
+        requires built { IsBuilt event.now }
+        requires accepted { refusal_of (gate_of self.old event.now) event.now ≡ None }
+        requires few { next_of self.old.exchanges < 2 ^ 62 }
+        requires small { self.old.received + received_in event.now < 2 ^ 61 }
+        requires room { 2 ≤ spare out.old }
+        ensures answers { OnOk result
+            (Answers self.old self.new (listed out.old) (listed out.new) now event.now) }
+        ensures next { OnOk result
+            (next_of self.new.exchanges ≤ next_of self.old.exchanges + 1) }
+        ensures received { OnOk result
+            (self.new.received ≡ self.old.received + received_in event.now) }
+        ensures limits { OnOk result (self.new.limits ≡ self.old.limits) }
+        ensures err { OnErr result (Stays self.old self.new) }
+        ensures kept { OnErr result (listed out.new ≡ listed out.old) }
+        ensures frees { takes_no_memory event.now ≡ true → IsOk result }
+    {
+        match event {
+            Event::Start { c, request } => self.start(now, *c, request),
+            Event::Poll { c, want } => self.poll(now, *c, *want, out),
+            Event::Head { x, response } => self.take_head(now, *x, response, out),
+            Event::Piece { x, bytes } => self.take_piece(*x, bytes.bytes.as_slice()),
+            Event::End { x } => {
+                self.end(*x);
+                Ok(())
+            }
+            Event::Fault { x } => {
+                self.fault(*x);
+                Ok(())
+            }
+            Event::Cancel { c } => {
+                self.cancel(*c, out);
+                Ok(())
+            }
+            // What waits starts over at once: since when it waits isn't looked at.
+            Event::Doom { .. } => Ok(()),
+        }
+    }
+}

@@ -1,0 +1,112 @@
+//! What an exchange brings: its head, pieces, an end or a fault.
+ghost use Rattle.std.specs.Prelude.{◌≡◌, ◌+◌, ◌≤◌, ◌<◌, ◌^◌, ◌++◌, [], ℕ, List, length, true, None, OnOk, OnErr, option_map};
+ghost use Rattle.hc_event.specs.Acts.{listed, spare};
+ghost use Rattle.hc_event.specs.declared.act.Act.{Act};
+ghost use Rattle.hc_event.specs.declared.event.Event.TheVariants.{Head, Piece, End, Fault};
+ghost use Rattle.hc_rules.specs.Refusals.{head_refusal, piece_refusal, end_refusal, fault_refusal};
+ghost use Rattle.hc_exch.specs.Exchanges.{next_of};
+ghost use Rattle.hc_core.specs.Stands.{Stays, Answers, StandsForSome, open_at};
+
+use crate::acts::put;
+use crate::changes::{fail_with, know_end, make_due, take_answer};
+use crate::rows::Rows;
+use hc_event::{Act, Acts, Cause, Response};
+use hc_text::NoMemory;
+
+impl<B> Rows<B> {
+    /// The head of an exchange past the store.
+    pub(super) fn take_head(
+        &mut self,
+        now: u64,
+        x: u64,
+        response: &Response,
+        out: &mut Acts,
+    ) -> Result<(), NoMemory>
+        requires accepted { head_refusal (open_at self.old x) ≡ None }
+        requires room { 1 ≤ spare out.old }
+        ensures answers { OnOk result (Answers self.old self.new (listed out.old) (listed out.new)
+            now (Head x response.now)) }
+        ensures next { next_of self.new.exchanges ≡ next_of self.old.exchanges }
+        ensures received { self.new.received ≡ self.old.received }
+        ensures limits { self.new.limits ≡ self.old.limits }
+        ensures err { OnErr result (Stays self.old self.new) }
+        ensures kept { OnErr result (listed out.new ≡ listed out.old) }
+    {
+        let c = self.exchanges.view(x).unwrap().c;
+        let head = response.copy()?;
+        if !self.exchanges.head(x, response, now)? {
+            put(out, Act::Close { x });
+            self.exchanges.close(x);
+            fail_with(&mut self.consumers, c, Cause::BadHead(x));
+            return Ok(());
+        }
+        // Where nothing is promised it is over.
+        let promised = match self.exchanges.view(x) {
+            Some(view) => view.promised,
+            None => Some(0),
+        };
+        take_answer(&mut self.consumers, c, head, promised);
+        Ok(())
+    }
+
+    /// A piece of an exchange past the store: it is held until it is read.
+    pub(super) fn take_piece(&mut self, x: u64, bytes: &[u8]) -> Result<(), NoMemory>
+        requires stands { ∥ StandsForSome self.old ∥₁ }
+        requires accepted { piece_refusal (open_at self.old x) (length bytes.now) ≡ None }
+        requires small { self.old.received + length bytes.now < 2 ^ 61 }
+        ensures answers { OnOk result ((now : ℕ) (before : List Act)
+            → Answers self.old self.new before before now (Piece x bytes.now)) }
+        ensures next { next_of self.new.exchanges ≡ next_of self.old.exchanges }
+        ensures received { OnOk result
+            (self.new.received ≡ self.old.received + length bytes.now) }
+        ensures limits { OnOk result (self.new.limits ≡ self.old.limits) }
+        ensures err { OnErr result (Stays self.old self.new) }
+    {
+        self.exchanges.piece(x, bytes, true)?;
+        self.received += bytes.len() as u64;
+        Ok(())
+    }
+
+    /// An exchange past the store ends: with less than it promised that is a failure.
+    pub(super) fn end(&mut self, x: u64)
+        requires accepted { end_refusal (open_at self.old x) ≡ None }
+        ensures answers { (now : ℕ) (before : List Act)
+            → Answers self.old self.new before before now (End x) }
+        ensures next { next_of self.new.exchanges ≡ next_of self.old.exchanges }
+        ensures received { self.new.received ≡ self.old.received }
+        ensures limits { self.new.limits ≡ self.old.limits }
+    {
+        let view = self.exchanges.view(x).unwrap();
+        let got = view.delivered;
+        match view.promised {
+            Some(promised) if got < promised => {
+                make_due(
+                    &mut self.consumers,
+                    view.c,
+                    Cause::Short { x, got, promised },
+                );
+            }
+            Some(_) => {}
+            None => know_end(&mut self.consumers, view.c, got),
+        }
+        self.exchanges.close(x);
+    }
+
+    /// An exchange past the store breaks.
+    pub(super) fn fault(&mut self, x: u64)
+        requires accepted { fault_refusal (open_at self.old x) ≡ None }
+        ensures answers { (now : ℕ) (before : List Act)
+            → Answers self.old self.new before before now (Fault x) }
+        ensures next { next_of self.new.exchanges ≡ next_of self.old.exchanges }
+        ensures received { self.new.received ≡ self.old.received }
+        ensures limits { self.new.limits ≡ self.old.limits }
+    {
+        let view = self.exchanges.view(x).unwrap();
+        if view.headed {
+            make_due(&mut self.consumers, view.c, Cause::Net(x));
+        } else {
+            fail_with(&mut self.consumers, view.c, Cause::Net(x));
+        }
+        self.exchanges.close(x);
+    }
+}

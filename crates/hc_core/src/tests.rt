@@ -1,0 +1,321 @@
+//! Walks through the cache.
+use super::*;
+use crate::rows::answer::received_in;
+use hc_event::{Act, Acts, Cause, Event, Load, Need, Refusal, Request, Response, Wait, Why};
+use hc_fields::Fields;
+use hc_rules::Limits;
+use hc_text::{Bytes, Key, MethodName};
+use std::alloc::Global;
+use std::process::Abort;
+use std::test::Fail;
+
+#[derive(Clone, Copy)]
+enum Step {
+    /// A consumer starts that goes past the store.
+    Start(u64),
+    Poll(u64, u32),
+    /// A head comes, with this status and Content-Length.
+    Head(u64, u16, &'static str),
+    Piece(u64, &'static str),
+    End(u64),
+    Fault(u64),
+    Cancel(u64),
+    Doom,
+}
+
+/// What an act says, but for requests and fields.
+#[derive(Clone, Copy)]
+enum Told {
+    Opened(u64, u64),
+    Ask(u64),
+    Close(u64),
+    Shown(u64, u64, u16, u64, Option<u64>),
+    Given(u64, u64, u64, &'static str),
+    Ended(u64),
+    Failed(u64, Cause),
+    Pending(u64, Wait),
+    Denied(Refusal),
+}
+
+/// A moment, what happens, what is told of it, and how many consumers are live then.
+#[derive(Clone, Copy)]
+struct Row(u64, Step, &'static [Told], usize);
+
+static LIMITS: Limits = Limits {
+    max_entry: 1000,
+    max_total: 100_000,
+};
+
+static READ: &'static [Row] = &[
+    Row(5, Step::Start(3), &[], 1),
+    Row(
+        5,
+        Step::Start(3),
+        &[Told::Denied(Refusal::NotRising { last: 3 })],
+        1,
+    ),
+    Row(
+        6,
+        Step::Poll(3, 9),
+        &[Told::Opened(1, 3), Told::Pending(3, Wait::Head(1))],
+        1,
+    ),
+    Row(6, Step::Poll(3, 9), &[Told::Pending(3, Wait::Head(1))], 1),
+    Row(
+        6,
+        Step::Piece(1, "ab"),
+        &[Told::Denied(Refusal::NoHeadYet)],
+        1,
+    ),
+    Row(7, Step::Head(1, 200, "5"), &[], 1),
+    Row(
+        7,
+        Step::Head(1, 200, "5"),
+        &[Told::Denied(Refusal::HeadTwice)],
+        1,
+    ),
+    Row(7, Step::Poll(3, 0), &[Told::Denied(Refusal::WantZero)], 1),
+    Row(
+        7,
+        Step::Poll(3, 2),
+        &[Told::Shown(3, 1, 200, 0, Some(5))],
+        1,
+    ),
+    Row(
+        8,
+        Step::Poll(3, 2),
+        &[Told::Ask(1), Told::Pending(3, Wait::Body(1))],
+        1,
+    ),
+    Row(8, Step::Poll(3, 2), &[Told::Pending(3, Wait::Body(1))], 1),
+    Row(8, Step::Doom, &[], 1),
+    Row(9, Step::Piece(1, "abc"), &[], 1),
+    Row(9, Step::Poll(3, 2), &[Told::Given(3, 1, 0, "ab")], 1),
+    Row(9, Step::Poll(3, 2), &[Told::Given(3, 1, 2, "c")], 1),
+    Row(
+        9,
+        Step::Poll(3, 2),
+        &[Told::Ask(1), Told::Pending(3, Wait::Body(1))],
+        1,
+    ),
+    Row(
+        9,
+        Step::Piece(1, "def"),
+        &[Told::Denied(Refusal::Overlong { promised: 5 })],
+        1,
+    ),
+    Row(10, Step::Piece(1, "de"), &[], 1),
+    Row(
+        10,
+        Step::Piece(1, "f"),
+        &[Told::Denied(Refusal::NoExchange)],
+        1,
+    ),
+    Row(10, Step::Poll(3, 9), &[Told::Given(3, 1, 3, "de")], 1),
+    Row(10, Step::Poll(3, 9), &[Told::Ended(3)], 0),
+    Row(11, Step::Poll(3, 9), &[Told::Denied(Refusal::Finished)], 0),
+    Row(11, Step::Cancel(4), &[Told::Denied(Refusal::NoConsumer)], 0),
+];
+
+static BROKEN: &'static [Row] = &[
+    Row(1, Step::Start(1), &[], 1),
+    Row(1, Step::Start(2), &[], 2),
+    Row(1, Step::Start(3), &[], 3),
+    Row(1, Step::Start(4), &[], 4),
+    Row(
+        1,
+        Step::Poll(1, 9),
+        &[Told::Opened(1, 1), Told::Pending(1, Wait::Head(1))],
+        4,
+    ),
+    Row(
+        1,
+        Step::Poll(2, 9),
+        &[Told::Opened(2, 2), Told::Pending(2, Wait::Head(2))],
+        4,
+    ),
+    Row(
+        1,
+        Step::Poll(3, 9),
+        &[Told::Opened(3, 3), Told::Pending(3, Wait::Head(3))],
+        4,
+    ),
+    Row(1, Step::Cancel(4), &[], 3),
+    // A fault before the head, and a head that can't be.
+    Row(2, Step::Fault(1), &[], 3),
+    Row(2, Step::Poll(1, 9), &[Told::Failed(1, Cause::Net(1))], 2),
+    Row(3, Step::Head(2, 200, "x"), &[Told::Close(2)], 2),
+    Row(
+        3,
+        Step::Poll(2, 9),
+        &[Told::Failed(2, Cause::BadHead(2))],
+        1,
+    ),
+    // An end that comes too soon: what came is given first.
+    Row(4, Step::Head(3, 200, "3"), &[], 1),
+    Row(
+        4,
+        Step::Poll(3, 9),
+        &[Told::Shown(3, 3, 200, 0, Some(3))],
+        1,
+    ),
+    Row(
+        4,
+        Step::Poll(3, 9),
+        &[Told::Ask(3), Told::Pending(3, Wait::Body(3))],
+        1,
+    ),
+    Row(5, Step::Piece(3, "ab"), &[], 1),
+    Row(5, Step::End(3), &[], 1),
+    Row(5, Step::Poll(3, 9), &[Told::Given(3, 3, 0, "ab")], 1),
+    Row(
+        5,
+        Step::Poll(3, 9),
+        &[Told::Failed(
+            3,
+            Cause::Short {
+                x: 3,
+                got: 2,
+                promised: 3,
+            },
+        )],
+        0,
+    ),
+];
+
+static LEFT: &'static [Row] = &[
+    Row(1, Step::Start(7), &[], 1),
+    Row(
+        1,
+        Step::Poll(7, 1),
+        &[Told::Opened(1, 7), Told::Pending(7, Wait::Head(1))],
+        1,
+    ),
+    Row(2, Step::Cancel(7), &[Told::Close(1)], 0),
+    Row(2, Step::Fault(1), &[Told::Denied(Refusal::NoExchange)], 0),
+];
+
+#[test]
+fn reads_past_the_store(rt: HostRuntime) -> Result<(), Fail> {
+    walk(&rt, READ)
+}
+
+#[test]
+fn fails_past_the_store(rt: HostRuntime) -> Result<(), Fail> {
+    walk(&rt, BROKEN)
+}
+
+#[test]
+fn leaves_what_it_opened(rt: HostRuntime) -> Result<(), Fail> {
+    walk(&rt, LEFT)
+}
+
+fn walk<R: Abort + AllocGlobal>(rt: &R, rows: &[Row]) -> Result<(), Fail> {
+    let mut cache = Cache::new((), LIMITS, rt.alloc());
+    let mut out = Acts::new(rt.alloc());
+    for row in rows {
+        let event = event_of(rt.alloc(), row.1)?;
+        take_step(rt, &mut cache, row.0, &event, &mut out)?;
+        assert!(rt; are_told(out.list(), row.2));
+        assert!(rt; cache.live() == row.3 && cache.last_moment() == row.0);
+        out.clear();
+    }
+    Ok(())
+}
+
+fn take_step<R: Abort>(
+    rt: &R,
+    cache: &mut Cache<()>,
+    now: u64,
+    event: &Event,
+    out: &mut Acts,
+) -> Result<(), Fail> {
+    assert!(rt; cache.last_moment() <= now && cache.steps() < 1000);
+    assert!(rt; cache.received() < 1000 && received_in(event) < 1000);
+    assert!(rt; is_built(event));
+    cache.step(now, event, out)?;
+    Ok(())
+}
+
+fn event_of(alloc: Global, step: Step) -> Result<Event, Fail> {
+    Ok(match step {
+        Step::Start(c) => Event::Start {
+            c,
+            request: request(alloc)?,
+        },
+        Step::Poll(c, want) => Event::Poll { c, want },
+        Step::Head(x, status, length) => {
+            let mut fields = Fields::new(alloc)?;
+            fields.append(b"content-length".as_slice(), length.as_bytes())?;
+            Event::Head {
+                x,
+                response: Response { status, fields },
+            }
+        }
+        Step::Piece(x, text) => Event::Piece {
+            x,
+            bytes: Bytes {
+                bytes: text.as_bytes().to_vec(alloc)?,
+            },
+        },
+        Step::End(x) => Event::End { x },
+        Step::Fault(x) => Event::Fault { x },
+        Step::Cancel(c) => Event::Cancel { c },
+        Step::Doom => Event::Doom { key: key(alloc)? },
+    })
+}
+
+fn key(alloc: Global) -> Result<Key, Fail> {
+    Ok(Key {
+        bytes: b"http://a.test/".to_vec(alloc)?,
+    })
+}
+
+fn request(alloc: Global) -> Result<Request, Fail> {
+    Ok(Request {
+        method: MethodName {
+            bytes: b"GET".to_vec(alloc)?,
+        },
+        key: key(alloc)?,
+        load: Load::Disable,
+        fields: Fields::new(alloc)?,
+    })
+}
+
+fn are_told(acts: &[Act], told: &[Told]) -> bool {
+    acts.len() == told.len() && acts.iter().zip(told).all(|(act, told)| is_told(act, told))
+}
+
+fn is_told(act: &Act, told: &Told) -> bool {
+    match (act, told) {
+        (Act::Opened { x, c, need, .. }, Told::Opened(y, d)) => {
+            x == y && c == d && *need == Need::Disabled
+        }
+        (Act::Ask { x }, Told::Ask(y)) | (Act::Close { x }, Told::Close(y)) => x == y,
+        (
+            Act::Shown {
+                c,
+                r,
+                why,
+                status,
+                lo,
+                hi,
+                ..
+            },
+            Told::Shown(d, q, code, from, to),
+        ) => c == d
+            && r == q
+            && *why == Why::Fetched(*q)
+            && status == code
+            && lo == from
+            && hi == to,
+        (Act::Given { c, x, at, bytes }, Told::Given(d, y, from, text)) => {
+            c == d && x == y && at == from && bytes.bytes.as_slice() == text.as_bytes()
+        }
+        (Act::Ended { c }, Told::Ended(d)) => c == d,
+        (Act::Failed { c, cause }, Told::Failed(d, why)) => c == d && cause == why,
+        (Act::Pending { c, wait }, Told::Pending(d, until)) => c == d && wait == until,
+        (Act::Denied { refusal }, Told::Denied(why)) => refusal == why,
+        _ => false,
+    }
+}

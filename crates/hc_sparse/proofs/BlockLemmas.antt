@@ -9,11 +9,11 @@ use Rattle.hc_sparse.proofs.SizeLemmas.{size-put, size-same}
 use Rattle.std.specs.Ordering.{nat_cmp}
 use Rattle.std.specs.BTreeMap.{BTreeMap, get}
 use Rattle.hc_sparse.specs.Cells.{written, AreAbsent, size}
-use Rattle.hc_sparse.specs.Extents.{Mark, mark, claimed, end_of, AreFree, IsExtentFrom}
+use Rattle.hc_sparse.specs.Extents.{Mark, Marks, mark, claimed, end_of, AreFree, IsExtentFrom}
 use Rattle.hc_sparse.specs.Stretch.{IsPart}
 use Rattle.hc_sparse.specs.declared.extents.Extent.{Extent}
 use Rattle.hc_sparse.specs.Blocks.{marks_in}
-use Rattle.hc_sparse.specs.BlockMaps.{blocks_cells, cell_of, marks, is_spare, AreBelow, is_within, AreWithin, AreReady, HaveSame}
+use Rattle.hc_sparse.specs.BlockMaps.{cells_by, cell_of, marks, is_spare, AreBelow, is_within, AreWithin, AreReady, HaveSame}
 use Rattle.hc_sparse.specs.declared.block.Block.{Block}
 use Rattle.hc_sparse.proofs.CellLemmas.{inside-past, inside-cases, split}
 
@@ -34,8 +34,8 @@ pub mark-none : (bytes : List ℕ) (o : Option Mark) → cell_of bytes o ≡ Non
 mark-none bytes None is = refl
 mark-none bytes (Some mark) is = absurd cc
 
-pub absent-free : (m : BTreeMap ℕ Block) (bytes : List ℕ) (lo hi : ℕ) → AreAbsent (blocks_cells m bytes) lo hi → AreFree (marks m) lo hi
-absent-free m bytes lo hi absent q ge lt = mark-none bytes (marks m q) (absent q ge lt)
+pub absent-free : (f : Marks) (bytes : List ℕ) (lo hi : ℕ) → AreAbsent (cells_by f bytes) lo hi → AreFree f lo hi
+absent-free f bytes lo hi absent q ge lt = mark-none bytes (f q) (absent q ge lt)
 
 -- An offset's mark, by the position.
 pub marks-here : (m : BTreeMap ℕ Block) (p i : ℕ) (b : Block) → get nat_cmp m (p / 4096) ≡ Some b → p % 4096 + i < 4096 → marks m (p + i) ≡ marks_in b (p % 4096 + i)
@@ -83,40 +83,40 @@ kept-cell bytes piece None within = refl
 kept-cell bytes piece (Some mark) within = let lt : mark.place < length bytes = ltb-true mark.place (length bytes) within in rw (get_or_append_left bytes piece 0 mark.place lt) refl
 
 -- Positions are given to an exchange, whose bytes come behind all others: they are put.
-pub put-cells : (m n : BTreeMap ℕ Block) (bytes piece : List ℕ) (at x : ℕ) → AreWithin m (length bytes) → ((q : ℕ) → marks n q ≡ claimed at (length piece) x (length bytes) (marks m) q)
-    → (q : ℕ) → blocks_cells n (bytes ++ piece) q ≡ written at x piece (blocks_cells m bytes) q
-put-cells m n bytes piece at x within own q =
+pub put-cells : (f g : Marks) (bytes piece : List ℕ) (at x : ℕ) → AreWithin f (length bytes) → ((q : ℕ) → g q ≡ claimed at (length piece) x (length bytes) f q)
+    → (q : ℕ) → cells_by g (bytes ++ piece) q ≡ written at x piece (cells_by f bytes) q
+put-cells f g bytes piece at x within own q =
     let mine = own q in
     elim (inside-cases at (length piece) q) [
       | inl here ↦ rw (mine, here.0, get_or-append-add bytes piece (q - at) 0) refl
-      | inr off ↦ rw (mine, off.0) (kept-cell bytes piece (marks m q) (within q))
+      | inr off ↦ rw (mine, off.0) (kept-cell bytes piece (f q) (within q))
     ]
 
 more-within : (n k : ℕ) (o : Option Mark) → n ≤ k → is_within n o ≡ true → is_within k o ≡ true
 more-within n k None le within = refl
 more-within n k (Some mark) le within = let lt : mark.place < n = ltb-true mark.place n within in lt-ltb mark.place k (omega arith)
 
-pub put-within : (m n : BTreeMap ℕ Block) (at len x count : ℕ) → AreWithin m count → ((q : ℕ) → marks n q ≡ claimed at len x count (marks m) q) → AreWithin n (count + len)
-put-within m n at len x count within own q =
+pub put-within : (f g : Marks) (at len x count : ℕ) → AreWithin f count → ((q : ℕ) → g q ≡ claimed at len x count f q) → AreWithin g (count + len)
+put-within f g at len x count within own q =
     let mine = own q in
     elim (inside-cases at len q) [
       | inl here ↦ rw (mine, here.0) (lt-ltb (count + (q - at)) (count + len) (omega arith))
-      | inr off ↦ rw (mine, off.0) (more-within count (count + len) (marks m q) (omega arith) (within q))
+      | inr off ↦ rw (mine, off.0) (more-within count (count + len) (f q) (omega arith) (within q))
     ]
 
-pub same-cells : (m n : BTreeMap ℕ Block) (bytes : List ℕ) → HaveSame m n → (q : ℕ) → blocks_cells n bytes q ≡ blocks_cells m bytes q
-same-cells m n bytes same q = ap (cell_of bytes) (same q)
+pub same-cells : (f g : Marks) (bytes : List ℕ) → ((q : ℕ) → g q ≡ f q) → (q : ℕ) → cells_by g bytes q ≡ cells_by f bytes q
+same-cells f g bytes same q = ap (cell_of bytes) (same q)
 
-pub same-within : (m n : BTreeMap ℕ Block) (count : ℕ) → HaveSame m n → AreWithin m count → AreWithin n count
-same-within m n count same within q = rw (same q) (within q)
+pub same-within : (f g : Marks) (count : ℕ) → ((q : ℕ) → g q ≡ f q) → AreWithin f count → AreWithin g count
+same-within f g count same within q = rw (same q) (within q)
 
 -- Where the bytes of an extent's offsets stand.
-pub place-within : (m : BTreeMap ℕ Block) (count p i : ℕ) (b : Block) (k : Mark) → AreWithin m count → get nat_cmp m (p / 4096) ≡ Some b → p % 4096 + i < 4096 → marks_in b (p % 4096 + i) ≡ Some k → k.place < count
+pub place-within : (m : BTreeMap ℕ Block) (count p i : ℕ) (b : Block) (k : Mark) → AreWithin (marks m) count → get nat_cmp m (p / 4096) ≡ Some b → p % 4096 + i < 4096 → marks_in b (p % 4096 + i) ≡ Some k → k.place < count
 place-within m count p i b k within there lt is =
     let here = marks-here m p i b there lt ∙ is in
     ltb-true k.place count (rw here at (within (p + i)))
 
-pub part-within : (m : BTreeMap ℕ Block) (count p : ℕ) (b : Block) (e : Extent) → AreWithin m count → get nat_cmp m (p / 4096) ≡ Some b → IsExtentFrom b.extents.items (p % 4096) e → e.at ≤ p % 4096 → e.from + e.len ≤ count
+pub part-within : (m : BTreeMap ℕ Block) (count p : ℕ) (b : Block) (e : Extent) → AreWithin (marks m) count → get nat_cmp m (p / 4096) ≡ Some b → IsExtentFrom b.extents.items (p % 4096) e → e.at ≤ p % 4096 → e.from + e.len ≤ count
 part-within m count p b e within there is by =
     let past = is.past in
     let end = is.end in
@@ -131,12 +131,12 @@ some-number m n b below there =
       | inr le ↦ absurd (let never : true ≡ false = rw there at (below n le) in cc)
     ]
 
-cell-here : (m : BTreeMap ℕ Block) (bytes : List ℕ) (p i place x : ℕ) (b : Block) → get nat_cmp m (p / 4096) ≡ Some b → p % 4096 + i < 4096 → marks_in b (p % 4096 + i) ≡ Some (record { x = x; place = place }) → blocks_cells m bytes (p + i) ≡ Some (record { byte = get_or bytes place 0; x = x })
+cell-here : (m : BTreeMap ℕ Block) (bytes : List ℕ) (p i place x : ℕ) (b : Block) → get nat_cmp m (p / 4096) ≡ Some b → p % 4096 + i < 4096 → marks_in b (p % 4096 + i) ≡ Some (record { x = x; place = place }) → cells_by (marks m) bytes (p + i) ≡ Some (record { byte = get_or bytes place 0; x = x })
 cell-here m bytes p i place x b there lt is = ap (cell_of bytes) (marks-here m p i b there lt ∙ is)
 
 -- The bytes of an extent from an offset on are a part.
-pub extent-part : (m : BTreeMap ℕ Block) (bytes : List ℕ) (p : ℕ) (b : Block) (e : Extent) → AreBelow m → AreWithin m (length bytes) → get nat_cmp m (p / 4096) ≡ Some b → IsExtentFrom b.extents.items (p % 4096) e → e.at ≤ p % 4096
-    → IsPart (blocks_cells m bytes) p e.x (slice_range bytes (e.from + (p % 4096 - e.at)) (e.from + e.len))
+pub extent-part : (m : BTreeMap ℕ Block) (bytes : List ℕ) (p : ℕ) (b : Block) (e : Extent) → AreBelow m → AreWithin (marks m) (length bytes) → get nat_cmp m (p / 4096) ≡ Some b → IsExtentFrom b.extents.items (p % 4096) e → e.at ≤ p % 4096
+    → IsPart (cells_by (marks m) bytes) p e.x (slice_range bytes (e.from + (p % 4096 - e.at)) (e.from + e.len))
 extent-part m bytes p b e below within there is by =
     let past = is.past in
     let ends = is.end in
@@ -155,19 +155,19 @@ extent-part m bytes p b e below within there is by =
     }
 
 -- What a put leaves: all bytes are of some mark, and there are as many as positions.
-pub record IsKept (m : BTreeMap ℕ Block) (bytes : List ℕ) : Type 0 where
-  pub within : AreWithin m (length bytes)
-  pub counts : length bytes ≡ size (blocks_cells m bytes)
+pub record IsKept (f : Marks) (bytes : List ℕ) : Type 0 where
+  pub within : AreWithin f (length bytes)
+  pub counts : length bytes ≡ size (cells_by f bytes)
 
-pub put-kept : {T E : Type 0} (r : Result T E) (m n : BTreeMap ℕ Block) (bytes more piece : List ℕ) (at x : ℕ) → IsKept m bytes → AreAbsent (blocks_cells m bytes) at (at + length piece) → at + length piece ≤ 2 ^ 62
-    → OnOk r ((q : ℕ) → marks n q ≡ claimed at (length piece) x (length bytes) (marks m) q) → OnOk r (more ≡ bytes ++ piece) → OnErr r (HaveSame m n) → OnErr r (more ≡ bytes) → IsKept n more
-put-kept (Ok v) m n bytes more piece at x kept absent end own longer same unchanged =
+pub put-kept : {T E : Type 0} (r : Result T E) (f g : Marks) (bytes more piece : List ℕ) (at x : ℕ) → IsKept f bytes → AreAbsent (cells_by f bytes) at (at + length piece) → at + length piece ≤ 2 ^ 62
+    → OnOk r ((q : ℕ) → g q ≡ claimed at (length piece) x (length bytes) f q) → OnOk r (more ≡ bytes ++ piece) → OnErr r ((q : ℕ) → g q ≡ f q) → OnErr r (more ≡ bytes) → IsKept g more
+put-kept (Ok v) f g bytes more piece at x kept absent end own longer same unchanged =
     let len : length more ≡ length bytes + length piece = ap length longer ∙ length-append bytes piece in
     record {
-      within = rw len (put-within m n at (length piece) x (length bytes) kept.within own);
-      counts = len ∙ (ap (λ n. n + length piece) kept.counts ∙ sym (size-put (blocks_cells m bytes) (blocks_cells n more) at x piece (λ q. rw longer (put-cells m n bytes piece at x kept.within own q)) absent end));
+      within = rw len (put-within f g at (length piece) x (length bytes) kept.within own);
+      counts = len ∙ (ap (λ n. n + length piece) kept.counts ∙ sym (size-put (cells_by f bytes) (cells_by g more) at x piece (λ q. rw longer (put-cells f g bytes piece at x kept.within own q)) absent end));
     }
-put-kept (Err e) m n bytes more piece at x kept absent end own longer same unchanged = record {
-  within = rw unchanged (same-within m n (length bytes) same kept.within);
-  counts = rw unchanged (kept.counts ∙ size-same (blocks_cells m bytes) (blocks_cells n bytes) (λ q. sym (same-cells m n bytes same q)));
+put-kept (Err e) f g bytes more piece at x kept absent end own longer same unchanged = record {
+  within = rw unchanged (same-within f g (length bytes) same kept.within);
+  counts = rw unchanged (kept.counts ∙ size-same (cells_by f bytes) (cells_by g bytes) (λ q. sym (same-cells f g bytes same q)));
 }

@@ -28,9 +28,9 @@ abbrev pub cell_of : List ℕ → Option Mark → Option Cell
 cell_of bytes None = None
 cell_of bytes (Some mark) = Some (record { byte = slice_index bytes mark.place; x = mark.x })
 
--- What is at each position.
-abbrev pub blocks_cells : BTreeMap ℕ Block → List ℕ → Cells
-blocks_cells m bytes p = cell_of bytes (marks m p)
+-- What is at each position, by the marks.
+abbrev pub cells_by : Marks → List ℕ → Cells
+cells_by f bytes p = cell_of bytes (f p)
 
 -- Blocks are of positions below 2^62.
 abbrev pub AreBelow : BTreeMap ℕ Block → Type 0
@@ -41,8 +41,8 @@ is_within n None = true
 is_within n (Some mark) = nat_lt mark.place n
 
 -- The bytes of all marks stand among the first so many.
-abbrev pub AreWithin : BTreeMap ℕ Block → ℕ → Type 0
-AreWithin m n = (p : ℕ) → is_within n (marks m p) ≡ true
+abbrev pub AreWithin : Marks → ℕ → Type 0
+AreWithin f n = (p : ℕ) → is_within n (f p) ≡ true
 
 -- To give so many positions from one on to an exchange needs no memory.
 abbrev pub AreReady : BTreeMap ℕ Block → ℕ → ℕ → Type 0

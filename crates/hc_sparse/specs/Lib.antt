@@ -5,5 +5,6 @@ pub mod Plain
 pub mod Extents
 pub mod Blocks
 pub mod BlockMaps
+pub mod Places
 pub mod Sparse
 pub mod Ops

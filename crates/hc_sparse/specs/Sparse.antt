@@ -1,8 +1,9 @@
--- What sparse bytes that are kept as blocks have.
+-- What sparse bytes that are kept as blocks and a tail have.
 use Rattle.hc_sparse.specs.Cells.{Cells}
-use Rattle.hc_sparse.specs.BlockMaps.{blocks_cells}
+use Rattle.hc_sparse.specs.BlockMaps.{cells_by}
+use Rattle.hc_sparse.specs.Places.{marks_at}
 use Rattle.hc_sparse.specs.declared.sparse.Sparse.{Sparse}
 
 -- What is at each position.
 abbrev pub sparse_cells : Sparse → Cells
-sparse_cells s = blocks_cells s.blocks s.bytes.items
+sparse_cells s = cells_by (marks_at s.places) s.bytes.items

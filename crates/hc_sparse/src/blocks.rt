@@ -1,10 +1,10 @@
 //! Blocks by their number, which is that of their positions divided by their length.
-ghost use Rattle.std.specs.Prelude.{◌≡◌, ◌≢◌, ◌+◌, ◌≤◌, ◌<◌, ◌/◌, ◌%◌, ◌^◌, ◌++◌, ℕ, length, None, true, Some, IfSome, IsNone, OnOk, OnErr};
+ghost use Rattle.std.specs.Prelude.{◌≡◌, ◌≢◌, ◌+◌, ◌≤◌, ◌<◌, ◌/◌, ◌%◌, ◌^◌, ℕ, length, None, true, Some, IfSome, IsNone, OnOk, OnErr};
 ghost use Rattle.std.specs.Ordering.{nat_cmp};
 ghost use Rattle.std.specs.BTreeMap.{get};
 ghost use Rattle.hc_sparse.specs.Stretch.{IsPart};
-ghost use Rattle.hc_sparse.specs.Extents.{claimed, AreFree, IsNextMark};
-ghost use Rattle.hc_sparse.specs.BlockMaps.{blocks_cells, marks, block_of, is_spare, AreBelow, AreWithin, AreReady, HaveSame, IsFirstFrom, KeepsNumbers, KeepsSpare};
+ghost use Rattle.hc_sparse.specs.Extents.{claimed, end_of, AreFree, IsNextMark};
+ghost use Rattle.hc_sparse.specs.BlockMaps.{cells_by, marks, block_of, is_spare, AreBelow, AreWithin, AreReady, HaveSame, IsFirstFrom, KeepsNumbers, KeepsSpare};
 
 use crate::block::{Block, LEN};
 use crate::extents::Extent;
@@ -19,10 +19,10 @@ pub(crate) fn part_in<'a>(
     p: u64,
 ) -> Option<(u64, &'a [u8])>
     requires below { AreBelow blocks.now }
-    requires within { AreWithin blocks.now (length bytes.now) }
-    ensures none { IsNone result → blocks_cells blocks.now bytes.now p ≡ None }
+    requires within { AreWithin (marks blocks.now) (length bytes.now) }
+    ensures none { IsNone result → marks blocks.now p ≡ None }
     ensures some { IfSome result
-        (λ part. IsPart (blocks_cells blocks.now bytes.now) p part.0 part.1.now) }
+        (λ part. IsPart (cells_by (marks blocks.now) bytes.now) p part.0 part.1.now) }
 {
     let o = (p % LEN as u64) as usize;
     let extent = blocks.get(&(p / LEN as u64))?.extent(o)?;
@@ -33,38 +33,34 @@ pub(crate) fn part_in<'a>(
     ))
 }
 
-/// Puts bytes of an exchange at positions that nobody has, all of them or none.
+/// Gives positions that nobody has to an exchange, all of them or none.
 ///
 /// What may want memory is done before anything shows: room is made in all blocks but the first, then
-/// positions of the first are given to the exchange, then those of the others, and the bytes come last.
-pub(crate) fn put_in(
+/// positions of the first are given to the exchange, then those of the others.
+pub(crate) fn give(
     alloc: Global,
     blocks: &mut BTreeMap<u64, Block>,
-    bytes: &mut Vec<u8>,
-    at: u64,
-    x: u64,
-    piece: &[u8],
+    new: Extent,
 ) -> Result<(), NoMemory>
-    requires free { AreFree (marks blocks.old) at (at + length piece.now) }
-    requires end { at + length piece.now ≤ 2 ^ 62 }
+    requires free { AreFree (marks blocks.old) new.at (end_of new) }
+    requires end { end_of new ≤ 2 ^ 62 }
+    requires room { new.from + new.len < 2 ^ 64 }
     requires below { AreBelow blocks.old }
-    requires some { 0 < length piece.now }
     ensures below { AreBelow blocks.new }
-    ensures marks { OnOk result ((q : ℕ) → marks blocks.new q
-        ≡ claimed at (length piece.now) x (length bytes.old.items) (marks blocks.old) q) }
-    ensures bytes { OnOk result (bytes.new.items ≡ bytes.old.items ++ piece.now) }
-    ensures same { OnErr result (HaveSame blocks.old blocks.new) }
-    ensures kept { OnErr result (bytes.new.items ≡ bytes.old.items) }
+    ensures ok { OnOk result ((q : ℕ) → marks blocks.new q
+        ≡ claimed new.at new.len new.x new.from (marks blocks.old) q) }
+    ensures err { OnErr result (HaveSame blocks.old blocks.new) }
 {
-    bytes.reserve(piece.len())?;
-    let from = bytes.len();
-    let first = part_len(at, piece.len());
+    if new.len == 0 {
+        return Ok(());
+    }
+    let at = new.at as u64;
+    let first = part_len(at, new.len);
     let behind = at + first as u64;
-    let rest = piece.len() - first;
+    let rest = new.len - first;
     prepare(alloc, blocks, behind, rest)?;
-    put_part(alloc, blocks, at, x, first, from)?;
-    claim(blocks, behind, x, rest, from + first);
-    bytes.extend_from_slice(piece).unwrap();
+    put_part(alloc, blocks, at, new.x, first, new.from)?;
+    claim(blocks, behind, new.x, rest, new.from + first);
     Ok(())
 }
 

@@ -70,7 +70,7 @@ pub(crate) fn claim(extents: &mut Vec<Extent>, new: Extent)
 
 /// Whether another extent goes on just where this one ends, with bytes of its exchange that stand
 /// behind its own.
-fn is_followed(extent: &Extent, new: Extent) -> bool
+pub(crate) fn is_followed(extent: &Extent, new: Extent) -> bool
     ensures { IsTrue result ↔ Follows extent.now new }
 {
     extent.x == new.x

@@ -7,6 +7,7 @@ mod extents;
 mod law;
 mod ops;
 mod parts;
+mod places;
 mod plain;
 mod presence;
 mod run;

@@ -1,31 +1,33 @@
 //! Sparse bytes as blocks.
-ghost use Rattle.std.specs.Prelude.{◌≡◌, length};
+ghost use Rattle.std.specs.Prelude.{◌≡◌, ◌+◌, ◌≤◌, ◌<◌, ◌^◌, ◌++◌, ℕ, length, OnOk, OnErr};
 ghost use Rattle.hc_sparse.specs.Cells.{nothing, size};
-ghost use Rattle.hc_sparse.specs.BlockMaps.{blocks_cells, AreBelow, AreWithin};
+ghost use Rattle.hc_sparse.specs.Extents.{claimed, AreFree};
+ghost use Rattle.hc_sparse.specs.BlockMaps.{cells_by, AreWithin};
+ghost use Rattle.hc_sparse.specs.Places.{marks_at, KeepsMarks};
 ghost use Rattle.std.proofs.Props.{props};
 
-use crate::block::Block;
-use crate::blocks::{next_in, part_in, put_in};
+use crate::extents::Extent;
 use crate::parts::{Parts, covered, stretch_at};
+use crate::places::Places;
 use crate::presence::{Presence, Span2, SparseBytes};
 use crate::run::Run;
 use hc_text::NoMemory;
 use std::alloc::Global;
-use std::collections::BTreeMap;
 
 /// Sparse bytes as blocks of 4,096 positions, found by their positions divided by 4,096. Each has the
 /// list of its stretches by exchange, which tell where their bytes stand: the bytes of all blocks stand
 /// in one list, in the order in which they came, so none is kept for an absent position.
 ///
-/// A put looks up the blocks of its positions, whatever was put before. A block takes some 120 bytes,
-/// and some 32 for each of its stretches but the first.
+/// What was put last is kept beside the blocks, as far as it is in one block, until a put doesn't go on
+/// from it: such a put looks up the blocks of its positions and the one of what was put last, whatever
+/// was put before, and one that goes on looks up a block where one is full. A block takes some 120
+/// bytes, and some 32 for each of its stretches but the first.
 #[derive(Drop)]
 pub struct Sparse {
-    blocks: BTreeMap<u64, Block>,
+    places: Places,
     bytes: Vec<u8>,
-    ghost below: { AreBelow blocks } by { Prim.hlevel props },
-    ghost within: { AreWithin blocks (length bytes.items) } by { Prim.hlevel props },
-    ghost counts: { length bytes.items ≡ size (blocks_cells blocks bytes.items) },
+    ghost within: { AreWithin (marks_at places) (length bytes.items) } by { Prim.hlevel props },
+    ghost counts: { length bytes.items ≡ size (cells_by (marks_at places) bytes.items) },
 }
 
 impl Sparse {
@@ -34,7 +36,7 @@ impl Sparse {
         ensures { ⟦<Sparse as Presence>⟧.cells result ≡ nothing }
     {
         Sparse {
-            blocks: BTreeMap::new(alloc),
+            places: Places::new(alloc),
             bytes: Vec::new(alloc),
         }
     }
@@ -50,7 +52,7 @@ impl Presence for Sparse {
     }
 
     fn next_present(&self, p: u64) -> Option<u64> {
-        next_in(&self.blocks, p)
+        self.places.next(p)
     }
 }
 
@@ -60,7 +62,7 @@ impl Parts for Sparse {
     ghost kept = { sparse_cells };
 
     fn part(&self, p: u64) -> Option<(u64, &[u8])> {
-        part_in(&self.blocks, self.bytes.as_slice(), p)
+        self.places.part(self.bytes.as_slice(), p)
     }
 }
 
@@ -69,8 +71,7 @@ impl SparseBytes for Sparse {
         if bytes.is_empty() {
             return Ok(());
         }
-        let alloc = *self.bytes.allocator();
-        put_in(alloc, &mut self.blocks, &mut self.bytes, at, x, bytes)?;
+        put_in(&mut self.places, &mut self.bytes, at, x, bytes)?;
         Ok(())
     }
 
@@ -81,4 +82,35 @@ impl SparseBytes for Sparse {
     fn size(&self) -> u64 {
         self.bytes.len() as u64
     }
+}
+
+/// Puts bytes of an exchange at positions that nobody has, all of them or none. What may want memory is
+/// done before anything shows.
+fn put_in(
+    places: &mut Places,
+    bytes: &mut Vec<u8>,
+    at: u64,
+    x: u64,
+    piece: &[u8],
+) -> Result<(), NoMemory>
+    requires free { AreFree (marks_at places.old) at (at + length piece.now) }
+    requires end { at + length piece.now ≤ 2 ^ 62 }
+    requires some { 0 < length piece.now }
+    ensures marks { OnOk result ((q : ℕ) → marks_at places.new q
+        ≡ claimed at (length piece.now) x (length bytes.old.items) (marks_at places.old) q) }
+    ensures bytes { OnOk result (bytes.new.items ≡ bytes.old.items ++ piece.now) }
+    ensures same { OnErr result (KeepsMarks places.old places.new) }
+    ensures kept { OnErr result (bytes.new.items ≡ bytes.old.items) }
+{
+    let len = piece.len();
+    bytes.reserve(len)?;
+    let new = Extent {
+        x,
+        at: at as usize,
+        len,
+        from: bytes.len(),
+    };
+    places.put(*bytes.allocator(), new)?;
+    bytes.extend_from_slice(piece).unwrap();
+    Ok(())
 }

@@ -5,5 +5,5 @@ use Rattle.hc_sparse.specs.Places.{marks_at}
 use Rattle.hc_sparse.specs.declared.sparse.Sparse.{Sparse}
 
 -- What is at each position.
-abbrev pub sparse_cells : Sparse → Cells
+unfoldable pub sparse_cells : Sparse → Cells
 sparse_cells s = cells_by (marks_at s.places) s.bytes.items

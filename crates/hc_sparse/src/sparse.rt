@@ -1,4 +1,6 @@
 //! Sparse bytes as blocks.
+#![tactic(auto, unfolding(crate::specs::Sparse::sparse_cells))]
+
 ghost use Rattle.std.specs.Prelude.{◌≡◌, ◌+◌, ◌≤◌, ◌<◌, ◌^◌, ◌++◌, ℕ, length, OnOk, OnErr};
 ghost use Rattle.hc_sparse.specs.Cells.{nothing, size};
 ghost use Rattle.hc_sparse.specs.Extents.{claimed, AreFree};

@@ -129,10 +129,10 @@ impl Places {
         let len = settled_len(whole);
         give(alloc, &mut self.blocks, Extent { len, ..whole })?;
         self.tail = Extent {
-            x: whole.x,
             at: whole.at + len,
             len: whole.len - len,
             from: whole.from + len,
+            ..whole
         };
         Ok(())
     }

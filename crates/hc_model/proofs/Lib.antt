@@ -100,6 +100,7 @@ pub mod MeasuresBegin
 pub mod GrowingKeeps
 pub mod EndsKeep
 pub mod LossBy
+pub mod WritingStops
 pub mod WriterEnds
 pub mod ServedKeeps
 pub mod OfEntries
@@ -124,6 +125,8 @@ pub mod BesideKeeps
 pub mod SoundRuns
 pub mod GrowsInRuns
 pub mod BusyPlans
+pub mod Lasting
+pub mod FoundedAs
 pub mod Unknowns
 pub mod WaitsInRuns
 pub mod Sums

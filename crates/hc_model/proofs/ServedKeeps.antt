@@ -72,7 +72,8 @@ use Rattle.hc_model.proofs.ShownFrom as shown_as
 use Rattle.hc_model.proofs.Stops.{writer_about}
 use Rattle.hc_model.proofs.Unclosed.{had_to}
 use Rattle.hc_model.proofs.Waiters.{waiter_of, doomed_same, case_same}
-use Rattle.hc_model.proofs.WriterEnds.{IsAll, all_stored}
+use Rattle.hc_model.proofs.WriterEnds.{all_stored}
+use Rattle.hc_model.proofs.WritingStops.{IsAll}
 
 false_true : false ≡ true → ⊥
 false_true h = cc

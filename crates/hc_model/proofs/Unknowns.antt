@@ -1,31 +1,18 @@
 -- What isn't gone and has no known length is being written for several.
-use Rattle.std.proofs.Common.{◌≡◌, ◌⊎◌, inl, inr, ℕ, ◌+◌, Bool, true, false, Option, Some, None, refl, ap, sym, ◌∙◌, arith}
-use Rattle.std.specs.Prelude.{is_some, ◌&&◌, ◌||◌, ◌==◌, not, nat_eq, nat_lt, unwrap_or, option_map}
+use Rattle.std.proofs.Common.{◌≡◌, ◌⊎◌, inl, inr, ℕ, ◌+◌, Bool, true, false, Option, Some, None, refl, ap, sym, ◌∙◌}
+use Rattle.std.specs.Prelude.{is_some, ◌&&◌, ◌||◌, ◌==◌, not, nat_lt, unwrap_or, option_map}
 use Rattle.std.specs.Option.{option_or}
-use Rattle.std.proofs.lemmas.Bool.Decides.{nat_tests}
-use Rattle.hc_event.specs.Filters.{closes_in}
 use Rattle.hc_event.specs.declared.event.Event.{Event}
 use Rattle.hc_event.specs.declared.event.Event.TheVariants as event
 use Rattle.hc_event.specs.declared.event.Response.{Response}
-use Rattle.hc_rules.specs.declared.heads.HeadCase.{HeadCase}
-use Rattle.hc_rules.specs.declared.heads.HeadCase.TheVariants as case
 use Rattle.hc_rules.specs.declared.room.Limits.{Limits}
-use Rattle.hc_rules.specs.HeadCases.{head_case}
-use Rattle.hc_model.specs.declared.place.BoundBy.TheVariants as by
-use Rattle.hc_model.specs.declared.place.Place.TheVariants as place
-use Rattle.hc_model.specs.ActFilters.{loses_in, has_loss}
 use Rattle.hc_model.specs.Beginnings.{may_begin, is_kind_right}
-use Rattle.hc_model.specs.Cases.{case_at, head_view, is_founding}
-use Rattle.hc_model.specs.Closings.{is_refused}
-use Rattle.hc_model.specs.ConsumerRows.{place_by_case}
+use Rattle.hc_model.specs.Cases.{case_at, is_founding}
 use Rattle.hc_model.specs.Denials.{denial}
-use Rattle.hc_model.specs.Dooms.{doomed_by_case}
 use Rattle.hc_model.specs.Entries.{Entry, Content, Contents}
-use Rattle.hc_model.specs.ExchangeRows.{exchange_heard, promise_in}
-use Rattle.hc_model.specs.Exchanges.{base, promised, is_open}
+use Rattle.hc_model.specs.Exchanges.{is_open}
 use Rattle.hc_model.specs.Flaws.{Flaw}
-use Rattle.hc_model.specs.Gone.{becomes_gone, goes_itself, ends_early, ends_founding, stops_early, is_keepable, refuses_ranges}
-use Rattle.hc_model.specs.Heads.{founded_total}
+use Rattle.hc_model.specs.Gone.{is_keepable, refuses_ranges}
 use Rattle.hc_model.specs.Keys.{entry_of}
 use Rattle.hc_model.specs.Laws.{item_of, AfterDenials}
 use Rattle.hc_model.specs.Measures.{Measures, IsMeasured}
@@ -33,27 +20,22 @@ use Rattle.hc_model.specs.Measures as measures
 use Rattle.hc_model.specs.Owners.{Owners}
 use Rattle.hc_model.specs.Reading.{is_written}
 use Rattle.hc_model.specs.Holes.{covers}
-use Rattle.hc_model.specs.RepresentationRows.{represented, representation_heard, asks_whole, hole_start, resumes, writer_at}
+use Rattle.hc_model.specs.RepresentationRows.{represented, asks_whole, hole_start, resumes}
 use Rattle.hc_model.specs.Rows.{Tables, Exchange, Representation}
 use Rattle.hc_model.specs.Sound.{Sound, IsGrowing, end_from}
 use Rattle.hc_model.specs.Tables.{loaded, begun, after_accepted}
 use Rattle.hc_model.proofs.ApartKeeps.{written_by, is_on}
 use Rattle.hc_model.proofs.DeniedKeeps.{written_same}
-use Rattle.hc_model.proofs.FirstKeeps.{case_is, is_new}
-use Rattle.hc_model.proofs.Forward.{after_is}
-use Rattle.hc_model.proofs.FoundBy.{CaseBy, case_by}
-use Rattle.hc_model.proofs.FoundBy as cases
-use Rattle.hc_model.proofs.HasBound.{head_stands}
-use Rattle.hc_model.proofs.HoleLemmas.{bool_cases}
 use Rattle.hc_model.proofs.LossBy.{IsReal}
 use Rattle.hc_model.proofs.MeasuresBegin.{known_item}
-use Rattle.hc_model.proofs.MeasuresKeep.{number_not, asker_by}
-use Rattle.hc_model.proofs.PieceKeeps.{eq_cases, some_inj}
+use Rattle.hc_model.proofs.PieceKeeps.{some_inj}
 use Rattle.hc_model.proofs.Pens.{writer_some}
 use Rattle.hc_model.proofs.RepFrom.{RepFrom, rep_from, IsKept, IsResumed, IsEnded}
 use Rattle.hc_model.proofs.RepFrom as rep
-use Rattle.hc_model.proofs.ServedKeeps.{none_promised}
-use Rattle.hc_model.proofs.Waiters.{waiter_of}
+use Rattle.hc_model.proofs.Lasting.{was_not_gone, not_lost, lasting}
+use Rattle.hc_model.proofs.FoundedAs.{FoundedAs, founded_as}
+use Rattle.hc_model.proofs.FoundedAs as founded
+use Rattle.hc_model.proofs.WritingStops.{IsAll}
 
 none_some : {A : Type 0} (a : A) → None ≡ Some a → ⊥
 none_some a is = cc
@@ -125,25 +107,6 @@ module _ (limits : Limits) (t : Tables) (now : ℕ) (flaw : Flaw) (s : Sound t) 
   now_on = after_accepted t e
 
   module _ (r : ℕ) (v p : Representation) (there : t.representation r ≡ Some v) (kept : IsKept t e r v p) (not_gone : p.is_gone ≡ false) (none : p.head.total ≡ None) where
-    goes_parts : (becomes_gone t e r v ≡ false) × (v.is_gone ≡ false)
-    goes_parts =
-        let is : (becomes_gone t e r v || (representation_heard t e r ev v).is_gone) ≡ false = ap (λ (q : Representation). q.is_gone) kept.is ∙ not_gone in
-        let both = or_false (becomes_gone t e r v) _ is in
-        (both.0, sym (rep.heard t e r v ev refl).gone_is ∙ both.1)
-
-    -- why it would go
-    not_lost : loses_in r e.acts ≡ false
-    unfolding becomes_gone
-    not_lost =
-        let itself = (or_false (goes_itself t e r v) _ goes_parts.0).0 in
-        let a = (or_false _ (ends_early t e r v && not (is_keepable v)) itself).0 in
-        let b = (or_false _ (Rattle.hc_model.specs.ActFilters.misreads_in r e.acts) a).0 in
-        (or_false _ (loses_in r e.acts) b).1
-
-    not_early : (ends_early t e r v && not (is_keepable v)) ≡ false
-    unfolding becomes_gone
-    not_early = (or_false _ (ends_early t e r v && not (is_keepable v)) (or_false (goes_itself t e r v) _ goes_parts.0).0).1
-
     none_before : v.head.total ≡ None
     none_before = by_total kept.total_is
       where
@@ -152,7 +115,7 @@ module _ (limits : Limits) (t : Tables) (now : ℕ) (flaw : Flaw) (s : Sound t) 
         by_total (inr ends) = absurd (or_none v.head.total _ (sym ends.total_is ∙ none))
 
     was : IsOnlyWritten t v
-    was = unknown r v there goes_parts.1 none_before
+    was = unknown r v there (was_not_gone limits t now flaw s o m ev goes r v p there kept not_gone) none_before
 
     unkeepable : is_keepable v ≡ false
     unfolding is_keepable
@@ -161,21 +124,6 @@ module _ (limits : Limits) (t : Tables) (now : ℕ) (flaw : Flaw) (s : Sound t) 
         by_parts : (a : Bool) → (a && false && nat_lt 0 v.size && not (refuses_ranges v)) ≡ false
         by_parts true = refl
         by_parts false = refl
-
-    lasts : ends_early t e r v ≡ false
-    lasts = by_test (ends_early t e r v) (is_keepable v) not_early unkeepable
-      where
-        by_test : (a b : Bool) → (a && not b) ≡ false → b ≡ false → a ≡ false
-        by_test false b h off = refl
-        by_test true true h off = absurd (true_false off)
-        by_test true false h off = absurd (true_false h)
-
-    not_founding_end : ends_founding e r (t.exchange r) ≡ false
-    not_founding_end = by_test (v.head.status == 200) (ends_founding e r (t.exchange r)) lasts (let st : v.head.status ≡ 200 = was.whole in let test : nat_eq v.head.status 200 ≡ true = grind (arith, nat_tests) in test)
-      where
-        by_test : (a b : Bool) → (a && b) ≡ false → a ≡ true → b ≡ false
-        by_test true b h on = h
-        by_test false b h on = absurd (false_true on)
 
     module _ (x : ℕ) (writer : v.writer ≡ Some x) where
       grows : (w : Exchange) × IsGrowing t r v x w
@@ -190,9 +138,6 @@ module _ (limits : Limits) (t : Tables) (now : ℕ) (flaw : Flaw) (s : Sound t) 
       was_open : w.is_open ≡ true
       was_open = sym (ap is_open g.row) ∙ (is_on t v x was.written writer).open_now
 
-      no_promise : promised w ≡ None
-      no_promise = ends_none (base w) (promised w) (sym g.promise ∙ none_before)
-
       mine : x ≡ r
       mine = by_measure (m.brings x w v g.row was_open g.headed (ap t.representation g.family_is ∙ there))
         where
@@ -200,49 +145,12 @@ module _ (limits : Limits) (t : Tables) (now : ℕ) (flaw : Flaw) (s : Sound t) 
           by_measure (measures.told n total promise known ends) = absurd (none_some total (sym none_before ∙ known))
           by_measure (measures.untold none_too unknown_too first alone was_at) = sym (ap (λ (n : Option ℕ). unwrap_or n x) alone) ∙ g.family_is
 
-      row_r : t.exchange r ≡ Some w
-      row_r = sym (ap t.exchange mine) ∙ g.row
-
-      -- it isn't closed, and doesn't stop early
-      unended : (stops_early w r ev ≡ false) × (closes_in r e.acts ≡ false)
-      unended = or_false (stops_early w r ev) (closes_in r e.acts) (by_open w.is_open _ was_open (sym (ap (ends_founding e r) row_r) ∙ not_founding_end))
-        where
-          by_open : (a b : Bool) → a ≡ true → (a && b) ≡ false → b ≡ false
-          by_open true b on h = h
-          by_open false b on h = absurd (false_true on)
-
-      self : (y : ℕ) → y ≡ x → (y == r) ≡ true
-      self y same = let number : y ≡ r = same ∙ mine in let test : nat_eq y r ≡ true = grind (arith, nat_tests) in test
-
-      heard_open : (z : Event) → ev ≡ z → (exchange_heard t e x z w).is_open ≡ true
-      heard_open (event.Start c request) here = was_open
-      heard_open (event.Poll c want) here = was_open
-      heard_open (event.Head y response) here = elim (eq_cases y x) [
-        | inr other ↦ rw other.0 was_open
-        | inl hit ↦
-            let bare = (is_new limits t now flaw s ev goes x response w (here ∙ ap (λ n. event.Head n response) hit.1) g.row).bare in
-            absurd (false_true (sym (ap (λ (q : Option Response). is_some q) bare) ∙ g.headed))
-      ]
-      heard_open (event.Piece y bytes) here = elim (eq_cases y x) [
-        | inr other ↦ rw other.0 was_open
-        | inl hit ↦ rw (hit.0, no_promise) was_open
-      ]
-      heard_open (event.End y) here = elim (eq_cases y x) [
-        | inr other ↦ rw other.0 was_open
-        | inl hit ↦ absurd (ended_not (here ∙ ap event.End (hit.1 ∙ mine)))
-      ]
-        where
-          ended_not : ev ≡ event.End r → ⊥
-          ended_not ends = or_none v.head.total _ (sym (Rattle.hc_model.proofs.WriterEnds.ended_total limits t now flaw s o m ev goes real r v p kept ends) ∙ none)
-      heard_open (event.Fault y) here = elim (eq_cases y x) [
-        | inr other ↦ rw other.0 was_open
-        | inl hit ↦ absurd (false_true (sym unended.0 ∙ (ap (stops_early w r) here ∙ self y hit.1)))
-      ]
-      heard_open (event.Cancel c) here = was_open
-      heard_open (event.Doom key) here = was_open
-
       still : is_open (now_on.exchange x) ≡ true
-      still = ap is_open (after_is t e x w (t.exchange x) g.row) ∙ and_both _ _ (ap not (ap (λ n. closes_in n e.acts) mine ∙ unended.1)) (heard_open ev refl)
+      still = by_end (lasting limits t now flaw s o m ev goes r v p there kept not_gone unkeepable was.whole was.written (writer ∙ ap Some mine))
+        where
+          by_end : (is_open (now_on.exchange r) ≡ true) ⊎ IsAll p → is_open (now_on.exchange x) ≡ true
+          by_end (inl on) = ap (λ n. is_open (now_on.exchange n)) mine ∙ on
+          by_end (inr all) = absurd (none_some all.total (sym none ∙ all.known))
 
       writer_now : (p.writer ≡ v.writer) ⊎ IsResumed t e r v p.writer → p.writer ≡ Some x
       writer_now (inl same) = same ∙ writer
@@ -256,7 +164,7 @@ module _ (limits : Limits) (t : Tables) (now : ℕ) (flaw : Flaw) (s : Sound t) 
           by_parts h = by_test (asks_whole (t.consumer R.w.c)) (covers v.stored v.reach 0 (hole_start R.w.need)) (v.size == hole_start R.w.need) (rw none_before at h)
 
       by_writer : IsOnlyWritten now_on p
-      by_writer = record { written = written_by now_on p x (kept.lost_is ∙ rw (not_lost, (is_on t v x was.written writer).kept) refl) (writer_now kept.writer_is) still; whole = kept.status_is ∙ was.whole }
+      by_writer = record { written = written_by now_on p x (kept.lost_is ∙ rw (not_lost limits t now flaw s o m ev goes r v p there kept not_gone, (is_on t v x was.written writer).kept) refl) (writer_now kept.writer_is) still; whole = kept.status_is ∙ was.whole }
 
     writes_on : (z : Option ℕ) → v.writer ≡ z → IsOnlyWritten now_on p
     writes_on None is = absurd (writer_some t v was.written is)
@@ -264,61 +172,14 @@ module _ (limits : Limits) (t : Tables) (now : ℕ) (flaw : Flaw) (s : Sound t) 
 
   -- WHAT IS FOUNDED
 
-  module _ (r : ℕ) (response : Response) (w : Exchange) (p : Representation) (here : ev ≡ event.Head r response) (row : t.exchange r ≡ Some w) (founding : is_founding (case_at t e) ≡ true) (made : represented r e response w ≡ p) (after : now_on.representation r ≡ Some p) (none : p.head.total ≡ None) where
-    unknown_total : founded_total w response ≡ None
-    unknown_total = ap (λ (q : Representation). q.head.total) made ∙ none
-
-    whole : (g : HeadCase) → case_at t e ≡ Some g → response.status ≡ 200 → (is_refused (Some g) ≡ false) × (doomed_by_case (Some g) w response ≡ None) → ((q : Option ℕ) × (place_by_case r response w (waiter_of limits t now flaw s o ev goes r w row (is_new limits t now flaw s ev goes r response w here row).is_open (is_new limits t now flaw s ev goes r response w here row).bare).0 (Some g) ≡ place.Bound r 0 q by.Founding)) → IsOnlyWritten now_on p
-    whole g is status plain placed = elim (bool_cases (is_open (now_on.exchange r))) [
-      | inl on ↦ record { written = written_by now_on p r (sym (ap (λ (q : Representation). q.is_lost) made)) writer on; whole = sym (ap (λ (q : Representation). q.head.status) made) ∙ status }
-      | inr off ↦
-          let new = is_new limits t now flaw s ev goes r response w here row in
-          let got = waiter_of limits t now flaw s o ev goes r w row new.is_open new.bare in
-          let st = head_stands limits t now flaw s o ev goes real.stand w.c r response w got.0 got.1 here (or_left _ _ founding) in
-          let promise : promise_in w response ≡ Some 0 = none_promised limits t now flaw s o m ev goes real r w.c 0 placed.0 by.Founding st.0 p after st.1 (st.2 ∙ (ap (place_by_case r response w got.0) is ∙ placed.1)) r response w here row (ap is_refused is ∙ plain.0) (ap (λ q. doomed_by_case q w response) is ∙ plain.1) off in
-          let total : founded_total w response ≡ promise_in w response = rw other refl in
-          absurd (none_some 0 (sym unknown_total ∙ (total ∙ promise)))
-    ]
-      where
-        other : nat_eq response.status 206 ≡ false
-        other = number_not response.status 206 (λ h. let no : 200 ≡ 206 = sym status ∙ h in absurd (omega arith))
-
-        writer : p.writer ≡ Some r
-        writer = let writes : writer_at r response ≡ Some r = rw other refl in sym (ap (λ (q : Representation). q.writer) made) ∙ writes
-
-    by_case : (g : HeadCase) → CaseBy (head_view t (has_loss e.acts) w response) g → case_at t e ≡ Some g → is_founding (Some g) ≡ true → IsOnlyWritten now_on p
-    by_case _ (cases.founds_whole way h l g) is on = whole case.FoundsWhole is h (refl, refl) (promise_in w response, refl)
-    by_case _ (cases.first_replaced way shown h l g) is on = whole case.FirstReplaced is h (refl, refl) (promise_in w response, refl)
-    by_case _ (cases.founds_range way h fits l g) is on =
-        let part = asker_by (t.consumer w.c) response fits in
-        let test : nat_eq response.status 206 ≡ true = (let st : response.status ≡ 206 = h in grind (arith, nat_tests)) in
-        let known : founded_total w response ≡ Some part.total = rw (test, part.told) refl in
-        absurd (none_some part.total (sym unknown_total ∙ known))
-    by_case _ (cases.direct_bad way h) is on = absurd (false_true on)
-    by_case _ (cases.direct_taken way) is on = absurd (false_true on)
-    by_case _ (cases.turn_bad way h) is on = absurd (false_true on)
-    by_case _ (cases.validated way h d l) is on = absurd (false_true on)
-    by_case _ (cases.not_validated way h) is on = absurd (false_true on)
-    by_case _ (cases.turn_server_error way) is on = absurd (false_true on)
-    by_case _ (cases.passes_by way) is on = absurd (false_true on)
-    by_case _ (cases.first_bad way shown h) is on = absurd (false_true on)
-    by_case _ (cases.first_joins way shown h g) is on = absurd (false_true on)
-    by_case _ (cases.first_server_error way shown) is on = absurd (false_true on)
-    by_case _ (cases.first_changed way shown) is on = absurd (false_true on)
-    by_case _ (cases.first_passes_by way shown) is on = absurd (false_true on)
-    by_case _ (cases.later_bad way shown h) is on = absurd (false_true on)
-    by_case _ (cases.later_joins way shown h g) is on = absurd (false_true on)
-    by_case _ (cases.later_changed way shown) is on = absurd (false_true on)
-
-    founded : IsOnlyWritten now_on p
-    founded =
-        let view = head_view t (has_loss e.acts) w response in
-        let is = case_is t e r response w here row in
-        by_case (head_case view) (case_by view) is (sym (ap is_founding is) ∙ founding)
+  founded_by : (r : ℕ) (response : Response) (w : Exchange) (p : Representation) (here : ev ≡ event.Head r response) (row : t.exchange r ≡ Some w) (founding : is_founding (case_at t e) ≡ true) (made : represented r e response w ≡ p) (after : now_on.representation r ≡ Some p) → p.head.total ≡ None → FoundedAs limits t now flaw s o m ev goes real r response w p here row founding made after → IsOnlyWritten now_on p
+  founded_by r response w p here row founding made after none (founded.comes on writer status) = record { written = on; whole = sym (ap (λ (q : Representation). q.head.status) made) ∙ status }
+  founded_by r response w p here row founding made after none (founded.empty status known) = absurd (none_some 0 (sym none ∙ known))
+  founded_by r response w p here row founding made after none (founded.part total status known fits) = absurd (none_some total (sym none ∙ known))
 
   pub unknown_kept : Unknown now_on
   unknown_kept r p after not_gone none = by_rep (rep_from t e r (t.representation r) p refl after)
     where
       by_rep : RepFrom t e r p → IsOnlyWritten now_on p
       by_rep (rep.was v kept) = writes_on r v p kept.row kept not_gone none v.writer refl
-      by_rep (rep.founded response w none_there here row on made) = founded r response w p here row on made after none
+      by_rep (rep.founded response w none_there here row on made) = founded_by r response w p here row on made after none (founded_as limits t now flaw s o m ev goes real r response w p here row on made after)

@@ -62,6 +62,7 @@ class Facts:
         self.owners()
         self.turns()
         self.dooms(old, entry)
+        self.left(limits)
         if not self.is_denied(entry.acts):
             self.holds("within the limit", self.weights(old, entry) <= limits.max_total or not self.writes(entry))
             self.holds("few are evicted", sum(act._name == "Evicted" for act in entry.acts) <= 2)
@@ -296,6 +297,34 @@ class Facts:
         for x, w in self.W.items():
             if w.is_open and of(w.head) is None and (w.need._name in TURNS or w.need._name == "Hole" and not self.K[w.c].shown):
                 self.holds("awaited behind dooms", self.barrier.get(bytes(w.request.key), 0) < x)
+
+    def left(self, limits):
+        """What makes that a store may begin with what is left."""
+        t, delivered = self.t, {}
+        for x, w in self.W.items():
+            self.holds("left: opened by now", w.opened <= t.moment)
+            if of(w.joined) is not None:
+                self.holds("left: joined by its tag", of(self.V[of(w.joined)].head.joining) is not None)
+        for r, v in self.V.items():
+            cells = [cell for cell in (of(v.body(p)) for p in range(v.reach)) if cell is not None]
+            self.holds("left: a number", 0 < r <= t.opened)
+            for x in {cell.x for cell in cells}:
+                self.holds("left: given out", 0 < x <= t.opened)
+                self.holds("left: of one body", delivered.setdefault(x, r) == r)
+                self.holds("left: of its own number", x == r or x not in self.V)
+                self.holds("left: of its family", x not in self.W or self.family(x) == r and of(self.W[x].head) is not None)
+            self.holds("left: not too large", v.size <= limits.max_entry)
+            self.head_left(r, v, cells)
+
+    def head_left(self, r, v, cells):
+        head, names = v.head, [bytes(f[0]) for f in v.head.fields]
+        self.holds("left: moments", head.requested <= head.answered <= self.t.moment)
+        self.holds("left: no length", b"content-length" not in names and b"content-range" not in names)
+        self.holds("left: modest", len(names) <= 64 and sum(len(f[0]) + len(f[1]) for f in head.fields) <= 32768)
+        if of(head.joining) is None:
+            self.holds("left: whole alone", head.status != 206 and all(cell.x == r for cell in cells))
+            comes = not v.is_lost and of(v.writer) == r and r in self.W and self.W[r].is_open
+            self.holds("left: comes or is all there", v.is_gone or comes or len(cells) == of(head.total))
 
     def one_key(self, old, new, entry):
         for x in old.openings:

@@ -28,7 +28,7 @@ is_loaded contents r None v found is = absurd (let never : None ≡ Some v = is 
 is_loaded contents r (Some item) v found is = record { item = item; found = found; row = some_inj (loaded item) v is }
 
 -- nothing is behind the last of some runs
-ends_all : (runs : List Run) → EndsBy (last_end runs) (cells_of runs)
+pub ends_all : (runs : List Run) → EndsBy (last_end runs) (cells_of runs)
 ends_all [] p le = refl
 ends_all (run ∷ runs) p le =
     let here : end_of run ≤ p = omega arith in

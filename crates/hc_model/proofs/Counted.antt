@@ -1,5 +1,5 @@
 -- The count of what is stored is that of its positions, so what is called truncated is some first bytes.
-use Rattle.std.proofs.Common.{◌≡◌, inl, inr, ℕ, zero, suc, ◌+◌, ◌<◌, ◌≤◌, ◌^◌, List, [], ◌∷◌, length, Bool, true, false, cond, Option, Some, None, refl, ap, sym, ◌∙◌, subst, arith}
+use Rattle.std.proofs.Common.{◌≡◌, inl, inr, ℕ, ◌+◌, ◌<◌, ◌≤◌, ◌^◌, List, [], ◌∷◌, length, Bool, true, false, cond, Option, Some, None, refl, ap, sym, ◌∙◌, subst, arith}
 use Rattle.std.specs.Prelude.{◌&&◌, ◌||◌, ◌==◌, nat_lt, nat_le, not, is_some, if◌then◌else◌, option_map}
 use Rattle.std.specs.Option.{option_and_then}
 use Rattle.std.proofs.lemmas.Bool.Decides.{nat_tests}
@@ -8,7 +8,7 @@ use Rattle.hc_event.specs.declared.event.Event.{Event}
 use Rattle.hc_event.specs.declared.event.Event.TheVariants as event
 use Rattle.hc_event.specs.declared.event.Response.{Response}
 use Rattle.hc_record.specs.declared.kind.Kind.TheVariants as kind
-use Rattle.hc_sparse.specs.Cells.{Cells, Cell, nothing, AreAbsent, Covers, size, size_below}
+use Rattle.hc_sparse.specs.Cells.{Cells, Cell, nothing, AreAbsent, Covers, size}
 use Rattle.hc_sparse.specs.Runs.{cells_of, end_of, ascend}
 use Rattle.hc_sparse.specs.declared.run.Run.{Run}
 use Rattle.hc_sparse.proofs.RunLemmas.{cells-before}
@@ -30,39 +30,12 @@ use Rattle.hc_model.proofs.HoleLemmas as holes
 use Rattle.hc_model.proofs.KeyNames.{and_left, and_then, eq_is}
 use Rattle.hc_model.proofs.Once.{delivers_once}
 use Rattle.hc_model.proofs.PieceKeeps.{some_inj}
+use Rattle.hc_model.proofs.Positions.{no_other_below}
 
 none_some : {A : Type 0} (a : A) → None ≡ Some a → ⊥
 none_some a h = cc
 
 -- COUNTS
-
-full_below : (f : Cells) (n : ℕ) → Covers f 0 n → size_below f n ≡ n
-unfolding size_below
-full_below f zero all = refl
-full_below f (suc n) all =
-    let here : is_some (f n) ≡ true = all n (omega arith) (omega arith) in
-    let rest : size_below f n ≡ n = full_below f n (λ p lo hi. all p lo (omega arith)) in
-    rw here (omega arith)
-
-below_more : (f : Cells) (a b : ℕ) → a ≤ b → size_below f a ≤ size_below f b
-unfolding size_below
-below_more f a zero le = let none : a ≡ zero = omega arith in rw none (omega arith)
-below_more f a (suc b) le = elim (bool_cases (nat_le a b)) [
-  | inl less ↦ let under : a ≤ b = grind (arith, nat_tests) in
-      let rest : size_below f a ≤ size_below f b = below_more f a b under in
-      elim (is_some (f b)) as (λ z. size_below f a ≤ cond z 1 0 + size_below f b) [ true ↦ omega arith | false ↦ omega arith ]
-  | inr more ↦ let same : a ≡ suc b = (let over : b < a = grind (arith, nat_tests) in omega arith) in rw same (omega arith)
-]
-
--- where as many are there as the first positions, no other is
-no_other_below : (f : Cells) (n p m : ℕ) → Covers f 0 n → size_below f m ≡ n → n ≤ p → p < m → is_some (f p) ≡ true → ⊥
-unfolding size_below
-no_other_below f n p m all count le lt there =
-    let first : size_below f n ≡ n = full_below f n all in
-    let upto : size_below f n ≤ size_below f p = below_more f n p le in
-    let next : size_below f (suc p) ≤ size_below f m = below_more f (suc p) m (omega arith) in
-    let one : size_below f (suc p) ≡ 1 + size_below f p = rw there refl in
-    omega (arith, count)
 
 no_other : (f : Cells) (n p : ℕ) → Covers f 0 n → size f ≡ n → n ≤ p → p < 2 ^ 62 → is_some (f p) ≡ true → ⊥
 unfolding size

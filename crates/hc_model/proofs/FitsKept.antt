@@ -1,6 +1,6 @@
 -- What is stored fits the limit, after each entry of a run.
 use Rattle.std.proofs.Common.{◌≡◌, ◌⊎◌, inl, inr, ℕ, ◌+◌, ◌≤◌, List, [], ◌∷◌, ◌++◌, length, Bool, true, false, Option, Some, None, refl, ap, sym, ◌∙◌, subst, arith}
-use Rattle.std.specs.Prelude.{if◌then◌else◌, is_some, ◌&&◌, ◌||◌, ◌==◌, not, nat_eq, map, take, reverse}
+use Rattle.std.specs.Prelude.{if◌then◌else◌, is_some, ◌&&◌, ◌||◌, ◌==◌, not, nat_eq, nat_lt, map, take, reverse}
 use Rattle.std.specs.List.{list_any, sum_by}
 use Rattle.std.specs.Option.{option_or, option_and_then}
 use Rattle.std.proofs.lemmas.Bool.Decides.{nat_tests}
@@ -559,6 +559,27 @@ module _ (limits : Limits) (t : Tables) (now : ℕ) (flaw : Flaw) (s : Sound t) 
       let same : now_on.founded ≡ t.founded = ap (λ q. added q t.founded) none in
       let sum : total now_on ≡ sum_by (held now_on) t.founded = ap (sum_by (held now_on)) same in
       omega arith
+
+  small_of : (used count : ℕ) (w : Write) (ws : List ℕ) → room_of limits used w ws ≡ room.After count → is_too_large limits w ≡ false
+  unfolding room_of
+  small_of used count w ws is = elim (bool_cases (is_too_large limits w)) [
+    | inl large ↦ absurd (let no : room.TooLarge ≡ room.After count = rw large at is in cc)
+    | inr small ↦ small
+  ]
+
+  -- no more is stored than an entry may have
+  pub stored_small : (r : ℕ) (v p : Representation) → t.representation r ≡ Some v → (f : IsFilled t e r v p) → v.size + length f.bytes ≤ limits.max_entry
+  unfolding room_for
+  stored_small r v p there filled =
+      let n = length filled.bytes in
+      let lossless = stored_lossless filled.x filled.bytes filled.w r filled.at filled.row filled.of_r filled.quiet in
+      let unpolled : (d want : ℕ) → ev ≡ event.Poll d want → ⊥ = (λ d want polls. let no : event.Piece filled.x filled.bytes ≡ event.Poll d want = sym filled.at ∙ polls in cc) in
+      let room = room_of_it (room_for limits t now ev) refl (roomed lossless unpolled) in
+      let kept : v.is_lost ≡ false = filled.kept in
+      let write_is : write_in t e0 ev ≡ Some (write.Piece v.size n) =
+      ap (write_in t e0) filled.at ∙ (ap (option_and_then (write_of_piece t filled.x n)) filled.row ∙ (ap (option_and_then (piece_write n)) (ap t.representation filled.of_r ∙ there) ∙ rw kept refl)) in
+      let test : nat_lt limits.max_entry (v.size + n) ≡ false = small_of (weights t e0) room.count (write.Piece v.size n) (map w0 (idle t e0)) (sym (ap (room_by limits t e0) write_is) ∙ room.is) in
+      grind (arith, nat_tests)
 
   -- EACH EVENT
 

@@ -199,7 +199,7 @@ module _ (limits : Limits) (t : Tables) (now : ℕ) (flaw : Flaw) (s : Sound t) 
 
 -- A DENIED ENTRY
 
-fits_denied : (limits : Limits) (t : Tables) (e : Entry) → Fits limits t → Fits limits (after_denied t e)
+pub fits_denied : (limits : Limits) (t : Tables) (e : Entry) → Fits limits t → Fits limits (after_denied t e)
 unfolding current bound
 fits_denied limits t e f = record { within = f.within; once = f.once; rows = f.rows; used_once = f.used_once; used_founded = f.used_founded }
 

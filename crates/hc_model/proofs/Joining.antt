@@ -1,5 +1,5 @@
 -- A head that joins brings positions of its hole.
-use Rattle.std.proofs.Common.{◌≡◌, ℕ, ◌+◌, ◌-◌, ◌<◌, ◌≤◌, Bool, true, false, cond, List, Option, Some, None, refl, sym, subst, arith}
+use Rattle.std.proofs.Common.{◌≡◌, ◌≢◌, ℕ, ◌+◌, ◌-◌, ◌<◌, ◌≤◌, Bool, true, false, cond, List, Option, Some, None, refl, sym, ◌∙◌, subst, arith}
 use Rattle.std.specs.Prelude.{codes, ◌==◌}
 use Rattle.std.proofs.lemmas.Bool.Decides.{nat_tests}
 use Rattle.hc_range.specs.declared.range.ContentRange.TheVariants as range
@@ -77,18 +77,19 @@ pub record IsFilling (n : Need) (o : Option Representation) (response : Response
   pub v : Representation
   pub row : o ≡ Some v
   pub last : ℕ
+  pub tagged : v.head.joining ≢ None
   pub total : ℕ
   pub known : v.head.total ≡ Some total
   pub part : content_range_of response.fields ≡ Some (range.Part from last (Some total))
   pub within : last < to
   pub status : response.status ≡ 206
 
-filling_by : (from to : ℕ) (v : Representation) (response : Response) (opaque : Option (List ℕ)) (total : Option ℕ) → v.head.total ≡ total → joins_by opaque total (record { lo = from; hi = to }) response ≡ true → IsFilling (need.Hole from to) (Some v) response
-filling_by from to v response None total known h = absurd (let never : false ≡ true = h in cc)
-filling_by from to v response (Some opaque) None known h = absurd (let never : false ≡ true = h in cc)
-filling_by from to v response (Some opaque) (Some total) known h =
+filling_by : (from to : ℕ) (v : Representation) (response : Response) (opaque : Option (List ℕ)) (total : Option ℕ) → v.head.joining ≡ opaque → v.head.total ≡ total → joins_by opaque total (record { lo = from; hi = to }) response ≡ true → IsFilling (need.Hole from to) (Some v) response
+filling_by from to v response None total tag known h = absurd (let never : false ≡ true = h in cc)
+filling_by from to v response (Some opaque) None tag known h = absurd (let never : false ≡ true = h in cc)
+filling_by from to v response (Some opaque) (Some total) tag known h =
     let (last, j) = (joins-right (false, opaque) total (record { lo = from; hi = to }) response).0 h in
-    record { from = from; to = to; need_is = refl; v = v; row = refl; last = last; total = total; known = known; part = j.told; within = j.within; status = j.status }
+    record { from = from; to = to; need_is = refl; v = v; row = refl; last = last; tagged = λ none. (let never : Some opaque ≡ None = sym tag ∙ none in cc); total = total; known = known; part = j.told; within = j.within; status = j.status }
 
 pub filling : (n : Need) (o : Option Representation) (response : Response) → joins_row n o response ≡ true → IsFilling n o response
 filling need.Disabled o response h = absurd (let never : false ≡ true = h in cc)
@@ -98,7 +99,7 @@ filling need.Miss o response h = absurd (let never : false ≡ true = h in cc)
 filling need.Vary o response h = absurd (let never : false ≡ true = h in cc)
 filling need.Validate o response h = absurd (let never : false ≡ true = h in cc)
 filling (need.Hole from to) None response h = absurd (let never : false ≡ true = h in cc)
-filling (need.Hole from to) (Some v) response h = filling_by from to v response v.head.joining v.head.total refl h
+filling (need.Hole from to) (Some v) response h = filling_by from to v response v.head.joining v.head.total refl refl h
 filling need.Unsatisfied o response h = absurd (let never : false ≡ true = h in cc)
 
 -- where the length of a joining head lies: within the hole, or nowhere

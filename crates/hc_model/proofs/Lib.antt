@@ -150,3 +150,17 @@ pub mod WhyShown
 pub mod Aimed
 pub mod Reasons
 pub mod ReadWhole
+pub mod OriginsKeep
+pub mod OriginsBegin
+pub mod OriginRuns
+pub mod RunFacts
+pub mod Positions
+pub mod SizesKeep
+pub mod HeadFrom
+pub mod FieldsKeep
+pub mod StoredHeadsKeep
+pub mod TagsKeep
+pub mod TagRuns
+pub mod RunsFrom
+pub mod KindsLeft
+pub mod LeavesGood

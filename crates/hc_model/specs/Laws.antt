@@ -40,12 +40,12 @@ use Rattle.hc_model.specs.Answers.{accepted}
 use Rattle.hc_model.specs.Kinds.{kind_for}
 use Rattle.hc_model.specs.Contents.{contents_of}
 use Rattle.hc_model.specs.Beginnings.{may_begin}
-use Rattle.hc_model.specs.Denials.{live}
 use Rattle.hc_model.specs.Runs.{IsRun, may_stand, IsOwed}
 use Rattle.hc_model.specs.Reads.{Delivers}
 use Rattle.hc_model.specs.Sound.{Sound, IsBound, IsAbout, IsGrowing, IsServed, IsHad, IsAlone, IsToBeShown, Waits, OneAbout, OneCurrent, IsStored, IsListed, IsNamed}
 use Rattle.hc_model.specs.Owners.{Owners}
 use Rattle.hc_model.specs.Measures.{Measures}
+use Rattle.hc_model.specs.StoredHeads.{HeadsAreModest}
 use Rattle.hc_model.specs.Keys.{entry_of, IsOfOneKey, KeepsOthers}
 
 -- a fact of the tables of every run from contents by which a store may begin
@@ -171,12 +171,22 @@ pub record IsInLimits (t : Tables) : Type 0 where
   pub consumers : t.last_start < 2 ^ 62
   pub exchanges : t.opened < 2 ^ 60
 
--- A store may begin with what a run leaves, once nobody is live, but for the limits of numbers.
+-- A store may begin with what a run leaves, whoever is live, but for the limits of numbers, and where no
+-- head that came had more fields than one from outside may have.
 abbrev pub LeavesGood : Limits → Contents → Type 0
 LeavesGood limits contents =
     may_begin limits contents ≡ true → (h : History) → IsRun limits contents h →
-    live (tables contents h) ≡ 0 → IsInLimits (tables contents h) →
+    HeadsAreModest h → IsInLimits (tables contents h) →
     may_begin limits (contents_of (tables contents h)) ≡ true
+
+abbrev pub LeavesInRuns : Type 0
+LeavesInRuns = (limits : Limits) (contents : Contents) → LeavesGood limits contents
+
+-- a fact of limits and tables, in every run
+abbrev pub OfRunsIn : (Limits → Tables → Type 0) → Type 0
+OfRunsIn P =
+    (limits : Limits) (contents : Contents) (h : History) → may_begin limits contents ≡ true →
+    IsRun limits contents h → P limits (tables contents h)
 
 -- WHAT MAKES THESE INDUCTIVE
 

@@ -2,9 +2,12 @@
 ghost use Rattle.hc_model.specs.Histories.{RunsAreFiltered};
 ghost use Rattle.hc_model.specs.Reads.{OneHeadIsShown, BodiesAreRead, GivesNext, EndsWell, RunsReadWhole};
 ghost use Rattle.hc_model.specs.Keys.{LawOfOneKey, KeysAreKept, KeysBegin};
-ghost use Rattle.hc_model.specs.Laws.{SoundDeliversOnce, DeliveriesAreKept, BodiesAreKept, NumbersAreKept, NamesAreKept, OneCurrentIsKept, StoresAreKept, StartsAreSound, WholeIsWhole, AfterEach, AreBound, KnowEnds, OwnedAfterEach, AreToBeShown, OwedAfterEach, OwnersAreKnown, TurnsAreOne, TurnsAreKept, TurnsBegin, HasOneTurn, KeysInRuns, BarrierIsKept, BarrierBegins, DoomsInRuns, TruncatedIsFront, TruthInRuns, CountsAreKept, TurnsGo, ReadersGo, CountsBegin, FewGiveWay, AreRead, AreUndue, ReadAbout, MeasuredAfterEach, BeginningsAreMeasured, AreGrowing, KeptByEntries, AreServed, AreHad, SurvivorsGoOn, BeginningsAreStarts, AfterDenials, OfRuns, DeliversOnce, BodiesGrowInRuns, WaitsEnd, FitsInRuns, FewInRuns};
+ghost use Rattle.hc_model.specs.Laws.{SoundDeliversOnce, DeliveriesAreKept, BodiesAreKept, NumbersAreKept, NamesAreKept, OneCurrentIsKept, StoresAreKept, StartsAreSound, WholeIsWhole, AfterEach, AreBound, KnowEnds, OwnedAfterEach, AreToBeShown, OwedAfterEach, OwnersAreKnown, TurnsAreOne, TurnsAreKept, TurnsBegin, HasOneTurn, KeysInRuns, BarrierIsKept, BarrierBegins, DoomsInRuns, TruncatedIsFront, TruthInRuns, CountsAreKept, TurnsGo, ReadersGo, CountsBegin, FewGiveWay, AreRead, AreUndue, ReadAbout, MeasuredAfterEach, BeginningsAreMeasured, AreGrowing, KeptByEntries, AreServed, AreHad, SurvivorsGoOn, BeginningsAreStarts, AfterDenials, OfRuns, OfRunsIn, LeavesInRuns, DeliversOnce, BodiesGrowInRuns, WaitsEnd, FitsInRuns, FewInRuns};
 ghost use Rattle.hc_model.specs.Owners.{Owners};
 ghost use Rattle.hc_model.specs.Measures.{Measures};
+ghost use Rattle.hc_model.specs.Origins.{Origins};
+ghost use Rattle.hc_model.specs.Sizes.{Sizes};
+ghost use Rattle.hc_model.specs.StoredHeads.{StoredHeads, Tags};
 ghost use Rattle.hc_model.specs.Sound.{OneFirst, Sound, RunsAreSound};
 
 /// What shows the other laws holds of the tables of every run, from contents by which a store may begin: they
@@ -194,6 +197,20 @@ pub fn few_give_way()
     ensures fits { FitsInRuns }
     ensures runs { FewInRuns }
     ensures few { FewGiveWay }
+{}
+
+/// A store may begin with what a run leaves, but for the limits of numbers, where no head that came had more
+/// fields than one from outside may have. What shows this holds in every run: each byte of a body is from an
+/// exchange that founded or joined it, or was there at the beginning, and a number is said by no other body;
+/// as many bytes are stored as positions, and no more than an entry may have; a stored head was asked for
+/// before it came, and tells no length among its fields; and what has no tag by which others could join it
+/// comes from its one exchange, or is all there.
+pub fn stores_begin_again()
+    ensures again { LeavesInRuns }
+    ensures origins { OfRuns Origins }
+    ensures sizes { OfRunsIn Sizes }
+    ensures heads { OfRuns StoredHeads }
+    ensures tags { OfRuns Tags }
 {}
 
 /// A denied entry leaves sound tables sound, owners known and bodies measured.

@@ -77,7 +77,6 @@ pub mod TurnHeads
 pub mod TurnsKeep
 pub mod Barred
 pub mod InRuns
-pub mod Counted
 pub mod Going
 pub mod FewGiveWay
 pub mod MemberStays

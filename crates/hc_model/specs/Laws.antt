@@ -1,7 +1,6 @@
 -- What holds over all interleavings of events.
 use Rattle.std.specs.Prelude.{◌≡◌, ◌≢◌, ◌⊎◌, ◌<◌, ◌≤◌, ℕ, ◌+◌, ◌-◌, List, [], ◌∷◌, length, true, false, Option, Some, None, is_some, if◌then◌else◌, not, ◌&&◌, ◌==◌, find, ◌^◌}
-use Rattle.hc_sparse.specs.Cells.{Cell, AreAbsent, Covers, size}
-use Rattle.hc_sparse.specs.Runs.{ascend}
+use Rattle.hc_sparse.specs.Cells.{Cell, AreAbsent, Covers, size_below}
 use Rattle.hc_record.specs.declared.kind.Kind.TheVariants as kind
 use Rattle.hc_event.specs.Filters.{is_denied}
 use Rattle.hc_event.specs.declared.event.Event.{Event}
@@ -30,7 +29,7 @@ use Rattle.hc_model.specs.Reading.{is_written, bound, own_open}
 use Rattle.hc_model.specs.Writers.{came_alone, loses_writing, survivor}
 use Rattle.hc_model.specs.Dooms.{doomed, is_key}
 use Rattle.hc_model.specs.Lines.{turn}
-use Rattle.hc_model.specs.Tables.{tables, begun, after_accepted, after_denied, last_end}
+use Rattle.hc_model.specs.Tables.{tables, begun, after_accepted, after_denied}
 use Rattle.hc_model.specs.Denials.{denial}
 use Rattle.hc_model.specs.Moves.{Move}
 use Rattle.hc_model.specs.Moves as move
@@ -245,10 +244,6 @@ pub record IsBarred (contents : Contents) (h : History) : Type 0 where
       is_headless (Some w) ≡ true → route_of w.need ≢ route.Direct →
       was_shown ((tables contents h).consumer w.c) ≡ false → barrier contents w.request.key h < x
 
--- for truthful records: the count is that of the positions
-abbrev pub IsCounted : Tables → Type 0
-IsCounted t = (r : ℕ) (v : Representation) → t.representation r ≡ Some v → v.size ≡ size v.stored
-
 -- DELIVERIES
 
 -- What is sound delivers once.
@@ -425,43 +420,11 @@ FewInRuns = (limits : Limits) (contents : Contents) → EvictsFew limits content
 
 -- RECORDS ARE TRUTHFUL
 
--- a piece ends where positions do at the latest
-abbrev pub EndsInTime : Tables → Event → Type 0
-EndsInTime t (event.Piece x bytes) =
-    (w : Exchange) → t.exchange x ≡ Some w → front w + length bytes ≤ 2 ^ 62
-EndsInTime t _ = Unit {0}
-
--- the count stays that of the positions, after each accepted event
-abbrev pub CountsAreKept : Type 0
-CountsAreKept =
-    (limits : Limits) (t : Tables) (now : ℕ) (flaw : Flaw) → Sound t → IsCounted t →
-    (event : Event) → denial t event ≡ None → EndsInTime t event →
-    IsCounted (after_accepted t (entry_of limits t now event flaw))
-
--- and it is so from the beginning, where runs rise without overlap
-abbrev pub CountsBegin : Type 0
-CountsBegin =
-    (contents : Contents) →
-    ((r : ℕ) (item : Content) → item_of contents r ≡ Some item → ascend 0 item.runs ≡ true) →
-    IsCounted (begun contents)
-
--- the store began with nothing past where positions end, and no piece ends past that
-abbrev pub EndInTime : Contents → History → Type 0
-EndInTime contents [] =
-    (r : ℕ) (item : Content) → item_of contents r ≡ Some item → last_end item.runs ≤ 2 ^ 62
-EndInTime contents (e ∷ h) = EndInTime contents h × EndsInTime (tables contents h) e.event
-
--- records are truthful in every run whose positions end in time
-abbrev pub TruthInRuns : Type 0
-TruthInRuns =
-    (limits : Limits) (contents : Contents) (h : History) → may_begin limits contents ≡ true →
-    IsRun limits contents h → EndInTime contents h → IsTruthful (tables contents h)
-
--- What is called truncated has some first positions and no other.
+-- What is called truncated has some first positions and no other, where as many bytes are stored as positions.
 abbrev pub TruncatedIsFront : Type 0
 TruncatedIsFront =
-    (t : Tables) → Sound t → IsCounted t → (key : List ℕ) (r : ℕ) (v : Representation) →
-    current t key ≡ Some r → t.representation r ≡ Some v → v.reach ≤ 2 ^ 62 →
+    (t : Tables) → Sound t → (key : List ℕ) (r : ℕ) (v : Representation) →
+    current t key ≡ Some r → t.representation r ≡ Some v → v.size ≡ size_below v.stored v.reach →
     kind_for t key ≡ Some kind.Truncated → IsFront v
 
 -- WHO GOES ON

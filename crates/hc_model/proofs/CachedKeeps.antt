@@ -31,14 +31,13 @@ use Rattle.hc_model.proofs.BoundFrom as from
 use Rattle.hc_model.proofs.BoundKeeps.{planned_at, founding_is}
 use Rattle.hc_model.proofs.FirstKeeps.{case_is, is_new}
 use Rattle.hc_model.proofs.Forward as forward
-use Rattle.hc_model.proofs.FoundBy.{case_by}
+use Rattle.hc_model.proofs.FoundBy.{founding_by, founds_way}
 use Rattle.hc_model.proofs.OpenedAs as opened
 use Rattle.hc_model.proofs.OwnersKeep.{is_opened}
 use Rattle.hc_model.proofs.Pens.{same_row}
 use Rattle.hc_model.proofs.PieceKeeps.{eq_cases, some_inj}
 use Rattle.hc_model.proofs.TurnPlaces.{ComesFrom, IsPlain, is_after}
 use Rattle.hc_model.proofs.TurnPlaces as turn
-use Rattle.hc_model.proofs.UndueKeeps.{founds_way}
 use Rattle.hc_model.proofs.Waiters.{waiter_of}
 
 none_some : {A : Type 0} (a : A) → None ≡ Some a → ⊥
@@ -108,7 +107,7 @@ module _ (limits : Limits) (t : Tables) (now : ℕ) (flaw : Flaw) (s : Sound t) 
       let got = waiter_of limits t now flaw s o ev goes x w exchange_row new.is_open new.bare in
       let one : got.0 ≡ k = same_row (t.consumer c) got.0 k (sym (ap t.consumer mine) ∙ got.1.row) row in
       let view = head_view t (has_loss e.acts) w response in
-      awaits_cached c x k w row (founds_way t (has_loss e.acts) w response (head_case view) (case_by view) (sym (ap is_founding (case_is t e x response w here exchange_row)) ∙ founding)) (subst (λ (z : Consumer). IsAwaiting x w z.place) one got.1.at)
+      awaits_cached c x k w row (founds_way view (head_case view) (founding_by view (sym (ap is_founding (case_is t e x response w here exchange_row)) ∙ founding))) (subst (λ (z : Consumer). IsAwaiting x w z.place) one got.1.at)
 
   bound_cached : (c r lo : ℕ) (hi : Option ℕ) (how : BoundBy) (u k : Consumer) → t.consumer c ≡ Some k → BoundFrom t e c r lo hi how u → is_disabled k.request ≡ false
   bound_cached c r lo hi how u k there (from.stays z row at) = by_row z row.row (at_place c z (place.Bound r lo hi how) row.row at refl)

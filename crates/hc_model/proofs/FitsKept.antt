@@ -50,7 +50,7 @@ use Rattle.hc_model.proofs.BoundFrom.{BoundFrom, IsRow, bound_from, place_inj}
 use Rattle.hc_model.proofs.BoundFrom as from
 use Rattle.hc_model.proofs.BoundKeeps.{planned_at}
 use Rattle.hc_model.proofs.FirstKeeps.{case_is, is_new}
-use Rattle.hc_model.proofs.FoundBy.{CaseBy, case_by}
+use Rattle.hc_model.proofs.FoundBy.{FoundingBy, founding_by}
 use Rattle.hc_model.proofs.FoundBy as cases
 use Rattle.hc_model.proofs.HoleLemmas.{bool_cases}
 use Rattle.hc_model.proofs.LossBy.{IsReal, lost_is}
@@ -455,30 +455,15 @@ module _ (limits : Limits) (t : Tables) (now : ℕ) (flaw : Flaw) (s : Sound t) 
 
   -- nothing is lost where a head founds
   founding_lossless : (x : ℕ) (response : Response) (w : Exchange) → ev ≡ event.Head x response → t.exchange x ≡ Some w → is_founding (case_at t e) ≡ true → has_loss e.acts ≡ false
-  founding_lossless x response w here row on = by_case (head_case view) (case_by view) (sym (ap is_founding (case_is t e x response w here row)) ∙ on)
+  founding_lossless x response w here row on = by_case (head_case view) (founding_by view (sym (ap is_founding (case_is t e x response w here row)) ∙ on))
     where
       view : Rattle.hc_rules.specs.declared.heads.HeadView.HeadView
       view = head_view t (has_loss e.acts) w response
 
-      by_case : (g : HeadCase) → CaseBy (head_view t (has_loss e.acts) w response) g → is_founding (Some g) ≡ true → has_loss e.acts ≡ false
-      by_case _ (cases.founds_whole way h l g) is = l
-      by_case _ (cases.founds_range way h fits l g) is = l
-      by_case _ (cases.first_replaced way shown h l g) is = l
-      by_case _ (cases.direct_bad way h) is = absurd (false_true is)
-      by_case _ (cases.direct_taken way) is = absurd (false_true is)
-      by_case _ (cases.turn_bad way h) is = absurd (false_true is)
-      by_case _ (cases.validated way h d l) is = absurd (false_true is)
-      by_case _ (cases.not_validated way h) is = absurd (false_true is)
-      by_case _ (cases.turn_server_error way) is = absurd (false_true is)
-      by_case _ (cases.passes_by way) is = absurd (false_true is)
-      by_case _ (cases.first_bad way shown h) is = absurd (false_true is)
-      by_case _ (cases.first_joins way shown h g) is = absurd (false_true is)
-      by_case _ (cases.first_server_error way shown) is = absurd (false_true is)
-      by_case _ (cases.first_changed way shown) is = absurd (false_true is)
-      by_case _ (cases.first_passes_by way shown) is = absurd (false_true is)
-      by_case _ (cases.later_bad way shown h) is = absurd (false_true is)
-      by_case _ (cases.later_joins way shown h g) is = absurd (false_true is)
-      by_case _ (cases.later_changed way shown) is = absurd (false_true is)
+      by_case : (g : HeadCase) → FoundingBy view g → has_loss e.acts ≡ false
+      by_case _ (cases.whole way h l) = l
+      by_case _ (cases.part way h fits l g) = l
+      by_case _ (cases.replaced way h l) = l
 
   -- what it founds weighs a slot
   founded_weighs : (x : ℕ) (p : Representation) → t.representation x ≡ None → RepFrom t e x p → now_on.representation x ≡ Some p → held now_on x ≤ 32768

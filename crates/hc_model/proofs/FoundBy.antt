@@ -1,5 +1,5 @@
 -- What a head that founds is.
-use Rattle.std.proofs.Common.{◌≡◌, ℕ, Bool, true, false, refl, arith}
+use Rattle.std.proofs.Common.{◌≡◌, ℕ, Bool, true, false, Some, refl, sym, ◌∙◌, arith}
 use Rattle.std.specs.Prelude.{◌&&◌, ◌||◌, ◌==◌, not, nat_eq, nat_le}
 use Rattle.std.proofs.lemmas.Bool.Decides.{nat_tests}
 use Rattle.hc_rules.specs.declared.need.Route.{Route}
@@ -10,6 +10,7 @@ use Rattle.hc_rules.specs.declared.heads.HeadView.{HeadView}
 use Rattle.hc_rules.specs.HeadCases.{head_case, case_on, direct_case, turn_case, first_case, later_case}
 use Rattle.hc_rules.specs.Needs.{route_of}
 use Rattle.hc_rules.proofs.Cond.{either}
+use Rattle.hc_model.specs.Cases.{is_founding}
 
 -- the route that a case is of, and whether its consumer was shown a head
 pub record IsWay (v : HeadView) (way : Route) (shown : Bool) : Type 0 where
@@ -85,3 +86,46 @@ module _ (v : HeadView) where
   pub case_by : CaseBy v (head_case v)
   unfolding head_case
   case_by = by_route (route_of v.need) refl
+
+-- WHAT FOUNDS
+
+-- why a head founds
+pub data FoundingBy (v : HeadView) : HeadCase → Type 0 where
+  whole : route_of v.need ≡ route.Turn → v.status ≡ 200 → v.lost ≡ false → FoundingBy v case.FoundsWhole
+  part : route_of v.need ≡ route.Turn → v.status ≡ 206 → v.fits ≡ true → v.lost ≡ false → v.bad ≡ false → FoundingBy v case.FoundsRange
+  replaced : route_of v.need ≡ route.Hole → v.status ≡ 200 → v.lost ≡ false → FoundingBy v case.FirstReplaced
+
+founding_of : (v : HeadView) (g : HeadCase) → CaseBy v g → is_founding (Some g) ≡ true → FoundingBy v g
+founding_of v _ (founds_whole way h l g) on = whole way h l
+founding_of v _ (founds_range way h f l g) on = part way h f l g
+founding_of v _ (first_replaced way shown h l g) on = replaced way h l
+founding_of v _ (direct_bad way h) on = absurd (let never : false ≡ true = on in cc)
+founding_of v _ (direct_taken way) on = absurd (let never : false ≡ true = on in cc)
+founding_of v _ (turn_bad way h) on = absurd (let never : false ≡ true = on in cc)
+founding_of v _ (validated way h d l) on = absurd (let never : false ≡ true = on in cc)
+founding_of v _ (not_validated way h) on = absurd (let never : false ≡ true = on in cc)
+founding_of v _ (turn_server_error way) on = absurd (let never : false ≡ true = on in cc)
+founding_of v _ (passes_by way) on = absurd (let never : false ≡ true = on in cc)
+founding_of v _ (first_bad way shown h) on = absurd (let never : false ≡ true = on in cc)
+founding_of v _ (first_joins way shown h g) on = absurd (let never : false ≡ true = on in cc)
+founding_of v _ (first_server_error way shown) on = absurd (let never : false ≡ true = on in cc)
+founding_of v _ (first_changed way shown) on = absurd (let never : false ≡ true = on in cc)
+founding_of v _ (first_passes_by way shown) on = absurd (let never : false ≡ true = on in cc)
+founding_of v _ (later_bad way shown h) on = absurd (let never : false ≡ true = on in cc)
+founding_of v _ (later_joins way shown h g) on = absurd (let never : false ≡ true = on in cc)
+founding_of v _ (later_changed way shown) on = absurd (let never : false ≡ true = on in cc)
+
+pub founding_by : (v : HeadView) → is_founding (Some (head_case v)) ≡ true → FoundingBy v (head_case v)
+founding_by v on = founding_of v (head_case v) (case_by v) on
+
+turn_direct : route.Turn ≡ route.Direct → ⊥
+turn_direct is = cc
+
+hole_direct : route.Hole ≡ route.Direct → ⊥
+hole_direct is = cc
+
+-- it isn't past the store
+pub founds_way : (v : HeadView) (g : HeadCase) → FoundingBy v g → route_of v.need ≡ route.Direct → ⊥
+founds_way v _ (whole way h l) past = turn_direct (sym way ∙ past)
+founds_way v _ (part way h f l g) past = turn_direct (sym way ∙ past)
+founds_way v _ (replaced way h l) past = hole_direct (sym way ∙ past)

@@ -32,7 +32,7 @@ use Rattle.hc_model.specs.Sound.{Sound}
 use Rattle.hc_model.specs.Tables.{after_accepted}
 use Rattle.hc_model.proofs.ApartKeeps.{written_by}
 use Rattle.hc_model.proofs.FirstKeeps.{case_is, is_new}
-use Rattle.hc_model.proofs.FoundBy.{CaseBy, case_by}
+use Rattle.hc_model.proofs.FoundBy.{FoundingBy, founding_by}
 use Rattle.hc_model.proofs.FoundBy as cases
 use Rattle.hc_model.proofs.HasBound.{head_stands}
 use Rattle.hc_model.proofs.HoleLemmas.{bool_cases}
@@ -83,32 +83,17 @@ module _ (limits : Limits) (t : Tables) (now : ℕ) (flaw : Flaw) (s : Sound t) 
         writer : p.writer ≡ Some r
         writer = let writes : writer_at r response ≡ Some r = rw other refl in sym (ap (λ (q : Representation). q.writer) made) ∙ writes
 
-    by_case : (g : HeadCase) → CaseBy (head_view t (has_loss e.acts) w response) g → case_at t e ≡ Some g → is_founding (Some g) ≡ true → FoundedAs
-    by_case _ (cases.founds_whole way h l g) is on = whole case.FoundsWhole is h (refl, refl) (promise_in w response, refl)
-    by_case _ (cases.first_replaced way shown h l g) is on = whole case.FirstReplaced is h (refl, refl) (promise_in w response, refl)
-    by_case _ (cases.founds_range way h fits l g) is on =
+    by_case : (g : HeadCase) → FoundingBy (head_view t (has_loss e.acts) w response) g → case_at t e ≡ Some g → FoundedAs
+    by_case _ (cases.whole way h l) is = whole case.FoundsWhole is h (refl, refl) (promise_in w response, refl)
+    by_case _ (cases.replaced way h l) is = whole case.FirstReplaced is h (refl, refl) (promise_in w response, refl)
+    by_case _ (cases.part way h fits l g) is =
         let asked = asker_by (t.consumer w.c) response fits in
         let test : nat_eq response.status 206 ≡ true = (let st : response.status ≡ 206 = h in grind (arith, nat_tests)) in
         let known : founded_total w response ≡ Some asked.total = rw (test, asked.told) refl in
         part asked.total h (total_is ∙ known) fits
-    by_case _ (cases.direct_bad way h) is on = absurd (false_true on)
-    by_case _ (cases.direct_taken way) is on = absurd (false_true on)
-    by_case _ (cases.turn_bad way h) is on = absurd (false_true on)
-    by_case _ (cases.validated way h d l) is on = absurd (false_true on)
-    by_case _ (cases.not_validated way h) is on = absurd (false_true on)
-    by_case _ (cases.turn_server_error way) is on = absurd (false_true on)
-    by_case _ (cases.passes_by way) is on = absurd (false_true on)
-    by_case _ (cases.first_bad way shown h) is on = absurd (false_true on)
-    by_case _ (cases.first_joins way shown h g) is on = absurd (false_true on)
-    by_case _ (cases.first_server_error way shown) is on = absurd (false_true on)
-    by_case _ (cases.first_changed way shown) is on = absurd (false_true on)
-    by_case _ (cases.first_passes_by way shown) is on = absurd (false_true on)
-    by_case _ (cases.later_bad way shown h) is on = absurd (false_true on)
-    by_case _ (cases.later_joins way shown h g) is on = absurd (false_true on)
-    by_case _ (cases.later_changed way shown) is on = absurd (false_true on)
 
     pub founded_as : FoundedAs
     founded_as =
         let view = head_view t (has_loss e.acts) w response in
         let is = case_is t e r response w here row in
-        by_case (head_case view) (case_by view) is (sym (ap is_founding is) ∙ founding)
+        by_case (head_case view) (founding_by view (sym (ap is_founding is) ∙ founding)) is

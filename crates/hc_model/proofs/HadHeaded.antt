@@ -52,7 +52,7 @@ use Rattle.hc_model.proofs.Dues.{due_none}
 use Rattle.hc_model.proofs.ExchangeFrom.{ExchangeFrom, IsSame, IsHeaded, exchange_from}
 use Rattle.hc_model.proofs.ExchangeFrom as exchange
 use Rattle.hc_model.proofs.FirstKeeps.{case_is, is_new}
-use Rattle.hc_model.proofs.FoundBy.{CaseBy, case_by}
+use Rattle.hc_model.proofs.FoundBy.{CaseBy, case_by, FoundingBy, founding_by}
 use Rattle.hc_model.proofs.FoundBy as cases
 use Rattle.hc_model.proofs.Forward as forward
 use Rattle.hc_model.proofs.HadKeeps.{own_had, settled, bare_had, was_headed}
@@ -336,28 +336,13 @@ module _ (limits : Limits) (t : Tables) (now : ℕ) (flaw : Flaw) (s : Sound t) 
           sound.own w.c (u found_binds unshared) (sound.is_bound part.span.lo (Some part.span.hi) by.Founding (u_row found_binds unshared) stands) (own_open_is now_on (u found_binds unshared) x (record { own = own_if found_binds unshared stays; w = z; row = after_x; opened = on })) none
           (sound.first (sym (ap (λ (q : Representation). q.is_lost) made)) (sound.first (u found_binds unshared) part.span.lo (Some part.span.hi) by.Founding (u_row found_binds unshared) stands alone))
 
-      by_case : (g : HeadCase) → CaseBy (head_view t (has_loss e.acts) w got.response) g → case_at t e ≡ Some g → is_founding (Some g) ≡ true → IsHad now_on x p x
-      by_case _ (cases.founds_whole way h l g) is founds = whole_had h
-      by_case _ (cases.founds_range way h f l g) is founds = part_had is h f
-      by_case _ (cases.first_replaced way shown h l g) is founds = whole_had h
-      by_case _ (cases.direct_bad way h) is founds = absurd (false_true founds)
-      by_case _ (cases.direct_taken way) is founds = absurd (false_true founds)
-      by_case _ (cases.turn_bad way h) is founds = absurd (false_true founds)
-      by_case _ (cases.validated way h d l) is founds = absurd (false_true founds)
-      by_case _ (cases.not_validated way h) is founds = absurd (false_true founds)
-      by_case _ (cases.turn_server_error way) is founds = absurd (false_true founds)
-      by_case _ (cases.passes_by way) is founds = absurd (false_true founds)
-      by_case _ (cases.first_bad way shown h) is founds = absurd (false_true founds)
-      by_case _ (cases.first_joins way shown h g) is founds = absurd (false_true founds)
-      by_case _ (cases.first_server_error way shown) is founds = absurd (false_true founds)
-      by_case _ (cases.first_changed way shown) is founds = absurd (false_true founds)
-      by_case _ (cases.first_passes_by way shown) is founds = absurd (false_true founds)
-      by_case _ (cases.later_bad way shown h) is founds = absurd (false_true founds)
-      by_case _ (cases.later_joins way shown h g) is founds = absurd (false_true founds)
-      by_case _ (cases.later_changed way shown) is founds = absurd (false_true founds)
+      by_case : (g : HeadCase) → FoundingBy (head_view t (has_loss e.acts) w got.response) g → case_at t e ≡ Some g → IsHad now_on x p x
+      by_case _ (cases.whole way h l) is = whole_had h
+      by_case _ (cases.part way h f l g) is = part_had is h f
+      by_case _ (cases.replaced way h l) is = whole_had h
 
       founded_had : IsHad now_on x p x
-      founded_had = by_case (head_case (head_view t (has_loss e.acts) w got.response)) (case_by (head_view t (has_loss e.acts) w got.response)) case_here (sym (ap is_founding case_here) ∙ founding)
+      founded_had = by_case (head_case (head_view t (has_loss e.acts) w got.response)) (founding_by (head_view t (has_loss e.acts) w got.response) (sym (ap is_founding case_here) ∙ founding)) case_here
 
     -- EITHER
 

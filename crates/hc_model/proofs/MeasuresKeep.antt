@@ -43,7 +43,7 @@ use Rattle.hc_model.proofs.ExchangeFrom as exchange
 use Rattle.hc_model.proofs.Fills.{Fills, fills, Brings, brings, length_same}
 use Rattle.hc_model.proofs.Fills as fills_by
 use Rattle.hc_model.proofs.FirstKeeps.{case_is, is_new}
-use Rattle.hc_model.proofs.FoundBy.{CaseBy, case_by}
+use Rattle.hc_model.proofs.FoundBy.{CaseBy, case_by, FoundingBy, founding_by}
 use Rattle.hc_model.proofs.FoundBy as cases
 use Rattle.hc_model.proofs.HeadKeeps.{is_join}
 use Rattle.hc_model.proofs.HoleLemmas.{bool_cases}
@@ -282,31 +282,16 @@ module _ (limits : Limits) (t : Tables) (now : ℕ) (flaw : Flaw) (s : Sound t) 
         let known : founded_total w got.response ≡ Some p.total = rw (on, p.told) refl in
         measured_within p.total founded_now (part_within w.need w.request got.response p.first p.last p.total past status p.told good) known
 
-    by_case : (g : HeadCase) → CaseBy (head_view t (has_loss e.acts) w got.response) g → case_at t e ≡ Some g → is_founding (Some g) ≡ true → IsMeasured z founded_now
-    by_case _ (cases.founds_whole way h l g) is on = whole (ap is_joining is) h
-    by_case _ (cases.founds_range way h f l g) is on = part (λ direct. let no : route.Turn ≡ route.Direct = sym way ∙ direct in cc) h f g
-    by_case _ (cases.first_replaced way shown h l g) is on = whole (ap is_joining is) h
-    by_case _ (cases.direct_bad way h) is on = absurd (false_true on)
-    by_case _ (cases.direct_taken way) is on = absurd (false_true on)
-    by_case _ (cases.turn_bad way h) is on = absurd (false_true on)
-    by_case _ (cases.validated way h d l) is on = absurd (false_true on)
-    by_case _ (cases.not_validated way h) is on = absurd (false_true on)
-    by_case _ (cases.turn_server_error way) is on = absurd (false_true on)
-    by_case _ (cases.passes_by way) is on = absurd (false_true on)
-    by_case _ (cases.first_bad way shown h) is on = absurd (false_true on)
-    by_case _ (cases.first_joins way shown h g) is on = absurd (false_true on)
-    by_case _ (cases.first_server_error way shown) is on = absurd (false_true on)
-    by_case _ (cases.first_changed way shown) is on = absurd (false_true on)
-    by_case _ (cases.first_passes_by way shown) is on = absurd (false_true on)
-    by_case _ (cases.later_bad way shown h) is on = absurd (false_true on)
-    by_case _ (cases.later_joins way shown h g) is on = absurd (false_true on)
-    by_case _ (cases.later_changed way shown) is on = absurd (false_true on)
+    by_case : (g : HeadCase) → FoundingBy (head_view t (has_loss e.acts) w got.response) g → case_at t e ≡ Some g → IsMeasured z founded_now
+    by_case _ (cases.whole way h l) is = whole (ap is_joining is) h
+    by_case _ (cases.part way h f l g) is = part (λ direct. let no : route.Turn ≡ route.Direct = sym way ∙ direct in cc) h f g
+    by_case _ (cases.replaced way h l) is = whole (ap is_joining is) h
 
     pub founded_measured : is_founding (case_at t e) ≡ true → IsMeasured z founded_now
     founded_measured on =
         let g = head_case (head_view t (has_loss e.acts) w got.response) in
         let is : case_at t e ≡ Some g = case_is t e x got.response w got.at row in
-        by_case g (case_by (head_view t (has_loss e.acts) w got.response)) is (sym (ap is_founding is) ∙ on)
+        by_case g (founding_by (head_view t (has_loss e.acts) w got.response) (sym (ap is_founding is) ∙ on)) is
 
     -- what its body is of after it
     new_measured : (u : Representation) → now_on.representation (family x z) ≡ Some u → IsMeasured z u

@@ -9,7 +9,6 @@ use Rattle.hc_event.specs.declared.event.Event.{Event}
 use Rattle.hc_event.specs.declared.event.Event.TheVariants as event
 use Rattle.hc_event.specs.declared.event.Response.{Response}
 use Rattle.hc_rules.specs.declared.heads.HeadCase.{HeadCase}
-use Rattle.hc_rules.specs.declared.heads.HeadView.{HeadView}
 use Rattle.hc_rules.specs.declared.need.Route.TheVariants as route
 use Rattle.hc_rules.specs.declared.request.Wanted.TheVariants as wanted
 use Rattle.hc_rules.specs.declared.room.Limits.{Limits}
@@ -38,7 +37,7 @@ use Rattle.hc_model.specs.Runs.{may_stand}
 use Rattle.hc_model.specs.Sound.{Sound}
 use Rattle.hc_model.specs.Tables.{after_accepted}
 use Rattle.hc_model.proofs.FirstKeeps.{is_new, case_is}
-use Rattle.hc_model.proofs.FoundBy.{CaseBy, case_by}
+use Rattle.hc_model.proofs.FoundBy.{CaseBy, case_by, FoundingBy, founding_by, founds_way}
 use Rattle.hc_model.proofs.FoundBy as cases
 use Rattle.hc_model.proofs.NumbersKeep.{opens_next}
 use Rattle.hc_model.proofs.Once.{never}
@@ -66,27 +65,6 @@ and_right true b h = h
 and_right false b h = absurd (false_true h)
 
 -- A CASE THAT FOUNDS
-
--- it is none of an exchange past the store
-found_way : (v : HeadView) (g : HeadCase) → CaseBy v g → route_of v.need ≡ route.Direct → is_founding (Some g) ≡ true → ⊥
-found_way v _ (cases.direct_bad way h) past on = false_true on
-found_way v _ (cases.direct_taken way) past on = false_true on
-found_way v _ (cases.turn_bad way h) past on = false_true on
-found_way v _ (cases.validated way h d l) past on = false_true on
-found_way v _ (cases.not_validated way h) past on = false_true on
-found_way v _ (cases.turn_server_error way) past on = false_true on
-found_way v _ (cases.founds_whole way h l g) past on = let no : route.Turn ≡ route.Direct = sym way ∙ past in cc
-found_way v _ (cases.founds_range way h f l g) past on = let no : route.Turn ≡ route.Direct = sym way ∙ past in cc
-found_way v _ (cases.passes_by way) past on = false_true on
-found_way v _ (cases.first_bad way shown h) past on = false_true on
-found_way v _ (cases.first_joins way shown h g) past on = false_true on
-found_way v _ (cases.first_server_error way shown) past on = false_true on
-found_way v _ (cases.first_changed way shown) past on = false_true on
-found_way v _ (cases.first_replaced way shown h l g) past on = let no : route.Hole ≡ route.Direct = sym way ∙ past in cc
-found_way v _ (cases.first_passes_by way shown) past on = false_true on
-found_way v _ (cases.later_bad way shown h) past on = false_true on
-found_way v _ (cases.later_joins way shown h g) past on = false_true on
-found_way v _ (cases.later_changed way shown) past on = false_true on
 
 bound_direct : (r lo : ℕ) (hi : Option ℕ) (how : BoundBy) (y : ℕ) → place.Bound r lo hi how ≡ place.Direct y → ⊥
 bound_direct r lo hi how y is = cc
@@ -134,7 +112,7 @@ module _ (limits : Limits) (t : Tables) (now : ℕ) (flaw : Flaw) (s : Sound t) 
   unfounding : (x : ℕ) (response : Response) (w : Exchange) → ev ≡ event.Head x response → t.exchange x ≡ Some w → route_of w.need ≡ route.Direct → is_founding (case_at t e) ≡ true → ⊥
   unfounding x response w here row way on =
       let view = head_view t (has_loss e.acts) w response in
-      found_way view (head_case view) (case_by view) way (sym (ap is_founding (case_is t e x response w here row)) ∙ on)
+      founds_way view (head_case view) (founding_by view (sym (ap is_founding (case_is t e x response w here row)) ∙ on)) way
 
   module _ (c y : ℕ) (k u : Consumer) (after : now_on.consumer c ≡ Some u) (stands : u.place ≡ place.Direct y) (is : IsFrom t e c y k u) where
     direct_way : (w : Exchange) → k.place ≡ place.Direct y → IsAwaiting y w k.place → route_of w.need ≡ route.Direct
@@ -167,28 +145,13 @@ module _ (limits : Limits) (t : Tables) (now : ℕ) (flaw : Flaw) (s : Sound t) 
         by_shown false unshown = stood_past response w at here row on unshown (o.past c y k is.row at unshown)
 
     -- a head that leaves its consumer past the store founds nothing
-    placed_not : (response : Response) (w : Exchange) (g : HeadCase) → t.exchange y ≡ Some w → w.c ≡ c → CaseBy (head_view t (has_loss e.acts) w response) g → place_by_case y response w k (Some g) ≡ place.Direct y → is_founding (Some g) ≡ true → ⊥
-    placed_not response w _ row mine (cases.direct_bad way h) at on = false_true on
-    placed_not response w _ row mine (cases.direct_taken way) at on = false_true on
-    placed_not response w _ row mine (cases.turn_bad way h) at on = false_true on
-    placed_not response w _ row mine (cases.validated way h d l) at on = false_true on
-    placed_not response w _ row mine (cases.not_validated way h) at on = false_true on
-    placed_not response w _ row mine (cases.turn_server_error way) at on = false_true on
-    placed_not response w _ row mine (cases.founds_whole way h l g) at on = bound_direct _ _ _ _ y at
-    placed_not response w _ row mine (cases.founds_range way status fits l g) at on =
+    placed_not : (response : Response) (w : Exchange) (g : HeadCase) → t.exchange y ≡ Some w → w.c ≡ c → FoundingBy (head_view t (has_loss e.acts) w response) g → place_by_case y response w k (Some g) ≡ place.Direct y → ⊥
+    placed_not response w _ row mine (cases.whole way h l) at = bound_direct _ _ _ _ y at
+    placed_not response w _ row mine (cases.part way status fits l g) at =
         let for_k : fits_to_found (range_of k.request) response ≡ true = sym (ap (λ q. fits_asker q response) (ap t.consumer mine ∙ is.row)) ∙ fits in
         let z = fits_wanted w response (range_of k.request) status for_k in
         bound_direct y z.0.lo (Some z.0.hi) by.Founding y (sym (ap (bound_to_wanted y by.Founding (place.Direct y)) z.1) ∙ at)
-    placed_not response w _ row mine (cases.passes_by way) at on = false_true on
-    placed_not response w _ row mine (cases.first_bad way shown h) at on = false_true on
-    placed_not response w _ row mine (cases.first_joins way shown h g) at on = false_true on
-    placed_not response w _ row mine (cases.first_server_error way shown) at on = false_true on
-    placed_not response w _ row mine (cases.first_changed way shown) at on = false_true on
-    placed_not response w _ row mine (cases.first_replaced way shown h l g) at on = bound_direct _ _ _ _ y at
-    placed_not response w _ row mine (cases.first_passes_by way shown) at on = false_true on
-    placed_not response w _ row mine (cases.later_bad way shown h) at on = false_true on
-    placed_not response w _ row mine (cases.later_joins way shown h g) at on = false_true on
-    placed_not response w _ row mine (cases.later_changed way shown) at on = false_true on
+    placed_not response w _ row mine (cases.replaced way h l) at = bound_direct _ _ _ _ y at
 
     heard_at : (response : Response) → ev ≡ event.Head y response → (by_head t e c y response (t.exchange y) k).place ≡ place.Direct y
     heard_at response here =
@@ -203,7 +166,7 @@ module _ (limits : Limits) (t : Tables) (now : ℕ) (flaw : Flaw) (s : Sound t) 
           | inr off ↦ stood_not response w (rw off.0 at at) here row on
           | inl mine ↦
               let is_case = case_is t e y response w here row in
-              placed_not response w (head_case (head_view t (has_loss e.acts) w response)) row mine.1 (case_by (head_view t (has_loss e.acts) w response)) (sym (ap (place_by_case y response w k) is_case) ∙ (rw mine.0 at at)) (sym (ap is_founding is_case) ∙ on)
+              placed_not response w (head_case (head_view t (has_loss e.acts) w response)) row mine.1 (founding_by (head_view t (has_loss e.acts) w response) (sym (ap is_founding is_case) ∙ on)) (sym (ap (place_by_case y response w k) is_case) ∙ (rw mine.0 at at))
         ]
 
     head_refused : (response : Response) → t.exchange y ≡ None → denial t (event.Head y response) ≡ None → ⊥

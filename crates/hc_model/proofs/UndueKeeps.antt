@@ -43,8 +43,7 @@ use Rattle.hc_model.proofs.ExchangeFrom.{ExchangeFrom, exchange_from}
 use Rattle.hc_model.proofs.ExchangeFrom as exchange
 use Rattle.hc_model.proofs.FirstDueKeeps.{shown_due}
 use Rattle.hc_model.proofs.FirstKeeps.{case_is, is_new, open_free}
-use Rattle.hc_model.proofs.FoundBy.{CaseBy, case_by}
-use Rattle.hc_model.proofs.FoundBy as cases
+use Rattle.hc_model.proofs.FoundBy.{case_by, founding_by, founds_way}
 use Rattle.hc_model.proofs.MemberStays.{head_not}
 use Rattle.hc_model.proofs.OwnersKeep.{is_opened}
 use Rattle.hc_model.proofs.PieceKeeps.{eq_cases, some_inj}
@@ -103,27 +102,6 @@ no_cause (Some case.FirstChanged) x h = absurd (false_true h)
 no_cause (Some case.FirstPassesBy) x h = absurd (false_true h)
 no_cause (Some case.LaterBad) x h = absurd (false_true h)
 no_cause (Some case.LaterChanged) x h = absurd (false_true h)
-
--- what founds isn't past the store
-pub founds_way : (t : Tables) (lost : Bool) (w : Exchange) (response : Response) (g : HeadCase) → CaseBy (head_view t lost w response) g → is_founding (Some g) ≡ true → route_of w.need ≡ route.Direct → ⊥
-founds_way t lost w response _ (cases.founds_whole way h l g) on past = let no : route.Turn ≡ route.Direct = sym way ∙ past in cc
-founds_way t lost w response _ (cases.founds_range way h f l g) on past = let no : route.Turn ≡ route.Direct = sym way ∙ past in cc
-founds_way t lost w response _ (cases.first_replaced way shown h l g) on past = let no : route.Hole ≡ route.Direct = sym way ∙ past in cc
-founds_way t lost w response _ (cases.direct_bad way h) on past = false_true on
-founds_way t lost w response _ (cases.direct_taken way) on past = false_true on
-founds_way t lost w response _ (cases.turn_bad way h) on past = false_true on
-founds_way t lost w response _ (cases.validated way h d l) on past = false_true on
-founds_way t lost w response _ (cases.not_validated way h) on past = false_true on
-founds_way t lost w response _ (cases.turn_server_error way) on past = false_true on
-founds_way t lost w response _ (cases.passes_by way) on past = false_true on
-founds_way t lost w response _ (cases.first_bad way shown h) on past = false_true on
-founds_way t lost w response _ (cases.first_joins way shown h g) on past = false_true on
-founds_way t lost w response _ (cases.first_server_error way shown) on past = false_true on
-founds_way t lost w response _ (cases.first_changed way shown) on past = false_true on
-founds_way t lost w response _ (cases.first_passes_by way shown) on past = false_true on
-founds_way t lost w response _ (cases.later_bad way shown h) on past = false_true on
-founds_way t lost w response _ (cases.later_joins way shown h g) on past = false_true on
-founds_way t lost w response _ (cases.later_changed way shown) on past = false_true on
 
 module _ (limits : Limits) (t : Tables) (now : ℕ) (flaw : Flaw) (s : Sound t) (o : Owners t) (ev : Event) (goes : denial t ev ≡ None) (stand : may_stand limits t (entry_of limits t now ev flaw) ≡ true) where
   abbrev e : Entry
@@ -258,7 +236,7 @@ module _ (limits : Limits) (t : Tables) (now : ℕ) (flaw : Flaw) (s : Sound t) 
 
   pub founder_undue : (x c : ℕ) (response : Response) (w : Exchange) (k : Consumer) → ev ≡ event.Head x response → t.exchange x ≡ Some w → is_founding (case_at t e) ≡ true → IsWaiter t c x k w → IsAwaiting x w k.place → (k.due ≡ None) × (becomes_due t e c k ≡ None)
   founder_undue x c response w k here row on is (owners.direct way stands) =
-      absurd (founds_way t (has_loss e.acts) w response (head_case (head_view t (has_loss e.acts) w response)) (case_by (head_view t (has_loss e.acts) w response)) (sym (ap is_founding (case_is t e x response w here row)) ∙ on) way)
+      absurd (founds_way (head_view t (has_loss e.acts) w response) (head_case (head_view t (has_loss e.acts) w response)) (founding_by (head_view t (has_loss e.acts) w response) (sym (ap is_founding (case_is t e x response w here row)) ∙ on)) way)
   founder_undue x c response w k here row on is (owners.turn way stands) =
       (o.idle_due c k is.row (ap reads stands), head_undue c x response k here (or_left _ _ on) (loss_free t e c k.place (λ r lo hi how at. let no : place.Turn x ≡ place.Bound r lo hi how = sym stands ∙ at in cc)))
   founder_undue x c response w k here row on is (owners.hole r lo hi how way aim stands) = by_row (t.representation r) refl (s.numbered.bound_to r c k (sound.is_bound lo hi how is.row stands))

@@ -50,7 +50,6 @@ use Rattle.hc_model.proofs.Fills.{Fills, fills, Brings, brings}
 use Rattle.hc_model.proofs.Fills as fills_by
 use Rattle.hc_model.proofs.FirstKeeps.{is_new, is_opener}
 use Rattle.hc_model.proofs.Forward as forward
-use Rattle.hc_model.proofs.HeadTo as to
 use Rattle.hc_model.proofs.HoleLemmas.{covers_yes}
 use Rattle.hc_model.proofs.HolesOpened.{stored_ends}
 use Rattle.hc_model.proofs.LossBy.{IsReal}
@@ -78,7 +77,7 @@ use Rattle.hc_model.proofs.SoundKept.{GoAlone}
 use Rattle.hc_model.proofs.StoreKeeps.{stores_are_kept}
 use Rattle.hc_model.proofs.Survives.{goes_on}
 use Rattle.hc_model.proofs.ToBeShown.{heard_place}
-use Rattle.hc_model.proofs.Waiters.{IsWaiter, waiter_of}
+use Rattle.hc_model.proofs.TogetherHeads as together
 
 none_some : {A : Type 0} (a : A) → None ≡ Some a → ⊥
 none_some a is = cc
@@ -202,32 +201,10 @@ module _ (limits : Limits) (t : Tables) (now : ℕ) (flaw : Flaw) (s : Sound t) 
 
       -- its exchange isn't written together
       shared_not : (v.is_lost || loses_in r e.acts) ≡ true → IsShared t e c → ⊥
-      shared_not lost sh = by_parts (resumed_of t e sh.response sh.w (case_at t e) joins sh.shared)
+      shared_not lost sh = by_parts (resumed_of t e sh.response sh.w (case_at t e) (together.joins limits t now flaw s o ev goes r c lo hi how k u row at stands none sh) sh.shared)
         where
-          new : Rattle.hc_model.proofs.FirstKeeps.IsNew limits t now flaw s ev goes sh.x sh.w
-          new = is_new limits t now flaw s ev goes sh.x sh.response sh.w sh.at sh.row
-
-          waits : (q : Consumer) × IsWaiter t sh.w.c sh.x q sh.w
-          waits = waiter_of limits t now flaw s o ev goes sh.x sh.w sh.row new.is_open new.bare
-
-          owned_k : k.own ≡ Some sh.x
-          owned_k = let all = waits in ap (λ (q : Consumer). q.own) (sym (same_row (t.consumer c) all.0 k (sym (ap t.consumer sh.mine) ∙ all.1.row) row.row)) ∙ all.1.own
-
-          g : forward.IsOn t e sh.x sh.w
-          g = forward.is_on t e sh.x sh.w sh.row
-
-          by_heard : (a : Exchange) (same : IsSame t e sh.x sh.w a) → ((a.head ≡ sh.w.head) × (a.joined ≡ sh.w.joined)) ⊎ IsHeaded t e sh.x sh.w a → IsHeaded t e sh.x sh.w a
-          by_heard a same (inl still) = absurd (same.unheard (still.0 ∙ new.bare) sh.response sh.at)
-          by_heard a same (inr got) = got
-
-          got : IsHeaded t e sh.x sh.w g.u
-          got = by_heard g.u g.same g.same.heard_or
-
-          joins : is_joining (case_at t e) ≡ true
-          joins = to.joins limits t now flaw s o ev goes r c sh.x lo hi how k u sh.w g.u row at stands none owned_k sh.row g.same got
-
           aim : sh.w.aim ≡ Some r
-          aim = (to.way limits t now flaw s o ev goes r c sh.x lo hi how k u sh.w g.u row at stands none owned_k sh.row g.same got).1
+          aim = (together.way limits t now flaw s o ev goes r c lo hi how k u row at stands none sh).1
 
           not_true : (b : Bool) → not b ≡ true → b ≡ false
           not_true true h = absurd (false_true h)

@@ -111,6 +111,7 @@ pub mod SoundKept
 pub mod Survives
 pub mod Beside
 pub mod OwnNone
+pub mod TogetherHeads
 pub mod CachedKeeps
 pub mod HeadTo
 pub mod Exclusives

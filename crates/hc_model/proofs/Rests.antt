@@ -50,12 +50,11 @@ use Rattle.hc_model.proofs.Beside.{IsBeside}
 use Rattle.hc_model.proofs.BoundFrom.{BoundFrom, IsRow, IsFounded, IsShown, bound_from, place_inj}
 use Rattle.hc_model.proofs.BoundFrom as from
 use Rattle.hc_model.proofs.Dues.{due_before}
-use Rattle.hc_model.proofs.ExchangeFrom.{IsSame, IsHeaded}
+use Rattle.hc_model.proofs.ExchangeFrom.{IsHeaded}
 use Rattle.hc_model.proofs.FirstKeeps.{case_of_head, whole_200, replaced_200, is_new, came_kept, one_first_kept, founded_came}
 use Rattle.hc_model.proofs.Forward as forward
 use Rattle.hc_model.proofs.HadHeaded.{had_kept}
 use Rattle.hc_model.proofs.HeadKeeps.{IsJoin}
-use Rattle.hc_model.proofs.HeadTo as to
 use Rattle.hc_model.proofs.HoleLemmas.{bool_cases}
 use Rattle.hc_model.proofs.LossBy.{IsReal}
 use Rattle.hc_model.proofs.Losses.{HasRest}
@@ -66,7 +65,8 @@ use Rattle.hc_model.proofs.PieceKeeps.{eq_cases, some_inj}
 use Rattle.hc_model.proofs.RepFrom.{RepFrom, rep_from, IsKept, IsResumed}
 use Rattle.hc_model.proofs.RepFrom as rep
 use Rattle.hc_model.proofs.ServedKeeps.{rest_by, still_rests, resumed_not, none_promised}
-use Rattle.hc_model.proofs.Waiters.{IsWaiter, waiter_of}
+use Rattle.hc_model.proofs.TogetherHeads as together
+use Rattle.hc_model.proofs.Waiters.{waiter_of}
 use Rattle.hc_model.proofs.WriterEnds.{all_stored}
 
 none_some : {A : Type 0} (a : A) → None ≡ Some a → ⊥
@@ -204,33 +204,20 @@ module _ (limits : Limits) (t : Tables) (now : ℕ) (flaw : Flaw) (s : Sound t) 
             promises_some sh.w.need sh.w.request got.response joined.fills.from joined.fills.last joined.fills.total way.0 unheaded joined.fills.status joined.fills.part joined.good (ap (λ a. promise_of (length_of sh.w.need sh.w.request a)) answer ∙ none_is)
       ]
         where
-          new : Rattle.hc_model.proofs.FirstKeeps.IsNew limits t now flaw s ev goes sh.x sh.w
-          new = is_new limits t now flaw s ev goes sh.x sh.response sh.w sh.at sh.row
-
-          waits : (q : Consumer) × IsWaiter t sh.w.c sh.x q sh.w
-          waits = waiter_of limits t now flaw s o ev goes sh.x sh.w sh.row new.is_open new.bare
-
-          owned_k : k.own ≡ Some sh.x
-          owned_k = let all = waits in ap (λ (q : Consumer). q.own) (sym (same_row (t.consumer c) all.0 k (sym (ap t.consumer sh.mine) ∙ all.1.row) row.row)) ∙ all.1.own
-
           g : forward.IsOn t e sh.x sh.w
-          g = forward.is_on t e sh.x sh.w sh.row
-
-          by_heard : (a : Exchange) (same : IsSame t e sh.x sh.w a) → ((a.head ≡ sh.w.head) × (a.joined ≡ sh.w.joined)) ⊎ IsHeaded t e sh.x sh.w a → IsHeaded t e sh.x sh.w a
-          by_heard a same (inl still) = absurd (same.unheard (still.0 ∙ new.bare) sh.response sh.at)
-          by_heard a same (inr got) = got
+          g = together.on limits t now flaw s o ev goes r c lo hi how k u row at stands none sh
 
           got : IsHeaded t e sh.x sh.w g.u
-          got = by_heard g.u g.same g.same.heard_or
+          got = together.got limits t now flaw s o ev goes r c lo hi how k u row at stands none sh
 
           joins : is_joining (case_at t e) ≡ true
-          joins = to.joins limits t now flaw s o ev goes r c sh.x lo hi how k u sh.w g.u row at stands none owned_k sh.row g.same got
+          joins = together.joins limits t now flaw s o ev goes r c lo hi how k u row at stands none sh
 
           joined : IsJoin t sh.w got.response
-          joined = to.joined limits t now flaw s o ev goes r c sh.x lo hi how k u sh.w g.u row at stands none owned_k sh.row g.same got
+          joined = together.joined limits t now flaw s o ev goes r c lo hi how k u row at stands none sh
 
           way : (route_of sh.w.need ≡ route.Hole) × (sh.w.aim ≡ Some r)
-          way = to.way limits t now flaw s o ev goes r c sh.x lo hi how k u sh.w g.u row at stands none owned_k sh.row g.same got
+          way = together.way limits t now flaw s o ev goes r c lo hi how k u row at stands none sh
 
           head_inj : (a d : ℕ) (f h : Response) → event.Head a f ≡ event.Head d h → f ≡ h
           head_inj a d f h is = cc

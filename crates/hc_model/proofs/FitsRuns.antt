@@ -20,18 +20,18 @@ use Rattle.hc_model.specs.Beginnings.{may_begin, are_good, is_good, says, weight
 use Rattle.hc_model.specs.Cases.{case_at, case_of, head_view, is_founding, was_shown}
 use Rattle.hc_model.specs.Currents.{current, is_usable}
 use Rattle.hc_model.specs.Denials.{denial}
-use Rattle.hc_model.specs.Entries.{Entry, History, Content, Contents, unanswered}
+use Rattle.hc_model.specs.Entries.{Entry, Content, Contents, unanswered}
 use Rattle.hc_model.specs.Exchanges.{exchange_in}
 use Rattle.hc_model.specs.Flaws.{Flaw, flaw_in}
 use Rattle.hc_model.specs.Keys.{entry_of}
-use Rattle.hc_model.specs.Laws.{FitsInRuns, FewInRuns, IsSmallPiece, count_evicted}
+use Rattle.hc_model.specs.Laws.{OfRunsIn, FitsInRuns, FewInRuns, IsSmallPiece, count_evicted}
 use Rattle.hc_model.specs.Measures.{Measures}
 use Rattle.hc_model.specs.Owners.{Owners}
 use Rattle.hc_model.specs.Reading.{bound, reads}
 use Rattle.hc_model.specs.Rows.{Tables, Exchange, Representation, Consumer}
-use Rattle.hc_model.specs.Runs.{IsRun, IsOwed}
+use Rattle.hc_model.specs.Runs.{IsOwed}
 use Rattle.hc_model.specs.Sound.{Sound, Among}
-use Rattle.hc_model.specs.Tables.{tables, begun, loaded, numbers, bytes_in, founds, added, is_hole, is_reading, binds, binds_by_opening, binds_by_showing, to_front, after, after_accepted, after_denied}
+use Rattle.hc_model.specs.Tables.{tables, begun, loaded, numbers, bytes_in, founds, added, is_hole, is_reading, binds, binds_by_opening, binds_by_showing, to_front, after_accepted, after_denied}
 use Rattle.hc_model.specs.Weights.{weights}
 use Rattle.hc_model.proofs.BoundKeeps.{planned_at, shown_place_is}
 use Rattle.hc_model.proofs.FewGiveWay.{few_give_way}
@@ -40,7 +40,6 @@ use Rattle.hc_model.proofs.FitsKept.{Fits, within_kept}
 use Rattle.hc_model.proofs.HoleLemmas.{bool_cases}
 use Rattle.hc_model.proofs.LossBy.{IsReal}
 use Rattle.hc_model.proofs.MeasuresBegin.{of_number}
-use Rattle.hc_model.proofs.OfEntries.{of_real}
 use Rattle.hc_model.proofs.Owed.{IsDenied, is_denial, acts_are}
 use Rattle.hc_model.proofs.Owed as owed_acts
 use Rattle.hc_model.proofs.PieceKeeps.{eq_cases, some_inj}
@@ -48,7 +47,7 @@ use Rattle.hc_model.proofs.RepFrom as rep
 use Rattle.hc_model.proofs.Said.{showing_by}
 use Rattle.hc_model.proofs.ShownFrom.{ShownAs}
 use Rattle.hc_model.proofs.ShownFrom as shown_as
-use Rattle.hc_model.proofs.SoundRuns.{IsCarried, carried}
+use Rattle.hc_model.proofs.RunFacts.{in_runs}
 use Rattle.hc_model.proofs.Sums.{AreOnce, filter_among, filter_once, reverse_among, reverse_once, reverse_sum}
 use Rattle.hc_model.proofs.Weighed.{held, held_in, is_held, total, weights_most}
 
@@ -311,15 +310,8 @@ module _ (limits : Limits) (contents : Contents) where
 
 -- IN RUNS
 
-step : (limits : Limits) (t : Tables) (e : Entry) (b : Bool) → is_denied e.acts ≡ b → IsCarried t → IsOwed limits t e → Fits limits t → Fits limits (after t e)
-unfolding after
-step limits t e true denied c owed f = rw denied (fits_denied limits t e f)
-step limits t e false not_denied c owed f = rw not_denied (of_real limits t e (λ z. Fits limits (after_accepted t z)) owed not_denied (λ going real. fits_kept limits t e.now (flaw_in e.acts) c.is_sound c.is_owned c.is_measured f e.event going real))
-
-pub fits : (limits : Limits) (contents : Contents) (h : History) → may_begin limits contents ≡ true → IsRun limits contents h → Fits limits (tables contents h)
-unfolding tables
-fits limits contents [] may run = fits_begin limits contents may
-fits limits contents (e ∷ h) may run = step limits (tables contents h) e (is_denied e.acts) refl (carried limits contents h may run.0) run.1 (fits limits contents h may run.0)
+pub fits : OfRunsIn Fits
+fits = in_runs Fits (λ limits contents may. fits_begin limits contents may) (λ limits t e later f. fits_denied limits t e f) (λ limits t now flaw later c f ev goes real. fits_kept limits t now flaw c.is_sound c.is_owned c.is_measured f ev goes real)
 
 -- All that is stored fits the limit.
 pub fits_in_runs : FitsInRuns

@@ -1,87 +1,29 @@
 -- No update changes what Vary names, so whom a stored head answers.
-use Rattle.std.proofs.Common.{◌≡◌, inl, inr, ℕ, List, [], ◌∷◌, Bool, true, false, Option, Some, None, refl, ap, sym, ◌∙◌}
-use Rattle.std.specs.Prelude.{◌&&◌, not, bytes_eq, if◌then◌else◌, codes, ◌==◌}
-use Rattle.std.specs.List.{list_any, list_all, flat_map}
+use Rattle.std.proofs.Common.{◌≡◌, ℕ, List, Bool, true, false, Option, Some, None, refl, ap, ◌∙◌}
+use Rattle.std.specs.Prelude.{◌&&◌, if◌then◌else◌, codes, ◌==◌}
+use Rattle.std.specs.List.{list_all, flat_map}
 use Rattle.hc_event.specs.declared.event.Event.{Event}
 use Rattle.hc_event.specs.declared.event.Event.TheVariants as event
 use Rattle.hc_event.specs.declared.event.Request.{Request}
 use Rattle.hc_fields.specs.FieldElements.{elements_in}
-use Rattle.hc_fields.specs.FieldList.{values_of, has_name, put}
-use Rattle.hc_fields.proofs.Edits.{values_of-put_other}
+use Rattle.hc_fields.specs.FieldList.{values_of}
 use Rattle.hc_fresh.specs.Vary.{matches_vary, matches_on, is_name}
 use Rattle.http_header.specs.Token.{lowercase}
 use Rattle.hc_fields.specs.Agreement.{agree_on}
 use Rattle.hc_text.specs.Elements.{elements}
-use Rattle.hc_rules.proofs.RangeReads.{same_bytes, bytes_eq-same}
 use Rattle.hc_validate.specs.Heads.{FieldPairs}
-use Rattle.hc_validate.specs.Updates.{fixed_names, is_fixed, taken, is_renewed, with_all, left_by, replaced, is_modest, updated}
+use Rattle.hc_validate.specs.Updates.{updated}
 use Rattle.hc_model.specs.Entries.{Entry}
 use Rattle.hc_model.specs.Exchanges.{family}
 use Rattle.hc_model.specs.RepresentationRows.{representation_heard, representation_acted, headed, renewed, updates, pieced, ended, length_in}
 use Rattle.hc_model.specs.Rows.{Tables, Exchange, Representation}
-use Rattle.hc_model.proofs.HoleLemmas.{bool_cases}
-use Rattle.hc_model.proofs.KeyNames.{not_true}
+use Rattle.hc_model.proofs.FieldsKeep.{values_kept}
 
 abbrev vary : List ℕ
 vary = codes "vary"
 
--- a name that may change isn't Vary
-not_vary : (f : List ℕ × List ℕ) → is_fixed f ≡ false → bytes_eq f.0 vary ≡ false
-not_vary f free = not_true _ (λ here.
-    let is : f.0 ≡ vary = same_bytes f.0 vary here in
-    let no_one : false ≡ true = sym free ∙ ap (λ name. list_any (bytes_eq name) fixed_names) is in
-    cc)
-
--- each may change
-abbrev AllFree : FieldPairs → Type 0
-AllFree [] = Unit {0}
-AllFree (f ∷ fs) = (is_fixed f ≡ false) × AllFree fs
-
-not_yes : (b : Bool) → not b ≡ true → b ≡ false
-not_yes true h = absurd (let no_one : false ≡ true = h in cc)
-not_yes false h = refl
-
-taken_free : (fields : FieldPairs) → AllFree (taken fields)
-taken_free [] = tt
-taken_free (f ∷ fs) = elim (bool_cases (is_fixed f)) [
-  | inl fixed ↦ rw fixed (taken_free fs)
-  | inr free ↦ rw free (free, taken_free fs)
-]
-
-with_all_vary : (new fields : FieldPairs) → AllFree new → values_of vary (with_all new fields) ≡ values_of vary fields
-with_all_vary [] fields free = refl
-with_all_vary (f ∷ new) fields free =
-    with_all_vary new (put f.0 f.1 fields) free.1 ∙ values_of-put_other f.0 f.1 vary fields (λ same.
-    let no_one : false ≡ true = sym (not_vary f free.0) ∙ bytes_eq-same f.0 vary (sym same) in cc)
-
-renewed_not : (f : List ℕ × List ℕ) (new : FieldPairs) → AllFree new → f.0 ≡ vary → is_renewed new f ≡ false
-renewed_not f [] free is = refl
-renewed_not f (g ∷ new) free is =
-    let other : bytes_eq f.0 g.0 ≡ false = not_true _ (λ same.
-    let no_one : false ≡ true = sym (not_vary g free.0) ∙ bytes_eq-same g.0 vary (sym (same_bytes f.0 g.0 same) ∙ is) in cc) in
-    rw other (renewed_not f new free.1 is)
-
-left_vary : (new fields : FieldPairs) → AllFree new → values_of vary (left_by new fields) ≡ values_of vary fields
-left_vary new [] free = refl
-left_vary new (f ∷ fs) free = elim (bool_cases (has_name vary f)) [
-  | inl here ↦ let stays : is_renewed new f ≡ false = renewed_not f new free (same_bytes f.0 vary here) in
-      rw (stays, here) (ap (λ (l : List (List ℕ)). f.1 ∷ l) (left_vary new fs free))
-  | inr other ↦ elim (bool_cases (is_renewed new f)) [
-    | inl gone ↦ rw (gone, other) (left_vary new fs free)
-    | inr stays ↦ rw (stays, other) (left_vary new fs free)
-  ]
-]
-
-replaced_vary : (fields new : FieldPairs) → values_of vary (replaced fields (taken new)) ≡ values_of vary fields
-replaced_vary fields new =
-    with_all_vary (taken new) (left_by (taken new) fields) (taken_free new) ∙ left_vary (taken new) fields (taken_free new)
-
 updated_vary : (fields new : FieldPairs) → values_of vary (updated fields new) ≡ values_of vary fields
-updated_vary fields new = by_test (is_modest (replaced fields (taken new)))
-  where
-    by_test : (b : Bool) → values_of vary (if b then replaced fields (taken new) else fields) ≡ values_of vary fields
-    by_test true = replaced_vary fields new
-    by_test false = refl
+updated_vary fields new = values_kept vary refl fields new
 
 -- REPRESENTATIONS
 

@@ -1,21 +1,17 @@
 -- No wait goes in a circle, in any run: who reads past the store waits for nobody, whom a busy one waits for reads, and what has no known length, or is written for several, is read.
-use Rattle.std.proofs.Common.{◌≡◌, ◌≢◌, ◌⊎◌, inl, inr, ℕ, List, [], ◌∷◌, Bool, true, false, Option, Some, None, refl, ap, sym, ◌∙◌, subst}
+use Rattle.std.proofs.Common.{◌≡◌, ◌≢◌, ◌⊎◌, inl, inr, ℕ, List, [], ◌∷◌, true, false, Option, Some, None, refl, ap, sym, ◌∙◌, subst}
 use Rattle.std.specs.Prelude.{is_some}
 use Rattle.std.specs.Option.{option_and_then}
-use Rattle.hc_event.specs.Filters.{is_denied}
 use Rattle.hc_event.specs.declared.act.Wait.{Wait}
 use Rattle.hc_event.specs.declared.act.Wait.TheVariants as wait
 use Rattle.hc_event.specs.declared.event.Response.{Response}
 use Rattle.hc_rules.specs.declared.plan.Candidate.{Candidate}
 use Rattle.hc_rules.specs.declared.request.Wanted.TheVariants as wanted
-use Rattle.hc_rules.specs.declared.room.Limits.{Limits}
 use Rattle.hc_rules.specs.Least.{least}
 use Rattle.hc_rules.specs.Requests.{range_of, wanted_of}
 use Rattle.hc_model.specs.declared.place.Place.TheVariants as place
 use Rattle.hc_model.specs.Currents.{current}
-use Rattle.hc_model.specs.Entries.{Entry}
 use Rattle.hc_model.specs.Exchanges.{is_headless}
-use Rattle.hc_model.specs.Flaws.{flaw_in}
 use Rattle.hc_model.specs.Laws.{OfRuns, WaitsEnd, WaitsForNobody}
 use Rattle.hc_model.specs.Moves as moves
 use Rattle.hc_model.specs.Moves.{Move}
@@ -25,9 +21,8 @@ use Rattle.hc_model.specs.Planning.{plan_view}
 use Rattle.hc_model.specs.Polls.{move_of, shows_at, shows_answer, shows_direct, if_headless}
 use Rattle.hc_model.specs.Reading.{is_written, bound, own_open}
 use Rattle.hc_model.specs.Rows.{Tables, Exchange, Representation, Consumer}
-use Rattle.hc_model.specs.Runs.{IsOwed}
 use Rattle.hc_model.specs.Sound.{Sound, IsBound}
-use Rattle.hc_model.specs.Tables.{tables, after, after_accepted}
+use Rattle.hc_model.specs.Tables.{tables}
 use Rattle.hc_model.proofs.AboutKeeps.{own_open_is}
 use Rattle.hc_model.proofs.BusyPlans.{BusyBy, busy_by}
 use Rattle.hc_model.proofs.BusyPlans as busy
@@ -36,11 +31,11 @@ use Rattle.hc_model.proofs.Going.{turns_go, readers_go}
 use Rattle.hc_model.proofs.HadKeeps.{among_least}
 use Rattle.hc_model.proofs.HasBound.{reader_of}
 use Rattle.hc_model.proofs.InRuns.{turned_in_runs}
-use Rattle.hc_model.proofs.OfEntries.{of_real}
 use Rattle.hc_model.proofs.PollKeeps.{current_stays}
 use Rattle.hc_model.proofs.Said.{WaitsAs}
 use Rattle.hc_model.proofs.Said as said
 use Rattle.hc_model.proofs.ShownFrom.{IsCandidate, candidate_is}
+use Rattle.hc_model.proofs.RunFacts.{in_runs}
 use Rattle.hc_model.proofs.SoundRuns.{IsCarried, carried}
 use Rattle.hc_model.proofs.Unknowns.{Unknown, unknown_begun, unknown_denied, unknown_kept}
 use Rattle.hc_model.proofs.WaitedAs.{IsForOthers, waited_as}
@@ -129,16 +124,9 @@ module _ (t : Tables) (s : Sound t) (unknown : Unknown t) where
 
 -- IN RUNS
 
-step : (limits : Limits) (t : Tables) (e : Entry) (b : Bool) → is_denied e.acts ≡ b → IsCarried t → IsOwed limits t e → Unknown t → Unknown (after t e)
-unfolding after
-step limits t e true denied c owed unknown = rw denied (unknown_denied t e unknown)
-step limits t e false accepted c owed unknown = rw accepted (of_real limits t e (λ z. Unknown (after_accepted t z)) owed accepted (λ going real. unknown_kept limits t e.now (flaw_in e.acts) c.is_sound c.is_owned c.is_measured unknown e.event going real))
-
 -- what isn't gone and has no known length is being written
 pub unknown_in_runs : OfRuns Unknown
-unfolding tables
-unknown_in_runs limits contents [] may run = unknown_begun limits contents may
-unknown_in_runs limits contents (e ∷ h) may run = step limits (tables contents h) e (is_denied e.acts) refl (carried limits contents h may run.0) run.1 (unknown_in_runs limits contents h may run.0)
+unknown_in_runs = in_runs (λ limits t. Unknown t) (λ limits contents may. unknown_begun limits contents may) (λ limits t e later unknown. unknown_denied t e unknown) (λ limits t now flaw later c unknown ev goes real. unknown_kept limits t now flaw c.is_sound c.is_owned c.is_measured unknown ev goes real)
 
 waits_end : (t : Tables) → IsCarried t → Rattle.hc_model.specs.Laws.Turns t → Unknown t → WaitsEnd t
 waits_end t c turns unknown = record {

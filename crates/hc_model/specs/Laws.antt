@@ -170,8 +170,8 @@ pub record IsInLimits (t : Tables) : Type 0 where
   pub consumers : t.last_start < 2 ^ 62
   pub exchanges : t.opened < 2 ^ 60
 
--- A store may begin with what a run leaves, whoever is live, but for the limits of numbers, and where no
--- head that came had more fields than one from outside may have.
+-- A store may begin with what a run leaves, whoever is live, but for the limits of numbers, and where
+-- no head that came had more fields than one from outside may have.
 abbrev pub LeavesGood : Limits → Contents → Type 0
 LeavesGood limits contents =
     may_begin limits contents ≡ true → (h : History) → IsRun limits contents h →
@@ -420,7 +420,8 @@ FewInRuns = (limits : Limits) (contents : Contents) → EvictsFew limits content
 
 -- RECORDS ARE TRUTHFUL
 
--- What is called truncated has some first positions and no other, where as many bytes are stored as positions.
+-- What is called truncated has some first positions and no other, where as many bytes are stored as
+-- positions.
 abbrev pub TruncatedIsFront : Type 0
 TruncatedIsFront =
     (t : Tables) → Sound t → (key : List ℕ) (r : ℕ) (v : Representation) →

@@ -15,7 +15,8 @@ pub data MayDeliver (t : Tables) (r x : ℕ) : Type 0 where
   came : (w : Exchange) → t.exchange x ≡ Some w → is_some w.head ≡ true → family x w ≡ r →
       MayDeliver t r x
 
--- numbers were given out from 1 on; each byte is from its family; and a number that delivered is said by no other body
+-- numbers were given out from 1 on; each byte is from its body's family; and a number that delivered
+-- is said by no other body
 pub record Origins (t : Tables) : Type 0 where
   pub founded : (r : ℕ) → is_some (t.representation r) ≡ true → 0 < r
   pub opened : (x : ℕ) → is_some (t.exchange x) ≡ true → 0 < x

@@ -12,7 +12,8 @@ use Rattle.hc_model.specs.Rows.{Tables, Exchange, Representation}
 
 -- MOMENTS AND FIELDS
 
--- an exchange was opened by now, and a head asked for before it came; no length stands among its fields
+-- an exchange was opened by now, and a head asked for before it came; no length stands among the
+-- fields of a head
 pub record StoredHeads (t : Tables) : Type 0 where
   pub opened : (x : ℕ) (w : Exchange) → t.exchange x ≡ Some w → w.opened ≤ t.moment
   pub moments : (r : ℕ) (v : Representation) → t.representation r ≡ Some v →
@@ -43,7 +44,8 @@ pub data IsOfOne (t : Tables) (v : Representation) : Type 0 where
   comes : is_written t v ≡ true → v.head.status ≡ 200 → IsOfOne t v
   whole : (total : ℕ) → v.head.total ≡ Some total → Covers v.stored 0 total → IsOfOne t v
 
--- what has no tag is no part, has no byte of another exchange than its own, and is whole once that is over
+-- what has no tag is no part, has no byte of another exchange than its own, and is whole once that
+-- is over
 pub record Tags (t : Tables) : Type 0 where
   pub joined : (x r : ℕ) (w : Exchange) (v : Representation) → t.exchange x ≡ Some w →
       w.joined ≡ Some r → t.representation r ≡ Some v → v.head.joining ≢ None

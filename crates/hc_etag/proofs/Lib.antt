@@ -1,2 +1,3 @@
 pub mod EtagLemmas
 pub mod TagLemmas
+pub mod TagReads

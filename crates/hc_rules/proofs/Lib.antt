@@ -11,6 +11,5 @@ pub mod PlanLaws
 pub mod RoomLaws
 pub mod LeastLaws
 pub mod DenialLaws
-pub mod TagReads
 pub mod JoinLaws
 pub mod AdmissionLaws

@@ -1,5 +1,5 @@
 use Rattle.hc_rules.proofs.RangeReads.{asked_in-some, asked_in-spelled, content_range_in-some, content_range_in-spelled}
-use Rattle.hc_rules.proofs.TagReads.{strong_in-some, strong_in-spelled}
+use Rattle.hc_etag.proofs.TagReads.{strong_in-some, strong_in-spelled}
 use Rattle.hc_rules.proofs.laws.texts_are_spelled.Goals as goal
 
 pub returns-clause-ranges : goal.returns-clause-ranges

@@ -1,6 +1,6 @@
 -- The one strong tag of a list of values.
-use Rattle.std.proofs.Common.{◌≡◌, ℕ, ◌-◌, Bool, true, false, List, [], ◌∷◌, ◌++◌, length, Option, Some, None, refl, sym, ap, inl, inr, arith, length-append}
-use Rattle.std.specs.Prelude.{bytes_eq, ◌&&◌, is_some, slice_get}
+use Rattle.std.proofs.Common.{◌≡◌, ℕ, ◌-◌, Bool, true, false, List, [], ◌∷◌, ◌++◌, length, Option, Some, None, refl, sym, ap, ◌∙◌, inl, inr, arith, length-append}
+use Rattle.std.specs.Prelude.{bytes_eq, ◌&&◌, is_some, slice_get, Result, Ok, Err, OnErr}
 use Rattle.std.specs.List.{list_all}
 use Rattle.std.proofs.lemmas.Bool.{cases_Bool, cases_eq, ne_eqb, not_from_false, and_parts, and_from, both_ways}
 use Rattle.std.proofs.lemmas.List.{take_at}
@@ -8,6 +8,8 @@ use Rattle.std.proofs.lemmas.Option.{none-some, same_Some}
 use Rattle.std.proofs.lemmas.Slice.Eq.{bytes_eq-Decides}
 use Rattle.hc_text.specs.Texts.{lacks}
 use Rattle.hc_etag.specs.Etags.{quote, is_etagc, IsOpaque, SpellsTag, tag_text}
+use Rattle.hc_etag.specs.TagTexts.{strong_in}
+use Rattle.hc_etag.proofs.TagReads.{strong_in-spelled}
 use Rattle.hc_fields.specs.FirstValues.{only_of}
 use Rattle.hc_record.specs.Head.{inside_of, strong_opaque, one_strong_opaque}
 use Rattle.hc_record.specs.Lines.{joining_text}
@@ -26,9 +28,6 @@ inside-tag opaque =
 pub strong_opaque-tag : (opaque : List ℕ) → IsOpaque opaque → strong_opaque (tag_text false opaque) ≡ Some opaque
 strong_opaque-tag opaque h =
     rw (inside-tag opaque, (bytes_eq-Decides (tag_text false opaque) (tag_text false opaque)).1 refl, h) refl
-
-pub strong_opaque-weak : (opaque : List ℕ) → strong_opaque (tag_text true opaque) ≡ None
-strong_opaque-weak opaque = refl
 
 abbrev is_strong : List ℕ → Bool
 is_strong v = bytes_eq v (quote ∷ inside_of v ++ quote ∷ []) && list_all is_etagc (inside_of v)
@@ -73,12 +72,17 @@ only_value_is [] v is = absurd (none-some _ is)
 only_value_is (u ∷ []) v is = ap (λ (x : List ℕ). x ∷ []) (same_Some _ _ is)
 only_value_is (u ∷ w ∷ vs) v is = absurd (none-some _ is)
 
--- what is no tag is no strong one
-pub no_strong_opaque : (v : List ℕ) → ((weak : Bool) (opaque : List ℕ) → ¬ (SpellsTag v weak opaque)) → strong_opaque v ≡ None
+-- two readings of a strong tag agree where there is none
+pub no_strong_opaque : (v : List ℕ) → strong_in v ≡ None → strong_opaque v ≡ None
 no_strong_opaque v none =
     elim (cases_Bool (is_strong v)) [
       | inl passes ↦
           let both = and_parts _ _ passes in
-          absurd (none false (inside_of v) (both.1, (bytes_eq-Decides v (quote ∷ inside_of v ++ quote ∷ [])).0 both.0))
+          let spelled : SpellsTag v false (inside_of v) = (both.1, (bytes_eq-Decides v (quote ∷ inside_of v ++ quote ∷ [])).0 both.0) in
+          absurd (none-some _ (sym none ∙ strong_in-spelled v (inside_of v) spelled))
       | inr fails ↦ rw fails refl
     ]
+
+pub on_err : {T E : Type 0} (r : Result T E) (P : Type 0) → P → OnErr r P
+on_err (Ok t) P p = tt
+on_err (Err e) P p = p

@@ -4,3 +4,4 @@ pub mod Once
 pub mod JoiningLemmas
 pub mod Stages
 pub mod SameRecords
+pub mod NumberCuts

@@ -1,5 +1,10 @@
 //! A text that is read from its front.
-ghost use Rattle.std.specs.Prelude.{◌≡◌, ◌≢◌, ◌<◌, ◌↔◌, ◌∷◌, ◌++◌, [], ℕ, List, Option, true, length, IsTrue, IfOk, IfNone, MatchOption, ⊤, position, ◌==◌};
+ghost use Rattle.std.specs.Prelude.{◌≡◌, ◌≢◌, ◌<◌, ◌↔◌, ◌∷◌, ◌++◌, [], ℕ, List, Option, true, length, IsTrue, IfOk, IfSome, IfNone, MatchOption, ⊤, position, ◌==◌, ◌+◌, take, drop};
+ghost use Rattle.std.specs.Char.{is_ascii_digit};
+ghost use Rattle.std.specs.Fmt.{decimal};
+ghost use Rattle.std.specs.List.{list_all};
+ghost use Rattle.std.specs.Str.Parse.{digits_value};
+ghost use Rattle.hc_text.specs.Numbers.{IsPlain};
 ghost use Rattle.hc_record.specs.Lines.{ended, IsSmall, kind_byte, total_text, IsSmallTotal, version_line};
 ghost use Rattle.hc_fields.specs.Lines.{fields_text};
 ghost use Rattle.hc_record.specs.Parts.{IsListOf};
@@ -8,10 +13,13 @@ ghost use Rattle.hc_record.specs.Reading.{Takes, lacks};
 use crate::kind::Kind;
 use crate::version::Version;
 use hc_fields::Fields;
-use hc_text::{NoMemory, read_number, read_plain};
+use hc_text::{NoMemory, read_number};
 use memchr::memchr;
 use std::alloc::Global;
 use std::marker::Model;
+
+/// Numbers are below this.
+const LIMIT: u64 = 1 << 62;
 
 /// What is left of a text.
 #[derive(Drop)]
@@ -53,17 +61,6 @@ impl<'a> Cursor<'a> {
         Some(())
     }
 
-    /// Takes what stands before the next byte of this kind, and that byte.
-    pub(crate) fn take_until(&mut self, end: u8) -> Option<&'a [u8]>
-        ensures { MatchOption result (lacks end self.old ≡ true)
-            (λ text. (lacks end text.now ≡ true) × (text.now ++ end ∷ self.new ≡ self.old)) }
-    {
-        let rest = self.rest;
-        let at = place_of(rest, end)?;
-        self.rest = &rest[at + 1..];
-        Some(&rest[..at])
-    }
-
     /// Takes what stands before the next line feed, and that byte.
     pub(crate) fn take_line(&mut self) -> Option<&'a [u8]>
         ensures { MatchOption result (lacks 10 self.old ≡ true)
@@ -80,8 +77,10 @@ impl<'a> Cursor<'a> {
         requires { end < 48 }
         ensures { Takes (ended end) IsSmall self.old self.new result }
     {
-        let text = self.take_until(end)?;
-        read_plain(text)
+        let rest = self.rest;
+        let (n, len) = number_before(rest, end)?;
+        self.rest = &rest[len + 1..];
+        Some(n)
     }
 
     /// Takes the line of a version.
@@ -134,11 +133,45 @@ impl<'a> Cursor<'a> {
     }
 }
 
-/// Where the byte stands first.
-fn place_of(text: &[u8], byte: u8) -> Option<usize>
-    ensures { result ≡ position (λ b. b == byte) text.now }
+/// The plain number that stands before the first such byte, which is no digit, and how many digits it has.
+// Finds the byte and reads the digits at once.
+fn number_before(text: &[u8], end: u8) -> Option<(u64, usize)>
+    requires { end < 48 }
+    ensures found { IfSome result (λ read. IsPlain (take read.1 text.now) read.0
+        × (take read.1 text.now ++ end ∷ drop (read.1 + 1) text.now ≡ text.now)) }
+    ensures none { IfNone result ((n : ℕ) (after : List ℕ)
+        → IsSmall n → decimal n ++ end ∷ after ≢ text.now) }
 {
-    text.iter().position(|b| *b == byte)
+    let mut n = 0;
+    for (i, b) in text.iter().enumerate() {
+        if *b == end {
+            return if is_plain(n, &text[..i]) {
+                Some((n, i))
+            } else {
+                None
+            };
+        }
+        if !b.is_ascii_digit() || n > (LIMIT - 1) / 10 {
+            return None;
+        }
+        n = n * 10 + u64::from(*b - b'0');
+    }
+    None
+}
+
+/// Whether the digits are the plain decimal of their value, which is below 2^62.
+fn is_plain(n: u64, digits: &[u8]) -> bool
+    requires digits { list_all is_ascii_digit digits.now ≡ true }
+    requires value { n ≡ digits_value 10 digits.now }
+    ensures { IsTrue result ↔ IsPlain digits.now n }
+{
+    if digits.is_empty() {
+        return false;
+    }
+    if digits[0] == b'0' {
+        return digits.len() == 1;
+    }
+    n < LIMIT
 }
 
 /// Where the first line feed stands.

@@ -1,5 +1,5 @@
 -- What `read_tag_list` reads.
-use Rattle.std.specs.Prelude.{◌≡◌, ◌≢◌, ℕ, List, Bool, true, Option, IsSomeAnd}
+use Rattle.std.specs.Prelude.{◌≡◌, ◌≢◌, ℕ, List, Bool, true}
 use Rattle.hc_etag.specs.declared.tag.Tag.{Tag}
 use Rattle.hc_etag.specs.declared.list.TagList.{TagList}
 use Rattle.hc_etag.specs.declared.list.TagList.TheVariants.{Any, Tags}

@@ -4,13 +4,14 @@ use Rattle.std.specs.Prelude.{not, nat_lt, map}
 use Rattle.std.proofs.lemmas.Bool.{and_parts, ne_eqb, le-ltb}
 use Rattle.std.proofs.lemmas.List.{append-nil, take_at}
 use Rattle.hc_text.specs.Texts.{lacks}
-use Rattle.hc_msg.specs.declared.message.MsgError.TheVariants as error
-use Rattle.hc_msg.specs.declared.scan.Scan.{Scan}
-use Rattle.hc_msg.specs.declared.scan.Scan.TheVariants.{Before, BeforeReturn, Within, Beginning, BeginningReturn, Ended}
-use Rattle.hc_msg.specs.Scans.{scan_byte, scan_all, is_open, IsHeadEnd, IsLineBefore}
+use Rattle.hc_head.specs.declared.message.MsgError.TheVariants as error
+use Rattle.hc_head.specs.declared.scan.Scan.{Scan}
+use Rattle.hc_head.specs.declared.scan.Scan.TheVariants.{Before, BeforeReturn, Within, Beginning, BeginningReturn, Ended}
+use Rattle.hc_head.specs.Scans.{scan_byte, scan_all, is_open, IsHeadEnd, IsLineBefore}
 use Rattle.hc_msg.specs.Reading.{Kind, Reading, Heading, Counts, Runs, Sizing, Chunk, Failed, Byte, Step, quiet, fails, counts, chunk, move_of, HeadMakes, LineMakes, Makes, Leads}
-use Rattle.hc_msg.specs.Finding.{IsLong, IsLongLine}
-use Rattle.hc_msg.proofs.ScanLemmas.{not_equal}
+use Rattle.hc_head.specs.Finding.{IsLong}
+use Rattle.hc_msg.specs.Chunks.{IsLongLine}
+use Rattle.hc_head.proofs.ScanLemmas.{not_equal}
 use Rattle.hc_msg.proofs.Leading.{leads_on, leads_byte, stays_failed}
 
 open_before : (scan : Scan) (bytes : List ℕ) → is_open (scan_all scan bytes) ≡ true → is_open scan ≡ true

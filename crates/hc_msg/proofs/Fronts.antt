@@ -1,17 +1,10 @@
 -- What is found in the first bytes of a piece is found in the piece.
-use Rattle.std.proofs.Common.{◌≡◌, ℕ, ◌+◌, ◌<◌, ◌≤◌, true, List, ◌∷◌, ◌++◌, length, take, drop, sym, ap, ◌∙◌, arith, append_assoc, length-append, length-take, length-drop}
+use Rattle.std.proofs.Common.{◌≡◌, ℕ, ◌+◌, ◌<◌, ◌≤◌, true, List, ◌++◌, length, take, drop, arith, length-take, length-drop}
 use Rattle.std.proofs.lemmas.List.{take-append-drop}
 use Rattle.hc_text.specs.Texts.{lacks}
-use Rattle.hc_msg.specs.declared.scan.Scan.{Scan}
-use Rattle.hc_msg.specs.Scans.{is_open, IsHeadEnd, StaysOpen, IsLineBefore}
-use Rattle.hc_msg.specs.Finding.{IsLong, IsLongLine}
-
-front_end : (front rest piece : List ℕ) (room : ℕ) → front ++ 10 ∷ rest ≡ take room piece → front ++ 10 ∷ (rest ++ drop room piece) ≡ piece
-front_end front rest piece room h =
-    sym (append_assoc front (10 ∷ rest) (drop room piece)) ∙ ap (λ (t : List ℕ). t ++ drop room piece) h ∙ take-append-drop room piece
-
-front_len : (front rest piece : List ℕ) (room : ℕ) → front ++ 10 ∷ rest ≡ take room piece → length front + 1 + length rest ≡ length (take room piece)
-front_len front rest piece room h = omega (arith, ap length h, length-append front (10 ∷ rest))
+use Rattle.hc_head.specs.Scans.{IsLineBefore}
+use Rattle.hc_head.proofs.Fronts.{front_end, front_len}
+use Rattle.hc_msg.specs.Chunks.{IsLongLine}
 
 pub front_line : (held room : ℕ) (piece : List ℕ) (at : ℕ) → held + room ≡ 1024 → room < length piece → IsLineBefore (take room piece) at
     → IsLineBefore piece at × (held + (at + 1) ≤ 1024) × (at < length piece)
@@ -31,24 +24,4 @@ front_long_line held room piece len past h = record {
   some = omega (arith, length-drop room piece);
   len = omega (arith, length-take room piece);
   is_line = h;
-}
-
-pub front_head : (held room : ℕ) (scan : Scan) (piece : List ℕ) (n : ℕ) → held + room ≡ 32768 → room < length piece → IsHeadEnd scan (take room piece) n
-    → IsHeadEnd scan piece n × (held + n ≤ 32768) × (n ≤ length piece)
-front_head held room scan piece n len past h =
-    let front = front_len h.front h.rest piece room h.whole in
-    let short = length-take room piece in (
-      record { front = h.front; rest = h.rest ++ drop room piece; whole = front_end h.front h.rest piece room h.whole; len = h.len; open_before = h.open_before; ends = h.ends },
-      omega (arith, front, short, h.len),
-      omega (arith, front, short, h.len),
-    )
-
-pub front_long : (held room : ℕ) (scan next : Scan) (piece : List ℕ) → held + room ≡ 32768 → room < length piece → StaysOpen scan (take room piece) next → IsLong held scan piece
-front_long held room scan next piece len past h = record {
-  front = take room piece;
-  rest = drop room piece;
-  whole = take-append-drop room piece;
-  some = omega (arith, length-drop room piece);
-  len = omega (arith, length-take room piece);
-  still_open = ap is_open (sym h.leads) ∙ h.still_open;
 }

@@ -1,31 +1,19 @@
 -- What bytes lead to has one answer, and bytes that are put together lead on.
-use Rattle.std.proofs.Common.{◌≡◌, ℕ, Bool, List, [], ◌∷◌, ◌++◌, Option, Some, None, refl, sym, ap, subst, ◌∙◌, inl, inr, append_assoc}
+use Rattle.std.proofs.Common.{◌≡◌, ℕ, Bool, List, [], ◌∷◌, ◌++◌, Option, Some, None, refl, sym, ap, subst, ◌∙◌, append_assoc}
 use Rattle.std.proofs.lemmas.List.{append-nil}
-use Rattle.httparse.specs.Grammar.{RequestHead, ResponseHead, ChunkLine, status_code, chunk_size}
-use Rattle.httparse.proofs.GrammarLemmas.{request_unique, response_unique}
+use Rattle.httparse.specs.Grammar.{ChunkLine, chunk_size}
 use Rattle.httparse.proofs.ChunkLemmas.{chunk_line_unique}
-use Rattle.hc_msg.specs.declared.message.MsgError.{MsgError}
-use Rattle.hc_msg.specs.Rules.{fields_of}
-use Rattle.hc_msg.specs.Requests.{asked_of}
-use Rattle.hc_msg.specs.Responses.{heard_of}
+use Rattle.hc_head.specs.declared.message.MsgError.{MsgError}
+use Rattle.hc_head.proofs.Calls.{asked_one}
+use Rattle.hc_head.proofs.Replies.{heard_one}
 use Rattle.hc_msg.specs.Chunks.{LineSays}
 use Rattle.hc_msg.specs.Reading.{Kind, Requests, Responses, Reading, Failed, Told, Step, Move, Goes, EndsHead, EndsLine, Stays, fails, after_asked, after_heard, after_line, move_of, AsksFor, AnswersWith, HeadMakes, Makes, Leads}
 
 asks_one : (text : List ℕ) (a b : Step) → AsksFor text a → AsksFor text b → a ≡ b
-asks_one text a b (inl x) (inl y) =
-    let same = request_unique text x.0 y.0 [] [] x.1.reads y.1.reads in
-    x.2 ∙ ap (λ (h : RequestHead). after_asked (asked_of h.method h.target h.minor (fields_of h.fields))) same.0 ∙ sym y.2
-asks_one text a b (inl x) (inr y) = absurd (y.0 x.0 x.1)
-asks_one text a b (inr x) (inl y) = absurd (x.0 y.0 y.1)
-asks_one text a b (inr x) (inr y) = x.1 ∙ sym y.1
+asks_one text a b x y = x.2 ∙ ap after_asked (asked_one text x.0 y.0 x.1 y.1) ∙ sym y.2
 
 answers_one : (told : Bool) (text : List ℕ) (a b : Step) → AnswersWith told text a → AnswersWith told text b → a ≡ b
-answers_one told text a b (inl x) (inl y) =
-    let same = response_unique text x.0 y.0 [] [] x.1.reads y.1.reads in
-    x.2 ∙ ap (λ (h : ResponseHead). after_heard told (heard_of told (status_code h) (fields_of h.fields))) same.0 ∙ sym y.2
-answers_one told text a b (inl x) (inr y) = absurd (y.0 x.0 x.1)
-answers_one told text a b (inr x) (inl y) = absurd (x.0 y.0 y.1)
-answers_one told text a b (inr x) (inr y) = x.1 ∙ sym y.1
+answers_one told text a b x y = x.2 ∙ ap (after_heard told) (heard_one told text x.0 y.0 x.1 y.1) ∙ sym y.2
 
 head_one : (kind : Kind) (text : List ℕ) (a b : Step) → HeadMakes kind text a → HeadMakes kind text b → a ≡ b
 head_one Requests text a b x y = asks_one text a b x y

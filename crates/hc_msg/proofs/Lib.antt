@@ -1,14 +1,7 @@
-pub mod ScanLemmas
 pub mod Leading
-pub mod Heads
-pub mod HeadFacts
-pub mod CodingFolds
 pub mod Bytes
 pub mod Fronts
 pub mod Lines
-pub mod Replies
 pub mod Moves
 pub mod Calls
-pub mod Hosts
-pub mod Keys
 pub mod Chains

@@ -4,38 +4,38 @@ use Rattle.std.specs.Prelude.{◌⊎◌, map, min, OnOk, Option, Some, None, Res
 use Rattle.std.proofs.lemmas.List.{take_all, take-append-drop}
 use Rattle.hc_msg.specs.declared.answer.Moved.{Moved}
 use Rattle.hc_msg.specs.declared.answer.Moved.TheVariants as moved
-use Rattle.hc_msg.specs.declared.message.MsgError.{MsgError}
-use Rattle.hc_msg.specs.declared.message.MsgError.TheVariants as error
+use Rattle.hc_head.specs.declared.message.MsgError.{MsgError}
+use Rattle.hc_head.specs.declared.message.MsgError.TheVariants as error
 use Rattle.hc_msg.specs.declared.message.WirePart.TheVariants as part
-use Rattle.hc_msg.specs.declared.response.Reply.{Reply}
-use Rattle.hc_msg.specs.declared.response.Reply.TheVariants as reply
-use Rattle.hc_msg.specs.declared.scan.Scan.{Scan}
-use Rattle.hc_msg.specs.Scans.{scan_all, is_open, IsHeadEnd, StaysOpen, IsLineBefore}
+use Rattle.hc_head.specs.declared.response.Reply.{Reply}
+use Rattle.hc_head.specs.declared.response.Reply.TheVariants as reply
+use Rattle.hc_head.specs.declared.scan.Scan.{Scan}
+use Rattle.hc_head.specs.Scans.{scan_all, is_open, IsHeadEnd, StaysOpen, IsLineBefore}
 use Rattle.hc_text.specs.Texts.{lacks}
-use Rattle.hc_msg.specs.Chunks.{LineSays, trail}
+use Rattle.hc_msg.specs.Chunks.{LineSays, IsLongLine, trail}
 use Rattle.hc_msg.specs.declared.trailer.Trailer.{Trailer}
 use Rattle.hc_msg.specs.declared.answer.State.{State}
 use Rattle.hc_msg.specs.declared.answer.State.TheVariants as state
 use Rattle.hc_msg.specs.declared.message.WirePart.{WirePart}
-use Rattle.hc_msg.specs.Finding.{IsLong, IsLongLine}
-use Rattle.hc_msg.specs.Responses.{Heard}
-use Rattle.hc_msg.specs.Reading.{AnswersWith, Reading, Responses, Heading, Failed, Counts, Runs, Sizing, Chunk, ChunkEnd, ChunkReturn, Trailing, Byte, counts, chunk, sized, after_line, Answers, after_heard, heading, body, quiet, fails, Makes, move_of, Leads}
-use Rattle.hc_msg.specs.Replies.{Hears}
+use Rattle.hc_head.specs.Finding.{IsLong}
+use Rattle.hc_head.specs.Responses.{Heard, IsHeardIn}
+use Rattle.hc_msg.specs.Reading.{Reading, Responses, Heading, Failed, Counts, Runs, Sizing, Chunk, ChunkEnd, ChunkReturn, Trailing, Byte, counts, chunk, sized, after_line, Answers, after_heard, heading, body, quiet, fails, Makes, move_of, Leads}
+use Rattle.hc_head.specs.Replies.{Hears}
 use Rattle.hc_msg.specs.Taking.{reading_by, Moves, Takes, Completes, Replied, Enters, IsPieceOf, Expects, TrailMoves}
 use Rattle.hc_msg.proofs.Leading.{leads_on, leads_byte, stays_failed}
 use Rattle.hc_msg.proofs.Bytes.{heading_on, heading_ends, heading_long, line_on, line_ends, line_long, counts_on, counts_some, chunk_on, runs_on}
 
 -- a whole head
 heard_leads : (nb : Bool) (scan : Scan) (held rest : List ℕ) (n : ℕ) (heard : Heard) → IsHeadEnd scan rest n → length held + n ≤ 32768
-    → AnswersWith nb (held ++ take n rest) (after_heard nb heard)
+    → IsHeardIn nb (held ++ take n rest) heard
     → Leads (Heading (Responses nb) scan held) (take n rest) (after_heard nb heard).told (after_heard nb heard).next
-heard_leads nb scan held rest n heard ends short comes = heading_ends (Responses nb) scan held rest n (after_heard nb heard) ends short comes
+heard_leads nb scan held rest n heard ends short comes = heading_ends (Responses nb) scan held rest n (after_heard nb heard) ends short (heard, comes, refl)
 
 no_error : {A : Type 0} (e : MsgError) (value : A) → Ok value ≡ Err e → ⊥
 no_error e value same = cc
 
 shown_moves : (nb : Bool) (scan : Scan) (held rest : List ℕ) (n most : ℕ) (rep : Reply) (made : Moved) (t : Reading) (heard : Heard) → IsHeadEnd scan rest n → length held + n ≤ 32768 → n ≤ length rest
-    → Hears (Ok rep) heard → AnswersWith nb (held ++ take n rest) (after_heard nb heard) → Enters nb rep n made t
+    → Hears (Ok rep) heard → IsHeardIn nb (held ++ take n rest) heard → Enters nb rep n made t
     → Moves (Heading (Responses nb) scan held) rest most (Ok made) t
 shown_moves nb scan held rest n most reply.Skips made t heard ends short within hears comes enters =
     let s = Heading (Responses nb) scan held in
@@ -59,7 +59,7 @@ head_moves nb scan held rest n most rep result made t ends short within (inr tol
     shown_moves nb scan held rest n most rep made t told.heard ends short within (subst (λ (r : Result Reply MsgError). Hears r told.heard) is told.hears) told.comes enters
 
 refused_fails : (nb : Bool) (scan : Scan) (held rest : List ℕ) (n most : ℕ) (e : MsgError) (t : Reading) (heard : Heard) → IsHeadEnd scan rest n → length held + n ≤ 32768
-    → Hears (Err e) heard → AnswersWith nb (held ++ take n rest) (after_heard nb heard) → Moves (Heading (Responses nb) scan held) rest most (Err e) t
+    → Hears (Err e) heard → IsHeardIn nb (held ++ take n rest) heard → Moves (Heading (Responses nb) scan held) rest most (Err e) t
 refused_fails nb scan held rest n most e t heard ends short (inr memory) comes = inl memory
 refused_fails nb scan held rest n most e t heard ends short (inl refused) comes =
     let s = Heading (Responses nb) scan held in

@@ -1,13 +1,13 @@
 -- What a reader of requests stands for, and what it makes of the pieces that it is given.
 use Rattle.std.specs.Prelude.{◌≡◌, ℕ, ◌≤◌, ◌⊎◌, true, List, [], ◌∷◌, length, take, Option, Some, None, Result, Ok, Err}
 use Rattle.hc_msg.specs.declared.call.Call.{Call}
-use Rattle.hc_msg.specs.declared.message.MsgError.{MsgError}
-use Rattle.hc_msg.specs.declared.message.MsgError.TheVariants as error
+use Rattle.hc_head.specs.declared.message.MsgError.{MsgError}
+use Rattle.hc_head.specs.declared.message.MsgError.TheVariants as error
 use Rattle.hc_msg.specs.declared.message.Taken.{Taken}
-use Rattle.hc_msg.specs.declared.message.WireRequest.{WireRequest}
-use Rattle.hc_msg.specs.Scans.{is_open}
+use Rattle.hc_head.specs.declared.message.WireRequest.{WireRequest}
+use Rattle.hc_head.specs.Scans.{is_open}
 use Rattle.hc_msg.specs.Reading.{Reading, Heading, Requests, Failed, Asks, Leads}
-use Rattle.hc_msg.specs.Calls.{CallsFor}
+use Rattle.hc_head.specs.Calls.{CallsFor}
 
 abbrev pub asking : Call → Reading
 asking call = Heading Requests call.scan call.held.items

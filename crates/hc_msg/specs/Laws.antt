@@ -1,6 +1,6 @@
 -- Laws of messages.
 use Rattle.std.specs.Prelude.{◌≡◌, ℕ, List, [], ◌++◌}
-use Rattle.hc_msg.specs.declared.message.MsgError.{MsgError}
+use Rattle.hc_head.specs.declared.message.MsgError.{MsgError}
 use Rattle.hc_msg.specs.Reading.{Reading, Failed, Told, Leads}
 
 -- bytes tell one list at most, and lead to one place at most

@@ -1,15 +1,6 @@
-pub mod Scans
-pub mod Rules
-pub mod Held
-pub mod Responses
-pub mod Requests
-pub mod Codings
 pub mod Chunks
 pub mod Reading
-pub mod Replies
-pub mod Finding
 pub mod Taking
 pub mod Laws
-pub mod Calls
 pub mod Asking
 pub mod Writing

@@ -1,20 +1,18 @@
 -- How messages are read, byte by byte: where the reading stands behind a byte, and what the byte brings.
-use Rattle.std.specs.Prelude.{◌≡◌, ℕ, ◌-◌, ◌==◌, ◌⊎◌, nat_lt, Bool, List, [], ◌∷◌, ◌++◌, length, Option, Some, None, if◌then◌else◌}
-use Rattle.httparse.specs.Grammar.{RequestHead, ResponseHead, status_code}
+use Rattle.std.specs.Prelude.{◌≡◌, ℕ, ◌-◌, ◌==◌, nat_lt, Bool, List, [], ◌∷◌, ◌++◌, length, Option, Some, None, if◌then◌else◌}
 use Rattle.hc_event.specs.declared.event.Response.{Response}
-use Rattle.hc_msg.specs.declared.message.MsgError.{MsgError}
-use Rattle.hc_msg.specs.declared.message.MsgError.TheVariants as error
-use Rattle.hc_msg.specs.declared.message.WireRequest.{WireRequest}
-use Rattle.hc_msg.specs.declared.framing.Framing.{Framing}
-use Rattle.hc_msg.specs.declared.framing.Framing.TheVariants as framing
-use Rattle.hc_msg.specs.declared.scan.Scan.{Scan}
-use Rattle.hc_msg.specs.declared.scan.Scan.TheVariants as scan
+use Rattle.hc_head.specs.declared.message.MsgError.{MsgError}
+use Rattle.hc_head.specs.declared.message.MsgError.TheVariants as error
+use Rattle.hc_head.specs.declared.message.WireRequest.{WireRequest}
+use Rattle.hc_head.specs.declared.framing.Framing.{Framing}
+use Rattle.hc_head.specs.declared.framing.Framing.TheVariants as framing
+use Rattle.hc_head.specs.declared.scan.Scan.{Scan}
+use Rattle.hc_head.specs.declared.scan.Scan.TheVariants as scan
 use Rattle.hc_msg.specs.declared.trailer.Trailer.{Trailer}
 use Rattle.hc_msg.specs.declared.trailer.Trailer.TheVariants as trailer
-use Rattle.hc_msg.specs.Scans.{scan_byte, is_open}
-use Rattle.hc_msg.specs.Rules.{fields_of}
-use Rattle.hc_msg.specs.Requests.{Asked, Grants, Denies, asked_of, IsRequest}
-use Rattle.hc_msg.specs.Responses.{Heard, Skips, Shows, Refuses, heard_of, IsResponse}
+use Rattle.hc_head.specs.Scans.{scan_byte, is_open}
+use Rattle.hc_head.specs.Requests.{Asked, Grants, Denies, IsAskedBy}
+use Rattle.hc_head.specs.Responses.{Heard, Skips, Shows, Refuses, IsHeardIn}
 use Rattle.hc_msg.specs.declared.trailer.Trails.{Trails}
 use Rattle.hc_msg.specs.declared.trailer.Trails.TheVariants.{On, Ends, TooLong}
 use Rattle.hc_msg.specs.Chunks.{LineSays, trail}
@@ -140,17 +138,12 @@ move_of (Failed e) b = Goes (fails e)
 
 -- what a whole head of a request comes to
 abbrev pub AsksFor : List ℕ → Step → Type 0
-AsksFor text step =
-    ((head : RequestHead) × IsRequest text head
-    × (step ≡ after_asked (asked_of head.method head.target head.minor (fields_of head.fields))))
-    ⊎ (((head : RequestHead) → ¬ (IsRequest text head)) × (step ≡ fails error.BadHead))
+AsksFor text step = (asked : Asked) × IsAskedBy text asked × (step ≡ after_asked asked)
 
 -- what a whole head of an answer comes to
 abbrev pub AnswersWith : Bool → List ℕ → Step → Type 0
 AnswersWith no_body text step =
-    ((head : ResponseHead) × IsResponse text head
-    × (step ≡ after_heard no_body (heard_of no_body (status_code head) (fields_of head.fields))))
-    ⊎ (((head : ResponseHead) → ¬ (IsResponse text head)) × (step ≡ fails error.BadHead))
+    (heard : Heard) × IsHeardIn no_body text heard × (step ≡ after_heard no_body heard)
 
 abbrev pub HeadMakes : Kind → List ℕ → Step → Type 0
 HeadMakes Requests text step = AsksFor text step

@@ -5,18 +5,18 @@ use Rattle.hc_msg.specs.declared.answer.Moved.{Moved}
 use Rattle.hc_msg.specs.declared.answer.Moved.TheVariants as moved
 use Rattle.hc_msg.specs.declared.answer.State.{State}
 use Rattle.hc_msg.specs.declared.answer.State.TheVariants as state
-use Rattle.hc_msg.specs.declared.message.MsgError.{MsgError}
-use Rattle.hc_msg.specs.declared.message.MsgError.TheVariants as error
+use Rattle.hc_head.specs.declared.message.MsgError.{MsgError}
+use Rattle.hc_head.specs.declared.message.MsgError.TheVariants as error
 use Rattle.hc_msg.specs.declared.message.Taken.{Taken}
 use Rattle.hc_msg.specs.declared.message.WirePart.{WirePart}
 use Rattle.hc_msg.specs.declared.message.WirePart.TheVariants as part
-use Rattle.hc_msg.specs.declared.response.Reply.{Reply}
-use Rattle.hc_msg.specs.declared.response.Reply.TheVariants as reply
+use Rattle.hc_head.specs.declared.response.Reply.{Reply}
+use Rattle.hc_head.specs.declared.response.Reply.TheVariants as reply
 use Rattle.hc_text.specs.declared.memory.NoMemory.{NoMemory}
 use Rattle.hc_msg.specs.declared.trailer.Trails.{Trails}
 use Rattle.hc_msg.specs.Chunks.{LineSays}
-use Rattle.hc_msg.specs.Replies.{RepliesTo}
-use Rattle.hc_msg.specs.Scans.{is_open}
+use Rattle.hc_head.specs.Replies.{RepliesTo}
+use Rattle.hc_head.specs.Scans.{is_open}
 use Rattle.hc_msg.specs.Reading.{Reading, Heading, Responses, Counts, Runs, Sizing, Chunk, ChunkEnd, ChunkReturn, Trailing, Whole, Done, Failed, Told, Answers, Byte, Leads, heading, body, quiet, fails, after_trail}
 
 -- where the reading of an answer stands, of which these bytes are held

@@ -1,17 +1,14 @@
 //! The reading of an answer that was not refused so far.
 ghost use Rattle.std.specs.Prelude.{◌≡◌, ◌<◌, ◌≤◌, ◌+◌, ◌++◌, ℕ, Bool, List, [], true, length, min, OnOk};
-ghost use Rattle.hc_msg.specs.Scans.{is_open, IsLineBefore};
+ghost use Rattle.hc_head.specs.Scans.{is_open, IsLineBefore};
 ghost use Rattle.hc_msg.specs.Chunks.{trail};
 ghost use Rattle.hc_msg.specs.Reading.{Responses, Heading, Failed, Counts, Runs, Sizing, Chunk, counts, chunk, body, sized, heading};
 ghost use Rattle.hc_msg.specs.Taking.{reading_by, reading_of, IsSoundAt, IsSound, IsKept, goes_on, Moves, Replied, Takes, ending, ended, Replied, Enters, Sized, IsPieceOf, TrailMoves, Expects};
 
-use crate::framing::Framing;
-use crate::head::find_end;
 use crate::line::{find_line, size_of};
-use crate::message::{MsgError, Taken, WirePart};
-use crate::response::{Reply, reply_of};
-use crate::scan::{Scan, Sought};
+use crate::message::{Taken, WirePart};
 use crate::trailer::{Trailer, Trails};
+use hc_head::{Framing, MsgError, Reply, Scan, Sought, find_end, reply_of};
 use hc_text::{Bytes, NoMemory};
 use std::alloc::Global;
 

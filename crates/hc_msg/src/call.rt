@@ -3,10 +3,8 @@ ghost use Rattle.std.specs.Prelude.{◌≡◌, ◌≤◌, ◌+◌, ◌++◌, [],
 ghost use Rattle.hc_msg.specs.Reading.{Requests, heading};
 ghost use Rattle.hc_msg.specs.Asking.{asking, IsAsking, Called, TakesRequest};
 
-use crate::head::find_end;
-use crate::message::{MsgError, Taken, WireRequest};
-use crate::request::call_of;
-use crate::scan::{Scan, Sought};
+use crate::message::Taken;
+use hc_head::{MsgError, Scan, Sought, WireRequest, call_of, find_end};
 use std::alloc::Global;
 
 /// The reading of a request.

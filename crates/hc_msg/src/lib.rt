@@ -4,23 +4,20 @@
 
 mod answer;
 mod call;
-mod fields;
-mod framing;
-mod head;
 mod laws;
-mod lengths;
 mod line;
 mod message;
 mod reader;
-mod request;
 mod requests;
-mod response;
-mod scan;
 mod trailer;
 mod write;
 
+pub use hc_head::{MsgError, WireRequest};
 pub use laws::bytes_are_read_one_way;
-pub use message::{MsgError, Taken, WirePart, WireRequest};
+pub use message::{Taken, WirePart};
 pub use reader::ResponseReader;
 pub use requests::RequestReader;
 pub use write::{write_chunk, write_request, write_response_head};
+
+#[cfg(test)]
+mod tests;

@@ -1,10 +1,8 @@
 //! Chunk lines (RFC 9112 section 7.1).
 ghost use Rattle.std.specs.Prelude.{◌≡◌, ◌≤◌, length};
-ghost use Rattle.hc_msg.specs.Chunks.{LineSays};
-ghost use Rattle.hc_msg.specs.Finding.{FindsLine};
+ghost use Rattle.hc_msg.specs.Chunks.{LineSays, FindsLine};
 
-use crate::message::MsgError;
-use crate::scan::line_end;
+use hc_head::{MsgError, line_end};
 use httparse::{Status, parse_chunk_size};
 
 /// A chunk line has at most this many bytes, with its end.

@@ -2,7 +2,8 @@
 ghost use Rattle.std.specs.Prelude.{◌≡◌, ◌<◌};
 
 use crate::answer::{Answer, State};
-use crate::message::{MsgError, Taken, WirePart};
+use crate::message::{Taken, WirePart};
+use hc_head::MsgError;
 use std::alloc::Global;
 use std::marker::Model;
 
@@ -74,6 +75,3 @@ impl ResponseReader {
         self.answer.finish()
     }
 }
-
-#[cfg(test)]
-mod tests;

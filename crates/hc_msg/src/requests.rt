@@ -2,7 +2,8 @@
 ghost use Rattle.std.specs.Prelude.{◌≡◌};
 
 use crate::call::Call;
-use crate::message::{MsgError, Taken, WireRequest};
+use crate::message::Taken;
+use hc_head::{MsgError, WireRequest};
 use std::alloc::Global;
 use std::marker::Model;
 
@@ -63,6 +64,3 @@ impl RequestReader {
         }
     }
 }
-
-#[cfg(test)]
-mod tests;

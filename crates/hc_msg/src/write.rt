@@ -202,6 +202,3 @@ pub fn write_request(request: &Request, to: &mut Vec<u8>) -> Result<(), NoMemory
     to.extend_from_slice(&text)?;
     Ok(())
 }
-
-#[cfg(test)]
-mod tests;

@@ -1,6 +1,6 @@
 use Rattle.std.proofs.Common.{◌≡◌, sym, subst, ◌∙◌, rules}
 use Rattle.std.specs.Prelude.{IsUtf8}
-use Rattle.hc_msg.proofs.Keys.{target_text, target_faults}
+use Rattle.hc_head.proofs.Keys.{target_text, target_faults}
 use Rattle.hc_msg.proofs.write.url_of.Goals as goal
 
 pub unreachable-requires : goal.unreachable-requires

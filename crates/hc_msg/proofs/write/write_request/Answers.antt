@@ -1,7 +1,7 @@
 use Rattle.std.proofs.Common.{◌≡◌, ◌++◌, subst, rules}
 use Rattle.url.specs.Parts.{Parts}
 use Rattle.hc_msg.specs.Writing.{request_text}
-use Rattle.hc_msg.proofs.Keys.{same_read}
+use Rattle.hc_head.proofs.Keys.{same_read}
 use Rattle.hc_msg.proofs.write.write_request.Goals as goal
 
 pub returns-clause-ok : goal.returns-clause-ok

@@ -1,0 +1,9 @@
+pub mod ScanLemmas
+pub mod Heads
+pub mod HeadFacts
+pub mod CodingFolds
+pub mod Fronts
+pub mod Replies
+pub mod Calls
+pub mod Hosts
+pub mod Keys

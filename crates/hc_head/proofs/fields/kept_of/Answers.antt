@@ -1,0 +1,14 @@
+use Rattle.std.proofs.Common.{arith}
+use Rattle.hc_head.specs.Held.{fields_in}
+use Rattle.hc_head.proofs.Heads.{modest_at, kept_next, kept_small}
+use Rattle.hc_head.proofs.fields.kept_of.Goals as goal
+
+pub pass_on-requires-clause-short : goal.pass_on-requires-clause-short
+pass_on-requires-clause-short c = modest_at c.args.headers.now c.loop-header.header-index _ c.loop-header-test.true c.requires.modest
+
+pub loop-header-preserved : goal.loop-header-preserved
+loop-header-preserved c = record {
+  same = kept_next c.args.leaving (fields_in c.args.headers.now) c.loop-header.fields _ _ c.args.headers.now c.loop-header.header-index _ c.loop-header-test.true c.in_ok-pass_on.ensures.value c.loop-header.invariant.same;
+  few = omega (arith, c.in_ok-pass_on.ensures.count, c.loop-header.invariant.few);
+  small = kept_small c.loop-header.fields c.pass_on.new.fields c.args.headers.now c.loop-header.header-index _ c.loop-header-test.true c.in_ok-pass_on.ensures.size c.loop-header.invariant.small;
+}

@@ -1,0 +1,46 @@
+use Rattle.std.proofs.Common.{◌≡◌, length, ap, ◌∙◌, arith, rules}
+use Rattle.std.specs.Prelude.{map}
+use Rattle.std.specs.Option.{option_copied}
+use Rattle.hc_head.specs.Rules.{lowered, fields_of}
+use Rattle.hc_head.specs.Held.{fields_in}
+use Rattle.hc_head.proofs.HeadFacts.{good_at, same_count, small_asked}
+use Rattle.hc_head.proofs.Calls.{short_call, full_call, no_call, over_call, whole_call, same_value}
+use Rattle.hc_head.proofs.request.call_of.Goals as goal
+
+pub returns-then-len-text : goal.returns-then-len-text
+returns-then-len-text c =
+    let at = rw c.in-Ok-Complete.field-0-is at c.in-Ok-Complete.ensures.complete in
+    short_call c.args.text.now _ at.0 at.1.reads c.if-len-text.true
+
+pub returns-then-head-gt-MOST_FIELDS : goal.returns-then-head-gt-MOST_FIELDS
+returns-then-head-gt-MOST_FIELDS c =
+    let at = rw c.in-Ok-Complete.field-0-is at c.in-Ok-Complete.ensures.complete in
+    let count = same_count _ at.0.fields at.1.fields in
+    full_call c.args.text.now _ at.0 at.1.reads (omega (arith, count))
+
+pub asked_of-requires-clause-good : goal.asked_of-requires-clause-good
+asked_of-requires-clause-good c =
+    let at = rw c.in-Ok-Complete.field-0-is at c.in-Ok-Complete.ensures.complete in
+    good_at _ at.0.fields at.1.fields at.1.reads.0.fields
+
+pub asked_of-requires-clause-small : goal.asked_of-requires-clause-small
+asked_of-requires-clause-small c =
+    let at = rw c.in-Ok-Complete.field-0-is at c.in-Ok-Complete.ensures.complete in
+    small_asked _ at.0 c.args.text.now _ at.1.fields at.1.reads (search rules)
+
+pub returns-else-head-gt-MOST_FIELDS : goal.returns-else-head-gt-MOST_FIELDS
+returns-else-head-gt-MOST_FIELDS c =
+    let at = rw c.in-Ok-Complete.field-0-is at c.in-Ok-Complete.ensures.complete in
+    let count = same_count _ at.0.fields at.1.fields in
+    let same : fields_in c.parse.new.self.headers.now ≡ fields_of at.0.fields = ap (map lowered) at.1.fields in
+    let method_is : c.as_bytes-method.result.now ≡ at.0.method = c.as_bytes-method.ensures.value ∙ same_value _ _ _ (ap option_copied c.unwrap.ensures) at.1.method in
+    let target_is : c.as_bytes-target.result.now ≡ at.0.target = c.as_bytes-target.ensures.value ∙ same_value _ _ _ (ap option_copied c.unwrap-in-Ok-Complete.ensures) at.1.path in
+    whole_call c.args.text.now _ c.as_bytes-method.result.now c.as_bytes-target.result.now c.unwrap-minor.result _ at.0 c.asked_of.result at.1.reads c.if-len-text.false (omega (arith, count)) method_is target_is (same_value _ _ _ c.unwrap-minor.ensures at.1.version) same c.asked_of.ensures
+
+pub returns-in-Ok-Partial : goal.returns-in-Ok-Partial
+returns-in-Ok-Partial c = no_call c.args.text.now (rw c.in-Ok-Partial.field-0-is at c.in-Ok-Partial.ensures.partial)
+
+pub returns-in-Err : goal.returns-in-Err
+returns-in-Err c =
+    let e : length c.new-head.result.headers.now ≡ 64 = search rules in
+    over_call c.args.text.now (rw e at c.in-Err.ensures.no_room)

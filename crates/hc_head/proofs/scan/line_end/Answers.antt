@@ -1,0 +1,38 @@
+use Rattle.std.proofs.Common.{◌≡◌, ℕ, ◌+◌, ◌<◌, ◌==◌, List, Option, Some, None, true, false, length, take, drop, get_or, refl, sym, arith, lt-ltb, length-take}
+use Rattle.std.specs.Prelude.{position, nat_lt}
+use Rattle.std.specs.List.{position_or_len}
+use Rattle.std.proofs.lemmas.Bool.{le-ltb, false_from_ne_true}
+use Rattle.std.proofs.lemmas.List.Sums.{position_or_len_is}
+use Rattle.memchr.specs.Find.{IsFirstByte, is_byte}
+use Rattle.hc_fields.proofs.Cuts.{cut-position, lacks-all}
+use Rattle.hc_head.specs.Scans.{IsLineEnd}
+use Rattle.hc_head.proofs.scan.line_end.Goals as goal
+
+position_is : (b : ℕ) (text : List ℕ) (r : Option ℕ) → IsFirstByte (is_byte b) text r → r ≡ position (λ x. x == b) text
+position_is b text None h =
+    let at : position_or_len (λ x. x == b) text ≡ length text =
+    position_or_len_is (λ x. x == b) text (length text) 0 (omega arith) (λ k lt. false_from_ne_true (get_or text k 0 == b) (λ e. h k (omega arith) lt e)) (λ no. absurd (omega arith)) in
+    let past : nat_lt (position_or_len (λ x. x == b) text) (length text) ≡ false = le-ltb (position_or_len (λ x. x == b) text) (length text) (omega arith) in
+    rw past refl
+position_is b text (Some k) h =
+    let first = h.0 in
+    let high : k < length text = first.high in
+    let at : position_or_len (λ x. x == b) text ≡ k =
+    position_or_len_is (λ x. x == b) text k 0 (omega arith) (λ j lt. false_from_ne_true (get_or text j 0 == b) (λ e. first.before j (omega arith) lt e)) (λ _. h.1) in
+    let within : nat_lt (position_or_len (λ x. x == b) text) (length text) ≡ true = rw at (lt-ltb k (length text) high) in
+    rw (within, at) refl
+
+line_end_is : (text : List ℕ) (r : Option ℕ) → IsFirstByte (is_byte 10) text r → r ≡ position (λ x. x == 10) text → IsLineEnd text r
+line_end_is text None first is = lacks-all 10 text (sym is)
+line_end_is text (Some k) first is =
+    let cut = cut-position 10 text k (sym is) in
+    record {
+      line = take k text;
+      rest = drop (k + 1) text;
+      whole = cut.whole;
+      len = omega (arith, length-take k text, cut.within);
+      is_line = cut.before;
+    }
+
+pub returns : goal.returns
+returns c = line_end_is c.args.text.now c.memchr.result c.memchr.ensures (position_is 10 c.args.text.now c.memchr.result c.memchr.ensures)

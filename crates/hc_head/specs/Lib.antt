@@ -1,0 +1,9 @@
+pub mod Scans
+pub mod Rules
+pub mod Held
+pub mod Responses
+pub mod Requests
+pub mod Codings
+pub mod Replies
+pub mod Finding
+pub mod Calls

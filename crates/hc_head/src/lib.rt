@@ -1,0 +1,19 @@
+//! Heads of HTTP/1.1 messages (RFC 9112): where one ends, what its fields say of the message, and what a
+//! whole head of a request or of an answer comes to.
+#![tactic(auto)]
+
+mod fields;
+mod framing;
+mod head;
+mod lengths;
+mod message;
+mod request;
+mod response;
+mod scan;
+
+pub use framing::Framing;
+pub use head::find_end;
+pub use message::{MsgError, WireRequest};
+pub use request::call_of;
+pub use response::{Reply, reply_of};
+pub use scan::{Scan, Sought, line_end};

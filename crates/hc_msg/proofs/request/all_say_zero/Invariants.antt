@@ -1,8 +1,0 @@
-use Rattle.std.proofs.Common.{◌≡◌, drop}
-use Rattle.std.specs.List.{list_all}
-use Rattle.hc_msg.specs.Requests.{says_zero}
-use Rattle.hc_msg.specs.Held.{fields_in}
-use Rattle.hc_msg.proofs.request.all_say_zero.Given as goal
-
-abbrev pub invariant-loop-header : goal.invariant-loop-header
-invariant-loop-header l = list_all says_zero (fields_in (drop l.header-index l.headers)) ≡ list_all says_zero (fields_in l.headers)

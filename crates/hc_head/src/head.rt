@@ -9,6 +9,9 @@ use crate::scan::{Scan, Sought, seek};
 /// A head has at most this many bytes.
 const MOST_HEAD: usize = 32768;
 
+/// A head has at most this many fields.
+pub(crate) const MOST_FIELDS: usize = 64;
+
 /// Where the head ends in the piece, behind `held` bytes of it.
 pub fn find_end(held: usize, scan: Scan, piece: &[u8]) -> Result<Sought, MsgError>
     requires open { is_open scan ≡ true }

@@ -4,6 +4,7 @@ ghost use Rattle.std.specs.Prelude.{◌≡◌};
 
 use hc_event::Request;
 use hc_text::NoMemory;
+use std::alloc::AllocError;
 
 /// Why a message is not read on. A reader that answered one answers it again.
 #[derive(Clone, Copy, Debug, PartialEq, Eq)]
@@ -23,6 +24,14 @@ pub enum MsgError {
     CutOff,
     /// There was not enough memory.
     NoMemory,
+}
+
+impl From<AllocError> for MsgError {
+    ghost from_gives = { λ _ e. e ≡ no_memory };
+
+    fn from(_: AllocError) -> Self {
+        MsgError::NoMemory
+    }
 }
 
 impl From<NoMemory> for MsgError {

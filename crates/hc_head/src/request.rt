@@ -10,6 +10,7 @@ ghost use Rattle.hc_head.specs.Rules.{is_modest};
 ghost use Rattle.hc_head.specs.Calls.{Gives, CallsFor};
 
 use crate::fields::{Leaving, has_name, is_modest, is_there, kept_of};
+use crate::head::MOST_FIELDS;
 use crate::message::{MsgError, WireRequest};
 use hc_event::{Load, Request};
 use hc_sched::is_target;
@@ -18,9 +19,6 @@ use httparse::{EMPTY_HEADER, Header, Request as Head, Status};
 use std::alloc::Global;
 use std::str;
 use url::{ParseError, Url};
-
-/// A head has at most this many fields.
-const MOST_FIELDS: usize = 64;
 
 /// A method has at most this many bytes.
 const MOST_METHOD: usize = 15;

@@ -7,14 +7,12 @@ ghost use Rattle.hc_head.specs.Replies.{Hears, RepliesTo};
 
 use crate::fields::{Leaving, is_modest, is_there, kept_of};
 use crate::framing::Framing;
+use crate::head::MOST_FIELDS;
 use crate::lengths::{is_chunked, length_told};
 use crate::message::MsgError;
 use hc_event::Response;
 use httparse::{EMPTY_HEADER, Header, Response as Head, Status};
 use std::alloc::Global;
-
-/// A head has at most this many fields.
-const MOST_FIELDS: usize = 64;
 
 /// What the head of an answer comes to.
 #[derive(Drop)]

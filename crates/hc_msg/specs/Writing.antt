@@ -1,5 +1,5 @@
 -- The bytes of messages that are sent (RFC 9112).
-use Rattle.std.specs.Prelude.{ℕ, Bool, true, false, List, [], ◌∷◌, ◌++◌, length, codes, Option, Some, None}
+use Rattle.std.specs.Prelude.{◌≡◌, ℕ, Bool, true, false, List, [], ◌∷◌, ◌++◌, length, take, codes, Option, Some, None}
 use Rattle.std.specs.Fmt.{decimal, digits}
 use Rattle.url.specs.Parts.{Parts, text_between}
 use Rattle.url.specs.declared.slicing.Position.TheVariants.{BeforeHost, AfterPort}
@@ -54,3 +54,7 @@ response_text response chunked =
 -- a chunk; that of no bytes is the last
 abbrev pub chunk_text : List ℕ → List ℕ
 chunk_text bytes = digits 16 false (length bytes) ++ (crlf ++ (bytes ++ crlf))
+
+-- what stood there stands first
+abbrev pub Keeps : List ℕ → List ℕ → Type 0
+Keeps old new = take (length old) new ≡ old

@@ -135,10 +135,8 @@ fn piece_of(alloc: Global, rest: &[u8], n: usize) -> Result<Moved, MsgError>
     requires { n ≤ length rest.now }
     ensures { IsPieceOf rest.now n result }
 {
-    match Vec::from_slice(alloc, &rest[..n]) {
-        Ok(bytes) => Ok(Moved::Gives(n, WirePart::Piece(Bytes { bytes }))),
-        Err(_) => Err(MsgError::NoMemory),
-    }
+    let bytes = Vec::from_slice(alloc, &rest[..n])?;
+    Ok(Moved::Gives(n, WirePart::Piece(Bytes { bytes })))
 }
 
 impl Answer {
@@ -165,9 +163,7 @@ impl Answer {
         if self.held.is_empty() {
             return reply_of(alloc, self.no_body, end);
         }
-        if self.held.extend_from_slice(end).is_err() {
-            return Err(MsgError::NoMemory);
-        }
+        self.held.extend_from_slice(end)?;
         let reply = reply_of(alloc, self.no_body, &self.held);
         self.held.clear();
         reply
@@ -206,9 +202,7 @@ impl Answer {
                 Ok(self.enter(reply, n))
             }
             Sought::Open(next) => {
-                if self.held.extend_from_slice(rest).is_err() {
-                    return Err(MsgError::NoMemory);
-                }
+                self.held.extend_from_slice(rest)?;
                 self.state = State::Heading(next);
                 Ok(Moved::Passes(rest.len()))
             }
@@ -262,9 +256,7 @@ impl Answer {
         match find_line(self.held.as_slice().len(), rest)? {
             Some(at) => self.end_line(rest, at),
             None => {
-                if self.held.extend_from_slice(rest).is_err() {
-                    return Err(MsgError::NoMemory);
-                }
+                self.held.extend_from_slice(rest)?;
                 Ok(Moved::Passes(rest.len()))
             }
         }

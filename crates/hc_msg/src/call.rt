@@ -37,9 +37,7 @@ impl Call {
         if self.held.is_empty() {
             return call_of(alloc, end);
         }
-        if self.held.extend_from_slice(end).is_err() {
-            return Err(MsgError::NoMemory);
-        }
+        self.held.extend_from_slice(end)?;
         let request = call_of(alloc, &self.held);
         self.held.clear();
         request
@@ -61,9 +59,7 @@ impl Call {
                 })
             }
             Sought::Open(next) => {
-                if self.held.extend_from_slice(piece).is_err() {
-                    return Err(MsgError::NoMemory);
-                }
+                self.held.extend_from_slice(piece)?;
                 self.scan = next;
                 Ok(Taken {
                     used: piece.len(),

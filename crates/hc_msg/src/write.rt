@@ -1,11 +1,11 @@
 //! The bytes of messages that are sent.
-ghost use Rattle.std.specs.Prelude.{◌≡◌, ◌++◌, true, false, length, take, string_bytes, IfOk, OnOk, OnErr, Ok, None};
+ghost use Rattle.std.specs.Prelude.{◌≡◌, ◌++◌, true, false, length, string_bytes, IfOk, OnOk, OnErr, Ok, None};
 ghost use Rattle.std.specs.Fmt.{digits};
 ghost use Rattle.std.specs.Option.{option_copied};
 ghost use Rattle.url.specs.Parts.{Parts};
 ghost use Rattle.url.specs.Parser.{parse_url};
 ghost use Rattle.hc_sched.specs.Targets.{is_target};
-ghost use Rattle.hc_msg.specs.Writing.{line_of, lines_of, crlf, status_line, head_end, query_text, request_line, host_line, request_text, response_text, chunk_text};
+ghost use Rattle.hc_msg.specs.Writing.{Keeps, line_of, lines_of, crlf, status_line, head_end, query_text, request_line, host_line, request_text, response_text, chunk_text};
 
 use hc_event::{Request, Response};
 use hc_fields::Fields;
@@ -28,7 +28,7 @@ fn size_text(alloc: Global, size: usize) -> Result<String, NoMemory>
 fn put_chunk(size: &[u8], bytes: &[u8], to: &mut Vec<u8>) -> Result<(), NoMemory>
     ensures ok { OnOk result (to.new.items
         ≡ to.old.items ++ (size.now ++ (crlf ++ (bytes.now ++ crlf)))) }
-    ensures kept { OnErr result (take (length to.old.items) to.new.items ≡ to.old.items) }
+    ensures kept { OnErr result (Keeps to.old.items to.new.items) }
 {
     to.extend_from_slice(size)?;
     to.extend_from_slice(b"\r\n")?;
@@ -54,8 +54,10 @@ pub fn write_chunk(bytes: &[u8], to: &mut Vec<u8>) -> Result<(), NoMemory>
 }
 
 /// Appends the line of a field.
+#[tactic(auto, using(crate::proofs::Chains::keeps_more))]
 fn put_line(name: &[u8], value: &[u8], to: &mut Vec<u8>) -> Result<(), NoMemory>
-    ensures { OnOk result (to.new.items ≡ to.old.items ++ line_of (name.now, value.now)) }
+    ensures ok { OnOk result (to.new.items ≡ to.old.items ++ line_of (name.now, value.now)) }
+    ensures kept { OnErr result (Keeps to.old.items to.new.items) }
 {
     to.extend_from_slice(name)?;
     to.extend_from_slice(b": ")?;
@@ -65,8 +67,10 @@ fn put_line(name: &[u8], value: &[u8], to: &mut Vec<u8>) -> Result<(), NoMemory>
 }
 
 /// Appends the lines of the fields, in order.
+#[tactic(auto, using(crate::proofs::Chains::keeps_more))]
 fn put_lines(fields: &Fields, to: &mut Vec<u8>) -> Result<(), NoMemory>
-    ensures { OnOk result (to.new.items ≡ to.old.items ++ lines_of fields.now) }
+    ensures ok { OnOk result (to.new.items ≡ to.old.items ++ lines_of fields.now) }
+    ensures kept { OnErr result (Keeps to.old.items to.new.items) }
 {
     for i in 0..fields.len() {
         let (name, value) = fields.at(i);
@@ -76,8 +80,10 @@ fn put_lines(fields: &Fields, to: &mut Vec<u8>) -> Result<(), NoMemory>
 }
 
 /// Appends the status line (RFC 9112 section 4), without a reason.
+#[tactic(auto, using(crate::proofs::Chains::keeps_more))]
 fn put_status(status: u16, to: &mut Vec<u8>) -> Result<(), NoMemory>
-    ensures { OnOk result (to.new.items ≡ to.old.items ++ status_line status) }
+    ensures ok { OnOk result (to.new.items ≡ to.old.items ++ status_line status) }
+    ensures kept { OnErr result (Keeps to.old.items to.new.items) }
 {
     to.extend_from_slice(b"HTTP/1.1 ")?;
     write_number(status as u64, to)?;
@@ -86,8 +92,10 @@ fn put_status(status: u16, to: &mut Vec<u8>) -> Result<(), NoMemory>
 }
 
 /// Appends the end of a head, and where it is told that the body comes in chunks.
+#[tactic(auto, using(crate::proofs::Chains::keeps_more))]
 fn put_end(chunked: bool, to: &mut Vec<u8>) -> Result<(), NoMemory>
-    ensures { OnOk result (to.new.items ≡ to.old.items ++ head_end chunked) }
+    ensures ok { OnOk result (to.new.items ≡ to.old.items ++ head_end chunked) }
+    ensures kept { OnErr result (Keeps to.old.items to.new.items) }
 {
     let end: &[u8] = if chunked {
         b"transfer-encoding: chunked\r\n\r\n"
@@ -99,8 +107,10 @@ fn put_end(chunked: bool, to: &mut Vec<u8>) -> Result<(), NoMemory>
 }
 
 /// Appends the head of an answer, or a part of it.
+#[tactic(auto, using(crate::proofs::Chains::keeps_more))]
 fn put_response(response: &Response, chunked: bool, to: &mut Vec<u8>) -> Result<(), NoMemory>
-    ensures { OnOk result (to.new.items ≡ to.old.items ++ response_text response.now chunked) }
+    ensures ok { OnOk result (to.new.items ≡ to.old.items ++ response_text response.now chunked) }
+    ensures kept { OnErr result (Keeps to.old.items to.new.items) }
 {
     put_status(response.status, to)?;
     put_lines(&response.fields, to)?;
@@ -117,10 +127,12 @@ pub fn write_response_head(
     ensures ok { OnOk result (to.new.items ≡ to.old.items ++ response_text response.now chunked) }
     ensures err { OnErr result (to.new.items ≡ to.old.items) }
 {
-    let mut text = Vec::new(*to.allocator());
-    put_response(response, chunked, &mut text)?;
-    to.extend_from_slice(&text)?;
-    Ok(())
+    let start = to.as_slice().len();
+    let written = put_response(response, chunked, to);
+    if written.is_err() {
+        to.truncate(start);
+    }
+    written
 }
 
 /// The URL of a target.
@@ -142,9 +154,11 @@ fn url_of(key: &Key) -> Result<Url, NoMemory>
 }
 
 /// Appends the query, where there is one.
+#[tactic(auto, using(crate::proofs::Chains::keeps_more))]
 fn put_query(query: Option<&str>, to: &mut Vec<u8>) -> Result<(), NoMemory>
-    ensures { OnOk result (to.new.items
+    ensures ok { OnOk result (to.new.items
         ≡ to.old.items ++ query_text (option_copied query.entry)) }
+    ensures kept { OnErr result (Keeps to.old.items to.new.items) }
 {
     let Some(query) = query else {
         return Ok(());
@@ -155,8 +169,10 @@ fn put_query(query: Option<&str>, to: &mut Vec<u8>) -> Result<(), NoMemory>
 }
 
 /// Appends the request line, in the origin form (RFC 9112 section 3.2.1).
+#[tactic(auto, using(crate::proofs::Chains::keeps_more))]
 fn put_request_line(method: &[u8], url: &Url, to: &mut Vec<u8>) -> Result<(), NoMemory>
-    ensures { OnOk result (to.new.items ≡ to.old.items ++ request_line method.now url.now) }
+    ensures ok { OnOk result (to.new.items ≡ to.old.items ++ request_line method.now url.now) }
+    ensures kept { OnErr result (Keeps to.old.items to.new.items) }
 {
     to.extend_from_slice(method)?;
     to.extend_from_slice(b" ")?;
@@ -167,8 +183,10 @@ fn put_request_line(method: &[u8], url: &Url, to: &mut Vec<u8>) -> Result<(), No
 }
 
 /// Appends the line of the host, with the port, where the URL has one (RFC 9112 section 3.2).
+#[tactic(auto, using(crate::proofs::Chains::keeps_more))]
 fn put_host(url: &Url, to: &mut Vec<u8>) -> Result<(), NoMemory>
-    ensures { OnOk result (to.new.items ≡ to.old.items ++ host_line url.now) }
+    ensures ok { OnOk result (to.new.items ≡ to.old.items ++ host_line url.now) }
+    ensures kept { OnErr result (Keeps to.old.items to.new.items) }
 {
     let host = url.slice(Position::BeforeHost, Position::AfterPort);
     to.extend_from_slice(b"host: ")?;
@@ -178,14 +196,29 @@ fn put_host(url: &Url, to: &mut Vec<u8>) -> Result<(), NoMemory>
 }
 
 /// Appends the request of this URL, or a part of it.
+#[tactic(auto, using(crate::proofs::Chains::keeps_more))]
 fn put_request(request: &Request, url: &Url, to: &mut Vec<u8>) -> Result<(), NoMemory>
-    ensures { OnOk result (to.new.items ≡ to.old.items ++ request_text request.now url.now) }
+    ensures ok { OnOk result (to.new.items ≡ to.old.items ++ request_text request.now url.now) }
+    ensures kept { OnErr result (Keeps to.old.items to.new.items) }
 {
     put_request_line(&request.method.bytes, url, to)?;
     put_host(url, to)?;
     put_lines(&request.fields, to)?;
     to.extend_from_slice(b"connection: close\r\n\r\n")?;
     Ok(())
+}
+
+/// Appends the request of this URL. On an error nothing is appended.
+fn put_whole_request(request: &Request, url: &Url, to: &mut Vec<u8>) -> Result<(), NoMemory>
+    ensures ok { OnOk result (to.new.items ≡ to.old.items ++ request_text request.now url.now) }
+    ensures err { OnErr result (to.new.items ≡ to.old.items) }
+{
+    let start = to.as_slice().len();
+    let written = put_request(request, url, to);
+    if written.is_err() {
+        to.truncate(start);
+    }
+    written
 }
 
 /// Appends a request to an origin, which closes the connection behind its answer (RFC 9112 section
@@ -197,8 +230,5 @@ pub fn write_request(request: &Request, to: &mut Vec<u8>) -> Result<(), NoMemory
     ensures err { OnErr result (to.new.items ≡ to.old.items) }
 {
     let url = url_of(&request.key)?;
-    let mut text = Vec::new(*to.allocator());
-    put_request(request, &url, &mut text)?;
-    to.extend_from_slice(&text)?;
-    Ok(())
+    put_whole_request(request, &url, to)
 }

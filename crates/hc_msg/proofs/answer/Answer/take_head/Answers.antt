@@ -25,8 +25,8 @@ returns-in_ok-reply-in-Ends-clause-moves c = λ most.
     let enters = rw c.whole_head.ensures.kept at c.enter.ensures.enters in
     head_moves c.args.self.now.no_body c.args.scan c.args.self.now.held.items c.args.rest.now c.in-Ends.n most c.in_ok-reply-in-Ends.reply c.whole_head.result c.enter.result _ told.0 told.1 told.2 c.whole_head.ensures.replied c.in_ok-reply-in-Ends.was enters
 
-pub returns-else-is_err-clause-moves : goal.returns-else-is_err-clause-moves
-returns-else-is_err-clause-moves c = λ most.
+pub returns-in_ok-extend_from_slice-in-Open-clause-moves : goal.returns-in_ok-extend_from_slice-in-Open-clause-moves
+returns-in_ok-extend_from_slice-in-Open-clause-moves c = λ most.
     let found = rw c.in-Open.is at c.in_ok-n.ensures in
     let told = rw c.as_slice.ensures.value at found in
     head_open c.args.self.now.no_body c.args.scan c.in-Open.next c.args.self.now.held.items c.args.rest.now c.extend_from_slice.new.self.items most told.0 told.1 (search rules) c.requires.some

@@ -24,8 +24,8 @@ returns-in_ok-request-in-Ends-clause-takes c =
     let none = c.in_ok-request-in-Ends.ensures.empty in
     (told.2, rw none (call_leads c.args.self.now.scan c.args.self.now.held.items c.args.piece.now c.in-Ends.n c.in_ok-request-in-Ends.request c.whole_head.result told.0 told.1 c.whole_head.ensures.called c.in_ok-request-in-Ends.was))
 
-pub returns-else-is_err-clause-takes : goal.returns-else-is_err-clause-takes
-returns-else-is_err-clause-takes c =
+pub returns-in_ok-extend_from_slice-in-Open-clause-takes : goal.returns-in_ok-extend_from_slice-in-Open-clause-takes
+returns-in_ok-extend_from_slice-in-Open-clause-takes c =
     let found = rw c.in-Open.is at c.in_ok-n.ensures in
     let told = rw c.as_slice.ensures.value at found in
     (omega arith, (refl, call_open c.args.self.now.scan c.in-Open.next c.args.self.now.held.items c.args.piece.now c.extend_from_slice.new.self.items told.0 told.1 (search rules)))

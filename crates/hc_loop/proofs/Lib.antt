@@ -1,0 +1,4 @@
+pub mod Sizes
+pub mod Timings
+pub mod Reports
+pub mod Runs

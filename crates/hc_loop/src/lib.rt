@@ -1,0 +1,14 @@
+//! A schedule is read as it comes, each of its events is stepped, and the report of each is written
+//! before the next one is stepped.
+#![tactic(auto)]
+
+mod report;
+mod stepper;
+mod stop;
+mod through;
+
+pub use stepper::Stepper;
+pub use through::step_through;
+
+#[cfg(test)]
+mod tests;

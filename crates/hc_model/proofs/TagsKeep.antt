@@ -15,7 +15,7 @@ use Rattle.hc_record.proofs.JoiningLemmas.{strong_opaque-tag}
 use Rattle.hc_rules.specs.HeadCases.{fits_to_found}
 use Rattle.hc_rules.specs.Requests.{range_of}
 use Rattle.hc_rules.specs.TagTexts.{strong_of}
-use Rattle.hc_rules.proofs.TagReads.{strong_in-some}
+use Rattle.hc_etag.proofs.TagReads.{strong_in-some}
 use Rattle.hc_rules.specs.declared.room.Limits.{Limits}
 use Rattle.hc_sparse.specs.Cells.{Cells, Covers, written}
 use Rattle.hc_sparse.proofs.CellLemmas.{inside-cases}

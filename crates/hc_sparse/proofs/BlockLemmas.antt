@@ -4,7 +4,7 @@ use Rattle.std.proofs.lemmas.Bool.{lt-ltb}
 use borrow.Author.Tests.{ltb-true}
 use Rattle.std.proofs.lemmas.List.{get_or_append_left, get_or-append-add}
 use Rattle.std.proofs.lemmas.List.Edits.{length-between, get_or-between}
-use Rattle.std.specs.Prelude.{is_some, slice_range, Result, Ok, Err, OnOk, OnErr}
+use Rattle.std.specs.Prelude.{slice_range, Result, Ok, Err, OnOk, OnErr}
 use Rattle.hc_sparse.proofs.SizeLemmas.{size-put, size-same}
 use Rattle.std.specs.Ordering.{nat_cmp}
 use Rattle.std.specs.BTreeMap.{BTreeMap, get}
@@ -13,18 +13,15 @@ use Rattle.hc_sparse.specs.Extents.{Mark, Marks, mark, claimed, end_of, AreFree,
 use Rattle.hc_sparse.specs.Stretch.{IsPart}
 use Rattle.hc_sparse.specs.declared.extents.Extent.{Extent}
 use Rattle.hc_sparse.specs.Blocks.{marks_in}
-use Rattle.hc_sparse.specs.BlockMaps.{cells_by, cell_of, marks, is_spare, AreBelow, is_within, AreWithin, AreReady, HaveSame}
+use Rattle.hc_sparse.specs.BlockMaps.{cells_by, cell_of, marks, AreBelow, is_within, AreWithin}
 use Rattle.hc_sparse.specs.declared.block.Block.{Block}
-use Rattle.hc_sparse.proofs.CellLemmas.{inside-past, inside-cases, split}
+use Rattle.hc_sparse.proofs.CellLemmas.{inside-cases, split}
 
 block-is : (p i : ℕ) → p % 4096 + i < 4096 → (p + i) / 4096 ≡ p / 4096
 block-is p i lt = omega arith
 
 offset-is : (p i : ℕ) → p % 4096 + i < 4096 → (p + i) % 4096 ≡ p % 4096 + i
 offset-is p i lt = omega arith
-
-pub past-block : (p k q : ℕ) → p % 4096 + k ≡ 4096 → p + k ≤ q → q / 4096 ≢ p / 4096
-past-block p k q end past same = absurd (omega arith)
 
 pub number-below : (p : ℕ) → p < 2 ^ 62 → p / 4096 < 2 ^ 50
 number-below p lt = omega arith
@@ -51,32 +48,6 @@ free-here m p len b there within free q ge lt =
 
 pub below-others : (m n : BTreeMap ℕ Block) (k : ℕ) → k < 2 ^ 50 → AreBelow m → ((j : ℕ) → j ≢ k → get nat_cmp n j ≡ get nat_cmp m j) → AreBelow n
 below-others m n k lt below others j le = rw (others j (λ same. absurd (omega arith))) (below j le)
-
-pub below-kept : (m n : BTreeMap ℕ Block) → AreBelow m → ((k : ℕ) → is_some (get nat_cmp n k) ≡ is_some (get nat_cmp m k)) → AreBelow n
-below-kept m n below kept k le = kept k ∙ below k le
-
-pub ready-more : (m n : BTreeMap ℕ Block) (at done more : ℕ) → ((at + done) % 4096 + more ≤ 4096) → AreReady m at done → ((k : ℕ) → is_spare (get nat_cmp m k) ≡ true → is_spare (get nat_cmp n k) ≡ true)
-    → is_spare (get nat_cmp n ((at + done) / 4096)) ≡ true → AreReady n at (done + more)
-ready-more m n at done more within ready keeps here i lt =
-    elim (split i done) [
-      | inl before ↦ keeps ((at + i) / 4096) (ready i before)
-      | inr from ↦
-          let place : at + done + (i - done) ≡ at + i = omega arith in
-          let number = block-is (at + done) (i - done) (omega arith) in
-          rw place at (rw (← number) at here)
-    ]
-
--- What was ready in other blocks is so still.
-pub ready-kept : (m n : BTreeMap ℕ Block) (p k rest : ℕ) → (0 < rest → p % 4096 + k ≡ 4096) → ((j : ℕ) → j ≢ p / 4096 → get nat_cmp n j ≡ get nat_cmp m j) → AreReady m (p + k) rest → AreReady n (p + k) rest
-ready-kept m n p k rest end others ready i lt =
-    let off = past-block p k (p + k + i) (end (omega arith)) (omega arith) in
-    rw (others ((p + k + i) / 4096) off) (ready i lt)
-
-pub free-same : (m n : BTreeMap ℕ Block) (lo hi : ℕ) → AreFree (marks m) lo hi → HaveSame m n → AreFree (marks n) lo hi
-free-same m n lo hi free same q ge lt = same q ∙ free q ge lt
-
-pub free-behind : (m n : BTreeMap ℕ Block) (p k x from hi : ℕ) → AreFree (marks m) (p + k) hi → ((q : ℕ) → marks n q ≡ claimed p k x from (marks m) q) → AreFree (marks n) (p + k) hi
-free-behind m n p k x from hi free own q ge lt = own q ∙ rw (inside-past p k q ge) (free q ge lt)
 
 kept-cell : (bytes piece : List ℕ) (o : Option Mark) → is_within (length bytes) o ≡ true → cell_of (bytes ++ piece) o ≡ cell_of bytes o
 kept-cell bytes piece None within = refl

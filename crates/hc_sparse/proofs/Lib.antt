@@ -8,5 +8,4 @@ pub mod ExtentLemmas
 pub mod ClaimLemmas
 pub mod BlockLemmas
 pub mod TailLemmas
-pub mod Filling
 pub mod OpLemmas

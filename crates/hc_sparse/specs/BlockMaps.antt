@@ -1,19 +1,15 @@
 -- What blocks and the list of all bytes have at each position.
-use Rattle.std.specs.Prelude.{◌≡◌, ℕ, ◌+◌, ◌/◌, ◌%◌, ◌^◌, ◌<◌, ◌≤◌, List, slice_index, Bool, true, false, is_some, Option, Some, None, nat_lt}
+use Rattle.std.specs.Prelude.{◌≡◌, ℕ, ◌/◌, ◌%◌, ◌^◌, ◌<◌, ◌≤◌, List, slice_index, Bool, true, false, is_some, Option, Some, None, nat_lt}
 use Rattle.std.specs.Ordering.{nat_cmp}
 use Rattle.std.specs.BTreeMap.{BTreeMap, get}
 use Rattle.hc_sparse.specs.Cells.{Cells, Cell}
 use Rattle.hc_sparse.specs.Extents.{Mark, Marks}
-use Rattle.hc_sparse.specs.Blocks.{marks_in, has_spare}
+use Rattle.hc_sparse.specs.Blocks.{marks_in}
 use Rattle.hc_sparse.specs.declared.block.Block.{Block}
 
 abbrev pub mark_at : Option Block → ℕ → Option Mark
 mark_at None o = None
 mark_at (Some b) o = marks_in b o
-
-abbrev pub is_spare : Option Block → Bool
-is_spare None = false
-is_spare (Some b) = has_spare b
 
 -- The block of a position.
 abbrev pub block_of : BTreeMap ℕ Block → ℕ → Option Block
@@ -43,18 +39,6 @@ is_within n (Some mark) = nat_lt mark.place n
 -- The bytes of all marks stand among the first so many.
 abbrev pub AreWithin : Marks → ℕ → Type 0
 AreWithin f n = (p : ℕ) → is_within n (f p) ≡ true
-
--- To give so many positions from one on to an exchange needs no memory.
-abbrev pub AreReady : BTreeMap ℕ Block → ℕ → ℕ → Type 0
-AreReady m at len = (i : ℕ) → i < len → is_spare (block_of m (at + i)) ≡ true
-
--- Where an extent more needed no memory, it needs none.
-abbrev pub KeepsSpare : BTreeMap ℕ Block → BTreeMap ℕ Block → Type 0
-KeepsSpare m n = (k : ℕ) → is_spare (get nat_cmp m k) ≡ true → is_spare (get nat_cmp n k) ≡ true
-
--- There are the same blocks.
-abbrev pub KeepsNumbers : BTreeMap ℕ Block → BTreeMap ℕ Block → Type 0
-KeepsNumbers m n = (k : ℕ) → is_some (get nat_cmp n k) ≡ is_some (get nat_cmp m k)
 
 -- A block is the first from a number on, and this is its number.
 pub record IsFirstFrom (m : BTreeMap ℕ Block) (n number : ℕ) (block : Block) : Type 0 where

@@ -52,7 +52,6 @@ impl Block {
     pub(crate) fn make_room(&mut self) -> Result<(), NoMemory>
         ensures marks { (q : ℕ) → marks_in self.new q ≡ marks_in self.old q }
         ensures spare { OnOk result (has_spare self.new ≡ true) }
-        ensures keeps { has_spare self.old ≡ true → has_spare self.new ≡ true }
     {
         self.extents.reserve(1)?;
         Ok(())

@@ -20,10 +20,10 @@ use std::alloc::Global;
 /// list of its stretches by exchange, which tell where their bytes stand: the bytes of all blocks stand
 /// in one list, in the order in which they came, so none is kept for an absent position.
 ///
-/// What was put last is kept beside the blocks, as far as it is in one block, until a put doesn't go on
-/// from it: such a put looks up the blocks of its positions and the one of what was put last, whatever
-/// was put before, and one that goes on looks up a block where one is full. A block takes some 120
-/// bytes, and some 32 for each of its stretches but the first.
+/// What was put last is kept beside the blocks, with all that it goes on from, and a put that goes on from
+/// it looks nothing up. One that doesn't gives it to the blocks first, each position once, and looks up
+/// each of their blocks once, whatever was put before. A block takes some 120 bytes, and some 32 for each
+/// of its stretches but the first.
 #[derive(Drop)]
 pub struct Sparse {
     places: Places,

@@ -1,6 +1,0 @@
-use Rattle.std.proofs.Common.{sym}
-use Rattle.hc_sparse.proofs.BlockLemmas.{free-here}
-use Rattle.hc_sparse.proofs.blocks.claim_part.Goals as goal
-
-pub claim-requires-clause-free : goal.claim-requires-clause-free
-claim-requires-clause-free c = free-here c.args.blocks.now c.args.p c.args.len c.in-Some.block.now (sym c.in-Some.ensures.value) c.requires.within c.requires.free

@@ -1,5 +1,5 @@
 -- The open exchange of who is bound is about what that is bound to.
-use Rattle.std.proofs.Common.{◌≡◌, ◌⊎◌, inl, inr, ℕ, Bool, true, false, Option, Some, None, refl, ap, sym, ◌∙◌}
+use Rattle.std.proofs.Common.{◌≡◌, ◌⊎◌, inl, inr, ℕ, Bool, true, Option, Some, None, refl, ap, sym, ◌∙◌}
 use Rattle.std.specs.Prelude.{if◌then◌else◌, is_some, unwrap_or}
 use Rattle.std.specs.Option.{option_and_then}
 use Rattle.hc_event.specs.declared.event.Event.{Event}
@@ -22,6 +22,7 @@ use Rattle.hc_model.specs.Runs.{may_stand}
 use Rattle.hc_model.specs.Sound.{Sound, IsBound, IsAbout}
 use Rattle.hc_model.specs.Sound as sound
 use Rattle.hc_model.specs.Tables.{after_accepted}
+use Rattle.hc_model.proofs.Basics.{false_true, none_some}
 use Rattle.hc_model.proofs.BoundFrom as from
 use Rattle.hc_model.proofs.ExchangeFrom.{ExchangeFrom, IsSame, IsHeaded, exchange_from}
 use Rattle.hc_model.proofs.ExchangeFrom as exchange
@@ -38,12 +39,6 @@ use Rattle.hc_model.proofs.Pens.{same_row}
 use Rattle.hc_model.proofs.ReadingKeeps.{reader_stays, head_some, unpolled, left_body}
 use Rattle.hc_model.proofs.RepFrom as rep
 use Rattle.hc_model.proofs.WaitingKeeps.{waiting_kept}
-
-false_true : false ≡ true → ⊥
-false_true h = cc
-
-none_some : {A : Type 0} (a : A) → None ≡ Some a → ⊥
-none_some a is = cc
 
 -- an own open exchange
 pub record IsOwn (t : Tables) (k : Consumer) (x : ℕ) : Type 0 where

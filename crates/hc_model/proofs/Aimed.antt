@@ -19,6 +19,7 @@ use Rattle.hc_model.specs.Reading.{bound_to}
 use Rattle.hc_model.specs.Rows.{Tables, Exchange, Consumer}
 use Rattle.hc_model.specs.Sound.{Sound}
 use Rattle.hc_model.specs.Tables.{begun, after_accepted, after_denied}
+use Rattle.hc_model.proofs.Basics.{none_some}
 use Rattle.hc_model.proofs.BoundFrom.{BoundFrom, bound_from}
 use Rattle.hc_model.proofs.BoundFrom as from
 use Rattle.hc_model.proofs.ExchangeFrom.{ExchangeFrom, IsSame, IsHeaded, exchange_from}
@@ -27,9 +28,6 @@ use Rattle.hc_model.proofs.FirstKeeps.{is_new, is_opener}
 use Rattle.hc_model.proofs.Forward.{is_on, opened_on}
 use Rattle.hc_model.proofs.OwnersKeep.{new_number}
 use Rattle.hc_model.proofs.Pens.{same_row}
-
-none_some : {A : Type 0} (a : A) → None ≡ Some a → ⊥
-none_some a is = cc
 
 pub record IsAimed (t : Tables) : Type 0 where
   pub first : (c r lo y : ℕ) (hi : Option ℕ) (k : Consumer) (w : Exchange) → t.consumer c ≡ Some k → k.place ≡ place.Bound r lo hi (by.FirstHole y) → t.exchange y ≡ Some w → w.aim ≡ Some r

@@ -31,6 +31,7 @@ use Rattle.hc_model.specs.Runs.{may_stand}
 use Rattle.hc_model.specs.Sound.{Sound}
 use Rattle.hc_model.specs.Tables.{after_accepted, after_denied, begun}
 use Rattle.hc_model.specs.Entries.{Contents}
+use Rattle.hc_model.proofs.Basics.{false_true, none_some}
 use Rattle.hc_model.proofs.ExchangeFrom.{IsHeaded}
 use Rattle.hc_model.proofs.Forward.{is_on}
 use Rattle.hc_model.proofs.MoveBy.{MoveBy, IsHeard, move_by}
@@ -43,12 +44,6 @@ use Rattle.hc_model.proofs.PollActs as acts_to
 use Rattle.hc_model.proofs.ShownStays.{IsIdle, StaysOrIdle, IsAside, Lands, shown_stays, shown_at}
 use Rattle.hc_model.proofs.ShownStays as stands
 use Rattle.hc_model.proofs.TurnPlaces.{is_after}
-
-false_true : false ≡ true → ⊥
-false_true h = cc
-
-none_some : {A : Type 0} (a : A) → None ≡ Some a → ⊥
-none_some a is = cc
 
 or_right : (a b : Bool) → b ≡ false → (a || b) ≡ a
 or_right true b off = refl

@@ -32,6 +32,7 @@ use Rattle.hc_model.specs.Rows.{Tables, Exchange, Representation, Consumer}
 use Rattle.hc_model.specs.Runs.{IsOwed}
 use Rattle.hc_model.specs.Sound.{Sound}
 use Rattle.hc_model.specs.Tables.{tables, after, after_accepted, after_denied, loaded, opened_after}
+use Rattle.hc_model.proofs.Basics.{none_some}
 use Rattle.hc_model.proofs.CurrentKeeps.{current_is, WasOrFounded, was_or_founded}
 use Rattle.hc_model.proofs.CurrentKeeps as current
 use Rattle.hc_model.proofs.KeysKeep.{same_exchange}
@@ -46,9 +47,6 @@ use Rattle.hc_model.proofs.TurnOpens.{opened_at}
 use Rattle.hc_model.proofs.TurnStays.{head_opens, dooms, after_same}
 use Rattle.hc_model.proofs.TurnsKeep.{WasHeadless, was_headless}
 use Rattle.hc_model.proofs.TurnsKeep as keeps
-
-none_some : {A : Type 0} (a : A) → None ≡ Some a → ⊥
-none_some a h = cc
 
 -- THE FOUNDING CASES
 

@@ -1,5 +1,5 @@
 -- The tables of a store that begins with contents are sound.
-use Rattle.std.proofs.Common.{◌≡◌, inl, inr, ℕ, ◌-◌, ◌<◌, ◌≤◌, List, [], ◌∷◌, ◌++◌, length, true, false, Option, Some, None, refl, ap, sym, ◌∙◌, subst, arith}
+use Rattle.std.proofs.Common.{◌≡◌, inl, inr, ℕ, ◌-◌, ◌<◌, ◌≤◌, List, [], ◌∷◌, ◌++◌, length, true, Option, Some, None, refl, ap, sym, ◌∙◌, subst, arith}
 use Rattle.std.specs.Prelude.{is_some, find, map, reverse, option_map, nat_eq}
 use Rattle.std.proofs.lemmas.Bool.Decides.{nat_tests}
 use Rattle.std.proofs.lemmas.List.{reverse-append}
@@ -14,6 +14,7 @@ use Rattle.hc_model.specs.Rows.{Representation, Consumer}
 use Rattle.hc_model.specs.Sound.{Waits, Sound, Numbered, OneAbout, Writes, Among, IsAbout, IsBound, IsFirst, IsSoundRepresentation}
 use Rattle.hc_model.specs.Tables.{begun, loaded, last_end, numbers}
 use Rattle.hc_model.specs.Sound as sound
+use Rattle.hc_model.proofs.Basics.{false_true, none_some}
 use Rattle.hc_model.proofs.HoleLemmas.{bool_cases}
 use Rattle.hc_model.proofs.PieceKeeps.{some_inj}
 
@@ -58,12 +59,6 @@ among_reverse : (r : ℕ) (xs : List ℕ) → Among r xs → Among r (reverse xs
 among_reverse r [] among = absurd among
 among_reverse r (x ∷ xs) (inl here) = subst (Among r) (sym (reverse-append (x ∷ []) xs)) (among_right r (reverse xs) (x ∷ []) (inl here))
 among_reverse r (x ∷ xs) (inr there) = subst (Among r) (sym (reverse-append (x ∷ []) xs)) (among_left r (reverse xs) (x ∷ []) (among_reverse r xs there))
-
-none_some : {A : Type 0} (a : A) → None ≡ Some a → ⊥
-none_some a h = cc
-
-false_true : false ≡ true → ⊥
-false_true h = cc
 
 some_among : (contents : Contents) (r : ℕ) (o : Option Content) → item_of contents r ≡ o → is_some (option_map loaded o) ≡ true → Among r (map (λ (i : Content). i.r) contents.items)
 some_among contents r None found some = absurd (false_true some)

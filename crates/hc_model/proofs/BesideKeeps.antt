@@ -1,5 +1,5 @@
 -- What is beside soundness holds from the beginning, and stays so at each entry.
-use Rattle.std.proofs.Common.{◌≡◌, ℕ, Some, None, sym, ◌∙◌}
+use Rattle.std.proofs.Common.{◌≡◌, ℕ, None, sym, ◌∙◌}
 use Rattle.hc_event.specs.declared.event.Event.{Event}
 use Rattle.hc_rules.specs.declared.room.Limits.{Limits}
 use Rattle.hc_model.specs.Denials.{denial}
@@ -13,6 +13,7 @@ use Rattle.hc_model.specs.Rows.{Tables, Representation, Consumer}
 use Rattle.hc_model.specs.Sound.{Sound, IsBound, IsFirst, HasPen}
 use Rattle.hc_model.specs.Sound as sound
 use Rattle.hc_model.specs.Tables.{begun, after_accepted, after_denied}
+use Rattle.hc_model.proofs.Basics.{none_some}
 use Rattle.hc_model.proofs.Beside.{IsBeside}
 use Rattle.hc_model.proofs.CachedKeeps.{cached_kept}
 use Rattle.hc_model.proofs.CoversKept.{covered_kept}
@@ -20,9 +21,6 @@ use Rattle.hc_model.proofs.DeniedKeeps.{written_same, was_bound, was_first, was_
 use Rattle.hc_model.proofs.LossBy.{IsReal}
 use Rattle.hc_model.proofs.Losses.{HasRest}
 use Rattle.hc_model.proofs.Rests.{rested_kept}
-
-none_some : {A : Type 0} (a : A) → None ≡ Some a → ⊥
-none_some a is = cc
 
 -- nobody reads at the beginning
 nobody : (contents : Contents) (r c : ℕ) (k : Consumer) → IsBound (begun contents) r c k → ⊥

@@ -1,6 +1,6 @@
 -- Whoever is bound and waits for no head goes on reading until it leaves.
-use Rattle.std.proofs.Common.{◌≡◌, ◌⊎◌, inl, inr, ℕ, Bool, true, false, cond, Option, Some, None, refl, ap, sym, ◌∙◌, arith}
-use Rattle.std.specs.Prelude.{if◌then◌else◌, is_none, ◌&&◌, ◌||◌, ◌==◌, not, nat_eq}
+use Rattle.std.proofs.Common.{◌≡◌, inl, inr, ℕ, Bool, true, false, cond, Option, Some, None, refl, ap, sym, ◌∙◌, arith}
+use Rattle.std.specs.Prelude.{if◌then◌else◌, is_none, ◌&&◌, ◌==◌, not, nat_eq}
 use Rattle.std.proofs.lemmas.Bool.Decides.{nat_tests}
 use Rattle.hc_event.specs.Filters.{Opening, opening_in, leaves_in}
 use Rattle.hc_event.specs.declared.event.Event.{Event}
@@ -28,6 +28,7 @@ use Rattle.hc_model.specs.Rows.{Tables, Exchange, Consumer}
 use Rattle.hc_model.specs.Sound.{Sound}
 use Rattle.hc_model.specs.StartingOver.{starts_over, waits_at, sends_back, loses_what_it_waits_for}
 use Rattle.hc_model.specs.Tables.{after_accepted}
+use Rattle.hc_model.proofs.Basics.{false_true, and_left, and_right, or_cases, not_so, none_some}
 use Rattle.hc_model.proofs.FirstKeeps.{is_new}
 use Rattle.hc_model.proofs.Forward.{is_kept}
 use Rattle.hc_model.proofs.HoleLemmas.{bool_cases}
@@ -37,28 +38,6 @@ use Rattle.hc_model.proofs.Said.{waiting_by}
 use Rattle.hc_model.proofs.WaitedAs.{IsForOthers, waited_as}
 use Rattle.hc_model.proofs.WaitedAs as waited
 use Rattle.hc_model.proofs.Waiters.{fault_open_of}
-
-false_true : false ≡ true → ⊥
-false_true h = cc
-
-none_some : {A : Type 0} (a : A) → None ≡ Some a → ⊥
-none_some a is = cc
-
-and_left : (a b : Bool) → (a && b) ≡ true → a ≡ true
-and_left true b h = refl
-and_left false b h = absurd (false_true h)
-
-and_right : (a b : Bool) → (a && b) ≡ true → b ≡ true
-and_right true b h = h
-and_right false b h = absurd (false_true h)
-
-or_cases : (a b : Bool) → (a || b) ≡ true → (a ≡ true) ⊎ (b ≡ true)
-or_cases true b h = inl refl
-or_cases false b h = inr h
-
-not_so : (b : Bool) → (b ≡ true → ⊥) → b ≡ false
-not_so true off = absurd (off refl)
-not_so false off = refl
 
 none_of : (q : Option Response) → is_none q ≡ true → q ≡ None
 none_of None g = refl

@@ -39,6 +39,7 @@ use Rattle.hc_model.specs.Rows.{Tables, Exchange, Consumer}
 use Rattle.hc_model.specs.Sound.{Sound}
 use Rattle.hc_model.specs.StartingOver.{starts_over}
 use Rattle.hc_model.specs.Tables.{begun, after_accepted, after_denied}
+use Rattle.hc_model.proofs.Basics.{false_true, none_some}
 use Rattle.hc_model.proofs.BoundFrom.{BoundFrom, IsRow, IsFounded, IsInterval, IsShown, bound_from}
 use Rattle.hc_model.proofs.BoundFrom as from
 use Rattle.hc_model.proofs.BoundKeeps.{shown_place_is}
@@ -64,12 +65,6 @@ use Rattle.hc_model.proofs.ShownOnce as shown_once
 use Rattle.hc_model.proofs.ShownStays.{IsAside, StaysOrIdle, shown_stays}
 use Rattle.hc_model.proofs.ShownStays as stands
 use Rattle.hc_model.proofs.TurnPlaces.{is_after}
-
-false_true : false ≡ true → ⊥
-false_true h = cc
-
-none_some : {A : Type 0} (a : A) → None ≡ Some a → ⊥
-none_some a is = cc
 
 -- INTERVALS
 

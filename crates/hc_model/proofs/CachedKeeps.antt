@@ -25,6 +25,7 @@ use Rattle.hc_model.specs.Reading.{reads}
 use Rattle.hc_model.specs.Rows.{Tables, Exchange, Consumer}
 use Rattle.hc_model.specs.Sound.{Sound}
 use Rattle.hc_model.specs.Tables.{after_accepted}
+use Rattle.hc_model.proofs.Basics.{false_true, none_some}
 use Rattle.hc_model.proofs.Beside.{IsBeside, is_cached_place}
 use Rattle.hc_model.proofs.BoundFrom.{BoundFrom, IsRow, bound_from}
 use Rattle.hc_model.proofs.BoundFrom as from
@@ -39,12 +40,6 @@ use Rattle.hc_model.proofs.PieceKeeps.{eq_cases, some_inj}
 use Rattle.hc_model.proofs.TurnPlaces.{ComesFrom, IsPlain, is_after}
 use Rattle.hc_model.proofs.TurnPlaces as turn
 use Rattle.hc_model.proofs.Waiters.{waiter_of}
-
-none_some : {A : Type 0} (a : A) → None ≡ Some a → ⊥
-none_some a is = cc
-
-false_true : false ≡ true → ⊥
-false_true h = cc
 
 -- who starts stands in the line
 starts_line : (c now : ℕ) (ev : Event) (u : Consumer) → consumer_made c now ev ≡ Some u → u.place ≡ place.Line

@@ -1,6 +1,6 @@
 -- What must be closed is closed: what is the own exchange of who leaves, or that of a writing whose last reader leaves.
-use Rattle.std.proofs.Common.{◌≡◌, inl, inr, ℕ, List, [], ◌∷◌, ◌++◌, Bool, true, false, Some, refl, ap, sym, ◌∙◌, subst, arith}
-use Rattle.std.specs.Prelude.{map, filter, reverse, ◌&&◌, ◌||◌, nat_eq, is_some}
+use Rattle.std.proofs.Common.{◌≡◌, inl, inr, ℕ, List, [], ◌∷◌, ◌++◌, Bool, true, Some, refl, ap, sym, ◌∙◌, subst, arith}
+use Rattle.std.specs.Prelude.{map, filter, reverse, nat_eq, is_some}
 use Rattle.std.proofs.lemmas.Bool.Decides.{nat_tests}
 use Rattle.std.proofs.lemmas.List.{reverse-append}
 use Rattle.hc_event.specs.Filters.{closes_in}
@@ -17,6 +17,7 @@ use Rattle.hc_model.specs.Flaws.{Flaw, NoFlaw, Loses, Misreads}
 use Rattle.hc_model.specs.Rows.{Tables, Exchange}
 use Rattle.hc_model.specs.Sound.{Sound, Among}
 use Rattle.hc_model.specs.Weights.{evicted}
+use Rattle.hc_model.proofs.Basics.{and_both, or_right}
 use Rattle.hc_model.proofs.HoleLemmas.{bool_cases}
 
 -- LISTS
@@ -57,10 +58,6 @@ closes_lost x NoFlaw rest closes = closes
 closes_lost x (Loses r kind) rest closes = closes
 closes_lost x (Misreads r) rest closes = closes
 
-or_right : (a b : Bool) → b ≡ true → (a || b) ≡ true
-or_right true b h = refl
-or_right false b h = h
-
 eq_refl : (x : ℕ) → nat_eq x x ≡ true
 eq_refl x = grind (arith, nat_tests)
 
@@ -89,10 +86,6 @@ closes_after x (act.Evicted r ∷ acts) rest closes = closes_after x acts rest c
 closes_after x (act.Denied refusal ∷ acts) rest closes = closes_after x acts rest closes
 
 -- WHAT MUST BE CLOSED
-
-and_both : (a b : Bool) → a ≡ true → b ≡ true → (a && b) ≡ true
-and_both true b p q = q
-and_both false b p q = absurd (let never : false ≡ true = p in cc)
 
 module _ (limits : Limits) (t : Tables) (now : ℕ) (flaw : Flaw) (s : Sound t) where
   -- the entry as the closings see it

@@ -1,7 +1,6 @@
 -- Who has the pen has all up to where its exchange goes on.
-use Rattle.std.proofs.Common.{◌≡◌, ◌⊎◌, inl, inr, ℕ, ◌+◌, ◌<◌, ◌≤◌, List, length, true, false, Option, Some, None, refl, ap, sym, ◌∙◌, subst, arith, length-append}
+use Rattle.std.proofs.Common.{◌≡◌, ◌⊎◌, inl, inr, ℕ, ◌+◌, ◌<◌, ◌≤◌, List, length, true, Option, Some, None, refl, ap, sym, ◌∙◌, subst, arith, length-append}
 use Rattle.std.specs.Prelude.{is_some}
-use Rattle.std.proofs.lemmas.Bool.Decides.{nat_tests}
 use Rattle.hc_sparse.specs.Cells.{Cells, Cell, Covers, written}
 use Rattle.hc_sparse.proofs.CellLemmas.{inside-yes}
 use Rattle.hc_event.specs.Filters.{Opening, opening_in, given_in}
@@ -29,6 +28,7 @@ use Rattle.hc_model.specs.Sound.{Sound, IsBound, IsAbout, HasPen}
 use Rattle.hc_model.specs.Sound as sound
 use Rattle.hc_model.specs.Tables.{after_accepted}
 use Rattle.hc_model.proofs.AboutKeeps.{own_open_is}
+use Rattle.hc_model.proofs.Basics.{false_true, split}
 use Rattle.hc_model.proofs.Beside.{IsBeside, goes_on_at}
 use Rattle.hc_model.proofs.BoundFrom.{IsRow}
 use Rattle.hc_model.proofs.ConsumerFilters.{acted}
@@ -47,15 +47,6 @@ use Rattle.hc_model.proofs.PollTree.{OpensHole}
 use Rattle.hc_model.proofs.PollTree as tree
 use Rattle.hc_model.proofs.RepFrom.{IsKept}
 use Rattle.hc_model.proofs.Stays.{bodies_are_kept}
-
-none_some : {A : Type 0} (a : A) → None ≡ Some a → ⊥
-none_some a is = cc
-
-false_true : false ≡ true → ⊥
-false_true h = cc
-
-split : (a b : ℕ) → (a < b) ⊎ (b ≤ a)
-split a b = grind (arith, nat_tests)
 
 some_stays : (a b : Option Cell) → ((cell : Cell) → a ≡ Some cell → b ≡ Some cell) → is_some a ≡ true → is_some b ≡ true
 some_stays None b keeps there = absurd (false_true there)

@@ -1,6 +1,6 @@
 -- After an entry whoever has the pen has all up to where its exchange goes on.
-use Rattle.std.proofs.Common.{◌≡◌, ◌⊎◌, inl, inr, ℕ, ◌+◌, ◌<◌, ◌≤◌, Bool, true, false, Option, Some, None, refl, ap, sym, ◌∙◌, subst, arith}
-use Rattle.std.specs.Prelude.{is_some, ◌&&◌, nat_eq}
+use Rattle.std.proofs.Common.{◌≡◌, ◌⊎◌, inl, inr, ℕ, ◌+◌, ◌<◌, ◌≤◌, true, false, Option, Some, None, refl, ap, sym, ◌∙◌, subst, arith}
+use Rattle.std.specs.Prelude.{is_some, nat_eq}
 use Rattle.hc_sparse.specs.Cells.{Covers}
 use Rattle.hc_event.specs.Filters.{Opening, opening_in}
 use Rattle.hc_event.specs.declared.event.Event.{Event}
@@ -30,6 +30,7 @@ use Rattle.hc_model.specs.Sound.{Sound, IsBound, IsFirst, HasPen}
 use Rattle.hc_model.specs.Sound as sound
 use Rattle.hc_model.specs.Tables.{after_accepted}
 use Rattle.hc_model.specs.Writers.{brings_body, came_alone, loses_writing, survivor}
+use Rattle.hc_model.proofs.Basics.{false_true, and_left, none_some, some_row}
 use Rattle.hc_model.proofs.Beside.{IsBeside, goes_on_at}
 use Rattle.hc_model.proofs.BoundFrom.{BoundFrom, IsRow, IsFounded, IsFirstHole, IsShown, bound_from, place_inj}
 use Rattle.hc_model.proofs.BoundFrom as from
@@ -56,20 +57,6 @@ use Rattle.hc_model.proofs.ShownFrom as shown_as
 use Rattle.hc_model.proofs.Survives.{goes_on}
 use Rattle.hc_model.proofs.ToBeShown.{heard_place}
 use Rattle.hc_model.proofs.Waiters.{IsWaiter, waiter_of}
-
-none_some : {A : Type 0} (a : A) → None ≡ Some a → ⊥
-none_some a is = cc
-
-false_true : false ≡ true → ⊥
-false_true h = cc
-
-and_left : (a b : Bool) → (a && b) ≡ true → a ≡ true
-and_left true b h = refl
-and_left false b h = absurd (false_true h)
-
-some_row : {A : Type 0} (q : Option A) → is_some q ≡ true → (a : A) × (q ≡ Some a)
-some_row None there = absurd (false_true there)
-some_row (Some a) there = (a, refl)
 
 module _ (limits : Limits) (t : Tables) (now : ℕ) (flaw : Flaw) (s : Sound t) (o : Owners t) (m : Measures t) (i : IsBeside t) (ev : Event) (goes : denial t ev ≡ None) (real : IsReal limits t now ev flaw) where
   abbrev e : Entry

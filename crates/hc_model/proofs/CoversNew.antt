@@ -1,6 +1,6 @@
 -- Who becomes bound as the only one has all up to where its exchange goes on: nothing, or what is stored before its first hole.
 use Rattle.std.proofs.Common.{◌≡◌, ℕ, ◌-◌, ◌<◌, ◌≤◌, List, [], length, Bool, true, false, Option, Some, None, refl, ap, sym, ◌∙◌, subst, arith, min}
-use Rattle.std.specs.Prelude.{is_some, is_none, ◌&&◌, nat_eq}
+use Rattle.std.specs.Prelude.{is_some, is_none, nat_eq}
 use Rattle.std.proofs.lemmas.Bool.Decides.{nat_tests}
 use Rattle.hc_sparse.specs.Cells.{Cell, Covers}
 use Rattle.hc_range.specs.declared.range.Asked.{Asked}
@@ -44,6 +44,7 @@ use Rattle.hc_model.specs.RepresentationRows.{hole_start}
 use Rattle.hc_model.specs.Rows.{Tables, Exchange, Representation, Consumer}
 use Rattle.hc_model.specs.Sound.{Sound}
 use Rattle.hc_model.specs.Tables.{after_accepted}
+use Rattle.hc_model.proofs.Basics.{false_true, and_left, and_right, none_some}
 use Rattle.hc_model.proofs.BoundFrom.{IsRow, IsInterval, IsFounded, IsFirstHole}
 use Rattle.hc_model.proofs.BoundFrom as from
 use Rattle.hc_model.proofs.ExchangeFrom.{IsSame, IsHeaded}
@@ -60,20 +61,6 @@ use Rattle.hc_model.proofs.PartTold as told
 use Rattle.hc_model.proofs.Pens.{same_row}
 use Rattle.hc_model.proofs.PieceKeeps.{some_inj}
 use Rattle.hc_model.proofs.PollKeeps.{current_stays}
-
-none_some : {A : Type 0} (a : A) → None ≡ Some a → ⊥
-none_some a is = cc
-
-false_true : false ≡ true → ⊥
-false_true h = cc
-
-and_left : (a b : Bool) → (a && b) ≡ true → a ≡ true
-and_left true b h = refl
-and_left false b h = absurd (false_true h)
-
-and_right : (a b : Bool) → (a && b) ≡ true → b ≡ true
-and_right true b h = h
-and_right false b h = absurd (false_true h)
 
 head_inj : (a d : ℕ) (f g : Response) → event.Head a f ≡ event.Head d g → f ≡ g
 head_inj a d f g is = cc

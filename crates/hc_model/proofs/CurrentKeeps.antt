@@ -18,6 +18,7 @@ use Rattle.hc_model.specs.RepresentationRows.{representation_after, representati
 use Rattle.hc_model.specs.Exchanges.{family, exchange_at}
 use Rattle.hc_model.specs.Rows.{Tables, Exchange, Representation}
 use Rattle.hc_model.specs.Sound.{Sound, Among}
+use Rattle.hc_model.proofs.Basics.{or_left, or_right, or_false}
 use Rattle.hc_model.proofs.HoleLemmas.{bool_cases}
 use Rattle.hc_model.proofs.PieceKeeps.{some_inj}
 
@@ -91,21 +92,7 @@ was_or_founded t e r (Some v) u row h =
     let is = some_inj (representation_acted t e r v (representation_heard t e r e.event v)) u h in
     was v row (sym (ap (λ (z : Representation). z.key) is) ∙ s.key_is) (sym (ap (λ (z : Representation). z.is_gone) is) ∙ ap (λ b. becomes_gone t e r v || b) s.gone_is)
 
-or_false : (a b : Bool) → (a || b) ≡ false → (a ≡ false) × (b ≡ false)
-or_false false false h = (refl, refl)
-or_false false true h = absurd (let never : true ≡ false = h in cc)
-or_false true b h = absurd (let never : true ≡ false = h in cc)
-
 -- WHAT FOUNDS REPLACES WHAT IS CURRENT
-
-or_left : (a b : Bool) → a ≡ true → (a || b) ≡ true
-or_left true b h = refl
-or_left false b h = absurd (let never : false ≡ true = h in cc)
-
-or_right : (a b : Bool) → b ≡ true → (a || b) ≡ true
-or_right true b h = refl
-or_right false true h = refl
-or_right false false h = absurd (let never : false ≡ true = h in cc)
 
 replaces : (t : Tables) (e : Entry) (q : ℕ) (w : Exchange) (c : HeadCase) → is_founding (Some c) ≡ true → is_current_of t w q ≡ true → goes_by_case t e q (Some c) w ≡ true
 replaces t e q w case.FoundsWhole is now = now

@@ -14,12 +14,7 @@ use Rattle.hc_model.specs.Failures.{becomes_due, cause_of_stop, cause_of_loss, c
 use Rattle.hc_model.specs.Reading.{source, reads}
 use Rattle.hc_model.specs.Rows.{Tables, Representation, Consumer}
 use Rattle.hc_model.specs.Writers.{loses_writing}
-
-false_true : false ≡ true → ⊥
-false_true h = cc
-
-some_none : {A : Type 0} (a : A) → Some a ≡ None → ⊥
-some_none a h = cc
+use Rattle.hc_model.proofs.Basics.{some_none}
 
 -- the parts of what becomes due
 pub record IsUndue (t : Tables) (e : Entry) (c : ℕ) (k : Consumer) : Type 0 where

@@ -35,6 +35,7 @@ use Rattle.hc_model.specs.Rows.{Tables, Exchange, Representation, Consumer}
 use Rattle.hc_model.specs.Sound.{Sound}
 use Rattle.hc_model.specs.Sound as sound
 use Rattle.hc_model.specs.Tables.{after_accepted}
+use Rattle.hc_model.proofs.Basics.{false_true, none_some}
 use Rattle.hc_model.proofs.BoundFrom.{BoundFrom, IsRow, IsInterval, IsShown, IsFounded, bound_from}
 use Rattle.hc_model.proofs.BoundFrom as from
 use Rattle.hc_model.proofs.BoundKeeps.{shown_place_is}
@@ -47,12 +48,6 @@ use Rattle.hc_model.proofs.RepFrom as rep
 use Rattle.hc_model.proofs.Said.{IsShowing, showing_by}
 use Rattle.hc_model.proofs.ShownFrom.{ShownAs, IsPlanned, shown_from}
 use Rattle.hc_model.proofs.ShownFrom as shown_as
-
-none_some : {A : Type 0} (a : A) → None ≡ Some a → ⊥
-none_some a is = cc
-
-false_true : false ≡ true → ⊥
-false_true h = cc
 
 -- A SPAN THAT IS WANTED
 

@@ -8,6 +8,7 @@ use Rattle.hc_event.specs.declared.event.Response.{Response}
 use Rattle.hc_model.specs.Entries.{Entry}
 use Rattle.hc_model.specs.ExchangeRows.{exchange_after, exchange_heard, exchange_acted, exchange_made, exchange_opened, joined_at}
 use Rattle.hc_model.specs.Rows.{Tables, Exchange}
+use Rattle.hc_model.proofs.Basics.{false_true, and_right, none_some, some_none}
 use Rattle.hc_model.proofs.PieceKeeps.{eq_cases, some_inj}
 
 -- its head comes, by which it may join what it is about
@@ -35,19 +36,6 @@ pub record IsSame (t : Tables) (e : Entry) (x : ℕ) (w u : Exchange) : Type 0 w
 pub data ExchangeFrom (t : Tables) (e : Entry) (x : ℕ) (u : Exchange) : Type 0 where
   was : (w : Exchange) → t.exchange x ≡ Some w → IsSame t e x w u → ExchangeFrom t e x u
   new : (o : Opening) → t.exchange x ≡ None → opening_in e.acts ≡ Some o → o.x ≡ x → exchange_opened t e o ≡ u → ExchangeFrom t e x u
-
-false_true : false ≡ true → ⊥
-false_true is = cc
-
-some_none : {A : Type 0} (a : A) → Some a ≡ None → ⊥
-some_none a h = cc
-
-none_some : {A : Type 0} (a : A) → None ≡ Some a → ⊥
-none_some a h = cc
-
-and_right : (a b : Bool) → (a && b) ≡ true → b ≡ true
-and_right true b h = h
-and_right false b h = absurd (false_true h)
 
 not_left : (a b : Bool) → (not a && b) ≡ true → a ≡ false
 not_left true b h = absurd (false_true h)

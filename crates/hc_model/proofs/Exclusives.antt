@@ -8,20 +8,10 @@ use Rattle.hc_model.specs.Rows.{Tables, Representation, Consumer}
 use Rattle.hc_model.specs.Sound.{Among, IsBound, IsFirst}
 use Rattle.hc_model.specs.Sound as sound
 use Rattle.hc_model.specs.Writers.{may_write, has_more, came_alone, bound_kind, bound_as, exclusive}
+use Rattle.hc_model.proofs.Basics.{false_true, and_left, and_right}
 use Rattle.hc_model.proofs.HadKeeps.{among_least}
 use Rattle.hc_model.proofs.HasBound.{reader_of}
 use Rattle.hc_model.proofs.HoleLemmas.{bool_cases}
-
-false_true : false ≡ true → ⊥
-false_true h = cc
-
-and_left : (a b : Bool) → (a && b) ≡ true → a ≡ true
-and_left true b h = refl
-and_left false b h = absurd (false_true h)
-
-and_right : (a b : Bool) → (a && b) ≡ true → b ≡ true
-and_right true b h = h
-and_right false b h = absurd (false_true h)
 
 none_of : {A : Type 0} (o : Option A) → is_none o ≡ true → o ≡ None
 none_of None h = refl

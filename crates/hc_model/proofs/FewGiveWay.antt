@@ -27,12 +27,9 @@ use Rattle.hc_model.specs.Rows.{Tables, Exchange, Representation}
 use Rattle.hc_model.specs.Weights.{weight, weight_in, weights, idle, is_idle, stays_current, evicted, first_idle, room_for, room_by, write_in, write_of_piece, piece_write}
 use Rattle.hc_model.proofs.ActParts.{IsAnswer, IsSaid, answer_is, said_is}
 use Rattle.hc_model.proofs.ActParts as parts
+use Rattle.hc_model.proofs.Basics.{and_left, none_some}
 use Rattle.hc_model.proofs.HoleLemmas.{bool_cases}
-use Rattle.hc_model.proofs.KeyNames.{and_left}
 use Rattle.hc_model.proofs.PieceKeeps.{some_inj}
-
-none_some : {A : Type 0} (a : A) → None ≡ Some a → ⊥
-none_some a h = cc
 
 -- HOW MANY
 

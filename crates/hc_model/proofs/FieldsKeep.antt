@@ -1,6 +1,6 @@
 -- No length stands among the fields of a stored head, and they stay modest.
 use Rattle.std.proofs.Common.{◌≡◌, ◌≢◌, inl, inr, ℕ, ◌≤◌, List, [], ◌∷◌, length, Bool, true, false, refl, ap, sym, ◌∙◌, arith}
-use Rattle.std.specs.Prelude.{◌&&◌, bytes_eq, nat_le, nat_lt, if◌then◌else◌, codes}
+use Rattle.std.specs.Prelude.{bytes_eq, nat_le, nat_lt, if◌then◌else◌, codes}
 use Rattle.std.specs.List.{list_any}
 use Rattle.std.proofs.lemmas.Bool.Decides.{nat_tests}
 use Rattle.hc_fields.specs.FieldList.{values_of, has_name, put, without, size_of}
@@ -11,19 +11,9 @@ use Rattle.hc_validate.specs.Heads.{FieldPairs}
 use Rattle.hc_validate.specs.Updates.{fixed_names, is_fixed, taken, is_renewed, with_all, left_by, replaced, is_modest, updated}
 use Rattle.hc_validate.proofs.Settings.{length-without, size_of-without}
 use Rattle.hc_model.specs.Heads.{kept_fields}
+use Rattle.hc_model.proofs.Basics.{false_true, and_left, and_right}
 use Rattle.hc_model.proofs.HoleLemmas.{bool_cases}
 use Rattle.hc_model.proofs.KeyNames.{not_true}
-
-false_true : false ≡ true → ⊥
-false_true h = cc
-
-and_left : (a b : Bool) → (a && b) ≡ true → a ≡ true
-and_left true b h = refl
-and_left false b h = absurd (false_true h)
-
-and_right : (a b : Bool) → (a && b) ≡ true → b ≡ true
-and_right true b h = h
-and_right false b h = absurd (false_true h)
 
 -- A NAME THAT NO UPDATE CHANGES
 

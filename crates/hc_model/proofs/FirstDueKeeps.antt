@@ -24,6 +24,7 @@ use Rattle.hc_model.specs.Sound.{Sound, IsBound, IsFirst}
 use Rattle.hc_model.specs.Sound as sound
 use Rattle.hc_model.specs.Tables.{after_accepted}
 use Rattle.hc_model.specs.Writers.{came_alone}
+use Rattle.hc_model.proofs.Basics.{false_true}
 use Rattle.hc_model.proofs.BoundFrom.{BoundFrom, IsRow, IsShown, bound_from}
 use Rattle.hc_model.proofs.BoundFrom as from
 use Rattle.hc_model.proofs.BoundKeeps.{shown_place_is}
@@ -34,9 +35,6 @@ use Rattle.hc_model.proofs.OwnersKeep.{is_opened}
 use Rattle.hc_model.proofs.PieceKeeps.{eq_cases}
 use Rattle.hc_model.proofs.Pens.{same_row, bound_some}
 use Rattle.hc_model.proofs.Said.{showing_by}
-
-false_true : false ≡ true → ⊥
-false_true h = cc
 
 module _ (limits : Limits) (t : Tables) (now : ℕ) (flaw : Flaw) (s : Sound t) (o : Owners t) (ev : Event) (goes : denial t ev ≡ None) where
   abbrev e : Entry

@@ -46,6 +46,7 @@ use Rattle.hc_model.specs.Sound.{Sound, Among, IsBound}
 use Rattle.hc_model.specs.Sound as sound
 use Rattle.hc_model.specs.Tables.{founds, added, after_accepted}
 use Rattle.hc_model.specs.Weights.{weight, weight_in, weights, idle, is_idle, is_replacing, moves_on, stays_bound, stays_current, room_by, room_for, write_in, write_of_piece, piece_write, first_idle, evicted}
+use Rattle.hc_model.proofs.Basics.{false_true, true_false, and_left, and_right, or_false, none_some, some_row, number_yes}
 use Rattle.hc_model.proofs.BoundFrom.{BoundFrom, IsRow, bound_from, place_inj}
 use Rattle.hc_model.proofs.BoundFrom as from
 use Rattle.hc_model.proofs.BoundKeeps.{planned_at}
@@ -69,34 +70,9 @@ use Rattle.hc_model.proofs.ToBeShown.{heard_place}
 use Rattle.hc_model.proofs.Weighed.{IsHeld, held, held_in, total, held_is, held_most, held_none, IsFilled, sized, goes_more, case_same}
 use Rattle.hc_model.proofs.Weighed as weighed
 
-none_some : {A : Type 0} (a : A) → None ≡ Some a → ⊥
-none_some a is = cc
-
-false_true : false ≡ true → ⊥
-false_true h = cc
-
-true_false : true ≡ false → ⊥
-true_false h = cc
-
-and_left : (a b : Bool) → (a && b) ≡ true → a ≡ true
-and_left true b h = refl
-and_left false b h = absurd (false_true h)
-
-and_right : (a b : Bool) → (a && b) ≡ true → b ≡ true
-and_right true b h = h
-and_right false b h = absurd (false_true h)
-
-or_false : (a b : Bool) → (a || b) ≡ false → (a ≡ false) × (b ≡ false)
-or_false false b h = (refl, h)
-or_false true b h = absurd (true_false h)
-
 not_false : (b : Bool) → not b ≡ true → b ≡ false
 not_false true h = absurd (false_true h)
 not_false false h = refl
-
-some_row : {A : Type 0} (q : Option A) → is_some q ≡ true → (a : A) × (q ≡ Some a)
-some_row None there = absurd (false_true there)
-some_row (Some a) there = (a, refl)
 
 any_none : (test : ℕ → Bool) (c : ℕ) (cs : List ℕ) → Among c cs → list_any test cs ≡ false → test c ≡ false
 any_none test c [] among h = absurd among
@@ -303,7 +279,7 @@ module _ (limits : Limits) (t : Tables) (now : ℕ) (flaw : Flaw) (s : Sound t) 
         by_test false more off = refl
 
         now_current : is_current t v.key r ≡ true
-        now_current = weighed.number_yes (Rattle.hc_model.specs.Currents.current t v.key) r (Rattle.hc_model.proofs.CurrentKeeps.current_is t v.key r v s there refl not_gone)
+        now_current = number_yes (Rattle.hc_model.specs.Currents.current t v.key) r (Rattle.hc_model.proofs.CurrentKeeps.current_is t v.key r v s there refl not_gone)
     still_stays r v there (stays c lo hi how k u row at stands) =
         let among = among_bound t r c k s (sound.is_bound lo hi how row.row at) in
         let unmoved : moves_on t e0 c ≡ false = by_test (moves_on t e0 c) (moves_on_not c r lo hi how k u v lossless there row stands unpolled) in

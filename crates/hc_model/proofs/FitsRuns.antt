@@ -33,6 +33,7 @@ use Rattle.hc_model.specs.Runs.{IsOwed}
 use Rattle.hc_model.specs.Sound.{Sound, Among}
 use Rattle.hc_model.specs.Tables.{tables, begun, loaded, numbers, bytes_in, founds, added, is_hole, is_reading, binds, binds_by_opening, binds_by_showing, to_front, after_accepted, after_denied}
 use Rattle.hc_model.specs.Weights.{weights}
+use Rattle.hc_model.proofs.Basics.{false_true, and_left, and_right, none_some}
 use Rattle.hc_model.proofs.BoundKeeps.{planned_at, shown_place_is}
 use Rattle.hc_model.proofs.FewGiveWay.{few_give_way}
 use Rattle.hc_model.proofs.FirstKeeps.{is_new}
@@ -50,20 +51,6 @@ use Rattle.hc_model.proofs.ShownFrom as shown_as
 use Rattle.hc_model.proofs.RunFacts.{in_runs}
 use Rattle.hc_model.proofs.Sums.{AreOnce, filter_among, filter_once, reverse_among, reverse_once, reverse_sum}
 use Rattle.hc_model.proofs.Weighed.{held, held_in, is_held, total, weights_most}
-
-none_some : {A : Type 0} (a : A) → None ≡ Some a → ⊥
-none_some a is = cc
-
-false_true : false ≡ true → ⊥
-false_true h = cc
-
-and_left : (a b : Bool) → (a && b) ≡ true → a ≡ true
-and_left true b h = refl
-and_left false b h = absurd (false_true h)
-
-and_right : (a b : Bool) → (a && b) ≡ true → b ≡ true
-and_right true b h = h
-and_right false b h = absurd (false_true h)
 
 find_among : (test : ℕ → Bool) (xs : List ℕ) (r : ℕ) → find test xs ≡ Some r → Among r xs
 find_among test [] r h = absurd (none_some r h)

@@ -11,6 +11,7 @@ use Rattle.hc_rules.specs.HeadCases.{head_case, case_on, direct_case, turn_case,
 use Rattle.hc_rules.specs.Needs.{route_of}
 use Rattle.hc_rules.proofs.Cond.{either}
 use Rattle.hc_model.specs.Cases.{is_founding}
+use Rattle.hc_model.proofs.Basics.{not_true}
 
 -- the route that a case is of, and whether its consumer was shown a head
 pub record IsWay (v : HeadView) (way : Route) (shown : Bool) : Type 0 where
@@ -47,10 +48,6 @@ right false b h = absurd (let never : false ≡ true = h in cc)
 
 is_number : (a b : ℕ) → (a == b) ≡ true → a ≡ b
 is_number a b h = let test : nat_eq a b ≡ true = h in grind (arith, nat_tests)
-
-not_true : (b : Bool) → not b ≡ true → b ≡ false
-not_true true h = absurd (let never : false ≡ true = h in cc)
-not_true false h = refl
 
 module _ (v : HeadView) where
   direct : route_of v.need ≡ route.Direct → CaseBy v (direct_case v)

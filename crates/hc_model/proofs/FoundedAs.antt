@@ -1,6 +1,6 @@
 -- What a head founds is written for several, has no byte, or is a part.
-use Rattle.std.proofs.Common.{◌≡◌, inl, inr, ℕ, Bool, true, false, Option, Some, None, refl, ap, sym, ◌∙◌, arith}
-use Rattle.std.specs.Prelude.{◌||◌, nat_eq}
+use Rattle.std.proofs.Common.{◌≡◌, inl, inr, ℕ, true, false, Option, Some, None, refl, ap, sym, ◌∙◌, arith}
+use Rattle.std.specs.Prelude.{nat_eq}
 use Rattle.std.proofs.lemmas.Bool.Decides.{nat_tests}
 use Rattle.hc_event.specs.declared.event.Event.{Event}
 use Rattle.hc_event.specs.declared.event.Event.TheVariants as event
@@ -31,6 +31,7 @@ use Rattle.hc_model.specs.Rows.{Tables, Exchange, Representation}
 use Rattle.hc_model.specs.Sound.{Sound}
 use Rattle.hc_model.specs.Tables.{after_accepted}
 use Rattle.hc_model.proofs.ApartKeeps.{written_by}
+use Rattle.hc_model.proofs.Basics.{or_left}
 use Rattle.hc_model.proofs.FirstKeeps.{case_is, is_new}
 use Rattle.hc_model.proofs.FoundBy.{FoundingBy, founding_by}
 use Rattle.hc_model.proofs.FoundBy as cases
@@ -40,13 +41,6 @@ use Rattle.hc_model.proofs.LossBy.{IsReal}
 use Rattle.hc_model.proofs.MeasuresKeep.{number_not, asker_by}
 use Rattle.hc_model.proofs.ServedKeeps.{none_promised}
 use Rattle.hc_model.proofs.Waiters.{waiter_of}
-
-false_true : false ≡ true → ⊥
-false_true h = cc
-
-or_left : (a b : Bool) → a ≡ true → (a || b) ≡ true
-or_left true b h = refl
-or_left false b h = absurd (false_true h)
 
 module _ (limits : Limits) (t : Tables) (now : ℕ) (flaw : Flaw) (s : Sound t) (o : Owners t) (m : Measures t) (ev : Event) (goes : denial t ev ≡ None) (real : IsReal limits t now ev flaw) where
   abbrev e : Entry

@@ -16,6 +16,7 @@ use Rattle.hc_model.specs.Owners.{Owners}
 use Rattle.hc_model.specs.Rows.{Tables, Exchange, Representation}
 use Rattle.hc_model.specs.Sound.{Sound}
 use Rattle.hc_model.specs.Tables.{after_accepted}
+use Rattle.hc_model.proofs.Basics.{false_true, none_some}
 use Rattle.hc_model.proofs.ExchangeFrom.{ExchangeFrom, IsHeaded, exchange_from}
 use Rattle.hc_model.proofs.ExchangeFrom as exchange
 use Rattle.hc_model.proofs.FirstKeeps.{case_is, is_new}
@@ -23,12 +24,6 @@ use Rattle.hc_model.proofs.HoleLemmas.{bool_cases}
 use Rattle.hc_model.proofs.LossStands.{not_founding}
 use Rattle.hc_model.proofs.RepFrom.{RepFrom, rep_from}
 use Rattle.hc_model.proofs.RepFrom as rep
-
-false_true : false ≡ true → ⊥
-false_true h = cc
-
-none_some : {A : Type 0} (a : A) → None ≡ Some a → ⊥
-none_some a is = cc
 
 module _ (limits : Limits) (t : Tables) (now : ℕ) (flaw : Flaw) (s : Sound t) (o : Owners t) (ev : Event) (goes : denial t ev ≡ None) where
   abbrev e : Entry

@@ -29,14 +29,9 @@ use Rattle.hc_model.specs.Reads.{Delivers, answer_cell, cell_by, body_of, direct
 use Rattle.hc_model.specs.Rows.{Tables, Exchange, Representation, Consumer}
 use Rattle.hc_model.specs.Sound.{Sound, IsStored}
 use Rattle.hc_model.specs.Steps.{stored_from, stored_ahead, run_of, held_of_exchange, held_of_lost, held_at, held, read_view, most, later_hole, step_move, reading}
+use Rattle.hc_model.proofs.Basics.{none_some}
 use Rattle.hc_model.proofs.HoleLemmas.{bool_cases}
 use Rattle.hc_model.proofs.PieceKeeps.{some_inj}
-
-none_some : {A : Type 0} (a : A) → None ≡ Some a → ⊥
-none_some a is = cc
-
-false_true : false ≡ true → ⊥
-false_true h = cc
 
 -- A STRETCH
 

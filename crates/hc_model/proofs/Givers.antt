@@ -1,5 +1,5 @@
 -- A poll that gives is one of a reader, and wants something.
-use Rattle.std.proofs.Common.{◌≡◌, inl, inr, ℕ, zero, suc, ◌<◌, true, false, None, ap, sym, ◌∙◌, arith}
+use Rattle.std.proofs.Common.{◌≡◌, inl, inr, ℕ, zero, suc, ◌<◌, true, None, ap, sym, ◌∙◌, arith}
 use Rattle.std.specs.Prelude.{nat_lt}
 use Rattle.hc_sparse.specs.declared.run.Run.{Run}
 use Rattle.hc_event.specs.declared.act.Wait.TheVariants as wait
@@ -11,13 +11,11 @@ use Rattle.hc_model.specs.Moves as moves
 use Rattle.hc_model.specs.Moves.{Move, Nothing, Gives, Fails}
 use Rattle.hc_model.specs.Rows.{Tables, Consumer}
 use Rattle.hc_model.specs.Steps.{reading}
+use Rattle.hc_model.proofs.Basics.{false_true}
 use Rattle.hc_model.proofs.HoleLemmas.{bool_cases}
 use Rattle.hc_model.proofs.MoveBy.{MoveBy}
 use Rattle.hc_model.proofs.MoveBy as by_move
 use Rattle.hc_model.proofs.Once.{never}
-
-false_true : false ≡ true → ⊥
-false_true h = cc
 
 module _ (t : Tables) (c : ℕ) where
   zero_refused : denial t (event.Poll c 0) ≡ None → ⊥

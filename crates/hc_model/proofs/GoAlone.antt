@@ -1,8 +1,7 @@
 -- After an entry whoever goes on alone does so soundly.
-use Rattle.std.proofs.Common.{◌≡◌, ◌⊎◌, inl, inr, ℕ, ◌+◌, ◌<◌, ◌≤◌, List, [], ◌∷◌, length, Bool, true, false, Option, Some, None, refl, ap, sym, ◌∙◌, subst, arith, length-append}
-use Rattle.std.specs.Prelude.{if◌then◌else◌, is_some, ◌&&◌, ◌||◌, not}
+use Rattle.std.proofs.Common.{◌≡◌, ◌⊎◌, inl, inr, ℕ, ◌+◌, ◌≤◌, List, [], ◌∷◌, length, Bool, true, false, Option, Some, None, refl, ap, sym, ◌∙◌, subst, arith, length-append}
+use Rattle.std.specs.Prelude.{if◌then◌else◌, is_some, ◌||◌, not}
 use Rattle.std.specs.Option.{option_and_then}
-use Rattle.std.proofs.lemmas.Bool.Decides.{nat_tests}
 use Rattle.hc_sparse.specs.Cells.{Cells, Covers, written}
 use Rattle.hc_sparse.proofs.CellLemmas.{inside-past}
 use Rattle.hc_event.specs.Filters.{Opening, opening_in}
@@ -36,6 +35,7 @@ use Rattle.hc_model.specs.Sound as sound
 use Rattle.hc_model.specs.Tables.{after_accepted}
 use Rattle.hc_model.specs.Writers.{brings_body, has_more, lacks_some}
 use Rattle.hc_model.proofs.AboutKeeps.{own_open_of}
+use Rattle.hc_model.proofs.Basics.{false_true, true_false, and_left, and_right, none_some, some_row, split}
 use Rattle.hc_model.proofs.Beside.{IsBeside, goes_on_at}
 use Rattle.hc_model.proofs.BoundFrom.{BoundFrom, IsRow, IsShown, bound_from}
 use Rattle.hc_model.proofs.BoundFrom as from
@@ -78,30 +78,6 @@ use Rattle.hc_model.proofs.StoreKeeps.{stores_are_kept}
 use Rattle.hc_model.proofs.Survives.{goes_on}
 use Rattle.hc_model.proofs.ToBeShown.{heard_place}
 use Rattle.hc_model.proofs.TogetherHeads as together
-
-none_some : {A : Type 0} (a : A) → None ≡ Some a → ⊥
-none_some a is = cc
-
-false_true : false ≡ true → ⊥
-false_true h = cc
-
-true_false : true ≡ false → ⊥
-true_false h = cc
-
-split : (a b : ℕ) → (a < b) ⊎ (b ≤ a)
-split a b = grind (arith, nat_tests)
-
-some_row : {A : Type 0} (q : Option A) → is_some q ≡ true → (a : A) × (q ≡ Some a)
-some_row None there = absurd (false_true there)
-some_row (Some a) there = (a, refl)
-
-and_left : (a b : Bool) → (a && b) ≡ true → a ≡ true
-and_left true b h = refl
-and_left false b h = absurd (false_true h)
-
-and_right : (a b : Bool) → (a && b) ≡ true → b ≡ true
-and_right true b h = h
-and_right false b h = absurd (false_true h)
 
 -- where something is lost, there is a loss
 loses_some : (r : ℕ) (acts : List Act) → loses_in r acts ≡ true → has_loss acts ≡ true

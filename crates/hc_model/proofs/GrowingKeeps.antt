@@ -18,7 +18,7 @@ use Rattle.hc_rules.specs.Lengths.{length_of, base_of, promise_of}
 use Rattle.hc_rules.specs.Needs.{route_of}
 use Rattle.hc_model.specs.ActFilters.{has_loss, loses_in}
 use Rattle.hc_model.specs.Cases.{case_at, head_view, is_joining}
-use Rattle.hc_model.specs.Currents.{is_number, row_of}
+use Rattle.hc_model.specs.Currents.{row_of}
 use Rattle.hc_model.specs.Denials.{denial}
 use Rattle.hc_model.specs.Entries.{Entry}
 use Rattle.hc_model.specs.ExchangeRows.{exchange_heard, exchange_acted, promise_in}
@@ -36,6 +36,7 @@ use Rattle.hc_model.specs.Runs.{may_stand}
 use Rattle.hc_model.specs.Sound.{Sound, IsGrowing, InHole, end_from}
 use Rattle.hc_model.specs.Tables.{after_accepted}
 use Rattle.hc_model.proofs.ApartKeeps.{IsOn, is_on, was_written}
+use Rattle.hc_model.proofs.Basics.{false_true, and_left, and_right, none_some, number_is}
 use Rattle.hc_model.proofs.ExchangeFrom.{IsSame, IsHeaded}
 use Rattle.hc_model.proofs.Fills.{Fills, fills, Brings, brings, length_same}
 use Rattle.hc_model.proofs.Fills as fills_by
@@ -52,24 +53,6 @@ use Rattle.hc_model.proofs.PieceKeeps.{some_inj}
 use Rattle.hc_model.proofs.Pens.{same_row}
 use Rattle.hc_model.proofs.RepFrom.{RepFrom, rep_from, IsKept, IsResumed}
 use Rattle.hc_model.proofs.RepFrom as rep
-
-false_true : false ≡ true → ⊥
-false_true h = cc
-
-none_some : {A : Type 0} (a : A) → None ≡ Some a → ⊥
-none_some a is = cc
-
-and_left : (a b : Bool) → (a && b) ≡ true → a ≡ true
-and_left true b h = refl
-and_left false b h = absurd (false_true h)
-
-and_right : (a b : Bool) → (a && b) ≡ true → b ≡ true
-and_right true b h = h
-and_right false b h = absurd (false_true h)
-
-number_is : (o : Option ℕ) (n : ℕ) → is_number o n ≡ true → o ≡ Some n
-number_is None n h = absurd (false_true h)
-number_is (Some m) n h = let same : m ≡ n = grind (arith, nat_tests) in ap Some same
 
 -- what covers from the first position on isn't past the reach
 covers_reach : (f : Cells) (reach hi : ℕ) → covers f reach 0 hi ≡ true → hi ≤ reach

@@ -20,6 +20,7 @@ use Rattle.hc_model.specs.Runs.{IsOwed}
 use Rattle.hc_model.specs.Sound.{Sound}
 use Rattle.hc_model.specs.Tables.{tables, after_accepted, after_denied}
 use Rattle.hc_model.proofs.Barred.{next_tables, denied_tables}
+use Rattle.hc_model.proofs.Basics.{false_true, and_left, and_right, none_some}
 use Rattle.hc_model.proofs.ExchangeFrom.{IsSame, IsHeaded}
 use Rattle.hc_model.proofs.Fills.{Brings, brings, length_same}
 use Rattle.hc_model.proofs.Fills as fills_by
@@ -33,20 +34,6 @@ use Rattle.hc_model.proofs.RepFrom.{RepFrom, rep_from}
 use Rattle.hc_model.proofs.RepFrom as rep
 use Rattle.hc_model.proofs.SoundRuns.{runs_are_sound}
 use Rattle.hc_model.proofs.Stays.{bodies_are_kept}
-
-none_some : {A : Type 0} (a : A) → None ≡ Some a → ⊥
-none_some a is = cc
-
-false_true : false ≡ true → ⊥
-false_true h = cc
-
-and_left : (a b : Bool) → (a && b) ≡ true → a ≡ true
-and_left true b h = refl
-and_left false b h = absurd (false_true h)
-
-and_right : (a b : Bool) → (a && b) ≡ true → b ≡ true
-and_right true b h = h
-and_right false b h = absurd (false_true h)
 
 -- AN ANSWER PAST THE STORE
 

@@ -48,6 +48,7 @@ use Rattle.hc_model.specs.Tables.{after_accepted}
 use Rattle.hc_model.specs.Writers.{came_alone, status_in, loses_writing}
 use Rattle.hc_model.proofs.AboutKeeps.{own_open_is}
 use Rattle.hc_model.proofs.ApartKeeps.{written_by}
+use Rattle.hc_model.proofs.Basics.{false_true, and_left, and_right, and_both, or_left, or_right, or_false, not_so, not_true, none_some}
 use Rattle.hc_model.proofs.Dues.{due_none}
 use Rattle.hc_model.proofs.ExchangeFrom.{ExchangeFrom, IsSame, IsHeaded, exchange_from}
 use Rattle.hc_model.proofs.ExchangeFrom as exchange
@@ -68,45 +69,6 @@ use Rattle.hc_model.proofs.RepFrom.{RepFrom, rep_from, IsKept}
 use Rattle.hc_model.proofs.RepFrom as rep
 use Rattle.hc_model.proofs.UndueKeeps.{waits_undue, founder_undue, no_cause}
 use Rattle.hc_model.proofs.Waiters.{IsWaiter, waiter_of, unwritten}
-
-false_true : false ≡ true → ⊥
-false_true h = cc
-
-none_some : {A : Type 0} (a : A) → None ≡ Some a → ⊥
-none_some a is = cc
-
-and_left : (a b : Bool) → (a && b) ≡ true → a ≡ true
-and_left true b h = refl
-and_left false b h = absurd (false_true h)
-
-and_right : (a b : Bool) → (a && b) ≡ true → b ≡ true
-and_right true b h = h
-and_right false b h = absurd (false_true h)
-
-and_both : (a b : Bool) → a ≡ true → b ≡ true → (a && b) ≡ true
-and_both true b p q = q
-and_both false b p q = absurd (false_true p)
-
-or_left : (a b : Bool) → a ≡ true → (a || b) ≡ true
-or_left true b h = refl
-or_left false b h = absurd (false_true h)
-
-or_right : (a b : Bool) → b ≡ true → (a || b) ≡ true
-or_right true b h = refl
-or_right false b h = h
-
-or_false : (a b : Bool) → (a || b) ≡ false → (a ≡ false) × (b ≡ false)
-or_false false false h = (refl, refl)
-or_false false true h = absurd (let no : true ≡ false = h in cc)
-or_false true b h = absurd (let no : true ≡ false = h in cc)
-
-not_true : (b : Bool) → not b ≡ true → b ≡ false
-not_true true h = absurd (false_true h)
-not_true false h = refl
-
-not_so : (b : Bool) → (b ≡ true → ⊥) → b ≡ false
-not_so true off = absurd (off refl)
-not_so false off = refl
 
 -- where nothing is lost, r isn't
 lossless_none : (r : ℕ) (acts : List Act) → has_loss acts ≡ false → loses_in r acts ≡ false

@@ -1,6 +1,6 @@
 -- Whose an open exchange is that is about a representation: the writing's, or that of the one who has the pen.
 use Rattle.std.proofs.Common.{◌≡◌, ◌⊎◌, inl, inr, ℕ, ◌<◌, ◌≤◌, List, [], ◌∷◌, Bool, true, false, cond, Option, Some, None, refl, ap, sym, ◌∙◌, subst, arith, min}
-use Rattle.std.specs.Prelude.{if◌then◌else◌, is_some, is_none, ◌&&◌, ◌||◌, nat_eq, nat_le, map, filter}
+use Rattle.std.specs.Prelude.{if◌then◌else◌, is_some, is_none, nat_le, map, filter}
 use Rattle.std.specs.Option.{option_or}
 use Rattle.std.proofs.lemmas.Bool.Decides.{nat_tests}
 use Rattle.hc_event.specs.Filters.{Opening, opening_in, leaves_in}
@@ -41,6 +41,7 @@ use Rattle.hc_model.specs.Tables.{after_accepted}
 use Rattle.hc_model.specs.Writers.{brings_body, came_alone, loses_writing, survivor, member, may_write}
 use Rattle.hc_model.proofs.AboutKeeps.{own_open_of, own_open_is}
 use Rattle.hc_model.proofs.ApartKeeps.{written_by, is_on}
+use Rattle.hc_model.proofs.Basics.{false_true, and_left, and_right, and_both, or_left, or_right, not_so, none_some, some_none, number_is, number_yes}
 use Rattle.hc_model.proofs.BoundStays.{Stays, bound_stays}
 use Rattle.hc_model.proofs.Closed.{before}
 use Rattle.hc_model.proofs.Dues.{undue_of, stop_none, other_stop, loss_at, due_none}
@@ -69,47 +70,6 @@ use Rattle.hc_model.proofs.UndueKeeps.{waits_undue}
 use Rattle.hc_model.proofs.WaitingKeeps.{stands, stays_on, unmet}
 use Rattle.hc_model.proofs.Waiters.{IsWaiter, waiter_of, unwritten, head_is_own}
 use Rattle.hc_model.proofs.WriterEnds.{loses_same}
-
-false_true : false ≡ true → ⊥
-false_true h = cc
-
-none_some : {A : Type 0} (a : A) → None ≡ Some a → ⊥
-none_some a is = cc
-
-some_none : {A : Type 0} (a : A) → Some a ≡ None → ⊥
-some_none a is = cc
-
-and_left : (a b : Bool) → (a && b) ≡ true → a ≡ true
-and_left true b h = refl
-and_left false b h = absurd (false_true h)
-
-and_right : (a b : Bool) → (a && b) ≡ true → b ≡ true
-and_right true b h = h
-and_right false b h = absurd (false_true h)
-
-and_both : (a b : Bool) → a ≡ true → b ≡ true → (a && b) ≡ true
-and_both true b p q = q
-and_both false b p q = absurd (false_true p)
-
-or_left : (a b : Bool) → a ≡ true → (a || b) ≡ true
-or_left true b h = refl
-or_left false b h = absurd (false_true h)
-
-or_right : (a b : Bool) → b ≡ true → (a || b) ≡ true
-or_right true b h = refl
-or_right false b h = h
-
-not_so : (b : Bool) → (b ≡ true → ⊥) → b ≡ false
-not_so true off = absurd (off refl)
-not_so false off = refl
-
-number_is : (o : Option ℕ) (n : ℕ) → is_number o n ≡ true → o ≡ Some n
-number_is None n h = absurd (false_true h)
-number_is (Some m) n h = let same : m ≡ n = grind (arith, nat_tests) in ap Some same
-
-pub number_yes : (o : Option ℕ) (n : ℕ) → o ≡ Some n → is_number o n ≡ true
-number_yes None n is = absurd (none_some n is)
-number_yes (Some m) n is = let same : m ≡ n = some_inj m n is in let test : nat_eq m n ≡ true = grind (arith, nat_tests) in test
 
 -- WHO SURVIVES
 

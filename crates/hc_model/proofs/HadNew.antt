@@ -1,6 +1,6 @@
 -- Whose an exchange is that is opened for a hole, or whose head comes.
 use Rattle.std.proofs.Common.{◌≡◌, ℕ, Bool, true, false, Option, Some, None, refl, ap, sym, ◌∙◌, subst}
-use Rattle.std.specs.Prelude.{is_some, ◌&&◌, ◌||◌}
+use Rattle.std.specs.Prelude.{is_some}
 use Rattle.hc_event.specs.Filters.{Opening, opening_in}
 use Rattle.hc_event.specs.declared.event.Event.{Event}
 use Rattle.hc_event.specs.declared.event.Event.TheVariants as event
@@ -31,6 +31,7 @@ use Rattle.hc_model.specs.Sound as sound
 use Rattle.hc_model.specs.Tables.{after_accepted}
 use Rattle.hc_model.specs.Writers.{brings_body, came_alone}
 use Rattle.hc_model.proofs.AboutKeeps.{own_open_is}
+use Rattle.hc_model.proofs.Basics.{false_true, none_some, some_none}
 use Rattle.hc_model.proofs.BoundFrom.{BoundFrom, IsRow, bound_from}
 use Rattle.hc_model.proofs.BoundFrom as from
 use Rattle.hc_model.proofs.BoundKeeps.{opens_none}
@@ -49,31 +50,6 @@ use Rattle.hc_model.proofs.RepFrom as rep
 use Rattle.hc_model.proofs.Said.{IsOpening, opening_by, showing_by}
 use Rattle.hc_model.proofs.ServedKeeps.{kept_alone}
 use Rattle.hc_model.proofs.WaitingKeeps.{waiting_kept}
-
-false_true : false ≡ true → ⊥
-false_true h = cc
-
-none_some : {A : Type 0} (a : A) → None ≡ Some a → ⊥
-none_some a is = cc
-
-some_none : {A : Type 0} (a : A) → Some a ≡ None → ⊥
-some_none a is = cc
-
-and_left : (a b : Bool) → (a && b) ≡ true → a ≡ true
-and_left true b h = refl
-and_left false b h = absurd (false_true h)
-
-and_right : (a b : Bool) → (a && b) ≡ true → b ≡ true
-and_right true b h = h
-and_right false b h = absurd (false_true h)
-
-or_left : (a b : Bool) → a ≡ true → (a || b) ≡ true
-or_left true b h = refl
-or_left false b h = absurd (false_true h)
-
-or_right : (a b : Bool) → b ≡ true → (a || b) ≡ true
-or_right true b h = refl
-or_right false b h = h
 
 some_of : (q : Option Response) → is_some q ≡ true → (response : Response) × (q ≡ Some response)
 some_of None g = absurd (false_true g)

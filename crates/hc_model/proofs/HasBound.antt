@@ -35,6 +35,7 @@ use Rattle.hc_model.specs.Sound as sound
 use Rattle.hc_model.specs.StartingOver.{starts_over, waits_at, sends_back, loses_what_it_waits_for}
 use Rattle.hc_model.specs.Tables.{after_accepted}
 use Rattle.hc_model.proofs.ApartKeeps.{is_on, was_written, founded_shared}
+use Rattle.hc_model.proofs.Basics.{false_true, and_left, and_right, and_both, or_cases, or_right, not_so, none_some, number_is}
 use Rattle.hc_model.proofs.BoundKeeps.{binds_kept}
 use Rattle.hc_model.proofs.Closed.{before, closes}
 use Rattle.hc_model.proofs.FirstKeeps.{case_is, is_new}
@@ -58,40 +59,6 @@ use Rattle.hc_rules.specs.HeadCases.{head_case}
 use Rattle.hc_model.specs.ActFilters.{has_loss}
 use Rattle.hc_model.specs.RepresentationRows.{writer_at}
 use Rattle.hc_model.proofs.Waiters.{IsWaiter, waiter_of}
-
-false_true : false ≡ true → ⊥
-false_true h = cc
-
-none_some : {A : Type 0} (a : A) → None ≡ Some a → ⊥
-none_some a is = cc
-
-and_left : (a b : Bool) → (a && b) ≡ true → a ≡ true
-and_left true b h = refl
-and_left false b h = absurd (false_true h)
-
-and_right : (a b : Bool) → (a && b) ≡ true → b ≡ true
-and_right true b h = h
-and_right false b h = absurd (false_true h)
-
-number_is : (o : Option ℕ) (n : ℕ) → is_number o n ≡ true → o ≡ Some n
-number_is None n h = absurd (false_true h)
-number_is (Some m) n h = let same : m ≡ n = grind (arith, nat_tests) in ap Some same
-
-or_cases : (a b : Bool) → (a || b) ≡ true → (a ≡ true) ⊎ (b ≡ true)
-or_cases true b h = inl refl
-or_cases false b h = inr h
-
-and_both : (a b : Bool) → a ≡ true → b ≡ true → (a && b) ≡ true
-and_both true b p q = q
-and_both false b p q = absurd (false_true p)
-
-or_right : (a b : Bool) → b ≡ true → (a || b) ≡ true
-or_right true b h = refl
-or_right false b h = h
-
-not_so : (b : Bool) → (b ≡ true → ⊥) → b ≡ false
-not_so true off = absurd (off refl)
-not_so false off = refl
 
 -- LISTS OF READERS
 

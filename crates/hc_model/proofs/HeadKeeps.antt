@@ -24,8 +24,9 @@ use Rattle.hc_rules.specs.HeadCases.{head_case}
 use Rattle.hc_rules.specs.declared.length.Length.{Length}
 use Rattle.hc_rules.specs.Lengths.{length_of, base_of, promise_of, is_bad}
 use Rattle.hc_model.specs.Sound as sound
+use Rattle.hc_model.proofs.Basics.{and_right}
 use Rattle.hc_model.proofs.Pens.{same_row}
-use Rattle.hc_model.proofs.PieceKeeps.{eq_cases, and_right, some_inj, ends_same}
+use Rattle.hc_model.proofs.PieceKeeps.{eq_cases, some_inj, ends_same}
 use Rattle.hc_model.proofs.QuietKeeps.{IsSame, IsKept, closed_only}
 use Rattle.hc_model.proofs.Joining.{MayJoin, may_join, IsFilling, filling, LiesIn, lies}
 use Rattle.hc_model.proofs.Joining as join

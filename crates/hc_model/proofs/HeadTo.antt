@@ -38,6 +38,7 @@ use Rattle.hc_model.specs.Sound.{Sound}
 use Rattle.hc_model.specs.Sound as sound
 use Rattle.hc_model.specs.StartingOver.{starts_over, waits_at, sends_back, loses_what_it_waits_for}
 use Rattle.hc_model.specs.Tables.{after_accepted}
+use Rattle.hc_model.proofs.Basics.{false_true, some_none}
 use Rattle.hc_model.proofs.BoundFrom.{IsRow, place_inj}
 use Rattle.hc_model.proofs.Dues.{due_before, undue_parts}
 use Rattle.hc_model.proofs.ExchangeFrom.{IsSame, IsHeaded}
@@ -50,19 +51,6 @@ use Rattle.hc_model.proofs.PartTold as told
 use Rattle.hc_model.proofs.Pens.{same_row}
 use Rattle.hc_model.proofs.ToBeShown.{heard_place}
 use Rattle.hc_model.proofs.Waiters.{IsWaiter, waiter_of}
-
-none_some : {A : Type 0} (a : A) → None ≡ Some a → ⊥
-none_some a is = cc
-
-some_none : {A : Type 0} (a : A) → Some a ≡ None → ⊥
-some_none a is = cc
-
-false_true : false ≡ true → ⊥
-false_true h = cc
-
-or_false : (a b : Bool) → (a || b) ≡ false → (a ≡ false) × (b ≡ false)
-or_false false b h = (refl, h)
-or_false true b h = absurd (let no : true ≡ false = h in cc)
 
 and_true : (a b : Bool) → a ≡ true → (a && b) ≡ false → b ≡ false
 and_true true b on h = h

@@ -1,7 +1,6 @@
 -- The holes for which exchanges are opened are absent.
-use Rattle.std.proofs.Common.{◌≡◌, ◌⊎◌, inl, inr, ℕ, ◌<◌, ◌≤◌, true, false, Some, None, sym, ◌∙◌, arith}
+use Rattle.std.proofs.Common.{◌≡◌, inl, inr, ℕ, ◌<◌, ◌≤◌, true, false, Some, None, sym, ◌∙◌, arith}
 use Rattle.std.specs.Prelude.{is_some}
-use Rattle.std.proofs.lemmas.Bool.Decides.{nat_tests}
 use Rattle.hc_range.specs.declared.range.Span.{Span}
 use Rattle.hc_sparse.specs.Cells.{Cells, EndsBy}
 use Rattle.hc_model.specs.Exchanges.{front}
@@ -10,6 +9,7 @@ use Rattle.hc_model.specs.Reading.{offset}
 use Rattle.hc_model.specs.Rows.{Tables, Representation, Consumer}
 use Rattle.hc_model.specs.Sound.{Sound, IsSoundRepresentation, IsAlone, HasPen, IsAbout}
 use Rattle.hc_model.specs.Sound as sound
+use Rattle.hc_model.proofs.Basics.{split}
 use Rattle.hc_model.proofs.HoleLemmas.{bool_cases, none_of, hole_absent}
 use Rattle.hc_model.proofs.Pens.{IsAtHole, has_pen}
 
@@ -19,9 +19,6 @@ stored_ends t r v row p le = elim (bool_cases (is_some (v.stored p))) [
   | inr none ↦ none_of (v.stored p) none
   | inl some ↦ row.store.some_stored p some ∙ row.store.ends p le
 ]
-
-split : (a b : ℕ) → (a < b) ⊎ (b ≤ a)
-split a b = grind (arith, nat_tests)
 
 -- a later hole: what isn't stored of it hasn't come either
 pub later_absent : (t : Tables) (r c hi : ℕ) (v : Representation) (k : Consumer) → Sound t → IsAtHole t r c hi v k → v.body (offset t k) ≡ None → (p : ℕ) → offset t k ≤ p → p < (hole_at v.stored v.reach (offset t k) hi).hi → v.body p ≡ None

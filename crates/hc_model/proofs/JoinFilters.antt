@@ -17,6 +17,7 @@ use Rattle.hc_model.specs.Rows.{Tables, Exchange}
 use Rattle.hc_model.specs.Runs.{IsRun, IsOwed}
 use Rattle.hc_model.specs.Tables.{tables, after}
 use Rattle.hc_model.specs.Histories.{each_after, first, if_accepted, joining_in, joining_at, joined_of, ExchangesAreFiltered}
+use Rattle.hc_model.proofs.Basics.{some_none}
 use Rattle.hc_model.proofs.HoleLemmas.{bool_cases}
 use Rattle.hc_model.proofs.Owed.{goes}
 use Rattle.hc_model.proofs.ConsumerFilters.{first_more, or_none}
@@ -27,9 +28,6 @@ use Rattle.hc_model.proofs.ExchangeFilters.{headless, openings_are, heads_are, b
 abbrev JoinsLate : Option Exchange → Type 0
 JoinsLate None = Unit {0}
 JoinsLate (Some w) = w.head ≡ None → w.joined ≡ None
-
-some_none : {A : Type 0} (a : A) → Some a ≡ None → ⊥
-some_none a h = cc
 
 late_if : (b : Bool) (w u : Exchange) → (u.head ≡ None → u.joined ≡ None) → (w.head ≡ None → w.joined ≡ None) → (cond b u w).head ≡ None → (cond b u w).joined ≡ None
 late_if true w u late old = late

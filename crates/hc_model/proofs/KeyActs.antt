@@ -35,8 +35,9 @@ use Rattle.hc_model.specs.Writers.{brings_body, loses_writing}
 use Rattle.hc_model.specs.Writes.{written, written_in, head_writes, may_validate, piece_writes, unless_lost, sealed, seals_at, sealed_by, stops, first_found, lossless}
 use Rattle.hc_model.proofs.ActParts.{IsAnswer, IsSaid, IsFarFrom, AllPass, answer_is, said_is, asks_evicted, asks_closed, asks_closes, asks_lost, asks_loss, closes_evicted, closes_lost, closes_before, closes_filter, loses_evicted, loses_closed, loses_before, evicts_closes, evicts_lost, evicts_closed, evicts_all, said_closes, far_loss, far_lost_only, far_closing, far_closed, far_evicted, far_said, leaver_lost}
 use Rattle.hc_model.proofs.ActParts as parts
+use Rattle.hc_model.proofs.Basics.{and_left, or_cases, none_some, number_is}
 use Rattle.hc_model.proofs.HoleLemmas.{bool_cases}
-use Rattle.hc_model.proofs.KeyNames.{aims_key, writer_key, not_true, and_left, and_then, or_cases, eq_is, number_is, key_is, IsOther, not_other, doomed_key, family_key, own_key, shared_key, source_key, near_key}
+use Rattle.hc_model.proofs.KeyNames.{aims_key, writer_key, not_true, and_then, eq_is, key_is, IsOther, not_other, doomed_key, family_key, own_key, shared_key, source_key, near_key}
 use Rattle.hc_model.proofs.PieceKeeps.{eq_cases, some_inj}
 use Rattle.hc_model.proofs.PollKeys.{IsNear}
 use Rattle.hc_model.proofs.PollKeys as polls
@@ -59,9 +60,6 @@ asks_move x t c k _ rest (polls.shows r why head lo hi now) other = refl
 asks_move x t c k _ rest (polls.given run) other = refl
 asks_move x t c k _ rest polls.ends other = refl
 asks_move x t c k _ rest (polls.fails cause) other = refl
-
-none_some : {A : Type 0} (a : A) → None ≡ Some a → ⊥
-none_some a h = cc
 
 -- what a move opens is of its consumer's key
 opens_move : (t : Tables) (c : ℕ) (k : Consumer) (m : Move) (rest : List Act) (o : Opening) → IsNear t k m → opening_in rest ≡ None → opening_in (acts_of c m ++ rest) ≡ Some o → o.request.key ≡ k.request.key

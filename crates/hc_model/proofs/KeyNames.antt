@@ -1,5 +1,5 @@
 -- What an event names is of its key: the representation of an exchange, and what a consumer reads from.
-use Rattle.std.proofs.Common.{◌≡◌, ◌⊎◌, inl, inr, ℕ, List, Bool, true, false, Option, Some, None, refl, ap, sym, ◌∙◌}
+use Rattle.std.proofs.Common.{◌≡◌, inl, inr, ℕ, List, Bool, true, false, Option, Some, None, refl, ap, sym, ◌∙◌}
 use Rattle.std.specs.Prelude.{◌&&◌, ◌||◌, if◌then◌else◌, unwrap_or, nat_eq}
 use Rattle.std.proofs.Common.{arith}
 use Rattle.std.specs.Option.{option_and_then, option_or}
@@ -14,7 +14,7 @@ use Rattle.hc_model.specs.declared.place.Place.{Place}
 use Rattle.hc_model.specs.declared.place.Place.TheVariants as place
 use Rattle.hc_model.specs.declared.place.BoundBy.{BoundBy}
 use Rattle.hc_model.specs.Cases.{case_at}
-use Rattle.hc_model.specs.Currents.{current, is_usable, is_number, is_current}
+use Rattle.hc_model.specs.Currents.{current, is_usable, is_current}
 use Rattle.hc_model.specs.Dooms.{doomed, doomed_in, doomed_by_head, doomed_by_case, doomed_if, changes, is_key}
 use Rattle.hc_model.specs.Entries.{Entry}
 use Rattle.hc_model.specs.Exchanges.{family, is_open}
@@ -23,6 +23,7 @@ use Rattle.hc_model.specs.Reading.{own_open, if_open, shared, writing_in, is_wri
 use Rattle.hc_model.specs.Rows.{Tables, Exchange, Representation, Consumer}
 use Rattle.hc_model.specs.Sound.{IsBound}
 use Rattle.hc_model.specs.Sound as sound
+use Rattle.hc_model.proofs.Basics.{and_left, or_cases, number_is}
 use Rattle.hc_model.proofs.Pens.{same_row}
 use Rattle.hc_model.proofs.PieceKeeps.{some_inj}
 use Rattle.hc_model.proofs.PollKeeps.{find_passes}
@@ -33,24 +34,12 @@ pub not_true : (b : Bool) → (b ≡ true → ⊥) → b ≡ false
 not_true true h = absurd (h refl)
 not_true false h = refl
 
-pub and_left : (a b : Bool) → (a && b) ≡ true → a ≡ true
-and_left true b h = refl
-and_left false b h = h
-
 pub and_then : (a b : Bool) → (a && b) ≡ true → b ≡ true
 and_then true b h = h
 and_then false b h = absurd (let never : false ≡ true = h in cc)
 
-pub or_cases : (a b : Bool) → (a || b) ≡ true → (a ≡ true) ⊎ (b ≡ true)
-or_cases true b h = inl refl
-or_cases false b h = inr h
-
 pub eq_is : (a b : ℕ) → nat_eq a b ≡ true → a ≡ b
 eq_is a b h = grind (arith, nat_tests)
-
-pub number_is : (o : Option ℕ) (n : ℕ) → is_number o n ≡ true → o ≡ Some n
-number_is None n h = absurd (let never : false ≡ true = h in cc)
-number_is (Some m) n h = ap Some (eq_is m n h)
 
 pub key_is : (o : Option (List ℕ)) (key : List ℕ) → is_key o key ≡ true → o ≡ Some key
 key_is None key h = absurd (let never : false ≡ true = h in cc)

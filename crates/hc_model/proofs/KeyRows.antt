@@ -29,8 +29,9 @@ use Rattle.hc_model.specs.Rows.{Tables, Exchange, Representation, Consumer}
 use Rattle.hc_model.specs.StartingOver.{starts_over, sends_back, loses_what_it_waits_for, waits_at}
 use Rattle.hc_model.specs.Writers.{loses_writing}
 use Rattle.hc_model.proofs.ActParts.{IsFarFrom}
+use Rattle.hc_model.proofs.Basics.{and_left, or_cases, none_some, number_is}
 use Rattle.hc_model.proofs.HoleLemmas.{bool_cases}
-use Rattle.hc_model.proofs.KeyNames.{aims_key, opener_key, of_row, not_true, and_left, and_then, or_cases, eq_is, number_is, key_is, IsOther, not_other, doomed_key, family_key, current_key, source_key, bound_key}
+use Rattle.hc_model.proofs.KeyNames.{aims_key, opener_key, of_row, not_true, and_then, eq_is, key_is, IsOther, not_other, doomed_key, family_key, current_key, source_key, bound_key}
 use Rattle.hc_model.proofs.PieceKeeps.{eq_cases, some_inj}
 
 -- WORDS
@@ -46,9 +47,6 @@ pub same_number : (o p : Option ℕ) (x : ℕ) → p ≡ Some x → is_same_numb
 same_number None p x is h = absurd (let never : false ≡ true = h in cc)
 same_number (Some m) None x is h = absurd (let never : false ≡ true = h in cc)
 same_number (Some m) (Some n) x is h = ap Some (eq_is m n h) ∙ is
-
-none_some : {A : Type 0} (a : A) → None ≡ Some a → ⊥
-none_some a h = cc
 
 plus_none : (n : ℕ) → n + 0 ≡ n
 plus_none n = omega arith

@@ -27,16 +27,14 @@ use Rattle.hc_model.specs.Tables.{after_accepted}
 use Rattle.hc_model.specs.Weights.{evicted}
 use Rattle.hc_model.proofs.ActParts.{IsAnswer, IsSaid, answer_is, said_is, asks_evicted, asks_closed, asks_closes, asks_lost, asks_loss}
 use Rattle.hc_model.proofs.ActParts as parts
+use Rattle.hc_model.proofs.Basics.{and_left, none_some, number_is}
 use Rattle.hc_model.proofs.CurrentKeeps.{heard_same}
 use Rattle.hc_model.proofs.HoleLemmas.{bool_cases}
-use Rattle.hc_model.proofs.KeyNames.{and_left, and_then, eq_is, number_is}
+use Rattle.hc_model.proofs.KeyNames.{and_then, eq_is}
 use Rattle.hc_model.proofs.PieceKeeps.{eq_cases, some_inj}
 use Rattle.hc_model.proofs.PollKeeps.{find_passes}
 use Rattle.hc_model.proofs.PollKeys.{IsNear}
 use Rattle.hc_model.proofs.PollKeys as polls
-
-pub none_some : {A : Type 0} (a : A) → None ≡ Some a → ⊥
-none_some a h = cc
 
 -- an exchange that is there, of this key
 abbrev pub HasExchange : Tables → ℕ → List ℕ → Type 0

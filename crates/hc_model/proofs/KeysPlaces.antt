@@ -51,8 +51,9 @@ use Rattle.hc_model.specs.Weights.{evicted}
 use Rattle.hc_model.specs.Writers.{loses_writing, survivor}
 use Rattle.hc_model.proofs.ActParts.{IsAnswer, IsSaid, answer_is, said_is}
 use Rattle.hc_model.proofs.ActParts as parts
+use Rattle.hc_model.proofs.Basics.{none_some}
 use Rattle.hc_model.proofs.KeyNames.{eq_is, opener_key, aims_key}
-use Rattle.hc_model.proofs.KeysKeep.{HasExchange, IsOpening, current_row, opened_is, exchange_stays, exchange_new, representation_stays, none_some}
+use Rattle.hc_model.proofs.KeysKeep.{HasExchange, IsOpening, current_row, opened_is, exchange_stays, exchange_new, representation_stays}
 use Rattle.hc_model.proofs.KeysKeep as keeps
 use Rattle.hc_model.proofs.NumbersKeep.{opens_next}
 use Rattle.hc_model.proofs.Pens.{same_row}

@@ -9,23 +9,10 @@ use Rattle.hc_model.specs.Beginnings.{kind_of_runs, same_kind}
 use Rattle.hc_model.specs.Contents.{runs_from}
 use Rattle.hc_model.specs.Holes.{covers}
 use Rattle.hc_model.specs.Tables.{last_end, bytes_in}
+use Rattle.hc_model.proofs.Basics.{false_true, and_left, and_right, and_both}
 use Rattle.hc_model.proofs.HoleLemmas.{bool_cases, covers_all, covers_yes}
 use Rattle.hc_model.proofs.Positions.{below_full, below_most, full_below, no_other_below}
 use Rattle.hc_model.proofs.RunsFrom.{bytes_from, end_is}
-
-false_true : false ≡ true → ⊥
-false_true h = cc
-
-and_left : (a b : Bool) → (a && b) ≡ true → a ≡ true
-and_left true b h = refl
-and_left false b h = absurd (false_true h)
-
-and_right : (a b : Bool) → (a && b) ≡ true → b ≡ true
-and_right true b h = h
-and_right false b h = absurd (false_true h)
-
-and_both : (a b : Bool) → a ≡ true → b ≡ true → (a && b) ≡ true
-and_both a b p q = rw (p, q) refl
 
 -- tests of which each follows from the other
 same_test : (a b : Bool) → (a ≡ true → b ≡ true) → (b ≡ true → a ≡ true) → a ≡ b

@@ -28,6 +28,7 @@ use Rattle.hc_model.specs.Sound as sound
 use Rattle.hc_model.specs.StoredHeads.{StoredHeads, AreModest, IsOfOne, Tags}
 use Rattle.hc_model.specs.StoredHeads as heads
 use Rattle.hc_model.specs.Tables.{tables, bytes_in, last_end}
+use Rattle.hc_model.proofs.Basics.{false_true, and_left, and_right, and_both, none_some}
 use Rattle.hc_model.proofs.FitsKept.{Fits}
 use Rattle.hc_model.proofs.HoleLemmas.{bool_cases, covers_yes}
 use Rattle.hc_model.proofs.KindsLeft.{kind_by, kind_right, count_is, last_is}
@@ -45,23 +46,6 @@ use Rattle.hc_model.proofs.Unknowns.{Unknown}
 use Rattle.hc_model.proofs.WaitsInRuns.{unknown_in_runs}
 use Rattle.hc_model.proofs.Weighed.{IsHeld, held, total, held_is}
 use Rattle.hc_model.proofs.Weighed as weighed
-
-none_some : {A : Type 0} (a : A) → None ≡ Some a → ⊥
-none_some a is = cc
-
-false_true : false ≡ true → ⊥
-false_true h = cc
-
-and_left : (a b : Bool) → (a && b) ≡ true → a ≡ true
-and_left true b h = refl
-and_left false b h = absurd (false_true h)
-
-and_right : (a b : Bool) → (a && b) ≡ true → b ≡ true
-and_right true b h = h
-and_right false b h = absurd (false_true h)
-
-and_both : (a b : Bool) → a ≡ true → b ≡ true → (a && b) ≡ true
-and_both a b p q = rw (p, q) refl
 
 not_by : (b : Bool) → b ≡ false → not b ≡ true
 not_by b off = rw off refl

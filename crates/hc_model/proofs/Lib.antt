@@ -1,3 +1,4 @@
+pub mod Basics
 pub mod HoleLemmas
 pub mod Once
 pub mod Pens

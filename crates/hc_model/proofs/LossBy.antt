@@ -1,6 +1,6 @@
 -- What is lost by an entry of a run: what its head or piece writes, or what is sealed since an exchange of its family ends without a piece.
-use Rattle.std.proofs.Common.{◌≡◌, ◌⊎◌, inl, inr, ℕ, Bool, true, false, Option, Some, None, refl, ap, sym, ◌∙◌, arith}
-use Rattle.std.specs.Prelude.{is_some, ◌==◌, ◌&&◌, ◌||◌, not, nat_eq, unwrap_or}
+use Rattle.std.proofs.Common.{◌≡◌, ◌⊎◌, inl, inr, ℕ, true, false, Option, Some, None, refl, ap, sym, ◌∙◌, arith}
+use Rattle.std.specs.Prelude.{is_some, ◌==◌, ◌||◌, nat_eq, unwrap_or}
 use Rattle.std.proofs.lemmas.Bool.Decides.{nat_tests}
 use Rattle.hc_event.specs.Filters.{closes_in, is_denied}
 use Rattle.hc_event.specs.declared.act.LostKind.{LostKind}
@@ -27,6 +27,7 @@ use Rattle.hc_model.specs.Weights.{evicted}
 use Rattle.hc_model.specs.Writers.{brings_body}
 use Rattle.hc_model.specs.Writes.{written, written_in, lossless, seals_at, sealed_by, is_sealed, stops}
 use Rattle.hc_model.proofs.ActParts.{said_is, said_closes, loses_evicted, loses_closed, loses_before}
+use Rattle.hc_model.proofs.Basics.{false_true, and_left, and_right, or_cases, not_true, none_some, number_is}
 use Rattle.hc_model.proofs.Closed.{before}
 use Rattle.hc_model.proofs.KeyActs.{found_some, closes_lossless, test_some}
 use Rattle.hc_model.proofs.MeasuresKeep.{ender}
@@ -34,32 +35,6 @@ use Rattle.hc_model.proofs.PieceKeeps.{eq_cases, some_inj}
 use Rattle.hc_model.proofs.Pens.{same_row}
 use Rattle.hc_model.proofs.Unclosed.{had_open}
 use Rattle.hc_model.proofs.Waiters.{fault_open_of}
-
-false_true : false ≡ true → ⊥
-false_true h = cc
-
-none_some : {A : Type 0} (a : A) → None ≡ Some a → ⊥
-none_some a is = cc
-
-and_left : (a b : Bool) → (a && b) ≡ true → a ≡ true
-and_left true b h = refl
-and_left false b h = absurd (false_true h)
-
-and_right : (a b : Bool) → (a && b) ≡ true → b ≡ true
-and_right true b h = h
-and_right false b h = absurd (false_true h)
-
-or_cases : (a b : Bool) → (a || b) ≡ true → (a ≡ true) ⊎ (b ≡ true)
-or_cases true b h = inl refl
-or_cases false b h = inr h
-
-number_is : (o : Option ℕ) (n : ℕ) → is_number o n ≡ true → o ≡ Some n
-number_is None n h = absurd (false_true h)
-number_is (Some m) n h = let same : m ≡ n = grind (arith, nat_tests) in ap Some same
-
-not_true : (b : Bool) → not b ≡ true → b ≡ false
-not_true true h = absurd (false_true h)
-not_true false h = refl
 
 -- the flaw of what is lost
 pub record IsLoss (r : ℕ) (flaw : Flaw) : Type 0 where

@@ -18,6 +18,7 @@ use Rattle.hc_model.specs.Writers.{loses_writing, survivor, goes_on_with}
 use Rattle.hc_model.specs.declared.place.BoundBy.{BoundBy}
 use Rattle.hc_model.specs.declared.place.Place.TheVariants as place
 use Rattle.hc_model.specs.Sound as sound
+use Rattle.hc_model.proofs.Basics.{and_both, or_left}
 use Rattle.hc_model.proofs.HoleLemmas.{bool_cases}
 use Rattle.hc_model.proofs.PieceKeeps.{of_piece, some_inj}
 use Rattle.hc_model.proofs.Losses.{goes_on_or_rests, HasRest}
@@ -60,14 +61,6 @@ cond_left false x y h = absurd (let never : false ≡ true = h in cc)
 cond_right : {A : Type 0} (b : Bool) (x y : A) → b ≡ false → cond b x y ≡ y
 cond_right true x y h = absurd (let never : true ≡ false = h in cc)
 cond_right false x y h = refl
-
-or_left : (a b : Bool) → a ≡ true → (a || b) ≡ true
-or_left true b h = refl
-or_left false b h = absurd (let never : false ≡ true = h in cc)
-
-and_both : (a b : Bool) → a ≡ true → b ≡ true → (a && b) ≡ true
-and_both true b p q = q
-and_both false b p q = absurd (let never : false ≡ true = p in cc)
 
 lost_row : (t : Tables) (now x r : ℕ) (bytes : List ℕ) (acts : List Act) (v u : Representation) → t.representation r ≡ Some v → loses_in r acts ≡ true → v.is_lost ≡ false → representation_after t (of_piece now x bytes acts) r (Some v) ≡ Some u → IsLostRow t (of_piece now x bytes acts) r v u
 unfolding representation_after

@@ -1,6 +1,6 @@
 -- At a head that joins, only what it joins can be lost.
-use Rattle.std.proofs.Common.{◌≡◌, ◌⊎◌, inl, inr, ℕ, List, [], ◌∷◌, ◌++◌, Bool, true, false, Option, Some, None, refl, ap, sym, ◌∙◌, arith}
-use Rattle.std.specs.Prelude.{if◌then◌else◌, map, nat_eq, ◌&&◌, ◌||◌}
+use Rattle.std.proofs.Common.{◌≡◌, inl, inr, ℕ, List, [], ◌∷◌, ◌++◌, Bool, true, false, Option, Some, None, refl, ap, sym, ◌∙◌, arith}
+use Rattle.std.specs.Prelude.{if◌then◌else◌, map, nat_eq, ◌||◌}
 use Rattle.std.proofs.lemmas.Bool.Decides.{nat_tests}
 use Rattle.hc_event.specs.Filters.{is_denied}
 use Rattle.hc_event.specs.declared.event.Event.{Event}
@@ -28,22 +28,12 @@ use Rattle.hc_model.specs.Runs.{may_stand, may_be}
 use Rattle.hc_model.specs.Sound.{Sound}
 use Rattle.hc_model.specs.Weights.{evicted}
 use Rattle.hc_model.specs.Writes.{written, head_writes, may_validate, lossless}
+use Rattle.hc_model.proofs.Basics.{false_true, and_left, or_cases}
 use Rattle.hc_model.proofs.Closed.{before}
 use Rattle.hc_model.proofs.FirstKeeps.{case_is}
 use Rattle.hc_model.proofs.FoundBy.{CaseBy, case_by}
 use Rattle.hc_model.proofs.FoundBy as cases
 use Rattle.hc_model.proofs.SaidActs.{loss_is}
-
-false_true : false ≡ true → ⊥
-false_true h = cc
-
-and_left : (a b : Bool) → (a && b) ≡ true → a ≡ true
-and_left true b h = refl
-and_left false b h = absurd (false_true h)
-
-or_cases : (a b : Bool) → (a || b) ≡ true → (a ≡ true) ⊎ (b ≡ true)
-or_cases true b h = inl refl
-or_cases false b h = inr h
 
 -- THE CASE WITHOUT A LOSS
 

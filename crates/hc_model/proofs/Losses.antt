@@ -86,10 +86,6 @@ alone_may t v c off alone = elim (bool_cases (may_write t v (t.consumer c))) [
 
 -- EXCLUSIVE WRITERS
 
-and_left : (a b : Bool) → (a && b) ≡ true → a ≡ true
-and_left true b h = refl
-and_left false b h = absurd (let never : false ≡ true = h in cc)
-
 -- an exclusive writer is a first one
 first_by : (t : Tables) (r d : ℕ) (v : Representation) (k : Consumer) (place : Place) → t.consumer d ≡ Some k → k.place ≡ place → is_bound_place r place ≡ true → came_alone t place ≡ true → IsFirst t r d
 first_by t r d v k place.Line row at bound alone = absurd (let never : false ≡ true = bound in cc)

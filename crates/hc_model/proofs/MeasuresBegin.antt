@@ -1,6 +1,6 @@
 -- What a store may begin with is measured: what came of a body ends at its reach, within its length.
-use Rattle.std.proofs.Common.{◌≡◌, ◌⊎◌, inl, inr, ℕ, ◌+◌, ◌<◌, ◌≤◌, List, [], ◌∷◌, length, Bool, true, false, Option, Some, None, refl, ap, sym, ◌∙◌, arith, max}
-use Rattle.std.specs.Prelude.{is_some, find, nat_lt, nat_le, option_map, ◌==◌, ◌&&◌}
+use Rattle.std.proofs.Common.{◌≡◌, ◌⊎◌, inl, inr, ℕ, ◌+◌, ◌<◌, ◌≤◌, List, [], ◌∷◌, length, Bool, true, Option, Some, None, refl, ap, sym, ◌∙◌, arith, max}
+use Rattle.std.specs.Prelude.{is_some, find, nat_lt, nat_le, option_map, ◌==◌}
 use Rattle.std.proofs.lemmas.Bool.Decides.{nat_tests}
 use Rattle.hc_sparse.proofs.CellLemmas.{inside-cases}
 use Rattle.hc_sparse.specs.Cells.{written, Cells}
@@ -12,22 +12,9 @@ use Rattle.hc_model.specs.Entries.{Content, Contents}
 use Rattle.hc_model.specs.Measures.{Measures}
 use Rattle.hc_model.specs.Rows.{Representation}
 use Rattle.hc_model.specs.Tables.{begun, loaded, last_end}
+use Rattle.hc_model.proofs.Basics.{and_left, and_right, none_some}
 use Rattle.hc_model.proofs.HoleLemmas.{bool_cases}
 use Rattle.hc_model.proofs.PieceKeeps.{eq_cases, some_inj}
-
-false_true : false ≡ true → ⊥
-false_true h = cc
-
-none_some : {A : Type 0} (a : A) → None ≡ Some a → ⊥
-none_some a is = cc
-
-and_left : (a b : Bool) → (a && b) ≡ true → a ≡ true
-and_left true b h = refl
-and_left false b h = absurd (false_true h)
-
-and_right : (a b : Bool) → (a && b) ≡ true → b ≡ true
-and_right true b h = h
-and_right false b h = absurd (false_true h)
 
 written_some : (at x p : ℕ) (bytes : List ℕ) (f : Cells) → ((p < at) ⊎ (at + length bytes ≤ p) → is_some (f p) ≡ true) → is_some (written at x bytes f p) ≡ true
 written_some at x p bytes f old = elim (inside-cases at (length bytes) p) [

@@ -1,6 +1,6 @@
 -- An open exchange brings no more of a body than there is to come, and what came ends at its reach, within its length.
 use Rattle.std.proofs.Common.{◌≡◌, ◌⊎◌, inl, inr, ℕ, ◌+◌, ◌<◌, ◌≤◌, List, [], length, Bool, true, false, Option, Some, None, refl, ap, sym, ◌∙◌, subst, arith, max, length-append}
-use Rattle.std.specs.Prelude.{if◌then◌else◌, is_some, ◌&&◌, nat_eq, nat_lt, unwrap_or}
+use Rattle.std.specs.Prelude.{if◌then◌else◌, is_some, nat_eq, nat_lt, unwrap_or}
 use Rattle.std.specs.Option.{option_or}
 use Rattle.std.proofs.lemmas.Bool.Decides.{nat_tests}
 use Rattle.hc_sparse.specs.Cells.{written}
@@ -38,6 +38,7 @@ use Rattle.hc_model.specs.Rows.{Tables, Exchange, Representation, Consumer}
 use Rattle.hc_model.specs.Sound.{Sound, IsAbout}
 use Rattle.hc_model.specs.Sound as sound
 use Rattle.hc_model.specs.Tables.{after_accepted}
+use Rattle.hc_model.proofs.Basics.{false_true, and_right, none_some}
 use Rattle.hc_model.proofs.ExchangeFrom.{ExchangeFrom, IsSame, IsHeaded, exchange_from}
 use Rattle.hc_model.proofs.ExchangeFrom as exchange
 use Rattle.hc_model.proofs.Fills.{Fills, fills, Brings, brings, length_same}
@@ -54,12 +55,6 @@ use Rattle.hc_model.proofs.Pens.{same_row}
 use Rattle.hc_model.proofs.RepFrom.{RepFrom, rep_from, IsKept, IsEnded}
 use Rattle.hc_model.proofs.RepFrom as rep
 
-false_true : false ≡ true → ⊥
-false_true h = cc
-
-none_some : {A : Type 0} (a : A) → None ≡ Some a → ⊥
-none_some a is = cc
-
 pub number_not : (n m : ℕ) → (n ≡ m → ⊥) → nat_eq n m ≡ false
 number_not n m off = grind (arith, nat_tests)
 
@@ -75,10 +70,6 @@ part_by asked response None is h = absurd (false_true h)
 part_by asked response (Some (range.Unsatisfied total)) is h = absurd (false_true h)
 part_by asked response (Some (range.Part first last None)) is h = absurd (false_true h)
 part_by asked response (Some (range.Part first last (Some total))) is h = record { first = first; last = last; total = total; told = is }
-
-and_right : (a b : Bool) → (a && b) ≡ true → b ≡ true
-and_right true b h = h
-and_right false b h = absurd (false_true h)
 
 fits_by : (o : Option Asked) (response : Response) → fits_to_found o response ≡ true → IsPart response
 fits_by None response h = absurd (false_true h)

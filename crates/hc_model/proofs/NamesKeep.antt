@@ -21,6 +21,7 @@ use Rattle.hc_model.specs.Rows.{Tables, Exchange, Representation, Consumer}
 use Rattle.hc_model.specs.Sound.{Sound}
 use Rattle.hc_model.specs.Sound as sound
 use Rattle.hc_model.specs.Tables.{after_accepted}
+use Rattle.hc_model.proofs.Basics.{some_none}
 use Rattle.hc_model.proofs.NumbersKeep.{opens_next, founded_none, representation_none}
 use Rattle.hc_model.proofs.PieceKeeps.{eq_cases, some_inj}
 use Rattle.hc_model.proofs.PollKeeps.{find_passes}
@@ -43,9 +44,6 @@ record IsNaming (x : ℕ) (ev : Event) (w u : Exchange) : Type 0 where
 joined_by : (b : Bool) (aim joined : Option ℕ) → ((if b then aim else joined) ≡ joined) ⊎ ((if b then aim else joined) ≡ aim)
 joined_by true aim joined = inr refl
 joined_by false aim joined = inl refl
-
-some_none : {A : Type 0} (a : A) → Some a ≡ None → ⊥
-some_none a h = cc
 
 abbrev number_in : Event → ℕ
 number_in (event.Head y response) = y

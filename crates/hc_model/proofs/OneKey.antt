@@ -20,15 +20,13 @@ use Rattle.hc_model.specs.Cases.{case_at, is_founding}
 use Rattle.hc_model.specs.RepresentationRows.{represented, founded_at, representation_after}
 use Rattle.hc_model.specs.Rows.{Tables, Exchange, Representation, Consumer}
 use Rattle.hc_model.specs.Runs.{IsOwed, may_stand, may_be}
+use Rattle.hc_model.proofs.Basics.{none_some}
 use Rattle.hc_model.proofs.KeyActs as acts
 use Rattle.hc_model.proofs.KeyNames.{IsOther}
 use Rattle.hc_model.proofs.KeyRows.{IsFarEntry, exchange_stays, representation_row, consumer_row}
 use Rattle.hc_model.proofs.Once.{never}
 use Rattle.hc_model.proofs.Owed.{acts_are, goes}
 use Rattle.hc_model.proofs.PieceKeeps.{some_inj}
-
-none_some : {A : Type 0} (a : A) → None ≡ Some a → ⊥
-none_some a h = cc
 
 -- an accepted event of an exchange is of one that is there
 came : (o : Option Exchange) → (o ≡ None → ⊥) → (w : Exchange) × (o ≡ Some w)

@@ -1,5 +1,5 @@
 -- A poll that opens an exchange closes, loses and evicts nothing, and nobody leaves by it.
-use Rattle.std.proofs.Common.{◌≡◌, ◌⊎◌, inl, inr, ℕ, List, [], ◌∷◌, ◌++◌, Bool, true, false, cond, Option, Some, None, refl, ap, sym, ◌∙◌, subst}
+use Rattle.std.proofs.Common.{◌≡◌, inl, inr, ℕ, List, [], ◌∷◌, ◌++◌, Bool, true, false, cond, Option, Some, None, refl, ap, sym, ◌∙◌, subst}
 use Rattle.std.specs.Prelude.{map, nat_eq, ◌&&◌, ◌||◌}
 use Rattle.std.specs.Option.{option_or}
 use Rattle.hc_event.specs.Filters.{Opening, opening_in, leaves_in, closes_in, evicts_in, is_denied}
@@ -26,32 +26,11 @@ use Rattle.hc_model.specs.Runs.{may_stand, may_be}
 use Rattle.hc_model.specs.Sound.{Sound}
 use Rattle.hc_model.specs.Writers.{loses_writing}
 use Rattle.hc_model.specs.Writes.{written, seals_at, first_found, lossless, sealed_by}
+use Rattle.hc_model.proofs.Basics.{false_true, and_left, and_right, or_cases, not_so, none_some}
 use Rattle.hc_model.proofs.Closed.{before}
 use Rattle.hc_model.proofs.PollKeeps.{closes_open_none}
 use Rattle.hc_model.proofs.SaidActs.{closes_leave}
 use Rattle.hc_model.proofs.Unclosed.{had_to, had_row}
-
-false_true : false ≡ true → ⊥
-false_true h = cc
-
-none_some : {A : Type 0} (a : A) → None ≡ Some a → ⊥
-none_some a is = cc
-
-and_left : (a b : Bool) → (a && b) ≡ true → a ≡ true
-and_left true b h = refl
-and_left false b h = absurd (false_true h)
-
-and_right : (a b : Bool) → (a && b) ≡ true → b ≡ true
-and_right true b h = h
-and_right false b h = absurd (false_true h)
-
-or_cases : (a b : Bool) → (a || b) ≡ true → (a ≡ true) ⊎ (b ≡ true)
-or_cases true b h = inl refl
-or_cases false b h = inr h
-
-not_so : (b : Bool) → (b ≡ true → ⊥) → b ≡ false
-not_so true off = absurd (off refl)
-not_so false off = refl
 
 -- ACTS BEHIND AN OPENING
 

@@ -1,6 +1,6 @@
 -- With what a store may begin, a number names the bytes of one body alone.
 use Rattle.std.proofs.Common.{◌≡◌, inl, inr, ℕ, ◌-◌, ◌<◌, ◌≤◌, List, [], ◌∷◌, length, Bool, true, false, Option, Some, None, refl, ap, sym, ◌∙◌, arith}
-use Rattle.std.specs.Prelude.{is_some, find, nat_eq, nat_lt, option_map, ◌==◌, ◌&&◌, ◌||◌, not}
+use Rattle.std.specs.Prelude.{is_some, find, nat_eq, nat_lt, option_map, ◌==◌, ◌&&◌, not}
 use Rattle.std.specs.List.{list_any, list_all}
 use Rattle.std.proofs.lemmas.Bool.Decides.{nat_tests}
 use Rattle.hc_rules.specs.declared.room.Limits.{Limits}
@@ -14,36 +14,10 @@ use Rattle.hc_model.specs.Origins.{HasByte, Origins}
 use Rattle.hc_model.specs.Origins as origins
 use Rattle.hc_model.specs.Rows.{Representation}
 use Rattle.hc_model.specs.Tables.{begun, loaded}
+use Rattle.hc_model.proofs.Basics.{false_true, and_left, and_right, or_right, or_false, not_true, none_some}
 use Rattle.hc_model.proofs.HoleLemmas.{bool_cases}
 use Rattle.hc_model.proofs.PieceKeeps.{eq_cases, some_inj}
 use Rattle.hc_model.proofs.Starts.{numbers_begin}
-
-false_true : false ≡ true → ⊥
-false_true h = cc
-
-none_some : {A : Type 0} (a : A) → None ≡ Some a → ⊥
-none_some a is = cc
-
-and_left : (a b : Bool) → (a && b) ≡ true → a ≡ true
-and_left true b h = refl
-and_left false b h = absurd (false_true h)
-
-and_right : (a b : Bool) → (a && b) ≡ true → b ≡ true
-and_right true b h = h
-and_right false b h = absurd (false_true h)
-
-or_right : (a b : Bool) → b ≡ true → (a || b) ≡ true
-or_right true b h = refl
-or_right false b h = h
-
-not_true : (b : Bool) → not b ≡ true → b ≡ false
-not_true true h = absurd (false_true h)
-not_true false h = refl
-
-or_false : (a b : Bool) → (a || b) ≡ false → (a ≡ false) × (b ≡ false)
-or_false false false h = (refl, refl)
-or_false false true h = absurd (let no : true ≡ false = h in cc)
-or_false true b h = absurd (let no : true ≡ false = h in cc)
 
 abbrev pub of_number : ℕ → Content → Bool
 of_number r item = item.r == r

@@ -13,23 +13,10 @@ use Rattle.hc_model.specs.Currents.{is_number}
 use Rattle.hc_model.specs.Entries.{Entry}
 use Rattle.hc_model.specs.Rows.{Tables, Exchange, Representation, Consumer}
 use Rattle.hc_model.specs.Writers.{loses_writing, survivor}
+use Rattle.hc_model.proofs.Basics.{and_left, and_right, some_none}
 use Rattle.hc_model.proofs.HoleLemmas.{bool_cases}
 use Rattle.hc_model.proofs.PieceKeeps.{eq_cases}
 use Rattle.hc_model.proofs.Pens.{writer_some}
-
-some_none : {A : Type 0} (a : A) → Some a ≡ None → ⊥
-some_none a is = cc
-
-false_true : false ≡ true → ⊥
-false_true is = cc
-
-and_left : (a b : Bool) → (a && b) ≡ true → a ≡ true
-and_left true b h = refl
-and_left false b h = absurd (false_true h)
-
-and_right : (a b : Bool) → (a && b) ≡ true → b ≡ true
-and_right true b h = h
-and_right false b h = absurd (false_true h)
 
 module _ (t : Tables) (e : Entry) (c : ℕ) where
   -- its exchange gets its head, and is written together from then on

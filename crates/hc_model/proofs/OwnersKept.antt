@@ -13,6 +13,7 @@ use Rattle.hc_model.specs.Runs.{may_stand}
 use Rattle.hc_model.specs.Sound.{Sound}
 use Rattle.hc_model.specs.Tables.{after_accepted, begun, loaded}
 use Rattle.hc_model.proofs.ApartKeeps.{apart_kept}
+use Rattle.hc_model.proofs.Basics.{none_some}
 use Rattle.hc_model.proofs.FirstDueKeeps.{first_due_kept}
 use Rattle.hc_model.proofs.FirstDues.{idle_kept}
 use Rattle.hc_model.proofs.Founders.{founders_kept}
@@ -38,9 +39,6 @@ owners_kept limits t now flaw s o ev goes stand = record {
   idle_due = λ c u row idle. idle_kept limits t now flaw s o ev goes c u row idle;
   first_due = λ r c d v k u after kept is_first row none reader. first_due_kept limits t now flaw s o ev goes r c d v k u after kept is_first row none reader;
 }
-
-none_some : {A : Type 0} (a : A) → None ≡ Some a → ⊥
-none_some a is = cc
 
 loaded_writer : (o : Option Content) (v : Representation) (x : ℕ) → option_map loaded o ≡ Some v → v.writer ≡ Some x → ⊥
 loaded_writer None v x is writer = none_some v is

@@ -21,10 +21,8 @@ use Rattle.hc_rules.specs.Lengths.{length_of, base_of, promise_of, is_bad, part_
 use Rattle.hc_rules.specs.Lengths as lengths
 use Rattle.hc_rules.specs.Needs.{route_of}
 use Rattle.hc_rules.specs.RangeTexts.{content_range_of, content_range_in, response_in, response_from, told_by, with_total, without_part, spec_in, positions_from, positions_by, from_to, number_of, split_at, hyphen, slash}
+use Rattle.hc_model.proofs.Basics.{none_some}
 use Rattle.hc_model.proofs.HoleLemmas.{bool_cases}
-
-none_some : {A : Type 0} (a : A) → None ≡ Some a → ⊥
-none_some a is = cc
 
 some_inj : {A : Type 0} (a b : A) → Some a ≡ Some b → a ≡ b
 some_inj a b is = cc

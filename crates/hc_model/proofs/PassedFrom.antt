@@ -42,9 +42,6 @@ use Rattle.hc_model.specs.Tables.{after_accepted}
 use Rattle.hc_model.proofs.HoleLemmas.{bool_cases}
 use Rattle.hc_model.proofs.PieceKeeps.{eq_cases, some_inj}
 
-false_true : false ≡ true → ⊥
-false_true h = cc
-
 -- only what validates is conditional
 module _ (limits : Limits) (t : Tables) (now : ℕ) (flaw : Flaw) (s : Sound t) (o : Owners t) (ev : Event) (goes : denial t ev ≡ None) (c q : ℕ) (kept : Option ℕ) (k : Consumer) (row : t.consumer c ≡ Some k) where
   abbrev e : Entry

@@ -22,6 +22,7 @@ use Rattle.hc_model.specs.Owners.{Owners}
 use Rattle.hc_model.specs.Rows.{Tables, Exchange, Consumer}
 use Rattle.hc_model.specs.Sound.{Sound}
 use Rattle.hc_model.specs.Tables.{after_accepted}
+use Rattle.hc_model.proofs.Basics.{false_true}
 use Rattle.hc_model.proofs.FirstKeeps.{case_of_head}
 use Rattle.hc_model.proofs.FoundBy.{CaseBy}
 use Rattle.hc_model.proofs.FoundBy as cases
@@ -32,9 +33,6 @@ use Rattle.hc_model.proofs.Pens.{same_row}
 use Rattle.hc_model.proofs.Said.{waiting_by}
 use Rattle.hc_model.proofs.WaitedAs.{waited_as}
 use Rattle.hc_model.proofs.WaitedAs as waited
-
-false_true : false ≡ true → ⊥
-false_true h = cc
 
 -- only what validates is conditional
 conditional_need : (n : Need) (request : Request) → is_conditional n request ≡ true → n ≡ need.Validate

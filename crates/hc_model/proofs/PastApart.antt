@@ -1,6 +1,6 @@
 -- An answer past the store that somebody reads is no representation, and has its head where its reader was shown one.
 use Rattle.std.proofs.Common.{◌≡◌, inl, inr, ℕ, ◌+◌, Bool, true, false, Option, Some, None, refl, ap, sym, ◌∙◌, subst, arith}
-use Rattle.std.specs.Prelude.{is_some, ◌&&◌, nat_eq}
+use Rattle.std.specs.Prelude.{is_some, nat_eq}
 use Rattle.std.proofs.lemmas.Bool.Decides.{nat_tests}
 use Rattle.hc_range.specs.declared.range.ContentRange.{ContentRange}
 use Rattle.hc_range.specs.declared.range.ContentRange.TheVariants as range
@@ -36,6 +36,7 @@ use Rattle.hc_model.specs.Rows.{Tables, Exchange, Representation, Consumer}
 use Rattle.hc_model.specs.Runs.{may_stand}
 use Rattle.hc_model.specs.Sound.{Sound}
 use Rattle.hc_model.specs.Tables.{after_accepted}
+use Rattle.hc_model.proofs.Basics.{false_true, and_right, none_some}
 use Rattle.hc_model.proofs.FirstKeeps.{is_new, case_is}
 use Rattle.hc_model.proofs.FoundBy.{CaseBy, case_by, FoundingBy, founding_by, founds_way}
 use Rattle.hc_model.proofs.FoundBy as cases
@@ -49,20 +50,6 @@ use Rattle.hc_model.proofs.RepFrom.{RepFrom, rep_from}
 use Rattle.hc_model.proofs.RepFrom as rep
 use Rattle.hc_model.proofs.ToBeShown.{heard_place}
 use Rattle.hc_model.proofs.Waiters.{waiter_of}
-
-false_true : false ≡ true → ⊥
-false_true h = cc
-
-none_some : {A : Type 0} (a : A) → None ≡ Some a → ⊥
-none_some a is = cc
-
-and_left : (a b : Bool) → (a && b) ≡ true → a ≡ true
-and_left true b h = refl
-and_left false b h = absurd (false_true h)
-
-and_right : (a b : Bool) → (a && b) ≡ true → b ≡ true
-and_right true b h = h
-and_right false b h = absurd (false_true h)
 
 -- A CASE THAT FOUNDS
 

@@ -44,6 +44,7 @@ use Rattle.hc_model.specs.Runs.{may_stand}
 use Rattle.hc_model.specs.Sound.{Sound}
 use Rattle.hc_model.specs.StartingOver.{starts_over}
 use Rattle.hc_model.specs.Tables.{after_accepted}
+use Rattle.hc_model.proofs.Basics.{false_true, or_false, none_some}
 use Rattle.hc_model.proofs.ConsumerFilters.{acted}
 use Rattle.hc_model.proofs.ExchangeFrom.{IsSame, IsHeaded}
 use Rattle.hc_model.proofs.Forward.{is_on, opened_on, is_untouched}
@@ -55,25 +56,6 @@ use Rattle.hc_model.proofs.Pens.{same_row}
 use Rattle.hc_model.proofs.ToBeShown.{heard_place}
 use Rattle.hc_model.proofs.Waiters.{IsWaiter, waiter_of, unclosed}
 use Rattle.hc_model.proofs.WaitingKeeps.{waiting_kept}
-
-false_true : false ≡ true → ⊥
-false_true h = cc
-
-none_some : {A : Type 0} (a : A) → None ≡ Some a → ⊥
-none_some a is = cc
-
-or_false : (a b : Bool) → (a || b) ≡ false → (a ≡ false) × (b ≡ false)
-or_false false false h = (refl, refl)
-or_false false true h = absurd (let no : true ≡ false = h in cc)
-or_false true b h = absurd (let no : true ≡ false = h in cc)
-
-and_left : (a b : Bool) → (a && b) ≡ true → a ≡ true
-and_left true b h = refl
-and_left false b h = absurd (false_true h)
-
-and_right : (a b : Bool) → (a && b) ≡ true → b ≡ true
-and_right true b h = h
-and_right false b h = absurd (false_true h)
 
 -- WHERE A DIRECT PLACE IS FROM
 

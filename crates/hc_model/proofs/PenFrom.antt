@@ -1,6 +1,6 @@
 -- Whoever is bound before and after an entry and has the pen after it had it before, survives the loss of a shared writing, or wrote alone what is lost.
-use Rattle.std.proofs.Common.{◌≡◌, ◌⊎◌, inl, inr, ℕ, Bool, true, false, Option, Some, None, refl, ap, sym, ◌∙◌, subst}
-use Rattle.std.specs.Prelude.{is_some, ◌||◌}
+use Rattle.std.proofs.Common.{◌≡◌, ◌⊎◌, inl, inr, ℕ, true, false, Option, Some, None, ap, sym, ◌∙◌, subst}
+use Rattle.std.specs.Prelude.{is_some}
 use Rattle.hc_event.specs.declared.event.Event.{Event}
 use Rattle.hc_rules.specs.declared.room.Limits.{Limits}
 use Rattle.hc_model.specs.declared.place.Place.TheVariants as place
@@ -17,6 +17,7 @@ use Rattle.hc_model.specs.Sound.{Sound, IsFirst, HasPen}
 use Rattle.hc_model.specs.Sound as sound
 use Rattle.hc_model.specs.Tables.{after_accepted}
 use Rattle.hc_model.specs.Writers.{came_alone, loses_writing, survivor, goes_on_with}
+use Rattle.hc_model.proofs.Basics.{or_false}
 use Rattle.hc_model.proofs.Exclusives.{IsExclusive, exclusive_parts}
 use Rattle.hc_model.proofs.FirstKeeps.{came_kept}
 use Rattle.hc_model.proofs.HoleLemmas.{bool_cases}
@@ -24,10 +25,6 @@ use Rattle.hc_model.proofs.LossBy.{IsReal, fresh}
 use Rattle.hc_model.proofs.Pens.{same_row}
 use Rattle.hc_model.proofs.RepFrom.{IsKept}
 use Rattle.hc_model.proofs.ServedKeeps.{lost_alone, kept_alone}
-
-or_false : (a b : Bool) → (a || b) ≡ false → (a ≡ false) × (b ≡ false)
-or_false false b h = (refl, h)
-or_false true b h = absurd (let no : true ≡ false = h in cc)
 
 module _ (limits : Limits) (t : Tables) (now : ℕ) (flaw : Flaw) (s : Sound t) (o : Owners t) (m : Measures t) (ev : Event) (goes : denial t ev ≡ None) (real : IsReal limits t now ev flaw) where
   abbrev e : Entry

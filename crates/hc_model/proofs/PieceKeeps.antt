@@ -1,6 +1,6 @@
 -- A piece keeps what open exchanges are still to bring absent.
 use Rattle.std.proofs.Common.{◌≡◌, ◌≢◌, ◌⊎◌, inl, inr, ℕ, ◌+◌, ◌≤◌, List, [], ◌++◌, length, Bool, true, false, cond, Option, Some, None, refl, ap, sym, ◌∙◌, arith, subst, length-append}
-use Rattle.std.specs.Prelude.{is_some, ◌&&◌, nat_eq}
+use Rattle.std.specs.Prelude.{is_some, nat_eq}
 use Rattle.std.proofs.lemmas.Bool.Decides.{nat_tests}
 use Rattle.hc_event.specs.Filters.{opening_in}
 use Rattle.hc_event.specs.declared.event.Event.TheVariants as event
@@ -17,6 +17,7 @@ use Rattle.hc_model.specs.Rows.{Tables, Exchange, Representation}
 use Rattle.hc_model.specs.Sound.{Waits, Sound, OneAbout, IsAbout, IsPromised, InHole}
 use Rattle.hc_model.specs.Tables.{after_accepted}
 use Rattle.hc_model.specs.Sound as sound
+use Rattle.hc_model.proofs.Basics.{and_right}
 use Rattle.hc_model.proofs.Pens.{same_row}
 
 abbrev pub of_piece : ℕ → ℕ → List ℕ → List Act → Entry
@@ -38,10 +39,6 @@ pub record WasExchange (t : Tables) (x y : ℕ) (bytes : List ℕ) (u : Exchange
   pub promised_is : promised u ≡ promised w
   pub base_is : base u ≡ base w
   pub body_is : u.body ≡ cond (nat_eq x y) (w.body ++ bytes) w.body
-
-pub and_right : (a b : Bool) → (a && b) ≡ true → b ≡ true
-and_right true b h = h
-and_right false b h = absurd (let never : false ≡ true = h in cc)
 
 -- the row after the piece, of the exchange that brought it and of another
 abbrev with_bytes : Tables → ℕ → List ℕ → List Act → Exchange → Exchange

@@ -1,5 +1,5 @@
 -- Why a plan is what it is, in all that binds its consumer or opens an exchange for it.
-use Rattle.std.proofs.Common.{◌≡◌, ℕ, Bool, true, false, Option, Some, None, refl}
+use Rattle.std.proofs.Common.{◌≡◌, ℕ, true, false, Option, Some, None, refl}
 use Rattle.std.specs.Prelude.{is_none, ◌&&◌}
 use Rattle.hc_range.specs.declared.range.Span.{Span}
 use Rattle.hc_event.specs.declared.act.Need.{Need}
@@ -15,6 +15,7 @@ use Rattle.hc_rules.specs.declared.plan.PlanView.{PlanView}
 use Rattle.hc_rules.specs.Needs.{route_of}
 use Rattle.hc_rules.specs.Plans.{plan_of, bare_plan, in_time, from_store, by_current, by_why, by_wanted, by_exclusive, by_hole, by_bound, plan_on, why_by}
 use Rattle.hc_rules.proofs.Cond.{either}
+use Rattle.hc_model.proofs.Basics.{and_right}
 use Rattle.hc_model.proofs.Joining.{mix}
 
 -- what is current is read whole, as it is written
@@ -52,10 +53,6 @@ miss_bypass is = cc
 
 vary_bypass : need.Vary ≡ need.Bypass → ⊥
 vary_bypass is = cc
-
-and_right : (a b : Bool) → (a && b) ≡ true → b ≡ true
-and_right true b h = h
-and_right false b h = absurd (let never : false ≡ true = h in cc)
 
 module _ (v : PlanView) (cached : v.class.disabled ≡ false) (plain : v.class.bypassing ≡ false) (s : Candidate) (current : v.current ≡ Some s) where
   bound_by : (span hole : Span) (o : Option ℕ) → s.span ≡ wanted.Interval span → s.writing ≡ false → s.hole ≡ Some hole → s.least_bound ≡ o → PlanBy v (by_bound v span hole o)

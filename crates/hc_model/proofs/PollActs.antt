@@ -20,13 +20,10 @@ use Rattle.hc_model.specs.Moves as moves
 use Rattle.hc_model.specs.Moves.{Move, Nothing, Asks, Opens, Shows, Gives, Ends, Fails, acts_of}
 use Rattle.hc_model.specs.Polls.{polled, move_of}
 use Rattle.hc_model.specs.Rows.{Tables, Consumer}
+use Rattle.hc_model.proofs.Basics.{append_none}
 use Rattle.hc_model.proofs.Named.{IsFar, far_told, far_poll, far_closes, far_lost}
 use Rattle.hc_model.proofs.PieceKeeps.{eq_cases}
 use Rattle.hc_model.proofs.ShownOnce.{unshown_of}
-
-append_none : {A : Type 0} (xs : List A) → (xs ++ []) ≡ xs
-append_none [] = refl
-append_none (x ∷ xs) = ap (λ ys. x ∷ ys) (append_none xs)
 
 module _ (t : Tables) (now c : ℕ) where
   pub data ToOne (ev : Event) (acts : List Act) : Type 0 where

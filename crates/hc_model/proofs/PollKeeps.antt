@@ -1,6 +1,6 @@
 -- A poll opens a hole only where it is absent and no other exchange is about it.
 use Rattle.std.proofs.Common.{◌≡◌, inl, inr, ℕ, ◌+◌, ◌<◌, ◌≤◌, List, [], ◌∷◌, ◌++◌, Bool, true, false, cond, Option, Some, None, refl, ap, sym, ◌∙◌, subst, arith}
-use Rattle.std.specs.Prelude.{find, map, not, ◌&&◌}
+use Rattle.std.specs.Prelude.{find, map, ◌&&◌}
 use Rattle.std.proofs.lemmas.Bool.Decides.{nat_tests}
 use Rattle.hc_sparse.specs.Cells.{Cells, Cell}
 use Rattle.hc_sparse.specs.Stretch.{stretch, stretch_of}
@@ -29,9 +29,10 @@ use Rattle.hc_model.specs.Tables.{after_accepted}
 use Rattle.hc_model.specs.declared.place.Place.{Place}
 use Rattle.hc_rules.specs.declared.room.Limits.{Limits}
 use Rattle.hc_model.specs.Sound as sound
+use Rattle.hc_model.proofs.Basics.{and_right, not_true}
 use Rattle.hc_model.proofs.HoleLemmas.{bool_cases}
 use Rattle.hc_model.proofs.Pens.{IsAtHole, same_row, has_pen, none_about, none_about_hole}
-use Rattle.hc_model.proofs.PieceKeeps.{some_inj, and_right}
+use Rattle.hc_model.proofs.PieceKeeps.{some_inj}
 use Rattle.hc_model.proofs.QuietKeeps.{OpensWell, waits_kept, one_about_kept}
 use Rattle.hc_model.proofs.HolesOpened.{first_absent, later_absent}
 use Rattle.hc_model.proofs.PollTree.{OpensHole, FineMove, fine_polled}
@@ -45,10 +46,6 @@ find_passes test (x ∷ xs) r is = elim (bool_cases (test x)) [
   | inl passes ↦ let same : x ≡ r = some_inj x r (rw passes at is) in rw same at passes
   | inr fails ↦ find_passes test xs r (rw fails at is)
 ]
-
-not_true : (b : Bool) → not b ≡ true → b ≡ false
-not_true true h = absurd (let never : false ≡ true = h in cc)
-not_true false h = refl
 
 pub current_stays : (t : Tables) (key : List ℕ) (r : ℕ) (v : Representation) → current t key ≡ Some r → t.representation r ≡ Some v → v.is_gone ≡ false
 unfolding current

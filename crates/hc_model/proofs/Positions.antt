@@ -1,6 +1,6 @@
 -- At how many positions below a place something is.
-use Rattle.std.proofs.Common.{◌≡◌, inl, inr, ℕ, zero, suc, ◌+◌, ◌-◌, ◌<◌, ◌≤◌, List, [], ◌∷◌, length, Bool, true, false, cond, None, refl, ap, sym, ◌∙◌, arith, min, max}
-use Rattle.std.specs.Prelude.{is_some, nat_le, nat_lt, ◌&&◌}
+use Rattle.std.proofs.Common.{◌≡◌, inl, inr, ℕ, zero, suc, ◌+◌, ◌-◌, ◌<◌, ◌≤◌, List, [], ◌∷◌, length, true, false, cond, None, refl, ap, sym, ◌∙◌, arith, min, max}
+use Rattle.std.specs.Prelude.{is_some, nat_le, nat_lt}
 use Rattle.std.proofs.lemmas.Bool.Decides.{nat_tests}
 use Rattle.std.proofs.lemmas.List.Sums.{sum_by-cons}
 use Rattle.hc_sparse.specs.Cells.{Cells, Covers, EndsBy, AreAbsent, written, size_below}
@@ -9,19 +9,9 @@ use Rattle.hc_sparse.specs.declared.run.Run.{Run}
 use Rattle.hc_sparse.proofs.CellLemmas.{inside-cases, inside-before}
 use Rattle.hc_model.specs.Beginnings.{ascend_from}
 use Rattle.hc_model.specs.Tables.{last_end, bytes_in}
+use Rattle.hc_model.proofs.Basics.{and_left, and_right}
 use Rattle.hc_model.proofs.Begins.{ends_all}
 use Rattle.hc_model.proofs.HoleLemmas.{bool_cases}
-
-false_true : false ≡ true → ⊥
-false_true h = cc
-
-and_left : (a b : Bool) → (a && b) ≡ true → a ≡ true
-and_left true b h = refl
-and_left false b h = absurd (false_true h)
-
-and_right : (a b : Bool) → (a && b) ≡ true → b ≡ true
-and_right true b h = h
-and_right false b h = absurd (false_true h)
 
 pub below_none : (f : Cells) (n : ℕ) → EndsBy 0 f → size_below f n ≡ 0
 unfolding size_below

@@ -16,8 +16,9 @@ use Rattle.hc_model.specs.Rows.{Tables, Exchange, Representation}
 use Rattle.hc_model.specs.Sound.{Waits, Sound, OneAbout, IsAbout, IsPromised, InHole}
 use Rattle.hc_model.specs.Tables.{after_accepted}
 use Rattle.hc_model.specs.Sound as sound
+use Rattle.hc_model.proofs.Basics.{and_right}
 use Rattle.hc_model.proofs.Pens.{same_row}
-use Rattle.hc_model.proofs.PieceKeeps.{eq_cases, and_right, some_inj, ends_same}
+use Rattle.hc_model.proofs.PieceKeeps.{eq_cases, some_inj, ends_same}
 
 -- it brings neither a head nor a piece
 abbrev pub is_quiet : Event → Bool

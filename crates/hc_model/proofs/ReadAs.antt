@@ -32,6 +32,7 @@ use Rattle.hc_model.specs.Rows.{Tables, Exchange, Representation, Consumer}
 use Rattle.hc_model.specs.Sound.{Sound}
 use Rattle.hc_model.specs.Tables.{after_accepted}
 use Rattle.hc_model.proofs.AsideKeeps.{IsLanding, shown_headed}
+use Rattle.hc_model.proofs.Basics.{false_true, none_some}
 use Rattle.hc_model.proofs.ExchangeFrom.{IsSame, IsHeaded}
 use Rattle.hc_model.proofs.Fills.{Brings, brings, length_same}
 use Rattle.hc_model.proofs.Fills as fills_by
@@ -49,12 +50,6 @@ use Rattle.hc_model.proofs.RepFrom.{RepFrom, rep_from}
 use Rattle.hc_model.proofs.RepFrom as rep
 use Rattle.hc_model.proofs.ShownStays.{IsAside, Lands}
 use Rattle.hc_model.proofs.ShownStays as stands
-
-false_true : false ≡ true → ⊥
-false_true h = cc
-
-none_some : {A : Type 0} (a : A) → None ≡ Some a → ⊥
-none_some a is = cc
 
 -- it reads what it was shown, from where and to where it was shown
 pub record IsRead (t : Tables) (k : Consumer) (s : Shown) : Type 0 where

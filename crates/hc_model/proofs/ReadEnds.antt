@@ -1,5 +1,5 @@
 -- Who is told the end was given all up to it.
-use Rattle.std.proofs.Common.{◌≡◌, inl, inr, ℕ, ◌+◌, ◌-◌, ◌<◌, ◌≤◌, List, [], ◌∷◌, ◌++◌, length, Bool, true, false, Option, Some, None, refl, ap, sym, ◌∙◌, subst, arith}
+use Rattle.std.proofs.Common.{◌≡◌, inl, inr, ℕ, ◌+◌, ◌-◌, ◌<◌, ◌≤◌, List, [], ◌∷◌, length, Bool, true, false, Option, Some, None, refl, ap, sym, ◌∙◌, subst, arith}
 use Rattle.std.specs.Prelude.{is_some, nat_le, nat_lt, ◌&&◌, if◌then◌else◌}
 use Rattle.std.specs.Option.{option_or}
 use Rattle.std.proofs.lemmas.Bool.Decides.{nat_tests}
@@ -54,6 +54,7 @@ use Rattle.hc_model.specs.Tables.{tables, after_accepted}
 use Rattle.hc_model.proofs.ActParts.{IsSaid, said_is}
 use Rattle.hc_model.proofs.ActParts as parts
 use Rattle.hc_model.proofs.Barred.{next_tables, denied_tables}
+use Rattle.hc_model.proofs.Basics.{false_true, and_right, none_some, append_none}
 use Rattle.hc_model.proofs.Bounded.{IsBounded, bounded_begun, bounded_denied, bounded_kept}
 use Rattle.hc_model.proofs.GivenNext.{read_of}
 use Rattle.hc_model.proofs.HoleLemmas.{bool_cases}
@@ -68,20 +69,6 @@ use Rattle.hc_model.proofs.ReadJoined.{joined_in_runs, is_told, aside}
 use Rattle.hc_model.proofs.ReadNext.{by_said, shown_one}
 use Rattle.hc_model.proofs.ReadNext as next
 use Rattle.hc_model.proofs.SoundRuns.{carried}
-
-false_true : false ≡ true → ⊥
-false_true h = cc
-
-none_some : {A : Type 0} (a : A) → None ≡ Some a → ⊥
-none_some a is = cc
-
-and_right : (a b : Bool) → (a && b) ≡ true → b ≡ true
-and_right true b h = h
-and_right false b h = absurd (false_true h)
-
-append_none : {A : Type 0} (xs : List A) → (xs ++ []) ≡ xs
-append_none [] = refl
-append_none (x ∷ xs) = ap (λ ys. x ∷ ys) (append_none xs)
 
 -- BOUNDED IN RUNS
 

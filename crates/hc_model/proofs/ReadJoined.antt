@@ -30,6 +30,7 @@ use Rattle.hc_model.specs.Sound.{Sound}
 use Rattle.hc_model.specs.Tables.{tables, after_accepted, after_denied}
 use Rattle.hc_model.proofs.AsideKeeps.{landing_by, aside_begun, aside_denied, aside_kept}
 use Rattle.hc_model.proofs.Barred.{next_tables, denied_tables}
+use Rattle.hc_model.proofs.Basics.{false_true, none_some, append_none}
 use Rattle.hc_model.proofs.GivenNext.{read_of, given_next}
 use Rattle.hc_model.proofs.Givers.{some_want, gives_of}
 use Rattle.hc_model.proofs.GrowsInRuns.{grows}
@@ -45,16 +46,6 @@ use Rattle.hc_model.proofs.ShownOnce.{no_first}
 use Rattle.hc_model.proofs.ShownStays.{IsAside, StaysOrIdle, shown_stays}
 use Rattle.hc_model.proofs.ShownStays as stands
 use Rattle.hc_model.proofs.SoundRuns.{IsCarried, carried}
-
-false_true : false ≡ true → ⊥
-false_true h = cc
-
-none_some : {A : Type 0} (a : A) → None ≡ Some a → ⊥
-none_some a is = cc
-
-append_none : {A : Type 0} (xs : List A) → (xs ++ []) ≡ xs
-append_none [] = refl
-append_none (x ∷ xs) = ap (λ ys. x ∷ ys) (append_none xs)
 
 nil_cons : {A : Type 0} (x : A) (xs : List A) → [] ≡ x ∷ xs → ⊥
 nil_cons x xs is = cc

@@ -26,6 +26,7 @@ use Rattle.hc_model.specs.Tables.{tables}
 use Rattle.hc_model.specs.Weights.{evicted}
 use Rattle.hc_model.proofs.ActParts.{IsAnswer, IsSaid, answer_is, said_is}
 use Rattle.hc_model.proofs.ActParts as parts
+use Rattle.hc_model.proofs.Basics.{append_none}
 use Rattle.hc_model.proofs.OneHead.{one_head_is_shown}
 use Rattle.hc_model.proofs.Owed.{IsDenied, is_denial, acts_are, goes}
 use Rattle.hc_model.proofs.Owed as owed_acts
@@ -33,13 +34,6 @@ use Rattle.hc_model.proofs.ReadFilters.{consumers_are_filtered}
 use Rattle.hc_model.proofs.ReadJoined.{next_of, joined_in_runs, is_told, aside}
 use Rattle.hc_model.proofs.ShownOnce.{is_giving, unshown_gives}
 use Rattle.hc_model.proofs.SoundRuns.{carried}
-
-false_true : false ≡ true → ⊥
-false_true h = cc
-
-append_none : {A : Type 0} (xs : List A) → (xs ++ []) ≡ xs
-append_none [] = refl
-append_none (x ∷ xs) = ap (λ ys. x ∷ ys) (append_none xs)
 
 -- WHO SAYS IT
 

@@ -22,6 +22,7 @@ use Rattle.hc_model.specs.Tables.{tables}
 use Rattle.hc_model.specs.Weights.{evicted}
 use Rattle.hc_model.proofs.ActParts.{IsAnswer, IsSaid, answer_is, said_is}
 use Rattle.hc_model.proofs.ActParts as parts
+use Rattle.hc_model.proofs.Basics.{false_true, append_none}
 use Rattle.hc_model.proofs.Owed.{IsDenied, is_denial, acts_are}
 use Rattle.hc_model.proofs.Owed as owed_acts
 use Rattle.hc_model.proofs.ReadEnds.{ends_well}
@@ -31,13 +32,6 @@ use Rattle.hc_model.proofs.Reasons.{reason_holds}
 use Rattle.hc_model.proofs.ShownOnce.{is_showing, shown_shows}
 use Rattle.hc_model.proofs.SoundRuns.{runs_are_sound}
 use Rattle.hc_model.proofs.WhyShown.{shown_why}
-
-false_true : false ≡ true → ⊥
-false_true h = cc
-
-append_none : {A : Type 0} (xs : List A) → (xs ++ []) ≡ xs
-append_none [] = refl
-append_none (x ∷ xs) = ap (λ ys. x ∷ ys) (append_none xs)
 
 -- ACTS THAT NO READER IS TOLD
 

@@ -1,6 +1,6 @@
 -- Whose open exchange has a head reads it, or what it is bound to, and stands there until it leaves.
 use Rattle.std.proofs.Common.{◌≡◌, ◌⊎◌, inl, inr, ℕ, Bool, true, false, Option, Some, None, refl, ap, sym, ◌∙◌, subst, arith}
-use Rattle.std.specs.Prelude.{if◌then◌else◌, is_some, is_none, ◌&&◌, ◌||◌, ◌==◌, not, nat_eq}
+use Rattle.std.specs.Prelude.{if◌then◌else◌, is_some, is_none, ◌&&◌, ◌==◌, not, nat_eq}
 use Rattle.std.specs.Option.{option_and_then}
 use Rattle.std.proofs.lemmas.Bool.Decides.{nat_tests}
 use Rattle.hc_event.specs.Filters.{Opening, opening_in, leaves_in}
@@ -15,7 +15,6 @@ use Rattle.hc_model.specs.declared.place.Place.TheVariants as place
 use Rattle.hc_model.specs.ActFilters.{Showing, showing_in, wait_in}
 use Rattle.hc_model.specs.Closings.{must_close, is_left, is_left_by, leaver, leaver_by}
 use Rattle.hc_model.specs.ConsumerRows.{consumer_heard, consumer_acted, by_head, by_fault, by_opening, own_after, shown_place, waiting, waiting_place}
-use Rattle.hc_model.specs.Currents.{is_number}
 use Rattle.hc_model.specs.Denials.{denial}
 use Rattle.hc_model.specs.Entries.{Entry}
 use Rattle.hc_model.specs.ExchangeRows.{exchange_heard}
@@ -30,6 +29,7 @@ use Rattle.hc_model.specs.Rows.{Tables, Exchange, Consumer}
 use Rattle.hc_model.specs.Sound.{Sound}
 use Rattle.hc_model.specs.Tables.{after_accepted}
 use Rattle.hc_model.specs.Writers.{brings_body}
+use Rattle.hc_model.proofs.Basics.{false_true, and_left, and_right, or_left, or_right, not_so, none_some, some_none, number_yes}
 use Rattle.hc_model.proofs.Closed.{before, closes}
 use Rattle.hc_model.proofs.ExchangeFrom.{ExchangeFrom, IsSame, IsHeaded, exchange_from}
 use Rattle.hc_model.proofs.ExchangeFrom as exchange
@@ -48,39 +48,6 @@ use Rattle.hc_model.proofs.SaidActs.{leaves_leaver}
 use Rattle.hc_model.proofs.WaitedAs.{IsForOthers, waited_as}
 use Rattle.hc_model.proofs.WaitedAs as waited
 use Rattle.hc_model.proofs.Waiters.{waiter_of, fault_open_of}
-
-false_true : false ≡ true → ⊥
-false_true h = cc
-
-none_some : {A : Type 0} (a : A) → None ≡ Some a → ⊥
-none_some a is = cc
-
-some_none : {A : Type 0} (a : A) → Some a ≡ None → ⊥
-some_none a is = cc
-
-and_left : (a b : Bool) → (a && b) ≡ true → a ≡ true
-and_left true b h = refl
-and_left false b h = absurd (false_true h)
-
-and_right : (a b : Bool) → (a && b) ≡ true → b ≡ true
-and_right true b h = h
-and_right false b h = absurd (false_true h)
-
-or_left : (a b : Bool) → a ≡ true → (a || b) ≡ true
-or_left true b h = refl
-or_left false b h = absurd (false_true h)
-
-or_right : (a b : Bool) → b ≡ true → (a || b) ≡ true
-or_right true b h = refl
-or_right false b h = h
-
-not_so : (b : Bool) → (b ≡ true → ⊥) → b ≡ false
-not_so true off = absurd (off refl)
-not_so false off = refl
-
-number_yes : (o : Option ℕ) (n : ℕ) → o ≡ Some n → is_number o n ≡ true
-number_yes None n is = absurd (none_some n is)
-number_yes (Some m) n is = let same : m ≡ n = some_inj m n is in let test : nat_eq m n ≡ true = grind (arith, nat_tests) in test
 
 none_of : (q : Option Response) → is_none q ≡ true → q ≡ None
 none_of None g = refl

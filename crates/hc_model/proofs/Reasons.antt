@@ -39,6 +39,7 @@ use Rattle.hc_model.specs.Sound.{Sound}
 use Rattle.hc_model.specs.Tables.{tables, after_accepted, after_denied}
 use Rattle.hc_model.proofs.Aimed.{IsAimed, aimed_begun, aimed_denied, aimed_kept}
 use Rattle.hc_model.proofs.Barred.{next_tables, denied_tables}
+use Rattle.hc_model.proofs.Basics.{false_true, or_left, or_right, none_some}
 use Rattle.hc_model.proofs.Forward.{is_on}
 use Rattle.hc_model.proofs.InRuns.{turned_in_runs}
 use Rattle.hc_model.proofs.JoinFilters.{exchanges_are_filtered}
@@ -52,19 +53,6 @@ use Rattle.hc_model.proofs.Said.{waiting_by}
 use Rattle.hc_model.proofs.SoundRuns.{carried}
 use Rattle.hc_model.proofs.WhyShown.{ShownWhy}
 use Rattle.hc_model.proofs.WhyShown as shown_for
-
-false_true : false ≡ true → ⊥
-false_true h = cc
-
-none_some : {A : Type 0} (a : A) → None ≡ Some a → ⊥
-none_some a is = cc
-
-or_left : (a b : Bool) → a ≡ true → (a || b) ≡ true
-or_left a b h = rw h refl
-
-or_right : (a b : Bool) → b ≡ true → (a || b) ≡ true
-or_right true b h = refl
-or_right false b h = h
 
 same_number : (r : ℕ) → nat_eq r r ≡ true
 same_number r = grind (arith, nat_tests)

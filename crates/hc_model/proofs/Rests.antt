@@ -1,6 +1,6 @@
 -- Who became bound as the only one and has no exchange of its own has all that is left, where nobody writes it.
 use Rattle.std.proofs.Common.{◌≡◌, ◌⊎◌, inl, inr, ℕ, ◌+◌, ◌-◌, ◌≤◌, List, Bool, true, false, Option, Some, None, refl, ap, sym, ◌∙◌, subst, arith}
-use Rattle.std.specs.Prelude.{if◌then◌else◌, is_some, ◌||◌, ◌==◌, nat_eq, bytes_eq, codes, unwrap_or}
+use Rattle.std.specs.Prelude.{if◌then◌else◌, is_some, ◌==◌, nat_eq, bytes_eq, codes, unwrap_or}
 use Rattle.std.proofs.lemmas.Bool.Decides.{nat_tests}
 use Rattle.std.proofs.lemmas.Slice.Eq.{bytes_eq-Decides}
 use Rattle.hc_range.specs.declared.range.ContentRange.TheVariants as range
@@ -46,6 +46,7 @@ use Rattle.hc_model.specs.Tables.{after_accepted}
 use Rattle.hc_model.specs.Writers.{came_alone, status_in}
 use Rattle.hc_model.proofs.AboutKeeps.{own_open_of}
 use Rattle.hc_model.proofs.ApartKeeps.{written_by}
+use Rattle.hc_model.proofs.Basics.{false_true, true_false, or_false, none_some, some_none}
 use Rattle.hc_model.proofs.Beside.{IsBeside}
 use Rattle.hc_model.proofs.BoundFrom.{BoundFrom, IsRow, IsFounded, IsShown, bound_from, place_inj}
 use Rattle.hc_model.proofs.BoundFrom as from
@@ -68,22 +69,6 @@ use Rattle.hc_model.proofs.ServedKeeps.{rest_by, still_rests, resumed_not, none_
 use Rattle.hc_model.proofs.TogetherHeads as together
 use Rattle.hc_model.proofs.Waiters.{waiter_of}
 use Rattle.hc_model.proofs.WriterEnds.{all_stored}
-
-none_some : {A : Type 0} (a : A) → None ≡ Some a → ⊥
-none_some a is = cc
-
-some_none : {A : Type 0} (a : A) → Some a ≡ None → ⊥
-some_none a is = cc
-
-false_true : false ≡ true → ⊥
-false_true h = cc
-
-true_false : true ≡ false → ⊥
-true_false h = cc
-
-or_false : (a b : Bool) → (a || b) ≡ false → (a ≡ false) × (b ≡ false)
-or_false false b h = (refl, h)
-or_false true b h = absurd (true_false h)
 
 -- WHO READS GETS A BODY
 

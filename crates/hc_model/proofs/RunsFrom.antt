@@ -10,22 +10,8 @@ use Rattle.hc_sparse.specs.declared.run.Run.{Run}
 use Rattle.hc_model.specs.Beginnings.{ascend_from}
 use Rattle.hc_model.specs.Contents.{run_from, with_cell, with_place, runs_from}
 use Rattle.hc_model.specs.Tables.{last_end, bytes_in}
+use Rattle.hc_model.proofs.Basics.{false_true, and_left, and_right, or_right}
 use Rattle.hc_model.proofs.HoleLemmas.{bool_cases}
-
-false_true : false ≡ true → ⊥
-false_true h = cc
-
-and_left : (a b : Bool) → (a && b) ≡ true → a ≡ true
-and_left true b h = refl
-and_left false b h = absurd (false_true h)
-
-and_right : (a b : Bool) → (a && b) ≡ true → b ≡ true
-and_right true b h = h
-and_right false b h = absurd (false_true h)
-
-or_right : (a b : Bool) → b ≡ true → (a || b) ≡ true
-or_right true b h = refl
-or_right false b h = h
 
 -- whether the first run goes on
 abbrev goes_on : ℕ → Cell → Run → Bool

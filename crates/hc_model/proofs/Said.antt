@@ -1,5 +1,5 @@
 -- Whatever the acts of an accepted event say of a consumer, its poll says, by its move.
-use Rattle.std.proofs.Common.{◌≡◌, inl, inr, ℕ, List, [], ◌∷◌, ◌++◌, true, false, Option, Some, None, refl, ap, sym, ◌∙◌, subst}
+use Rattle.std.proofs.Common.{◌≡◌, inl, inr, ℕ, List, [], ◌∷◌, ◌++◌, true, Option, Some, None, refl, ap, sym, ◌∙◌, subst}
 use Rattle.std.specs.Prelude.{map, ◌||◌, nat_eq}
 use Rattle.hc_event.specs.Filters.{Opening, opening_in, leaves_in, shows_in}
 use Rattle.hc_event.specs.declared.event.Event.{Event}
@@ -27,6 +27,7 @@ use Rattle.hc_model.specs.Polls.{move_of}
 use Rattle.hc_model.specs.Rows.{Tables, Consumer}
 use Rattle.hc_model.specs.Sound.{Sound}
 use Rattle.hc_model.specs.Weights.{evicted}
+use Rattle.hc_model.proofs.Basics.{false_true, none_some}
 use Rattle.hc_model.proofs.EventsKeep.{poll_live}
 use Rattle.hc_model.proofs.PieceKeeps.{eq_cases, some_inj}
 use Rattle.hc_model.proofs.PieceServes.{IsQuietActs, quiet_acts}
@@ -63,12 +64,6 @@ pub data IsOpening (o : Opening) : Move → Type 0 where
 
 pub data IsShowing (s : Showing) : Move → Type 0 where
   shows : (why : Why) (head : Response) → IsShowing s (Shows s.r why head s.lo s.hi)
-
-none_some : {A : Type 0} (a : A) → None ≡ Some a → ⊥
-none_some a is = cc
-
-false_true : false ≡ true → ⊥
-false_true is = cc
 
 module _ (c : ℕ) (rest : List Act) (q : IsQuietActs rest) where
   opening_said : (m : Move) (o : Opening) → opening_in (acts_of c m ++ rest) ≡ Some o → (o.c ≡ c) × IsOpening o m

@@ -41,6 +41,7 @@ use Rattle.hc_model.specs.Tables.{after_accepted}
 use Rattle.hc_model.specs.Writers.{brings_body, came_alone, loses_writing, survivor, goes_on_with, status_in}
 use Rattle.hc_model.specs.Writes.{stops}
 use Rattle.hc_model.proofs.ApartKeeps.{written_by, is_on}
+use Rattle.hc_model.proofs.Basics.{false_true, and_left, and_right, and_both, none_some, number_is}
 use Rattle.hc_model.proofs.BoundFrom.{BoundFrom, IsRow, IsFounded, IsFirstHole, IsShown, bound_from}
 use Rattle.hc_model.proofs.BoundFrom as from
 use Rattle.hc_model.proofs.BoundKeeps.{planned_at}
@@ -74,28 +75,6 @@ use Rattle.hc_model.proofs.Unclosed.{had_to}
 use Rattle.hc_model.proofs.Waiters.{waiter_of, doomed_same, case_same}
 use Rattle.hc_model.proofs.WriterEnds.{all_stored}
 use Rattle.hc_model.proofs.WritingStops.{IsAll}
-
-false_true : false ≡ true → ⊥
-false_true h = cc
-
-none_some : {A : Type 0} (a : A) → None ≡ Some a → ⊥
-none_some a is = cc
-
-and_left : (a b : Bool) → (a && b) ≡ true → a ≡ true
-and_left true b h = refl
-and_left false b h = absurd (false_true h)
-
-and_right : (a b : Bool) → (a && b) ≡ true → b ≡ true
-and_right true b h = h
-and_right false b h = absurd (false_true h)
-
-and_both : (a b : Bool) → a ≡ true → b ≡ true → (a && b) ≡ true
-and_both true b p q = q
-and_both false b p q = absurd (false_true p)
-
-number_is : (o : Option ℕ) (n : ℕ) → is_number o n ≡ true → o ≡ Some n
-number_is None n h = absurd (false_true h)
-number_is (Some m) n h = let same : m ≡ n = grind (arith, nat_tests) in ap Some same
 
 or_false : (a b : Bool) → a ≡ false → b ≡ false → (a || b) ≡ false
 or_false a b p q = rw (p, q) refl

@@ -26,6 +26,7 @@ use Rattle.hc_model.specs.Reading.{is_written, bound, bound_to, reads}
 use Rattle.hc_model.specs.Rows.{Tables, Representation, Consumer}
 use Rattle.hc_model.specs.Sound.{Sound}
 use Rattle.hc_model.specs.Writers.{exclusive}
+use Rattle.hc_model.proofs.Basics.{none_some}
 use Rattle.hc_model.proofs.MoveBy.{MoveBy, IsHeard, move_by}
 use Rattle.hc_model.proofs.MoveBy as by
 use Rattle.hc_model.proofs.PieceKeeps.{some_inj}
@@ -48,9 +49,6 @@ pub record IsCandidate (t : Tables) (k : Consumer) (s : Candidate) : Type 0 wher
   pub writing_is : s.writing ≡ is_written t v
   pub least_is : s.least_bound ≡ least (bound t r)
   pub exclusive_is : s.exclusive ≡ exclusive t r v
-
-none_some : {A : Type 0} (a : A) → None ≡ Some a → ⊥
-none_some a is = cc
 
 module _ (t : Tables) (now c : ℕ) (k : Consumer) where
   by_row : (r : ℕ) (o : Option Representation) (s : Candidate) → current t k.request.key ≡ Some r → t.representation r ≡ o → option_map (λ v. candidate t now r k.request v) o ≡ Some s → IsCandidate t k s

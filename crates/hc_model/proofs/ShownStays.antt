@@ -34,6 +34,7 @@ use Rattle.hc_model.specs.Rows.{Tables, Exchange, Consumer}
 use Rattle.hc_model.specs.Sound.{Sound}
 use Rattle.hc_model.specs.StartingOver.{starts_over}
 use Rattle.hc_model.specs.Tables.{after_accepted}
+use Rattle.hc_model.proofs.Basics.{false_true, none_some}
 use Rattle.hc_model.proofs.FirstKeeps.{is_new, case_is, is_opener}
 use Rattle.hc_model.proofs.Forward.{is_kept}
 use Rattle.hc_model.proofs.FoundBy.{CaseBy, case_by}
@@ -48,16 +49,6 @@ use Rattle.hc_model.proofs.Said.{IsShowing, IsOpening, WaitsAs, opening_by, show
 use Rattle.hc_model.proofs.Said as said
 use Rattle.hc_model.proofs.ShownOnce.{is_showing, shown_shows}
 use Rattle.hc_model.proofs.Waiters.{IsWaiter, waiter_of}
-
-false_true : false ≡ true → ⊥
-false_true h = cc
-
-none_some : {A : Type 0} (a : A) → None ≡ Some a → ⊥
-none_some a is = cc
-
-and_left : (a b : Bool) → (a && b) ≡ true → a ≡ true
-and_left true b h = refl
-and_left false b h = absurd (false_true h)
 
 -- it reads nothing there and doesn't have the turn
 abbrev pub IsIdle : Place → Type 0

@@ -1,6 +1,6 @@
 -- How much is stored stays the count of positions, and no more than an entry may have.
 use Rattle.std.proofs.Common.{◌≡◌, inl, inr, ℕ, ◌+◌, ◌≤◌, List, [], ◌∷◌, length, Bool, true, false, Option, Some, None, refl, ap, sym, ◌∙◌, subst, arith, max}
-use Rattle.std.specs.Prelude.{is_some, ◌&&◌, ◌||◌, ◌==◌, not, nat_le, find, if◌then◌else◌, option_map}
+use Rattle.std.specs.Prelude.{is_some, ◌||◌, ◌==◌, not, nat_le, find, if◌then◌else◌, option_map}
 use Rattle.std.proofs.lemmas.Bool.Decides.{nat_tests}
 use Rattle.hc_event.specs.declared.event.Event.{Event}
 use Rattle.hc_event.specs.declared.event.Event.TheVariants as event
@@ -20,6 +20,7 @@ use Rattle.hc_model.specs.Rows.{Tables, Exchange, Representation}
 use Rattle.hc_model.specs.Sizes.{Sizes}
 use Rattle.hc_model.specs.Sound.{Sound, IsStored}
 use Rattle.hc_model.specs.Tables.{begun, loaded, bytes_in, after_accepted, after_denied}
+use Rattle.hc_model.proofs.Basics.{false_true, and_left, and_right, none_some}
 use Rattle.hc_model.proofs.FitsKept.{Fits, stored_small}
 use Rattle.hc_model.proofs.FitsRuns.{fits_begin, fits_denied, fits_kept}
 use Rattle.hc_model.proofs.KeyNames.{eq_is}
@@ -33,20 +34,6 @@ use Rattle.hc_model.proofs.RepFrom as rep
 use Rattle.hc_model.proofs.RunFacts.{in_runs}
 use Rattle.hc_model.proofs.SoundRuns.{IsCarried}
 use Rattle.hc_model.proofs.Weighed.{sized}
-
-none_some : {A : Type 0} (a : A) → None ≡ Some a → ⊥
-none_some a is = cc
-
-false_true : false ≡ true → ⊥
-false_true h = cc
-
-and_left : (a b : Bool) → (a && b) ≡ true → a ≡ true
-and_left true b h = refl
-and_left false b h = absurd (false_true h)
-
-and_right : (a b : Bool) → (a && b) ≡ true → b ≡ true
-and_right true b h = h
-and_right false b h = absurd (false_true h)
 
 -- THE COUNT
 

@@ -1,6 +1,6 @@
 -- Contents by which a store may begin have numbers that were given out, and each has a key of its own.
-use Rattle.std.proofs.Common.{◌≡◌, inl, inr, ℕ, ◌-◌, ◌<◌, ◌≤◌, List, [], ◌∷◌, Bool, true, false, Some, None, refl, ap, sym, ◌∙◌, arith}
-use Rattle.std.specs.Prelude.{◌&&◌, ◌||◌, ◌==◌, not, bytes_eq, find, nat_lt}
+use Rattle.std.proofs.Common.{◌≡◌, inl, inr, ℕ, ◌-◌, ◌<◌, ◌≤◌, List, [], ◌∷◌, Bool, true, false, Some, ap, sym, ◌∙◌, arith}
+use Rattle.std.specs.Prelude.{◌==◌, bytes_eq, find, nat_lt}
 use Rattle.std.specs.List.{list_any}
 use Rattle.std.proofs.lemmas.Bool.Decides.{nat_tests}
 use Rattle.hc_rules.specs.declared.room.Limits.{Limits}
@@ -8,30 +8,8 @@ use Rattle.hc_rules.proofs.RangeReads.{bytes_eq-same}
 use Rattle.hc_model.specs.Beginnings.{may_begin, are_good, is_good, is_given_out, has_own_numbers}
 use Rattle.hc_model.specs.Entries.{Content, Contents}
 use Rattle.hc_model.specs.Laws.{AreNumbered, IsStart}
+use Rattle.hc_model.proofs.Basics.{false_true, and_left, and_right, or_false, not_true, none_some}
 use Rattle.hc_model.proofs.PieceKeeps.{eq_cases, some_inj}
-
-false_true : false ≡ true → ⊥
-false_true h = cc
-
-none_some : {A : Type 0} (a : A) → None ≡ Some a → ⊥
-none_some a is = cc
-
-and_left : (a b : Bool) → (a && b) ≡ true → a ≡ true
-and_left true b h = refl
-and_left false b h = absurd (false_true h)
-
-and_right : (a b : Bool) → (a && b) ≡ true → b ≡ true
-and_right true b h = h
-and_right false b h = absurd (false_true h)
-
-or_false : (a b : Bool) → (a || b) ≡ false → (a ≡ false) × (b ≡ false)
-or_false false false h = (refl, refl)
-or_false false true h = absurd (let no : true ≡ false = h in cc)
-or_false true b h = absurd (let no : true ≡ false = h in cc)
-
-not_true : (b : Bool) → not b ≡ true → b ≡ false
-not_true true h = absurd (false_true h)
-not_true false h = refl
 
 abbrev of_number : ℕ → Content → Bool
 of_number r item = item.r == r

@@ -1,5 +1,5 @@
 -- Where a shared writing stops: its members get a failure, or all that is left for them is stored.
-use Rattle.std.proofs.Common.{◌≡◌, ◌⊎◌, inl, inr, ℕ, ◌+◌, ◌<◌, ◌≤◌, List, ◌++◌, length, true, false, Option, Some, None, refl, ap, sym, ◌∙◌, arith, length-append}
+use Rattle.std.proofs.Common.{◌≡◌, inl, inr, ℕ, ◌+◌, ◌<◌, List, ◌++◌, length, true, false, Option, Some, None, refl, ap, sym, ◌∙◌, arith, length-append}
 use Rattle.std.specs.Prelude.{is_some, nat_lt, nat_eq}
 use Rattle.std.specs.Option.{option_or}
 use Rattle.std.proofs.lemmas.Bool.Decides.{nat_tests}
@@ -15,7 +15,8 @@ use Rattle.hc_model.specs.Rows.{Tables, Exchange, Representation, Consumer}
 use Rattle.hc_model.specs.Sound.{Sound, IsAbout, IsBound, IsGrowing, IsSoundRepresentation, end_from, promised_end}
 use Rattle.hc_rules.specs.Lengths.{is_same_number}
 use Rattle.hc_model.specs.Sound as sound
-use Rattle.hc_model.proofs.PieceKeeps.{and_right, some_inj}
+use Rattle.hc_model.proofs.Basics.{and_right, split}
+use Rattle.hc_model.proofs.PieceKeeps.{some_inj}
 
 -- WHAT A MEMBER READS FROM
 
@@ -72,9 +73,6 @@ short_due t x p w row promise less = rw (row, promise) (short_some p less)
 
 eq_of : (a b : ℕ) → nat_eq a b ≡ true → a ≡ b
 eq_of a b h = grind (arith, nat_tests)
-
-split : (a b : ℕ) → (a < b) ⊎ (b ≤ a)
-split a b = grind (arith, nat_tests)
 
 -- with the last promised piece, each position below the total is stored
 pub last_piece : (t : Tables) (r x total : ℕ) (bytes : List ℕ) (v : Representation) (w : Exchange) → IsGrowing t r v x w → v.head.total ≡ Some total → is_reached (promised w) (length (w.body ++ bytes)) ≡ true → Covers (written (front w) x bytes v.stored) 0 total

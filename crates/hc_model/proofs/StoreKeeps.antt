@@ -16,6 +16,7 @@ use Rattle.hc_model.specs.Laws.{StoresAreKept}
 use Rattle.hc_model.specs.RepresentationRows.{representation_after, representation_heard, representation_acted, founded_at, represented, headed, renewed, updates, pieced, filled, ended, length_in}
 use Rattle.hc_model.specs.Rows.{Tables, Exchange, Representation}
 use Rattle.hc_model.specs.Sound.{Sound, IsStored}
+use Rattle.hc_model.proofs.Basics.{or_left, or_right, or_false}
 use Rattle.hc_model.proofs.HoleLemmas.{bool_cases}
 use Rattle.hc_model.proofs.Once.{delivers_once}
 use Rattle.hc_model.proofs.PieceKeeps.{some_inj}
@@ -74,11 +75,6 @@ record IsKept (v u : Representation) (lost : Bool) : Type 0 where
   all : lost ≡ false → (p : ℕ) → u.stored p ≡ u.body p
   some : (p : ℕ) → is_some (u.stored p) ≡ true → u.stored p ≡ u.body p
 
-or_false : (a b : Bool) → (a || b) ≡ false → (a ≡ false) × (b ≡ false)
-or_false false false h = (refl, refl)
-or_false false true h = absurd (let never : true ≡ false = h in cc)
-or_false true b h = absurd (let never : true ≡ false = h in cc)
-
 quiet_kept : (v u : Representation) (loses : Bool) → IsStored v → IsStill v u → IsKept v u (loses || v.is_lost)
 quiet_kept v u loses s is = record {
   ends = λ p le. ap (λ (f : Cells). f p) is.body_is ∙ s.ends p (subst (λ n. n ≤ p) is.reach_is le);
@@ -133,15 +129,6 @@ piece_kept v loses at x bytes s absent = by_loss (v.is_lost || loses) refl
     }
 
 -- THE ROW AFTER AN ENTRY
-
-or_left : (a b : Bool) → a ≡ true → (a || b) ≡ true
-or_left true b h = refl
-or_left false b h = absurd (let never : false ≡ true = h in cc)
-
-or_right : (a b : Bool) → b ≡ true → (a || b) ≡ true
-or_right true b h = refl
-or_right false true h = refl
-or_right false false h = absurd (let never : false ≡ true = h in cc)
 
 loss_goes : (t : Tables) (e : Entry) (r : ℕ) (v : Representation) → loses_in r e.acts ≡ true → becomes_gone t e r v ≡ true
 unfolding becomes_gone

@@ -1,6 +1,6 @@
 -- The moments of stored heads stay in order, and no length stands among their fields.
 use Rattle.std.proofs.Common.{◌≡◌, inl, inr, ℕ, ◌≤◌, List, [], ◌∷◌, Bool, true, false, None, Option, Some, refl, ap, sym, ◌∙◌, subst, arith}
-use Rattle.std.specs.Prelude.{◌&&◌, ◌==◌, not, nat_le, find, option_map, codes}
+use Rattle.std.specs.Prelude.{◌==◌, not, nat_le, find, option_map, codes}
 use Rattle.std.proofs.lemmas.Bool.Decides.{nat_tests}
 use Rattle.hc_event.specs.Filters.{is_denied}
 use Rattle.hc_event.specs.declared.event.Event.{Event}
@@ -17,6 +17,7 @@ use Rattle.hc_model.specs.Laws.{OfRuns}
 use Rattle.hc_model.specs.Rows.{Tables, Exchange, Representation}
 use Rattle.hc_model.specs.StoredHeads.{StoredHeads, IsModestHead, HeadsAreModest, AreModest}
 use Rattle.hc_model.specs.Tables.{tables, begun, loaded, after, after_accepted, after_denied}
+use Rattle.hc_model.proofs.Basics.{false_true, and_left, and_right, none_some}
 use Rattle.hc_model.proofs.ExchangeFrom.{ExchangeFrom, exchange_from}
 use Rattle.hc_model.proofs.ExchangeFrom as exchange
 use Rattle.hc_model.proofs.FieldsKeep.{length_kept, range_kept, length_none, range_none, modest_kept, modest_founded}
@@ -27,20 +28,6 @@ use Rattle.hc_model.proofs.PieceKeeps.{eq_cases, some_inj}
 use Rattle.hc_model.proofs.RepFrom.{RepFrom, rep_from}
 use Rattle.hc_model.proofs.RepFrom as rep
 use Rattle.hc_model.proofs.RunFacts.{in_runs}
-
-none_some : {A : Type 0} (a : A) → None ≡ Some a → ⊥
-none_some a is = cc
-
-false_true : false ≡ true → ⊥
-false_true h = cc
-
-and_left : (a b : Bool) → (a && b) ≡ true → a ≡ true
-and_left true b h = refl
-and_left false b h = absurd (false_true h)
-
-and_right : (a b : Bool) → (a && b) ≡ true → b ≡ true
-and_right true b h = h
-and_right false b h = absurd (false_true h)
 
 not_yes : (b : Bool) → not b ≡ true → b ≡ false
 not_yes true h = absurd (false_true h)

@@ -1,6 +1,6 @@
 -- Who survives the loss of a shared writing goes on alone: it stands where its exchange goes on, and nothing past that came.
-use Rattle.std.proofs.Common.{◌≡◌, ◌⊎◌, inl, inr, ℕ, ◌+◌, ◌<◌, ◌≤◌, List, [], ◌∷◌, length, Bool, true, false, Option, Some, None, refl, ap, sym, ◌∙◌, subst, arith, min, length-append}
-use Rattle.std.specs.Prelude.{if◌then◌else◌, is_some, ◌&&◌, ◌||◌, not, nat_eq, nat_le, map, filter}
+use Rattle.std.proofs.Common.{◌≡◌, ◌⊎◌, inl, inr, ℕ, ◌+◌, ◌<◌, ◌≤◌, List, [], ◌∷◌, length, true, Option, Some, None, refl, ap, sym, ◌∙◌, subst, arith, min, length-append}
+use Rattle.std.specs.Prelude.{if◌then◌else◌, is_some, ◌||◌, not, nat_eq, nat_le, map, filter}
 use Rattle.std.proofs.lemmas.Bool.Decides.{nat_tests}
 use Rattle.hc_sparse.specs.Cells.{Cells, Covers, written}
 use Rattle.hc_sparse.proofs.CellLemmas.{inside-past, inside-yes}
@@ -31,6 +31,7 @@ use Rattle.hc_model.specs.Sound.{Sound, IsBound, IsAlone, IsGrowing}
 use Rattle.hc_model.specs.Sound as sound
 use Rattle.hc_model.specs.Tables.{after_accepted}
 use Rattle.hc_model.specs.Writers.{brings_body, loses_writing, survivor, member, offset_in}
+use Rattle.hc_model.proofs.Basics.{false_true, and_left, and_right, and_both, not_so, none_some, number_yes}
 use Rattle.hc_model.proofs.BoundStays.{bound_stays}
 use Rattle.hc_model.proofs.ConsumerFilters.{acted}
 use Rattle.hc_model.proofs.ExchangeFrom.{IsSame, IsHeaded}
@@ -39,7 +40,7 @@ use Rattle.hc_model.proofs.Fills as fills_by
 use Rattle.hc_model.proofs.FirstKeeps.{is_new}
 use Rattle.hc_model.proofs.Forward as forward
 use Rattle.hc_model.proofs.ApartKeeps.{is_on}
-use Rattle.hc_model.proofs.HadKeeps.{number_yes, survivor_bound}
+use Rattle.hc_model.proofs.HadKeeps.{survivor_bound}
 use Rattle.hc_model.proofs.HoleLemmas.{bool_cases}
 use Rattle.hc_model.proofs.LossBy.{IsReal, fresh}
 use Rattle.hc_model.proofs.MeasuresKeep.{IsHeld, held, one_piece}
@@ -51,28 +52,6 @@ use Rattle.hc_model.proofs.HasBound.{reader_of}
 use Rattle.hc_model.proofs.RepFrom.{RepFrom, rep_from, IsKept}
 use Rattle.hc_model.proofs.RepFrom as rep
 use Rattle.hc_model.proofs.Said.{leaving_by}
-
-false_true : false ≡ true → ⊥
-false_true h = cc
-
-none_some : {A : Type 0} (a : A) → None ≡ Some a → ⊥
-none_some a is = cc
-
-and_both : (a b : Bool) → a ≡ true → b ≡ true → (a && b) ≡ true
-and_both true b p q = q
-and_both false b p q = absurd (false_true p)
-
-and_left : (a b : Bool) → (a && b) ≡ true → a ≡ true
-and_left true b h = refl
-and_left false b h = absurd (false_true h)
-
-and_right : (a b : Bool) → (a && b) ≡ true → b ≡ true
-and_right true b h = h
-and_right false b h = absurd (false_true h)
-
-not_so : (b : Bool) → (b ≡ true → ⊥) → b ≡ false
-not_so true off = absurd (off refl)
-not_so false off = refl
 
 -- its exchange has its head
 pub record GoesOn (t : Tables) (v : Representation) (k : Consumer) : Type 0 where

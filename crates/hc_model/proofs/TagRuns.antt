@@ -1,6 +1,6 @@
 -- In every run what has no tag by which others could join it comes from its one exchange, or is all there.
 use Rattle.std.proofs.Common.{◌≡◌, ◌≢◌, inl, inr, ℕ, List, [], ◌∷◌, Bool, true, false, Option, Some, None, refl, ap, sym, ◌∙◌, arith}
-use Rattle.std.specs.Prelude.{is_some, ◌&&◌, ◌||◌, ◌==◌, not, nat_eq, find, option_map, if◌then◌else◌}
+use Rattle.std.specs.Prelude.{is_some, ◌||◌, ◌==◌, not, nat_eq, find, option_map, if◌then◌else◌}
 use Rattle.std.specs.List.{list_any}
 use Rattle.std.proofs.lemmas.Bool.Decides.{nat_tests}
 use Rattle.hc_record.specs.declared.kind.Kind.{Kind}
@@ -17,6 +17,7 @@ use Rattle.hc_model.specs.Rows.{Representation}
 use Rattle.hc_model.specs.StoredHeads.{IsOfOne, Tags}
 use Rattle.hc_model.specs.StoredHeads as heads
 use Rattle.hc_model.specs.Tables.{begun, loaded, last_end, bytes_in}
+use Rattle.hc_model.proofs.Basics.{false_true, and_left, and_right, or_false, none_some}
 use Rattle.hc_model.proofs.MeasuresBegin.{rising_item, known_item}
 use Rattle.hc_model.proofs.OriginsBegin.{byte_of, has_run}
 use Rattle.hc_model.proofs.PieceKeeps.{eq_cases, some_inj}
@@ -24,25 +25,6 @@ use Rattle.hc_model.proofs.Positions.{below_full, bytes_below}
 use Rattle.hc_model.proofs.RunFacts.{in_runs}
 use Rattle.hc_model.proofs.StoredHeadsKeep.{right_head}
 use Rattle.hc_model.proofs.TagsKeep.{tags_kept, tags_denied}
-
-none_some : {A : Type 0} (a : A) → None ≡ Some a → ⊥
-none_some a is = cc
-
-false_true : false ≡ true → ⊥
-false_true h = cc
-
-and_left : (a b : Bool) → (a && b) ≡ true → a ≡ true
-and_left true b h = refl
-and_left false b h = absurd (false_true h)
-
-and_right : (a b : Bool) → (a && b) ≡ true → b ≡ true
-and_right true b h = h
-and_right false b h = absurd (false_true h)
-
-or_false : (a b : Bool) → (a || b) ≡ false → (a ≡ false) × (b ≡ false)
-or_false false false h = (refl, refl)
-or_false false true h = absurd (let no : true ≡ false = h in cc)
-or_false true b h = absurd (let no : true ≡ false = h in cc)
 
 not_yes : (b : Bool) → not b ≡ true → b ≡ false
 not_yes true h = absurd (false_true h)

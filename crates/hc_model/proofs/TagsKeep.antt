@@ -1,8 +1,7 @@
 -- What has no tag by which others could join it comes from its one exchange, or is all there.
 use Rattle.std.proofs.Common.{◌≡◌, ◌≢◌, ◌⊎◌, inl, inr, ℕ, List, [], ◌∷◌, length, Bool, true, false, Option, Some, None, refl, ap, sym, ◌∙◌, arith}
-use Rattle.std.specs.Prelude.{is_some, ◌&&◌, ◌||◌, not, unwrap_or, if◌then◌else◌, codes}
+use Rattle.std.specs.Prelude.{is_some, ◌||◌, not, unwrap_or, if◌then◌else◌, codes}
 use Rattle.std.specs.Option.{option_and_then}
-use Rattle.std.proofs.lemmas.Bool.Decides.{nat_tests}
 use Rattle.hc_etag.specs.TagTexts.{strong_in}
 use Rattle.hc_event.specs.declared.event.Event.{Event}
 use Rattle.hc_event.specs.declared.event.Event.TheVariants as event
@@ -21,7 +20,7 @@ use Rattle.hc_sparse.specs.Cells.{Cells, Covers, written}
 use Rattle.hc_sparse.proofs.CellLemmas.{inside-cases}
 use Rattle.hc_model.specs.ActFilters.{loses_in, has_loss}
 use Rattle.hc_model.specs.Cases.{case_at, is_joining, fits_asker}
-use Rattle.hc_model.specs.Currents.{row_of, is_number}
+use Rattle.hc_model.specs.Currents.{row_of}
 use Rattle.hc_model.specs.Denials.{denial}
 use Rattle.hc_model.specs.Entries.{Entry}
 use Rattle.hc_model.specs.Exchanges.{is_open, front}
@@ -38,6 +37,7 @@ use Rattle.hc_model.specs.StoredHeads.{IsOfOne, Tags}
 use Rattle.hc_model.specs.StoredHeads as heads
 use Rattle.hc_model.specs.Tables.{after_accepted, after_denied}
 use Rattle.hc_model.proofs.ApartKeeps.{written_by, is_on}
+use Rattle.hc_model.proofs.Basics.{false_true, and_left, and_right, none_some, some_none, number_is}
 use Rattle.hc_model.proofs.DeniedKeeps.{written_same}
 use Rattle.hc_model.proofs.EndsKeep.{known_kept}
 use Rattle.hc_model.proofs.ExchangeFrom.{ExchangeFrom, exchange_from, IsSame, IsHeaded}
@@ -59,23 +59,6 @@ use Rattle.hc_model.proofs.RepFrom.{RepFrom, rep_from, IsKept, IsResumed}
 use Rattle.hc_model.proofs.RepFrom as rep
 use Rattle.hc_model.proofs.SoundRuns.{IsCarried}
 use Rattle.hc_model.proofs.WritingStops.{IsAll}
-
-none_some : {A : Type 0} (a : A) → None ≡ Some a → ⊥
-none_some a is = cc
-
-some_none : {A : Type 0} (a : A) → Some a ≡ None → ⊥
-some_none a is = cc
-
-false_true : false ≡ true → ⊥
-false_true h = cc
-
-and_left : (a b : Bool) → (a && b) ≡ true → a ≡ true
-and_left true b h = refl
-and_left false b h = absurd (false_true h)
-
-and_right : (a b : Bool) → (a && b) ≡ true → b ≡ true
-and_right true b h = h
-and_right false b h = absurd (false_true h)
 
 -- THE TAG OF A PART THAT FOUNDS
 
@@ -100,10 +83,6 @@ asker_tag None response h = absurd (false_true h)
 asker_tag (Some k) response h = fits_tag (range_of k.request) response h
 
 -- AFTER AN ENTRY
-
-number_is : (o : Option ℕ) (n : ℕ) → is_number o n ≡ true → o ≡ Some n
-number_is None n h = absurd (false_true h)
-number_is (Some m) n h = let same : m ≡ n = grind (arith, nat_tests) in ap Some same
 
 written_some : (at x p : ℕ) (bytes : List ℕ) (f : Cells) → is_some (f p) ≡ true → is_some (written at x bytes f p) ≡ true
 written_some at x p bytes f old = elim (inside-cases at (length bytes) p) [

@@ -1,6 +1,6 @@
 -- Whoever is bound and wasn't shown a head is to be shown one: it founded, its first hole joined, or it waits for that.
 use Rattle.std.proofs.Common.{◌≡◌, ◌⊎◌, inl, inr, ℕ, List, length, Bool, true, false, Option, Some, None, refl, ap, sym, ◌∙◌, subst, arith}
-use Rattle.std.specs.Prelude.{if◌then◌else◌, is_some, is_none, ◌&&◌, ◌||◌, ◌==◌, not, nat_eq}
+use Rattle.std.specs.Prelude.{if◌then◌else◌, is_some, is_none, ◌&&◌, ◌==◌, not, nat_eq}
 use Rattle.std.specs.Option.{option_and_then}
 use Rattle.std.proofs.lemmas.Bool.Decides.{nat_tests}
 use Rattle.hc_event.specs.Filters.{Opening, opening_in, leaves_in, shows_in}
@@ -38,6 +38,7 @@ use Rattle.hc_model.specs.Sound.{Sound, IsToBeShown}
 use Rattle.hc_model.specs.Sound as sound
 use Rattle.hc_model.specs.StartingOver.{starts_over, sends_back}
 use Rattle.hc_model.specs.Tables.{after_accepted}
+use Rattle.hc_model.proofs.Basics.{false_true, and_left, and_right, or_false, none_some}
 use Rattle.hc_model.proofs.BoundFrom.{BoundFrom, IsRow, bound_from}
 use Rattle.hc_model.proofs.BoundFrom as bound
 use Rattle.hc_model.proofs.ConsumerFilters.{acted}
@@ -53,25 +54,6 @@ use Rattle.hc_model.proofs.PieceKeeps.{eq_cases, some_inj}
 use Rattle.hc_model.proofs.Pens.{same_row}
 use Rattle.hc_model.proofs.Said.{shows_it, showing_by, waiting_by}
 use Rattle.hc_model.proofs.Waiters.{IsWaiter, waiter_of, heard_same, unclosed, own_acted}
-
-false_true : false ≡ true → ⊥
-false_true h = cc
-
-none_some : {A : Type 0} (a : A) → None ≡ Some a → ⊥
-none_some a is = cc
-
-and_left : (a b : Bool) → (a && b) ≡ true → a ≡ true
-and_left true b h = refl
-and_left false b h = absurd (false_true h)
-
-and_right : (a b : Bool) → (a && b) ≡ true → b ≡ true
-and_right true b h = h
-and_right false b h = absurd (false_true h)
-
-or_false : (a b : Bool) → (a || b) ≡ false → (a ≡ false) × (b ≡ false)
-or_false false false h = (refl, refl)
-or_false false true h = absurd (let no : true ≡ false = h in cc)
-or_false true b h = absurd (let no : true ≡ false = h in cc)
 
 -- WHERE NOTHING IS SAID TO IT
 

@@ -10,8 +10,9 @@ use Rattle.hc_model.specs.Laws.{OfRuns, IsFront, IsTruthful, TruncatedIsFront}
 use Rattle.hc_model.specs.Rows.{Representation}
 use Rattle.hc_model.specs.Sound.{IsStored}
 use Rattle.hc_model.specs.Tables.{tables}
+use Rattle.hc_model.proofs.Basics.{and_left}
 use Rattle.hc_model.proofs.HoleLemmas.{bool_cases, covers_all}
-use Rattle.hc_model.proofs.KeyNames.{and_left, and_then}
+use Rattle.hc_model.proofs.KeyNames.{and_then}
 use Rattle.hc_model.proofs.Positions.{no_other_below}
 use Rattle.hc_model.proofs.SizesKeep.{sizes_in_runs}
 use Rattle.hc_model.proofs.SoundRuns.{runs_are_sound}

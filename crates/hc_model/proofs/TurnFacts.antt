@@ -29,14 +29,11 @@ use Rattle.hc_model.specs.Sound.{Sound, Among}
 use Rattle.hc_model.specs.Weights.{evicted}
 use Rattle.hc_model.proofs.ActParts.{IsAnswer, IsSaid, IsFarFrom, answer_is, said_is, asks_evicted, asks_closed, asks_closes, asks_lost, asks_loss, closes_evicted, closes_lost, closes_before, loses_evicted, loses_closed, loses_before, evicts_closed, said_closes, move_closes, far_loss, far_lost_only, far_closing, far_closed, far_evicted, far_said}
 use Rattle.hc_model.proofs.ActParts as parts
+use Rattle.hc_model.proofs.Basics.{or_cases}
 use Rattle.hc_model.proofs.HoleLemmas.{bool_cases}
-use Rattle.hc_model.proofs.KeyNames.{or_cases}
 use Rattle.hc_model.proofs.Owed.{acts_are}
 use Rattle.hc_model.proofs.PieceKeeps.{eq_cases}
 use Rattle.hc_model.proofs.TurnMoves.{Does, does_polled}
-
-none_some : {A : Type 0} (a : A) → None ≡ Some a → ⊥
-none_some a h = cc
 
 -- LISTS
 

@@ -35,8 +35,9 @@ use Rattle.hc_model.specs.Rows.{Tables, Exchange, Representation}
 use Rattle.hc_model.specs.Weights.{evicted, first_idle, room_for, room_by, write_in}
 use Rattle.hc_model.specs.Writers.{brings_body, loses_writing, survivor}
 use Rattle.hc_model.proofs.ActParts as parts
+use Rattle.hc_model.proofs.Basics.{and_left}
 use Rattle.hc_model.proofs.Joining.{mix}
-use Rattle.hc_model.proofs.KeyNames.{and_left, and_then}
+use Rattle.hc_model.proofs.KeyNames.{and_then}
 use Rattle.hc_model.proofs.KeyRows.{same_number}
 use Rattle.hc_model.proofs.PieceKeeps.{some_inj}
 use Rattle.hc_model.proofs.TurnFacts as facts

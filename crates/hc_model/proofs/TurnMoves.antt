@@ -41,15 +41,13 @@ use Rattle.hc_model.specs.Reading.{bound_to, hi_of, own_open, source}
 use Rattle.hc_model.specs.Rows.{Tables, Exchange, Representation, Consumer}
 use Rattle.hc_model.specs.Sound.{Sound}
 use Rattle.hc_model.specs.Steps.{bound_row, most, held, read_view, later_hole, step_move, reading}
+use Rattle.hc_model.proofs.Basics.{none_some}
 use Rattle.hc_model.proofs.HoleLemmas.{bool_cases}
 use Rattle.hc_model.proofs.Joining.{mix}
 use Rattle.hc_model.proofs.PieceKeeps.{some_inj}
 use Rattle.hc_model.proofs.PollTree.{never_plans}
 use Rattle.hc_model.proofs.TurnPlans.{Planned, IsVaried, IsQueueing, plan_is}
 use Rattle.hc_model.proofs.TurnPlans as plans
-
-none_some : {A : Type 0} (a : A) → None ≡ Some a → ⊥
-none_some a h = cc
 
 -- what is current answers the consumer's request too
 pub record MayRead (t : Tables) (k : Consumer) (r : ℕ) : Type 0 where

@@ -42,7 +42,7 @@ use Rattle.hc_model.specs.StartingOver.{starts_over, sends_back, loses_what_it_w
 use Rattle.hc_model.specs.Writers.{brings_body, loses_writing, survivor}
 use Rattle.hc_model.specs.Writes.{written, written_in, seals_at, stops, first_found, lossless}
 use Rattle.hc_model.proofs.ActParts as parts
-use Rattle.hc_model.proofs.KeyNames.{and_left, number_is}
+use Rattle.hc_model.proofs.Basics.{and_left, none_some, number_is}
 use Rattle.hc_model.proofs.KeysKeep.{IsOpening, opened_is}
 use Rattle.hc_model.proofs.KeysKeep as keeps
 use Rattle.hc_model.proofs.PieceKeeps.{some_inj}
@@ -50,9 +50,6 @@ use Rattle.hc_model.proofs.TurnFacts.{IsTaken, AtPoll, acts_is, seen, behind, fa
 use Rattle.hc_model.proofs.TurnFacts as facts
 use Rattle.hc_model.proofs.TurnMoves.{Does}
 use Rattle.hc_model.proofs.TurnMoves as does
-
-none_some : {A : Type 0} (a : A) → None ≡ Some a → ⊥
-none_some a h = cc
 
 eq-refl : (r : ℕ) → nat_eq r r ≡ true
 eq-refl r = grind (arith, nat_tests)

@@ -15,8 +15,9 @@ use Rattle.hc_rules.specs.declared.request.Wanted.{Wanted}
 use Rattle.hc_rules.specs.declared.request.Wanted.TheVariants as wanted
 use Rattle.hc_rules.specs.Needs.{route_of}
 use Rattle.hc_rules.specs.Plans.{plan_of, bare_plan, queues, is_back, by_current, by_why, why_by, by_wanted, by_exclusive, by_hole, by_bound, in_time, from_store}
+use Rattle.hc_model.proofs.Basics.{and_left}
 use Rattle.hc_model.proofs.Joining.{mix}
-use Rattle.hc_model.proofs.KeyNames.{eq_is, and_left, and_then}
+use Rattle.hc_model.proofs.KeyNames.{eq_is, and_then}
 
 -- what is current answers the request too
 pub record IsVaried (v : PlanView) : Type 0 where

@@ -42,17 +42,15 @@ use Rattle.hc_model.specs.Sound as sound
 use Rattle.hc_model.specs.StartingOver.{starts_over, sends_back, waits_at, awaited, loses_what_it_waits_for}
 use Rattle.hc_model.specs.Writers.{loses_writing}
 use Rattle.hc_model.proofs.ActParts.{IsFarFrom}
+use Rattle.hc_model.proofs.Basics.{and_left}
 use Rattle.hc_model.proofs.HoleLemmas.{bool_cases}
-use Rattle.hc_model.proofs.KeyNames.{not_true, and_left, and_then, eq_is, opener_key}
+use Rattle.hc_model.proofs.KeyNames.{not_true, and_then, eq_is, opener_key}
 use Rattle.hc_model.proofs.Once.{never}
 use Rattle.hc_model.proofs.Owed.{goes}
 use Rattle.hc_model.proofs.Pens.{same_row}
 use Rattle.hc_model.proofs.PieceKeeps.{some_inj}
 use Rattle.hc_model.proofs.TurnFacts.{IsTaken, AtPoll, seen, behind, far_behind, at_poll, far_from, is_closed, same_case, same_doom}
 use Rattle.hc_model.proofs.TurnFacts as facts
-
-none_some : {A : Type 0} (a : A) → None ≡ Some a → ⊥
-none_some a h = cc
 
 eq-refl : (r : ℕ) → nat_eq r r ≡ true
 eq-refl r = grind (arith, nat_tests)

@@ -54,9 +54,10 @@ use Rattle.hc_model.specs.Sound.{Sound, Among, IsListed, OneCurrent}
 use Rattle.hc_model.specs.StartingOver.{starts_over, loses_what_it_waits_for, sends_back, waits_at}
 use Rattle.hc_model.specs.Tables.{after_accepted}
 use Rattle.hc_model.proofs.ActParts as parts
+use Rattle.hc_model.proofs.Basics.{and_left, or_cases, none_some}
 use Rattle.hc_model.proofs.CurrentKeeps.{heard_same, find_only, usable, usable_row, one_current_is_kept}
 use Rattle.hc_model.proofs.HoleLemmas.{bool_cases}
-use Rattle.hc_model.proofs.KeyNames.{not_true, and_left, and_then, or_cases, opener_key, current_key}
+use Rattle.hc_model.proofs.KeyNames.{not_true, and_then, opener_key, current_key}
 use Rattle.hc_model.proofs.KeysKeep.{same_exchange, representation_stays, exchange_was, IsOpening, opened_is}
 use Rattle.hc_model.proofs.KeysKeep as keeps
 use Rattle.hc_model.proofs.NumbersKeep.{numbers_are_kept}
@@ -76,9 +77,6 @@ use Rattle.hc_model.proofs.TurnPlaces.{ComesFrom, IsPlain, IsAfter, StaysOrPlain
 use Rattle.hc_model.proofs.TurnPlaces as places
 use Rattle.hc_model.proofs.TurnStays.{head_opens, head_none, stands_on}
 use Rattle.hc_model.proofs.VaryKeeps.{same_agreement}
-
-none_some : {A : Type 0} (a : A) → None ≡ Some a → ⊥
-none_some a h = cc
 
 eq-refl : (r : ℕ) → nat_eq r r ≡ true
 eq-refl r = grind (arith, nat_tests)

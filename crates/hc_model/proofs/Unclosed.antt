@@ -1,6 +1,6 @@
 -- What is closed had to be.
-use Rattle.std.proofs.Common.{◌≡◌, ◌⊎◌, inl, inr, ℕ, List, [], ◌∷◌, ◌++◌, Bool, true, false, Option, Some, None, refl, ap, sym, ◌∙◌, arith}
-use Rattle.std.specs.Prelude.{map, filter, reverse, ◌&&◌, ◌||◌, nat_eq}
+use Rattle.std.proofs.Common.{◌≡◌, ◌⊎◌, inl, inr, ℕ, List, [], ◌∷◌, ◌++◌, Bool, true, Option, Some, None, ap, sym, ◌∙◌, arith}
+use Rattle.std.specs.Prelude.{map, filter, reverse, nat_eq}
 use Rattle.std.proofs.lemmas.Bool.Decides.{nat_tests}
 use Rattle.hc_event.specs.Filters.{closes_in}
 use Rattle.hc_event.specs.declared.event.Event.{Event}
@@ -18,6 +18,7 @@ use Rattle.hc_model.specs.Polls.{polled}
 use Rattle.hc_model.specs.Rows.{Tables, Exchange}
 use Rattle.hc_model.specs.Sound.{Sound, Among}
 use Rattle.hc_model.specs.Weights.{evicted}
+use Rattle.hc_model.proofs.Basics.{false_true, and_left, and_right, or_cases}
 use Rattle.hc_model.proofs.Closed.{before}
 use Rattle.hc_model.proofs.HoleLemmas.{bool_cases}
 
@@ -34,13 +35,6 @@ among_test x test (z ∷ xs) there = elim (bool_cases (test z)) [
 ]
 
 -- ACTS
-
-false_true : false ≡ true → ⊥
-false_true h = cc
-
-or_cases : (a b : Bool) → (a || b) ≡ true → (a ≡ true) ⊎ (b ≡ true)
-or_cases true b h = inl refl
-or_cases false b h = inr h
 
 lost_closes : (x : ℕ) (flaw : Flaw) → closes_in x (lost flaw) ≡ true → ⊥
 lost_closes x NoFlaw h = false_true h
@@ -84,14 +78,6 @@ in_poll : (t : Tables) (now want c x : ℕ) (flaw : Flaw) (rest : List Act) → 
 in_poll t now want c x NoFlaw rest h = in_move x c (polled t now want c (t.consumer c)) rest h
 in_poll t now want c x (Loses r kind) rest h = in_move x c (polled t now want c (t.consumer c)) rest h
 in_poll t now want c x (Misreads r) rest h = h
-
-and_left : (a b : Bool) → (a && b) ≡ true → a ≡ true
-and_left true b h = refl
-and_left false b h = absurd (false_true h)
-
-and_right : (a b : Bool) → (a && b) ≡ true → b ≡ true
-and_right true b h = h
-and_right false b h = absurd (false_true h)
 
 module _ (limits : Limits) (t : Tables) (now : ℕ) (flaw : Flaw) (s : Sound t) where
   told : (ev : Event) (x : ℕ) → closes_in x (map act.Evicted (evicted limits t now ev) ++ (lost flaw ++ map act.Close (closing t (record { now = now; event = ev; acts = lost flaw })))) ≡ true → Among x (closing t (record { now = now; event = ev; acts = lost flaw }))

@@ -1,6 +1,6 @@
 -- Nothing is due for whoever reads what is being written for several.
 use Rattle.std.proofs.Common.{◌≡◌, inl, inr, ℕ, Bool, true, false, Option, Some, None, refl, ap, sym, ◌∙◌, subst, arith}
-use Rattle.std.specs.Prelude.{if◌then◌else◌, is_some, ◌&&◌, ◌||◌, not}
+use Rattle.std.specs.Prelude.{if◌then◌else◌, is_some, ◌||◌}
 use Rattle.std.proofs.lemmas.Bool.Decides.{nat_tests}
 use Rattle.hc_event.specs.Filters.{Opening, opening_in}
 use Rattle.hc_event.specs.declared.event.Event.{Event}
@@ -35,6 +35,7 @@ use Rattle.hc_model.specs.Sound as sound
 use Rattle.hc_model.specs.Tables.{after_accepted}
 use Rattle.hc_model.specs.Writers.{loses_writing}
 use Rattle.hc_model.proofs.ApartKeeps.{IsOn, is_on, was_written}
+use Rattle.hc_model.proofs.Basics.{false_true, and_left, and_right, or_false, not_so, not_true, none_some}
 use Rattle.hc_model.proofs.BoundFrom.{BoundFrom, bound_from}
 use Rattle.hc_model.proofs.BoundFrom as from
 use Rattle.hc_model.proofs.BoundKeeps.{founding_is}
@@ -53,33 +54,6 @@ use Rattle.hc_model.proofs.RepFrom as rep
 use Rattle.hc_model.proofs.Stops.{source_is}
 use Rattle.hc_model.proofs.HasBound.{joins_way}
 use Rattle.hc_model.proofs.Waiters.{IsWaiter, waiter_of, asks_about, unwritten, left_number}
-
-false_true : false ≡ true → ⊥
-false_true h = cc
-
-none_some : {A : Type 0} (a : A) → None ≡ Some a → ⊥
-none_some a is = cc
-
-and_left : (a b : Bool) → (a && b) ≡ true → a ≡ true
-and_left true b h = refl
-and_left false b h = absurd (false_true h)
-
-and_right : (a b : Bool) → (a && b) ≡ true → b ≡ true
-and_right true b h = h
-and_right false b h = absurd (false_true h)
-
-or_false : (a b : Bool) → (a || b) ≡ false → (a ≡ false) × (b ≡ false)
-or_false false false h = (refl, refl)
-or_false false true h = absurd (let no : true ≡ false = h in cc)
-or_false true b h = absurd (let no : true ≡ false = h in cc)
-
-not_true : (b : Bool) → not b ≡ true → b ≡ false
-not_true true h = absurd (false_true h)
-not_true false h = refl
-
-not_so : (b : Bool) → (b ≡ true → ⊥) → b ≡ false
-not_so true off = absurd (off refl)
-not_so false off = refl
 
 -- by a head that founds or joins nothing becomes due
 pub no_cause : (g : Option HeadCase) (x : ℕ) → (is_founding g || is_joining g) ≡ true → cause_by_case g x ≡ None

@@ -1,6 +1,6 @@
 -- What isn't gone and has no known length is being written for several.
 use Rattle.std.proofs.Common.{◌≡◌, ◌⊎◌, inl, inr, ℕ, ◌+◌, Bool, true, false, Option, Some, None, refl, ap, sym, ◌∙◌}
-use Rattle.std.specs.Prelude.{is_some, ◌&&◌, ◌||◌, ◌==◌, not, nat_lt, unwrap_or, option_map}
+use Rattle.std.specs.Prelude.{is_some, ◌&&◌, ◌==◌, not, nat_lt, unwrap_or, option_map}
 use Rattle.std.specs.Option.{option_or}
 use Rattle.hc_event.specs.declared.event.Event.{Event}
 use Rattle.hc_event.specs.declared.event.Event.TheVariants as event
@@ -25,6 +25,7 @@ use Rattle.hc_model.specs.Rows.{Tables, Exchange, Representation}
 use Rattle.hc_model.specs.Sound.{Sound, IsGrowing, end_from}
 use Rattle.hc_model.specs.Tables.{loaded, begun, after_accepted}
 use Rattle.hc_model.proofs.ApartKeeps.{written_by, is_on}
+use Rattle.hc_model.proofs.Basics.{false_true, none_some, some_none}
 use Rattle.hc_model.proofs.DeniedKeeps.{written_same}
 use Rattle.hc_model.proofs.LossBy.{IsReal}
 use Rattle.hc_model.proofs.MeasuresBegin.{known_item}
@@ -36,34 +37,6 @@ use Rattle.hc_model.proofs.Lasting.{was_not_gone, not_lost, lasting}
 use Rattle.hc_model.proofs.FoundedAs.{FoundedAs, founded_as}
 use Rattle.hc_model.proofs.FoundedAs as founded
 use Rattle.hc_model.proofs.WritingStops.{IsAll}
-
-none_some : {A : Type 0} (a : A) → None ≡ Some a → ⊥
-none_some a is = cc
-
-some_none : {A : Type 0} (a : A) → Some a ≡ None → ⊥
-some_none a is = cc
-
-false_true : false ≡ true → ⊥
-false_true h = cc
-
-true_false : true ≡ false → ⊥
-true_false h = cc
-
-and_right : (a b : Bool) → (a && b) ≡ true → b ≡ true
-and_right true b h = h
-and_right false b h = absurd (false_true h)
-
-and_both : (a b : Bool) → a ≡ true → b ≡ true → (a && b) ≡ true
-and_both true b p q = q
-and_both false b p q = absurd (false_true p)
-
-or_false : (a b : Bool) → (a || b) ≡ false → (a ≡ false) × (b ≡ false)
-or_false false b h = (refl, h)
-or_false true b h = absurd (true_false h)
-
-or_left : (a b : Bool) → a ≡ true → (a || b) ≡ true
-or_left true b h = refl
-or_left false b h = absurd (false_true h)
 
 ends_none : (n : ℕ) (q : Option ℕ) → end_from n q ≡ None → q ≡ None
 ends_none n None h = refl

@@ -1,6 +1,6 @@
 -- Whoever waits for the head of an exchange keeps it as its own, and it isn't closed, until the consumer leaves or starts over.
 use Rattle.std.proofs.Common.{◌≡◌, ◌⊎◌, inl, inr, ℕ, Bool, true, false, Option, Some, None, refl, ap, sym, ◌∙◌, subst, arith}
-use Rattle.std.specs.Prelude.{if◌then◌else◌, is_some, is_none, ◌&&◌, ◌||◌, ◌==◌, not, nat_eq, unwrap_or}
+use Rattle.std.specs.Prelude.{if◌then◌else◌, is_some, is_none, ◌&&◌, ◌==◌, not, nat_eq, unwrap_or}
 use Rattle.std.specs.Option.{option_and_then}
 use Rattle.std.proofs.lemmas.Bool.Decides.{nat_tests}
 use Rattle.hc_event.specs.Filters.{Opening, opening_in, leaves_in, closes_in}
@@ -30,6 +30,7 @@ use Rattle.hc_model.specs.Sound.{Sound, IsAbout}
 use Rattle.hc_model.specs.Sound as sound
 use Rattle.hc_model.specs.StartingOver.{starts_over, waits_at, awaited}
 use Rattle.hc_model.specs.Writers.{loses_writing, survivor}
+use Rattle.hc_model.proofs.Basics.{false_true, and_left, and_right, and_both, or_cases, or_left, none_some, number_is}
 use Rattle.hc_model.proofs.BoundFrom.{place_inj}
 use Rattle.hc_model.proofs.Closed.{before}
 use Rattle.hc_model.proofs.FirstKeeps.{is_new}
@@ -44,36 +45,6 @@ use Rattle.hc_model.proofs.Stops.{writer_about}
 use Rattle.hc_model.proofs.Unclosed.{had_to}
 use Rattle.hc_model.proofs.Once.{never}
 use Rattle.hc_rules.specs.Refusals as refusals
-
-false_true : false ≡ true → ⊥
-false_true h = cc
-
-none_some : {A : Type 0} (a : A) → None ≡ Some a → ⊥
-none_some a is = cc
-
-and_left : (a b : Bool) → (a && b) ≡ true → a ≡ true
-and_left true b h = refl
-and_left false b h = absurd (false_true h)
-
-and_right : (a b : Bool) → (a && b) ≡ true → b ≡ true
-and_right true b h = h
-and_right false b h = absurd (false_true h)
-
-or_cases : (a b : Bool) → (a || b) ≡ true → (a ≡ true) ⊎ (b ≡ true)
-or_cases true b h = inl refl
-or_cases false b h = inr h
-
-or_left : (a b : Bool) → a ≡ true → (a || b) ≡ true
-or_left true b h = refl
-or_left false b h = absurd (false_true h)
-
-number_is : (o : Option ℕ) (n : ℕ) → is_number o n ≡ true → o ≡ Some n
-number_is None n h = absurd (false_true h)
-number_is (Some m) n h = let same : m ≡ n = grind (arith, nat_tests) in ap Some same
-
-and_both : (a b : Bool) → a ≡ true → b ≡ true → (a && b) ≡ true
-and_both true b p q = q
-and_both false b p q = absurd (false_true p)
 
 -- c waits for the head of its own exchange y
 pub record IsWaiter (t : Tables) (c y : ℕ) (k : Consumer) (w : Exchange) : Type 0 where

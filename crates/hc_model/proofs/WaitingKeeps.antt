@@ -1,6 +1,6 @@
 -- Whoever waits for the head of its own exchange goes on waiting as long as that is open.
-use Rattle.std.proofs.Common.{◌≡◌, ◌⊎◌, inl, inr, ℕ, List, length, Bool, true, false, cond, Option, Some, None, refl, ap, sym, ◌∙◌, subst, arith}
-use Rattle.std.specs.Prelude.{if◌then◌else◌, is_some, is_none, ◌&&◌, ◌||◌, ◌==◌, nat_eq}
+use Rattle.std.proofs.Common.{◌≡◌, inl, inr, ℕ, List, length, Bool, true, false, cond, Option, Some, None, refl, ap, sym, ◌∙◌, subst, arith}
+use Rattle.std.specs.Prelude.{if◌then◌else◌, is_some, is_none, ◌&&◌, ◌==◌, nat_eq}
 use Rattle.std.proofs.lemmas.Bool.Decides.{nat_tests}
 use Rattle.hc_event.specs.Filters.{Opening, opening_in, leaves_in, closes_in}
 use Rattle.hc_event.specs.declared.event.Event.{Event}
@@ -20,7 +20,6 @@ use Rattle.hc_model.specs.ActFilters.{Showing, showing_in, wait_in}
 use Rattle.hc_model.specs.Cases.{case_at, case_of}
 use Rattle.hc_model.specs.Closings.{must_close, is_doomed, awaits, is_left, is_left_by, leaver, leaver_by}
 use Rattle.hc_model.specs.ConsumerRows.{consumer_heard, consumer_acted, by_opening, shown_place, waiting, waiting_place, due_after, back_in_line}
-use Rattle.hc_model.specs.Currents.{is_number}
 use Rattle.hc_model.specs.Denials.{denial, as_open}
 use Rattle.hc_model.specs.Dooms.{doomed, is_key}
 use Rattle.hc_model.specs.Entries.{Entry}
@@ -36,6 +35,7 @@ use Rattle.hc_model.specs.Rows.{Tables, Exchange, Consumer}
 use Rattle.hc_model.specs.Sound.{Sound}
 use Rattle.hc_model.specs.StartingOver.{starts_over, waits_at, awaited, sends_back, loses_what_it_waits_for}
 use Rattle.hc_model.specs.Tables.{after_accepted}
+use Rattle.hc_model.proofs.Basics.{false_true, and_left, and_right, and_both, or_cases, or_left, or_right, not_so, none_some, number_yes}
 use Rattle.hc_model.proofs.Closed.{before, closes}
 use Rattle.hc_model.proofs.ExchangeFrom.{ExchangeFrom, IsSame, exchange_from}
 use Rattle.hc_model.proofs.ExchangeFrom as exchange
@@ -55,46 +55,8 @@ use Rattle.hc_model.specs.Moves.{Opens}
 use Rattle.hc_model.specs.Runs.{may_stand}
 use Rattle.hc_model.proofs.Waiters.{IsWaiter, waiter_of, heard_same, own_acted, own_open_is, not_heard, head_is_own, opening_stays, doomed_same, headless_is}
 
-false_true : false ≡ true → ⊥
-false_true h = cc
-
-none_some : {A : Type 0} (a : A) → None ≡ Some a → ⊥
-none_some a is = cc
-
-and_left : (a b : Bool) → (a && b) ≡ true → a ≡ true
-and_left true b h = refl
-and_left false b h = absurd (false_true h)
-
-and_right : (a b : Bool) → (a && b) ≡ true → b ≡ true
-and_right true b h = h
-and_right false b h = absurd (false_true h)
-
-and_both : (a b : Bool) → a ≡ true → b ≡ true → (a && b) ≡ true
-and_both true b p q = q
-and_both false b p q = absurd (false_true p)
-
-or_cases : (a b : Bool) → (a || b) ≡ true → (a ≡ true) ⊎ (b ≡ true)
-or_cases true b h = inl refl
-or_cases false b h = inr h
-
-or_left : (a b : Bool) → a ≡ true → (a || b) ≡ true
-or_left true b h = refl
-or_left false b h = absurd (false_true h)
-
-or_right : (a b : Bool) → b ≡ true → (a || b) ≡ true
-or_right true b h = refl
-or_right false b h = h
-
-not_so : (b : Bool) → (b ≡ true → ⊥) → b ≡ false
-not_so true off = absurd (off refl)
-not_so false off = refl
-
 same_number : (n m : ℕ) → n ≡ m → (n == m) ≡ true
 same_number n m same = let test : nat_eq n m ≡ true = grind (arith, nat_tests) in test
-
-number_yes : (o : Option ℕ) (n : ℕ) → o ≡ Some n → is_number o n ≡ true
-number_yes None n is = absurd (none_some n is)
-number_yes (Some m) n is = same_number m n (some_inj m n is)
 
 headless_parts : (z : Option Exchange) → is_headless z ≡ true → (w : Exchange) × (z ≡ Some w) × (w.is_open ≡ true) × (w.head ≡ None)
 headless_parts None h = absurd (false_true h)

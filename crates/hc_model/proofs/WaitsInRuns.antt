@@ -1,5 +1,5 @@
 -- No wait goes in a circle, in any run: who reads past the store waits for nobody, whom a busy one waits for reads, and what has no known length, or is written for several, is read.
-use Rattle.std.proofs.Common.{◌≡◌, ◌≢◌, ◌⊎◌, inl, inr, ℕ, List, [], ◌∷◌, true, false, Option, Some, None, refl, ap, sym, ◌∙◌, subst}
+use Rattle.std.proofs.Common.{◌≡◌, ◌≢◌, ◌⊎◌, inl, inr, ℕ, List, [], ◌∷◌, true, Option, Some, None, refl, ap, sym, ◌∙◌, subst}
 use Rattle.std.specs.Prelude.{is_some}
 use Rattle.std.specs.Option.{option_and_then}
 use Rattle.hc_event.specs.declared.act.Wait.{Wait}
@@ -24,6 +24,7 @@ use Rattle.hc_model.specs.Rows.{Tables, Exchange, Representation, Consumer}
 use Rattle.hc_model.specs.Sound.{Sound, IsBound}
 use Rattle.hc_model.specs.Tables.{tables}
 use Rattle.hc_model.proofs.AboutKeeps.{own_open_is}
+use Rattle.hc_model.proofs.Basics.{false_true, some_none}
 use Rattle.hc_model.proofs.BusyPlans.{BusyBy, busy_by}
 use Rattle.hc_model.proofs.BusyPlans as busy
 use Rattle.hc_model.proofs.Exclusives.{exclusive_parts}
@@ -40,12 +41,6 @@ use Rattle.hc_model.proofs.SoundRuns.{IsCarried, carried}
 use Rattle.hc_model.proofs.Unknowns.{Unknown, unknown_begun, unknown_denied, unknown_kept}
 use Rattle.hc_model.proofs.WaitedAs.{IsForOthers, waited_as}
 use Rattle.hc_model.proofs.WaitedAs as waited
-
-false_true : false ≡ true → ⊥
-false_true h = cc
-
-some_none : {A : Type 0} (a : A) → Some a ≡ None → ⊥
-some_none a is = cc
 
 some_answer : (t : Tables) (x : ℕ) (w : Exchange) (o : Option Response) → is_some o ≡ true → shows_answer t x w o ≡ None → ⊥
 some_answer t x w None there h = false_true there

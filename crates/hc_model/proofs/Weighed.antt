@@ -1,8 +1,7 @@
 -- What weighs in the store: what isn't gone, and what somebody reads.
 use Rattle.std.proofs.Common.{◌≡◌, ◌⊎◌, inl, inr, ℕ, ◌+◌, ◌≤◌, List, [], ◌∷◌, length, Bool, true, false, Option, Some, None, refl, ap, sym, ◌∙◌, subst, arith}
-use Rattle.std.specs.Prelude.{if◌then◌else◌, ◌&&◌, ◌||◌, ◌==◌, not, nat_eq}
+use Rattle.std.specs.Prelude.{if◌then◌else◌, ◌&&◌, ◌||◌, ◌==◌, not}
 use Rattle.std.specs.List.{list_any, sum_by}
-use Rattle.std.proofs.lemmas.Bool.Decides.{nat_tests}
 use Rattle.hc_event.specs.declared.event.Event.{Event}
 use Rattle.hc_event.specs.declared.event.Event.TheVariants as event
 use Rattle.hc_event.specs.declared.event.Response.{Response}
@@ -21,47 +20,15 @@ use Rattle.hc_model.specs.RepresentationRows.{representation_heard, representati
 use Rattle.hc_model.specs.Rows.{Tables, Exchange, Representation, Consumer}
 use Rattle.hc_model.specs.Sound.{Sound, Among, IsBound}
 use Rattle.hc_model.specs.Weights.{weight, weight_in, weights, moves_on, stays_current, stays_bound}
+use Rattle.hc_model.proofs.Basics.{false_true, and_left, or_cases, or_left, or_right, number_is, number_yes}
 use Rattle.hc_model.proofs.CurrentKeeps.{current_is}
 use Rattle.hc_model.proofs.HasBound.{reader_of}
 use Rattle.hc_model.proofs.HoleLemmas.{bool_cases}
-use Rattle.hc_model.proofs.PieceKeeps.{eq_cases, some_inj}
+use Rattle.hc_model.proofs.PieceKeeps.{eq_cases}
 use Rattle.hc_model.proofs.Pens.{bound_some}
 use Rattle.hc_model.proofs.PollKeeps.{current_stays}
 use Rattle.hc_model.proofs.RepFrom.{IsKept}
 use Rattle.hc_model.proofs.Sums.{sum_le}
-
-none_some : {A : Type 0} (a : A) → None ≡ Some a → ⊥
-none_some a is = cc
-
-false_true : false ≡ true → ⊥
-false_true h = cc
-
-true_false : true ≡ false → ⊥
-true_false h = cc
-
-and_left : (a b : Bool) → (a && b) ≡ true → a ≡ true
-and_left true b h = refl
-and_left false b h = absurd (false_true h)
-
-or_cases : (a b : Bool) → (a || b) ≡ true → (a ≡ true) ⊎ (b ≡ true)
-or_cases true b h = inl refl
-or_cases false b h = inr h
-
-or_left : (a b : Bool) → a ≡ true → (a || b) ≡ true
-or_left true b h = refl
-or_left false b h = absurd (false_true h)
-
-or_right : (a b : Bool) → b ≡ true → (a || b) ≡ true
-or_right true b h = refl
-or_right false b h = h
-
-number_is : (o : Option ℕ) (n : ℕ) → is_number o n ≡ true → o ≡ Some n
-number_is None n h = absurd (false_true h)
-number_is (Some m) n h = let same : m ≡ n = grind (arith, nat_tests) in ap Some same
-
-pub number_yes : (o : Option ℕ) (n : ℕ) → o ≡ Some n → is_number o n ≡ true
-number_yes None n is = absurd (none_some n is)
-number_yes (Some m) n is = let same : m ≡ n = some_inj m n is in let test : nat_eq m n ≡ true = grind (arith, nat_tests) in test
 
 -- WHAT WEIGHS
 

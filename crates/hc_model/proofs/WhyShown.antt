@@ -31,15 +31,13 @@ use Rattle.hc_model.specs.Polls.{move_of, shows_at, shows_bound, shows_direct, s
 use Rattle.hc_model.specs.Reading.{hi_of}
 use Rattle.hc_model.specs.Rows.{Tables, Exchange, Representation, Consumer}
 use Rattle.hc_model.specs.Sound.{Sound}
+use Rattle.hc_model.proofs.Basics.{none_some}
 use Rattle.hc_model.proofs.HoleLemmas.{bool_cases}
 use Rattle.hc_model.proofs.Joining.{mix}
 use Rattle.hc_model.proofs.MoveBy.{MoveBy, move_by}
 use Rattle.hc_model.proofs.MoveBy as by_move
 use Rattle.hc_model.proofs.PieceKeeps.{some_inj}
 use Rattle.hc_model.proofs.ShownOnce.{is_showing, shown_shows}
-
-none_some : {A : Type 0} (a : A) → None ≡ Some a → ⊥
-none_some a is = cc
 
 -- A PLAN
 

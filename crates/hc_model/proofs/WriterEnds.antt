@@ -1,6 +1,6 @@
 -- Where a shared writing ends while somebody reads it to whom nothing becomes due, all of it is stored.
 use Rattle.std.proofs.Common.{◌≡◌, ◌⊎◌, inl, inr, ℕ, ◌≤◌, List, [], ◌∷◌, length, Bool, true, false, Option, Some, None, refl, ap, sym, ◌∙◌, arith}
-use Rattle.std.specs.Prelude.{if◌then◌else◌, is_some, is_none, ◌==◌, ◌&&◌, ◌||◌, nat_eq, nat_lt}
+use Rattle.std.specs.Prelude.{if◌then◌else◌, is_some, is_none, ◌==◌, ◌&&◌, nat_eq, nat_lt}
 use Rattle.std.specs.List.{list_all}
 use Rattle.std.specs.Option.{option_and_then}
 use Rattle.std.proofs.lemmas.Bool.Decides.{nat_tests}
@@ -36,6 +36,7 @@ use Rattle.hc_model.specs.Tables.{after_accepted}
 use Rattle.hc_model.specs.Writers.{brings_body, loses_writing}
 use Rattle.hc_model.proofs.ActParts.{said_is, said_closes}
 use Rattle.hc_model.proofs.ApartKeeps.{is_on}
+use Rattle.hc_model.proofs.Basics.{false_true, and_left, and_right, or_cases, none_some, some_none, number_is}
 use Rattle.hc_model.proofs.BoundFrom.{IsRow}
 use Rattle.hc_model.proofs.Closed.{before, among_filter}
 use Rattle.hc_model.proofs.Dues.{undue_parts}
@@ -49,31 +50,6 @@ use Rattle.hc_model.proofs.Stops.{source_is}
 use Rattle.hc_model.proofs.ToBeShown.{heard_place}
 use Rattle.hc_model.proofs.Unclosed.{had_to}
 use Rattle.hc_model.proofs.WritingStops.{IsAll, refused_not, ends_all}
-
-false_true : false ≡ true → ⊥
-false_true h = cc
-
-none_some : {A : Type 0} (a : A) → None ≡ Some a → ⊥
-none_some a is = cc
-
-some_none : {A : Type 0} (a : A) → Some a ≡ None → ⊥
-some_none a is = cc
-
-and_left : (a b : Bool) → (a && b) ≡ true → a ≡ true
-and_left true b h = refl
-and_left false b h = absurd (false_true h)
-
-and_right : (a b : Bool) → (a && b) ≡ true → b ≡ true
-and_right true b h = h
-and_right false b h = absurd (false_true h)
-
-or_cases : (a b : Bool) → (a || b) ≡ true → (a ≡ true) ⊎ (b ≡ true)
-or_cases true b h = inl refl
-or_cases false b h = inr h
-
-number_is : (o : Option ℕ) (n : ℕ) → is_number o n ≡ true → o ≡ Some n
-number_is None n h = absurd (false_true h)
-number_is (Some m) n h = let same : m ≡ n = grind (arith, nat_tests) in ap Some same
 
 none_of : (q : Option Response) → is_none q ≡ true → is_some q ≡ true → ⊥
 none_of None none some = false_true some

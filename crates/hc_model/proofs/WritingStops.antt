@@ -27,6 +27,7 @@ use Rattle.hc_model.specs.Sound.{Sound, IsGrowing, end_from}
 use Rattle.hc_model.specs.Tables.{after_accepted}
 use Rattle.hc_model.specs.Writers.{brings_body}
 use Rattle.hc_model.proofs.ApartKeeps.{is_on}
+use Rattle.hc_model.proofs.Basics.{false_true, none_some}
 use Rattle.hc_model.proofs.EndsKeep.{known_kept}
 use Rattle.hc_model.proofs.Fills.{Fills, fills, IsPiece}
 use Rattle.hc_model.proofs.Fills as fills_by
@@ -36,12 +37,6 @@ use Rattle.hc_model.proofs.PieceKeeps.{eq_cases}
 use Rattle.hc_model.proofs.Pens.{same_row}
 use Rattle.hc_model.proofs.RepFrom.{IsKept}
 use Rattle.hc_model.proofs.Stops.{last_piece, clean_end}
-
-false_true : false ≡ true → ⊥
-false_true h = cc
-
-none_some : {A : Type 0} (a : A) → None ≡ Some a → ⊥
-none_some a is = cc
 
 -- all of it is stored, and its length is known
 pub record IsAll (p : Representation) : Type 0 where

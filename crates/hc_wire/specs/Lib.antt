@@ -1,5 +1,6 @@
 pub mod Events
 pub mod Logs
 pub mod Scripts
+pub mod Following
 pub mod Sockets
 pub mod Wires

@@ -2,6 +2,7 @@
 ghost use Rattle.std.specs.Prelude.{◌≡◌, ◌+◌, ◌<◌, ◌≤◌, ℕ, true, false, map, filter, position, find, ◌==◌, vec_len, vec_capacity, IfOk, OnOk, OnErr};
 ghost use Rattle.std.specs.Option.{option_copied};
 ghost use Rattle.hc_wire.specs.Events.{Unseen, Open};
+ghost use Rattle.hc_wire.specs.Following.{is_seen, is_live, is_reading};
 ghost use Rattle.hc_wire.specs.Logs.{is_numbered, fresh, stage_in, changed_at, reading, shut, taking, joined, standing_of, is_taking};
 
 use crate::event::{Address, WireEvent};
@@ -139,14 +140,16 @@ pub(crate) fn found(connections: &[Connection], k: u64) -> Option<&Connection>
 
 /// Whether the number was handed out.
 pub(crate) fn is_seen(connections: &[Connection], k: u64) -> bool
-    ensures { result ≡ false → stage_in connections.now k ≡ Unseen }
+    ensures value { result ≡ is_seen connections.now k }
+    ensures unseen { result ≡ false → stage_in connections.now k ≡ Unseen }
 {
     found(connections, k).is_some()
 }
 
 /// Whether the connection is open.
 pub(crate) fn is_open(connections: &[Connection], k: u64) -> bool
-    ensures { result ≡ true → stage_in connections.now k ≡ Open }
+    ensures value { result ≡ is_live connections.now k }
+    ensures open { result ≡ true → stage_in connections.now k ≡ Open }
 {
     match found(connections, k) {
         Some(c) => c.live,
@@ -155,7 +158,9 @@ pub(crate) fn is_open(connections: &[Connection], k: u64) -> bool
 }
 
 /// Whether the connection's reading is on.
-pub(crate) fn is_read(connections: &[Connection], k: u64) -> bool {
+pub(crate) fn is_read(connections: &[Connection], k: u64) -> bool
+    ensures { result ≡ is_reading connections.now k }
+{
     match found(connections, k) {
         Some(c) => c.reads,
         None => false,

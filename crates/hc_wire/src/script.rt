@@ -1,8 +1,10 @@
 //! A wire that follows a script.
-ghost use Rattle.std.specs.Prelude.{◌≡◌, ◌+◌, ◌<◌, ◌≤◌, ◌^◌, ℕ, List, Some, true, All, length, take, IfSome};
+ghost use Rattle.std.specs.Prelude.{◌≡◌, ◌+◌, ◌-◌, ◌<◌, ◌≤◌, ◌^◌, ℕ, List, Some, true, All, length, take, drop, find, min, IfSome};
+ghost use Rattle.std.specs.Option.{option_copied};
 ghost use Rattle.hc_wire.specs.Events.{IsOfOpen, FitsIn, got};
 ghost use Rattle.hc_wire.specs.Logs.{stage_in, sent_in, unused};
 ghost use Rattle.hc_wire.specs.Scripts.{IsScript};
+ghost use Rattle.hc_wire.specs.Following.{behind_past, behind_event, behind_first, begins_quiet, left_at, coming, coming_of, bytes_left, is_listed, is_stall_of, room_in};
 ghost use Rattle.hc_wire.specs.Wires.{HasRisen};
 
 use crate::connection::{
@@ -93,7 +95,9 @@ impl ScriptWire {
 
     /// Counts a call, and tells whether it is to fail.
     fn is_failing(&mut self) -> bool
-        ensures { self.new ≡ record self.old { count = self.new.count } }
+        ensures value { result ≡ is_listed self.new.count self.old.fails.items }
+        ensures count { self.new.count ≡ min (self.old.count + 1) (2 ^ 64 - 1) }
+        ensures kept { self.new ≡ record self.old { count = self.new.count } }
     {
         self.count = self.count.saturating_add(1);
         self.fails.contains(&self.count)
@@ -114,6 +118,13 @@ impl ScriptWire {
     /// connections that aren't open are passed over.
     fn due(&mut self, into: &mut [u8]) -> (u64, WireEvent)
         requires { 0 < length into.old }
+        ensures value { result ≡ coming self.old.connections.items self.old.moment
+            (length into.old) (left_at self.new.script.items self.new.at self.new.off) }
+        ensures bytes { got result.1 into.new ≡ got result.1
+            (bytes_left (left_at self.new.script.items self.new.at self.new.off)) }
+        ensures left { left_at self.new.script.items self.new.at self.new.off
+            ≡ behind_past self.old.connections.items
+            (drop self.old.at self.old.script.items) self.old.off }
         ensures moment { result.0 < 2 ^ 62 }
         ensures of_open { IsOfOpen result.1 (stage_in self.old.connections.items) }
         ensures fits { FitsIn result.1 (length into.old) }
@@ -133,6 +144,10 @@ impl ScriptWire {
     fn due_of(&self, item: &Scripted, into: &mut [u8]) -> Option<(u64, WireEvent)>
         requires some { 0 < length into.old }
         requires early { item.now.moment < 2 ^ 62 }
+        ensures value { result ≡ coming_of self.now.connections.items self.now.moment
+            (length into.old) self.now.off item.now }
+        ensures bytes { IfSome result
+            (λ p. got p.1 into.new ≡ got p.1 (drop self.now.off item.now.bytes)) }
         ensures moment { IfSome result (λ p. p.0 < 2 ^ 62) }
         ensures of_open { IfSome result
             (λ p. IsOfOpen p.1 (stage_in self.now.connections.items)) }
@@ -159,22 +174,35 @@ impl ScriptWire {
 
     /// Goes on behind the event, or behind the bytes that were handed out.
     fn advance(&mut self, event: WireEvent)
-        ensures { self.new ≡ record self.old { at = self.new.at; off = self.new.off } }
+        ensures left { left_at self.new.script.items self.new.at self.new.off
+            ≡ behind_event event (left_at self.old.script.items self.old.at self.old.off) }
+        ensures kept { self.new ≡ record self.old { at = self.new.at; off = self.new.off } }
     {
         match event {
             WireEvent::Got(_, n) => self.off = self.off.saturating_add(n),
             WireEvent::Quiet if !self.is_quiet_next() => {}
-            _ => {
-                self.at = self.at.saturating_add(1);
-                self.off = 0;
-            }
+            _ => self.pass(),
+        }
+    }
+
+    /// Goes on behind the script's next event, where there is one.
+    fn pass(&mut self)
+        ensures left { left_at self.new.script.items self.new.at self.new.off
+            ≡ behind_first (drop self.old.at self.old.script.items) self.old.off }
+        ensures kept { self.new ≡ record self.old { at = self.new.at; off = self.new.off } }
+    {
+        if self.at < self.script.len() {
+            self.at += 1;
+            self.off = 0;
         }
     }
 
     /// Whether the script's next event is Quiet.
-    fn is_quiet_next(&self) -> bool {
+    fn is_quiet_next(&self) -> bool
+        ensures { result ≡ begins_quiet (drop self.now.at self.now.script.items) }
+    {
         match self.script.get(self.at) {
-            Some(item) => item.event == WireEvent::Quiet,
+            Some(item) => matches!(item.event, WireEvent::Quiet),
             None => false,
         }
     }
@@ -275,8 +303,8 @@ fn got_len(event: WireEvent) -> usize
 fn copy_rest(bytes: &[u8], off: usize, into: &mut [u8]) -> usize
     requires more { off < length bytes.now }
     requires some { 0 < length into.old }
-    ensures some { 0 < result }
-    ensures within { result ≤ length into.old }
+    ensures value { result ≡ min (length into.old) (length bytes.now - off) }
+    ensures bytes { take result into.new ≡ take result (drop off bytes.now) }
 {
     let n = into.len().min(bytes.len() - off);
     into[..n].copy_from_slice(&bytes[off..off + n]);
@@ -285,12 +313,20 @@ fn copy_rest(bytes: &[u8], off: usize, into: &mut [u8]) -> usize
 
 /// Of so many bytes, how many the connection takes.
 fn room_in(stalls: &[Stall], k: u64, len: usize) -> usize
-    ensures { result ≤ len }
+    ensures value { result ≡ room_in stalls.now k len }
+    ensures within { result ≤ len }
 {
-    match stalls.iter().find(|stall| stall.k == k) {
+    match stall_of(stalls, k) {
         Some(stall) => stall.left.min(len),
         None => len,
     }
+}
+
+/// How the connection is stalled.
+fn stall_of(stalls: &[Stall], k: u64) -> Option<&Stall>
+    ensures { option_copied result ≡ find (is_stall_of k) stalls.now }
+{
+    stalls.iter().find(|stall| stall.k == k)
 }
 
 /// A connection that takes bytes again isn't stalled any more.

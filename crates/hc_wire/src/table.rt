@@ -113,7 +113,7 @@ impl Table {
         self.unsent.reserve(1)?;
         let n = take_in(&mut self.sockets, k, from)?;
         if hold_in(&mut self.sockets, k) {
-            self.unsent.push_back(k)?;
+            self.unsent.push_back_reserved(k);
         }
         self.queue(k);
         Ok(n)

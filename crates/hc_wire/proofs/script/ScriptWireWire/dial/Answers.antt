@@ -7,7 +7,7 @@ use Rattle.hc_wire.proofs.script.ScriptWireWire.dial.Goals as goal
 pub returns-clause-stages : goal.returns-clause-stages
 returns-clause-stages c = λ j.
     let k : ℕ = c.greatest_in-greatest.result + 1 in
-    let before = ap (λ (w : ScriptWire). w.connections.items) c.is_failing.ensures in
+    let before = ap (λ (w : ScriptWire). w.connections.items) c.is_failing.ensures.kept in
     let unseen = c.greatest_in-greatest.ensures k (omega arith) in
     let is : c.push_reserved.new.self.items ≡ c.args.self.now.connections.items ++ fresh k ∷ [] =
     c.push_reserved.ensures.items ∙ (ap (λ (t : Taker). c.reserve.new.self.items ++ t ∷ []) c.new.ensures

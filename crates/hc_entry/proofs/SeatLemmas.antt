@@ -13,8 +13,8 @@ use Rattle.hc_entry.specs.declared.seat.Stand.{Stand}
 use Rattle.hc_entry.specs.declared.seat.Stand.TheVariants as stand
 use Rattle.hc_entry.specs.Users.{itself, first_of}
 use Rattle.hc_entry.specs.Tournaments.{at, IsLeastAt}
-use Rattle.hc_entry.specs.Seats.{is_same_stand, called_at, seat_of, standing, called_from, called, IsSeated}
-use Rattle.hc_entry.specs.Lines.{Line, is_among, released, stands, passed, gone_away, come_back, left_by}
+use Rattle.hc_entry.specs.Seats.{is_same_stand, called_at, seat_of, standing, called_from, called, moved_to, IsSeated}
+use Rattle.hc_entry.specs.Lines.{Line, is_among, released, stands, left_by}
 use Rattle.hc_entry.proofs.UserLemmas.{least-rising}
 use Rattle.hc_entry.proofs.LineLemmas.{stands-left, stands-with}
 
@@ -474,20 +474,16 @@ line_of es places h = record {
 }
 
 module _ (es : List (ℕ × Seat)) (places : List (Option ℕ)) (h : Option ℕ) (up : IsDistinct nat_eq (keys_of es)) (c p : ℕ) (new : List (ℕ × Seat)) (h' : Option ℕ) (holder : h' ≡ released c h) where
-  pub line-passed : Reseats c (Some (record { place = p; stand = stand.Passed })) es new → line_of new places h' ≡ passed c (line_of es places h)
-  line-passed change =
-      let w : Option Seat = Some (record { place = p; stand = stand.Passed }) in
-      rw (standing-leaves c w es new change up stand.InLine refl, standing-comes c w es new change up stand.Passed refl, standing-leaves c w es new change up stand.Away refl, holder) refl
-
-  pub line-away : Reseats c (Some (record { place = p; stand = stand.Away })) es new → line_of new places h' ≡ gone_away c (line_of es places h)
-  line-away change =
-      let w : Option Seat = Some (record { place = p; stand = stand.Away }) in
-      rw (standing-leaves c w es new change up stand.InLine refl, standing-leaves c w es new change up stand.Passed refl, standing-comes c w es new change up stand.Away refl, holder) refl
-
-  pub line-back : Reseats c (Some (record { place = p; stand = stand.InLine })) es new → line_of new places h' ≡ come_back c (line_of es places h)
-  line-back change =
+  pub line-moved : (s : Stand) → Reseats c (Some (record { place = p; stand = s })) es new → line_of new places h' ≡ moved_to s c (line_of es places h)
+  line-moved stand.InLine change =
       let w : Option Seat = Some (record { place = p; stand = stand.InLine }) in
       rw (standing-comes c w es new change up stand.InLine refl, standing-leaves c w es new change up stand.Passed refl, standing-leaves c w es new change up stand.Away refl, holder) refl
+  line-moved stand.Passed change =
+      let w : Option Seat = Some (record { place = p; stand = stand.Passed }) in
+      rw (standing-leaves c w es new change up stand.InLine refl, standing-comes c w es new change up stand.Passed refl, standing-leaves c w es new change up stand.Away refl, holder) refl
+  line-moved stand.Away change =
+      let w : Option Seat = Some (record { place = p; stand = stand.Away }) in
+      rw (standing-leaves c w es new change up stand.InLine refl, standing-leaves c w es new change up stand.Passed refl, standing-comes c w es new change up stand.Away refl, holder) refl
 
   pub line-left : (places' : List (Option ℕ)) → places' ≡ map (released c) places → Reseats c None es new → line_of new places' h' ≡ left_by c (line_of es places h)
   line-left places' left change =

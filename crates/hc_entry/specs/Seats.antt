@@ -8,7 +8,7 @@ use Rattle.hc_entry.specs.declared.seat.Seat.{Seat}
 use Rattle.hc_entry.specs.declared.seat.Stand.{Stand}
 use Rattle.hc_entry.specs.declared.seat.Stand.TheVariants as stand
 use Rattle.hc_entry.specs.Tournaments.{at}
-use Rattle.hc_entry.specs.Lines.{stands}
+use Rattle.hc_entry.specs.Lines.{Line, stands, passed, gone_away, come_back}
 
 abbrev pub is_same_stand : Stand → Stand → Bool
 is_same_stand stand.InLine stand.InLine = true
@@ -19,6 +19,12 @@ is_same_stand other another = false
 -- a consumer that stands there, if that is in line
 abbrev pub called_at : Stand → ℕ → Option ℕ
 called_at s c = if is_same_stand s stand.InLine then Some c else None
+
+-- the line once one stands there
+abbrev pub moved_to : Stand → ℕ → Line → Line
+moved_to stand.InLine c l = come_back c l
+moved_to stand.Passed c l = passed c l
+moved_to stand.Away c l = gone_away c l
 
 abbrev pub seat_of : List (ℕ × Seat) → ℕ → Option Seat
 seat_of seats c = lookup (nat_eq c) seats

@@ -2,7 +2,7 @@
 ghost use Rattle.std.specs.Prelude.{◌≡◌, ℕ, Some, None, true, false, is_some, IfSome, IfOk, OnErr, if◌then◌else◌, nat_eq};
 ghost use Rattle.std.specs.Map.{keys_of};
 ghost use Rattle.std.specs.HashMap.{IsUnique};
-ghost use Rattle.hc_entry.specs.Seats.{seat_of};
+ghost use Rattle.hc_entry.specs.Seats.{seat_of, moved_to};
 ghost use Rattle.hc_entry.specs.Lines.{nobody, is_in, queued, passed, gone_away, come_back, held_by, left_by, turn_of, turn_with, released, consumer_at, Enters};
 
 use crate::seat::{Seat, Stand};
@@ -121,9 +121,7 @@ impl KeyLine {
         requires { is_in c self.old ≡ true }
         ensures { self.new ≡ passed c self.old }
     {
-        let place = reseat(&mut self.seats, c, Stand::Passed);
-        self.in_line.set(place, None);
-        self.holder = released(self.holder, c);
+        self.stands_at(c, Stand::Passed);
     }
 
     /// The consumer is away.
@@ -131,9 +129,7 @@ impl KeyLine {
         requires { is_in c self.old ≡ true }
         ensures { self.new ≡ gone_away c self.old }
     {
-        let place = reseat(&mut self.seats, c, Stand::Away);
-        self.in_line.set(place, None);
-        self.holder = released(self.holder, c);
+        self.stands_at(c, Stand::Away);
     }
 
     /// The consumer is in line again, and doesn't hold the turn.
@@ -141,8 +137,16 @@ impl KeyLine {
         requires { is_in c self.old ≡ true }
         ensures { self.new ≡ come_back c self.old }
     {
-        let place = reseat(&mut self.seats, c, Stand::InLine);
-        self.in_line.set(place, Some(c));
+        self.stands_at(c, Stand::InLine);
+    }
+
+    /// The consumer stands there from now on, at its place, and doesn't hold the turn.
+    fn stands_at(&mut self, c: u64, stand: Stand)
+        requires { is_in c self.old ≡ true }
+        ensures { self.new ≡ moved_to stand c self.old }
+    {
+        let place = reseat(&mut self.seats, c, stand);
+        self.in_line.set(place, stand.calls(c));
         self.holder = released(self.holder, c);
     }
 

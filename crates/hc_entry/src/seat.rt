@@ -1,4 +1,6 @@
 //! The seat of a consumer in a line.
+ghost use Rattle.std.specs.Prelude.{◌≡◌};
+ghost use Rattle.hc_entry.specs.Seats.{called_at};
 
 /// Where a consumer of a line stands.
 #[derive(Clone, Copy, Debug, PartialEq, Eq)]
@@ -9,6 +11,18 @@ pub(crate) enum Stand {
     Passed,
     /// It is neither in line nor passed, and keeps its seat.
     Away,
+}
+
+impl Stand {
+    /// The consumer that stands there, if that is in line.
+    pub(crate) fn calls(self, c: u64) -> Option<u64>
+        ensures { result ≡ called_at self c }
+    {
+        match self {
+            Stand::InLine => Some(c),
+            Stand::Passed | Stand::Away => None,
+        }
+    }
 }
 
 /// What a line keeps of a consumer.

@@ -30,6 +30,7 @@ pub mod Opens
 pub mod PastReads
 pub mod Pieces
 pub mod Unbuilt
+pub mod Wanted
 pub mod Accepted
 pub mod Undenied
 pub mod Denying

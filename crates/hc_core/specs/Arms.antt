@@ -1,6 +1,5 @@
 -- What the arms of a step look at, and what they do.
 use Rattle.std.specs.Prelude.{◌≡◌, ℕ, ◌+◌, ◌-◌, List, [], ◌∷◌, length, nat_lt, Bool, true, false, Option, Some, None, is_some, if◌then◌else◌, ◌==◌}
-use Rattle.hc_event.specs.declared.event.Event.TheVariants as event
 use Rattle.hc_event.specs.declared.event.Request.{Request}
 use Rattle.hc_event.specs.declared.act.Act.{Act}
 use Rattle.hc_event.specs.declared.act.Act.TheVariants as act
@@ -12,15 +11,11 @@ use Rattle.hc_exch.specs.Exchanges.{table_of, next_of}
 use Rattle.hc_exch.specs.Known.{Known, unknown}
 use Rattle.hc_exch.specs.declared.row.Open.{Open}
 use Rattle.hc_model.specs.declared.place.Place.TheVariants as place
-use Rattle.hc_model.specs.Rows.{Tables}
 use Rattle.hc_model.specs.Moves as moves
 use Rattle.hc_model.specs.Moves.{Move}
-use Rattle.hc_model.specs.Polls.{polled}
-use Rattle.hc_model.specs.Denials.{denial}
 use Rattle.hc_core.specs.declared.consumer.Consumer.{Consumer}
 use Rattle.hc_core.specs.declared.rows.Rows.{Rows}
 use Rattle.hc_core.specs.Changes.{BecomesAt}
-use Rattle.hc_core.specs.Stands.{RowsStand, Answered}
 
 -- WHERE A CONSUMER STANDS
 
@@ -59,13 +54,6 @@ abbrev pub most : Option ℕ → ℕ → ℕ → ℕ
 most hi offset want = cut_at hi (offset + want) - offset
 
 -- THE ARMS OF A POLL
-
--- A poll of c whose move is m is answered, whatever tables the rows stand for.
-abbrev pub Carries : {B : Type 0} → Move → ℕ → Rows B → Rows B → List Act → List Act → Type 0
-Carries m c r u before out =
-    (t : Tables) (now want : ℕ) → RowsStand r t → denial t (event.Poll c want) ≡ None →
-    polled t now want c (t.consumer c) ≡ m →
-    Answered r.limits u t before out now (event.Poll c want)
 
 abbrev pub given : ℕ → ℕ → ℕ → List ℕ → List Act
 given c x at bytes = act.Given c x at bytes ∷ []

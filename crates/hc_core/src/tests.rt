@@ -210,6 +210,35 @@ fn leaves_what_it_opened(rt: HostRuntime) -> Result<(), Fail> {
     walk(&rt, LEFT)
 }
 
+#[test]
+fn wants_heads_and_what_was_asked_for(rt: HostRuntime) -> Result<(), Fail> {
+    let rows = [
+        (7, [1, 2, 3].as_slice()),
+        (9, [2, 3].as_slice()),
+        (11, [3].as_slice()),
+        (13, [].as_slice()),
+        (15, [3].as_slice()),
+    ];
+    for (count, wanted) in rows {
+        let found = wanted_after(&rt, count)?;
+        assert!(rt; found.as_slice() == wanted);
+    }
+    Ok(())
+}
+
+/// What is wanted after so many rows, each of which is told alone, too.
+fn wanted_after<R: Abort + AllocGlobal>(rt: &R, count: usize) -> Result<Vec<u64>, Fail> {
+    let mut cache = Cache::new((), LIMITS, rt.alloc());
+    let mut out = Acts::new(rt.alloc());
+    for row in BROKEN.iter().take(count) {
+        let event = event_of(rt.alloc(), row.1)?;
+        take_step(rt, &mut cache, row.0, &event, &mut out)?;
+    }
+    assert!(rt; cache.wanted().iter().all(|x| cache.wants(*x)));
+    assert!(rt; !cache.wants(4));
+    Ok(cache.wanted().to_vec(rt.alloc())?)
+}
+
 fn walk<R: Abort + AllocGlobal>(rt: &R, rows: &[Row]) -> Result<(), Fail> {
     let mut cache = Cache::new((), LIMITS, rt.alloc());
     let mut out = Acts::new(rt.alloc());

@@ -1,5 +1,5 @@
 -- What an exchange brings, and whether it still does.
-use Rattle.std.specs.Prelude.{ℕ, ◌+◌, length, Bool, false, Option, Some, None, is_none, ◌==◌, ◌&&◌, option_and_then, unwrap_or}
+use Rattle.std.specs.Prelude.{ℕ, ◌+◌, length, Bool, false, Option, Some, None, is_none, ◌==◌, ◌&&◌, ◌||◌, option_and_then, unwrap_or}
 use Rattle.hc_event.specs.declared.event.Event.{Event}
 use Rattle.hc_event.specs.declared.event.Event.TheVariants as event
 use Rattle.hc_event.specs.declared.event.Response.{Response}
@@ -42,6 +42,11 @@ is_open (Some w) = w.is_open
 abbrev pub is_headless : Option Exchange → Bool
 is_headless None = false
 is_headless (Some w) = w.is_open && is_none w.head
+
+-- it is open, and waits for its head, or for bytes that were asked for
+abbrev pub is_wanted : Option Exchange → Bool
+is_wanted None = false
+is_wanted (Some w) = w.is_open && (is_none w.head || w.asked)
 
 -- the exchange of which an event brings something
 abbrev pub exchange_in : Event → Option ℕ

@@ -1,7 +1,9 @@
 //! What the cache says of itself.
-ghost use Rattle.std.specs.Prelude.{◌≡◌, ℕ};
+ghost use Rattle.std.specs.Prelude.{◌≡◌, ℕ, true};
 ghost use Rattle.hc_model.specs.Entries.{Contents, History};
-ghost use Rattle.hc_model.specs.Exchanges.{is_open};
+ghost use Rattle.hc_model.specs.Exchanges.{is_open, is_wanted};
+ghost use Rattle.hc_rising.specs.Rising.{rises};
+ghost use Rattle.hc_exch.specs.Wishes.{is_among, itself};
 ghost use Rattle.hc_model.specs.Denials.{live};
 ghost use Rattle.hc_model.specs.Tables.{tables};
 ghost use Rattle.hc_core.specs.Steps.{StandsFor, last_moment, steps, received, store_in};
@@ -44,6 +46,26 @@ impl<B> Cache<B> {
             → result ≡ is_open ((tables contents h).exchange x) }
     {
         self.rows.exchanges.view(x).is_some()
+    }
+
+    /// The exchange waits for its head, or for bytes that were asked for.
+    pub fn wants(&self, x: u64) -> bool
+        ensures { (contents : Contents) (h : History) → StandsFor self.now contents h
+            → result ≡ is_wanted ((tables contents h).exchange x) }
+    {
+        match self.rows.exchanges.view(x) {
+            Some(view) => !view.headed || view.asked,
+            None => false,
+        }
+    }
+
+    /// The exchanges that are wanted, by rising number.
+    pub fn wanted(&self) -> &[u64]
+        ensures rising { rises itself result.now ≡ true }
+        ensures wanted { (contents : Contents) (h : History) → StandsFor self.now contents h
+            → (x : ℕ) → is_among x result.now ≡ is_wanted ((tables contents h).exchange x) }
+    {
+        self.rows.exchanges.wanted()
     }
 
     pub fn store(&self) -> &B

@@ -63,6 +63,7 @@ class Facts:
         self.turns()
         self.dooms(old, entry)
         self.left(limits)
+        self.places()
         if not self.is_denied(entry.acts):
             self.holds("within the limit", self.weights(old, entry) <= limits.max_total or not self.writes(entry))
             self.holds("few are evicted", sum(act._name == "Evicted" for act in entry.acts) <= 2)
@@ -297,6 +298,62 @@ class Facts:
         for x, w in self.W.items():
             if w.is_open and of(w.head) is None and (w.need._name in TURNS or w.need._name == "Hole" and not self.K[w.c].shown):
                 self.holds("awaited behind dooms", self.barrier.get(bytes(w.request.key), 0) < x)
+
+    def places(self):
+        """What holds of a consumer by where it stands, and of the exchange that it reads past the store."""
+        t = self.t
+        for c, k in self.K.items():
+            name, args, own, due = k.place._name, k.place.args(), of(k.own), of(k.due)
+            self.holds("place: told", due is None or due._name != "StoreRead")
+            if name in ("Line", "Passed", "Turn", "Down"):
+                self.holds("place: idle", not k.shown and k.given == 0 and due is None)
+            if name in ("Line", "Passed"):
+                self.holds("place: idle own " + name, of(self.own_open(t, k)) is None)
+                self.holds("place: none own", name == "Passed" or own is None)
+            if name == "Turn":
+                w = self.W[args[0]]
+                self.holds("place: turn", own == args[0] and w.c == c and w.is_open and of(w.head) is None and w.need._name in TURNS)
+            if name == "Down":
+                self.holds("place: down own", of(self.own_open(t, k)) is None)
+                self.holds("place: down told", args[0]._name != "StoreRead")
+            if name == "Over":
+                self.holds("place: over own", of(self.own_open(t, k)) is None)
+            if name == "Direct":
+                self.direct(c, k, args[0], due)
+            if name == "Bound":
+                self.holds("place: bound unshown", k.shown or k.given == 0)
+                v = self.V[args[0]]
+                self.holds("place: bound given", all(of(v.body(p)) is not None for p in range(args[1], args[1] + k.given)))
+                self.holds("place: bound lo", args[1] + k.given <= v.reach or k.given == 0)
+            if self.requests[1](k.request):
+                self.holds("place: disabled", name in ("Line", "Direct", "Down", "Over"))
+            if self.requests[2](k.request):
+                self.holds("place: only", name in ("Line", "Bound", "Over"))
+        for x, w in self.W.items():
+            k, n = self.K[w.c], of(self.promised(w))
+            self.holds("exchange: received", len(w.body) <= t.received)
+            self.holds("exchange: promised", n is None or len(w.body) <= n)
+            self.holds("exchange: small", n is None or self.base(w) + n <= 1 << 62)
+            self.holds("exchange: live", not w.is_open or k.place._name != "Over" or self.family(x) in self.V)
+            self.holds("exchange: ended", not (w.is_ended and w.is_open))
+            if w.is_open and of(w.head) is not None and self.family(x) not in self.V:
+                self.holds("exchange: direct", k.place._name == "Direct" and k.place.args()[0] == x)
+
+    def direct(self, c, k, x, due):
+        w = self.W[x]
+        self.holds("direct: own", of(k.own) == x and w.c == c)
+        self.holds("direct: apart", of(w.joined) is None)
+        self.holds("direct: unfounded", x not in self.V)
+        self.holds("direct: within", k.given <= len(w.body))
+        if of(w.head) is None:
+            self.holds("direct: unheard", w.is_open and not k.shown and len(w.body) == 0 and due is None)
+        if not k.shown:
+            self.holds("direct: ungiven", k.given == 0)
+        if not w.is_open and due is None:
+            n = of(self.promised(w))
+            self.holds("direct: finished", len(w.body) == n if n is not None else w.is_ended)
+        if due is not None:
+            self.holds("direct: due over", due is None or not w.is_open)
 
     def left(self, limits):
         """What makes that a store may begin with what is left."""

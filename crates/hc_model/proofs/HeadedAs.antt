@@ -76,6 +76,36 @@ module _ (limits : Limits) (t : Tables) (now : ℕ) (flaw : Flaw) (s : Sound t) 
       let stays : leaves_in c e.acts ≡ false = not_so _ (λ leaves. let got = leaving_by limits t now flaw s ev goes c leaves in unpolled c got.want got.poll.at) in
       heard_place limits t now flaw s o ev goes c 0 0 None by.Plan k u unpolled (record { row = row.row; stays = row.stays; leaves = stays; is = row.is })
 
+  -- A HEAD THAT LEAVES ITS EXCHANGE OPEN
+
+  module _ (x : ℕ) (w z : Exchange) (response : Response) (here : ev ≡ event.Head x response) (is_row : t.exchange x ≡ Some w) (after_row : now_on.exchange x ≡ Some z) (same : IsSame t e x w z) (opened : z.is_open ≡ true) where
+    same_test : nat_eq x x ≡ true
+    same_test = grind (arith, nat_tests)
+
+    head_open : (a : Entry) → (exchange_heard t a x ev w).is_open ≡ (not (is_reached (promise_in w response) 0) && w.is_open)
+    head_open a = ap (λ v. (exchange_heard t a x v w).is_open) here ∙ rw same_test refl
+
+    heard_open : (exchange_heard t e x ev w).is_open ≡ true
+    heard_open =
+        let is : exchange_acted x e.acts (exchange_heard t e x ev w) ≡ z = some_inj _ z (sym (after_is t e x w (t.exchange x) is_row) ∙ after_row) in
+        and_right _ _ (ap (λ (q : Exchange). q.is_open) is ∙ opened)
+
+    -- isn't refused
+    pub not_refused : is_refused (case_at t e) ≡ true → ⊥
+    not_refused refused =
+        let refused_b : is_refused (case_at t b) ≡ true = sym (ap is_refused (case_same limits t now flaw s o ev goes)) ∙ refused in
+        let brings : brings_head x ev ≡ true = ap (brings_head x) here ∙ same_test in
+        let must : must_close t b x w ≡ true = or_left _ _ (or_left _ _ (or_left _ _ (and_both _ _ refused_b brings))) in
+        let shut : closes_in x e.acts ≡ true = closes limits t now flaw s ev x w is_row must (head_open b ∙ (sym (head_open e) ∙ heard_open)) in
+        false_true (sym (same.unclosed opened) ∙ shut)
+
+    -- and is no 304
+    pub not_unmodified : response.status ≡ 304 → ⊥
+    not_unmodified is =
+        let none : promise_in w response ≡ Some 0 = promises_none w.need w.request response is in
+        let off : (not (is_reached (promise_in w response) 0) && w.is_open) ≡ false = rw none refl in
+        false_true (sym off ∙ (sym (head_open e) ∙ heard_open))
+
   -- where its head leaves a consumer
   pub data HeadedAs (x : ℕ) (response : Response) (w : Exchange) (p q : Place) (z : Exchange) : Type 0 where
     direct : q ≡ place.Direct x → HeadedAs x response w p q z
@@ -98,9 +128,6 @@ module _ (limits : Limits) (t : Tables) (now : ℕ) (flaw : Flaw) (s : Sound t) 
     mine_test : nat_eq w.c c ≡ true
     mine_test = let m : w.c ≡ c = mine in grind (arith, nat_tests)
 
-    self_test : nat_eq x x ≡ true
-    self_test = grind (arith, nat_tests)
-
     by_row : (q : Option Exchange) → q ≡ Some w → (by_head t e c x response q k).place ≡ place_by_case x response w k (case_at t e)
     by_row None none = absurd (none_some w none)
     by_row (Some p) is = elim (eq_cases p.c c) [
@@ -120,21 +147,8 @@ module _ (limits : Limits) (t : Tables) (now : ℕ) (flaw : Flaw) (s : Sound t) 
 
     -- ITS CASE LEAVES IT OPEN
 
-    head_open : (a : Entry) → (exchange_heard t a x ev w).is_open ≡ (not (is_reached (promise_in w response) 0) && w.is_open)
-    head_open a = ap (λ v. (exchange_heard t a x v w).is_open) here ∙ rw self_test refl
-
-    heard_open : (exchange_heard t e x ev w).is_open ≡ true
-    heard_open =
-        let is : exchange_acted x e.acts (exchange_heard t e x ev w) ≡ z = some_inj _ z (sym (after_is t e x w (t.exchange x) is_row) ∙ after_row) in
-        and_right _ _ (ap (λ (q : Exchange). q.is_open) is ∙ opened)
-
     unrefused : is_refused (case_at t e) ≡ true → ⊥
-    unrefused refused =
-        let refused_b : is_refused (case_at t b) ≡ true = sym (ap is_refused (case_same limits t now flaw s o ev goes)) ∙ refused in
-        let brings : brings_head x ev ≡ true = ap (brings_head x) here ∙ self_test in
-        let must : must_close t b x w ≡ true = or_left _ _ (or_left _ _ (or_left _ _ (and_both _ _ refused_b brings))) in
-        let shut : closes_in x e.acts ≡ true = closes limits t now flaw s ev x w is_row must (head_open b ∙ (sym (head_open e) ∙ heard_open)) in
-        false_true (sym (same.unclosed opened) ∙ shut)
+    unrefused = not_refused x w z response here is_row after_row same opened
 
     unsent : sends_back (case_at t e) ≡ true → ⊥
     unfolding starts_over
@@ -144,10 +158,7 @@ module _ (limits : Limits) (t : Tables) (now : ℕ) (flaw : Flaw) (s : Sound t) 
         false_true (sym none ∙ and_both _ _ sends it)
 
     promising : response.status ≡ 304 → ⊥
-    promising is =
-        let none : promise_in w response ≡ Some 0 = promises_none w.need w.request response is in
-        let off : (not (is_reached (promise_in w response) 0) && w.is_open) ≡ false = rw none refl in
-        false_true (sym off ∙ (sym (head_open e) ∙ heard_open))
+    promising = not_unmodified x w z response here is_row after_row same opened
 
     -- THE CASES
 

@@ -165,3 +165,6 @@ pub mod TagRuns
 pub mod RunsFrom
 pub mod KindsLeft
 pub mod LeavesGood
+pub mod PlacesKept
+pub mod PlacesRead
+pub mod PlaceRuns

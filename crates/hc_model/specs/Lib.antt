@@ -40,4 +40,5 @@ pub mod Measures
 pub mod Origins
 pub mod Sizes
 pub mod StoredHeads
+pub mod Places
 pub mod Laws

@@ -8,6 +8,7 @@ ghost use Rattle.hc_model.specs.Measures.{Measures};
 ghost use Rattle.hc_model.specs.Origins.{Origins};
 ghost use Rattle.hc_model.specs.Sizes.{Sizes};
 ghost use Rattle.hc_model.specs.StoredHeads.{StoredHeads, Tags};
+ghost use Rattle.hc_model.specs.Places.{Places};
 ghost use Rattle.hc_model.specs.Sound.{OneFirst, Sound, RunsAreSound};
 
 /// What shows the other laws holds of the tables of every run, from contents by which a store may begin: they
@@ -208,6 +209,14 @@ pub fn stores_begin_again()
     ensures sizes { OfRunsIn Sizes }
     ensures heads { OfRuns StoredHeads }
     ensures tags { OfRuns Tags }
+{}
+
+/// Where a consumer stands tells what holds of it, in every run: who waits in the line or for a body, is to be told
+/// a failure or is over has no open exchange; who has the turn waits for the head of its own; who reads past the
+/// store reads its own, which is of no representation; and each open exchange with a head that is of none
+/// is read so.
+pub fn places_are_known()
+    ensures { OfRuns Places }
 {}
 
 /// A denied entry leaves sound tables sound, owners known and bodies measured.

@@ -1,0 +1,52 @@
+-- What holds of a consumer by its place, in every run.
+use Rattle.std.specs.Prelude.{◌≡◌, ℕ, true, Option, Some, None, is_some}
+use Rattle.hc_event.specs.declared.act.Cause.{Cause}
+use Rattle.hc_rules.specs.declared.need.Route.TheVariants as route
+use Rattle.hc_rules.specs.Needs.{route_of}
+use Rattle.hc_model.specs.declared.place.Place.TheVariants as place
+use Rattle.hc_model.specs.Exchanges.{family}
+use Rattle.hc_model.specs.Reading.{own_open}
+use Rattle.hc_model.specs.Rows.{Tables, Exchange, Consumer}
+
+-- it has the turn, and waits for the head of the exchange that was opened for that
+pub record AwaitsTurn (t : Tables) (c x : ℕ) (k : Consumer) : Type 0 where
+  pub w : Exchange
+  pub row : t.exchange x ≡ Some w
+  pub for_it : w.c ≡ c
+  pub own : k.own ≡ Some x
+  pub by_turn : route_of w.need ≡ route.Turn
+  pub is_open : w.is_open ≡ true
+  pub headless : w.head ≡ None
+
+-- it reads the answer of its own exchange, which is no representation and joined none
+pub record ReadsPast (t : Tables) (c x : ℕ) (k : Consumer) : Type 0 where
+  pub w : Exchange
+  pub row : t.exchange x ≡ Some w
+  pub for_it : w.c ≡ c
+  pub own : k.own ≡ Some x
+  pub unjoined : w.joined ≡ None
+  pub unfounded : t.representation x ≡ None
+
+-- who reads an exchange past the store
+pub record IsReadPast (t : Tables) (x : ℕ) (w : Exchange) : Type 0 where
+  pub k : Consumer
+  pub row : t.consumer w.c ≡ Some k
+  pub place_is : k.place ≡ place.Direct x
+
+-- by its place: who reads nothing has no open exchange but the one of its turn, and what an open
+-- exchange past the store brings is read
+pub record Places (t : Tables) : Type 0 where
+  pub line : (c : ℕ) (k : Consumer) → t.consumer c ≡ Some k → k.place ≡ place.Line →
+      own_open t k ≡ None
+  pub passed : (c r : ℕ) (kept : Option ℕ) (k : Consumer) → t.consumer c ≡ Some k →
+      k.place ≡ place.Passed r kept → own_open t k ≡ None
+  pub turn : (c x : ℕ) (k : Consumer) → t.consumer c ≡ Some k → k.place ≡ place.Turn x →
+      AwaitsTurn t c x k
+  pub direct : (c x : ℕ) (k : Consumer) → t.consumer c ≡ Some k → k.place ≡ place.Direct x →
+      ReadsPast t c x k
+  pub down : (c : ℕ) (why : Cause) (k : Consumer) → t.consumer c ≡ Some k →
+      k.place ≡ place.Down why → own_open t k ≡ None
+  pub over : (c : ℕ) (k : Consumer) → t.consumer c ≡ Some k → k.place ≡ place.Over →
+      own_open t k ≡ None
+  pub read : (x : ℕ) (w : Exchange) → t.exchange x ≡ Some w → w.is_open ≡ true →
+      is_some w.head ≡ true → t.representation (family x w) ≡ None → IsReadPast t x w

@@ -167,4 +167,5 @@ pub mod KindsLeft
 pub mod LeavesGood
 pub mod PlacesKept
 pub mod PlacesRead
+pub mod PlacesShown
 pub mod PlaceRuns

@@ -13,35 +13,42 @@ use Rattle.hc_model.specs.Beginnings.{may_begin}
 use Rattle.hc_model.specs.Entries.{Entry, History, Contents}
 use Rattle.hc_model.specs.Exchanges.{is_open}
 use Rattle.hc_model.specs.Flaws.{flaw_in}
-use Rattle.hc_model.specs.Laws.{OfRuns}
-use Rattle.hc_model.specs.Owners.{Owners, IsAwaiting, IsReading}
+use Rattle.hc_model.specs.Laws.{OfRuns, Turns}
+use Rattle.hc_model.specs.Owners.{Owners, IsAwaiting, IsPast, IsReading}
 use Rattle.hc_model.specs.Owners as owners
-use Rattle.hc_model.specs.Places.{Places, AwaitsTurn, ReadsPast}
-use Rattle.hc_model.specs.Reading.{own_open}
+use Rattle.hc_model.specs.Places.{Places, IsIdle, IsAway, AwaitsTurn, IsUnheard, ReadsPast}
+use Rattle.hc_model.specs.Reading.{own_open, reads}
 use Rattle.hc_model.specs.Rows.{Tables, Exchange, Consumer}
 use Rattle.hc_model.specs.Runs.{IsRun, IsOwed}
 use Rattle.hc_model.specs.Sound.{Sound}
 use Rattle.hc_model.specs.Tables.{tables, begun, after_accepted, after_denied}
 use Rattle.hc_model.proofs.Barred.{next_tables, denied_tables}
 use Rattle.hc_model.proofs.Basics.{false_true, none_some, some_none}
+use Rattle.hc_model.proofs.Bounded.{IsBounded}
+use Rattle.hc_model.proofs.InRuns.{turned_in_runs}
 use Rattle.hc_model.proofs.OfEntries.{of_real}
 use Rattle.hc_model.proofs.Pens.{same_row}
 use Rattle.hc_model.proofs.PlacesKept.{AreOwn, IsOwnTurn, own_kept, turn_direct, bound_turn}
 use Rattle.hc_model.proofs.PlacesRead.{AreRead, read_kept}
+use Rattle.hc_model.proofs.PlacesShown.{AreReaders, IsReader, readers_kept}
+use Rattle.hc_model.proofs.ReadEnds.{bounded}
 use Rattle.hc_model.proofs.ReadJoined.{aside}
 use Rattle.hc_model.proofs.ShownStays.{IsAside}
 use Rattle.hc_model.proofs.SoundRuns.{IsCarried, carried}
+use Rattle.hc_model.proofs.TurnFacts.{IsTaken}
 
 -- OVER A RUN
 
 pub record IsKnown (t : Tables) : Type 0 where
   pub owned : AreOwn t
   pub reads : AreRead t
+  pub readers : AreReaders t
 
 known_begun : (contents : Contents) → IsKnown (begun contents)
 known_begun contents = record {
   owned = record { direct = λ c x k row at. absurd (none_some k row); turn = λ c x k row at. absurd (none_some k row) };
   reads = record { read = λ x w row on headed none. absurd (none_some w row) };
+  readers = record { shown = λ c k row on. absurd (none_some k row) };
 }
 
 known_denied : (t : Tables) (e : Entry) → IsKnown t → IsKnown (after_denied t e)
@@ -51,43 +58,45 @@ known_denied t e known = record {
     turn = λ c x k row at. let i = known.owned.turn c x k row at in record { its = record { w = i.its.w; row = i.its.row; for_it = i.its.for_it; own = i.its.own }; is_open = i.is_open };
   };
   reads = record { read = λ x w row on headed none. let r = known.reads.read x w row on headed none in record { k = r.k; row = r.row; place_is = r.place_is } };
+  readers = record { shown = known.readers.shown };
 }
 
-by_denial : (limits : Limits) (contents : Contents) (h : History) (e : Entry) (b : Bool) → is_denied e.acts ≡ b → IsCarried (tables contents h) → IsAside (tables contents h) → Sound (tables contents (e ∷ h)) → IsOwed limits (tables contents h) e → IsKnown (tables contents h) → IsKnown (tables contents (e ∷ h))
-by_denial limits contents h e true denied c a later owed known = subst IsKnown (denied_tables contents h e denied) (known_denied (tables contents h) e known)
-by_denial limits contents h e false accepted c a later owed known =
+by_denial : (limits : Limits) (contents : Contents) (h : History) (e : Entry) (b : Bool) → is_denied e.acts ≡ b → IsCarried (tables contents h) → IsAside (tables contents h) → Turns (tables contents h) → Sound (tables contents (e ∷ h)) → IsOwed limits (tables contents h) e → IsKnown (tables contents h) → IsKnown (tables contents (e ∷ h))
+by_denial limits contents h e true denied c a turns later owed known = subst IsKnown (denied_tables contents h e denied) (known_denied (tables contents h) e known)
+by_denial limits contents h e false accepted c a turns later owed known =
     let t = tables contents h in
     let sound_then : Sound (after_accepted t e) = subst Sound (sym (next_tables contents h e accepted)) later in
     subst IsKnown (next_tables contents h e accepted)
-    (of_real limits t e (λ z. Sound (after_accepted t z) → IsKnown (after_accepted t z)) owed accepted (λ going real then. record {
+    (of_real limits t e (λ z. Sound (after_accepted t z) → IsTaken limits t z → IsKnown (after_accepted t z)) owed accepted (λ going real then taken. record {
       owned = own_kept limits t e.now (flaw_in e.acts) c.is_sound c.is_owned a known.owned e.event going;
       reads = read_kept limits t e.now (flaw_in e.acts) c.is_sound c.is_owned a known.owned e.event going then known.reads;
-    }) sound_then)
+      readers = readers_kept limits t e.now (flaw_in e.acts) c.is_sound c.is_owned a known.owned turns known.readers e.event going taken;
+    }) sound_then (record { owed = owed; not_denied = accepted }))
 
 pub known_in_runs : OfRuns IsKnown
 unfolding tables
 known_in_runs limits contents [] may run = known_begun contents
-known_in_runs limits contents (e ∷ h) may run = by_denial limits contents h e (is_denied e.acts) refl (carried limits contents h may run.0) (aside limits contents h may run.0) (carried limits contents (e ∷ h) may run).is_sound run.1 (known_in_runs limits contents h may run.0)
+known_in_runs limits contents (e ∷ h) may run = by_denial limits contents h e (is_denied e.acts) refl (carried limits contents h may run.0) (aside limits contents h may run.0) (turned_in_runs limits contents h may run.0).turns (carried limits contents (e ∷ h) may run).is_sound run.1 (known_in_runs limits contents h may run.0)
 
 -- BY PLACE
 
-module _ (t : Tables) (s : Sound t) (o : Owners t) (a : IsAside t) (known : IsKnown t) where
+module _ (t : Tables) (s : Sound t) (o : Owners t) (a : IsAside t) (b : IsBounded t) (known : IsKnown t) where
   -- it neither waits for a head nor reads
-  abbrev IsAway : Place → Type 0
-  IsAway place.Line = Unit {0}
-  IsAway (place.Passed r kept) = Unit {0}
-  IsAway (place.Down why) = Unit {0}
-  IsAway place.Over = Unit {0}
-  IsAway _ = ⊥
+  abbrev Elsewhere : Place → Type 0
+  Elsewhere place.Line = Unit {0}
+  Elsewhere (place.Passed r kept) = Unit {0}
+  Elsewhere (place.Down why) = Unit {0}
+  Elsewhere place.Over = Unit {0}
+  Elsewhere _ = ⊥
 
-  awaiting_not : (x : ℕ) (w : Exchange) (p : Place) → IsAway p → IsAwaiting x w p → ⊥
-  awaiting_not x w p away (owners.direct way is) = subst IsAway is away
-  awaiting_not x w p away (owners.turn way is) = subst IsAway is away
-  awaiting_not x w p away (owners.hole r lo hi how way aim is) = subst IsAway is away
+  awaiting_not : (x : ℕ) (w : Exchange) (p : Place) → Elsewhere p → IsAwaiting x w p → ⊥
+  awaiting_not x w p away (owners.direct way is) = subst Elsewhere is away
+  awaiting_not x w p away (owners.turn way is) = subst Elsewhere is away
+  awaiting_not x w p away (owners.hole r lo hi how way aim is) = subst Elsewhere is away
 
-  reading_not : (x : ℕ) (p : Place) → IsAway p → IsReading x p → ⊥
-  reading_not x p away (owners.direct is) = subst IsAway is away
-  reading_not x p away (owners.bound r lo hi how is) = subst IsAway is away
+  reading_not : (x : ℕ) (p : Place) → Elsewhere p → IsReading x p → ⊥
+  reading_not x p away (owners.direct is) = subst Elsewhere is away
+  reading_not x p away (owners.bound r lo hi how is) = subst Elsewhere is away
 
   module _ (c : ℕ) (k : Consumer) (row : t.consumer c ≡ Some k) where
     -- its own exchange that waits for its head is one for which it stands there
@@ -97,14 +106,14 @@ module _ (t : Tables) (s : Sound t) (o : Owners t) (a : IsAside t) (known : IsKn
         let mine : w.c ≡ c = o.one w.c c x waits.k k waits.row row waits.own own in
         subst (λ (q : Consumer). IsAwaiting x w q.place) (same_row (t.consumer c) waits.k k (sym (ap t.consumer mine) ∙ waits.row) row) waits.at
 
-    away_not : IsAway k.place → (x : ℕ) (w : Exchange) → k.own ≡ Some x → t.exchange x ≡ Some w → w.is_open ≡ true → ⊥
+    away_not : Elsewhere k.place → (x : ℕ) (w : Exchange) → k.own ≡ Some x → t.exchange x ≡ Some w → w.is_open ≡ true → ⊥
     away_not away x w own exchange_row on = by_head w.head refl
       where
         by_head : (q : Option Response) → w.head ≡ q → ⊥
         by_head None bare = awaiting_not x w k.place away (awaiting x w own exchange_row on bare)
         by_head (Some response) is = reading_not x k.place away (o.reading c x k w row own exchange_row on (ap (λ (q : Option Response). is_some q) is))
 
-    away_own : IsAway k.place → own_open t k ≡ None
+    away_own : Elsewhere k.place → own_open t k ≡ None
     away_own away = by_own k.own refl
       where
         by_open : (x : ℕ) (z : Option Exchange) (b : Bool) → k.own ≡ Some x → t.exchange x ≡ z → is_open z ≡ b → own_open t k ≡ None
@@ -115,6 +124,22 @@ module _ (t : Tables) (s : Sound t) (o : Owners t) (a : IsAside t) (known : IsKn
         by_own : (q : Option ℕ) → k.own ≡ q → own_open t k ≡ None
         by_own None own = rw own refl
         by_own (Some x) own = by_open x (t.exchange x) (is_open (t.exchange x)) own refl refl
+
+    idle_by : k.shown ≡ false → reads k.place ≡ false → IsIdle k
+    idle_by off unread = record { unshown = off; ungiven = b.fresh c k row off; undue = o.idle_due c k row unread }
+
+    unshown_by : (IsReader k.place → ⊥) → k.shown ≡ false
+    unshown_by never = by_shown k.shown refl
+      where
+        by_shown : (q : Bool) → k.shown ≡ q → q ≡ false
+        by_shown true on = absurd (never (known.readers.shown c k row on))
+        by_shown false off = refl
+
+    unshown_turn : (x : ℕ) → k.place ≡ place.Turn x → k.shown ≡ false
+    unshown_turn x at = unshown_by (λ r. subst IsReader at r)
+
+    away_by : Elsewhere k.place → (IsReader k.place → ⊥) → reads k.place ≡ false → IsAway t k
+    away_by away never unread = record { idle = idle_by (unshown_by never) unread; unowned = away_own away }
 
     turn_route : (x : ℕ) (w : Exchange) (p : Place) → p ≡ place.Turn x → IsAwaiting x w p → route_of w.need ≡ route.Turn
     turn_route x w p at (owners.direct way is) = absurd (turn_direct x x (sym at ∙ is))
@@ -140,26 +165,52 @@ module _ (t : Tables) (s : Sound t) (o : Owners t) (a : IsAside t) (known : IsKn
           by_turn = turn_route x i.its.w k.place at (awaiting x i.its.w i.its.own i.its.row i.is_open bare);
           is_open = i.is_open;
           headless = bare;
+          idle = idle_by (unshown_turn x at) (ap reads at);
         }
         by_head (Some response) is = absurd (turn_reading x k.place at (o.reading c x k i.its.w row i.its.own i.its.row i.is_open (ap (λ (q : Option Response). is_some q) is)))
+
+    -- of an exchange without a head it was shown none, and that has no body
+    unheard : (x : ℕ) (w : Exchange) → t.exchange x ≡ Some w → w.head ≡ None → k.place ≡ place.Direct x → IsUnheard w k
+    unheard x w exchange_row bare at = by_past (o.past c x k row at off)
+      where
+        bare_not : (q : Exchange) → t.exchange x ≡ Some q → is_some q.head ≡ true → ⊥
+        bare_not q there headed = false_true (sym (ap (λ (z : Option Response). is_some z) (ap (λ (z : Exchange). z.head) (same_row (t.exchange x) q w there exchange_row) ∙ bare)) ∙ headed)
+
+        off : k.shown ≡ false
+        off = by_shown k.shown refl
+          where
+            by_shown : (q : Bool) → k.shown ≡ q → q ≡ false
+            by_shown true on = absurd (let h = a.apart.headed c x k row at on in bare_not h.w h.row h.headed)
+            by_shown false unshown = refl
+
+        by_past : IsPast t x k → IsUnheard w k
+        by_past (owners.answered q there headed) = absurd (bare_not q there headed)
+        by_past (owners.waits q mine there on empty) = record {
+          is_open = sym (ap (λ (z : Exchange). z.is_open) (same_row (t.exchange x) q w there exchange_row)) ∙ on;
+          unshown = off;
+          empty = (s.waits.headless x w exchange_row bare).0;
+        }
 
     reads_past : (x : ℕ) → k.place ≡ place.Direct x → ReadsPast t c x k
     reads_past x at =
         let i = known.owned.direct c x k row at in
-        record { w = i.its.w; row = i.its.row; for_it = i.its.for_it; own = i.its.own; unjoined = i.unjoined; unfounded = a.apart.unfounded c x k row at }
+        record { w = i.its.w; row = i.its.row; for_it = i.its.for_it; own = i.its.own; unjoined = i.unjoined; unfounded = a.apart.unfounded c x k row at; unheard = λ bare. unheard x i.its.w i.its.row bare at }
 
   pub places_by : Places t
   places_by = record {
-    line = λ c k row at. away_own c k row (subst IsAway (sym at) tt);
-    passed = λ c r kept k row at. away_own c k row (subst IsAway (sym at) tt);
+    line = λ c k row at. away_by c k row (subst Elsewhere (sym at) tt) (λ r. subst IsReader at r) (ap reads at);
+    passed = λ c r kept k row at. away_by c k row (subst Elsewhere (sym at) tt) (λ r. subst IsReader at r) (ap reads at);
     turn = λ c x k row at. awaits_turn c k row x at;
     direct = λ c x k row at. reads_past c k row x at;
-    down = λ c why k row at. away_own c k row (subst IsAway (sym at) tt);
-    over = λ c k row at. away_own c k row (subst IsAway (sym at) tt);
+    down = λ c why k row at. away_by c k row (subst Elsewhere (sym at) tt) (λ r. subst IsReader at r) (ap reads at);
+    over = λ c k row at. away_own c k row (subst Elsewhere (sym at) tt);
+    ungiven = b.fresh;
     read = known.reads.read;
+    promised_most = λ x n w row is. b.promise x n w row is;
+    ended = a.ended;
   }
 
 pub places_in_runs : OfRuns Places
 places_in_runs limits contents h may run =
     let c = carried limits contents h may run in
-    places_by (tables contents h) c.is_sound c.is_owned (aside limits contents h may run) (known_in_runs limits contents h may run)
+    places_by (tables contents h) c.is_sound c.is_owned (aside limits contents h may run) (bounded limits contents h may run) (known_in_runs limits contents h may run)

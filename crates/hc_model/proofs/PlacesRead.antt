@@ -34,7 +34,6 @@ use Rattle.hc_model.specs.Sound as sound
 use Rattle.hc_model.specs.StartingOver.{starts_over, sends_back, waits_at, loses_what_it_waits_for}
 use Rattle.hc_model.specs.Tables.{after_accepted}
 use Rattle.hc_model.proofs.Basics.{false_true, and_left, and_right, not_so, none_some}
-use Rattle.hc_model.proofs.Dues as dues
 use Rattle.hc_model.proofs.ExchangeFrom.{ExchangeFrom, exchange_from, IsSame, IsHeaded}
 use Rattle.hc_model.proofs.ExchangeFrom as exchange
 use Rattle.hc_model.proofs.FirstKeeps.{is_new, case_is}

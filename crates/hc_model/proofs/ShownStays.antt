@@ -82,7 +82,7 @@ passed_by_idle : (kept o : Option ℕ) → IsIdle (passed_by kept o)
 passed_by_idle kept None = tt
 passed_by_idle kept (Some r) = tt
 
-unless_same : (b : Option ℕ) (r : ℕ) (old new : Place) → b ≡ Some r → unless_bound b old new ≡ old
+pub unless_same : (b : Option ℕ) (r : ℕ) (old new : Place) → b ≡ Some r → unless_bound b old new ≡ old
 unless_same None r old new is = absurd (none_some r is)
 unless_same (Some q) r old new is = refl
 
@@ -174,7 +174,7 @@ module _ (limits : Limits) (t : Tables) (now : ℕ) (flaw : Flaw) (s : Sound t) 
     abbrev waited : Consumer
     waited = waiting t e c (consumer_heard t e c ev k)
 
-    way_bound : (p : Opening) → Way t now c k p.need → (bound_to k.place ≡ None → k.shown ≡ false) → (r : ℕ) × (bound_to k.place ≡ Some r)
+    pub way_bound : (p : Opening) → Way t now c k p.need → (bound_to k.place ≡ None → k.shown ≡ false) → (r : ℕ) × (bound_to k.place ≡ Some r)
     way_bound p (opened.passes_by none way) off = absurd (false_true (sym (off none) ∙ shown))
     way_bound p (opened.fetches none way cached) off = absurd (false_true (sym (off none) ∙ shown))
     way_bound p (opened.fills r v span hole none way is there wants found need_is cached) off = absurd (false_true (sym (off none) ∙ shown))
@@ -191,7 +191,7 @@ module _ (limits : Limits) (t : Tables) (now : ℕ) (flaw : Flaw) (s : Sound t) 
           rw mine.0 (same (unless_same (bound_to waited.place) b.0 waited.place _ (ap bound_to op.place_is ∙ b.1) ∙ op.place_is))
     ]
 
-    shows_not : (z : Showing) → showing_in e.acts ≡ Some z → z.c ≡ c → ⊥
+    pub shows_not : (z : Showing) → showing_in e.acts ≡ Some z → z.c ≡ c → ⊥
     shows_not z is mine =
         let by_poll = showing_by limits t now flaw s ev goes z is in
         let one : by_poll.k ≡ k = same_row (t.consumer c) by_poll.k k (sym (ap t.consumer mine) ∙ by_poll.poll.row) row in

@@ -1,12 +1,23 @@
 -- What holds of a consumer by its place, in every run.
-use Rattle.std.specs.Prelude.{◌≡◌, ℕ, true, Option, Some, None, is_some}
+use Rattle.std.specs.Prelude.{◌≡◌, ℕ, ◌≤◌, List, [], length, true, false, Option, Some, None, is_some}
 use Rattle.hc_event.specs.declared.act.Cause.{Cause}
 use Rattle.hc_rules.specs.declared.need.Route.TheVariants as route
 use Rattle.hc_rules.specs.Needs.{route_of}
 use Rattle.hc_model.specs.declared.place.Place.TheVariants as place
-use Rattle.hc_model.specs.Exchanges.{family}
+use Rattle.hc_model.specs.Exchanges.{family, promised}
 use Rattle.hc_model.specs.Reading.{own_open}
 use Rattle.hc_model.specs.Rows.{Tables, Exchange, Consumer}
+
+-- it reads nothing yet: it was shown no head and given nothing, and no failure is due
+pub record IsIdle (k : Consumer) : Type 0 where
+  pub unshown : k.shown ≡ false
+  pub ungiven : k.given ≡ 0
+  pub undue : k.due ≡ None
+
+-- nor does an exchange of its own bring anything
+pub record IsAway (t : Tables) (k : Consumer) : Type 0 where
+  pub idle : IsIdle k
+  pub unowned : own_open t k ≡ None
 
 -- it has the turn, and waits for the head of the exchange that was opened for that
 pub record AwaitsTurn (t : Tables) (c x : ℕ) (k : Consumer) : Type 0 where
@@ -17,6 +28,13 @@ pub record AwaitsTurn (t : Tables) (c x : ℕ) (k : Consumer) : Type 0 where
   pub by_turn : route_of w.need ≡ route.Turn
   pub is_open : w.is_open ≡ true
   pub headless : w.head ≡ None
+  pub idle : IsIdle k
+
+-- what it reads past the store is still to begin
+pub record IsUnheard (w : Exchange) (k : Consumer) : Type 0 where
+  pub is_open : w.is_open ≡ true
+  pub unshown : k.shown ≡ false
+  pub empty : w.body ≡ []
 
 -- it reads the answer of its own exchange, which is no representation and joined none
 pub record ReadsPast (t : Tables) (c x : ℕ) (k : Consumer) : Type 0 where
@@ -26,6 +44,7 @@ pub record ReadsPast (t : Tables) (c x : ℕ) (k : Consumer) : Type 0 where
   pub own : k.own ≡ Some x
   pub unjoined : w.joined ≡ None
   pub unfounded : t.representation x ≡ None
+  pub unheard : w.head ≡ None → IsUnheard w k
 
 -- who reads an exchange past the store
 pub record IsReadPast (t : Tables) (x : ℕ) (w : Exchange) : Type 0 where
@@ -33,20 +52,24 @@ pub record IsReadPast (t : Tables) (x : ℕ) (w : Exchange) : Type 0 where
   pub row : t.consumer w.c ≡ Some k
   pub place_is : k.place ≡ place.Direct x
 
--- by its place: who reads nothing has no open exchange but the one of its turn, and what an open
--- exchange past the store brings is read
+-- by its place: who reads nothing has no open exchange but the one of its turn, who was shown no head was
+-- given nothing, and what an open exchange past the store brings is read
 pub record Places (t : Tables) : Type 0 where
-  pub line : (c : ℕ) (k : Consumer) → t.consumer c ≡ Some k → k.place ≡ place.Line →
-      own_open t k ≡ None
+  pub line : (c : ℕ) (k : Consumer) → t.consumer c ≡ Some k → k.place ≡ place.Line → IsAway t k
   pub passed : (c r : ℕ) (kept : Option ℕ) (k : Consumer) → t.consumer c ≡ Some k →
-      k.place ≡ place.Passed r kept → own_open t k ≡ None
+      k.place ≡ place.Passed r kept → IsAway t k
   pub turn : (c x : ℕ) (k : Consumer) → t.consumer c ≡ Some k → k.place ≡ place.Turn x →
       AwaitsTurn t c x k
   pub direct : (c x : ℕ) (k : Consumer) → t.consumer c ≡ Some k → k.place ≡ place.Direct x →
       ReadsPast t c x k
   pub down : (c : ℕ) (why : Cause) (k : Consumer) → t.consumer c ≡ Some k →
-      k.place ≡ place.Down why → own_open t k ≡ None
+      k.place ≡ place.Down why → IsAway t k
   pub over : (c : ℕ) (k : Consumer) → t.consumer c ≡ Some k → k.place ≡ place.Over →
       own_open t k ≡ None
+  pub ungiven : (c : ℕ) (k : Consumer) → t.consumer c ≡ Some k → k.shown ≡ false → k.given ≡ 0
   pub read : (x : ℕ) (w : Exchange) → t.exchange x ≡ Some w → w.is_open ≡ true →
       is_some w.head ≡ true → t.representation (family x w) ≡ None → IsReadPast t x w
+  pub promised_most : (x n : ℕ) (w : Exchange) → t.exchange x ≡ Some w → promised w ≡ Some n →
+      length w.body ≤ n
+  pub ended : (x : ℕ) (w : Exchange) → t.exchange x ≡ Some w → w.is_ended ≡ true →
+      w.is_open ≡ false

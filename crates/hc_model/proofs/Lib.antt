@@ -168,4 +168,5 @@ pub mod LeavesGood
 pub mod PlacesKept
 pub mod PlacesRead
 pub mod PlacesShown
+pub mod PlacesGiven
 pub mod PlaceRuns

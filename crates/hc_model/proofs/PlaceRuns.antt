@@ -30,6 +30,7 @@ use Rattle.hc_model.proofs.OfEntries.{of_real}
 use Rattle.hc_model.proofs.Pens.{same_row}
 use Rattle.hc_model.proofs.PlacesKept.{AreOwn, IsOwnTurn, own_kept, turn_direct, bound_turn}
 use Rattle.hc_model.proofs.PlacesRead.{AreRead, read_kept}
+use Rattle.hc_model.proofs.PlacesGiven.{ArePast, past_kept}
 use Rattle.hc_model.proofs.PlacesShown.{AreReaders, IsReader, readers_kept}
 use Rattle.hc_model.proofs.ReadEnds.{bounded}
 use Rattle.hc_model.proofs.ReadJoined.{aside}
@@ -43,12 +44,14 @@ pub record IsKnown (t : Tables) : Type 0 where
   pub owned : AreOwn t
   pub reads : AreRead t
   pub readers : AreReaders t
+  pub past : ArePast t
 
 known_begun : (contents : Contents) → IsKnown (begun contents)
 known_begun contents = record {
   owned = record { direct = λ c x k row at. absurd (none_some k row); turn = λ c x k row at. absurd (none_some k row) };
   reads = record { read = λ x w row on headed none. absurd (none_some w row) };
   readers = record { shown = λ c k row on. absurd (none_some k row) };
+  past = record { given = λ c x k w row at exchange_row. absurd (none_some k row); undue = λ c x k w row at exchange_row on. absurd (none_some k row) };
 }
 
 known_denied : (t : Tables) (e : Entry) → IsKnown t → IsKnown (after_denied t e)
@@ -59,24 +62,26 @@ known_denied t e known = record {
   };
   reads = record { read = λ x w row on headed none. let r = known.reads.read x w row on headed none in record { k = r.k; row = r.row; place_is = r.place_is } };
   readers = record { shown = known.readers.shown };
+  past = record { given = known.past.given; undue = known.past.undue };
 }
 
-by_denial : (limits : Limits) (contents : Contents) (h : History) (e : Entry) (b : Bool) → is_denied e.acts ≡ b → IsCarried (tables contents h) → IsAside (tables contents h) → Turns (tables contents h) → Sound (tables contents (e ∷ h)) → IsOwed limits (tables contents h) e → IsKnown (tables contents h) → IsKnown (tables contents (e ∷ h))
-by_denial limits contents h e true denied c a turns later owed known = subst IsKnown (denied_tables contents h e denied) (known_denied (tables contents h) e known)
-by_denial limits contents h e false accepted c a turns later owed known =
+by_denial : (limits : Limits) (contents : Contents) (h : History) (e : Entry) (b : Bool) → is_denied e.acts ≡ b → IsCarried (tables contents h) → IsAside (tables contents h) → Turns (tables contents h) → IsBounded (tables contents h) → Sound (tables contents (e ∷ h)) → IsOwed limits (tables contents h) e → IsKnown (tables contents h) → IsKnown (tables contents (e ∷ h))
+by_denial limits contents h e true denied c a turns b later owed known = subst IsKnown (denied_tables contents h e denied) (known_denied (tables contents h) e known)
+by_denial limits contents h e false accepted c a turns b later owed known =
     let t = tables contents h in
     let sound_then : Sound (after_accepted t e) = subst Sound (sym (next_tables contents h e accepted)) later in
     subst IsKnown (next_tables contents h e accepted)
-    (of_real limits t e (λ z. Sound (after_accepted t z) → IsTaken limits t z → IsKnown (after_accepted t z)) owed accepted (λ going real then taken. record {
-      owned = own_kept limits t e.now (flaw_in e.acts) c.is_sound c.is_owned a known.owned e.event going;
+    (of_real limits t e (λ z. Sound (after_accepted t z) → IsTaken limits t z → IsKnown (after_accepted t z)) owed accepted (λ going real then taken. let owned = own_kept limits t e.now (flaw_in e.acts) c.is_sound c.is_owned a known.owned e.event going in record {
+      owned = owned;
       reads = read_kept limits t e.now (flaw_in e.acts) c.is_sound c.is_owned a known.owned e.event going then known.reads;
       readers = readers_kept limits t e.now (flaw_in e.acts) c.is_sound c.is_owned a known.owned turns known.readers e.event going taken;
+      past = past_kept limits t e.now (flaw_in e.acts) c.is_sound c.is_owned a b known.owned known.past e.event going real.stand owned;
     }) sound_then (record { owed = owed; not_denied = accepted }))
 
 pub known_in_runs : OfRuns IsKnown
 unfolding tables
 known_in_runs limits contents [] may run = known_begun contents
-known_in_runs limits contents (e ∷ h) may run = by_denial limits contents h e (is_denied e.acts) refl (carried limits contents h may run.0) (aside limits contents h may run.0) (turned_in_runs limits contents h may run.0).turns (carried limits contents (e ∷ h) may run).is_sound run.1 (known_in_runs limits contents h may run.0)
+known_in_runs limits contents (e ∷ h) may run = by_denial limits contents h e (is_denied e.acts) refl (carried limits contents h may run.0) (aside limits contents h may run.0) (turned_in_runs limits contents h may run.0).turns (bounded limits contents h may run.0) (carried limits contents (e ∷ h) may run).is_sound run.1 (known_in_runs limits contents h may run.0)
 
 -- BY PLACE
 
@@ -189,12 +194,13 @@ module _ (t : Tables) (s : Sound t) (o : Owners t) (a : IsAside t) (b : IsBounde
           is_open = sym (ap (λ (z : Exchange). z.is_open) (same_row (t.exchange x) q w there exchange_row)) ∙ on;
           unshown = off;
           empty = (s.waits.headless x w exchange_row bare).0;
+          undue = known.past.undue c x k w row at exchange_row (sym (ap (λ (z : Exchange). z.is_open) (same_row (t.exchange x) q w there exchange_row)) ∙ on);
         }
 
     reads_past : (x : ℕ) → k.place ≡ place.Direct x → ReadsPast t c x k
     reads_past x at =
         let i = known.owned.direct c x k row at in
-        record { w = i.its.w; row = i.its.row; for_it = i.its.for_it; own = i.its.own; unjoined = i.unjoined; unfounded = a.apart.unfounded c x k row at; unheard = λ bare. unheard x i.its.w i.its.row bare at }
+        record { w = i.its.w; row = i.its.row; for_it = i.its.for_it; own = i.its.own; unjoined = i.unjoined; unfounded = a.apart.unfounded c x k row at; given = known.past.given c x k i.its.w row at i.its.row; unheard = λ bare. unheard x i.its.w i.its.row bare at; undue = λ on. known.past.undue c x k i.its.w row at i.its.row on }
 
   pub places_by : Places t
   places_by = record {

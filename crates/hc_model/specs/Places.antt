@@ -35,6 +35,7 @@ pub record IsUnheard (w : Exchange) (k : Consumer) : Type 0 where
   pub is_open : w.is_open ≡ true
   pub unshown : k.shown ≡ false
   pub empty : w.body ≡ []
+  pub undue : k.due ≡ None
 
 -- it reads the answer of its own exchange, which is no representation and joined none
 pub record ReadsPast (t : Tables) (c x : ℕ) (k : Consumer) : Type 0 where
@@ -44,7 +45,9 @@ pub record ReadsPast (t : Tables) (c x : ℕ) (k : Consumer) : Type 0 where
   pub own : k.own ≡ Some x
   pub unjoined : w.joined ≡ None
   pub unfounded : t.representation x ≡ None
+  pub given : k.given ≤ length w.body
   pub unheard : w.head ≡ None → IsUnheard w k
+  pub undue : w.is_open ≡ true → k.due ≡ None
 
 -- who reads an exchange past the store
 pub record IsReadPast (t : Tables) (x : ℕ) (w : Exchange) : Type 0 where

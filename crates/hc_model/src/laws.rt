@@ -214,7 +214,8 @@ pub fn stores_begin_again()
 /// Where a consumer stands tells what holds of it, in every run: who waits in the line or for a body, or is to be
 /// told a failure, was shown no head and given nothing, has nothing due and no open exchange; who has the turn
 /// neither, but waits for the head of its own; who reads past the store reads its own, which is of no
-/// representation; and each open exchange with a head that is of none is read so.
+/// representation, was given no more than came, and has nothing due while that is open; and each open exchange
+/// with a head that is of none is read so.
 pub fn places_are_known()
     ensures { OfRuns Places }
 {}

@@ -169,4 +169,5 @@ pub mod PlacesKept
 pub mod PlacesRead
 pub mod PlacesShown
 pub mod PlacesGiven
+pub mod PlacesTold
 pub mod PlaceRuns

@@ -13,6 +13,7 @@ use Rattle.hc_model.specs.Beginnings.{may_begin}
 use Rattle.hc_model.specs.Entries.{Entry, History, Contents}
 use Rattle.hc_model.specs.Exchanges.{is_open}
 use Rattle.hc_model.specs.Flaws.{flaw_in}
+use Rattle.hc_model.specs.Keys.{entry_of}
 use Rattle.hc_model.specs.Laws.{OfRuns, Turns}
 use Rattle.hc_model.specs.Owners.{Owners, IsAwaiting, IsPast, IsReading}
 use Rattle.hc_model.specs.Owners as owners
@@ -32,6 +33,7 @@ use Rattle.hc_model.proofs.PlacesKept.{AreOwn, IsOwnTurn, own_kept, turn_direct,
 use Rattle.hc_model.proofs.PlacesRead.{AreRead, read_kept}
 use Rattle.hc_model.proofs.PlacesGiven.{ArePast, past_kept}
 use Rattle.hc_model.proofs.PlacesShown.{AreReaders, IsReader, readers_kept}
+use Rattle.hc_model.proofs.PlacesTold.{AreTold, told_kept, told_denied, down_told}
 use Rattle.hc_model.proofs.ReadEnds.{bounded}
 use Rattle.hc_model.proofs.ReadJoined.{aside}
 use Rattle.hc_model.proofs.ShownStays.{IsAside}
@@ -45,6 +47,7 @@ pub record IsKnown (t : Tables) : Type 0 where
   pub reads : AreRead t
   pub readers : AreReaders t
   pub past : ArePast t
+  pub told : AreTold t
 
 known_begun : (contents : Contents) → IsKnown (begun contents)
 known_begun contents = record {
@@ -52,6 +55,7 @@ known_begun contents = record {
   reads = record { read = λ x w row on headed none. absurd (none_some w row) };
   readers = record { shown = λ c k row on. absurd (none_some k row) };
   past = record { given = λ c x k w row at exchange_row. absurd (none_some k row); undue = λ c x k w row at exchange_row on. absurd (none_some k row) };
+  told = record { due = λ c k row. absurd (none_some k row); down = λ c k row. absurd (none_some k row); received = λ x w row. absurd (none_some w row) };
 }
 
 known_denied : (t : Tables) (e : Entry) → IsKnown t → IsKnown (after_denied t e)
@@ -63,6 +67,7 @@ known_denied t e known = record {
   reads = record { read = λ x w row on headed none. let r = known.reads.read x w row on headed none in record { k = r.k; row = r.row; place_is = r.place_is } };
   readers = record { shown = known.readers.shown };
   past = record { given = known.past.given; undue = known.past.undue };
+  told = told_denied t e known.told;
 }
 
 by_denial : (limits : Limits) (contents : Contents) (h : History) (e : Entry) (b : Bool) → is_denied e.acts ≡ b → IsCarried (tables contents h) → IsAside (tables contents h) → Turns (tables contents h) → IsBounded (tables contents h) → Sound (tables contents (e ∷ h)) → IsOwed limits (tables contents h) e → IsKnown (tables contents h) → IsKnown (tables contents (e ∷ h))
@@ -76,6 +81,7 @@ by_denial limits contents h e false accepted c a turns b later owed known =
       reads = read_kept limits t e.now (flaw_in e.acts) c.is_sound c.is_owned a known.owned e.event going then known.reads;
       readers = readers_kept limits t e.now (flaw_in e.acts) c.is_sound c.is_owned a known.owned turns known.readers e.event going taken;
       past = past_kept limits t e.now (flaw_in e.acts) c.is_sound c.is_owned a b known.owned known.past e.event going real.stand owned;
+      told = told_kept t (entry_of limits t e.now e.event (flaw_in e.acts)) known.told;
     }) sound_then (record { owed = owed; not_denied = accepted }))
 
 pub known_in_runs : OfRuns IsKnown
@@ -85,7 +91,7 @@ known_in_runs limits contents (e ∷ h) may run = by_denial limits contents h e 
 
 -- BY PLACE
 
-module _ (t : Tables) (s : Sound t) (o : Owners t) (a : IsAside t) (b : IsBounded t) (known : IsKnown t) where
+module _ (t : Tables) (s : Sound t) (o : Owners t) (a : IsAside t) (b : IsBounded t) (turns : Turns t) (known : IsKnown t) where
   -- it neither waits for a head nor reads
   abbrev Elsewhere : Place → Type 0
   Elsewhere place.Line = Unit {0}
@@ -211,6 +217,11 @@ module _ (t : Tables) (s : Sound t) (o : Owners t) (a : IsAside t) (b : IsBounde
     down = λ c why k row at. away_by c k row (subst Elsewhere (sym at) tt) (λ r. subst IsReader at r) (ap reads at);
     over = λ c k row at. away_own c k row (subst Elsewhere (sym at) tt);
     ungiven = b.fresh;
+    turn_queues = λ c x k row at. let q = turns.queued c x k row at in record { cached = q.0; asks = q.1 };
+    passed_queues = λ c r kept k row at. let q = turns.passed c r kept k row at in record { cached = q.cached; asks = q.asks };
+    told = known.told.due;
+    down_told = λ c why k row at. down_told t known.told c why k row at;
+    received = known.told.received;
     read = known.reads.read;
     promised_most = λ x n w row is. b.promise x n w row is;
     ended = a.ended;
@@ -219,4 +230,4 @@ module _ (t : Tables) (s : Sound t) (o : Owners t) (a : IsAside t) (b : IsBounde
 pub places_in_runs : OfRuns Places
 places_in_runs limits contents h may run =
     let c = carried limits contents h may run in
-    places_by (tables contents h) c.is_sound c.is_owned (aside limits contents h may run) (bounded limits contents h may run) (known_in_runs limits contents h may run)
+    places_by (tables contents h) c.is_sound c.is_owned (aside limits contents h may run) (bounded limits contents h may run) (turned_in_runs limits contents h may run).turns (known_in_runs limits contents h may run)

@@ -1,12 +1,20 @@
 -- What holds of a consumer by its place, in every run.
-use Rattle.std.specs.Prelude.{◌≡◌, ℕ, ◌≤◌, List, [], length, true, false, Option, Some, None, is_some}
+use Rattle.std.specs.Prelude.{◌≡◌, ℕ, ◌≤◌, [], length, Bool, true, false, Option, Some, None, is_some}
 use Rattle.hc_event.specs.declared.act.Cause.{Cause}
+use Rattle.hc_event.specs.declared.act.Cause.TheVariants as cause
 use Rattle.hc_rules.specs.declared.need.Route.TheVariants as route
 use Rattle.hc_rules.specs.Needs.{route_of}
+use Rattle.hc_rules.specs.Requests.{is_disabled, is_only}
 use Rattle.hc_model.specs.declared.place.Place.TheVariants as place
 use Rattle.hc_model.specs.Exchanges.{family, promised}
 use Rattle.hc_model.specs.Reading.{own_open}
 use Rattle.hc_model.specs.Rows.{Tables, Exchange, Consumer}
+
+-- the failure is that of a read of the store: it is told at once, and never due
+abbrev pub is_failed_read : Option Cause → Bool
+is_failed_read None = false
+is_failed_read (Some (cause.StoreRead r)) = true
+is_failed_read (Some _) = false
 
 -- it reads nothing yet: it was shown no head and given nothing, and no failure is due
 pub record IsIdle (k : Consumer) : Type 0 where
@@ -18,6 +26,11 @@ pub record IsIdle (k : Consumer) : Type 0 where
 pub record IsAway (t : Tables) (k : Consumer) : Type 0 where
   pub idle : IsIdle k
   pub unowned : own_open t k ≡ None
+
+-- it may read from the store, and ask the origin
+pub record Queues (k : Consumer) : Type 0 where
+  pub cached : is_disabled k.request ≡ false
+  pub asks : is_only k.request ≡ false
 
 -- it has the turn, and waits for the head of the exchange that was opened for that
 pub record AwaitsTurn (t : Tables) (c x : ℕ) (k : Consumer) : Type 0 where
@@ -69,9 +82,17 @@ pub record Places (t : Tables) : Type 0 where
       k.place ≡ place.Down why → IsAway t k
   pub over : (c : ℕ) (k : Consumer) → t.consumer c ≡ Some k → k.place ≡ place.Over →
       own_open t k ≡ None
+  pub turn_queues : (c x : ℕ) (k : Consumer) → t.consumer c ≡ Some k → k.place ≡ place.Turn x →
+      Queues k
+  pub passed_queues : (c r : ℕ) (kept : Option ℕ) (k : Consumer) → t.consumer c ≡ Some k →
+      k.place ≡ place.Passed r kept → Queues k
   pub ungiven : (c : ℕ) (k : Consumer) → t.consumer c ≡ Some k → k.shown ≡ false → k.given ≡ 0
+  pub told : (c : ℕ) (k : Consumer) → t.consumer c ≡ Some k → is_failed_read k.due ≡ false
+  pub down_told : (c : ℕ) (why : Cause) (k : Consumer) → t.consumer c ≡ Some k →
+      k.place ≡ place.Down why → is_failed_read (Some why) ≡ false
   pub read : (x : ℕ) (w : Exchange) → t.exchange x ≡ Some w → w.is_open ≡ true →
       is_some w.head ≡ true → t.representation (family x w) ≡ None → IsReadPast t x w
+  pub received : (x : ℕ) (w : Exchange) → t.exchange x ≡ Some w → length w.body ≤ t.received
   pub promised_most : (x n : ℕ) (w : Exchange) → t.exchange x ≡ Some w → promised w ≡ Some n →
       length w.body ≤ n
   pub ended : (x : ℕ) (w : Exchange) → t.exchange x ≡ Some w → w.is_ended ≡ true →

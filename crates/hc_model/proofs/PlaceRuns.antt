@@ -29,7 +29,7 @@ use Rattle.hc_model.proofs.Bounded.{IsBounded}
 use Rattle.hc_model.proofs.InRuns.{turned_in_runs}
 use Rattle.hc_model.proofs.OfEntries.{of_real}
 use Rattle.hc_model.proofs.Pens.{same_row}
-use Rattle.hc_model.proofs.PlacesKept.{AreOwn, IsOwnTurn, own_kept, turn_direct, bound_turn}
+use Rattle.hc_model.proofs.PlacesKept.{AreOwn, IsOwnTurn, own_kept, turn_direct, bound_direct, bound_turn}
 use Rattle.hc_model.proofs.PlacesRead.{AreRead, read_kept}
 use Rattle.hc_model.proofs.PlacesGiven.{ArePast, past_kept}
 use Rattle.hc_model.proofs.PlacesShown.{AreReaders, IsReader, readers_kept}
@@ -157,6 +157,11 @@ module _ (t : Tables) (s : Sound t) (o : Owners t) (a : IsAside t) (b : IsBounde
     turn_route x w p at (owners.turn way is) = way
     turn_route x w p at (owners.hole r lo hi how way aim is) = absurd (bound_turn r lo hi how x (sym is ∙ at))
 
+    direct_route : (x : ℕ) (w : Exchange) (p : Place) → p ≡ place.Direct x → IsAwaiting x w p → route_of w.need ≡ route.Direct
+    direct_route x w p at (owners.direct way is) = way
+    direct_route x w p at (owners.turn way is) = absurd (turn_direct x x (sym is ∙ at))
+    direct_route x w p at (owners.hole r lo hi how way aim is) = absurd (bound_direct r lo hi how x (sym is ∙ at))
+
     turn_reading : (x : ℕ) (p : Place) → p ≡ place.Turn x → IsReading x p → ⊥
     turn_reading x p at (owners.direct is) = turn_direct x x (sym at ∙ is)
     turn_reading x p at (owners.bound r lo hi how is) = bound_turn r lo hi how x (sym is ∙ at)
@@ -197,6 +202,7 @@ module _ (t : Tables) (s : Sound t) (o : Owners t) (a : IsAside t) (b : IsBounde
         by_past : IsPast t x k → IsUnheard w k
         by_past (owners.answered q there headed) = absurd (bare_not q there headed)
         by_past (owners.waits q mine there on empty) = record {
+          past = direct_route x w k.place at (awaiting x w mine exchange_row (sym (ap (λ (z : Exchange). z.is_open) (same_row (t.exchange x) q w there exchange_row)) ∙ on) bare);
           is_open = sym (ap (λ (z : Exchange). z.is_open) (same_row (t.exchange x) q w there exchange_row)) ∙ on;
           unshown = off;
           empty = (s.waits.headless x w exchange_row bare).0;

@@ -43,8 +43,9 @@ pub record AwaitsTurn (t : Tables) (c x : ℕ) (k : Consumer) : Type 0 where
   pub headless : w.head ≡ None
   pub idle : IsIdle k
 
--- what it reads past the store is still to begin
+-- what it reads past the store is still to begin: it was opened for that
 pub record IsUnheard (w : Exchange) (k : Consumer) : Type 0 where
+  pub past : route_of w.need ≡ route.Direct
   pub is_open : w.is_open ≡ true
   pub unshown : k.shown ≡ false
   pub empty : w.body ≡ []

@@ -8,8 +8,6 @@ use Rattle.hc_rules.specs.declared.room.Limits.{Limits}
 use Rattle.hc_rules.specs.Needs.{route_of}
 use Rattle.hc_model.specs.declared.place.Place.{Place}
 use Rattle.hc_model.specs.declared.place.Place.TheVariants as place
-use Rattle.hc_model.specs.declared.place.BoundBy.{BoundBy}
-use Rattle.hc_model.specs.Beginnings.{may_begin}
 use Rattle.hc_model.specs.Entries.{Entry, History, Contents}
 use Rattle.hc_model.specs.Exchanges.{is_open}
 use Rattle.hc_model.specs.Flaws.{flaw_in}
@@ -20,11 +18,11 @@ use Rattle.hc_model.specs.Owners as owners
 use Rattle.hc_model.specs.Places.{Places, IsIdle, IsAway, AwaitsTurn, IsUnheard, ReadsPast}
 use Rattle.hc_model.specs.Reading.{own_open, reads}
 use Rattle.hc_model.specs.Rows.{Tables, Exchange, Consumer}
-use Rattle.hc_model.specs.Runs.{IsRun, IsOwed}
+use Rattle.hc_model.specs.Runs.{IsOwed}
 use Rattle.hc_model.specs.Sound.{Sound}
 use Rattle.hc_model.specs.Tables.{tables, begun, after_accepted, after_denied}
 use Rattle.hc_model.proofs.Barred.{next_tables, denied_tables}
-use Rattle.hc_model.proofs.Basics.{false_true, none_some, some_none}
+use Rattle.hc_model.proofs.Basics.{false_true, none_some}
 use Rattle.hc_model.proofs.Bounded.{IsBounded}
 use Rattle.hc_model.proofs.InRuns.{turned_in_runs}
 use Rattle.hc_model.proofs.OfEntries.{of_real}

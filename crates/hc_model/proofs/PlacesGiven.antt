@@ -1,7 +1,7 @@
 -- Who reads past the store was given no more than came, and has nothing due while its exchange is open: at each entry.
-use Rattle.std.proofs.Common.{◌≡◌, ◌⊎◌, inl, inr, ℕ, ◌+◌, ◌-◌, ◌<◌, ◌≤◌, List, [], ◌++◌, length, length-append, Bool, true, false, Option, Some, None, refl, ap, sym, ◌∙◌, subst, arith}
-use Rattle.std.specs.Prelude.{if◌then◌else◌, is_some, ◌==◌, ◌&&◌, ◌||◌, not, nat_le, nat_lt}
-use Rattle.std.specs.Option.{option_or, option_and_then}
+use Rattle.std.proofs.Common.{◌≡◌, inl, inr, ℕ, ◌+◌, ◌-◌, ◌<◌, ◌≤◌, List, length, length-append, Bool, true, false, Option, Some, None, refl, ap, sym, ◌∙◌, subst, arith}
+use Rattle.std.specs.Prelude.{if◌then◌else◌, is_some, ◌&&◌, nat_le, nat_lt}
+use Rattle.std.specs.Option.{option_or}
 use Rattle.std.proofs.lemmas.Bool.Decides.{nat_tests}
 use Rattle.hc_sparse.specs.Cells.{Cell}
 use Rattle.hc_sparse.specs.declared.run.Run.{Run}
@@ -18,19 +18,19 @@ use Rattle.hc_model.specs.declared.place.BoundBy.{BoundBy}
 use Rattle.hc_model.specs.declared.place.BoundBy.TheVariants as by
 use Rattle.hc_model.specs.ActFilters.{Showing, showing_in}
 use Rattle.hc_model.specs.Cases.{case_at}
-use Rattle.hc_model.specs.ConsumerRows.{consumer_heard, consumer_acted, by_head, by_opening, shown_place, waiting, place_by_case, due_after}
+use Rattle.hc_model.specs.ConsumerRows.{consumer_heard, consumer_acted, by_head, by_opening, shown_place, waiting, due_after}
 use Rattle.hc_model.specs.Denials.{denial}
 use Rattle.hc_model.specs.Entries.{Entry}
 use Rattle.hc_model.specs.Exchanges.{base, front, exchange_in, is_for}
-use Rattle.hc_model.specs.Failures.{becomes_due, cause_of_stop, cause_of_loss, cause_by_loss, cause_of_head, cause_by_case, stop_cause}
+use Rattle.hc_model.specs.Failures.{cause_of_loss, cause_of_head, cause_by_case, stop_cause}
 use Rattle.hc_model.specs.Flaws.{Flaw}
 use Rattle.hc_model.specs.Keys.{entry_of}
 use Rattle.hc_model.specs.Moves.{Gives}
 use Rattle.hc_model.specs.Owners.{Owners, IsAwaiting}
 use Rattle.hc_model.specs.Owners as owners
 use Rattle.hc_model.specs.Polls.{move_of}
-use Rattle.hc_model.specs.Reading.{bound_to, reads, base_in, lo_of, own_open, source, shared, is_written}
-use Rattle.hc_model.specs.Reads.{Delivers, answer_cell, direct_cell, cell_by, body_of}
+use Rattle.hc_model.specs.Reading.{bound_to, reads, base_in, lo_of, own_open, source, shared}
+use Rattle.hc_model.specs.Reads.{answer_cell, direct_cell, cell_by, body_of}
 use Rattle.hc_model.specs.Rows.{Tables, Exchange, Representation, Consumer}
 use Rattle.hc_model.specs.Runs.{may_stand}
 use Rattle.hc_model.specs.Sound.{Sound}
@@ -38,19 +38,18 @@ use Rattle.hc_model.specs.Sound as sound
 use Rattle.hc_model.specs.StartingOver.{starts_over}
 use Rattle.hc_model.specs.Tables.{after_accepted}
 use Rattle.hc_model.specs.Writers.{loses_writing}
-use Rattle.hc_model.proofs.AsideKeeps.{new_unshown}
 use Rattle.hc_model.proofs.Basics.{false_true, and_right, not_so, none_some}
 use Rattle.hc_model.proofs.Bounded.{IsBounded}
 use Rattle.hc_model.proofs.ConsumerFilters.{acted, given_by}
-use Rattle.hc_model.proofs.Dues.{IsUndue, undue_of, stop_none, loss_at, loss_free, due_none}
+use Rattle.hc_model.proofs.Dues.{undue_of, loss_at, due_none}
 use Rattle.hc_model.proofs.ExchangeFrom.{ExchangeFrom, exchange_from, IsSame}
 use Rattle.hc_model.proofs.ExchangeFrom as exchange
 use Rattle.hc_model.proofs.Fills.{Brings, brings}
 use Rattle.hc_model.proofs.Fills as fills_by
 use Rattle.hc_model.proofs.FirstDues.{poll_undue}
 use Rattle.hc_model.proofs.FirstKeeps.{is_new, is_opener}
-use Rattle.hc_model.proofs.Forward.{is_kept, is_on}
-use Rattle.hc_model.proofs.GivenNext.{IsGiven, read_of, given_next}
+use Rattle.hc_model.proofs.Forward.{is_kept}
+use Rattle.hc_model.proofs.GivenNext.{read_of, given_next}
 use Rattle.hc_model.proofs.Givers.{some_want, gives_of}
 use Rattle.hc_model.proofs.HoleLemmas.{bool_cases}
 use Rattle.hc_model.proofs.MoveBy.{move_by}

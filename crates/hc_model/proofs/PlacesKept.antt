@@ -1,14 +1,13 @@
 -- Who has the turn or reads past the store has the exchange for that as its own, at each entry.
 use Rattle.std.proofs.Common.{◌≡◌, ◌⊎◌, inl, inr, ℕ, List, length, Bool, true, false, cond, Option, Some, None, refl, ap, sym, ◌∙◌, subst}
-use Rattle.std.specs.Prelude.{if◌then◌else◌, is_some, is_none, ◌==◌, ◌&&◌, ◌||◌, not, nat_eq}
+use Rattle.std.specs.Prelude.{if◌then◌else◌, is_some, is_none, ◌==◌, ◌&&◌, not}
 use Rattle.std.specs.Option.{option_and_then}
-use Rattle.hc_event.specs.Filters.{Opening, opening_in, leaves_in}
+use Rattle.hc_event.specs.Filters.{Opening, opening_in}
 use Rattle.hc_event.specs.declared.act.Cause.{Cause}
 use Rattle.hc_event.specs.declared.event.Event.{Event}
 use Rattle.hc_event.specs.declared.event.Event.TheVariants as event
 use Rattle.hc_event.specs.declared.event.Response.{Response}
 use Rattle.hc_rules.specs.declared.heads.HeadCase.{HeadCase}
-use Rattle.hc_rules.specs.declared.heads.HeadCase.TheVariants as case
 use Rattle.hc_rules.specs.HeadCases.{head_case}
 use Rattle.hc_rules.specs.declared.need.Route.TheVariants as route
 use Rattle.hc_rules.specs.declared.request.Wanted.{Wanted}
@@ -44,7 +43,7 @@ use Rattle.hc_model.specs.Tables.{after_accepted}
 use Rattle.hc_model.specs.Writers.{brings_body, loses_writing}
 use Rattle.hc_model.proofs.Basics.{false_true, and_both, or_false, none_some, some_none, some_row}
 use Rattle.hc_model.proofs.BoundFrom.{IsRow}
-use Rattle.hc_model.proofs.ExchangeFrom.{IsSame, IsHeaded}
+use Rattle.hc_model.proofs.ExchangeFrom.{IsHeaded}
 use Rattle.hc_model.proofs.FirstKeeps.{is_new, case_is}
 use Rattle.hc_model.proofs.Forward.{is_on, is_kept, opened_on, is_untouched}
 use Rattle.hc_model.proofs.FoundBy.{CaseBy, case_by}

@@ -1,26 +1,22 @@
 -- What an open exchange brings that is of no representation is read past the store, at each entry.
-use Rattle.std.proofs.Common.{◌≡◌, ◌⊎◌, inl, inr, ℕ, List, Bool, true, false, Option, Some, None, refl, ap, sym, ◌∙◌, subst}
+use Rattle.std.proofs.Common.{◌≡◌, ◌⊎◌, inl, inr, ℕ, Bool, true, false, Option, Some, None, refl, ap, sym, ◌∙◌}
 use Rattle.std.specs.Prelude.{is_some, is_none, ◌==◌, ◌&&◌, ◌||◌, not, unwrap_or}
-use Rattle.hc_event.specs.Filters.{Opening, opening_in}
+use Rattle.hc_event.specs.Filters.{opening_in}
 use Rattle.hc_event.specs.declared.event.Event.{Event}
 use Rattle.hc_event.specs.declared.event.Event.TheVariants as event
 use Rattle.hc_event.specs.declared.event.Response.{Response}
 use Rattle.hc_rules.specs.declared.heads.HeadCase.{HeadCase}
-use Rattle.hc_rules.specs.declared.heads.HeadCase.TheVariants as case
 use Rattle.hc_rules.specs.HeadCases.{head_case}
 use Rattle.hc_rules.specs.declared.need.Route.TheVariants as route
 use Rattle.hc_rules.specs.declared.room.Limits.{Limits}
 use Rattle.hc_rules.specs.Needs.{route_of}
-use Rattle.hc_model.specs.declared.place.Place.{Place}
 use Rattle.hc_model.specs.declared.place.Place.TheVariants as place
-use Rattle.hc_model.specs.declared.place.BoundBy.{BoundBy}
 use Rattle.hc_model.specs.ActFilters.{has_loss}
 use Rattle.hc_model.specs.Cases.{case_at, case_of, head_view}
 use Rattle.hc_model.specs.ConsumerRows.{consumer_heard, by_head, by_fault, waiting, own_after}
 use Rattle.hc_model.specs.Denials.{denial}
 use Rattle.hc_model.specs.Dooms.{doomed, doomed_in, doomed_by_head, doomed_by_case, is_key}
 use Rattle.hc_model.specs.Entries.{Entry}
-use Rattle.hc_model.specs.ExchangeRows.{exchange_opened}
 use Rattle.hc_model.specs.Exchanges.{exchange_at, is_for, family}
 use Rattle.hc_model.specs.Flaws.{Flaw}
 use Rattle.hc_model.specs.Keys.{entry_of}
@@ -33,7 +29,7 @@ use Rattle.hc_model.specs.Sound.{Sound}
 use Rattle.hc_model.specs.Sound as sound
 use Rattle.hc_model.specs.StartingOver.{starts_over, sends_back, waits_at, loses_what_it_waits_for}
 use Rattle.hc_model.specs.Tables.{after_accepted}
-use Rattle.hc_model.proofs.Basics.{false_true, and_left, and_right, not_so, none_some}
+use Rattle.hc_model.proofs.Basics.{false_true, and_left, and_right, not_so}
 use Rattle.hc_model.proofs.ExchangeFrom.{ExchangeFrom, exchange_from, IsSame, IsHeaded}
 use Rattle.hc_model.proofs.ExchangeFrom as exchange
 use Rattle.hc_model.proofs.FirstKeeps.{is_new, case_is}

@@ -1,5 +1,5 @@
 -- Who was shown a head reads, or is over, at each entry.
-use Rattle.std.proofs.Common.{◌≡◌, ◌⊎◌, inl, inr, ℕ, List, ◌∷◌, ◌++◌, Bool, true, false, cond, Option, Some, None, refl, ap, sym, ◌∙◌, subst}
+use Rattle.std.proofs.Common.{◌≡◌, inl, inr, ℕ, ◌++◌, Bool, true, false, Option, Some, None, refl, ap, sym, ◌∙◌, subst}
 use Rattle.std.specs.Prelude.{if◌then◌else◌, is_none, is_some, ◌==◌, ◌&&◌, ◌||◌, not}
 use Rattle.hc_event.specs.Filters.{Opening, opening_in, leaves_in, shows_in}
 use Rattle.hc_event.specs.declared.event.Event.{Event}
@@ -15,12 +15,11 @@ use Rattle.hc_rules.specs.declared.room.Limits.{Limits}
 use Rattle.hc_rules.specs.Needs.{route_of}
 use Rattle.hc_model.specs.declared.place.Place.{Place}
 use Rattle.hc_model.specs.declared.place.Place.TheVariants as place
-use Rattle.hc_model.specs.declared.place.BoundBy.{BoundBy}
 use Rattle.hc_model.specs.declared.place.BoundBy.TheVariants as by
 use Rattle.hc_model.specs.ActFilters.{has_loss, fails_in, misreads_in, leaver_in, Showing, showing_in, wait_in}
 use Rattle.hc_model.specs.Answers.{lost}
 use Rattle.hc_model.specs.Cases.{case_at, case_of, head_view, was_shown}
-use Rattle.hc_model.specs.ConsumerRows.{consumer_heard, consumer_acted, by_head, by_fault, by_opening, shown_place, waiting, waiting_place, place_by_case, due_after}
+use Rattle.hc_model.specs.ConsumerRows.{consumer_heard, by_head, by_fault, by_opening, shown_place, waiting, waiting_place, place_by_case}
 use Rattle.hc_model.specs.Denials.{denial}
 use Rattle.hc_model.specs.Dooms.{doomed, bypassed_by, is_key}
 use Rattle.hc_model.specs.Entries.{Entry}
@@ -29,10 +28,10 @@ use Rattle.hc_model.specs.Flaws.{Flaw, flaw_in}
 use Rattle.hc_model.specs.Gone.{becomes_gone, goes_in}
 use Rattle.hc_model.specs.Keys.{entry_of}
 use Rattle.hc_model.specs.Laws.{Turns}
-use Rattle.hc_model.specs.Moves.{Move, Shows, acts_of}
+use Rattle.hc_model.specs.Moves.{Shows, acts_of}
 use Rattle.hc_model.specs.Owners.{Owners, IsAwaiting}
 use Rattle.hc_model.specs.Owners as owners
-use Rattle.hc_model.specs.Polls.{polled, move_of}
+use Rattle.hc_model.specs.Polls.{move_of}
 use Rattle.hc_model.specs.Reading.{bound_to, reads}
 use Rattle.hc_model.specs.Rows.{Tables, Exchange, Representation, Consumer}
 use Rattle.hc_model.specs.Sound.{Sound}
@@ -40,7 +39,7 @@ use Rattle.hc_model.specs.StartingOver.{starts_over, sends_back, waits_at, loses
 use Rattle.hc_model.specs.Tables.{after_accepted}
 use Rattle.hc_model.proofs.ActParts as parts
 use Rattle.hc_model.proofs.AsideKeeps.{landing, new_unshown}
-use Rattle.hc_model.proofs.Basics.{false_true, and_left, and_right, or_cases, not_so, none_some}
+use Rattle.hc_model.proofs.Basics.{false_true, and_left, and_right, or_cases, not_so}
 use Rattle.hc_model.proofs.FirstKeeps.{is_new, case_is, is_opener}
 use Rattle.hc_model.proofs.FoundBy.{CaseBy, case_by}
 use Rattle.hc_model.proofs.FoundBy as cases

@@ -1,5 +1,6 @@
 pub mod ScanLemmas
 pub mod Heads
+pub mod Options
 pub mod HeadFacts
 pub mod CodingFolds
 pub mod Fronts

@@ -1,5 +1,6 @@
 pub mod Scans
 pub mod Rules
+pub mod Options
 pub mod Held
 pub mod Responses
 pub mod Requests

@@ -7,6 +7,7 @@ ghost use Rattle.hc_text.specs.Elements.{elements};
 ghost use Rattle.hc_fields.specs.FieldList.{has_name, values_of, size_of};
 ghost use Rattle.hc_fields.specs.FirstValues.{only_of};
 ghost use Rattle.hc_head.specs.Rules.{is_there, is_modest, lists_name, is_option, is_hop_name, is_hop, is_left, is_kept, kept_of, put_all};
+ghost use Rattle.hc_head.specs.Options.{names_other, lists_other, is_other, has_others};
 ghost use Rattle.hc_head.specs.Held.{fields_in, field_in, IsGood, AreGood, with_field};
 
 use hc_fields::{FieldError, Fields};
@@ -111,11 +112,55 @@ fn is_named(headers: &[Header<'_>], name: &[u8]) -> bool
     false
 }
 
-/// Whether a field of this name concerns the connection alone (RFC 9110 section 7.6.1).
-fn is_hop(headers: &[Header<'_>], name: &[u8]) -> bool
+/// Whether the element names a field that is there and isn't left out anyway.
+fn names_other(headers: &[Header<'_>], element: &[u8]) -> bool
+    ensures { result ≡ names_other (fields_in headers.now) element.now }
+{
+    !is_hop_name(element) && is_there(headers, element)
+}
+
+/// Whether an element of the list does.
+fn lists_other(headers: &[Header<'_>], value: &[u8]) -> bool
+    ensures { result ≡ lists_other (fields_in headers.now) value.now }
+{
+    let mut from = 0;
+    while let Some(item) = next_item(value, from) {
+        if names_other(headers, &value[item.start..item.end]) {
+            return true;
+        }
+        from = item.next;
+    }
+    false
+}
+
+/// Whether the field is Connection, and an element of it does.
+fn is_other(headers: &[Header<'_>], header: &Header<'_>) -> bool
+    ensures { result ≡ is_other (fields_in headers.now) (field_in header.now) }
+{
+    has_name(header, b"connection") && lists_other(headers, header.value)
+}
+
+/// Whether Connection names a field that is there and isn't left out anyway: few heads have that.
+fn has_others(headers: &[Header<'_>]) -> bool
+    ensures { result ≡ has_others (fields_in headers.now) }
+{
+    for header in headers {
+        if is_other(headers, header) {
+            return true;
+        }
+    }
+    false
+}
+
+/// Whether a field of this name, which is there, concerns the connection alone (RFC 9110 section
+/// 7.6.1).
+#[tactic(auto, using(crate::proofs::Options::no_option))]
+fn is_hop(headers: &[Header<'_>], others: bool, name: &[u8]) -> bool
+    requires told { others ≡ has_others (fields_in headers.now) }
+    requires present { is_there (lowercase name.now) (fields_in headers.now) ≡ true }
     ensures { result ≡ is_hop (fields_in headers.now) (lowercase name.now) }
 {
-    is_hop_name(name) || is_named(headers, name)
+    is_hop_name(name) || (others && is_named(headers, name))
 }
 
 impl Leaving {
@@ -131,12 +176,14 @@ impl Leaving {
     }
 }
 
-/// Whether the field is passed on.
-fn is_kept(leaving: Leaving, headers: &[Header<'_>], header: &Header<'_>) -> bool
+/// Whether the field, one of these, is passed on.
+fn is_kept(leaving: Leaving, headers: &[Header<'_>], others: bool, header: &Header<'_>) -> bool
+    requires told { others ≡ has_others (fields_in headers.now) }
+    requires present { is_there (lowercase header.now.name.now) (fields_in headers.now) ≡ true }
     ensures { result ≡ is_kept leaving (fields_in headers.now) (field_in header.now) }
 {
     let name = header.name.as_bytes();
-    !leaving.leaves(name) && !is_hop(headers, name)
+    !leaving.leaves(name) && !is_hop(headers, others, name)
 }
 
 /// The field is added to the fields.
@@ -163,9 +210,12 @@ fn add_field(fields: &mut Fields, header: &Header<'_>) -> Result<(), NoMemory>
 fn pass_on(
     leaving: Leaving,
     headers: &[Header<'_>],
+    others: bool,
     header: &Header<'_>,
     fields: &mut Fields,
 ) -> Result<(), NoMemory>
+    requires told { others ≡ has_others (fields_in headers.now) }
+    requires present { is_there (lowercase header.now.name.now) (fields_in headers.now) ≡ true }
     requires good { IsGood header.now }
     requires short { length header.now.value.now ≤ 8192 }
     requires few { length fields.old < 64 }
@@ -176,7 +226,7 @@ fn pass_on(
     ensures size { OnOk result (size_of fields.new
         ≤ size_of fields.old + size_of (field_in header.now ∷ [])) }
 {
-    if is_kept(leaving, headers, header) {
+    if is_kept(leaving, headers, others, header) {
         return add_field(fields, header);
     }
     Ok(())
@@ -196,8 +246,9 @@ pub(crate) fn kept_of(
     ensures { IfOk result (λ fields. fields ≡ kept_of leaving (fields_in headers.now)) }
 {
     let mut fields = Fields::with_room(alloc, headers.len(), bytes)?;
+    let others = has_others(headers);
     for header in headers {
-        pass_on(leaving, headers, header, &mut fields)?;
+        pass_on(leaving, headers, others, header, &mut fields)?;
     }
     Ok(fields)
 }

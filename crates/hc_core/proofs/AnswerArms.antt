@@ -31,7 +31,6 @@ use Rattle.hc_exch.specs.declared.row.Open.{Open}
 use Rattle.hc_core.specs.declared.consumer.Consumer.{Consumer}
 use Rattle.hc_core.specs.declared.rows.Rows.{Rows}
 use Rattle.hc_core.specs.Changes.{ChangesAt}
-use Rattle.hc_core.specs.Past.{ReadsPast}
 use Rattle.hc_core.specs.Kept.{IsKept, KeepsRunning, held_for, answer_for}
 use Rattle.hc_core.specs.Stands.{RowsStand, Answered}
 use Rattle.hc_core.proofs.Words.{eqb-same, none_some, false_true, same_row}
@@ -47,12 +46,13 @@ use Rattle.hc_model.specs.Failures.{cause_of_head}
 use Rattle.hc_model.proofs.Dues.{stop_none}
 use Rattle.hc_exch.specs.Known.{is_all}
 use Rattle.hc_core.specs.Changes.{with_answer}
-use Rattle.hc_core.specs.Past.{IsWithin}
+use Rattle.hc_core.specs.Past.{IsWithin, BringsPast}
 use Rattle.hc_core.proofs.Direct.{reads_on}
 use Rattle.hc_core.proofs.Hearing.{told_due}
 use Rattle.hc_core.proofs.Lengths.{IsPlain, direct_plain}
 use Rattle.hc_core.proofs.DownArms.{headless_is}
 use Rattle.hc_core.proofs.HeadArms.{head_news, length_told, head_case_is, no_founding, no_sending, room_is}
+use Rattle.hc_core.proofs.Standing.{ReadsPast, Standing}
 
 abbrev headed : ℕ → Response → Exchange → Exchange
 headed now response w = record w {
@@ -94,7 +94,7 @@ headed_row : (t : Tables) (now x : ℕ) (response : Response) (w : Exchange) →
 unfolding exchange_after
 headed_row t now x response w case_here = rw (eqb-same x, case_here) refl
 
-module _ {B : Type 0} (r u : Rows B) (t : Tables) (now x : ℕ) (response : Response) (o : Open) (stands : RowsStand r t) (hears : Hears r t x o) (headless : o.headed ≡ false) (running : (table_of r.exchanges x).running ≡ Some o)
+module _ {B : Type 0} (r u : Rows B) (t : Tables) (now x : ℕ) (response : Response) (o : Open) (stands : Standing r t) (hears : Hears r t x o) (headless : o.headed ≡ false) (running : (table_of r.exchanges x).running ≡ Some o)
     (is : is_bad (length_told hears.reading.reads.w response) ≡ false)
     (received : u.received ≡ r.received) (last : u.last_start ≡ r.last_start) (becomes : exch.Becomes (known.headed (length_told hears.reading.reads.w response)) x r.exchanges u.exchanges)
     (changes : ChangesAt r.consumers u.consumers o.c (with_answer response (promise_of (length_told hears.reading.reads.w response)))) where
@@ -123,7 +123,7 @@ module _ {B : Type 0} (r u : Rows B) (t : Tables) (now x : ℕ) (response : Resp
   taken_case = head_case_is r u t now x response o stands hears headless [] false is refl
 
   plain : IsPlain l
-  plain = direct_plain w.need w.request response hears.reading.reads.past
+  plain = direct_plain w.need w.request response hears.reading.reads.brings.past
 
   no_head : w.head ≡ None
   no_head = headless_is o w hears.is headless
@@ -184,27 +184,13 @@ module _ {B : Type 0} (r u : Rows B) (t : Tables) (now x : ℕ) (response : Resp
         due = kp.due;
       }
 
-  none_given : v.given ≡ 0
-  none_given = let le : v.given ≤ length w.body = hears.reading.reads.given in let none : length w.body ≡ 0 = ap length nothing in omega (arith, le, none)
-
-  reads_after : ReadsPast u.received after c x v
-  reads_after =
+  brings_after : BringsPast u.received (headed now response w) v.due
+  brings_after =
       let rd = hears.reading.reads in
       record {
-        w = headed now response w;
-        row = exchange;
-        for_it = rd.for_it;
-        own = rd.own;
-        past = rd.past;
-        joined = rd.joined;
-        unfounded = unfounded t e (no_founding r u t now x response o stands hears headless [] false is refl) x rd.unfounded;
-        begins = plain.begins;
+        past = rd.brings.past;
         within = subst (λ (bytes : List ℕ). IsWithin u.received (promise_of l) (length bytes)) (sym nothing) (within_nothing u.received (promise_of l) plain.small);
-        given = rd.given;
-        awaited = λ none. none_some response (sym none);
-        unheard = λ none. none_some response (sym none);
-        told = rd.told;
-        unended = λ on. unended;
+        told = rd.brings.told;
         finished = λ over none. finished_if (is_reached (promise_of l) 0) refl over;
       }
     where
@@ -253,12 +239,11 @@ module _ {B : Type 0} (r u : Rows B) (t : Tables) (now x : ℕ) (response : Resp
       let reached = all_reached (promise_of l) 0 in
       reads_on r u t e c x v stands (told_entry t now c x (event.Head x response) [] (head_news x response) w rd.row rd.for_it (no_sending r u t now x response o stands hears headless [] false is refl) (no_founding r u t now x response o stands hears headless [] false is refl)) (told_only t now c x (event.Head x response) [] (head_news x response) w rd.row rd.for_it (λ y ne. refl)) refl refl refl (λ d. refl)
       hears.reading.row rd hears.reading.at (rw received (omega arith)) last becomes.next (λ y ne. known_other (known.headed l) x r.exchanges u.exchanges becomes y ne)
-      (λ y row over. (let one : w ≡ y = same_row (t.exchange x) w y rd.row row in false_true (sym over ∙ (ap (λ (a : Exchange). a.is_open) (sym one) ∙ hears.is.is_open))))
       (record {
         running = rw (here, running_is (is_all (promise_of l) 0) refl, reached, exchange) (running_after (is_reached (promise_of l) 0) refl);
         held = held_after ∙ ap (held_for after x) (sym exchange);
       })
-      (with_answer response (promise_of l) k) v (changed r.consumers u.consumers c (with_answer response (promise_of l)) k changes hears.there) row_after hears.reading.at kept_after reads_after
+      (with_answer response (promise_of l) k) v (headed now response w) (changed r.consumers u.consumers c (with_answer response (promise_of l)) k changes hears.there) row_after hears.reading.at kept_after exchange brings_after
 
   pub taken_answered : (limits : Limits) (before : List Act) → Answered limits u t before before now (event.Head x response)
   taken_answered limits before =

@@ -24,8 +24,7 @@ use Rattle.hc_model.specs.Tables.{after_accepted}
 use Rattle.hc_core.specs.declared.consumer.Consumer.{Consumer}
 use Rattle.hc_core.specs.declared.rows.Rows.{Rows}
 use Rattle.hc_core.specs.Changes.{BecomesAt}
-use Rattle.hc_core.specs.Past.{StandsPast, line, direct, down}
-use Rattle.hc_core.specs.Stands.{RowsStand, Answered}
+use Rattle.hc_core.specs.Stands.{Answered}
 use Rattle.hc_core.proofs.Words.{eqb-same, false_true}
 use Rattle.hc_core.proofs.Moved.{kept_row}
 use Rattle.hc_model.specs.ConsumerRows.{consumer_acted}
@@ -39,6 +38,7 @@ use Rattle.hc_core.proofs.PastEntries.{poll_of, poll_entry}
 use Rattle.hc_core.proofs.PastCloses.{before_closing, closing_none, poll_answered, poll_lossless}
 use Rattle.hc_core.proofs.PollRows.{IsGone, fails, poll_only}
 use Rattle.hc_core.proofs.Apart.{stands_apart}
+use Rattle.hc_core.proofs.Standing.{Standing, StandsPast, direct, down, line}
 
 -- WHO IS TO FAIL
 
@@ -51,17 +51,14 @@ pub record IsFailing {B : Type 0} (r : Rows B) (t : Tables) (c : ℕ) (why : Cau
   pub unowned : own_open t v ≡ None
   pub told : is_misread (Some why) ≡ false
 
-pub closed_own : (t : Tables) (v : rows.Consumer) (x : ℕ) (w : Exchange) → v.own ≡ Some x → t.exchange x ≡ Some w → w.is_open ≡ false → own_open t v ≡ None
-closed_own t v x w own there over = rw (own, there, over) refl
-
 failing_by : {B : Type 0} (r : Rows B) (t : Tables) (c : ℕ) (why : Cause) (k : Consumer) (v : rows.Consumer) → t.consumer c ≡ Some v → v.place ≡ place.Down why → StandsPast r.received t c v → IsFailing r t c why k
 failing_by r t c why k v row at (line in_line own shown given due disabled plain) = absurd (let never : place.Line ≡ place.Down why = sym in_line ∙ at in cc)
 failing_by r t c why k v row at (direct y at_y reads) = absurd (let never : place.Direct y ≡ place.Down why = sym at_y ∙ at in cc)
-failing_by r t c why k v row at (down reason y w down_at own there over shown given due told) =
+failing_by r t c why k v row at (down reason down_at unowned shown told) =
     let same : reason ≡ why = (let both : place.Down reason ≡ place.Down why = sym down_at ∙ at in cc) in
-    record { v = v; row = row; at = at; unshown = shown; unowned = closed_own t v y w own there over; told = ap (λ (z : Cause). is_misread (Some z)) (sym same) ∙ told }
+    record { v = v; row = row; at = at; unshown = shown; unowned = unowned; told = ap (λ (z : Cause). is_misread (Some z)) (sym same) ∙ told }
 
-pub failing_of : {B : Type 0} (r : Rows B) (t : Tables) (c : ℕ) (why : Cause) (k : Consumer) → RowsStand r t → get nat_eq r.consumers c ≡ Some k → k.place ≡ place.Down why → IsFailing r t c why k
+pub failing_of : {B : Type 0} (r : Rows B) (t : Tables) (c : ℕ) (why : Cause) (k : Consumer) → Standing r t → get nat_eq r.consumers c ≡ Some k → k.place ≡ place.Down why → IsFailing r t c why k
 failing_of r t c why k stands there at =
     let (v, row, kept) = kept_row t k (t.consumer c) (rw there at (stands.consumers c)) in
     failing_by r t c why k v row (sym kept.place ∙ at) (stands.past.places c v row kept.is_there)
@@ -127,7 +124,7 @@ not_down_direct why y p at is = let never : place.Down why ≡ place.Direct y = 
 pub not_over_direct : (y : ℕ) (p : Place) → p ≡ place.Over → p ≡ place.Direct y → ⊥
 not_over_direct y p at is = let never : place.Over ≡ place.Direct y = sym at ∙ is in cc
 
-pub fail_answered : {B : Type 0} (r u : Rows B) (t : Tables) (now c want : ℕ) (why : Cause) (k : Consumer) (before out : List Act) (limits : Limits) (stands : RowsStand r t) (failing : IsFailing r t c why k)
+pub fail_answered : {B : Type 0} (r u : Rows B) (t : Tables) (now c want : ℕ) (why : Cause) (k : Consumer) (before out : List Act) (limits : Limits) (stands : Standing r t) (failing : IsFailing r t c why k)
     → u.received ≡ r.received → u.last_start ≡ r.last_start → u.exchanges ≡ r.exchanges → BecomesAt r.consumers u.consumers c None → out ≡ before ++ (act.Failed c why ∷ []) → Answered limits u t before out now (event.Poll c want)
 unfolding case_of
 fail_answered r u t now c want why k before out limits stands failing received last exchanges becomes acts =
@@ -139,4 +136,4 @@ fail_answered r u t now c want why k before out limits stands failing received l
     (flawless c why [] failing.told) acts
     (stands_apart r u t e c failing.v gone.v None stands (poll_entry t now c want (Fails why) []) (λ x free. poll_only now c want x (Fails why) [] (fails why) (λ y ne. refl)) refl refl refl (λ d. refl)
     failing.row (λ y is. not_down_direct why y failing.v.place failing.at is) gone.row (λ y is. not_over_direct y gone.v.place gone.place_is is)
-    received last exchanges becomes gone.undue (sym lives) lives (λ live. false_true (sym lives ∙ live)))
+    received last exchanges becomes (sym lives) lives (λ live. false_true (sym lives ∙ live)))

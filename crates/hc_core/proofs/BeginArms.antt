@@ -21,13 +21,13 @@ use Rattle.hc_exch.specs.Exchanges.{table_of, next_of}
 use Rattle.hc_core.specs.declared.consumer.Consumer.{Consumer}
 use Rattle.hc_core.specs.declared.rows.Rows.{Rows}
 use Rattle.hc_core.specs.Changes.{BecomesAt}
-use Rattle.hc_core.specs.Past.{AreNumbered, StandsPast, line}
+use Rattle.hc_core.specs.Past.{InOrder, GoesPast, in_line}
 use Rattle.hc_core.specs.Kept.{IsKept, KeepsConsumer, held_for}
-use Rattle.hc_core.specs.Stands.{RowsStand, Answered}
+use Rattle.hc_core.specs.Stands.{Answered}
 use Rattle.hc_core.proofs.Words.{same_or, eqb-same, eqb-other, none_some, false_true, same_row}
 use Rattle.hc_core.proofs.Frames.{consumer_absent}
 use Rattle.hc_core.proofs.Moved.{IsSameOrBack, stands_moved, kept_none}
-use Rattle.hc_core.proofs.PastEntries.{IsPastEntry, IsOnly, others, other_exchanges, unfounded}
+use Rattle.hc_core.proofs.PastEntries.{IsPastEntry, IsOnly, others, other_exchanges}
 use Rattle.hc_rules.specs.Requests.{is_only}
 use Rattle.hc_model.proofs.ActParts.{far_closed}
 use Rattle.hc_core.proofs.PastCloses.{told_of, closing_none, told_answered}
@@ -35,7 +35,8 @@ use Rattle.hc_core.proofs.Apart.{next_free, nobody_reads}
 use Rattle.hc_core.proofs.LiveCounts.{counted, counted_same, counted-cons, not_among, one}
 use Rattle.hc_core.proofs.Direct.{same_lives}
 use Rattle.hc_model.specs.Sound.{Among}
-use Rattle.hc_core.proofs.Listed.{descends_more, absent_some, option_or_some}
+use Rattle.hc_core.proofs.Listed.{descends_more}
+use Rattle.hc_core.proofs.Standing.{Standing, StandsPast, line}
 
 abbrev start_of : ℕ → ℕ → Request → Entry
 start_of now c request = told_of now (event.Start c request) []
@@ -59,7 +60,7 @@ started_row : (t : Tables) (now c : ℕ) (request : Request) → consumer_after 
 unfolding consumer_after
 started_row t now c request = rw (eqb-same c) refl
 
-module _ {B : Type 0} (r u : Rows B) (t : Tables) (now c : ℕ) (request copied : Request) (k : Consumer) (stands : RowsStand r t) (rising : r.last_start < c) (disabled : is_disabled request ≡ true) (plain : is_only request ≡ false) (copies : copied ≡ request)
+module _ {B : Type 0} (r u : Rows B) (t : Tables) (now c : ℕ) (request copied : Request) (k : Consumer) (stands : Standing r t) (rising : r.last_start < c) (disabled : is_disabled request ≡ true) (plain : is_only request ≡ false) (copies : copied ≡ request)
     (received : u.received ≡ r.received) (last : u.last_start ≡ c) (exchanges : u.exchanges ≡ r.exchanges) (becomes : BecomesAt r.consumers u.consumers c (Some k))
     (is : k ≡ record { request = copied; since = now; place = place.Line; own = None; shown = false; answer = None; lo = 0; hi = None; given = 0; due = None }) where
   abbrev e : Entry
@@ -75,37 +76,16 @@ module _ {B : Type 0} (r u : Rows B) (t : Tables) (now c : ℕ) (request copied 
   above = let same = stands.last_start in rw same at rising
 
   fresh : t.consumer c ≡ None
-  fresh = stands.numbers.new_consumers c above
+  fresh = stands.lists.new_consumers c above
 
   row_after : after.consumer c ≡ Some v
   row_after = ap (consumer_after t e c) fresh ∙ started_row t now c request
 
-  none_consumer : (d : ℕ) → d ≢ c → t.consumer d ≡ None → after.consumer d ≡ None
-  none_consumer d ne row = ap (consumer_after t e d) row ∙ consumer_absent t e d ((start_past t now c request).makes d ne)
-
   every : (y : ℕ) → after.exchange y ≡ t.exchange y
   every y = other_exchanges t e (y + 1) (start_nothing now c (y + 1) request) y (omega arith)
 
-  among_started : (d : ℕ) → is_some (after.consumer d) ≡ true → Among d (c ∷ t.starts)
-  among_started d some = elim (same_or c d) [
-    | inl here ↦ inl here
-    | inr ne ↦ elim (option_or_some (t.consumer d)) [
-      | inl none ↦ false_true (absent_some _ (none_consumer d (λ eq. ne (sym eq)) none) some)
-      | inr had ↦ inr (stands.numbers.started d had)
-    ]
-  ]
-
-  numbers : AreNumbered after
-  unfolding case_of
-  numbers = record {
-    starts = (omega arith, descends_more (t.last_start + 1) c t.starts (omega (arith, above)) stands.numbers.starts);
-    openings = stands.numbers.openings;
-    started = among_started;
-    opened = λ y some. stands.numbers.opened y (subst (λ (z : Option Exchange). is_some z ≡ true) (every y) some);
-    new_consumers = λ d lt. none_consumer d (omega (arith, lt)) (stands.numbers.new_consumers d (omega (arith, lt, above)));
-    new_exchanges = λ y lt. every y ∙ stands.numbers.new_exchanges y lt;
-    new_representations = λ q lt. unfounded t e refl q (stands.numbers.new_representations q lt);
-  }
+  order : InOrder after
+  order = record { starts = (omega arith, descends_more (t.last_start + 1) c t.starts (omega (arith, above)) stands.order.starts); openings = stands.order.openings }
 
   all_others : (d : ℕ) → d ≢ c → IsSameOrBack now (t.consumer d) (after.consumer d)
   all_others = others r.received t e c stands.past (start_past t now c request)
@@ -115,7 +95,7 @@ module _ {B : Type 0} (r u : Rows B) (t : Tables) (now c : ℕ) (request copied 
   count =
       let f : ℕ → Bool = λ d. is_live (t.consumer d) in
       let g : ℕ → Bool = λ d. is_live (after.consumer d) in
-      let alike : counted g t.starts ≡ counted f t.starts = counted_same f g c t.starts (λ h. not_among (t.last_start + 1) c t.starts stands.numbers.starts (omega (arith, above)) h) (λ d ne. same_lives now _ _ (all_others d ne)) in
+      let alike : counted g t.starts ≡ counted f t.starts = counted_same f g c t.starts (λ h. not_among (t.last_start + 1) c t.starts stands.order.starts (omega (arith, above)) h) (λ d ne. same_lives now _ _ (all_others d ne)) in
       let more : counted g (c ∷ t.starts) ≡ counted g t.starts + one (g c) = counted-cons g c t.starts in
       let lives : one (g c) ≡ 1 = rw row_after refl in
       let absent : get nat_eq r.consumers c ≡ None = kept_none t (get nat_eq r.consumers c) (subst (λ o. KeepsConsumer t (get nat_eq r.consumers c) o) fresh (stands.consumers c)) in
@@ -148,16 +128,14 @@ module _ {B : Type 0} (r u : Rows B) (t : Tables) (now c : ℕ) (request copied 
       told_answered limits u t now (event.Start c request) [] before before refl refl refl
       (closing_none r.received t e stands.past (λ q. refl) (λ y. refl) (λ y. refl))
       (sym (append-nil before))
-      (stands_moved r u t after now c x (Some k) stands numbers (rw received (omega arith)) last (ap next_of exchanges ∙ stands.next) becomes count
-      all_others (λ y ne. every y) (λ w row over. none_some w (sym free ∙ row)) (λ q none. unfounded t e refl q none) (λ y ne. ap (λ z. table_of z y) exchanges)
+      (stands_moved r u t after now c x (Some k) stands order (rw received (omega arith)) last (ap next_of exchanges ∙ stands.next) becomes count
+      all_others (λ y ne. every y) (λ y ne. ap (λ z. table_of z y) exchanges)
       (rw row_after kept_after)
-      (λ j row live. (let one_v : v ≡ j = same_row (after.consumer c) v j row_after row in subst (StandsPast u.received after c) one_v (line refl refl refl refl refl disabled plain)))
-      (λ j row off. (let one_v : v ≡ j = same_row (after.consumer c) v j row_after row in ap (λ (y : rows.Consumer). y.due) (sym one_v)))
+      (λ j row live. (let one_v : v ≡ j = same_row (after.consumer c) v j row_after row in subst (GoesPast u.received after) one_v (in_line refl refl disabled plain)))
       (record {
         running = rw (exchanges, every x) known_x.running;
         held = rw (exchanges, every x, free) (known_x.held ∙ ap (held_for t x) free);
       })
-      (λ w row opened. none_some w (sym (every x ∙ free) ∙ row))
       (λ d j ne row at. nobody_reads r t x d j stands free row at)
       (λ y j ne row at. none_some j (sym fresh ∙ row))
       (λ y j ne row at. (let one_v : v ≡ j = same_row (after.consumer c) v j row_after row in let never : place.Line ≡ place.Direct y = ap (λ (i : rows.Consumer). i.place) one_v ∙ at in cc)))

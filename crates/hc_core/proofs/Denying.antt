@@ -14,6 +14,7 @@ use Rattle.hc_core.specs.Good.{counted}
 use Rattle.hc_core.proofs.Words.{same_or, eqb-same, eqb-other, none_some, false_true}
 use Rattle.hc_core.proofs.Moved.{same, stands_moved, kept_none}
 use Rattle.hc_core.proofs.Apart.{nobody_reads}
+use Rattle.hc_core.proofs.Standing.{Standing}
 
 stays_none : {A : Type 0} (f : ℕ → Option A) (c : ℕ) → f c ≡ None → (d : ℕ) → f d ≡ cond (eqb c d) None (f d)
 stays_none f c none d = elim (same_or c d) [
@@ -21,25 +22,23 @@ stays_none f c none d = elim (same_or c d) [
   | inr ne ↦ rw (eqb-other c d ne) refl
 ]
 
-pub stands_denied : {B : Type 0} (r : Rows B) (t : Tables) (e : Entry) → RowsStand r t → RowsStand (counted e.event r) (after_denied t e)
+pub stands_denied : {B : Type 0} (r : Rows B) (t : Tables) (e : Entry) → Standing r t → RowsStand (counted e.event r) (after_denied t e)
 stands_denied r t e stands =
     let s : Tables = after_denied t e in
     let u = counted e.event r in
     let c : ℕ = t.last_start + 1 in
     let x : ℕ = t.opened + 1 in
-    let none : t.consumer c ≡ None = stands.numbers.new_consumers c (omega arith) in
-    let free : t.exchange x ≡ None = stands.numbers.new_exchanges x (omega arith) in
+    let none : t.consumer c ≡ None = stands.lists.new_consumers c (omega arith) in
+    let free : t.exchange x ≡ None = stands.lists.new_exchanges x (omega arith) in
     let known_x = stands.exchanges x in
     let absent : get nat_eq r.consumers c ≡ None = kept_none t (get nat_eq r.consumers c) (subst (λ o. KeepsConsumer t (get nat_eq r.consumers c) o) none (stands.consumers c)) in
-    let numbers = stands.numbers in
     stands_moved r u t s e.now c x None stands
-    (record { starts = numbers.starts; openings = numbers.openings; started = numbers.started; opened = numbers.opened; new_consumers = numbers.new_consumers; new_exchanges = numbers.new_exchanges; new_representations = numbers.new_representations })
+    (record { starts = stands.order.starts; openings = stands.order.openings })
     (omega arith) stands.last_start stands.next
     (record { places = λ d. stays_none (get nat_eq r.consumers) c absent d; len = rw absent refl })
-    stands.count (λ d ne. same refl) (λ y ne. refl) (λ w there over. none_some w (sym free ∙ there)) (λ q row. row) (λ y ne. refl)
-    (rw none refl) (λ z row live. none_some z (sym none ∙ row)) (λ z row off. none_some z (sym none ∙ row))
+    stands.count (λ d ne. same refl) (λ y ne. refl) (λ y ne. refl)
+    (rw none refl) (λ z row live. none_some z (sym none ∙ row))
     (record { running = rw free (rw free at known_x.running); held = rw free (rw free at known_x.held) })
-    (λ w there opened. none_some w (sym free ∙ there))
     (λ d j ne row at. nobody_reads r t x d j stands free row at)
     (λ y j ne row at. none_some j (sym none ∙ row)) (λ y j ne row at. none_some j (sym none ∙ row))
 
@@ -47,8 +46,8 @@ stands_denied r t e stands =
 
 pub stands_begun : {B : Type 0} (r : Rows B) → r.last_start ≡ 0 → next_of r.exchanges ≡ 1 → hash_map_len r.consumers ≡ 0 → ((c : ℕ) → get nat_eq r.consumers c ≡ None) → ((x : ℕ) → table_of r.exchanges x ≡ unknown) → RowsStand r (begun no_contents)
 stands_begun r last next count none unopened = record {
-  numbers = record { starts = tt; openings = tt; started = λ c some. false_true some; opened = λ x some. false_true some; new_consumers = λ c lt. refl; new_exchanges = λ x lt. refl; new_representations = λ x lt. refl };
-  past = record { places = λ c k row live. none_some k row; readers = λ x w row live. none_some w row; idle_due = λ c k row off. none_some k row };
+  order = record { starts = tt; openings = tt };
+  built = λ c k row live. none_some k row;
   last_start = last;
   next = next;
   count = count;

@@ -7,7 +7,6 @@ use Rattle.hc_model.specs.declared.place.Place.TheVariants as place
 use Rattle.hc_model.specs.ConsumerRows.{consumer_made}
 use Rattle.hc_model.specs.Denials.{is_live, is_live_place, live}
 use Rattle.hc_model.specs.Entries.{Entry}
-use Rattle.hc_model.specs.Reading.{reads}
 use Rattle.hc_model.specs.Rows as rows
 use Rattle.hc_model.specs.Rows.{Tables, Exchange}
 use Rattle.hc_model.specs.Tables.{after_accepted, last_start_after, starts_after, opened_after}
@@ -16,14 +15,15 @@ use Rattle.hc_core.specs.declared.consumer.Consumer.{Consumer}
 use Rattle.hc_core.specs.declared.rows.Rows.{Rows}
 use Rattle.hc_core.specs.Changes as changes
 use Rattle.hc_core.specs.Changes.{BecomesAt}
-use Rattle.hc_core.specs.Past.{AreNumbered, StandsPast, ReadsPast, line, direct, down}
+use Rattle.hc_core.specs.Past.{InOrder, BringsPast, GoesPast, reads_own}
 use Rattle.hc_core.specs.Kept.{IsKept, KeepsConsumer, KeepsExchange}
 use Rattle.hc_core.specs.Stands.{RowsStand}
-use Rattle.hc_core.proofs.Words.{false_true, same_row}
+use Rattle.hc_core.proofs.Words.{same_row}
 use Rattle.hc_core.proofs.LiveCounts.{counted, counted_moves, one}
 use Rattle.hc_core.proofs.Moved.{IsSameOrBack, same, back, stands_moved, kept_lives, direct_is}
-use Rattle.hc_core.proofs.PastEntries.{IsPastEntry, IsOnly, others, other_exchanges, unfounded}
-use Rattle.hc_core.proofs.Listed.{numbers_stay}
+use Rattle.hc_core.proofs.PastEntries.{IsPastEntry, IsOnly, others, other_exchanges}
+use Rattle.hc_core.proofs.Listed.{order_stays}
+use Rattle.hc_core.proofs.Standing.{ReadsPast, Standing, StandsPast, direct, down, line}
 
 -- HOW MANY ARE LIVE
 
@@ -35,13 +35,13 @@ one_of : {A : Type 0} (o : Option A) → changes.one o ≡ one (is_some o)
 one_of o = refl
 
 -- where the map's count changes as one consumer does
-pub count_moved : {B : Type 0} (r u : Rows B) (t s : Tables) (now c : ℕ) (o : Option Consumer) → RowsStand r t → BecomesAt r.consumers u.consumers c o → s.starts ≡ t.starts → is_some (t.consumer c) ≡ true
+pub count_moved : {B : Type 0} (r u : Rows B) (t s : Tables) (now c : ℕ) (o : Option Consumer) → Standing r t → BecomesAt r.consumers u.consumers c o → s.starts ≡ t.starts → is_some (t.consumer c) ≡ true
     → ((d : ℕ) → d ≢ c → IsSameOrBack now (t.consumer d) (s.consumer d)) → is_some o ≡ is_live (s.consumer c) → hash_map_len u.consumers ≡ live s
 count_moved r u t s now c o stands becomes starts there others left =
     let f : ℕ → Bool = λ d. is_live (t.consumer d) in
     let g : ℕ → Bool = λ d. is_live (s.consumer d) in
     let was : is_some (get nat_eq r.consumers c) ≡ is_live (t.consumer c) = kept_lives t _ _ (stands.consumers c) in
-    let moves : counted g t.starts + one (f c) ≡ counted f t.starts + one (g c) = counted_moves f g c (t.last_start + 1) t.starts stands.numbers.starts (stands.numbers.started c there) (λ d ne. same_lives now _ _ (others d ne)) in
+    let moves : counted g t.starts + one (f c) ≡ counted f t.starts + one (g c) = counted_moves f g c (t.last_start + 1) t.starts stands.order.starts (stands.lists.started c there) (λ d ne. same_lives now _ _ (others d ne)) in
     let len : hash_map_len u.consumers + one (f c) ≡ hash_map_len r.consumers + one (g c) = rw (← was, ← left) becomes.len in
     let before : hash_map_len r.consumers ≡ counted f t.starts = stands.count in
     let after : counted g t.starts ≡ live s = ap (counted g) (sym starts) in
@@ -51,7 +51,7 @@ not_none : {A : Type 0} (o : Option A) (a : A) → o ≡ Some a → is_some o �
 not_none o a is = rw is refl
 
 module _ {B : Type 0} (r u : Rows B) (t : Tables) (e : Entry) (c x : ℕ) (k : rows.Consumer)
-    (stands : RowsStand r t)
+    (stands : Standing r t)
     (entry : IsPastEntry t e c)
     (only : IsOnly e x)
     (unopened : opening_in e.acts ≡ None)
@@ -65,7 +65,6 @@ module _ {B : Type 0} (r u : Rows B) (t : Tables) (e : Entry) (c x : ℕ) (k : r
     (last : u.last_start ≡ r.last_start)
     (next : next_of u.exchanges ≡ next_of r.exchanges)
     (tables : (y : ℕ) → y ≢ x → table_of u.exchanges y ≡ table_of r.exchanges y)
-    (closed : (w : Exchange) → t.exchange x ≡ Some w → w.is_open ≡ false → (v : Exchange) × ((after_accepted t e).exchange x ≡ Some v) × (v.is_open ≡ false))
     (known : KeepsExchange (after_accepted t e) x (table_of u.exchanges x)) where
   abbrev after : Tables
   after = after_accepted t e
@@ -83,44 +82,37 @@ module _ {B : Type 0} (r u : Rows B) (t : Tables) (e : Entry) (c x : ℕ) (k : r
           let same_x : y ≡ x = direct_is y x (sym at_y ∙ is_at) in
           let one_w : p.w ≡ reader.w = same_row (t.exchange x) p.w reader.w (subst (λ (z : ℕ). t.exchange z ≡ Some p.w) same_x p.row) reader.row in
           ne (sym p.for_it ∙ (ap (λ (w : Exchange). w.c) one_w ∙ reader.for_it))
-      by_standing (down why y w down_at own there over shown given due told) = let never : place.Down why ≡ place.Direct x = sym down_at ∙ is_at in cc
+      by_standing (down why down_at unowned shown told) = let never : place.Down why ≡ place.Direct x = sym down_at ∙ is_at in cc
 
   was : (y : ℕ) (j : rows.Consumer) → y ≢ x → t.consumer c ≡ Some j → j.place ≡ place.Direct y → ⊥
   was y j ne is_row is_at = ne (sym (direct_is x y (sym at ∙ (ap (λ (z : rows.Consumer). z.place) (same_row (t.consumer c) k j row is_row) ∙ is_at))))
 
-  listed : AreNumbered after
-  listed = numbers_stay t e stands.numbers entry.founds lasts starts makes unopened
+  listed : InOrder after
+  listed = order_stays t e stands.order lasts starts unopened
 
   next_is : next_of u.exchanges ≡ after.opened + 1
   next_is = next ∙ (stands.next ∙ ap (λ (o : Option Opening). opened_after o t.opened + 1) (sym unopened))
 
   -- IT READS ON
-  pub reads_on : (j : Consumer) (v : rows.Consumer) → BecomesAt r.consumers u.consumers c (Some j) → after.consumer c ≡ Some v → v.place ≡ place.Direct x
-      → IsKept after j v → ReadsPast u.received after c x v → RowsStand u after
-  reads_on j v becomes is_row is_at kept read =
+  pub reads_on : (j : Consumer) (v : rows.Consumer) (w : Exchange) → BecomesAt r.consumers u.consumers c (Some j) → after.consumer c ≡ Some v → v.place ≡ place.Direct x
+      → IsKept after j v → after.exchange x ≡ Some w → BringsPast u.received w v.due → RowsStand u after
+  reads_on j v w becomes is_row is_at kept exchange brings =
       stands_moved r u t after e.now c x (Some j) stands listed received (last ∙ (stands.last_start ∙ sym lasts)) next_is becomes
       (count_moved r u t after e.now c (Some j) stands becomes starts (not_none _ k row) all_others (rw is_row (sym kept.is_there)))
-      all_others (λ y ne. other_exchanges t e x only y ne) closed (λ q none. unfounded t e entry.founds q none) tables
+      all_others (λ y ne. other_exchanges t e x only y ne) tables
       (rw is_row kept)
-      (λ z row_z lives. (let one_v : v ≡ z = same_row (after.consumer c) v z is_row row_z in subst (StandsPast u.received after c) one_v (direct x is_at read)))
-      (λ z row_z off. (let one_v : v ≡ z = same_row (after.consumer c) v z is_row row_z in let place_z : z.place ≡ place.Direct x = ap (λ (y : rows.Consumer). y.place) (sym one_v) ∙ is_at in false_true (sym off ∙ ap reads place_z)))
-      known
-      (λ w there opened. record { k = v; row = (let mine : w.c ≡ c = ap (λ (z : Exchange). z.c) (same_row (after.exchange x) w read.w there read.row) ∙ read.for_it in rw mine is_row); place_is = is_at })
-      alone was
+      (λ z row_z lives. subst (GoesPast u.received after) (same_row (after.consumer c) v z is_row row_z) (reads_own x is_at (λ y row_y. subst (λ (a : Exchange). BringsPast u.received a v.due) (same_row (after.exchange x) w y exchange row_y) brings)))
+      known alone was
       (λ y z ne row_z at_z. (let one_v : v ≡ z = same_row (after.consumer c) v z is_row row_z in ne (sym (direct_is x y (sym is_at ∙ (ap (λ (y : rows.Consumer). y.place) one_v ∙ at_z))))))
 
   -- IT IS SOMEWHERE ELSE, OR GONE
   pub reads_no_more : (o : Option Consumer) (v : rows.Consumer) → BecomesAt r.consumers u.consumers c o → after.consumer c ≡ Some v → ((y : ℕ) → v.place ≡ place.Direct y → ⊥)
-      → v.due ≡ None → is_some o ≡ is_live_place v.place → KeepsConsumer after o (Some v) → (is_live_place v.place ≡ true → StandsPast u.received after c v)
-      → ((w : Exchange) → after.exchange x ≡ Some w → w.is_open ≡ true → ⊥) → RowsStand u after
-  reads_no_more o v becomes is_row off undue lives kept standing over =
+      → is_some o ≡ is_live_place v.place → KeepsConsumer after o (Some v) → (is_live_place v.place ≡ true → GoesPast u.received after v) → RowsStand u after
+  reads_no_more o v becomes is_row off lives kept standing =
       stands_moved r u t after e.now c x o stands listed received (last ∙ (stands.last_start ∙ sym lasts)) next_is becomes
       (count_moved r u t after e.now c o stands becomes starts (not_none _ k row) all_others (rw is_row lives))
-      all_others (λ y ne. other_exchanges t e x only y ne) closed (λ q none. unfounded t e entry.founds q none) tables
+      all_others (λ y ne. other_exchanges t e x only y ne) tables
       (rw is_row kept)
-      (λ z row_z live_z. (let one_v : v ≡ z = same_row (after.consumer c) v z is_row row_z in subst (StandsPast u.received after c) one_v (standing (ap (λ (y : rows.Consumer). is_live_place y.place) one_v ∙ live_z))))
-      (λ z row_z off_z. ap (λ (y : rows.Consumer). y.due) (sym (same_row (after.consumer c) v z is_row row_z)) ∙ undue)
-      known
-      (λ w there opened. absurd (over w there opened))
-      alone was
+      (λ z row_z live_z. (let one_v : v ≡ z = same_row (after.consumer c) v z is_row row_z in subst (GoesPast u.received after) one_v (standing (ap (λ (y : rows.Consumer). is_live_place y.place) one_v ∙ live_z))))
+      known alone was
       (λ y z ne row_z at_z. off y (ap (λ (y : rows.Consumer). y.place) (same_row (after.consumer c) v z is_row row_z) ∙ at_z))

@@ -1,5 +1,5 @@
 -- What a poll of a consumer that reads past the store does: it waits, is shown its head, is given bytes, or asks for more.
-use Rattle.std.proofs.Common.{◌≡◌, ℕ, ◌+◌, ◌-◌, ◌≤◌, List, [], ◌++◌, length, drop, take, true, false, min, Option, Some, None, refl, ap, ap₂, sym, ◌∙◌, arith}
+use Rattle.std.proofs.Common.{◌≡◌, ℕ, ◌+◌, ◌-◌, ◌≤◌, List, [], ◌++◌, length, drop, take, true, false, min, Option, Some, None, refl, ap, ap₂, sym, ◌∙◌, subst, arith}
 use Rattle.std.specs.Prelude.{is_some, nat_eq, option_map, option_and_then}
 use Rattle.std.specs.HashMap.{get}
 use Rattle.std.proofs.lemmas.Grind.{common_steps}
@@ -33,13 +33,16 @@ use Rattle.hc_core.specs.Changes.{ChangesAt, BecomesAt, once_given, once_answere
 use Rattle.hc_core.specs.Kept.{IsKept, KeepsRunning, held_for}
 use Rattle.hc_core.specs.Stands.{RowsStand}
 use Rattle.hc_core.proofs.Words.{eqb-same, none_some, false_true}
-use Rattle.hc_core.proofs.Moved.{reads_stay}
-use Rattle.hc_core.proofs.PastEntries.{poll_of, poll_entry, unfounded}
+use Rattle.hc_core.specs.Past.{BringsPast}
+use Rattle.hc_event.specs.declared.act.Cause.{Cause}
+use Rattle.hc_core.proofs.PastEntries.{poll_of}
 use Rattle.hc_core.proofs.PollRows.{AsksOnly, asks, shows, gives, exchange_same, exchange_asked, shows_row, asks_body, gives_row}
 use Rattle.hc_core.proofs.DirectPolls.{IsReading, goes_on, known_other, known_here, changed, unchanged}
+use Rattle.hc_core.proofs.Standing.{Standing}
 
-le_self : (n : ℕ) → n ≤ n
-le_self n = omega arith
+-- where as much was received
+brings_as : (n m : ℕ) (w : Exchange) (due : Option Cause) → m ≡ n → BringsPast n w due → BringsPast m w due
+brings_as n m w due is b = subst (λ (i : ℕ). BringsPast i w due) (sym is) b
 
 -- a consumer that reads past the store is kept as before, where its exchange is as before
 pub kept_same : (t s : Tables) (x : ℕ) (k : Consumer) (v : rows.Consumer) → v.place ≡ place.Direct x → s.exchange x ≡ t.exchange x → IsKept t k v → IsKept s k v
@@ -117,7 +120,7 @@ given_fits n m body bytes is le =
     let rest : length (drop m body) ≡ length body - m = length-drop m body in
     omega (arith, few, rest)
 
-module _ {B : Type 0} (r u : Rows B) (t : Tables) (now c want x : ℕ) (k : Consumer) (stands : RowsStand r t) (there : get nat_eq r.consumers c ≡ Some k) (reading : IsReading r t c x k) where
+module _ {B : Type 0} (r u : Rows B) (t : Tables) (now c want x : ℕ) (k : Consumer) (stands : Standing r t) (there : get nat_eq r.consumers c ≡ Some k) (reading : IsReading r t c x k) where
   abbrev v : rows.Consumer
   v = reading.v
 
@@ -134,8 +137,8 @@ module _ {B : Type 0} (r u : Rows B) (t : Tables) (now c want x : ℕ) (k : Cons
         let exchange : s.exchange x ≡ Some w = ap (exchange_after t e x) reading.reads.row ∙ exchange_same t now c want x m w unasked in
         let alike : s.exchange x ≡ t.exchange x = exchange ∙ sym reading.reads.row in
         let before = stands.exchanges x in
-        goes_on r u t now c want x k m stands there reading only stays unopened k v w received last next (λ y ne. tables y) becomes row_after exchange (λ h. h) reading.at (kept_same t s x k v reading.at alike reading.kept)
-        (reads_stay t s r.received u.received c v (rw received (le_self r.received)) (λ q none. unfounded t e (poll_entry t now c want m []).founds q none) x reading.reads alike)
+        goes_on r u t now c want x k m stands there reading only stays unopened k v w received last next (λ y ne. tables y) becomes row_after exchange reading.at (kept_same t s x k v reading.at alike reading.kept)
+        (brings_as r.received u.received w v.due received reading.reads.brings)
         (record {
           running = rw (tables x, alike) before.running;
           held = rw (tables x, exchange) ((before.held ∙ ap (held_for t x) reading.reads.row) ∙ (held_is t x c w v reading.row reading.reads.for_it reading.at ∙ sym (held_is s x c w v row_after reading.reads.for_it reading.at)));
@@ -179,7 +182,7 @@ module _ {B : Type 0} (r u : Rows B) (t : Tables) (now c want x : ℕ) (k : Cons
       let rd = reading.reads in
       let change : once_answered k ≡ k_after = rw some refl in
       goes_on r u t now c want x k m stands there reading (shows r_of reason head lo hi) refl refl k_after v_after w received last (ap next_of same_table) (λ y ne. tables y)
-      (rw change at (changed r.consumers u.consumers c once_answered k changes there)) row_after exchange (λ h. h) reading.at
+      (rw change at (changed r.consumers u.consumers c once_answered k changes there)) row_after exchange reading.at
       (record {
         is_there = kp.is_there;
         request = kp.request;
@@ -193,23 +196,7 @@ module _ {B : Type 0} (r u : Rows B) (t : Tables) (now c want x : ℕ) (k : Cons
         given = kp.given;
         due = kp.due;
       })
-      (record {
-        w = w;
-        row = exchange;
-        for_it = rd.for_it;
-        own = rd.own;
-        past = rd.past;
-        joined = rd.joined;
-        unfounded = unfounded t e (poll_entry t now c want m []).founds x rd.unfounded;
-        begins = rd.begins;
-        within = rw received rd.within;
-        given = rd.given;
-        awaited = rd.awaited;
-        unheard = λ none. none_some head (sym none ∙ has);
-        told = rd.told;
-        unended = rd.unended;
-        finished = rd.finished;
-      })
+      (brings_as r.received u.received w v.due received rd.brings)
       (record {
         running = rw (tables x, alike) before.running;
         held = rw (tables x, exchange) ((before.held ∙ ap (held_for t x) rd.row) ∙ (held_is t x c w v reading.row rd.for_it reading.at ∙ sym (held_is s x c w v_after row_after rd.for_it reading.at)));
@@ -245,25 +232,9 @@ module _ {B : Type 0} (r u : Rows B) (t : Tables) (now c want x : ℕ) (k : Cons
       let was : KeepsRunning (table_of r.exchanges x).running (Some w) = rw rd.row at before.running in
       let held_before : (table_of r.exchanges x).held ≡ drop v.given w.body = (before.held ∙ ap (held_for t x) rd.row) ∙ held_is t x c w v reading.row rd.for_it reading.at in
       goes_on r u t now c want x k (Asks x) stands there reading asks refl refl k v w_after received last becomes.next (λ y ne. known_other known.asked x r.exchanges u.exchanges becomes y ne)
-      (unchanged r.consumers u.consumers c k same_map there) row_after exchange (λ h. h) reading.at
+      (unchanged r.consumers u.consumers c k same_map there) row_after exchange reading.at
       (kept_with t s x k v w w_after reading.at rd.row exchange refl refl (end_asked (promised w) w) kp)
-      (record {
-        w = w_after;
-        row = exchange;
-        for_it = rd.for_it;
-        own = rd.own;
-        past = rd.past;
-        joined = rd.joined;
-        unfounded = unfounded t e (poll_entry t now c want (Asks x) []).founds x rd.unfounded;
-        begins = rd.begins;
-        within = rw received rd.within;
-        given = rd.given;
-        awaited = rd.awaited;
-        unheard = rd.unheard;
-        told = rd.told;
-        unended = rd.unended;
-        finished = λ over none. end_asked (promised w) w ∙ rd.finished over none;
-      })
+      (record { past = rd.brings.past; within = rw received rd.brings.within; told = rd.brings.told; finished = λ over none. end_asked (promised w) w ∙ rd.brings.finished over none })
       (record {
         running = rw (here, exchange) (asked_running (table_of r.exchanges x).running was);
         held = rw (here, exchange) (held_before ∙ sym (held_is s x c w_after v row_after rd.for_it reading.at));
@@ -288,7 +259,7 @@ module _ {B : Type 0} (r u : Rows B) (t : Tables) (now c want x : ℕ) (k : Cons
       let bytes_are : run.bytes ≡ take n (drop v.given w.body) = bytes ∙ ap (take n) held_before in
       let few : v.given + length run.bytes ≤ length w.body = given_fits n v.given w.body run.bytes bytes_are rd.given in
       goes_on r u t now c want x k m stands there reading (gives run) refl refl (once_given (length run.bytes) k) v_after w received last becomes.next (λ y ne. known_other (known.given n) x r.exchanges u.exchanges becomes y ne)
-      (changed r.consumers u.consumers c (once_given (length run.bytes)) k changes there) row_after exchange (λ h. h) reading.at
+      (changed r.consumers u.consumers c (once_given (length run.bytes)) k changes there) row_after exchange reading.at
       (let kept_s = kept_same t s x k v reading.at alike kp in record {
         is_there = kp.is_there;
         request = kp.request;
@@ -302,23 +273,7 @@ module _ {B : Type 0} (r u : Rows B) (t : Tables) (now c want x : ℕ) (k : Cons
         given = ap (λ i. i + length run.bytes) kp.given;
         due = kp.due;
       })
-      (record {
-        w = w;
-        row = exchange;
-        for_it = rd.for_it;
-        own = rd.own;
-        past = rd.past;
-        joined = rd.joined;
-        unfounded = unfounded t e (poll_entry t now c want m []).founds x rd.unfounded;
-        begins = rd.begins;
-        within = rw received rd.within;
-        given = few;
-        awaited = rd.awaited;
-        unheard = λ none. false_true (sym (ap is_some none) ∙ headed);
-        told = rd.told;
-        unended = rd.unended;
-        finished = rd.finished;
-      })
+      (brings_as r.received u.received w v.due received rd.brings)
       (record {
         running = rw (here, alike) before.running;
         held = rw (here, exchange) ((ap (drop n) held_before ∙ given_drop n v.given w.body run.bytes bytes_are) ∙ sym (held_is s x c w v_after row_after rd.for_it reading.at));

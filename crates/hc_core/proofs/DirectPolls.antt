@@ -18,7 +18,7 @@ use Rattle.hc_exch.specs.Known.{Known}
 use Rattle.hc_core.specs.declared.consumer.Consumer.{Consumer}
 use Rattle.hc_core.specs.declared.rows.Rows.{Rows}
 use Rattle.hc_core.specs.Changes.{ChangesAt, BecomesAt}
-use Rattle.hc_core.specs.Past.{StandsPast, ReadsPast, line, direct, down}
+use Rattle.hc_core.specs.Past.{BringsPast}
 use Rattle.hc_core.specs.Kept.{IsKept, KeepsExchange}
 use Rattle.hc_core.specs.Stands.{RowsStand}
 use Rattle.hc_core.proofs.Words.{same_or, eqb-same, eqb-other, same_row}
@@ -27,6 +27,7 @@ use Rattle.hc_core.proofs.PastEntries.{poll_of, poll_entry}
 use Rattle.hc_core.proofs.PastCloses.{before_closing, closing_none, poll_lossless}
 use Rattle.hc_core.proofs.Direct.{reads_on}
 use Rattle.hc_core.proofs.PollRows.{AsksOnly, poll_only, closes_nothing}
+use Rattle.hc_core.proofs.Standing.{ReadsPast, Standing, StandsPast, direct, down, line}
 
 -- WHO READS
 
@@ -42,9 +43,9 @@ reading_by : {B : Type 0} (r : Rows B) (t : Tables) (c x : ℕ) (k : Consumer) (
 reading_by r t c x k v row kept at (line in_line own shown given due disabled plain) = absurd (let never : place.Line ≡ place.Direct x = sym in_line ∙ at in cc)
 reading_by r t c x k v row kept at (direct y at_y reads) =
     record { v = v; row = row; kept = kept; at = at; reads = subst (λ (z : ℕ). ReadsPast r.received t c z v) (direct_is y x (sym at_y ∙ at)) reads }
-reading_by r t c x k v row kept at (down why y w down_at own there over shown given due told) = absurd (let never : place.Down why ≡ place.Direct x = sym down_at ∙ at in cc)
+reading_by r t c x k v row kept at (down why down_at unowned shown told) = absurd (let never : place.Down why ≡ place.Direct x = sym down_at ∙ at in cc)
 
-pub reading_of : {B : Type 0} (r : Rows B) (t : Tables) (c x : ℕ) (k : Consumer) → RowsStand r t → get nat_eq r.consumers c ≡ Some k → k.place ≡ place.Direct x → IsReading r t c x k
+pub reading_of : {B : Type 0} (r : Rows B) (t : Tables) (c x : ℕ) (k : Consumer) → Standing r t → get nat_eq r.consumers c ≡ Some k → k.place ≡ place.Direct x → IsReading r t c x k
 reading_of r t c x k stands there at =
     let (v, row, kept) = kept_row t k (t.consumer c) (rw there at (stands.consumers c)) in
     let at_v : v.place ≡ place.Direct x = sym kept.place ∙ at in
@@ -56,7 +57,7 @@ reading_of r t c x k stands there at =
 not_left : (t : Tables) (o : Option ℕ) → o ≡ None → (x : ℕ) → is_left t x o ≡ false
 not_left t o none x = rw none refl
 
-pub closes_none : {B : Type 0} (r : Rows B) (t : Tables) (now c want : ℕ) (m : Move) → RowsStand r t → leaver_in (acts_of c m ++ []) ≡ None → closing t (before_closing now c want m) ≡ []
+pub closes_none : {B : Type 0} (r : Rows B) (t : Tables) (now c want : ℕ) (m : Move) → Standing r t → leaver_in (acts_of c m ++ []) ≡ None → closing t (before_closing now c want m) ≡ []
 unfolding case_of
 closes_none r t now c want m stands stays =
     closing_none r.received t (before_closing now c want m) stands.past (λ q. poll_lossless c q m) (λ x. refl) (λ x. not_left t (leaver_in (acts_of c m ++ [])) stays x)
@@ -83,7 +84,7 @@ unchanged m n c k same_map is = rw same_map (record { places = as_it_is (get nat
 -- THE ARMS
 
 -- what stays of a reader's exchange and row where nothing of them changes
-module _ {B : Type 0} (r u : Rows B) (t : Tables) (now c want x : ℕ) (k : Consumer) (m : Move) (stands : RowsStand r t) (there : get nat_eq r.consumers c ≡ Some k) (reading : IsReading r t c x k) (only : AsksOnly x m) (stays : leaver_in (acts_of c m ++ []) ≡ None) (unopened : opening_in (acts_of c m ++ []) ≡ None) where
+module _ {B : Type 0} (r u : Rows B) (t : Tables) (now c want x : ℕ) (k : Consumer) (m : Move) (stands : Standing r t) (there : get nat_eq r.consumers c ≡ Some k) (reading : IsReading r t c x k) (only : AsksOnly x m) (stays : leaver_in (acts_of c m ++ []) ≡ None) (unopened : opening_in (acts_of c m ++ []) ≡ None) where
   abbrev e : Entry
   e = poll_of now c want m []
 
@@ -94,11 +95,9 @@ module _ {B : Type 0} (r u : Rows B) (t : Tables) (now c want x : ℕ) (k : Cons
   pub goes_on : (j : Consumer) (v : rows.Consumer) (w : Exchange) → u.received ≡ r.received → u.last_start ≡ r.last_start → next_of u.exchanges ≡ next_of r.exchanges
       → ((y : ℕ) → y ≢ x → table_of u.exchanges y ≡ table_of r.exchanges y)
       → BecomesAt r.consumers u.consumers c (Some j) → after.consumer c ≡ Some v → after.exchange x ≡ Some w
-      → (reading.reads.w.is_open ≡ false → w.is_open ≡ false)
-      → v.place ≡ place.Direct x → IsKept after j v → ReadsPast u.received after c x v → KeepsExchange after x (table_of u.exchanges x)
+      → v.place ≡ place.Direct x → IsKept after j v → BringsPast u.received w v.due → KeepsExchange after x (table_of u.exchanges x)
       → RowsStand u after
-  goes_on j v w received last next tables becomes row exchange over at kept read known_as =
+  goes_on j v w received last next tables becomes row exchange at kept brings known_as =
       reads_on r u t e c x reading.v stands (poll_entry t now c want m []) (poll_only now c want x m [] only (λ y ne. closes_nothing y)) unopened refl refl (λ d. refl)
       reading.row reading.reads reading.at (rw received (omega arith)) last next tables
-      (λ w_x row_x over_x. (w, exchange, over (let one : reading.reads.w ≡ w_x = same_row (t.exchange x) reading.reads.w w_x reading.reads.row row_x in ap (λ (z : Exchange). z.is_open) one ∙ over_x)))
-      known_as j v becomes row at kept read
+      known_as j v w becomes row at kept exchange brings

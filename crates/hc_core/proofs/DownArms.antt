@@ -24,7 +24,7 @@ use Rattle.hc_exch.specs.declared.row.Open.{Open}
 use Rattle.hc_core.specs.declared.consumer.Consumer.{Consumer}
 use Rattle.hc_core.specs.declared.rows.Rows.{Rows}
 use Rattle.hc_core.specs.Changes.{ChangesAt, put_down}
-use Rattle.hc_core.specs.Past.{StandsPast, down, is_misread}
+use Rattle.hc_core.specs.Past.{GoesPast, is_down, is_misread}
 use Rattle.hc_core.specs.Kept.{IsKept, KeepsRunning, IsRunning, held_for, answer_for}
 use Rattle.hc_core.specs.Stands.{RowsStand}
 use Rattle.hc_core.proofs.Words.{false_true, same_row}
@@ -33,6 +33,7 @@ use Rattle.hc_core.proofs.Direct.{reads_no_more}
 use Rattle.hc_core.proofs.DirectPolls.{known_other, known_here, changed}
 use Rattle.hc_core.proofs.DirectArms.{held_is}
 use Rattle.hc_core.proofs.Hearing.{Hears, IsNews, told_entry, told_only, told_row, told_acted}
+use Rattle.hc_core.proofs.Standing.{Standing, StandsPast, down}
 
 abbrev pub none_of : (A : Type 0) → Option A
 none_of A = None
@@ -60,7 +61,7 @@ either_none false = refl
 answers_none : (t : Tables) (x : ℕ) (v : rows.Consumer) (w : Exchange) → v.place ≡ place.Direct x → t.exchange x ≡ Some w → w.head ≡ None → answer_for t v ≡ None
 answers_none t x v w at row none = rw (at, row, none) (either_none v.shown)
 
-module _ {B : Type 0} (r u : Rows B) (t : Tables) (now x : ℕ) (ev : Event) (ys : List ℕ) (o : Open) (z : Exchange) (reason : Cause) (stands : RowsStand r t) (hears : Hears r t x o) (news : IsNews ev x) (headless : o.headed ≡ false)
+module _ {B : Type 0} (r u : Rows B) (t : Tables) (now x : ℕ) (ev : Event) (ys : List ℕ) (o : Open) (z : Exchange) (reason : Cause) (stands : Standing r t) (hears : Hears r t x o) (news : IsNews ev x) (headless : o.headed ≡ false)
     (sends : sends_back (case_at t (told_of now ev ys)) ≡ false) (founds : is_founding (case_at t (told_of now ev ys)) ≡ false)
     (lasts : last_start_after ev t.last_start ≡ t.last_start) (starts : starts_after ev t.starts ≡ t.starts)
     (closes : (y : ℕ) → y ≢ x → closes_in y (map act.Close ys) ≡ false) (unopened : opening_in (map act.Close ys) ≡ None)
@@ -125,9 +126,9 @@ module _ {B : Type 0} (r u : Rows B) (t : Tables) (now x : ℕ) (ev : Event) (ys
         due = kp.due ∙ (rd.unheard no_head).2;
       }
 
-  stands_down_past : StandsPast u.received after c v_down
+  stands_down_past : GoesPast u.received after v_down
   unfolding v_down
-  stands_down_past = down reason x z refl hears.reading.reads.own exchange over unshown none_given refl told
+  stands_down_past = is_down reason refl told
 
   here : table_of u.exchanges x ≡ known.closed (table_of r.exchanges x)
   here = known_here known.closed x r.exchanges u.exchanges becomes
@@ -151,20 +152,15 @@ module _ {B : Type 0} (r u : Rows B) (t : Tables) (now x : ℕ) (ev : Event) (ys
       let e = told_of now ev ys in
       reads_no_more r u t e c x v stands (told_entry t now c x ev ys news w rd.row rd.for_it sends founds) (told_only t now c x ev ys news w rd.row rd.for_it closes) unopened lasts starts (λ d. news.makes d now)
       hears.reading.row rd hears.reading.at (rw received (omega arith)) last becomes.next (λ y ne. known_other known.closed x r.exchanges u.exchanges becomes y ne)
-      (λ y row is. (z, exchange, over))
       (record {
         running = subst (λ (y : Known). KeepsRunning y.running (after.exchange x)) (sym here) closed_row;
         held = ap (λ (y : Known). y.held) here ∙ (held_before ∙ (sym none_after ∙ ap (held_for after x) (sym exchange)));
       })
       (Some (put_down reason k)) v_down (changed r.consumers u.consumers c (put_down reason) k changes hears.there) row_after
-      not_direct undue_down lives_down kept_down (λ live. stands_down_past)
-      (λ y row opened. false_true (sym over ∙ (ap (λ (a : Exchange). a.is_open) (same_row (after.exchange x) z y exchange row) ∙ opened)))
+      not_direct lives_down kept_down (λ live. stands_down_past)
     where
       not_direct : (y : ℕ) → v_down.place ≡ place.Direct y → ⊥
       not_direct y at = let never : place.Down reason ≡ place.Direct y = at in cc
-
-      undue_down : v_down.due ≡ None
-      undue_down = refl
 
       lives_down : true ≡ is_live_place v_down.place
       lives_down = refl

@@ -37,6 +37,7 @@ use Rattle.hc_core.proofs.PastCloses.{told_of, told_answered, closing_none}
 use Rattle.hc_core.proofs.DirectPolls.{changed, unchanged}
 use Rattle.hc_core.proofs.Hearing.{Hears, IsNews}
 use Rattle.hc_core.proofs.StopArms.{IsStopped, source_is, highs_are, stands_stopped}
+use Rattle.hc_core.proofs.Standing.{Standing}
 
 -- AN END
 
@@ -75,7 +76,7 @@ broken_end : (o : Option ℕ) (w : Exchange) → end_of_direct o (record w { is_
 broken_end None w = refl
 broken_end (Some n) w = refl
 
-module _ {B : Type 0} (r u : Rows B) (t : Tables) (now x : ℕ) (o : Open) (stands : RowsStand r t) (hears : Hears r t x o) (running : (table_of r.exchanges x).running ≡ Some o) (headed : o.headed ≡ true)
+module _ {B : Type 0} (r u : Rows B) (t : Tables) (now x : ℕ) (o : Open) (stands : Standing r t) (hears : Hears r t x o) (running : (table_of r.exchanges x).running ≡ Some o) (headed : o.headed ≡ true)
     (received : u.received ≡ r.received) (last : u.last_start ≡ r.last_start) (becomes : exch.Becomes known.closed x r.exchanges u.exchanges) where
   abbrev c : ℕ
   c = o.c
@@ -106,7 +107,7 @@ module _ {B : Type 0} (r u : Rows B) (t : Tables) (now x : ℕ) (o : Open) (stan
         let rd = hears.reading.reads in
         let stop : stop_cause t (event.End x) ≡ reason = ap (short_cause x) rd.row ∙ is_reason in
         stands_stopped r u t now x (event.End x) o (ended w) reason j stands hears running (end_news x) refl refl refl refl (λ q. refl)
-        (stop_here t x v w (told_of now (event.End x) []) reason rd.own rd.row hears.is.is_open refl stop) refl headed_w
+        (stop_here t x v w (told_of now (event.End x) []) reason rd.own rd.row hears.is.is_open refl stop) refl
         (ap (exchange_after t (told_of now (event.End x) []) x) rd.row ∙ exchange_ended t now x w) (end_stopped w) received last becomes kept_at due_is ends_is same_parts told finished
 
     pub end_answered : (limits : Limits) (before : List Act) → Answered limits u t before before now (event.End x)
@@ -139,7 +140,7 @@ module _ {B : Type 0} (r u : Rows B) (t : Tables) (now x : ℕ) (o : Open) (stan
       let rd = hears.reading.reads in
       let promise : promised w ≡ Some p = sym hears.is.promised_is ∙ is in
       let all : nat_lt (length w.body) p ≡ false = grind (arith, nat_tests, hears.is.delivered, le) in
-      let within : IsWithin r.received (Some p) (length w.body) = subst (λ (n : Option ℕ). IsWithin r.received n (length w.body)) promise rd.within in
+      let within : IsWithin r.received (Some p) (length w.body) = subst (λ (n : Option ℕ). IsWithin r.received n (length w.body)) promise rd.brings.within in
       let whole : p ≡ length w.body = omega (arith, within.1, hears.is.delivered, le) in
       end_answered None (short_is p promise false all) k (unchanged r.consumers u.consumers c k same_map hears.there)
       (hears.reading.kept.due ∙ sym (or_nothing v.due))
@@ -177,7 +178,7 @@ module _ {B : Type 0} (r u : Rows B) (t : Tables) (now x : ℕ) (o : Open) (stan
       let reason : Option Cause = Some (cause.Net x) in
       let stands_broken : RowsStand u (after_accepted t (told_of now (event.Fault x) [])) =
       stands_stopped r u t now x (event.Fault x) o (record w { is_open = false }) reason (with_due (cause.Net x) k) stands hears running (fault_news x) refl refl refl refl (λ q. heard_fault (t.exchange x) rd.row)
-      (stop_here t x v w (told_of now (event.Fault x) []) reason rd.own rd.row hears.is.is_open refl refl) refl headed_w
+      (stop_here t x v w (told_of now (event.Fault x) []) reason rd.own rd.row hears.is.is_open refl refl) refl
       (ap (exchange_after t (told_of now (event.Fault x) []) x) rd.row ∙ exchange_broken t now x w) (broken_stopped w) received last becomes
       (changed r.consumers u.consumers c (with_due (cause.Net x)) k changes hears.there)
       (ap (λ (a : Option Cause). option_or a (Some (cause.Net x))) hears.reading.kept.due)

@@ -45,6 +45,7 @@ use Rattle.hc_model.specs.ActFilters.{has_loss}
 use Rattle.hc_exch.specs.Known.{is_all}
 use Rattle.hc_core.proofs.Lengths.{bad_promise}
 use Rattle.hc_core.proofs.DownArms.{headless_is, stands_down}
+use Rattle.hc_core.proofs.Standing.{Standing}
 
 pub head_news : (x : ℕ) (response : Response) → IsNews (event.Head x response) x
 head_news x response = record { names = refl; makes = λ d now. refl; cancels = λ d is. (let never : event.Head x response ≡ event.Cancel d = is in cc) }
@@ -70,7 +71,7 @@ not_sending false = refl
 
 -- THE FAULT OF AN EXCHANGE WITHOUT A HEAD
 
-module _ {B : Type 0} (r u : Rows B) (t : Tables) (now x : ℕ) (o : Open) (stands : RowsStand r t) (hears : Hears r t x o) (headless : o.headed ≡ false)
+module _ {B : Type 0} (r u : Rows B) (t : Tables) (now x : ℕ) (o : Open) (stands : Standing r t) (hears : Hears r t x o) (headless : o.headed ≡ false)
     (received : u.received ≡ r.received) (last : u.last_start ≡ r.last_start) (becomes : exch.Becomes known.closed x r.exchanges u.exchanges) (changes : ChangesAt r.consumers u.consumers o.c (put_down (cause.Net x))) where
   broken : (z : Option Exchange) (q : rows.Consumer) → z ≡ Some hears.reading.reads.w → q.shown ≡ false → by_fault o.c x z q ≡ record q { place = place.Down (cause.Net x) }
   broken z q is unshown =
@@ -96,7 +97,7 @@ module _ {B : Type 0} (r u : Rows B) (t : Tables) (now x : ℕ) (o : Open) (stan
 
 -- A HEAD THAT CAN'T BE USED
 
-module _ {B : Type 0} (r u : Rows B) (t : Tables) (now x : ℕ) (response : Response) (o : Open) (stands : RowsStand r t) (hears : Hears r t x o) (headless : o.headed ≡ false) where
+module _ {B : Type 0} (r u : Rows B) (t : Tables) (now x : ℕ) (response : Response) (o : Open) (stands : Standing r t) (hears : Hears r t x o) (headless : o.headed ≡ false) where
   abbrev c : ℕ
   c = o.c
 
@@ -106,7 +107,7 @@ module _ {B : Type 0} (r u : Rows B) (t : Tables) (now x : ℕ) (response : Resp
   -- whatever is closed
   module _ (ys : List ℕ) (bad : Bool) (is : is_bad (length_told w response) ≡ bad) (lossless : has_loss (map act.Close ys) ≡ false) where
     pub head_case_is : case_at t (told_of now (event.Head x response) ys) ≡ Some (direct_by bad)
-    head_case_is = case_is t (has_loss (map act.Close ys)) x response w bad hears.reading.reads.row hears.reading.reads.past is
+    head_case_is = case_is t (has_loss (map act.Close ys)) x response w bad hears.reading.reads.row hears.reading.reads.brings.past is
 
     pub no_founding : is_founding (case_at t (told_of now (event.Head x response) ys)) ≡ false
     no_founding = ap is_founding head_case_is ∙ not_founding bad
@@ -160,5 +161,5 @@ module _ {B : Type 0} (r u : Rows B) (t : Tables) (now x : ℕ) (response : Resp
     refused_answered limits before out acts =
         told_answered limits u t now (event.Head x response) (x ∷ []) before out refl
         (ap (first_idle t (told_of now (event.Head x response) [])) (room_is true is limits)) (ap has_room (room_is true is limits))
-        (closing_one r.received t (told_of now (event.Head x response) []) stands.past (λ q. refl) x w true false stands.numbers hears.reading.reads.row refuses_here refl refl open_yet refuses_other (λ y ne. refl))
+        (closing_one r.received t (told_of now (event.Head x response) []) stands.past (λ q. refl) x w true false stands.order stands.lists hears.reading.reads.row refuses_here refl refl open_yet refuses_other (λ y ne. refl))
         acts stands_refused

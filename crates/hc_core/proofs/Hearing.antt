@@ -27,15 +27,14 @@ use Rattle.hc_exch.specs.Exchanges.{table_of}
 use Rattle.hc_exch.specs.declared.row.Open.{Open}
 use Rattle.hc_core.specs.declared.consumer.Consumer.{Consumer}
 use Rattle.hc_core.specs.declared.rows.Rows.{Rows}
-use Rattle.hc_core.specs.Past.{IsRead}
 use Rattle.hc_core.specs.Kept.{KeepsConsumer, KeepsRunning, IsRunning}
-use Rattle.hc_core.specs.Stands.{RowsStand}
 use Rattle.hc_core.proofs.Words.{none_some, same_row, is_there}
 use Rattle.hc_core.proofs.Frames.{acted_stays}
 use Rattle.hc_core.proofs.Moved.{kept_lives}
 use Rattle.hc_core.proofs.PastEntries.{IsPastEntry, IsOnly}
 use Rattle.hc_core.proofs.PastCloses.{told_of}
 use Rattle.hc_core.proofs.DirectPolls.{IsReading, reading_of}
+use Rattle.hc_core.proofs.Standing.{IsRead, Standing}
 
 -- WHO HEARS OF IT
 
@@ -50,7 +49,7 @@ running_row : (o : Open) (row : Option Exchange) → KeepsRunning (Some o) row �
 running_row o None keeps = absurd keeps
 running_row o (Some w) keeps = (w, refl, keeps)
 
-pub hears_of : {B : Type 0} (r : Rows B) (t : Tables) (x : ℕ) (o : Open) → RowsStand r t → (table_of r.exchanges x).running ≡ Some o → Hears r t x o
+pub hears_of : {B : Type 0} (r : Rows B) (t : Tables) (x : ℕ) (o : Open) → Standing r t → (table_of r.exchanges x).running ≡ Some o → Hears r t x o
 hears_of r t x o stands running =
     let (w, row, is) = running_row o (t.exchange x) (subst (λ z. KeepsRunning z (t.exchange x)) running (stands.exchanges x).running) in
     let read : IsRead t x w = stands.past.readers x w row is.is_open in

@@ -37,6 +37,7 @@ use Rattle.hc_core.proofs.PastCloses.{before_closing, cancel_of, closing_none, c
 use Rattle.hc_core.proofs.Direct.{reads_no_more}
 use Rattle.hc_core.proofs.PollRows.{AsksOnly, ends, fails, poll_only, closes_itself, gone_row, IsGone}
 use Rattle.hc_core.proofs.DirectPolls.{IsReading}
+use Rattle.hc_core.proofs.Standing.{Standing}
 
 -- WHAT IS CLOSED
 
@@ -53,14 +54,14 @@ left_as t c x y v w true row at own there on = rw (row, at, own, there, on) (or_
 left_as t c x y v w false row at own there on = rw (row, at, own, there, on) refl
 
 -- for an entry whose leaver is c, and whose head isn't refused
-module _ {B : Type 0} (r : Rows B) (t : Tables) (b : Entry) (c x : ℕ) (k : Consumer) (stands : RowsStand r t) (reading : IsReading r t c x k) (leaves : leaver b ≡ Some c) (lossless : (q : ℕ) → loses_in q b.acts ≡ false)
+module _ {B : Type 0} (r : Rows B) (t : Tables) (b : Entry) (c x : ℕ) (k : Consumer) (stands : Standing r t) (reading : IsReading r t c x k) (leaves : leaver b ≡ Some c) (lossless : (q : ℕ) → loses_in q b.acts ≡ false)
     (unheard : (w : Exchange) → exchange_heard t b x b.event w ≡ w) (unrefused : (y : ℕ) → (is_refused (case_at t b) && brings_head y b.event) ≡ false) where
   left_is : (y : ℕ) (on : Bool) → reading.reads.w.is_open ≡ on → is_left t y (leaver b) ≡ (on && nat_eq x y)
   left_is y on is = ap (is_left t y) leaves ∙ left_as t c x y reading.v reading.reads.w on reading.row reading.at reading.reads.own reading.reads.row is
 
   closes_if : (on : Bool) → reading.reads.w.is_open ≡ on → closing t b ≡ cond on (x ∷ []) []
   closes_if true is =
-      closing_one r.received t b stands.past lossless x reading.reads.w false true stands.numbers reading.reads.row (unrefused x) (left_is x true is ∙ eqb-same x) refl
+      closing_one r.received t b stands.past lossless x reading.reads.w false true stands.order stands.lists reading.reads.row (unrefused x) (left_is x true is ∙ eqb-same x) refl
       (ap (λ (z : Exchange). z.is_open) (unheard reading.reads.w) ∙ is)
       (λ y ne. unrefused y) (λ y ne. left_is y true is ∙ eqb-other x y (λ eq. ne (sym eq)))
   closes_if false is = closing_none r.received t b stands.past lossless unrefused (λ y. left_is y false is)
@@ -86,7 +87,7 @@ pub record IsOver (o : Option Exchange) (w : Exchange) : Type 0 where
   pub same_c : z.c ≡ w.c
   pub over : z.is_open ≡ false
 
-module _ {B : Type 0} (r u : Rows B) (t : Tables) (e : Entry) (c x : ℕ) (k : Consumer) (stands : RowsStand r t) (reading : IsReading r t c x k) (entry : IsPastEntry t e c) (only : IsOnly e x) (unopened : opening_in e.acts ≡ None)
+module _ {B : Type 0} (r u : Rows B) (t : Tables) (e : Entry) (c x : ℕ) (k : Consumer) (stands : Standing r t) (reading : IsReading r t c x k) (entry : IsPastEntry t e c) (only : IsOnly e x) (unopened : opening_in e.acts ≡ None)
     (lasts : last_start_after e.event t.last_start ≡ t.last_start) (starts : starts_after e.event t.starts ≡ t.starts) (makes : (d : ℕ) → consumer_made d e.now e.event ≡ None)
     (gone : IsGone ((after_accepted t e).consumer c)) (over : IsOver ((after_accepted t e).exchange x) reading.reads.w) (leaves : Leaves r u c x) where
   pub stands_left : RowsStand u (after_accepted t e)
@@ -97,16 +98,14 @@ module _ {B : Type 0} (r u : Rows B) (t : Tables) (e : Entry) (c x : ℕ) (k : C
       let lives : is_live_place gone.v.place ≡ false = rw gone.place_is refl in
       reads_no_more r u t e c x reading.v stands entry only unopened lasts starts makes reading.row reading.reads reading.at (rw leaves.received (omega arith)) leaves.last_start leaves.next
       (λ y ne. (let off : eqb x y ≡ false = eqb-other x y (λ eq. ne (sym eq)) in leaves.known y ∙ rw off refl))
-      (λ w row was. (over.z, over.row, over.over))
       (record {
         running = rw here closed_row;
         held = rw (here, over.row) (sym (none_held s x c over.z gone.v gone.row (over.same_c ∙ reading.reads.for_it) gone.place_is));
       })
       None gone.v leaves.consumers gone.row
       (λ y at. (let never : place.Over ≡ place.Direct y = sym gone.place_is ∙ at in cc))
-      gone.undue (sym lives) lives
+      (sym lives) lives
       (λ live. false_true (sym lives ∙ live))
-      (λ w row opened. false_true (sym over.over ∙ (ap (λ (z : Exchange). z.is_open) (same_row (s.exchange x) over.z w over.row row) ∙ opened)))
 
 -- THE EXCHANGE OF WHO LEAVES
 
@@ -160,7 +159,7 @@ others_unclosed : (x y : ℕ) (on : Bool) → y ≢ x → closes_in y (map act.C
 others_unclosed x y true ne = closes_itself x y ne
 others_unclosed x y false ne = refl
 
-module _ {B : Type 0} (r u : Rows B) (t : Tables) (now c want x : ℕ) (k : Consumer) (m : Move) (stands : RowsStand r t) (reading : IsReading r t c x k) (last : IsLast m) (leaves : Leaves r u c x) where
+module _ {B : Type 0} (r u : Rows B) (t : Tables) (now c want x : ℕ) (k : Consumer) (m : Move) (stands : Standing r t) (reading : IsReading r t c x k) (last : IsLast m) (leaves : Leaves r u c x) where
   pub poll_closes : closing t (before_closing now c want m) ≡ closes_open x (table_of r.exchanges x)
   unfolding case_of
   poll_closes = closes_as r t (before_closing now c want m) c x k stands reading (last_leaver c m last) (λ q. poll_lossless c q m) (λ w. refl) (λ y. refl)
@@ -182,7 +181,7 @@ module _ {B : Type 0} (r u : Rows B) (t : Tables) (now c want x : ℕ) (k : Cons
       (over_after t e x reading.reads.w on reading.reads.row on_is refl (last_closes x c m ys last ∙ closes_list x on)) leaves
 
 -- A CANCEL
-module _ {B : Type 0} (r u : Rows B) (t : Tables) (now c x : ℕ) (k : Consumer) (stands : RowsStand r t) (reading : IsReading r t c x k) (leaves : Leaves r u c x) where
+module _ {B : Type 0} (r u : Rows B) (t : Tables) (now c x : ℕ) (k : Consumer) (stands : Standing r t) (reading : IsReading r t c x k) (leaves : Leaves r u c x) where
   closes_lossless : (q : ℕ) (ys : List ℕ) → loses_in q (map act.Close ys) ≡ false
   closes_lossless q [] = refl
   closes_lossless q (y ∷ ys) = closes_lossless q ys

@@ -1,6 +1,8 @@
 pub mod Words
 pub mod Frames
 pub mod LiveCounts
+pub mod Lengths
+pub mod Standing
 pub mod Moved
 pub mod PastEntries
 pub mod PastCloses
@@ -14,7 +16,6 @@ pub mod Hearing
 pub mod PieceArm
 pub mod StopArms
 pub mod EndArms
-pub mod Lengths
 pub mod DownArms
 pub mod HeadArms
 pub mod AnswerArms

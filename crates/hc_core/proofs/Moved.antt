@@ -1,22 +1,24 @@
 -- What is kept stands for the tables after an entry that changes what is said of one consumer and one exchange.
-use Rattle.std.proofs.Common.{◌≡◌, ◌≢◌, inl, inr, ℕ, ◌+◌, ◌≤◌, [], true, false, Option, Some, None, refl, ap, sym, ◌∙◌, subst, arith}
+use Rattle.std.proofs.Common.{◌≡◌, ◌≢◌, inl, inr, ℕ, ◌+◌, ◌≤◌, [], length, true, false, Option, Some, None, refl, ap, sym, ◌∙◌, subst, arith}
 use Rattle.std.specs.Prelude.{is_some, nat_eq}
 use Rattle.std.specs.HashMap.{get, hash_map_len}
 use Rattle.hc_model.specs.declared.place.Place.{Place}
 use Rattle.hc_model.specs.declared.place.Place.TheVariants as place
 use Rattle.hc_model.specs.ConsumerRows.{back_in_line}
 use Rattle.hc_model.specs.Denials.{is_live, is_live_place, live}
-use Rattle.hc_model.specs.Reading.{reads}
+use Rattle.hc_model.specs.Exchanges.{promised}
+use Rattle.hc_event.specs.declared.act.Cause.{Cause}
 use Rattle.hc_model.specs.Rows as rows
 use Rattle.hc_model.specs.Rows.{Tables, Exchange}
 use Rattle.hc_exch.specs.Exchanges.{table_of, next_of}
 use Rattle.hc_core.specs.declared.consumer.Consumer.{Consumer}
 use Rattle.hc_core.specs.declared.rows.Rows.{Rows}
 use Rattle.hc_core.specs.Changes.{BecomesAt}
-use Rattle.hc_core.specs.Past.{AreNumbered, StandsPast, ReadsPast, IsRead, IsWithin, line, direct, down}
+use Rattle.hc_core.specs.Past.{InOrder, IsWithin, BringsPast, GoesPast, in_line, reads_own, is_down}
 use Rattle.hc_core.specs.Kept.{IsKept, KeepsConsumer, KeepsExchange, held_for, unread, is_direct}
 use Rattle.hc_core.specs.Stands.{RowsStand}
 use Rattle.hc_core.proofs.Words.{same_or, eqb-same, eqb-other, false_true, same_row}
+use Rattle.hc_core.proofs.Standing.{Standing, StandsPast, line, direct, down}
 
 -- a row stays, or a consumer in line starts over
 pub data IsSameOrBack (now : ℕ) (o p : Option rows.Consumer) : Type 0 where
@@ -27,8 +29,8 @@ pub within_more : (n m : ℕ) (p : Option ℕ) (count : ℕ) → n ≤ m → IsW
 within_more n m None count le h = omega (arith, h)
 within_more n m (Some p) count le h = h
 
-line_direct : (x : ℕ) → place.Line ≡ place.Direct x → ⊥
-line_direct x e = cc
+pub brings_more : (n m : ℕ) (w : Exchange) (due : Option Cause) → n ≤ m → BringsPast n w due → BringsPast m w due
+brings_more n m w due le b = record { past = b.past; within = within_more n m (promised w) (length w.body) le b.within; told = b.told; finished = b.finished }
 
 down_line : (cause : _) → place.Down cause ≡ place.Line → ⊥
 down_line cause e = cc
@@ -56,30 +58,9 @@ kept_row t k (Some v) kept = (v, refl, kept)
 pub lives_then : (row : Option rows.Consumer) (v : rows.Consumer) → row ≡ Some v → is_live_place v.place ≡ true → is_live row ≡ true
 lives_then row v is there = rw is there
 
--- what is read past the store
-module _ (t s : Tables) (n m d : ℕ) (k : rows.Consumer) (le : n ≤ m) (unfounded : (q : ℕ) → t.representation q ≡ None → s.representation q ≡ None) where
-  pub reads_stay : (x : ℕ) → ReadsPast n t d x k → s.exchange x ≡ t.exchange x → ReadsPast m s d x k
-  reads_stay x r alike = record {
-    w = r.w;
-    row = alike ∙ r.row;
-    for_it = r.for_it;
-    own = r.own;
-    past = r.past;
-    joined = r.joined;
-    unfounded = unfounded x r.unfounded;
-    begins = r.begins;
-    within = within_more n m _ _ le r.within;
-    given = r.given;
-    awaited = r.awaited;
-    unheard = r.unheard;
-    told = r.told;
-    unended = r.unended;
-    finished = r.finished;
-  }
-
 module _ {B : Type 0} (r u : Rows B) (t s : Tables) (now c x : ℕ) (o : Option Consumer)
-    (stands : RowsStand r t)
-    (numbers : AreNumbered s)
+    (stands : Standing r t)
+    (order : InOrder s)
     (received : r.received ≤ u.received)
     (last : u.last_start ≡ s.last_start)
     (next : next_of u.exchanges ≡ s.opened + 1)
@@ -87,14 +68,10 @@ module _ {B : Type 0} (r u : Rows B) (t s : Tables) (now c x : ℕ) (o : Option 
     (count : hash_map_len u.consumers ≡ live s)
     (others : (d : ℕ) → d ≢ c → IsSameOrBack now (t.consumer d) (s.consumer d))
     (exchanges : (y : ℕ) → y ≢ x → s.exchange y ≡ t.exchange y)
-    (closed : (w : Exchange) → t.exchange x ≡ Some w → w.is_open ≡ false → (v : Exchange) × (s.exchange x ≡ Some v) × (v.is_open ≡ false))
-    (unfounded : (q : ℕ) → t.representation q ≡ None → s.representation q ≡ None)
     (tables : (y : ℕ) → y ≢ x → table_of u.exchanges y ≡ table_of r.exchanges y)
     (kept : KeepsConsumer s o (s.consumer c))
-    (standing : (k : rows.Consumer) → s.consumer c ≡ Some k → is_live_place k.place ≡ true → StandsPast u.received s c k)
-    (idle : (k : rows.Consumer) → s.consumer c ≡ Some k → reads k.place ≡ false → k.due ≡ None)
+    (standing : (k : rows.Consumer) → s.consumer c ≡ Some k → is_live_place k.place ≡ true → GoesPast u.received s k)
     (known : KeepsExchange s x (table_of u.exchanges x))
-    (reader : (w : Exchange) → s.exchange x ≡ Some w → w.is_open ≡ true → IsRead s x w)
     (alone : (d : ℕ) (k : rows.Consumer) → d ≢ c → t.consumer d ≡ Some k → k.place ≡ place.Direct x → ⊥)
     (was : (y : ℕ) (k : rows.Consumer) → y ≢ x → t.consumer c ≡ Some k → k.place ≡ place.Direct y → ⊥)
     (is : (y : ℕ) (k : rows.Consumer) → y ≢ x → s.consumer c ≡ Some k → k.place ≡ place.Direct y → ⊥) where
@@ -107,30 +84,21 @@ module _ {B : Type 0} (r u : Rows B) (t s : Tables) (now c x : ℕ) (o : Option 
 
   -- CONSUMERS
 
-  stays_past : (d : ℕ) (k : rows.Consumer) → d ≢ c → t.consumer d ≡ Some k → StandsPast r.received t d k → StandsPast u.received s d k
-  stays_past d k ne row (line at own shown given due disabled plain) = line at own shown given due disabled plain
-  stays_past d k ne row (direct y at reads) = direct y at (reads_stay t s r.received u.received d k received unfounded y reads (other_exchange d y k ne row at))
-  stays_past d k ne row (down cause y w at own there over shown given due told) = elim (same_or y x) [
-    | inr off ↦ down cause y w at own (exchanges y off ∙ there) over shown given due told
-    | inl eq ↦
-        let (v, is_row, is_over) = closed w (subst (λ (z : ℕ). t.exchange z ≡ Some w) eq there) over in
-        down cause y v at own (subst (λ (z : ℕ). s.exchange z ≡ Some v) (sym eq) is_row) is_over shown given due told
-  ]
+  stays_past : (d : ℕ) (k : rows.Consumer) → d ≢ c → t.consumer d ≡ Some k → GoesPast r.received t k → GoesPast u.received s k
+  stays_past d k ne row (in_line at own disabled plain) = in_line at own disabled plain
+  stays_past d k ne row (reads_own y at brings) = reads_own y at (λ w is_row. brings_more r.received u.received w k.due received (brings w (sym (other_exchange d y k ne row at) ∙ is_row)))
+  stays_past d k ne row (is_down why at told) = is_down why at told
 
-  back_past : (d : ℕ) (k : rows.Consumer) → k.place ≡ place.Line → StandsPast r.received t d k → StandsPast u.received s d (back_in_line now k)
-  back_past d k is_line (line at own shown given due disabled plain) = line refl refl shown given refl disabled plain
-  back_past d k is_line (direct y at reads) = absurd (direct_line y (sym at ∙ is_line))
-  back_past d k is_line (down cause y w at own there over shown given due told) = absurd (down_line cause (sym at ∙ is_line))
+  back_past : (k : rows.Consumer) → k.place ≡ place.Line → GoesPast r.received t k → GoesPast u.received s (back_in_line now k)
+  back_past k is_line (in_line at own disabled plain) = in_line refl refl disabled plain
+  back_past k is_line (reads_own y at brings) = absurd (direct_line y (sym at ∙ is_line))
+  back_past k is_line (is_down why at told) = absurd (down_line why (sym at ∙ is_line))
 
-  other_standing : (d : ℕ) → d ≢ c → IsSameOrBack now (t.consumer d) (s.consumer d) → (k : rows.Consumer) → s.consumer d ≡ Some k → is_live_place k.place ≡ true → StandsPast u.received s d k
-  other_standing d ne (same is_same) k row lives = stays_past d k ne (sym is_same ∙ row) (stands.past.places d k (sym is_same ∙ row) lives)
-  other_standing d ne (back j was_row in_line is_row) k row lives =
-      subst (StandsPast u.received s d) (same_row (s.consumer d) _ _ is_row row)
-      (back_past d j in_line (stands.past.places d j was_row (ap is_live_place in_line)))
-
-  other_idle : (d : ℕ) → IsSameOrBack now (t.consumer d) (s.consumer d) → (k : rows.Consumer) → s.consumer d ≡ Some k → reads k.place ≡ false → k.due ≡ None
-  other_idle d (same is_same) k row off = stands.past.idle_due d k (sym is_same ∙ row) off
-  other_idle d (back j was_row in_line is_row) k row off = ap (λ (z : rows.Consumer). z.due) (sym (same_row (s.consumer d) _ _ is_row row))
+  other_built : (d : ℕ) → d ≢ c → IsSameOrBack now (t.consumer d) (s.consumer d) → (k : rows.Consumer) → s.consumer d ≡ Some k → is_live_place k.place ≡ true → GoesPast u.received s k
+  other_built d ne (same is_same) k row lives = stays_past d k ne (sym is_same ∙ row) (stands.built d k (sym is_same ∙ row) lives)
+  other_built d ne (back j was_row waited is_row) k row lives =
+      subst (GoesPast u.received s) (same_row (s.consumer d) _ _ is_row row)
+      (back_past j waited (stands.built d j was_row (ap is_live_place waited)))
 
   -- what is kept of the others
   same_kept : (d : ℕ) (k : Consumer) (v : rows.Consumer) → d ≢ c → t.consumer d ≡ Some v → StandsPast r.received t d v → IsKept t k v → IsKept s k v
@@ -162,7 +130,7 @@ module _ {B : Type 0} (r u : Rows B) (t s : Tables) (now c x : ℕ) (o : Option 
         given = kp.given;
         due = kp.due;
       }
-  same_kept d k v ne row (down cause y w at own there over shown given due told) kp = record {
+  same_kept d k v ne row (down cause at unowned shown told) kp = record {
     is_there = kp.is_there;
     request = kp.request;
     since = kp.since;
@@ -191,20 +159,20 @@ module _ {B : Type 0} (r u : Rows B) (t s : Tables) (now c x : ℕ) (o : Option 
     due = kp.due ∙ due;
   }
   back_kept d k v is_line (direct y at reads) kp = absurd (direct_line y (sym at ∙ is_line))
-  back_kept d k v is_line (down cause y w at own there over shown given due told) kp = absurd (down_line cause (sym at ∙ is_line))
+  back_kept d k v is_line (down cause at unowned shown told) kp = absurd (down_line cause (sym at ∙ is_line))
 
   other_kept : (d : ℕ) (k : Option Consumer) → d ≢ c → IsSameOrBack now (t.consumer d) (s.consumer d) → KeepsConsumer t k (t.consumer d) → KeepsConsumer s k (s.consumer d)
   other_kept d None ne (same is_same) kp = rw is_same kp
-  other_kept d None ne (back j was_row in_line is_row) kp =
-      let lives : is_live (t.consumer d) ≡ true = rw was_row (ap is_live_place in_line) in
+  other_kept d None ne (back j was_row waited is_row) kp =
+      let lives : is_live (t.consumer d) ≡ true = rw was_row (ap is_live_place waited) in
       false_true (sym kp ∙ lives)
   other_kept d (Some k) ne (same is_same) kp =
       let (v, row, kept_as) = kept_row t k (t.consumer d) kp in
       rw (is_same, row) (same_kept d k v ne row (stands.past.places d v row kept_as.is_there) kept_as)
-  other_kept d (Some k) ne (back j was_row in_line is_row) kp =
+  other_kept d (Some k) ne (back j was_row waited is_row) kp =
       let (v, row, kept_as) = kept_row t k (t.consumer d) kp in
       let one : v ≡ j = same_row (t.consumer d) v j row was_row in
-      let at : v.place ≡ place.Line = ap (λ (z : rows.Consumer). z.place) one ∙ in_line in
+      let at : v.place ≡ place.Line = ap (λ (z : rows.Consumer). z.place) one ∙ waited in
       rw (is_row, ← one) (back_kept d k v at (stands.past.places d v row kept_as.is_there) kept_as)
 
   all_kept : (d : ℕ) → KeepsConsumer s (get nat_eq u.consumers d) (s.consumer d)
@@ -232,7 +200,7 @@ module _ {B : Type 0} (r u : Rows B) (t s : Tables) (now c x : ℕ) (o : Option 
 
   back_unread : (d y : ℕ) (w : Exchange) → IsSameOrBack now (t.consumer d) (s.consumer d) → unread y w (s.consumer d) ≡ unread y w (t.consumer d)
   back_unread d y w (same is_same) = ap (unread y w) is_same
-  back_unread d y w (back j was_row in_line is_row) = rw (is_row, was_row, in_line) refl
+  back_unread d y w (back j was_row waited is_row) = rw (is_row, was_row, waited) refl
 
   held_row : (y : ℕ) (w : Exchange) → y ≢ x → unread y w (s.consumer w.c) ≡ unread y w (t.consumer w.c)
   held_row y w off = elim (same_or w.c c) [
@@ -258,41 +226,16 @@ module _ {B : Type 0} (r u : Rows B) (t s : Tables) (now c x : ℕ) (o : Option 
         }
   ]
 
-  -- who reads what is open
-  back_read : (y : ℕ) (w : Exchange) → IsSameOrBack now (t.consumer w.c) (s.consumer w.c) → IsRead t y w → IsRead s y w
-  back_read y w (same is_same) r = record { k = r.k; row = is_same ∙ r.row; place_is = r.place_is }
-  back_read y w (back j was_row in_line is_row) r =
-      let at = ap (λ (z : rows.Consumer). z.place) (same_row (t.consumer w.c) j r.k was_row r.row) in
-      absurd (line_direct y (sym in_line ∙ (at ∙ r.place_is)))
-
-  all_read : (y : ℕ) (w : Exchange) → s.exchange y ≡ Some w → w.is_open ≡ true → IsRead s y w
-  all_read y w row opened = elim (same_or y x) [
-    | inl here ↦
-        subst (λ (z : ℕ). IsRead s z w) (sym here) (reader w (subst (λ (z : ℕ). s.exchange z ≡ Some w) here row) opened)
-    | inr off ↦
-        let before = stands.past.readers y w (sym (exchanges y off) ∙ row) opened in
-        elim (same_or w.c c) [
-          | inl mine ↦ absurd (was y before.k off (subst (λ (z : ℕ). t.consumer z ≡ Some before.k) mine before.row) before.place_is)
-          | inr ne ↦ back_read y w (others w.c ne) before
-        ]
-  ]
-
-  all_standing : (d : ℕ) (k : rows.Consumer) → s.consumer d ≡ Some k → is_live_place k.place ≡ true → StandsPast u.received s d k
-  all_standing d k row lives = elim (same_or d c) [
-    | inl here ↦ subst (λ (z : ℕ). StandsPast u.received s z k) (sym here) (standing k (subst (λ (z : ℕ). s.consumer z ≡ Some k) here row) lives)
-    | inr ne ↦ other_standing d ne (others d ne) k row lives
-  ]
-
-  all_idle : (d : ℕ) (k : rows.Consumer) → s.consumer d ≡ Some k → reads k.place ≡ false → k.due ≡ None
-  all_idle d k row off = elim (same_or d c) [
-    | inl here ↦ idle k (subst (λ (z : ℕ). s.consumer z ≡ Some k) here row) off
-    | inr ne ↦ other_idle d (others d ne) k row off
+  all_built : (d : ℕ) (k : rows.Consumer) → s.consumer d ≡ Some k → is_live_place k.place ≡ true → GoesPast u.received s k
+  all_built d k row lives = elim (same_or d c) [
+    | inl here ↦ standing k (subst (λ (z : ℕ). s.consumer z ≡ Some k) here row) lives
+    | inr ne ↦ other_built d ne (others d ne) k row lives
   ]
 
   pub stands_moved : RowsStand u s
   stands_moved = record {
-    numbers = numbers;
-    past = record { places = all_standing; readers = all_read; idle_due = all_idle };
+    order = order;
+    built = all_built;
     last_start = last;
     next = next;
     count = count;

@@ -19,14 +19,13 @@ use Rattle.hc_model.specs.Weights.{room_for}
 use Rattle.hc_core.specs.declared.consumer.Consumer.{Consumer}
 use Rattle.hc_core.specs.declared.rows.Rows.{Rows}
 use Rattle.hc_core.specs.Changes.{BecomesAt}
-use Rattle.hc_core.specs.Past.{StandsPast, line, direct, down}
 use Rattle.hc_core.specs.Kept.{KeepsConsumer, held_for}
-use Rattle.hc_core.specs.Stands.{RowsStand, Answered}
+use Rattle.hc_core.specs.Stands.{Answered}
 use Rattle.hc_core.proofs.Words.{same_or, eqb-same, eqb-other, none_some, false_true}
 use Rattle.hc_core.proofs.Frames.{consumer_absent}
 use Rattle.hc_core.proofs.Moved.{IsSameOrBack, stands_moved, kept_row, kept_none}
 use Rattle.hc_core.proofs.PastEntries.{IsPastEntry, IsOnly, others, other_exchanges, unfounded}
-use Rattle.hc_core.proofs.Listed.{numbers_stay}
+use Rattle.hc_core.proofs.Listed.{order_stays}
 use Rattle.hc_model.specs.ConsumerRows.{consumer_heard, consumer_acted, consumer_settled}
 use Rattle.hc_model.specs.Dooms.{doomed}
 use Rattle.hc_model.specs.Reading.{own_open}
@@ -38,7 +37,8 @@ use Rattle.hc_core.proofs.PollRows.{IsGone}
 use Rattle.hc_core.proofs.Apart.{next_free, nobody_reads, stands_apart}
 use Rattle.hc_core.proofs.LiveCounts.{counted, counted_same, not_among}
 use Rattle.hc_core.proofs.Direct.{same_lives}
-use Rattle.hc_core.proofs.ApartArms.{unleft, not_over_direct, closed_own}
+use Rattle.hc_core.proofs.ApartArms.{unleft, not_over_direct}
+use Rattle.hc_core.proofs.Standing.{Standing, StandsPast, direct, down, line}
 
 -- A CANCEL
 
@@ -61,16 +61,16 @@ idle_by r t c v row off (line at own shown given due disabled plain) = record {
   unowned = rw own refl;
 }
 idle_by r t c v row off (direct x at reads) = absurd (off x at)
-idle_by r t c v row off (down why x w at own there over shown given due told) = record {
+idle_by r t c v row off (down why at unowned shown told) = record {
   v = v;
   row = row;
   off = off;
   free = λ q lo hi by is. (let never : place.Down why ≡ place.Bound q lo hi by = sym at ∙ is in cc);
   unpassed = λ q kept is. (let never : place.Down why ≡ place.Passed q kept = sym at ∙ is in cc);
-  unowned = closed_own t v x w own there over;
+  unowned = unowned;
 }
 
-pub idle_of : {B : Type 0} (r : Rows B) (t : Tables) (c : ℕ) (k : Consumer) → RowsStand r t → get nat_eq r.consumers c ≡ Some k → ((x : ℕ) → k.place ≡ place.Direct x → ⊥) → IsIdle r t c
+pub idle_of : {B : Type 0} (r : Rows B) (t : Tables) (c : ℕ) (k : Consumer) → Standing r t → get nat_eq r.consumers c ≡ Some k → ((x : ℕ) → k.place ≡ place.Direct x → ⊥) → IsIdle r t c
 idle_of r t c k stands there off =
     let (v, row, kept) = kept_row t k (t.consumer c) (rw there at (stands.consumers c)) in
     idle_by r t c v row (λ x is. off x (kept.place ∙ is)) (stands.past.places c v row kept.is_there)
@@ -113,7 +113,7 @@ cancelled t now c v goes_on =
       undue = refl;
     }
 
-pub idle_cancelled : {B : Type 0} (r u : Rows B) (t : Tables) (now c : ℕ) (before : List Act) (limits : Limits) → RowsStand r t → (idle : IsIdle r t c) → u.received ≡ r.received → u.last_start ≡ r.last_start → u.exchanges ≡ r.exchanges → BecomesAt r.consumers u.consumers c None → Answered limits u t before before now (event.Cancel c)
+pub idle_cancelled : {B : Type 0} (r u : Rows B) (t : Tables) (now c : ℕ) (before : List Act) (limits : Limits) → Standing r t → (idle : IsIdle r t c) → u.received ≡ r.received → u.last_start ≡ r.last_start → u.exchanges ≡ r.exchanges → BecomesAt r.consumers u.consumers c None → Answered limits u t before before now (event.Cancel c)
 unfolding case_of
 idle_cancelled r u t now c before limits stands idle received last exchanges becomes =
     let e = cancel_of now c [] in
@@ -124,16 +124,16 @@ idle_cancelled r u t now c before limits stands idle received last exchanges bec
     (sym (append-nil before))
     (stands_apart r u t e c idle.v gone.v None stands (cancel_past t now c) (λ x free. cancel_nothing now c x) refl refl refl (λ d. refl)
     idle.row idle.off gone.row (λ y is. not_over_direct y gone.v.place gone.place_is is)
-    received last exchanges becomes gone.undue (sym lives) lives (λ live. false_true (sym lives ∙ live)))
+    received last exchanges becomes (sym lives) lives (λ live. false_true (sym lives ∙ live)))
 
 -- A DOOM
 
 -- where whoever changes is none of those that started, as many are live as before
-still_count : {B : Type 0} (r : Rows B) (t s : Tables) (now c : ℕ) → RowsStand r t → s.starts ≡ t.starts → t.last_start < c → ((d : ℕ) → d ≢ c → IsSameOrBack now (t.consumer d) (s.consumer d)) → hash_map_len r.consumers ≡ live s
+still_count : {B : Type 0} (r : Rows B) (t s : Tables) (now c : ℕ) → Standing r t → s.starts ≡ t.starts → t.last_start < c → ((d : ℕ) → d ≢ c → IsSameOrBack now (t.consumer d) (s.consumer d)) → hash_map_len r.consumers ≡ live s
 still_count r t s now c stands starts lt others =
     let f : ℕ → Bool = λ d. is_live (t.consumer d) in
     let g : ℕ → Bool = λ d. is_live (s.consumer d) in
-    let alike : counted g t.starts ≡ counted f t.starts = counted_same f g c t.starts (λ h. not_among (t.last_start + 1) c t.starts stands.numbers.starts (omega (arith, lt)) h) (λ d ne. same_lives now _ _ (others d ne)) in
+    let alike : counted g t.starts ≡ counted f t.starts = counted_same f g c t.starts (λ h. not_among (t.last_start + 1) c t.starts stands.order.starts (omega (arith, lt)) h) (λ d ne. same_lives now _ _ (others d ne)) in
     stands.count ∙ (sym alike ∙ ap (counted g) (sym starts))
 
 doom_past : (t : Tables) (now c : ℕ) (key : List ℕ) → IsPastEntry t (told_of now (event.Doom key) []) c
@@ -151,14 +151,14 @@ doom_past t now c key = record {
 doom_nothing : (now x : ℕ) (key : List ℕ) → IsOnly (told_of now (event.Doom key) []) x
 doom_nothing now x key = record { hears = λ y is. none_some y is; asks = λ y ne. refl; closes = λ y ne. refl; opens = λ o is. none_some o is }
 
-pub doom_answered : {B : Type 0} (r : Rows B) (t : Tables) (now : ℕ) (key : List ℕ) (before : List Act) (limits : Limits) → RowsStand r t → Answered limits r t before before now (event.Doom key)
+pub doom_answered : {B : Type 0} (r : Rows B) (t : Tables) (now : ℕ) (key : List ℕ) (before : List Act) (limits : Limits) → Standing r t → Answered limits r t before before now (event.Doom key)
 unfolding case_of room_for
 doom_answered r t now key before limits stands =
     let e = told_of now (event.Doom key) [] in
     let s : Tables = after_accepted t e in
     let c : ℕ = t.last_start + 1 in
     let x : ℕ = t.opened + 1 in
-    let none : t.consumer c ≡ None = stands.numbers.new_consumers c (omega arith) in
+    let none : t.consumer c ≡ None = stands.lists.new_consumers c (omega arith) in
     let none_after : s.consumer c ≡ None = ap (consumer_after t e c) none ∙ consumer_absent t e c refl in
     let free : t.exchange x ≡ None = next_free r t stands in
     let every : (y : ℕ) → s.exchange y ≡ t.exchange y = λ y. other_exchanges t e (y + 1) (doom_nothing now (y + 1) key) y (omega arith) in
@@ -168,13 +168,12 @@ doom_answered r t now key before limits stands =
     told_answered limits r t now (event.Doom key) [] before before refl refl refl
     (closing_none r.received t e stands.past (λ q. refl) (λ y. refl) (λ y. refl))
     (sym (append-nil before))
-    (stands_moved r r t s now c x None stands (numbers_stay t e stands.numbers refl refl refl (λ d. refl) refl) (omega arith) stands.last_start stands.next
+    (stands_moved r r t s now c x None stands (order_stays t e stands.order refl refl refl) (omega arith) stands.last_start stands.next
     (record { places = λ d. stays_none (get nat_eq r.consumers) c absent d; len = rw absent refl })
     (still_count r t s now c stands refl (omega arith) all_others)
-    all_others (λ y ne. every y) (λ w there over. none_some w (sym free ∙ there)) (λ q row. unfounded t e refl q row) (λ y ne. refl)
-    (rw none_after refl) (λ z row live. none_some z (sym none_after ∙ row)) (λ z row off. none_some z (sym none_after ∙ row))
+    all_others (λ y ne. every y) (λ y ne. refl)
+    (rw none_after refl) (λ z row live. none_some z (sym none_after ∙ row))
     (record { running = rw (every x) known_x.running; held = rw (every x, free) (known_x.held ∙ ap (held_for t x) free) })
-    (λ w there opened. none_some w (sym (every x ∙ free) ∙ there))
     (λ d j ne row at. nobody_reads r t x d j stands free row at)
     (λ y j ne row at. none_some j (sym none ∙ row)) (λ y j ne row at. none_some j (sym none_after ∙ row)))
   where

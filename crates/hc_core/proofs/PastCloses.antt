@@ -22,16 +22,18 @@ use Rattle.hc_model.specs.Polls.{polled}
 use Rattle.hc_model.specs.Rows.{Tables, Exchange, Representation}
 use Rattle.hc_model.specs.Runs.{has_room}
 use Rattle.hc_model.specs.Tables.{after_accepted}
+use Rattle.hc_model.specs.Sound.{IsListed}
 use Rattle.hc_model.specs.Weights.{room_for, evicted}
 use Rattle.hc_model.specs.Writers.{loses_writing, survivor, brings_body}
 use Rattle.hc_model.specs.Currents.{is_number}
 use Rattle.hc_model.specs.Reading.{is_written}
 use Rattle.hc_core.specs.declared.rows.Rows.{Rows}
-use Rattle.hc_core.specs.Past.{AreNumbered, AllPast}
+use Rattle.hc_core.specs.Past.{InOrder}
 use Rattle.hc_core.specs.Stands.{RowsStand, Answered}
 use Rattle.hc_core.proofs.Words.{false_true, and_false, then_false}
 use Rattle.hc_core.proofs.LiveCounts.{filter_nothing, only_in_order}
 use Rattle.hc_core.proofs.PastEntries.{poll_of}
+use Rattle.hc_core.proofs.Standing.{AllPast}
 
 module _ (n : ℕ) (t : Tables) (b : Entry) (past : AllPast n t) (lossless : (r : ℕ) → loses_in r b.acts ≡ false) where
   -- nobody waits for the head of an exchange to found or to join
@@ -68,13 +70,13 @@ module _ (n : ℕ) (t : Tables) (b : Entry) (past : AllPast n t) (lossless : (r 
   unfolding closing
   closing_none refused left = filter_nothing (λ x. closes_row t b x (t.exchange x)) _ (λ x. row_open x (t.exchange x) false false refl (refused x) (left x) refl)
 
-  pub closing_one : (x : ℕ) (w : Exchange) (p q : Bool) → AreNumbered t → t.exchange x ≡ Some w → (is_refused (case_at t b) && brings_head x b.event) ≡ p → is_left t x (leaver b) ≡ q → (p || q) ≡ true
+  pub closing_one : (x : ℕ) (w : Exchange) (p q : Bool) → InOrder t → IsListed t → t.exchange x ≡ Some w → (is_refused (case_at t b) && brings_head x b.event) ≡ p → is_left t x (leaver b) ≡ q → (p || q) ≡ true
       → (exchange_heard t b x b.event w).is_open ≡ true
       → ((y : ℕ) → y ≢ x → (is_refused (case_at t b) && brings_head y b.event) ≡ false) → ((y : ℕ) → y ≢ x → is_left t y (leaver b) ≡ false)
       → closing t b ≡ x ∷ []
   unfolding closing
-  closing_one x w p q numbers row refused left must on others elses =
-      only_in_order (λ y. closes_row t b y (t.exchange y)) x (t.opened + 1) t.openings numbers.openings (numbers.opened x (rw row refl))
+  closing_one x w p q order lists row refused left must on others elses =
+      only_in_order (λ y. closes_row t b y (t.exchange y)) x (t.opened + 1) t.openings order.openings (lists.opened x (rw row refl))
       (ap (closes_row t b x) row ∙ rw (must_is x w p q row refused left, must, on) refl)
       (λ y ne. row_open y (t.exchange y) false false refl (others y ne) (elses y ne) refl)
 

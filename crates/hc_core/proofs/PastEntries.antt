@@ -29,10 +29,10 @@ use Rattle.hc_model.specs.StartingOver.{starts_over, sends_back, waits_at}
 use Rattle.hc_model.specs.Tables.{after_accepted}
 use Rattle.hc_model.proofs.ActParts.{IsFarFrom, far_other, far_closed}
 use Rattle.hc_model.proofs.Dues.{undue_of, other_stop, loss_free}
-use Rattle.hc_core.specs.Past.{AllPast, StandsPast, ReadsPast, line, direct, down}
 use Rattle.hc_core.proofs.Words.{eqb-other, none_some, false_true, same_row, and_false, then_false}
 use Rattle.hc_core.proofs.Frames.{exchange_stays, exchange_absent, consumer_absent, stays, goes_back}
 use Rattle.hc_core.proofs.Moved.{IsSameOrBack, same, back}
+use Rattle.hc_core.proofs.Standing.{AllPast, ReadsPast, StandsPast, direct, down, line}
 
 or_nothing : {A : Type 0} (o : Option A) → option_or o None ≡ o
 or_nothing None = refl
@@ -180,7 +180,7 @@ module _ (n : ℕ) (t : Tables) (e : Entry) (c : ℕ) (past : AllPast n t) (entr
 
     live_row : StandsPast n t d k → IsSameOrBack e.now (Some k) (consumer_after t e d (Some k))
     live_row (direct x at r) = stays_put (over_at (place.Direct x) false at (then_false _ _ refl) (λ q p is. (let never : place.Direct x ≡ place.Passed q p = is in cc))) (reading_row x at r)
-    live_row (down cause x w at own there over shown given due told) =
+    live_row (down cause at unowned shown told) =
         stays_put (over_at (place.Down cause) false at (then_false _ _ refl) (λ q p is. (let never : place.Down cause ≡ place.Passed q p = is in cc))) (idle_row (rw at refl))
     live_row (line at own shown given due disabled plain) = elim (bool_cases (is_key (doomed t e) k.request.key)) [
       | inl doom ↦ back k refl at (goes_back t e d k (entry.far d ne) entry.lossless (heard e.event refl) (over_at place.Line true at (rw doom refl) (λ q p is. (let never : place.Line ≡ place.Passed q p = is in cc))))

@@ -41,10 +41,11 @@ use Rattle.hc_core.proofs.DirectArms.{polled_waits, polled_shows, stands_still, 
 use Rattle.hc_core.proofs.Leaving.{last_ends, last_fails, poll_closes, poll_left}
 use Rattle.hc_core.proofs.ApartArms.{no_flaw, flawless}
 use Rattle.hc_core.proofs.ReadTies.{ends_move, fails_move, failed_due, waits_move, gives_move, has_head}
+use Rattle.hc_core.proofs.Standing.{Standing}
 
 -- A CONSUMER THAT WAS SHOWN NO HEAD YET
 
-module _ {B : Type 0} (r u : Rows B) (t : Tables) (now c want x : ℕ) (k : Consumer) (before out : List Act) (limits : Limits) (stands : RowsStand r t) (there : get nat_eq r.consumers c ≡ Some k) (at : IsUnshown x k)
+module _ {B : Type 0} (r u : Rows B) (t : Tables) (now c want x : ℕ) (k : Consumer) (before out : List Act) (limits : Limits) (stands : Standing r t) (there : get nat_eq r.consumers c ≡ Some k) (at : IsUnshown x k)
     (received : u.received ≡ r.received) (last : u.last_start ≡ r.last_start) (exchanges : u.exchanges ≡ r.exchanges) (changes : ChangesAt r.consumers u.consumers c once_answered) where
   rd : IsReading r t c x k
   rd = reading_of r t c x k stands there at.0
@@ -72,7 +73,7 @@ module _ {B : Type 0} (r u : Rows B) (t : Tables) (now c want x : ℕ) (k : Cons
 abbrev pub steps_to : {B : Type 0} → Rows B → ℕ → Consumer → ReadStep → Type 0
 steps_to r x k step = read_step (read_view (table_of r.exchanges x) x (k.lo + k.given) k) ≡ step
 
-module _ {B : Type 0} (r u : Rows B) (t : Tables) (now c want x : ℕ) (k : Consumer) (before out : List Act) (limits : Limits) (stands : RowsStand r t) (there : get nat_eq r.consumers c ≡ Some k) (at : IsShown x k) (wants : 0 < want) where
+module _ {B : Type 0} (r u : Rows B) (t : Tables) (now c want x : ℕ) (k : Consumer) (before out : List Act) (limits : Limits) (stands : Standing r t) (there : get nat_eq r.consumers c ≡ Some k) (at : IsShown x k) (wants : 0 < want) where
   shown_rd : IsReading r t c x k
   shown_rd = reading_of r t c x k stands there at.0
 
@@ -89,7 +90,7 @@ module _ {B : Type 0} (r u : Rows B) (t : Tables) (now c want x : ℕ) (k : Cons
       let ys = closes_open x (table_of r.exchanges x) in
       let due = failed_due r t want c x k stands shown_rd at.1 wants reason is in
       poll_answered limits u t now c want (Fails reason) ys before out (fails_move r t want c x k stands shown_rd at.1 wants now reason is)
-      (poll_closes r u t now c want x k (Fails reason) stands shown_rd (last_fails reason) leaves) (flawless c reason ys (ap is_misread (sym due) ∙ shown_rd.reads.told))
+      (poll_closes r u t now c want x k (Fails reason) stands shown_rd (last_fails reason) leaves) (flawless c reason ys (ap is_misread (sym due) ∙ shown_rd.reads.brings.told))
       (act_and before mid out (act.Failed c reason) (map act.Close ys) first second)
       (poll_left r u t now c want x k (Fails reason) stands shown_rd (last_fails reason) leaves)
 

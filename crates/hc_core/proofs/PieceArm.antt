@@ -27,7 +27,7 @@ use Rattle.hc_exch.specs.Known as known
 use Rattle.hc_exch.specs.Known.{Known, is_all, is_last_of, seen}
 use Rattle.hc_exch.specs.declared.row.Open.{Open}
 use Rattle.hc_core.specs.declared.rows.Rows.{Rows}
-use Rattle.hc_core.specs.Past.{ReadsPast, IsWithin}
+use Rattle.hc_core.specs.Past.{IsWithin, BringsPast}
 use Rattle.hc_core.specs.Kept.{KeepsRunning, IsRunning, held_for}
 use Rattle.hc_core.specs.Stands.{RowsStand, Answered}
 use Rattle.hc_core.proofs.Words.{eqb-same, none_some, false_true, same_row}
@@ -37,6 +37,7 @@ use Rattle.hc_core.proofs.Direct.{reads_on}
 use Rattle.hc_core.proofs.DirectPolls.{known_other, known_here, unchanged}
 use Rattle.hc_core.proofs.DirectArms.{kept_with, held_is}
 use Rattle.hc_core.proofs.Hearing.{Hears, IsNews, told_entry, told_only, told_row, told_acted, told_due}
+use Rattle.hc_core.proofs.Standing.{ReadsPast, Standing}
 
 -- WHAT A PIECE LEAVES
 
@@ -87,7 +88,7 @@ within_piece (Some p) n m count more is fits h = (h.0, below (nat_lt p (count + 
     below true lt = none_some _ (sym (rw lt at fits))
     below false lt = grind (arith, nat_tests)
 
-module _ {B : Type 0} (r u : Rows B) (t : Tables) (now x : ℕ) (bytes : List ℕ) (o : Open) (stands : RowsStand r t) (hears : Hears r t x o) (fit : IsFit o (length bytes))
+module _ {B : Type 0} (r u : Rows B) (t : Tables) (now x : ℕ) (bytes : List ℕ) (o : Open) (stands : Standing r t) (hears : Hears r t x o) (fit : IsFit o (length bytes))
     (received : u.received ≡ r.received + length bytes) (last : u.last_start ≡ r.last_start) (same_map : u.consumers ≡ r.consumers) (becomes : exch.Becomes (known.with_piece bytes true) x r.exchanges u.exchanges) (running : (table_of r.exchanges x).running ≡ Some o) where
   abbrev c : ℕ
   c = o.c
@@ -145,31 +146,13 @@ module _ {B : Type 0} (r u : Rows B) (t : Tables) (now x : ℕ) (bytes : List �
         promised_is = is.promised_is;
       }
 
-  headed_w : is_some w.head ≡ true
-  headed_w = headed_is o w hears.is fit.headed
-
-  no_head : {P : Type 0} → w.head ≡ None → P
-  no_head none = false_true (sym (ap is_some none) ∙ headed_w)
-
-  reads_after : ReadsPast u.received after c x v
-  unfolding case_of
-  reads_after =
+  brings_after : BringsPast u.received (pieced bytes w) v.due
+  brings_after =
       let rd = hears.reading.reads in
       record {
-        w = pieced bytes w;
-        row = exchange;
-        for_it = rd.for_it;
-        own = rd.own;
-        past = rd.past;
-        joined = rd.joined;
-        unfounded = unfounded t (told_of now (event.Piece x bytes) []) refl x rd.unfounded;
-        begins = rd.begins;
-        within = rw (length-append w.body bytes) (within_piece (promised w) r.received u.received (length w.body) (length bytes) received (rw (← hears.is.promised_is, ← hears.is.delivered) fit.fits) rd.within);
-        given = rw (length-append w.body bytes) (omega (arith, rd.given));
-        awaited = λ none. no_head none;
-        unheard = λ none. no_head none;
-        told = rd.told;
-        unended = λ h. rd.unended hears.is.is_open;
+        past = rd.brings.past;
+        within = rw (length-append w.body bytes) (within_piece (promised w) r.received u.received (length w.body) (length bytes) received (rw (← hears.is.promised_is, ← hears.is.delivered) fit.fits) rd.brings.within);
+        told = rd.brings.told;
         finished = λ over none. by_reached (is_reached (promised w) (length (w.body ++ bytes))) refl over;
       }
     where
@@ -191,14 +174,13 @@ module _ {B : Type 0} (r u : Rows B) (t : Tables) (now x : ℕ) (bytes : List �
       let e = told_of now (event.Piece x bytes) [] in
       reads_on r u t e c x v stands (told_entry t now c x (event.Piece x bytes) [] (piece_news x bytes) w rd.row rd.for_it refl refl) (told_only t now c x (event.Piece x bytes) [] (piece_news x bytes) w rd.row rd.for_it (λ y ne. refl)) refl refl refl (λ d. refl)
       hears.reading.row rd hears.reading.at (rw received (omega arith)) last becomes.next (λ y ne. known_other (known.with_piece bytes true) x r.exchanges u.exchanges becomes y ne)
-      (λ z row over. (let one : w ≡ z = same_row (t.exchange x) w z rd.row row in false_true (sym over ∙ (ap (λ (y : Exchange). y.is_open) (sym one) ∙ hears.is.is_open))))
       (record {
         running = rw (here, running, last_is, exchange) (running_after (is_reached (promised w) (length (w.body ++ bytes))) refl);
         held = held_after ∙ ap (held_for after x) (sym exchange);
       })
-      hears.k v (unchanged r.consumers u.consumers c hears.k same_map hears.there) row_after hears.reading.at
+      hears.k v (pieced bytes w) (unchanged r.consumers u.consumers c hears.k same_map hears.there) row_after hears.reading.at
       (kept_with t after x hears.k v w (pieced bytes w) hears.reading.at rd.row exchange refl refl (end_pieced (promised w) bytes w (rd.unended hears.is.is_open)) hears.reading.kept)
-      reads_after
+      exchange brings_after
 
   -- nothing of it is stored
   no_write : write_in t (record { now = now; event = event.Piece x bytes; acts = [] }) (event.Piece x bytes) ≡ None

@@ -26,12 +26,12 @@ use Rattle.hc_core.specs.declared.consumer.Consumer.{Consumer}
 use Rattle.hc_core.specs.declared.rows.Rows.{Rows}
 use Rattle.hc_core.specs.Past.{IsWithin}
 use Rattle.hc_core.specs.Kept.{KeepsRunning, held_for}
-use Rattle.hc_core.specs.Stands.{RowsStand}
 use Rattle.hc_core.specs.Arms.{read_view, source_in, most, asks_or_waits, asked_in}
 use Rattle.hc_core.proofs.Words.{none_some, false_true, some_is}
 use Rattle.hc_core.proofs.ApartArms.{third_is}
 use Rattle.hc_core.proofs.DirectPolls.{IsReading}
 use Rattle.hc_core.proofs.DirectArms.{held_is}
+use Rattle.hc_core.proofs.Standing.{Standing}
 
 -- THE STEP, BY ITS PARTS
 
@@ -156,7 +156,7 @@ view_is : (o p : ℕ) (hi z : Option ℕ) (h g : Bool) (d e : Option Cause) (s q
     → record { offset = o; hi = hi; stored = None; held = h; due = d; source = s; next_stored = None } ≡ the_view p z g e q
 view_is o p hi z h g d e s q a b c f i = rw (a, b, c, f, i) refl
 
-module _ {B : Type 0} (r : Rows B) (t : Tables) (want c x : ℕ) (k : Consumer) (stands : RowsStand r t) (rd : IsReading r t c x k) (shown : k.shown ≡ true) (wants : 0 < want) where
+module _ {B : Type 0} (r : Rows B) (t : Tables) (want c x : ℕ) (k : Consumer) (stands : Standing r t) (rd : IsReading r t c x k) (shown : k.shown ≡ true) (wants : 0 < want) where
   abbrev v : rows.Consumer
   v = rd.v
 
@@ -283,14 +283,14 @@ module _ {B : Type 0} (r : Rows B) (t : Tables) (want c x : ℕ) (k : Consumer) 
 
   pub given_small : r.received < 2 ^ 61 → k.lo + k.given < 2 ^ 62
   given_small small =
-      let body : length w.body < 2 ^ 62 = body_small r.received (promised w) (length w.body) small rd.reads.within in
+      let body : length w.body < 2 ^ 62 = body_small r.received (promised w) (length w.body) small rd.reads.brings.within in
       let few = rd.reads.given in
       let same_given = rd.kept.given in
       omega (arith, body, few, same_given, from_zero)
 
   pub more_fits : (n : ℕ) (bytes : List ℕ) → r.received < 2 ^ 61 → bytes ≡ take n known_here.held → k.given + length bytes < 2 ^ 62
   more_fits n bytes small bytes_are =
-      let body : length w.body < 2 ^ 62 = body_small r.received (promised w) (length w.body) small rd.reads.within in
+      let body : length w.body < 2 ^ 62 = body_small r.received (promised w) (length w.body) small rd.reads.brings.within in
       let few = rd.reads.given in
       let same_given = rd.kept.given in
       let len : length bytes ≡ min n (length known_here.held) = ap length bytes_are ∙ length-take n known_here.held in
@@ -316,7 +316,7 @@ module _ {B : Type 0} (r : Rows B) (t : Tables) (want c x : ℕ) (k : Consumer) 
       let left = hole_from _ _ k.due (source_in known_here x) hole_here hole (sym parts ∙ is) in
       let over : w.is_open ≡ false = closed_of known_here.running left.closed running in
       let none : v.due ≡ None = sym rd.kept.due ∙ left.undue in
-      let ends : k.hi ≡ Some (length w.body) = rd.kept.ends ∙ (ap (hi_of t) rd.at ∙ (ap end_in rd.reads.row ∙ rd.reads.finished over none)) in
+      let ends : k.hi ≡ Some (length w.body) = rd.kept.ends ∙ (ap (hi_of t) rd.at ∙ (ap end_in rd.reads.row ∙ rd.reads.brings.finished over none)) in
       let empty : length known_here.held ≡ 0 = let off = left.not_held in grind (arith, nat_tests, off) in
       let left_len : length known_here.held ≡ length w.body - v.given = ap length held_before ∙ length-drop v.given w.body in
       let few = rd.reads.given in

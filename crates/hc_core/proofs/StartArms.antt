@@ -23,12 +23,12 @@ use Rattle.hc_model.specs.Tables.{after_accepted}
 use Rattle.hc_exch.specs.Exchanges.{table_of, next_of}
 use Rattle.hc_core.specs.declared.consumer.Consumer.{Consumer}
 use Rattle.hc_core.specs.declared.rows.Rows.{Rows}
-use Rattle.hc_core.specs.Past.{StandsPast, ReadsPast, line, direct, down}
+use Rattle.hc_core.specs.Past.{BringsPast, GoesPast, reads_own}
 use Rattle.hc_core.specs.Kept.{IsKept, KeepsRunning, held_for}
 use Rattle.hc_core.specs.Stands.{RowsStand, Answered}
 use Rattle.hc_core.proofs.Words.{eqb-same, eqb-other, none_some, false_true, same_row}
 use Rattle.hc_core.proofs.Moved.{stands_moved, kept_row, direct_is}
-use Rattle.hc_core.proofs.PastEntries.{others, other_exchanges, unfounded}
+use Rattle.hc_core.proofs.PastEntries.{others, other_exchanges}
 use Rattle.hc_core.proofs.Direct.{count_moved}
 use Rattle.hc_rules.specs.Plans.{plan_of}
 use Rattle.hc_rules.specs.Requests.{class_of, is_only}
@@ -45,18 +45,20 @@ use Rattle.hc_model.specs.StartingOver.{starts_over}
 use Rattle.hc_exch.specs.Known.{launched, Changes}
 use Rattle.hc_exch.specs.declared.role.Role.TheVariants as role
 use Rattle.hc_core.specs.Changes.{ChangesAt, reading_past}
+use Rattle.hc_core.specs.Past.{BringsPast, GoesPast, reads_own}
 use Rattle.hc_core.specs.Kept.{answer_for, head_in}
 use Rattle.hc_core.proofs.DownArms.{none_of}
 use Rattle.hc_core.proofs.PastEntries.{poll_of, poll_entry}
 use Rattle.hc_core.proofs.PastCloses.{before_closing, closing_none, poll_answered}
 use Rattle.hc_core.proofs.PollRows.{opens, poll_only}
 use Rattle.hc_core.proofs.DirectPolls.{changed}
-use Rattle.hc_core.proofs.Listed.{numbers_open}
+use Rattle.hc_core.proofs.Listed.{order_opens}
 use Rattle.hc_core.proofs.Apart.{not_none, next_free, nobody_reads}
 use Rattle.hc_core.proofs.ApartArms.{third_is}
 use Rattle.hc_event.specs.declared.act.Wait.TheVariants as wait
 use Rattle.hc_model.specs.Failures.{becomes_due, cause_of_loss}
 use Rattle.hc_model.proofs.Dues.{undue_of, stop_none}
+use Rattle.hc_core.proofs.Standing.{ReadsPast, Standing, StandsPast, direct, down, line}
 
 none_if : {A : Type 0} (b : Bool) → cond b (none_of A) (none_of A) ≡ None
 none_if true = refl
@@ -83,9 +85,9 @@ pub record IsWaiting {B : Type 0} (r : Rows B) (t : Tables) (c : ℕ) (k : Consu
 waiting_by : {B : Type 0} (r : Rows B) (t : Tables) (c : ℕ) (k : Consumer) (v : rows.Consumer) → t.consumer c ≡ Some v → IsKept t k v → v.place ≡ place.Line → StandsPast r.received t c v → IsWaiting r t c k
 waiting_by r t c k v row kept is_line (line at own shown given due disabled plain) = record { v = v; row = row; kept = kept; at = at; own = own; unshown = shown; none_given = given; undue = due; disabled = disabled; plain = plain }
 waiting_by r t c k v row kept is_line (direct x at reads) = absurd (let never : place.Direct x ≡ place.Line = sym at ∙ is_line in cc)
-waiting_by r t c k v row kept is_line (down why x w at own there over shown given due told) = absurd (let never : place.Down why ≡ place.Line = sym at ∙ is_line in cc)
+waiting_by r t c k v row kept is_line (down why at unowned shown told) = absurd (let never : place.Down why ≡ place.Line = sym at ∙ is_line in cc)
 
-pub waiting_of : {B : Type 0} (r : Rows B) (t : Tables) (c : ℕ) (k : Consumer) → RowsStand r t → get nat_eq r.consumers c ≡ Some k → k.place ≡ place.Line → IsWaiting r t c k
+pub waiting_of : {B : Type 0} (r : Rows B) (t : Tables) (c : ℕ) (k : Consumer) → Standing r t → get nat_eq r.consumers c ≡ Some k → k.place ≡ place.Line → IsWaiting r t c k
 waiting_of r t c k stands there at =
     let (v, row, kept) = kept_row t k (t.consumer c) (rw there at (stands.consumers c)) in
     waiting_by r t c k v row kept (sym kept.place ∙ at) (stands.past.places c v row kept.is_there)
@@ -136,7 +138,7 @@ module _ (t : Tables) (now c want x : ℕ) (v : rows.Consumer) (request : Reques
   unfolding exchange_after
   opened_exchange = rw (eqb-same x) refl
 
-module _ {B : Type 0} (r u : Rows B) (t : Tables) (now c want : ℕ) (k : Consumer) (request copied : Request) (stands : RowsStand r t) (there : get nat_eq r.consumers c ≡ Some k) (waiting : IsWaiting r t c k) (is : request ≡ k.request) (copies : copied ≡ request)
+module _ {B : Type 0} (r u : Rows B) (t : Tables) (now c want : ℕ) (k : Consumer) (request copied : Request) (stands : Standing r t) (there : get nat_eq r.consumers c ≡ Some k) (waiting : IsWaiting r t c k) (is : request ≡ k.request) (copies : copied ≡ request)
     (received : u.received ≡ r.received) (last : u.last_start ≡ r.last_start) (next : next_of u.exchanges ≡ next_of r.exchanges + 1)
     (launches : Changes (launched c role.Direct need.Disabled copied now) (next_of r.exchanges) (table_of r.exchanges) (table_of u.exchanges))
     (changes : ChangesAt r.consumers u.consumers c (reading_past (next_of r.exchanges))) where
@@ -198,25 +200,9 @@ module _ {B : Type 0} (r u : Rows B) (t : Tables) (now c want : ℕ) (k : Consum
         due = kp.due ∙ waiting.undue;
       }
 
-  reads_after : ReadsPast u.received after c x v_after
-  unfolding v_after case_of
-  reads_after = record {
-    w = z;
-    row = exchange;
-    for_it = refl;
-    own = refl;
-    past = refl;
-    joined = refl;
-    unfounded = unfounded t entry_here refl x (stands.numbers.new_representations x (omega arith));
-    begins = refl;
-    within = omega arith;
-    given = omega (arith, waiting.none_given);
-    awaited = λ none. refl;
-    unheard = λ none. (waiting.unshown, refl, refl);
-    told = refl;
-    unended = λ on. refl;
-    finished = λ over none. false_true (sym over);
-  }
+  brings_after : BringsPast u.received z v_after.due
+  unfolding v_after
+  brings_after = record { past = refl; within = omega arith; told = refl; finished = λ over none. false_true (sym over) }
 
   running_after : KeepsRunning (table_of u.exchanges x).running (after.exchange x)
   running_after = rw (here, exchange) (record {
@@ -247,15 +233,13 @@ module _ {B : Type 0} (r u : Rows B) (t : Tables) (now c want : ℕ) (k : Consum
       let only = poll_only now c want x (Opens x need.Disabled asked_for) [] (opens need.Disabled asked_for) (λ y ne. refl) in
       let moved = changed r.consumers u.consumers c (reading_past x) k (subst (λ (n : ℕ). ChangesAt r.consumers u.consumers c (reading_past n)) stands.next changes) there in
       stands_moved r u t after now c x (Some (reading_past x k)) stands
-      (numbers_open t entry_here stands.numbers entry.founds o refl refl (λ d. refl) refl refl) (rw received (omega arith)) (last ∙ stands.last_start) (rw (next, stands.next) refl) moved
+      (order_opens t entry_here stands.order refl refl o refl refl) (rw received (omega arith)) (last ∙ stands.last_start) (rw (next, stands.next) refl) moved
       (count_moved r u t after now c (Some (reading_past x k)) stands moved refl (not_none _ v waiting.row) all_others (rw row_after refl))
-      all_others (λ y ne. other_exchanges t entry_here x only y ne) (λ w row over. none_some w (sym free ∙ row)) (λ q none. unfounded t entry_here entry.founds q none)
+      all_others (λ y ne. other_exchanges t entry_here x only y ne) 
       (λ y ne. (let off : eqb x y ≡ false = eqb-other x y (λ eq. ne (sym eq)) in table_is y ∙ rw off refl))
       (rw row_after kept_after)
-      (λ j row lives. (let one_v : v_after ≡ j = same_row (after.consumer c) v_after j row_after row in subst (StandsPast u.received after c) one_v (direct x refl reads_after)))
-      (λ j row off. (let one_v : v_after ≡ j = same_row (after.consumer c) v_after j row_after row in ap (λ (y : rows.Consumer). y.due) (sym one_v)))
+      (λ j row lives. (let one_v : v_after ≡ j = same_row (after.consumer c) v_after j row_after row in subst (GoesPast u.received after) one_v (reads_own x refl (λ w row_w. subst (λ (a : Exchange). BringsPast u.received a v_after.due) (same_row (after.exchange x) z w exchange row_w) brings_after))))
       (record { running = running_after; held = held_after })
-      (λ w row opened. record { k = v_after; row = (let one_w : z ≡ w = same_row (after.exchange x) z w exchange row in ap after.consumer (ap (λ (y : Exchange). y.c) (sym one_w)) ∙ row_after); place_is = refl })
       nobody
       (λ y j ne row at. (let one_v : v ≡ j = same_row (t.consumer c) v j waiting.row row in let never : place.Line ≡ place.Direct y = sym waiting.at ∙ (ap (λ (i : rows.Consumer). i.place) one_v ∙ at) in cc))
       (λ y j ne row at. (let one_v : v_after ≡ j = same_row (after.consumer c) v_after j row_after row in let both : place.Direct x ≡ place.Direct y = ap (λ (i : rows.Consumer). i.place) one_v ∙ at in ne (sym (direct_is x y both))))

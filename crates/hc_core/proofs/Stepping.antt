@@ -23,10 +23,12 @@ use Rattle.hc_model.specs.Tables.{tables, after_accepted, after_denied, received
 use Rattle.hc_model.proofs.Barred.{next_tables, denied_tables}
 use Rattle.hc_core.specs.declared.rows.Rows.{Rows}
 use Rattle.hc_core.specs.declared.cache.Cache.{Cache}
-use Rattle.hc_core.specs.Stands.{RowsStand, StandsForSome, Answers, gate_of}
-use Rattle.hc_core.specs.Good.{counted}
+use Rattle.hc_core.specs.Stands.{RowsStand, Answers, gate_of}
+use Rattle.hc_core.specs.Facts.{Facts}
+use Rattle.hc_core.specs.Good.{StandsUntil, counted}
 use Rattle.hc_core.specs.Steps.{StandsFor, Steps}
 use Rattle.hc_core.proofs.Gates.{denies_as}
+use Rattle.hc_core.proofs.Standing.{facts_of_runs, standing_of}
 use Rattle.hc_core.proofs.Undenied.{undenied}
 use Rattle.hc_core.proofs.Denying.{stands_denied, stands_begun}
 
@@ -47,6 +49,10 @@ stands_beginning s moment steps received last next count none unopened = record 
   received = received;
   rows = stands_begun s.rows last next count none unopened;
 }
+
+pub begins_good : {B : Type 0} (r : Rows B) → r.last_start ≡ 0 → next_of r.exchanges ≡ 1 → hash_map_len r.consumers ≡ 0 → ((c : ℕ) → get nat_eq r.consumers c ≡ None) → ((x : ℕ) → table_of r.exchanges x ≡ unknown) → StandsUntil r 0
+unfolding tables
+begins_good r last next count none unopened = (record { contents = no_contents; h = []; begins = begins r.limits; run = tt; rows = stands_begun r last next count none unopened }, omega arith)
 
 -- WHAT IS OWED
 
@@ -72,70 +78,88 @@ may_stand_denied limits t e denied = rw denied refl
 
 -- THE STEP
 
+-- a run with one entry more, and the rows that stand for it
+pub record OneMore {B : Type 0} (u : Rows B) (contents : Contents) (h : History) (before out : List Act) (now : ℕ) (ev : Event) : Type 0 where
+  pub acts : List Act
+  pub told : out ≡ before ++ acts
+  pub begins : may_begin u.limits contents ≡ true
+  pub run : IsRun u.limits contents (record { now = now; event = ev; acts = acts } ∷ h)
+  pub moment : (tables contents (record { now = now; event = ev; acts = acts } ∷ h)).moment ≡ now
+  pub entries : (tables contents (record { now = now; event = ev; acts = acts } ∷ h)).entries ≡ (tables contents h).entries + 1
+  pub received : (tables contents (record { now = now; event = ev; acts = acts } ∷ h)).received ≡ (tables contents h).received + received_in ev
+  pub rows : RowsStand u (tables contents (record { now = now; event = ev; acts = acts } ∷ h))
+
 module _ {B : Type 0} (r u : Rows B) (now : ℕ) (ev : Event) (before out : List Act)
     (denied : (why : Refusal) → refusal_of (gate_of r ev) ev ≡ Some why → (u ≡ counted ev r) × (out ≡ before ++ act.Denied why ∷ []))
-    (answered : refusal_of (gate_of r ev) ev ≡ None → Answers r u before out now ev) where
-  pub some_after : StandsForSome r → StandsForSome u
-  some_after past = by_refusal (refusal_of (gate_of r ev) ev) refl
-    where
-      by_refusal : (o : Option Refusal) → refusal_of (gate_of r ev) ev ≡ o → StandsForSome u
-      by_refusal None is = let done = answered is past.0 past.1 (sym (denies_as r past.0 ev past.1) ∙ is) in (_, done.rows)
-      by_refusal (Some why) is =
-          let e : Entry = record { now = now; event = ev; acts = [] } in
-          (after_denied past.0 e, subst (λ z. RowsStand z (after_denied past.0 e)) (sym (denied why is).0) (stands_denied r past.0 e past.1))
+    (answered : refusal_of (gate_of r ev) ev ≡ None → Answers r u before out now ev) (limits : u.limits ≡ r.limits) where
+  module _ (contents : Contents) (h : History) (begun : may_begin r.limits contents ≡ true) (run : IsRun r.limits contents h) (rows : RowsStand r (tables contents h)) (in_time : (tables contents h).moment ≤ now) where
+    abbrev t : Tables
+    t = tables contents h
+
+    abbrev with_acts : List Act → Entry
+    with_acts acts = record { now = now; event = ev; acts = acts }
+
+    facts : Facts t
+    facts = facts_of_runs r.limits contents h begun run
+
+    -- whatever was owed, the rows stand for it
+    stands_with : (acts : List Act) (after : Tables) → out ≡ before ++ acts → after ≡ tables contents (with_acts acts ∷ h) → after.moment ≡ now → after.entries ≡ t.entries + 1 → after.received ≡ t.received + received_in ev
+        → IsOwed r.limits t (with_acts acts) → RowsStand u after → OneMore u contents h before out now ev
+    stands_with acts after told is now_is entries_are received_is owed stands = record {
+      acts = acts;
+      told = told;
+      begins = ap (λ l. may_begin l contents) limits ∙ begun;
+      run = subst (λ l. IsRun l contents (with_acts acts ∷ h)) (sym limits) (run, owed);
+      moment = ap (λ (z : Tables). z.moment) (sym is) ∙ now_is;
+      entries = ap (λ (z : Tables). z.entries) (sym is) ∙ entries_are;
+      received = ap (λ (z : Tables). z.received) (sym is) ∙ received_is;
+      rows = subst (RowsStand u) is stands;
+    }
+
+    by_refusal : (o : Option Refusal) → refusal_of (gate_of r ev) ev ≡ o → OneMore u contents h before out now ev
+    by_refusal None is =
+        let free : denial t ev ≡ None = sym (denies_as r t ev rows) ∙ is in
+        let done = answered is t facts rows free in
+        let acts = accepted r.limits t now ev done.flaw in
+        let e : Entry = with_acts acts in
+        stands_with acts (after_accepted t e) done.acts (next_tables contents h e (undenied r.limits t now ev done.flaw)) refl refl refl
+        (record {
+          later = in_time;
+          acts = sym (ap (answer r.limits t now ev) done.shown ∙ answer_accepted r.limits t now ev done.flaw free);
+          flaw = may_stand_accepted r.limits t e done.flaw done.shown done.may;
+        }) done.rows
+    by_refusal (Some why) is =
+        let some : denial t ev ≡ Some why = sym (denies_as r t ev rows) ∙ is in
+        let acts = act.Denied why ∷ [] in
+        let e : Entry = with_acts acts in
+        stands_with acts (after_denied t e) (denied why is).1 (denied_tables contents h e refl) refl refl refl
+        (record { later = in_time; acts = sym (answer_denied r.limits t now ev NoFlaw why some); flaw = may_stand_denied r.limits t e refl })
+        (subst (λ z. RowsStand z (after_denied t e)) (sym (denied why is).0) (stands_denied r t e (standing_of r t facts rows)))
+
+    pub one_more : OneMore u contents h before out now ev
+    one_more = by_refusal (refusal_of (gate_of r ev) ev) refl
+
+  pub some_after : (last : ℕ) → last ≤ now → StandsUntil r last → StandsUntil u now
+  some_after last later (s, until) =
+      let more = one_more s.contents s.h s.begins s.run s.rows (omega (arith, later, until)) in
+      (record { contents = s.contents; h = record { now = now; event = ev; acts = more.acts } ∷ s.h; begins = more.begins; run = more.run; rows = more.rows }, subst (λ n. n ≤ now) (sym more.moment) (omega arith))
 
 module _ {B : Type 0} (s u : Cache B) (contents : Contents) (h : History) (now : ℕ) (ev : Event) (before out : List Act)
     (denied : (why : Refusal) → refusal_of (gate_of s.rows ev) ev ≡ Some why → (u.rows ≡ counted ev s.rows) × (out ≡ before ++ act.Denied why ∷ []))
     (answered : refusal_of (gate_of s.rows ev) ev ≡ None → Answers s.rows u.rows before out now ev)
     (later : s.last_moment ≤ now) (moment : u.last_moment ≡ now) (count : u.steps ≡ s.steps + 1) (bytes : u.rows.received ≡ s.rows.received + received_in ev) (limits : u.rows.limits ≡ s.rows.limits) (stands : StandsFor s contents h) where
-  abbrev t : Tables
-  t = tables contents h
-
-  abbrev with_acts : List Act → Entry
-  with_acts acts = record { now = now; event = ev; acts = acts }
-
-  -- whatever was owed, the cache stands for it
-  stands_with : (acts : List Act) (after : Tables) → after ≡ tables contents (with_acts acts ∷ h) → after.moment ≡ now → after.entries ≡ t.entries + 1 → after.received ≡ t.received + received_in ev
-      → IsOwed s.rows.limits t (with_acts acts) → RowsStand u.rows after → StandsFor u contents (with_acts acts ∷ h)
-  stands_with acts after is now_is entries_are received_is owed rows = record {
-    begins = ap (λ l. may_begin l contents) limits ∙ stands.begins;
-    run = subst (λ l. IsRun l contents (with_acts acts ∷ h)) (sym limits) (stands.run, owed);
-    moment = moment ∙ (sym now_is ∙ ap (λ (z : Tables). z.moment) is);
-    entries = count ∙ (ap (λ n. n + 1) stands.entries ∙ (sym entries_are ∙ ap (λ (z : Tables). z.entries) is));
-    received = bytes ∙ (ap (λ n. n + received_in ev) stands.received ∙ (sym received_is ∙ ap (λ (z : Tables). z.received) is));
-    rows = subst (RowsStand u.rows) is rows;
-  }
-
-  in_time : t.moment ≤ now
-  in_time = subst (λ m. m ≤ now) stands.moment later
-
-  by_refusal : (o : Option Refusal) → refusal_of (gate_of s.rows ev) ev ≡ o → Steps u contents h before out now ev
-  by_refusal None is =
-      let free : denial t ev ≡ None = sym (denies_as s.rows t ev stands.rows) ∙ is in
-      let done = answered is t stands.rows free in
-      let acts = accepted s.rows.limits t now ev done.flaw in
-      let e : Entry = with_acts acts in
-      record {
-        acts = acts;
-        told = done.acts;
-        stands = stands_with acts (after_accepted t e) (next_tables contents h e (undenied s.rows.limits t now ev done.flaw)) refl refl refl
-            (record {
-              later = in_time;
-              acts = sym (ap (answer s.rows.limits t now ev) done.shown ∙ answer_accepted s.rows.limits t now ev done.flaw free);
-              flaw = may_stand_accepted s.rows.limits t e done.flaw done.shown done.may;
-            }) done.rows;
-      }
-  by_refusal (Some why) is =
-      let some : denial t ev ≡ Some why = sym (denies_as s.rows t ev stands.rows) ∙ is in
-      let acts = act.Denied why ∷ [] in
-      let e : Entry = with_acts acts in
-      record {
-        acts = acts;
-        told = (denied why is).1;
-        stands = stands_with acts (after_denied t e) (denied_tables contents h e refl) refl refl refl
-            (record { later = in_time; acts = sym (answer_denied s.rows.limits t now ev NoFlaw why some); flaw = may_stand_denied s.rows.limits t e refl })
-            (subst (λ z. RowsStand z (after_denied t e)) (sym (denied why is).0) (stands_denied s.rows t e stands.rows));
-      }
-
   pub steps_on : Steps u contents h before out now ev
-  steps_on = by_refusal (refusal_of (gate_of s.rows ev) ev) refl
+  steps_on =
+      let more = one_more s.rows u.rows now ev before out denied answered limits contents h stands.begins stands.run stands.rows (subst (λ m. m ≤ now) stands.moment later) in
+      record {
+        acts = more.acts;
+        told = more.told;
+        stands = record {
+          begins = more.begins;
+          run = more.run;
+          moment = moment ∙ sym more.moment;
+          entries = count ∙ (ap (λ n. n + 1) stands.entries ∙ sym more.entries);
+          received = bytes ∙ (ap (λ n. n + received_in ev) stands.received ∙ sym more.received);
+          rows = more.rows;
+        };
+      }

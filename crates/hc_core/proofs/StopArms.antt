@@ -23,7 +23,7 @@ use Rattle.hc_exch.specs.declared.row.Open.{Open}
 use Rattle.hc_core.specs.declared.consumer.Consumer.{Consumer}
 use Rattle.hc_core.specs.declared.rows.Rows.{Rows}
 use Rattle.hc_core.specs.Changes.{BecomesAt}
-use Rattle.hc_core.specs.Past.{ReadsPast, is_misread}
+use Rattle.hc_core.specs.Past.{BringsPast, is_misread}
 use Rattle.hc_core.specs.Kept.{IsKept, KeepsRunning, held_for, answer_for}
 use Rattle.hc_core.specs.Stands.{RowsStand}
 use Rattle.hc_core.proofs.Words.{none_some, false_true}
@@ -33,6 +33,7 @@ use Rattle.hc_core.proofs.Direct.{reads_on}
 use Rattle.hc_core.proofs.DirectPolls.{known_other, known_here}
 use Rattle.hc_core.proofs.DirectArms.{held_is}
 use Rattle.hc_core.proofs.Hearing.{Hears, IsNews, told_entry, told_only, told_row, told_acted, told_due}
+use Rattle.hc_core.proofs.Standing.{ReadsPast, Standing}
 
 -- an exchange that stopped, with what it had brought
 pub record IsStopped (w z : Exchange) : Type 0 where
@@ -66,13 +67,12 @@ none_due : (a b : Option Cause) → option_or a b ≡ None → (a ≡ None) × (
 none_due None b h = (refl, h)
 none_due (Some z) b h = none_some z (sym h)
 
-module _ {B : Type 0} (r u : Rows B) (t : Tables) (now x : ℕ) (ev : Event) (o : Open) (z : Exchange) (reason : Option Cause) (j : Consumer) (stands : RowsStand r t) (hears : Hears r t x o) (running : (table_of r.exchanges x).running ≡ Some o)
+module _ {B : Type 0} (r u : Rows B) (t : Tables) (now x : ℕ) (ev : Event) (o : Open) (z : Exchange) (reason : Option Cause) (j : Consumer) (stands : Standing r t) (hears : Hears r t x o) (running : (table_of r.exchanges x).running ≡ Some o)
     (news : IsNews ev x)
     (sends : sends_back (case_at t (told_of now ev [])) ≡ false) (founds : is_founding (case_at t (told_of now ev [])) ≡ false)
     (lasts : last_start_after ev t.last_start ≡ t.last_start) (starts : starts_after ev t.starts ≡ t.starts)
     (heard : rows.Consumer → consumer_heard t (told_of now ev []) o.c ev hears.reading.v ≡ hears.reading.v)
     (stops : cause_of_stop t (told_of now ev []) hears.reading.v ≡ reason) (headless : cause_of_head t (told_of now ev []) o.c ev ≡ None)
-    (headed : is_some hears.reading.reads.w.head ≡ true)
     (exchange : (after_accepted t (told_of now ev [])).exchange x ≡ Some z)
     (stopped : IsStopped hears.reading.reads.w z)
     (received : u.received ≡ r.received) (last : u.last_start ≡ r.last_start) (becomes : exch.Becomes known.closed x r.exchanges u.exchanges)
@@ -106,9 +106,6 @@ module _ {B : Type 0} (r u : Rows B) (t : Tables) (now x : ℕ) (ev : Event) (o 
       ∙ (told_row t now c x ev [] v at sends v (heard v) (told_acted t now c x ev [] v at sends v (heard v)) true (rw at refl)
       ∙ ap (λ (y : Option Cause). Some (record v { due = option_or v.due y })) due)
 
-  no_head : {P : Type 0} → z.head ≡ None → P
-  no_head none = false_true (sym (ap is_some (sym stopped.head ∙ none)) ∙ headed)
-
   kept_after : IsKept after j v_after
   unfolding v_after
   kept_after =
@@ -129,25 +126,14 @@ module _ {B : Type 0} (r u : Rows B) (t : Tables) (now x : ℕ) (ev : Event) (o 
         due = due_is;
       }
 
-  reads_after : ReadsPast u.received after c x v_after
+  brings_after : BringsPast u.received z v_after.due
   unfolding v_after
-  reads_after =
+  brings_after =
       let rd = hears.reading.reads in
       record {
-        w = z;
-        row = exchange;
-        for_it = stopped.c ∙ rd.for_it;
-        own = rd.own;
-        past = ap route_of stopped.need ∙ rd.past;
-        joined = stopped.joined ∙ rd.joined;
-        unfounded = unfounded t (told_of now ev []) founds x rd.unfounded;
-        begins = stopped.begins ∙ rd.begins;
-        within = rw (stopped.promised_is, stopped.body, received) rd.within;
-        given = rw stopped.body rd.given;
-        awaited = λ none. no_head none;
-        unheard = λ none. no_head none;
-        told = no_misread v.due reason rd.told told;
-        unended = λ h. false_true (sym stopped.over ∙ h);
+        past = ap route_of stopped.need ∙ rd.brings.past;
+        within = rw (stopped.promised_is, stopped.body, received) rd.brings.within;
+        told = no_misread v.due reason rd.brings.told told;
         finished = λ over none. finished (none_due v.due reason none).1 ∙ ap (λ (bytes : List ℕ). Some (length bytes)) (sym stopped.body);
       }
 
@@ -172,9 +158,8 @@ module _ {B : Type 0} (r u : Rows B) (t : Tables) (now x : ℕ) (ev : Event) (o 
       let e = told_of now ev [] in
       reads_on r u t e c x v stands (told_entry t now c x ev [] news w rd.row rd.for_it sends founds) (told_only t now c x ev [] news w rd.row rd.for_it (λ y ne. refl)) refl lasts starts (λ d. news.makes d now)
       hears.reading.row rd hears.reading.at (rw received (omega arith)) last becomes.next (λ y ne. known_other known.closed x r.exchanges u.exchanges becomes y ne)
-      (λ y row over. (z, exchange, stopped.over))
       (record {
         running = subst (λ (y : Known). KeepsRunning y.running (after.exchange x)) (sym here) closed_row;
         held = held_after ∙ ap (held_for after x) (sym exchange);
       })
-      j v_after kept_at row_after hears.reading.at kept_after reads_after
+      j v_after z kept_at row_after hears.reading.at kept_after exchange brings_after

@@ -4,13 +4,17 @@ use Rattle.hc_event.specs.declared.event.Event.{Event}
 use Rattle.hc_event.specs.declared.event.Event.TheVariants as event
 use Rattle.hc_rules.specs.Refusals.{refusal_of}
 use Rattle.hc_exch.specs.Exchanges.{next_of}
-use Rattle.hc_model.specs.Tables.{received_in}
+use Rattle.hc_model.specs.Tables.{tables, received_in}
 use Rattle.hc_core.specs.declared.rows.Rows.{Rows}
 use Rattle.hc_core.specs.Stands.{StandsForSome, gate_of}
 
--- its rows stand for some tables, and each step opened one exchange at most
-abbrev pub IsGood : {B : Type 0} → Rows B → ℕ → Type 0
-IsGood r n = ∥ StandsForSome r ∥₁ × (next_of r.exchanges ≤ 2 ^ 60 + n)
+-- the rows stand for the tables of a run that is no later
+abbrev pub StandsUntil : {B : Type 0} → Rows B → ℕ → Type 0
+StandsUntil r moment = (s : StandsForSome r) × ((tables s.contents s.h).moment ≤ moment)
+
+-- its rows stand for some run until its last moment, and each step opened one exchange at most
+abbrev pub IsGood : {B : Type 0} → Rows B → ℕ → ℕ → Type 0
+IsGood r moment n = ∥ StandsUntil r moment ∥₁ × (next_of r.exchanges ≤ 2 ^ 60 + n)
 
 -- the event is denied
 abbrev pub is_refused : {B : Type 0} → Rows B → Event → Bool

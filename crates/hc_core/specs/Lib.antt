@@ -1,4 +1,5 @@
 pub mod Changes
+pub mod Facts
 pub mod Past
 pub mod Kept
 pub mod Stands

@@ -1,5 +1,5 @@
 -- The rows stand for what the tables say.
-use Rattle.std.specs.Prelude.{◌≡◌, ℕ, ◌+◌, List, ◌++◌, Bool, true, false, Option, None, is_some, option_map, nat_eq}
+use Rattle.std.specs.Prelude.{◌≡◌, ℕ, ◌+◌, List, ◌++◌, Bool, true, false, Option, Some, None, is_some, option_map, nat_eq}
 use Rattle.std.specs.Option.{option_and_then}
 use Rattle.std.specs.HashMap.{get, hash_map_len}
 use Rattle.hc_event.specs.declared.event.Event.{Event}
@@ -11,31 +11,39 @@ use Rattle.hc_rules.specs.declared.room.Limits.{Limits}
 use Rattle.hc_exch.specs.Exchanges as exch
 use Rattle.hc_exch.specs.Exchanges.{table_of, next_of}
 use Rattle.hc_exch.specs.Known.{seen}
-use Rattle.hc_model.specs.Rows.{Tables}
-use Rattle.hc_model.specs.Tables.{after_accepted}
+use Rattle.hc_model.specs.Entries.{Contents, History}
+use Rattle.hc_model.specs.Rows.{Tables, Consumer}
+use Rattle.hc_model.specs.Beginnings.{may_begin}
+use Rattle.hc_model.specs.Tables.{tables, after_accepted}
 use Rattle.hc_model.specs.Exchanges.{exchange_in}
 use Rattle.hc_model.specs.Flaws.{Flaw, flaw_in}
-use Rattle.hc_model.specs.Denials.{live, denial}
+use Rattle.hc_model.specs.Denials.{live, is_live_place, denial}
 use Rattle.hc_model.specs.Answers.{accepted}
-use Rattle.hc_model.specs.Runs.{may_be}
+use Rattle.hc_model.specs.Runs.{IsRun, may_be}
 use Rattle.hc_model.specs.Keys.{entry_of}
 use Rattle.hc_core.specs.declared.rows.Rows.{Rows}
 use Rattle.hc_core.specs.Changes.{StaysAll}
-use Rattle.hc_core.specs.Past.{AreNumbered, AllPast}
+use Rattle.hc_core.specs.Facts.{Facts}
+use Rattle.hc_core.specs.Past.{InOrder, GoesPast}
 use Rattle.hc_core.specs.Kept.{KeepsConsumer, KeepsExchange}
 
 pub record RowsStand {B : Type 0} (r : Rows B) (t : Tables) : Type 0 where
-  pub numbers : AreNumbered t
-  pub past : AllPast r.received t
+  pub order : InOrder t
+  pub built : (c : ℕ) (k : Consumer) → t.consumer c ≡ Some k → is_live_place k.place ≡ true →
+      GoesPast r.received t k
   pub last_start : r.last_start ≡ t.last_start
   pub next : next_of r.exchanges ≡ t.opened + 1
   pub count : hash_map_len r.consumers ≡ live t
   pub consumers : (c : ℕ) → KeepsConsumer t (get nat_eq r.consumers c) (t.consumer c)
   pub exchanges : (x : ℕ) → KeepsExchange t x (table_of r.exchanges x)
 
--- the rows stand for some tables
-abbrev pub StandsForSome : {B : Type 0} → Rows B → Type 0
-StandsForSome r = (t : Tables) × RowsStand r t
+-- the rows stand for the tables of some run
+pub record StandsForSome {B : Type 0} (r : Rows B) : Type 0 where
+  pub contents : Contents
+  pub h : History
+  pub begins : may_begin r.limits contents ≡ true
+  pub run : IsRun r.limits contents h
+  pub rows : RowsStand r (tables contents h)
 
 -- WHAT THE REFUSALS LOOK AT
 
@@ -80,8 +88,8 @@ pub record Answered {B : Type 0} (limits : Limits) (u : Rows B) (t : Tables) (be
   pub may : may_be limits t (entry_of limits t now event flaw) flaw ≡ true
   pub rows : RowsStand u (after_accepted t (entry_of limits t now event flaw))
 
--- whatever tables the rows stand for
+-- whatever tables the rows stand for that have what those of every run have
 abbrev pub Answers : {B : Type 0} → Rows B → Rows B → List Act → List Act → ℕ → Event → Type 0
 Answers r u before out now event =
-    (t : Tables) → RowsStand r t → denial t event ≡ None →
+    (t : Tables) → Facts t → RowsStand r t → denial t event ≡ None →
     Answered r.limits u t before out now event

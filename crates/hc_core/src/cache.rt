@@ -16,5 +16,5 @@ pub struct Cache<B> {
     last_moment: u64,
     steps: u64,
     rows: Rows<B>,
-    ghost good: { failed ≡ false → IsGood rows steps } by { Prim.hlevel props },
+    ghost good: { failed ≡ false → IsGood rows last_moment steps } by { Prim.hlevel props },
 }

@@ -1,14 +1,13 @@
 use Rattle.std.proofs.Common.{◌≡◌, ℕ, None, refl, arith, nat_eq}
 use Rattle.std.specs.HashMap.{get}
-use Rattle.hc_core.proofs.Denying.{stands_begun}
-use Rattle.hc_core.proofs.Stepping.{stands_beginning}
+use Rattle.hc_core.proofs.Stepping.{begins_good, stands_beginning}
 use Rattle.hc_core.proofs.cache.Cache.new.Goals as goal
 
 pub invariant_of-result : goal.invariant_of-result
 invariant_of-result g c =
     let none : (d : ℕ) → get nat_eq c.new.result d ≡ None = λ d. (let empty = c.new.ensures.empty in rw empty refl) in
     let first = c.new-2.ensures.next in
-    record { good = λ _. (∣ (_, stands_begun _ refl first c.new.ensures.len none c.new-2.ensures.none) ∣₁, omega (arith, first)) }
+    record { good = λ _. (∣ begins_good _ refl first c.new.ensures.len none c.new-2.ensures.none ∣₁, omega (arith, first)) }
 
 pub returns-clause-stands : goal.returns-clause-stands
 returns-clause-stands g c =

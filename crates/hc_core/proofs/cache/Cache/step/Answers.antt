@@ -7,6 +7,9 @@ use Rattle.hc_core.proofs.Words.{is_there}
 use Rattle.hc_core.proofs.Stepping.{some_after, steps_on}
 use Rattle.hc_core.proofs.cache.Cache.step.Goals as goal
 
+pub answer-requires-clause-stands : goal.answer-requires-clause-stands
+answer-requires-clause-stands g c = let good = c.args.self.now.good c.if-self.false in ∥∥₁_map good.0 (λ until. until.0)
+
 pub invariant_of-self-2 : goal.invariant_of-self-2
 invariant_of-self-2 g c =
     let good = c.args.self.now.good c.if-self.false in
@@ -14,7 +17,7 @@ invariant_of-self-2 g c =
     let next = c.in_ok-answer.ensures.next in
     record {
       good = λ _. (
-        ∥∥₁_map good.0 (λ past. some_after c.args.self.now.rows c.answer.new.self c.args.now c.args.event.now (listed c.args.out.now) (listed c.answer.new.out) c.in_ok-answer.ensures.denied c.in_ok-answer.ensures.accepted past),
+        ∥∥₁_map good.0 (λ until. some_after c.args.self.now.rows c.answer.new.self c.args.now c.args.event.now (listed c.args.out.now) (listed c.answer.new.out) c.in_ok-answer.ensures.denied c.in_ok-answer.ensures.accepted c.in_ok-answer.ensures.limits c.args.self.now.last_moment c.requires.later until),
         omega (arith, few, next),
       );
     }

@@ -5,6 +5,7 @@ use Rattle.hc_rules.specs.Refusals.{piece_refusal}
 use Rattle.hc_core.specs.Stands.{gate_of, open_at}
 use Rattle.hc_core.proofs.Accepted.{start_rises, poll_lives, poll_wants, cancel_lives, head_free, piece_free, end_free, fault_free}
 use Rattle.hc_core.proofs.OpenArms.{doom_answered}
+use Rattle.hc_core.proofs.Standing.{standing_of}
 use Rattle.hc_core.proofs.rows.Rows.accept.Goals as goal
 
 pub start-requires-clause-rising : goal.start-requires-clause-rising
@@ -34,5 +35,6 @@ pub cancel-requires-clause-live : goal.cancel-requires-clause-live
 cancel-requires-clause-live g c = cancel_lives (gate_of c.args.self.now (event.Cancel c.in-Cancel.c)) c.in-Cancel.c (rw c.in-Cancel.is at c.requires.accepted)
 
 pub returns-in-Doom-clause-answers : goal.returns-in-Doom-clause-answers
-returns-in-Doom-clause-answers g c = λ t stands accepted.
+returns-in-Doom-clause-answers g c = λ t facts rows accepted.
+    let stands = standing_of c.args.self.now t facts rows in
     rw c.in-Doom.is (doom_answered c.args.self.now t c.args.now c.in-Doom.key (listed c.args.out.now) c.args.self.now.limits stands)

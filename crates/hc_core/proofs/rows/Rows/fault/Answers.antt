@@ -7,10 +7,12 @@ use Rattle.hc_core.proofs.HeadArms.{broken_answered}
 use Rattle.hc_core.proofs.Maps.{changes_as}
 use Rattle.hc_core.proofs.Opens.{sees_of, same_becomes}
 use Rattle.hc_core.proofs.rows.Rows.fault.Goals.{then-view, else-view}
+use Rattle.hc_core.proofs.Standing.{standing_of}
 use Rattle.hc_core.proofs.rows.Rows.fault.Goals as goal
 
 pub returns-clause-answers : goal.returns-clause-answers
-returns-clause-answers g c = λ now before t stands accepted.
+returns-clause-answers g c = λ now before t facts rows accepted.
+    let stands = standing_of c.args.self.now t facts rows in
     let r = c.args.self.now in
     let running = (table_of r.exchanges c.args.x).running in
     let sees = sees_of c.args.x running c.view.result c.unwrap-view.result c.view.ensures c.unwrap-view.ensures in

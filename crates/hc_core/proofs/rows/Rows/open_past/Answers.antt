@@ -9,10 +9,12 @@ use Rattle.hc_core.specs.Arms.{IsInLine}
 use Rattle.hc_core.proofs.Words.{there}
 use Rattle.hc_core.proofs.Maps.{act_and}
 use Rattle.hc_core.proofs.StartArms.{waiting_of, open_answered}
+use Rattle.hc_core.proofs.Standing.{standing_of}
 use Rattle.hc_core.proofs.rows.Rows.open_past.Goals as goal
 
 pub returns-clause-answers : goal.returns-clause-answers
-returns-clause-answers g c = λ want t stands accepted.
+returns-clause-answers g c = λ want t facts rows accepted.
+    let stands = standing_of c.args.self.now t facts rows in
     let (k, at, line) = there (get nat_eq c.args.self.now.consumers c.args.c) (IsInLine c.args.request) c.requires.line in
     let x_is = c.in_ok-x.ensures.number in
     open_answered c.args.self.now _ t c.args.now c.args.c want k c.args.request c.args.request stands at (waiting_of c.args.self.now t c.args.c k stands at line.0) line.1 refl refl refl c.in_ok-x.ensures.next c.in_ok-x.ensures.ok

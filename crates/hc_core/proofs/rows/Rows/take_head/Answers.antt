@@ -14,10 +14,12 @@ use Rattle.hc_core.proofs.HeadArms.{length_told, refused_answered}
 use Rattle.hc_core.proofs.AnswerArms.{taken_answered}
 use Rattle.hc_core.proofs.Opens.{sees_of, headless_of, told_is, ok_is, bad_by, good_by, seen_end, seen_end_is, stays_becomes}
 use Rattle.hc_core.proofs.rows.Rows.take_head.Goals.{in-Some, in-None}
+use Rattle.hc_core.proofs.Standing.{standing_of}
 use Rattle.hc_core.proofs.rows.Rows.take_head.Goals as goal
 
 pub returns-then-not-branch-clause-answers : goal.returns-then-not-branch-clause-answers
-returns-then-not-branch-clause-answers g c = λ t stands accepted.
+returns-then-not-branch-clause-answers g c = λ t facts rows accepted.
+    let stands = standing_of c.args.self.now t facts rows in
     let r = c.args.self.now in
     let running = (table_of r.exchanges c.args.x).running in
     let sees = sees_of c.args.x running c.view.result c.unwrap-c.result c.view.ensures c.unwrap-c.ensures in
@@ -34,7 +36,8 @@ returns-then-not-branch-clause-answers g c = λ t stands accepted.
     r.limits (listed c.args.out.now) (listed c.put.new.out) c.put.ensures.acts
 
 pub returns-clause-answers : goal.returns-clause-answers
-returns-clause-answers g c = λ t stands accepted.
+returns-clause-answers g c = λ t facts rows accepted.
+    let stands = standing_of c.args.self.now t facts rows in
     let r = c.args.self.now in
     let running = (table_of r.exchanges c.args.x).running in
     let sees = sees_of c.args.x running c.view.result c.unwrap-c.result c.view.ensures c.unwrap-c.ensures in

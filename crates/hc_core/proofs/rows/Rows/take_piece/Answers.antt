@@ -7,6 +7,7 @@ use Rattle.hc_core.proofs.PieceArm.{fit_of, piece_answered}
 use Rattle.hc_core.proofs.Maps.{merely_below}
 use Rattle.hc_core.proofs.Opens.{running_by, ends_below}
 use Rattle.hc_core.proofs.Pieces.{piece_below}
+use Rattle.hc_core.proofs.Standing.{some_standing, standing_of}
 use Rattle.hc_core.proofs.rows.Rows.take_piece.Goals as goal
 
 pub piece-requires-clause-below : goal.piece-requires-clause-below
@@ -14,11 +15,12 @@ piece-requires-clause-below g c =
     let r = c.args.self.now in
     let n = length c.args.bytes.now in
     ends_below n (table_of r.exchanges c.args.x).running (λ o running.
-    let below = merely_below (o.base + o.delivered + n) (2 ^ 62 + 1) c.requires.stands (λ s. piece_below r s.0 c.args.x n o s.1 running (rw running at c.requires.accepted) c.requires.small) in
+    let below = merely_below (o.base + o.delivered + n) (2 ^ 62 + 1) c.requires.stands (λ rows. let s = some_standing c.args.self.now rows in piece_below r s.0 c.args.x n o s.1 running (rw running at c.requires.accepted) c.requires.small) in
     omega (arith, below))
 
 pub returns-clause-answers : goal.returns-clause-answers
-returns-clause-answers g c = λ now before t stands accepted.
+returns-clause-answers g c = λ now before t facts rows accepted.
+    let stands = standing_of c.args.self.now t facts rows in
     let r = c.args.self.now in
     let n = length c.args.bytes.now in
     let (o, running) = running_by (table_of r.exchanges c.args.x).running (λ x. piece_refusal x n) refusal.NoExchange refl c.requires.accepted in

@@ -34,7 +34,6 @@ use Rattle.hc_core.specs.Changes.{ChangesAt}
 use Rattle.hc_core.specs.Kept.{IsKept, KeepsRunning, held_for, answer_for}
 use Rattle.hc_core.specs.Stands.{RowsStand, Answered}
 use Rattle.hc_core.proofs.Words.{eqb-same, none_some, false_true, same_row}
-use Rattle.hc_core.proofs.PastEntries.{unfounded}
 use Rattle.hc_core.proofs.PastCloses.{told_of, told_answered, closing_none}
 use Rattle.hc_core.proofs.DirectPolls.{known_other, known_here, changed}
 use Rattle.hc_core.proofs.DirectArms.{held_is}
@@ -46,12 +45,13 @@ use Rattle.hc_model.specs.Failures.{cause_of_head}
 use Rattle.hc_model.proofs.Dues.{stop_none}
 use Rattle.hc_exch.specs.Known.{is_all}
 use Rattle.hc_core.specs.Changes.{with_answer}
-use Rattle.hc_core.specs.Past.{IsWithin, BringsPast}
+use Rattle.hc_core.specs.Past.{BringsPast}
+use Rattle.hc_core.proofs.Standing.{IsWithin}
 use Rattle.hc_core.proofs.Direct.{reads_on}
 use Rattle.hc_core.proofs.Hearing.{told_due}
 use Rattle.hc_core.proofs.Lengths.{IsPlain, direct_plain}
 use Rattle.hc_core.proofs.DownArms.{headless_is}
-use Rattle.hc_core.proofs.HeadArms.{head_news, length_told, head_case_is, no_founding, no_sending, room_is}
+use Rattle.hc_core.proofs.HeadArms.{head_news, length_told, head_case_is, no_sending, room_is}
 use Rattle.hc_core.proofs.Standing.{ReadsPast, Standing}
 
 abbrev headed : ℕ → Response → Exchange → Exchange
@@ -81,10 +81,6 @@ end_promised (Some n) z zero unended = rw zero (ap Some (plus_zero n))
   where
     plus_zero : (n : ℕ) → 0 + n ≡ n
     plus_zero n = omega arith
-
-within_nothing : (n : ℕ) (o : Option ℕ) → ((p : ℕ) → o ≡ Some p → p < 2 ^ 62) → IsWithin n o 0
-within_nothing n None small = omega arith
-within_nothing n (Some p) small = (small p refl, omega arith)
 
 reached_zero : (o : Option ℕ) → is_reached o 0 ≡ true → o ≡ Some 0
 reached_zero None h = false_true h
@@ -189,7 +185,7 @@ module _ {B : Type 0} (r u : Rows B) (t : Tables) (now x : ℕ) (response : Resp
       let rd = hears.reading.reads in
       record {
         past = rd.brings.past;
-        within = subst (λ (bytes : List ℕ). IsWithin u.received (promise_of l) (length bytes)) (sym nothing) (within_nothing u.received (promise_of l) plain.small);
+        came = rw received rd.brings.came;
         told = rd.brings.told;
         finished = λ over none. finished_if (is_reached (promise_of l) 0) refl over;
       }
@@ -237,7 +233,7 @@ module _ {B : Type 0} (r u : Rows B) (t : Tables) (now x : ℕ) (response : Resp
   stands_answered =
       let rd = hears.reading.reads in
       let reached = all_reached (promise_of l) 0 in
-      reads_on r u t e c x v stands (told_entry t now c x (event.Head x response) [] (head_news x response) w rd.row rd.for_it (no_sending r u t now x response o stands hears headless [] false is refl) (no_founding r u t now x response o stands hears headless [] false is refl)) (told_only t now c x (event.Head x response) [] (head_news x response) w rd.row rd.for_it (λ y ne. refl)) refl refl refl (λ d. refl)
+      reads_on r u t e c x v stands (told_entry t now c x (event.Head x response) [] (head_news x response) w rd.row rd.for_it (no_sending r u t now x response o stands hears headless [] false is refl)) (told_only t now c x (event.Head x response) [] (head_news x response) w rd.row rd.for_it (λ y ne. refl)) refl refl refl
       hears.reading.row rd hears.reading.at (rw received (omega arith)) last becomes.next (λ y ne. known_other (known.headed l) x r.exchanges u.exchanges becomes y ne)
       (record {
         running = rw (here, running_is (is_all (promise_of l) 0) refl, reached, exchange) (running_after (is_reached (promise_of l) 0) refl);

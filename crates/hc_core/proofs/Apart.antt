@@ -44,7 +44,7 @@ nobody_reads r t x d j stands none row at = by_standing (stands.past.places d j 
 -- An entry about one consumer that reads nothing before and after it, and about no exchange.
 module _ {B : Type 0} (r u : Rows B) (t : Tables) (e : Entry) (c : ℕ) (k v : rows.Consumer) (o : Option Consumer) (stands : Standing r t) (entry : IsPastEntry t e c)
     (only : (x : ℕ) → t.exchange x ≡ None → IsOnly e x) (unopened : opening_in e.acts ≡ None)
-    (lasts : last_start_after e.event t.last_start ≡ t.last_start) (starts : starts_after e.event t.starts ≡ t.starts) (makes : (d : ℕ) → consumer_made d e.now e.event ≡ None)
+    (lasts : last_start_after e.event t.last_start ≡ t.last_start) (starts : starts_after e.event t.starts ≡ t.starts)
     (row : t.consumer c ≡ Some k) (off : (y : ℕ) → k.place ≡ place.Direct y → ⊥)
     (row_after : (after_accepted t e).consumer c ≡ Some v) (off_after : (y : ℕ) → v.place ≡ place.Direct y → ⊥)
     (received : u.received ≡ r.received) (last : u.last_start ≡ r.last_start) (exchanges : u.exchanges ≡ r.exchanges) (becomes : BecomesAt r.consumers u.consumers c o)

@@ -134,6 +134,6 @@ fail_answered r u t now c want why k before out limits stands failing received l
     poll_answered limits u t now c want (Fails why) [] before out (ap (polled t now want c) failing.row ∙ fails_move t now want c failing.v why failing.at failing.unshown failing.unowned)
     (closing_none r.received t (before_closing now c want (Fails why)) stands.past (λ q. poll_lossless c q (Fails why)) (λ y. refl) (λ y. unleft t c y failing.v (place.Down why) failing.row failing.at failing.unowned (λ q lo hi by is. (let never : place.Down why ≡ place.Bound q lo hi by = is in cc))))
     (flawless c why [] failing.told) acts
-    (stands_apart r u t e c failing.v gone.v None stands (poll_entry t now c want (Fails why) []) (λ x free. poll_only now c want x (Fails why) [] (fails why) (λ y ne. refl)) refl refl refl (λ d. refl)
+    (stands_apart r u t e c failing.v gone.v None stands (poll_entry t now c want (Fails why) []) (λ x free. poll_only now c want x (Fails why) [] (fails why) (λ y ne. refl)) refl refl refl
     failing.row (λ y is. not_down_direct why y failing.v.place failing.at is) gone.row (λ y is. not_over_direct y gone.v.place gone.place_is is)
     received last exchanges becomes (sym lives) lives (λ live. false_true (sym lives ∙ live)))

@@ -50,7 +50,6 @@ start_past t now c request = record {
   far = λ d ne. far_closed d [];
   lossless = λ q. refl;
   sends = refl;
-  founds = refl;
 }
 
 start_nothing : (now c x : ℕ) (request : Request) → IsOnly (start_of now c request) x

@@ -57,7 +57,6 @@ module _ {B : Type 0} (r u : Rows B) (t : Tables) (e : Entry) (c x : ℕ) (k : r
     (unopened : opening_in e.acts ≡ None)
     (lasts : last_start_after e.event t.last_start ≡ t.last_start)
     (starts : starts_after e.event t.starts ≡ t.starts)
-    (makes : (d : ℕ) → consumer_made d e.now e.event ≡ None)
     (row : t.consumer c ≡ Some k)
     (reader : ReadsPast r.received t c x k)
     (at : k.place ≡ place.Direct x)

@@ -234,7 +234,7 @@ module _ {B : Type 0} (r u : Rows B) (t : Tables) (now c want x : ℕ) (k : Cons
       goes_on r u t now c want x k (Asks x) stands there reading asks refl refl k v w_after received last becomes.next (λ y ne. known_other known.asked x r.exchanges u.exchanges becomes y ne)
       (unchanged r.consumers u.consumers c k same_map there) row_after exchange reading.at
       (kept_with t s x k v w w_after reading.at rd.row exchange refl refl (end_asked (promised w) w) kp)
-      (record { past = rd.brings.past; within = rw received rd.brings.within; told = rd.brings.told; finished = λ over none. end_asked (promised w) w ∙ rd.brings.finished over none })
+      (record { past = rd.brings.past; came = rw received rd.brings.came; told = rd.brings.told; finished = λ over none. end_asked (promised w) w ∙ rd.brings.finished over none })
       (record {
         running = rw (here, exchange) (asked_running (table_of r.exchanges x).running was);
         held = rw (here, exchange) (held_before ∙ sym (held_is s x c w_after v row_after rd.for_it reading.at));

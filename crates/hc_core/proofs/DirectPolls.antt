@@ -98,6 +98,6 @@ module _ {B : Type 0} (r u : Rows B) (t : Tables) (now c want x : ℕ) (k : Cons
       → v.place ≡ place.Direct x → IsKept after j v → BringsPast u.received w v.due → KeepsExchange after x (table_of u.exchanges x)
       → RowsStand u after
   goes_on j v w received last next tables becomes row exchange at kept brings known_as =
-      reads_on r u t e c x reading.v stands (poll_entry t now c want m []) (poll_only now c want x m [] only (λ y ne. closes_nothing y)) unopened refl refl (λ d. refl)
+      reads_on r u t e c x reading.v stands (poll_entry t now c want m []) (poll_only now c want x m [] only (λ y ne. closes_nothing y)) unopened refl refl
       reading.row reading.reads reading.at (rw received (omega arith)) last next tables
       known_as j v w becomes row at kept exchange brings

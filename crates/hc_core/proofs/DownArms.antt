@@ -62,7 +62,7 @@ answers_none : (t : Tables) (x : ℕ) (v : rows.Consumer) (w : Exchange) → v.p
 answers_none t x v w at row none = rw (at, row, none) (either_none v.shown)
 
 module _ {B : Type 0} (r u : Rows B) (t : Tables) (now x : ℕ) (ev : Event) (ys : List ℕ) (o : Open) (z : Exchange) (reason : Cause) (stands : Standing r t) (hears : Hears r t x o) (news : IsNews ev x) (headless : o.headed ≡ false)
-    (sends : sends_back (case_at t (told_of now ev ys)) ≡ false) (founds : is_founding (case_at t (told_of now ev ys)) ≡ false)
+    (sends : sends_back (case_at t (told_of now ev ys)) ≡ false)
     (lasts : last_start_after ev t.last_start ≡ t.last_start) (starts : starts_after ev t.starts ≡ t.starts)
     (closes : (y : ℕ) → y ≢ x → closes_in y (map act.Close ys) ≡ false) (unopened : opening_in (map act.Close ys) ≡ None)
     (heard : (q : rows.Consumer) → q.shown ≡ false → consumer_heard t (told_of now ev ys) o.c ev q ≡ record q { place = place.Down reason })
@@ -150,7 +150,7 @@ module _ {B : Type 0} (r u : Rows B) (t : Tables) (now x : ℕ) (ev : Event) (ys
   stands_down =
       let rd = hears.reading.reads in
       let e = told_of now ev ys in
-      reads_no_more r u t e c x v stands (told_entry t now c x ev ys news w rd.row rd.for_it sends founds) (told_only t now c x ev ys news w rd.row rd.for_it closes) unopened lasts starts (λ d. news.makes d now)
+      reads_no_more r u t e c x v stands (told_entry t now c x ev ys news w rd.row rd.for_it sends) (told_only t now c x ev ys news w rd.row rd.for_it closes) unopened lasts starts
       hears.reading.row rd hears.reading.at (rw received (omega arith)) last becomes.next (λ y ne. known_other known.closed x r.exchanges u.exchanges becomes y ne)
       (record {
         running = subst (λ (y : Known). KeepsRunning y.running (after.exchange x)) (sym here) closed_row;

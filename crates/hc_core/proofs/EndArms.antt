@@ -30,7 +30,8 @@ use Rattle.hc_exch.specs.declared.row.Open.{Open}
 use Rattle.hc_core.specs.declared.consumer.Consumer.{Consumer}
 use Rattle.hc_core.specs.declared.rows.Rows.{Rows}
 use Rattle.hc_core.specs.Changes.{ChangesAt, BecomesAt, with_due, with_end}
-use Rattle.hc_core.specs.Past.{IsWithin, is_misread}
+use Rattle.hc_core.specs.Past.{is_misread}
+use Rattle.hc_core.proofs.Standing.{IsWithin}
 use Rattle.hc_core.specs.Stands.{RowsStand, Answered}
 use Rattle.hc_core.proofs.Words.{eqb-same, none_some, false_true}
 use Rattle.hc_core.proofs.PastCloses.{told_of, told_answered, closing_none}
@@ -67,10 +68,10 @@ stop_here t x v w e reason own row opened names stop = rw (source_is t x v w own
 
 end_stopped : (w : Exchange) → IsStopped w (ended w)
 unfolding ended
-end_stopped w = record { c = refl; need = refl; joined = refl; head = refl; body = refl; begins = refl; promised_is = refl; over = refl }
+end_stopped w = record { c = refl; need = refl; head = refl; body = refl; begins = refl; promised_is = refl; over = refl }
 
 broken_stopped : (w : Exchange) → IsStopped w (record w { is_open = false })
-broken_stopped w = record { c = refl; need = refl; joined = refl; head = refl; body = refl; begins = refl; promised_is = refl; over = refl }
+broken_stopped w = record { c = refl; need = refl; head = refl; body = refl; begins = refl; promised_is = refl; over = refl }
 
 broken_end : (o : Option ℕ) (w : Exchange) → end_of_direct o (record w { is_open = false }) ≡ end_of_direct o w
 broken_end None w = refl
@@ -106,7 +107,7 @@ module _ {B : Type 0} (r u : Rows B) (t : Tables) (now x : ℕ) (o : Open) (stan
     stands_ended =
         let rd = hears.reading.reads in
         let stop : stop_cause t (event.End x) ≡ reason = ap (short_cause x) rd.row ∙ is_reason in
-        stands_stopped r u t now x (event.End x) o (ended w) reason j stands hears running (end_news x) refl refl refl refl (λ q. refl)
+        stands_stopped r u t now x (event.End x) o (ended w) reason j stands hears running (end_news x) refl refl refl (λ q. refl)
         (stop_here t x v w (told_of now (event.End x) []) reason rd.own rd.row hears.is.is_open refl stop) refl
         (ap (exchange_after t (told_of now (event.End x) []) x) rd.row ∙ exchange_ended t now x w) (end_stopped w) received last becomes kept_at due_is ends_is same_parts told finished
 
@@ -140,7 +141,7 @@ module _ {B : Type 0} (r u : Rows B) (t : Tables) (now x : ℕ) (o : Open) (stan
       let rd = hears.reading.reads in
       let promise : promised w ≡ Some p = sym hears.is.promised_is ∙ is in
       let all : nat_lt (length w.body) p ≡ false = grind (arith, nat_tests, hears.is.delivered, le) in
-      let within : IsWithin r.received (Some p) (length w.body) = subst (λ (n : Option ℕ). IsWithin r.received n (length w.body)) promise rd.brings.within in
+      let within : IsWithin r.received (Some p) (length w.body) = subst (λ (n : Option ℕ). IsWithin r.received n (length w.body)) promise rd.within in
       let whole : p ≡ length w.body = omega (arith, within.1, hears.is.delivered, le) in
       end_answered None (short_is p promise false all) k (unchanged r.consumers u.consumers c k same_map hears.there)
       (hears.reading.kept.due ∙ sym (or_nothing v.due))
@@ -177,7 +178,7 @@ module _ {B : Type 0} (r u : Rows B) (t : Tables) (now x : ℕ) (o : Open) (stan
       let rd = hears.reading.reads in
       let reason : Option Cause = Some (cause.Net x) in
       let stands_broken : RowsStand u (after_accepted t (told_of now (event.Fault x) [])) =
-      stands_stopped r u t now x (event.Fault x) o (record w { is_open = false }) reason (with_due (cause.Net x) k) stands hears running (fault_news x) refl refl refl refl (λ q. heard_fault (t.exchange x) rd.row)
+      stands_stopped r u t now x (event.Fault x) o (record w { is_open = false }) reason (with_due (cause.Net x) k) stands hears running (fault_news x) refl refl refl (λ q. heard_fault (t.exchange x) rd.row)
       (stop_here t x v w (told_of now (event.Fault x) []) reason rd.own rd.row hears.is.is_open refl refl) refl
       (ap (exchange_after t (told_of now (event.Fault x) []) x) rd.row ∙ exchange_broken t now x w) (broken_stopped w) received last becomes
       (changed r.consumers u.consumers c (with_due (cause.Net x)) k changes hears.there)

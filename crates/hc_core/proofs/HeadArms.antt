@@ -85,7 +85,7 @@ module _ {B : Type 0} (r u : Rows B) (t : Tables) (now x : ℕ) (o : Open) (stan
   stands_broken : RowsStand u (after_accepted t (told_of now (event.Fault x) []))
   unfolding case_of
   stands_broken =
-      stands_down r u t now x (event.Fault x) [] o (record hears.reading.reads.w { is_open = false }) (cause.Net x) stands hears (fault_news x) headless refl refl refl refl (λ y ne. refl) refl
+      stands_down r u t now x (event.Fault x) [] o (record hears.reading.reads.w { is_open = false }) (cause.Net x) stands hears (fault_news x) headless refl refl refl (λ y ne. refl) refl
       (λ q unshown. broken (t.exchange x) q hears.reading.reads.row unshown) (ap (exchange_after t (told_of now (event.Fault x) []) x) hears.reading.reads.row ∙ broken_exchange) refl refl received last becomes changes refl
 
   pub broken_answered : (limits : Limits) (before : List Act) → Answered limits u t before before now (event.Fault x)
@@ -109,7 +109,7 @@ module _ {B : Type 0} (r u : Rows B) (t : Tables) (now x : ℕ) (response : Resp
     pub head_case_is : case_at t (told_of now (event.Head x response) ys) ≡ Some (direct_by bad)
     head_case_is = case_is t (has_loss (map act.Close ys)) x response w bad hears.reading.reads.row hears.reading.reads.brings.past is
 
-    pub no_founding : is_founding (case_at t (told_of now (event.Head x response) ys)) ≡ false
+    no_founding : is_founding (case_at t (told_of now (event.Head x response) ys)) ≡ false
     no_founding = ap is_founding head_case_is ∙ not_founding bad
 
     pub no_sending : sends_back (case_at t (told_of now (event.Head x response) ys)) ≡ false
@@ -144,7 +144,7 @@ module _ {B : Type 0} (r u : Rows B) (t : Tables) (now x : ℕ) (response : Resp
     stands_refused : RowsStand u (after_accepted t e)
     stands_refused =
         stands_down r u t now x (event.Head x response) (x ∷ []) o (record w { head = Some response; answered = now; joined = joined_at t e w; asked = w.asked; is_open = false }) (cause.BadHead x) stands hears (head_news x response) headless
-        (no_sending (x ∷ []) true is refl) (no_founding (x ∷ []) true is refl) refl refl (λ y ne. closes_itself x y ne) refl
+        (no_sending (x ∷ []) true is refl) refl refl (λ y ne. closes_itself x y ne) refl
         (λ q unshown. refused (t.exchange x) q hears.reading.reads.row) (ap (exchange_after t e x) hears.reading.reads.row ∙ refused_exchange) refl refl received last becomes changes refl
 
     -- and is closed

@@ -86,15 +86,14 @@ pub record IsNews (ev : Event) (x : ℕ) : Type 0 where
   pub cancels : (d : ℕ) → ev ≡ event.Cancel d → ⊥
 
 module _ (t : Tables) (now c x : ℕ) (ev : Event) (ys : List ℕ) (news : IsNews ev x) (w : Exchange) (row : t.exchange x ≡ Some w) (for_it : w.c ≡ c) where
-  pub told_entry : sends_back (case_at t (told_of now ev ys)) ≡ false → is_founding (case_at t (told_of now ev ys)) ≡ false → IsPastEntry t (told_of now ev ys) c
-  told_entry sends founds = record {
+  pub told_entry : sends_back (case_at t (told_of now ev ys)) ≡ false → IsPastEntry t (told_of now ev ys) c
+  told_entry sends = record {
     about = λ y is. (let same : x ≡ y = (let both : Some x ≡ Some y = sym news.names ∙ is in cc) in record { w = w; row = subst (λ (z : ℕ). t.exchange z ≡ Some w) same row; for_it = for_it });
     cancels = λ d is. absurd (news.cancels d is);
     makes = λ d ne. news.makes d now;
     far = λ d ne. far_closed d ys;
     lossless = λ q. no_losses q ys;
     sends = sends;
-    founds = founds;
   }
 
   pub told_only : ((y : ℕ) → y ≢ x → closes_in y (map act.Close ys) ≡ false) → IsOnly (told_of now ev ys) x

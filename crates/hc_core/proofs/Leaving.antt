@@ -88,7 +88,7 @@ pub record IsOver (o : Option Exchange) (w : Exchange) : Type 0 where
   pub over : z.is_open ≡ false
 
 module _ {B : Type 0} (r u : Rows B) (t : Tables) (e : Entry) (c x : ℕ) (k : Consumer) (stands : Standing r t) (reading : IsReading r t c x k) (entry : IsPastEntry t e c) (only : IsOnly e x) (unopened : opening_in e.acts ≡ None)
-    (lasts : last_start_after e.event t.last_start ≡ t.last_start) (starts : starts_after e.event t.starts ≡ t.starts) (makes : (d : ℕ) → consumer_made d e.now e.event ≡ None)
+    (lasts : last_start_after e.event t.last_start ≡ t.last_start) (starts : starts_after e.event t.starts ≡ t.starts)
     (gone : IsGone ((after_accepted t e).consumer c)) (over : IsOver ((after_accepted t e).exchange x) reading.reads.w) (leaves : Leaves r u c x) where
   pub stands_left : RowsStand u (after_accepted t e)
   stands_left =
@@ -96,7 +96,7 @@ module _ {B : Type 0} (r u : Rows B) (t : Tables) (e : Entry) (c x : ℕ) (k : C
       let here : table_of u.exchanges x ≡ unknown = leaves.known x ∙ rw (eqb-same x) refl in
       let closed_row : is_open (s.exchange x) ≡ false = rw over.row over.over in
       let lives : is_live_place gone.v.place ≡ false = rw gone.place_is refl in
-      reads_no_more r u t e c x reading.v stands entry only unopened lasts starts makes reading.row reading.reads reading.at (rw leaves.received (omega arith)) leaves.last_start leaves.next
+      reads_no_more r u t e c x reading.v stands entry only unopened lasts starts reading.row reading.reads reading.at (rw leaves.received (omega arith)) leaves.last_start leaves.next
       (λ y ne. (let off : eqb x y ≡ false = eqb-other x y (λ eq. ne (sym eq)) in leaves.known y ∙ rw off refl))
       (record {
         running = rw here closed_row;
@@ -176,7 +176,7 @@ module _ {B : Type 0} (r u : Rows B) (t : Tables) (now c want x : ℕ) (k : Cons
   poll_left =
       let ys : List ℕ = closes_open x (table_of r.exchanges x) in
       let e = poll_of now c want m ys in
-      stands_left r u t e c x k stands reading (poll_entry t now c want m ys) (poll_only now c want x m ys (last_only x m last) (λ y ne. others_unclosed x y on ne)) (last_unopened c m ys last) refl refl (λ d. refl)
+      stands_left r u t e c x k stands reading (poll_entry t now c want m ys) (poll_only now c want x m ys (last_only x m last) (λ y ne. others_unclosed x y on ne)) (last_unopened c m ys last) refl refl
       (subst (λ o. IsGone (consumer_after t e c o)) (sym reading.row) (gone_row t now c want x reading.v reading.at m ys (last_leaves c m ys last)))
       (over_after t e x reading.reads.w on reading.reads.row on_is refl (last_closes x c m ys last ∙ closes_list x on)) leaves
 
@@ -195,7 +195,6 @@ module _ {B : Type 0} (r u : Rows B) (t : Tables) (now c x : ℕ) (k : Consumer)
     far = λ d ne. far_closed d ys;
     lossless = λ q. closes_lossless q ys;
     sends = refl;
-    founds = refl;
   }
 
   asks_nothing : (y : ℕ) (ys : List ℕ) → asks_in y (map act.Close ys) ≡ false
@@ -243,6 +242,6 @@ module _ {B : Type 0} (r u : Rows B) (t : Tables) (now c x : ℕ) (k : Consumer)
   cancel_left =
       let ys : List ℕ = closes_open x (table_of r.exchanges x) in
       let e = cancel_of now c ys in
-      stands_left r u t e c x k stands reading (cancel_entry ys) (cancel_only running) (no_open_list ys) refl refl (λ d. refl)
+      stands_left r u t e c x k stands reading (cancel_entry ys) (cancel_only running) (no_open_list ys) refl refl
       (subst (λ o. IsGone (consumer_after t e c o)) (sym reading.row) (cancel_over ys reading.v reading.at))
       (over_after t e x reading.reads.w running reading.reads.row running_is refl (closes_list x running)) leaves

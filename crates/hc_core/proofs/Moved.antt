@@ -6,7 +6,6 @@ use Rattle.hc_model.specs.declared.place.Place.{Place}
 use Rattle.hc_model.specs.declared.place.Place.TheVariants as place
 use Rattle.hc_model.specs.ConsumerRows.{back_in_line}
 use Rattle.hc_model.specs.Denials.{is_live, is_live_place, live}
-use Rattle.hc_model.specs.Exchanges.{promised}
 use Rattle.hc_event.specs.declared.act.Cause.{Cause}
 use Rattle.hc_model.specs.Rows as rows
 use Rattle.hc_model.specs.Rows.{Tables, Exchange}
@@ -14,7 +13,7 @@ use Rattle.hc_exch.specs.Exchanges.{table_of, next_of}
 use Rattle.hc_core.specs.declared.consumer.Consumer.{Consumer}
 use Rattle.hc_core.specs.declared.rows.Rows.{Rows}
 use Rattle.hc_core.specs.Changes.{BecomesAt}
-use Rattle.hc_core.specs.Past.{InOrder, IsWithin, BringsPast, GoesPast, in_line, reads_own, is_down}
+use Rattle.hc_core.specs.Past.{InOrder, BringsPast, GoesPast, in_line, reads_own, is_down}
 use Rattle.hc_core.specs.Kept.{IsKept, KeepsConsumer, KeepsExchange, held_for, unread, is_direct}
 use Rattle.hc_core.specs.Stands.{RowsStand}
 use Rattle.hc_core.proofs.Words.{same_or, eqb-same, eqb-other, false_true, same_row}
@@ -25,12 +24,8 @@ pub data IsSameOrBack (now : ℕ) (o p : Option rows.Consumer) : Type 0 where
   same : p ≡ o → IsSameOrBack now o p
   back : (k : rows.Consumer) → o ≡ Some k → k.place ≡ place.Line → p ≡ Some (back_in_line now k) → IsSameOrBack now o p
 
-pub within_more : (n m : ℕ) (p : Option ℕ) (count : ℕ) → n ≤ m → IsWithin n p count → IsWithin m p count
-within_more n m None count le h = omega (arith, h)
-within_more n m (Some p) count le h = h
-
 pub brings_more : (n m : ℕ) (w : Exchange) (due : Option Cause) → n ≤ m → BringsPast n w due → BringsPast m w due
-brings_more n m w due le b = record { past = b.past; within = within_more n m (promised w) (length w.body) le b.within; told = b.told; finished = b.finished }
+brings_more n m w due le b = record { past = b.past; came = omega (arith, le, b.came); told = b.told; finished = b.finished }
 
 down_line : (cause : _) → place.Down cause ≡ place.Line → ⊥
 down_line cause e = cc

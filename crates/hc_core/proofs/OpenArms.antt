@@ -24,7 +24,7 @@ use Rattle.hc_core.specs.Stands.{Answered}
 use Rattle.hc_core.proofs.Words.{same_or, eqb-same, eqb-other, none_some, false_true}
 use Rattle.hc_core.proofs.Frames.{consumer_absent}
 use Rattle.hc_core.proofs.Moved.{IsSameOrBack, stands_moved, kept_row, kept_none}
-use Rattle.hc_core.proofs.PastEntries.{IsPastEntry, IsOnly, others, other_exchanges, unfounded}
+use Rattle.hc_core.proofs.PastEntries.{IsPastEntry, IsOnly, others, other_exchanges}
 use Rattle.hc_core.proofs.Listed.{order_stays}
 use Rattle.hc_model.specs.ConsumerRows.{consumer_heard, consumer_acted, consumer_settled}
 use Rattle.hc_model.specs.Dooms.{doomed}
@@ -84,7 +84,6 @@ cancel_past t now c = record {
   far = λ d ne. far_closed d [];
   lossless = λ q. refl;
   sends = refl;
-  founds = refl;
 }
 
 cancel_nothing : (now c x : ℕ) → IsOnly (cancel_of now c []) x
@@ -122,7 +121,7 @@ idle_cancelled r u t now c before limits stands idle received last exchanges bec
     cancel_answered limits u t now c [] before before
     (closing_none r.received t e stands.past (λ q. refl) (λ y. refl) (λ y. unleft t c y idle.v idle.v.place idle.row refl idle.unowned (λ q lo hi by is. idle.free q lo hi by is)))
     (sym (append-nil before))
-    (stands_apart r u t e c idle.v gone.v None stands (cancel_past t now c) (λ x free. cancel_nothing now c x) refl refl refl (λ d. refl)
+    (stands_apart r u t e c idle.v gone.v None stands (cancel_past t now c) (λ x free. cancel_nothing now c x) refl refl refl
     idle.row idle.off gone.row (λ y is. not_over_direct y gone.v.place gone.place_is is)
     received last exchanges becomes (sym lives) lives (λ live. false_true (sym lives ∙ live)))
 
@@ -145,7 +144,6 @@ doom_past t now c key = record {
   far = λ d ne. far_closed d [];
   lossless = λ q. refl;
   sends = refl;
-  founds = refl;
 }
 
 doom_nothing : (now x : ℕ) (key : List ℕ) → IsOnly (told_of now (event.Doom key) []) x

@@ -48,7 +48,7 @@ pub record IsOf (t : Tables) (x c : ℕ) : Type 0 where
   pub row : t.exchange x ≡ Some w
   pub for_it : w.c ≡ c
 
--- An entry about the consumer c, which loses nothing, founds nothing and sends nobody back.
+-- An entry about the consumer c, which loses nothing and sends nobody back.
 pub record IsPastEntry (t : Tables) (e : Entry) (c : ℕ) : Type 0 where
   pub about : (x : ℕ) → exchange_in e.event ≡ Some x → IsOf t x c
   pub cancels : (d : ℕ) → e.event ≡ event.Cancel d → d ≡ c
@@ -56,7 +56,6 @@ pub record IsPastEntry (t : Tables) (e : Entry) (c : ℕ) : Type 0 where
   pub far : (d : ℕ) → d ≢ c → IsFarFrom d e.acts
   pub lossless : (r : ℕ) → loses_in r e.acts ≡ false
   pub sends : sends_back (case_at t e) ≡ false
-  pub founds : is_founding (case_at t e) ≡ false
 
 -- who isn't live is over
 over_is : (p : Place) → is_live_place p ≡ false → p ≡ place.Over
@@ -228,23 +227,6 @@ module _ (t : Tables) (e : Entry) (x : ℕ) (only : IsOnly e x) where
   pub other_exchanges : (y : ℕ) → y ≢ x → (after_accepted t e).exchange y ≡ t.exchange y
   other_exchanges y ne = by_exchange y (t.exchange y) ne
 
--- REPRESENTATIONS
-
--- none is founded
-pub unfounded : (t : Tables) (e : Entry) → is_founding (case_at t e) ≡ false → (q : ℕ) → t.representation q ≡ None → (after_accepted t e).representation q ≡ None
-unfolding representation_after
-unfounded t e none q row = ap (representation_after t e q) row ∙ by_event e.event
-  where
-    by_event : (ev : Event) → founded_at t e q ev ≡ None
-    by_event (event.Head x response) = rw none refl
-    by_event (event.Start c request) = refl
-    by_event (event.Poll c want) = refl
-    by_event (event.Piece x bytes) = refl
-    by_event (event.End x) = refl
-    by_event (event.Fault x) = refl
-    by_event (event.Cancel c) = refl
-    by_event (event.Doom key) = refl
-
 -- ACTS OF A MOVE
 
 move_lossless : (c r : ℕ) (m : Move) (ys : List ℕ) → loses_in r (acts_of c m ++ map act.Close ys) ≡ false
@@ -277,5 +259,4 @@ poll_entry t now c want m ys = record {
   far = λ d ne. far_other d c m (map act.Close ys) (eqb-other c d (λ eq. ne (sym eq))) (far_closed d ys);
   lossless = λ r. move_lossless c r m ys;
   sends = refl;
-  founds = refl;
 }

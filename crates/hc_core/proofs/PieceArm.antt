@@ -27,11 +27,11 @@ use Rattle.hc_exch.specs.Known as known
 use Rattle.hc_exch.specs.Known.{Known, is_all, is_last_of, seen}
 use Rattle.hc_exch.specs.declared.row.Open.{Open}
 use Rattle.hc_core.specs.declared.rows.Rows.{Rows}
-use Rattle.hc_core.specs.Past.{IsWithin, BringsPast}
+use Rattle.hc_core.specs.Past.{BringsPast}
+use Rattle.hc_core.proofs.Standing.{IsWithin}
 use Rattle.hc_core.specs.Kept.{KeepsRunning, IsRunning, held_for}
 use Rattle.hc_core.specs.Stands.{RowsStand, Answered}
 use Rattle.hc_core.proofs.Words.{eqb-same, none_some, false_true, same_row}
-use Rattle.hc_core.proofs.PastEntries.{unfounded}
 use Rattle.hc_core.proofs.PastCloses.{told_of, told_answered, closing_none}
 use Rattle.hc_core.proofs.Direct.{reads_on}
 use Rattle.hc_core.proofs.DirectPolls.{known_other, known_here, unchanged}
@@ -151,7 +151,7 @@ module _ {B : Type 0} (r u : Rows B) (t : Tables) (now x : ℕ) (bytes : List �
       let rd = hears.reading.reads in
       record {
         past = rd.brings.past;
-        within = rw (length-append w.body bytes) (within_piece (promised w) r.received u.received (length w.body) (length bytes) received (rw (← hears.is.promised_is, ← hears.is.delivered) fit.fits) rd.brings.within);
+        came = rw (length-append w.body bytes) (omega (arith, received, rd.brings.came));
         told = rd.brings.told;
         finished = λ over none. by_reached (is_reached (promised w) (length (w.body ++ bytes))) refl over;
       }
@@ -172,7 +172,7 @@ module _ {B : Type 0} (r u : Rows B) (t : Tables) (now x : ℕ) (bytes : List �
   stands_pieced =
       let rd = hears.reading.reads in
       let e = told_of now (event.Piece x bytes) [] in
-      reads_on r u t e c x v stands (told_entry t now c x (event.Piece x bytes) [] (piece_news x bytes) w rd.row rd.for_it refl refl) (told_only t now c x (event.Piece x bytes) [] (piece_news x bytes) w rd.row rd.for_it (λ y ne. refl)) refl refl refl (λ d. refl)
+      reads_on r u t e c x v stands (told_entry t now c x (event.Piece x bytes) [] (piece_news x bytes) w rd.row rd.for_it refl) (told_only t now c x (event.Piece x bytes) [] (piece_news x bytes) w rd.row rd.for_it (λ y ne. refl)) refl refl refl
       hears.reading.row rd hears.reading.at (rw received (omega arith)) last becomes.next (λ y ne. known_other (known.with_piece bytes true) x r.exchanges u.exchanges becomes y ne)
       (record {
         running = rw (here, running, last_is, exchange) (running_after (is_reached (promised w) (length (w.body ++ bytes))) refl);

@@ -7,7 +7,7 @@ use Rattle.hc_exch.specs.declared.row.Open.{Open}
 use Rattle.hc_model.specs.Rows.{Tables}
 use Rattle.hc_model.specs.Exchanges.{promised}
 use Rattle.hc_core.specs.declared.rows.Rows.{Rows}
-use Rattle.hc_core.specs.Past.{IsWithin}
+use Rattle.hc_core.proofs.Standing.{IsWithin}
 use Rattle.hc_core.proofs.Hearing.{hears_of}
 use Rattle.hc_core.proofs.PieceArm.{fit_of, within_piece}
 use Rattle.hc_core.proofs.Standing.{Standing}
@@ -22,7 +22,7 @@ piece_below r t x n o stands running accepted small =
     let fit = fit_of o n accepted in
     let w = hears.reading.reads.w in
     let within : IsWithin r.received o.promised o.delivered =
-    subst (λ p. IsWithin r.received p o.delivered) (sym hears.is.promised_is) (subst (λ m. IsWithin r.received (promised w) m) (sym hears.is.delivered) hears.reading.reads.brings.within) in
+    subst (λ p. IsWithin r.received p o.delivered) (sym hears.is.promised_is) (subst (λ m. IsWithin r.received (promised w) m) (sym hears.is.delivered) hears.reading.reads.within) in
     let after : IsWithin (r.received + n) o.promised (o.delivered + n) = within_piece o.promised r.received (r.received + n) o.delivered n refl fit.fits within in
     let count : o.delivered + n < 2 ^ 62 + 1 = within_small (r.received + n) o.promised (o.delivered + n) small after in
     let begins : o.base ≡ 0 = hears.is.base_is ∙ hears.reading.reads.begins in

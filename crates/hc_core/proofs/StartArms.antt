@@ -202,7 +202,7 @@ module _ {B : Type 0} (r u : Rows B) (t : Tables) (now c want : ℕ) (k : Consum
 
   brings_after : BringsPast u.received z v_after.due
   unfolding v_after
-  brings_after = record { past = refl; within = omega arith; told = refl; finished = λ over none. false_true (sym over) }
+  brings_after = record { past = refl; came = omega arith; told = refl; finished = λ over none. false_true (sym over) }
 
   running_after : KeepsRunning (table_of u.exchanges x).running (after.exchange x)
   running_after = rw (here, exchange) (record {

@@ -27,7 +27,6 @@ use Rattle.hc_core.specs.Past.{BringsPast, is_misread}
 use Rattle.hc_core.specs.Kept.{IsKept, KeepsRunning, held_for, answer_for}
 use Rattle.hc_core.specs.Stands.{RowsStand}
 use Rattle.hc_core.proofs.Words.{none_some, false_true}
-use Rattle.hc_core.proofs.PastEntries.{unfounded}
 use Rattle.hc_core.proofs.PastCloses.{told_of}
 use Rattle.hc_core.proofs.Direct.{reads_on}
 use Rattle.hc_core.proofs.DirectPolls.{known_other, known_here}
@@ -39,7 +38,6 @@ use Rattle.hc_core.proofs.Standing.{ReadsPast, Standing}
 pub record IsStopped (w z : Exchange) : Type 0 where
   pub c : z.c ≡ w.c
   pub need : z.need ≡ w.need
-  pub joined : z.joined ≡ w.joined
   pub head : z.head ≡ w.head
   pub body : z.body ≡ w.body
   pub begins : base z ≡ base w
@@ -69,7 +67,7 @@ none_due (Some z) b h = none_some z (sym h)
 
 module _ {B : Type 0} (r u : Rows B) (t : Tables) (now x : ℕ) (ev : Event) (o : Open) (z : Exchange) (reason : Option Cause) (j : Consumer) (stands : Standing r t) (hears : Hears r t x o) (running : (table_of r.exchanges x).running ≡ Some o)
     (news : IsNews ev x)
-    (sends : sends_back (case_at t (told_of now ev [])) ≡ false) (founds : is_founding (case_at t (told_of now ev [])) ≡ false)
+    (sends : sends_back (case_at t (told_of now ev [])) ≡ false)
     (lasts : last_start_after ev t.last_start ≡ t.last_start) (starts : starts_after ev t.starts ≡ t.starts)
     (heard : rows.Consumer → consumer_heard t (told_of now ev []) o.c ev hears.reading.v ≡ hears.reading.v)
     (stops : cause_of_stop t (told_of now ev []) hears.reading.v ≡ reason) (headless : cause_of_head t (told_of now ev []) o.c ev ≡ None)
@@ -132,7 +130,7 @@ module _ {B : Type 0} (r u : Rows B) (t : Tables) (now x : ℕ) (ev : Event) (o 
       let rd = hears.reading.reads in
       record {
         past = ap route_of stopped.need ∙ rd.brings.past;
-        within = rw (stopped.promised_is, stopped.body, received) rd.brings.within;
+        came = rw (stopped.body, received) rd.brings.came;
         told = no_misread v.due reason rd.brings.told told;
         finished = λ over none. finished (none_due v.due reason none).1 ∙ ap (λ (bytes : List ℕ). Some (length bytes)) (sym stopped.body);
       }
@@ -156,7 +154,7 @@ module _ {B : Type 0} (r u : Rows B) (t : Tables) (now x : ℕ) (ev : Event) (o 
   stands_stopped =
       let rd = hears.reading.reads in
       let e = told_of now ev [] in
-      reads_on r u t e c x v stands (told_entry t now c x ev [] news w rd.row rd.for_it sends founds) (told_only t now c x ev [] news w rd.row rd.for_it (λ y ne. refl)) refl lasts starts (λ d. news.makes d now)
+      reads_on r u t e c x v stands (told_entry t now c x ev [] news w rd.row rd.for_it sends) (told_only t now c x ev [] news w rd.row rd.for_it (λ y ne. refl)) refl lasts starts
       hears.reading.row rd hears.reading.at (rw received (omega arith)) last becomes.next (λ y ne. known_other known.closed x r.exchanges u.exchanges becomes y ne)
       (record {
         running = subst (λ (y : Known). KeepsRunning y.running (after.exchange x)) (sym here) closed_row;

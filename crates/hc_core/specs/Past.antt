@@ -1,5 +1,5 @@
 -- What is built: all that is live goes past the store. What of that no law tells of every run is said here.
-use Rattle.std.specs.Prelude.{◌≡◌, ℕ, ◌+◌, ◌≤◌, ◌<◌, ◌^◌, List, [], ◌∷◌, length, Bool, true, false, Option, Some, None}
+use Rattle.std.specs.Prelude.{◌≡◌, ℕ, ◌+◌, ◌≤◌, ◌<◌, List, [], ◌∷◌, length, Bool, true, false, Option, Some, None}
 use Rattle.hc_event.specs.declared.event.Event.{Event}
 use Rattle.hc_event.specs.declared.event.Event.TheVariants as event
 use Rattle.hc_event.specs.declared.act.Cause.{Cause}
@@ -9,7 +9,6 @@ use Rattle.hc_rules.specs.Needs.{route_of}
 use Rattle.hc_rules.specs.Requests.{is_disabled, is_only}
 use Rattle.hc_model.specs.declared.place.Place.TheVariants as place
 use Rattle.hc_model.specs.Rows.{Tables, Exchange, Consumer}
-use Rattle.hc_model.specs.Exchanges.{promised}
 use Rattle.hc_model.specs.Reading.{end_in}
 
 -- NUMBERS
@@ -24,13 +23,6 @@ pub record InOrder (t : Tables) : Type 0 where
   pub starts : Descends (t.last_start + 1) t.starts
   pub openings : Descends (t.opened + 1) t.openings
 
--- HOW MUCH CAME
-
--- what came is within what was promised, or else within all that was received
-abbrev pub IsWithin : ℕ → Option ℕ → ℕ → Type 0
-IsWithin received None n = n ≤ received
-IsWithin received (Some p) n = (p < 2 ^ 62) × (n ≤ p)
-
 -- WHO IS LIVE
 
 -- the failure is that of a read
@@ -42,7 +34,7 @@ is_misread (Some _) = false
 -- an exchange past the store, and the failure that is due to whom it is read by
 pub record BringsPast (received : ℕ) (w : Exchange) (due : Option Cause) : Type 0 where
   pub past : route_of w.need ≡ route.Direct
-  pub within : IsWithin received (promised w) (length w.body)
+  pub came : length w.body ≤ received
   pub told : is_misread due ≡ false
   -- once it is over without a failure, all of it came
   pub finished : w.is_open ≡ false → due ≡ None → end_in (Some w) ≡ Some (length w.body)

@@ -46,10 +46,9 @@ use Rattle.hc_model.proofs.Dues.{stop_none}
 use Rattle.hc_exch.specs.Known.{is_all}
 use Rattle.hc_core.specs.Changes.{with_answer}
 use Rattle.hc_core.specs.Past.{BringsPast}
-use Rattle.hc_core.proofs.Standing.{IsWithin}
 use Rattle.hc_core.proofs.Direct.{reads_on}
 use Rattle.hc_core.proofs.Hearing.{told_due}
-use Rattle.hc_core.proofs.Lengths.{IsPlain, direct_plain}
+use Rattle.hc_core.proofs.Lengths.{direct_begins}
 use Rattle.hc_core.proofs.DownArms.{headless_is}
 use Rattle.hc_core.proofs.HeadArms.{head_news, length_told, head_case_is, no_sending, room_is}
 use Rattle.hc_core.proofs.Standing.{ReadsPast, Standing}
@@ -118,8 +117,8 @@ module _ {B : Type 0} (r u : Rows B) (t : Tables) (now x : ℕ) (response : Resp
   taken_case : case_at t e ≡ Some case.DirectTaken
   taken_case = head_case_is r u t now x response o stands hears headless [] false is refl
 
-  plain : IsPlain l
-  plain = direct_plain w.need w.request response hears.reading.reads.brings.past
+  begins : base_of l ≡ 0
+  begins = direct_begins w.need w.request response hears.reading.reads.brings.past
 
   no_head : w.head ≡ None
   no_head = headless_is o w hears.is headless
@@ -174,8 +173,8 @@ module _ {B : Type 0} (r u : Rows B) (t : Tables) (now x : ℕ) (response : Resp
         own = kp.own;
         shown = kp.shown;
         answer = sym (answer_shown after x v (headed now response w) unshown at exchange);
-        begins = kp.begins ∙ (lows_are t x v w at rd.row ∙ (rd.begins ∙ (sym plain.begins ∙ sym (lows_are after x v (headed now response w) at exchange))));
-        ends = sym (highs_here after x v (headed now response w) at exchange ∙ end_promised (promise_of l) (headed now response w) plain.begins unended);
+        begins = kp.begins ∙ (lows_are t x v w at rd.row ∙ (rd.begins ∙ (sym begins ∙ sym (lows_are after x v (headed now response w) at exchange))));
+        ends = sym (highs_here after x v (headed now response w) at exchange ∙ end_promised (promise_of l) (headed now response w) begins unended);
         given = kp.given;
         due = kp.due;
       }
@@ -191,7 +190,7 @@ module _ {B : Type 0} (r u : Rows B) (t : Tables) (now x : ℕ) (response : Resp
       }
     where
       finished_if : (b : Bool) → is_reached (promise_of l) 0 ≡ b → (not (is_reached (promise_of l) 0) && w.is_open) ≡ false → end_in (Some (headed now response w)) ≡ Some (length w.body)
-      finished_if true reached over = end_promised (promise_of l) (headed now response w) plain.begins unended ∙ (reached_zero (promise_of l) reached ∙ ap (λ (bytes : List ℕ). Some (length bytes)) (sym nothing))
+      finished_if true reached over = end_promised (promise_of l) (headed now response w) begins unended ∙ (reached_zero (promise_of l) reached ∙ ap (λ (bytes : List ℕ). Some (length bytes)) (sym nothing))
       finished_if false reached over = let on : w.is_open ≡ false = rw reached at over in false_true (sym on ∙ hears.is.is_open)
 
   here : table_of u.exchanges x ≡ known.headed l (table_of r.exchanges x)

@@ -31,7 +31,6 @@ use Rattle.hc_core.specs.declared.consumer.Consumer.{Consumer}
 use Rattle.hc_core.specs.declared.rows.Rows.{Rows}
 use Rattle.hc_core.specs.Changes.{ChangesAt, BecomesAt, with_due, with_end}
 use Rattle.hc_core.specs.Past.{is_misread}
-use Rattle.hc_core.proofs.Standing.{IsWithin}
 use Rattle.hc_core.specs.Stands.{RowsStand, Answered}
 use Rattle.hc_core.proofs.Words.{eqb-same, none_some, false_true}
 use Rattle.hc_core.proofs.PastCloses.{told_of, told_answered, closing_none}
@@ -141,8 +140,8 @@ module _ {B : Type 0} (r u : Rows B) (t : Tables) (now x : ℕ) (o : Open) (stan
       let rd = hears.reading.reads in
       let promise : promised w ≡ Some p = sym hears.is.promised_is ∙ is in
       let all : nat_lt (length w.body) p ≡ false = grind (arith, nat_tests, hears.is.delivered, le) in
-      let within : IsWithin r.received (Some p) (length w.body) = subst (λ (n : Option ℕ). IsWithin r.received n (length w.body)) promise rd.within in
-      let whole : p ≡ length w.body = omega (arith, within.1, hears.is.delivered, le) in
+      let most : length w.body ≤ p = rd.most p promise in
+      let whole : p ≡ length w.body = omega (arith, most, hears.is.delivered, le) in
       end_answered None (short_is p promise false all) k (unchanged r.consumers u.consumers c k same_map hears.there)
       (hears.reading.kept.due ∙ sym (or_nothing v.due))
       (hi_is ∙ (ap (λ (n : Option ℕ). end_of_direct n w) promise ∙ sym (ap (λ (n : Option ℕ). end_of_direct n (ended w)) promise)))

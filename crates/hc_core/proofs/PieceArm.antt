@@ -28,7 +28,6 @@ use Rattle.hc_exch.specs.Known.{Known, is_all, is_last_of, seen}
 use Rattle.hc_exch.specs.declared.row.Open.{Open}
 use Rattle.hc_core.specs.declared.rows.Rows.{Rows}
 use Rattle.hc_core.specs.Past.{BringsPast}
-use Rattle.hc_core.proofs.Standing.{IsWithin}
 use Rattle.hc_core.specs.Kept.{KeepsRunning, IsRunning, held_for}
 use Rattle.hc_core.specs.Stands.{RowsStand, Answered}
 use Rattle.hc_core.proofs.Words.{eqb-same, none_some, false_true, same_row}
@@ -60,35 +59,10 @@ end_pieced : (o : Option ℕ) (bytes : List ℕ) (w : Exchange) → w.is_ended �
 end_pieced None bytes w unended = rw unended refl
 end_pieced (Some n) bytes w unended = refl
 
-headed_is : (o : Open) (w : Exchange) → IsRunning o w → o.headed ≡ true → is_some w.head ≡ true
-headed_is o w is headed = sym is.headed ∙ headed
-
 piece_news : (x : ℕ) (bytes : List ℕ) → IsNews (event.Piece x bytes) x
 piece_news x bytes = record { names = refl; makes = λ d now. refl; cancels = λ d is. (let never : event.Piece x bytes ≡ event.Cancel d = is in cc) }
 
--- what an accepted piece says
-pub record IsFit (o : Open) (n : ℕ) : Type 0 where
-  pub headed : o.headed ≡ true
-  pub fits : overlong o.promised (o.delivered + n) ≡ None
-
-pub fit_of : (o : Open) (n : ℕ) → piece_refusal (Some (seen o)) n ≡ None → IsFit o n
-fit_of o n accepted = by_head o.headed o.asked (eqb n 0) refl refl refl
-  where
-    by_head : (h a z : Bool) → o.headed ≡ h → o.asked ≡ a → eqb n 0 ≡ z → IsFit o n
-    by_head false a z hi ai zi = none_some _ (sym (rw hi at accepted))
-    by_head true false z hi ai zi = none_some _ (sym (rw (hi, ai) at accepted))
-    by_head true true true hi ai zi = none_some _ (sym (rw (hi, ai, zi) at accepted))
-    by_head true true false hi ai zi = record { headed = hi; fits = rw (hi, ai, zi) at accepted }
-
-pub within_piece : (o : Option ℕ) (n m count more : ℕ) → m ≡ n + more → overlong o (count + more) ≡ None → IsWithin n o count → IsWithin m o (count + more)
-within_piece None n m count more is fits h = omega (arith, is, h)
-within_piece (Some p) n m count more is fits h = (h.0, below (nat_lt p (count + more)) refl)
-  where
-    below : (b : Bool) → nat_lt p (count + more) ≡ b → count + more ≤ p
-    below true lt = none_some _ (sym (rw lt at fits))
-    below false lt = grind (arith, nat_tests)
-
-module _ {B : Type 0} (r u : Rows B) (t : Tables) (now x : ℕ) (bytes : List ℕ) (o : Open) (stands : Standing r t) (hears : Hears r t x o) (fit : IsFit o (length bytes))
+module _ {B : Type 0} (r u : Rows B) (t : Tables) (now x : ℕ) (bytes : List ℕ) (o : Open) (stands : Standing r t) (hears : Hears r t x o)
     (received : u.received ≡ r.received + length bytes) (last : u.last_start ≡ r.last_start) (same_map : u.consumers ≡ r.consumers) (becomes : exch.Becomes (known.with_piece bytes true) x r.exchanges u.exchanges) (running : (table_of r.exchanges x).running ≡ Some o) where
   abbrev c : ℕ
   c = o.c

@@ -24,7 +24,6 @@ use Rattle.hc_exch.specs.Known.{Known}
 use Rattle.hc_exch.specs.declared.row.Open.{Open}
 use Rattle.hc_core.specs.declared.consumer.Consumer.{Consumer}
 use Rattle.hc_core.specs.declared.rows.Rows.{Rows}
-use Rattle.hc_core.proofs.Standing.{IsWithin}
 use Rattle.hc_core.specs.Kept.{KeepsRunning, held_for}
 use Rattle.hc_core.specs.Arms.{read_view, source_in, most, asks_or_waits, asked_in}
 use Rattle.hc_core.proofs.Words.{none_some, false_true, some_is}
@@ -277,20 +276,16 @@ module _ {B : Type 0} (r : Rows B) (t : Tables) (want c x : ℕ) (k : Consumer) 
 
   -- WHAT FITS
 
-  pub body_small : (n : ℕ) (p : Option ℕ) (count : ℕ) → n < 2 ^ 61 → IsWithin n p count → count < 2 ^ 62
-  body_small n None count small h = omega (arith, small, h)
-  body_small n (Some p) count small h = omega (arith, h.0, h.1)
-
   pub given_small : r.received < 2 ^ 61 → k.lo + k.given < 2 ^ 62
   given_small small =
-      let body : length w.body < 2 ^ 62 = body_small r.received (promised w) (length w.body) small rd.reads.within in
+      let body : length w.body < 2 ^ 62 = (let came = rd.reads.brings.came in omega (arith, small, came)) in
       let few = rd.reads.given in
       let same_given = rd.kept.given in
       omega (arith, body, few, same_given, from_zero)
 
   pub more_fits : (n : ℕ) (bytes : List ℕ) → r.received < 2 ^ 61 → bytes ≡ take n known_here.held → k.given + length bytes < 2 ^ 62
   more_fits n bytes small bytes_are =
-      let body : length w.body < 2 ^ 62 = body_small r.received (promised w) (length w.body) small rd.reads.within in
+      let body : length w.body < 2 ^ 62 = (let came = rd.reads.brings.came in omega (arith, small, came)) in
       let few = rd.reads.given in
       let same_given = rd.kept.given in
       let len : length bytes ≡ min n (length known_here.held) = ap length bytes_are ∙ length-take n known_here.held in

@@ -1,12 +1,12 @@
 -- What holds where the rows stand for the tables of a run: beside the ties, what the run tells.
-use Rattle.std.proofs.Common.{◌≡◌, ◌≢◌, ℕ, ◌+◌, ◌≤◌, ◌<◌, ◌^◌, List, [], length, Bool, true, false, Option, Some, None, refl, ap, sym, ◌∙◌}
+use Rattle.std.proofs.Common.{◌≡◌, ◌≢◌, ℕ, ◌+◌, ◌≤◌, List, [], length, Bool, true, false, Option, Some, None, refl, ap, sym, ◌∙◌}
 use Rattle.std.specs.Prelude.{is_some, nat_eq}
 use Rattle.std.specs.HashMap.{get, hash_map_len}
 use Rattle.hc_event.specs.declared.event.Response.{Response}
 use Rattle.hc_event.specs.declared.act.Cause.{Cause}
 use Rattle.hc_rules.specs.declared.need.Route.TheVariants as route
 use Rattle.hc_rules.specs.Needs.{route_of}
-use Rattle.hc_rules.specs.Lengths.{base_of, promise_of}
+use Rattle.hc_rules.specs.Lengths.{base_of}
 use Rattle.hc_rules.specs.Requests.{is_disabled, is_only}
 use Rattle.hc_exch.specs.Exchanges.{table_of, next_of}
 use Rattle.hc_model.specs.declared.place.Place.{Place}
@@ -30,9 +30,9 @@ use Rattle.hc_core.specs.Facts.{Facts}
 use Rattle.hc_core.specs.Kept.{KeepsConsumer, KeepsExchange}
 use Rattle.hc_core.specs.Past.{Descends, InOrder, BringsPast, GoesPast, in_line, reads_own, is_down, is_misread}
 use Rattle.hc_core.specs.Stands.{RowsStand, StandsForSome}
-use Rattle.hc_core.proofs.Lengths.{direct_plain}
+use Rattle.hc_core.proofs.Lengths.{direct_begins}
 use Rattle.hc_core.proofs.LiveCounts.{filter_nothing}
-use Rattle.hc_core.proofs.Words.{none_some, false_true}
+use Rattle.hc_core.proofs.Words.{false_true}
 
 -- THE FACTS
 
@@ -40,13 +40,6 @@ pub facts_of_runs : OfRuns Facts
 facts_of_runs limits contents h may run =
     let here = carried limits contents h may run in
     record { sound = here.is_sound; owned = here.is_owned; places = places_in_runs limits contents h may run }
-
--- HOW MUCH CAME
-
--- what came is within what was promised, or else within all that was received
-abbrev pub IsWithin : ℕ → Option ℕ → ℕ → Type 0
-IsWithin received None n = n ≤ received
-IsWithin received (Some p) n = (p < 2 ^ 62) × (n ≤ p)
 
 -- WHO STANDS WHERE
 
@@ -59,7 +52,7 @@ pub record ReadsPast (received : ℕ) (t : Tables) (c x : ℕ) (k : Consumer) : 
   pub joined : w.joined ≡ None
   pub unfounded : t.representation x ≡ None
   pub begins : base w ≡ 0
-  pub within : IsWithin received (promised w) (length w.body)
+  pub most : (n : ℕ) → promised w ≡ Some n → length w.body ≤ n
   pub given : k.given ≤ length w.body
   -- until its head comes it is open, and then it is to be shown that
   pub awaited : w.head ≡ None → w.is_open ≡ true
@@ -144,15 +137,7 @@ module _ {B : Type 0} (r : Rows B) (t : Tables) (facts : Facts t) (stands : Rows
 
   begins_by : (w : Exchange) (head : Option Response) → route_of w.need ≡ route.Direct → base_of (length_by w head) ≡ 0
   begins_by w None past = refl
-  begins_by w (Some response) past = (direct_plain w.need w.request response past).begins
-
-  small_by : (w : Exchange) (head : Option Response) → route_of w.need ≡ route.Direct → (n : ℕ) → promise_of (length_by w head) ≡ Some n → n < 2 ^ 62
-  small_by w None past n is = none_some n is
-  small_by w (Some response) past n is = (direct_plain w.need w.request response past).small n is
-
-  within_by : {due : Option Cause} (x : ℕ) (w : Exchange) → t.exchange x ≡ Some w → BringsPast r.received w due → (o : Option ℕ) → promised w ≡ o → IsWithin r.received o (length w.body)
-  within_by x w row brings None is = brings.came
-  within_by x w row brings (Some n) is = (small_by w w.head brings.past n is, facts.places.promised_most x n w row is)
+  begins_by w (Some response) past = direct_begins w.need w.request response past
 
   unended_by : (x : ℕ) (w : Exchange) → t.exchange x ≡ Some w → w.is_open ≡ true → w.is_ended ≡ false
   unended_by x w row on = by_flag w.is_ended refl
@@ -173,7 +158,7 @@ module _ {B : Type 0} (r : Rows B) (t : Tables) (facts : Facts t) (stands : Rows
         joined = p.unjoined;
         unfounded = p.unfounded;
         begins = begins_by p.w p.w.head here.past;
-        within = within_by x p.w p.row here (promised p.w) refl;
+        most = λ n is. facts.places.promised_most x n p.w p.row is;
         given = p.given;
         awaited = λ none. (p.unheard none).is_open;
         unheard = λ none. ((p.unheard none).unshown, (p.unheard none).empty, (p.unheard none).undue);

@@ -1,5 +1,5 @@
 -- The head of an exchange past the store that can be used: its consumer is to be shown it.
-use Rattle.std.proofs.Common.{◌≡◌, ℕ, ◌+◌, ◌≤◌, ◌<◌, ◌^◌, List, [], length, Bool, true, false, cond, eqb, Option, Some, None, refl, ap, sym, ◌∙◌, subst, arith}
+use Rattle.std.proofs.Common.{◌≡◌, ℕ, ◌+◌, List, [], length, Bool, true, false, cond, eqb, Option, Some, None, refl, ap, sym, ◌∙◌, arith}
 use Rattle.std.proofs.lemmas.List.{append-nil}
 use Rattle.std.specs.Prelude.{◌&&◌, not}
 use Rattle.std.specs.Option.{option_or}
@@ -33,7 +33,7 @@ use Rattle.hc_core.specs.declared.rows.Rows.{Rows}
 use Rattle.hc_core.specs.Changes.{ChangesAt}
 use Rattle.hc_core.specs.Kept.{IsKept, KeepsRunning, held_for, answer_for}
 use Rattle.hc_core.specs.Stands.{RowsStand, Answered}
-use Rattle.hc_core.proofs.Words.{eqb-same, none_some, false_true, same_row}
+use Rattle.hc_core.proofs.Words.{eqb-same, false_true}
 use Rattle.hc_core.proofs.PastCloses.{told_of, told_answered, closing_none}
 use Rattle.hc_core.proofs.DirectPolls.{known_other, known_here, changed}
 use Rattle.hc_core.proofs.DirectArms.{held_is}
@@ -51,7 +51,7 @@ use Rattle.hc_core.proofs.Hearing.{told_due}
 use Rattle.hc_core.proofs.Lengths.{direct_begins}
 use Rattle.hc_core.proofs.DownArms.{headless_is}
 use Rattle.hc_core.proofs.HeadArms.{head_news, length_told, head_case_is, no_sending, room_is}
-use Rattle.hc_core.proofs.Standing.{ReadsPast, Standing}
+use Rattle.hc_core.proofs.Standing.{Standing}
 
 abbrev headed : ℕ → Response → Exchange → Exchange
 headed now response w = record w {

@@ -3,7 +3,6 @@ use Rattle.std.proofs.Common.{◌≡◌, inl, inr, ℕ, ◌+◌, true, Option, S
 use Rattle.std.specs.Prelude.{is_some}
 use Rattle.hc_event.specs.Filters.{Opening, opening_in}
 use Rattle.hc_model.specs.declared.place.Place.TheVariants as place
-use Rattle.hc_model.specs.ConsumerRows.{consumer_made}
 use Rattle.hc_model.specs.Denials.{is_live_place}
 use Rattle.hc_model.specs.Entries.{Entry}
 use Rattle.hc_model.specs.ExchangeRows.{exchange_after}

@@ -1,7 +1,7 @@
 -- A consumer starts that goes past the store.
-use Rattle.std.proofs.Common.{◌≡◌, ◌≢◌, inl, inr, ℕ, ◌+◌, ◌<◌, List, [], ◌∷◌, Bool, true, false, eqb, Option, Some, None, refl, ap, sym, ◌∙◌, subst, arith}
+use Rattle.std.proofs.Common.{◌≡◌, ◌≢◌, ℕ, ◌+◌, ◌<◌, List, [], ◌∷◌, Bool, true, false, eqb, Some, None, refl, ap, sym, ◌∙◌, subst, arith}
 use Rattle.std.proofs.lemmas.List.{append-nil}
-use Rattle.std.specs.Prelude.{is_some, nat_eq}
+use Rattle.std.specs.Prelude.{nat_eq}
 use Rattle.std.specs.HashMap.{get, hash_map_len}
 use Rattle.hc_event.specs.declared.event.Event.TheVariants as event
 use Rattle.hc_event.specs.declared.event.Request.{Request}
@@ -24,8 +24,7 @@ use Rattle.hc_core.specs.Changes.{BecomesAt}
 use Rattle.hc_core.specs.Past.{InOrder, GoesPast, in_line}
 use Rattle.hc_core.specs.Kept.{IsKept, KeepsConsumer, held_for}
 use Rattle.hc_core.specs.Stands.{Answered}
-use Rattle.hc_core.proofs.Words.{same_or, eqb-same, eqb-other, none_some, false_true, same_row}
-use Rattle.hc_core.proofs.Frames.{consumer_absent}
+use Rattle.hc_core.proofs.Words.{eqb-same, eqb-other, none_some, same_row}
 use Rattle.hc_core.proofs.Moved.{IsSameOrBack, stands_moved, kept_none}
 use Rattle.hc_core.proofs.PastEntries.{IsPastEntry, IsOnly, others, other_exchanges}
 use Rattle.hc_rules.specs.Requests.{is_only}
@@ -34,9 +33,8 @@ use Rattle.hc_core.proofs.PastCloses.{told_of, closing_none, told_answered}
 use Rattle.hc_core.proofs.Apart.{next_free, nobody_reads}
 use Rattle.hc_core.proofs.LiveCounts.{counted, counted_same, counted-cons, not_among, one}
 use Rattle.hc_core.proofs.Direct.{same_lives}
-use Rattle.hc_model.specs.Sound.{Among}
 use Rattle.hc_core.proofs.Listed.{descends_more}
-use Rattle.hc_core.proofs.Standing.{Standing, StandsPast, line}
+use Rattle.hc_core.proofs.Standing.{Standing}
 
 abbrev start_of : ℕ → ℕ → Request → Entry
 start_of now c request = told_of now (event.Start c request) []

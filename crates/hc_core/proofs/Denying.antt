@@ -11,7 +11,7 @@ use Rattle.hc_core.specs.declared.rows.Rows.{Rows}
 use Rattle.hc_core.specs.Kept.{KeepsConsumer}
 use Rattle.hc_core.specs.Stands.{RowsStand}
 use Rattle.hc_core.specs.Good.{counted}
-use Rattle.hc_core.proofs.Words.{same_or, eqb-same, eqb-other, none_some, false_true}
+use Rattle.hc_core.proofs.Words.{same_or, eqb-same, eqb-other, none_some}
 use Rattle.hc_core.proofs.Moved.{same, stands_moved, kept_none}
 use Rattle.hc_core.proofs.Apart.{nobody_reads}
 use Rattle.hc_core.proofs.Standing.{Standing}

@@ -1,10 +1,9 @@
 -- A consumer that reads past the store: an entry about it, after which it reads on or is gone.
-use Rattle.std.proofs.Common.{◌≡◌, ◌≢◌, ℕ, ◌+◌, ◌≤◌, Bool, true, false, Option, Some, None, refl, ap, sym, ◌∙◌, subst, arith}
+use Rattle.std.proofs.Common.{◌≡◌, ◌≢◌, ℕ, ◌+◌, ◌≤◌, Bool, true, Option, Some, None, refl, ap, sym, ◌∙◌, subst, arith}
 use Rattle.std.specs.Prelude.{is_some, nat_eq}
 use Rattle.std.specs.HashMap.{get, hash_map_len}
 use Rattle.hc_event.specs.Filters.{Opening, opening_in}
 use Rattle.hc_model.specs.declared.place.Place.TheVariants as place
-use Rattle.hc_model.specs.ConsumerRows.{consumer_made}
 use Rattle.hc_model.specs.Denials.{is_live, is_live_place, live}
 use Rattle.hc_model.specs.Entries.{Entry}
 use Rattle.hc_model.specs.Rows as rows

@@ -32,7 +32,7 @@ use Rattle.hc_core.specs.declared.rows.Rows.{Rows}
 use Rattle.hc_core.specs.Changes.{ChangesAt, BecomesAt, once_given, once_answered}
 use Rattle.hc_core.specs.Kept.{IsKept, KeepsRunning, held_for}
 use Rattle.hc_core.specs.Stands.{RowsStand}
-use Rattle.hc_core.proofs.Words.{eqb-same, none_some, false_true}
+use Rattle.hc_core.proofs.Words.{eqb-same}
 use Rattle.hc_core.specs.Past.{BringsPast}
 use Rattle.hc_event.specs.declared.act.Cause.{Cause}
 use Rattle.hc_core.proofs.PastEntries.{poll_of}

@@ -21,7 +21,7 @@ use Rattle.hc_core.specs.Changes.{ChangesAt, BecomesAt}
 use Rattle.hc_core.specs.Past.{BringsPast}
 use Rattle.hc_core.specs.Kept.{IsKept, KeepsExchange}
 use Rattle.hc_core.specs.Stands.{RowsStand}
-use Rattle.hc_core.proofs.Words.{same_or, eqb-same, eqb-other, same_row}
+use Rattle.hc_core.proofs.Words.{same_or, eqb-same, eqb-other}
 use Rattle.hc_core.proofs.Moved.{kept_row, direct_is}
 use Rattle.hc_core.proofs.PastEntries.{poll_of, poll_entry}
 use Rattle.hc_core.proofs.PastCloses.{before_closing, closing_none, poll_lossless}

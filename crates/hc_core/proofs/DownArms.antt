@@ -7,7 +7,7 @@ use Rattle.hc_event.specs.declared.event.Response.{Response}
 use Rattle.hc_event.specs.declared.act.Act.TheVariants as act
 use Rattle.hc_event.specs.declared.act.Cause.{Cause}
 use Rattle.hc_model.specs.declared.place.Place.TheVariants as place
-use Rattle.hc_model.specs.Cases.{case_at, is_founding}
+use Rattle.hc_model.specs.Cases.{case_at}
 use Rattle.hc_model.specs.ConsumerRows.{consumer_after, consumer_heard}
 use Rattle.hc_model.specs.Denials.{is_live_place}
 use Rattle.hc_model.specs.Exchanges.{base, promised, is_open}
@@ -27,13 +27,13 @@ use Rattle.hc_core.specs.Changes.{ChangesAt, put_down}
 use Rattle.hc_core.specs.Past.{GoesPast, is_down, is_misread}
 use Rattle.hc_core.specs.Kept.{IsKept, KeepsRunning, IsRunning, held_for, answer_for}
 use Rattle.hc_core.specs.Stands.{RowsStand}
-use Rattle.hc_core.proofs.Words.{false_true, same_row}
+use Rattle.hc_core.proofs.Words.{false_true}
 use Rattle.hc_core.proofs.PastCloses.{told_of}
 use Rattle.hc_core.proofs.Direct.{reads_no_more}
 use Rattle.hc_core.proofs.DirectPolls.{known_other, known_here, changed}
 use Rattle.hc_core.proofs.DirectArms.{held_is}
 use Rattle.hc_core.proofs.Hearing.{Hears, IsNews, told_entry, told_only, told_row, told_acted}
-use Rattle.hc_core.proofs.Standing.{Standing, StandsPast, down}
+use Rattle.hc_core.proofs.Standing.{Standing}
 
 abbrev pub none_of : (A : Type 0) → Option A
 none_of A = None

@@ -10,7 +10,7 @@ use Rattle.hc_model.specs.declared.place.Place.TheVariants as place
 use Rattle.hc_model.specs.ActFilters.{loses_in, leaver_in}
 use Rattle.hc_model.specs.Cases.{case_at, case_of}
 use Rattle.hc_model.specs.Closings.{closing, is_left, leaver, is_refused, brings_head}
-use Rattle.hc_model.specs.ConsumerRows.{consumer_after, consumer_made, consumer_heard, consumer_acted, consumer_settled}
+use Rattle.hc_model.specs.ConsumerRows.{consumer_after, consumer_heard, consumer_acted, consumer_settled}
 use Rattle.hc_model.specs.Denials.{is_live_place}
 use Rattle.hc_model.specs.Dooms.{doomed}
 use Rattle.hc_model.specs.Entries.{Entry}
@@ -30,7 +30,7 @@ use Rattle.hc_core.specs.declared.rows.Rows.{Rows}
 use Rattle.hc_core.specs.Kept.{KeepsRunning, held_for, is_direct}
 use Rattle.hc_core.specs.Stands.{RowsStand}
 use Rattle.hc_core.specs.Arms.{Leaves, closes_open}
-use Rattle.hc_core.proofs.Words.{eqb-same, eqb-other, none_some, false_true, same_row}
+use Rattle.hc_core.proofs.Words.{eqb-same, eqb-other, none_some, false_true}
 use Rattle.hc_core.proofs.Frames.{acted_stays}
 use Rattle.hc_core.proofs.PastEntries.{IsPastEntry, IsOnly, poll_of, poll_entry}
 use Rattle.hc_core.proofs.PastCloses.{before_closing, cancel_of, closing_none, closing_one, poll_lossless}

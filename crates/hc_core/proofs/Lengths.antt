@@ -1,9 +1,6 @@
 -- What the head of an exchange past the store says of its length.
-use Rattle.std.proofs.Common.{◌≡◌, ℕ, ◌<◌, ◌^◌, List, [], ◌∷◌, Bool, true, false, cond, Option, Some, None, refl, arith}
-use Rattle.std.proofs.lemmas.Bool.Decides.{nat_tests}
-use Rattle.std.specs.Prelude.{length, nat_le, nat_lt, ◌&&◌, codes}
-use Rattle.std.specs.Str.{all_ascii_digits}
-use Rattle.std.specs.Str.Parse.{digits_value}
+use Rattle.std.proofs.Common.{◌≡◌, ℕ, List, [], ◌∷◌, Bool, true, false, cond, Option, Some, None, refl}
+use Rattle.std.specs.Prelude.{codes}
 use Rattle.hc_fields.specs.FieldElements.{elements_in}
 use Rattle.hc_event.specs.declared.event.Request.{Request}
 use Rattle.hc_event.specs.declared.event.Response.{Response}
@@ -14,7 +11,7 @@ use Rattle.hc_rules.specs.declared.need.Route.TheVariants as route
 use Rattle.hc_rules.specs.Lengths.{length_of, length_told, told, all_tell, base_of, promise_of, is_bad, has_no_body}
 use Rattle.hc_rules.specs.Needs.{route_of}
 use Rattle.hc_rules.specs.RangeTexts.{number_of}
-use Rattle.hc_core.proofs.Words.{none_some, false_true, some_is}
+use Rattle.hc_core.proofs.Words.{false_true}
 
 either_begins : (b : Bool) (l m : Length) → base_of l ≡ 0 → base_of m ≡ 0 → base_of (cond b l m) ≡ 0
 either_begins true l m p q = p

@@ -12,7 +12,7 @@ use Rattle.hc_rules.specs.declared.heads.HeadCase.{HeadCase}
 use Rattle.hc_model.specs.declared.place.Place.{Place}
 use Rattle.hc_model.specs.declared.place.Place.TheVariants as place
 use Rattle.hc_model.specs.ActFilters.{loses_in}
-use Rattle.hc_model.specs.Cases.{case_at, case_of, is_founding}
+use Rattle.hc_model.specs.Cases.{case_at, case_of}
 use Rattle.hc_model.specs.ConsumerRows.{consumer_after, consumer_heard, consumer_made, by_head, by_fault}
 use Rattle.hc_model.specs.Denials.{is_live_place}
 use Rattle.hc_model.specs.Dooms.{doomed, is_key}
@@ -23,7 +23,6 @@ use Rattle.hc_model.specs.Failures.{becomes_due, cause_of_head}
 use Rattle.hc_model.specs.Moves as moves
 use Rattle.hc_model.specs.Moves.{Move, Nothing, Asks, Opens, Shows, Gives, Ends, Fails, acts_of}
 use Rattle.hc_model.specs.Reading.{reads, source}
-use Rattle.hc_model.specs.RepresentationRows.{representation_after, founded_at}
 use Rattle.hc_model.specs.Rows.{Tables, Exchange, Consumer}
 use Rattle.hc_model.specs.StartingOver.{starts_over, sends_back, waits_at}
 use Rattle.hc_model.specs.Tables.{after_accepted}

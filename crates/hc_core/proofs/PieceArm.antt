@@ -1,13 +1,12 @@
 -- A piece of an exchange past the store is held for its consumer.
-use Rattle.std.proofs.Common.{◌≡◌, ℕ, ◌+◌, ◌≤◌, List, [], ◌++◌, length, drop, Bool, true, false, cond, eqb, Option, Some, None, refl, ap, ap₂, sym, ◌∙◌, arith}
+use Rattle.std.proofs.Common.{◌≡◌, ℕ, ◌+◌, List, [], ◌++◌, length, drop, Bool, true, false, cond, Option, Some, None, refl, ap, ap₂, sym, ◌∙◌, arith}
 use Rattle.std.proofs.lemmas.Bool.Decides.{nat_tests}
 use Rattle.std.proofs.lemmas.List.{length-append, drop-append-le, append-nil}
-use Rattle.std.specs.Prelude.{is_some, nat_lt, ◌&&◌, not}
+use Rattle.std.specs.Prelude.{◌&&◌, not}
 use Rattle.std.specs.Option.{option_or}
 use Rattle.hc_event.specs.declared.event.Event.TheVariants as event
 use Rattle.hc_event.specs.declared.act.Act.{Act}
 use Rattle.hc_event.specs.declared.act.Cause.{Cause}
-use Rattle.hc_rules.specs.Refusals.{piece_refusal, overlong}
 use Rattle.hc_rules.specs.declared.room.Limits.{Limits}
 use Rattle.hc_rules.specs.declared.room.Room.TheVariants as room
 use Rattle.hc_model.specs.Cases.{case_of}
@@ -28,15 +27,15 @@ use Rattle.hc_exch.specs.Known.{Known, is_all, is_last_of, seen}
 use Rattle.hc_exch.specs.declared.row.Open.{Open}
 use Rattle.hc_core.specs.declared.rows.Rows.{Rows}
 use Rattle.hc_core.specs.Past.{BringsPast}
-use Rattle.hc_core.specs.Kept.{KeepsRunning, IsRunning, held_for}
+use Rattle.hc_core.specs.Kept.{KeepsRunning, held_for}
 use Rattle.hc_core.specs.Stands.{RowsStand, Answered}
-use Rattle.hc_core.proofs.Words.{eqb-same, none_some, false_true, same_row}
+use Rattle.hc_core.proofs.Words.{eqb-same, false_true}
 use Rattle.hc_core.proofs.PastCloses.{told_of, told_answered, closing_none}
 use Rattle.hc_core.proofs.Direct.{reads_on}
 use Rattle.hc_core.proofs.DirectPolls.{known_other, known_here, unchanged}
 use Rattle.hc_core.proofs.DirectArms.{kept_with, held_is}
 use Rattle.hc_core.proofs.Hearing.{Hears, IsNews, told_entry, told_only, told_row, told_acted, told_due}
-use Rattle.hc_core.proofs.Standing.{ReadsPast, Standing}
+use Rattle.hc_core.proofs.Standing.{Standing}
 
 -- WHAT A PIECE LEAVES
 

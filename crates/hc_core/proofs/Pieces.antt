@@ -1,11 +1,8 @@
 -- How far a piece reaches, wherever the rows stand for some tables.
-use Rattle.std.proofs.Common.{◌≡◌, ℕ, ◌+◌, ◌≤◌, ◌<◌, ◌^◌, Option, Some, None, refl, sym, ◌∙◌, subst, arith}
-use Rattle.hc_rules.specs.Refusals.{piece_refusal}
+use Rattle.std.proofs.Common.{◌≡◌, ℕ, ◌+◌, ◌≤◌, ◌<◌, ◌^◌, Some, sym, ◌∙◌, subst, arith}
 use Rattle.hc_exch.specs.Exchanges.{table_of}
-use Rattle.hc_exch.specs.Known.{seen}
 use Rattle.hc_exch.specs.declared.row.Open.{Open}
 use Rattle.hc_model.specs.Rows.{Tables}
-use Rattle.hc_model.specs.Exchanges.{promised}
 use Rattle.hc_core.specs.declared.rows.Rows.{Rows}
 use Rattle.hc_core.proofs.Hearing.{hears_of}
 use Rattle.hc_core.proofs.Standing.{Standing}

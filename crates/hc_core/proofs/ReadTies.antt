@@ -11,7 +11,7 @@ use Rattle.hc_rules.specs.declared.reading.ReadStep.TheVariants as step
 use Rattle.hc_rules.specs.declared.reading.ReadView.{ReadView}
 use Rattle.hc_rules.specs.Readings.{read_step, is_at_end, cut_at, held_or, fails_or, waits_or, hole_ahead}
 use Rattle.hc_model.specs.declared.place.Place.TheVariants as place
-use Rattle.hc_model.specs.Exchanges.{base, promised}
+use Rattle.hc_model.specs.Exchanges.{base}
 use Rattle.hc_model.specs.Moves.{Gives, Ends, Fails, gives, waits_for}
 use Rattle.hc_model.specs.Polls.{polled, move_of, shows_head, if_headless, waits_for_head, by_place}
 use Rattle.hc_model.specs.Reading.{own_open, source, offset, hi_of, lo_of, end_in, base_in}

@@ -1,5 +1,5 @@
 -- What holds where the rows stand for the tables of a run: beside the ties, what the run tells.
-use Rattle.std.proofs.Common.{◌≡◌, ◌≢◌, ℕ, ◌+◌, ◌≤◌, List, [], length, Bool, true, false, Option, Some, None, refl, ap, sym, ◌∙◌}
+use Rattle.std.proofs.Common.{◌≡◌, ℕ, ◌+◌, ◌≤◌, [], length, Bool, true, false, Option, Some, None, refl, ap, sym, ◌∙◌}
 use Rattle.std.specs.Prelude.{is_some, nat_eq}
 use Rattle.std.specs.HashMap.{get, hash_map_len}
 use Rattle.hc_event.specs.declared.event.Response.{Response}
@@ -13,7 +13,6 @@ use Rattle.hc_model.specs.declared.place.Place.{Place}
 use Rattle.hc_model.specs.declared.place.Place.TheVariants as place
 use Rattle.hc_model.specs.declared.place.BoundBy.{BoundBy}
 use Rattle.hc_model.specs.Denials.{is_live_place, live}
-use Rattle.hc_model.specs.Entries.{Contents, History}
 use Rattle.hc_model.specs.Exchanges.{base, promised, family, length_by}
 use Rattle.hc_model.specs.Owners as owners
 use Rattle.hc_model.specs.Owners.{IsAwaiting}
@@ -28,7 +27,7 @@ use Rattle.hc_model.specs.Laws.{OfRuns}
 use Rattle.hc_core.specs.declared.rows.Rows.{Rows}
 use Rattle.hc_core.specs.Facts.{Facts}
 use Rattle.hc_core.specs.Kept.{KeepsConsumer, KeepsExchange}
-use Rattle.hc_core.specs.Past.{Descends, InOrder, BringsPast, GoesPast, in_line, reads_own, is_down, is_misread}
+use Rattle.hc_core.specs.Past.{InOrder, BringsPast, GoesPast, in_line, reads_own, is_down, is_misread}
 use Rattle.hc_core.specs.Stands.{RowsStand, StandsForSome}
 use Rattle.hc_core.proofs.Lengths.{direct_begins}
 use Rattle.hc_core.proofs.LiveCounts.{filter_nothing}

@@ -26,7 +26,7 @@ use Rattle.hc_core.specs.declared.rows.Rows.{Rows}
 use Rattle.hc_core.specs.Past.{BringsPast, GoesPast, reads_own}
 use Rattle.hc_core.specs.Kept.{IsKept, KeepsRunning, held_for}
 use Rattle.hc_core.specs.Stands.{RowsStand, Answered}
-use Rattle.hc_core.proofs.Words.{eqb-same, eqb-other, none_some, false_true, same_row}
+use Rattle.hc_core.proofs.Words.{eqb-same, eqb-other, false_true, same_row}
 use Rattle.hc_core.proofs.Moved.{stands_moved, kept_row, direct_is}
 use Rattle.hc_core.proofs.PastEntries.{others, other_exchanges}
 use Rattle.hc_core.proofs.Direct.{count_moved}
@@ -58,7 +58,7 @@ use Rattle.hc_core.proofs.ApartArms.{third_is}
 use Rattle.hc_event.specs.declared.act.Wait.TheVariants as wait
 use Rattle.hc_model.specs.Failures.{becomes_due, cause_of_loss}
 use Rattle.hc_model.proofs.Dues.{undue_of, stop_none}
-use Rattle.hc_core.proofs.Standing.{ReadsPast, Standing, StandsPast, direct, down, line}
+use Rattle.hc_core.proofs.Standing.{Standing, StandsPast, direct, down, line}
 
 none_if : {A : Type 0} (b : Bool) → cond b (none_of A) (none_of A) ≡ None
 none_if true = refl
@@ -235,7 +235,7 @@ module _ {B : Type 0} (r u : Rows B) (t : Tables) (now c want : ℕ) (k : Consum
       stands_moved r u t after now c x (Some (reading_past x k)) stands
       (order_opens t entry_here stands.order refl refl o refl refl) (rw received (omega arith)) (last ∙ stands.last_start) (rw (next, stands.next) refl) moved
       (count_moved r u t after now c (Some (reading_past x k)) stands moved refl (not_none _ v waiting.row) all_others (rw row_after refl))
-      all_others (λ y ne. other_exchanges t entry_here x only y ne) 
+      all_others (λ y ne. other_exchanges t entry_here x only y ne)
       (λ y ne. (let off : eqb x y ≡ false = eqb-other x y (λ eq. ne (sym eq)) in table_is y ∙ rw off refl))
       (rw row_after kept_after)
       (λ j row lives. (let one_v : v_after ≡ j = same_row (after.consumer c) v_after j row_after row in subst (GoesPast u.received after) one_v (reads_own x refl (λ w row_w. subst (λ (a : Exchange). BringsPast u.received a v_after.due) (same_row (after.exchange x) z w exchange row_w) brings_after))))

@@ -1,12 +1,11 @@
 -- An exchange past the store ends or breaks: what its consumer has yet to read stays, and a failure may be due.
 use Rattle.std.proofs.Common.{◌≡◌, ℕ, List, [], length, drop, true, false, Option, Some, None, refl, ap, sym, ◌∙◌, subst, arith}
-use Rattle.std.specs.Prelude.{is_some}
 use Rattle.std.specs.Option.{option_or}
 use Rattle.hc_event.specs.declared.event.Event.{Event}
 use Rattle.hc_event.specs.declared.act.Cause.{Cause}
 use Rattle.hc_rules.specs.Needs.{route_of}
 use Rattle.hc_model.specs.declared.place.Place.TheVariants as place
-use Rattle.hc_model.specs.Cases.{case_at, is_founding}
+use Rattle.hc_model.specs.Cases.{case_at}
 use Rattle.hc_model.specs.ConsumerRows.{consumer_after, consumer_heard}
 use Rattle.hc_model.specs.Exchanges.{base, promised, is_open}
 use Rattle.hc_model.specs.Failures.{cause_of_stop, cause_of_head}
@@ -26,13 +25,13 @@ use Rattle.hc_core.specs.Changes.{BecomesAt}
 use Rattle.hc_core.specs.Past.{BringsPast, is_misread}
 use Rattle.hc_core.specs.Kept.{IsKept, KeepsRunning, held_for, answer_for}
 use Rattle.hc_core.specs.Stands.{RowsStand}
-use Rattle.hc_core.proofs.Words.{none_some, false_true}
+use Rattle.hc_core.proofs.Words.{none_some}
 use Rattle.hc_core.proofs.PastCloses.{told_of}
 use Rattle.hc_core.proofs.Direct.{reads_on}
 use Rattle.hc_core.proofs.DirectPolls.{known_other, known_here}
 use Rattle.hc_core.proofs.DirectArms.{held_is}
 use Rattle.hc_core.proofs.Hearing.{Hears, IsNews, told_entry, told_only, told_row, told_acted, told_due}
-use Rattle.hc_core.proofs.Standing.{ReadsPast, Standing}
+use Rattle.hc_core.proofs.Standing.{Standing}
 
 -- an exchange that stopped, with what it had brought
 pub record IsStopped (w z : Exchange) : Type 0 where

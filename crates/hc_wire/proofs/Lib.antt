@@ -1,3 +1,4 @@
 pub mod LogLemmas
 pub mod SocketLemmas
 pub mod FollowLemmas
+pub mod StallLemmas

@@ -4,3 +4,4 @@ pub mod Scripts
 pub mod Following
 pub mod Sockets
 pub mod Wires
+pub mod Stalls

@@ -1,5 +1,5 @@
 //! A wire that follows a script.
-ghost use Rattle.std.specs.Prelude.{◌≡◌, ◌+◌, ◌-◌, ◌<◌, ◌≤◌, ◌^◌, ℕ, List, Some, true, All, length, take, drop, find, min, IfSome};
+ghost use Rattle.std.specs.Prelude.{◌≡◌, ◌+◌, ◌-◌, ◌<◌, ◌≤◌, ◌^◌, ℕ, List, Some, true, All, length, take, drop, find, min, IfSome, OnOk, OnErr, ◌==◌, vec_len, vec_capacity, if◌then◌else◌};
 ghost use Rattle.std.specs.Option.{option_copied};
 ghost use Rattle.hc_wire.specs.Events.{IsOfOpen, FitsIn, got};
 ghost use Rattle.hc_wire.specs.Logs.{stage_in, sent_in, unused};
@@ -49,6 +49,8 @@ pub struct ScriptWire {
 }
 
 impl ScriptWire {
+    ghost use Rattle.hc_wire.specs.Stalls.{room_of};
+
     /// Follows the script, and fails at the listed calls, counted from 1 over `bind`, `next`, `dial` and
     /// `send` together.
     pub fn new(alloc: Global, script: Vec<Scripted>, fails: Vec<u64>) -> ScriptWire
@@ -85,11 +87,13 @@ impl ScriptWire {
 
     /// The connection takes so many bytes more, and then none until the script hands out its `Room`.
     pub fn stall(&mut self, k: u64, after: usize) -> Result<(), NoMemory>
-        ensures { ⟦<ScriptWire as Wire>⟧.log self.new ≡ ⟦<ScriptWire as Wire>⟧.log self.old }
+        ensures log { ⟦<ScriptWire as Wire>⟧.log self.new ≡ ⟦<ScriptWire as Wire>⟧.log self.old }
+        ensures ok { OnOk result ((j len : ℕ) → room_of self.new j len
+            ≡ (if k == j then min after len else room_of self.old j len)) }
+        ensures err { OnErr result ((j len : ℕ) → room_of self.new j len ≡ room_of self.old j len) }
     {
         self.stalls.reserve(1)?;
-        self.stalls.retain(|stall| stall.k != k);
-        self.stalls.push(Stall { k, left: after })?;
+        stall_in(&mut self.stalls, Stall { k, left: after });
         Ok(())
     }
 
@@ -320,6 +324,16 @@ fn room_in(stalls: &[Stall], k: u64, len: usize) -> usize
         Some(stall) => stall.left.min(len),
         None => len,
     }
+}
+
+/// The connection is stalled so from now on. There is room for one more.
+fn stall_in(stalls: &mut Vec<Stall>, new: Stall)
+    requires { vec_len stalls.old < vec_capacity stalls.old }
+    ensures { (j len : ℕ) → room_in stalls.new.items j len
+        ≡ (if new.k == j then min new.left len else room_in stalls.old.items j len) }
+{
+    stalls.retain(|stall| stall.k != new.k);
+    stalls.push_reserved(new);
 }
 
 /// How the connection is stalled.

@@ -1,5 +1,5 @@
 //! An event of a script.
-ghost use Rattle.std.specs.Prelude.{◌≡◌, true};
+ghost use Rattle.std.specs.Prelude.{◌≡◌, ◌↔◌, IsTrue};
 ghost use Rattle.std.specs.List.{list_any};
 ghost use Rattle.hc_wire.specs.Scripts.{IsScript, is_sized, is_got, is_got_by, is_behind, ends_once};
 
@@ -18,7 +18,7 @@ pub struct Scripted {
 /// Whether each moment is below 2^62, each `Got` has as many bytes as it says, and some, no other event
 /// has bytes, and behind the end of a connection nothing of it is got.
 pub fn is_script(script: &[Scripted]) -> bool
-    ensures { result ≡ true → IsScript script.now }
+    ensures { IsTrue result ↔ IsScript script.now }
 {
     script.iter().all(|s| s.moment < 1 << 62)
         && script

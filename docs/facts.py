@@ -64,6 +64,9 @@ class Facts:
         self.dooms(old, entry)
         self.left(limits)
         self.places()
+        self.orders()
+        self.endings()
+        self.whose()
         if not self.is_denied(entry.acts):
             self.holds("within the limit", self.weights(old, entry) <= limits.max_total or not self.writes(entry))
             self.holds("few are evicted", sum(act._name == "Evicted" for act in entry.acts) <= 2)
@@ -338,6 +341,47 @@ class Facts:
             self.holds("exchange: ended", not (w.is_ended and w.is_open))
             if w.is_open and of(w.head) is not None and self.family(x) not in self.V:
                 self.holds("exchange: direct", k.place._name == "Direct" and k.place.args()[0] == x)
+
+    def orders(self):
+        """Numbers rise, and each stands once."""
+        t = self.t
+        for name, numbers, last in (("starts", t.starts, t.last_start), ("openings", t.openings, t.opened)):
+            self.holds("order: " + name, all(a > b for a, b in zip((last + 1,) + numbers, numbers)))
+        for name, numbers in (("founded", t.founded), ("used", t.used)):
+            self.holds("order: " + name, len(set(numbers)) == len(numbers) and set(numbers) == set(self.V))
+
+    def endings(self):
+        """Of an answer past the store that is over without a failure all came."""
+        for k in self.K.values():
+            if k.place._name == "Direct" and of(k.due) is None:
+                w = self.W[k.place.args()[0]]
+                self.holds("ending: past", w.is_open or of(self.hi_of(self.t, k.place)) == self.front(w))
+
+    def whose(self):
+        """Whose an open exchange is, and what who owns one is about to do."""
+        t = self.t
+        for x, w in self.W.items():
+            owners = [c for c, k in self.K.items() if of(k.own) == x]
+            self.holds("whose: for it, or alone", all(c == w.c or self.family(x) in self.V and of(self.V[self.family(x)].alone) == c for c in owners))
+            if not w.is_open:
+                continue
+            r = self.family(x)
+            if r not in self.V:
+                self.holds("whose: own", owners == [w.c] and self.place(w.c)._name != "Over")
+                continue
+            v = self.V[r]
+            written = self.is_written(t, v) and of(v.writer) == x
+            self.holds("whose: written or bound", written != (len(owners) == 1 and owners[0] in self.bound_to(r)))
+        for k in self.K.values():
+            own = of(self.own_open(t, k))
+            self.holds("whose: stands", own is None or k.place._name in ("Turn", "Direct", "Bound"))
+            if k.place._name == "Passed" and of(k.place.args()[1]) is None:
+                self.holds("whose: passed", of(k.own) is None)
+        for r, v in self.V.items():
+            bound = self.bound_to(r)
+            self.holds("whose: unbound", bound or not self.about[r])
+            if self.is_written(t, v):
+                self.holds("whose: writer's key", self.K[self.W[of(v.writer)].c].request.key == v.key)
 
     def direct(self, c, k, x, due):
         w = self.W[x]

@@ -21,6 +21,7 @@ use Rattle.hc_rules.specs.declared.room.Write.TheVariants as write
 use Rattle.hc_rules.specs.HeadCases.{head_case}
 use Rattle.hc_rules.specs.Rooms.{weight_of, gives_way, grown_by, is_too_large, room_of}
 use Rattle.hc_rules.specs.Rooms as rooms
+use Rattle.hc_model.specs.Orders.{AreOnce}
 use Rattle.hc_model.specs.declared.place.Place.TheVariants as place
 use Rattle.hc_model.specs.declared.place.BoundBy.{BoundBy}
 use Rattle.hc_model.specs.declared.place.BoundBy.TheVariants as by
@@ -65,7 +66,7 @@ use Rattle.hc_model.proofs.Said.{showing_by}
 use Rattle.hc_model.proofs.SaidActs.{loss_is}
 use Rattle.hc_model.proofs.ShownFrom.{ShownAs}
 use Rattle.hc_model.proofs.ShownFrom as shown_as
-use Rattle.hc_model.proofs.Sums.{AreOnce, only_yes, sum_le, sum_two, sum_plus, sum_some, only, only_once, is_in, among_of, in_among, filter_among, filter_once, take_among, take_once, reverse_among, reverse_once, gives_enough}
+use Rattle.hc_model.proofs.Sums.{only_yes, sum_le, sum_two, sum_plus, sum_some, only, only_once, is_in, among_of, in_among, filter_among, filter_once, take_among, take_once, reverse_among, reverse_once, gives_enough}
 use Rattle.hc_model.proofs.ToBeShown.{heard_place}
 use Rattle.hc_model.proofs.Weighed.{IsHeld, held, held_in, total, held_is, held_most, held_none, IsFilled, sized, goes_more, case_same}
 use Rattle.hc_model.proofs.Weighed as weighed
@@ -122,6 +123,7 @@ pub record Fits (limits : Limits) (t : Tables) : Type 0 where
   pub rows : (r : ℕ) → Among r t.founded → is_some (t.representation r) ≡ true
   pub used_once : AreOnce t.used
   pub used_founded : (r : ℕ) → Among r t.used → Among r t.founded
+  pub founded_used : (r : ℕ) → Among r t.founded → Among r t.used
 
 module _ (limits : Limits) (t : Tables) (now : ℕ) (flaw : Flaw) (s : Sound t) (o : Owners t) (m : Measures t) (f : Fits limits t) (ev : Event) (goes : denial t ev ≡ None) (real : IsReal limits t now ev flaw) where
   abbrev e : Entry

@@ -26,6 +26,7 @@ use Rattle.hc_model.specs.Flaws.{Flaw, flaw_in}
 use Rattle.hc_model.specs.Keys.{entry_of}
 use Rattle.hc_model.specs.Laws.{OfRunsIn, FitsInRuns, FewInRuns, IsSmallPiece, count_evicted}
 use Rattle.hc_model.specs.Measures.{Measures}
+use Rattle.hc_model.specs.Orders.{AreOnce}
 use Rattle.hc_model.specs.Owners.{Owners}
 use Rattle.hc_model.specs.Reading.{bound, reads}
 use Rattle.hc_model.specs.Rows.{Tables, Exchange, Representation, Consumer}
@@ -34,6 +35,7 @@ use Rattle.hc_model.specs.Sound.{Sound, Among}
 use Rattle.hc_model.specs.Tables.{tables, begun, loaded, numbers, bytes_in, founds, added, is_hole, is_reading, binds, binds_by_opening, binds_by_showing, to_front, after_accepted, after_denied}
 use Rattle.hc_model.specs.Weights.{weights}
 use Rattle.hc_model.proofs.Basics.{false_true, and_left, and_right, none_some}
+use Rattle.hc_model.proofs.Closed.{among_filter}
 use Rattle.hc_model.proofs.BoundKeeps.{planned_at, shown_place_is}
 use Rattle.hc_model.proofs.FewGiveWay.{few_give_way}
 use Rattle.hc_model.proofs.FirstKeeps.{is_new}
@@ -49,7 +51,7 @@ use Rattle.hc_model.proofs.Said.{showing_by}
 use Rattle.hc_model.proofs.ShownFrom.{ShownAs}
 use Rattle.hc_model.proofs.ShownFrom as shown_as
 use Rattle.hc_model.proofs.RunFacts.{in_runs}
-use Rattle.hc_model.proofs.Sums.{AreOnce, filter_among, filter_once, reverse_among, reverse_once, reverse_sum}
+use Rattle.hc_model.proofs.Sums.{filter_among, filter_once, reverse_among, reverse_once, reverse_sum}
 use Rattle.hc_model.proofs.Weighed.{held, held_in, is_held, total, weights_most}
 
 find_among : (test : ℕ → Bool) (xs : List ℕ) (r : ℕ) → find test xs ≡ Some r → Among r xs
@@ -174,6 +176,23 @@ module _ (limits : Limits) (t : Tables) (now : ℕ) (flaw : Flaw) (s : Sound t) 
   used_founded_by (Some q) is r (inl here) = subst (λ n. Among n now_on.founded) here (bound_founded q is (founds t e) refl)
   used_founded_by (Some q) is r (inr there) = more_founded (founds t e) r (f.used_founded r (filter_among (λ n. not (n == q)) r t.used there).0)
 
+  -- what is bound comes to the front, and all else stays
+  still_used : (z : Option ℕ) (r : ℕ) → Among r t.used → Among r (to_front z t.used)
+  still_used None r among = among
+  still_used (Some q) r among = elim (eq_cases r q) [
+    | inl here ↦ inl (sym here.1)
+    | inr off ↦ inr (among_filter r (λ n. not (n == q)) t.used (ap not off.0) among)
+  ]
+
+  front_used : (q : ℕ) (z : Option ℕ) → z ≡ Some q → Among q (to_front z t.used)
+  front_used q None is = absurd (none_some q is)
+  front_used q (Some r) is = inl (some_inj r q is)
+
+  founded_used_by : (z : Option ℕ) → founds t e ≡ z → (r : ℕ) → Among r (added z t.founded) → Among r now_on.used
+  founded_used_by None is r among = still_used (binds t e) r (f.founded_used r among)
+  founded_used_by (Some x) is r (inl here) = subst (λ n. Among n now_on.used) here (front_used x (binds t e) (ap (λ z. option_or z (option_or (binds_by_opening t (opening_in e.acts)) (binds_by_showing t (showing_in e.acts)))) is))
+  founded_used_by (Some x) is r (inr there) = still_used (binds t e) r (f.founded_used r there)
+
   pub fits_kept : Fits limits now_on
   fits_kept = record {
     within = within_kept limits t now flaw s o m f ev goes real;
@@ -181,13 +200,14 @@ module _ (limits : Limits) (t : Tables) (now : ℕ) (flaw : Flaw) (s : Sound t) 
     rows = λ r among. rows_by (founds t e) refl r among;
     used_once = used_by (binds t e);
     used_founded = λ r among. used_founded_by (binds t e) refl r among;
+    founded_used = λ r among. founded_used_by (founds t e) refl r among;
   }
 
 -- A DENIED ENTRY
 
 pub fits_denied : (limits : Limits) (t : Tables) (e : Entry) → Fits limits t → Fits limits (after_denied t e)
 unfolding current bound
-fits_denied limits t e f = record { within = f.within; once = f.once; rows = f.rows; used_once = f.used_once; used_founded = f.used_founded }
+fits_denied limits t e f = record { within = f.within; once = f.once; rows = f.rows; used_once = f.used_once; used_founded = f.used_founded; founded_used = f.founded_used }
 
 -- AT THE BEGINNING
 
@@ -285,6 +305,7 @@ module _ (limits : Limits) (contents : Contents) where
         rows = λ r among. row_there r contents.items (reverse_among r (numbers contents.items) among);
         used_once = once;
         used_founded = λ r among. among;
+        founded_used = λ r among. among;
       }
     where
       weigh : are_good limits contents [] contents.items ≡ true → nat_le (weights_of contents.items) limits.max_total ≡ true → total (begun contents) ≤ limits.max_total

@@ -18,6 +18,7 @@ use Rattle.hc_model.specs.Exchanges.{family}
 use Rattle.hc_model.specs.Holes.{covers}
 use Rattle.hc_model.specs.Kinds.{kind_of, brings_to, is_complete, covers_all, is_front}
 use Rattle.hc_model.specs.Laws.{LeavesInRuns, IsInLimits}
+use Rattle.hc_model.specs.Orders.{AreOnce}
 use Rattle.hc_model.specs.Origins.{HasByte, Origins}
 use Rattle.hc_model.specs.Origins as origins
 use Rattle.hc_model.specs.Reading.{bound, is_written}
@@ -40,7 +41,7 @@ use Rattle.hc_model.proofs.RunsFrom.{HasCell, is_of, of_cell, all_of, ascends}
 use Rattle.hc_model.proofs.SizesKeep.{sized_runs}
 use Rattle.hc_model.proofs.SoundRuns.{IsCarried, carried}
 use Rattle.hc_model.proofs.StoredHeadsKeep.{heads_in_runs, modest_in_runs}
-use Rattle.hc_model.proofs.Sums.{AreOnce, sum_le, sum_some, is_in, among_of, filter_among, filter_once, reverse_among, reverse_once}
+use Rattle.hc_model.proofs.Sums.{sum_le, sum_some, is_in, among_of, filter_among, filter_once, reverse_among, reverse_once}
 use Rattle.hc_model.proofs.TagRuns.{tags_in_runs}
 use Rattle.hc_model.proofs.Unknowns.{Unknown}
 use Rattle.hc_model.proofs.WaitsInRuns.{unknown_in_runs}

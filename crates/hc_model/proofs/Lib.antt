@@ -165,6 +165,7 @@ pub mod TagRuns
 pub mod RunsFrom
 pub mod KindsLeft
 pub mod LeavesGood
+pub mod OrderRuns
 pub mod PlacesKept
 pub mod PlacesRead
 pub mod PlacesShown

@@ -55,7 +55,7 @@ rising : (late full : Bool) (n m : ℕ) → (if late then Some (refusal.NotRisin
 rising true full n m h = absurd (never _ h)
 rising false full n m h = refl
 
-starts_later : (t : Tables) (c : ℕ) (request : Request) → denial t (event.Start c request) ≡ None → t.last_start < c
+pub starts_later : (t : Tables) (c : ℕ) (request : Request) → denial t (event.Start c request) ≡ None → t.last_start < c
 unfolding refusals.refusal_of
 starts_later t c request h =
     let test : nat_le c t.last_start ≡ false = rising (nat_le c t.last_start) _ t.last_start 0 h in

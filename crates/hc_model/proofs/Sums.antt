@@ -7,6 +7,7 @@ use Rattle.std.proofs.lemmas.Bool.Decides.{nat_tests}
 use Rattle.std.proofs.lemmas.List.Sums.{sum_by-cons, sum_by-append}
 use Rattle.std.proofs.lemmas.List.{reverse-append}
 use Rattle.hc_rules.specs.Rooms.{gives_way}
+use Rattle.hc_model.specs.Orders.{AreOnce}
 use Rattle.hc_model.specs.Sound.{Among}
 use Rattle.hc_model.proofs.Basics.{false_true, none_some}
 use Rattle.hc_model.proofs.HoleLemmas.{bool_cases}
@@ -41,10 +42,6 @@ sum_plus f g (r ∷ rs) =
     omega arith
 
 -- EACH ONCE
-
-abbrev pub AreOnce : List ℕ → Type 0
-AreOnce [] = Unit {0}
-AreOnce (r ∷ rs) = (Among r rs → ⊥) × AreOnce rs
 
 pub filter_among : (test : ℕ → Bool) (r : ℕ) (rs : List ℕ) → Among r (filter test rs) → Among r rs × (test r ≡ true)
 filter_among test r [] among = absurd among

@@ -37,6 +37,7 @@ pub mod Sound
 pub mod Keys
 pub mod Owners
 pub mod Measures
+pub mod Orders
 pub mod Origins
 pub mod Sizes
 pub mod StoredHeads

@@ -171,4 +171,5 @@ pub mod PlacesRead
 pub mod PlacesShown
 pub mod PlacesGiven
 pub mod PlacesTold
+pub mod PlacesEnded
 pub mod PlaceRuns

@@ -8,6 +8,7 @@ use Rattle.hc_rules.specs.declared.room.Limits.{Limits}
 use Rattle.hc_rules.specs.Needs.{route_of}
 use Rattle.hc_model.specs.declared.place.Place.{Place}
 use Rattle.hc_model.specs.declared.place.Place.TheVariants as place
+use Rattle.hc_model.specs.Endings.{Endings}
 use Rattle.hc_model.specs.Entries.{Entry, History, Contents}
 use Rattle.hc_model.specs.Exchanges.{is_open}
 use Rattle.hc_model.specs.Flaws.{flaw_in}
@@ -16,7 +17,7 @@ use Rattle.hc_model.specs.Laws.{OfRuns, Turns}
 use Rattle.hc_model.specs.Owners.{Owners, IsAwaiting, IsPast, IsReading}
 use Rattle.hc_model.specs.Owners as owners
 use Rattle.hc_model.specs.Places.{Places, IsIdle, IsAway, AwaitsTurn, IsUnheard, ReadsPast}
-use Rattle.hc_model.specs.Reading.{own_open, reads}
+use Rattle.hc_model.specs.Reading.{own_open, reads, hi_of, end_in}
 use Rattle.hc_model.specs.Rows.{Tables, Exchange, Consumer}
 use Rattle.hc_model.specs.Runs.{IsOwed}
 use Rattle.hc_model.specs.Sound.{Sound}
@@ -29,6 +30,7 @@ use Rattle.hc_model.proofs.OfEntries.{of_real}
 use Rattle.hc_model.proofs.Pens.{same_row}
 use Rattle.hc_model.proofs.PlacesKept.{AreOwn, IsOwnTurn, own_kept, turn_direct, bound_direct, bound_turn}
 use Rattle.hc_model.proofs.PlacesRead.{AreRead, read_kept}
+use Rattle.hc_model.proofs.PlacesEnded.{AreEnded, ended_kept}
 use Rattle.hc_model.proofs.PlacesGiven.{ArePast, past_kept}
 use Rattle.hc_model.proofs.PlacesShown.{AreReaders, IsReader, readers_kept}
 use Rattle.hc_model.proofs.PlacesTold.{AreTold, told_kept, told_denied, down_told}
@@ -46,6 +48,7 @@ pub record IsKnown (t : Tables) : Type 0 where
   pub readers : AreReaders t
   pub past : ArePast t
   pub told : AreTold t
+  pub ended : AreEnded t
 
 known_begun : (contents : Contents) → IsKnown (begun contents)
 known_begun contents = record {
@@ -53,6 +56,7 @@ known_begun contents = record {
   reads = record { read = λ x w row on headed none. absurd (none_some w row) };
   readers = record { shown = λ c k row on. absurd (none_some k row) };
   past = record { given = λ c x k w row at exchange_row. absurd (none_some k row); undue = λ c x k w row at exchange_row on. absurd (none_some k row) };
+  ended = record { past = λ c x k w row. absurd (none_some k row) };
   told = record { due = λ c k row. absurd (none_some k row); down = λ c k row. absurd (none_some k row); received = λ x w row. absurd (none_some w row) };
 }
 
@@ -66,6 +70,7 @@ known_denied t e known = record {
   readers = record { shown = known.readers.shown };
   past = record { given = known.past.given; undue = known.past.undue };
   told = told_denied t e known.told;
+  ended = record { past = known.ended.past };
 }
 
 by_denial : (limits : Limits) (contents : Contents) (h : History) (e : Entry) (b : Bool) → is_denied e.acts ≡ b → IsCarried (tables contents h) → IsAside (tables contents h) → Turns (tables contents h) → IsBounded (tables contents h) → Sound (tables contents (e ∷ h)) → IsOwed limits (tables contents h) e → IsKnown (tables contents h) → IsKnown (tables contents (e ∷ h))
@@ -80,6 +85,7 @@ by_denial limits contents h e false accepted c a turns b later owed known =
       readers = readers_kept limits t e.now (flaw_in e.acts) c.is_sound c.is_owned a known.owned turns known.readers e.event going taken;
       past = past_kept limits t e.now (flaw_in e.acts) c.is_sound c.is_owned a b known.owned known.past e.event going real.stand owned;
       told = told_kept t (entry_of limits t e.now e.event (flaw_in e.acts)) known.told;
+      ended = ended_kept limits t e.now (flaw_in e.acts) c.is_sound c.is_owned a b known.owned known.ended e.event going owned;
     }) sound_then (record { owed = owed; not_denied = accepted }))
 
 pub known_in_runs : OfRuns IsKnown
@@ -235,3 +241,9 @@ pub places_in_runs : OfRuns Places
 places_in_runs limits contents h may run =
     let c = carried limits contents h may run in
     places_by (tables contents h) c.is_sound c.is_owned (aside limits contents h may run) (bounded limits contents h may run) (turned_in_runs limits contents h may run).turns (known_in_runs limits contents h may run)
+
+pub endings_in_runs : OfRuns Endings
+endings_in_runs limits contents h may run = record {
+  past = λ c x k w row at exchange_row off none.
+      ap (hi_of (tables contents h)) at ∙ (ap end_in exchange_row ∙ (known_in_runs limits contents h may run).ended.past c x k w row at exchange_row off none);
+}

@@ -23,7 +23,8 @@ use Rattle.hc_model.specs.declared.place.BoundBy.{BoundBy}
 use Rattle.hc_model.specs.declared.place.BoundBy.TheVariants as by
 use Rattle.hc_model.specs.ActFilters.{has_loss, loses_in}
 use Rattle.hc_model.specs.Cases.{case_at, head_view, is_joining}
-use Rattle.hc_model.specs.ConsumerRows.{consumer_after, consumer_made, consumer_heard, consumer_acted, consumer_settled, by_head, by_fault, by_opening, becomes_shared, own_after, left_to, waiting, due_after, place_by_case, passed_on, bound_to_wanted}
+use Rattle.hc_model.specs.Closings.{is_refused}
+use Rattle.hc_model.specs.ConsumerRows.{consumer_after, consumer_made, started, consumer_heard, consumer_acted, consumer_settled, by_head, by_fault, by_opening, becomes_shared, own_after, left_to, waiting, due_after, place_by_case, passed_on, bound_to_wanted}
 use Rattle.hc_model.specs.Denials.{denial, as_open}
 use Rattle.hc_model.specs.Entries.{Entry}
 use Rattle.hc_model.specs.Exchanges.{exchange_at, exchange_in, is_for, is_headless}
@@ -268,26 +269,26 @@ module _ (limits : Limits) (t : Tables) (now : ℕ) (flaw : Flaw) (s : Sound t) 
     hole_turn_not : route_of w.need ≡ route.Hole → (y : ℕ) → k.place ≡ place.Turn y → ⊥
     hole_turn_not way y is = let no : route.Hole ≡ route.Turn = sym way ∙ turn_way y is at in cc
 
-    -- where it leaves its consumer past the store, it neither is written together nor joins, and fails nobody
+    -- where it leaves its consumer past the store, it neither is written together nor joins, fails nobody, and isn't refused
     abbrev Left : ℕ → Option HeadCase → Type 0
-    Left y q = (x ≡ y) × (becomes_shared t e response w q ≡ false) × (is_joining q ≡ false) × (cause_by_case q x ≡ None)
+    Left y q = (x ≡ y) × (becomes_shared t e response w q ≡ false) × (is_joining q ≡ false) × (cause_by_case q x ≡ None) × (is_refused q ≡ false)
 
     left_by : (y : ℕ) (q : HeadCase) → CaseBy view q → place_by_case x response w k (Some q) ≡ place.Direct y → Left y (Some q)
     left_by y _ (cases.direct_bad way h) is = absurd (down_direct _ y is)
-    left_by y _ (cases.direct_taken way) is = ((past_way y is at).1, refl, refl, refl)
+    left_by y _ (cases.direct_taken way) is = ((past_way y is at).1, refl, refl, refl, refl)
     left_by y _ (cases.turn_bad way h) is = absurd (down_direct _ y is)
     left_by y _ (cases.validated way h d l) is = absurd (passed_on_direct x w.aim y is)
     left_by y _ (cases.not_validated way h) is = absurd (turn_not way y is)
-    left_by y _ (cases.turn_server_error way) is = (direct_inj x y is, refl, refl, refl)
+    left_by y _ (cases.turn_server_error way) is = (direct_inj x y is, refl, refl, refl, refl)
     left_by y _ (cases.founds_whole way h l f) is = absurd (bound_direct _ _ _ _ y is)
-    left_by y _ (cases.founds_range way h f l d) is = (wanted_direct x y (wanted_of (range_of k.request) (founded_total w response)) is, refl, refl, refl)
-    left_by y _ (cases.passes_by way) is = (direct_inj x y is, refl, refl, refl)
+    left_by y _ (cases.founds_range way h f l d) is = (wanted_direct x y (wanted_of (range_of k.request) (founded_total w response)) is, refl, refl, refl, refl)
+    left_by y _ (cases.passes_by way) is = (direct_inj x y is, refl, refl, refl, refl)
     left_by y _ (cases.first_bad way off h) is = absurd (down_direct _ y is)
     left_by y _ (cases.first_joins way off h f) is = absurd (hole_not way y is)
-    left_by y _ (cases.first_server_error way off) is = (direct_inj x y is, refl, refl, refl)
+    left_by y _ (cases.first_server_error way off) is = (direct_inj x y is, refl, refl, refl, refl)
     left_by y _ (cases.first_changed way off) is = absurd (hole_not way y is)
     left_by y _ (cases.first_replaced way off h l f) is = absurd (bound_direct _ _ _ _ y is)
-    left_by y _ (cases.first_passes_by way off) is = (direct_inj x y is, refl, refl, refl)
+    left_by y _ (cases.first_passes_by way off) is = (direct_inj x y is, refl, refl, refl, refl)
     left_by y _ (cases.later_bad way on h) is = absurd (hole_not way y is)
     left_by y _ (cases.later_joins way on h f) is = absurd (hole_not way y is)
     left_by y _ (cases.later_changed way on) is = absurd (hole_not way y is)

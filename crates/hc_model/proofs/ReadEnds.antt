@@ -87,6 +87,13 @@ bounded limits contents (e ∷ h) may run = by_denial limits contents h e (is_de
 
 -- A POLL THAT ENDS
 
+-- what promises nothing begins at the first position
+pub no_base : (l : Length) → promise_of l ≡ None → base_of l ≡ 0
+no_base told.Unknown is = refl
+no_base (told.Promised n) is = refl
+no_base (told.Part first n) is = absurd (none_some n (sym is))
+no_base told.Bad is = refl
+
 module _ (t : Tables) (now c want : ℕ) (k : Consumer) where
   nothing_ends : Nothing ≡ Ends → ⊥
   nothing_ends is = cc
@@ -245,12 +252,6 @@ module _ (t : Tables) (c : ℕ) (k : Consumer) (s : Sound t) (m : Measures t) (b
         let lt : z.lo + (k.given - 1) < exchanges.front w = cell_below y _ w cell in
         omega arith
   ]
-
-  no_base : (l : Length) → promise_of l ≡ None → base_of l ≡ 0
-  no_base told.Unknown is = refl
-  no_base (told.Promised n) is = refl
-  no_base (told.Part first n) is = absurd (none_some n (sym is))
-  no_base told.Bad is = refl
 
   direct_end : (y n : ℕ) (w : Exchange) (q : Option ℕ) → t.exchange y ≡ Some w → promised w ≡ q → k.given ≤ length w.body → end_of_direct q w ≡ Some n → base w + k.given ≤ n
   direct_end y n w (Some p) there promise few is =

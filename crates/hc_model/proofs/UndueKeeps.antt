@@ -176,7 +176,7 @@ module _ (limits : Limits) (t : Tables) (now : ℕ) (flaw : Flaw) (s : Sound t) 
       by_had : sound.IsHad t r v x → (k.due ≡ None) × HasPen t r v c
       by_had (sound.shared on writer) = absurd (unwritten limits t now flaw s o ev goes c x k w is r lo hi how v v.writer at there on refl)
       by_had (sound.own g z reader theirs none pen) =
-          let mine : g ≡ c = left_number limits t now flaw s o ev goes c x k w is g z (row_of r g z reader) theirs in
+          let mine : g ≡ c = left_number limits t now flaw s o ev goes c x k is.row is.own g z (row_of r g z reader) theirs in
           let one : z ≡ k = same_row (t.consumer c) z k (sym (ap t.consumer mine) ∙ row_of r g z reader) is.row in
           (sym (ap (λ (q : Consumer). q.due) one) ∙ none, subst (HasPen t r v) mine pen)
 

@@ -30,7 +30,7 @@ use Rattle.hc_model.specs.Sound.{Sound, IsAbout}
 use Rattle.hc_model.specs.Sound as sound
 use Rattle.hc_model.specs.StartingOver.{starts_over, waits_at, awaited}
 use Rattle.hc_model.specs.Writers.{loses_writing, survivor}
-use Rattle.hc_model.proofs.Basics.{false_true, and_left, and_right, and_both, or_cases, or_left, none_some, number_is}
+use Rattle.hc_model.proofs.Basics.{false_true, and_left, and_right, and_both, not_so, or_cases, or_left, none_some, number_is}
 use Rattle.hc_model.proofs.BoundFrom.{place_inj}
 use Rattle.hc_model.proofs.Closed.{before}
 use Rattle.hc_model.proofs.FirstKeeps.{is_new}
@@ -100,6 +100,64 @@ module _ (limits : Limits) (t : Tables) (now : ℕ) (flaw : Flaw) (s : Sound t) 
       by_test : (a : Bool) → u.is_open ≡ a → a ≡ true
       by_test true on = refl
       by_test false off = absurd (never _ (rw (row, off) at h))
+
+  -- WHO LEAVES
+
+  module _ (c y : ℕ) (k : Consumer) (row : t.consumer c ≡ Some k) (own : k.own ≡ Some y) where
+    pub left_number : (d : ℕ) (q : Consumer) → t.consumer d ≡ Some q → own_open t q ≡ Some y → d ≡ c
+    left_number d q its theirs = o.one d c y q k its row (own_of q.own theirs) own
+      where
+        own_of : (z : Option ℕ) → option_and_then (if_open t) z ≡ Some y → z ≡ Some y
+        own_of None h = absurd (none_some y h)
+        own_of (Some x) h = elim (bool_cases (is_open (t.exchange x))) [
+          | inl on ↦ rw on at h
+          | inr off ↦ absurd (none_some y (rw off at h))
+        ]
+
+    -- it is the exchange of no writing
+    not_writer : (r : ℕ) (z : Option Representation) → t.representation r ≡ z → writing_in t z ≡ Some y → ⊥
+    not_writer r None there h = none_some y h
+    not_writer r (Some v) there h = elim (bool_cases (is_written t v)) [
+      | inr off ↦ none_some y (rw off at h)
+      | inl on ↦ o.apart r y c v k there on (rw on at h) row own
+    ]
+
+    not_shared : (p : Place) → shared t p ≡ Some y → ⊥
+    not_shared place.Line h = none_some y h
+    not_shared (place.Passed r kept) h = none_some y h
+    not_shared (place.Turn x) h = none_some y h
+    not_shared (place.Bound r lo hi how) h = not_writer r (t.representation r) refl h
+    not_shared (place.Direct x) h = none_some y h
+    not_shared (place.Down cause) h = none_some y h
+    not_shared place.Over h = none_some y h
+
+    left_row : (d : ℕ) (z : Option Consumer) → t.consumer d ≡ z → is_left_by t y d z ≡ true → d ≡ c
+    left_row d None its h = absurd (false_true h)
+    left_row d (Some q) its h = elim (or_cases (is_number (own_open t q) y) _ h) [
+      | inl mine ↦ left_number d q its (number_is (own_open t q) y mine)
+      | inr group ↦ absurd (not_shared q.place (number_is (shared t q.place) y (and_left _ (is_last_reader t d q.place) group)))
+    ]
+
+    left_is : (z : Option ℕ) → is_left t y z ≡ true → z ≡ Some c
+    left_is None h = absurd (false_true h)
+    left_is (Some d) h = ap Some (left_row d (t.consumer d) refl h)
+
+    leaves_by : (v : Event) → ev ≡ v → leaver_by v b.acts ≡ Some c → (leaves_in c e.acts ≡ true) ⊎ (v ≡ event.Cancel c)
+    leaves_by (event.Start d request) at h = inl (leaver_leaves limits t now flaw s ev c h)
+    leaves_by (event.Poll d want) at h = inl (leaver_leaves limits t now flaw s ev c h)
+    leaves_by (event.Head x response) at h = inl (leaver_leaves limits t now flaw s ev c h)
+    leaves_by (event.Piece x bytes) at h = inl (leaver_leaves limits t now flaw s ev c h)
+    leaves_by (event.End x) at h = inl (leaver_leaves limits t now flaw s ev c h)
+    leaves_by (event.Fault x) at h = inl (leaver_leaves limits t now flaw s ev c h)
+    leaves_by (event.Cancel d) at h = inr (let same : d ≡ c = some_inj d c h in ap event.Cancel same)
+    leaves_by (event.Doom key) at h = inl (leaver_leaves limits t now flaw s ev c h)
+
+    -- as long as it doesn't leave, its own exchange isn't left
+    pub unleft : (ev ≡ event.Cancel c → ⊥) → leaves_in c e.acts ≡ false → is_left t y (leaver b) ≡ true → ⊥
+    unleft cancels stays left = elim (leaves_by ev refl (left_is (leaver b) left)) [
+      | inl leaves ↦ false_true (sym stays ∙ leaves)
+      | inr cancelled ↦ cancels cancelled
+    ]
 
   module _ (c y : ℕ) (k : Consumer) (w : Exchange) (is : IsWaiter t c y k w) where
     pub headless_is : is_headless (t.exchange y) ≡ true
@@ -239,59 +297,6 @@ module _ (limits : Limits) (t : Tables) (now : ℕ) (flaw : Flaw) (s : Sound t) 
         let waits : is_number (awaited k.place) y ≡ true = sym (ap (λ z. awaits z y) (ap t.consumer is.for_it ∙ is.row)) ∙ and_right _ (awaits (t.consumer w.c) y) h in
         or_left _ _ (or_left _ _ (and_both _ _ key (waits_place k.place (number_is (awaited k.place) y waits))))
 
-    pub left_number : (d : ℕ) (q : Consumer) → t.consumer d ≡ Some q → own_open t q ≡ Some y → d ≡ c
-    left_number d q row own = o.one d c y q k row is.row (own_of q.own own) is.own
-      where
-        own_of : (z : Option ℕ) → option_and_then (if_open t) z ≡ Some y → z ≡ Some y
-        own_of None h = absurd (none_some y h)
-        own_of (Some x) h = elim (bool_cases (is_open (t.exchange x))) [
-          | inl on ↦ rw on at h
-          | inr off ↦ absurd (none_some y (rw off at h))
-        ]
-
-    -- it is the exchange of no writing
-    not_writer : (r : ℕ) (z : Option Representation) → t.representation r ≡ z → writing_in t z ≡ Some y → ⊥
-    not_writer r None row h = none_some y h
-    not_writer r (Some v) row h = elim (bool_cases (is_written t v)) [
-      | inr off ↦ none_some y (rw off at h)
-      | inl on ↦
-          let writer : v.writer ≡ Some y = rw on at h in
-          let grows = (s.rows r v row).growing y on writer in
-          let g = grows.1 in
-          let same : grows.0 ≡ w = same_row (t.exchange y) grows.0 w g.row is.exchange_row in
-          false_true (sym (ap is_some (ap (λ (z : Exchange). z.head) same ∙ is.bare)) ∙ g.headed)
-    ]
-
-    not_shared : (p : Place) → shared t p ≡ Some y → ⊥
-    not_shared place.Line h = none_some y h
-    not_shared (place.Passed r kept) h = none_some y h
-    not_shared (place.Turn x) h = none_some y h
-    not_shared (place.Bound r lo hi how) h = not_writer r (t.representation r) refl h
-    not_shared (place.Direct x) h = none_some y h
-    not_shared (place.Down cause) h = none_some y h
-    not_shared place.Over h = none_some y h
-
-    left_row : (d : ℕ) (z : Option Consumer) → t.consumer d ≡ z → is_left_by t y d z ≡ true → d ≡ c
-    left_row d None row h = absurd (false_true h)
-    left_row d (Some q) row h = elim (or_cases (is_number (own_open t q) y) _ h) [
-      | inl own ↦ left_number d q row (number_is (own_open t q) y own)
-      | inr group ↦ absurd (not_shared q.place (number_is (shared t q.place) y (and_left _ (is_last_reader t d q.place) group)))
-    ]
-
-    left_is : (z : Option ℕ) → is_left t y z ≡ true → z ≡ Some c
-    left_is None h = absurd (false_true h)
-    left_is (Some d) h = ap Some (left_row d (t.consumer d) refl h)
-
-    leaves_by : (v : Event) → ev ≡ v → leaver_by v b.acts ≡ Some c → (leaves_in c e.acts ≡ true) ⊎ (v ≡ event.Cancel c)
-    leaves_by (event.Start d request) at h = inl (leaver_leaves limits t now flaw s ev c h)
-    leaves_by (event.Poll d want) at h = inl (leaver_leaves limits t now flaw s ev c h)
-    leaves_by (event.Head x response) at h = inl (leaver_leaves limits t now flaw s ev c h)
-    leaves_by (event.Piece x bytes) at h = inl (leaver_leaves limits t now flaw s ev c h)
-    leaves_by (event.End x) at h = inl (leaver_leaves limits t now flaw s ev c h)
-    leaves_by (event.Fault x) at h = inl (leaver_leaves limits t now flaw s ev c h)
-    leaves_by (event.Cancel d) at h = inr (let same : d ≡ c = some_inj d c h in ap event.Cancel same)
-    leaves_by (event.Doom key) at h = inl (leaver_leaves limits t now flaw s ev c h)
-
     lost_by : (r : ℕ) (z : Option Representation) → z ≡ None → has_no_survivor t b y r z ≡ true → ⊥
     lost_by r None none h = false_true h
     lost_by r (Some v) none h = let never : Some v ≡ None = none in cc
@@ -311,31 +316,22 @@ module _ (limits : Limits) (t : Tables) (now : ℕ) (flaw : Flaw) (s : Sound t) 
     refused_by (event.Cancel d) h other = false_true h
     refused_by (event.Doom key) h other = false_true h
 
-    -- as long as it neither leaves nor starts over, an event of another exchange leaves its own open
-    pub unclosed : (exchange_in ev ≡ Some y → ⊥) → (ev ≡ event.Cancel c → ⊥) → leaves_in c e.acts ≡ false → starts_over t e c k ≡ false → closes_in y e.acts ≡ false
-    unclosed other cancels stays over = by_test (closes_in y e.acts) refl
+    -- as long as it neither leaves nor starts over, nor is its head refused, its own exchange isn't closed
+    pub unclosed_unless : ((is_refused (case_at t b) && brings_head y ev) ≡ true → ⊥) → (ev ≡ event.Cancel c → ⊥) → leaves_in c e.acts ≡ false → starts_over t e c k ≡ false → closes_in y e.acts ≡ false
+    unclosed_unless unrefused cancels stays over = not_so (closes_in y e.acts) (λ closed. by_cause (had_to limits t now flaw s ev y w is.exchange_row closed))
       where
-        over_not : starts_over t e c k ≡ true → ⊥
-        over_not on = false_true (sym over ∙ on)
-
-        left_not : leaver_by ev b.acts ≡ Some c → ⊥
-        left_not h = elim (leaves_by ev refl h) [
-          | inl leaves ↦ false_true (sym stays ∙ leaves)
-          | inr cancelled ↦ cancels cancelled
-        ]
-
         by_cause : must_close t b y w ≡ true → ⊥
         by_cause must = elim (or_cases _ (is_left t y (leaver b)) must) [
-          | inr left ↦ left_not (left_is (leaver b) left)
+          | inr left ↦ unleft c y k is.row is.own cancels stays left
           | inl more ↦ elim (or_cases _ (has_no_survivor t b y (family y w) (t.representation (family y w))) more) [
             | inr lost ↦ unlost lost
             | inl less ↦ elim (or_cases (is_refused (case_at t b) && brings_head y ev) (is_doomed t b y w) less) [
-              | inl refused ↦ refused_by ev (and_right _ _ refused) other
-              | inr doomed ↦ over_not (doomed_over doomed)
+              | inl refused ↦ unrefused refused
+              | inr doomed ↦ false_true (sym over ∙ doomed_over doomed)
             ]
           ]
         ]
 
-        by_test : (a : Bool) → closes_in y e.acts ≡ a → a ≡ false
-        by_test false closed = refl
-        by_test true closed = absurd (by_cause (had_to limits t now flaw s ev y w is.exchange_row closed))
+    -- so an event of another exchange leaves it open
+    pub unclosed : (exchange_in ev ≡ Some y → ⊥) → (ev ≡ event.Cancel c → ⊥) → leaves_in c e.acts ≡ false → starts_over t e c k ≡ false → closes_in y e.acts ≡ false
+    unclosed other = unclosed_unless (λ refused. refused_by ev (and_right _ _ refused) other)

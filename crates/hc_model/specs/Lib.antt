@@ -42,4 +42,5 @@ pub mod Origins
 pub mod Sizes
 pub mod StoredHeads
 pub mod Places
+pub mod Endings
 pub mod Laws

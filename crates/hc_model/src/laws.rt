@@ -4,6 +4,7 @@ ghost use Rattle.hc_model.specs.Reads.{OneHeadIsShown, BodiesAreRead, GivesNext,
 ghost use Rattle.hc_model.specs.Keys.{LawOfOneKey, KeysAreKept, KeysBegin};
 ghost use Rattle.hc_model.specs.Laws.{SoundDeliversOnce, DeliveriesAreKept, BodiesAreKept, NumbersAreKept, NamesAreKept, OneCurrentIsKept, StoresAreKept, StartsAreSound, WholeIsWhole, AfterEach, AreBound, KnowEnds, OwnedAfterEach, AreToBeShown, OwedAfterEach, OwnersAreKnown, TurnsAreOne, TurnsAreKept, TurnsBegin, HasOneTurn, KeysInRuns, BarrierIsKept, BarrierBegins, DoomsInRuns, TruncatedIsFront, IsTruthful, TurnsGo, ReadersGo, FewGiveWay, AreRead, AreUndue, ReadAbout, MeasuredAfterEach, BeginningsAreMeasured, AreGrowing, KeptByEntries, AreServed, AreHad, SurvivorsGoOn, BeginningsAreStarts, AfterDenials, OfRuns, OfRunsIn, LeavesInRuns, DeliversOnce, BodiesGrowInRuns, WaitsEnd, FitsInRuns, FewInRuns};
 ghost use Rattle.hc_model.specs.Owners.{Owners};
+ghost use Rattle.hc_model.specs.Endings.{Endings};
 ghost use Rattle.hc_model.specs.Measures.{Measures};
 ghost use Rattle.hc_model.specs.Orders.{InOrder};
 ghost use Rattle.hc_model.specs.Origins.{Origins};
@@ -225,6 +226,11 @@ pub fn places_are_known()
 /// and what was founded once each, also in the order of use.
 pub fn lists_are_in_order()
     ensures { OfRuns InOrder }
+{}
+
+/// Where an answer past the store ends is known once it is over without a failure: where all of it came, in every run.
+pub fn endings_are_known()
+    ensures { OfRuns Endings }
 {}
 
 /// A denied entry leaves sound tables sound, owners known and bodies measured.

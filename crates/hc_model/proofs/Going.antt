@@ -44,7 +44,7 @@ eq-refl : (r : ℕ) → nat_eq r r ≡ true
 eq-refl r = elim (eq_cases r r) [ inl same ↦ same.0 | inr other ↦ absurd (other.1 refl) ]
 
 turn_goes : (t : Tables) (c d : ℕ) (k : Consumer) (m : Move) → Does t c k m → turn_with t k.request.key c ≡ c → m ≡ moves.Waits (wait.Turn d) → ⊥
-turn_goes t c d k _ (does.waits_turn d' is_new other) has is =
+turn_goes t c d k _ (does.waits_turn d' is_new other back) has is =
     let no_one : false ≡ true = sym other ∙ (ap (λ n. nat_eq n c) has ∙ eq-refl c) in cc
 turn_goes t c d k _ does.nothing has is = not_it is_turn _ _ refl refl is
 turn_goes t c d k _ (does.passes d' r is_new queues may) has is = not_it is_turn _ _ refl refl is
@@ -66,7 +66,7 @@ turns_go t s turns now c want d k row has is = turn_goes t c d k _ (does_polled 
 -- WHO IS BOUND
 
 bound_goes : (t : Tables) (c r : ℕ) (k : Consumer) (m : Move) → Does t c k m → bound_to k.place ≡ Some r → waits_for m ≡ false
-bound_goes t c r k _ (does.waits_turn d is_new other) bound = absurd (let no_one : None ≡ Some r = sym is_new.bound ∙ bound in cc)
+bound_goes t c r k _ (does.waits_turn d is_new other back) bound = absurd (let no_one : None ≡ Some r = sym is_new.bound ∙ bound in cc)
 bound_goes t c r k _ (does.passes d q is_new queues may) bound = absurd (let no_one : None ≡ Some r = sym is_new.bound ∙ bound in cc)
 bound_goes t c r k _ does.nothing bound = refl
 bound_goes t c r k _ (does.waits_head x) bound = refl

@@ -172,4 +172,5 @@ pub mod PlacesShown
 pub mod PlacesGiven
 pub mod PlacesTold
 pub mod PlacesEnded
+pub mod PlacesStand
 pub mod PlaceRuns

@@ -24,6 +24,7 @@ use Rattle.hc_model.specs.Sound.{Sound}
 use Rattle.hc_model.specs.Tables.{tables, begun, after_accepted, after_denied}
 use Rattle.hc_model.proofs.Barred.{next_tables, denied_tables}
 use Rattle.hc_model.proofs.Basics.{false_true, none_some}
+use Rattle.hc_model.proofs.Beside.{IsBeside, is_cached_place}
 use Rattle.hc_model.proofs.Bounded.{IsBounded}
 use Rattle.hc_model.proofs.InRuns.{turned_in_runs}
 use Rattle.hc_model.proofs.OfEntries.{of_real}
@@ -33,6 +34,7 @@ use Rattle.hc_model.proofs.PlacesRead.{AreRead, read_kept}
 use Rattle.hc_model.proofs.PlacesEnded.{AreEnded, ended_kept}
 use Rattle.hc_model.proofs.PlacesGiven.{ArePast, past_kept}
 use Rattle.hc_model.proofs.PlacesShown.{AreReaders, IsReader, readers_kept}
+use Rattle.hc_model.proofs.PlacesStand.{Stands, AreStanding, standing_kept}
 use Rattle.hc_model.proofs.PlacesTold.{AreTold, told_kept, told_denied, down_told}
 use Rattle.hc_model.proofs.ReadEnds.{bounded}
 use Rattle.hc_model.proofs.ReadJoined.{aside}
@@ -49,6 +51,7 @@ pub record IsKnown (t : Tables) : Type 0 where
   pub past : ArePast t
   pub told : AreTold t
   pub ended : AreEnded t
+  pub standing : AreStanding t
 
 known_begun : (contents : Contents) → IsKnown (begun contents)
 known_begun contents = record {
@@ -57,6 +60,7 @@ known_begun contents = record {
   readers = record { shown = λ c k row on. absurd (none_some k row) };
   past = record { given = λ c x k w row at exchange_row. absurd (none_some k row); undue = λ c x k w row at exchange_row on. absurd (none_some k row) };
   ended = record { past = λ c x k w row. absurd (none_some k row) };
+  standing = record { stands = λ c k row. absurd (none_some k row) };
   told = record { due = λ c k row. absurd (none_some k row); down = λ c k row. absurd (none_some k row); received = λ x w row. absurd (none_some w row) };
 }
 
@@ -71,6 +75,7 @@ known_denied t e known = record {
   past = record { given = known.past.given; undue = known.past.undue };
   told = told_denied t e known.told;
   ended = record { past = known.ended.past };
+  standing = record { stands = known.standing.stands };
 }
 
 by_denial : (limits : Limits) (contents : Contents) (h : History) (e : Entry) (b : Bool) → is_denied e.acts ≡ b → IsCarried (tables contents h) → IsAside (tables contents h) → Turns (tables contents h) → IsBounded (tables contents h) → Sound (tables contents (e ∷ h)) → IsOwed limits (tables contents h) e → IsKnown (tables contents h) → IsKnown (tables contents (e ∷ h))
@@ -86,6 +91,7 @@ by_denial limits contents h e false accepted c a turns b later owed known =
       past = past_kept limits t e.now (flaw_in e.acts) c.is_sound c.is_owned a b known.owned known.past e.event going real.stand owned;
       told = told_kept t (entry_of limits t e.now e.event (flaw_in e.acts)) known.told;
       ended = ended_kept limits t e.now (flaw_in e.acts) c.is_sound c.is_owned a b known.owned known.ended e.event going owned;
+      standing = standing_kept limits t e.now (flaw_in e.acts) c.is_sound c.is_owned a known.owned turns known.readers known.standing e.event going taken;
     }) sound_then (record { owed = owed; not_denied = accepted }))
 
 pub known_in_runs : OfRuns IsKnown
@@ -95,7 +101,7 @@ known_in_runs limits contents (e ∷ h) may run = by_denial limits contents h e 
 
 -- BY PLACE
 
-module _ (t : Tables) (s : Sound t) (o : Owners t) (a : IsAside t) (b : IsBounded t) (turns : Turns t) (known : IsKnown t) where
+module _ (t : Tables) (s : Sound t) (o : Owners t) (a : IsAside t) (b : IsBounded t) (turns : Turns t) (beside : IsBeside t) (known : IsKnown t) where
   -- it neither waits for a head nor reads
   abbrev Elsewhere : Place → Type 0
   Elsewhere place.Line = Unit {0}
@@ -218,6 +224,9 @@ module _ (t : Tables) (s : Sound t) (o : Owners t) (a : IsAside t) (b : IsBounde
         let i = known.owned.direct c x k row at in
         record { w = i.its.w; row = i.its.row; for_it = i.its.for_it; own = i.its.own; unjoined = i.unjoined; unfounded = a.apart.unfounded c x k row at; given = known.past.given c x k i.its.w row at i.its.row; unheard = λ bare. unheard x i.its.w i.its.row bare at; undue = λ on. known.past.undue c x k i.its.w row at i.its.row on }
 
+  stands_at : (c : ℕ) (k : Consumer) → t.consumer c ≡ Some k → (p : Place) → k.place ≡ p → Stands p k.own k.request
+  stands_at c k row p at = subst (λ z. Stands z k.own k.request) at (known.standing.stands c k row)
+
   pub places_by : Places t
   places_by = record {
     line = λ c k row at. away_by c k row (subst Elsewhere (sym at) tt) (λ r. subst IsReader at r) (ap reads at);
@@ -229,6 +238,10 @@ module _ (t : Tables) (s : Sound t) (o : Owners t) (a : IsAside t) (b : IsBounde
     ungiven = b.fresh;
     turn_queues = λ c x k row at. let q = turns.queued c x k row at in record { cached = q.0; asks = q.1 };
     passed_queues = λ c r kept k row at. let q = turns.passed c r kept k row at in record { cached = q.cached; asks = q.asks };
+    bound_cached = λ c r lo hi how k row at. beside.cached c k row (ap is_cached_place at);
+    direct_asks = λ c x k row at. stands_at c k row (place.Direct x) at;
+    down_asks = λ c why k row at. stands_at c k row (place.Down why) at;
+    line_unowned = λ c k row at. stands_at c k row place.Line at;
     told = known.told.due;
     down_told = λ c why k row at. down_told t known.told c why k row at;
     received = known.told.received;
@@ -240,7 +253,7 @@ module _ (t : Tables) (s : Sound t) (o : Owners t) (a : IsAside t) (b : IsBounde
 pub places_in_runs : OfRuns Places
 places_in_runs limits contents h may run =
     let c = carried limits contents h may run in
-    places_by (tables contents h) c.is_sound c.is_owned (aside limits contents h may run) (bounded limits contents h may run) (turned_in_runs limits contents h may run).turns (known_in_runs limits contents h may run)
+    places_by (tables contents h) c.is_sound c.is_owned (aside limits contents h may run) (bounded limits contents h may run) (turned_in_runs limits contents h may run).turns c.beside (known_in_runs limits contents h may run)
 
 pub endings_in_runs : OfRuns Endings
 endings_in_runs limits contents h may run = record {

@@ -6,6 +6,7 @@ use Rattle.hc_event.specs.Filters.{Opening, opening_in}
 use Rattle.hc_event.specs.declared.act.Cause.{Cause}
 use Rattle.hc_event.specs.declared.event.Event.{Event}
 use Rattle.hc_event.specs.declared.event.Event.TheVariants as event
+use Rattle.hc_event.specs.declared.event.Request.{Request}
 use Rattle.hc_event.specs.declared.event.Response.{Response}
 use Rattle.hc_rules.specs.declared.heads.HeadCase.{HeadCase}
 use Rattle.hc_rules.specs.HeadCases.{head_case}
@@ -174,7 +175,7 @@ module _ (limits : Limits) (t : Tables) (now : ℕ) (flaw : Flaw) (s : Sound t) 
     | inr off ↦ rw off.0 refl
   ]
 
-  own_poll : (d want : ℕ) → ev ≡ event.Poll d want → (c : ℕ) (p : Place) (own : Option ℕ) → own_after t e c p own ≡ own
+  pub own_poll : (d want : ℕ) → ev ≡ event.Poll d want → (c : ℕ) (p : Place) (own : Option ℕ) → own_after t e c p own ≡ own
   own_poll d want here c place.Line own = refl
   own_poll d want here c (place.Passed r kept) own = refl
   own_poll d want here c (place.Turn x) own = refl
@@ -199,26 +200,30 @@ module _ (limits : Limits) (t : Tables) (now : ℕ) (flaw : Flaw) (s : Sound t) 
   own_free c place.Over own free = refl
   own_free c (place.Bound r lo hi how) own free = absurd (some_none r free)
 
-  own_is : (c : ℕ) (k u : Consumer) → Step c k u → Unopened c → u.own ≡ own_after t e c (consumer_heard t e c ev k).place (consumer_heard t e c ev k).own
+  pub own_is : (c : ℕ) (k u : Consumer) → Step c k u → Unopened c → u.own ≡ own_after t e c (consumer_heard t e c ev k).place (consumer_heard t e c ev k).own
   own_is c k u row none =
       let h = consumer_heard t e c ev k in
       sym (ap (λ (z : Consumer). z.own) row.is) ∙ ap (λ (q : Consumer). own_after t e c h.place q.own) (opening_stays c (waiting t e c h) (opening_in e.acts) refl none)
 
   -- only a poll opens
-  unopened : ((d want : ℕ) → ev ≡ event.Poll d want → ⊥) → (c : ℕ) → Unopened c
+  pub unopened : ((d want : ℕ) → ev ≡ event.Poll d want → ⊥) → (c : ℕ) → Unopened c
   unopened unpolled c p opens mine = let opened = is_opened limits t now flaw s o ev goes p opens in unpolled p.c opened.want opened.at
 
-  past_not : (y : ℕ) (k : Consumer) → k.place ≡ place.Direct y → shows_at t k k.place ≡ None → IsHeard t k → IsPast t y k → ⊥
+  -- who waits for a head isn't to be told anything else
+  pub waits_not : (y : ℕ) (k : Consumer) (w : Exchange) → k.own ≡ Some y → t.exchange y ≡ Some w → w.is_open ≡ true → w.head ≡ None → IsHeard t k → ⊥
+  waits_not y k w mine row on bare heard =
+      let own : own_open t k ≡ Some y = rw (mine, row, on) refl in
+      let headless : is_headless (t.exchange y) ≡ true = rw (row, on, bare) refl in
+      let waits : option_and_then (if_headless t) (own_open t k) ≡ Some y = ap (option_and_then (if_headless t)) own ∙ ap (λ b. cond b (Some y) None) headless in
+      some_none y (sym waits ∙ heard)
+
+  pub past_not : (y : ℕ) (k : Consumer) → k.place ≡ place.Direct y → shows_at t k k.place ≡ None → IsHeard t k → IsPast t y k → ⊥
   past_not y k at none heard (owners.answered w row headed) =
       let got = some_row w.head headed in
       let no : shows_direct t y (t.exchange y) ≡ None = sym (ap (shows_at t k) at) ∙ none in
       let also : shows_direct t y (Some w) ≡ None = sym (ap (shows_direct t y) row) ∙ no in
       let gone = rw got.1 at also in some_none _ gone
-  past_not y k at none heard (owners.waits w mine row on bare) =
-      let own : own_open t k ≡ Some y = rw (mine, row, on) refl in
-      let headless : is_headless (t.exchange y) ≡ true = rw (row, on, bare) refl in
-      let waits : option_and_then (if_headless t) (own_open t k) ≡ Some y = ap (option_and_then (if_headless t)) own ∙ ap (λ b. cond b (Some y) None) headless in
-      some_none y (sym waits ∙ heard)
+  past_not y k at none heard (owners.waits w mine row on bare) = waits_not y k w mine row on bare heard
 
   -- and nothing for who reads past the store
   pub past_unopened : (c y : ℕ) (k : Consumer) → t.consumer c ≡ Some k → k.place ≡ place.Direct y → Unopened c
@@ -458,9 +463,9 @@ module _ (limits : Limits) (t : Tables) (now : ℕ) (flaw : Flaw) (s : Sound t) 
 
   -- WITH THE TURN
 
-  made : (c : ℕ) (v : Event) (u : Consumer) → consumer_made c e.now v ≡ Some u → u.place ≡ place.Line
+  made : (c : ℕ) (v : Event) (u : Consumer) → consumer_made c e.now v ≡ Some u → (request : Request) × (started e.now request ≡ u)
   made c (event.Start d request) u h = elim (eq_cases d c) [
-    | inl here ↦ sym (ap (λ (z : Consumer). z.place) (some_inj _ u (rw here.0 at h)))
+    | inl here ↦ (request, some_inj _ u (rw here.0 at h))
     | inr off ↦ absurd (none_some u (rw off.0 at h))
   ]
   made c (event.Poll d want) u h = absurd (none_some u h)
@@ -471,10 +476,14 @@ module _ (limits : Limits) (t : Tables) (now : ℕ) (flaw : Flaw) (s : Sound t) 
   made c (event.Cancel d) u h = absurd (none_some u h)
   made c (event.Doom key) u h = absurd (none_some u h)
 
-  pub new_line : (c : ℕ) (q : Option Consumer) (u : Consumer) → q ≡ None → consumer_after t e c q ≡ Some u → u.place ≡ place.Line
+  -- who wasn't there has just started
+  pub new_is : (c : ℕ) (q : Option Consumer) (u : Consumer) → q ≡ None → consumer_after t e c q ≡ Some u → (request : Request) × (started e.now request ≡ u)
   unfolding consumer_after
-  new_line c None u none h = made c ev u h
-  new_line c (Some k) u none h = absurd (some_none k none)
+  new_is c None u none h = made c ev u h
+  new_is c (Some k) u none h = absurd (some_none k none)
+
+  new_line : (c : ℕ) (q : Option Consumer) (u : Consumer) → q ≡ None → consumer_after t e c q ≡ Some u → u.place ≡ place.Line
+  new_line c q u none h = sym (ap (λ (z : Consumer). z.place) (new_is c q u none h).1)
 
   pub settled : (c : ℕ) (k u : Consumer) → t.consumer c ≡ Some k → now_on.consumer c ≡ Some u → starts_over t e c k ≡ false → due_after t e c k (consumer_acted t e c (consumer_heard t e c ev k)) ≡ u
   settled c k u row after stays =

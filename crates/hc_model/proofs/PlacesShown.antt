@@ -150,7 +150,7 @@ module _ (limits : Limits) (t : Tables) (now : ℕ) (flaw : Flaw) (s : Sound t) 
       case_here : case_at t e ≡ Some (head_case view)
       case_here = case_is t e x response w here exchange_row
 
-      head_same : place_by_case x response w k (case_at t e) ≡ k.place
+      pub head_same : place_by_case x response w k (case_at t e) ≡ k.place
       head_same = ap (place_by_case x response w k) case_here ∙ (by_case (head_case view) (case_by view)).0
 
       unsent : sends_back (case_at t e) ≡ false

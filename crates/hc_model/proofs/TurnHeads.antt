@@ -1,6 +1,6 @@
 -- A 304 that validates lets its consumer through: what is current stays so.
 use Rattle.std.proofs.Common.{◌≡◌, ℕ, List, [], ◌∷◌, ◌++◌, Bool, true, false, Option, Some, None, refl, ap, sym, ◌∙◌}
-use Rattle.std.specs.Prelude.{◌&&◌, ◌||◌, ◌==◌, not, is_none, if◌then◌else◌, nat_le}
+use Rattle.std.specs.Prelude.{◌&&◌, ◌||◌, ◌==◌, not, is_none, is_some, if◌then◌else◌, nat_le}
 use Rattle.std.specs.Option.{option_map}
 use Rattle.hc_event.specs.Filters.{opening_in}
 use Rattle.hc_event.specs.declared.act.Act.{Act}
@@ -19,6 +19,7 @@ use Rattle.hc_rules.specs.declared.room.Limits.{Limits}
 use Rattle.hc_rules.specs.declared.room.Write.{Write}
 use Rattle.hc_rules.specs.declared.room.Write.TheVariants as write
 use Rattle.hc_rules.specs.HeadCases.{head_case, case_on, direct_case, first_case, later_case, is_conditional}
+use Rattle.hc_rules.specs.Lengths.{is_same_number}
 use Rattle.hc_rules.specs.Needs.{route_of}
 use Rattle.hc_model.specs.ActFilters.{has_loss, loses_in, misreads_in, leaver_in}
 use Rattle.hc_model.specs.Answers.{said, lost}
@@ -123,6 +124,20 @@ valid_is t e x r response w at row found aim =
       current = same_number (current t w.request.key) w.aim r aim (and_left _ _ (and_then (response.status == 304 && is_conditional w.need w.request) (validates t w response) a));
       lossless = not_yes (has_loss e.acts) (and_then (response.status == 304 && is_conditional w.need w.request && validates t w response) (not (has_loss e.acts)) both.1);
     }
+
+-- and it is of an exchange that was opened about something
+pub valid_aim : (t : Tables) (e : Entry) (x : ℕ) (response : Response) (w : Exchange) → e.event ≡ event.Head x response → t.exchange x ≡ Some w → case_at t e ≡ Some case.Validated → is_some w.aim ≡ true
+unfolding head_case
+valid_aim t e x response w at row found =
+    let here = case_is t (has_loss e.acts) x response w case.Validated row (sym (ap (case_of t (has_loss e.acts)) at) ∙ found) in
+    let all = (validated_on (head_view t (has_loss e.acts) w response) (route_of w.need) here).1 in
+    let b = and_left (response.status == 304 && is_conditional w.need w.request && validates t w response) (not (has_loss e.acts)) all in
+    same_some (current t w.request.key) w.aim (and_left _ _ (and_then (response.status == 304 && is_conditional w.need w.request) (validates t w response) b))
+  where
+    same_some : (p q : Option ℕ) → is_same_number p q ≡ true → is_some q ≡ true
+    same_some p (Some n) h = refl
+    same_some None None h = absurd (let no_one : false ≡ true = h in cc)
+    same_some (Some m) None h = absurd (let no_one : false ≡ true = h in cc)
 
 -- IT LEAVES WHAT IS STORED
 

@@ -29,7 +29,7 @@ use Rattle.hc_model.specs.declared.place.Place.{Place}
 use Rattle.hc_model.specs.declared.place.Place.TheVariants as place
 use Rattle.hc_model.specs.declared.place.BoundBy.{BoundBy}
 use Rattle.hc_model.specs.declared.place.BoundBy.TheVariants as by
-use Rattle.hc_model.specs.ConsumerRows.{opened_place, place_for_hole, bound_to_wanted}
+use Rattle.hc_model.specs.ConsumerRows.{opened_place, place_for_hole, bound_to_wanted, kept_by}
 use Rattle.hc_model.specs.Currents.{current, row_of}
 use Rattle.hc_model.specs.Laws.{HasPassed, Turns}
 use Rattle.hc_model.specs.Lines.{turn_with}
@@ -62,14 +62,35 @@ pub record Queues (k : Consumer) : Type 0 where
   pub cached : is_disabled k.request ≡ false
   pub asks : is_only k.request ≡ false
 
+-- where a plan is made: in the line or let through, or, before its head came, with the turn or past the store
+abbrev pub Plans : Place → Type 0
+Plans place.Line = Unit {0}
+Plans (place.Passed r kept) = Unit {0}
+Plans (place.Turn x) = Unit {0}
+Plans (place.Direct x) = Unit {0}
+Plans _ = ⊥
+
 -- it was shown nothing and is bound to nothing
+record IsUnread (k : Consumer) : Type 0 where
+  shown : k.shown ≡ false
+  bound : bound_to k.place ≡ None
+  plans : Plans k.place
+
+-- and may ask the origin
 pub record IsNew (k : Consumer) : Type 0 where
   pub shown : k.shown ≡ false
   pub bound : bound_to k.place ≡ None
+  pub plans : Plans k.place
+  pub asks : is_only k.request ≡ false
+
+-- if it was let through, it kept no 304
+abbrev pub KeptNone : Place → Type 0
+KeptNone (place.Passed r (Some x)) = ⊥
+KeptNone _ = Unit {0}
 
 pub data Does (t : Tables) (c : ℕ) (k : Consumer) : Move → Type 0 where
   nothing : Does t c k Nothing
-  waits_turn : (d : ℕ) → IsNew k → (turn_with t k.request.key c == c) ≡ false → Does t c k (moves.Waits (wait.Turn d))
+  waits_turn : (d : ℕ) → IsNew k → (turn_with t k.request.key c == c) ≡ false → KeptNone k.place → Does t c k (moves.Waits (wait.Turn d))
   passes : (d r : ℕ) → IsNew k → Queues k → MayRead t k r → Does t c k (moves.Waits (wait.Busy d))
   waits_head : (x : ℕ) → Does t c k (moves.Waits (wait.Head x))
   waits_body : (x : ℕ) → Does t c k (moves.Waits (wait.Body x))
@@ -252,6 +273,23 @@ module _ (t : Tables) (c : ℕ) (k : Consumer) where
     unfolding class_of
     plain_is h = h
 
+    asks_is : view.class.only ≡ false → is_only k.request ≡ false
+    unfolding class_of
+    asks_is h = h
+
+    asking : IsUnread k → view.class.only ≡ false → IsNew k
+    asking u only = record { shown = u.shown; bound = u.bound; plans = u.plans; asks = asks_is only }
+
+    kept_none : (p : Place) → k.place ≡ p → (has_passed p ≡ true → kept_by p ≡ None) → KeptNone p
+    kept_none (place.Passed r None) at none = tt
+    kept_none (place.Passed r (Some x)) at none = absurd (let no_one : Some x ≡ None = none refl in cc)
+    kept_none place.Line at none = tt
+    kept_none (place.Turn x) at none = tt
+    kept_none (place.Bound r lo hi how) at none = tt
+    kept_none (place.Direct x) at none = tt
+    kept_none (place.Down why) at none = tt
+    kept_none place.Over at none = tt
+
     bypass_is : view.class.bypassing ≡ true → is_bypassing k.request ≡ true
     unfolding class_of
     bypass_is h = h
@@ -278,31 +316,31 @@ module _ (t : Tables) (c : ℕ) (k : Consumer) where
         ∙ ap (bound_to_wanted found.r (by.FirstHole (t.opened + 1)) place.Line) wants) in
         rw here (first _ _ found.r span.lo (Some span.hi) refl is_new bound)
 
-    does_plan : IsNew k → (p : Plan) → Planned view p → Does t c k (plan_move t k p)
-    does_plan is_new _ (plans.past n way) = past n _ way is_new
-    does_plan is_new _ (plans.waits_turn d other) = waits_turn d is_new other
-    does_plan is_new _ (plans.fetches n way queue turn_is varied bypass) =
-        fetches n _ way is_new (queueing queue) turn_is (λ is. may_read (varied is).1 (plain_is (varied is).0)) (λ is. bypass_is (bypass is))
-    does_plan is_new _ (plans.binds why span) = does_binds why span (current t k.request.key) is_new.bound
-    does_plan is_new _ (plans.first span hole z current_is at) = binds_first hole span z is_new at (candidate_is (current t k.request.key) z refl current_is)
-    does_plan is_new _ (plans.busy d kept queue plain varied) =
-        let m = may_read varied (plain_is plain) in passes d m.0 is_new (queueing queue) m.1
-    does_plan is_new _ plans.misses = fails _
+    does_plan : IsUnread k → (p : Plan) → Planned view p → Does t c k (plan_move t k p)
+    does_plan u _ (plans.past n way only) = past n _ way (asking u only)
+    does_plan u _ (plans.waits_turn d other only back) = waits_turn d (asking u only) other (kept_none k.place refl back)
+    does_plan u _ (plans.fetches n way queue turn_is varied bypass) =
+        fetches n _ way (asking u queue.asks) (queueing queue) turn_is (λ is. may_read (varied is).1 (plain_is (varied is).0)) (λ is. bypass_is (bypass is))
+    does_plan u _ (plans.binds why span) = does_binds why span (current t k.request.key) u.bound
+    does_plan u _ (plans.first span hole z only current_is at) = binds_first hole span z (asking u only) at (candidate_is (current t k.request.key) z refl current_is)
+    does_plan u _ (plans.busy d kept queue plain varied) =
+        let m = may_read varied (plain_is plain) in passes d m.0 (asking u queue.asks) (queueing queue) m.1
+    does_plan u _ plans.misses = fails _
 
-    does_planned : IsNew k → Does t c k (planned t now c k)
-    does_planned is_new = does_plan is_new (plan_of view) (plan_is view through)
+    does_planned : IsUnread k → Does t c k (planned t now c k)
+    does_planned u = does_plan u (plan_of view) (plan_is view through)
 
-    by_shown : (want : ℕ) (b : Bool) → k.shown ≡ b → (b ≡ false → bound_to k.place ≡ None) → Does t c k (if b then reading t want c k else planned t now c k)
+    by_shown : (want : ℕ) (b : Bool) → k.shown ≡ b → (b ≡ false → (bound_to k.place ≡ None) × Plans k.place) → Does t c k (if b then reading t want c k else planned t now c k)
     by_shown want true shown free = does_reading want shown
-    by_shown want false shown free = does_planned (record { shown = shown; bound = free refl })
+    by_shown want false shown free = let both = free refl in does_planned (record { shown = shown; bound = both.0; plans = both.1 })
 
     does_place : (want : ℕ) (p : Place) → k.place ≡ p → shows_head t k ≡ None → option_and_then (if_headless t) (own_open t k) ≡ None → Does t c k (by_place t now want c k p)
     does_place want (place.Down cause) at none not_waiting = fails cause
     does_place want place.Over at none not_waiting = nothing
-    does_place want place.Line at none not_waiting = by_shown want k.shown refl (λ _. ap bound_to at)
-    does_place want (place.Passed r kept) at none not_waiting = by_shown want k.shown refl (λ _. ap bound_to at)
-    does_place want (place.Turn x) at none not_waiting = by_shown want k.shown refl (λ _. ap bound_to at)
-    does_place want (place.Direct x) at none not_waiting = by_shown want k.shown refl (λ _. ap bound_to at)
+    does_place want place.Line at none not_waiting = by_shown want k.shown refl (λ _. (ap bound_to at, subst Plans (sym at) tt))
+    does_place want (place.Passed r kept) at none not_waiting = by_shown want k.shown refl (λ _. (ap bound_to at, subst Plans (sym at) tt))
+    does_place want (place.Turn x) at none not_waiting = by_shown want k.shown refl (λ _. (ap bound_to at, subst Plans (sym at) tt))
+    does_place want (place.Direct x) at none not_waiting = by_shown want k.shown refl (λ _. (ap bound_to at, subst Plans (sym at) tt))
     does_place want (place.Bound r lo hi how) at none not_waiting =
         by_shown want k.shown refl (λ shown. absurd (never_plans t c k r lo hi how at shown (s.unshown c r lo hi how k row at shown) none not_waiting))
 

@@ -192,7 +192,7 @@ opens_for t c k x n request _ (does.first n' request' r lo hi way is_new bound) 
 opens_for t c k x n request _ (does.later n' request' r lo hi how way shown at) is =
     (sym (ap number_of is), later r lo hi how (ap route_of (sym (ap need_of is)) ∙ way) shown at)
 opens_for t c k x n request _ does.nothing is = no_opening _ x n request refl is
-opens_for t c k x n request _ (does.waits_turn d is_new other) is = no_opening _ x n request refl is
+opens_for t c k x n request _ (does.waits_turn d is_new other back) is = no_opening _ x n request refl is
 opens_for t c k x n request _ (does.passes d r is_new queues may) is = no_opening _ x n request refl is
 opens_for t c k x n request _ (does.waits_head y) is = no_opening _ x n request refl is
 opens_for t c k x n request _ (does.waits_body y) is = no_opening _ x n request refl is

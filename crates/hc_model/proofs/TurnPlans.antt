@@ -1,6 +1,6 @@
 -- What a plan comes to, and why: who fetches has the turn, and who waits for a body may read what is current.
 use Rattle.std.proofs.Common.{◌≡◌, ℕ, Bool, true, false, Option, Some, None, refl, ap, sym, ◌∙◌}
-use Rattle.std.specs.Prelude.{◌&&◌, ◌||◌, ◌==◌, not, if◌then◌else◌}
+use Rattle.std.specs.Prelude.{◌&&◌, ◌||◌, ◌==◌, not, is_none, if◌then◌else◌}
 use Rattle.hc_event.specs.declared.act.Need.{Need}
 use Rattle.hc_event.specs.declared.act.Need.TheVariants as need
 use Rattle.hc_event.specs.declared.act.Why.{Why}
@@ -14,7 +14,7 @@ use Rattle.hc_rules.specs.declared.plan.PlanView.{PlanView}
 use Rattle.hc_rules.specs.declared.request.Wanted.{Wanted}
 use Rattle.hc_rules.specs.declared.request.Wanted.TheVariants as wanted
 use Rattle.hc_rules.specs.Needs.{route_of}
-use Rattle.hc_rules.specs.Plans.{plan_of, bare_plan, queues, is_back, by_current, by_why, why_by, by_wanted, by_exclusive, by_hole, by_bound, in_time, from_store}
+use Rattle.hc_rules.specs.Plans.{plan_of, bare_plan, queues, is_back, allowed_by, by_current, by_why, why_by, by_wanted, by_exclusive, by_hole, by_bound, in_time, from_store}
 use Rattle.hc_model.proofs.Basics.{and_left}
 use Rattle.hc_model.proofs.Joining.{mix}
 use Rattle.hc_model.proofs.KeyNames.{eq_is, and_then}
@@ -31,11 +31,11 @@ pub record IsQueueing (v : PlanView) : Type 0 where
   pub asks : v.class.only ≡ false
 
 pub data Planned (v : PlanView) : Plan → Type 0 where
-  past : (n : Need) → route_of n ≡ route.Direct → Planned v (plan.Direct n)
-  waits_turn : (d : ℕ) → (v.turn == v.c) ≡ false → Planned v (plan.Turn d)
+  past : (n : Need) → route_of n ≡ route.Direct → v.class.only ≡ false → Planned v (plan.Direct n)
+  waits_turn : (d : ℕ) → (v.turn == v.c) ≡ false → v.class.only ≡ false → (v.passed ≡ true → v.kept ≡ None) → Planned v (plan.Turn d)
   fetches : (n : Need) → route_of n ≡ route.Turn → IsQueueing v → v.turn ≡ v.c → (n ≡ need.Validate → (v.class.bypassing ≡ false) × IsVaried v) → (n ≡ need.Bypass → v.class.bypassing ≡ true) → Planned v (plan.Fetch n)
   binds : (why : Why) (span : Option Span) → Planned v (plan.Bind why span)
-  first : (span hole : Span) (s : Candidate) → v.current ≡ Some s → s.span ≡ wanted.Interval span → Planned v (plan.FirstHole span hole)
+  first : (span hole : Span) (s : Candidate) → v.class.only ≡ false → v.current ≡ Some s → s.span ≡ wanted.Interval span → Planned v (plan.FirstHole span hole)
   busy : (d : ℕ) (kept : Option ℕ) → IsQueueing v → v.class.bypassing ≡ false → IsVaried v → Planned v (plan.Busy d kept)
   misses : Planned v plan.Miss
 
@@ -56,6 +56,12 @@ back_by : (passed back : Bool) → back ≡ true → (not passed || back) ≡ tr
 back_by true back is = is
 back_by false back is = refl
 
+-- who was let through and goes back in line kept no 304
+kept_none : (passed : Bool) (kept : Option ℕ) (none : Bool) → passed ≡ true → (not passed || (is_none kept && none)) ≡ true → kept ≡ None
+kept_none passed None none is h = refl
+kept_none false (Some x) none is h = absurd (let no_one : false ≡ true = is in cc)
+kept_none true (Some x) none is h = absurd (let no_one : false ≡ true = h in cc)
+
 not_same : (b : Bool) → not b ≡ true → b ≡ false
 not_same true h = absurd (let no_one : false ≡ true = h in cc)
 not_same false h = refl
@@ -73,7 +79,7 @@ module _ (v : PlanView) (through : v.passed ≡ true → (v.class.bypassing ≡ 
       varied = record { s = s; current = current; vary = vary }
 
       by_bound_is : (span hole : Span) (o : Option ℕ) → s.span ≡ wanted.Interval span → Planned v (by_bound v span hole o)
-      by_bound_is span hole None at = first span hole s current at
+      by_bound_is span hole None at = first span hole s queueing.asks current at
       by_bound_is span hole (Some d) at = busy d v.kept queueing plain varied
 
       by_hole_is : (why : Why) (span : Span) (o : Option Span) → s.span ≡ wanted.Interval span → Planned v (by_hole v s why span o)
@@ -86,7 +92,7 @@ module _ (v : PlanView) (through : v.passed ≡ true → (v.class.bypassing ≡ 
 
       by_wanted_is : (why : Why) (w : Wanted) → s.span ≡ w → Planned v (by_wanted v s why w)
       by_wanted_is why wanted.TotalUnknown at = busy _ _ queueing plain varied
-      by_wanted_is why wanted.Unsatisfiable at = past need.Unsatisfied refl
+      by_wanted_is why wanted.Unsatisfiable at = past need.Unsatisfied refl queueing.asks
       by_wanted_is why (wanted.Interval span) at = mix (Planned v) s.writing _ _ (busy _ _ queueing plain varied) (by_exclusive_is why span s.exclusive at)
 
       no_why : (kept : Option ℕ) (allowed : Option Why) → why_by kept allowed ≡ None → (kept ≡ None) × (allowed ≡ None)
@@ -122,21 +128,23 @@ module _ (v : PlanView) (through : v.passed ≡ true → (v.class.bypassing ≡ 
     by_class false is = by_current_is v.current refl is
 
   by_queue : (b : Bool) → IsQueueing v → queues v ≡ b → Planned v (if b then plan.Turn v.turn else if v.class.bypassing then plan.Fetch need.Bypass else by_current v v.current)
-  by_queue true queueing is = waits_turn v.turn (not_same (v.turn == v.c) (and_then (not v.passed || is_back v) _ (and_left _ _ is)))
+  by_queue true queueing is =
+      let let_back : (not v.passed || is_back v) ≡ true = and_left _ _ (and_left _ _ is) in
+      waits_turn v.turn (not_same (v.turn == v.c) (and_then (not v.passed || is_back v) _ (and_left _ _ is))) queueing.asks (λ passed. kept_none v.passed v.kept (is_none (allowed_by v.current)) passed let_back)
   by_queue false queueing is = by_class queueing is v.class.bypassing refl
 
   bare_is : (b : Bool) → v.class.only ≡ false → v.class.disabled ≡ b → Planned v (if b then plan.Direct need.Disabled else if queues v then plan.Turn v.turn else if v.class.bypassing then plan.Fetch need.Bypass else by_current v v.current)
-  bare_is true asks is = past need.Disabled refl
+  bare_is true asks is = past need.Disabled refl asks
   bare_is false asks is = by_queue (queues v) (record { cached = is; asks = asks }) refl
 
-  in_time_is : (p : Plan) → Planned v p → Planned v (in_time v p)
-  in_time_is (plan.Turn d) is = mix (Planned v) _ _ _ (past need.TimedOut refl) is
-  in_time_is (plan.Busy d kept) is = mix (Planned v) _ _ _ (past need.TimedOut refl) is
-  in_time_is plan.Miss is = is
-  in_time_is (plan.Direct n) is = is
-  in_time_is (plan.Fetch n) is = is
-  in_time_is (plan.Bind why span) is = is
-  in_time_is (plan.FirstHole span hole) is = is
+  in_time_is : (p : Plan) → v.class.only ≡ false → Planned v p → Planned v (in_time v p)
+  in_time_is (plan.Turn d) asks is = mix (Planned v) _ _ _ (past need.TimedOut refl asks) is
+  in_time_is (plan.Busy d kept) asks is = mix (Planned v) _ _ _ (past need.TimedOut refl asks) is
+  in_time_is plan.Miss asks is = is
+  in_time_is (plan.Direct n) asks is = is
+  in_time_is (plan.Fetch n) asks is = is
+  in_time_is (plan.Bind why span) asks is = is
+  in_time_is (plan.FirstHole span hole) asks is = is
 
   stored_is : (p : Plan) → Planned v (from_store p)
   stored_is (plan.Bind why span) = binds why span
@@ -149,7 +157,7 @@ module _ (v : PlanView) (through : v.passed ≡ true → (v.class.bypassing ≡ 
 
   by_only : (b : Bool) → v.class.only ≡ b → Planned v (if b then from_store (bare_plan v) else in_time v (bare_plan v))
   by_only true is = stored_is (bare_plan v)
-  by_only false is = in_time_is (bare_plan v) (bare_is v.class.disabled is refl)
+  by_only false is = in_time_is (bare_plan v) is (bare_is v.class.disabled is refl)
 
   pub plan_is : Planned v (plan_of v)
   unfolding plan_of

@@ -480,7 +480,7 @@ module _ (limits : Limits) (t : Tables) (e : Entry) (taken : IsTaken limits t e)
             (ap bypassed_by (ap opening_in all ∙ opens_behind limits t e taken)) (ap (misreads_in r) all ∙ misreads_behind limits t e taken r);
       }
   busy_move c d r want k _ at now all saw does.nothing is = not_busy _ d refl is
-  busy_move c d r want k _ at now all saw (does.waits_turn d' is_new other) is = not_busy _ d refl is
+  busy_move c d r want k _ at now all saw (does.waits_turn d' is_new other back) is = not_busy _ d refl is
   busy_move c d r want k _ at now all saw (does.waits_head y) is = not_busy _ d refl is
   busy_move c d r want k _ at now all saw (does.waits_body y) is = not_busy _ d refl is
   busy_move c d r want k _ at now all saw (does.asks y) is = not_busy _ d refl is
@@ -578,7 +578,7 @@ module _ (limits : Limits) (t : Tables) (e : Entry) (taken : IsTaken limits t e)
   shown_move : (c r lo y want : ℕ) (hi : Option ℕ) (k : Consumer) (m : Move) → k.place ≡ place.Bound r lo hi (by.FirstHole y) → Does t c k m → shows_in c (acts_of c m ++ behind limits t e taken) ≡ true → Headed y
   shown_move c r lo y want hi k _ at (does.shows q why head low high joined) h = joined_row y (t.exchange y) refl (joined r lo y hi at)
   shown_move c r lo y want hi k _ at does.nothing h = absurd (let no_one : false ≡ true = sym (far_behind limits t e taken c).shows ∙ h in cc)
-  shown_move c r lo y want hi k _ at (does.waits_turn d is_new other) h = absurd (let no_one : false ≡ true = sym (far_behind limits t e taken c).shows ∙ h in cc)
+  shown_move c r lo y want hi k _ at (does.waits_turn d is_new other back) h = absurd (let no_one : false ≡ true = sym (far_behind limits t e taken c).shows ∙ h in cc)
   shown_move c r lo y want hi k _ at (does.passes d q is_new queues may) h = absurd (let no_one : false ≡ true = sym (far_behind limits t e taken c).shows ∙ h in cc)
   shown_move c r lo y want hi k _ at (does.waits_head x) h = absurd (let no_one : false ≡ true = sym (far_behind limits t e taken c).shows ∙ h in cc)
   shown_move c r lo y want hi k _ at (does.waits_body x) h = absurd (let no_one : false ≡ true = sym (far_behind limits t e taken c).shows ∙ h in cc)

@@ -6,6 +6,7 @@ use Rattle.hc_rules.specs.declared.need.Route.TheVariants as route
 use Rattle.hc_rules.specs.Needs.{route_of}
 use Rattle.hc_rules.specs.Requests.{is_disabled, is_only}
 use Rattle.hc_model.specs.declared.place.Place.TheVariants as place
+use Rattle.hc_model.specs.declared.place.BoundBy.{BoundBy}
 use Rattle.hc_model.specs.Exchanges.{family, promised}
 use Rattle.hc_model.specs.Reading.{own_open}
 use Rattle.hc_model.specs.Rows.{Tables, Exchange, Consumer}
@@ -87,6 +88,14 @@ pub record Places (t : Tables) : Type 0 where
       Queues k
   pub passed_queues : (c r : ℕ) (kept : Option ℕ) (k : Consumer) → t.consumer c ≡ Some k →
       k.place ≡ place.Passed r kept → Queues k
+  pub bound_cached : (c r lo : ℕ) (hi : Option ℕ) (by : BoundBy) (k : Consumer) →
+      t.consumer c ≡ Some k → k.place ≡ place.Bound r lo hi by → is_disabled k.request ≡ false
+  pub direct_asks : (c x : ℕ) (k : Consumer) → t.consumer c ≡ Some k → k.place ≡ place.Direct x →
+      is_only k.request ≡ false
+  pub down_asks : (c : ℕ) (why : Cause) (k : Consumer) → t.consumer c ≡ Some k →
+      k.place ≡ place.Down why → is_only k.request ≡ false
+  pub line_unowned : (c : ℕ) (k : Consumer) → t.consumer c ≡ Some k → k.place ≡ place.Line →
+      k.own ≡ None
   pub ungiven : (c : ℕ) (k : Consumer) → t.consumer c ≡ Some k → k.shown ≡ false → k.given ≡ 0
   pub told : (c : ℕ) (k : Consumer) → t.consumer c ≡ Some k → is_failed_read k.due ≡ false
   pub down_told : (c : ℕ) (why : Cause) (k : Consumer) → t.consumer c ≡ Some k →

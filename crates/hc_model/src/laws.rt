@@ -217,7 +217,8 @@ pub fn stores_begin_again()
 /// told a failure, was shown no head and given nothing, has nothing due and no open exchange; who has the turn
 /// neither, but waits for the head of its own; who reads past the store reads its own, which is of no
 /// representation, was given no more than came, and has nothing due while that is open; and each open exchange
-/// with a head that is of none is read so.
+/// with a head that is of none is read so. Who stands in the line owns nothing; who is bound may read from the
+/// store, and who reads past it or failed may ask the origin.
 pub fn places_are_known()
     ensures { OfRuns Places }
 {}

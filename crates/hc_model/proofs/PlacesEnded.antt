@@ -1,11 +1,10 @@
 -- Of an answer past the store that is over without a failure all came, at each entry.
-use Rattle.std.proofs.Common.{◌≡◌, inl, inr, ℕ, ◌+◌, ◌<◌, ◌≤◌, List, [], ◌++◌, length, Bool, true, false, Option, Some, None, refl, ap, sym, ◌∙◌, subst, arith}
-use Rattle.std.specs.Prelude.{if◌then◌else◌, is_some, is_none, ◌==◌, ◌&&◌, not, nat_eq, nat_lt, unwrap_or}
+use Rattle.std.proofs.Common.{◌≡◌, inl, inr, ℕ, ◌+◌, ◌≤◌, List, [], ◌++◌, length, Bool, true, false, Option, Some, None, refl, ap, sym, ◌∙◌, subst, arith}
+use Rattle.std.specs.Prelude.{if◌then◌else◌, ◌==◌, ◌&&◌, not, nat_eq, nat_lt, unwrap_or}
 use Rattle.std.specs.Option.{option_or}
 use Rattle.std.proofs.lemmas.Bool.Decides.{nat_tests}
 use Rattle.hc_event.specs.Filters.{closes_in}
 use Rattle.hc_event.specs.declared.act.Act.{Act}
-use Rattle.hc_event.specs.declared.act.Cause.{Cause}
 use Rattle.hc_event.specs.declared.event.Event.{Event}
 use Rattle.hc_event.specs.declared.event.Event.TheVariants as event
 use Rattle.hc_event.specs.declared.event.Response.{Response}
@@ -15,18 +14,18 @@ use Rattle.hc_model.specs.declared.place.Place.TheVariants as place
 use Rattle.hc_model.specs.declared.place.BoundBy.TheVariants as by
 use Rattle.hc_model.specs.Cases.{case_at}
 use Rattle.hc_model.specs.Closings.{must_close, is_refused, brings_head, is_doomed, awaits, has_no_survivor, is_left, leaver}
-use Rattle.hc_model.specs.ConsumerRows.{consumer_heard, consumer_acted, by_head, place_by_case}
+use Rattle.hc_model.specs.ConsumerRows.{consumer_heard, consumer_acted, by_head}
 use Rattle.hc_model.specs.Currents.{is_number}
 use Rattle.hc_model.specs.Denials.{denial, as_open}
 use Rattle.hc_model.specs.Entries.{Entry}
-use Rattle.hc_model.specs.Exchanges.{exchange_in, base, front, promised, family, is_reached, is_headless}
+use Rattle.hc_model.specs.Exchanges.{exchange_in, base, front, promised, family, is_reached}
 use Rattle.hc_model.specs.ExchangeRows.{exchange_heard, exchange_acted, with_head, with_piece, promise_in}
 use Rattle.hc_model.specs.Failures.{stop_cause, short_of, short_cause}
 use Rattle.hc_model.specs.Flaws.{Flaw}
 use Rattle.hc_model.specs.Keys.{entry_of}
 use Rattle.hc_model.specs.Owners.{Owners, IsAwaiting}
 use Rattle.hc_model.specs.Reading.{end_of_direct, own_open, source, shared, reads}
-use Rattle.hc_model.specs.Rows.{Tables, Exchange, Representation, Consumer}
+use Rattle.hc_model.specs.Rows.{Tables, Exchange, Consumer}
 use Rattle.hc_model.specs.Sound.{Sound}
 use Rattle.hc_model.specs.StartingOver.{awaited}
 use Rattle.hc_model.specs.Tables.{after_accepted}
@@ -45,7 +44,7 @@ use Rattle.hc_model.proofs.PastKeeps.{IsFrom, PlaceFrom, direct_from}
 use Rattle.hc_model.proofs.PastKeeps as past
 use Rattle.hc_model.proofs.PieceKeeps.{eq_cases, some_inj}
 use Rattle.hc_model.proofs.Pens.{same_row}
-use Rattle.hc_model.proofs.PlacesKept.{AreOwn, left_past, head_poll, poll_of, over_direct}
+use Rattle.hc_model.proofs.PlacesKept.{AreOwn, left_past, head_poll, over_direct}
 use Rattle.hc_model.proofs.ReadEnds.{no_base}
 use Rattle.hc_model.proofs.ShownStays.{IsAside}
 use Rattle.hc_model.proofs.ToBeShown.{heard_place}

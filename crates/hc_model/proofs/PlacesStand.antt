@@ -10,7 +10,6 @@ use Rattle.hc_event.specs.declared.event.Event.TheVariants as event
 use Rattle.hc_event.specs.declared.event.Request.{Request}
 use Rattle.hc_event.specs.declared.event.Response.{Response}
 use Rattle.hc_rules.specs.declared.heads.HeadCase.{HeadCase}
-use Rattle.hc_rules.specs.declared.heads.HeadCase.TheVariants as case
 use Rattle.hc_rules.specs.declared.need.Route.{Route}
 use Rattle.hc_rules.specs.declared.need.Route.TheVariants as route
 use Rattle.hc_rules.specs.declared.request.Wanted.{Wanted}
@@ -25,12 +24,12 @@ use Rattle.hc_model.specs.declared.place.BoundBy.{BoundBy}
 use Rattle.hc_model.specs.declared.place.BoundBy.TheVariants as by
 use Rattle.hc_model.specs.ActFilters.{has_loss, wait_in, Showing, showing_in}
 use Rattle.hc_model.specs.Cases.{case_at, head_view}
-use Rattle.hc_model.specs.ConsumerRows.{consumer_heard, consumer_acted, consumer_settled, started, with_head, by_head, by_fault, by_opening, becomes_shared, own_after, left_to, waiting, waiting_place, passed_by, kept_by, opened_place, place_for_hole, unless_bound, shown_place, back_in_line, due_after, place_by_case, passed_on, bound_to_wanted}
-use Rattle.hc_model.specs.Currents.{current, row_of}
+use Rattle.hc_model.specs.ConsumerRows.{consumer_heard, consumer_acted, consumer_settled, by_head, by_fault, by_opening, becomes_shared, own_after, waiting, waiting_place, passed_by, kept_by, opened_place, unless_bound, shown_place, back_in_line, due_after, place_by_case, passed_on, bound_to_wanted}
+use Rattle.hc_model.specs.Currents.{current}
 use Rattle.hc_model.specs.Denials.{denial}
 use Rattle.hc_model.specs.Entries.{Entry}
 use Rattle.hc_model.specs.Exchanges.{is_headless}
-use Rattle.hc_model.specs.Flaws.{Flaw, flaw_in}
+use Rattle.hc_model.specs.Flaws.{Flaw}
 use Rattle.hc_model.specs.Heads.{founded_total}
 use Rattle.hc_model.specs.Keys.{entry_of}
 use Rattle.hc_model.specs.Laws.{Turns, IsAwaited, StandsFor}
@@ -38,13 +37,13 @@ use Rattle.hc_model.specs.Laws as laws
 use Rattle.hc_model.specs.Moves.{Move}
 use Rattle.hc_model.specs.Moves as moves
 use Rattle.hc_model.specs.Owners.{Owners}
-use Rattle.hc_model.specs.Polls.{move_of, if_headless}
-use Rattle.hc_model.specs.Reading.{bound_to, own_open, reads}
-use Rattle.hc_model.specs.Rows.{Tables, Exchange, Representation, Consumer}
+use Rattle.hc_model.specs.Polls.{move_of}
+use Rattle.hc_model.specs.Reading.{bound_to, reads}
+use Rattle.hc_model.specs.Rows.{Tables, Exchange, Consumer}
 use Rattle.hc_model.specs.Sound.{Sound}
 use Rattle.hc_model.specs.StartingOver.{starts_over}
 use Rattle.hc_model.specs.Tables.{after_accepted}
-use Rattle.hc_model.proofs.Basics.{false_true, and_left, and_right, none_some, some_row}
+use Rattle.hc_model.proofs.Basics.{false_true, and_left, and_right, none_some}
 use Rattle.hc_model.proofs.BoundFrom.{IsRow}
 use Rattle.hc_model.proofs.FirstKeeps.{is_new, case_is, is_opener}
 use Rattle.hc_model.proofs.Forward.{is_kept}

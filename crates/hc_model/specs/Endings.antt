@@ -1,5 +1,5 @@
 -- Where an answer past the store ends.
-use Rattle.std.specs.Prelude.{◌≡◌, ℕ, false, Option, Some, None}
+use Rattle.std.specs.Prelude.{◌≡◌, ℕ, false, Some, None}
 use Rattle.hc_model.specs.declared.place.Place.TheVariants as place
 use Rattle.hc_model.specs.Exchanges.{front}
 use Rattle.hc_model.specs.Reading.{hi_of}

@@ -110,6 +110,9 @@ module _ (limits : Limits) (contents : Contents) (may : may_begin limits content
 pub turned_in_runs : OfRuns IsTurned
 turned_in_runs limits contents h may run = let held = holds limits contents may h run in record { one = held.one; turns = held.turns }
 
+pub one_key_in_runs : OfRuns IsOfOneKey
+one_key_in_runs limits contents h may run = (turned_in_runs limits contents h may run).one
+
 pub turns_in_runs : OfRuns HasOneTurn
 turns_in_runs limits contents h may run = let held = holds limits contents may h run in turns_are_one (tables contents h) (runs_are_sound limits contents h may run) held.one held.turns
 

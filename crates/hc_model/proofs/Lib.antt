@@ -174,3 +174,5 @@ pub mod PlacesTold
 pub mod PlacesEnded
 pub mod PlacesStand
 pub mod PlaceRuns
+pub mod OwnersFor
+pub mod WhoseRuns

@@ -43,4 +43,5 @@ pub mod Sizes
 pub mod StoredHeads
 pub mod Places
 pub mod Endings
+pub mod Whose
 pub mod Laws

@@ -1,7 +1,7 @@
 //! What holds of all runs, each as the contract of a function that does nothing.
 ghost use Rattle.hc_model.specs.Histories.{RunsAreFiltered};
 ghost use Rattle.hc_model.specs.Reads.{OneHeadIsShown, BodiesAreRead, GivesNext, EndsWell, RunsReadWhole};
-ghost use Rattle.hc_model.specs.Keys.{LawOfOneKey, KeysAreKept, KeysBegin};
+ghost use Rattle.hc_model.specs.Keys.{IsOfOneKey, LawOfOneKey, KeysAreKept, KeysBegin};
 ghost use Rattle.hc_model.specs.Laws.{SoundDeliversOnce, DeliveriesAreKept, BodiesAreKept, NumbersAreKept, NamesAreKept, OneCurrentIsKept, StoresAreKept, StartsAreSound, WholeIsWhole, AfterEach, AreBound, KnowEnds, OwnedAfterEach, AreToBeShown, OwedAfterEach, OwnersAreKnown, TurnsAreOne, TurnsAreKept, TurnsBegin, HasOneTurn, KeysInRuns, BarrierIsKept, BarrierBegins, DoomsInRuns, TruncatedIsFront, IsTruthful, TurnsGo, ReadersGo, FewGiveWay, AreRead, AreUndue, ReadAbout, MeasuredAfterEach, BeginningsAreMeasured, AreGrowing, KeptByEntries, AreServed, AreHad, SurvivorsGoOn, BeginningsAreStarts, AfterDenials, OfRuns, OfRunsIn, LeavesInRuns, DeliversOnce, BodiesGrowInRuns, WaitsEnd, FitsInRuns, FewInRuns};
 ghost use Rattle.hc_model.specs.Owners.{Owners};
 ghost use Rattle.hc_model.specs.Endings.{Endings};
@@ -11,6 +11,7 @@ ghost use Rattle.hc_model.specs.Origins.{Origins};
 ghost use Rattle.hc_model.specs.Sizes.{Sizes};
 ghost use Rattle.hc_model.specs.StoredHeads.{StoredHeads, Tags};
 ghost use Rattle.hc_model.specs.Places.{Places};
+ghost use Rattle.hc_model.specs.Whose.{Whose};
 ghost use Rattle.hc_model.specs.Sound.{OneFirst, Sound, RunsAreSound};
 
 /// What shows the other laws holds of the tables of every run, from contents by which a store may begin: they
@@ -101,6 +102,7 @@ pub fn other_keys_stay()
     ensures kept { KeysAreKept }
     ensures begin { KeysBegin }
     ensures runs { KeysInRuns }
+    ensures one { OfRuns IsOfOneKey }
 {}
 
 /// Whoever is bound to a representation is bound to one that is there; one at most became bound to it as
@@ -232,6 +234,14 @@ pub fn lists_are_in_order()
 /// Where an answer past the store ends is known once it is over without a failure: where all of it came, in every run.
 pub fn endings_are_known()
     ensures { OfRuns Endings }
+{}
+
+/// Each open exchange is somebody's, in every run: of no representation, it is the own one of its consumer, which
+/// waits for its head or reads it; else it is that of the writing for several, or the own one of one who is bound to
+/// what it brings, for whom it was opened or who goes on alone. Who owns an open one stands where it may, about
+/// what nobody is bound to none is open, and what is written is of the key of who asked for it.
+pub fn exchanges_are_somebodys()
+    ensures { OfRuns Whose }
 {}
 
 /// A denied entry leaves sound tables sound, owners known and bodies measured.

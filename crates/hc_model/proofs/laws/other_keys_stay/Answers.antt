@@ -1,5 +1,5 @@
 -- An entry leaves what is of other keys, and keeps what is of one key so.
-use Rattle.hc_model.proofs.InRuns.{keys_in_runs}
+use Rattle.hc_model.proofs.InRuns.{keys_in_runs, one_key_in_runs}
 use Rattle.hc_model.proofs.KeysPlaces.{keys_are_kept, keys_begin}
 use Rattle.hc_model.proofs.OneKey.{law_of_one_key}
 use Rattle.hc_model.proofs.laws.other_keys_stay.Goals as goal
@@ -15,3 +15,6 @@ returns-clause-begin c = keys_begin
 
 pub returns-clause-runs : goal.returns-clause-runs
 returns-clause-runs c = keys_in_runs
+
+pub returns-clause-one : goal.returns-clause-one
+returns-clause-one c = one_key_in_runs

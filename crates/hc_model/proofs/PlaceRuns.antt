@@ -90,7 +90,7 @@ by_denial limits contents h e false accepted c a turns b later owed known =
       readers = readers_kept limits t e.now (flaw_in e.acts) c.is_sound c.is_owned a known.owned turns known.readers e.event going taken;
       past = past_kept limits t e.now (flaw_in e.acts) c.is_sound c.is_owned a b known.owned known.past e.event going real.stand owned;
       told = told_kept t (entry_of limits t e.now e.event (flaw_in e.acts)) known.told;
-      ended = ended_kept limits t e.now (flaw_in e.acts) c.is_sound c.is_owned a b known.owned known.ended e.event going owned;
+      ended = ended_kept limits t e.now (flaw_in e.acts) c.is_sound c.is_owned c.is_measured a b known.owned known.ended e.event going owned;
       standing = standing_kept limits t e.now (flaw_in e.acts) c.is_sound c.is_owned a known.owned turns known.readers known.standing e.event going taken;
     }) sound_then (record { owed = owed; not_denied = accepted }))
 

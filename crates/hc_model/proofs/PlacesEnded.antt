@@ -9,21 +9,21 @@ use Rattle.hc_event.specs.declared.event.Event.{Event}
 use Rattle.hc_event.specs.declared.event.Event.TheVariants as event
 use Rattle.hc_event.specs.declared.event.Response.{Response}
 use Rattle.hc_rules.specs.declared.room.Limits.{Limits}
-use Rattle.hc_rules.specs.Refusals as refusals
 use Rattle.hc_model.specs.declared.place.Place.TheVariants as place
 use Rattle.hc_model.specs.declared.place.BoundBy.TheVariants as by
 use Rattle.hc_model.specs.Cases.{case_at}
 use Rattle.hc_model.specs.Closings.{must_close, is_refused, brings_head, is_doomed, awaits, has_no_survivor, is_left, leaver}
 use Rattle.hc_model.specs.ConsumerRows.{consumer_heard, consumer_acted, by_head}
 use Rattle.hc_model.specs.Currents.{is_number}
-use Rattle.hc_model.specs.Denials.{denial, as_open}
+use Rattle.hc_model.specs.Denials.{denial}
 use Rattle.hc_model.specs.Entries.{Entry}
 use Rattle.hc_model.specs.Exchanges.{exchange_in, base, front, promised, family, is_reached}
 use Rattle.hc_model.specs.ExchangeRows.{exchange_heard, exchange_acted, with_head, with_piece, promise_in}
 use Rattle.hc_model.specs.Failures.{stop_cause, short_of, short_cause}
 use Rattle.hc_model.specs.Flaws.{Flaw}
 use Rattle.hc_model.specs.Keys.{entry_of}
-use Rattle.hc_model.specs.Owners.{Owners, IsAwaiting}
+use Rattle.hc_model.specs.Measures.{Measures}
+use Rattle.hc_model.specs.Owners.{Owners}
 use Rattle.hc_model.specs.Reading.{end_of_direct, own_open, source, shared, reads}
 use Rattle.hc_model.specs.Rows.{Tables, Exchange, Consumer}
 use Rattle.hc_model.specs.Sound.{Sound}
@@ -38,7 +38,8 @@ use Rattle.hc_model.proofs.ExchangeFrom as exchange
 use Rattle.hc_model.proofs.FirstKeeps.{is_new}
 use Rattle.hc_model.proofs.Forward.{after_is}
 use Rattle.hc_model.proofs.HoleLemmas.{bool_cases}
-use Rattle.hc_model.proofs.Once.{taken, never}
+use Rattle.hc_model.proofs.MeasuresKeep.{piece_taken, ender}
+use Rattle.hc_model.proofs.Once.{never}
 use Rattle.hc_model.proofs.OwnersKeep.{new_number}
 use Rattle.hc_model.proofs.PastKeeps.{IsFrom, PlaceFrom, direct_from}
 use Rattle.hc_model.proofs.PastKeeps as past
@@ -49,7 +50,7 @@ use Rattle.hc_model.proofs.ReadEnds.{no_base}
 use Rattle.hc_model.proofs.ShownStays.{IsAside}
 use Rattle.hc_model.proofs.ToBeShown.{heard_place}
 use Rattle.hc_model.proofs.Unclosed.{had_to}
-use Rattle.hc_model.proofs.Waiters.{IsWaiter, waiter_of, case_same, unclosed_unless, unleft, fault_open_of}
+use Rattle.hc_model.proofs.Waiters.{IsWaiter, waiter_as, case_same, unclosed_unless, unleft, fault_open_of}
 
 -- all of it came, and where it ends is known
 abbrev pub IsAllCome : Exchange → Type 0
@@ -90,7 +91,7 @@ acted_come x acts w came = by_promise (promised w) came
     by_promise None h = h
     by_promise (Some n) h = h
 
-module _ (limits : Limits) (t : Tables) (now : ℕ) (flaw : Flaw) (s : Sound t) (o : Owners t) (a : IsAside t) (bounds : IsBounded t) (g : AreOwn t) (ended : AreEnded t) (ev : Event) (goes : denial t ev ≡ None) where
+module _ (limits : Limits) (t : Tables) (now : ℕ) (flaw : Flaw) (s : Sound t) (o : Owners t) (m : Measures t) (a : IsAside t) (bounds : IsBounded t) (g : AreOwn t) (ended : AreEnded t) (ev : Event) (goes : denial t ev ≡ None) where
   abbrev e : Entry
   e = entry_of limits t now ev flaw
 
@@ -100,18 +101,6 @@ module _ (limits : Limits) (t : Tables) (now : ℕ) (flaw : Flaw) (s : Sound t) 
 
   abbrev now_on : Tables
   now_on = after_accepted t e
-
-  end_open_of : (x : ℕ) (w : Exchange) → denial t (event.End x) ≡ None → t.exchange x ≡ Some w → w.is_open ≡ true
-  unfolding refusals.refusal_of
-  end_open_of x w h row = by_test w.is_open refl
-    where
-      by_test : (q : Bool) → w.is_open ≡ q → q ≡ true
-      by_test true on = refl
-      by_test false off = absurd (never _ (rw (row, off) at h))
-
-  piece_open_of : (x : ℕ) (bytes : List ℕ) (w : Exchange) → denial t (event.Piece x bytes) ≡ None → t.exchange x ≡ Some w → w.is_open ≡ true
-  unfolding refusals.refusal_of
-  piece_open_of x bytes w h row = (taken (length bytes) w (sym (ap (λ z. refusals.piece_refusal (as_open z) (length bytes)) row) ∙ h)).is_open
 
   module _ (c y : ℕ) (k u : Consumer) (f : IsFrom t e c y k u) (stands : u.place ≡ place.Direct y) (w : Exchange) (row : t.exchange y ≡ Some w) (mine : w.c ≡ c) where
     own_test : (w.c == c) ≡ true
@@ -183,21 +172,7 @@ module _ (limits : Limits) (t : Tables) (now : ℕ) (flaw : Flaw) (s : Sound t) 
 
     -- who waits for its head
     waits : (response : Response) → ev ≡ event.Head y response → IsWaiter t c y k w
-    waits response here =
-        let new = is_new limits t now flaw s ev goes y response w here row in
-        let got = waiter_of limits t now flaw s o ev goes y w row new.is_open new.bare in
-        let all = got.1 in
-        let one : got.0 ≡ k = same_row (t.consumer c) got.0 k (sym (ap t.consumer mine) ∙ all.row) f.row in
-        record {
-          row = f.row;
-          exchange_row = row;
-          for_it = mine;
-          own = sym (ap (λ (q : Consumer). q.own) one) ∙ all.own;
-          was_open = new.is_open;
-          bare = new.bare;
-          key_is = all.key_is ∙ ap (λ (q : Consumer). q.request.key) one;
-          at = subst (λ (q : Consumer). IsAwaiting y w q.place) one all.at;
-        }
+    waits response here = let new = is_new limits t now flaw s ev goes y response w here row in waiter_as limits t now flaw s o ev goes c y k w f.row row mine new.is_open new.bare
 
     unclosed : closes_in y e.acts ≡ false
     unclosed = by_from f.at
@@ -249,14 +224,14 @@ module _ (limits : Limits) (t : Tables) (now : ℕ) (flaw : Flaw) (s : Sound t) 
       piece_come : (bytes : List ℕ) → ev ≡ event.Piece y bytes → (with_piece bytes w).is_open ≡ false → IsAllCome (with_piece bytes w)
       piece_come bytes here off = elim (bool_cases (is_reached (promised w) (length (w.body ++ bytes)))) [
         | inl reached ↦ reached_come (with_piece bytes w) reached
-        | inr short ↦ absurd (false_true (sym (rw short at off) ∙ piece_open_of y bytes w (sym (ap (denial t) here) ∙ goes) row))
+        | inr short ↦ absurd (false_true (sym (rw short at off) ∙ (piece_taken limits t now flaw s o m ev goes y bytes w here row).is_open))
       ]
 
       end_come : ev ≡ event.End y → IsAllCome (record w { is_ended = true; is_open = false })
       end_come here = ended_come (record w { is_ended = true; is_open = false }) refl enough
         where
           on : w.is_open ≡ true
-          on = end_open_of y w (sym (ap (denial t) here) ∙ goes) row
+          on = let z = ender limits t now flaw s o m ev goes y here in ap (λ (q : Exchange). q.is_open) (same_row (t.exchange y) w z.w row z.row) ∙ z.ending.is_open
 
           unstopped : short_of y w (promised w) ≡ None
           unstopped =

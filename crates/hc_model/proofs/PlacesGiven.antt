@@ -66,7 +66,7 @@ use Rattle.hc_model.proofs.ShownStays.{IsAside, StaysOrIdle, shown_stays, unless
 use Rattle.hc_model.proofs.ShownStays as stands
 use Rattle.hc_model.proofs.ToBeShown.{heard_place}
 use Rattle.hc_model.proofs.UndueKeeps.{waits_undue}
-use Rattle.hc_model.proofs.Waiters.{IsWaiter, waiter_of}
+use Rattle.hc_model.proofs.Waiters.{IsWaiter, waiter_as}
 use Rattle.hc_model.proofs.Waiters as waiters
 
 -- of who reads the answer of an exchange past the store
@@ -221,21 +221,7 @@ module _ (limits : Limits) (t : Tables) (now : ℕ) (flaw : Flaw) (s : Sound t) 
 
       -- before its head it waits for it
       got : (response : Response) → ev ≡ event.Head y response → IsWaiter t c y k w
-      got response here =
-          let new = is_new limits t now flaw s ev goes y response w here row in
-          let all = waiter_of limits t now flaw s o ev goes y w row new.is_open new.bare in
-          let v = all.1 in
-          let one : all.0 ≡ k = same_row (t.consumer c) all.0 k (sym (ap t.consumer mine) ∙ v.row) f.row in
-          record {
-            row = f.row;
-            exchange_row = row;
-            for_it = mine;
-            own = sym (ap (λ (q : Consumer). q.own) one) ∙ v.own;
-            was_open = new.is_open;
-            bare = new.bare;
-            key_is = v.key_is ∙ ap (λ (q : Consumer). q.request.key) one;
-            at = subst (λ (q : Consumer). IsAwaiting y w q.place) one v.at;
-          }
+      got response here = let new = is_new limits t now flaw s ev goes y response w here row in waiter_as limits t now flaw s o ev goes c y k w f.row row mine new.is_open new.bare
 
       record IsBefore : Type 0 where
         own : k.own ≡ Some y

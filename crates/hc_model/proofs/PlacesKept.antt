@@ -62,7 +62,7 @@ use Rattle.hc_model.proofs.ShownStays.{IsAside}
 use Rattle.hc_model.proofs.ToBeShown.{heard_place}
 use Rattle.hc_model.proofs.TurnPlaces.{ComesFrom, StaysOrPlain, is_after}
 use Rattle.hc_model.proofs.TurnPlaces as places
-use Rattle.hc_model.proofs.Waiters.{IsWaiter, waiter_of, unclosed}
+use Rattle.hc_model.proofs.Waiters.{IsWaiter, waiter_of, waiter_as, unclosed}
 use Rattle.hc_model.proofs.Waiters as waiters
 
 -- WHAT IS CARRIED
@@ -539,20 +539,7 @@ module _ (limits : Limits) (t : Tables) (now : ℕ) (flaw : Flaw) (s : Sound t) 
     bare = turn_bare c y k i.its.w row.row at i.its.own i.its.row i.is_open
 
     waits : IsWaiter t c y k i.its.w
-    waits =
-        let got = waiter_of limits t now flaw s o ev goes y i.its.w i.its.row i.is_open bare in
-        let w = got.1 in
-        let one : got.0 ≡ k = same_row (t.consumer c) got.0 k (sym (ap t.consumer i.its.for_it) ∙ w.row) row.row in
-        record {
-          row = row.row;
-          exchange_row = i.its.row;
-          for_it = i.its.for_it;
-          own = i.its.own;
-          was_open = i.is_open;
-          bare = bare;
-          key_is = w.key_is ∙ ap (λ (q : Consumer). q.request.key) one;
-          at = subst (λ (q : Consumer). IsAwaiting y i.its.w q.place) one w.at;
-        }
+    waits = waiter_as limits t now flaw s o ev goes c y k i.its.w row.row i.its.row i.its.for_it i.is_open bare
 
     unopened_turn : Unopened c
     unopened_turn p opens mine = waiters.no_opening limits t now flaw s o ev goes c y k i.its.w waits p opens mine

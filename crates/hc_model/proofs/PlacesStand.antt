@@ -43,7 +43,7 @@ use Rattle.hc_model.specs.Rows.{Tables, Exchange, Consumer}
 use Rattle.hc_model.specs.Sound.{Sound}
 use Rattle.hc_model.specs.StartingOver.{starts_over}
 use Rattle.hc_model.specs.Tables.{after_accepted}
-use Rattle.hc_model.proofs.Basics.{false_true, and_left, and_right, none_some}
+use Rattle.hc_model.proofs.Basics.{false_true, and_left, and_right}
 use Rattle.hc_model.proofs.BoundFrom.{IsRow}
 use Rattle.hc_model.proofs.FirstKeeps.{is_new, case_is, is_opener}
 use Rattle.hc_model.proofs.Forward.{is_kept}
@@ -61,7 +61,7 @@ use Rattle.hc_model.proofs.ShownStays.{IsAside, unless_same}
 use Rattle.hc_model.proofs.ToBeShown.{heard_place}
 use Rattle.hc_model.proofs.TurnFacts.{IsTaken}
 use Rattle.hc_model.proofs.TurnHeads.{valid_aim}
-use Rattle.hc_model.proofs.TurnMoves.{Does, IsNew, Plans, KeptNone, does_polled}
+use Rattle.hc_model.proofs.TurnMoves.{Does, IsNew, Plans, KeptNone, kept_none, does_polled}
 use Rattle.hc_model.proofs.TurnMoves as does
 use Rattle.hc_model.proofs.TurnOpens.{OpensFor, opened_at}
 use Rattle.hc_model.proofs.TurnOpens as opens
@@ -305,18 +305,8 @@ module _ (limits : Limits) (t : Tables) (now : ℕ) (flaw : Flaw) (s : Sound t) 
     passed_stands : (q : Option ℕ) (r : ℕ) → current t k.request.key ≡ Some r → q ≡ kept_by k.place → (KeptNone k.place → k.own ≡ None) → On (passed_by q (current t k.request.key)) k.own
     passed_stands q r is kept none = subst (λ z. On (passed_by q z) k.own) (sym is) (by_kept q kept)
       where
-        kept_none : (p : Place) → None ≡ kept_by p → KeptNone p
-        kept_none (place.Passed n None) h = tt
-        kept_none (place.Passed n (Some x)) h = absurd (none_some x h)
-        kept_none place.Line h = tt
-        kept_none (place.Turn x) h = tt
-        kept_none (place.Bound n lo hi how) h = tt
-        kept_none (place.Direct x) h = tt
-        kept_none (place.Down why) h = tt
-        kept_none place.Over h = tt
-
         by_kept : (y : Option ℕ) → y ≡ kept_by k.place → On (place.Passed r y) k.own
-        by_kept None h = none (kept_none k.place h)
+        by_kept None h = none (kept_none k.place (λ passed. sym h))
         by_kept (Some x) h = tt
 
     waits_stands : (z : Option Wait) → wait_in c e.acts ≡ z → On (waiting_place t k z) k.own

@@ -88,6 +88,16 @@ abbrev pub KeptNone : Place → Type 0
 KeptNone (place.Passed r (Some x)) = ⊥
 KeptNone _ = Unit {0}
 
+pub kept_none : (p : Place) → (has_passed p ≡ true → kept_by p ≡ None) → KeptNone p
+kept_none (place.Passed r (Some x)) none = let no_one : Some x ≡ None = none refl in cc
+kept_none (place.Passed r None) none = tt
+kept_none place.Line none = tt
+kept_none (place.Turn x) none = tt
+kept_none (place.Bound r lo hi how) none = tt
+kept_none (place.Direct x) none = tt
+kept_none (place.Down why) none = tt
+kept_none place.Over none = tt
+
 pub data Does (t : Tables) (c : ℕ) (k : Consumer) : Move → Type 0 where
   nothing : Does t c k Nothing
   waits_turn : (d : ℕ) → IsNew k → (turn_with t k.request.key c == c) ≡ false → KeptNone k.place → Does t c k (moves.Waits (wait.Turn d))
@@ -280,16 +290,6 @@ module _ (t : Tables) (c : ℕ) (k : Consumer) where
     asking : IsUnread k → view.class.only ≡ false → IsNew k
     asking u only = record { shown = u.shown; bound = u.bound; plans = u.plans; asks = asks_is only }
 
-    kept_none : (p : Place) → k.place ≡ p → (has_passed p ≡ true → kept_by p ≡ None) → KeptNone p
-    kept_none (place.Passed r None) at none = tt
-    kept_none (place.Passed r (Some x)) at none = absurd (let no_one : Some x ≡ None = none refl in cc)
-    kept_none place.Line at none = tt
-    kept_none (place.Turn x) at none = tt
-    kept_none (place.Bound r lo hi how) at none = tt
-    kept_none (place.Direct x) at none = tt
-    kept_none (place.Down why) at none = tt
-    kept_none place.Over at none = tt
-
     bypass_is : view.class.bypassing ≡ true → is_bypassing k.request ≡ true
     unfolding class_of
     bypass_is h = h
@@ -318,7 +318,7 @@ module _ (t : Tables) (c : ℕ) (k : Consumer) where
 
     does_plan : IsUnread k → (p : Plan) → Planned view p → Does t c k (plan_move t k p)
     does_plan u _ (plans.past n way only) = past n _ way (asking u only)
-    does_plan u _ (plans.waits_turn d other only back) = waits_turn d (asking u only) other (kept_none k.place refl back)
+    does_plan u _ (plans.waits_turn d other only back) = waits_turn d (asking u only) other (kept_none k.place back)
     does_plan u _ (plans.fetches n way queue turn_is varied bypass) =
         fetches n _ way (asking u queue.asks) (queueing queue) turn_is (λ is. may_read (varied is).1 (plain_is (varied is).0)) (λ is. bypass_is (bypass is))
     does_plan u _ (plans.binds why span) = does_binds why span (current t k.request.key) u.bound

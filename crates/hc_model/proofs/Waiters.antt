@@ -71,6 +71,13 @@ module _ (limits : Limits) (t : Tables) (now : ℕ) (flaw : Flaw) (s : Sound t) 
       let p = o.opener y w row in
       (a.k, record { row = a.row; exchange_row = row; for_it = refl; own = a.own; was_open = on; bare = bare; key_is = p.key_is ∙ ap (λ (z : Consumer). z.request.key) (same_row (t.consumer w.c) p.k a.k p.row a.row); at = a.at })
 
+  -- who is that consumer
+  pub waiter_as : (c y : ℕ) (k : Consumer) (w : Exchange) → t.consumer c ≡ Some k → t.exchange y ≡ Some w → w.c ≡ c → w.is_open ≡ true → w.head ≡ None → IsWaiter t c y k w
+  waiter_as c y k w k_row row mine on bare =
+      let got = waiter_of y w row on bare in
+      let one : got.0 ≡ k = same_row (t.consumer c) got.0 k (sym (ap t.consumer mine) ∙ got.1.row) k_row in
+      subst (λ n. IsWaiter t n y k w) mine (subst (λ (q : Consumer). IsWaiter t w.c y q w) one got.1)
+
   pub case_same : case_at t e ≡ case_at t b
   case_same = ap (λ lost. case_of t lost ev) (loss_is limits t now flaw s ev)
 

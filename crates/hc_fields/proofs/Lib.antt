@@ -8,6 +8,7 @@ pub mod Joins
 pub mod LineLemmas
 pub mod Ends
 pub mod Agreeing
+pub mod Compared
 pub mod Cuts
 pub mod FirstBytes
 pub mod FieldTexts

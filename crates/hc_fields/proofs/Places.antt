@@ -3,11 +3,11 @@ use Rattle.std.proofs.Common.{◌≡◌, ℕ, ◌+◌, ◌<◌, ◌≤◌, Bool,
 use Rattle.std.specs.List.{position_or_len}
 use Rattle.std.proofs.lemmas.Bool.{not-false, both_ways, true_from_ne_false}
 use Rattle.std.proofs.lemmas.List.{get_or-map}
-use Rattle.std.proofs.lemmas.List.Sums.{position_or_len_is}
+use Rattle.std.proofs.lemmas.List.Sums.{position_or_len_is, fails_before_first}
 use Rattle.hc_fields.specs.declared.mark.Mark.{Mark}
-use Rattle.hc_fields.specs.FieldList.{comes_before, is_sorted}
+use Rattle.hc_fields.specs.FieldList.{comes_before, is_sorted, start_of}
 use Rattle.hc_fields.specs.Marks.{field_at, fields_at}
-use Rattle.hc_fields.proofs.Names.{chain, upto_before}
+use Rattle.hc_fields.proofs.Names.{one_way, chain, upto_before}
 use Rattle.hc_fields.proofs.Sorted.{Pair, sorted_at}
 
 -- any mark, for reads past the end of a list
@@ -71,6 +71,11 @@ rising_start name fs sorted i j le lt h =
 pub rising_end : (name : List ℕ) (fs : List Pair) → is_sorted fs ≡ true → IsRising (is_behind name) fs
 rising_end name fs sorted i j le lt h =
     chain name (get_or fs j ([], [])).0 (get_or fs i ([], [])).0 h (sorted_at fs i j ([], []) sorted le lt)
+
+-- before the fields of a name none comes after it
+pub before_start : (name : List ℕ) (fs : List Pair) (k : ℕ) → k < start_of name fs → comes_before name (get_or fs k ([], [])).0 ≡ false
+before_start name fs k lt =
+    one_way (get_or fs k ([], [])).0 name (not-false _ (fails_before_first (not_before name) fs k ([], []) lt))
 
 -- the field at a mark of the list
 pub nth_is : (text : List ℕ) (marks : List Mark) (i : ℕ) (d : Mark) → i < length marks → get_or (fields_at text marks) i ([], []) ≡ field_at text (get_or marks i d)

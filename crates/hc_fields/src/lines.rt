@@ -9,6 +9,18 @@ use crate::mark::Mark;
 use hc_text::NoMemory;
 use std::alloc::Global;
 
+/// How much room to ask for where so much is needed: a list that has none takes that of a usual head
+/// at once, so that it seldom has to grow.
+fn room(capacity: usize, needed: usize, usual: usize) -> usize
+    ensures { needed ≤ result }
+{
+    if capacity == 0 {
+        needed.max(usual)
+    } else {
+        needed
+    }
+}
+
 /// Appends the line of a field, its name in lower case, or changes nothing.
 fn push_line(text: &mut Vec<u8>, name: &[u8], value: &[u8]) -> Result<Mark, NoMemory>
     requires short_name { length name.now ≤ 49152 }
@@ -20,7 +32,7 @@ fn push_line(text: &mut Vec<u8>, name: &[u8], value: &[u8]) -> Result<Mark, NoMe
     ensures err { OnErr result (text.new.items ≡ text.old.items) }
 {
     let start = text.len();
-    text.reserve(name.len() + value.len() + 3)?;
+    text.reserve(room(text.capacity(), name.len() + value.len() + 3, 512))?;
     text.extend_from_slice(name).unwrap();
     text[start..].make_ascii_lowercase();
     text.extend_from_slice(b": ").unwrap();
@@ -66,7 +78,7 @@ pub(crate) fn put_line(
     ensures text_stays { OnErr result (text.new.items ≡ text.old.items) }
     ensures marks_stay { OnErr result (marks.new.items ≡ marks.old.items) }
 {
-    marks.reserve(1)?;
+    marks.reserve(room(marks.capacity(), 1, 16))?;
     let mark = push_line(text, name, value)?;
     put_mark(marks, start, end, mark);
     Ok(())

@@ -8,4 +8,4 @@ pub returns-clause-order : goal.returns-clause-order
 returns-clause-order c =
     let parted = is_parted (lowercase c.args.name.now) (fields_at c.args.text.now c.args.marks.now) c.requires.list.sorted in
     let end_is = parted.end_is in
-    rw (c.start_place.ensures.place, c.end_place.ensures.place) (omega (arith, end_is))
+    rw (c.start_place-start.ensures.place, c.end_from.ensures.place) (omega (arith, end_is))

@@ -1,0 +1,39 @@
+use Rattle.std.proofs.Common.{◌≡◌, ℕ, ◌<◌, ◌≤◌, false, [], length, get_or, inl, inr, sym, refl, ◌∙◌, arith}
+use Rattle.std.proofs.lemmas.Bool.{cases_lt}
+use Rattle.std.proofs.lemmas.List.{length-map}
+use Rattle.std.proofs.lemmas.List.Sums.{position_or_len_is, fails_before_first}
+use Rattle.http_header.specs.Token.{lowercase}
+use Rattle.hc_fields.specs.Marks.{field_at, fields_at}
+use Rattle.hc_fields.proofs.Places.{no_mark, is_behind, before_start, nth_is}
+use Rattle.hc_fields.proofs.search.end_from.Goals as goal
+
+pub loop-end-init : goal.loop-end-init
+loop-end-init c k lt =
+    before_start (lowercase c.args.name.now) (fields_at c.args.text.now c.args.marks.now) k (rw c.requires.start at lt)
+
+pub returns-then-is_after-clause-place : goal.returns-then-is_after-clause-place
+returns-then-is_after-clause-place c =
+    let fs = fields_at c.args.text.now c.args.marks.now in
+    let len = length-map c.args.marks.now (field_at c.args.text.now) in
+    let lt = c.loop-end-test.true in
+    sym (position_or_len_is (is_behind (lowercase c.args.name.now)) fs c.loop-end.end ([], []) (omega (arith, len, lt)) c.loop-end.invariant
+    (λ _. rw (nth_is c.args.text.now c.args.marks.now c.loop-end.end no_mark lt, ← c.is_after.ensures) c.if-is_after.true))
+
+pub loop-end-preserved : goal.loop-end-preserved
+loop-end-preserved c k lt =
+    let fs = fields_at c.args.text.now c.args.marks.now in
+    let name = lowercase c.args.name.now in
+    elim (cases_lt k c.loop-end.end) [
+      | inl before ↦ c.loop-end.invariant k before
+      | inr last ↦
+          let is : k ≡ c.loop-end.end = omega (arith, lt, last) in
+          rw (is, nth_is c.args.text.now c.args.marks.now c.loop-end.end no_mark c.loop-end-test.true, ← c.is_after.ensures) c.if-is_after.false
+    ]
+
+pub returns-clause-place : goal.returns-clause-place
+returns-clause-place c =
+    let fs = fields_at c.args.text.now c.args.marks.now in
+    let len = length-map c.args.marks.now (field_at c.args.text.now) in
+    let past = c.loop-end-test.false in
+    sym (position_or_len_is (is_behind (lowercase c.args.name.now)) fs (length c.args.marks.now) ([], []) (omega (arith, len)) (λ k lt. c.loop-end.invariant k (omega (arith, past, lt)))
+    (λ lt. absurd (omega (arith, len, lt))))

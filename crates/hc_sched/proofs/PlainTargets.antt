@@ -1,6 +1,6 @@
 -- A plain target is a target.
 use Rattle.std.proofs.Common.{◌≡◌, ℕ, ◌<◌, ◌≤◌, ◌==◌, ◌&&◌, ◌||◌, not, Bool, true, false, List, [], ◌∷◌, ◌++◌, length, Option, Some, None, refl, sym, ap, subst, ◌∙◌, inl, inr, arith, leb-true}
-use Rattle.std.specs.Prelude.{codes, All, IsUtf8, IsAscii, Ok, nat_le, if◌then◌else◌}
+use Rattle.std.specs.Prelude.{codes, All, IfSome, IsUtf8, IsAscii, Ok, nat_le, if◌then◌else◌}
 use Rattle.std.specs.List.{list_all}
 use Rattle.std.specs.Char.{is_ascii_digit, is_digit, to_ascii_lowercase}
 use Rattle.std.proofs.lemmas.Bool.{cases_Bool, and_parts, and_from, eqb-true, ne_eqb}
@@ -13,7 +13,7 @@ use Rattle.percent_encoding.specs.Percent.{IsKept}
 use Rattle.url.proofs.SetLemmas.{kept_from_passes}
 use Rattle.url.proofs.Theorems.{parse_url-serialize_special}
 use Rattle.url.specs.Parser.{parse_url}
-use Rattle.url.specs.declared.sets.TheConstants.{FORBIDDEN_DOMAIN, PATH, USERINFO}
+use Rattle.url.specs.declared.sets.TheConstants.{FORBIDDEN_DOMAIN, PATH, SPECIAL_QUERY, USERINFO}
 use Rattle.url.specs.declared.scheme.SchemeType.TheVariants.{SpecialNotFile}
 use Rattle.url.specs.Input.{rsplit_once, rsplit_step, lowercase, is_empty}
 use Rattle.url.specs.Ipv4.{ends_in_a_number, last_label, last_label_of, parse_number, is_number}
@@ -24,7 +24,7 @@ use Rattle.url.specs.Parts.{IsValid, IsValidHead, serialize, kind_of}
 use Rattle.url.proofs.ValidLemmas.{IsAscii-serialize}
 use Rattle.hc_sched.specs.Words.{cut, behind}
 use Rattle.hc_sched.specs.Targets.{is_target, is_short_word, has_own_text, ReadsTarget}
-use Rattle.hc_sched.specs.PlainTargets.{is_host_byte, is_path_byte, is_plain_rest, is_plain_target, plain_url}
+use Rattle.hc_sched.specs.PlainTargets.{is_host_byte, is_path_byte, is_query_byte, begins_dots, is_plain_path, is_plain_path_and_query, is_plain_rest, is_plain_target, plain_url}
 use Rattle.hc_sched.proofs.Steps.{none_or_some, append-cut, append-behind}
 use Rattle.hc_sched.proofs.TargetLemmas.{is_target-own}
 
@@ -36,11 +36,8 @@ keeps_domain b h = kept_from_passes is_host_byte FORBIDDEN_DOMAIN refl b (grind 
 keeps_path : (b : ℕ) → is_path_byte b ≡ true → IsKept PATH b
 keeps_path b h = kept_from_passes is_path_byte PATH refl b (grind (arith, nat_tests)) h
 
-small_host : (b : ℕ) → is_host_byte b ≡ true → b < 128
-small_host b h = grind (arith, nat_tests)
-
-small_path : (b : ℕ) → is_path_byte b ≡ true → b < 128
-small_path b h = grind (arith, nat_tests)
+keeps_query : (b : ℕ) → is_query_byte b ≡ true → IsKept SPECIAL_QUERY b
+keeps_query b h = kept_from_passes is_query_byte SPECIAL_QUERY refl b (grind (arith, nat_tests)) h
 
 no_digit : (b : ℕ) → is_host_byte b ≡ true → is_ascii_digit b ≡ false
 no_digit b h = grind (arith, nat_tests)
@@ -148,18 +145,43 @@ joined (b ∷ path) =
       | inr other ↦ rw other (join_begun b path (parts_of path) (joined path))
     ]
 
-begun_passes : (b : ℕ) (ss : List (List ℕ)) → is_segment_byte b ≡ true → list_all (λ s. list_all is_segment_byte s) ss ≡ true
-    → list_all (λ s. list_all is_segment_byte s) (begin_with b ss) ≡ true
-begun_passes b [] is h = rw is refl
-begun_passes b (s ∷ ss) is h = let both = and_parts (list_all is_segment_byte s) (list_all (λ t. list_all is_segment_byte t) ss) h in rw (is, both.0) both.1
+-- where it begins a segment, the first byte begins no dots
+abbrev begins_plainly : Bool → List ℕ → Bool
+begins_plainly begins [] = true
+begins_plainly begins (b ∷ segment) = not (begins && begins_dots b)
 
-parts_pass : (path : List ℕ) → list_all is_path_byte path ≡ true → list_all (λ s. list_all is_segment_byte s) (parts_of path) ≡ true
-parts_pass [] h = refl
-parts_pass (b ∷ path) h =
-    let both = and_parts (is_path_byte b) (list_all is_path_byte path) h in
+abbrev is_plain_segment : Bool → List ℕ → Bool
+is_plain_segment begins segment = begins_plainly begins segment && list_all is_segment_byte segment
+
+-- the first of them stands at the beginning where `begins` says so
+abbrev are_plain : Bool → List (List ℕ) → Bool
+are_plain begins [] = true
+are_plain begins (s ∷ ss) = is_plain_segment begins s && list_all (λ t. is_plain_segment true t) ss
+
+all_plain : (ss : List (List ℕ)) → are_plain true ss ≡ true → list_all (λ t. is_plain_segment true t) ss ≡ true
+all_plain [] h = refl
+all_plain (s ∷ ss) h = h
+
+begun_plain : (begins : Bool) (b : ℕ) (ss : List (List ℕ)) → is_segment_byte b ≡ true → not (begins && begins_dots b) ≡ true → are_plain false ss ≡ true
+    → are_plain begins (begin_with b ss) ≡ true
+begun_plain begins b [] is front h = rw (is, front) refl
+begun_plain begins b (s ∷ ss) is front h =
+    let both = and_parts (is_plain_segment false s) (list_all (λ t. is_plain_segment true t) ss) h in
+    let inner = and_parts (begins_plainly false s) (list_all is_segment_byte s) both.0 in
+    rw (is, front, inner.1) both.1
+
+parts_plain : (begins : Bool) (path : List ℕ) → is_plain_path begins path ≡ true → are_plain begins (parts_of path) ≡ true
+parts_plain begins [] h = refl
+parts_plain begins (b ∷ path) h =
+    let outer = and_parts (is_path_byte b && not (begins && begins_dots b)) (is_plain_path (b == 47) path) h in
+    let byte = and_parts (is_path_byte b) (not (begins && begins_dots b)) outer.0 in
     elim (cases_Bool (b == 47)) [
-      | inl slash ↦ rw slash (parts_pass path both.1)
-      | inr other ↦ rw other (begun_passes b (parts_of path) (rw (both.0, other) refl) (parts_pass path both.1))
+      | inl slash ↦
+          let rest : is_plain_path true path ≡ true = rw slash at outer.1 in
+          rw slash (all_plain (parts_of path) (parts_plain true path rest))
+      | inr other ↦
+          let rest : is_plain_path false path ≡ true = rw other at outer.1 in
+          rw other (begun_plain begins b (parts_of path) (rw (byte.0, other) refl) byte.1 (parts_plain false path rest))
     ]
 
 kept_segment : (b : ℕ) → is_segment_byte b ≡ true → IsKept PATH b
@@ -168,37 +190,45 @@ kept_segment b h = keeps_path b (and_parts (is_path_byte b) (not (b == 47)) h).0
 whole_segment : (b : ℕ) → is_segment_byte b ≡ true → is_slash SpecialNotFile b ≡ false
 whole_segment b h = grind (arith, nat_tests)
 
-no_dot : (segment : List ℕ) → list_all is_segment_byte segment ≡ true → dot_count segment ≡ 0
+no_dots : (segment : List ℕ) → begins_plainly true segment ≡ true → dot_count segment ≡ 0
 unfolding dot_count
-no_dot [] h = refl
-no_dot (b ∷ segment) h =
-    let both = and_parts (is_segment_byte b) (list_all is_segment_byte segment) h in
-    let byte = and_parts (is_path_byte b) (not (b == 47)) both.0 in
+no_dots [] h = refl
+no_dots (b ∷ segment) h =
     let dot_ : (b == 46) ≡ false = grind (arith, nat_tests) in
     let percent : (b == 37) ≡ false = grind (arith, nat_tests) in
     rw (dot_, percent) refl
 
-segment_is : (segment : List ℕ) → list_all is_segment_byte segment ≡ true → IsSegment SpecialNotFile segment
-segment_is segment h = record {
-  escaped = All-passing is_segment_byte (IsKept PATH) kept_segment segment h;
-  whole = All-passing is_segment_byte (λ b. is_slash SpecialNotFile b ≡ false) whole_segment segment h;
-  resolved = no_dot segment h;
-}
+segment_is : (segment : List ℕ) → is_plain_segment true segment ≡ true → IsSegment SpecialNotFile segment
+segment_is segment h =
+    let both = and_parts (begins_plainly true segment) (list_all is_segment_byte segment) h in
+    record {
+      escaped = All-passing is_segment_byte (IsKept PATH) kept_segment segment both.1;
+      whole = All-passing is_segment_byte (λ b. is_slash SpecialNotFile b ≡ false) whole_segment segment both.1;
+      resolved = no_dots segment both.0;
+    }
 
-segments_are : (ss : List (List ℕ)) → list_all (λ s. list_all is_segment_byte s) ss ≡ true → All (IsSegment SpecialNotFile) ss
+segments_are : (ss : List (List ℕ)) → list_all (λ s. is_plain_segment true s) ss ≡ true → All (IsSegment SpecialNotFile) ss
 segments_are [] h = All-nil (IsSegment SpecialNotFile)
 segments_are (s ∷ ss) h =
-    let both = and_parts (list_all is_segment_byte s) (list_all (λ t. list_all is_segment_byte t) ss) h in
+    let both = and_parts (is_plain_segment true s) (list_all (λ t. is_plain_segment true t) ss) h in
     All-cons (IsSegment SpecialNotFile) s ss (segment_is s both.0) (segments_are ss both.1)
 
-path_is : (path : List ℕ) → list_all is_path_byte path ≡ true → IsSegmentList SpecialNotFile (47 ∷ path)
-path_is path h = record { segments = parts_of path; joined = joined path; each = segments_are (parts_of path) (parts_pass path h) }
+path_is : (path : List ℕ) → is_plain_path true path ≡ true → IsSegmentList SpecialNotFile (47 ∷ path)
+path_is path h = record {
+  segments = parts_of path;
+  joined = joined path;
+  each = segments_are (parts_of path) (all_plain (parts_of path) (parts_plain true path h));
+}
 
 -- URLs
 
-head_is : (host path : List ℕ) → 1 ≤ length host → list_all is_host_byte host ≡ true → IsValidHead (plain_url host path)
+abbrev QueryPasses : Option (List ℕ) → Type 0
+QueryPasses None = Unit {0}
+QueryPasses (Some query) = list_all is_query_byte query ≡ true
+
+head_is : (host path : List ℕ) (query : Option (List ℕ)) → 1 ≤ length host → list_all is_host_byte host ≡ true → IsValidHead (plain_url host path query)
 unfolding default_port scheme_type scheme_len
-head_is host path some h = record {
+head_is host path query some h = record {
   scheme = record { nonempty = omega arith; whole = refl; lower = refl };
   username = All-nil (IsKept USERINFO);
   password = All-nil (IsKept USERINFO);
@@ -207,30 +237,65 @@ head_is host path some h = record {
   bare = λ e. (refl, refl, refl);
 }
 
-kind_is : (host path : List ℕ) → kind_of (plain_url host path) ≡ SpecialNotFile
+kind_is : (host path : List ℕ) (query : Option (List ℕ)) → kind_of (plain_url host path query) ≡ SpecialNotFile
 unfolding default_port scheme_type
-kind_is host path = refl
+kind_is host path query = refl
 
-url_is : (host path : List ℕ) → 1 ≤ length host → list_all is_host_byte host ≡ true → list_all is_path_byte path ≡ true → IsValid (plain_url host path)
+query_is : (query : Option (List ℕ)) → QueryPasses query → IfSome query (All (IsKept SPECIAL_QUERY))
+query_is None h = tt
+query_is (Some query) h = All-passing is_query_byte (IsKept SPECIAL_QUERY) keeps_query query h
+
+url_is : (host path : List ℕ) (query : Option (List ℕ)) → 1 ≤ length host → list_all is_host_byte host ≡ true → is_plain_path true path ≡ true → QueryPasses query
+    → IsValid (plain_url host path query)
 unfolding default_port scheme_type
-url_is host path some h k = record {
-  head = head_is host path some h;
+url_is host path query some h k q = record {
+  head = head_is host path query some h;
   path = inl (path_is path k, λ e. omega arith);
-  query = tt;
+  query = query_is query q;
   fragment = tt;
 }
 
-text_is : (host path : List ℕ) → serialize (plain_url host path) ≡ codes "http://" ++ (host ++ 47 ∷ path)
-text_is host path = ap (λ (l : List ℕ). codes "http://" ++ (host ++ 47 ∷ l)) (append-nil path)
+-- a path, and a query behind a question mark
+abbrev with_query : List ℕ → Option (List ℕ) → List ℕ
+with_query path None = path
+with_query path (Some query) = path ++ 63 ∷ query
 
--- a text by its host and its path
+text_is : (host path : List ℕ) (query : Option (List ℕ)) → serialize (plain_url host path query) ≡ codes "http://" ++ (host ++ 47 ∷ with_query path query)
+text_is host path None = ap (λ (l : List ℕ). codes "http://" ++ (host ++ 47 ∷ l)) (append-nil path)
+text_is host path (Some query) = ap (λ (l : List ℕ). codes "http://" ++ (host ++ 47 ∷ (path ++ 63 ∷ l))) (append-nil query)
+
+-- what stands behind the host, by its path and its query
+record IsPathAndQuery (text : List ℕ) : Type 0 where
+  path : List ℕ
+  query : Option (List ℕ)
+  whole : with_query path query ≡ text
+  path_passes : is_plain_path true path ≡ true
+  query_passes : QueryPasses query
+
+path_and_query : (text : List ℕ) → is_plain_path_and_query text (cut 63 text) ≡ true → IsPathAndQuery text
+path_and_query text h =
+    elim (none_or_some (cut 63 text)) [
+      | inl none ↦ record { path = text; query = None; whole = refl; path_passes = rw none at h; query_passes = tt }
+      | inr parts ↦
+          let tests : is_plain_path_and_query text (Some parts.0) ≡ true = rw parts.1 at h in
+          let both = and_parts (is_plain_path true parts.0.0) (list_all is_query_byte parts.0.1) tests in
+          record {
+            path = parts.0.0;
+            query = Some parts.0.1;
+            whole = append-cut 63 text parts.0 parts.1;
+            path_passes = both.0;
+            query_passes = both.1;
+          }
+    ]
+
+-- a text by its host, and what stands behind it
 record IsPlain (text : List ℕ) : Type 0 where
   host : List ℕ
-  path : List ℕ
-  whole : codes "http://" ++ (host ++ 47 ∷ path) ≡ text
+  rest : List ℕ
+  whole : codes "http://" ++ (host ++ 47 ∷ rest) ≡ text
   some : 1 ≤ length host
   host_passes : list_all is_host_byte host ≡ true
-  path_passes : list_all is_path_byte path ≡ true
+  behind_host : IsPathAndQuery rest
 
 plain_parts : (text : List ℕ) → is_plain_target text ≡ true → IsPlain text
 unfolding is_plain_target
@@ -247,11 +312,11 @@ plain_parts text h =
                 let inner = and_parts (nat_le 1 (length parts.0.0)) (list_all is_host_byte parts.0.0) outer.0 in
                 record {
                   host = parts.0.0;
-                  path = parts.0.1;
+                  rest = parts.0.1;
                   whole = ap (λ (l : List ℕ). codes "http://" ++ l) (append-cut 47 web.0 parts.0 parts.1) ∙ append-behind (codes "http://") text web.0 web.1;
                   some = leb-true 1 (length parts.0.0) inner.0;
                   host_passes = inner.1;
-                  path_passes = outer.1;
+                  behind_host = path_and_query parts.0.1 outer.1;
                 }
           ]
     ]
@@ -260,10 +325,11 @@ plain_parts text h =
 pub plain_target : (text : List ℕ) → is_short_word text ≡ true → is_plain_target text ≡ true → (is_target text ≡ true) × ReadsTarget text
 plain_target text word plain =
     let p = plain_parts text plain in
-    let url = plain_url p.host p.path in
-    let valid = url_is p.host p.path p.some p.host_passes p.path_passes in
-    let same : serialize url ≡ text = text_is p.host p.path ∙ p.whole in
-    let read : parse_url None text ≡ Ok url = subst (λ (t : List ℕ). parse_url None t ≡ Ok url) same (parse_url-serialize_special url None valid (kind_is p.host p.path)) in
+    let q = p.behind_host in
+    let url = plain_url p.host q.path q.query in
+    let valid = url_is p.host q.path q.query p.some p.host_passes q.path_passes q.query_passes in
+    let same : serialize url ≡ text = text_is p.host q.path q.query ∙ ap (λ (l : List ℕ). codes "http://" ++ (p.host ++ 47 ∷ l)) q.whole ∙ p.whole in
+    let read : parse_url None text ≡ Ok url = subst (λ (t : List ℕ). parse_url None t ≡ Ok url) same (parse_url-serialize_special url None valid (kind_is p.host q.path q.query)) in
     let utf8 : IsUtf8 text = IsUtf8-from_ascii text (subst IsAscii same (IsAscii-serialize url valid)) in
     let own : has_own_text url text ≡ true = rw ((bytes_eq-Decides (serialize url) text).1 same) refl in (
       sym (is_target-own text text url true word refl utf8 read (sym own)),

@@ -1,7 +1,8 @@
 //! Targets: web URLs in the one spelling that the URL Standard gives them.
-ghost use Rattle.std.specs.Prelude.{◌≡◌, ◌≤◌, length, IfOk, IsTrue};
+ghost use Rattle.std.specs.Prelude.{◌≡◌, ◌≤◌, true, length, IfOk, IsTrue};
 ghost use Rattle.std.specs.List.{list_all};
-ghost use Rattle.hc_sched.specs.PlainTargets.{is_host_byte, is_path_byte, is_plain_target};
+ghost use Rattle.hc_sched.specs.PlainTargets.{is_host_byte, is_path_byte, is_query_byte, is_plain_path, is_plain_path_and_query, is_plain_target};
+ghost use Rattle.hc_sched.specs.Words.{cut};
 ghost use Rattle.hc_sched.specs.Targets.{is_target, is_short_word, has_own_text, ReadsTarget};
 
 use crate::words::{cut, lacks};
@@ -28,14 +29,53 @@ fn has_host_bytes(host: &[u8]) -> bool
     host.iter().all(|b| matches!(*b, b'a'..=b'z' | b'-' | b'.'))
 }
 
-fn has_path_bytes(path: &[u8]) -> bool
-    ensures { result ≡ list_all is_path_byte path.now }
+/// What a path may have (RFC 3986 section 3.3): letters, digits, slashes and `!$%&'()*+,-.:;=@_~`.
+fn is_path_byte(b: u8) -> bool
+    ensures { result ≡ is_path_byte b }
 {
-    path.iter().all(|b| matches!(*b, b'a'..=b'z' | b'A'..=b'Z' | b'/'..=b'9' | b'-' | b'_' | b'~'))
+    matches!(b, b'a'..=b'z' | b'@'..=b'Z' | b'$'..=b';' | b'!' | b'=' | b'_' | b'~')
+}
+
+/// The same or `?`, but for `'`, which the URL Standard escapes in a query.
+fn is_query_byte(b: u8) -> bool
+    ensures { result ≡ is_query_byte b }
+{
+    (is_path_byte(b) || b == b'?') && b != b'\''
+}
+
+fn has_query_bytes(query: &[u8]) -> bool
+    ensures { result ≡ list_all is_query_byte query.now }
+{
+    query.iter().all(|b| is_query_byte(*b))
+}
+
+/// Whether the bytes are those of a path in which no segment begins as `.` and `..` do, which may
+/// be written with `%2e`.
+fn is_plain_path(path: &[u8]) -> bool
+    ensures { result ≡ is_plain_path true path.now }
+{
+    let mut begins = true;
+    for b in path {
+        if !is_path_byte(*b) || (begins && matches!(*b, b'.' | b'%')) {
+            return false;
+        }
+        begins = *b == b'/';
+    }
+    true
+}
+
+/// Whether the text is such a path, or one and a query that needs no escape.
+fn is_plain_path_and_query(text: &[u8]) -> bool
+    ensures { result ≡ is_plain_path_and_query text.now (cut 63 text.now) }
+{
+    match cut(text, b'?') {
+        Some((path, query)) => is_plain_path(path) && has_query_bytes(query),
+        None => is_plain_path(text),
+    }
 }
 
 /// Whether the text is a target that needs no reading: a host of lower-case letters, dots and
-/// hyphens, and a path of letters, digits, `-`, `_`, `~` and slashes.
+/// hyphens, and a path and a query that the URL Standard takes as they stand.
 #[tactic(auto, unfolding(crate::specs::Words::behind, crate::specs::PlainTargets::is_plain_target))]
 fn is_plain_target(text: &[u8]) -> bool
     ensures { result ≡ is_plain_target text.now }
@@ -43,10 +83,10 @@ fn is_plain_target(text: &[u8]) -> bool
     let Some(rest) = text.strip_prefix(b"http://") else {
         return false;
     };
-    let Some((host, path)) = cut(rest, b'/') else {
+    let Some((host, rest)) = cut(rest, b'/') else {
         return false;
     };
-    1 <= host.len() && has_host_bytes(host) && has_path_bytes(path)
+    1 <= host.len() && has_host_bytes(host) && is_plain_path_and_query(rest)
 }
 
 /// Whether the text is a target: 1 to 8,192 bytes without a space or a line feed, which are an

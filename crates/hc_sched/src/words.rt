@@ -59,5 +59,5 @@ pub(crate) fn numbered(words: &[u8]) -> Option<(u64, &[u8])>
 pub(crate) fn lacks(text: &[u8], byte: u8) -> bool
     ensures { result ≡ lacks byte text.now }
 {
-    text.iter().all(|b| *b != byte)
+    position_of(text, byte).is_none()
 }

@@ -1,6 +1,7 @@
 pub mod ScanLemmas
 pub mod Heads
 pub mod Options
+pub mod HopNames
 pub mod HeadFacts
 pub mod CodingFolds
 pub mod Fronts

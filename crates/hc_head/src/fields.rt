@@ -88,16 +88,18 @@ fn is_option(header: &Header<'_>, name: &[u8]) -> bool
 }
 
 /// Whether a field of this name concerns the connection alone, whatever Connection names.
+#[tactic(auto, using(crate::proofs::HopNames::other_length))]
 fn is_hop_name(name: &[u8]) -> bool
     ensures { result ≡ is_hop_name (lowercase name.now) }
 {
-    is_name(name, b"connection")
-        || is_name(name, b"keep-alive")
-        || is_name(name, b"proxy-connection")
-        || is_name(name, b"te")
-        || is_name(name, b"trailer")
-        || is_name(name, b"transfer-encoding")
-        || is_name(name, b"upgrade")
+    match name.len() {
+        2 => is_name(name, b"te"),
+        7 => is_name(name, b"trailer") || is_name(name, b"upgrade"),
+        10 => is_name(name, b"connection") || is_name(name, b"keep-alive"),
+        16 => is_name(name, b"proxy-connection"),
+        17 => is_name(name, b"transfer-encoding"),
+        _ => false,
+    }
 }
 
 /// Whether Connection names the field.

@@ -2,3 +2,6 @@ pub mod Users
 pub mod Lines
 pub mod Tournaments
 pub mod Seats
+pub mod Kept
+pub mod KeyRows
+pub mod Keys

@@ -1,6 +1,6 @@
 -- The line of a key: who waits for the turn, who passed, and who is away.
-use Rattle.std.specs.Prelude.{◌≡◌, ℕ, ◌==◌, ◌||◌, Bool, true, false, List, [], map, if◌then◌else◌, Option, Some, None, slice_index_or}
-use Rattle.hc_rising.specs.Rising.{has, with_item, without}
+use Rattle.std.specs.Prelude.{◌≡◌, ℕ, ◌<◌, ◌==◌, ◌||◌, Bool, true, false, List, [], ◌∷◌, length, ◌+◌, map, if◌then◌else◌, Option, Some, None, slice_index_or}
+use Rattle.hc_rising.specs.Rising.{rises, has, with_item, without}
 use Rattle.hc_rules.specs.Least.{least, lesser}
 use Rattle.hc_entry.specs.Users.{itself}
 
@@ -21,6 +21,10 @@ is_among c cs = has itself c cs
 
 abbrev pub is_in : ℕ → Line → Bool
 is_in c l = is_among c l.in_line || is_among c l.passed || is_among c l.away
+
+-- nobody stands in it
+abbrev pub is_empty : Line → Bool
+is_empty l = length l.in_line + length l.passed + length l.away == 0
 
 -- the consumer of a place
 abbrev pub consumer_at : Line → ℕ → Option ℕ
@@ -61,6 +65,20 @@ come_back c l = queued c (apart c l)
 abbrev pub held_by : ℕ → Line → Line
 held_by c l = record l { holder = Some c }
 
+-- both lists in one, by number
+abbrev pub merged : List ℕ → List ℕ → List ℕ
+merged [] cs = cs
+merged (d ∷ ds) cs = with_item itself d (merged ds cs)
+
+-- everyone stands in line, and nobody holds the turn
+abbrev pub all_back : Line → Line
+all_back l = record l {
+  in_line = merged l.away (merged l.passed l.in_line);
+  passed = [];
+  away = [];
+  holder = None;
+}
+
 -- One more is in line, at a place that nobody had; the others keep theirs.
 pub record Enters (c place : ℕ) (old new : Line) : Type 0 where
   pub line : new ≡ (let more = queued c old in record more { places = new.places })
@@ -83,3 +101,25 @@ turn_with c l = holder_or l.holder (lesser (least l.in_line) c)
 abbrev pub stands : Option ℕ → List ℕ → Bool
 stands None in_line = true
 stands (Some c) in_line = is_among c in_line
+
+-- The lists rise, nobody stands in two of them, and who holds the turn stands in line.
+pub record IsOrderly (l : Line) : Type 0 where
+  pub in_line : rises itself l.in_line ≡ true
+  pub passed : rises itself l.passed ≡ true
+  pub away : rises itself l.away ≡ true
+  pub in_line_or_passed : (c : ℕ) → is_among c l.in_line ≡ true → is_among c l.passed ≡ false
+  pub in_line_or_away : (c : ℕ) → is_among c l.in_line ≡ true → is_among c l.away ≡ false
+  pub passed_or_away : (c : ℕ) → is_among c l.passed ≡ true → is_among c l.away ≡ false
+  pub holder : stands l.holder l.in_line ≡ true
+
+-- one's place is below this
+abbrev pub IsPlacedBelow : ℕ → ℕ → Line → Type 0
+IsPlacedBelow end c l = (i : ℕ) × (i < end) × (consumer_at l i ≡ Some c)
+
+-- a place below this is that of each who stands in it
+abbrev pub AllArePlacedBelow : ℕ → Line → Type 0
+AllArePlacedBelow end l = (c : ℕ) → is_in c l ≡ true → IsPlacedBelow end c l
+
+-- no other place is that of this one
+abbrev pub IsItsPlace : Line → ℕ → ℕ → Type 0
+IsItsPlace l i c = (k : ℕ) → consumer_at l k ≡ Some c → k ≡ i

@@ -8,7 +8,7 @@ use Rattle.hc_entry.specs.declared.seat.Seat.{Seat}
 use Rattle.hc_entry.specs.declared.seat.Stand.{Stand}
 use Rattle.hc_entry.specs.declared.seat.Stand.TheVariants as stand
 use Rattle.hc_entry.specs.Tournaments.{at}
-use Rattle.hc_entry.specs.Lines.{Line, stands, passed, gone_away, come_back}
+use Rattle.hc_entry.specs.Lines.{Line, is_among, stands, passed, gone_away, come_back}
 
 abbrev pub is_same_stand : Stand → Stand → Bool
 is_same_stand stand.InLine stand.InLine = true
@@ -25,6 +25,14 @@ abbrev pub moved_to : Stand → ℕ → Line → Line
 moved_to stand.InLine c l = come_back c l
 moved_to stand.Passed c l = passed c l
 moved_to stand.Away c l = gone_away c l
+
+-- where one stands
+abbrev pub stand_in : ℕ → Line → Option Stand
+stand_in c l =
+    if is_among c l.in_line then Some stand.InLine
+    else if is_among c l.passed then Some stand.Passed
+    else if is_among c l.away then Some stand.Away
+    else None
 
 abbrev pub seat_of : List (ℕ × Seat) → ℕ → Option Seat
 seat_of seats c = lookup (nat_eq c) seats

@@ -1,14 +1,18 @@
-//! The line of a key, and who is bound to a representation.
+//! What is kept by key, the line of a key, and who is bound to a representation.
 #![tactic(auto)]
 
 mod active;
+mod keys;
 mod line;
+mod rows;
 mod seat;
 mod tournament;
 
 pub use active::ActiveEntry;
 pub use hc_rules::{Admission, Plan};
+pub use keys::KeyTable;
 pub use line::{KeyLine, Place};
+pub use seat::Stand;
 
 #[cfg(test)]
 mod tests;

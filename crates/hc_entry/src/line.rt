@@ -1,9 +1,10 @@
 //! The line of a key.
 ghost use Rattle.std.specs.Prelude.{◌≡◌, ℕ, Some, None, true, false, is_some, IfSome, IfOk, OnErr, if◌then◌else◌, nat_eq};
+ghost use Rattle.std.specs.Bool.{OnTrue};
 ghost use Rattle.std.specs.Map.{keys_of};
 ghost use Rattle.std.specs.HashMap.{IsUnique};
-ghost use Rattle.hc_entry.specs.Seats.{seat_of, moved_to};
-ghost use Rattle.hc_entry.specs.Lines.{nobody, is_in, queued, passed, gone_away, come_back, held_by, left_by, turn_of, turn_with, released, consumer_at, Enters};
+ghost use Rattle.hc_entry.specs.Seats.{seat_of, stand_in, moved_to};
+ghost use Rattle.hc_entry.specs.Lines.{nobody, is_in, is_empty, queued, passed, gone_away, come_back, all_back, held_by, left_by, turn_of, turn_with, released, consumer_at, Enters, AllArePlacedBelow, IsItsPlace};
 
 use crate::seat::{Seat, Stand};
 use crate::tournament::Tournament;
@@ -68,6 +69,37 @@ impl KeyLine {
         ensures { result ≡ is_in c self.now }
     {
         self.seats.contains_key(&c)
+    }
+
+    /// Whether nobody stands in it.
+    pub fn is_empty(&self) -> bool
+        ensures value { result ≡ is_empty self.now }
+        ensures free { OnTrue result (self.now.holder ≡ None) }
+    {
+        self.seats.is_empty()
+    }
+
+    /// Where the consumer stands. None exactly where it doesn't stand in it.
+    pub fn stand(&self, c: u64) -> Option<Stand>
+        ensures { result ≡ stand_in c self.now }
+    {
+        Some(self.seats.get(&c)?.stand)
+    }
+
+    /// How many seats there are, of which each is that of a consumer, or empty.
+    pub fn seats(&self) -> usize
+        ensures { AllArePlacedBelow result self.now }
+    {
+        self.places.capacity()
+    }
+
+    /// Who has the seat, if one does. Each who stands in it has one.
+    pub fn seated(&self, i: usize) -> Option<u64>
+        ensures there { result ≡ consumer_at self.now i }
+        ensures inside { IfSome result (λ c. is_in c self.now ≡ true) }
+        ensures once { IfSome result (λ c. IsItsPlace self.now i c) }
+    {
+        self.places.get(i).copied()
     }
 
     /// The consumer is in line, at the place that is answered. All others keep theirs.
@@ -140,8 +172,20 @@ impl KeyLine {
         self.stands_at(c, Stand::InLine);
     }
 
+    /// Everyone is in line, and nobody holds the turn.
+    pub fn all_back(&mut self)
+        ensures { self.new ≡ all_back self.old }
+    {
+        self.holder = None;
+        for i in 0..self.seats() {
+            if let Some(c) = self.seated(i) {
+                self.back(c);
+            }
+        }
+    }
+
     /// The consumer stands there from now on, at its place, and doesn't hold the turn.
-    fn stands_at(&mut self, c: u64, stand: Stand)
+    pub(crate) fn stands_at(&mut self, c: u64, stand: Stand)
         requires { is_in c self.old ≡ true }
         ensures { self.new ≡ moved_to stand c self.old }
     {

@@ -4,7 +4,7 @@ ghost use Rattle.hc_entry.specs.Seats.{called_at};
 
 /// Where a consumer of a line stands.
 #[derive(Clone, Copy, Debug, PartialEq, Eq)]
-pub(crate) enum Stand {
+pub enum Stand {
     /// In line for the turn.
     InLine,
     /// It had the turn, and waits for the representation.

@@ -1,0 +1,120 @@
+-- A line whose consumers come back, seat by seat.
+use Rattle.std.proofs.Common.{◌≡◌, ℕ, suc, ◌+◌, ◌<◌, ◌≤◌, List, [], Bool, true, false, not, eqb, Option, Some, None, refl, sym, ap, ◌∙◌, inl, inr, arith}
+use Rattle.std.specs.Prelude.{◌||◌}
+use Rattle.std.proofs.lemmas.Bool.{cases_Bool, cases_eq, eqb-true, eqb-false, eq-eqb, ne_eqb}
+use Rattle.hc_rising.specs.Rising.{rises, is_at as numbered, with_item, without}
+use Rattle.hc_rising.proofs.RisingLemmas.{has-with, has-without, rises-with, rises-filter}
+use Rattle.hc_entry.specs.Users.{itself}
+use Rattle.hc_entry.specs.Lines.{Line, is_among, is_in, apart, come_back, all_back, consumer_at, IsOrderly, AllArePlacedBelow}
+use Rattle.hc_entry.proofs.SeatLemmas.{same_members}
+use Rattle.hc_entry.proofs.OrderLemmas.{gone, stays-out, no-members, rises-all, among-all, none-in}
+
+-- Those with a place below i are in line again.
+pub record AreBackBelow (i : ℕ) (old l : Line) : Type 0 where
+  pub same : (d : ℕ) → is_in d l ≡ is_in d old
+  pub rising : rises itself l.in_line ≡ true
+  pub places : l.places ≡ old.places
+  pub free : l.holder ≡ None
+  pub back : (k d : ℕ) → k < i → consumer_at l k ≡ Some d → (is_among d l.passed ≡ false) × (is_among d l.away ≡ false)
+
+abbrev pub freed : Line → Line
+freed l = record l { holder = None }
+
+pub back-none : (old : Line) → IsOrderly old → AreBackBelow 0 old (freed old)
+back-none old o = record {
+  same = λ d. refl;
+  rising = o.in_line;
+  places = refl;
+  free = refl;
+  back = λ k d below is. absurd (omega arith);
+}
+
+kept-in : (c d : ℕ) (l : Line) → is_in c l ≡ true → is_in d (come_back c l) ≡ is_in d l
+kept-in c d l is = elim (cases_Bool (eqb c d)) [
+  | inl on ↦
+      let same = eqb-true c d on in
+      rw (has-with itself d c (without itself c l.in_line), on) (sym (ap (λ (k : ℕ). is_in k l) (sym same) ∙ is))
+  | inr off ↦
+      rw (has-with itself d c (without itself c l.in_line), has-without itself d c l.in_line, has-without itself d c l.passed, has-without itself d c l.away, off) refl
+]
+
+pub back-next : (i c : ℕ) (old l : Line) → AreBackBelow i old l → consumer_at l i ≡ Some c → is_in c l ≡ true → AreBackBelow (i + 1) old (come_back c l)
+back-next i c old l was there is = record {
+  same = λ d. kept-in c d l is ∙ was.same d;
+  rising = rises-with itself c (without itself c l.in_line) (rises-filter itself (λ (x : ℕ). not (numbered itself c x)) l.in_line was.rising) (gone c l.in_line);
+  places = was.places;
+  free = rw was.free refl;
+  back = λ k d below has. elim (cases_Bool (eqb c d)) [
+    | inl on ↦
+        let same = eqb-true c d on in (
+          ap (λ (n : ℕ). is_among n (without itself c l.passed)) (sym same) ∙ gone c l.passed,
+          ap (λ (n : ℕ). is_among n (without itself c l.away)) (sym same) ∙ gone c l.away,
+        )
+    | inr off ↦
+        let (out, away) = was.back k d (earlier k d below has (eqb-false c d off)) has in
+        (stays-out c d l.passed out, stays-out c d l.away away)
+  ];
+} where
+  earlier : (k d : ℕ) → k < i + 1 → consumer_at l k ≡ Some d → (c ≡ d → ⊥) → k < i
+  earlier k d below has off = elim (cases_eq k i) [
+    | inl on ↦ let here = ap (consumer_at l) on ∙ there in let same : c ≡ d = one (consumer_at l k) here has in absurd (off same)
+    | inr other ↦ omega arith
+  ] where
+    one : (o : Option ℕ) → o ≡ Some c → o ≡ Some d → c ≡ d
+    one o a b = cc
+
+pub back-empty : (i : ℕ) (old l : Line) → AreBackBelow i old l → consumer_at l i ≡ None → AreBackBelow (i + 1) old l
+back-empty i old l was none = record {
+  same = was.same;
+  rising = was.rising;
+  places = was.places;
+  free = was.free;
+  back = λ k d below has. elim (cases_eq k i) [
+    | inl on ↦ let here = ap (consumer_at l) on ∙ none in absurd (cc)
+    | inr other ↦ was.back k d (omega arith) has
+  ];
+}
+
+same-line : (a b : Line) → a.in_line ≡ b.in_line → a.passed ≡ b.passed → a.away ≡ b.away → a.holder ≡ b.holder → a.places ≡ b.places → a ≡ b
+same-line a b q p w h s =
+    ap (λ (x : List ℕ). record { in_line = x; passed = a.passed; away = a.away; holder = a.holder; places = a.places }) q
+    ∙ (ap (λ (x : List ℕ). record { in_line = b.in_line; passed = x; away = a.away; holder = a.holder; places = a.places }) p
+    ∙ (ap (λ (x : List ℕ). record { in_line = b.in_line; passed = b.passed; away = x; holder = a.holder; places = a.places }) w
+    ∙ (ap (λ (x : Option ℕ). record { in_line = b.in_line; passed = b.passed; away = b.away; holder = x; places = a.places }) h
+    ∙ ap (λ (x : List (Option ℕ)). record { in_line = b.in_line; passed = b.passed; away = b.away; holder = b.holder; places = x }) s)))
+
+pub back-all : (n : ℕ) (old l : Line) → IsOrderly old → AreBackBelow n old l → AllArePlacedBelow n old → l ≡ all_back old
+back-all n old l o was placed =
+    same-line l (all_back old) in_line passed away was.free was.places where
+      -- nobody is passed or away
+      out : (d : ℕ) → is_in d l ≡ true → (is_among d l.passed ≡ false) × (is_among d l.away ≡ false)
+      out d is =
+          let (k, below, there) = placed d (sym (was.same d) ∙ is) in
+          was.back k d below (ap (λ (s : List (Option ℕ)). consumer_at (record l { places = s }) k) was.places ∙ there)
+
+      passed : l.passed ≡ []
+      passed = no-members l.passed (λ d. elim (cases_Bool (is_among d l.passed)) [
+        | inl on ↦ (out d (among (is_among d l.in_line) (is_among d l.passed) (is_among d l.away) on)).0
+        | inr off ↦ off
+      ]) where
+        among : (a b w : Bool) → b ≡ true → (a || b) || w ≡ true
+        among true b w on = refl
+        among false b w on = rw on refl
+
+      away : l.away ≡ []
+      away = no-members l.away (λ d. elim (cases_Bool (is_among d l.away)) [
+        | inl on ↦ (out d (among (is_among d l.in_line || is_among d l.passed) (is_among d l.away) on)).1
+        | inr off ↦ off
+      ]) where
+        among : (a w : Bool) → w ≡ true → a || w ≡ true
+        among true w on = refl
+        among false w on = on
+
+      members : (d : ℕ) → is_among d l.in_line ≡ is_in d l
+      members d = rw (passed, away) (alone (is_among d l.in_line)) where
+        alone : (a : Bool) → a ≡ (a || false) || false
+        alone true = refl
+        alone false = refl
+
+      in_line : l.in_line ≡ (all_back old).in_line
+      in_line = same_members l.in_line (all_back old).in_line was.rising (rises-all old o) (λ d. members d ∙ (was.same d ∙ sym (among-all d old)))

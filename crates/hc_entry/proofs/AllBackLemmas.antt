@@ -1,13 +1,13 @@
 -- A line whose consumers come back, seat by seat.
-use Rattle.std.proofs.Common.{◌≡◌, ℕ, suc, ◌+◌, ◌<◌, ◌≤◌, List, [], Bool, true, false, not, eqb, Option, Some, None, refl, sym, ap, ◌∙◌, inl, inr, arith}
+use Rattle.std.proofs.Common.{◌≡◌, ℕ, ◌+◌, ◌<◌, List, [], Bool, true, false, not, eqb, Option, Some, None, refl, sym, ap, ◌∙◌, inl, inr, arith}
 use Rattle.std.specs.Prelude.{◌||◌}
-use Rattle.std.proofs.lemmas.Bool.{cases_Bool, cases_eq, eqb-true, eqb-false, eq-eqb, ne_eqb}
-use Rattle.hc_rising.specs.Rising.{rises, is_at as numbered, with_item, without}
+use Rattle.std.proofs.lemmas.Bool.{cases_Bool, cases_eq, eqb-true, eqb-false}
+use Rattle.hc_rising.specs.Rising.{rises, is_at as numbered, without}
 use Rattle.hc_rising.proofs.RisingLemmas.{has-with, has-without, rises-with, rises-filter}
 use Rattle.hc_entry.specs.Users.{itself}
-use Rattle.hc_entry.specs.Lines.{Line, is_among, is_in, apart, come_back, all_back, consumer_at, IsOrderly, AllArePlacedBelow}
+use Rattle.hc_entry.specs.Lines.{Line, is_among, is_in, come_back, all_back, consumer_at, IsOrderly, AllArePlacedBelow}
 use Rattle.hc_entry.proofs.SeatLemmas.{same_members}
-use Rattle.hc_entry.proofs.OrderLemmas.{gone, stays-out, no-members, rises-all, among-all, none-in}
+use Rattle.hc_entry.proofs.OrderLemmas.{gone, stays-out, no-members, rises-all, among-all}
 
 -- Those with a place below i are in line again.
 pub record AreBackBelow (i : ℕ) (old l : Line) : Type 0 where

@@ -1,6 +1,6 @@
 -- What a change of one row does to all that is kept by key.
-use Rattle.std.proofs.Common.{◌≡◌, ℕ, List, Bool, true, false, not, Option, Some, None, Ok, Err, refl, sym, ap, subst, ◌∙◌, inl, inr}
-use Rattle.std.specs.Prelude.{Vec, Result, OnOk, OnErr, bytes_eq, nat_eq, is_some, ◌&&◌, if◌then◌else◌}
+use Rattle.std.proofs.Common.{◌≡◌, ℕ, List, Bool, true, false, not, Option, Some, Ok, Err, refl, sym, ap, subst, ◌∙◌, inl, inr}
+use Rattle.std.specs.Prelude.{Vec, Result, OnOk, OnErr, bytes_eq, nat_eq, is_some, ◌&&◌}
 use Rattle.std.specs.Global.{Global}
 use Rattle.std.specs.Cmp.Lexicographic.{pointwise}
 use Rattle.std.specs.Map.{lookup, KeepsOthers, IsKeyTest, AreApart}
@@ -12,8 +12,8 @@ use Rattle.hc_entry.specs.declared.rows.KeyRow.{KeyRow}
 use Rattle.hc_entry.specs.declared.seat.Stand.{Stand}
 use Rattle.hc_entry.specs.declared.seat.Stand.TheVariants as stand
 use Rattle.hc_entry.specs.Seats.{moved_to}
-use Rattle.hc_entry.specs.Lines.{Line, is_in, is_empty, queued, all_back, IsOrderly}
-use Rattle.hc_entry.specs.Kept.{Kept, line_in, kept_in, on_line, is_nothing, nothing}
+use Rattle.hc_entry.specs.Lines.{Line, is_in, queued, all_back, IsOrderly}
+use Rattle.hc_entry.specs.Kept.{Kept, line_in, kept_in, on_line, is_nothing}
 use Rattle.hc_entry.specs.KeyRows.{Rows, row_at, rows_of, kept_by, RowChanges, RowsStay, IsTidyAt, IsTidy, AreOrderly}
 use Rattle.hc_entry.proofs.OrderLemmas.{in-some, in-queued, orderly-queued, empty-all}
 

@@ -1,11 +1,11 @@
 -- Lists of a line that rise, and in no two of which one stands.
-use Rattle.std.proofs.Common.{◌≡◌, ℕ, suc, ◌+◌, ◌≤◌, List, [], ◌∷◌, length, Bool, true, false, not, eqb, Option, Some, None, refl, sym, ap, ◌∙◌, inl, inr, arith}
-use Rattle.std.specs.Prelude.{◌||◌, ◌&&◌, if◌then◌else◌, nat_le}
-use Rattle.std.proofs.lemmas.Bool.{cases_Bool, eqb-true, eqb-false, eq-eqb, ne_eqb}
+use Rattle.std.proofs.Common.{◌≡◌, ℕ, suc, ◌+◌, List, [], ◌∷◌, length, Bool, true, false, not, eqb, Some, refl, sym, ap, ◌∙◌, inl, inr, arith}
+use Rattle.std.specs.Prelude.{◌||◌, nat_le}
+use Rattle.std.proofs.lemmas.Bool.{cases_Bool, eqb-true, eq-eqb, ne_eqb}
 use Rattle.hc_rising.specs.Rising.{rises, is_at as numbered, with_item, without}
 use Rattle.hc_rising.proofs.RisingLemmas.{rises-above, has-above, has-with, has-without, rises-with, rises-filter}
 use Rattle.hc_entry.specs.Users.{itself}
-use Rattle.hc_entry.specs.Lines.{Line, nobody, is_among, is_in, is_empty, merged, all_back, apart, queued, passed, gone_away, come_back, left_by, held_by, turn_of, stands, IsOrderly}
+use Rattle.hc_entry.specs.Lines.{Line, nobody, is_among, is_in, is_empty, merged, all_back, apart, queued, passed, gone_away, come_back, held_by, turn_of, IsOrderly}
 use Rattle.hc_entry.proofs.LineLemmas.{stands-left, stands-with, stands-held}
 
 flip : (a b : Bool) → (a ≡ true → b ≡ false) → b ≡ true → a ≡ false

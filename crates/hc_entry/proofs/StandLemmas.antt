@@ -1,10 +1,9 @@
 -- Who stands where in a line, and at which seat.
-use Rattle.std.proofs.Common.{◌≡◌, ℕ, suc, ◌+◌, ◌<◌, ◌≤◌, List, [], ◌∷◌, length, Bool, true, false, eqb, Option, Some, None, refl, sym, ap, ◌∙◌, inl, inr, arith}
-use Rattle.std.specs.Prelude.{nat_eq, is_some, if◌then◌else◌}
-use Rattle.std.specs.Option.{option_map}
+use Rattle.std.proofs.Common.{◌≡◌, ℕ, suc, ◌+◌, ◌<◌, List, [], ◌∷◌, length, Bool, true, false, eqb, Option, Some, None, refl, sym, ap, ◌∙◌, inl, inr, arith}
+use Rattle.std.specs.Prelude.{nat_eq, if◌then◌else◌}
 use Rattle.std.specs.Map.{keys_of}
 use Rattle.std.specs.List.{IsDistinct}
-use Rattle.std.proofs.lemmas.Bool.{cases_Bool, cases_lt, eq-eqb, ne_eqb}
+use Rattle.std.proofs.lemmas.Bool.{cases_lt, eq-eqb, ne_eqb}
 use Rattle.std.proofs.lemmas.List.{get_or_past}
 use Rattle.hc_rising.specs.Rising.{with_item}
 use Rattle.hc_entry.specs.Users.{itself}
@@ -13,7 +12,7 @@ use Rattle.hc_entry.specs.declared.seat.Stand.{Stand}
 use Rattle.hc_entry.specs.declared.seat.Stand.TheVariants as stand
 use Rattle.hc_entry.specs.Tournaments.{at}
 use Rattle.hc_entry.specs.Seats.{is_same_stand, seat_of, standing, stand_in, IsSeated}
-use Rattle.hc_entry.specs.Lines.{Line, is_among, is_empty, stands, IsOrderly}
+use Rattle.hc_entry.specs.Lines.{is_among, is_empty, stands, IsOrderly}
 use Rattle.hc_entry.proofs.SeatLemmas.{among-standing, standing-rises, stands_at, line_of}
 use Rattle.hc_entry.proofs.OrderLemmas.{length-with}
 

@@ -1,5 +1,5 @@
 -- What the rows say of each key.
-use Rattle.std.specs.Prelude.{◌≡◌, ℕ, List, Vec, bytes_eq, true, false, Option, Some, None, slice_index_or}
+use Rattle.std.specs.Prelude.{◌≡◌, ℕ, List, Vec, bytes_eq, true, false, Option, Some, None}
 use Rattle.std.specs.Global.{Global}
 use Rattle.std.specs.declared.hash.FoldHasher.{FoldHasher}
 use Rattle.std.specs.declared.hash.BuildHasherDefault.{BuildHasherDefault}

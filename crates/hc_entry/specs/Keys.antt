@@ -2,7 +2,7 @@
 use Rattle.std.specs.Prelude.{◌≡◌, ℕ, ◌<◌, List, true, Option, Some}
 use Rattle.hc_entry.specs.declared.keys.KeyTable.{KeyTable}
 use Rattle.hc_entry.specs.Lines.{Line, is_in}
-use Rattle.hc_entry.specs.Kept.{Kept, Table, Changes, line_in}
+use Rattle.hc_entry.specs.Kept.{Kept, Changes, line_in}
 use Rattle.hc_entry.specs.KeyRows.{row_at, rows_of, seated_by}
 
 abbrev pub kept_of : KeyTable → List ℕ → Kept

@@ -3,6 +3,8 @@ use super::*;
 use std::process::Abort;
 use std::test::Fail;
 
+mod keys;
+
 #[derive(Clone, Copy)]
 enum Move {
     Enter(u64),

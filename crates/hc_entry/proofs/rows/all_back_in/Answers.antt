@@ -1,5 +1,4 @@
-use Rattle.std.proofs.Common.{Option, Some, None, refl, sym, ap, ◌∙◌, rules}
-use Rattle.hc_entry.specs.declared.rows.KeyRow.{KeyRow}
+use Rattle.std.proofs.Common.{refl, ◌∙◌, rules}
 use Rattle.hc_entry.specs.Lines.{all_back}
 use Rattle.hc_entry.proofs.KeyLemmas.{line-changes}
 use Rattle.hc_entry.proofs.rows.all_back_in.Goals as goal

@@ -1,4 +1,4 @@
-use Rattle.std.proofs.Common.{Option, Some, None, sym, ap, ◌∙◌}
+use Rattle.std.proofs.Common.{Option, None, sym, ap, ◌∙◌}
 use Rattle.hc_entry.specs.declared.rows.KeyRow.{KeyRow}
 use Rattle.hc_entry.specs.Lines.{Line, queued}
 use Rattle.hc_entry.specs.Kept.{on_line, kept_in}

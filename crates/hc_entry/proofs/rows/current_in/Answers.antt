@@ -1,4 +1,4 @@
-use Rattle.std.proofs.Common.{Option, Some, None, refl, sym, ap, ◌∙◌, rules}
+use Rattle.std.proofs.Common.{Option, sym, ap, ◌∙◌, rules}
 use Rattle.hc_entry.specs.declared.rows.KeyRow.{KeyRow}
 use Rattle.hc_entry.specs.Kept.{with_current}
 use Rattle.hc_entry.specs.KeyRows.{kept_by}

@@ -1,4 +1,4 @@
-use Rattle.std.proofs.Common.{Option, Some, sym, refl, ap, ◌∙◌, rules}
+use Rattle.std.proofs.Common.{Option, sym, refl, ap, ◌∙◌, rules}
 use Rattle.hc_entry.specs.declared.rows.KeyRow.{KeyRow}
 use Rattle.hc_entry.specs.Lines.{is_in, turn_of, held_by}
 use Rattle.hc_entry.specs.Kept.{line_in}

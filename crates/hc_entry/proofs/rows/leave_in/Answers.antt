@@ -1,4 +1,4 @@
-use Rattle.std.proofs.Common.{Option, Some, None, refl, sym, ap, ◌∙◌, rules}
+use Rattle.std.proofs.Common.{Option, refl, sym, ap, ◌∙◌, rules}
 use Rattle.hc_entry.specs.declared.rows.KeyRow.{KeyRow}
 use Rattle.hc_entry.specs.Lines.{is_in, left_by}
 use Rattle.hc_entry.specs.Kept.{line_in}

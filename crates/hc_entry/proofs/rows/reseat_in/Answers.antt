@@ -1,4 +1,4 @@
-use Rattle.std.proofs.Common.{Option, Some, None, refl, sym, ap, ◌∙◌, rules}
+use Rattle.std.proofs.Common.{Option, sym, ap, ◌∙◌, rules}
 use Rattle.hc_entry.specs.declared.rows.KeyRow.{KeyRow}
 use Rattle.hc_entry.specs.Lines.{is_in}
 use Rattle.hc_entry.specs.Seats.{moved_to}

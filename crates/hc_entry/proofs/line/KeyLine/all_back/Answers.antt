@@ -1,5 +1,5 @@
 use Rattle.std.proofs.Common.{◌+◌, subst, sym, ap, ◌∙◌, arith}
-use Rattle.hc_entry.specs.Lines.{Line, all_back, AllArePlacedBelow}
+use Rattle.hc_entry.specs.Lines.{Line, all_back}
 use Rattle.hc_entry.proofs.SeatLemmas.{line_of}
 use Rattle.hc_entry.proofs.StandLemmas.{orderly-seated, none-there}
 use Rattle.hc_entry.proofs.AllBackLemmas.{AreBackBelow, freed, back-none, back-next, back-empty, back-all}

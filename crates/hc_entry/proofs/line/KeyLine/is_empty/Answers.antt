@@ -1,4 +1,4 @@
-use Rattle.std.proofs.Common.{◌≡◌, Bool, true, false, length, None, refl, sym, ap, ◌∙◌, rules}
+use Rattle.std.proofs.Common.{◌≡◌, Bool, true, false, length, None, refl, sym, ap, ◌∙◌}
 use Rattle.std.specs.Bool.{OnTrue}
 use Rattle.hc_entry.specs.Lines.{Line, is_empty}
 use Rattle.hc_entry.proofs.StandLemmas.{empty-seats, test-zero, free-seats, no-entries}

@@ -1,5 +1,4 @@
-use Rattle.std.proofs.Common.{Option, None, sym, ap, ◌∙◌}
-use Rattle.hc_entry.specs.declared.seat.Seat.{Seat}
+use Rattle.std.proofs.Common.{sym, ap, ◌∙◌}
 use Rattle.hc_entry.specs.Seats.{stand_in}
 use Rattle.hc_entry.proofs.StandLemmas.{stand_of, stand-seat}
 use Rattle.hc_entry.proofs.line.KeyLine.stand.Goals as goal

@@ -3,7 +3,7 @@ ghost use Rattle.std.specs.Prelude.{◌≡◌};
 ghost use Rattle.hc_rules.specs.Least.{lesser};
 
 /// The lesser of the two, or the one that there is.
-pub(crate) fn lesser(a: Option<u64>, b: u64) -> Option<u64>
+pub fn lesser(a: Option<u64>, b: u64) -> Option<u64>
     ensures { result ≡ lesser a b }
 {
     match a {

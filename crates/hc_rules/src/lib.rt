@@ -24,9 +24,11 @@ pub use laws::{
     admissions_are_right, cases_are_right, denials_are_least, joins_are_right, lengths_are_right,
     plans_are_right, shortest_gives_way, steps_are_right, survivors_are_least, texts_are_spelled,
 };
+pub use least::lesser;
 pub use length::{Length, length_of};
 pub use need::{Route, route_of};
 pub use plan::{Candidate, Plan, PlanView, plan_of};
+pub use range_text::content_range_of;
 pub use reading::{ReadStep, ReadView, read_step};
 pub use refusal::{Gate, OpenExchange, exchange_refusal, refusal_of};
 pub use request::{RequestClass, Wanted, class_of, wanted_of};

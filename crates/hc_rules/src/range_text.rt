@@ -24,7 +24,7 @@ fn content_range_in(text: &[u8]) -> Option<ContentRange>
 }
 
 /// What the Content-Range of a head tells, where it stands once and can be read.
-pub(crate) fn content_range_of(fields: &Fields) -> Option<ContentRange>
+pub fn content_range_of(fields: &Fields) -> Option<ContentRange>
     ensures value { result ≡ content_range_of fields.now }
     ensures ordered { IfSome result IsPartInOrder }
 {

@@ -1,0 +1,15 @@
+-- The elements of all values of a name, value by value.
+use Rattle.std.proofs.Common.{◌≡◌, ℕ, ◌+◌, Bool, List, [], drop, Some}
+use Rattle.std.specs.Prelude.{slice_get, ◌||◌}
+use Rattle.std.specs.List.{flat_map, list_any}
+use Rattle.std.proofs.lemmas.List.{drop_more}
+use Rattle.std.proofs.lemmas.List.Folds.{list_any-append}
+use Rattle.std.proofs.lemmas.Option.{slice_get_within, get_or_from_slice_get}
+use Rattle.hc_text.specs.Elements.{elements}
+
+-- an element of one more value passes, or one of the further ones
+pub one_more : (test : List ℕ → Bool) (values : List (List ℕ)) (i : ℕ) (value : List ℕ) → slice_get values i ≡ Some value
+    → list_any test (flat_map elements (drop i values)) ≡ (list_any test (elements value) || list_any test (flat_map elements (drop (i + 1) values)))
+one_more test values i value is =
+    rw (drop_more values i [] (slice_get_within values i value is), get_or_from_slice_get values i value [] is)
+    (list_any-append test (elements value) (flat_map elements (drop (i + 1) values)))

@@ -1,0 +1,7 @@
+pub mod Kept
+pub mod Shelf
+pub mod Heads
+pub mod Rows
+pub mod Shelved
+pub mod Entries
+pub mod Views

@@ -1,0 +1,76 @@
+//! What gives way where there is no room.
+ghost use Rattle.std.specs.Prelude.{◌≡◌, ◌+◌, ◌^◌, ◌<◌, ℕ, List, map};
+ghost use Rattle.std.specs.List.{sum_by};
+ghost use Rattle.hc_rules.specs.Rooms.{room_of, room_by, gives_way};
+
+use super::Entries;
+use crate::rows::{is_unused, slot_in};
+use hc_rules::{Room, SLOT_WEIGHT, Write};
+use hc_store::Backend;
+
+impl<B: Backend> Entries<B> {
+    ghost use Rattle.hc_entries.specs.Entries.{shelf_of};
+    ghost use Rattle.hc_entries.specs.Shelf.{weight_at, idle, first_of, ListsKept};
+
+    /// What all representations weigh.
+    pub fn used(&self) -> u64
+        ensures weights { result ≡ (shelf_of self.now).used }
+        ensures sum { (rs : List ℕ) → ListsKept (shelf_of self.now) rs →
+            result ≡ sum_by (weight_at (shelf_of self.now)) rs }
+    {
+        self.store.used()
+    }
+
+    /// Whether there is room for a write, and how many idle ones have to be evicted for it, in the order in
+    /// which `first_idle` names them.
+    pub fn room(&self, write: Write) -> Room
+        ensures { result ≡ room_of (shelf_of self.now).limits (shelf_of self.now).used write
+            (map (weight_at (shelf_of self.now)) (idle (shelf_of self.now))) }
+    {
+        let most = self.limits.max_entry;
+        match write {
+            Write::Slot => self.room_for(SLOT_WEIGHT),
+            Write::Piece { stored, count } if stored > most || count > most - stored =>
+                Room::TooLarge,
+            Write::Piece { count, .. } => self.room_for(count),
+        }
+    }
+
+    /// Whether there is room for so much more, and how many idle ones have to be evicted for it.
+    fn room_for(&self, more: u64) -> Room
+        ensures { result ≡ room_by (gives_way (shelf_of self.now).limits.max_total
+            ((shelf_of self.now).used + more)
+            (map (weight_at (shelf_of self.now)) (idle (shelf_of self.now)))) }
+    {
+        let most = u128::from(self.limits.max_total);
+        let mut left = u128::from(self.store.used()) + u128::from(more);
+        let mut count = 0;
+        for (r, _) in self.order.cache.iter().rev() {
+            if left <= most {
+                return Room::After(count);
+            }
+            if is_unused(&self.rows, *r) {
+                let weight = self.store.used_by(slot_in(&self.rows, *r));
+                left = left.saturating_sub(u128::from(weight));
+                count += 1;
+            }
+        }
+        if left <= most {
+            Room::After(count)
+        } else {
+            Room::Full
+        }
+    }
+
+    /// The idle one to which none was bound for longest. It is evicted by `forget`.
+    pub fn first_idle(&self) -> Option<u64>
+        ensures { result ≡ first_of (idle (shelf_of self.now)) }
+    {
+        for (r, _) in self.order.cache.iter().rev() {
+            if is_unused(&self.rows, *r) {
+                return Some(*r);
+            }
+        }
+        None
+    }
+}

@@ -1,0 +1,16 @@
+//! The representations that are current or to which a consumer is bound, each with its slot in a store.
+#![tactic(auto)]
+
+mod entries;
+mod entry;
+mod order;
+mod ranges;
+mod rows;
+mod told;
+mod view;
+
+pub use entries::Entries;
+pub use view::EntryView;
+
+#[cfg(test)]
+mod tests;

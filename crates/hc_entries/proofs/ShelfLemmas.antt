@@ -286,3 +286,51 @@ cells-kept slots None n is p = cc
 cells-kept slots (Some row) n is p =
     let e : row.slot ≡ n = cc in
     ap (λ (k : ℕ). cells_held (slots k) p) (sym e) ∙ cells-of row (slots row.slot) p
+
+-- what is kept of the others stays where one row and one slot more are there
+module _ {rows : Rows} {order : List ℕ} {slots : Slots} (good : AreShelved rows order slots) (r : ℕ) (new : Row) (held : Held) (free : is_live slots new.slot ≡ false)
+    {new_rows : Rows} {new_slots : Slots} (adds : (q : ℕ) → new_rows q ≡ with_row r (Some new) rows q) (makes : (m : ℕ) → new_slots m ≡ with_slot new.slot (Some held) slots m) where
+  kept-new : (q : ℕ) → eqb r q ≡ true → kept_by new_slots (new_rows q) ≡ Some (kept_of new held)
+  kept-new q same =
+      let here : new_rows q ≡ Some new = adds q ∙ rw same refl in
+      let slot : new_slots new.slot ≡ Some held = makes new.slot ∙ (let e : eqb new.slot new.slot ≡ true = grind (arith, nat_tests) in rw e refl) in
+      ap (kept_by new_slots) here ∙ ap (option_map (kept_of new)) slot
+
+  free-of : (q : ℕ) (b : Row) → rows q ≡ Some b → eqb new.slot b.slot ≡ false
+  free-of q b is = elim (cases_Bool (eqb new.slot b.slot)) [
+    | inl same ↦ absurd (let e : false ≡ true = sym free ∙ (ap (is_live slots) (eqb-true new.slot b.slot same) ∙ (good.each q b is).live) in cc)
+    | inr other ↦ other
+  ]
+
+  kept-old : (q : ℕ) → eqb r q ≡ false → (o : Option Row) → rows q ≡ o → kept_by new_slots (new_rows q) ≡ kept_by slots (rows q)
+  kept-old q off None is =
+      let here : new_rows q ≡ None = adds q ∙ rw off is in
+      ap (kept_by new_slots) here ∙ sym (ap (kept_by slots) is)
+  kept-old q off (Some b) is =
+      let here : new_rows q ≡ Some b = adds q ∙ rw off is in
+      let slot : new_slots b.slot ≡ slots b.slot = makes b.slot ∙ rw (free-of q b is) refl in
+      ap (kept_by new_slots) here ∙ (ap (option_map (kept_of b)) slot ∙ sym (ap (kept_by slots) is))
+
+  pub added-kept : (q : ℕ) → kept_by new_slots (new_rows q) ≡ cond (eqb r q) (Some (kept_of new held)) (kept_by slots (rows q))
+  added-kept q = elim (cases_Bool (eqb r q)) [
+    | inl same ↦ rw same (kept-new q same)
+    | inr off ↦ rw off (kept-old q off (rows q) refl)
+  ]
+
+-- A SLOT THAT IS MADE AND DROPPED AGAIN
+
+dead : (o : Option Held) → is_some o ≡ false → None ≡ o
+dead None is = refl
+dead (Some h) is = absurd (let never : true ≡ false = is in cc)
+
+pub slots-back : (n : ℕ) (o : Option Held) (slots made : Slots) → is_live slots n ≡ false → made ≡ with_slot n o slots → with_slot n None made ≡ slots
+slots-back n o slots made free is = fun_ext at-each where
+  at-each : (m : ℕ) → with_slot n None made m ≡ slots m
+  at-each m = elim (cases_Bool (eqb n m)) [
+    | inl same ↦ rw same (dead (slots n) free ∙ ap slots (eqb-true n m same))
+    | inr off ↦ rw off (ap (λ (s : Slots). s m) is ∙ rw off refl)
+  ]
+
+pub same-slots : {rows : Rows} {order new_order : List ℕ} {slots new_slots : Slots} → AreShelved rows order slots → new_order ≡ order → new_slots ≡ slots → AreShelved rows new_order new_slots
+same-slots {rows} {order} {new_order} {slots} {new_slots} good moved same =
+    subst (λ (ns : List ℕ). AreShelved rows ns new_slots) (sym moved) (subst (λ (s : Slots). AreShelved rows order s) (sym same) good)

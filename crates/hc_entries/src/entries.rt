@@ -95,9 +95,9 @@ impl<B: Backend> Entries<B> {
             self.store.drop_slot(slot);
             return Err(StoreError::NoMemory);
         };
-        if keep_in(&mut self.rows, &mut self.order, r, entry).is_err() {
+        if let Err(refused) = keep_in(&mut self.rows, &mut self.order, r, entry) {
             self.store.drop_slot(slot);
-            return Err(StoreError::NoMemory);
+            return Err(refused.into());
         }
         Ok(())
     }

@@ -5,3 +5,5 @@ pub mod ReachLemmas
 pub mod RowLemmas
 pub mod CurrentLemmas
 pub mod ViewLemmas
+pub mod WeightLemmas
+pub mod IdleLemmas

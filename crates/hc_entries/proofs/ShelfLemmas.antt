@@ -334,3 +334,9 @@ slots-back n o slots made free is = fun_ext at-each where
 pub same-slots : {rows : Rows} {order new_order : List ℕ} {slots new_slots : Slots} → AreShelved rows order slots → new_order ≡ order → new_slots ≡ slots → AreShelved rows new_order new_slots
 same-slots {rows} {order} {new_order} {slots} {new_slots} good moved same =
     subst (λ (ns : List ℕ). AreShelved rows ns new_slots) (sym moved) (subst (λ (s : Slots). AreShelved rows order s) (sym same) good)
+
+-- the slot of a row is live
+pub live-slot : {rows : Rows} {order : List ℕ} {slots : Slots} → AreShelved rows order slots → (r n : ℕ) → slot_at (rows r) ≡ Some n → is_live slots n ≡ true
+live-slot {rows} {order} {slots} good r n slot =
+    let row = row-at (rows r) n slot in
+    ap (is_live slots) (sym row.2) ∙ (good.each r row.0 row.1).live

@@ -1,17 +1,19 @@
 //! The order of the current representations.
-ghost use Rattle.std.specs.Prelude.{◌≡◌, ℕ, [], ◌∷◌, true, false, IfOk, OnOk, OnErr};
+ghost use Rattle.std.specs.Prelude.{◌≡◌, ◌<◌, ◌^◌, [], ◌∷◌, length, true, false, IfOk, OnOk, OnErr};
+ghost use Rattle.std.specs.Map.{keys_of};
 ghost use Rattle.hc_rising.specs.Rising.{has, without};
 ghost use Rattle.hc_entries.specs.Kept.{itself};
 
 use hc_text::NoMemory;
-use lru::LruCache;
+use lru::{Iter, LruCache};
 use std::alloc::Global;
+use std::iter::Rev;
 use std::marker::Model;
 
 /// Numbers, each once, in the order in which they were put first, the last one first.
 #[derive(Drop)]
 pub(crate) struct Order {
-    pub(crate) cache: LruCache<u64, ()>,
+    cache: LruCache<u64, ()>,
 }
 
 impl Model for Order {
@@ -48,6 +50,21 @@ impl Order {
         prove!(count < room);
         self.cache.put(n, ())?;
         Ok(())
+    }
+
+    /// The numbers from the last one to the first.
+    pub(crate) fn from_last(&self) -> Rev<Iter<'_, u64, ()>>
+        ensures { keys_of result.iter ≡ self.now }
+    {
+        self.cache.iter().rev()
+    }
+
+    /// How many there are.
+    pub(crate) fn len(&self) -> usize
+        ensures len { result ≡ length self.now }
+        ensures fits { result < 2 ^ 63 }
+    {
+        self.cache.len()
     }
 
     /// One of them stands first.

@@ -23,6 +23,7 @@ impl<B: Backend> Entries<B> {
 
     /// Whether there is room for a write, and how many idle ones have to be evicted for it, in the order in
     /// which `first_idle` names them.
+    #[tactic(auto, unfolding(hc_rules::specs::Rooms::room_of))]
     pub fn room(&self, write: Write) -> Room
         ensures { result ≡ room_of (shelf_of self.now).limits (shelf_of self.now).used write
             (map (weight_at (shelf_of self.now)) (idle (shelf_of self.now))) }
@@ -44,14 +45,16 @@ impl<B: Backend> Entries<B> {
     {
         let most = u128::from(self.limits.max_total);
         let mut left = u128::from(self.store.used()) + u128::from(more);
+        let total = self.order.len();
         let mut count = 0;
-        for (r, _) in self.order.cache.iter().rev() {
+        for (r, _) in self.order.from_last() {
             if left <= most {
                 return Room::After(count);
             }
             if is_unused(&self.rows, *r) {
                 let weight = self.store.used_by(slot_in(&self.rows, *r));
                 left = left.saturating_sub(u128::from(weight));
+                prove!(count < total);
                 count += 1;
             }
         }
@@ -66,7 +69,7 @@ impl<B: Backend> Entries<B> {
     pub fn first_idle(&self) -> Option<u64>
         ensures { result ≡ first_of (idle (shelf_of self.now)) }
     {
-        for (r, _) in self.order.cache.iter().rev() {
+        for (r, _) in self.order.from_last() {
             if is_unused(&self.rows, *r) {
                 return Some(*r);
             }

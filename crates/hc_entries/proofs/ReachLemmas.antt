@@ -23,6 +23,7 @@ module _ (at x : ℕ) (bytes : List ℕ) (cells : Cells) (reach : ℕ) (some : 0
         let far : at + length bytes ≤ p = grind (arith, nat_tests) in
         let past : reach ≤ p = grind (arith, nat_tests) in
         beyond p far ∙ before.ends p past
+
     last : (leb reach (at + length bytes) ≡ true) ⊎ (leb reach (at + length bytes) ≡ false)
         → (eqb (max reach (at + length bytes)) 0 || is_some (written at x bytes cells (max reach (at + length bytes) - 1))) ≡ true
     last (inl le) =

@@ -156,12 +156,24 @@ shelved-going a b somebody h = record {
 
 pub shelved-lost : (alone : Option ℕ) (a : Row) (b : Held) → IsShelved (Some b) a → IsShelved (Some b) (losing alone a)
 shelved-lost alone a b h = record {
-  number = h.number; live = refl; told = h.told; reach = h.reach; rising = h.rising; first = h.first; used = h.used;
+  number = h.number;
+  live = refl;
+  told = h.told;
+  reach = h.reach;
+  rising = h.rising;
+  first = h.first;
+  used = h.used;
 }
 
 pub shelved-written : (x : ℕ) (a : Row) (b : Held) → IsShelved (Some b) a → IsShelved (Some b) (written_in x a)
 shelved-written x a b h = record {
-  number = h.number; live = refl; told = h.told; reach = h.reach; rising = h.rising; first = h.first; used = h.used;
+  number = h.number;
+  live = refl;
+  told = h.told;
+  reach = h.reach;
+  rising = h.rising;
+  first = h.first;
+  used = h.used;
 }
 
 -- FOUNDED

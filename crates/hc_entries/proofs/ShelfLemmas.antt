@@ -94,8 +94,8 @@ module _ {rows : Rows} {order : List ℕ} {slots : Slots} (good : AreShelved row
         | inr off ↦ let before : rows q ≡ Some b = sym (is-old q off) ∙ is in subst (λ (o : Option Held). IsShelved o b) (sym (other-held q b off before)) (good.each q b before)
       ];
       apart = λ q k a b ia ib same.
-        let wa = was q a ia in let wb = was k b ib in
-        good.apart q k wa.0 wb.0 wa.1 wb.1 (wa.2 ∙ (same ∙ sym wb.2));
+          let wa = was q a ia in let wb = was k b ib in
+          good.apart q k wa.0 wb.0 wa.1 wb.1 (wa.2 ∙ (same ∙ sym wb.2));
       owned = λ n live. ∥∥₁_map (good.owned n (was-live n live)) (owner-now n);
       ordered = ordered;
     }
@@ -196,8 +196,8 @@ module _ {rows : Rows} {order : List ℕ} {slots : Slots} (good : AreShelved row
   pub dropped-shelved : {new_order : List ℕ} → ((q : ℕ) → has itself q new_order ≡ is_current (new_rows q)) → AreShelved new_rows new_order new_slots
   dropped-shelved ordered = record {
     each = λ q b is.
-      let left = left-row q b is in
-      subst (λ (o : Option Held). IsShelved o b) (sym (left-slot q b left.0 left.1)) (good.each q b left.1);
+        let left = left-row q b is in
+        subst (λ (o : Option Held). IsShelved o b) (sym (left-slot q b left.0 left.1)) (good.each q b left.1);
     apart = λ q k a b ia ib same. good.apart q k a b (left-row q a ia).1 (left-row k b ib).1 same;
     owned = λ m live. let left = left-live m live in ∥∥₁_map (good.owned m left.1) (left-owner m left.0);
     ordered = ordered;
@@ -242,13 +242,13 @@ module _ {rows : Rows} {order : List ℕ} {slots : Slots} (good : AreShelved row
   apart-added : (q k : ℕ) (a b : Row) → new_rows q ≡ Some a → new_rows k ≡ Some b → a.slot ≡ b.slot → q ≡ k
   apart-added q k a b ia ib same = elim (cases_Bool (eqb r q)) [
     | inl here ↦ elim (cases_Bool (eqb r k)) [
-        | inl there ↦ sym (eqb-true r q here) ∙ eqb-true r k there
-        | inr off ↦ absurd (never-shared q k a b here off ia ib same)
-      ]
+      | inl there ↦ sym (eqb-true r q here) ∙ eqb-true r k there
+      | inr off ↦ absurd (never-shared q k a b here off ia ib same)
+    ]
     | inr gone ↦ elim (cases_Bool (eqb r k)) [
-        | inl there ↦ absurd (never-shared k q b a there gone ib ia (sym same))
-        | inr off ↦ good.apart q k a b (was-there q a gone ia) (was-there k b off ib) same
-      ]
+      | inl there ↦ absurd (never-shared k q b a there gone ib ia (sym same))
+      | inr off ↦ good.apart q k a b (was-there q a gone ia) (was-there k b off ib) same
+    ]
   ]
 
   old-owner : (m : ℕ) → Owner rows m → Owner new_rows m

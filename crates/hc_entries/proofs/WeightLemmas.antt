@@ -45,6 +45,7 @@ no-one : (own : Own) (slots : Slots) → Owns own slots [] → (n : ℕ) → slo
 no-one own slots owns n = none (slots n) (λ live. absurd (not_there (owns.all n live) (λ owning. unlisted owning))) where
   unlisted : Owning own n → ⊥
   unlisted owning = let e : false ≡ true = owns.listed owning.r (ap is_some owning.owns) in cc
+
   none : (o : Option Held) → (is_some o ≡ true → ⊥) → o ≡ None
   none None dead = refl
   none (Some h) dead = absurd (dead refl)
@@ -167,6 +168,7 @@ module _ {rows : Rows} {order : List ℕ} {slots : Slots} (good : AreShelved row
     live : (row : Row) (h : Option Held) → is_some h ≡ true → is_some (option_map (kept_of row) h) ≡ true
     live row None is = is
     live row (Some held) is = refl
+
     of : (o : Option Row) → rows r ≡ o → is_some (slot_at o) ≡ true → is_some (kept_by slots o) ≡ true
     of None is there = there
     of (Some row) is there = live row (slots row.slot) (good.each r row is).live
@@ -175,8 +177,8 @@ module _ {rows : Rows} {order : List ℕ} {slots : Slots} (good : AreShelved row
   owners rs listed = record {
     number = λ r n is. let there = slot-there (rows r) n is in let lt = (good.each r there.0 there.1).number in let e = there.2 in omega arith;
     one = λ r q n ir iq.
-      let a = slot-there (rows r) n ir in let b = slot-there (rows q) n iq in
-      good.apart r q a.0 b.0 a.1 b.1 (a.2 ∙ sym b.2);
+        let a = slot-there (rows r) n ir in let b = slot-there (rows q) n iq in
+        good.apart r q a.0 b.0 a.1 b.1 (a.2 ∙ sym b.2);
     all = λ n live. ∥∥₁_map (good.owned n live) (λ (owner : Owner rows n). record { r = owner.r; owns = ap slot_at owner.there ∙ ap Some owner.slot });
     listed = λ r some. listed r (some-kept r some);
   }

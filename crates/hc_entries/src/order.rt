@@ -25,7 +25,8 @@ impl Model for Order {
 
     ghost view = { λ o. keys_of o.cache.entries };
 
-    ghost invariant = { λ o. (o.cache.cap ≡ 2 ^ 64 - 1) × IsDistinct nat_eq (keys_of o.cache.entries) };
+    ghost invariant = { λ o. (o.cache.cap ≡ 2 ^ 64 - 1)
+        × IsDistinct nat_eq (keys_of o.cache.entries) };
 }
 
 impl Order {

@@ -21,7 +21,7 @@ invariant_of-self-2 g c =
     record {
       limited = e.limited;
       shelved =
-        rw c.move_first.ensures (updated-shelved e.shelved r is.0 is.1 f (λ h. h) (λ a. refl) c.in_ok-bind_in.ensures.ok (kept-slots slots is.0)
-        (λ a b there h. shelved-bound c.args.c a b (absent-user c.args.c (rows_of e.rows r) a there is.3) h)
-        (ordered-first e.shelved r f c.in_ok-bind_in.ensures.ok is.2 (λ a. refl)));
+          rw c.move_first.ensures (updated-shelved e.shelved r is.0 is.1 f (λ h. h) (λ a. refl) c.in_ok-bind_in.ensures.ok (kept-slots slots is.0)
+          (λ a b there h. shelved-bound c.args.c a b (absent-user c.args.c (rows_of e.rows r) a there is.3) h)
+          (ordered-first e.shelved r f c.in_ok-bind_in.ensures.ok is.2 (λ a. refl)));
     }

@@ -15,8 +15,8 @@ invariant_of-self g c =
     record {
       limited = c.drop_slot.ensures.limits ∙ e.limited;
       shelved =
-        rw c.take_out.ensures (dropped-shelved e.shelved r c.drop_in-slot.result.n slot drops (λ m. ap (λ (s : Slots). s m) c.drop_slot.ensures.dropped)
-        (ordered-out e.shelved r None drops refl));
+          rw c.take_out.ensures (dropped-shelved e.shelved r c.drop_in-slot.result.n slot drops (λ m. ap (λ (s : Slots). s m) c.drop_slot.ensures.dropped)
+          (ordered-out e.shelved r None drops refl));
     }
 
 pub invariant_of-self-else-is_over : goal.invariant_of-self-else-is_over
@@ -29,6 +29,6 @@ invariant_of-self-else-is_over g c =
     record {
       limited = e.limited;
       shelved =
-        rw c.take_out.ensures (updated-shelved e.shelved r slot.0 slot.1 going (λ h. h) (λ a. refl) c.go_in.ensures (kept-slots slots slot.0)
-        (λ a b there h. shelved-going a b (used-gone (rows_of e.rows) r c.go_in.ensures over a there) h) (ordered-going e.shelved r c.go_in.ensures));
+          rw c.take_out.ensures (updated-shelved e.shelved r slot.0 slot.1 going (λ h. h) (λ a. refl) c.go_in.ensures (kept-slots slots slot.0)
+          (λ a b there h. shelved-going a b (used-gone (rows_of e.rows) r c.go_in.ensures over a there) h) (ordered-going e.shelved r c.go_in.ensures));
     }

@@ -28,10 +28,10 @@ invariant_of-self-in_default-keep_in g c =
     record {
       limited = c.in_ok-slot.ensures.limits ∙ e.limited;
       shelved =
-        rw c.in_default-keep_in.ensures.first (added-shelved e.shelved a.r new (bare (plain a.head.now)) (no-row e.shelved a.r c.requires.new) c.in_ok-slot.ensures.new adds
-        (λ m. ap (λ (s : Slots). s m) c.in_ok-slot.ensures.ok)
-        (shelved-founded a.key n (plain a.head.now) a.c a.first a.writer number)
-        (ordered-more e.shelved a.r (Some new) adds refl));
+          rw c.in_default-keep_in.ensures.first (added-shelved e.shelved a.r new (bare (plain a.head.now)) (no-row e.shelved a.r c.requires.new) c.in_ok-slot.ensures.new adds
+          (λ m. ap (λ (s : Slots). s m) c.in_ok-slot.ensures.ok)
+          (shelved-founded a.key n (plain a.head.now) a.c a.first a.writer number)
+          (ordered-more e.shelved a.r (Some new) adds refl));
     }
 
 pub returns-clause-ok : goal.returns-clause-ok

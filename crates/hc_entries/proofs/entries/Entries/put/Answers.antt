@@ -19,8 +19,8 @@ invariant_of-self-2 g c =
     record {
       limited = c.in_ok-put.ensures.limits ∙ e.limited;
       shelved =
-        updated-shelved e.shelved a.r c.slot_in.result.n c.slot_in.ensures f (puts a.at a.x a.bytes.now a.last) (λ row. refl) c.fill_in.ensures
-        (λ m. ap (λ (s : Slots). s m) c.in_ok-put.ensures.ok)
-        (λ row held is h. shelved-filled a.at a.x a.bytes.now a.last row held c.requires.some h)
-        (ordered-same e.shelved a.r f c.fill_in.ensures (λ row. refl));
+          updated-shelved e.shelved a.r c.slot_in.result.n c.slot_in.ensures f (puts a.at a.x a.bytes.now a.last) (λ row. refl) c.fill_in.ensures
+          (λ m. ap (λ (s : Slots). s m) c.in_ok-put.ensures.ok)
+          (λ row held is h. shelved-filled a.at a.x a.bytes.now a.last row held c.requires.some h)
+          (ordered-same e.shelved a.r f c.fill_in.ensures (λ row. refl));
     }

@@ -18,9 +18,9 @@ returns-then-left-most g c =
     let e = c.args.self.now in
     let most : c.from-most.result ≡ (g.B.Backend.limits e.store).max_total = c.from-most.ensures ∙ ap (λ (l : Limits). l.max_total) (sym e.limited) in
     let sum : c.from.result + c.from-2.result ≡ weight (g.B.Backend.slots e.store) + c.args.more =
-        let used : c.from.result ≡ weight (g.B.Backend.slots e.store) = c.from.ensures ∙ c.used.ensures in
-        let more : c.from-2.result ≡ c.args.more = c.from-2.ensures in
-        omega arith in
+    let used : c.from.result ≡ weight (g.B.Backend.slots e.store) = c.from.ensures ∙ c.used.ensures in
+    let more : c.from-2.result ≡ c.args.more = c.from-2.ensures in
+    omega arith in
     ap room_by (fits_now c.loop-r.count c.from-most.result c.loop-r.left _ _ c.if-left-most.true c.loop-r.invariant.sum
     ∙ (ap (λ (n : ℕ). gives_way n (c.from.result + c.from-2.result) (map (weight_at (shelf_of e)) (idle (shelf_of e)))) most
     ∙ ap (λ (n : ℕ). gives_way (g.B.Backend.limits e.store).max_total n (map (weight_at (shelf_of e)) (idle (shelf_of e)))) sum))
@@ -38,7 +38,7 @@ loop-r-preserved-then-is_unused g c =
     let passes = sym (unused-kept e.shelved r) ∙ (sym c.is_unused.ensures ∙ c.if-is_unused.true) in
     let ends = idle-last test c.loop-r.r-iterator.iter rest r tt c.in-Some.ensures.steps passes in
     let weight : c.from-then-is_unused.result ≡ weight_at (shelf_of e) r =
-        c.from-then-is_unused.ensures ∙ (c.used_by-weight.ensures ∙ weight-there slots (rows_of e.rows r) c.slot_in.result.n c.slot_in.ensures) in
+    c.from-then-is_unused.ensures ∙ (c.used_by-weight.ensures ∙ weight-there slots (rows_of e.rows r) c.slot_in.result.n c.slot_in.ensures) in
     let less : c.saturating_sub-left.result ≡ c.loop-r.left - weight_at (shelf_of e) r = c.saturating_sub-left.ensures ∙ ap (λ (n : ℕ). c.loop-r.left - n) weight in
     let count = c.loop-r.count in
     let most = c.from-most.result in
@@ -48,8 +48,8 @@ loop-r-preserved-then-is_unused g c =
     let fits = c.loop-r.invariant.few in
     record {
       sum =
-        ap (λ (k : ℕ). option_map (λ (n : ℕ). count + 1 + n) (gives_way most k (map w (filter test (reverse (keys_of rest)))))) less
-        ∙ gives-more count most left (w r) (map w (filter test (reverse (keys_of rest)))) _ c.if-left-most.false
+          ap (λ (k : ℕ). option_map (λ (n : ℕ). count + 1 + n) (gives_way most k (map w (filter test (reverse (keys_of rest)))))) less
+          ∙ gives-more count most left (w r) (map w (filter test (reverse (keys_of rest)))) _ c.if-left-most.false
           (ap (λ (qs : List ℕ). option_map (λ (n : ℕ). count + n) (gives_way most left (map w qs))) (sym ends) ∙ c.loop-r.invariant.sum);
       few = omega arith;
     }

@@ -14,7 +14,7 @@ invariant_of-self-2 g c =
     record {
       limited = c.in_ok-seal.ensures.limits ∙ e.limited;
       shelved =
-        updated-shelved e.shelved r c.slot_in.result.n c.slot_in.ensures f (seals c.args.kind c.args.total) (λ a. refl) c.seal_in.ensures
-        (λ m. ap (λ (s : Slots). s m) c.in_ok-seal.ensures.ok)
-        (λ a b is h. shelved-sealed c.args.kind c.args.total a b h) (ordered-same e.shelved r f c.seal_in.ensures (λ a. refl));
+          updated-shelved e.shelved r c.slot_in.result.n c.slot_in.ensures f (seals c.args.kind c.args.total) (λ a. refl) c.seal_in.ensures
+          (λ m. ap (λ (s : Slots). s m) c.in_ok-seal.ensures.ok)
+          (λ a b is h. shelved-sealed c.args.kind c.args.total a b h) (ordered-same e.shelved r f c.seal_in.ensures (λ a. refl));
     }

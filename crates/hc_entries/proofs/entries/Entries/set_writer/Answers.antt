@@ -15,6 +15,6 @@ invariant_of-self g c =
     record {
       limited = e.limited;
       shelved =
-        updated-shelved e.shelved r slot.0 slot.1 f (λ h. h) (λ a. refl) c.write_in.ensures (kept-slots slots slot.0)
-        (λ a b is h. shelved-written c.args.x a b h) (ordered-same e.shelved r f c.write_in.ensures (λ a. refl));
+          updated-shelved e.shelved r slot.0 slot.1 f (λ h. h) (λ a. refl) c.write_in.ensures (kept-slots slots slot.0)
+          (λ a b is h. shelved-written c.args.x a b h) (ordered-same e.shelved r f c.write_in.ensures (λ a. refl));
     }

@@ -20,8 +20,8 @@ invariant_of-self g c =
     record {
       limited = c.drop_slot.ensures.limits ∙ e.limited;
       shelved =
-        dropped-shelved e.shelved r c.drop_in-slot.result.n slot drops (λ m. ap (λ (s : Slots). s m) c.drop_slot.ensures.dropped)
-        (ordered-left e.shelved r None drops (gone-left (rows_of e.rows) r c.args.c c.unbind_in.ensures over) refl);
+          dropped-shelved e.shelved r c.drop_in-slot.result.n slot drops (λ m. ap (λ (s : Slots). s m) c.drop_slot.ensures.dropped)
+          (ordered-left e.shelved r None drops (gone-left (rows_of e.rows) r c.args.c c.unbind_in.ensures over) refl);
     }
 
 pub invariant_of-self-else-is_over : goal.invariant_of-self-else-is_over
@@ -35,7 +35,7 @@ invariant_of-self-else-is_over g c =
     record {
       limited = e.limited;
       shelved =
-        updated-shelved e.shelved r slot.0 slot.1 f (λ h. h) (λ a. refl) c.unbind_in.ensures (kept-slots slots slot.0)
-        (λ a b there h. shelved-left c.args.c a b (kept-left (rows_of e.rows) r c.args.c c.unbind_in.ensures over a there) h)
-        (ordered-same e.shelved r f c.unbind_in.ensures (λ a. refl));
+          updated-shelved e.shelved r slot.0 slot.1 f (λ h. h) (λ a. refl) c.unbind_in.ensures (kept-slots slots slot.0)
+          (λ a b there h. shelved-left c.args.c a b (kept-left (rows_of e.rows) r c.args.c c.unbind_in.ensures over a there) h)
+          (ordered-same e.shelved r f c.unbind_in.ensures (λ a. refl));
     }

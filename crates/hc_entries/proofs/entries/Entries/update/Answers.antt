@@ -18,9 +18,9 @@ invariant_of-self-2 g c =
     record {
       limited = c.in_ok-write_record.ensures.limits ∙ e.limited;
       shelved =
-        updated-shelved e.shelved r c.slot_in.result.n c.slot_in.ensures f (rewrites head) (λ a. refl) c.tell_in.ensures
-        (λ m. ap (λ (s : Slots). s m) c.in_ok-write_record.ensures.ok)
-        (λ a b is h. shelved-rewritten head told a b c.in_ok-told.ensures h) (ordered-same e.shelved r f c.tell_in.ensures (λ a. refl));
+          updated-shelved e.shelved r c.slot_in.result.n c.slot_in.ensures f (rewrites head) (λ a. refl) c.tell_in.ensures
+          (λ m. ap (λ (s : Slots). s m) c.in_ok-write_record.ensures.ok)
+          (λ a b is h. shelved-rewritten head told a b c.in_ok-told.ensures h) (ordered-same e.shelved r f c.tell_in.ensures (λ a. refl));
     }
 
 pub returns-clause-ok : goal.returns-clause-ok
@@ -30,8 +30,8 @@ returns-clause-ok g c =
     let head = plain c.args.head.now in
     record {
       kept =
-        updated-kept e.shelved c.args.r c.slot_in.result.n c.slot_in.ensures f (rewrites head) (λ a. refl) c.tell_in.ensures
-        (λ m. ap (λ (s : Slots). s m) c.in_ok-write_record.ensures.ok) (with_head head) (λ a b. refl);
+          updated-kept e.shelved c.args.r c.slot_in.result.n c.slot_in.ensures f (rewrites head) (λ a. refl) c.tell_in.ensures
+          (λ m. ap (λ (s : Slots). s m) c.in_ok-write_record.ensures.ok) (with_head head) (λ a b. refl);
       order = refl;
       limits = c.in_ok-write_record.ensures.limits;
     }

@@ -12,7 +12,7 @@ def of(option):
 
 TURNS = ("Bypass", "Miss", "Vary", "Validate")
 CONSTANTS = {"Exchanges": "base promised front", "Currents": "current", "Reading": "is_written bound offset hi_of own_open source",
-             "Writers": "came_alone exclusive", "Dooms": "doomed", "Lines": "turn", "Weights": "weights", "Polls": "move_of has_joined",
+             "Writers": "came_alone exclusive", "Dooms": "doomed", "Lines": "turn", "Weights": "weights", "Polls": "move_of has_joined", "Steps": "held",
              "Keys": "concerns_exchange concerns_representation concerns_consumer loses", "ConsumerRows": "back_in_line",
              "Histories": "opened_in answered_in opening_of head_of delivered_of has_ended joined_of request_of since_of given_of shown_of "
                           "was_lost pieces_of stored_of over begun_with", "Reads": "ReadsEach body_of"}
@@ -67,6 +67,12 @@ class Facts:
         self.orders()
         self.endings()
         self.whose()
+        self.passed()
+        self.given()
+        self.numbers()
+        self.alone_bound()
+        self.known_lengths()
+        self.after_losses()
         if not self.is_denied(entry.acts):
             self.holds("within the limit", self.weights(old, entry) <= limits.max_total or not self.writes(entry))
             self.holds("few are evicted", sum(act._name == "Evicted" for act in entry.acts) <= 2)
@@ -382,6 +388,98 @@ class Facts:
             self.holds("whose: unbound", bound or not self.about[r])
             if self.is_written(t, v):
                 self.holds("whose: writer's key", self.K[self.W[of(v.writer)].c].request.key == v.key)
+
+    def passed(self):
+        """Who waits for a body waits for what is current; whoever kept a 304 owned the exchange that brought it."""
+        for k in self.K.values():
+            if k.place._name == "Passed":
+                r, kept = k.place.args()[0], of(k.place.args()[1])
+                v = self.V[r]
+                self.holds("passed: current", not v.is_gone and v.key == k.request.key and of(self.current(self.t, v.key)) == r)
+                self.holds("passed: kept", kept is None or of(k.own) == kept and not self.W[kept].is_open)
+                self.holds("passed: own", of(k.own) == kept)
+
+    def given(self):
+        """What a reader was given stands in the body, and not past its end."""
+        for k in self.K.values():
+            if k.place._name == "Bound":
+                r, lo, hi, _ = k.place.args()
+                v, end = self.V[r], of(self.hi_of(self.t, k.place))
+                self.holds("given: covered", all(of(v.body(p)) is not None for p in range(lo, lo + k.given)))
+                self.holds("given: reach", k.given == 0 or lo + k.given <= v.reach)
+                self.holds("given: end", end is None or lo <= end and lo + k.given <= end)
+                self.holds("given: open end", of(hi) is not None or lo == 0)
+                self.holds("given: lo", of(hi) is None or lo < of(hi) or lo == of(hi) == 0)
+
+    def numbers(self):
+        """Numbers are what heads can tell, or what was received."""
+        t = self.t
+        most = max(1 << 62, t.received)
+        for r, v in self.V.items():
+            total = of(v.head.total)
+            self.holds("numbers: total", total is None or total < 1 << 62 or total <= t.received)
+            self.holds("numbers: reach", v.reach <= most)
+        for w in self.W.values():
+            n = of(self.promised(w))
+            self.holds("numbers: promise", self.base(w) + n <= 1 << 62 if n is not None else self.base(w) == 0)
+            self.holds("numbers: front", self.front(w) <= most)
+        for k in self.K.values():
+            if k.place._name == "Bound":
+                lo, hi = k.place.args()[1], of(k.place.args()[2])
+                self.holds("numbers: bound", lo <= most and (hi is None or hi <= most))
+
+    def alone_bound(self):
+        """Who writes alone is the only one that is bound."""
+        t = self.t
+        for r, v in self.V.items():
+            c = of(self.exclusive(t, r, v))
+            if v.is_lost:
+                continue
+            if c is not None:
+                self.holds("alone: bound", self.bound(t, r) == (c,))
+                self.holds("alone: came", self.came_alone(t, self.place(c)))
+            for d in self.bound_to(r):
+                k = self.K[d]
+                if self.came_alone(t, k.place) and of(k.due) is None and not self.is_written(t, v):
+                    hi, offset = of(self.hi_of(t, k.place)), self.offset(t, k)
+                    lacks = any(of(v.stored(p)) is None for p in range(offset, hi))
+                    self.holds("alone: writes", (c == d) == (of(self.own_open(t, k)) is not None or lacks))
+
+    def known_lengths(self):
+        """What isn't gone has a known length, or is being written."""
+        t = self.t
+        for r, v in self.V.items():
+            if v.is_gone:
+                continue
+            total = of(v.head.total)
+            growing = any(self.W[x].is_open and self.family(x) == r for x in self.W)
+            self.holds("length: known", total is not None or growing and self.is_written(t, v) and of(v.writer) == r)
+            self.holds("length: growing", growing == any(of(self.W[x].head) is not None for x in self.about[r]))
+
+    def after_losses(self):
+        """What is held for who goes on alone came of its own exchange."""
+        t = self.t
+        for r, v in self.V.items():
+            if not v.is_lost or of(v.alone) not in self.bound_to(r):
+                continue
+            c = of(v.alone)
+            k = self.K[c]
+            if of(k.due) is not None:
+                continue
+            x = of(k.own)
+            w, offset = self.W[x], self.offset(t, k)
+            base, front = self.base(w), self.front(w)
+            fresh = [p for p in range(offset, v.reach) if of(v.stored(p)) is None and of(v.body(p)) is not None]
+            self.holds("loss: of its own", all(of(v.body(p)).x == x for p in fresh))
+            self.holds("loss: one stretch", not fresh or fresh == list(range(fresh[0], front)))
+            self.holds("loss: family", of(w.head) is None or self.family(x) == r)
+            self.holds("loss: its bytes", all(base <= p and of(v.body(p)).byte == w.body[p - base] for p in fresh))
+            for n in (1, 3, 1000):
+                got = of(self.held(t, c, k, n))
+                if of(v.stored(offset)) is None:
+                    brought = w.body[offset - base:][:n] if offset >= base else ()
+                    self.holds("loss: held", (got is None and not brought) or got is not None and
+                               (got.x, got.at, tuple(got.bytes)) == (x, offset, tuple(brought)))
 
     def direct(self, c, k, x, due):
         w = self.W[x]

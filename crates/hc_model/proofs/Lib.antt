@@ -176,3 +176,7 @@ pub mod PlacesStand
 pub mod PlaceRuns
 pub mod OwnersFor
 pub mod WhoseRuns
+pub mod PassedRuns
+pub mod GivenRuns
+pub mod ToldNumbers
+pub mod NumberRuns

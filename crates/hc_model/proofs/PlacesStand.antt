@@ -10,6 +10,7 @@ use Rattle.hc_event.specs.declared.event.Event.TheVariants as event
 use Rattle.hc_event.specs.declared.event.Request.{Request}
 use Rattle.hc_event.specs.declared.event.Response.{Response}
 use Rattle.hc_rules.specs.declared.heads.HeadCase.{HeadCase}
+use Rattle.hc_rules.specs.declared.heads.HeadCase.TheVariants as case
 use Rattle.hc_rules.specs.declared.need.Route.{Route}
 use Rattle.hc_rules.specs.declared.need.Route.TheVariants as route
 use Rattle.hc_rules.specs.declared.request.Wanted.{Wanted}
@@ -43,7 +44,7 @@ use Rattle.hc_model.specs.Rows.{Tables, Exchange, Consumer}
 use Rattle.hc_model.specs.Sound.{Sound}
 use Rattle.hc_model.specs.StartingOver.{starts_over}
 use Rattle.hc_model.specs.Tables.{after_accepted}
-use Rattle.hc_model.proofs.Basics.{false_true, and_left, and_right}
+use Rattle.hc_model.proofs.Basics.{false_true, none_some, and_left, and_right}
 use Rattle.hc_model.proofs.BoundFrom.{IsRow}
 use Rattle.hc_model.proofs.FirstKeeps.{is_new, case_is, is_opener}
 use Rattle.hc_model.proofs.Forward.{is_kept}
@@ -73,7 +74,7 @@ use Rattle.hc_model.proofs.Waiters.{fault_open_of}
 abbrev pub Stands : Place → Option ℕ → Request → Type 0
 Stands place.Line own request = own ≡ None
 Stands (place.Passed r None) own request = own ≡ None
-Stands (place.Passed r (Some x)) own request = Unit {0}
+Stands (place.Passed r (Some x)) own request = own ≡ Some x
 Stands (place.Turn x) own request = is_only request ≡ false
 Stands (place.Bound r lo hi by.Founding) own request = Unit {0}
 Stands (place.Bound r lo hi (by.FirstHole y)) own request = is_only request ≡ false
@@ -91,17 +92,24 @@ any_bound r lo hi by.Founding own other request st = tt
 any_bound r lo hi (by.FirstHole y) own other request st = st
 any_bound r lo hi by.Plan own other request st = tt
 
--- and whoever owns something may own nothing
-less : (b : Bool) (p : Place) (own : Option ℕ) (request : Request) → Stands p own request → Stands p (if b then None else own) request
-less false p own request st = st
-less true place.Line own request st = refl
-less true (place.Passed r None) own request st = refl
-less true (place.Passed r (Some x)) own request st = tt
-less true (place.Turn x) own request st = st
-less true (place.Bound r lo hi how) own request st = any_bound r lo hi how own None request st
-less true (place.Direct x) own request st = st
-less true (place.Down why) own request st = st
-less true place.Over own request st = tt
+-- and whoever owns something, but keeps no 304 of it, may own nothing
+less : (b : Bool) (p : Place) (own : Option ℕ) (request : Request) → KeptNone p → Stands p own request → Stands p (if b then None else own) request
+less false p own request bare st = st
+less true place.Line own request bare st = refl
+less true (place.Passed r None) own request bare st = refl
+less true (place.Passed r (Some x)) own request bare st = absurd bare
+less true (place.Turn x) own request bare st = st
+less true (place.Bound r lo hi how) own request bare st = any_bound r lo hi how own None request st
+less true (place.Direct x) own request bare st = st
+less true (place.Down why) own request bare st = st
+less true place.Over own request bare st = tt
+
+-- who waits for a head keeps none
+stands_bare : (x : ℕ) (k : Consumer) (way : Route) → StandsFor x k way → KeptNone k.place
+stands_bare x k _ (laws.direct at) = subst KeptNone (sym at) tt
+stands_bare x k _ (laws.has_turn at off) = subst KeptNone (sym at) tt
+stands_bare x k _ (laws.first r lo hi at off) = subst KeptNone (sym at) tt
+stands_bare x k _ (laws.later r lo hi how at on) = subst KeptNone (sym at) tt
 
 -- WHO WAITS FOR OTHERS
 
@@ -157,10 +165,13 @@ module _ (limits : Limits) (t : Tables) (now : ℕ) (flaw : Flaw) (s : Sound t) 
     by_stands x _ (laws.first r lo hi at off) = inl (subst (λ p. On p k.own) at st)
     by_stands x _ (laws.later r lo hi how at on) = inr on
 
-    asks_or_shown : (x : ℕ) (w : Exchange) → t.exchange x ≡ Some w → is_headless (Some w) ≡ true → w.c ≡ c → (is_only k.request ≡ false) ⊎ (k.shown ≡ true)
-    asks_or_shown x w exchange_row bare mine =
+    awaits : (x : ℕ) (w : Exchange) → t.exchange x ≡ Some w → is_headless (Some w) ≡ true → w.c ≡ c → StandsFor x k (route_of w.need) × (k.own ≡ Some x)
+    awaits x w exchange_row bare mine =
         let it = turns.awaited x w exchange_row bare in
-        by_stands x (route_of w.need) (subst (λ (q : Consumer). StandsFor x q (route_of w.need)) (same_row (t.consumer c) it.k k (sym (ap t.consumer mine) ∙ it.row) row) it.stands)
+        subst (λ (q : Consumer). StandsFor x q (route_of w.need) × (q.own ≡ Some x)) (same_row (t.consumer c) it.k k (sym (ap t.consumer mine) ∙ it.row) row) (it.stands, it.own)
+
+    asks_or_shown : (x : ℕ) (w : Exchange) → t.exchange x ≡ Some w → is_headless (Some w) ≡ true → w.c ≡ c → (is_only k.request ≡ false) ⊎ (k.shown ≡ true)
+    asks_or_shown x w exchange_row bare mine = by_stands x (route_of w.need) (awaits x w exchange_row bare mine).0
 
     bare_is : (w : Exchange) → w.is_open ≡ true → w.head ≡ None → is_headless (Some w) ≡ true
     bare_is w on bare = rw (on, bare) refl
@@ -174,12 +185,18 @@ module _ (limits : Limits) (t : Tables) (now : ℕ) (flaw : Flaw) (s : Sound t) 
       abbrev own_then : Option ℕ
       own_then = if becomes_shared t e response w (case_at t e) then None else k.own
 
-      kept_there : On k.place own_then
-      kept_there = less (becomes_shared t e response w (case_at t e)) k.place k.own k.request st
+      waits : StandsFor x k (route_of w.need) × (k.own ≡ Some x)
+      waits =
+          let new = is_new limits t now flaw s ev goes x response w here exchange_row in
+          awaits x w exchange_row (bare_is w new.is_open new.bare) mine
 
-      passed_there : (q : Option ℕ) → is_some q ≡ true → On (passed_on x q) own_then
-      passed_there None some = absurd (false_true some)
-      passed_there (Some r) some = tt
+      kept_there : On k.place own_then
+      kept_there = less (becomes_shared t e response w (case_at t e)) k.place k.own k.request (stands_bare x k (route_of w.need) waits.0) st
+
+      -- its 304 came from its own exchange
+      passed_there : (q : Option ℕ) → is_some q ≡ true → case_at t e ≡ Some case.Validated → On (passed_on x q) own_then
+      passed_there None some is = absurd (false_true some)
+      passed_there (Some r) some is = ap (λ (q : Option HeadCase). if becomes_shared t e response w q then None else k.own) is ∙ waits.1
 
       wanted_there : (q : Wanted) → is_only k.request ≡ false → On (bound_to_wanted x by.Founding (place.Direct x) q) own_then
       wanted_there (wanted.Interval span) asks = tt
@@ -190,7 +207,7 @@ module _ (limits : Limits) (t : Tables) (now : ℕ) (flaw : Flaw) (s : Sound t) 
       by_case asks _ (cases.direct_bad way h) is = asks
       by_case asks _ (cases.direct_taken way) is = kept_there
       by_case asks _ (cases.turn_bad way h) is = asks
-      by_case asks _ (cases.validated way h d l) is = passed_there w.aim (valid_aim t e x response w here exchange_row is)
+      by_case asks _ (cases.validated way h d l) is = passed_there w.aim (valid_aim t e x response w here exchange_row is) is
       by_case asks _ (cases.not_validated way h) is = kept_there
       by_case asks _ (cases.turn_server_error way) is = asks
       by_case asks _ (cases.founds_whole way h l f) is = tt
@@ -305,9 +322,14 @@ module _ (limits : Limits) (t : Tables) (now : ℕ) (flaw : Flaw) (s : Sound t) 
     passed_stands : (q : Option ℕ) (r : ℕ) → current t k.request.key ≡ Some r → q ≡ kept_by k.place → (KeptNone k.place → k.own ≡ None) → On (passed_by q (current t k.request.key)) k.own
     passed_stands q r is kept none = subst (λ z. On (passed_by q z) k.own) (sym is) (by_kept q kept)
       where
+        kept_own : (x : ℕ) (p : Place) → Some x ≡ kept_by p → On p k.own → k.own ≡ Some x
+        kept_own x (place.Passed q None) h on = absurd (none_some x (sym h))
+        kept_own x (place.Passed q (Some y)) h on = on ∙ sym h
+        kept_own x _ h on = absurd (none_some x (sym h))
+
         by_kept : (y : Option ℕ) → y ≡ kept_by k.place → On (place.Passed r y) k.own
         by_kept None h = none (kept_none k.place (λ passed. sym h))
-        by_kept (Some x) h = tt
+        by_kept (Some x) h = kept_own x k.place h st
 
     waits_stands : (z : Option Wait) → wait_in c e.acts ≡ z → On (waiting_place t k z) k.own
     waits_stands None told = st

@@ -44,4 +44,7 @@ pub mod StoredHeads
 pub mod Places
 pub mod Endings
 pub mod Whose
+pub mod Passed
+pub mod Given
 pub mod Laws
+pub mod Numbers

@@ -5,11 +5,14 @@ ghost use Rattle.hc_model.specs.Keys.{IsOfOneKey, LawOfOneKey, KeysAreKept, Keys
 ghost use Rattle.hc_model.specs.Laws.{SoundDeliversOnce, DeliveriesAreKept, BodiesAreKept, NumbersAreKept, NamesAreKept, OneCurrentIsKept, StoresAreKept, StartsAreSound, WholeIsWhole, AfterEach, AreBound, KnowEnds, OwnedAfterEach, AreToBeShown, OwedAfterEach, OwnersAreKnown, TurnsAreOne, TurnsAreKept, TurnsBegin, HasOneTurn, KeysInRuns, BarrierIsKept, BarrierBegins, DoomsInRuns, TruncatedIsFront, IsTruthful, TurnsGo, ReadersGo, FewGiveWay, AreRead, AreUndue, ReadAbout, MeasuredAfterEach, BeginningsAreMeasured, AreGrowing, KeptByEntries, AreServed, AreHad, SurvivorsGoOn, BeginningsAreStarts, AfterDenials, OfRuns, OfRunsIn, LeavesInRuns, DeliversOnce, BodiesGrowInRuns, WaitsEnd, FitsInRuns, FewInRuns};
 ghost use Rattle.hc_model.specs.Owners.{Owners};
 ghost use Rattle.hc_model.specs.Endings.{Endings};
+ghost use Rattle.hc_model.specs.Given.{Given};
 ghost use Rattle.hc_model.specs.Measures.{Measures};
+ghost use Rattle.hc_model.specs.Numbers.{NumbersInRuns};
 ghost use Rattle.hc_model.specs.Orders.{InOrder};
 ghost use Rattle.hc_model.specs.Origins.{Origins};
 ghost use Rattle.hc_model.specs.Sizes.{Sizes};
 ghost use Rattle.hc_model.specs.StoredHeads.{StoredHeads, Tags};
+ghost use Rattle.hc_model.specs.Passed.{Passed};
 ghost use Rattle.hc_model.specs.Places.{Places};
 ghost use Rattle.hc_model.specs.Whose.{Whose};
 ghost use Rattle.hc_model.specs.Sound.{OneFirst, Sound, RunsAreSound};
@@ -242,6 +245,25 @@ pub fn endings_are_known()
 /// what nobody is bound to none is open, and what is written is of the key of who asked for it.
 pub fn exchanges_are_somebodys()
     ensures { OfRuns Whose }
+{}
+
+/// Who was let through waits for what is current for its key, and the 304 that it kept came from its own exchange,
+/// which is over, in every run; who kept none owns none.
+pub fn passed_wait_for_current()
+    ensures { OfRuns Passed }
+{}
+
+/// What a reader was given stands in the body from where it began, so not past what came, and not past its end, in every
+/// run; whose end isn't known began at the first position.
+pub fn given_bytes_are_there()
+    ensures { OfRuns Given }
+{}
+
+/// Numbers stay small, in every run from contents whose lengths heads can tell: what heads tell ends by 2^62, and
+/// what none tells is no more than was received. So of the end of a promise, of fronts, known lengths and reaches,
+/// and of where a consumer begins and ends to read.
+pub fn numbers_stay_small()
+    ensures { NumbersInRuns }
 {}
 
 /// A denied entry leaves sound tables sound, owners known and bodies measured.

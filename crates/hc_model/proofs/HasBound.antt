@@ -105,7 +105,7 @@ bound_at t r d k (place.Direct x) row at h = absurd (false_true h)
 bound_at t r d k (place.Down cause) row at h = absurd (false_true h)
 bound_at t r d k place.Over row at h = absurd (false_true h)
 
-bound_row : (t : Tables) (r d : ℕ) (z : Option Consumer) → t.consumer d ≡ z → is_bound r z ≡ true → (k : Consumer) × IsBound t r d k
+pub bound_row : (t : Tables) (r d : ℕ) (z : Option Consumer) → t.consumer d ≡ z → is_bound r z ≡ true → (k : Consumer) × IsBound t r d k
 bound_row t r d None row h = absurd (false_true h)
 bound_row t r d (Some k) row h = (k, bound_at t r d k k.place row refl h)
 

@@ -180,3 +180,5 @@ pub mod PassedRuns
 pub mod GivenRuns
 pub mod ToldNumbers
 pub mod NumberRuns
+pub mod Lone
+pub mod AloneRuns

@@ -133,7 +133,7 @@ pub record HasRest (t : Tables) (v : Representation) (k : Consumer) : Type 0 whe
   pub end : hi_of t k.place ≡ Some hi
   pub covered : Covers v.stored (offset t k) hi
 
-no_more : (t : Tables) (v : Representation) (k : Consumer) (o : Option ℕ) → hi_of t k.place ≡ o → is_some o ≡ true → lacks_some v (offset t k) o ≡ false → HasRest t v k
+pub no_more : (t : Tables) (v : Representation) (k : Consumer) (o : Option ℕ) → hi_of t k.place ≡ o → is_some o ≡ true → lacks_some v (offset t k) o ≡ false → HasRest t v k
 no_more t v k None is some none = absurd (let never : false ≡ true = some in cc)
 no_more t v k (Some hi) is some none = record { hi = hi; end = is; covered = covers_all v.stored v.reach (offset t k) hi (not_false (covers v.stored v.reach (offset t k) hi) none) }
   where
@@ -141,11 +141,11 @@ no_more t v k (Some hi) is some none = record { hi = hi; end = is; covered = cov
     not_false true h = refl
     not_false false h = absurd (let never : true ≡ false = h in cc)
 
-or_right : (a b : Bool) → (a || b) ≡ false → b ≡ false
+pub or_right : (a b : Bool) → (a || b) ≡ false → b ≡ false
 or_right true b h = absurd (let never : true ≡ false = h in cc)
 or_right false b h = h
 
-or_end : (hi o : Option ℕ) → is_some hi ≡ true → is_some (option_or hi o) ≡ true
+pub or_end : (hi o : Option ℕ) → is_some hi ≡ true → is_some (option_or hi o) ≡ true
 or_end None o some = absurd (let never : false ≡ true = some in cc)
 or_end (Some n) o some = refl
 

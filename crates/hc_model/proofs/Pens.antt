@@ -22,7 +22,7 @@ filter_some test c (d ∷ cs) (inr there) passes = elim (bool_cases (test d)) [
   | inr not_also ↦ λ e. filter_some test c cs there passes (rw not_also at e)
 ]
 
-eq-refl : (r : ℕ) → Rattle.std.specs.Prelude.nat_eq r r ≡ true
+pub eq-refl : (r : ℕ) → Rattle.std.specs.Prelude.nat_eq r r ≡ true
 eq-refl r = grind (arith, nat_tests)
 
 -- who is bound is among the bound
@@ -63,7 +63,7 @@ unfolding is_written
 writer_some t v on none = and_false (not v.is_lost) (rw none at on)
 
 -- who is bound to what is written by several has a source
-shares_source : (t : Tables) (r c : ℕ) (v : Representation) (k : Consumer) (o : Option ℕ) → t.representation r ≡ Some v → IsBound t r c k → is_written t v ≡ true → v.writer ≡ o → source t k ≢ None
+pub shares_source : (t : Tables) (r c : ℕ) (v : Representation) (k : Consumer) (o : Option ℕ) → t.representation r ≡ Some v → IsBound t r c k → is_written t v ≡ true → v.writer ≡ o → source t k ≢ None
 shares_source t r c v k None row is_reader on writer = absurd (writer_some t v on writer)
 shares_source t r c v k (Some x) row (sound.is_bound lo hi how is place) on writer =
     let from : shared t k.place ≡ Some x = rw (place, row, on) writer in

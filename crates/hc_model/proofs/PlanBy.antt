@@ -24,13 +24,14 @@ pub record JoinsWriting (v : PlanView) : Type 0 where
   pub current : v.current ≡ Some s
   pub writing : s.writing ≡ true
 
--- an interval is wanted of what is current, which nobody writes for several, and is stored but for this hole
+-- an interval is wanted of what is current, which nobody writes, alone or for several, and is stored but for this hole
 pub record IsAlone (v : PlanView) (span : Span) (hole : Option Span) : Type 0 where
   pub s : Candidate
   pub current : v.current ≡ Some s
   pub wanted_is : s.span ≡ wanted.Interval span
   pub unwritten : s.writing ≡ false
   pub hole_is : s.hole ≡ hole
+  pub nobody : s.exclusive ≡ None
 
 pub data PlanBy (v : PlanView) : Plan → Type 0 where
   turn : (d : ℕ) → PlanBy v (plan.Turn d)
@@ -55,22 +56,22 @@ vary_bypass : need.Vary ≡ need.Bypass → ⊥
 vary_bypass is = cc
 
 module _ (v : PlanView) (cached : v.class.disabled ≡ false) (plain : v.class.bypassing ≡ false) (s : Candidate) (current : v.current ≡ Some s) where
-  bound_by : (span hole : Span) (o : Option ℕ) → s.span ≡ wanted.Interval span → s.writing ≡ false → s.hole ≡ Some hole → s.least_bound ≡ o → PlanBy v (by_bound v span hole o)
-  bound_by span hole None at off found nobody = fills span hole cached (record { s = s; current = current; wanted_is = at; unwritten = off; hole_is = found }) nobody
-  bound_by span hole (Some d) at off found nobody = busy d v.kept plain
+  bound_by : (span hole : Span) (o : Option ℕ) → s.span ≡ wanted.Interval span → s.writing ≡ false → s.exclusive ≡ None → s.hole ≡ Some hole → s.least_bound ≡ o → PlanBy v (by_bound v span hole o)
+  bound_by span hole None at off free found nobody = fills span hole cached (record { s = s; current = current; wanted_is = at; unwritten = off; hole_is = found; nobody = free }) nobody
+  bound_by span hole (Some d) at off free found nobody = busy d v.kept plain
 
-  hole_by : (why : Why) (span : Span) (o : Option Span) → s.span ≡ wanted.Interval span → s.writing ≡ false → s.hole ≡ o → PlanBy v (by_hole v s why span o)
-  hole_by why span None at off found = reads why span cached (record { s = s; current = current; wanted_is = at; unwritten = off; hole_is = found })
-  hole_by why span (Some hole) at off found = bound_by span hole s.least_bound at off found refl
+  hole_by : (why : Why) (span : Span) (o : Option Span) → s.span ≡ wanted.Interval span → s.writing ≡ false → s.exclusive ≡ None → s.hole ≡ o → PlanBy v (by_hole v s why span o)
+  hole_by why span None at off free found = reads why span cached (record { s = s; current = current; wanted_is = at; unwritten = off; hole_is = found; nobody = free })
+  hole_by why span (Some hole) at off free found = bound_by span hole s.least_bound at off free found refl
 
-  exclusive_by : (why : Why) (span : Span) (o : Option ℕ) → s.span ≡ wanted.Interval span → s.writing ≡ false → PlanBy v (by_exclusive v s why span o)
-  exclusive_by why span None at off = hole_by why span s.hole at off refl
-  exclusive_by why span (Some d) at off = busy d v.kept plain
+  exclusive_by : (why : Why) (span : Span) (o : Option ℕ) → s.span ≡ wanted.Interval span → s.writing ≡ false → s.exclusive ≡ o → PlanBy v (by_exclusive v s why span o)
+  exclusive_by why span None at off free = hole_by why span s.hole at off free refl
+  exclusive_by why span (Some d) at off taken = busy d v.kept plain
 
   wanted_by : (why : Why) (w : Wanted) → s.span ≡ w → PlanBy v (by_wanted v s why w)
   wanted_by why wanted.TotalUnknown at = busy _ _ plain
   wanted_by why wanted.Unsatisfiable at = passes_by need.Unsatisfied refl
-  wanted_by why (wanted.Interval span) at = either (PlanBy v) s.writing _ _ (λ on. busy _ _ plain) (λ off. exclusive_by why span s.exclusive at off)
+  wanted_by why (wanted.Interval span) at = either (PlanBy v) s.writing _ _ (λ on. busy _ _ plain) (λ off. exclusive_by why span s.exclusive at off refl)
 
   on_by : (why : Why) → PlanBy v (plan_on v s why)
   on_by why = either (PlanBy v) (is_none v.class.range && s.writing) _ _ (λ h. joins why cached (record { s = s; current = current; writing = and_right (is_none v.class.range) s.writing h })) (λ h. wanted_by why s.span refl)

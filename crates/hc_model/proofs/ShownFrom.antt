@@ -26,9 +26,10 @@ use Rattle.hc_model.specs.Reading.{is_written, bound, bound_to, reads}
 use Rattle.hc_model.specs.Rows.{Tables, Representation, Consumer}
 use Rattle.hc_model.specs.Sound.{Sound}
 use Rattle.hc_model.specs.Writers.{exclusive}
-use Rattle.hc_model.proofs.Basics.{none_some}
+use Rattle.hc_model.proofs.Basics.{false_true, none_some}
 use Rattle.hc_model.proofs.MoveBy.{MoveBy, IsHeard, move_by}
 use Rattle.hc_model.proofs.MoveBy as by
+use Rattle.hc_model.proofs.Pens.{same_row}
 use Rattle.hc_model.proofs.PieceKeeps.{some_inj}
 use Rattle.hc_model.proofs.PlanBy.{PlanBy, plan_by}
 use Rattle.hc_model.proofs.PlanBy as plans
@@ -81,6 +82,10 @@ module _ (t : Tables) (now c : ℕ) (k : Consumer) where
     joins : (v : Representation) → current t k.request.key ≡ Some r → t.representation r ≡ Some v → is_written t v ≡ true → lo ≡ 0 → hi ≡ v.head.total → ShownAs r lo hi
     stored : (v : Representation) (span : Span) → current t k.request.key ≡ Some r → t.representation r ≡ Some v → is_written t v ≡ false → wanted_of (range_of k.request) v.head.total ≡ wanted.Interval span → first_hole v.stored v.reach span ≡ None → lo ≡ span.lo → hi ≡ Some span.hi → ShownAs r lo hi
 
+  -- where r isn't written for several, nobody writes it alone
+  abbrev pub IsFreeOf : ℕ → Type 0
+  IsFreeOf r = (v : Representation) → t.representation r ≡ Some v → is_written t v ≡ false → exclusive t r v ≡ None
+
   module _ (r lo : ℕ) (hi : Option ℕ) (why : Why) (head : Response) where
     abbrev show : Move
     show = Shows r why head lo hi
@@ -102,7 +107,7 @@ module _ (t : Tables) (now c : ℕ) (k : Consumer) where
     stored_shows q y ranged a b None is = absurd (nothing_shows is)
     stored_shows q y ranged a b (Some v) is = record { number = cc; from = cc; to = cc }
 
-    joined : (y : Why) (s : plans.JoinsWriting (plan_view t now c k)) (o : Option ℕ) → current t k.request.key ≡ o → binds_current t k y None o ≡ show → ShownAs r lo hi
+    joined : (y : Why) (s : plans.JoinsWriting (plan_view t now c k)) (o : Option ℕ) → current t k.request.key ≡ o → binds_current t k y None o ≡ show → ShownAs r lo hi × IsFreeOf r
     joined y j None at is = absurd (nothing_shows is)
     joined y j (Some q) at is =
         let a = candidate_is j.s j.current in
@@ -111,9 +116,12 @@ module _ (t : Tables) (now c : ℕ) (k : Consumer) where
         let same : a.r ≡ r = sym one ∙ shown.number in
         let row : t.representation r ≡ Some a.v = ap t.representation (sym same) ∙ a.row in
         let total : total_in (t.representation q) ≡ a.v.head.total = ap total_in (ap t.representation one ∙ a.row) in
-        joins a.v (at ∙ ap Some shown.number) row (sym a.writing_is ∙ j.writing) (sym shown.from) (sym shown.to ∙ total)
+        let on : is_written t a.v ≡ true = sym a.writing_is ∙ j.writing in (
+          joins a.v (at ∙ ap Some shown.number) row on (sym shown.from) (sym shown.to ∙ total),
+          λ v there off. absurd (false_true (sym off ∙ (ap (is_written t) (same_row (t.representation r) v a.v there row) ∙ on))),
+        )
 
-    read : (y : Why) (span : Span) (j : plans.IsAlone (plan_view t now c k) span None) (o : Option ℕ) → current t k.request.key ≡ o → binds_current t k y (Some span) o ≡ show → ShownAs r lo hi
+    read : (y : Why) (span : Span) (j : plans.IsAlone (plan_view t now c k) span None) (o : Option ℕ) → current t k.request.key ≡ o → binds_current t k y (Some span) o ≡ show → ShownAs r lo hi × IsFreeOf r
     read y span j None at is = absurd (nothing_shows is)
     read y span j (Some q) at is =
         let a = candidate_is j.s j.current in
@@ -121,21 +129,23 @@ module _ (t : Tables) (now c : ℕ) (k : Consumer) where
         let one : q ≡ a.r = some_inj q a.r (sym at ∙ a.current_is) in
         let same : a.r ≡ r = sym one ∙ shown.number in
         let row : t.representation r ≡ Some a.v = ap t.representation (sym same) ∙ a.row in
-        let hole : first_hole a.v.stored a.v.reach span ≡ None = sym (ap (hole_of a.v) j.wanted_is) ∙ (sym a.hole_is ∙ j.hole_is) in
-        stored a.v span (at ∙ ap Some shown.number) row (sym a.writing_is ∙ j.unwritten) (sym a.span_is ∙ j.wanted_is) hole (sym shown.from) (sym shown.to)
+        let hole : first_hole a.v.stored a.v.reach span ≡ None = sym (ap (hole_of a.v) j.wanted_is) ∙ (sym a.hole_is ∙ j.hole_is) in (
+          stored a.v span (at ∙ ap Some shown.number) row (sym a.writing_is ∙ j.unwritten) (sym a.span_is ∙ j.wanted_is) hole (sym shown.from) (sym shown.to),
+          λ v there off. ap (exclusive t r) (same_row (t.representation r) v a.v there row) ∙ (ap (λ n. exclusive t n a.v) (sym same) ∙ (sym a.exclusive_is ∙ j.nobody)),
+        )
 
     cached_is : (plan_view t now c k).class.disabled ≡ false → is_disabled k.request ≡ false
     unfolding class_of
     cached_is h = h
 
-    by_plan : (p : Plan) → PlanBy (plan_view t now c k) p → plan_move t k p ≡ show → (is_disabled k.request ≡ false) × ShownAs r lo hi
+    by_plan : (p : Plan) → PlanBy (plan_view t now c k) p → plan_move t k p ≡ show → (is_disabled k.request ≡ false) × ShownAs r lo hi × IsFreeOf r
     by_plan _ (plans.turn d) is = absurd (let never : moves.Waits (wait.Turn d) ≡ show = is in cc)
     by_plan _ (plans.busy d kept plain) is = absurd (let never : moves.Waits (wait.Busy d) ≡ show = is in cc)
     by_plan _ plans.misses is = absurd (let never : Fails cause.Miss ≡ show = is in cc)
     by_plan _ (plans.passes_by n way) is = absurd (let never : moves.Opens (t.opened + 1) n k.request ≡ show = is in cc)
     by_plan _ (plans.fetches n way plain bypass cached) is = absurd (let never : moves.Opens (t.opened + 1) n (fetched t k n) ≡ show = is in cc)
-    by_plan _ (plans.joins why cached j) is = (cached_is cached, joined why j (current t k.request.key) refl is)
-    by_plan _ (plans.reads why span cached j) is = (cached_is cached, read why span j (current t k.request.key) refl is)
+    by_plan _ (plans.joins why cached j) is = let both = joined why j (current t k.request.key) refl is in (cached_is cached, both.0, both.1)
+    by_plan _ (plans.reads why span cached j) is = let both = read why span j (current t k.request.key) refl is in (cached_is cached, both.0, both.1)
     by_plan _ (plans.fills span hole cached j nobody) is = absurd (hole_shows k.request _ hole is)
 
     -- who reads nothing isn't shown a head that is there for who reads
@@ -148,7 +158,7 @@ module _ (t : Tables) (now c : ℕ) (k : Consumer) where
     unread (place.Down why_down) free is = none_some show is
     unread place.Over free is = none_some show is
 
-    by_move : (want : ℕ) (m : Move) → MoveBy t now want c k m → m ≡ move_of t now want c k → m ≡ show → reads k.place ≡ false → (k.shown ≡ false) × (bound_to k.place ≡ None) × IsHeard t k × ((is_disabled k.request ≡ false) × ShownAs r lo hi)
+    by_move : (want : ℕ) (m : Move) → MoveBy t now want c k m → m ≡ move_of t now want c k → m ≡ show → reads k.place ≡ false → (k.shown ≡ false) × (bound_to k.place ≡ None) × IsHeard t k × ((is_disabled k.request ≡ false) × ShownAs r lo hi × IsFreeOf r)
     by_move want m (by.shows _ shown at) here is free = absurd (unread k.place free (at ∙ ap Some is))
     by_move want _ (by.waits x own bare) here is free = absurd (let never : moves.Waits (wait.Head x) ≡ show = is in cc)
     by_move want _ (by.down why_down at) here is free = absurd (let never : Fails why_down ≡ show = is in cc)
@@ -167,9 +177,10 @@ module _ (t : Tables) (now c : ℕ) (k : Consumer) where
     pub heard : IsHeard t k
     pub shown_as : ShownAs z.r z.lo z.hi
     pub cached : is_disabled k.request ≡ false
+    pub lone : IsFreeOf z.r
 
   pub shown_from : (want : ℕ) (z : Showing) → Sound t → t.consumer c ≡ Some k → IsShowing z (move_of t now want c k) → reads k.place ≡ false → IsPlanned z
   shown_from want z s row show free =
       let is = showing_is z (move_of t now want c k) show in
       let all = by_move z.r z.lo z.hi is.0 is.1 want (move_of t now want c k) (move_by t now want c k s row) refl is.2 free in
-      record { unshown = all.0; free = all.1; heard = all.2; shown_as = all.3.1; cached = all.3.0 }
+      record { unshown = all.0; free = all.1; heard = all.2; shown_as = all.3.1; cached = all.3.0; lone = all.3.2 }

@@ -46,5 +46,6 @@ pub mod Endings
 pub mod Whose
 pub mod Passed
 pub mod Given
+pub mod Alone
 pub mod Laws
 pub mod Numbers

@@ -4,6 +4,7 @@ ghost use Rattle.hc_model.specs.Reads.{OneHeadIsShown, BodiesAreRead, GivesNext,
 ghost use Rattle.hc_model.specs.Keys.{IsOfOneKey, LawOfOneKey, KeysAreKept, KeysBegin};
 ghost use Rattle.hc_model.specs.Laws.{SoundDeliversOnce, DeliveriesAreKept, BodiesAreKept, NumbersAreKept, NamesAreKept, OneCurrentIsKept, StoresAreKept, StartsAreSound, WholeIsWhole, AfterEach, AreBound, KnowEnds, OwnedAfterEach, AreToBeShown, OwedAfterEach, OwnersAreKnown, TurnsAreOne, TurnsAreKept, TurnsBegin, HasOneTurn, KeysInRuns, BarrierIsKept, BarrierBegins, DoomsInRuns, TruncatedIsFront, IsTruthful, TurnsGo, ReadersGo, FewGiveWay, AreRead, AreUndue, ReadAbout, MeasuredAfterEach, BeginningsAreMeasured, AreGrowing, KeptByEntries, AreServed, AreHad, SurvivorsGoOn, BeginningsAreStarts, AfterDenials, OfRuns, OfRunsIn, LeavesInRuns, DeliversOnce, BodiesGrowInRuns, WaitsEnd, FitsInRuns, FewInRuns};
 ghost use Rattle.hc_model.specs.Owners.{Owners};
+ghost use Rattle.hc_model.specs.Alone.{Alone};
 ghost use Rattle.hc_model.specs.Endings.{Endings};
 ghost use Rattle.hc_model.specs.Given.{Given};
 ghost use Rattle.hc_model.specs.Measures.{Measures};
@@ -264,6 +265,13 @@ pub fn given_bytes_are_there()
 /// and of where a consumer begins and ends to read.
 pub fn numbers_stay_small()
     ensures { NumbersInRuns }
+{}
+
+/// Who writes a representation alone is the only one that is bound to it, and came alone, until it is lost, in every
+/// run. Whoever came alone and has no failure due, while it isn't written for several, writes it exactly where it has
+/// an exchange of its own, or a hole ahead.
+pub fn writers_are_alone()
+    ensures { OfRuns Alone }
 {}
 
 /// A denied entry leaves sound tables sound, owners known and bodies measured.

@@ -80,7 +80,7 @@ any_none test c [] among h = absurd among
 any_none test c (d ∷ cs) (inl here) h = ap test (sym here) ∙ (or_false (test d) (list_any test cs) h).0
 any_none test c (d ∷ cs) (inr there) h = any_none test c cs there (or_false (test d) (list_any test cs) h).1
 
-any_some : (test : ℕ → Bool) (c : ℕ) (cs : List ℕ) → Among c cs → test c ≡ true → list_any test cs ≡ true
+pub any_some : (test : ℕ → Bool) (c : ℕ) (cs : List ℕ) → Among c cs → test c ≡ true → list_any test cs ≡ true
 any_some test c [] among h = absurd among
 any_some test c (d ∷ cs) (inl here) h = rw (ap test here ∙ h) refl
 any_some test c (d ∷ cs) (inr there) h = by_test (test d) (any_some test c cs there h)

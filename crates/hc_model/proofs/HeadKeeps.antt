@@ -55,7 +55,7 @@ aimed_by : (t : Tables) (w : Exchange) (o : Option ℕ) (v : Representation) →
 aimed_by t w None v aim is = absurd (let never : None ≡ Some v = is in cc)
 aimed_by t w (Some r) v aim is = record { r = r; v = v; aim = aim; row = is }
 
-is_aimed : (t : Tables) (w : Exchange) (response : Response) → IsJoin t w response → IsAimed t w
+pub is_aimed : (t : Tables) (w : Exchange) (response : Response) → IsJoin t w response → IsAimed t w
 is_aimed t w response j = aimed_by t w w.aim j.fills.v refl j.fills.row
 
 -- positions that a joining exchange is to bring are of its hole

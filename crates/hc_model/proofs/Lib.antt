@@ -182,3 +182,4 @@ pub mod ToldNumbers
 pub mod NumberRuns
 pub mod Lone
 pub mod AloneRuns
+pub mod GrowingRuns

@@ -47,5 +47,6 @@ pub mod Whose
 pub mod Passed
 pub mod Given
 pub mod Alone
+pub mod Growing
 pub mod Laws
 pub mod Numbers

@@ -7,6 +7,7 @@ ghost use Rattle.hc_model.specs.Owners.{Owners};
 ghost use Rattle.hc_model.specs.Alone.{Alone};
 ghost use Rattle.hc_model.specs.Endings.{Endings};
 ghost use Rattle.hc_model.specs.Given.{Given};
+ghost use Rattle.hc_model.specs.Growing.{Growing, StopsInRuns};
 ghost use Rattle.hc_model.specs.Measures.{Measures};
 ghost use Rattle.hc_model.specs.Numbers.{NumbersInRuns};
 ghost use Rattle.hc_model.specs.Orders.{InOrder};
@@ -272,6 +273,13 @@ pub fn numbers_stay_small()
 /// an exchange of its own, or a hole ahead.
 pub fn writers_are_alone()
     ensures { OfRuns Alone }
+{}
+
+/// One open exchange at most brings a representation, in every run, and what isn't gone has a known length, or is
+/// brought by the one that founded it, for several. Where the exchange stops that brings it, nothing brings it any more.
+pub fn one_exchange_brings_it()
+    ensures runs { OfRuns Growing }
+    ensures stops { StopsInRuns }
 {}
 
 /// A denied entry leaves sound tables sound, owners known and bodies measured.

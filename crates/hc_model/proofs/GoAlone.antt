@@ -117,7 +117,7 @@ resumed_of t e response w (Some case.LaterBad) j h = absurd (false_true j)
 resumed_of t e response w (Some case.LaterChanged) j h = absurd (false_true j)
 
 -- an exchange without a head has no front
-bare_front : (z : Exchange) → z.head ≡ None → z.body ≡ [] → front z ≡ 0
+pub bare_front : (z : Exchange) → z.head ≡ None → z.body ≡ [] → front z ≡ 0
 bare_front z bare empty =
     let first : base z ≡ 0 = ap (λ l. Rattle.hc_rules.specs.Lengths.base_of l) (ap (length_by z) bare) in
     let none_yet : length z.body ≡ 0 = ap (λ (b : List ℕ). length b) empty in
@@ -139,7 +139,7 @@ module _ (limits : Limits) (t : Tables) (now : ℕ) (flaw : Flaw) (s : Sound t) 
   now_on = after_accepted t e
 
   -- what is lost isn't stored any more
-  stored_same : (r : ℕ) (v p : Representation) → IsKept t e r v p → (v.is_lost || loses_in r e.acts) ≡ true → p.stored ≡ v.stored
+  pub stored_same : (r : ℕ) (v p : Representation) → IsKept t e r v p → (v.is_lost || loses_in r e.acts) ≡ true → p.stored ≡ v.stored
   stored_same r v p kept lost = by_fills (fills t e r v p kept)
     where
       by_fills : Fills t e r v p → p.stored ≡ v.stored
@@ -257,19 +257,23 @@ module _ (limits : Limits) (t : Tables) (now : ℕ) (flaw : Flaw) (s : Sound t) 
           by_fills (fills_by.more y bytes a is body_is stored_is reach_is) = absurd (let no : event.Poll d want ≡ event.Piece y bytes = sym polls ∙ is.at in cc)
 
       -- a writing that is left to it is lost now
-      left_loses : (x : ℕ) (q : Consumer) → t.consumer c ≡ Some q → own.IsLeft t e c x (consumer_heard t e c ev q).place → (is_written t v ≡ true) × (loses_in r e.acts ≡ true)
-      left_loses x q q_row l =
+      pub left_number : (x : ℕ) (q : Consumer) → t.consumer c ≡ Some q → (l : own.IsLeft t e c x (consumer_heard t e c ev q).place) → l.r ≡ r
+      left_number x q q_row l =
           let brings_one : brings_body ev ≡ true = and_left _ _ (and_left _ _ l.loses) in
           let placed : u.place ≡ (consumer_heard t e c ev k).place = heard_place limits t now flaw s o ev goes c r lo hi how k u (λ d want polls. false_true (sym (ap brings_body polls) ∙ brings_one)) row in
           let one : q ≡ k = same_row (t.consumer c) q k q_row row.row in
           let at_l : (consumer_heard t e c ev k).place ≡ place.Bound l.r l.lo l.hi l.how = ap (λ (b : Consumer). (consumer_heard t e c ev b).place) (sym one) ∙ l.at in
-          let number : l.r ≡ r = (from.place_inj l.r l.lo l.hi l.how r lo hi how (sym at_l ∙ (sym placed ∙ stands))).number in
+          (from.place_inj l.r l.lo l.hi l.how r lo hi how (sym at_l ∙ (sym placed ∙ stands))).number
+
+      pub left_loses : (x : ℕ) (q : Consumer) → t.consumer c ≡ Some q → own.IsLeft t e c x (consumer_heard t e c ev q).place → (is_written t v ≡ true) × (loses_in r e.acts ≡ true)
+      left_loses x q q_row l =
+          let number : l.r ≡ r = left_number x q q_row l in
           let same_v : l.v ≡ v = same_row (t.representation r) l.v v (sym (ap t.representation number) ∙ l.row) there in
           (ap (is_written t) (sym same_v) ∙ and_right _ _ l.loses, ap (λ n. loses_in n e.acts) (sym number) ∙ and_right _ _ (and_left _ _ l.loses))
 
       -- IT WENT ON ALONE
 
-      unwritten_lost : v.is_lost ≡ true → is_written t v ≡ false
+      pub unwritten_lost : v.is_lost ≡ true → is_written t v ≡ false
       unfolding is_written
       unwritten_lost lost = rw lost refl
 
@@ -408,14 +412,14 @@ module _ (limits : Limits) (t : Tables) (now : ℕ) (flaw : Flaw) (s : Sound t) 
 
     -- IT BECAME BOUND
 
-    opens_not : (k : Consumer) (q : Opening) → IsRow t e c r lo hi how k u → opening_in e.acts ≡ Some q → q.c ≡ c → bound_to (waiting t e c (consumer_heard t e c ev k)).place ≡ None → from.IsFirstHole t e c r lo hi how q (waiting t e c (consumer_heard t e c ev k)) → RepFrom t e r p → ⊥
+    pub opens_not : (k : Consumer) (q : Opening) → IsRow t e c r lo hi how k u → opening_in e.acts ≡ Some q → q.c ≡ c → bound_to (waiting t e c (consumer_heard t e c ev k)).place ≡ None → from.IsFirstHole t e c r lo hi how q (waiting t e c (consumer_heard t e c ev k)) → RepFrom t e r p → ⊥
     opens_not k q row opens mine free hole (rep.founded response w none_there here exchange_row on is_made) = false_true (ap (λ (b : Representation). b.is_lost) is_made ∙ lost_now)
     opens_not k q row opens mine free hole (rep.was v kept) =
         let by_poll = is_opened limits t now flaw s o ev goes q opens in
         let opener = is_opener limits t now flaw s ev goes c k q row.row opens mine in
         not_alone limits t now flaw s o m i ev goes real r c v p k row.row (sym (ap bound_to opener.place_is) ∙ free) kept.row (current_stays t _ r v hole.current_is kept.row) (ap brings_body by_poll.at) kept lost_now is_alone
 
-    shown_not : (k : Consumer) (a : Showing) → IsRow t e c r lo hi how k u → showing_in e.acts ≡ Some a → IsShown t e c r lo hi how a (by_opening t c (opening_in e.acts) (waiting t e c (consumer_heard t e c ev k))).place → RepFrom t e r p → ⊥
+    pub shown_not : (k : Consumer) (a : Showing) → IsRow t e c r lo hi how k u → showing_in e.acts ≡ Some a → IsShown t e c r lo hi how a (by_opening t c (opening_in e.acts) (waiting t e c (consumer_heard t e c ev k))).place → RepFrom t e r p → ⊥
     shown_not k a row is all (rep.founded response w none_there here exchange_row on is_made) = false_true (ap (λ (b : Representation). b.is_lost) is_made ∙ lost_now)
     shown_not k a row is all (rep.was v kept) =
         not_alone limits t now flaw s o m i ev goes real r c v p k row.row planned.free kept.row (current_v planned.shown_as) (ap brings_body shows.poll.at) kept lost_now is_alone
@@ -430,7 +434,7 @@ module _ (limits : Limits) (t : Tables) (now : ℕ) (flaw : Flaw) (s : Sound t) 
         current_v (shown_as.joins q current_is q_row on from_is to) = current_stays t _ r v (current_is ∙ ap Some all.of_r) kept.row
         current_v (shown_as.stored q span current_is q_row off wanted_is none_is from_is to) = current_stays t _ r v (current_is ∙ ap Some all.of_r) kept.row
 
-    founds_not : (x : ℕ) (response : Response) (w : Exchange) → ev ≡ event.Head x response → t.exchange x ≡ Some w → x ≡ r → RepFrom t e r p → ⊥
+    pub founds_not : (x : ℕ) (response : Response) (w : Exchange) → ev ≡ event.Head x response → t.exchange x ≡ Some w → x ≡ r → RepFrom t e r p → ⊥
     founds_not x response w here exchange_row of_it (rep.founded answer z none_there also row_too on is_made) = false_true (ap (λ (b : Representation). b.is_lost) is_made ∙ lost_now)
     founds_not x response w here exchange_row of_it (rep.was v kept) = none_some v (sym (is_new limits t now flaw s ev goes x response w here exchange_row).unfounded ∙ (ap t.representation of_it ∙ kept.row))
 
@@ -441,7 +445,7 @@ module _ (limits : Limits) (t : Tables) (now : ℕ) (flaw : Flaw) (s : Sound t) 
     by_way (from.opens k q row opens mine free way hole) from_rep = absurd (opens_not k q row opens mine free hole from_rep)
     by_way (from.shows k a row is all) from_rep = absurd (shown_not k a row is all from_rep)
 
-  lost_of : (r c : ℕ) (p : Representation) → now_on.representation r ≡ Some p → p.alone ≡ Some c → p.is_lost ≡ true
+  pub lost_of : (r c : ℕ) (p : Representation) → now_on.representation r ≡ Some p → p.alone ≡ Some c → p.is_lost ≡ true
   lost_of r c p after is_alone = by_test p.is_lost refl
     where
       by_test : (b : Bool) → p.is_lost ≡ b → b ≡ true

@@ -183,3 +183,6 @@ pub mod NumberRuns
 pub mod Lone
 pub mod AloneRuns
 pub mod GrowingRuns
+pub mod BringsRuns
+pub mod Tails
+pub mod LossRuns

@@ -53,9 +53,10 @@ use Rattle.hc_model.proofs.RepFrom.{RepFrom, rep_from, IsKept}
 use Rattle.hc_model.proofs.RepFrom as rep
 use Rattle.hc_model.proofs.Said.{leaving_by}
 
--- its exchange has its head
-pub record GoesOn (t : Tables) (v : Representation) (k : Consumer) : Type 0 where
+-- its own is the exchange of the writing, which has its head
+pub record GoesOn (t : Tables) (v : Representation) (k : Consumer) (writer : Option ℕ) : Type 0 where
   pub is : IsAlone t v k
+  pub own_is : writer ≡ Some is.x
   pub headed : is_some is.w.head ≡ true
 
 -- IT STANDS WHERE WHAT IS STORED ENDS
@@ -132,7 +133,7 @@ module _ (limits : Limits) (t : Tables) (now : ℕ) (flaw : Flaw) (s : Sound t) 
         piece_bytes : (a b : ℕ) (d f : List ℕ) → event.Piece a d ≡ event.Piece b f → d ≡ f
         piece_bytes a b d f is = cc
 
-    pub survivor_alone : GoesOn now_on p u
+    pub survivor_alone : GoesOn now_on p u (Some x)
     survivor_alone =
         let waiterless = member_stays.no_waiter limits t now flaw s o ev goes c r lo hi how k v row at there on in
         let st = bound_stays limits t now flaw s o ev goes c r lo hi how k row at waiterless (λ here. false_true (sym (ap brings_body here) ∙ brings_one)) (not_so (leaves_in c e.acts) (λ leaves. let got = leaving_by limits t now flaw s ev goes c leaves in unpolled c got.want got.poll.at)) in
@@ -158,6 +159,7 @@ module _ (limits : Limits) (t : Tables) (now : ℕ) (flaw : Flaw) (s : Sound t) 
             covered = f.covered (offset now_on u) (omega arith);
             ahead = λ q le from_offset. f.ahead q le;
           };
+          own_is = refl;
           headed = still_headed grows.0 goes_on.u g goes_on.same.heard_or;
         }
       where
@@ -172,19 +174,19 @@ module _ (limits : Limits) (t : Tables) (now : ℕ) (flaw : Flaw) (s : Sound t) 
             absurd (false_true (sym (ap (λ (a : Option Response). is_some a) none) ∙ g.headed))
 
   -- of any reader that survives
-  by_reader : (r c x : ℕ) (k u : Consumer) (v p : Representation) → IsBound t r c k → t.representation r ≡ Some v → IsKept t e r v p → is_written t v ≡ true → v.writer ≡ Some x → survivor t r v ≡ Some c → loses_in r e.acts ≡ true → brings_body ev ≡ true → now_on.consumer c ≡ Some u → GoesOn now_on p u
+  by_reader : (r c x : ℕ) (k u : Consumer) (v p : Representation) → IsBound t r c k → t.representation r ≡ Some v → IsKept t e r v p → is_written t v ≡ true → v.writer ≡ Some x → survivor t r v ≡ Some c → loses_in r e.acts ≡ true → brings_body ev ≡ true → now_on.consumer c ≡ Some u → GoesOn now_on p u (Some x)
   by_reader r c x k u v p (sound.is_bound lo hi how row at) there kept on writer is loses brings_one after_row = survivor_alone r c x lo hi how k u v p row at there kept on writer is loses brings_one after_row
 
-  by_writer : (r c : ℕ) (z : Option ℕ) (u : Consumer) (v p : Representation) → t.representation r ≡ Some v → IsKept t e r v p → loses_writing t e r v ≡ true → v.writer ≡ z → survivor t r v ≡ Some c → now_on.consumer c ≡ Some u → GoesOn now_on p u
+  by_writer : (r c : ℕ) (z : Option ℕ) (u : Consumer) (v p : Representation) → t.representation r ≡ Some v → IsKept t e r v p → loses_writing t e r v ≡ true → v.writer ≡ z → survivor t r v ≡ Some c → now_on.consumer c ≡ Some u → GoesOn now_on p u z
   by_writer r c None u v p there kept losing writer is after_row = absurd (writer_some t v (and_right _ _ losing) writer)
   by_writer r c (Some x) u v p there kept losing writer is after_row =
       let reader = reader_of t r c (survivor_bound t r c v is) in
       by_reader r c x reader.0 u v p reader.1 there kept (and_right _ _ losing) writer is (and_right _ _ (and_left _ _ losing)) (and_left _ _ (and_left _ _ losing)) after_row
 
-  pub goes_on : (r c : ℕ) (v p : Representation) (u : Consumer) → t.representation r ≡ Some v → loses_writing t e r v ≡ true → survivor t r v ≡ Some c → now_on.representation r ≡ Some p → now_on.consumer c ≡ Some u → GoesOn now_on p u
+  pub goes_on : (r c : ℕ) (v p : Representation) (u : Consumer) → t.representation r ≡ Some v → loses_writing t e r v ≡ true → survivor t r v ≡ Some c → now_on.representation r ≡ Some p → now_on.consumer c ≡ Some u → GoesOn now_on p u v.writer
   goes_on r c v p u there losing is after after_row = by_rep (rep_from t e r (t.representation r) p refl after)
     where
-      by_rep : RepFrom t e r p → GoesOn now_on p u
+      by_rep : RepFrom t e r p → GoesOn now_on p u v.writer
       by_rep (rep.founded response w none here exchange_row on made) = absurd (none_some v (sym none ∙ there))
       by_rep (rep.was q kept) =
           let one : q ≡ v = same_row (t.representation r) q v kept.row there in

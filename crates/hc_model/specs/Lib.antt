@@ -48,5 +48,6 @@ pub mod Passed
 pub mod Given
 pub mod Alone
 pub mod Growing
+pub mod Losses
 pub mod Laws
 pub mod Numbers

@@ -8,6 +8,7 @@ ghost use Rattle.hc_model.specs.Alone.{Alone};
 ghost use Rattle.hc_model.specs.Endings.{Endings};
 ghost use Rattle.hc_model.specs.Given.{Given};
 ghost use Rattle.hc_model.specs.Growing.{Growing, StopsInRuns};
+ghost use Rattle.hc_model.specs.Losses.{Brings, Losses};
 ghost use Rattle.hc_model.specs.Measures.{Measures};
 ghost use Rattle.hc_model.specs.Numbers.{NumbersInRuns};
 ghost use Rattle.hc_model.specs.Orders.{InOrder};
@@ -280,6 +281,15 @@ pub fn writers_are_alone()
 pub fn one_exchange_brings_it()
     ensures runs { OfRuns Growing }
     ensures stops { StopsInRuns }
+{}
+
+/// What an exchange brought stands in the body that it founded or joined, and nothing else there is from it, in every
+/// run. For who goes on alone with what was lost what its own exchange brought is held from one position on, up to the
+/// front, and else all that came ahead of it is stored: so what it is given next, where nothing is stored, is what its
+/// exchange brought there.
+pub fn losses_are_held()
+    ensures brings { OfRuns Brings }
+    ensures held { OfRuns Losses }
 {}
 
 /// A denied entry leaves sound tables sound, owners known and bodies measured.

@@ -1,10 +1,8 @@
 -- What is told of a row is what is told of what is kept.
-use Rattle.std.proofs.Common.{◌≡◌, ℕ, ◌+◌, Option, Some, refl, sym, ap, ◌∙◌}
-use Rattle.std.specs.Prelude.{option_map}
+use Rattle.std.proofs.Common.{◌≡◌, sym, ap}
 use Rattle.hc_sparse.specs.Cells.{size}
-use Rattle.hc_store.specs.Slots.{Held, weigh}
+use Rattle.hc_store.specs.Slots.{Held}
 use Rattle.hc_entries.specs.Heads.{Told, told_of}
-use Rattle.hc_entries.specs.Kept.{Kept}
 use Rattle.hc_entries.specs.Rows.{Row, kept_of, with_told}
 use Rattle.hc_entries.specs.Views.{view_of, view_of_row}
 

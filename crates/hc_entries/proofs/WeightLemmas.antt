@@ -1,6 +1,6 @@
 -- What all slots weigh is what those who own them weigh.
-use Rattle.std.proofs.Common.{◌≡◌, ℕ, zero, ◌+◌, ◌<◌, ◌^◌, List, [], ◌∷◌, Bool, true, false, eqb, Option, Some, None, refl, sym, ap, ◌∙◌, inl, inr, arith}
-use Rattle.std.specs.Prelude.{is_some, option_map, nat_eq, ◌||◌, if◌then◌else◌}
+use Rattle.std.proofs.Common.{◌≡◌, ℕ, ◌+◌, ◌<◌, ◌^◌, List, [], ◌∷◌, true, false, eqb, Option, Some, None, refl, sym, ap, ◌∙◌, inl, inr, arith}
+use Rattle.std.specs.Prelude.{is_some, option_map, nat_eq, if◌then◌else◌}
 use Rattle.std.specs.List.{AllByRecursion, IsDistinct, sum_by}
 use Rattle.std.proofs.Math.Logic.{∥∥₁_map}
 use Rattle.std.proofs.lemmas.Bool.{cases_Bool, eqb-true}
@@ -11,7 +11,7 @@ use Rattle.std.proofs.lemmas.Map.Keys.{IsDistinct-head, IsDistinct-tail}
 use Rattle.hc_rising.specs.Rising.{has}
 use Rattle.hc_store.specs.Slots.{Held, Slots, with_slot, is_live, weigh, weight}
 use Rattle.hc_store.proofs.Weights.{weight-none, weight-gone}
-use Rattle.hc_entries.specs.Kept.{Kept, itself}
+use Rattle.hc_entries.specs.Kept.{itself}
 use Rattle.hc_entries.specs.Rows.{Row, Rows, kept_by, kept_of, slot_at}
 use Rattle.hc_entries.specs.Shelf.{weigh_kept}
 use Rattle.hc_entries.specs.Shelved.{Owner, AreShelved}

@@ -1,5 +1,5 @@
 -- What is kept of all representations, and how it changes.
-use Rattle.std.specs.Prelude.{◌≡◌, ℕ, ◌==◌, List, [], ◌∷◌, map, filter, reverse, Bool, true, false, Option, Some, None, is_some, option_map, nat_eq, if◌then◌else◌}
+use Rattle.std.specs.Prelude.{◌≡◌, ℕ, ◌==◌, List, [], ◌∷◌, filter, reverse, Bool, true, false, Option, Some, None, is_some, option_map, nat_eq, if◌then◌else◌}
 use Rattle.std.specs.List.{IsDistinct}
 use Rattle.hc_rising.specs.Rising.{has, without}
 use Rattle.hc_sparse.specs.Cells.{Cells, size}

@@ -1,5 +1,5 @@
 -- What is told of what is kept.
-use Rattle.std.specs.Prelude.{◌≡◌, ℕ, length, List, [], Bool, true, false, ◌&&◌, not, Option, Some, None, is_some, is_none, option_map}
+use Rattle.std.specs.Prelude.{ℕ, length, List, [], Bool, false, ◌&&◌, not, Option, Some, None, is_some, is_none}
 use Rattle.hc_rising.specs.Rising.{has}
 use Rattle.hc_sparse.specs.Cells.{size}
 use Rattle.hc_fresh.specs.declared.facts.HeadFacts.{HeadFacts}

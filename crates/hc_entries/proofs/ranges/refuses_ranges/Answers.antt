@@ -1,4 +1,4 @@
-use Rattle.std.proofs.Common.{◌≡◌, ◌∙◌, ◌+◌, Bool, true, false, ap, drop, sym}
+use Rattle.std.proofs.Common.{◌∙◌, ◌+◌, Bool, ap, drop, sym}
 use Rattle.std.specs.Prelude.{codes, ◌||◌}
 use Rattle.std.specs.List.{flat_map, list_any}
 use Rattle.hc_text.specs.Elements.{elements}

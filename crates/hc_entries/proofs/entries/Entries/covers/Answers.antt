@@ -1,4 +1,3 @@
-use Rattle.std.proofs.Common.{sym}
 use mathlib.Core.Path.{fun_ext}
 use Rattle.hc_entries.specs.Rows.{rows_of}
 use Rattle.hc_entries.proofs.ShelfLemmas.{cells-kept}

@@ -1,4 +1,4 @@
-use Rattle.std.proofs.Common.{sym, ap, ◌∙◌}
+use Rattle.std.proofs.Common.{sym, ap}
 use Rattle.std.specs.Prelude.{option_map, Some}
 use Rattle.hc_entries.specs.Heads.{Told}
 use Rattle.hc_entries.specs.Rows.{row_of}

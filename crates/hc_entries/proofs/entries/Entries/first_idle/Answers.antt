@@ -1,4 +1,4 @@
-use Rattle.std.proofs.Common.{ℕ, Some, sym, ap, ◌∙◌}
+use Rattle.std.proofs.Common.{ℕ, sym, ap, ◌∙◌}
 use Rattle.hc_entries.specs.Entries.{shelf_of}
 use Rattle.hc_entries.specs.Shelf.{is_unused, first_of}
 use Rattle.hc_entries.proofs.IdleLemmas.{unused-kept, idle-last}

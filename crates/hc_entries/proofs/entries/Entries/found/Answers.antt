@@ -1,4 +1,4 @@
-use Rattle.std.proofs.Common.{◌≡◌, ℕ, ◌<◌, ◌^◌, ◌∷◌, Option, Some, None, refl, sym, ap, ◌∙◌, rules}
+use Rattle.std.proofs.Common.{◌≡◌, ℕ, ◌<◌, ◌^◌, Some, refl, ap, ◌∙◌, rules}
 use Rattle.hc_record.specs.Plain.{plain}
 use Rattle.hc_store.specs.Slots.{Slots, bare}
 use Rattle.hc_entries.specs.Heads.{told_of}

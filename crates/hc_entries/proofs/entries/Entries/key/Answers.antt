@@ -1,8 +1,7 @@
-use Rattle.std.proofs.Common.{refl, sym, ap, ◌∙◌}
-use Rattle.std.specs.Prelude.{option_map, Some}
-use Rattle.hc_entries.specs.Heads.{Told}
+use Rattle.std.proofs.Common.{refl, sym, ap}
+use Rattle.std.specs.Prelude.{option_map}
 use Rattle.hc_entries.specs.Rows.{row_of}
-use Rattle.hc_entries.proofs.ShelfLemmas.{standing, kept-there}
+use Rattle.hc_entries.proofs.ShelfLemmas.{kept-there}
 use Rattle.hc_entries.proofs.entries.Entries.key.Goals as goal
 
 pub returns : goal.returns

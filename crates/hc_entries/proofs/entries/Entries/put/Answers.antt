@@ -1,4 +1,4 @@
-use Rattle.std.proofs.Common.{ℕ, ◌+◌, length, refl, sym, ap, ◌∙◌}
+use Rattle.std.proofs.Common.{◌+◌, length, refl, ap, ◌∙◌}
 use Rattle.hc_store.specs.Slots.{Slots, puts}
 use Rattle.hc_entries.specs.Rows.{rows_of, reaching}
 use Rattle.hc_entries.proofs.ShelfLemmas.{updated-shelved, cells-kept}

@@ -1,6 +1,6 @@
-use Rattle.std.proofs.Common.{ℕ, refl, sym, ap, ◌∙◌}
+use Rattle.std.proofs.Common.{refl, ap, ◌∙◌}
 use Rattle.hc_store.specs.Slots.{Slots, seals}
-use Rattle.hc_entries.specs.Rows.{rows_of, sealed_as}
+use Rattle.hc_entries.specs.Rows.{sealed_as}
 use Rattle.hc_entries.proofs.ShelfLemmas.{updated-shelved}
 use Rattle.hc_entries.proofs.RowLemmas.{shelved-sealed}
 use Rattle.hc_entries.proofs.CurrentLemmas.{ordered-same}

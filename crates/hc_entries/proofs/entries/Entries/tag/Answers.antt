@@ -1,5 +1,5 @@
-use Rattle.std.proofs.Common.{sym, ap, ◌∙◌}
-use Rattle.std.specs.Prelude.{option_map, Some}
+use Rattle.std.proofs.Common.{sym, ap}
+use Rattle.std.specs.Prelude.{option_map}
 use Rattle.hc_entries.specs.Heads.{Told}
 use Rattle.hc_entries.specs.Rows.{row_of}
 use Rattle.hc_entries.proofs.ShelfLemmas.{standing, kept-there}

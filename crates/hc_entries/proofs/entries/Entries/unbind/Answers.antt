@@ -1,4 +1,4 @@
-use Rattle.std.proofs.Common.{ℕ, refl, sym, ap, ◌∙◌, None}
+use Rattle.std.proofs.Common.{refl, sym, ap, ◌∙◌, None}
 use Rattle.hc_store.specs.Slots.{Slots}
 use Rattle.hc_entries.specs.Rows.{rows_of, unused_by}
 use Rattle.hc_entries.proofs.ShelfLemmas.{updated-shelved, dropped-shelved, kept-slots}

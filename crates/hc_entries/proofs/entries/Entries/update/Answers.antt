@@ -1,8 +1,8 @@
-use Rattle.std.proofs.Common.{ℕ, refl, sym, ap, ◌∙◌}
+use Rattle.std.proofs.Common.{refl, ap, ◌∙◌}
 use Rattle.hc_record.specs.Plain.{plain}
 use Rattle.hc_store.specs.Slots.{Slots, rewrites}
 use Rattle.hc_entries.specs.Kept.{with_head}
-use Rattle.hc_entries.specs.Rows.{rows_of, told_in, with_told}
+use Rattle.hc_entries.specs.Rows.{told_in, with_told}
 use Rattle.hc_entries.proofs.ShelfLemmas.{updated-shelved, updated-kept}
 use Rattle.hc_entries.proofs.RowLemmas.{shelved-rewritten}
 use Rattle.hc_entries.proofs.CurrentLemmas.{ordered-same}

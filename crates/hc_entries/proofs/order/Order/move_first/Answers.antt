@@ -1,6 +1,6 @@
-use Rattle.std.proofs.Common.{◌≡◌, ◌∷◌, sym, ap, ◌∙◌, true}
+use Rattle.std.proofs.Common.{◌≡◌, true}
 use Rattle.std.specs.Map.{keys_of}
-use Rattle.hc_rising.specs.Rising.{has, without}
+use Rattle.hc_rising.specs.Rising.{has}
 use Rattle.hc_entries.specs.Kept.{itself}
 use Rattle.hc_entries.proofs.OrderLemmas.{keys-promoted, distinct-promoted}
 use Rattle.hc_entries.proofs.order.Order.move_first.Goals as goal

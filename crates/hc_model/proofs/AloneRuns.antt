@@ -1,10 +1,9 @@
 -- Who writes alone is the only one that is bound, in every run.
-use Rattle.std.proofs.Common.{◌≡◌, ◌<◌, ◌⊎◌, inl, inr, ℕ, ◌+◌, List, [], ◌∷◌, Bool, true, false, Option, Some, None, refl, ap, sym, ◌∙◌, subst, arith}
-use Rattle.std.specs.Prelude.{◌↔◌, filter, is_some, is_none, ◌==◌}
+use Rattle.std.proofs.Common.{◌≡◌, ◌<◌, inl, inr, ℕ, ◌+◌, List, [], ◌∷◌, Bool, true, false, Option, Some, None, refl, ap, sym, ◌∙◌, arith}
+use Rattle.std.specs.Prelude.{◌↔◌, filter, is_some, is_none}
 use Rattle.hc_event.specs.declared.act.Cause.{Cause}
 use Rattle.hc_sparse.specs.Cells.{EndsBy}
 use Rattle.hc_model.specs.declared.place.Place.TheVariants as place
-use Rattle.hc_model.specs.declared.place.BoundBy.{BoundBy}
 use Rattle.hc_model.specs.Alone.{Alone, IsOnly}
 use Rattle.hc_model.specs.Entries.{Entry}
 use Rattle.hc_model.specs.Holes.{covers}
@@ -15,7 +14,7 @@ use Rattle.hc_model.specs.Rows.{Tables, Representation, Consumer}
 use Rattle.hc_model.specs.Sound.{Sound, Among, IsBound, IsFirst}
 use Rattle.hc_model.specs.Sound as sound
 use Rattle.hc_model.specs.Tables.{tables, after_denied}
-use Rattle.hc_model.specs.Writers.{came_alone, exclusive, has_more, may_write, lacks_some}
+use Rattle.hc_model.specs.Writers.{came_alone, exclusive, has_more}
 use Rattle.hc_model.proofs.Basics.{false_true, none_some}
 use Rattle.hc_model.proofs.DeniedKeeps.{written_same}
 use Rattle.hc_model.proofs.Exclusives.{IsExclusive, exclusive_parts}

@@ -4,7 +4,6 @@ use Rattle.std.specs.Prelude.{is_some, nat_lt}
 use Rattle.std.specs.Option.{option_or}
 use Rattle.std.proofs.lemmas.Bool.Decides.{nat_tests}
 use Rattle.hc_sparse.specs.Cells.{Cell, Covers}
-use Rattle.hc_model.specs.declared.place.Place.{Place}
 use Rattle.hc_model.specs.declared.place.Place.TheVariants as place
 use Rattle.hc_model.specs.declared.place.BoundBy.{BoundBy}
 use Rattle.hc_model.specs.Currents.{total_in}
@@ -22,7 +21,7 @@ use Rattle.hc_model.specs.Rows.{Tables, Representation, Consumer}
 use Rattle.hc_model.specs.Sound.{Sound, IsBound}
 use Rattle.hc_model.specs.Sound as sound
 use Rattle.hc_model.specs.Tables.{tables}
-use Rattle.hc_model.proofs.Basics.{false_true, none_some, some_row}
+use Rattle.hc_model.proofs.Basics.{false_true, some_row}
 use Rattle.hc_model.proofs.Bounded.{IsBounded}
 use Rattle.hc_model.proofs.GivenNext.{read_of}
 use Rattle.hc_model.proofs.HoleLemmas.{bool_cases}

@@ -1,11 +1,10 @@
 -- One exchange at most brings a representation, and where it stops nothing brings it any more, in every run.
-use Rattle.std.proofs.Common.{◌≡◌, ◌⊎◌, inl, inr, ℕ, ◌+◌, ◌<◌, List, [], ◌∷◌, Bool, true, false, Option, Some, None, refl, ap, sym, ◌∙◌, subst, arith}
-use Rattle.std.specs.Prelude.{if◌then◌else◌, is_some, ◌==◌, ◌&&◌, unwrap_or, nat_eq}
+use Rattle.std.proofs.Common.{◌≡◌, inl, inr, ℕ, List, [], ◌∷◌, Bool, true, false, Option, Some, None, refl, ap, sym, ◌∙◌, subst, arith}
+use Rattle.std.specs.Prelude.{if◌then◌else◌, is_some, ◌==◌, unwrap_or, nat_eq}
 use Rattle.std.specs.List.{list_any}
 use Rattle.std.proofs.lemmas.Bool.Decides.{nat_tests}
 use Rattle.hc_event.specs.Filters.{is_denied}
 use Rattle.hc_event.specs.declared.event.Event.{Event}
-use Rattle.hc_event.specs.declared.event.Event.TheVariants as event
 use Rattle.hc_event.specs.declared.event.Response.{Response}
 use Rattle.hc_rules.specs.declared.room.Limits.{Limits}
 use Rattle.hc_model.specs.ActFilters.{has_loss}
@@ -20,7 +19,6 @@ use Rattle.hc_model.specs.Kinds.{is_growing, brings_to}
 use Rattle.hc_model.specs.Laws.{OfRuns}
 use Rattle.hc_model.specs.Measures.{Measures, IsMeasured}
 use Rattle.hc_model.specs.Measures as measures
-use Rattle.hc_model.specs.Owners.{Owners}
 use Rattle.hc_model.specs.Reading.{is_written}
 use Rattle.hc_model.specs.Rows.{Tables, Exchange, Representation}
 use Rattle.hc_model.specs.Sound.{Sound, Among, IsAbout}
@@ -36,9 +34,9 @@ use Rattle.hc_model.proofs.FitsKept.{any_some}
 use Rattle.hc_model.proofs.HeadKeeps.{is_join, is_aimed}
 use Rattle.hc_model.proofs.HoleLemmas.{bool_cases}
 use Rattle.hc_model.proofs.OfEntries.{of_real}
-use Rattle.hc_model.proofs.Pens.{same_row, writer_some}
+use Rattle.hc_model.proofs.Pens.{writer_some}
 use Rattle.hc_model.proofs.RepFrom as rep
-use Rattle.hc_model.proofs.SoundRuns.{IsCarried, carried}
+use Rattle.hc_model.proofs.SoundRuns.{carried}
 use Rattle.hc_model.proofs.Unknowns.{Unknown}
 use Rattle.hc_model.proofs.WaitsInRuns.{unknown_in_runs}
 

@@ -1,5 +1,5 @@
 -- Beside who came alone others are bound only where that has neither an open exchange of its own nor a hole ahead: at each entry.
-use Rattle.std.proofs.Common.{◌≡◌, ◌⊎◌, inl, inr, ℕ, ◌<◌, ◌≤◌, [], Bool, true, false, Option, Some, None, refl, ap, sym, ◌∙◌, subst, arith}
+use Rattle.std.proofs.Common.{◌≡◌, ◌⊎◌, inl, inr, ℕ, ◌<◌, Bool, true, false, Option, Some, None, refl, ap, sym, ◌∙◌, subst, arith}
 use Rattle.std.specs.Prelude.{is_some, is_none, ◌&&◌, ◌||◌}
 use Rattle.hc_event.specs.Filters.{Opening, opening_in}
 use Rattle.hc_event.specs.declared.event.Event.{Event}
@@ -23,15 +23,15 @@ use Rattle.hc_model.specs.Keys.{entry_of}
 use Rattle.hc_model.specs.Measures.{Measures}
 use Rattle.hc_model.specs.Owners.{Owners}
 use Rattle.hc_model.specs.Polls.{move_of}
-use Rattle.hc_model.specs.Reading.{is_written, own_open, offset, hi_of, bound, bound_to, reads}
+use Rattle.hc_model.specs.Reading.{is_written, own_open, offset, hi_of, bound_to, reads}
 use Rattle.hc_model.specs.Rows.{Tables, Exchange, Representation, Consumer}
 use Rattle.hc_model.specs.Sound.{Sound, IsBound, IsFirst}
 use Rattle.hc_model.specs.Sound as sound
 use Rattle.hc_model.specs.Tables.{after_accepted}
 use Rattle.hc_model.specs.Writers.{came_alone, may_write, has_more, lacks_some, exclusive, brings_body}
-use Rattle.hc_model.proofs.AboutKeeps.{IsOwn, own_open_of, own_open_is}
+use Rattle.hc_model.proofs.AboutKeeps.{own_open_of, own_open_is}
 use Rattle.hc_model.proofs.ApartKeeps.{written_by}
-use Rattle.hc_model.proofs.Basics.{false_true, or_false, and_left, and_right, none_some, some_none, some_row}
+use Rattle.hc_model.proofs.Basics.{false_true, or_false, and_left, and_right, none_some}
 use Rattle.hc_model.proofs.BoundFrom.{BoundFrom, IsRow, IsShown, bound_from, place_inj}
 use Rattle.hc_model.proofs.BoundFrom as from
 use Rattle.hc_model.proofs.BoundKeeps.{shown_place_is}

@@ -1,23 +1,21 @@
 -- What is held for who goes on alone came of its own exchange, in every run.
-use Rattle.std.proofs.Common.{◌≡◌, ◌⊎◌, inl, inr, ℕ, zero, suc, ◌+◌, ◌-◌, ◌≤◌, ◌<◌, List, [], ◌∷◌, length, take, drop, Bool, true, false, Option, Some, None, refl, ap, sym, ◌∙◌, subst, arith}
-use Rattle.std.specs.Prelude.{if◌then◌else◌, ◌&&◌, ◌==◌, is_some, slice_index, min, nat_eq, nat_lt}
+use Rattle.std.proofs.Common.{◌≡◌, inl, inr, ℕ, zero, suc, ◌+◌, ◌-◌, ◌≤◌, ◌<◌, List, [], ◌∷◌, length, take, drop, Bool, true, false, Option, Some, None, refl, ap, sym, ◌∙◌, arith}
+use Rattle.std.specs.Prelude.{◌==◌, is_some, slice_index, min, nat_eq, nat_lt}
 use Rattle.std.proofs.Math.ListN.{drop_of_length-le}
 use Rattle.std.proofs.Math.Seq.{drop-cons}
 use Rattle.std.proofs.lemmas.List.{length-drop, length-take, take_all}
 use Rattle.std.proofs.lemmas.Bool.Decides.{nat_tests}
-use Rattle.hc_sparse.specs.Cells.{Cell, Cells, EndsBy}
+use Rattle.hc_sparse.specs.Cells.{Cell, Cells}
 use Rattle.hc_sparse.specs.Stretch.{bytes_from, goes_on, stretch, stretch_of}
-use Rattle.hc_sparse.specs.declared.run.Run.{Run}
 use Rattle.hc_event.specs.Filters.{is_denied}
 use Rattle.hc_event.specs.declared.event.Response.{Response}
 use Rattle.hc_rules.specs.declared.room.Limits.{Limits}
 use Rattle.hc_model.specs.declared.place.Place.TheVariants as place
 use Rattle.hc_model.specs.declared.place.BoundBy.{BoundBy}
 use Rattle.hc_model.specs.Currents.{is_number}
-use Rattle.hc_model.specs.Entries.{Entry, History, Contents}
-use Rattle.hc_model.specs.Exchanges.{base, front, family}
+use Rattle.hc_model.specs.Entries.{Entry}
+use Rattle.hc_model.specs.Exchanges.{base, front}
 use Rattle.hc_model.specs.Flaws.{flaw_in}
-use Rattle.hc_model.specs.Holes.{stretch_to}
 use Rattle.hc_model.specs.Laws.{OfRuns}
 use Rattle.hc_model.specs.Losses.{Brings, Losses, IsHeldFrom, HoldsOwn, brought}
 use Rattle.hc_model.specs.Reading.{offset}
@@ -27,7 +25,7 @@ use Rattle.hc_model.specs.Sound.{Sound, IsBound, IsAlone}
 use Rattle.hc_model.specs.Sound as sound
 use Rattle.hc_model.specs.Steps.{held, held_at, held_of_lost, run_of}
 use Rattle.hc_model.specs.Tables.{tables, after, after_accepted, after_denied}
-use Rattle.hc_model.proofs.Basics.{false_true, none_some, some_row}
+use Rattle.hc_model.proofs.Basics.{false_true, none_some}
 use Rattle.hc_model.proofs.BringsRuns.{brings_in_runs}
 use Rattle.hc_model.proofs.HoleLemmas.{bool_cases}
 use Rattle.hc_model.proofs.OfEntries.{of_real}

@@ -21,7 +21,7 @@ use Rattle.hc_model.specs.Rows.{Tables, Exchange, Representation, Consumer}
 use Rattle.hc_model.specs.Runs.{IsRun}
 use Rattle.hc_model.specs.Sound.{Sound, IsBound}
 use Rattle.hc_model.specs.Sound as sound
-use Rattle.hc_model.specs.Tables.{tables, after_accepted, after_denied, begun, loaded}
+use Rattle.hc_model.specs.Tables.{tables, after_accepted, begun, loaded}
 use Rattle.hc_model.proofs.Barred.{next_tables, denied_tables}
 use Rattle.hc_model.proofs.Basics.{false_true, none_some, some_row}
 use Rattle.hc_model.proofs.Bounded.{IsBounded}

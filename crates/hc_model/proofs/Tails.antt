@@ -1,8 +1,8 @@
 -- What the own exchange of who goes on alone brought since the loss is held, and all else ahead of it is stored: at each entry.
-use Rattle.std.proofs.Common.{◌≡◌, ◌⊎◌, inl, inr, ℕ, ◌+◌, ◌≤◌, ◌<◌, List, [], length, length-append, Bool, true, false, Option, Some, None, refl, ap, sym, ◌∙◌, subst, arith}
-use Rattle.std.specs.Prelude.{if◌then◌else◌, is_some, ◌||◌, unwrap_or}
-use Rattle.hc_sparse.specs.Cells.{Cell, Cells, inside, written}
-use Rattle.hc_sparse.proofs.CellLemmas.{inside-past, inside-cases}
+use Rattle.std.proofs.Common.{◌≡◌, ◌⊎◌, inl, inr, ℕ, ◌+◌, ◌≤◌, ◌<◌, List, [], length, length-append, Bool, true, false, Option, Some, None, refl, ap, sym, ◌∙◌, arith}
+use Rattle.std.specs.Prelude.{is_some, ◌||◌, unwrap_or}
+use Rattle.hc_sparse.specs.Cells.{Cells, inside, written}
+use Rattle.hc_sparse.proofs.CellLemmas.{inside-cases}
 use Rattle.hc_event.specs.Filters.{Opening, opening_in}
 use Rattle.hc_event.specs.declared.event.Event.{Event}
 use Rattle.hc_event.specs.declared.event.Event.TheVariants as event
@@ -15,7 +15,7 @@ use Rattle.hc_model.specs.ActFilters.{loses_in}
 use Rattle.hc_model.specs.ConsumerRows.{consumer_heard}
 use Rattle.hc_model.specs.Denials.{denial}
 use Rattle.hc_model.specs.Entries.{Entry}
-use Rattle.hc_model.specs.Exchanges.{base, front, family, is_open}
+use Rattle.hc_model.specs.Exchanges.{base, front, family}
 use Rattle.hc_model.specs.Flaws.{Flaw}
 use Rattle.hc_model.specs.Keys.{entry_of}
 use Rattle.hc_model.specs.Measures.{Measures}
@@ -27,7 +27,7 @@ use Rattle.hc_model.specs.Sound as sound
 use Rattle.hc_model.specs.Tables.{after_accepted}
 use Rattle.hc_model.proofs.AboutKeeps.{own_open_of, own_open_is}
 use Rattle.hc_model.proofs.ApartKeeps.{is_on}
-use Rattle.hc_model.proofs.Basics.{false_true, and_left, and_right, or_false, none_some, some_row}
+use Rattle.hc_model.proofs.Basics.{false_true, and_right, none_some}
 use Rattle.hc_model.proofs.Beside.{IsBeside}
 use Rattle.hc_model.proofs.BoundFrom.{BoundFrom, IsRow, bound_from, place_inj}
 use Rattle.hc_model.proofs.BoundFrom as from
@@ -46,7 +46,7 @@ use Rattle.hc_model.proofs.OwnFrom as own
 use Rattle.hc_model.proofs.OwnersKeep.{new_number}
 use Rattle.hc_model.proofs.PenFrom.{PenFrom, alone_from}
 use Rattle.hc_model.proofs.PenFrom as pens
-use Rattle.hc_model.proofs.Pens.{same_row, one_pen, writer_some}
+use Rattle.hc_model.proofs.Pens.{same_row, one_pen}
 use Rattle.hc_model.proofs.PieceKeeps.{some_inj}
 use Rattle.hc_model.proofs.RepFrom.{RepFrom, rep_from, IsKept}
 use Rattle.hc_model.proofs.RepFrom as rep

@@ -1,6 +1,6 @@
 -- What still comes of a representation: one exchange at most brings it, and what isn't gone and has no known length is brought
 -- by the one that founded it.
-use Rattle.std.specs.Prelude.{◌≡◌, ℕ, ◌∷◌, true, false, Option, Some, None, is_some}
+use Rattle.std.specs.Prelude.{◌≡◌, ℕ, ◌∷◌, true, false, Some, None, is_some}
 use Rattle.hc_rules.specs.declared.room.Limits.{Limits}
 use Rattle.hc_model.specs.Beginnings.{may_begin}
 use Rattle.hc_model.specs.Entries.{Entry, History, Contents}

@@ -1,9 +1,8 @@
 -- The head of an exchange past the store that can be used: its consumer is to be shown it.
-use Rattle.std.proofs.Common.{◌≡◌, ℕ, ◌+◌, List, [], length, Bool, true, false, cond, eqb, Option, Some, None, refl, ap, sym, ◌∙◌, arith}
+use Rattle.std.proofs.Common.{◌≡◌, ℕ, List, [], Bool, true, false, cond, eqb, Option, Some, None, refl, ap, sym, ◌∙◌, arith}
 use Rattle.std.proofs.lemmas.List.{append-nil}
 use Rattle.std.specs.Prelude.{◌&&◌, not}
 use Rattle.std.specs.Option.{option_or}
-use Rattle.std.proofs.lemmas.Bool.Decides.{nat_tests}
 use Rattle.hc_event.specs.declared.event.Event.TheVariants as event
 use Rattle.hc_event.specs.declared.event.Response.{Response}
 use Rattle.hc_event.specs.declared.act.Act.{Act}
@@ -33,7 +32,7 @@ use Rattle.hc_core.specs.declared.rows.Rows.{Rows}
 use Rattle.hc_core.specs.Changes.{ChangesAt}
 use Rattle.hc_core.specs.Kept.{IsKept, KeepsRunning, held_for, answer_for}
 use Rattle.hc_core.specs.Stands.{RowsStand, Answered}
-use Rattle.hc_core.proofs.Words.{eqb-same, false_true}
+use Rattle.hc_core.proofs.Words.{eqb-same}
 use Rattle.hc_core.proofs.PastCloses.{told_of, told_answered, closing_none}
 use Rattle.hc_core.proofs.DirectPolls.{known_other, known_here, changed}
 use Rattle.hc_core.proofs.DirectArms.{held_is}
@@ -44,13 +43,12 @@ use Rattle.hc_model.specs.Exchanges.{is_for}
 use Rattle.hc_model.specs.Failures.{cause_of_head}
 use Rattle.hc_model.proofs.Dues.{stop_none}
 use Rattle.hc_exch.specs.Known.{is_all}
-use Rattle.hc_core.specs.Changes.{with_answer}
-use Rattle.hc_core.specs.Past.{BringsPast}
+use Rattle.hc_core.specs.Heads.{answered_by, end_from}
+use Rattle.hc_core.proofs.PastEntries.{DoomsNobody}
 use Rattle.hc_core.proofs.Direct.{reads_on}
 use Rattle.hc_core.proofs.Hearing.{told_due}
-use Rattle.hc_core.proofs.Lengths.{direct_begins}
 use Rattle.hc_core.proofs.DownArms.{headless_is}
-use Rattle.hc_core.proofs.HeadArms.{head_news, length_told, head_case_is, no_sending, room_is}
+use Rattle.hc_core.proofs.HeadArms.{head_news, length_told, head_case_is, no_sending, no_founding, room_is}
 use Rattle.hc_core.proofs.Standing.{Standing}
 
 abbrev headed : ℕ → Response → Exchange → Exchange
@@ -73,26 +71,19 @@ all_reached : (o : Option ℕ) (n : ℕ) → is_all o n ≡ is_reached o n
 all_reached None n = refl
 all_reached (Some p) n = refl
 
--- what is promised is where it ends, since it begins at 0
-end_promised : (o : Option ℕ) (z : Exchange) → base z ≡ 0 → z.is_ended ≡ false → end_of_direct o z ≡ o
-end_promised None z zero unended = rw unended refl
-end_promised (Some n) z zero unended = rw zero (ap Some (plus_zero n))
-  where
-    plus_zero : (n : ℕ) → 0 + n ≡ n
-    plus_zero n = omega arith
-
-reached_zero : (o : Option ℕ) → is_reached o 0 ≡ true → o ≡ Some 0
-reached_zero None h = false_true h
-reached_zero (Some p) h = ap Some (grind (arith, nat_tests))
+-- what is promised is where it ends
+end_promised : (o : Option ℕ) (z : Exchange) → z.is_ended ≡ false → end_of_direct o z ≡ end_from (base z) o
+end_promised None z unended = rw unended refl
+end_promised (Some n) z unended = refl
 
 headed_row : (t : Tables) (now x : ℕ) (response : Response) (w : Exchange) → case_at t (told_of now (event.Head x response) []) ≡ Some case.DirectTaken → exchange_after t (told_of now (event.Head x response) []) x (Some w) ≡ Some (headed now response w)
 unfolding exchange_after
 headed_row t now x response w case_here = rw (eqb-same x, case_here) refl
 
-module _ {B : Type 0} (r u : Rows B) (t : Tables) (now x : ℕ) (response : Response) (o : Open) (stands : Standing r t) (hears : Hears r t x o) (headless : o.headed ≡ false) (running : (table_of r.exchanges x).running ≡ Some o)
+module _ {B : Type 0} (r u : Rows B) (t : Tables) (now x : ℕ) (response : Response) (o : Open) (stands : Standing r t) (hears : Hears r t x o) (headless : o.headed ≡ false) (running : (table_of r.exchanges x).running ≡ Some o) (quiet : (acts : List Act) → DoomsNobody t (record { now = now; event = event.Head x response; acts = acts }))
     (is : is_bad (length_told hears.reading.reads.w response) ≡ false)
-    (received : u.received ≡ r.received) (last : u.last_start ≡ r.last_start) (becomes : exch.Becomes (known.headed (length_told hears.reading.reads.w response)) x r.exchanges u.exchanges)
-    (changes : ChangesAt r.consumers u.consumers o.c (with_answer response (promise_of (length_told hears.reading.reads.w response)))) where
+    (received : u.received ≡ r.received) (last : u.last_start ≡ r.last_start) (same_keys : u.keys ≡ r.keys) (becomes : exch.Becomes (known.headed (length_told hears.reading.reads.w response)) x r.exchanges u.exchanges)
+    (changes : ChangesAt r.consumers u.consumers o.c (answered_by x response (length_told hears.reading.reads.w response))) where
   abbrev c : ℕ
   c = o.c
 
@@ -115,10 +106,7 @@ module _ {B : Type 0} (r u : Rows B) (t : Tables) (now x : ℕ) (response : Resp
   after = after_accepted t e
 
   taken_case : case_at t e ≡ Some case.DirectTaken
-  taken_case = head_case_is r u t now x response o stands hears headless [] false is refl
-
-  begins : base_of l ≡ 0
-  begins = direct_begins w.need w.request response hears.reading.reads.brings.past
+  taken_case = head_case_is r u t now x response o stands hears headless quiet [] false is refl
 
   no_head : w.head ≡ None
   no_head = headless_is o w hears.is headless
@@ -150,7 +138,7 @@ module _ {B : Type 0} (r u : Rows B) (t : Tables) (now x : ℕ) (response : Resp
   row_after : after.consumer c ≡ Some v
   row_after =
       let at = hears.reading.at in
-      let sends = no_sending r u t now x response o stands hears headless [] false is refl in
+      let sends = no_sending r u t now x response o stands hears headless quiet [] false is refl in
       let due = told_due t now c x (event.Head x response) [] v at sends None (stop_none t e v refl) no_cause in
       ap (consumer_after t e c) hears.reading.row
       ∙ (told_row t now c x (event.Head x response) [] v at sends v (heard (t.exchange x) hears.reading.reads.row) (told_acted t now c x (event.Head x response) [] v at sends v (heard (t.exchange x) hears.reading.reads.row)) true (rw at refl)
@@ -160,7 +148,7 @@ module _ {B : Type 0} (r u : Rows B) (t : Tables) (now x : ℕ) (response : Resp
       or_nothing None = refl
       or_nothing (Some y) = refl
 
-  kept_after : IsKept after (with_answer response (promise_of l) k) v
+  kept_after : IsKept after (answered_by x response l k) v
   kept_after =
       let kp = hears.reading.kept in
       let rd = hears.reading.reads in
@@ -168,30 +156,17 @@ module _ {B : Type 0} (r u : Rows B) (t : Tables) (now x : ℕ) (response : Resp
       record {
         is_there = kp.is_there;
         request = kp.request;
+        class_is = kp.class_is;
         since = kp.since;
-        place = kp.place;
+        place = sym at;
         own = kp.own;
         shown = kp.shown;
         answer = sym (answer_shown after x v (headed now response w) unshown at exchange);
-        begins = kp.begins ∙ (lows_are t x v w at rd.row ∙ (rd.begins ∙ (sym begins ∙ sym (lows_are after x v (headed now response w) at exchange))));
-        ends = sym (highs_here after x v (headed now response w) at exchange ∙ end_promised (promise_of l) (headed now response w) begins unended);
+        begins = sym (lows_are after x v (headed now response w) at exchange);
+        ends = sym (highs_here after x v (headed now response w) at exchange ∙ end_promised (promise_of l) (headed now response w) unended);
         given = kp.given;
         due = kp.due;
       }
-
-  brings_after : BringsPast u.received (headed now response w) v.due
-  brings_after =
-      let rd = hears.reading.reads in
-      record {
-        past = rd.brings.past;
-        came = rw received rd.brings.came;
-        told = rd.brings.told;
-        finished = λ over none. finished_if (is_reached (promise_of l) 0) refl over;
-      }
-    where
-      finished_if : (b : Bool) → is_reached (promise_of l) 0 ≡ b → (not (is_reached (promise_of l) 0) && w.is_open) ≡ false → end_in (Some (headed now response w)) ≡ Some (length w.body)
-      finished_if true reached over = end_promised (promise_of l) (headed now response w) begins unended ∙ (reached_zero (promise_of l) reached ∙ ap (λ (bytes : List ℕ). Some (length bytes)) (sym nothing))
-      finished_if false reached over = let on : w.is_open ≡ false = rw reached at over in false_true (sym on ∙ hears.is.is_open)
 
   here : table_of u.exchanges x ≡ known.headed l (table_of r.exchanges x)
   here = known_here (known.headed l) x r.exchanges u.exchanges becomes
@@ -232,18 +207,18 @@ module _ {B : Type 0} (r u : Rows B) (t : Tables) (now x : ℕ) (response : Resp
   stands_answered =
       let rd = hears.reading.reads in
       let reached = all_reached (promise_of l) 0 in
-      reads_on r u t e c x v stands (told_entry t now c x (event.Head x response) [] (head_news x response) w rd.row rd.for_it (no_sending r u t now x response o stands hears headless [] false is refl)) (told_only t now c x (event.Head x response) [] (head_news x response) w rd.row rd.for_it (λ y ne. refl)) refl refl refl
-      hears.reading.row rd hears.reading.at (rw received (omega arith)) last becomes.next (λ y ne. known_other (known.headed l) x r.exchanges u.exchanges becomes y ne)
+      reads_on r u t e c x v stands (told_entry t now c x (event.Head x response) [] (head_news x response) w rd.row rd.for_it (no_sending r u t now x response o stands hears headless quiet [] false is refl) (no_founding r u t now x response o stands hears headless quiet [] false is refl) (quiet [])) (told_only t now c x (event.Head x response) [] (head_news x response) w rd.row rd.for_it (λ y ne. refl)) refl refl refl
+      hears.reading.row rd hears.reading.at (rw received (omega arith)) last same_keys becomes.next (λ y ne. known_other (known.headed l) x r.exchanges u.exchanges becomes y ne)
       (record {
         running = rw (here, running_is (is_all (promise_of l) 0) refl, reached, exchange) (running_after (is_reached (promise_of l) 0) refl);
         held = held_after ∙ ap (held_for after x) (sym exchange);
       })
-      (with_answer response (promise_of l) k) v (headed now response w) (changed r.consumers u.consumers c (with_answer response (promise_of l)) k changes hears.there) row_after hears.reading.at kept_after exchange brings_after
+      (answered_by x response l k) v (changed r.consumers u.consumers c (answered_by x response l) k changes hears.there) row_after hears.reading.at kept_after
 
   pub taken_answered : (limits : Limits) (before : List Act) → Answered limits u t before before now (event.Head x response)
   taken_answered limits before =
       let case_here = taken_case in
       told_answered limits u t now (event.Head x response) [] before before refl
-      (ap (first_idle t (told_of now (event.Head x response) [])) (room_is r u t now x response o stands hears headless false is limits)) (ap has_room (room_is r u t now x response o stands hears headless false is limits))
-      (closing_none r.received t (told_of now (event.Head x response) []) stands.past (λ q. refl) (λ y. rw case_here refl) (λ y. refl))
+      (ap (first_idle t (told_of now (event.Head x response) [])) (room_is r u t now x response o stands hears headless quiet false is limits)) (ap has_room (room_is r u t now x response o stands hears headless quiet false is limits))
+      (closing_none t (told_of now (event.Head x response) []) stands.past (quiet []) (λ q. refl) (λ y. rw case_here refl) (λ y. refl))
       (sym (append-nil before)) stands_answered

@@ -33,12 +33,12 @@ use Rattle.hc_model.specs.Exchanges.{promised}
 use Rattle.hc_model.specs.Polls.{polled, move_of, or_else, shows_head, waits_for_head, if_headless, by_place}
 use Rattle.hc_model.specs.Reading.{own_open}
 use Rattle.hc_model.specs.StartingOver.{starts_over}
-use Rattle.hc_core.specs.Past.{is_misread}
-use Rattle.hc_core.proofs.PastEntries.{poll_of, poll_entry}
+use Rattle.hc_model.specs.Places.{is_failed_read}
+use Rattle.hc_core.proofs.PastEntries.{poll_of, poll_entry, quiet_by}
 use Rattle.hc_core.proofs.PastCloses.{before_closing, closing_none, poll_answered, poll_lossless}
 use Rattle.hc_core.proofs.PollRows.{IsGone, fails, poll_only}
-use Rattle.hc_core.proofs.Apart.{stands_apart}
-use Rattle.hc_core.proofs.Standing.{Standing, StandsPast, direct, down, line}
+use Rattle.hc_core.proofs.Apart.{stands_apart, stays_out}
+use Rattle.hc_core.proofs.Standing.{Standing, StandsPast, direct, down, line, turn}
 
 -- WHO IS TO FAIL
 
@@ -49,14 +49,15 @@ pub record IsFailing {B : Type 0} (r : Rows B) (t : Tables) (c : ℕ) (why : Cau
   pub at : v.place ≡ place.Down why
   pub unshown : v.shown ≡ false
   pub unowned : own_open t v ≡ None
-  pub told : is_misread (Some why) ≡ false
+  pub told : is_failed_read (Some why) ≡ false
 
-failing_by : {B : Type 0} (r : Rows B) (t : Tables) (c : ℕ) (why : Cause) (k : Consumer) (v : rows.Consumer) → t.consumer c ≡ Some v → v.place ≡ place.Down why → StandsPast r.received t c v → IsFailing r t c why k
-failing_by r t c why k v row at (line in_line own shown given due disabled plain) = absurd (let never : place.Line ≡ place.Down why = sym in_line ∙ at in cc)
+failing_by : {B : Type 0} (r : Rows B) (t : Tables) (c : ℕ) (why : Cause) (k : Consumer) (v : rows.Consumer) → t.consumer c ≡ Some v → v.place ≡ place.Down why → StandsPast t c v → IsFailing r t c why k
+failing_by r t c why k v row at (line in_line own shown given due) = absurd (let never : place.Line ≡ place.Down why = sym in_line ∙ at in cc)
 failing_by r t c why k v row at (direct y at_y reads) = absurd (let never : place.Direct y ≡ place.Down why = sym at_y ∙ at in cc)
+failing_by r t c why k v row at (turn y at_y awaits queues) = absurd (let never : place.Turn y ≡ place.Down why = sym at_y ∙ at in cc)
 failing_by r t c why k v row at (down reason down_at unowned shown told) =
     let same : reason ≡ why = (let both : place.Down reason ≡ place.Down why = sym down_at ∙ at in cc) in
-    record { v = v; row = row; at = at; unshown = shown; unowned = unowned; told = ap (λ (z : Cause). is_misread (Some z)) (sym same) ∙ told }
+    record { v = v; row = row; at = at; unshown = shown; unowned = unowned; told = ap (λ (z : Cause). is_failed_read (Some z)) (sym same) ∙ told }
 
 pub failing_of : {B : Type 0} (r : Rows B) (t : Tables) (c : ℕ) (why : Cause) (k : Consumer) → Standing r t → get nat_eq r.consumers c ≡ Some k → k.place ≡ place.Down why → IsFailing r t c why k
 failing_of r t c why k stands there at =
@@ -87,7 +88,7 @@ pub no_flaw : (ys : List ℕ) → flaw_in (map act.Close ys) ≡ NoFlaw
 no_flaw [] = refl
 no_flaw (y ∷ ys) = no_flaw ys
 
-pub flawless : (c : ℕ) (why : Cause) (ys : List ℕ) → is_misread (Some why) ≡ false → flaw_in (acts_of c (Fails why) ++ map act.Close ys) ≡ NoFlaw
+pub flawless : (c : ℕ) (why : Cause) (ys : List ℕ) → is_failed_read (Some why) ≡ false → flaw_in (acts_of c (Fails why) ++ map act.Close ys) ≡ NoFlaw
 flawless c (cause.Net x) ys told = no_flaw ys
 flawless c (cause.Short x got promised) ys told = no_flaw ys
 flawless c (cause.Changed x) ys told = no_flaw ys
@@ -125,15 +126,16 @@ pub not_over_direct : (y : ℕ) (p : Place) → p ≡ place.Over → p ≡ place
 not_over_direct y p at is = let never : place.Over ≡ place.Direct y = sym at ∙ is in cc
 
 pub fail_answered : {B : Type 0} (r u : Rows B) (t : Tables) (now c want : ℕ) (why : Cause) (k : Consumer) (before out : List Act) (limits : Limits) (stands : Standing r t) (failing : IsFailing r t c why k)
-    → u.received ≡ r.received → u.last_start ≡ r.last_start → u.exchanges ≡ r.exchanges → BecomesAt r.consumers u.consumers c None → out ≡ before ++ (act.Failed c why ∷ []) → Answered limits u t before out now (event.Poll c want)
+    → u.received ≡ r.received → u.last_start ≡ r.last_start → u.keys ≡ r.keys → u.exchanges ≡ r.exchanges → BecomesAt r.consumers u.consumers c None → out ≡ before ++ (act.Failed c why ∷ []) → Answered limits u t before out now (event.Poll c want)
 unfolding case_of
-fail_answered r u t now c want why k before out limits stands failing received last exchanges becomes acts =
+fail_answered r u t now c want why k before out limits stands failing received last same_keys exchanges becomes acts =
     let e = poll_of now c want (Fails why) [] in
     let gone : IsGone ((after_accepted t e).consumer c) = subst (λ o. IsGone (consumer_after t e c o)) (sym failing.row) (gone_row t now c want failing.v why failing.at) in
     let lives : is_live_place gone.v.place ≡ false = ap is_live_place gone.place_is in
     poll_answered limits u t now c want (Fails why) [] before out (ap (polled t now want c) failing.row ∙ fails_move t now want c failing.v why failing.at failing.unshown failing.unowned)
-    (closing_none r.received t (before_closing now c want (Fails why)) stands.past (λ q. poll_lossless c q (Fails why)) (λ y. refl) (λ y. unleft t c y failing.v (place.Down why) failing.row failing.at failing.unowned (λ q lo hi by is. (let never : place.Down why ≡ place.Bound q lo hi by = is in cc))))
+    (closing_none t (before_closing now c want (Fails why)) stands.past (quiet_by t (before_closing now c want (Fails why)) refl) (λ q. poll_lossless c q (Fails why)) (λ y. refl) (λ y. unleft t c y failing.v (place.Down why) failing.row failing.at failing.unowned (λ q lo hi by is. (let never : place.Down why ≡ place.Bound q lo hi by = is in cc))))
     (flawless c why [] failing.told) acts
-    (stands_apart r u t e c failing.v gone.v None stands (poll_entry t now c want (Fails why) []) (λ x free. poll_only now c want x (Fails why) [] (fails why) (λ y ne. refl)) refl refl refl
+    (stands_apart r u t e c failing.v gone.v None stands (poll_entry t now c want (Fails why) []) (λ x free. poll_only now c want x (Fails why) [] (fails why) (λ y ne. refl)) refl refl refl refl
     failing.row (λ y is. not_down_direct why y failing.v.place failing.at is) gone.row (λ y is. not_over_direct y gone.v.place gone.place_is is)
-    received last exchanges becomes (sym lives) lives (λ live. false_true (sym lives ∙ live)))
+    received last exchanges becomes (sym lives) lives
+    (stays_out r u t e c failing.v gone.v stands (poll_entry t now c want (Fails why) []) failing.row gone.row (rw failing.at refl) (rw gone.place_is refl) (rw gone.place_is refl) same_keys))

@@ -1,9 +1,8 @@
 -- What a poll of a consumer that reads past the store does: it waits, is shown its head, is given bytes, or asks for more.
-use Rattle.std.proofs.Common.{◌≡◌, ℕ, ◌+◌, ◌-◌, ◌≤◌, List, [], ◌++◌, length, drop, take, true, false, min, Option, Some, None, refl, ap, ap₂, sym, ◌∙◌, subst, arith}
-use Rattle.std.specs.Prelude.{is_some, nat_eq, option_map, option_and_then}
+use Rattle.std.proofs.Common.{◌≡◌, ℕ, ◌+◌, List, [], ◌++◌, length, drop, take, true, false, Option, Some, None, refl, ap, ap₂, sym, ◌∙◌, arith}
+use Rattle.std.specs.Prelude.{nat_eq, option_map, option_and_then}
 use Rattle.std.specs.HashMap.{get}
 use Rattle.std.proofs.lemmas.Grind.{common_steps}
-use Rattle.std.proofs.lemmas.List.{length-drop, length-take}
 use Rattle.hc_event.specs.Filters.{asks_in, opening_in}
 use Rattle.hc_event.specs.declared.event.Response.{Response}
 use Rattle.hc_event.specs.declared.act.Wait.TheVariants as wait
@@ -33,22 +32,17 @@ use Rattle.hc_core.specs.Changes.{ChangesAt, BecomesAt, once_given, once_answere
 use Rattle.hc_core.specs.Kept.{IsKept, KeepsRunning, held_for}
 use Rattle.hc_core.specs.Stands.{RowsStand}
 use Rattle.hc_core.proofs.Words.{eqb-same}
-use Rattle.hc_core.specs.Past.{BringsPast}
-use Rattle.hc_event.specs.declared.act.Cause.{Cause}
 use Rattle.hc_core.proofs.PastEntries.{poll_of}
 use Rattle.hc_core.proofs.PollRows.{AsksOnly, asks, shows, gives, exchange_same, exchange_asked, shows_row, asks_body, gives_row}
 use Rattle.hc_core.proofs.DirectPolls.{IsReading, goes_on, known_other, known_here, changed, unchanged}
 use Rattle.hc_core.proofs.Standing.{Standing}
-
--- where as much was received
-brings_as : (n m : ℕ) (w : Exchange) (due : Option Cause) → m ≡ n → BringsPast n w due → BringsPast m w due
-brings_as n m w due is b = subst (λ (i : ℕ). BringsPast i w due) (sym is) b
 
 -- a consumer that reads past the store is kept as before, where its exchange is as before
 pub kept_same : (t s : Tables) (x : ℕ) (k : Consumer) (v : rows.Consumer) → v.place ≡ place.Direct x → s.exchange x ≡ t.exchange x → IsKept t k v → IsKept s k v
 kept_same t s x k v at alike kp = record {
   is_there = kp.is_there;
   request = kp.request;
+  class_is = kp.class_is;
   since = kp.since;
   place = kp.place;
   own = kp.own;
@@ -65,6 +59,7 @@ pub kept_with : (t s : Tables) (x : ℕ) (k : Consumer) (v : rows.Consumer) (w z
 kept_with t s x k v w z at was is head begins ends kp = record {
   is_there = kp.is_there;
   request = kp.request;
+  class_is = kp.class_is;
   since = kp.since;
   place = kp.place;
   own = kp.own;
@@ -114,12 +109,6 @@ given_drop n m body bytes is = taken n m body ∙ ap (λ (xs : List ℕ). drop (
     taken : (n m : ℕ) (xs : List ℕ) → drop n (drop m xs) ≡ drop (m + length (take n (drop m xs))) xs
     taken n m xs = grind (arith, common_steps)
 
-given_fits : (n m : ℕ) (body bytes : List ℕ) → bytes ≡ take n (drop m body) → m ≤ length body → m + length bytes ≤ length body
-given_fits n m body bytes is le =
-    let few : length bytes ≡ min n (length (drop m body)) = ap length is ∙ length-take n (drop m body) in
-    let rest : length (drop m body) ≡ length body - m = length-drop m body in
-    omega (arith, few, rest)
-
 module _ {B : Type 0} (r u : Rows B) (t : Tables) (now c want x : ℕ) (k : Consumer) (stands : Standing r t) (there : get nat_eq r.consumers c ≡ Some k) (reading : IsReading r t c x k) where
   abbrev v : rows.Consumer
   v = reading.v
@@ -129,16 +118,15 @@ module _ {B : Type 0} (r u : Rows B) (t : Tables) (now c want x : ℕ) (k : Cons
 
   -- IT WAITS
   module _ (m : Move) (only : AsksOnly x m) (stays : leaver_in (acts_of c m ++ []) ≡ None) (unopened : opening_in (acts_of c m ++ []) ≡ None) (unasked : asks_in x (acts_of c m ++ []) ≡ false) (row_after : (after_accepted t (poll_of now c want m [])).consumer c ≡ Some v) where
-    pub stands_still : u.received ≡ r.received → u.last_start ≡ r.last_start → next_of u.exchanges ≡ next_of r.exchanges → ((y : ℕ) → table_of u.exchanges y ≡ table_of r.exchanges y) → BecomesAt r.consumers u.consumers c (Some k)
+    pub stands_still : u.received ≡ r.received → u.last_start ≡ r.last_start → u.keys ≡ r.keys → next_of u.exchanges ≡ next_of r.exchanges → ((y : ℕ) → table_of u.exchanges y ≡ table_of r.exchanges y) → BecomesAt r.consumers u.consumers c (Some k)
         → RowsStand u (after_accepted t (poll_of now c want m []))
-    stands_still received last next tables becomes =
+    stands_still received last same_keys next tables becomes =
         let e = poll_of now c want m [] in
         let s : Tables = after_accepted t e in
         let exchange : s.exchange x ≡ Some w = ap (exchange_after t e x) reading.reads.row ∙ exchange_same t now c want x m w unasked in
         let alike : s.exchange x ≡ t.exchange x = exchange ∙ sym reading.reads.row in
         let before = stands.exchanges x in
-        goes_on r u t now c want x k m stands there reading only stays unopened k v w received last next (λ y ne. tables y) becomes row_after exchange reading.at (kept_same t s x k v reading.at alike reading.kept)
-        (brings_as r.received u.received w v.due received reading.reads.brings)
+        goes_on r u t now c want x k m stands there reading only stays unopened k v received last same_keys next (λ y ne. tables y) becomes row_after reading.at (kept_same t s x k v reading.at alike reading.kept)
         (record {
           running = rw (tables x, alike) before.running;
           held = rw (tables x, exchange) ((before.held ∙ ap (held_for t x) reading.reads.row) ∙ (held_is t x c w v reading.row reading.reads.for_it reading.at ∙ sym (held_is s x c w v row_after reading.reads.for_it reading.at)));
@@ -164,9 +152,9 @@ module _ {B : Type 0} (r u : Rows B) (t : Tables) (now c want x : ℕ) (k : Cons
       ∙ (shows_move t now want c x v w head unshown reading.at reading.reads.row has ∙ ap₂ (λ (lo : ℕ) (hi : Option ℕ). Shows x (why.Fetched x) head lo hi) (sym from) (sym to))
 
   -- SHOWN
-  pub stands_shown : (r_of lo : ℕ) (reason : Why) (head : Response) (hi : Option ℕ) → k.answer ≡ Some head → u.received ≡ r.received → u.last_start ≡ r.last_start → u.exchanges ≡ r.exchanges → ChangesAt r.consumers u.consumers c once_answered
+  pub stands_shown : (r_of lo : ℕ) (reason : Why) (head : Response) (hi : Option ℕ) → k.answer ≡ Some head → u.received ≡ r.received → u.last_start ≡ r.last_start → u.keys ≡ r.keys → u.exchanges ≡ r.exchanges → ChangesAt r.consumers u.consumers c once_answered
       → v.shown ≡ false → RowsStand u (after_accepted t (poll_of now c want (Shows r_of reason head lo hi) []))
-  stands_shown r_of lo reason head hi some received last same_table changes unshown =
+  stands_shown r_of lo reason head hi some received last same_keys same_table changes unshown =
       let m : Move = Shows r_of reason head lo hi in
       let e = poll_of now c want m [] in
       let s : Tables = after_accepted t e in
@@ -181,11 +169,12 @@ module _ {B : Type 0} (r u : Rows B) (t : Tables) (now c want x : ℕ) (k : Cons
       let kp = reading.kept in
       let rd = reading.reads in
       let change : once_answered k ≡ k_after = rw some refl in
-      goes_on r u t now c want x k m stands there reading (shows r_of reason head lo hi) refl refl k_after v_after w received last (ap next_of same_table) (λ y ne. tables y)
-      (rw change at (changed r.consumers u.consumers c once_answered k changes there)) row_after exchange reading.at
+      goes_on r u t now c want x k m stands there reading (shows r_of reason head lo hi) refl refl k_after v_after received last same_keys (ap next_of same_table) (λ y ne. tables y)
+      (rw change at (changed r.consumers u.consumers c once_answered k changes there)) row_after reading.at
       (record {
         is_there = kp.is_there;
         request = kp.request;
+        class_is = kp.class_is;
         since = kp.since;
         place = kp.place;
         own = kp.own;
@@ -196,7 +185,6 @@ module _ {B : Type 0} (r u : Rows B) (t : Tables) (now c want x : ℕ) (k : Cons
         given = kp.given;
         due = kp.due;
       })
-      (brings_as r.received u.received w v.due received rd.brings)
       (record {
         running = rw (tables x, alike) before.running;
         held = rw (tables x, exchange) ((before.held ∙ ap (held_for t x) rd.row) ∙ (held_is t x c w v reading.row rd.for_it reading.at ∙ sym (held_is s x c w v_after row_after rd.for_it reading.at)));
@@ -218,8 +206,8 @@ module _ {B : Type 0} (r u : Rows B) (t : Tables) (now c want x : ℕ) (k : Cons
     promised_is = keeps.promised_is;
   }
 
-  pub stands_asked : u.received ≡ r.received → u.last_start ≡ r.last_start → u.consumers ≡ r.consumers → exch.Becomes known.asked x r.exchanges u.exchanges → RowsStand u (after_accepted t (poll_of now c want (Asks x) []))
-  stands_asked received last same_map becomes =
+  pub stands_asked : u.received ≡ r.received → u.last_start ≡ r.last_start → u.keys ≡ r.keys → u.consumers ≡ r.consumers → exch.Becomes known.asked x r.exchanges u.exchanges → RowsStand u (after_accepted t (poll_of now c want (Asks x) []))
+  stands_asked received last same_keys same_map becomes =
       let e = poll_of now c want (Asks x) [] in
       let s : Tables = after_accepted t e in
       let rd = reading.reads in
@@ -231,19 +219,18 @@ module _ {B : Type 0} (r u : Rows B) (t : Tables) (now c want x : ℕ) (k : Cons
       let before = stands.exchanges x in
       let was : KeepsRunning (table_of r.exchanges x).running (Some w) = rw rd.row at before.running in
       let held_before : (table_of r.exchanges x).held ≡ drop v.given w.body = (before.held ∙ ap (held_for t x) rd.row) ∙ held_is t x c w v reading.row rd.for_it reading.at in
-      goes_on r u t now c want x k (Asks x) stands there reading asks refl refl k v w_after received last becomes.next (λ y ne. known_other known.asked x r.exchanges u.exchanges becomes y ne)
-      (unchanged r.consumers u.consumers c k same_map there) row_after exchange reading.at
+      goes_on r u t now c want x k (Asks x) stands there reading asks refl refl k v received last same_keys becomes.next (λ y ne. known_other known.asked x r.exchanges u.exchanges becomes y ne)
+      (unchanged r.consumers u.consumers c k same_map there) row_after reading.at
       (kept_with t s x k v w w_after reading.at rd.row exchange refl refl (end_asked (promised w) w) kp)
-      (record { past = rd.brings.past; came = rw received rd.brings.came; told = rd.brings.told; finished = λ over none. end_asked (promised w) w ∙ rd.brings.finished over none })
       (record {
         running = rw (here, exchange) (asked_running (table_of r.exchanges x).running was);
         held = rw (here, exchange) (held_before ∙ sym (held_is s x c w_after v row_after rd.for_it reading.at));
       })
 
   -- GIVEN
-  pub stands_given : (run : Run) (n : ℕ) → u.received ≡ r.received → u.last_start ≡ r.last_start → exch.Becomes (known.given n) x r.exchanges u.exchanges → ChangesAt r.consumers u.consumers c (once_given (length run.bytes))
-      → run.bytes ≡ take n (table_of r.exchanges x).held → is_some w.head ≡ true → RowsStand u (after_accepted t (poll_of now c want (Gives run) []))
-  stands_given run n received last becomes changes bytes headed =
+  pub stands_given : (run : Run) (n : ℕ) → u.received ≡ r.received → u.last_start ≡ r.last_start → u.keys ≡ r.keys → exch.Becomes (known.given n) x r.exchanges u.exchanges → ChangesAt r.consumers u.consumers c (once_given (length run.bytes))
+      → run.bytes ≡ take n (table_of r.exchanges x).held → RowsStand u (after_accepted t (poll_of now c want (Gives run) []))
+  stands_given run n received last same_keys becomes changes bytes =
       let m : Move = Gives run in
       let e = poll_of now c want m [] in
       let s : Tables = after_accepted t e in
@@ -257,12 +244,12 @@ module _ {B : Type 0} (r u : Rows B) (t : Tables) (now c want x : ℕ) (k : Cons
       let before = stands.exchanges x in
       let held_before : (table_of r.exchanges x).held ≡ drop v.given w.body = (before.held ∙ ap (held_for t x) rd.row) ∙ held_is t x c w v reading.row rd.for_it reading.at in
       let bytes_are : run.bytes ≡ take n (drop v.given w.body) = bytes ∙ ap (take n) held_before in
-      let few : v.given + length run.bytes ≤ length w.body = given_fits n v.given w.body run.bytes bytes_are rd.given in
-      goes_on r u t now c want x k m stands there reading (gives run) refl refl (once_given (length run.bytes) k) v_after w received last becomes.next (λ y ne. known_other (known.given n) x r.exchanges u.exchanges becomes y ne)
-      (changed r.consumers u.consumers c (once_given (length run.bytes)) k changes there) row_after exchange reading.at
+      goes_on r u t now c want x k m stands there reading (gives run) refl refl (once_given (length run.bytes) k) v_after received last same_keys becomes.next (λ y ne. known_other (known.given n) x r.exchanges u.exchanges becomes y ne)
+      (changed r.consumers u.consumers c (once_given (length run.bytes)) k changes there) row_after reading.at
       (let kept_s = kept_same t s x k v reading.at alike kp in record {
         is_there = kp.is_there;
         request = kp.request;
+        class_is = kp.class_is;
         since = kp.since;
         place = kp.place;
         own = kp.own;
@@ -273,7 +260,6 @@ module _ {B : Type 0} (r u : Rows B) (t : Tables) (now c want x : ℕ) (k : Cons
         given = ap (λ i. i + length run.bytes) kp.given;
         due = kp.due;
       })
-      (brings_as r.received u.received w v.due received rd.brings)
       (record {
         running = rw (here, alike) before.running;
         held = rw (here, exchange) ((ap (drop n) held_before ∙ given_drop n v.given w.body run.bytes bytes_are) ∙ sym (held_is s x c w v_after row_after rd.for_it reading.at));

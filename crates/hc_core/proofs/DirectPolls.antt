@@ -18,16 +18,15 @@ use Rattle.hc_exch.specs.Known.{Known}
 use Rattle.hc_core.specs.declared.consumer.Consumer.{Consumer}
 use Rattle.hc_core.specs.declared.rows.Rows.{Rows}
 use Rattle.hc_core.specs.Changes.{ChangesAt, BecomesAt}
-use Rattle.hc_core.specs.Past.{BringsPast}
 use Rattle.hc_core.specs.Kept.{IsKept, KeepsExchange}
 use Rattle.hc_core.specs.Stands.{RowsStand}
 use Rattle.hc_core.proofs.Words.{same_or, eqb-same, eqb-other}
 use Rattle.hc_core.proofs.Moved.{kept_row, direct_is}
-use Rattle.hc_core.proofs.PastEntries.{poll_of, poll_entry}
+use Rattle.hc_core.proofs.PastEntries.{poll_of, poll_entry, quiet_by}
 use Rattle.hc_core.proofs.PastCloses.{before_closing, closing_none, poll_lossless}
 use Rattle.hc_core.proofs.Direct.{reads_on}
 use Rattle.hc_core.proofs.PollRows.{AsksOnly, poll_only, closes_nothing}
-use Rattle.hc_core.proofs.Standing.{ReadsPast, Standing, StandsPast, direct, down, line}
+use Rattle.hc_core.proofs.Standing.{ReadsPast, Standing, StandsPast, direct, down, line, turn}
 
 -- WHO READS
 
@@ -37,12 +36,13 @@ pub record IsReading {B : Type 0} (r : Rows B) (t : Tables) (c x : ℕ) (k : Con
   pub row : t.consumer c ≡ Some v
   pub kept : IsKept t k v
   pub at : v.place ≡ place.Direct x
-  pub reads : ReadsPast r.received t c x v
+  pub reads : ReadsPast t c x v
 
-reading_by : {B : Type 0} (r : Rows B) (t : Tables) (c x : ℕ) (k : Consumer) (v : rows.Consumer) → t.consumer c ≡ Some v → IsKept t k v → v.place ≡ place.Direct x → StandsPast r.received t c v → IsReading r t c x k
-reading_by r t c x k v row kept at (line in_line own shown given due disabled plain) = absurd (let never : place.Line ≡ place.Direct x = sym in_line ∙ at in cc)
+reading_by : {B : Type 0} (r : Rows B) (t : Tables) (c x : ℕ) (k : Consumer) (v : rows.Consumer) → t.consumer c ≡ Some v → IsKept t k v → v.place ≡ place.Direct x → StandsPast t c v → IsReading r t c x k
+reading_by r t c x k v row kept at (line in_line own shown given due) = absurd (let never : place.Line ≡ place.Direct x = sym in_line ∙ at in cc)
 reading_by r t c x k v row kept at (direct y at_y reads) =
-    record { v = v; row = row; kept = kept; at = at; reads = subst (λ (z : ℕ). ReadsPast r.received t c z v) (direct_is y x (sym at_y ∙ at)) reads }
+    record { v = v; row = row; kept = kept; at = at; reads = subst (λ (z : ℕ). ReadsPast t c z v) (direct_is y x (sym at_y ∙ at)) reads }
+reading_by r t c x k v row kept at (turn y at_y awaits queues) = absurd (let never : place.Turn y ≡ place.Direct x = sym at_y ∙ at in cc)
 reading_by r t c x k v row kept at (down why down_at unowned shown told) = absurd (let never : place.Down why ≡ place.Direct x = sym down_at ∙ at in cc)
 
 pub reading_of : {B : Type 0} (r : Rows B) (t : Tables) (c x : ℕ) (k : Consumer) → Standing r t → get nat_eq r.consumers c ≡ Some k → k.place ≡ place.Direct x → IsReading r t c x k
@@ -60,7 +60,7 @@ not_left t o none x = rw none refl
 pub closes_none : {B : Type 0} (r : Rows B) (t : Tables) (now c want : ℕ) (m : Move) → Standing r t → leaver_in (acts_of c m ++ []) ≡ None → closing t (before_closing now c want m) ≡ []
 unfolding case_of
 closes_none r t now c want m stands stays =
-    closing_none r.received t (before_closing now c want m) stands.past (λ q. poll_lossless c q m) (λ x. refl) (λ x. not_left t (leaver_in (acts_of c m ++ [])) stays x)
+    closing_none t (before_closing now c want m) stands.past (quiet_by t (before_closing now c want m) refl) (λ q. poll_lossless c q m) (λ x. refl) (λ x. not_left t (leaver_in (acts_of c m ++ [])) stays x)
 
 -- a change of what is known of one exchange
 pub known_other : (f : Known → Known) (x : ℕ) (before after : _) → exch.Becomes f x before after → (y : ℕ) → y ≢ x → table_of after y ≡ table_of before y
@@ -91,13 +91,13 @@ module _ {B : Type 0} (r u : Rows B) (t : Tables) (now c want x : ℕ) (k : Cons
   abbrev after : Tables
   after = after_accepted t e
 
-  -- the consumer has this row, and its exchange that one
-  pub goes_on : (j : Consumer) (v : rows.Consumer) (w : Exchange) → u.received ≡ r.received → u.last_start ≡ r.last_start → next_of u.exchanges ≡ next_of r.exchanges
+  -- the consumer has this row
+  pub goes_on : (j : Consumer) (v : rows.Consumer) → u.received ≡ r.received → u.last_start ≡ r.last_start → u.keys ≡ r.keys → next_of u.exchanges ≡ next_of r.exchanges
       → ((y : ℕ) → y ≢ x → table_of u.exchanges y ≡ table_of r.exchanges y)
-      → BecomesAt r.consumers u.consumers c (Some j) → after.consumer c ≡ Some v → after.exchange x ≡ Some w
-      → v.place ≡ place.Direct x → IsKept after j v → BringsPast u.received w v.due → KeepsExchange after x (table_of u.exchanges x)
+      → BecomesAt r.consumers u.consumers c (Some j) → after.consumer c ≡ Some v
+      → v.place ≡ place.Direct x → IsKept after j v → KeepsExchange after x (table_of u.exchanges x)
       → RowsStand u after
-  goes_on j v w received last next tables becomes row exchange at kept brings known_as =
+  goes_on j v received last same_keys next tables becomes row at kept known_as =
       reads_on r u t e c x reading.v stands (poll_entry t now c want m []) (poll_only now c want x m [] only (λ y ne. closes_nothing y)) unopened refl refl
-      reading.row reading.reads reading.at (rw received (omega arith)) last next tables
-      known_as j v w becomes row at kept exchange brings
+      reading.row reading.reads reading.at (rw received (omega arith)) last same_keys next tables
+      known_as j v becomes row at kept

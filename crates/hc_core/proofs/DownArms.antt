@@ -7,7 +7,7 @@ use Rattle.hc_event.specs.declared.event.Response.{Response}
 use Rattle.hc_event.specs.declared.act.Act.TheVariants as act
 use Rattle.hc_event.specs.declared.act.Cause.{Cause}
 use Rattle.hc_model.specs.declared.place.Place.TheVariants as place
-use Rattle.hc_model.specs.Cases.{case_at}
+use Rattle.hc_model.specs.Cases.{case_at, is_founding}
 use Rattle.hc_model.specs.ConsumerRows.{consumer_after, consumer_heard}
 use Rattle.hc_model.specs.Denials.{is_live_place}
 use Rattle.hc_model.specs.Exchanges.{base, promised, is_open}
@@ -15,7 +15,7 @@ use Rattle.hc_model.specs.Reading.{end_in, end_of_direct, lo_of, hi_of, base_in}
 use Rattle.hc_model.specs.Rows as rows
 use Rattle.hc_model.specs.Rows.{Tables, Exchange}
 use Rattle.hc_model.specs.StartingOver.{sends_back}
-use Rattle.hc_model.specs.Tables.{after_accepted, last_start_after, starts_after}
+use Rattle.hc_model.specs.Tables.{after_accepted, last_start_after, starts_after, received_in}
 use Rattle.hc_exch.specs.Exchanges as exch
 use Rattle.hc_exch.specs.Exchanges.{table_of, next_of}
 use Rattle.hc_exch.specs.Known as known
@@ -24,10 +24,10 @@ use Rattle.hc_exch.specs.declared.row.Open.{Open}
 use Rattle.hc_core.specs.declared.consumer.Consumer.{Consumer}
 use Rattle.hc_core.specs.declared.rows.Rows.{Rows}
 use Rattle.hc_core.specs.Changes.{ChangesAt, put_down}
-use Rattle.hc_core.specs.Past.{GoesPast, is_down, is_misread}
 use Rattle.hc_core.specs.Kept.{IsKept, KeepsRunning, IsRunning, held_for, answer_for}
 use Rattle.hc_core.specs.Stands.{RowsStand}
 use Rattle.hc_core.proofs.Words.{false_true}
+use Rattle.hc_core.proofs.PastEntries.{DoomsNobody}
 use Rattle.hc_core.proofs.PastCloses.{told_of}
 use Rattle.hc_core.proofs.Direct.{reads_no_more}
 use Rattle.hc_core.proofs.DirectPolls.{known_other, known_here, changed}
@@ -62,12 +62,12 @@ answers_none : (t : Tables) (x : ℕ) (v : rows.Consumer) (w : Exchange) → v.p
 answers_none t x v w at row none = rw (at, row, none) (either_none v.shown)
 
 module _ {B : Type 0} (r u : Rows B) (t : Tables) (now x : ℕ) (ev : Event) (ys : List ℕ) (o : Open) (z : Exchange) (reason : Cause) (stands : Standing r t) (hears : Hears r t x o) (news : IsNews ev x) (headless : o.headed ≡ false)
-    (sends : sends_back (case_at t (told_of now ev ys)) ≡ false)
+    (sends : sends_back (case_at t (told_of now ev ys)) ≡ false) (founds : is_founding (case_at t (told_of now ev ys)) ≡ false) (quiet : DoomsNobody t (told_of now ev ys)) (none_received : received_in ev ≡ 0)
     (lasts : last_start_after ev t.last_start ≡ t.last_start) (starts : starts_after ev t.starts ≡ t.starts)
     (closes : (y : ℕ) → y ≢ x → closes_in y (map act.Close ys) ≡ false) (unopened : opening_in (map act.Close ys) ≡ None)
     (heard : (q : rows.Consumer) → q.shown ≡ false → consumer_heard t (told_of now ev ys) o.c ev q ≡ record q { place = place.Down reason })
     (exchange : (after_accepted t (told_of now ev ys)).exchange x ≡ Some z) (same_c : z.c ≡ hears.reading.reads.w.c) (over : z.is_open ≡ false)
-    (received : u.received ≡ r.received) (last : u.last_start ≡ r.last_start) (becomes : exch.Becomes known.closed x r.exchanges u.exchanges) (changes : ChangesAt r.consumers u.consumers o.c (put_down reason)) (told : is_misread (Some reason) ≡ false) where
+    (received : u.received ≡ r.received) (last : u.last_start ≡ r.last_start) (same_keys : u.keys ≡ r.keys) (becomes : exch.Becomes known.closed x r.exchanges u.exchanges) (changes : ChangesAt r.consumers u.consumers o.c (put_down reason)) where
   abbrev c : ℕ
   c = o.c
 
@@ -115,6 +115,7 @@ module _ {B : Type 0} (r u : Rows B) (t : Tables) (now x : ℕ) (ev : Event) (ys
       record {
         is_there = refl;
         request = kp.request;
+        class_is = kp.class_is;
         since = kp.since;
         place = refl;
         own = kp.own;
@@ -125,10 +126,6 @@ module _ {B : Type 0} (r u : Rows B) (t : Tables) (now x : ℕ) (ev : Event) (ys
         given = kp.given;
         due = kp.due ∙ (rd.unheard no_head).2;
       }
-
-  stands_down_past : GoesPast u.received after v_down
-  unfolding v_down
-  stands_down_past = is_down reason refl told
 
   here : table_of u.exchanges x ≡ known.closed (table_of r.exchanges x)
   here = known_here known.closed x r.exchanges u.exchanges becomes
@@ -150,14 +147,14 @@ module _ {B : Type 0} (r u : Rows B) (t : Tables) (now x : ℕ) (ev : Event) (ys
   stands_down =
       let rd = hears.reading.reads in
       let e = told_of now ev ys in
-      reads_no_more r u t e c x v stands (told_entry t now c x ev ys news w rd.row rd.for_it sends) (told_only t now c x ev ys news w rd.row rd.for_it closes) unopened lasts starts
-      hears.reading.row rd hears.reading.at (rw received (omega arith)) last becomes.next (λ y ne. known_other known.closed x r.exchanges u.exchanges becomes y ne)
+      reads_no_more r u t e c x v stands (told_entry t now c x ev ys news w rd.row rd.for_it sends founds quiet) (told_only t now c x ev ys news w rd.row rd.for_it closes) unopened lasts starts
+      hears.reading.row rd hears.reading.at (received ∙ (let none = none_received in omega (arith, none))) last same_keys becomes.next (λ y ne. known_other known.closed x r.exchanges u.exchanges becomes y ne)
       (record {
         running = subst (λ (y : Known). KeepsRunning y.running (after.exchange x)) (sym here) closed_row;
         held = ap (λ (y : Known). y.held) here ∙ (held_before ∙ (sym none_after ∙ ap (held_for after x) (sym exchange)));
       })
       (Some (put_down reason k)) v_down (changed r.consumers u.consumers c (put_down reason) k changes hears.there) row_after
-      not_direct lives_down kept_down (λ live. stands_down_past)
+      not_direct lives_down kept_down refl refl
     where
       not_direct : (y : ℕ) → v_down.place ≡ place.Direct y → ⊥
       not_direct y at = let never : place.Down reason ≡ place.Direct y = at in cc

@@ -1,5 +1,5 @@
 -- The end and the break of an exchange past the store.
-use Rattle.std.proofs.Common.{◌≡◌, ℕ, ◌+◌, ◌≤◌, ◌<◌, List, [], length, Bool, true, false, cond, Option, Some, None, refl, ap, ap₂, sym, ◌∙◌, arith}
+use Rattle.std.proofs.Common.{◌≡◌, ℕ, ◌≤◌, ◌<◌, List, [], length, Bool, true, false, cond, Option, Some, None, refl, ap, ap₂, sym, ◌∙◌, arith}
 use Rattle.std.proofs.lemmas.Bool.Decides.{nat_tests}
 use Rattle.std.proofs.lemmas.List.{append-nil}
 use Rattle.std.specs.Prelude.{is_some, is_none, nat_lt, ◌&&◌, ◌==◌, not, if◌then◌else◌}
@@ -30,11 +30,11 @@ use Rattle.hc_exch.specs.declared.row.Open.{Open}
 use Rattle.hc_core.specs.declared.consumer.Consumer.{Consumer}
 use Rattle.hc_core.specs.declared.rows.Rows.{Rows}
 use Rattle.hc_core.specs.Changes.{ChangesAt, BecomesAt, with_due, with_end}
-use Rattle.hc_core.specs.Past.{is_misread}
 use Rattle.hc_core.specs.Stands.{RowsStand, Answered}
-use Rattle.hc_core.proofs.Words.{eqb-same, none_some, false_true}
+use Rattle.hc_core.proofs.Words.{eqb-same, false_true}
 use Rattle.hc_core.proofs.PastCloses.{told_of, told_answered, closing_none}
 use Rattle.hc_core.proofs.DirectPolls.{changed, unchanged}
+use Rattle.hc_core.proofs.PastEntries.{quiet_by}
 use Rattle.hc_core.proofs.Hearing.{Hears, IsNews}
 use Rattle.hc_core.proofs.StopArms.{IsStopped, source_is, highs_are, stands_stopped}
 use Rattle.hc_core.proofs.Standing.{Standing}
@@ -77,7 +77,7 @@ broken_end None w = refl
 broken_end (Some n) w = refl
 
 module _ {B : Type 0} (r u : Rows B) (t : Tables) (now x : ℕ) (o : Open) (stands : Standing r t) (hears : Hears r t x o) (running : (table_of r.exchanges x).running ≡ Some o) (headed : o.headed ≡ true)
-    (received : u.received ≡ r.received) (last : u.last_start ≡ r.last_start) (becomes : exch.Becomes known.closed x r.exchanges u.exchanges) where
+    (received : u.received ≡ r.received) (last : u.last_start ≡ r.last_start) (same_keys : u.keys ≡ r.keys) (becomes : exch.Becomes known.closed x r.exchanges u.exchanges) where
   abbrev c : ℕ
   c = o.c
 
@@ -99,22 +99,21 @@ module _ {B : Type 0} (r u : Rows B) (t : Tables) (now x : ℕ) (o : Open) (stan
   -- it ends
   module _ (reason : Option Cause) (is_reason : short_of x w (promised w) ≡ reason) (j : Consumer) (kept_at : BecomesAt r.consumers u.consumers c (Some j))
       (due_is : j.due ≡ option_or v.due reason) (ends_is : j.hi ≡ end_in (Some (ended w)))
-      (same_parts : (j.request ≡ k.request) × (j.since ≡ k.since) × (j.place ≡ k.place) × (j.own ≡ k.own) × (j.shown ≡ k.shown) × (j.answer ≡ k.answer) × (j.lo ≡ k.lo) × (j.given ≡ k.given))
-      (told : is_misread reason ≡ false) (finished : reason ≡ None → end_in (Some (ended w)) ≡ Some (length w.body)) where
+      (same_parts : (j.request ≡ k.request) × (j.since ≡ k.since) × (j.place ≡ k.place) × (j.own ≡ k.own) × (j.shown ≡ k.shown) × (j.answer ≡ k.answer) × (j.lo ≡ k.lo) × (j.given ≡ k.given) × (j.class ≡ k.class)) where
     stands_ended : RowsStand u (after_accepted t (told_of now (event.End x) []))
     unfolding case_of
     stands_ended =
         let rd = hears.reading.reads in
         let stop : stop_cause t (event.End x) ≡ reason = ap (short_cause x) rd.row ∙ is_reason in
-        stands_stopped r u t now x (event.End x) o (ended w) reason j stands hears running (end_news x) refl refl refl (λ q. refl)
+        stands_stopped r u t now x (event.End x) o (ended w) reason j stands hears running (end_news x) refl refl (quiet_by t (told_of now (event.End x) []) refl) refl refl refl (λ q. refl)
         (stop_here t x v w (told_of now (event.End x) []) reason rd.own rd.row hears.is.is_open refl stop) refl
-        (ap (exchange_after t (told_of now (event.End x) []) x) rd.row ∙ exchange_ended t now x w) (end_stopped w) received last becomes kept_at due_is ends_is same_parts told finished
+        (ap (exchange_after t (told_of now (event.End x) []) x) rd.row ∙ exchange_ended t now x w) (end_stopped w) received last same_keys becomes kept_at due_is ends_is same_parts
 
     pub end_answered : (limits : Limits) (before : List Act) → Answered limits u t before before now (event.End x)
     unfolding case_of room_for
     end_answered limits before =
         told_answered limits u t now (event.End x) [] before before refl refl refl
-        (closing_none r.received t (told_of now (event.End x) []) stands.past (λ q. refl) (λ y. refl) (λ y. refl))
+        (closing_none t (told_of now (event.End x) []) stands.past (quiet_by t (told_of now (event.End x) []) refl) (λ q. refl) (λ y. refl) (λ y. refl))
         (sym (append-nil before)) stands_ended
 
   short_is : (p : ℕ) → promised w ≡ Some p → (b : Bool) → nat_lt (length w.body) p ≡ b → short_of x w (promised w) ≡ cond b (Some (cause.Short x (length w.body) p)) None
@@ -131,29 +130,22 @@ module _ {B : Type 0} (r u : Rows B) (t : Tables) (now x : ℕ) (o : Open) (stan
       end_answered reason (short_is p promise true fewer) (with_due (cause.Short x o.delivered p) k) (changed r.consumers u.consumers c (with_due (cause.Short x o.delivered p)) k changes hears.there)
       (ap₂ (λ (a : Option Cause) (n : ℕ). option_or a (Some (cause.Short x n p))) hears.reading.kept.due hears.is.delivered)
       (hi_is ∙ (ap (λ (n : Option ℕ). end_of_direct n w) promise ∙ sym (ap (λ (n : Option ℕ). end_of_direct n (ended w)) promise)))
-      (refl, refl, refl, refl, refl, refl, refl, refl) refl (λ none. none_some _ (sym none)) limits before
+      (refl, refl, refl, refl, refl, refl, refl, refl, refl) limits before
 
   -- with all that it promised
   pub end_full : (p : ℕ) (limits : Limits) (before : List Act) → o.promised ≡ Some p → p ≤ o.delivered → u.consumers ≡ r.consumers → Answered limits u t before before now (event.End x)
   unfolding ended
   end_full p limits before is le same_map =
-      let rd = hears.reading.reads in
       let promise : promised w ≡ Some p = sym hears.is.promised_is ∙ is in
       let all : nat_lt (length w.body) p ≡ false = grind (arith, nat_tests, hears.is.delivered, le) in
-      let most : length w.body ≤ p = rd.most p promise in
-      let whole : p ≡ length w.body = omega (arith, most, hears.is.delivered, le) in
       end_answered None (short_is p promise false all) k (unchanged r.consumers u.consumers c k same_map hears.there)
       (hears.reading.kept.due ∙ sym (or_nothing v.due))
       (hi_is ∙ (ap (λ (n : Option ℕ). end_of_direct n w) promise ∙ sym (ap (λ (n : Option ℕ). end_of_direct n (ended w)) promise)))
-      (refl, refl, refl, refl, refl, refl, refl, refl) refl
-      (λ none. ap (λ (n : Option ℕ). end_of_direct n (ended w)) promise ∙ ap Some (ap (λ (n : ℕ). n + p) rd.begins ∙ (plus_zero p ∙ whole))) limits before
+      (refl, refl, refl, refl, refl, refl, refl, refl, refl) limits before
     where
       or_nothing : (a : Option Cause) → option_or a None ≡ a
       or_nothing None = refl
       or_nothing (Some z) = refl
-
-      plus_zero : (n : ℕ) → 0 + n ≡ n
-      plus_zero n = omega arith
 
   -- where nothing was promised
   pub end_known : (limits : Limits) (before : List Act) → o.promised ≡ None → ChangesAt r.consumers u.consumers c (with_end o.delivered) → Answered limits u t before before now (event.End x)
@@ -163,8 +155,7 @@ module _ {B : Type 0} (r u : Rows B) (t : Tables) (now x : ℕ) (o : Open) (stan
       end_answered None (ap (short_of x w) promise) (with_end o.delivered k) (changed r.consumers u.consumers c (with_end o.delivered) k changes hears.there)
       (hears.reading.kept.due ∙ sym (or_nothing v.due))
       (ap Some hears.is.delivered ∙ sym (ap (λ (n : Option ℕ). end_of_direct n (ended w)) promise))
-      (refl, refl, refl, refl, refl, refl, refl, refl) refl
-      (λ none. ap (λ (n : Option ℕ). end_of_direct n (ended w)) promise) limits before
+      (refl, refl, refl, refl, refl, refl, refl, refl, refl) limits before
     where
       or_nothing : (a : Option Cause) → option_or a None ≡ a
       or_nothing None = refl
@@ -177,14 +168,14 @@ module _ {B : Type 0} (r u : Rows B) (t : Tables) (now x : ℕ) (o : Open) (stan
       let rd = hears.reading.reads in
       let reason : Option Cause = Some (cause.Net x) in
       let stands_broken : RowsStand u (after_accepted t (told_of now (event.Fault x) [])) =
-      stands_stopped r u t now x (event.Fault x) o (record w { is_open = false }) reason (with_due (cause.Net x) k) stands hears running (fault_news x) refl refl refl (λ q. heard_fault (t.exchange x) rd.row)
+      stands_stopped r u t now x (event.Fault x) o (record w { is_open = false }) reason (with_due (cause.Net x) k) stands hears running (fault_news x) refl refl (quiet_by t (told_of now (event.Fault x) []) refl) refl refl refl (λ q. heard_fault (t.exchange x) rd.row)
       (stop_here t x v w (told_of now (event.Fault x) []) reason rd.own rd.row hears.is.is_open refl refl) refl
-      (ap (exchange_after t (told_of now (event.Fault x) []) x) rd.row ∙ exchange_broken t now x w) (broken_stopped w) received last becomes
+      (ap (exchange_after t (told_of now (event.Fault x) []) x) rd.row ∙ exchange_broken t now x w) (broken_stopped w) received last same_keys becomes
       (changed r.consumers u.consumers c (with_due (cause.Net x)) k changes hears.there)
       (ap (λ (a : Option Cause). option_or a (Some (cause.Net x))) hears.reading.kept.due)
-      (hi_is ∙ sym (broken_end (promised w) w)) (refl, refl, refl, refl, refl, refl, refl, refl) refl (λ none. none_some _ (sym none)) in
+      (hi_is ∙ sym (broken_end (promised w) w)) (refl, refl, refl, refl, refl, refl, refl, refl, refl) in
       told_answered limits u t now (event.Fault x) [] before before refl refl refl
-      (closing_none r.received t (told_of now (event.Fault x) []) stands.past (λ q. refl) (λ y. refl) (λ y. refl))
+      (closing_none t (told_of now (event.Fault x) []) stands.past (quiet_by t (told_of now (event.Fault x) []) refl) (λ q. refl) (λ y. refl) (λ y. refl))
       (sym (append-nil before)) stands_broken
     where
       heard_fault : (z : Option Exchange) → z ≡ Some w → by_fault c x z v ≡ v

@@ -36,6 +36,7 @@ use Rattle.hc_core.specs.declared.rows.Rows.{Rows}
 use Rattle.hc_core.specs.Changes.{ChangesAt, put_down}
 use Rattle.hc_core.specs.Stands.{RowsStand, Answered}
 use Rattle.hc_core.proofs.Words.{eqb-same, eqb-other}
+use Rattle.hc_core.proofs.PastEntries.{DoomsNobody, quiet_by}
 use Rattle.hc_core.proofs.PastCloses.{told_of, told_answered, closing_none, closing_one}
 use Rattle.hc_core.proofs.PollRows.{closes_itself}
 use Rattle.hc_core.proofs.Hearing.{Hears, IsNews}
@@ -72,7 +73,7 @@ not_sending false = refl
 -- THE FAULT OF AN EXCHANGE WITHOUT A HEAD
 
 module _ {B : Type 0} (r u : Rows B) (t : Tables) (now x : ℕ) (o : Open) (stands : Standing r t) (hears : Hears r t x o) (headless : o.headed ≡ false)
-    (received : u.received ≡ r.received) (last : u.last_start ≡ r.last_start) (becomes : exch.Becomes known.closed x r.exchanges u.exchanges) (changes : ChangesAt r.consumers u.consumers o.c (put_down (cause.Net x))) where
+    (received : u.received ≡ r.received) (last : u.last_start ≡ r.last_start) (same_keys : u.keys ≡ r.keys) (becomes : exch.Becomes known.closed x r.exchanges u.exchanges) (changes : ChangesAt r.consumers u.consumers o.c (put_down (cause.Net x))) where
   broken : (z : Option Exchange) (q : rows.Consumer) → z ≡ Some hears.reading.reads.w → q.shown ≡ false → by_fault o.c x z q ≡ record q { place = place.Down (cause.Net x) }
   broken z q is unshown =
       let mine : eqb hears.reading.reads.w.c o.c ≡ true = rw hears.reading.reads.for_it (eqb-same o.c) in
@@ -85,19 +86,19 @@ module _ {B : Type 0} (r u : Rows B) (t : Tables) (now x : ℕ) (o : Open) (stan
   stands_broken : RowsStand u (after_accepted t (told_of now (event.Fault x) []))
   unfolding case_of
   stands_broken =
-      stands_down r u t now x (event.Fault x) [] o (record hears.reading.reads.w { is_open = false }) (cause.Net x) stands hears (fault_news x) headless refl refl refl (λ y ne. refl) refl
-      (λ q unshown. broken (t.exchange x) q hears.reading.reads.row unshown) (ap (exchange_after t (told_of now (event.Fault x) []) x) hears.reading.reads.row ∙ broken_exchange) refl refl received last becomes changes refl
+      stands_down r u t now x (event.Fault x) [] o (record hears.reading.reads.w { is_open = false }) (cause.Net x) stands hears (fault_news x) headless refl refl (quiet_by t (told_of now (event.Fault x) []) refl) refl refl refl (λ y ne. refl) refl
+      (λ q unshown. broken (t.exchange x) q hears.reading.reads.row unshown) (ap (exchange_after t (told_of now (event.Fault x) []) x) hears.reading.reads.row ∙ broken_exchange) refl refl received last same_keys becomes changes
 
   pub broken_answered : (limits : Limits) (before : List Act) → Answered limits u t before before now (event.Fault x)
   unfolding case_of room_for
   broken_answered limits before =
       told_answered limits u t now (event.Fault x) [] before before refl refl refl
-      (closing_none r.received t (told_of now (event.Fault x) []) stands.past (λ q. refl) (λ y. refl) (λ y. refl))
+      (closing_none t (told_of now (event.Fault x) []) stands.past (quiet_by t (told_of now (event.Fault x) []) refl) (λ q. refl) (λ y. refl) (λ y. refl))
       (sym (append-nil before)) stands_broken
 
 -- A HEAD THAT CAN'T BE USED
 
-module _ {B : Type 0} (r u : Rows B) (t : Tables) (now x : ℕ) (response : Response) (o : Open) (stands : Standing r t) (hears : Hears r t x o) (headless : o.headed ≡ false) where
+module _ {B : Type 0} (r u : Rows B) (t : Tables) (now x : ℕ) (response : Response) (o : Open) (stands : Standing r t) (hears : Hears r t x o) (headless : o.headed ≡ false) (quiet : (acts : List Act) → DoomsNobody t (record { now = now; event = event.Head x response; acts = acts })) where
   abbrev c : ℕ
   c = o.c
 
@@ -107,9 +108,9 @@ module _ {B : Type 0} (r u : Rows B) (t : Tables) (now x : ℕ) (response : Resp
   -- whatever is closed
   module _ (ys : List ℕ) (bad : Bool) (is : is_bad (length_told w response) ≡ bad) (lossless : has_loss (map act.Close ys) ≡ false) where
     pub head_case_is : case_at t (told_of now (event.Head x response) ys) ≡ Some (direct_by bad)
-    head_case_is = case_is t (has_loss (map act.Close ys)) x response w bad hears.reading.reads.row hears.reading.reads.brings.past is
+    head_case_is = case_is t (has_loss (map act.Close ys)) x response w bad hears.reading.reads.row (hears.reading.reads.past (headless_is o w hears.is headless)) is
 
-    no_founding : is_founding (case_at t (told_of now (event.Head x response) ys)) ≡ false
+    pub no_founding : is_founding (case_at t (told_of now (event.Head x response) ys)) ≡ false
     no_founding = ap is_founding head_case_is ∙ not_founding bad
 
     pub no_sending : sends_back (case_at t (told_of now (event.Head x response) ys)) ≡ false
@@ -124,7 +125,7 @@ module _ {B : Type 0} (r u : Rows B) (t : Tables) (now x : ℕ) (response : Resp
     unfolding room_for
     room_is limits = ap (room_by limits t (told_of now (event.Head x response) [])) no_write
 
-  module _ (is : is_bad (length_told w response) ≡ true) (received : u.received ≡ r.received) (last : u.last_start ≡ r.last_start) (becomes : exch.Becomes known.closed x r.exchanges u.exchanges) (changes : ChangesAt r.consumers u.consumers c (put_down (cause.BadHead x))) where
+  module _ (is : is_bad (length_told w response) ≡ true) (received : u.received ≡ r.received) (last : u.last_start ≡ r.last_start) (same_keys : u.keys ≡ r.keys) (becomes : exch.Becomes known.closed x r.exchanges u.exchanges) (changes : ChangesAt r.consumers u.consumers c (put_down (cause.BadHead x))) where
     abbrev e : Entry
     e = told_of now (event.Head x response) (x ∷ [])
 
@@ -144,8 +145,8 @@ module _ {B : Type 0} (r u : Rows B) (t : Tables) (now x : ℕ) (response : Resp
     stands_refused : RowsStand u (after_accepted t e)
     stands_refused =
         stands_down r u t now x (event.Head x response) (x ∷ []) o (record w { head = Some response; answered = now; joined = joined_at t e w; asked = w.asked; is_open = false }) (cause.BadHead x) stands hears (head_news x response) headless
-        (no_sending (x ∷ []) true is refl) refl refl (λ y ne. closes_itself x y ne) refl
-        (λ q unshown. refused (t.exchange x) q hears.reading.reads.row) (ap (exchange_after t e x) hears.reading.reads.row ∙ refused_exchange) refl refl received last becomes changes refl
+        (no_sending (x ∷ []) true is refl) (no_founding (x ∷ []) true is refl) (quiet (act.Close x ∷ [])) refl refl refl (λ y ne. closes_itself x y ne) refl
+        (λ q unshown. refused (t.exchange x) q hears.reading.reads.row) (ap (exchange_after t e x) hears.reading.reads.row ∙ refused_exchange) refl refl received last same_keys becomes changes
 
     -- and is closed
     refuses_here : (is_refused (case_at t (told_of now (event.Head x response) [])) && brings_head x (event.Head x response)) ≡ true
@@ -161,5 +162,5 @@ module _ {B : Type 0} (r u : Rows B) (t : Tables) (now x : ℕ) (response : Resp
     refused_answered limits before out acts =
         told_answered limits u t now (event.Head x response) (x ∷ []) before out refl
         (ap (first_idle t (told_of now (event.Head x response) [])) (room_is true is limits)) (ap has_room (room_is true is limits))
-        (closing_one r.received t (told_of now (event.Head x response) []) stands.past (λ q. refl) x w true false stands.order stands.lists hears.reading.reads.row refuses_here refl refl open_yet refuses_other (λ y ne. refl))
+        (closing_one t (told_of now (event.Head x response) []) stands.past (quiet []) (λ q. refl) x w true false stands.order stands.lists hears.reading.reads.row refuses_here refl refl open_yet refuses_other (λ y ne. refl))
         acts stands_refused

@@ -1,6 +1,6 @@
 -- What comes of an exchange past the store: who hears of it, and what is said of that one.
 use Rattle.std.proofs.Common.{◌≡◌, ◌≢◌, ℕ, List, [], ◌∷◌, Bool, true, false, Option, Some, None, refl, ap, sym, ◌∙◌, subst}
-use Rattle.std.specs.Prelude.{nat_eq, map, ◌&&◌, ◌||◌, if◌then◌else◌}
+use Rattle.std.specs.Prelude.{nat_eq, is_some, map, ◌&&◌, ◌||◌, if◌then◌else◌}
 use Rattle.std.specs.Option.{option_or}
 use Rattle.std.specs.HashMap.{get}
 use Rattle.hc_event.specs.Filters.{opening_in, asks_in, closes_in}
@@ -8,10 +8,12 @@ use Rattle.hc_event.specs.declared.event.Event.{Event}
 use Rattle.hc_event.specs.declared.event.Event.TheVariants as event
 use Rattle.hc_event.specs.declared.act.Act.TheVariants as act
 use Rattle.hc_event.specs.declared.act.Cause.{Cause}
+use Rattle.hc_rules.specs.declared.need.Route.TheVariants as route
+use Rattle.hc_rules.specs.Needs.{route_of}
 use Rattle.hc_model.specs.declared.place.Place.{Place}
 use Rattle.hc_model.specs.declared.place.Place.TheVariants as place
 use Rattle.hc_model.specs.ActFilters.{loses_in}
-use Rattle.hc_model.specs.Cases.{case_at}
+use Rattle.hc_model.specs.Cases.{case_at, is_founding}
 use Rattle.hc_model.specs.ConsumerRows.{consumer_after, consumer_heard, consumer_acted, consumer_settled, consumer_made}
 use Rattle.hc_model.specs.Denials.{is_live, is_live_place}
 use Rattle.hc_model.specs.Dooms.{doomed, is_key}
@@ -31,12 +33,18 @@ use Rattle.hc_core.specs.Kept.{KeepsConsumer, KeepsRunning, IsRunning}
 use Rattle.hc_core.proofs.Words.{none_some, same_row, is_there}
 use Rattle.hc_core.proofs.Frames.{acted_stays}
 use Rattle.hc_core.proofs.Moved.{kept_lives}
-use Rattle.hc_core.proofs.PastEntries.{IsPastEntry, IsOnly}
+use Rattle.hc_core.proofs.PastEntries.{IsPastEntry, IsOnly, DoomsNobody}
 use Rattle.hc_core.proofs.PastCloses.{told_of}
 use Rattle.hc_core.proofs.DirectPolls.{IsReading, reading_of}
-use Rattle.hc_core.proofs.Standing.{IsRead, Standing}
+use Rattle.hc_core.proofs.Standing.{IsRead, Standing, reads_it, waits_for_it}
 
 -- WHO HEARS OF IT
+
+-- who reads an exchange past the store
+record ReadsIt (t : Tables) (x : ℕ) (w : Exchange) : Type 0 where
+  pub k : rows.Consumer
+  pub row : t.consumer w.c ≡ Some k
+  pub place_is : k.place ≡ place.Direct x
 
 -- the consumer of an open exchange, which reads it past the store
 pub record Hears {B : Type 0} (r : Rows B) (t : Tables) (x : ℕ) (o : Open) : Type 0 where
@@ -49,10 +57,11 @@ running_row : (o : Open) (row : Option Exchange) → KeepsRunning (Some o) row �
 running_row o None keeps = absurd keeps
 running_row o (Some w) keeps = (w, refl, keeps)
 
-pub hears_of : {B : Type 0} (r : Rows B) (t : Tables) (x : ℕ) (o : Open) → Standing r t → (table_of r.exchanges x).running ≡ Some o → Hears r t x o
-hears_of r t x o stands running =
+-- an exchange with a head, or one past the store, is read past the store
+pub hears_of : {B : Type 0} (r : Rows B) (t : Tables) (x : ℕ) (o : Open) → Standing r t → (table_of r.exchanges x).running ≡ Some o → (o.headed ≡ false → route_of o.need ≡ route.Direct) → Hears r t x o
+hears_of r t x o stands running past =
     let (w, row, is) = running_row o (t.exchange x) (subst (λ z. KeepsRunning z (t.exchange x)) running (stands.exchanges x).running) in
-    let read : IsRead t x w = stands.past.readers x w row is.is_open in
+    let read = reader w is (stands.past.readers x w row is.is_open) in
     let mine : t.consumer o.c ≡ Some read.k = ap t.consumer is.c ∙ read.row in
     let lives : is_live (t.consumer o.c) ≡ true = rw mine (ap is_live_place read.place_is) in
     let (k, kept) = is_there (get nat_eq r.consumers o.c) (kept_lives t (get nat_eq r.consumers o.c) (t.consumer o.c) (stands.consumers o.c) ∙ lives) in
@@ -61,6 +70,13 @@ hears_of r t x o stands running =
     let reading : IsReading r t o.c x k = reading_of r t o.c x k stands kept place_k in
     record { k = k; there = kept; reading = reading; is = subst (IsRunning o) (same_row (t.exchange x) w reading.reads.w row reading.reads.row) is }
   where
+    reader : (w : Exchange) → IsRunning o w → IsRead t x w → ReadsIt t x w
+    reader w is (reads_it k row at) = record { k = k; row = row; place_is = at }
+    reader w is (waits_for_it k row at none way same_key) =
+        let headless : o.headed ≡ false = is.headed ∙ ap is_some none in
+        let never : route.Direct ≡ route.Turn = sym (past headless) ∙ (ap route_of is.need ∙ way) in
+        absurd (cc)
+
     at_place : (k : Consumer) (row : Option rows.Consumer) (v : rows.Consumer) → KeepsConsumer t (Some k) row → row ≡ Some v → v.place ≡ place.Direct x → k.place ≡ place.Direct x
     at_place k None v kept is at = absurd kept
     at_place k (Some z) v kept is at = kept.place ∙ (ap (λ (y : rows.Consumer). y.place) (let same : z ≡ v = cc in same) ∙ at)
@@ -86,14 +102,16 @@ pub record IsNews (ev : Event) (x : ℕ) : Type 0 where
   pub cancels : (d : ℕ) → ev ≡ event.Cancel d → ⊥
 
 module _ (t : Tables) (now c x : ℕ) (ev : Event) (ys : List ℕ) (news : IsNews ev x) (w : Exchange) (row : t.exchange x ≡ Some w) (for_it : w.c ≡ c) where
-  pub told_entry : sends_back (case_at t (told_of now ev ys)) ≡ false → IsPastEntry t (told_of now ev ys) c
-  told_entry sends = record {
+  pub told_entry : sends_back (case_at t (told_of now ev ys)) ≡ false → is_founding (case_at t (told_of now ev ys)) ≡ false → DoomsNobody t (told_of now ev ys) → IsPastEntry t (told_of now ev ys) c
+  told_entry sends founds quiet = record {
     about = λ y is. (let same : x ≡ y = (let both : Some x ≡ Some y = sym news.names ∙ is in cc) in record { w = w; row = subst (λ (z : ℕ). t.exchange z ≡ Some w) same row; for_it = for_it });
     cancels = λ d is. absurd (news.cancels d is);
     makes = λ d ne. news.makes d now;
     far = λ d ne. far_closed d ys;
     lossless = λ q. no_losses q ys;
     sends = sends;
+    founds = founds;
+    quiet = quiet;
   }
 
   pub told_only : ((y : ℕ) → y ≢ x → closes_in y (map act.Close ys) ≡ false) → IsOnly (told_of now ev ys) x

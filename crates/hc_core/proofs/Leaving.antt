@@ -20,7 +20,7 @@ use Rattle.hc_model.specs.Moves.{Move, Ends, Fails, acts_of}
 use Rattle.hc_model.specs.Rows as rows
 use Rattle.hc_model.specs.Rows.{Tables, Exchange}
 use Rattle.hc_model.specs.StartingOver.{starts_over}
-use Rattle.hc_model.specs.Tables.{after_accepted, last_start_after, starts_after}
+use Rattle.hc_model.specs.Tables.{after_accepted, last_start_after, starts_after, received_in}
 use Rattle.hc_model.proofs.ActParts.{far_closed}
 use Rattle.hc_exch.specs.Exchanges.{table_of}
 use Rattle.hc_exch.specs.Known.{unknown}
@@ -30,9 +30,9 @@ use Rattle.hc_core.specs.declared.rows.Rows.{Rows}
 use Rattle.hc_core.specs.Kept.{KeepsRunning, held_for, is_direct}
 use Rattle.hc_core.specs.Stands.{RowsStand}
 use Rattle.hc_core.specs.Arms.{Leaves, closes_open}
-use Rattle.hc_core.proofs.Words.{eqb-same, eqb-other, none_some, false_true}
+use Rattle.hc_core.proofs.Words.{eqb-same, eqb-other, none_some}
 use Rattle.hc_core.proofs.Frames.{acted_stays}
-use Rattle.hc_core.proofs.PastEntries.{IsPastEntry, IsOnly, poll_of, poll_entry}
+use Rattle.hc_core.proofs.PastEntries.{IsPastEntry, IsOnly, DoomsNobody, quiet_by, poll_of, poll_entry}
 use Rattle.hc_core.proofs.PastCloses.{before_closing, cancel_of, closing_none, closing_one, poll_lossless}
 use Rattle.hc_core.proofs.Direct.{reads_no_more}
 use Rattle.hc_core.proofs.PollRows.{AsksOnly, ends, fails, poll_only, closes_itself, gone_row, IsGone}
@@ -54,17 +54,17 @@ left_as t c x y v w true row at own there on = rw (row, at, own, there, on) (or_
 left_as t c x y v w false row at own there on = rw (row, at, own, there, on) refl
 
 -- for an entry whose leaver is c, and whose head isn't refused
-module _ {B : Type 0} (r : Rows B) (t : Tables) (b : Entry) (c x : ℕ) (k : Consumer) (stands : Standing r t) (reading : IsReading r t c x k) (leaves : leaver b ≡ Some c) (lossless : (q : ℕ) → loses_in q b.acts ≡ false)
+module _ {B : Type 0} (r : Rows B) (t : Tables) (b : Entry) (c x : ℕ) (k : Consumer) (stands : Standing r t) (reading : IsReading r t c x k) (leaves : leaver b ≡ Some c) (quiet : DoomsNobody t b) (lossless : (q : ℕ) → loses_in q b.acts ≡ false)
     (unheard : (w : Exchange) → exchange_heard t b x b.event w ≡ w) (unrefused : (y : ℕ) → (is_refused (case_at t b) && brings_head y b.event) ≡ false) where
   left_is : (y : ℕ) (on : Bool) → reading.reads.w.is_open ≡ on → is_left t y (leaver b) ≡ (on && nat_eq x y)
   left_is y on is = ap (is_left t y) leaves ∙ left_as t c x y reading.v reading.reads.w on reading.row reading.at reading.reads.own reading.reads.row is
 
   closes_if : (on : Bool) → reading.reads.w.is_open ≡ on → closing t b ≡ cond on (x ∷ []) []
   closes_if true is =
-      closing_one r.received t b stands.past lossless x reading.reads.w false true stands.order stands.lists reading.reads.row (unrefused x) (left_is x true is ∙ eqb-same x) refl
+      closing_one t b stands.past quiet lossless x reading.reads.w false true stands.order stands.lists reading.reads.row (unrefused x) (left_is x true is ∙ eqb-same x) refl
       (ap (λ (z : Exchange). z.is_open) (unheard reading.reads.w) ∙ is)
       (λ y ne. unrefused y) (λ y ne. left_is y true is ∙ eqb-other x y (λ eq. ne (sym eq)))
-  closes_if false is = closing_none r.received t b stands.past lossless unrefused (λ y. left_is y false is)
+  closes_if false is = closing_none t b stands.past quiet lossless unrefused (λ y. left_is y false is)
 
   pub closes_as : closing t b ≡ closes_open x (table_of r.exchanges x)
   closes_as =
@@ -88,7 +88,7 @@ pub record IsOver (o : Option Exchange) (w : Exchange) : Type 0 where
   pub over : z.is_open ≡ false
 
 module _ {B : Type 0} (r u : Rows B) (t : Tables) (e : Entry) (c x : ℕ) (k : Consumer) (stands : Standing r t) (reading : IsReading r t c x k) (entry : IsPastEntry t e c) (only : IsOnly e x) (unopened : opening_in e.acts ≡ None)
-    (lasts : last_start_after e.event t.last_start ≡ t.last_start) (starts : starts_after e.event t.starts ≡ t.starts)
+    (lasts : last_start_after e.event t.last_start ≡ t.last_start) (starts : starts_after e.event t.starts ≡ t.starts) (none_received : received_in e.event ≡ 0)
     (gone : IsGone ((after_accepted t e).consumer c)) (over : IsOver ((after_accepted t e).exchange x) reading.reads.w) (leaves : Leaves r u c x) where
   pub stands_left : RowsStand u (after_accepted t e)
   stands_left =
@@ -96,7 +96,7 @@ module _ {B : Type 0} (r u : Rows B) (t : Tables) (e : Entry) (c x : ℕ) (k : C
       let here : table_of u.exchanges x ≡ unknown = leaves.known x ∙ rw (eqb-same x) refl in
       let closed_row : is_open (s.exchange x) ≡ false = rw over.row over.over in
       let lives : is_live_place gone.v.place ≡ false = rw gone.place_is refl in
-      reads_no_more r u t e c x reading.v stands entry only unopened lasts starts reading.row reading.reads reading.at (rw leaves.received (omega arith)) leaves.last_start leaves.next
+      reads_no_more r u t e c x reading.v stands entry only unopened lasts starts reading.row reading.reads reading.at (leaves.received ∙ (let none = none_received in omega (arith, none))) leaves.last_start leaves.keys leaves.next
       (λ y ne. (let off : eqb x y ≡ false = eqb-other x y (λ eq. ne (sym eq)) in leaves.known y ∙ rw off refl))
       (record {
         running = rw here closed_row;
@@ -104,8 +104,7 @@ module _ {B : Type 0} (r u : Rows B) (t : Tables) (e : Entry) (c x : ℕ) (k : C
       })
       None gone.v leaves.consumers gone.row
       (λ y at. (let never : place.Over ≡ place.Direct y = sym gone.place_is ∙ at in cc))
-      (sym lives) lives
-      (λ live. false_true (sym lives ∙ live))
+      (sym lives) lives (rw gone.place_is refl) (rw gone.place_is refl)
 
 -- THE EXCHANGE OF WHO LEAVES
 
@@ -162,7 +161,7 @@ others_unclosed x y false ne = refl
 module _ {B : Type 0} (r u : Rows B) (t : Tables) (now c want x : ℕ) (k : Consumer) (m : Move) (stands : Standing r t) (reading : IsReading r t c x k) (last : IsLast m) (leaves : Leaves r u c x) where
   pub poll_closes : closing t (before_closing now c want m) ≡ closes_open x (table_of r.exchanges x)
   unfolding case_of
-  poll_closes = closes_as r t (before_closing now c want m) c x k stands reading (last_leaver c m last) (λ q. poll_lossless c q m) (λ w. refl) (λ y. refl)
+  poll_closes = closes_as r t (before_closing now c want m) c x k stands reading (last_leaver c m last) (quiet_by t (before_closing now c want m) refl) (λ q. poll_lossless c q m) (λ w. refl) (λ y. refl)
 
   abbrev on : Bool
   on = is_some (table_of r.exchanges x).running
@@ -176,7 +175,7 @@ module _ {B : Type 0} (r u : Rows B) (t : Tables) (now c want x : ℕ) (k : Cons
   poll_left =
       let ys : List ℕ = closes_open x (table_of r.exchanges x) in
       let e = poll_of now c want m ys in
-      stands_left r u t e c x k stands reading (poll_entry t now c want m ys) (poll_only now c want x m ys (last_only x m last) (λ y ne. others_unclosed x y on ne)) (last_unopened c m ys last) refl refl
+      stands_left r u t e c x k stands reading (poll_entry t now c want m ys) (poll_only now c want x m ys (last_only x m last) (λ y ne. others_unclosed x y on ne)) (last_unopened c m ys last) refl refl refl
       (subst (λ o. IsGone (consumer_after t e c o)) (sym reading.row) (gone_row t now c want x reading.v reading.at m ys (last_leaves c m ys last)))
       (over_after t e x reading.reads.w on reading.reads.row on_is refl (last_closes x c m ys last ∙ closes_list x on)) leaves
 
@@ -195,6 +194,8 @@ module _ {B : Type 0} (r u : Rows B) (t : Tables) (now c x : ℕ) (k : Consumer)
     far = λ d ne. far_closed d ys;
     lossless = λ q. closes_lossless q ys;
     sends = refl;
+    founds = refl;
+    quiet = quiet_by t (cancel_of now c ys) refl;
   }
 
   asks_nothing : (y : ℕ) (ys : List ℕ) → asks_in y (map act.Close ys) ≡ false
@@ -203,7 +204,7 @@ module _ {B : Type 0} (r u : Rows B) (t : Tables) (now c x : ℕ) (k : Consumer)
 
   pub cancel_closes : closing t (cancel_of now c []) ≡ closes_open x (table_of r.exchanges x)
   unfolding case_of
-  cancel_closes = closes_as r t (cancel_of now c []) c x k stands reading refl (λ q. refl) (λ w. refl) (λ y. refl)
+  cancel_closes = closes_as r t (cancel_of now c []) c x k stands reading refl (quiet_by t (cancel_of now c []) refl) (λ q. refl) (λ w. refl) (λ y. refl)
 
   cancel_goes_on : (ys : List ℕ) (v : rows.Consumer) → v.place ≡ place.Direct x → starts_over t (cancel_of now c ys) c v ≡ false
   unfolding starts_over doomed case_of
@@ -242,6 +243,6 @@ module _ {B : Type 0} (r u : Rows B) (t : Tables) (now c x : ℕ) (k : Consumer)
   cancel_left =
       let ys : List ℕ = closes_open x (table_of r.exchanges x) in
       let e = cancel_of now c ys in
-      stands_left r u t e c x k stands reading (cancel_entry ys) (cancel_only running) (no_open_list ys) refl refl
+      stands_left r u t e c x k stands reading (cancel_entry ys) (cancel_only running) (no_open_list ys) refl refl refl
       (subst (λ o. IsGone (consumer_after t e c o)) (sym reading.row) (cancel_over ys reading.v reading.at))
       (over_after t e x reading.reads.w running reading.reads.row running_is refl (closes_list x running)) leaves

@@ -2,11 +2,12 @@ pub mod Words
 pub mod Frames
 pub mod LiveCounts
 pub mod Lengths
+pub mod Parts
 pub mod Standing
 pub mod Moved
+pub mod KeyTies
 pub mod PastEntries
 pub mod PastCloses
-pub mod Listed
 pub mod Direct
 pub mod PollRows
 pub mod DirectPolls
@@ -22,7 +23,13 @@ pub mod AnswerArms
 pub mod Apart
 pub mod ApartArms
 pub mod OpenArms
+pub mod HeadCases
 pub mod StartArms
+pub mod TurnTies
+pub mod Planned
+pub mod LineArms
+pub mod PollLines
+pub mod OpenLines
 pub mod BeginArms
 pub mod Gates
 pub mod ReadTies

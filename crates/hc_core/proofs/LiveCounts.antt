@@ -3,7 +3,7 @@ use Rattle.std.proofs.Common.{◌≡◌, ◌≢◌, inl, inr, ℕ, ◌+◌, ◌<
 use Rattle.std.specs.Prelude.{filter, if◌then◌else◌, reverse}
 use Rattle.std.proofs.lemmas.List.{append-nil, reverse-append}
 use Rattle.hc_model.specs.Sound.{Among}
-use Rattle.hc_core.specs.Past.{Descends}
+use Rattle.hc_model.specs.Orders.{Descends}
 use Rattle.hc_core.proofs.Words.{same_or}
 
 abbrev pub counted : (ℕ → Bool) → List ℕ → ℕ

@@ -7,6 +7,11 @@ use Rattle.std.specs.Prelude.{is_some, nat_eq, nat_lt, if◌then◌else◌, IsSo
 use Rattle.std.specs.Option.{option_copied}
 use Rattle.std.specs.HashMap.{get, get_by, hash_map_len, UpdatesBy}
 use Rattle.hc_event.specs.declared.act.Act.{Act}
+use Rattle.hc_entry.specs.declared.keys.KeyTable.{KeyTable}
+use Rattle.hc_entry.specs.Keys.{line_of}
+use Rattle.hc_entry.specs.Lines.{is_in, is_held_by}
+use Rattle.hc_core.specs.declared.consumer.Consumer.{Consumer}
+use Rattle.hc_core.specs.Arms.{IsQueued}
 use Rattle.hc_core.specs.Changes.{Numbered, ChangesAt, BecomesAt, one}
 
 -- MAPS
@@ -45,6 +50,10 @@ pub merely_true : {P : Type 0} (b : Bool) → ∥ P ∥₁ → (P → b ≡ true
 merely_true true some h = refl
 merely_true false some h = absurd (not_there some (λ p. (let never : false ≡ true = h p in absurd (cc))))
 
+pub merely_false : {P : Type 0} (b : Bool) → ∥ P ∥₁ → (P → b ≡ false) → b ≡ false
+merely_false false some h = refl
+merely_false true some h = absurd (not_there some (λ p. (let never : true ≡ false = h p in absurd (cc))))
+
 pub merely_below : {P : Type 0} (n m : ℕ) → ∥ P ∥₁ → (P → n < m) → n < m
 merely_below n m some h =
     let test : nat_lt n m ≡ true = merely_true (nat_lt n m) some (λ p. (let lt : n < m = h p in grind (arith, nat_tests, lt))) in
@@ -54,3 +63,14 @@ merely_below n m some h =
 pub changes_as : {A : Type 0} (m n u : Numbered A) (c d : ℕ) (f h : A → A) → u ≡ n → c ≡ d → f ≡ h → ChangesAt m n c f → ChangesAt m u d h
 changes_as m n u c d f h same_map same_place same_change changes =
     subst (λ z. ChangesAt m z d h) (sym same_map) (subst (λ z. ChangesAt m n z h) same_place (subst (λ z. ChangesAt m n c z) same_change changes))
+
+pub some_that : {A : Type 0} (row : Option A) (k : A) (P : A → Type 0) → row ≡ Some k → P k → IsSomeAnd row P
+some_that row k P is p = rw is p
+
+-- it is kept that a consumer stands in line
+pub merely_queued : {P : Type 0} (keys : KeyTable) (c : ℕ) (k : Consumer) → ∥ P ∥₁ → (P → IsQueued keys c k) → IsQueued keys c k
+merely_queued keys c k some h = λ on. merely_true (is_in c (line_of keys k.request.key)) some (λ p. h p on)
+
+pub held_is : (c : ℕ) (o : Option ℕ) → is_held_by c o ≡ true → o ≡ Some c
+held_is c None on = absurd (let never : false ≡ true = on in cc)
+held_is c (Some d) on = let same : d ≡ c = grind (arith, nat_tests, on) in ap Some same

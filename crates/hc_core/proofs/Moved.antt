@@ -1,31 +1,38 @@
 -- What is kept stands for the tables after an entry that changes what is said of one consumer and one exchange.
-use Rattle.std.proofs.Common.{◌≡◌, ◌≢◌, inl, inr, ℕ, ◌+◌, ◌≤◌, [], true, false, Option, Some, None, refl, ap, sym, ◌∙◌, subst, arith}
+use Rattle.std.proofs.Common.{◌≡◌, ◌≢◌, inl, inr, ℕ, ◌+◌, List, [], true, false, Option, Some, None, refl, ap, sym, ◌∙◌, subst}
 use Rattle.std.specs.Prelude.{is_some, nat_eq}
 use Rattle.std.specs.HashMap.{get, hash_map_len}
 use Rattle.hc_model.specs.declared.place.Place.{Place}
 use Rattle.hc_model.specs.declared.place.Place.TheVariants as place
 use Rattle.hc_model.specs.ConsumerRows.{back_in_line}
 use Rattle.hc_model.specs.Denials.{is_live, is_live_place, live}
-use Rattle.hc_event.specs.declared.act.Cause.{Cause}
 use Rattle.hc_model.specs.Rows as rows
 use Rattle.hc_model.specs.Rows.{Tables, Exchange}
 use Rattle.hc_exch.specs.Exchanges.{table_of, next_of}
 use Rattle.hc_core.specs.declared.consumer.Consumer.{Consumer}
 use Rattle.hc_core.specs.declared.rows.Rows.{Rows}
 use Rattle.hc_core.specs.Changes.{BecomesAt}
-use Rattle.hc_core.specs.Past.{InOrder, BringsPast, GoesPast, in_line, reads_own, is_down}
 use Rattle.hc_core.specs.Kept.{IsKept, KeepsConsumer, KeepsExchange, held_for, unread, is_direct}
 use Rattle.hc_core.specs.Stands.{RowsStand}
+use Rattle.hc_entry.specs.Keys.{kept_of}
+use Rattle.hc_model.specs.Lines.{is_in_line}
+use Rattle.hc_rules.proofs.RangeReads.{bytes_eq-same}
+use Rattle.hc_rules.specs.Requests.{is_disabled, is_only}
+use Rattle.hc_core.specs.Lines.{KeepsKey}
 use Rattle.hc_core.proofs.Words.{same_or, eqb-same, eqb-other, false_true, same_row}
-use Rattle.hc_core.proofs.Standing.{Standing, StandsPast, line, direct, down}
+use Rattle.hc_core.proofs.Standing.{Standing, StandsPast, line, direct, down, turn}
 
 -- a row stays, or a consumer in line starts over
 pub data IsSameOrBack (now : ℕ) (o p : Option rows.Consumer) : Type 0 where
   same : p ≡ o → IsSameOrBack now o p
-  back : (k : rows.Consumer) → o ≡ Some k → k.place ≡ place.Line → p ≡ Some (back_in_line now k) → IsSameOrBack now o p
+  back : (k : rows.Consumer) → o ≡ Some k → k.place ≡ place.Line → is_in_line k.request.key (Some k) ≡ false → p ≡ Some (back_in_line now k) → IsSameOrBack now o p
 
-pub brings_more : (n m : ℕ) (w : Exchange) (due : Option Cause) → n ≤ m → BringsPast n w due → BringsPast m w due
-brings_more n m w due le b = record { past = b.past; came = omega (arith, le, b.came); told = b.told; finished = b.finished }
+turn_line : (x : ℕ) → place.Turn x ≡ place.Line → ⊥
+turn_line x e = cc
+
+-- who waits with others is in line
+pub in_line_true : (k : rows.Consumer) → k.place ≡ place.Line → is_disabled k.request ≡ false → is_only k.request ≡ false → is_in_line k.request.key (Some k) ≡ true
+in_line_true k at cached plain = let same = bytes_eq-same k.request.key k.request.key refl in rw (same, at, cached, plain) refl
 
 down_line : (cause : _) → place.Down cause ≡ place.Line → ⊥
 down_line cause e = cc
@@ -55,8 +62,8 @@ lives_then row v is there = rw is there
 
 module _ {B : Type 0} (r u : Rows B) (t s : Tables) (now c x : ℕ) (o : Option Consumer)
     (stands : Standing r t)
-    (order : InOrder s)
-    (received : r.received ≤ u.received)
+    (nothing : (q : ℕ) → s.representation q ≡ None)
+    (received : u.received ≡ s.received)
     (last : u.last_start ≡ s.last_start)
     (next : next_of u.exchanges ≡ s.opened + 1)
     (becomes : BecomesAt r.consumers u.consumers c o)
@@ -65,8 +72,8 @@ module _ {B : Type 0} (r u : Rows B) (t s : Tables) (now c x : ℕ) (o : Option 
     (exchanges : (y : ℕ) → y ≢ x → s.exchange y ≡ t.exchange y)
     (tables : (y : ℕ) → y ≢ x → table_of u.exchanges y ≡ table_of r.exchanges y)
     (kept : KeepsConsumer s o (s.consumer c))
-    (standing : (k : rows.Consumer) → s.consumer c ≡ Some k → is_live_place k.place ≡ true → GoesPast u.received s k)
     (known : KeepsExchange s x (table_of u.exchanges x))
+    (keys : (key : List ℕ) → KeepsKey s key (kept_of u.keys key))
     (alone : (d : ℕ) (k : rows.Consumer) → d ≢ c → t.consumer d ≡ Some k → k.place ≡ place.Direct x → ⊥)
     (was : (y : ℕ) (k : rows.Consumer) → y ≢ x → t.consumer c ≡ Some k → k.place ≡ place.Direct y → ⊥)
     (is : (y : ℕ) (k : rows.Consumer) → y ≢ x → s.consumer c ≡ Some k → k.place ≡ place.Direct y → ⊥) where
@@ -79,27 +86,12 @@ module _ {B : Type 0} (r u : Rows B) (t s : Tables) (now c x : ℕ) (o : Option 
 
   -- CONSUMERS
 
-  stays_past : (d : ℕ) (k : rows.Consumer) → d ≢ c → t.consumer d ≡ Some k → GoesPast r.received t k → GoesPast u.received s k
-  stays_past d k ne row (in_line at own disabled plain) = in_line at own disabled plain
-  stays_past d k ne row (reads_own y at brings) = reads_own y at (λ w is_row. brings_more r.received u.received w k.due received (brings w (sym (other_exchange d y k ne row at) ∙ is_row)))
-  stays_past d k ne row (is_down why at told) = is_down why at told
-
-  back_past : (k : rows.Consumer) → k.place ≡ place.Line → GoesPast r.received t k → GoesPast u.received s (back_in_line now k)
-  back_past k is_line (in_line at own disabled plain) = in_line refl refl disabled plain
-  back_past k is_line (reads_own y at brings) = absurd (direct_line y (sym at ∙ is_line))
-  back_past k is_line (is_down why at told) = absurd (down_line why (sym at ∙ is_line))
-
-  other_built : (d : ℕ) → d ≢ c → IsSameOrBack now (t.consumer d) (s.consumer d) → (k : rows.Consumer) → s.consumer d ≡ Some k → is_live_place k.place ≡ true → GoesPast u.received s k
-  other_built d ne (same is_same) k row lives = stays_past d k ne (sym is_same ∙ row) (stands.built d k (sym is_same ∙ row) lives)
-  other_built d ne (back j was_row waited is_row) k row lives =
-      subst (GoesPast u.received s) (same_row (s.consumer d) _ _ is_row row)
-      (back_past j waited (stands.built d j was_row (ap is_live_place waited)))
-
   -- what is kept of the others
-  same_kept : (d : ℕ) (k : Consumer) (v : rows.Consumer) → d ≢ c → t.consumer d ≡ Some v → StandsPast r.received t d v → IsKept t k v → IsKept s k v
-  same_kept d k v ne row (line at own shown given due disabled plain) kp = record {
+  same_kept : (d : ℕ) (k : Consumer) (v : rows.Consumer) → d ≢ c → t.consumer d ≡ Some v → StandsPast t d v → IsKept t k v → IsKept s k v
+  same_kept d k v ne row (line at own shown given due) kp = record {
     is_there = kp.is_there;
     request = kp.request;
+    class_is = kp.class_is;
     since = kp.since;
     place = kp.place;
     own = kp.own;
@@ -115,7 +107,8 @@ module _ {B : Type 0} (r u : Rows B) (t s : Tables) (now c x : ℕ) (o : Option 
       record {
         is_there = kp.is_there;
         request = kp.request;
-        since = kp.since;
+        class_is = kp.class_is;
+    since = kp.since;
         place = kp.place;
         own = kp.own;
         shown = kp.shown;
@@ -125,9 +118,24 @@ module _ {B : Type 0} (r u : Rows B) (t s : Tables) (now c x : ℕ) (o : Option 
         given = kp.given;
         due = kp.due;
       }
+  same_kept d k v ne row (turn y at awaits queues) kp = record {
+    is_there = kp.is_there;
+    request = kp.request;
+    class_is = kp.class_is;
+    since = kp.since;
+    place = kp.place;
+    own = kp.own;
+    shown = kp.shown;
+    answer = kp.answer ∙ rw at refl;
+    begins = kp.begins ∙ rw at refl;
+    ends = kp.ends ∙ rw at refl;
+    given = kp.given;
+    due = kp.due;
+  }
   same_kept d k v ne row (down cause at unowned shown told) kp = record {
     is_there = kp.is_there;
     request = kp.request;
+    class_is = kp.class_is;
     since = kp.since;
     place = kp.place;
     own = kp.own;
@@ -139,11 +147,12 @@ module _ {B : Type 0} (r u : Rows B) (t s : Tables) (now c x : ℕ) (o : Option 
     due = kp.due;
   }
 
-  back_kept : (d : ℕ) (k : Consumer) (v : rows.Consumer) → v.place ≡ place.Line → StandsPast r.received t d v → IsKept t k v → IsKept s k (back_in_line now v)
-  back_kept d k v is_line (line at own shown given due disabled plain) kp = record {
+  back_kept : (d : ℕ) (k : Consumer) (v : rows.Consumer) → v.place ≡ place.Line → is_in_line v.request.key (Some v) ≡ false → StandsPast t d v → IsKept t k v → IsKept s k (back_in_line now v)
+  back_kept d k v is_line aside (line at own shown given due) kp = record {
     is_there = refl;
     request = kp.request;
-    since = λ h. false_true (sym h ∙ disabled);
+    class_is = kp.class_is;
+    since = λ cached plain. false_true (sym aside ∙ in_line_true v is_line cached plain);
     place = kp.place ∙ at;
     own = kp.own ∙ own;
     shown = kp.shown;
@@ -153,22 +162,23 @@ module _ {B : Type 0} (r u : Rows B) (t s : Tables) (now c x : ℕ) (o : Option 
     given = kp.given;
     due = kp.due ∙ due;
   }
-  back_kept d k v is_line (direct y at reads) kp = absurd (direct_line y (sym at ∙ is_line))
-  back_kept d k v is_line (down cause at unowned shown told) kp = absurd (down_line cause (sym at ∙ is_line))
+  back_kept d k v is_line aside (direct y at reads) kp = absurd (direct_line y (sym at ∙ is_line))
+  back_kept d k v is_line aside (turn y at awaits queues) kp = absurd (turn_line y (sym at ∙ is_line))
+  back_kept d k v is_line aside (down cause at unowned shown told) kp = absurd (down_line cause (sym at ∙ is_line))
 
   other_kept : (d : ℕ) (k : Option Consumer) → d ≢ c → IsSameOrBack now (t.consumer d) (s.consumer d) → KeepsConsumer t k (t.consumer d) → KeepsConsumer s k (s.consumer d)
   other_kept d None ne (same is_same) kp = rw is_same kp
-  other_kept d None ne (back j was_row waited is_row) kp =
+  other_kept d None ne (back j was_row waited aside is_row) kp =
       let lives : is_live (t.consumer d) ≡ true = rw was_row (ap is_live_place waited) in
       false_true (sym kp ∙ lives)
   other_kept d (Some k) ne (same is_same) kp =
       let (v, row, kept_as) = kept_row t k (t.consumer d) kp in
       rw (is_same, row) (same_kept d k v ne row (stands.past.places d v row kept_as.is_there) kept_as)
-  other_kept d (Some k) ne (back j was_row waited is_row) kp =
+  other_kept d (Some k) ne (back j was_row waited aside is_row) kp =
       let (v, row, kept_as) = kept_row t k (t.consumer d) kp in
       let one : v ≡ j = same_row (t.consumer d) v j row was_row in
       let at : v.place ≡ place.Line = ap (λ (z : rows.Consumer). z.place) one ∙ waited in
-      rw (is_row, ← one) (back_kept d k v at (stands.past.places d v row kept_as.is_there) kept_as)
+      rw (is_row, ← one) (back_kept d k v at (subst (λ (z : rows.Consumer). is_in_line z.request.key (Some z) ≡ false) (sym one) aside) (stands.past.places d v row kept_as.is_there) kept_as)
 
   all_kept : (d : ℕ) → KeepsConsumer s (get nat_eq u.consumers d) (s.consumer d)
   all_kept d = elim (same_or c d) [
@@ -195,7 +205,7 @@ module _ {B : Type 0} (r u : Rows B) (t s : Tables) (now c x : ℕ) (o : Option 
 
   back_unread : (d y : ℕ) (w : Exchange) → IsSameOrBack now (t.consumer d) (s.consumer d) → unread y w (s.consumer d) ≡ unread y w (t.consumer d)
   back_unread d y w (same is_same) = ap (unread y w) is_same
-  back_unread d y w (back j was_row waited is_row) = rw (is_row, was_row, waited) refl
+  back_unread d y w (back j was_row waited aside is_row) = rw (is_row, was_row, waited) refl
 
   held_row : (y : ℕ) (w : Exchange) → y ≢ x → unread y w (s.consumer w.c) ≡ unread y w (t.consumer w.c)
   held_row y w off = elim (same_or w.c c) [
@@ -221,19 +231,14 @@ module _ {B : Type 0} (r u : Rows B) (t s : Tables) (now c x : ℕ) (o : Option 
         }
   ]
 
-  all_built : (d : ℕ) (k : rows.Consumer) → s.consumer d ≡ Some k → is_live_place k.place ≡ true → GoesPast u.received s k
-  all_built d k row lives = elim (same_or d c) [
-    | inl here ↦ standing k (subst (λ (z : ℕ). s.consumer z ≡ Some k) here row) lives
-    | inr ne ↦ other_built d ne (others d ne) k row lives
-  ]
-
   pub stands_moved : RowsStand u s
   stands_moved = record {
-    order = order;
-    built = all_built;
+    nothing_stored = nothing;
+    received = received;
     last_start = last;
     next = next;
     count = count;
     consumers = all_kept;
     exchanges = all_known;
+    keys = keys;
   }

@@ -21,11 +21,28 @@ use Rattle.hc_core.specs.declared.rows.Rows.{Rows}
 use Rattle.hc_core.specs.Changes.{BecomesAt}
 use Rattle.hc_core.specs.Kept.{KeepsConsumer, held_for}
 use Rattle.hc_core.specs.Stands.{Answered}
-use Rattle.hc_core.proofs.Words.{same_or, eqb-same, eqb-other, none_some, false_true}
+use Rattle.hc_entry.specs.Keys.{kept_of}
+use Rattle.hc_entry.specs.Kept.{Kept, line_in}
+use Rattle.hc_entry.specs.Lines.{turn_of}
+use Rattle.hc_rules.specs.Least.{least}
+use Rattle.hc_rules.proofs.RangeReads.{same_bytes}
+use Rattle.hc_model.specs.Dooms.{is_key}
+use Rattle.hc_model.specs.Lines.{is_in_line, stands_in_line}
+use Rattle.hc_core.specs.Arms.{IsLeft}
+use Rattle.hc_core.specs.Built.{IsUnawaited}
+use Rattle.hc_core.specs.Kept.{IsKept}
+use Rattle.hc_core.specs.Lines.{KeepsKey}
+use Rattle.hc_core.proofs.Apart.{stays_out}
+use Rattle.hc_core.proofs.KeyTies.{keys_stay, is_plain, is_plain_at}
+use Rattle.hc_core.proofs.LineArms.{left_keys}
+use Rattle.hc_core.proofs.PastEntries.{DoomsNobody, quiet_by, nothing_after}
+use Rattle.hc_core.proofs.TurnTies.{least_there}
+use Rattle.hc_core.proofs.Words.{not_true}
+use Rattle.hc_model.specs.Entries.{Entry}
+use Rattle.hc_core.proofs.Words.{same_or, eqb-same, eqb-other, none_some}
 use Rattle.hc_core.proofs.Frames.{consumer_absent}
 use Rattle.hc_core.proofs.Moved.{IsSameOrBack, stands_moved, kept_row, kept_none}
 use Rattle.hc_core.proofs.PastEntries.{IsPastEntry, IsOnly, others, other_exchanges}
-use Rattle.hc_core.proofs.Listed.{order_stays}
 use Rattle.hc_model.specs.ConsumerRows.{consumer_heard, consumer_acted, consumer_settled}
 use Rattle.hc_model.specs.Dooms.{doomed}
 use Rattle.hc_model.specs.Reading.{own_open}
@@ -38,42 +55,46 @@ use Rattle.hc_core.proofs.Apart.{next_free, nobody_reads, stands_apart}
 use Rattle.hc_core.proofs.LiveCounts.{counted, counted_same, not_among}
 use Rattle.hc_core.proofs.Direct.{same_lives}
 use Rattle.hc_core.proofs.ApartArms.{unleft, not_over_direct}
-use Rattle.hc_core.proofs.Standing.{Standing, StandsPast, direct, down, line}
+use Rattle.hc_core.proofs.Standing.{Standing, StandsPast, direct, down, line, turn}
 
 -- A CANCEL
 
 -- it is in line, or is to fail
-pub record IsIdle {B : Type 0} (r : Rows B) (t : Tables) (c : ℕ) : Type 0 where
+pub record IsIdle {B : Type 0} (r : Rows B) (t : Tables) (c : ℕ) (k : Consumer) : Type 0 where
   pub v : rows.Consumer
   pub row : t.consumer c ≡ Some v
   pub off : (x : ℕ) → v.place ≡ place.Direct x → ⊥
   pub free : (q lo : ℕ) (hi : Option ℕ) (by : _) → v.place ≡ place.Bound q lo hi by → ⊥
   pub unpassed : (q : ℕ) (kept : Option ℕ) → v.place ≡ place.Passed q kept → ⊥
   pub unowned : own_open t v ≡ None
+  pub kept : IsKept t k v
 
-idle_by : {B : Type 0} (r : Rows B) (t : Tables) (c : ℕ) (v : rows.Consumer) → t.consumer c ≡ Some v → ((x : ℕ) → v.place ≡ place.Direct x → ⊥) → StandsPast r.received t c v → IsIdle r t c
-idle_by r t c v row off (line at own shown given due disabled plain) = record {
+idle_by : {B : Type 0} (r : Rows B) (t : Tables) (c : ℕ) (k : Consumer) (v : rows.Consumer) → t.consumer c ≡ Some v → IsKept t k v → ((x : ℕ) → v.place ≡ place.Direct x → ⊥) → ((x : ℕ) → v.place ≡ place.Turn x → ⊥) → StandsPast t c v → IsIdle r t c k
+idle_by r t c k v row kept off apart (line at own shown given due) = record {
   v = v;
   row = row;
   off = off;
   free = λ q lo hi by is. (let never : place.Line ≡ place.Bound q lo hi by = sym at ∙ is in cc);
   unpassed = λ q kept is. (let never : place.Line ≡ place.Passed q kept = sym at ∙ is in cc);
   unowned = rw own refl;
+  kept = kept;
 }
-idle_by r t c v row off (direct x at reads) = absurd (off x at)
-idle_by r t c v row off (down why at unowned shown told) = record {
+idle_by r t c k v row kept off apart (direct x at reads) = absurd (off x at)
+idle_by r t c k v row kept off apart (turn x at awaits queues) = absurd (apart x at)
+idle_by r t c k v row kept off apart (down why at unowned shown told) = record {
   v = v;
   row = row;
   off = off;
   free = λ q lo hi by is. (let never : place.Down why ≡ place.Bound q lo hi by = sym at ∙ is in cc);
   unpassed = λ q kept is. (let never : place.Down why ≡ place.Passed q kept = sym at ∙ is in cc);
   unowned = unowned;
+  kept = kept;
 }
 
-pub idle_of : {B : Type 0} (r : Rows B) (t : Tables) (c : ℕ) (k : Consumer) → Standing r t → get nat_eq r.consumers c ≡ Some k → ((x : ℕ) → k.place ≡ place.Direct x → ⊥) → IsIdle r t c
-idle_of r t c k stands there off =
+pub idle_of : {B : Type 0} (r : Rows B) (t : Tables) (c : ℕ) (k : Consumer) → Standing r t → get nat_eq r.consumers c ≡ Some k → ((x : ℕ) → k.place ≡ place.Direct x → ⊥) → ((x : ℕ) → k.place ≡ place.Turn x → ⊥) → IsIdle r t c k
+idle_of r t c k stands there off apart =
     let (v, row, kept) = kept_row t k (t.consumer c) (rw there at (stands.consumers c)) in
-    idle_by r t c v row (λ x is. off x (kept.place ∙ is)) (stands.past.places c v row kept.is_there)
+    idle_by r t c k v row kept (λ x is. off x (kept.place ∙ is)) (λ x is. apart x (kept.place ∙ is)) (stands.past.places c v row kept.is_there)
 
 cancel_past : (t : Tables) (now c : ℕ) → IsPastEntry t (cancel_of now c []) c
 unfolding case_of
@@ -84,6 +105,8 @@ cancel_past t now c = record {
   far = λ d ne. far_closed d [];
   lossless = λ q. refl;
   sends = refl;
+  founds = refl;
+  quiet = quiet_by t (cancel_of now c []) refl;
 }
 
 cancel_nothing : (now c x : ℕ) → IsOnly (cancel_of now c []) x
@@ -112,18 +135,46 @@ cancelled t now c v goes_on =
       undue = refl;
     }
 
-pub idle_cancelled : {B : Type 0} (r u : Rows B) (t : Tables) (now c : ℕ) (before : List Act) (limits : Limits) → Standing r t → (idle : IsIdle r t c) → u.received ≡ r.received → u.last_start ≡ r.last_start → u.exchanges ≡ r.exchanges → BecomesAt r.consumers u.consumers c None → Answered limits u t before before now (event.Cancel c)
+pub idle_cancelled : {B : Type 0} (r u : Rows B) (t : Tables) (now c : ℕ) (k : Consumer) (before : List Act) (limits : Limits) → Standing r t → (idle : IsIdle r t c k) → u.received ≡ r.received → u.last_start ≡ r.last_start → ((w : rows.Consumer) → (after_accepted t (cancel_of now c [])).consumer c ≡ Some w → w.place ≡ place.Over → (key : List ℕ) → KeepsKey (after_accepted t (cancel_of now c [])) key (kept_of u.keys key)) → u.exchanges ≡ r.exchanges → BecomesAt r.consumers u.consumers c None → Answered limits u t before before now (event.Cancel c)
 unfolding case_of
-idle_cancelled r u t now c before limits stands idle received last exchanges becomes =
+idle_cancelled r u t now c k before limits stands idle received last lines exchanges becomes =
     let e = cancel_of now c [] in
     let gone : IsGone ((after_accepted t e).consumer c) = subst (λ o. IsGone (consumer_after t e c o)) (sym idle.row) (cancelled t now c idle.v (over_goes_on t now c idle.v idle.v.place refl (λ q kept is. idle.unpassed q kept is))) in
     let lives : is_live_place gone.v.place ≡ false = ap is_live_place gone.place_is in
     cancel_answered limits u t now c [] before before
-    (closing_none r.received t e stands.past (λ q. refl) (λ y. refl) (λ y. unleft t c y idle.v idle.v.place idle.row refl idle.unowned (λ q lo hi by is. idle.free q lo hi by is)))
+    (closing_none t e stands.past (quiet_by t e refl) (λ q. refl) (λ y. refl) (λ y. unleft t c y idle.v idle.v.place idle.row refl idle.unowned (λ q lo hi by is. idle.free q lo hi by is)))
     (sym (append-nil before))
-    (stands_apart r u t e c idle.v gone.v None stands (cancel_past t now c) (λ x free. cancel_nothing now c x) refl refl refl
+    (stands_apart r u t e c idle.v gone.v None stands (cancel_past t now c) (λ x free. cancel_nothing now c x) refl refl refl refl
     idle.row idle.off gone.row (λ y is. not_over_direct y gone.v.place gone.place_is is)
-    received last exchanges becomes (sym lives) lives (λ live. false_true (sym lives ∙ live)))
+    received last exchanges becomes (sym lives) lives (lines gone.v gone.row gone.place_is))
+
+-- in line it leaves that
+pub line_cancelled : {B : Type 0} (r u : Rows B) (t : Tables) (now c : ℕ) (k : Consumer) (before : List Act) (limits : Limits) → Standing r t → (there : get nat_eq r.consumers c ≡ Some k) → k.place ≡ place.Line → u.received ≡ r.received → u.last_start ≡ r.last_start → IsLeft r.keys u.keys c k → u.exchanges ≡ r.exchanges → BecomesAt r.consumers u.consumers c None → Answered limits u t before before now (event.Cancel c)
+line_cancelled r u t now c k before limits stands there at received last left exchanges becomes =
+    let idle = idle_of r t c k stands there (λ x is. (let never : place.Line ≡ place.Direct x = sym at ∙ is in cc)) (λ x is. (let never : place.Line ≡ place.Turn x = sym at ∙ is in cc)) in
+    let entry = cancel_past t now c in
+    idle_cancelled r u t now c k before limits stands idle received last
+    (λ w is over. left_keys r u t (after_accepted t (cancel_of now c [])) now c k idle.v w stands (nothing_after t (cancel_of now c []) stands.past.nothing entry.founds) (others t (cancel_of now c []) c stands.past entry) (ap is_plain is ∙ ap is_plain_at over) idle.row is idle.kept (rw over refl) left)
+    exchanges becomes
+
+out_by : (p : Place) → ((x : ℕ) → p ≡ place.Turn x → ⊥) → (p ≡ place.Line → ⊥) → stands_in_line p ≡ false
+out_by place.Line apart off = absurd (off refl)
+out_by (place.Passed q kept) apart off = refl
+out_by (place.Turn x) apart off = absurd (apart x refl)
+out_by (place.Bound q lo hi how) apart off = refl
+out_by (place.Direct x) apart off = refl
+out_by (place.Down why) apart off = refl
+out_by place.Over apart off = refl
+
+-- else it stands in no line
+pub other_cancelled : {B : Type 0} (r u : Rows B) (t : Tables) (now c : ℕ) (k : Consumer) (before : List Act) (limits : Limits) → Standing r t → (there : get nat_eq r.consumers c ≡ Some k) → ((x : ℕ) → k.place ≡ place.Direct x → ⊥) → ((x : ℕ) → k.place ≡ place.Turn x → ⊥) → (k.place ≡ place.Line → ⊥)
+    → u.received ≡ r.received → u.last_start ≡ r.last_start → u.keys ≡ r.keys → u.exchanges ≡ r.exchanges → BecomesAt r.consumers u.consumers c None → Answered limits u t before before now (event.Cancel c)
+other_cancelled r u t now c k before limits stands there off apart out received last same_keys exchanges becomes =
+    let idle = idle_of r t c k stands there off apart in
+    let outside : stands_in_line idle.v.place ≡ false = ap stands_in_line (sym idle.kept.place) ∙ out_by k.place apart out in
+    idle_cancelled r u t now c k before limits stands idle received last
+    (λ w is over. stays_out r u t (cancel_of now c []) c idle.v w stands (cancel_past t now c) idle.row is outside (rw over refl) (rw over refl) same_keys)
+    exchanges becomes
 
 -- A DOOM
 
@@ -135,23 +186,46 @@ still_count r t s now c stands starts lt others =
     let alike : counted g t.starts ≡ counted f t.starts = counted_same f g c t.starts (λ h. not_among (t.last_start + 1) c t.starts stands.order.starts (omega (arith, lt)) h) (λ d ne. same_lives now _ _ (others d ne)) in
     stands.count ∙ (sym alike ∙ ap (counted g) (sym starts))
 
-doom_past : (t : Tables) (now c : ℕ) (key : List ℕ) → IsPastEntry t (told_of now (event.Doom key) []) c
+doom_past : (t : Tables) (now c : ℕ) (key : List ℕ) → DoomsNobody t (told_of now (event.Doom key) []) → IsPastEntry t (told_of now (event.Doom key) []) c
 unfolding case_of
-doom_past t now c key = record {
+doom_past t now c key quiet = record {
   about = λ y is. none_some y is;
   cancels = λ d is. absurd (let never : event.Doom key ≡ event.Cancel d = is in cc);
   makes = λ d ne. refl;
   far = λ d ne. far_closed d [];
   lossless = λ q. refl;
   sends = refl;
+  founds = refl;
+  quiet = quiet;
 }
+
+-- where nobody stands in line, nobody is doomed there
+pub unawaited : {B : Type 0} (r : Rows B) (t : Tables) (key : List ℕ) → Standing r t → IsUnawaited r.keys key → (d : ℕ) → is_in_line key (t.consumer d) ≡ false
+unawaited r t key stands none d = not_true _ (λ on. there (kept_of r.keys key) none (least_there (kept_of r.keys key).in_line d ((stands.keys key).in_line d ∙ on)))
+  where
+    there : (k : Kept) → turn_of (line_in k) ≡ None → (m : ℕ) × (least k.in_line ≡ Some m) → ⊥
+    there k unturned (m, some) = by_holder k.holder refl
+      where
+        by_holder : (o : Option ℕ) → k.holder ≡ o → ⊥
+        by_holder None is = none_some m (sym (let turn : turn_of (line_in k) ≡ Some m = rw (is, some) refl in sym turn ∙ unturned))
+        by_holder (Some h) is = none_some h (sym (let turn : turn_of (line_in k) ≡ Some h = rw is refl in sym turn ∙ unturned))
+
+pub doomed_none : (t : Tables) (e : Entry) (key : List ℕ) → ((d : ℕ) → is_in_line key (t.consumer d) ≡ false) → (doomed t e ≡ Some key) → DoomsNobody t e
+doomed_none t e key off is = λ d k row on.
+    let same : key ≡ k.request.key = same_bytes key k.request.key (sym (ap (λ (o : Option (List ℕ)). is_key o k.request.key) is) ∙ on) in
+    ap (λ (z : List ℕ). is_in_line z (Some k)) (sym same) ∙ (ap (is_in_line key) (sym row) ∙ off d)
+
+doom_quiet : {B : Type 0} (r : Rows B) (t : Tables) (now : ℕ) (key : List ℕ) → Standing r t → IsUnawaited r.keys key → DoomsNobody t (told_of now (event.Doom key) [])
+unfolding doomed
+doom_quiet r t now key stands none = doomed_none t (told_of now (event.Doom key) []) key (unawaited r t key stands none) refl
 
 doom_nothing : (now x : ℕ) (key : List ℕ) → IsOnly (told_of now (event.Doom key) []) x
 doom_nothing now x key = record { hears = λ y is. none_some y is; asks = λ y ne. refl; closes = λ y ne. refl; opens = λ o is. none_some o is }
 
-pub doom_answered : {B : Type 0} (r : Rows B) (t : Tables) (now : ℕ) (key : List ℕ) (before : List Act) (limits : Limits) → Standing r t → Answered limits r t before before now (event.Doom key)
+pub doom_answered : {B : Type 0} (r : Rows B) (t : Tables) (now : ℕ) (key : List ℕ) (before : List Act) (limits : Limits) → Standing r t → IsUnawaited r.keys key → Answered limits r t before before now (event.Doom key)
 unfolding case_of room_for
-doom_answered r t now key before limits stands =
+doom_answered r t now key before limits stands unawaited_key =
+    let quiet = doom_quiet r t now key stands unawaited_key in
     let e = told_of now (event.Doom key) [] in
     let s : Tables = after_accepted t e in
     let c : ℕ = t.last_start + 1 in
@@ -160,18 +234,19 @@ doom_answered r t now key before limits stands =
     let none_after : s.consumer c ≡ None = ap (consumer_after t e c) none ∙ consumer_absent t e c refl in
     let free : t.exchange x ≡ None = next_free r t stands in
     let every : (y : ℕ) → s.exchange y ≡ t.exchange y = λ y. other_exchanges t e (y + 1) (doom_nothing now (y + 1) key) y (omega arith) in
-    let all_others = others r.received t e c stands.past (doom_past t now c key) in
+    let all_others = others t e c stands.past (doom_past t now c key quiet) in
     let known_x = stands.exchanges x in
     let absent : get nat_eq r.consumers c ≡ None = kept_none t (get nat_eq r.consumers c) (subst (λ o. KeepsConsumer t (get nat_eq r.consumers c) o) none (stands.consumers c)) in
     told_answered limits r t now (event.Doom key) [] before before refl refl refl
-    (closing_none r.received t e stands.past (λ q. refl) (λ y. refl) (λ y. refl))
+    (closing_none t e stands.past quiet (λ q. refl) (λ y. refl) (λ y. refl))
     (sym (append-nil before))
-    (stands_moved r r t s now c x None stands (order_stays t e stands.order refl refl refl) (omega arith) stands.last_start stands.next
+    (stands_moved r r t s now c x None stands (nothing_after t e stands.past.nothing refl) (let same = stands.received in omega (arith, same)) stands.last_start stands.next
     (record { places = λ d. stays_none (get nat_eq r.consumers) c absent d; len = rw absent refl })
     (still_count r t s now c stands refl (omega arith) all_others)
     all_others (λ y ne. every y) (λ y ne. refl)
-    (rw none_after refl) (λ z row live. none_some z (sym none_after ∙ row))
+    (rw none_after refl)
     (record { running = rw (every x) known_x.running; held = rw (every x, free) (known_x.held ∙ ap (held_for t x) free) })
+    (keys_stay t s now c r.keys r.keys stands.past (nothing_after t e stands.past.nothing refl) all_others (rw none_after refl) stands.keys (λ key. refl) (λ key. rw (none_after, none) refl) (λ key. rw (none_after, none) refl))
     (λ d j ne row at. nobody_reads r t x d j stands free row at)
     (λ y j ne row at. none_some j (sym none ∙ row)) (λ y j ne row at. none_some j (sym none_after ∙ row)))
   where

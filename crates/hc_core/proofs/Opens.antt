@@ -121,12 +121,13 @@ forgets_closed x a b c closed forgotten y = forgotten.table y ∙ by_same (x == 
     by_same false is = closed.table y ∙ rw is refl
 
 -- a consumer is gone, and its exchange
-pub leaves_by : {B : Type 0} (r mid u : Rows B) (c x : ℕ) → mid.limits ≡ r.limits → mid.last_start ≡ r.last_start → mid.received ≡ r.received → mid.consumers ≡ r.consumers → exch.Becomes known.closed x r.exchanges mid.exchanges
-    → u.limits ≡ mid.limits → u.last_start ≡ mid.last_start → u.received ≡ mid.received → exch.Becomes known.forgotten x mid.exchanges u.exchanges → BecomesAt mid.consumers u.consumers c None → Leaves r u c x
-leaves_by r mid u c x limits last received consumers closed limits_u last_u received_u forgotten becomes = record {
+pub leaves_by : {B : Type 0} (r mid u : Rows B) (c x : ℕ) → mid.limits ≡ r.limits → mid.last_start ≡ r.last_start → mid.received ≡ r.received → mid.keys ≡ r.keys → mid.consumers ≡ r.consumers → exch.Becomes known.closed x r.exchanges mid.exchanges
+    → u.limits ≡ mid.limits → u.last_start ≡ mid.last_start → u.received ≡ mid.received → u.keys ≡ mid.keys → exch.Becomes known.forgotten x mid.exchanges u.exchanges → BecomesAt mid.consumers u.consumers c None → Leaves r u c x
+leaves_by r mid u c x limits last received same_keys consumers closed limits_u last_u received_u keys_u forgotten becomes = record {
   limits = limits_u ∙ limits;
   last_start = last_u ∙ last;
   received = received_u ∙ received;
+  keys = keys_u ∙ same_keys;
   consumers = rw consumers at becomes;
   known = forgets_closed x r.exchanges mid.exchanges u.exchanges closed forgotten;
   next = forgotten.next ∙ closed.next;

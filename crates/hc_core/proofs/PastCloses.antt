@@ -28,23 +28,27 @@ use Rattle.hc_model.specs.Writers.{loses_writing, survivor, brings_body}
 use Rattle.hc_model.specs.Currents.{is_number}
 use Rattle.hc_model.specs.Reading.{is_written}
 use Rattle.hc_core.specs.declared.rows.Rows.{Rows}
-use Rattle.hc_core.specs.Past.{InOrder}
+use Rattle.hc_model.specs.Orders.{InOrder}
 use Rattle.hc_core.specs.Stands.{RowsStand, Answered}
-use Rattle.hc_core.proofs.Words.{false_true, and_false, then_false}
+use Rattle.hc_core.proofs.Words.{false_true, and_false, then_false, not_true}
 use Rattle.hc_core.proofs.LiveCounts.{filter_nothing, only_in_order}
-use Rattle.hc_core.proofs.PastEntries.{poll_of}
-use Rattle.hc_core.proofs.Standing.{AllPast}
+use Rattle.hc_core.proofs.PastEntries.{poll_of, DoomsNobody, turn_in_line}
+use Rattle.hc_core.proofs.Standing.{AllPast, IsRead, reads_it, waits_for_it}
 
-module _ (n : ℕ) (t : Tables) (b : Entry) (past : AllPast n t) (lossless : (r : ℕ) → loses_in r b.acts ≡ false) where
+module _ (t : Tables) (b : Entry) (past : AllPast t) (quiet : DoomsNobody t b) (lossless : (r : ℕ) → loses_in r b.acts ≡ false) where
   -- nobody waits for the head of an exchange to found or to join
   not_doomed : (x : ℕ) (w : Exchange) → t.exchange x ≡ Some w → is_doomed t b x w ≡ false
   not_doomed x w row = by_open w.is_open refl
     where
       by_open : (on : Bool) → w.is_open ≡ on → is_doomed t b x w ≡ false
       by_open false is = and_false (is_key (doomed t b) w.request.key && is_headless (Some w)) (awaits (t.consumer w.c) x) (then_false (is_key (doomed t b) w.request.key) (is_headless (Some w)) (rw is refl))
-      by_open true is =
-          let reader = past.readers x w row is in
-          then_false (is_key (doomed t b) w.request.key && is_headless (Some w)) (awaits (t.consumer w.c) x) (rw (reader.row, reader.place_is) refl)
+      by_open true is = by_reader (past.readers x w row is)
+        where
+          by_reader : IsRead t x w → is_doomed t b x w ≡ false
+          by_reader (reads_it k reads at) = then_false (is_key (doomed t b) w.request.key && is_headless (Some w)) (awaits (t.consumer w.c) x) (rw (reads, at) refl)
+          by_reader (waits_for_it k waits at none way same_key) =
+              let off : is_key (doomed t b) w.request.key ≡ false = ap (is_key (doomed t b)) same_key ∙ not_true _ (λ doom. false_true (sym (quiet w.c k waits doom) ∙ turn_in_line x k at (past.queues w.c x k waits at))) in
+              and_false (is_key (doomed t b) w.request.key && is_headless (Some w)) (awaits (t.consumer w.c) x) (and_false (is_key (doomed t b) w.request.key) (is_headless (Some w)) off)
 
   survives : (x r : ℕ) (o : Option Representation) → has_no_survivor t b x r o ≡ false
   survives x r None = refl

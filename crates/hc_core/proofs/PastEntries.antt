@@ -12,26 +12,30 @@ use Rattle.hc_rules.specs.declared.heads.HeadCase.{HeadCase}
 use Rattle.hc_model.specs.declared.place.Place.{Place}
 use Rattle.hc_model.specs.declared.place.Place.TheVariants as place
 use Rattle.hc_model.specs.ActFilters.{loses_in}
-use Rattle.hc_model.specs.Cases.{case_at, case_of}
+use Rattle.hc_model.specs.Cases.{case_at, case_of, is_founding}
 use Rattle.hc_model.specs.ConsumerRows.{consumer_after, consumer_heard, consumer_made, by_head, by_fault}
 use Rattle.hc_model.specs.Denials.{is_live_place}
-use Rattle.hc_model.specs.Dooms.{doomed, is_key}
+use Rattle.hc_model.specs.Dooms.{doomed, doomed_in, is_key}
 use Rattle.hc_model.specs.Entries.{Entry}
 use Rattle.hc_model.specs.ExchangeRows.{exchange_after, exchange_heard}
 use Rattle.hc_model.specs.Exchanges.{exchange_in, exchange_at, is_for, is_open}
 use Rattle.hc_model.specs.Failures.{becomes_due, cause_of_head}
+use Rattle.hc_model.specs.Lines.{is_in_line}
+use Rattle.hc_model.specs.Places.{Queues}
+use Rattle.hc_rules.proofs.RangeReads.{bytes_eq-same}
 use Rattle.hc_model.specs.Moves as moves
 use Rattle.hc_model.specs.Moves.{Move, Nothing, Asks, Opens, Shows, Gives, Ends, Fails, acts_of}
 use Rattle.hc_model.specs.Reading.{reads, source}
+use Rattle.hc_model.specs.RepresentationRows.{representation_after, founded_at}
 use Rattle.hc_model.specs.Rows.{Tables, Exchange, Consumer}
 use Rattle.hc_model.specs.StartingOver.{starts_over, sends_back, waits_at}
 use Rattle.hc_model.specs.Tables.{after_accepted}
 use Rattle.hc_model.proofs.ActParts.{IsFarFrom, far_other, far_closed}
 use Rattle.hc_model.proofs.Dues.{undue_of, other_stop, loss_free}
-use Rattle.hc_core.proofs.Words.{eqb-other, none_some, false_true, same_row, and_false, then_false}
+use Rattle.hc_core.proofs.Words.{eqb-other, none_some, false_true, same_row, and_false, then_false, not_true}
 use Rattle.hc_core.proofs.Frames.{exchange_stays, exchange_absent, consumer_absent, stays, goes_back}
 use Rattle.hc_core.proofs.Moved.{IsSameOrBack, same, back}
-use Rattle.hc_core.proofs.Standing.{AllPast, ReadsPast, StandsPast, direct, down, line}
+use Rattle.hc_core.proofs.Standing.{AllPast, ReadsPast, StandsPast, direct, down, line, turn}
 
 or_nothing : {A : Type 0} (o : Option A) → option_or o None ≡ o
 or_nothing None = refl
@@ -47,7 +51,34 @@ pub record IsOf (t : Tables) (x c : ℕ) : Type 0 where
   pub row : t.exchange x ≡ Some w
   pub for_it : w.c ≡ c
 
--- An entry about the consumer c, which loses nothing and sends nobody back.
+-- nobody stands in line who is doomed
+abbrev pub DoomsNobody : Tables → Entry → Type 0
+DoomsNobody t e = (d : ℕ) (k : Consumer) → t.consumer d ≡ Some k → is_key (doomed t e) k.request.key ≡ true → is_in_line k.request.key (Some k) ≡ false
+
+-- such an event dooms no key
+abbrev pub is_quiet : Event → Bool
+is_quiet (event.Head x response) = false
+is_quiet (event.Doom key) = false
+is_quiet _ = true
+
+pub no_doom : (t : Tables) (e : Entry) → doomed t e ≡ None → DoomsNobody t e
+no_doom t e none d k row is = false_true (sym (ap (λ (o : Option (List ℕ)). is_key o k.request.key) none) ∙ is)
+
+pub quiet_by : (t : Tables) (e : Entry) → is_quiet e.event ≡ true → DoomsNobody t e
+unfolding doomed
+quiet_by t e quiet = no_doom t e (by_event e.event quiet)
+  where
+    by_event : (ev : Event) → is_quiet ev ≡ true → doomed_in t e ev ≡ None
+    by_event (event.Start c request) is = refl
+    by_event (event.Poll c want) is = refl
+    by_event (event.Head x response) is = false_true is
+    by_event (event.Piece x bytes) is = refl
+    by_event (event.End x) is = refl
+    by_event (event.Fault x) is = refl
+    by_event (event.Cancel c) is = refl
+    by_event (event.Doom key) is = false_true is
+
+-- An entry about the consumer c, which loses nothing, founds nothing and sends nobody back.
 pub record IsPastEntry (t : Tables) (e : Entry) (c : ℕ) : Type 0 where
   pub about : (x : ℕ) → exchange_in e.event ≡ Some x → IsOf t x c
   pub cancels : (d : ℕ) → e.event ≡ event.Cancel d → d ≡ c
@@ -55,6 +86,12 @@ pub record IsPastEntry (t : Tables) (e : Entry) (c : ℕ) : Type 0 where
   pub far : (d : ℕ) → d ≢ c → IsFarFrom d e.acts
   pub lossless : (r : ℕ) → loses_in r e.acts ≡ false
   pub sends : sends_back (case_at t e) ≡ false
+  pub founds : is_founding (case_at t e) ≡ false
+  pub quiet : DoomsNobody t e
+
+-- who has the turn is in line
+pub turn_in_line : (x : ℕ) (k : Consumer) → k.place ≡ place.Turn x → Queues k → is_in_line k.request.key (Some k) ≡ true
+turn_in_line x k at queues = let same = bytes_eq-same k.request.key k.request.key refl in let cached = queues.cached in let asks = queues.asks in rw (same, at, cached, asks) refl
 
 -- who isn't live is over
 over_is : (p : Place) → is_live_place p ≡ false → p ≡ place.Over
@@ -69,7 +106,7 @@ over_is place.Over h = refl
 direct_free : (x : ℕ) (p : Place) → p ≡ place.Direct x → (r lo : ℕ) (hi : Option ℕ) (by : _) → p ≡ place.Bound r lo hi by → ⊥
 direct_free x p at r lo hi by is = let never : place.Direct x ≡ place.Bound r lo hi by = sym at ∙ is in cc
 
-module _ (n : ℕ) (t : Tables) (e : Entry) (c : ℕ) (past : AllPast n t) (entry : IsPastEntry t e c) where
+module _ (t : Tables) (e : Entry) (c : ℕ) (past : AllPast t) (entry : IsPastEntry t e c) where
   module _ (d : ℕ) (k : Consumer) (ne : d ≢ c) (row : t.consumer d ≡ Some k) where
     not_for : (x : ℕ) → exchange_in e.event ≡ Some x → is_for (t.exchange x) d ≡ false
     not_for x is =
@@ -166,22 +203,30 @@ module _ (n : ℕ) (t : Tables) (e : Entry) (c : ℕ) (past : AllPast n t) (entr
     head_none (event.Cancel f) is = refl
     head_none (event.Doom key) is = refl
 
-    not_due : (x : ℕ) → k.place ≡ place.Direct x → ReadsPast n t d x k → becomes_due t e d k ≡ None
+    not_due : (x : ℕ) → k.place ≡ place.Direct x → ReadsPast t d x k → becomes_due t e d k ≡ None
     not_due x at r = undue_of t e d k (record {
       stop = other_stop t e k (not_stopped x r.w at r.own r.row r.for_it);
       loss = loss_free t e d k.place (direct_free x k.place at);
       head = head_none e.event refl;
     })
 
-    reading_row : (x : ℕ) → k.place ≡ place.Direct x → ReadsPast n t d x k → (if reads k.place then option_or k.due (becomes_due t e d k) else None) ≡ k.due
+    reading_row : (x : ℕ) → k.place ≡ place.Direct x → ReadsPast t d x k → (if reads k.place then option_or k.due (becomes_due t e d k) else None) ≡ k.due
     reading_row x at r = let read : reads k.place ≡ true = rw at refl in rw (read, not_due x at r) (or_nothing k.due)
 
-    live_row : StandsPast n t d k → IsSameOrBack e.now (Some k) (consumer_after t e d (Some k))
+    -- whoever has the turn is in line
+    not_woken : (x : ℕ) → k.place ≡ place.Turn x → Queues k → is_key (doomed t e) k.request.key ≡ false
+    not_woken x at queues = not_true _ (λ doom. false_true (sym (entry.quiet d k row doom) ∙ turn_in_line x k at queues))
+
+    live_turn : (x : ℕ) → k.place ≡ place.Turn x → Queues k → IsSameOrBack e.now (Some k) (consumer_after t e d (Some k))
+    live_turn x at queues = stays_put (over_at (place.Turn x) false at (rw (not_woken x at queues) refl) (λ q p is. (let never : place.Turn x ≡ place.Passed q p = is in cc))) (idle_row (rw at refl))
+
+    live_row : StandsPast t d k → IsSameOrBack e.now (Some k) (consumer_after t e d (Some k))
     live_row (direct x at r) = stays_put (over_at (place.Direct x) false at (then_false _ _ refl) (λ q p is. (let never : place.Direct x ≡ place.Passed q p = is in cc))) (reading_row x at r)
     live_row (down cause at unowned shown told) =
         stays_put (over_at (place.Down cause) false at (then_false _ _ refl) (λ q p is. (let never : place.Down cause ≡ place.Passed q p = is in cc))) (idle_row (rw at refl))
-    live_row (line at own shown given due disabled plain) = elim (bool_cases (is_key (doomed t e) k.request.key)) [
-      | inl doom ↦ back k refl at (goes_back t e d k (entry.far d ne) entry.lossless (heard e.event refl) (over_at place.Line true at (rw doom refl) (λ q p is. (let never : place.Line ≡ place.Passed q p = is in cc))))
+    live_row (turn x at awaits queues) = live_turn x at queues
+    live_row (line at own shown given due) = elim (bool_cases (is_key (doomed t e) k.request.key)) [
+      | inl doom ↦ back k refl at (entry.quiet d k row doom) (goes_back t e d k (entry.far d ne) entry.lossless (heard e.event refl) (over_at place.Line true at (rw doom refl) (λ q p is. (let never : place.Line ≡ place.Passed q p = is in cc))))
       | inr safe ↦ stays_put (over_at place.Line false at (rw safe refl) (λ q p is. (let never : place.Line ≡ place.Passed q p = is in cc))) (idle_row (rw at refl))
     ]
 
@@ -258,4 +303,23 @@ poll_entry t now c want m ys = record {
   far = λ d ne. far_other d c m (map act.Close ys) (eqb-other c d (λ eq. ne (sym eq))) (far_closed d ys);
   lossless = λ r. move_lossless c r m ys;
   sends = refl;
+  founds = refl;
+  quiet = quiet_by t (poll_of now c want m ys) refl;
 }
+
+-- REPRESENTATIONS
+
+-- where nothing was stored and nothing is founded, nothing is
+pub nothing_after : (t : Tables) (e : Entry) → ((q : ℕ) → t.representation q ≡ None) → is_founding (case_at t e) ≡ false → (q : ℕ) → (after_accepted t e).representation q ≡ None
+unfolding representation_after
+nothing_after t e nothing founds q = ap (representation_after t e q) (nothing q) ∙ by_event e.event
+  where
+    by_event : (ev : Event) → founded_at t e q ev ≡ None
+    by_event (event.Start c request) = refl
+    by_event (event.Poll c want) = refl
+    by_event (event.Head x response) = rw founds refl
+    by_event (event.Piece x bytes) = refl
+    by_event (event.End x) = refl
+    by_event (event.Fault x) = refl
+    by_event (event.Cancel c) = refl
+    by_event (event.Doom key) = refl

@@ -29,7 +29,7 @@ use Rattle.hc_model.specs.Tables.{after_accepted}
 use Rattle.hc_core.specs.declared.consumer.Consumer.{Consumer}
 use Rattle.hc_core.specs.declared.rows.Rows.{Rows}
 use Rattle.hc_core.specs.Changes.{ChangesAt, once_answered, once_given}
-use Rattle.hc_core.specs.Past.{is_misread}
+use Rattle.hc_model.specs.Places.{is_failed_read}
 use Rattle.hc_core.specs.Stands.{RowsStand, Answered}
 use Rattle.hc_core.specs.Arms.{IsUnshown, IsShown, read_view, most, given, asks_or_waits, asked_in, closes_open, Leaves}
 use Rattle.hc_core.proofs.Maps.{act_and}
@@ -40,13 +40,13 @@ use Rattle.hc_core.proofs.DirectPolls.{IsReading, reading_of, closes_none, chang
 use Rattle.hc_core.proofs.DirectArms.{polled_waits, polled_shows, stands_still, stands_shown, stands_asked, stands_given}
 use Rattle.hc_core.proofs.Leaving.{last_ends, last_fails, poll_closes, poll_left}
 use Rattle.hc_core.proofs.ApartArms.{no_flaw, flawless}
-use Rattle.hc_core.proofs.ReadTies.{ends_move, fails_move, failed_due, waits_move, gives_move, has_head}
+use Rattle.hc_core.proofs.ReadTies.{ends_move, fails_move, failed_due, waits_move, gives_move}
 use Rattle.hc_core.proofs.Standing.{Standing}
 
 -- A CONSUMER THAT WAS SHOWN NO HEAD YET
 
 module _ {B : Type 0} (r u : Rows B) (t : Tables) (now c want x : ℕ) (k : Consumer) (before out : List Act) (limits : Limits) (stands : Standing r t) (there : get nat_eq r.consumers c ≡ Some k) (at : IsUnshown x k)
-    (received : u.received ≡ r.received) (last : u.last_start ≡ r.last_start) (exchanges : u.exchanges ≡ r.exchanges) (changes : ChangesAt r.consumers u.consumers c once_answered) where
+    (received : u.received ≡ r.received) (last : u.last_start ≡ r.last_start) (same_keys : u.keys ≡ r.keys) (exchanges : u.exchanges ≡ r.exchanges) (changes : ChangesAt r.consumers u.consumers c once_answered) where
   rd : IsReading r t c x k
   rd = reading_of r t c x k stands there at.0
 
@@ -57,7 +57,7 @@ module _ {B : Type 0} (r u : Rows B) (t : Tables) (now c want x : ℕ) (k : Cons
       let same : once_answered k ≡ k = rw none refl in
       poll_answered limits u t now c want m [] before out (polled_waits r u t now c want x k stands there rd unshown none)
       (closes_none r t now c want m stands refl) refl acts
-      (stands_still r u t now c want x k stands there rd m (polls.waits (wait.Head x)) refl refl refl (ap (consumer_after t (poll_of now c want m []) c) rd.row ∙ polls.waits_head t now c want x rd.v rd.at x) received last (ap next_of exchanges) (λ y. ap (λ z. table_of z y) exchanges)
+      (stands_still r u t now c want x k stands there rd m (polls.waits (wait.Head x)) refl refl refl (ap (consumer_after t (poll_of now c want m []) c) rd.row ∙ polls.waits_head t now c want x rd.v rd.at x) received last same_keys (ap next_of exchanges) (λ y. ap (λ z. table_of z y) exchanges)
       (rw same at (changed r.consumers u.consumers c once_answered k changes there)))
 
   pub shows_answered : (head : Response) → k.answer ≡ Some head → out ≡ before ++ (act.Shown c x (why.Fetched x) head.status head.fields k.lo k.hi ∷ []) → Answered limits u t before out now (event.Poll c want)
@@ -66,7 +66,7 @@ module _ {B : Type 0} (r u : Rows B) (t : Tables) (now c want x : ℕ) (k : Cons
       let unshown = sym rd.kept.shown ∙ at.1 in
       poll_answered limits u t now c want m [] before out (polled_shows r u t now c want x k stands there rd head unshown some)
       (closes_none r t now c want m stands refl) refl acts
-      (stands_shown r u t now c want x k stands there rd x k.lo (why.Fetched x) head k.hi some received last exchanges changes unshown)
+      (stands_shown r u t now c want x k stands there rd x k.lo (why.Fetched x) head k.hi some received last same_keys exchanges changes unshown)
 
 -- A CONSUMER THAT READS
 
@@ -90,21 +90,21 @@ module _ {B : Type 0} (r u : Rows B) (t : Tables) (now c want x : ℕ) (k : Cons
       let ys = closes_open x (table_of r.exchanges x) in
       let due = failed_due r t want c x k stands shown_rd at.1 wants reason is in
       poll_answered limits u t now c want (Fails reason) ys before out (fails_move r t want c x k stands shown_rd at.1 wants now reason is)
-      (poll_closes r u t now c want x k (Fails reason) stands shown_rd (last_fails reason) leaves) (flawless c reason ys (ap is_misread (sym due) ∙ shown_rd.reads.brings.told))
+      (poll_closes r u t now c want x k (Fails reason) stands shown_rd (last_fails reason) leaves) (flawless c reason ys (ap is_failed_read (sym due) ∙ shown_rd.reads.told))
       (act_and before mid out (act.Failed c reason) (map act.Close ys) first second)
       (poll_left r u t now c want x k (Fails reason) stands shown_rd (last_fails reason) leaves)
 
   pub given_answered : (n : ℕ) (bytes : List ℕ) → steps_to r x k step.Held → n ≡ most k.hi (k.lo + k.given) want → bytes ≡ take n (table_of r.exchanges x).held → out ≡ before ++ given c x (k.lo + k.given) bytes
-      → u.received ≡ r.received → u.last_start ≡ r.last_start → exch.Becomes (known.given n) x r.exchanges u.exchanges → ChangesAt r.consumers u.consumers c (once_given (length bytes)) → Answered limits u t before out now (event.Poll c want)
-  given_answered n bytes is n_is bytes_are acts received last becomes changes =
+      → u.received ≡ r.received → u.last_start ≡ r.last_start → u.keys ≡ r.keys → exch.Becomes (known.given n) x r.exchanges u.exchanges → ChangesAt r.consumers u.consumers c (once_given (length bytes)) → Answered limits u t before out now (event.Poll c want)
+  given_answered n bytes is n_is bytes_are acts received last same_keys becomes changes =
       let run : Run = record { x = x; at = k.lo + k.given; bytes = bytes } in
       let most_are = bytes_are ∙ ap (λ (z : ℕ). take z (table_of r.exchanges x).held) n_is in
       poll_answered limits u t now c want (Gives run) [] before out (gives_move r t want c x k stands shown_rd at.1 wants now bytes is most_are)
       (closes_none r t now c want (Gives run) stands refl) refl acts
-      (stands_given r u t now c want x k stands there shown_rd run n received last becomes changes bytes_are (has_head r t want c x k stands shown_rd at.1 wants))
+      (stands_given r u t now c want x k stands there shown_rd run n received last same_keys becomes changes bytes_are)
 
   -- it waits, or asks
-  module _ (received : u.received ≡ r.received) (last : u.last_start ≡ r.last_start) (same_map : u.consumers ≡ r.consumers) (becomes : exch.Becomes known.asked x r.exchanges u.exchanges) where
+  module _ (received : u.received ≡ r.received) (last : u.last_start ≡ r.last_start) (same_keys : u.keys ≡ r.keys) (same_map : u.consumers ≡ r.consumers) (becomes : exch.Becomes known.asked x r.exchanges u.exchanges) where
     asked_already : (z : Known) → asked_in z.running ≡ true → known.asked z ≡ z
     asked_already z on = by_running z.running refl
       where
@@ -113,9 +113,9 @@ module _ {B : Type 0} (r u : Rows B) (t : Tables) (now c want x : ℕ) (k : Cons
         by_running (Some o) is = let asked : o.asked ≡ true = rw is at on in rw (is, asked) refl
 
     stands_by : (b : Bool) → asked_in (table_of r.exchanges x).running ≡ b → RowsStand u (after_accepted t (poll_of now c want (asks_or_waits b x) []))
-    stands_by false is = stands_asked r u t now c want x k stands there shown_rd received last same_map becomes
+    stands_by false is = stands_asked r u t now c want x k stands there shown_rd received last same_keys same_map becomes
     stands_by true is =
-        stands_still r u t now c want x k stands there shown_rd (moves.Waits (wait.Body x)) (polls.waits (wait.Body x)) refl refl refl (ap (consumer_after t (poll_of now c want (moves.Waits (wait.Body x)) []) c) shown_rd.row ∙ polls.waits_body t now c want x shown_rd.v shown_rd.at x) received last becomes.next
+        stands_still r u t now c want x k stands there shown_rd (moves.Waits (wait.Body x)) (polls.waits (wait.Body x)) refl refl refl (ap (consumer_after t (poll_of now c want (moves.Waits (wait.Body x)) []) c) shown_rd.row ∙ polls.waits_body t now c want x shown_rd.v shown_rd.at x) received last same_keys becomes.next
         (λ y. becomes.table y ∙ stays_same y (x == y) refl) (unchanged r.consumers u.consumers c k same_map there)
       where
         stays_same : (y : ℕ) (b : Bool) → (x == y) ≡ b → (if b then known.asked (table_of r.exchanges x) else table_of r.exchanges y) ≡ table_of r.exchanges y

@@ -1,6 +1,5 @@
 -- A piece of an exchange past the store is held for its consumer.
-use Rattle.std.proofs.Common.{◌≡◌, ℕ, ◌+◌, List, [], ◌++◌, length, drop, Bool, true, false, cond, Option, Some, None, refl, ap, ap₂, sym, ◌∙◌, arith}
-use Rattle.std.proofs.lemmas.Bool.Decides.{nat_tests}
+use Rattle.std.proofs.Common.{◌≡◌, ℕ, ◌+◌, List, [], ◌++◌, length, drop, Bool, true, false, cond, Option, Some, None, refl, ap, ap₂, sym, ◌∙◌}
 use Rattle.std.proofs.lemmas.List.{length-append, drop-append-le, append-nil}
 use Rattle.std.specs.Prelude.{◌&&◌, not}
 use Rattle.std.specs.Option.{option_or}
@@ -12,8 +11,8 @@ use Rattle.hc_rules.specs.declared.room.Room.TheVariants as room
 use Rattle.hc_model.specs.Cases.{case_of}
 use Rattle.hc_model.specs.ConsumerRows.{consumer_after}
 use Rattle.hc_model.specs.ExchangeRows.{exchange_after}
-use Rattle.hc_model.specs.Exchanges.{base, promised, is_reached}
-use Rattle.hc_model.specs.Reading.{end_in, end_of_direct}
+use Rattle.hc_model.specs.Exchanges.{promised, is_reached}
+use Rattle.hc_model.specs.Reading.{end_of_direct}
 use Rattle.hc_model.specs.Rows as rows
 use Rattle.hc_model.specs.Rows.{Tables, Exchange}
 use Rattle.hc_model.specs.Runs.{has_room}
@@ -26,14 +25,14 @@ use Rattle.hc_exch.specs.Known as known
 use Rattle.hc_exch.specs.Known.{Known, is_all, is_last_of, seen}
 use Rattle.hc_exch.specs.declared.row.Open.{Open}
 use Rattle.hc_core.specs.declared.rows.Rows.{Rows}
-use Rattle.hc_core.specs.Past.{BringsPast}
 use Rattle.hc_core.specs.Kept.{KeepsRunning, held_for}
 use Rattle.hc_core.specs.Stands.{RowsStand, Answered}
-use Rattle.hc_core.proofs.Words.{eqb-same, false_true}
+use Rattle.hc_core.proofs.Words.{eqb-same}
 use Rattle.hc_core.proofs.PastCloses.{told_of, told_answered, closing_none}
 use Rattle.hc_core.proofs.Direct.{reads_on}
 use Rattle.hc_core.proofs.DirectPolls.{known_other, known_here, unchanged}
 use Rattle.hc_core.proofs.DirectArms.{kept_with, held_is}
+use Rattle.hc_core.proofs.PastEntries.{quiet_by}
 use Rattle.hc_core.proofs.Hearing.{Hears, IsNews, told_entry, told_only, told_row, told_acted, told_due}
 use Rattle.hc_core.proofs.Standing.{Standing}
 
@@ -50,10 +49,6 @@ all_reached : (o : Option ℕ) (n : ℕ) → is_all o n ≡ is_reached o n
 all_reached None n = refl
 all_reached (Some p) n = refl
 
-reached_end : (o : Option ℕ) (n : ℕ) (w : Exchange) → base w ≡ 0 → is_reached o n ≡ true → end_of_direct o w ≡ Some n
-reached_end None n w zero h = false_true h
-reached_end (Some p) n w zero h = let same : p ≡ n = grind (arith, nat_tests) in rw zero (ap Some (omega (arith, same)))
-
 end_pieced : (o : Option ℕ) (bytes : List ℕ) (w : Exchange) → w.is_ended ≡ false → end_of_direct o (pieced bytes w) ≡ end_of_direct o w
 end_pieced None bytes w unended = rw unended refl
 end_pieced (Some n) bytes w unended = refl
@@ -62,7 +57,7 @@ piece_news : (x : ℕ) (bytes : List ℕ) → IsNews (event.Piece x bytes) x
 piece_news x bytes = record { names = refl; makes = λ d now. refl; cancels = λ d is. (let never : event.Piece x bytes ≡ event.Cancel d = is in cc) }
 
 module _ {B : Type 0} (r u : Rows B) (t : Tables) (now x : ℕ) (bytes : List ℕ) (o : Open) (stands : Standing r t) (hears : Hears r t x o)
-    (received : u.received ≡ r.received + length bytes) (last : u.last_start ≡ r.last_start) (same_map : u.consumers ≡ r.consumers) (becomes : exch.Becomes (known.with_piece bytes true) x r.exchanges u.exchanges) (running : (table_of r.exchanges x).running ≡ Some o) where
+    (received : u.received ≡ r.received + length bytes) (last : u.last_start ≡ r.last_start) (same_keys : u.keys ≡ r.keys) (same_map : u.consumers ≡ r.consumers) (becomes : exch.Becomes (known.with_piece bytes true) x r.exchanges u.exchanges) (running : (table_of r.exchanges x).running ≡ Some o) where
   abbrev c : ℕ
   c = o.c
 
@@ -119,20 +114,6 @@ module _ {B : Type 0} (r u : Rows B) (t : Tables) (now x : ℕ) (bytes : List �
         promised_is = is.promised_is;
       }
 
-  brings_after : BringsPast u.received (pieced bytes w) v.due
-  brings_after =
-      let rd = hears.reading.reads in
-      record {
-        past = rd.brings.past;
-        came = rw (length-append w.body bytes) (omega (arith, received, rd.brings.came));
-        told = rd.brings.told;
-        finished = λ over none. by_reached (is_reached (promised w) (length (w.body ++ bytes))) refl over;
-      }
-    where
-      by_reached : (b : Bool) → is_reached (promised w) (length (w.body ++ bytes)) ≡ b → (not (is_reached (promised w) (length (w.body ++ bytes))) && w.is_open) ≡ false → end_in (Some (pieced bytes w)) ≡ Some (length (w.body ++ bytes))
-      by_reached true reached over = reached_end (promised w) (length (w.body ++ bytes)) (pieced bytes w) hears.reading.reads.begins reached
-      by_reached false reached over = let on : w.is_open ≡ false = rw reached at over in false_true (sym on ∙ hears.is.is_open)
-
   held_after : (table_of u.exchanges x).held ≡ held_for after x (Some (pieced bytes w))
   held_after =
       let rd = hears.reading.reads in
@@ -145,15 +126,14 @@ module _ {B : Type 0} (r u : Rows B) (t : Tables) (now x : ℕ) (bytes : List �
   stands_pieced =
       let rd = hears.reading.reads in
       let e = told_of now (event.Piece x bytes) [] in
-      reads_on r u t e c x v stands (told_entry t now c x (event.Piece x bytes) [] (piece_news x bytes) w rd.row rd.for_it refl) (told_only t now c x (event.Piece x bytes) [] (piece_news x bytes) w rd.row rd.for_it (λ y ne. refl)) refl refl refl
-      hears.reading.row rd hears.reading.at (rw received (omega arith)) last becomes.next (λ y ne. known_other (known.with_piece bytes true) x r.exchanges u.exchanges becomes y ne)
+      reads_on r u t e c x v stands (told_entry t now c x (event.Piece x bytes) [] (piece_news x bytes) w rd.row rd.for_it refl refl (quiet_by t e refl)) (told_only t now c x (event.Piece x bytes) [] (piece_news x bytes) w rd.row rd.for_it (λ y ne. refl)) refl refl refl
+      hears.reading.row rd hears.reading.at received last same_keys becomes.next (λ y ne. known_other (known.with_piece bytes true) x r.exchanges u.exchanges becomes y ne)
       (record {
         running = rw (here, running, last_is, exchange) (running_after (is_reached (promised w) (length (w.body ++ bytes))) refl);
         held = held_after ∙ ap (held_for after x) (sym exchange);
       })
-      hears.k v (pieced bytes w) (unchanged r.consumers u.consumers c hears.k same_map hears.there) row_after hears.reading.at
+      hears.k v (unchanged r.consumers u.consumers c hears.k same_map hears.there) row_after hears.reading.at
       (kept_with t after x hears.k v w (pieced bytes w) hears.reading.at rd.row exchange refl refl (end_pieced (promised w) bytes w (rd.unended hears.is.is_open)) hears.reading.kept)
-      exchange brings_after
 
   -- nothing of it is stored
   no_write : write_in t (record { now = now; event = event.Piece x bytes; acts = [] }) (event.Piece x bytes) ≡ None
@@ -170,5 +150,5 @@ module _ {B : Type 0} (r u : Rows B) (t : Tables) (now x : ℕ) (bytes : List �
   piece_answered limits before =
       told_answered limits u t now (event.Piece x bytes) [] before before refl
       (ap (first_idle t (record { now = now; event = event.Piece x bytes; acts = [] })) (room_is limits) ∙ refl) (ap has_room (room_is limits))
-      (closing_none r.received t (told_of now (event.Piece x bytes) []) stands.past (λ q. refl) (λ y. refl) (λ y. refl))
+      (closing_none t (told_of now (event.Piece x bytes) []) stands.past (quiet_by t (told_of now (event.Piece x bytes) []) refl) (λ q. refl) (λ y. refl) (λ y. refl))
       (sym (append-nil before)) stands_pieced

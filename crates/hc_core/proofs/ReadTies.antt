@@ -1,5 +1,5 @@
 -- What is read past the store: what is looked at is what the tables have, and each step is the move that they owe.
-use Rattle.std.proofs.Common.{◌≡◌, ℕ, zero, suc, ◌+◌, ◌-◌, ◌<◌, ◌^◌, List, [], ◌∷◌, length, drop, take, Bool, true, false, min, Option, Some, None, refl, ap, ap₂, sym, ◌∙◌, subst, arith}
+use Rattle.std.proofs.Common.{◌≡◌, ℕ, zero, suc, ◌+◌, ◌-◌, ◌≤◌, ◌<◌, ◌^◌, List, [], ◌∷◌, length, drop, take, Bool, true, false, min, Option, Some, None, refl, ap, ap₂, sym, ◌∙◌, subst, arith}
 use Rattle.std.proofs.lemmas.Bool.Decides.{nat_tests}
 use Rattle.std.proofs.lemmas.List.{length-drop, length-take}
 use Rattle.std.specs.Prelude.{is_some, is_none, nat_lt, option_and_then, if◌then◌else◌, ◌&&◌}
@@ -14,7 +14,7 @@ use Rattle.hc_model.specs.declared.place.Place.TheVariants as place
 use Rattle.hc_model.specs.Exchanges.{base}
 use Rattle.hc_model.specs.Moves.{Gives, Ends, Fails, gives, waits_for}
 use Rattle.hc_model.specs.Polls.{polled, move_of, shows_head, if_headless, waits_for_head, by_place}
-use Rattle.hc_model.specs.Reading.{own_open, source, offset, hi_of, lo_of, end_in, base_in}
+use Rattle.hc_model.specs.Reading.{own_open, source, offset, hi_of, lo_of, base_in}
 use Rattle.hc_model.specs.Rows as rows
 use Rattle.hc_model.specs.Rows.{Tables, Exchange}
 use Rattle.hc_model.specs.Steps as steps
@@ -28,6 +28,8 @@ use Rattle.hc_core.specs.Kept.{KeepsRunning, held_for}
 use Rattle.hc_core.specs.Arms.{read_view, source_in, most, asks_or_waits, asked_in}
 use Rattle.hc_core.proofs.Words.{none_some, false_true, some_is}
 use Rattle.hc_core.proofs.ApartArms.{third_is}
+use Rattle.hc_model.specs.Exchanges.{front}
+use Rattle.hc_core.proofs.Parts.{front_in_range}
 use Rattle.hc_core.proofs.DirectPolls.{IsReading}
 use Rattle.hc_core.proofs.DirectArms.{held_is}
 use Rattle.hc_core.proofs.Standing.{Standing}
@@ -178,8 +180,11 @@ module _ {B : Type 0} (r : Rows B) (t : Tables) (want c x : ℕ) (k : Consumer) 
       by_head None none = false_true (sym (rd.reads.unheard none).0 ∙ shown_v)
       by_head (Some a) is = refl
 
-  from_zero : k.lo ≡ 0
-  from_zero = rd.kept.begins ∙ (ap (lo_of t) rd.at ∙ (ap base_in rd.reads.row ∙ rd.reads.begins))
+  begins_at : lo_of t v.place ≡ base w
+  begins_at = ap (lo_of t) rd.at ∙ ap base_in rd.reads.row
+
+  lo_is : k.lo ≡ base w
+  lo_is = rd.kept.begins ∙ begins_at
 
   offset_is : at_offset ≡ offset t v
   offset_is = ap₂ (λ (a b : ℕ). a + b) rd.kept.begins rd.kept.given
@@ -193,8 +198,7 @@ module _ {B : Type 0} (r : Rows B) (t : Tables) (want c x : ℕ) (k : Consumer) 
   -- what is held of an exchange from the offset on
   held_run : (n : ℕ) → held t c v n ≡ run_of x (offset t v) (take n (drop v.given w.body))
   held_run n =
-      let begins : lo_of t v.place ≡ 0 = ap (lo_of t) rd.at ∙ (ap base_in rd.reads.row ∙ rd.reads.begins) in
-      let skips : offset t v - base w ≡ v.given = let zero = rd.reads.begins in omega (arith, begins, zero) in
+      let skips : offset t v - base w ≡ v.given = omega (arith, begins_at) in
       held_place t c x n v w rd.at rd.reads.row ∙ ap (λ (m : ℕ). run_of x (offset t v) (take n (drop m w.body))) skips
 
   views_are : steps.read_view t want c v ≡ read_view known_here x at_offset k
@@ -276,16 +280,16 @@ module _ {B : Type 0} (r : Rows B) (t : Tables) (want c x : ℕ) (k : Consumer) 
 
   -- WHAT FITS
 
-  pub given_small : r.received < 2 ^ 61 → k.lo + k.given < 2 ^ 62
+  pub given_small : r.received < 2 ^ 61 → k.lo + k.given < 2 ^ 62 + 1
   given_small small =
-      let body : length w.body < 2 ^ 62 = (let came = rd.reads.brings.came in omega (arith, small, came)) in
+      let fits : base w + length w.body ≤ 2 ^ 62 = front_in_range w t.received (subst (λ (n : ℕ). n < 2 ^ 61) stands.received small) rd.reads.came rd.reads.most in
       let few = rd.reads.given in
       let same_given = rd.kept.given in
-      omega (arith, body, few, same_given, from_zero)
+      omega (arith, fits, few, same_given, lo_is)
 
   pub more_fits : (n : ℕ) (bytes : List ℕ) → r.received < 2 ^ 61 → bytes ≡ take n known_here.held → k.given + length bytes < 2 ^ 62
   more_fits n bytes small bytes_are =
-      let body : length w.body < 2 ^ 62 = (let came = rd.reads.brings.came in omega (arith, small, came)) in
+      let body : length w.body < 2 ^ 62 = (let came = rd.reads.came in let all = stands.received in omega (arith, small, came, all)) in
       let few = rd.reads.given in
       let same_given = rd.kept.given in
       let len : length bytes ≡ min n (length known_here.held) = ap length bytes_are ∙ length-take n known_here.held in
@@ -311,10 +315,10 @@ module _ {B : Type 0} (r : Rows B) (t : Tables) (want c x : ℕ) (k : Consumer) 
       let left = hole_from _ _ k.due (source_in known_here x) hole_here hole (sym parts ∙ is) in
       let over : w.is_open ≡ false = closed_of known_here.running left.closed running in
       let none : v.due ≡ None = sym rd.kept.due ∙ left.undue in
-      let ends : k.hi ≡ Some (length w.body) = rd.kept.ends ∙ (ap (hi_of t) rd.at ∙ (ap end_in rd.reads.row ∙ rd.reads.brings.finished over none)) in
+      let ends : k.hi ≡ Some (front w) = rd.kept.ends ∙ rd.reads.finished over none in
       let empty : length known_here.held ≡ 0 = let off = left.not_held in grind (arith, nat_tests, off) in
       let left_len : length known_here.held ≡ length w.body - v.given = ap length held_before ∙ length-drop v.given w.body in
       let few = rd.reads.given in
       let same_given = rd.kept.given in
-      let all : at_offset ≡ length w.body = omega (arith, empty, left_len, few, same_given, from_zero) in
-      false_true (sym left.not_end ∙ at_the_end k.hi at_offset (length w.body) ends all)
+      let all : at_offset ≡ front w = omega (arith, empty, left_len, few, same_given, lo_is) in
+      false_true (sym left.not_end ∙ at_the_end k.hi at_offset (front w) ends all)

@@ -12,6 +12,8 @@ use Rattle.hc_rules.specs.declared.room.Limits.{Limits}
 use Rattle.hc_rules.specs.Refusals.{refusal_of}
 use Rattle.hc_exch.specs.Exchanges.{table_of, next_of}
 use Rattle.hc_exch.specs.Known.{unknown}
+use Rattle.hc_entry.specs.Keys.{kept_of}
+use Rattle.hc_entry.specs.Kept.{nothing}
 use Rattle.hc_model.specs.Answers.{answer, accepted, denied_or}
 use Rattle.hc_model.specs.Beginnings.{may_begin}
 use Rattle.hc_model.specs.Denials.{denial}
@@ -19,7 +21,7 @@ use Rattle.hc_model.specs.Entries.{Entry, History, Contents, no_contents}
 use Rattle.hc_model.specs.Flaws.{Flaw, NoFlaw, flaw_in}
 use Rattle.hc_model.specs.Rows.{Tables}
 use Rattle.hc_model.specs.Runs.{IsRun, IsOwed, may_stand, may_be}
-use Rattle.hc_model.specs.Tables.{tables, after_accepted, after_denied, received_in}
+use Rattle.hc_model.specs.Tables.{tables, after_accepted, after_denied}
 use Rattle.hc_model.proofs.Barred.{next_tables, denied_tables}
 use Rattle.hc_core.specs.declared.rows.Rows.{Rows}
 use Rattle.hc_core.specs.declared.cache.Cache.{Cache}
@@ -38,21 +40,20 @@ begins : (limits : Limits) → may_begin limits no_contents ≡ true
 unfolding may_begin
 begins limits = let last : nat_le 0 limits.max_total ≡ true = grind (arith, nat_tests) in rw last refl
 
-pub stands_beginning : {B : Type 0} (s : Cache B) → s.last_moment ≡ 0 → s.steps ≡ 0 → s.rows.received ≡ 0 → s.rows.last_start ≡ 0 → next_of s.rows.exchanges ≡ 1 → hash_map_len s.rows.consumers ≡ 0 → ((c : ℕ) → get nat_eq s.rows.consumers c ≡ None) → ((x : ℕ) → table_of s.rows.exchanges x ≡ unknown)
+pub stands_beginning : {B : Type 0} (s : Cache B) → s.last_moment ≡ 0 → s.steps ≡ 0 → s.rows.received ≡ 0 → s.rows.last_start ≡ 0 → next_of s.rows.exchanges ≡ 1 → hash_map_len s.rows.consumers ≡ 0 → ((c : ℕ) → get nat_eq s.rows.consumers c ≡ None) → ((x : ℕ) → table_of s.rows.exchanges x ≡ unknown) → ((key : List ℕ) → kept_of s.rows.keys key ≡ nothing)
     → StandsFor s no_contents []
 unfolding tables
-stands_beginning s moment steps received last next count none unopened = record {
+stands_beginning s moment steps received last next count none unopened unawaited = record {
   begins = begins s.rows.limits;
   run = tt;
   moment = moment;
   entries = steps;
-  received = received;
-  rows = stands_begun s.rows last next count none unopened;
+  rows = stands_begun s.rows last received next count none unopened unawaited;
 }
 
-pub begins_good : {B : Type 0} (r : Rows B) → r.last_start ≡ 0 → next_of r.exchanges ≡ 1 → hash_map_len r.consumers ≡ 0 → ((c : ℕ) → get nat_eq r.consumers c ≡ None) → ((x : ℕ) → table_of r.exchanges x ≡ unknown) → StandsUntil r 0
+pub begins_good : {B : Type 0} (r : Rows B) → r.last_start ≡ 0 → r.received ≡ 0 → next_of r.exchanges ≡ 1 → hash_map_len r.consumers ≡ 0 → ((c : ℕ) → get nat_eq r.consumers c ≡ None) → ((x : ℕ) → table_of r.exchanges x ≡ unknown) → ((key : List ℕ) → kept_of r.keys key ≡ nothing) → StandsUntil r 0
 unfolding tables
-begins_good r last next count none unopened = (record { contents = no_contents; h = []; begins = begins r.limits; run = tt; rows = stands_begun r last next count none unopened }, omega arith)
+begins_good r last received next count none unopened unawaited = (record { contents = no_contents; h = []; begins = begins r.limits; run = tt; rows = stands_begun r last received next count none unopened unawaited }, omega arith)
 
 -- WHAT IS OWED
 
@@ -86,7 +87,6 @@ pub record OneMore {B : Type 0} (u : Rows B) (contents : Contents) (h : History)
   pub run : IsRun u.limits contents (record { now = now; event = ev; acts = acts } ∷ h)
   pub moment : (tables contents (record { now = now; event = ev; acts = acts } ∷ h)).moment ≡ now
   pub entries : (tables contents (record { now = now; event = ev; acts = acts } ∷ h)).entries ≡ (tables contents h).entries + 1
-  pub received : (tables contents (record { now = now; event = ev; acts = acts } ∷ h)).received ≡ (tables contents h).received + received_in ev
   pub rows : RowsStand u (tables contents (record { now = now; event = ev; acts = acts } ∷ h))
 
 module _ {B : Type 0} (r u : Rows B) (now : ℕ) (ev : Event) (before out : List Act)
@@ -103,16 +103,15 @@ module _ {B : Type 0} (r u : Rows B) (now : ℕ) (ev : Event) (before out : List
     facts = facts_of_runs r.limits contents h begun run
 
     -- whatever was owed, the rows stand for it
-    stands_with : (acts : List Act) (after : Tables) → out ≡ before ++ acts → after ≡ tables contents (with_acts acts ∷ h) → after.moment ≡ now → after.entries ≡ t.entries + 1 → after.received ≡ t.received + received_in ev
+    stands_with : (acts : List Act) (after : Tables) → out ≡ before ++ acts → after ≡ tables contents (with_acts acts ∷ h) → after.moment ≡ now → after.entries ≡ t.entries + 1
         → IsOwed r.limits t (with_acts acts) → RowsStand u after → OneMore u contents h before out now ev
-    stands_with acts after told is now_is entries_are received_is owed stands = record {
+    stands_with acts after told is now_is entries_are owed stands = record {
       acts = acts;
       told = told;
       begins = ap (λ l. may_begin l contents) limits ∙ begun;
       run = subst (λ l. IsRun l contents (with_acts acts ∷ h)) (sym limits) (run, owed);
       moment = ap (λ (z : Tables). z.moment) (sym is) ∙ now_is;
       entries = ap (λ (z : Tables). z.entries) (sym is) ∙ entries_are;
-      received = ap (λ (z : Tables). z.received) (sym is) ∙ received_is;
       rows = subst (RowsStand u) is stands;
     }
 
@@ -122,7 +121,7 @@ module _ {B : Type 0} (r u : Rows B) (now : ℕ) (ev : Event) (before out : List
         let done = answered is t facts rows free in
         let acts = accepted r.limits t now ev done.flaw in
         let e : Entry = with_acts acts in
-        stands_with acts (after_accepted t e) done.acts (next_tables contents h e (undenied r.limits t now ev done.flaw)) refl refl refl
+        stands_with acts (after_accepted t e) done.acts (next_tables contents h e (undenied r.limits t now ev done.flaw)) refl refl
         (record {
           later = in_time;
           acts = sym (ap (answer r.limits t now ev) done.shown ∙ answer_accepted r.limits t now ev done.flaw free);
@@ -132,7 +131,7 @@ module _ {B : Type 0} (r u : Rows B) (now : ℕ) (ev : Event) (before out : List
         let some : denial t ev ≡ Some why = sym (denies_as r t ev rows) ∙ is in
         let acts = act.Denied why ∷ [] in
         let e : Entry = with_acts acts in
-        stands_with acts (after_denied t e) (denied why is).1 (denied_tables contents h e refl) refl refl refl
+        stands_with acts (after_denied t e) (denied why is).1 (denied_tables contents h e refl) refl refl
         (record { later = in_time; acts = sym (answer_denied r.limits t now ev NoFlaw why some); flaw = may_stand_denied r.limits t e refl })
         (subst (λ z. RowsStand z (after_denied t e)) (sym (denied why is).0) (stands_denied r t e (standing_of r t facts rows)))
 
@@ -147,7 +146,7 @@ module _ {B : Type 0} (r u : Rows B) (now : ℕ) (ev : Event) (before out : List
 module _ {B : Type 0} (s u : Cache B) (contents : Contents) (h : History) (now : ℕ) (ev : Event) (before out : List Act)
     (denied : (why : Refusal) → refusal_of (gate_of s.rows ev) ev ≡ Some why → (u.rows ≡ counted ev s.rows) × (out ≡ before ++ act.Denied why ∷ []))
     (answered : refusal_of (gate_of s.rows ev) ev ≡ None → Answers s.rows u.rows before out now ev)
-    (later : s.last_moment ≤ now) (moment : u.last_moment ≡ now) (count : u.steps ≡ s.steps + 1) (bytes : u.rows.received ≡ s.rows.received + received_in ev) (limits : u.rows.limits ≡ s.rows.limits) (stands : StandsFor s contents h) where
+    (later : s.last_moment ≤ now) (moment : u.last_moment ≡ now) (count : u.steps ≡ s.steps + 1) (limits : u.rows.limits ≡ s.rows.limits) (stands : StandsFor s contents h) where
   pub steps_on : Steps u contents h before out now ev
   steps_on =
       let more = one_more s.rows u.rows now ev before out denied answered limits contents h stands.begins stands.run stands.rows (subst (λ m. m ≤ now) stands.moment later) in
@@ -159,7 +158,6 @@ module _ {B : Type 0} (s u : Cache B) (contents : Contents) (h : History) (now :
           run = more.run;
           moment = moment ∙ sym more.moment;
           entries = count ∙ (ap (λ n. n + 1) stands.entries ∙ sym more.entries);
-          received = bytes ∙ (ap (λ n. n + received_in ev) stands.received ∙ sym more.received);
           rows = more.rows;
         };
       }

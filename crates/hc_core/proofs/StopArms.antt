@@ -1,11 +1,10 @@
 -- An exchange past the store ends or breaks: what its consumer has yet to read stays, and a failure may be due.
-use Rattle.std.proofs.Common.{◌≡◌, ℕ, List, [], length, drop, true, false, Option, Some, None, refl, ap, sym, ◌∙◌, subst, arith}
+use Rattle.std.proofs.Common.{◌≡◌, ℕ, [], drop, true, false, Option, Some, None, refl, ap, sym, ◌∙◌, subst, arith}
 use Rattle.std.specs.Option.{option_or}
 use Rattle.hc_event.specs.declared.event.Event.{Event}
 use Rattle.hc_event.specs.declared.act.Cause.{Cause}
-use Rattle.hc_rules.specs.Needs.{route_of}
 use Rattle.hc_model.specs.declared.place.Place.TheVariants as place
-use Rattle.hc_model.specs.Cases.{case_at}
+use Rattle.hc_model.specs.Cases.{case_at, is_founding}
 use Rattle.hc_model.specs.ConsumerRows.{consumer_after, consumer_heard}
 use Rattle.hc_model.specs.Exchanges.{base, promised, is_open}
 use Rattle.hc_model.specs.Failures.{cause_of_stop, cause_of_head}
@@ -13,7 +12,7 @@ use Rattle.hc_model.specs.Reading.{end_in, source, lo_of, hi_of}
 use Rattle.hc_model.specs.Rows as rows
 use Rattle.hc_model.specs.Rows.{Tables, Exchange}
 use Rattle.hc_model.specs.StartingOver.{sends_back}
-use Rattle.hc_model.specs.Tables.{after_accepted, last_start_after, starts_after}
+use Rattle.hc_model.specs.Tables.{after_accepted, last_start_after, starts_after, received_in}
 use Rattle.hc_exch.specs.Exchanges as exch
 use Rattle.hc_exch.specs.Exchanges.{table_of, next_of}
 use Rattle.hc_exch.specs.Known as known
@@ -22,14 +21,13 @@ use Rattle.hc_exch.specs.declared.row.Open.{Open}
 use Rattle.hc_core.specs.declared.consumer.Consumer.{Consumer}
 use Rattle.hc_core.specs.declared.rows.Rows.{Rows}
 use Rattle.hc_core.specs.Changes.{BecomesAt}
-use Rattle.hc_core.specs.Past.{BringsPast, is_misread}
 use Rattle.hc_core.specs.Kept.{IsKept, KeepsRunning, held_for, answer_for}
 use Rattle.hc_core.specs.Stands.{RowsStand}
-use Rattle.hc_core.proofs.Words.{none_some}
 use Rattle.hc_core.proofs.PastCloses.{told_of}
 use Rattle.hc_core.proofs.Direct.{reads_on}
 use Rattle.hc_core.proofs.DirectPolls.{known_other, known_here}
 use Rattle.hc_core.proofs.DirectArms.{held_is}
+use Rattle.hc_core.proofs.PastEntries.{DoomsNobody}
 use Rattle.hc_core.proofs.Hearing.{Hears, IsNews, told_entry, told_only, told_row, told_acted, told_due}
 use Rattle.hc_core.proofs.Standing.{Standing}
 
@@ -56,28 +54,18 @@ lows_same t s x v w z at row is begins = rw (at, row, is) (sym begins)
 pub highs_are : (s : Tables) (x : ℕ) (v : rows.Consumer) (z : Exchange) → v.place ≡ place.Direct x → s.exchange x ≡ Some z → hi_of s v.place ≡ end_in (Some z)
 highs_are s x v z at is = rw (at, is) refl
 
-no_misread : (a b : Option Cause) → is_misread a ≡ false → is_misread b ≡ false → is_misread (option_or a b) ≡ false
-no_misread None b p q = q
-no_misread (Some z) b p q = p
-
-none_due : (a b : Option Cause) → option_or a b ≡ None → (a ≡ None) × (b ≡ None)
-none_due None b h = (refl, h)
-none_due (Some z) b h = none_some z (sym h)
-
 module _ {B : Type 0} (r u : Rows B) (t : Tables) (now x : ℕ) (ev : Event) (o : Open) (z : Exchange) (reason : Option Cause) (j : Consumer) (stands : Standing r t) (hears : Hears r t x o) (running : (table_of r.exchanges x).running ≡ Some o)
     (news : IsNews ev x)
-    (sends : sends_back (case_at t (told_of now ev [])) ≡ false)
+    (sends : sends_back (case_at t (told_of now ev [])) ≡ false) (founds : is_founding (case_at t (told_of now ev [])) ≡ false) (quiet : DoomsNobody t (told_of now ev [])) (none_received : received_in ev ≡ 0)
     (lasts : last_start_after ev t.last_start ≡ t.last_start) (starts : starts_after ev t.starts ≡ t.starts)
     (heard : rows.Consumer → consumer_heard t (told_of now ev []) o.c ev hears.reading.v ≡ hears.reading.v)
     (stops : cause_of_stop t (told_of now ev []) hears.reading.v ≡ reason) (headless : cause_of_head t (told_of now ev []) o.c ev ≡ None)
     (exchange : (after_accepted t (told_of now ev [])).exchange x ≡ Some z)
     (stopped : IsStopped hears.reading.reads.w z)
-    (received : u.received ≡ r.received) (last : u.last_start ≡ r.last_start) (becomes : exch.Becomes known.closed x r.exchanges u.exchanges)
+    (received : u.received ≡ r.received) (last : u.last_start ≡ r.last_start) (same_keys : u.keys ≡ r.keys) (becomes : exch.Becomes known.closed x r.exchanges u.exchanges)
     (kept_at : BecomesAt r.consumers u.consumers o.c (Some j))
     (due_is : j.due ≡ option_or hears.reading.v.due reason) (ends_is : j.hi ≡ end_in (Some z))
-    (same_parts : (j.request ≡ hears.k.request) × (j.since ≡ hears.k.since) × (j.place ≡ hears.k.place) × (j.own ≡ hears.k.own) × (j.shown ≡ hears.k.shown) × (j.answer ≡ hears.k.answer) × (j.lo ≡ hears.k.lo) × (j.given ≡ hears.k.given))
-    (told : is_misread reason ≡ false)
-    (finished : reason ≡ None → end_in (Some z) ≡ Some (length hears.reading.reads.w.body)) where
+    (same_parts : (j.request ≡ hears.k.request) × (j.since ≡ hears.k.since) × (j.place ≡ hears.k.place) × (j.own ≡ hears.k.own) × (j.shown ≡ hears.k.shown) × (j.answer ≡ hears.k.answer) × (j.lo ≡ hears.k.lo) × (j.given ≡ hears.k.given) × (j.class ≡ hears.k.class)) where
   abbrev c : ℕ
   c = o.c
 
@@ -112,7 +100,8 @@ module _ {B : Type 0} (r u : Rows B) (t : Tables) (now x : ℕ) (ev : Event) (o 
       record {
         is_there = kp.is_there;
         request = same_parts.0 ∙ kp.request;
-        since = λ h. same_parts.1 ∙ kp.since h;
+        class_is = same_parts.8 ∙ kp.class_is;
+        since = λ cached plain. same_parts.1 ∙ kp.since cached plain;
         place = same_parts.2 ∙ kp.place;
         own = same_parts.3 ∙ kp.own;
         shown = same_parts.4 ∙ kp.shown;
@@ -121,17 +110,6 @@ module _ {B : Type 0} (r u : Rows B) (t : Tables) (now x : ℕ) (ev : Event) (o 
         ends = ends_is ∙ sym (highs_are after x v z at exchange);
         given = same_parts.7 ∙ kp.given;
         due = due_is;
-      }
-
-  brings_after : BringsPast u.received z v_after.due
-  unfolding v_after
-  brings_after =
-      let rd = hears.reading.reads in
-      record {
-        past = ap route_of stopped.need ∙ rd.brings.past;
-        came = rw (stopped.body, received) rd.brings.came;
-        told = no_misread v.due reason rd.brings.told told;
-        finished = λ over none. finished (none_due v.due reason none).1 ∙ ap (λ (bytes : List ℕ). Some (length bytes)) (sym stopped.body);
       }
 
   here : table_of u.exchanges x ≡ known.closed (table_of r.exchanges x)
@@ -153,10 +131,10 @@ module _ {B : Type 0} (r u : Rows B) (t : Tables) (now x : ℕ) (ev : Event) (o 
   stands_stopped =
       let rd = hears.reading.reads in
       let e = told_of now ev [] in
-      reads_on r u t e c x v stands (told_entry t now c x ev [] news w rd.row rd.for_it sends) (told_only t now c x ev [] news w rd.row rd.for_it (λ y ne. refl)) refl lasts starts
-      hears.reading.row rd hears.reading.at (rw received (omega arith)) last becomes.next (λ y ne. known_other known.closed x r.exchanges u.exchanges becomes y ne)
+      reads_on r u t e c x v stands (told_entry t now c x ev [] news w rd.row rd.for_it sends founds quiet) (told_only t now c x ev [] news w rd.row rd.for_it (λ y ne. refl)) refl lasts starts
+      hears.reading.row rd hears.reading.at (received ∙ (let none = none_received in omega (arith, none))) last same_keys becomes.next (λ y ne. known_other known.closed x r.exchanges u.exchanges becomes y ne)
       (record {
         running = subst (λ (y : Known). KeepsRunning y.running (after.exchange x)) (sym here) closed_row;
         held = held_after ∙ ap (held_for after x) (sym exchange);
       })
-      j v_after z kept_at row_after hears.reading.at kept_after exchange brings_after
+      j v_after kept_at row_after hears.reading.at kept_after

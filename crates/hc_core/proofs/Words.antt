@@ -1,7 +1,7 @@
 -- Small facts on tests, options and numbers.
 use Rattle.std.proofs.Common.{◌≡◌, ◌≢◌, ◌⊎◌, inl, inr, ℕ, Bool, true, false, cond, eqb, Option, Some, None, Result, Ok, Err, refl, sym, ◌∙◌, arith}
 use Rattle.std.proofs.lemmas.Bool.Decides.{nat_tests, eqb_tells}
-use Rattle.std.specs.Prelude.{is_some, IsSomeAnd, OnErr, ◌||◌, ◌&&◌}
+use Rattle.std.specs.Prelude.{is_some, IsSomeAnd, OnOk, OnErr, ◌||◌, ◌&&◌}
 
 pub same_or : (c d : ℕ) → (c ≡ d) ⊎ (c ≢ d)
 same_or c d = elim (eqb_tells c d) [ inl e ↦ inl e.1 | inr e ↦ inr e.1 ]
@@ -57,3 +57,8 @@ not_true false off = refl
 pub or_none : {A : Type 0} (o : Option A) → cond (is_some o) o None ≡ o
 or_none None = refl
 or_none (Some a) = refl
+
+-- what follows where a call succeeded
+pub on_ok : {A E P Q R S : Type 0} (r : Result A E) → OnOk r P → OnOk r Q → OnOk r R → (P → Q → R → S) → OnOk r S
+on_ok (Ok x) p q s f = f p q s
+on_ok (Err e) p q s f = tt

@@ -1,12 +1,20 @@
 -- What the arms of a step look at, and what they do.
-use Rattle.std.specs.Prelude.{◌≡◌, ℕ, ◌+◌, ◌-◌, List, [], ◌∷◌, length, nat_lt, Bool, true, false, Option, Some, None, is_some, if◌then◌else◌, ◌==◌}
-use Rattle.hc_event.specs.declared.event.Request.{Request}
+use Rattle.std.specs.Prelude.{◌≡◌, ℕ, ◌+◌, ◌-◌, List, [], ◌∷◌, length, nat_lt, nat_eq, Bool, true, false, Option, Some, None, is_some, unwrap_or, IsSomeAnd, if◌then◌else◌, ◌==◌, ◌&&◌, not}
+use Rattle.std.specs.HashMap.{get}
 use Rattle.hc_event.specs.declared.act.Act.{Act}
 use Rattle.hc_event.specs.declared.act.Act.TheVariants as act
 use Rattle.hc_event.specs.declared.act.Cause.{Cause}
 use Rattle.hc_event.specs.declared.act.Wait.TheVariants as wait
 use Rattle.hc_rules.specs.declared.reading.ReadView.{ReadView}
+use Rattle.hc_rules.specs.declared.plan.Plan.{Plan}
+use Rattle.hc_rules.specs.declared.plan.PlanView.{PlanView}
+use Rattle.hc_rules.specs.Plans.{plan_of}
 use Rattle.hc_rules.specs.Readings.{cut_at}
+use Rattle.hc_entry.specs.declared.keys.KeyTable.{KeyTable}
+use Rattle.hc_entry.specs.Keys as keys
+use Rattle.hc_entry.specs.Keys.{line_of}
+use Rattle.hc_entry.specs.Kept.{on_line}
+use Rattle.hc_entry.specs.Lines.{is_in, queued, left_by, turn_with}
 use Rattle.hc_exch.specs.Exchanges.{table_of, next_of}
 use Rattle.hc_exch.specs.Known.{Known, unknown}
 use Rattle.hc_exch.specs.declared.row.Open.{Open}
@@ -19,9 +27,11 @@ use Rattle.hc_core.specs.Changes.{BecomesAt}
 
 -- WHERE A CONSUMER STANDS
 
--- in line, with this request
-abbrev pub IsInLine : Request → Consumer → Type 0
-IsInLine request k = (k.place ≡ place.Line) × (request ≡ k.request)
+abbrev pub IsInLine : Consumer → Type 0
+IsInLine k = k.place ≡ place.Line
+
+abbrev pub HasTurn : ℕ → Consumer → Type 0
+HasTurn x k = k.place ≡ place.Turn x
 
 abbrev pub IsUnshown : ℕ → Consumer → Type 0
 IsUnshown x k = (k.place ≡ place.Direct x) × (k.shown ≡ false)
@@ -31,6 +41,68 @@ IsShown x k = (k.place ≡ place.Direct x) × (k.shown ≡ true)
 
 abbrev pub IsDown : Cause → Consumer → Type 0
 IsDown why k = k.place ≡ place.Down why
+
+-- THE LINE
+
+-- it waits in the line of its key with others
+abbrev pub queues : Consumer → Bool
+queues k = not k.class.disabled && not k.class.only
+
+-- where it waits with others, it is kept that it does
+abbrev pub IsQueued : KeyTable → ℕ → Consumer → Type 0
+IsQueued keys c k = queues k ≡ true → is_in c (line_of keys k.request.key) ≡ true
+
+-- it leaves the line, if it waits with others
+abbrev pub LeftIf : Bool → ℕ → List ℕ → KeyTable → KeyTable → Type 0
+LeftIf false c key before after = keys.Stays before after
+LeftIf true c key before after = keys.Becomes (on_line (left_by c)) key before after
+
+-- it is in line, if it waits with others
+abbrev pub IsEntered : Bool → ℕ → List ℕ → KeyTable → KeyTable → Type 0
+IsEntered false c key before after = keys.Stays before after
+IsEntered true c key before after = keys.Becomes (on_line (queued c)) key before after
+
+-- all but what is kept by key stays
+pub record KeepsRows {B : Type 0} (r u : Rows B) : Type 0 where
+  pub limits : u.limits ≡ r.limits
+  pub last_start : u.last_start ≡ r.last_start
+  pub received : u.received ≡ r.received
+  pub consumers : u.consumers ≡ r.consumers
+  pub exchanges : u.exchanges ≡ r.exchanges
+
+abbrev pub IsLeft : KeyTable → KeyTable → ℕ → Consumer → Type 0
+IsLeft before after c k = LeftIf (queues k) c k.request.key before after
+
+-- A consumer is in no line any more.
+pub record LeavesLine {B : Type 0} (r u : Rows B) (c : ℕ) : Type 0 where
+  pub limits : u.limits ≡ r.limits
+  pub last_start : u.last_start ≡ r.last_start
+  pub received : u.received ≡ r.received
+  pub consumers : u.consumers ≡ r.consumers
+  pub exchanges : u.exchanges ≡ r.exchanges
+  pub line : IsSomeAnd (get nat_eq r.consumers c) (IsLeft r.keys u.keys c)
+
+-- THE PLAN
+
+-- what the plan of a consumer in line looks at, as long as nothing is stored
+abbrev pub plan_view : {B : Type 0} → Rows B → ℕ → ℕ → Consumer → PlanView
+plan_view r now c k = record {
+  moment = now;
+  since = k.since;
+  c = c;
+  class = k.class;
+  passed = false;
+  kept = None;
+  turn = unwrap_or (turn_with c (line_of r.keys k.request.key)) c;
+  current = None;
+}
+
+abbrev pub PlanViewIs : {B : Type 0} → Rows B → ℕ → ℕ → PlanView → Consumer → Type 0
+PlanViewIs r now c view k = view ≡ plan_view r now c k
+
+-- in line, where this is its plan
+abbrev pub IsPlanned : {B : Type 0} → Rows B → ℕ → ℕ → Plan → Consumer → Type 0
+IsPlanned r now c plan k = (k.place ≡ place.Line) × (plan_of (plan_view r now c k) ≡ plan)
 
 -- READING PAST THE STORE
 
@@ -74,6 +146,7 @@ pub record Leaves {B : Type 0} (r u : Rows B) (c x : ℕ) : Type 0 where
   pub limits : u.limits ≡ r.limits
   pub last_start : u.last_start ≡ r.last_start
   pub received : u.received ≡ r.received
+  pub keys : u.keys ≡ r.keys
   pub consumers : BecomesAt r.consumers u.consumers c None
   pub known : (y : ℕ) →
       table_of u.exchanges y ≡ (if x == y then unknown else table_of r.exchanges y)

@@ -36,8 +36,12 @@ pub record StaysAll {A : Type 0} (old new : Numbered A) : Type 0 where
 
 -- A CONSUMER
 
+-- it waits for the head of its own exchange, past the store or with the turn
 abbrev pub reading_past : ℕ → Consumer → Consumer
 reading_past x k = record k { place = place.Direct x; own = Some x }
+
+abbrev pub with_turn : ℕ → Consumer → Consumer
+with_turn x k = record k { place = place.Turn x; own = Some x }
 
 abbrev pub answer_of : Consumer → Option Response
 answer_of k = k.answer
@@ -49,8 +53,10 @@ once_answered k = if is_some k.answer then record k { shown = true; answer = Non
 abbrev pub once_given : ℕ → Consumer → Consumer
 once_given n k = record k { given = k.given + n }
 
-abbrev pub with_answer : Response → Option ℕ → Consumer → Consumer
-with_answer head hi k = record k { answer = Some head; hi = hi }
+-- it reads the answer of this exchange past the store, from there to there
+abbrev pub with_answer : ℕ → Response → ℕ → Option ℕ → Consumer → Consumer
+with_answer x head lo hi k =
+    record k { place = place.Direct x; answer = Some head; lo = lo; hi = hi }
 
 abbrev pub put_down : Cause → Consumer → Consumer
 put_down cause k = record k { place = place.Down cause }

@@ -1,8 +1,10 @@
 pub mod Changes
 pub mod Facts
-pub mod Past
+pub mod Built
+pub mod Lines
 pub mod Kept
 pub mod Stands
+pub mod Heads
 pub mod Arms
 pub mod Good
 pub mod Steps

@@ -33,7 +33,6 @@ pub record StandsFor {B : Type 0} (s : Cache B) (contents : Contents) (h : Histo
   pub run : IsRun s.rows.limits contents h
   pub moment : s.last_moment ≡ (tables contents h).moment
   pub entries : s.steps ≡ (tables contents h).entries
-  pub received : s.rows.received ≡ (tables contents h).received
   pub rows : RowsStand s.rows (tables contents h)
 
 -- The acts are those of one entry more, and the cache stands for that.

@@ -3,6 +3,7 @@ ghost use Rattle.std.specs.Prelude.{◌≡◌, false};
 ghost use Rattle.std.proofs.Props.{props};
 ghost use Rattle.hc_core.specs.Good.{IsGood};
 
+mod built;
 mod step;
 mod views;
 

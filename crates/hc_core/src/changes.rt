@@ -2,7 +2,7 @@
 ghost use Rattle.std.specs.Prelude.{◌≡◌, ◌+◌, ◌<◌, ◌^◌, IsSomeAnd, nat_eq};
 ghost use Rattle.std.specs.Option.{option_and_then};
 ghost use Rattle.std.specs.HashMap.{get};
-ghost use Rattle.hc_core.specs.Changes.{ChangesAt, reading_past, answer_of, once_answered, once_given, with_answer, put_down, with_due, with_end};
+ghost use Rattle.hc_core.specs.Changes.{ChangesAt, reading_past, answer_of, once_answered, once_given, with_answer, with_turn, put_down, with_due, with_end};
 
 use crate::consumer::Consumer;
 use hc_event::{Cause, Response};
@@ -15,6 +15,16 @@ pub(crate) fn read_past(consumers: &mut HashMap<u64, Consumer>, c: u64, x: u64)
 {
     if let Some(consumer) = consumers.get_mut(&c) {
         consumer.place = Place::Direct(x);
+        consumer.own = Some(x);
+    }
+}
+
+/// It has the turn, and waits for the head of its own exchange.
+pub(crate) fn take_turn(consumers: &mut HashMap<u64, Consumer>, c: u64, x: u64)
+    ensures { ChangesAt consumers.old consumers.new c (with_turn x) }
+{
+    if let Some(consumer) = consumers.get_mut(&c) {
+        consumer.place = Place::Turn(x);
         consumer.own = Some(x);
     }
 }
@@ -40,17 +50,21 @@ pub(crate) fn count_given(consumers: &mut HashMap<u64, Consumer>, c: u64, n: u64
     }
 }
 
-/// The head of its answer past the store came, which ends there.
+/// The head of its answer past the store came, which begins and ends there.
 pub(crate) fn take_answer(
     consumers: &mut HashMap<u64, Consumer>,
     c: u64,
+    x: u64,
     head: Response,
+    lo: u64,
     hi: Option<u64>,
 )
-    ensures { ChangesAt consumers.old consumers.new c (with_answer head hi) }
+    ensures { ChangesAt consumers.old consumers.new c (with_answer x head lo hi) }
 {
     if let Some(consumer) = consumers.get_mut(&c) {
+        consumer.place = Place::Direct(x);
         consumer.answer = Some(head);
+        consumer.lo = lo;
         consumer.hi = hi;
     }
 }

@@ -1,13 +1,19 @@
 //! What is kept of a live consumer.
+ghost use Rattle.std.specs.Prelude.{◌≡◌, ◌+◌, ◌<◌, ◌^◌, None, false};
+ghost use Rattle.hc_model.specs.declared.place.Place.TheVariants as place;
+ghost use Rattle.hc_core.specs.Arms.{queues};
 
 use hc_event::{Cause, Request, Response};
 use hc_model::Place;
+use hc_rules::RequestClass;
 
 /// What is kept of a live consumer. Moments are whole seconds since 1970; positions and counts are of
 /// bytes.
 #[derive(Drop)]
 pub(crate) struct Consumer {
     pub(crate) request: Request,
+    /// What its request asks of the cache.
+    pub(crate) class: RequestClass,
     /// The moment of its start, or of its last starting over.
     pub(crate) since: u64,
     pub(crate) place: Place,
@@ -25,4 +31,35 @@ pub(crate) struct Consumer {
     pub(crate) given: u64,
     /// The failure that is due.
     pub(crate) due: Option<Cause>,
+}
+
+impl Consumer {
+    /// It stands in line, or reads nothing yet.
+    pub(crate) fn new(request: Request, class: RequestClass, now: u64) -> Consumer
+        ensures { result ≡ record {
+            request = request; class = class; since = now; place = place.Line; own = None;
+            shown = false; answer = None; lo = 0; hi = None; given = 0; due = None } }
+    {
+        Consumer {
+            request,
+            class,
+            since: now,
+            place: Place::Line,
+            own: None,
+            shown: false,
+            answer: None,
+            lo: 0,
+            hi: None,
+            given: 0,
+            due: None,
+        }
+    }
+
+    /// Whether it waits in the line of its key with others: it neither goes past the store nor is
+    /// for what is stored alone.
+    pub(crate) fn queues(&self) -> bool
+        ensures { result ≡ queues self.now }
+    {
+        !self.class.disabled && !self.class.only
+    }
 }

@@ -2,7 +2,6 @@
 #![tactic(auto)]
 
 mod acts;
-mod built;
 mod cache;
 mod changes;
 mod consumer;
@@ -10,5 +9,4 @@ mod rows;
 #[cfg(test)]
 mod tests;
 
-pub use built::is_built;
 pub use cache::Cache;

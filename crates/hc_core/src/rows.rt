@@ -4,19 +4,22 @@ ghost use Rattle.hc_event.specs.Acts.{listed, spare};
 ghost use Rattle.hc_rules.specs.Refusals.{refusal_of};
 ghost use Rattle.hc_exch.specs.Exchanges.{next_of};
 ghost use Rattle.hc_model.specs.Tables.{received_in};
-ghost use Rattle.hc_core.specs.Past.{IsBuilt};
-ghost use Rattle.hc_core.specs.Stands.{gate_of, Stays, Answers, StandsForSome};
+ghost use Rattle.hc_core.specs.Built.{IsBuilt};
+ghost use Rattle.hc_core.specs.Stands.{gate_of, Answers, StandsForSome};
 ghost use Rattle.hc_core.specs.Good.{takes_no_memory};
 
 pub(crate) mod answer;
 mod gate;
+mod head;
 mod heard;
 mod leave;
+mod plan;
 mod poll;
 mod read;
 mod start;
 
 use crate::consumer::Consumer;
+use hc_entry::KeyTable;
 use hc_event::{Acts, Event};
 use hc_exch::Exchanges;
 use hc_rules::Limits;
@@ -24,7 +27,8 @@ use hc_text::NoMemory;
 use std::alloc::Global;
 use std::collections::HashMap;
 
-/// What is kept of the past: live consumers, open exchanges and what is held of them, and the store.
+/// What is kept of the past: live consumers, open exchanges and what is held of them, who waits for
+/// each key, and the store.
 #[derive(Drop)]
 pub struct Rows<B> {
     pub(crate) limits: Limits,
@@ -35,6 +39,7 @@ pub struct Rows<B> {
     /// The live ones, by number.
     pub(crate) consumers: HashMap<u64, Consumer>,
     pub(crate) exchanges: Exchanges,
+    pub(crate) keys: KeyTable,
     pub(crate) store: B,
 }
 
@@ -42,7 +47,7 @@ impl<B> Rows<B> {
     /// Does what an event says that isn't denied.
     pub(crate) fn accept(&mut self, now: u64, event: &Event, out: &mut Acts) -> Result<(), NoMemory>
         requires stands { ∥ StandsForSome self.old ∥₁ }
-        requires built { IsBuilt event.now }
+        requires built { IsBuilt self.old event.now }
         requires accepted { refusal_of (gate_of self.old event.now) event.now ≡ None }
         requires few { next_of self.old.exchanges < 2 ^ 62 }
         requires small { self.old.received + received_in event.now < 2 ^ 61 }
@@ -54,7 +59,6 @@ impl<B> Rows<B> {
         ensures received { OnOk result
             (self.new.received ≡ self.old.received + received_in event.now) }
         ensures limits { OnOk result (self.new.limits ≡ self.old.limits) }
-        ensures err { OnErr result (Stays self.old self.new) }
         ensures kept { OnErr result (listed out.new ≡ listed out.old) }
         ensures frees { takes_no_memory event.now ≡ true → IsOk result }
     {
@@ -75,7 +79,7 @@ impl<B> Rows<B> {
                 self.cancel(*c, out);
                 Ok(())
             }
-            // What waits starts over at once: since when it waits isn't looked at.
+            // Nobody stands in the line of the key.
             Event::Doom { .. } => Ok(()),
         }
     }

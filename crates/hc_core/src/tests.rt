@@ -13,6 +13,10 @@ use std::test::Fail;
 enum Step {
     /// A consumer starts that goes past the store.
     Start(u64),
+    /// One starts that waits with others.
+    Queue(u64),
+    /// One starts that is for what is stored alone.
+    Only(u64),
     Poll(u64, u32),
     /// A head comes, with this status and Content-Length.
     Head(u64, u16, &'static str),
@@ -27,6 +31,7 @@ enum Step {
 #[derive(Clone, Copy)]
 enum Told {
     Opened(u64, u64),
+    Asked(u64, u64, Need),
     Ask(u64),
     Close(u64),
     Shown(u64, u64, u16, u64, Option<u64>),
@@ -195,6 +200,57 @@ static LEFT: &'static [Row] = &[
     Row(2, Step::Fault(1), &[Told::Denied(Refusal::NoExchange)], 0),
 ];
 
+static LINED: &'static [Row] = &[
+    Row(1000, Step::Queue(1), &[], 1),
+    Row(
+        1000,
+        Step::Poll(1, 100),
+        &[
+            Told::Asked(1, 1, Need::Miss),
+            Told::Pending(1, Wait::Head(1)),
+        ],
+        1,
+    ),
+    Row(1000, Step::Queue(2), &[], 2),
+    Row(
+        1000,
+        Step::Poll(2, 100),
+        &[Told::Pending(2, Wait::Turn(1))],
+        2,
+    ),
+    Row(
+        1019,
+        Step::Poll(2, 100),
+        &[Told::Pending(2, Wait::Turn(1))],
+        2,
+    ),
+    Row(
+        1019,
+        Step::Poll(1, 100),
+        &[Told::Pending(1, Wait::Head(1))],
+        2,
+    ),
+    Row(
+        1020,
+        Step::Poll(2, 100),
+        &[
+            Told::Asked(2, 2, Need::TimedOut),
+            Told::Pending(2, Wait::Head(2)),
+        ],
+        2,
+    ),
+    Row(1020, Step::Only(3), &[], 3),
+    Row(1020, Step::Poll(3, 1), &[Told::Failed(3, Cause::Miss)], 2),
+    Row(1020, Step::Queue(4), &[], 3),
+    Row(1020, Step::Cancel(4), &[], 2),
+    Row(1020, Step::Cancel(2), &[Told::Close(2)], 1),
+];
+
+#[test]
+fn waits_in_line(rt: HostRuntime) -> Result<(), Fail> {
+    walk(&rt, LINED)
+}
+
 #[test]
 fn reads_past_the_store(rt: HostRuntime) -> Result<(), Fail> {
     walk(&rt, READ)
@@ -261,17 +317,16 @@ fn take_step<R: Abort>(
 ) -> Result<(), Fail> {
     assert!(rt; cache.last_moment() <= now && cache.steps() < 1000);
     assert!(rt; cache.received() < 1000 && received_in(event) < 1000);
-    assert!(rt; is_built(event));
+    assert!(rt; cache.is_built(event));
     cache.step(now, event, out)?;
     Ok(())
 }
 
 fn event_of(alloc: Global, step: Step) -> Result<Event, Fail> {
     Ok(match step {
-        Step::Start(c) => Event::Start {
-            c,
-            request: request(alloc)?,
-        },
+        Step::Start(c) => start(alloc, c, Load::Disable)?,
+        Step::Queue(c) => start(alloc, c, Load::Normal)?,
+        Step::Only(c) => start(alloc, c, Load::Only)?,
         Step::Poll(c, want) => Event::Poll { c, want },
         Step::Head(x, status, length) => {
             let mut fields = Fields::new(alloc)?;
@@ -300,15 +355,16 @@ fn key(alloc: Global) -> Result<Key, Fail> {
     })
 }
 
-fn request(alloc: Global) -> Result<Request, Fail> {
-    Ok(Request {
+fn start(alloc: Global, c: u64, load: Load) -> Result<Event, Fail> {
+    let request = Request {
         method: MethodName {
             bytes: b"GET".to_vec(alloc)?,
         },
         key: key(alloc)?,
-        load: Load::Disable,
+        load,
         fields: Fields::new(alloc)?,
-    })
+    };
+    Ok(Event::Start { c, request })
 }
 
 fn are_told(acts: &[Act], told: &[Told]) -> bool {
@@ -320,6 +376,7 @@ fn is_told(act: &Act, told: &Told) -> bool {
         (Act::Opened { x, c, need, .. }, Told::Opened(y, d)) => {
             x == y && c == d && *need == Need::Disabled
         }
+        (Act::Opened { x, c, need, .. }, Told::Asked(y, d, n)) => x == y && c == d && need == n,
         (Act::Ask { x }, Told::Ask(y)) | (Act::Close { x }, Told::Close(y)) => x == y,
         (
             Act::Shown {

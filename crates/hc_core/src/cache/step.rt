@@ -3,12 +3,13 @@ ghost use Rattle.std.specs.Prelude.{◌≡◌, ◌+◌, ◌≤◌, ◌<◌, ◌^
 ghost use Rattle.hc_event.specs.Acts.{listed, spare};
 ghost use Rattle.hc_model.specs.Entries.{Contents, History, no_contents};
 ghost use Rattle.hc_model.specs.Tables.{received_in};
-ghost use Rattle.hc_core.specs.Past.{IsBuilt};
+ghost use Rattle.hc_core.specs.Built.{IsBuilt};
 ghost use Rattle.hc_core.specs.Good.{is_refused, takes_no_memory, counted};
 ghost use Rattle.hc_core.specs.Steps.{StandsFor, Steps, has_failed, last_moment, steps, received, store_in};
 
 use crate::cache::Cache;
 use crate::rows::Rows;
+use hc_entry::KeyTable;
 use hc_event::{Acts, Event};
 use hc_exch::Exchanges;
 use hc_rules::Limits;
@@ -32,6 +33,7 @@ impl<B> Cache<B> {
                 received: 0,
                 consumers: HashMap::new(alloc),
                 exchanges: Exchanges::new(alloc),
+                keys: KeyTable::new(alloc),
                 store,
             },
         }
@@ -42,7 +44,7 @@ impl<B> Cache<B> {
     /// refused too.
     pub fn step(&mut self, now: u64, event: &Event, out: &mut Acts) -> Result<(), NoMemory>
         requires later { last_moment self.old ≤ now }
-        requires built { IsBuilt event.now }
+        requires built { IsBuilt self.old.rows event.now }
         requires few { steps self.old < 2 ^ 60 }
         requires small { received self.old + received_in event.now < 2 ^ 61 }
         ensures answered { OnOk result ((contents : Contents) (h : History)

@@ -6,7 +6,7 @@ ghost use Rattle.hc_event.specs.declared.act.Refusal.{Refusal};
 ghost use Rattle.hc_rules.specs.Refusals.{refusal_of};
 ghost use Rattle.hc_exch.specs.Exchanges.{next_of};
 ghost use Rattle.hc_model.specs.Tables.{received_in};
-ghost use Rattle.hc_core.specs.Past.{IsBuilt};
+ghost use Rattle.hc_core.specs.Built.{IsBuilt};
 ghost use Rattle.hc_core.specs.Stands.{gate_of, Answers, StandsForSome};
 ghost use Rattle.hc_core.specs.Good.{takes_no_memory, counted};
 
@@ -20,7 +20,7 @@ impl<B> Rows<B> {
     /// counted, and changes nothing else. After NoMemory the acts are as before.
     pub(crate) fn answer(&mut self, now: u64, event: &Event, out: &mut Acts) -> Result<(), NoMemory>
         requires stands { ∥ StandsForSome self.old ∥₁ }
-        requires built { IsBuilt event.now }
+        requires built { IsBuilt self.old event.now }
         requires few { next_of self.old.exchanges < 2 ^ 62 }
         requires small { self.old.received + received_in event.now < 2 ^ 61 }
         ensures denied { OnOk result ((why : Refusal)

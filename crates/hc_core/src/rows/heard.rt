@@ -1,54 +1,18 @@
 //! What an exchange brings: its head, pieces, an end or a fault.
-ghost use Rattle.std.specs.Prelude.{◌≡◌, ◌+◌, ◌≤◌, ◌<◌, ◌^◌, ◌++◌, [], ℕ, List, length, true, None, OnOk, OnErr, option_map};
-ghost use Rattle.hc_event.specs.Acts.{listed, spare};
+ghost use Rattle.std.specs.Prelude.{◌≡◌, ◌+◌, ◌≤◌, ◌<◌, ◌^◌, ℕ, List, length, None, OnOk, OnErr};
 ghost use Rattle.hc_event.specs.declared.act.Act.{Act};
-ghost use Rattle.hc_event.specs.declared.event.Event.TheVariants.{Head, Piece, End, Fault};
-ghost use Rattle.hc_rules.specs.Refusals.{head_refusal, piece_refusal, end_refusal, fault_refusal};
-ghost use Rattle.hc_exch.specs.Exchanges.{next_of};
+ghost use Rattle.hc_event.specs.declared.event.Event.TheVariants.{Piece, End, Fault};
+ghost use Rattle.hc_rules.specs.Refusals.{piece_refusal, end_refusal, fault_refusal};
+ghost use Rattle.hc_exch.specs.Exchanges.{next_of, table_of};
+ghost use Rattle.hc_core.specs.Built.{IsBuiltFault};
 ghost use Rattle.hc_core.specs.Stands.{Stays, Answers, StandsForSome, open_at};
 
-use crate::acts::put;
-use crate::changes::{fail_with, know_end, make_due, take_answer};
+use crate::changes::{fail_with, know_end, make_due};
 use crate::rows::Rows;
-use hc_event::{Act, Acts, Cause, Response};
+use hc_event::Cause;
 use hc_text::NoMemory;
 
 impl<B> Rows<B> {
-    /// The head of an exchange past the store.
-    pub(super) fn take_head(
-        &mut self,
-        now: u64,
-        x: u64,
-        response: &Response,
-        out: &mut Acts,
-    ) -> Result<(), NoMemory>
-        requires accepted { head_refusal (open_at self.old x) ≡ None }
-        requires room { 1 ≤ spare out.old }
-        ensures answers { OnOk result (Answers self.old self.new (listed out.old) (listed out.new)
-            now (Head x response.now)) }
-        ensures next { next_of self.new.exchanges ≡ next_of self.old.exchanges }
-        ensures received { self.new.received ≡ self.old.received }
-        ensures limits { self.new.limits ≡ self.old.limits }
-        ensures err { OnErr result (Stays self.old self.new) }
-        ensures kept { OnErr result (listed out.new ≡ listed out.old) }
-    {
-        let c = self.exchanges.view(x).unwrap().c;
-        let head = response.copy()?;
-        if !self.exchanges.head(x, response, now)? {
-            put(out, Act::Close { x });
-            self.exchanges.close(x);
-            fail_with(&mut self.consumers, c, Cause::BadHead(x));
-            return Ok(());
-        }
-        // Where nothing is promised it is over.
-        let promised = match self.exchanges.view(x) {
-            Some(view) => view.promised,
-            None => Some(0),
-        };
-        take_answer(&mut self.consumers, c, head, promised);
-        Ok(())
-    }
-
     /// A piece of an exchange past the store: it is held until it is read.
     pub(super) fn take_piece(&mut self, x: u64, bytes: &[u8]) -> Result<(), NoMemory>
         requires stands { ∥ StandsForSome self.old ∥₁ }
@@ -92,9 +56,10 @@ impl<B> Rows<B> {
         self.exchanges.close(x);
     }
 
-    /// An exchange past the store breaks.
+    /// An exchange breaks.
     pub(super) fn fault(&mut self, x: u64)
         requires accepted { fault_refusal (open_at self.old x) ≡ None }
+        requires built { IsBuiltFault (table_of self.old.exchanges x).running }
         ensures answers { (now : ℕ) (before : List Act)
             → Answers self.old self.new before before now (Fault x) }
         ensures next { next_of self.new.exchanges ≡ next_of self.old.exchanges }

@@ -1,17 +1,18 @@
 //! What a poll does for a consumer that was shown no head yet.
-ghost use Rattle.std.specs.Prelude.{◌≡◌, ◌+◌, ◌≤◌, ◌<◌, ◌^◌, ◌++◌, ℕ, nat_eq, true, is_some, IsSomeAnd, OnOk, OnErr};
+ghost use Rattle.std.specs.Prelude.{◌≡◌, ◌+◌, ◌≤◌, ◌<◌, ◌^◌, ◌++◌, ◌∷◌, [], None, ℕ, nat_eq, true, is_some, IsSomeAnd, OnOk, OnErr};
 ghost use Rattle.std.specs.HashMap.{get};
 ghost use Rattle.hc_event.specs.Acts.{listed, spare};
 ghost use Rattle.hc_event.specs.declared.event.Event.TheVariants.{Poll};
 ghost use Rattle.hc_exch.specs.Exchanges.{next_of};
-ghost use Rattle.hc_core.specs.Stands.{Stays, Answers, StandsForSome};
-ghost use Rattle.hc_core.specs.Arms.{IsInLine, IsUnshown, IsDown};
+ghost use Rattle.hc_event.specs.declared.act.Act.TheVariants as act;
+ghost use Rattle.hc_core.specs.Changes.{BecomesAt};
+ghost use Rattle.hc_core.specs.Stands.{Answers, StandsForSome, KeepsRest};
+ghost use Rattle.hc_core.specs.Arms.{IsUnshown};
 
 use crate::acts::put;
-use crate::changes::{read_past, show_answer};
+use crate::changes::show_answer;
 use crate::rows::Rows;
-use hc_event::{Act, Acts, Cause, Need, Request, Wait, Why};
-use hc_exch::Role;
+use hc_event::{Act, Acts, Cause, Wait, Why};
 use hc_model::Place;
 use hc_text::NoMemory;
 
@@ -36,14 +37,14 @@ impl<B> Rows<B> {
             (next_of self.new.exchanges ≤ next_of self.old.exchanges + 1) }
         ensures received { OnOk result (self.new.received ≡ self.old.received) }
         ensures limits { OnOk result (self.new.limits ≡ self.old.limits) }
-        ensures err { OnErr result (Stays self.old self.new) }
         ensures kept { OnErr result (listed out.new ≡ listed out.old) }
     {
         let consumer = self.consumers.get(&c).unwrap();
         match consumer.place {
-            Place::Line => {
-                let request = consumer.request.copy()?;
-                self.open_past(now, c, request, out)
+            Place::Line => self.carry_out(now, c, out),
+            Place::Turn(x) => {
+                wait(c, Wait::Head(x), out);
+                Ok(())
             }
             Place::Direct(x) if consumer.shown => self.read(c, x, want, out),
             Place::Direct(x) => {
@@ -55,47 +56,8 @@ impl<B> Rows<B> {
                 Ok(())
             }
             // No such place is built yet.
-            Place::Passed { .. } | Place::Turn(_) | Place::Bound { .. } | Place::Over => {
-                unreachable!()
-            }
+            Place::Passed { .. } | Place::Bound { .. } | Place::Over => unreachable!(),
         }
-    }
-
-    /// A consumer that goes past the store opens its exchange, with this copy of its request.
-    fn open_past(
-        &mut self,
-        now: u64,
-        c: u64,
-        request: Request,
-        out: &mut Acts,
-    ) -> Result<(), NoMemory>
-        requires line { IsSomeAnd (get nat_eq self.old.consumers c) (IsInLine request) }
-        requires few { next_of self.old.exchanges < 2 ^ 62 }
-        requires room { 2 ≤ spare out.old }
-        ensures answers { OnOk result ((want : ℕ)
-            → Answers self.old self.new (listed out.old) (listed out.new) now (Poll c want)) }
-        ensures next { OnOk result
-            (next_of self.new.exchanges ≤ next_of self.old.exchanges + 1) }
-        ensures received { OnOk result (self.new.received ≡ self.old.received) }
-        ensures limits { OnOk result (self.new.limits ≡ self.old.limits) }
-        ensures err { OnErr result (Stays self.old self.new) }
-        ensures kept { OnErr result (listed out.new ≡ listed out.old) }
-    {
-        let need = Need::Disabled;
-        let x = self.exchanges.launch(c, Role::Direct, need, &request, now)?;
-        read_past(&mut self.consumers, c, x);
-        put(
-            out,
-            Act::Opened {
-                x,
-                c,
-                need,
-                request,
-            },
-        );
-        let wait = Wait::Head(x);
-        put(out, Act::Pending { c, wait });
-        Ok(())
     }
 
     /// A consumer that goes past the store is shown the head of its exchange, or waits for it.
@@ -129,17 +91,24 @@ impl<B> Rows<B> {
         );
     }
 
-    /// A consumer fails whose exchange brought no usable head.
-    fn fail(&mut self, c: u64, cause: Cause, out: &mut Acts)
-        requires down { IsSomeAnd (get nat_eq self.old.consumers c) (IsDown cause) }
+    /// A consumer fails, and is gone. It stands in no line.
+    pub(super) fn fail(&mut self, c: u64, cause: Cause, out: &mut Acts)
         requires room { 1 ≤ spare out.old }
-        ensures answers { (now want : ℕ)
-            → Answers self.old self.new (listed out.old) (listed out.new) now (Poll c want) }
+        ensures acts { listed out.new ≡ listed out.old ++ act.Failed c cause ∷ [] }
+        ensures consumers { BecomesAt self.old.consumers self.new.consumers c None }
+        ensures rest { KeepsRest self.old self.new }
         ensures exchanges { self.new.exchanges ≡ self.old.exchanges }
-        ensures received { self.new.received ≡ self.old.received }
-        ensures limits { self.new.limits ≡ self.old.limits }
     {
         put(out, Act::Failed { c, cause });
         self.consumers.remove(&c);
     }
+}
+
+/// A consumer is to wait.
+pub(super) fn wait(c: u64, wait: Wait, out: &mut Acts)
+    requires { 1 ≤ spare out.old }
+    ensures acts { listed out.new ≡ listed out.old ++ act.Pending c wait ∷ [] }
+    ensures room { spare out.new + 1 ≡ spare out.old }
+{
+    put(out, Act::Pending { c, wait });
 }

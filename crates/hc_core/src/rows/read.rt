@@ -137,7 +137,7 @@ impl<B> Rows<B> {
 
 /// As many bytes as are wanted, and not past the end.
 fn most(hi: Option<u64>, offset: u64, want: u32) -> usize
-    requires { offset < 2 ^ 62 }
+    requires { offset ≤ 2 ^ 62 }
     ensures { result ≡ most hi offset want }
 {
     let wanted = offset + u64::from(want);

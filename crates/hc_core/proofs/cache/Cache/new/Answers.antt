@@ -7,9 +7,9 @@ pub invariant_of-result : goal.invariant_of-result
 invariant_of-result g c =
     let none : (d : ℕ) → get nat_eq c.new.result d ≡ None = λ d. (let empty = c.new.ensures.empty in rw empty refl) in
     let first = c.new-2.ensures.next in
-    record { good = λ _. (∣ begins_good _ refl first c.new.ensures.len none c.new-2.ensures.none ∣₁, omega (arith, first)) }
+    record { good = λ _. (∣ begins_good _ refl refl first c.new.ensures.len none c.new-2.ensures.none c.new-3.ensures ∣₁, omega (arith, first)) }
 
 pub returns-clause-stands : goal.returns-clause-stands
 returns-clause-stands g c =
     let none : (d : ℕ) → get nat_eq c.new.result d ≡ None = λ d. (let empty = c.new.ensures.empty in rw empty refl) in
-    stands_beginning _ refl refl refl refl c.new-2.ensures.next c.new.ensures.len none c.new-2.ensures.none
+    stands_beginning _ refl refl refl refl c.new-2.ensures.next c.new.ensures.len none c.new-2.ensures.none c.new-3.ensures

@@ -24,7 +24,7 @@ invariant_of-self-2 g c =
 
 pub returns-clause-answered : goal.returns-clause-answered
 returns-clause-answered g c = λ contents h stands.
-    steps_on c.args.self.now _ contents h c.args.now c.args.event.now (listed c.args.out.now) (listed c.answer.new.out) c.in_ok-answer.ensures.denied c.in_ok-answer.ensures.accepted c.requires.later refl refl c.in_ok-answer.ensures.received c.in_ok-answer.ensures.limits stands
+    steps_on c.args.self.now _ contents h c.args.now c.args.event.now (listed c.args.out.now) (listed c.answer.new.out) c.in_ok-answer.ensures.denied c.in_ok-answer.ensures.accepted c.requires.later refl refl c.in_ok-answer.ensures.limits stands
 
 pub returns-clause-denied : goal.returns-clause-denied
 returns-clause-denied g c = λ some.

@@ -2,6 +2,7 @@ use Rattle.std.proofs.Common.{ap, ◌∙◌, length}
 use Rattle.hc_event.specs.Acts.{listed}
 use Rattle.hc_event.specs.declared.event.Event.TheVariants as event
 use Rattle.hc_rules.specs.Refusals.{piece_refusal}
+use Rattle.hc_core.specs.Built.{IsBuilt}
 use Rattle.hc_core.specs.Stands.{gate_of, open_at}
 use Rattle.hc_core.proofs.Accepted.{start_rises, poll_lives, poll_wants, cancel_lives, head_free, piece_free, end_free, fault_free}
 use Rattle.hc_core.proofs.OpenArms.{doom_answered}
@@ -29,7 +30,16 @@ pub end-requires : goal.end-requires
 end-requires g c = record { accepted = end_free (gate_of c.args.self.now (event.End c.in-End.x)) c.in-End.x (rw c.in-End.is at c.requires.accepted) }
 
 pub fault-requires : goal.fault-requires
-fault-requires g c = record { accepted = fault_free (gate_of c.args.self.now (event.Fault c.in-Fault.x)) c.in-Fault.x (rw c.in-Fault.is at c.requires.accepted) }
+fault-requires g c = record {
+  accepted = fault_free (gate_of c.args.self.now (event.Fault c.in-Fault.x)) c.in-Fault.x (rw c.in-Fault.is at c.requires.accepted);
+  built = (let built : IsBuilt c.args.self.now (event.Fault c.in-Fault.x) = rw c.in-Fault.is at c.requires.built in built);
+}
+
+pub cancel-requires-clause-built : goal.cancel-requires-clause-built
+cancel-requires-clause-built g c = let built : IsBuilt c.args.self.now (event.Cancel c.in-Cancel.c) = rw c.in-Cancel.is at c.requires.built in built
+
+pub take_head-requires-clause-built : goal.take_head-requires-clause-built
+take_head-requires-clause-built g c = let built : IsBuilt c.args.self.now (event.Head c.in-Head.x c.in-Head.response) = rw c.in-Head.is at c.requires.built in built
 
 pub cancel-requires-clause-live : goal.cancel-requires-clause-live
 cancel-requires-clause-live g c = cancel_lives (gate_of c.args.self.now (event.Cancel c.in-Cancel.c)) c.in-Cancel.c (rw c.in-Cancel.is at c.requires.accepted)
@@ -37,4 +47,5 @@ cancel-requires-clause-live g c = cancel_lives (gate_of c.args.self.now (event.C
 pub returns-in-Doom-clause-answers : goal.returns-in-Doom-clause-answers
 returns-in-Doom-clause-answers g c = λ t facts rows accepted.
     let stands = standing_of c.args.self.now t facts rows in
-    rw c.in-Doom.is (doom_answered c.args.self.now t c.args.now c.in-Doom.key (listed c.args.out.now) c.args.self.now.limits stands)
+    let built : IsBuilt c.args.self.now (event.Doom c.in-Doom.key) = rw c.in-Doom.is at c.requires.built in
+    rw c.in-Doom.is (doom_answered c.args.self.now t c.args.now c.in-Doom.key (listed c.args.out.now) c.args.self.now.limits stands built)

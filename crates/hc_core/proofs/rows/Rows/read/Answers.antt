@@ -13,13 +13,13 @@ use Rattle.hc_core.proofs.PastReads.{ended_answered, failed_answered, given_answ
 use Rattle.hc_core.proofs.Standing.{some_standing, standing_of}
 use Rattle.hc_core.proofs.rows.Rows.read.Goals as goal
 
-small : (g : _) (c : goal.After-unwrap-consumer g) → c.unwrap-consumer.result.now.lo + c.unwrap-consumer.result.now.given < 2 ^ 62
+small : (g : _) (c : goal.After-unwrap-consumer g) → c.unwrap-consumer.result.now.lo + c.unwrap-consumer.result.now.given < 2 ^ 62 + 1
 small g c =
     let r = c.args.self.now in
     let k = c.unwrap-consumer.result.now in
     let at = lent c.get.result (get nat_eq r.consumers c.args.c) c.unwrap-consumer.result c.get.ensures.value c.unwrap-consumer.ensures in
     let shown = known_of (get nat_eq r.consumers c.args.c) k (IsShown c.args.x) at c.requires.shown in
-    merely_below (k.lo + k.given) (2 ^ 62) c.requires.stands (λ rows. let s = some_standing c.args.self.now rows in given_small r s.0 c.args.want c.args.c c.args.x k s.1 (reading_of r s.0 c.args.c c.args.x k s.1 at shown.0) shown.1 c.requires.wants c.requires.small)
+    merely_below (k.lo + k.given) (2 ^ 62 + 1) c.requires.stands (λ rows. let s = some_standing c.args.self.now rows in given_small r s.0 c.args.want c.args.c c.args.x k s.1 (reading_of r s.0 c.args.c c.args.x k s.1 at shown.0) shown.1 c.requires.wants c.requires.small)
 
 pub overflow_add-offset : goal.overflow_add-offset
 overflow_add-offset g c = let below = small g c in omega (arith, below)
@@ -30,7 +30,8 @@ most-requires g c =
     let k = c.unwrap-consumer.result.now in
     let at = lent c.get.result (get nat_eq r.consumers c.args.c) c.unwrap-consumer.result c.get.ensures.value c.unwrap-consumer.ensures in
     let shown = known_of (get nat_eq r.consumers c.args.c) k (IsShown c.args.x) at c.requires.shown in
-    merely_below (k.lo + k.given) (2 ^ 62) c.requires.stands (λ rows. let s = some_standing c.args.self.now rows in given_small r s.0 c.args.want c.args.c c.args.x k s.1 (reading_of r s.0 c.args.c c.args.x k s.1 at shown.0) shown.1 c.requires.wants c.requires.small)
+    let below = merely_below (k.lo + k.given) (2 ^ 62 + 1) c.requires.stands (λ rows. let s = some_standing c.args.self.now rows in given_small r s.0 c.args.want c.args.c c.args.x k s.1 (reading_of r s.0 c.args.c c.args.x k s.1 at shown.0) shown.1 c.requires.wants c.requires.small) in
+    omega (arith, below)
 
 pub give-requires-clause-fits : goal.give-requires-clause-fits
 give-requires-clause-fits g c =
@@ -86,7 +87,7 @@ returns-in_ok-bytes-in-Held-clause-answers g c = λ now t facts rows accepted.
     let at = lent c.get.result (get nat_eq r.consumers c.args.c) c.unwrap-consumer.result c.get.ensures.value c.unwrap-consumer.ensures in
     let shown = known_of (get nat_eq r.consumers c.args.c) k (IsShown c.args.x) at c.requires.shown in
     given_answered r c.give.new.self t now c.args.c c.args.want c.args.x k (listed c.args.out.now) (listed c.give.new.out) r.limits stands at shown c.requires.wants c.most.result c.in_ok-bytes-in-Held.bytes (sym (ap read_step c.read_view.ensures) ∙ (sym c.read_step.ensures ∙ c.in-Held.is)) c.most.ensures c.in_ok-bytes-in-Held.ensures.bytes c.give.ensures.acts
-    c.give.ensures.rest.received c.give.ensures.rest.last_start (rw c.give.ensures.exchanges c.in_ok-bytes-in-Held.ensures.ok) c.give.ensures.consumers
+    c.give.ensures.rest.received c.give.ensures.rest.last_start c.give.ensures.rest.keys (rw c.give.ensures.exchanges c.in_ok-bytes-in-Held.ensures.ok) c.give.ensures.consumers
 
 pub returns-in-Waits-clause-answers : goal.returns-in-Waits-clause-answers
 returns-in-Waits-clause-answers g c = λ now t facts rows accepted.
@@ -95,4 +96,4 @@ returns-in-Waits-clause-answers g c = λ now t facts rows accepted.
     let k = c.unwrap-consumer.result.now in
     let at = lent c.get.result (get nat_eq r.consumers c.args.c) c.unwrap-consumer.result c.get.ensures.value c.unwrap-consumer.ensures in
     let shown = known_of (get nat_eq r.consumers c.args.c) k (IsShown c.args.x) at c.requires.shown in
-    asks_answered r c.wait_for.new.self t now c.args.c c.args.want c.args.x k (listed c.args.out.now) (listed c.wait_for.new.out) r.limits stands at shown c.requires.wants c.wait_for.ensures.rest.received c.wait_for.ensures.rest.last_start c.wait_for.ensures.consumers c.wait_for.ensures.asked c.in-Waits.field-0 (sym (ap read_step c.read_view.ensures) ∙ (sym c.read_step.ensures ∙ c.in-Waits.is)) c.wait_for.ensures.acts
+    asks_answered r c.wait_for.new.self t now c.args.c c.args.want c.args.x k (listed c.args.out.now) (listed c.wait_for.new.out) r.limits stands at shown c.requires.wants c.wait_for.ensures.rest.received c.wait_for.ensures.rest.last_start c.wait_for.ensures.rest.keys c.wait_for.ensures.consumers c.wait_for.ensures.asked c.in-Waits.field-0 (sym (ap read_step c.read_view.ensures) ∙ (sym c.read_step.ensures ∙ c.in-Waits.is)) c.wait_for.ensures.acts

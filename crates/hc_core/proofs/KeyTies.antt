@@ -120,9 +120,9 @@ module _ (t s : Tables) (now c : ℕ) (key : List ℕ) (a b : Kept) (past : AllP
     current = moves.current ∙ (kept.current ∙ (no_current t key past.nothing ∙ sym (no_current s key nothing)));
     in_line = by_one (is_in_line key) (λ d. is_among d a.in_line) (λ d. is_among d b.in_line) (is_in_line key (s.consumer c)) moves.in_line refl (λ d ne. kept.in_line d ∙ sym (same_line now key (t.consumer d) (s.consumer d) (others d ne)));
     passed = by_one (is_passed key) (λ d. is_among d a.passed) (λ d. is_among d b.passed) false moves.passed (sym (plain_unpassed key (s.consumer c) plain))
-    (λ d ne. kept.passed d ∙ (plain_unpassed key (t.consumer d) (all_plain t d (t.consumer d) past refl) ∙ sym (plain_unpassed key (s.consumer d) (all_are_plain d ne))));
+        (λ d ne. kept.passed d ∙ (plain_unpassed key (t.consumer d) (all_plain t d (t.consumer d) past refl) ∙ sym (plain_unpassed key (s.consumer d) (all_are_plain d ne))));
     away = by_one (is_away s key) (λ d. is_among d a.away) (λ d. is_among d b.away) false moves.away (sym (plain_here s key (s.consumer c) plain))
-    (λ d ne. kept.away d ∙ (plain_here t key (t.consumer d) (all_plain t d (t.consumer d) past refl) ∙ sym (plain_here s key (s.consumer d) (all_are_plain d ne))));
+        (λ d ne. kept.away d ∙ (plain_here t key (t.consumer d) (all_plain t d (t.consumer d) past refl) ∙ sym (plain_here s key (s.consumer d) (all_are_plain d ne))));
     holder = by_one (has_turn key) (λ d. is_held_by d a.holder) (λ d. is_held_by d b.holder) (has_turn key (s.consumer c)) moves.holder refl (λ d ne. kept.holder d ∙ sym (same_turn now key (t.consumer d) (s.consumer d) (others d ne)));
   }
 
@@ -160,13 +160,13 @@ released_is c None d = by_test (eqb c d)
     by_test false = refl
 released_is c (Some e) d = elim (same_or e c) [
   | inl is ↦ elim (same_or c d) [
-      | inl same_d ↦ rw (is, eqb-same c, same_d, eqb-same d) refl
-      | inr ne ↦ rw (is, eqb-same c, eqb-other c d ne) refl
-    ]
+    | inl same_d ↦ rw (is, eqb-same c, same_d, eqb-same d) refl
+    | inr ne ↦ rw (is, eqb-same c, eqb-other c d ne) refl
+  ]
   | inr off ↦ elim (same_or c d) [
-      | inl same_d ↦ rw (eqb-other e c off, ← same_d, eqb-same c) (eqb-other e c off)
-      | inr ne ↦ rw (eqb-other e c off, eqb-other c d ne) refl
-    ]
+    | inl same_d ↦ rw (eqb-other e c off, ← same_d, eqb-same c) (eqb-other e c off)
+    | inr ne ↦ rw (eqb-other e c off, eqb-other c d ne) refl
+  ]
 ]
 
 pub leaves_move : (t s : Tables) (c : ℕ) (key : List ℕ) (a : Kept) → is_in_line key (s.consumer c) ≡ false → has_turn key (s.consumer c) ≡ false → KeyMoves t s c key a (on_line (left_by c) a)

@@ -108,7 +108,7 @@ module _ {B : Type 0} (r u : Rows B) (t s : Tables) (now c x : ℕ) (o : Option 
         is_there = kp.is_there;
         request = kp.request;
         class_is = kp.class_is;
-    since = kp.since;
+        since = kp.since;
         place = kp.place;
         own = kp.own;
         shown = kp.shown;

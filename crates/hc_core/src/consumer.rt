@@ -37,8 +37,18 @@ impl Consumer {
     /// It stands in line, or reads nothing yet.
     pub(crate) fn new(request: Request, class: RequestClass, now: u64) -> Consumer
         ensures { result ≡ record {
-            request = request; class = class; since = now; place = place.Line; own = None;
-            shown = false; answer = None; lo = 0; hi = None; given = 0; due = None } }
+          request = request;
+          class = class;
+          since = now;
+          place = place.Line;
+          own = None;
+          shown = false;
+          answer = None;
+          lo = 0;
+          hi = None;
+          given = 0;
+          due = None;
+        } }
     {
         Consumer {
             request,

@@ -20,9 +20,7 @@ ghost use Rattle.hc_core.specs.Stands.{Answers, StandsForSome, KeepsRest, open_a
 use crate::changes::{fail_with, take_answer};
 use crate::rows::Rows;
 use hc_event::{Acts, Cause, Response};
-use hc_rules::{
-    HeadCase, HeadView, Length, head_case, is_conditional, is_storable, length_of,
-};
+use hc_rules::{HeadCase, HeadView, Length, head_case, is_conditional, is_storable, length_of};
 use hc_text::NoMemory;
 
 impl<B> Rows<B> {
@@ -98,16 +96,9 @@ impl<B> Rows<B> {
     }
 
     /// The consumer reads the answer of its exchange past the store.
-    fn answer_past(
-        &mut self,
-        now: u64,
-        x: u64,
-        c: u64,
-        response: &Response,
-    ) -> Result<(), NoMemory>
+    fn answer_past(&mut self, now: u64, x: u64, c: u64, response: &Response) -> Result<(), NoMemory>
         requires accepted { head_refusal (open_at self.old x) ≡ None }
-        requires good {
-            is_bad (length_by (table_of self.old.exchanges x).running response.now) ≡ false }
+        requires good { is_bad (length_by (table_of self.old.exchanges x).running response.now) ≡ false }
         ensures exchanges { OnOk result (Becomes
             (headed (length_by (table_of self.old.exchanges x).running response.now))
             x self.old.exchanges self.new.exchanges) }

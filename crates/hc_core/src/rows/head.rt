@@ -98,7 +98,8 @@ impl<B> Rows<B> {
     /// The consumer reads the answer of its exchange past the store.
     fn answer_past(&mut self, now: u64, x: u64, c: u64, response: &Response) -> Result<(), NoMemory>
         requires accepted { head_refusal (open_at self.old x) ≡ None }
-        requires good { is_bad (length_by (table_of self.old.exchanges x).running response.now) ≡ false }
+        requires good { is_bad (length_by (table_of self.old.exchanges x).running response.now)
+            ≡ false }
         ensures exchanges { OnOk result (Becomes
             (headed (length_by (table_of self.old.exchanges x).running response.now))
             x self.old.exchanges self.new.exchanges) }

@@ -14,6 +14,8 @@ use std::alloc::{AllocError, Global};
 use std::io;
 use std::io::ErrorKind;
 use std::net::{Ipv4Addr, Net, SocketAddr};
+#[cfg(test)]
+use std::os::fd::RawFd;
 use std::rt::Clock;
 use std::time::{Duration, SystemTime, UNIX_EPOCH};
 
@@ -83,6 +85,12 @@ impl<R: Net + Clock + AllocGlobal + Drop> MioWire<R> {
             handed: 0,
             failed: 0,
         }
+    }
+
+    /// The system's number of the connection's socket, if it has one.
+    #[cfg(test)]
+    pub(crate) fn descriptor(&self, k: u64) -> Option<RawFd> {
+        self.table.sockets.get(&k)?.descriptor()
     }
 
     /// Counts a fault.

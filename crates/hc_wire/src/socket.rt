@@ -8,6 +8,8 @@ use mio::event::Event;
 use mio::net::TcpStream;
 use std::alloc::{AllocError, Global};
 use std::io::{ErrorKind, Read, Write};
+#[cfg(test)]
+use std::os::fd::{AsRawFd, RawFd};
 
 /// How many bytes that aren't sent yet are held, at most.
 const HOLD: usize = 65_536;
@@ -63,6 +65,12 @@ impl Socket {
             unsent: false,
             closed: false,
         }
+    }
+
+    /// The system's number of its socket, if it has one.
+    #[cfg(test)]
+    pub(crate) fn descriptor(&self) -> Option<RawFd> {
+        Some(self.stream.as_ref()?.as_raw_fd())
     }
 
     /// What the system tells of it.

@@ -1,7 +1,9 @@
 //! Two wires over sockets, one beside the other.
 use crate::*;
+use libc::net as c;
 use std::alloc::Global;
 use std::net::Net;
+use std::os::fd::RawFd;
 use std::process::Abort;
 use std::rt::Clock;
 use std::test::Fail;
@@ -15,6 +17,14 @@ const PIECE: usize = 16_384;
 /// The bytes go round so many values.
 const ROUND: usize = 251;
 
+/// The size that is asked for the buffer of what a socket sends. The system doubles it, and then takes only a part of
+/// what a wire holds.
+const SENDING: i32 = 4_096;
+
+/// The size that is asked for the buffer of what a socket receives. With smaller ones TCP waits for its timers again
+/// and again.
+const RECEIVING: i32 = 16_384;
+
 /// One end of a connection.
 #[derive(Drop)]
 struct Side<R: Net + Clock + AllocGlobal + Drop> {
@@ -22,15 +32,36 @@ struct Side<R: Net + Clock + AllocGlobal + Drop> {
     k: Option<u64>,
     sent: usize,
     got: usize,
+    /// How many sends took less than they were offered.
+    short: u64,
     ended: bool,
 }
 
 impl<R: Net + Clock + AllocGlobal + Drop + Abort> Side<R> {
+    /// Nothing is connected yet.
+    fn new(wire: MioWire<R>) -> Side<R> {
+        Side {
+            wire,
+            k: None,
+            sent: 0,
+            got: 0,
+            short: 0,
+            ended: false,
+        }
+    }
+
+    /// The connection is there: its buffers are small from now on.
+    fn open(&mut self, rt: &R, k: u64) {
+        let descriptor = self.wire.descriptor(k);
+        assert!(rt; descriptor.is_some_and(shrink));
+        self.k = Some(k);
+    }
+
     /// One event, and a send.
     fn turn(&mut self, rt: &R, round: &[u8], into: &mut [u8]) {
         assert!(rt; into.len() == PIECE && round.len() == PIECE + ROUND);
         match self.wire.next(false, into) {
-            Ok((_, WireEvent::Accepted(k))) => self.k = Some(k),
+            Ok((_, WireEvent::Accepted(k))) => self.open(rt, k),
             Ok((_, WireEvent::Got(_, n))) => {
                 let at = self.got % ROUND;
                 assert!(rt; n <= PIECE && self.got <= TOTAL);
@@ -44,12 +75,40 @@ impl<R: Net + Clock + AllocGlobal + Drop + Abort> Side<R> {
         if let Some(k) = self.k {
             let at = self.sent % ROUND;
             let n = TOTAL.saturating_sub(self.sent).min(PIECE);
-            match self.wire.send(k, &round[at..at + n]) {
-                Ok(n) => self.sent = self.sent.saturating_add(n),
-                Err(_) => assert!(rt; false),
-            }
+            self.offer(rt, k, &round[at..at + n]);
         }
     }
+
+    /// A send.
+    fn offer(&mut self, rt: &R, k: u64, from: &[u8]) {
+        match self.wire.send(k, from) {
+            Ok(n) => {
+                self.sent = self.sent.saturating_add(n);
+                if n < from.len() {
+                    self.short = self.short.saturating_add(1);
+                }
+            }
+            Err(_) => assert!(rt; false),
+        }
+    }
+}
+
+/// Asks the system for small buffers of the socket. Whether it has set both.
+fn shrink(socket: RawFd) -> bool {
+    let sending = unsafe {
+        c::setsockopt(socket, c::SOL_SOCKET, c::SO_SNDBUF, &option(SENDING), 4)
+    };
+    let receiving = unsafe {
+        c::setsockopt(socket, c::SOL_SOCKET, c::SO_RCVBUF, &option(RECEIVING), 4)
+    };
+    sending == 0 && receiving == 0
+}
+
+/// The number as the value of an option.
+fn option(size: i32) -> [u8; 16] {
+    let mut value = [0; 16];
+    value[..4].copy_from_slice(&size.to_ne_bytes());
+    value
 }
 
 /// Binds the wire to a port of this machine that is free.
@@ -80,20 +139,9 @@ fn moves_bytes_both_ways(rt: HostRuntime) -> Result<(), Fail> {
     assert!(rt; address.is_some() && far.bind(None, address).is_ok());
     let k = far.dial();
     assert!(rt; k == Ok(1));
-    let mut near = Side {
-        wire: near,
-        k: None,
-        sent: 0,
-        got: 0,
-        ended: false,
-    };
-    let mut far = Side {
-        wire: far,
-        k: Some(1),
-        sent: 0,
-        got: 0,
-        ended: false,
-    };
+    let mut near = Side::new(near);
+    let mut far = Side::new(far);
+    far.open(&rt, 1);
     for _ in 0..u32::MAX {
         near.turn(&rt, round.as_slice(), into.as_mut_slice());
         far.turn(&rt, round.as_slice(), into.as_mut_slice());
@@ -106,6 +154,7 @@ fn moves_bytes_both_ways(rt: HostRuntime) -> Result<(), Fail> {
         }
     }
     assert!(rt; far.ended && near.got == TOTAL && far.got == TOTAL);
+    assert!(rt; near.short > 0 && far.short > 0);
     Ok(())
 }
 

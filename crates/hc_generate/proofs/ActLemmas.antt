@@ -1,0 +1,63 @@
+-- What the filters over acts say, act by act.
+use Rattle.std.proofs.Common.{◌≡◌, ℕ, Bool, List, [], ◌∷◌, ◌==◌, ◌||◌, not, cond, refl, ap}
+use Rattle.std.specs.Prelude.{filter}
+use Rattle.std.specs.List.{list_any}
+use Rattle.hc_event.specs.declared.act.Act.{Act}
+use Rattle.hc_event.specs.declared.act.Act.TheVariants as act
+use Rattle.hc_event.specs.declared.act.Need.{Need}
+use Rattle.hc_event.specs.declared.event.Request.{Request}
+use Rattle.hc_event.specs.Filters.{opening_in, closes_in, leaves_in}
+use Rattle.hc_generate.specs.declared.exchange.Exchange.{Exchange}
+use Rattle.hc_generate.specs.Hearing.{closes, leaves, still_live, still_open}
+
+closes_in-any : (x : ℕ) (acts : List Act) → list_any (closes x) acts ≡ closes_in x acts
+closes_in-any x [] = refl
+closes_in-any x (act.Opened y c need request ∷ acts) = closes_in-any x acts
+closes_in-any x (act.Ask y ∷ acts) = closes_in-any x acts
+closes_in-any x (act.Close y ∷ acts) = ap (λ (b : Bool). y == x || b) (closes_in-any x acts)
+closes_in-any x (act.Shown c r why status fields lo hi ∷ acts) = closes_in-any x acts
+closes_in-any x (act.Given c y at bytes ∷ acts) = closes_in-any x acts
+closes_in-any x (act.Ended c ∷ acts) = closes_in-any x acts
+closes_in-any x (act.Failed c cause ∷ acts) = closes_in-any x acts
+closes_in-any x (act.Pending c wait ∷ acts) = closes_in-any x acts
+closes_in-any x (act.Lost r kind ∷ acts) = closes_in-any x acts
+closes_in-any x (act.Evicted r ∷ acts) = closes_in-any x acts
+closes_in-any x (act.Denied refusal ∷ acts) = closes_in-any x acts
+
+leaves_in-any : (c : ℕ) (acts : List Act) → list_any (leaves c) acts ≡ leaves_in c acts
+leaves_in-any c [] = refl
+leaves_in-any c (act.Opened y d need request ∷ acts) = leaves_in-any c acts
+leaves_in-any c (act.Ask y ∷ acts) = leaves_in-any c acts
+leaves_in-any c (act.Close y ∷ acts) = leaves_in-any c acts
+leaves_in-any c (act.Shown d r why status fields lo hi ∷ acts) = leaves_in-any c acts
+leaves_in-any c (act.Given d y at bytes ∷ acts) = leaves_in-any c acts
+leaves_in-any c (act.Ended d ∷ acts) = ap (λ (b : Bool). d == c || b) (leaves_in-any c acts)
+leaves_in-any c (act.Failed d cause ∷ acts) = ap (λ (b : Bool). d == c || b) (leaves_in-any c acts)
+leaves_in-any c (act.Pending d wait ∷ acts) = leaves_in-any c acts
+leaves_in-any c (act.Lost r kind ∷ acts) = leaves_in-any c acts
+leaves_in-any c (act.Evicted r ∷ acts) = leaves_in-any c acts
+leaves_in-any c (act.Denied refusal ∷ acts) = leaves_in-any c acts
+
+-- an act that opens nothing is passed over
+pub opening_in-skips : (a : Act) (acts : List Act) → ((x c : ℕ) (need : Need) (request : Request) → a ≡ act.Opened x c need request → ⊥)
+    → opening_in (a ∷ acts) ≡ opening_in acts
+opening_in-skips (act.Opened y c need request) acts not = absurd (not y c need request refl)
+opening_in-skips (act.Ask y) acts not = refl
+opening_in-skips (act.Close y) acts not = refl
+opening_in-skips (act.Shown c r why status fields lo hi) acts not = refl
+opening_in-skips (act.Given c y at bytes) acts not = refl
+opening_in-skips (act.Ended c) acts not = refl
+opening_in-skips (act.Failed c cause) acts not = refl
+opening_in-skips (act.Pending c wait) acts not = refl
+opening_in-skips (act.Lost r kind) acts not = refl
+opening_in-skips (act.Evicted r) acts not = refl
+opening_in-skips (act.Denied refusal) acts not = refl
+
+-- those of which no act says so
+pub still_open-any : (acts : List Act) (exchanges : List Exchange) → filter (λ (e : Exchange). not (list_any (closes e.x) acts)) exchanges ≡ still_open acts exchanges
+still_open-any acts [] = refl
+still_open-any acts (e ∷ exchanges) = rw (closes_in-any e.x acts, still_open-any acts exchanges) refl
+
+pub still_live-any : (acts : List Act) (live : List ℕ) → filter (λ (c : ℕ). not (list_any (leaves c) acts)) live ≡ still_live acts live
+still_live-any acts [] = refl
+still_live-any acts (c ∷ live) = rw (leaves_in-any c acts, still_live-any acts live) refl

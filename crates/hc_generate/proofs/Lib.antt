@@ -1,0 +1,5 @@
+pub mod ActLemmas
+pub mod ByteLemmas
+pub mod CountLemmas
+pub mod OrderLemmas
+pub mod RangeTexts

@@ -1,0 +1,43 @@
+-- The text of a range up to the end is a value of a field.
+use Rattle.std.proofs.Common.{◌≡◌, ℕ, ◌+◌, ◌-◌, ◌^◌, ◌<◌, ◌≤◌, true, false, not, ◌||◌, ◌==◌, List, [], ◌∷◌, ◌++◌, length, refl, ap, ◌∙◌, arith, length-append}
+use Rattle.std.specs.Prelude.{codes, slice_index}
+use Rattle.std.specs.List.{list_all}
+use Rattle.std.specs.Fmt.{decimal}
+use Rattle.std.proofs.lemmas.Bool.{or_right, and_parts}
+use Rattle.std.proofs.lemmas.List.{get_or-append_right, get_or_append_left}
+use Rattle.std.proofs.lemmas.List.Folds.{list_all-append}
+use Rattle.http_header.specs.Token.{IsToken, is_token_byte, is_value_byte}
+use Rattle.http_header.proofs.TokenLemmas.{AllPass-from_test}
+use Rattle.hc_text.specs.Elements.{is_blank}
+use Rattle.hc_fields.specs.FieldList.{is_own_value}
+use Rattle.hc_fields.specs.declared.error.FieldError.{FieldError}
+use Rattle.hc_fields.specs.FieldList.{Refuses}
+use Rattle.hc_validate.proofs.Settings.{never_refused}
+use Rattle.hc_validate.proofs.Numbers.{own-decimal, short-decimal}
+use Rattle.hc_generate.specs.Requests.{range_text}
+
+pub IsToken-range : IsToken (codes "range")
+unfolding is_token_byte
+IsToken-range = (omega arith, AllPass-from_test is_token_byte (codes "range") refl)
+
+pub own-range : (l : ℕ) → l < 2 ^ 64 → is_own_value (range_text l) ≡ true
+own-range l h =
+    let front : List ℕ = codes "bytes=" ++ decimal l in
+    let digits : list_all is_value_byte (decimal l) ≡ true = (and_parts (list_all is_value_byte (decimal l)) _ (own-decimal l h)).0 in
+    let all : list_all is_value_byte (range_text l) ≡ true = list_all-append is_value_byte front (45 ∷ []) ∙ simp list_all-append (rw digits refl) in
+    let count = length-append front (45 ∷ []) in
+    let place : length (range_text l) - 1 - length front ≡ 0 = omega arith in
+    let ends : slice_index (range_text l) (length (range_text l) - 1) ≡ 45 =
+    get_or-append_right front (45 ∷ []) (length front) (length (range_text l) - 1) 0 refl (omega arith) ∙ ap (λ (i : ℕ). slice_index (45 ∷ []) i) place in
+    rw all (or_right (length (range_text l) == 0)
+    (not (is_blank (slice_index (range_text l) 0) || is_blank (slice_index (range_text l) (length (range_text l) - 1))))
+    (rw ends refl))
+
+pub short-range : (l : ℕ) → l < 2 ^ 64 → length (range_text l) ≤ 27
+short-range l h = simp length-append (omega (arith, short-decimal l h))
+
+-- it is never refused as the first field
+pub range-never_refused : (e : FieldError) (l : ℕ) → l < 2 ^ 64 → Refuses e [] (codes "range") (range_text l) → ⊥
+range-never_refused e l h refused =
+    never_refused e (codes "range") (range_text l) []
+    (record { name = IsToken-range; value = own-range l h; short = omega (arith, short-range l h); few = omega arith; small = omega (arith, short-range l h) }) refused

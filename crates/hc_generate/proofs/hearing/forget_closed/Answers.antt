@@ -1,0 +1,21 @@
+use Rattle.std.proofs.Common.{◌≡◌, ◌∙◌, Bool, true, List, ap, not, rules, of_calls}
+use Rattle.std.specs.List.{list_any}
+use Rattle.std.proofs.lemmas.Fn.{filter_same}
+use Rattle.hc_rising.specs.Rising.{rises}
+use Rattle.hc_rising.proofs.RisingLemmas.{rises-filter}
+use Rattle.hc_generate.specs.declared.exchange.Exchange.{Exchange}
+use Rattle.hc_generate.specs.Hearing.{closes, still_open}
+use Rattle.hc_generate.specs.Sending.{number_of}
+use Rattle.hc_generate.proofs.ActLemmas.{still_open-any}
+use Rattle.hc_generate.proofs.hearing.forget_closed.Goals as goal
+
+kept : (c : goal.After-retain) → c.retain.new.self.items ≡ still_open c.args.acts.now c.args.exchanges.now.items
+kept c =
+    filter_same _ (λ (e : Exchange). not (list_any (closes e.x) c.args.acts.now)) _ (λ x b f' k. search (rules, of_calls)) _ _ c.retain.ensures.filtered
+    ∙ still_open-any c.args.acts.now c.args.exchanges.now.items
+
+pub returns-clause-items : goal.returns-clause-items
+returns-clause-items c = kept c
+
+pub returns-clause-ordered : goal.returns-clause-ordered
+returns-clause-ordered c = ap (rises number_of) (kept c) ∙ rises-filter number_of _ c.args.exchanges.now.items c.requires

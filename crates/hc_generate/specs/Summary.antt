@@ -1,0 +1,96 @@
+-- The summary: what was counted over all that was answered.
+use Rattle.std.specs.Prelude.{◌≡◌, ℕ, ◌+◌, ◌*◌, ◌<◌, ◌≤◌, ◌^◌, Bool, true, false, List, ◌∷◌, [], ◌++◌, length, count_by, codes}
+use Rattle.std.specs.List.{sum_by}
+use Rattle.std.specs.Fmt.{decimal}
+use Rattle.hc_event.specs.declared.act.Act.{Act}
+use Rattle.hc_event.specs.declared.act.Act.TheVariants as act
+use Rattle.hc_generate.specs.declared.counts.Counts.{Counts}
+
+-- ONE ACT
+
+abbrev pub is_opened : Act → Bool
+is_opened (act.Opened x c need request) = true
+is_opened _ = false
+
+abbrev pub is_ended : Act → Bool
+is_ended (act.Ended c) = true
+is_ended _ = false
+
+abbrev pub is_failed : Act → Bool
+is_failed (act.Failed c cause) = true
+is_failed _ = false
+
+abbrev pub is_lost : Act → Bool
+is_lost (act.Lost r kind) = true
+is_lost _ = false
+
+-- how many bytes are given
+abbrev pub given_size : Act → ℕ
+given_size (act.Given c x at bytes) = length bytes
+given_size _ = 0
+
+-- ALL OF THEM
+
+-- of a list of events, by the acts of each, the oldest first
+abbrev pub summary : List (List Act) → Counts
+summary answered = record {
+  events = length answered;
+  opens = sum_by (λ acts. count_by is_opened acts) answered;
+  bytes = sum_by (λ acts. sum_by given_size acts) answered;
+  ended = sum_by (λ acts. count_by is_ended acts) answered;
+  failed = sum_by (λ acts. count_by is_failed acts) answered;
+  lost = sum_by (λ acts. count_by is_lost acts) answered;
+}
+
+-- some acts more, of the same event
+abbrev pub noted : List Act → Counts → Counts
+noted acts n = record n {
+  opens = n.opens + count_by is_opened acts;
+  bytes = n.bytes + sum_by given_size acts;
+  ended = n.ended + count_by is_ended acts;
+  failed = n.failed + count_by is_failed acts;
+  lost = n.lost + count_by is_lost acts;
+}
+
+-- one event more, with these acts
+abbrev pub counted : List Act → Counts → Counts
+counted acts n = noted acts (record n { events = n.events + 1 })
+
+-- that is the summary of all of them
+abbrev pub OneMoreIsCounted : Type 0
+OneMoreIsCounted =
+    (answered : List (List Act)) (acts : List Act) → summary (answered ++ acts ∷ []) ≡ counted acts (summary answered)
+
+-- WHAT KEEPS THEM SMALL
+
+-- few acts, which give few bytes
+pub record AreFew (acts : List Act) : Type 0 where
+  pub few : length acts ≤ 2 ^ 20
+  pub short : sum_by given_size acts ≤ 2 ^ 20
+
+-- the acts of each event were few
+pub record AreBounded (n : Counts) : Type 0 where
+  pub opens : n.opens ≤ n.events * 2 ^ 20
+  pub bytes : n.bytes ≤ n.events * 2 ^ 20
+  pub ended : n.ended ≤ n.events * 2 ^ 20
+  pub failed : n.failed ≤ n.events * 2 ^ 20
+  pub lost : n.lost ≤ n.events * 2 ^ 20
+
+-- no count is too large for the code
+pub record AreSmall (n : Counts) : Type 0 where
+  pub events : n.events < 2 ^ 62
+  pub opens : n.opens < 2 ^ 62
+  pub bytes : n.bytes < 2 ^ 62
+  pub ended : n.ended < 2 ^ 62
+  pub failed : n.failed < 2 ^ 62
+  pub lost : n.lost < 2 ^ 62
+
+-- ITS TEXT
+
+abbrev pub line : List ℕ → ℕ → List ℕ
+line word n = word ++ decimal n ++ 10 ∷ []
+
+abbrev pub summary_text : Counts → List ℕ
+summary_text n =
+    line (codes "events ") n.events ++ line (codes "opens ") n.opens ++ line (codes "bytes ") n.bytes
+    ++ line (codes "ended ") n.ended ++ line (codes "failed ") n.failed ++ line (codes "lost ") n.lost

@@ -1,5 +1,5 @@
 -- The text of a range up to the end is a value of a field.
-use Rattle.std.proofs.Common.{◌≡◌, ℕ, ◌+◌, ◌-◌, ◌^◌, ◌<◌, ◌≤◌, true, false, not, ◌||◌, ◌==◌, List, [], ◌∷◌, ◌++◌, length, refl, ap, ◌∙◌, arith, length-append}
+use Rattle.std.proofs.Common.{◌≡◌, ℕ, ◌+◌, ◌-◌, ◌^◌, ◌<◌, ◌≤◌, true, false, not, ◌||◌, ◌==◌, List, [], ◌∷◌, ◌++◌, length, refl, ap, subst, ◌∙◌, arith, length-append}
 use Rattle.std.specs.Prelude.{codes, slice_index}
 use Rattle.std.specs.List.{list_all}
 use Rattle.std.specs.Fmt.{decimal}
@@ -37,7 +37,10 @@ pub short-range : (l : ℕ) → l < 2 ^ 64 → length (range_text l) ≤ 27
 short-range l h = simp length-append (omega (arith, short-decimal l h))
 
 -- it is never refused as the first field
-pub range-never_refused : (e : FieldError) (l : ℕ) → l < 2 ^ 64 → Refuses e [] (codes "range") (range_text l) → ⊥
-range-never_refused e l h refused =
+pub range-never_refused : (e : FieldError) (fields : List (List ℕ × List ℕ)) (text : List ℕ) (l : ℕ) → fields ≡ [] → text ≡ range_text l → l < 2 ^ 64
+    → Refuses e fields (codes "range") text → ⊥
+range-never_refused e fields text l empty is h refused =
+    let first = subst (λ (f : List (List ℕ × List ℕ)). Refuses e f (codes "range") text) empty refused in
+    let this = subst (λ (t : List ℕ). Refuses e [] (codes "range") t) is first in
     never_refused e (codes "range") (range_text l) []
-    (record { name = IsToken-range; value = own-range l h; short = omega (arith, short-range l h); few = omega arith; small = omega (arith, short-range l h) }) refused
+    (record { name = IsToken-range; value = own-range l h; short = omega (arith, short-range l h); few = omega arith; small = omega (arith, short-range l h) }) this

@@ -1,4 +1,4 @@
-use Rattle.std.proofs.Common.{◌≡◌, ◌∙◌, ap, inl, inr}
+use Rattle.std.proofs.Common.{◌≡◌, ◌∙◌, [], ap, inl, inr}
 use Rattle.hc_fields.specs.FieldList.{is_own_value}
 use Rattle.hc_generate.specs.Requests.{range_text}
 use Rattle.hc_generate.proofs.RangeTexts.{IsToken-range, own-range, range-never_refused}
@@ -12,8 +12,9 @@ append_checked-requires-clause-is_value c = ap is_own_value (c.as_slice.ensures.
 
 pub unreachable-requires : goal.unreachable-requires
 unreachable-requires c =
-    let fields = ok_same _ _ c.in_ok-fields.ensures in
+    let empty : c.in_ok-fields.fields ≡ [] = cc c.in_ok-fields.ensures in
     elim c.in-Err.ensures.answer [
       | inl memory ↦ c.in_default.not-NoMemory memory.0
-      | inr refused ↦ ?
+      | inr refused ↦
+          range-never_refused c.in-Err.e c.in_ok-fields.fields c.as_slice.result.now c.args.l empty (c.as_slice.ensures.value ∙ c.in_ok-text.ensures) c.ranges.l.fits refused
     ]

@@ -41,7 +41,8 @@ impl Model for Generator {
       counts = g.counts;
     } };
 
-    ghost invariant = { λ g. IsInOrder g.last g.live.items g.exchanges.items × AreBounded g.counts };
+    ghost invariant = { λ g.
+      IsInOrder g.last g.live.items g.exchanges.items × AreBounded g.counts };
 }
 
 impl Generator {
@@ -81,6 +82,7 @@ impl Generator {
         ensures err { OnErr result (self.new ≡ self.old) }
         ensures moment_grows { self.new.moment ≤ self.old.moment + 30 }
         ensures last_grows { self.new.last ≤ self.old.last + 1 }
+        ensures counts { self.new.counts ≡ self.old.counts }
     {
         let before = self.draws;
         let made = self.round(wanted);

@@ -26,6 +26,7 @@ impl Generator {
         ensures err { OnErr result (IsBesidesDraws self.old self.new) }
         ensures moment_grows { self.new.moment ≤ self.old.moment + 30 }
         ensures last_grows { self.new.last ≤ self.old.last + 1 }
+        ensures counts { self.new.counts ≡ self.old.counts }
     {
         match action_of(self.draws.below(100)) {
             Action::Start => self.start(),

@@ -1,5 +1,5 @@
 -- What the generator learns from how an event was answered.
-use Rattle.std.specs.Prelude.{ℕ, ◌==◌, not, Bool, true, false, List, filter, Option, Some, None, option_map}
+use Rattle.std.specs.Prelude.{ℕ, ◌==◌, not, Bool, false, List, filter, Option, Some, None, option_map}
 use Rattle.hc_event.specs.declared.act.Act.{Act}
 use Rattle.hc_event.specs.declared.act.Act.TheVariants as act
 use Rattle.hc_event.specs.Filters.{Opening, opening_in, closes_in, leaves_in}

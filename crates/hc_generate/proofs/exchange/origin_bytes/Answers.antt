@@ -1,5 +1,4 @@
-use Rattle.std.proofs.Common.{◌∙◌, ◌++◌, ◌∷◌, ◌+◌, ℕ, List, [], ap}
-use Rattle.hc_validate.specs.Origin.{origin_byte}
+use Rattle.std.proofs.Common.{◌∙◌, ◌++◌, ◌∷◌, ℕ, List, [], ap}
 use Rattle.hc_generate.specs.Sending.{origin_bytes}
 use Rattle.hc_generate.proofs.ByteLemmas.{origin_bytes-more}
 use Rattle.hc_generate.proofs.exchange.origin_bytes.Goals as goal

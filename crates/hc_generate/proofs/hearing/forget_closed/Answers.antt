@@ -1,4 +1,4 @@
-use Rattle.std.proofs.Common.{◌≡◌, ◌∙◌, Bool, true, List, ap, not, rules, of_calls}
+use Rattle.std.proofs.Common.{◌≡◌, ◌∙◌, ap, not, rules, of_calls}
 use Rattle.std.specs.List.{list_any}
 use Rattle.std.proofs.lemmas.Fn.{filter_same}
 use Rattle.hc_rising.specs.Rising.{rises}

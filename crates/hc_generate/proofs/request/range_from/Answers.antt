@@ -1,6 +1,5 @@
 use Rattle.std.proofs.Common.{◌≡◌, ◌∙◌, [], ap, inl, inr}
 use Rattle.hc_fields.specs.FieldList.{is_own_value}
-use Rattle.hc_generate.specs.Requests.{range_text}
 use Rattle.hc_generate.proofs.RangeTexts.{IsToken-range, own-range, range-never_refused}
 use Rattle.hc_generate.proofs.request.range_from.Goals as goal
 

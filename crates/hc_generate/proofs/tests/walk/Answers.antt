@@ -1,4 +1,4 @@
-use Rattle.std.proofs.Common.{ℕ, ap, arith}
+use Rattle.std.proofs.Common.{ap, arith}
 use Rattle.hc_generate.specs.declared.counts.Counts.{Counts}
 use Rattle.hc_generate.specs.States.{State}
 use Rattle.hc_generate.proofs.tests.walk.Goals as goal

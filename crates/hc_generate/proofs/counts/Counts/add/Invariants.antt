@@ -1,4 +1,4 @@
-use Rattle.std.proofs.Common.{◌≡◌, ◌+◌, take}
+use Rattle.std.proofs.Common.{◌≡◌, take}
 use Rattle.hc_generate.specs.Summary.{counted}
 use Rattle.hc_generate.proofs.counts.Counts.add.Given as goal
 

@@ -1,6 +1,5 @@
-use Rattle.std.proofs.Common.{ℕ, List, ap, subst, sym, not, ◌∙◌}
+use Rattle.std.proofs.Common.{ℕ, List, subst, sym, not}
 use Rattle.hc_event.specs.Filters.{leaves_in}
-use Rattle.hc_generate.specs.declared.counts.Counts.{Counts}
 use Rattle.hc_generate.specs.Summary.{AreBounded}
 use Rattle.hc_generate.proofs.CountLemmas.{AreBounded-counted}
 use Rattle.hc_generate.proofs.OrderLemmas.{AreStarted, AreStarted-filter}

@@ -186,3 +186,5 @@ pub mod GrowingRuns
 pub mod BringsRuns
 pub mod Tails
 pub mod LossRuns
+pub mod Tests
+pub mod Untouched

@@ -50,4 +50,5 @@ pub mod Alone
 pub mod Growing
 pub mod Losses
 pub mod Laws
+pub mod Effects
 pub mod Numbers

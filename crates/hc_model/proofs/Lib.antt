@@ -188,3 +188,16 @@ pub mod Tails
 pub mod LossRuns
 pub mod Tests
 pub mod Untouched
+pub mod SameTables
+pub mod OfConsumers
+pub mod ConsumerEffects
+pub mod StartEffects
+pub mod PollEffects
+pub mod WaitEffects
+pub mod AskEffects
+pub mod OpenEffects
+pub mod PastEffects
+pub mod TurnEffects
+pub mod HoleEffects
+pub mod ShowEffects
+pub mod GiveEffects

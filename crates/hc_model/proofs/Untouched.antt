@@ -1,31 +1,41 @@
--- Whoever and whatever an entry does not speak of stays as it was.
-use Rattle.std.proofs.Common.{◌≡◌, ℕ, ◌+◌, length, Bool, true, false, Option, Some, None, refl, ap, ◌∙◌, arith}
-use Rattle.std.specs.Prelude.{◌&&◌, ◌||◌, nat_eq, if◌then◌else◌}
+-- Whoever and whatever an entry does not speak of stays as it was, but for what becomes gone, and who waits for that.
+use Rattle.std.proofs.Common.{◌≡◌, ℕ, ◌+◌, List, length, Bool, true, false, Option, Some, None, refl, ap, sym, ◌∙◌, arith}
+use Rattle.std.specs.Prelude.{◌&&◌, ◌||◌, ◌==◌, not, nat_eq, if◌then◌else◌}
 use Rattle.std.specs.Option.{option_or}
 use Rattle.hc_event.specs.Filters.{Opening, opening_in, asks_in, closes_in, leaves_in, shows_in, given_in}
+use Rattle.hc_event.specs.declared.event.Event.{Event}
+use Rattle.hc_event.specs.declared.event.Event.TheVariants as event
 use Rattle.hc_model.specs.declared.place.Place.{Place}
 use Rattle.hc_model.specs.declared.place.Place.TheVariants as place
-use Rattle.hc_model.specs.ActFilters.{loses_in, Showing, showing_in}
+use Rattle.hc_model.specs.declared.place.BoundBy.{BoundBy}
+use Rattle.hc_model.specs.ActFilters.{loses_in, fails_in, Showing, showing_in}
+use Rattle.hc_model.specs.Cases.{case_at, is_founding}
 use Rattle.hc_model.specs.ConsumerRows.{consumer_after, consumer_settled, consumer_acted, consumer_heard, consumer_made, by_opening, waiting, waiting_place, shown_place, own_after, left_to, due_after, back_in_line}
+use Rattle.hc_model.specs.Dooms.{doomed, is_key}
+use Rattle.hc_model.specs.Effects.{gone}
 use Rattle.hc_model.specs.Entries.{Entry}
 use Rattle.hc_model.specs.ExchangeRows.{exchange_after, exchange_heard, exchange_acted, exchange_made}
+use Rattle.hc_model.specs.Exchanges.{exchange_in, exchange_at, is_for}
 use Rattle.hc_model.specs.Failures.{becomes_due}
+use Rattle.hc_model.specs.Gone.{becomes_gone, goes_in}
 use Rattle.hc_model.specs.Reading.{reads, is_written}
+use Rattle.hc_model.specs.RepresentationRows.{representation_after, representation_heard, representation_acted, founded_at}
 use Rattle.hc_model.specs.Rows.{Tables, Exchange, Representation, Consumer}
-use Rattle.hc_model.specs.StartingOver.{starts_over}
-use Rattle.hc_model.specs.Writers.{loses_writing, brings_body}
+use Rattle.hc_model.specs.StartingOver.{starts_over, sends_back, waits_at, loses_what_it_waits_for}
+use Rattle.hc_model.specs.Tables.{founds, binds}
+use Rattle.hc_model.specs.Writers.{loses_writing, goes_on_with, brings_body}
 use Rattle.hc_model.proofs.ActParts.{IsFarFrom}
 use Rattle.hc_model.proofs.Tests.{and_false, then_false}
 
-plus_none : (n : ℕ) → n + 0 ≡ n
+pub plus_none : (n : ℕ) → n + 0 ≡ n
 plus_none n = omega arith
 
-or_nothing : {A : Type 0} (o : Option A) → option_or o None ≡ o
+pub or_nothing : {A : Type 0} (o : Option A) → option_or o None ≡ o
 or_nothing None = refl
 or_nothing (Some a) = refl
 
 -- what the acts make of a consumer that its opening left as q
-abbrev acted_by : Tables → Entry → ℕ → Consumer → Consumer → Consumer
+abbrev pub acted_by : Tables → Entry → ℕ → Consumer → Consumer → Consumer
 acted_by t e c k q = record q {
   place = if leaves_in c e.acts then place.Over else shown_place c (showing_in e.acts) q.place;
   own = own_after t e c k.place q.own;
@@ -34,6 +44,14 @@ acted_by t e c k q = record q {
 }
 
 -- EXCHANGES
+
+-- the event brings nothing of it
+pub unheard : (t : Tables) (e : Entry) (y : ℕ) (w : Exchange) (ev : Event) → ((x : ℕ) → exchange_in ev ≡ Some x → nat_eq x y ≡ false) → exchange_heard t e y ev w ≡ w
+unheard t e y w (event.Head x response) other = rw (other x refl) refl
+unheard t e y w (event.Piece x bytes) other = rw (other x refl) refl
+unheard t e y w (event.End x) other = rw (other x refl) refl
+unheard t e y w (event.Fault x) other = rw (other x refl) refl
+unheard t e y w _ other = refl
 
 pub exchange_stays : (t : Tables) (e : Entry) (y : ℕ) (w : Exchange) → exchange_heard t e y e.event w ≡ w → asks_in y e.acts ≡ false → closes_in y e.acts ≡ false
     → exchange_after t e y (Some w) ≡ Some w
@@ -48,20 +66,89 @@ exchange_absent t e y other = by_opening (opening_in e.acts) refl
     by_opening None is = refl
     by_opening (Some o) is = rw (other o is) refl
 
+-- REPRESENTATIONS
+
+-- it stays, or becomes gone
+pub representation_frame : (t : Tables) (e : Entry) (r : ℕ) (v : Representation) → representation_heard t e r e.event v ≡ v → loses_in r e.acts ≡ false
+    → representation_after t e r (Some v) ≡ Some (if becomes_gone t e r v then gone v else v)
+unfolding representation_after
+representation_frame t e r v heard lossless = ap (λ (u : Representation). Some (representation_acted t e r v u)) heard ∙ ap Some (rw lossless (by_test (becomes_gone t e r v)))
+  where
+    by_test : (b : Bool) → record v { is_gone = b || v.is_gone } ≡ (if b then gone v else v)
+    by_test true = refl
+    by_test false = refl
+
+pub representation_stays : (t : Tables) (e : Entry) (r : ℕ) (v : Representation) → representation_heard t e r e.event v ≡ v → loses_in r e.acts ≡ false → becomes_gone t e r v ≡ false
+    → representation_after t e r (Some v) ≡ Some v
+representation_stays t e r v heard lossless stays = representation_frame t e r v heard lossless ∙ rw stays refl
+
+pub representation_absent : (t : Tables) (e : Entry) (r : ℕ) → founded_at t e r e.event ≡ None → representation_after t e r None ≡ None
+unfolding representation_after
+representation_absent t e r none = none
+
 -- CONSUMERS
 
-module _ (t : Tables) (e : Entry) (c : ℕ) (k : Consumer) (said : IsFarFrom c e.acts) (lossless : (r : ℕ) → loses_in r e.acts ≡ false) (heard : consumer_heard t e c e.event k ≡ k) where
-  not_losing : (r : ℕ) (v : Representation) → loses_writing t e r v ≡ false
-  not_losing r v = and_false (brings_body e.event && loses_in r e.acts) (is_written t v) (then_false (brings_body e.event) (loses_in r e.acts) (lossless r))
+-- no writing that it reads with others is lost
+abbrev pub IsSpared : Tables → Entry → Place → Type 0
+IsSpared t e p = (r lo : ℕ) (hi : Option ℕ) (how : BoundBy) (v : Representation) → p ≡ place.Bound r lo hi how → t.representation r ≡ Some v → loses_writing t e r v ≡ false
 
-  left_row : (r : ℕ) (own : Option ℕ) (o : Option Representation) → left_to t e c r o own ≡ own
-  left_row r own None = refl
-  left_row r own (Some v) = rw (not_losing r v) refl
+pub spared_lossless : (t : Tables) (e : Entry) (p : Place) → ((r : ℕ) → loses_in r e.acts ≡ false) → IsSpared t e p
+spared_lossless t e p lossless = λ r lo hi how v at row. and_false (brings_body e.event && loses_in r e.acts) (is_written t v) (then_false (brings_body e.event) (loses_in r e.acts) (lossless r))
 
-  own_stays : (p : Place) (own : Option ℕ) → own_after t e c p own ≡ own
-  own_stays (place.Bound r lo hi how) own = left_row r own (t.representation r)
-  own_stays _ own = refl
+pub spared_bodiless : (t : Tables) (e : Entry) (p : Place) → brings_body e.event ≡ false → IsSpared t e p
+spared_bodiless t e p bodiless = λ r lo hi how v at row. and_false (brings_body e.event && loses_in r e.acts) (is_written t v) (and_false (brings_body e.event) (loses_in r e.acts) bodiless)
 
+-- its own exchange stays its own
+pub own_stays : (t : Tables) (e : Entry) (c : ℕ) (p : Place) (own : Option ℕ) → IsSpared t e p → own_after t e c p own ≡ own
+own_stays t e c (place.Bound r lo hi how) own spared = by_row (t.representation r) refl
+  where
+    by_row : (o : Option Representation) → t.representation r ≡ o → left_to t e c r o own ≡ own
+    by_row None row = refl
+    by_row (Some v) row = rw (spared r lo hi how v refl row) refl
+own_stays t e c place.Line own spared = refl
+own_stays t e c (place.Passed r kept) own spared = refl
+own_stays t e c (place.Turn x) own spared = refl
+own_stays t e c (place.Direct x) own spared = refl
+own_stays t e c (place.Down why) own spared = refl
+own_stays t e c place.Over own spared = refl
+
+-- what is due stays due
+pub due_stays : (t : Tables) (e : Entry) (c : ℕ) (k : Consumer) → becomes_due t e c k ≡ None → (reads k.place ≡ false → k.due ≡ None) → due_after t e c k k ≡ k
+due_stays t e c k undue idle = ap (λ o. record k { due = o }) (by_test (reads k.place) refl)
+  where
+    by_test : (b : Bool) → reads k.place ≡ b → (if b then option_or k.due (becomes_due t e c k) else None) ≡ k.due
+    by_test true is = ap (option_or k.due) undue ∙ or_nothing k.due
+    by_test false is = sym (idle is)
+
+-- it waits for what becomes gone
+abbrev pub goes_from : Tables → Entry → Place → Bool
+goes_from t e (place.Passed r kept) = goes_in t e r (t.representation r)
+goes_from t e _ = false
+
+-- who doesn't fail, and whose head doesn't send it back, starts over where its key is doomed while it waits, or what it waits for becomes gone
+pub starts_as : (t : Tables) (e : Entry) (c : ℕ) (k : Consumer) → fails_in c e.acts ≡ false → (sends_back (case_at t e) && is_for (exchange_at t e.event) c) ≡ false
+    → starts_over t e c k ≡ ((is_key (doomed t e) k.request.key && waits_at t k.place) || goes_from t e k.place)
+unfolding starts_over
+starts_as t e c k fails sends = three (is_key (doomed t e) k.request.key && waits_at t k.place) (sends_back (case_at t e) && is_for (exchange_at t e.event) c) (loses_what_it_waits_for t e c k.place) (goes_from t e k.place) sends (by_place k.place)
+  where
+    three : (a b d f : Bool) → b ≡ false → d ≡ f → (a || b || d) ≡ (a || f)
+    three true b d f off same = refl
+    three false b d f off same = rw off same
+
+    and_yes : (b : Bool) → (b && not false) ≡ b
+    and_yes true = refl
+    and_yes false = refl
+
+    by_place : (p : Place) → loses_what_it_waits_for t e c p ≡ goes_from t e p
+    by_place (place.Passed r kept) = rw fails (and_yes (goes_in t e r (t.representation r)))
+    by_place place.Line = refl
+    by_place (place.Turn x) = refl
+    by_place (place.Bound r lo hi how) = refl
+    by_place (place.Direct x) = refl
+    by_place (place.Down why) = refl
+    by_place place.Over = refl
+
+module _ (t : Tables) (e : Entry) (c : ℕ) (k : Consumer) (said : IsFarFrom c e.acts) (spared : IsSpared t e k.place) (heard : consumer_heard t e c e.event k ≡ k) where
   opening_stays : (o : Option Opening) → opening_in e.acts ≡ o → by_opening t c o k ≡ k
   opening_stays None is = refl
   opening_stays (Some o) is = rw (said.opens o is) refl
@@ -80,21 +167,31 @@ module _ (t : Tables) (e : Entry) (c : ℕ) (k : Consumer) (said : IsFarFrom c e
   acted_stays =
       let q_is : by_opening t c (opening_in e.acts) (waiting t e c k) ≡ k = ap (by_opening t c (opening_in e.acts)) waiting_stays ∙ opening_stays (opening_in e.acts) refl in
       ap (acted_by t e c k) q_is
-      ∙ same_parts _ _ _ _ (rw said.leaves (showing_stays (showing_in e.acts) refl)) (own_stays k.place k.own) (rw said.shows refl) (ap (λ bytes. k.given + length bytes) said.given ∙ plus_none k.given)
+      ∙ same_parts _ _ _ _ (rw said.leaves (showing_stays (showing_in e.acts) refl)) (own_stays t e c k.place k.own spared) (rw said.shows refl) (ap (λ bytes. k.given + length bytes) said.given ∙ plus_none k.given)
 
-  due_row : (if reads k.place then option_or k.due (becomes_due t e c k) else None) ≡ k.due → due_after t e c k k ≡ k
-  due_row is = ap (λ o. record k { due = o }) is
-
-  pub stays : starts_over t e c k ≡ false → (if reads k.place then option_or k.due (becomes_due t e c k) else None) ≡ k.due → consumer_after t e c (Some k) ≡ Some k
+  -- it stays, or starts over
+  pub consumer_frame : becomes_due t e c k ≡ None → (reads k.place ≡ false → k.due ≡ None) → consumer_after t e c (Some k) ≡ Some (if starts_over t e c k then back_in_line e.now k else k)
   unfolding consumer_after
-  stays goes_on due =
-      ap Some (ap (consumer_settled t e c k) (ap (consumer_acted t e c) heard ∙ acted_stays) ∙ rw goes_on (due_row due))
+  consumer_frame undue idle =
+      ap Some (ap (consumer_settled t e c k) (ap (consumer_acted t e c) heard ∙ acted_stays) ∙ ap (λ (q : Consumer). if starts_over t e c k then back_in_line e.now k else q) (due_stays t e c k undue idle))
 
-  pub goes_back : starts_over t e c k ≡ true → consumer_after t e c (Some k) ≡ Some (back_in_line e.now k)
+  pub consumer_stays : becomes_due t e c k ≡ None → (reads k.place ≡ false → k.due ≡ None) → starts_over t e c k ≡ false → consumer_after t e c (Some k) ≡ Some k
+  consumer_stays undue idle goes_on = consumer_frame undue idle ∙ rw goes_on refl
+
+  pub consumer_goes_back : starts_over t e c k ≡ true → consumer_after t e c (Some k) ≡ Some (back_in_line e.now k)
   unfolding consumer_after
-  goes_back over =
+  consumer_goes_back over =
       ap Some (ap (consumer_settled t e c k) (ap (consumer_acted t e c) heard ∙ acted_stays) ∙ rw over refl)
 
 pub consumer_absent : (t : Tables) (e : Entry) (c : ℕ) → consumer_made c e.now e.event ≡ None → consumer_after t e c None ≡ None
 unfolding consumer_after
 consumer_absent t e c none = none
+
+-- LISTS
+
+-- nothing is founded, nor is anyone bound
+pub founds_nothing : (t : Tables) (e : Entry) → is_founding (case_at t e) ≡ false → founds t e ≡ None
+founds_nothing t e off = rw off refl
+
+pub binds_nobody : (t : Tables) (e : Entry) → is_founding (case_at t e) ≡ false → opening_in e.acts ≡ None → showing_in e.acts ≡ None → binds t e ≡ None
+binds_nobody t e off opens shows = rw (off, opens, shows) refl

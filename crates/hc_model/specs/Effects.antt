@@ -1,11 +1,22 @@
 -- What entries do to the tables, one thing at a time.
-use Rattle.std.specs.Prelude.{ℕ, ◌+◌, List, [], ◌∷◌, Bool, true, false, Option, Some, None, option_map, ◌==◌, if◌then◌else◌}
+use Rattle.std.specs.Prelude.{◌≡◌, ℕ, ◌+◌, List, [], ◌∷◌, Bool, true, false, Option, Some, None, option_map, ◌==◌, ◌&&◌, not, if◌then◌else◌}
+use Rattle.std.specs.Option.{option_or}
 use Rattle.hc_event.specs.declared.event.Event.{Event}
+use Rattle.hc_event.specs.declared.event.Request.{Request}
+use Rattle.hc_event.specs.declared.act.Act.{Act}
+use Rattle.hc_event.specs.declared.act.Need.{Need}
+use Rattle.hc_rules.specs.declared.room.Limits.{Limits}
 use Rattle.hc_model.specs.declared.place.Place.{Place}
 use Rattle.hc_model.specs.declared.place.Place.TheVariants as place
-use Rattle.hc_model.specs.ConsumerRows.{back_in_line}
+use Rattle.hc_model.specs.Answers.{accepted}
+use Rattle.hc_model.specs.Closings.{is_last_reader}
+use Rattle.hc_model.specs.ConsumerRows.{back_in_line, started}
+use Rattle.hc_model.specs.Flaws.{Flaw}
+use Rattle.hc_model.specs.Gone.{is_keepable}
+use Rattle.hc_model.specs.Keys.{entry_of}
+use Rattle.hc_model.specs.Reading.{own_open, shared}
 use Rattle.hc_model.specs.Rows.{Tables, Exchange, Representation, Consumer}
-use Rattle.hc_model.specs.Tables.{received_in, to_front}
+use Rattle.hc_model.specs.Tables.{after_accepted, received_in, to_front, added}
 
 -- ONE ROW IS ANOTHER
 
@@ -33,6 +44,45 @@ counted now event t = record t {
 -- a consumer became bound to it
 abbrev pub used_last : ℕ → Tables → Tables
 used_last r t = record t { used = to_front (Some r) t.used }
+
+-- a consumer starts
+abbrev pub with_start : ℕ → ℕ → Request → Tables → Tables
+with_start now c request t = record (with_consumer c (Some (started now request)) t) {
+  last_start = c;
+  starts = c ∷ t.starts;
+}
+
+-- OPENING AND ASKING
+
+-- an exchange that was opened at this moment, about this representation
+abbrev pub just_opened : ℕ → ℕ → Need → Request → Option ℕ → Exchange
+just_opened now c need request aim = record {
+  c = c;
+  need = need;
+  request = request;
+  opened = now;
+  aim = aim;
+  head = None;
+  answered = now;
+  joined = None;
+  body = [];
+  asked = false;
+  is_ended = false;
+  is_open = true;
+}
+
+abbrev pub with_opening : ℕ → Exchange → Tables → Tables
+with_opening x w t =
+    record (with_exchange x (Some w) t) { opened = x; openings = x ∷ t.openings }
+
+abbrev pub to_bring : Exchange → Exchange
+to_bring w = record w { asked = true }
+
+-- its next piece is asked for
+abbrev pub with_ask : ℕ → Tables → Tables
+with_ask x t = record t {
+  exchange = λ y. if x == y then option_map to_bring (t.exchange y) else t.exchange y;
+}
 
 -- LETTING GO
 
@@ -78,3 +128,43 @@ closed x t = record t {
 abbrev pub all_closed : List ℕ → Tables → Tables
 all_closed [] t = t
 all_closed (x ∷ xs) t = all_closed xs (closed x t)
+
+-- LEAVING
+
+-- a consumer ended, failed or left
+abbrev pub finished : Consumer → Consumer
+finished k = record k { place = place.Over; due = None }
+
+-- the exchange that nobody reads any more once c leaves: its own, or that of the shared writing whose last member it is
+abbrev pub left_by : Tables → ℕ → Consumer → Option ℕ
+left_by t c k =
+    option_or (own_open t k) (if is_last_reader t c k.place then shared t k.place else None)
+
+-- a 200 founded it, and it can't be completed later
+abbrev pub is_unkeepable : Option Representation → Bool
+is_unkeepable None = false
+is_unkeepable (Some v) = v.head.status == 200 && not (is_keepable v)
+
+-- what goes with the exchange that founded it
+abbrev pub going_with : Tables → Option ℕ → Option ℕ
+going_with t None = None
+going_with t (Some x) = if is_unkeepable (t.representation x) then Some x else None
+
+-- c leaves, and what nobody reads any more is closed
+abbrev pub with_leave : ℕ → Consumer → Tables → Tables
+with_leave c k t =
+    all_closed (added (left_by t c k) []) (with_consumer c (Some (finished k)) t)
+
+-- LOSING
+
+-- from now on nothing of it is stored, and who writes it alone goes on
+abbrev pub lost_to : Option ℕ → Representation → Representation
+lost_to alone v = record v { is_lost = true; alone = alone }
+
+-- AN EVENT
+
+-- at this event these are the acts, and after it these the tables
+pub record Does (limits : Limits) (t : Tables) (now : ℕ) (event : Event) (flaw : Flaw)
+    (acts : List Act) (s : Tables) : Type 0 where
+  pub acts_are : accepted limits t now event flaw ≡ acts
+  pub tables_are : after_accepted t (entry_of limits t now event flaw) ≡ s

@@ -50,5 +50,6 @@ pub mod Alone
 pub mod Growing
 pub mod Losses
 pub mod Laws
+pub mod Lawful
 pub mod Effects
 pub mod Numbers

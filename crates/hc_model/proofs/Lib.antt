@@ -201,3 +201,7 @@ pub mod TurnEffects
 pub mod HoleEffects
 pub mod ShowEffects
 pub mod GiveEffects
+pub mod LeaveFrames
+pub mod LeaveEffects
+pub mod SealEffects
+pub mod MisreadEffects

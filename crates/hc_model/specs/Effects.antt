@@ -153,7 +153,7 @@ going_with t (Some x) = if is_unkeepable (t.representation x) then Some x else N
 -- c leaves, and what nobody reads any more is closed
 abbrev pub with_leave : ℕ → Consumer → Tables → Tables
 with_leave c k t =
-    all_closed (added (left_by t c k) []) (with_consumer c (Some (finished k)) t)
+    with_consumer c (Some (finished k)) (all_closed (added (left_by t c k) []) t)
 
 -- LOSING
 

@@ -15,6 +15,7 @@ use Rattle.hc_model.specs.ConsumerRows.{opened_place, place_for_hole, bound_by_t
 use Rattle.hc_rules.specs.declared.need.Route.TheVariants as route
 use Rattle.hc_model.specs.Currents.{current, row_of}
 use Rattle.hc_model.specs.Effects.{Does, counted, used_last, with_consumer, with_opening, just_opened}
+use Rattle.hc_model.specs.Entries.{Entry}
 use Rattle.hc_model.specs.ExchangeRows.{aim_from}
 use Rattle.hc_model.specs.Flaws.{NoFlaw}
 use Rattle.hc_model.specs.Lawful.{Lawful}
@@ -24,13 +25,19 @@ use Rattle.hc_model.specs.Reading.{bound_to}
 use Rattle.hc_model.specs.Rows.{Tables, Representation, Consumer}
 use Rattle.hc_model.specs.Tables.{to_front, binds}
 use Rattle.hc_model.proofs.Basics.{false_true}
-use Rattle.hc_model.proofs.OfConsumers.{binds_as}
+use Rattle.hc_model.proofs.OfConsumers.{BringsNothing, binds_as}
 use Rattle.hc_model.proofs.OpenEffects.{e, nothing, why, opens, keeps_all, about_current}
 use Rattle.hc_model.proofs.PollEffects.{none_waits}
 
 module _ (limits : Limits) (t : Tables) (law : Lawful t) (now c want : ℕ) (k : Consumer) (row : t.consumer c ≡ Some k) (x from to : ℕ) (request : Request) (is : move_of t now want c k ≡ Opens x (need.Hole from to) request) where
   abbrev n : Need
   n = need.Hole from to
+
+  abbrev it : Entry
+  it = e limits t law now c want k row x n request is
+
+  said_nothing : BringsNothing t it c
+  said_nothing = nothing limits t law now c want k row x n request is
 
   -- A FIRST HOLE
 
@@ -42,11 +49,11 @@ module _ (limits : Limits) (t : Tables) (law : Lawful t) (now c want : ℕ) (k :
         ∙ (ap (place_for_hole x k.request (Some r)) there
         ∙ ap (bound_to_wanted r (by.FirstHole x) place.Line) wants))
 
-    binds_it : to_front (binds t (e limits t law now c want k row x n request is)) t.used ≡ to_front (Some r) t.used
+    binds_it : to_front (binds t it) t.used ≡ to_front (Some r) t.used
     binds_it =
         let reason = why limits t law now c want k row x n request is in
-        let it : binds t (e limits t law now c want k row x n request is) ≡ Some r = binds_as t (e limits t law now c want k row x n request is) c (nothing limits t law now c want k row x n request is) ∙ rw (row, reason.unshown free, reason.key_is, now_is) refl in
-        ap (λ (o : Option ℕ). to_front o t.used) it
+        let bound : binds t it ≡ Some r = binds_as t it c said_nothing ∙ rw (row, reason.unshown free, reason.key_is, now_is) refl in
+        ap (λ (o : Option ℕ). to_front o t.used) bound
 
     -- its consumer becomes bound to what is current
     pub fills_first : Does limits t now (event.Poll c want) NoFlaw (acts_of c (Opens x n request))
@@ -60,9 +67,9 @@ module _ (limits : Limits) (t : Tables) (law : Lawful t) (now c want : ℕ) (k :
   -- A LATER ONE
 
   module _ (r lo : ℕ) (hi : Option ℕ) (how : BoundBy) (at : k.place ≡ place.Bound r lo hi how) (shown : k.shown ≡ true) where
-    binds_none : to_front (binds t (e limits t law now c want k row x n request is)) t.used ≡ t.used
+    binds_none : to_front (binds t it) t.used ≡ t.used
     binds_none =
-        let nobody : binds t (e limits t law now c want k row x n request is) ≡ None = binds_as t (e limits t law now c want k row x n request is) c (nothing limits t law now c want k row x n request is) ∙ rw (row, shown) refl in
+        let nobody : binds t it ≡ None = binds_as t it c said_nothing ∙ rw (row, shown) refl in
         ap (λ (o : Option ℕ). to_front o t.used) nobody
 
     -- its consumer stays where it reads

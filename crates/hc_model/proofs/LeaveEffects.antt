@@ -1,6 +1,6 @@
 -- What it does that a consumer ends, fails or is cancelled: it is over, and what nobody reads any more is closed.
 use Rattle.std.proofs.Common.{◌≡◌, ℕ, List, [], ◌∷◌, ◌++◌, Bool, true, false, Option, Some, None, refl, ap, sym, ◌∙◌}
-use Rattle.std.specs.Prelude.{map}
+use Rattle.std.specs.Prelude.{map, nat_eq}
 use Rattle.hc_event.specs.declared.act.Act.{Act}
 use Rattle.hc_event.specs.declared.act.Act.TheVariants as act
 use Rattle.hc_event.specs.declared.act.Cause.{Cause}
@@ -12,19 +12,22 @@ use Rattle.hc_model.specs.declared.place.Place.TheVariants as place
 use Rattle.hc_model.specs.Answers.{said}
 use Rattle.hc_model.specs.Currents.{is_number}
 use Rattle.hc_model.specs.Effects.{Does, counted, with_consumer, let_some_go, let_all_go, finished, left_by, going_with, with_leave}
+use Rattle.hc_model.specs.Entries.{Entry}
 use Rattle.hc_model.specs.Flaws.{NoFlaw}
 use Rattle.hc_model.specs.Gone.{becomes_gone}
 use Rattle.hc_model.specs.Lawful.{Lawful}
 use Rattle.hc_model.specs.Moves.{Ends, Fails, acts_of}
-use Rattle.hc_model.specs.Places.{is_failed_read}
 use Rattle.hc_model.specs.Polls.{move_of, polled}
 use Rattle.hc_model.specs.Rows.{Tables, Representation, Consumer}
 use Rattle.hc_model.specs.StartingOver.{loses_what_it_waits_for}
 use Rattle.hc_model.specs.Tables.{after_accepted, added}
+use Rattle.hc_model.proofs.ActParts.{IsFarFrom}
 use Rattle.hc_model.proofs.Basics.{append_none}
 use Rattle.hc_model.proofs.ConsumerEffects.{waits_as, representations, some_all}
+use Rattle.hc_model.proofs.FailsTold.{fails_told}
 use Rattle.hc_model.proofs.LeaveFrames.{IsFront, e, rest, nothing, far, acts_left, loses_as, goes_by, leaves}
 use Rattle.hc_model.proofs.LeaveFrames as front_of
+use Rattle.hc_model.proofs.OfConsumers.{BringsNothing}
 use Rattle.hc_model.proofs.PollEffects.{loses_none}
 use Rattle.hc_model.proofs.SameTables.{is_in, in_one, waits_for_any, all_closed_is}
 
@@ -45,19 +48,28 @@ module _ (t : Tables) (law : Lawful t) (c : ℕ) (k : Consumer) (row : t.consume
 
 module _ (limits : Limits) (t : Tables) (law : Lawful t) (now c : ℕ) (k : Consumer) (row : t.consumer c ≡ Some k) where
   module _ (ev : Event) (front : List Act) (is : IsFront c ev None front) (says : said t now ev NoFlaw ≡ front) where
+    abbrev it : Entry
+    it = e limits t law now c k row ev NoFlaw None front is
+
+    n : BringsNothing t it c
+    n = nothing limits t law now c k row ev NoFlaw None front is it.acts
+
+    far_it : (d : ℕ) → nat_eq c d ≡ false → IsFarFrom d it.acts
+    far_it = far limits t law now c k row ev NoFlaw None front is
+
     abbrev rs : List ℕ
     rs = added (going_with t (left_by t c k)) []
 
-    goes : (r : ℕ) (v : Representation) → t.representation r ≡ Some v → becomes_gone t (e limits t law now c k row ev NoFlaw None front is) r v ≡ is_in rs r
+    goes : (r : ℕ) (v : Representation) → t.representation r ≡ Some v → becomes_gone t it r v ≡ is_in rs r
     goes r v there = goes_by limits t law now c k row ev NoFlaw None front is r v there ∙ sym (in_one (going_with t (left_by t c k)) r)
 
-    stays : loses_what_it_waits_for t (e limits t law now c k row ev NoFlaw None front is) c k.place ≡ false
+    stays : loses_what_it_waits_for t it c k.place ≡ false
     stays =
-        loses_none t (e limits t law now c k row ev NoFlaw None front is) c k.place
-        (waits_as t (e limits t law now c k row ev NoFlaw None front is) c (nothing limits t law now c k row ev NoFlaw None front is (front ++ rest limits t law now c k row ev NoFlaw None front is)) law (far limits t law now c k row ev NoFlaw None front is) rs goes c k row k.place refl
+        loses_none t it c k.place
+        (waits_as t it c n law far_it rs goes c k row k.place refl
         ∙ unwaiting t law c k row k.place refl)
 
-    acts_are : front ++ rest limits t law now c k row ev NoFlaw None front is ≡ front ++ map act.Close (added (left_by t c k) [])
+    acts_are : it.acts ≡ front ++ map act.Close (added (left_by t c k) [])
     acts_are = ap (λ acts. front ++ acts) (append_none (map act.Close (added (left_by t c k) [])))
 
     pub leave_does : Does limits t now ev NoFlaw (front ++ map act.Close (added (left_by t c k) [])) (counted now ev (let_some_go now (going_with t (left_by t c k)) (with_leave c k t)))
@@ -66,7 +78,7 @@ module _ (limits : Limits) (t : Tables) (law : Lawful t) (now c : ℕ) (k : Cons
       tables_are =
           ap (λ acts. after_accepted t (record { now = now; event = ev; acts = acts })) (acts_left limits t law now c k row ev NoFlaw None front is says)
           ∙ (leaves limits t law now c k row ev NoFlaw None front is rs t.representation goes
-          (representations t (e limits t law now c k row ev NoFlaw None front is) c (nothing limits t law now c k row ev NoFlaw None front is (front ++ rest limits t law now c k row ev NoFlaw None front is)) law (far limits t law now c k row ev NoFlaw None front is) rs goes (loses_as limits t law now c k row ev NoFlaw None front is))
+          (representations t it c n law far_it rs goes (loses_as limits t law now c k row ev NoFlaw None front is))
           stays
           ∙ (ap (λ (u : Tables). counted now ev (let_all_go now rs (with_consumer c (Some (finished k)) u))) (sym (all_closed_is (added (left_by t c k) []) t))
           ∙ ap (counted now ev) (some_all now (going_with t (left_by t c k)) (with_leave c k t))));
@@ -77,8 +89,8 @@ module _ (limits : Limits) (t : Tables) (law : Lawful t) (now c : ℕ) (k : Cons
   ends want is = leave_does (event.Poll c want) (acts_of c Ends) (front_of.ends want) (ap (λ (o : Option Consumer). acts_of c (polled t now want c o)) row ∙ ap (acts_of c) is)
 
   -- who is told a failure
-  pub fails : (want : ℕ) (why : Cause) → move_of t now want c k ≡ Fails why → is_failed_read (Some why) ≡ false → Does limits t now (event.Poll c want) NoFlaw (acts_of c (Fails why) ++ map act.Close (added (left_by t c k) [])) (counted now (event.Poll c want) (let_some_go now (going_with t (left_by t c k)) (with_leave c k t)))
-  fails want why is told = leave_does (event.Poll c want) (acts_of c (Fails why)) (front_of.fails want why told) (ap (λ (o : Option Consumer). acts_of c (polled t now want c o)) row ∙ ap (acts_of c) is)
+  pub fails : (want : ℕ) (why : Cause) → move_of t now want c k ≡ Fails why → Does limits t now (event.Poll c want) NoFlaw (acts_of c (Fails why) ++ map act.Close (added (left_by t c k) [])) (counted now (event.Poll c want) (let_some_go now (going_with t (left_by t c k)) (with_leave c k t)))
+  fails want why is = leave_does (event.Poll c want) (acts_of c (Fails why)) (front_of.fails want why (fails_told t now want c k why law.sound law.places row is)) (ap (λ (o : Option Consumer). acts_of c (polled t now want c o)) row ∙ ap (acts_of c) is)
 
   -- who is cancelled
   pub cancels : Does limits t now (event.Cancel c) NoFlaw (map act.Close (added (left_by t c k) [])) (counted now (event.Cancel c) (let_some_go now (going_with t (left_by t c k)) (with_leave c k t)))

@@ -205,3 +205,6 @@ pub mod LeaveFrames
 pub mod LeaveEffects
 pub mod SealEffects
 pub mod MisreadEffects
+pub mod FewClosings
+pub mod LawfulRuns
+pub mod FailsTold

@@ -12,16 +12,19 @@ use Rattle.hc_model.specs.declared.place.Place.TheVariants as place
 use Rattle.hc_model.specs.ActFilters.{fails_in}
 use Rattle.hc_model.specs.Currents.{is_number}
 use Rattle.hc_model.specs.Effects.{Does, counted, with_consumer, let_go, let_some_go, let_all_go, finished, left_by, going_with, with_leave}
+use Rattle.hc_model.specs.Entries.{Entry}
 use Rattle.hc_model.specs.Flaws.{Flaw, Misreads}
 use Rattle.hc_model.specs.Gone.{becomes_gone, goes_in}
 use Rattle.hc_model.specs.Lawful.{Lawful}
 use Rattle.hc_model.specs.Rows.{Tables, Representation, Consumer}
 use Rattle.hc_model.specs.StartingOver.{loses_what_it_waits_for}
 use Rattle.hc_model.specs.Tables.{after_accepted, added}
+use Rattle.hc_model.proofs.ActParts.{IsFarFrom}
 use Rattle.hc_model.proofs.Basics.{append_none}
 use Rattle.hc_model.proofs.ConsumerEffects.{representations, two_all}
 use Rattle.hc_model.proofs.LeaveFrames.{IsFront, e, rest, nothing, far, acts_left, loses_as, goes_by, leaves}
 use Rattle.hc_model.proofs.LeaveFrames as front_of
+use Rattle.hc_model.proofs.OfConsumers.{BringsNothing}
 use Rattle.hc_model.proofs.SameTables.{is_in, all_closed_is}
 use Rattle.hc_model.proofs.Tests.{eqb-same, then_false}
 
@@ -38,6 +41,15 @@ module _ (limits : Limits) (t : Tables) (law : Lawful t) (now c want : ℕ) (k :
   is : IsFront c ev (Some r) front
   is = front_of.misreads want r
 
+  abbrev it : Entry
+  it = e limits t law now c k row ev flaw (Some r) front is
+
+  n : BringsNothing t it c
+  n = nothing limits t law now c k row ev flaw (Some r) front is it.acts
+
+  far_it : (d : ℕ) → nat_eq c d ≡ false → IsFarFrom d it.acts
+  far_it = far limits t law now c k row ev flaw (Some r) front is
+
   abbrev rs : List ℕ
   rs = added (going_with t (left_by t c k)) (r ∷ [])
 
@@ -51,14 +63,14 @@ module _ (limits : Limits) (t : Tables) (law : Lawful t) (now c want : ℕ) (k :
       by_tests false true = refl
       by_tests false false = refl
 
-  goes : (q : ℕ) (v : Representation) → t.representation q ≡ Some v → becomes_gone t (e limits t law now c k row ev flaw (Some r) front is) q v ≡ is_in rs q
+  goes : (q : ℕ) (v : Representation) → t.representation q ≡ Some v → becomes_gone t it q v ≡ is_in rs q
   goes q v there = goes_by limits t law now c k row ev flaw (Some r) front is q v there ∙ either (going_with t (left_by t c k)) q
 
   -- who fails doesn't start over
-  stays : (p : Place) → loses_what_it_waits_for t (e limits t law now c k row ev flaw (Some r) front is) c p ≡ false
+  stays : (p : Place) → loses_what_it_waits_for t it c p ≡ false
   stays (place.Passed q kept) =
-      let fails : fails_in c (front ++ rest limits t law now c k row ev flaw (Some r) front is) ≡ true = rw (eqb-same c) refl in
-      then_false (goes_in t (e limits t law now c k row ev flaw (Some r) front is) q (t.representation q)) _ (ap not fails)
+      let fails : fails_in c it.acts ≡ true = rw (eqb-same c) refl in
+      then_false (goes_in t it q (t.representation q)) _ (ap not fails)
   stays place.Line = refl
   stays (place.Turn x) = refl
   stays (place.Bound q lo hi how) = refl
@@ -73,7 +85,7 @@ module _ (limits : Limits) (t : Tables) (law : Lawful t) (now c want : ℕ) (k :
     tables_are =
         ap (λ acts. after_accepted t (record { now = now; event = ev; acts = acts })) (acts_left limits t law now c k row ev flaw (Some r) front is refl)
         ∙ (leaves limits t law now c k row ev flaw (Some r) front is rs t.representation goes
-        (representations t (e limits t law now c k row ev flaw (Some r) front is) c (nothing limits t law now c k row ev flaw (Some r) front is (front ++ rest limits t law now c k row ev flaw (Some r) front is)) law (far limits t law now c k row ev flaw (Some r) front is) rs goes (loses_as limits t law now c k row ev flaw (Some r) front is))
+        (representations t it c n law far_it rs goes (loses_as limits t law now c k row ev flaw (Some r) front is))
         (stays k.place)
         ∙ (ap (λ (u : Tables). counted now ev (let_all_go now rs (with_consumer c (Some (finished k)) u))) (sym (all_closed_is (added (left_by t c k) []) t))
         ∙ ap (counted now ev) (two_all now r (going_with t (left_by t c k)) (with_leave c k t))));

@@ -39,12 +39,13 @@ use Rattle.hc_model.proofs.ApartKeeps.{is_on}
 use Rattle.hc_model.proofs.Basics.{none_some, number_is}
 use Rattle.hc_model.proofs.Closed.{reversed}
 use Rattle.hc_model.proofs.Dues.{undue_of, other_stop}
+use Rattle.hc_model.proofs.FewClosings.{ClosesLittle, filter_none, must_as, quiet_closes}
 use Rattle.hc_model.proofs.KeyActs.{test_some}
 use Rattle.hc_model.proofs.PieceKeeps.{eq_cases, some_inj}
 use Rattle.hc_model.proofs.Stops.{writer_about}
 use Rattle.hc_model.proofs.Sums.{reverse_once}
 use Rattle.hc_model.proofs.Tests.{and_false, then_false}
-use Rattle.hc_model.proofs.Untouched.{or_nothing, exchange_stays, exchange_absent, binds_nobody, spared_bodiless, consumer_frame, starts_as, goes_from}
+use Rattle.hc_model.proofs.Untouched.{or_nothing, exchange_stays, exchange_absent, binds_nobody, loss_spared, spared_bodiless, consumer_frame, starts_as, goes_from}
 
 pub data IsOf (c : ℕ) : Event → Type 0 where
   starts : (request : Request) → IsOf c (event.Start c request)
@@ -77,10 +78,6 @@ no_number None = refl
 no_number (Some n) = refl
 
 -- LISTS
-
-filter_none : (xs : List ℕ) → filter (λ x. false) xs ≡ []
-filter_none [] = refl
-filter_none (x ∷ xs) = filter_none xs
 
 filter_apart : (y : ℕ) (xs : List ℕ) → (Among y xs → ⊥) → filter (is_number (Some y)) xs ≡ []
 filter_apart y [] apart = refl
@@ -188,25 +185,9 @@ module _ (t : Tables) (e : Entry) (a : ℕ) (n : BringsNothing t e a) where
   pub undue : (c : ℕ) (k : Consumer) → becomes_due t e c k ≡ None
   undue c k = undue_of t e c k (record {
     stop = other_stop t e k (ap (is_same_number (source t k)) n.names ∙ no_number (source t k));
-    loss = loss_none k.place;
+    loss = loss_spared t e c k.place (spared_bodiless t e k.place n.bodiless);
     head = n.headless c;
   })
-    where
-      loses_none : (r : ℕ) (v : Representation) → loses_writing t e r v ≡ false
-      loses_none r v = rw n.bodiless refl
-
-      loss_row : (r : ℕ) (o : Option Representation) → cause_by_loss t e c r o ≡ None
-      loss_row r None = refl
-      loss_row r (Some v) = rw (loses_none r v) refl
-
-      loss_none : (p : Place) → cause_of_loss t e c p ≡ None
-      loss_none (place.Bound r lo hi how) = loss_row r (t.representation r)
-      loss_none place.Line = refl
-      loss_none (place.Passed r kept) = refl
-      loss_none (place.Turn x) = refl
-      loss_none (place.Direct x) = refl
-      loss_none (place.Down why) = refl
-      loss_none place.Over = refl
 
   -- WHAT STAYS
 
@@ -285,33 +266,16 @@ module _ (t : Tables) (e : Entry) (a : ℕ) (n : BringsNothing t e a) where
 
   -- WHAT IS CLOSED
 
-  no_survivor : (x r : ℕ) (o : Option Representation) → has_no_survivor t e x r o ≡ false
-  no_survivor x r None = refl
-  no_survivor x r (Some v) = and_false (is_number v.writer x && loses_writing t e r v) _ (then_false (is_number v.writer x) (loses_writing t e r v) (rw n.bodiless refl))
-
-  undoomed : (x : ℕ) (w : Exchange) → is_doomed t e x w ≡ false
-  undoomed x w = rw n.doomless refl
-
-  unrefused : (x : ℕ) → (is_refused (case_at t e) && brings_head x e.event) ≡ false
-  unrefused x = rw n.caseless refl
-
-  must_by : (a b c d : Bool) → a ≡ false → b ≡ false → c ≡ false → (a || b || c || d) ≡ d
-  must_by a b c d p q r = rw (p, q, r) refl
-
-  must_as : (x : ℕ) (w : Exchange) → must_close t e x w ≡ is_left t x (leaver e)
-  must_as x w = must_by (is_refused (case_at t e) && brings_head x e.event) (is_doomed t e x w) (has_no_survivor t e x (family x w) (t.representation (family x w))) (is_left t x (leaver e)) (unrefused x) (undoomed x w) (no_survivor x (family x w) (t.representation (family x w)))
+  pub little : ClosesLittle t e
+  little = quiet_closes t e n.caseless n.doomless n.bodiless
 
   closes_as : (x : ℕ) (o : Option Exchange) → closes_row t e x o ≡ (is_left t x (leaver e) && is_open o)
   closes_as x None = sym (then_false (is_left t x (leaver e)) false refl)
-  closes_as x (Some w) = ap₂ (λ (a : Bool) (u : Exchange). a && u.is_open) (must_as x w) (n.exchange x w)
+  closes_as x (Some w) = ap₂ (λ (a : Bool) (u : Exchange). a && u.is_open) (must_as t e little x w) (n.exchange x w)
 
   closing_as : closing t e ≡ filter (λ x. is_left t x (leaver e) && is_open (t.exchange x)) (reverse t.openings)
   unfolding closing
   closing_as = ap (λ (test : ℕ → Bool). filter test (reverse t.openings)) (fun_ext (λ x. closes_as x (t.exchange x)))
-
-  -- nothing, where nobody leaves
-  pub closes_nothing : leaver e ≡ None → closing t e ≡ []
-  closes_nothing none = closing_as ∙ (ap (λ (o : Option ℕ). filter (λ x. is_left t x o && is_open (t.exchange x)) (reverse t.openings)) none ∙ filter_none (reverse t.openings))
 
   module _ (s : Sound t) (o : Owners t) (order : InOrder t) (c : ℕ) (k : Consumer) (row : t.consumer c ≡ Some k) where
     -- what it leaves, where c does

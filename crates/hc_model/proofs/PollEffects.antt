@@ -37,7 +37,8 @@ use Rattle.hc_model.specs.Tables.{after_accepted, opened_after, openings_after, 
 use Rattle.hc_model.proofs.ActParts.{IsFarFrom, far_closed, far_other}
 use Rattle.hc_model.proofs.Basics.{append_none}
 use Rattle.hc_model.proofs.ConsumerEffects.{after_by, waits_as, others, representations}
-use Rattle.hc_model.proofs.OfConsumers.{BringsNothing, brings_nothing, closes_nothing, goes_nothing, consumer_itself}
+use Rattle.hc_model.proofs.FewClosings.{closes_nothing}
+use Rattle.hc_model.proofs.OfConsumers.{BringsNothing, brings_nothing, little, goes_nothing, consumer_itself}
 use Rattle.hc_model.proofs.OfConsumers as event_of
 use Rattle.hc_model.proofs.PieceKeeps.{eq_cases}
 use Rattle.hc_model.proofs.SameTables.{is_in, waits_for_any}
@@ -119,7 +120,7 @@ module _ (limits : Limits) (t : Tables) (law : Lawful t) (now c want : ℕ) (k :
   said_is = ap (λ (o : Option Consumer). acts_of c (polled t now want c o)) row ∙ ap (acts_of c) is
 
   closes_none : closing t (record { now = now; event = ev; acts = said t now ev NoFlaw ++ [] }) ≡ []
-  closes_none = closes_nothing t _ c (nothing (said t now ev NoFlaw ++ [])) (ap (λ acts. leaver_in (acts ++ [])) said_is ∙ (mild c m stays).leaves)
+  closes_none = closes_nothing t (record { now = now; event = ev; acts = said t now ev NoFlaw ++ [] }) (little t (record { now = now; event = ev; acts = said t now ev NoFlaw ++ [] }) c (nothing (said t now ev NoFlaw ++ []))) (ap (λ acts. leaver_in (acts ++ [])) said_is ∙ (mild c m stays).leaves)
 
   -- just what its move says
   pub acts_are : accepted limits t now ev NoFlaw ≡ acts_of c m

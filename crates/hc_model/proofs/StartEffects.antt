@@ -20,11 +20,11 @@ use Rattle.hc_model.specs.Flaws.{NoFlaw}
 use Rattle.hc_model.specs.Lawful.{Lawful}
 use Rattle.hc_model.specs.Rows.{Tables}
 use Rattle.hc_model.specs.Tables.{after_accepted}
-use Rattle.hc_model.specs.Weights.{room_for, evicted}
 use Rattle.hc_model.proofs.ActParts.{far_closed}
 use Rattle.hc_model.proofs.Basics.{some_none}
 use Rattle.hc_model.proofs.ConsumerEffects.{after_by, others, representations}
-use Rattle.hc_model.proofs.OfConsumers.{BringsNothing, IsOf, brings_nothing, closes_nothing, goes_nothing, exchanges_stay, binds_none}
+use Rattle.hc_model.proofs.FewClosings.{closes_nothing, evicts_nothing}
+use Rattle.hc_model.proofs.OfConsumers.{BringsNothing, IsOf, brings_nothing, little, goes_nothing, exchanges_stay, binds_none}
 use Rattle.hc_model.proofs.OfConsumers as event_of
 
 module _ (limits : Limits) (t : Tables) (law : Lawful t) (now c : ℕ) (request : Request) where
@@ -37,14 +37,10 @@ module _ (limits : Limits) (t : Tables) (law : Lawful t) (now c : ℕ) (request 
   nothing : BringsNothing t e c
   nothing = brings_nothing t now c ev [] (event_of.starts request)
 
-  evicts_nobody : evicted limits t now ev ≡ []
-  unfolding room_for
-  evicts_nobody = refl
-
   acts_none : accepted limits t now ev NoFlaw ≡ []
   acts_none =
-      ap (λ rs. map act.Evicted rs ++ map act.Close (closing t e)) evicts_nobody
-      ∙ ap (λ xs. map act.Close xs) (closes_nothing t e c nothing refl)
+      ap (λ rs. map act.Evicted rs ++ map act.Close (closing t e)) (evicts_nothing limits t now ev refl)
+      ∙ ap (λ xs. map act.Close xs) (closes_nothing t e (little t e c nothing) refl)
 
   by_refusal : (late many : Bool) (n : ℕ) → (if late then Some (refusal.NotRising n) else if many then Some refusal.TooManyConsumers else None) ≡ None → late ≡ false
   by_refusal true many n h = absurd (some_none _ h)

@@ -14,6 +14,7 @@ use Rattle.hc_model.specs.ConsumerRows.{opened_place, unless_bound}
 use Rattle.hc_model.specs.Currents.{current, is_current, is_number}
 use Rattle.hc_model.specs.Dooms.{bypassed_for}
 use Rattle.hc_model.specs.Effects.{Does, counted, with_consumer, with_opening, just_opened, let_some_go, let_all_go}
+use Rattle.hc_model.specs.Entries.{Entry}
 use Rattle.hc_model.specs.Flaws.{NoFlaw}
 use Rattle.hc_model.specs.Gone.{becomes_gone}
 use Rattle.hc_model.specs.Lawful.{Lawful}
@@ -27,9 +28,9 @@ use Rattle.hc_model.proofs.Basics.{false_true, true_false, not_so, number_is}
 use Rattle.hc_model.proofs.ConsumerEffects.{some_all}
 use Rattle.hc_model.proofs.HoleLemmas.{bool_cases}
 use Rattle.hc_model.proofs.KeyNames.{current_key}
-use Rattle.hc_model.proofs.OfConsumers.{and_true, goes_as, ends_none}
+use Rattle.hc_model.proofs.OfConsumers.{BringsNothing, and_true, goes_as, ends_none}
 use Rattle.hc_model.proofs.OpenEffects.{e, nothing, why, keeps_all, binds_none, about_current}
-use Rattle.hc_model.proofs.OpenedAs.{Way}
+use Rattle.hc_model.proofs.OpenedAs.{OpenedAs, Way}
 use Rattle.hc_model.proofs.OpenedAs as opened
 use Rattle.hc_model.proofs.PollEffects.{none_waits}
 use Rattle.hc_model.proofs.SameTables.{is_in, in_one, waits_for_any}
@@ -72,6 +73,15 @@ module _ (limits : Limits) (t : Tables) (law : Lawful t) (now c want : ℕ) (k :
       place_is (λ off. undue) (none_waits k.place) refl
 
 module _ (limits : Limits) (t : Tables) (law : Lawful t) (now c want : ℕ) (k : Consumer) (row : t.consumer c ≡ Some k) (x : ℕ) (request : Request) (is : move_of t now want c k ≡ Opens x need.Bypass request) where
+  abbrev it : Entry
+  it = e limits t law now c want k row x need.Bypass request is
+
+  said_nothing : BringsNothing t it c
+  said_nothing = nothing limits t law now c want k row x need.Bypass request is
+
+  reason : OpenedAs t now c k need.Bypass request
+  reason = why limits t law now c want k row x need.Bypass request is
+
   -- just what is current is bypassed
   key_test : (r : ℕ) (v : Representation) → t.representation r ≡ Some v → (is_current t v.key r && bytes_eq k.request.key v.key) ≡ is_number (current t k.request.key) r
   key_test r v there = elim (bool_cases (bytes_eq k.request.key v.key)) [
@@ -80,10 +90,10 @@ module _ (limits : Limits) (t : Tables) (law : Lawful t) (now c want : ℕ) (k :
         true_false (sym (bytes_eq-same k.request.key v.key (sym (current_key t k.request.key r v (number_is (current t k.request.key) r on) there))) ∙ other))))
   ]
 
-  goes : (r : ℕ) (v : Representation) → t.representation r ≡ Some v → becomes_gone t (e limits t law now c want k row x need.Bypass request is) r v ≡ is_in (added (current t k.request.key) []) r
+  goes : (r : ℕ) (v : Representation) → t.representation r ≡ Some v → becomes_gone t it r v ≡ is_in (added (current t k.request.key) []) r
   goes r v there =
-      goes_as t (e limits t law now c want k row x need.Bypass request is) c (nothing limits t law now c want k row x need.Bypass request is) r v
-      ∙ (rw (why limits t law now c want k row x need.Bypass request is).key_is (rw (ends_none t (e limits t law now c want k row x need.Bypass request is) c (nothing limits t law now c want k row x need.Bypass request is) r v refl) (drop (is_current t v.key r && bytes_eq k.request.key v.key)))
+      goes_as t it c said_nothing r v
+      ∙ (rw reason.key_is (rw (ends_none t it c said_nothing r v refl) (drop (is_current t v.key r && bytes_eq k.request.key v.key)))
       ∙ (key_test r v there ∙ sym (in_one (current t k.request.key) r)))
     where
       drop : (b : Bool) → (b || false || false || false || false) ≡ b
@@ -92,7 +102,7 @@ module _ (limits : Limits) (t : Tables) (law : Lawful t) (now c want : ℕ) (k :
 
   -- it waits for no body
   unwaiting : (p : Place) → k.place ≡ p → waits_for_any (added (current t k.request.key) []) p ≡ false
-  unwaiting (place.Passed r kept) at = absurd (false_true (sym (law.owned.passed c r kept k row at) ∙ (why limits t law now c want k row x need.Bypass request is).bypasses refl))
+  unwaiting (place.Passed r kept) at = absurd (false_true (sym (law.owned.passed c r kept k row at) ∙ reason.bypasses refl))
   unwaiting place.Line at = refl
   unwaiting (place.Turn y) at = refl
   unwaiting (place.Bound r lo hi how) at = refl

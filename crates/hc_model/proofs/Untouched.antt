@@ -1,30 +1,35 @@
 -- Whoever and whatever an entry does not speak of stays as it was, but for what becomes gone, and who waits for that.
-use Rattle.std.proofs.Common.{◌≡◌, ℕ, ◌+◌, List, length, Bool, true, false, Option, Some, None, refl, ap, sym, ◌∙◌, arith}
+use Rattle.std.proofs.Common.{◌≡◌, ℕ, ◌+◌, List, length, Bool, true, false, Option, Some, None, refl, ap, ap₂, sym, ◌∙◌, arith}
 use Rattle.std.specs.Prelude.{◌&&◌, ◌||◌, ◌==◌, not, nat_eq, if◌then◌else◌}
-use Rattle.std.specs.Option.{option_or}
+use Rattle.std.specs.Option.{option_or, option_and_then}
 use Rattle.hc_event.specs.Filters.{Opening, opening_in, asks_in, closes_in, leaves_in, shows_in, given_in}
 use Rattle.hc_event.specs.declared.event.Event.{Event}
 use Rattle.hc_event.specs.declared.event.Event.TheVariants as event
+use Rattle.hc_event.specs.declared.event.Response.{Response}
+use Rattle.hc_rules.specs.Lengths.{is_same_number}
 use Rattle.hc_model.specs.declared.place.Place.{Place}
 use Rattle.hc_model.specs.declared.place.Place.TheVariants as place
 use Rattle.hc_model.specs.declared.place.BoundBy.{BoundBy}
 use Rattle.hc_model.specs.ActFilters.{loses_in, fails_in, Showing, showing_in}
 use Rattle.hc_model.specs.Cases.{case_at, is_founding}
-use Rattle.hc_model.specs.ConsumerRows.{consumer_after, consumer_settled, consumer_acted, consumer_heard, consumer_made, by_opening, waiting, waiting_place, shown_place, own_after, left_to, due_after, back_in_line}
+use Rattle.hc_model.specs.ConsumerRows.{consumer_after, consumer_settled, consumer_acted, consumer_heard, consumer_made, by_head, by_fault, by_opening, waiting, waiting_place, shown_place, own_after, left_to, due_after, back_in_line}
 use Rattle.hc_model.specs.Dooms.{doomed, is_key}
 use Rattle.hc_model.specs.Effects.{gone}
 use Rattle.hc_model.specs.Entries.{Entry}
 use Rattle.hc_model.specs.ExchangeRows.{exchange_after, exchange_heard, exchange_acted, exchange_made}
-use Rattle.hc_model.specs.Exchanges.{exchange_in, exchange_at, is_for}
-use Rattle.hc_model.specs.Failures.{becomes_due}
+use Rattle.hc_model.specs.Exchanges.{family, exchange_in, exchange_at, is_for}
+use Rattle.hc_model.specs.Failures.{becomes_due, cause_of_stop, cause_of_loss, cause_by_loss, cause_of_head}
 use Rattle.hc_model.specs.Gone.{becomes_gone, goes_in}
-use Rattle.hc_model.specs.Reading.{reads, is_written}
-use Rattle.hc_model.specs.RepresentationRows.{representation_after, representation_heard, representation_acted, founded_at}
+use Rattle.hc_model.specs.Reading.{reads, is_written, source}
+use Rattle.hc_model.specs.RepresentationRows.{representation_after, representation_heard, representation_acted, founded_at, updates, headed, pieced}
 use Rattle.hc_model.specs.Rows.{Tables, Exchange, Representation, Consumer}
 use Rattle.hc_model.specs.StartingOver.{starts_over, sends_back, waits_at, loses_what_it_waits_for}
-use Rattle.hc_model.specs.Tables.{founds, binds}
+use Rattle.hc_model.specs.Tables.{founds, binds, starts_after, opened_after, openings_after}
 use Rattle.hc_model.specs.Writers.{loses_writing, goes_on_with, brings_body}
 use Rattle.hc_model.proofs.ActParts.{IsFarFrom}
+use Rattle.hc_model.proofs.Basics.{none_some}
+use Rattle.hc_model.proofs.Dues.{undue_of, other_stop}
+use Rattle.hc_model.proofs.PieceKeeps.{some_inj}
 use Rattle.hc_model.proofs.Tests.{and_false, then_false}
 
 pub plus_none : (n : ℕ) → n + 0 ≡ n
@@ -67,6 +72,27 @@ exchange_absent t e y other = by_opening (opening_in e.acts) refl
     by_opening (Some o) is = rw (other o is) refl
 
 -- REPRESENTATIONS
+
+-- the exchange of an event is of another family, and doesn't update it
+pub record IsOutside (t : Tables) (e : Entry) (r : ℕ) (v : Representation) (x : ℕ) (w : Exchange) : Type 0 where
+  pub number : nat_eq x r ≡ false
+  pub family_is : nat_eq (family x w) r ≡ false
+  pub updates : updates t e r w v ≡ false
+
+module _ (t : Tables) (e : Entry) (r : ℕ) (v : Representation) (x : ℕ) (w : Exchange) (row : t.exchange x ≡ Some w) (out : IsOutside t e r v x w) where
+  head_outside : (y : ℕ) (response : Response) (o : Option Exchange) → o ≡ Some w → headed t e r y response o v ≡ v
+  head_outside y response None is = refl
+  head_outside y response (Some u) is = let off : updates t e r u v ≡ false = ap (λ (z : Exchange). updates t e r z v) (some_inj u w is) ∙ out.updates in rw off refl
+
+  piece_outside : (y : ℕ) (bytes : List ℕ) (o : Option Exchange) → Some y ≡ Some x → o ≡ Some w → pieced e r y bytes o v ≡ v
+  piece_outside y bytes None same is = refl
+  piece_outside y bytes (Some u) same is = let off : nat_eq (family y u) r ≡ false = ap₂ (λ (z : ℕ) (q : Exchange). nat_eq (family z q) r) (some_inj y x same) (some_inj u w is) ∙ out.family_is in rw off refl
+
+  pub representation_unheard : (ev : Event) → exchange_in ev ≡ Some x → representation_heard t e r ev v ≡ v
+  representation_unheard (event.Head y response) is = head_outside y response (t.exchange y) (ap t.exchange (some_inj y x is) ∙ row)
+  representation_unheard (event.Piece y bytes) is = piece_outside y bytes (t.exchange y) is (ap t.exchange (some_inj y x is) ∙ row)
+  representation_unheard (event.End y) is = let off : nat_eq y r ≡ false = ap (λ n. nat_eq n r) (some_inj y x is) ∙ out.number in rw off refl
+  representation_unheard _ is = refl
 
 -- it stays, or becomes gone
 pub representation_frame : (t : Tables) (e : Entry) (r : ℕ) (v : Representation) → representation_heard t e r e.event v ≡ v → loses_in r e.acts ≡ false
@@ -148,6 +174,64 @@ starts_as t e c k fails sends = three (is_key (doomed t e) k.request.key && wait
     by_place (place.Down why) = refl
     by_place place.Over = refl
 
+-- the event says nothing of it: nor is it sent back by its head, or due what stops or what a head says
+pub record IsApart (t : Tables) (e : Entry) (c : ℕ) (k : Consumer) : Type 0 where
+  pub heard : consumer_heard t e c e.event k ≡ k
+  pub stops : cause_of_stop t e k ≡ None
+  pub heads : cause_of_head t e c e.event ≡ None
+  pub sends : (sends_back (case_at t e) && is_for (exchange_at t e.event) c) ≡ false
+
+-- an event of an exchange that was opened for another, and from which it doesn't read
+module _ (t : Tables) (e : Entry) (c : ℕ) (k : Consumer) (x : ℕ) (w : Exchange) (row : t.exchange x ≡ Some w) (other : nat_eq w.c c ≡ false) where
+  row_is : (y : ℕ) → Some y ≡ Some x → t.exchange y ≡ Some w
+  row_is y is = ap t.exchange (some_inj y x is) ∙ row
+
+  head_apart : (y : ℕ) (response : Response) (o : Option Exchange) → o ≡ Some w → by_head t e c y response o k ≡ k
+  head_apart y response None is = refl
+  head_apart y response (Some u) is = let apart : nat_eq u.c c ≡ false = ap (λ (z : Exchange). nat_eq z.c c) (some_inj u w is) ∙ other in rw apart refl
+
+  fault_apart : (y : ℕ) (o : Option Exchange) → o ≡ Some w → by_fault c y o k ≡ k
+  fault_apart y None is = refl
+  fault_apart y (Some u) is = let apart : nat_eq u.c c ≡ false = ap (λ (z : Exchange). nat_eq z.c c) (some_inj u w is) ∙ other in rw apart refl
+
+  heard_apart : (ev : Event) → exchange_in ev ≡ Some x → consumer_heard t e c ev k ≡ k
+  heard_apart (event.Head y response) is = head_apart y response (t.exchange y) (row_is y is)
+  heard_apart (event.Fault y) is = fault_apart y (t.exchange y) (row_is y is)
+  heard_apart (event.Cancel d) is = absurd (none_some x is)
+  heard_apart _ is = refl
+
+  not_for : (o : Option Exchange) → o ≡ Some w → is_for o c ≡ false
+  not_for o is = ap (λ z. is_for z c) is ∙ other
+
+  heads_apart : (ev : Event) → exchange_in ev ≡ Some x → cause_of_head t e c ev ≡ None
+  heads_apart (event.Head y response) is = let off = not_for (t.exchange y) (row_is y is) in rw off refl
+  heads_apart _ is = refl
+
+  pub apart_from : exchange_in e.event ≡ Some x → is_same_number (source t k) (Some x) ≡ false → IsApart t e c k
+  apart_from is reads_other = record {
+    heard = heard_apart e.event is;
+    stops = other_stop t e k (ap (is_same_number (source t k)) is ∙ reads_other);
+    heads = heads_apart e.event is;
+    sends = then_false (sends_back (case_at t e)) _ (not_for (exchange_at t e.event) (ap (option_and_then t.exchange) is ∙ row));
+  }
+
+-- no failure becomes due by the loss of a writing that it doesn't read
+pub loss_spared : (t : Tables) (e : Entry) (c : ℕ) (p : Place) → IsSpared t e p → cause_of_loss t e c p ≡ None
+loss_spared t e c (place.Bound r lo hi how) spared = by_row (t.representation r) refl
+  where
+    by_row : (o : Option Representation) → t.representation r ≡ o → cause_by_loss t e c r o ≡ None
+    by_row None row = refl
+    by_row (Some v) row = rw (spared r lo hi how v refl row) refl
+loss_spared t e c place.Line spared = refl
+loss_spared t e c (place.Passed r kept) spared = refl
+loss_spared t e c (place.Turn x) spared = refl
+loss_spared t e c (place.Direct x) spared = refl
+loss_spared t e c (place.Down why) spared = refl
+loss_spared t e c place.Over spared = refl
+
+pub undue_apart : (t : Tables) (e : Entry) (c : ℕ) (k : Consumer) → IsApart t e c k → IsSpared t e k.place → becomes_due t e c k ≡ None
+undue_apart t e c k apart spared = undue_of t e c k (record { stop = apart.stops; loss = loss_spared t e c k.place spared; head = apart.heads })
+
 module _ (t : Tables) (e : Entry) (c : ℕ) (k : Consumer) (said : IsFarFrom c e.acts) (spared : IsSpared t e k.place) (heard : consumer_heard t e c e.event k ≡ k) where
   opening_stays : (o : Option Opening) → opening_in e.acts ≡ o → by_opening t c o k ≡ k
   opening_stays None is = refl
@@ -183,6 +267,13 @@ module _ (t : Tables) (e : Entry) (c : ℕ) (k : Consumer) (said : IsFarFrom c e
   consumer_goes_back over =
       ap Some (ap (consumer_settled t e c k) (ap (consumer_acted t e c) heard ∙ acted_stays) ∙ rw over refl)
 
+-- whom nothing is said of stays, or starts over exactly where its key is doomed while it waits, or what it waits for becomes gone
+pub consumer_apart : (t : Tables) (e : Entry) (c : ℕ) (k : Consumer) → IsFarFrom c e.acts → IsSpared t e k.place → IsApart t e c k → (reads k.place ≡ false → k.due ≡ None)
+    → consumer_after t e c (Some k) ≡ Some (if (is_key (doomed t e) k.request.key && waits_at t k.place) || goes_from t e k.place then back_in_line e.now k else k)
+consumer_apart t e c k said spared apart idle =
+    consumer_frame t e c k said spared apart.heard (undue_apart t e c k apart spared) idle
+    ∙ ap (λ (b : Bool). Some (if b then back_in_line e.now k else k)) (starts_as t e c k said.fails apart.sends)
+
 pub consumer_absent : (t : Tables) (e : Entry) (c : ℕ) → consumer_made c e.now e.event ≡ None → consumer_after t e c None ≡ None
 unfolding consumer_after
 consumer_absent t e c none = none
@@ -192,6 +283,13 @@ consumer_absent t e c none = none
 -- nothing is founded, nor is anyone bound
 pub founds_nothing : (t : Tables) (e : Entry) → is_founding (case_at t e) ≡ false → founds t e ≡ None
 founds_nothing t e off = rw off refl
+
+pub opens_nothing : (t : Tables) (e : Entry) → opening_in e.acts ≡ None → (opened_after (opening_in e.acts) t.opened ≡ t.opened) × (openings_after (opening_in e.acts) t.openings ≡ t.openings)
+opens_nothing t e none = (ap (λ (o : Option Opening). opened_after o t.opened) none, ap (λ (o : Option Opening). openings_after o t.openings) none)
+
+pub starts_nobody : (x : ℕ) (ev : Event) (cs : List ℕ) → exchange_in ev ≡ Some x → starts_after ev cs ≡ cs
+starts_nobody x (event.Start c request) cs is = absurd (none_some x is)
+starts_nobody x _ cs is = refl
 
 pub binds_nobody : (t : Tables) (e : Entry) → is_founding (case_at t e) ≡ false → opening_in e.acts ≡ None → showing_in e.acts ≡ None → binds t e ≡ None
 binds_nobody t e off opens shows = rw (off, opens, shows) refl

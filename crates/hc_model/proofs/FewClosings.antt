@@ -1,0 +1,61 @@
+-- Where no head is refused, nothing doomed and no writing lost, just what somebody leaves is closed; and nothing makes room where
+-- nothing is written.
+use Rattle.std.proofs.Common.{◌≡◌, ℕ, List, [], ◌∷◌, Bool, true, false, Option, Some, None, refl, ap, sym, ◌∙◌}
+use mathlib.Core.Path.{fun_ext}
+use Rattle.std.specs.Prelude.{◌&&◌, ◌||◌, filter, reverse}
+use Rattle.hc_event.specs.declared.event.Event.{Event}
+use Rattle.hc_rules.specs.declared.room.Limits.{Limits}
+use Rattle.hc_rules.specs.declared.room.Write.{Write}
+use Rattle.hc_model.specs.Cases.{case_at}
+use Rattle.hc_model.specs.Closings.{closing, closes_row, must_close, is_refused, is_doomed, has_no_survivor, is_left, leaver, brings_head}
+use Rattle.hc_model.specs.Currents.{is_number}
+use Rattle.hc_model.specs.Dooms.{doomed}
+use Rattle.hc_model.specs.Entries.{Entry, unanswered}
+use Rattle.hc_model.specs.ExchangeRows.{exchange_heard}
+use Rattle.hc_model.specs.Exchanges.{family}
+use Rattle.hc_model.specs.Rows.{Tables, Exchange, Representation}
+use Rattle.hc_model.specs.Weights.{evicted, first_idle, room_by, room_for, write_in}
+use Rattle.hc_model.specs.Writers.{brings_body, loses_writing}
+use Rattle.hc_model.proofs.Tests.{and_false, then_false}
+
+pub record ClosesLittle (t : Tables) (e : Entry) : Type 0 where
+  pub unrefused : (x : ℕ) → (is_refused (case_at t e) && brings_head x e.event) ≡ false
+  pub undoomed : (x : ℕ) (w : Exchange) → is_doomed t e x w ≡ false
+  pub unlost : (r : ℕ) (v : Representation) → loses_writing t e r v ≡ false
+
+-- so at an event that brings neither a head nor a piece, and dooms nothing
+pub quiet_closes : (t : Tables) (e : Entry) → case_at t e ≡ None → doomed t e ≡ None → brings_body e.event ≡ false → ClosesLittle t e
+quiet_closes t e caseless doomless bodiless = record {
+  unrefused = λ x. rw caseless refl;
+  undoomed = λ x w. rw doomless refl;
+  unlost = λ r v. rw bodiless refl;
+}
+
+pub filter_none : (xs : List ℕ) → filter (λ x. false) xs ≡ []
+filter_none [] = refl
+filter_none (x ∷ xs) = filter_none xs
+
+module _ (t : Tables) (e : Entry) (little : ClosesLittle t e) where
+  no_survivor : (x r : ℕ) (o : Option Representation) → has_no_survivor t e x r o ≡ false
+  no_survivor x r None = refl
+  no_survivor x r (Some v) = and_false (is_number v.writer x && loses_writing t e r v) _ (then_false (is_number v.writer x) (loses_writing t e r v) (little.unlost r v))
+
+  must_by : (a b c d : Bool) → a ≡ false → b ≡ false → c ≡ false → (a || b || c || d) ≡ d
+  must_by a b c d p q r = rw (p, q, r) refl
+
+  pub must_as : (x : ℕ) (w : Exchange) → must_close t e x w ≡ is_left t x (leaver e)
+  must_as x w = must_by (is_refused (case_at t e) && brings_head x e.event) (is_doomed t e x w) (has_no_survivor t e x (family x w) (t.representation (family x w))) (is_left t x (leaver e)) (little.unrefused x) (little.undoomed x w) (no_survivor x (family x w) (t.representation (family x w)))
+
+  none_row : leaver e ≡ None → (x : ℕ) (o : Option Exchange) → closes_row t e x o ≡ false
+  none_row none x None = refl
+  none_row none x (Some w) = and_false (must_close t e x w) (exchange_heard t e x e.event w).is_open (must_as x w ∙ ap (is_left t x) none)
+
+  -- nothing, where nobody leaves
+  pub closes_nothing : leaver e ≡ None → closing t e ≡ []
+  unfolding closing
+  closes_nothing none = ap (λ (test : ℕ → Bool). filter test (reverse t.openings)) (fun_ext (λ x. none_row none x (t.exchange x))) ∙ filter_none (reverse t.openings)
+
+-- what writes nothing evicts nothing
+pub evicts_nothing : (limits : Limits) (t : Tables) (now : ℕ) (ev : Event) → write_in t (unanswered now ev) ev ≡ None → evicted limits t now ev ≡ []
+unfolding room_for
+evicts_nothing limits t now ev none = ap (λ (o : Option Write). first_idle t (unanswered now ev) (room_by limits t (unanswered now ev) o)) none

@@ -1,25 +1,23 @@
 -- What an event of a consumer comes to: itself, what is let go, and what it makes of exchanges and lists.
 use Rattle.std.proofs.Common.{◌≡◌, inl, inr, ℕ, ◌+◌, List, [], ◌∷◌, Bool, true, false, Option, Some, None, refl, ap, sym, ◌∙◌, subst}
 use Rattle.std.specs.Prelude.{◌==◌, nat_eq, if◌then◌else◌, option_map}
-use Rattle.hc_event.specs.Filters.{opening_in, asks_in, closes_in}
-use Rattle.hc_event.specs.declared.event.Event.{Event}
+use Rattle.hc_event.specs.Filters.{opening_in}
 use Rattle.hc_model.specs.declared.place.Place.{Place}
 use Rattle.hc_model.specs.declared.place.Place.TheVariants as place
 use Rattle.hc_model.specs.ActFilters.{loses_in}
-use Rattle.hc_model.specs.ConsumerRows.{consumer_after, consumer_made, back_in_line}
+use Rattle.hc_model.specs.ConsumerRows.{consumer_after, back_in_line}
 use Rattle.hc_model.specs.Effects.{with_consumer, counted, gone, let_go, let_all_go, let_some_go}
 use Rattle.hc_model.specs.Entries.{Entry}
 use Rattle.hc_model.specs.ExchangeRows.{exchange_after}
 use Rattle.hc_model.specs.Gone.{becomes_gone, goes_in}
 use Rattle.hc_model.specs.Lawful.{Lawful}
-use Rattle.hc_model.specs.Reading.{reads}
-use Rattle.hc_model.specs.RepresentationRows.{representation_after, founded_at}
-use Rattle.hc_model.specs.Rows.{Tables, Exchange, Representation, Consumer}
-use Rattle.hc_model.specs.Tables.{after_accepted, last_start_after, starts_after, opened_after, openings_after, received_in, added, to_front, founds, binds}
+use Rattle.hc_model.specs.RepresentationRows.{representation_after}
+use Rattle.hc_model.specs.Rows.{Tables, Representation, Consumer}
+use Rattle.hc_model.specs.Tables.{after_accepted, last_start_after, starts_after, opened_after, openings_after, received_in, added, to_front, binds}
 use Rattle.hc_model.proofs.ActParts.{IsFarFrom}
 use Rattle.hc_model.proofs.OfConsumers.{BringsNothing, consumer_alone, founds_nobody}
 use Rattle.hc_model.proofs.PieceKeeps.{eq_cases}
-use Rattle.hc_model.proofs.SameTables.{AreSame, same_tables, is_in, waits_for_any, back_from_any, without, all_go_is}
+use Rattle.hc_model.proofs.SameTables.{same_tables, is_in, waits_for_any, back_from_any, without, all_go_is}
 use Rattle.hc_model.proofs.Untouched.{goes_from, representation_frame, representation_absent, consumer_absent}
 
 -- u has what the entry makes of all but c, once these are let go

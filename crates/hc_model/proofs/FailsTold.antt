@@ -1,5 +1,5 @@
 -- Where its poll doesn't misread, nobody fails for a failed read of the store.
-use Rattle.std.proofs.Common.{◌≡◌, inl, inr, ℕ, Bool, true, false, cond, Option, Some, None, refl, ap, sym, ◌∙◌, subst}
+use Rattle.std.proofs.Common.{◌≡◌, inl, inr, ℕ, Bool, true, false, cond, Option, Some, None, refl, ap, sym, ◌∙◌}
 use Rattle.hc_range.specs.declared.range.Span.{Span}
 use Rattle.hc_sparse.specs.declared.run.Run.{Run}
 use Rattle.hc_event.specs.declared.event.Request.{Request}
@@ -24,7 +24,7 @@ use Rattle.hc_model.specs.Currents.{current}
 use Rattle.hc_model.specs.Moves as moves
 use Rattle.hc_model.specs.Moves.{Move, Nothing, Asks, Opens, Ends, Fails, gives, waits_for, opens_hole, shows_stored}
 use Rattle.hc_model.specs.Places.{Places, is_failed_read}
-use Rattle.hc_model.specs.Planning.{plan_view, plan_move, planned, fetched, current_row, binds_current}
+use Rattle.hc_model.specs.Planning.{plan_view, plan_move, fetched, current_row, binds_current}
 use Rattle.hc_model.specs.Polls.{move_of, shows_at, shows_bound, shows_direct, shows_answer, has_joined}
 use Rattle.hc_model.specs.Reading.{source, hi_of}
 use Rattle.hc_model.specs.Rows.{Tables, Exchange, Representation, Consumer}

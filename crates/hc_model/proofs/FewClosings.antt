@@ -1,6 +1,6 @@
 -- Where no head is refused, nothing doomed and no writing lost, just what somebody leaves is closed; and nothing makes room where
 -- nothing is written.
-use Rattle.std.proofs.Common.{◌≡◌, ℕ, List, [], ◌∷◌, Bool, true, false, Option, Some, None, refl, ap, sym, ◌∙◌}
+use Rattle.std.proofs.Common.{◌≡◌, ℕ, List, [], ◌∷◌, Bool, false, Option, Some, None, refl, ap, ◌∙◌}
 use mathlib.Core.Path.{fun_ext}
 use Rattle.std.specs.Prelude.{◌&&◌, ◌||◌, filter, reverse}
 use Rattle.hc_event.specs.declared.event.Event.{Event}

@@ -1,5 +1,5 @@
 -- What a poll does that opens an exchange for a hole: a first one binds its consumer, and a later one is that of a reader.
-use Rattle.std.proofs.Common.{◌≡◌, ℕ, [], ◌∷◌, true, false, Option, Some, None, refl, ap, sym, ◌∙◌, subst}
+use Rattle.std.proofs.Common.{◌≡◌, ℕ, [], true, Option, Some, None, refl, ap, sym, ◌∙◌, subst}
 use Rattle.hc_range.specs.declared.range.Span.{Span}
 use Rattle.hc_event.specs.declared.act.Need.{Need}
 use Rattle.hc_event.specs.declared.act.Need.TheVariants as need
@@ -11,7 +11,7 @@ use Rattle.hc_rules.specs.Requests.{range_of, wanted_of}
 use Rattle.hc_model.specs.declared.place.Place.TheVariants as place
 use Rattle.hc_model.specs.declared.place.BoundBy.{BoundBy}
 use Rattle.hc_model.specs.declared.place.BoundBy.TheVariants as by
-use Rattle.hc_model.specs.ConsumerRows.{opened_place, place_for_hole, bound_by_total, bound_to_wanted, unless_bound}
+use Rattle.hc_model.specs.ConsumerRows.{opened_place, place_for_hole, bound_to_wanted, unless_bound}
 use Rattle.hc_rules.specs.declared.need.Route.TheVariants as route
 use Rattle.hc_model.specs.Currents.{current, row_of}
 use Rattle.hc_model.specs.Effects.{Does, counted, used_last, with_consumer, with_opening, just_opened}

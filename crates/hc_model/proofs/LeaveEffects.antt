@@ -1,5 +1,5 @@
 -- What it does that a consumer ends, fails or is cancelled: it is over, and what nobody reads any more is closed.
-use Rattle.std.proofs.Common.{◌≡◌, ℕ, List, [], ◌∷◌, ◌++◌, Bool, true, false, Option, Some, None, refl, ap, sym, ◌∙◌}
+use Rattle.std.proofs.Common.{◌≡◌, ℕ, List, [], ◌++◌, false, Option, Some, None, refl, ap, sym, ◌∙◌}
 use Rattle.std.specs.Prelude.{map, nat_eq}
 use Rattle.hc_event.specs.declared.act.Act.{Act}
 use Rattle.hc_event.specs.declared.act.Act.TheVariants as act
@@ -10,7 +10,6 @@ use Rattle.hc_rules.specs.declared.room.Limits.{Limits}
 use Rattle.hc_model.specs.declared.place.Place.{Place}
 use Rattle.hc_model.specs.declared.place.Place.TheVariants as place
 use Rattle.hc_model.specs.Answers.{said}
-use Rattle.hc_model.specs.Currents.{is_number}
 use Rattle.hc_model.specs.Effects.{Does, counted, with_consumer, let_some_go, let_all_go, finished, left_by, going_with, with_leave}
 use Rattle.hc_model.specs.Entries.{Entry}
 use Rattle.hc_model.specs.Flaws.{NoFlaw}
@@ -27,18 +26,15 @@ use Rattle.hc_model.proofs.ConsumerEffects.{waits_as, representations, some_all}
 use Rattle.hc_model.proofs.FailsTold.{fails_told}
 use Rattle.hc_model.proofs.LeaveFrames.{IsFront, e, rest, nothing, far, acts_left, loses_as, goes_by, leaves}
 use Rattle.hc_model.proofs.LeaveFrames as front_of
+use Rattle.hc_model.proofs.LeftBy.{left_passed}
 use Rattle.hc_model.proofs.OfConsumers.{BringsNothing}
 use Rattle.hc_model.proofs.PollEffects.{loses_none}
 use Rattle.hc_model.proofs.SameTables.{is_in, in_one, waits_for_any, all_closed_is}
 
 module _ (t : Tables) (law : Lawful t) (c : ℕ) (k : Consumer) (row : t.consumer c ≡ Some k) where
-  -- who waits for a body leaves nothing
-  pub left_passed : (r : ℕ) (kept : Option ℕ) → k.place ≡ place.Passed r kept → left_by t c k ≡ None
-  left_passed r kept at = rw ((law.places.passed c r kept k row at).unowned, at) refl
-
-  -- so nothing goes with it that it waits for
+  -- nothing goes with what it leaves that it waits for
   unwaiting : (p : Place) → k.place ≡ p → waits_for_any (added (going_with t (left_by t c k)) []) p ≡ false
-  unwaiting (place.Passed r kept) at = ap (λ (z : Option ℕ). waits_for_any (added (going_with t z) []) (place.Passed r kept)) (left_passed r kept at)
+  unwaiting (place.Passed r kept) at = ap (λ (z : Option ℕ). waits_for_any (added (going_with t z) []) (place.Passed r kept)) (left_passed t law c k row r kept at)
   unwaiting place.Line at = refl
   unwaiting (place.Turn x) at = refl
   unwaiting (place.Bound r lo hi how) at = refl

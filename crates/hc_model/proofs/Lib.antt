@@ -208,3 +208,4 @@ pub mod MisreadEffects
 pub mod FewClosings
 pub mod LawfulRuns
 pub mod FailsTold
+pub mod LeftBy

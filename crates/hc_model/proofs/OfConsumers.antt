@@ -14,25 +14,25 @@ use Rattle.hc_model.specs.declared.place.Place.{Place}
 use Rattle.hc_model.specs.declared.place.Place.TheVariants as place
 use Rattle.hc_model.specs.ActFilters.{loses_in, misreads_in, fails_in, showing_in}
 use Rattle.hc_model.specs.Cases.{case_at, case_of, is_founding}
-use Rattle.hc_model.specs.Closings.{closing, closes_row, must_close, is_refused, is_doomed, has_no_survivor, is_left, is_left_by, leaver, brings_head, is_last_reader}
-use Rattle.hc_model.specs.ConsumerRows.{consumer_after, consumer_heard, consumer_made, consumer_acted, consumer_settled, due_after, back_in_line}
+use Rattle.hc_model.specs.Closings.{closing, closes_row, is_left, is_left_by, leaver, is_last_reader}
+use Rattle.hc_model.specs.ConsumerRows.{consumer_after, consumer_heard, consumer_made, consumer_acted, consumer_settled, back_in_line}
 use Rattle.hc_model.specs.Currents.{is_current, is_number}
 use Rattle.hc_model.specs.Dooms.{doomed, bypassed, is_key}
-use Rattle.hc_model.specs.Effects.{gone, left_by, is_unkeepable, going_with}
+use Rattle.hc_model.specs.Effects.{left_by}
 use Rattle.hc_model.specs.Entries.{Entry}
 use Rattle.hc_model.specs.ExchangeRows.{exchange_after, exchange_heard, exchange_acted}
-use Rattle.hc_model.specs.Exchanges.{exchange_in, exchange_at, family, is_open, is_headless}
-use Rattle.hc_model.specs.Failures.{becomes_due, cause_of_loss, cause_by_loss, cause_of_head}
-use Rattle.hc_model.specs.Gone.{becomes_gone, goes_itself, goes_by_head, ends_early, ends_founding, stops_early, is_keepable}
+use Rattle.hc_model.specs.Exchanges.{exchange_in, exchange_at, is_open}
+use Rattle.hc_model.specs.Failures.{becomes_due, cause_of_head}
+use Rattle.hc_model.specs.Gone.{becomes_gone, ends_early, ends_founding, stops_early, is_keepable}
 use Rattle.hc_model.specs.Orders.{Descends, AreOnce, InOrder}
 use Rattle.hc_model.specs.Owners.{Owners}
-use Rattle.hc_model.specs.Reading.{reads, own_open, shared, if_open, writing_in, is_written, is_open_writer, source}
-use Rattle.hc_model.specs.RepresentationRows.{representation_after, representation_heard, founded_at}
+use Rattle.hc_model.specs.Reading.{reads, own_open, shared, writing_in, is_written, source}
+use Rattle.hc_model.specs.RepresentationRows.{representation_heard, founded_at}
 use Rattle.hc_model.specs.Rows.{Tables, Exchange, Representation, Consumer}
 use Rattle.hc_model.specs.Sound.{Sound, Among, IsBound, is_bound}
 use Rattle.hc_model.specs.StartingOver.{starts_over, loses_what_it_waits_for}
 use Rattle.hc_model.specs.Tables.{added, founds, binds, binds_by_opening, binds_by_showing, to_front}
-use Rattle.hc_model.specs.Writers.{brings_body, loses_writing}
+use Rattle.hc_model.specs.Writers.{brings_body}
 use Rattle.hc_model.proofs.AboutKeeps.{own_open_of}
 use Rattle.hc_model.proofs.ActParts.{IsFarFrom}
 use Rattle.hc_model.proofs.ApartKeeps.{is_on}
@@ -44,7 +44,7 @@ use Rattle.hc_model.proofs.KeyActs.{test_some}
 use Rattle.hc_model.proofs.PieceKeeps.{eq_cases, some_inj}
 use Rattle.hc_model.proofs.Stops.{writer_about}
 use Rattle.hc_model.proofs.Sums.{reverse_once}
-use Rattle.hc_model.proofs.Tests.{and_false, then_false}
+use Rattle.hc_model.proofs.Tests.{then_false}
 use Rattle.hc_model.proofs.Untouched.{or_nothing, exchange_stays, exchange_absent, binds_nobody, loss_spared, spared_bodiless, consumer_frame, starts_as, goes_from}
 
 pub data IsOf (c : ℕ) : Event → Type 0 where

@@ -1,20 +1,17 @@
 -- What each poll does that opens an exchange: its number is new, its row, and its consumer owns it.
-use Rattle.std.proofs.Common.{◌≡◌, inl, inr, ℕ, ◌+◌, ◌<◌, List, [], ◌∷◌, Bool, true, false, Option, Some, None, refl, ap, sym, ◌∙◌, subst, arith}
+use Rattle.std.proofs.Common.{◌≡◌, inl, inr, ℕ, ◌+◌, List, [], ◌∷◌, false, Option, Some, None, refl, ap, sym, ◌∙◌, subst, arith}
 use Rattle.std.specs.Prelude.{◌==◌, nat_eq, if◌then◌else◌}
 use Rattle.hc_event.specs.Filters.{Opening, opening_in}
 use Rattle.hc_event.specs.declared.act.Need.{Need}
-use Rattle.hc_event.specs.declared.act.Need.TheVariants as need
-use Rattle.hc_event.specs.declared.event.Event.{Event}
 use Rattle.hc_event.specs.declared.event.Event.TheVariants as event
 use Rattle.hc_event.specs.declared.event.Request.{Request}
-use Rattle.hc_rules.specs.declared.need.Route.TheVariants as route
 use Rattle.hc_rules.specs.Needs.{route_of}
 use Rattle.hc_rules.specs.declared.room.Limits.{Limits}
 use Rattle.hc_model.specs.declared.place.Place.{Place}
 use Rattle.hc_model.specs.declared.place.Place.TheVariants as place
 use Rattle.hc_model.specs.ConsumerRows.{consumer_acted, opened_place, unless_bound}
 use Rattle.hc_model.specs.Currents.{current}
-use Rattle.hc_model.specs.Dooms.{bypassed, bypassed_for}
+use Rattle.hc_model.specs.Dooms.{bypassed_for}
 use Rattle.hc_model.specs.Effects.{Does, counted, with_consumer, with_opening, just_opened, let_all_go}
 use Rattle.hc_model.specs.Entries.{Entry}
 use Rattle.hc_model.specs.ExchangeRows.{exchange_after, exchange_made, aim_from, aim_of}

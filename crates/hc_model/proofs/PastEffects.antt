@@ -1,5 +1,5 @@
 -- What a poll does that opens an exchange past the store.
-use Rattle.std.proofs.Common.{◌≡◌, ℕ, [], ◌∷◌, false, Some, None, refl, ap, sym, ◌∙◌}
+use Rattle.std.proofs.Common.{◌≡◌, ℕ, [], Some, None, refl, ap, sym, ◌∙◌}
 use Rattle.hc_event.specs.declared.act.Need.{Need}
 use Rattle.hc_event.specs.declared.act.Need.TheVariants as need
 use Rattle.hc_event.specs.declared.event.Event.TheVariants as event
@@ -19,8 +19,8 @@ use Rattle.hc_model.specs.Polls.{move_of}
 use Rattle.hc_model.specs.Reading.{bound_to}
 use Rattle.hc_model.specs.Rows.{Tables, Consumer}
 use Rattle.hc_model.specs.Tables.{is_hole}
-use Rattle.hc_model.proofs.Basics.{false_true, none_some}
-use Rattle.hc_model.proofs.OpenEffects.{why, opens, keeps_all, binds_none, about_current}
+use Rattle.hc_model.proofs.Basics.{false_true}
+use Rattle.hc_model.proofs.OpenEffects.{why, keeps_all, binds_none, about_current}
 use Rattle.hc_model.proofs.OpenedAs.{Way}
 use Rattle.hc_model.proofs.OpenedAs as opened
 use Rattle.hc_model.proofs.PollEffects.{none_waits}

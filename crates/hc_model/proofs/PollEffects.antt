@@ -1,9 +1,9 @@
 -- What a poll does after which its consumer stays: its acts, what it leaves as it was, and its consumer.
-use Rattle.std.proofs.Common.{◌≡◌, inl, inr, ℕ, ◌+◌, List, [], ◌∷◌, ◌++◌, Bool, true, false, length, Option, Some, None, refl, ap, sym, ◌∙◌, subst}
+use Rattle.std.proofs.Common.{◌≡◌, inl, inr, ℕ, List, [], ◌++◌, Bool, true, false, Option, Some, None, refl, ap, sym, ◌∙◌, subst}
 use mathlib.Core.Path.{fun_ext}
-use Rattle.std.specs.Prelude.{◌==◌, ◌||◌, nat_eq, if◌then◌else◌, map}
+use Rattle.std.specs.Prelude.{◌==◌, nat_eq, if◌then◌else◌, map}
 use Rattle.hc_sparse.specs.declared.run.Run.{Run}
-use Rattle.hc_event.specs.Filters.{opening_in, asks_in, closes_in, evicts_in, shows_in, given_in, leaves_in}
+use Rattle.hc_event.specs.Filters.{opening_in, closes_in, evicts_in}
 use Rattle.hc_event.specs.declared.act.Act.{Act}
 use Rattle.hc_event.specs.declared.act.Act.TheVariants as act
 use Rattle.hc_event.specs.declared.act.Need.{Need}
@@ -17,7 +17,7 @@ use Rattle.hc_rules.specs.declared.room.Limits.{Limits}
 use Rattle.hc_model.specs.declared.place.Place.{Place}
 use Rattle.hc_model.specs.declared.place.Place.TheVariants as place
 use Rattle.hc_model.specs.ActFilters.{loses_in, misreads_in, leaver_in}
-use Rattle.hc_model.specs.Answers.{accepted, said, lost}
+use Rattle.hc_model.specs.Answers.{accepted, said}
 use Rattle.hc_model.specs.Closings.{closing}
 use Rattle.hc_model.specs.ConsumerRows.{consumer_after, consumer_acted}
 use Rattle.hc_model.specs.Dooms.{bypassed}

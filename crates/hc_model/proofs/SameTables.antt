@@ -1,5 +1,5 @@
 -- Tables whose parts are the same are the same, and what lists of effects come to.
-use Rattle.std.proofs.Common.{◌≡◌, ℕ, List, [], ◌∷◌, Bool, true, false, Option, Some, None, refl, ap, ap₂, sym, ◌∙◌}
+use Rattle.std.proofs.Common.{◌≡◌, ℕ, List, [], ◌∷◌, Bool, true, false, Option, Some, None, refl, ap, ap₂, ◌∙◌}
 use mathlib.Core.Path.{fun_ext}
 use Rattle.std.specs.Prelude.{◌==◌, ◌||◌, if◌then◌else◌, option_map}
 use Rattle.hc_model.specs.declared.place.Place.{Place}

@@ -1,6 +1,6 @@
 -- What it does that a consumer leaves and the seal of what it leaves fails: that is lost, and let go.
 use Rattle.std.proofs.Common.{◌≡◌, inl, inr, ℕ, List, [], ◌∷◌, ◌++◌, Bool, true, false, Option, Some, None, refl, ap, sym, ◌∙◌, subst}
-use Rattle.std.specs.Prelude.{◌&&◌, ◌||◌, ◌==◌, not, nat_eq, if◌then◌else◌, map, option_map}
+use Rattle.std.specs.Prelude.{◌||◌, ◌==◌, nat_eq, if◌then◌else◌, map, option_map}
 use Rattle.hc_event.specs.declared.act.Act.{Act}
 use Rattle.hc_event.specs.declared.act.Act.TheVariants as act
 use Rattle.hc_event.specs.declared.act.Cause.{Cause}
@@ -21,7 +21,7 @@ use Rattle.hc_model.specs.Gone.{becomes_gone}
 use Rattle.hc_model.specs.Lawful.{Lawful}
 use Rattle.hc_model.specs.Moves.{Ends, Fails, acts_of}
 use Rattle.hc_model.specs.Polls.{move_of, polled}
-use Rattle.hc_model.specs.RepresentationRows.{representation_after, representation_heard, representation_acted}
+use Rattle.hc_model.specs.RepresentationRows.{representation_after, representation_acted}
 use Rattle.hc_model.specs.Rows.{Tables, Exchange, Representation, Consumer}
 use Rattle.hc_model.specs.StartingOver.{loses_what_it_waits_for}
 use Rattle.hc_model.specs.Tables.{after_accepted, added}
@@ -31,13 +31,13 @@ use Rattle.hc_model.proofs.Basics.{none_some, number_is}
 use Rattle.hc_model.proofs.ConsumerEffects.{waits_as}
 use Rattle.hc_model.proofs.FailsTold.{fails_told}
 use Rattle.hc_model.proofs.KeyActs.{test_some}
-use Rattle.hc_model.proofs.LeaveEffects.{left_passed}
 use Rattle.hc_model.proofs.LeaveFrames.{IsFront, e, rest, nothing, far, acts_left, loses_as, goes_by, leaves}
 use Rattle.hc_model.proofs.LeaveFrames as front_of
+use Rattle.hc_model.proofs.LeftBy.{left_passed}
 use Rattle.hc_model.proofs.OfConsumers.{BringsNothing}
 use Rattle.hc_model.proofs.PieceKeeps.{eq_cases}
 use Rattle.hc_model.proofs.PollEffects.{loses_none}
-use Rattle.hc_model.proofs.SameTables.{is_in, waits_for_any, shut, all_closed_is}
+use Rattle.hc_model.proofs.SameTables.{is_in, waits_for_any, all_closed_is}
 use Rattle.hc_model.proofs.Tests.{eqb-same}
 use Rattle.hc_model.proofs.Untouched.{representation_frame, representation_absent}
 

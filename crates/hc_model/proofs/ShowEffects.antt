@@ -1,5 +1,5 @@
 -- What a poll does that shows a head: to who reads already, or by its plan, which binds.
-use Rattle.std.proofs.Common.{◌≡◌, ℕ, [], ◌∷◌, true, false, Option, Some, None, refl, ap, sym, ◌∙◌}
+use Rattle.std.proofs.Common.{◌≡◌, ℕ, [], true, false, Option, Some, None, refl, ap, sym, ◌∙◌}
 use Rattle.hc_event.specs.declared.act.Why.{Why}
 use Rattle.hc_event.specs.declared.event.Event.TheVariants as event
 use Rattle.hc_event.specs.declared.event.Response.{Response}

@@ -1,9 +1,8 @@
 -- What a start does.
-use Rattle.std.proofs.Common.{◌≡◌, inl, inr, ℕ, List, [], ◌∷◌, ◌++◌, Bool, true, false, Option, Some, None, refl, ap, sym, ◌∙◌, arith}
+use Rattle.std.proofs.Common.{◌≡◌, ℕ, [], ◌∷◌, ◌++◌, Bool, true, false, Some, None, refl, ap, ◌∙◌, arith}
 use Rattle.std.specs.Prelude.{nat_eq, nat_le, if◌then◌else◌, map}
 use Rattle.std.proofs.lemmas.Bool.Decides.{nat_tests}
 use Rattle.hc_event.specs.declared.act.Act.TheVariants as act
-use Rattle.hc_event.specs.declared.act.Refusal.{Refusal}
 use Rattle.hc_event.specs.declared.act.Refusal.TheVariants as refusal
 use Rattle.hc_event.specs.declared.event.Event.{Event}
 use Rattle.hc_event.specs.declared.event.Event.TheVariants as event
@@ -14,7 +13,7 @@ use Rattle.hc_model.specs.Answers.{accepted}
 use Rattle.hc_model.specs.Closings.{closing}
 use Rattle.hc_model.specs.ConsumerRows.{started, consumer_after}
 use Rattle.hc_model.specs.Denials.{denial, live}
-use Rattle.hc_model.specs.Effects.{Does, counted, with_start, with_consumer}
+use Rattle.hc_model.specs.Effects.{Does, counted, with_start}
 use Rattle.hc_model.specs.Entries.{Entry, unanswered}
 use Rattle.hc_model.specs.Flaws.{NoFlaw}
 use Rattle.hc_model.specs.Lawful.{Lawful}

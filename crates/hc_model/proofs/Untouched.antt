@@ -1,17 +1,18 @@
 -- Whoever and whatever an entry does not speak of stays as it was, but for what becomes gone, and who waits for that.
 use Rattle.std.proofs.Common.{◌≡◌, ℕ, ◌+◌, List, length, Bool, true, false, Option, Some, None, refl, ap, ap₂, sym, ◌∙◌, arith}
-use Rattle.std.specs.Prelude.{◌&&◌, ◌||◌, ◌==◌, not, nat_eq, if◌then◌else◌}
+use Rattle.std.specs.Prelude.{◌&&◌, ◌||◌, not, nat_eq, if◌then◌else◌}
 use Rattle.std.specs.Option.{option_or, option_and_then}
+use Rattle.hc_text.specs.declared.bytes.Key.{Key}
 use Rattle.hc_event.specs.Filters.{Opening, opening_in, asks_in, closes_in, leaves_in, shows_in, given_in}
+use Rattle.hc_event.specs.declared.act.Act.{Act}
 use Rattle.hc_event.specs.declared.event.Event.{Event}
 use Rattle.hc_event.specs.declared.event.Event.TheVariants as event
 use Rattle.hc_event.specs.declared.event.Response.{Response}
-use Rattle.hc_rules.specs.Lengths.{is_same_number}
 use Rattle.hc_model.specs.declared.place.Place.{Place}
 use Rattle.hc_model.specs.declared.place.Place.TheVariants as place
 use Rattle.hc_model.specs.declared.place.BoundBy.{BoundBy}
 use Rattle.hc_model.specs.ActFilters.{loses_in, fails_in, Showing, showing_in}
-use Rattle.hc_model.specs.Cases.{case_at, is_founding}
+use Rattle.hc_model.specs.Cases.{case_at, case_of, is_founding}
 use Rattle.hc_model.specs.ConsumerRows.{consumer_after, consumer_settled, consumer_acted, consumer_heard, consumer_made, by_head, by_fault, by_opening, waiting, waiting_place, shown_place, own_after, left_to, due_after, back_in_line}
 use Rattle.hc_model.specs.Dooms.{doomed, is_key}
 use Rattle.hc_model.specs.Effects.{gone}
@@ -20,15 +21,15 @@ use Rattle.hc_model.specs.ExchangeRows.{exchange_after, exchange_heard, exchange
 use Rattle.hc_model.specs.Exchanges.{family, exchange_in, exchange_at, is_for}
 use Rattle.hc_model.specs.Failures.{becomes_due, cause_of_stop, cause_of_loss, cause_by_loss, cause_of_head}
 use Rattle.hc_model.specs.Gone.{becomes_gone, goes_in}
-use Rattle.hc_model.specs.Reading.{reads, is_written, source}
+use Rattle.hc_model.specs.Reading.{reads, is_written}
 use Rattle.hc_model.specs.RepresentationRows.{representation_after, representation_heard, representation_acted, founded_at, updates, headed, pieced}
 use Rattle.hc_model.specs.Rows.{Tables, Exchange, Representation, Consumer}
 use Rattle.hc_model.specs.StartingOver.{starts_over, sends_back, waits_at, loses_what_it_waits_for}
 use Rattle.hc_model.specs.Tables.{founds, binds, starts_after, opened_after, openings_after}
-use Rattle.hc_model.specs.Writers.{loses_writing, goes_on_with, brings_body}
+use Rattle.hc_model.specs.Writers.{loses_writing, brings_body}
 use Rattle.hc_model.proofs.ActParts.{IsFarFrom}
 use Rattle.hc_model.proofs.Basics.{none_some}
-use Rattle.hc_model.proofs.Dues.{undue_of, other_stop}
+use Rattle.hc_model.proofs.Dues.{undue_of, stop_none}
 use Rattle.hc_model.proofs.PieceKeeps.{some_inj}
 use Rattle.hc_model.proofs.Tests.{and_false, then_false}
 
@@ -181,7 +182,7 @@ pub record IsApart (t : Tables) (e : Entry) (c : ℕ) (k : Consumer) : Type 0 wh
   pub heads : cause_of_head t e c e.event ≡ None
   pub sends : (sends_back (case_at t e) && is_for (exchange_at t e.event) c) ≡ false
 
--- an event of an exchange that was opened for another, and from which it doesn't read
+-- an event of an exchange that was opened for another
 module _ (t : Tables) (e : Entry) (c : ℕ) (k : Consumer) (x : ℕ) (w : Exchange) (row : t.exchange x ≡ Some w) (other : nat_eq w.c c ≡ false) where
   row_is : (y : ℕ) → Some y ≡ Some x → t.exchange y ≡ Some w
   row_is y is = ap t.exchange (some_inj y x is) ∙ row
@@ -207,13 +208,27 @@ module _ (t : Tables) (e : Entry) (c : ℕ) (k : Consumer) (x : ℕ) (w : Exchan
   heads_apart (event.Head y response) is = let off = not_for (t.exchange y) (row_is y is) in rw off refl
   heads_apart _ is = refl
 
-  pub apart_from : exchange_in e.event ≡ Some x → is_same_number (source t k) (Some x) ≡ false → IsApart t e c k
-  apart_from is reads_other = record {
+  -- where nothing is due by its stop
+  pub apart_from : exchange_in e.event ≡ Some x → cause_of_stop t e k ≡ None → IsApart t e c k
+  apart_from is unstopped = record {
     heard = heard_apart e.event is;
-    stops = other_stop t e k (ap (is_same_number (source t k)) is ∙ reads_other);
+    stops = unstopped;
     heads = heads_apart e.event is;
     sends = then_false (sends_back (case_at t e)) _ (not_for (exchange_at t e.event) (ap (option_and_then t.exchange) is ∙ row));
   }
+
+-- a piece and a doom say nothing of any consumer, and an end but that what it reads stops
+pub apart_piece : (t : Tables) (now x : ℕ) (bytes : List ℕ) (acts : List Act) (c : ℕ) (k : Consumer) → IsApart t (record { now = now; event = event.Piece x bytes; acts = acts }) c k
+unfolding case_of
+apart_piece t now x bytes acts c k = record { heard = refl; stops = stop_none t (record { now = now; event = event.Piece x bytes; acts = acts }) k refl; heads = refl; sends = refl }
+
+pub apart_doom : (t : Tables) (now : ℕ) (key : Key) (acts : List Act) (c : ℕ) (k : Consumer) → IsApart t (record { now = now; event = event.Doom key; acts = acts }) c k
+unfolding case_of
+apart_doom t now key acts c k = record { heard = refl; stops = stop_none t (record { now = now; event = event.Doom key; acts = acts }) k refl; heads = refl; sends = refl }
+
+pub apart_end : (t : Tables) (now x : ℕ) (acts : List Act) (c : ℕ) (k : Consumer) → cause_of_stop t (record { now = now; event = event.End x; acts = acts }) k ≡ None → IsApart t (record { now = now; event = event.End x; acts = acts }) c k
+unfolding case_of
+apart_end t now x acts c k unstopped = record { heard = refl; stops = unstopped; heads = refl; sends = refl }
 
 -- no failure becomes due by the loss of a writing that it doesn't read
 pub loss_spared : (t : Tables) (e : Entry) (c : ℕ) (p : Place) → IsSpared t e p → cause_of_loss t e c p ≡ None

@@ -175,7 +175,7 @@ starts_as t e c k fails sends = three (is_key (doomed t e) k.request.key && wait
     by_place (place.Down why) = refl
     by_place place.Over = refl
 
--- the event says nothing of it: nor is it sent back by its head, or due what stops or what a head says
+-- the event isn't about it: it hears nothing, no head sends it back, and nothing becomes due for it by a stop or a head
 pub record IsApart (t : Tables) (e : Entry) (c : ℕ) (k : Consumer) : Type 0 where
   pub heard : consumer_heard t e c e.event k ≡ k
   pub stops : cause_of_stop t e k ≡ None

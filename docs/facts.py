@@ -68,6 +68,7 @@ class Facts:
         self.endings()
         self.whose()
         self.passed()
+        self.aims()
         self.given()
         self.numbers()
         self.alone_bound()
@@ -398,6 +399,21 @@ class Facts:
                 self.holds("passed: current", not v.is_gone and v.key == k.request.key and of(self.current(self.t, v.key)) == r)
                 self.holds("passed: kept", kept is None or of(k.own) == kept and not self.W[kept].is_open)
                 self.holds("passed: own", of(k.own) == kept)
+
+    def aims(self):
+        """What an exchange is about, by its need, and that what it joined is that."""
+        for x, w in self.W.items():
+            need, aim, joined = w.need._name, of(w.aim), of(w.joined)
+            if need in ("Vary", "Validate", "Hole", "Unsatisfied"):
+                self.holds("aim: there " + need, aim in self.V and self.V[aim].key == w.request.key)
+            if need == "Miss":
+                self.holds("aim: none", aim is None)
+            if need == "Bypass":
+                self.holds("aim: bypassed " + ("one" if aim in self.V else "none"), aim is None or self.V[aim].is_gone)
+            self.holds("aim: joined", joined is None or joined == aim and need == "Hole")
+        for k in self.K.values():
+            if k.place._name == "Bound" and k.place.args()[3]._name == "FirstHole":
+                self.holds("aim: first hole", of(self.W[k.place.args()[3].args()[0]].aim) == k.place.args()[0])
 
     def given(self):
         """What a reader was given stands in the body, and not past its end."""

@@ -33,7 +33,7 @@ pub record IsAimed (t : Tables) : Type 0 where
   pub first : (c r lo y : ℕ) (hi : Option ℕ) (k : Consumer) (w : Exchange) → t.consumer c ≡ Some k → k.place ≡ place.Bound r lo hi (by.FirstHole y) → t.exchange y ≡ Some w → w.aim ≡ Some r
   pub joins : (x q : ℕ) (w : Exchange) → t.exchange x ≡ Some w → w.joined ≡ Some q → w.aim ≡ Some q
 
-aim_free : (t : Tables) (key : List ℕ) (p : Place) → bound_to p ≡ None → aim_from t key p ≡ current t key
+pub aim_free : (t : Tables) (key : List ℕ) (p : Place) → bound_to p ≡ None → aim_from t key p ≡ current t key
 aim_free t key place.Line free = refl
 aim_free t key (place.Passed r kept) free = refl
 aim_free t key (place.Turn x) free = refl

@@ -52,6 +52,7 @@ pub mod FirstKeeps
 pub mod Closed
 pub mod OwnFrom
 pub mod ExchangeFrom
+pub mod Asked
 pub mod OpenedAs
 pub mod WaitedAs
 pub mod Forward
@@ -209,3 +210,4 @@ pub mod FewClosings
 pub mod LawfulRuns
 pub mod FailsTold
 pub mod LeftBy
+pub mod AimRuns

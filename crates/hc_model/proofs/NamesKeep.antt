@@ -96,7 +96,7 @@ usable_there : (key : List ℕ) (o : Option Representation) → is_usable key o 
 usable_there key None h = absurd (let no : false ≡ true = h in cc)
 usable_there key (Some v) h = refl
 
-current_there : (t : Tables) (key : List ℕ) (r : ℕ) → current t key ≡ Some r → is_some (t.representation r) ≡ true
+pub current_there : (t : Tables) (key : List ℕ) (r : ℕ) → current t key ≡ Some r → is_some (t.representation r) ≡ true
 unfolding current
 current_there t key r is = usable_there key (t.representation r) (find_passes (λ q. is_usable key (t.representation q)) t.founded r is)
 

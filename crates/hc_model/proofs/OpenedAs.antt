@@ -1,5 +1,5 @@
 -- What an exchange is opened as: past the store, with the turn, for a first hole, or for a later one of who is bound.
-use Rattle.std.proofs.Common.{◌≡◌, inl, inr, ℕ, ◌+◌, Bool, true, false, cond, Option, Some, None, refl, ap, sym, ◌∙◌}
+use Rattle.std.proofs.Common.{◌≡◌, inl, inr, ℕ, ◌+◌, Bool, true, false, cond, Option, Some, None, refl, ap, sym, ◌∙◌, subst}
 use Rattle.hc_text.specs.declared.bytes.Key.{Key}
 use Rattle.hc_text.specs.declared.bytes.MethodName.{MethodName}
 use Rattle.hc_range.specs.declared.range.Span.{Span}
@@ -35,6 +35,7 @@ use Rattle.hc_model.specs.Reading.{bound_to}
 use Rattle.hc_model.specs.Rows.{Tables, Exchange, Representation, Consumer}
 use Rattle.hc_model.specs.Sound.{Sound}
 use Rattle.hc_model.specs.Steps.{read_view, step_move, later_hole, bound_row}
+use Rattle.hc_model.proofs.Asked.{Asked, AskedBy, plan_asks}
 use Rattle.hc_model.proofs.HoleLemmas.{bool_cases}
 use Rattle.hc_model.proofs.MoveBy.{MoveBy, IsHeard, move_by}
 use Rattle.hc_model.proofs.MoveBy as by
@@ -64,6 +65,7 @@ module _ (t : Tables) (now c : ℕ) (k : Consumer) where
     pub heard : IsHeard t k
     pub unread : bound_to k.place ≡ None → shows_at t k k.place ≡ None
     pub unshown : bound_to k.place ≡ None → k.shown ≡ false
+    pub asked : bound_to k.place ≡ None → Asked (plan_view t now c k) n
     pub way : Way n
 
   module _ (x : ℕ) (n : Need) (request : Request) where
@@ -132,6 +134,7 @@ module _ (t : Tables) (now c : ℕ) (k : Consumer) where
       heard = heard;
       unread = λ free. absurd (let no : Some r ≡ None = sym (ap bound_to at) ∙ free in cc);
       unshown = λ free. absurd (let no : Some r ≡ None = sym (ap bound_to at) ∙ free in cc);
+      asked = λ free. absurd (let no : Some r ≡ None = sym (ap bound_to at) ∙ free in cc);
       way = goes_on r lo hi how at (ap route_of h.need_is);
     }
     later_by hole (place.Direct y) heard at h v row = absurd (none_row v row)
@@ -207,22 +210,23 @@ module _ (t : Tables) (now c : ℕ) (k : Consumer) where
           heard = heard;
           unread = λ is. none;
           unshown = λ is. off;
+          asked = λ is. subst (Asked (plan_view t now c k)) (sym h.need_is) (j.s, j.current);
           way = fills a.r a.v span hole free (ap route_of h.need_is) a.current_is a.row (sym a.span_is ∙ j.wanted_is) (sym (ap (hole_of a.v) j.wanted_is) ∙ (sym a.hole_is ∙ j.hole_is)) h.need_is cached;
         }
 
-    by_plan : (p : Plan) → PlanBy (plan_view t now c k) p → bound_to k.place ≡ None → k.shown ≡ false → shows_at t k k.place ≡ None → IsHeard t k → plan_move t k p ≡ open_it → OpenedAs n request
-    by_plan _ (plans.turn d) free off none heard is = absurd (let never : moves.Waits (wait.Turn d) ≡ open_it = is in cc)
-    by_plan _ (plans.busy d kept plain) free off none heard is = absurd (let never : moves.Waits (wait.Busy d) ≡ open_it = is in cc)
-    by_plan _ plans.misses free off none heard is = absurd (let never : Fails cause.Miss ≡ open_it = is in cc)
-    by_plan _ (plans.passes_by m way) free off none heard is =
+    by_plan : (p : Plan) → PlanBy (plan_view t now c k) p → AskedBy (plan_view t now c k) p → bound_to k.place ≡ None → k.shown ≡ false → shows_at t k k.place ≡ None → IsHeard t k → plan_move t k p ≡ open_it → OpenedAs n request
+    by_plan _ (plans.turn d) asks free off none heard is = absurd (let never : moves.Waits (wait.Turn d) ≡ open_it = is in cc)
+    by_plan _ (plans.busy d kept plain) asks free off none heard is = absurd (let never : moves.Waits (wait.Busy d) ≡ open_it = is in cc)
+    by_plan _ plans.misses asks free off none heard is = absurd (let never : Fails cause.Miss ≡ open_it = is in cc)
+    by_plan _ (plans.passes_by m way) asks free off none heard is =
         let same = opens_same (t.opened + 1) m k.request is in
-        record { key_is = sym (ap (λ (z : Request). z.key) same.1); method_is = sym (ap (λ (z : Request). z.method) same.1); plain = λ at. absurd (direct_other m way (same.0 ∙ at)); bypasses = λ at. absurd (direct_bypass m way (same.0 ∙ at)); heard = heard; unread = λ is. none; unshown = λ is. off; way = passes_by free (sym (ap route_of same.0) ∙ way) }
-    by_plan _ (plans.fetches m way plain bypass cached) free off none heard is =
+        record { key_is = sym (ap (λ (z : Request). z.key) same.1); method_is = sym (ap (λ (z : Request). z.method) same.1); plain = λ at. absurd (direct_other m way (same.0 ∙ at)); bypasses = λ at. absurd (direct_bypass m way (same.0 ∙ at)); heard = heard; unread = λ is. none; unshown = λ is. off; asked = λ at. subst (Asked (plan_view t now c k)) same.0 asks; way = passes_by free (sym (ap route_of same.0) ∙ way) }
+    by_plan _ (plans.fetches m way plain bypass cached) asks free off none heard is =
         let same = opens_same (t.opened + 1) m (fetched t k m) is in
-        record { key_is = sym (ap (λ (z : Request). z.key) same.1) ∙ fetched_key m; method_is = sym (ap (λ (z : Request). z.method) same.1) ∙ fetched_method m; plain = λ at. sym (bypassing_is k.request) ∙ plain (same.0 ∙ at); bypasses = λ at. sym (bypassing_is k.request) ∙ bypass (same.0 ∙ at); heard = heard; unread = λ is. none; unshown = λ is. off; way = fetches free (sym (ap route_of same.0) ∙ way) (cached_is cached) }
-    by_plan _ (plans.joins why cached j) free off none heard is = absurd (binds_opens why None (current t k.request.key) is)
-    by_plan _ (plans.reads why span cached j) free off none heard is = absurd (binds_opens why (Some span) (current t k.request.key) is)
-    by_plan _ (plans.fills span hole cached j nobody) free off none heard is = first_by span hole (cached_is cached) j free off none heard ((hole_opens k.request (current_row t k) hole is).2)
+        record { key_is = sym (ap (λ (z : Request). z.key) same.1) ∙ fetched_key m; method_is = sym (ap (λ (z : Request). z.method) same.1) ∙ fetched_method m; plain = λ at. sym (bypassing_is k.request) ∙ plain (same.0 ∙ at); bypasses = λ at. sym (bypassing_is k.request) ∙ bypass (same.0 ∙ at); heard = heard; unread = λ is. none; unshown = λ is. off; asked = λ at. subst (Asked (plan_view t now c k)) same.0 asks; way = fetches free (sym (ap route_of same.0) ∙ way) (cached_is cached) }
+    by_plan _ (plans.joins why cached j) asks free off none heard is = absurd (binds_opens why None (current t k.request.key) is)
+    by_plan _ (plans.reads why span cached j) asks free off none heard is = absurd (binds_opens why (Some span) (current t k.request.key) is)
+    by_plan _ (plans.fills span hole cached j nobody) asks free off none heard is = first_by span hole (cached_is cached) j free off none heard ((hole_opens k.request (current_row t k) hole is).2)
 
     -- SHOWING
 
@@ -257,7 +261,7 @@ module _ (t : Tables) (now c : ℕ) (k : Consumer) where
     by_move want _ (by.down why at) is = absurd (let never : Fails why ≡ open_it = is in cc)
     by_move want _ (by.over at) is = absurd (let never : Nothing ≡ open_it = is in cc)
     by_move want _ (by.reads shown heard) is = step_opens want (read_step (read_view t want c k)) heard is
-    by_move want _ (by.plans shown free none heard) is = by_plan (plan_of (plan_view t now c k)) (plan_by (plan_view t now c k)) free shown none heard is
+    by_move want _ (by.plans shown free none heard) is = by_plan (plan_of (plan_view t now c k)) (plan_by (plan_view t now c k)) (plan_asks (plan_view t now c k)) free shown none heard is
 
   pub opening_is : (o : Opening) (m : Move) → IsOpening o m → m ≡ Opens o.x o.need o.request
   opening_is o _ said.opens = refl

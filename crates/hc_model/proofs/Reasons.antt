@@ -94,7 +94,7 @@ aimed_by limits contents h e false taken may run owed a =
     subst IsAimed (next_tables contents h e taken)
     (of_real limits t e (λ z. IsAimed (after_accepted t z)) owed taken (λ going real. aimed_kept limits t e.now (flaw_in e.acts) k.is_sound k.is_owned e.event going a))
 
-aimed : OfRuns IsAimed
+pub aimed : OfRuns IsAimed
 unfolding tables
 aimed limits contents [] may run = aimed_begun contents
 aimed limits contents (e ∷ h) may run = aimed_by limits contents h e (is_denied e.acts) refl may run.0 run.1 (aimed limits contents h may run.0)

@@ -46,6 +46,7 @@ pub mod Endings
 pub mod Whose
 pub mod Passed
 pub mod Given
+pub mod Aims
 pub mod Alone
 pub mod Growing
 pub mod Losses

@@ -4,6 +4,7 @@ ghost use Rattle.hc_model.specs.Reads.{OneHeadIsShown, BodiesAreRead, GivesNext,
 ghost use Rattle.hc_model.specs.Keys.{IsOfOneKey, LawOfOneKey, KeysAreKept, KeysBegin};
 ghost use Rattle.hc_model.specs.Laws.{SoundDeliversOnce, DeliveriesAreKept, BodiesAreKept, NumbersAreKept, NamesAreKept, OneCurrentIsKept, StoresAreKept, StartsAreSound, WholeIsWhole, AfterEach, AreBound, KnowEnds, OwnedAfterEach, AreToBeShown, OwedAfterEach, OwnersAreKnown, TurnsAreOne, TurnsAreKept, TurnsBegin, HasOneTurn, KeysInRuns, BarrierIsKept, BarrierBegins, DoomsInRuns, TruncatedIsFront, IsTruthful, TurnsGo, ReadersGo, FewGiveWay, AreRead, AreUndue, ReadAbout, MeasuredAfterEach, BeginningsAreMeasured, AreGrowing, KeptByEntries, AreServed, AreHad, SurvivorsGoOn, BeginningsAreStarts, AfterDenials, OfRuns, OfRunsIn, LeavesInRuns, DeliversOnce, BodiesGrowInRuns, WaitsEnd, FitsInRuns, FewInRuns};
 ghost use Rattle.hc_model.specs.Owners.{Owners};
+ghost use Rattle.hc_model.specs.Aims.{Aims, CaseWithoutAim};
 ghost use Rattle.hc_model.specs.Alone.{Alone};
 ghost use Rattle.hc_model.specs.Endings.{Endings};
 ghost use Rattle.hc_model.specs.Given.{Given};
@@ -254,6 +255,15 @@ pub fn exchanges_are_somebodys()
 /// which is over, in every run; who kept none owns none.
 pub fn passed_wait_for_current()
     ensures { OfRuns Passed }
+{}
+
+/// Who asks for bytes of what is stored, whether that still holds, or for what that doesn't answer names it, in every
+/// run: a representation that is there, of the key of its request. Who asks since nothing was current names none; and
+/// what joined, or fills a first hole, is about just that. But for who validates or asks for a hole the case of a head is
+/// the same whatever its exchange is about.
+pub fn aims_are_named()
+    ensures named { OfRuns Aims }
+    ensures cases { CaseWithoutAim }
 {}
 
 /// What a reader was given stands in the body from where it began, so not past what came, and not past its end, in every

@@ -14,6 +14,7 @@ TURNS = ("Bypass", "Miss", "Vary", "Validate")
 CONSTANTS = {"Exchanges": "base promised front", "Currents": "current", "Reading": "is_written bound offset hi_of own_open source",
              "Writers": "came_alone exclusive", "Dooms": "doomed", "Lines": "turn", "Weights": "weights", "Polls": "move_of has_joined", "Steps": "held",
              "Keys": "concerns_exchange concerns_representation concerns_consumer loses", "ConsumerRows": "back_in_line",
+             "Evictions": "evict_all unevicting", "Tables": "after_accepted", "StartingOver": "starts_over", "Flaws": "flaw_in",
              "Histories": "opened_in answered_in opening_of head_of delivered_of has_ended joined_of request_of since_of given_of shown_of "
                           "was_lost pieces_of stored_of over begun_with", "Reads": "ReadsEach body_of"}
 
@@ -78,6 +79,7 @@ class Facts:
             self.holds("within the limit", self.weights(old, entry) <= limits.max_total or not self.writes(entry))
             self.holds("few are evicted", sum(act._name == "Evicted" for act in entry.acts) <= 2)
             self.one_key(old, t, entry)
+            self.evictions(old, t, entry)
         self.entries.insert(0, entry)
 
     def writes(self, entry):
@@ -540,6 +542,20 @@ class Facts:
             self.holds("left: whole alone", head.status != 206 and all(cell.x == r for cell in cells))
             comes = not v.is_lost and of(v.writer) == r and r in self.W and self.W[r].is_open
             self.holds("left: comes or is all there", v.is_gone or comes or len(cells) == of(head.total))
+
+    def evictions(self, old, new, entry):
+        """What makes room comes last."""
+        gone = tuple(act.args()[0] for act in entry.acts if act._name == "Evicted")
+        if not gone:
+            return
+        flaw = self.flaw_in(entry.acts)
+        left = entry.with_fields(acts=tuple(self.unevicting(old, entry.now, entry.event, flaw)))
+        self.holds("evicted: acts", not any(act._name == "Evicted" for act in left.acts))
+        owed = self.evict_all(gone, self.after_accepted(old, left))
+        self.holds("evicted: lists", all(getattr(owed, name) == getattr(new, name) for name in ("moment", "starts", "openings", "founded", "used")))
+        self.holds("evicted: exchanges", all(same(new.exchange(x), owed.exchange(x)) for x in new.openings))
+        self.holds("evicted: representations", all(same_row(of(new.representation(r)), of(owed.representation(r))) for r in new.founded))
+        self.holds("evicted: consumers", all(of(new.consumer(c)) == of(owed.consumer(c)) for c in new.starts))
 
     def one_key(self, old, new, entry):
         for x in old.openings:

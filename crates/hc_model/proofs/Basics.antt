@@ -68,6 +68,12 @@ pub number_yes : (o : Option ℕ) (n : ℕ) → o ≡ Some n → is_number o n �
 number_yes None n is = absurd (none_some n is)
 number_yes (Some m) n is = let same : m ≡ n = cc in let test : nat_eq m n ≡ true = grind (arith, nat_tests) in test
 
+-- FUNCTIONS
+
+-- functions that agree everywhere are one
+pub same_functions : {A : Type 0} {B : Type 0} (f g : A → B) → ((a : A) → f a ≡ g a) → f ≡ g
+same_functions f g same = λ i. λ a. same a i
+
 -- LISTS AND NUMBERS
 
 pub append_none : {A : Type 0} (xs : List A) → (xs ++ []) ≡ xs

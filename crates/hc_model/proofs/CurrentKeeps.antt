@@ -17,7 +17,8 @@ use Rattle.hc_model.specs.Laws.{OneCurrentIsKept}
 use Rattle.hc_model.specs.RepresentationRows.{representation_after, representation_heard, representation_acted, founded_at, represented, headed, renewed, updates, pieced, ended, length_in}
 use Rattle.hc_model.specs.Exchanges.{family, exchange_at}
 use Rattle.hc_model.specs.Rows.{Tables, Exchange, Representation}
-use Rattle.hc_model.specs.Sound.{Sound, Among}
+use Rattle.hc_model.specs.Sound.{Sound, Among, OneCurrent}
+use Rattle.hc_model.specs.Tables.{after_accepted}
 use Rattle.hc_model.proofs.Basics.{or_left, or_right, or_false}
 use Rattle.hc_model.proofs.HoleLemmas.{bool_cases}
 use Rattle.hc_model.proofs.PieceKeeps.{some_inj}
@@ -204,7 +205,10 @@ one t e r q z u s (founded x response w at here is row key none) (founded x' res
     head_inj : (a b : ℕ) (p q : Response) → event.Head a p ≡ event.Head b q → a ≡ b
     head_inj a b p q h = ap number_in h
 
-pub one_current_is_kept : OneCurrentIsKept
-one_current_is_kept limits t now flaw s event r q z u row row' fresh fresh' same_key =
-    let e : Entry = record { now = now; event = event; acts = accepted limits t now event flaw } in
+-- after any entry
+pub one_current_after : (t : Tables) (e : Entry) → Sound t → OneCurrent (after_accepted t e)
+one_current_after t e s r q z u row row' fresh fresh' same_key =
     one t e r q z u s (was_or_founded t e r (t.representation r) z refl row) (was_or_founded t e q (t.representation q) u refl row') fresh fresh' same_key
+
+pub one_current_is_kept : OneCurrentIsKept
+one_current_is_kept limits t now flaw s event = one_current_after t (record { now = now; event = event; acts = accepted limits t now event flaw }) s

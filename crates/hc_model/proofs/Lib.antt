@@ -211,3 +211,9 @@ pub mod LawfulRuns
 pub mod FailsTold
 pub mod LeftBy
 pub mod AimRuns
+pub mod GivingWay
+pub mod Alike
+pub mod EvictedRows
+pub mod EvictsLast
+pub mod Evicting
+pub mod IdleNow

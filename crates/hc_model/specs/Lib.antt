@@ -43,6 +43,7 @@ pub mod Sizes
 pub mod StoredHeads
 pub mod Places
 pub mod Endings
+pub mod Evictions
 pub mod Whose
 pub mod Passed
 pub mod Given

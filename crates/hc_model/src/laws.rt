@@ -7,6 +7,7 @@ ghost use Rattle.hc_model.specs.Owners.{Owners};
 ghost use Rattle.hc_model.specs.Aims.{Aims, CaseWithoutAim};
 ghost use Rattle.hc_model.specs.Alone.{Alone};
 ghost use Rattle.hc_model.specs.Endings.{Endings};
+ghost use Rattle.hc_model.specs.Evictions.{EvictsOne, AnyLeavesOneCurrent, EvictionsComeLast, IdleButGone, MakesRoom, SomeGiveWay, HasNoRoom, HasTooLarge, WritesNothing};
 ghost use Rattle.hc_model.specs.Given.{Given};
 ghost use Rattle.hc_model.specs.Growing.{Growing, StopsInRuns};
 ghost use Rattle.hc_model.specs.Losses.{Brings, Losses};
@@ -206,6 +207,24 @@ pub fn few_give_way()
     ensures fits { FitsInRuns }
     ensures runs { FewInRuns }
     ensures few { FewGiveWay }
+{}
+
+/// What makes room comes last: an accepted event is answered by what makes room, and then by the acts that are owed without
+/// that, which show the same flaw and allow the same ones; and the tables are those after it without that, once each of
+/// those is evicted, one after another. One that is evicted is gone, and whoever was let through to it starts over: nobody
+/// is bound, live or current for another key who wasn't. What is idle is what was, but for what the event itself makes gone;
+/// and which of them give way is told by a loop: while all pass the limit with what is written, the first one goes; none
+/// where even all of them are too little, the write is too large, or nothing is written.
+pub fn evictions_come_last()
+    ensures last { EvictionsComeLast }
+    ensures one { EvictsOne }
+    ensures any { AnyLeavesOneCurrent }
+    ensures idle { IdleButGone }
+    ensures room { MakesRoom }
+    ensures enough { SomeGiveWay }
+    ensures full { HasNoRoom }
+    ensures large { HasTooLarge }
+    ensures none { WritesNothing }
 {}
 
 /// A store may begin with what a run leaves, but for the limits of numbers, where no head that came had more

@@ -1,0 +1,230 @@
+-- Two entries of one event whose acts say the same but for what makes room do the same but for that.
+use Rattle.std.proofs.Common.{◌≡◌, ℕ, List, [], ◌∷◌, ◌++◌, Bool, Option, Some, None, refl, ap, ◌∙◌}
+use Rattle.std.specs.Prelude.{map, ◌==◌, ◌||◌, ◌&&◌, not, if◌then◌else◌}
+use Rattle.hc_event.specs.Filters.{Opening, opening_in, asks_in, closes_in, shows_in, given_in, leaves_in}
+use Rattle.hc_event.specs.declared.act.Act.{Act}
+use Rattle.hc_event.specs.declared.act.Act.TheVariants as act
+use Rattle.hc_event.specs.declared.event.Event.{Event}
+use Rattle.hc_event.specs.declared.event.Event.TheVariants as event
+use Rattle.hc_event.specs.declared.event.Response.{Response}
+use Rattle.hc_rules.specs.declared.heads.HeadCase.{HeadCase}
+use Rattle.hc_rules.specs.declared.heads.HeadCase.TheVariants as case
+use Rattle.hc_model.specs.declared.place.Place.{Place}
+use Rattle.hc_model.specs.declared.place.Place.TheVariants as place
+use Rattle.hc_model.specs.ActFilters.{loses_in, has_loss, misreads_in, fails_in, wait_in, showing_in}
+use Rattle.hc_model.specs.Cases.{case_at, case_of}
+use Rattle.hc_model.specs.ConsumerRows.{consumer_heard, by_head, becomes_shared, is_resumed, waiting, by_opening, own_after, left_to, consumer_acted}
+use Rattle.hc_model.specs.Currents.{row_of, is_current}
+use Rattle.hc_model.specs.Dooms.{doomed, doomed_in, doomed_by_head, doomed_by_case, bypassed, bypassed_by, is_key}
+use Rattle.hc_model.specs.Entries.{Entry}
+use Rattle.hc_model.specs.ExchangeRows.{exchange_after, exchange_heard, exchange_acted, exchange_made}
+use Rattle.hc_model.specs.Exchanges.{exchange_at, family}
+use Rattle.hc_model.specs.Failures.{becomes_due, cause_of_loss, cause_by_loss, cause_of_head}
+use Rattle.hc_model.specs.Gone.{goes_by_case, goes_by_exchange, ends_founding, is_keepable, goes_itself}
+use Rattle.hc_model.specs.RepresentationRows.{representation_heard, headed, pieced, founded_at}
+use Rattle.hc_model.specs.Rows.{Tables, Exchange, Representation, Consumer}
+use Rattle.hc_model.specs.Tables.{founds, binds}
+use Rattle.hc_model.specs.Writers.{loses_writing, goes_on_with}
+use Rattle.hc_model.specs.Writes.{written_in, head_writes, first_found, sealed, seals_at, sealed_by, is_sealed, stops}
+
+-- the acts say the same but for what makes room
+pub record AreAlike (a b : List Act) : Type 0 where
+  pub loses : (r : ℕ) → loses_in r a ≡ loses_in r b
+  pub loss : has_loss a ≡ has_loss b
+  pub misreads : (r : ℕ) → misreads_in r a ≡ misreads_in r b
+  pub fails : (c : ℕ) → fails_in c a ≡ fails_in c b
+  pub waits : (c : ℕ) → wait_in c a ≡ wait_in c b
+  pub showing : showing_in a ≡ showing_in b
+  pub opens : opening_in a ≡ opening_in b
+  pub asks : (x : ℕ) → asks_in x a ≡ asks_in x b
+  pub closes : (x : ℕ) → closes_in x a ≡ closes_in x b
+  pub shows : (c : ℕ) → shows_in c a ≡ shows_in c b
+  pub gives : (c : ℕ) → given_in c a ≡ given_in c b
+  pub leaves : (c : ℕ) → leaves_in c a ≡ leaves_in c b
+
+pub alike_evicted : (rs : List ℕ) (b : List Act) → AreAlike (map act.Evicted rs ++ b) b
+alike_evicted [] b = record { loses = λ r. refl; loss = refl; misreads = λ r. refl; fails = λ c. refl; waits = λ c. refl; showing = refl; opens = refl; asks = λ x. refl; closes = λ x. refl; shows = λ c. refl; gives = λ c. refl; leaves = λ c. refl }
+alike_evicted (r ∷ rs) b =
+    let k = alike_evicted rs b in
+    record { loses = k.loses; loss = k.loss; misreads = k.misreads; fails = k.fails; waits = k.waits; showing = k.showing; opens = k.opens; asks = k.asks; closes = k.closes; shows = k.shows; gives = k.gives; leaves = k.leaves }
+
+any_of_five : (a b c d f p q x y z : Bool) → a ≡ p → b ≡ q → c ≡ x → d ≡ y → f ≡ z → (a || b || c || d || f) ≡ (p || q || x || y || z)
+any_of_five a b c d f p q x y z at bt ct dt ft = rw (at, bt, ct, dt, ft) refl
+
+module _ (t : Tables) (now : ℕ) (ev : Event) (a b : List Act) (k : AreAlike a b) where
+  abbrev e : Entry
+  e = record { now = now; event = ev; acts = a }
+
+  abbrev f : Entry
+  f = record { now = now; event = ev; acts = b }
+
+  pub case_same : case_at t e ≡ case_at t f
+  case_same = ap (λ l. case_of t l ev) k.loss
+
+  -- WHAT GOES
+
+  doomed_row : (response : Response) (z : Option Exchange) → doomed_by_head t e response z ≡ doomed_by_head t f response z
+  doomed_row response None = refl
+  doomed_row response (Some w) = ap (λ g. doomed_by_case g w response) case_same
+
+  doomed_by : (z : Event) → doomed_in t e z ≡ doomed_in t f z
+  doomed_by (event.Head x response) = doomed_row response (t.exchange x)
+  doomed_by (event.Doom key) = refl
+  doomed_by _ = refl
+
+  pub doomed_same : doomed t e ≡ doomed t f
+  unfolding doomed
+  doomed_same = doomed_by ev
+
+  bypassed_same : bypassed e ≡ bypassed f
+  bypassed_same = ap bypassed_by k.opens
+
+  by_case_same : (r : ℕ) (g : Option HeadCase) (w : Exchange) → goes_by_case t e r g w ≡ goes_by_case t f r g w
+  by_case_same r (Some case.FirstPassesBy) w = rw k.loss refl
+  by_case_same r _ w = refl
+
+  by_exchange_same : (r : ℕ) (z : Option Exchange) → goes_by_exchange t e r z ≡ goes_by_exchange t f r z
+  by_exchange_same r None = refl
+  by_exchange_same r (Some w) = ap (λ g. goes_by_case t e r g w) case_same ∙ by_case_same r (case_at t f) w
+
+  ends_same : (r : ℕ) (z : Option Exchange) → ends_founding e r z ≡ ends_founding f r z
+  ends_same r None = refl
+  ends_same r (Some w) = rw (k.closes r) refl
+
+  pub itself_same : (r : ℕ) (v : Representation) → goes_itself t e r v ≡ goes_itself t f r v
+  itself_same r v =
+      any_of_five _ _ _ _ _ _ _ _ _ _
+      (ap (λ z. is_current t v.key r && (is_key z v.key || is_key (bypassed e) v.key)) doomed_same ∙ ap (λ z. is_current t v.key r && (is_key (doomed t f) v.key || is_key z v.key)) bypassed_same)
+      (by_exchange_same r (exchange_at t ev)) (k.loses r) (k.misreads r)
+      (ap (λ z. (v.head.status == 200 && z) && not (is_keepable v)) (ends_same r (t.exchange r)))
+
+  -- EXCHANGES
+
+  made_same : (x : ℕ) (z : Option Opening) → exchange_made t e x z ≡ exchange_made t f x z
+  made_same x None = refl
+  made_same x (Some o) = refl
+
+  heard_exchange : (x : ℕ) (w : Exchange) (z : Event) → exchange_heard t e x z w ≡ exchange_heard t f x z w
+  heard_exchange x w (event.Head y response) = rw k.loss refl
+  heard_exchange x w _ = refl
+
+  pub exchange_same : (x : ℕ) (z : Option Exchange) → exchange_after t e x z ≡ exchange_after t f x z
+  unfolding exchange_after
+  exchange_same x None = ap (exchange_made t e x) k.opens ∙ made_same x (opening_in b)
+  exchange_same x (Some w) = ap Some (ap (exchange_acted x a) (heard_exchange x w ev) ∙ rw (k.asks x, k.closes x) refl)
+
+  pub founds_same : founds t e ≡ founds t f
+  founds_same = rw k.loss refl
+
+  pub binds_same : binds t e ≡ binds t f
+  binds_same = rw (k.loss, k.opens, k.showing) refl
+
+  -- REPRESENTATIONS
+
+  pub founded_same : (r : ℕ) (z : Event) → founded_at t e r z ≡ founded_at t f r z
+  founded_same r (event.Head x response) = rw k.loss refl
+  founded_same r _ = refl
+
+  headed_same : (r x : ℕ) (response : Response) (v : Representation) (z : Option Exchange) → headed t e r x response z v ≡ headed t f r x response z v
+  headed_same r x response v None = refl
+  headed_same r x response v (Some w) = rw (k.loss, k.loses r) refl
+
+  pieced_same : (r x : ℕ) (bytes : List ℕ) (v : Representation) (z : Option Exchange) → pieced e r x bytes z v ≡ pieced f r x bytes z v
+  pieced_same r x bytes v None = refl
+  pieced_same r x bytes v (Some w) = rw (k.loses r) refl
+
+  pub heard_same : (r : ℕ) (v : Representation) (z : Event) → representation_heard t e r z v ≡ representation_heard t f r z v
+  heard_same r v (event.Head x response) = headed_same r x response v (t.exchange x)
+  heard_same r v (event.Piece x bytes) = pieced_same r x bytes v (t.exchange x)
+  heard_same r v _ = refl
+
+  pub writing_same : (r : ℕ) (v : Representation) → loses_writing t e r v ≡ loses_writing t f r v
+  writing_same r v = rw (k.loses r) refl
+
+  pub goes_on_same : (r : ℕ) (v : Representation) → goes_on_with t e r v ≡ goes_on_with t f r v
+  goes_on_same r v = rw (k.loses r) refl
+
+  -- CONSUMERS
+
+  resumed_same : (response : Response) (w : Exchange) (z : Option Representation) → is_resumed t e response w z ≡ is_resumed t f response w z
+  resumed_same response w None = refl
+  resumed_same response w (Some v) = rw k.loss refl
+
+  shared_same : (response : Response) (w : Exchange) (g : Option HeadCase) → becomes_shared t e response w g ≡ becomes_shared t f response w g
+  shared_same response w (Some case.FirstJoins) = resumed_same response w (row_of t w.aim)
+  shared_same response w (Some case.LaterJoins) = resumed_same response w (row_of t w.aim)
+  shared_same response w _ = refl
+
+  with_head_same : (x : ℕ) (response : Response) (w : Exchange) (q : Consumer) → Rattle.hc_model.specs.ConsumerRows.with_head t e x response w q ≡ Rattle.hc_model.specs.ConsumerRows.with_head t f x response w q
+  with_head_same x response w q =
+      ap (λ g. record q { place = Rattle.hc_model.specs.ConsumerRows.place_by_case x response w q g; own = if becomes_shared t e response w g then None else q.own }) case_same
+      ∙ ap (λ s. record q { place = Rattle.hc_model.specs.ConsumerRows.place_by_case x response w q (case_at t f); own = if s then None else q.own }) (shared_same response w (case_at t f))
+
+  by_head_same : (c x : ℕ) (response : Response) (q : Consumer) (z : Option Exchange) → by_head t e c x response z q ≡ by_head t f c x response z q
+  by_head_same c x response q None = refl
+  by_head_same c x response q (Some w) = ap (λ u. if w.c == c then u else q) (with_head_same x response w q)
+
+  pub heard_consumer : (c : ℕ) (q : Consumer) (z : Event) → consumer_heard t e c z q ≡ consumer_heard t f c z q
+  heard_consumer c q (event.Head x response) = by_head_same c x response q (t.exchange x)
+  heard_consumer c q _ = refl
+
+  left_same : (c r : ℕ) (own : Option ℕ) (z : Option Representation) → left_to t e c r z own ≡ left_to t f c r z own
+  left_same c r own None = refl
+  left_same c r own (Some v) = rw (k.loses r) refl
+
+  own_same : (c : ℕ) (p : Place) (own : Option ℕ) → own_after t e c p own ≡ own_after t f c p own
+  own_same c (place.Bound r lo hi how) own = left_same c r own (t.representation r)
+  own_same c _ own = refl
+
+  pub acted_same : (c : ℕ) (h : Consumer) → consumer_acted t e c h ≡ consumer_acted t f c h
+  acted_same c h =
+      let q = by_opening t c (opening_in b) (waiting t f c h) in
+      rw (k.waits c, k.opens, k.leaves c, k.showing, k.shows c, k.gives c)
+      (ap (λ (own : Option ℕ). record (consumer_acted t f c h) { own = own }) (own_same c h.place q.own))
+
+  loss_same : (c : ℕ) (p : Place) → cause_of_loss t e c p ≡ cause_of_loss t f c p
+  loss_same c (place.Bound r lo hi how) = by_row (t.representation r)
+    where
+      by_row : (z : Option Representation) → cause_by_loss t e c r z ≡ cause_by_loss t f c r z
+      by_row None = refl
+      by_row (Some v) = rw (k.loses r) refl
+  loss_same c _ = refl
+
+  head_same : (c : ℕ) (z : Event) → cause_of_head t e c z ≡ cause_of_head t f c z
+  head_same c (event.Head x response) = rw k.loss refl
+  head_same c _ = refl
+
+  pub due_same : (c : ℕ) (q : Consumer) → becomes_due t e c q ≡ becomes_due t f c q
+  unfolding becomes_due
+  due_same c q = rw (loss_same c q.place, head_same c ev) refl
+
+  -- WHAT IS WRITTEN
+
+  head_writes_same : (x : ℕ) (response : Response) (z : Option Exchange) → head_writes t e x response z ≡ head_writes t f x response z
+  head_writes_same x response None = refl
+  head_writes_same x response (Some w) = rw k.loss refl
+
+  sealing_same : (r : ℕ) (z : Option Representation) → is_sealed t e r z ≡ is_sealed t f r z
+  sealing_same r None = refl
+  sealing_same r (Some v) = ap (λ q. not v.is_gone && not ((v.head.status == 200 && q) && not (is_keepable v))) (ends_same r (t.exchange r))
+
+  sealed_by_same : (x : ℕ) (z : Option Exchange) → sealed_by t e x z ≡ sealed_by t f x z
+  sealed_by_same x None = refl
+  sealed_by_same x (Some w) = ap (λ q. if q then Some (family x w) else None) (sealing_same (family x w) (t.representation (family x w)))
+
+  seals_same : (x : ℕ) → seals_at t e x ≡ seals_at t f x
+  seals_same x =
+      ap (λ q. if stops x ev || q then sealed_by t e x (t.exchange x) else None) (k.closes x)
+      ∙ ap (λ q. if stops x ev || closes_in x b then q else None) (sealed_by_same x (t.exchange x))
+
+  sealed_same : sealed t e ≡ sealed t f
+  sealed_same = by_list t.openings
+    where
+      by_list : (xs : List ℕ) → first_found (seals_at t e) xs ≡ first_found (seals_at t f) xs
+      by_list [] = refl
+      by_list (x ∷ xs) = rw (seals_same x, by_list xs) refl
+
+  pub written_same : (z : Event) → written_in t e z ≡ written_in t f z
+  written_same (event.Head x response) = head_writes_same x response (t.exchange x)
+  written_same (event.Piece x bytes) = refl
+  written_same _ = sealed_same

@@ -15,6 +15,7 @@ CONSTANTS = {"Exchanges": "base promised front", "Currents": "current", "Reading
              "Writers": "came_alone exclusive", "Dooms": "doomed", "Lines": "turn", "Weights": "weights", "Polls": "move_of has_joined", "Steps": "held",
              "Keys": "concerns_exchange concerns_representation concerns_consumer loses", "ConsumerRows": "back_in_line",
              "Evictions": "evict_all unevicting", "Tables": "after_accepted", "StartingOver": "starts_over", "Flaws": "flaw_in",
+             "Frames": "speaks_of speaks_of_exchange is_event_for beside",
              "Histories": "opened_in answered_in opening_of head_of delivered_of has_ended joined_of request_of since_of given_of shown_of "
                           "was_lost pieces_of stored_of over begun_with", "Reads": "ReadsEach body_of"}
 
@@ -80,6 +81,7 @@ class Facts:
             self.holds("few are evicted", sum(act._name == "Evicted" for act in entry.acts) <= 2)
             self.one_key(old, t, entry)
             self.evictions(old, t, entry)
+            self.frames(old, t, entry)
         self.entries.insert(0, entry)
 
     def writes(self, entry):
@@ -556,6 +558,21 @@ class Facts:
         self.holds("evicted: exchanges", all(same(new.exchange(x), owed.exchange(x)) for x in new.openings))
         self.holds("evicted: representations", all(same_row(of(new.representation(r)), of(owed.representation(r))) for r in new.founded))
         self.holds("evicted: consumers", all(of(new.consumer(c)) == of(owed.consumer(c)) for c in new.starts))
+
+    def frames(self, old, new, entry):
+        """What an entry doesn't speak of stays."""
+        for r in old.founded:
+            if not self.speaks_of(old, entry, r):
+                self.holds("frames: representations", same_row(of(new.representation(r)), of(old.representation(r))))
+        for x in old.openings:
+            if not self.speaks_of_exchange(entry, x):
+                self.holds("frames: exchanges", same(new.exchange(x), old.exchange(x)))
+        for c in old.starts:
+            if not self.is_event_for(old, c, entry.event):
+                k = of(old.consumer(c))
+                over = self.starts_over(old, entry, c, k)
+                owed = self.back_in_line(entry.now, k) if over else self.beside(old, entry, c, k)
+                self.holds("frames: consumers", of(new.consumer(c)) == owed)
 
     def one_key(self, old, new, entry):
         for x in old.openings:

@@ -217,3 +217,5 @@ pub mod EvictedRows
 pub mod EvictsLast
 pub mod Evicting
 pub mod IdleNow
+pub mod Frames
+pub mod Standing

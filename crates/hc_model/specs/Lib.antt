@@ -44,6 +44,7 @@ pub mod StoredHeads
 pub mod Places
 pub mod Endings
 pub mod Evictions
+pub mod Frames
 pub mod Whose
 pub mod Passed
 pub mod Given

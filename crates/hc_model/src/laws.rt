@@ -8,6 +8,7 @@ ghost use Rattle.hc_model.specs.Aims.{Aims, CaseWithoutAim};
 ghost use Rattle.hc_model.specs.Alone.{Alone};
 ghost use Rattle.hc_model.specs.Endings.{Endings};
 ghost use Rattle.hc_model.specs.Evictions.{EvictsOne, AnyLeavesOneCurrent, EvictionsComeLast, IdleButGone, MakesRoom, SomeGiveWay, HasNoRoom, HasTooLarge, WritesNothing};
+ghost use Rattle.hc_model.specs.Frames.{PartsAreKept, OthersStay, OthersDontGo, GoneIsCaused, ExchangesStay, StandersStay, ReadersStay, StartingOverIsCaused, OthersStandStill, BoundStay, CurrentStays, FoundedIsCurrent};
 ghost use Rattle.hc_model.specs.Given.{Given};
 ghost use Rattle.hc_model.specs.Growing.{Growing, StopsInRuns};
 ghost use Rattle.hc_model.specs.Losses.{Brings, Losses};
@@ -225,6 +226,26 @@ pub fn evictions_come_last()
     ensures full { HasNoRoom }
     ensures large { HasTooLarge }
     ensures none { WritesNothing }
+{}
+
+/// What an entry doesn't speak of stays. Of a representation: its head but for one that updates it and for the end of what
+/// founded it, its writer but for a head that resumes it, its bytes but for a piece of its family, who goes on alone with
+/// it but for its loss; and it goes only for a cause. So do the rows of exchanges, and of consumers at another's event: one
+/// stands where it stood unless it starts over, though a failure may become due to it, or the exchange of a lost writing
+/// its own. What is current for a key stays so unless it goes or another is founded, which is current then.
+pub fn what_is_not_spoken_of_stays()
+    ensures parts { PartsAreKept }
+    ensures representations { OthersStay }
+    ensures going { OthersDontGo }
+    ensures gone { GoneIsCaused }
+    ensures exchanges { ExchangesStay }
+    ensures consumers { StandersStay }
+    ensures readers { ReadersStay }
+    ensures over { StartingOverIsCaused }
+    ensures standing { OthersStandStill }
+    ensures bound { BoundStay }
+    ensures current { CurrentStays }
+    ensures founded { FoundedIsCurrent }
 {}
 
 /// A store may begin with what a run leaves, but for the limits of numbers, where no head that came had more

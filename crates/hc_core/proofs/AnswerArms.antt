@@ -51,28 +51,28 @@ use Rattle.hc_core.proofs.DownArms.{headless_is}
 use Rattle.hc_core.proofs.HeadArms.{head_news, length_told, head_case_is, no_sending, no_founding, room_is}
 use Rattle.hc_core.proofs.Standing.{Standing}
 
-abbrev headed : ℕ → Response → Exchange → Exchange
+abbrev pub headed : ℕ → Response → Exchange → Exchange
 headed now response w = record w {
   head = Some response;
   answered = now;
   is_open = not (is_reached (promise_of (length_told w response)) 0) && w.is_open;
 }
 
-answer_shown : (s : Tables) (x : ℕ) (v : rows.Consumer) (z : Exchange) → v.shown ≡ false → v.place ≡ place.Direct x → s.exchange x ≡ Some z → answer_for s v ≡ z.head
+pub answer_shown : (s : Tables) (x : ℕ) (v : rows.Consumer) (z : Exchange) → v.shown ≡ false → v.place ≡ place.Direct x → s.exchange x ≡ Some z → answer_for s v ≡ z.head
 answer_shown s x v z unshown at is = rw (unshown, at, is) refl
 
-lows_are : (s : Tables) (x : ℕ) (v : rows.Consumer) (z : Exchange) → v.place ≡ place.Direct x → s.exchange x ≡ Some z → lo_of s v.place ≡ base z
+pub lows_are : (s : Tables) (x : ℕ) (v : rows.Consumer) (z : Exchange) → v.place ≡ place.Direct x → s.exchange x ≡ Some z → lo_of s v.place ≡ base z
 lows_are s x v z at is = rw (at, is) refl
 
-highs_here : (s : Tables) (x : ℕ) (v : rows.Consumer) (z : Exchange) → v.place ≡ place.Direct x → s.exchange x ≡ Some z → hi_of s v.place ≡ end_in (Some z)
+pub highs_here : (s : Tables) (x : ℕ) (v : rows.Consumer) (z : Exchange) → v.place ≡ place.Direct x → s.exchange x ≡ Some z → hi_of s v.place ≡ end_in (Some z)
 highs_here s x v z at is = rw (at, is) refl
 
-all_reached : (o : Option ℕ) (n : ℕ) → is_all o n ≡ is_reached o n
+pub all_reached : (o : Option ℕ) (n : ℕ) → is_all o n ≡ is_reached o n
 all_reached None n = refl
 all_reached (Some p) n = refl
 
 -- what is promised is where it ends
-end_promised : (o : Option ℕ) (z : Exchange) → z.is_ended ≡ false → end_of_direct o z ≡ end_from (base z) o
+pub end_promised : (o : Option ℕ) (z : Exchange) → z.is_ended ≡ false → end_of_direct o z ≡ end_from (base z) o
 end_promised None z unended = rw unended refl
 end_promised (Some n) z unended = refl
 

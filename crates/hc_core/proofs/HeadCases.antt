@@ -8,34 +8,21 @@ use Rattle.hc_rules.specs.declared.heads.HeadCase.{HeadCase}
 use Rattle.hc_rules.specs.declared.heads.HeadCase.TheVariants as case
 use Rattle.hc_rules.specs.declared.need.Route.{Route}
 use Rattle.hc_rules.specs.declared.need.Route.TheVariants as route
-use Rattle.hc_rules.specs.HeadCases.{head_case}
-use Rattle.hc_rules.specs.Lengths.{length_of, is_bad}
+use Rattle.hc_rules.specs.Lengths.{is_bad}
 use Rattle.hc_rules.specs.Needs.{route_of}
 use Rattle.hc_model.specs.ActFilters.{has_loss}
 use Rattle.hc_model.specs.Dooms.{doomed, doomed_by_head, doomed_by_case, doomed_if, changes}
 use Rattle.hc_model.specs.Entries.{Entry}
 use Rattle.hc_model.specs.Rows.{Tables, Exchange}
 use Rattle.hc_exch.specs.declared.row.Open.{Open}
-use Rattle.hc_core.specs.declared.consumer.Consumer.{Consumer}
 use Rattle.hc_core.specs.declared.rows.Rows.{Rows}
 use Rattle.hc_core.specs.Built.{IsBuiltHead, IsBuiltOn, IsUnawaited, changes_by}
-use Rattle.hc_core.specs.Heads.{head_view}
 use Rattle.hc_core.proofs.HeadArms.{case_is, direct_by, length_told}
 use Rattle.hc_core.proofs.OpenArms.{unawaited, doomed_none}
 use Rattle.hc_core.proofs.PastEntries.{DoomsNobody, no_doom}
 use Rattle.hc_core.proofs.Standing.{Standing}
 
 -- THE CASE
-
--- such a head is one past the store
-pub built_past : {B : Type 0} (r : Rows B) (way : Route) (o : Open) (response : Response) → IsBuiltOn r way o response → way ≡ route.Direct
-built_past r route.Direct o response built = refl
-built_past r route.Turn o response built = absurd built
-built_past r route.Hole o response built = absurd built
-
-pub past_case : (o : Open) (k : Consumer) (response : Response) → route_of o.need ≡ route.Direct → head_case (head_view o k response) ≡ direct_by (is_bad (length_of o.need o.request response))
-unfolding head_case
-past_case o k response way = rw way refl
 
 pub bad_of : (b : Bool) → direct_by b ≡ case.DirectBad → b ≡ true
 bad_of true is = refl
@@ -44,10 +31,6 @@ bad_of false is = absurd (let never : case.DirectTaken ≡ case.DirectBad = is i
 pub good_of : (b : Bool) → direct_by b ≡ case.DirectTaken → b ≡ false
 good_of false is = refl
 good_of true is = absurd (let never : case.DirectBad ≡ case.DirectTaken = is in cc)
-
-pub no_other : (b : Bool) → (direct_by b ≡ case.DirectBad → ⊥) → (direct_by b ≡ case.DirectTaken → ⊥) → ⊥
-no_other true bad taken = bad refl
-no_other false bad taken = taken refl
 
 -- WHAT IT DOOMS
 
@@ -79,9 +62,6 @@ module _ {B : Type 0} (r : Rows B) (t : Tables) (now x : ℕ) (response : Respon
           doomed_none t (entry_with acts) w.request.key (unawaited r t w.request.key stands (subst (IsUnawaited r.keys) key_is (built changed))) (doomed_is acts ∙ ap (λ (b : Bool). doomed_if b w) is)
 
 -- OF THE OPEN EXCHANGE
-
-pub open_way : {B : Type 0} (r : Rows B) (running : Option Open) (o : Open) (response : Response) → running ≡ Some o → IsBuiltHead r running response → route_of o.need ≡ route.Direct
-open_way r running o response is built = built_past r (route_of o.need) o response (subst (λ (z : Option Open). IsBuiltHead r z response) is built)
 
 pub past_built : {B : Type 0} (r : Rows B) (running : Option Open) (o : Open) (response : Response) → running ≡ Some o → route_of o.need ≡ route.Direct → IsBuiltHead r running response → changes_by o.request response ≡ true → IsUnawaited r.keys o.request.key
 past_built r running o response is way built = subst (λ (z : Route). IsBuiltOn r z o response) way (subst (λ (z : Option Open). IsBuiltHead r z response) is built)

@@ -53,7 +53,7 @@ pub record Hears {B : Type 0} (r : Rows B) (t : Tables) (x : ℕ) (o : Open) : T
   pub reading : IsReading r t o.c x k
   pub is : IsRunning o reading.reads.w
 
-running_row : (o : Open) (row : Option Exchange) → KeepsRunning (Some o) row → (w : Exchange) × (row ≡ Some w) × IsRunning o w
+pub running_row : (o : Open) (row : Option Exchange) → KeepsRunning (Some o) row → (w : Exchange) × (row ≡ Some w) × IsRunning o w
 running_row o None keeps = absurd keeps
 running_row o (Some w) keeps = (w, refl, keeps)
 

@@ -108,7 +108,7 @@ module _ {B : Type 0} (r u : Rows B) (t : Tables) (e : Entry) (c x : ℕ) (k : C
 
 -- THE EXCHANGE OF WHO LEAVES
 
-over_after : (t : Tables) (e : Entry) (x : ℕ) (w : Exchange) (on : Bool) → t.exchange x ≡ Some w → w.is_open ≡ on → exchange_heard t e x e.event w ≡ w → closes_in x e.acts ≡ on → IsOver (exchange_after t e x (t.exchange x)) w
+pub over_after : (t : Tables) (e : Entry) (x : ℕ) (w : Exchange) (on : Bool) → t.exchange x ≡ Some w → w.is_open ≡ on → exchange_heard t e x e.event w ≡ w → closes_in x e.acts ≡ on → IsOver (exchange_after t e x (t.exchange x)) w
 unfolding exchange_after
 over_after t e x w on row is heard closes = record {
   z = exchange_acted x e.acts w;

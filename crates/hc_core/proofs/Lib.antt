@@ -29,6 +29,10 @@ pub mod TurnTies
 pub mod Planned
 pub mod LineArms
 pub mod PollLines
+pub mod TurnMoves
+pub mod TurnEnds
+pub mod TurnHeads
+pub mod HeadWays
 pub mod OpenLines
 pub mod BeginArms
 pub mod Gates

@@ -97,6 +97,9 @@ pub record AllPast (t : Tables) : Type 0 where
   pub unpassed : (c q : ℕ) (kept : Option ℕ) (k : Consumer) →
       t.consumer c ≡ Some k → k.place ≡ place.Passed q kept → ⊥
   pub nothing : (q : ℕ) → t.representation q ≡ None
+  pub bodiless : (x : ℕ) (w : Exchange) → t.exchange x ≡ Some w → w.head ≡ None → w.body ≡ []
+  pub unended : (x : ℕ) (w : Exchange) → t.exchange x ≡ Some w → w.is_open ≡ true →
+      w.is_ended ≡ false
 
 pub record Standing {B : Type 0} (r : Rows B) (t : Tables) : Type 0 where
   pub lists : sound.IsListed t
@@ -195,6 +198,8 @@ module _ {B : Type 0} (r : Rows B) (t : Tables) (facts : Facts t) (stands : Rows
       unbound = no_bound;
       unpassed = no_passed;
       nothing = stands.nothing_stored;
+      bodiless = λ x w row none. (facts.sound.waits.headless x w row none).0;
+      unended = unended_by;
     };
     order = facts.order;
     received = stands.received;

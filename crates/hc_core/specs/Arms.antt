@@ -4,6 +4,7 @@ use Rattle.std.specs.HashMap.{get}
 use Rattle.hc_event.specs.declared.act.Act.{Act}
 use Rattle.hc_event.specs.declared.act.Act.TheVariants as act
 use Rattle.hc_event.specs.declared.act.Cause.{Cause}
+use Rattle.hc_event.specs.declared.act.Cause.TheVariants as cause
 use Rattle.hc_event.specs.declared.act.Wait.TheVariants as wait
 use Rattle.hc_rules.specs.declared.reading.ReadView.{ReadView}
 use Rattle.hc_rules.specs.declared.plan.Plan.{Plan}
@@ -18,12 +19,13 @@ use Rattle.hc_entry.specs.Lines.{is_in, queued, left_by, turn_with}
 use Rattle.hc_exch.specs.Exchanges.{table_of, next_of}
 use Rattle.hc_exch.specs.Known.{Known, unknown}
 use Rattle.hc_exch.specs.declared.row.Open.{Open}
+use Rattle.hc_model.specs.declared.place.Place.{Place}
 use Rattle.hc_model.specs.declared.place.Place.TheVariants as place
 use Rattle.hc_model.specs.Moves as moves
 use Rattle.hc_model.specs.Moves.{Move}
 use Rattle.hc_core.specs.declared.consumer.Consumer.{Consumer}
 use Rattle.hc_core.specs.declared.rows.Rows.{Rows}
-use Rattle.hc_core.specs.Changes.{BecomesAt}
+use Rattle.hc_core.specs.Changes.{ChangesAt, BecomesAt, put_down}
 
 -- WHERE A CONSUMER STANDS
 
@@ -81,6 +83,30 @@ pub record LeavesLine {B : Type 0} (r u : Rows B) (c : ℕ) : Type 0 where
   pub consumers : u.consumers ≡ r.consumers
   pub exchanges : u.exchanges ≡ r.exchanges
   pub line : IsSomeAnd (get nat_eq r.consumers c) (IsLeft r.keys u.keys c)
+
+-- only with the turn, at its place
+abbrev pub IsQueuedIf : Place → KeyTable → ℕ → Consumer → Type 0
+IsQueuedIf (place.Turn x) keys c k = IsQueued keys c k
+IsQueuedIf _ keys c k = Unit {0}
+
+abbrev pub IsQueuedAt : KeyTable → ℕ → Consumer → Type 0
+IsQueuedAt keys c k = IsQueuedIf k.place keys c k
+
+abbrev pub IsLeftIf : Place → KeyTable → KeyTable → ℕ → Consumer → Type 0
+IsLeftIf (place.Turn x) before after c k = IsLeft before after c k
+IsLeftIf _ before after c k = after ≡ before
+
+abbrev pub IsLeftAt : KeyTable → KeyTable → ℕ → Consumer → Type 0
+IsLeftAt before after c k = IsLeftIf k.place before after c k
+
+-- What a consumer waits for breaks off: it is to fail, and leaves the line where it had the turn.
+pub record BreaksOff {B : Type 0} (r u : Rows B) (c x : ℕ) : Type 0 where
+  pub limits : u.limits ≡ r.limits
+  pub last_start : u.last_start ≡ r.last_start
+  pub received : u.received ≡ r.received
+  pub exchanges : u.exchanges ≡ r.exchanges
+  pub consumers : ChangesAt r.consumers u.consumers c (put_down (cause.Net x))
+  pub line : IsSomeAnd (get nat_eq r.consumers c) (IsLeftAt r.keys u.keys c)
 
 -- THE PLAN
 

@@ -246,9 +246,129 @@ static LINED: &'static [Row] = &[
     Row(1020, Step::Cancel(2), &[Told::Close(2)], 1),
 ];
 
+static TURNS: &'static [Row] = &[
+    Row(1000, Step::Queue(1), &[], 1),
+    Row(
+        1000,
+        Step::Poll(1, 100),
+        &[
+            Told::Asked(1, 1, Need::Miss),
+            Told::Pending(1, Wait::Head(1)),
+        ],
+        1,
+    ),
+    Row(1000, Step::Queue(2), &[], 2),
+    Row(
+        1000,
+        Step::Poll(2, 100),
+        &[Told::Pending(2, Wait::Turn(1))],
+        2,
+    ),
+    // The turn passes on at a cancel.
+    Row(1000, Step::Cancel(1), &[Told::Close(1)], 1),
+    Row(
+        1000,
+        Step::Poll(2, 100),
+        &[
+            Told::Asked(2, 2, Need::Miss),
+            Told::Pending(2, Wait::Head(2)),
+        ],
+        1,
+    ),
+    // An answer that isn't stored goes past the store, and the turn on.
+    Row(1001, Step::Head(2, 304, "0"), &[], 1),
+    Row(1001, Step::Queue(3), &[], 2),
+    Row(
+        1001,
+        Step::Poll(3, 100),
+        &[
+            Told::Asked(3, 3, Need::Miss),
+            Told::Pending(3, Wait::Head(3)),
+        ],
+        2,
+    ),
+    Row(
+        1002,
+        Step::Poll(2, 100),
+        &[Told::Shown(2, 2, 304, 0, Some(0))],
+        2,
+    ),
+    Row(1002, Step::Poll(2, 100), &[Told::Ended(2)], 1),
+    // A fault before the head.
+    Row(1003, Step::Fault(3), &[], 1),
+    Row(1003, Step::Queue(4), &[], 2),
+    Row(
+        1003,
+        Step::Poll(4, 100),
+        &[
+            Told::Asked(4, 4, Need::Miss),
+            Told::Pending(4, Wait::Head(4)),
+        ],
+        2,
+    ),
+    Row(
+        1003,
+        Step::Poll(3, 100),
+        &[Told::Failed(3, Cause::Net(3))],
+        1,
+    ),
+    // A bad head.
+    Row(1004, Step::Head(4, 200, "x"), &[Told::Close(4)], 1),
+    Row(1004, Step::Queue(5), &[], 2),
+    Row(
+        1004,
+        Step::Poll(5, 100),
+        &[
+            Told::Asked(5, 5, Need::Miss),
+            Told::Pending(5, Wait::Head(5)),
+        ],
+        2,
+    ),
+    Row(
+        1004,
+        Step::Poll(4, 100),
+        &[Told::Failed(4, Cause::BadHead(4))],
+        1,
+    ),
+    // The head of a server's failure, whose body is read past the store.
+    Row(1005, Step::Head(5, 503, "2"), &[], 1),
+    Row(1005, Step::Queue(6), &[], 2),
+    Row(
+        1005,
+        Step::Poll(6, 100),
+        &[
+            Told::Asked(6, 6, Need::Miss),
+            Told::Pending(6, Wait::Head(6)),
+        ],
+        2,
+    ),
+    Row(
+        1005,
+        Step::Poll(5, 1),
+        &[Told::Shown(5, 5, 503, 0, Some(2))],
+        2,
+    ),
+    Row(
+        1005,
+        Step::Poll(5, 1),
+        &[Told::Ask(5), Told::Pending(5, Wait::Body(5))],
+        2,
+    ),
+    Row(1006, Step::Piece(5, "no"), &[], 2),
+    Row(1006, Step::Poll(5, 1), &[Told::Given(5, 5, 0, "n")], 2),
+    Row(1006, Step::Cancel(6), &[Told::Close(6)], 1),
+    Row(1006, Step::Poll(5, 9), &[Told::Given(5, 5, 1, "o")], 1),
+    Row(1006, Step::Poll(5, 9), &[Told::Ended(5)], 0),
+];
+
 #[test]
 fn waits_in_line(rt: HostRuntime) -> Result<(), Fail> {
     walk(&rt, LINED)
+}
+
+#[test]
+fn passes_the_turn_on(rt: HostRuntime) -> Result<(), Fail> {
+    walk(&rt, TURNS)
 }
 
 #[test]

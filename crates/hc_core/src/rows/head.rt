@@ -1,4 +1,4 @@
-//! Heads of exchanges past the store, and of those that have the turn of their key.
+//! Heads of exchanges.
 ghost use Rattle.std.specs.Prelude.{◌≡◌, ◌+◌, ◌≤◌, ◌<◌, ◌^◌, ◌++◌, ◌∷◌, [], Some, None, false, true, nat_eq, is_some, IsSomeAnd, OnOk, OnErr};
 ghost use Rattle.std.specs.HashMap.{get};
 ghost use Rattle.hc_event.specs.Acts.{listed, spare};
@@ -50,8 +50,16 @@ impl<B> Rows<B> {
                 Ok(())
             }
             HeadCase::DirectTaken => self.answer_past(now, x, c, response),
-            // No head in the turn is built yet.
-            _ => unreachable!(),
+            HeadCase::TurnBad => {
+                self.leave_line(c);
+                self.refuse(x, c, out);
+                Ok(())
+            }
+            // An answer in the turn that isn't stored goes on past the store.
+            _ => {
+                self.leave_line(c);
+                self.answer_past(now, x, c, response)
+            }
         }
     }
 

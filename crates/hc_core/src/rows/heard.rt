@@ -1,15 +1,17 @@
 //! What an exchange brings: its head, pieces, an end or a fault.
-ghost use Rattle.std.specs.Prelude.{◌≡◌, ◌+◌, ◌≤◌, ◌<◌, ◌^◌, ℕ, List, length, None, OnOk, OnErr};
+ghost use Rattle.std.specs.Prelude.{◌≡◌, ◌+◌, ◌≤◌, ◌<◌, ◌^◌, ℕ, nat_eq, List, length, None, OnOk, OnErr, IsSomeAnd};
+ghost use Rattle.std.specs.HashMap.{get};
 ghost use Rattle.hc_event.specs.declared.act.Act.{Act};
 ghost use Rattle.hc_event.specs.declared.event.Event.TheVariants.{Piece, End, Fault};
 ghost use Rattle.hc_rules.specs.Refusals.{piece_refusal, end_refusal, fault_refusal};
-ghost use Rattle.hc_exch.specs.Exchanges.{next_of, table_of};
-ghost use Rattle.hc_core.specs.Built.{IsBuiltFault};
+ghost use Rattle.hc_exch.specs.Exchanges.{next_of};
+ghost use Rattle.hc_core.specs.Arms.{IsQueuedAt, BreaksOff};
 ghost use Rattle.hc_core.specs.Stands.{Stays, Answers, StandsForSome, open_at};
 
 use crate::changes::{fail_with, know_end, make_due};
 use crate::rows::Rows;
 use hc_event::Cause;
+use hc_model::Place;
 use hc_text::NoMemory;
 
 impl<B> Rows<B> {
@@ -58,8 +60,8 @@ impl<B> Rows<B> {
 
     /// An exchange breaks.
     pub(super) fn fault(&mut self, x: u64)
+        requires stands { ∥ StandsForSome self.old ∥₁ }
         requires accepted { fault_refusal (open_at self.old x) ≡ None }
-        requires built { IsBuiltFault (table_of self.old.exchanges x).running }
         ensures answers { (now : ℕ) (before : List Act)
             → Answers self.old self.new before before now (Fault x) }
         ensures next { next_of self.new.exchanges ≡ next_of self.old.exchanges }
@@ -70,8 +72,20 @@ impl<B> Rows<B> {
         if view.headed {
             make_due(&mut self.consumers, view.c, Cause::Net(x));
         } else {
-            fail_with(&mut self.consumers, view.c, Cause::Net(x));
+            self.break_wait(view.c, x);
         }
         self.exchanges.close(x);
+    }
+
+    /// The exchange breaks for whose head the consumer waits. With the turn it leaves the line.
+    fn break_wait(&mut self, c: u64, x: u64)
+        requires { IsSomeAnd (get nat_eq self.old.consumers c) (IsQueuedAt self.old.keys c) }
+        ensures { BreaksOff self.old self.new c x }
+    {
+        let consumer = self.consumers.get(&c).unwrap();
+        if let Place::Turn(_) = consumer.place {
+            self.leave_line(c);
+        }
+        fail_with(&mut self.consumers, c, Cause::Net(x));
     }
 }

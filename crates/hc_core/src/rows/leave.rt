@@ -7,7 +7,6 @@ ghost use Rattle.hc_event.specs.declared.event.Event.TheVariants.{Cancel};
 ghost use Rattle.hc_exch.specs.Exchanges.{next_of, table_of, Becomes};
 ghost use Rattle.hc_exch.specs.Known.{is_open, closed};
 ghost use Rattle.hc_core.specs.Stands.{Answers, StandsForSome, KeepsRest};
-ghost use Rattle.hc_core.specs.Built.{IsBuiltLeaver};
 ghost use Rattle.hc_core.specs.Arms.{IsQueued, LeavesLine};
 
 use crate::acts::put;
@@ -20,7 +19,6 @@ impl<B> Rows<B> {
     pub(super) fn cancel(&mut self, c: u64, out: &mut Acts)
         requires stands { ∥ StandsForSome self.old ∥₁ }
         requires live { is_some (get nat_eq self.old.consumers c) ≡ true }
-        requires built { IsBuiltLeaver (get nat_eq self.old.consumers c) }
         requires room { 1 ≤ spare out.old }
         ensures answers { (now : ℕ)
             → Answers self.old self.new (listed out.old) (listed out.new) now (Cancel c) }
@@ -33,6 +31,11 @@ impl<B> Rows<B> {
             Place::Direct(x) => self.leave_past(c, x, out),
             Place::Line => {
                 self.leave_line(c);
+                self.consumers.remove(&c);
+            }
+            Place::Turn(x) => {
+                self.leave_line(c);
+                self.close(x, out);
                 self.consumers.remove(&c);
             }
             _ => {

@@ -73,8 +73,7 @@ impl<B> Rows<B> {
         let consumer = self.consumers.get(&c).unwrap();
         let (lo, hi) = (consumer.lo, consumer.hi);
         let Some(head) = show_answer(&mut self.consumers, c) else {
-            let wait = Wait::Head(x);
-            put(out, Act::Pending { c, wait });
+            wait(c, Wait::Head(x), out);
             return;
         };
         put(

@@ -15,6 +15,7 @@ use crate::acts::put;
 use crate::changes::count_given;
 use crate::consumer::Consumer;
 use crate::rows::Rows;
+use crate::rows::poll::wait;
 use hc_event::{Act, Acts, Cause, Wait};
 use hc_rules::{ReadStep, ReadView, read_step};
 use hc_text::{Bytes, NoMemory};
@@ -114,8 +115,7 @@ impl<B> Rows<B> {
             put(out, Act::Ask { x });
             self.exchanges.ask(x);
         }
-        let wait = Wait::Body(x);
-        put(out, Act::Pending { c, wait });
+        wait(c, Wait::Body(x), out);
     }
 
     /// A consumer that goes past the store is gone: its exchange is closed where it is open, and
@@ -127,8 +127,7 @@ impl<B> Rows<B> {
         ensures leaves { Leaves self.old self.new c x }
     {
         if self.exchanges.view(x).is_some() {
-            put(out, Act::Close { x });
-            self.exchanges.close(x);
+            self.close(x, out);
         }
         self.exchanges.forget(x);
         self.consumers.remove(&c);

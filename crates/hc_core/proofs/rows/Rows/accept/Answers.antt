@@ -29,14 +29,8 @@ take_piece-requires-clause-accepted g c =
 pub end-requires : goal.end-requires
 end-requires g c = record { accepted = end_free (gate_of c.args.self.now (event.End c.in-End.x)) c.in-End.x (rw c.in-End.is at c.requires.accepted) }
 
-pub fault-requires : goal.fault-requires
-fault-requires g c = record {
-  accepted = fault_free (gate_of c.args.self.now (event.Fault c.in-Fault.x)) c.in-Fault.x (rw c.in-Fault.is at c.requires.accepted);
-  built = (let built : IsBuilt c.args.self.now (event.Fault c.in-Fault.x) = rw c.in-Fault.is at c.requires.built in built);
-}
-
-pub cancel-requires-clause-built : goal.cancel-requires-clause-built
-cancel-requires-clause-built g c = let built : IsBuilt c.args.self.now (event.Cancel c.in-Cancel.c) = rw c.in-Cancel.is at c.requires.built in built
+pub fault-requires-clause-accepted : goal.fault-requires-clause-accepted
+fault-requires-clause-accepted g c = fault_free (gate_of c.args.self.now (event.Fault c.in-Fault.x)) c.in-Fault.x (rw c.in-Fault.is at c.requires.accepted)
 
 pub take_head-requires-clause-built : goal.take_head-requires-clause-built
 take_head-requires-clause-built g c = let built : IsBuilt c.args.self.now (event.Head c.in-Head.x c.in-Head.response) = rw c.in-Head.is at c.requires.built in built

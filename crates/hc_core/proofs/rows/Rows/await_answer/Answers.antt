@@ -13,7 +13,7 @@ returns-in_default-clause-answers g c = λ now want t facts rows accepted.
     let at = lent c.get.result (get nat_eq c.args.self.now.consumers c.args.c) c.unwrap-consumer.result c.get.ensures.value c.unwrap-consumer.ensures in
     let unshown = known_of (get nat_eq c.args.self.now.consumers c.args.c) c.unwrap-consumer.result.now (IsUnshown c.args.x) at c.requires.unshown in
     let none : c.unwrap-consumer.result.now.answer ≡ None = rw at at (sym c.show_answer.ensures.head ∙ c.in_default.is) in
-    waits_answered c.args.self.now _ t now c.args.c want c.args.x c.unwrap-consumer.result.now (listed c.args.out.now) (listed c.put.new.out) c.args.self.now.limits stands at unshown refl refl refl refl c.show_answer.ensures.shown none c.put.ensures.acts
+    waits_answered c.args.self.now _ t now c.args.c want c.args.x c.unwrap-consumer.result.now (listed c.args.out.now) (listed c.wait.new.out) c.args.self.now.limits stands at unshown refl refl refl refl c.show_answer.ensures.shown none c.wait.ensures.acts
 
 pub returns-clause-answers : goal.returns-clause-answers
 returns-clause-answers g c = λ now want t facts rows accepted.
@@ -21,4 +21,4 @@ returns-clause-answers g c = λ now want t facts rows accepted.
     let at = lent c.get.result (get nat_eq c.args.self.now.consumers c.args.c) c.unwrap-consumer.result c.get.ensures.value c.unwrap-consumer.ensures in
     let unshown = known_of (get nat_eq c.args.self.now.consumers c.args.c) c.unwrap-consumer.result.now (IsUnshown c.args.x) at c.requires.unshown in
     let some : c.unwrap-consumer.result.now.answer ≡ Some c.in-Some.head = rw at at (sym c.show_answer.ensures.head ∙ c.in-Some.is) in
-    shows_answered c.args.self.now _ t now c.args.c want c.args.x c.unwrap-consumer.result.now (listed c.args.out.now) (listed c.put-2.new.out) c.args.self.now.limits stands at unshown refl refl refl refl c.show_answer.ensures.shown c.in-Some.head some c.put-2.ensures.acts
+    shows_answered c.args.self.now _ t now c.args.c want c.args.x c.unwrap-consumer.result.now (listed c.args.out.now) (listed c.put.new.out) c.args.self.now.limits stands at unshown refl refl refl refl c.show_answer.ensures.shown c.in-Some.head some c.put.ensures.acts

@@ -24,7 +24,7 @@ use Rattle.hc_exch.specs.declared.row.Open.{Open}
 use Rattle.hc_core.specs.declared.consumer.Consumer.{Consumer}
 use Rattle.hc_core.specs.declared.rows.Rows.{Rows}
 use Rattle.hc_core.specs.Changes.{ChangesAt, put_down}
-use Rattle.hc_core.specs.Kept.{IsKept, KeepsRunning, IsRunning, held_for, answer_for}
+use Rattle.hc_core.specs.Kept.{IsKept, KeepsExchange, KeepsRunning, IsRunning, held_for, answer_for}
 use Rattle.hc_core.specs.Stands.{RowsStand}
 use Rattle.hc_core.proofs.Words.{false_true}
 use Rattle.hc_core.proofs.PastEntries.{DoomsNobody}
@@ -61,13 +61,18 @@ either_none false = refl
 answers_none : (t : Tables) (x : ℕ) (v : rows.Consumer) (w : Exchange) → v.place ≡ place.Direct x → t.exchange x ≡ Some w → w.head ≡ None → answer_for t v ≡ None
 answers_none t x v w at row none = rw (at, row, none) (either_none v.shown)
 
-module _ {B : Type 0} (r u : Rows B) (t : Tables) (now x : ℕ) (ev : Event) (ys : List ℕ) (o : Open) (z : Exchange) (reason : Cause) (stands : Standing r t) (hears : Hears r t x o) (news : IsNews ev x) (headless : o.headed ≡ false)
-    (sends : sends_back (case_at t (told_of now ev ys)) ≡ false) (founds : is_founding (case_at t (told_of now ev ys)) ≡ false) (quiet : DoomsNobody t (told_of now ev ys)) (none_received : received_in ev ≡ 0)
-    (lasts : last_start_after ev t.last_start ≡ t.last_start) (starts : starts_after ev t.starts ≡ t.starts)
-    (closes : (y : ℕ) → y ≢ x → closes_in y (map act.Close ys) ≡ false) (unopened : opening_in (map act.Close ys) ≡ None)
+-- What is said then of its consumer and of itself, whatever else is closed.
+pub record IsPutDown {B : Type 0} (r : Rows B) (after : Tables) (c x : ℕ) (k : Consumer) (reason : Cause) : Type 0 where
+  pub v : rows.Consumer
+  pub row : after.consumer c ≡ Some v
+  pub at : v.place ≡ place.Down reason
+  pub kept : IsKept after (put_down reason k) v
+  pub known : (now_known : Known) → now_known ≡ known.closed (table_of r.exchanges x) → KeepsExchange after x now_known
+
+module _ {B : Type 0} (r : Rows B) (t : Tables) (now x : ℕ) (ev : Event) (ys : List ℕ) (o : Open) (z : Exchange) (reason : Cause) (stands : Standing r t) (hears : Hears r t x o) (headless : o.headed ≡ false)
+    (sends : sends_back (case_at t (told_of now ev ys)) ≡ false)
     (heard : (q : rows.Consumer) → q.shown ≡ false → consumer_heard t (told_of now ev ys) o.c ev q ≡ record q { place = place.Down reason })
-    (exchange : (after_accepted t (told_of now ev ys)).exchange x ≡ Some z) (same_c : z.c ≡ hears.reading.reads.w.c) (over : z.is_open ≡ false)
-    (received : u.received ≡ r.received) (last : u.last_start ≡ r.last_start) (same_keys : u.keys ≡ r.keys) (becomes : exch.Becomes known.closed x r.exchanges u.exchanges) (changes : ChangesAt r.consumers u.consumers o.c (put_down reason)) where
+    (exchange : (after_accepted t (told_of now ev ys)).exchange x ≡ Some z) (same_c : z.c ≡ hears.reading.reads.w.c) (over : z.is_open ≡ false) where
   abbrev c : ℕ
   c = o.c
 
@@ -98,9 +103,9 @@ module _ {B : Type 0} (r u : Rows B) (t : Tables) (now x : ℕ) (ev : Event) (ys
   v_down : rows.Consumer
   v_down = record v { place = place.Down reason; due = None }
 
-  row_after : after.consumer c ≡ Some v_down
+  row_down : after.consumer c ≡ Some v_down
   unfolding v_down
-  row_after =
+  row_down =
       let e = told_of now ev ys in
       let at = hears.reading.at in
       ap (consumer_after t e c) hears.reading.row
@@ -127,9 +132,6 @@ module _ {B : Type 0} (r u : Rows B) (t : Tables) (now x : ℕ) (ev : Event) (ys
         due = kp.due ∙ (rd.unheard no_head).2;
       }
 
-  here : table_of u.exchanges x ≡ known.closed (table_of r.exchanges x)
-  here = known_here known.closed x r.exchanges u.exchanges becomes
-
   held_before : (table_of r.exchanges x).held ≡ []
   held_before =
       let rd = hears.reading.reads in
@@ -137,27 +139,40 @@ module _ {B : Type 0} (r u : Rows B) (t : Tables) (now x : ℕ) (ev : Event) (ys
 
   none_after : held_for after x (Some z) ≡ []
   unfolding v_down
-  none_after = rw (same_c, hears.reading.reads.for_it, row_after) refl
+  none_after = rw (same_c, hears.reading.reads.for_it, row_down) refl
 
   closed_row : is_open (after.exchange x) ≡ false
   closed_row = ap is_open exchange ∙ over
 
-  pub stands_down : RowsStand u after
-  unfolding v_down
-  stands_down =
-      let rd = hears.reading.reads in
-      let e = told_of now ev ys in
-      reads_no_more r u t e c x v stands (told_entry t now c x ev ys news w rd.row rd.for_it sends founds quiet) (told_only t now c x ev ys news w rd.row rd.for_it closes) unopened lasts starts
-      hears.reading.row rd hears.reading.at (received ∙ (let none = none_received in omega (arith, none))) last same_keys becomes.next (λ y ne. known_other known.closed x r.exchanges u.exchanges becomes y ne)
-      (record {
-        running = subst (λ (y : Known). KeepsRunning y.running (after.exchange x)) (sym here) closed_row;
-        held = ap (λ (y : Known). y.held) here ∙ (held_before ∙ (sym none_after ∙ ap (held_for after x) (sym exchange)));
-      })
-      (Some (put_down reason k)) v_down (changed r.consumers u.consumers c (put_down reason) k changes hears.there) row_after
-      not_direct lives_down kept_down refl refl
-    where
-      not_direct : (y : ℕ) → v_down.place ≡ place.Direct y → ⊥
-      not_direct y at = let never : place.Down reason ≡ place.Direct y = at in cc
+  known_down : (now_known : Known) → now_known ≡ known.closed (table_of r.exchanges x) → KeepsExchange after x now_known
+  known_down now_known here = record {
+    running = subst (λ (y : Known). KeepsRunning y.running (after.exchange x)) (sym here) closed_row;
+    held = ap (λ (y : Known). y.held) here ∙ (held_before ∙ (sym none_after ∙ ap (held_for after x) (sym exchange)));
+  }
 
-      lives_down : true ≡ is_live_place v_down.place
-      lives_down = refl
+  pub is_put_down : IsPutDown r after c x k reason
+  unfolding v_down
+  is_put_down = record { v = v_down; row = row_down; at = refl; kept = kept_down; known = known_down }
+
+  not_direct : (y : ℕ) → v_down.place ≡ place.Direct y → ⊥
+  unfolding v_down
+  not_direct y at = let never : place.Down reason ≡ place.Direct y = at in cc
+
+  -- where nobody is doomed
+  module _ (u : Rows B) (news : IsNews ev x) (founds : is_founding (case_at t (told_of now ev ys)) ≡ false) (quiet : DoomsNobody t (told_of now ev ys)) (none_received : received_in ev ≡ 0)
+      (lasts : last_start_after ev t.last_start ≡ t.last_start) (starts : starts_after ev t.starts ≡ t.starts)
+      (closes : (y : ℕ) → y ≢ x → closes_in y (map act.Close ys) ≡ false) (unopened : opening_in (map act.Close ys) ≡ None)
+      (received : u.received ≡ r.received) (last : u.last_start ≡ r.last_start) (same_keys : u.keys ≡ r.keys) (becomes : exch.Becomes known.closed x r.exchanges u.exchanges) (changes : ChangesAt r.consumers u.consumers o.c (put_down reason)) where
+    pub stands_down : RowsStand u after
+    unfolding v_down
+    stands_down =
+        let rd = hears.reading.reads in
+        let e = told_of now ev ys in
+        reads_no_more r u t e c x v stands (told_entry t now c x ev ys news w rd.row rd.for_it sends founds quiet) (told_only t now c x ev ys news w rd.row rd.for_it closes) unopened lasts starts
+        hears.reading.row rd hears.reading.at (received ∙ (let none = none_received in omega (arith, none))) last same_keys becomes.next (λ y ne. known_other known.closed x r.exchanges u.exchanges becomes y ne)
+        (known_down (table_of u.exchanges x) (known_here known.closed x r.exchanges u.exchanges becomes))
+        (Some (put_down reason k)) v_down (changed r.consumers u.consumers c (put_down reason) k changes hears.there) row_down
+        not_direct lives_down kept_down refl refl
+      where
+        lives_down : true ≡ is_live_place v_down.place
+        lives_down = refl

@@ -1,7 +1,8 @@
 -- The head of an exchange past the store: its consumer is to be shown it, or to fail where it can't be used.
-use Rattle.std.proofs.Common.{◌≡◌, ◌≢◌, ℕ, List, [], ◌∷◌, ◌++◌, Bool, true, false, cond, eqb, Option, Some, None, refl, ap, sym, ◌∙◌}
+use Rattle.std.proofs.Common.{◌≡◌, ℕ, List, [], ◌∷◌, ◌++◌, Bool, true, false, cond, eqb, Option, Some, None, refl, ap, sym, ◌∙◌}
 use Rattle.std.proofs.lemmas.List.{append-nil}
-use Rattle.std.specs.Prelude.{map, ◌&&◌}
+use Rattle.std.specs.Prelude.{map, nat_eq, ◌&&◌, ◌||◌}
+use Rattle.hc_event.specs.Filters.{asks_in, closes_in}
 use Rattle.hc_event.specs.declared.event.Event.TheVariants as event
 use Rattle.hc_event.specs.declared.event.Response.{Response}
 use Rattle.hc_event.specs.declared.act.Act.{Act}
@@ -86,8 +87,9 @@ module _ {B : Type 0} (r u : Rows B) (t : Tables) (now x : ℕ) (o : Open) (stan
   stands_broken : RowsStand u (after_accepted t (told_of now (event.Fault x) []))
   unfolding case_of
   stands_broken =
-      stands_down r u t now x (event.Fault x) [] o (record hears.reading.reads.w { is_open = false }) (cause.Net x) stands hears (fault_news x) headless refl refl (quiet_by t (told_of now (event.Fault x) []) refl) refl refl refl (λ y ne. refl) refl
-      (λ q unshown. broken (t.exchange x) q hears.reading.reads.row unshown) (ap (exchange_after t (told_of now (event.Fault x) []) x) hears.reading.reads.row ∙ broken_exchange) refl refl received last same_keys becomes changes
+      stands_down r t now x (event.Fault x) [] o (record hears.reading.reads.w { is_open = false }) (cause.Net x) stands hears headless refl
+      (λ q unshown. broken (t.exchange x) q hears.reading.reads.row unshown) (ap (exchange_after t (told_of now (event.Fault x) []) x) hears.reading.reads.row ∙ broken_exchange) refl refl
+      u (fault_news x) refl (quiet_by t (told_of now (event.Fault x) []) refl) refl refl refl (λ y ne. refl) refl received last same_keys becomes changes
 
   pub broken_answered : (limits : Limits) (before : List Act) → Answered limits u t before before now (event.Fault x)
   unfolding case_of room_for
@@ -96,71 +98,88 @@ module _ {B : Type 0} (r u : Rows B) (t : Tables) (now x : ℕ) (o : Open) (stan
       (closing_none t (told_of now (event.Fault x) []) stands.past (quiet_by t (told_of now (event.Fault x) []) refl) (λ q. refl) (λ y. refl) (λ y. refl))
       (sym (append-nil before)) stands_broken
 
+-- THE CASE OF ITS HEAD
+
+module _ {B : Type 0} (r : Rows B) (t : Tables) (now x : ℕ) (response : Response) (o : Open) (hears : Hears r t x o) (headless : o.headed ≡ false) (bad : Bool) (is : is_bad (length_told hears.reading.reads.w response) ≡ bad) where
+  abbrev entry_of : List ℕ → Entry
+  entry_of ys = told_of now (event.Head x response) ys
+
+  pub head_case_is : (ys : List ℕ) → case_at t (entry_of ys) ≡ Some (direct_by bad)
+  head_case_is ys = case_is t (has_loss (map act.Close ys)) x response hears.reading.reads.w bad hears.reading.reads.row (hears.reading.reads.past (headless_is o hears.reading.reads.w hears.is headless)) is
+
+  pub no_founding : (ys : List ℕ) → is_founding (case_at t (entry_of ys)) ≡ false
+  no_founding ys = ap is_founding (head_case_is ys) ∙ not_founding bad
+
+  pub no_sending : (ys : List ℕ) → sends_back (case_at t (entry_of ys)) ≡ false
+  no_sending ys = ap sends_back (head_case_is ys) ∙ not_sending bad
+
+  -- it doesn't fill the store
+  no_write : write_in t (entry_of []) (event.Head x response) ≡ None
+  no_write = let off = no_founding [] in rw off refl
+
+  pub room_is : (limits : Limits) → room_for limits t now (event.Head x response) ≡ room.After 0
+  unfolding room_for
+  room_is limits = ap (room_by limits t (entry_of [])) no_write
+
 -- A HEAD THAT CAN'T BE USED
 
-module _ {B : Type 0} (r u : Rows B) (t : Tables) (now x : ℕ) (response : Response) (o : Open) (stands : Standing r t) (hears : Hears r t x o) (headless : o.headed ≡ false) (quiet : (acts : List Act) → DoomsNobody t (record { now = now; event = event.Head x response; acts = acts })) where
+-- what is said then, where it is closed among others
+module _ {B : Type 0} (r : Rows B) (t : Tables) (now x : ℕ) (response : Response) (o : Open) (hears : Hears r t x o) (headless : o.headed ≡ false) (is : is_bad (length_told hears.reading.reads.w response) ≡ true) (ys : List ℕ) (closes : closes_in x (map act.Close ys) ≡ true) where
   abbrev c : ℕ
   c = o.c
 
   abbrev w : Exchange
   w = hears.reading.reads.w
 
-  -- whatever is closed
-  module _ (ys : List ℕ) (bad : Bool) (is : is_bad (length_told w response) ≡ bad) (lossless : has_loss (map act.Close ys) ≡ false) where
-    pub head_case_is : case_at t (told_of now (event.Head x response) ys) ≡ Some (direct_by bad)
-    head_case_is = case_is t (has_loss (map act.Close ys)) x response w bad hears.reading.reads.row (hears.reading.reads.past (headless_is o w hears.is headless)) is
+  abbrev e : Entry
+  e = told_of now (event.Head x response) ys
 
-    pub no_founding : is_founding (case_at t (told_of now (event.Head x response) ys)) ≡ false
-    no_founding = ap is_founding head_case_is ∙ not_founding bad
+  bad_case : case_at t e ≡ Some case.DirectBad
+  bad_case = head_case_is r t now x response o hears headless true is ys
 
-    pub no_sending : sends_back (case_at t (told_of now (event.Head x response) ys)) ≡ false
-    no_sending = ap sends_back head_case_is ∙ not_sending bad
+  abbrev pub refused_row : Exchange
+  refused_row = record w { head = Some response; answered = now; joined = joined_at t e w; asked = asks_in x (map act.Close ys) || w.asked; is_open = false }
 
-  -- it doesn't fill the store
-  module _ (bad : Bool) (is : is_bad (length_told w response) ≡ bad) where
-    no_write : write_in t (told_of now (event.Head x response) []) (event.Head x response) ≡ None
-    no_write = let off = no_founding [] bad is refl in rw off refl
+  refused : (z : Option Exchange) (q : rows.Consumer) → z ≡ Some w → by_head t e c x response z q ≡ record q { place = place.Down (cause.BadHead x) }
+  refused z q row =
+      let mine : eqb w.c c ≡ true = rw hears.reading.reads.for_it (eqb-same c) in
+      let case_here = bad_case in
+      ap (λ (y : Option Exchange). by_head t e c x response y q) row ∙ rw (mine, case_here) refl
 
-    pub room_is : (limits : Limits) → room_for limits t now (event.Head x response) ≡ room.After 0
-    unfolding room_for
-    room_is limits = ap (room_by limits t (told_of now (event.Head x response) [])) no_write
+  pub puts_down : (q : rows.Consumer) → q.shown ≡ false → by_head t e c x response (t.exchange x) q ≡ record q { place = place.Down (cause.BadHead x) }
+  puts_down q unshown = refused (t.exchange x) q hears.reading.reads.row
 
-  module _ (is : is_bad (length_told w response) ≡ true) (received : u.received ≡ r.received) (last : u.last_start ≡ r.last_start) (same_keys : u.keys ≡ r.keys) (becomes : exch.Becomes known.closed x r.exchanges u.exchanges) (changes : ChangesAt r.consumers u.consumers c (put_down (cause.BadHead x))) where
-    abbrev e : Entry
-    e = told_of now (event.Head x response) (x ∷ [])
+  closed_after : exchange_after t e x (Some w) ≡ Some refused_row
+  unfolding exchange_after
+  closed_after = rw (eqb-same x, closes) refl
 
-    bad_case : case_at t e ≡ Some case.DirectBad
-    bad_case = head_case_is (x ∷ []) true is refl
+  pub refused_exchange : (after_accepted t e).exchange x ≡ Some refused_row
+  refused_exchange = ap (exchange_after t e x) hears.reading.reads.row ∙ closed_after
 
-    refused : (z : Option Exchange) (q : rows.Consumer) → z ≡ Some w → by_head t e c x response z q ≡ record q { place = place.Down (cause.BadHead x) }
-    refused z q row =
-        let mine : eqb w.c c ≡ true = rw hears.reading.reads.for_it (eqb-same c) in
-        let case_here = bad_case in
-        ap (λ (y : Option Exchange). by_head t e c x response y q) row ∙ rw (mine, case_here) refl
+-- it is closed
+module _ {B : Type 0} (r : Rows B) (t : Tables) (now x : ℕ) (response : Response) (o : Open) (hears : Hears r t x o) (headless : o.headed ≡ false) (is : is_bad (length_told hears.reading.reads.w response) ≡ true) where
+  pub refuses_as : (y : ℕ) → (is_refused (case_at t (told_of now (event.Head x response) [])) && brings_head y (event.Head x response)) ≡ nat_eq x y
+  refuses_as y = let case_here = head_case_is r t now x response o hears headless true is [] in rw case_here refl
 
-    refused_exchange : exchange_after t e x (Some w) ≡ Some (record w { head = Some response; answered = now; joined = joined_at t e w; asked = w.asked; is_open = false })
-    unfolding exchange_after
-    refused_exchange = rw (eqb-same x) refl
+  pub open_yet : (exchange_heard t (told_of now (event.Head x response) []) x (event.Head x response) hears.reading.reads.w).is_open ≡ true
+  open_yet = let none : promise_in hears.reading.reads.w response ≡ None = bad_promise (length_told hears.reading.reads.w response) is in rw (eqb-same x, none) hears.is.is_open
 
-    stands_refused : RowsStand u (after_accepted t e)
-    stands_refused =
-        stands_down r u t now x (event.Head x response) (x ∷ []) o (record w { head = Some response; answered = now; joined = joined_at t e w; asked = w.asked; is_open = false }) (cause.BadHead x) stands hears (head_news x response) headless
-        (no_sending (x ∷ []) true is refl) (no_founding (x ∷ []) true is refl) (quiet (act.Close x ∷ [])) refl refl refl (λ y ne. closes_itself x y ne) refl
-        (λ q unshown. refused (t.exchange x) q hears.reading.reads.row) (ap (exchange_after t e x) hears.reading.reads.row ∙ refused_exchange) refl refl received last same_keys becomes changes
+-- and nobody is doomed by it
+module _ {B : Type 0} (r u : Rows B) (t : Tables) (now x : ℕ) (response : Response) (o : Open) (stands : Standing r t) (hears : Hears r t x o) (headless : o.headed ≡ false) (quiet : (acts : List Act) → DoomsNobody t (record { now = now; event = event.Head x response; acts = acts }))
+    (is : is_bad (length_told hears.reading.reads.w response) ≡ true) (received : u.received ≡ r.received) (last : u.last_start ≡ r.last_start) (same_keys : u.keys ≡ r.keys) (becomes : exch.Becomes known.closed x r.exchanges u.exchanges) (changes : ChangesAt r.consumers u.consumers o.c (put_down (cause.BadHead x))) where
+  stands_refused : RowsStand u (after_accepted t (told_of now (event.Head x response) (x ∷ [])))
+  stands_refused =
+      let closes : closes_in x (map act.Close (x ∷ [])) ≡ true = rw (eqb-same x) refl in
+      stands_down r t now x (event.Head x response) (x ∷ []) o (refused_row r t now x response o hears headless is (x ∷ []) closes) (cause.BadHead x) stands hears headless (no_sending r t now x response o hears headless true is (x ∷ []))
+      (puts_down r t now x response o hears headless is (x ∷ []) closes) (refused_exchange r t now x response o hears headless is (x ∷ []) closes) refl refl
+      u (head_news x response) (no_founding r t now x response o hears headless true is (x ∷ [])) (quiet (act.Close x ∷ [])) refl refl refl (λ y ne. closes_itself x y ne) refl received last same_keys becomes changes
 
-    -- and is closed
-    refuses_here : (is_refused (case_at t (told_of now (event.Head x response) [])) && brings_head x (event.Head x response)) ≡ true
-    refuses_here = let case_here = head_case_is [] true is refl in rw (case_here, eqb-same x) refl
-
-    refuses_other : (y : ℕ) → y ≢ x → (is_refused (case_at t (told_of now (event.Head x response) [])) && brings_head y (event.Head x response)) ≡ false
-    refuses_other y ne = let case_here = head_case_is [] true is refl in let off : eqb x y ≡ false = eqb-other x y (λ eq. ne (sym eq)) in rw (case_here, off) refl
-
-    open_yet : (exchange_heard t (told_of now (event.Head x response) []) x (event.Head x response) w).is_open ≡ true
-    open_yet = let none : promise_in w response ≡ None = bad_promise (length_told w response) is in rw (eqb-same x, none) hears.is.is_open
-
-    pub refused_answered : (limits : Limits) (before out : List Act) → out ≡ before ++ (act.Close x ∷ []) → Answered limits u t before out now (event.Head x response)
-    refused_answered limits before out acts =
-        told_answered limits u t now (event.Head x response) (x ∷ []) before out refl
-        (ap (first_idle t (told_of now (event.Head x response) [])) (room_is true is limits)) (ap has_room (room_is true is limits))
-        (closing_one t (told_of now (event.Head x response) []) stands.past (quiet []) (λ q. refl) x w true false stands.order stands.lists hears.reading.reads.row refuses_here refl refl open_yet refuses_other (λ y ne. refl))
-        acts stands_refused
+  pub refused_answered : (limits : Limits) (before out : List Act) → out ≡ before ++ (act.Close x ∷ []) → Answered limits u t before out now (event.Head x response)
+  refused_answered limits before out acts =
+      let room = room_is r t now x response o hears headless true is limits in
+      told_answered limits u t now (event.Head x response) (x ∷ []) before out refl
+      (ap (first_idle t (told_of now (event.Head x response) [])) room) (ap has_room room)
+      (closing_one t (told_of now (event.Head x response) []) stands.past (quiet []) (λ q. refl) x hears.reading.reads.w true false stands.order stands.lists hears.reading.reads.row
+      (refuses_as r t now x response o hears headless is x ∙ eqb-same x) refl refl (open_yet r t now x response o hears headless is)
+      (λ y ne. refuses_as r t now x response o hears headless is y ∙ eqb-other x y (λ eq. ne (sym eq))) (λ y ne. refl))
+      acts stands_refused

@@ -75,9 +75,9 @@ unstored_of o response is good =
 -- THE CASE THAT WAS TOLD
 
 module _ {B : Type 0} (r : Rows B) (t : Tables) (x c : ℕ) (o : Open) (response : Response) (kase : HeadCase) (stands : Standing r t) (running : (table_of r.exchanges x).running ≡ Some o) (headless : o.headed ≡ false) (same_c : c ≡ o.c)
-    (built : IsBuiltHead r (table_of r.exchanges x).running response) (says : (q : Open) (k : Consumer) → (table_of r.exchanges x).running ≡ Some q → get nat_eq r.consumers c ≡ Some k → kase ≡ head_case (head_view q k response)) where
-  built_on : (way : Route) → route_of o.need ≡ way → IsBuiltOn r way o response
-  built_on way is = subst (λ (z : Route). IsBuiltOn r z o response) is (subst (λ (z : Option Open). IsBuiltHead r z response) running built)
+    (built : IsBuiltHead (table_of r.exchanges x).running response) (says : (q : Open) (k : Consumer) → (table_of r.exchanges x).running ≡ Some q → get nat_eq r.consumers c ≡ Some k → kase ≡ head_case (head_view q k response)) where
+  built_on : (way : Route) → route_of o.need ≡ way → IsBuiltOn way o response
+  built_on way is = subst (λ (z : Route). IsBuiltOn z o response) is (subst (λ (z : Option Open). IsBuiltHead z response) running built)
 
   who : (k : Consumer) × (get nat_eq r.consumers o.c ≡ Some k)
   who = by_waits (waits_of r t x o stands running headless)

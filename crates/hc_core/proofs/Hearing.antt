@@ -33,7 +33,7 @@ use Rattle.hc_core.specs.Kept.{KeepsConsumer, KeepsRunning, IsRunning}
 use Rattle.hc_core.proofs.Words.{none_some, same_row, is_there}
 use Rattle.hc_core.proofs.Frames.{acted_stays}
 use Rattle.hc_core.proofs.Moved.{kept_lives}
-use Rattle.hc_core.proofs.PastEntries.{IsPastEntry, IsOnly, DoomsNobody}
+use Rattle.hc_core.proofs.PastEntries.{IsEntryOf, IsPastEntry, IsOnly, DoomsNobody, quiet_entry}
 use Rattle.hc_core.proofs.PastCloses.{told_of}
 use Rattle.hc_core.proofs.DirectPolls.{IsReading, reading_of}
 use Rattle.hc_core.proofs.Standing.{IsRead, Standing, reads_it, waits_for_it}
@@ -83,7 +83,7 @@ hears_of r t x o stands running past =
 
 -- WHAT IS SAID OF IT
 
-no_asks : (y : ℕ) (ys : List ℕ) → asks_in y (map act.Close ys) ≡ false
+pub no_asks : (y : ℕ) (ys : List ℕ) → asks_in y (map act.Close ys) ≡ false
 no_asks y [] = refl
 no_asks y (z ∷ ys) = no_asks y ys
 
@@ -91,7 +91,7 @@ pub no_opening : (ys : List ℕ) → opening_in (map act.Close ys) ≡ None
 no_opening [] = refl
 no_opening (y ∷ ys) = no_opening ys
 
-no_losses : (q : ℕ) (ys : List ℕ) → loses_in q (map act.Close ys) ≡ false
+pub no_losses : (q : ℕ) (ys : List ℕ) → loses_in q (map act.Close ys) ≡ false
 no_losses q [] = refl
 no_losses q (y ∷ ys) = no_losses q ys
 
@@ -102,8 +102,8 @@ pub record IsNews (ev : Event) (x : ℕ) : Type 0 where
   pub cancels : (d : ℕ) → ev ≡ event.Cancel d → ⊥
 
 module _ (t : Tables) (now c x : ℕ) (ev : Event) (ys : List ℕ) (news : IsNews ev x) (w : Exchange) (row : t.exchange x ≡ Some w) (for_it : w.c ≡ c) where
-  pub told_entry : sends_back (case_at t (told_of now ev ys)) ≡ false → is_founding (case_at t (told_of now ev ys)) ≡ false → DoomsNobody t (told_of now ev ys) → IsPastEntry t (told_of now ev ys) c
-  told_entry sends founds quiet = record {
+  pub told_entry_of : sends_back (case_at t (told_of now ev ys)) ≡ false → is_founding (case_at t (told_of now ev ys)) ≡ false → IsEntryOf t (told_of now ev ys) c
+  told_entry_of sends founds = record {
     about = λ y is. (let same : x ≡ y = (let both : Some x ≡ Some y = sym news.names ∙ is in cc) in record { w = w; row = subst (λ (z : ℕ). t.exchange z ≡ Some w) same row; for_it = for_it });
     cancels = λ d is. absurd (news.cancels d is);
     makes = λ d ne. news.makes d now;
@@ -111,8 +111,10 @@ module _ (t : Tables) (now c x : ℕ) (ev : Event) (ys : List ℕ) (news : IsNew
     lossless = λ q. no_losses q ys;
     sends = sends;
     founds = founds;
-    quiet = quiet;
   }
+
+  pub told_entry : sends_back (case_at t (told_of now ev ys)) ≡ false → is_founding (case_at t (told_of now ev ys)) ≡ false → DoomsNobody t (told_of now ev ys) → IsPastEntry t (told_of now ev ys) c
+  told_entry sends founds quiet = quiet_entry (told_entry_of sends founds) quiet
 
   pub told_only : ((y : ℕ) → y ≢ x → closes_in y (map act.Close ys) ≡ false) → IsOnly (told_of now ev ys) x
   told_only closes = record {

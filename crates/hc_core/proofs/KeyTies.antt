@@ -4,9 +4,10 @@ use Rattle.std.specs.Prelude.{find, bytes_eq, ◌&&◌, ◌||◌, not}
 use Rattle.hc_entry.specs.declared.keys.KeyTable.{KeyTable}
 use Rattle.hc_entry.specs.Keys as keys
 use Rattle.hc_entry.specs.Keys.{kept_of}
-use Rattle.hc_entry.specs.Kept.{Kept, on_line}
-use Rattle.hc_entry.specs.Lines.{Line, is_among, is_held_by, released, queued, held_by, left_by}
+use Rattle.hc_entry.specs.Kept.{Kept, line_in, on_line}
+use Rattle.hc_entry.specs.Lines.{Line, is_among, is_held_by, released, queued, held_by, left_by, is_in, all_back}
 use Rattle.hc_entry.specs.Users.{itself}
+use Rattle.hc_entry.proofs.OrderLemmas.{among-all}
 use Rattle.hc_rising.specs.Rising.{without}
 use Rattle.hc_rising.proofs.RisingLemmas.{has-with, has-without}
 use Rattle.hc_rules.proofs.RangeReads.{same_bytes}
@@ -60,15 +61,15 @@ not_away_by t key k (place.Direct x) at plain = then_false (bytes_eq k.request.k
 not_away_by t key k (place.Down why) at plain = then_false (bytes_eq k.request.key key) (is_away_at t k.place) (rw at refl)
 not_away_by t key k place.Over at plain = then_false (bytes_eq k.request.key key) (is_away_at t k.place) (rw at refl)
 
-plain_unpassed : (key : List ℕ) (o : Option Consumer) → is_plain o ≡ true → is_passed key o ≡ false
+pub plain_unpassed : (key : List ℕ) (o : Option Consumer) → is_plain o ≡ true → is_passed key o ≡ false
 plain_unpassed key None plain = refl
 plain_unpassed key (Some k) plain = unpassed_by key k k.place refl plain
 
-plain_here : (t : Tables) (key : List ℕ) (o : Option Consumer) → is_plain o ≡ true → is_away t key o ≡ false
+pub plain_here : (t : Tables) (key : List ℕ) (o : Option Consumer) → is_plain o ≡ true → is_away t key o ≡ false
 plain_here t key None plain = refl
 plain_here t key (Some k) plain = not_away_by t key k k.place refl plain
 
-all_plain : (t : Tables) (c : ℕ) (o : Option Consumer) → AllPast t → t.consumer c ≡ o → is_plain o ≡ true
+pub all_plain : (t : Tables) (c : ℕ) (o : Option Consumer) → AllPast t → t.consumer c ≡ o → is_plain o ≡ true
 all_plain t c None past row = refl
 all_plain t c (Some k) past row = by_place k.place refl
   where
@@ -242,3 +243,53 @@ no_line key k off = rw off (by_tests (bytes_eq k.request.key key) (not (is_disab
 
 pub no_turn : (key : List ℕ) (k : Consumer) → stands_in_line k.place ≡ false → has_turn key (Some k) ≡ false
 no_turn key k off = and_false _ _ (no_line key k off)
+
+-- WHOEVER WAITS IS BACK
+
+-- who waits for a key stands in its line
+pub waits_in_line : (t : Tables) (key : List ℕ) (k : Kept) → AllPast t → KeepsKey t key k → (c : ℕ) → is_in c (line_in k) ≡ is_in_line key (t.consumer c)
+waits_in_line t key k past kept c =
+    let passed : is_among c k.passed ≡ false = kept.passed c ∙ plain_unpassed key (t.consumer c) (all_plain t c (t.consumer c) past refl) in
+    let away : is_among c k.away ≡ false = kept.away c ∙ plain_here t key (t.consumer c) (all_plain t c (t.consumer c) past refl) in
+    rw (passed, away) (or_nothing (is_among c k.in_line)) ∙ kept.in_line c
+  where
+    or_nothing : (b : Bool) → (b || false || false) ≡ b
+    or_nothing true = refl
+    or_nothing false = refl
+
+-- Whoever waits for one key is in line, and nobody has its turn.
+module _ (t s : Tables) (key : List ℕ) (a b : KeyTable) (past : AllPast t) (nothing : (q : ℕ) → s.representation q ≡ None) (plain : (d : ℕ) → is_plain (s.consumer d) ≡ true)
+    (line : (k : List ℕ) (d : ℕ) → is_in_line k (s.consumer d) ≡ is_in_line k (t.consumer d))
+    (turn : (d : ℕ) → has_turn key (s.consumer d) ≡ false)
+    (others : (k : List ℕ) (d : ℕ) → bytes_eq key k ≡ false → has_turn k (s.consumer d) ≡ has_turn k (t.consumer d))
+    (kept : (k : List ℕ) → KeepsKey t k (kept_of a k)) where
+  no_passed : (k : List ℕ) (c : ℕ) → is_among c (kept_of a k).passed ≡ false
+  no_passed k c = (kept k).passed c ∙ plain_unpassed k (t.consumer c) (all_plain t c (t.consumer c) past refl)
+
+  no_away : (k : List ℕ) (c : ℕ) → is_among c (kept_of a k).away ≡ false
+  no_away k c = (kept k).away c ∙ plain_here t k (t.consumer c) (all_plain t c (t.consumer c) past refl)
+
+  back_key : KeepsKey s key (on_line all_back (kept_of a key))
+  back_key = record {
+    current = (kept key).current ∙ (no_current t key past.nothing ∙ sym (no_current s key nothing));
+    in_line = λ c. among-all c (line_in (kept_of a key)) ∙ (waits_in_line t key (kept_of a key) past (kept key) c ∙ sym (line key c));
+    passed = λ c. sym (plain_unpassed key (s.consumer c) (plain c));
+    away = λ c. sym (plain_here s key (s.consumer c) (plain c));
+    holder = λ c. sym (turn c);
+  }
+
+  other_key : (k : List ℕ) → bytes_eq key k ≡ false → KeepsKey s k (kept_of a k)
+  other_key k off = record {
+    current = (kept k).current ∙ (no_current t k past.nothing ∙ sym (no_current s k nothing));
+    in_line = λ c. (kept k).in_line c ∙ sym (line k c);
+    passed = λ c. no_passed k c ∙ sym (plain_unpassed k (s.consumer c) (plain c));
+    away = λ c. no_away k c ∙ sym (plain_here s k (s.consumer c) (plain c));
+    holder = λ c. (kept k).holder c ∙ sym (others k c off);
+  }
+
+  pub keys_back : keys.Becomes (on_line all_back) key a b → (k : List ℕ) → KeepsKey s k (kept_of b k)
+  keys_back becomes k = by_test (bytes_eq key k) refl
+    where
+      by_test : (q : Bool) → bytes_eq key k ≡ q → KeepsKey s k (kept_of b k)
+      by_test true is = let one : key ≡ k = same_bytes key k is in rw (becomes k, is) (subst (λ (z : List ℕ). KeepsKey s z (on_line all_back (kept_of a key))) one back_key)
+      by_test false is = rw (becomes k, is) (other_key k is)

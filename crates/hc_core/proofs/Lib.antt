@@ -23,6 +23,8 @@ pub mod AnswerArms
 pub mod Apart
 pub mod ApartArms
 pub mod OpenArms
+pub mod RisingLists
+pub mod DoomLoops
 pub mod HeadCases
 pub mod StartArms
 pub mod TurnTies
@@ -32,7 +34,11 @@ pub mod PollLines
 pub mod TurnMoves
 pub mod TurnEnds
 pub mod TurnHeads
+pub mod DoomCloses
+pub mod Dooming
+pub mod DoomArms
 pub mod HeadWays
+pub mod HeadsPast
 pub mod OpenLines
 pub mod BeginArms
 pub mod Gates

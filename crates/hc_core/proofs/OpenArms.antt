@@ -1,8 +1,8 @@
--- A consumer that reads nothing is cancelled, opens its exchange or starts; and a doom.
-use Rattle.std.proofs.Common.{◌≡◌, ◌≢◌, inl, inr, ℕ, ◌+◌, ◌<◌, List, [], Bool, false, cond, eqb, Option, Some, None, refl, ap, sym, ◌∙◌, subst, arith}
+-- A consumer that reads nothing is cancelled.
+use Rattle.std.proofs.Common.{◌≡◌, ℕ, List, [], false, Option, Some, None, refl, ap, sym, ◌∙◌, subst}
 use Rattle.std.proofs.lemmas.List.{append-nil}
 use Rattle.std.specs.Prelude.{nat_eq}
-use Rattle.std.specs.HashMap.{get, hash_map_len}
+use Rattle.std.specs.HashMap.{get}
 use Rattle.hc_event.specs.declared.event.Event.TheVariants as event
 use Rattle.hc_event.specs.declared.act.Act.{Act}
 use Rattle.hc_rules.specs.declared.room.Limits.{Limits}
@@ -10,50 +10,36 @@ use Rattle.hc_model.specs.declared.place.Place.{Place}
 use Rattle.hc_model.specs.declared.place.Place.TheVariants as place
 use Rattle.hc_model.specs.Cases.{case_of}
 use Rattle.hc_model.specs.ConsumerRows.{consumer_after}
-use Rattle.hc_model.specs.Denials.{is_live, is_live_place, live}
+use Rattle.hc_model.specs.Denials.{is_live_place}
 use Rattle.hc_model.specs.Reading.{reads}
 use Rattle.hc_model.specs.Rows as rows
 use Rattle.hc_model.specs.Rows.{Tables, Exchange}
 use Rattle.hc_model.specs.Tables.{after_accepted}
-use Rattle.hc_model.specs.Weights.{room_for}
 use Rattle.hc_core.specs.declared.consumer.Consumer.{Consumer}
 use Rattle.hc_core.specs.declared.rows.Rows.{Rows}
 use Rattle.hc_core.specs.Changes.{BecomesAt}
-use Rattle.hc_core.specs.Kept.{KeepsConsumer, held_for}
 use Rattle.hc_core.specs.Stands.{Answered}
 use Rattle.hc_entry.specs.Keys.{kept_of}
-use Rattle.hc_entry.specs.Kept.{Kept, line_in}
-use Rattle.hc_entry.specs.Lines.{turn_of}
-use Rattle.hc_rules.specs.Least.{least}
-use Rattle.hc_rules.proofs.RangeReads.{same_bytes}
-use Rattle.hc_model.specs.Dooms.{is_key}
-use Rattle.hc_model.specs.Lines.{is_in_line, stands_in_line}
+use Rattle.hc_model.specs.Lines.{stands_in_line}
 use Rattle.hc_core.specs.Arms.{IsLeft}
-use Rattle.hc_core.specs.Built.{IsUnawaited}
 use Rattle.hc_core.specs.Kept.{IsKept}
 use Rattle.hc_core.specs.Lines.{KeepsKey}
 use Rattle.hc_core.proofs.Apart.{stays_out}
-use Rattle.hc_core.proofs.KeyTies.{keys_stay, is_plain, is_plain_at}
+use Rattle.hc_core.proofs.KeyTies.{is_plain, is_plain_at}
 use Rattle.hc_core.proofs.LineArms.{left_keys}
-use Rattle.hc_core.proofs.PastEntries.{DoomsNobody, quiet_by, nothing_after}
-use Rattle.hc_core.proofs.TurnTies.{least_there}
-use Rattle.hc_core.proofs.Words.{not_true}
-use Rattle.hc_model.specs.Entries.{Entry}
-use Rattle.hc_core.proofs.Words.{same_or, eqb-same, eqb-other, none_some}
-use Rattle.hc_core.proofs.Frames.{consumer_absent}
-use Rattle.hc_core.proofs.Moved.{IsSameOrBack, stands_moved, kept_row, kept_none}
-use Rattle.hc_core.proofs.PastEntries.{IsPastEntry, IsOnly, others, other_exchanges}
+use Rattle.hc_core.proofs.PastEntries.{quiet_by, nothing_after}
+use Rattle.hc_core.proofs.Words.{eqb-same, none_some}
+use Rattle.hc_core.proofs.Moved.{kept_row}
+use Rattle.hc_core.proofs.PastEntries.{IsPastEntry, IsOnly, others}
 use Rattle.hc_model.specs.ConsumerRows.{consumer_heard, consumer_acted, consumer_settled}
 use Rattle.hc_model.specs.Dooms.{doomed}
 use Rattle.hc_model.specs.Reading.{own_open}
 use Rattle.hc_model.specs.StartingOver.{starts_over}
 use Rattle.hc_model.proofs.ActParts.{far_closed}
 use Rattle.hc_core.proofs.Frames.{acted_stays}
-use Rattle.hc_core.proofs.PastCloses.{cancel_of, told_of, closing_none, cancel_answered, told_answered}
+use Rattle.hc_core.proofs.PastCloses.{cancel_of, closing_none, cancel_answered}
 use Rattle.hc_core.proofs.PollRows.{IsGone}
-use Rattle.hc_core.proofs.Apart.{next_free, nobody_reads, stands_apart}
-use Rattle.hc_core.proofs.LiveCounts.{counted, counted_same, not_among}
-use Rattle.hc_core.proofs.Direct.{same_lives}
+use Rattle.hc_core.proofs.Apart.{stands_apart}
 use Rattle.hc_core.proofs.ApartArms.{unleft, not_over_direct}
 use Rattle.hc_core.proofs.Standing.{Standing, StandsPast, direct, down, line, turn}
 
@@ -175,83 +161,3 @@ other_cancelled r u t now c k before limits stands there off apart out received 
     idle_cancelled r u t now c k before limits stands idle received last
     (λ w is over. stays_out r u t (cancel_of now c []) c idle.v w stands (cancel_past t now c) idle.row is outside (rw over refl) (rw over refl) same_keys)
     exchanges becomes
-
--- A DOOM
-
--- where whoever changes is none of those that started, as many are live as before
-still_count : {B : Type 0} (r : Rows B) (t s : Tables) (now c : ℕ) → Standing r t → s.starts ≡ t.starts → t.last_start < c → ((d : ℕ) → d ≢ c → IsSameOrBack now (t.consumer d) (s.consumer d)) → hash_map_len r.consumers ≡ live s
-still_count r t s now c stands starts lt others =
-    let f : ℕ → Bool = λ d. is_live (t.consumer d) in
-    let g : ℕ → Bool = λ d. is_live (s.consumer d) in
-    let alike : counted g t.starts ≡ counted f t.starts = counted_same f g c t.starts (λ h. not_among (t.last_start + 1) c t.starts stands.order.starts (omega (arith, lt)) h) (λ d ne. same_lives now _ _ (others d ne)) in
-    stands.count ∙ (sym alike ∙ ap (counted g) (sym starts))
-
-doom_past : (t : Tables) (now c : ℕ) (key : List ℕ) → DoomsNobody t (told_of now (event.Doom key) []) → IsPastEntry t (told_of now (event.Doom key) []) c
-unfolding case_of
-doom_past t now c key quiet = record {
-  about = λ y is. none_some y is;
-  cancels = λ d is. absurd (let never : event.Doom key ≡ event.Cancel d = is in cc);
-  makes = λ d ne. refl;
-  far = λ d ne. far_closed d [];
-  lossless = λ q. refl;
-  sends = refl;
-  founds = refl;
-  quiet = quiet;
-}
-
--- where nobody stands in line, nobody is doomed there
-pub unawaited : {B : Type 0} (r : Rows B) (t : Tables) (key : List ℕ) → Standing r t → IsUnawaited r.keys key → (d : ℕ) → is_in_line key (t.consumer d) ≡ false
-unawaited r t key stands none d = not_true _ (λ on. there (kept_of r.keys key) none (least_there (kept_of r.keys key).in_line d ((stands.keys key).in_line d ∙ on)))
-  where
-    there : (k : Kept) → turn_of (line_in k) ≡ None → (m : ℕ) × (least k.in_line ≡ Some m) → ⊥
-    there k unturned (m, some) = by_holder k.holder refl
-      where
-        by_holder : (o : Option ℕ) → k.holder ≡ o → ⊥
-        by_holder None is = none_some m (sym (let turn : turn_of (line_in k) ≡ Some m = rw (is, some) refl in sym turn ∙ unturned))
-        by_holder (Some h) is = none_some h (sym (let turn : turn_of (line_in k) ≡ Some h = rw is refl in sym turn ∙ unturned))
-
-pub doomed_none : (t : Tables) (e : Entry) (key : List ℕ) → ((d : ℕ) → is_in_line key (t.consumer d) ≡ false) → (doomed t e ≡ Some key) → DoomsNobody t e
-doomed_none t e key off is = λ d k row on.
-    let same : key ≡ k.request.key = same_bytes key k.request.key (sym (ap (λ (o : Option (List ℕ)). is_key o k.request.key) is) ∙ on) in
-    ap (λ (z : List ℕ). is_in_line z (Some k)) (sym same) ∙ (ap (is_in_line key) (sym row) ∙ off d)
-
-doom_quiet : {B : Type 0} (r : Rows B) (t : Tables) (now : ℕ) (key : List ℕ) → Standing r t → IsUnawaited r.keys key → DoomsNobody t (told_of now (event.Doom key) [])
-unfolding doomed
-doom_quiet r t now key stands none = doomed_none t (told_of now (event.Doom key) []) key (unawaited r t key stands none) refl
-
-doom_nothing : (now x : ℕ) (key : List ℕ) → IsOnly (told_of now (event.Doom key) []) x
-doom_nothing now x key = record { hears = λ y is. none_some y is; asks = λ y ne. refl; closes = λ y ne. refl; opens = λ o is. none_some o is }
-
-pub doom_answered : {B : Type 0} (r : Rows B) (t : Tables) (now : ℕ) (key : List ℕ) (before : List Act) (limits : Limits) → Standing r t → IsUnawaited r.keys key → Answered limits r t before before now (event.Doom key)
-unfolding case_of room_for
-doom_answered r t now key before limits stands unawaited_key =
-    let quiet = doom_quiet r t now key stands unawaited_key in
-    let e = told_of now (event.Doom key) [] in
-    let s : Tables = after_accepted t e in
-    let c : ℕ = t.last_start + 1 in
-    let x : ℕ = t.opened + 1 in
-    let none : t.consumer c ≡ None = stands.lists.new_consumers c (omega arith) in
-    let none_after : s.consumer c ≡ None = ap (consumer_after t e c) none ∙ consumer_absent t e c refl in
-    let free : t.exchange x ≡ None = next_free r t stands in
-    let every : (y : ℕ) → s.exchange y ≡ t.exchange y = λ y. other_exchanges t e (y + 1) (doom_nothing now (y + 1) key) y (omega arith) in
-    let all_others = others t e c stands.past (doom_past t now c key quiet) in
-    let known_x = stands.exchanges x in
-    let absent : get nat_eq r.consumers c ≡ None = kept_none t (get nat_eq r.consumers c) (subst (λ o. KeepsConsumer t (get nat_eq r.consumers c) o) none (stands.consumers c)) in
-    told_answered limits r t now (event.Doom key) [] before before refl refl refl
-    (closing_none t e stands.past quiet (λ q. refl) (λ y. refl) (λ y. refl))
-    (sym (append-nil before))
-    (stands_moved r r t s now c x None stands (nothing_after t e stands.past.nothing refl) (let same = stands.received in omega (arith, same)) stands.last_start stands.next
-    (record { places = λ d. stays_none (get nat_eq r.consumers) c absent d; len = rw absent refl })
-    (still_count r t s now c stands refl (omega arith) all_others)
-    all_others (λ y ne. every y) (λ y ne. refl)
-    (rw none_after refl)
-    (record { running = rw (every x) known_x.running; held = rw (every x, free) (known_x.held ∙ ap (held_for t x) free) })
-    (keys_stay t s now c r.keys r.keys stands.past (nothing_after t e stands.past.nothing refl) all_others (rw none_after refl) stands.keys (λ key. refl) (λ key. rw (none_after, none) refl) (λ key. rw (none_after, none) refl))
-    (λ d j ne row at. nobody_reads r t x d j stands free row at)
-    (λ y j ne row at. none_some j (sym none ∙ row)) (λ y j ne row at. none_some j (sym none_after ∙ row)))
-  where
-    stays_none : {A : Type 0} (f : ℕ → Option A) (c : ℕ) → f c ≡ None → (d : ℕ) → f d ≡ cond (eqb c d) None (f d)
-    stays_none f c none d = elim (same_or c d) [
-      | inl eq ↦ rw (← eq, eqb-same c) none
-      | inr ne ↦ rw (eqb-other c d ne) refl
-    ]

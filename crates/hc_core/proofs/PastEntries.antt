@@ -13,14 +13,14 @@ use Rattle.hc_model.specs.declared.place.Place.{Place}
 use Rattle.hc_model.specs.declared.place.Place.TheVariants as place
 use Rattle.hc_model.specs.ActFilters.{loses_in}
 use Rattle.hc_model.specs.Cases.{case_at, case_of, is_founding}
-use Rattle.hc_model.specs.ConsumerRows.{consumer_after, consumer_heard, consumer_made, by_head, by_fault}
+use Rattle.hc_model.specs.ConsumerRows.{consumer_after, consumer_heard, consumer_made, by_head, by_fault, back_in_line}
 use Rattle.hc_model.specs.Denials.{is_live_place}
 use Rattle.hc_model.specs.Dooms.{doomed, doomed_in, is_key}
 use Rattle.hc_model.specs.Entries.{Entry}
 use Rattle.hc_model.specs.ExchangeRows.{exchange_after, exchange_heard}
 use Rattle.hc_model.specs.Exchanges.{exchange_in, exchange_at, is_for, is_open}
 use Rattle.hc_model.specs.Failures.{becomes_due, cause_of_head}
-use Rattle.hc_model.specs.Lines.{is_in_line}
+use Rattle.hc_model.specs.Lines.{is_in_line, stands_in_line}
 use Rattle.hc_model.specs.Places.{Queues}
 use Rattle.hc_rules.proofs.RangeReads.{bytes_eq-same}
 use Rattle.hc_model.specs.Moves as moves
@@ -32,7 +32,7 @@ use Rattle.hc_model.specs.StartingOver.{starts_over, sends_back, waits_at}
 use Rattle.hc_model.specs.Tables.{after_accepted}
 use Rattle.hc_model.proofs.ActParts.{IsFarFrom, far_other, far_closed}
 use Rattle.hc_model.proofs.Dues.{undue_of, other_stop, loss_free}
-use Rattle.hc_core.proofs.Words.{eqb-other, none_some, false_true, same_row, and_false, then_false, not_true}
+use Rattle.hc_core.proofs.Words.{eqb-other, none_some, false_true, same_row, some_is, and_false, then_false}
 use Rattle.hc_core.proofs.Frames.{exchange_stays, exchange_absent, consumer_absent, stays, goes_back}
 use Rattle.hc_core.proofs.Moved.{IsSameOrBack, same, back}
 use Rattle.hc_core.proofs.Standing.{AllPast, ReadsPast, StandsPast, direct, down, line, turn}
@@ -79,6 +79,16 @@ quiet_by t e quiet = no_doom t e (by_event e.event quiet)
     by_event (event.Doom key) is = false_true is
 
 -- An entry about the consumer c, which loses nothing, founds nothing and sends nobody back.
+pub record IsEntryOf (t : Tables) (e : Entry) (c : ℕ) : Type 0 where
+  pub about : (x : ℕ) → exchange_in e.event ≡ Some x → IsOf t x c
+  pub cancels : (d : ℕ) → e.event ≡ event.Cancel d → d ≡ c
+  pub makes : (d : ℕ) → d ≢ c → consumer_made d e.now e.event ≡ None
+  pub far : (d : ℕ) → d ≢ c → IsFarFrom d e.acts
+  pub lossless : (r : ℕ) → loses_in r e.acts ≡ false
+  pub sends : sends_back (case_at t e) ≡ false
+  pub founds : is_founding (case_at t e) ≡ false
+
+-- which dooms nobody who stands in line
 pub record IsPastEntry (t : Tables) (e : Entry) (c : ℕ) : Type 0 where
   pub about : (x : ℕ) → exchange_in e.event ≡ Some x → IsOf t x c
   pub cancels : (d : ℕ) → e.event ≡ event.Cancel d → d ≡ c
@@ -88,6 +98,12 @@ pub record IsPastEntry (t : Tables) (e : Entry) (c : ℕ) : Type 0 where
   pub sends : sends_back (case_at t e) ≡ false
   pub founds : is_founding (case_at t e) ≡ false
   pub quiet : DoomsNobody t e
+
+pub entry_of : {t : Tables} {e : Entry} {c : ℕ} → IsPastEntry t e c → IsEntryOf t e c
+entry_of entry = record { about = entry.about; cancels = entry.cancels; makes = entry.makes; far = entry.far; lossless = entry.lossless; sends = entry.sends; founds = entry.founds }
+
+pub quiet_entry : {t : Tables} {e : Entry} {c : ℕ} → IsEntryOf t e c → DoomsNobody t e → IsPastEntry t e c
+quiet_entry entry quiet = record { about = entry.about; cancels = entry.cancels; makes = entry.makes; far = entry.far; lossless = entry.lossless; sends = entry.sends; founds = entry.founds; quiet = quiet }
 
 -- who has the turn is in line
 pub turn_in_line : (x : ℕ) (k : Consumer) → k.place ≡ place.Turn x → Queues k → is_in_line k.request.key (Some k) ≡ true
@@ -106,7 +122,12 @@ over_is place.Over h = refl
 direct_free : (x : ℕ) (p : Place) → p ≡ place.Direct x → (r lo : ℕ) (hi : Option ℕ) (by : _) → p ≡ place.Bound r lo hi by → ⊥
 direct_free x p at r lo hi by is = let never : place.Direct x ≡ place.Bound r lo hi by = sym at ∙ is in cc
 
-module _ (t : Tables) (e : Entry) (c : ℕ) (past : AllPast t) (entry : IsPastEntry t e c) where
+-- A row stays, or who waits for a doomed key starts over.
+pub data IsSameOrOver (t : Tables) (e : Entry) (o p : Option Consumer) : Type 0 where
+  goes_on : p ≡ o → ((k : Consumer) → o ≡ Some k → stands_in_line k.place ≡ true → is_key (doomed t e) k.request.key ≡ false) → IsSameOrOver t e o p
+  is_over : (k : Consumer) → o ≡ Some k → stands_in_line k.place ≡ true → is_key (doomed t e) k.request.key ≡ true → p ≡ Some (back_in_line e.now k) → IsSameOrOver t e o p
+
+module _ (t : Tables) (e : Entry) (c : ℕ) (past : AllPast t) (entry : IsEntryOf t e c) where
   module _ (d : ℕ) (k : Consumer) (ne : d ≢ c) (row : t.consumer d ≡ Some k) where
     not_for : (x : ℕ) → exchange_in e.event ≡ Some x → is_for (t.exchange x) d ≡ false
     not_for x is =
@@ -171,8 +192,17 @@ module _ (t : Tables) (e : Entry) (c : ℕ) (past : AllPast t) (entry : IsPastEn
     idle_row : reads k.place ≡ false → (if reads k.place then option_or k.due (becomes_due t e d k) else None) ≡ k.due
     idle_row off = rw off (sym (past.idle_due d k row off))
 
-    stays_put : starts_over t e d k ≡ false → (if reads k.place then option_or k.due (becomes_due t e d k) else None) ≡ k.due → IsSameOrBack e.now (Some k) (consumer_after t e d (Some k))
-    stays_put goes_on due = same (stays t e d k (entry.far d ne) entry.lossless (heard e.event refl) goes_on due)
+    stays_put : (stands_in_line k.place ≡ true → is_key (doomed t e) k.request.key ≡ false) → starts_over t e d k ≡ false → (if reads k.place then option_or k.due (becomes_due t e d k) else None) ≡ k.due → IsSameOrOver t e (Some k) (consumer_after t e d (Some k))
+    stays_put off stands due = goes_on (stays t e d k (entry.far d ne) entry.lossless (heard e.event refl) stands due) (λ j is in_line. spared j (some_is k j is) in_line)
+      where
+        spared : (j : Consumer) → k ≡ j → stands_in_line j.place ≡ true → is_key (doomed t e) j.request.key ≡ false
+        spared j is = subst (λ (z : Consumer). stands_in_line z.place ≡ true → is_key (doomed t e) z.request.key ≡ false) is off
+
+    outside : (p : Place) → k.place ≡ p → stands_in_line p ≡ false → stands_in_line k.place ≡ true → is_key (doomed t e) k.request.key ≡ false
+    outside p at out in_line = false_true (sym out ∙ (ap stands_in_line (sym at) ∙ in_line))
+
+    starts : (p : Place) → k.place ≡ p → stands_in_line p ≡ true → is_key (doomed t e) k.request.key ≡ true → starts_over t e d k ≡ true → IsSameOrOver t e (Some k) (consumer_after t e d (Some k))
+    starts p at in_line doom over = is_over k refl (ap stands_in_line at ∙ in_line) doom (goes_back t e d k (entry.far d ne) entry.lossless (heard e.event refl) over)
 
     -- a reader is told of no failure
     not_stopped : (x : ℕ) (w : Exchange) → k.place ≡ place.Direct x → k.own ≡ Some x → t.exchange x ≡ Some w → w.c ≡ d → is_same_number (source t k) (exchange_in e.event) ≡ false
@@ -213,36 +243,51 @@ module _ (t : Tables) (e : Entry) (c : ℕ) (past : AllPast t) (entry : IsPastEn
     reading_row : (x : ℕ) → k.place ≡ place.Direct x → ReadsPast t d x k → (if reads k.place then option_or k.due (becomes_due t e d k) else None) ≡ k.due
     reading_row x at r = let read : reads k.place ≡ true = rw at refl in rw (read, not_due x at r) (or_nothing k.due)
 
-    -- whoever has the turn is in line
-    not_woken : (x : ℕ) → k.place ≡ place.Turn x → Queues k → is_key (doomed t e) k.request.key ≡ false
-    not_woken x at queues = not_true _ (λ doom. false_true (sym (entry.quiet d k row doom) ∙ turn_in_line x k at queues))
-
-    live_turn : (x : ℕ) → k.place ≡ place.Turn x → Queues k → IsSameOrBack e.now (Some k) (consumer_after t e d (Some k))
-    live_turn x at queues = stays_put (over_at (place.Turn x) false at (rw (not_woken x at queues) refl) (λ q p is. (let never : place.Turn x ≡ place.Passed q p = is in cc))) (idle_row (rw at refl))
-
-    live_row : StandsPast t d k → IsSameOrBack e.now (Some k) (consumer_after t e d (Some k))
-    live_row (direct x at r) = stays_put (over_at (place.Direct x) false at (then_false _ _ refl) (λ q p is. (let never : place.Direct x ≡ place.Passed q p = is in cc))) (reading_row x at r)
+    live_row : StandsPast t d k → IsSameOrOver t e (Some k) (consumer_after t e d (Some k))
+    live_row (direct x at r) = stays_put (outside (place.Direct x) at refl) (over_at (place.Direct x) false at (then_false _ _ refl) (λ q p is. (let never : place.Direct x ≡ place.Passed q p = is in cc))) (reading_row x at r)
     live_row (down cause at unowned shown told) =
-        stays_put (over_at (place.Down cause) false at (then_false _ _ refl) (λ q p is. (let never : place.Down cause ≡ place.Passed q p = is in cc))) (idle_row (rw at refl))
-    live_row (turn x at awaits queues) = live_turn x at queues
+        stays_put (outside (place.Down cause) at refl) (over_at (place.Down cause) false at (then_false _ _ refl) (λ q p is. (let never : place.Down cause ≡ place.Passed q p = is in cc))) (idle_row (rw at refl))
+    live_row (turn x at awaits queues) = elim (bool_cases (is_key (doomed t e) k.request.key)) [
+      | inl doom ↦ starts (place.Turn x) at refl doom (over_at (place.Turn x) true at (rw doom refl) (λ q p is. (let never : place.Turn x ≡ place.Passed q p = is in cc)))
+      | inr safe ↦ stays_put (λ in_line. safe) (over_at (place.Turn x) false at (rw safe refl) (λ q p is. (let never : place.Turn x ≡ place.Passed q p = is in cc))) (idle_row (rw at refl))
+    ]
     live_row (line at own shown given due) = elim (bool_cases (is_key (doomed t e) k.request.key)) [
-      | inl doom ↦ back k refl at (entry.quiet d k row doom) (goes_back t e d k (entry.far d ne) entry.lossless (heard e.event refl) (over_at place.Line true at (rw doom refl) (λ q p is. (let never : place.Line ≡ place.Passed q p = is in cc))))
-      | inr safe ↦ stays_put (over_at place.Line false at (rw safe refl) (λ q p is. (let never : place.Line ≡ place.Passed q p = is in cc))) (idle_row (rw at refl))
+      | inl doom ↦ starts place.Line at refl doom (over_at place.Line true at (rw doom refl) (λ q p is. (let never : place.Line ≡ place.Passed q p = is in cc)))
+      | inr safe ↦ stays_put (λ in_line. safe) (over_at place.Line false at (rw safe refl) (λ q p is. (let never : place.Line ≡ place.Passed q p = is in cc))) (idle_row (rw at refl))
     ]
 
-    over_row : k.place ≡ place.Over → IsSameOrBack e.now (Some k) (consumer_after t e d (Some k))
-    over_row at = stays_put (over_at place.Over false at (then_false _ _ refl) (λ q p is. (let never : place.Over ≡ place.Passed q p = is in cc))) (idle_row (rw at refl))
+    over_row : k.place ≡ place.Over → IsSameOrOver t e (Some k) (consumer_after t e d (Some k))
+    over_row at = stays_put (outside place.Over at refl) (over_at place.Over false at (then_false _ _ refl) (λ q p is. (let never : place.Over ≡ place.Passed q p = is in cc))) (idle_row (rw at refl))
 
-    some_row : (b : Bool) → is_live_place k.place ≡ b → IsSameOrBack e.now (Some k) (consumer_after t e d (Some k))
+    some_row : (b : Bool) → is_live_place k.place ≡ b → IsSameOrOver t e (Some k) (consumer_after t e d (Some k))
     some_row true lives = live_row (past.places d k row lives)
     some_row false over = over_row (over_is k.place over)
 
-  by_row : (d : ℕ) (o : Option Consumer) → d ≢ c → t.consumer d ≡ o → IsSameOrBack e.now o (consumer_after t e d o)
-  by_row d None ne row = same (consumer_absent t e d (entry.makes d ne))
+  by_row : (d : ℕ) (o : Option Consumer) → d ≢ c → t.consumer d ≡ o → IsSameOrOver t e o (consumer_after t e d o)
+  by_row d None ne row = goes_on (consumer_absent t e d (entry.makes d ne)) (λ k is. none_some k is)
   by_row d (Some k) ne row = some_row d k ne row (is_live_place k.place) refl
 
+  -- whoever the entry isn't about
+  pub same_or_over : (d : ℕ) → d ≢ c → IsSameOrOver t e (t.consumer d) ((after_accepted t e).consumer d)
+  same_or_over d ne = by_row d (t.consumer d) ne refl
+
+-- where nobody who stands in line is doomed, only who waits aside starts over
+module _ (t : Tables) (e : Entry) (c : ℕ) (past : AllPast t) (entry : IsPastEntry t e c) where
+  waits_aside : (d : ℕ) (k : Consumer) (p : Place) → k.place ≡ p → stands_in_line k.place ≡ true → t.consumer d ≡ Some k → is_key (doomed t e) k.request.key ≡ true → k.place ≡ place.Line
+  waits_aside d k place.Line at in_line row doom = at
+  waits_aside d k (place.Turn x) at in_line row doom = false_true (sym (entry.quiet d k row doom) ∙ turn_in_line x k at (past.queues d x k row at))
+  waits_aside d k (place.Passed q r) at in_line row doom = false_true (ap stands_in_line (sym at) ∙ in_line)
+  waits_aside d k (place.Bound q lo hi by) at in_line row doom = false_true (ap stands_in_line (sym at) ∙ in_line)
+  waits_aside d k (place.Direct x) at in_line row doom = false_true (ap stands_in_line (sym at) ∙ in_line)
+  waits_aside d k (place.Down cause) at in_line row doom = false_true (ap stands_in_line (sym at) ∙ in_line)
+  waits_aside d k place.Over at in_line row doom = false_true (ap stands_in_line (sym at) ∙ in_line)
+
+  as_back : (d : ℕ) (o p : Option Consumer) → t.consumer d ≡ o → IsSameOrOver t e o p → IsSameOrBack e.now o p
+  as_back d o p row (goes_on is off) = same is
+  as_back d o p row (is_over k was in_line doom is) = back k was (waits_aside d k k.place refl in_line (row ∙ was) doom) (entry.quiet d k (row ∙ was) doom) is
+
   pub others : (d : ℕ) → d ≢ c → IsSameOrBack e.now (t.consumer d) ((after_accepted t e).consumer d)
-  others d ne = by_row d (t.consumer d) ne refl
+  others d ne = as_back d (t.consumer d) ((after_accepted t e).consumer d) refl (same_or_over t e c past (entry_of entry) d ne)
 
 -- EXCHANGES
 
@@ -253,20 +298,21 @@ pub record IsOnly (e : Entry) (x : ℕ) : Type 0 where
   pub closes : (y : ℕ) → y ≢ x → closes_in y e.acts ≡ false
   pub opens : (o : Opening) → opening_in e.acts ≡ Some o → o.x ≡ x
 
-module _ (t : Tables) (e : Entry) (x : ℕ) (only : IsOnly e x) where
-  heard_other : (y : ℕ) (w : Exchange) (ev : Event) → y ≢ x → e.event ≡ ev → exchange_heard t e y ev w ≡ w
-  heard_other y w (event.Head z response) ne is = let off : eqb z y ≡ false = eqb-other z y (λ eq. ne (sym eq ∙ only.hears z (ap exchange_in is))) in rw off refl
-  heard_other y w (event.Piece z bytes) ne is = let off : eqb z y ≡ false = eqb-other z y (λ eq. ne (sym eq ∙ only.hears z (ap exchange_in is))) in rw off refl
-  heard_other y w (event.End z) ne is = let off : eqb z y ≡ false = eqb-other z y (λ eq. ne (sym eq ∙ only.hears z (ap exchange_in is))) in rw off refl
-  heard_other y w (event.Fault z) ne is = let off : eqb z y ≡ false = eqb-other z y (λ eq. ne (sym eq ∙ only.hears z (ap exchange_in is))) in rw off refl
-  heard_other y w (event.Start c request) ne is = refl
-  heard_other y w (event.Poll c want) ne is = refl
-  heard_other y w (event.Cancel c) ne is = refl
-  heard_other y w (event.Doom key) ne is = refl
+-- of which an event says nothing
+pub unheard : (t : Tables) (e : Entry) (y : ℕ) (w : Exchange) (ev : Event) → ((z : ℕ) → exchange_in ev ≡ Some z → z ≢ y) → exchange_heard t e y ev w ≡ w
+unheard t e y w (event.Head z response) off = rw (eqb-other z y (off z refl)) refl
+unheard t e y w (event.Piece z bytes) off = rw (eqb-other z y (off z refl)) refl
+unheard t e y w (event.End z) off = rw (eqb-other z y (off z refl)) refl
+unheard t e y w (event.Fault z) off = rw (eqb-other z y (off z refl)) refl
+unheard t e y w (event.Start c request) off = refl
+unheard t e y w (event.Poll c want) off = refl
+unheard t e y w (event.Cancel c) off = refl
+unheard t e y w (event.Doom key) off = refl
 
+module _ (t : Tables) (e : Entry) (x : ℕ) (only : IsOnly e x) where
   by_exchange : (y : ℕ) (o : Option Exchange) → y ≢ x → exchange_after t e y o ≡ o
   by_exchange y None ne = exchange_absent t e y (λ o is. eqb-other o.x y (λ eq. ne (sym eq ∙ only.opens o is)))
-  by_exchange y (Some w) ne = exchange_stays t e y w (heard_other y w e.event ne refl) (only.asks y ne) (only.closes y ne)
+  by_exchange y (Some w) ne = exchange_stays t e y w (unheard t e y w e.event (λ z is same. ne (sym same ∙ only.hears z is))) (only.asks y ne) (only.closes y ne)
 
   pub other_exchanges : (y : ℕ) → y ≢ x → (after_accepted t e).exchange y ≡ t.exchange y
   other_exchanges y ne = by_exchange y (t.exchange y) ne

@@ -100,12 +100,12 @@ least_alike xs ys alike = by_least (least xs) refl
 
 -- THE LINE OF THE TABLES
 
-among_in : (c : ℕ) (xs : List ℕ) → Among c xs → is_among c xs ≡ true
+pub among_in : (c : ℕ) (xs : List ℕ) → Among c xs → is_among c xs ≡ true
 among_in c [] none = absurd none
 among_in c (x ∷ xs) (inl is) = rw (is, eqb-same c) refl
 among_in c (x ∷ xs) (inr later) = later_in (eqb x c) (is_among c xs) (among_in c xs later)
 
-filter_in : (f : ℕ → Bool) (c : ℕ) (xs : List ℕ) → is_among c (filter f xs) ≡ (f c && is_among c xs)
+pub filter_in : (f : ℕ → Bool) (c : ℕ) (xs : List ℕ) → is_among c (filter f xs) ≡ (f c && is_among c xs)
 filter_in f c [] = and_none (f c)
   where
     and_none : (b : Bool) → false ≡ (b && false)

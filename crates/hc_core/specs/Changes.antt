@@ -67,3 +67,8 @@ with_due cause k = record k { due = option_or k.due (Some cause) }
 
 abbrev pub with_end : ℕ → Consumer → Consumer
 with_end hi k = record k { hi = Some hi }
+
+-- it stands in line again, as if it had just started
+abbrev pub once_over : ℕ → Consumer → Consumer
+once_over now k =
+    record k { place = place.Line; since = now; own = None; lo = 0; hi = None; due = None }

@@ -6,5 +6,6 @@ pub mod Kept
 pub mod Stands
 pub mod Heads
 pub mod Arms
+pub mod Dooms
 pub mod Good
 pub mod Steps

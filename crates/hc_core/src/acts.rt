@@ -4,6 +4,9 @@ ghost use Rattle.hc_event.specs.Acts.{listed, spare};
 
 use hc_event::{Act, Acts};
 
+/// No event has more acts than this: a doom closes an exchange of each live consumer at most.
+pub const MOST_ACTS: usize = 1024;
+
 /// The act stands last. It takes no memory.
 pub(crate) fn put(out: &mut Acts, act: Act)
     requires { 0 < spare out.old }

@@ -2,7 +2,7 @@
 ghost use Rattle.std.specs.Prelude.{◌≡◌, ◌+◌, ◌<◌, ◌^◌, IsSomeAnd, nat_eq};
 ghost use Rattle.std.specs.Option.{option_and_then};
 ghost use Rattle.std.specs.HashMap.{get};
-ghost use Rattle.hc_core.specs.Changes.{ChangesAt, reading_past, answer_of, once_answered, once_given, with_answer, with_turn, put_down, with_due, with_end};
+ghost use Rattle.hc_core.specs.Changes.{ChangesAt, reading_past, answer_of, once_answered, once_given, with_answer, with_turn, put_down, with_due, with_end, once_over};
 
 use crate::consumer::Consumer;
 use hc_event::{Cause, Response};
@@ -93,5 +93,19 @@ pub(crate) fn know_end(consumers: &mut HashMap<u64, Consumer>, c: u64, hi: u64)
 {
     if let Some(consumer) = consumers.get_mut(&c) {
         consumer.hi = Some(hi);
+    }
+}
+
+/// It stands in line again, as if it had just started.
+pub(crate) fn start_over(consumers: &mut HashMap<u64, Consumer>, c: u64, now: u64)
+    ensures { ChangesAt consumers.old consumers.new c (once_over now) }
+{
+    if let Some(consumer) = consumers.get_mut(&c) {
+        consumer.place = Place::Line;
+        consumer.since = now;
+        consumer.own = None;
+        consumer.lo = 0;
+        consumer.hi = None;
+        consumer.due = None;
     }
 }

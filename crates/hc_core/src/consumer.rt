@@ -1,10 +1,11 @@
 //! What is kept of a live consumer.
 ghost use Rattle.std.specs.Prelude.{◌≡◌, ◌+◌, ◌<◌, ◌^◌, None, false};
 ghost use Rattle.hc_model.specs.declared.place.Place.TheVariants as place;
+ghost use Rattle.hc_model.specs.StartingOver.{awaited};
 ghost use Rattle.hc_core.specs.Arms.{queues};
 
 use hc_event::{Cause, Request, Response};
-use hc_model::Place;
+use hc_model::{BoundBy, Place};
 use hc_rules::RequestClass;
 
 /// What is kept of a live consumer. Moments are whole seconds since 1970; positions and counts are of
@@ -71,5 +72,19 @@ impl Consumer {
         ensures { result ≡ queues self.now }
     {
         !self.class.disabled && !self.class.only
+    }
+}
+
+/// The exchange for whose head one waits there, to found or to join by it.
+pub(crate) fn awaited(place: Place) -> Option<u64>
+    ensures { result ≡ awaited place }
+{
+    match place {
+        Place::Turn(x)
+        | Place::Bound {
+            by: BoundBy::FirstHole(x),
+            ..
+        } => Some(x),
+        _ => None,
     }
 }

@@ -9,4 +9,5 @@ mod rows;
 #[cfg(test)]
 mod tests;
 
+pub use acts::MOST_ACTS;
 pub use cache::Cache;

@@ -9,6 +9,7 @@ ghost use Rattle.hc_core.specs.Stands.{gate_of, Answers, StandsForSome};
 ghost use Rattle.hc_core.specs.Good.{takes_no_memory};
 
 pub(crate) mod answer;
+mod doom;
 mod gate;
 mod head;
 mod heard;
@@ -18,6 +19,7 @@ mod poll;
 mod read;
 mod start;
 
+use crate::acts::MOST_ACTS;
 use crate::consumer::Consumer;
 use hc_entry::KeyTable;
 use hc_event::{Acts, Event};
@@ -51,7 +53,7 @@ impl<B> Rows<B> {
         requires accepted { refusal_of (gate_of self.old event.now) event.now ≡ None }
         requires few { next_of self.old.exchanges < 2 ^ 62 }
         requires small { self.old.received + received_in event.now < 2 ^ 61 }
-        requires room { 2 ≤ spare out.old }
+        requires room { MOST_ACTS ≤ spare out.old }
         ensures answers { OnOk result
             (Answers self.old self.new (listed out.old) (listed out.new) now event.now) }
         ensures next { OnOk result
@@ -79,8 +81,10 @@ impl<B> Rows<B> {
                 self.cancel(*c, out);
                 Ok(())
             }
-            // Nobody stands in the line of the key.
-            Event::Doom { .. } => Ok(()),
+            Event::Doom { key } => {
+                self.doom(now, key, None, out);
+                Ok(())
+            }
         }
     }
 }

@@ -17,6 +17,8 @@ enum Step {
     Queue(u64),
     /// One starts that is for what is stored alone.
     Only(u64),
+    /// One starts whose answer may change what is stored.
+    Change(u64),
     Poll(u64, u32),
     /// A head comes, with this status and Content-Length.
     Head(u64, u16, &'static str),
@@ -361,14 +363,154 @@ static TURNS: &'static [Row] = &[
     Row(1006, Step::Poll(5, 9), &[Told::Ended(5)], 0),
 ];
 
-#[test]
-fn waits_in_line(rt: HostRuntime) -> Result<(), Fail> {
-    walk(&rt, LINED)
-}
+static DOOMED: &'static [Row] = &[
+    Row(1000, Step::Queue(1), &[], 1),
+    Row(
+        1000,
+        Step::Poll(1, 100),
+        &[
+            Told::Asked(1, 1, Need::Miss),
+            Told::Pending(1, Wait::Head(1)),
+        ],
+        1,
+    ),
+    Row(1000, Step::Queue(2), &[], 2),
+    Row(1000, Step::Queue(3), &[], 3),
+    Row(
+        1000,
+        Step::Poll(2, 100),
+        &[Told::Pending(2, Wait::Turn(1))],
+        3,
+    ),
+    Row(
+        1000,
+        Step::Poll(3, 100),
+        &[Told::Pending(3, Wait::Turn(1))],
+        3,
+    ),
+    // What the first one asked for is closed, and all start over.
+    Row(1010, Step::Doom, &[Told::Close(1)], 3),
+    Row(
+        1010,
+        Step::Head(1, 200, "5"),
+        &[Told::Denied(Refusal::NoExchange)],
+        3,
+    ),
+    Row(1010, Step::Doom, &[], 3),
+    Row(
+        1011,
+        Step::Poll(3, 100),
+        &[Told::Pending(3, Wait::Turn(1))],
+        3,
+    ),
+    Row(
+        1011,
+        Step::Poll(1, 100),
+        &[
+            Told::Asked(2, 1, Need::Miss),
+            Told::Pending(1, Wait::Head(2)),
+        ],
+        3,
+    ),
+    // They wait as long as if they had just started.
+    Row(
+        1029,
+        Step::Poll(2, 100),
+        &[Told::Pending(2, Wait::Turn(1))],
+        3,
+    ),
+    Row(
+        1030,
+        Step::Poll(2, 100),
+        &[
+            Told::Asked(3, 2, Need::TimedOut),
+            Told::Pending(2, Wait::Head(3)),
+        ],
+        3,
+    ),
+    // The answer to an unsafe request dooms the key, one that can't be used too.
+    Row(1031, Step::Change(4), &[], 4),
+    Row(
+        1031,
+        Step::Poll(4, 100),
+        &[Told::Opened(4, 4), Told::Pending(4, Wait::Head(4))],
+        4,
+    ),
+    Row(
+        1032,
+        Step::Head(4, 200, "x"),
+        &[Told::Close(2), Told::Close(4)],
+        4,
+    ),
+    Row(
+        1032,
+        Step::Poll(4, 100),
+        &[Told::Failed(4, Cause::BadHead(4))],
+        3,
+    ),
+    Row(
+        1032,
+        Step::Poll(3, 100),
+        &[Told::Pending(3, Wait::Turn(1))],
+        3,
+    ),
+    Row(1033, Step::Cancel(1), &[], 2),
+    Row(
+        1033,
+        Step::Poll(3, 100),
+        &[
+            Told::Asked(5, 3, Need::Miss),
+            Told::Pending(3, Wait::Head(5)),
+        ],
+        2,
+    ),
+    // Nothing has changed where it failed.
+    Row(1034, Step::Change(6), &[], 3),
+    Row(
+        1034,
+        Step::Poll(6, 100),
+        &[Told::Opened(6, 6), Told::Pending(6, Wait::Head(6))],
+        3,
+    ),
+    Row(1034, Step::Head(6, 404, "0"), &[], 3),
+    Row(1034, Step::Change(7), &[], 4),
+    Row(
+        1034,
+        Step::Poll(7, 100),
+        &[Told::Opened(7, 7), Told::Pending(7, Wait::Head(7))],
+        4,
+    ),
+    Row(1035, Step::Head(7, 200, "0"), &[Told::Close(5)], 4),
+    Row(
+        1035,
+        Step::Poll(7, 100),
+        &[Told::Shown(7, 7, 200, 0, Some(0))],
+        4,
+    ),
+    Row(
+        1035,
+        Step::Poll(3, 100),
+        &[
+            Told::Asked(8, 3, Need::Miss),
+            Told::Pending(3, Wait::Head(8)),
+        ],
+        4,
+    ),
+];
 
 #[test]
 fn passes_the_turn_on(rt: HostRuntime) -> Result<(), Fail> {
     walk(&rt, TURNS)
+}
+
+#[test]
+fn starts_over_at_a_doom(rt: HostRuntime) -> Result<(), Fail> {
+    walk(&rt, DOOMED)
+}
+
+#[test]
+fn waits_in_line(rt: HostRuntime) -> Result<(), Fail> {
+    walk(&rt, LINED)
 }
 
 #[test]
@@ -444,9 +586,10 @@ fn take_step<R: Abort>(
 
 fn event_of(alloc: Global, step: Step) -> Result<Event, Fail> {
     Ok(match step {
-        Step::Start(c) => start(alloc, c, Load::Disable)?,
-        Step::Queue(c) => start(alloc, c, Load::Normal)?,
-        Step::Only(c) => start(alloc, c, Load::Only)?,
+        Step::Start(c) => start(alloc, c, b"GET", Load::Disable)?,
+        Step::Queue(c) => start(alloc, c, b"GET", Load::Normal)?,
+        Step::Only(c) => start(alloc, c, b"GET", Load::Only)?,
+        Step::Change(c) => start(alloc, c, b"PUT", Load::Normal)?,
         Step::Poll(c, want) => Event::Poll { c, want },
         Step::Head(x, status, length) => {
             let mut fields = Fields::new(alloc)?;
@@ -475,10 +618,10 @@ fn key(alloc: Global) -> Result<Key, Fail> {
     })
 }
 
-fn start(alloc: Global, c: u64, load: Load) -> Result<Event, Fail> {
+fn start(alloc: Global, c: u64, method: &[u8], load: Load) -> Result<Event, Fail> {
     let request = Request {
         method: MethodName {
-            bytes: b"GET".to_vec(alloc)?,
+            bytes: method.to_vec(alloc)?,
         },
         key: key(alloc)?,
         load,

@@ -7,6 +7,7 @@ ghost use Rattle.hc_core.specs.Built.{IsBuilt};
 ghost use Rattle.hc_core.specs.Good.{is_refused, takes_no_memory, counted};
 ghost use Rattle.hc_core.specs.Steps.{StandsFor, Steps, has_failed, last_moment, steps, received, store_in};
 
+use crate::acts::MOST_ACTS;
 use crate::cache::Cache;
 use crate::rows::Rows;
 use hc_entry::KeyTable;
@@ -56,7 +57,7 @@ impl<B> Cache<B> {
         ensures kept { OnErr result (listed out.new ≡ listed out.old) }
         ensures again { has_failed self.old ≡ true → IsErr result }
         ensures frees { has_failed self.old ≡ false → takes_no_memory event.now ≡ true
-            → 2 ≤ spare out.old → IsOk result }
+            → MOST_ACTS ≤ spare out.old → IsOk result }
     {
         if self.failed {
             return Err(NoMemory);

@@ -10,7 +10,7 @@ ghost use Rattle.hc_core.specs.Built.{IsBuilt};
 ghost use Rattle.hc_core.specs.Stands.{gate_of, Answers, StandsForSome};
 ghost use Rattle.hc_core.specs.Good.{takes_no_memory, counted};
 
-use crate::acts::put;
+use crate::acts::{MOST_ACTS, put};
 use crate::rows::Rows;
 use hc_event::{Act, Acts, Event};
 use hc_text::NoMemory;
@@ -35,11 +35,11 @@ impl<B> Rows<B> {
             (self.new.received ≡ self.old.received + received_in event.now) }
         ensures limits { OnOk result (self.new.limits ≡ self.old.limits) }
         ensures kept { OnErr result (listed out.new ≡ listed out.old) }
-        ensures frees { takes_no_memory event.now ≡ true → 2 ≤ spare out.old → IsOk result }
+        ensures frees { takes_no_memory event.now ≡ true → MOST_ACTS ≤ spare out.old
+            → IsOk result }
     {
-        // No event that is built has more acts.
-        if out.spare() < 2 {
-            out.reserve(2)?;
+        if out.spare() < MOST_ACTS {
+            out.reserve(MOST_ACTS)?;
         }
         let Some(refusal) = self.refuses(event) else {
             return self.accept(now, event, out);

@@ -17,6 +17,9 @@ ghost use Rattle.hc_core.specs.Changes.{ChangesAt, put_down};
 ghost use Rattle.hc_core.specs.Heads.{head_view, answered_by, end_told, EndsInRange};
 ghost use Rattle.hc_core.specs.Stands.{Answers, StandsForSome, KeepsRest, open_at};
 
+mod direct;
+
+use crate::acts::MOST_ACTS;
 use crate::changes::{fail_with, take_answer};
 use crate::rows::Rows;
 use hc_event::{Acts, Cause, Response};
@@ -34,8 +37,8 @@ impl<B> Rows<B> {
     ) -> Result<(), NoMemory>
         requires stands { ∥ StandsForSome self.old ∥₁ }
         requires accepted { head_refusal (open_at self.old x) ≡ None }
-        requires built { IsBuiltHead self.old (table_of self.old.exchanges x).running response.now }
-        requires room { 1 ≤ spare out.old }
+        requires built { IsBuiltHead (table_of self.old.exchanges x).running response.now }
+        requires room { MOST_ACTS ≤ spare out.old }
         ensures answers { OnOk result (Answers self.old self.new (listed out.old) (listed out.new)
             now (Head x response.now)) }
         ensures next { OnOk result (next_of self.new.exchanges ≡ next_of self.old.exchanges) }
@@ -45,11 +48,8 @@ impl<B> Rows<B> {
     {
         let c = self.exchanges.view(x).unwrap().c;
         match self.case_of(x, c, response) {
-            HeadCase::DirectBad => {
-                self.refuse(x, c, out);
-                Ok(())
-            }
-            HeadCase::DirectTaken => self.answer_past(now, x, c, response),
+            HeadCase::DirectBad => self.refuse_past(now, x, c, response, out),
+            HeadCase::DirectTaken => self.take_past(now, x, c, response, out),
             HeadCase::TurnBad => {
                 self.leave_line(c);
                 self.refuse(x, c, out);

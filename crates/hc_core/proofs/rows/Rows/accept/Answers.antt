@@ -1,12 +1,13 @@
-use Rattle.std.proofs.Common.{ap, ◌∙◌, length}
+use Rattle.std.proofs.Common.{None, ap, ◌∙◌, length}
 use Rattle.hc_event.specs.Acts.{listed}
 use Rattle.hc_event.specs.declared.event.Event.TheVariants as event
 use Rattle.hc_rules.specs.Refusals.{piece_refusal}
 use Rattle.hc_core.specs.Built.{IsBuilt}
 use Rattle.hc_core.specs.Stands.{gate_of, open_at}
 use Rattle.hc_core.proofs.Accepted.{start_rises, poll_lives, poll_wants, cancel_lives, head_free, piece_free, end_free, fault_free}
-use Rattle.hc_core.proofs.OpenArms.{doom_answered}
+use Rattle.hc_core.proofs.DoomArms.{doom_answered, merely_open, merely_few}
 use Rattle.hc_core.proofs.Standing.{standing_of}
+use Rattle.hc_core.proofs.Words.{none_some}
 use Rattle.hc_core.proofs.rows.Rows.accept.Goals as goal
 
 pub start-requires-clause-rising : goal.start-requires-clause-rising
@@ -38,8 +39,13 @@ take_head-requires-clause-built g c = let built : IsBuilt c.args.self.now (event
 pub cancel-requires-clause-live : goal.cancel-requires-clause-live
 cancel-requires-clause-live g c = cancel_lives (gate_of c.args.self.now (event.Cancel c.in-Cancel.c)) c.in-Cancel.c (rw c.in-Cancel.is at c.requires.accepted)
 
+pub doom-requires-clause-running : goal.doom-requires-clause-running
+doom-requires-clause-running g c = merely_open c.args.self.now c.in-Doom.key None c.requires.stands (λ x never. none_some x never)
+
+pub doom-requires-clause-few : goal.doom-requires-clause-few
+doom-requires-clause-few g c = merely_few c.args.self.now c.in-Doom.key None c.requires.stands
+
 pub returns-in-Doom-clause-answers : goal.returns-in-Doom-clause-answers
 returns-in-Doom-clause-answers g c = λ t facts rows accepted.
     let stands = standing_of c.args.self.now t facts rows in
-    let built : IsBuilt c.args.self.now (event.Doom c.in-Doom.key) = rw c.in-Doom.is at c.requires.built in
-    rw c.in-Doom.is (doom_answered c.args.self.now t c.args.now c.in-Doom.key (listed c.args.out.now) c.args.self.now.limits stands built)
+    rw c.in-Doom.is (doom_answered c.args.self.now c.doom.new.self t c.args.now c.in-Doom.key (listed c.args.out.now) (listed c.doom.new.out) stands c.doom.ensures.closes c.doom.ensures.over c.args.self.now.limits)

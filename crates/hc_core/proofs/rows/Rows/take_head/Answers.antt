@@ -4,7 +4,6 @@ use Rattle.std.specs.HashMap.{get}
 use Rattle.hc_event.specs.Acts.{listed}
 use Rattle.hc_event.specs.declared.act.Cause.TheVariants as cause
 use Rattle.hc_rules.specs.Lengths.{is_bad}
-use Rattle.hc_rules.specs.Needs.{route_of}
 use Rattle.hc_exch.specs.Exchanges as exch
 use Rattle.hc_exch.specs.Exchanges.{table_of}
 use Rattle.hc_exch.specs.Known as known
@@ -12,11 +11,9 @@ use Rattle.hc_exch.specs.Known.{length_by}
 use Rattle.hc_core.specs.Arms.{IsQueued, IsLeft}
 use Rattle.hc_core.specs.Changes.{ChangesAt, put_down}
 use Rattle.hc_core.specs.Heads.{answered_by}
-use Rattle.hc_core.proofs.AnswerArms.{taken_answered}
-use Rattle.hc_core.proofs.HeadArms.{length_told, refused_answered}
-use Rattle.hc_core.proofs.HeadCases.{bad_of, good_of, head_quiet, past_built}
-use Rattle.hc_core.proofs.HeadWays.{is_past, live_of, past_way, past_told, turn_way, turn_is_bad, turn_unstored, not_past, has_turn_of, merely_queued_turn, same_bad, same_apart, same_unstored}
-use Rattle.hc_core.proofs.Hearing.{hears_of}
+use Rattle.hc_core.proofs.HeadArms.{length_told}
+use Rattle.hc_core.proofs.HeadsPast.{comes_past}
+use Rattle.hc_core.proofs.HeadWays.{is_past, live_of, turn_way, turn_is_bad, turn_unstored, not_past, has_turn_of, merely_queued_turn, same_bad, same_apart, same_unstored}
 use Rattle.hc_core.proofs.Maps.{known_of, merely_true, merely_false}
 use Rattle.hc_core.proofs.Opens.{sees_of, headless_of, told_is, same_becomes}
 use Rattle.hc_core.proofs.Standing.{some_standing, standing_of}
@@ -33,20 +30,22 @@ case_of-requires-clause-live g c =
     let headless = headless_of running o sees.running c.requires.accepted in
     merely_true _ c.requires.stands (λ rows. let s = some_standing r rows in live_of r s.0 c.args.x o s.1 sees.running headless c.unwrap-c.result.c (ap (λ v. v.c) sees.is))
 
-pub answer_past-requires-clause-good : goal.answer_past-requires-clause-good
-answer_past-requires-clause-good g c =
+pub refuse_past-requires-clause-comes : goal.refuse_past-requires-clause-comes
+refuse_past-requires-clause-comes g c =
     let r = c.args.self.now in
     let running = (table_of r.exchanges c.args.x).running in
     let sees = sees_of c.args.x running c.view.result c.unwrap-c.result c.view.ensures c.unwrap-c.ensures in
-    let o = sees.row in
-    let headless = headless_of running o sees.running c.requires.accepted in
-    merely_false _ c.requires.stands (λ rows.
-    let s = some_standing r rows in
-    let is = past_told r s.0 c.args.x c.unwrap-c.result.c o c.args.response.now c.case_of.result s.1 sees.running headless (ap (λ v. v.c) sees.is) c.requires.built c.case_of.ensures (ap is_past c.in-DirectTaken.is) in
-    ap (λ z. is_bad (length_by z c.args.response.now)) sees.running ∙ good_of _ (sym is ∙ c.in-DirectTaken.is))
+    comes_past r c.args.x c.unwrap-c.result.c sees.row c.args.response.now c.case_of.result true c.requires.stands sees.running (headless_of running sees.row sees.running c.requires.accepted) (ap (λ v. v.c) sees.is) c.requires.built c.case_of.ensures c.in-DirectBad.is
 
-pub answer_past-requires-in_default-clause-good : goal.answer_past-requires-in_default-clause-good
-answer_past-requires-in_default-clause-good g c =
+pub take_past-requires-clause-comes : goal.take_past-requires-clause-comes
+take_past-requires-clause-comes g c =
+    let r = c.args.self.now in
+    let running = (table_of r.exchanges c.args.x).running in
+    let sees = sees_of c.args.x running c.view.result c.unwrap-c.result c.view.ensures c.unwrap-c.ensures in
+    comes_past r c.args.x c.unwrap-c.result.c sees.row c.args.response.now c.case_of.result false c.requires.stands sees.running (headless_of running sees.row sees.running c.requires.accepted) (ap (λ v. v.c) sees.is) c.requires.built c.case_of.ensures c.in-DirectTaken.is
+
+pub answer_past-requires-clause-good : goal.answer_past-requires-clause-good
+answer_past-requires-clause-good g c =
     let r = c.args.self.now in
     let running = (table_of r.exchanges c.args.x).running in
     let sees = sees_of c.args.x running c.view.result c.unwrap-c.result c.view.ensures c.unwrap-c.ensures in
@@ -83,33 +82,11 @@ leave_line-requires-in_default g c =
     (merely_queued_turn r c.args.x o c.requires.stands sees.running headless (λ t stands.
     turn_way r t c.args.x c.unwrap-c.result.c o c.args.response.now c.case_of.result stands sees.running headless (ap (λ v. v.c) sees.is) c.requires.built c.case_of.ensures off))
 
-pub returns-in-DirectBad-clause-answers : goal.returns-in-DirectBad-clause-answers
-returns-in-DirectBad-clause-answers g c = λ t facts rows accepted.
-    let r = c.args.self.now in
-    let stands = standing_of r t facts rows in
-    let running = (table_of r.exchanges c.args.x).running in
-    let sees = sees_of c.args.x running c.view.result c.unwrap-c.result c.view.ensures c.unwrap-c.ensures in
-    let o = sees.row in
-    let same_c = ap (λ v. v.c) sees.is in
-    let headless = headless_of running o sees.running c.requires.accepted in
-    let way = past_way r t c.args.x c.unwrap-c.result.c o c.args.response.now c.case_of.result stands sees.running headless same_c c.requires.built c.case_of.ensures (ap is_past c.in-DirectBad.is) in
-    let is = past_told r t c.args.x c.unwrap-c.result.c o c.args.response.now c.case_of.result stands sees.running headless same_c c.requires.built c.case_of.ensures (ap is_past c.in-DirectBad.is) in
-    let hears = hears_of r t c.args.x o stands sees.running (λ off. way) in
-    let w = hears.reading.reads.w in
-    let told = told_is running o w c.args.response.now sees.running hears.is in
-    let bad = ap is_bad (sym told) ∙ (ap (λ z. is_bad (length_by z c.args.response.now)) sees.running ∙ bad_of _ (sym is ∙ c.in-DirectBad.is)) in
-    let rest = c.refuse.ensures.rest in
-    refused_answered r c.refuse.new.self t c.args.now c.args.x c.args.response.now o stands hears headless
-    (head_quiet r t c.args.now c.args.x c.args.response.now o w stands hears.reading.reads.row (ap route_of (sym hears.is.need) ∙ way) hears.is.request (past_built r running o c.args.response.now sees.running way c.requires.built))
-    bad rest.received rest.last_start rest.keys c.refuse.ensures.closed
-    (subst (λ (n : ℕ). ChangesAt r.consumers c.refuse.new.self.consumers n (put_down (cause.BadHead c.args.x))) same_c c.refuse.ensures.consumers)
-    r.limits (listed c.args.out.now) (listed c.refuse.new.out) c.refuse.ensures.acts
-
 pub returns-in-TurnBad-clause-answers : goal.returns-in-TurnBad-clause-answers
 returns-in-TurnBad-clause-answers g c = λ t facts rows accepted.
     let r = c.args.self.now in
     let mid = c.leave_line.new.self in
-    let u = c.refuse-in-TurnBad.new.self in
+    let u = c.refuse.new.self in
     let stands = standing_of r t facts rows in
     let running = (table_of r.exchanges c.args.x).running in
     let sees = sees_of c.args.x running c.view.result c.unwrap-c.result c.view.ensures c.unwrap-c.ensures in
@@ -120,51 +97,27 @@ returns-in-TurnBad-clause-answers g c = λ t facts rows accepted.
     let bad = turn_is_bad r t c.args.x c.unwrap-c.result.c o c.args.response.now c.case_of.result stands sees.running headless same_c c.requires.built c.case_of.ensures c.in-TurnBad.is in
     let has = has_turn_of r t c.args.x o stands sees.running headless way in
     let left = subst (λ n. IsSomeAnd (get nat_eq r.consumers n) (IsLeft r.keys mid.keys n)) same_c c.leave_line.ensures.line in
-    let rest = c.refuse-in-TurnBad.ensures.rest in
+    let rest = c.refuse.ensures.rest in
     turn_refused r u t c.args.now o.c c.args.x has.k c.args.response.now stands has.turned
     (same_bad o has.turned.awaits.w c.args.response.now true has.is bad) (rest.received ∙ c.leave_line.ensures.received) (rest.last_start ∙ c.leave_line.ensures.last_start)
     (subst (λ z. IsLeft r.keys z o.c has.k) (sym rest.keys) (known_of (get nat_eq r.consumers o.c) has.k (IsLeft r.keys mid.keys o.c) has.there left))
-    (same_becomes known.closed c.args.x r.exchanges mid.exchanges u.exchanges c.leave_line.ensures.exchanges c.refuse-in-TurnBad.ensures.closed) has.there
+    (same_becomes known.closed c.args.x r.exchanges mid.exchanges u.exchanges c.leave_line.ensures.exchanges c.refuse.ensures.closed) has.there
     (subst (λ z. ChangesAt z u.consumers o.c (put_down (cause.BadHead c.args.x))) c.leave_line.ensures.consumers
-    (subst (λ (n : ℕ). ChangesAt mid.consumers u.consumers n (put_down (cause.BadHead c.args.x))) same_c c.refuse-in-TurnBad.ensures.consumers))
-    r.limits (listed c.args.out.now) (listed c.refuse-in-TurnBad.new.out) c.refuse-in-TurnBad.ensures.acts
-
-pub returns-in-DirectTaken-clause-answers : goal.returns-in-DirectTaken-clause-answers
-returns-in-DirectTaken-clause-answers g c =
-    let r = c.args.self.now in
-    let running = (table_of r.exchanges c.args.x).running in
-    let sees = sees_of c.args.x running c.view.result c.unwrap-c.result c.view.ensures c.unwrap-c.ensures in
-    let o = sees.row in
-    let same_c = ap (λ v. v.c) sees.is in
-    let headless = headless_of running o sees.running c.requires.accepted in
-    on_ok c.answer_past.result c.answer_past.ensures.exchanges c.answer_past.ensures.consumers c.answer_past.ensures.rest (λ becomes changes rest t facts rows accepted.
-    let stands = standing_of r t facts rows in
-    let way = past_way r t c.args.x c.unwrap-c.result.c o c.args.response.now c.case_of.result stands sees.running headless same_c c.requires.built c.case_of.ensures (ap is_past c.in-DirectTaken.is) in
-    let is = past_told r t c.args.x c.unwrap-c.result.c o c.args.response.now c.case_of.result stands sees.running headless same_c c.requires.built c.case_of.ensures (ap is_past c.in-DirectTaken.is) in
-    let hears = hears_of r t c.args.x o stands sees.running (λ off. way) in
-    let w = hears.reading.reads.w in
-    let told = told_is running o w c.args.response.now sees.running hears.is in
-    let good = ap is_bad (sym told) ∙ (ap (λ z. is_bad (length_by z c.args.response.now)) sees.running ∙ good_of _ (sym is ∙ c.in-DirectTaken.is)) in
-    taken_answered r c.answer_past.new.self t c.args.now c.args.x c.args.response.now o stands hears headless sees.running
-    (head_quiet r t c.args.now c.args.x c.args.response.now o w stands hears.reading.reads.row (ap route_of (sym hears.is.need) ∙ way) hears.is.request (past_built r running o c.args.response.now sees.running way c.requires.built))
-    good rest.received rest.last_start rest.keys
-    (subst (λ l. exch.Becomes (known.headed l) c.args.x r.exchanges c.answer_past.new.self.exchanges) told becomes)
-    (subst (λ (n : ℕ). ChangesAt r.consumers c.answer_past.new.self.consumers n (answered_by c.args.x c.args.response.now (length_told w c.args.response.now))) same_c
-    (subst (λ l. ChangesAt r.consumers c.answer_past.new.self.consumers c.unwrap-c.result.c (answered_by c.args.x c.args.response.now l)) told changes))
-    r.limits (listed c.args.out.now))
+    (subst (λ (n : ℕ). ChangesAt mid.consumers u.consumers n (put_down (cause.BadHead c.args.x))) same_c c.refuse.ensures.consumers))
+    r.limits (listed c.args.out.now) (listed c.refuse.new.out) c.refuse.ensures.acts
 
 pub returns-in_default-clause-answers : goal.returns-in_default-clause-answers
 returns-in_default-clause-answers g c =
     let r = c.args.self.now in
     let mid = c.leave_line-in_default.new.self in
-    let u = c.answer_past-in_default.new.self in
+    let u = c.answer_past.new.self in
     let running = (table_of r.exchanges c.args.x).running in
     let sees = sees_of c.args.x running c.view.result c.unwrap-c.result c.view.ensures c.unwrap-c.ensures in
     let o = sees.row in
     let same_c = ap (λ v. v.c) sees.is in
     let headless = headless_of running o sees.running c.requires.accepted in
     let off = not_past c.case_of.result (λ e. c.in_default.not-DirectBad e) (λ e. c.in_default.not-DirectTaken e) in
-    on_ok c.answer_past-in_default.result c.answer_past-in_default.ensures.exchanges c.answer_past-in_default.ensures.consumers c.answer_past-in_default.ensures.rest (λ becomes changes rest t facts rows accepted.
+    on_ok c.answer_past.result c.answer_past.ensures.exchanges c.answer_past.ensures.consumers c.answer_past.ensures.rest (λ becomes changes rest t facts rows accepted.
     let stands = standing_of r t facts rows in
     let left_as = c.leave_line-in_default.ensures in
     let way = turn_way r t c.args.x c.unwrap-c.result.c o c.args.response.now c.case_of.result stands sees.running headless same_c c.requires.built c.case_of.ensures off in

@@ -22,8 +22,12 @@ noted-more acts n i d h =
     let failed = one_more (λ a. cond (is_failed a) 1 0) acts n.failed i d h in
     let lost = one_more (λ a. cond (is_lost a) 1 0) acts n.lost i d h in
     ap (λ (k : ℕ). record (noted (get_or acts i d ∷ []) (noted (take i acts) n)) { opens = k }) opens
-    ∙ (ap (λ (k : ℕ). record (noted (take (i + 1) acts) n) { bytes = k; ended = n.ended + count_by is_ended (take i acts) + count_by is_ended (get_or acts i d ∷ []);
-        failed = n.failed + count_by is_failed (take i acts) + count_by is_failed (get_or acts i d ∷ []); lost = n.lost + count_by is_lost (take i acts) + count_by is_lost (get_or acts i d ∷ []) }) bytes
+    ∙ (ap (λ (k : ℕ). record (noted (take (i + 1) acts) n) {
+      bytes = k;
+      ended = n.ended + count_by is_ended (take i acts) + count_by is_ended (get_or acts i d ∷ []);
+      failed = n.failed + count_by is_failed (take i acts) + count_by is_failed (get_or acts i d ∷ []);
+      lost = n.lost + count_by is_lost (take i acts) + count_by is_lost (get_or acts i d ∷ []);
+    }) bytes
     ∙ (ap (λ (k : ℕ). record (noted (take (i + 1) acts) n) { ended = k; failed = n.failed + count_by is_failed (take i acts) + count_by is_failed (get_or acts i d ∷ []); lost = n.lost + count_by is_lost (take i acts) + count_by is_lost (get_or acts i d ∷ []) }) ended
     ∙ (ap (λ (k : ℕ). record (noted (take (i + 1) acts) n) { failed = k; lost = n.lost + count_by is_lost (take i acts) + count_by is_lost (get_or acts i d ∷ []) }) failed
     ∙ ap (λ (k : ℕ). record (noted (take (i + 1) acts) n) { lost = k }) lost)))

@@ -42,7 +42,7 @@ impl Model for Generator {
     } };
 
     ghost invariant = { λ g.
-      IsInOrder g.last g.live.items g.exchanges.items × AreBounded g.counts };
+        IsInOrder g.last g.live.items g.exchanges.items × AreBounded g.counts };
 }
 
 impl Generator {

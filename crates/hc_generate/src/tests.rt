@@ -151,7 +151,12 @@ impl Flow {
             Event::Piece { bytes, .. } => self.piece(bytes.copy()?),
             Event::Cancel { .. } if self.opened => Ok(vec![in alloc; Act::Close { x: c }]?),
             Event::Cancel { .. } => Ok(Vec::new(alloc)),
-            _ => Ok(vec![in alloc; Act::Failed { c, cause: Cause::Net(c) }]?),
+            _ => Ok(vec![in alloc;
+                Act::Failed {
+                    c,
+                    cause: Cause::Net(c)
+                },
+            ]?),
         }
     }
 
@@ -171,7 +176,14 @@ impl Flow {
         self.opened = true;
         let request = self.request.copy()?;
         let need = Need::Miss;
-        Ok(vec![in alloc; Act::Opened { x: c, c, need, request }]?)
+        Ok(vec![in alloc;
+            Act::Opened {
+                x: c,
+                c,
+                need,
+                request
+            },
+        ]?)
     }
 
     fn piece(&mut self, bytes: Bytes) -> Result<Vec<Act>, Fail>
@@ -185,7 +197,12 @@ impl Flow {
         let left = self.left.ok_or("no head")?.saturating_sub(n as u64);
         self.left = Some(left);
         let mut acts = Vec::new(*bytes.bytes.allocator());
-        acts.push(Act::Given { c, x: c, at: 0, bytes })?;
+        acts.push(Act::Given {
+            c,
+            x: c,
+            at: 0,
+            bytes,
+        })?;
         if left == 0 {
             acts.push(Act::Ended { c })?;
         }

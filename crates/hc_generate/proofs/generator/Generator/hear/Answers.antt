@@ -7,9 +7,11 @@ use Rattle.hc_generate.proofs.generator.Generator.hear.Goals as goal
 
 pub invariant_of-self-2 : goal.invariant_of-self-2
 invariant_of-self-2 c =
-    let P : List ℕ → Type 0 = AreStarted c.self.inside.last in
-    (record {
-      live_rise = c.forget_gone.ensures.ordered;
-      live_started = subst P (sym c.forget_gone.ensures.items) (AreStarted-filter (λ (n : ℕ). not (leaves_in n c.args.acts.now)) _ _ c.self.invariant.0.live_started);
-      exchanges_rise = c.forget_closed.ensures.ordered;
-    }, subst AreBounded (sym c.add.ensures) (AreBounded-counted _ _ c.requires.few c.self.invariant.1))
+    let P : List ℕ → Type 0 = AreStarted c.self.inside.last in (
+      record {
+        live_rise = c.forget_gone.ensures.ordered;
+        live_started = subst P (sym c.forget_gone.ensures.items) (AreStarted-filter (λ (n : ℕ). not (leaves_in n c.args.acts.now)) _ _ c.self.invariant.0.live_started);
+        exchanges_rise = c.forget_closed.ensures.ordered;
+      },
+      subst AreBounded (sym c.add.ensures) (AreBounded-counted _ _ c.requires.few c.self.invariant.1),
+    )

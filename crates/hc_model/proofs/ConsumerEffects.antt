@@ -34,6 +34,17 @@ pub record ComesTo (t : Tables) (e : Entry) (c : ℕ) (rs : List ℕ) (u : Table
   pub representation : (r : ℕ) → representation_after t e r (t.representation r) ≡ (if is_in rs r then option_map gone (u.representation r) else u.representation r)
   pub consumer : (d : ℕ) → nat_eq c d ≡ false → consumer_after t e d (t.consumer d) ≡ option_map (back_from_any e.now rs) (u.consumer d)
 
+-- who waits starts over exactly where that is let go
+module _ (t : Tables) (e : Entry) (law : Lawful t) (rs : List ℕ) (goes : (r : ℕ) (v : Representation) → t.representation r ≡ Some v → becomes_gone t e r v ≡ is_in rs r) where
+  pub waits_as : (d : ℕ) (k : Consumer) → t.consumer d ≡ Some k → (p : Place) → k.place ≡ p → goes_from t e p ≡ waits_for_any rs p
+  waits_as d k row (place.Passed r kept) at = let w = law.passed.waits d r kept k row at in ap (goes_in t e r) w.row ∙ goes r w.v w.row
+  waits_as d k row place.Line at = refl
+  waits_as d k row (place.Turn x) at = refl
+  waits_as d k row (place.Bound r lo hi how) at = refl
+  waits_as d k row (place.Direct x) at = refl
+  waits_as d k row (place.Down why) at = refl
+  waits_as d k row place.Over at = refl
+
 module _ (t : Tables) (e : Entry) (c : ℕ) (n : BringsNothing t e c) where
   -- the tables after it: c is q, and waits for nothing that is let go
   pub after_by : (rs : List ℕ) (u : Tables) (q : Consumer) → ComesTo t e c rs u → consumer_after t e c (t.consumer c) ≡ Some q → waits_for_any rs q.place ≡ false
@@ -62,16 +73,6 @@ module _ (t : Tables) (e : Entry) (c : ℕ) (n : BringsNothing t e c) where
       ]
 
   module _ (law : Lawful t) (far : (d : ℕ) → nat_eq c d ≡ false → IsFarFrom d e.acts) (rs : List ℕ) (goes : (r : ℕ) (v : Representation) → t.representation r ≡ Some v → becomes_gone t e r v ≡ is_in rs r) where
-    -- who waits starts over exactly where that is let go
-    pub waits_as : (d : ℕ) (k : Consumer) → t.consumer d ≡ Some k → (p : Place) → k.place ≡ p → goes_from t e p ≡ waits_for_any rs p
-    waits_as d k row (place.Passed r kept) at = let w = law.passed.waits d r kept k row at in ap (goes_in t e r) w.row ∙ goes r w.v w.row
-    waits_as d k row place.Line at = refl
-    waits_as d k row (place.Turn x) at = refl
-    waits_as d k row (place.Bound r lo hi how) at = refl
-    waits_as d k row (place.Direct x) at = refl
-    waits_as d k row (place.Down why) at = refl
-    waits_as d k row place.Over at = refl
-
     pub others : (d : ℕ) → nat_eq c d ≡ false → consumer_after t e d (t.consumer d) ≡ option_map (back_from_any e.now rs) (t.consumer d)
     others d other = by_row (t.consumer d) refl
       where
@@ -79,7 +80,7 @@ module _ (t : Tables) (e : Entry) (c : ℕ) (n : BringsNothing t e c) where
         by_row None row = consumer_absent t e d (n.made d other)
         by_row (Some k) row =
             consumer_alone t e c n d k (far d other) (n.heard d k other) (law.owned.idle_due d k row)
-            ∙ ap (λ (b : Bool). Some (if b then back_in_line e.now k else k)) (waits_as d k row k.place refl)
+            ∙ ap (λ (b : Bool). Some (if b then back_in_line e.now k else k)) (waits_as t e law rs goes d k row k.place refl)
 
     pub representations : ((r : ℕ) → loses_in r e.acts ≡ false) → (r : ℕ) → representation_after t e r (t.representation r) ≡ (if is_in rs r then option_map gone (t.representation r) else t.representation r)
     representations lossless r = by_row (t.representation r) refl

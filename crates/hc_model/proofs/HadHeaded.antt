@@ -67,8 +67,8 @@ use Rattle.hc_model.proofs.OwnersKeep.{is_opened}
 use Rattle.hc_model.proofs.Pens.{same_row}
 use Rattle.hc_model.proofs.RepFrom.{RepFrom, rep_from, IsKept}
 use Rattle.hc_model.proofs.RepFrom as rep
-use Rattle.hc_model.proofs.UndueKeeps.{waits_undue, founder_undue, no_cause}
-use Rattle.hc_model.proofs.Waiters.{IsWaiter, waiter_of, unwritten}
+use Rattle.hc_model.proofs.UndueKeeps.{founder_undue, no_cause}
+use Rattle.hc_model.proofs.Waiters.{IsWaiter, waiter_of, unwritten, waits_undue}
 
 -- where nothing is lost, r isn't
 lossless_none : (r : ℕ) (acts : List Act) → has_loss acts ≡ false → loses_in r acts ≡ false
@@ -252,7 +252,7 @@ module _ (limits : Limits) (t : Tables) (now : ℕ) (flaw : Flaw) (s : Sound t) 
       kept_had unshared =
           let at : k.place ≡ place.Bound r stood.0 stood.1 stood.2 = stood.3 in
           let off : is_written t v ≡ false = not_so _ (λ written. unwritten limits t now flaw s o ev goes w.c x k w waiter r stood.0 stood.1 stood.2 v v.writer at kept.row written refl) in
-          let pens = waits_undue limits t now flaw s o ev goes real.stand r w.c x stood.0 stood.1 stood.2 v k w waiter at kept.row in
+          let pens = waits_undue limits t now flaw s o ev goes r w.c x stood.0 stood.1 stood.2 v k w waiter at kept.row in
           let placed : place_by_case x got.response w k (case_at t e) ≡ place.Bound r stood.0 stood.1 stood.2 = joins_place limits t now flaw s o ev goes real.stand x got.response w k (case_at t e) joins ∙ at in
           let unlosing : loses_writing t e r v ≡ false = not_so _ (λ h. false_true (sym off ∙ and_right _ _ h)) in
           let stays : own_after t e w.c (place_by_case x got.response w k (case_at t e)) (Some x) ≡ Some x = ap (λ a. own_after t e w.c a (Some x)) placed ∙ (ap (λ a. left_to t e w.c r a (Some x)) kept.row ∙ rw unlosing refl) in

@@ -66,9 +66,8 @@ use Rattle.hc_model.proofs.Said.{IsOpening, opening_by, leaving_by}
 use Rattle.hc_model.proofs.SaidActs.{leaves_leaver}
 use Rattle.hc_model.proofs.ServedKeeps.{lost_alone, kept_alone, over}
 use Rattle.hc_model.proofs.Stops.{writer_about}
-use Rattle.hc_model.proofs.UndueKeeps.{waits_undue}
 use Rattle.hc_model.proofs.WaitingKeeps.{stands, stays_on, unmet}
-use Rattle.hc_model.proofs.Waiters.{IsWaiter, waiter_of, unwritten, head_is_own}
+use Rattle.hc_model.proofs.Waiters.{IsWaiter, waiter_of, unwritten, head_is_own, waits_undue}
 use Rattle.hc_model.proofs.WriterEnds.{loses_same}
 
 -- WHO SURVIVES
@@ -286,7 +285,7 @@ module _ (limits : Limits) (t : Tables) (now : ℕ) (flaw : Flaw) (s : Sound t) 
           let going = forward.is_kept t e w.c k waiter.row in
           let one : going.u ≡ st.u = same_row (now_on.consumer w.c) going.u st.u going.row st.row in
           let is : due_after t e w.c k (consumer_acted t e w.c (consumer_heard t e w.c ev k)) ≡ st.u = settled w.c k (consumer_acted t e w.c (consumer_heard t e w.c ev k)) st.u (starts_over t e w.c k) refl never_over (going.is ∙ one) in
-          let pens = waits_undue limits t now flaw s o ev goes real.stand r w.c x lo hi how v k w waiter at kept.row in
+          let pens = waits_undue limits t now flaw s o ev goes r w.c x lo hi how v k w waiter at kept.row in
           let off : is_written t v ≡ false = not_so _ (λ written. unwritten limits t now flaw s o ev goes w.c x k w waiter r lo hi how v v.writer at kept.row written refl) in
           let own : own_open t k ≡ Some x = own_open_is t k x (record { own = waiter.own; w = w; row = is_row; opened = waiter.was_open }) in
           own_had r w.c x lo hi how k st.u v p waiter.row at kept.row kept own pens.0 off pens.1 st.row (st.place_is ∙ at) w z same after_x on is st.own_is

@@ -62,7 +62,7 @@ module _ (limits : Limits) (t : Tables) (law : Lawful t) (now c : ℕ) (k : Cons
     stays : loses_what_it_waits_for t it c k.place ≡ false
     stays =
         loses_none t it c k.place
-        (waits_as t it c n law far_it rs goes c k row k.place refl
+        (waits_as t it law rs goes c k row k.place refl
         ∙ unwaiting t law c k row k.place refl)
 
     acts_are : it.acts ≡ front ++ map act.Close (added (left_by t c k) [])

@@ -91,7 +91,7 @@ leaver_is c _ _ _ flaw cancels = refl
 
 -- WHAT IS CLOSED AND LOST
 
-closes_are : (x : ℕ) (xs : List ℕ) → closes_in x (map act.Close xs) ≡ is_in xs x
+pub closes_are : (x : ℕ) (xs : List ℕ) → closes_in x (map act.Close xs) ≡ is_in xs x
 closes_are x [] = refl
 closes_are x (y ∷ ys) = ap (λ b. (y == x) || b) (closes_are x ys)
 

@@ -207,6 +207,9 @@ pub mod LeaveEffects
 pub mod SealEffects
 pub mod MisreadEffects
 pub mod FewClosings
+pub mod HeadFrames
+pub mod HeadFacts
+pub mod HeadEffects
 pub mod LawfulRuns
 pub mod FailsTold
 pub mod LeftBy

@@ -72,7 +72,7 @@ shares_source t r c v k (Some x) row (sound.is_bound lo hi how is place) on writ
 own_source : (t : Tables) (x : ℕ) (k : Consumer) → own_open t k ≡ Some x → source t k ≢ None
 own_source t x k own = λ e. let never : Some x ≡ None = rw own at e in cc
 
-row_of : (t : Tables) (r c : ℕ) (k : Consumer) → IsBound t r c k → t.consumer c ≡ Some k
+pub row_of : (t : Tables) (r c : ℕ) (k : Consumer) → IsBound t r c k → t.consumer c ≡ Some k
 row_of t r c k (sound.is_bound lo hi how is place) = is
 
 -- a consumer stands at a hole: nothing is due, it reads from no open exchange, and its next byte isn't stored

@@ -59,7 +59,8 @@ plus_none n = omega arith
 abbrev given_is : Consumer → ℕ → Consumer
 given_is k n = record k { given = n }
 
-acted_quiet : (t : Tables) (e : Entry) (c : ℕ) (k : Consumer) → IsQuietActs e.acts → consumer_acted t e c k ≡ record k { own = own_after t e c k.place k.own }
+-- of who hears this, they change but what is its own
+pub acted_quiet : (t : Tables) (e : Entry) (c : ℕ) (k : Consumer) → IsQuietActs e.acts → consumer_acted t e c k ≡ record k { own = own_after t e c k.place k.own }
 acted_quiet t e c k q =
     let own = own_after t e c k.place k.own in
     rw (q.opens, q.waits c, q.shows c, q.showing, q.gives c, q.leaves c) (ap (λ n. given_is (record k { own = own }) n) (plus_none k.given))

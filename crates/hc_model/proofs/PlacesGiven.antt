@@ -65,8 +65,7 @@ use Rattle.hc_model.proofs.ShownOnce as shown_once
 use Rattle.hc_model.proofs.ShownStays.{IsAside, StaysOrIdle, shown_stays, unless_same}
 use Rattle.hc_model.proofs.ShownStays as stands
 use Rattle.hc_model.proofs.ToBeShown.{heard_place}
-use Rattle.hc_model.proofs.UndueKeeps.{waits_undue}
-use Rattle.hc_model.proofs.Waiters.{IsWaiter, waiter_as}
+use Rattle.hc_model.proofs.Waiters.{IsWaiter, waiter_as, waits_undue}
 use Rattle.hc_model.proofs.Waiters as waiters
 
 -- of who reads the answer of an exchange past the store
@@ -239,7 +238,7 @@ module _ (limits : Limits) (t : Tables) (now : ℕ) (flaw : Flaw) (s : Sound t) 
       hole_before r lo hi how v at None there = absurd (false_true (sym (ap (λ (z : Option Representation). is_some z) there) ∙ s.numbered.bound_to r c k (sound.is_bound lo hi how f.row at)))
       hole_before r lo hi how v at (Some x) there = record {
         own = v.own;
-        due = (waits_undue limits t now flaw s o ev goes stand r c y lo hi how x k w v at there).0;
+        due = (waits_undue limits t now flaw s o ev goes r c y lo hi how x k w v at there).0;
         loss = loss_at t e c r lo hi how k x at there (not_so (loses_writing t e r x) (λ losing. waiters.unwritten limits t now flaw s o ev goes c y k w v r lo hi how x x.writer at there (and_right _ _ losing) refl));
       }
 

@@ -137,7 +137,7 @@ module _ (limits : Limits) (t : Tables) (law : Lawful t) (now c want : ℕ) (k :
     itself : consumer_acted t e c k ≡ q → q.due ≡ k.due → (reads q.place ≡ false → k.due ≡ None) → waits_for_any rs k.place ≡ false → consumer_after t e c (t.consumer c) ≡ Some q
     itself acted due idle unwaiting =
         ap (consumer_after t e c) row
-        ∙ (consumer_itself t e c (nothing (acts_of c m)) c k k q refl acted (loses_none t e c k.place (waits_as t e c (nothing (acts_of c m)) law far rs goes c k row k.place refl ∙ unwaiting))
+        ∙ (consumer_itself t e c (nothing (acts_of c m)) c k k q refl acted (loses_none t e c k.place (waits_as t e law rs goes c k row k.place refl ∙ unwaiting))
         ∙ ap Some (due_kept q k.due due idle))
 
     -- what it comes to: its consumer, exchanges, and whom it binds

@@ -53,13 +53,16 @@ or_false : (b : Bool) → (b || false) ≡ b
 or_false true = refl
 or_false false = refl
 
+-- beside what makes room and what is closed
+pub told_loss : (rs xs : List ℕ) (flaw : Flaw) → has_loss (map act.Evicted rs ++ (lost flaw ++ map act.Close xs)) ≡ has_loss (lost flaw)
+told_loss rs xs flaw =
+    evicted_lose rs (lost flaw ++ map act.Close xs)
+    ∙ (loss_append (lost flaw) (map act.Close xs)
+    ∙ (ap (λ b. has_loss (lost flaw) || b) (all_lose xs) ∙ or_false (has_loss (lost flaw))))
+
 module _ (limits : Limits) (t : Tables) (now : ℕ) (flaw : Flaw) (s : Sound t) where
   told_loses : (ev : Event) → has_loss (map act.Evicted (evicted limits t now ev) ++ (lost flaw ++ map act.Close (closing t (record { now = now; event = ev; acts = lost flaw })))) ≡ has_loss (lost flaw)
-  told_loses ev =
-      let xs = closing t (record { now = now; event = ev; acts = lost flaw }) in
-      evicted_lose (evicted limits t now ev) (lost flaw ++ map act.Close xs)
-      ∙ (loss_append (lost flaw) (map act.Close xs)
-      ∙ (ap (λ b. has_loss (lost flaw) || b) (all_lose xs) ∙ or_false (has_loss (lost flaw))))
+  told_loses ev = told_loss (evicted limits t now ev) (closing t (record { now = now; event = ev; acts = lost flaw })) flaw
 
   -- the closings see what is lost
   pub loss_is : (ev : Event) → has_loss (accepted limits t now ev flaw) ≡ has_loss (before limits t now flaw s ev).acts

@@ -94,7 +94,7 @@ module _ (limits : Limits) (t : Tables) (law : Lawful t) (now c : ℕ) (k : Cons
     stays : loses_what_it_waits_for t it c k.place ≡ false
     stays =
         loses_none t it c k.place
-        (waits_as t it c n law far_it (r ∷ []) goes c k row k.place refl
+        (waits_as t it law (r ∷ []) goes c k row k.place refl
         ∙ unwaiting k.place refl)
 
     -- it alone is lost, and who writes it alone goes on with it

@@ -53,7 +53,7 @@ use Rattle.hc_model.proofs.RepFrom.{RepFrom, rep_from, IsKept, IsResumed}
 use Rattle.hc_model.proofs.RepFrom as rep
 use Rattle.hc_model.proofs.Stops.{source_is}
 use Rattle.hc_model.proofs.HasBound.{joins_way}
-use Rattle.hc_model.proofs.Waiters.{IsWaiter, waiter_of, asks_about, unwritten, left_number}
+use Rattle.hc_model.proofs.Waiters.{IsWaiter, waiter_of, unwritten, waits_undue}
 
 -- by a head that founds or joins nothing becomes due
 pub no_cause : (g : Option HeadCase) (x : ℕ) → (is_founding g || is_joining g) ≡ true → cause_by_case g x ≡ None
@@ -169,17 +169,6 @@ module _ (limits : Limits) (t : Tables) (now : ℕ) (flaw : Flaw) (s : Sound t) 
   number_is None n h = absurd (false_true h)
   number_is (Some m) n h = let same : m ≡ n = grind (arith, nat_tests) in ap Some same
 
-  -- who waits for a hole of r has nothing due, and has the pen
-  pub waits_undue : (r c x lo : ℕ) (hi : Option ℕ) (how : BoundBy) (v : Representation) (k : Consumer) (w : Exchange) → IsWaiter t c x k w → k.place ≡ place.Bound r lo hi how → t.representation r ≡ Some v → (k.due ≡ None) × HasPen t r v c
-  waits_undue r c x lo hi how v k w is at there = by_had (s.writes.had r x v there (asks_about limits t now flaw s o ev goes c x k w is r lo hi how at is.at))
-    where
-      by_had : sound.IsHad t r v x → (k.due ≡ None) × HasPen t r v c
-      by_had (sound.shared on writer) = absurd (unwritten limits t now flaw s o ev goes c x k w is r lo hi how v v.writer at there on refl)
-      by_had (sound.own g z reader theirs none pen) =
-          let mine : g ≡ c = left_number limits t now flaw s o ev goes c x k is.row is.own g z (row_of r g z reader) theirs in
-          let one : z ≡ k = same_row (t.consumer c) z k (sym (ap t.consumer mine) ∙ row_of r g z reader) is.row in
-          (sym (ap (λ (q : Consumer). q.due) one) ∙ none, subst (HasPen t r v) mine pen)
-
   -- RESUMED
 
   none_lost : (r c : ℕ) (v : Representation) → v.is_lost ≡ false → HasPen t r v c → IsFirst t r c
@@ -201,7 +190,7 @@ module _ (limits : Limits) (t : Tables) (now : ℕ) (flaw : Flaw) (s : Sound t) 
       let is_case = case_is t e R.x R.response R.w R.at R.row in
       let hole : route_of R.w.need ≡ route.Hole = joins_way limits t now flaw s o ev goes stand t (has_loss e.acts) R.w R.response g (case_by (head_view t (has_loss e.acts) R.w R.response)) (sym (ap is_joining is_case) ∙ R.joins) in
       let stands = resumed_place r R.x R.w got.0 got.1.at hole aim in
-      let waits = waits_undue r R.w.c R.x stands.0 stands.1 stands.2 v got.0 R.w got.1 stands.3 there in (
+      let waits = waits_undue limits t now flaw s o ev goes r R.w.c R.x stands.0 stands.1 stands.2 v got.0 R.w got.1 stands.3 there in (
         o.first_due r R.w.c c v got.0 a there kept.0 (none_lost r R.w.c v kept.0 waits.1) got.1.row waits.0 (sound.is_bound lo hi how row at),
         head_undue c R.x R.response a R.at (or_right _ _ R.joins) (loss_at t e c r lo hi how a v at there (unlosing r v kept.1)),
       )
@@ -219,7 +208,7 @@ module _ (limits : Limits) (t : Tables) (now : ℕ) (flaw : Flaw) (s : Sound t) 
       by_row None there some = absurd (false_true some)
       by_row (Some v) there some =
           let off : loses_writing t e r v ≡ false = not_so _ (λ h. unwritten limits t now flaw s o ev goes c x k w is r lo hi how v v.writer stands there (and_right _ _ h) refl) in
-          ((waits_undue r c x lo hi how v k w is stands there).0, head_undue c x response k here (or_left _ _ on) (loss_at t e c r lo hi how k v stands there off))
+          ((waits_undue limits t now flaw s o ev goes r c x lo hi how v k w is stands there).0, head_undue c x response k here (or_left _ _ on) (loss_at t e c r lo hi how k v stands there off))
 
   -- EACH WAY TO BE BOUND
 

@@ -26,7 +26,7 @@ use Rattle.hc_model.specs.Owners.{Owners, IsAwaiting, Awaits}
 use Rattle.hc_model.specs.Owners as owners
 use Rattle.hc_model.specs.Reading.{own_open, if_open, is_written, shared, writing_in}
 use Rattle.hc_model.specs.Rows.{Tables, Exchange, Representation, Consumer}
-use Rattle.hc_model.specs.Sound.{Sound, IsAbout}
+use Rattle.hc_model.specs.Sound.{Sound, IsAbout, HasPen}
 use Rattle.hc_model.specs.Sound as sound
 use Rattle.hc_model.specs.StartingOver.{starts_over, waits_at, awaited}
 use Rattle.hc_model.specs.Writers.{loses_writing, survivor}
@@ -39,7 +39,7 @@ use Rattle.hc_model.proofs.MoveBy.{IsHeard}
 use Rattle.hc_model.proofs.OpensFrom.{hole_is}
 use Rattle.hc_model.proofs.OwnersKeep.{is_opened}
 use Rattle.hc_model.proofs.PieceKeeps.{eq_cases, some_inj}
-use Rattle.hc_model.proofs.Pens.{same_row, writer_some}
+use Rattle.hc_model.proofs.Pens.{same_row, row_of, writer_some}
 use Rattle.hc_model.proofs.SaidActs.{loss_is, leaver_leaves}
 use Rattle.hc_model.proofs.Stops.{writer_about}
 use Rattle.hc_model.proofs.Unclosed.{had_to}
@@ -342,3 +342,14 @@ module _ (limits : Limits) (t : Tables) (now : ℕ) (flaw : Flaw) (s : Sound t) 
     -- so an event of another exchange leaves it open
     pub unclosed : (exchange_in ev ≡ Some y → ⊥) → (ev ≡ event.Cancel c → ⊥) → leaves_in c e.acts ≡ false → starts_over t e c k ≡ false → closes_in y e.acts ≡ false
     unclosed other = unclosed_unless (λ refused. refused_by ev (and_right _ _ refused) other)
+
+  -- who waits for a hole of r has nothing due, and has the pen
+  pub waits_undue : (r c x lo : ℕ) (hi : Option ℕ) (how : BoundBy) (v : Representation) (k : Consumer) (w : Exchange) → IsWaiter t c x k w → k.place ≡ place.Bound r lo hi how → t.representation r ≡ Some v → (k.due ≡ None) × HasPen t r v c
+  waits_undue r c x lo hi how v k w is at there = by_had (s.writes.had r x v there (asks_about c x k w is r lo hi how at is.at))
+    where
+      by_had : sound.IsHad t r v x → (k.due ≡ None) × HasPen t r v c
+      by_had (sound.shared on writer) = absurd (unwritten c x k w is r lo hi how v v.writer at there on refl)
+      by_had (sound.own g z reader theirs none pen) =
+          let mine : g ≡ c = left_number c x k is.row is.own g z (row_of t r g z reader) theirs in
+          let one : z ≡ k = same_row (t.consumer c) z k (sym (ap t.consumer mine) ∙ row_of t r g z reader) is.row in
+          (sym (ap (λ (q : Consumer). q.due) one) ∙ none, subst (HasPen t r v) mine pen)

@@ -3,6 +3,7 @@ use Rattle.std.specs.Prelude.{◌≡◌, ℕ, ◌+◌, List, [], ◌∷◌, Bool
 use Rattle.std.specs.Option.{option_or}
 use Rattle.hc_event.specs.declared.event.Event.{Event}
 use Rattle.hc_event.specs.declared.event.Request.{Request}
+use Rattle.hc_event.specs.declared.event.Response.{Response}
 use Rattle.hc_event.specs.declared.act.Act.{Act}
 use Rattle.hc_event.specs.declared.act.Need.{Need}
 use Rattle.hc_rules.specs.declared.room.Limits.{Limits}
@@ -11,6 +12,8 @@ use Rattle.hc_model.specs.declared.place.Place.TheVariants as place
 use Rattle.hc_model.specs.Answers.{accepted}
 use Rattle.hc_model.specs.Closings.{is_last_reader}
 use Rattle.hc_model.specs.ConsumerRows.{back_in_line, started}
+use Rattle.hc_model.specs.ExchangeRows.{promise_in}
+use Rattle.hc_model.specs.Exchanges.{is_reached}
 use Rattle.hc_model.specs.Flaws.{Flaw}
 use Rattle.hc_model.specs.Gone.{is_keepable}
 use Rattle.hc_model.specs.Keys.{entry_of}
@@ -83,6 +86,25 @@ abbrev pub with_ask : ℕ → Tables → Tables
 with_ask x t = record t {
   exchange = λ y. if x == y then option_map to_bring (t.exchange y) else t.exchange y;
 }
+
+-- A HEAD COMES
+
+-- its head came at this moment: it joined this, and is over where no byte is promised
+abbrev pub answered : ℕ → Response → Option ℕ → Exchange → Exchange
+answered now response joined w = record w {
+  head = Some response;
+  answered = now;
+  joined = joined;
+  is_open = not (is_reached (promise_in w response) 0) && w.is_open;
+}
+
+abbrev pub with_answer : ℕ → ℕ → Response → Option ℕ → Exchange → Tables → Tables
+with_answer now x response joined w t =
+    with_exchange x (Some (answered now response joined w)) t
+
+-- the exchange, where its head leaves it open
+abbrev pub unless_ended : ℕ → Response → Exchange → List ℕ
+unless_ended x response w = if is_reached (promise_in w response) 0 then [] else x ∷ []
 
 -- LETTING GO
 

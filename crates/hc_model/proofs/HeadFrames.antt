@@ -15,12 +15,12 @@ use Rattle.hc_model.specs.declared.place.Place.{Place}
 use Rattle.hc_model.specs.declared.place.Place.TheVariants as place
 use Rattle.hc_model.specs.ActFilters.{loses_in, has_loss, misreads_in, showing_in}
 use Rattle.hc_model.specs.Answers.{lost}
-use Rattle.hc_model.specs.Cases.{case_at, is_founding}
+use Rattle.hc_model.specs.Cases.{case_at, is_founding, is_joining, is_updating}
 use Rattle.hc_model.specs.Closings.{closing, closes_row, must_close, is_refused, brings_head, is_doomed, has_no_survivor}
 use Rattle.hc_model.specs.ConsumerRows.{consumer_after, consumer_heard, consumer_settled, consumer_acted, consumer_made, place_by_case, becomes_shared, back_in_line, due_after, with_head}
 use Rattle.hc_model.specs.Currents.{is_current, is_number}
 use Rattle.hc_model.specs.Dooms.{doomed, doomed_by_case, is_key}
-use Rattle.hc_model.specs.Effects.{counted, gone, let_all_go, over, all_closed, with_consumer, with_answer, answered, unless_ended}
+use Rattle.hc_model.specs.Effects.{counted, gone, let_all_go, over, all_closed, with_consumer, with_answer, answered, unless_ended, refreshed, just_founded, lost_to}
 use Rattle.hc_model.specs.Entries.{Entry}
 use Rattle.hc_model.specs.ExchangeRows.{exchange_after, joined_at, promise_in}
 use Rattle.hc_model.specs.Exchanges.{exchange_at, is_for, is_reached, family}
@@ -31,11 +31,11 @@ use Rattle.hc_model.specs.Lawful.{Lawful}
 use Rattle.hc_model.specs.Owners.{IsAwaiting}
 use Rattle.hc_model.specs.Owners as owners
 use Rattle.hc_model.specs.Reading.{reads, is_written}
-use Rattle.hc_model.specs.RepresentationRows.{representation_after, updates}
+use Rattle.hc_model.specs.RepresentationRows.{representation_after, updates, representation_heard, representation_acted, renewed, resumes}
 use Rattle.hc_model.specs.Rows.{Tables, Exchange, Representation, Consumer}
 use Rattle.hc_model.specs.StartingOver.{starts_over, sends_back, waits_at, loses_what_it_waits_for}
 use Rattle.hc_model.specs.Tables.{after_accepted, added, founds, binds, binds_by_opening, binds_by_showing, to_front, opened_after, openings_after}
-use Rattle.hc_model.specs.Writers.{loses_writing}
+use Rattle.hc_model.specs.Writers.{loses_writing, goes_on_with}
 use Rattle.hc_model.proofs.ActParts.{IsFarFrom, closes_evicted, closes_lost, asks_evicted, asks_lost, asks_closes, loses_evicted, loses_before, evicts_lost, evicts_closes, far_evicted, far_loss, far_closed}
 use Rattle.hc_model.proofs.Basics.{none_some, number_is}
 use Rattle.hc_model.proofs.Closed.{reversed}
@@ -188,6 +188,34 @@ module _ (t : Tables) (now x : ℕ) (response : Response) (es : List ℕ) (flaw 
         | inl same ↦ rw same.0 (subst (λ m. representation_after t e m (t.representation m) ≡ (if is_in rs m then option_map gone z else z)) same.1 here)
         | inr other ↦ rw other.0 (row_by r (unfounding r other.0) (λ v there. stays r v other.0 there))
       ]
+
+    module _ (r : ℕ) (v : Representation) (there : t.representation r ≡ Some v) where
+      -- what it updates
+      pub row_updates : updates t e r w v ≡ true → loses_in r (lost flaw) ≡ false → becomes_gone t e r v ≡ false
+          → representation_after t e r (t.representation r) ≡ Some (record (refreshed now response w v) { writer = if is_joining (Some g) && resumes t response w v then Some x else v.writer })
+      unfolding representation_after
+      row_updates on unlost stays =
+          ap (representation_after t e r) there
+          ∙ (let heard_it : representation_heard t e r e.event v ≡ renewed t e x response w v = rw (row, on) refl in
+          ap (λ (u : Representation). Some (representation_acted t e r v u)) heard_it
+          ∙ rw (loses_as r, unlost, stays, is) refl)
+
+      -- what it loses, with who goes on alone
+      pub row_loses : (alone : Option ℕ) → v.is_lost ≡ false → loses_in r (lost flaw) ≡ true → goes_on_with t e r v ≡ alone → becomes_gone t e r v ≡ true
+          → representation_after t e r (t.representation r) ≡ Some (gone (lost_to alone v))
+      unfolding representation_after
+      row_loses alone kept lost_now goes_on goes =
+          let loses : loses_in r acts ≡ true = loses_as r ∙ lost_now in
+          let off : updates t e r w v ≡ false = then_false (is_updating (case_at t e) && is_number w.aim r) (not (v.is_lost || loses_in r acts)) (rw (kept, loses) refl) in
+          let heard_it : representation_heard t e r e.event v ≡ v = rw (row, off) refl in
+          ap (representation_after t e r) there
+          ∙ (ap (λ (u : Representation). Some (representation_acted t e r v u)) heard_it
+          ∙ rw (goes, goes_on, loses, kept) refl)
+
+    -- what it founds
+    pub row_founds : t.representation x ≡ None → is_founding (Some g) ≡ true → representation_after t e x (t.representation x) ≡ Some (just_founded now x response w)
+    unfolding representation_after
+    row_founds none founds = ap (representation_after t e x) none ∙ rw (is, founds, eqb-same x, row) refl
 
     -- CONSUMERS
 

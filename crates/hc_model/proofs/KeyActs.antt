@@ -21,7 +21,7 @@ use Rattle.hc_model.specs.Cases.{case_at, is_founding, is_joining}
 use Rattle.hc_model.specs.Closings.{must_close, closes_row, closing, brings_head, is_doomed, has_no_survivor, is_left, is_left_by, leaver_by}
 use Rattle.hc_model.specs.Currents.{is_number}
 use Rattle.hc_model.specs.Dooms.{bypassed, bypassed_by, bypassed_for}
-use Rattle.hc_model.specs.Entries.{Entry}
+use Rattle.hc_model.specs.Entries.{Entry, unanswered}
 use Rattle.hc_model.specs.Exchanges.{family}
 use Rattle.hc_model.specs.Flaws.{Flaw, NoFlaw, Loses, Misreads, flaw_in}
 use Rattle.hc_model.specs.Keys.{key_of, key_of_exchange, is_of_key, ExchangeKeys, ConsumerKeys}
@@ -121,6 +121,37 @@ test_some true o a h = (refl, h)
 test_some false o a h = absurd (none_some a h)
 
 -- THE ENTRY
+
+-- WHAT IS IDLE
+
+abbrev pub HasRow : Tables → ℕ → Type 0
+HasRow t r = (v : Representation) × (t.representation r ≡ Some v)
+
+idle_row : (t : Tables) (e' : Entry) (r : ℕ) (o : Option Representation) → t.representation r ≡ o → is_idle t e' r o ≡ true → HasRow t r
+idle_row t e' r None row h = absurd (let never : false ≡ true = h in cc)
+idle_row t e' r (Some v) row h = (v, row)
+
+taken_rows : (t : Tables) (n : ℕ) (rs : List ℕ) → AllPass (HasRow t) rs → AllPass (HasRow t) (take n rs)
+taken_rows t zero rs all = tt
+taken_rows t (suc n) [] all = tt
+taken_rows t (suc n) (r ∷ rs) all = (all.0, taken_rows t n rs all.1)
+
+idle_rows : (t : Tables) (e' : Entry) (rs : List ℕ) → AllPass (HasRow t) (filter (λ r. is_idle t e' r (t.representation r)) rs)
+idle_rows t e' [] = tt
+idle_rows t e' (r ∷ rs) = elim (bool_cases (is_idle t e' r (t.representation r))) [
+  | inl passes ↦ rw passes (idle_row t e' r (t.representation r) refl passes, idle_rows t e' rs)
+  | inr fails ↦ rw fails (idle_rows t e' rs)
+]
+
+first_rows : (t : Tables) (e' : Entry) (place : Room) → AllPass (HasRow t) (first_idle t e' place)
+unfolding idle
+first_rows t e' (room.After count) = taken_rows t count _ (idle_rows t e' (reverse t.used))
+first_rows t e' room.TooLarge = tt
+first_rows t e' room.Full = tt
+
+-- what makes room has a row
+pub evicted_rows : (limits : Limits) (t : Tables) (now : ℕ) (ev : Event) → AllPass (HasRow t) (evicted limits t now ev)
+evicted_rows limits t now ev = first_rows t (unanswered now ev) (room_for limits t now ev)
 
 module _ (limits : Limits) (t : Tables) (e : Entry) (flaw : Flaw) (exchanges : ExchangeKeys t) (consumers : ConsumerKeys t) (acts_is : e.acts ≡ accepted limits t e.now e.event flaw) (flaw_is : flaw_in e.acts ≡ flaw) (may : may_be limits t e flaw ≡ true) where
   abbrev Other : List ℕ → Type 0
@@ -420,37 +451,12 @@ module _ (limits : Limits) (t : Tables) (e : Entry) (flaw : Flaw) (exchanges : E
 
   -- EVICTED
 
-  abbrev HasRow : ℕ → Type 0
-  HasRow r = (v : Representation) × (t.representation r ≡ Some v)
-
-  idle_row : (e' : Entry) (r : ℕ) (o : Option Representation) → t.representation r ≡ o → is_idle t e' r o ≡ true → HasRow r
-  idle_row e' r None row h = absurd (let never : false ≡ true = h in cc)
-  idle_row e' r (Some v) row h = (v, row)
-
-  taken_rows : (e' : Entry) (n : ℕ) (rs : List ℕ) → AllPass HasRow rs → AllPass HasRow (take n rs)
-  taken_rows e' zero rs all = tt
-  taken_rows e' (suc n) [] all = tt
-  taken_rows e' (suc n) (r ∷ rs) all = (all.0, taken_rows e' n rs all.1)
-
-  idle_rows : (e' : Entry) (rs : List ℕ) → AllPass HasRow (filter (λ r. is_idle t e' r (t.representation r)) rs)
-  idle_rows e' [] = tt
-  idle_rows e' (r ∷ rs) = elim (bool_cases (is_idle t e' r (t.representation r))) [
-    | inl passes ↦ rw passes (idle_row e' r (t.representation r) refl passes, idle_rows e' rs)
-    | inr fails ↦ rw fails (idle_rows e' rs)
-  ]
-
-  first_rows : (e' : Entry) (place : Room) → AllPass HasRow (first_idle t e' place)
-  unfolding idle
-  first_rows e' (room.After count) = taken_rows e' count _ (idle_rows e' (reverse t.used))
-  first_rows e' room.TooLarge = tt
-  first_rows e' room.Full = tt
-
-  evicts_by : (r : ℕ) (acts : List Act) → answered acts → evicts_in r acts ≡ true → HasRow r
+  evicts_by : (r : ℕ) (acts : List Act) → answered acts → evicts_in r acts ≡ true → HasRow t r
   evicts_by r _ (parts.told silent) h =
-      evicts_all r (evicted limits t e.now e.event) _ HasRow (first_rows _ (room_for limits t e.now e.event)) (evicts_lost r flaw _ ∙ evicts_closes r closings) h
+      evicts_all r (evicted limits t e.now e.event) _ (HasRow t) (evicted_rows limits t e.now e.event) (evicts_lost r flaw _ ∙ evicts_closes r closings) h
   evicts_by r _ parts.asked h =
       absurd (let never : false ≡ true = sym ((said_closes 0 r t e.now e.event flaw asked_of _ said_here).evicts ∙ evicts_closed r closings flaw) ∙ h in cc)
 
   -- what is evicted has a row
-  pub evicted_row : (r : ℕ) → evicts_in r e.acts ≡ true → HasRow r
+  pub evicted_row : (r : ℕ) → evicts_in r e.acts ≡ true → HasRow t r
   evicted_row r h = evicts_by r _ is_answer (sym (ap (evicts_in r) acts_is) ∙ h)

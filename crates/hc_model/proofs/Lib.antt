@@ -210,6 +210,7 @@ pub mod FewClosings
 pub mod HeadFrames
 pub mod HeadFacts
 pub mod HeadEffects
+pub mod FoundEffects
 pub mod LawfulRuns
 pub mod FailsTold
 pub mod LeftBy

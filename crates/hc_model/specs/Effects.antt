@@ -2,6 +2,7 @@
 use Rattle.std.specs.Prelude.{◌≡◌, ℕ, ◌+◌, List, [], ◌∷◌, Bool, true, false, Option, Some, None, option_map, ◌==◌, ◌&&◌, not, if◌then◌else◌}
 use Rattle.std.specs.Option.{option_or}
 use Rattle.hc_event.specs.declared.event.Event.{Event}
+use Rattle.hc_event.specs.declared.event.Event.TheVariants as event
 use Rattle.hc_event.specs.declared.event.Request.{Request}
 use Rattle.hc_event.specs.declared.event.Response.{Response}
 use Rattle.hc_event.specs.declared.act.Act.{Act}
@@ -12,12 +13,15 @@ use Rattle.hc_model.specs.declared.place.Place.TheVariants as place
 use Rattle.hc_model.specs.Answers.{accepted}
 use Rattle.hc_model.specs.Closings.{is_last_reader}
 use Rattle.hc_model.specs.ConsumerRows.{back_in_line, started}
+use Rattle.hc_model.specs.Entries.{unanswered}
 use Rattle.hc_model.specs.ExchangeRows.{promise_in}
 use Rattle.hc_model.specs.Exchanges.{is_reached}
 use Rattle.hc_model.specs.Flaws.{Flaw}
 use Rattle.hc_model.specs.Gone.{is_keepable}
+use Rattle.hc_model.specs.Heads.{updated_head}
 use Rattle.hc_model.specs.Keys.{entry_of}
 use Rattle.hc_model.specs.Reading.{own_open, shared}
+use Rattle.hc_model.specs.RepresentationRows.{represented, resumes}
 use Rattle.hc_model.specs.Rows.{Tables, Exchange, Representation, Consumer}
 use Rattle.hc_model.specs.Tables.{after_accepted, received_in, to_front, added}
 
@@ -105,6 +109,26 @@ with_answer now x response joined w t =
 -- the exchange, where its head leaves it open
 abbrev pub unless_ended : ℕ → Response → Exchange → List ℕ
 unless_ended x response w = if is_reached (promise_in w response) 0 then [] else x ∷ []
+
+-- UPDATING AND FOUNDING
+
+-- with the head that a later one makes of its own (RFC 9111 section 3.2)
+abbrev pub refreshed : ℕ → Response → Exchange → Representation → Representation
+refreshed now response w v = record v { head = updated_head now response w v.head }
+
+-- where the exchange brings all that is missing, it is written for several from now on
+abbrev pub resumed : Tables → ℕ → Response → Exchange → Representation → Representation
+resumed t x response w v = record v {
+  writer = if resumes t response w v then Some x else v.writer;
+}
+
+-- a representation as the head founds it at this moment
+abbrev pub just_founded : ℕ → ℕ → Response → Exchange → Representation
+just_founded now x response w = represented x (unanswered now (event.Head x response)) response w
+
+abbrev pub with_founding : ℕ → Representation → Tables → Tables
+with_founding x v t =
+    record (used_last x (with_representation x (Some v) t)) { founded = x ∷ t.founded }
 
 -- LETTING GO
 

@@ -1,6 +1,6 @@
 -- What a head that founds is.
-use Rattle.std.proofs.Common.{◌≡◌, ℕ, Bool, true, false, Some, refl, sym, ◌∙◌, arith}
-use Rattle.std.specs.Prelude.{◌&&◌, ◌||◌, ◌==◌, not, nat_eq, nat_le}
+use Rattle.std.proofs.Common.{◌≡◌, ℕ, Bool, true, false, Some, refl, sym, ◌∙◌, subst, arith}
+use Rattle.std.specs.Prelude.{◌&&◌, ◌||◌, ◌==◌, not, nat_eq, nat_le, if◌then◌else◌}
 use Rattle.std.proofs.lemmas.Bool.Decides.{nat_tests}
 use Rattle.hc_rules.specs.declared.need.Route.{Route}
 use Rattle.hc_rules.specs.declared.need.Route.TheVariants as route
@@ -11,7 +11,7 @@ use Rattle.hc_rules.specs.HeadCases.{head_case, case_on, direct_case, turn_case,
 use Rattle.hc_rules.specs.Needs.{route_of}
 use Rattle.hc_rules.proofs.Cond.{either}
 use Rattle.hc_model.specs.Cases.{is_founding}
-use Rattle.hc_model.proofs.Basics.{not_true}
+use Rattle.hc_model.proofs.Basics.{not_true, not_so}
 
 -- the route that a case is of, and whether its consumer was shown a head
 pub record IsWay (v : HeadView) (way : Route) (shown : Bool) : Type 0 where
@@ -126,3 +126,33 @@ pub founds_way : (v : HeadView) (g : HeadCase) → FoundingBy v g → route_of v
 founds_way v _ (whole way h l) past = turn_direct (sym way ∙ past)
 founds_way v _ (part way h f l g) past = turn_direct (sym way ∙ past)
 founds_way v _ (replaced way h l) past = hole_direct (sym way ∙ past)
+
+-- a 304 founds nothing
+pub unchanged_founds : (v : HeadView) → v.status ≡ 304 → is_founding (Some (head_case v)) ≡ false
+unchanged_founds v status = not_so (is_founding (Some (head_case v))) (λ on. by_case (founding_by v on))
+  where
+    by_case : {g : HeadCase} → FoundingBy v g → ⊥
+    by_case (whole way h l) = let no : 304 ≡ 200 = sym status ∙ h in omega arith
+    by_case (part way h f l g) = let no : 304 ≡ 206 = sym status ∙ h in omega arith
+    by_case (replaced way h l) = let no : 304 ≡ 200 = sym status ∙ h in omega arith
+
+-- WHAT IS VALIDATED
+
+not_validated_is : (b : Bool) → (if b then case.TurnBad else case.NotValidated) ≡ case.Validated → ⊥
+not_validated_is true h = let no : case.TurnBad ≡ case.Validated = h in cc
+not_validated_is false h = let no : case.NotValidated ≡ case.Validated = h in cc
+
+-- a head that validates selects what is stored
+pub validated_selects : (v : HeadView) → head_case v ≡ case.Validated → v.selects ≡ true
+unfolding head_case
+validated_selects v is = by_case (subst (CaseBy v) is (case_by v))
+  where
+    by_case : CaseBy v case.Validated → v.selects ≡ true
+    by_case (validated way status conditional kept) = by_test v.selects refl
+      where
+        by_test : (b : Bool) → v.selects ≡ b → b ≡ true
+        by_test true on = refl
+        by_test false off =
+            let unchanged : nat_eq v.status 304 ≡ true = let h : v.status ≡ 304 = status in grind (arith, nat_tests) in
+            let other : head_case v ≡ (if v.bad then case.TurnBad else case.NotValidated) = rw (way, unchanged, conditional, off) refl in
+            absurd (not_validated_is v.bad (sym other ∙ is))

@@ -209,8 +209,11 @@ module _ (limits : Limits) (t : Tables) (law : Lawful t) (now x : ℕ) (response
           → (r : ℕ) → representation_after t it r (t.representation r) ≡ (if is_in rs r then option_map gone (if q == r then z else t.representation r) else (if q == r then z else t.representation r))
       rows = rows_but t now x response es flaw xs w row g is_it rs (goes_it rs tests)
 
+      pub rows_same : is_founding (Some g) ≡ false → ((r : ℕ) (v : Representation) → t.representation r ≡ Some v → (updates t it r w v ≡ false) × (loses_in r (lost flaw) ≡ false)) → (r : ℕ) → representation_after t it r (t.representation r) ≡ (if is_in rs r then option_map gone (t.representation r) else t.representation r)
+      rows_same unfounding stays r = row_by t now x response es flaw xs w row g is_it rs (goes_it rs tests) r (rw unfounding refl) (stays r)
+
       pub rows_stay : is_founding (Some g) ≡ false → is_updating (Some g) ≡ false → ((r : ℕ) (v : Representation) → t.representation r ≡ Some v → loses_in r (lost flaw) ≡ false) → (r : ℕ) → representation_after t it r (t.representation r) ≡ (if is_in rs r then option_map gone (t.representation r) else t.representation r)
-      rows_stay unfounding unupdating unlost r = row_by t now x response es flaw xs w row g is_it rs (goes_it rs tests) r (rw unfounding refl) (λ v there. (rw (is_it, unupdating) refl, unlost r v there))
+      rows_stay unfounding unupdating unlost = rows_same unfounding (λ r v there. (rw (is_it, unupdating) refl, unlost r v there))
 
       -- its exchange has it, its consumer is q, and these are let go
       pub head_does : (fs us : List ℕ) (reps : ℕ → Option Representation) (joined : Option ℕ) (q : Consumer) → (if is_joining (Some g) then w.aim else w.joined) ≡ joined → added (if is_founding (Some g) then Some x else None) t.founded ≡ fs → to_front (if is_founding (Some g) then Some x else None) t.used ≡ us

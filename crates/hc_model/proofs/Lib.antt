@@ -211,6 +211,7 @@ pub mod HeadFrames
 pub mod HeadFacts
 pub mod HeadEffects
 pub mod FoundEffects
+pub mod UpdateEffects
 pub mod LawfulRuns
 pub mod FailsTold
 pub mod LeftBy

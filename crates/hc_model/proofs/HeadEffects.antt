@@ -10,12 +10,10 @@ use Rattle.hc_event.specs.declared.event.Response.{Response}
 use Rattle.hc_rules.specs.declared.heads.HeadCase.{HeadCase}
 use Rattle.hc_rules.specs.declared.heads.HeadCase.TheVariants as case
 use Rattle.hc_rules.specs.declared.heads.HeadView.{HeadView}
-use Rattle.hc_rules.specs.declared.length.Length.{Length}
-use Rattle.hc_rules.specs.declared.length.Length.TheVariants as told
 use Rattle.hc_rules.specs.declared.need.Route.TheVariants as route
 use Rattle.hc_rules.specs.declared.room.Limits.{Limits}
 use Rattle.hc_rules.specs.HeadCases.{head_case}
-use Rattle.hc_rules.specs.Lengths.{length_of, is_bad, promise_of}
+use Rattle.hc_rules.specs.Lengths.{length_of, is_bad}
 use Rattle.hc_rules.specs.Needs.{route_of}
 use Rattle.hc_model.specs.declared.place.Place.{Place}
 use Rattle.hc_model.specs.declared.place.Place.TheVariants as place
@@ -46,7 +44,7 @@ use Rattle.hc_model.proofs.Basics.{false_true}
 use Rattle.hc_model.proofs.FoundBy.{CaseBy, case_by}
 use Rattle.hc_model.proofs.FoundBy as cases
 use Rattle.hc_model.proofs.HeadFrames.{e, heard}
-use Rattle.hc_model.proofs.HeadFacts.{waiter, evicts_none, goes_on, goes_back, fails, rows_stay, head_does}
+use Rattle.hc_model.proofs.HeadFacts.{stays_open, waiter, evicts_none, goes_on, goes_back, fails, rows_stay, head_does}
 use Rattle.hc_model.proofs.ConsumerEffects.{some_all}
 use Rattle.hc_model.proofs.OfConsumers.{or_off, and_true}
 use Rattle.hc_model.proofs.PollEffects.{none_waits, same_consumer}
@@ -85,16 +83,6 @@ module _ (limits : Limits) (t : Tables) (law : Lawful t) (now x : ℕ) (response
 
   spares : (r : ℕ) (v : Representation) → t.representation r ≡ Some v → (false && is_written t v) ≡ false
   spares r v there = refl
-
-  -- a bad head promises nothing
-  stays_open : is_bad (length_of w.need w.request response) ≡ true → is_reached (promise_in w response) 0 ≡ false
-  stays_open bad = by_length (length_of w.need w.request response) bad
-    where
-      by_length : (l : Length) → is_bad l ≡ true → is_reached (promise_of l) 0 ≡ false
-      by_length told.Bad h = refl
-      by_length told.Unknown h = absurd (false_true h)
-      by_length (told.Promised n) h = absurd (false_true h)
-      by_length (told.Part base n) h = absurd (false_true h)
 
   shut : added (if true && not (is_reached (promise_in w response) 0) then Some x else None) [] ≡ unless_ended x response w
   shut = by_test (is_reached (promise_in w response) 0)
@@ -155,13 +143,13 @@ module _ (limits : Limits) (t : Tables) (law : Lawful t) (now x : ℕ) (response
   -- a bad head puts its consumer down
   put_down : (g : HeadCase) (is : head_case (head_view t false w response) ≡ g) → doomed_by_case (Some g) w response ≡ None → PutsDown g → is_bad (length_of w.need w.request response) ≡ true → Does limits t now ev NoFlaw (act.Close x ∷ []) (counted now ev (with_consumer w.c (Some (record k { place = place.Down (cause.BadHead x) })) (closed x (with_answer now x response w.joined w t))))
   put_down _ is doomless direct bad =
-      let shut = stays_open bad in
+      let shut = stays_open w response bad in
       mild case.DirectBad is doomless refl refl refl (x ∷ []) (rw shut refl) [] _ (λ r v there. refl) (goes_on_so case.DirectBad is doomless refl refl refl (x ∷ []) (rw shut refl) refl refl _ refl) refl
   put_down _ is doomless turn bad =
-      let shut = stays_open bad in
+      let shut = stays_open w response bad in
       mild case.TurnBad is doomless refl refl refl (x ∷ []) (rw shut refl) [] _ (λ r v there. refl) (goes_on_so case.TurnBad is doomless refl refl refl (x ∷ []) (rw shut refl) refl refl _ refl) refl
   put_down _ is doomless first bad =
-      let shut = stays_open bad in
+      let shut = stays_open w response bad in
       mild case.FirstBad is doomless refl refl refl (x ∷ []) (rw shut refl) [] _ (λ r v there. refl) (goes_on_so case.FirstBad is doomless refl refl refl (x ∷ []) (rw shut refl) refl refl _ refl) refl
 
   pub direct_bad : head_case (head_view t false w response) ≡ case.DirectBad → changes w response ≡ false → Does limits t now ev NoFlaw (act.Close x ∷ []) (counted now ev (with_consumer w.c (Some (record k { place = place.Down (cause.BadHead x) })) (closed x (with_answer now x response w.joined w t))))
@@ -210,7 +198,7 @@ module _ (limits : Limits) (t : Tables) (law : Lawful t) (now x : ℕ) (response
   pub later_bad : head_case (head_view t false w response) ≡ case.LaterBad → Does limits t now ev NoFlaw (act.Close x ∷ []) (counted now ev (with_consumer w.c (Some (record k { due = Some (cause.BadHead x) })) (closed x (with_answer now x response w.joined w t))))
   later_bad is =
       let from = later_is (case_as is) in
-      let shut = stays_open from.1 in
+      let shut = stays_open w response from.1 in
       mild case.LaterBad is refl refl refl refl (x ∷ []) (rw shut refl) [] _ (λ r v there. refl) (fails_so case.LaterBad is refl refl refl refl (x ∷ []) (rw shut refl) (cause.BadHead x) refl refl refl (reads_hole from.0)) (none_waits k.place)
 
   -- or since it is another now, which is let go unless that is a server error

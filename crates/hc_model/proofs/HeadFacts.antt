@@ -9,8 +9,11 @@ use Rattle.hc_event.specs.declared.event.Event.{Event}
 use Rattle.hc_event.specs.declared.event.Event.TheVariants as event
 use Rattle.hc_event.specs.declared.event.Response.{Response}
 use Rattle.hc_rules.specs.declared.heads.HeadCase.{HeadCase}
+use Rattle.hc_rules.specs.declared.length.Length.{Length}
+use Rattle.hc_rules.specs.declared.length.Length.TheVariants as told
 use Rattle.hc_rules.specs.declared.room.Limits.{Limits}
 use Rattle.hc_rules.specs.HeadCases.{head_case}
+use Rattle.hc_rules.specs.Lengths.{length_of, is_bad, promise_of}
 use Rattle.hc_model.specs.ActFilters.{has_loss, leaver_in, loses_in}
 use Rattle.hc_model.specs.Answers.{accepted, lost}
 use Rattle.hc_model.specs.Cases.{case_at, head_view, is_founding, is_updating, is_joining}
@@ -31,7 +34,7 @@ use Rattle.hc_model.specs.Tables.{added, after_accepted, to_front}
 use Rattle.hc_model.specs.Weights.{evicted}
 use Rattle.hc_model.specs.Writers.{loses_writing}
 use Rattle.hc_model.proofs.ActParts.{leaver_lost}
-use Rattle.hc_model.proofs.Basics.{none_some, some_none, some_row, number_is}
+use Rattle.hc_model.proofs.Basics.{none_some, some_none, some_row, number_is, false_true}
 use Rattle.hc_model.proofs.Closed.{reversed}
 use Rattle.hc_model.proofs.FewClosings.{evicts_nothing}
 use Rattle.hc_model.proofs.FirstKeeps.{IsNew, is_new, case_is}
@@ -49,6 +52,16 @@ use Rattle.hc_model.specs.StartingOver.{sends_back}
 use Rattle.hc_model.specs.Failures.{cause_by_case}
 use Rattle.hc_model.specs.ConsumerRows.{consumer_after, back_in_line}
 use Rattle.hc_model.specs.RepresentationRows.{representation_after, updates}
+
+-- a bad head promises nothing
+pub stays_open : (w : Exchange) (response : Response) → is_bad (length_of w.need w.request response) ≡ true → is_reached (promise_in w response) 0 ≡ false
+stays_open w response bad = by_length (length_of w.need w.request response) bad
+  where
+    by_length : (l : Length) → is_bad l ≡ true → is_reached (promise_of l) 0 ≡ false
+    by_length told.Bad h = refl
+    by_length told.Unknown h = absurd (false_true h)
+    by_length (told.Promised n) h = absurd (false_true h)
+    by_length (told.Part base n) h = absurd (false_true h)
 
 module _ (limits : Limits) (t : Tables) (law : Lawful t) (now x : ℕ) (response : Response) (goes : denial t (event.Head x response) ≡ None) (w : Exchange) (row : t.exchange x ≡ Some w) where
   abbrev ev : Event
@@ -107,8 +120,8 @@ module _ (limits : Limits) (t : Tables) (law : Lawful t) (now x : ℕ) (response
     abbrev refuses : Bool
     refuses = is_refused (Some g) && not (is_reached (promise_in w response) 0)
 
-    module _ (doomless : doomed t b ≡ None) (spared : (r : ℕ) (v : Representation) → t.representation r ≡ Some v → (loses_in r (lost flaw) && is_written t v) ≡ false) where
-      no_survivor : (y r : ℕ) (o : Option Representation) → t.representation r ≡ o → has_no_survivor t b y r o ≡ false
+    module _ (spared : (r : ℕ) (v : Representation) → t.representation r ≡ Some v → (loses_in r (lost flaw) && is_written t v) ≡ false) where
+      pub no_survivor : (y r : ℕ) (o : Option Representation) → t.representation r ≡ o → has_no_survivor t b y r o ≡ false
       no_survivor y r None there = refl
       no_survivor y r (Some v) there = rw (spared r v there) (drop (is_number v.writer y))
         where
@@ -116,43 +129,44 @@ module _ (limits : Limits) (t : Tables) (law : Lawful t) (now x : ℕ) (response
           drop true = refl
           drop false = refl
 
-      closes_as : (y : ℕ) → closes_row t b y (t.exchange y) ≡ is_number (if refuses then Some x else None) y
-      closes_as y = elim (eq_cases x y) [
-        | inl here ↦ subst (λ z. closes_row t b z (t.exchange z) ≡ is_number (if refuses then Some x else None) z) here.1
-            (ap (closes_row t b x) row
-            ∙ rw (case_before, eqb-same x, doomless, no_survivor x (family x w) (t.representation (family x w)) refl, leaver_lost flaw, new.is_open) (here_by (is_refused (Some g)) (not (is_reached (promise_in w response) 0))))
-        | inr other ↦ by_row (t.exchange y) other.0
-      ]
-        where
-          here_by : (a c : Bool) → (((a && true) || false || false || false) && (c && true)) ≡ is_number (if a && c then Some x else None) x
-          here_by true true = sym (eqb-same x)
-          here_by true false = refl
-          here_by false c = refl
+      module _ (doomless : doomed t b ≡ None) where
+        closes_as : (y : ℕ) → closes_row t b y (t.exchange y) ≡ is_number (if refuses then Some x else None) y
+        closes_as y = elim (eq_cases x y) [
+          | inl here ↦ subst (λ z. closes_row t b z (t.exchange z) ≡ is_number (if refuses then Some x else None) z) here.1
+              (ap (closes_row t b x) row
+              ∙ rw (case_before, eqb-same x, doomless, no_survivor x (family x w) (t.representation (family x w)) refl, leaver_lost flaw, new.is_open) (here_by (is_refused (Some g)) (not (is_reached (promise_in w response) 0))))
+          | inr other ↦ by_row (t.exchange y) other.0
+        ]
+          where
+            here_by : (a c : Bool) → (((a && true) || false || false || false) && (c && true)) ≡ is_number (if a && c then Some x else None) x
+            here_by true true = sym (eqb-same x)
+            here_by true false = refl
+            here_by false c = refl
 
-          apart_by : (a : Bool) → nat_eq x y ≡ false → false ≡ is_number (if a then Some x else None) y
-          apart_by true apart = sym apart
-          apart_by false apart = refl
+            apart_by : (a : Bool) → nat_eq x y ≡ false → false ≡ is_number (if a then Some x else None) y
+            apart_by true apart = sym apart
+            apart_by false apart = refl
 
-          drop : (a : Bool) → (a && false || false || false || false) ≡ false
-          drop true = refl
-          drop false = refl
+            drop : (a : Bool) → (a && false || false || false || false) ≡ false
+            drop true = refl
+            drop false = refl
 
-          by_row : (o : Option Exchange) → nat_eq x y ≡ false → closes_row t b y o ≡ is_number (if refuses then Some x else None) y
-          by_row None apart = apart_by refuses apart
-          by_row (Some u) apart = rw (apart, case_before, doomless, no_survivor y (family y u) (t.representation (family y u)) refl, leaver_lost flaw) (rw (drop (is_refused (Some g))) (apart_by refuses apart))
+            by_row : (o : Option Exchange) → nat_eq x y ≡ false → closes_row t b y o ≡ is_number (if refuses then Some x else None) y
+            by_row None apart = apart_by refuses apart
+            by_row (Some u) apart = rw (apart, case_before, doomless, no_survivor y (family y u) (t.representation (family y u)) refl, leaver_lost flaw) (rw (drop (is_refused (Some g))) (apart_by refuses apart))
 
-      pub closing_is : closing t b ≡ added (if refuses then Some x else None) []
-      unfolding closing
-      closing_is =
-          ap (λ (test : ℕ → Bool). filter test (reverse t.openings)) (fun_ext closes_as)
-          ∙ one_of (if refuses then Some x else None) (reverse t.openings) (reverse_once t.openings (descends_once (t.opened + 1) t.openings law.order.openings)) (λ y at. reversed y t.openings (law.sound.numbered.lists.opened y (there y (test_is refuses y at))))
-        where
-          test_is : (a : Bool) (y : ℕ) → (if a then Some x else None) ≡ Some y → x ≡ y
-          test_is true y at = some_inj x y at
-          test_is false y at = absurd (none_some y at)
+        pub closing_is : closing t b ≡ added (if refuses then Some x else None) []
+        unfolding closing
+        closing_is =
+            ap (λ (test : ℕ → Bool). filter test (reverse t.openings)) (fun_ext closes_as)
+            ∙ one_of (if refuses then Some x else None) (reverse t.openings) (reverse_once t.openings (descends_once (t.opened + 1) t.openings law.order.openings)) (λ y at. reversed y t.openings (law.sound.numbered.lists.opened y (there y (test_is refuses y at))))
+          where
+            test_is : (a : Bool) (y : ℕ) → (if a then Some x else None) ≡ Some y → x ≡ y
+            test_is true y at = some_inj x y at
+            test_is false y at = absurd (none_some y at)
 
-          there : (y : ℕ) → x ≡ y → is_some (t.exchange y) ≡ true
-          there y at = ap is_some (sym (ap t.exchange at) ∙ row)
+            there : (y : ℕ) → x ≡ y → is_some (t.exchange y) ≡ true
+            there y at = ap is_some (sym (ap t.exchange at) ∙ row)
 
   -- WHAT IT DOES
 
@@ -172,7 +186,7 @@ module _ (limits : Limits) (t : Tables) (law : Lawful t) (now x : ℕ) (response
     doomless_before = rw (row, case_before flaw g is) doomless
 
     closes_it : closing t (b flaw g is) ≡ xs
-    closes_it = closing_is flaw g is doomless_before spared ∙ shuts
+    closes_it = closing_is flaw g is spared doomless_before ∙ shuts
 
     acts_are : accepted limits t now ev flaw ≡ map act.Evicted es ++ (lost flaw ++ map act.Close xs)
     acts_are = ap (λ rs. map act.Evicted rs ++ (lost flaw ++ map act.Close (closing t (b flaw g is)))) makes_room ∙ ap (λ ys. map act.Evicted es ++ (lost flaw ++ map act.Close ys)) closes_it

@@ -1,6 +1,6 @@
 -- What an event names is of its key: the representation of an exchange, and what a consumer reads from.
 use Rattle.std.proofs.Common.{◌≡◌, inl, inr, ℕ, List, Bool, true, false, Option, Some, None, refl, ap, sym, ◌∙◌}
-use Rattle.std.specs.Prelude.{◌&&◌, ◌||◌, if◌then◌else◌, unwrap_or, nat_eq}
+use Rattle.std.specs.Prelude.{bytes_eq, ◌&&◌, ◌||◌, if◌then◌else◌, unwrap_or, nat_eq}
 use Rattle.std.proofs.Common.{arith}
 use Rattle.std.specs.Option.{option_and_then, option_or}
 use Rattle.std.proofs.lemmas.Bool.Decides.{nat_tests}
@@ -14,7 +14,7 @@ use Rattle.hc_model.specs.declared.place.Place.{Place}
 use Rattle.hc_model.specs.declared.place.Place.TheVariants as place
 use Rattle.hc_model.specs.declared.place.BoundBy.{BoundBy}
 use Rattle.hc_model.specs.Cases.{case_at}
-use Rattle.hc_model.specs.Currents.{current, is_usable, is_current}
+use Rattle.hc_model.specs.Currents.{current, is_usable, is_current, is_number}
 use Rattle.hc_model.specs.Dooms.{doomed, doomed_in, doomed_by_head, doomed_by_case, doomed_if, changes, is_key}
 use Rattle.hc_model.specs.Entries.{Entry}
 use Rattle.hc_model.specs.Exchanges.{family, is_open}
@@ -23,10 +23,11 @@ use Rattle.hc_model.specs.Reading.{own_open, if_open, shared, writing_in, is_wri
 use Rattle.hc_model.specs.Rows.{Tables, Exchange, Representation, Consumer}
 use Rattle.hc_model.specs.Sound.{IsBound}
 use Rattle.hc_model.specs.Sound as sound
-use Rattle.hc_model.proofs.Basics.{and_left, or_cases, number_is}
+use Rattle.hc_model.proofs.Basics.{and_left, or_cases, number_is, not_so, true_false}
 use Rattle.hc_model.proofs.Pens.{same_row}
 use Rattle.hc_model.proofs.PieceKeeps.{some_inj}
 use Rattle.hc_model.proofs.PollKeeps.{find_passes}
+use Rattle.hc_model.proofs.HoleLemmas.{bool_cases}
 
 -- WORDS
 
@@ -119,6 +120,22 @@ unfolding current
 current_key t key r v is row =
     let passes : is_usable key (Some v) ≡ true = sym (ap (is_usable key) row) ∙ find_passes (λ q. is_usable key (t.representation q)) t.founded r is in
     same_bytes v.key key (and_left _ _ passes)
+
+-- just what is current for a key is current for its own, where that is the same
+pub current_test : (t : Tables) (key : List ℕ) (r : ℕ) (v : Representation) → t.representation r ≡ Some v → (is_current t v.key r && bytes_eq key v.key) ≡ is_number (current t key) r
+current_test t key r v there = elim (bool_cases (bytes_eq key v.key)) [
+  | inl same ↦ rw same (with_true (is_current t v.key r) ∙ ap (λ z. is_number (current t z) r) (sym (same_bytes key v.key same)))
+  | inr other ↦ rw other (with_false (is_current t v.key r) ∙ sym (not_so (is_number (current t key) r) (λ on.
+      true_false (sym (bytes_eq-same key v.key (sym (current_key t key r v (number_is (current t key) r on) there))) ∙ other))))
+]
+  where
+    with_true : (b : Bool) → (b && true) ≡ b
+    with_true true = refl
+    with_true false = refl
+
+    with_false : (b : Bool) → (b && false) ≡ false
+    with_false true = refl
+    with_false false = refl
 
 -- CONSUMERS AND WHAT THEY READ FROM
 

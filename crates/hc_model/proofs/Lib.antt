@@ -212,6 +212,8 @@ pub mod HeadFacts
 pub mod HeadEffects
 pub mod FoundEffects
 pub mod UpdateEffects
+pub mod DoomFrames
+pub mod UnsafeEffects
 pub mod LawfulRuns
 pub mod FailsTold
 pub mod LeftBy

@@ -27,7 +27,7 @@ use Rattle.hc_rules.proofs.RangeReads.{bytes_eq-same, same_bytes}
 use Rattle.hc_model.proofs.Basics.{false_true, true_false, not_so, number_is}
 use Rattle.hc_model.proofs.ConsumerEffects.{some_all}
 use Rattle.hc_model.proofs.HoleLemmas.{bool_cases}
-use Rattle.hc_model.proofs.KeyNames.{current_key}
+use Rattle.hc_model.proofs.KeyNames.{current_test}
 use Rattle.hc_model.proofs.OfConsumers.{BringsNothing, and_true, goes_as, ends_none}
 use Rattle.hc_model.proofs.OpenEffects.{e, nothing, why, keeps_all, binds_none, about_current}
 use Rattle.hc_model.proofs.OpenedAs.{OpenedAs, Way}
@@ -83,18 +83,11 @@ module _ (limits : Limits) (t : Tables) (law : Lawful t) (now c want : ℕ) (k :
   reason = why limits t law now c want k row x need.Bypass request is
 
   -- just what is current is bypassed
-  key_test : (r : ℕ) (v : Representation) → t.representation r ≡ Some v → (is_current t v.key r && bytes_eq k.request.key v.key) ≡ is_number (current t k.request.key) r
-  key_test r v there = elim (bool_cases (bytes_eq k.request.key v.key)) [
-    | inl same ↦ rw same (and_true (is_current t v.key r) ∙ ap (λ key. is_number (current t key) r) (sym (same_bytes k.request.key v.key same)))
-    | inr other ↦ rw other (then_false (is_current t v.key r) false refl ∙ sym (not_so (is_number (current t k.request.key) r) (λ on.
-        true_false (sym (bytes_eq-same k.request.key v.key (sym (current_key t k.request.key r v (number_is (current t k.request.key) r on) there))) ∙ other))))
-  ]
-
   goes : (r : ℕ) (v : Representation) → t.representation r ≡ Some v → becomes_gone t it r v ≡ is_in (added (current t k.request.key) []) r
   goes r v there =
       goes_as t it c said_nothing r v
       ∙ (rw reason.key_is (rw (ends_none t it c said_nothing r v refl) (drop (is_current t v.key r && bytes_eq k.request.key v.key)))
-      ∙ (key_test r v there ∙ sym (in_one (current t k.request.key) r)))
+      ∙ (current_test t k.request.key r v there ∙ sym (in_one (current t k.request.key) r)))
     where
       drop : (b : Bool) → (b || false || false || false || false) ≡ b
       drop true = refl

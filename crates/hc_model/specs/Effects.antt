@@ -1,5 +1,5 @@
 -- What entries do to the tables, one thing at a time.
-use Rattle.std.specs.Prelude.{◌≡◌, ℕ, ◌+◌, List, [], ◌∷◌, Bool, true, false, Option, Some, None, option_map, ◌==◌, ◌&&◌, not, if◌then◌else◌}
+use Rattle.std.specs.Prelude.{◌≡◌, ℕ, ◌+◌, List, [], ◌∷◌, Bool, true, false, Option, Some, None, option_map, bytes_eq, ◌==◌, ◌||◌, ◌&&◌, not, filter, reverse, if◌then◌else◌}
 use Rattle.std.specs.Option.{option_or}
 use Rattle.hc_event.specs.declared.event.Event.{Event}
 use Rattle.hc_event.specs.declared.event.Event.TheVariants as event
@@ -11,11 +11,11 @@ use Rattle.hc_rules.specs.declared.room.Limits.{Limits}
 use Rattle.hc_model.specs.declared.place.Place.{Place}
 use Rattle.hc_model.specs.declared.place.Place.TheVariants as place
 use Rattle.hc_model.specs.Answers.{accepted}
-use Rattle.hc_model.specs.Closings.{is_last_reader}
+use Rattle.hc_model.specs.Closings.{is_last_reader, awaits}
 use Rattle.hc_model.specs.ConsumerRows.{back_in_line, started}
 use Rattle.hc_model.specs.Entries.{unanswered}
 use Rattle.hc_model.specs.ExchangeRows.{promise_in}
-use Rattle.hc_model.specs.Exchanges.{is_reached}
+use Rattle.hc_model.specs.Exchanges.{is_reached, is_headless}
 use Rattle.hc_model.specs.Flaws.{Flaw}
 use Rattle.hc_model.specs.Gone.{is_keepable}
 use Rattle.hc_model.specs.Heads.{updated_head}
@@ -24,6 +24,8 @@ use Rattle.hc_model.specs.Reading.{own_open, shared}
 use Rattle.hc_model.specs.RepresentationRows.{represented, resumes}
 use Rattle.hc_model.specs.Rows.{Tables, Exchange, Representation, Consumer}
 use Rattle.hc_model.specs.Tables.{after_accepted, received_in, to_front, added}
+use Rattle.hc_model.specs.Currents.{is_number}
+use Rattle.hc_model.specs.StartingOver.{waits_at}
 
 -- ONE ROW IS ANOTHER
 
@@ -174,6 +176,28 @@ closed x t = record t {
 abbrev pub all_closed : List ℕ → Tables → Tables
 all_closed [] t = t
 all_closed (x ∷ xs) t = all_closed xs (closed x t)
+
+-- DOOMING
+
+-- who waits for the key starts over
+abbrev pub sent_back : Tables → ℕ → List ℕ → Consumer → Consumer
+sent_back t now key k =
+    if bytes_eq key k.request.key && waits_at t k.place then back_in_line now k else k
+
+-- each of them does
+abbrev pub woken : ℕ → List ℕ → Tables → Tables
+woken now key t = record t { consumer = λ d. option_map (sent_back t now key) (t.consumer d) }
+
+-- it is of the key and has no head yet, and its consumer waits for that to found or to join by it
+abbrev pub is_awaited : Tables → List ℕ → ℕ → Option Exchange → Bool
+is_awaited t key x None = false
+is_awaited t key x (Some w) =
+    bytes_eq key w.request.key && is_headless (Some w) && awaits (t.consumer w.c) x
+
+-- these exchanges and this one, by rising number
+abbrev pub awaited_and : Tables → List ℕ → Option ℕ → List ℕ
+awaited_and t key also =
+    filter (λ x. is_number also x || is_awaited t key x (t.exchange x)) (reverse t.openings)
 
 -- LEAVING
 

@@ -52,6 +52,8 @@ use Rattle.hc_model.specs.StartingOver.{sends_back}
 use Rattle.hc_model.specs.Failures.{cause_by_case}
 use Rattle.hc_model.specs.ConsumerRows.{consumer_after, back_in_line}
 use Rattle.hc_model.specs.RepresentationRows.{representation_after, updates}
+use Rattle.hc_model.proofs.Untouched.{IsSpared}
+use Rattle.hc_model.specs.declared.place.Place.{Place}
 
 -- a bad head promises nothing
 pub stays_open : (w : Exchange) (response : Response) → is_bad (length_of w.need w.request response) ≡ true → is_reached (promise_in w response) 0 ≡ false
@@ -191,8 +193,8 @@ module _ (limits : Limits) (t : Tables) (law : Lawful t) (now x : ℕ) (response
     acts_are : accepted limits t now ev flaw ≡ map act.Evicted es ++ (lost flaw ++ map act.Close xs)
     acts_are = ap (λ rs. map act.Evicted rs ++ (lost flaw ++ map act.Close (closing t (b flaw g is)))) makes_room ∙ ap (λ ys. map act.Evicted es ++ (lost flaw ++ map act.Close ys)) closes_it
 
-    spared_it : (r : ℕ) (v : Representation) → t.representation r ≡ Some v → loses_writing t it r v ≡ false
-    spared_it r v there = spared_as t now x response es flaw xs r v (spared r v there)
+    spared_it : (p : Place) → IsSpared t it p
+    spared_it p = λ r lo hi how v at there. spared_as t now x response es flaw xs r v (spared r v there)
 
     unclosed : (r : ℕ) (v : Representation) → t.representation r ≡ Some v → is_in xs r ≡ false
     unclosed r v there = ap (λ ys. is_in ys r) (sym shuts) ∙ by_test (is_refused (Some g) && not (is_reached (promise_in w response) 0))
@@ -203,19 +205,19 @@ module _ (limits : Limits) (t : Tables) (law : Lawful t) (now x : ℕ) (response
 
     -- by its case, a loss or to make room
     pub goes_it : (rs : List ℕ) → ((r : ℕ) (v : Representation) → t.representation r ≡ Some v → (goes_by_case t it r (Some g) w || loses_in r (lost flaw) || is_in es r) ≡ is_in rs r) → (r : ℕ) (v : Representation) → t.representation r ≡ Some v → becomes_gone t it r v ≡ is_in rs r
-    goes_it rs tests r v there = goes_by t now x response es flaw xs w row g is_it unclosed doomless_it r v there ∙ tests r v there
+    goes_it rs tests r v there = goes_by t now x response es flaw xs w row g is_it r v (unclosed r v there) doomless_it ∙ tests r v there
 
     abbrev pub heard_it : Consumer
     heard_it = heard t now x response es flaw xs w g k
 
     pub goes_on : sends_back (Some g) ≡ false → cause_by_case (Some g) x ≡ None → consumer_after t it w.c (t.consumer w.c) ≡ Some heard_it
-    goes_on = asker_goes_on t now x response es flaw xs w row g is_it spared_it k asker (waiter k asker).at (undue k asker) (rw doomless_it refl)
+    goes_on = asker_goes_on t now x response es flaw xs w row g is_it k asker (waiter k asker).at (undue k asker) (rw doomless_it refl) (spared_it k.place) (spared_it heard_it.place)
 
     pub goes_back : sends_back (Some g) ≡ true → consumer_after t it w.c (t.consumer w.c) ≡ Some (back_in_line now k)
-    goes_back = asker_goes_back t now x response es flaw xs w row g is_it spared_it k asker (waiter k asker).at (undue k asker) (rw doomless_it refl)
+    goes_back = asker_goes_back t now x response es flaw xs w row g is_it k asker (waiter k asker).at (undue k asker) (rw doomless_it refl) (spared_it k.place) (spared_it heard_it.place)
 
     pub fails : (why : Cause) → sends_back (Some g) ≡ false → cause_by_case (Some g) x ≡ Some why → heard_it ≡ k → reads k.place ≡ true → consumer_after t it w.c (t.consumer w.c) ≡ Some (record k { due = Some why })
-    fails = asker_fails t now x response es flaw xs w row g is_it spared_it k asker (waiter k asker).at (undue k asker) (rw doomless_it refl)
+    fails = asker_fails t now x response es flaw xs w row g is_it k asker (waiter k asker).at (undue k asker) (rw doomless_it refl) (spared_it k.place) (spared_it heard_it.place)
 
     module _ (rs : List ℕ) (tests : (r : ℕ) (v : Representation) → t.representation r ≡ Some v → (goes_by_case t it r (Some g) w || loses_in r (lost flaw) || is_in es r) ≡ is_in rs r) where
       pub rows : (q : ℕ) (z : Option Representation) → representation_after t it q (t.representation q) ≡ (if is_in rs q then option_map gone z else z)
@@ -244,6 +246,6 @@ module _ (limits : Limits) (t : Tables) (law : Lawful t) (now x : ℕ) (response
               representation = representation;
               asker = asks;
               unwaiting = unwaiting;
-              others = others t now x response es flaw xs w row g is_it spared_it law rs doomless_it (goes_it rs tests);
+              others = others t now x response es flaw xs w row g is_it law rs doomless_it (goes_it rs tests) spared_it;
             });
       }

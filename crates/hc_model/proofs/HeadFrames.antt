@@ -49,7 +49,7 @@ use Rattle.hc_model.proofs.SaidActs.{told_loss}
 use Rattle.hc_model.proofs.SameTables.{same_tables, is_in, waits_for_any, back_from_any, without, all_go_is, shut, all_closed_is}
 use Rattle.hc_model.proofs.Sums.{reverse_once}
 use Rattle.hc_model.proofs.Tests.{eqb-same, then_false}
-use Rattle.hc_model.proofs.Untouched.{IsSpared, own_stays, loss_spared, exchange_stays, exchange_absent, representation_frame, representation_absent, consumer_apart, consumer_absent, apart_from, goes_from}
+use Rattle.hc_model.proofs.Untouched.{IsSpared, own_stays, loss_spared, exchange_stays, exchange_absent, representation_frame, representation_absent, consumer_apart, consumer_absent, IsApart, apart_from, goes_from}
 
 -- what makes room
 evicts_are : (r : ℕ) (rs : List ℕ) (rest : List Act) → evicts_in r rest ≡ false → evicts_in r (map act.Evicted rs ++ rest) ≡ is_in rs r
@@ -102,6 +102,10 @@ module _ (t : Tables) (now x : ℕ) (response : Response) (es : List ℕ) (flaw 
   heard w g k = record k { place = place_by_case x response w k (Some g); own = if becomes_shared t e response w (Some g) then None else k.own }
 
   module _ (w : Exchange) (row : t.exchange x ≡ Some w) (g : HeadCase) (is : case_at t e ≡ Some g) where
+    -- nothing else is said of any other consumer
+    pub apart : (d : ℕ) (k : Consumer) → nat_eq w.c d ≡ false → IsApart t e d k
+    apart d k other = apart_from t e d k x w row other refl (stop_none t e k refl)
+
     -- EXCHANGES
 
     by_test : (b : Bool) (u : Exchange) → Some (record u { is_open = not b && u.is_open }) ≡ (if b then option_map over (Some u) else Some u)
@@ -133,25 +137,25 @@ module _ (t : Tables) (now x : ℕ) (response : Response) (es : List ℕ) (flaw 
     unfolding doomed
     doomed_is = rw (row, is) refl
 
-    module _ (unfounded : (r : ℕ) (v : Representation) → t.representation r ≡ Some v → is_in xs r ≡ false) where
-      ends_none : (r : ℕ) (v : Representation) → t.representation r ≡ Some v → ends_early t e r v ≡ false
-      ends_none r v there = then_false (v.head.status == 200) (ends_founding e r (t.exchange r)) (by_row (t.exchange r))
+    module _ (r : ℕ) (v : Representation) (unclosed : is_in xs r ≡ false) where
+      ends_none : ends_early t e r v ≡ false
+      ends_none = then_false (v.head.status == 200) (ends_founding e r (t.exchange r)) (by_row (t.exchange r))
         where
           by_row : (z : Option Exchange) → ends_founding e r z ≡ false
           by_row None = refl
-          by_row (Some u) = then_false u.is_open (closes_in r acts) (closes_as r ∙ unfounded r v there)
+          by_row (Some u) = then_false u.is_open (closes_in r acts) (closes_as r ∙ unclosed)
 
       -- by a doom, by the case of the head, by a loss, or to make room
-      pub goes_as : (r : ℕ) (v : Representation) → t.representation r ≡ Some v → becomes_gone t e r v ≡ ((is_current t v.key r && is_key (doomed t e) v.key) || goes_by_case t e r (Some g) w || loses_in r (lost flaw) || is_in es r)
+      pub goes_as : becomes_gone t e r v ≡ ((is_current t v.key r && is_key (doomed t e) v.key) || goes_by_case t e r (Some g) w || loses_in r (lost flaw) || is_in es r)
       unfolding becomes_gone
-      goes_as r v there =
-          rw (opens_none, row, is, loses_as r, misreads_none r, ends_none r v there, evicts_as r) (drop (is_current t v.key r) (is_key (doomed t e) v.key) (goes_by_case t e r (Some g) w) (loses_in r (lost flaw)) (is_in es r))
+      goes_as =
+          rw (opens_none, row, is, loses_as r, misreads_none r, ends_none, evicts_as r) (drop (is_current t v.key r) (is_key (doomed t e) v.key) (goes_by_case t e r (Some g) w) (loses_in r (lost flaw)) (is_in es r))
         where
           drop : (a b d f h : Bool) → ((a && (b || false)) || d || f || false || false || h) ≡ ((a && b) || d || f || h)
           drop a b d f h = ap (λ z. (a && z) || d || f || false || false || h) (or_off b) ∙ two_off ((a && b) || d || f) h
 
-      pub goes_by : doomed t e ≡ None → (r : ℕ) (v : Representation) → t.representation r ≡ Some v → becomes_gone t e r v ≡ (goes_by_case t e r (Some g) w || loses_in r (lost flaw) || is_in es r)
-      goes_by doomless r v there = goes_as r v there ∙ rw doomless (drop (is_current t v.key r) (goes_by_case t e r (Some g) w) (loses_in r (lost flaw)) (is_in es r))
+      pub goes_by : doomed t e ≡ None → becomes_gone t e r v ≡ (goes_by_case t e r (Some g) w || loses_in r (lost flaw) || is_in es r)
+      goes_by doomless = goes_as ∙ rw doomless (drop (is_current t v.key r) (goes_by_case t e r (Some g) w) (loses_in r (lost flaw)) (is_in es r))
         where
           drop : (a d f h : Bool) → ((a && false) || d || f || h) ≡ (d || f || h)
           drop true d f h = refl
@@ -219,76 +223,75 @@ module _ (t : Tables) (now x : ℕ) (response : Response) (es : List ℕ) (flaw 
 
     -- CONSUMERS
 
-    module _ (spared : (r : ℕ) (v : Representation) → t.representation r ≡ Some v → loses_writing t e r v ≡ false) where
-      spared_at : (p : Place) → IsSpared t e p
-      spared_at p = λ r lo hi how v at there. spared r v there
+    -- whoever isn't its consumer, and reads no writing that is lost, stays, or starts over by a doom or since what it waits for goes
+    pub other_by : (law : Lawful t) (d : ℕ) (k : Consumer) → IsSpared t e k.place → nat_eq w.c d ≡ false → t.consumer d ≡ Some k
+        → consumer_after t e d (Some k) ≡ Some (if (is_key (doomed t e) k.request.key && waits_at t k.place) || goes_from t e k.place then back_in_line now k else k)
+    other_by law d k spared other there = consumer_apart t e d k (far d) spared (apart d k other) (law.owned.idle_due d k there)
 
-      -- whoever isn't its consumer stays, or starts over by a doom or since what it waits for goes
-      pub other_by : (law : Lawful t) (d : ℕ) (k : Consumer) → nat_eq w.c d ≡ false → t.consumer d ≡ Some k
-          → consumer_after t e d (Some k) ≡ Some (if (is_key (doomed t e) k.request.key && waits_at t k.place) || goes_from t e k.place then back_in_line now k else k)
-      other_by law d k other there = consumer_apart t e d k (far d) (spared_at k.place) (apart_from t e d k x w row other refl (stop_none t e k refl)) (law.owned.idle_due d k there)
+    module _ (law : Lawful t) (rs : List ℕ) (doomless : doomed t e ≡ None) (goes : (r : ℕ) (v : Representation) → t.representation r ≡ Some v → becomes_gone t e r v ≡ is_in rs r) where
+      pub other_row : (d : ℕ) (k : Consumer) → IsSpared t e k.place → nat_eq w.c d ≡ false → t.consumer d ≡ Some k → consumer_after t e d (Some k) ≡ Some (back_from_any now rs k)
+      other_row d k spared other there =
+          other_by law d k spared other there
+          ∙ rw doomless (ap (λ (b : Bool). Some (if b then back_in_line now k else k)) (waits_as t e law rs goes d k there k.place refl))
 
-      pub others : (law : Lawful t) (rs : List ℕ) → doomed t e ≡ None → ((r : ℕ) (v : Representation) → t.representation r ≡ Some v → becomes_gone t e r v ≡ is_in rs r)
-          → (d : ℕ) → nat_eq w.c d ≡ false → consumer_after t e d (t.consumer d) ≡ option_map (back_from_any now rs) (t.consumer d)
-      others law rs doomless goes d other = by_row (t.consumer d) refl
+      pub others : ((p : Place) → IsSpared t e p) → (d : ℕ) → nat_eq w.c d ≡ false → consumer_after t e d (t.consumer d) ≡ option_map (back_from_any now rs) (t.consumer d)
+      others spared d other = by_row (t.consumer d) refl
         where
           by_row : (o : Option Consumer) → t.consumer d ≡ o → consumer_after t e d o ≡ option_map (back_from_any now rs) o
           by_row None there = consumer_absent t e d refl
-          by_row (Some k) there =
-              other_by law d k other there
-              ∙ rw doomless (ap (λ (b : Bool). Some (if b then back_in_line now k else k)) (waits_as t e law rs goes d k there k.place refl))
+          by_row (Some k) there = other_row d k (spared k.place) other there
 
-      -- ITS CONSUMER
+    -- ITS CONSUMER
 
-      module _ (k : Consumer) (asker : t.consumer w.c ≡ Some k) (at : IsAwaiting x w k.place) (undue : k.due ≡ None) (undoomed : (is_key (doomed t e) k.request.key && waits_at t k.place) ≡ false) where
-        heard_is : consumer_heard t e w.c e.event k ≡ (heard w g k)
-        heard_is = rw (row, eqb-same w.c, is) refl
+    module _ (k : Consumer) (asker : t.consumer w.c ≡ Some k) (at : IsAwaiting x w k.place) (undue : k.due ≡ None) (undoomed : (is_key (doomed t e) k.request.key && waits_at t k.place) ≡ false) (spared : IsSpared t e k.place) (spared_then : IsSpared t e (heard w g k).place) where
+      heard_is : consumer_heard t e w.c e.event k ≡ (heard w g k)
+      heard_is = rw (row, eqb-same w.c, is) refl
 
-        acted_is : consumer_acted t e w.c (heard w g k) ≡ (heard w g k)
-        acted_is = acted_quiet t e w.c (heard w g k) (quiet_acts es xs flaw) ∙ ap (λ (o : Option ℕ). record (heard w g k) { own = o }) (own_stays t e w.c (heard w g k).place (heard w g k).own (spared_at (heard w g k).place))
+      acted_is : consumer_acted t e w.c (heard w g k) ≡ (heard w g k)
+      acted_is = acted_quiet t e w.c (heard w g k) (quiet_acts es xs flaw) ∙ ap (λ (o : Option ℕ). record (heard w g k) { own = o }) (own_stays t e w.c (heard w g k).place (heard w g k).own spared_then)
 
-        waits_for_head : IsAwaiting x w k.place → loses_what_it_waits_for t e w.c k.place ≡ false
-        waits_for_head (owners.direct way stands) = rw stands refl
-        waits_for_head (owners.turn way stands) = rw stands refl
-        waits_for_head (owners.hole r lo hi how way aim stands) = rw stands refl
+      waits_for_head : IsAwaiting x w k.place → loses_what_it_waits_for t e w.c k.place ≡ false
+      waits_for_head (owners.direct way stands) = rw stands refl
+      waits_for_head (owners.turn way stands) = rw stands refl
+      waits_for_head (owners.hole r lo hi how way aim stands) = rw stands refl
 
-        over_is : starts_over t e w.c k ≡ sends_back (Some g)
-        unfolding starts_over
-        over_is = rw (undoomed, is, row, eqb-same w.c, waits_for_head at) (plain (sends_back (Some g)))
-          where
-            plain : (b : Bool) → (false || (b && true) || false) ≡ b
-            plain true = refl
-            plain false = refl
+      over_is : starts_over t e w.c k ≡ sends_back (Some g)
+      unfolding starts_over
+      over_is = rw (undoomed, is, row, eqb-same w.c, waits_for_head at) (plain (sends_back (Some g)))
+        where
+          plain : (b : Bool) → (false || (b && true) || false) ≡ b
+          plain true = refl
+          plain false = refl
 
-        due_is : becomes_due t e w.c k ≡ cause_by_case (Some g) x
-        unfolding becomes_due
-        due_is = rw (stop_none t e k refl, loss_spared t e w.c k.place (spared_at k.place), row, eqb-same w.c, is) refl
+      due_is : becomes_due t e w.c k ≡ cause_by_case (Some g) x
+      unfolding becomes_due
+      due_is = rw (stop_none t e k refl, loss_spared t e w.c k.place spared, row, eqb-same w.c, is) refl
 
-        after_is : consumer_after t e w.c (t.consumer w.c) ≡ Some (if sends_back (Some g) then back_in_line now (heard w g k) else record (heard w g k) { due = if reads (heard w g k).place then cause_by_case (Some g) x else None })
-        unfolding consumer_after
-        after_is =
-            ap (consumer_after t e w.c) asker
-            ∙ (ap (λ (q : Consumer). Some (consumer_settled t e w.c k q)) (ap (consumer_acted t e w.c) heard_is ∙ acted_is)
-            ∙ rw (over_is, due_is, undue) refl)
+      after_is : consumer_after t e w.c (t.consumer w.c) ≡ Some (if sends_back (Some g) then back_in_line now (heard w g k) else record (heard w g k) { due = if reads (heard w g k).place then cause_by_case (Some g) x else None })
+      unfolding consumer_after
+      after_is =
+          ap (consumer_after t e w.c) asker
+          ∙ (ap (λ (q : Consumer). Some (consumer_settled t e w.c k q)) (ap (consumer_acted t e w.c) heard_is ∙ acted_is)
+          ∙ rw (over_is, due_is, undue) refl)
 
-        -- it goes on
-        pub asker_goes_on : sends_back (Some g) ≡ false → cause_by_case (Some g) x ≡ None → consumer_after t e w.c (t.consumer w.c) ≡ Some (heard w g k)
-        asker_goes_on stays fine = after_is ∙ rw (stays, fine) (ap (λ (o : Option Cause). Some (record (heard w g k) { due = o })) (by_reads (reads (heard w g k).place) ∙ sym undue))
-          where
-            by_reads : (b : Bool) → (if b then None else None) ≡ (let none : Option Cause = None in none)
-            by_reads true = refl
-            by_reads false = refl
+      -- it goes on
+      pub asker_goes_on : sends_back (Some g) ≡ false → cause_by_case (Some g) x ≡ None → consumer_after t e w.c (t.consumer w.c) ≡ Some (heard w g k)
+      asker_goes_on stays fine = after_is ∙ rw (stays, fine) (ap (λ (o : Option Cause). Some (record (heard w g k) { due = o })) (by_reads (reads (heard w g k).place) ∙ sym undue))
+        where
+          by_reads : (b : Bool) → (if b then None else None) ≡ (let none : Option Cause = None in none)
+          by_reads true = refl
+          by_reads false = refl
 
-        -- it stands in the line again
-        pub asker_goes_back : sends_back (Some g) ≡ true → consumer_after t e w.c (t.consumer w.c) ≡ Some (back_in_line now k)
-        asker_goes_back sends = after_is ∙ rw sends refl
+      -- it stands in the line again
+      pub asker_goes_back : sends_back (Some g) ≡ true → consumer_after t e w.c (t.consumer w.c) ≡ Some (back_in_line now k)
+      asker_goes_back sends = after_is ∙ rw sends refl
 
-        -- or a failure becomes due
-        pub asker_fails : (why : Cause) → sends_back (Some g) ≡ false → cause_by_case (Some g) x ≡ Some why → heard w g k ≡ k → reads k.place ≡ true → consumer_after t e w.c (t.consumer w.c) ≡ Some (record k { due = Some why })
-        asker_fails why stays fails same reading =
-            after_is
-            ∙ (ap (λ (q : Consumer). Some (if sends_back (Some g) then back_in_line now q else record q { due = if reads q.place then cause_by_case (Some g) x else None })) same
-            ∙ rw (stays, fails, reading) refl)
+      -- or a failure becomes due
+      pub asker_fails : (why : Cause) → sends_back (Some g) ≡ false → cause_by_case (Some g) x ≡ Some why → heard w g k ≡ k → reads k.place ≡ true → consumer_after t e w.c (t.consumer w.c) ≡ Some (record k { due = Some why })
+      asker_fails why stays fails same reading =
+          after_is
+          ∙ (ap (λ (q : Consumer). Some (if sends_back (Some g) then back_in_line now q else record q { due = if reads q.place then cause_by_case (Some g) x else None })) same
+          ∙ rw (stays, fails, reading) refl)
 
     -- THE TABLES
 

@@ -53,7 +53,7 @@ use Rattle.hc_model.proofs.PieceKeeps.{eq_cases, some_inj}
 use Rattle.hc_model.proofs.PollEffects.{same_consumer}
 use Rattle.hc_model.proofs.SameTables.{is_in, in_one, waits_for_any, back_from_any, all_closed_is}
 use Rattle.hc_model.proofs.Tests.{eqb-same, then_false}
-use Rattle.hc_model.proofs.Untouched.{consumer_absent}
+use Rattle.hc_model.proofs.Untouched.{consumer_absent, IsSpared}
 
 two_off : (a : Bool) → (a || false || false) ≡ a
 two_off true = refl
@@ -154,8 +154,8 @@ module _ (limits : Limits) (t : Tables) (law : Lawful t) (now x : ℕ) (response
         ap (λ rs. map act.Evicted rs ++ map act.Close (closing t b)) (evicts_none limits t law now x response goes w row (ap (λ h. is_founding (Some h)) is ∙ unfounding))
         ∙ ap (λ ys. map act.Close ys) closing_is
 
-    spared_it : (r : ℕ) (v : Representation) → t.representation r ≡ Some v → loses_writing t it r v ≡ false
-    spared_it r v there = spared_as t now x response [] NoFlaw xs r v refl
+    spared_it : (p : Place) → IsSpared t it p
+    spared_it p = λ r lo hi how v at there. spared_as t now x response [] NoFlaw xs r v refl
 
     unclosed : (r : ℕ) (v : Representation) → t.representation r ≡ Some v → is_in xs r ≡ false
     unclosed = awaited_apart t key law.sound also (λ y at. ap t.representation (sym (is_x y (is_refused (Some g) && not (is_reached (promise_in w response) 0)) (refuses ∙ at))) ∙ (new limits t law now x response goes w row).unfounded)
@@ -170,7 +170,7 @@ module _ (limits : Limits) (t : Tables) (law : Lawful t) (now x : ℕ) (response
     -- just what is current goes
     goes_as_it : ((r : ℕ) → goes_by_case t it r (Some g) w ≡ false) → (r : ℕ) (v : Representation) → t.representation r ≡ Some v → becomes_gone t it r v ≡ is_in rs r
     goes_as_it none r v there =
-        goes_as t now x response [] NoFlaw xs w row g is_it unclosed r v there
+        goes_as t now x response [] NoFlaw xs w row g is_it r v (unclosed r v there)
         ∙ (rw (doomed_it, none r) (three_off (is_current t v.key r && bytes_eq key v.key))
         ∙ (current_test t key r v there ∙ sym (in_one (current t key) r)))
       where
@@ -185,13 +185,13 @@ module _ (limits : Limits) (t : Tables) (law : Lawful t) (now x : ℕ) (response
           by_row : (o : Option Consumer) → t.consumer d ≡ o → consumer_after t it d o ≡ option_map (back_from_any now rs) (option_map (sent_back t now key) o)
           by_row None there = consumer_absent t it d refl
           by_row (Some u) there =
-              other_by t now x response [] NoFlaw xs w row g is_it spared_it law d u other there
+              other_by t now x response [] NoFlaw xs w row g is_it law d u (spared_it u.place) other there
               ∙ (rw (doomed_it, waits_as t it law rs (goes_as_it none) d u there u.place refl) refl ∙ sent_as t now key rs u)
 
       asks : (q : Consumer) → heard t now x response [] NoFlaw xs w g k ≡ q → consumer_after t it w.c (t.consumer w.c) ≡ Some q
       asks q same =
-          asker_goes_on t now x response [] NoFlaw xs w row g is_it spared_it k asker (waiter limits t law now x response goes w row k asker).at (undue limits t law now x response goes w row k asker)
-          (rw past (then_false (is_key (doomed t it) k.request.key) false refl)) stays fine
+          asker_goes_on t now x response [] NoFlaw xs w row g is_it k asker (waiter limits t law now x response goes w row k asker).at (undue limits t law now x response goes w row k asker)
+          (rw past (then_false (is_key (doomed t it) k.request.key) false refl)) (spared_it k.place) (spared_it (heard t now x response [] NoFlaw xs w g k).place) stays fine
           ∙ ap Some same
 
       -- who waits for the key starts over, what is awaited is closed, and what is current is let go

@@ -93,7 +93,7 @@ all_same l d (z ∷ ds) h (inr more) = all_same l d ds (and_right (z == l) _ h) 
 
 -- A READER OF r
 
-bound_at : (t : Tables) (r d : ℕ) (k : Consumer) (p : Place) → t.consumer d ≡ Some k → k.place ≡ p → is_bound_place r p ≡ true → IsBound t r d k
+pub bound_at : (t : Tables) (r d : ℕ) (k : Consumer) (p : Place) → t.consumer d ≡ Some k → k.place ≡ p → is_bound_place r p ≡ true → IsBound t r d k
 bound_at t r d k place.Line row at h = absurd (false_true h)
 bound_at t r d k (place.Passed q kept) row at h = absurd (false_true h)
 bound_at t r d k (place.Turn x) row at h = absurd (false_true h)

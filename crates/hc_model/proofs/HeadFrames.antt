@@ -37,7 +37,7 @@ use Rattle.hc_model.specs.StartingOver.{starts_over, sends_back, waits_at, loses
 use Rattle.hc_model.specs.Tables.{after_accepted, added, founds, binds, binds_by_opening, binds_by_showing, to_front, opened_after, openings_after}
 use Rattle.hc_model.specs.Writers.{loses_writing, goes_on_with}
 use Rattle.hc_model.proofs.ActParts.{IsFarFrom, closes_evicted, closes_lost, asks_evicted, asks_lost, asks_closes, loses_evicted, loses_before, evicts_lost, evicts_closes, far_evicted, far_loss, far_closed}
-use Rattle.hc_model.proofs.Basics.{none_some, number_is}
+use Rattle.hc_model.proofs.Basics.{none_some, number_is, or_left, or_right}
 use Rattle.hc_model.proofs.Closed.{reversed}
 use Rattle.hc_model.proofs.ConsumerEffects.{waits_as}
 use Rattle.hc_model.proofs.Dues.{stop_none}
@@ -94,7 +94,7 @@ module _ (t : Tables) (now x : ℕ) (response : Response) (es : List ℕ) (flaw 
   evicts_as : (r : ℕ) → evicts_in r acts ≡ is_in es r
   evicts_as r = evicts_are r es (lost flaw ++ map act.Close xs) (evicts_lost r flaw (map act.Close xs) ∙ evicts_closes r xs)
 
-  far : (d : ℕ) → IsFarFrom d acts
+  pub far : (d : ℕ) → IsFarFrom d acts
   far d = far_evicted d es (lost flaw ++ map act.Close xs) (far_loss d flaw (map act.Close xs) (far_closed d xs))
 
   -- its consumer, as a head of this case leaves it
@@ -160,6 +160,11 @@ module _ (t : Tables) (now x : ℕ) (response : Response) (es : List ℕ) (flaw 
           drop : (a d f h : Bool) → ((a && false) || d || f || h) ≡ (d || f || h)
           drop true d f h = refl
           drop false d f h = refl
+
+    -- what is lost goes
+    pub goes_lost : (r : ℕ) (v : Representation) → loses_in r (lost flaw) ≡ true → becomes_gone t e r v ≡ true
+    unfolding becomes_gone
+    goes_lost r v h = or_left _ _ (or_left _ _ (or_left _ _ (or_right _ _ (loses_as r ∙ h))))
 
     -- REPRESENTATIONS
 

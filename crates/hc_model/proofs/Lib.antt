@@ -214,6 +214,8 @@ pub mod FoundEffects
 pub mod UpdateEffects
 pub mod DoomFrames
 pub mod UnsafeEffects
+pub mod LostFrames
+pub mod WrittenEffects
 pub mod LawfulRuns
 pub mod FailsTold
 pub mod LeftBy

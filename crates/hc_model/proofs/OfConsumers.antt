@@ -120,7 +120,7 @@ pub or_off : (b : Bool) → (b || false) ≡ b
 or_off true = refl
 or_off false = refl
 
-and_so : (a b : Bool) → (a ≡ true → b ≡ true) → (a && b) ≡ a
+pub and_so : (a b : Bool) → (a ≡ true → b ≡ true) → (a && b) ≡ a
 and_so true b so = so refl
 and_so false b so = refl
 

@@ -23,7 +23,7 @@ use Rattle.hc_model.proofs.PieceKeeps.{some_inj}
 open_row : (o : Option Exchange) (w : Exchange) → o ≡ Some w → is_open o ≡ true → w.is_open ≡ true
 open_row o w is h = sym (ap is_open is) ∙ h
 
-writer_open : (t : Tables) (v : Representation) (x : ℕ) → is_written t v ≡ true → v.writer ≡ Some x → is_open (t.exchange x) ≡ true
+pub writer_open : (t : Tables) (v : Representation) (x : ℕ) → is_written t v ≡ true → v.writer ≡ Some x → is_open (t.exchange x) ≡ true
 unfolding is_written
 writer_open t v x on writer = sym (ap (is_open_writer t) writer) ∙ and_right _ _ on
 

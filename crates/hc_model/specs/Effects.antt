@@ -1,11 +1,12 @@
 -- What entries do to the tables, one thing at a time.
-use Rattle.std.specs.Prelude.{◌≡◌, ℕ, ◌+◌, List, [], ◌∷◌, Bool, true, false, Option, Some, None, option_map, bytes_eq, ◌==◌, ◌||◌, ◌&&◌, not, filter, reverse, if◌then◌else◌}
+use Rattle.std.specs.Prelude.{◌≡◌, ℕ, ◌+◌, List, [], ◌∷◌, Bool, true, false, Option, Some, None, is_none, option_map, bytes_eq, ◌==◌, ◌||◌, ◌&&◌, not, filter, reverse, if◌then◌else◌}
 use Rattle.std.specs.Option.{option_or}
 use Rattle.hc_event.specs.declared.event.Event.{Event}
 use Rattle.hc_event.specs.declared.event.Event.TheVariants as event
 use Rattle.hc_event.specs.declared.event.Request.{Request}
 use Rattle.hc_event.specs.declared.event.Response.{Response}
 use Rattle.hc_event.specs.declared.act.Act.{Act}
+use Rattle.hc_event.specs.declared.act.Cause.TheVariants as cause
 use Rattle.hc_event.specs.declared.act.Need.{Need}
 use Rattle.hc_rules.specs.declared.room.Limits.{Limits}
 use Rattle.hc_model.specs.declared.place.Place.{Place}
@@ -20,7 +21,7 @@ use Rattle.hc_model.specs.Flaws.{Flaw}
 use Rattle.hc_model.specs.Gone.{is_keepable}
 use Rattle.hc_model.specs.Heads.{updated_head}
 use Rattle.hc_model.specs.Keys.{entry_of}
-use Rattle.hc_model.specs.Reading.{own_open, shared}
+use Rattle.hc_model.specs.Reading.{own_open, shared, is_bound_place}
 use Rattle.hc_model.specs.RepresentationRows.{represented, resumes}
 use Rattle.hc_model.specs.Rows.{Tables, Exchange, Representation, Consumer}
 use Rattle.hc_model.specs.Tables.{after_accepted, received_in, to_front, added}
@@ -230,6 +231,25 @@ with_leave c k t =
 -- from now on nothing of it is stored, and who writes it alone goes on
 abbrev pub lost_to : Option ℕ → Representation → Representation
 lost_to alone v = record v { is_lost = true; alone = alone }
+
+-- of those who read r together, where it is lost, one goes on, with its exchange; to the others a failure is due
+abbrev pub left_with : ℕ → Option ℕ → Option ℕ → ℕ → Consumer → Consumer
+left_with r alone writer d k =
+    if is_number alone d then record k { own = writer }
+    else record k { due = option_or k.due (Some (cause.StoreWrite r)) }
+
+abbrev pub if_bound : ℕ → (Consumer → Consumer) → Consumer → Consumer
+if_bound r change k = if is_bound_place r k.place then change k else k
+
+-- the shared writing of r is lost
+abbrev pub writing_lost : ℕ → Option ℕ → Option ℕ → Tables → Tables
+writing_lost r alone writer t = record t {
+  consumer = λ d. option_map (if_bound r (left_with r alone writer d)) (t.consumer d);
+}
+
+-- its exchange, where nobody goes on
+abbrev pub unless_survived : Option ℕ → Option ℕ → List ℕ
+unless_survived alone writer = added (if is_none alone then writer else None) []
 
 -- AN EVENT
 

@@ -1,12 +1,10 @@
 -- What a doom of a key comes to: who waits for it starts over, what they await is closed, and what is current is let go.
 use Rattle.std.proofs.Common.{◌≡◌, inl, inr, ℕ, List, [], ◌∷◌, Bool, true, false, Option, Some, None, refl, ap, sym, ◌∙◌}
-use Rattle.std.specs.Prelude.{bytes_eq, ◌&&◌, ◌||◌, ◌==◌, nat_eq, if◌then◌else◌, is_none, option_map, filter, reverse}
+use Rattle.std.specs.Prelude.{bytes_eq, ◌&&◌, ◌||◌, if◌then◌else◌, is_none, option_map, filter, reverse}
 use Rattle.hc_event.specs.declared.event.Response.{Response}
-use Rattle.hc_model.specs.declared.place.Place.{Place}
 use Rattle.hc_model.specs.ConsumerRows.{back_in_line}
 use Rattle.hc_model.specs.Currents.{is_number}
 use Rattle.hc_model.specs.Effects.{sent_back, is_awaited, awaited_and}
-use Rattle.hc_model.specs.Exchanges.{is_headless}
 use Rattle.hc_model.specs.Rows.{Tables, Exchange, Representation, Consumer}
 use Rattle.hc_model.specs.Sound.{Sound}
 use Rattle.hc_model.specs.StartingOver.{waits_at}

@@ -1,6 +1,6 @@
 -- What heads do that found: with the turn, and in place of what had a first hole. And where that is lost.
 use Rattle.std.proofs.Common.{◌≡◌, inl, inr, ℕ, List, [], ◌∷◌, ◌++◌, Bool, true, false, Option, Some, None, refl, ap, sym, ◌∙◌, subst}
-use Rattle.std.specs.Prelude.{◌&&◌, ◌||◌, ◌==◌, not, nat_eq, if◌then◌else◌, map, option_map}
+use Rattle.std.specs.Prelude.{◌&&◌, ◌||◌, not, nat_eq, if◌then◌else◌, map, option_map}
 use Rattle.hc_event.specs.declared.act.Act.TheVariants as act
 use Rattle.hc_event.specs.declared.act.LostKind.{LostKind}
 use Rattle.hc_event.specs.declared.event.Event.{Event}
@@ -13,7 +13,6 @@ use Rattle.hc_rules.specs.declared.request.Wanted.TheVariants as wanted
 use Rattle.hc_rules.specs.declared.room.Limits.{Limits}
 use Rattle.hc_rules.specs.HeadCases.{head_case}
 use Rattle.hc_rules.specs.Requests.{range_of, wanted_of}
-use Rattle.hc_model.specs.declared.place.Place.{Place}
 use Rattle.hc_model.specs.declared.place.Place.TheVariants as place
 use Rattle.hc_model.specs.declared.place.BoundBy.TheVariants as by
 use Rattle.hc_model.specs.Cases.{head_view, is_founding, case_at, is_updating, is_joining}
@@ -22,24 +21,23 @@ use Rattle.hc_model.specs.Currents.{current, is_number}
 use Rattle.hc_model.specs.Denials.{denial}
 use Rattle.hc_model.specs.Effects.{Does, counted, let_all_go, let_some_go, with_consumer, with_answer, with_founding, just_founded, gone}
 use Rattle.hc_model.specs.ExchangeRows.{promise_in}
-use Rattle.hc_model.specs.Flaws.{Flaw, NoFlaw, Loses}
+use Rattle.hc_model.specs.Flaws.{NoFlaw, Loses}
 use Rattle.hc_model.specs.Gone.{goes_by_case}
 use Rattle.hc_model.specs.Heads.{founded_total}
 use Rattle.hc_model.specs.Lawful.{Lawful}
 use Rattle.hc_model.specs.Reading.{is_written}
-use Rattle.hc_model.specs.RepresentationRows.{representation_after, updates}
+use Rattle.hc_model.specs.RepresentationRows.{representation_after}
 use Rattle.hc_model.specs.Rows.{Tables, Exchange, Representation, Consumer}
 use Rattle.hc_model.specs.Tables.{added, to_front}
 use Rattle.hc_model.specs.Weights.{evicted}
 use Rattle.hc_model.proofs.ActParts.{AllPass}
-use Rattle.hc_model.proofs.Basics.{append_none, none_some, not_so, number_is, or_cases, false_true, some_row}
+use Rattle.hc_model.proofs.Basics.{append_none, none_some, not_so, false_true, some_row}
 use Rattle.hc_model.proofs.HeadFacts.{new, not_it, head_does, goes_on, rows, is_it, rows_stay}
 use Rattle.hc_model.proofs.HeadFrames.{e, row_founds, has_as, heard}
 use Rattle.hc_model.proofs.KeyActs.{HasRow, evicted_rows}
-use Rattle.hc_model.proofs.OfConsumers.{or_off}
 use Rattle.hc_model.proofs.PieceKeeps.{eq_cases}
 use Rattle.hc_model.proofs.SameTables.{is_in, waits_for_any}
-use Rattle.hc_model.proofs.Tests.{eqb-same, then_false}
+use Rattle.hc_model.proofs.Tests.{then_false}
 use Rattle.hc_model.specs.Closings.{is_refused}
 use Rattle.hc_model.specs.Dooms.{doomed_by_case}
 use Rattle.hc_model.specs.Exchanges.{is_reached}

@@ -1,6 +1,6 @@
 -- What heads do that write nothing: past the store, and with the turn where nothing is validated or founded.
 use Rattle.std.proofs.Common.{◌≡◌, ℕ, List, [], ◌∷◌, Bool, true, false, Option, Some, None, refl, ap, sym, ◌∙◌, subst}
-use Rattle.std.specs.Prelude.{◌&&◌, ◌||◌, ◌==◌, not, nat_eq, nat_lt, if◌then◌else◌, map, option_map}
+use Rattle.std.specs.Prelude.{◌&&◌, ◌||◌, not, nat_lt, if◌then◌else◌, map}
 use Rattle.hc_event.specs.declared.act.Act.TheVariants as act
 use Rattle.hc_event.specs.declared.act.Cause.{Cause}
 use Rattle.hc_event.specs.declared.act.Cause.TheVariants as cause
@@ -15,32 +15,27 @@ use Rattle.hc_rules.specs.declared.room.Limits.{Limits}
 use Rattle.hc_rules.specs.HeadCases.{head_case}
 use Rattle.hc_rules.specs.Lengths.{length_of, is_bad}
 use Rattle.hc_rules.specs.Needs.{route_of}
-use Rattle.hc_model.specs.declared.place.Place.{Place}
 use Rattle.hc_model.specs.declared.place.Place.TheVariants as place
-use Rattle.hc_model.specs.Cases.{case_at, head_view, is_founding, is_updating, is_joining}
-use Rattle.hc_model.specs.Closings.{closing, is_refused}
+use Rattle.hc_model.specs.Cases.{head_view, is_founding, is_updating, is_joining}
+use Rattle.hc_model.specs.Closings.{is_refused}
 use Rattle.hc_model.specs.ConsumerRows.{consumer_after, back_in_line}
 use Rattle.hc_model.specs.Currents.{current, is_number}
 use Rattle.hc_model.specs.Denials.{denial}
-use Rattle.hc_model.specs.Dooms.{doomed, doomed_by_case, changes}
+use Rattle.hc_model.specs.Dooms.{doomed_by_case, changes}
 use Rattle.hc_model.specs.Effects.{Does, counted, let_all_go, let_some_go, closed, all_closed, with_consumer, with_answer, unless_ended}
-use Rattle.hc_model.specs.Entries.{Entry}
 use Rattle.hc_model.specs.ExchangeRows.{promise_in}
 use Rattle.hc_model.specs.Exchanges.{is_reached}
 use Rattle.hc_model.specs.Failures.{cause_by_case}
 use Rattle.hc_model.specs.Flaws.{NoFlaw}
-use Rattle.hc_model.specs.Gone.{becomes_gone, goes_by_case}
+use Rattle.hc_model.specs.Gone.{goes_by_case}
 use Rattle.hc_model.specs.Lawful.{Lawful}
 use Rattle.hc_model.specs.Owners.{IsAwaiting}
 use Rattle.hc_model.specs.Owners as owners
 use Rattle.hc_model.specs.Reading.{is_written, reads}
-use Rattle.hc_model.specs.RepresentationRows.{representation_after}
 use Rattle.hc_model.specs.Rows.{Tables, Exchange, Representation, Consumer}
 use Rattle.hc_model.specs.StartingOver.{sends_back}
-use Rattle.hc_model.specs.Tables.{after_accepted, added}
+use Rattle.hc_model.specs.Tables.{added}
 use Rattle.hc_model.specs.Weights.{evicted}
-use Rattle.hc_model.specs.Writers.{loses_writing}
-use Rattle.hc_model.proofs.Basics.{false_true}
 use Rattle.hc_model.proofs.FoundBy.{CaseBy, case_by}
 use Rattle.hc_model.proofs.FoundBy as cases
 use Rattle.hc_model.proofs.HeadFrames.{e, heard}
@@ -79,7 +74,6 @@ one_goes o r = or_off (is_number o r || false) ∙ (or_off (is_number o r) ∙ s
 module _ (limits : Limits) (t : Tables) (law : Lawful t) (now x : ℕ) (response : Response) (goes : denial t (event.Head x response) ≡ None) (w : Exchange) (row : t.exchange x ≡ Some w) (k : Consumer) (asker : t.consumer w.c ≡ Some k) where
   abbrev ev : Event
   ev = event.Head x response
-
 
   spares : (r : ℕ) (v : Representation) → t.representation r ≡ Some v → (false && is_written t v) ≡ false
   spares r v there = refl

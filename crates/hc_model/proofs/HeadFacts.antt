@@ -1,8 +1,7 @@
 -- What is known of an accepted head: its exchange is new, and its consumer waits for it; and what is answered to it.
-use Rattle.std.proofs.Common.{◌≡◌, inl, inr, ℕ, ◌+◌, List, [], ◌∷◌, ◌++◌, Bool, true, false, Option, Some, None, refl, ap, sym, ◌∙◌, subst}
+use Rattle.std.proofs.Common.{◌≡◌, inl, inr, ℕ, ◌+◌, List, [], ◌++◌, Bool, true, false, Option, Some, None, refl, ap, sym, ◌∙◌, subst}
 use mathlib.Core.Path.{fun_ext}
-use Rattle.std.specs.Prelude.{◌&&◌, ◌||◌, ◌==◌, not, nat_eq, if◌then◌else◌, option_map, map, filter, reverse, is_some}
-use Rattle.hc_event.specs.declared.act.Act.{Act}
+use Rattle.std.specs.Prelude.{◌&&◌, ◌||◌, ◌==◌, not, nat_eq, if◌then◌else◌, option_map, map, filter, reverse, is_none, is_some}
 use Rattle.hc_event.specs.declared.act.Act.TheVariants as act
 use Rattle.hc_event.specs.declared.act.Cause.{Cause}
 use Rattle.hc_event.specs.declared.event.Event.{Event}
@@ -12,29 +11,30 @@ use Rattle.hc_rules.specs.declared.heads.HeadCase.{HeadCase}
 use Rattle.hc_rules.specs.declared.length.Length.{Length}
 use Rattle.hc_rules.specs.declared.length.Length.TheVariants as told
 use Rattle.hc_rules.specs.declared.room.Limits.{Limits}
+use Rattle.hc_rules.specs.declared.room.Write.TheVariants as write
 use Rattle.hc_rules.specs.HeadCases.{head_case}
 use Rattle.hc_rules.specs.Lengths.{length_of, is_bad, promise_of}
-use Rattle.hc_model.specs.ActFilters.{has_loss, leaver_in, loses_in}
+use Rattle.hc_model.specs.ActFilters.{has_loss, loses_in}
 use Rattle.hc_model.specs.Answers.{accepted, lost}
 use Rattle.hc_model.specs.Cases.{case_at, head_view, is_founding, is_updating, is_joining}
-use Rattle.hc_model.specs.Closings.{closing, closes_row, must_close, is_refused, is_doomed, has_no_survivor}
+use Rattle.hc_model.specs.Closings.{closing, closes_row, is_refused, has_no_survivor}
 use Rattle.hc_model.specs.Currents.{is_number}
 use Rattle.hc_model.specs.Denials.{denial}
-use Rattle.hc_model.specs.Dooms.{doomed, is_key, doomed_by_case}
-use Rattle.hc_model.specs.Effects.{unless_ended, Does, counted, let_all_go, all_closed, with_consumer, with_answer, gone}
+use Rattle.hc_model.specs.Dooms.{doomed, doomed_by_case}
+use Rattle.hc_model.specs.Effects.{Does, counted, let_all_go, all_closed, with_consumer, with_answer, gone}
 use Rattle.hc_model.specs.Entries.{Entry, unanswered}
 use Rattle.hc_model.specs.ExchangeRows.{promise_in}
 use Rattle.hc_model.specs.Exchanges.{is_reached, family}
-use Rattle.hc_model.specs.Flaws.{Flaw, NoFlaw, Loses, Misreads}
+use Rattle.hc_model.specs.Flaws.{Flaw, NoFlaw}
 use Rattle.hc_model.specs.Lawful.{Lawful}
 use Rattle.hc_model.specs.Owners.{IsAwaiting}
 use Rattle.hc_model.specs.Owners as owners
 use Rattle.hc_model.specs.Rows.{Tables, Exchange, Representation, Consumer}
 use Rattle.hc_model.specs.Tables.{added, after_accepted, to_front}
 use Rattle.hc_model.specs.Weights.{evicted}
-use Rattle.hc_model.specs.Writers.{loses_writing}
+use Rattle.hc_model.specs.Writers.{survivor}
 use Rattle.hc_model.proofs.ActParts.{leaver_lost}
-use Rattle.hc_model.proofs.Basics.{none_some, some_none, some_row, number_is, false_true}
+use Rattle.hc_model.proofs.Basics.{none_some, some_row, false_true}
 use Rattle.hc_model.proofs.Closed.{reversed}
 use Rattle.hc_model.proofs.FewClosings.{evicts_nothing}
 use Rattle.hc_model.proofs.FirstKeeps.{IsNew, is_new, case_is}
@@ -44,7 +44,7 @@ use Rattle.hc_model.proofs.Pens.{same_row}
 use Rattle.hc_model.proofs.PieceKeeps.{eq_cases, some_inj}
 use Rattle.hc_model.proofs.SameTables.{is_in, waits_for_any}
 use Rattle.hc_model.proofs.Sums.{reverse_once}
-use Rattle.hc_model.proofs.Tests.{eqb-same, then_false}
+use Rattle.hc_model.proofs.Tests.{eqb-same}
 use Rattle.hc_model.proofs.Waiters.{IsWaiter, waiter_as, waits_undue}
 use Rattle.hc_model.specs.Reading.{is_written, reads}
 use Rattle.hc_model.specs.Gone.{goes_by_case, becomes_gone}
@@ -108,7 +108,7 @@ module _ (limits : Limits) (t : Tables) (law : Lawful t) (now x : ℕ) (response
 
   -- what founds nothing evicts nothing
   pub evicts_none : is_founding (Some (head_case (head_view t false w response))) ≡ false → evicted limits t now ev ≡ []
-  evicts_none off = evicts_nothing limits t now ev (ap (λ g. if is_founding g then Some Rattle.hc_rules.specs.declared.room.Write.TheVariants.Slot else None) (case_is t (unanswered now ev) x response w refl row) ∙ rw off refl)
+  evicts_none off = evicts_nothing limits t now ev (ap (λ g. if is_founding g then Some write.Slot else None) (case_is t (unanswered now ev) x response w refl row) ∙ rw off refl)
 
   module _ (flaw : Flaw) (g : HeadCase) (is : head_case (head_view t (has_loss (lost flaw)) w response) ≡ g) where
     -- the entry as the closings see it
@@ -127,7 +127,7 @@ module _ (limits : Limits) (t : Tables) (law : Lawful t) (now x : ℕ) (response
       no_survivor y r None there = refl
       no_survivor y r (Some v) there = rw (spared r v there) (drop (is_number v.writer y))
         where
-          drop : (a : Bool) → ((a && false) && Rattle.std.specs.Prelude.is_none (Rattle.hc_model.specs.Writers.survivor t r v)) ≡ false
+          drop : (a : Bool) → ((a && false) && is_none (survivor t r v)) ≡ false
           drop true = refl
           drop false = refl
 
@@ -173,7 +173,7 @@ module _ (limits : Limits) (t : Tables) (law : Lawful t) (now x : ℕ) (response
   -- WHAT IT DOES
 
   module _ (k : Consumer) (asker : t.consumer w.c ≡ Some k) (flaw : Flaw) (g : HeadCase) (is : head_case (head_view t (has_loss (lost flaw)) w response) ≡ g) (doomless : doomed_by_case (Some g) w response ≡ None)
-    (spared : (r : ℕ) (v : Representation) → t.representation r ≡ Some v → (loses_in r (lost flaw) && is_written t v) ≡ false) (es : List ℕ) (makes_room : evicted limits t now ev ≡ es) (xs : List ℕ) (shuts : added (if is_refused (Some g) && not (is_reached (promise_in w response) 0) then Some x else None) [] ≡ xs) where
+      (spared : (r : ℕ) (v : Representation) → t.representation r ≡ Some v → (loses_in r (lost flaw) && is_written t v) ≡ false) (es : List ℕ) (makes_room : evicted limits t now ev ≡ es) (xs : List ℕ) (shuts : added (if is_refused (Some g) && not (is_reached (promise_in w response) 0) then Some x else None) [] ≡ xs) where
     abbrev pub it : Entry
     it = e t now x response es flaw xs
 

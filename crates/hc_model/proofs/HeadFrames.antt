@@ -1,32 +1,27 @@
 -- What the head of an exchange comes to: the exchange itself, its consumer, and who and what stays or is let go.
-use Rattle.std.proofs.Common.{◌≡◌, inl, inr, ℕ, List, [], ◌∷◌, ◌++◌, Bool, true, false, Option, Some, None, refl, ap, ap₂, sym, ◌∙◌, subst}
-use mathlib.Core.Path.{fun_ext}
-use Rattle.std.specs.Prelude.{◌&&◌, ◌||◌, ◌==◌, not, nat_eq, if◌then◌else◌, map, option_map, filter, reverse, is_some}
+use Rattle.std.proofs.Common.{◌≡◌, inl, inr, ℕ, List, [], ◌∷◌, ◌++◌, Bool, true, false, Option, Some, None, refl, ap, sym, ◌∙◌, subst}
+use Rattle.std.specs.Prelude.{◌&&◌, ◌||◌, ◌==◌, not, nat_eq, if◌then◌else◌, map, option_map}
 use Rattle.std.specs.Option.{option_or}
 use Rattle.hc_event.specs.Filters.{opening_in, asks_in, closes_in, evicts_in}
 use Rattle.hc_event.specs.declared.act.Act.{Act}
 use Rattle.hc_event.specs.declared.act.Act.TheVariants as act
 use Rattle.hc_event.specs.declared.act.Cause.{Cause}
-use Rattle.hc_event.specs.declared.event.Event.{Event}
 use Rattle.hc_event.specs.declared.event.Event.TheVariants as event
 use Rattle.hc_event.specs.declared.event.Response.{Response}
 use Rattle.hc_rules.specs.declared.heads.HeadCase.{HeadCase}
 use Rattle.hc_model.specs.declared.place.Place.{Place}
-use Rattle.hc_model.specs.declared.place.Place.TheVariants as place
-use Rattle.hc_model.specs.ActFilters.{loses_in, has_loss, misreads_in, showing_in}
+use Rattle.hc_model.specs.ActFilters.{loses_in, has_loss, misreads_in}
 use Rattle.hc_model.specs.Answers.{lost}
 use Rattle.hc_model.specs.Cases.{case_at, is_founding, is_joining, is_updating}
-use Rattle.hc_model.specs.Closings.{closing, closes_row, must_close, is_refused, brings_head, is_doomed, has_no_survivor}
-use Rattle.hc_model.specs.ConsumerRows.{consumer_after, consumer_heard, consumer_settled, consumer_acted, consumer_made, place_by_case, becomes_shared, back_in_line, due_after, with_head}
+use Rattle.hc_model.specs.ConsumerRows.{consumer_after, consumer_heard, consumer_settled, consumer_acted, place_by_case, becomes_shared, back_in_line}
 use Rattle.hc_model.specs.Currents.{is_current, is_number}
 use Rattle.hc_model.specs.Dooms.{doomed, doomed_by_case, is_key}
-use Rattle.hc_model.specs.Effects.{counted, gone, let_all_go, over, all_closed, with_consumer, with_answer, answered, unless_ended, refreshed, just_founded, lost_to}
+use Rattle.hc_model.specs.Effects.{counted, gone, let_all_go, over, all_closed, with_consumer, with_answer, answered, refreshed, just_founded, lost_to}
 use Rattle.hc_model.specs.Entries.{Entry}
-use Rattle.hc_model.specs.ExchangeRows.{exchange_after, joined_at, promise_in}
-use Rattle.hc_model.specs.Exchanges.{exchange_at, is_for, is_reached, family}
-use Rattle.hc_model.specs.Failures.{becomes_due, cause_by_case, cause_of_head}
+use Rattle.hc_model.specs.ExchangeRows.{exchange_after, joined_at}
+use Rattle.hc_model.specs.Failures.{becomes_due, cause_by_case}
 use Rattle.hc_model.specs.Flaws.{Flaw}
-use Rattle.hc_model.specs.Gone.{becomes_gone, goes_by_case, ends_early, ends_founding, is_keepable}
+use Rattle.hc_model.specs.Gone.{becomes_gone, goes_by_case, ends_early, ends_founding}
 use Rattle.hc_model.specs.Lawful.{Lawful}
 use Rattle.hc_model.specs.Owners.{IsAwaiting}
 use Rattle.hc_model.specs.Owners as owners
@@ -34,22 +29,20 @@ use Rattle.hc_model.specs.Reading.{reads, is_written}
 use Rattle.hc_model.specs.RepresentationRows.{representation_after, updates, representation_heard, representation_acted, renewed, resumes}
 use Rattle.hc_model.specs.Rows.{Tables, Exchange, Representation, Consumer}
 use Rattle.hc_model.specs.StartingOver.{starts_over, sends_back, waits_at, loses_what_it_waits_for}
-use Rattle.hc_model.specs.Tables.{after_accepted, added, founds, binds, binds_by_opening, binds_by_showing, to_front, opened_after, openings_after}
+use Rattle.hc_model.specs.Tables.{after_accepted, added, founds, binds, to_front, opened_after, openings_after}
 use Rattle.hc_model.specs.Writers.{loses_writing, goes_on_with}
 use Rattle.hc_model.proofs.ActParts.{IsFarFrom, closes_evicted, closes_lost, asks_evicted, asks_lost, asks_closes, loses_evicted, loses_before, evicts_lost, evicts_closes, far_evicted, far_loss, far_closed}
-use Rattle.hc_model.proofs.Basics.{none_some, number_is, or_left, or_right}
-use Rattle.hc_model.proofs.Closed.{reversed}
+use Rattle.hc_model.proofs.Basics.{none_some, or_left, or_right}
 use Rattle.hc_model.proofs.ConsumerEffects.{waits_as}
 use Rattle.hc_model.proofs.Dues.{stop_none}
 use Rattle.hc_model.proofs.LeaveFrames.{closes_are}
-use Rattle.hc_model.proofs.OfConsumers.{one_of, descends_once, or_off}
+use Rattle.hc_model.proofs.OfConsumers.{or_off}
 use Rattle.hc_model.proofs.PieceKeeps.{eq_cases}
 use Rattle.hc_model.proofs.PieceServes.{quiet_acts, acted_quiet}
 use Rattle.hc_model.proofs.SaidActs.{told_loss}
 use Rattle.hc_model.proofs.SameTables.{same_tables, is_in, waits_for_any, back_from_any, without, all_go_is, shut, all_closed_is}
-use Rattle.hc_model.proofs.Sums.{reverse_once}
 use Rattle.hc_model.proofs.Tests.{eqb-same, then_false}
-use Rattle.hc_model.proofs.Untouched.{IsSpared, own_stays, loss_spared, exchange_stays, exchange_absent, representation_frame, representation_absent, consumer_apart, consumer_absent, IsApart, apart_from, goes_from}
+use Rattle.hc_model.proofs.Untouched.{IsSpared, own_stays, loss_spared, exchange_absent, representation_frame, representation_absent, consumer_apart, consumer_absent, IsApart, apart_from, goes_from}
 
 -- what makes room
 evicts_are : (r : ℕ) (rs : List ℕ) (rest : List Act) → evicts_in r rest ≡ false → evicts_in r (map act.Evicted rs ++ rest) ≡ is_in rs r

@@ -1,11 +1,10 @@
 -- What it comes to that a shared writing is lost: one of those who read it goes on, to the others a failure is due, and where nobody
 -- goes on its exchange is closed.
-use Rattle.std.proofs.Common.{◌≡◌, inl, inr, ℕ, Bool, true, false, Option, Some, None, refl, ap, sym, ◌∙◌, subst}
-use Rattle.std.specs.Prelude.{◌&&◌, ◌||◌, nat_eq, if◌then◌else◌, is_none, is_some, unwrap_or}
+use Rattle.std.proofs.Common.{◌≡◌, inl, inr, ℕ, Bool, true, false, Option, Some, None, refl, ap, sym, ◌∙◌}
+use Rattle.std.specs.Prelude.{◌&&◌, not, nat_eq, if◌then◌else◌, is_none, is_some, unwrap_or}
 use Rattle.std.specs.Option.{option_or}
 use Rattle.hc_event.specs.declared.act.Cause.{Cause}
 use Rattle.hc_event.specs.declared.act.Cause.TheVariants as cause
-use Rattle.hc_model.specs.declared.place.Place.{Place}
 use Rattle.hc_model.specs.declared.place.Place.TheVariants as place
 use Rattle.hc_model.specs.declared.place.BoundBy.{BoundBy}
 use Rattle.hc_model.specs.ActFilters.{fails_in}
@@ -15,12 +14,11 @@ use Rattle.hc_model.specs.Currents.{is_number}
 use Rattle.hc_model.specs.Dooms.{doomed}
 use Rattle.hc_model.specs.Effects.{left_with}
 use Rattle.hc_model.specs.Entries.{Entry}
-use Rattle.hc_model.specs.Exchanges.{family}
+use Rattle.hc_model.specs.Exchanges.{family, is_open}
 use Rattle.hc_model.specs.Failures.{becomes_due}
 use Rattle.hc_model.specs.Lawful.{Lawful}
 use Rattle.hc_model.specs.Reading.{is_written, reads}
 use Rattle.hc_model.specs.Rows.{Tables, Exchange, Representation, Consumer}
-use Rattle.hc_model.specs.Sound.{IsGrowing}
 use Rattle.hc_model.specs.StartingOver.{starts_over}
 use Rattle.hc_model.specs.Writers.{loses_writing, survivor, goes_on_with}
 use Rattle.hc_model.proofs.Basics.{and_right, none_some}
@@ -49,7 +47,7 @@ writer_of t law r v there on = by_writer v.writer refl
     by_writer (Some y) writer =
         let grows = (law.sound.rows r v there).growing y on writer in
         let g = grows.1 in
-        record { y = y; w = grows.0; writer = writer; row = g.row; is_open = sym (ap Rattle.hc_model.specs.Exchanges.is_open g.row) ∙ writer_open t v y on writer; headed = g.headed; of_r = g.family_is }
+        record { y = y; w = grows.0; writer = writer; row = g.row; is_open = sym (ap is_open g.row) ∙ writer_open t v y on writer; headed = g.headed; of_r = g.family_is }
 
 module _ (t : Tables) (e : Entry) (law : Lawful t) (r : ℕ) (v : Representation) (there : t.representation r ≡ Some v) (losing : loses_writing t e r v ≡ true) where
   -- it is written
@@ -70,7 +68,7 @@ module _ (t : Tables) (e : Entry) (law : Lawful t) (r : ℕ) (v : Representation
     unfolding becomes_due
     due_as = rw (apart.stops, at, there, losing, apart.heads) (by_test (is_number (survivor t r v) d))
       where
-        by_test : (b : Bool) → option_or None (option_or (if true && Rattle.std.specs.Prelude.not b then Some (cause.StoreWrite r) else None) None) ≡ (if b then None else Some (cause.StoreWrite r))
+        by_test : (b : Bool) → option_or None (option_or (if true && not b then Some (cause.StoreWrite r) else None) None) ≡ (if b then None else Some (cause.StoreWrite r))
         by_test true = refl
         by_test false = refl
 

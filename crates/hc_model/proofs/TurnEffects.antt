@@ -1,5 +1,5 @@
 -- What a poll does that opens an exchange with the turn: past what is stored, what is current is let go.
-use Rattle.std.proofs.Common.{◌≡◌, ◌≢◌, inl, inr, ℕ, [], Bool, true, false, Some, None, refl, ap, sym, ◌∙◌}
+use Rattle.std.proofs.Common.{◌≡◌, ◌≢◌, ℕ, [], Bool, true, false, Some, None, refl, ap, sym, ◌∙◌}
 use Rattle.std.specs.Prelude.{◌&&◌, ◌||◌, bytes_eq}
 use Rattle.hc_event.specs.declared.act.Need.{Need}
 use Rattle.hc_event.specs.declared.act.Need.TheVariants as need
@@ -11,7 +11,7 @@ use Rattle.hc_rules.specs.declared.room.Limits.{Limits}
 use Rattle.hc_model.specs.declared.place.Place.{Place}
 use Rattle.hc_model.specs.declared.place.Place.TheVariants as place
 use Rattle.hc_model.specs.ConsumerRows.{opened_place, unless_bound}
-use Rattle.hc_model.specs.Currents.{current, is_current, is_number}
+use Rattle.hc_model.specs.Currents.{current, is_current}
 use Rattle.hc_model.specs.Dooms.{bypassed_for}
 use Rattle.hc_model.specs.Effects.{Does, counted, with_consumer, with_opening, just_opened, let_some_go}
 use Rattle.hc_model.specs.Entries.{Entry}
@@ -23,18 +23,15 @@ use Rattle.hc_model.specs.Polls.{move_of}
 use Rattle.hc_model.specs.Reading.{bound_to}
 use Rattle.hc_model.specs.Rows.{Tables, Representation, Consumer}
 use Rattle.hc_model.specs.Tables.{added, is_hole}
-use Rattle.hc_rules.proofs.RangeReads.{bytes_eq-same, same_bytes}
-use Rattle.hc_model.proofs.Basics.{false_true, true_false, not_so, number_is}
+use Rattle.hc_model.proofs.Basics.{false_true}
 use Rattle.hc_model.proofs.ConsumerEffects.{some_all}
-use Rattle.hc_model.proofs.HoleLemmas.{bool_cases}
 use Rattle.hc_model.proofs.KeyNames.{current_test}
-use Rattle.hc_model.proofs.OfConsumers.{BringsNothing, and_true, goes_as, ends_none}
+use Rattle.hc_model.proofs.OfConsumers.{BringsNothing, goes_as, ends_none}
 use Rattle.hc_model.proofs.OpenEffects.{e, nothing, why, keeps_all, binds_none, about_current}
 use Rattle.hc_model.proofs.OpenedAs.{OpenedAs, Way}
 use Rattle.hc_model.proofs.OpenedAs as opened
 use Rattle.hc_model.proofs.PollEffects.{none_waits}
 use Rattle.hc_model.proofs.SameTables.{is_in, in_one, waits_for_any}
-use Rattle.hc_model.proofs.Tests.{then_false}
 use Rattle.hc_model.proofs.WaitEffects.{unread_undue}
 
 plain_turn : (n : Need) (request : Request) → n ≢ need.Bypass → bypassed_for n request.key ≡ None

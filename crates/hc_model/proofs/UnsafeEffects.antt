@@ -1,7 +1,7 @@
 -- What the head of an unsafe request does that may have changed something: what is current for its key is doomed.
-use Rattle.std.proofs.Common.{◌≡◌, inl, inr, ℕ, List, [], ◌∷◌, ◌++◌, Bool, true, false, Option, Some, None, refl, ap, sym, ◌∙◌, subst}
+use Rattle.std.proofs.Common.{◌≡◌, inl, inr, ℕ, List, [], ◌++◌, Bool, true, false, Option, Some, None, refl, ap, sym, ◌∙◌, subst}
 use mathlib.Core.Path.{fun_ext}
-use Rattle.std.specs.Prelude.{bytes_eq, ◌&&◌, ◌||◌, ◌==◌, not, nat_eq, if◌then◌else◌, is_none, option_map, map, filter, reverse}
+use Rattle.std.specs.Prelude.{bytes_eq, ◌&&◌, ◌||◌, not, nat_eq, if◌then◌else◌, is_none, option_map, map, filter, reverse}
 use Rattle.hc_event.specs.declared.act.Act.TheVariants as act
 use Rattle.hc_event.specs.declared.act.Cause.TheVariants as cause
 use Rattle.hc_event.specs.declared.event.Event.{Event}
@@ -13,7 +13,6 @@ use Rattle.hc_rules.specs.declared.heads.HeadView.{HeadView}
 use Rattle.hc_rules.specs.declared.need.Route.TheVariants as route
 use Rattle.hc_rules.specs.declared.room.Limits.{Limits}
 use Rattle.hc_rules.specs.HeadCases.{head_case}
-use Rattle.hc_rules.specs.Lengths.{length_of, is_bad}
 use Rattle.hc_rules.specs.Needs.{route_of}
 use Rattle.hc_model.specs.declared.place.Place.{Place}
 use Rattle.hc_model.specs.declared.place.Place.TheVariants as place
@@ -24,10 +23,10 @@ use Rattle.hc_model.specs.ConsumerRows.{consumer_after, back_in_line}
 use Rattle.hc_model.specs.Currents.{current, is_number, is_current}
 use Rattle.hc_model.specs.Denials.{denial}
 use Rattle.hc_model.specs.Dooms.{doomed, doomed_by_case, changes, is_key}
-use Rattle.hc_model.specs.Effects.{Does, counted, let_all_go, let_some_go, all_closed, with_consumer, with_answer, sent_back, woken, is_awaited, awaited_and}
+use Rattle.hc_model.specs.Effects.{Does, counted, let_some_go, all_closed, with_consumer, with_answer, sent_back, woken, is_awaited, awaited_and}
 use Rattle.hc_model.specs.Entries.{Entry}
 use Rattle.hc_model.specs.ExchangeRows.{promise_in}
-use Rattle.hc_model.specs.Exchanges.{is_reached, is_headless, family}
+use Rattle.hc_model.specs.Exchanges.{is_reached, family}
 use Rattle.hc_model.specs.Failures.{cause_by_case}
 use Rattle.hc_model.specs.Flaws.{NoFlaw}
 use Rattle.hc_model.specs.Gone.{becomes_gone, goes_by_case}
@@ -38,8 +37,6 @@ use Rattle.hc_model.specs.Reading.{is_written}
 use Rattle.hc_model.specs.Rows.{Tables, Exchange, Representation, Consumer}
 use Rattle.hc_model.specs.StartingOver.{sends_back, waits_at}
 use Rattle.hc_model.specs.Tables.{after_accepted, added}
-use Rattle.hc_model.specs.Writers.{loses_writing}
-use Rattle.hc_model.proofs.ActParts.{leaver_lost}
 use Rattle.hc_model.proofs.Basics.{none_some}
 use Rattle.hc_model.proofs.ConsumerEffects.{waits_as, some_all}
 use Rattle.hc_model.proofs.DoomFrames.{sent_as, awaited_apart}
@@ -48,7 +45,6 @@ use Rattle.hc_model.proofs.FoundBy as cases
 use Rattle.hc_model.proofs.HeadFacts.{stays_open, new, waiter, undue, case_on, case_before, evicts_none, no_survivor}
 use Rattle.hc_model.proofs.HeadFrames.{e, spared_as, heard, doomed_is, goes_as, row_by, other_by, asker_goes_on, after_head}
 use Rattle.hc_model.proofs.KeyNames.{current_test}
-use Rattle.hc_model.proofs.OfConsumers.{or_off}
 use Rattle.hc_model.proofs.PieceKeeps.{eq_cases, some_inj}
 use Rattle.hc_model.proofs.PollEffects.{same_consumer}
 use Rattle.hc_model.proofs.SameTables.{is_in, in_one, waits_for_any, back_from_any, all_closed_is}
@@ -77,7 +73,7 @@ module _ (limits : Limits) (t : Tables) (law : Lawful t) (now x : ℕ) (response
   key = w.request.key
 
   module _ (g : HeadCase) (is : head_case (head_view t false w response) ≡ g) (dooms : doomed_by_case (Some g) w response ≡ Some key) (past : k.place ≡ place.Direct x) (unfounding : is_founding (Some g) ≡ false) (unupdating : is_updating (Some g) ≡ false) (unjoining : is_joining (Some g) ≡ false) (stays : sends_back (Some g) ≡ false) (fine : cause_by_case (Some g) x ≡ None)
-    (also : Option ℕ) (refuses : (if is_refused (Some g) && not (is_reached (promise_in w response) 0) then Some x else None) ≡ also) where
+      (also : Option ℕ) (refuses : (if is_refused (Some g) && not (is_reached (promise_in w response) 0) then Some x else None) ≡ also) where
     -- what is closed
     abbrev xs : List ℕ
     xs = awaited_and t key also

@@ -13,14 +13,13 @@ use Rattle.hc_rules.specs.declared.need.Route.TheVariants as route
 use Rattle.hc_rules.specs.declared.room.Limits.{Limits}
 use Rattle.hc_rules.specs.HeadCases.{head_case}
 use Rattle.hc_rules.specs.Needs.{route_of}
-use Rattle.hc_model.specs.declared.place.Place.{Place}
 use Rattle.hc_model.specs.declared.place.Place.TheVariants as place
 use Rattle.hc_model.specs.ActFilters.{loses_in, has_loss}
 use Rattle.hc_model.specs.Answers.{lost}
 use Rattle.hc_model.specs.Cases.{case_at, head_view, is_founding, is_updating, is_joining}
 use Rattle.hc_model.specs.Closings.{is_refused}
 use Rattle.hc_model.specs.ConsumerRows.{becomes_shared, back_in_line, consumer_after}
-use Rattle.hc_model.specs.Currents.{current, is_number, row_of}
+use Rattle.hc_model.specs.Currents.{current, is_number}
 use Rattle.hc_model.specs.Denials.{denial}
 use Rattle.hc_model.specs.Dooms.{doomed_by_case}
 use Rattle.hc_model.specs.Effects.{Does, counted, let_go, with_consumer, with_representation, with_answer, refreshed, resumed, lost_to, gone}
@@ -43,10 +42,10 @@ use Rattle.hc_model.proofs.Basics.{and_left, false_true, not_so, true_false}
 use Rattle.hc_model.proofs.FoundBy.{CaseBy, case_by, unchanged_founds, validated_selects}
 use Rattle.hc_model.proofs.FoundBy as cases
 use Rattle.hc_model.proofs.HeadFacts.{waiter, evicts_none, head_does, goes_on, goes_back, goes_it, rows, rows_same, is_it}
-use Rattle.hc_model.proofs.HeadFrames.{e, heard, has_as, loses_as, row_updates, row_loses, spared_as}
+use Rattle.hc_model.proofs.HeadFrames.{e, heard, has_as, row_updates, row_loses, spared_as}
 use Rattle.hc_model.proofs.KeyRows.{same_number}
 use Rattle.hc_model.proofs.LossStands.{joins_again, not_founding}
-use Rattle.hc_model.proofs.OfConsumers.{or_off, and_true}
+use Rattle.hc_model.proofs.OfConsumers.{and_true}
 use Rattle.hc_model.proofs.Pens.{same_row}
 use Rattle.hc_model.proofs.PieceKeeps.{eq_cases, some_inj}
 use Rattle.hc_model.proofs.PollEffects.{none_waits, same_consumer}

@@ -1,13 +1,14 @@
 -- What a 304 does whose update is refused while what it validates is written for several: that writing is lost.
 use Rattle.std.proofs.Common.{◌≡◌, inl, inr, ℕ, ◌+◌, List, [], ◌∷◌, ◌++◌, Bool, true, false, Option, Some, None, refl, ap, sym, ◌∙◌, subst}
 use mathlib.Core.Path.{fun_ext}
-use Rattle.std.specs.Prelude.{◌&&◌, ◌||◌, ◌==◌, not, nat_eq, if◌then◌else◌, is_none, is_some, option_map, map, filter, reverse}
+use Rattle.std.specs.Prelude.{◌&&◌, ◌==◌, not, nat_eq, if◌then◌else◌, is_some, option_map, map, filter, reverse}
+use Rattle.std.specs.Option.{option_or}
 use Rattle.hc_event.specs.declared.act.Act.TheVariants as act
+use Rattle.hc_event.specs.declared.act.Cause.TheVariants as cause
 use Rattle.hc_event.specs.declared.act.LostKind.{LostKind}
 use Rattle.hc_event.specs.declared.event.Event.{Event}
 use Rattle.hc_event.specs.declared.event.Event.TheVariants as event
 use Rattle.hc_event.specs.declared.event.Response.{Response}
-use Rattle.hc_rules.specs.declared.heads.HeadCase.{HeadCase}
 use Rattle.hc_rules.specs.declared.heads.HeadCase.TheVariants as case
 use Rattle.hc_rules.specs.declared.heads.HeadView.{HeadView}
 use Rattle.hc_rules.specs.declared.need.Route.TheVariants as route
@@ -17,7 +18,6 @@ use Rattle.hc_rules.specs.Needs.{route_of}
 use Rattle.hc_model.specs.declared.place.Place.{Place}
 use Rattle.hc_model.specs.declared.place.Place.TheVariants as place
 use Rattle.hc_model.specs.declared.place.BoundBy.{BoundBy}
-use Rattle.hc_model.specs.ActFilters.{loses_in}
 use Rattle.hc_model.specs.Answers.{accepted, lost}
 use Rattle.hc_model.specs.Cases.{case_at, head_view, is_joining}
 use Rattle.hc_model.specs.Closings.{closing, closes_row, must_close}
@@ -28,18 +28,17 @@ use Rattle.hc_model.specs.Dooms.{doomed}
 use Rattle.hc_model.specs.Effects.{Does, counted, gone, let_go, all_closed, with_consumer, with_representation, with_answer, lost_to, left_with, if_bound, writing_lost, unless_survived}
 use Rattle.hc_model.specs.Entries.{Entry}
 use Rattle.hc_model.specs.ExchangeRows.{exchange_heard}
-use Rattle.hc_model.specs.Exchanges.{family}
-use Rattle.hc_model.specs.Flaws.{Flaw, NoFlaw, Loses}
+use Rattle.hc_model.specs.Flaws.{Flaw, Loses}
 use Rattle.hc_model.specs.Gone.{becomes_gone}
 use Rattle.hc_model.specs.Lawful.{Lawful}
 use Rattle.hc_model.specs.Owners.{IsAwaiting}
 use Rattle.hc_model.specs.Owners as owners
 use Rattle.hc_model.specs.Reading.{is_written, is_bound_place}
-use Rattle.hc_model.specs.RepresentationRows.{representation_after, updates}
+use Rattle.hc_model.specs.RepresentationRows.{representation_after}
 use Rattle.hc_model.specs.Rows.{Tables, Exchange, Representation, Consumer}
 use Rattle.hc_model.specs.Sound.{IsBound}
 use Rattle.hc_model.specs.Sound as sound
-use Rattle.hc_model.specs.Tables.{after_accepted, added}
+use Rattle.hc_model.specs.Tables.{after_accepted}
 use Rattle.hc_model.specs.Writers.{loses_writing, survivor}
 use Rattle.hc_model.proofs.Basics.{and_left, false_true, none_some, not_so, not_true, number_is}
 use Rattle.hc_model.proofs.Closed.{reversed}
@@ -49,21 +48,21 @@ use Rattle.hc_model.proofs.HasBound.{bound_at}
 use Rattle.hc_model.proofs.HeadFacts.{new, waiter, undue, case_on, case_before, evicts_none}
 use Rattle.hc_model.proofs.HeadFrames.{e, far, loses_as, spared_as, apart, doomed_is, goes_by, goes_lost, rows_but, row_loses, other_row, asker_goes_back, after_head}
 use Rattle.hc_model.proofs.HoleLemmas.{bool_cases}
-use Rattle.hc_model.proofs.LostFrames.{goes_on_as, member_as, closed_with, writer_now, closed_is, closed_row, closed_apart, no_survivor_as}
+use Rattle.hc_model.proofs.LostFrames.{goes_on_as, member_as, closed_with, writer_now, closed_row, closed_apart, no_survivor_as}
 use Rattle.hc_model.proofs.OfConsumers.{one_of, descends_once, or_off, and_so}
 use Rattle.hc_model.proofs.Pens.{same_row}
 use Rattle.hc_model.proofs.PieceKeeps.{eq_cases}
 use Rattle.hc_model.proofs.PieceServes.{quiet_acts}
 use Rattle.hc_model.proofs.SameTables.{is_in, in_one, waits_for_any, back_from_any}
 use Rattle.hc_model.proofs.Sums.{reverse_once}
-use Rattle.hc_model.proofs.Tests.{eqb-same, then_false}
+use Rattle.hc_model.proofs.Tests.{eqb-same}
 use Rattle.hc_model.proofs.Untouched.{IsSpared, consumer_absent}
 
 by_turn : {z : HeadView} → CaseBy z case.NotValidated → (route_of z.need ≡ route.Turn) × (z.status ≡ 304)
 by_turn (cases.not_validated way status) = (way, status)
 
 module _ (limits : Limits) (t : Tables) (law : Lawful t) (now x : ℕ) (response : Response) (goes : denial t (event.Head x response) ≡ None) (w : Exchange) (row : t.exchange x ≡ Some w) (k : Consumer) (asker : t.consumer w.c ≡ Some k) (r : ℕ) (v : Representation) (aim : w.aim ≡ Some r) (there : t.representation r ≡ Some v)
-  (kind : LostKind) (on : is_written t v ≡ true) (is : head_case (head_view t true w response) ≡ case.NotValidated) where
+    (kind : LostKind) (on : is_written t v ≡ true) (is : head_case (head_view t true w response) ≡ case.NotValidated) where
   abbrev ev : Event
   ev = event.Head x response
 
@@ -162,7 +161,7 @@ module _ (limits : Limits) (t : Tables) (law : Lawful t) (now x : ℕ) (response
     | inl same ↦ goes_lost t now x response [] flaw xs w row case.NotValidated is_it q u (rw same.0 refl) ∙ rw same.0 refl
     | inr other ↦
         let unclosed : is_in xs q ≡ false = in_one (closed_with t b law r v there losing_b) q ∙ not_so (is_number (closed_with t b law r v there losing_b) q) (λ named.
-            other.1 (closed_apart t b law r v there losing_b q u (number_is (closed_with t b law r v there losing_b) q named) here)) in
+        other.1 (closed_apart t b law r v there losing_b q u (number_is (closed_with t b law r v there losing_b) q named) here)) in
         goes_by t now x response [] flaw xs w row case.NotValidated is_it q u unclosed doomless_it ∙ rw (aim, other.0) refl
   ]
 
@@ -197,7 +196,7 @@ module _ (limits : Limits) (t : Tables) (law : Lawful t) (now x : ℕ) (response
   others : (d : ℕ) → nat_eq w.c d ≡ false → consumer_after t it d (t.consumer d) ≡ option_map (back_from_any now rs) (option_map (if_bound r (left_with r (survivor t r v) v.writer d)) (t.consumer d))
   others d other = by_row (t.consumer d) refl
     where
-      stays : (u : Consumer) (lo : ℕ) (hi : Option ℕ) (how : BoundBy) → u.place ≡ place.Bound r lo hi how → (a : Bool) → back_from_any now rs (if a then record u { own = v.writer } else record u { due = Rattle.std.specs.Option.option_or u.due (Some (Rattle.hc_event.specs.declared.act.Cause.TheVariants.StoreWrite r)) }) ≡ (if a then record u { own = v.writer } else record u { due = Rattle.std.specs.Option.option_or u.due (Some (Rattle.hc_event.specs.declared.act.Cause.TheVariants.StoreWrite r)) })
+      stays : (u : Consumer) (lo : ℕ) (hi : Option ℕ) (how : BoundBy) → u.place ≡ place.Bound r lo hi how → (a : Bool) → back_from_any now rs (if a then record u { own = v.writer } else record u { due = option_or u.due (Some (cause.StoreWrite r)) }) ≡ (if a then record u { own = v.writer } else record u { due = option_or u.due (Some (cause.StoreWrite r)) })
       stays u lo hi how at true = let off : waits_for_any rs u.place ≡ false = ap (waits_for_any rs) at in rw off refl
       stays u lo hi how at false = let off : waits_for_any rs u.place ≡ false = ap (waits_for_any rs) at in rw off refl
 

@@ -7,11 +7,12 @@ use Rattle.hc_model.specs.declared.place.Place.TheVariants as place
 use Rattle.hc_model.specs.ConsumerRows.{back_in_line}
 use Rattle.hc_model.specs.Currents.{current, is_usable}
 use Rattle.hc_model.specs.Denials.{live, is_live, is_live_place}
-use Rattle.hc_model.specs.Evictions.{gone_if, has_passed_to, sent_back, evict, evict_all, unless_it, EvictsOne, AnyLeavesOneCurrent}
+use Rattle.hc_model.specs.Effects.{waits_for, back_from, gone}
+use Rattle.hc_model.specs.Evictions.{evict, evict_all, unless_it, EvictsOne, AnyLeavesOneCurrent}
 use Rattle.hc_model.specs.Reading.{bound, is_bound, is_bound_place}
 use Rattle.hc_model.specs.Rows.{Tables, Representation, Consumer}
 use Rattle.hc_model.specs.Sound.{OneCurrent}
-use Rattle.hc_model.proofs.Basics.{same_functions, false_true, none_some, or_false}
+use Rattle.hc_model.proofs.Basics.{same_functions, false_true, none_some}
 use Rattle.hc_model.proofs.CurrentKeeps.{one_current_after, usable_row}
 use Rattle.hc_model.proofs.HoleLemmas.{bool_cases}
 use Rattle.hc_model.proofs.PieceKeeps.{eq_cases, some_inj}
@@ -20,7 +21,7 @@ use Rattle.hc_model.proofs.PollKeeps.{find_passes}
 -- WHO STANDS WHERE
 
 -- who is sent back waited, and waits in line
-back_bound : (now r q : ℕ) (k : Consumer) (p : Place) → k.place ≡ p → is_bound_place q (if has_passed_to r p then back_in_line now k else k).place ≡ is_bound_place q p
+back_bound : (now r q : ℕ) (k : Consumer) (p : Place) → k.place ≡ p → is_bound_place q (if waits_for r p then back_in_line now k else k).place ≡ is_bound_place q p
 back_bound now r q k (place.Passed n kept) at = elim (bool_cases (r == n)) [ inl here ↦ rw here refl | inr other ↦ rw other (ap (is_bound_place q) at) ]
 back_bound now r q k place.Line at = ap (is_bound_place q) at
 back_bound now r q k (place.Turn x) at = ap (is_bound_place q) at
@@ -29,7 +30,7 @@ back_bound now r q k (place.Direct x) at = ap (is_bound_place q) at
 back_bound now r q k (place.Down why) at = ap (is_bound_place q) at
 back_bound now r q k place.Over at = ap (is_bound_place q) at
 
-back_live : (now r : ℕ) (k : Consumer) (p : Place) → k.place ≡ p → is_live_place (if has_passed_to r p then back_in_line now k else k).place ≡ is_live_place p
+back_live : (now r : ℕ) (k : Consumer) (p : Place) → k.place ≡ p → is_live_place (if waits_for r p then back_in_line now k else k).place ≡ is_live_place p
 back_live now r k (place.Passed n kept) at = elim (bool_cases (r == n)) [ inl here ↦ rw here refl | inr other ↦ rw other (ap is_live_place at) ]
 back_live now r k place.Line at = ap is_live_place at
 back_live now r k (place.Turn x) at = ap is_live_place at
@@ -38,11 +39,11 @@ back_live now r k (place.Direct x) at = ap is_live_place at
 back_live now r k (place.Down why) at = ap is_live_place at
 back_live now r k place.Over at = ap is_live_place at
 
-row_bound : (now r q : ℕ) (z : Option Consumer) → is_bound q (option_map (sent_back now r) z) ≡ is_bound q z
+row_bound : (now r q : ℕ) (z : Option Consumer) → is_bound q (option_map (back_from now r) z) ≡ is_bound q z
 row_bound now r q None = refl
 row_bound now r q (Some k) = back_bound now r q k k.place refl
 
-row_live : (now r : ℕ) (z : Option Consumer) → is_live (option_map (sent_back now r) z) ≡ is_live z
+row_live : (now r : ℕ) (z : Option Consumer) → is_live (option_map (back_from now r) z) ≡ is_live z
 row_live now r None = refl
 row_live now r (Some k) = back_live now r k k.place refl
 
@@ -55,12 +56,11 @@ live_same t r = ap (λ test. length (filter test t.starts)) (same_functions _ _ 
 
 -- WHAT IS CURRENT
 
-usable_other : (key : List ℕ) (r q : ℕ) (z : Option Representation) → nat_eq r q ≡ false → is_usable key (option_map (gone_if (r == q)) z) ≡ is_usable key z
-usable_other key r q None other = refl
-usable_other key r q (Some v) other = rw other refl
+usable_other : (key : List ℕ) (r q : ℕ) (z : Option Representation) → nat_eq r q ≡ false → is_usable key (if r == q then option_map gone z else z) ≡ is_usable key z
+usable_other key r q z other = rw other refl
 
-no_more : (key : List ℕ) (r q : ℕ) (z : Option Representation) → nat_eq r q ≡ true → is_usable key (option_map (gone_if (r == q)) z) ≡ false
-no_more key r q None here = refl
+no_more : (key : List ℕ) (r q : ℕ) (z : Option Representation) → nat_eq r q ≡ true → is_usable key (if r == q then option_map gone z else z) ≡ false
+no_more key r q None here = rw here refl
 no_more key r q (Some v) here = rw here (by_key (bytes_eq v.key key))
   where
     by_key : (b : Bool) → (b && not true) ≡ false
@@ -75,7 +75,7 @@ module _ (t : Tables) (r : ℕ) (one : OneCurrent t) (key : List ℕ) where
   before q = is_usable key (t.representation q)
 
   abbrev after : ℕ → Bool
-  after q = is_usable key (option_map (gone_if (r == q)) (t.representation q))
+  after q = is_usable key (if r == q then option_map gone (t.representation q) else t.representation q)
 
   -- only r fails that passed
   find_same : (q : ℕ) (ns : List ℕ) → nat_eq r q ≡ false → ((n : ℕ) → before n ≡ true → n ≡ q) → find before ns ≡ Some q → find after ns ≡ Some q
@@ -136,18 +136,14 @@ module _ (t : Tables) (r : ℕ) (one : OneCurrent t) (key : List ℕ) where
   current_same = current_by (find before t.founded) refl
 
 -- what is not gone after wasn't before
-was_fresh : (r q : ℕ) (z : Option Representation) (v : Representation) → option_map (gone_if (r == q)) z ≡ Some v → v.is_gone ≡ false → (u : Representation) × (z ≡ Some u) × (u.is_gone ≡ false) × (u.key ≡ v.key)
-was_fresh r q None v is fresh = absurd (none_some v is)
-was_fresh r q (Some u) v is fresh =
-    let same : gone_if (r == q) u ≡ v = some_inj (gone_if (r == q) u) v is in
-    let both = or_false (r == q) u.is_gone (ap (λ (w : Representation). w.is_gone) same ∙ fresh) in
-    (u, refl, both.1, ap (λ (w : Representation). w.key) same)
+was_fresh : (b : Bool) (z : Option Representation) (v : Representation) → (if b then option_map gone z else z) ≡ Some v → v.is_gone ≡ false → z ≡ Some v
+was_fresh false z v is fresh = is
+was_fresh true None v is fresh = is
+was_fresh true (Some u) v is fresh = absurd (false_true (sym fresh ∙ sym (ap (λ (w : Representation). w.is_gone) (some_inj (gone u) v is))))
 
 one_after : (t : Tables) (r : ℕ) → OneCurrent t → OneCurrent (evict r t)
 one_after t r one n q v u row row' fresh fresh' same_key =
-    let a = was_fresh r n (t.representation n) v row fresh in
-    let b = was_fresh r q (t.representation q) u row' fresh' in
-    one n q a.0 b.0 a.1 b.1 a.2 b.2 (a.3 ∙ (same_key ∙ sym b.3))
+    one n q v u (was_fresh (r == n) (t.representation n) v row fresh) (was_fresh (r == q) (t.representation q) u row' fresh') fresh fresh' same_key
 
 -- and so it stays with each
 pub one_after_all : (rs : List ℕ) (t : Tables) → OneCurrent t → OneCurrent (evict_all rs t)

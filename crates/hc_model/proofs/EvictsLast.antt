@@ -41,7 +41,7 @@ use Rattle.hc_model.specs.Writes.{written, written_in}
 use Rattle.hc_model.proofs.ActParts.{evicts_closes, evicts_lost, far_loss, far_closed}
 use Rattle.hc_model.proofs.Alike.{alike_evicted, written_same}
 use Rattle.hc_model.proofs.Basics.{false_true}
-use Rattle.hc_model.proofs.EvictedRows.{has_gone, waits_on, waits_none, tables_last}
+use Rattle.hc_model.proofs.EvictedRows.{tables_last}
 use Rattle.hc_model.proofs.FirstKeeps.{is_new, case_of_head}
 use Rattle.hc_model.proofs.FoundBy.{CaseBy}
 use Rattle.hc_model.proofs.FoundBy as cases
@@ -50,6 +50,8 @@ use Rattle.hc_model.proofs.HoleLemmas.{bool_cases}
 use Rattle.hc_model.proofs.Pens.{same_row}
 use Rattle.hc_model.proofs.PieceKeeps.{eq_cases}
 use Rattle.hc_model.proofs.PieceServes.{IsQuietActs, quiet_acts}
+use Rattle.hc_model.proofs.PollEffects.{none_waits}
+use Rattle.hc_model.proofs.SameTables.{is_in, waits_for_any}
 
 -- WHAT MAKES ROOM IS THERE
 
@@ -57,7 +59,7 @@ there_row : (t : Tables) (e : Entry) (r : ℕ) (z : Option Representation) → i
 there_row t e r None is = absurd (false_true is)
 there_row t e r (Some v) is = refl
 
-there_idle : (t : Tables) (e : Entry) (r : ℕ) (rs : List ℕ) → has_gone r (filter (λ q. is_idle t e q (t.representation q)) rs) ≡ true → is_some (t.representation r) ≡ true
+there_idle : (t : Tables) (e : Entry) (r : ℕ) (rs : List ℕ) → is_in (filter (λ q. is_idle t e q (t.representation q)) rs) r ≡ true → is_some (t.representation r) ≡ true
 there_idle t e r [] h = absurd (false_true h)
 there_idle t e r (q ∷ rs) h = elim (bool_cases (is_idle t e q (t.representation q))) [
   | inr off ↦ there_idle t e r rs (rw off at h)
@@ -67,7 +69,7 @@ there_idle t e r (q ∷ rs) h = elim (bool_cases (is_idle t e q (t.representatio
   ]
 ]
 
-gone_taken : (n r : ℕ) (rs : List ℕ) → has_gone r (take n rs) ≡ true → has_gone r rs ≡ true
+gone_taken : (n r : ℕ) (rs : List ℕ) → is_in (take n rs) r ≡ true → is_in rs r ≡ true
 gone_taken zero r rs h = absurd (false_true h)
 gone_taken (suc n) r [] h = absurd (false_true h)
 gone_taken (suc n) r (q ∷ rs) h = elim (bool_cases (q == r)) [
@@ -75,7 +77,7 @@ gone_taken (suc n) r (q ∷ rs) h = elim (bool_cases (q == r)) [
   | inr other ↦ rw other (gone_taken n r rs (rw other at h))
 ]
 
-there_first : (t : Tables) (e : Entry) (r : ℕ) (z : Room) → has_gone r (first_idle t e z) ≡ true → is_some (t.representation r) ≡ true
+there_first : (t : Tables) (e : Entry) (r : ℕ) (z : Room) → is_in (first_idle t e z) r ≡ true → is_some (t.representation r) ≡ true
 unfolding idle
 there_first t e r (room.After count) h = there_idle t e r (reverse t.used) (gone_taken count r (filter (λ q. is_idle t e q (t.representation q)) (reverse t.used)) h)
 there_first t e r room.TooLarge h = absurd (false_true h)
@@ -94,22 +96,22 @@ without_same (r ∷ rs) b = ap (λ acts. act.Evicted r ∷ acts) (without_same r
 -- A HEAD
 
 -- who waits for a head waits for no representation
-awaiting_waits : (rs : List ℕ) (x : ℕ) (w : Exchange) (p : Place) → IsAwaiting x w p → waits_on rs p ≡ false
+awaiting_waits : (rs : List ℕ) (x : ℕ) (w : Exchange) (p : Place) → IsAwaiting x w p → waits_for_any rs p ≡ false
 awaiting_waits rs x w p (owners.direct way at) = rw at refl
 awaiting_waits rs x w p (owners.turn way at) = rw at refl
 awaiting_waits rs x w p (owners.hole r lo hi how way aim at) = rw at refl
 
 -- what it becomes bound to isn't waited for
-wanted_waits : (rs : List ℕ) (x : ℕ) (z : Wanted) → waits_on rs (bound_to_wanted x by.Founding (place.Direct x) z) ≡ false
+wanted_waits : (rs : List ℕ) (x : ℕ) (z : Wanted) → waits_for_any rs (bound_to_wanted x by.Founding (place.Direct x) z) ≡ false
 wanted_waits rs x wanted.TotalUnknown = refl
 wanted_waits rs x wanted.Unsatisfiable = refl
 wanted_waits rs x (wanted.Interval span) = refl
 
-placed_waits : (rs : List ℕ) (x : ℕ) (response : Response) (w : Exchange) (k : Consumer) (g : Option HeadCase) → (g ≡ Some case.Validated → rs ≡ []) → waits_on rs k.place ≡ false → waits_on rs (place_by_case x response w k g) ≡ false
+placed_waits : (rs : List ℕ) (x : ℕ) (response : Response) (w : Exchange) (k : Consumer) (g : Option HeadCase) → (g ≡ Some case.Validated → rs ≡ []) → waits_for_any rs k.place ≡ false → waits_for_any rs (place_by_case x response w k g) ≡ false
 placed_waits rs x response w k (Some case.DirectBad) empty off = refl
 placed_waits rs x response w k (Some case.TurnBad) empty off = refl
 placed_waits rs x response w k (Some case.FirstBad) empty off = refl
-placed_waits rs x response w k (Some case.Validated) empty off = ap (λ ys. waits_on ys (place_by_case x response w k (Some case.Validated))) (empty refl) ∙ waits_none (place_by_case x response w k (Some case.Validated))
+placed_waits rs x response w k (Some case.Validated) empty off = ap (λ ys. waits_for_any ys (place_by_case x response w k (Some case.Validated))) (empty refl) ∙ none_waits (place_by_case x response w k (Some case.Validated))
 placed_waits rs x response w k (Some case.FoundsWhole) empty off = refl
 placed_waits rs x response w k (Some case.FirstReplaced) empty off = refl
 placed_waits rs x response w k (Some case.FoundsRange) empty off = wanted_waits rs x (wanted_of (range_of k.request) (founded_total w response))
@@ -158,11 +160,11 @@ module _ (limits : Limits) (t : Tables) (now : ℕ) (ev : Event) (flaw : Flaw) w
       none_evicted (ap (write_in t (unanswered now ev)) here ∙ rw same refl)
 
   -- what is evicted has a row
-  there : (r : ℕ) → has_gone r rs ≡ true → is_some (t.representation r) ≡ true
+  there : (r : ℕ) → is_in rs r ≡ true → is_some (t.representation r) ≡ true
   there r h = there_first t (unanswered now ev) r (room_for limits t now ev) h
 
   module _ (s : Sound t) (o : Owners t) (goes : denial t ev ≡ None) where
-    head_moves : (c x : ℕ) (response : Response) (k : Consumer) (z : Option Exchange) → ev ≡ event.Head x response → t.consumer c ≡ Some k → t.exchange x ≡ z → waits_on rs (by_head t f c x response z k).place ≡ waits_on rs k.place
+    head_moves : (c x : ℕ) (response : Response) (k : Consumer) (z : Option Exchange) → ev ≡ event.Head x response → t.consumer c ≡ Some k → t.exchange x ≡ z → waits_for_any rs (by_head t f c x response z k).place ≡ waits_for_any rs k.place
     head_moves c x response k None here row is_row = refl
     head_moves c x response k (Some w) here row is_row = elim (eq_cases w.c c) [
       | inr other ↦ rw other.0 refl
@@ -170,11 +172,11 @@ module _ (limits : Limits) (t : Tables) (now : ℕ) (ev : Event) (flaw : Flaw) w
           let new = is_new limits t now flaw s ev goes x response w here is_row in
           let waits = o.waiting x w is_row new.is_open new.bare in
           let one : waits.k ≡ k = same_row (t.consumer c) waits.k k (sym (ap t.consumer mine.1) ∙ waits.row) row in
-          let off : waits_on rs k.place ≡ false = sym (ap (λ (q : Consumer). waits_on rs q.place) one) ∙ awaiting_waits rs x w waits.k.place waits.at in
+          let off : waits_for_any rs k.place ≡ false = sym (ap (λ (q : Consumer). waits_for_any rs q.place) one) ∙ awaiting_waits rs x w waits.k.place waits.at in
           rw mine.0 (placed_waits rs x response w k (case_at t f) (none_validated x response w here is_row) off ∙ sym off)
     ]
 
-    heard_moves : (z : Event) → ev ≡ z → (c : ℕ) (k : Consumer) → t.consumer c ≡ Some k → waits_on rs (consumer_heard t f c z k).place ≡ waits_on rs k.place
+    heard_moves : (z : Event) → ev ≡ z → (c : ℕ) (k : Consumer) → t.consumer c ≡ Some k → waits_for_any rs (consumer_heard t f c z k).place ≡ waits_for_any rs k.place
     heard_moves (event.Start d request) here c k row = refl
     heard_moves (event.Poll d want) here c k row = refl
     heard_moves (event.Head x response) here c k row = head_moves c x response k (t.exchange x) here row refl
@@ -182,16 +184,16 @@ module _ (limits : Limits) (t : Tables) (now : ℕ) (ev : Event) (flaw : Flaw) w
     heard_moves (event.End x) here c k row = refl
     heard_moves (event.Fault x) here c k row =
         let none : rs ≡ [] = none_evicted (ap (write_in t (unanswered now ev)) here) in
-        let off : (p : Place) → waits_on rs p ≡ false = λ p. ap (λ ys. waits_on ys p) none ∙ waits_none p in
+        let off : (p : Place) → waits_for_any rs p ≡ false = λ p. ap (λ ys. waits_for_any ys p) none ∙ none_waits p in
         off (consumer_heard t f c (event.Fault x) k).place ∙ sym (off k.place)
     heard_moves (event.Cancel d) here c k row =
         let none : rs ≡ [] = none_evicted (ap (write_in t (unanswered now ev)) here) in
-        let off : (p : Place) → waits_on rs p ≡ false = λ p. ap (λ ys. waits_on ys p) none ∙ waits_none p in
+        let off : (p : Place) → waits_for_any rs p ≡ false = λ p. ap (λ ys. waits_for_any ys p) none ∙ none_waits p in
         off (consumer_heard t f c (event.Cancel d) k).place ∙ sym (off k.place)
     heard_moves (event.Doom key) here c k row = refl
 
-    moves : (c : ℕ) (k : Consumer) → t.consumer c ≡ Some k → starts_over t f c k ≡ false → waits_on rs (consumer_acted t f c (consumer_heard t f c ev k)).place ≡ waits_on rs k.place
-    moves c k row on = ap (waits_on rs) (acted_place c (consumer_heard t f c ev k)) ∙ heard_moves ev refl c k row
+    moves : (c : ℕ) (k : Consumer) → t.consumer c ≡ Some k → starts_over t f c k ≡ false → waits_for_any rs (consumer_acted t f c (consumer_heard t f c ev k)).place ≡ waits_for_any rs k.place
+    moves c k row on = ap (waits_for_any rs) (acted_place c (consumer_heard t f c ev k)) ∙ heard_moves ev refl c k row
 
     told_last : after_accepted t (record { now = now; event = ev; acts = a }) ≡ evict_all rs (after_accepted t f)
     told_last = tables_last t now ev rs b evicts_none fails_none there moves

@@ -21,14 +21,22 @@ use Rattle.hc_model.proofs.Tests.{and_false, then_false}
 pub record ClosesLittle (t : Tables) (e : Entry) : Type 0 where
   pub unrefused : (x : ℕ) → (is_refused (case_at t e) && brings_head x e.event) ≡ false
   pub undoomed : (x : ℕ) (w : Exchange) → is_doomed t e x w ≡ false
-  pub unlost : (r : ℕ) (v : Representation) → loses_writing t e r v ≡ false
+  pub survives : (x r : ℕ) → has_no_survivor t e x r (t.representation r) ≡ false
+
+-- so where no writing is lost
+pub nothing_lost : (t : Tables) (e : Entry) → ((r : ℕ) (v : Representation) → t.representation r ≡ Some v → loses_writing t e r v ≡ false) → (x r : ℕ) → has_no_survivor t e x r (t.representation r) ≡ false
+nothing_lost t e unlost x r = by_row (t.representation r) refl
+  where
+    by_row : (o : Option Representation) → t.representation r ≡ o → has_no_survivor t e x r o ≡ false
+    by_row None row = refl
+    by_row (Some v) row = and_false (is_number v.writer x && loses_writing t e r v) _ (then_false (is_number v.writer x) (loses_writing t e r v) (unlost r v row))
 
 -- so at an event that brings neither a head nor a piece, and dooms nothing
 pub quiet_closes : (t : Tables) (e : Entry) → case_at t e ≡ None → doomed t e ≡ None → brings_body e.event ≡ false → ClosesLittle t e
 quiet_closes t e caseless doomless bodiless = record {
   unrefused = λ x. rw caseless refl;
   undoomed = λ x w. rw doomless refl;
-  unlost = λ r v. rw bodiless refl;
+  survives = nothing_lost t e (λ r v row. rw bodiless refl);
 }
 
 pub filter_none : (xs : List ℕ) → filter (λ x. false) xs ≡ []
@@ -36,15 +44,11 @@ filter_none [] = refl
 filter_none (x ∷ xs) = filter_none xs
 
 module _ (t : Tables) (e : Entry) (little : ClosesLittle t e) where
-  no_survivor : (x r : ℕ) (o : Option Representation) → has_no_survivor t e x r o ≡ false
-  no_survivor x r None = refl
-  no_survivor x r (Some v) = and_false (is_number v.writer x && loses_writing t e r v) _ (then_false (is_number v.writer x) (loses_writing t e r v) (little.unlost r v))
-
   must_by : (a b c d : Bool) → a ≡ false → b ≡ false → c ≡ false → (a || b || c || d) ≡ d
   must_by a b c d p q r = rw (p, q, r) refl
 
   pub must_as : (x : ℕ) (w : Exchange) → must_close t e x w ≡ is_left t x (leaver e)
-  must_as x w = must_by (is_refused (case_at t e) && brings_head x e.event) (is_doomed t e x w) (has_no_survivor t e x (family x w) (t.representation (family x w))) (is_left t x (leaver e)) (little.unrefused x) (little.undoomed x w) (no_survivor x (family x w) (t.representation (family x w)))
+  must_as x w = must_by (is_refused (case_at t e) && brings_head x e.event) (is_doomed t e x w) (has_no_survivor t e x (family x w) (t.representation (family x w))) (is_left t x (leaver e)) (little.unrefused x) (little.undoomed x w) (little.survives x (family x w))
 
   none_row : leaver e ≡ None → (x : ℕ) (o : Option Exchange) → closes_row t e x o ≡ false
   none_row none x None = refl

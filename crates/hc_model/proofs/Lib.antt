@@ -228,3 +228,10 @@ pub mod Evicting
 pub mod IdleNow
 pub mod Frames
 pub mod Standing
+pub mod ToldFrames
+pub mod PieceEffects
+pub mod SharedLossEffects
+pub mod StopFrames
+pub mod StopEffects
+pub mod StopSeals
+pub mod DoomEffects

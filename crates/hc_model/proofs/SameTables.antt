@@ -1,14 +1,19 @@
 -- Tables whose parts are the same are the same, and what lists of effects come to.
-use Rattle.std.proofs.Common.{◌≡◌, ℕ, List, [], ◌∷◌, Bool, true, false, Option, Some, None, refl, ap, ap₂, ◌∙◌}
+use Rattle.std.proofs.Common.{◌≡◌, inl, inr, ℕ, List, [], ◌∷◌, Bool, true, false, Option, Some, None, refl, ap, ap₂, sym, ◌∙◌}
 use mathlib.Core.Path.{fun_ext}
 use Rattle.std.specs.Prelude.{◌==◌, ◌||◌, if◌then◌else◌, option_map}
+use Rattle.std.specs.Option.{option_or}
+use Rattle.hc_event.specs.declared.act.Cause.{Cause}
 use Rattle.hc_model.specs.declared.place.Place.{Place}
 use Rattle.hc_model.specs.declared.place.Place.TheVariants as place
 use Rattle.hc_model.specs.ConsumerRows.{back_in_line}
 use Rattle.hc_model.specs.Currents.{is_number}
-use Rattle.hc_model.specs.Effects.{waits_for, back_from, gone, let_go, let_all_go, let_some_go, over, closed, all_closed}
+use Rattle.hc_model.specs.Effects.{waits_for, back_from, gone, let_go, let_all_go, let_some_go, over, closed, all_closed, failing, if_bound, with_due, with_dues, with_length}
+use Rattle.hc_model.specs.Reading.{is_bound_place}
+use Rattle.hc_model.specs.RepresentationRows.{ended}
 use Rattle.hc_model.specs.Rows.{Tables, Exchange, Representation, Consumer}
 use Rattle.hc_model.specs.Tables.{added}
+use Rattle.hc_model.proofs.PieceKeeps.{eq_cases}
 
 -- PARTS
 
@@ -124,3 +129,53 @@ in_one (Some m) n = or_off (m == n)
     or_off : (b : Bool) → (b || false) ≡ b
     or_off true = refl
     or_off false = refl
+
+-- WHAT CHANGES NOTHING
+
+nothing_due : (k : Consumer) → failing None k ≡ k
+nothing_due k = ap (λ (o : Option Cause). record k { due = o }) (or_none k.due)
+  where
+    or_none : (o : Option Cause) → option_or o None ≡ o
+    or_none None = refl
+    or_none (Some why) = refl
+
+pub no_due : (c : ℕ) (t : Tables) → with_due c None t ≡ t
+no_due c t = ap (λ (f : ℕ → Option Consumer). record t { consumer = f }) (fun_ext (λ d. by_test (c == d) (t.consumer d)))
+  where
+    by_test : (b : Bool) (z : Option Consumer) → (if b then option_map (failing None) z else z) ≡ z
+    by_test true None = refl
+    by_test true (Some k) = ap Some (nothing_due k)
+    by_test false z = refl
+
+pub no_dues : (r : ℕ) (t : Tables) → with_dues r None t ≡ t
+no_dues r t = ap (λ (f : ℕ → Option Consumer). record t { consumer = f }) (fun_ext (λ d. by_row (t.consumer d)))
+  where
+    by_test : (b : Bool) (k : Consumer) → (if b then failing None k else k) ≡ k
+    by_test true k = nothing_due k
+    by_test false k = refl
+
+    by_row : (z : Option Consumer) → option_map (if_bound r (failing None)) z ≡ z
+    by_row None = refl
+    by_row (Some k) = ap Some (by_test (is_bound_place r k.place) k)
+
+-- what founded nothing tells no length, nor what tells one already
+pub no_length : (x n : ℕ) (t : Tables) → t.representation x ≡ None → with_length x n t ≡ t
+no_length x n t none = ap (λ (f : ℕ → Option Representation). record t { representation = f }) (fun_ext by_number)
+  where
+    by_number : (q : ℕ) → (if x == q then option_map (ended n) (t.representation q) else t.representation q) ≡ t.representation q
+    by_number q = elim (eq_cases x q) [
+      | inl same ↦ (let there : t.representation q ≡ None = ap t.representation (sym same.1) ∙ none in rw (same.0, there) refl)
+      | inr apart ↦ rw apart.0 refl
+    ]
+
+pub known_length : (x n m : ℕ) (v : Representation) (t : Tables) → t.representation x ≡ Some v → v.head.total ≡ Some m → with_length x n t ≡ t
+known_length x n m v t row known = ap (λ (f : ℕ → Option Representation). record t { representation = f }) (fun_ext by_number)
+  where
+    same_length : ended n v ≡ v
+    same_length = ap (λ (o : Option ℕ). record v { head = record v.head { total = o } }) (ap (λ (o : Option ℕ). option_or o (Some n)) known ∙ sym known)
+
+    by_number : (q : ℕ) → (if x == q then option_map (ended n) (t.representation q) else t.representation q) ≡ t.representation q
+    by_number q = elim (eq_cases x q) [
+      | inl same ↦ (let there : t.representation q ≡ Some v = ap t.representation (sym same.1) ∙ row in rw (same.0, there) (ap Some same_length))
+      | inr apart ↦ rw apart.0 refl
+    ]

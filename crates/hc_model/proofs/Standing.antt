@@ -79,25 +79,7 @@ module _ (limits : Limits) (t : Tables) (now : ℕ) (ev : Event) (flaw : Flaw) (
   far_by _ frames.whole = far_answer (accepted limits t now ev flaw) (answer_is limits t now ev flaw)
   far_by _ frames.unevicting = far_if (is_asked ev)
 
-module _ (t : Tables) (e : Entry) (c : ℕ) (k : Consumer) (off : is_event_for t c e.event ≡ false) (far : IsFarFrom c e.acts) where
-  heard_head : (x : ℕ) (response : Response) (z : Option Exchange) → is_for z c ≡ false → by_head t e c x response z k ≡ k
-  heard_head x response None other = refl
-  heard_head x response (Some w) other = rw other refl
-
-  heard_fault : (x : ℕ) (z : Option Exchange) → is_for z c ≡ false → by_fault c x z k ≡ k
-  heard_fault x None other = refl
-  heard_fault x (Some w) other = rw other refl
-
-  heard : (z : Event) → is_event_for t c z ≡ false → consumer_heard t e c z k ≡ k
-  heard (event.Start d request) other = refl
-  heard (event.Poll d want) other = refl
-  heard (event.Head x response) other = heard_head x response (t.exchange x) other
-  heard (event.Piece x bytes) other = refl
-  heard (event.End x) other = refl
-  heard (event.Fault x) other = heard_fault x (t.exchange x) other
-  heard (event.Cancel d) other = rw other refl
-  heard (event.Doom key) other = refl
-
+module _ (t : Tables) (e : Entry) (c : ℕ) (k : Consumer) (far : IsFarFrom c e.acts) where
   opened : (z : Option Opening) (q : Consumer) → opening_in e.acts ≡ z → by_opening t c z q ≡ q
   opened None q is = refl
   opened (Some o) q is = rw (far.opens o is) refl
@@ -121,15 +103,38 @@ module _ (t : Tables) (e : Entry) (c : ℕ) (k : Consumer) (off : is_event_for t
   came_out : out k ≡ record k { own = own_after t e c k.place k.own }
   came_out = rw (far.leaves, far.shows, far.given, shown (showing_in e.acts) k.place refl, plus_none k.given) refl
 
-  acted : consumer_acted t e c k ≡ record k { own = own_after t e c k.place k.own }
+  pub acted : consumer_acted t e c k ≡ record k { own = own_after t e c k.place k.own }
   acted = ap out (opened (opening_in e.acts) (waiting t e c k) refl ∙ waited) ∙ came_out
 
-  after_row : (z : Option Consumer) → z ≡ Some k → consumer_after t e c z ≡ Some (if starts_over t e c k then back_in_line e.now k else beside t e c k)
+  -- who hears nothing
+  pub after_heard : consumer_heard t e c e.event k ≡ k → (z : Option Consumer) → z ≡ Some k → consumer_after t e c z ≡ Some (if starts_over t e c k then back_in_line e.now k else beside t e c k)
   unfolding consumer_after
-  after_row None is = absurd (none_some k is)
-  after_row (Some q) is =
+  after_heard quiet None is = absurd (none_some k is)
+  after_heard quiet (Some q) is =
       ap (λ (u : Consumer). Some (consumer_settled t e c u (consumer_acted t e c (consumer_heard t e c e.event u)))) (some_inj q k is)
-      ∙ ap (λ u. Some (consumer_settled t e c k u)) (ap (consumer_acted t e c) (heard e.event off) ∙ acted)
+      ∙ ap (λ u. Some (consumer_settled t e c k u)) (ap (consumer_acted t e c) quiet ∙ acted)
+
+  module _ (off : is_event_for t c e.event ≡ false) where
+    heard_head : (x : ℕ) (response : Response) (z : Option Exchange) → is_for z c ≡ false → by_head t e c x response z k ≡ k
+    heard_head x response None other = refl
+    heard_head x response (Some w) other = rw other refl
+
+    heard_fault : (x : ℕ) (z : Option Exchange) → is_for z c ≡ false → by_fault c x z k ≡ k
+    heard_fault x None other = refl
+    heard_fault x (Some w) other = rw other refl
+
+    heard : (z : Event) → is_event_for t c z ≡ false → consumer_heard t e c z k ≡ k
+    heard (event.Start d request) other = refl
+    heard (event.Poll d want) other = refl
+    heard (event.Head x response) other = heard_head x response (t.exchange x) other
+    heard (event.Piece x bytes) other = refl
+    heard (event.End x) other = refl
+    heard (event.Fault x) other = heard_fault x (t.exchange x) other
+    heard (event.Cancel d) other = rw other refl
+    heard (event.Doom key) other = refl
+
+    after_row : (z : Option Consumer) → z ≡ Some k → consumer_after t e c z ≡ Some (if starts_over t e c k then back_in_line e.now k else beside t e c k)
+    after_row = after_heard (heard e.event off)
 
 standing : (limits : Limits) (t : Tables) (now : ℕ) (ev : Event) (flaw : Flaw) (e : Entry) → IsEntry limits t now ev flaw e → (e.now ≡ now) × (e.event ≡ ev)
 standing limits t now ev flaw _ frames.whole = (refl, refl)
@@ -138,7 +143,7 @@ standing limits t now ev flaw _ frames.unevicting = (refl, refl)
 pub standers_stay : StandersStay
 standers_stay limits t now ev flaw e is c k row off =
     let same = standing limits t now ev flaw e is in
-    after_row t e c k (ap (is_event_for t c) same.1 ∙ off) (far_by limits t now ev flaw c off e is) (t.consumer c) row
+    after_row t e c k (far_by limits t now ev flaw c off e is) (ap (is_event_for t c) same.1 ∙ off) (t.consumer c) row
     ∙ ap (λ moment. Some (if starts_over t e c k then back_in_line moment k else beside t e c k)) same.0
 
 -- WHY IT STARTS OVER

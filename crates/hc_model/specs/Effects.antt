@@ -1,11 +1,12 @@
 -- What entries do to the tables, one thing at a time.
-use Rattle.std.specs.Prelude.{◌≡◌, ℕ, ◌+◌, List, [], ◌∷◌, Bool, true, false, Option, Some, None, is_none, option_map, bytes_eq, ◌==◌, ◌||◌, ◌&&◌, not, filter, reverse, if◌then◌else◌}
+use Rattle.std.specs.Prelude.{◌≡◌, ℕ, ◌+◌, List, [], ◌∷◌, Bool, true, false, Option, Some, None, is_none, option_map, filter, reverse, bytes_eq, ◌==◌, ◌||◌, ◌&&◌, not, if◌then◌else◌}
 use Rattle.std.specs.Option.{option_or}
 use Rattle.hc_event.specs.declared.event.Event.{Event}
 use Rattle.hc_event.specs.declared.event.Event.TheVariants as event
 use Rattle.hc_event.specs.declared.event.Request.{Request}
 use Rattle.hc_event.specs.declared.event.Response.{Response}
 use Rattle.hc_event.specs.declared.act.Act.{Act}
+use Rattle.hc_event.specs.declared.act.Cause.{Cause}
 use Rattle.hc_event.specs.declared.act.Cause.TheVariants as cause
 use Rattle.hc_event.specs.declared.act.Need.{Need}
 use Rattle.hc_rules.specs.declared.room.Limits.{Limits}
@@ -14,19 +15,19 @@ use Rattle.hc_model.specs.declared.place.Place.TheVariants as place
 use Rattle.hc_model.specs.Answers.{accepted}
 use Rattle.hc_model.specs.Closings.{is_last_reader, awaits}
 use Rattle.hc_model.specs.ConsumerRows.{back_in_line, started}
+use Rattle.hc_model.specs.Currents.{is_number}
 use Rattle.hc_model.specs.Entries.{unanswered}
-use Rattle.hc_model.specs.ExchangeRows.{promise_in}
+use Rattle.hc_model.specs.ExchangeRows.{promise_in, with_piece}
 use Rattle.hc_model.specs.Exchanges.{is_reached, is_headless}
 use Rattle.hc_model.specs.Flaws.{Flaw}
 use Rattle.hc_model.specs.Gone.{is_keepable}
 use Rattle.hc_model.specs.Heads.{updated_head}
 use Rattle.hc_model.specs.Keys.{entry_of}
 use Rattle.hc_model.specs.Reading.{own_open, shared, is_bound_place}
-use Rattle.hc_model.specs.RepresentationRows.{represented, resumes}
+use Rattle.hc_model.specs.RepresentationRows.{represented, resumes, ended}
 use Rattle.hc_model.specs.Rows.{Tables, Exchange, Representation, Consumer}
-use Rattle.hc_model.specs.Tables.{after_accepted, received_in, to_front, added}
-use Rattle.hc_model.specs.Currents.{is_number}
 use Rattle.hc_model.specs.StartingOver.{waits_at}
+use Rattle.hc_model.specs.Tables.{after_accepted, received_in, to_front, added}
 
 -- ONE ROW IS ANOTHER
 
@@ -132,6 +133,45 @@ just_founded now x response w = represented x (unanswered now (event.Head x resp
 abbrev pub with_founding : ℕ → Representation → Tables → Tables
 with_founding x v t =
     record (used_last x (with_representation x (Some v) t)) { founded = x ∷ t.founded }
+-- AN EXCHANGE BRINGS BYTES, AND ENDS
+
+-- the exchange, where these bytes leave it open
+abbrev pub unless_reached : ℕ → List ℕ → Exchange → List ℕ
+unless_reached x bytes w = if (with_piece bytes w).is_open then x ∷ [] else []
+
+abbrev pub at_end : Exchange → Exchange
+at_end w = record w { is_ended = true; is_open = false }
+
+-- what an exchange founded, if anything, is as long as what came, where nothing told its length
+abbrev pub with_length : ℕ → ℕ → Tables → Tables
+with_length x n t = record t {
+  representation = λ q.
+      if x == q then option_map (ended n) (t.representation q) else t.representation q;
+}
+
+-- A FAILURE BECOMES DUE
+
+-- if there is one, and none is due
+abbrev pub failing : Option Cause → Consumer → Consumer
+failing why k = record k { due = option_or k.due why }
+
+abbrev pub with_due : ℕ → Option Cause → Tables → Tables
+with_due c why t = record t {
+  consumer = λ d. if c == d then option_map (failing why) (t.consumer d) else t.consumer d;
+}
+
+abbrev pub if_bound : ℕ → (Consumer → Consumer) → Consumer → Consumer
+if_bound r change k = if is_bound_place r k.place then change k else k
+
+-- for whoever is bound to r
+abbrev pub with_dues : ℕ → Option Cause → Tables → Tables
+with_dues r why t = record t {
+  consumer = λ d. option_map (if_bound r (failing why)) (t.consumer d);
+}
+
+-- it is to be told that it failed, and reads nothing
+abbrev pub put_down : Cause → Consumer → Consumer
+put_down why k = record k { place = place.Down why; due = None }
 
 -- LETTING GO
 
@@ -238,9 +278,6 @@ left_with r alone writer d k =
     if is_number alone d then record k { own = writer }
     else record k { due = option_or k.due (Some (cause.StoreWrite r)) }
 
-abbrev pub if_bound : ℕ → (Consumer → Consumer) → Consumer → Consumer
-if_bound r change k = if is_bound_place r k.place then change k else k
-
 -- the shared writing of r is lost
 abbrev pub writing_lost : ℕ → Option ℕ → Option ℕ → Tables → Tables
 writing_lost r alone writer t = record t {
@@ -250,6 +287,12 @@ writing_lost r alone writer t = record t {
 -- its exchange, where nobody goes on
 abbrev pub unless_survived : Option ℕ → Option ℕ → List ℕ
 unless_survived alone writer = added (if is_none alone then writer else None) []
+
+abbrev pub with_loss : ℕ → Option ℕ → Tables → Tables
+with_loss r alone t = record t {
+  representation = λ q.
+      if r == q then option_map (lost_to alone) (t.representation q) else t.representation q;
+}
 
 -- AN EVENT
 

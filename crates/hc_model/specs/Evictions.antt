@@ -1,7 +1,6 @@
 -- What makes room comes last: an entry does what it does without it, and then each of what it evicts goes, one after another.
-use Rattle.std.specs.Prelude.{◌≡◌, ℕ, ◌+◌, ◌-◌, ◌<◌, ◌≤◌, List, [], ◌∷◌, ◌++◌, length, map, filter, Bool, true, false, Option, Some, None, if◌then◌else◌, ◌==◌, ◌||◌, not}
+use Rattle.std.specs.Prelude.{◌≡◌, ℕ, ◌+◌, ◌-◌, ◌<◌, ◌≤◌, List, [], ◌∷◌, ◌++◌, length, map, filter, Bool, true, false, Option, Some, None, if◌then◌else◌, ◌==◌, not}
 use Rattle.std.specs.List.{sum_by}
-use Rattle.std.specs.Option.{option_map}
 use Rattle.hc_event.specs.declared.act.Act.{Act}
 use Rattle.hc_event.specs.declared.act.Act.TheVariants as act
 use Rattle.hc_event.specs.declared.event.Event.{Event}
@@ -9,20 +8,18 @@ use Rattle.hc_rules.specs.declared.room.Limits.{Limits}
 use Rattle.hc_rules.specs.declared.room.Room.TheVariants as room
 use Rattle.hc_rules.specs.declared.room.Write.{Write}
 use Rattle.hc_rules.specs.Rooms.{grown_by, is_too_large}
-use Rattle.hc_model.specs.declared.place.Place.{Place}
-use Rattle.hc_model.specs.declared.place.Place.TheVariants as place
 use Rattle.hc_model.specs.Answers.{accepted, said, lost, closed, is_asked}
-use Rattle.hc_model.specs.ConsumerRows.{back_in_line}
 use Rattle.hc_model.specs.Contents.{idle_now}
 use Rattle.hc_model.specs.Currents.{current}
 use Rattle.hc_model.specs.Denials.{denial, live}
+use Rattle.hc_model.specs.Effects.{let_go, let_all_go}
 use Rattle.hc_model.specs.Entries.{Entry, unanswered}
 use Rattle.hc_model.specs.Flaws.{Flaw, flaw_in}
 use Rattle.hc_model.specs.Gone.{goes_itself}
 use Rattle.hc_model.specs.Keys.{entry_of}
 use Rattle.hc_model.specs.Owners.{Owners}
 use Rattle.hc_model.specs.Reading.{bound}
-use Rattle.hc_model.specs.Rows.{Tables, Representation, Consumer}
+use Rattle.hc_model.specs.Rows.{Tables, Representation}
 use Rattle.hc_model.specs.Runs.{may_be}
 use Rattle.hc_model.specs.Sound.{Sound, OneCurrent}
 use Rattle.hc_model.specs.Tables.{after_accepted}
@@ -30,29 +27,13 @@ use Rattle.hc_model.specs.Weights.{weight, weights, idle, write_in, room_for, ev
 
 -- WHAT AN EVICTION DOES
 
-abbrev pub gone_if : Bool → Representation → Representation
-gone_if b v = record v { is_gone = b || v.is_gone }
-
--- it was let through to r
-abbrev pub has_passed_to : ℕ → Place → Bool
-has_passed_to r (place.Passed q kept) = r == q
-has_passed_to r _ = false
-
--- whoever was let through to r starts over
-abbrev pub sent_back : ℕ → ℕ → Consumer → Consumer
-sent_back now r k = if has_passed_to r k.place then back_in_line now k else k
-
--- r is gone, and whoever was let through to it starts over
+-- r is let go at the moment of these tables
 abbrev pub evict : ℕ → Tables → Tables
-evict r t = record t {
-  representation = λ q. option_map (gone_if (r == q)) (t.representation q);
-  consumer = λ c. option_map (sent_back t.moment r) (t.consumer c);
-}
+evict r t = let_go t.moment r t
 
 -- one after another
 abbrev pub evict_all : List ℕ → Tables → Tables
-evict_all [] t = t
-evict_all (r ∷ rs) t = evict_all rs (evict r t)
+evict_all rs t = let_all_go t.moment rs t
 
 abbrev pub unless_it : ℕ → Option ℕ → Option ℕ
 unless_it r None = None

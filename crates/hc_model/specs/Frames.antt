@@ -16,8 +16,9 @@ use Rattle.hc_model.specs.ConsumerRows.{own_after, due_after, back_in_line}
 use Rattle.hc_model.specs.Currents.{current, is_current, is_number}
 use Rattle.hc_model.specs.Denials.{denial}
 use Rattle.hc_model.specs.Dooms.{doomed, bypassed}
+use Rattle.hc_model.specs.Effects.{waits_for}
 use Rattle.hc_model.specs.Entries.{Entry}
-use Rattle.hc_model.specs.Evictions.{has_passed_to, unevicting_entry}
+use Rattle.hc_model.specs.Evictions.{unevicting_entry}
 use Rattle.hc_model.specs.Exchanges.{family, exchange_in, is_for}
 use Rattle.hc_model.specs.Flaws.{Flaw}
 use Rattle.hc_model.specs.Gone.{becomes_gone, goes_in, goes_by_case, is_current_of, is_keepable, stops_early}
@@ -238,7 +239,7 @@ goes_back t e c (Some k) = starts_over t e c k
 
 abbrev pub has_passed_in : ℕ → Option Consumer → Bool
 has_passed_in r None = false
-has_passed_in r (Some k) = has_passed_to r k.place
+has_passed_in r (Some k) = waits_for r k.place
 
 -- At another's event one is bound, or was let through, to what it was before, unless it starts over.
 pub record StandsStill (t u : Tables) (e : Entry) (c : ℕ) : Type 0 where

@@ -1,13 +1,13 @@
--- A line whose consumers come back, seat by seat.
+-- A line whose consumers come back, seat by seat: all of them, or those that passed.
 use Rattle.std.proofs.Common.{◌≡◌, ℕ, ◌+◌, ◌<◌, List, [], Bool, true, false, not, eqb, Option, Some, None, refl, sym, ap, ◌∙◌, inl, inr, arith}
 use Rattle.std.specs.Prelude.{◌||◌}
 use Rattle.std.proofs.lemmas.Bool.{cases_Bool, cases_eq, eqb-true, eqb-false}
 use Rattle.hc_rising.specs.Rising.{rises, is_at as numbered, without}
 use Rattle.hc_rising.proofs.RisingLemmas.{has-with, has-without, rises-with, rises-filter}
 use Rattle.hc_entry.specs.Users.{itself}
-use Rattle.hc_entry.specs.Lines.{Line, is_among, is_in, come_back, all_back, consumer_at, IsOrderly, AllArePlacedBelow}
+use Rattle.hc_entry.specs.Lines.{Line, is_among, is_in, released, come_back, all_back, passed_back, stands, consumer_at, merged, IsOrderly, AllArePlacedBelow}
 use Rattle.hc_entry.proofs.SeatLemmas.{same_members}
-use Rattle.hc_entry.proofs.OrderLemmas.{gone, stays-out, no-members, rises-all, among-all}
+use Rattle.hc_entry.proofs.OrderLemmas.{gone, stays-out, no-members, rises-all, rises-passed, among-all, among-merged, orderly-back}
 
 -- Those with a place below i are in line again.
 pub record AreBackBelow (i : ℕ) (old l : Line) : Type 0 where
@@ -38,6 +38,15 @@ kept-in c d l is = elim (cases_Bool (eqb c d)) [
       rw (has-with itself d c (without itself c l.in_line), has-without itself d c l.in_line, has-without itself d c l.passed, has-without itself d c l.away, off) refl
 ]
 
+-- the place of another one is earlier
+earlier : (i c : ℕ) (l : Line) → consumer_at l i ≡ Some c → (k d : ℕ) → k < i + 1 → consumer_at l k ≡ Some d → (c ≡ d → ⊥) → k < i
+earlier i c l there k d below has off = elim (cases_eq k i) [
+  | inl on ↦ let here = ap (consumer_at l) on ∙ there in let same : c ≡ d = one (consumer_at l k) here has in absurd (off same)
+  | inr other ↦ omega arith
+] where
+  one : (o : Option ℕ) → o ≡ Some c → o ≡ Some d → c ≡ d
+  one o a b = cc
+
 pub back-next : (i c : ℕ) (old l : Line) → AreBackBelow i old l → consumer_at l i ≡ Some c → is_in c l ≡ true → AreBackBelow (i + 1) old (come_back c l)
 back-next i c old l was there is = record {
   same = λ d. kept-in c d l is ∙ was.same d;
@@ -51,17 +60,10 @@ back-next i c old l was there is = record {
           ap (λ (n : ℕ). is_among n (without itself c l.away)) (sym same) ∙ gone c l.away,
         )
     | inr off ↦
-        let (out, away) = was.back k d (earlier k d below has (eqb-false c d off)) has in
+        let (out, away) = was.back k d (earlier i c l there k d below has (eqb-false c d off)) has in
         (stays-out c d l.passed out, stays-out c d l.away away)
   ];
-} where
-  earlier : (k d : ℕ) → k < i + 1 → consumer_at l k ≡ Some d → (c ≡ d → ⊥) → k < i
-  earlier k d below has off = elim (cases_eq k i) [
-    | inl on ↦ let here = ap (consumer_at l) on ∙ there in let same : c ≡ d = one (consumer_at l k) here has in absurd (off same)
-    | inr other ↦ omega arith
-  ] where
-    one : (o : Option ℕ) → o ≡ Some c → o ≡ Some d → c ≡ d
-    one o a b = cc
+}
 
 pub back-empty : (i : ℕ) (old l : Line) → AreBackBelow i old l → consumer_at l i ≡ None → AreBackBelow (i + 1) old l
 back-empty i old l was none = record {
@@ -118,3 +120,117 @@ back-all n old l o was placed =
 
       in_line : l.in_line ≡ (all_back old).in_line
       in_line = same_members l.in_line (all_back old).in_line was.rising (rises-all old o) (λ d. members d ∙ (was.same d ∙ sym (among-all d old)))
+
+-- THOSE THAT PASSED
+
+-- Those of them with a place below i are in line again.
+pub record ArePassedBackBelow (i : ℕ) (old l : Line) : Type 0 where
+  pub orderly : IsOrderly l
+  pub same : (d : ℕ) → is_among d l.in_line || is_among d l.passed ≡ is_among d old.in_line || is_among d old.passed
+  pub away : l.away ≡ old.away
+  pub holder : l.holder ≡ old.holder
+  pub places : l.places ≡ old.places
+  pub back : (k d : ℕ) → k < i → consumer_at l k ≡ Some d → is_among d l.passed ≡ false
+
+pub passed-back-none : (old : Line) → IsOrderly old → ArePassedBackBelow 0 old old
+passed-back-none old o = record {
+  orderly = o;
+  same = λ d. refl;
+  away = refl;
+  holder = refl;
+  places = refl;
+  back = λ k d below is. absurd (omega arith);
+}
+
+-- one that isn't among them is taken out of the list, which rises
+without-absent : (c : ℕ) (cs : List ℕ) → rises itself cs ≡ true → is_among c cs ≡ false → without itself c cs ≡ cs
+without-absent c cs rise out =
+    same_members (without itself c cs) cs (rises-filter itself (λ (x : ℕ). not (numbered itself c x)) cs rise) rise (λ d. elim (cases_Bool (eqb c d)) [
+      | inl on ↦ rw (has-without itself d c cs, on) (sym (ap (λ (n : ℕ). is_among n cs) (sym (eqb-true c d on)) ∙ out))
+      | inr off ↦ rw (has-without itself d c cs, off) refl
+    ])
+
+still-held : (c : ℕ) (h : Option ℕ) (cs : List ℕ) → stands h cs ≡ true → is_among c cs ≡ false → released c h ≡ h
+still-held c None cs is out = refl
+still-held c (Some d) cs is out = elim (cases_Bool (eqb d c)) [
+  | inl on ↦ let in_it = ap (λ (n : ℕ). is_among n cs) (eqb-true d c on) in absurd (cc)
+  | inr off ↦ rw off refl
+]
+
+turned-false : (a b : Bool) → (a ≡ true → b ≡ false) → b ≡ true → a ≡ false
+turned-false true b off on = let h = off refl in absurd (cc)
+turned-false false b off on = refl
+
+pub passed-back-next : (i c : ℕ) (old l : Line) → ArePassedBackBelow i old l → consumer_at l i ≡ Some c → is_among c l.passed ≡ true → ArePassedBackBelow (i + 1) old (come_back c l)
+passed-back-next i c old l was there is = record {
+  orderly = orderly-back c l was.orderly;
+  same = λ d. elim (cases_Bool (eqb c d)) [
+    | inl on ↦
+        let same = eqb-true c d on in
+        let passed : is_among d l.passed ≡ true = ap (λ (n : ℕ). is_among n l.passed) (sym same) ∙ is in
+        rw (has-with itself d c (without itself c l.in_line), on) (sym (sym (was.same d) ∙ rw passed (either (is_among d l.in_line))))
+    | inr off ↦
+        rw (has-with itself d c (without itself c l.in_line), has-without itself d c l.in_line, has-without itself d c l.passed, off) (was.same d)
+  ];
+  away = without-absent c l.away was.orderly.away (was.orderly.passed_or_away c is) ∙ was.away;
+  holder = still-held c l.holder l.in_line was.orderly.holder (turned-false (is_among c l.in_line) (is_among c l.passed) (was.orderly.in_line_or_passed c) is) ∙ was.holder;
+  places = was.places;
+  back = λ k d below has. elim (cases_Bool (eqb c d)) [
+    | inl on ↦ ap (λ (n : ℕ). is_among n (without itself c l.passed)) (sym (eqb-true c d on)) ∙ gone c l.passed
+    | inr off ↦ stays-out c d l.passed (was.back k d (earlier i c l there k d below has (eqb-false c d off)) has)
+  ];
+} where
+  either : (b : Bool) → b || true ≡ true
+  either true = refl
+  either false = refl
+
+-- nobody at the place, or one that didn't pass
+pub passed-back-stays : (i : ℕ) (old l : Line) → ArePassedBackBelow i old l → ((d : ℕ) → consumer_at l i ≡ Some d → is_among d l.passed ≡ false) → ArePassedBackBelow (i + 1) old l
+passed-back-stays i old l was out = record {
+  orderly = was.orderly;
+  same = was.same;
+  away = was.away;
+  holder = was.holder;
+  places = was.places;
+  back = λ k d below has. elim (cases_eq k i) [
+    | inl on ↦ out d (ap (consumer_at l) (sym on) ∙ has)
+    | inr other ↦ was.back k d (omega arith) has
+  ];
+}
+
+pub passed-back-all : (n : ℕ) (old l : Line) → IsOrderly old → ArePassedBackBelow n old l → AllArePlacedBelow n old → l ≡ passed_back old
+passed-back-all n old l o was placed = same-line l (passed_back old) in_line passed was.away was.holder was.places where
+  out : (d : ℕ) → is_among d l.passed ≡ true → is_among d l.passed ≡ false
+  out d is =
+      let inside : is_in d old ≡ true = within (is_among d old.in_line || is_among d old.passed) (is_among d old.away) (sym (was.same d) ∙ rw is (either (is_among d l.in_line))) in
+      let (k, below, there) = placed d inside in
+      was.back k d below (ap (λ (s : List (Option ℕ)). consumer_at (record l { places = s }) k) was.places ∙ there)
+    where
+      either : (b : Bool) → b || true ≡ true
+      either true = refl
+      either false = refl
+
+      within : (a w : Bool) → a ≡ true → a || w ≡ true
+      within a w on = rw on refl
+
+  passed : l.passed ≡ []
+  passed = no-members l.passed (λ d. elim (cases_Bool (is_among d l.passed)) [ inl on ↦ out d on | inr off ↦ off ])
+
+  turned : (a b : Bool) → a || b ≡ b || a
+  turned true true = refl
+  turned true false = refl
+  turned false true = refl
+  turned false false = refl
+
+  alone : (a : Bool) → a ≡ a || false
+  alone true = refl
+  alone false = refl
+
+  members : (d : ℕ) → is_among d l.in_line ≡ is_among d (merged old.passed old.in_line)
+  members d =
+      alone (is_among d l.in_line)
+      ∙ (ap (λ (cs : List ℕ). is_among d l.in_line || is_among d cs) (sym passed)
+      ∙ (was.same d ∙ (turned (is_among d old.in_line) (is_among d old.passed) ∙ sym (among-merged d old.passed old.in_line))))
+
+  in_line : l.in_line ≡ merged old.passed old.in_line
+  in_line = same_members l.in_line (merged old.passed old.in_line) was.orderly.in_line (rises-passed old o) members

@@ -12,10 +12,10 @@ use Rattle.hc_entry.specs.declared.rows.KeyRow.{KeyRow}
 use Rattle.hc_entry.specs.declared.seat.Stand.{Stand}
 use Rattle.hc_entry.specs.declared.seat.Stand.TheVariants as stand
 use Rattle.hc_entry.specs.Seats.{moved_to}
-use Rattle.hc_entry.specs.Lines.{Line, is_in, queued, all_back, IsOrderly}
-use Rattle.hc_entry.specs.Kept.{Kept, line_in, kept_in, on_line, is_nothing}
+use Rattle.hc_entry.specs.Lines.{Line, is_in, is_empty, queued, all_back, passed_back, IsOrderly}
+use Rattle.hc_entry.specs.Kept.{Kept, line_in, kept_in, on_line, with_current, is_nothing}
 use Rattle.hc_entry.specs.KeyRows.{Rows, row_at, rows_of, kept_by, RowChanges, RowsStay, IsTidyAt, IsTidy, AreOrderly}
-use Rattle.hc_entry.proofs.OrderLemmas.{in-some, in-queued, orderly-queued, empty-all}
+use Rattle.hc_entry.proofs.OrderLemmas.{in-some, in-queued, orderly-queued, empty-all, empty-passed-back}
 
 abbrev pub is_same : Vec ℕ Global → Vec ℕ Global → Bool
 is_same x y = pointwise nat_eq x.items y.items
@@ -121,6 +121,21 @@ rows-tidy old new same was k none = same k ∙ was k (ap (λ (o : Option KeyRow)
 pub rows-orderly : (old new : Rows) → RowsStay old new → AreOrderly old → AreOrderly new
 rows-orderly old new same was k = subst (λ (o : Option KeyRow). IsOrderly (line_in (kept_by o))) (sym (same k)) (was k)
 
+pub some-current : (r : ℕ) (k : Kept) → is_nothing (with_current (Some r) k) ≡ false
+some-current r k = by_test (is_empty (line_in k)) where
+  by_test : (b : Bool) → b && not true ≡ false
+  by_test true = refl
+  by_test false = refl
+
+-- the rows with one that is current, or as they are
+pub made-current : {X E : Type 0} (o : Result X E) (r : ℕ) (key : List ℕ) (old new : Rows)
+    → OnOk o (RowChanges (with_current (Some r)) key old new) → OnErr o (RowsStay old new) → IsTidy old → AreOrderly old → IsTidy new × AreOrderly new
+made-current (Ok x) r key old new ok err tidy orderly = (
+  tidy-some (with_current (Some r)) key old new ok tidy (some-current r (rows_of old key)),
+  orderly-changes (with_current (Some r)) key old new ok orderly (orderly key),
+)
+made-current (Err e) r key old new ok err tidy orderly = (rows-tidy old new err tidy, rows-orderly old new err orderly)
+
 -- the rows as they are entered, or stay
 pub entered : {X E : Type 0} (r : Result X E) (c : ℕ) (key : List ℕ) (old new : Rows) → is_in c (line_in (rows_of old key)) ≡ false
     → OnOk r (RowChanges (on_line (queued c)) key old new) → OnErr r (RowsStay old new) → IsTidy old → AreOrderly old → IsTidy new × AreOrderly new
@@ -133,6 +148,9 @@ entered (Err e) c key old new out ok err tidy orderly = (rows-tidy old new err t
 
 pub nothing-all : (k : Kept) → is_nothing (on_line all_back k) ≡ is_nothing k
 nothing-all k = ap (λ (b : Bool). b && not (is_some k.current)) (empty-all (line_in k))
+
+pub nothing-passed-back : (k : Kept) → is_nothing (on_line passed_back k) ≡ is_nothing k
+nothing-passed-back k = ap (λ (b : Bool). b && not (is_some k.current)) (empty-passed-back (line_in k))
 
 pub on-err : {X E : Type 0} (P : Type 0) (r : Result X E) → P → OnErr r P
 on-err P (Ok x) holds = tt

@@ -1,11 +1,11 @@
 -- Lists of a line that rise, and in no two of which one stands.
-use Rattle.std.proofs.Common.{◌≡◌, ℕ, suc, ◌+◌, List, [], ◌∷◌, length, Bool, true, false, not, eqb, Some, refl, sym, ap, ◌∙◌, inl, inr, arith}
+use Rattle.std.proofs.Common.{◌≡◌, ℕ, suc, ◌+◌, List, [], ◌∷◌, length, Bool, true, false, not, eqb, Option, Some, None, refl, sym, ap, ◌∙◌, inl, inr, arith}
 use Rattle.std.specs.Prelude.{◌||◌, nat_le}
 use Rattle.std.proofs.lemmas.Bool.{cases_Bool, eqb-true, eq-eqb, ne_eqb}
 use Rattle.hc_rising.specs.Rising.{rises, is_at as numbered, with_item, without}
 use Rattle.hc_rising.proofs.RisingLemmas.{rises-above, has-above, has-with, has-without, rises-with, rises-filter}
 use Rattle.hc_entry.specs.Users.{itself}
-use Rattle.hc_entry.specs.Lines.{Line, nobody, is_among, is_in, is_empty, merged, all_back, apart, queued, passed, gone_away, come_back, held_by, turn_of, IsOrderly}
+use Rattle.hc_entry.specs.Lines.{Line, nobody, is_among, is_in, is_empty, merged, all_back, passed_back, apart, queued, passed, gone_away, come_back, held_by, turn_of, stands, IsOrderly}
 use Rattle.hc_entry.proofs.LineLemmas.{stands-left, stands-with, stands-held}
 
 flip : (a b : Bool) → (a ≡ true → b ≡ false) → b ≡ true → a ≡ false
@@ -168,10 +168,12 @@ rises-merged (d ∷ ds) cs up rise apart =
     let out = has-above itself d d ds (omega arith) up in
     rises-with itself d (merged ds cs) tail (among-merged d ds cs ∙ or-false (is_among d ds) (is_among d cs) out (apart d (first-in d ds)))
 
+pub rises-passed : (l : Line) → IsOrderly l → rises itself (passed_back l).in_line ≡ true
+rises-passed l o = rises-merged l.passed l.in_line o.passed o.in_line (λ c is. flip (is_among c l.in_line) (is_among c l.passed) (o.in_line_or_passed c) is)
+
 pub rises-all : (l : Line) → IsOrderly l → rises itself (all_back l).in_line ≡ true
 rises-all l o =
-    let first = rises-merged l.passed l.in_line o.passed o.in_line (λ c is. flip (is_among c l.in_line) (is_among c l.passed) (o.in_line_or_passed c) is) in
-    rises-merged l.away (merged l.passed l.in_line) o.away first
+    rises-merged l.away (merged l.passed l.in_line) o.away (rises-passed l o)
     (λ c is. among-merged c l.passed l.in_line ∙ or-false (is_among c l.passed) (is_among c l.in_line)
     (flip (is_among c l.passed) (is_among c l.away) (o.passed_or_away c) is) (flip (is_among c l.in_line) (is_among c l.away) (o.in_line_or_away c) is))
 
@@ -198,6 +200,27 @@ orderly-all l o = record {
   passed_or_away = λ c is. refl;
   holder = refl;
 }
+
+pub stands-merged : (h : Option ℕ) (ds cs : List ℕ) → stands h cs ≡ true → stands h (merged ds cs) ≡ true
+stands-merged None ds cs is = refl
+stands-merged (Some c) ds cs is = among-merged c ds cs ∙ rw is (either (is_among c ds)) where
+  either : (b : Bool) → b || true ≡ true
+  either true = refl
+  either false = refl
+
+pub orderly-passed-back : (l : Line) → IsOrderly l → IsOrderly (passed_back l)
+orderly-passed-back l o = record {
+  in_line = rises-passed l o;
+  passed = refl;
+  away = o.away;
+  in_line_or_passed = λ c is. refl;
+  in_line_or_away = λ c is. from (is_among c l.passed) (is_among c l.in_line) (o.passed_or_away c) (o.in_line_or_away c) (sym (among-merged c l.passed l.in_line) ∙ is);
+  passed_or_away = λ c is. absurd (cc);
+  holder = stands-merged l.holder l.passed l.in_line o.holder;
+} where
+  from : {w : Bool} (p i : Bool) → (p ≡ true → w ≡ false) → (i ≡ true → w ≡ false) → p || i ≡ true → w ≡ false
+  from true i a b is = a refl
+  from false i a b is = b is
 
 -- a list without members
 pub no-members : (cs : List ℕ) → ((c : ℕ) → is_among c cs ≡ false) → cs ≡ []
@@ -240,6 +263,11 @@ pub empty-all : (l : Line) → is_empty (all_back l) ≡ is_empty l
 empty-all l = ap (λ (n : ℕ). eqb n 0) count where
   count : length (merged l.away (merged l.passed l.in_line)) + 0 + 0 ≡ length l.in_line + length l.passed + length l.away
   count = let h = length-merged l.away (merged l.passed l.in_line) in let k = length-merged l.passed l.in_line in omega arith
+
+pub empty-passed-back : (l : Line) → is_empty (passed_back l) ≡ is_empty l
+empty-passed-back l = ap (λ (n : ℕ). eqb n 0) count where
+  count : length (merged l.passed l.in_line) + 0 + length l.away ≡ length l.in_line + length l.passed + length l.away
+  count = let k = length-merged l.passed l.in_line in omega arith
 
 pub in-queued : (c : ℕ) (l : Line) → is_in c (queued c l) ≡ true
 in-queued c l = rw (with-in c c l.in_line, eq-eqb c c refl) refl

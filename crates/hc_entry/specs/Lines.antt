@@ -79,6 +79,10 @@ all_back l = record l {
   holder = None;
 }
 
+-- whoever passed stands in line
+abbrev pub passed_back : Line → Line
+passed_back l = record l { in_line = merged l.passed l.in_line; passed = [] }
+
 -- One more is in line, at a place that nobody had; the others keep theirs.
 pub record Enters (c place : ℕ) (old new : Line) : Type 0 where
   pub line : new ≡ (let more = queued c old in record more { places = new.places })

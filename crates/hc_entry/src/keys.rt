@@ -1,12 +1,13 @@
 //! What is kept by key.
 ghost use Rattle.std.specs.Prelude.{◌≡◌, ℕ, List, Some, None, true, false, IfSome, OnOk, OnErr};
 ghost use Rattle.hc_entry.specs.Seats.{stand_in};
-ghost use Rattle.hc_entry.specs.Lines.{is_in, turn_of, turn_with, queued, held_by, passed, gone_away, come_back, left_by, all_back};
+ghost use Rattle.hc_entry.specs.Lines.{is_in, turn_of, turn_with, queued, held_by, passed, gone_away, come_back, left_by, all_back, passed_back};
 ghost use Rattle.hc_entry.specs.Kept.{nothing, on_line, with_current, IsAwaited};
 ghost use Rattle.hc_entry.specs.KeyRows.{IsTidy, AreOrderly};
 
 use crate::rows::{
-    KeyRow, all_back_in, current_in, enter_in, hold_in, leave_in, reseat_in, row_in, tidy_in,
+    KeyRow, all_back_in, current_in, enter_in, hold_in, leave_in, make_current_in, passed_back_in,
+    reseat_in, row_in, tidy_in,
 };
 use crate::seat::Stand;
 use hc_text::{Key, NoMemory};
@@ -145,6 +146,13 @@ impl KeyTable {
         all_back_in(&mut self.rows, key);
     }
 
+    /// Whoever passed for the key is in line.
+    pub fn passed_back(&mut self, key: &Key)
+        ensures { Becomes (on_line passed_back) key.now self.old self.new }
+    {
+        passed_back_in(&mut self.rows, key);
+    }
+
     /// The consumer waits for the key no more.
     pub fn leave(&mut self, key: &Key, c: u64)
         requires { is_in c (line_of self.old key.now) ≡ true }
@@ -160,6 +168,14 @@ impl KeyTable {
         ensures { Becomes (with_current (Some r)) key.now self.old self.new }
     {
         current_in(&mut self.rows, key, Some(r));
+    }
+
+    /// The representation is current, also where nobody waits for the key.
+    pub fn make_current(&mut self, key: &Key, r: u64) -> Result<(), NoMemory>
+        ensures ok { OnOk result (Becomes (with_current (Some r)) key.now self.old self.new) }
+        ensures err { OnErr result (Stays self.old self.new) }
+    {
+        make_current_in(self.alloc, &mut self.rows, key, r)
     }
 
     /// No representation is current.

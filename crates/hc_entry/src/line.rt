@@ -4,7 +4,7 @@ ghost use Rattle.std.specs.Bool.{OnTrue};
 ghost use Rattle.std.specs.Map.{keys_of};
 ghost use Rattle.std.specs.HashMap.{IsUnique};
 ghost use Rattle.hc_entry.specs.Seats.{seat_of, stand_in, moved_to};
-ghost use Rattle.hc_entry.specs.Lines.{nobody, is_in, is_empty, queued, passed, gone_away, come_back, all_back, held_by, left_by, turn_of, turn_with, released, consumer_at, Enters, AllArePlacedBelow, IsItsPlace};
+ghost use Rattle.hc_entry.specs.Lines.{nobody, is_among, is_in, is_empty, queued, passed, gone_away, come_back, all_back, passed_back, held_by, left_by, turn_of, turn_with, released, consumer_at, Enters, AllArePlacedBelow, IsItsPlace};
 
 use crate::seat::{Seat, Stand};
 use crate::tournament::Tournament;
@@ -181,6 +181,30 @@ impl KeyLine {
             if let Some(c) = self.seated(i) {
                 self.back(c);
             }
+        }
+    }
+
+    /// Whoever passed is in line.
+    pub fn passed_back(&mut self)
+        ensures { self.new ≡ passed_back self.old }
+    {
+        let _ = &self.seats;
+        for place in 0..self.seats() {
+            if let Some(c) = self.seated(place) {
+                if self.has_passed(c) {
+                    self.back(c);
+                }
+            }
+        }
+    }
+
+    /// Whether the consumer passed.
+    fn has_passed(&self, c: u64) -> bool
+        ensures { result ≡ is_among c self.now.passed }
+    {
+        match self.seats.get(&c) {
+            Some(seat) => seat.stand.is_passed(),
+            None => false,
         }
     }
 

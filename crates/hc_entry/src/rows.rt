@@ -3,7 +3,7 @@ ghost use Rattle.std.specs.Prelude.{◌≡◌, Some, None, true, false, is_some,
 ghost use Rattle.std.specs.Bool.{OnTrue};
 ghost use Rattle.std.specs.Option.{option_copied};
 ghost use Rattle.hc_entry.specs.Seats.{moved_to};
-ghost use Rattle.hc_entry.specs.Lines.{is_in, turn_of, queued, held_by, left_by, all_back};
+ghost use Rattle.hc_entry.specs.Lines.{is_in, turn_of, queued, held_by, left_by, all_back, passed_back};
 ghost use Rattle.hc_entry.specs.Kept.{nothing, on_line, line_in, with_current, is_nothing, IsAwaited};
 ghost use Rattle.hc_entry.specs.KeyRows.{row_at, rows_of, RowChanges, RowsStay, IsTidyAt};
 
@@ -101,6 +101,16 @@ pub(crate) fn all_back_in(rows: &mut HashMap<Vec<u8>, KeyRow>, key: &Key)
     }
 }
 
+/// Whoever passed is in line.
+pub(crate) fn passed_back_in(rows: &mut HashMap<Vec<u8>, KeyRow>, key: &Key)
+    ensures changes { RowChanges (on_line passed_back) key.now rows.old rows.new }
+    ensures absent { row_at rows.old key.now ≡ None → row_at rows.new key.now ≡ None }
+{
+    if let Some(row) = rows.get_mut(key.bytes.as_slice()) {
+        row.line.passed_back();
+    }
+}
+
 /// The consumer waits no more.
 pub(crate) fn leave_in(rows: &mut HashMap<Vec<u8>, KeyRow>, key: &Key, c: u64)
     requires { is_in c (line_in (rows_of rows.old key.now)) ≡ true }
@@ -120,6 +130,29 @@ pub(crate) fn current_in(rows: &mut HashMap<Vec<u8>, KeyRow>, key: &Key, r: Opti
     if let Some(row) = rows.get_mut(key.bytes.as_slice()) {
         row.current = r;
     }
+}
+
+/// This is current. Where nothing is kept of the key, that wants memory.
+pub(crate) fn make_current_in(
+    alloc: Global,
+    rows: &mut HashMap<Vec<u8>, KeyRow>,
+    key: &Key,
+    r: u64,
+) -> Result<(), NoMemory>
+    ensures ok { OnOk result (RowChanges (with_current (Some r)) key.now rows.old rows.new) }
+    ensures err { OnErr result (RowsStay rows.old rows.new) }
+{
+    if let Some(row) = rows.get_mut(key.bytes.as_slice()) {
+        row.current = Some(r);
+        return Ok(());
+    }
+    let bytes = key.bytes.to_vec(alloc)?;
+    let row = KeyRow {
+        line: KeyLine::new(alloc),
+        current: Some(r),
+    };
+    rows.insert(bytes, row)?;
+    Ok(())
 }
 
 /// Whether nothing is kept.

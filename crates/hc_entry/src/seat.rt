@@ -1,6 +1,7 @@
 //! The seat of a consumer in a line.
 ghost use Rattle.std.specs.Prelude.{◌≡◌};
-ghost use Rattle.hc_entry.specs.Seats.{called_at};
+ghost use Rattle.hc_entry.specs.Seats.{called_at, is_same_stand};
+ghost use Rattle.hc_entry.specs.declared.seat.Stand.TheVariants as stand;
 
 /// Where a consumer of a line stands.
 #[derive(Clone, Copy, Debug, PartialEq, Eq)]
@@ -22,6 +23,13 @@ impl Stand {
             Stand::InLine => Some(c),
             Stand::Passed | Stand::Away => None,
         }
+    }
+
+    /// Whether a consumer that stands there has passed.
+    pub(crate) fn is_passed(self) -> bool
+        ensures { result ≡ is_same_stand self stand.Passed }
+    {
+        matches!(self, Stand::Passed)
     }
 }
 

@@ -13,8 +13,10 @@ enum Move {
     Away(u64),
     Back(u64),
     AllBack,
+    PassedBack,
     Leave(u64),
     Set(u64, u64),
+    Make(u64),
     Clear,
 }
 
@@ -41,6 +43,18 @@ static WALK: &'static [Row] = &[
     Row(true, Move::Clear, None, None),
     Row(true, Move::AllBack, None, None),
     Row(false, Move::Leave(3), None, None),
+    // Whoever passed comes back, and who is away doesn't.
+    Row(true, Move::Enter(4), Some(4), None),
+    Row(true, Move::Enter(5), Some(4), None),
+    Row(true, Move::Enter(6), Some(4), None),
+    Row(true, Move::Away(4), Some(5), None),
+    Row(true, Move::Pass(5), Some(6), None),
+    Row(true, Move::PassedBack, Some(5), None),
+    Row(true, Move::Leave(5), Some(6), None),
+    Row(true, Move::Make(8), Some(6), Some(8)),
+    Row(false, Move::PassedBack, None, None),
+    Row(false, Move::Make(9), None, Some(9)),
+    Row(false, Move::Clear, None, None),
 ];
 
 #[test]
@@ -85,6 +99,7 @@ fn go<R: Abort>(rt: &R, table: &mut KeyTable, key: &Key, step: Move) -> Result<(
             table.back(key, c);
         }
         Move::AllBack => table.all_back(key),
+        Move::PassedBack => table.passed_back(key),
         Move::Leave(c) => {
             assert!(rt; table.is_in(key, c));
             table.leave(key, c);
@@ -93,6 +108,7 @@ fn go<R: Abort>(rt: &R, table: &mut KeyTable, key: &Key, step: Move) -> Result<(
             assert!(rt; table.is_in(key, c));
             table.set_current(key, r);
         }
+        Move::Make(r) => table.make_current(key, r)?,
         Move::Clear => table.clear_current(key),
     }
     Ok(())

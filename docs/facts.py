@@ -484,8 +484,6 @@ class Facts:
                 continue
             c = of(v.alone)
             k = self.K[c]
-            if of(k.due) is not None:
-                continue
             x = of(k.own)
             w, offset = self.W[x], self.offset(t, k)
             base, front = self.base(w), self.front(w)

@@ -22,6 +22,7 @@ use Rattle.hc_model.specs.Currents.{row_of}
 use Rattle.hc_model.specs.Denials.{denial}
 use Rattle.hc_model.specs.Entries.{Entry}
 use Rattle.hc_model.specs.Exchanges.{base, front, length_by}
+use Rattle.hc_model.specs.Failures.{stop_cause, cause_of_head}
 use Rattle.hc_model.specs.Flaws.{Flaw}
 use Rattle.hc_model.specs.Holes.{covers}
 use Rattle.hc_model.specs.Keys.{entry_of}
@@ -42,7 +43,7 @@ use Rattle.hc_model.proofs.BoundFrom as from
 use Rattle.hc_model.proofs.BoundKeeps.{planned_at}
 use Rattle.hc_model.proofs.Covers.{headed_at, offset_more}
 use Rattle.hc_model.proofs.CoversKept.{covered_kept, not_alone}
-use Rattle.hc_model.proofs.Dues.{due_before}
+use Rattle.hc_model.proofs.Dues.{due_before, due_none, undue_of, stop_none, loss_at}
 use Rattle.hc_model.proofs.EventsKeep.{deliveries_are_kept}
 use Rattle.hc_model.proofs.ExchangeFrom.{IsSame, IsHeaded}
 use Rattle.hc_model.proofs.Exclusives.{IsExclusive}
@@ -124,7 +125,7 @@ bare_front z bare empty =
     omega arith
 
 -- who has all the rest has no more to come, without an exchange
-rest_more : (t : Tables) (r : ℕ) (v : Representation) (k : Consumer) → Sound t → t.representation r ≡ Some v → k.own ≡ None → HasRest t v k → has_more t v k ≡ true → ⊥
+pub rest_more : (t : Tables) (r : ℕ) (v : Representation) (k : Consumer) → Sound t → t.representation r ≡ Some v → k.own ≡ None → HasRest t v k → has_more t v k ≡ true → ⊥
 rest_more t r v k s there none rest more =
     let unopened : own_open t k ≡ None = ap (λ (q : Option ℕ). option_and_then (if_open t) q) none in
     let covered : covers v.stored v.reach (offset t k) rest.hi ≡ true = covers_yes v.stored v.reach (offset t k) rest.hi (stored_ends t r v (s.rows r v there)) rest.covered in
@@ -145,6 +146,84 @@ module _ (limits : Limits) (t : Tables) (now : ℕ) (flaw : Flaw) (s : Sound t) 
       by_fills : Fills t e r v p → p.stored ≡ v.stored
       by_fills (fills_by.still none_of body_is stored_is reach_is) = stored_is
       by_fills (fills_by.more y bytes w is body_is stored_is reach_is) = stored_is ∙ ap (λ b. if not b then written (front w) y bytes v.stored else v.stored) lost
+
+  -- whether or not a failure is due
+  module _ (r c lo : ℕ) (hi : Option ℕ) (how : BoundBy) (u : Consumer) (p : Representation) (after : now_on.representation r ≡ Some p) (after_row : now_on.consumer c ≡ Some u) (stands : u.place ≡ place.Bound r lo hi how) (lost_now : p.is_lost ≡ true) (is_alone : p.alone ≡ Some c) where
+    module _ (k : Consumer) (v : Representation) (row : IsRow t e c r lo hi how k u) (at : k.place ≡ place.Bound r lo hi how) (there : t.representation r ≡ Some v) (kept : IsKept t e r v p) where
+      -- a writing that is left to it is lost now
+      pub left_number : (x : ℕ) (q : Consumer) → t.consumer c ≡ Some q → (l : own.IsLeft t e c x (consumer_heard t e c ev q).place) → l.r ≡ r
+      left_number x q q_row l =
+          let brings_one : brings_body ev ≡ true = and_left _ _ (and_left _ _ l.loses) in
+          let placed : u.place ≡ (consumer_heard t e c ev k).place = heard_place limits t now flaw s o ev goes c r lo hi how k u (λ d want polls. false_true (sym (ap brings_body polls) ∙ brings_one)) row in
+          let one : q ≡ k = same_row (t.consumer c) q k q_row row.row in
+          let at_l : (consumer_heard t e c ev k).place ≡ place.Bound l.r l.lo l.hi l.how = ap (λ (b : Consumer). (consumer_heard t e c ev b).place) (sym one) ∙ l.at in
+          (from.place_inj l.r l.lo l.hi l.how r lo hi how (sym at_l ∙ (sym placed ∙ stands))).number
+
+      pub left_loses : (x : ℕ) (q : Consumer) → t.consumer c ≡ Some q → own.IsLeft t e c x (consumer_heard t e c ev q).place → (is_written t v ≡ true) × (loses_in r e.acts ≡ true)
+      left_loses x q q_row l =
+          let number : l.r ≡ r = left_number x q q_row l in
+          let same_v : l.v ≡ v = same_row (t.representation r) l.v v (sym (ap t.representation number) ∙ l.row) there in
+          (ap (is_written t) (sym same_v) ∙ and_right _ _ l.loses, ap (λ n. loses_in n e.acts) (sym number) ∙ and_right _ _ (and_left _ _ l.loses))
+
+      pub unwritten_lost : v.is_lost ≡ true → is_written t v ≡ false
+      unfolding is_written
+      unwritten_lost lost = rw lost refl
+
+      -- who opens an exchange has no failure due
+      hole_undue : (from_at to_at : ℕ) → OpensHole t c k from_at to_at → k.due ≡ None
+      hole_undue from_at to_at (tree.first q y span hole is aims q_row nobody found lo_is hi_is) =
+          let number : r ≡ q = some_inj r q (sym (ap (Rattle.hc_model.specs.ExchangeRows.aim_from t k.request.key) at) ∙ aims) in
+          absurd (bound_some t r c k s.numbered (sound.is_bound lo hi how row.row at) (ap (Rattle.hc_model.specs.Reading.bound t) number ∙ nobody))
+      hole_undue from_at to_at (tree.later q end n y stands_at none_held lo_is up) = stands_at.none_due
+
+      pub opens_undue : (q : Opening) → opening_in e.acts ≡ Some q → q.c ≡ c → u.due ≡ None
+      opens_undue q opens mine =
+          let by_poll = is_opened limits t now flaw s o ev goes q opens in
+          let one : by_poll.k ≡ k = same_row (t.consumer c) by_poll.k k (sym (ap t.consumer mine) ∙ by_poll.row) row.row in
+          let before : k.due ≡ None = by_way (subst (λ (b : Consumer). opened.Way t now c b q.need) one (subst (λ d. opened.Way t now d by_poll.k q.need) mine by_poll.way.way)) in
+          let off : brings_body ev ≡ false = ap brings_body by_poll.at in
+          due_none t e c k (consumer_acted t e c (consumer_heard t e c ev k)) u row.is (ap reads stands) before (undue_of t e c k (record {
+            stop = stop_none t e k (ap (stop_cause t) by_poll.at);
+            loss = loss_at t e c r lo hi how k v at there (rw off refl);
+            head = ap (cause_of_head t e c) by_poll.at;
+          }))
+        where
+          by_way : opened.Way t now c k q.need → k.due ≡ None
+          by_way (opened.passes_by unbound way) = absurd (none_some r (sym unbound ∙ ap bound_to at))
+          by_way (opened.fetches unbound way cached) = absurd (none_some r (sym unbound ∙ ap bound_to at))
+          by_way (opened.fills y b span gap unbound way is_current b_row wants found need_is cached) = absurd (none_some r (sym unbound ∙ ap bound_to at))
+          by_way (opened.goes_on y b d g there_at way) =
+              let h = hole_is q.need way in
+              let opener = is_opener limits t now flaw s ev goes c k q row.row opens mine in
+              hole_undue h.from h.to (opens_hole t c k q now opener.want s row.row opener.opening h.from h.to h.is)
+
+    -- IT BECAME BOUND
+
+    pub opens_not : (k : Consumer) (q : Opening) → IsRow t e c r lo hi how k u → opening_in e.acts ≡ Some q → q.c ≡ c → bound_to (waiting t e c (consumer_heard t e c ev k)).place ≡ None → from.IsFirstHole t e c r lo hi how q (waiting t e c (consumer_heard t e c ev k)) → RepFrom t e r p → ⊥
+    opens_not k q row opens mine free hole (rep.founded response w none_there here exchange_row on is_made) = false_true (ap (λ (b : Representation). b.is_lost) is_made ∙ lost_now)
+    opens_not k q row opens mine free hole (rep.was v kept) =
+        let by_poll = is_opened limits t now flaw s o ev goes q opens in
+        let opener = is_opener limits t now flaw s ev goes c k q row.row opens mine in
+        not_alone limits t now flaw s o m i ev goes real r c v p k row.row (sym (ap bound_to opener.place_is) ∙ free) kept.row (current_stays t _ r v hole.current_is kept.row) (ap brings_body by_poll.at) kept lost_now is_alone
+
+    pub shown_not : (k : Consumer) (a : Showing) → IsRow t e c r lo hi how k u → showing_in e.acts ≡ Some a → IsShown t e c r lo hi how a (by_opening t c (opening_in e.acts) (waiting t e c (consumer_heard t e c ev k))).place → RepFrom t e r p → ⊥
+    shown_not k a row is all (rep.founded response w none_there here exchange_row on is_made) = false_true (ap (λ (b : Representation). b.is_lost) is_made ∙ lost_now)
+    shown_not k a row is all (rep.was v kept) =
+        not_alone limits t now flaw s o m i ev goes real r c v p k row.row planned.free kept.row (current_v planned.shown_as) (ap brings_body shows.poll.at) kept lost_now is_alone
+      where
+        planned : IsPlanned t now a.c k a
+        planned = planned_at limits t now flaw s ev goes a k (ap t.consumer all.at ∙ row.row) is (subst (λ d. reads (by_opening t d (opening_in e.acts) (waiting t e d (consumer_heard t e d ev k))).place ≡ false) (sym all.at) all.free)
+
+        shows : ShowsBy t now ev a
+        shows = showing_by limits t now flaw s ev goes a is
+
+        current_v : ShownAs t now a.c k a.r a.lo a.hi → v.is_gone ≡ false
+        current_v (shown_as.joins q current_is q_row on from_is to) = current_stays t _ r v (current_is ∙ ap Some all.of_r) kept.row
+        current_v (shown_as.stored q span current_is q_row off wanted_is none_is from_is to) = current_stays t _ r v (current_is ∙ ap Some all.of_r) kept.row
+
+    pub founds_not : (x : ℕ) (response : Response) (w : Exchange) → ev ≡ event.Head x response → t.exchange x ≡ Some w → x ≡ r → RepFrom t e r p → ⊥
+    founds_not x response w here exchange_row of_it (rep.founded answer z none_there also row_too on is_made) = false_true (ap (λ (b : Representation). b.is_lost) is_made ∙ lost_now)
+    founds_not x response w here exchange_row of_it (rep.was v kept) = none_some v (sym (is_new limits t now flaw s ev goes x response w here exchange_row).unfounded ∙ (ap t.representation of_it ∙ kept.row))
 
   module _ (r c lo : ℕ) (hi : Option ℕ) (how : BoundBy) (u : Consumer) (p : Representation) (after : now_on.representation r ≡ Some p) (after_row : now_on.consumer c ≡ Some u) (stands : u.place ≡ place.Bound r lo hi how) (none : u.due ≡ None) (lost_now : p.is_lost ≡ true) (is_alone : p.alone ≡ Some c) where
     reader_now : IsBound now_on r c u
@@ -256,26 +335,7 @@ module _ (limits : Limits) (t : Tables) (now : ℕ) (flaw : Flaw) (s : Sound t) 
           by_fills (fills_by.still none_of body_is stored_is reach_is) = body_is
           by_fills (fills_by.more y bytes a is body_is stored_is reach_is) = absurd (let no : event.Poll d want ≡ event.Piece y bytes = sym polls ∙ is.at in cc)
 
-      -- a writing that is left to it is lost now
-      pub left_number : (x : ℕ) (q : Consumer) → t.consumer c ≡ Some q → (l : own.IsLeft t e c x (consumer_heard t e c ev q).place) → l.r ≡ r
-      left_number x q q_row l =
-          let brings_one : brings_body ev ≡ true = and_left _ _ (and_left _ _ l.loses) in
-          let placed : u.place ≡ (consumer_heard t e c ev k).place = heard_place limits t now flaw s o ev goes c r lo hi how k u (λ d want polls. false_true (sym (ap brings_body polls) ∙ brings_one)) row in
-          let one : q ≡ k = same_row (t.consumer c) q k q_row row.row in
-          let at_l : (consumer_heard t e c ev k).place ≡ place.Bound l.r l.lo l.hi l.how = ap (λ (b : Consumer). (consumer_heard t e c ev b).place) (sym one) ∙ l.at in
-          (from.place_inj l.r l.lo l.hi l.how r lo hi how (sym at_l ∙ (sym placed ∙ stands))).number
-
-      pub left_loses : (x : ℕ) (q : Consumer) → t.consumer c ≡ Some q → own.IsLeft t e c x (consumer_heard t e c ev q).place → (is_written t v ≡ true) × (loses_in r e.acts ≡ true)
-      left_loses x q q_row l =
-          let number : l.r ≡ r = left_number x q q_row l in
-          let same_v : l.v ≡ v = same_row (t.representation r) l.v v (sym (ap t.representation number) ∙ l.row) there in
-          (ap (is_written t) (sym same_v) ∙ and_right _ _ l.loses, ap (λ n. loses_in n e.acts) (sym number) ∙ and_right _ _ (and_left _ _ l.loses))
-
       -- IT WENT ON ALONE
-
-      pub unwritten_lost : v.is_lost ≡ true → is_written t v ≡ false
-      unfolding is_written
-      unwritten_lost lost = rw lost refl
 
       went : v.is_lost ≡ true → loses_in r e.acts ≡ false → v.alone ≡ Some c → IsAlone now_on p u
       went lost quiet v_alone = by_own u.own refl
@@ -295,7 +355,7 @@ module _ (limits : Limits) (t : Tables) (now : ℕ) (flaw : Flaw) (s : Sound t) 
               let begins : offset now_on u ≤ d = from_u in
               let before : offset t k ≤ offset now_on u = more_offset in
               let was : front a.w ≤ d = fronts x a.w g.u g.same g.row w_row d le in
-              ap (λ (f : Cells). f d) still ∙ (a.ahead d was (omega arith) ∙ sym (past_front x a.w g.u (unwritten_lost lost) (sound.alone lost v_alone) owned w_row g.same g.row d le)))
+              ap (λ (f : Cells). f d) still ∙ (a.ahead d was (omega arith) ∙ sym (past_front x a.w g.u (unwritten_lost r c lo hi how u p after after_row stands lost_now is_alone k v row at there kept lost) (sound.alone lost v_alone) owned w_row g.same g.row d le)))
             where
               by_brings : (x : ℕ) (w z : Exchange) → IsHeld limits t now flaw s o m ev goes x w z → Brings t e x w z → front w ≤ front z
               by_brings x w z keeps (fills_by.still none_of body_is) = let first : base z ≡ base w = keeps.base_is in let count : length z.body ≡ length w.body = ap (λ (b : List ℕ). length b) body_is in omega arith
@@ -350,7 +410,7 @@ module _ (limits : Limits) (t : Tables) (now : ℕ) (flaw : Flaw) (s : Sound t) 
           by_from : (x : ℕ) → u.own ≡ Some x → OwnFrom t e c x u → IsAlone now_on p u
           by_from x owned_now (own.kept q q_row mine heard_mine) = kept_ahead x (ap (λ (b : Consumer). b.own) (same_row (t.consumer c) k q row.row q_row.row) ∙ mine) owned_now
           by_from x owned_now (own.opened q p_open q_row opens mine this) = opened_ahead x p_open opens mine owned_now
-          by_from x owned_now (own.left q q_row l) = absurd (false_true (sym quiet ∙ (left_loses x q q_row.row l).1))
+          by_from x owned_now (own.left q q_row l) = absurd (false_true (sym quiet ∙ (left_loses r c lo hi how u p after after_row stands lost_now is_alone k v row at there kept x q q_row.row l).1))
 
           by_none : (k.own ≡ None) ⊎ IsShared t e c → IsAlone now_on p u
           by_none (inl none_own) = absurd (none_some a.x (sym none_own ∙ a.own))
@@ -386,7 +446,7 @@ module _ (limits : Limits) (t : Tables) (now : ℕ) (flaw : Flaw) (s : Sound t) 
           by_from : (x : ℕ) → u.own ≡ Some x → OwnFrom t e c x u → IsAlone now_on p u
           by_from x owned_now (own.kept q q_row mine heard_mine) = kept_ahead x (ap (λ (b : Consumer). b.own) (same_row (t.consumer c) k q row.row q_row.row) ∙ mine) owned_now
           by_from x owned_now (own.opened q p_open q_row opens mine this) = opened_ahead x p_open opens owned_now
-          by_from x owned_now (own.left q q_row l) = absurd (false_true (sym x_alone.unwritten ∙ (left_loses x q q_row.row l).0))
+          by_from x owned_now (own.left q q_row l) = absurd (false_true (sym x_alone.unwritten ∙ (left_loses r c lo hi how u p after after_row stands lost_now is_alone k v row at there kept x q q_row.row l).0))
 
           by_row : (q : Consumer) → IsBound t r c q → has_more t v q ≡ true → k.own ≡ None → ⊥
           by_row q (sound.is_bound l h g q_row q_at) more none_own =
@@ -410,40 +470,12 @@ module _ (limits : Limits) (t : Tables) (now : ℕ) (flaw : Flaw) (s : Sound t) 
       was_bound : IsAlone now_on p u
       was_bound = by_pen (alone_from limits t now flaw s o m ev goes real r c v p there kept lost_now is_alone)
 
-    -- IT BECAME BOUND
-
-    pub opens_not : (k : Consumer) (q : Opening) → IsRow t e c r lo hi how k u → opening_in e.acts ≡ Some q → q.c ≡ c → bound_to (waiting t e c (consumer_heard t e c ev k)).place ≡ None → from.IsFirstHole t e c r lo hi how q (waiting t e c (consumer_heard t e c ev k)) → RepFrom t e r p → ⊥
-    opens_not k q row opens mine free hole (rep.founded response w none_there here exchange_row on is_made) = false_true (ap (λ (b : Representation). b.is_lost) is_made ∙ lost_now)
-    opens_not k q row opens mine free hole (rep.was v kept) =
-        let by_poll = is_opened limits t now flaw s o ev goes q opens in
-        let opener = is_opener limits t now flaw s ev goes c k q row.row opens mine in
-        not_alone limits t now flaw s o m i ev goes real r c v p k row.row (sym (ap bound_to opener.place_is) ∙ free) kept.row (current_stays t _ r v hole.current_is kept.row) (ap brings_body by_poll.at) kept lost_now is_alone
-
-    pub shown_not : (k : Consumer) (a : Showing) → IsRow t e c r lo hi how k u → showing_in e.acts ≡ Some a → IsShown t e c r lo hi how a (by_opening t c (opening_in e.acts) (waiting t e c (consumer_heard t e c ev k))).place → RepFrom t e r p → ⊥
-    shown_not k a row is all (rep.founded response w none_there here exchange_row on is_made) = false_true (ap (λ (b : Representation). b.is_lost) is_made ∙ lost_now)
-    shown_not k a row is all (rep.was v kept) =
-        not_alone limits t now flaw s o m i ev goes real r c v p k row.row planned.free kept.row (current_v planned.shown_as) (ap brings_body shows.poll.at) kept lost_now is_alone
-      where
-        planned : IsPlanned t now a.c k a
-        planned = planned_at limits t now flaw s ev goes a k (ap t.consumer all.at ∙ row.row) is (subst (λ d. reads (by_opening t d (opening_in e.acts) (waiting t e d (consumer_heard t e d ev k))).place ≡ false) (sym all.at) all.free)
-
-        shows : ShowsBy t now ev a
-        shows = showing_by limits t now flaw s ev goes a is
-
-        current_v : ShownAs t now a.c k a.r a.lo a.hi → v.is_gone ≡ false
-        current_v (shown_as.joins q current_is q_row on from_is to) = current_stays t _ r v (current_is ∙ ap Some all.of_r) kept.row
-        current_v (shown_as.stored q span current_is q_row off wanted_is none_is from_is to) = current_stays t _ r v (current_is ∙ ap Some all.of_r) kept.row
-
-    pub founds_not : (x : ℕ) (response : Response) (w : Exchange) → ev ≡ event.Head x response → t.exchange x ≡ Some w → x ≡ r → RepFrom t e r p → ⊥
-    founds_not x response w here exchange_row of_it (rep.founded answer z none_there also row_too on is_made) = false_true (ap (λ (b : Representation). b.is_lost) is_made ∙ lost_now)
-    founds_not x response w here exchange_row of_it (rep.was v kept) = none_some v (sym (is_new limits t now flaw s ev goes x response w here exchange_row).unfounded ∙ (ap t.representation of_it ∙ kept.row))
-
     by_way : BoundFrom t e c r lo hi how u → RepFrom t e r p → IsAlone now_on p u
     by_way (from.stays k row at) (rep.was v kept) = was_bound k v row at kept.row kept
     by_way (from.stays k row at) (rep.founded response w none_there here exchange_row on is_made) = absurd (false_true (ap (λ (b : Representation). b.is_lost) is_made ∙ lost_now))
-    by_way (from.founds k x response w row here exchange_row mine of_it by_is all) from_rep = absurd (founds_not x response w here exchange_row of_it from_rep)
-    by_way (from.opens k q row opens mine free way hole) from_rep = absurd (opens_not k q row opens mine free hole from_rep)
-    by_way (from.shows k a row is all) from_rep = absurd (shown_not k a row is all from_rep)
+    by_way (from.founds k x response w row here exchange_row mine of_it by_is all) from_rep = absurd (founds_not r c lo hi how u p after after_row stands lost_now is_alone x response w here exchange_row of_it from_rep)
+    by_way (from.opens k q row opens mine free way hole) from_rep = absurd (opens_not r c lo hi how u p after after_row stands lost_now is_alone k q row opens mine free hole from_rep)
+    by_way (from.shows k a row is all) from_rep = absurd (shown_not r c lo hi how u p after after_row stands lost_now is_alone k a row is all from_rep)
 
   pub lost_of : (r c : ℕ) (p : Representation) → now_on.representation r ≡ Some p → p.alone ≡ Some c → p.is_lost ≡ true
   lost_of r c p after is_alone = by_test p.is_lost refl

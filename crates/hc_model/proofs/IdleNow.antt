@@ -39,7 +39,8 @@ use Rattle.hc_model.proofs.Pens.{same_row}
 
 -- LISTS
 
-filter_both : (f g h : ℕ → Bool) (xs : List ℕ) → ((n : ℕ) → f n ≡ (h n && g n)) → filter f xs ≡ filter g (filter h xs)
+-- two tests, one after the other
+pub filter_both : (f g h : ℕ → Bool) (xs : List ℕ) → ((n : ℕ) → f n ≡ (h n && g n)) → filter f xs ≡ filter g (filter h xs)
 filter_both f g h [] both = refl
 filter_both f g h (x ∷ xs) both = elim (bool_cases (h x)) [
   | inr off ↦ let no : f x ≡ false = both x ∙ ap (λ b. b && g x) off in rw (off, no) (filter_both f g h xs both)

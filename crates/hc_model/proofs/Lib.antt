@@ -186,6 +186,7 @@ pub mod AloneRuns
 pub mod GrowingRuns
 pub mod BringsRuns
 pub mod Tails
+pub mod DueAhead
 pub mod LossRuns
 pub mod Tests
 pub mod Untouched
@@ -217,6 +218,8 @@ pub mod UnsafeEffects
 pub mod LostFrames
 pub mod WrittenEffects
 pub mod LawfulRuns
+pub mod LettingGo
+pub mod LiveRuns
 pub mod FailsTold
 pub mod LeftBy
 pub mod AimRuns

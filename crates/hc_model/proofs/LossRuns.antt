@@ -1,11 +1,11 @@
 -- What is held for who goes on alone came of its own exchange, in every run.
-use Rattle.std.proofs.Common.{◌≡◌, inl, inr, ℕ, zero, suc, ◌+◌, ◌-◌, ◌≤◌, ◌<◌, List, [], ◌∷◌, length, take, drop, Bool, true, false, Option, Some, None, refl, ap, sym, ◌∙◌, arith}
+use Rattle.std.proofs.Common.{◌≡◌, ◌⊎◌, inl, inr, ℕ, zero, suc, ◌+◌, ◌-◌, ◌≤◌, ◌<◌, List, [], ◌∷◌, length, take, drop, Bool, true, false, Option, Some, None, refl, ap, sym, ◌∙◌, subst, arith}
 use Rattle.std.specs.Prelude.{◌==◌, is_some, slice_index, min, nat_eq, nat_lt}
 use Rattle.std.proofs.Math.ListN.{drop_of_length-le}
 use Rattle.std.proofs.Math.Seq.{drop-cons}
 use Rattle.std.proofs.lemmas.List.{length-drop, length-take, take_all}
 use Rattle.std.proofs.lemmas.Bool.Decides.{nat_tests}
-use Rattle.hc_sparse.specs.Cells.{Cell, Cells}
+use Rattle.hc_sparse.specs.Cells.{Cell, Cells, Covers}
 use Rattle.hc_sparse.specs.Stretch.{bytes_from, goes_on, stretch, stretch_of}
 use Rattle.hc_event.specs.Filters.{is_denied}
 use Rattle.hc_event.specs.declared.event.Response.{Response}
@@ -13,7 +13,7 @@ use Rattle.hc_rules.specs.declared.room.Limits.{Limits}
 use Rattle.hc_model.specs.declared.place.Place.TheVariants as place
 use Rattle.hc_model.specs.declared.place.BoundBy.{BoundBy}
 use Rattle.hc_model.specs.Currents.{is_number}
-use Rattle.hc_model.specs.Entries.{Entry}
+use Rattle.hc_model.specs.Entries.{Entry, Contents}
 use Rattle.hc_model.specs.Exchanges.{base, front}
 use Rattle.hc_model.specs.Flaws.{flaw_in}
 use Rattle.hc_model.specs.Laws.{OfRuns}
@@ -21,12 +21,13 @@ use Rattle.hc_model.specs.Losses.{Brings, Losses, IsHeldFrom, HoldsOwn, brought}
 use Rattle.hc_model.specs.Reading.{offset}
 use Rattle.hc_model.specs.Rows.{Tables, Exchange, Representation, Consumer}
 use Rattle.hc_model.specs.Runs.{IsOwed}
-use Rattle.hc_model.specs.Sound.{Sound, IsBound, IsAlone}
+use Rattle.hc_model.specs.Sound.{Sound, IsBound}
 use Rattle.hc_model.specs.Sound as sound
 use Rattle.hc_model.specs.Steps.{held, held_at, held_of_lost, run_of}
-use Rattle.hc_model.specs.Tables.{tables, after, after_accepted, after_denied}
+use Rattle.hc_model.specs.Tables.{tables, begun, after, after_accepted, after_denied}
 use Rattle.hc_model.proofs.Basics.{false_true, none_some}
 use Rattle.hc_model.proofs.BringsRuns.{brings_in_runs}
+use Rattle.hc_model.proofs.DueAhead.{IsAhead, AreAhead, ahead_kept}
 use Rattle.hc_model.proofs.HoleLemmas.{bool_cases}
 use Rattle.hc_model.proofs.OfEntries.{of_real}
 use Rattle.hc_model.proofs.Pens.{eq-refl, same_row}
@@ -39,9 +40,9 @@ use Rattle.hc_model.proofs.Tails.{AreTails, IsTail, tails_kept}
 tails_denied : (t : Tables) (e : Entry) → AreTails t → AreTails (after_denied t e)
 tails_denied t e was = record { tail = by_reader }
   where
-    by_reader : (r c x : ℕ) (v : Representation) (k : Consumer) (w : Exchange) → t.representation r ≡ Some v → v.alone ≡ Some c → IsBound (after_denied t e) r c k → k.due ≡ None → k.own ≡ Some x → t.exchange x ≡ Some w → IsTail (after_denied t e) r v k x w
-    by_reader r c x v k w there alone (sound.is_bound lo hi how row at) none own w_row =
-        let a = was.tail r c x v k w there alone (sound.is_bound lo hi how row at) none own w_row in
+    by_reader : (r c x : ℕ) (v : Representation) (k : Consumer) (w : Exchange) → t.representation r ≡ Some v → v.alone ≡ Some c → IsBound (after_denied t e) r c k → k.own ≡ Some x → t.exchange x ≡ Some w → IsTail (after_denied t e) r v k x w
+    by_reader r c x v k w there alone (sound.is_bound lo hi how row at) own w_row =
+        let a = was.tail r c x v k w there alone (sound.is_bound lo hi how row at) own w_row in
         record { from = a.from; after_base = a.after_base; within = a.within; stored = a.stored; unstored = a.unstored; of_r = a.of_r }
 
 by_denial : (limits : Limits) (t : Tables) (e : Entry) (b : Bool) → is_denied e.acts ≡ b → IsCarried t → Sound (after t e) → IsOwed limits t e → AreTails t → AreTails (after t e)
@@ -53,8 +54,31 @@ by_denial limits t e false accepted c later owed was =
 
 tails_in_runs : OfRuns AreTails
 unfolding tables
-tails_in_runs limits contents [] may run = record { tail = λ r c x v k w there alone reader none own row. absurd (none_some w row) }
+tails_in_runs limits contents [] may run = record { tail = λ r c x v k w there alone reader own row. absurd (none_some w row) }
 tails_in_runs limits contents (e ∷ h) may run = by_denial limits (tables contents h) e (is_denied e.acts) refl (carried limits contents h may run.0) (carried limits contents (e ∷ h) may run).is_sound run.1 (tails_in_runs limits contents h may run.0)
+
+ahead_denied : (t : Tables) (e : Entry) → AreAhead t → AreAhead (after_denied t e)
+ahead_denied t e was = record { ahead = by_reader }
+  where
+    by_reader : (r c : ℕ) (v : Representation) (k : Consumer) → t.representation r ≡ Some v → v.alone ≡ Some c → IsBound (after_denied t e) r c k → IsAhead (after_denied t e) v k
+    by_reader r c v k there alone (sound.is_bound lo hi how row at) =
+        let a = was.ahead r c v k there alone (sound.is_bound lo hi how row at) in
+        record { x = a.x; w = a.w; own = a.own; row = a.row; covered = a.covered }
+
+ahead_by_denial : (limits : Limits) (t : Tables) (e : Entry) (b : Bool) → is_denied e.acts ≡ b → IsCarried t → Sound (after t e) → IsOwed limits t e → AreAhead t → AreAhead (after t e)
+unfolding after
+ahead_by_denial limits t e true denied c later owed was = rw denied (ahead_denied t e was)
+ahead_by_denial limits t e false accepted c later owed was =
+    let sound_then : Sound (after_accepted t e) = rw accepted at later in
+    rw accepted (of_real limits t e (λ z. Sound (after_accepted t z) → AreAhead (after_accepted t z)) owed accepted (λ going real sound_now. ahead_kept limits t e.now (flaw_in e.acts) c.is_sound c.is_owned c.is_measured c.beside e.event going real was sound_now) sound_then)
+
+ahead_in_runs : OfRuns AreAhead
+unfolding tables
+ahead_in_runs limits contents [] may run = record { ahead = λ r c v k there alone reader. unbound contents r c k reader }
+  where
+    unbound : {A : Type 0} (contents : Contents) (r c : ℕ) (k : Consumer) → IsBound (begun contents) r c k → A
+    unbound contents r c k (sound.is_bound lo hi how row at) = absurd (none_some k row)
+ahead_in_runs limits contents (e ∷ h) may run = ahead_by_denial limits (tables contents h) e (is_denied e.acts) refl (carried limits contents h may run.0) (carried limits contents (e ∷ h) may run).is_sound run.1 (ahead_in_runs limits contents h may run.0)
 
 -- ONE STRETCH
 
@@ -97,6 +121,10 @@ take_most n m xs le = elim (bool_cases (nat_lt m n)) [
       ap (λ i. take i xs) same ∙ (take_all m xs le ∙ sym (take_all n xs (omega arith)))
 ]
 
+drop_none : (n : ℕ) → drop {A = ℕ} n [] ≡ []
+drop_none zero = refl
+drop_none (suc n) = refl
+
 take_none : (n : ℕ) → take {A = ℕ} n [] ≡ []
 take_none zero = refl
 take_none (suc n) = refl
@@ -107,13 +135,13 @@ run_some x o (b ∷ bytes) some = refl
 
 -- HELD
 
-module _ (t : Tables) (s : Sound t) (brings : Brings t) (tails : AreTails t) where
-  module _ (r c x lo : ℕ) (hi : Option ℕ) (how : BoundBy) (v : Representation) (k : Consumer) (w : Exchange) (there : t.representation r ≡ Some v) (is_alone : v.alone ≡ Some c) (row : t.consumer c ≡ Some k) (at : k.place ≡ place.Bound r lo hi how) (none : k.due ≡ None) (own : k.own ≡ Some x) (w_row : t.exchange x ≡ Some w) where
+module _ (t : Tables) (s : Sound t) (brings : Brings t) (tails : AreTails t) (ahead_of : AreAhead t) where
+  module _ (r c x lo : ℕ) (hi : Option ℕ) (how : BoundBy) (v : Representation) (k : Consumer) (w : Exchange) (there : t.representation r ≡ Some v) (is_alone : v.alone ≡ Some c) (row : t.consumer c ≡ Some k) (at : k.place ≡ place.Bound r lo hi how) (own : k.own ≡ Some x) (w_row : t.exchange x ≡ Some w) where
     reader : IsBound t r c k
     reader = sound.is_bound lo hi how row at
 
     tail : IsTail t r v k x w
-    tail = tails.tail r c x v k w there is_alone reader none own w_row
+    tail = tails.tail r c x v k w there is_alone reader own w_row
 
     lost : v.is_lost ≡ true
     lost = by_test v.is_lost refl
@@ -138,8 +166,8 @@ module _ (t : Tables) (s : Sound t) (brings : Brings t) (tails : AreTails t) whe
     ahead : IsHeldFrom t v k x w tail.from
     ahead = record { within = tail.within; stored = tail.stored; unstored = tail.unstored; came = λ p le low under. came p low under }
 
-    goes : IsAlone t v k
-    goes = s.alone r c v k there is_alone reader none
+    goes : IsAhead t v k
+    goes = ahead_of.ahead r c v k there is_alone reader
 
     abbrev o : ℕ
     o = offset t k
@@ -151,16 +179,30 @@ module _ (t : Tables) (s : Sound t) (brings : Brings t) (tails : AreTails t) whe
         number = ap (λ a. is_number a c) is_alone ∙ eq-refl c
 
     -- nothing came there
-    past : front w ≤ o → (n : ℕ) → v.stored o ≡ None → held t c k n ≡ run_of x o (take n (drop (o - base w) w.body))
+    unheld : v.body o ≡ None → drop (o - base w) w.body ≡ [] → (n : ℕ) → held t c k n ≡ run_of x o (take n (drop (o - base w) w.body))
     unfolding stretch
-    past over n missing =
-        let absent : v.body o ≡ None = sym (tail.stored o (omega arith) (inr over)) ∙ missing in
-        let rest : drop (o - base w) w.body ≡ [] = drop_of_length-le w.body (omega arith) in
-        held_is n ∙ (ap (stretch_of v.body o (min n (v.reach - o))) absent ∙ sym (ap (λ b. run_of x o (take n b)) rest ∙ ap (run_of x o) (take_none n)))
+    unheld absent rest n = held_is n ∙ (ap (stretch_of v.body o (min n (v.reach - o))) absent ∙ sym (ap (λ b. run_of x o (take n b)) rest ∙ ap (run_of x o) (take_none n)))
 
-    inside : o < front w → (n : ℕ) → 0 < n → v.stored o ≡ None → held t c k n ≡ run_of x o (take n (drop (o - base w) w.body))
+    past : front w ≤ o → (n : ℕ) → v.stored o ≡ None → held t c k n ≡ run_of x o (take n (drop (o - base w) w.body))
+    past over n missing = unheld (sym (tail.stored o (omega arith) (inr over)) ∙ missing) (drop_of_length-le w.body (omega arith)) n
+
+    -- nor anywhere
+    empty : w.body ≡ [] → (n : ℕ) → v.stored o ≡ None → held t c k n ≡ run_of x o (take n (drop (o - base w) w.body))
+    empty none n missing = unheld absent (ap (drop (o - base w)) none ∙ drop_none (o - base w)) n
+      where
+        absent : v.body o ≡ None
+        absent = elim (bool_cases (nat_lt o tail.from)) [
+          | inl early ↦ let before : o < tail.from = grind (arith, nat_tests) in sym (tail.stored o (omega arith) (inl before)) ∙ missing
+          | inr late ↦
+              let behind : tail.from ≤ o = grind (arith, nat_tests) in
+              let none_came : length w.body ≡ 0 = ap (λ (b : List ℕ). length b) none in
+              let after_base : base w ≤ tail.from = tail.after_base in
+              sym (tail.stored o (omega arith) (inr (omega arith))) ∙ missing
+        ]
+
+    inside : Covers v.body o (front w) → o < front w → (n : ℕ) → 0 < n → v.stored o ≡ None → held t c k n ≡ run_of x o (take n (drop (o - base w) w.body))
     unfolding stretch
-    inside under n some missing =
+    inside all under n some missing =
         let low : tail.from ≤ o = begins under missing in
         let m = min n (v.reach - o) in
         let rest : List ℕ = drop (o - base w) w.body in
@@ -178,10 +220,7 @@ module _ (t : Tables) (s : Sound t) (brings : Brings t) (tails : AreTails t) whe
           | inl early ↦
               let before : o < tail.from = grind (arith, nat_tests) in
               let absent : v.body o ≡ None = sym (tail.stored o (omega arith) (inl before)) ∙ missing_o in
-              let number : goes.x ≡ x = some_inj goes.x x (sym goes.own ∙ own) in
-              let one : goes.w ≡ w = same_row (t.exchange x) goes.w w (sym (ap t.exchange number) ∙ goes.row) w_row in
-              let ends : front goes.w ≡ front w = ap (λ (q : Exchange). front q) one in
-              absurd (false_true (sym (ap (λ (q : Option Cell). is_some q) absent) ∙ goes.covered o (omega arith) (omega arith)))
+              absurd (false_true (sym (ap (λ (q : Option Cell). is_some q) absent) ∙ all o (omega arith) (omega arith)))
         ]
 
         reached : tail.from ≤ o → o < front w → front w ≤ v.reach
@@ -192,10 +231,20 @@ module _ (t : Tables) (s : Sound t) (brings : Brings t) (tails : AreTails t) whe
               absurd (none_some (brought x w (front w - 1)) (sym ((s.rows r v there).store.ends (front w - 1) over) ∙ came (front w - 1) (omega arith) (omega arith)))
         ]
 
+    -- all is there up to its front, or it brought nothing
+    covered : (w.body ≡ []) ⊎ Covers v.body o (front w)
+    covered =
+        let number : goes.x ≡ x = some_inj goes.x x (sym goes.own ∙ own) in
+        let one : goes.w ≡ w = same_row (t.exchange x) goes.w w (sym (ap t.exchange number) ∙ goes.row) w_row in
+        subst (λ (q : Exchange). (q.body ≡ []) ⊎ Covers v.body o (front q)) one goes.covered
+
     next : v.stored o ≡ None → (n : ℕ) → 0 < n → held t c k n ≡ run_of x o (take n (drop (o - base w) w.body))
-    next missing n some = elim (bool_cases (nat_lt o (front w))) [
-      | inl on ↦ let lt : o < front w = grind (arith, nat_tests) in inside lt n some missing
-      | inr off ↦ let over : front w ≤ o = grind (arith, nat_tests) in past over n missing
+    next missing n some = elim covered [
+      | inl none ↦ empty none n missing
+      | inr all ↦ elim (bool_cases (nat_lt o (front w))) [
+        | inl on ↦ let lt : o < front w = grind (arith, nat_tests) in inside all lt n some missing
+        | inr off ↦ let over : front w ≤ o = grind (arith, nat_tests) in past over n missing
+      ]
     ]
 
     holds_own : HoldsOwn t c v k
@@ -204,10 +253,10 @@ module _ (t : Tables) (s : Sound t) (brings : Brings t) (tails : AreTails t) whe
   losses_by : Losses t
   losses_by = record { alone = by_reader }
     where
-      by_reader : (r c : ℕ) (v : Representation) (k : Consumer) → t.representation r ≡ Some v → v.alone ≡ Some c → IsBound t r c k → k.due ≡ None → HoldsOwn t c v k
-      by_reader r c v k there alone (sound.is_bound lo hi how row at) none =
-          let a = s.alone r c v k there alone (sound.is_bound lo hi how row at) none in
-          holds_own r c a.x lo hi how v k a.w there alone row at none a.own a.row
+      by_reader : (r c : ℕ) (v : Representation) (k : Consumer) → t.representation r ≡ Some v → v.alone ≡ Some c → IsBound t r c k → HoldsOwn t c v k
+      by_reader r c v k there alone (sound.is_bound lo hi how row at) =
+          let a = ahead_of.ahead r c v k there alone (sound.is_bound lo hi how row at) in
+          holds_own r c a.x lo hi how v k a.w there alone row at a.own a.row
 
 pub losses_in_runs : OfRuns Losses
-losses_in_runs limits contents h may run = losses_by (tables contents h) (carried limits contents h may run).is_sound (brings_in_runs limits contents h may run) (tails_in_runs limits contents h may run)
+losses_in_runs limits contents h may run = losses_by (tables contents h) (carried limits contents h may run).is_sound (brings_in_runs limits contents h may run) (tails_in_runs limits contents h may run) (ahead_in_runs limits contents h may run)

@@ -1,5 +1,5 @@
 -- How large numbers become, in every run from contents whose lengths heads can tell.
-use Rattle.std.proofs.Common.{◌≡◌, ◌≤◌, ◌⊎◌, inl, inr, ℕ, ◌+◌, ◌^◌, List, [], ◌∷◌, length, length-append, Bool, true, false, Option, Some, None, refl, ap, sym, ◌∙◌, subst, arith}
+use Rattle.std.proofs.Common.{◌≡◌, ◌<◌, ◌≤◌, ◌⊎◌, inl, inr, ℕ, ◌+◌, ◌^◌, List, [], ◌∷◌, length, length-append, Bool, true, false, Option, Some, None, refl, ap, sym, ◌∙◌, subst, arith}
 use Rattle.std.specs.Prelude.{max, option_map}
 use Rattle.std.specs.Option.{option_or}
 use Rattle.hc_event.specs.Filters.{is_denied}
@@ -14,7 +14,7 @@ use Rattle.hc_model.specs.Entries.{Entry, History, Content, Contents}
 use Rattle.hc_model.specs.Exchanges.{base, promised, front}
 use Rattle.hc_model.specs.Laws.{item_of}
 use Rattle.hc_model.specs.Measures.{Measures}
-use Rattle.hc_model.specs.Numbers.{Numbers, NumbersInRuns, AreShort, most}
+use Rattle.hc_model.specs.Numbers.{Numbers, NumbersInRuns, AreShort, most, too_long}
 use Rattle.hc_model.specs.Places.{Places}
 use Rattle.hc_model.specs.RepresentationRows.{length_in}
 use Rattle.hc_model.specs.Rows.{Tables, Exchange, Representation, Consumer}
@@ -58,14 +58,14 @@ module _ (t : Tables) (p : Places t) where
 -- LENGTHS AND REACHES
 
 record AreShortRows (t : Tables) : Type 0 where
-  totals : (r n : ℕ) (v : Representation) → t.representation r ≡ Some v → v.head.total ≡ Some n → n ≤ most t
+  totals : (r n : ℕ) (v : Representation) → t.representation r ≡ Some v → v.head.total ≡ Some n → n < too_long t
   reaches : (r : ℕ) (v : Representation) → t.representation r ≡ Some v → v.reach ≤ most t
 
 module _ (limits : Limits) (contents : Contents) (may : may_begin limits contents ≡ true) (short : AreShort contents) where
-  begun_total : (r n : ℕ) (v : Representation) → (begun contents).representation r ≡ Some v → v.head.total ≡ Some n → n ≤ 2 ^ 62
+  begun_total : (r n : ℕ) (v : Representation) → (begun contents).representation r ≡ Some v → v.head.total ≡ Some n → n < 2 ^ 62
   begun_total r n v row known = by_item (item_of contents r) refl row
     where
-      by_item : (z : Option Content) → item_of contents r ≡ z → option_map loaded z ≡ Some v → n ≤ 2 ^ 62
+      by_item : (z : Option Content) → item_of contents r ≡ z → option_map loaded z ≡ Some v → n < 2 ^ 62
       by_item None found is = absurd (none_some v is)
       by_item (Some item) found is = short r n item found (ap (λ (q : Representation). q.head.total) (some_inj (loaded item) v is) ∙ known)
 
@@ -75,7 +75,7 @@ module _ (limits : Limits) (contents : Contents) (may : may_begin limits content
       by_total : (item : Content) (o : Option ℕ) → item_of contents r ≡ Some item → loaded item ≡ v → item.head.total ≡ o → v.reach ≤ 2 ^ 62
       by_total item None found same unknown = absurd (false_true (ap (is_kind_right item) (sym unknown) ∙ known_item limits contents may r item found))
       by_total item (Some n) found same known =
-          let small : n ≤ 2 ^ 62 = short r n item found known in
+          let small : n < 2 ^ 62 = short r n item found known in
           let le : v.reach ≤ n = (measures_begin limits contents may).within r n v row (ap (λ (q : Representation). q.head.total) (sym same) ∙ known) in
           omega arith
 
@@ -96,21 +96,21 @@ module _ (t : Tables) (e : Entry) (was : AreShortRows t) (p : Places t) (q : Pla
   grows : most t ≤ most now_on
   grows = omega arith
 
-  ended_total : (r n : ℕ) (v : Representation) (o : Option ℕ) → t.representation r ≡ Some v → v.head.total ≡ o → option_or o (Some (length_in (t.exchange r))) ≡ Some n → n ≤ most t
+  ended_total : (r n : ℕ) (v : Representation) (o : Option ℕ) → t.representation r ≡ Some v → v.head.total ≡ o → option_or o (Some (length_in (t.exchange r))) ≡ Some n → n < too_long t
   ended_total r n v (Some a) row known is = was.totals r n v row (known ∙ is)
   ended_total r n v None row unknown is = by_row (t.exchange r) refl (some_inj _ n is)
     where
-      by_row : (z : Option Exchange) → t.exchange r ≡ z → length_in z ≡ n → n ≤ most t
+      by_row : (z : Option Exchange) → t.exchange r ≡ z → length_in z ≡ n → n < too_long t
       by_row None exchange_row same = omega arith
       by_row (Some w) exchange_row same = let le : length w.body ≤ t.received = p.received r w exchange_row in omega arith
 
-  total_by : (r n : ℕ) (u : Representation) → u.head.total ≡ Some n → RepFrom t e r u → n ≤ most now_on
+  total_by : (r n : ℕ) (u : Representation) → u.head.total ≡ Some n → RepFrom t e r u → n < too_long now_on
   total_by r n u known (rep.founded response w none here row on made) =
-      let small : n ≤ 2 ^ 62 = founded_early w response n (ap (λ (z : Representation). z.head.total) made ∙ known) in
+      let small : n < 2 ^ 62 = founded_early w response n (ap (λ (z : Representation). z.head.total) made ∙ known) in
       omega arith
   total_by r n u known (rep.was v kept) = elim kept.total_is [
-    | inl same ↦ let le : n ≤ most t = was.totals r n v kept.row (sym same ∙ known) in omega (arith, grows)
-    | inr over ↦ let le : n ≤ most t = ended_total r n v v.head.total kept.row refl (sym over.total_is ∙ known) in omega (arith, grows)
+    | inl same ↦ let le : n < too_long t = was.totals r n v kept.row (sym same ∙ known) in omega (arith, grows)
+    | inr over ↦ let le : n < too_long t = ended_total r n v v.head.total kept.row refl (sym over.total_is ∙ known) in omega (arith, grows)
   ]
 
   abbrev bytes_in : Event → ℕ
@@ -177,7 +177,7 @@ module _ (t : Tables) (s : Sound t) (m : Measures t) (b : IsBounded t) (p : Plac
   ends_by c r lo hi how k row at =
       let there = some_row (t.representation r) (s.numbered.bound_to r c k (sound.is_bound lo (Some hi) how row at)) in
       let within = m.ends r c lo hi how k there.0 row at there.1 in
-      let le : within.total ≤ most t = short.totals r within.total there.0 there.1 within.known in
+      let le : within.total < too_long t = short.totals r within.total there.0 there.1 within.known in
       let under = within.ends in
       omega arith
 

@@ -25,7 +25,7 @@ pub descends_more : (n m : ℕ) (xs : List ℕ) → n ≤ m → Descends n xs �
 descends_more n m [] le d = tt
 descends_more n m (x ∷ xs) le d = (let lt : x < n = d.0 in omega arith, d.1)
 
-starts_on : (t : Tables) (ev : Event) → denial t ev ≡ None → Descends (t.last_start + 1) t.starts → Descends (last_start_after ev t.last_start + 1) (starts_after ev t.starts)
+pub starts_on : (t : Tables) (ev : Event) → denial t ev ≡ None → Descends (t.last_start + 1) t.starts → Descends (last_start_after ev t.last_start + 1) (starts_after ev t.starts)
 starts_on t (event.Start c request) goes d = let lt : t.last_start < c = starts_later t c request goes in (omega arith, descends_more (t.last_start + 1) c t.starts (omega arith) d)
 starts_on t (event.Poll c want) goes d = d
 starts_on t (event.Head x response) goes d = d

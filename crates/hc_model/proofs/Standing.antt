@@ -53,13 +53,10 @@ plus_none n = omega arith
 
 -- CONSUMERS
 
--- the acts of an entry say nothing to a consumer of whom its event isn't
-module _ (limits : Limits) (t : Tables) (now : ℕ) (ev : Event) (flaw : Flaw) (c : ℕ) (off : is_event_for t c ev ≡ false) where
+-- the acts of an entry say nothing to a consumer whom its event doesn't poll
+module _ (limits : Limits) (t : Tables) (now : ℕ) (ev : Event) (flaw : Flaw) (c : ℕ) (apart : (d want : ℕ) → ev ≡ event.Poll d want → nat_eq d c ≡ false) where
   abbrev closings : List ℕ
   closings = closing t (record { now = now; event = ev; acts = said t now ev flaw ++ lost flaw })
-
-  apart : (d want : ℕ) → ev ≡ event.Poll d want → nat_eq d c ≡ false
-  apart d want at = sym (ap (is_event_for t c) at) ∙ off
 
   far_told : IsFarFrom c (lost flaw ++ closed t now ev flaw)
   far_told = far_loss c flaw _ (far_closed c closings)
@@ -75,7 +72,7 @@ module _ (limits : Limits) (t : Tables) (now : ℕ) (ev : Event) (flaw : Flaw) (
   far_if true = far_asked
   far_if false = far_told
 
-  far_by : (e : Entry) → IsEntry limits t now ev flaw e → IsFarFrom c e.acts
+  pub far_by : (e : Entry) → IsEntry limits t now ev flaw e → IsFarFrom c e.acts
   far_by _ frames.whole = far_answer (accepted limits t now ev flaw) (answer_is limits t now ev flaw)
   far_by _ frames.unevicting = far_if (is_asked ev)
 
@@ -143,7 +140,7 @@ standing limits t now ev flaw _ frames.unevicting = (refl, refl)
 pub standers_stay : StandersStay
 standers_stay limits t now ev flaw e is c k row off =
     let same = standing limits t now ev flaw e is in
-    after_row t e c k (far_by limits t now ev flaw c off e is) (ap (is_event_for t c) same.1 ∙ off) (t.consumer c) row
+    after_row t e c k (far_by limits t now ev flaw c (λ d want at. sym (ap (is_event_for t c) at) ∙ off) e is) (ap (is_event_for t c) same.1 ∙ off) (t.consumer c) row
     ∙ ap (λ moment. Some (if starts_over t e c k then back_in_line moment k else beside t e c k)) same.0
 
 -- WHY IT STARTS OVER

@@ -37,7 +37,7 @@ use Rattle.hc_model.proofs.ExchangeFrom as exchange
 use Rattle.hc_model.proofs.Fills.{Fills, fills, IsPiece, brings, length_same}
 use Rattle.hc_model.proofs.Fills as fills_by
 use Rattle.hc_model.proofs.FirstKeeps.{is_new}
-use Rattle.hc_model.proofs.GoAlone.{bare_front, stored_same, opens_not, shown_not, founds_not, left_loses, lost_of}
+use Rattle.hc_model.proofs.GoAlone.{bare_front, stored_same, opens_not, shown_not, founds_not, left_loses, lost_of, opens_undue}
 use Rattle.hc_model.proofs.LossBy.{IsReal}
 use Rattle.hc_model.proofs.MeasuresKeep.{piece_taken}
 use Rattle.hc_model.proofs.Once.{delivers_once}
@@ -63,7 +63,7 @@ pub record IsTail (t : Tables) (r : ℕ) (v : Representation) (k : Consumer) (x 
   pub of_r : from < front w → family x w ≡ r
 
 pub record AreTails (t : Tables) : Type 0 where
-  pub tail : (r c x : ℕ) (v : Representation) (k : Consumer) (w : Exchange) → t.representation r ≡ Some v → v.alone ≡ Some c → IsBound t r c k → k.due ≡ None → k.own ≡ Some x → t.exchange x ≡ Some w → IsTail t r v k x w
+  pub tail : (r c x : ℕ) (v : Representation) (k : Consumer) (w : Exchange) → t.representation r ≡ Some v → v.alone ≡ Some c → IsBound t r c k → k.own ≡ Some x → t.exchange x ≡ Some w → IsTail t r v k x w
 
 -- as long as it isn't lost all that came is stored
 fresh_tail : (t : Tables) (r x : ℕ) (v : Representation) (k : Consumer) (w : Exchange) → Sound t → t.representation r ≡ Some v → v.is_lost ≡ false → IsTail t r v k x w
@@ -197,13 +197,11 @@ module _ (limits : Limits) (t : Tables) (now : ℕ) (flaw : Flaw) (s : Sound t) 
 
   -- IN EACH WAY
 
-  module _ (was : AreTails t) (later : Sound now_on) (r c x lo : ℕ) (hi : Option ℕ) (how : BoundBy) (u : Consumer) (p : Representation) (z : Exchange) (after : now_on.representation r ≡ Some p) (after_row : now_on.consumer c ≡ Some u) (stands : u.place ≡ place.Bound r lo hi how) (none : u.due ≡ None) (lost_now : p.is_lost ≡ true) (is_alone : p.alone ≡ Some c) (owned : u.own ≡ Some x) (after_x : now_on.exchange x ≡ Some z) where
-    a : IsAlone now_on p u
-    a = later.alone r c p u after is_alone (sound.is_bound lo hi how after_row stands) none
-
+  module _ (was : AreTails t) (later : Sound now_on) (r c x lo : ℕ) (hi : Option ℕ) (how : BoundBy) (u : Consumer) (p : Representation) (z : Exchange) (after : now_on.representation r ≡ Some p) (after_row : now_on.consumer c ≡ Some u) (stands : u.place ≡ place.Bound r lo hi how) (lost_now : p.is_lost ≡ true) (is_alone : p.alone ≡ Some c) (owned : u.own ≡ Some x) (after_x : now_on.exchange x ≡ Some z) where
     -- what is opened now brought nothing
-    bare_tail : z.head ≡ None → z.body ≡ [] → IsTail now_on r p u x z
-    bare_tail bare empty =
+    bare_tail : u.due ≡ None → z.head ≡ None → z.body ≡ [] → IsTail now_on r p u x z
+    bare_tail none bare empty =
+        let a = later.alone r c p u after is_alone (sound.is_bound lo hi how after_row stands) none in
         let low : front z ≡ 0 = bare_front z bare empty in
         let number : a.x ≡ x = some_inj a.x x (sym a.own ∙ owned) in
         let one : a.w ≡ z = same_row (now_on.exchange x) a.w z (sym (ap now_on.exchange number) ∙ a.row) after_x in
@@ -232,9 +230,6 @@ module _ (limits : Limits) (t : Tables) (now : ℕ) (flaw : Flaw) (s : Sound t) 
           or_swap true false h = refl
           or_swap false false h = h
 
-      none_before : k.due ≡ None
-      none_before = (Rattle.hc_model.proofs.Dues.due_before t e c k (Rattle.hc_model.specs.ConsumerRows.consumer_acted t e c (consumer_heard t e c ev k)) u row.is (ap Rattle.hc_model.specs.Reading.reads stands) none).0
-
       -- of who has the pen
       pen_only : is_written t v ≡ false → HasPen t r v c → k.own ≡ Some x → (y : ℕ) → IsAbout t r y → y ≡ x
       pen_only off pen mine y about = by_had (s.writes.had r y v there about)
@@ -258,8 +253,8 @@ module _ (limits : Limits) (t : Tables) (now : ℕ) (flaw : Flaw) (s : Sound t) 
       by_pen : (w : Exchange) → k.own ≡ Some x → t.exchange x ≡ Some w → IsSame t e x w z → PenFrom limits t now flaw s o m ev goes real r c v → IsTail now_on r p u x z
       by_pen w mine w_row same (pens.first fresh quiet is) = absurd (false_true (sym (kept.lost_is ∙ rw (quiet, fresh) refl) ∙ lost_now))
       by_pen w mine w_row same (pens.alone lost quiet is) =
-          step r x k u v p w z there kept lost_then more w_row after_x same (pen_only (Rattle.hc_model.proofs.GoAlone.unwritten_lost limits t now flaw s o m i ev goes real r c lo hi how u p after after_row stands none lost_now is_alone k v row at there kept lost) (sound.alone lost is) mine) (of_own w mine w_row)
-          (was.tail r c x v k w there is reader none_before mine w_row)
+          step r x k u v p w z there kept lost_then more w_row after_x same (pen_only (Rattle.hc_model.proofs.GoAlone.unwritten_lost limits t now flaw s o m i ev goes real r c lo hi how u p after after_row stands lost_now is_alone k v row at there kept lost) (sound.alone lost is) mine) (of_own w mine w_row)
+          (was.tail r c x v k w there is reader mine w_row)
       by_pen w mine w_row same (pens.wrote fresh loses writes) =
           step r x k u v p w z there kept lost_then more w_row after_x same (pen_only writes.unwritten (sound.first fresh writes.first) mine) (of_own w mine w_row) (fresh_tail t r x v k w s there fresh)
       by_pen w mine w_row same (pens.survives losing is) =
@@ -271,9 +266,9 @@ module _ (limits : Limits) (t : Tables) (now : ℕ) (flaw : Flaw) (s : Sound t) 
       kept_tail mine (exchange.was w w_row same) = by_pen w mine w_row same (alone_from limits t now flaw s o m ev goes real r c v p there kept lost_now is_alone)
       kept_tail mine (exchange.new q no_row opens number made) = absurd (false_true (sym (ap (λ (y : Option Exchange). is_some y) no_row) ∙ o.there c x k row.row mine))
 
-      opened_tail : (q : Opening) → opening_in e.acts ≡ Some q → q.x ≡ x → ExchangeFrom t e x z → IsTail now_on r p u x z
-      opened_tail q opens number (exchange.was w w_row same) = absurd (none_some w (sym (new_number limits t now flaw s o ev goes q x opens number) ∙ w_row))
-      opened_tail q opens number (exchange.new g no_row also here made) = bare_tail (ap (λ (y : Exchange). y.head) (sym made)) (ap (λ (y : Exchange). y.body) (sym made))
+      opened_tail : (q : Opening) → opening_in e.acts ≡ Some q → q.c ≡ c → q.x ≡ x → ExchangeFrom t e x z → IsTail now_on r p u x z
+      opened_tail q opens to_it number (exchange.was w w_row same) = absurd (none_some w (sym (new_number limits t now flaw s o ev goes q x opens number) ∙ w_row))
+      opened_tail q opens to_it number (exchange.new g no_row also here made) = bare_tail (opens_undue limits t now flaw s o m i ev goes real r c lo hi how u p after after_row stands lost_now is_alone k v row at there kept q opens to_it) (ap (λ (y : Exchange). y.head) (sym made)) (ap (λ (y : Exchange). y.body) (sym made))
 
       -- the writing was left to it
       written_tail : is_written t v ≡ true → v.writer ≡ Some x → ExchangeFrom t e x z → IsTail now_on r p u x z
@@ -287,25 +282,25 @@ module _ (limits : Limits) (t : Tables) (now : ℕ) (flaw : Flaw) (s : Sound t) 
 
       by_own : OwnFrom t e c x u → IsTail now_on r p u x z
       by_own (own.kept q its mine heard) = kept_tail (ap (λ (b : Consumer). b.own) (same_row (t.consumer c) k q row.row its.row) ∙ mine) (exchange_from t e x (t.exchange x) z refl after_x)
-      by_own (own.opened q g its opens mine number) = opened_tail g opens number (exchange_from t e x (t.exchange x) z refl after_x)
+      by_own (own.opened q g its opens mine number) = opened_tail g opens mine number (exchange_from t e x (t.exchange x) z refl after_x)
       by_own (own.left q its l) = by_left q its.row l
         where
           by_left : (q : Consumer) → t.consumer c ≡ Some q → own.IsLeft t e c x (consumer_heard t e c ev q).place → IsTail now_on r p u x z
           by_left q q_row l =
-              let both = left_loses limits t now flaw s o m i ev goes real r c lo hi how u p after after_row stands none lost_now is_alone k v row at there kept x q q_row l in
-              let number = Rattle.hc_model.proofs.GoAlone.left_number limits t now flaw s o m i ev goes real r c lo hi how u p after after_row stands none lost_now is_alone k v row at there kept x q q_row l in
+              let both = left_loses limits t now flaw s o m i ev goes real r c lo hi how u p after after_row stands lost_now is_alone k v row at there kept x q q_row l in
+              let number = Rattle.hc_model.proofs.GoAlone.left_number limits t now flaw s o m i ev goes real r c lo hi how u p after after_row stands lost_now is_alone k v row at there kept x q q_row l in
               written_tail both.0 (ap (λ (y : Representation). y.writer) (sym (same_row (t.representation r) l.v v (sym (ap t.representation number) ∙ l.row) there)) ∙ l.writer_is) (exchange_from t e x (t.exchange x) z refl after_x)
 
     by_way : BoundFrom t e c r lo hi how u → RepFrom t e r p → IsTail now_on r p u x z
     by_way (from.stays k row at) (rep.was v kept) = by_own k v row at kept.row kept (own_from t e c x (t.consumer c) u refl after_row owned)
     by_way (from.stays k row at) (rep.founded response w none_there here w_row on is_made) = absurd (false_true (ap (λ (b : Representation). b.is_lost) is_made ∙ lost_now))
-    by_way (from.founds k y response w row here w_row mine of_it by_is all) from_rep = absurd (founds_not limits t now flaw s o m i ev goes real r c lo hi how u p after after_row stands none lost_now is_alone y response w here w_row of_it from_rep)
-    by_way (from.opens k q row opens mine free way hole) from_rep = absurd (opens_not limits t now flaw s o m i ev goes real r c lo hi how u p after after_row stands none lost_now is_alone k q row opens mine free hole from_rep)
-    by_way (from.shows k q row is all) from_rep = absurd (shown_not limits t now flaw s o m i ev goes real r c lo hi how u p after after_row stands none lost_now is_alone k q row is all from_rep)
+    by_way (from.founds k y response w row here w_row mine of_it by_is all) from_rep = absurd (founds_not limits t now flaw s o m i ev goes real r c lo hi how u p after after_row stands lost_now is_alone y response w here w_row of_it from_rep)
+    by_way (from.opens k q row opens mine free way hole) from_rep = absurd (opens_not limits t now flaw s o m i ev goes real r c lo hi how u p after after_row stands lost_now is_alone k q row opens mine free hole from_rep)
+    by_way (from.shows k q row is all) from_rep = absurd (shown_not limits t now flaw s o m i ev goes real r c lo hi how u p after after_row stands lost_now is_alone k q row is all from_rep)
 
   pub tails_kept : AreTails t → Sound now_on → AreTails now_on
   tails_kept was later = record { tail = by_reader }
     where
-      by_reader : (r c x : ℕ) (p : Representation) (u : Consumer) (z : Exchange) → now_on.representation r ≡ Some p → p.alone ≡ Some c → IsBound now_on r c u → u.due ≡ None → u.own ≡ Some x → now_on.exchange x ≡ Some z → IsTail now_on r p u x z
-      by_reader r c x p u z after is_alone (sound.is_bound lo hi how after_row stands) none owned after_x =
-          by_way was later r c x lo hi how u p z after after_row stands none (lost_of limits t now flaw s o m i ev goes real r c p after is_alone) is_alone owned after_x (bound_from t e c r lo hi how (t.consumer c) u refl after_row stands) (rep_from t e r (t.representation r) p refl after)
+      by_reader : (r c x : ℕ) (p : Representation) (u : Consumer) (z : Exchange) → now_on.representation r ≡ Some p → p.alone ≡ Some c → IsBound now_on r c u → u.own ≡ Some x → now_on.exchange x ≡ Some z → IsTail now_on r p u x z
+      by_reader r c x p u z after is_alone (sound.is_bound lo hi how after_row stands) owned after_x =
+          by_way was later r c x lo hi how u p z after after_row stands (lost_of limits t now flaw s o m i ev goes real r c p after is_alone) is_alone owned after_x (bound_from t e c r lo hi how (t.consumer c) u refl after_row stands) (rep_from t e r (t.representation r) p refl after)

@@ -1,4 +1,4 @@
--- What heads tell is below 2^62: positions, lengths, and so the end of what is promised.
+-- What heads tell is below 2^62: positions and lengths. So what is promised ends by 2^62.
 use Rattle.std.proofs.Common.{◌≡◌, ◌≤◌, ◌<◌, inl, inr, ℕ, ◌+◌, ◌-◌, ◌^◌, List, [], ◌∷◌, codes, Bool, true, false, Option, Some, None, refl, arith}
 use Rattle.std.specs.Prelude.{if◌then◌else◌, ◌==◌, option_and_then}
 use Rattle.hc_fields.specs.FieldElements.{elements_in}
@@ -10,6 +10,8 @@ use Rattle.hc_event.specs.declared.event.Request.{Request}
 use Rattle.hc_event.specs.declared.event.Response.{Response}
 use Rattle.hc_event.specs.declared.act.Need.{Need}
 use Rattle.hc_rules.specs.declared.length.Length.{Length}
+use Rattle.hc_rules.specs.declared.need.Route.{Route}
+use Rattle.hc_rules.specs.declared.need.Route.TheVariants as route
 use Rattle.hc_rules.specs.declared.length.Length.TheVariants as says
 use Rattle.hc_rules.specs.Lengths.{length_of, length_told, part_length, all_tell, told, agrees, has_no_body, tells_part, base_of, promise_of}
 use Rattle.hc_rules.specs.Needs.{route_of}
@@ -25,7 +27,7 @@ use Rattle.hc_model.proofs.PieceKeeps.{some_inj}
 
 -- what a head says of the length ends by 2^62
 abbrev pub EndsEarly : Length → Type 0
-EndsEarly (says.Promised n) = n ≤ 2 ^ 62
+EndsEarly (says.Promised n) = n < 2 ^ 62
 EndsEarly (says.Part first n) = first + n ≤ 2 ^ 62
 EndsEarly _ = Unit {0}
 
@@ -43,7 +45,7 @@ told_early (element ∷ elements) = if_early (all_tell (number_of element) (elem
 
 -- a part that a text spells
 abbrev IsEarlyPart : ContentRange → Type 0
-IsEarlyPart (range.Part first last total) = (first ≤ last) × (last < 2 ^ 62) × ((n : ℕ) → total ≡ Some n → n ≤ 2 ^ 62)
+IsEarlyPart (range.Part first last total) = (first ≤ last) × (last < 2 ^ 62) × ((n : ℕ) → total ≡ Some n → n < 2 ^ 62)
 IsEarlyPart (range.Unsatisfied total) = Unit {0}
 
 spelled_early : (text : List ℕ) (part : ContentRange) → content_range_in text ≡ Some part → IsEarlyPart part
@@ -94,17 +96,51 @@ promise_early w n is = by_early (length_by w w.head) n (by_head w.head) is
     by_head None = tt
     by_head (Some response) = length_early w.need w.request response
 
-part_total : (o : Option ContentRange) (n : ℕ) → ((part : ContentRange) → o ≡ Some part → IsEarlyPart part) → total_of_part o ≡ Some n → n ≤ 2 ^ 62
+part_total : (o : Option ContentRange) (n : ℕ) → ((part : ContentRange) → o ≡ Some part → IsEarlyPart part) → total_of_part o ≡ Some n → n < 2 ^ 62
 part_total None n early is = absurd (none_some n is)
 part_total (Some (range.Unsatisfied total)) n early is = absurd (none_some n is)
 part_total (Some (range.Part first last total)) n early is = (early (range.Part first last total) refl).2 n is
 
+-- ALL OF AN ANSWER
+
+-- no part tells it
+abbrev TellsNoPart : Length → Type 0
+TellsNoPart (says.Part first n) = ⊥
+TellsNoPart _ = Unit {0}
+
+no_part_if : (b : Bool) (l m : Length) → TellsNoPart l → TellsNoPart m → TellsNoPart (if b then l else m)
+no_part_if true l m a b = a
+no_part_if false l m a b = b
+
+told_no_part : (elements : List (List ℕ)) → TellsNoPart (length_told elements)
+told_no_part [] = tt
+told_no_part (element ∷ elements) = no_part_if (all_tell (number_of element) (element ∷ elements)) (told (number_of element)) says.Bad (by_number (number_of element)) tt
+  where
+    by_number : (o : Option ℕ) → TellsNoPart (told o)
+    by_number None = tt
+    by_number (Some n) = tt
+
+tells_off : (r : Route) (status : ℕ) → (status == 206) ≡ false → tells_part r status ≡ false
+tells_off route.Direct status whole = refl
+tells_off route.Turn status whole = whole
+tells_off route.Hole status whole = whole
+
+whole_no_part : (need : Need) (request : Request) (response : Response) → (response.status == 206) ≡ false → TellsNoPart (length_of need request response)
+unfolding length_of
+whole_no_part need request response whole =
+    no_part_if (has_no_body request response.status) (says.Promised 0) _ tt (rw (tells_off (route_of need) response.status whole) (told_no_part (elements_in (codes "content-length") response.fields)))
+
+by_whole : (l : Length) (n : ℕ) → EndsEarly l → TellsNoPart l → promise_of l ≡ Some n → n < 2 ^ 62
+by_whole says.Unknown n early whole is = absurd (none_some n is)
+by_whole says.Bad n early whole is = absurd (none_some n is)
+by_whole (says.Promised p) n early whole is = let same : p ≡ n = some_inj p n is in omega arith
+by_whole (says.Part first p) n early whole is = absurd whole
+
 -- the length of what a head founds
-pub founded_early : (w : Exchange) (response : Response) (n : ℕ) → founded_total w response ≡ Some n → n ≤ 2 ^ 62
+pub founded_early : (w : Exchange) (response : Response) (n : ℕ) → founded_total w response ≡ Some n → n < 2 ^ 62
 founded_early w response n is = elim (bool_cases (response.status == 206)) [
   | inl part ↦ part_total (content_range_of response.fields) n (range_early response) (rw part at is)
   | inr whole ↦
       let promise : promise_of (length_of w.need w.request response) ≡ Some n = rw whole at is in
-      let le : base_of (length_of w.need w.request response) + n ≤ 2 ^ 62 = by_early (length_of w.need w.request response) n (length_early w.need w.request response) promise in
-      omega arith
+      by_whole (length_of w.need w.request response) n (length_early w.need w.request response) (whole_no_part w.need w.request response whole) promise
 ]

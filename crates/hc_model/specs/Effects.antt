@@ -133,6 +133,7 @@ just_founded now x response w = represented x (unanswered now (event.Head x resp
 abbrev pub with_founding : ℕ → Representation → Tables → Tables
 with_founding x v t =
     record (used_last x (with_representation x (Some v) t)) { founded = x ∷ t.founded }
+
 -- AN EXCHANGE BRINGS BYTES, AND ENDS
 
 -- the exchange, where these bytes leave it open

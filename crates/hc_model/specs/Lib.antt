@@ -52,7 +52,9 @@ pub mod Aims
 pub mod Alone
 pub mod Growing
 pub mod Losses
+pub mod Live
 pub mod Laws
 pub mod Lawful
 pub mod Effects
+pub mod LettingGo
 pub mod Numbers

@@ -39,7 +39,7 @@ pub record HoldsOwn (t : Tables) (c : ℕ) (v : Representation) (k : Consumer) :
   pub next : v.stored (offset t k) ≡ None → (n : ℕ) → 0 < n →
       held t c k n ≡ run_of x (offset t k) (take n (drop (offset t k - base w) w.body))
 
--- who goes on alone, and has no failure due
+-- who goes on alone, also where a failure is due
 pub record Losses (t : Tables) : Type 0 where
   pub alone : (r c : ℕ) (v : Representation) (k : Consumer) → t.representation r ≡ Some v →
-      v.alone ≡ Some c → IsBound t r c k → k.due ≡ None → HoldsOwn t c v k
+      v.alone ≡ Some c → IsBound t r c k → HoldsOwn t c v k

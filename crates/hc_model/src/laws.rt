@@ -11,6 +11,7 @@ ghost use Rattle.hc_model.specs.Evictions.{EvictsOne, AnyLeavesOneCurrent, Evict
 ghost use Rattle.hc_model.specs.Frames.{PartsAreKept, OthersStay, OthersDontGo, GoneIsCaused, ExchangesStay, StandersStay, ReadersStay, StartingOverIsCaused, OthersStandStill, BoundStay, CurrentStays, FoundedIsCurrent};
 ghost use Rattle.hc_model.specs.Given.{Given};
 ghost use Rattle.hc_model.specs.Growing.{Growing, StopsInRuns};
+ghost use Rattle.hc_model.specs.Live.{FewLive};
 ghost use Rattle.hc_model.specs.Losses.{Brings, Losses};
 ghost use Rattle.hc_model.specs.Measures.{Measures};
 ghost use Rattle.hc_model.specs.Numbers.{NumbersInRuns};
@@ -312,11 +313,16 @@ pub fn given_bytes_are_there()
     ensures { OfRuns Given }
 {}
 
-/// Numbers stay small, in every run from contents whose lengths heads can tell: what heads tell ends by 2^62, and
-/// what none tells is no more than was received. So of the end of a promise, of fronts, known lengths and reaches,
-/// and of where a consumer begins and ends to read.
+/// Numbers stay small, in every run from contents whose lengths heads can tell: what heads tell is below 2^62 and ends
+/// by it, and what none tells is no more than was received. So of the end of a promise, of fronts, known lengths and
+/// reaches, and of where a consumer begins and ends to read.
 pub fn numbers_stay_small()
     ensures { NumbersInRuns }
+{}
+
+/// No more consumers are live than the refusals let start, in every run.
+pub fn few_are_live()
+    ensures { OfRuns FewLive }
 {}
 
 /// Who writes a representation alone is the only one that is bound to it, and came alone, until it is lost, in every
@@ -334,9 +340,9 @@ pub fn one_exchange_brings_it()
 {}
 
 /// What an exchange brought stands in the body that it founded or joined, and nothing else there is from it, in every
-/// run. For who goes on alone with what was lost what its own exchange brought is held from one position on, up to the
-/// front, and else all that came ahead of it is stored: so what it is given next, where nothing is stored, is what its
-/// exchange brought there.
+/// run. For who goes on alone with what was lost, whether or not a failure is due to it, what its own exchange brought
+/// is held from one position on, up to the front, and else all that came ahead of it is stored: so what it is given
+/// next, where nothing is stored, is what its exchange brought there.
 pub fn losses_are_held()
     ensures brings { OfRuns Brings }
     ensures held { OfRuns Losses }

@@ -2,13 +2,15 @@
 use Rattle.std.proofs.Common.{◌≡◌, ℕ, suc, ◌+◌, ◌<◌, ◌≤◌, List, [], ◌∷◌, ◌++◌, length, take, drop, get_or, Option, refl, sym, ap, subst, ◌∙◌, arith, append_assoc, length-append}
 use Rattle.std.proofs.lemmas.List.{append-nil, take-append-drop, take_more, length-take}
 use Rattle.std.proofs.Math.Seq.{drop-cons}
+use Rattle.hc_event.specs.declared.event.Event.{Event}
 use Rattle.hc_event.specs.declared.act.Act.{Act}
 use Rattle.hc_io.specs.Sink.{Takes, TakesFront}
 use Rattle.hc_io.proofs.Takings.{takes_more, takes_none}
 use Rattle.hc_sched.specs.declared.schedule.Timed.{Timed}
 use Rattle.hc_sched.specs.Laws.{AreTimed}
 use Rattle.hc_sched.specs.Report.{entry_text}
-use Rattle.hc_loop.specs.Counting.{received_in, size_of}
+use Rattle.hc_step.specs.Counting.{received_in}
+use Rattle.hc_loop.specs.Counting.{size_of}
 use Rattle.hc_loop.specs.Stepping.{Entry, History, events_in, report_after, Leads, nothing, more, Steps, StepsSome, last_moment}
 use Rattle.hc_loop.specs.Reported.{Tells}
 use Rattle.hc_loop.proofs.Sizes.{size_of-append}
@@ -44,7 +46,7 @@ pub record Counts : Type 0 where
   pub moment : ℕ
   pub faults : ℕ
 
-pub record IsWritten {A : Type 0} (answers : A → Timed → List Act → A → Type 0) (s u : A) (before now : Counts) (events : List Timed) (i : ℕ) (out out' : Option (List ℕ)) : Type 0 where
+pub record IsWritten {A : Type 0} (answers : A → ℕ → Event → List Act → A → Type 0) (s u : A) (before now : Counts) (events : List Timed) (i : ℕ) (out out' : Option (List ℕ)) : Type 0 where
   pub steps : Steps answers s u before.number (take i events) out out'
   pub numbered : now.number ≡ before.number + i
   pub counted : now.steps ≡ before.steps + i
@@ -55,7 +57,7 @@ pub record IsWritten {A : Type 0} (answers : A → Timed → List Act → A → 
 
 -- JOINING
 
-module _ {A : Type 0} (answers : A → Timed → List Act → A → Type 0) where
+module _ {A : Type 0} (answers : A → ℕ → Event → List Act → A → Type 0) where
   leads-append : (s t u : A) (h g : History) → Leads answers s h t → Leads answers t g u → Leads answers s (g ++ h) u
   leads-append s t u h _ first nothing = first
   leads-append s t u h _ first (more g e v w rest answered) =

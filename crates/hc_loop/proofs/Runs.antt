@@ -2,6 +2,7 @@
 use Rattle.std.proofs.Common.{◌≡◌, ℕ, ◌+◌, ◌≤◌, List, [], ◌++◌, length, Option, Some, None, Result, Ok, Err, refl, sym, ap, subst, ◌∙◌, inl, inr, arith, length-append}
 use Rattle.std.proofs.lemmas.List.{append-nil}
 use Rattle.std.proofs.lemmas.Bool.{cases_Bool}
+use Rattle.hc_event.specs.declared.event.Event.{Event}
 use Rattle.hc_event.specs.declared.act.Act.{Act}
 use Rattle.hc_io.specs.Source.{Gives, GivesAll, IsAtEnd}
 use Rattle.hc_io.specs.declared.sink.SinkError.{SinkError}
@@ -41,7 +42,7 @@ pub record Extent : Type 0 where
   pub given : ℕ
 
 -- what was read so far was stepped and reported
-pub record IsOn {A : Type 0} (answers : A → Timed → List Act → A → Type 0) (s u : A) (moment given : ℕ) (now : Extent) (feed : Progress) (left left' out out' : Option (List ℕ)) : Type 0 where
+pub record IsOn {A : Type 0} (answers : A → ℕ → Event → List Act → A → Type 0) (s u : A) (moment given : ℕ) (now : Extent) (feed : Progress) (left left' out out' : Option (List ℕ)) : Type 0 where
   pub text : List ℕ
   pub gives : Gives left left' text
   pub leads : after (beginning moment) text ≡ feed
@@ -60,7 +61,7 @@ IsAs feed (Ok done) = refusal_at feed ≡ None
 IsAs feed (Err (error.Refused r)) = refusal_at feed ≡ Some r
 IsAs feed (Err error.NoMemory) = ⊥
 
-module _ {A : Type 0} (answers : A → Timed → List Act → A → Type 0) where
+module _ {A : Type 0} (answers : A → ℕ → Event → List Act → A → Type 0) where
   pub on_start : (s : A) (moment : ℕ) (now : Extent) (left out : Option (List ℕ)) → now.number ≡ 0 → now.steps + now.received ≡ 0 → now.moment ≤ moment
       → IsOn answers s s moment now.given now (beginning moment) left left out out
   on_start s moment now left out number none le = record {

@@ -1,13 +1,7 @@
 -- How much there is to step: events, and the bytes of their pieces.
-use Rattle.std.specs.Prelude.{ℕ, ◌+◌, List, [], ◌∷◌, length}
-use Rattle.hc_event.specs.declared.event.Event.{Event}
-use Rattle.hc_event.specs.declared.event.Event.TheVariants as event
+use Rattle.std.specs.Prelude.{ℕ, ◌+◌, List, [], ◌∷◌}
+use Rattle.hc_step.specs.Counting.{received_in}
 use Rattle.hc_sched.specs.declared.schedule.Timed.{Timed}
-
--- how many bytes a piece has
-abbrev pub received_in : Event → ℕ
-received_in (event.Piece x bytes) = length bytes
-received_in _ = 0
 
 -- one for each event, and one for each byte of a piece
 abbrev pub size_of : List Timed → ℕ

@@ -1,5 +1,6 @@
 -- What came of a schedule that was read, stepped and reported.
 use Rattle.std.specs.Prelude.{◌≡◌, ℕ, List, ◌++◌, Option, Some, None, Result, Ok, Err}
+use Rattle.hc_event.specs.declared.event.Event.{Event}
 use Rattle.hc_event.specs.declared.act.Act.{Act}
 use Rattle.hc_io.specs.Source.{Gives, GivesAll}
 use Rattle.hc_sched.specs.declared.schedule.Ended.{Ended}
@@ -19,7 +20,7 @@ abbrev pub IsReading : Progress → Type 0
 IsReading progress = (place : Place) × (line : List ℕ) × (progress ≡ Reads place line)
 
 -- What came of one piece of a text: the reading went on and all of its events were reported, or up to a refusal, or some first of them were.
-abbrev pub Goes : {A : Type 0} → (A → Timed → List Act → A → Type 0) → A → A → ℕ → Progress → List ℕ → Progress → Option (List ℕ) → Option (List ℕ) → Result (Unit {0}) Stop → Type 0
+abbrev pub Goes : {A : Type 0} → (A → ℕ → Event → List Act → A → Type 0) → A → A → ℕ → Progress → List ℕ → Progress → Option (List ℕ) → Option (List ℕ) → Result (Unit {0}) Stop → Type 0
 Goes answers s u n before piece now out out' (Ok done) =
     (after before piece ≡ now) × Steps answers s u n (events_in before piece) out out'
 Goes answers s u n before piece now out out' (Err (stop.Refused refused)) =
@@ -38,7 +39,7 @@ IsRefused moment text refused = (more : List ℕ) → refusal_of moment (text ++
 
 -- What came of a schedule from this moment on, by how it ended: what its source had left before and
 -- after, and what its sink had taken.
-pub data Ends {A : Type 0} (answers : A → Timed → List Act → A → Type 0) (s u : A) (moment : ℕ) (left left' out out' : Option (List ℕ)) : Ended → Type 0 where
+pub data Ends {A : Type 0} (answers : A → ℕ → Event → List Act → A → Type 0) (s u : A) (moment : ℕ) (left left' out out' : Option (List ℕ)) : Ended → Type 0 where
   -- the whole text is a schedule, and its report was taken
   done : (text : List ℕ) → GivesAll left left' text → refusal_of moment text ≡ None →
       Steps answers s u 0 (brought moment text) out out' → Ends answers s u moment left left' out out' ended.Done

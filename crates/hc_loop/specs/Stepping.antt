@@ -1,5 +1,6 @@
 -- Events that are stepped one after another, and the report of them.
 use Rattle.std.specs.Prelude.{◌≡◌, ℕ, ◌+◌, List, [], ◌∷◌, ◌++◌, length, Option}
+use Rattle.hc_event.specs.declared.event.Event.{Event}
 use Rattle.hc_event.specs.declared.act.Act.{Act}
 use Rattle.hc_io.specs.Sink.{Takes, TakesFront}
 use Rattle.hc_sched.specs.declared.schedule.Timed.{Timed}
@@ -25,20 +26,20 @@ report_after n [] = []
 report_after n (e ∷ h) = report_after n h ++ entry_text (n + length h + 1) e.acts
 
 -- Each event was answered where the one before it led.
-pub data Leads {A : Type 0} (answers : A → Timed → List Act → A → Type 0) (s : A) : History → A → Type 0 where
+pub data Leads {A : Type 0} (answers : A → ℕ → Event → List Act → A → Type 0) (s : A) : History → A → Type 0 where
   nothing : Leads answers s [] s
-  more : (h : History) (e : Entry) (t u : A) → Leads answers s h t → answers t e.timed e.acts u →
+  more : (h : History) (e : Entry) (t u : A) → Leads answers s h t → answers t e.timed.now e.timed.event e.acts u →
       Leads answers s (e ∷ h) u
 
 -- All these events were stepped, and their report was taken.
-pub record Steps {A : Type 0} (answers : A → Timed → List Act → A → Type 0) (s u : A) (n : ℕ) (events : List Timed) (out out' : Option (List ℕ)) : Type 0 where
+pub record Steps {A : Type 0} (answers : A → ℕ → Event → List Act → A → Type 0) (s u : A) (n : ℕ) (events : List Timed) (out out' : Option (List ℕ)) : Type 0 where
   pub history : History
   pub leads : Leads answers s history u
   pub events_are : events_in history ≡ events
   pub report : Takes out out' (report_after n history)
 
 -- Some first of these events were stepped, and some first part of their report was taken.
-pub record StepsSome {A : Type 0} (answers : A → Timed → List Act → A → Type 0) (s : A) (n : ℕ) (events : List Timed) (out out' : Option (List ℕ)) : Type 0 where
+pub record StepsSome {A : Type 0} (answers : A → ℕ → Event → List Act → A → Type 0) (s : A) (n : ℕ) (events : List Timed) (out out' : Option (List ℕ)) : Type 0 where
   pub last : A
   pub history : History
   pub rest : List Timed

@@ -3,11 +3,9 @@
 #![tactic(auto)]
 
 mod report;
-mod stepper;
 mod stop;
 mod through;
 
-pub use stepper::Stepper;
 pub use through::step_through;
 
 #[cfg(test)]

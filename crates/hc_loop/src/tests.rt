@@ -5,6 +5,7 @@ use super::*;
 use hc_event::{Act, Acts, Event};
 use hc_io::{MemorySink, MemorySource};
 use hc_sched::{Ended, Refused, SchedRefusal};
+use hc_step::Stepper;
 use hc_text::NoMemory;
 use std::alloc::Global;
 use std::test::Fail;
@@ -24,7 +25,7 @@ impl Stepper for Echo {
 
     ghost received = { λ s. s.received };
 
-    ghost answers = { λ _ _ _ _. ⊤ };
+    ghost answers = { λ _ _ _ _ _. ⊤ };
 
     fn step(&mut self, now: u64, event: &Event, out: &mut Acts) -> Result<(), NoMemory> {
         if let Event::Poll { c, .. } = event {

@@ -1,17 +1,16 @@
 //! What events are stepped on.
-ghost use Rattle.std.specs.Prelude.{◌≡◌, ◌+◌, ◌<◌, ◌≤◌, ◌^◌, ◌++◌, ℕ, List, OnOk, OnErr};
+ghost use Rattle.std.specs.Prelude.{◌≡◌, ◌+◌, ◌<◌, ◌≤◌, ◌^◌, ℕ, List, OnOk, OnErr};
 ghost use Rattle.hc_event.specs.Acts.{listed};
 ghost use Rattle.hc_event.specs.declared.act.Act.{Act};
-ghost use Rattle.hc_sched.specs.Schedule.{IsEvent, IsSmall};
-ghost use Rattle.hc_sched.specs.declared.schedule.Timed.{Timed};
-ghost use Rattle.hc_loop.specs.Counting.{received_in};
+ghost use Rattle.hc_event.specs.declared.event.Event.{Event};
+ghost use Rattle.hc_step.specs.Counting.{received_in};
 
 use hc_event::{Acts, Event};
 use hc_text::NoMemory;
 
-/// Answers the events of a schedule, one after another.
+/// Answers events, one after another.
 pub trait Stepper {
-    ghost use Rattle.hc_loop.specs.Answering.{Appends};
+    ghost use Rattle.hc_step.specs.Answering.{Appends};
 
     /// The moment of the last event.
     ghost moment: { Self → ℕ };
@@ -22,19 +21,17 @@ pub trait Stepper {
     /// How many bytes their pieces had.
     ghost received: { Self → ℕ };
 
-    /// The event was answered by these acts, and led from the one to the other.
-    ghost answers: { Self → Timed → List Act → Self → Type 0 };
+    /// The event was answered at a moment by these acts, and led from the one to the other.
+    ghost answers: { Self → ℕ → Event → List Act → Self → Type 0 };
 
     /// Answers an event at a moment, in seconds since 1970: its acts are appended. Where memory is
     /// refused the acts are as before.
     fn step(&mut self, now: u64, event: &Event, out: &mut Acts) -> Result<(), NoMemory>
         requires later { moment self.old ≤ now }
-        requires small { IsSmall now }
-        requires spelled { IsEvent event.now }
         requires few { steps self.old < 2 ^ 60 }
-        requires little { received self.old < 2 ^ 60 }
-        ensures answered { OnOk result (Appends answers self.old self.new
-            (record { now = now; event = event.now }) (listed out.old) (listed out.new)) }
+        requires small { received self.old + received_in event.now < 2 ^ 61 }
+        ensures answered { OnOk result (Appends answers self.old self.new now event.now
+            (listed out.old) (listed out.new)) }
         ensures moment { OnOk result (moment self.new ≡ now) }
         ensures steps { OnOk result (steps self.new ≡ steps self.old + 1) }
         ensures received { OnOk result

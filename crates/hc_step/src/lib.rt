@@ -1,0 +1,6 @@
+//! What answers events, one after another.
+#![tactic(auto)]
+
+mod stepper;
+
+pub use stepper::Stepper;

@@ -7,5 +7,6 @@ pub mod PartLemmas
 pub mod ExtentLemmas
 pub mod ClaimLemmas
 pub mod BlockLemmas
+pub mod SpanLemmas
 pub mod TailLemmas
 pub mod OpLemmas

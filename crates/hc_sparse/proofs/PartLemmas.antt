@@ -1,6 +1,6 @@
 -- Bytes that are kept in one place.
-use Rattle.std.proofs.Common.{◌≡◌, inl, inr, ℕ, ◌+◌, ◌-◌, ◌<◌, ◌≤◌, ◌^◌, List, ◌++◌, length, Some, refl, ap, ◌∙◌, arith, get_or, take, drop, get_or-take, get_or-drop, length-take, length-drop}
-use Rattle.hc_sparse.specs.Cells.{Cells, Covers}
+use Rattle.std.proofs.Common.{◌≡◌, inl, inr, ℕ, ◌+◌, ◌-◌, ◌≤◌, List, ◌++◌, length, Some, refl, ap, ◌∙◌, arith, get_or, take, drop, get_or-take, get_or-drop, length-take, length-drop}
+use Rattle.hc_sparse.specs.Cells.{Cells, Covers, GoesTo}
 use Rattle.hc_sparse.specs.Runs.{cells_of, cell_in}
 use Rattle.hc_sparse.specs.Runs.{IsRunFrom}
 use Rattle.hc_sparse.specs.Stretch.{bytes_from, IsPart}
@@ -22,15 +22,12 @@ part-of f p x bytes most is =
 pub part-here : (f : Cells) (p x : ℕ) (bytes : List ℕ) → IsPart f p x bytes → f p ≡ Some (record { byte = get_or bytes 0 0; x = x })
 part-here f p x bytes is = let some = is.some in let at-p : p + 0 ≡ p = omega arith in rw at-p at (is.each 0 some)
 
--- What is covered up to a part is covered up to its end.
-pub part-covers : (f : Cells) (lo p x : ℕ) (bytes : List ℕ) → IsPart f p x bytes → Covers f lo p → Covers f lo (p + length bytes)
-part-covers f lo p x bytes is before q ge lt = elim (split q p) [
+-- What is covered up to a position is covered up to where it goes on to.
+pub covers-on : (f : Cells) (lo p end : ℕ) → GoesTo f p end → Covers f lo p → Covers f lo end
+covers-on f lo p end on before q ge lt = elim (split q p) [
   | inl below ↦ before q ge below
-  | inr over ↦ let there = is.each (q - p) (omega arith) in let at-q : p + (q - p) ≡ q = omega arith in let here = rw at-q at there in rw here refl
+  | inr over ↦ on.covers q over lt
 ]
-
-pub part-within : (f : Cells) (p x : ℕ) (bytes : List ℕ) → IsPart f p x bytes → p + length bytes < 2 ^ 64
-part-within f p x bytes is = let end = is.end in omega arith
 
 -- The rest of a run is a part.
 pub run-is_part : (rs : List Run) (p : ℕ) (r : Run) → IsRunFrom rs p r → r.at ≤ p → IsPart (cells_of rs) p r.x (drop (p - r.at) r.bytes)

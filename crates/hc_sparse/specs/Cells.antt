@@ -37,6 +37,11 @@ AreOf x f lo hi = (p : ℕ) → lo ≤ p → p < hi → (byte : ℕ) × (f p ≡
 abbrev pub Covers : Cells → ℕ → ℕ → Type 0
 Covers f lo hi = (p : ℕ) → lo ≤ p → p < hi → is_some (f p) ≡ true
 
+-- A position is past another, and something is at each from that to below it.
+pub record GoesTo (f : Cells) (p end : ℕ) : Type 0 where
+  pub past : p < end
+  pub covers : Covers f p end
+
 -- The least position from p on where something is.
 abbrev pub IsNext : Cells → ℕ → Option ℕ → Type 0
 IsNext f p None = EndsBy p f

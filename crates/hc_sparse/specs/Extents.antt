@@ -33,6 +33,15 @@ marks_of (e ∷ es) o = claimed e.at e.len e.x e.from (marks_of es) o
 abbrev pub AreFree : Marks → ℕ → ℕ → Type 0
 AreFree f lo hi = (o : ℕ) → lo ≤ o → o < hi → f o ≡ None
 
+-- Somebody has each offset from one to below another.
+abbrev pub HaveAll : Marks → ℕ → ℕ → Type 0
+HaveAll f lo hi = (o : ℕ) → lo ≤ o → o < hi → is_some (f o) ≡ true
+
+-- An offset is past another, and somebody has each from that to below it.
+pub record Reaches (f : Marks) (o end : ℕ) : Type 0 where
+  pub past : o < end
+  pub all : HaveAll f o end
+
 -- The least offset from one on that somebody has.
 abbrev pub IsNextMark : Marks → ℕ → Option ℕ → Type 0
 IsNextMark f o None = (q : ℕ) → o ≤ q → f q ≡ None

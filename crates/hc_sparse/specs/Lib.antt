@@ -5,6 +5,8 @@ pub mod Plain
 pub mod Extents
 pub mod Blocks
 pub mod BlockMaps
+pub mod SpanMaps
+pub mod Spans
 pub mod Places
 pub mod Sparse
 pub mod Ops

@@ -3,7 +3,7 @@ ghost use Rattle.std.specs.Prelude.{◌≡◌, ◌+◌, ◌≤◌, ◌<◌, ◌%
 ghost use Rattle.std.specs.Ordering.{nat_cmp};
 ghost use Rattle.std.specs.BTreeMap.{get};
 ghost use Rattle.hc_sparse.specs.Stretch.{IsPart};
-ghost use Rattle.hc_sparse.specs.Extents.{claimed, end_of, AreFree, IsNextMark};
+ghost use Rattle.hc_sparse.specs.Extents.{claimed, end_of, AreFree, Reaches, IsNextMark};
 ghost use Rattle.hc_sparse.specs.BlockMaps.{cells_by, marks, AreBelow, AreWithin, HaveSame, IsFirstFrom};
 
 use crate::block::{Block, LEN};
@@ -31,6 +31,17 @@ pub(crate) fn part_in<'a>(
         extent.x,
         &bytes[extent.from + skipped..extent.from + extent.len],
     ))
+}
+
+/// Where those bytes end.
+pub(crate) fn end_in(blocks: &BTreeMap<u64, Block>, p: u64) -> Option<u64>
+    requires { AreBelow blocks.now }
+    ensures none { IsNone result → marks blocks.now p ≡ None }
+    ensures some { IfSome result (λ end. Reaches (marks blocks.now) p end) }
+{
+    let o = (p % LEN as u64) as usize;
+    let extent = blocks.get(&(p / LEN as u64))?.extent(o)?;
+    Some(p + (extent.at + extent.len - o) as u64)
 }
 
 /// Gives positions of one block, which nobody has, to an exchange, all of them or none.

@@ -12,6 +12,7 @@ mod plain;
 mod presence;
 mod run;
 mod runs;
+mod spans;
 mod sparse;
 
 pub use law::{a_put_lengthens_what_reaches_it, a_stretch_is_the_longest};
@@ -20,6 +21,3 @@ pub use plain::PlainSparse;
 pub use presence::{Presence, Span2, SparseBytes};
 pub use run::Run;
 pub use sparse::Sparse;
-
-#[cfg(test)]
-mod tests;

@@ -1,6 +1,6 @@
 //! Sparse bytes read part by part, however they are kept.
 ghost use Rattle.std.specs.Prelude.{◌≡◌, ◌↔◌, ◌+◌, ◌≤◌, ◌<◌, ◌^◌, IsTrue, ℕ, None, [], length, take, true, is_some, IfOk, IfSome, IsNone, OnOk, OnErr};
-ghost use Rattle.hc_sparse.specs.Cells.{Cells, Covers};
+ghost use Rattle.hc_sparse.specs.Cells.{Cells, Covers, GoesTo};
 ghost use Rattle.hc_sparse.specs.Stretch.{bytes_from, stretch, BeginsStretch, IsPart};
 
 use crate::presence::Span2;
@@ -17,6 +17,11 @@ pub(crate) trait Parts {
     fn part(&self, p: u64) -> Option<(u64, &[u8])>
         ensures none { IsNone result → kept self.now p ≡ None }
         ensures some { IfSome result (λ part. IsPart (kept self.now) p part.0 part.1.now) };
+
+    /// A position up to which all is present from one on.
+    fn end(&self, p: u64) -> Option<u64>
+        ensures none { IsNone result → kept self.now p ≡ None }
+        ensures some { IfSome result (λ end. GoesTo (kept self.now) p end) };
 }
 
 /// Whether all positions of the span are present.
@@ -25,8 +30,8 @@ pub(crate) fn covered<P: Parts>(kept: &P, span: Span2) -> bool
 {
     let mut p = span.lo;
     while p < span.hi {
-        match kept.part(p) {
-            Some((_, bytes)) => p += bytes.len() as u64,
+        match kept.end(p) {
+            Some(end) => p = end,
             None => return false,
         }
     }

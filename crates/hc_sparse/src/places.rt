@@ -1,27 +1,32 @@
 //! Whose each position is, and where its byte stands.
 ghost use Rattle.std.specs.Prelude.{◌≡◌, ◌+◌, ◌≤◌, ◌<◌, ◌^◌, ℕ, [], ◌∷◌, length, None, IfSome, IsNone, OnOk, OnErr};
 ghost use Rattle.hc_sparse.specs.Stretch.{IsPart};
-ghost use Rattle.hc_sparse.specs.Extents.{end_of, marks_of, AreFree, IsNextMark};
+ghost use Rattle.hc_sparse.specs.Extents.{end_of, marks_of, AreFree, Reaches, IsNextMark};
 ghost use Rattle.hc_sparse.specs.BlockMaps.{cells_by, marks, AreBelow, AreWithin};
+ghost use Rattle.hc_sparse.specs.Spans.{AreHad};
 ghost use Rattle.std.proofs.Props.{props};
 
 use crate::block::Block;
-use crate::blocks::{next_in, part_in, part_len, put_part};
+use crate::blocks::{end_in, next_in, part_in, part_len, put_part};
 use crate::extents::{Extent, is_followed};
+use crate::spans::Spans;
 use hc_text::NoMemory;
 use std::alloc::Global;
 use std::collections::BTreeMap;
 
 /// Blocks by their number, and the tail: what was put last, with all that it goes on from. The blocks
-/// don't have it yet, so what goes on from it only lengthens it, and looks nothing up.
+/// don't have it yet, so what goes on from it only lengthens it, and looks nothing up. Spans of what
+/// the blocks have, whoever delivered it, tell how far it goes on without a gap.
 #[derive(Drop)]
 pub(crate) struct Places {
     blocks: BTreeMap<u64, Block>,
+    spans: Spans,
     tail: Extent,
     ghost below: { AreBelow blocks } by { Prim.hlevel props },
     ghost apart: { AreFree (marks blocks) tail.at (end_of tail) } by { Prim.hlevel props },
     ghost ends: { end_of tail ≤ 2 ^ 62 },
     ghost stands: { tail.from + tail.len < 2 ^ 64 },
+    ghost had: { AreHad spans (marks blocks) } by { Prim.hlevel props },
 }
 
 impl Places {
@@ -33,6 +38,7 @@ impl Places {
     {
         Places {
             blocks: BTreeMap::new(alloc),
+            spans: Spans::new(alloc),
             tail: Extent {
                 x: 0,
                 at: 0,
@@ -56,6 +62,22 @@ impl Places {
             return Some((tail.x, &bytes[tail.from + skipped..tail.from + tail.len]));
         }
         part_in(&self.blocks, bytes, p)
+    }
+
+    /// A position up to which somebody has each from one on.
+    pub(crate) fn end(&self, p: u64) -> Option<u64>
+        ensures none { IsNone result → marks_at self.now p ≡ None }
+        ensures some { IfSome result (λ end. Reaches (marks_at self.now) p end) }
+    {
+        let tail = &self.tail;
+        let o = p as usize;
+        if tail.at <= o && o - tail.at < tail.len {
+            return Some((tail.at + tail.len) as u64);
+        }
+        match self.spans.end_from(p) {
+            Some(end) => Some(end),
+            None => end_in(&self.blocks, p),
+        }
     }
 
     /// The least position from one on that somebody has.
@@ -114,7 +136,7 @@ impl Places {
             from: tail.from + len,
             ..tail
         };
-        Ok(())
+        self.spans.add(tail.at as u64, (tail.at + len) as u64)
     }
 }
 

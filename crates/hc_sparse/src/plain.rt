@@ -55,6 +55,11 @@ impl Parts for PlainSparse {
         let run = run_with(self.runs.as_slice(), p)?;
         Some((run.x, rest_of(run, p)))
     }
+
+    fn end(&self, p: u64) -> Option<u64> {
+        let run = run_with(self.runs.as_slice(), p)?;
+        Some(p + rest_of(run, p).len() as u64)
+    }
 }
 
 impl SparseBytes for PlainSparse {

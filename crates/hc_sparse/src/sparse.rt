@@ -24,6 +24,9 @@ use std::alloc::Global;
 /// it looks nothing up. One that doesn't gives it to the blocks first, each position once, and looks up
 /// each of their blocks once, whatever was put before. A block takes some 120 bytes, and some 32 for each
 /// of its stretches but the first.
+///
+/// Beside the blocks are the spans that they have without a gap, whoever delivered them, so that whether
+/// all of a span is there takes a few look-ups however many stretches there are. One takes 16 bytes.
 #[derive(Drop)]
 pub struct Sparse {
     places: Places,
@@ -65,6 +68,10 @@ impl Parts for Sparse {
 
     fn part(&self, p: u64) -> Option<(u64, &[u8])> {
         self.places.part(self.bytes.as_slice(), p)
+    }
+
+    fn end(&self, p: u64) -> Option<u64> {
+        self.places.end(p)
     }
 }
 

@@ -8,6 +8,3 @@ mod seconds;
 
 pub use directives::{Directives, read_request, read_response};
 pub use seconds::read_delta_seconds;
-
-#[cfg(test)]
-mod tests;

@@ -13,6 +13,3 @@ pub use hc_rules::{Admission, Plan};
 pub use keys::KeyTable;
 pub use line::{KeyLine, Place};
 pub use seat::Stand;
-
-#[cfg(test)]
-mod tests;

@@ -12,6 +12,3 @@ pub use acts::Acts;
 pub use drain::Drain;
 pub use event::{Event, Load, Request, Response};
 pub use safe::is_safe;
-
-#[cfg(test)]
-mod tests;

@@ -29,32 +29,3 @@ fn is_safe_by_http(method: &MethodName) -> bool
         Err(_) => false,
     }
 }
-
-#[cfg(test)]
-mod tests {
-    use super::*;
-    use std::test::Fail;
-
-    #[test]
-    fn tells_safe_methods(rt: HostRuntime) -> Result<(), Fail> {
-        let table: [(&str, bool); 12] = [
-            ("GET", true),
-            ("HEAD", true),
-            ("OPTIONS", true),
-            ("TRACE", true),
-            ("QUERY", false),
-            ("POST", false),
-            ("DELETE", false),
-            ("get", false),
-            ("GETS", false),
-            ("", false),
-            ("A B", false),
-            ("VERSION-CONTROLS-ALL", false),
-        ];
-        for (name, expected) in &table {
-            let bytes = name.as_bytes().to_vec(rt.alloc())?;
-            assert_eq!(rt; is_safe(&MethodName { bytes }), *expected, "{name}");
-        }
-        Ok(())
-    }
-}

@@ -11,6 +11,3 @@ mod wishes;
 pub use exchanges::Exchanges;
 pub use role::Role;
 pub use row::{ExchangeView, Opening};
-
-#[cfg(test)]
-mod tests;

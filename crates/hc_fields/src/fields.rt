@@ -407,6 +407,3 @@ impl Fields {
         written
     }
 }
-
-#[cfg(test)]
-mod tests;

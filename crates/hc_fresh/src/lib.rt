@@ -17,6 +17,3 @@ pub use facts::{HeadFacts, RequestFacts};
 pub use laws::uses_are_right;
 pub use lifetimes::lifetime;
 pub use vary::vary_matches;
-
-#[cfg(test)]
-mod tests;

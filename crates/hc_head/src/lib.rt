@@ -17,6 +17,3 @@ pub use message::{MsgError, WireRequest};
 pub use request::call_of;
 pub use response::{Reply, reply_of};
 pub use scan::{Scan, Sought, line_end};
-
-#[cfg(test)]
-mod tests;

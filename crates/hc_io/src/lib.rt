@@ -14,6 +14,3 @@ pub use memory::{MemorySink, MemorySource};
 pub use plain::{PlainSink, PlainSource};
 pub use sink::{Sink, SinkError, write_all};
 pub use source::{ReadError, Source, SourceFailed, read_all};
-
-#[cfg(test)]
-mod tests;

@@ -18,6 +18,3 @@ pub use message::{Taken, WirePart};
 pub use reader::ResponseReader;
 pub use requests::RequestReader;
 pub use write::{write_chunk, write_request, write_response_head};
-
-#[cfg(test)]
-mod tests;

@@ -7,6 +7,3 @@ mod stitch;
 pub use hc_rules::{HoleAnswer, ReadStep};
 pub use holes::{first_hole, hole_end, is_stored, stored_end};
 pub use stitch::{Part, Stitch, accepts, next};
-
-#[cfg(test)]
-mod tests;

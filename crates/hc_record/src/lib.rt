@@ -20,6 +20,3 @@ pub use read::read_record;
 pub use seal::seal_record;
 pub use version::Version;
 pub use write::write_record;
-
-#[cfg(test)]
-mod tests;

@@ -127,6 +127,3 @@ pub fn replace_in<T: Numbered + Drop>(items: &mut Vec<T>, item: T)
     let at = place_of(items.as_slice(), item.number());
     items[at] = item;
 }
-
-#[cfg(test)]
-mod tests;

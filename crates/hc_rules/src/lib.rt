@@ -34,6 +34,3 @@ pub use refusal::{Gate, OpenExchange, exchange_refusal, refusal_of};
 pub use request::{RequestClass, Wanted, class_of, wanted_of};
 pub use room::{Limits, Room, SLOT_WEIGHT, Write, room_of, weight_of};
 pub use survivor::{Member, survivor_at};
-
-#[cfg(test)]
-mod tests;

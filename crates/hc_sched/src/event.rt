@@ -147,6 +147,3 @@ pub fn write_event(last: u64, timed: &Timed, to: &mut Vec<u8>) -> Result<(), NoM
     }
     written
 }
-
-#[cfg(test)]
-mod tests;

@@ -106,6 +106,3 @@ impl Feed {
         self.reader.held()
     }
 }
-
-#[cfg(test)]
-mod tests;

@@ -327,6 +327,3 @@ pub fn write_acts(n: u64, acts: &[Act], to: &mut Vec<u8>) -> Result<(), NoMemory
     }
     written
 }
-
-#[cfg(test)]
-mod tests;

@@ -15,6 +15,3 @@ pub use failing::{Failing, Op};
 pub use hc_rules::{Limits, SLOT_WEIGHT};
 pub use memory::Memory;
 pub use view::SlotView;
-
-#[cfg(test)]
-mod tests;

@@ -1,21 +1,14 @@
 -- Facts beside soundness, by which who goes on alone stays sound: who has the pen has all up to where its exchange goes on, and all the rest where it has none; and who waits with the turn or is bound isn't past the store.
 use Rattle.std.proofs.Common.{◌≡◌, ℕ, Bool, true, false, Option, Some, None}
 use Rattle.hc_sparse.specs.Cells.{Covers}
-use Rattle.hc_event.specs.declared.event.Response.{Response}
 use Rattle.hc_rules.specs.Requests.{is_disabled}
 use Rattle.hc_model.specs.declared.place.Place.{Place}
 use Rattle.hc_model.specs.declared.place.Place.TheVariants as place
-use Rattle.hc_model.specs.Exchanges.{front}
+pub use Rattle.hc_model.specs.Fronts.{goes_on_at}
 use Rattle.hc_model.specs.Reading.{is_written, offset}
-use Rattle.hc_model.specs.RepresentationRows.{hole_start}
 use Rattle.hc_model.specs.Rows.{Tables, Exchange, Representation, Consumer}
 use Rattle.hc_model.specs.Sound.{IsBound, IsFirst, HasPen}
 use Rattle.hc_model.proofs.Losses.{HasRest}
-
--- where an exchange goes on: at its hole, until it has its head
-abbrev pub goes_on_at : Exchange → Option Response → ℕ
-goes_on_at w None = hole_start w.need
-goes_on_at w (Some response) = front w
 
 -- it waits for its head with the turn, or is bound
 abbrev pub is_cached_place : Place → Bool

@@ -108,7 +108,7 @@ values_order (value ∷ []) asked is = by_read (asked_in value) refl is
 values_order (value ∷ other ∷ values) asked is = absurd (none_some asked is)
 
 -- a range that is read is in order
-range_order : (request : Request) (asked : Asked) → range_of request ≡ Some asked → IsInOrder asked
+pub range_order : (request : Request) (asked : Asked) → range_of request ≡ Some asked → IsInOrder asked
 unfolding range_of
 range_order request asked is = by_test (is_disabled request) is
   where
@@ -135,7 +135,7 @@ part_proper (Some z) span proper is = let same : z ≡ span = cc in subst (λ (q
 whole_span : (n : ℕ) (span : Span) → wanted.Interval (record { lo = 0; hi = n }) ≡ wanted.Interval span → span.lo ≤ span.hi
 whole_span n span is = let same : record { lo = 0; hi = n } ≡ span = cc in subst (λ (q : Span). q.lo ≤ q.hi) same (omega arith)
 
-wanted_proper : (range : Option Asked) (o : Option ℕ) (span : Span) → ((asked : Asked) → range ≡ Some asked → IsInOrder asked) → wanted_of range o ≡ wanted.Interval span → span.lo ≤ span.hi
+pub wanted_proper : (range : Option Asked) (o : Option ℕ) (span : Span) → ((asked : Asked) → range ≡ Some asked → IsInOrder asked) → wanted_of range o ≡ wanted.Interval span → span.lo ≤ span.hi
 wanted_proper range None span order is = absurd (let no : wanted.TotalUnknown ≡ wanted.Interval span = is in cc)
 wanted_proper None (Some n) span order is = whole_span n span is
 wanted_proper (Some asked) (Some n) span order is = part_proper (resolved asked n) span (λ z found. resolved_proper asked n z (order asked refl) found) is

@@ -181,11 +181,11 @@ module _ (limits : Limits) (t : Tables) (now : ℕ) (flaw : Flaw) (s : Sound t) 
     start_or (need.Hole from to) = inr (record { from = from; to = to; is = refl })
     start_or need.Unsatisfied = inl refl
 
-    later_from : (from to : ℕ) → OpensHole t c k from to → from ≤ offset t k
+    pub later_from : (from to : ℕ) → OpensHole t c k from to → from ≡ offset t k
     later_from from to (tree.first q v span hole is aims there nobody found lo_is hi_is) =
         let number : r ≡ q = some_inj r q (sym (ap (aim_from t k.request.key) at) ∙ aims) in
         absurd (bound_some t r c k s.numbered reader (ap (bound t) number ∙ nobody))
-    later_from from to (tree.later q end n v stands_at none lo_is up) = let same : from ≡ offset t k = lo_is in omega arith
+    later_from from to (tree.later q end n v stands_at none lo_is up) = lo_is
 
     -- it begins where it stands
     pub later_start : (p : Opening) → opening_in e.acts ≡ Some p → p.c ≡ c → hole_start p.need ≤ offset t k
@@ -193,7 +193,7 @@ module _ (limits : Limits) (t : Tables) (now : ℕ) (flaw : Flaw) (s : Sound t) 
       | inl none_is ↦ (let zero_is : hole_start p.need ≡ 0 = none_is in omega arith)
       | inr hole ↦
           let opener = is_opener limits t now flaw s ev goes c k p row.row opens mine in
-          let le : hole.from ≤ offset t k = later_from hole.from hole.to (opens_hole t c k p now opener.want s row.row opener.opening hole.from hole.to hole.is) in
+          let same : hole.from ≡ offset t k = later_from hole.from hole.to (opens_hole t c k p now opener.want s row.row opener.opening hole.from hole.to hole.is) in
           let start : hole_start p.need ≡ hole.from = ap hole_start hole.is in
           omega arith
     ]

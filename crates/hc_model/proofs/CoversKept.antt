@@ -82,7 +82,7 @@ module _ (limits : Limits) (t : Tables) (now : ℕ) (flaw : Flaw) (s : Sound t) 
       by_pen (pens.survives losing is) = false_true (sym quiet_event ∙ brings_writing r v losing)
 
   -- what is opened for it is its own
-  own_opened : (c x : ℕ) (k u : Consumer) (q : Opening) → due_after t e c k (consumer_acted t e c (consumer_heard t e c ev k)) ≡ u → opening_in e.acts ≡ Some q → q.c ≡ c → u.own ≡ Some x → q.x ≡ x
+  pub own_opened : (c x : ℕ) (k u : Consumer) (q : Opening) → due_after t e c k (consumer_acted t e c (consumer_heard t e c ev k)) ≡ u → opening_in e.acts ≡ Some q → q.c ≡ c → u.own ≡ Some x → q.x ≡ x
   own_opened c x k u q made opens mine owned =
       let h = consumer_heard t e c ev k in
       let w = waiting t e c h in
@@ -98,7 +98,7 @@ module _ (limits : Limits) (t : Tables) (now : ℕ) (flaw : Flaw) (s : Sound t) 
       by_after a is (inr left) = let by_poll = is_opened limits t now flaw s o ev goes q opens in absurd (false_true (sym (ap brings_body by_poll.at) ∙ brings_writing left.r left.v left.loses))
 
   -- an exchange that was opened
-  opened_row : (x : ℕ) (q : Opening) (z : Exchange) → opening_in e.acts ≡ Some q → q.x ≡ x → now_on.exchange x ≡ Some z → exchange_opened t e q ≡ z
+  pub opened_row : (x : ℕ) (q : Opening) (z : Exchange) → opening_in e.acts ≡ Some q → q.x ≡ x → now_on.exchange x ≡ Some z → exchange_opened t e q ≡ z
   opened_row x q z opens this after_x = same_row (now_on.exchange x) (exchange_opened t e q) z (forward.opened_on t e x q (t.exchange x) (new_number limits t now flaw s o ev goes q x opens this) opens this) after_x
 
   module _ (r c x lo : ℕ) (hi : Option ℕ) (how : BoundBy) (u : Consumer) (p : Representation) (z : Exchange) (after : now_on.representation r ≡ Some p) (after_row : now_on.consumer c ≡ Some u) (stands : u.place ≡ place.Bound r lo hi how) (none : u.due ≡ None) (owned : u.own ≡ Some x) (after_x : now_on.exchange x ≡ Some z) (pen : HasPen now_on r p c) where

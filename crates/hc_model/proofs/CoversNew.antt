@@ -22,7 +22,7 @@ use Rattle.hc_rules.specs.declared.need.Route.TheVariants as route
 use Rattle.hc_rules.specs.declared.request.Wanted.TheVariants as wanted
 use Rattle.hc_rules.specs.declared.room.Limits.{Limits}
 use Rattle.hc_rules.specs.HeadCases.{fits_to_found, fits_part, begins_at}
-use Rattle.hc_rules.specs.Lengths.{length_of, base_of}
+use Rattle.hc_rules.specs.Lengths.{length_of, base_of, promise_of}
 use Rattle.hc_rules.specs.Needs.{route_of}
 use Rattle.hc_rules.specs.RangeTexts.{content_range_of}
 use Rattle.hc_rules.specs.Requests.{range_of, wanted_of, wanted_part}
@@ -51,7 +51,7 @@ use Rattle.hc_model.proofs.ExchangeFrom.{IsSame, IsHeaded}
 use Rattle.hc_model.proofs.FirstKeeps.{case_of_head, whole_200, replaced_200, is_new, is_opener}
 use Rattle.hc_model.proofs.FoundBy.{CaseBy}
 use Rattle.hc_model.proofs.FoundBy as cases
-use Rattle.hc_model.proofs.HoleLemmas.{first_before, some_of}
+use Rattle.hc_model.proofs.HoleLemmas.{first_before, first_from, some_of}
 use Rattle.hc_model.proofs.HolesOpened.{first_hole_is}
 use Rattle.hc_model.proofs.MeasuresKeep.{number_not}
 use Rattle.hc_model.proofs.OpenedAs as opened
@@ -145,6 +145,32 @@ module _ (limits : Limits) (t : Tables) (now : ℕ) (flaw : Flaw) (s : Sound t) 
     by_founded _ is (from.replaced a b) = whole (replaced_200 t (has_loss e.acts) w response (case_of_head t e x response w case.FirstReplaced here exchange_row is))
     by_founded _ is (from.part i) = part (case_of_head t e x response w case.FoundsRange here exchange_row is) i
 
+    -- and no later, where it is open then
+    from_part : (first last : ℕ) (l : Length) → first ≡ lo → (promise_of l ≡ Some 0 → ⊥) → IsTold first last l → lo ≤ base_of l
+    from_part first last l starts unmet (told.none is) = absurd (unmet (ap promise_of is))
+    from_part first last l starts unmet (told.part is) = let first_is : base_of l ≡ first = ap base_of is in omega (arith, starts, first_is)
+
+    base_then : base z ≡ base_of (length_of w.need w.request response)
+    base_then =
+        let answer : got.response ≡ response = head_inj x x got.response response (sym got.at ∙ here) in
+        ap base_of (ap (length_by z) got.head_is ∙ (ap (λ (n : Need). length_of n z.request got.response) same.need_is ∙ (ap (λ (q : Request). length_of w.need q got.response) same.request_is ∙ ap (length_of w.need w.request) answer)))
+
+    part_from : (promise_of (length_of w.need w.request response) ≡ Some 0 → ⊥) → CaseBy view case.FoundsRange → IsInterval (wanted_of (range_of k.request) (founded_total w response)) lo hi → lo ≤ front z
+    part_from unmet (cases.founds_range way status fits kept good) i =
+        let for_k : fits_to_found (range_of k.request) response ≡ true = sym (ap (λ q. fits_asker q response) (ap t.consumer mine ∙ row)) ∙ fits in
+        let p = fits_by k w response lo hi status i (range_of k.request) refl for_k in
+        let le : lo ≤ base_of (length_of w.need w.request response) = from_part p.first p.last _ p.starts unmet (part_told w.need w.request response p.first p.last p.total (λ past. let no : route.Turn ≡ route.Direct = sym way ∙ past in cc) status p.told good) in
+        let first : base z ≡ base_of (length_of w.need w.request response) = base_then in
+        omega arith
+
+    begins_by_case : (promise_of (length_of w.need w.request response) ≡ Some 0 → ⊥) → (g : Option HeadCase) → case_at t e ≡ g → IsFounded t e c r lo hi how x response w k g → lo ≤ front z
+    begins_by_case unmet _ is (from.whole a b) = let zero_is : lo ≡ 0 = a in omega arith
+    begins_by_case unmet _ is (from.replaced a b) = let zero_is : lo ≡ 0 = a in omega arith
+    begins_by_case unmet _ is (from.part i) = part_from unmet (case_of_head t e x response w case.FoundsRange here exchange_row is) i
+
+    pub founds_from : (promise_of (length_of w.need w.request response) ≡ Some 0 → ⊥) → IsFounded t e c r lo hi how x response w k (case_at t e) → lo ≤ front z
+    founds_from unmet all = begins_by_case unmet (case_at t e) refl all
+
     pub founds_within : IsFounded t e c r lo hi how x response w k (case_at t e) → front z ≤ lo
     founds_within all = by_founded (case_at t e) refl all
 
@@ -169,14 +195,20 @@ module _ (limits : Limits) (t : Tables) (now : ℕ) (flaw : Flaw) (s : Sound t) 
         by_test true lost = absurd (false_true (sym not_gone ∙ store.lost_is_gone lost))
         by_test false kept = ap (λ (z : Option Cell). is_some z) (sym (store.all_stored kept d)) ∙ all d from_a lt
 
-    filled : (v : Representation) (span gap : Span) → t.representation r ≡ Some v → v.is_gone ≡ false → wanted_of (range_of k.request) v.head.total ≡ wanted.Interval span → first_hole v.stored v.reach span ≡ Some gap → q.need ≡ need.Hole gap.lo gap.hi → wanted_of (range_of k.request) v.head.total ≡ wanted.Interval hole.interval.span → Covers v.body lo (hole_start q.need)
-    filled v span gap there not_gone wants found need_is also d from_lo lt =
+    -- it is a hole of what its consumer reads, and all before it is there
+    abbrev FillsFrom : Representation → Type 0
+    FillsFrom v = (lo ≤ hole_start q.need) × Covers v.body lo (hole_start q.need)
+
+    filled : (v : Representation) (span gap : Span) → t.representation r ≡ Some v → v.is_gone ≡ false → wanted_of (range_of k.request) v.head.total ≡ wanted.Interval span → first_hole v.stored v.reach span ≡ Some gap → q.need ≡ need.Hole gap.lo gap.hi → wanted_of (range_of k.request) v.head.total ≡ wanted.Interval hole.interval.span → FillsFrom v
+    filled v span gap there not_gone wants found need_is also =
         let start : hole_start q.need ≡ gap.lo = ap hole_start need_is in
         let same : span.lo ≡ hole.interval.span.lo = ap (λ (a : Span). a.lo) (interval_inj span hole.interval.span (sym wants ∙ also)) in
         let first : hole.interval.span.lo ≡ lo = hole.interval.from in
-        stored_body v span.lo gap.lo there not_gone (before_hole v span gap found) d (omega arith) (omega arith)
+        let at : gap.lo ≡ absent_from v.stored v.reach span.lo span.hi = ap (λ (a : Span). a.lo) (first_hole_is v.stored v.reach span gap found) in
+        let later : span.lo ≤ absent_from v.stored v.reach span.lo span.hi = first_from is_none v.stored span.lo (min span.hi v.reach - span.lo) in
+        (omega arith, λ d from_lo lt. stored_body v span.lo gap.lo there not_gone (before_hole v span gap found) d (omega arith) (omega arith))
 
-    by_way : t.consumer c ≡ Some k → opened.Way t now c k q.need → consumer_heard t e c ev k ≡ k → bound_to k.place ≡ None → Covers hole.v.body lo (hole_start q.need)
+    by_way : t.consumer c ≡ Some k → opened.Way t now c k q.need → consumer_heard t e c ev k ≡ k → bound_to k.place ≡ None → FillsFrom hole.v
     by_way there (opened.passes_by unbound past) heard none = absurd (let no : route.Direct ≡ route.Hole = sym past ∙ way in cc)
     by_way there (opened.fetches unbound turn cached) heard none = absurd (let no : route.Turn ≡ route.Hole = sym turn ∙ way in cc)
     by_way there (opened.goes_on a b d f at hole_way) heard none = absurd (none_some a (sym none ∙ ap bound_to at))
@@ -188,10 +220,16 @@ module _ (limits : Limits) (t : Tables) (now : ℕ) (flaw : Flaw) (s : Sound t) 
         let also : wanted_of (range_of k.request) hole.v.head.total ≡ wanted.Interval hole.interval.span = sym (ap (λ (z : Request). wanted_of (range_of z) hole.v.head.total) request_is) ∙ hole.interval.wanted_is in
         filled hole.v span gap hole.row not_gone (sym (ap (λ (z : Representation). wanted_of (range_of k.request) z.head.total) one) ∙ wants) (sym (ap (λ (z : Representation). first_hole z.stored z.reach span) one) ∙ found) need_is also
 
-    pub hole_covers : Covers hole.v.body lo (hole_start q.need)
-    hole_covers =
+    fills : FillsFrom hole.v
+    fills =
         let opener = is_opener limits t now flaw s ev goes c k q row.row opens mine in
         let by_poll = is_opened limits t now flaw s o ev goes q opens in
         let one : by_poll.k ≡ k = same_row (t.consumer c) by_poll.k k (sym (ap t.consumer mine) ∙ by_poll.row) row.row in
         let way_k : opened.Way t now c k q.need = subst (λ (z : Consumer). opened.Way t now c z q.need) one (subst (λ d. opened.Way t now d by_poll.k q.need) mine by_poll.way.way) in
         by_way row.row way_k opener.heard_is (sym (ap bound_to opener.place_is) ∙ free)
+
+    pub hole_begins : lo ≤ hole_start q.need
+    hole_begins = fills.0
+
+    pub hole_covers : Covers hole.v.body lo (hole_start q.need)
+    hole_covers = fills.1

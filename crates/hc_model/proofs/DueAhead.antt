@@ -39,7 +39,7 @@ use Rattle.hc_model.proofs.Exclusives.{IsExclusive}
 use Rattle.hc_model.proofs.ExchangeFrom.{IsSame, IsHeaded}
 use Rattle.hc_model.proofs.Fills.{Brings, brings, length_same}
 use Rattle.hc_model.proofs.Fills as fills_by
-use Rattle.hc_model.proofs.FirstKeeps.{is_new}
+use Rattle.hc_model.proofs.FirstKeeps.{IsNew, is_new}
 use Rattle.hc_model.proofs.Forward as forward
 use Rattle.hc_model.proofs.GoAlone.{lost_of, opens_not, shown_not, founds_not, opens_undue, left_loses, unwritten_lost, rest_more}
 use Rattle.hc_model.proofs.LossBy.{IsReal}
@@ -128,7 +128,7 @@ module _ (limits : Limits) (t : Tables) (now : ℕ) (flaw : Flaw) (s : Sound t) 
         unshared : IsShared t e c → ⊥
         unshared sh = by_due k.due refl
           where
-            new : Rattle.hc_model.proofs.FirstKeeps.IsNew limits t now flaw s ev goes sh.x sh.w
+            new : IsNew limits t now flaw s ev goes sh.x sh.w
             new = is_new limits t now flaw s ev goes sh.x sh.response sh.w sh.at sh.row
 
             mine : k.own ≡ Some sh.x

@@ -7,7 +7,7 @@ use Rattle.hc_event.specs.declared.act.Act.{Act}
 use Rattle.hc_event.specs.declared.act.Act.TheVariants as act
 use Rattle.hc_event.specs.declared.event.Event.{Event}
 use Rattle.hc_event.specs.declared.event.Event.TheVariants as event
-use Rattle.hc_rules.specs.Rooms.{gives_way, room_of, grown_by, is_too_large, weight_of}
+use Rattle.hc_rules.specs.Rooms.{gives_way, room_of, grown_by, is_too_large}
 use Rattle.hc_rules.specs.Rooms as rooms
 use Rattle.hc_rules.specs.declared.room.Limits.{Limits}
 use Rattle.hc_rules.specs.declared.room.Room.{Room}
@@ -34,7 +34,7 @@ use Rattle.hc_model.proofs.PieceKeeps.{some_inj}
 -- HOW MANY
 
 -- each weighs a slot at least
-abbrev AreHeavy : List ℕ → Type 0
+abbrev pub AreHeavy : List ℕ → Type 0
 AreHeavy [] = Unit {0}
 AreHeavy (w ∷ ws) = (32768 ≤ w) × AreHeavy ws
 
@@ -50,7 +50,7 @@ none_gives : (most sum n : ℕ) (ws : List ℕ) → sum ≤ most → gives_way m
 none_gives most sum n [] le h = let test : nat_le sum most ≡ true = grind (arith, nat_tests) in none_more n 0 (rw test at h)
 none_gives most sum n (w ∷ ws) le h = let test : nat_le sum most ≡ true = grind (arith, nat_tests) in none_more n 0 (rw test at h)
 
-one_gives : (most sum n : ℕ) (ws : List ℕ) → AreHeavy ws → sum ≤ most + 32768 → gives_way most sum ws ≡ Some n → n ≤ 1
+pub one_gives : (most sum n : ℕ) (ws : List ℕ) → AreHeavy ws → sum ≤ most + 32768 → gives_way most sum ws ≡ Some n → n ≤ 1
 one_gives most sum n [] heavy le h = elim (bool_cases (nat_le sum most)) [
   | inl fits ↦ none_more n 1 (rw fits at h)
   | inr past ↦ absurd (none_some n (rw past at h))
@@ -61,7 +61,7 @@ one_gives most sum n (w ∷ ws) heavy le h = elim (bool_cases (nat_le sum most))
       let slot : 32768 ≤ w = heavy.0 in none_gives most (sum - w) m ws (omega arith) is)
 ]
 
-two_give : (most sum n : ℕ) (ws : List ℕ) → AreHeavy ws → sum ≤ most + 65536 → gives_way most sum ws ≡ Some n → n ≤ 2
+pub two_give : (most sum n : ℕ) (ws : List ℕ) → AreHeavy ws → sum ≤ most + 65536 → gives_way most sum ws ≡ Some n → n ≤ 2
 two_give most sum n [] heavy le h = elim (bool_cases (nat_le sum most)) [
   | inl fits ↦ none_more n 2 (rw fits at h)
   | inr past ↦ absurd (none_some n (rw past at h))

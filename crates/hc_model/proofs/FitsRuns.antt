@@ -54,7 +54,7 @@ use Rattle.hc_model.proofs.RunFacts.{in_runs}
 use Rattle.hc_model.proofs.Sums.{filter_among, filter_once, reverse_among, reverse_once, reverse_sum}
 use Rattle.hc_model.proofs.Weighed.{held, held_in, is_held, total, weights_most}
 
-find_among : (test : ℕ → Bool) (xs : List ℕ) (r : ℕ) → find test xs ≡ Some r → Among r xs
+pub find_among : (test : ℕ → Bool) (xs : List ℕ) (r : ℕ) → find test xs ≡ Some r → Among r xs
 find_among test [] r h = absurd (none_some r h)
 find_among test (x ∷ xs) r h = elim (bool_cases (test x)) [
   | inl passes ↦ inl (some_inj x r (rw passes at h))

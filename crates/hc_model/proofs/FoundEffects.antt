@@ -97,10 +97,10 @@ module _ (limits : Limits) (t : Tables) (law : Lawful t) (now x : ℕ) (response
   -- FOUNDED
 
   -- it isn't among what has a row
-  room_apart : is_in es x ≡ false
+  pub room_apart : is_in es x ≡ false
   room_apart = not_so (is_in es x) (λ on. let v = all_in (HasRow t) x es (evicted_rows limits t now ev) on in none_some v.0 (sym (new limits t law now x response goes w row).unfounded ∙ v.1))
 
-  room_one : (o : Option ℕ) (rs : List ℕ) → ((q : ℕ) → o ≡ Some q → HasRow t q) → is_in rs x ≡ false → is_in (added o rs) x ≡ false
+  pub room_one : (o : Option ℕ) (rs : List ℕ) → ((q : ℕ) → o ≡ Some q → HasRow t q) → is_in rs x ≡ false → is_in (added o rs) x ≡ false
   room_one None rs there apart = apart
   room_one (Some q) rs there apart = elim (eq_cases q x) [
     | inl here ↦ absurd (let v = there q refl in none_some v.0 (sym (new limits t law now x response goes w row).unfounded ∙ (ap t.representation (sym here.1) ∙ v.1)))
@@ -108,7 +108,7 @@ module _ (limits : Limits) (t : Tables) (law : Lawful t) (now x : ℕ) (response
   ]
 
   -- what is current has a row
-  current_there : (q : ℕ) → current t w.request.key ≡ Some q → HasRow t q
+  pub current_there : (q : ℕ) → current t w.request.key ≡ Some q → HasRow t q
   current_there q is = let v = current_row t q w.request.key is in (v.0, v.1)
 
   abbrev current_and : List ℕ

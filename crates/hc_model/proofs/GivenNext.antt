@@ -95,6 +95,14 @@ read_of (place.Bound r lo hi by) = Some r
 read_of (place.Direct x) = Some x
 read_of _ = None
 
+-- before the end there is more ahead
+pub some_ahead : (o : Option ℕ) (m p : ℕ) → is_at_end o p ≡ false → p < m → 0 < cut_at o m - p
+some_ahead None m p before lt = omega arith
+some_ahead (Some hi) m p before lt = let ahead : p < hi = grind (arith, nat_tests) in by_numbers hi m p ahead lt
+  where
+    by_numbers : (hi m p : ℕ) → p < hi → p < m → 0 < min hi m - p
+    by_numbers hi m p a b = omega arith
+
 -- FROM WHERE A POLL GIVES
 
 module _ (t : Tables) (want c : ℕ) (k : Consumer) (run : Run) where
@@ -191,13 +199,6 @@ module _ (t : Tables) (want c : ℕ) (k : Consumer) (run : Run) where
     where
       by_numbers : (hi cut p a n : ℕ) → a ≡ p → cut ≤ hi → p < hi → n ≤ cut - p → a + n ≤ hi
       by_numbers hi cut p a n same le lt few = omega arith
-
-  some_ahead : (o : Option ℕ) (m p : ℕ) → is_at_end o p ≡ false → p < m → 0 < cut_at o m - p
-  some_ahead None m p before lt = omega arith
-  some_ahead (Some hi) m p before lt = let ahead : p < hi = grind (arith, nat_tests) in by_numbers hi m p ahead lt
-    where
-      by_numbers : (hi m p : ℕ) → p < hi → p < m → 0 < min hi m - p
-      by_numbers hi m p a b = omega arith
 
   -- STORED
 

@@ -99,12 +99,15 @@ module _ (limits : Limits) (t : Tables) (now : ℕ) (flaw : Flaw) (s : Sound t) 
         let shut : closes_in x e.acts ≡ true = closes limits t now flaw s ev x w is_row must (head_open b ∙ (sym (head_open e) ∙ heard_open)) in
         false_true (sym (same.unclosed opened) ∙ shut)
 
-    -- and is no 304
-    pub not_unmodified : response.status ≡ 304 → ⊥
-    not_unmodified is =
-        let none : promise_in w response ≡ Some 0 = promises_none w.need w.request response is in
+    -- it promises some bytes
+    pub unmet : promise_in w response ≡ Some 0 → ⊥
+    unmet none =
         let off : (not (is_reached (promise_in w response) 0) && w.is_open) ≡ false = rw none refl in
         false_true (sym off ∙ (sym (head_open e) ∙ heard_open))
+
+    -- and is no 304
+    pub not_unmodified : response.status ≡ 304 → ⊥
+    not_unmodified is = unmet (promises_none w.need w.request response is)
 
   -- where its head leaves a consumer
   pub data HeadedAs (x : ℕ) (response : Response) (w : Exchange) (p q : Place) (z : Exchange) : Type 0 where

@@ -1,6 +1,6 @@
 -- What letting a representation go leaves: who is bound and who is live, and all that is current but what goes.
 use Rattle.std.proofs.Common.{◌≡◌, inl, inr, ℕ, List, [], ◌∷◌, ◌++◌, length, Bool, true, false, Option, Some, None, refl, ap, sym, ◌∙◌, subst, arith}
-use Rattle.std.specs.Prelude.{nat_eq, option_map, is_some, filter, reverse, ◌&&◌, not, ◌==◌, if◌then◌else◌}
+use Rattle.std.specs.Prelude.{nat_eq, option_map, is_some, filter, reverse, ◌&&◌, ◌||◌, not, ◌==◌, if◌then◌else◌}
 use Rattle.std.proofs.lemmas.Bool.Decides.{nat_tests}
 use Rattle.hc_model.specs.declared.place.Place.{Place}
 use Rattle.hc_model.specs.declared.place.Place.TheVariants as place
@@ -22,6 +22,7 @@ use Rattle.hc_model.proofs.CurrentKeeps.{find_only, usable, usable_row}
 use Rattle.hc_model.proofs.Evicting.{evicts_one}
 use Rattle.hc_model.proofs.IdleNow.{filter_both}
 use Rattle.hc_model.proofs.PieceKeeps.{some_inj, eq_cases}
+use Rattle.hc_model.proofs.SameTables.{is_in}
 use Rattle.hc_model.proofs.Sums.{filter_once, reverse_once}
 
 -- at the moment that it says, it is an eviction
@@ -178,7 +179,7 @@ none_out r (x ∷ xs) out = elim (eq_cases r x) [
 ]
 
 module _ (now r : ℕ) (t : Tables) (may : MayLetGo t) where
-  number_same : (o : Option ℕ) (q : ℕ) → is_number (unless_it r o) q ≡ (is_number o q && not (r == q))
+  pub number_same : (o : Option ℕ) (q : ℕ) → is_number (unless_it r o) q ≡ (is_number o q && not (r == q))
   number_same None q = refl
   number_same (Some m) q = elim (eq_cases m r) [
     | inl here ↦ rw here.0 (elim (eq_cases m q) [
@@ -235,6 +236,28 @@ module _ (now r : ℕ) (t : Tables) (may : MayLetGo t) where
 pub idle_after : (now : ℕ) (xs ys : List ℕ) (t : Tables) → MayLetGo t → AreOnce t.used → idle_now t ≡ xs ++ ys → idle_now (let_all_go now xs t) ≡ ys
 idle_after now [] ys t may once is = is
 idle_after now (r ∷ xs) ys t may once is = idle_after now xs ys (let_go now r t) (keeps_may now r t may) once (idle_next now r t may once (xs ++ ys) is)
+
+-- who is bound stays bound
+pub bound_all : (now : ℕ) (rs : List ℕ) (t : Tables) → MayLetGo t → (q : ℕ) → bound (let_all_go now rs t) q ≡ bound t q
+bound_all now [] t may q = refl
+bound_all now (r ∷ rs) t may q = bound_all now rs (let_go now r t) (keeps_may now r t may) q ∙ bound_let_go now r t may.one_current q
+
+-- and all that was current still is, but for these
+pub current_all : (now : ℕ) (rs : List ℕ) (t : Tables) → MayLetGo t → (key : List ℕ) (q : ℕ) → is_number (current (let_all_go now rs t) key) q ≡ (is_number (current t key) q && not (is_in rs q))
+current_all now [] t may key q = by_test (is_number (current t key) q)
+  where
+    by_test : (b : Bool) → b ≡ (b && true)
+    by_test true = refl
+    by_test false = refl
+current_all now (r ∷ rs) t may key q =
+    current_all now rs (let_go now r t) (keeps_may now r t may) key q
+    ∙ (ap (λ o. is_number o q && not (is_in rs q)) (current_let_go now r t may.one_current key)
+    ∙ (ap (λ b. b && not (is_in rs q)) (number_same now r t may (current t key) q) ∙ by_tests (is_number (current t key) q) (r == q) (is_in rs q)))
+  where
+    by_tests : (a b d : Bool) → ((a && not b) && not d) ≡ (a && not (b || d))
+    by_tests false b d = refl
+    by_tests true true d = refl
+    by_tests true false d = refl
 
 -- it is so in every run
 pub may_let_go : (t : Tables) → Lawful t → MayLetGo t

@@ -135,6 +135,9 @@ pub mod Sums
 pub mod Weighed
 pub mod FitsKept
 pub mod FitsRuns
+pub mod BehindTurns
+pub mod LivePolls
+pub mod ChainRuns
 pub mod TruthRuns
 pub mod GivenNext
 pub mod PastApart
@@ -174,6 +177,7 @@ pub mod PlacesGiven
 pub mod PlacesTold
 pub mod PlacesEnded
 pub mod PlacesStand
+pub mod Unreached
 pub mod PlaceRuns
 pub mod OwnersFor
 pub mod WhoseRuns
@@ -212,6 +216,11 @@ pub mod HeadFrames
 pub mod HeadFacts
 pub mod HeadEffects
 pub mod FoundEffects
+pub mod FoundRoom
+pub mod FoundCases
+pub mod FoundOrder
+pub mod FoundDoes
+pub mod WeightsLeft
 pub mod UpdateEffects
 pub mod DoomFrames
 pub mod UnsafeEffects
@@ -220,6 +229,8 @@ pub mod WrittenEffects
 pub mod LawfulRuns
 pub mod LettingGo
 pub mod LiveRuns
+pub mod PartRuns
+pub mod ModestRuns
 pub mod FailsTold
 pub mod LeftBy
 pub mod AimRuns
@@ -238,3 +249,5 @@ pub mod StopFrames
 pub mod StopEffects
 pub mod StopSeals
 pub mod DoomEffects
+pub mod FrontRuns
+pub mod UnendedRuns

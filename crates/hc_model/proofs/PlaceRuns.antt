@@ -8,6 +8,7 @@ use Rattle.hc_rules.specs.declared.room.Limits.{Limits}
 use Rattle.hc_rules.specs.Needs.{route_of}
 use Rattle.hc_model.specs.declared.place.Place.{Place}
 use Rattle.hc_model.specs.declared.place.Place.TheVariants as place
+use Rattle.hc_model.specs.declared.place.BoundBy.TheVariants as by
 use Rattle.hc_model.specs.Endings.{Endings}
 use Rattle.hc_model.specs.Entries.{Entry, History, Contents}
 use Rattle.hc_model.specs.Exchanges.{is_open}
@@ -41,6 +42,7 @@ use Rattle.hc_model.proofs.ReadJoined.{aside}
 use Rattle.hc_model.proofs.ShownStays.{IsAside}
 use Rattle.hc_model.proofs.SoundRuns.{IsCarried, carried}
 use Rattle.hc_model.proofs.TurnFacts.{IsTaken}
+use Rattle.hc_model.proofs.Unreached.{unreached}
 
 -- OVER A RUN
 
@@ -241,6 +243,7 @@ module _ (t : Tables) (s : Sound t) (o : Owners t) (a : IsAside t) (b : IsBounde
     bound_cached = λ c r lo hi how k row at. beside.cached c k row (ap is_cached_place at);
     direct_asks = λ c x k row at. stands_at c k row (place.Direct x) at;
     down_asks = λ c why k row at. stands_at c k row (place.Down why) at;
+    first_asks = λ c r lo y hi k row at. stands_at c k row (place.Bound r lo hi (by.FirstHole y)) at;
     line_unowned = λ c k row at. stands_at c k row place.Line at;
     told = known.told.due;
     down_told = λ c why k row at. down_told t known.told c why k row at;
@@ -259,4 +262,5 @@ pub endings_in_runs : OfRuns Endings
 endings_in_runs limits contents h may run = record {
   past = λ c x k w row at exchange_row off none.
       ap (hi_of (tables contents h)) at ∙ (ap end_in exchange_row ∙ (known_in_runs limits contents h may run).ended.past c x k w row at exchange_row off none);
+  unreached = (unreached limits contents h may run).lacks;
 }

@@ -15,13 +15,14 @@ use Rattle.hc_rules.specs.declared.plan.PlanView.{PlanView}
 use Rattle.hc_rules.specs.Needs.{route_of}
 use Rattle.hc_rules.specs.Plans.{plan_of, bare_plan, in_time, from_store, by_current, by_why, by_wanted, by_exclusive, by_hole, by_bound, plan_on, why_by}
 use Rattle.hc_rules.proofs.Cond.{either}
-use Rattle.hc_model.proofs.Basics.{and_right}
+use Rattle.hc_model.proofs.Basics.{and_left, and_right}
 use Rattle.hc_model.proofs.Joining.{mix}
 
 -- what is current is read whole, as it is written
 pub record JoinsWriting (v : PlanView) : Type 0 where
   pub s : Candidate
   pub current : v.current ≡ Some s
+  pub unranged : is_none v.class.range ≡ true
   pub writing : s.writing ≡ true
 
 -- an interval is wanted of what is current, which nobody writes, alone or for several, and is stored but for this hole
@@ -74,7 +75,7 @@ module _ (v : PlanView) (cached : v.class.disabled ≡ false) (plain : v.class.b
   wanted_by why (wanted.Interval span) at = either (PlanBy v) s.writing _ _ (λ on. busy _ _ plain) (λ off. exclusive_by why span s.exclusive at off refl)
 
   on_by : (why : Why) → PlanBy v (plan_on v s why)
-  on_by why = either (PlanBy v) (is_none v.class.range && s.writing) _ _ (λ h. joins why cached (record { s = s; current = current; writing = and_right (is_none v.class.range) s.writing h })) (λ h. wanted_by why s.span refl)
+  on_by why = either (PlanBy v) (is_none v.class.range && s.writing) _ _ (λ h. joins why cached (record { s = s; current = current; unranged = and_left (is_none v.class.range) s.writing h; writing = and_right (is_none v.class.range) s.writing h })) (λ h. wanted_by why s.span refl)
 
   why_then : (o : Option Why) → PlanBy v (by_why v s o)
   why_then None = fetches need.Validate refl (λ is. plain) (λ is. absurd (validate_bypass is)) cached

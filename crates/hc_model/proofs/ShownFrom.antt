@@ -174,6 +174,7 @@ module _ (t : Tables) (now c : ℕ) (k : Consumer) where
   pub record IsPlanned (z : Showing) : Type 0 where
     pub unshown : k.shown ≡ false
     pub free : bound_to k.place ≡ None
+    pub unread : reads k.place ≡ false
     pub heard : IsHeard t k
     pub shown_as : ShownAs z.r z.lo z.hi
     pub cached : is_disabled k.request ≡ false
@@ -183,4 +184,4 @@ module _ (t : Tables) (now c : ℕ) (k : Consumer) where
   shown_from want z s row show free =
       let is = showing_is z (move_of t now want c k) show in
       let all = by_move z.r z.lo z.hi is.0 is.1 want (move_of t now want c k) (move_by t now want c k s row) refl is.2 free in
-      record { unshown = all.0; free = all.1; heard = all.2; shown_as = all.3.1; cached = all.3.0; lone = all.3.2 }
+      record { unshown = all.0; free = all.1; unread = free; heard = all.2; shown_as = all.3.1; cached = all.3.0; lone = all.3.2 }

@@ -77,7 +77,7 @@ least_there t end c (d ∷ ds) h = elim (bool_cases (stands_at end (member t d))
           | inr more ↦ let lt : d < a = grind (arith, nat_tests) in let same : d ≡ c = omega arith in ap (λ n. stands_at end (member t n)) (sym same) ∙ on
         ]
 
-survivor_offset : (t : Tables) (r c : ℕ) (v : Representation) (k : Consumer) → t.consumer c ≡ Some k → survivor t r v ≡ Some c → offset t k ≡ v.reach
+pub survivor_offset : (t : Tables) (r c : ℕ) (v : Representation) (k : Consumer) → t.consumer c ≡ Some k → survivor t r v ≡ Some c → offset t k ≡ v.reach
 survivor_offset t r c v k row is =
     let test : nat_eq (offset_in t (t.consumer c)) v.reach ≡ true = least_there t v.reach c (bound t r) is in
     let here : offset_in t (t.consumer c) ≡ v.reach = grind (arith, nat_tests) in

@@ -59,6 +59,7 @@ module _ (t : Tables) (now c : ℕ) (k : Consumer) where
     pub none : shows_at t k k.place ≡ None
     pub plain : (d : ℕ) → z ≡ wait.Busy d → is_bypassing k.request ≡ false
     pub plan_is : (d : ℕ) → z ≡ wait.Busy d → IsBusy d
+    pub turn_is : (d : ℕ) → z ≡ wait.Turn d → plan_of (plan_view t now c k) ≡ plan.Turn d
 
   module _ (z : Wait) (others : IsForOthers z) where
     abbrev wait_it : Move
@@ -135,6 +136,15 @@ module _ (t : Tables) (now c : ℕ) (k : Consumer) where
     busy_is : plan_move t k (plan_of (plan_view t now c k)) ≡ wait_it → (d : ℕ) → z ≡ wait.Busy d → IsBusy d
     busy_is is d at = let all = busy_at (plan_of (plan_view t now c k)) (plan_by (plan_view t now c k)) is d at in record { kept = all.0; is = all.1 }
 
+    turn_at : (p : Plan) → plan_move t k p ≡ wait_it → (d : ℕ) → z ≡ wait.Turn d → p ≡ plan.Turn d
+    turn_at (plan.Turn d) is b at = let same : wait.Turn d ≡ wait.Turn b = wait_inj (wait.Turn d) is ∙ at in let number : d ≡ b = cc in ap plan.Turn number
+    turn_at (plan.Busy d kept) is b at = absurd (let same : wait.Busy d ≡ wait.Turn b = wait_inj (wait.Busy d) is ∙ at in cc)
+    turn_at plan.Miss is b at = absurd (let never : Fails cause.Miss ≡ wait_it = is in cc)
+    turn_at (plan.Direct m) is b at = absurd (let never : moves.opens t m k.request ≡ wait_it = is in cc)
+    turn_at (plan.Fetch m) is b at = absurd (let never : moves.opens t m (fetched t k m) ≡ wait_it = is in cc)
+    turn_at (plan.Bind why span) is b at = absurd (binds_waits why span (current t k.request.key) is)
+    turn_at (plan.FirstHole span hole) is b at = absurd (hole_waits k.request (current_row t k) hole is)
+
     answer_waits : (y : ℕ) (w : Exchange) (o : Option Response) → shows_answer t y w o ≡ Some wait_it → ⊥
     answer_waits y w None is = cc
     answer_waits y w (Some response) is = cc
@@ -166,7 +176,7 @@ module _ (t : Tables) (now c : ℕ) (k : Consumer) where
     by_move want _ (by.down why at) is = absurd (let never : Fails why ≡ wait_it = is in cc)
     by_move want _ (by.over at) is = absurd (let never : Nothing ≡ wait_it = is in cc)
     by_move want _ (by.reads shown heard) is = absurd (step_waits want (read_step (read_view t want c k)) is)
-    by_move want _ (by.plans shown free none heard) is = record { heard = heard; free = free; unshown = shown; none = none; plain = by_plan (plan_of (plan_view t now c k)) (plan_by (plan_view t now c k)) is; plan_is = busy_is is }
+    by_move want _ (by.plans shown free none heard) is = record { heard = heard; free = free; unshown = shown; none = none; plain = by_plan (plan_of (plan_view t now c k)) (plan_by (plan_view t now c k)) is; plan_is = busy_is is; turn_is = turn_at (plan_of (plan_view t now c k)) is }
 
     by_as : (m : Move) → WaitsAs z m → m ≡ wait_it
     by_as _ said.waits = refl

@@ -41,8 +41,10 @@ pub mod Orders
 pub mod Origins
 pub mod Sizes
 pub mod StoredHeads
+pub mod Modest
 pub mod Places
 pub mod Endings
+pub mod Chains
 pub mod Evictions
 pub mod Frames
 pub mod Whose
@@ -53,6 +55,8 @@ pub mod Alone
 pub mod Growing
 pub mod Losses
 pub mod Live
+pub mod Parts
+pub mod Fronts
 pub mod Laws
 pub mod Lawful
 pub mod Effects

@@ -7,6 +7,7 @@ use Rattle.hc_rules.specs.Needs.{route_of}
 use Rattle.hc_rules.specs.Requests.{is_disabled, is_only}
 use Rattle.hc_model.specs.declared.place.Place.TheVariants as place
 use Rattle.hc_model.specs.declared.place.BoundBy.{BoundBy}
+use Rattle.hc_model.specs.declared.place.BoundBy.TheVariants as by
 use Rattle.hc_model.specs.Exchanges.{family, promised}
 use Rattle.hc_model.specs.Reading.{own_open}
 use Rattle.hc_model.specs.Rows.{Tables, Exchange, Consumer}
@@ -94,6 +95,8 @@ pub record Places (t : Tables) : Type 0 where
       is_only k.request ≡ false
   pub down_asks : (c : ℕ) (why : Cause) (k : Consumer) → t.consumer c ≡ Some k →
       k.place ≡ place.Down why → is_only k.request ≡ false
+  pub first_asks : (c r lo y : ℕ) (hi : Option ℕ) (k : Consumer) → t.consumer c ≡ Some k →
+      k.place ≡ place.Bound r lo hi (by.FirstHole y) → is_only k.request ≡ false
   pub line_unowned : (c : ℕ) (k : Consumer) → t.consumer c ≡ Some k → k.place ≡ place.Line →
       k.own ≡ None
   pub ungiven : (c : ℕ) (k : Consumer) → t.consumer c ≡ Some k → k.shown ≡ false → k.given ≡ 0

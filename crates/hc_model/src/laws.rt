@@ -6,19 +6,23 @@ ghost use Rattle.hc_model.specs.Laws.{SoundDeliversOnce, DeliveriesAreKept, Bodi
 ghost use Rattle.hc_model.specs.Owners.{Owners};
 ghost use Rattle.hc_model.specs.Aims.{Aims, CaseWithoutAim};
 ghost use Rattle.hc_model.specs.Alone.{Alone};
-ghost use Rattle.hc_model.specs.Endings.{Endings};
+ghost use Rattle.hc_model.specs.Chains.{ChainsEnd};
+ghost use Rattle.hc_model.specs.Endings.{Endings, Unended};
 ghost use Rattle.hc_model.specs.Evictions.{EvictsOne, AnyLeavesOneCurrent, EvictionsComeLast, IdleButGone, MakesRoom, SomeGiveWay, HasNoRoom, HasTooLarge, WritesNothing};
 ghost use Rattle.hc_model.specs.Frames.{PartsAreKept, OthersStay, OthersDontGo, GoneIsCaused, ExchangesStay, StandersStay, ReadersStay, StartingOverIsCaused, OthersStandStill, BoundStay, CurrentStays, FoundedIsCurrent};
+ghost use Rattle.hc_model.specs.Fronts.{Fronts};
 ghost use Rattle.hc_model.specs.Given.{Given};
 ghost use Rattle.hc_model.specs.Growing.{Growing, StopsInRuns};
 ghost use Rattle.hc_model.specs.Live.{FewLive};
 ghost use Rattle.hc_model.specs.Losses.{Brings, Losses};
 ghost use Rattle.hc_model.specs.Measures.{Measures};
+ghost use Rattle.hc_model.specs.Modest.{RequestsStayModest, HeadsComeModest};
 ghost use Rattle.hc_model.specs.Numbers.{NumbersInRuns};
 ghost use Rattle.hc_model.specs.Orders.{InOrder};
 ghost use Rattle.hc_model.specs.Origins.{Origins};
 ghost use Rattle.hc_model.specs.Sizes.{Sizes};
 ghost use Rattle.hc_model.specs.StoredHeads.{StoredHeads, Tags};
+ghost use Rattle.hc_model.specs.Parts.{Parts};
 ghost use Rattle.hc_model.specs.Passed.{Passed};
 ghost use Rattle.hc_model.specs.Places.{Places};
 ghost use Rattle.hc_model.specs.Whose.{Whose};
@@ -203,6 +207,13 @@ pub fn some_go_on()
     ensures reader { ReadersGo }
 {}
 
+/// Waits end, in every run: whatever a live consumer is answered at any moment, it does something, or waits for an
+/// exchange that is open and has no head or was asked, or behind another live consumer of which the same holds; and
+/// behind that one for one more at most.
+pub fn chains_of_waits_end()
+    ensures { OfRuns ChainsEnd }
+{}
+
 /// What is stored fits the limit in every run, and an entry evicts at most two: a piece has at most twice what
 /// a slot weighs. The latter holds wherever what is stored before it fits.
 pub fn few_give_way()
@@ -279,9 +290,12 @@ pub fn lists_are_in_order()
     ensures { OfRuns InOrder }
 {}
 
-/// Where an answer past the store ends is known once it is over without a failure: where all of it came, in every run.
+/// Where an answer past the store ends is known once it is over without a failure: where all of it came. An open exchange
+/// has yet to bring some of what it promised. Who goes on alone with what has no known end reads, without a failure, from
+/// the exchange that founded it, which is still open. So in every run.
 pub fn endings_are_known()
-    ensures { OfRuns Endings }
+    ensures past { OfRuns Endings }
+    ensures alone { OfRuns Unended }
 {}
 
 /// Each open exchange is somebody's, in every run: of no representation, it is the own one of its consumer, which
@@ -325,6 +339,19 @@ pub fn few_are_live()
     ensures { OfRuns FewLive }
 {}
 
+/// Where each request and each head that comes has no more fields than one from outside may have, each
+/// request that is kept has no more either.
+pub fn requests_stay_modest()
+    ensures requests { RequestsStayModest }
+    ensures heads { HeadsComeModest }
+{}
+
+/// A range that is read isn't empty, of who founded with a part or filled its first hole, and who
+/// founded with the whole reads all of it, in every run.
+pub fn parts_have_bytes()
+    ensures { OfRuns Parts }
+{}
+
 /// Who writes a representation alone is the only one that is bound to it, and came alone, until it is lost, in every
 /// run. Whoever came alone and has no failure due, while it isn't written for several, writes it exactly where it has
 /// an exchange of its own, or a hole ahead.
@@ -353,4 +380,10 @@ pub fn denials_keep_soundness()
     ensures sound { AfterDenials Sound }
     ensures owned { AfterDenials Owners }
     ensures measured { AfterDenials Measures }
+{}
+
+/// The own open exchange of who is bound, and has no failure due, goes on no earlier than where it began to read, in
+/// every run.
+pub fn fronts_begin()
+    ensures { OfRuns Fronts }
 {}

@@ -35,3 +35,11 @@ IsToken-cache_control = (omega arith, AllPass-from_test is_token_byte (codes "ca
 pub IsToken-etag : IsToken (codes "etag")
 unfolding is_token_byte
 IsToken-etag = (omega arith, AllPass-from_test is_token_byte (codes "etag") refl)
+
+pub IsToken-range : IsToken (codes "range")
+unfolding is_token_byte
+IsToken-range = (omega arith, AllPass-from_test is_token_byte (codes "range") refl)
+
+pub IsToken-if_range : IsToken (codes "if-range")
+unfolding is_token_byte
+IsToken-if_range = (omega arith, AllPass-from_test is_token_byte (codes "if-range") refl)

@@ -1,6 +1,6 @@
 -- Numbers as values of fields.
-use Rattle.std.proofs.Common.{◌≡◌, ℕ, ◌-◌, ◌^◌, ◌<◌, ◌≤◌, Bool, true, false, not, ◌||◌, ◌==◌, List, [], ◌∷◌, ◌++◌, length, refl, ap, ◌∙◌, arith, length-append}
-use Rattle.std.specs.Prelude.{codes, slice_index}
+use Rattle.std.proofs.Common.{◌≡◌, ℕ, ◌-◌, ◌^◌, ◌<◌, ◌≤◌, Bool, true, false, not, ◌||◌, ◌==◌, List, [], ◌∷◌, ◌++◌, length, refl, ap, sym, ◌∙◌, subst, arith, length-append}
+use Rattle.std.specs.Prelude.{codes, slice_index, if◌then◌else◌}
 use Rattle.std.specs.List.{list_all}
 use Rattle.std.specs.Fmt.{decimal}
 use Rattle.std.specs.Int.{IsInRange}
@@ -8,14 +8,14 @@ use Rattle.std.specs.Str.Parse.{AllDigits}
 use Rattle.std.proofs.lemmas.Bool.{or_right}
 use Rattle.std.proofs.lemmas.Bool.Decides.{nat_tests}
 use Rattle.std.proofs.lemmas.Fmt.{decimal_is_IsNumeral, length-decimal-le}
-use Rattle.std.proofs.lemmas.List.{get_or-append_right, get_or_append_left}
+use Rattle.std.proofs.lemmas.List.{append-nil, get_or-append_right, get_or_append_left}
 use Rattle.std.proofs.lemmas.List.Folds.{list_all-append}
 use Rattle.std.proofs.lemmas.Str.Parse.{digit_at, digit_from_value}
 use Rattle.http_header.specs.Token.{is_value_byte}
 use Rattle.hc_text.specs.Elements.{is_blank}
 use Rattle.hc_fields.specs.FieldList.{is_own_value}
 use Rattle.hc_range.specs.declared.range.Span.{Span}
-use Rattle.hc_range.specs.Spans.{IsWithin, content_range_text}
+use Rattle.hc_range.specs.Spans.{IsWithin, content_range_text, range_text}
 
 -- what holds of each digit holds of each byte of a number
 list_all-digits : (p : ℕ → Bool) → ((c : ℕ) → IsInRange 48 57 c → p c ≡ true) → (ds : List ℕ) → AllDigits 10 ds → list_all p ds ≡ true
@@ -84,21 +84,55 @@ short-content_range span total within =
     let total_fits : total < 2 ^ 64 = omega (arith, within.small) in
     simp length-append (omega (arith, short-decimal span.lo first_fits, short-decimal (span.hi - 1) last_fits, short-decimal total total_fits))
 
+-- a text that begins with no blank and ends with one more byte, which is none, is a value of a field
+own-last : (front : List ℕ) (b : ℕ) → 0 < length front → list_all is_value_byte front ≡ true → is_blank (slice_index front 0) ≡ false → is_value_byte b ≡ true → is_blank b ≡ false → is_own_value (front ++ b ∷ []) ≡ true
+own-last front b longer bytes first value last =
+    let all : list_all is_value_byte (front ++ b ∷ []) ≡ true = list_all-append is_value_byte front (b ∷ []) ∙ rw (bytes, value) refl in
+    let count = length-append front (b ∷ []) in
+    let begins : slice_index (front ++ b ∷ []) 0 ≡ slice_index front 0 = get_or_append_left front (b ∷ []) 0 0 longer in
+    let place : length (front ++ b ∷ []) - 1 - length front ≡ 0 = omega arith in
+    let ends : slice_index (front ++ b ∷ []) (length (front ++ b ∷ []) - 1) ≡ b =
+    get_or-append_right front (b ∷ []) (length front) (length (front ++ b ∷ []) - 1) 0 refl (omega arith) ∙ ap (λ (i : ℕ). slice_index (b ∷ []) i) place in
+    rw all (or_right (length (front ++ b ∷ []) == 0)
+    (not (is_blank (slice_index (front ++ b ∷ []) 0) || is_blank (slice_index (front ++ b ∷ []) (length (front ++ b ∷ []) - 1))))
+    (rw (begins, ends, first, last) refl))
+
+-- the text that asks for a part is a value of a field, of 47 bytes at most
+pub own-range : (span : Span) (total : ℕ) → IsWithin span total → is_own_value (range_text span total) ≡ true
+own-range span total within = by_test (span.hi == total)
+  where
+    last_fits : span.hi - 1 < 2 ^ 64
+    last_fits = omega (arith, within.within, within.small)
+
+    first_fits : span.lo < 2 ^ 64
+    first_fits = omega (arith, within.not_empty, within.within, within.small)
+
+    by_test : (b : Bool) → is_own_value (codes "bytes=" ++ decimal span.lo ++ codes "-" ++ (if b then codes "" else decimal (span.hi - 1))) ≡ true
+    by_test true = subst (λ (text : List ℕ). is_own_value text ≡ true) (sym (append-nil (codes "bytes=" ++ decimal span.lo ++ codes "-")))
+        (own-last (codes "bytes=" ++ decimal span.lo) 45 (simp length-append (omega arith)) (simp list_all-append (rw (values-decimal span.lo first_fits) refl)) refl refl refl)
+    by_test false =
+        own-ends (codes "bytes=" ++ decimal span.lo ++ codes "-") (span.hi - 1) last_fits
+        (simp length-append (omega arith)) (simp list_all-append (rw (values-decimal span.lo first_fits) refl)) refl
+
+pub short-range : (span : Span) (total : ℕ) → IsWithin span total → length (range_text span total) ≤ 47
+short-range span total within = by_test (span.hi == total)
+  where
+    last_fits : span.hi - 1 < 2 ^ 64
+    last_fits = omega (arith, within.within, within.small)
+
+    first_fits : span.lo < 2 ^ 64
+    first_fits = omega (arith, within.not_empty, within.within, within.small)
+
+    by_test : (b : Bool) → length (codes "bytes=" ++ decimal span.lo ++ codes "-" ++ (if b then codes "" else decimal (span.hi - 1))) ≤ 47
+    by_test true = simp length-append (omega (arith, short-decimal span.lo first_fits))
+    by_test false = simp length-append (omega (arith, short-decimal span.lo first_fits, short-decimal (span.hi - 1) last_fits))
+
 abbrev pub quoted : ℕ → List ℕ
 quoted n = (34 ∷ decimal n) ++ 34 ∷ []
 
 -- a number in quotes is a value of a field
 pub own-quoted : (n : ℕ) → n < 2 ^ 64 → is_own_value (quoted n) ≡ true
-own-quoted n h =
-    let front : List ℕ = 34 ∷ decimal n in
-    let all : list_all is_value_byte (quoted n) ≡ true = list_all-append is_value_byte front (34 ∷ []) ∙ rw (values-decimal n h) refl in
-    let count = length-append front (34 ∷ []) in
-    let place : length (quoted n) - 1 - length front ≡ 0 = omega arith in
-    let ends : slice_index (quoted n) (length (quoted n) - 1) ≡ 34 =
-    get_or-append_right front (34 ∷ []) (length front) (length (quoted n) - 1) 0 refl (omega arith) ∙ ap (λ (i : ℕ). slice_index (34 ∷ []) i) place in
-    rw all (or_right (length (quoted n) == 0)
-    (not (is_blank (slice_index (quoted n) 0) || is_blank (slice_index (quoted n) (length (quoted n) - 1))))
-    (rw ends refl))
+own-quoted n h = own-last (34 ∷ decimal n) 34 (omega arith) (rw (values-decimal n h) refl) refl refl refl
 
 pub length-quoted : (n : ℕ) → n < 2 ^ 64 → length (quoted n) ≤ 22
 length-quoted n h = simp length-append (omega (arith, short-decimal n h))

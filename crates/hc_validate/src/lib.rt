@@ -14,8 +14,6 @@ mod updates;
 pub use conditions::conditional;
 pub use origin::{Answer, origin_answer, origin_byte};
 pub use selection::selects;
+pub use setting::set_field;
 pub use showing::shown;
 pub use updates::update;
-
-#[cfg(test)]
-mod tests;

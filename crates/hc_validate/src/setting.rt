@@ -8,7 +8,7 @@ use hc_fields::{FieldError, Fields};
 use hc_text::NoMemory;
 
 /// One field takes the place of all of its name.
-pub(crate) fn set_field(fields: &mut Fields, name: &[u8], value: &[u8]) -> Result<(), NoMemory>
+pub fn set_field(fields: &mut Fields, name: &[u8], value: &[u8]) -> Result<(), NoMemory>
     requires name { IsToken name.now }
     requires value { is_own_value value.now ≡ true }
     requires short { length value.now ≤ 8192 }

@@ -3,3 +3,5 @@ pub mod ByteLemmas
 pub mod CountLemmas
 pub mod OrderLemmas
 pub mod RangeTexts
+pub mod Going
+pub mod Modesty

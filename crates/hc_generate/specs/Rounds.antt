@@ -1,7 +1,8 @@
 -- A round: from the state and the exchanges that are wanted to an event or none, and the state after it.
-use Rattle.std.specs.Prelude.{◌≡◌, ℕ, ◌+◌, nat_lt, List, length, Option, Some, None, if◌then◌else◌}
+use Rattle.std.specs.Prelude.{◌≡◌, ℕ, ◌+◌, ◌≤◌, nat_lt, List, length, Option, Some, None, if◌then◌else◌}
 use Rattle.hc_event.specs.declared.event.Event.{Event}
 use Rattle.hc_event.specs.declared.event.Event.TheVariants as event
+use Rattle.hc_step.specs.Modest.{IsModestEvent}
 use Rattle.hc_rising.specs.Rising.{with_item, without, found}
 use Rattle.hc_generate.specs.declared.action.Action.{Action}
 use Rattle.hc_generate.specs.declared.action.Action.TheVariants as action
@@ -105,6 +106,21 @@ IsMade (Answers x owed s) made after =
 -- a round makes this event or none, and takes the state before to that after
 abbrev pub IsRound : List ℕ → State → Option Event → State → Type 0
 IsRound wanted before made after = IsMade (round wanted before) made after
+
+-- a piece has at most 512 bytes
+abbrev pub IsShort : Event → Type 0
+IsShort (event.Piece x bytes) = length bytes ≤ 512
+IsShort _ = Unit {0}
+
+-- what is made, if anything, has no longer piece
+abbrev pub IsShortIfMade : Option Event → Type 0
+IsShortIfMade None = Unit {0}
+IsShortIfMade (Some made) = IsShort made
+
+-- what is made, if anything, is no larger than what a schedule can spell
+abbrev pub IsModestIfMade : Option Event → Type 0
+IsModestIfMade None = Unit {0}
+IsModestIfMade (Some made) = IsModestEvent made
 
 -- the draws alone went on
 abbrev pub IsBesidesDraws : State → State → Type 0

@@ -1,5 +1,5 @@
 -- The summary: what was counted over all that was answered.
-use Rattle.std.specs.Prelude.{◌≡◌, ℕ, ◌+◌, ◌*◌, ◌<◌, ◌≤◌, ◌^◌, Bool, true, false, List, ◌∷◌, [], ◌++◌, length, count_by, codes}
+use Rattle.std.specs.Prelude.{◌≡◌, ℕ, ◌+◌, ◌-◌, ◌^◌, min, Bool, true, false, List, ◌∷◌, [], ◌++◌, length, count_by, codes}
 use Rattle.std.specs.List.{sum_by}
 use Rattle.std.specs.Fmt.{decimal}
 use Rattle.hc_event.specs.declared.act.Act.{Act}
@@ -31,59 +31,39 @@ given_size _ = 0
 
 -- ALL OF THEM
 
+-- a count stands still at its end
+abbrev pub up_to_end : ℕ → ℕ
+up_to_end n = min n (2 ^ 64 - 1)
+
 -- of a list of events, by the acts of each, the oldest first
 abbrev pub summary : List (List Act) → Counts
 summary answered = record {
-  events = length answered;
-  opens = sum_by (λ acts. count_by is_opened acts) answered;
-  bytes = sum_by (λ acts. sum_by given_size acts) answered;
-  ended = sum_by (λ acts. count_by is_ended acts) answered;
-  failed = sum_by (λ acts. count_by is_failed acts) answered;
-  lost = sum_by (λ acts. count_by is_lost acts) answered;
+  events = up_to_end (length answered);
+  opens = up_to_end (sum_by (λ acts. count_by is_opened acts) answered);
+  bytes = up_to_end (sum_by (λ acts. sum_by given_size acts) answered);
+  ended = up_to_end (sum_by (λ acts. count_by is_ended acts) answered);
+  failed = up_to_end (sum_by (λ acts. count_by is_failed acts) answered);
+  lost = up_to_end (sum_by (λ acts. count_by is_lost acts) answered);
 }
 
 -- some acts more, of the same event
 abbrev pub noted : List Act → Counts → Counts
 noted acts n = record n {
-  opens = n.opens + count_by is_opened acts;
-  bytes = n.bytes + sum_by given_size acts;
-  ended = n.ended + count_by is_ended acts;
-  failed = n.failed + count_by is_failed acts;
-  lost = n.lost + count_by is_lost acts;
+  opens = up_to_end (n.opens + count_by is_opened acts);
+  bytes = up_to_end (n.bytes + sum_by given_size acts);
+  ended = up_to_end (n.ended + count_by is_ended acts);
+  failed = up_to_end (n.failed + count_by is_failed acts);
+  lost = up_to_end (n.lost + count_by is_lost acts);
 }
 
 -- one event more, with these acts
 abbrev pub counted : List Act → Counts → Counts
-counted acts n = noted acts (record n { events = n.events + 1 })
+counted acts n = noted acts (record n { events = up_to_end (n.events + 1) })
 
 -- that is the summary of all of them
 abbrev pub OneMoreIsCounted : Type 0
 OneMoreIsCounted =
     (answered : List (List Act)) (acts : List Act) → summary (answered ++ acts ∷ []) ≡ counted acts (summary answered)
-
--- WHAT KEEPS THEM SMALL
-
--- few acts, which give few bytes
-pub record AreFew (acts : List Act) : Type 0 where
-  pub few : length acts ≤ 2 ^ 20
-  pub short : sum_by given_size acts ≤ 2 ^ 20
-
--- the acts of each event were few
-pub record AreBounded (n : Counts) : Type 0 where
-  pub opens : n.opens ≤ n.events * 2 ^ 20
-  pub bytes : n.bytes ≤ n.events * 2 ^ 20
-  pub ended : n.ended ≤ n.events * 2 ^ 20
-  pub failed : n.failed ≤ n.events * 2 ^ 20
-  pub lost : n.lost ≤ n.events * 2 ^ 20
-
--- no count is too large for the code
-pub record AreSmall (n : Counts) : Type 0 where
-  pub events : n.events < 2 ^ 62
-  pub opens : n.opens < 2 ^ 62
-  pub bytes : n.bytes < 2 ^ 62
-  pub ended : n.ended < 2 ^ 62
-  pub failed : n.failed < 2 ^ 62
-  pub lost : n.lost < 2 ^ 62
 
 -- ITS TEXT
 

@@ -1,12 +1,13 @@
 //! What is counted over all that is answered.
-ghost use Rattle.std.specs.Prelude.{◌≡◌, ◌++◌, ◌∷◌, [], IfOk, OnOk};
-ghost use Rattle.hc_generate.specs.Summary.{AreSmall, counted, line, noted, summary, summary_text};
+ghost use Rattle.std.specs.Prelude.{◌≡◌, ◌++◌, [], count_by, IfOk, OnOk};
+ghost use Rattle.std.specs.List.{sum_by};
+ghost use Rattle.hc_generate.specs.Summary.{counted, given_size, is_ended, is_failed, is_lost, is_opened, line, summary, summary_text, up_to_end};
 
 use hc_event::Act;
 use hc_text::{NoMemory, write_number};
 use std::alloc::Global;
 
-/// How much was answered.
+/// How much was answered. A count stands still at its end.
 #[derive(Clone, Copy)]
 pub(crate) struct Counts {
     events: u64,
@@ -35,28 +36,14 @@ impl Counts {
 
     /// One event more was answered, with these acts.
     pub(crate) fn add(&mut self, acts: &[Act])
-        requires { AreSmall (counted acts.now self.old) }
         ensures { self.new ≡ counted acts.now self.old }
     {
-        self.events += 1;
-        for act in acts {
-            self.note(act);
-        }
-    }
-
-    /// The act is counted where it is one of those that are.
-    fn note(&mut self, act: &Act)
-        requires { AreSmall (noted (act.now ∷ []) self.old) }
-        ensures { self.new ≡ noted (act.now ∷ []) self.old }
-    {
-        match act {
-            Act::Opened { .. } => self.opens += 1,
-            Act::Given { bytes, .. } => self.bytes += bytes.bytes.len() as u64,
-            Act::Ended { .. } => self.ended += 1,
-            Act::Failed { .. } => self.failed += 1,
-            Act::Lost { .. } => self.lost += 1,
-            _ => {}
-        }
+        self.events = self.events.saturating_add(1);
+        self.opens = self.opens.saturating_add(opens(acts));
+        self.bytes = self.bytes.saturating_add(bytes(acts));
+        self.ended = self.ended.saturating_add(ends(acts));
+        self.failed = self.failed.saturating_add(fails(acts));
+        self.lost = self.lost.saturating_add(losses(acts));
     }
 
     /// Their text, a line for each.
@@ -72,6 +59,56 @@ impl Counts {
         write_line(b"lost ", self.lost, &mut text)?;
         Ok(text)
     }
+}
+
+/// How many exchanges are opened.
+fn opens(acts: &[Act]) -> u64
+    ensures { result ≡ count_by is_opened acts.now }
+{
+    acts.iter()
+        .filter(|act| matches!(act, Act::Opened { .. }))
+        .count() as u64
+}
+
+/// How many consumers end.
+fn ends(acts: &[Act]) -> u64
+    ensures { result ≡ count_by is_ended acts.now }
+{
+    acts.iter()
+        .filter(|act| matches!(act, Act::Ended { .. }))
+        .count() as u64
+}
+
+/// How many consumers fail.
+fn fails(acts: &[Act]) -> u64
+    ensures { result ≡ count_by is_failed acts.now }
+{
+    acts.iter()
+        .filter(|act| matches!(act, Act::Failed { .. }))
+        .count() as u64
+}
+
+/// How many representations are lost.
+fn losses(acts: &[Act]) -> u64
+    ensures { result ≡ count_by is_lost acts.now }
+{
+    acts.iter()
+        .filter(|act| matches!(act, Act::Lost { .. }))
+        .count() as u64
+}
+
+/// How many bytes consumers are given, up to the end of the count.
+#[tactic(auto, using(crate::proofs::CountLemmas::one_more))]
+fn bytes(acts: &[Act]) -> u64
+    ensures { result ≡ up_to_end (sum_by given_size acts.now) }
+{
+    let mut sum: u64 = 0;
+    for act in acts {
+        if let Act::Given { bytes, .. } = act {
+            sum = sum.saturating_add(bytes.bytes.len() as u64);
+        }
+    }
+    sum
 }
 
 fn write_line(word: &[u8], n: u64, to: &mut Vec<u8>) -> Result<(), NoMemory>

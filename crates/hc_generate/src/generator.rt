@@ -28,7 +28,6 @@ pub struct Generator {
 
 impl Model for Generator {
     ghost use Rattle.hc_generate.specs.States.{State, IsInOrder};
-    ghost use Rattle.hc_generate.specs.Summary.{AreBounded};
 
     ghost Value = { State };
 
@@ -42,14 +41,14 @@ impl Model for Generator {
     } };
 
     ghost invariant = { λ g.
-        IsInOrder g.last g.live.items g.exchanges.items × AreBounded g.counts };
+        IsInOrder g.last g.live.items g.exchanges.items };
 }
 
 impl Generator {
     ghost use Rattle.hc_generate.specs.States.{State, beginning};
     ghost use Rattle.hc_generate.specs.Hearing.{heard};
-    ghost use Rattle.hc_generate.specs.Rounds.{IsRound};
-    ghost use Rattle.hc_generate.specs.Summary.{AreFew, summary_text};
+    ghost use Rattle.hc_generate.specs.Rounds.{IsRound, IsShortIfMade, IsModestIfMade};
+    ghost use Rattle.hc_generate.specs.Summary.{summary_text};
 
     /// Nothing was made yet.
     pub fn new(alloc: Global, seed: u64) -> Generator
@@ -80,6 +79,9 @@ impl Generator {
         requires last { self.old.last + 1 < 2 ^ 62 }
         ensures ok { IfOk result (λ made. IsRound wanted.now self.old made self.new) }
         ensures err { OnErr result (self.new ≡ self.old) }
+        ensures short { IfOk result IsShortIfMade }
+        ensures modest { IfOk result IsModestIfMade }
+        ensures later { self.old.moment ≤ self.new.moment }
         ensures moment_grows { self.new.moment ≤ self.old.moment + 30 }
         ensures last_grows { self.new.last ≤ self.old.last + 1 }
         ensures counts { self.new.counts ≡ self.old.counts }
@@ -95,8 +97,6 @@ impl Generator {
     /// What the cache answered to the event that was made last. Where memory is refused nothing
     /// changes.
     pub fn hear(&mut self, acts: &[Act]) -> Result<(), NoMemory>
-        requires few { AreFew acts.now }
-        requires events { self.old.counts.events < 2 ^ 40 }
         ensures ok { OnOk result (self.new ≡ heard acts.now self.old) }
         ensures err { OnErr result (self.new ≡ self.old) }
     {

@@ -14,6 +14,3 @@ mod request;
 
 pub use generator::Generator;
 pub use laws::the_counts_are_the_summary;
-
-#[cfg(test)]
-mod tests;

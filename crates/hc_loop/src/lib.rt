@@ -7,6 +7,3 @@ mod stop;
 mod through;
 
 pub use through::step_through;
-
-#[cfg(test)]
-mod tests;

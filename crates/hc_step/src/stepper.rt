@@ -4,6 +4,7 @@ ghost use Rattle.hc_event.specs.Acts.{listed};
 ghost use Rattle.hc_event.specs.declared.act.Act.{Act};
 ghost use Rattle.hc_event.specs.declared.event.Event.{Event};
 ghost use Rattle.hc_step.specs.Counting.{received_in};
+ghost use Rattle.hc_step.specs.Modest.{IsModestEvent};
 
 use hc_event::{Acts, Event};
 use hc_text::NoMemory;
@@ -25,9 +26,12 @@ pub trait Stepper {
     ghost answers: { Self → ℕ → Event → List Act → Self → Type 0 };
 
     /// Answers an event at a moment, in seconds since 1970: its acts are appended. Where memory is
-    /// refused the acts are as before.
+    /// refused the acts are as before. No moment and no event is larger than those that a schedule
+    /// can spell.
     fn step(&mut self, now: u64, event: &Event, out: &mut Acts) -> Result<(), NoMemory>
         requires later { moment self.old ≤ now }
+        requires early { now < 2 ^ 62 }
+        requires modest { IsModestEvent event.now }
         requires few { steps self.old < 2 ^ 60 }
         requires small { received self.old + received_in event.now < 2 ^ 61 }
         ensures answered { OnOk result (Appends answers self.old self.new now event.now

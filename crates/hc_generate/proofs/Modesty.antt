@@ -1,0 +1,139 @@
+-- What is made is no larger than what a schedule can spell.
+use Rattle.std.proofs.Common.{◌≡◌, ℕ, ◌+◌, ◌-◌, ◌/◌, ◌^◌, ◌<◌, ◌≤◌, List, [], ◌++◌, length, Bool, true, false, Option, Some, None, refl, sym, subst, arith, length-append, min}
+use Rattle.std.proofs.Math.Nat.{mod-lt}
+use Rattle.std.proofs.lemmas.Bool.Decides.{nat_tests}
+use Rattle.std.specs.Prelude.{codes, bytes_eq, nat_le, nat_lt, ◌==◌, ◌&&◌, if◌then◌else◌, drop, take}
+use Rattle.std.specs.Fmt.{decimal}
+use Rattle.std.specs.Str.Parse.{digits_value}
+use Rattle.hc_event.specs.declared.event.Request.{Request}
+use Rattle.hc_fields.specs.FieldList.{IsModest, size_of}
+use Rattle.hc_range.specs.declared.range.Asked.{Asked}
+use Rattle.hc_range.specs.declared.range.Asked.TheVariants as asked
+use Rattle.hc_range.specs.declared.range.Span.{Span}
+use Rattle.hc_range.specs.Spans.{resolved, content_range_text}
+use Rattle.hc_validate.specs.Heads.{FieldPairs, with_one}
+use Rattle.hc_validate.specs.Showing.{with_length}
+use Rattle.hc_validate.specs.declared.origin.Answer.{Answer}
+use Rattle.hc_validate.specs.Origin.{IsOriginAnswer, IsAnswerOf, answer_by, cut_by, common, size_asked, size_at, size_in, path_of, part, whole, unsatisfied, may_cut}
+use Rattle.hc_validate.proofs.Common.{size-common}
+use Rattle.hc_validate.proofs.Numbers.{short-decimal}
+use Rattle.hc_validate.proofs.Settings.{length-with_one, size_of-with_one}
+use Rattle.hc_generate.specs.Draws.{drawn, stepped}
+use Rattle.hc_generate.specs.Requests as made
+use Rattle.hc_generate.specs.Requests.{drawn_request, drawn_fields, range_from, range_text}
+use Rattle.hc_generate.proofs.RangeTexts.{short-range}
+
+-- HOW LONG A REPRESENTATION IS
+
+some_is : (v n : ℕ) → Some v ≡ Some n → v ≡ n
+some_is v n is = cc
+
+then_some : (b : Bool) (o : Option ℕ) (n : ℕ) → (if b then o else None) ≡ Some n → (b ≡ true) × (o ≡ Some n)
+then_some true o n is = (refl, is)
+then_some false o n is = absurd (let never : None ≡ Some n = is in cc)
+
+both : (a b : Bool) → (a && b) ≡ true → b ≡ true
+both true b on = on
+both false b on = absurd (let never : false ≡ true = on in cc)
+
+in_small : (text : List ℕ) (n : ℕ) → size_in text ≡ Some n → n ≤ 1048576
+in_small text n is =
+    let parts = then_some (bytes_eq text (decimal (digits_value 10 text)) && nat_le (digits_value 10 text) 1048576) (Some (digits_value 10 text)) n is in
+    let same : digits_value 10 text ≡ n = some_is (digits_value 10 text) n parts.1 in
+    let small : nat_le (digits_value 10 text) 1048576 ≡ true = both (bytes_eq text (decimal (digits_value 10 text))) (nat_le (digits_value 10 text) 1048576) parts.0 in
+    subst (λ (m : ℕ). m ≤ 1048576) same (grind (arith, nat_tests, small))
+
+asked_small : (request : Request) (n : ℕ) → size_asked request ≡ Some n → n ≤ 1048576
+asked_small request n is =
+    let at = (then_some (bytes_eq request.method (codes "GET")) (size_at (path_of request.key)) n is).1 in
+    in_small (drop 2 (path_of request.key)) n (then_some (bytes_eq (take 2 (path_of request.key)) (codes "d/")) (size_in (drop 2 (path_of request.key))) n at).1
+
+-- THE ANSWERS OF THE TEST ORIGIN
+
+-- a field more
+one_more : (name value : List ℕ) (fields : FieldPairs) (count size more : ℕ) → length fields ≤ count → size_of fields ≤ size → length name + length value ≤ more
+    → (length (with_one (Rattle.http_header.specs.Token.lowercase name) value fields) ≤ count + 1) × (size_of (with_one (Rattle.http_header.specs.Token.lowercase name) value fields) ≤ size + more)
+one_more name value fields count size more few small short =
+    let longer = length-with_one (Rattle.http_header.specs.Token.lowercase name) value fields in
+    let larger = size_of-with_one name value fields in
+    (omega (arith, few, longer), omega (arith, small, short, larger))
+
+modest : (fields : FieldPairs) (count size : ℕ) → (length fields ≤ count) × (size_of fields ≤ size) → count ≤ 64 → size ≤ 32768 → IsModest fields
+modest fields count size (fewer, smaller) few small = record { few = omega (arith, fewer, few); small = omega (arith, smaller, small) }
+
+module _ (n : ℕ) (fits : n ≤ 1048576) where
+  n_fits : n < 2 ^ 64
+  n_fits = omega (arith, fits)
+
+  modest_common : IsModest (common n)
+  modest_common = let size = size-common n n_fits in record { few = omega arith; small = omega (arith, size) }
+
+  with_length_small : (m : ℕ) → m < 2 ^ 64 → (length (with_length (Some m) (common n)) ≤ 4) × (size_of (with_length (Some m) (common n)) ≤ 140)
+  with_length_small m small = let short = short-decimal m small in one_more (codes "content-length") (decimal m) (common n) 3 100 40 (omega arith) (size-common n n_fits) (omega (arith, short))
+
+  range_short : (span : Span) → span.lo ≤ n → span.hi ≤ n → length (content_range_text span n) ≤ 68
+  range_short span lo hi =
+      let last_fits : span.hi - 1 < 2 ^ 64 = omega (arith, hi, fits) in
+      let first_fits : span.lo < 2 ^ 64 = omega (arith, lo, fits) in
+      simp length-append (omega (arith, short-decimal span.lo first_fits, short-decimal (span.hi - 1) last_fits, short-decimal n n_fits))
+
+  modest_part : (span : Span) → span.lo ≤ n → span.hi ≤ n → IsModest (part n span).response.fields
+  modest_part span lo hi =
+      let length_fits : span.hi - span.lo < 2 ^ 64 = omega (arith, hi, fits) in
+      let (few, small) = with_length_small (span.hi - span.lo) length_fits in
+      let short = range_short span lo hi in
+      modest (part n span).response.fields 5 240 (one_more (codes "content-range") (content_range_text span n) (with_length (Some (span.hi - span.lo)) (common n)) 4 140 100 few small (omega (arith, short))) (omega arith) (omega arith)
+
+  modest_unsatisfied : IsModest (unsatisfied n).response.fields
+  modest_unsatisfied =
+      let (few, small) = with_length_small 0 (omega arith) in
+      let digits = short-decimal n n_fits in
+      let short : length (codes "bytes */" ++ decimal n) ≤ 60 = simp length-append (omega (arith, digits)) in
+      modest (unsatisfied n).response.fields 5 240 (one_more (codes "content-range") (codes "bytes */" ++ decimal n) (with_length (Some 0) (common n)) 4 140 100 few small (omega (arith, short))) (omega arith) (omega arith)
+
+  -- what is resolved ends within the length
+  first_in : (lo hi : ℕ) (b : Bool) → nat_lt lo n ≡ b → hi ≤ n → IsModest (cut_by n (if b then Some (record { lo = lo; hi = hi }) else None)).response.fields
+  first_in lo hi true below within = modest_part (record { lo = lo; hi = hi }) (grind (arith, nat_tests, below)) within
+  first_in lo hi false off within = modest_unsatisfied
+
+  last_in : (m : ℕ) (b : Bool) → IsModest (cut_by n (if b then Some (record { lo = n - m; hi = n }) else None)).response.fields
+  last_in m true = modest_part (record { lo = n - m; hi = n }) (omega arith) (omega arith)
+  last_in m false = modest_unsatisfied
+
+  modest_cut : (asked : Asked) → IsModest (cut_by n (resolved asked n)).response.fields
+  modest_cut (asked.From first) = first_in first n (nat_lt first n) refl (omega arith)
+  modest_cut (asked.FromTo first last) = first_in first (min (last + 1) n) (nat_lt first n) refl (omega arith)
+  modest_cut (asked.Last m) = last_in m (nat_lt 0 m && nat_lt 0 n)
+
+  modest_whole : IsModest (whole n).response.fields
+  modest_whole = modest (whole n).response.fields 4 140 (with_length_small n n_fits) (omega arith) (omega arith)
+
+  modest_by : (listed cut : Bool) (o : Option Asked) → IsModest (answer_by n listed cut o).response.fields
+  modest_by true cut o = modest_common
+  modest_by false true (Some asked) = modest_cut asked
+  modest_by false true None = modest_whole
+  modest_by false false o = modest_whole
+
+pub modest_answer : (request : Request) (answer : Answer) → IsOriginAnswer request answer → IsModest answer.response.fields
+modest_answer request answer is = by_size (size_asked request) refl is
+  where
+    by_size : (o : Option ℕ) → size_asked request ≡ o → IsAnswerOf o request.fields answer → IsModest answer.response.fields
+    by_size None at same = subst (λ (z : Answer). IsModest z.response.fields) (sym same) (record { few = omega arith; small = omega (arith, short-decimal 0 (omega arith)) })
+    by_size (Some n) at (listed, o, read, same) =
+        subst (λ (z : Answer). IsModest z.response.fields) (sym same) (modest_by n (asked_small request n at) listed (may_cut (decimal n) request.fields) o)
+
+-- THE REQUESTS
+
+drawn_below : (n s : ℕ) → 0 < n → drawn n s < n
+unfolding drawn
+drawn_below n s some = mod-lt (stepped s / 2 ^ 33) some
+
+pub modest_request : (s : ℕ) → IsModest (drawn_request s).fields
+modest_request s = by_draw (made.size_of (drawn 8 s)) (stepped s) (let below = drawn_below 8 s (omega arith) in (omega arith, omega (arith, below))) (drawn 4 (stepped s) == 0)
+  where
+    by_draw : (size d : ℕ) → (0 < size) × (size ≤ 8000) → (b : Bool) → IsModest (if b then range_from (drawn size (stepped d)) else [])
+    by_draw size d (some, small) true =
+        let below = drawn_below size (stepped d) some in
+        let short = short-range (drawn size (stepped d)) (omega (arith, below, small)) in
+        record { few = omega arith; small = omega (arith, short) }
+    by_draw size d some false = record { few = omega arith; small = omega arith }

@@ -1,9 +1,0 @@
-use Rattle.std.proofs.Common.{◌+◌, ◌*◌, ◌≤◌}
-use Rattle.hc_generate.proofs.tests.walk.Given as goal
-
-abbrev pub invariant-loop-i : goal.invariant-loop-i
-invariant-loop-i g l = record {
-  moment : l.generator.moment ≤ 1000000 + 30 * l.i-counter;
-  last : l.generator.last ≤ l.i-counter;
-  events : l.generator.counts.events ≤ l.i-counter;
-}

@@ -13,6 +13,7 @@ use Rattle.hc_fresh.specs.Lifetimes.{lifetime, lifetime_by}
 use Rattle.hc_cachectl.specs.Directives.{of_response}
 use Rattle.hc_store.specs.Heads.{with_kind}
 use Rattle.hc_store.specs.Slots.{Held, bare, rewrites, puts, seals}
+use Rattle.hc_entries.specs.Begun.{begun_row}
 use Rattle.hc_entries.specs.Heads.{Told, told_of}
 use Rattle.hc_entries.specs.Kept.{itself, unless_it, is_nobody}
 use Rattle.hc_entries.specs.Rows.{Row, with_told, with_last, reaching, sealed_as, used_by, used_first_by, unused_by, going, losing, written_in, founded_row}
@@ -192,4 +193,15 @@ shelved-founded key n head c is_first writer number = record {
   rising = refl;
   first = among-first c is_first;
   used = λ gone. refl;
+}
+
+pub shelved-begun : (key : List ℕ) (n : ℕ) (head : Head) → n < 2 ^ 64 → IsShelved (Some (bare head)) (begun_row key n (told_of head))
+shelved-begun key n head number = record {
+  number = number;
+  live = refl;
+  told = refl;
+  reach = reaches-nothing;
+  rising = refl;
+  first = refl;
+  used = λ gone. let never : false ≡ true = gone in cc;
 }

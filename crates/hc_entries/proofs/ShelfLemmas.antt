@@ -1,5 +1,5 @@
 -- Rows, order and slots agree after a change of one row and its slot.
-use Rattle.std.proofs.Common.{◌≡◌, ℕ, List, true, false, eqb, cond, Option, Some, None, refl, sym, ap, ◌∙◌, subst, inl, inr, arith}
+use Rattle.std.proofs.Common.{◌≡◌, ℕ, ◌<◌, ◌^◌, List, true, false, eqb, cond, Option, Some, None, refl, sym, ap, ◌∙◌, subst, inl, inr, arith}
 use Rattle.std.specs.Prelude.{is_some, option_map}
 use mathlib.Core.Path.{fun_ext}
 use Rattle.std.proofs.Math.Logic.{∥∥₁_map}
@@ -340,3 +340,9 @@ pub live-slot : {rows : Rows} {order : List ℕ} {slots : Slots} → AreShelved 
 live-slot {rows} {order} {slots} good r n slot =
     let row = row-at (rows r) n slot in
     ap (is_live slots) (sym row.2) ∙ (good.each r row.0 row.1).live
+
+-- its number is one of 64 bits
+pub slot-number : {rows : Rows} {order : List ℕ} {slots : Slots} → AreShelved rows order slots → (r n : ℕ) → slot_at (rows r) ≡ Some n → n < 2 ^ 64
+slot-number {rows} {order} {slots} good r n slot =
+    let row = row-at (rows r) n slot in
+    let small = (good.each r row.0 row.1).number in let same = row.2 in omega arith

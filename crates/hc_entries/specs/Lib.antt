@@ -5,3 +5,4 @@ pub mod Rows
 pub mod Shelved
 pub mod Entries
 pub mod Views
+pub mod Begun

@@ -8,6 +8,7 @@ ghost use Rattle.hc_entries.specs.Kept.{founded};
 ghost use Rattle.hc_entries.specs.Rows.{rows_of};
 ghost use Rattle.hc_entries.specs.Shelved.{AreShelved};
 
+mod begin;
 mod bytes;
 mod heads;
 mod idle;

@@ -5,6 +5,7 @@ ghost use Rattle.hc_sparse.specs.Cells.{size};
 ghost use Rattle.hc_rising.specs.Rising.{rises, has};
 ghost use Rattle.hc_store.specs.Slots.{Held};
 ghost use Rattle.hc_entries.specs.Heads.{told_of};
+ghost use Rattle.hc_entries.specs.Begun.{begun_row};
 ghost use Rattle.hc_entries.specs.Kept.{itself, founded};
 
 use crate::told::HeadTold;
@@ -56,17 +57,33 @@ impl Entry {
         ensures { IfOk result (λ entry. row_of entry
             ≡ founded_row key slot.n (told_of (plain head.now)) c first writer) }
     {
+        let mut entry = Entry::begun(alloc, key, slot, head)?;
+        entry.bound.push(c)?;
+        entry.first = if first { Some(c) } else { None };
+        entry.writer = writer;
+        Ok(entry)
+    }
+
+    /// One without bytes, to which nobody is bound.
+    pub(crate) fn begun(
+        alloc: Global,
+        key: Key,
+        slot: Slot,
+        head: &StoredHead,
+    ) -> Result<Entry, NoMemory>
+        requires { head.now.requested ≤ head.now.answered }
+        ensures { IfOk result (λ entry. row_of entry
+            ≡ begun_row key slot.n (told_of (plain head.now))) }
+    {
         let told = HeadTold::of(head)?;
-        let mut bound = Vec::new(alloc);
-        bound.push(c)?;
         Ok(Entry {
             key,
             slot,
             told,
             reach: 0,
-            bound,
-            first: if first { Some(c) } else { None },
-            writer,
+            bound: Vec::new(alloc),
+            first: None,
+            writer: None,
             lost: false,
             alone: None,
             gone: false,

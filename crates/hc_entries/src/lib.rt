@@ -11,6 +11,3 @@ mod view;
 
 pub use entries::Entries;
 pub use view::EntryView;
-
-#[cfg(test)]
-mod tests;

@@ -33,6 +33,8 @@ impl<B: Backend> Entries<B> {
         requires end { at + length bytes.now ≤ 2 ^ 62 }
         ensures ok { OnOk result (Becomes (option_map (filled at x bytes.now last)) unmoved
             r (shelf_of self.old) (shelf_of self.new)) }
+        ensures used { OnOk result
+            ((shelf_of self.new).used ≡ (shelf_of self.old).used + length bytes.now) }
         ensures err { OnErr result (Stays (shelf_of self.old) (shelf_of self.new)) }
         ensures within { IsWithin (shelf_of self.old).limits
             (size_at (shelf_of self.old) r + length bytes.now)

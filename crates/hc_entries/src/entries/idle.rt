@@ -1,5 +1,5 @@
 //! What gives way where there is no room.
-ghost use Rattle.std.specs.Prelude.{◌≡◌, ◌+◌, ◌^◌, ◌<◌, ℕ, List, map};
+ghost use Rattle.std.specs.Prelude.{◌≡◌, ◌+◌, ◌^◌, ◌<◌, ℕ, List, map, IfOk};
 ghost use Rattle.std.specs.List.{sum_by};
 ghost use Rattle.hc_rules.specs.Rooms.{room_of, room_by, gives_way};
 
@@ -7,6 +7,7 @@ use super::Entries;
 use crate::rows::{is_unused, slot_in};
 use hc_rules::{Room, SLOT_WEIGHT, Write};
 use hc_store::Backend;
+use hc_text::NoMemory;
 
 impl<B: Backend> Entries<B> {
     ghost use Rattle.hc_entries.specs.Entries.{shelf_of};
@@ -63,6 +64,19 @@ impl<B: Backend> Entries<B> {
         } else {
             Room::Full
         }
+    }
+
+    /// The idle ones, first the one to which none was bound for longest.
+    pub fn idle(&self) -> Result<Vec<u64>, NoMemory>
+        ensures { IfOk result (λ rs. rs.items ≡ idle (shelf_of self.now)) }
+    {
+        let mut idle = Vec::new(self.alloc);
+        for (r, _) in self.order.from_last() {
+            if is_unused(&self.rows, *r) {
+                idle.push(*r)?;
+            }
+        }
+        Ok(idle)
     }
 
     /// The idle one to which none was bound for longest. It is evicted by `forget`.

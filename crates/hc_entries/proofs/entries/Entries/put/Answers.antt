@@ -1,7 +1,8 @@
 use Rattle.std.proofs.Common.{◌+◌, length, refl, ap, ◌∙◌}
 use Rattle.hc_store.specs.Slots.{Slots, puts}
+use Rattle.hc_store.proofs.Weights.{weight-put}
 use Rattle.hc_entries.specs.Rows.{rows_of, reaching}
-use Rattle.hc_entries.proofs.ShelfLemmas.{updated-shelved, cells-kept}
+use Rattle.hc_entries.proofs.ShelfLemmas.{updated-shelved, cells-kept, live-slot, slot-number}
 use Rattle.hc_entries.proofs.RowLemmas.{shelved-filled}
 use Rattle.hc_entries.proofs.CurrentLemmas.{ordered-same}
 use Rattle.hc_entries.proofs.entries.Entries.put.Goals as goal
@@ -24,3 +25,11 @@ invariant_of-self-2 g c =
           (λ row held is h. shelved-filled a.at a.x a.bytes.now a.last row held c.requires.some h)
           (ordered-same e.shelved a.r f c.fill_in.ensures (λ row. refl));
     }
+
+pub returns-clause-used : goal.returns-clause-used
+returns-clause-used g c =
+    let e = c.args.self.now in
+    let a = c.args in
+    let slots = g.B.Backend.slots e.store in
+    weight-put slots (g.B.Backend.slots c.put.new.self) c.slot_in.result.n a.at a.x a.bytes.now a.last (slot-number e.shelved a.r c.slot_in.result.n c.slot_in.ensures) (live-slot e.shelved a.r c.slot_in.result.n c.slot_in.ensures)
+    (λ p le lt. cells-kept slots (rows_of e.rows a.r) c.slot_in.result.n c.slot_in.ensures p ∙ c.requires.absent p le lt) c.requires.end (λ m. ap (λ (s : Slots). s m) c.in_ok-put.ensures.ok)

@@ -1,0 +1,147 @@
+-- How many items are good, told item by item, and why contents don't fit.
+use Rattle.std.proofs.Common.{◌≡◌, ℕ, zero, suc, ◌+◌, ◌<◌, ◌≤◌, min, map, reverse, List, [], ◌∷◌, ◌++◌, length, take, drop, get_or, Bool, true, false, cond, Option, Some, None, refl, ap, sym, ◌∙◌, subst, arith}
+use Rattle.std.proofs.lemmas.Bool.Decides.{nat_tests}
+use Rattle.std.proofs.lemmas.List.{drop_all, length-map, reverse-append}
+use Rattle.std.specs.Prelude.{◌^◌, nat_le, nat_lt, not, is_none, ◌&&◌, if◌then◌else◌}
+use Rattle.hc_rules.specs.declared.room.Limits.{Limits}
+use Rattle.hc_model.specs.Beginnings.{ascend_from, is_kind_right, has_right_head, has_own_numbers, is_good, are_good, weights_of, may_begin}
+use Rattle.hc_model.specs.Entries.{Content, Contents}
+use Rattle.hc_model.specs.Tables.{bytes_in}
+use Rattle.hc_contents.specs.declared.contents.Content as coded
+use Rattle.hc_contents.specs.declared.unfit.Unfit.{Unfit}
+use Rattle.hc_contents.specs.declared.unfit.Unfit.TheVariants as unfit
+use Rattle.hc_contents.specs.Fit.{is_apart, is_right, count_good, has_good_numbers, unfit_of}
+use Rattle.hc_contents.specs.Told.{told_item}
+use Rattle.hc_contents.proofs.Knowing.{take_told}
+
+-- ONE
+
+-- an item is good where it is apart from the others, and right in itself
+pub good_is : (limits : Limits) (contents : Contents) (earlier : List Content) (item : Content) (later : List Content) → is_good limits contents earlier item later ≡ (is_apart contents earlier item later && is_right contents.now limits.max_entry item)
+good_is limits contents earlier item later =
+    by_parts (not (Rattle.std.specs.List.list_any (λ (other : Content). Rattle.std.specs.Prelude.bytes_eq other.key item.key) earlier)) (has_own_numbers contents earlier item later) (ascend_from 0 0 item.runs) (is_kind_right item item.head.total) (nat_le (bytes_in item.runs) limits.max_entry) (has_right_head contents item)
+  where
+    by_parts : (a b c d e f : Bool) → (a && b && c && d && e && f) ≡ (a && b && (c && d && e && f))
+    by_parts true true c d e f = refl
+    by_parts true false c d e f = refl
+    by_parts false b c d e f = refl
+
+-- COUNTING
+
+drop_told : (items : List coded.Content) (i : ℕ) (item : coded.Content) → i < length items → item ≡ get_or items i item → drop i (map told_item items) ≡ told_item item ∷ drop (suc i) (map told_item items)
+drop_told [] i item lt is = absurd (let none : i < 0 = lt in omega arith)
+drop_told (x ∷ xs) zero item lt is = ap (λ (y : coded.Content). told_item y ∷ map told_item xs) (sym is)
+drop_told (x ∷ xs) (suc i) item lt is = drop_told xs i item (omega arith) is
+
+module _ (limits : Limits) (contents : Contents) (items : List coded.Content) where
+  abbrev told : List Content
+  told = map told_item items
+
+  abbrev before : ℕ → List Content
+  before i = reverse (take i told)
+
+  -- so many are good, and those behind them that are
+  pub record IsCounted (i : ℕ) : Type 0 where
+    pub count : count_good limits contents [] told ≡ i + count_good limits contents (before i) (drop i told)
+
+  pub none_counted : IsCounted 0
+  none_counted = record { count = omega arith }
+
+  module _ (i : ℕ) (item : coded.Content) (c : IsCounted i) (lt : i < length items) (is : item ≡ get_or items i item) where
+    next : i + 1 ≡ suc i
+    next = omega arith
+
+    here : count_good limits contents [] told ≡ i + (cond (is_good limits contents (before i) (told_item item) (drop (i + 1) told)) (1 + count_good limits contents (told_item item ∷ before i) (drop (i + 1) told)) 0)
+    here = c.count ∙ (ap (λ ys. i + count_good limits contents (before i) ys) (drop_told items i item lt is) ∙ ap (λ n. i + (cond (is_good limits contents (before i) (told_item item) (drop n told)) (1 + count_good limits contents (told_item item ∷ before i) (drop n told)) 0)) (sym next))
+
+    -- it is the first that isn't
+    pub stops : is_good limits contents (before i) (told_item item) (drop (i + 1) told) ≡ false → i ≡ count_good limits contents [] told
+    stops off = let all : count_good limits contents [] told ≡ i + 0 = here ∙ ap (λ (b : Bool). i + (cond b (1 + count_good limits contents (told_item item ∷ before i) (drop (i + 1) told)) 0)) off in omega arith
+
+    pub more_before : told_item item ∷ before i ≡ before (i + 1)
+    more_before = sym (ap before next ∙ (ap reverse (take_told items i item lt is) ∙ reverse-append (take i told) (told_item item ∷ [])))
+
+    -- with what a test of it told
+    pub stopped : (result : Bool) → result ≡ false → result ≡ is_good limits contents (before i) (told_item item) (drop (i + 1) told) → i ≡ count_good limits contents [] told
+    stopped result off tells = stops (sym tells ∙ off)
+
+    -- it is good too
+    pub goes_on : is_good limits contents (before i) (told_item item) (drop (i + 1) told) ≡ true → IsCounted (i + 1)
+    goes_on on =
+        let all : count_good limits contents [] told ≡ i + (1 + count_good limits contents (told_item item ∷ before i) (drop (i + 1) told)) = here ∙ ap (λ (b : Bool). i + (cond b (1 + count_good limits contents (told_item item ∷ before i) (drop (i + 1) told)) 0)) on in
+        let same : count_good limits contents (told_item item ∷ before i) (drop (i + 1) told) ≡ count_good limits contents (before (i + 1)) (drop (i + 1) told) = ap (λ xs. count_good limits contents xs (drop (i + 1) told)) more_before in
+        record { count = omega arith }
+
+  -- all are good
+  pub all_counted : (i : ℕ) → i ≤ length items → length items ≤ i → IsCounted i → length items ≡ count_good limits contents [] told
+  all_counted i le ge c =
+      let none : drop i told ≡ [] = drop_all i told (let count : length told ≡ length items = length-map items told_item in omega arith) in
+      let all : count_good limits contents [] told ≡ i + 0 = c.count ∙ ap (λ ys. i + count_good limits contents (before i) ys) none in
+      omega arith
+
+-- ALL
+
+-- all are good where none stops the count
+good_by : (limits : Limits) (contents : Contents) (earlier items : List Content) → are_good limits contents earlier items ≡ nat_le (length items) (count_good limits contents earlier items)
+good_by limits contents earlier [] = refl
+good_by limits contents earlier (item ∷ later) =
+    by_test (is_good limits contents earlier item later) (good_by limits contents (item ∷ earlier) later)
+  where
+    one_up : (n m : ℕ) → nat_le n m ≡ nat_le (suc n) (1 + m)
+    one_up n m = grind (arith, nat_tests)
+
+    none_up : (n : ℕ) → false ≡ nat_le (suc n) 0
+    none_up n = grind (arith, nat_tests)
+
+    by_test : (b : Bool) → are_good limits contents (item ∷ earlier) later ≡ nat_le (length later) (count_good limits contents (item ∷ earlier) later)
+        → (b && are_good limits contents (item ∷ earlier) later) ≡ nat_le (suc (length later)) (if b then 1 + count_good limits contents (item ∷ earlier) later else 0)
+    by_test true rest = rest ∙ one_up (length later) (count_good limits contents (item ∷ earlier) later)
+    by_test false rest = none_up (length later)
+
+module _ (limits : Limits) (contents : Contents) (good : ℕ) (is : good ≡ count_good limits contents [] contents.items) where
+  are_by : are_good limits contents [] contents.items ≡ nat_le (length contents.items) good
+  are_by = good_by limits contents [] contents.items ∙ ap (nat_le (length contents.items)) (sym is)
+
+  -- an item isn't good
+  pub bad_item : good < length contents.items → Some (unfit.BadContent good) ≡ unfit_of limits contents
+  unfolding unfit_of
+  bad_item lt =
+      let off : are_good limits contents [] contents.items ≡ false = are_by ∙ grind (arith, nat_tests) in
+      rw off (ap (λ n. Some (unfit.BadContent n)) is)
+
+  module _ (all : length contents.items ≤ good) where
+    all_good : are_good limits contents [] contents.items ≡ true
+    all_good = are_by ∙ grind (arith, nat_tests)
+
+    -- the moment or a number is too large
+    pub bad_number : false ≡ has_good_numbers contents → Some (unfit.BadContent good) ≡ unfit_of limits contents
+    unfolding unfit_of
+    bad_number off = let on = all_good in let no_one = sym off in rw (on, no_one) (ap (λ n. Some (unfit.BadContent n)) is)
+
+    module _ (numbers : true ≡ has_good_numbers contents) where
+      pub too_heavy : false ≡ nat_le (weights_of contents.items) limits.max_total → Some unfit.Full ≡ unfit_of limits contents
+      unfolding unfit_of
+      too_heavy off = let on = all_good in let those = sym numbers in let heavy = sym off in rw (on, those, heavy) refl
+
+      pub all_fit : true ≡ nat_le (weights_of contents.items) limits.max_total → None ≡ unfit_of limits contents
+      unfolding unfit_of
+      all_fit light = let on = all_good in let those = sym numbers in let weight = sym light in rw (on, those, weight) refl
+
+-- they fit where a store may begin with them
+pub begins_by : (limits : Limits) (contents : Contents) (why : Option Unfit) → why ≡ unfit_of limits contents → is_none why ≡ may_begin limits contents
+unfolding unfit_of may_begin
+begins_by limits contents why is =
+    ap is_none is ∙ by_tests (are_good limits contents [] contents.items) (nat_lt contents.now (2 ^ 62)) (nat_lt contents.last_consumer (2 ^ 62)) (nat_lt 0 contents.next_exchange) (nat_le contents.next_exchange (2 ^ 60)) (nat_le (weights_of contents.items) limits.max_total) (unfit.BadContent (count_good limits contents [] contents.items))
+  where
+    by_tests : (a b c d e f : Bool) (bad : Unfit) → is_none (if a && (b && c && d && e) then (if f then None else Some unfit.Full) else Some bad) ≡ (a && b && c && d && e && f)
+    by_tests false b c d e f bad = refl
+    by_tests true false c d e f bad = refl
+    by_tests true true false d e f bad = refl
+    by_tests true true true false e f bad = refl
+    by_tests true true true true false f bad = refl
+    by_tests true true true true true true bad = refl
+    by_tests true true true true true false bad = refl
+
+-- as many as there are plain ones
+pub longer : (items : List coded.Content) (i : ℕ) → i < length items → i < length (map told_item items)
+longer items i lt = let all : length (map told_item items) ≡ length items = length-map items told_item in omega arith

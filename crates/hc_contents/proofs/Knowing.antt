@@ -1,0 +1,83 @@
+-- Where numbers stand last, item by item.
+use Rattle.std.proofs.Common.{◌≡◌, ◌⊎◌, inl, inr, ℕ, zero, suc, ◌+◌, ◌<◌, ◌≤◌, min, map, List, [], ◌∷◌, ◌++◌, length, take, drop, get_or, Bool, true, false, cond, Option, Some, None, refl, ap, sym, ◌∙◌, subst, arith, length-append, take_all}
+use Rattle.std.proofs.lemmas.Bool.Decides.{nat_tests}
+use Rattle.std.proofs.lemmas.List.{drop_all, length-take, length-map}
+use Rattle.std.proofs.lemmas.List.Folds.{list_any-append}
+use Rattle.std.specs.Prelude.{nat_eq, nat_le, ◌==◌, ◌||◌}
+use Rattle.std.specs.List.{list_any}
+use Rattle.hc_model.specs.Entries.{Content}
+use Rattle.hc_contents.specs.declared.contents.Content as coded
+use Rattle.hc_contents.specs.Known.{TellsLast, is_from}
+use Rattle.hc_contents.specs.Told.{told_item}
+
+drop_append : {A : Type 0} (i : ℕ) (xs ys : List A) → i ≤ length xs → drop i (xs ++ ys) ≡ drop i xs ++ ys
+drop_append zero xs ys le = refl
+drop_append (suc i) [] ys le = absurd (let no_such : suc i ≤ 0 = le in omega arith)
+drop_append (suc i) (x ∷ xs) ys le = drop_append i xs ys (omega arith)
+
+or_none : (b : Bool) → (b || false) ≡ b
+or_none true = refl
+or_none false = refl
+
+module _ (last now : ℕ → Option ℕ) (items : List Content) (item : Content) (tells : TellsLast last items) (updates : (x : ℕ) → now x ≡ cond (nat_eq item.r x) (Some (length items)) (last x)) where
+  one_more : length (items ++ item ∷ []) ≡ length items + 1
+  one_more = length-append items (item ∷ []) ∙ refl
+
+  -- no place is behind the last
+  below : (x : ℕ) → is_from (length items) (last x) ≡ false
+  below x = let none : drop (length items) items ≡ [] = drop_all (length items) items (omega arith) in tells x (length items) (omega arith) ∙ ap (list_any (λ (other : Content). other.r == x)) none
+
+  still : (x : ℕ) (o : Option ℕ) → is_from (length items) o ≡ false → is_from (length items + 1) o ≡ false
+  still x None off = refl
+  still x (Some p) off = grind (arith, nat_tests)
+
+  at_end : (x : ℕ) (b : Bool) → nat_eq item.r x ≡ b → is_from (length items + 1) (cond b (Some (length items)) (last x)) ≡ false
+  at_end x true is = grind (arith, nat_tests)
+  at_end x false is = still x (last x) (below x)
+
+  inside : (x i : ℕ) (b : Bool) → i ≤ length items → nat_eq item.r x ≡ b → is_from i (cond b (Some (length items)) (last x)) ≡ (list_any (λ (other : Content). other.r == x) (drop i items) || (b || false))
+  inside x i true le is = (let there : nat_le i (length items) ≡ true = grind (arith, nat_tests) in there) ∙ or_true (list_any (λ (other : Content). other.r == x) (drop i items))
+    where
+      or_true : (b : Bool) → true ≡ (b || true)
+      or_true true = refl
+      or_true false = refl
+  inside x i false le is = tells x i le ∙ sym (or_none (list_any (λ (other : Content). other.r == x) (drop i items)))
+
+  in_or_at : (i : ℕ) → i ≤ length items + 1 → (i ≤ length items) ⊎ (i ≡ length items + 1)
+  in_or_at i le = grind arith
+
+  pub tells_more : TellsLast now (items ++ item ∷ [])
+  tells_more x i le = elim (in_or_at i (let n = one_more in omega arith)) [
+    | inl before ↦
+        ap (is_from i) (updates x) ∙ (inside x i (nat_eq item.r x) before refl
+        ∙ (sym (list_any-append (λ (other : Content). other.r == x) (drop i items) (item ∷ []))
+        ∙ ap (list_any (λ (other : Content). other.r == x)) (sym (drop_append i items (item ∷ []) before))))
+    | inr end ↦
+        ap (is_from i) (updates x)
+        ∙ (ap (λ n. is_from n (cond (nat_eq item.r x) (Some (length items)) (last x))) end
+        ∙ (at_end x (nat_eq item.r x) refl
+        ∙ ap (list_any (λ (other : Content). other.r == x)) (sym (drop_all i (items ++ item ∷ []) (let n = one_more in omega arith)))))
+  ]
+
+-- AT EACH ITEM
+
+-- as far as the next item
+pub take_told : (items : List coded.Content) (i : ℕ) (item : coded.Content) → i < length items → item ≡ get_or items i item → take (suc i) (map told_item items) ≡ take i (map told_item items) ++ told_item item ∷ []
+take_told [] i item lt is = absurd (let none : i < 0 = lt in omega arith)
+take_told (x ∷ xs) zero item lt is = ap (λ (y : coded.Content). told_item y ∷ []) (sym is)
+take_told (x ∷ xs) (suc i) item lt is = ap (λ (ys : List Content). told_item x ∷ ys) (take_told xs i item (omega arith) is)
+
+pub tells_none : (last : ℕ → Option ℕ) → ((x : ℕ) → last x ≡ None) → TellsLast last []
+tells_none last none x i le = rw (none x) (ap (list_any (λ (other : Content). other.r == x)) (sym (drop_all i [] (omega arith))))
+
+pub tells_next : (last now : ℕ → Option ℕ) (items : List coded.Content) (i : ℕ) (item : coded.Content) → i < length items → item ≡ get_or items i item → TellsLast last (take i (map told_item items))
+    → ((x : ℕ) → now x ≡ cond (nat_eq item.r x) (Some i) (last x)) → TellsLast now (take (i + 1) (map told_item items))
+tells_next last now items i item lt is tells updates =
+    let next : i + 1 ≡ suc i = omega arith in
+    let all : length (map told_item items) ≡ length items = length-map items told_item in
+    let count : length (take i (map told_item items)) ≡ i = (let some : length (take i (map told_item items)) ≡ min i (length (map told_item items)) = length-take i (map told_item items) in omega arith) in
+    subst (TellsLast now) (sym (ap (λ n. take n (map told_item items)) next ∙ take_told items i item lt is))
+    (tells_more last now (take i (map told_item items)) (told_item item) tells (λ x. updates x ∙ ap (λ n. cond (nat_eq item.r x) (Some n) (last x)) (sym count)))
+
+pub tells_all : (last : ℕ → Option ℕ) (items : List coded.Content) (i : ℕ) → length items ≤ i → TellsLast last (take i (map told_item items)) → TellsLast last (map told_item items)
+tells_all last items i le tells = subst (TellsLast last) (take_all i (map told_item items) (let all : length (map told_item items) ≡ length items = length-map items told_item in omega arith)) tells

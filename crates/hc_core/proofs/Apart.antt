@@ -1,87 +1,98 @@
--- A consumer that reads nothing: it starts, opens its exchange, fails or is cancelled; and a doom.
-use Rattle.std.proofs.Common.{◌≡◌, inl, inr, ℕ, ◌+◌, List, true, false, Option, Some, None, refl, ap, sym, ◌∙◌, subst, arith}
-use Rattle.std.specs.Prelude.{is_some}
-use Rattle.hc_event.specs.Filters.{Opening, opening_in}
-use Rattle.hc_model.specs.declared.place.Place.TheVariants as place
-use Rattle.hc_model.specs.Denials.{is_live_place}
-use Rattle.hc_model.specs.Entries.{Entry}
-use Rattle.hc_model.specs.ExchangeRows.{exchange_after}
+-- A consumer waits for its key no more, and is bound to nothing: what is kept by key and of representations stands for
+-- the tables then.
+use Rattle.std.proofs.Common.{◌≡◌, ◌≢◌, ℕ, List, Bool, true, false, Some, refl, ap, sym, ◌∙◌, subst}
+use Rattle.std.specs.Prelude.{bytes_eq, ◌||◌}
+use Rattle.hc_rules.proofs.RangeReads.{same_bytes}
+use Rattle.hc_entry.specs.declared.keys.KeyTable.{KeyTable}
+use Rattle.hc_entry.specs.Keys.{kept_of, line_of}
+use Rattle.hc_entry.specs.Kept as keyed
+use Rattle.hc_entry.specs.Kept.{on_line}
+use Rattle.hc_entry.specs.Lines.{is_among, is_in, left_by}
+use Rattle.hc_entries.specs.Shelf.{Shelf}
+use Rattle.hc_model.specs.Effects.{with_consumer}
+use Rattle.hc_model.specs.Lawful.{Lawful}
+use Rattle.hc_model.specs.Lines.{is_in_line}
+use Rattle.hc_model.specs.Reading.{is_bound}
 use Rattle.hc_model.specs.Rows as rows
-use Rattle.hc_model.specs.Rows.{Tables, Exchange}
-use Rattle.hc_model.specs.Tables.{after_accepted, last_start_after, starts_after, opened_after, received_in}
-use Rattle.hc_exch.specs.Exchanges.{table_of, next_of}
-use Rattle.hc_core.specs.declared.consumer.Consumer.{Consumer}
-use Rattle.hc_core.specs.declared.rows.Rows.{Rows}
-use Rattle.hc_core.specs.Changes.{BecomesAt}
-use Rattle.hc_core.specs.Kept.{KeepsConsumer, held_for}
-use Rattle.hc_core.specs.Stands.{RowsStand}
-use Rattle.hc_entry.specs.Keys.{kept_of}
-use Rattle.hc_model.specs.Lines.{stands_in_line}
-use Rattle.hc_core.specs.Lines.{KeepsKey}
-use Rattle.hc_core.proofs.KeyTies.{keys_stay, no_line, no_turn, is_plain_at}
-use Rattle.hc_core.proofs.Words.{same_or, none_some, same_row}
-use Rattle.hc_core.proofs.Frames.{exchange_absent}
-use Rattle.hc_core.proofs.Moved.{stands_moved, direct_is}
-use Rattle.hc_core.proofs.PastEntries.{IsPastEntry, IsOnly, others, other_exchanges, nothing_after}
-use Rattle.hc_core.proofs.Direct.{count_moved}
-use Rattle.hc_core.proofs.Standing.{Standing, StandsPast, direct, down, line, turn}
+use Rattle.hc_model.specs.Rows.{Tables}
+use Rattle.hc_model.specs.Sound as sound
+use Rattle.hc_core.specs.Leaving.{LeavesKey, IsUserAt, UnbindsAt}
+use Rattle.hc_core.specs.Lines.{KeepsKey, has_turn, is_passed, is_away}
+use Rattle.hc_core.specs.Arms.{LeftIf}
+use Rattle.hc_core.specs.Stored.{KeepsEntries}
+use Rattle.hc_core.proofs.ConsumerSteps.{SaysOfIt, key_with, key_stays, keys_with}
+use Rattle.hc_core.proofs.KeySteps.{leaves_key}
+use Rattle.hc_core.proofs.Unbinding.{entries_unbound, user_kept}
+use Rattle.hc_core.proofs.Words.{eqb-same, eqb-other, false_true, and_false}
 
-pub not_none : {A : Type 0} (o : Option A) (a : A) → o ≡ Some a → is_some o ≡ true
-not_none o a is = rw is refl
+-- TESTS
 
--- no exchange has the next number yet
-pub next_free : {B : Type 0} (r : Rows B) (t : Tables) → Standing r t → t.exchange (t.opened + 1) ≡ None
-next_free r t stands = stands.lists.new_exchanges (t.opened + 1) (omega arith)
+or_offs : (a b d : Bool) → (a || b || d) ≡ false → (a ≡ false) × ((b ≡ false) × (d ≡ false))
+or_offs false false d off = (refl, (refl, off))
+or_offs false true d off = false_true (sym off)
+or_offs true b d off = false_true (sym off)
 
--- nobody reads an exchange that isn't there
-pub nobody_reads : {B : Type 0} (r : Rows B) (t : Tables) (x d : ℕ) (j : rows.Consumer) → Standing r t → t.exchange x ≡ None → t.consumer d ≡ Some j → j.place ≡ place.Direct x → ⊥
-nobody_reads r t x d j stands none row at = by_standing (stands.past.places d j row (ap is_live_place at))
-  where
-    by_standing : StandsPast t d j → ⊥
-    by_standing (line in_line own shown given due) = let never : place.Line ≡ place.Direct x = sym in_line ∙ at in cc
-    by_standing (direct y at_y p) = none_some p.w (sym none ∙ subst (λ (z : ℕ). t.exchange z ≡ Some p.w) (direct_is y x (sym at_y ∙ at)) p.row)
-    by_standing (turn y at_y awaits queues) = let never : place.Turn y ≡ place.Direct x = sym at_y ∙ at in cc
-    by_standing (down why down_at unowned shown told) = let never : place.Down why ≡ place.Direct x = sym down_at ∙ at in cc
+-- WHERE IT IS BOUND
 
--- c stands in no line before it and after
-pub stays_out : {B : Type 0} (r u : Rows B) (t : Tables) (e : Entry) (c : ℕ) (k v : rows.Consumer) → Standing r t → IsPastEntry t e c → t.consumer c ≡ Some k → (after_accepted t e).consumer c ≡ Some v
-    → stands_in_line k.place ≡ false → stands_in_line v.place ≡ false → is_plain_at v.place ≡ true → u.keys ≡ r.keys → (key : List ℕ) → KeepsKey (after_accepted t e) key (kept_of u.keys key)
-stays_out r u t e c k v stands entry row row_after off off_after plain same_keys =
-    keys_stay t (after_accepted t e) e.now c r.keys u.keys stands.past (nothing_after t e stands.past.nothing entry.founds) (others t e c stands.past entry) (rw row_after plain) stands.keys (λ key. ap (λ z. kept_of z key) same_keys)
-    (λ key. rw (row_after, row) (no_line key v off_after ∙ sym (no_line key k off)))
-    (λ key. rw (row_after, row) (no_turn key v off_after ∙ sym (no_turn key k off)))
+-- where it is bound, it is kept that it is
+pub user_at : (t : Tables) (law : Lawful t) (c : ℕ) (v : rows.Consumer) → t.consumer c ≡ Some v → (a : Shelf) → KeepsEntries t a → IsUserAt v.place c a
+user_at t law c v row = user_kept t law.sound.numbered.lists.started c v row (λ q lo hi how at. law.sound.numbered.bound_to q c v (sound.is_bound lo hi how row at))
 
--- An entry about one consumer that reads nothing before and after it, and about no exchange.
-module _ {B : Type 0} (r u : Rows B) (t : Tables) (e : Entry) (c : ℕ) (k v : rows.Consumer) (o : Option Consumer) (stands : Standing r t) (entry : IsPastEntry t e c)
-    (only : (x : ℕ) → t.exchange x ≡ None → IsOnly e x) (unopened : opening_in e.acts ≡ None)
-    (lasts : last_start_after e.event t.last_start ≡ t.last_start) (starts : starts_after e.event t.starts ≡ t.starts) (none_received : received_in e.event ≡ 0)
-    (row : t.consumer c ≡ Some k) (off : (y : ℕ) → k.place ≡ place.Direct y → ⊥)
-    (row_after : (after_accepted t e).consumer c ≡ Some v) (off_after : (y : ℕ) → v.place ≡ place.Direct y → ⊥)
-    (received : u.received ≡ r.received) (last : u.last_start ≡ r.last_start) (exchanges : u.exchanges ≡ r.exchanges) (becomes : BecomesAt r.consumers u.consumers c o)
-    (lives : is_some o ≡ is_live_place v.place) (kept : KeepsConsumer (after_accepted t e) o (Some v)) (keys : (key : List ℕ) → KeepsKey (after_accepted t e) key (kept_of u.keys key)) where
-  pub stands_apart : RowsStand u (after_accepted t e)
-  stands_apart =
-      let s : Tables = after_accepted t e in
-      let x : ℕ = t.opened + 1 in
-      let free = next_free r t stands in
-      let of_x = only x free in
-      let absent : s.exchange x ≡ None = ap (exchange_after t e x) free ∙ exchange_absent t e x (λ z is. none_some z (sym unopened ∙ is)) in
-      let every : (y : ℕ) → s.exchange y ≡ t.exchange y = λ y. elim (same_or y x) [
-        | inl eq ↦ subst (λ (z : ℕ). s.exchange z ≡ t.exchange z) (sym eq) (absent ∙ sym free)
-        | inr ne ↦ other_exchanges t e x of_x y ne
-      ] in
-      let all_others = others t e c stands.past entry in
-      let known_x = stands.exchanges x in
-      stands_moved r u t s e.now c x o stands (nothing_after t e stands.past.nothing entry.founds) (received ∙ (let none = none_received in let same = stands.received in omega (arith, none, same))) (last ∙ (stands.last_start ∙ sym lasts))
-      (ap next_of exchanges ∙ (stands.next ∙ ap (λ (z : Option Opening). opened_after z t.opened + 1) (sym unopened))) becomes
-      (count_moved r u t s e.now c o stands becomes starts (not_none _ k row) all_others (rw row_after lives))
-      all_others (λ y ne. every y) (λ y ne. ap (λ z. table_of z y) exchanges)
-      (rw row_after kept)
-      (record {
-        running = rw (exchanges, every x) known_x.running;
-        held = rw (exchanges, every x, free) (known_x.held ∙ ap (held_for t x) free);
-      })
-      keys
-      (λ d j ne is_row at. nobody_reads r t x d j stands free is_row at)
-      (λ y j ne is_row at. off y (ap (λ (z : rows.Consumer). z.place) (same_row (t.consumer c) k j row is_row) ∙ at))
-      (λ y j ne is_row at. off_after y (ap (λ (z : rows.Consumer). z.place) (same_row (s.consumer c) v j row_after is_row) ∙ at))
+-- WHERE IT STANDS APART
+
+module _ (t : Tables) (law : Lawful t) (c : ℕ) (v z : rows.Consumer) (row : t.consumer c ≡ Some v) (unbound : (q : ℕ) → is_bound q (Some z) ≡ false) where
+  abbrev pub s : Tables
+  s = with_consumer c (Some z) t
+
+  here : s.consumer c ≡ Some z
+  here = rw (eqb-same c) refl
+
+  others : (d : ℕ) → d ≢ c → s.consumer d ≡ t.consumer d
+  others d ne = rw (eqb-other c d (λ e. ne (sym e))) refl
+
+  -- KEYS
+
+  module _ (no_line : (key : List ℕ) → is_in_line key (Some z) ≡ false) (no_passed : (key : List ℕ) → is_passed key (Some z) ≡ false) (no_away : (key : List ℕ) → is_away t key (Some z) ≡ false) where
+    no_turn : (key : List ℕ) → has_turn key (Some z) ≡ false
+    no_turn key = and_false _ _ (no_line key)
+
+    -- nothing was said of it
+    says_nothing : (key : List ℕ) → is_in_line key (Some v) ≡ false → is_passed key (Some v) ≡ false → is_away t key (Some v) ≡ false → SaysOfIt t c (Some z) key
+    says_nothing key line passed away = record {
+      in_line = no_line key ∙ sym (ap (is_in_line key) row ∙ line);
+      passed = no_passed key ∙ sym (ap (is_passed key) row ∙ passed);
+      away = no_away key ∙ sym (ap (is_away t key) row ∙ away);
+      turn = no_turn key ∙ sym (ap (has_turn key) row ∙ and_false _ _ line);
+    }
+
+    says_other : (key : List ℕ) → bytes_eq v.request.key key ≡ false → SaysOfIt t c (Some z) key
+    says_other key off = says_nothing key (rw off refl) (rw off refl) (rw off refl)
+
+    says_here : (a : keyed.Kept) → KeepsKey t v.request.key a → (is_among c a.in_line || is_among c a.passed || is_among c a.away) ≡ false → SaysOfIt t c (Some z) v.request.key
+    says_here a kept off =
+        let offs = or_offs (is_among c a.in_line) (is_among c a.passed) (is_among c a.away) off in
+        let key = v.request.key in
+        says_nothing key
+        (sym (ap (is_in_line key) row) ∙ (sym (kept.in_line c) ∙ offs.0))
+        (sym (ap (is_passed key) row) ∙ (sym (kept.passed c) ∙ offs.1.0))
+        (sym (ap (is_away t key) row) ∙ (sym (kept.away c) ∙ offs.1.1))
+
+    -- what is kept by key stands for it
+    pub keys_apart : (a b : KeyTable) → ((key : List ℕ) → KeepsKey t key (kept_of a key)) → LeavesKey c v.request.key a b → (key : List ℕ) → KeepsKey s key (kept_of b key)
+    keys_apart a b kept leave = by_test (is_in c (line_of a v.request.key)) refl leave
+      where
+        by_key : (key : List ℕ) (q : Bool) → is_in c (line_of a v.request.key) ≡ false → bytes_eq v.request.key key ≡ q → SaysOfIt t c (Some z) key
+        by_key key false out off = says_other key off
+        by_key key true out same =
+            let one : v.request.key ≡ key = same_bytes v.request.key key same in
+            subst (SaysOfIt t c (Some z)) one (says_here (kept_of a v.request.key) (kept v.request.key) out)
+
+        by_test : (q : Bool) → is_in c (line_of a v.request.key) ≡ q → LeftIf q c v.request.key a b → (key : List ℕ) → KeepsKey s key (kept_of b key)
+        by_test true is left = keys_with t c (Some z) (on_line (left_by c)) v.request.key a b kept left (leaves_key t c (Some z) v.request.key (kept_of a v.request.key) (no_line v.request.key) (no_passed v.request.key) (no_away v.request.key) (no_turn v.request.key)) says_other
+        by_test false is stays = λ key. rw (stays key) (key_with t c (Some z) key (kept_of a key) (kept_of a key) (kept key) (key_stays t c (Some z) key (kept_of a key) (kept key) (by_key key (bytes_eq v.request.key key) is refl)))
+
+  -- REPRESENTATIONS
+
+  -- what is kept of them stands for it
+  pub entries_apart : (a b : Shelf) → KeepsEntries t a → UnbindsAt v.place c a b → KeepsEntries s b
+  entries_apart = entries_unbound t law.sound.numbered.lists.started c v z row unbound

@@ -1,187 +1,48 @@
--- Which exchanges an entry closes that dooms a key: those for whose heads the ones wait who wait for it, and the refused one.
-use Rattle.std.proofs.Common.{◌≡◌, ◌⊎◌, inl, inr, ℕ, ◌+◌, ◌≤◌, List, length, Bool, true, false, Option, Some, None, refl, ap, sym, ◌∙◌, subst, arith}
+-- Which exchanges a doom closes: those for whose heads the ones wait who wait for the key, and the refused one.
+use Rattle.std.proofs.Common.{◌≡◌, ◌≢◌, ◌⊎◌, inl, inr, ℕ, ◌+◌, ◌<◌, ◌≤◌, List, [], ◌∷◌, length, Bool, true, false, Option, Some, None, refl, ap, sym, ◌∙◌, subst, arith}
 use Rattle.std.proofs.lemmas.Bool.Decides.{nat_tests}
-use Rattle.std.specs.Prelude.{filter, reverse, is_some, is_none, bytes_eq, option_and_then, nat_eq, ◌&&◌, ◌||◌, not}
-use Rattle.std.specs.HashMap.{get}
-use Rattle.hc_entry.specs.Keys.{line_of, kept_of}
-use Rattle.hc_entry.specs.Lines.{is_among, is_in, is_held_by}
+use Rattle.std.specs.Prelude.{filter, reverse, is_some, is_none, bytes_eq, option_and_then, nat_eq, ◌==◌, ◌&&◌, ◌||◌, if◌then◌else◌}
+use Rattle.std.specs.HashMap.{get, hash_map_len}
+use Rattle.hc_store.specs.declared.backend.Backend.{Ghosts}
+use Rattle.hc_event.specs.declared.event.Request.{Request}
+use Rattle.hc_entry.specs.Keys.{line_of}
+use Rattle.hc_entry.specs.Lines.{is_among, is_in}
 use Rattle.hc_entry.specs.Users.{itself}
 use Rattle.hc_entry.proofs.SeatLemmas.{same_members}
+use Rattle.hc_exch.specs.declared.row.Open.{Open}
 use Rattle.hc_exch.specs.Exchanges.{table_of}
 use Rattle.hc_exch.specs.Known.{is_open}
 use Rattle.hc_rising.specs.Rising.{rises}
-use Rattle.hc_rising.proofs.RisingLemmas.{rises-filter}
+use Rattle.hc_rising.proofs.RisingLemmas.{rises-filter, rises-above}
+use Rattle.hc_rules.specs.declared.need.Route.TheVariants as route
+use Rattle.hc_rules.specs.Needs.{route_of}
 use Rattle.hc_rules.proofs.RangeReads.{same_bytes, bytes_eq-same}
 use Rattle.hc_model.specs.declared.place.Place.{Place}
 use Rattle.hc_model.specs.declared.place.Place.TheVariants as place
-use Rattle.hc_model.specs.Cases.{case_at}
-use Rattle.hc_model.specs.Closings.{closing, closes_row, must_close, is_refused, is_doomed, brings_head, has_no_survivor, is_left, leaver, awaits}
+use Rattle.hc_model.specs.declared.place.BoundBy.TheVariants as by
+use Rattle.hc_model.specs.Closings.{awaits}
 use Rattle.hc_model.specs.Currents.{is_number}
-use Rattle.hc_model.specs.Dooms.{doomed, is_key}
-use Rattle.hc_model.specs.Entries.{Entry}
-use Rattle.hc_model.specs.ExchangeRows.{exchange_heard}
-use Rattle.hc_model.specs.Exchanges.{family, is_headless}
-use Rattle.hc_model.specs.Denials.{is_live_place}
-use Rattle.hc_model.specs.Lines.{is_in_line, holds_turn, holds_place, stands_in_line}
-use Rattle.hc_rules.specs.Requests.{is_disabled, is_only}
-use Rattle.hc_model.specs.Orders.{InOrder}
-use Rattle.hc_model.specs.Places.{AwaitsTurn}
+use Rattle.hc_model.specs.Denials.{is_live}
+use Rattle.hc_model.specs.Effects.{is_awaited, awaited_and}
+use Rattle.hc_model.specs.Exchanges as exchanges
+use Rattle.hc_model.specs.Exchanges.{is_headless}
+use Rattle.hc_model.specs.Lawful.{Lawful}
+use Rattle.hc_model.specs.Owners.{IsAwaiting, Awaits}
+use Rattle.hc_model.specs.Owners as owners
 use Rattle.hc_model.specs.Rows as rows
 use Rattle.hc_model.specs.Rows.{Tables, Exchange}
-use Rattle.hc_model.specs.Sound.{IsListed}
-use Rattle.hc_model.specs.StartingOver.{awaited}
+use Rattle.hc_model.specs.StartingOver.{awaited, waits_at}
+use Rattle.hc_model.specs.Tables.{added}
 use Rattle.hc_core.specs.declared.consumer.Consumer.{Consumer}
 use Rattle.hc_core.specs.declared.rows.Rows.{Rows}
-use Rattle.hc_core.specs.Dooms.{IsAwaited, IsToClose}
-use Rattle.hc_core.specs.Kept.{KeepsConsumer}
-use Rattle.hc_core.proofs.KeyTies.{waits_in_line}
-use Rattle.hc_core.proofs.Maps.{held_is}
-use Rattle.hc_core.proofs.Moved.{kept_lives, kept_row, lives_then}
-use Rattle.hc_core.proofs.PastEntries.{turn_in_line}
-use Rattle.hc_core.proofs.RisingLists.{among-reverse, reverse_rises, at_most_two}
-use Rattle.hc_core.proofs.Standing.{IsRead, Standing, StandsPast, direct, down, line, turn, reads_it, waits_for_it}
-use Rattle.hc_core.proofs.TurnEnds.{turn_runs}
+use Rattle.hc_core.specs.Dooms.{IsAwaited, IsToClose, IsUnheard}
+use Rattle.hc_core.specs.Kept.{KeepsConsumer, KeepsRunning}
+use Rattle.hc_core.specs.Stands.{RowsStand}
+use Rattle.hc_core.proofs.RisingLists.{above_first, among_first, among_later, among_cases, is_first, is_later, among-reverse, reverse_rises}
+use Rattle.hc_core.proofs.Ties.{kept_row}
 use Rattle.hc_core.proofs.TurnTies.{among_in, filter_in}
-use Rattle.hc_core.proofs.Words.{eqb-same, false_true, none_some, some_is, same_row, is_there}
-
--- CLOSINGS
-
--- where a row closes, it is there
-closes_there : (t : Tables) (e : Entry) (x : ℕ) (o : Option Exchange) → closes_row t e x o ≡ true → is_some o ≡ true
-closes_there t e x None on = on
-closes_there t e x (Some w) on = refl
-
--- what is closed is the list that rises of those that must be
-pub closing_is : (t : Tables) (e : Entry) (xs : List ℕ) → InOrder t → IsListed t → rises itself xs ≡ true → ((x : ℕ) → is_among x xs ≡ closes_row t e x (t.exchange x)) → closing t e ≡ xs
-unfolding closing
-closing_is t e xs order lists up each =
-    same_members (filter closes (reverse t.openings)) xs
-    (rises-filter itself closes (reverse t.openings) (reverse_rises (t.opened + 1) t.openings order.openings)) up
-    (λ x. filter_in closes x (reverse t.openings) ∙ (ap (λ b. closes x && b) (among-reverse x t.openings) ∙ (by_test x (closes x) refl ∙ sym (each x))))
-  where
-    closes : ℕ → Bool
-    closes x = closes_row t e x (t.exchange x)
-
-    by_test : (x : ℕ) (b : Bool) → closes x ≡ b → (closes x && is_among x t.openings) ≡ closes x
-    by_test x false is = rw is refl
-    by_test x true is = rw is (among_in x t.openings (lists.opened x (closes_there t e x (t.exchange x) is)))
-
--- FOR WHOSE HEAD ONE WAITS
-
-awaited_turn : (p : Place) (x : ℕ) → awaited p ≡ Some x → ((q lo : ℕ) (hi : Option ℕ) (how : _) → p ≡ place.Bound q lo hi how → ⊥) → p ≡ place.Turn x
-awaited_turn (place.Turn y) x is unbound = ap place.Turn (some_is y x is)
-awaited_turn place.Line x is unbound = none_some x is
-awaited_turn (place.Passed q kept) x is unbound = none_some x is
-awaited_turn (place.Bound q lo hi how) x is unbound = absurd (unbound q lo hi how refl)
-awaited_turn (place.Direct y) x is unbound = none_some x is
-awaited_turn (place.Down why) x is unbound = none_some x is
-awaited_turn place.Over x is unbound = none_some x is
-
--- who has the turn of the key waits for the head of x
-pub record AwaitsFor (t : Tables) (key : List ℕ) (x : ℕ) : Type 0 where
-  pub c : ℕ
-  pub v : rows.Consumer
-  pub row : t.consumer c ≡ Some v
-  pub at : v.place ≡ place.Turn x
-  pub key_is : v.request.key ≡ key
-
--- who stands in the line of a key has that one
-key_in : (key : List ℕ) (k : rows.Consumer) → is_in_line key (Some k) ≡ true → k.request.key ≡ key
-key_in key k on = same_bytes k.request.key key (by_tests (bytes_eq k.request.key key) (stands_in_line k.place) (not (is_disabled k.request)) (not (is_only k.request)) on)
-  where
-    by_tests : (a b c d : Bool) → (a && b && c && d) ≡ true → a ≡ true
-    by_tests true b c d on = refl
-    by_tests false b c d on = false_true on
-
-module _ {B : Type 0} (r : Rows B) (t : Tables) (key : List ℕ) (stands : Standing r t) where
-  in_line_of : (c : ℕ) → is_in c (line_of r.keys key) ≡ is_in_line key (t.consumer c)
-  in_line_of c = waits_in_line t key (kept_of r.keys key) stands.past (stands.keys key) c
-
-  pub awaits_of : (x : ℕ) → IsAwaited r key x → AwaitsFor t key x
-  awaits_of x is = by_kept (get nat_eq r.consumers is.c) refl
-    where
-      stood : is_in_line key (t.consumer is.c) ≡ true
-      stood = sym (in_line_of is.c) ∙ is.waits
-
-      by_kept : (o : Option Consumer) → get nat_eq r.consumers is.c ≡ o → AwaitsFor t key x
-      by_kept None there = none_some x (sym (ap (option_and_then (λ (k : Consumer). awaited k.place)) there) ∙ is.for_it)
-      by_kept (Some k) there =
-          let (v, row, kept) = kept_row t k (t.consumer is.c) (subst (λ z. KeepsConsumer t z (t.consumer is.c)) there (stands.consumers is.c)) in
-          let waits : awaited v.place ≡ Some x = ap awaited (sym kept.place) ∙ (sym (ap (option_and_then (λ (k : Consumer). awaited k.place)) there) ∙ is.for_it) in
-          let here : is_in_line key (Some v) ≡ true = ap (is_in_line key) (sym row) ∙ stood in
-          record {
-            c = is.c;
-            v = v;
-            row = row;
-            at = awaited_turn v.place x waits (λ q lo hi how at. stands.past.unbound is.c q lo hi how v row at);
-            key_is = key_in key v here;
-          }
-
-  module _ (x : ℕ) (a : AwaitsFor t key x) where
-    pub lives : is_live_place a.v.place ≡ true
-    lives = ap is_live_place a.at
-
-    by_standing : StandsPast t a.c a.v → AwaitsTurn t a.c x a.v
-    by_standing (line in_line own shown given due) = absurd (let never : place.Line ≡ place.Turn x = sym in_line ∙ a.at in cc)
-    by_standing (turn y at_y awaits queues) = let same : y ≡ x = (let both : place.Turn y ≡ place.Turn x = sym at_y ∙ a.at in cc) in subst (λ (z : ℕ). AwaitsTurn t a.c z a.v) same awaits
-    by_standing (direct y at_y reads) = absurd (let never : place.Direct y ≡ place.Turn x = sym at_y ∙ a.at in cc)
-    by_standing (down why down_at unowned shown told) = absurd (let never : place.Down why ≡ place.Turn x = sym down_at ∙ a.at in cc)
-
-    pub awaits_head : AwaitsTurn t a.c x a.v
-    awaits_head = by_standing (stands.past.places a.c a.v a.row lives)
-
-    pub kept_as : (k : Consumer) × (get nat_eq r.consumers a.c ≡ Some k) × (k.place ≡ place.Turn x)
-    kept_as =
-        let (k, there) = is_there (get nat_eq r.consumers a.c) (kept_lives t (get nat_eq r.consumers a.c) (t.consumer a.c) (stands.consumers a.c) ∙ lives_then (t.consumer a.c) a.v a.row lives) in
-        let (z, row_z, kept) = kept_row t k (t.consumer a.c) (subst (λ q. KeepsConsumer t q (t.consumer a.c)) there (stands.consumers a.c)) in
-        (k, there, kept.place ∙ (ap (λ (y : rows.Consumer). y.place) (same_row (t.consumer a.c) z a.v row_z a.row) ∙ a.at))
-
-    in_line : is_in_line key (t.consumer a.c) ≡ true
-    in_line = ap (is_in_line key) a.row ∙ (ap (λ (z : List ℕ). is_in_line z (Some a.v)) (sym a.key_is) ∙ turn_in_line x a.v a.at (stands.past.queues a.c x a.v a.row a.at))
-
-    pub awaited_of : IsAwaited r key x
-    awaited_of =
-        let (k, there, at) = kept_as in
-        record { c = a.c; waits = in_line_of a.c ∙ in_line; for_it = ap (option_and_then (λ (k : Consumer). awaited k.place)) there ∙ ap awaited at }
-
-    held : is_held_by a.c (kept_of r.keys key).holder ≡ true
-    held = (stands.keys key).holder a.c ∙ rw in_line (ap holds_turn a.row ∙ ap holds_place a.at)
-
-    -- the exchange is of the key
-    pub request_key : awaits_head.w.request.key ≡ key
-    request_key = by_reader (stands.past.readers x awaits_head.w awaits_head.row awaits_head.is_open)
-      where
-        mine : t.consumer awaits_head.w.c ≡ Some a.v
-        mine = ap t.consumer awaits_head.for_it ∙ a.row
-
-        by_reader : IsRead t x awaits_head.w → awaits_head.w.request.key ≡ key
-        by_reader (reads_it k reads at) = absurd (let same : k ≡ a.v = same_row (t.consumer awaits_head.w.c) k a.v reads mine in let never : place.Direct x ≡ place.Turn x = sym at ∙ (ap (λ (z : rows.Consumer). z.place) same ∙ a.at) in cc)
-        by_reader (waits_for_it k waits at none way same_key) = same_key ∙ (ap (λ (z : rows.Consumer). z.request.key) (same_row (t.consumer awaits_head.w.c) k a.v waits mine) ∙ a.key_is)
-
-  -- at most one has the turn of the key
-  pub one_is_awaited : (x y : ℕ) → IsAwaited r key x → IsAwaited r key y → x ≡ y
-  one_is_awaited x y p q =
-      let a = awaits_of x p in
-      let b = awaits_of y q in
-      let same_c : a.c ≡ b.c = some_is a.c b.c (sym (held_is a.c (kept_of r.keys key).holder (held x a)) ∙ held_is b.c (kept_of r.keys key).holder (held y b)) in
-      let same_v : a.v ≡ b.v = same_row (t.consumer a.c) a.v b.v a.row (ap t.consumer same_c ∙ b.row) in
-      let both : place.Turn x ≡ place.Turn y = sym a.at ∙ (ap (λ (z : rows.Consumer). z.place) same_v ∙ b.at) in
-      cc
-
-  -- and few are to be closed
-  pub few_close : (refused : Option ℕ) (xs : List ℕ) → rises itself xs ≡ true → ((x : ℕ) → is_among x xs ≡ true → IsToClose r key refused x) → length xs ≤ 2
-  few_close refused xs up each = at_most_two (IsAwaited r key) refused xs one_is_awaited up each
-
-  -- whose head is awaited is open
-  pub awaited_runs : (x : ℕ) → IsAwaited r key x → is_open x (table_of r.exchanges) ≡ true
-  awaited_runs x is = let a = awaits_of x is in let (k, there, at) = kept_as x a in turn_runs r t a.c x k stands there at
-
--- WHAT AN ENTRY CLOSES
-
-same_truth : (a b : Bool) → (a ≡ true → b ≡ true) → (b ≡ true → a ≡ true) → a ≡ b
-same_truth true b p q = sym (p refl)
-same_truth false true p q = false_true (q refl)
-same_truth false false p q = refl
+use Rattle.hc_core.proofs.Woken.{stands_for, Stood, nobody, back, beside, stays, stood, Waits, waits_of, waiting_lives}
+use Rattle.hc_core.proofs.Words.{same_or, eqb-same, eqb-other, false_true, none_some, some_is, same_row}
 
 both_parts : (a b : Bool) → (a && b) ≡ true → (a ≡ true) × (b ≡ true)
 both_parts true b on = (refl, on)
@@ -191,82 +52,399 @@ either_part : (a b : Bool) → (a || b) ≡ true → (a ≡ true) ⊎ (b ≡ tru
 either_part true b on = inl refl
 either_part false b on = inr on
 
-number_is : (o : Option ℕ) (x : ℕ) → is_number o x ≡ true → o ≡ Some x
+pub number_is : (o : Option ℕ) (x : ℕ) → is_number o x ≡ true → o ≡ Some x
 number_is None x on = false_true on
 number_is (Some y) x on = let same : y ≡ x = grind (arith, nat_tests, on) in ap Some same
 
 is_the_number : (o : Option ℕ) (x : ℕ) → o ≡ Some x → is_number o x ≡ true
 is_the_number o x is = rw is (eqb-same x)
 
-key_of_doom : (o : Option (List ℕ)) (key k : List ℕ) → o ≡ Some key → is_key o k ≡ true → key ≡ k
-key_of_doom o key k is on = same_bytes key k (let here : is_key (Some key) k ≡ true = rw is at on in here)
+none_of : {A : Type 0} (o : Option A) → is_some o ≡ false → o ≡ None
+none_of None off = refl
+none_of (Some a) off = false_true (sym off)
 
--- by a key that is doomed, with the refused exchange, if there is one
-module _ {B : Type 0} (r : Rows B) (t : Tables) (key : List ℕ) (e : Entry) (refused : Option ℕ) (stands : Standing r t) (dooms : doomed t e ≡ Some key)
-    (stays : (x : ℕ) → is_left t x (leaver e) ≡ false) (refuses : (x : ℕ) → (is_refused (case_at t e) && brings_head x e.event) ≡ is_number refused x)
-    (refused_there : (x : ℕ) → refused ≡ Some x → is_some (t.exchange x) ≡ true)
-    (heard : (x : ℕ) (w : Exchange) → IsToClose r key refused x → t.exchange x ≡ Some w → (exchange_heard t e x e.event w).is_open ≡ true) where
-  must_is : (x : ℕ) (w : Exchange) → must_close t e x w ≡ (is_number refused x || is_doomed t e x w)
-  must_is x w =
-      let survives : has_no_survivor t e x (family x w) (t.representation (family x w)) ≡ false = ap (has_no_survivor t e x (family x w)) (stands.past.nothing (family x w)) in
-      rw (refuses x, survives, stays x) (by_tests (is_number refused x) (is_doomed t e x w))
+none_by : {A : Type 0} (o : Option A) → is_none o ≡ true → o ≡ None
+none_by None on = refl
+none_by (Some a) on = false_true on
+
+-- NO MORE THAN THERE ARE
+
+-- without its first occurrence
+drop_one : ℕ → List ℕ → List ℕ
+drop_one y [] = []
+drop_one y (z ∷ zs) = if z == y then zs else z ∷ drop_one y zs
+
+drop_length : (y : ℕ) (zs : List ℕ) → is_among y zs ≡ true → length (drop_one y zs) + 1 ≡ length zs
+unfolding drop_one
+drop_length y [] there = false_true there
+drop_length y (z ∷ zs) there = elim (same_or z y) [
+  | inl same ↦ rw (same, eqb-same y) (omega arith)
+  | inr ne ↦
+      let off : nat_eq z y ≡ false = eqb-other z y ne in
+      let later : is_among y zs ≡ true = rw off at there in
+      let rest : length (drop_one y zs) + 1 ≡ length zs = drop_length y zs later in
+      rw off (omega arith)
+]
+
+drop_keeps : (x y : ℕ) (zs : List ℕ) → x ≢ y → is_among x zs ≡ true → is_among x (drop_one y zs) ≡ true
+unfolding drop_one
+drop_keeps x y [] ne there = false_true there
+drop_keeps x y (z ∷ zs) ne there = elim (same_or z y) [
+  | inl same ↦ elim (among_cases x z zs there) [
+    | is_first e ↦ absurd (ne (sym e ∙ same))
+    | is_later later ↦ (let on : nat_eq z y ≡ true = ap (λ n. nat_eq n y) same ∙ eqb-same y in rw on later)
+  ]
+  | inr off ↦ (let apart : nat_eq z y ≡ false = eqb-other z y off in rw apart (elim (among_cases x z zs there) [
+    | is_first e ↦ subst (λ n. is_among n (z ∷ drop_one y zs) ≡ true) e (among_first z (drop_one y zs))
+    | is_later later ↦ among_later z x (drop_one y zs) (drop_keeps x y zs ne later)
+  ]))
+]
+
+-- a list that rises is no longer than one that has all of it
+fits_in : (ys zs : List ℕ) → rises itself ys ≡ true → ((x : ℕ) → is_among x ys ≡ true → is_among x zs ≡ true) → length ys ≤ length zs
+fits_in [] zs up all = omega arith
+fits_in (y ∷ ys) zs up all =
+    let there : is_among y zs ≡ true = all y (among_first y ys) in
+    let shorter : length (drop_one y zs) + 1 ≡ length zs = drop_length y zs there in
+    let rest : length ys ≤ length (drop_one y zs) = fits_in ys (drop_one y zs) (rises-above itself y ys up) (λ x later. drop_keeps x y zs (λ same. (let lt : y < x = above_first x y ys up later in omega arith)) (all x (among_later y x ys later))) in
+    omega arith
+
+-- what each of these has
+all_of : (ℕ → Option ℕ) → List ℕ → List ℕ
+all_of f [] = []
+all_of f (c ∷ cs) = added (f c) (all_of f cs)
+
+added_one : (o : Option ℕ) (xs : List ℕ) → length (added o xs) ≤ length xs + 1
+added_one None xs = omega arith
+added_one (Some x) xs = omega arith
+
+all_few : (f : ℕ → Option ℕ) (cs : List ℕ) → length (all_of f cs) ≤ length cs
+unfolding all_of
+all_few f [] = omega arith
+all_few f (c ∷ cs) = let more = added_one (f c) (all_of f cs) in let rest = all_few f cs in omega arith
+
+-- one of them has none
+all_fewer : (f : ℕ → Option ℕ) (c : ℕ) (cs : List ℕ) → is_among c cs ≡ true → f c ≡ None → length (all_of f cs) + 1 ≤ length cs
+unfolding all_of
+all_fewer f c [] there none = false_true there
+all_fewer f c (d ∷ cs) there none = elim (among_cases c d cs there) [
+  | is_first e ↦ (let here : f d ≡ None = ap f e ∙ none in let few : length (all_of f cs) ≤ length cs = all_few f cs in rw here (omega arith))
+  | is_later later ↦ (let more = added_one (f d) (all_of f cs) in let rest = all_fewer f c cs later none in omega arith)
+]
+
+added_keeps : (o : Option ℕ) (x : ℕ) (xs : List ℕ) → is_among x xs ≡ true → is_among x (added o xs) ≡ true
+added_keeps None x xs there = there
+added_keeps (Some y) x xs there = among_later y x xs there
+
+added_has : (o : Option ℕ) (x : ℕ) (xs : List ℕ) → o ≡ Some x → is_among x (added o xs) ≡ true
+added_has o x xs is = subst (λ z. is_among x (added z xs) ≡ true) (sym is) (among_first x xs)
+
+all_has : (f : ℕ → Option ℕ) (c x : ℕ) (cs : List ℕ) → is_among c cs ≡ true → f c ≡ Some x → is_among x (all_of f cs) ≡ true
+unfolding all_of
+all_has f c x [] there is = false_true there
+all_has f c x (d ∷ cs) there is = elim (among_cases c d cs there) [
+  | is_first e ↦ added_has (f d) x (all_of f cs) (ap f e ∙ is)
+  | is_later later ↦ added_keeps (f d) x (all_of f cs) (all_has f c x cs later is)
+]
+
+-- EXCHANGES WITHOUT A HEAD
+
+-- it is open, has no head yet, and is of the key
+pub record IsBare (t : Tables) (key : List ℕ) (x : ℕ) : Type 0 where
+  pub w : Exchange
+  pub row : t.exchange x ≡ Some w
+  pub is_open : w.is_open ≡ true
+  pub bare : w.head ≡ None
+  pub of_key : w.request.key ≡ key
+
+headless_parts : (w : Exchange) → is_headless (Some w) ≡ true → (w.is_open ≡ true) × (w.head ≡ None)
+headless_parts w on = let parts = both_parts w.is_open (is_none w.head) on in (parts.0, none_by w.head parts.1)
+
+pub headless_row : (o : Option Exchange) → is_headless o ≡ true → (w : Exchange) × (o ≡ Some w) × (w.is_open ≡ true) × (w.head ≡ None)
+headless_row None on = false_true on
+headless_row (Some w) on = let parts = headless_parts w on in (w, refl, parts.0, parts.1)
+
+-- as it is kept
+pub bare_unheard : {B : Type 0} {g : Ghosts B} (r : Rows B g) (t : Tables) (key : List ℕ) (x : ℕ) → RowsStand r t → IsUnheard (table_of r.exchanges) key x → IsBare t key x
+bare_unheard r t key x stands is = by_row (t.exchange x) refl (subst (λ z. KeepsRunning t x z (t.exchange x)) is.running (stands.exchanges x).running)
+  where
+    by_row : (z : Option Exchange) → t.exchange x ≡ z → KeepsRunning t x (Some is.o) z → IsBare t key x
+    by_row None row runs = absurd runs
+    by_row (Some w) row runs = record {
+      w = w;
+      row = row;
+      is_open = runs.is_open;
+      bare = none_of w.head (sym runs.headed ∙ is.headless);
+      of_key = ap (λ (q : Request). q.key) (sym runs.request) ∙ is.of_key;
+    }
+
+pub bare_awaited : (t : Tables) (key : List ℕ) (x : ℕ) (z : Option Exchange) → t.exchange x ≡ z → is_awaited t key x z ≡ true → IsBare t key x
+bare_awaited t key x None row on = false_true on
+bare_awaited t key x (Some w) row on =
+    let parts = both_parts (bytes_eq key w.request.key && is_headless (Some w)) (awaits (t.consumer w.c) x) on in
+    let firsts = both_parts (bytes_eq key w.request.key) (is_headless (Some w)) parts.0 in
+    let heads = headless_parts w firsts.1 in
+    record { w = w; row = row; is_open = heads.0; bare = heads.1; of_key = sym (same_bytes key w.request.key firsts.0) }
+
+-- FOR WHOSE HEAD ONE WAITS
+
+module _ {B : Type 0} {g : Ghosts B} (r : Rows B g) (t : Tables) (law : Lawful t) (key : List ℕ) (stands : RowsStand r t) where
+  in_line_is : (c : ℕ) → is_in c (line_of r.keys key) ≡ stands_for t key (t.consumer c)
+  in_line_is c = let line = stands.keys key in rw (line.in_line c, line.passed c, line.away c) refl
+
+  -- the exchange for whose head it waits is open, has none yet and was opened for it
+  record WaitsFor (c x : ℕ) : Type 0 where
+    w : Exchange
+    row : t.exchange x ≡ Some w
+    is_open : w.is_open ≡ true
+    bare : w.head ≡ None
+    for_it : w.c ≡ c
+
+  waits_for : (c x : ℕ) (k : rows.Consumer) (p : Place) → t.consumer c ≡ Some k → k.place ≡ p → waits_at t p ≡ true → awaited p ≡ Some x → WaitsFor c x
+  waits_for c x k (place.Turn y) row at waits is =
+      let one : y ≡ x = some_is y x is in
+      let a = law.places.turn c y k row at in
+      record { w = a.w; row = ap t.exchange (sym one) ∙ a.row; is_open = a.is_open; bare = a.headless; for_it = a.for_it }
+  waits_for c x k (place.Bound q lo hi (by.FirstHole y)) row at waits is =
+      let one : y ≡ x = some_is y x is in
+      let (w, there, on, bare) = headless_row (t.exchange y) waits in
+      let its = law.owned.first_own c q lo y hi k row at in
+      record { w = w; row = ap t.exchange (sym one) ∙ there; is_open = on; bare = bare; for_it = ap (λ (z : Exchange). z.c) (same_row (t.exchange y) w its.w there its.row) ∙ its.for_it }
+  waits_for c x k (place.Bound q lo hi by.Founding) row at waits is = none_some x is
+  waits_for c x k (place.Bound q lo hi by.Plan) row at waits is = none_some x is
+  waits_for c x k place.Line row at waits is = none_some x is
+  waits_for c x k (place.Passed q held) row at waits is = none_some x is
+  waits_for c x k (place.Direct y) row at waits is = none_some x is
+  waits_for c x k (place.Down why) row at waits is = none_some x is
+  waits_for c x k place.Over row at waits is = none_some x is
+
+  -- who waits for the key, as the tables have it
+  record AwaitsAs (x : ℕ) : Type 0 where
+    c : ℕ
+    w : Waits t key (t.consumer c)
+    for_it : awaited w.k.place ≡ Some x
+
+  awaits_as : (x : ℕ) → IsAwaited r key x → AwaitsAs x
+  awaits_as x is = by_kept (get nat_eq r.consumers is.c) refl
     where
-      by_tests : (p q : Bool) → (p || q || false || false) ≡ (p || q)
-      by_tests true q = refl
-      by_tests false true = refl
-      by_tests false false = refl
+      w : Waits t key (t.consumer is.c)
+      w = waits_of t key (t.consumer is.c) (stood t key law is.c) (sym (in_line_is is.c) ∙ is.waits)
 
-  doomed_row : (x : ℕ) (a : AwaitsFor t key x) → is_doomed t e x (awaits_head r t key stands x a).w ≡ true
-  doomed_row x a =
-      let awaits_x = awaits_head r t key stands x a in
-      let mine : awaits (t.consumer awaits_x.w.c) x ≡ true = ap (λ n. awaits (t.consumer n) x) awaits_x.for_it ∙ (ap (λ o. awaits o x) a.row ∙ (ap (λ (p : Place). is_number (awaited p) x) a.at ∙ eqb-same x)) in
-      let key_on : is_key (doomed t e) awaits_x.w.request.key ≡ true = ap (λ o. is_key o awaits_x.w.request.key) dooms ∙ bytes_eq-same key awaits_x.w.request.key (sym (request_key r t key stands x a)) in
-      let on = awaits_x.is_open in
-      let none = awaits_x.headless in
-      rw (key_on, on, none, mine) refl
+      by_kept : (o : Option Consumer) → get nat_eq r.consumers is.c ≡ o → AwaitsAs x
+      by_kept None there = none_some x (sym (ap (option_and_then (λ (k : Consumer). awaited k.place)) there) ∙ is.for_it)
+      by_kept (Some k) there =
+          let found = kept_row t k (t.consumer is.c) (subst (λ z. KeepsConsumer t z (t.consumer is.c)) there (stands.consumers is.c)) in
+          let one : found.0 ≡ w.k = same_row (t.consumer is.c) found.0 w.k found.1 w.row in
+          let same : k.place ≡ w.k.place = found.2.place ∙ ap (λ (z : rows.Consumer). z.place) one in
+          record { c = is.c; w = w; for_it = ap awaited (sym same) ∙ (sym (ap (option_and_then (λ (k : Consumer). awaited k.place)) there) ∙ is.for_it) }
 
-  -- the exchange of one that is to be closed
-  row_of : (x : ℕ) → IsToClose r key refused x → (w : Exchange) × (t.exchange x ≡ Some w) × ((is_number refused x || is_doomed t e x w) ≡ true)
-  row_of x (inl is) =
-      let (w, row) = is_there (t.exchange x) (refused_there x is) in
-      (w, row, rw (is_the_number refused x is) refl)
-  row_of x (inr is) =
-      let a = awaits_of r t key stands x is in
-      let awaits_x = awaits_head r t key stands x a in
-      (awaits_x.w, awaits_x.row, or_second (is_number refused x) (is_doomed t e x awaits_x.w) (doomed_row x a))
+  pub awaited_then : (x : ℕ) → IsAwaited r key x → is_awaited t key x (t.exchange x) ≡ true
+  awaited_then x is =
+      let a = awaits_as x is in
+      let e = waits_for a.c x a.w.k a.w.k.place a.w.row refl a.w.waits a.for_it in
+      let opener = law.owned.opener x e.w e.row in
+      let mine : t.consumer e.w.c ≡ Some a.w.k = ap t.consumer e.for_it ∙ a.w.row in
+      let one : opener.k ≡ a.w.k = same_row (t.consumer e.w.c) opener.k a.w.k opener.row mine in
+      let of_key : key ≡ e.w.request.key = same_bytes key a.w.k.request.key a.w.of_key ∙ (ap (λ (z : rows.Consumer). z.request.key) (sym one) ∙ sym opener.key_is) in
+      let waits : awaits (t.consumer e.w.c) x ≡ true = ap (λ z. awaits z x) mine ∙ is_the_number (awaited a.w.k.place) x a.for_it in
+      let same = bytes_eq-same key e.w.request.key of_key in
+      let on = e.is_open in
+      let none = e.bare in
+      ap (is_awaited t key x) e.row ∙ rw (same, on, none, waits) refl
+
+  -- who awaits a head without one waits
+  awaiting : (p : Place) (x : ℕ) → awaited p ≡ Some x → is_headless (t.exchange x) ≡ true → waits_at t p ≡ true
+  awaiting (place.Turn y) x is headless = refl
+  awaiting (place.Bound q lo hi (by.FirstHole y)) x is headless = ap (λ n. is_headless (t.exchange n)) (some_is y x is) ∙ headless
+  awaiting (place.Bound q lo hi by.Founding) x is headless = none_some x is
+  awaiting (place.Bound q lo hi by.Plan) x is headless = none_some x is
+  awaiting place.Line x is headless = none_some x is
+  awaiting (place.Passed q held) x is headless = none_some x is
+  awaiting (place.Direct y) x is headless = none_some x is
+  awaiting (place.Down why) x is headless = none_some x is
+  awaiting place.Over x is headless = none_some x is
+
+  -- in the line of its key
+  stands_in : (c x : ℕ) (k : rows.Consumer) → t.consumer c ≡ Some k → bytes_eq key k.request.key ≡ true → waits_at t k.place ≡ true → awaited k.place ≡ Some x → stands_for t key (t.consumer c) ≡ true
+  stands_in c x k row same waits is = by_stood (stood t key law c)
     where
-      or_second : (p q : Bool) → q ≡ true → (p || q) ≡ true
-      or_second true q on = refl
-      or_second false q on = on
+      by_stood : Stood t key (t.consumer c) → stands_for t key (t.consumer c) ≡ true
+      by_stood (nobody none) = none_some k (sym none ∙ row)
+      by_stood (back q q_row q_same q_waits on) = on
+      by_stood (beside q q_row q_same at off) = none_some x (sym (ap awaited at) ∙ (ap (λ (z : rows.Consumer). awaited z.place) (same_row (t.consumer c) q k q_row row) ∙ is))
+      by_stood (stays q q_row off stands_off) =
+          let one : q ≡ k = same_row (t.consumer c) q k q_row row in
+          false_true (sym off ∙ (ap (λ (z : rows.Consumer). bytes_eq key z.request.key && waits_at t z.place) one ∙ rw (same, waits) refl))
 
-  to_row : (x : ℕ) → IsToClose r key refused x → closes_row t e x (t.exchange x) ≡ true
-  to_row x is =
-      let (w, row, must) = row_of x is in
-      let open_yet = heard x w is row in
-      ap (closes_row t e x) row ∙ rw (must_is x w, must) open_yet
-
-  by_doom : (x : ℕ) (w : Exchange) → t.exchange x ≡ Some w → is_doomed t e x w ≡ true → IsAwaited r key x
-  by_doom x w row on =
-      let parts = both_parts (is_key (doomed t e) w.request.key && is_headless (Some w)) (awaits (t.consumer w.c) x) on in
-      let firsts = both_parts (is_key (doomed t e) w.request.key) (is_headless (Some w)) parts.0 in
-      let opens = both_parts w.is_open (is_none w.head) firsts.1 in
-      by_reader (key_of_doom (doomed t e) key w.request.key dooms firsts.0) parts.1 (stands.past.readers x w row opens.0)
+  pub awaited_before : (x : ℕ) (w : Exchange) → t.exchange x ≡ Some w → is_awaited t key x (Some w) ≡ true → IsAwaited r key x
+  awaited_before x w row on = by_consumer (t.consumer w.c) refl parts.1
     where
-      by_reader : key ≡ w.request.key → awaits (t.consumer w.c) x ≡ true → IsRead t x w → IsAwaited r key x
-      by_reader same waits (reads_it k reads at) = false_true (let never : awaits (t.consumer w.c) x ≡ false = ap (λ o. awaits o x) reads ∙ ap (λ (p : Place). is_number (awaited p) x) at in sym never ∙ waits)
-      by_reader same waits (waits_for_it k row_k at none way same_key) =
-          awaited_of r t key stands x (record { c = w.c; v = k; row = row_k; at = at; key_is = sym same_key ∙ sym same })
+      parts : (((bytes_eq key w.request.key && is_headless (Some w)) ≡ true) × (awaits (t.consumer w.c) x ≡ true))
+      parts = both_parts (bytes_eq key w.request.key && is_headless (Some w)) (awaits (t.consumer w.c) x) on
 
-  of_row : (x : ℕ) (o : Option Exchange) → t.exchange x ≡ o → closes_row t e x o ≡ true → IsToClose r key refused x
-  of_row x None row on = false_true on
-  of_row x (Some w) row on =
-      let parts = both_parts (must_close t e x w) (exchange_heard t e x e.event w).is_open on in
-      elim (either_part (is_number refused x) (is_doomed t e x w) (sym (must_is x w) ∙ parts.0)) [
-        | inl is ↦ inl (number_is refused x is)
-        | inr is ↦ inr (by_doom x w row is)
-      ]
+      firsts : ((bytes_eq key w.request.key ≡ true) × (is_headless (Some w) ≡ true))
+      firsts = both_parts (bytes_eq key w.request.key) (is_headless (Some w)) parts.0
 
-  pub doom_closes : (xs : List ℕ) → rises itself xs ≡ true → ((x : ℕ) → is_among x xs ≡ true → IsToClose r key refused x) → ((x : ℕ) → IsToClose r key refused x → is_among x xs ≡ true) → closing t e ≡ xs
-  doom_closes xs up each all =
-      closing_is t e xs stands.order stands.lists up
-      (λ x. same_truth (is_among x xs) (closes_row t e x (t.exchange x)) (λ on. to_row x (each x on)) (λ on. all x (of_row x (t.exchange x) refl on)))
+      by_consumer : (z : Option rows.Consumer) → t.consumer w.c ≡ z → awaits z x ≡ true → IsAwaited r key x
+      by_consumer None its waits = false_true waits
+      by_consumer (Some k) its waits = by_kept (get nat_eq r.consumers w.c) refl (subst (KeepsConsumer t (get nat_eq r.consumers w.c)) its (stands.consumers w.c))
+        where
+          is : awaited k.place ≡ Some x
+          is = number_is (awaited k.place) x waits
+
+          waits_here : waits_at t k.place ≡ true
+          waits_here = awaiting k.place x is (ap is_headless row ∙ firsts.1)
+
+          of_key : bytes_eq key k.request.key ≡ true
+          of_key =
+              let opener = law.owned.opener x w row in
+              let one : opener.k ≡ k = same_row (t.consumer w.c) opener.k k opener.row its in
+              bytes_eq-same key k.request.key (same_bytes key w.request.key firsts.0 ∙ (opener.key_is ∙ ap (λ (z : rows.Consumer). z.request.key) one))
+
+          by_kept : (o : Option Consumer) → get nat_eq r.consumers w.c ≡ o → KeepsConsumer t o (Some k) → IsAwaited r key x
+          by_kept None there gone = false_true (sym gone ∙ waiting_lives t key k.place waits_here)
+          by_kept (Some q) there kept = record {
+            c = w.c;
+            waits = in_line_is w.c ∙ stands_in w.c x k its of_key waits_here is;
+            for_it = ap (option_and_then (λ (z : Consumer). awaited z.place)) there ∙ (ap awaited kept.place ∙ is);
+          }
+
+  -- ALL THAT ARE CLOSED
+
+  module _ (refused : Option ℕ) (unheard : (x : ℕ) → refused ≡ Some x → IsUnheard (table_of r.exchanges) key x) where
+    abbrev xs : List ℕ
+    xs = awaited_and t key refused
+
+    abbrev closes : ℕ → Bool
+    closes x = is_number refused x || is_awaited t key x (t.exchange x)
+
+    pub bare_of : (x : ℕ) → closes x ≡ true → IsBare t key x
+    bare_of x on = elim (either_part (is_number refused x) (is_awaited t key x (t.exchange x)) on) [
+      | inl is ↦ bare_unheard r t key x stands (unheard x (number_is refused x is))
+      | inr waits ↦ bare_awaited t key x (t.exchange x) refl waits
+    ]
+
+    pub among_is : (x : ℕ) → is_among x xs ≡ closes x
+    among_is x = filter_in closes x (reverse t.openings) ∙ (ap (λ b. closes x && b) (among-reverse x t.openings) ∙ by_test (closes x) refl)
+      where
+        by_test : (b : Bool) → closes x ≡ b → (b && is_among x t.openings) ≡ b
+        by_test false off = refl
+        by_test true on = among_in x t.openings (law.sound.numbered.lists.opened x (ap (λ z. is_some z) (bare_of x on).row))
+
+    pub bare_among : (x : ℕ) → is_among x xs ≡ true → IsBare t key x
+    bare_among x on = bare_of x (sym (among_is x) ∙ on)
+
+    to_close : (x : ℕ) → closes x ≡ true → IsToClose r key refused x
+    to_close x on = elim (either_part (is_number refused x) (is_awaited t key x (t.exchange x)) on) [
+      | inl is ↦ inl (number_is refused x is)
+      | inr waits ↦ (let b = bare_awaited t key x (t.exchange x) refl waits in inr (awaited_before x b.w b.row (sym (ap (is_awaited t key x) b.row) ∙ waits)))
+    ]
+
+    closes_so : (x : ℕ) → IsToClose r key refused x → closes x ≡ true
+    closes_so x (inl is) = first (is_number refused x) (is_the_number refused x is)
+      where
+        first : (b : Bool) → b ≡ true → (b || is_awaited t key x (t.exchange x)) ≡ true
+        first true on = refl
+        first false on = false_true on
+    closes_so x (inr is) = second (is_number refused x) (awaited_then x is)
+      where
+        second : (b : Bool) → is_awaited t key x (t.exchange x) ≡ true → (b || is_awaited t key x (t.exchange x)) ≡ true
+        second true on = refl
+        second false on = on
+
+    pub closes_are : (zs : List ℕ) → rises itself zs ≡ true → ((x : ℕ) → is_among x zs ≡ true → IsToClose r key refused x) → ((x : ℕ) → IsToClose r key refused x → is_among x zs ≡ true) → zs ≡ xs
+    closes_are zs up each all =
+        same_members zs xs up (rises-filter itself closes (reverse t.openings) (reverse_rises (t.opened + 1) t.openings law.order.openings))
+        (λ x. by_tests (is_among x zs) (closes x) (λ on. closes_so x (each x on)) (λ on. all x (to_close x on)) ∙ sym (among_is x))
+      where
+        by_tests : (a b : Bool) → (a ≡ true → b ≡ true) → (b ≡ true → a ≡ true) → a ≡ b
+        by_tests true b p q = sym (p refl)
+        by_tests false true p q = false_true (q refl)
+        by_tests false false p q = refl
+
+    -- each is open
+    pub runs : (x : ℕ) → IsToClose r key refused x → is_open x (table_of r.exchanges) ≡ true
+    runs x is = by_known ((table_of r.exchanges x).running) refl (stands.exchanges x).running
+      where
+        b : IsBare t key x
+        b = bare_of x (closes_so x is)
+
+        by_known : (o : Option Open) → (table_of r.exchanges x).running ≡ o → KeepsRunning t x o (t.exchange x) → is_some (table_of r.exchanges x).running ≡ true
+        by_known None there kept = false_true (sym kept ∙ (ap exchanges.is_open b.row ∙ b.is_open))
+        by_known (Some o) there kept = ap (λ z. is_some z) there
+
+    -- HOW MANY
+
+    of_one : ℕ → Option ℕ
+    of_one c = option_and_then (λ (k : rows.Consumer). awaited k.place) (t.consumer c)
+
+    lives : List ℕ
+    lives = filter (λ c. is_live (t.consumer c)) t.starts
+
+    there : (x : ℕ) → IsToClose r key refused x → is_among x (added refused (all_of of_one lives)) ≡ true
+    unfolding of_one lives
+    there x (inl is) = added_has refused x (all_of of_one lives) is
+    there x (inr is) =
+        let a = awaits_as x is in
+        let on : is_live (t.consumer a.c) ≡ true = ap is_live a.w.row ∙ waiting_lives t key a.w.k.place a.w.waits in
+        let started : is_among a.c t.starts ≡ true = among_in a.c t.starts (law.sound.numbered.lists.started a.c (ap (λ z. is_some z) a.w.row)) in
+        let among : is_among a.c lives ≡ true = filter_in (λ c. is_live (t.consumer c)) a.c t.starts ∙ rw (on, started) refl in
+        added_keeps refused x (all_of of_one lives) (all_has of_one a.c x lives among (ap (option_and_then (λ (k : rows.Consumer). awaited k.place)) a.w.row ∙ a.for_it))
+
+    one_more : (zs : List ℕ) (x : ℕ) → length (added (Some x) zs) ≡ length zs + 1
+    one_more zs x = omega arith
+
+    -- whoever waits for the refused head waits to found or to join by none
+    record Apart : Type 0 where
+      c : ℕ
+      lives_on : is_among c lives ≡ true
+      awaits_none : of_one c ≡ None
+
+    apart : (x : ℕ) → refused ≡ Some x → Apart
+    unfolding of_one lives
+    apart x is = by_at a.at
+      where
+        u : IsUnheard (table_of r.exchanges) key x
+        u = unheard x is
+
+        b : IsBare t key x
+        b = bare_unheard r t key x stands u
+
+        a : Awaits t x b.w
+        a = law.owned.waiting x b.w b.row b.is_open b.bare
+
+        past : route_of b.w.need ≡ route.Direct
+        past = ap route_of (sym (subst (KeepsRunning t x (Some u.o)) b.row (subst (λ z. KeepsRunning t x z (t.exchange x)) u.running (stands.exchanges x).running)).need) ∙ u.past
+
+        by_at : IsAwaiting x b.w a.k.place → Apart
+        by_at (owners.direct way at) = record {
+          c = b.w.c;
+          lives_on =
+              let on : is_live (t.consumer b.w.c) ≡ true = ap is_live a.row ∙ rw at refl in
+              let started : is_among b.w.c t.starts ≡ true = among_in b.w.c t.starts (law.sound.numbered.lists.started b.w.c (ap (λ z. is_some z) a.row)) in
+              filter_in (λ c. is_live (t.consumer c)) b.w.c t.starts ∙ rw (on, started) refl;
+          awaits_none = ap (option_and_then (λ (k : rows.Consumer). awaited k.place)) a.row ∙ rw at refl;
+        }
+        by_at (owners.turn way at) = absurd (let never : route.Turn ≡ route.Direct = sym way ∙ past in cc)
+        by_at (owners.hole q lo hi how way aim at) = absurd (let never : route.Hole ≡ route.Direct = sym way ∙ past in cc)
+
+    pub few_close : (ys : List ℕ) → rises itself ys ≡ true → ((x : ℕ) → is_among x ys ≡ true → IsToClose r key refused x) → length ys ≤ hash_map_len r.consumers
+    unfolding lives
+    few_close ys up each = by_refused refused refl
+      where
+        fits : length ys ≤ length (added refused (all_of of_one lives))
+        fits = fits_in ys (added refused (all_of of_one lives)) up (λ x on. there x (each x on))
+
+        count : hash_map_len r.consumers ≡ length lives
+        count = stands.count
+
+        by_refused : (o : Option ℕ) → refused ≡ o → length ys ≤ hash_map_len r.consumers
+        by_refused None is =
+            let more : length (added refused (all_of of_one lives)) ≡ length (all_of of_one lives) = ap (λ o. length (added o (all_of of_one lives))) is in
+            let few : length (all_of of_one lives) ≤ length lives = all_few of_one lives in
+            omega (arith, fits, count, more, few)
+        by_refused (Some x) is =
+            let more : length (added refused (all_of of_one lives)) ≡ length (all_of of_one lives) + 1 = ap (λ o. length (added o (all_of of_one lives))) is ∙ one_more (all_of of_one lives) x in
+            let a = apart x is in
+            let few : length (all_of of_one lives) + 1 ≤ length lives = all_fewer of_one a.c lives a.lives_on a.awaits_none in
+            omega (arith, fits, count, more, few)

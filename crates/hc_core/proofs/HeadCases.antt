@@ -1,51 +1,112 @@
--- The case of a head past the store, and what it dooms.
-use Rattle.std.proofs.Common.{◌≡◌, ℕ, List, Bool, true, false, Option, Some, None, refl, ap, sym, ◌∙◌}
-use Rattle.hc_event.specs.declared.event.Event.TheVariants as event
-use Rattle.hc_event.specs.declared.event.Request.{Request}
-use Rattle.hc_event.specs.declared.event.Response.{Response}
-use Rattle.hc_event.specs.declared.act.Act.{Act}
+-- The case of a head that isn't said to select what is stored: it is the same, unless it is a 304 that may.
+use Rattle.std.proofs.Common.{◌≡◌, Bool, true, false, refl, ap, ap₂, sym, ◌∙◌, subst}
+use Rattle.std.specs.Prelude.{nat_le, not, ◌&&◌, ◌==◌, if◌then◌else◌}
 use Rattle.hc_rules.specs.declared.heads.HeadCase.{HeadCase}
 use Rattle.hc_rules.specs.declared.heads.HeadCase.TheVariants as case
+use Rattle.hc_rules.specs.declared.heads.HeadView.{HeadView}
+use Rattle.hc_rules.specs.declared.need.Route.{Route}
 use Rattle.hc_rules.specs.declared.need.Route.TheVariants as route
-use Rattle.hc_rules.specs.Lengths.{is_bad}
+use Rattle.hc_rules.specs.HeadCases.{head_case, case_on}
 use Rattle.hc_rules.specs.Needs.{route_of}
-use Rattle.hc_model.specs.ActFilters.{has_loss}
-use Rattle.hc_model.specs.Dooms.{doomed, doomed_by_head, doomed_by_case, doomed_if, changes}
-use Rattle.std.specs.Prelude.{if◌then◌else◌}
-use Rattle.hc_model.specs.Entries.{Entry}
-use Rattle.hc_model.specs.Rows.{Tables, Exchange}
-use Rattle.hc_exch.specs.declared.row.Open.{Open}
-use Rattle.hc_core.specs.Heads.{changes_by, doomed_past}
-use Rattle.hc_core.proofs.HeadArms.{case_is, direct_by, length_told}
-use Rattle.hc_core.proofs.PastEntries.{DoomsNobody, no_doom}
+use Rattle.hc_model.proofs.FoundBy.{CaseBy, case_by}
+use Rattle.hc_model.proofs.FoundBy as cases
 
--- THE CASE
+abbrev turned : Bool → Bool → Bool → Bool → HeadCase → HeadCase
+turned bad asked selects kept rest =
+    if bad then case.TurnBad
+    else if asked && selects && kept then case.Validated
+    else if asked then case.NotValidated
+    else rest
 
-pub bad_of : (b : Bool) → direct_by b ≡ case.DirectBad → b ≡ true
-bad_of true is = refl
-bad_of false is = absurd (let never : case.DirectTaken ≡ case.DirectBad = is in cc)
+turned_same : (bad asked selects kept : Bool) (rest g : HeadCase) → turned bad asked false kept rest ≡ g → (g ≡ case.NotValidated → ⊥) → turned bad asked selects kept rest ≡ g
+turned_same true asked selects kept rest g is off = is
+turned_same false true selects kept rest g is off = absurd (off (sym is))
+turned_same false false selects kept rest g is off = is
 
-pub good_of : (b : Bool) → direct_by b ≡ case.DirectTaken → b ≡ false
-good_of false is = refl
-good_of true is = absurd (let never : case.DirectBad ≡ case.DirectTaken = is in cc)
+module _ (v : HeadView) (selects : Bool) (g : HeadCase) (off : g ≡ case.NotValidated → ⊥) where
+  on : (way : Route) → case_on way (record v { selects = false }) ≡ g → case_on way (record v { selects = selects }) ≡ g
+  on route.Direct is = is
+  on route.Hole is = is
+  on route.Turn is = turned_same v.bad (v.status == 304 && v.conditional) selects (not v.lost) _ g is off
 
--- WHAT IT DOOMS
+  pub case_same : head_case (record v { selects = false }) ≡ g → head_case (record v { selects = selects }) ≡ g
+  unfolding head_case
+  case_same is = on (route_of v.need) is
 
-doomed_as : (bad : Bool) (w : Exchange) (response : Response) → doomed_by_case (Some (direct_by bad)) w response ≡ doomed_if (changes w response) w
-doomed_as true w response = refl
-doomed_as false w response = refl
+-- A 304 TO A CONDITIONAL REQUEST
 
-module _ (t : Tables) (now x : ℕ) (response : Response) (o : Open) (w : Exchange) (row : t.exchange x ≡ Some w) (way : route_of w.need ≡ route.Direct) (same : o.request ≡ w.request) where
-  abbrev entry_with : List Act → Entry
-  entry_with acts = record { now = now; event = event.Head x response; acts = acts }
+-- what else a head in the turn is
+abbrev rest : HeadView → HeadCase
+rest v =
+    if nat_le 500 v.status then case.TurnServerError
+    else if v.status == 200 && v.storable && not v.lost then case.FoundsWhole
+    else if v.status == 206 && v.storable && v.fits && not v.lost then case.FoundsRange
+    else case.PassesBy
 
-  -- it dooms what is told of the open exchange
-  pub doomed_is : (acts : List Act) → doomed t (entry_with acts) ≡ doomed_past (Some o) response
-  unfolding doomed
-  doomed_is acts =
-      ap (doomed_by_head t (entry_with acts) response) row
-      ∙ (ap (λ (z : Option HeadCase). doomed_by_case z w response) (case_is t (has_loss acts) x response w (is_bad (length_told w response)) row way refl)
-      ∙ (doomed_as (is_bad (length_told w response)) w response ∙ ap (λ (q : Request). if changes_by q response then Some q.key else None) (sym same)))
+parts_of : (bad asked kept : Bool) (other : HeadCase) → turned bad asked false kept other ≡ case.NotValidated → (other ≡ case.NotValidated → ⊥) → (bad ≡ false) × (asked ≡ true)
+parts_of true asked kept other is off = absurd (let never : case.TurnBad ≡ case.NotValidated = is in cc)
+parts_of false false kept other is off = absurd (off is)
+parts_of false true kept other is off = (refl, refl)
 
-  pub head_quiet : doomed_past (Some o) response ≡ None → (acts : List Act) → DoomsNobody t (entry_with acts)
-  head_quiet none acts = no_doom t (entry_with acts) (doomed_is acts ∙ none)
+by_304 : {v : HeadView} → CaseBy v case.NotValidated → (route_of v.need ≡ route.Turn) × (v.status ≡ 304)
+by_304 (cases.not_validated way status) = (way, status)
+
+module _ (v : HeadView) (unselected : head_case (record v { selects = false }) ≡ case.NotValidated) where
+  pub it_is : (route_of v.need ≡ route.Turn) × (v.status ≡ 304)
+  it_is = by_304 (subst (CaseBy (record v { selects = false })) unselected (case_by (record v { selects = false })))
+
+  passes : rest v ≡ case.PassesBy
+  passes = (let status = it_is.1 in rw status refl)
+
+  apart : rest v ≡ case.NotValidated → ⊥
+  apart is = let never : case.PassesBy ≡ case.NotValidated = sym passes ∙ is in cc
+
+  pub parts : (v.bad ≡ false) × ((v.status == 304 && v.conditional) ≡ true)
+  unfolding head_case
+  parts = parts_of v.bad (v.status == 304 && v.conditional) (not v.lost) (rest v) (ap (λ (way : Route). case_on way (record v { selects = false })) (sym it_is.0) ∙ unselected) apart
+
+  with_it : (selects kept : Bool) → turned v.bad (v.status == 304 && v.conditional) selects kept (rest v) ≡ (if selects && kept then case.Validated else case.NotValidated)
+  with_it selects kept = (let good = parts.0 in let asked = parts.1 in rw (good, asked) refl)
+
+  -- it selects what is stored
+  pub case_selected : v.selects ≡ true → v.lost ≡ false → head_case v ≡ case.Validated
+  unfolding head_case
+  case_selected selects kept = ap (λ (way : Route). case_on way v) it_is.0 ∙ (with_it v.selects (not v.lost) ∙ rw (selects, kept) refl)
+
+  -- it doesn't
+  pub case_unselected : v.selects ≡ false → head_case v ≡ case.NotValidated
+  case_unselected off = ap (λ (b : Bool). head_case (record v { selects = b })) off ∙ unselected
+
+  -- it is lost
+  pub case_lost : v.lost ≡ true → head_case v ≡ case.NotValidated
+  unfolding head_case
+  case_lost on = ap (λ (way : Route). case_on way v) it_is.0 ∙ (with_it v.selects (not v.lost) ∙ by_test v.selects)
+    where
+      by_test : (b : Bool) → (if b && not v.lost then case.Validated else case.NotValidated) ≡ case.NotValidated
+      by_test true = rw on refl
+      by_test false = refl
+
+  -- and so it is where it is lost now
+  pub case_lost_too : head_case (record v { lost = true }) ≡ case.NotValidated
+  unfolding head_case
+  case_lost_too = ap (λ (way : Route). case_on way (record v { lost = true })) it_is.0 ∙ (let good = parts.0 in let asked = parts.1 in rw (good, asked) (by_test v.selects))
+    where
+      by_test : (b : Bool) → (if b && false then case.Validated else case.NotValidated) ≡ case.NotValidated
+      by_test true = refl
+      by_test false = refl
+
+-- A 304 THAT ISN'T SAID TO SELECT WHAT IS STORED
+
+asked_by : {v : HeadView} → CaseBy v case.Validated → (route_of v.need ≡ route.Turn) × ((v.status == 304 && v.conditional) ≡ true)
+asked_by (cases.validated way status asked kept) = (way, rw (status, asked) refl)
+
+unturned : (bad kept : Bool) (other : HeadCase) → turned bad true false kept other ≡ case.Validated → ⊥
+unturned true kept other is = let never : case.TurnBad ≡ case.Validated = is in cc
+unturned false kept other is = let never : case.NotValidated ≡ case.Validated = is in cc
+
+pub case_unvalidated : (v : HeadView) → v.selects ≡ false → head_case v ≡ case.Validated → ⊥
+unfolding head_case
+case_unvalidated v off is =
+    let asked = asked_by (subst (CaseBy v) is (case_by v)) in
+    let turn : turned v.bad (v.status == 304 && v.conditional) v.selects (not v.lost) (rest v) ≡ case.Validated = ap (λ (way : Route). case_on way v) (sym asked.0) ∙ is in
+    unturned v.bad (not v.lost) (rest v) (ap₂ (λ (a s : Bool). turned v.bad a s (not v.lost) (rest v)) (sym asked.1) (sym off) ∙ turn)

@@ -37,12 +37,6 @@ counted_same f g c (x ∷ xs) off same =
     let rest = counted_same f g c xs (λ h. off (inr h)) same in
     counted-cons g x xs ∙ (ap (λ n. n + one (g x)) rest ∙ (ap (λ b. counted f xs + one b) (same x (λ is. off (inl is))) ∙ sym (counted-cons f x xs)))
 
--- where the same is said of each, as many count
-pub counted_alike : (f g : ℕ → Bool) (xs : List ℕ) → ((d : ℕ) → g d ≡ f d) → counted g xs ≡ counted f xs
-counted_alike f g [] same = refl
-counted_alike f g (x ∷ xs) same =
-    counted-cons g x xs ∙ (ap (λ n. n + one (g x)) (counted_alike f g xs same) ∙ (ap (λ b. counted f xs + one b) (same x) ∙ sym (counted-cons f x xs)))
-
 -- one of them changes
 pub counted_moves : (f g : ℕ → Bool) (c n : ℕ) (xs : List ℕ) → Descends n xs → Among c xs → ((d : ℕ) → d ≢ c → g d ≡ f d) → counted g xs + one (f c) ≡ counted f xs + one (g c)
 counted_moves f g c n [] d h same = absurd h
@@ -89,7 +83,7 @@ filter-append : (f : ℕ → Bool) (xs ys : List ℕ) → filter f (xs ++ ys) �
 filter-append f [] ys = refl
 filter-append f (x ∷ xs) ys = appended f x xs ys (f x) refl (filter-append f xs ys)
 
-filter-reverse : (f : ℕ → Bool) (xs : List ℕ) → filter f (reverse xs) ≡ reverse (filter f xs)
+pub filter-reverse : (f : ℕ → Bool) (xs : List ℕ) → filter f (reverse xs) ≡ reverse (filter f xs)
 filter-reverse f [] = refl
 filter-reverse f (x ∷ xs) =
     ap (filter f) (reverse-append (x ∷ []) xs) ∙ (filter-append f (reverse xs) (x ∷ []) ∙ (ap (λ zs. zs ++ filter f (x ∷ [])) (filter-reverse f xs) ∙ by_test (f x) refl))

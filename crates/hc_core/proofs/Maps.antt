@@ -1,11 +1,15 @@
 -- What a call of a map leaves, and what holds wherever there is some past.
-use Rattle.std.proofs.Common.{◌≡◌, ℕ, ◌+◌, ◌<◌, List, [], ◌∷◌, ◌++◌, Bool, true, false, Option, Some, None, Bor, refl, ap, sym, ◌∙◌, subst, arith}
+use Rattle.std.proofs.Common.{◌≡◌, ◌≢◌, inl, inr, ℕ, ◌+◌, ◌<◌, ◌≤◌, ◌^◌, List, [], ◌∷◌, ◌++◌, Bool, true, false, Option, Some, None, Bor, refl, ap, sym, ◌∙◌, subst, arith}
 use Rattle.std.proofs.lemmas.Bool.Decides.{nat_tests}
 use Rattle.std.proofs.lemmas.Grind.{not_there}
 use Rattle.std.proofs.lemmas.List.{append_assoc}
-use Rattle.std.specs.Prelude.{is_some, nat_eq, nat_lt, if◌then◌else◌, IsSomeAnd}
+use Rattle.std.specs.Prelude.{is_some, nat_eq, nat_lt, option_map, if◌then◌else◌, IsSomeAnd, IfSome}
 use Rattle.std.specs.Option.{option_copied}
 use Rattle.std.specs.HashMap.{get, get_by, hash_map_len, UpdatesBy}
+use Rattle.hc_range.specs.declared.range.Asked.{Asked}
+use Rattle.hc_range.specs.declared.range.Asked.TheVariants as asked
+use Rattle.hc_range.specs.declared.range.Span.{Span}
+use Rattle.hc_range.specs.Spans.{IsInOrder, IsWithin}
 use Rattle.hc_event.specs.declared.act.Act.{Act}
 use Rattle.hc_entry.specs.declared.keys.KeyTable.{KeyTable}
 use Rattle.hc_entry.specs.Keys.{line_of}
@@ -13,6 +17,7 @@ use Rattle.hc_entry.specs.Lines.{is_in, is_held_by}
 use Rattle.hc_core.specs.declared.consumer.Consumer.{Consumer}
 use Rattle.hc_core.specs.Arms.{IsQueued}
 use Rattle.hc_core.specs.Changes.{Numbered, ChangesAt, BecomesAt, one}
+use Rattle.hc_core.proofs.Words.{same_or, eqb-same, eqb-other}
 
 -- MAPS
 
@@ -59,6 +64,17 @@ merely_below n m some h =
     let test : nat_lt n m ≡ true = merely_true (nat_lt n m) some (λ p. (let lt : n < m = h p in grind (arith, nat_tests, lt))) in
     grind (arith, nat_tests, test)
 
+-- a span within a length, wherever there is some past
+pub merely_within : {P : Type 0} (total : Option ℕ) (span : Span) → ∥ P ∥₁ → (P → IsSomeAnd total (IsWithin span)) → IsSomeAnd total (IsWithin span)
+merely_within None span some h = absurd (not_there some h)
+merely_within (Some n) span some h =
+    let up : span.hi < n + 1 = merely_below span.hi (n + 1) some (λ p. (let is = h p in let le = is.within in omega (arith, le))) in
+    record {
+      not_empty = merely_below span.lo span.hi some (λ p. (let is = h p in is.not_empty));
+      within = omega (arith, up);
+      small = merely_below n (2 ^ 62) some (λ p. (let is = h p in is.small));
+    }
+
 -- the same change, of what is the same
 pub changes_as : {A : Type 0} (m n u : Numbered A) (c d : ℕ) (f h : A → A) → u ≡ n → c ≡ d → f ≡ h → ChangesAt m n c f → ChangesAt m u d h
 changes_as m n u c d f h same_map same_place same_change changes =
@@ -74,3 +90,27 @@ merely_queued keys c k some h = λ on. merely_true (is_in c (line_of keys k.requ
 pub held_is : (c : ℕ) (o : Option ℕ) → is_held_by c o ≡ true → o ≡ Some c
 held_is c None on = absurd (let never : false ≡ true = on in cc)
 held_is c (Some d) on = let same : d ≡ c = grind (arith, nat_tests, on) in ap Some same
+
+-- a value that is there changes twice
+pub becomes_then : {A : Type 0} (m n u : Numbered A) (c : ℕ) (k : A) (f h : A → A) → get nat_eq m c ≡ Some k → ChangesAt m n c f → ChangesAt n u c h → BecomesAt m u c (Some (h (f k)))
+becomes_then m n u c k f h there first second = record {
+  places = λ d. elim (same_or c d) [
+    | inl e ↦ second.places d ∙ (rw (← e, eqb-same c) (ap (option_map h) mid))
+    | inr ne ↦ second.places d ∙ rw (eqb-other c d ne) (first.places d ∙ rw (eqb-other c d ne) refl)
+  ];
+  len = rw there (ap (λ z. z + 1) (second.len ∙ first.len));
+}
+  where
+    mid : get nat_eq n c ≡ Some (f k)
+    mid = first.places c ∙ rw (eqb-same c) (ap (option_map f) there)
+
+-- an option that is a number wherever there is some past
+pub merely_number : {P : Type 0} (o : Option ℕ) (n : ℕ) → ∥ P ∥₁ → (P → o ≡ Some n) → o ≡ Some n
+merely_number o n some h = held_is n o (merely_true (is_held_by n o) some (λ p. ap (is_held_by n) (h p) ∙ eqb-same n))
+
+-- a range that is in order wherever there is some past
+pub merely_ordered : {P : Type 0} (range : Option Asked) → ∥ P ∥₁ → (P → (asked : Asked) → range ≡ Some asked → IsInOrder asked) → IfSome range IsInOrder
+merely_ordered None some h = tt
+merely_ordered (Some (asked.From first)) some h = tt
+merely_ordered (Some (asked.Last n)) some h = tt
+merely_ordered (Some (asked.FromTo first last)) some h = let below : first < last + 1 = merely_below first (last + 1) some (λ p. let le : first ≤ last = h p (asked.FromTo first last) refl in omega arith) in omega arith

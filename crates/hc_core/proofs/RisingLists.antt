@@ -1,5 +1,5 @@
 -- Lists that rise: with one more at the end, and one that falls the other way round.
-use Rattle.std.proofs.Common.{◌≡◌, ◌⊎◌, inl, inr, ℕ, ◌<◌, ◌≤◌, List, [], ◌∷◌, ◌++◌, length, Bool, true, false, eqb, Option, Some, refl, ap, sym, ◌∙◌, arith}
+use Rattle.std.proofs.Common.{◌≡◌, ◌⊎◌, inl, inr, ℕ, ◌<◌, ◌≤◌, List, [], ◌∷◌, ◌++◌, Bool, true, false, eqb, refl, ap, sym, ◌∙◌, arith}
 use Rattle.std.proofs.lemmas.Bool.Decides.{nat_tests}
 use Rattle.std.proofs.lemmas.List.{reverse-append}
 use Rattle.std.specs.Prelude.{reverse, nat_lt, ◌||◌}
@@ -7,8 +7,8 @@ use Rattle.hc_entry.specs.Lines.{is_among}
 use Rattle.hc_entry.specs.Users.{itself}
 use Rattle.hc_model.specs.Orders.{Descends}
 use Rattle.hc_rising.specs.Rising.{above, rises}
-use Rattle.hc_rising.proofs.RisingLemmas.{has-above, rises-above}
-use Rattle.hc_core.proofs.Words.{eqb-same, false_true, some_is}
+use Rattle.hc_rising.proofs.RisingLemmas.{has-above}
+use Rattle.hc_core.proofs.Words.{eqb-same, false_true}
 
 bool_cases : (b : Bool) → (b ≡ true) ⊎ (b ≡ false)
 bool_cases true = inl refl
@@ -95,32 +95,3 @@ pub reverse_rises : (m : ℕ) (xs : List ℕ) → Descends m xs → rises itself
 reverse_rises m [] down = refl
 reverse_rises m (x ∷ xs) down =
     ap (rises itself) (reverse-append (x ∷ []) xs) ∙ rises_last x (reverse xs) (reverse_rises x xs down.1) (λ n there. among_below n x xs down.1 (sym (among-reverse n xs) ∙ there))
-
--- AT MOST TWO
-
--- one by its number, and one of those of whom there is one
-pub at_most_two : (P : ℕ → Type 0) (o : Option ℕ) (xs : List ℕ) → ((x y : ℕ) → P x → P y → x ≡ y) → rises itself xs ≡ true → ((x : ℕ) → is_among x xs ≡ true → (o ≡ Some x) ⊎ P x) → length xs ≤ 2
-at_most_two P o [] one up each = omega arith
-at_most_two P o (x ∷ []) one up each = omega arith
-at_most_two P o (x ∷ y ∷ []) one up each = omega arith
-at_most_two P o (x ∷ y ∷ z ∷ zs) one up each = absurd (by_three (each x (among_first x (y ∷ z ∷ zs))) (each y (among_later x y (y ∷ z ∷ zs) (among_first y (z ∷ zs)))) (each z (among_later x z (y ∷ z ∷ zs) (among_later y z (z ∷ zs) (among_first z zs)))))
-  where
-    lower : x < y
-    lower = above_first y x (y ∷ z ∷ zs) up (among_first y (z ∷ zs))
-
-    higher : y < z
-    higher = above_first z y (z ∷ zs) (rises-above itself x (y ∷ z ∷ zs) up) (among_first z zs)
-
-    by_one : (a b : ℕ) → a < b → o ≡ Some a → o ≡ Some b → ⊥
-    by_one a b lt p q = let same : a ≡ b = some_is a b (sym p ∙ q) in omega arith
-
-    by_two : (a b : ℕ) → a < b → P a → P b → ⊥
-    by_two a b lt p q = let same = one a b p q in omega arith
-
-    by_three : (o ≡ Some x) ⊎ P x → (o ≡ Some y) ⊎ P y → (o ≡ Some z) ⊎ P z → ⊥
-    by_three (inl p) (inl q) last = by_one x y lower p q
-    by_three (inr p) (inr q) last = by_two x y lower p q
-    by_three (inl p) (inr q) (inl l) = by_one x z (omega (arith, lower, higher)) p l
-    by_three (inl p) (inr q) (inr l) = by_two y z higher q l
-    by_three (inr p) (inl q) (inl l) = by_one y z higher q l
-    by_three (inr p) (inl q) (inr l) = by_two x z (omega (arith, lower, higher)) p l

@@ -1,10 +1,15 @@
 -- The step of a cache: one entry more, denied or accepted.
-use Rattle.std.proofs.Common.{◌≡◌, ℕ, ◌+◌, ◌≤◌, List, [], ◌∷◌, ◌++◌, Bool, true, false, Option, Some, None, refl, ap, sym, ◌∙◌, subst, arith}
+use Rattle.std.proofs.Common.{◌≡◌, ℕ, ◌+◌, ◌≤◌, ◌<◌, List, [], ◌∷◌, ◌++◌, length, Bool, true, false, Option, Some, None, refl, ap, sym, ◌∙◌, subst, arith}
 use Rattle.std.proofs.lemmas.Bool.Decides.{nat_tests}
-use Rattle.std.specs.Prelude.{nat_eq, nat_le, ◌||◌}
+use Rattle.std.proofs.Math.Bridge.{le_prop}
+use Rattle.std.proofs.Math.Logic.{∥∥₁_elim}
+use Rattle.std.proofs.Math.Seq.{drop-append_seam}
+use Rattle.std.specs.Prelude.{nat_eq, nat_le, ◌||◌, drop, if◌then◌else◌}
 use Rattle.std.specs.HashMap.{get, hash_map_len}
+use Rattle.hc_store.specs.declared.backend.Backend.{Ghosts}
 use Rattle.hc_event.specs.Filters.{is_denied}
 use Rattle.hc_event.specs.declared.event.Event.{Event}
+use Rattle.hc_event.specs.declared.event.Event.TheVariants as event
 use Rattle.hc_event.specs.declared.act.Act.{Act}
 use Rattle.hc_event.specs.declared.act.Act.TheVariants as act
 use Rattle.hc_event.specs.declared.act.Refusal.{Refusal}
@@ -12,6 +17,7 @@ use Rattle.hc_rules.specs.declared.room.Limits.{Limits}
 use Rattle.hc_rules.specs.Refusals.{refusal_of}
 use Rattle.hc_exch.specs.Exchanges.{table_of, next_of}
 use Rattle.hc_exch.specs.Known.{unknown}
+use Rattle.hc_entries.specs.Entries.{shelf_of}
 use Rattle.hc_entry.specs.Keys.{kept_of}
 use Rattle.hc_entry.specs.Kept.{nothing}
 use Rattle.hc_model.specs.Answers.{answer, accepted, denied_or}
@@ -19,41 +25,65 @@ use Rattle.hc_model.specs.Beginnings.{may_begin}
 use Rattle.hc_model.specs.Denials.{denial}
 use Rattle.hc_model.specs.Entries.{Entry, History, Contents, no_contents}
 use Rattle.hc_model.specs.Flaws.{Flaw, NoFlaw, flaw_in}
+use Rattle.hc_model.specs.Modest.{HasModestFields}
+use Rattle.hc_model.specs.Numbers.{AreShort}
 use Rattle.hc_model.specs.Rows.{Tables}
 use Rattle.hc_model.specs.Runs.{IsRun, IsOwed, may_stand, may_be}
 use Rattle.hc_model.specs.Tables.{tables, after_accepted, after_denied}
 use Rattle.hc_model.proofs.Barred.{next_tables, denied_tables}
+use Rattle.hc_model.proofs.ChainRuns.{chains_in_runs}
+use Rattle.hc_model.proofs.InRuns.{delivers_in_runs, turns_in_runs, dooms_in_runs}
+use Rattle.hc_model.proofs.TruthRuns.{truth_in_runs}
+use Rattle.hc_step.specs.Modest.{IsModestEvent}
 use Rattle.hc_core.specs.declared.rows.Rows.{Rows}
 use Rattle.hc_core.specs.declared.cache.Cache.{Cache}
-use Rattle.hc_core.specs.Stands.{RowsStand, Answers, gate_of}
+use Rattle.hc_core.specs.Stands.{RowsStand, Answers, gate_of, is_fault}
 use Rattle.hc_core.specs.Facts.{Facts}
 use Rattle.hc_core.specs.Good.{StandsUntil, counted}
-use Rattle.hc_core.specs.Steps.{StandsFor, Steps}
+use Rattle.hc_core.specs.Steps.{StandsFor, Steps, KeepsPromises, failures_in}
 use Rattle.hc_core.proofs.Gates.{denies_as}
-use Rattle.hc_core.proofs.Standing.{facts_of_runs, standing_of}
+use Rattle.hc_core.proofs.Sets.{acts_set}
+use Rattle.hc_core.proofs.Standing.{facts_of_runs}
+use Rattle.hc_core.proofs.Words.{none_some}
 use Rattle.hc_core.proofs.Undenied.{undenied}
 use Rattle.hc_core.proofs.Denying.{stands_denied, stands_begun}
 
 -- THE BEGINNING
 
+none_long : AreShort no_contents
+none_long r n item there is = none_some item there
+
 begins : (limits : Limits) → may_begin limits no_contents ≡ true
 unfolding may_begin
 begins limits = let last : nat_le 0 limits.max_total ≡ true = grind (arith, nat_tests) in rw last refl
 
-pub stands_beginning : {B : Type 0} (s : Cache B) → s.last_moment ≡ 0 → s.steps ≡ 0 → s.rows.received ≡ 0 → s.rows.last_start ≡ 0 → next_of s.rows.exchanges ≡ 1 → hash_map_len s.rows.consumers ≡ 0 → ((c : ℕ) → get nat_eq s.rows.consumers c ≡ None) → ((x : ℕ) → table_of s.rows.exchanges x ≡ unknown) → ((key : List ℕ) → kept_of s.rows.keys key ≡ nothing)
+pub stands_beginning : {B : Type 0} {g : Ghosts B} (s : Cache B g) → s.last_moment ≡ 0 → s.steps ≡ 0 → s.rows.received ≡ 0 → s.rows.last_start ≡ 0 → next_of s.rows.exchanges ≡ 1 → hash_map_len s.rows.consumers ≡ 0 → ((c : ℕ) → get nat_eq s.rows.consumers c ≡ None) → ((x : ℕ) → table_of s.rows.exchanges x ≡ unknown) → ((key : List ℕ) → kept_of s.rows.keys key ≡ nothing) → ((q : ℕ) → (shelf_of s.rows.entries).kept q ≡ None) → (shelf_of s.rows.entries).order ≡ [] → (shelf_of s.rows.entries).limits ≡ s.rows.limits
     → StandsFor s no_contents []
 unfolding tables
-stands_beginning s moment steps received last next count none unopened unawaited = record {
+stands_beginning s moment steps received last next count none unopened unawaited unkept order limits = record {
   begins = begins s.rows.limits;
+  short = none_long;
   run = tt;
   moment = moment;
   entries = steps;
-  rows = stands_begun s.rows last received next count none unopened unawaited;
+  rows = stands_begun s.rows last received next count none unopened unawaited unkept order limits;
 }
 
-pub begins_good : {B : Type 0} (r : Rows B) → r.last_start ≡ 0 → r.received ≡ 0 → next_of r.exchanges ≡ 1 → hash_map_len r.consumers ≡ 0 → ((c : ℕ) → get nat_eq r.consumers c ≡ None) → ((x : ℕ) → table_of r.exchanges x ≡ unknown) → ((key : List ℕ) → kept_of r.keys key ≡ nothing) → StandsUntil r 0
+pub begins_good : {B : Type 0} {g : Ghosts B} (r : Rows B g) → r.last_start ≡ 0 → r.received ≡ 0 → next_of r.exchanges ≡ 1 → hash_map_len r.consumers ≡ 0 → ((c : ℕ) → get nat_eq r.consumers c ≡ None) → ((x : ℕ) → table_of r.exchanges x ≡ unknown) → ((key : List ℕ) → kept_of r.keys key ≡ nothing) → ((q : ℕ) → (shelf_of r.entries).kept q ≡ None) → (shelf_of r.entries).order ≡ [] → (shelf_of r.entries).limits ≡ r.limits → StandsUntil r 0
 unfolding tables
-begins_good r last received next count none unopened unawaited = (record { contents = no_contents; h = []; begins = begins r.limits; run = tt; rows = stands_begun r last received next count none unopened unawaited }, omega arith)
+begins_good r last received next count none unopened unawaited unkept order limits = (record { contents = no_contents; h = []; begins = begins r.limits; short = none_long; modest = tt; run = tt; rows = stands_begun r last received next count none unopened unawaited unkept order limits }, omega arith)
+
+-- WHAT COMES
+
+modest_fields : (ev : Event) → IsModestEvent ev → HasModestFields ev
+modest_fields (event.Start c request) modest = modest
+modest_fields (event.Poll c want) modest = tt
+modest_fields (event.Head x response) modest = modest
+modest_fields (event.Piece x bytes) modest = tt
+modest_fields (event.End x) modest = tt
+modest_fields (event.Fault x) modest = tt
+modest_fields (event.Cancel c) modest = tt
+modest_fields (event.Doom key) modest = tt
 
 -- WHAT IS OWED
 
@@ -79,85 +109,134 @@ may_stand_denied limits t e denied = rw denied refl
 
 -- THE STEP
 
--- a run with one entry more, and the rows that stand for it
-pub record OneMore {B : Type 0} (u : Rows B) (contents : Contents) (h : History) (before out : List Act) (now : ℕ) (ev : Event) : Type 0 where
-  pub acts : List Act
-  pub told : out ≡ before ++ acts
+-- what stands behind what stood there
+abbrev pub acts_in : List Act → List Act → List Act
+acts_in before out = drop (length before) out
+
+-- a run with one entry more, and the rows that stand for it. No failure is told but one that was counted
+pub record OneMore {B : Type 0} {g : Ghosts B} (r u : Rows B g) (contents : Contents) (h : History) (acts : List Act) (now : ℕ) (ev : Event) : Type 0 where
   pub begins : may_begin u.limits contents ≡ true
   pub run : IsRun u.limits contents (record { now = now; event = ev; acts = acts } ∷ h)
   pub moment : (tables contents (record { now = now; event = ev; acts = acts } ∷ h)).moment ≡ now
   pub entries : (tables contents (record { now = now; event = ev; acts = acts } ∷ h)).entries ≡ (tables contents h).entries + 1
+  pub counted : (shelf_of r.entries).faults + failures_in acts ≤ (shelf_of u.entries).faults
   pub rows : RowsStand u (tables contents (record { now = now; event = ev; acts = acts } ∷ h))
 
-module _ {B : Type 0} (r u : Rows B) (now : ℕ) (ev : Event) (before out : List Act)
+-- its acts are those that were appended
+pub record Told {B : Type 0} {g : Ghosts B} (r u : Rows B g) (contents : Contents) (h : History) (before out : List Act) (now : ℕ) (ev : Event) : Type 0 where
+  pub told : out ≡ before ++ acts_in before out
+  pub more : OneMore r u contents h (acts_in before out) now ev
+
+told_by : {B : Type 0} {g : Ghosts B} (r u : Rows B g) (contents : Contents) (h : History) (before out acts : List Act) (now : ℕ) (ev : Event) → out ≡ before ++ acts → OneMore r u contents h acts now ev → Told r u contents h before out now ev
+told_by r u contents h before out acts now ev told more =
+    let same : acts_in before out ≡ acts = ap (drop (length before)) told ∙ drop-append_seam before acts in
+    record { told = told ∙ ap (λ (z : List Act). before ++ z) (sym same); more = subst (λ (z : List Act). OneMore r u contents h z now ev) (sym same) more }
+
+-- a failure that the acts tell was counted
+one_counted : (faults after : ℕ) (flaw : Flaw) (b : Bool) → is_fault flaw ≡ b → (is_fault flaw ≡ true → faults < after) → faults ≤ after → faults + (if b then 1 else 0) ≤ after
+one_counted faults after flaw true is caused never = let one = caused is in omega (arith, one)
+one_counted faults after flaw false is caused never = omega (arith, never)
+
+module _ {B : Type 0} {g : Ghosts B} (r u : Rows B g) (now : ℕ) (ev : Event) (before out : List Act)
     (denied : (why : Refusal) → refusal_of (gate_of r ev) ev ≡ Some why → (u ≡ counted ev r) × (out ≡ before ++ act.Denied why ∷ []))
-    (answered : refusal_of (gate_of r ev) ev ≡ None → Answers r u before out now ev) (limits : u.limits ≡ r.limits) where
-  module _ (contents : Contents) (h : History) (begun : may_begin r.limits contents ≡ true) (run : IsRun r.limits contents h) (rows : RowsStand r (tables contents h)) (in_time : (tables contents h).moment ≤ now) where
+    (answered : refusal_of (gate_of r ev) ev ≡ None → Answers r u before out now ev) (limits : u.limits ≡ r.limits) (never : (shelf_of r.entries).faults ≤ (shelf_of u.entries).faults) where
+  module _ (contents : Contents) (h : History) (begun : may_begin r.limits contents ≡ true) (short : AreShort contents) (run : IsRun r.limits contents h) (rows : RowsStand r (tables contents h)) (in_time : (tables contents h).moment ≤ now) where
     abbrev t : Tables
     t = tables contents h
 
     abbrev with_acts : List Act → Entry
     with_acts acts = record { now = now; event = ev; acts = acts }
 
-    facts : Facts t
-    facts = facts_of_runs r.limits contents h begun run
+    facts : Facts r.limits t
+    facts = facts_of_runs r.limits contents h begun short run
 
     -- whatever was owed, the rows stand for it
-    stands_with : (acts : List Act) (after : Tables) → out ≡ before ++ acts → after ≡ tables contents (with_acts acts ∷ h) → after.moment ≡ now → after.entries ≡ t.entries + 1
-        → IsOwed r.limits t (with_acts acts) → RowsStand u after → OneMore u contents h before out now ev
-    stands_with acts after told is now_is entries_are owed stands = record {
-      acts = acts;
-      told = told;
+    stands_with : (acts : List Act) (after : Tables) → after ≡ tables contents (with_acts acts ∷ h) → after.moment ≡ now → after.entries ≡ t.entries + 1
+        → IsOwed r.limits t (with_acts acts) → (shelf_of r.entries).faults + failures_in acts ≤ (shelf_of u.entries).faults → RowsStand u after → OneMore r u contents h acts now ev
+    stands_with acts after is now_is entries_are owed counts stands = record {
       begins = ap (λ l. may_begin l contents) limits ∙ begun;
       run = subst (λ l. IsRun l contents (with_acts acts ∷ h)) (sym limits) (run, owed);
       moment = ap (λ (z : Tables). z.moment) (sym is) ∙ now_is;
       entries = ap (λ (z : Tables). z.entries) (sym is) ∙ entries_are;
+      counted = counts;
       rows = subst (RowsStand u) is stands;
     }
 
-    by_refusal : (o : Option Refusal) → refusal_of (gate_of r ev) ev ≡ o → OneMore u contents h before out now ev
+    by_refusal : (o : Option Refusal) → refusal_of (gate_of r ev) ev ≡ o → Told r u contents h before out now ev
     by_refusal None is =
         let free : denial t ev ≡ None = sym (denies_as r t ev rows) ∙ is in
         let done = answered is t facts rows free in
         let acts = accepted r.limits t now ev done.flaw in
         let e : Entry = with_acts acts in
-        stands_with acts (after_accepted t e) done.acts (next_tables contents h e (undenied r.limits t now ev done.flaw)) refl refl
+        let counts = one_counted (shelf_of r.entries).faults (shelf_of u.entries).faults done.flaw (is_fault done.flaw) refl done.caused never in
+        told_by r u contents h before out acts now ev done.acts
+        (stands_with acts (after_accepted t e) (next_tables contents h e (undenied r.limits t now ev done.flaw)) refl refl
         (record {
           later = in_time;
           acts = sym (ap (answer r.limits t now ev) done.shown ∙ answer_accepted r.limits t now ev done.flaw free);
           flaw = may_stand_accepted r.limits t e done.flaw done.shown done.may;
-        }) done.rows
+        }) (subst (λ (f : Flaw). (shelf_of r.entries).faults + (if is_fault f then 1 else 0) ≤ (shelf_of u.entries).faults) (sym done.shown) counts) done.rows)
     by_refusal (Some why) is =
         let some : denial t ev ≡ Some why = sym (denies_as r t ev rows) ∙ is in
         let acts = act.Denied why ∷ [] in
         let e : Entry = with_acts acts in
-        stands_with acts (after_denied t e) (denied why is).1 (denied_tables contents h e refl) refl refl
+        told_by r u contents h before out acts now ev (denied why is).1
+        (stands_with acts (after_denied t e) (denied_tables contents h e refl) refl refl
         (record { later = in_time; acts = sym (answer_denied r.limits t now ev NoFlaw why some); flaw = may_stand_denied r.limits t e refl })
-        (subst (λ z. RowsStand z (after_denied t e)) (sym (denied why is).0) (stands_denied r t e (standing_of r t facts rows)))
+        (omega (arith, never))
+        (subst (λ z. RowsStand z (after_denied t e)) (sym (denied why is).0) (stands_denied r t e rows)))
 
-    pub one_more : OneMore u contents h before out now ev
+    pub one_more : Told r u contents h before out now ev
     one_more = by_refusal (refusal_of (gate_of r ev) ev) refl
 
-  pub some_after : (last : ℕ) → last ≤ now → StandsUntil r last → StandsUntil u now
-  some_after last later (s, until) =
-      let more = one_more s.contents s.h s.begins s.run s.rows (omega (arith, later, until)) in
-      (record { contents = s.contents; h = record { now = now; event = ev; acts = more.acts } ∷ s.h; begins = more.begins; run = more.run; rows = more.rows }, subst (λ n. n ≤ now) (sym more.moment) (omega arith))
+  abbrev some_more : (last : ℕ) → last ≤ now → (some : StandsUntil r last) → Told r u some.0.contents some.0.h before out now ev
+  some_more last later (s, until) = one_more s.contents s.h s.begins s.short s.run s.rows (omega (arith, later, until))
 
-module _ {B : Type 0} (s u : Cache B) (contents : Contents) (h : History) (now : ℕ) (ev : Event) (before out : List Act)
+  pub some_after : IsModestEvent ev → (last : ℕ) → last ≤ now → StandsUntil r last → StandsUntil u now
+  some_after modest last later (s, until) =
+      let more = (some_more last later (s, until)).more in
+      (record { contents = s.contents; h = record { now = now; event = ev; acts = acts_in before out } ∷ s.h; begins = more.begins; short = s.short; modest = (s.modest, modest_fields ev modest); run = more.run; rows = more.rows }, subst (λ n. n ≤ now) (sym more.moment) (omega arith))
+
+  pub told_after : (last : ℕ) → last ≤ now → ∥ StandsUntil r last ∥₁ → out ≡ before ++ acts_in before out
+  told_after last later some = ∥∥₁_elim some (acts_set out (before ++ acts_in before out)) (λ s. (some_more last later s).told)
+
+  pub counted_after : (last : ℕ) → last ≤ now → ∥ StandsUntil r last ∥₁ → (shelf_of r.entries).faults + failures_in (acts_in before out) ≤ (shelf_of u.entries).faults
+  counted_after last later some = ∥∥₁_elim some le_prop (λ s. (some_more last later s).more.counted)
+
+module _ {B : Type 0} {g : Ghosts B} (s u : Cache B g) (now : ℕ) (ev : Event) (before out : List Act)
     (denied : (why : Refusal) → refusal_of (gate_of s.rows ev) ev ≡ Some why → (u.rows ≡ counted ev s.rows) × (out ≡ before ++ act.Denied why ∷ []))
     (answered : refusal_of (gate_of s.rows ev) ev ≡ None → Answers s.rows u.rows before out now ev)
-    (later : s.last_moment ≤ now) (moment : u.last_moment ≡ now) (count : u.steps ≡ s.steps + 1) (limits : u.rows.limits ≡ s.rows.limits) (stands : StandsFor s contents h) where
-  pub steps_on : Steps u contents h before out now ev
-  steps_on =
-      let more = one_more s.rows u.rows now ev before out denied answered limits contents h stands.begins stands.run stands.rows (subst (λ m. m ≤ now) stands.moment later) in
+    (later : s.last_moment ≤ now) (moment : u.last_moment ≡ now) (count : u.steps ≡ s.steps + 1) (limits : u.rows.limits ≡ s.rows.limits) (never : (shelf_of s.rows.entries).faults ≤ (shelf_of u.rows.entries).faults) where
+  stands_on : (contents : Contents) (h : History) → StandsFor s contents h → StandsFor u contents (record { now = now; event = ev; acts = acts_in before out } ∷ h)
+  stands_on contents h stands =
+      let more = (one_more s.rows u.rows now ev before out denied answered limits never contents h stands.begins stands.short stands.run stands.rows (subst (λ m. m ≤ now) stands.moment later)).more in
       record {
-        acts = more.acts;
-        told = more.told;
-        stands = record {
-          begins = more.begins;
-          run = more.run;
-          moment = moment ∙ sym more.moment;
-          entries = count ∙ (ap (λ n. n + 1) stands.entries ∙ sym more.entries);
-          rows = more.rows;
-        };
+        begins = more.begins;
+        short = stands.short;
+        run = more.run;
+        moment = moment ∙ sym more.moment;
+        entries = count ∙ (ap (λ n. n + 1) stands.entries ∙ sym more.entries);
+        rows = more.rows;
       }
+
+  pub steps_on : ∥ StandsUntil s.rows s.last_moment ∥₁ → Steps s u before out now ev
+  steps_on some = record {
+    acts = acts_in before out;
+    told = told_after s.rows u.rows now ev before out denied answered limits never s.last_moment later some;
+    answered = record {
+      limits = limits;
+      stands = stands_on;
+      counted = counted_after s.rows u.rows now ev before out denied answered limits never s.last_moment later some;
+    };
+  }
+
+-- THE PROMISES
+
+pub keeps_promises : {B : Type 0} {g : Ghosts B} (s : Cache B g) → KeepsPromises s
+keeps_promises s contents h stands = record {
+  once = delivers_in_runs s.rows.limits contents h stands.begins stands.run;
+  turn = turns_in_runs s.rows.limits contents h stands.begins stands.run;
+  waits = chains_in_runs s.rows.limits contents h stands.begins stands.run;
+  barrier = dooms_in_runs s.rows.limits contents h stands.begins stands.run;
+  truthful = truth_in_runs s.rows.limits contents h stands.begins stands.run;
+}

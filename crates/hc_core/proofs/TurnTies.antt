@@ -1,7 +1,8 @@
 -- Whose turn it is: what is kept of a key tells it as the tables do.
-use Rattle.std.proofs.Common.{◌≡◌, ◌⊎◌, inl, inr, ℕ, ◌≤◌, List, [], ◌∷◌, Bool, true, false, min, eqb, Option, Some, None, refl, ap, sym, ◌∙◌, arith}
+use Rattle.std.proofs.Common.{◌≡◌, ◌≢◌, ◌⊎◌, inl, inr, ℕ, ◌≤◌, List, [], ◌∷◌, Bool, true, false, min, eqb, Option, Some, None, refl, ap, sym, ◌∙◌, arith}
 use Rattle.std.proofs.lemmas.Bool.Decides.{nat_tests}
 use Rattle.std.specs.Prelude.{filter, find, is_some, unwrap_or, ◌&&◌, ◌||◌}
+use Rattle.std.specs.Option.{option_or}
 use Rattle.hc_entry.specs.Kept.{Kept, line_in}
 use Rattle.hc_entry.specs.Lines.{is_among, is_held_by, turn_of, turn_with}
 use Rattle.hc_rules.specs.Least.{least, lesser}
@@ -10,7 +11,7 @@ use Rattle.hc_model.specs.Lines.{is_in_line, holds_turn, line, holder}
 use Rattle.hc_model.specs.Rows.{Tables, Consumer}
 use Rattle.hc_model.specs.Sound.{Among, IsListed}
 use Rattle.hc_core.specs.Lines.{KeepsKey, has_turn}
-use Rattle.hc_core.proofs.Words.{false_true, none_some, some_is, eqb-same}
+use Rattle.hc_core.proofs.Words.{same_or, false_true, none_some, some_is, eqb-same}
 
 -- THE LEAST
 
@@ -77,7 +78,7 @@ least_there xs c there = by_least (least xs) refl
     by_least None none = let empty = least_none xs none in false_true (rw empty at there)
     by_least (Some m) some = (m, some)
 
-least_alike : (xs ys : List ℕ) → ((c : ℕ) → is_among c xs ≡ is_among c ys) → least xs ≡ least ys
+pub least_alike : (xs ys : List ℕ) → ((c : ℕ) → is_among c xs ≡ is_among c ys) → least xs ≡ least ys
 least_alike xs ys alike = by_least (least xs) refl
   where
     by_other : (m : ℕ) → least xs ≡ Some m → (o : Option ℕ) → least ys ≡ o → least xs ≡ least ys
@@ -165,7 +166,7 @@ find_on g (x ∷ xs) c there on = by_test (λ later. find_on g xs c later on) (g
       | inr later ↦ more (rest later) is
     ]
 
-and_parts : (a b : Bool) → (a && b) ≡ true → (a ≡ true) × (b ≡ true)
+pub and_parts : (a b : Bool) → (a && b) ≡ true → (a ≡ true) × (b ≡ true)
 and_parts true true on = (refl, refl)
 and_parts true false on = false_true on
 and_parts false b on = false_true on
@@ -198,6 +199,14 @@ module _ (t : Tables) (key : List ℕ) (a : Kept) (lists : IsListed t) (kept : K
       by_holder None is = let none = holder_by None is in let same = least_is in rw (is, none, same) refl
       by_holder (Some d) is = let some = holder_by (Some d) is in rw (is, some) refl
 
+  pub turn_of_is : turn_of (line_in a) ≡ lines.turn t key
+  unfolding lines.turn
+  turn_of_is = by_holder a.holder refl
+    where
+      by_holder : (o : Option ℕ) → a.holder ≡ o → turn_of (line_in a) ≡ option_or (holder t key) (least (line t key))
+      by_holder None is = let none = holder_by None is in let same = least_is in rw (is, none, same) refl
+      by_holder (Some d) is = let some = holder_by (Some d) is in rw (is, some) refl
+
   -- who is next, and doesn't hold the turn yet, has it, and nobody holds it
   pub turn_is : (c : ℕ) → unwrap_or (turn_with c (line_in a)) c ≡ c → is_in_line key (t.consumer c) ≡ true → has_turn key (t.consumer c) ≡ false → (a.holder ≡ None) × (turn_of (line_in a) ≡ Some c)
   turn_is c next in_line idle = by_holder a.holder refl
@@ -216,3 +225,39 @@ module _ (t : Tables) (key : List ℕ) (a : Kept) (lists : IsListed t) (kept : K
           let same : d ≡ c = (let with_c : unwrap_or (turn_with c (line_in a)) c ≡ d = rw is refl in sym with_c ∙ next) in
           let held : is_held_by c a.holder ≡ true = rw (is, same) (eqb-same c) in
           false_true (sym (kept.holder c ∙ idle) ∙ held)
+
+-- Once it stands in line, it has the turn: of the others as many stand there, and nobody holds it.
+pub turn_next : (c : ℕ) (a b : Kept) → ((d : ℕ) → d ≢ c → is_among d b.in_line ≡ is_among d a.in_line) → ((d : ℕ) → is_held_by d b.holder ≡ is_held_by d a.holder) → is_held_by c a.holder ≡ false
+    → is_among c b.in_line ≡ true → turn_with c (line_in a) ≡ Some c → (b.holder ≡ None) × (turn_of (line_in b) ≡ Some c)
+turn_next c a b others holders idle there next = by_holder a.holder refl
+  where
+    none_held : (o : Option ℕ) → ((d : ℕ) → is_held_by d o ≡ false) → o ≡ None
+    none_held None none = refl
+    none_held (Some d) none = false_true (sym (none d) ∙ eqb-same d)
+
+    below_first : (o : Option ℕ) (m : ℕ) → least a.in_line ≡ o → is_among m a.in_line ≡ true → lesser o c ≡ Some c → c ≤ m
+    below_first None m none in_a is = let empty = least_none a.in_line none in false_true (rw empty at in_a)
+    below_first (Some l) m some in_a is =
+        let le : l ≤ m = (least_some a.in_line l some).below m in_a in
+        let least_c : min l c ≡ c = some_is (min l c) c is in
+        omega (arith, le, least_c)
+
+    first : a.holder ≡ None → b.holder ≡ None → turn_of (line_in b) ≡ Some c
+    first free free_then =
+        let (m, some) = least_there b.in_line c there in
+        let least_m = least_some b.in_line m some in
+        let le : m ≤ c = least_m.below c there in
+        let is_c : lesser (least a.in_line) c ≡ Some c = rw free at next in
+        let same : m ≡ c = elim (same_or m c) [
+          | inl e ↦ e
+          | inr ne ↦ (let ge : c ≤ m = below_first (least a.in_line) m refl (sym (others m ne) ∙ least_m.among) is_c in omega (arith, le, ge))
+        ] in
+        rw (free_then, some) (ap Some same)
+
+    by_holder : (o : Option ℕ) → a.holder ≡ o → (b.holder ≡ None) × (turn_of (line_in b) ≡ Some c)
+    by_holder None is =
+        let free : b.holder ≡ None = none_held b.holder (λ d. holders d ∙ ap (is_held_by d) is) in
+        (free, first is free)
+    by_holder (Some d) is =
+        let same : d ≡ c = some_is d c (rw is at next) in
+        false_true (sym idle ∙ (ap (is_held_by c) is ∙ rw same (eqb-same c)))

@@ -62,3 +62,25 @@ or_none (Some a) = refl
 pub on_ok : {A E P Q R S : Type 0} (r : Result A E) → OnOk r P → OnOk r Q → OnOk r R → (P → Q → R → S) → OnOk r S
 on_ok (Ok x) p q s f = f p q s
 on_ok (Err e) p q s f = tt
+
+pub ok_then : {A E P Q : Type 0} (r : Result A E) → OnOk r P → (P → Q) → OnOk r Q
+ok_then (Ok x) p f = f p
+ok_then (Err e) p f = tt
+
+pub none_of : {A : Type 0} (o : Option A) → is_some o ≡ false → o ≡ None
+none_of None off = refl
+none_of (Some a) off = false_true (sym off)
+
+-- what is none isn't there
+pub none_there : {A P : Type 0} (o : Option A) → o ≡ None → is_some o ≡ true → P
+none_there None none on = false_true on
+none_there (Some a) none on = none_some a (sym none)
+
+-- what holds where a call succeeded, by what it says then
+pub on_ok_by : {A E P Q : Type 0} (r : Result A E) → OnOk r P → (P → Q) → OnOk r Q
+on_ok_by (Ok x) p f = f p
+on_ok_by (Err e) p f = tt
+
+pub on_ok_two : {A E P Q R : Type 0} (r : Result A E) → OnOk r P → OnOk r Q → (P → Q → R) → OnOk r R
+on_ok_two (Ok x) p q f = f p q
+on_ok_two (Err e) p q f = tt

@@ -1,15 +1,13 @@
 -- What the arms of a step look at, and what they do.
 use Rattle.std.specs.Prelude.{◌≡◌, ℕ, ◌+◌, ◌-◌, List, [], ◌∷◌, length, nat_lt, nat_eq, Bool, true, false, Option, Some, None, is_some, unwrap_or, IsSomeAnd, if◌then◌else◌, ◌==◌, ◌&&◌, not}
 use Rattle.std.specs.HashMap.{get}
+use Rattle.hc_store.specs.declared.backend.Backend.{Ghosts}
 use Rattle.hc_event.specs.declared.act.Act.{Act}
 use Rattle.hc_event.specs.declared.act.Act.TheVariants as act
 use Rattle.hc_event.specs.declared.act.Cause.{Cause}
 use Rattle.hc_event.specs.declared.act.Cause.TheVariants as cause
 use Rattle.hc_event.specs.declared.act.Wait.TheVariants as wait
 use Rattle.hc_rules.specs.declared.reading.ReadView.{ReadView}
-use Rattle.hc_rules.specs.declared.plan.Plan.{Plan}
-use Rattle.hc_rules.specs.declared.plan.PlanView.{PlanView}
-use Rattle.hc_rules.specs.Plans.{plan_of}
 use Rattle.hc_rules.specs.Readings.{cut_at}
 use Rattle.hc_entry.specs.declared.keys.KeyTable.{KeyTable}
 use Rattle.hc_entry.specs.Keys as keys
@@ -54,6 +52,10 @@ queues k = not k.class.disabled && not k.class.only
 abbrev pub IsQueued : KeyTable → ℕ → Consumer → Type 0
 IsQueued keys c k = queues k ≡ true → is_in c (line_of keys k.request.key) ≡ true
 
+-- it is kept that it waits for its key
+abbrev pub IsInKey : KeyTable → ℕ → Consumer → Type 0
+IsInKey keys c k = is_in c (line_of keys k.request.key) ≡ true
+
 -- it leaves the line, if it waits with others
 abbrev pub LeftIf : Bool → ℕ → List ℕ → KeyTable → KeyTable → Type 0
 LeftIf false c key before after = keys.Stays before after
@@ -65,70 +67,26 @@ IsEntered false c key before after = keys.Stays before after
 IsEntered true c key before after = keys.Becomes (on_line (queued c)) key before after
 
 -- all but what is kept by key stays
-pub record KeepsRows {B : Type 0} (r u : Rows B) : Type 0 where
+pub record KeepsRows {B : Type 0} {g : Ghosts B} (r u : Rows B g) : Type 0 where
   pub limits : u.limits ≡ r.limits
   pub last_start : u.last_start ≡ r.last_start
   pub received : u.received ≡ r.received
   pub consumers : u.consumers ≡ r.consumers
   pub exchanges : u.exchanges ≡ r.exchanges
+  pub entries : u.entries ≡ r.entries
 
 abbrev pub IsLeft : KeyTable → KeyTable → ℕ → Consumer → Type 0
 IsLeft before after c k = LeftIf (queues k) c k.request.key before after
 
 -- A consumer is in no line any more.
-pub record LeavesLine {B : Type 0} (r u : Rows B) (c : ℕ) : Type 0 where
+pub record LeavesLine {B : Type 0} {g : Ghosts B} (r u : Rows B g) (c : ℕ) : Type 0 where
   pub limits : u.limits ≡ r.limits
   pub last_start : u.last_start ≡ r.last_start
   pub received : u.received ≡ r.received
   pub consumers : u.consumers ≡ r.consumers
   pub exchanges : u.exchanges ≡ r.exchanges
+  pub entries : u.entries ≡ r.entries
   pub line : IsSomeAnd (get nat_eq r.consumers c) (IsLeft r.keys u.keys c)
-
--- only with the turn, at its place
-abbrev pub IsQueuedIf : Place → KeyTable → ℕ → Consumer → Type 0
-IsQueuedIf (place.Turn x) keys c k = IsQueued keys c k
-IsQueuedIf _ keys c k = Unit {0}
-
-abbrev pub IsQueuedAt : KeyTable → ℕ → Consumer → Type 0
-IsQueuedAt keys c k = IsQueuedIf k.place keys c k
-
-abbrev pub IsLeftIf : Place → KeyTable → KeyTable → ℕ → Consumer → Type 0
-IsLeftIf (place.Turn x) before after c k = IsLeft before after c k
-IsLeftIf _ before after c k = after ≡ before
-
-abbrev pub IsLeftAt : KeyTable → KeyTable → ℕ → Consumer → Type 0
-IsLeftAt before after c k = IsLeftIf k.place before after c k
-
--- What a consumer waits for breaks off: it is to fail, and leaves the line where it had the turn.
-pub record BreaksOff {B : Type 0} (r u : Rows B) (c x : ℕ) : Type 0 where
-  pub limits : u.limits ≡ r.limits
-  pub last_start : u.last_start ≡ r.last_start
-  pub received : u.received ≡ r.received
-  pub exchanges : u.exchanges ≡ r.exchanges
-  pub consumers : ChangesAt r.consumers u.consumers c (put_down (cause.Net x))
-  pub line : IsSomeAnd (get nat_eq r.consumers c) (IsLeftAt r.keys u.keys c)
-
--- THE PLAN
-
--- what the plan of a consumer in line looks at, as long as nothing is stored
-abbrev pub plan_view : {B : Type 0} → Rows B → ℕ → ℕ → Consumer → PlanView
-plan_view r now c k = record {
-  moment = now;
-  since = k.since;
-  c = c;
-  class = k.class;
-  passed = false;
-  kept = None;
-  turn = unwrap_or (turn_with c (line_of r.keys k.request.key)) c;
-  current = None;
-}
-
-abbrev pub PlanViewIs : {B : Type 0} → Rows B → ℕ → ℕ → PlanView → Consumer → Type 0
-PlanViewIs r now c view k = view ≡ plan_view r now c k
-
--- in line, where this is its plan
-abbrev pub IsPlanned : {B : Type 0} → Rows B → ℕ → ℕ → Plan → Consumer → Type 0
-IsPlanned r now c plan k = (k.place ≡ place.Line) × (plan_of (plan_view r now c k) ≡ plan)
 
 -- READING PAST THE STORE
 
@@ -136,8 +94,8 @@ abbrev pub source_in : Known → ℕ → Option ℕ
 source_in known x = if is_some known.running then Some x else None
 
 -- what the reading of a consumer looks at that stands at this offset
-abbrev pub read_view : Known → ℕ → ℕ → Consumer → ReadView
-read_view known x offset k = record {
+abbrev pub past_view : Known → ℕ → ℕ → Consumer → ReadView
+past_view known x offset k = record {
   offset = offset;
   hi = k.hi;
   stored = None;
@@ -168,11 +126,12 @@ abbrev pub closes_open : ℕ → Known → List ℕ
 closes_open x known = if is_some known.running then x ∷ [] else []
 
 -- A consumer is gone, and nothing is known of its exchange any more.
-pub record Leaves {B : Type 0} (r u : Rows B) (c x : ℕ) : Type 0 where
+pub record Leaves {B : Type 0} {g : Ghosts B} (r u : Rows B g) (c x : ℕ) : Type 0 where
   pub limits : u.limits ≡ r.limits
   pub last_start : u.last_start ≡ r.last_start
   pub received : u.received ≡ r.received
   pub keys : u.keys ≡ r.keys
+  pub entries : u.entries ≡ r.entries
   pub consumers : BecomesAt r.consumers u.consumers c None
   pub known : (y : ℕ) →
       table_of u.exchanges y ≡ (if x == y then unknown else table_of r.exchanges y)

@@ -1,42 +1,89 @@
 -- A cache stands for a history, and its step for one entry more.
-use Rattle.std.specs.Prelude.{◌≡◌, ℕ, List, ◌∷◌, ◌++◌, Bool, true}
+use Rattle.std.specs.Prelude.{◌≡◌, ℕ, ◌+◌, ◌≤◌, List, ◌∷◌, ◌++◌, Bool, true, if◌then◌else◌}
+use Rattle.std.specs.HashMap.{hash_map_len}
+use Rattle.hc_store.specs.declared.backend.Backend.{Ghosts}
 use Rattle.hc_event.specs.declared.event.Event.{Event}
 use Rattle.hc_event.specs.declared.act.Act.{Act}
+use Rattle.hc_entries.specs.Entries.{store_of}
 use Rattle.hc_model.specs.Beginnings.{may_begin}
 use Rattle.hc_model.specs.Entries.{History, Contents}
+use Rattle.hc_rules.specs.declared.room.Limits.{Limits}
+use Rattle.hc_model.specs.Flaws.{flaw_in}
+use Rattle.hc_model.specs.Chains.{ChainsEnd}
+use Rattle.hc_model.specs.Laws.{DeliversOnce, HasOneTurn, IsBehindDooms, IsTruthful}
+use Rattle.hc_model.specs.Numbers.{AreShort}
 use Rattle.hc_model.specs.Runs.{IsRun}
 use Rattle.hc_model.specs.Tables.{tables}
 use Rattle.hc_core.specs.declared.cache.Cache.{Cache}
-use Rattle.hc_core.specs.Stands.{RowsStand}
+use Rattle.hc_core.specs.Stands.{RowsStand, is_fault}
 
 -- WHAT A CACHE HAS
 
-abbrev pub has_failed : {B : Type 0} → Cache B → Bool
+abbrev pub has_failed : {B : Type 0} {g : Ghosts B} → Cache B g → Bool
 has_failed s = s.failed
 
-abbrev pub last_moment : {B : Type 0} → Cache B → ℕ
+abbrev pub last_moment : {B : Type 0} {g : Ghosts B} → Cache B g → ℕ
 last_moment s = s.last_moment
 
-abbrev pub steps : {B : Type 0} → Cache B → ℕ
+abbrev pub steps : {B : Type 0} {g : Ghosts B} → Cache B g → ℕ
 steps s = s.steps
 
-abbrev pub received : {B : Type 0} → Cache B → ℕ
+abbrev pub received : {B : Type 0} {g : Ghosts B} → Cache B g → ℕ
 received s = s.rows.received
 
-abbrev pub store_in : {B : Type 0} → Cache B → B
-store_in s = s.rows.store
+-- how many consumers are live
+abbrev pub live_in : {B : Type 0} {g : Ghosts B} → Cache B g → ℕ
+live_in s = hash_map_len s.rows.consumers
+
+abbrev pub store_in : {B : Type 0} {g : Ghosts B} → Cache B g → B
+store_in s = store_of s.rows.entries
+
+abbrev pub limits_in : {B : Type 0} {g : Ghosts B} → Cache B g → Limits
+limits_in s = s.rows.limits
+
+-- how often its store has failed
+abbrev pub faults_in : {B : Type 0} {g : Ghosts B} → Cache B g → ℕ
+faults_in {B} {g} s = g.faults (store_in s)
 
 -- WHAT IT STANDS FOR
 
-pub record StandsFor {B : Type 0} (s : Cache B) (contents : Contents) (h : History) : Type 0 where
+pub record StandsFor {B : Type 0} {g : Ghosts B} (s : Cache B g) (contents : Contents) (h : History) : Type 0 where
   pub begins : may_begin s.rows.limits contents ≡ true
+  pub short : AreShort contents
   pub run : IsRun s.rows.limits contents h
   pub moment : s.last_moment ≡ (tables contents h).moment
   pub entries : s.steps ≡ (tables contents h).entries
   pub rows : RowsStand s.rows (tables contents h)
 
--- The acts are those of one entry more, and the cache stands for that.
-pub record Steps {B : Type 0} (u : Cache B) (contents : Contents) (h : History) (before out : List Act) (now : ℕ) (event : Event) : Type 0 where
+-- one, where these acts tell that the store failed
+abbrev pub failures_in : List Act → ℕ
+failures_in acts = if is_fault (flaw_in acts) then 1 else 0
+
+-- The acts are those of one entry more, and the cache stands for that. They tell no failure of the
+-- store but one that it counted.
+pub record Answers {B : Type 0} {g : Ghosts B} (s u : Cache B g) (now : ℕ) (event : Event) (acts : List Act) : Type 0 where
+  pub limits : limits_in u ≡ limits_in s
+  pub stands : (contents : Contents) (h : History) → StandsFor s contents h →
+      StandsFor u contents (record { now = now; event = event; acts = acts } ∷ h)
+  pub counted : faults_in s + failures_in acts ≤ faults_in u
+
+-- The event was answered by the acts that were appended.
+pub record Steps {B : Type 0} {g : Ghosts B} (s u : Cache B g) (before out : List Act) (now : ℕ) (event : Event) : Type 0 where
   pub acts : List Act
   pub told : out ≡ before ++ acts
-  pub stands : StandsFor u contents (record { now = now; event = event; acts = acts } ∷ h)
+  pub answered : Answers s u now event acts
+
+-- WHAT IS PROMISED OVER ALL INTERLEAVINGS
+
+-- of every history that the cache stands for: each position is delivered once, of each key one exchange at most has
+-- the turn, a chain of waits ends after three links, what is used came after the last doom of its key, and what is
+-- stored is what it is called
+pub record Keeps (contents : Contents) (h : History) : Type 0 where
+  pub once : DeliversOnce (tables contents h)
+  pub turn : HasOneTurn (tables contents h)
+  pub waits : ChainsEnd (tables contents h)
+  pub barrier : IsBehindDooms contents h
+  pub truthful : IsTruthful (tables contents h)
+
+abbrev pub KeepsPromises : {B : Type 0} {g : Ghosts B} → Cache B g → Type 0
+KeepsPromises s = (contents : Contents) (h : History) → StandsFor s contents h → Keeps contents h

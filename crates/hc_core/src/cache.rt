@@ -3,15 +3,18 @@ ghost use Rattle.std.specs.Prelude.{◌≡◌, false};
 ghost use Rattle.std.proofs.Props.{props};
 ghost use Rattle.hc_core.specs.Good.{IsGood};
 
-mod built;
+mod begin;
+mod contents;
 mod step;
+mod stepping;
 mod views;
 
 use crate::rows::Rows;
+use hc_store::Backend;
 
 /// A cache over a store. Moments are whole seconds since 1970.
 #[derive(Drop)]
-pub struct Cache<B> {
+pub struct Cache<B: Backend> {
     /// Memory was refused in a step: it answers nothing any more.
     failed: bool,
     last_moment: u64,

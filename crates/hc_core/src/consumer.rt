@@ -1,8 +1,11 @@
 //! What is kept of a live consumer.
-ghost use Rattle.std.specs.Prelude.{◌≡◌, ◌+◌, ◌<◌, ◌^◌, None, false};
+ghost use Rattle.std.specs.Prelude.{◌≡◌, ◌+◌, ◌<◌, ◌^◌, Some, None, false};
 ghost use Rattle.hc_model.specs.declared.place.Place.TheVariants as place;
+ghost use Rattle.hc_model.specs.Planning.{has_passed};
 ghost use Rattle.hc_model.specs.StartingOver.{awaited};
 ghost use Rattle.hc_core.specs.Arms.{queues};
+ghost use Rattle.hc_core.specs.Changes.{once_over};
+ghost use Rattle.hc_core.specs.Heirs.{stands_at};
 
 use hc_event::{Cause, Request, Response};
 use hc_model::{BoundBy, Place};
@@ -72,6 +75,40 @@ impl Consumer {
         ensures { result ≡ queues self.now }
     {
         !self.class.disabled && !self.class.only
+    }
+
+    /// Whether it waits for the body of what is current.
+    pub(crate) fn has_passed(&self) -> bool
+        ensures { result ≡ has_passed self.now.place }
+    {
+        matches!(self.place, Place::Passed { .. })
+    }
+
+    /// Where it stands in what it reads.
+    pub(crate) fn offset(&self) -> u64
+        requires { self.now.lo + self.now.given < 2 ^ 63 }
+        ensures { result ≡ self.now.lo + self.now.given }
+    {
+        self.lo + self.given
+    }
+
+    /// Whether it stands there in what it reads.
+    pub(crate) fn stands_at(&self, end: u64) -> bool
+        ensures { result ≡ stands_at end (Some self.now) }
+    {
+        self.lo <= end && self.given == end - self.lo
+    }
+
+    /// It stands in line again, as if it had just started.
+    pub(crate) fn start_over(&mut self, now: u64)
+        ensures { self.new ≡ once_over now self.old }
+    {
+        self.place = Place::Line;
+        self.since = now;
+        self.own = None;
+        self.lo = 0;
+        self.hi = None;
+        self.due = None;
     }
 }
 

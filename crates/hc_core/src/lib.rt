@@ -2,12 +2,15 @@
 #![tactic(auto)]
 
 mod acts;
+mod begin;
 mod cache;
 mod changes;
 mod consumer;
+mod founded;
 mod rows;
-#[cfg(test)]
-mod tests;
+mod stop;
+mod stored;
 
 pub use acts::MOST_ACTS;
+pub use begin::{ContentsError, ContentsRefused};
 pub use cache::Cache;

@@ -1,30 +1,38 @@
 //! The step of the cache.
-ghost use Rattle.std.specs.Prelude.{◌≡◌, ◌+◌, ◌≤◌, ◌<◌, ◌^◌, [], ℕ, true, false, IsErr, IsOk, OnOk, OnErr};
+ghost use Rattle.std.specs.Prelude.{◌≡◌, ◌+◌, ◌≤◌, ◌<◌, ◌^◌, [], true, false, IsErr, IsOk, IfOk, OnOk, OnErr};
 ghost use Rattle.hc_event.specs.Acts.{listed, spare};
-ghost use Rattle.hc_model.specs.Entries.{Contents, History, no_contents};
+ghost use Rattle.hc_step.specs.Modest.{IsModestEvent};
+ghost use Rattle.hc_store.specs.Slots.{no_slots};
+ghost use Rattle.hc_model.specs.Entries.{no_contents};
 ghost use Rattle.hc_model.specs.Tables.{received_in};
-ghost use Rattle.hc_core.specs.Built.{IsBuilt};
 ghost use Rattle.hc_core.specs.Good.{is_refused, takes_no_memory, counted};
-ghost use Rattle.hc_core.specs.Steps.{StandsFor, Steps, has_failed, last_moment, steps, received, store_in};
+ghost use Rattle.hc_core.specs.Steps.{StandsFor, Steps, KeepsPromises, has_failed, last_moment, steps, received, store_in, limits_in};
 
 use crate::acts::MOST_ACTS;
 use crate::cache::Cache;
 use crate::rows::Rows;
+use hc_entries::Entries;
 use hc_entry::KeyTable;
 use hc_event::{Acts, Event};
 use hc_exch::Exchanges;
 use hc_rules::Limits;
+use hc_store::Backend;
 use hc_text::NoMemory;
 use std::alloc::Global;
 use std::collections::HashMap;
 
-impl<B> Cache<B> {
-    /// Stands for the empty history.
-    pub fn new(store: B, limits: Limits, alloc: Global) -> Cache<B>
-        ensures stands { StandsFor result no_contents [] }
-        ensures store { store_in result ≡ store }
+impl<B: Backend> Cache<B> {
+    /// Stands for the empty history, over an empty store that may hold so much.
+    pub fn new(store: B, limits: Limits, alloc: Global) -> Result<Cache<B>, NoMemory>
+    where
+        B: Drop,
+        requires empty { B.slots store ≡ no_slots }
+        requires limits { B.limits store ≡ limits }
+        ensures stands { IfOk result (λ cache. StandsFor cache no_contents []) }
+        ensures store { IfOk result (λ cache. store_in cache ≡ store) }
+        ensures limits { IfOk result (λ cache. limits_in cache ≡ limits) }
     {
-        Cache {
+        Ok(Cache {
             failed: false,
             last_moment: 0,
             steps: 0,
@@ -35,24 +43,30 @@ impl<B> Cache<B> {
                 consumers: HashMap::new(alloc),
                 exchanges: Exchanges::new(alloc),
                 keys: KeyTable::new(alloc),
-                store,
+                entries: Entries::new(store, limits, alloc)?,
             },
-        }
+        })
     }
 
-    /// Answers an event at a moment: its acts are appended. A denied event changes the moment and
-    /// the counts alone. Where memory is refused the acts are as before, and each later step is
-    /// refused too.
+    /// Answers an event at a moment, in seconds since 1970: its acts are appended. A denied event
+    /// changes the moment and the counts alone. Where memory is refused the acts are as before, and
+    /// each later step is refused too. No moment and no event is larger than those that a schedule
+    /// can spell.
     pub fn step(&mut self, now: u64, event: &Event, out: &mut Acts) -> Result<(), NoMemory>
         requires later { last_moment self.old ≤ now }
-        requires built { IsBuilt self.old.rows event.now }
+        requires early { now < 2 ^ 62 }
+        requires modest { IsModestEvent event.now }
         requires few { steps self.old < 2 ^ 60 }
         requires small { received self.old + received_in event.now < 2 ^ 61 }
-        ensures answered { OnOk result ((contents : Contents) (h : History)
-            → StandsFor self.old contents h
-            → Steps self.new contents h (listed out.old) (listed out.new) now event.now) }
+        ensures answered { OnOk result
+            (Steps self.old self.new (listed out.old) (listed out.new) now event.now) }
         ensures denied { OnOk result (is_refused self.old.rows event.now ≡ true
             → self.new.rows ≡ counted event.now self.old.rows) }
+        ensures promised { KeepsPromises self.new }
+        ensures moment { OnOk result (last_moment self.new ≡ now) }
+        ensures steps { OnOk result (steps self.new ≡ steps self.old + 1) }
+        ensures received { OnOk result
+            (received self.new ≡ received self.old + received_in event.now) }
         ensures err { OnErr result (has_failed self.new ≡ true) }
         ensures kept { OnErr result (listed out.new ≡ listed out.old) }
         ensures again { has_failed self.old ≡ true → IsErr result }

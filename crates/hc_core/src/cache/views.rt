@@ -5,12 +5,17 @@ ghost use Rattle.hc_model.specs.Exchanges.{is_open, is_wanted};
 ghost use Rattle.hc_rising.specs.Rising.{rises};
 ghost use Rattle.hc_exch.specs.Wishes.{is_among, itself};
 ghost use Rattle.hc_model.specs.Denials.{live};
+ghost use Rattle.hc_model.specs.Kinds.{kind_for};
+ghost use Rattle.hc_model.specs.Lines.{turn};
 ghost use Rattle.hc_model.specs.Tables.{tables};
-ghost use Rattle.hc_core.specs.Steps.{StandsFor, last_moment, steps, received, store_in};
+ghost use Rattle.hc_core.specs.Steps.{StandsFor, last_moment, steps, received, live_in, store_in};
 
 use crate::cache::Cache;
+use hc_record::Kind;
+use hc_store::Backend;
+use hc_text::Key;
 
-impl<B> Cache<B> {
+impl<B: Backend> Cache<B> {
     /// The moment of the last step, 0 before the first.
     pub fn last_moment(&self) -> u64
         ensures { result ≡ last_moment self.now }
@@ -34,7 +39,8 @@ impl<B> Cache<B> {
 
     /// How many consumers are live.
     pub fn live(&self) -> usize
-        ensures { (contents : Contents) (h : History) → StandsFor self.now contents h
+        ensures kept { result ≡ live_in self.now }
+        ensures live { (contents : Contents) (h : History) → StandsFor self.now contents h
             → result ≡ live (tables contents h) }
     {
         self.rows.consumers.len()
@@ -68,9 +74,26 @@ impl<B> Cache<B> {
         self.rows.exchanges.wanted()
     }
 
+    /// Whose turn it is for a key.
+    pub fn turn_of(&self, key: &Key) -> Option<u64>
+        ensures { (contents : Contents) (h : History) → StandsFor self.now contents h
+            → result ≡ turn (tables contents h) key.now }
+    {
+        self.rows.keys.turn(key)
+    }
+
+    /// How much is stored of what is current for a key.
+    pub fn kind_of(&self, key: &Key) -> Option<Kind>
+        ensures { (contents : Contents) (h : History) → StandsFor self.now contents h
+            → result ≡ kind_for (tables contents h) key.now }
+    {
+        let r = self.rows.keys.current(key)?;
+        Some(self.rows.entries.entry(r)?.kind)
+    }
+
     pub fn store(&self) -> &B
         ensures { result.now ≡ store_in self.now }
     {
-        &self.rows.store
+        self.rows.entries.store()
     }
 }

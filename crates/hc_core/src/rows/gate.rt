@@ -8,8 +8,9 @@ ghost use Rattle.hc_core.specs.Stands.{names_kept, open_at, gate_of};
 use crate::rows::Rows;
 use hc_event::{Event, Refusal};
 use hc_rules::{Gate, OpenExchange, refusal_of};
+use hc_store::Backend;
 
-impl<B> Rows<B> {
+impl<B: Backend> Rows<B> {
     /// Why an event is denied: the first refusal that applies, or none.
     pub(crate) fn refuses(&self, event: &Event) -> Option<Refusal>
         ensures { result ≡ refusal_of (gate_of self.now event.now) event.now }

@@ -1,32 +1,47 @@
-//! Heads of exchanges.
-ghost use Rattle.std.specs.Prelude.{◌≡◌, ◌+◌, ◌≤◌, ◌<◌, ◌^◌, ◌++◌, ◌∷◌, [], Some, None, false, true, nat_eq, is_some, IsSomeAnd, OnOk, OnErr};
+//! The head of an exchange, by its case.
+ghost use Rattle.std.specs.Prelude.{◌≡◌, ◌+◌, ◌≤◌, ◌<◌, ◌^◌, ◌&&◌, Some, None, false, true, nat_eq, is_some, IsSomeAnd, OnOk, OnErr};
 ghost use Rattle.std.specs.HashMap.{get};
 ghost use Rattle.hc_event.specs.Acts.{listed, spare};
 ghost use Rattle.hc_event.specs.declared.event.Event.TheVariants.{Head};
-ghost use Rattle.hc_event.specs.declared.act.Act.TheVariants as act;
-ghost use Rattle.hc_event.specs.declared.act.Cause.TheVariants as cause;
+ghost use Rattle.hc_rules.specs.declared.heads.HeadCase.TheVariants.{Validated};
 ghost use Rattle.hc_rules.specs.HeadCases.{head_case};
 ghost use Rattle.hc_rules.specs.Lengths.{is_bad};
 ghost use Rattle.hc_rules.specs.Refusals.{head_refusal};
+ghost use Rattle.hc_entries.specs.Entries.{shelf_of};
+ghost use Rattle.hc_entry.specs.Keys.{kept_of};
 ghost use Rattle.hc_exch.specs.declared.row.Open.{Open};
-ghost use Rattle.hc_exch.specs.Exchanges.{next_of, table_of, Becomes};
-ghost use Rattle.hc_exch.specs.Known.{is_open, closed, headed, length_by};
+ghost use Rattle.hc_exch.specs.Exchanges.{next_of, table_of};
+ghost use Rattle.hc_exch.specs.Known.{is_open, length_by};
+ghost use Rattle.hc_fields.specs.FieldList.{IsModest};
+ghost use Rattle.hc_model.specs.Cases.{is_founding};
+ghost use Rattle.hc_model.specs.Live.{most_live};
 ghost use Rattle.hc_core.specs.declared.consumer.Consumer.{Consumer};
-ghost use Rattle.hc_core.specs.Built.{IsBuiltHead};
-ghost use Rattle.hc_core.specs.Changes.{ChangesAt, put_down};
-ghost use Rattle.hc_core.specs.Heads.{head_view, answered_by, end_told, EndsInRange};
-ghost use Rattle.hc_core.specs.Stands.{Answers, StandsForSome, KeepsRest, open_at};
+ghost use Rattle.hc_core.specs.Arms.{IsInKey};
+ghost use Rattle.hc_core.specs.Founding.{MayFound};
+ghost use Rattle.hc_core.specs.Heads.{IsAskedBy, IsTimely, is_bad_case, starts_anew, aim_in, kept_at, joins_kept, heard_view, let_go_by, is_past_case, changes_by};
+ghost use Rattle.hc_core.specs.Joining.{IsAboutKept, joins_hole};
+ghost use Rattle.hc_core.specs.Stands.{Answers, AnswersCase, StandsForSome, open_at};
 
-mod direct;
-
-use crate::acts::MOST_ACTS;
-use crate::changes::{fail_with, take_answer};
 use crate::rows::Rows;
-use hc_event::{Acts, Cause, Response};
-use hc_rules::{HeadCase, HeadView, Length, head_case, is_conditional, is_storable, length_of};
+use hc_event::{Acts, Cause, Need, Response, is_safe};
+use hc_exch::Role;
+use hc_range::Span;
+use hc_rules::{
+    HeadCase, HeadView, HoleAnswer, fits_to_found, head_case, hole_answer, is_conditional,
+    is_storable, length_of,
+};
+use hc_store::Backend;
 use hc_text::NoMemory;
 
-impl<B> Rows<B> {
+/// A head that comes, and the exchange and consumer that it is for.
+#[derive(Clone, Copy)]
+pub(super) struct Heard {
+    pub(super) now: u64,
+    pub(super) x: u64,
+    pub(super) c: u64,
+}
+
+impl<B: Backend> Rows<B> {
     /// The head of an exchange, by its case.
     pub(super) fn take_head(
         &mut self,
@@ -37,42 +52,111 @@ impl<B> Rows<B> {
     ) -> Result<(), NoMemory>
         requires stands { ∥ StandsForSome self.old ∥₁ }
         requires accepted { head_refusal (open_at self.old x) ≡ None }
-        requires built { IsBuiltHead (table_of self.old.exchanges x).running response.now }
-        requires room { MOST_ACTS ≤ spare out.old }
+        requires timely { IsTimely now (table_of self.old.exchanges x).running }
+        requires modest { IsModest response.now.fields }
+        requires small { self.old.received < 2 ^ 61 }
+        requires room { most_live ≤ spare out.old }
         ensures answers { OnOk result (Answers self.old self.new (listed out.old) (listed out.new)
             now (Head x response.now)) }
         ensures next { OnOk result (next_of self.new.exchanges ≡ next_of self.old.exchanges) }
         ensures received { OnOk result (self.new.received ≡ self.old.received) }
         ensures limits { OnOk result (self.new.limits ≡ self.old.limits) }
+        ensures faults { (shelf_of self.old.entries).faults ≤ (shelf_of self.new.entries).faults }
         ensures kept { OnErr result (listed out.new ≡ listed out.old) }
     {
-        let c = self.exchanges.view(x).unwrap().c;
-        match self.case_of(x, c, response) {
-            HeadCase::DirectBad => self.refuse_past(now, x, c, response, out),
-            HeadCase::DirectTaken => self.take_past(now, x, c, response, out),
-            HeadCase::TurnBad => {
-                self.leave_line(c);
-                self.refuse(x, c, out);
+        let view = self.exchanges.view(x).unwrap();
+        let heard = Heard { now, x, c: view.c };
+        let aim = aim_of(view.role);
+        let case = self.case_of(heard, response, aim);
+        if self.dooms(case, x, response) {
+            return self.take_dooming(case, heard, response, out);
+        }
+        if let HeadCase::NotValidated = case {
+            // Whether it selects what is stored is looked at only then.
+            return self.validate(heard, response, aim, out);
+        }
+        let goes = self.let_go_by(case, x, response.status, aim);
+        self.take_case(case, heard, response, goes, out)
+    }
+
+    /// A head that dooms nothing, by its case. With it this isn't used any more.
+    fn take_case(
+        &mut self,
+        case: HeadCase,
+        heard: Heard,
+        response: &Response,
+        goes: Option<u64>,
+        out: &mut Acts,
+    ) -> Result<(), NoMemory>
+        requires stands { ∥ StandsForSome self.old ∥₁ }
+        requires live { is_some (get nat_eq self.old.consumers heard.c) ≡ true }
+        requires accepted { head_refusal (open_at self.old heard.x) ≡ None }
+        requires asker { IsAskedBy heard.c (table_of self.old.exchanges heard.x).running }
+        requires good { is_bad_case case ≡ false → is_bad
+            (length_by (table_of self.old.exchanges heard.x).running response.now) ≡ false }
+        requires waits { starts_anew case ≡ true → IsSomeAnd
+            (get nat_eq self.old.consumers heard.c) (IsInKey self.old.keys heard.c) }
+        requires timely { IsTimely heard.now (table_of self.old.exchanges heard.x).running }
+        requires selected { case ≡ Validated → ⊥ }
+        requires founds { is_founding (Some case) ≡ true → MayFound response.now }
+        requires joins { joins_hole case ≡ true → IsAboutKept (shelf_of self.old.entries)
+            (table_of self.old.exchanges heard.x).running }
+        requires small { self.old.received < 2 ^ 61 }
+        requires room { 2 ≤ spare out.old }
+        ensures answers { OnOk result (AnswersCase self.old self.new (listed out.old)
+            (listed out.new) heard.now heard.x response.now case goes) }
+        ensures next { OnOk result (next_of self.new.exchanges ≡ next_of self.old.exchanges) }
+        ensures received { OnOk result (self.new.received ≡ self.old.received) }
+        ensures limits { OnOk result (self.new.limits ≡ self.old.limits) }
+        ensures faults { (shelf_of self.old.entries).faults ≤ (shelf_of self.new.entries).faults }
+        ensures kept { OnErr result (listed out.new ≡ listed out.old) }
+    {
+        match case {
+            HeadCase::DirectBad | HeadCase::TurnBad | HeadCase::FirstBad => {
+                self.put_down(heard, response, out);
                 Ok(())
             }
-            // An answer in the turn that isn't stored goes on past the store.
-            _ => {
-                self.leave_line(c);
-                self.answer_past(now, x, c, response)
+            HeadCase::DirectTaken => self.take_past(heard, response),
+            HeadCase::TurnServerError
+            | HeadCase::PassesBy
+            | HeadCase::FirstServerError
+            | HeadCase::FirstPassesBy => self.go_past(heard, response, goes),
+            HeadCase::NotValidated | HeadCase::FirstChanged => {
+                self.start_anew(heard, response, goes, out);
+                Ok(())
             }
+            HeadCase::LaterBad => {
+                self.close_hole(heard, response, Cause::BadHead(heard.x), goes, out);
+                Ok(())
+            }
+            HeadCase::LaterChanged => {
+                self.close_hole(heard, response, Cause::Changed(heard.x), goes, out);
+                Ok(())
+            }
+            HeadCase::FoundsWhole | HeadCase::FoundsRange | HeadCase::FirstReplaced => {
+                self.found(case, heard, response, goes, out)
+            }
+            HeadCase::FirstJoins | HeadCase::LaterJoins => {
+                let role = self.exchanges.view(heard.x).unwrap().role;
+                self.join(heard, response, aim_of(role).unwrap(), out)
+            }
+            // What a 304 selects was looked at before.
+            HeadCase::Validated => unreachable!(),
         }
     }
 
-    /// The case of the head.
-    fn case_of(&self, x: u64, c: u64, response: &Response) -> HeadCase
-        requires running { is_open x (table_of self.now.exchanges) ≡ true }
-        requires live { is_some (get nat_eq self.now.consumers c) ≡ true }
-        ensures { (o : Open) (k : Consumer) → (table_of self.now.exchanges x).running ≡ Some o
-            → get nat_eq self.now.consumers c ≡ Some k
-            → result ≡ head_case (head_view o k response.now) }
+    /// The case of the head, but that a 304 isn't said to select what is stored.
+    fn case_of(&self, heard: Heard, response: &Response, aim: Option<u64>) -> HeadCase
+        requires stands { ∥ StandsForSome self.now ∥₁ }
+        requires running { is_open heard.x (table_of self.now.exchanges) ≡ true }
+        requires live { is_some (get nat_eq self.now.consumers heard.c) ≡ true }
+        ensures { (o : Open) (k : Consumer)
+            → (table_of self.now.exchanges heard.x).running ≡ Some o
+            → get nat_eq self.now.consumers heard.c ≡ Some k → result ≡ head_case
+            (heard_view o k (kept_at (shelf_of self.now.entries) aim) response.now) }
     {
-        let opening = self.exchanges.opening(x).unwrap();
-        let consumer = self.consumers.get(&c).unwrap();
+        let opening = self.exchanges.opening(heard.x).unwrap();
+        let consumer = self.consumers.get(&heard.c).unwrap();
         let (need, request) = (*opening.need, opening.request);
         head_case(&HeadView {
             need,
@@ -82,55 +166,74 @@ impl<B> Rows<B> {
             conditional: is_conditional(need, request),
             selects: false,
             storable: is_storable(request, response),
-            // Nothing is founded yet.
-            fits: false,
-            joins: false,
+            fits: fits_to_found(consumer.class.range, response),
+            joins: self.joins_hole(need, aim, response),
             lost: false,
         })
     }
 
-    /// A bad head: the exchange is closed, and its consumer is to fail.
-    fn refuse(&mut self, x: u64, c: u64, out: &mut Acts)
-        requires running { is_open x (table_of self.old.exchanges) ≡ true }
-        requires room { 1 ≤ spare out.old }
-        ensures acts { listed out.new ≡ listed out.old ++ act.Close x ∷ [] }
-        ensures closed { Becomes closed x self.old.exchanges self.new.exchanges }
-        ensures consumers { ChangesAt self.old.consumers self.new.consumers c
-            (put_down (cause.BadHead x)) }
-        ensures rest { KeepsRest self.old self.new }
+    /// The answer brings bytes of the hole of what its exchange was opened about.
+    fn joins_hole(&self, need: Need, aim: Option<u64>, response: &Response) -> bool
+        ensures { result
+            ≡ joins_kept need (kept_at (shelf_of self.now.entries) aim) response.now }
     {
-        self.close(x, out);
-        fail_with(&mut self.consumers, c, Cause::BadHead(x));
+        let (Need::Hole { from, to }, Some(r)) = (need, aim) else {
+            return false;
+        };
+        let Some(entry) = self.entries.entry(r) else {
+            return false;
+        };
+        let (Some(tag), Some(total)) = (self.entries.tag(r), entry.total) else {
+            return false;
+        };
+        let answer = hole_answer(tag, total, Span { lo: from, hi: to }, response);
+        matches!(answer, HoleAnswer::Joins)
     }
 
-    /// The consumer reads the answer of its exchange past the store.
-    fn answer_past(&mut self, now: u64, x: u64, c: u64, response: &Response) -> Result<(), NoMemory>
-        requires accepted { head_refusal (open_at self.old x) ≡ None }
-        requires good { is_bad (length_by (table_of self.old.exchanges x).running response.now)
-            ≡ false }
-        ensures exchanges { OnOk result (Becomes
-            (headed (length_by (table_of self.old.exchanges x).running response.now))
-            x self.old.exchanges self.new.exchanges) }
-        ensures consumers { OnOk result (ChangesAt self.old.consumers self.new.consumers c
-            (answered_by x response.now
-            (length_by (table_of self.old.exchanges x).running response.now))) }
-        ensures rest { OnOk result (KeepsRest self.old self.new) }
+    /// The answer to an unsafe request, even a bad one, may have changed what is stored for its key:
+    /// that is doomed (RFC 9111 section 4.4).
+    fn dooms(&self, case: HeadCase, x: u64, response: &Response) -> bool
+        requires running { is_open x (table_of self.now.exchanges) ≡ true }
+        ensures { (o : Open) → (table_of self.now.exchanges x).running ≡ Some o
+            → result ≡ (is_past_case case && changes_by o.request response.now) }
     {
-        let answer = response.copy()?;
         let opening = self.exchanges.opening(x).unwrap();
-        let length = length_of(*opening.need, opening.request, response);
-        let (lo, hi) = (length.base(), end_of(length));
-        self.exchanges.head(x, response, now)?;
-        take_answer(&mut self.consumers, c, x, answer, lo, hi);
-        Ok(())
+        match case {
+            HeadCase::DirectBad | HeadCase::DirectTaken => response.status < 400
+                && !is_safe(&opening.request.method),
+            _ => false,
+        }
+    }
+
+    /// What isn't used any more where a head is of this case, but for what is current where it
+    /// founds something else.
+    fn let_go_by(&self, case: HeadCase, x: u64, status: u16, aim: Option<u64>) -> Option<u64>
+        requires running { is_open x (table_of self.now.exchanges) ≡ true }
+        ensures { (o : Open) → (table_of self.now.exchanges x).running ≡ Some o
+            → result ≡ let_go_by (kept_of self.now.keys o.request.key).current aim status case }
+    {
+        match case {
+            HeadCase::PassesBy => {
+                let opening = self.exchanges.opening(x).unwrap();
+                self.keys.current(&opening.request.key)
+            }
+            HeadCase::NotValidated
+            | HeadCase::FirstChanged
+            | HeadCase::FirstReplaced
+            | HeadCase::FirstPassesBy => aim,
+            HeadCase::LaterChanged if status < 500 => aim,
+            _ => None,
+        }
     }
 }
 
-/// Where the body ends, where that is told.
-fn end_of(length: Length) -> Option<u64>
-    requires { EndsInRange length }
-    ensures { result ≡ end_told length }
+/// What an exchange that waits for its head was opened about.
+fn aim_of(role: Role) -> Option<u64>
+    ensures { result ≡ aim_in role }
 {
-    let promised = length.promise()?;
-    Some(length.base() + promised)
+    match role {
+        Role::Turn { aim } => aim,
+        Role::Hole { r } => Some(r),
+        _ => None,
+    }
 }

@@ -1,93 +1,219 @@
-//! What a poll does for a consumer that reads an answer past the store.
-ghost use Rattle.std.specs.Prelude.{◌≡◌, ◌+◌, ◌≤◌, ◌<◌, ◌^◌, ◌++◌, ℕ, nat_eq, length, map, true, IsSomeAnd, OnOk, OnErr};
+//! What a poll does for a consumer that reads what is stored.
+ghost use Rattle.std.specs.Prelude.{◌≡◌, ◌+◌, ◌≤◌, ◌<◌, ◌^◌, ◌++◌, nat_eq, length, true, option_map, is_some, IfOk, IfSome, IsSomeAnd, OnOk, OnErr};
+ghost use Rattle.std.specs.Option.{option_or};
 ghost use Rattle.std.specs.HashMap.{get};
 ghost use Rattle.hc_event.specs.Acts.{listed, spare};
 ghost use Rattle.hc_event.specs.declared.event.Event.TheVariants.{Poll};
-ghost use Rattle.hc_event.specs.declared.act.Act.TheVariants as act;
+ghost use Rattle.hc_entries.specs.Entries.{shelf_of};
+ghost use Rattle.hc_entries.specs.Shelf.{is_kept};
 ghost use Rattle.hc_exch.specs.Exchanges.{next_of, table_of, Becomes};
 ghost use Rattle.hc_exch.specs.Known.{is_open, asked};
 ghost use Rattle.hc_model.specs.Moves.{acts_of};
+ghost use Rattle.hc_sparse.specs.Runs.{end_of};
+ghost use Rattle.hc_store.specs.Causes.{HasCause, HasNoLimit};
 ghost use Rattle.hc_core.specs.Changes.{ChangesAt, once_given};
-ghost use Rattle.hc_core.specs.Stands.{Stays, Answers, StandsForSome, KeepsRest};
-ghost use Rattle.hc_core.specs.Arms.{IsShown, read_view, most, given, asks_or_waits, asked_in, closes_open, Leaves};
+ghost use Rattle.hc_core.specs.Leaving.{if_running, writing_of};
+ghost use Rattle.hc_core.specs.Plans.{IsModestRequest};
+ghost use Rattle.hc_core.specs.Stands.{Answers, KeepsRest, StandsForSome};
+ghost use Rattle.hc_core.specs.Arms.{most, given, asks_or_waits, asked_in};
+ghost use Rattle.hc_core.specs.Reads.{goes_alone, headless_own, held_own, IsHeard, IsRunAhead, IsShownAt, ReadViewIs, ReadsStore, run_ahead};
 
 use crate::acts::put;
 use crate::changes::count_given;
 use crate::consumer::Consumer;
 use crate::rows::Rows;
 use crate::rows::poll::wait;
-use hc_event::{Act, Acts, Cause, Wait};
+use hc_event::{Act, Acts, Wait};
 use hc_rules::{ReadStep, ReadView, read_step};
+use hc_sparse::Run;
+use hc_store::{Backend, StoreError};
 use hc_text::{Bytes, NoMemory};
 
-impl<B> Rows<B> {
-    /// A consumer reads on that was shown the head of its exchange past the store.
-    pub(super) fn read(&mut self, c: u64, x: u64, want: u32, out: &mut Acts) -> Result<(), NoMemory>
+impl<B: Backend> Rows<B> {
+    /// A consumer reads on that is bound and was shown its head.
+    pub(super) fn read_bound(
+        &mut self,
+        now: u64,
+        c: u64,
+        r: u64,
+        want: u32,
+        out: &mut Acts,
+    ) -> Result<(), NoMemory>
         requires stands { ∥ StandsForSome self.old ∥₁ }
-        requires shown { IsSomeAnd (get nat_eq self.old.consumers c) (IsShown x) }
+        requires shown { IsSomeAnd (get nat_eq self.old.consumers c) (IsShownAt r) }
+        requires modest { IsSomeAnd (get nat_eq self.old.consumers c) IsModestRequest }
         requires wants { 0 < want }
         requires small { self.old.received < 2 ^ 61 }
-        requires room { 2 ≤ spare out.old }
-        ensures answers { OnOk result ((now : ℕ)
-            → Answers self.old self.new (listed out.old) (listed out.new) now (Poll c want)) }
-        ensures next { OnOk result (next_of self.new.exchanges ≡ next_of self.old.exchanges) }
+        requires few { next_of self.old.exchanges < 2 ^ 62 }
+        requires room { 3 ≤ spare out.old }
+        ensures answers { OnOk result
+            (Answers self.old self.new (listed out.old) (listed out.new) now (Poll c want)) }
+        ensures next { OnOk result
+            (next_of self.new.exchanges ≤ next_of self.old.exchanges + 1) }
         ensures received { OnOk result (self.new.received ≡ self.old.received) }
         ensures limits { OnOk result (self.new.limits ≡ self.old.limits) }
-        ensures err { OnErr result (Stays self.old self.new) }
+        ensures faults { (shelf_of self.old.entries).faults ≤ (shelf_of self.new.entries).faults }
         ensures kept { OnErr result (listed out.new ≡ listed out.old) }
     {
         let consumer = self.consumers.get(&c).unwrap();
-        let offset = consumer.lo + consumer.given;
-        let hi = consumer.hi;
-        match read_step(&self.read_view(consumer, offset, x)) {
+        if let Some(x) = self.headless_own(consumer) {
+            wait(c, Wait::Head(x), out);
+            return Ok(());
+        }
+        let offset = consumer.offset();
+        let count = most(consumer.hi, offset, want);
+        match self.stored_ahead(r, offset, count) {
+            Ok(run) => self.read_on(now, c, r, want, run, out),
+            Err(error) => self.misread_by(now, c, r, error, out),
+        }
+    }
+
+    /// A consumer reads on that waits for no head, with what is stored ahead of it.
+    fn read_on(
+        &mut self,
+        now: u64,
+        c: u64,
+        r: u64,
+        want: u32,
+        run: Option<Run>,
+        out: &mut Acts,
+    ) -> Result<(), NoMemory>
+        requires stands { ∥ StandsForSome self.old ∥₁ }
+        requires shown { IsSomeAnd (get nat_eq self.old.consumers c) (IsShownAt r) }
+        requires modest { IsSomeAnd (get nat_eq self.old.consumers c) IsModestRequest }
+        requires heard { IsSomeAnd (get nat_eq self.old.consumers c)
+            (IsHeard (table_of self.old.exchanges)) }
+        requires run { IsSomeAnd (get nat_eq self.old.consumers c)
+            (IsRunAhead (shelf_of self.old.entries) r want run) }
+        requires wants { 0 < want }
+        requires small { self.old.received < 2 ^ 61 }
+        requires few { next_of self.old.exchanges < 2 ^ 62 }
+        requires room { 3 ≤ spare out.old }
+        ensures answers { OnOk result
+            (Answers self.old self.new (listed out.old) (listed out.new) now (Poll c want)) }
+        ensures next { OnOk result
+            (next_of self.new.exchanges ≤ next_of self.old.exchanges + 1) }
+        ensures received { OnOk result (self.new.received ≡ self.old.received) }
+        ensures limits { OnOk result (self.new.limits ≡ self.old.limits) }
+        ensures faults { (shelf_of self.old.entries).faults ≤ (shelf_of self.new.entries).faults }
+        ensures kept { OnErr result (listed out.new ≡ listed out.old) }
+    {
+        let own = self.consumers.get(&c).unwrap().own;
+        let view = self.read_view(c, r, end_of(&run));
+        match read_step(&view) {
             ReadStep::Ended => {
-                put(out, Act::Ended { c });
-                self.leave_past(c, x, out);
+                self.end_reading(now, c, out);
                 Ok(())
             }
-            ReadStep::Failed(cause) => {
-                put(out, Act::Failed { c, cause });
-                self.leave_past(c, x, out);
+            ReadStep::Stored { .. } => {
+                let run = run.unwrap();
+                self.give(c, run.x, run.at, run.bytes, out);
                 Ok(())
             }
             ReadStep::Held => {
-                let bytes = self.exchanges.take_held(x, most(hi, offset, want))?;
-                self.give(c, x, offset, bytes, out);
+                let x = own.unwrap();
+                let count = most(view.hi, view.offset, want);
+                let bytes = self.exchanges.take_held(x, count)?;
+                self.give(c, x, view.offset, bytes, out);
                 Ok(())
             }
-            ReadStep::Waits(_) => {
-                self.wait_for(c, x, out);
+            ReadStep::Failed(cause) => {
+                self.fail(now, c, cause, out);
                 Ok(())
             }
-            // Nothing is stored of such an answer, and all of it came where it is over.
-            ReadStep::Stored { .. } | ReadStep::Hole(_) => unreachable!(),
+            ReadStep::Waits(x) => {
+                self.ask(c, x, out);
+                Ok(())
+            }
+            ReadStep::Hole(hole) => self.open_later_hole(now, c, r, hole, out),
         }
     }
 
-    /// What the reading of the consumer looks at.
-    fn read_view(&self, consumer: &Consumer, offset: u64, x: u64) -> ReadView
-        ensures { result ≡ read_view (table_of self.now.exchanges x) x offset consumer.now }
+    /// The exchange of its own for whose head the consumer waits.
+    fn headless_own(&self, consumer: &Consumer) -> Option<u64>
+        ensures { result ≡ headless_own (table_of self.now.exchanges) consumer.now.own }
     {
-        let source = if self.exchanges.view(x).is_some() {
-            Some(x)
-        } else {
-            None
-        };
+        let x = consumer.own?;
+        if self.is_headless(x) { Some(x) } else { None }
+    }
+
+    /// The stored bytes of one exchange that stand from the offset on, at most so many.
+    fn stored_ahead(&mut self, r: u64, offset: u64, count: usize) -> Result<Option<Run>, StoreError>
+        requires there { is_kept (shelf_of self.old.entries) r ≡ true }
+        ensures run { IfOk result
+            (λ run. run ≡ run_ahead (shelf_of self.old.entries) r offset count) }
+        ensures same { ReadsStore self.old self.new }
+        ensures no_limit { HasNoLimit result }
+        ensures cause { HasCause (shelf_of self.old.entries).faults
+            (shelf_of self.new.entries).faults result }
+    {
+        if count == 0 {
+            return Ok(None);
+        }
+        self.entries.run_at(r, offset, count)
+    }
+
+    /// What the reading of the consumer looks at, where the stored bytes ahead end there.
+    fn read_view(&self, c: u64, r: u64, stored: Option<u64>) -> ReadView
+        requires bound { is_some (get nat_eq self.now.consumers c) ≡ true }
+        requires there { is_kept (shelf_of self.now.entries) r ≡ true }
+        requires fits { IsSomeAnd (get nat_eq self.now.consumers c)
+            (λ k. k.lo + k.given ≤ 2 ^ 62) }
+        ensures { IsSomeAnd (get nat_eq self.now.consumers c)
+            (ReadViewIs self.now r c stored result) }
+    {
+        let consumer = self.consumers.get(&c).unwrap();
+        let offset = consumer.offset();
         ReadView {
             offset,
             hi: consumer.hi,
-            stored: None,
-            held: self.exchanges.held(x) > 0,
+            stored,
+            held: self.goes_alone(c, r) && self.held_own(consumer) > 0,
             due: consumer.due,
-            source,
-            next_stored: None,
+            source: self.source(r, consumer),
+            next_stored: self.entries.next_present(r, offset),
         }
     }
 
-    /// A consumer is given these bytes of its exchange, which were held for it.
-    fn give(&mut self, c: u64, x: u64, at: u64, bytes: Bytes, out: &mut Acts)
+    /// The consumer goes on alone with the representation, which is lost.
+    fn goes_alone(&self, c: u64, r: u64) -> bool
+        ensures { result ≡ goes_alone c ((shelf_of self.now.entries).kept r) }
+    {
+        match self.entries.entry(r) {
+            Some(entry) => entry.is_lost && entry.alone == Some(c),
+            None => false,
+        }
+    }
+
+    /// How many bytes of the consumer's own exchange are held for it.
+    fn held_own(&self, consumer: &Consumer) -> usize
+        ensures { result ≡ held_own (table_of self.now.exchanges) consumer.now.own }
+    {
+        match consumer.own {
+            Some(x) => self.exchanges.held(x),
+            None => 0,
+        }
+    }
+
+    /// The open exchange that a consumer of the representation reads from: its own, or that of the
+    /// shared writing.
+    fn source(&self, r: u64, consumer: &Consumer) -> Option<u64>
+        ensures { result ≡ option_or (if_running (table_of self.now.exchanges) consumer.now.own)
+            (writing_of (table_of self.now.exchanges) ((shelf_of self.now.entries).kept r)) }
+    {
+        let own = self.if_running(consumer.own);
+        if own.is_some() {
+            return own;
+        }
+        self.writing(r)
+    }
+}
+
+impl<B: Backend> Rows<B> {
+    /// A consumer is given these bytes of an exchange.
+    pub(super) fn give(&mut self, c: u64, x: u64, at: u64, bytes: Bytes, out: &mut Acts)
         requires fits { IsSomeAnd (get nat_eq self.old.consumers c)
-            (λ k. k.given + length bytes < 2 ^ 62) }
+            (λ k. k.given + length bytes ≤ 2 ^ 62) }
         requires room { 1 ≤ spare out.old }
         ensures acts { listed out.new ≡ listed out.old ++ given c x at bytes }
         ensures consumers { ChangesAt self.old.consumers self.new.consumers c
@@ -99,9 +225,9 @@ impl<B> Rows<B> {
         put(out, Act::Given { c, x, at, bytes });
     }
 
-    /// A consumer waits for the next bytes of its exchange, which are asked for where they aren't
+    /// A consumer waits for the next bytes of an exchange, which are asked for where they aren't
     /// yet.
-    fn wait_for(&mut self, c: u64, x: u64, out: &mut Acts)
+    pub(super) fn ask(&mut self, c: u64, x: u64, out: &mut Acts)
         requires running { is_open x (table_of self.old.exchanges) ≡ true }
         requires room { 2 ≤ spare out.old }
         ensures acts { listed out.new ≡ listed out.old
@@ -117,25 +243,21 @@ impl<B> Rows<B> {
         }
         wait(c, Wait::Body(x), out);
     }
+}
 
-    /// A consumer that goes past the store is gone: its exchange is closed where it is open, and
-    /// nothing is held of it.
-    pub(super) fn leave_past(&mut self, c: u64, x: u64, out: &mut Acts)
-        requires room { 1 ≤ spare out.old }
-        ensures acts { listed out.new ≡ listed out.old
-            ++ map act.Close (closes_open x (table_of self.old.exchanges x)) }
-        ensures leaves { Leaves self.old self.new c x }
-    {
-        if self.exchanges.view(x).is_some() {
-            self.close(x, out);
-        }
-        self.exchanges.forget(x);
-        self.consumers.remove(&c);
+/// Where the stored bytes end.
+fn end_of(run: &Option<Run>) -> Option<u64>
+    requires { IfSome run.now (λ run. end_of run ≤ 2 ^ 62) }
+    ensures { result ≡ option_map end_of run.now }
+{
+    match run {
+        Some(run) => Some(run.at + run.bytes.bytes.len() as u64),
+        None => None,
     }
 }
 
 /// As many bytes as are wanted, and not past the end.
-fn most(hi: Option<u64>, offset: u64, want: u32) -> usize
+pub(super) fn most(hi: Option<u64>, offset: u64, want: u32) -> usize
     requires { offset ≤ 2 ^ 62 }
     ensures { result ≡ most hi offset want }
 {

@@ -2,6 +2,7 @@
 ghost use Rattle.std.specs.Prelude.{◌≡◌, ◌<◌, List, false, OnOk};
 ghost use Rattle.hc_event.specs.declared.event.Event.TheVariants.{Start};
 ghost use Rattle.hc_event.specs.declared.act.Act.{Act};
+ghost use Rattle.hc_entries.specs.Entries.{shelf_of};
 ghost use Rattle.hc_entry.specs.Keys.{line_of};
 ghost use Rattle.hc_entry.specs.Lines.{is_in};
 ghost use Rattle.hc_core.specs.Arms.{IsEntered, KeepsRows};
@@ -11,9 +12,10 @@ use crate::consumer::Consumer;
 use crate::rows::Rows;
 use hc_event::Request;
 use hc_rules::class_of;
+use hc_store::Backend;
 use hc_text::{Key, NoMemory};
 
-impl<B> Rows<B> {
+impl<B: Backend> Rows<B> {
     /// A consumer starts: where it waits with others, it stands in line.
     pub(super) fn start(&mut self, now: u64, c: u64, request: &Request) -> Result<(), NoMemory>
         requires stands { ∥ StandsForSome self.old ∥₁ }
@@ -23,6 +25,7 @@ impl<B> Rows<B> {
         ensures exchanges { self.new.exchanges ≡ self.old.exchanges }
         ensures received { self.new.received ≡ self.old.received }
         ensures limits { self.new.limits ≡ self.old.limits }
+        ensures faults { (shelf_of self.new.entries).faults ≡ (shelf_of self.old.entries).faults }
     {
         let consumer = Consumer::new(request.copy()?, class_of(request), now);
         let queues = consumer.queues();

@@ -1,4 +1,4 @@
-use Rattle.std.proofs.Common.{◌≡◌, ℕ, None, refl, arith, nat_eq}
+use Rattle.std.proofs.Common.{◌≡◌, ℕ, None, refl, ap, ◌∙◌, arith, nat_eq}
 use Rattle.std.specs.HashMap.{get}
 use Rattle.hc_core.proofs.Stepping.{begins_good, stands_beginning}
 use Rattle.hc_core.proofs.cache.Cache.new.Goals as goal
@@ -7,9 +7,13 @@ pub invariant_of-result : goal.invariant_of-result
 invariant_of-result g c =
     let none : (d : ℕ) → get nat_eq c.new.result d ≡ None = λ d. (let empty = c.new.ensures.empty in rw empty refl) in
     let first = c.new-2.ensures.next in
-    record { good = λ _. (∣ begins_good _ refl refl first c.new.ensures.len none c.new-2.ensures.none c.new-3.ensures ∣₁, omega (arith, first)) }
+    let entries = c.in_ok-new.ensures in
+    let limits = ap (λ z. g.B.Backend.limits z) entries.store ∙ c.requires.limits in
+    record { good = λ _. (∣ begins_good _ refl refl first c.new.ensures.len none c.new-2.ensures.none c.new-3.ensures entries.nothing entries.order limits ∣₁, omega (arith, first)) }
 
 pub returns-clause-stands : goal.returns-clause-stands
 returns-clause-stands g c =
     let none : (d : ℕ) → get nat_eq c.new.result d ≡ None = λ d. (let empty = c.new.ensures.empty in rw empty refl) in
-    stands_beginning _ refl refl refl refl c.new-2.ensures.next c.new.ensures.len none c.new-2.ensures.none c.new-3.ensures
+    let entries = c.in_ok-new.ensures in
+    let limits = ap (λ z. g.B.Backend.limits z) entries.store ∙ c.requires.limits in
+    stands_beginning _ refl refl refl refl c.new-2.ensures.next c.new.ensures.len none c.new-2.ensures.none c.new-3.ensures entries.nothing entries.order limits

@@ -3,22 +3,23 @@ use Rattle.std.specs.HashMap.{get}
 use Rattle.hc_event.specs.Acts.{listed}
 use Rattle.hc_core.specs.Arms.{IsUnshown}
 use Rattle.hc_core.proofs.Maps.{lent, known_of}
-use Rattle.hc_core.proofs.PastReads.{waits_answered, shows_answered}
-use Rattle.hc_core.proofs.Standing.{standing_of}
+use Rattle.hc_core.proofs.ReadPast.{waits_answered, shows_answered}
 use Rattle.hc_core.proofs.rows.Rows.await_answer.Goals as goal
 
 pub returns-in_default-clause-answers : goal.returns-in_default-clause-answers
 returns-in_default-clause-answers g c = λ now want t facts rows accepted.
-    let stands = standing_of c.args.self.now t facts rows in
-    let at = lent c.get.result (get nat_eq c.args.self.now.consumers c.args.c) c.unwrap-consumer.result c.get.ensures.value c.unwrap-consumer.ensures in
-    let unshown = known_of (get nat_eq c.args.self.now.consumers c.args.c) c.unwrap-consumer.result.now (IsUnshown c.args.x) at c.requires.unshown in
-    let none : c.unwrap-consumer.result.now.answer ≡ None = rw at at (sym c.show_answer.ensures.head ∙ c.in_default.is) in
-    waits_answered c.args.self.now _ t now c.args.c want c.args.x c.unwrap-consumer.result.now (listed c.args.out.now) (listed c.wait.new.out) c.args.self.now.limits stands at unshown refl refl refl refl c.show_answer.ensures.shown none c.wait.ensures.acts
+    let r = c.args.self.now in
+    let k = c.unwrap-consumer.result.now in
+    let at = lent c.get.result (get nat_eq r.consumers c.args.c) c.unwrap-consumer.result c.get.ensures.value c.unwrap-consumer.ensures in
+    let unshown = known_of (get nat_eq r.consumers c.args.c) k (IsUnshown c.args.x) at c.requires.unshown in
+    let none : k.answer ≡ None = rw at at (sym c.show_answer.ensures.head ∙ c.in_default.is) in
+    waits_answered r _ t facts now want c.args.c c.args.x k (listed c.args.out.now) (listed c.wait.new.out) rows at unshown refl refl refl refl refl refl c.show_answer.ensures.shown none c.wait.ensures.acts
 
 pub returns-clause-answers : goal.returns-clause-answers
 returns-clause-answers g c = λ now want t facts rows accepted.
-    let stands = standing_of c.args.self.now t facts rows in
-    let at = lent c.get.result (get nat_eq c.args.self.now.consumers c.args.c) c.unwrap-consumer.result c.get.ensures.value c.unwrap-consumer.ensures in
-    let unshown = known_of (get nat_eq c.args.self.now.consumers c.args.c) c.unwrap-consumer.result.now (IsUnshown c.args.x) at c.requires.unshown in
-    let some : c.unwrap-consumer.result.now.answer ≡ Some c.in-Some.head = rw at at (sym c.show_answer.ensures.head ∙ c.in-Some.is) in
-    shows_answered c.args.self.now _ t now c.args.c want c.args.x c.unwrap-consumer.result.now (listed c.args.out.now) (listed c.put.new.out) c.args.self.now.limits stands at unshown refl refl refl refl c.show_answer.ensures.shown c.in-Some.head some c.put.ensures.acts
+    let r = c.args.self.now in
+    let k = c.unwrap-consumer.result.now in
+    let at = lent c.get.result (get nat_eq r.consumers c.args.c) c.unwrap-consumer.result c.get.ensures.value c.unwrap-consumer.ensures in
+    let unshown = known_of (get nat_eq r.consumers c.args.c) k (IsUnshown c.args.x) at c.requires.unshown in
+    let some : k.answer ≡ Some c.in-Some.head = rw at at (sym c.show_answer.ensures.head ∙ c.in-Some.is) in
+    shows_answered r _ t facts now want c.args.c c.args.x k (listed c.args.out.now) (listed c.put_shown.new.out) rows at unshown refl refl refl refl refl refl c.show_answer.ensures.shown c.in-Some.head some c.put_shown.ensures

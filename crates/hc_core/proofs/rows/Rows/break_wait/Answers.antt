@@ -1,13 +1,15 @@
-use Rattle.std.proofs.Common.{nat_eq}
+use Rattle.std.proofs.Common.{nat_eq, refl, ap, sym, ◌∙◌}
 use Rattle.std.specs.HashMap.{get}
-use Rattle.hc_core.specs.Arms.{IsQueued, IsQueuedAt}
-use Rattle.hc_core.proofs.Maps.{lent, known_of, some_that}
+use Rattle.hc_event.specs.declared.act.Cause.TheVariants as cause
+use Rattle.hc_core.specs.Leaving.{LeavesPlace}
+use Rattle.hc_core.proofs.BreakArm.{stands_broken}
+use Rattle.hc_core.proofs.Words.{there}
 use Rattle.hc_core.proofs.rows.Rows.break_wait.Goals as goal
 
-pub leave_line-requires : goal.leave_line-requires
-leave_line-requires g c =
+pub returns-clause-broken : goal.returns-clause-broken
+returns-clause-broken g c = λ t w k facts stands waited.
     let r = c.args.self.now in
-    let k = c.unwrap-consumer.result.now in
-    let row = get nat_eq r.consumers c.args.c in
-    let at = lent c.get.result row c.unwrap-consumer.result c.get.ensures.value c.unwrap-consumer.ensures in
-    some_that row k (IsQueued r.keys c.args.c) at (rw c.in-Turn.is at (known_of row k (IsQueuedAt r.keys c.args.c) at c.requires))
+    let mid = c.leave_place.new.self in
+    let found = there (get nat_eq r.consumers c.args.c) (LeavesPlace r mid c.args.c) c.leave_place.ensures.place in
+    stands_broken t facts.law c.args.x c.args.c w k waited (cause.Net c.args.x) r mid (record mid { consumers = c.fail_with.new.consumers }) _ found.0 stands found.1 found.2
+    refl refl refl refl refl refl c.fail_with.ensures refl refl refl refl refl refl c.close.ensures

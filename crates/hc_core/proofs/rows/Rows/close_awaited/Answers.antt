@@ -1,10 +1,17 @@
-use Rattle.std.proofs.Common.{Some, None, ap, ◌∙◌}
+use Rattle.std.proofs.Common.{Some, None, refl, ap, ◌∙◌, arith}
 use Rattle.hc_exch.specs.Known.{Known}
 use Rattle.std.specs.Prelude.{is_some}
 use Rattle.hc_event.specs.Acts.{listed, spare}
 use Rattle.hc_core.specs.Dooms.{behind}
-use Rattle.hc_core.proofs.DoomLoops.{known_yet, fits_yet, one_closed, all_closed, next_as}
+use Rattle.hc_core.proofs.DoomLoops.{none_closed, known_yet, fits_yet, one_closed, all_closed, next_as}
 use Rattle.hc_core.proofs.rows.Rows.close_awaited.Goals as goal
+
+pub loop-x-init : goal.loop-x-init
+loop-x-init g c = record {
+  closed = none_closed c.args.self.now c.args.key.now c.args.refused (listed c.args.out.now) (spare c.args.out.now);
+  consumers = refl;
+  rest = record { limits = refl; last_start = refl; received = refl; keys = refl; entries = refl };
+}
 
 pub close-requires-clause-running : goal.close-requires-clause-running
 close-requires-clause-running g c =
@@ -19,7 +26,7 @@ close-requires-clause-room g c =
     let r = c.args.self.now in
     let i = c.loop-x.invariant in
     let next = next_as r c.loop-x.self c.args.key.now c.args.refused (behind c.loop-x.last) (Some c.in-Some.x) i.consumers i.rest.keys c.in-Some.ensures in
-    fits_yet r c.loop-x.self.exchanges c.args.key.now c.args.refused (listed c.args.out.now) (listed c.loop-x.out) (spare c.args.out.now) (spare c.loop-x.out) (behind c.loop-x.last) c.in-Some.x i.closed next 1024 c.requires.few c.requires.room
+    fits_yet r c.loop-x.self.exchanges c.args.key.now c.args.refused (listed c.args.out.now) (listed c.loop-x.out) (spare c.args.out.now) (spare c.loop-x.out) (behind c.loop-x.last) c.in-Some.x i.closed next (spare c.args.out.now) c.requires.few (omega arith)
 
 pub loop-x-preserved : goal.loop-x-preserved
 loop-x-preserved g c =
@@ -36,6 +43,7 @@ loop-x-preserved g c =
         last_start = step.rest.last_start ∙ i.rest.last_start;
         received = step.rest.received ∙ i.rest.received;
         keys = step.rest.keys ∙ i.rest.keys;
+        entries = step.rest.entries ∙ i.rest.entries;
       };
     }
 

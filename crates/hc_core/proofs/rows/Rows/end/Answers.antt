@@ -1,36 +1,28 @@
-use Rattle.std.proofs.Common.{ap, sym, ◌∙◌, arith}
+use Rattle.std.proofs.Common.{◌≡◌, ◌⊎◌, inl, inr, nat_eq, length, true, Some, refl, ap, sym, ◌∙◌, subst}
+use Rattle.hc_event.specs.Acts.{listed}
+use Rattle.hc_event.specs.declared.act.Cause.{Cause}
 use Rattle.hc_event.specs.declared.act.Cause.TheVariants as cause
-use Rattle.hc_exch.specs.Exchanges.{table_of}
-use Rattle.hc_exch.specs.Known as known
-use Rattle.hc_core.specs.Changes.{with_due, with_end}
-use Rattle.hc_core.proofs.Hearing.{hears_of}
-use Rattle.hc_core.proofs.EndArms.{end_short, end_full, end_known}
-use Rattle.hc_core.proofs.Words.{false_true}
-use Rattle.hc_core.proofs.Maps.{changes_as}
-use Rattle.hc_core.proofs.Opens.{sees_of, headed_of, same_becomes}
-use Rattle.hc_core.proofs.rows.Rows.end.Goals.{in-Some, in-Some+else-got-promised, in-None}
-use Rattle.hc_core.proofs.Standing.{standing_of}
+use Rattle.hc_entries.specs.Entries.{shelf_of}
+use Rattle.hc_model.specs.Exchanges.{promised}
+use Rattle.hc_model.proofs.StopFrames.{end_of}
+use Rattle.hc_core.specs.Stopped.{BrokeOff}
+use Rattle.hc_core.proofs.OpenViews.{viewed, is_broken}
+use Rattle.hc_core.proofs.ShortAnswers.{short_answered}
 use Rattle.hc_core.proofs.rows.Rows.end.Goals as goal
 
-pub returns-clause-answers : goal.returns-clause-answers
-returns-clause-answers g c = λ now before t facts rows accepted.
-    let stands = standing_of c.args.self.now t facts rows in
+pub returns-in-Some-clause-answers : goal.returns-in-Some-clause-answers
+returns-in-Some-clause-answers g c = λ t facts stands accepts.
     let r = c.args.self.now in
-    let running = (table_of r.exchanges c.args.x).running in
-    let sees = sees_of c.args.x running c.view.result c.unwrap-view.result c.view.ensures c.unwrap-view.ensures in
-    let o = sees.row in
-    let headed = headed_of running o sees.running c.requires.accepted in
-    let hears = hears_of r t c.args.x o stands sees.running (λ off. false_true (sym off ∙ headed)) in
-    let count = ap (λ v. v.delivered) sees.is in
-    let promise = ap (λ v. v.promised) sees.is in
-    let same_c = ap (λ v. v.c) sees.is in
-    elim c.match-view.branch [
-      | in-Some w ↦ (let lt = w.if-got-promised.true in end_short r _ t now c.args.x o stands hears sees.running headed (ap (λ z. z.received) w.self-is) (ap (λ z. z.last_start) w.self-is) (ap (λ z. z.keys) w.self-is)
-          (same_becomes known.closed c.args.x r.exchanges c.match-view.self.exchanges c.close.new.self (ap (λ z. z.exchanges) w.self-is) c.close.ensures) w.in-Some.promised r.limits before (sym promise ∙ w.in-Some.is) (omega (arith, lt, count))
-          (changes_as r.consumers w.make_due.new.consumers c.match-view.self.consumers c.unwrap-view.result.c o.c _ _ (ap (λ z. z.consumers) w.self-is) same_c (ap (λ n. with_due (cause.Short c.args.x n w.in-Some.promised)) count) w.make_due.ensures))
-      | in-Some+else-got-promised w ↦ (let off = w.if-got-promised.false in end_full r _ t now c.args.x o stands hears sees.running headed (ap (λ z. z.received) w.self-is) (ap (λ z. z.last_start) w.self-is) (ap (λ z. z.keys) w.self-is)
-          (same_becomes known.closed c.args.x r.exchanges c.match-view.self.exchanges c.close.new.self (ap (λ z. z.exchanges) w.self-is) c.close.ensures) w.in-Some.promised r.limits before (sym promise ∙ w.in-Some.is) (omega (arith, off, count)) (ap (λ z. z.consumers) w.self-is))
-      | in-None w ↦ end_known r _ t now c.args.x o stands hears sees.running headed (ap (λ z. z.received) w.self-is) (ap (λ z. z.last_start) w.self-is) (ap (λ z. z.keys) w.self-is)
-          (same_becomes known.closed c.args.x r.exchanges c.match-view.self.exchanges c.close.new.self (ap (λ z. z.exchanges) w.self-is) c.close.ensures) r.limits before (sym promise ∙ w.in-None.is)
-          (changes_as r.consumers w.know_end.new.consumers c.match-view.self.consumers c.unwrap-view.result.c o.c _ _ (ap (λ z. z.consumers) w.self-is) same_c (ap with_end count) w.know_end.ensures)
-    ]
+    let x = c.args.x in
+    let view = c.unwrap-view.result in
+    let p = c.in-Some.promised in
+    let seen = viewed r t x c.view.result view stands c.view.ensures c.unwrap-view.ensures in
+    let promises : promised seen.w ≡ Some p = sym seen.promised_is ∙ c.in-Some.is in
+    let broken = is_broken r t stands facts.law x view seen (inl (seen.headed ∙ (end_of t x seen.w seen.row accepts).headed)) in
+    short_answered r.limits (shelf_of r.entries).faults _ t facts c.args.now x seen.w broken p promises accepts (listed c.args.out.now) (listed c.break_off.new.out)
+    (subst (λ n. BrokeOff (shelf_of r.entries).faults c.break_off.new.self t (listed c.args.out.now) (listed c.break_off.new.out) c.args.now x seen.w (cause.Short x n p)) seen.delivered (c.break_off.ensures.broken t seen.w facts stands broken))
+
+pub returns-in-None-clause-answers : goal.returns-in-None-clause-answers
+returns-in-None-clause-answers g c = λ t facts stands accepts.
+    let seen = viewed c.args.self.now t c.args.x c.view.result c.unwrap-view.result stands c.view.ensures c.unwrap-view.ensures in
+    c.end_whole.ensures.answers t facts stands accepts (record { w = seen.w; row = seen.row; untold = sym seen.promised_is ∙ c.in-None.is })

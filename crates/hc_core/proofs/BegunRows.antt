@@ -1,0 +1,249 @@
+-- The rows stand for what a store begins with, item by item.
+use Rattle.std.proofs.Common.{◌≡◌, ◌⊎◌, inl, inr, ℕ, ◌+◌, ◌-◌, ◌<◌, ◌≤◌, max, List, [], ◌∷◌, ◌++◌, length, Bool, true, false, cond, eqb, Option, Some, None, refl, ap, sym, ◌∙◌, subst, arith}
+use Rattle.std.specs.Prelude.{is_some, nat_eq, filter, find, map, reverse, bytes_eq, option_map, ◌==◌, ◌&&◌, not, if◌then◌else◌}
+use Rattle.std.specs.Option.{option_or}
+use Rattle.std.specs.HashMap.{get, hash_map_len}
+use Rattle.std.proofs.lemmas.Bool.{cases_Bool, eqb-true}
+use Rattle.std.proofs.lemmas.Bool.Decides.{nat_tests}
+use Rattle.std.proofs.lemmas.List.{map-append, reverse-append}
+use Rattle.std.proofs.lemmas.List.Folds.{find-append}
+use Rattle.hc_store.specs.declared.backend.Backend.{Ghosts}
+use Rattle.hc_sparse.specs.Runs.{cells_of}
+use Rattle.hc_record.specs.declared.kind.Kind.TheVariants as kind
+use Rattle.hc_entries.specs.Begun as entries
+use Rattle.hc_entries.specs.Begun.{with_runs}
+use Rattle.hc_entries.specs.Entries.{shelf_of}
+use Rattle.hc_entries.specs.Kept.{Kept}
+use Rattle.hc_entries.specs.Shelf.{Shelf}
+use Rattle.hc_entry.specs.Kept.{with_current, nothing}
+use Rattle.hc_entry.specs.Kept as lines
+use Rattle.hc_entry.specs.Keys.{kept_of}
+use Rattle.hc_exch.specs.Exchanges.{table_of, next_of}
+use Rattle.hc_exch.specs.Known.{unknown}
+use Rattle.hc_exch.specs.declared.row.Open.{Open}
+use Rattle.hc_model.specs.Beginnings.{ascend_from, is_kind_right}
+use Rattle.hc_model.specs.Currents.{current, is_usable}
+use Rattle.hc_model.specs.Entries.{Content, Contents}
+use Rattle.hc_model.specs.Kinds.{kind_of}
+use Rattle.hc_model.specs.Reading.{bound}
+use Rattle.hc_model.specs.Rows.{Tables, Representation}
+use Rattle.hc_model.specs.Tables.{begun, loaded, numbers, last_end}
+use Rattle.hc_core.specs.declared.rows.Rows.{Rows}
+use Rattle.hc_core.specs.Begins.{with_items, kept_item, KeepsItem}
+use Rattle.hc_core.specs.declared.consumer.Consumer.{Consumer}
+use Rattle.hc_core.specs.Kept.{KeepsConsumer, KeepsExchange, KeepsRunning}
+use Rattle.hc_core.specs.Lines.{KeepsKey}
+use Rattle.hc_core.specs.Stands.{RowsStand}
+use Rattle.hc_core.specs.Stored.{IsEntry, KeepsEntry, KeepsEntries, TellsLength, is_usable_row}
+use Rattle.hc_core.specs.Stored as stored
+use Rattle.hc_core.proofs.BegunRuns.{runs_cells, runs_reach, runs_rest, kind_begun, whole_begun}
+use Rattle.hc_core.proofs.Words.{eqb-same, false_true, none_some}
+
+-- BEFORE THE FIRST
+
+pub stands_before : {B : Type 0} {g : Ghosts B} (r : Rows B g) (contents : Contents) → r.last_start ≡ contents.last_consumer → r.received ≡ 0 → next_of r.exchanges ≡ contents.next_exchange → 0 < contents.next_exchange → hash_map_len r.consumers ≡ 0
+    → ((c : ℕ) → get nat_eq r.consumers c ≡ None) → ((x : ℕ) → table_of r.exchanges x ≡ unknown) → ((key : List ℕ) → kept_of r.keys key ≡ nothing) → ((q : ℕ) → (shelf_of r.entries).kept q ≡ None) → (shelf_of r.entries).order ≡ []
+    → (shelf_of r.entries).limits ≡ r.limits → RowsStand r (begun (with_items [] contents))
+unfolding current
+stands_before r contents last received next some count none unopened unawaited unkept order limits = record {
+  limits = limits;
+  entries = record { each = λ q. rw (unkept q) tt; order = order };
+  received = received;
+  last_start = last;
+  next = omega (arith, next);
+  count = count;
+  consumers = λ c. rw (none c) refl;
+  exchanges = λ x. record { running = rw (unopened x) refl; held = ap (λ z. z.held) (unopened x) };
+  keys = λ key. rw (unawaited key) (record { current = refl; in_line = λ c. refl; passed = λ c. refl; away = λ c. refl; holder = λ c. refl });
+}
+
+-- NUMBERS
+
+-- none of them is this one
+AllOff : ℕ → List ℕ → Type 0
+AllOff n [] = Unit {0}
+AllOff n (q ∷ qs) = (eqb n q ≡ false) × AllOff n qs
+
+off_both : (n : ℕ) (xs ys : List ℕ) → AllOff n xs → AllOff n ys → AllOff n (xs ++ ys)
+unfolding AllOff
+off_both n [] ys a b = b
+off_both n (x ∷ xs) ys a b = (a.0, off_both n xs ys a.1 b)
+
+off_reverse : (n : ℕ) (xs : List ℕ) → AllOff n xs → AllOff n (reverse xs)
+unfolding AllOff
+off_reverse n [] off = tt
+off_reverse n (x ∷ xs) off = subst (AllOff n) (sym (reverse-append (x ∷ []) xs)) (off_both n (reverse xs) (x ∷ []) (off_reverse n xs off.1) (off.0, tt))
+
+-- none has the number that isn't found
+off_found : (n : ℕ) (items : List Content) → find (λ (o : Content). o.r == n) items ≡ None → AllOff n (numbers items)
+unfolding AllOff
+off_found n [] none = tt
+off_found n (item ∷ items) none = elim (cases_Bool (item.r == n)) [
+  | inl here ↦ none_some item (sym (rw here at none))
+  | inr other ↦ (let test : nat_eq item.r n ≡ false = other in grind (arith, nat_tests), off_found n items (rw other at none))
+]
+
+filter_same : (n : ℕ) (f h : ℕ → Bool) (qs : List ℕ) → AllOff n qs → ((q : ℕ) → eqb n q ≡ false → f q ≡ h q) → filter f qs ≡ filter h qs
+unfolding AllOff
+filter_same n f h [] off same = refl
+filter_same n f h (q ∷ qs) off same = rw (same q off.0, filter_same n f h qs off.1 same) refl
+
+find_same : (n : ℕ) (f h : ℕ → Bool) (qs : List ℕ) → AllOff n qs → ((q : ℕ) → eqb n q ≡ false → f q ≡ h q) → find f qs ≡ find h qs
+unfolding AllOff
+find_same n f h [] off same = refl
+find_same n f h (q ∷ qs) off same = rw (same q off.0, find_same n f h qs off.1 same) refl
+
+or_none : {A : Type 0} (o : Option A) → option_or o None ≡ o
+or_none None = refl
+or_none (Some a) = refl
+
+-- ONE MORE
+
+module _ {B : Type 0} {g : Ghosts B} (r u : Rows B g) (contents : Contents) (items : List Content) (item : Content) (ascends : ascend_from 0 0 item.runs ≡ true) (right : is_kind_right item item.head.total ≡ true)
+    (new : find (λ (other : Content). other.r == item.r) items ≡ None) (keeps : KeepsItem r u item) (stands : RowsStand r (begun (with_items items contents))) where
+  abbrev more : List Content
+  more = items ++ item ∷ []
+
+  abbrev t : Tables
+  t = begun (with_items items contents)
+
+  abbrev s : Tables
+  s = begun (with_items more contents)
+
+  -- ROWS
+
+  row_new : s.representation item.r ≡ Some (loaded item)
+  row_new =
+      let self : (item.r == item.r) ≡ true = eqb-same item.r in
+      let found : find (λ (o : Content). o.r == item.r) more ≡ Some item = find-append (λ (o : Content). o.r == item.r) items (item ∷ []) ∙ rw (new, self) refl in
+      ap (option_map loaded) found
+
+  row_old : (q : ℕ) → eqb item.r q ≡ false → s.representation q ≡ t.representation q
+  row_old q other =
+      let off : (item.r == q) ≡ false = other in
+      let same : find (λ (o : Content). o.r == q) more ≡ find (λ (o : Content). o.r == q) items = find-append (λ (o : Content). o.r == q) items (item ∷ []) ∙ rw off (or_none (find (λ (o : Content). o.r == q) items)) in
+      ap (option_map loaded) same
+
+  -- WHAT IS KEPT
+
+  rest : kept_item item ≡ record (entries.begun item.key item.head) { cells = (kept_item item).cells; reach = (kept_item item).reach }
+  rest = runs_rest item.runs (entries.begun item.key item.head)
+
+  entry_new : IsEntry s item.r (kept_item item) (loaded item)
+  unfolding bound
+  entry_new = record {
+    used = λ gone. false_true gone;
+    key = ap (λ (k : Kept). k.key) rest;
+    head = ap (λ (k : Kept). record k.head { kind = kind.Growing; total = item.head.total }) rest;
+    length = stored.told (ap (λ (k : Kept). k.head.total) rest);
+    kind = λ fresh. ap (λ (k : Kept). k.head.kind) rest ∙ sym (kind_begun item ascends right (with_items more contents) item.r);
+    whole = λ n is total. whole_begun item ascends right n (sym (ap (λ (k : Kept). k.head.kind) rest) ∙ is) (sym (ap (λ (k : Kept). k.head.total) rest) ∙ total);
+    cells = λ p. runs_cells 0 0 p item.runs (entries.begun item.key item.head) ascends ∙ or_none (cells_of item.runs p);
+    reach = λ held. runs_reach item.runs (entries.begun item.key item.head) ∙ none_first (last_end item.runs);
+    bound = λ c. rw rest refl;
+    first = λ c. rw rest refl;
+    writer = ap (λ (k : Kept). k.writer) rest;
+    is_lost = ap (λ (k : Kept). k.is_lost) rest;
+    alone = ap (λ (k : Kept). k.alone) rest;
+    is_gone = ap (λ (k : Kept). k.is_gone) rest;
+  }
+    where
+      none_first : (n : ℕ) → max 0 n ≡ n
+      none_first n = omega arith
+
+  entry_old : (q : ℕ) (k : Kept) (v : Representation) → IsEntry t q k v → IsEntry s q k v
+  unfolding bound kind_of
+  entry_old q k v e = record {
+    used = e.used;
+    key = e.key;
+    head = e.head;
+    length = e.length;
+    kind = e.kind;
+    whole = e.whole;
+    cells = e.cells;
+    reach = e.reach;
+    bound = e.bound;
+    first = e.first;
+    writer = e.writer;
+    is_lost = e.is_lost;
+    alone = e.alone;
+    is_gone = e.is_gone;
+  }
+
+  keeps_old : (q : ℕ) (k : Option Kept) (v : Option Representation) → KeepsEntry t q k v → KeepsEntry s q k v
+  unfolding bound
+  keeps_old q None None e = e
+  keeps_old q None (Some v) e = record { gone = e.gone; unused = e.unused }
+  keeps_old q (Some k) None e = e
+  keeps_old q (Some k) (Some v) e = entry_old q k v e
+
+  abbrev kept_now : ℕ → Option Kept
+  kept_now = (shelf_of u.entries).kept
+
+  each : (q : ℕ) → KeepsEntry s q (kept_now q) (s.representation q)
+  each q = elim (cases_Bool (eqb item.r q)) [
+    | inl here ↦
+        let same : item.r ≡ q = eqb-true item.r q here in
+        subst (λ (n : ℕ). KeepsEntry s n (kept_now n) (s.representation n)) same (rw (keeps.entries.kept item.r, eqb-same item.r, row_new) entry_new)
+    | inr other ↦
+        rw (keeps.entries.kept q, other, row_old q other) (keeps_old q ((shelf_of r.entries).kept q) (t.representation q) (stands.entries.each q))
+  ]
+
+  -- THE ORDER
+
+  listed : reverse (numbers more) ≡ item.r ∷ reverse (numbers items)
+  listed = ap reverse (map-append (λ (o : Content). o.r) items (item ∷ [])) ∙ reverse-append (numbers items) (item.r ∷ [])
+
+  off : AllOff item.r (reverse (numbers items))
+  off = off_reverse item.r (numbers items) (off_found item.r items new)
+
+  order : (shelf_of u.entries).order ≡ filter (λ q. is_usable_row (s.representation q)) s.used
+  order =
+      let first : is_usable_row (s.representation item.r) ≡ true = ap is_usable_row row_new in
+      let same : filter (λ q. is_usable_row (s.representation q)) (reverse (numbers items)) ≡ filter (λ q. is_usable_row (t.representation q)) (reverse (numbers items)) = filter_same item.r _ _ (reverse (numbers items)) off (λ q other. ap is_usable_row (row_old q other)) in
+      keeps.entries.order ∙ (ap (λ (qs : List ℕ). item.r ∷ qs) (stands.entries.order ∙ sym same) ∙ sym (ap (filter (λ q. is_usable_row (s.representation q))) listed ∙ rw first refl))
+
+  -- BY KEY
+
+  current_now : (key : List ℕ) → current s key ≡ (if bytes_eq item.key key then Some item.r else current t key)
+  unfolding current
+  current_now key =
+      let first : is_usable key (s.representation item.r) ≡ (bytes_eq item.key key && true) = ap (is_usable key) row_new in
+      let same : find (λ q. is_usable key (s.representation q)) (reverse (numbers items)) ≡ find (λ q. is_usable key (t.representation q)) (reverse (numbers items)) = find_same item.r _ _ (reverse (numbers items)) off (λ q other. ap (is_usable key) (row_old q other)) in
+      ap (find (λ q. is_usable key (s.representation q))) listed ∙ (rw (first, same) (by_key (bytes_eq item.key key) _))
+    where
+      by_key : (b : Bool) (o : Option ℕ) → cond (b && true) (Some item.r) o ≡ cond b (Some item.r) o
+      by_key true o = refl
+      by_key false o = refl
+
+  key_now : (key : List ℕ) → KeepsKey s key (kept_of u.keys key)
+  key_now key = rw (keeps.keys key) (by_key (bytes_eq item.key key) (current_now key))
+    where
+      by_key : (b : Bool) → current s key ≡ cond b (Some item.r) (current t key) → KeepsKey s key (cond b (with_current (Some item.r) (kept_of r.keys item.key)) (kept_of r.keys key))
+      by_key true is = let k = stands.keys item.key in record { current = sym is; in_line = k.in_line; passed = k.passed; away = k.away; holder = k.holder }
+      by_key false is = let k = stands.keys key in record { current = k.current ∙ sym is; in_line = k.in_line; passed = k.passed; away = k.away; holder = k.holder }
+
+  -- One item more is kept.
+  pub stands_more : RowsStand u (begun (with_items (items ++ item ∷ []) contents))
+  stands_more = record {
+    limits = keeps.entries.limits ∙ (stands.limits ∙ sym keeps.limits);
+    received = keeps.received ∙ stands.received;
+    last_start = keeps.last_start ∙ stands.last_start;
+    next = ap next_of keeps.exchanges ∙ stands.next;
+    count = ap hash_map_len keeps.consumers ∙ stands.count;
+    consumers = λ c. subst (λ cs. KeepsConsumer s (get nat_eq cs c) None) (sym keeps.consumers) (consumer_old (get nat_eq r.consumers c) (stands.consumers c));
+    exchanges = λ x. subst (λ xs. KeepsExchange s x (table_of xs x)) (sym keeps.exchanges) (exchange_old x);
+    keys = key_now;
+    entries = record { each = each; order = order };
+  }
+    where
+      consumer_old : (k : Option Consumer) → KeepsConsumer t k None → KeepsConsumer s k None
+      consumer_old None e = e
+      consumer_old (Some k) e = e
+
+      running_old : (x : ℕ) (o : Option Open) → KeepsRunning t x o None → KeepsRunning s x o None
+      running_old x None e = e
+      running_old x (Some o) e = e
+
+      exchange_old : (x : ℕ) → KeepsExchange s x (table_of r.exchanges x)
+      exchange_old x = let e = stands.exchanges x in record { running = running_old x (table_of r.exchanges x).running e.running; held = e.held }

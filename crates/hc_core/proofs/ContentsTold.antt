@@ -1,0 +1,219 @@
+-- What is told of all idle ones is the contents of each run that the cache stands for.
+use Rattle.std.proofs.Common.{◌≡◌, inl, inr, ℕ, zero, suc, get_or, ◌+◌, ◌-◌, ◌<◌, ◌≤◌, ◌^◌, List, [], ◌∷◌, ◌++◌, take, map, Bool, true, false, Option, Some, None, refl, ap, sym, ◌∙◌, subst, arith}
+use Rattle.std.specs.Prelude.{is_some, option_map, filter, filter_map, reverse, ◌==◌, ◌&&◌, length}
+use Rattle.std.proofs.lemmas.Bool.{cases_Bool}
+use Rattle.hc_store.specs.declared.backend.Backend.{Ghosts}
+use Rattle.hc_sparse.specs.Cells.{Cells, EndsBy}
+use Rattle.hc_record.specs.declared.kind.Kind.TheVariants as kind
+use Rattle.hc_record.specs.Head.{Head, sealed_head}
+use Rattle.hc_rules.specs.declared.room.Limits.{Limits}
+use Rattle.hc_entries.specs.Entries.{shelf_of}
+use Rattle.hc_entries.specs.Kept.{Kept}
+use Rattle.hc_entries.specs.Shelf as shelves
+use Rattle.hc_entries.specs.Shelf.{Shelf, Stays, idle, cells_at, cells_in}
+use Rattle.hc_entries.specs.Views.{key_in}
+use Rattle.hc_model.specs.Contents.{content_of, content_at, contents_of, idle_now, is_idle, runs_from}
+use Rattle.hc_model.specs.Currents.{current, is_current}
+use Rattle.hc_model.specs.Entries.{Content, Contents, History}
+use Rattle.hc_model.specs.Kinds.{kind_of}
+use Rattle.hc_model.specs.LettingGo.{MayLetGo}
+use Rattle.hc_model.specs.Reading.{bound}
+use Rattle.hc_model.specs.Rows.{Tables, Representation}
+use Rattle.hc_model.specs.Sound.{IsStored}
+use Rattle.hc_model.specs.Tables.{tables}
+use Rattle.hc_model.proofs.Basics.{and_left, number_is, same_functions}
+use Rattle.hc_model.proofs.LettingGo.{may_let_go}
+use Rattle.hc_model.proofs.PollKeeps.{current_stays}
+use Rattle.hc_exch.specs.Exchanges.{next_of}
+use Rattle.hc_contents.specs.declared.contents.Contents as coded_all
+use Rattle.hc_contents.specs.Told.{told, told_item}
+use Rattle.hc_core.specs.declared.cache.Cache.{Cache}
+use Rattle.hc_core.specs.declared.rows.Rows.{Rows}
+use Rattle.hc_core.specs.Facts.{Facts}
+use Rattle.hc_core.specs.Good.{StandsUntil}
+use Rattle.hc_core.specs.Remains.{TellsOne, TellsAll}
+use Rattle.hc_core.specs.Stands.{RowsStand}
+use Rattle.hc_core.specs.Steps.{StandsFor}
+use Rattle.hc_core.specs.Stored.{IsEntry, KeepsEntry, TellsLength}
+use Rattle.hc_core.specs.Stored as stored
+use Rattle.hc_core.proofs.ReaderSteps.{stands_read}
+use Rattle.hc_core.proofs.Rooms.{idle_is}
+use Rattle.hc_core.proofs.Standing.{facts_of_runs}
+use Rattle.hc_core.proofs.Words.{false_true, none_some, some_is}
+
+-- WHAT STAYS
+
+pub stays_then : (a m u : Shelf) → Stays a m → Stays m u → Stays a u
+stays_then a m u first later = record {
+  kept = λ q. later.kept q ∙ first.kept q;
+  order = later.order ∙ first.order;
+  used = later.used ∙ first.used;
+  limits = later.limits ∙ first.limits;
+}
+
+pub stays_itself : (a : Shelf) → Stays a a
+stays_itself a = record { kept = λ q. refl; order = refl; used = refl; limits = refl }
+
+pub stays_back : (a u : Shelf) → Stays a u → Stays u a
+stays_back a u stays = record { kept = λ q. sym (stays.kept q); order = sym stays.order; used = sym stays.used; limits = sym stays.limits }
+
+pub cells_same : (a u : Shelf) (r : ℕ) → Stays a u → cells_at u r ≡ cells_at a r
+cells_same a u r stays = same_functions (cells_at u r) (cells_at a r) (λ p. ap (λ (o : Option Kept). cells_in o p) (stays.kept r))
+
+-- ONE
+
+told_length : (k : Kept) (v : Representation) → v.is_gone ≡ false → TellsLength k v → k.head.total ≡ v.head.total
+told_length k v fresh (stored.told is) = is
+told_length k v fresh (stored.untold u) = false_true (sym fresh ∙ u.gone)
+
+-- not lost as long as it isn't gone
+stored_ends : (v : Representation) → v.is_gone ≡ false → IsStored v → EndsBy v.reach v.stored
+stored_ends v fresh s p le = elim (cases_Bool v.is_lost) [
+  | inl lost ↦ false_true (sym fresh ∙ s.lost_is_gone lost)
+  | inr held ↦ s.all_stored held p ∙ s.ends p le
+]
+
+module _ (t : Tables) (s : Shelf) (q : ℕ) (k : Kept) (v : Representation) (item : Content) (kept : s.kept q ≡ Some k) (e : IsEntry t q k v) (fresh : v.is_gone ≡ false) (ends : EndsBy v.reach v.stored) (one : TellsOne s q item) where
+  key_is : v.key ≡ item.key
+  key_is = sym e.key ∙ some_is k.key item.key (sym (ap (option_map key_in) kept) ∙ one.key)
+
+  kept_head : k.head ≡ item.head
+  kept_head = some_is k.head item.head (sym (ap (option_map (λ (z : Kept). z.head)) kept) ∙ one.head)
+
+  sealed_is : sealed_head (kind_of t q v) v.head.total k.head ≡ k.head
+  sealed_is = λ i. record k.head { kind = (sym (e.kind fresh)) i; total = (sym (told_length k v fresh e.length)) i }
+
+  head_is : sealed_head (kind_of t q v) v.head.total v.head ≡ item.head
+  head_is = ap (λ (h : Head). sealed_head (kind_of t q v) v.head.total h) (sym e.head) ∙ (sealed_is ∙ kept_head)
+
+  cells_are : (p : ℕ) → cells_at s q p ≡ v.stored p
+  cells_are p = ap (λ (o : Option Kept). cells_in o p) kept ∙ e.cells p
+
+  runs_are : runs_from v.stored 0 v.reach ≡ item.runs
+  runs_are =
+      ap (λ (f : Cells). runs_from f 0 v.reach) (sym (same_functions (cells_at s q) v.stored cells_are))
+      ∙ sym (one.runs v.reach (λ p le. cells_are p ∙ ends p le))
+
+  pub content_is : content_of t q v ≡ item
+  content_is = λ i. record { key = key_is i; r = (sym one.number) i; head = head_is i; runs = runs_are i }
+
+-- ALL
+
+module _ {B : Type 0} {g : Ghosts B} (r : Rows B g) (t : Tables) (limits : Limits) (facts : Facts limits t) (stands : RowsStand r t) where
+  abbrev shelf : Shelf
+  shelf = shelf_of r.entries
+
+  at_one : (q : ℕ) (item : Content) (z : Option Representation) → t.representation q ≡ z → is_idle t q z ≡ true → TellsOne shelf q item → option_map (content_of t q) z ≡ Some item
+  at_one q item None row passes one = false_true passes
+  at_one q item (Some v) row passes one = by_kept (shelf.kept q) refl (subst (KeepsEntry t q (shelf.kept q)) row (stands.entries.each q))
+    where
+      fresh : v.is_gone ≡ false
+      fresh = current_stays t v.key q v (number_is (current t v.key) q (and_left (is_current t v.key q) (length (bound t q) == 0) passes)) row
+
+      by_kept : (o : Option Kept) → shelf.kept q ≡ o → KeepsEntry t q o (Some v) → Some (content_of t q v) ≡ Some item
+      by_kept None kept e = false_true (sym fresh ∙ e.gone)
+      by_kept (Some k) kept e = ap Some (content_is t shelf q k v item kept e fresh (stored_ends v fresh (facts.law.sound.rows q v row).store) one)
+
+  all_are : (qs : List ℕ) (items : List Content) → TellsAll shelf (filter (λ q. is_idle t q (t.representation q)) qs) items → filter_map (content_at t) (filter (λ q. is_idle t q (t.representation q)) qs) ≡ items
+  all_are [] [] tells = refl
+  all_are [] (item ∷ items) tells = absurd tells
+  all_are (q ∷ qs) items tells = elim (cases_Bool (is_idle t q (t.representation q))) [
+    | inr off ↦ rw off (all_are qs items (rw off at tells))
+    | inl on ↦ rw on (by_items items (rw on at tells) (λ rest told_rest. all_are qs rest told_rest) on)
+  ]
+    where
+      by_items : (items : List Content) → TellsAll shelf (q ∷ filter (λ q. is_idle t q (t.representation q)) qs) items
+          → ((rest : List Content) → TellsAll shelf (filter (λ q. is_idle t q (t.representation q)) qs) rest → filter_map (content_at t) (filter (λ q. is_idle t q (t.representation q)) qs) ≡ rest)
+          → is_idle t q (t.representation q) ≡ true → filter_map (content_at t) (q ∷ filter (λ q. is_idle t q (t.representation q)) qs) ≡ items
+      by_items [] tells again on = absurd tells
+      by_items (item ∷ rest) tells again on =
+          let first : content_at t q ≡ Some item = at_one q item (t.representation q) refl on tells.0 in
+          rw (first, again rest tells.1) refl
+
+  pub items_are : (items : List Content) → TellsAll shelf (idle shelf) items → filter_map (content_at t) (idle_now t) ≡ items
+  items_are items tells = all_are (reverse t.used) items (subst (λ (qs : List ℕ). TellsAll shelf qs items) (idle_is r t (may_let_go t facts.law) stands) tells)
+
+-- THE CACHE
+
+pub contents_told : {B : Type 0} {g : Ghosts B} (s : Cache B g) (found : coded_all.Contents) → found.now ≡ s.last_moment → found.last_consumer ≡ s.rows.last_start → found.next_exchange ≡ next_of s.rows.exchanges
+    → TellsAll (shelf_of s.rows.entries) (idle (shelf_of s.rows.entries)) (map told_item found.items) → (contents : Contents) (h : History) → StandsFor s contents h → told found ≡ contents_of (tables contents h)
+unfolding contents_of
+contents_told s found moment last next tells contents h stands =
+    let t = tables contents h in
+    let facts = facts_of_runs s.rows.limits contents h stands.begins stands.short stands.run in
+    λ i. record {
+      now = (moment ∙ stands.moment) i;
+      last_consumer = (last ∙ stands.rows.last_start) i;
+      next_exchange = (next ∙ stands.rows.next) i;
+      items = (sym (items_are s.rows t s.rows.limits facts stands.rows (map told_item found.items) tells)) i;
+    }
+
+-- the cache stands for the same where what is kept stays
+pub stands_still : {B : Type 0} {g : Ghosts B} (s u : Cache B g) → u.last_moment ≡ s.last_moment → u.steps ≡ s.steps → u.rows.limits ≡ s.rows.limits → u.rows.received ≡ s.rows.received → u.rows.last_start ≡ s.rows.last_start → u.rows.consumers ≡ s.rows.consumers → u.rows.exchanges ≡ s.rows.exchanges → u.rows.keys ≡ s.rows.keys
+    → Stays (shelf_of s.rows.entries) (shelf_of u.rows.entries) → (contents : Contents) (h : History) → StandsFor s contents h → StandsFor u contents h
+stands_still s u moment steps limits received last consumers exchanges same_keys stays contents h stands = record {
+  begins = rw limits stands.begins;
+  short = stands.short;
+  run = rw limits stands.run;
+  moment = moment ∙ stands.moment;
+  entries = steps ∙ stands.entries;
+  rows = stands_read s.rows u.rows (tables contents h) limits received last consumers exchanges same_keys stays stands.rows;
+}
+
+-- what is idle is kept
+at_filter : (test : ℕ → Bool) (xs : List ℕ) (i r : ℕ) → i < length (filter test xs) → r ≡ get_or (filter test xs) i r → test r ≡ true
+at_filter test [] i r lt is = absurd (let none : i < 0 = lt in omega arith)
+at_filter test (x ∷ xs) i r lt is = elim (cases_Bool (test x)) [
+  | inr off ↦ at_filter test xs i r (rw off at lt) (rw off at is)
+  | inl on ↦ by_place i (rw on at lt) (rw on at is) on (λ k less same. at_filter test xs k r less same)
+]
+  where
+    by_place : (i : ℕ) → i < length (x ∷ filter test xs) → r ≡ get_or (x ∷ filter test xs) i r → test x ≡ true → ((k : ℕ) → k < length (filter test xs) → r ≡ get_or (filter test xs) k r → test r ≡ true) → test r ≡ true
+    by_place zero lt is on again = ap test is ∙ on
+    by_place (suc i) lt is on again = again i (let less : suc i < suc (length (filter test xs)) = lt in omega arith) is
+
+pub any_default : (xs : List ℕ) (i d e : ℕ) → i < length xs → get_or xs i d ≡ get_or xs i e
+any_default [] i d e lt = absurd (let none : i < 0 = lt in omega arith)
+any_default (x ∷ xs) zero d e lt = refl
+any_default (x ∷ xs) (suc i) d e lt = any_default xs i d e (omega arith)
+
+pub idle_kept : (s : Shelf) (i r : ℕ) → i < length (idle s) → r ≡ get_or (idle s) i r → shelves.is_kept s r ≡ true
+idle_kept s i r lt is = by_kept (s.kept r) (at_filter (λ q. shelves.is_unused (s.kept q)) (reverse s.order) i r lt is)
+  where
+    by_kept : (o : Option Kept) → shelves.is_unused o ≡ true → is_some o ≡ true
+    by_kept None there = false_true there
+    by_kept (Some k) there = refl
+
+pub idle_at : (s : Shelf) (rs : List ℕ) (i : ℕ) → rs ≡ idle s → i < length rs → shelves.is_kept s (get_or rs i 0) ≡ true
+idle_at s rs i same lt =
+    subst (λ (zs : List ℕ). i < length zs → shelves.is_kept s (get_or zs i 0) ≡ true) (sym same)
+    (λ less. idle_kept s i (get_or (idle s) i 0) less (any_default (idle s) i 0 (get_or (idle s) i 0) less)) lt
+
+pub one_back : (a m : Shelf) (r : ℕ) (item : Content) → Stays a m → TellsOne m r item → TellsOne a r item
+one_back a m r item stays one = record {
+  number = one.number;
+  key = sym (ap (option_map key_in) (stays.kept r)) ∙ one.key;
+  head = sym (ap (option_map (λ (k : Kept). k.head)) (stays.kept r)) ∙ one.head;
+  runs = λ n ends. subst (λ (f : Cells). EndsBy n f → item.runs ≡ runs_from f 0 n) (cells_same a m r stays) (one.runs n) ends;
+}
+
+pub tells_more : (s : Shelf) (rs : List ℕ) (items : List Content) (r : ℕ) (item : Content) → TellsAll s rs items → TellsOne s r item → TellsAll s (rs ++ r ∷ []) (items ++ item ∷ [])
+tells_more s [] [] r item all one = (one, tt)
+tells_more s [] (x ∷ xs) r item all one = absurd all
+tells_more s (q ∷ qs) [] r item all one = absurd all
+tells_more s (q ∷ qs) (x ∷ xs) r item all one = (all.0, tells_more s qs xs r item all.1 one)
+
+-- a cache is as good where what is kept stays
+pub good_still : {B : Type 0} {g : Ghosts B} (r u : Rows B g) (moment : ℕ) → u.limits ≡ r.limits → u.received ≡ r.received → u.last_start ≡ r.last_start → u.consumers ≡ r.consumers → u.exchanges ≡ r.exchanges → u.keys ≡ r.keys → Stays (shelf_of r.entries) (shelf_of u.entries) → StandsUntil r moment → StandsUntil u moment
+good_still r u moment limits received last consumers exchanges same_keys stays until = (
+  record {
+    contents = until.0.contents;
+    h = until.0.h;
+    begins = rw limits until.0.begins;
+    short = until.0.short;
+    modest = until.0.modest;
+    run = rw limits until.0.run;
+    rows = stands_read r u (tables until.0.contents until.0.h) limits received last consumers exchanges same_keys stays until.0.rows;
+  },
+  until.1,
+)

@@ -1,0 +1,48 @@
+-- What a cache tells of a key: whose turn it is, and how much is stored of what is current.
+use Rattle.std.proofs.Common.{◌≡◌, ℕ, List, Option, Some, None, refl, ap, sym, ◌∙◌}
+use Rattle.std.specs.Prelude.{option_map}
+use Rattle.std.specs.Option.{option_and_then}
+use Rattle.hc_store.specs.declared.backend.Backend.{Ghosts}
+use Rattle.hc_entries.specs.declared.view.EntryView.{EntryView}
+use Rattle.hc_entries.specs.Entries.{shelf_of}
+use Rattle.hc_entries.specs.Kept.{Kept}
+use Rattle.hc_entries.specs.Views.{view_of}
+use Rattle.hc_entry.specs.Keys.{kept_of, line_of}
+use Rattle.hc_entry.specs.Lines.{turn_of}
+use Rattle.hc_model.specs.Currents.{current}
+use Rattle.hc_model.specs.Entries.{Contents, History}
+use Rattle.hc_model.specs.Kinds.{kind_of, kind_at, kind_for}
+use Rattle.hc_model.specs.Lines.{turn}
+use Rattle.hc_model.specs.Rows.{Tables, Representation}
+use Rattle.hc_model.specs.Tables.{tables}
+use Rattle.hc_model.proofs.SoundRuns.{runs_are_sound}
+use Rattle.hc_core.specs.declared.cache.Cache.{Cache}
+use Rattle.hc_core.specs.Steps.{StandsFor}
+use Rattle.hc_core.proofs.CurrentTies.{IsNow, now_kept}
+use Rattle.hc_core.proofs.TurnTies.{turn_of_is}
+use Rattle.hc_core.proofs.Words.{none_some, some_is}
+
+module _ {B : Type 0} {g : Ghosts B} (s : Cache B g) (key : List ℕ) (contents : Contents) (h : History) (stands : StandsFor s contents h) where
+  abbrev t : Tables
+  t = tables contents h
+
+  pub turn_told : turn_of (line_of s.rows.keys key) ≡ turn t key
+  turn_told = turn_of_is t key (kept_of s.rows.keys key) (runs_are_sound s.rows.limits contents h stands.begins stands.run).numbered.lists (stands.rows.keys key)
+
+  module _ (q : ℕ) (at : (kept_of s.rows.keys key).current ≡ Some q) where
+    is_current : current t key ≡ Some q
+    is_current = sym (stands.rows.keys key).current ∙ at
+
+    now : IsNow s.rows t stands.rows key q
+    now = now_kept s.rows t stands.rows key q is_current
+
+    -- it is kept
+    pub never_unkept : option_map view_of ((shelf_of s.rows.entries).kept q) ≡ None → ⊥
+    never_unkept none = none_some (view_of now.e) (sym none ∙ ap (option_map view_of) now.kept)
+
+    pub kind_told : (view : EntryView) → option_map view_of ((shelf_of s.rows.entries).kept q) ≡ Some view → Some view.kind ≡ kind_for t key
+    kind_told view is =
+        let seen : view_of now.e ≡ view = some_is (view_of now.e) view (sym (ap (option_map view_of) now.kept) ∙ is) in
+        ap (λ (z : EntryView). Some z.kind) (sym seen)
+        ∙ (ap Some (now.is.kind now.stays)
+        ∙ (sym (ap (option_map (kind_of t q)) now.row) ∙ sym (ap (option_and_then (kind_at t)) is_current)))

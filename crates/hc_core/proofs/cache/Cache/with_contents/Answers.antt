@@ -1,0 +1,32 @@
+use Rattle.std.proofs.Common.{◌≡◌, ◌<◌, ◌≤◌, ◌^◌, true, refl, sym, ◌∙◌, subst, arith}
+use Rattle.hc_rules.specs.declared.room.Limits.{Limits}
+use Rattle.hc_model.specs.Beginnings.{may_begin}
+use Rattle.hc_contents.specs.Told.{told}
+use Rattle.hc_core.proofs.BegunCache.{may_by, stands_begun_with, good_begun_with, next_begun_with}
+use Rattle.hc_core.proofs.BegunItems.{next_fits}
+use Rattle.hc_core.proofs.cache.Cache.with_contents.Goals as goal
+
+pub returns-in-Some-clause-refused : goal.returns-in-Some-clause-refused
+returns-in-Some-clause-refused g c = record { cause = c.in-Some.ensures.some (g.B.Backend.faults c.args.backend); calm = λ _. refl; bounded = refl }
+
+pub before-requires-clause-first : goal.before-requires-clause-first
+before-requires-clause-first g c = (next_fits c.args.limits (told c.args.contents.now) (may_by _ _ c.in_default.ensures.none)).0
+
+pub before-requires-clause-below : goal.before-requires-clause-below
+before-requires-clause-below g c =
+    let most : c.args.contents.now.next_exchange ≤ 2 ^ 60 = (next_fits c.args.limits (told c.args.contents.now) (may_by _ _ c.in_default.ensures.none)).1 in
+    omega arith
+
+pub begin_with-requires-clause-fit : goal.begin_with-requires-clause-fit
+begin_with-requires-clause-fit g c = subst (λ (l : Limits). may_begin l (told c.args.contents.now) ≡ true) (sym c.in-Ok.ensures.limits) (may_by _ _ c.in_default.ensures.none)
+
+pub invariant_of-result : goal.invariant_of-result
+invariant_of-result g c =
+    let may = subst (λ (l : Limits). may_begin l (told c.args.contents.now) ≡ true) (sym (c.begin_with.ensures.limits ∙ c.in-Ok.ensures.limits)) (may_by _ _ c.in_default.ensures.none) in
+    let rows = c.in_default-begin_with.ensures.ok in
+    record { good = λ _. (∣ good_begun_with c.begin_with.new.self c.args.contents.now may rows ∣₁, next_begun_with c.begin_with.new.self c.args.contents.now may rows) }
+
+pub returns-clause-stands : goal.returns-clause-stands
+returns-clause-stands g c =
+    let may = subst (λ (l : Limits). may_begin l (told c.args.contents.now) ≡ true) (sym (c.begin_with.ensures.limits ∙ c.in-Ok.ensures.limits)) (may_by _ _ c.in_default.ensures.none) in
+    stands_begun_with _ c.args.contents.now refl refl may c.in_default-begin_with.ensures.ok

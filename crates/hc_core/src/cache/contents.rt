@@ -1,0 +1,45 @@
+//! What a cache has, told as contents.
+ghost use Rattle.std.specs.Prelude.{◌≡◌, ◌↔◌, true, IfOk, IsErrOf};
+ghost use Rattle.hc_store.specs.declared.error.StoreError.TheVariants.{NoMemory};
+ghost use Rattle.hc_store.specs.Causes.{HasCause, HasNoLimit};
+ghost use Rattle.hc_contents.specs.Told.{told};
+ghost use Rattle.hc_model.specs.Entries as model;
+ghost use Rattle.hc_model.specs.Contents.{contents_of};
+ghost use Rattle.hc_model.specs.Tables.{tables};
+ghost use Rattle.hc_core.specs.Steps.{StandsFor, faults_in, has_failed, live_in, last_moment, steps, received};
+
+use crate::cache::Cache;
+use crate::rows::contents::items_of;
+use hc_contents::Contents;
+use hc_store::{Backend, StoreError};
+
+impl<B: Backend> Cache<B> {
+    /// What every history that the cache stands for leaves, while nobody is live. The cache stands for
+    /// the same histories afterwards, whatever the answer. After a step that answered NoMemory it
+    /// stands for none, and NoMemory comes.
+    pub fn contents(&mut self) -> Result<Contents, StoreError>
+        requires idle { live_in self.old ≡ 0 }
+        ensures told { IfOk result (λ found. (contents : model.Contents) (h : model.History)
+            → StandsFor self.old contents h → told found ≡ contents_of (tables contents h)) }
+        ensures same { (contents : model.Contents) (h : model.History)
+            → StandsFor self.old contents h ↔ StandsFor self.new contents h }
+        ensures moment { last_moment self.new ≡ last_moment self.old }
+        ensures steps { steps self.new ≡ steps self.old }
+        ensures received { received self.new ≡ received self.old }
+        ensures failed { has_failed self.new ≡ has_failed self.old }
+        ensures again { has_failed self.old ≡ true → IsErrOf result NoMemory }
+        ensures no_limit { HasNoLimit result }
+        ensures cause { HasCause (faults_in self.old) (faults_in self.new) result }
+    {
+        if self.failed {
+            return Err(StoreError::NoMemory);
+        }
+        let items = items_of(&mut self.rows.entries)?;
+        Ok(Contents {
+            now: self.last_moment,
+            last_consumer: self.rows.last_start,
+            next_exchange: self.rows.exchanges.next_number(),
+            items,
+        })
+    }
+}

@@ -1,0 +1,23 @@
+//! A cache answers events, one after another.
+use crate::cache::Cache;
+use hc_event::{Acts, Event};
+use hc_step::Stepper;
+use hc_store::Backend;
+use hc_text::NoMemory;
+
+impl<B: Backend> Stepper for Cache<B> {
+    ghost use Rattle.hc_core.specs.Steps as core;
+    ghost use Rattle.hc_core.specs.Steps.{Answers};
+
+    ghost moment = { λ s. core.last_moment s };
+
+    ghost steps = { λ s. core.steps s };
+
+    ghost received = { λ s. core.received s };
+
+    ghost answers = { λ s now event acts u. Answers s u now event acts };
+
+    fn step(&mut self, now: u64, event: &Event, out: &mut Acts) -> Result<(), NoMemory> {
+        self.step(now, event, out)
+    }
+}

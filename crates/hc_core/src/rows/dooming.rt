@@ -1,0 +1,107 @@
+//! Heads past the store that doom what is stored for their key.
+ghost use Rattle.std.specs.Prelude.{◌≡◌, ◌≤◌, true, false, Some, None, OnOk, OnErr};
+ghost use Rattle.std.specs.HashMap.{hash_map_len};
+ghost use Rattle.hc_event.specs.Acts.{listed, spare};
+ghost use Rattle.hc_rules.specs.declared.heads.HeadCase.TheVariants as case;
+ghost use Rattle.hc_rules.specs.Lengths.{is_bad};
+ghost use Rattle.hc_rules.specs.Refusals.{head_refusal};
+ghost use Rattle.hc_entries.specs.Entries.{shelf_of};
+ghost use Rattle.hc_exch.specs.Exchanges.{next_of, table_of};
+ghost use Rattle.hc_exch.specs.Known.{length_by};
+ghost use Rattle.hc_core.specs.Heads.{IsAskedBy, IsPastStore, is_bad_case, is_past_case};
+ghost use Rattle.hc_core.specs.Dooms.{IsUnheard};
+ghost use Rattle.hc_core.specs.Stands.{AnswersDooming, StandsForSome, open_at};
+
+use crate::changes::stand;
+use crate::rows::Rows;
+use crate::rows::head::Heard;
+use hc_event::{Acts, Cause, Response};
+use hc_model::Place;
+use hc_rules::HeadCase;
+use hc_store::Backend;
+use hc_text::{Key, NoMemory};
+
+impl<B: Backend> Rows<B> {
+    /// The answer to an unsafe request, even a bad one, may have changed what is stored for its
+    /// key: that is doomed (RFC 9111 section 4.4).
+    pub(super) fn take_dooming(
+        &mut self,
+        case: HeadCase,
+        heard: Heard,
+        response: &Response,
+        out: &mut Acts,
+    ) -> Result<(), NoMemory>
+        requires stands { ∥ StandsForSome self.old ∥₁ }
+        requires accepted { head_refusal (open_at self.old heard.x) ≡ None }
+        requires asker { IsAskedBy heard.c (table_of self.old.exchanges heard.x).running }
+        requires past { IsPastStore (table_of self.old.exchanges heard.x).running }
+        requires dooms { is_past_case case ≡ true }
+        requires good { is_bad_case case ≡ false → is_bad
+            (length_by (table_of self.old.exchanges heard.x).running response.now) ≡ false }
+        requires room { hash_map_len self.old.consumers ≤ spare out.old }
+        ensures answers { OnOk result (AnswersDooming self.old self.new (listed out.old)
+            (listed out.new) heard.now heard.x response.now case) }
+        ensures next { OnOk result (next_of self.new.exchanges ≡ next_of self.old.exchanges) }
+        ensures received { OnOk result (self.new.received ≡ self.old.received) }
+        ensures limits { OnOk result (self.new.limits ≡ self.old.limits) }
+        ensures faults { (shelf_of self.new.entries).faults ≡ (shelf_of self.old.entries).faults }
+        ensures kept { OnErr result (listed out.new ≡ listed out.old) }
+    {
+        let opening = self.exchanges.opening(heard.x).unwrap();
+        let key = opening.request.key.copy()?;
+        if let HeadCase::DirectBad = case {
+            self.doom_badly(heard, response, &key, out);
+            return Ok(());
+        }
+        self.doom_taken(heard, response, &key, out)
+    }
+
+    /// A bad head dooms its key: its exchange is closed with those that are doomed, and whoever
+    /// waits for it is to fail.
+    fn doom_badly(&mut self, heard: Heard, response: &Response, key: &Key, out: &mut Acts)
+        requires stands { ∥ StandsForSome self.old ∥₁ }
+        requires accepted { head_refusal (open_at self.old heard.x) ≡ None }
+        requires asker { IsAskedBy heard.c (table_of self.old.exchanges heard.x).running }
+        requires unheard { IsUnheard (table_of self.old.exchanges) key.now heard.x }
+        requires room { hash_map_len self.old.consumers ≤ spare out.old }
+        ensures answers { AnswersDooming self.old self.new (listed out.old) (listed out.new)
+            heard.now heard.x response.now case.DirectBad }
+        ensures next { next_of self.new.exchanges ≡ next_of self.old.exchanges }
+        ensures received { self.new.received ≡ self.old.received }
+        ensures limits { self.new.limits ≡ self.old.limits }
+        ensures faults { (shelf_of self.new.entries).faults ≡ (shelf_of self.old.entries).faults }
+    {
+        self.doom(heard.now, key, Some(heard.x), out);
+        let down = Place::Down(Cause::BadHead(heard.x));
+        stand(&mut self.consumers, heard.c, down);
+    }
+
+    /// An answer past the store dooms its key.
+    fn doom_taken(
+        &mut self,
+        heard: Heard,
+        response: &Response,
+        key: &Key,
+        out: &mut Acts,
+    ) -> Result<(), NoMemory>
+        requires stands { ∥ StandsForSome self.old ∥₁ }
+        requires accepted { head_refusal (open_at self.old heard.x) ≡ None }
+        requires asker { IsAskedBy heard.c (table_of self.old.exchanges heard.x).running }
+        requires unheard { IsUnheard (table_of self.old.exchanges) key.now heard.x }
+        requires good { is_bad (length_by (table_of self.old.exchanges heard.x).running
+            response.now) ≡ false }
+        requires room { hash_map_len self.old.consumers ≤ spare out.old }
+        ensures answers { OnOk result (AnswersDooming self.old self.new (listed out.old)
+            (listed out.new) heard.now heard.x response.now case.DirectTaken) }
+        ensures next { OnOk result (next_of self.new.exchanges ≡ next_of self.old.exchanges) }
+        ensures received { OnOk result (self.new.received ≡ self.old.received) }
+        ensures limits { OnOk result (self.new.limits ≡ self.old.limits) }
+        ensures faults { (shelf_of self.new.entries).faults ≡ (shelf_of self.old.entries).faults }
+        ensures kept { OnErr result (listed out.new ≡ listed out.old) }
+    {
+        let answer = response.copy()?;
+        self.doom(heard.now, key, None, out);
+        self.have_answer(heard, response, answer);
+        Ok(())
+    }
+}

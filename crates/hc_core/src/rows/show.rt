@@ -1,0 +1,109 @@
+//! A head that is stored is shown.
+ghost use Rattle.std.specs.Prelude.{◌≡◌, ◌≤◌, ◌<◌, ◌^◌, ◌++◌, ◌∷◌, [], Some, None, nat_eq, true, IsSomeAnd, OnOk, OnErr};
+ghost use Rattle.std.specs.HashMap.{get};
+ghost use Rattle.hc_event.specs.Acts.{listed, spare};
+ghost use Rattle.hc_event.specs.declared.act.Act.TheVariants as act;
+ghost use Rattle.hc_record.specs.Plain.{plain};
+ghost use Rattle.hc_entries.specs.Entries.{shelf_of};
+ghost use Rattle.hc_entries.specs.Shelf.{head_at};
+ghost use Rattle.hc_entries.specs.Views.{admits};
+ghost use Rattle.hc_model.specs.Moves.{span_to};
+ghost use Rattle.hc_core.specs.Arms.{IsQueued};
+ghost use Rattle.hc_core.specs.Plans.{begin_of, end_of, IsIdle, HasCurrent, IsShownPart, AnswersShowing};
+
+use crate::acts::put;
+use crate::changes::bind_shown;
+use crate::rows::Rows;
+use hc_event::{Act, Acts, Response, Why};
+use hc_range::Span;
+use hc_record::StoredHead;
+use hc_store::Backend;
+use hc_text::NoMemory;
+use hc_validate::shown;
+
+impl<B: Backend> Rows<B> {
+    /// A consumer is bound to what is current, and shown its head.
+    pub(super) fn bind(
+        &mut self,
+        c: u64,
+        r: u64,
+        head: &StoredHead,
+        why: Why,
+        span: Option<Span>,
+        out: &mut Acts,
+    ) -> Result<(), NoMemory>
+        requires idle { IsSomeAnd (get nat_eq self.old.consumers c) IsIdle }
+        requires queued { IsSomeAnd (get nat_eq self.old.consumers c) (IsQueued self.old.keys c) }
+        requires current { IsSomeAnd (get nat_eq self.old.consumers c)
+            (HasCurrent self.old.keys r) }
+        requires part { IsSomeAnd (get nat_eq self.old.consumers c)
+            (IsShownPart (plain head.now) span) }
+        requires head { head_at (shelf_of self.old.entries) r ≡ Some (plain head.now) }
+        requires admits { admits c ((shelf_of self.old.entries).kept r) ≡ true }
+        requires room { 1 ≤ spare out.old }
+        ensures answers { OnOk result (IsSomeAnd (get nat_eq self.old.consumers c)
+            (AnswersShowing self.old self.new (listed out.old) (listed out.new)
+            c r (plain head.now) why span)) }
+        ensures exchanges { OnOk result (self.new.exchanges ≡ self.old.exchanges) }
+        ensures received { OnOk result (self.new.received ≡ self.old.received) }
+        ensures limits { OnOk result (self.new.limits ≡ self.old.limits) }
+        ensures faults { (shelf_of self.new.entries).faults ≡ (shelf_of self.old.entries).faults }
+        ensures kept { OnErr result (listed out.new ≡ listed out.old) }
+    {
+        let consumer = self.consumers.get(&c).unwrap();
+        let (lo, hi) = bounds_of(span, head.total);
+        let ranged = consumer.class.range.is_some();
+        let shown = shown(head, why, span_to(lo, hi), ranged)?;
+        self.entries.bind(r, c)?;
+        self.leave_line(c);
+        bind_shown(&mut self.consumers, c, r, lo, hi);
+        put_shown(c, r, why, shown, lo, hi, out);
+        Ok(())
+    }
+}
+
+/// Where what is shown begins and ends: the interval, or all of it.
+fn bounds_of(span: Option<Span>, total: Option<u64>) -> (u64, Option<u64>)
+    ensures from { result.0 ≡ begin_of span }
+    ensures to { result.1 ≡ end_of span total }
+{
+    match span {
+        Some(span) => (span.lo, Some(span.hi)),
+        None => (0, total),
+    }
+}
+
+/// The interval, where its end is known.
+pub(super) fn span_to(lo: u64, hi: Option<u64>) -> Option<Span>
+    ensures { result ≡ span_to lo hi }
+{
+    Some(Span { lo, hi: hi? })
+}
+
+/// A head is shown.
+pub(super) fn put_shown(
+    c: u64,
+    r: u64,
+    why: Why,
+    head: Response,
+    lo: u64,
+    hi: Option<u64>,
+    out: &mut Acts,
+)
+    requires { 1 ≤ spare out.old }
+    ensures { listed out.new ≡ listed out.old
+        ++ act.Shown c r why head.status head.fields lo hi ∷ [] }
+{
+    put(
+        out,
+        Act::Shown {
+            c,
+            r,
+            why,
+            status: head.status,
+            fields: head.fields,
+            lo,
+            hi,
+        },
+    );
+}

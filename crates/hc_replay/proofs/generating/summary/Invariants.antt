@@ -1,0 +1,6 @@
+use Rattle.hc_replay.specs.declared.generating.TheConstants.{PROGRAM_LIMITS}
+use Rattle.hc_replay.specs.Generates.{Stands}
+use Rattle.hc_replay.proofs.generating.summary.Given as goal
+
+abbrev pub invariant-loop : goal.invariant-loop
+invariant-loop l = Stands PROGRAM_LIMITS l.fn.seed l.counter l.rounds

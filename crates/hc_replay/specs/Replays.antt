@@ -1,0 +1,89 @@
+-- What came of a schedule that was replayed: its events are a run, and the report of that was taken.
+use Rattle.std.specs.Prelude.{◌≡◌, ℕ, ◌+◌, ◌≤◌, List, [], ◌∷◌, ◌++◌, map, Option, Some}
+use Rattle.hc_store.specs.declared.backend.Backend.{Ghosts}
+use Rattle.hc_io.specs.Sink.{Takes, TakesFront}
+use Rattle.hc_io.specs.Source.{Gives, GivesAll}
+use Rattle.hc_sched.specs.declared.schedule.Ended.{Ended}
+use Rattle.hc_sched.specs.declared.schedule.Ended.TheVariants as ended
+use Rattle.hc_sched.specs.declared.schedule.Refused.{Refused}
+use Rattle.hc_sched.specs.declared.schedule.Timed.{Timed}
+use Rattle.hc_sched.specs.Schedule.{Item, Spells, events_of}
+use Rattle.hc_sched.specs.Laws.{refusal_of}
+use Rattle.hc_loop.specs.Endings.{IsRefused, brought}
+use Rattle.hc_loop.specs.Stepping as steps
+use Rattle.hc_loop.specs.Stepping.{events_in, report_after}
+use Rattle.hc_model.specs.Entries.{Entry, History, no_contents}
+use Rattle.hc_model.specs.Reads.{ReadsWhole}
+use Rattle.hc_model.specs.Runs.{IsRun}
+use Rattle.hc_core.specs.declared.cache.Cache.{Cache}
+use Rattle.hc_core.specs.Steps.{StandsFor, limits_in, faults_in, failures_in}
+
+-- THE RUN
+
+abbrev pub entry_of : steps.Entry → Entry
+entry_of e = record { now = e.timed.now; event = e.timed.event; acts = e.acts }
+
+-- what was stepped, as a history of the table
+abbrev pub run_of : steps.History → History
+run_of h = map entry_of h
+
+-- how often acts tell that the store failed
+abbrev pub failures : steps.History → ℕ
+failures [] = 0
+failures (e ∷ h) = failures_in e.acts + failures h
+
+-- It is a run over these limits, from an empty store, in which each consumer reads one answer whole.
+pub record IsWholeRun {B : Type 0} {g : Ghosts B} (s : Cache B g) (h : steps.History) : Type 0 where
+  pub run : IsRun (limits_in s) no_contents (run_of h)
+  pub reads : ReadsWhole no_contents (run_of h)
+
+-- These events are such a run, which the cache stands for then, and its report was taken. It tells the
+-- store's failures no oftener than that counted them.
+pub record ReportsAll {B : Type 0} {g : Ghosts B} (s u : Cache B g) (events : List Timed) (out out' : Option (List ℕ)) : Type 0 where
+  pub history : steps.History
+  pub events_are : events_in history ≡ events
+  pub run : IsWholeRun s history
+  pub report : Takes out out' (report_after 0 history)
+  pub stands : StandsFor u no_contents (run_of history)
+  pub counted : faults_in s + failures history ≤ faults_in u
+
+-- Some first of these events are such a run, for which the cache stood behind the last of them, and some first
+-- part of its report was taken.
+pub record ReportsSome {B : Type 0} {g : Ghosts B} (s : Cache B g) (events : List Timed) (out out' : Option (List ℕ)) : Type 0 where
+  pub last : Cache B g
+  pub history : steps.History
+  pub rest : List Timed
+  pub events_are : events_in history ++ rest ≡ events
+  pub run : IsWholeRun s history
+  pub report : TakesFront out out' (report_after 0 history)
+  pub stands : StandsFor last no_contents (run_of history)
+  pub counted : faults_in s + failures history ≤ faults_in last
+
+-- HOW IT ENDS
+
+-- What came of a schedule on a new cache, by how it ended: what its source had left before and after,
+-- and what its sink had taken.
+pub data Replays {B : Type 0} {g : Ghosts B} (s u : Cache B g) (left left' out out' : Option (List ℕ)) : Ended → Type 0 where
+  -- the whole text spells items, and the report of their events was taken
+  done : (text : List ℕ) (items : List Item) → GivesAll left left' text → Spells 0 text items →
+      ReportsAll s u (events_of 0 items) out out' → Replays s u left left' out out' ended.Done
+  -- the text is refused where it was read to, and the report of what came before was taken
+  refused : (text : List ℕ) (refused : Refused) → Gives left left' text → IsRefused 0 text refused →
+      ReportsAll s u (brought 0 text) out out' → Replays s u left left' out out' (ended.Refused refused)
+  -- the whole text is cut short
+  cut_short : (text : List ℕ) (refused : Refused) → GivesAll left left' text →
+      refusal_of 0 text ≡ Some refused → ReportsAll s u (brought 0 text) out out' →
+      Replays s u left left' out out' (ended.Refused refused)
+  -- the report of the whole items was taken of what could be read
+  unreadable : (text : List ℕ) → Gives left left' text → ReportsAll s u (brought 0 text) out out' →
+      Replays s u left left' out out' ended.SourceFailed
+  -- some first part of a report was taken, of some first events of what was read
+  unwritten : (text : List ℕ) → Gives left left' text → ReportsSome s (brought 0 text) out out' →
+      Replays s u left left' out out' ended.SinkFailed
+  wanting : (text : List ℕ) → Gives left left' text → ReportsSome s (brought 0 text) out out' →
+      Replays s u left left' out out' ended.NoMemory
+
+-- A text that spells items, all of which was left, isn't refused.
+abbrev pub Completes : Option (List ℕ) → Ended → Type 0
+Completes (Some text) (ended.Refused refusal) = (items : List Item) → ¬ Spells 0 text items
+Completes _ _ = Unit {0}

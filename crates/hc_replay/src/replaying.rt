@@ -1,0 +1,43 @@
+//! A schedule that is replayed.
+ghost use Rattle.std.specs.Prelude.{◌≡◌, ◌≢◌, []};
+ghost use Rattle.hc_io.specs.Faults.{HasRisen};
+ghost use Rattle.hc_sched.specs.declared.schedule.Ended.TheVariants as ended;
+ghost use Rattle.hc_model.specs.Entries.{no_contents};
+ghost use Rattle.hc_core.specs.Steps.{StandsFor};
+ghost use Rattle.hc_replay.specs.Replays.{Replays, Completes};
+
+use hc_core::Cache;
+use hc_io::{Sink, Source};
+use hc_loop::step_through;
+use hc_sched::Ended;
+use hc_store::Backend;
+use std::alloc::Global;
+
+/// Reads a schedule, steps a cache by each of its events as soon as its item is whole, and writes the
+/// report of each before the next one is stepped. The cache is as it was made.
+///
+/// At Done the whole input is a schedule, and the report is that of a run. At Refused the grammar
+/// refuses the input at that line, and the report is that of the events before it; at SourceFailed it
+/// is that of the events whose items are whole in what was read. At SinkFailed and NoMemory some
+/// first part of a report is written. WireFailed never comes.
+pub fn replay<B: Backend, S: Source, K: Sink>(
+    alloc: Global,
+    cache: &mut Cache<B>,
+    source: &mut S,
+    sink: &mut K,
+) -> Ended
+    requires new { StandsFor cache.old no_contents [] }
+    ensures ends { Replays cache.old cache.new (S.left source.old) (S.left source.new)
+        (K.taken sink.old) (K.taken sink.new) result }
+    ensures complete { Completes (S.left source.old) result }
+
+    // A fault comes only where one was counted, and none is counted where none comes.
+    ensures source { result ≡ ended.SourceFailed
+        → HasRisen (S.faults source.old) (S.faults source.new) }
+    ensures source_calm { result ≢ ended.SourceFailed → S.faults source.new ≡ S.faults source.old }
+    ensures sink { result ≡ ended.SinkFailed
+        → HasRisen (K.faults sink.old) (K.faults sink.new) }
+    ensures sink_calm { result ≢ ended.SinkFailed → K.faults sink.new ≡ K.faults sink.old }
+{
+    step_through(alloc, 0, cache, source, sink)
+}

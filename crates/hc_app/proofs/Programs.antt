@@ -1,137 +1,156 @@
--- What a replay did, by how its report ended.
-use Rattle.std.proofs.Common.{◌≡◌, ℕ, ◌≤◌, ◌^◌, List, [], ◌∷◌, ◌++◌, length, Option, Bool, get_or, map, Global, refl, sym, ap, ◌∙◌, subst, inl, inr, arith}
-use Rattle.std.specs.Prelude.{Decides, Result, Ok, Err, OnOk, MatchResult, bytes_eq, codes}
-use Rattle.std.specs.String.{string_bytes}
-use Rattle.std.specs.declared.string.String.{String}
-use Rattle.std.proofs.lemmas.List.{append-nil}
-use Rattle.std.proofs.lemmas.Slice.Eq.{bytes_eq-Decides}
+-- What the program did, by how a replay or a generation ended.
+use Rattle.std.proofs.Common.{◌≡◌, ℕ, ◌+◌, ◌≤◌, List, Option, refl, subst, arith}
 use Rattle.hc_io.specs.declared.sink.SinkError.{SinkError}
 use Rattle.hc_io.specs.declared.sink.SinkError.TheVariants as sink
 use Rattle.hc_io.specs.Sink.{Takes, TakesFront}
-use Rattle.hc_io.proofs.Takings.{takes_none}
-use Rattle.hc_app.specs.Replayed.{IsReported, IsPartlyReported, IsReplayable, report_of}
-use Rattle.hc_app.specs.Schedule.{events_of, text_of}
-use Rattle.hc_app.specs.Reading.{ReadsText, StopsAt, EndsAt}
-use Rattle.hc_app.specs.Program.{Outputs, ReportsAll, ReportsSome, Replays, spelled, refused, failed, wanting, IsCutShort, IsReplay, nothing, refusal, refusal_text, stopped_as}
-use Rattle.hc_app.specs.declared.cache.Cache.{Cache}
-use Rattle.hc_app.specs.declared.schedule.Timed.{Timed}
-use Rattle.hc_app.specs.declared.schedule.Refused.{Refused}
-use Rattle.hc_app.specs.declared.schedule.FeedError.{FeedError}
-use Rattle.hc_app.specs.declared.schedule.FeedError.TheVariants as error
-use Rattle.hc_app.specs.declared.run.Status.TheVariants as status
-use Rattle.hc_app.proofs.ReadsWhole.{read_whole}
-use Rattle.hc_app.proofs.Replayable.{replayable}
+use Rattle.hc_rules.specs.declared.room.Limits.{Limits}
+use Rattle.hc_sched.specs.declared.schedule.Ended.{Ended}
+use Rattle.hc_sched.specs.declared.schedule.Ended.TheVariants as ended
+use Rattle.hc_sched.specs.declared.schedule.Refused.{Refused}
+use Rattle.hc_sched.specs.declared.schedule.Timed.{Timed}
+use Rattle.hc_loop.specs.Stepping.{History}
+use Rattle.hc_loop.specs.Endings.{brought}
+use Rattle.hc_model.specs.Entries.{no_contents}
+use Rattle.hc_model.specs.Runs.{IsRun}
+use Rattle.hc_core.specs.declared.cache.Cache.{Cache}
+use Rattle.hc_core.specs.Steps.{limits_in, faults_in}
+use Rattle.hc_replay.specs.Replays as replays
+use Rattle.hc_replay.specs.Replays.{IsWholeRun, failures, run_of}
+use Rattle.hc_replay.specs.Generates as generates
+use Rattle.hc_replay.specs.declared.generating.TheConstants.{PROGRAM_LIMITS}
+use Rattle.hc_app.specs.declared.status.Status.TheVariants as status
+use Rattle.hc_app.specs.Commands.{IsNoCommand}
+use Rattle.hc_app.specs.Program as program
+use Rattle.hc_app.specs.Program.{Streams, IsWhole, ReportsAll, ReportsSome, Replays, IsRefusedIn, Generates, Keeps, IsUntouched}
+use Rattle.hc_app.specs.Statuses.{stopped_as}
+use Rattle.hc_app.specs.Texts.{refusal_text, usage_text}
 
-pub reports_all : (cache : Cache) (events : List Timed) (out out' : Option (List ℕ)) → IsReported cache events out out' → ReportsAll events out out'
-reports_all cache events out out' told = record { history = told.history; run = told.run; reads = read_whole told.history told.run; events_are = told.events_are; report = told.report }
+-- a cache in memory, whose store counts no failure
+module _ {B : Type 0} {g : Rattle.hc_store.specs.declared.backend.Backend.Ghosts B} (s : Cache B g) (limits : limits_in s ≡ PROGRAM_LIMITS) (calm : (u : Cache B g) → faults_in u ≡ 0) where
+  whole : (u : Cache B g) (h : History) → IsWholeRun s h → faults_in s + failures h ≤ faults_in u → IsWhole h
+  whole u h run counted =
+      let none = calm u in
+      record {
+        run = subst (λ (l : Limits). IsRun l no_contents (run_of h)) limits run.run;
+        reads = run.reads;
+        sound = omega arith;
+      }
 
-pub reports_some : (events : List Timed) (out out' : Option (List ℕ)) → IsPartlyReported events out out' → ReportsSome events out out'
-reports_some events out out' told = record { history = told.history; rest = told.rest; run = told.run; reads = read_whole told.history told.run; events_are = told.events_are; report = told.report }
+  all : (u : Cache B g) (events : List Timed) (out out' : Option (List ℕ)) → replays.ReportsAll s u events out out' → ReportsAll events out out'
+  all u events out out' r = record { history = r.history; whole = whole u r.history r.run r.counted; events_are = r.events_are; report = r.report }
 
--- what a report told, by how it ended
-pub reports : {T E : Type 0} (r : Result T E) (cache : Cache) (events : List Timed) (out out' : Option (List ℕ))
-    → OnOk r (IsReported cache events out out') → IsPartlyReported events out out' → MatchResult r (λ _. ReportsAll events out out') (λ _. ReportsSome events out out')
-reports (Ok x) cache events out out' done partly = reports_all cache events out out' done
-reports (Err e) cache events out out' done partly = reports_some events out out' partly
+  some : (events : List Timed) (out out' : Option (List ℕ)) → replays.ReportsSome s events out out' → ReportsSome events out out'
+  some events out out' r = record { history = r.history; rest = r.rest; whole = whole r.last r.history r.run r.counted; events_are = r.events_are; report = r.report }
 
--- what was taken whole was taken in part
-some_of_all : (events : List Timed) (out out' : Option (List ℕ)) → ReportsAll events out out' → ReportsSome events out out'
-some_of_all events out out' told = record {
-  history = told.history;
-  rest = [];
-  run = told.run;
-  reads = told.reads;
-  events_are = append-nil _ ∙ told.events_are;
-  report = record { front = report_of told.history; rest = []; whole = append-nil (report_of told.history); takes = told.report };
-}
+  module _ (u : Cache B g) (left left' out out' diag diag' : Option (List ℕ)) where
+    abbrev before : Streams
+    before = record { left = left; out = out; diag = diag }
 
--- what stands where a line is refused
-pub stops : (e : FeedError) (at : Refused) (text : List ℕ) (old new : List Timed) → e ≡ error.Refused at → EndsAt e text old new → StopsAt text at.line old new
-stops e at text old new is ends = (subst (λ (e : FeedError). EndsAt e text old new) is ends).0
+    abbrev after : Streams
+    after = record { left = left'; out = out'; diag = diag' }
 
-none_of : (diag : Option (List ℕ)) (due : List ℕ) → TakesFront diag diag due
-none_of diag due = record { front = []; rest = due; whole = refl; takes = takes_none diag }
+    abbrev Ran : Ended → Type 0
+    Ran e = replays.Replays s u left left' out out' e
 
-pub read-replayable : (text : List ℕ) (old new events : List Timed) → ReadsText text old new → old ≡ [] → events ≡ new → length text ≤ 2 ^ 60 → IsReplayable events
-read-replayable text old new events read none is short =
-    let same : events ≡ events_of read.items = is ∙ read.adds ∙ ap (λ (front : List Timed). front ++ events_of read.items) none in
-    subst IsReplayable (sym same) (replayable text read.items [] read.spells.schedule (append-nil (text_of read.items) ∙ read.spells.text_is) short)
+    pub is_done : (e : Ended) → Ran e → e ≡ ended.Done → diag' ≡ diag → Replays before after status.Done
+    is_done _ (replays.done text items gives spells report) is quiet = program.done text items gives spells (all u _ out out' report) quiet
+    is_done _ (replays.refused text r gives refuses report) is quiet = cc
+    is_done _ (replays.cut_short text r gives refuses report) is quiet = cc
+    is_done _ (replays.unreadable text gives report) is quiet = cc
+    is_done _ (replays.unwritten text gives report) is quiet = cc
+    is_done _ (replays.wanting text gives report) is quiet = cc
 
-pub refused-replayable : (text : List ℕ) (line : ℕ) (old new events : List Timed) → StopsAt text line old new → old ≡ [] → events ≡ new → length text ≤ 2 ^ 60 → IsReplayable events
-refused-replayable text line old new events stops none is short =
-    let same : events ≡ events_of stops.items = is ∙ stops.adds ∙ ap (λ (front : List Timed). front ++ events_of stops.items) none in
-    subst IsReplayable (sym same) (replayable text stops.items stops.refused.rest stops.refused.schedule stops.refused.whole short)
+    pub is_unreadable : (e : Ended) → Ran e → e ≡ ended.SourceFailed → diag' ≡ diag → Replays before after status.SourceFailed
+    is_unreadable _ (replays.unreadable text gives report) is quiet = program.unreadable text gives (all u _ out out' report) quiet
+    is_unreadable _ (replays.done text items gives spells report) is quiet = cc
+    is_unreadable _ (replays.refused text r gives refuses report) is quiet = cc
+    is_unreadable _ (replays.cut_short text r gives refuses report) is quiet = cc
+    is_unreadable _ (replays.unwritten text gives report) is quiet = cc
+    is_unreadable _ (replays.wanting text gives report) is quiet = cc
 
--- what is cut short ends as its error says
-cut : (text : List ℕ) (before after : Outputs) (e : SinkError) → IsCutShort text before after → Replays text before after (stopped_as e)
-cut text before after sink.SinkFailed short = failed short
-cut text before after sink.NoMemory short = wanting short
+    pub is_unwritten : (e : Ended) → Ran e → e ≡ ended.SinkFailed → diag' ≡ diag → Replays before after status.SinkFailed
+    is_unwritten _ (replays.unwritten text gives report) is quiet = program.unwritten text gives (some _ out out' report) quiet
+    is_unwritten _ (replays.done text items gives spells report) is quiet = cc
+    is_unwritten _ (replays.refused text r gives refuses report) is quiet = cc
+    is_unwritten _ (replays.cut_short text r gives refuses report) is quiet = cc
+    is_unwritten _ (replays.unreadable text gives report) is quiet = cc
+    is_unwritten _ (replays.wanting text gives report) is quiet = cc
 
-module _ (text : List ℕ) (old new events : List Timed) (out out' diag : Option (List ℕ)) (none : old ≡ []) (is : events ≡ new) where
-  abbrev before : Outputs
-  before = record { out = out; diag = diag }
+    pub is_wanting : (e : Ended) → Ran e → e ≡ ended.NoMemory → diag' ≡ diag → Replays before after status.NoMemory
+    is_wanting _ (replays.wanting text gives report) is quiet = program.wanting text gives (some _ out out' report) quiet
+    is_wanting _ (replays.done text items gives spells report) is quiet = cc
+    is_wanting _ (replays.refused text r gives refuses report) is quiet = cc
+    is_wanting _ (replays.cut_short text r gives refuses report) is quiet = cc
+    is_wanting _ (replays.unreadable text gives report) is quiet = cc
+    is_wanting _ (replays.unwritten text gives report) is quiet = cc
 
-  abbrev outputs : Option (List ℕ) → Outputs
-  outputs diag' = record { out = out'; diag = diag' }
+    -- where the text is refused, and what was reported before
+    record Stops (r : Refused) : Type 0 where
+      text : List ℕ
+      refused : IsRefusedIn left left' text r
+      report : ReportsAll (brought 0 text) out out'
 
-  module _ (read : ReadsText text old new) where
-    spelled-events : events ≡ events_of read.items
-    spelled-events = is ∙ read.adds ∙ ap (λ (front : List Timed). front ++ events_of read.items) none
+    same_refusal : (r q : Refused) → ended.Refused r ≡ ended.Refused q → r ≡ q
+    same_refusal r q is = cc
 
-    -- the text is spelled, and its report is whole
-    pub spelled_whole : ReportsAll events out out' → Replays text before (outputs diag) status.Done
-    spelled_whole told = spelled (record { items = read.items; spells = read.spells; report = subst (λ (es : List Timed). ReportsAll es out out') spelled-events told; quiet = refl })
+    stops : (e : Ended) (r : Refused) → Ran e → e ≡ ended.Refused r → Stops r
+    stops _ r (replays.refused text q gives refuses report) is =
+        record { text = text; refused = subst (λ (z : Refused). IsRefusedIn left left' text z) (same_refusal q r is) (program.within gives refuses); report = all u _ out out' report }
+    stops _ r (replays.cut_short text q gives refuses report) is =
+        record { text = text; refused = subst (λ (z : Refused). IsRefusedIn left left' text z) (same_refusal q r is) (program.at_end gives refuses); report = all u _ out out' report }
+    stops _ r (replays.done text items gives spells report) is = cc
+    stops _ r (replays.unreadable text gives report) is = cc
+    stops _ r (replays.unwritten text gives report) is = cc
+    stops _ r (replays.wanting text gives report) is = cc
 
-    -- the text is spelled, and its report isn't whole
-    pub spelled_cut : (e : SinkError) → ReportsSome events out out' → Replays text before (outputs diag) (stopped_as e)
-    spelled_cut e told = cut text before (outputs diag) e (record {
-      events = events_of read.items;
-      due = [];
-      owes = nothing read.spells;
-      report = subst (λ (es : List Timed). ReportsSome es out out') spelled-events told;
-      said = none_of diag [];
-      order = inl refl;
-    })
+    pub is_refused : (e : Ended) (r : Refused) → Ran e → e ≡ ended.Refused r → Takes diag diag' (refusal_text r) → Replays before after status.Refused
+    is_refused e r ran is said = let at = stops e r ran is in program.refused at.text r at.refused at.report said
 
-  module _ (line : ℕ) (stops : StopsAt text line old new) where
-    refused-events : events ≡ events_of stops.items
-    refused-events = is ∙ stops.adds ∙ ap (λ (front : List Timed). front ++ events_of stops.items) none
+    pub is_unsaid : (e : Ended) (r : Refused) (error : SinkError) → Ran e → e ≡ ended.Refused r → TakesFront diag diag' (refusal_text r) → Replays before after (stopped_as error)
+    is_unsaid e r sink.SinkFailed ran is said = let at = stops e r ran is in program.unsaid at.text r at.refused at.report said
+    is_unsaid e r sink.NoMemory ran is said = let at = stops e r ran is in program.wanting_word at.text r at.refused at.report said
 
-    -- the text is refused at a line, the report of the events before it is whole, and the line was said
-    pub refused_aloud : (diag' : Option (List ℕ)) → ReportsAll events out out' → Takes diag diag' (refusal_text line) → Replays text before (outputs diag') status.Refused
-    refused_aloud diag' told said = refused (record { items = stops.items; line = line; refused = stops.refused; report = subst (λ (es : List Timed). ReportsAll es out out') refused-events told; said = said })
+    -- no wire is used
+    pub never_wire : (e : Ended) → Ran e → e ≡ ended.WireFailed → ⊥
+    never_wire _ (replays.wanting text gives report) is = cc
+    never_wire _ (replays.done text items gives spells report) is = cc
+    never_wire _ (replays.refused text r gives refuses report) is = cc
+    never_wire _ (replays.cut_short text r gives refuses report) is = cc
+    never_wire _ (replays.unreadable text gives report) is = cc
+    never_wire _ (replays.unwritten text gives report) is = cc
 
-    -- the line wasn't said whole
-    pub refused_unsaid : (e : SinkError) (diag' : Option (List ℕ)) → ReportsAll events out out' → TakesFront diag diag' (refusal_text line) → Replays text before (outputs diag') (stopped_as e)
-    refused_unsaid e diag' told said =
-        let whole = subst (λ (es : List Timed). ReportsAll es out out') refused-events told in
-        cut text before (outputs diag') e (record {
-          events = events_of stops.items;
-          due = refusal_text line;
-          owes = refusal stops.refused;
-          report = some_of_all (events_of stops.items) out out' whole;
-          said = said;
-          order = inr whole;
-        })
+-- GENERATING
 
-    -- the report of the events before the line isn't whole
-    pub refused_cut : (e : SinkError) → ReportsSome events out out' → Replays text before (outputs diag) (stopped_as e)
-    refused_cut e told = cut text before (outputs diag) e (record {
-      events = events_of stops.items;
-      due = refusal_text line;
-      owes = refusal stops.refused;
-      report = subst (λ (es : List Timed). ReportsSome es out out') refused-events told;
-      said = none_of diag (refusal_text line);
-      order = inl refl;
-    })
+module _ (seed n : ℕ) (out out' : Option (List ℕ)) where
+  abbrev Made : Ended → Type 0
+  Made e = generates.Generates PROGRAM_LIMITS seed n out out' e
 
--- whether one word is the command
-pub one_word : (words : List (String Global)) (word : String Global) (b : Bool) → length words ≡ 1 → word ≡ get_or words 0 word → b ≡ bytes_eq (string_bytes word) (codes "replay") → Decides b (IsReplay (map string_bytes words))
-one_word [] word b one is eq = absurd (omega (arith, one))
-one_word (first ∷ []) word b one is eq = rw (eq, is) (both (string_bytes first)) where
-  unwrap : (bytes : List ℕ) → bytes ∷ [] ≡ codes "replay" ∷ [] → bytes ≡ codes "replay"
-  unwrap bytes e = ap (λ (words : List (List ℕ)). get_or words 0 bytes) e
+  pub made_done : (e : Ended) → Made e → e ≡ ended.Done → Generates seed n out out' status.Done
+  made_done _ (generates.done text is takes) at = program.done text is takes
+  made_done _ (generates.unwritten text is takes) at = cc
+  made_done _ (generates.wanting text is takes) at = cc
+  made_done _ (generates.unfinished same) at = cc
 
-  both : (bytes : List ℕ) → Decides (bytes_eq bytes (codes "replay")) (bytes ∷ [] ≡ codes "replay" ∷ [])
-  both bytes = let d = bytes_eq-Decides bytes (codes "replay") in (λ yes. ap (λ (w : List ℕ). w ∷ []) (d.0 yes), λ e. d.1 (unwrap bytes e))
-one_word (first ∷ second ∷ more) word b one is eq = absurd (omega (arith, one))
+  pub made_unwritten : (e : Ended) → Made e → e ≡ ended.SinkFailed → Generates seed n out out' status.SinkFailed
+  made_unwritten _ (generates.unwritten text is takes) at = program.unwritten text is takes
+  made_unwritten _ (generates.done text is takes) at = cc
+  made_unwritten _ (generates.wanting text is takes) at = cc
+  made_unwritten _ (generates.unfinished same) at = cc
+
+  pub made_wanting : (e : Ended) → Made e → e ≡ ended.NoMemory → Generates seed n out out' status.NoMemory
+  made_wanting _ (generates.wanting text is takes) at = program.wanting text is takes
+  made_wanting _ (generates.unfinished same) at = program.unfinished same
+  made_wanting _ (generates.done text is takes) at = cc
+  made_wanting _ (generates.unwritten text is takes) at = cc
+
+  pub never_else : (e : Ended) → Made e → (e ≡ ended.Done → ⊥) → (e ≡ ended.SinkFailed → ⊥) → (e ≡ ended.NoMemory → ⊥) → ⊥
+  never_else _ (generates.done text is takes) a b c = a refl
+  never_else _ (generates.unwritten text is takes) a b c = b refl
+  never_else _ (generates.wanting text is takes) a b c = c refl
+  never_else _ (generates.unfinished same) a b c = c refl
+
+-- THE USAGE
+
+pub usage_unsaid : (e : SinkError) (words : List (List ℕ)) (before after : Streams) → IsNoCommand words → IsUntouched before after → TakesFront before.diag after.diag usage_text → Keeps words before after (stopped_as e)
+usage_unsaid sink.SinkFailed _ _ _ none same said = program.untold none same said
+usage_unsaid sink.NoMemory _ _ _ none same said = program.wanting_usage none same said

@@ -1,18 +1,14 @@
-//! The program: schedules in, reports out.
+//! The program: schedules in, reports out; schedules that are generated, and their summary.
 #![tactic(auto)]
 
-mod cache;
-mod held;
-mod laws;
-mod length;
-mod replay;
-mod report;
-mod rows;
+mod command;
 mod run;
-mod schedule;
+mod say;
+mod status;
 
 use hc_io::{StdSink, StdSource};
-use run::{Status, run};
+use run::run;
+use status::Status;
 use std::io::ErrorKind;
 use std::process::ExitCode;
 use std::{env, io};

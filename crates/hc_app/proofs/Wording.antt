@@ -1,0 +1,77 @@
+-- Which words are a command.
+use Rattle.std.proofs.Common.{◌≡◌, ℕ, ◌<◌, ◌≤◌, List, [], ◌∷◌, length, get_or, Global, Bool, true, false, refl, ap, sym, ◌∙◌, subst, arith}
+use Rattle.std.specs.Prelude.{not, codes, bytes_eq}
+use Rattle.std.specs.declared.string.String.{String}
+use Rattle.std.proofs.lemmas.Fmt.{decimal_injective}
+use Rattle.std.proofs.lemmas.Slice.Eq.{bytes_eq-Decides}
+use Rattle.hc_text.specs.Numbers.{IsPlain}
+use Rattle.hc_app.specs.declared.command.Command.TheVariants as command
+use Rattle.hc_app.specs.Commands.{IsCommand, IsNoCommand, replay, generate}
+
+-- HOW MANY THERE ARE
+
+pub one_of : (words : List (String Global)) (word : String Global) → length words ≡ 1 → word ≡ get_or words 0 word → word ∷ [] ≡ words
+one_of [] word one is = absurd (omega (arith, one))
+one_of (first ∷ []) word one is = ap (λ (w : String Global). w ∷ []) is
+one_of (first ∷ second ∷ more) word one is = absurd (omega (arith, one))
+
+pub three_of : (words : List (String Global)) (a b c : String Global) → length words ≡ 3 → a ≡ get_or words 0 a → b ≡ get_or words 1 b → c ≡ get_or words 2 c → a ∷ b ∷ c ∷ [] ≡ words
+three_of [] a b c three a_is b_is c_is = absurd (omega (arith, three))
+three_of (x ∷ []) a b c three a_is b_is c_is = absurd (omega (arith, three))
+three_of (x ∷ y ∷ []) a b c three a_is b_is c_is = absurd (omega (arith, three))
+three_of (x ∷ y ∷ z ∷ []) a b c three a_is b_is c_is = rw (a_is, b_is, c_is) refl
+three_of (x ∷ y ∷ z ∷ w ∷ more) a b c three a_is b_is c_is = absurd (omega (arith, three))
+
+-- neither one nor three
+pub other_count : (words : List (List ℕ)) → (length words ≡ 1 → ⊥) → (length words ≡ 3 → ⊥) → IsNoCommand words
+other_count words not_one not_three _ (replay is) = not_one (ap length is)
+other_count words not_one not_three _ (generate first second seed count is first_is second_is few) = not_three (ap length is)
+
+-- BY THEIR TEXT
+
+pub not_false : (b : Bool) → not b ≡ false → b ≡ true
+not_false true is = refl
+not_false false is = absurd (let never : true ≡ false = is in cc)
+
+same_text : (a : List ℕ) (b : List ℕ) → bytes_eq a b ≡ true → a ≡ b
+same_text a b is = (bytes_eq-Decides a b).0 is
+
+other_text : (a : List ℕ) (b : List ℕ) → bytes_eq a b ≡ false → a ≡ b → ⊥
+other_text a b is same = let never : false ≡ true = sym is ∙ (bytes_eq-Decides a b).1 same in cc
+
+head_of : (a b : List ℕ) (xs ys : List (List ℕ)) → a ∷ xs ≡ b ∷ ys → a ≡ b
+head_of a b xs ys is = cc
+
+second_of : (a b c d : List ℕ) (xs ys : List (List ℕ)) → a ∷ c ∷ xs ≡ b ∷ d ∷ ys → c ≡ d
+second_of a b c d xs ys is = cc
+
+third_of : (a b c d e f : List ℕ) (xs ys : List (List ℕ)) → a ∷ c ∷ e ∷ xs ≡ b ∷ d ∷ f ∷ ys → e ≡ f
+third_of a b c d e f xs ys is = cc
+
+pub is_replay : (word : List ℕ) → bytes_eq word (codes "replay") ≡ true → IsCommand (word ∷ []) command.Replay
+is_replay word is = replay (ap (λ (w : List ℕ). w ∷ []) (same_text word (codes "replay") is))
+
+pub no_replay : (word : List ℕ) → bytes_eq word (codes "replay") ≡ false → IsNoCommand (word ∷ [])
+no_replay word off _ (replay is) = other_text word (codes "replay") off (head_of word (codes "replay") [] [] is)
+no_replay word off _ (generate first second seed count is first_is second_is few) = absurd (let never : 1 ≡ 3 = ap length is in cc)
+
+module _ (word first second : List ℕ) where
+  abbrev words : List (List ℕ)
+  words = word ∷ first ∷ second ∷ []
+
+  pub is_generation : (seed count : ℕ) → bytes_eq word (codes "generate") ≡ true → IsPlain first seed → IsPlain second count → count ≤ 1000000 → IsCommand words (command.Generate seed count)
+  is_generation seed count is first_is second_is few = generate first second seed count (ap (λ (w : List ℕ). w ∷ first ∷ second ∷ []) (same_text word (codes "generate") is)) first_is second_is few
+
+  -- what a generation would say
+  pub no_generation : ((seed count : ℕ) → word ≡ codes "generate" → IsPlain first seed → IsPlain second count → count ≤ 1000000 → ⊥) → IsNoCommand words
+  no_generation never _ (replay is) = absurd (let no : 3 ≡ 1 = ap length is in cc)
+  no_generation never _ (generate one two seed count is one_is two_is few) =
+      never seed count (head_of word (codes "generate") (first ∷ second ∷ []) (one ∷ two ∷ []) is)
+      (subst (λ (t : List ℕ). IsPlain t seed) (sym (second_of word (codes "generate") first one (second ∷ []) (two ∷ []) is)) one_is)
+      (subst (λ (t : List ℕ). IsPlain t count) (sym (third_of word (codes "generate") first one second two [] [] is)) two_is) few
+
+  pub other_word : bytes_eq word (codes "generate") ≡ false → IsNoCommand words
+  other_word off = no_generation (λ seed count is one_is two_is few. other_text word (codes "generate") off is)
+
+  pub too_many : (n : ℕ) → IsPlain second n → 1000000 < n → IsNoCommand words
+  too_many n plain more = no_generation (λ seed count is one_is two_is few. let same = decimal_injective count n (omega (arith, two_is.0)) (omega (arith, plain.0)) (sym two_is.1 ∙ plain.1) in omega arith)

@@ -1,5 +1,0 @@
-use Rattle.hc_app.proofs.LengthLemmas.{number_of-read}
-use Rattle.hc_app.proofs.length.number_of.Goals as goal
-
-pub returns : goal.returns
-returns c = number_of-read c.args.text.now c.read_number.result c.read_number.ensures.found c.read_number.ensures.none

@@ -1,6 +1,0 @@
-use Rattle.hc_app.proofs.Programs.{one_word}
-use Rattle.std.proofs.Common.{arith}
-use Rattle.hc_app.proofs.run.is_replay.Goals as goal
-
-pub returns-in-len1 : goal.returns-in-len1
-returns-in-len1 c = one_word c.args.words.now c.word-item.result c.eq.result (omega (arith, c.in-len1.len_at_least, c.in-len1.len_below)) c.word-item.is (rw c.as_str.ensures.value at c.eq.ensures)

@@ -347,6 +347,7 @@ class Facts:
             k, n = self.K[w.c], of(self.promised(w))
             self.holds("exchange: received", len(w.body) <= t.received)
             self.holds("exchange: promised", n is None or len(w.body) <= n)
+            self.holds("exchange: unreached", n is None or not w.is_open or len(w.body) != n)
             self.holds("exchange: small", n is None or self.base(w) + n <= 1 << 62)
             self.holds("exchange: live", not w.is_open or k.place._name != "Over" or self.family(x) in self.V)
             self.holds("exchange: ended", not (w.is_ended and w.is_open))

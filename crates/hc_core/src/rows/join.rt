@@ -57,6 +57,8 @@ impl<B: Backend> Rows<B> {
         ensures received { OnOk result (self.new.received ≡ self.old.received) }
         ensures limits { OnOk result (self.new.limits ≡ self.old.limits) }
         ensures kept { OnErr result (listed out.new ≡ listed out.old) }
+        ensures memory { OnErr result
+            ((shelf_of self.new.entries).faults ≡ (shelf_of self.old.entries).faults) }
         ensures faults { (shelf_of self.old.entries).faults ≤ (shelf_of self.new.entries).faults }
     {
         if self.is_lost(r) {

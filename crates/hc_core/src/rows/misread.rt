@@ -29,6 +29,7 @@ impl<B: Backend> Rows<B> {
         requires live { is_some (get nat_eq self.old.consumers c) ≡ true }
         requires room { 2 ≤ spare out.old }
         ensures failed { OnOk result (error ≢ errors.NoMemory) }
+        ensures memory { OnErr result (error ≡ errors.NoMemory) }
         ensures answers { OnOk result (AnswersMisread self.old self.new
             (listed out.old) (listed out.new) now c r) }
         ensures next { OnOk result (next_of self.new.exchanges ≡ next_of self.old.exchanges) }

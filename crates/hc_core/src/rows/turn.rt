@@ -52,6 +52,8 @@ impl<B: Backend> Rows<B> {
         ensures limits { OnOk result (self.new.limits ≡ self.old.limits) }
         ensures faults { (shelf_of self.old.entries).faults ≤ (shelf_of self.new.entries).faults }
         ensures kept { OnErr result (listed out.new ≡ listed out.old) }
+        ensures memory { OnErr result
+            ((shelf_of self.new.entries).faults ≡ (shelf_of self.old.entries).faults) }
     {
         let Some(r) = self.still_current(heard.x, aim) else {
             self.start_anew(heard, response, aim, out);

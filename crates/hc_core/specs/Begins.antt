@@ -1,5 +1,5 @@
 -- A cache that begins with contents.
-use Rattle.std.specs.Prelude.{◌≡◌, ◌≢◌, ◌<◌, ◌≤◌, ◌+◌, ◌^◌, ℕ, List, true, Option, Some, None, find, ◌==◌}
+use Rattle.std.specs.Prelude.{◌≡◌, ◌≢◌, ◌<◌, ◌≤◌, ◌+◌, ◌^◌, ℕ, List, Bool, true, false, Option, Some, None, find, ◌==◌}
 use Rattle.hc_store.specs.declared.backend.Backend.{Ghosts}
 use Rattle.hc_rules.specs.declared.room.Limits.{Limits}
 use Rattle.hc_entries.specs.Begun as entries
@@ -48,8 +48,16 @@ IsCause limits contents before now error.Full = unfit_of limits contents ≡ Som
 IsCause limits contents before now error.Fault = (unfit_of limits contents ≡ None) × (before < now)
 IsCause limits contents before now error.NoMemory = Unit {0}
 
--- The store comes back, which may hold some of the contents; where it didn't fail, its count stayed.
+-- they were refused before anything was put into the store
+abbrev pub is_unfit : ContentsError → Bool
+is_unfit (error.BadContent i) = true
+is_unfit error.Full = true
+is_unfit error.Fault = false
+is_unfit error.NoMemory = false
+
+-- The store comes back, which may hold some of the contents where they fit; where it didn't fail, its count stayed.
 pub record IsRefusal {B : Type 0} (faults : B → ℕ) (bounds : B → Limits) (limits : Limits) (contents : Contents) (store : B) (refused : ContentsRefused B) : Type 0 where
   pub cause : IsCause limits contents (faults store) (faults refused.backend) refused.why
   pub calm : refused.why ≢ error.Fault → faults refused.backend ≡ faults store
   pub bounded : bounds refused.backend ≡ bounds store
+  pub untouched : is_unfit refused.why ≡ true → refused.backend ≡ store

@@ -1,8 +1,8 @@
 //! Why a cache can't begin with contents.
-ghost use Rattle.std.specs.Prelude.{◌≡◌, ◌≢◌, ℕ, None, IfNone, IfSome};
+ghost use Rattle.std.specs.Prelude.{◌≡◌, ◌≢◌, ℕ, None, false, IfNone, IfSome};
 ghost use Rattle.hc_contents.specs.Fit.{unfit_of};
 ghost use Rattle.hc_contents.specs.Told.{told};
-ghost use Rattle.hc_core.specs.Begins.{IsCause};
+ghost use Rattle.hc_core.specs.Begins.{IsCause, is_unfit};
 
 use hc_contents::{Contents, Unfit, why_unfit};
 use hc_rules::Limits;
@@ -24,7 +24,8 @@ pub enum ContentsError {
     NoMemory,
 }
 
-/// A refusal, with the store that was handed in, which may hold some of the contents.
+/// A refusal, with the store that was handed in. Where the store failed, or memory was refused, it may
+/// hold some of the contents.
 #[derive(Drop)]
 pub struct ContentsRefused<B> {
     pub why: ContentsError,
@@ -55,6 +56,7 @@ pub(crate) fn failure_of(error: StoreError) -> ContentsError
     requires full { error ≢ StoreError.Full }
     ensures fault { error ≡ StoreError.Fault → result ≡ ContentsError.Fault }
     ensures memory { error ≢ StoreError.Fault → result ≡ ContentsError.NoMemory }
+    ensures fits { is_unfit result ≡ false }
 {
     match error {
         StoreError::Fault => ContentsError::Fault,

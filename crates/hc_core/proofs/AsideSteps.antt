@@ -24,7 +24,7 @@ use Rattle.hc_core.proofs.Asides.{IsAlike, same, aside, is_aside, held_alike, us
 use Rattle.hc_core.proofs.ConsumerSteps.{all_kept_with}
 use Rattle.hc_core.proofs.OneOfEach.{entries_same}
 use Rattle.hc_core.proofs.Ties.{exchange_same, kept_row}
-use Rattle.hc_core.proofs.Words.{same_or, eqb-same, eqb-other, false_true, is_there}
+use Rattle.hc_core.proofs.Words.{same_or, eqb-same, eqb-other, false_true, is_there, as_received}
 
 -- WHO CAME ALONE
 
@@ -106,12 +106,12 @@ module _ {B : Type 0} {g : Ghosts B} (r u : Rows B g) (t : Tables) (c : ℕ) (v 
   pub stands_aside : RowsStand u s
   stands_aside = record {
     limits = rw (entries, limits) stands.limits;
-    received = received ∙ stands.received;
+    received = as_received received stands.received;
     last_start = last ∙ stands.last_start;
     next = rw exchanges stands.next;
     count = length_same r u t c v q stands row lived becomes ∙ (stands.count ∙ sym (live_same t s refl live_each));
     consumers = all_kept_with t c (Some w) r u (Some q) becomes kept stands.consumers;
     exchanges = λ x. rw exchanges (exchange_same t s x (table_of r.exchanges x) (record { row = refl; brings = λ z at. refl; held = held x (t.exchange x) }) (stands.exchanges x));
     keys = keys;
-    entries = rw entries (entries_same t s (shelf_of r.entries) (λ n. refl) refl refl (λ n d. users_alike t s alike n d) (λ n d. first_alike t n (t.consumer d) (s.consumer d) (alike d)) (λ n. refl) stands.entries);
+    entries = rw entries (entries_same t s (shelf_of r.entries) (λ n. refl) refl refl (λ n d. users_alike t s alike n d) (λ n d. first_alike t n (t.consumer d) (s.consumer d) (alike d)) (λ n. refl) (λ y on. on) stands.entries);
   }

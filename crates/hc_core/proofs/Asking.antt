@@ -24,6 +24,7 @@ use Rattle.hc_model.specs.Holes.{absent_from}
 use Rattle.hc_model.specs.Reading.{end_in, end_of_direct, base_in, lo_of, hi_of, offset, is_bound_place}
 use Rattle.hc_model.specs.Rows as rows
 use Rattle.hc_model.specs.Rows.{Tables, Exchange, Representation}
+use Rattle.hc_core.specs.Stored.{is_over}
 use Rattle.hc_core.specs.declared.consumer.Consumer.{Consumer}
 use Rattle.hc_core.specs.declared.rows.Rows.{Rows}
 use Rattle.hc_core.specs.Arms.{asked_in}
@@ -34,7 +35,7 @@ use Rattle.hc_core.proofs.Asides.{same, held_alike}
 use Rattle.hc_core.proofs.OneOfEach.{entries_same, growing_same}
 use Rattle.hc_core.proofs.ReaderSteps.{entries_read}
 use Rattle.hc_core.proofs.Ties.{exchange_same, key_same}
-use Rattle.hc_core.proofs.Words.{same_or, eqb-same, eqb-other}
+use Rattle.hc_core.proofs.Words.{same_or, eqb-same, eqb-other, as_received}
 
 -- WHAT IS ASKED FOR BRINGS AS MUCH
 
@@ -207,14 +208,14 @@ pub stands_asked : {B : Type 0} {g : Ghosts B} (r u : Rows B g) (t : Tables) (x 
     → exch.Becomes known.asked x r.exchanges u.exchanges → shelf.Stays (shelf_of r.entries) (shelf_of u.entries) → RowsStand u (with_ask x t)
 stands_asked r u t x stands limits received last consumers keys becomes read = record {
   limits = read.limits ∙ (stands.limits ∙ sym limits);
-  received = received ∙ stands.received;
+  received = as_received received stands.received;
   last_start = last ∙ stands.last_start;
   next = becomes.next ∙ stands.next;
   count = ap (λ z. hash_map_len z) consumers ∙ stands.count;
   consumers = λ d. rw consumers (consumer_bringing t x (get nat_eq r.consumers d) (t.consumer d) (stands.consumers d));
   exchanges = λ y. exchange_bringing t x y (table_of r.exchanges y) (table_of u.exchanges y) (by_here y) (stands.exchanges y);
   keys = λ key. rw keys (key_bringing t x key (kept_of r.keys key) (stands.keys key));
-  entries = entries_same t (with_ask x t) (shelf_of u.entries) (λ n. refl) refl refl (λ n d. refl) (λ n d. refl) (λ n. growing_same t (with_ask x t) n refl (looks t x (λ y o. brings_to n y o) (λ w. refl))) (entries_read t (shelf_of r.entries) (shelf_of u.entries) read stands.entries);
+  entries = entries_same t (with_ask x t) (shelf_of u.entries) (λ n. refl) refl refl (λ n d. refl) (λ n d. refl) (λ n. growing_same t (with_ask x t) n refl (looks t x (λ y o. brings_to n y o) (λ w. refl))) (λ y on. looks t x (λ z o. is_over o) (λ w. refl) y ∙ on) (entries_read t (shelf_of r.entries) (shelf_of u.entries) read stands.entries);
 }
   where
     by_here : (y : ℕ) → table_of u.exchanges y ≡ (if nat_eq x y then known.asked (table_of r.exchanges y) else table_of r.exchanges y)
@@ -237,7 +238,7 @@ pub stands_asked_already : {B : Type 0} {g : Ghosts B} (r u : Rows B g) (t : Tab
     → exch.Becomes known.asked x r.exchanges u.exchanges → shelf.Stays (shelf_of r.entries) (shelf_of u.entries) → RowsStand u t
 stands_asked_already r u t x stands on limits received last consumers keys becomes read = record {
   limits = read.limits ∙ (stands.limits ∙ sym limits);
-  received = received ∙ stands.received;
+  received = as_received received stands.received;
   last_start = last ∙ stands.last_start;
   next = becomes.next ∙ stands.next;
   count = ap (λ z. hash_map_len z) consumers ∙ stands.count;

@@ -37,14 +37,13 @@ short_told contents r n item found total = by_items contents.items found
       | inr other ↦ by_items xs (rw other at found)
     ]
 
-pub stands_begun_with : {B : Type 0} {g : Ghosts B} (s : Cache B g) (contents : coded_all.Contents) → s.last_moment ≡ contents.now → s.steps ≡ 0 → may_begin s.rows.limits (told contents) ≡ true → RowsStand s.rows (begun (told contents)) → StandsFor s (told contents) []
+pub stands_begun_with : {B : Type 0} {g : Ghosts B} (s : Cache B g) (contents : coded_all.Contents) → s.last_moment ≡ contents.now → may_begin s.rows.limits (told contents) ≡ true → RowsStand s.rows (begun (told contents)) → StandsFor s (told contents) []
 unfolding tables
-stands_begun_with s contents moment steps may rows = record {
+stands_begun_with s contents moment may rows = record {
   begins = may;
   short = short_told contents;
   run = tt;
   moment = moment;
-  entries = steps;
   rows = rows;
 }
 

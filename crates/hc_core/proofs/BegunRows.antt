@@ -37,18 +37,18 @@ use Rattle.hc_core.specs.Stands.{RowsStand}
 use Rattle.hc_core.specs.Stored.{IsEntry, KeepsEntry, KeepsEntries, TellsLength, is_usable_row}
 use Rattle.hc_core.specs.Stored as stored
 use Rattle.hc_core.proofs.BegunRuns.{runs_cells, runs_reach, runs_rest, kind_begun, whole_begun}
-use Rattle.hc_core.proofs.Words.{eqb-same, false_true, none_some}
+use Rattle.hc_core.proofs.Words.{eqb-same, false_true, none_some, as_received, none_received}
 
 -- BEFORE THE FIRST
 
-pub stands_before : {B : Type 0} {g : Ghosts B} (r : Rows B g) (contents : Contents) → r.last_start ≡ contents.last_consumer → r.received ≡ 0 → next_of r.exchanges ≡ contents.next_exchange → 0 < contents.next_exchange → hash_map_len r.consumers ≡ 0
+pub stands_before : {B : Type 0} {g : Ghosts B} (r : Rows B g) (contents : Contents) → r.last_start ≡ contents.last_consumer → next_of r.exchanges ≡ contents.next_exchange → 0 < contents.next_exchange → hash_map_len r.consumers ≡ 0
     → ((c : ℕ) → get nat_eq r.consumers c ≡ None) → ((x : ℕ) → table_of r.exchanges x ≡ unknown) → ((key : List ℕ) → kept_of r.keys key ≡ nothing) → ((q : ℕ) → (shelf_of r.entries).kept q ≡ None) → (shelf_of r.entries).order ≡ []
     → (shelf_of r.entries).limits ≡ r.limits → RowsStand r (begun (with_items [] contents))
 unfolding current
-stands_before r contents last received next some count none unopened unawaited unkept order limits = record {
+stands_before r contents last next some count none unopened unawaited unkept order limits = record {
   limits = limits;
   entries = record { each = λ q. rw (unkept q) tt; order = order };
-  received = received;
+  received = none_received r.received;
   last_start = last;
   next = omega (arith, next);
   count = count;
@@ -142,7 +142,7 @@ module _ {B : Type 0} {g : Ghosts B} (r u : Rows B g) (contents : Contents) (ite
     reach = λ held. runs_reach item.runs (entries.begun item.key item.head) ∙ none_first (last_end item.runs);
     bound = λ c. rw rest refl;
     first = λ c. rw rest refl;
-    writer = ap (λ (k : Kept). k.writer) rest;
+    writer = stored.as_written (ap (λ (k : Kept). k.writer) rest);
     is_lost = ap (λ (k : Kept). k.is_lost) rest;
     alone = ap (λ (k : Kept). k.alone) rest;
     is_gone = ap (λ (k : Kept). k.is_gone) rest;
@@ -227,7 +227,7 @@ module _ {B : Type 0} {g : Ghosts B} (r u : Rows B g) (contents : Contents) (ite
   pub stands_more : RowsStand u (begun (with_items (items ++ item ∷ []) contents))
   stands_more = record {
     limits = keeps.entries.limits ∙ (stands.limits ∙ sym keeps.limits);
-    received = keeps.received ∙ stands.received;
+    received = as_received keeps.received stands.received;
     last_start = keeps.last_start ∙ stands.last_start;
     next = ap next_of keeps.exchanges ∙ stands.next;
     count = ap hash_map_len keeps.consumers ∙ stands.count;

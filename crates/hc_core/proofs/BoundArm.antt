@@ -24,7 +24,7 @@ use Rattle.hc_core.proofs.Asides.{unread_aside, unstored_aside, unstored_moved}
 use Rattle.hc_core.proofs.AsideSteps.{first_aside}
 use Rattle.hc_core.proofs.CurrentTies.{stays_stored, total_told}
 use Rattle.hc_core.proofs.OneOfEach.{first_row, bound_same}
-use Rattle.hc_core.proofs.Ties.{entry_same}
+use Rattle.hc_core.proofs.Ties.{entry_same, OversStay, writer_then}
 use Rattle.hc_core.proofs.Words.{same_or, eqb-same, eqb-other, and_false, then_false, false_true, none_some, same_row}
 
 -- LISTS
@@ -102,9 +102,9 @@ module _ (t s : Tables) (law : Lawful t) (c q lo : ℕ) (hi : Option ℕ) (how :
     | inr off ↦ ap (is_first s n) (others d (λ is. off (sym is))) ∙ first_row t s same n (t.consumer d)
   ]
 
-  entry_other : (n : ℕ) → n ≢ q → (k : Option Kept) → KeepsEntry t n k (t.representation n) → KeepsEntry s n k (s.representation n)
-  entry_other n ne k kept = subst (KeepsEntry s n k) (sym (same n))
-      (entry_same t s n k (t.representation n) refl (record { users = users_other n ne; first = first_other n ne; list = bound_same t s n starts (users_other n ne); kind = kinds n }) kept)
+  entry_other : OversStay t.exchange s.exchange → (n : ℕ) → n ≢ q → (k : Option Kept) → KeepsEntry t n k (t.representation n) → KeepsEntry s n k (s.representation n)
+  entry_other overs n ne k kept = subst (KeepsEntry s n k) (sym (same n))
+      (entry_same t s n k (t.representation n) refl (record { users = users_other n ne; first = first_other n ne; list = bound_same t s n starts (users_other n ne); kind = kinds n; overs = overs }) kept)
 
   module _ (e : Kept) (is : IsEntry t q e p) where
     with_it : (d : ℕ) → has itself d (with_item itself c e.bound) ≡ is_bound q (s.consumer d)
@@ -120,8 +120,8 @@ module _ (t s : Tables) (law : Lawful t) (c q lo : ℕ) (hi : Option ℕ) (how :
     not_first = is.first c ∙ (ap (is_first t q) row ∙ first_aside t q (Some v) (ap not idle))
 
     -- one more is bound, by its plan
-    pub entry_with : how ≡ by.Plan → IsEntry s q (with_user c e) p
-    entry_with plan = record {
+    pub entry_with : OversStay t.exchange s.exchange → how ≡ by.Plan → IsEntry s q (with_user c e) p
+    entry_with overs plan = record {
       used = λ gone. false_true (sym stays ∙ gone);
       key = is.key;
       head = is.head;
@@ -135,15 +135,15 @@ module _ (t s : Tables) (law : Lawful t) (c q lo : ℕ) (hi : Option ℕ) (how :
         | inl one ↦ rw (← one, here) (not_first ∙ sym (then_false (is_bound_place q w.place) (came_alone s w.place) (ap (came_alone s) at ∙ rw plan refl)))
         | inr ne ↦ first_else d (λ z. ne (sym z))
       ];
-      writer = is.writer;
+      writer = writer_then overs is.writer;
       is_lost = is.is_lost;
       alone = is.alone;
       is_gone = is.is_gone;
     }
 
     -- or as the only one, where nobody came alone
-    pub entry_first : (x : ℕ) → how ≡ by.FirstHole x → e.first ≡ None → IsEntry s q (with_first c e) p
-    entry_first x first none = record {
+    pub entry_first : OversStay t.exchange s.exchange → (x : ℕ) → how ≡ by.FirstHole x → e.first ≡ None → IsEntry s q (with_first c e) p
+    entry_first overs x first none = record {
       used = λ gone. false_true (sym stays ∙ gone);
       key = is.key;
       head = is.head;
@@ -157,7 +157,7 @@ module _ (t s : Tables) (law : Lawful t) (c q lo : ℕ) (hi : Option ℕ) (how :
         | inl one ↦ rw (← one, here, eqb-same c) (sym (both (is_bound_place q w.place) (bound_at q ∙ eqb-same q) (ap (came_alone s) at ∙ rw first refl)))
         | inr ne ↦ rw (eqb-other c d ne) (ap (λ (o : Option ℕ). is_number o d) (sym none) ∙ first_else d (λ z. ne (sym z)))
       ];
-      writer = is.writer;
+      writer = writer_then overs is.writer;
       is_lost = is.is_lost;
       alone = is.alone;
       is_gone = is.is_gone;
@@ -169,11 +169,11 @@ module _ (t s : Tables) (law : Lawful t) (c q lo : ℕ) (hi : Option ℕ) (how :
 
   -- ALL REPRESENTATIONS
 
-  pub entries_bound : (a b : Shelf) (f : Kept → Kept) (e : Kept) → KeepsEntries t a → a.kept q ≡ Some e → IsEntry s q (f e) p → Becomes (option_map f) (moved_first q) q a b → KeepsEntries s b
-  entries_bound a b f e kept at_q is becomes = record {
+  pub entries_bound : OversStay t.exchange s.exchange → (a b : Shelf) (f : Kept → Kept) (e : Kept) → KeepsEntries t a → a.kept q ≡ Some e → IsEntry s q (f e) p → Becomes (option_map f) (moved_first q) q a b → KeepsEntries s b
+  entries_bound overs a b f e kept at_q is becomes = record {
     each = λ n. elim (same_or q n) [
       | inl one ↦ subst (λ (m : ℕ). KeepsEntry s m (b.kept m) (s.representation m)) one (subst (λ (o : Option Kept). KeepsEntry s q o (s.representation q)) (sym changed) (subst (KeepsEntry s q (Some (f e))) (sym (same q ∙ there)) is))
-      | inr ne ↦ subst (λ (o : Option Kept). KeepsEntry s n o (s.representation n)) (sym (stayed n ne)) (entry_other n (λ z. ne (sym z)) (a.kept n) (kept.each n))
+      | inr ne ↦ subst (λ (o : Option Kept). KeepsEntry s n o (s.representation n)) (sym (stayed n ne)) (entry_other overs n (λ z. ne (sym z)) (a.kept n) (kept.each n))
     ];
     order = becomes.order ∙ (ap (λ (ns : List ℕ). q ∷ without itself q ns) kept.order ∙ sym (ap (filter usable_s) used ∙ (rw (usable_q) (ap (λ (ns : List ℕ). q ∷ ns) (filters_as (filter (λ n. not (n == q)) t.used) ∙ filters_swap usable_t (λ n. not (n == q)) t.used)))));
   }

@@ -61,7 +61,7 @@ use Rattle.hc_core.proofs.BoundViews.{Holds, next_as, offset_is, entry_there, en
 use Rattle.hc_core.proofs.ReadLemmas as lemmas
 use Rattle.hc_core.proofs.ReadLemmas.{third_is, some_more}
 use Rattle.hc_core.proofs.ShowStored.{IsBoundRow, headless_as}
-use Rattle.hc_core.proofs.Words.{same_or, eqb-same, none_some, false_true, some_is, same_row, none_of}
+use Rattle.hc_core.proofs.Words.{same_or, eqb-same, none_some, false_true, some_is, same_row, none_of, few_received}
 
 -- THE STEP, BY ITS PARTS
 
@@ -575,7 +575,7 @@ module _ {B : Type 0} {g : Ghosts B} (r : Rows B g) (t : Tables) (facts : Facts 
         hole_fits : r.received < 2 ^ 61 → IsWithin other length_is.0
         hole_fits small =
             let total = facts.numbers.totals q length_is.0 rd.p rd.there length_is.1 in
-            let received = stands.received in
+            let received = few_received stands.received small in
             let ends = more_ahead next view_is.next_is in
             let le = length_is.2 in
             let to : hole_end k.hi o next ≡ hole_end (Some h) o next = ap (λ (z : Option ℕ). hole_end z o next) code_end in
@@ -618,7 +618,7 @@ module _ {B : Type 0} {g : Ghosts B} (r : Rows B g) (t : Tables) (facts : Facts 
   reach_small : rd.p.reach ≤ 2 ^ 62
   reach_small =
       let most = facts.numbers.reaches q rd.p rd.there in
-      let received = stands.received in
+      let received = few_received stands.received small in
       omega (arith, most, received, small)
 
   -- where it stands
@@ -628,7 +628,7 @@ module _ {B : Type 0} {g : Ghosts B} (r : Rows B g) (t : Tables) (facts : Facts 
       by_given : (rd.v.given ≡ 0) ⊎ (rd.lo + rd.v.given ≤ rd.p.reach) → k.lo + k.given < 2 ^ 62 + 1
       by_given (inl none) =
           let from = facts.numbers.starts c q rd.lo rd.hi how rd.v rd.row rd.at in
-          let received = stands.received in
+          let received = few_received stands.received small in
           let given = rd.kept.given in
           let at = begins in
           omega (arith, none, from, received, small, given, at)
@@ -683,7 +683,7 @@ module _ {B : Type 0} {g : Ghosts B} (r : Rows B g) (t : Tables) (facts : Facts 
   pub held_small : (h : Holds r t c q k rd.v rd.p) (n : ℕ) → k.given + length (take n (table_of r.exchanges h.x).held) < 2 ^ 62 + 1
   held_small h n =
       let most = facts.numbers.fronts h.x h.w h.row in
-      let received = stands.received in
+      let received = few_received stands.received small in
       let low = h.after_base in
       let high = h.before_front in
       let len : length (table_of r.exchanges h.x).held ≡ length h.w.body - (k.lo + k.given - base h.w) = ap length h.known ∙ length-drop (k.lo + k.given - base h.w) h.w.body in

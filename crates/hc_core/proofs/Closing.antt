@@ -36,8 +36,8 @@ use Rattle.hc_core.specs.Stored.{IsEntry, IsDropped, KeepsEntry, KeepsEntries, i
 use Rattle.hc_core.proofs.Asides.{same, held_alike}
 use Rattle.hc_core.proofs.OneOfEach.{first_row, growing_same, kind_same}
 use Rattle.hc_core.proofs.PastRows.{consumer_alike}
-use Rattle.hc_core.proofs.Ties.{exchange_same, key_same}
-use Rattle.hc_core.proofs.Words.{same_or, eqb-same, eqb-other, then_false}
+use Rattle.hc_core.proofs.Ties.{exchange_same, key_same, overs_closed, writer_then}
+use Rattle.hc_core.proofs.Words.{same_or, eqb-same, eqb-other, then_false, as_received}
 
 -- WHAT IS OVER BROUGHT AS MUCH
 
@@ -165,7 +165,7 @@ module _ (t : Tables) (x : ℕ) where
     reach = kept.reach;
     bound = kept.bound;
     first = λ c. kept.first c ∙ sym (first_row t s (λ n. refl) q (t.consumer c));
-    writer = kept.writer;
+    writer = writer_then (λ y on. overs_closed (nat_eq x y) (t.exchange y) on) kept.writer;
     is_lost = kept.is_lost;
     alone = kept.alone;
     is_gone = kept.is_gone;
@@ -215,7 +215,7 @@ module _ {B : Type 0} {g : Ghosts B} (r u : Rows B g) (t : Tables) (x : ℕ) (st
   pub stands_closed : KeepsEntries (closed x t) (shelf_of u.entries) → RowsStand u (closed x t)
   stands_closed entries = record {
     limits = bounded ∙ (stands.limits ∙ sym limits);
-    received = received ∙ stands.received;
+    received = as_received received stands.received;
     last_start = last ∙ stands.last_start;
     next = becomes.next ∙ stands.next;
     count = ap (λ z. hash_map_len z) consumers ∙ stands.count;

@@ -149,14 +149,13 @@ contents_told s found moment last next tells contents h stands =
     }
 
 -- the cache stands for the same where what is kept stays
-pub stands_still : {B : Type 0} {g : Ghosts B} (s u : Cache B g) → u.last_moment ≡ s.last_moment → u.steps ≡ s.steps → u.rows.limits ≡ s.rows.limits → u.rows.received ≡ s.rows.received → u.rows.last_start ≡ s.rows.last_start → u.rows.consumers ≡ s.rows.consumers → u.rows.exchanges ≡ s.rows.exchanges → u.rows.keys ≡ s.rows.keys
+pub stands_still : {B : Type 0} {g : Ghosts B} (s u : Cache B g) → u.last_moment ≡ s.last_moment → u.rows.limits ≡ s.rows.limits → u.rows.received ≡ s.rows.received → u.rows.last_start ≡ s.rows.last_start → u.rows.consumers ≡ s.rows.consumers → u.rows.exchanges ≡ s.rows.exchanges → u.rows.keys ≡ s.rows.keys
     → Stays (shelf_of s.rows.entries) (shelf_of u.rows.entries) → (contents : Contents) (h : History) → StandsFor s contents h → StandsFor u contents h
-stands_still s u moment steps limits received last consumers exchanges same_keys stays contents h stands = record {
+stands_still s u moment limits received last consumers exchanges same_keys stays contents h stands = record {
   begins = rw limits stands.begins;
   short = stands.short;
   run = rw limits stands.run;
   moment = moment ∙ stands.moment;
-  entries = steps ∙ stands.entries;
   rows = stands_read s.rows u.rows (tables contents h) limits received last consumers exchanges same_keys stays stands.rows;
 }
 

@@ -40,14 +40,14 @@ use Rattle.hc_core.specs.Changes.{ChangesAmong, once_over}
 use Rattle.hc_core.specs.Dooms.{Closes, IsUnheard, KeepsLine, IsDoomed}
 use Rattle.hc_core.specs.Lines.{KeepsKey, has_turn, is_passed, is_away, is_away_at}
 use Rattle.hc_core.specs.Stands.{RowsStand, KeepsRest}
-use Rattle.hc_core.specs.Stored.{KeepsEntry, KeepsEntries}
+use Rattle.hc_core.specs.Stored.{KeepsEntry, KeepsEntries, is_over}
 use Rattle.hc_core.proofs.AsideSteps.{live_same}
 use Rattle.hc_core.proofs.DoomCloses.{IsBare, bare_among, closes_are}
 use Rattle.hc_core.proofs.DoomTies.{s, exchange_is, over_row, line_row, same_consumer, none_row, all_consumers, exchange_shut}
 use Rattle.hc_core.proofs.OneOfEach.{first_row, bound_same, growing_same, kind_same}
-use Rattle.hc_core.proofs.Ties.{entry_same, key_same}
+use Rattle.hc_core.proofs.Ties.{entry_same, key_same, overs_closed}
 use Rattle.hc_core.proofs.Woken.{stands_for, Stood, nobody, back, beside, stays, stood, waiting_lives, bytes-flip}
-use Rattle.hc_core.proofs.Words.{same_or, eqb-other, none_some, some_is, same_row, false_true, then_false, and_false}
+use Rattle.hc_core.proofs.Words.{same_or, eqb-other, none_some, some_is, same_row, false_true, then_false, and_false, as_received}
 
 or_offs : (a b d : Bool) → (a || b || d) ≡ false → (a ≡ false) × ((b ≡ false) × (d ≡ false))
 or_offs false false d off = (refl, (refl, off))
@@ -256,6 +256,7 @@ module _ (t : Tables) (law : Lawful t) (now : ℕ) (key xs : List ℕ) (bare : (
         first = λ c. first_row (woken now key t) after (λ n. refl) q (after.consumer c);
         list = bound_same (woken now key t) after q refl (λ c. refl);
         kind = λ v is. kind_same (woken now key t) after q v (growing_same (woken now key t) after q refl (λ y. brings_same q y v is));
+        overs = λ y on. ap is_over (exchange_is t law now key xs y) ∙ overs_closed (is_among y xs) (t.exchange y) on;
       }) each
 
   -- WHAT IT TAKES TO LET SOMETHING GO
@@ -306,7 +307,7 @@ module _ {B : Type 0} {g : Ghosts B} (r u : Rows B g) (t : Tables) (law : Lawful
   stands_woken : RowsStand u (s t law now key xs)
   stands_woken = record {
     limits = bounded ∙ (stands.limits ∙ sym limits);
-    received = received ∙ stands.received;
+    received = as_received received stands.received;
     last_start = last ∙ stands.last_start;
     next = closes.next ∙ stands.next;
     count = consumers.len ∙ (stands.count ∙ sym (live_same t (s t law now key xs) refl (lives t law now key xs bare)));

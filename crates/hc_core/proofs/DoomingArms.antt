@@ -1,6 +1,6 @@
 -- The head of an unsafe request dooms its key: it is answered, and what is kept stands for the tables then.
 use Rattle.std.proofs.Common.{◌≡◌, ◌≢◌, ◌⊎◌, inl, inr, ℕ, List, [], Bool, true, false, Option, Some, None, refl, ap, sym, ◌∙◌, subst}
-use Rattle.std.specs.Prelude.{is_some, is_none, nat_eq, bytes_eq, map, option_map, ◌&&◌, ◌||◌, if◌then◌else◌}
+use Rattle.std.specs.Prelude.{is_some, is_none, nat_eq, bytes_eq, map, option_map, not, ◌&&◌, ◌||◌, if◌then◌else◌}
 use Rattle.std.specs.HashMap.{get}
 use Rattle.hc_store.specs.declared.backend.Backend.{Ghosts}
 use Rattle.hc_event.specs.declared.act.Act.{Act}
@@ -58,7 +58,7 @@ use Rattle.hc_core.specs.Heads.{AwaitsHead, IsPastStore, IsReadAlone}
 use Rattle.hc_core.specs.Kept.{IsKept, KeepsConsumer, KeepsExchange, KeepsRunning, answer_for, unread, held_for}
 use Rattle.hc_core.specs.Lines.{KeepsKey, has_turn, is_away, is_away_at, is_passed}
 use Rattle.hc_core.specs.Stands.{Answered, RowsStand, StandsForSome}
-use Rattle.hc_core.specs.Stored.{KeepsEntries}
+use Rattle.hc_core.specs.Stored.{KeepsEntries, is_over}
 use Rattle.hc_core.proofs.AnswerArm.{reader_kept, opened_as}
 use Rattle.hc_core.proofs.Answering.{does_answered}
 use Rattle.hc_core.proofs.Asides.{same, held_alike}
@@ -77,10 +77,10 @@ use Rattle.hc_core.proofs.OneConsumer.{HoldsAsMuch, held_same}
 use Rattle.hc_core.proofs.OneOfEach.{stands_then, entries_same, growing_same}
 use Rattle.hc_core.proofs.QueueArm.{becomes_by}
 use Rattle.hc_core.proofs.RefuseArm.{length_as}
-use Rattle.hc_core.proofs.Ties.{key_same}
+use Rattle.hc_core.proofs.Ties.{key_same, overs_but}
 use Rattle.hc_core.proofs.Unbinding.{entries_unbound}
 use Rattle.hc_core.proofs.UnstoredArms.{read_then, unwritten}
-use Rattle.hc_core.proofs.Words.{same_or, eqb-same, eqb-other, and_false, then_false, false_true, none_some, some_is, same_row}
+use Rattle.hc_core.proofs.Words.{same_or, eqb-same, eqb-other, and_false, then_false, false_true, none_some, some_is, same_row, as_received}
 
 -- WHOEVER READS A CLOSED EXCHANGE PAST THE STORE IS TO FAIL
 
@@ -224,6 +224,7 @@ module _ {B : Type 0} {g : Ghosts B} (r u : Rows B g) (m : Tables) (c x : ℕ) (
   all_entries =
       entries_same mid s (shelf_of r.entries) (λ q. refl) refl refl (λ q n. refl) (λ q n. refl)
       (λ q. growing_same mid s q refl (λ y. by_number q y))
+      (overs_but mid.exchange s.exchange x (λ on. ap is_over s_here ∙ ap not z_over) (λ y ne. s_other y (λ h. ne (sym h))))
       (entries_unbound m started c v d here (λ q. refl) (shelf_of r.entries) (shelf_of r.entries) stands.entries (rw at refl))
     where
       shut_now : (q y : ℕ) (w : Exchange) → w.is_open ≡ false → brings_to q y (Some w) ≡ false
@@ -250,7 +251,7 @@ module _ {B : Type 0} {g : Ghosts B} (r u : Rows B g) (m : Tables) (c x : ℕ) (
 
   pub stands_down : u.limits ≡ r.limits → u.received ≡ r.received → u.last_start ≡ r.last_start → u.exchanges ≡ r.exchanges → u.keys ≡ r.keys → u.entries ≡ r.entries → ChangesAt r.consumers u.consumers c (standing_at (place.Down why)) → RowsStand u s
   stands_down limits received last exchanges same_keys same_entries alters =
-      stands_then r u m s c x (Some (standing_at (place.Down why) k)) stands limits (received ∙ stands.received) (last ∙ stands.last_start) (rw exchanges stands.next)
+      stands_then r u m s c x (Some (standing_at (place.Down why) k)) stands limits (as_received received stands.received) (last ∙ stands.last_start) (rw exchanges stands.next)
       (alters.len ∙ (stands.count ∙ sym (live_same m s refl lives)))
       (becomes_by r.consumers u.consumers c k (standing_at (place.Down why)) there alters)
       (λ y ne. rw exchanges refl) c_other s_other (λ q. refl)

@@ -74,5 +74,5 @@ module _ {B : Type 0} {g : Ghosts B} (r u : Rows B g) (t : Tables) (c : ℕ) (v 
   stands_due =
       stands_moved r u t c v z (with_due why k) stands row is.is_there is.is_there limits received last exchanges (ap (λ e. (shelf_of e).limits) same_entries)
       (becomes_by r.consumers u.consumers c k (with_due why) there changes) due_then keys_then
-      (rw same_entries (entries_same t s (shelf_of r.entries) (λ q. refl) refl refl users firsts (λ q. refl) stands.entries))
+      (rw same_entries (entries_same t s (shelf_of r.entries) (λ q. refl) refl refl users firsts (λ q. refl) (λ y on. on) stands.entries))
       (record { past = λ y e at. refl; lost = λ y e b at founded. refl })

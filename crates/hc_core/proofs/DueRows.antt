@@ -32,7 +32,7 @@ use Rattle.hc_core.proofs.AsideSteps.{live_same}
 use Rattle.hc_core.proofs.Asides.{unstored_moved}
 use Rattle.hc_core.proofs.OneOfEach.{entries_same}
 use Rattle.hc_core.proofs.Ties.{consumer_same, exchange_same, key_same, kept_same}
-use Rattle.hc_core.proofs.Words.{none_some, some_is}
+use Rattle.hc_core.proofs.Words.{none_some, some_is, as_received}
 
 module _ (t : Tables) (among : ℕ → Bool) (why : Cause) where
   abbrev pub s : Tables
@@ -156,12 +156,12 @@ stands_due r u t among why stands limits received last exchanges same_keys same_
     let z : Tables = with_consumers (due_for t among why) t in
     record {
       limits = rw (same_entries, limits) stands.limits;
-      received = received ∙ stands.received;
+      received = as_received received stands.received;
       last_start = last ∙ stands.last_start;
       next = ap (λ e. next_of e) exchanges ∙ stands.next;
       count = changes.len ∙ (stands.count ∙ sym (live_same t z refl (told_same t among why is_live (λ k. refl))));
       consumers = λ d. subst (λ o. KeepsConsumer z o (z.consumer d)) (sym (changes.places d)) (consumer_due t among why (among d) (get nat_eq r.consumers d) (t.consumer d) (stands.consumers d));
       exchanges = λ y. rw exchanges (exchange_same t z y (table_of r.exchanges y) (record { row = refl; brings = λ w at. refl; held = held_due t among why y (t.exchange y) }) (stands.exchanges y));
       keys = λ key. rw same_keys (key_same t z key (kept_of r.keys key) (record { current = refl; in_line = told_same t among why (is_in_line key) (λ k. refl); passed = told_same t among why (is_passed key) (λ k. refl); away = λ d. told_same t among why (is_away z key) (λ k. refl) d ∙ away_as t among why key (t.consumer d); turn = told_same t among why (has_turn key) (λ k. refl) }) (stands.keys key));
-      entries = rw same_entries (entries_same t z (shelf_of r.entries) (λ q. refl) refl refl (λ q. told_same t among why (is_bound q) (λ k. refl)) (λ q. told_same t among why (is_first t q) (λ k. refl)) (λ q. refl) stands.entries);
+      entries = rw same_entries (entries_same t z (shelf_of r.entries) (λ q. refl) refl refl (λ q. told_same t among why (is_bound q) (λ k. refl)) (λ q. told_same t among why (is_first t q) (λ k. refl)) (λ q. refl) (λ y on. on) stands.entries);
     }

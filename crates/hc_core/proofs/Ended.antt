@@ -21,6 +21,7 @@ use Rattle.hc_model.specs.Kinds.{brings_to}
 use Rattle.hc_model.specs.Reading.{bound, offset, is_bound_place, base_in, end_in, end_of_direct}
 use Rattle.hc_model.specs.Rows as rows
 use Rattle.hc_model.specs.Rows.{Tables, Exchange, Representation}
+use Rattle.hc_core.specs.Stored.{is_over}
 use Rattle.hc_core.specs.declared.rows.Rows.{Rows}
 use Rattle.hc_core.specs.Kept.{KeepsConsumer, KeepsExchange, KeepsRunning, head_in, held_for, held_of, held_alone, unread, unstored}
 use Rattle.hc_core.specs.Lines.{is_away, is_away_at}
@@ -138,5 +139,5 @@ module _ {B : Type 0} {g : Ghosts B} (u : Rows B g) (t : Tables) (f : ℕ → Op
         consumers = λ d. consumer_alike before after (record { head = told_alike t f x w head_in refl; begins = told_alike t f x w base_in (base_alike t f x w); ends = told_alike t f x w end_in (end_alike t f x w p promises); length = λ q. refl }) (get nat_eq u.consumers d) (t.consumer d) (stands.consumers d);
         exchanges = λ y. record { running = runs_end t f x w y (nat_eq x y) (table_of u.exchanges y).running (stands.exchanges y).running; held = (stands.exchanges y).held ∙ sym (held_end t f x w y) };
         keys = λ key. key_same before after key (kept_of u.keys key) (record { current = refl; in_line = λ d. refl; passed = λ d. refl; away = λ d. away_end t f x w key (t.consumer d); turn = λ d. refl }) (stands.keys key);
-        entries = entries_same before after (shelf_of u.entries) (λ q. refl) refl refl (λ q d. refl) (λ q d. refl) (λ q. growing_same before after q refl (λ y. told_alike t f x w (brings_to q y) refl y)) stands.entries;
+        entries = entries_same before after (shelf_of u.entries) (λ q. refl) refl refl (λ q d. refl) (λ q d. refl) (λ q. growing_same before after q refl (λ y. told_alike t f x w (brings_to q y) refl y)) (λ y on. told_alike t f x w is_over refl y ∙ on) stands.entries;
       }

@@ -15,14 +15,14 @@ use Rattle.hc_core.specs.Stands.{StandsForSome}
 use Rattle.hc_core.proofs.PieceRoom.{may_make_room}
 use Rattle.hc_core.proofs.Rooms.{room_is}
 use Rattle.hc_core.proofs.Standing.{facts_of_runs}
+use Rattle.hc_core.proofs.Words.{few_received}
 
 module _ {B : Type 0} {g : Ghosts B} (r : Rows B g) (w : Write) (small : grown_by w ≤ 65536) where
   few_for : (count : ℕ) → room_for_write r w ≡ room.After count → r.received < 2 ^ 61 → StandsForSome r → count ≤ 2
   few_for count is short s =
       let t = tables s.contents s.h in
       let facts = facts_of_runs r.limits s.contents s.h s.begins s.short s.run in
-      let received = s.rows.received in
-      let may = may_make_room t facts (omega (arith, short, received)) in
+      let may = may_make_room t facts (few_received s.rows.received short) in
       two_give_way r.limits t w count facts.fits small (sym (room_is r t may s.rows w) ∙ is)
 
   pub few_acts : r.received < 2 ^ 61 → ∥ StandsForSome r ∥₁ → (count : ℕ) → room_for_write r w ≡ room.After count → count ≤ 2

@@ -71,7 +71,7 @@ use Rattle.hc_core.proofs.OpenKinds.{kinds_opened}
 use Rattle.hc_core.proofs.PassesArm.{current_as}
 use Rattle.hc_core.proofs.PastArm.{idle_reads, idle_lives}
 use Rattle.hc_core.proofs.QueueArm.{becomes_by}
-use Rattle.hc_core.proofs.Ties.{key_same}
+use Rattle.hc_core.proofs.Ties.{key_same, overs_opened}
 use Rattle.hc_core.proofs.Words.{same_or, eqb-same, eqb-other, and_false, then_false, false_true}
 
 -- nobody came to it alone
@@ -249,8 +249,8 @@ module _ {B : Type 0} {g : Ghosts B} (r : Rows B g) (e : Exchanges) (a : Entries
       (λ d j ne is place_is. unread_yet t law x d j free is place_is)
       (λ y f ne is. held_else y f)
       (binds.limits ∙ stands.limits)
-      (entries_bound t s law c q span.lo (Some span.hi) (by.FirstHole x) v w at.p row here others reads_none refl (λ d. refl) refl refl at.row at.stays kinds (shelf_of r.entries) (shelf_of a) (with_first c) at.e stands.entries at.kept
-      (entry_first t s law c q span.lo (Some span.hi) (by.FirstHole x) v w at.p row here others reads_none refl (λ d. refl) refl refl at.row at.stays kinds at.e at.is x refl (first_none c ((shelf_of r.entries).kept q) at.e at.kept admits)) binds)
+      (entries_bound t s law c q span.lo (Some span.hi) (by.FirstHole x) v w at.p row here others reads_none refl (λ d. refl) refl refl at.row at.stays kinds (overs_opened t.exchange s.exchange x free exchanges) (shelf_of r.entries) (shelf_of a) (with_first c) at.e stands.entries at.kept
+      (entry_first t s law c q span.lo (Some span.hi) (by.FirstHole x) v w at.p row here others reads_none refl (λ d. refl) refl refl at.row at.stays kinds at.e at.is (overs_opened t.exchange s.exchange x free exchanges) x refl (first_none c ((shelf_of r.entries).kept q) at.e at.kept admits)) binds)
 
   pub filling_answered : (bounds : Limits) (faults want : ℕ) (before out : List Act) (from to : ℕ) → n ≡ need.Hole from to → (total : Option ℕ) → total ≡ total_in (t.representation q) → wanted_of k.class.range total ≡ wanted.Interval span
       → move_of t now want c v ≡ Opens x n request → out ≡ before ++ acts_of c (Opens x n request) → Answered bounds faults u t before out now (event.Poll c want)

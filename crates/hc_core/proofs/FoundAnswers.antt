@@ -59,7 +59,7 @@ use Rattle.hc_core.proofs.HeardRows.{Asker, Headless, asker, head_none, headless
 use Rattle.hc_core.proofs.Maps.{known_of, merely_below, merely_false}
 use Rattle.hc_core.proofs.ReaderSteps.{stands_read}
 use Rattle.hc_core.proofs.Rooms.{room_is}
-use Rattle.hc_core.proofs.Words.{none_of, none_some, some_is}
+use Rattle.hc_core.proofs.Words.{none_of, none_some, some_is, few_received}
 
 class_range : (request : Request) → (class_of request).range ≡ range_of request
 unfolding class_of
@@ -85,8 +85,8 @@ module _ {B : Type 0} {b : Ghosts B} (r r1 r2 r3 : Rows B b) (now x c : ℕ) (go
   h = headless_of (table_of r.exchanges x).running accepted
 
   module _ (t : Tables) (facts : Facts r.limits t) (stands : RowsStand r t) (w : Exchange) (row : t.exchange x ≡ Some w) where
-    pub few : t.received < 2 ^ 61
-    few = (let same = stands.received in subst (λ n. n < 2 ^ 61) same small)
+    pub few : t.received < 2 ^ 62
+    few = few_received stands.received small
 
     pub runs : IsRunning t x h.o w
     runs = runs_as r t x h.o w stands h.there row

@@ -104,7 +104,7 @@ some_may : (now : ℕ) (o : Option ℕ) (s : Tables) → MayLetGo s → MayLetGo
 some_may now None s may = may
 some_may now (Some q) s may = keeps_may now q s may
 
-module _ (limits : Limits) (t : Tables) (facts : Facts limits t) (few : t.received < 2 ^ 61) (now x : ℕ) (w : Exchange) (v : rows.Consumer) (awaits : AwaitsHead t x w v) (gone : Option ℕ) where
+module _ (limits : Limits) (t : Tables) (facts : Facts limits t) (few : t.received < 2 ^ 62) (now x : ℕ) (w : Exchange) (v : rows.Consumer) (awaits : AwaitsHead t x w v) (gone : Option ℕ) where
   -- its consumer reads past the store
   abbrev pub past : rows.Consumer
   past = record v { place = place.Direct x }
@@ -324,7 +324,7 @@ founder_ends response w v hi _ whole parts to = rw to (or_same (founded_total w 
 founder_ends response w v hi _ replaced parts to = rw to (or_same (founded_total w response))
 founder_ends response w v hi _ part parts to = (let span = parts refl in let wants = span.1 in rw (to, wants) refl)
 
-module _ (limits : Limits) (t : Tables) (facts : Facts limits t) (few : t.received < 2 ^ 61) (now x : ℕ) (response : Response) (goes : denial t (event.Head x response) ≡ None) (w : Exchange) (v : rows.Consumer) (awaits : AwaitsHead t x w v) (g : HeadCase) (founds : Founds g) (is : head_case (head_view t false w response) ≡ g) (gone : Option ℕ) (same : gone ≡ goes_with t w response g) where
+module _ (limits : Limits) (t : Tables) (facts : Facts limits t) (few : t.received < 2 ^ 62) (now x : ℕ) (response : Response) (goes : denial t (event.Head x response) ≡ None) (w : Exchange) (v : rows.Consumer) (awaits : AwaitsHead t x w v) (g : HeadCase) (founds : Founds g) (is : head_case (head_view t false w response) ≡ g) (gone : Option ℕ) (same : gone ≡ goes_with t w response g) where
   abbrev ev : Event
   ev = event.Head x response
 

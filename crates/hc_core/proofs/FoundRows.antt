@@ -54,7 +54,7 @@ use Rattle.hc_core.specs.Heads.{IsReadAlone}
 use Rattle.hc_core.specs.Kept.{IsKept, IsRunning, KeepsConsumer, KeepsExchange, KeepsRunning, answer_for, held_alone, held_for, held_of, unread, unstored}
 use Rattle.hc_core.specs.Lines.{KeepsKey, has_turn, is_away, is_passed}
 use Rattle.hc_core.specs.Stands.{RowsStand}
-use Rattle.hc_core.specs.Stored.{IsEntry, KeepsEntry, KeepsEntries, is_first, is_usable_row}
+use Rattle.hc_core.specs.Stored.{IsEntry, KeepsEntry, KeepsEntries, is_first, is_usable_row, as_written}
 use Rattle.hc_core.specs.Stored as stored
 use Rattle.hc_core.proofs.AnswerArm.{all_reached}
 use Rattle.hc_core.proofs.Asides.{unstored_moved}
@@ -65,7 +65,7 @@ use Rattle.hc_core.proofs.KeySteps.{IsUnsaid, apart_unsaid}
 use Rattle.hc_core.proofs.OneOfEach.{bound_same, kind_same}
 use Rattle.hc_core.proofs.QueueArm.{becomes_by}
 use Rattle.hc_core.proofs.Ties.{consumer_same, entry_same, exchange_same}
-use Rattle.hc_core.proofs.Words.{same_or, eqb-same, eqb-other, false_true, not_true, some_is, and_false}
+use Rattle.hc_core.proofs.Words.{same_or, eqb-same, eqb-other, false_true, not_true, some_is, and_false, as_received}
 use Rattle.hc_model.specs.Lines.{is_in_line}
 
 -- It is listed, nobody is bound to what has its number, and no other exchange brings that.
@@ -381,7 +381,7 @@ module _ {B : Type 0} {g : Ghosts B} (a u : Rows B g) (m : Tables) (now x : ℕ)
 
   entry_else : (n : ℕ) (e : Option Kept) → n ≢ x → KeepsEntry heard n e (m.representation n) → KeepsEntry s n e (s.representation n)
   entry_else n e ne kept = subst (KeepsEntry s n e) (sym (r_else n ne))
-      (entry_same heard s n e (m.representation n) refl (record { users = users_else n ne; first = first_else n ne; list = bound_same heard s n refl (users_else n ne); kind = λ p at. kind_same heard s n p refl }) kept)
+      (entry_same heard s n e (m.representation n) refl (record { users = users_else n ne; first = first_else n ne; list = bound_same heard s n refl (users_else n ne); kind = λ p at. kind_same heard s n p refl; overs = λ y on. on }) kept)
 
   -- ITSELF
 
@@ -528,7 +528,7 @@ module _ {B : Type 0} {g : Ghosts B} (a u : Rows B g) (m : Tables) (now x : ℕ)
     reach = λ kept. refl;
     bound = began_bound;
     first = began_first;
-    writer = began_writer;
+    writer = as_written began_writer;
     is_lost = refl;
     alone = refl;
     is_gone = refl;
@@ -558,7 +558,7 @@ module _ {B : Type 0} {g : Ghosts B} (a u : Rows B g) (m : Tables) (now x : ℕ)
   pub founded_stands : RowsStand u s
   founded_stands = record {
     limits = begins.entries.limits ∙ (limits_are ∙ sym begins.limits);
-    received = begins.received ∙ stands.received;
+    received = as_received begins.received stands.received;
     last_start = begins.last_start ∙ stands.last_start;
     next = begins.exchanges.next ∙ stands.next;
     count = begins.consumers.len ∙ (stands.count ∙ sym (live_same m s refl live_each));

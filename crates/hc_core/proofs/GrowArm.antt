@@ -67,7 +67,7 @@ flaw_closes q kind xs (r ∷ rs) = flaw_closes q kind xs rs
 still : (now : ℕ) (es : List ℕ) (k : rows.Consumer) (q lo : ℕ) (hi : Option ℕ) (how : BoundBy) → k.place ≡ place.Bound q lo hi how → back_from_any now es k ≡ k
 still now es k q lo hi how at = rw at refl
 
-module _ {B : Type 0} {g : Ghosts B} (r put : Rows B g) (t : Tables) (facts : Facts r.limits t) (stands : RowsStand r t) (small : t.received < 2 ^ 61) (now x q : ℕ) (bytes : List ℕ) (goes : denial t (event.Piece x bytes) ≡ None) (it : Stores t x q (length bytes)) (kind : LostKind) (before mid : List Act) (refuses : Refuses r put t now x bytes kind before mid) where
+module _ {B : Type 0} {g : Ghosts B} (r put : Rows B g) (t : Tables) (facts : Facts r.limits t) (stands : RowsStand r t) (small : t.received < 2 ^ 62) (now x q : ℕ) (bytes : List ℕ) (goes : denial t (event.Piece x bytes) ≡ None) (it : Stores t x q (length bytes)) (kind : LostKind) (before mid : List Act) (refuses : Refuses r put t now x bytes kind before mid) where
   abbrev ev : Event
   ev = event.Piece x bytes
 

@@ -18,7 +18,7 @@ use Rattle.hc_core.specs.Lines.{KeepsKey, is_away, is_away_at}
 use Rattle.hc_core.specs.Stored.{KeepsEntries}
 use Rattle.hc_core.proofs.Asides.{same, held_alike}
 use Rattle.hc_core.proofs.OneOfEach.{bound_same, first_row, growing_same, kind_same}
-use Rattle.hc_core.proofs.Ties.{key_same, entry_same}
+use Rattle.hc_core.proofs.Ties.{key_same, entry_same, overs_open}
 use Rattle.hc_core.proofs.Words.{same_or, eqb-same, eqb-other, then_false, none_some}
 
 abbrev none : List ℕ
@@ -110,6 +110,6 @@ module _ (t : Tables) (x : ℕ) (w z : Exchange) (bare : IsBare t x w) (unjoined
   pub entries_heard : (shelf : Shelf) → KeepsEntries t shelf → KeepsEntries s shelf
   entries_heard shelf kept = record {
     each = λ q. entry_same t s q (shelf.kept q) (t.representation q) refl
-        (record { users = λ d. refl; first = λ d. first_row t s (λ n. refl) q (t.consumer d); list = bound_same t s q refl (λ d. refl); kind = λ v at. kind_same t s q v (growing_there q v at) }) (kept.each q);
+        (record { users = λ d. refl; first = λ d. first_row t s (λ n. refl) q (t.consumer d); list = bound_same t s q refl (λ d. refl); kind = λ v at. kind_same t s q v (growing_there q v at); overs = overs_open t.exchange s.exchange x w bare.row bare.is_open (λ y ne. others y (λ e. ne (sym e))) }) (kept.each q);
     order = kept.order;
   }

@@ -34,6 +34,7 @@ use Rattle.hc_model.proofs.Covers.{headed_at}
 use Rattle.hc_model.proofs.HoleLemmas.{first_from, first_to, first_before, first_passes}
 use Rattle.hc_model.proofs.Once.{delivers_once}
 use Rattle.hc_model.proofs.PieceEffects as does
+use Rattle.hc_core.proofs.Ties.{overs_open, writer_then}
 use Rattle.hc_core.specs.declared.rows.Rows.{Rows}
 use Rattle.hc_core.specs.Facts.{Facts}
 use Rattle.hc_core.specs.Kept.{first_lacking, unstored, held_alone, held_of, held_for}
@@ -168,7 +169,7 @@ module _ {B : Type 0} {g : Ghosts B} (r u : Rows B g) (t : Tables) (stands : Row
     reach = λ fresh. false_true (sym fresh ∙ lost);
     bound = is.bound;
     first = λ d. is.first d ∙ sym (first_by t after (λ n. (like n).status) (family x w) (t.consumer d));
-    writer = is.writer;
+    writer = writer_then (overs_open t.exchange after.exchange x w row opened (λ y ne. rw (eqb-other x y ne) refl)) is.writer;
     is_lost = is.is_lost;
     alone = is.alone;
     is_gone = is.is_gone;

@@ -59,7 +59,7 @@ use Rattle.hc_core.specs.Leaving.{LeavesKey}
 use Rattle.hc_core.specs.Renewals.{renewed}
 use Rattle.hc_core.specs.Stands.{Answered, RowsStand, open_at}
 use Rattle.hc_core.specs.Stopped.{HoldsNothing}
-use Rattle.hc_core.specs.Stored.{IsEntry, KeepsEntry}
+use Rattle.hc_core.specs.Stored.{IsEntry, KeepsEntry, as_written}
 use Rattle.hc_core.proofs.Answering.{does_answered, lossy_answered}
 use Rattle.hc_core.proofs.Counting.{stands_counted}
 use Rattle.hc_core.proofs.CurrentTies.{entry_row}
@@ -179,7 +179,7 @@ module _ {B : Type 0} {g : Ghosts B} (r u : Rows B g) (m : Tables) (now x q c : 
         (entries_joined m now x q response w v p j h refl refl (Some x) None (λ y ne. refl) (shelf_of r.entries) (shelf_of u.entries) (written_by x (with_head news e)) stands.entries (shares.entries.order ∙ its_shelf.order)
         (λ n ne. shares.entries.kept n ∙ (rw (eqb-other q n ne) (others_then n ne)))
         (shares.entries.kept q ∙ rw (eqb-same q) (ap (option_map (written_by x)) kept_then))
-        (entry_growing m now x q response w v p j h refl refl (Some x) None (λ y ne. refl) e news (Some x) is on told_so refl refl refl))
+        (entry_growing m now x q response w v p j h refl refl (Some x) None (λ y ne. refl) e news (Some x) is on told_so refl refl (as_written refl)))
 
 -- IT IS ANSWERED
 

@@ -16,11 +16,11 @@ use Rattle.hc_model.specs.Rows as rows
 use Rattle.hc_model.specs.Rows.{Tables, Exchange, Representation}
 use Rattle.hc_model.specs.Sound.{Among}
 use Rattle.hc_model.specs.Writers.{status_in}
-use Rattle.hc_core.specs.Stored.{IsEntry, TellsLength, told, untold, KeepsEntry, KeepsEntries, is_first, is_usable_row}
+use Rattle.hc_core.specs.Stored.{IsEntry, TellsLength, told, untold, KeepsEntry, KeepsEntries, is_first, is_usable_row, TellsWriter}
 use Rattle.hc_core.proofs.JoinRows.{IsJoinable, s, z, told_consumer, told_representation, exchange_here, exchange_other, representation_here, representation_other}
 use Rattle.hc_core.proofs.Losing.{filters_same}
 use Rattle.hc_core.proofs.OneOfEach.{bound_same, first_by, growing_same, kind_same}
-use Rattle.hc_core.proofs.Ties.{entry_same}
+use Rattle.hc_core.proofs.Ties.{entry_same, OversStay, overs_open, writer_then}
 use Rattle.hc_core.proofs.Words.{same_or, eqb-same, eqb-other, then_false, false_true, none_some}
 
 -- one of them passes the test
@@ -39,6 +39,9 @@ module _ (t : Tables) (now x q : ℕ) (response : Response) (w : Exchange) (v : 
 
   abbrev now_row : Representation
   now_row = z t now x q response w v p j h total wr own apart
+
+  overs : OversStay t.exchange m.exchange
+  overs = overs_open t.exchange m.exchange x w j.row j.is_open (exchange_other t now x q response w v p j h total wr own apart)
 
   users : (n d : ℕ) → is_bound n (m.consumer d) ≡ is_bound n (t.consumer d)
   users n = told_consumer t now x q response w v p j h total wr own apart (is_bound n) refl
@@ -67,7 +70,7 @@ module _ (t : Tables) (now x q : ℕ) (response : Response) (w : Exchange) (v : 
   others_then : (shelf : Shelf) (n : ℕ) → q ≢ n → KeepsEntry t n (shelf.kept n) (t.representation n) → KeepsEntry m n (shelf.kept n) (m.representation n)
   others_then shelf n ne kept =
       subst (KeepsEntry m n (shelf.kept n)) (sym (representation_other t now x q response w v p j h total wr own apart n ne))
-      (entry_same t m n (shelf.kept n) (t.representation n) refl (record { users = users n; first = firsts n; list = lists n; kind = λ o there. kind_same t m n o (growing_same t m n refl (λ y. brings_else n y o ne there)) }) kept)
+      (entry_same t m n (shelf.kept n) (t.representation n) refl (record { users = users n; first = firsts n; list = lists n; kind = λ o there. kind_same t m n o (growing_same t m n refl (λ y. brings_else n y o ne there)); overs = overs }) kept)
 
   -- more comes of it
   growing_now : is_reached (promise_in w response) 0 ≡ false → kind_of m q now_row ≡ kinds.Growing
@@ -78,7 +81,7 @@ module _ (t : Tables) (now x q : ℕ) (response : Response) (w : Exchange) (v : 
       rw grows refl
 
   -- where its head tells that
-  pub entry_growing : (e : Kept) (k : Head) (writer : Option ℕ) → IsEntry t q e p → is_reached (promise_in w response) 0 ≡ false → sealed_head kinds.Growing h.total k ≡ h → k.total ≡ e.head.total → k.kind ≡ kinds.Growing → writer ≡ wr → IsEntry m q (record e { head = k; writer = writer }) now_row
+  pub entry_growing : (e : Kept) (k : Head) (writer : Option ℕ) → IsEntry t q e p → is_reached (promise_in w response) 0 ≡ false → sealed_head kinds.Growing h.total k ≡ h → k.total ≡ e.head.total → k.kind ≡ kinds.Growing → TellsWriter t.exchange writer wr → IsEntry m q (record e { head = k; writer = writer }) now_row
   unfolding bound
   entry_growing e k writer is on sealed told_as kind_is by = record {
     used = λ gone none. is.used gone (sym (lists q) ∙ none);
@@ -91,7 +94,7 @@ module _ (t : Tables) (now x q : ℕ) (response : Response) (w : Exchange) (v : 
     reach = is.reach;
     bound = λ d. is.bound d ∙ sym (users q d);
     first = λ d. is.first d ∙ sym (firsts q d);
-    writer = by;
+    writer = writer_then overs by;
     is_lost = is.is_lost;
     alone = is.alone;
     is_gone = is.is_gone;
@@ -115,7 +118,7 @@ module _ (t : Tables) (now x q : ℕ) (response : Response) (w : Exchange) (v : 
     reach = is.reach;
     bound = λ d. is.bound d ∙ sym (users q d);
     first = λ d. is.first d ∙ sym (firsts q d);
-    writer = is.writer ∙ sym by;
+    writer = writer_then overs (subst (TellsWriter t.exchange e.writer) (sym by) is.writer);
     is_lost = is.is_lost;
     alone = is.alone;
     is_gone = is.is_gone;

@@ -37,7 +37,7 @@ use Rattle.hc_core.proofs.AnswerArm.{opened_as}
 use Rattle.hc_core.proofs.CurrentTies.{covers_as, entry_at, stored_ends}
 use Rattle.hc_core.proofs.StoreArm.{stored_size}
 use Rattle.hc_core.proofs.Ties.{kept_row}
-use Rattle.hc_core.proofs.Words.{eqb-same, false_true, none_some, some_is}
+use Rattle.hc_core.proofs.Words.{eqb-same, false_true, none_some, some_is, few_received}
 
 -- a request for the whole has no range
 whole_as : (k : Consumer) (v : rows.Consumer) → k.class ≡ class_of v.request → is_none k.class.range ≡ asks_whole (Some v)
@@ -74,8 +74,8 @@ module _ {B : Type 0} {g : Ghosts B} (r : Rows B g) (t : Tables) (facts : Facts 
   is : IsEntry t q e p
   is = entry_at r t stands q e kept p row
 
-  few : t.received < 2 ^ 61
-  few = (let same = stands.received in subst (λ n. n < 2 ^ 61) same small)
+  few : t.received < 2 ^ 62
+  few = few_received stands.received small
 
   asks : asks_whole (t.consumer w.c) ≡ is_none k.class.range
   asks =

@@ -62,8 +62,8 @@ use Rattle.hc_core.proofs.OpenArm.{unread_yet}
 use Rattle.hc_core.proofs.OpenKinds.{kinds_opened}
 use Rattle.hc_core.proofs.QueueArm.{becomes_by}
 use Rattle.hc_core.proofs.ShowStored.{IsBoundRow}
-use Rattle.hc_core.proofs.Ties.{entry_same, key_same}
-use Rattle.hc_core.proofs.Words.{same_or, eqb-same, eqb-other, none_some, false_true, some_is, same_row}
+use Rattle.hc_core.proofs.Ties.{entry_same, key_same, overs_opened}
+use Rattle.hc_core.proofs.Words.{same_or, eqb-same, eqb-other, none_some, false_true, some_is, same_row, as_received}
 
 -- where it stands before a hole
 record IsAtHole (t : Tables) (c q : ℕ) (v : rows.Consumer) (p : Representation) : Type 0 where
@@ -273,6 +273,7 @@ module _ {B : Type 0} {g : Ghosts B} (r u : Rows B g) (t : Tables) (facts : Fact
       first = λ d. first_row t s (λ b. refl) a (s.consumer d) ∙ same_of (is_first t a) refl d;
       list = bound_same t s a refl (same_of (is_bound a) refl);
       kind = λ b row. kinds_opened t s x z free unfounded opened_is exchanges refl refl a b row;
+      overs = overs_opened t.exchange s.exchange x free exchanges;
     }) (stands.entries.each a);
     order = stands.entries.order;
   }
@@ -327,7 +328,7 @@ module _ {B : Type 0} {g : Ghosts B} (r u : Rows B g) (t : Tables) (facts : Fact
 
   stands_filled : RowsStand u s
   stands_filled =
-      stands_then r u t s c x (Some (with_own x k)) stands limits (received ∙ stands.received) (last ∙ stands.last_start)
+      stands_then r u t s c x (Some (with_own x k)) stands limits (as_received received stands.received) (last ∙ stands.last_start)
       (let before = stands.next in let above = x_is in omega (arith, next, before, above))
       (length_same r u t c v (with_own x k) stands rd.row rd.kept.is_there becomes ∙ (stands.count ∙ sym (live_same t s refl (same_of is_live refl))))
       becomes (λ y ne. launches y ∙ rw (eqb-other (next_of r.exchanges) y (λ e. ne (sym e ∙ sym is_next))) refl) others exchanges (λ a. refl)

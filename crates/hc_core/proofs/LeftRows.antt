@@ -34,9 +34,9 @@ use Rattle.hc_core.specs.Arms.{IsDown}
 use Rattle.hc_event.specs.declared.act.Cause.{Cause}
 use Rattle.hc_core.specs.Leaving.{if_running, writing_of, last_read, left_of}
 use Rattle.hc_core.specs.Stands.{RowsStand}
-use Rattle.hc_core.specs.Stored.{KeepsEntry}
+use Rattle.hc_core.specs.Stored.{KeepsEntry, TellsWriter, as_written, forgotten, is_over}
 use Rattle.hc_core.proofs.Ties.{kept_row}
-use Rattle.hc_core.proofs.Words.{eqb-same, false_true, there, is_there}
+use Rattle.hc_core.proofs.Words.{eqb-same, false_true, there, is_there, not_true}
 
 -- LISTS
 
@@ -99,6 +99,11 @@ open_as t x None row keeps = sym keeps
 open_as t x (Some o) None keeps = absurd keeps
 open_as t x (Some o) (Some w) keeps = sym keeps.is_open
 
+-- what is over isn't open
+shut : (o : Option Exchange) → is_over o ≡ true → is_open o ≡ false
+shut None on = refl
+shut (Some w) on = not_true w.is_open (λ opened. false_true (sym (ap not opened) ∙ on))
+
 module _ {B : Type 0} {g : Ghosts B} (r : Rows B g) (t : Tables) (stands : RowsStand r t) where
   pub is_open_as : (x : ℕ) → known.is_open x (table_of r.exchanges) ≡ is_open (t.exchange x)
   is_open_as x = open_as t x (table_of r.exchanges x).running (t.exchange x) (stands.exchanges x).running
@@ -117,6 +122,14 @@ module _ {B : Type 0} {g : Ghosts B} (r : Rows B g) (t : Tables) (stands : RowsS
       both false None = refl
       both false (Some x) = running_as (Some x)
 
+      none_written : (b : Bool) (z : Option ℕ) (x : ℕ) → z ≡ Some x → is_open (t.exchange x) ≡ false → (if b then None else None) ≡ (if (not b && is_open_writer t z) then z else None)
+      none_written true z x is off = refl
+      none_written false z x is off = rw (is, off) refl
+
+      by_writer : (e : Kept) (v : Representation) → TellsWriter t.exchange e.writer v.writer → (if v.is_lost then None else if_running (table_of r.exchanges) e.writer) ≡ (if (not v.is_lost && is_open_writer t v.writer) then v.writer else None)
+      by_writer e v (as_written is) = rw is (both v.is_lost v.writer)
+      by_writer e v (forgotten x none is on) = rw none (none_written v.is_lost v.writer x is (shut (t.exchange x) on))
+
       unwritten : (v : Representation) (b : Bool) → is_written t v ≡ b → (is_written t v ≡ true → ⊥) → None ≡ (if b then v.writer else None)
       unwritten v true is off = absurd (off is)
       unwritten v false is off = refl
@@ -125,7 +138,7 @@ module _ {B : Type 0} {g : Ghosts B} (r : Rows B g) (t : Tables) (stands : RowsS
       by_row None None there kept = refl
       by_row None (Some v) there kept = unwritten v (is_written t v) refl (λ written. law.sound.writes.has_bound q v there written kept.unused)
       by_row (Some e) None there kept = absurd kept
-      by_row (Some e) (Some v) there kept = rw (kept.is_lost, kept.writer) (both v.is_lost v.writer)
+      by_row (Some e) (Some v) there kept = rw kept.is_lost (by_writer e v kept.writer)
 
   module _ (law : Lawful t) (c : ℕ) (k : Consumer) (v : rows.Consumer) (row : t.consumer c ≡ Some v) (is : IsKept t k v) where
     bound_there : (q : ℕ) (o : Option rows.Consumer) → is_bound q o ≡ true → is_some o ≡ true

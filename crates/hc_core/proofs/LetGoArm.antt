@@ -49,7 +49,7 @@ use Rattle.hc_core.proofs.Asides.{IsAlike, same, aside, held_gone, users_alike}
 use Rattle.hc_core.proofs.BoundLists.{bound_none, bound_some}
 use Rattle.hc_core.proofs.OneOfEach.{first_by, kind_same}
 use Rattle.hc_core.proofs.Ties.{consumer_same, key_same, entry_same, exchange_same, SaysSame, UsesSame}
-use Rattle.hc_core.proofs.Words.{eqb-same, some_is, false_true, then_false}
+use Rattle.hc_core.proofs.Words.{eqb-same, some_is, false_true, then_false, as_received}
 
 mapped : {A : Type 0} (f : A → A) (o : Option A) → is_some (option_map f o) ≡ is_some o
 mapped f None = refl
@@ -336,7 +336,7 @@ module _ {B : Type 0} {g : Ghosts B} (r u : Rows B g) (t : Tables) (may : MayLet
   ]
 
   uses : (q : ℕ) → UsesSame t s q
-  uses q = record { users = λ d. users_alike t s alike q d; first = firsts q; list = bound_let_go now n t may.one_current q; kind = λ w is. kind_same t s q w refl }
+  uses q = record { users = λ d. users_alike t s alike q d; first = firsts q; list = bound_let_go now n t may.one_current q; kind = λ w is. kind_same t s q w refl; overs = λ y on. on }
 
   still_told : TellsLength k v → TellsLength (record k { is_gone = true }) (gone v)
   still_told (told is) = told is
@@ -411,7 +411,7 @@ module _ {B : Type 0} {g : Ghosts B} (r u : Rows B g) (t : Tables) (may : MayLet
       → shelves.Becomes (option_and_then kept.gone) (taken_out n) n (shelf_of r.entries) (shelf_of u.entries) → RowsStand u s
   stands_without mid limits last received exchanges consumers line cleared forgot = record {
     limits = forgot.limits ∙ (stands.limits ∙ sym limits);
-    received = received ∙ stands.received;
+    received = as_received received stands.received;
     last_start = last ∙ stands.last_start;
     next = ap next_of exchanges ∙ stands.next;
     count = consumers.len ∙ (stands.count ∙ sym (live_let_go now n t may.one_current));

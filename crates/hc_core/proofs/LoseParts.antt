@@ -35,7 +35,7 @@ use Rattle.hc_core.proofs.AsideSteps.{live_same}
 use Rattle.hc_core.proofs.Asides.{unstored_moved}
 use Rattle.hc_core.proofs.OneOfEach.{entries_same}
 use Rattle.hc_core.proofs.Ties.{exchange_same, key_same, kept_same}
-use Rattle.hc_core.proofs.Words.{same_or, eqb-other, none_some, some_is, false_true}
+use Rattle.hc_core.proofs.Words.{same_or, eqb-other, none_some, some_is, false_true, as_received}
 
 module _ (t : Tables) (q x : ℕ) (heir : Option ℕ) where
   abbrev pub s : Tables
@@ -237,12 +237,12 @@ stands_parted r u t q x heir v among stands there nobody limits received last ex
     let z : Tables = writing_lost q heir (Some x) t in
     record {
       limits = rw (same_entries, limits) stands.limits;
-      received = received ∙ stands.received;
+      received = as_received received stands.received;
       last_start = last ∙ stands.last_start;
       next = ap (λ e. next_of e) exchanges ∙ stands.next;
       count = changes.len ∙ (stands.count ∙ sym (live_same t z refl (told_same t q x heir is_live (λ k own due. refl))));
       consumers = λ d. subst (λ o. KeepsConsumer z o (z.consumer d)) (sym (changes.places d)) (consumer_part t q x heir d (among d) (get nat_eq r.consumers d) (t.consumer d) (alike d) (stands.consumers d));
       exchanges = λ y. rw exchanges (exchange_same t z y (table_of r.exchanges y) (record { row = refl; brings = λ w at. refl; held = held_part t q x heir v there nobody y (t.exchange y) }) (stands.exchanges y));
       keys = λ key. rw same_keys (key_same t z key (kept_of r.keys key) (record { current = refl; in_line = told_same t q x heir (is_in_line key) (λ k own due. refl); passed = told_same t q x heir (is_passed key) (λ k own due. refl); away = λ d. told_same t q x heir (is_away z key) (λ k own due. refl) d ∙ away_as t q x heir key (t.consumer d); turn = told_same t q x heir (has_turn key) (λ k own due. refl) }) (stands.keys key));
-      entries = rw same_entries (entries_same t z (shelf_of r.entries) (λ n. refl) refl refl (λ n. told_same t q x heir (is_bound n) (λ k own due. refl)) (λ n. told_same t q x heir (is_first t n) (λ k own due. refl)) (λ n. refl) stands.entries);
+      entries = rw same_entries (entries_same t z (shelf_of r.entries) (λ n. refl) refl refl (λ n. told_same t q x heir (is_bound n) (λ k own due. refl)) (λ n. told_same t q x heir (is_first t n) (λ k own due. refl)) (λ n. refl) (λ y on. on) stands.entries);
     }

@@ -29,7 +29,7 @@ use Rattle.hc_core.specs.Stopped.{HoldsNothing}
 use Rattle.hc_core.specs.Stored.{IsEntry, TellsLength, told, untold, KeepsEntry, KeepsEntries, is_first, is_usable_row}
 use Rattle.hc_core.proofs.Asides.{unstored_moved}
 use Rattle.hc_core.proofs.Ties.{consumer_same, exchange_same, key_same, entry_same}
-use Rattle.hc_core.proofs.Words.{same_or, eqb-same, eqb-other, false_true, same_row}
+use Rattle.hc_core.proofs.Words.{same_or, eqb-same, eqb-other, false_true, same_row, as_received}
 
 pub finds_same : (f h : ℕ → Bool) → ((q : ℕ) → h q ≡ f q) → (qs : List ℕ) → find h qs ≡ find f qs
 finds_same f h alike [] = refl
@@ -176,7 +176,7 @@ module _ (t : Tables) (r : ℕ) (v : Representation) (alone : Option ℕ) (row :
   entries_lost a b kept becomes there = record {
     each = λ q. elim (same_or r q) [
       | inl e ↦ subst (λ n. KeepsEntry s n (b.kept n) (s.representation n)) e (by_kept (a.kept r) refl)
-      | inr ne ↦ rw (becomes.kept q, eqb-other r q ne) (entry_same t s q (a.kept q) (t.representation q) refl (record { users = λ d. refl; first = λ d. first_same q (t.consumer d); list = refl; kind = λ p at. refl }) (kept.each q))
+      | inr ne ↦ rw (becomes.kept q, eqb-other r q ne) (entry_same t s q (a.kept q) (t.representation q) refl (record { users = λ d. refl; first = λ d. first_same q (t.consumer d); list = refl; kind = λ p at. refl; overs = λ y on. on }) (kept.each q))
     ];
     order = becomes.order ∙ (kept.order ∙ sym (filters_same (λ q. is_usable_row (t.representation q)) (λ q. is_usable_row (s.representation q)) (told_same is_usable_row refl) t.used));
   }
@@ -197,7 +197,7 @@ stands_lost r u t q v alone row stands nobody nothing limits received last consu
     let z : Tables = with_representation q (Some (lost_to alone v)) t in
     record {
       limits = becomes.limits ∙ (stands.limits ∙ sym limits);
-      received = received ∙ stands.received;
+      received = as_received received stands.received;
       last_start = last ∙ stands.last_start;
       next = ap (λ z. next_of z) exchanges ∙ stands.next;
       count = ap (λ z. hash_map_len z) consumers ∙ stands.count;

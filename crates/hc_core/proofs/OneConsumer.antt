@@ -20,7 +20,7 @@ use Rattle.hc_core.proofs.Asides.{unstored_moved}
 use Rattle.hc_core.proofs.AsideSteps.{length_same, live_same}
 use Rattle.hc_core.proofs.ConsumerSteps.{all_kept_with}
 use Rattle.hc_core.proofs.Ties.{exchange_same}
-use Rattle.hc_core.proofs.Words.{same_or, eqb-same, eqb-other}
+use Rattle.hc_core.proofs.Words.{same_or, eqb-same, eqb-other, as_received}
 
 module _ (t : Tables) (c : ℕ) (v z : rows.Consumer) (row : t.consumer c ≡ Some v) where
   abbrev pub s : Tables
@@ -77,7 +77,7 @@ module _ {B : Type 0} {g : Ghosts B} (r u : Rows B g) (t : Tables) (c : ℕ) (v 
   pub stands_moved : RowsStand u (with_consumer c (Some z) t)
   stands_moved = record {
     limits = bounded ∙ (stands.limits ∙ sym limits);
-    received = received ∙ stands.received;
+    received = as_received received stands.received;
     last_start = last ∙ stands.last_start;
     next = rw exchanges stands.next;
     count = length_same r u t c v k stands row lived becomes ∙ (stands.count ∙ sym (live_same t (with_consumer c (Some z) t) refl live_each));

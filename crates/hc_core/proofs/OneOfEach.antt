@@ -1,5 +1,5 @@
 -- One consumer and one exchange change, and no representation: what is kept stands for the tables then.
-use Rattle.std.proofs.Common.{◌≡◌, ◌≢◌, inl, inr, ℕ, ◌+◌, List, [], ◌∷◌, Bool, Option, Some, None, refl, ap, sym, ◌∙◌, subst}
+use Rattle.std.proofs.Common.{◌≡◌, ◌≢◌, inl, inr, ℕ, ◌+◌, ◌≤◌, List, [], ◌∷◌, Bool, Option, Some, None, refl, ap, sym, ◌∙◌, subst}
 use Rattle.std.specs.Prelude.{is_some, nat_eq, filter}
 use Rattle.std.specs.List.{list_any}
 use Rattle.std.specs.HashMap.{get, hash_map_len}
@@ -24,9 +24,9 @@ use Rattle.hc_core.specs.declared.rows.Rows.{Rows}
 use Rattle.hc_core.specs.Changes.{BecomesAt}
 use Rattle.hc_core.specs.Kept.{KeepsConsumer, KeepsExchange, held_for}
 use Rattle.hc_core.specs.Lines.{KeepsKey}
-use Rattle.hc_core.specs.Stands.{RowsStand}
+use Rattle.hc_core.specs.Stands.{RowsStand, most_before}
 use Rattle.hc_core.specs.Stored.{KeepsEntry, KeepsEntries, is_first, is_usable_row}
-use Rattle.hc_core.proofs.Ties.{consumer_same, exchange_same, entry_same}
+use Rattle.hc_core.proofs.Ties.{consumer_same, exchange_same, entry_same, OversStay}
 use Rattle.hc_core.proofs.Words.{same_or, eqb-same, eqb-other}
 
 -- REPRESENTATIONS
@@ -74,18 +74,18 @@ orders_same t s same qs = filters_same (λ q. is_usable_row (t.representation q)
 
 -- where no representation changes, nor who is bound, nor what comes
 pub entries_same : (t s : Tables) (shelf : Shelf) → ((q : ℕ) → s.representation q ≡ t.representation q) → s.used ≡ t.used → s.starts ≡ t.starts → ((q d : ℕ) → is_bound q (s.consumer d) ≡ is_bound q (t.consumer d))
-    → ((q d : ℕ) → is_first t q (s.consumer d) ≡ is_first t q (t.consumer d)) → ((q : ℕ) → is_growing s q ≡ is_growing t q) → KeepsEntries t shelf → KeepsEntries s shelf
-entries_same t s shelf same used starts users firsts growing kept = record {
+    → ((q d : ℕ) → is_first t q (s.consumer d) ≡ is_first t q (t.consumer d)) → ((q : ℕ) → is_growing s q ≡ is_growing t q) → OversStay t.exchange s.exchange → KeepsEntries t shelf → KeepsEntries s shelf
+entries_same t s shelf same used starts users firsts growing overs kept = record {
   each = λ q. subst (KeepsEntry s q (shelf.kept q)) (sym (same q))
       (entry_same t s q (shelf.kept q) (t.representation q) refl
-      (record { users = users q; first = λ d. first_row t s same q (s.consumer d) ∙ firsts q d; list = bound_same t s q starts (users q); kind = λ v at. kind_same t s q v (growing q) }) (kept.each q));
+      (record { users = users q; first = λ d. first_row t s same q (s.consumer d) ∙ firsts q d; list = bound_same t s q starts (users q); kind = λ v at. kind_same t s q v (growing q); overs = overs }) (kept.each q));
   order = kept.order ∙ sym (ap (filter (λ q. is_usable_row (s.representation q))) used ∙ orders_same t s same t.used);
 }
 
 -- ALL OF IT
 
 module _ {B : Type 0} {g : Ghosts B} (r u : Rows B g) (t s : Tables) (c x : ℕ) (o : Option Consumer) (stands : RowsStand r t)
-    (limits : u.limits ≡ r.limits) (received : u.received ≡ s.received) (last : u.last_start ≡ s.last_start) (next : next_of u.exchanges ≡ s.opened + 1) (count : hash_map_len u.consumers ≡ live s)
+    (limits : u.limits ≡ r.limits) (received : s.received ≤ u.received + most_before) (last : u.last_start ≡ s.last_start) (next : next_of u.exchanges ≡ s.opened + 1) (count : hash_map_len u.consumers ≡ live s)
     (becomes : BecomesAt r.consumers u.consumers c o) (tables : (y : ℕ) → y ≢ x → table_of u.exchanges y ≡ table_of r.exchanges y)
     (others : (d : ℕ) → d ≢ c → s.consumer d ≡ t.consumer d) (exchanges : (y : ℕ) → y ≢ x → s.exchange y ≡ t.exchange y) (same : (q : ℕ) → s.representation q ≡ t.representation q)
     (kept : KeepsConsumer s o (s.consumer c)) (known : KeepsExchange s x (table_of u.exchanges x)) (keys : (key : List ℕ) → KeepsKey s key (kept_of u.keys key))

@@ -15,7 +15,7 @@ use Rattle.hc_core.proofs.Asides.{unread_aside, unstored_aside}
 use Rattle.hc_core.proofs.AsideSteps.{first_aside}
 use Rattle.hc_core.proofs.OneOfEach.{bound_same, first_row}
 use Rattle.hc_core.proofs.OpenKinds.{kinds_opened}
-use Rattle.hc_core.proofs.Ties.{entry_same}
+use Rattle.hc_core.proofs.Ties.{entry_same, overs_opened}
 use Rattle.hc_core.proofs.Words.{same_or, eqb-same, eqb-other, false_true, none_some}
 
 -- past the store, or with the turn
@@ -147,6 +147,6 @@ module _ (t s : Tables) (law : Lawful t) (c x : ℕ) (v w : rows.Consumer) (z : 
   pub entries_opened : (shelf : Shelf) → KeepsEntries t shelf → shelf.order ≡ filter (λ q. is_usable_row (s.representation q)) s.used → KeepsEntries s shelf
   entries_opened shelf kept order = record {
     each = λ q. subst (KeepsEntry s q (shelf.kept q)) (sym (same q))
-        (entry_same t s q (shelf.kept q) (t.representation q) refl (record { users = users q; first = λ d. first_row t s same q (s.consumer d) ∙ firsts q d; list = bound_same t s q starts (users q); kind = kinds_opened t s x z free unfounded opened exchanges lists unjoined q }) (kept.each q));
+        (entry_same t s q (shelf.kept q) (t.representation q) refl (record { users = users q; first = λ d. first_row t s same q (s.consumer d) ∙ firsts q d; list = bound_same t s q starts (users q); kind = kinds_opened t s x z free unfounded opened exchanges lists unjoined q; overs = overs_opened t.exchange s.exchange x free exchanges }) (kept.each q));
     order = order;
   }

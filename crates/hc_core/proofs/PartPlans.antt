@@ -60,7 +60,7 @@ use Rattle.hc_core.proofs.PlanArms.{found, waits_there, current_admits, plan_ans
 use Rattle.hc_core.proofs.Standing.{facts_of_runs}
 use Rattle.hc_core.proofs.Ties.{kept_row}
 use Rattle.hc_core.proofs.TurnTies.{least_none, among_in, filter_in}
-use Rattle.hc_core.proofs.Words.{and_false, eqb-same, false_true, some_is}
+use Rattle.hc_core.proofs.Words.{and_false, eqb-same, false_true, some_is, few_received}
 
 -- who fills a hole may ask the origin
 fills_asks : (view : PlanView) (span hole : Span) → plan_of view ≡ plan.FirstHole span hole → view.class.only ≡ false
@@ -116,7 +116,7 @@ module _ {B : Type 0} {g : Ghosts B} (r : Rows B g) (t : Tables) (facts : Facts 
       let w = wanted_within (range_of v.request) at.p.head.total span wants in
       let ends : span.hi ≤ w.total = w.ends in
       let early : w.total < max (2 ^ 62) (t.received + 1) = facts.numbers.totals q w.total at.p at.row w.known in
-      let count : r.received ≡ t.received = stands.received in
+      let count : t.received < 2 ^ 62 = few_received stands.received small in
       some_that head.total w.total (IsWithin part) (total_is ∙ w.known) (record { not_empty = some; within = omega (arith, ends, inside); small = omega (arith, early, count, small) })
 
   -- WHO FILLS A HOLE

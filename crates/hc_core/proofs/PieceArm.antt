@@ -31,7 +31,7 @@ use Rattle.hc_model.proofs.PieceEffects as does
 use Rattle.hc_core.specs.declared.rows.Rows.{Rows}
 use Rattle.hc_core.specs.Facts.{Facts}
 use Rattle.hc_core.specs.Kept.{IsRunning, KeepsRunning, unread, held_of, held_for}
-use Rattle.hc_core.specs.Stands.{Answered, RowsStand, StandsForSome}
+use Rattle.hc_core.specs.Stands.{Answered, RowsStand, StandsForSome, most_before}
 use Rattle.hc_core.specs.Stops.{body_of, brought_by}
 use Rattle.hc_core.specs.Stored.{KeepsEntry}
 use Rattle.hc_core.proofs.AnswerArm.{known_here}
@@ -76,7 +76,7 @@ piece_below r t facts x n o stands running small none =
     let w = h.w in
     by_promise w (promised w) refl h.is.delivered h.is.base_is (facts.law.places.received x w h.row) (λ p is. allowed.2 p (h.is.promised_is ∙ is)) stands.received (λ none. facts.numbers.unpromised x w h.row none) (λ p is. facts.numbers.promises x p w h.row is)
   where
-    by_promise : (w : Exchange) (p : Option ℕ) → promised w ≡ p → o.delivered ≡ length w.body → o.base ≡ base w → length w.body ≤ t.received → ((m : ℕ) → promised w ≡ Some m → o.delivered + n ≤ m) → r.received ≡ t.received
+    by_promise : (w : Exchange) (p : Option ℕ) → promised w ≡ p → o.delivered ≡ length w.body → o.base ≡ base w → length w.body ≤ t.received → ((m : ℕ) → promised w ≡ Some m → o.delivered + n ≤ m) → t.received ≤ r.received + most_before
         → (promised w ≡ None → base w ≡ 0) → ((m : ℕ) → promised w ≡ Some m → base w + m ≤ 2 ^ 62) → o.base + o.delivered + n < 2 ^ 62 + 1
     by_promise w None is came begins got fits all start most = let zero : base w ≡ 0 = start is in omega (arith, zero, came, begins, got, small, all)
     by_promise w (Some m) is came begins got fits all start most = let le = fits m is in let reach = most m is in omega (arith, le, reach, begins)

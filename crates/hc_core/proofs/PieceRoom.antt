@@ -84,14 +84,14 @@ and_true false = refl
 
 -- WHAT THE RUN ALLOWS
 
-reaches_small : (n m : ℕ) → n ≤ max (2 ^ 62) m → m < 2 ^ 61 → n ≤ 2 ^ 62
+reaches_small : (n m : ℕ) → n ≤ max (2 ^ 62) m → m < 2 ^ 62 → n ≤ 2 ^ 62
 reaches_small n m le small = grind (arith, nat_tests)
 
 none_by : (stored body : Option Cell) → (is_some stored ≡ true → stored ≡ body) → body ≡ None → stored ≡ None
 none_by None body same none = refl
 none_by (Some cell) body same none = same refl ∙ none
 
-pub may_make_room : {limits : Limits} (t : Tables) → Facts limits t → t.received < 2 ^ 61 → MayMakeRoom t
+pub may_make_room : {limits : Limits} (t : Tables) → Facts limits t → t.received < 2 ^ 62 → MayMakeRoom t
 may_make_room t facts small = record {
   may = may_let_go t facts.law;
   used = facts.law.order.used;

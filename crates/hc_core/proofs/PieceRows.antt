@@ -38,8 +38,8 @@ use Rattle.hc_core.proofs.AnswerArm.{all_reached, known_here, known_other}
 use Rattle.hc_core.proofs.Losing.{finds_same, filters_same}
 use Rattle.hc_core.proofs.OneOfEach.{first_by, bound_same, growing_same, kind_same}
 use Rattle.hc_core.proofs.PastRows.{SeesAlike, consumer_alike}
-use Rattle.hc_core.proofs.Ties.{key_same, entry_same, exchange_same}
-use Rattle.hc_core.proofs.Words.{same_or, eqb-same, eqb-other, then_false, false_true, same_row}
+use Rattle.hc_core.proofs.Ties.{key_same, entry_same, exchange_same, overs_open}
+use Rattle.hc_core.proofs.Words.{same_or, eqb-same, eqb-other, then_false, false_true, same_row, as_received, more_received}
 
 -- what bytes don't change of a representation
 pub record IsLike (o p : Option Representation) : Type 0 where
@@ -160,7 +160,7 @@ module _ (t : Tables) (now x : ℕ) (w : Exchange) (bytes : List ℕ) (vs : ℕ 
         | inr ne ↦
             subst (λ o. KeepsEntry s q o (vs q)) (sym (kept_else q ne)) (subst (KeepsEntry s q (a.kept q)) (sym (apart q ne))
             (entry_same t s q (a.kept q) (t.representation q) refl
-            (record { users = λ d. refl; first = λ d. first_by t s (λ n. (like n).status) q (t.consumer d); list = bound_same t s q refl (λ d. refl); kind = λ v at. kind_same t s q v (growing_same t s q refl (brings_other q ne)) }) (kept.each q)))
+            (record { users = λ d. refl; first = λ d. first_by t s (λ n. (like n).status) q (t.consumer d); list = bound_same t s q refl (λ d. refl); kind = λ v at. kind_same t s q v (growing_same t s q refl (brings_other q ne)); overs = overs_open t.exchange s.exchange x w row opened others }) (kept.each q)))
       ];
       order = order ∙ (kept.order ∙ sym (filters_same (λ q. is_usable_row (t.representation q)) (λ q. is_usable_row (vs q)) (λ q. (like q).usable_row) t.used));
     }
@@ -225,7 +225,7 @@ module _ (t : Tables) (now x : ℕ) (w : Exchange) (bytes : List ℕ) (vs : ℕ 
       pub stands_pieced : RowsStand u s
       stands_pieced = record {
         limits = bounded;
-        received = received ∙ ap (λ n. n + length bytes) stands.received;
+        received = as_received received (more_received r.received (length bytes) stands.received);
         last_start = last ∙ stands.last_start;
         next = becomes.next ∙ stands.next;
         count = rw same_map stands.count;

@@ -59,7 +59,7 @@ use Rattle.hc_core.proofs.QueueArm.{becomes_by}
 use Rattle.hc_core.proofs.ReadLemmas.{first_is, second_is, third_is, run_some, run_is, some_more}
 use Rattle.hc_core.proofs.ReaderSteps.{held_same, exchange_reading, stands_reading}
 use Rattle.hc_core.proofs.Ties.{kept_row, runs_same}
-use Rattle.hc_core.proofs.Words.{same_or, eqb-same, eqb-other, none_some, false_true, some_is}
+use Rattle.hc_core.proofs.Words.{same_or, eqb-same, eqb-other, none_some, false_true, some_is, as_received, few_received}
 
 -- WHO READS PAST THE STORE
 
@@ -162,7 +162,7 @@ module _ {B : Type 0} {g : Ghosts B} (r u : Rows B g) (t : Tables) (facts : Fact
       (waits_on r.limits t facts.law now c want rd.v rd.row (wait.Head x) (let bare = sym answer_is ∙ none in waits_move t now want c x rd.v rd.reads.w rd.at rd.reads.own rd.reads.row unshown bare (rd.reads.unheard bare).is_open) refl) refl refl acts
       (stands_counted u t now ev refl (record {
         limits = rw (same_entries, limits) stands.limits;
-        received = received ∙ stands.received;
+        received = as_received received stands.received;
         last_start = last ∙ stands.last_start;
         next = rw exchanges stands.next;
         count = changes.len ∙ stands.count;
@@ -393,7 +393,7 @@ module _ {B : Type 0} {g : Ghosts B} (r : Rows B g) (t : Tables) (facts : Facts 
     fits : front w ≤ 2 ^ 62
     fits =
         let most = facts.numbers.fronts x w rd.reads.row in
-        let received = stands.received in
+        let received = few_received stands.received small in
         omega (arith, most, received, small)
 
     pub offset_small : k.lo + k.given < 2 ^ 62 + 1

@@ -31,7 +31,7 @@ use Rattle.hc_core.proofs.Asides.{unstored_moved}
 use Rattle.hc_core.proofs.ConsumerSteps.{SaysOfIt, all_kept_with, key_stays, key_with}
 use Rattle.hc_core.proofs.OneOfEach.{entries_same}
 use Rattle.hc_core.proofs.Ties.{exchange_same}
-use Rattle.hc_core.proofs.Words.{same_or, eqb-same, eqb-other}
+use Rattle.hc_core.proofs.Words.{same_or, eqb-same, eqb-other, as_received}
 
 -- what stays of the representations, over a store that was read
 pub entries_read : (t : Tables) (a b : Shelf) → shelf.Stays a b → KeepsEntries t a → KeepsEntries t b
@@ -41,7 +41,7 @@ entries_read t a b stays kept = record { each = λ q. rw (stays.kept q) (kept.ea
 pub stands_read : {B : Type 0} {g : Ghosts B} (r u : Rows B g) (t : Tables) → u.limits ≡ r.limits → u.received ≡ r.received → u.last_start ≡ r.last_start → u.consumers ≡ r.consumers → u.exchanges ≡ r.exchanges → u.keys ≡ r.keys → shelf.Stays (shelf_of r.entries) (shelf_of u.entries) → RowsStand r t → RowsStand u t
 stands_read r u t limits received last consumers exchanges same_keys read stands = record {
   limits = read.limits ∙ (stands.limits ∙ sym limits);
-  received = received ∙ stands.received;
+  received = as_received received stands.received;
   last_start = last ∙ stands.last_start;
   next = ap (λ z. next_of z) exchanges ∙ stands.next;
   count = ap (λ z. hash_map_len z) consumers ∙ stands.count;
@@ -152,12 +152,12 @@ module _ (t : Tables) (c : ℕ) (v : rows.Consumer) (shown : Bool) (given : ℕ)
     pub stands_reading : RowsStand u s
     stands_reading = record {
       limits = read.limits ∙ (stands.limits ∙ sym limits);
-      received = received ∙ stands.received;
+      received = as_received received stands.received;
       last_start = last ∙ stands.last_start;
       next = next ∙ stands.next;
       count = length_same r u t c v q stands row lived becomes ∙ (stands.count ∙ sym (live_same t s refl live_each));
       consumers = all_kept_with t c (Some w) r u (Some q) becomes kept stands.consumers;
       exchanges = exchanges;
       keys = λ key. rw same_keys (key_with t c (Some w) key (kept_of r.keys key) (kept_of r.keys key) (stands.keys key) (key_stays t c (Some w) key (kept_of r.keys key) (stands.keys key) (says_same key)));
-      entries = entries_same t s (shelf_of u.entries) (λ n. refl) refl refl users firsts (λ n. refl) (entries_read t (shelf_of r.entries) (shelf_of u.entries) read stands.entries);
+      entries = entries_same t s (shelf_of u.entries) (λ n. refl) refl refl users firsts (λ n. refl) (λ y on. on) (entries_read t (shelf_of r.entries) (shelf_of u.entries) read stands.entries);
     }

@@ -28,7 +28,7 @@ use Rattle.hc_core.specs.Stored.{IsEntry, TellsLength, told, untold, KeepsEntry,
 use Rattle.hc_core.proofs.Asides.{unstored_moved}
 use Rattle.hc_core.proofs.OneOfEach.{first_by}
 use Rattle.hc_core.proofs.Ties.{consumer_same, exchange_same, entry_same, key_same}
-use Rattle.hc_core.proofs.Words.{same_or, eqb-same, eqb-other}
+use Rattle.hc_core.proofs.Words.{same_or, eqb-same, eqb-other, as_received}
 
 filters_same : (f h : ℕ → Bool) → ((q : ℕ) → h q ≡ f q) → (qs : List ℕ) → filter h qs ≡ filter f qs
 filters_same f h alike [] = refl
@@ -122,7 +122,7 @@ module _ (t : Tables) (now : ℕ) (response : Response) (w : Exchange) (r : ℕ)
   entries_renewed a b e at kept becomes = record {
     each = λ q. elim (same_or r q) [
       | inl same_q ↦ subst (λ n. KeepsEntry s n (b.kept n) (s.representation n)) same_q its
-      | inr ne ↦ rw (becomes.kept q, eqb-other r q ne) (entry_same t s q (a.kept q) (t.representation q) refl (record { users = λ d. refl; first = λ d. first_by t s (told_same status_in refl) q (t.consumer d); list = refl; kind = λ p there. refl }) (kept.each q))
+      | inr ne ↦ rw (becomes.kept q, eqb-other r q ne) (entry_same t s q (a.kept q) (t.representation q) refl (record { users = λ d. refl; first = λ d. first_by t s (told_same status_in refl) q (t.consumer d); list = refl; kind = λ p there. refl; overs = λ y on. on }) (kept.each q))
     ];
     order = becomes.order ∙ (kept.order ∙ sym (filters_same (λ q. is_usable_row (t.representation q)) (λ q. is_usable_row (s.representation q)) (told_same is_usable_row refl) t.used));
   }
@@ -144,7 +144,7 @@ stands_renewed r u t now response w q v e row stands rest at becomes =
     let same_keys = rest.keys in
     record {
       limits = becomes.limits ∙ (stands.limits ∙ sym rest.limits);
-      received = rest.received ∙ stands.received;
+      received = as_received rest.received stands.received;
       last_start = rest.last_start ∙ stands.last_start;
       next = ap (λ z. next_of z) exchanges ∙ stands.next;
       count = ap (λ z. hash_map_len z) consumers ∙ stands.count;

@@ -31,6 +31,7 @@ use Rattle.hc_model.specs.Reading.{bound}
 use Rattle.hc_model.specs.Writers.{exclusive}
 use Rattle.hc_event.specs.declared.event.Response.{Response}
 use Rattle.hc_model.proofs.HoleLemmas as holes
+use Rattle.hc_core.proofs.Ties.{overs_closed, writer_then}
 use Rattle.hc_core.specs.declared.rows.Rows.{Rows}
 use Rattle.hc_core.specs.Facts.{Facts}
 use Rattle.hc_core.specs.Stopped.{with_consumers, HoldsNothing, MayStop, HasStopped, unsealed}
@@ -46,7 +47,7 @@ use Rattle.hc_core.proofs.CloseArm.{quiet, unawaited_go}
 use Rattle.hc_core.proofs.Closing.{entry_closed, stands_closed, stands_unstored}
 use Rattle.hc_core.proofs.OneOfEach.{first_row}
 use Rattle.hc_core.proofs.Stopping.{Stays}
-use Rattle.hc_core.proofs.Words.{same_or, eqb-same, eqb-other, then_false, none_some, false_true, some_is, same_row}
+use Rattle.hc_core.proofs.Words.{same_or, eqb-same, eqb-other, then_false, none_some, false_true, some_is, same_row, as_received}
 
 eq_tells : (a b : ℕ) → nat_eq a b ≡ true → a ≡ b
 eq_tells a b is = grind (arith, nat_tests, is)
@@ -128,7 +129,7 @@ module _ (limits : Limits) (t : Tables) (facts : Facts limits t) (f : ℕ → Op
           reach = is.reach;
           bound = is.bound;
           first = λ d. is.first d ∙ sym (first_row s (closed x s) (λ n. refl) q (s.consumer d));
-          writer = is.writer;
+          writer = writer_then (λ y on. overs_closed (nat_eq x y) (t.exchange y) on) is.writer;
           is_lost = is.is_lost;
           alone = is.alone;
           is_gone = is.is_gone;
@@ -219,7 +220,7 @@ pub stands_stayed : {B : Type 0} {g : Ghosts B} (r u : Rows B g) (t : Tables) �
     → shelf.Stays (shelf_of r.entries) (shelf_of u.entries) → RowsStand r t → RowsStand u t
 stands_stayed r u t limits received last consumers exchanges same_keys stays stands = record {
   limits = stays.limits ∙ (stands.limits ∙ sym limits);
-  received = received ∙ stands.received;
+  received = as_received received stands.received;
   last_start = last ∙ stands.last_start;
   next = ap (λ z. next_of z) exchanges ∙ stands.next;
   count = ap (λ z. hash_map_len z) consumers ∙ stands.count;

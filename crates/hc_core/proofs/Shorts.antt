@@ -21,9 +21,9 @@ use Rattle.hc_core.specs.Stored.{KeepsEntry, TellsLength, told, untold, TellsSho
 use Rattle.hc_core.proofs.LeftRows.{live_row}
 use Rattle.hc_core.proofs.Maps.{merely_below}
 use Rattle.hc_core.proofs.Standing.{facts_of_runs}
-use Rattle.hc_core.proofs.Words.{none_some}
+use Rattle.hc_core.proofs.Words.{none_some, few_received}
 
-below_room : (n m : ℕ) → n < max (2 ^ 62) (m + 1) → m < 2 ^ 61 → n < 2 ^ 62
+below_room : (n m : ℕ) → n < max (2 ^ 62) (m + 1) → m < 2 ^ 62 → n < 2 ^ 62
 below_room n m lt small = grind (arith, nat_tests)
 
 -- the length of what is kept is that of its row
@@ -38,7 +38,7 @@ entry_short t q n k (Some v) rows kept known = by_length kept.length
 -- where they stand for tables with the representations of a run
 pub shorts : {B : Type 0} {g : Ghosts B} (r u : Rows B g) (t s : Tables) → Facts r.limits t → RowsStand r t → r.received < 2 ^ 61 → s.representation ≡ t.representation → RowsStand u s → TellsShort (shelf_of u.entries)
 shorts r u t s facts before small same stands q n k at known =
-    entry_short s q n k (s.representation q) (λ v row is. below_room n t.received (facts.numbers.totals q n v (sym (ap (λ f. f q) same) ∙ row) is) (let counts = before.received in subst (λ m. m < 2 ^ 61) counts small))
+    entry_short s q n k (s.representation q) (λ v row is. below_room n t.received (facts.numbers.totals q n v (sym (ap (λ f. f q) same) ∙ row) is) (few_received before.received small))
     (subst (λ o. KeepsEntry s q o (s.representation q)) at (stands.entries.each q)) known
 
 -- before an event

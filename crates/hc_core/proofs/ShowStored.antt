@@ -63,7 +63,7 @@ use Rattle.hc_core.proofs.Standing.{facts_of_runs}
 use Rattle.hc_core.proofs.Ties.{kept_row}
 use Rattle.hc_core.proofs.Unbinding.{user_kept}
 use Rattle.hc_core.proofs.WaitArms.{head_waits}
-use Rattle.hc_core.proofs.Words.{eqb-same, none_some, false_true, some_is}
+use Rattle.hc_core.proofs.Words.{eqb-same, none_some, false_true, some_is, few_received}
 
 -- WHO IS BOUND
 
@@ -204,7 +204,7 @@ module _ (t : Tables) {limits : _} (facts : Facts limits t) (c q : ℕ) (how : B
 
   -- WHAT FITS
 
-  module _ (small : t.received < 2 ^ 61) where
+  module _ (small : t.received < 2 ^ 62) where
     total_small : (n : ℕ) → rd.p.head.total ≡ Some n → n < 2 ^ 62
     total_small n known = let below = facts.numbers.totals q n rd.p rd.there known in omega (arith, below, small)
 
@@ -298,8 +298,8 @@ module _ {B : Type 0} {g : Ghosts B} (r : Rows B g) (c q : ℕ) (how : BoundBy) 
   rd : IsBoundRow t c q how k
   rd = bound_row_of r t facts.law c q at.0.0 at.0.1 how k s.rows there at.0.2
 
-  few : t.received < 2 ^ 61
-  few = subst (λ (n : ℕ). n < 2 ^ 61) s.rows.received small
+  few : t.received < 2 ^ 62
+  few = few_received s.rows.received small
 
   unshown : rd.v.shown ≡ false
   unshown = sym rd.kept.shown ∙ at.1

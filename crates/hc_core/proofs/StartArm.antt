@@ -42,7 +42,7 @@ use Rattle.hc_core.proofs.Asides.{IsAlike, same, aside, held_alike, users_alike}
 use Rattle.hc_core.proofs.LiveCounts as counts
 use Rattle.hc_core.proofs.ConsumerSteps.{KeyAfter, SaysOfIt, key_with, key_stays, keys_with, at_it}
 use Rattle.hc_core.proofs.Ties.{kept_none, consumer_same, exchange_same, entry_same, key_same}
-use Rattle.hc_core.proofs.Words.{same_or, eqb-same, eqb-other, then_false}
+use Rattle.hc_core.proofs.Words.{same_or, eqb-same, eqb-other, then_false, same_received}
 
 plus_none : (n : ℕ) → n + 0 ≡ n
 plus_none n = omega arith
@@ -192,7 +192,7 @@ module _ {B : Type 0} {g : Ghosts B} (r u : Rows B g) (t : Tables) (law : Lawful
   entries : (q : ℕ) → KeepsEntry s q ((shelf_of u.entries).kept q) (s.representation q)
   unfolding kind_of
   entries q = rw same_entries (entry_same t s q ((shelf_of r.entries).kept q) (t.representation q) refl
-      (record { users = λ d. users_alike t s alike q d; first = firsts q; list = bound_list q; kind = λ w at. refl }) (stands.entries.each q))
+      (record { users = λ d. users_alike t s alike q d; first = firsts q; list = bound_list q; kind = λ w at. refl; overs = λ y on. on }) (stands.entries.each q))
 
   -- HOW MANY ARE LIVE
 
@@ -213,7 +213,7 @@ module _ {B : Type 0} {g : Ghosts B} (r u : Rows B g) (t : Tables) (law : Lawful
   pub stands_started : IsEntered queues c request.key r.keys u.keys → RowsStand u s
   stands_started entered = record {
     limits = rw (same_entries, limits) stands.limits;
-    received = received ∙ (stands.received ∙ sym (plus_none t.received));
+    received = same_received received (plus_none t.received) stands.received;
     last_start = last;
     next = rw exchanges stands.next;
     count = count;

@@ -57,21 +57,20 @@ begins : (limits : Limits) → may_begin limits no_contents ≡ true
 unfolding may_begin
 begins limits = let last : nat_le 0 limits.max_total ≡ true = grind (arith, nat_tests) in rw last refl
 
-pub stands_beginning : {B : Type 0} {g : Ghosts B} (s : Cache B g) → s.last_moment ≡ 0 → s.steps ≡ 0 → s.rows.received ≡ 0 → s.rows.last_start ≡ 0 → next_of s.rows.exchanges ≡ 1 → hash_map_len s.rows.consumers ≡ 0 → ((c : ℕ) → get nat_eq s.rows.consumers c ≡ None) → ((x : ℕ) → table_of s.rows.exchanges x ≡ unknown) → ((key : List ℕ) → kept_of s.rows.keys key ≡ nothing) → ((q : ℕ) → (shelf_of s.rows.entries).kept q ≡ None) → (shelf_of s.rows.entries).order ≡ [] → (shelf_of s.rows.entries).limits ≡ s.rows.limits
+pub stands_beginning : {B : Type 0} {g : Ghosts B} (s : Cache B g) → s.last_moment ≡ 0 → s.rows.last_start ≡ 0 → next_of s.rows.exchanges ≡ 1 → hash_map_len s.rows.consumers ≡ 0 → ((c : ℕ) → get nat_eq s.rows.consumers c ≡ None) → ((x : ℕ) → table_of s.rows.exchanges x ≡ unknown) → ((key : List ℕ) → kept_of s.rows.keys key ≡ nothing) → ((q : ℕ) → (shelf_of s.rows.entries).kept q ≡ None) → (shelf_of s.rows.entries).order ≡ [] → (shelf_of s.rows.entries).limits ≡ s.rows.limits
     → StandsFor s no_contents []
 unfolding tables
-stands_beginning s moment steps received last next count none unopened unawaited unkept order limits = record {
+stands_beginning s moment last next count none unopened unawaited unkept order limits = record {
   begins = begins s.rows.limits;
   short = none_long;
   run = tt;
   moment = moment;
-  entries = steps;
-  rows = stands_begun s.rows last received next count none unopened unawaited unkept order limits;
+  rows = stands_begun s.rows last next count none unopened unawaited unkept order limits;
 }
 
-pub begins_good : {B : Type 0} {g : Ghosts B} (r : Rows B g) → r.last_start ≡ 0 → r.received ≡ 0 → next_of r.exchanges ≡ 1 → hash_map_len r.consumers ≡ 0 → ((c : ℕ) → get nat_eq r.consumers c ≡ None) → ((x : ℕ) → table_of r.exchanges x ≡ unknown) → ((key : List ℕ) → kept_of r.keys key ≡ nothing) → ((q : ℕ) → (shelf_of r.entries).kept q ≡ None) → (shelf_of r.entries).order ≡ [] → (shelf_of r.entries).limits ≡ r.limits → StandsUntil r 0
+pub begins_good : {B : Type 0} {g : Ghosts B} (r : Rows B g) → r.last_start ≡ 0 → next_of r.exchanges ≡ 1 → hash_map_len r.consumers ≡ 0 → ((c : ℕ) → get nat_eq r.consumers c ≡ None) → ((x : ℕ) → table_of r.exchanges x ≡ unknown) → ((key : List ℕ) → kept_of r.keys key ≡ nothing) → ((q : ℕ) → (shelf_of r.entries).kept q ≡ None) → (shelf_of r.entries).order ≡ [] → (shelf_of r.entries).limits ≡ r.limits → StandsUntil r 0
 unfolding tables
-begins_good r last received next count none unopened unawaited unkept order limits = (record { contents = no_contents; h = []; begins = begins r.limits; short = none_long; modest = tt; run = tt; rows = stands_begun r last received next count none unopened unawaited unkept order limits }, omega arith)
+begins_good r last next count none unopened unawaited unkept order limits = (record { contents = no_contents; h = []; begins = begins r.limits; short = none_long; modest = tt; run = tt; rows = stands_begun r last next count none unopened unawaited unkept order limits }, omega arith)
 
 -- WHAT COMES
 
@@ -118,7 +117,6 @@ pub record OneMore {B : Type 0} {g : Ghosts B} (r u : Rows B g) (contents : Cont
   pub begins : may_begin u.limits contents ≡ true
   pub run : IsRun u.limits contents (record { now = now; event = ev; acts = acts } ∷ h)
   pub moment : (tables contents (record { now = now; event = ev; acts = acts } ∷ h)).moment ≡ now
-  pub entries : (tables contents (record { now = now; event = ev; acts = acts } ∷ h)).entries ≡ (tables contents h).entries + 1
   pub counted : (shelf_of r.entries).faults + failures_in acts ≤ (shelf_of u.entries).faults
   pub rows : RowsStand u (tables contents (record { now = now; event = ev; acts = acts } ∷ h))
 
@@ -151,13 +149,12 @@ module _ {B : Type 0} {g : Ghosts B} (r u : Rows B g) (now : ℕ) (ev : Event) (
     facts = facts_of_runs r.limits contents h begun short run
 
     -- whatever was owed, the rows stand for it
-    stands_with : (acts : List Act) (after : Tables) → after ≡ tables contents (with_acts acts ∷ h) → after.moment ≡ now → after.entries ≡ t.entries + 1
+    stands_with : (acts : List Act) (after : Tables) → after ≡ tables contents (with_acts acts ∷ h) → after.moment ≡ now
         → IsOwed r.limits t (with_acts acts) → (shelf_of r.entries).faults + failures_in acts ≤ (shelf_of u.entries).faults → RowsStand u after → OneMore r u contents h acts now ev
-    stands_with acts after is now_is entries_are owed counts stands = record {
+    stands_with acts after is now_is owed counts stands = record {
       begins = ap (λ l. may_begin l contents) limits ∙ begun;
       run = subst (λ l. IsRun l contents (with_acts acts ∷ h)) (sym limits) (run, owed);
       moment = ap (λ (z : Tables). z.moment) (sym is) ∙ now_is;
-      entries = ap (λ (z : Tables). z.entries) (sym is) ∙ entries_are;
       counted = counts;
       rows = subst (RowsStand u) is stands;
     }
@@ -170,7 +167,7 @@ module _ {B : Type 0} {g : Ghosts B} (r u : Rows B g) (now : ℕ) (ev : Event) (
         let e : Entry = with_acts acts in
         let counts = one_counted (shelf_of r.entries).faults (shelf_of u.entries).faults done.flaw (is_fault done.flaw) refl done.caused never in
         told_by r u contents h before out acts now ev done.acts
-        (stands_with acts (after_accepted t e) (next_tables contents h e (undenied r.limits t now ev done.flaw)) refl refl
+        (stands_with acts (after_accepted t e) (next_tables contents h e (undenied r.limits t now ev done.flaw)) refl
         (record {
           later = in_time;
           acts = sym (ap (answer r.limits t now ev) done.shown ∙ answer_accepted r.limits t now ev done.flaw free);
@@ -181,7 +178,7 @@ module _ {B : Type 0} {g : Ghosts B} (r u : Rows B g) (now : ℕ) (ev : Event) (
         let acts = act.Denied why ∷ [] in
         let e : Entry = with_acts acts in
         told_by r u contents h before out acts now ev (denied why is).1
-        (stands_with acts (after_denied t e) (denied_tables contents h e refl) refl refl
+        (stands_with acts (after_denied t e) (denied_tables contents h e refl) refl
         (record { later = in_time; acts = sym (answer_denied r.limits t now ev NoFlaw why some); flaw = may_stand_denied r.limits t e refl })
         (omega (arith, never))
         (subst (λ z. RowsStand z (after_denied t e)) (sym (denied why is).0) (stands_denied r t e rows)))
@@ -206,7 +203,7 @@ module _ {B : Type 0} {g : Ghosts B} (r u : Rows B g) (now : ℕ) (ev : Event) (
 module _ {B : Type 0} {g : Ghosts B} (s u : Cache B g) (now : ℕ) (ev : Event) (before out : List Act)
     (denied : (why : Refusal) → refusal_of (gate_of s.rows ev) ev ≡ Some why → (u.rows ≡ counted ev s.rows) × (out ≡ before ++ act.Denied why ∷ []))
     (answered : refusal_of (gate_of s.rows ev) ev ≡ None → Answers s.rows u.rows before out now ev)
-    (later : s.last_moment ≤ now) (moment : u.last_moment ≡ now) (count : u.steps ≡ s.steps + 1) (limits : u.rows.limits ≡ s.rows.limits) (never : (shelf_of s.rows.entries).faults ≤ (shelf_of u.rows.entries).faults) where
+    (later : s.last_moment ≤ now) (moment : u.last_moment ≡ now) (limits : u.rows.limits ≡ s.rows.limits) (never : (shelf_of s.rows.entries).faults ≤ (shelf_of u.rows.entries).faults) where
   stands_on : (contents : Contents) (h : History) → StandsFor s contents h → StandsFor u contents (record { now = now; event = ev; acts = acts_in before out } ∷ h)
   stands_on contents h stands =
       let more = (one_more s.rows u.rows now ev before out denied answered limits never contents h stands.begins stands.short stands.run stands.rows (subst (λ m. m ≤ now) stands.moment later)).more in
@@ -215,7 +212,6 @@ module _ {B : Type 0} {g : Ghosts B} (s u : Cache B g) (now : ℕ) (ev : Event) 
         short = stands.short;
         run = more.run;
         moment = moment ∙ sym more.moment;
-        entries = count ∙ (ap (λ n. n + 1) stands.entries ∙ sym more.entries);
         rows = more.rows;
       }
 

@@ -33,7 +33,7 @@ use Rattle.hc_core.specs.Stands.{RowsStand}
 use Rattle.hc_core.specs.Stopped.{with_consumers}
 use Rattle.hc_core.specs.Stops.{body_of, brought_by, may_complete, goes_with, stop_by, stop_at, stop_of, IsTold}
 use Rattle.hc_core.specs.Stored.{IsEntry, KeepsEntry, TellsLength, told, untold}
-use Rattle.hc_core.proofs.Words.{eqb-same, eqb-other, then_false, none_some, false_true, same_row}
+use Rattle.hc_core.proofs.Words.{eqb-same, eqb-other, then_false, none_some, false_true, same_row, few_received}
 
 -- nothing is stored by it that isn't gone
 pub record IsApartNow (t : Tables) (x : ℕ) : Type 0 where
@@ -67,7 +67,7 @@ Means t s shelf x w stop.Nothing = IsApartNow t x
 Means t s shelf x w (stop.LetGo q) = GoesWith t x q w
 Means t s shelf x w (stop.Seal q) = Stays t s shelf x q w
 
-most_small : (m n : ℕ) → m ≤ max (2 ^ 62) n → n < 2 ^ 61 → m ≤ 2 ^ 62
+most_small : (m n : ℕ) → m ≤ max (2 ^ 62) n → n < 2 ^ 62 → m ≤ 2 ^ 62
 most_small m n le small = grind (arith, nat_tests)
 
 size_same : (f h : Cells) (n : ℕ) → ((p : ℕ) → h p ≡ f p) → size_below h n ≡ size_below f n
@@ -174,7 +174,7 @@ module _ {B : Type 0} {g : Ghosts B} (r : Rows B g) (t : Tables) (facts : Facts 
     told_is : IsTold p e.cells (view_of e)
     told_is = record {
       total = total_as;
-      size = size_kept e.cells p.stored p.size p.reach is.cells stored_ends (most_small p.reach t.received (facts.numbers.reaches q p here) (let same = stands.received in subst (λ n. n < 2 ^ 61) same small)) (facts.sizes.counted q p here);
+      size = size_kept e.cells p.stored p.size p.reach is.cells stored_ends (most_small p.reach t.received (facts.numbers.reaches q p here) (few_received stands.received small)) (facts.sizes.counted q p here);
       stored = is.cells;
       ends = stored_ends;
     }

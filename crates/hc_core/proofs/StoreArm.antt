@@ -64,7 +64,7 @@ use Rattle.hc_core.proofs.Rooms.{used_is}
 use Rattle.hc_core.proofs.StoredPiece.{written_alike, tells, stored_stands, stored_answered}
 use Rattle.hc_core.proofs.Standing.{facts_of_runs}
 use Rattle.hc_core.proofs.Stopping.{size_kept}
-use Rattle.hc_core.proofs.Words.{same_or, eqb-same, false_true, none_some, some_is}
+use Rattle.hc_core.proofs.Words.{same_or, eqb-same, false_true, none_some, some_is, few_received}
 use Rattle.std.proofs.Math.Logic.{∥∥₁_elim}
 use Rattle.std.proofs.Math.Seq.{take-append_seam}
 use Rattle.std.specs.Prelude.{take}
@@ -97,7 +97,7 @@ pub undenied_piece : {B : Type 0} {g : Ghosts B} (r : Rows B g) (t : Tables) (x 
 unfolding refusals.refusal_of
 undenied_piece r t x bytes stands none = sym (denies_as r t (event.Piece x bytes) stands) ∙ none
 
-reaches_small : (n m : ℕ) → n ≤ max (2 ^ 62) m → m < 2 ^ 61 → n ≤ 2 ^ 62
+reaches_small : (n m : ℕ) → n ≤ max (2 ^ 62) m → m < 2 ^ 62 → n ≤ 2 ^ 62
 reaches_small n m le small = grind (arith, nat_tests)
 
 pub stores_of : {B : Type 0} {g : Ghosts B} (r : Rows B g) (t : Tables) (facts : Facts r.limits t) (x q : ℕ) (bytes : List ℕ) → RowsStand r t → denial t (event.Piece x bytes) ≡ None → stored_by r x ≡ Some q → Stores t x q (length bytes)
@@ -161,7 +161,7 @@ bound_without : (now : ℕ) (es : List ℕ) (t : Tables) (q : ℕ) → bound (wi
 bound_without now es t q = bound_same t (without now es t) q refl (λ d. bound_back now es q (t.consumer d))
 
 -- as many bytes are kept as are stored
-pub stored_size : {B : Type 0} {g : Ghosts B} (r : Rows B g) (t : Tables) (facts : Facts r.limits t) (q : ℕ) (v : Representation) (k : Kept) (m : Tables) → t.received < 2 ^ 61 → t.representation q ≡ Some v → IsEntry m q k v → size k.cells ≡ v.size
+pub stored_size : {B : Type 0} {g : Ghosts B} (r : Rows B g) (t : Tables) (facts : Facts r.limits t) (q : ℕ) (v : Representation) (k : Kept) (m : Tables) → t.received < 2 ^ 62 → t.representation q ≡ Some v → IsEntry m q k v → size k.cells ≡ v.size
 stored_size r t facts q v k m small there is =
     let store = (facts.law.sound.rows q v there).store in
     size_kept k.cells v.stored v.size v.reach is.cells (λ p past. none_by (v.stored p) (v.body p) (store.some_stored p) (store.ends p past)) (reaches_small v.reach t.received (facts.numbers.reaches q v there) small) (facts.sizes.counted q v there)
@@ -180,8 +180,8 @@ module _ {B : Type 0} {g : Ghosts B} (r mid put u : Rows B g) (t : Tables) (fact
   abbrev pub v : Representation
   v = it.v
 
-  few : t.received < 2 ^ 61
-  few = (let same = stands.received in subst (λ n. n < 2 ^ 61) same small)
+  few : t.received < 2 ^ 62
+  few = few_received stands.received small
 
   record Has (rows : Rows B g) (m : Tables) : Type 0 where
     k : Kept
@@ -389,7 +389,7 @@ module _ {B : Type 0} {g : Ghosts B} (r mid : Rows B g) (now x q : ℕ) (bytes :
       let t = tables p.contents p.h in
       let facts = facts_of_runs r.limits p.contents p.h p.begins p.short p.run in
       let stands = p.rows in
-      let few : t.received < 2 ^ 61 = subst (λ n. n < 2 ^ 61) stands.received under in
+      let few : t.received < 2 ^ 62 = few_received stands.received under in
       mid_kept r mid mid mid t facts stands under now x q bytes (undenied_piece r t x bytes stands accepted) grows before out stored had (gives t (may_make_room t facts few) stands) mid_limits mid_received mid_last mid_exchanges)
 
   pub absent_mid : (o : Open) → (table_of mid.exchanges x).running ≡ Some o → AreAbsent (cells_at (shelf_of mid.entries) q) (o.base + o.delivered) (o.base + o.delivered + length bytes)
@@ -397,7 +397,7 @@ module _ {B : Type 0} {g : Ghosts B} (r mid : Rows B g) (now x q : ℕ) (bytes :
       let t = tables p.contents p.h in
       let facts = facts_of_runs r.limits p.contents p.h p.begins p.short p.run in
       let stands = p.rows in
-      let few : t.received < 2 ^ 61 = subst (λ n. n < 2 ^ 61) stands.received under in
+      let few : t.received < 2 ^ 62 = few_received stands.received under in
       ap (λ (e : Option Cell). is_some e) (mid_absent r mid mid mid t facts stands under now x q bytes (undenied_piece r t x bytes stands accepted) grows before out stored had (gives t (may_make_room t facts few) stands) mid_limits mid_received mid_last mid_exchanges o running n low high)))
 
   pub answered_mid : (put u : Rows B g) → ((o : Open) → (table_of mid.exchanges x).running ≡ Some o → PutsPiece mid put x q o bytes)
@@ -405,7 +405,7 @@ module _ {B : Type 0} {g : Ghosts B} (r mid : Rows B g) (now x q : ℕ) (bytes :
       → u.entries ≡ put.entries → u.limits ≡ mid.limits → u.received ≡ mid.received + length bytes → u.last_start ≡ mid.last_start → u.consumers ≡ mid.consumers → u.keys ≡ mid.keys → exch.Becomes (known.with_piece bytes false) x mid.exchanges u.exchanges
       → Answers r u before out now (event.Piece x bytes)
   answered_mid put u puts within entries limits received last same_map same_keys becomes t facts stands goes =
-      let few : t.received < 2 ^ 61 = subst (λ n. n < 2 ^ 61) stands.received under in
+      let few : t.received < 2 ^ 62 = few_received stands.received under in
       let made = gives t (may_make_room t facts few) stands in
       let ran = runs r mid put u t facts stands under now x q bytes goes grows before out stored had made mid_limits mid_received mid_last mid_exchanges in
       store_answered r mid put u t facts stands under now x q bytes goes grows before out stored had made mid_limits mid_received mid_last mid_exchanges (puts ran.o ran.running) within entries limits received last same_map same_keys becomes
@@ -415,7 +415,7 @@ module _ {B : Type 0} {g : Ghosts B} (r mid : Rows B g) (now x q : ℕ) (bytes :
       → put.limits ≡ mid.limits → put.received ≡ mid.received → put.last_start ≡ mid.last_start → put.consumers ≡ mid.consumers → put.exchanges ≡ mid.exchanges → put.keys ≡ mid.keys
       → (t : Tables) → Facts r.limits t → RowsStand r t → denial t (event.Piece x bytes) ≡ None → Refuses r put t now x bytes kind before out
   refused_mid put kind stays faulty why limits received last same_map exchanges same_keys t facts stands goes =
-      let few : t.received < 2 ^ 61 = subst (λ n. n < 2 ^ 61) stands.received under in
+      let few : t.received < 2 ^ 62 = few_received stands.received under in
       refuses_it r mid put put t facts stands under now x q bytes goes grows before out stored had (gives t (may_make_room t facts few) stands) mid_limits mid_received mid_last mid_exchanges
       kind stays faulty why limits received last same_map exchanges same_keys
 
@@ -424,6 +424,6 @@ module _ {B : Type 0} {g : Ghosts B} (r mid : Rows B g) (now x q : ℕ) (bytes :
   front_mid = ∥∥₁_elim some (acts_set (take (length before) out) before) (λ p.
       let t = tables p.contents p.h in
       let facts = facts_of_runs r.limits p.contents p.h p.begins p.short p.run in
-      let few : t.received < 2 ^ 61 = subst (λ n. n < 2 ^ 61) p.rows.received under in
+      let few : t.received < 2 ^ 62 = few_received p.rows.received under in
       let made = gives t (may_make_room t facts few) p.rows in
       ap (take (length before)) made.acts ∙ take-append_seam before (map act.Evicted (giving_way r.limits t (write.Piece stored (length bytes)))))

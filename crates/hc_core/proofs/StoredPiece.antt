@@ -45,6 +45,7 @@ use Rattle.hc_model.proofs.HoleLemmas.{covers_all}
 use Rattle.hc_model.proofs.Once.{delivers_once}
 use Rattle.hc_model.proofs.PieceEffects as does
 use Rattle.hc_model.proofs.SameTables.{is_in, back_from_any, without, all_go_is}
+use Rattle.hc_core.proofs.Ties.{overs_open, writer_then}
 use Rattle.hc_core.specs.declared.rows.Rows.{Rows}
 use Rattle.hc_core.specs.Facts.{Facts}
 use Rattle.hc_core.specs.Kept.{held_alone, held_of, held_for}
@@ -242,7 +243,7 @@ module _ {B : Type 0} {g : Ghosts B} (mid u : Rows B g) (limits : Limits) (t : T
       reach = λ off. ap (λ n. max n (front w + length bytes)) (is.reach off);
       bound = is.bound;
       first = λ d. is.first d ∙ sym (first_by m after (λ n. (like n).status) (family x w) (m.consumer d));
-      writer = is.writer;
+      writer = writer_then (overs_open m.exchange after.exchange x w row opened (λ y ne. rw (eqb-other x y ne) refl)) is.writer;
       is_lost = is.is_lost;
       alone = is.alone;
       is_gone = is.is_gone;

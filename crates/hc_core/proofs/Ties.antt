@@ -1,6 +1,6 @@
 -- What is kept stands for other tables too, item by item: what neither changes nor looks at what changes stays tied.
-use Rattle.std.proofs.Common.{◌≡◌, ℕ, List, Bool, Option, Some, None, refl, ap, sym, ◌∙◌, subst}
-use Rattle.std.specs.Prelude.{is_some, is_none, if◌then◌else◌}
+use Rattle.std.proofs.Common.{◌≡◌, ◌≢◌, inl, inr, ℕ, List, Bool, true, false, Option, Some, None, refl, ap, sym, ◌∙◌, subst}
+use Rattle.std.specs.Prelude.{is_some, is_none, not, option_map, if◌then◌else◌}
 use Rattle.hc_entry.specs.Kept as keyed
 use Rattle.hc_rules.specs.Needs.{route_of}
 use Rattle.hc_exch.specs.Known.{Known}
@@ -13,6 +13,7 @@ use Rattle.hc_model.specs.declared.place.Place.TheVariants as place
 use Rattle.hc_model.specs.declared.place.BoundBy.{BoundBy}
 use Rattle.hc_model.specs.Currents.{current, total_in}
 use Rattle.hc_model.specs.Denials.{is_live}
+use Rattle.hc_model.specs.Effects.{over}
 use Rattle.hc_model.specs.Exchanges.{family}
 use Rattle.hc_model.specs.Kinds.{kind_of}
 use Rattle.hc_model.specs.Lines.{is_in_line}
@@ -22,7 +23,8 @@ use Rattle.hc_model.specs.Rows.{Tables, Exchange, Representation}
 use Rattle.hc_core.specs.declared.consumer.Consumer.{Consumer}
 use Rattle.hc_core.specs.Kept.{IsKept, IsRunning, KeepsConsumer, KeepsExchange, KeepsRunning, answer_for, held_for, role_awaited}
 use Rattle.hc_core.specs.Lines.{KeepsKey, has_turn, is_passed, is_away}
-use Rattle.hc_core.specs.Stored.{KeepsEntry, is_first}
+use Rattle.hc_core.specs.Stored.{KeepsEntry, TellsWriter, as_written, forgotten, is_first, is_over}
+use Rattle.hc_core.proofs.Words.{same_or, false_true}
 
 -- CONSUMERS
 
@@ -115,14 +117,52 @@ key_same t s key k says kept = record {
   holder = λ c. kept.holder c ∙ sym (says.turn c);
 }
 
+-- EXCHANGES THAT ARE OVER
+
+-- what is over stays so
+abbrev pub OversStay : (ℕ → Option Exchange) → (ℕ → Option Exchange) → Type 0
+OversStay f g = (x : ℕ) → is_over (f x) ≡ true → is_over (g x) ≡ true
+
+-- where one alone changes
+pub overs_but : (f g : ℕ → Option Exchange) (x : ℕ) → (is_over (f x) ≡ true → is_over (g x) ≡ true) → ((y : ℕ) → x ≢ y → g y ≡ f y) → OversStay f g
+overs_but f g x here others y on = elim (same_or x y) [
+  | inl e ↦ subst (λ (n : ℕ). is_over (g n) ≡ true) e (here (ap is_over (ap f e) ∙ on))
+  | inr ne ↦ ap is_over (others y ne) ∙ on
+]
+
+-- that is open before
+pub overs_open : (f g : ℕ → Option Exchange) (x : ℕ) (w : Exchange) → f x ≡ Some w → w.is_open ≡ true → ((y : ℕ) → x ≢ y → g y ≡ f y) → OversStay f g
+overs_open f g x w row opened others = overs_but f g x (λ on. false_true (sym (ap is_over row ∙ ap not opened) ∙ on)) others
+
+-- or isn't there yet
+pub overs_opened : (f g : ℕ → Option Exchange) (x : ℕ) → f x ≡ None → ((y : ℕ) → y ≢ x → g y ≡ f y) → OversStay f g
+overs_opened f g x none others = overs_but f g x (λ on. false_true (sym (ap is_over none) ∙ on)) (λ y ne. others y (λ e. ne (sym e)))
+
+-- or is closed
+pub overs_closed : (b : Bool) (o : Option Exchange) → is_over o ≡ true → is_over (if b then option_map over o else o) ≡ true
+overs_closed true None on = on
+overs_closed true (Some w) on = refl
+overs_closed false o on = on
+
+-- or ends
+pub put_over : (b : Bool) (z o : Option Exchange) → is_over z ≡ true → is_over o ≡ true → is_over (if b then z else o) ≡ true
+put_over true z o ends on = ends
+put_over false z o ends on = on
+
+-- and so is what was forgotten
+pub writer_then : {f g : ℕ → Option Exchange} {k v : Option ℕ} → OversStay f g → TellsWriter f k v → TellsWriter g k v
+writer_then stay (as_written is) = as_written is
+writer_then stay (forgotten x none told on) = forgotten x none told (stay x on)
+
 -- REPRESENTATIONS
 
--- who is bound to r, and how much of it is stored, is the same
+-- who is bound to r, and how much of it is stored, is the same, and no exchange that is over is open again
 pub record UsesSame (t s : Tables) (r : ℕ) : Type 0 where
   pub users : (c : ℕ) → is_bound r (s.consumer c) ≡ is_bound r (t.consumer c)
   pub first : (c : ℕ) → is_first s r (s.consumer c) ≡ is_first t r (t.consumer c)
   pub list : bound s r ≡ bound t r
   pub kind : (v : Representation) → t.representation r ≡ Some v → kind_of s r v ≡ kind_of t r v
+  pub overs : OversStay t.exchange s.exchange
 
 pub entry_same : (t s : Tables) (r : ℕ) (k : Option Kept) (row : Option Representation) → t.representation r ≡ row →
     UsesSame t s r → KeepsEntry t r k row → KeepsEntry s r k row
@@ -140,7 +180,7 @@ entry_same t s r (Some k) (Some v) at uses kept = record {
   reach = kept.reach;
   bound = λ c. kept.bound c ∙ sym (uses.users c);
   first = λ c. kept.first c ∙ sym (uses.first c);
-  writer = kept.writer;
+  writer = writer_then uses.overs kept.writer;
   is_lost = kept.is_lost;
   alone = kept.alone;
   is_gone = kept.is_gone;

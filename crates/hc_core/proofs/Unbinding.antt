@@ -63,7 +63,7 @@ module _ (t : Tables) (started : (d : ℕ) → is_some (t.consumer d) ≡ true �
   -- that it wasn't bound to
   entry_stays : (q : ℕ) (k : Option Kept) (o : Option Representation) → t.representation q ≡ o → is_bound q (Some v) ≡ false → KeepsEntry t q k o → KeepsEntry s q k o
   unfolding kind_of
-  entry_stays q k o at off kept = entry_same t s q k o at (record { users = users q off; first = firsts q off; list = bound_same t s q refl (users q off); kind = λ p is. refl }) kept
+  entry_stays q k o at off kept = entry_same t s q k o at (record { users = users q off; first = firsts q off; list = bound_same t s q refl (users q off); kind = λ p is. refl; overs = λ y on. on }) kept
 
   bound_started : (z : Tables) (q d : ℕ) → z.starts ≡ t.starts → is_bound q (z.consumer d) ≡ true → is_some (t.consumer d) ≡ true → bound z q ≢ []
   unfolding bound

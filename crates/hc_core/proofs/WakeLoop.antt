@@ -171,7 +171,7 @@ module _ (kept : KeyTable) (key : List ℕ) (now : ℕ) (t : Tables) where
           entries_same (of_consumers was.f t) v s (λ q. refl) refl refl
           (λ q d. alike (is_bound q) (λ k at. rw at refl) d)
           (λ q d. alike (is_first (of_consumers was.f t) q) (λ k at. rw at refl) d)
-          (λ q. refl) was.entries
+          (λ q. refl) (λ y on. on) was.entries
 
 -- WHAT CHANGED SO FAR
 

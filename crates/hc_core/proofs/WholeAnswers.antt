@@ -70,7 +70,7 @@ use Rattle.hc_core.proofs.SealWritten.{sealed_lasting}
 use Rattle.hc_core.proofs.StopArm.{none_alone}
 use Rattle.hc_core.proofs.Stopping.{head_there, brought_some, brought_none}
 use Rattle.hc_core.proofs.WholeEnds.{stands_whole, entries_whole, gone_longer, sealed_longer, stands_past}
-use Rattle.hc_core.proofs.Words.{same_or, eqb-same, eqb-other, then_false, none_some, false_true, some_is, same_row}
+use Rattle.hc_core.proofs.Words.{same_or, eqb-same, eqb-other, then_false, none_some, false_true, some_is, same_row, few_received}
 
 -- A FAILURE THAT NONE IS
 
@@ -280,7 +280,7 @@ module _ (limits : Limits) (t : Tables) (facts : Facts limits t) (now x : ℕ) (
           let after : Tables = with_length x n (with_exchange x (Some (at_end w)) s) in
           let here_now : after.representation x ≡ Some (ended n p) = rw (eqb-same x, s_rep) refl in
           let each_now : KeepsEntry after x ((shelf_of u.entries).kept x) (after.representation x) =
-          rw (entries, here_now) (gone_longer s x n (Some (at_end w)) p s_rep unknown is_gone (subst (λ f. Covers f 0 n) (sym same_body) came) firsts ((shelf_of mid.entries).kept x) (subst (KeepsEntry s x ((shelf_of mid.entries).kept x)) s_rep each)) in
+          rw (entries, here_now) (gone_longer s x n (Some (at_end w)) p s_rep unknown refl is_gone (subst (λ f. Covers f 0 n) (sym same_body) came) firsts ((shelf_of mid.entries).kept x) (subst (KeepsEntry s x ((shelf_of mid.entries).kept x)) s_rep each)) in
           stands_whole mid u s x w n p s_row s_rep measured.own unknown rows nobody awaits same_limits received last keys becomes (λ d. has itself d (bound_in ((shelf_of mid.entries).kept x))) users knows (ap (λ z. (shelf_of z).limits) entries)
           (entries_whole mid u s x w n p s_row s_rep measured.own unknown rows nobody awaits same_limits received last keys becomes (λ d. has itself d (bound_in ((shelf_of mid.entries).kept x))) users knows (ap (λ z. (shelf_of z).limits) entries)
           (shelf_of u.entries) (ap (λ z. (shelf_of z).order) entries) (λ q ne. ap (λ z. (shelf_of z).kept q) entries) each_now)
@@ -320,7 +320,7 @@ module _ (limits : Limits) (t : Tables) (facts : Facts limits t) (now x : ℕ) (
               let users_so : (d : ℕ) → has itself d (bound_in ((shelf_of mid.entries).kept x)) ≡ is_bound x (t.consumer d) = λ d. ap (λ z. has itself d (bound_in z)) seals_it ∙ is.bound d in
               let here_now : after.representation x ≡ Some (ended n v) = rw (eqb-same x, here) refl in
               let each_now : KeepsEntry after x ((shelf_of u.entries).kept x) (after.representation x) =
-              rw (entries, seals_it, here_now) (sealed_longer t x n (Some (at_end w)) v here measured.untold stopped_growing all_stored ends e is) in
+              rw (entries, seals_it, here_now) (sealed_longer t x n (Some (at_end w)) v here measured.untold refl stopped_growing all_stored ends e is) in
               let becomes_r : exch.Becomes known.closed x r.exchanges u.exchanges = subst (λ z. exch.Becomes known.closed x z u.exchanges) rest.exchanges becomes in
               let knows_r : ChangesAmong r.consumers u.consumers (λ d. has itself d (bound_in ((shelf_of mid.entries).kept x))) (changes.with_end n) = subst (λ z. ChangesAmong z u.consumers (λ d. has itself d (bound_in ((shelf_of mid.entries).kept x))) (changes.with_end n)) rest.consumers knows in
               let bounded : (shelf_of u.entries).limits ≡ (shelf_of r.entries).limits = ap (λ z. (shelf_of z).limits) entries ∙ seals.limits in
@@ -416,5 +416,5 @@ module _ {B : Type 0} {g : Ghosts B} (r : Rows B g) (t : Tables) (facts : Facts 
   pub delivered_short : (n : ℕ) → n ≡ length w.body → n < 2 ^ 62
   delivered_short n is =
       let le : length w.body ≤ t.received = facts.law.places.received x w row in
-      let counts = stands.received in
+      let counts = few_received stands.received small in
       omega arith

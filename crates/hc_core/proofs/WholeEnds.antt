@@ -43,7 +43,7 @@ use Rattle.hc_core.specs.Kept.{IsKept, KeepsConsumer, KeepsExchange, head_in, an
 use Rattle.hc_core.specs.Lines.{KeepsKey}
 use Rattle.hc_core.specs.Stands.{RowsStand}
 use Rattle.hc_core.specs.Stopped.{NobodyAwaits}
-use Rattle.hc_core.specs.Stored.{IsEntry, TellsLength, told, untold, KeepsEntry, KeepsEntries, is_first, is_usable_row}
+use Rattle.hc_core.specs.Stored.{IsEntry, TellsLength, told, untold, KeepsEntry, KeepsEntries, is_first, is_usable_row, is_over}
 use Rattle.hc_core.proofs.Asides.{unstored_moved}
 use Rattle.hc_core.proofs.BreakArm.{closed_is}
 use Rattle.hc_core.proofs.CameAlone.{NobodyFirst}
@@ -52,8 +52,8 @@ use Rattle.hc_core.proofs.Ended.{with_over, with_end, told_alike, runs_end, held
 use Rattle.hc_core.proofs.Losing.{finds_same, filters_same}
 use Rattle.hc_core.proofs.OneOfEach.{first_by, growing_same, kind_same, entries_same}
 use Rattle.hc_core.proofs.SealArm.{any_none, nothing_else}
-use Rattle.hc_core.proofs.Ties.{entry_same, exchange_same, key_same, kept_same}
-use Rattle.hc_core.proofs.Words.{same_or, eqb-same, eqb-other, then_false, none_some, false_true, same_row}
+use Rattle.hc_core.proofs.Ties.{entry_same, exchange_same, key_same, kept_same, put_over, writer_then}
+use Rattle.hc_core.proofs.Words.{same_or, eqb-same, eqb-other, then_false, none_some, false_true, same_row, as_received}
 
 eq_tells : (a b : ℕ) → nat_eq a b ≡ true → a ≡ b
 eq_tells a b is = grind (arith, nat_tests, is)
@@ -156,7 +156,7 @@ module _ (t : Tables) (x n : ℕ) (v : Representation) (there : t.representation
   -- every other stays
   pub other_longer : (q : ℕ) → x ≢ q → (k : Option Kept) → KeepsEntry t q k (t.representation q) → KeepsEntry f q k (f.representation q)
   unfolding bound kind_of
-  other_longer q ne k kept = subst (KeepsEntry f q k) (sym (others q ne)) (entry_same t f q k (t.representation q) refl (record { users = λ d. refl; first = λ d. first_longer q (t.consumer d); list = refl; kind = λ p at. refl }) kept)
+  other_longer q ne k kept = subst (KeepsEntry f q k) (sym (others q ne)) (entry_same t f q k (t.representation q) refl (record { users = λ d. refl; first = λ d. first_longer q (t.consumer d); list = refl; kind = λ p at. refl; overs = λ y on. on }) kept)
 
   pub order_longer : (order : List ℕ) → order ≡ filter (λ q. is_usable_row (t.representation q)) t.used → order ≡ filter (λ q. is_usable_row (f.representation q)) f.used
   order_longer order is = is ∙ sym (filters_same (λ q. is_usable_row (t.representation q)) (λ q. is_usable_row (f.representation q)) (told_longer is_usable_row (λ p. refl)) t.used)
@@ -178,10 +178,10 @@ module _ (a : Tables) (x n : ℕ) (z : Option Exchange) (v : Representation) (th
       by_first (Some d) at = false_true (sym (nobody d) ∙ (sym (is.first d) ∙ (ap (λ (z : Option ℕ). is_number z d) at ∙ eqb-same d)))
 
   -- once it is gone its length isn't told
-  pub gone_longer : v.is_gone ≡ true → Covers v.body 0 n → NobodyFirst a x → (k : Option Kept) → KeepsEntry a x k (Some v) → KeepsEntry longer x k (Some (ended n v))
+  pub gone_longer : is_over z ≡ true → v.is_gone ≡ true → Covers v.body 0 n → NobodyFirst a x → (k : Option Kept) → KeepsEntry a x k (Some v) → KeepsEntry longer x k (Some (ended n v))
   unfolding bound kind_of
-  gone_longer is_gone came nobody None kept = record { gone = kept.gone; unused = kept.unused }
-  gone_longer is_gone came nobody (Some e) is = record {
+  gone_longer done is_gone came nobody None kept = record { gone = kept.gone; unused = kept.unused }
+  gone_longer done is_gone came nobody (Some e) is = record {
     used = is.used;
     key = is.key;
     head = head_longer t x n v there untold_yet e is.head;
@@ -192,16 +192,16 @@ module _ (a : Tables) (x n : ℕ) (z : Option Exchange) (v : Representation) (th
     reach = is.reach;
     bound = is.bound;
     first = λ d. is.first d ∙ sym (first_longer t x n v there untold_yet x (a.consumer d) ∙ first_by a t (λ p. refl) x (a.consumer d));
-    writer = is.writer;
+    writer = writer_then (λ y on. put_over (nat_eq x y) z (a.exchange y) done on) is.writer;
     is_lost = is.is_lost;
     alone = is.alone;
     is_gone = is.is_gone;
   }
 
   -- what is sealed as whole and so long is
-  pub sealed_longer : is_growing t x ≡ false → Covers v.stored 0 n → EndsBy v.reach v.stored → (e : Kept) → IsEntry a x e v → IsEntry longer x (entry.sealed kinds.Whole (Some n) e) (ended n v)
+  pub sealed_longer : is_over z ≡ true → is_growing t x ≡ false → Covers v.stored 0 n → EndsBy v.reach v.stored → (e : Kept) → IsEntry a x e v → IsEntry longer x (entry.sealed kinds.Whole (Some n) e) (ended n v)
   unfolding bound kind_of
-  sealed_longer still all ends e is = record {
+  sealed_longer done still all ends e is = record {
     used = is.used;
     key = is.key;
     head = head_longer t x n v there untold_yet e is.head;
@@ -212,7 +212,7 @@ module _ (a : Tables) (x n : ℕ) (z : Option Exchange) (v : Representation) (th
     reach = is.reach;
     bound = is.bound;
     first = λ d. is.first d ∙ sym (first_longer t x n v there untold_yet x (a.consumer d) ∙ first_by a t (λ p. refl) x (a.consumer d));
-    writer = is.writer;
+    writer = writer_then (λ y on. put_over (nat_eq x y) z (a.exchange y) done on) is.writer;
     is_lost = is.is_lost;
     alone = is.alone;
     is_gone = is.is_gone;
@@ -294,7 +294,7 @@ module _ {B : Type 0} {g : Ghosts B} (r u : Rows B g) (t : Tables) (x : ℕ) (w 
   pub stands_whole : KeepsEntries whole (shelf_of u.entries) → RowsStand u whole
   stands_whole entries = record {
     limits = bounded ∙ (stands.limits ∙ sym limits);
-    received = received ∙ stands.received;
+    received = as_received received stands.received;
     last_start = last ∙ stands.last_start;
     next = becomes.next ∙ stands.next;
     count = knows.len ∙ stands.count;
@@ -321,7 +321,7 @@ module _ {B : Type 0} {g : Ghosts B} (r u : Rows B g) (t : Tables) (x : ℕ) (w 
       | inr ne ↦
           subst (λ k. KeepsEntry whole q k (whole.representation q)) (sym (kept q ne))
           (other_longer mid x n v there untold_yet q ne ((shelf_of r.entries).kept q)
-          (entry_same t mid q ((shelf_of r.entries).kept q) (t.representation q) refl (record { users = λ d. refl; first = λ d. first_by t mid (λ p. refl) q (t.consumer d); list = refl; kind = λ p at. kind_same t mid q p (growing_apart t x w row q (λ same. ne (sym own ∙ same))) }) (stands.entries.each q)))
+          (entry_same t mid q ((shelf_of r.entries).kept q) (t.representation q) refl (record { users = λ d. refl; first = λ d. first_by t mid (λ p. refl) q (t.consumer d); list = refl; kind = λ p at. kind_same t mid q p (growing_apart t x w row q (λ same. ne (sym own ∙ same))); overs = λ y on. put_over (nat_eq x y) (Some (at_end w)) (t.exchange y) refl on }) (stands.entries.each q)))
     ];
     order = order_longer mid x n v there untold_yet b.order (order ∙ stands.entries.order);
   }
@@ -397,7 +397,7 @@ module _ {B : Type 0} {g : Ghosts B} (r u : Rows B g) (t : Tables) (law : Lawful
   pub stands_past : RowsStand u past
   stands_past = record {
     limits = ap (λ e. (shelf_of e).limits) entries ∙ (stands.limits ∙ sym limits);
-    received = received ∙ stands.received;
+    received = as_received received stands.received;
     last_start = last ∙ stands.last_start;
     next = becomes.next ∙ stands.next;
     count = knows.len ∙ stands.count;
@@ -420,4 +420,4 @@ module _ {B : Type 0} {g : Ghosts B} (r u : Rows B g) (t : Tables) (law : Lawful
       ]
 
       entries_end : KeepsEntries (with_over x w t.exchange t) (shelf_of r.entries) → KeepsEntries past (shelf_of r.entries)
-      entries_end kept = entries_same (with_over x w t.exchange t) past (shelf_of r.entries) (λ q. refl) refl refl (λ q d. refl) (λ q d. refl) (λ q. growing_same (with_over x w t.exchange t) past q refl (λ y. told_alike t t.exchange x w (brings_to q y) refl y)) kept
+      entries_end kept = entries_same (with_over x w t.exchange t) past (shelf_of r.entries) (λ q. refl) refl refl (λ q d. refl) (λ q d. refl) (λ q. growing_same (with_over x w t.exchange t) past q refl (λ y. told_alike t t.exchange x w (brings_to q y) refl y)) (λ y on. told_alike t t.exchange x w is_over refl y ∙ on) kept

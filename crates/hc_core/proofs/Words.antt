@@ -1,7 +1,8 @@
 -- Small facts on tests, options and numbers.
-use Rattle.std.proofs.Common.{◌≡◌, ◌≢◌, ◌⊎◌, inl, inr, ℕ, Bool, true, false, cond, eqb, Option, Some, None, Result, Ok, Err, refl, sym, ◌∙◌, arith}
+use Rattle.std.proofs.Common.{◌≡◌, ◌≢◌, ◌⊎◌, inl, inr, ℕ, ◌+◌, ◌<◌, ◌≤◌, ◌^◌, Bool, true, false, cond, eqb, Option, Some, None, Result, Ok, Err, refl, sym, ◌∙◌, arith}
 use Rattle.std.proofs.lemmas.Bool.Decides.{nat_tests, eqb_tells}
 use Rattle.std.specs.Prelude.{is_some, IsSomeAnd, OnOk, OnErr, ◌||◌, ◌&&◌}
+use Rattle.hc_core.specs.Stands.{most_before}
 
 pub same_or : (c d : ℕ) → (c ≡ d) ⊎ (c ≢ d)
 same_or c d = elim (eqb_tells c d) [ inl e ↦ inl e.1 | inr e ↦ inr e.1 ]
@@ -84,3 +85,23 @@ on_ok_by (Err e) p f = tt
 pub on_ok_two : {A E P Q R : Type 0} (r : Result A E) → OnOk r P → OnOk r Q → (P → Q → R) → OnOk r R
 on_ok_two (Ok x) p q f = f p q
 on_ok_two (Err e) p q f = tt
+
+-- HOW MANY BYTES CAME
+
+-- pieces had no more bytes than were counted, and as many as may have come before: so it stays where both counts stay,
+pub same_received : {a b m n : ℕ} → a ≡ b → n ≡ m → m ≤ b + most_before → n ≤ a + most_before
+same_received count told most = omega (arith, count, told, most)
+
+pub as_received : {a b n : ℕ} → a ≡ b → n ≤ b + most_before → n ≤ a + most_before
+as_received count most = omega (arith, count, most)
+
+-- and where both grow by as many
+pub more_received : {n : ℕ} (a more : ℕ) → n ≤ a + most_before → n + more ≤ a + more + most_before
+more_received a more most = omega (arith, most)
+
+pub none_received : (a : ℕ) → 0 ≤ a + most_before
+none_received a = omega arith
+
+-- while few are counted, few came in all
+pub few_received : {a n : ℕ} → n ≤ a + most_before → a < 2 ^ 61 → n < 2 ^ 62
+few_received most small = omega (arith, most, small)

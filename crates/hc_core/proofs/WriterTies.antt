@@ -30,7 +30,7 @@ use Rattle.hc_core.specs.Stands.{RowsStand}
 use Rattle.hc_core.specs.Stored.{IsEntry, is_first}
 use Rattle.hc_core.proofs.CurrentTies.{stored_ends, covers_as, kept_entry}
 use Rattle.hc_core.proofs.LeftRows.{running_as, writing_as}
-use Rattle.hc_core.proofs.Words.{eqb-same, false_true, some_is}
+use Rattle.hc_core.proofs.Words.{eqb-same, false_true, some_is, few_received}
 
 -- HAS MORE
 
@@ -165,9 +165,9 @@ module _ {B : Type 0} {g : Ghosts B} (r : Rows B g) (t : Tables) (facts : Facts 
         let given = kept.given in
         let starts : a.lo ≤ max (2 ^ 62) t.received = facts.numbers.starts c q a.lo a.hi a.by a.v a.row a.at in
         let reaches : p.reach ≤ max (2 ^ 62) t.received = facts.numbers.reaches q p here in
-        let few : t.received < 2 ^ 61 = (let same = stands.received in subst (λ (n : ℕ). n < 2 ^ 61) same small) in
+        let few : t.received < 2 ^ 62 = few_received stands.received small in
         below k.lo k.given a.lo a.v.given p.reach t.received begins given starts reaches few (facts.law.given.reaches c q a.lo a.hi a.by a.v p a.row a.at here)
       where
-        below : (lo given from n reach received : ℕ) → lo ≡ from → given ≡ n → from ≤ max (2 ^ 62) received → reach ≤ max (2 ^ 62) received → received < 2 ^ 61 → (n ≡ 0) ⊎ (from + n ≤ reach) → lo + given < 2 ^ 63
+        below : (lo given from n reach received : ℕ) → lo ≡ from → given ≡ n → from ≤ max (2 ^ 62) received → reach ≤ max (2 ^ 62) received → received < 2 ^ 62 → (n ≡ 0) ⊎ (from + n ≤ reach) → lo + given < 2 ^ 63
         below lo given from n reach received a b c d e (inl none) = omega arith
         below lo given from n reach received a b c d e (inr le) = omega arith

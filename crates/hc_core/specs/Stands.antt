@@ -1,5 +1,5 @@
 -- The rows stand for what the tables say.
-use Rattle.std.specs.Prelude.{◌≡◌, ℕ, ◌+◌, ◌<◌, List, ◌++◌, Bool, true, false, Option, Some, None, is_some, option_map, nat_eq}
+use Rattle.std.specs.Prelude.{◌≡◌, ℕ, ◌+◌, ◌<◌, ◌≤◌, ◌^◌, List, ◌++◌, Bool, true, false, Option, Some, None, is_some, option_map, nat_eq}
 use Rattle.std.specs.Option.{option_and_then}
 use Rattle.std.specs.HashMap.{get, hash_map_len}
 use Rattle.hc_store.specs.declared.backend.Backend.{Ghosts}
@@ -44,9 +44,13 @@ use Rattle.hc_core.specs.Kept.{KeepsConsumer, KeepsExchange}
 use Rattle.hc_core.specs.Lines.{KeepsKey}
 use Rattle.hc_core.specs.Stored.{KeepsEntries}
 
+-- how many bytes pieces may have had before the rows began to count
+abbrev pub most_before : ℕ
+most_before = 2 ^ 61
+
 pub record RowsStand {B : Type 0} {g : Ghosts B} (r : Rows B g) (t : Tables) : Type 0 where
   pub limits : (shelf_of r.entries).limits ≡ r.limits
-  pub received : r.received ≡ t.received
+  pub received : t.received ≤ r.received + most_before
   pub last_start : r.last_start ≡ t.last_start
   pub next : next_of r.exchanges ≡ t.opened + 1
   pub count : hash_map_len r.consumers ≡ live t

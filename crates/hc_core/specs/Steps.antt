@@ -6,6 +6,8 @@ use Rattle.hc_event.specs.declared.event.Event.{Event}
 use Rattle.hc_event.specs.declared.act.Act.{Act}
 use Rattle.hc_entries.specs.Entries.{store_of}
 use Rattle.hc_model.specs.Beginnings.{may_begin}
+use Rattle.hc_model.specs.Contents.{contents_of}
+use Rattle.hc_model.specs.Denials.{live}
 use Rattle.hc_model.specs.Entries.{History, Contents}
 use Rattle.hc_rules.specs.declared.room.Limits.{Limits}
 use Rattle.hc_model.specs.Flaws.{flaw_in}
@@ -15,7 +17,7 @@ use Rattle.hc_model.specs.Numbers.{AreShort}
 use Rattle.hc_model.specs.Runs.{IsRun}
 use Rattle.hc_model.specs.Tables.{tables}
 use Rattle.hc_core.specs.declared.cache.Cache.{Cache}
-use Rattle.hc_core.specs.Stands.{RowsStand, is_fault}
+use Rattle.hc_core.specs.Stands.{RowsStand, is_fault, most_before}
 
 -- WHAT A CACHE HAS
 
@@ -52,8 +54,16 @@ pub record StandsFor {B : Type 0} {g : Ghosts B} (s : Cache B g) (contents : Con
   pub short : AreShort contents
   pub run : IsRun s.rows.limits contents h
   pub moment : s.last_moment ≡ (tables contents h).moment
-  pub entries : s.steps ≡ (tables contents h).entries
   pub rows : RowsStand s.rows (tables contents h)
+
+-- The cache stands for each run that leaves these contents, with nobody live, and in which pieces had no more bytes than may
+-- have come before: whatever such a cache began with, and whatever happened to it.
+abbrev pub ServesAll : {B : Type 0} {g : Ghosts B} → Cache B g → Contents → Type 0
+ServesAll s contents =
+    (before : Contents) (h : History) → may_begin s.rows.limits before ≡ true → AreShort before →
+    IsRun s.rows.limits before h → live (tables before h) ≡ 0 →
+    contents_of (tables before h) ≡ contents → (tables before h).received ≤ most_before →
+    StandsFor s before h
 
 -- one, where these acts tell that the store failed
 abbrev pub failures_in : List Act → ℕ

@@ -9,7 +9,7 @@ use Rattle.hc_entries.specs.Shelf.{Shelf}
 use Rattle.hc_model.specs.Currents.{is_number}
 use Rattle.hc_model.specs.Kinds.{kind_of}
 use Rattle.hc_model.specs.Reading.{is_bound, is_bound_place, bound}
-use Rattle.hc_model.specs.Rows.{Tables, Representation, Consumer}
+use Rattle.hc_model.specs.Rows.{Tables, Exchange, Representation, Consumer}
 use Rattle.hc_model.specs.Writers.{came_alone}
 
 -- WHO IS BOUND
@@ -35,6 +35,19 @@ pub data TellsLength (k : Kept) (v : Representation) : Type 0 where
   told : k.head.total ≡ v.head.total → TellsLength k v
   untold : IsUntold k v → TellsLength k v
 
+-- WHO WRITES IT
+
+-- it was opened, and isn't open any more
+abbrev pub is_over : Option Exchange → Bool
+is_over None = false
+is_over (Some w) = not w.is_open
+
+-- The exchange of its shared writing is told; one that is over may be forgotten.
+pub data TellsWriter (exchange : ℕ → Option Exchange) (kept told : Option ℕ) : Type 0 where
+  as_written : kept ≡ told → TellsWriter exchange kept told
+  forgotten : (x : ℕ) → kept ≡ None → told ≡ Some x → is_over (exchange x) ≡ true →
+      TellsWriter exchange kept told
+
 -- ONE OF THEM
 
 -- Where it isn't gone its kind and length are told; what is called whole is.
@@ -49,7 +62,7 @@ pub record IsEntry (t : Tables) (r : ℕ) (k : Kept) (v : Representation) : Type
   pub reach : v.is_lost ≡ false → k.reach ≡ v.reach
   pub bound : (c : ℕ) → has itself c k.bound ≡ is_bound r (t.consumer c)
   pub first : (c : ℕ) → is_number k.first c ≡ is_first t r (t.consumer c)
-  pub writer : k.writer ≡ v.writer
+  pub writer : TellsWriter t.exchange k.writer v.writer
   pub is_lost : k.is_lost ≡ v.is_lost
   pub alone : k.alone ≡ v.alone
   pub is_gone : k.is_gone ≡ v.is_gone

@@ -18,12 +18,11 @@ use Rattle.hc_core.specs.Steps.{StandsFor, Answers, last_moment, received, limit
 use Rattle.hc_replay.specs.declared.rounds.Rounds.{Rounds}
 use Rattle.hc_replay.specs.Generates as generates
 use Rattle.hc_replay.specs.Generates.{MayGoOn, Stands, HasGone, AreWanted, entry_at}
-use Rattle.hc_replay.proofs.Reported.{new_moment, new_counts}
+use Rattle.hc_replay.proofs.Reported.{new_moment}
 
-pub stands_new : (limits : Limits) (seed : ℕ) (r : Rounds) → StandsFor r.cache no_contents [] → limits_in r.cache ≡ limits → r.generator ≡ Rattle.hc_generate.specs.States.beginning seed → Stands limits seed 0 r
-stands_new limits seed r new limited begins =
+pub stands_new : (limits : Limits) (seed : ℕ) (r : Rounds) → StandsFor r.cache no_contents [] → core.steps r.cache + received r.cache ≡ 0 → limits_in r.cache ≡ limits → r.generator ≡ Rattle.hc_generate.specs.States.beginning seed → Stands limits seed 0 r
+stands_new limits seed r new counts limited begins =
     let at = new_moment r.cache new in
-    let counts = new_counts r.cache new in
     let moment : r.generator.moment ≡ 1000000 = ap (λ (s : State). s.moment) begins in
     let last : r.generator.last ≡ 0 = ap (λ (s : State). s.last) begins in
     record {

@@ -22,7 +22,6 @@ use Rattle.hc_model.proofs.Basics.{some_none}
 use Rattle.hc_model.proofs.ReadWhole.{runs_read_whole}
 use Rattle.hc_core.specs.declared.cache.Cache.{Cache}
 use Rattle.hc_core.specs.Steps.{StandsFor, Answers, limits_in, faults_in, failures_in, last_moment}
-use Rattle.hc_core.specs.Steps as core
 use Rattle.hc_replay.specs.Replays as replays
 use Rattle.hc_replay.specs.Replays.{run_of, failures, IsWholeRun, ReportsAll, ReportsSome, Replays, Completes}
 
@@ -31,10 +30,6 @@ module _ {B : Type 0} {g : Ghosts B} where
   pub new_moment : (s : Cache B g) → StandsFor s no_contents [] → last_moment s ≤ 0
   unfolding tables
   new_moment s new = let at = new.moment in omega arith
-
-  pub new_counts : (s : Cache B g) → StandsFor s no_contents [] → core.steps s + core.received s ≡ 0
-  unfolding tables
-  new_counts s new = let counted = new.entries in let came = new.rows.received in omega arith
 
   -- how a cache answers
   abbrev answers : Cache B g → ℕ → Event → List Act → Cache B g → Type 0

@@ -29,6 +29,7 @@ impl<B: Backend> Cache<B> {
         requires empty { B.slots store ≡ no_slots }
         requires limits { B.limits store ≡ limits }
         ensures stands { IfOk result (λ cache. StandsFor cache no_contents []) }
+        ensures unused { IfOk result (λ cache. steps cache + received cache ≡ 0) }
         ensures store { IfOk result (λ cache. store_in cache ≡ store) }
         ensures limits { IfOk result (λ cache. limits_in cache ≡ limits) }
     {

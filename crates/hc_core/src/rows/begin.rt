@@ -39,6 +39,7 @@ impl<B: Backend> Rows<B> {
         ensures stands { IfOk result
             (λ rows. RowsStand rows (begun (with_items [] (told contents.entry.now)))) }
         ensures limits { IfOk result (λ rows. rows.limits ≡ limits) }
+        ensures received { IfOk result (λ rows. rows.received ≡ 0) }
         ensures used { IfOk result (λ rows. (shelf_of rows.entries).used ≡ 0) }
         ensures store { IfOk result (λ rows. store_of rows.entries ≡ store) }
         ensures back { IfErr result (λ back. back ≡ store) }
@@ -65,6 +66,7 @@ impl<B: Backend> Rows<B> {
         requires none { (shelf_of self.old.entries).used ≡ 0 }
         ensures ok { OnOk result (RowsStand self.new (begun (told contents.entry.now))) }
         ensures limits { self.new.limits ≡ self.old.limits }
+        ensures received { self.new.received ≡ self.old.received }
         ensures bounds { (shelf_of self.new.entries).limits
             ≡ (shelf_of self.old.entries).limits }
         ensures no_limit { HasNoLimit result }
@@ -91,6 +93,7 @@ impl<B: Backend> Rows<B> {
         ensures used { OnOk result ((shelf_of self.new.entries).used
             ≡ (shelf_of self.old.entries).used + weight_of (bytes_in item.now.runs)) }
         ensures limits { self.new.limits ≡ self.old.limits }
+        ensures received { self.new.received ≡ self.old.received }
         ensures bounds { (shelf_of self.new.entries).limits
             ≡ (shelf_of self.old.entries).limits }
         ensures no_limit { HasNoLimit result }

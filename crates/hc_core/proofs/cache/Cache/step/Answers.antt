@@ -30,7 +30,7 @@ pub returns-clause-answered : goal.returns-clause-answered
 returns-clause-answered g c =
     let good = c.args.self.now.good c.if-self.false in
     let done = c.in_ok-answer.ensures in
-    steps_on c.args.self.now _ c.args.now c.args.event.now (listed c.args.out.now) (listed c.answer.new.out) done.denied done.accepted c.requires.later refl refl done.limits done.faults good.0
+    steps_on c.args.self.now _ c.args.now c.args.event.now (listed c.args.out.now) (listed c.answer.new.out) done.denied done.accepted c.requires.later refl done.limits done.faults good.0
 
 pub returns-clause-denied : goal.returns-clause-denied
 returns-clause-denied g c = λ some.

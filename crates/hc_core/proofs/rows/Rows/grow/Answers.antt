@@ -14,7 +14,7 @@ use Rattle.hc_core.proofs.GrowArm.{own_answered, shared_answered}
 use Rattle.hc_core.proofs.LoseTurn.{writes_it, unwritten}
 use Rattle.hc_core.proofs.PieceArm.{ends_below}
 use Rattle.hc_core.proofs.StoreArm.{stores_of}
-use Rattle.hc_core.proofs.Words.{on_ok_by}
+use Rattle.hc_core.proofs.Words.{on_ok_by, few_received}
 use Rattle.hc_core.proofs.rows.Rows.grow.Goals as goal
 
 told : (o p : Option LostKind) → o ≡ p → (let one : Result (Option LostKind) NoMemory = Ok o in one) ≡ Ok p
@@ -50,7 +50,7 @@ returns-in-Some-clause-answers g c = on_ok_by c.lose_shared_piece.result c.lose_
     let r = c.args.self.now in
     let put = c.store_piece.new.self in
     let refused = c.in_ok-store_piece.ensures.refused c.in-Some.kind (told c.in_ok-store_piece.field-0 (Some c.in-Some.kind) c.in-Some.is) in
-    let small : t.received < 2 ^ 61 = (let same = stands.received in let few = c.requires.small in omega (arith, same, few)) in
+    let small : t.received < 2 ^ 62 = few_received stands.received (let few = c.requires.small in omega (arith, few)) in
     let it = stores_of r t facts c.args.x c.args.r c.args.bytes.now stands goes c.requires.stored in
     let there = sym (ap t.representation it.of_q) ∙ it.there in
     let writes = some_one c.writing.result (sym c.is_some-writing.ensures ∙ c.if-writing.true) in
@@ -63,7 +63,7 @@ returns-in-Some-2-clause-answers g c = on_ok_by c.lose_own_piece.result c.lose_o
     let r = c.args.self.now in
     let put = c.store_piece.new.self in
     let refused = c.in_ok-store_piece.ensures.refused c.in-Some.kind (told c.in_ok-store_piece.field-0 (Some c.in-Some.kind) c.in-Some.is) in
-    let small : t.received < 2 ^ 61 = (let same = stands.received in let few = c.requires.small in omega (arith, same, few)) in
+    let small : t.received < 2 ^ 62 = few_received stands.received (let few = c.requires.small in omega (arith, few)) in
     let it = stores_of r t facts c.args.x c.args.r c.args.bytes.now stands goes c.requires.stored in
     let there = sym (ap t.representation it.of_q) ∙ it.there in
     let off = unwritten r t facts stands c.args.r it.v there (sym c.writing.ensures ∙ none_at c.writing.result (sym c.is_some-writing.ensures ∙ c.if-writing.false)) in

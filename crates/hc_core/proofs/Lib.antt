@@ -148,3 +148,7 @@ pub mod BegunItems
 pub mod BegunCache
 pub mod Remaining
 pub mod ContentsTold
+pub mod HeadsGrow
+pub mod NobodyLive
+pub mod RunsBack
+pub mod Likewise

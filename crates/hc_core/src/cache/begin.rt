@@ -1,9 +1,9 @@
 //! A cache that begins with contents.
-ghost use Rattle.std.specs.Prelude.{◌≡◌, [], IfOk, IfErr};
+ghost use Rattle.std.specs.Prelude.{◌≡◌, ◌+◌, [], IfOk, IfErr};
 ghost use Rattle.hc_store.specs.Slots.{no_slots};
 ghost use Rattle.hc_contents.specs.Told.{told};
 ghost use Rattle.hc_core.specs.Begins.{IsRefusal};
-ghost use Rattle.hc_core.specs.Steps.{StandsFor, faults_in, limits_in};
+ghost use Rattle.hc_core.specs.Steps.{StandsFor, ServesAll, faults_in, limits_in, steps, received};
 
 use crate::begin::{ContentsError, ContentsRefused, failure_of, refusal_of};
 use crate::cache::Cache;
@@ -14,9 +14,10 @@ use hc_store::Backend;
 use std::alloc::Global;
 
 impl<B: Backend> Cache<B> {
-    /// Stands for the history that begins with these contents and has no entry, over an empty store
-    /// that may hold so much. BadContent exactly where an item isn't good, or else the moment or a
-    /// number is too large; Full exactly where that isn't so, and all weigh more than they may.
+    /// Stands for the history that begins with these contents and has no entry, and for each run that
+    /// leaves them with nobody live, over an empty store that may hold so much. BadContent exactly
+    /// where an item isn't good, or else the moment or a number is too large; Full exactly where that
+    /// isn't so, and all weigh more than they may: the store is as it was then.
     pub fn with_contents(
         backend: B,
         limits: Limits,
@@ -26,6 +27,8 @@ impl<B: Backend> Cache<B> {
         requires empty { B.slots backend ≡ no_slots }
         requires limits { B.limits backend ≡ limits }
         ensures stands { IfOk result (λ cache. StandsFor cache (told contents.entry.now) []) }
+        ensures serves { IfOk result (λ cache. ServesAll cache (told contents.entry.now)) }
+        ensures unused { IfOk result (λ cache. steps cache + received cache ≡ 0) }
         ensures limits { IfOk result (λ cache. limits_in cache ≡ limits) }
         ensures calm { IfOk result (λ cache. faults_in cache ≡ B.faults backend) }
         ensures refused { IfErr result

@@ -4,10 +4,11 @@ use Rattle.hc_model.specs.Beginnings.{may_begin}
 use Rattle.hc_contents.specs.Told.{told}
 use Rattle.hc_core.proofs.BegunCache.{may_by, stands_begun_with, good_begun_with, next_begun_with}
 use Rattle.hc_core.proofs.BegunItems.{next_fits}
+use Rattle.hc_core.proofs.Likewise.{serves_all}
 use Rattle.hc_core.proofs.cache.Cache.with_contents.Goals as goal
 
 pub returns-in-Some-clause-refused : goal.returns-in-Some-clause-refused
-returns-in-Some-clause-refused g c = record { cause = c.in-Some.ensures.some (g.B.Backend.faults c.args.backend); calm = λ _. refl; bounded = refl }
+returns-in-Some-clause-refused g c = record { cause = c.in-Some.ensures.some (g.B.Backend.faults c.args.backend); calm = λ _. refl; bounded = refl; untouched = λ _. refl }
 
 pub before-requires-clause-first : goal.before-requires-clause-first
 before-requires-clause-first g c = (next_fits c.args.limits (told c.args.contents.now) (may_by _ _ c.in_default.ensures.none)).0
@@ -29,4 +30,12 @@ invariant_of-result g c =
 pub returns-clause-stands : goal.returns-clause-stands
 returns-clause-stands g c =
     let may = subst (λ (l : Limits). may_begin l (told c.args.contents.now) ≡ true) (sym (c.begin_with.ensures.limits ∙ c.in-Ok.ensures.limits)) (may_by _ _ c.in_default.ensures.none) in
-    stands_begun_with _ c.args.contents.now refl refl may c.in_default-begin_with.ensures.ok
+    stands_begun_with _ c.args.contents.now refl may c.in_default-begin_with.ensures.ok
+
+pub returns-clause-serves : goal.returns-clause-serves
+returns-clause-serves g c =
+    let may = subst (λ (l : Limits). may_begin l (told c.args.contents.now) ≡ true) (sym (c.begin_with.ensures.limits ∙ c.in-Ok.ensures.limits)) (may_by _ _ c.in_default.ensures.none) in
+    serves_all _ (told c.args.contents.now) refl may c.in_default-begin_with.ensures.ok
+
+pub returns-clause-unused : goal.returns-clause-unused
+returns-clause-unused g c = (let after = c.begin_with.ensures.received in let before = c.in-Ok.ensures.received in omega (arith, after, before))

@@ -1,4 +1,4 @@
-//! Tests of the rules and of the parts of the core, in a crate of their own, since a crate with tests is proved twice.
+//! Tests of bytes, stores, representations and exchanges, in a crate of their own, since a crate with tests is proved twice.
 #![tactic(auto)]
 
 #[cfg(test)]
@@ -8,20 +8,4 @@ mod entries;
 #[cfg(test)]
 mod exchanges;
 #[cfg(test)]
-mod freshness;
-#[cfg(test)]
-mod generator;
-#[cfg(test)]
-mod keys;
-#[cfg(test)]
-mod lines;
-#[cfg(test)]
-mod rising;
-#[cfg(test)]
-mod rules;
-#[cfg(test)]
-mod stitching;
-#[cfg(test)]
 mod stores;
-#[cfg(test)]
-mod validation;

@@ -1,5 +1,5 @@
 use Rattle.std.proofs.Common.{◌+◌, ◌*◌, ◌≤◌}
-use Rattle.hc_part_tests.proofs.generator.walk.Given as goal
+use Rattle.hc_fresh_tests.proofs.generator.walk.Given as goal
 
 abbrev pub invariant-loop-i : goal.invariant-loop-i
 invariant-loop-i g l = record {

@@ -1,6 +1,6 @@
 use Rattle.std.proofs.Common.{ap, arith}
 use Rattle.hc_generate.specs.States.{State}
-use Rattle.hc_part_tests.proofs.generator.walk.Goals as goal
+use Rattle.hc_fresh_tests.proofs.generator.walk.Goals as goal
 
 pub loop-i-preserved : goal.loop-i-preserved
 loop-i-preserved g c = record {

@@ -1,0 +1,13 @@
+//! Tests of the rules, of keys and their lines, and of stitching, in a crate of their own, since a crate with tests is proved twice.
+#![tactic(auto)]
+
+#[cfg(test)]
+mod keys;
+#[cfg(test)]
+mod lines;
+#[cfg(test)]
+mod rising;
+#[cfg(test)]
+mod rules;
+#[cfg(test)]
+mod stitching;

@@ -2,6 +2,7 @@
 //! stored after schedules.
 ghost use Rattle.std.specs.Prelude.{◌≤◌, ◌^◌, vec_len, IfOk};
 
+mod contents;
 mod hostile;
 mod kinds;
 mod lost;

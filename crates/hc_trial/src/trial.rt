@@ -34,15 +34,15 @@ impl Trial {
         }
         let mut fails = Vec::new(alloc);
         for pair in pairs {
-            let fail = (op_of(pair[0].as_str())?, number_of(&pair[1])?);
+            let fail = (op_of(pair[0].as_str())?, number_of(pair[1].as_str())?);
             if fails.push(fail).is_err() {
                 return Err(TrialError::NoMemory);
             }
         }
         Ok(Trial {
             limits: Limits {
-                max_entry: number_of(max_entry)?,
-                max_total: number_of(max_total)?,
+                max_entry: number_of(max_entry.as_str())?,
+                max_total: number_of(max_total.as_str())?,
             },
             fails,
         })
@@ -74,6 +74,6 @@ fn op_of(name: &str) -> Result<Op, TrialError> {
     }
 }
 
-fn number_of(word: &String) -> Result<u64, TrialError> {
+fn number_of(word: &str) -> Result<u64, TrialError> {
     read_plain(word.as_bytes()).ok_or(TrialError::WrongWords)
 }

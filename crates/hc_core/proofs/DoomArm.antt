@@ -33,7 +33,7 @@ use Rattle.hc_model.specs.Lines.{is_in_line}
 use Rattle.hc_model.specs.Rows as rows
 use Rattle.hc_model.specs.Rows.{Tables, Exchange, Representation}
 use Rattle.hc_model.specs.StartingOver.{waits_at}
-use Rattle.hc_model.proofs.LettingGo.{may_let_go}
+use Rattle.hc_laws.proofs.LettingGo.{may_let_go}
 use Rattle.hc_model.proofs.SameTables.{all_closed_is}
 use Rattle.hc_core.specs.declared.rows.Rows.{Rows}
 use Rattle.hc_core.specs.Changes.{ChangesAmong, once_over}

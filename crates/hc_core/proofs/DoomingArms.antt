@@ -48,7 +48,7 @@ use Rattle.hc_model.specs.Tables.{added}
 use Rattle.hc_model.proofs.Basics.{same_functions}
 use Rattle.hc_model.proofs.SameTables as tables
 use Rattle.hc_model.proofs.SameTables.{without, shut, back_from_any, waits_for_any, some_go_is, all_closed_is}
-use Rattle.hc_model.proofs.UnsafeEffects.{dooms_taken, dooms_bad}
+use Rattle.hc_laws.proofs.UnsafeEffects.{dooms_taken, dooms_bad}
 use Rattle.hc_core.specs.declared.consumer.Consumer.{Consumer}
 use Rattle.hc_core.specs.declared.rows.Rows.{Rows}
 use Rattle.hc_core.specs.Changes.{ChangesAt, standing_at}

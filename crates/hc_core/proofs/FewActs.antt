@@ -8,7 +8,7 @@ use Rattle.hc_rules.specs.declared.room.Room.{Room}
 use Rattle.hc_rules.specs.declared.room.Room.TheVariants as room
 use Rattle.hc_rules.specs.declared.room.Write.{Write}
 use Rattle.hc_model.specs.Tables.{tables}
-use Rattle.hc_model.proofs.WeightsLeft.{two_give_way}
+use Rattle.hc_laws.proofs.WeightsLeft.{two_give_way}
 use Rattle.hc_core.specs.declared.rows.Rows.{Rows}
 use Rattle.hc_core.specs.Room.{HasActs, LeavesActs, room_for_write}
 use Rattle.hc_core.specs.Stands.{StandsForSome}

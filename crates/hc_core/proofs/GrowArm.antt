@@ -31,14 +31,14 @@ use Rattle.hc_model.specs.Sound.{HasPen, IsBound}
 use Rattle.hc_model.specs.Weights.{evicted, room_for}
 use Rattle.hc_model.specs.Writers.{exclusive, has_more, offset_in, survivor}
 use Rattle.hc_model.specs.Writes.{written}
-use Rattle.hc_model.proofs.Exclusives.{exclusive_parts}
-use Rattle.hc_model.proofs.HadKeeps.{survivor_bound}
-use Rattle.hc_model.proofs.HasBound.{reader_of}
-use Rattle.hc_model.proofs.LettingGo.{may_let_go}
-use Rattle.hc_model.proofs.PieceEffects as alone_does
+use Rattle.hc_laws.proofs.Exclusives.{exclusive_parts}
+use Rattle.hc_laws.proofs.HadKeeps.{survivor_bound}
+use Rattle.hc_laws.proofs.HasBound.{reader_of}
+use Rattle.hc_laws.proofs.LettingGo.{may_let_go}
+use Rattle.hc_laws.proofs.PieceEffects as alone_does
 use Rattle.hc_model.proofs.SameTables.{all_go_is, back_from_any, is_in, without}
-use Rattle.hc_model.proofs.SharedLossEffects as shared_does
-use Rattle.hc_model.proofs.Survives.{survivor_offset}
+use Rattle.hc_laws.proofs.SharedLossEffects as shared_does
+use Rattle.hc_laws.proofs.Survives.{survivor_offset}
 use Rattle.hc_core.specs.declared.rows.Rows.{Rows}
 use Rattle.hc_core.specs.Facts.{Facts}
 use Rattle.hc_core.specs.Heirs.{MayLoseShared, shared_loss}

@@ -51,7 +51,7 @@ use Rattle.hc_model.specs.Reading.{bound, is_bound}
 use Rattle.hc_model.specs.Sound.{InHole}
 use Rattle.hc_model.specs.Rows as rows
 use Rattle.hc_model.specs.Rows.{Tables, Exchange, Representation}
-use Rattle.hc_model.proofs.Bounded.{range_order}
+use Rattle.hc_laws.proofs.Bounded.{range_order}
 use Rattle.hc_model.proofs.Joining.{filling}
 use Rattle.hc_model.proofs.Pens.{filter_some}
 use Rattle.hc_core.specs.declared.consumer.Consumer.{Consumer}

@@ -12,7 +12,7 @@ use Rattle.hc_model.proofs.HeadFrom.{HeadFrom, head_from}
 use Rattle.hc_model.proofs.HeadFrom as from
 use Rattle.hc_model.proofs.RepFrom.{RepFrom, rep_from}
 use Rattle.hc_model.proofs.RepFrom as rep
-use Rattle.hc_model.proofs.RunFacts.{in_runs}
+use Rattle.hc_laws.proofs.RunFacts.{in_runs}
 use Rattle.hc_core.proofs.Words.{none_some, some_is}
 
 abbrev pub HeadsGrow : Tables → Type 0

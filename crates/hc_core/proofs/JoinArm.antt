@@ -47,7 +47,7 @@ use Rattle.hc_model.proofs.FirstKeeps.{case_is}
 use Rattle.hc_model.proofs.FoundBy.{case_by}
 use Rattle.hc_model.proofs.Pens.{filter_some}
 use Rattle.hc_model.proofs.LossStands.{joins_again, not_founding}
-use Rattle.hc_model.proofs.UpdateEffects as does
+use Rattle.hc_laws.proofs.UpdateEffects as does
 use Rattle.hc_core.specs.declared.consumer.Consumer.{Consumer}
 use Rattle.hc_core.specs.declared.rows.Rows.{Rows}
 use Rattle.hc_core.specs.Changes.{BecomesAt, ChangesAt, Numbered}

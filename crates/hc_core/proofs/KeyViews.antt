@@ -15,7 +15,7 @@ use Rattle.hc_model.specs.Kinds.{kind_of, kind_at, kind_for}
 use Rattle.hc_model.specs.Lines.{turn}
 use Rattle.hc_model.specs.Rows.{Tables, Representation}
 use Rattle.hc_model.specs.Tables.{tables}
-use Rattle.hc_model.proofs.SoundRuns.{runs_are_sound}
+use Rattle.hc_laws.proofs.SoundRuns.{runs_are_sound}
 use Rattle.hc_core.specs.declared.cache.Cache.{Cache}
 use Rattle.hc_core.specs.Steps.{StandsFor}
 use Rattle.hc_core.proofs.CurrentTies.{IsNow, now_kept}

@@ -37,7 +37,7 @@ use Rattle.hc_model.specs.Rows.{Tables, Exchange, Representation}
 use Rattle.hc_model.specs.Sound.{IsBound}
 use Rattle.hc_model.specs.Sound as sound
 use Rattle.hc_model.specs.Steps.{held_of_lost}
-use Rattle.hc_model.proofs.HoleEffects.{fills_later}
+use Rattle.hc_laws.proofs.HoleEffects.{fills_later}
 use Rattle.hc_model.proofs.OpensFrom.{opens_hole}
 use Rattle.hc_model.proofs.Pens.{bound_some}
 use Rattle.hc_model.proofs.PollTree.{OpensHole}

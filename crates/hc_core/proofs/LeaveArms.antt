@@ -29,8 +29,8 @@ use Rattle.hc_model.specs.Tables.{added}
 use Rattle.hc_model.specs.Writes.{written}
 use Rattle.hc_model.specs.Writers.{exclusive}
 use Rattle.hc_model.proofs.FailsTold.{fails_told}
-use Rattle.hc_model.proofs.LeaveEffects as effects
-use Rattle.hc_model.proofs.SealEffects as seal_effects
+use Rattle.hc_laws.proofs.LeaveEffects as effects
+use Rattle.hc_laws.proofs.SealEffects as seal_effects
 use Rattle.hc_core.specs.declared.rows.Rows.{Rows}
 use Rattle.hc_core.specs.Left.{HasLeft, quietly, unsealed}
 use Rattle.hc_core.specs.Stands.{Answered, RowsStand}

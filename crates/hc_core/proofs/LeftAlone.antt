@@ -18,12 +18,12 @@ use Rattle.hc_model.specs.Rows.{Tables, Exchange, Representation, Consumer}
 use Rattle.hc_model.specs.Sound as sound
 use Rattle.hc_model.specs.Sound.{IsBound, IsAbout, IsHad, HasPen}
 use Rattle.hc_model.specs.Writers.{exclusive, has_more}
-use Rattle.hc_model.proofs.AboutKeeps.{own_open_of}
+use Rattle.hc_laws.proofs.AboutKeeps.{own_open_of}
 use Rattle.hc_model.proofs.Basics.{number_is}
 use Rattle.hc_event.specs.declared.event.Response.{Response}
-use Rattle.hc_model.proofs.Exclusives.{exclusive_parts}
+use Rattle.hc_laws.proofs.Exclusives.{exclusive_parts}
 use Rattle.hc_model.proofs.KeyActs.{test_some}
-use Rattle.hc_model.proofs.LettingGo.{may_let_go}
+use Rattle.hc_laws.proofs.LettingGo.{may_let_go}
 use Rattle.hc_model.proofs.Stops.{writer_about}
 use Rattle.hc_core.specs.Kept.{held_alone}
 use Rattle.hc_core.specs.Stopped.{NobodyAwaits, HoldsNothing, MayStop}

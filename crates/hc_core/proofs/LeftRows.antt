@@ -25,7 +25,7 @@ use Rattle.hc_model.specs.Rows as rows
 use Rattle.hc_model.specs.Rows.{Tables, Exchange, Representation}
 use Rattle.hc_model.specs.Sound as sound
 use Rattle.hc_model.specs.Sound.{Among}
-use Rattle.hc_model.proofs.OfConsumers.{left_open}
+use Rattle.hc_laws.proofs.OfConsumers.{left_open}
 use Rattle.hc_model.proofs.Pens.{filter_some}
 use Rattle.hc_core.specs.declared.consumer.Consumer.{Consumer}
 use Rattle.hc_core.specs.declared.rows.Rows.{Rows}

@@ -37,7 +37,7 @@ use Rattle.hc_model.proofs.CurrentKeeps.{current_is}
 use Rattle.hc_model.proofs.KeysKeep.{current_row}
 use Rattle.hc_model.proofs.PollKeeps.{current_stays}
 use Rattle.hc_model.proofs.RunsFrom.{end_is}
-use Rattle.hc_model.proofs.SoundRuns.{carried}
+use Rattle.hc_laws.proofs.SoundRuns.{carried}
 use Rattle.hc_model.proofs.Sums.{filter_among}
 use Rattle.hc_core.specs.declared.cache.Cache.{Cache}
 use Rattle.hc_core.specs.declared.consumer.Consumer.{Consumer}

@@ -14,7 +14,7 @@ use Rattle.hc_model.specs.Rows.{Tables, Exchange, Representation}
 use Rattle.hc_model.specs.Sound as sound
 use Rattle.hc_model.specs.Sound.{IsBound, HasPen}
 use Rattle.hc_model.specs.Writers.{exclusive}
-use Rattle.hc_model.proofs.Exclusives.{exclusive_parts}
+use Rattle.hc_laws.proofs.Exclusives.{exclusive_parts}
 use Rattle.hc_model.proofs.HoleLemmas.{covers_yes}
 use Rattle.hc_core.specs.Facts.{Facts}
 use Rattle.hc_core.specs.Kept.{held_alone, unstored, first_lacking}

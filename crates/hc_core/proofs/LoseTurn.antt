@@ -47,11 +47,11 @@ use Rattle.hc_model.specs.Writes.{written, head_writes, may_validate, lossless}
 use Rattle.hc_model.proofs.FirstKeeps.{case_is}
 use Rattle.hc_model.proofs.FoundBy.{unchanged_founds}
 use Rattle.hc_model.proofs.KeysKeep.{current_row}
-use Rattle.hc_model.proofs.LettingGo.{may_let_go}
+use Rattle.hc_laws.proofs.LettingGo.{may_let_go}
 use Rattle.hc_model.proofs.Pens.{writer_some}
 use Rattle.hc_model.proofs.PollKeeps.{current_stays}
-use Rattle.hc_model.proofs.UpdateEffects.{validated_lost}
-use Rattle.hc_model.proofs.WrittenEffects.{validated_lost_written}
+use Rattle.hc_laws.proofs.UpdateEffects.{validated_lost}
+use Rattle.hc_laws.proofs.WrittenEffects.{validated_lost_written}
 use Rattle.hc_core.specs.declared.rows.Rows.{Rows}
 use Rattle.hc_core.specs.Facts.{Facts}
 use Rattle.hc_core.specs.Heads.{IsUnread, unless_over}

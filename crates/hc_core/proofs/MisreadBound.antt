@@ -27,8 +27,8 @@ use Rattle.hc_model.specs.Rows.{Tables, Exchange, Representation, Consumer}
 use Rattle.hc_model.specs.Sound as sound
 use Rattle.hc_model.specs.Sound.{IsAbout}
 use Rattle.hc_model.specs.Tables.{added}
-use Rattle.hc_model.proofs.LettingGo.{may_let_go, keeps_may, let_go_nothing}
-use Rattle.hc_model.proofs.MisreadEffects.{misreads}
+use Rattle.hc_laws.proofs.LettingGo.{may_let_go, keeps_may, let_go_nothing}
+use Rattle.hc_laws.proofs.MisreadEffects.{misreads}
 use Rattle.hc_model.proofs.Stops.{writer_about}
 use Rattle.hc_core.specs.declared.rows.Rows.{Rows}
 use Rattle.hc_core.specs.Stands.{Answered, RowsStand, KeepsRest}

@@ -40,7 +40,7 @@ use Rattle.hc_model.specs.Rows.{Tables, Representation}
 use Rattle.hc_model.specs.Tables.{tables}
 use Rattle.hc_model.specs.Writers.{came_alone}
 use Rattle.hc_model.proofs.EndsKeep.{wanted_within}
-use Rattle.hc_model.proofs.PartRuns.{wanted_some}
+use Rattle.hc_laws.proofs.PartRuns.{wanted_some}
 use Rattle.hc_model.proofs.PlanBy.{PlanBy, plan_by}
 use Rattle.hc_model.proofs.PlanBy as plans
 use Rattle.hc_core.specs.declared.consumer.Consumer.{Consumer}

@@ -28,8 +28,8 @@ use Rattle.hc_model.specs.Polls.{move_of}
 use Rattle.hc_model.specs.Reading.{reads}
 use Rattle.hc_model.specs.Rows as rows
 use Rattle.hc_model.specs.Rows.{Tables}
-use Rattle.hc_model.proofs.PollEffects.{same_consumer}
-use Rattle.hc_model.proofs.WaitEffects.{waits}
+use Rattle.hc_laws.proofs.PollEffects.{same_consumer}
+use Rattle.hc_laws.proofs.WaitEffects.{waits}
 use Rattle.hc_core.specs.declared.consumer.Consumer.{Consumer}
 use Rattle.hc_core.specs.declared.rows.Rows.{Rows}
 use Rattle.hc_core.specs.Changes.{ChangesAt, passed_for}

@@ -27,7 +27,7 @@ use Rattle.hc_model.specs.Rows.{Tables, Exchange, Representation}
 use Rattle.hc_model.specs.Tables.{tables}
 use Rattle.hc_model.specs.Weights.{write_in}
 use Rattle.hc_model.proofs.Once.{IsTaken, taken}
-use Rattle.hc_model.proofs.PieceEffects as does
+use Rattle.hc_laws.proofs.PieceEffects as does
 use Rattle.hc_core.specs.declared.rows.Rows.{Rows}
 use Rattle.hc_core.specs.Facts.{Facts}
 use Rattle.hc_core.specs.Kept.{IsRunning, KeepsRunning, unread, held_of, held_for}

@@ -41,10 +41,10 @@ use Rattle.hc_model.specs.Rows as rows
 use Rattle.hc_model.specs.Rows.{Tables, Exchange, Representation}
 use Rattle.hc_model.specs.Steps as steps
 use Rattle.hc_model.specs.Steps.{reading, step_move, held, run_of}
-use Rattle.hc_model.proofs.AskEffects.{asks}
-use Rattle.hc_model.proofs.GiveEffects.{gives_bytes}
-use Rattle.hc_model.proofs.ShowEffects.{shows_reader}
-use Rattle.hc_model.proofs.WaitEffects.{waits_on}
+use Rattle.hc_laws.proofs.AskEffects.{asks}
+use Rattle.hc_laws.proofs.GiveEffects.{gives_bytes}
+use Rattle.hc_laws.proofs.ShowEffects.{shows_reader}
+use Rattle.hc_laws.proofs.WaitEffects.{waits_on}
 use Rattle.hc_core.specs.declared.consumer.Consumer.{Consumer}
 use Rattle.hc_core.specs.declared.rows.Rows.{Rows}
 use Rattle.hc_core.specs.Arms.{IsShown, IsUnshown, past_view, source_in, most, asks_or_waits, asked_in, given}

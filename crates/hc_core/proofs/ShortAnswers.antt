@@ -26,9 +26,9 @@ use Rattle.hc_model.specs.Rows as rows
 use Rattle.hc_model.specs.Rows.{Tables, Exchange, Representation}
 use Rattle.hc_model.specs.Writes.{written}
 use Rattle.hc_model.specs.Writers.{exclusive}
-use Rattle.hc_model.proofs.StopEffects as past_effects
-use Rattle.hc_model.proofs.StopFrames.{end_of}
-use Rattle.hc_model.proofs.StopSeals as seal_effects
+use Rattle.hc_laws.proofs.StopEffects as past_effects
+use Rattle.hc_laws.proofs.StopFrames.{end_of}
+use Rattle.hc_laws.proofs.StopSeals as seal_effects
 use Rattle.hc_core.specs.declared.rows.Rows.{Rows}
 use Rattle.hc_core.specs.Facts.{Facts}
 use Rattle.hc_core.specs.Stands.{Answered, RowsStand}

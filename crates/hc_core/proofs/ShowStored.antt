@@ -44,7 +44,7 @@ use Rattle.hc_model.specs.Sound as sound
 use Rattle.hc_model.specs.Sound.{IsToBeShown}
 use Rattle.hc_model.specs.Tables.{tables}
 use Rattle.hc_model.specs.Writers.{status_in, came_alone}
-use Rattle.hc_model.proofs.ShowEffects.{shows_reader}
+use Rattle.hc_laws.proofs.ShowEffects.{shows_reader}
 use Rattle.hc_core.specs.declared.consumer.Consumer.{Consumer}
 use Rattle.hc_core.specs.declared.rows.Rows.{Rows}
 use Rattle.hc_core.specs.Changes.{ChangesAt, once_shown}

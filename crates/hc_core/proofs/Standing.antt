@@ -14,29 +14,29 @@ use Rattle.hc_model.specs.Numbers.{AreShort}
 use Rattle.hc_model.specs.Rows.{Exchange}
 use Rattle.hc_model.specs.Runs.{IsRun}
 use Rattle.hc_model.specs.Tables.{tables}
-use Rattle.hc_model.proofs.AloneRuns.{alone_in_runs}
+use Rattle.hc_laws.proofs.AloneRuns.{alone_in_runs}
 use Rattle.hc_model.proofs.Beside.{goes_on_at}
-use Rattle.hc_model.proofs.BringsRuns.{brings_in_runs}
-use Rattle.hc_model.proofs.FrontRuns.{fronts_in_runs}
-use Rattle.hc_model.proofs.FitsRuns.{fits}
-use Rattle.hc_model.proofs.GivenRuns.{given_in_runs}
-use Rattle.hc_model.proofs.GrowingRuns.{growing_in_runs}
-use Rattle.hc_model.proofs.InRuns.{turned_in_runs}
-use Rattle.hc_model.proofs.LiveRuns.{few_in_runs}
-use Rattle.hc_model.proofs.OriginRuns.{origins_in_runs}
-use Rattle.hc_model.proofs.PartRuns.{parts_in_runs}
-use Rattle.hc_model.proofs.LossRuns.{losses_in_runs}
-use Rattle.hc_model.proofs.NumberRuns.{numbers_in_runs}
-use Rattle.hc_model.proofs.OrderRuns.{order_in_runs}
-use Rattle.hc_model.proofs.PassedRuns.{passed_in_runs}
-use Rattle.hc_model.proofs.PlaceRuns.{places_in_runs, endings_in_runs}
-use Rattle.hc_model.proofs.SizesKeep.{sizes_in_runs}
-use Rattle.hc_model.proofs.SoundRuns.{carried, measures_in_runs}
-use Rattle.hc_model.proofs.StoredHeadsKeep.{heads_in_runs}
-use Rattle.hc_model.proofs.TagRuns.{tags_in_runs}
-use Rattle.hc_model.proofs.WeightsLeft.{weights_total}
-use Rattle.hc_model.proofs.UnendedRuns.{unended_in_runs}
-use Rattle.hc_model.proofs.WhoseRuns.{whose_in_runs}
+use Rattle.hc_laws.proofs.BringsRuns.{brings_in_runs}
+use Rattle.hc_laws.proofs.FrontRuns.{fronts_in_runs}
+use Rattle.hc_laws.proofs.FitsRuns.{fits}
+use Rattle.hc_laws.proofs.GivenRuns.{given_in_runs}
+use Rattle.hc_laws.proofs.GrowingRuns.{growing_in_runs}
+use Rattle.hc_laws.proofs.InRuns.{turned_in_runs}
+use Rattle.hc_laws.proofs.LiveRuns.{few_in_runs}
+use Rattle.hc_laws.proofs.OriginRuns.{origins_in_runs}
+use Rattle.hc_laws.proofs.PartRuns.{parts_in_runs}
+use Rattle.hc_laws.proofs.LossRuns.{losses_in_runs}
+use Rattle.hc_laws.proofs.NumberRuns.{numbers_in_runs}
+use Rattle.hc_laws.proofs.OrderRuns.{order_in_runs}
+use Rattle.hc_laws.proofs.PassedRuns.{passed_in_runs}
+use Rattle.hc_laws.proofs.PlaceRuns.{places_in_runs, endings_in_runs}
+use Rattle.hc_laws.proofs.SizesKeep.{sizes_in_runs}
+use Rattle.hc_laws.proofs.SoundRuns.{carried, measures_in_runs}
+use Rattle.hc_laws.proofs.StoredHeadsKeep.{heads_in_runs}
+use Rattle.hc_laws.proofs.TagRuns.{tags_in_runs}
+use Rattle.hc_laws.proofs.WeightsLeft.{weights_total}
+use Rattle.hc_laws.proofs.UnendedRuns.{unended_in_runs}
+use Rattle.hc_laws.proofs.WhoseRuns.{whose_in_runs}
 use Rattle.hc_core.specs.declared.rows.Rows.{Rows}
 use Rattle.hc_core.specs.Facts.{Facts}
 use Rattle.hc_core.specs.Stands.{StandsForSome}

@@ -30,10 +30,10 @@ use Rattle.hc_model.specs.Numbers.{AreShort}
 use Rattle.hc_model.specs.Rows.{Tables}
 use Rattle.hc_model.specs.Runs.{IsRun, IsOwed, may_stand, may_be}
 use Rattle.hc_model.specs.Tables.{tables, after_accepted, after_denied}
-use Rattle.hc_model.proofs.Barred.{next_tables, denied_tables}
-use Rattle.hc_model.proofs.ChainRuns.{chains_in_runs}
-use Rattle.hc_model.proofs.InRuns.{delivers_in_runs, turns_in_runs, dooms_in_runs}
-use Rattle.hc_model.proofs.TruthRuns.{truth_in_runs}
+use Rattle.hc_laws.proofs.Barred.{next_tables, denied_tables}
+use Rattle.hc_laws.proofs.ChainRuns.{chains_in_runs}
+use Rattle.hc_laws.proofs.InRuns.{delivers_in_runs, turns_in_runs, dooms_in_runs}
+use Rattle.hc_laws.proofs.TruthRuns.{truth_in_runs}
 use Rattle.hc_step.specs.Modest.{IsModestEvent}
 use Rattle.hc_core.specs.declared.rows.Rows.{Rows}
 use Rattle.hc_core.specs.declared.cache.Cache.{Cache}

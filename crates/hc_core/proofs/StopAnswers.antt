@@ -30,8 +30,8 @@ use Rattle.hc_model.specs.Tables.{received_in}
 use Rattle.hc_model.specs.Weights.{write_in}
 use Rattle.hc_model.specs.Writes.{written, sealed, lossless, stops}
 use Rattle.hc_model.specs.Writers.{exclusive}
-use Rattle.hc_model.proofs.StopEffects as past_effects
-use Rattle.hc_model.proofs.StopSeals as seal_effects
+use Rattle.hc_laws.proofs.StopEffects as past_effects
+use Rattle.hc_laws.proofs.StopSeals as seal_effects
 use Rattle.hc_core.specs.declared.rows.Rows.{Rows}
 use Rattle.hc_core.specs.Stands.{Answered, RowsStand}
 use Rattle.hc_core.specs.Stopped as stopped

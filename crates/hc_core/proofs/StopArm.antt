@@ -30,10 +30,10 @@ use Rattle.hc_model.specs.Sound.{IsBound, IsAbout, IsHad, HasPen}
 use Rattle.hc_model.specs.Whose as whose
 use Rattle.hc_model.specs.Whose.{IsOwner}
 use Rattle.hc_model.specs.Writers.{exclusive, has_more}
-use Rattle.hc_model.proofs.AboutKeeps.{own_open_of}
-use Rattle.hc_model.proofs.Exclusives.{exclusive_parts}
+use Rattle.hc_laws.proofs.AboutKeeps.{own_open_of}
+use Rattle.hc_laws.proofs.Exclusives.{exclusive_parts}
 use Rattle.hc_model.proofs.HoleLemmas.{covers_yes}
-use Rattle.hc_model.proofs.LettingGo.{may_let_go}
+use Rattle.hc_laws.proofs.LettingGo.{may_let_go}
 use Rattle.hc_model.proofs.Stops.{writer_about}
 use Rattle.hc_core.specs.declared.rows.Rows.{Rows}
 use Rattle.hc_core.specs.declared.stop.Readers.{Readers}

@@ -73,7 +73,7 @@ use Rattle.hc_event.specs.declared.act.LostKind.{LostKind}
 use Rattle.hc_event.specs.declared.act.LostKind.TheVariants as kinds
 use Rattle.hc_rules.specs.declared.room.Write.{Write}
 use Rattle.hc_model.specs.Runs.{may_lose}
-use Rattle.hc_model.proofs.WeightsLeft.{fits_after}
+use Rattle.hc_laws.proofs.WeightsLeft.{fits_after}
 use Rattle.hc_core.specs.Refused.{Refuses}
 use Rattle.hc_core.proofs.FoundArm.{make_gone}
 use Rattle.hc_core.proofs.ReaderSteps.{stands_read}

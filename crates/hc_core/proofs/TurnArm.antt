@@ -44,7 +44,7 @@ use Rattle.hc_model.specs.Rows as rows
 use Rattle.hc_model.specs.Rows.{Tables, Exchange, Representation}
 use Rattle.hc_model.proofs.KeysKeep.{current_row}
 use Rattle.hc_model.proofs.PollKeeps.{current_stays}
-use Rattle.hc_model.proofs.UpdateEffects.{validated}
+use Rattle.hc_laws.proofs.UpdateEffects.{validated}
 use Rattle.hc_core.specs.declared.rows.Rows.{Rows}
 use Rattle.hc_core.specs.Arms.{IsInKey}
 use Rattle.hc_core.specs.Facts.{Facts}

@@ -48,9 +48,9 @@ use Rattle.hc_model.specs.Weights.{write_in}
 use Rattle.hc_model.proofs.FirstKeeps.{case_is}
 use Rattle.hc_model.proofs.FoundBy.{CaseBy, case_by}
 use Rattle.hc_model.proofs.FoundBy as cases
-use Rattle.hc_model.proofs.HeadFacts.{stays_open, undue}
-use Rattle.hc_model.proofs.HeadEffects as does
-use Rattle.hc_model.proofs.LettingGo.{may_let_go}
+use Rattle.hc_laws.proofs.HeadFacts.{stays_open, undue}
+use Rattle.hc_laws.proofs.HeadEffects as does
+use Rattle.hc_laws.proofs.LettingGo.{may_let_go}
 use Rattle.hc_core.specs.declared.rows.Rows.{Rows}
 use Rattle.hc_core.specs.Changes.{ChangesAt, with_due}
 use Rattle.hc_core.specs.Facts.{Facts}

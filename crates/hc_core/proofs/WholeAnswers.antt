@@ -46,10 +46,10 @@ use Rattle.hc_model.specs.Sound.{IsAbout, Among, OneCurrent}
 use Rattle.hc_model.specs.Whose as whose
 use Rattle.hc_model.specs.Writes.{written, sealed}
 use Rattle.hc_model.specs.Writers.{exclusive, status_in}
-use Rattle.hc_model.proofs.LettingGo.{may_let_go, bound_let_go}
-use Rattle.hc_model.proofs.StopEffects as past_effects
-use Rattle.hc_model.proofs.StopFrames.{end_of}
-use Rattle.hc_model.proofs.StopSeals as seal_effects
+use Rattle.hc_laws.proofs.LettingGo.{may_let_go, bound_let_go}
+use Rattle.hc_laws.proofs.StopEffects as past_effects
+use Rattle.hc_laws.proofs.StopFrames.{end_of}
+use Rattle.hc_laws.proofs.StopSeals as seal_effects
 use Rattle.hc_core.specs.declared.rows.Rows.{Rows}
 use Rattle.hc_core.specs.Changes.{ChangesAt, ChangesAmong}
 use Rattle.hc_core.specs.Changes as changes

@@ -19,7 +19,7 @@ use Rattle.hc_model.specs.Entries.{no_contents}
 use Rattle.hc_model.specs.Runs.{IsRun}
 use Rattle.hc_model.specs.Tables.{tables}
 use Rattle.hc_model.proofs.Basics.{some_none}
-use Rattle.hc_model.proofs.ReadWhole.{runs_read_whole}
+use Rattle.hc_laws.proofs.ReadWhole.{runs_read_whole}
 use Rattle.hc_core.specs.declared.cache.Cache.{Cache}
 use Rattle.hc_core.specs.Steps.{StandsFor, Answers, limits_in, faults_in, failures_in, last_moment}
 use Rattle.hc_replay.specs.Replays as replays

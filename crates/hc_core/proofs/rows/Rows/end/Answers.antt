@@ -4,7 +4,7 @@ use Rattle.hc_event.specs.declared.act.Cause.{Cause}
 use Rattle.hc_event.specs.declared.act.Cause.TheVariants as cause
 use Rattle.hc_entries.specs.Entries.{shelf_of}
 use Rattle.hc_model.specs.Exchanges.{promised}
-use Rattle.hc_model.proofs.StopFrames.{end_of}
+use Rattle.hc_laws.proofs.StopFrames.{end_of}
 use Rattle.hc_core.specs.Stopped.{BrokeOff}
 use Rattle.hc_core.proofs.OpenViews.{viewed, is_broken}
 use Rattle.hc_core.proofs.ShortAnswers.{short_answered}

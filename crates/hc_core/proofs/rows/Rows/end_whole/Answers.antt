@@ -7,7 +7,7 @@ use Rattle.hc_entries.specs.Views.{bound_in}
 use Rattle.hc_rising.specs.Rising.{has}
 use Rattle.hc_model.specs.Exchanges.{family, promised}
 use Rattle.hc_model.specs.Tables.{tables}
-use Rattle.hc_model.proofs.LettingGo.{may_let_go}
+use Rattle.hc_laws.proofs.LettingGo.{may_let_go}
 use Rattle.hc_core.specs.Changes.{ChangesAmong, with_end}
 use Rattle.hc_core.specs.Stopped.{SealedWhole}
 use Rattle.hc_core.proofs.Maps.{merely_true, merely_below}

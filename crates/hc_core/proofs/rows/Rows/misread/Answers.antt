@@ -5,7 +5,7 @@ use Rattle.hc_entries.specs.Entries.{shelf_of}
 use Rattle.hc_exch.specs.Exchanges.{table_of}
 use Rattle.hc_model.specs.Effects.{finished}
 use Rattle.hc_model.specs.Tables.{tables}
-use Rattle.hc_model.proofs.LettingGo.{may_let_go}
+use Rattle.hc_laws.proofs.LettingGo.{may_let_go}
 use Rattle.hc_core.specs.Reads.{bound, planned}
 use Rattle.hc_core.proofs.LeftRows.{left_is, left_runs}
 use Rattle.hc_core.proofs.Maps.{merely_true}

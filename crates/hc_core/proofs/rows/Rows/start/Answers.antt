@@ -6,7 +6,7 @@ use Rattle.hc_rules.specs.declared.request.RequestClass.{RequestClass}
 use Rattle.hc_entries.specs.Entries.{shelf_of}
 use Rattle.hc_model.specs.declared.place.Place.TheVariants as place
 use Rattle.hc_model.specs.Tables.{tables}
-use Rattle.hc_model.proofs.StartEffects.{starts}
+use Rattle.hc_laws.proofs.StartEffects.{starts}
 use Rattle.hc_core.specs.Arms.{IsEntered}
 use Rattle.hc_core.proofs.Answering.{does_answered}
 use Rattle.hc_core.proofs.Maps.{inserted, merely_false}

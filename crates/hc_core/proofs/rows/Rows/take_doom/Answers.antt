@@ -3,7 +3,7 @@ use Rattle.hc_event.specs.Acts.{listed}
 use Rattle.hc_event.specs.declared.event.Event.TheVariants as event
 use Rattle.hc_entries.specs.Entries.{shelf_of}
 use Rattle.hc_model.specs.Effects.{awaited_and}
-use Rattle.hc_model.proofs.DoomEffects.{doom_does}
+use Rattle.hc_laws.proofs.DoomEffects.{doom_does}
 use Rattle.hc_core.proofs.Answering.{does_answered}
 use Rattle.hc_core.proofs.Counting.{stands_counted}
 use Rattle.hc_core.proofs.LeaveArms.{flawless}

@@ -1,0 +1,173 @@
+-- What is asked about what is stored names it, and what joined it joined that, in every run.
+use Rattle.std.proofs.Common.{◌≡◌, ℕ, Bool, true, false, Option, Some, None, refl, ap, sym, ◌∙◌, subst}
+use Rattle.std.specs.Prelude.{is_some, ◌==◌, ◌&&◌, not}
+use Rattle.std.specs.Option.{option_map, option_and_then}
+use Rattle.hc_event.specs.declared.event.Event.{Event}
+use Rattle.hc_event.specs.declared.act.Need.{Need}
+use Rattle.hc_event.specs.declared.act.Need.TheVariants as need
+use Rattle.hc_event.specs.declared.event.Response.{Response}
+use Rattle.hc_rules.specs.HeadCases.{head_case, is_conditional}
+use Rattle.hc_rules.specs.declared.need.Route.TheVariants as route
+use Rattle.hc_rules.specs.declared.room.Limits.{Limits}
+use Rattle.hc_rules.specs.Needs.{route_of}
+use Rattle.hc_model.specs.declared.place.Place.{Place}
+use Rattle.hc_model.specs.declared.place.Place.TheVariants as place
+use Rattle.hc_model.specs.Aims.{Aims, HasAim, CaseWithoutAim, is_about_some, needs_aim}
+use Rattle.hc_model.specs.Cases.{head_view, validates, joins_row}
+use Rattle.hc_model.specs.Currents.{current}
+use Rattle.hc_model.specs.Denials.{denial}
+use Rattle.hc_model.specs.Entries.{Entry}
+use Rattle.hc_model.specs.ExchangeRows.{aim_of, aim_from}
+use Rattle.hc_model.specs.Flaws.{Flaw}
+use Rattle.hc_model.specs.Keys.{IsOfOneKey, entry_of}
+use Rattle.hc_model.specs.Laws.{OfRuns, OfRunsIn}
+use Rattle.hc_model.specs.Planning.{plan_view, candidate, candidate_at}
+use Rattle.hc_model.specs.Reading.{bound_to}
+use Rattle.hc_model.specs.Rows.{Tables, Exchange, Representation, Consumer}
+use Rattle.hc_model.specs.Sound.{Sound}
+use Rattle.hc_model.specs.Tables.{tables, after_accepted}
+use Rattle.hc_model.proofs.Aimed.{aim_free}
+use Rattle.hc_model.proofs.Asked.{Asked, HasCandidate}
+use Rattle.hc_model.proofs.Basics.{none_some, some_none, some_row, false_true}
+use Rattle.hc_model.proofs.ExchangeFrom.{ExchangeFrom, exchange_from}
+use Rattle.hc_model.proofs.ExchangeFrom as exchange
+use Rattle.hc_laws.proofs.InRuns.{one_key_in_runs}
+use Rattle.hc_model.proofs.NamesKeep.{current_there}
+use Rattle.hc_model.proofs.OpenedAs.{OpenedAs, Way, opened_as}
+use Rattle.hc_model.proofs.OpenedAs as opened
+use Rattle.hc_laws.proofs.Reasons.{aimed}
+use Rattle.hc_laws.proofs.RunFacts.{in_runs}
+use Rattle.hc_model.proofs.Said.{opening_by}
+use Rattle.hc_model.proofs.ShownFrom.{candidate_is}
+
+-- what is carried along a run
+record Names (limits : Limits) (t : Tables) : Type 0 where
+  about : (x : ℕ) (w : Exchange) → t.exchange x ≡ Some w → is_about_some w.need ≡ true → is_some w.aim ≡ true
+  missed : (x : ℕ) (w : Exchange) → t.exchange x ≡ Some w → w.need ≡ need.Miss → w.aim ≡ None
+
+-- AN EXCHANGE THAT IS OPENED
+
+module _ (t : Tables) (now c : ℕ) (k : Consumer) where
+  current_some : HasCandidate (plan_view t now c k) → is_some (current t k.request.key) ≡ true
+  current_some is = ap is_some (candidate_is t now c k is.0 is.1).current_is
+
+  some_asked : (n : Need) → is_about_some n ≡ true → Asked (plan_view t now c k) n → is_some (current t k.request.key) ≡ true
+  some_asked need.Disabled about is = absurd (false_true about)
+  some_asked need.TimedOut about is = absurd (false_true about)
+  some_asked need.Bypass about is = absurd (false_true about)
+  some_asked need.Miss about is = absurd (false_true about)
+  some_asked need.Vary about is = current_some is
+  some_asked need.Validate about is = current_some is
+  some_asked (need.Hole from to) about is = current_some is
+  some_asked need.Unsatisfied about is = current_some is
+
+  about_from : (n : Need) (p : Place) → k.place ≡ p → is_about_some n ≡ true → (bound_to k.place ≡ None → Asked (plan_view t now c k) n) → is_some (aim_from t k.request.key p) ≡ true
+  about_from n place.Line at about asked = some_asked n about (asked (ap bound_to at))
+  about_from n (place.Passed r kept) at about asked = some_asked n about (asked (ap bound_to at))
+  about_from n (place.Turn x) at about asked = some_asked n about (asked (ap bound_to at))
+  about_from n (place.Bound r lo hi how) at about asked = refl
+  about_from n (place.Direct x) at about asked = some_asked n about (asked (ap bound_to at))
+  about_from n (place.Down why) at about asked = some_asked n about (asked (ap bound_to at))
+  about_from n place.Over at about asked = some_asked n about (asked (ap bound_to at))
+
+  -- what is asked since nothing was current is about nothing
+  miss_hole : (n : Need) → n ≡ need.Miss → route_of n ≡ route.Hole → ⊥
+  miss_hole n is way = let never : route.Turn ≡ route.Hole = sym (ap route_of is) ∙ way in cc
+
+  unbound : (n : Need) → n ≡ need.Miss → Way t now c k n → bound_to k.place ≡ None
+  unbound n is (opened.passes_by free way) = free
+  unbound n is (opened.fetches free way cached) = free
+  unbound n is (opened.fills r v span hole free way now_is row wants found hole_is cached) = free
+  unbound n is (opened.goes_on r lo hi how at way) = absurd (miss_hole n is way)
+
+  none_current : (o : Option ℕ) → current t k.request.key ≡ o → option_and_then (candidate_at t now k.request) o ≡ None → o ≡ None
+  none_current None is none = refl
+  none_current (Some r) is none =
+      let there = some_row (t.representation r) (current_there t k.request.key r is) in
+      absurd (some_none (candidate t now r k.request there.0) (sym (ap (option_map (λ v. candidate t now r k.request v)) there.1) ∙ none))
+
+  missed_from : (n : Need) → n ≡ need.Miss → Way t now c k n → (bound_to k.place ≡ None → Asked (plan_view t now c k) n) → aim_from t k.request.key k.place ≡ None
+  missed_from n is way asked =
+      let free = unbound n is way in
+      let none : (plan_view t now c k).current ≡ None = subst (Asked (plan_view t now c k)) is (asked free) in
+      aim_free t k.request.key k.place free ∙ none_current (current t k.request.key) refl none
+
+-- EACH ENTRY
+
+module _ (limits : Limits) (t : Tables) (now : ℕ) (flaw : Flaw) (s : Sound t) (ev : Event) (goes : denial t ev ≡ None) (a : Names limits t) where
+  abbrev e : Entry
+  e = entry_of limits t now ev flaw
+
+  about_by : (x : ℕ) (z : Exchange) → is_about_some z.need ≡ true → ExchangeFrom t e x z → is_some z.aim ≡ true
+  about_by x z about (exchange.was w row same) = ap is_some same.aim_is ∙ a.about x w row (ap is_about_some (sym same.need_is) ∙ about)
+  about_by x z about (exchange.new o none opens here made) =
+      let by = opening_by limits t now flaw s ev goes o opens in
+      let op = opened_as t now o.c by.k by.want o s by.poll.row by.move in
+      let asks : is_about_some o.need ≡ true = ap (λ (q : Exchange). is_about_some q.need) made ∙ about in
+      sym (ap (λ (q : Exchange). is_some q.aim) made) ∙ (ap (λ q. is_some (aim_of t q)) by.poll.row ∙ about_from t now o.c by.k o.need by.k.place refl asks op.asked)
+
+  missed_by : (x : ℕ) (z : Exchange) → z.need ≡ need.Miss → ExchangeFrom t e x z → z.aim ≡ None
+  missed_by x z is (exchange.was w row same) = same.aim_is ∙ a.missed x w row (sym same.need_is ∙ is)
+  missed_by x z is (exchange.new o none opens here made) =
+      let by = opening_by limits t now flaw s ev goes o opens in
+      let op = opened_as t now o.c by.k by.want o s by.poll.row by.move in
+      let miss : o.need ≡ need.Miss = ap (λ (q : Exchange). q.need) made ∙ is in
+      sym (ap (λ (q : Exchange). q.aim) made) ∙ (ap (aim_of t) by.poll.row ∙ missed_from t now o.c by.k o.need miss op.way op.asked)
+
+  names_kept : Names limits (after_accepted t e)
+  names_kept = record {
+    about = λ x z after about. about_by x z about (exchange_from t e x (t.exchange x) z refl after);
+    missed = λ x z after is. missed_by x z is (exchange_from t e x (t.exchange x) z refl after);
+  }
+
+names : OfRunsIn Names
+names = in_runs Names (λ limits contents may. record { about = λ x w row about. absurd (none_some w row); missed = λ x w row is. absurd (none_some w row) }) (λ limits t e later a. record { about = a.about; missed = a.missed }) (λ limits t now flaw later c a ev goes real. names_kept limits t now flaw c.is_sound ev goes a)
+
+-- IN RUNS
+
+has_aim : (t : Tables) (one : IsOfOneKey t) (x : ℕ) (w : Exchange) → t.exchange x ≡ Some w → is_some w.aim ≡ true → HasAim t w
+has_aim t one x w row some =
+    let aim = some_row w.aim some in
+    let there = one.exchanges.aims x aim.0 w row aim.1 in
+    record { r = aim.0; aim = aim.1; v = there.0; row = there.1; key_is = there.2 }
+
+pub aims_in_runs : OfRuns Aims
+aims_in_runs limits contents h may run =
+    let n = names limits contents h may run in
+    let a = aimed limits contents h may run in
+    let one = one_key_in_runs limits contents h may run in
+    record {
+      about = λ x w row about. has_aim (tables contents h) one x w row (n.about x w row about);
+      missed = n.missed;
+      joined = λ x r w row is. a.joins x r w row is;
+      first = a.first;
+    }
+
+-- WITHOUT AN AIM
+
+module _ (t : Tables) (lost : Bool) (w : Exchange) (response : Response) (aim : Option ℕ) where
+  abbrev other : Exchange
+  other = record w { aim = aim }
+
+  -- what asks nothing conditionally
+  by_status : (b : Bool) → (b && false && validates t other response && not lost) ≡ (b && false && validates t w response && not lost)
+  by_status true = refl
+  by_status false = refl
+
+  by_turn : (n : Need) → route_of n ≡ route.Turn → w.need ≡ n → is_conditional n w.request ≡ false → ((v : Option Representation) → joins_row n v response ≡ false) → head_case (head_view t lost other response) ≡ head_case (head_view t lost w response)
+  unfolding head_case
+  by_turn n way is plain unjoined = rw (is, way, plain) (rw (by_status (response.status == 304)) refl)
+
+  by_need : (n : Need) → w.need ≡ n → needs_aim n ≡ false → head_case (head_view t lost other response) ≡ head_case (head_view t lost w response)
+  unfolding head_case
+  by_need need.Disabled is free = rw is refl
+  by_need need.TimedOut is free = rw is refl
+  by_need need.Bypass is free = by_turn need.Bypass refl is refl (λ v. refl)
+  by_need need.Miss is free = by_turn need.Miss refl is refl (λ v. refl)
+  by_need need.Vary is free = by_turn need.Vary refl is refl (λ v. refl)
+  by_need need.Validate is free = absurd (false_true (sym free))
+  by_need (need.Hole from to) is free = absurd (false_true (sym free))
+  by_need need.Unsatisfied is free = rw is refl
+
+pub case_without_aim : CaseWithoutAim
+case_without_aim t lost w response aim free = by_need t lost w response aim w.need refl free

@@ -1,0 +1,126 @@
+-- Who writes alone is the only one that is bound, in every run.
+use Rattle.std.proofs.Common.{◌≡◌, ◌<◌, inl, inr, ℕ, ◌+◌, List, [], ◌∷◌, Bool, true, false, Option, Some, None, refl, ap, sym, ◌∙◌, arith}
+use Rattle.std.specs.Prelude.{◌↔◌, filter, is_some, is_none}
+use Rattle.hc_event.specs.declared.act.Cause.{Cause}
+use Rattle.hc_sparse.specs.Cells.{EndsBy}
+use Rattle.hc_model.specs.declared.place.Place.TheVariants as place
+use Rattle.hc_model.specs.Alone.{Alone, IsOnly}
+use Rattle.hc_model.specs.Entries.{Entry}
+use Rattle.hc_model.specs.Holes.{covers}
+use Rattle.hc_model.specs.Laws.{OfRuns}
+use Rattle.hc_model.specs.Orders.{Descends, InOrder}
+use Rattle.hc_model.specs.Reading.{is_written, is_bound, is_bound_place, bound, offset}
+use Rattle.hc_model.specs.Rows.{Tables, Representation, Consumer}
+use Rattle.hc_model.specs.Sound.{Sound, Among, IsBound, IsFirst}
+use Rattle.hc_model.specs.Sound as sound
+use Rattle.hc_model.specs.Tables.{tables, after_denied}
+use Rattle.hc_model.specs.Writers.{came_alone, exclusive, has_more}
+use Rattle.hc_model.proofs.Basics.{false_true, none_some}
+use Rattle.hc_model.proofs.DeniedKeeps.{written_same}
+use Rattle.hc_laws.proofs.Exclusives.{IsExclusive, exclusive_parts}
+use Rattle.hc_laws.proofs.HasBound.{bound_row}
+use Rattle.hc_model.proofs.HoleLemmas.{bool_cases, covers_yes}
+use Rattle.hc_model.proofs.HolesOpened.{stored_ends}
+use Rattle.hc_model.proofs.Losses.{exclusive_is}
+use Rattle.hc_laws.proofs.Lone.{AreLone, IsResting, lone_kept, all_three}
+use Rattle.hc_laws.proofs.OrderRuns.{order_in_runs}
+use Rattle.hc_model.proofs.Pens.{same_row, eq-refl}
+use Rattle.hc_model.proofs.PieceKeeps.{eq_cases}
+use Rattle.hc_laws.proofs.RunFacts.{in_runs}
+use Rattle.hc_laws.proofs.SoundRuns.{carried}
+
+lone_denied : (t : Tables) (e : Entry) → AreLone t → AreLone (after_denied t e)
+lone_denied t e was = record { lone = by_first }
+  where
+    by_first : (r c d : ℕ) (v : Representation) (k u : Consumer) → t.representation r ≡ Some v → v.is_lost ≡ false → is_written (after_denied t e) v ≡ false → IsFirst (after_denied t e) r c → t.consumer c ≡ Some k → k.due ≡ None → IsBound (after_denied t e) r d u → (d ≡ c → ⊥) → IsResting (after_denied t e) v k
+    by_first r c d v k u row fresh off (sound.first q lo hi how q_row at alone) k_row none (sound.is_bound a b f u_row at_u) apart =
+        let i = was.lone r c d v k u row fresh (sym (written_same t e v) ∙ off) (sound.first q lo hi how q_row at alone) k_row none (sound.is_bound a b f u_row at_u) apart in
+        record { unowned = i.unowned; rest = record { hi = i.rest.hi; end = i.rest.end; covered = i.rest.covered } }
+
+lone_in_runs : OfRuns AreLone
+lone_in_runs = in_runs (λ limits t. AreLone t)
+    (λ limits contents may. record { lone = λ r c d v k u row fresh off first k_row. absurd (none_some k k_row) })
+    (λ limits t e later was. lone_denied t e was)
+    (λ limits t now flaw later c was ev goes real. lone_kept limits t now flaw c.is_sound c.is_owned c.is_measured was ev goes real)
+
+-- ONE THAT PASSES
+
+below_all : (n d : ℕ) (ds : List ℕ) → Descends n ds → Among d ds → d < n
+below_all n d [] down there = absurd there
+below_all n d (a ∷ ds) down (inl here) = let lt : a < n = down.0 in omega arith
+below_all n d (a ∷ ds) down (inr there) = let lt : a < n = down.0 in let less : d < a = below_all a d ds down.1 there in omega arith
+
+-- none but c passes, and c isn't among them
+none_passes : (test : ℕ → Bool) (c : ℕ) (ds : List ℕ) → ((d : ℕ) → test d ≡ true → d ≡ c) → (Among c ds → ⊥) → filter test ds ≡ []
+none_passes test c [] one absent = refl
+none_passes test c (d ∷ ds) one absent = elim (bool_cases (test d)) [
+  | inl on ↦ absurd (absent (inl (one d on)))
+  | inr off ↦ rw off (none_passes test c ds one (λ there. absent (inr there)))
+]
+
+-- of numbers in order c alone passes
+one_passes : (test : ℕ → Bool) (n c : ℕ) (ds : List ℕ) → Descends n ds → ((d : ℕ) → test d ≡ true → d ≡ c) → test c ≡ true → Among c ds → filter test ds ≡ c ∷ []
+one_passes test n c [] down one passes there = absurd there
+one_passes test n c (d ∷ ds) down one passes (inl here) =
+    let on : test d ≡ true = ap test here ∙ passes in
+    rw on (rw (none_passes test c ds one (λ there. let less : c < d = below_all d c ds down.1 there in let same : d ≡ c = here in absurd (omega arith))) (ap (λ z. z ∷ []) here))
+one_passes test n c (d ∷ ds) down one passes (inr there) = elim (bool_cases (test d)) [
+  | inl on ↦ let less : c < d = below_all d c ds down.1 there in let same : d ≡ c = one d on in absurd (omega arith)
+  | inr off ↦ rw off (one_passes test d c ds down.1 one passes there)
+]
+
+module _ (t : Tables) (s : Sound t) (lone : AreLone t) (order : InOrder t) where
+  -- who rests writes nothing
+  resting_not : (v : Representation) (k : Consumer) → EndsBy v.reach v.stored → IsResting t v k → has_more t v k ≡ true → ⊥
+  resting_not v k ends i more =
+      let enough : covers v.stored v.reach (offset t k) i.rest.hi ≡ true = covers_yes v.stored v.reach (offset t k) i.rest.hi ends i.rest.covered in
+      false_true (sym (rw (i.unowned, i.rest.end, enough) refl) ∙ more)
+
+  -- nobody else is
+  others_not : (r c d : ℕ) (v : Representation) → t.representation r ≡ Some v → v.is_lost ≡ false → IsExclusive t r c v → (u : Consumer) → IsBound t r d u → (d ≡ c → ⊥) → ⊥
+  others_not r c d v row fresh x u other apart =
+      resting_not v x.k (stored_ends t r v (s.rows r v row)) (lone.lone r c d v x.k u row fresh x.unwritten x.first (row_is x.reader) x.none_due other apart) x.more
+    where
+      row_is : IsBound t r c x.k → t.consumer c ≡ Some x.k
+      row_is (sound.is_bound lo hi how is at) = is
+
+  only_by : (r c : ℕ) (v : Representation) → t.representation r ≡ Some v → v.is_lost ≡ false → exclusive t r v ≡ Some c → IsOnly t r c
+  unfolding bound
+  only_by r c v row fresh is =
+      let x = exclusive_parts t r c v is in
+      record { came = x.first; only = bound_is x x.k x.reader }
+    where
+      is_c : IsExclusive t r c v → (d : ℕ) → is_bound r (t.consumer d) ≡ true → d ≡ c
+      is_c x d on = elim (eq_cases d c) [
+        | inl same ↦ same.1
+        | inr off ↦ let reader = bound_row t r d (t.consumer d) refl on in absurd (others_not r c d v row fresh x reader.0 reader.1 off.1)
+      ]
+
+      bound_is : IsExclusive t r c v → (k : Consumer) → IsBound t r c k → bound t r ≡ c ∷ []
+      bound_is x k (sound.is_bound lo hi how k_row at) = one_passes (λ d. is_bound r (t.consumer d)) (t.last_start + 1) c t.starts order.starts (is_c x) (ap (is_bound r) k_row ∙ (ap (is_bound_place r) at ∙ eq-refl r)) (s.numbered.lists.started c (ap (λ (z : Option Consumer). is_some z) k_row))
+
+  writes_by : (r c : ℕ) (v : Representation) (k : Consumer) → t.representation r ≡ Some v → v.is_lost ≡ false → is_written t v ≡ false → IsFirst t r c → t.consumer c ≡ Some k → k.due ≡ None → (exclusive t r v ≡ Some c) ↔ (has_more t v k ≡ true)
+  writes_by r c v k row fresh off (sound.first q lo hi how q_row at alone) k_row none = (to, back)
+    where
+      same : q ≡ k
+      same = same_row (t.consumer c) q k q_row k_row
+
+      to : exclusive t r v ≡ Some c → has_more t v k ≡ true
+      to is = by_parts (exclusive_parts t r c v is)
+        where
+          row_is : (z : Consumer) → IsBound t r c z → t.consumer c ≡ Some z
+          row_is z (sound.is_bound a b d is at) = is
+
+          by_parts : IsExclusive t r c v → has_more t v k ≡ true
+          by_parts x = ap (has_more t v) (same_row (t.consumer c) k x.k k_row (row_is x.k x.reader)) ∙ x.more
+
+      back : has_more t v k ≡ true → exclusive t r v ≡ Some c
+      back more =
+          let stands : k.place ≡ place.Bound r lo hi how = ap (λ (z : Consumer). z.place) (sym same) ∙ at in
+          exclusive_is t r c v k s (sound.is_bound lo hi how k_row stands) off (all_three (came_alone t k.place) (is_none k.due) (has_more t v k) (ap (came_alone t) stands ∙ alone) (ap (λ (z : Option Cause). is_none z) none) more)
+
+  alone_by : Alone t
+  alone_by = record { is_only = only_by; writes = writes_by }
+
+pub alone_in_runs : OfRuns Alone
+alone_in_runs limits contents h may run = alone_by (tables contents h) (carried limits contents h may run).is_sound (lone_in_runs limits contents h may run) (order_in_runs limits contents h may run)

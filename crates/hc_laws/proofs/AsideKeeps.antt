@@ -1,0 +1,271 @@
+-- An answer past the store stays apart, who was shown a head doesn't have the turn, and what ended isn't open: in every run.
+use Rattle.std.proofs.Common.{◌≡◌, ◌⊎◌, inl, inr, ℕ, [], ◌∷◌, Bool, true, false, cond, Option, Some, None, refl, ap, sym, ◌∙◌, subst}
+use Rattle.std.specs.Prelude.{is_some, ◌&&◌, ◌||◌, not}
+use Rattle.std.specs.Option.{option_and_then}
+use Rattle.hc_event.specs.Filters.{is_denied, opening_in, shows_in, closes_in}
+use Rattle.hc_event.specs.declared.event.Event.{Event}
+use Rattle.hc_event.specs.declared.event.Event.TheVariants as event
+use Rattle.hc_event.specs.declared.event.Response.{Response}
+use Rattle.hc_event.specs.declared.act.Wait.TheVariants as wait
+use Rattle.hc_event.specs.declared.act.Why.{Why}
+use Rattle.hc_rules.specs.declared.room.Limits.{Limits}
+use Rattle.hc_model.specs.declared.place.BoundBy.TheVariants as by
+use Rattle.hc_model.specs.declared.place.Place.{Place}
+use Rattle.hc_model.specs.declared.place.Place.TheVariants as place
+use Rattle.hc_model.specs.ConsumerRows.{consumer_made, consumer_after}
+use Rattle.hc_model.specs.Denials.{denial}
+use Rattle.hc_model.specs.Entries.{Entry}
+use Rattle.hc_model.specs.ExchangeRows.{exchange_after, exchange_heard, exchange_acted, exchange_made}
+use Rattle.hc_model.specs.Exchanges.{is_headless}
+use Rattle.hc_model.specs.Flaws.{Flaw}
+use Rattle.hc_model.specs.Histories.{shown_in}
+use Rattle.hc_model.specs.Keys.{entry_of}
+use Rattle.hc_model.specs.Moves as moves
+use Rattle.hc_model.specs.Moves.{Move, Nothing, Shows, Fails}
+use Rattle.hc_model.specs.Owners.{Owners, IsPast}
+use Rattle.hc_model.specs.Owners as owners
+use Rattle.hc_model.specs.Polls.{move_of, if_headless, shows_at, shows_direct, shows_answer}
+use Rattle.hc_model.specs.Reading.{reads, own_open}
+use Rattle.hc_model.specs.Rows.{Tables, Exchange, Consumer}
+use Rattle.hc_model.specs.Runs.{may_stand}
+use Rattle.hc_model.specs.Sound.{Sound}
+use Rattle.hc_model.specs.Tables.{after_accepted, after_denied, begun}
+use Rattle.hc_model.specs.Entries.{Contents}
+use Rattle.hc_model.proofs.Basics.{false_true, none_some}
+use Rattle.hc_model.proofs.ExchangeFrom.{IsHeaded}
+use Rattle.hc_model.proofs.Forward.{is_on}
+use Rattle.hc_model.proofs.MoveBy.{MoveBy, IsHeard, move_by}
+use Rattle.hc_model.proofs.MoveBy as by_move
+use Rattle.hc_laws.proofs.PastApart.{IsHeadedRow, unfounded_kept}
+use Rattle.hc_model.proofs.PieceKeeps.{eq_cases, some_inj}
+use Rattle.hc_model.proofs.Pens.{same_row}
+use Rattle.hc_model.proofs.PollActs.{ToOne, to_one}
+use Rattle.hc_model.proofs.PollActs as acts_to
+use Rattle.hc_laws.proofs.ShownStays.{IsIdle, StaysOrIdle, IsAside, Lands, shown_stays, shown_at}
+use Rattle.hc_laws.proofs.ShownStays as stands
+use Rattle.hc_model.proofs.TurnPlaces.{is_after}
+
+or_right : (a b : Bool) → b ≡ false → (a || b) ≡ a
+or_right true b off = refl
+or_right false b off = off
+
+and_none : (a b : Bool) → b ≡ false → (a && b) ≡ false
+and_none true b off = off
+and_none false b off = refl
+
+-- A NEW CONSUMER
+
+made_unshown : (c now : ℕ) (ev : Event) (u : Consumer) → consumer_made c now ev ≡ Some u → u.shown ≡ false
+made_unshown c now (event.Start d request) u h = elim (eq_cases d c) [
+  | inl here ↦ sym (ap (λ (z : Consumer). z.shown) (some_inj _ u (rw here.0 at h)))
+  | inr off ↦ absurd (none_some u (rw off.0 at h))
+]
+made_unshown c now (event.Poll d want) u h = absurd (none_some u h)
+made_unshown c now (event.Head x response) u h = absurd (none_some u h)
+made_unshown c now (event.Piece x bytes) u h = absurd (none_some u h)
+made_unshown c now (event.End x) u h = absurd (none_some u h)
+made_unshown c now (event.Fault x) u h = absurd (none_some u h)
+made_unshown c now (event.Cancel d) u h = absurd (none_some u h)
+made_unshown c now (event.Doom key) u h = absurd (none_some u h)
+
+pub new_unshown : (t : Tables) (e : Entry) (c : ℕ) (q : Option Consumer) (u : Consumer) → q ≡ None → consumer_after t e c q ≡ Some u → u.shown ≡ false
+unfolding consumer_after
+new_unshown t e c None u none h = made_unshown c e.now e.event u h
+new_unshown t e c (Some k) u none h = absurd (let no : Some k ≡ None = none in cc)
+
+-- WHAT ENDED
+
+abbrev IsShut : Exchange → Type 0
+IsShut w = w.is_ended ≡ true → w.is_open ≡ false
+
+heard_shut : (t : Tables) (e : Entry) (x : ℕ) (ev : Event) (w : Exchange) → IsShut w → IsShut (exchange_heard t e x ev w)
+heard_shut t e x (event.Start c request) w shut = shut
+heard_shut t e x (event.Poll c want) w shut = shut
+heard_shut t e x (event.Head y response) w shut = elim (eq_cases y x) [
+  | inl hit ↦ rw hit.0 (λ over. and_none _ w.is_open (shut over))
+  | inr off ↦ rw off.0 shut
+]
+heard_shut t e x (event.Piece y bytes) w shut = elim (eq_cases y x) [
+  | inl hit ↦ rw hit.0 (λ over. and_none _ w.is_open (shut over))
+  | inr off ↦ rw off.0 shut
+]
+heard_shut t e x (event.End y) w shut = elim (eq_cases y x) [
+  | inl hit ↦ rw hit.0 (λ over. refl)
+  | inr off ↦ rw off.0 shut
+]
+heard_shut t e x (event.Fault y) w shut = elim (eq_cases y x) [
+  | inl hit ↦ rw hit.0 (λ over. refl)
+  | inr off ↦ rw off.0 shut
+]
+heard_shut t e x (event.Cancel c) w shut = shut
+heard_shut t e x (event.Doom key) w shut = shut
+
+module _ (t : Tables) (e : Entry) (x : ℕ) where
+  opened_shut : (z : Option Rattle.hc_event.specs.Filters.Opening) (u : Exchange) → exchange_made t e x z ≡ Some u → u.is_ended ≡ true → u.is_open ≡ false
+  opened_shut None u h over = absurd (none_some u h)
+  opened_shut (Some p) u h over = elim (eq_cases p.x x) [
+    | inl here ↦ absurd (false_true (ap (λ (z : Exchange). z.is_ended) (some_inj _ u (rw here.0 at h)) ∙ over))
+    | inr off ↦ absurd (none_some u (rw off.0 at h))
+  ]
+
+  shut_after : (q : Option Exchange) (u : Exchange) → ((w : Exchange) → q ≡ Some w → IsShut w) → exchange_after t e x q ≡ Some u → IsShut u
+  unfolding exchange_after
+  shut_after None u before h over = opened_shut (opening_in e.acts) u h over
+  shut_after (Some w) u before h over =
+      let made : exchange_acted x e.acts (exchange_heard t e x e.event w) ≡ u = some_inj _ u h in
+      let shut : (exchange_heard t e x e.event w).is_open ≡ false = heard_shut t e x e.event w (before w refl) (ap (λ (z : Exchange). z.is_ended) made ∙ over) in
+      sym (ap (λ (z : Exchange). z.is_open) made) ∙ and_none (not (closes_in x e.acts)) _ shut
+
+-- AT AN ENTRY
+
+module _ (limits : Limits) (t : Tables) (now : ℕ) (flaw : Flaw) (s : Sound t) (o : Owners t) (ev : Event) (goes : denial t ev ≡ None) where
+  abbrev e : Entry
+  e = entry_of limits t now ev flaw
+
+  abbrev now_on : Tables
+  now_on = after_accepted t e
+
+  -- it is shown a head by its poll
+  pub record IsLanding (c : ℕ) (k u : Consumer) : Type 0 where
+    pub want : ℕ
+    pub r : ℕ
+    pub why : Why
+    pub head : Response
+    pub lo : ℕ
+    pub hi : Option ℕ
+    pub at : ev ≡ event.Poll c want
+    pub move_is : move_of t now want c k ≡ Shows r why head lo hi
+    pub told : shown_in c e.acts ≡ record { r = r; why = why; lo = lo; hi = hi } ∷ []
+    pub lands : Lands k.place u.place r lo hi
+
+  pub landing_by : (c : ℕ) (k u : Consumer) → t.consumer c ≡ Some k → now_on.consumer c ≡ Some u → shows_in c e.acts ≡ true → ToOne t now c ev e.acts → IsLanding c k u
+  landing_by c k u row after on (acts_to.quiet gives shows off) = absurd (false_true (sym off ∙ on))
+  landing_by c k u row after on (acts_to.gives want q run at there is gives shows off) = absurd (false_true (sym off ∙ on))
+  landing_by c k u row after on (acts_to.shows want q r why head lo hi at there is gives shows showing) =
+      let one : q ≡ k = same_row (t.consumer c) q k there row in
+      let move_is : move_of t now want c k ≡ Shows r why head lo hi = sym (ap (move_of t now want c) one) ∙ is in
+      record {
+        want = want;
+        r = r;
+        why = why;
+        head = head;
+        lo = lo;
+        hi = hi;
+        at = at;
+        move_is = move_is;
+        told = shows;
+        lands = shown_at limits t now flaw s o ev goes c want k row at r why head lo hi move_is showing u after;
+      }
+
+  pub landing : (c : ℕ) (k u : Consumer) → t.consumer c ≡ Some k → now_on.consumer c ≡ Some u → k.shown ≡ false → u.shown ≡ true → IsLanding c k u
+  landing c k u row after off on =
+      let its = is_after t e c k u row after in
+      let shows : shows_in c e.acts ≡ true = sym (or_right (shows_in c e.acts) k.shown off) ∙ (sym its.shown ∙ on) in
+      landing_by c k u row after shows (to_one t now c limits flaw ev)
+
+  -- an exchange that has its head keeps it
+  pub head_stays : (y : ℕ) → IsHeadedRow t y → IsHeadedRow now_on y
+  head_stays y h = let on = is_on t e y h.w h.row in record { w = on.u; row = on.row; headed = by_heard on.u on.same.heard_or }
+    where
+      by_heard : (z : Exchange) → ((z.head ≡ h.w.head) × (z.joined ≡ h.w.joined)) ⊎ IsHeaded t e y h.w z → is_some z.head ≡ true
+      by_heard z (inl still) = ap (λ (q : Option Response). is_some q) still.0 ∙ h.headed
+      by_heard z (inr got) = ap (λ (q : Option Response). is_some q) got.head_is
+
+  idle_not : (p q : Place) → q ≡ p → IsIdle q → (IsIdle p → ⊥) → ⊥
+  idle_not p q is i never = never (subst IsIdle is i)
+
+  -- who stands at an answer past the store and is shown a head is shown that, which is there
+  module _ (c y want r lo : ℕ) (why : Why) (head : Response) (hi : Option ℕ) (k : Consumer) (row : t.consumer c ≡ Some k) (at : k.place ≡ place.Direct y) (off : k.shown ≡ false) (is : move_of t now want c k ≡ Shows r why head lo hi) where
+    unheard : (w : Exchange) → k.own ≡ Some y → t.exchange y ≡ Some w → w.is_open ≡ true → w.head ≡ None → IsHeard t k → ⊥
+    unheard w mine there opened bare heard =
+        let own : own_open t k ≡ Some y = rw (mine, there, opened) refl in
+        let headless : is_headless (t.exchange y) ≡ true = rw (there, opened, bare) refl in
+        let waits : option_and_then (if_headless t) (own_open t k) ≡ Some y = ap (option_and_then (if_headless t)) own ∙ ap (λ b. cond b (Some y) None) headless in
+        let no : Some y ≡ None = sym waits ∙ heard in cc
+
+    bare_shows : (w : Exchange) (m : Move) → t.exchange y ≡ Some w → w.head ≡ None → shows_at t k k.place ≡ Some m → ⊥
+    bare_shows w m there bare shows =
+        let none : shows_at t k k.place ≡ None = ap (shows_at t k) at ∙ (ap (shows_direct t y) there ∙ ap (shows_answer t y w) bare) in
+        none_some m (sym none ∙ shows)
+
+    by_waits : (w : Exchange) → k.own ≡ Some y → t.exchange y ≡ Some w → w.is_open ≡ true → w.head ≡ None → (m : Move) → MoveBy t now want c k m → m ≡ Shows r why head lo hi → ⊥
+    by_waits w mine there opened bare m (by_move.shows _ unshown shows) same = bare_shows w m there bare shows
+    by_waits w mine there opened bare _ (by_move.waits x own headless) same = let no : moves.Waits (wait.Head x) ≡ Shows r why head lo hi = same in cc
+    by_waits w mine there opened bare _ (by_move.down cause stood) same = let no : Fails cause ≡ Shows r why head lo hi = same in cc
+    by_waits w mine there opened bare _ (by_move.over stood) same = let no : Nothing ≡ Shows r why head lo hi = same in cc
+    by_waits w mine there opened bare _ (by_move.reads shown heard) same = false_true (sym off ∙ shown)
+    by_waits w mine there opened bare _ (by_move.plans unshown free none heard) same = unheard w mine there opened bare heard
+
+    past_headed : IsPast t y k → IsHeadedRow t y
+    past_headed (owners.answered w there headed) = record { w = w; row = there; headed = headed }
+    past_headed (owners.waits w mine there opened bare) = absurd (by_waits w mine there opened bare (move_of t now want c k) (move_by t now want c k s row) is)
+
+    pub shown_headed : IsHeadedRow t y
+    shown_headed = past_headed (o.past c y k row at off)
+
+  module _ (stand : may_stand limits t (entry_of limits t now ev flaw) ≡ true) (a : IsAside t) where
+    headed_by : (c y : ℕ) (u : Consumer) (b : Bool) (k : Consumer) → t.consumer c ≡ Some k → k.shown ≡ b → now_on.consumer c ≡ Some u → u.place ≡ place.Direct y → u.shown ≡ true → IsHeadedRow now_on y
+    headed_by c y u true k row shown after at on = by_place (shown_stays limits t now flaw s o ev goes a c k row shown u after)
+      where
+        by_place : StaysOrIdle k.place u.place → IsHeadedRow now_on y
+        by_place (stands.same is) = head_stays y (a.apart.headed c y k row (sym is ∙ at) shown)
+        by_place (stands.idle i) = absurd (idle_not (place.Direct y) u.place at i (λ z. z))
+    headed_by c y u false k row off after at on =
+        let l = landing c k u row after off on in
+        by_lands l.want l.r l.lo l.why l.head l.hi l.move_is l.lands
+      where
+        by_lands : (want r lo : ℕ) (why : Why) (head : Response) (hi : Option ℕ) → move_of t now want c k ≡ Shows r why head lo hi → Lands k.place u.place r lo hi → IsHeadedRow now_on y
+        by_lands want r lo why head hi move_is (stands.back i) = absurd (idle_not (place.Direct y) u.place at i (λ z. z))
+        by_lands want r lo why head hi move_is (stands.stays old is) = head_stays y (shown_headed c y want r lo why head hi k row (sym is ∙ at) off move_is)
+        by_lands want r lo why head hi move_is (stands.planned free is) = absurd (let no : place.Bound r lo hi by.Plan ≡ place.Direct y = sym is ∙ at in cc)
+
+    headed_row : (c y : ℕ) (u : Consumer) (q : Option Consumer) → t.consumer c ≡ q → now_on.consumer c ≡ Some u → u.place ≡ place.Direct y → u.shown ≡ true → IsHeadedRow now_on y
+    headed_row c y u None none after at on = absurd (false_true (sym (new_unshown t e c (t.consumer c) u none after) ∙ on))
+    headed_row c y u (Some k) row after at on = headed_by c y u k.shown k row refl after at on
+
+    unturned_by : (c x : ℕ) (u : Consumer) (b : Bool) (k : Consumer) → t.consumer c ≡ Some k → k.shown ≡ b → now_on.consumer c ≡ Some u → u.place ≡ place.Turn x → u.shown ≡ true → ⊥
+    unturned_by c x u true k row shown after at on = by_place (shown_stays limits t now flaw s o ev goes a c k row shown u after)
+      where
+        by_place : StaysOrIdle k.place u.place → ⊥
+        by_place (stands.same is) = a.unturned c x k row (sym is ∙ at) shown
+        by_place (stands.idle i) = idle_not (place.Turn x) u.place at i (λ z. z)
+    unturned_by c x u false k row off after at on = let l = landing c k u row after off on in by_lands l.r l.lo l.hi l.lands
+      where
+        by_lands : (r lo : ℕ) (hi : Option ℕ) → Lands k.place u.place r lo hi → ⊥
+        by_lands r lo hi (stands.back i) = idle_not (place.Turn x) u.place at i (λ z. z)
+        by_lands r lo hi (stands.stays old is) = false_true (sym (ap reads (sym is ∙ at)) ∙ old)
+        by_lands r lo hi (stands.planned free is) = let no : place.Bound r lo hi by.Plan ≡ place.Turn x = sym is ∙ at in cc
+
+    unturned_row : (c x : ℕ) (u : Consumer) (q : Option Consumer) → t.consumer c ≡ q → now_on.consumer c ≡ Some u → u.place ≡ place.Turn x → u.shown ≡ true → ⊥
+    unturned_row c x u None none after at on = false_true (sym (new_unshown t e c (t.consumer c) u none after) ∙ on)
+    unturned_row c x u (Some k) row after at on = unturned_by c x u k.shown k row refl after at on
+
+    pub aside_kept : IsAside now_on
+    aside_kept = record {
+      apart = record {
+        unfounded = unfounded_kept limits t now flaw s o ev goes stand a.apart;
+        headed = λ c y u after at on. headed_row c y u (t.consumer c) refl after at on;
+      };
+      unturned = λ c x u after at on. unturned_row c x u (t.consumer c) refl after at on;
+      ended = λ x u after over. shut_after t e x (t.exchange x) u (a.ended x) after over;
+    }
+
+pub aside_begun : (contents : Contents) → IsAside (begun contents)
+aside_begun contents = record {
+  apart = record {
+    unfounded = λ c x k row at. absurd (none_some k row);
+    headed = λ c x k row at shown. absurd (none_some k row);
+  };
+  unturned = λ c x k row at shown. none_some k row;
+  ended = λ x w row over. absurd (none_some w row);
+}
+
+pub aside_denied : (t : Tables) (e : Entry) → IsAside t → IsAside (after_denied t e)
+aside_denied t e a = record {
+  apart = record {
+    unfounded = a.apart.unfounded;
+    headed = λ c x k row at shown. let h = a.apart.headed c x k row at shown in record { w = h.w; row = h.row; headed = h.headed };
+  };
+  unturned = a.unturned;
+  ended = a.ended;
+}

@@ -1,0 +1,93 @@
+-- What a head founds is written for several, has no byte, or is a part.
+use Rattle.std.proofs.Common.{◌≡◌, inl, inr, ℕ, true, false, Option, Some, None, refl, ap, sym, ◌∙◌, arith}
+use Rattle.std.specs.Prelude.{nat_eq}
+use Rattle.std.proofs.lemmas.Bool.Decides.{nat_tests}
+use Rattle.hc_event.specs.declared.event.Event.{Event}
+use Rattle.hc_event.specs.declared.event.Event.TheVariants as event
+use Rattle.hc_event.specs.declared.event.Response.{Response}
+use Rattle.hc_rules.specs.declared.heads.HeadCase.{HeadCase}
+use Rattle.hc_rules.specs.declared.heads.HeadCase.TheVariants as case
+use Rattle.hc_rules.specs.declared.room.Limits.{Limits}
+use Rattle.hc_rules.specs.HeadCases.{head_case}
+use Rattle.hc_model.specs.declared.place.BoundBy.TheVariants as by
+use Rattle.hc_model.specs.declared.place.Place.TheVariants as place
+use Rattle.hc_model.specs.ActFilters.{has_loss}
+use Rattle.hc_model.specs.Cases.{case_at, head_view, is_founding, fits_asker}
+use Rattle.hc_model.specs.Closings.{is_refused}
+use Rattle.hc_model.specs.ConsumerRows.{place_by_case}
+use Rattle.hc_model.specs.Denials.{denial}
+use Rattle.hc_model.specs.Dooms.{doomed_by_case}
+use Rattle.hc_model.specs.Entries.{Entry}
+use Rattle.hc_model.specs.ExchangeRows.{promise_in}
+use Rattle.hc_model.specs.Exchanges.{is_open}
+use Rattle.hc_model.specs.Flaws.{Flaw}
+use Rattle.hc_model.specs.Heads.{founded_total}
+use Rattle.hc_model.specs.Keys.{entry_of}
+use Rattle.hc_model.specs.Measures.{Measures}
+use Rattle.hc_model.specs.Owners.{Owners}
+use Rattle.hc_model.specs.Reading.{is_written}
+use Rattle.hc_model.specs.RepresentationRows.{represented, writer_at}
+use Rattle.hc_model.specs.Rows.{Tables, Exchange, Representation}
+use Rattle.hc_model.specs.Sound.{Sound}
+use Rattle.hc_model.specs.Tables.{after_accepted}
+use Rattle.hc_model.proofs.ApartKeeps.{written_by}
+use Rattle.hc_model.proofs.Basics.{or_left}
+use Rattle.hc_model.proofs.FirstKeeps.{case_is, is_new}
+use Rattle.hc_model.proofs.FoundBy.{FoundingBy, founding_by}
+use Rattle.hc_model.proofs.FoundBy as cases
+use Rattle.hc_laws.proofs.HasBound.{head_stands}
+use Rattle.hc_model.proofs.HoleLemmas.{bool_cases}
+use Rattle.hc_laws.proofs.LossBy.{IsReal}
+use Rattle.hc_model.proofs.MeasuresKeep.{number_not, asker_by}
+use Rattle.hc_laws.proofs.ServedKeeps.{none_promised}
+use Rattle.hc_model.proofs.Waiters.{waiter_of}
+
+module _ (limits : Limits) (t : Tables) (now : ℕ) (flaw : Flaw) (s : Sound t) (o : Owners t) (m : Measures t) (ev : Event) (goes : denial t ev ≡ None) (real : IsReal limits t now ev flaw) where
+  abbrev e : Entry
+  e = entry_of limits t now ev flaw
+
+  abbrev now_on : Tables
+  now_on = after_accepted t e
+
+  module _ (r : ℕ) (response : Response) (w : Exchange) (p : Representation) (here : ev ≡ event.Head r response) (row : t.exchange r ≡ Some w) (founding : is_founding (case_at t e) ≡ true) (made : represented r e response w ≡ p) (after : now_on.representation r ≡ Some p) where
+    -- a whole answer is written for several from now on, or has no byte; a part has a length, and fits
+    pub data FoundedAs : Type 0 where
+      comes : is_written now_on p ≡ true → p.writer ≡ Some r → response.status ≡ 200 → FoundedAs
+      empty : response.status ≡ 200 → p.head.total ≡ Some 0 → FoundedAs
+      part : (total : ℕ) → response.status ≡ 206 → p.head.total ≡ Some total → fits_asker (t.consumer w.c) response ≡ true → FoundedAs
+
+    total_is : p.head.total ≡ founded_total w response
+    total_is = sym (ap (λ (q : Representation). q.head.total) made)
+
+    whole : (g : HeadCase) → case_at t e ≡ Some g → response.status ≡ 200 → (is_refused (Some g) ≡ false) × (doomed_by_case (Some g) w response ≡ None) → ((q : Option ℕ) × (place_by_case r response w (waiter_of limits t now flaw s o ev goes r w row (is_new limits t now flaw s ev goes r response w here row).is_open (is_new limits t now flaw s ev goes r response w here row).bare).0 (Some g) ≡ place.Bound r 0 q by.Founding)) → FoundedAs
+    whole g is status plain placed = elim (bool_cases (is_open (now_on.exchange r))) [
+      | inl on ↦ comes (written_by now_on p r (sym (ap (λ (q : Representation). q.is_lost) made)) writer on) writer status
+      | inr off ↦
+          let new = is_new limits t now flaw s ev goes r response w here row in
+          let got = waiter_of limits t now flaw s o ev goes r w row new.is_open new.bare in
+          let st = head_stands limits t now flaw s o ev goes real.stand w.c r response w got.0 got.1 here (or_left _ _ founding) in
+          let promise : promise_in w response ≡ Some 0 = none_promised limits t now flaw s o m ev goes real r w.c 0 placed.0 by.Founding st.0 p after st.1 (st.2 ∙ (ap (place_by_case r response w got.0) is ∙ placed.1)) r response w here row (ap is_refused is ∙ plain.0) (ap (λ q. doomed_by_case q w response) is ∙ plain.1) off in
+          let total : founded_total w response ≡ promise_in w response = rw other refl in
+          empty status (total_is ∙ (total ∙ promise))
+    ]
+      where
+        other : nat_eq response.status 206 ≡ false
+        other = number_not response.status 206 (λ h. let no : 200 ≡ 206 = sym status ∙ h in absurd (omega arith))
+
+        writer : p.writer ≡ Some r
+        writer = let writes : writer_at r response ≡ Some r = rw other refl in sym (ap (λ (q : Representation). q.writer) made) ∙ writes
+
+    by_case : (g : HeadCase) → FoundingBy (head_view t (has_loss e.acts) w response) g → case_at t e ≡ Some g → FoundedAs
+    by_case _ (cases.whole way h l) is = whole case.FoundsWhole is h (refl, refl) (promise_in w response, refl)
+    by_case _ (cases.replaced way h l) is = whole case.FirstReplaced is h (refl, refl) (promise_in w response, refl)
+    by_case _ (cases.part way h fits l g) is =
+        let asked = asker_by (t.consumer w.c) response fits in
+        let test : nat_eq response.status 206 ≡ true = (let st : response.status ≡ 206 = h in grind (arith, nat_tests)) in
+        let known : founded_total w response ≡ Some asked.total = rw (test, asked.told) refl in
+        part asked.total h (total_is ∙ known) fits
+
+    pub founded_as : FoundedAs
+    founded_as =
+        let view = head_view t (has_loss e.acts) w response in
+        let is = case_is t e r response w here row in
+        by_case (head_case view) (founding_by view (sym (ap is_founding is) ∙ founding)) is

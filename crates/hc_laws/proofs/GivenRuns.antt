@@ -1,0 +1,107 @@
+-- What a reader was given stands in the body, and not past its end, in every run.
+use Rattle.std.proofs.Common.{◌≡◌, ◌≤◌, ◌<◌, ◌⊎◌, inl, inr, ℕ, ◌+◌, ◌-◌, List, length, Bool, true, false, Option, Some, None, refl, ap, sym, ◌∙◌, subst, arith}
+use Rattle.std.specs.Prelude.{is_some, nat_lt}
+use Rattle.std.specs.Option.{option_or}
+use Rattle.std.proofs.lemmas.Bool.Decides.{nat_tests}
+use Rattle.hc_sparse.specs.Cells.{Cell, Covers}
+use Rattle.hc_model.specs.declared.place.Place.TheVariants as place
+use Rattle.hc_model.specs.declared.place.BoundBy.{BoundBy}
+use Rattle.hc_model.specs.Currents.{total_in}
+use Rattle.hc_model.specs.Given.{Given, IsWithin}
+use Rattle.hc_model.specs.Histories.{given_of}
+use Rattle.hc_model.specs.Laws.{OfRuns}
+use Rattle.hc_model.specs.Runs.{IsRun}
+use Rattle.hc_model.specs.Beginnings.{may_begin}
+use Rattle.hc_model.specs.Entries.{History, Contents}
+use Rattle.hc_rules.specs.declared.room.Limits.{Limits}
+use Rattle.hc_model.specs.Measures.{Measures}
+use Rattle.hc_model.specs.Reading.{hi_of, lo_of, reads}
+use Rattle.hc_model.specs.Reads.{Holds, cell_by}
+use Rattle.hc_model.specs.Rows.{Tables, Representation, Consumer}
+use Rattle.hc_model.specs.Sound.{Sound, IsBound}
+use Rattle.hc_model.specs.Sound as sound
+use Rattle.hc_model.specs.Tables.{tables}
+use Rattle.hc_model.proofs.Basics.{false_true, some_row}
+use Rattle.hc_laws.proofs.Bounded.{IsBounded}
+use Rattle.hc_model.proofs.GivenNext.{read_of}
+use Rattle.hc_model.proofs.HoleLemmas.{bool_cases}
+use Rattle.hc_model.proofs.PieceKeeps.{some_inj}
+use Rattle.hc_laws.proofs.ReadAs.{IsRead}
+use Rattle.hc_laws.proofs.ReadEnds.{bounded}
+use Rattle.hc_laws.proofs.ReadJoined.{joined_in_runs, is_told}
+use Rattle.hc_laws.proofs.ReadNext.{shown_one}
+use Rattle.hc_laws.proofs.SoundRuns.{carried}
+
+-- what was given of the body that was shown
+pub record AreCovered (t : Tables) : Type 0 where
+  pub covered : (c r lo : ℕ) (hi : Option ℕ) (how : BoundBy) (k : Consumer) (v : Representation) → t.consumer c ≡ Some k → k.place ≡ place.Bound r lo hi how → t.representation r ≡ Some v → Covers v.body lo (lo + k.given)
+
+held_there : (t : Tables) (r lo : ℕ) (bytes : List ℕ) (v : Representation) → t.representation r ≡ Some v → Holds t r lo bytes → Covers v.body lo (lo + length bytes)
+held_there t r lo bytes v there holds p from to =
+    let got = holds (p - lo) (omega arith) in
+    let at : lo + (p - lo) + 0 ≡ p = omega arith in
+    ap (λ n. is_some (v.body n)) (sym at) ∙ (ap (λ (q : Option Representation). is_some (cell_by t r (lo + (p - lo) + 0) q)) (sym there) ∙ ap (λ (q : Option Cell). is_some q) (got.1 0 (omega arith)))
+
+module _ (limits : Limits) (contents : Contents) (h : History) (may : may_begin limits contents ≡ true) (run : IsRun limits contents h) where
+  abbrev after_h : Tables
+  after_h = tables contents h
+
+  by_shown : (c r lo : ℕ) (hi : Option ℕ) (how : BoundBy) (k : Consumer) (v : Representation) → after_h.consumer c ≡ Some k → k.place ≡ place.Bound r lo hi how → after_h.representation r ≡ Some v → (b : Bool) → k.shown ≡ b → Covers v.body lo (lo + k.given)
+  by_shown c r lo hi how k v row at there false off =
+      let zero : k.given ≡ 0 = (bounded limits contents h may run).fresh c k row off in
+      λ p from to. absurd (omega arith)
+  by_shown c r lo hi how k v row at there true on =
+      let z = shown_one limits contents h run c k row on in
+      let joined = joined_in_runs limits contents h may run in
+      let read : IsRead after_h k z.0 = joined.read c k z.0 row z.1 (ap reads at) in
+      let of_r : z.0.r ≡ r = some_inj z.0.r r (sym read.number ∙ ap read_of at) in
+      let from : z.0.lo ≡ lo = sym read.from ∙ ap (lo_of after_h) at in
+      let count = (is_told limits contents h run).count c k row in
+      let holds = joined.held c z.0 z.1 in
+      subst (λ n. Covers v.body lo (lo + n)) (sym count) (held_there after_h r lo (given_of c h) v there (subst (λ n. Holds after_h r n (given_of c h)) from (subst (λ n. Holds after_h n z.0.lo (given_of c h)) of_r holds)))
+
+covered_in_runs : OfRuns AreCovered
+covered_in_runs limits contents h may run = record { covered = λ c r lo hi how k v row at there. by_shown limits contents h may run c r lo hi how k v row at there k.shown refl }
+
+module _ (t : Tables) (s : Sound t) (m : Measures t) (b : IsBounded t) (a : AreCovered t) where
+  reaches_by : (c r lo : ℕ) (hi : Option ℕ) (how : BoundBy) (k : Consumer) (v : Representation) → t.consumer c ≡ Some k → k.place ≡ place.Bound r lo hi how → t.representation r ≡ Some v → (k.given ≡ 0) ⊎ (lo + k.given ≤ v.reach)
+  reaches_by c r lo hi how k v row at there = elim (bool_cases (nat_lt 0 k.given)) [
+    | inr none ↦ let zero : k.given ≤ 0 = grind (arith, nat_tests) in inl (omega arith)
+    | inl some ↦
+        let more : 0 < k.given = grind (arith, nat_tests) in
+        let last = a.covered c r lo hi how k v row at there (lo + k.given - 1) (omega arith) (omega arith) in
+        elim (bool_cases (nat_lt (lo + k.given - 1) v.reach)) [
+          | inl under ↦ let lt : lo + k.given - 1 < v.reach = grind (arith, nat_tests) in inr (omega arith)
+          | inr past ↦ let over : v.reach ≤ lo + k.given - 1 = grind (arith, nat_tests) in absurd (false_true (sym (ap (λ (q : Option Cell). is_some q) ((s.rows r v there).store.ends _ over)) ∙ last))
+        ]
+  ]
+
+  -- who reads up to an end that isn't known reads from the first position on
+  within_by : (c r lo n : ℕ) (hi : Option ℕ) (how : BoundBy) (k : Consumer) (v : Representation) → t.consumer c ≡ Some k → k.place ≡ place.Bound r lo hi how → t.representation r ≡ Some v → option_or hi (total_in (t.representation r)) ≡ Some n → IsWithin lo k.given n
+  within_by c r lo n (Some hi) how k v row at there is =
+      let same : hi ≡ n = some_inj hi n is in
+      let order : lo ≤ hi = b.proper c r lo hi how k row at in
+      let ends : lo + k.given ≤ hi = b.within c r lo hi how k row at in
+      record { order = omega arith; ends = omega arith }
+  within_by c r lo n None how k v row at there is =
+      let first : lo ≡ 0 = b.first c r lo how k row at in
+      let most : v.reach ≤ n = m.within r n v there (sym (ap total_in there) ∙ is) in
+      elim (reaches_by c r lo None how k v row at there) [
+        | inl zero ↦ record { order = omega arith; ends = omega arith }
+        | inr le ↦ record { order = omega arith; ends = omega arith }
+      ]
+
+  given_by : Given t
+  given_by = record {
+    covered = a.covered;
+    reaches = reaches_by;
+    within = λ c r lo n hi how k row at is.
+        let there = some_row (t.representation r) (s.numbered.bound_to r c k (sound.is_bound lo hi how row at)) in
+        within_by c r lo n hi how k there.0 row at there.1 (sym (ap (hi_of t) at) ∙ is);
+    from_start = b.first;
+  }
+
+pub given_in_runs : OfRuns Given
+given_in_runs limits contents h may run =
+    let c = carried limits contents h may run in
+    given_by (tables contents h) c.is_sound c.is_measured (bounded limits contents h may run) (covered_in_runs limits contents h may run)

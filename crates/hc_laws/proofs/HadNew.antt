@@ -1,0 +1,205 @@
+-- Whose an exchange is that is opened for a hole, or whose head comes.
+use Rattle.std.proofs.Common.{◌≡◌, ℕ, Bool, true, false, Option, Some, None, refl, ap, sym, ◌∙◌, subst}
+use Rattle.std.specs.Prelude.{is_some}
+use Rattle.hc_event.specs.Filters.{Opening, opening_in}
+use Rattle.hc_event.specs.declared.event.Event.{Event}
+use Rattle.hc_event.specs.declared.event.Event.TheVariants as event
+use Rattle.hc_event.specs.declared.event.Response.{Response}
+use Rattle.hc_rules.specs.declared.need.Route.TheVariants as route
+use Rattle.hc_rules.specs.declared.room.Limits.{Limits}
+use Rattle.hc_rules.specs.Needs.{route_of}
+use Rattle.hc_model.specs.declared.place.Place.{Place}
+use Rattle.hc_model.specs.declared.place.Place.TheVariants as place
+use Rattle.hc_model.specs.declared.place.BoundBy.{BoundBy}
+use Rattle.hc_model.specs.ActFilters.{loses_in}
+use Rattle.hc_model.specs.ConsumerRows.{consumer_heard, consumer_acted, waiting, due_after}
+use Rattle.hc_model.specs.Denials.{denial}
+use Rattle.hc_model.specs.Entries.{Entry}
+use Rattle.hc_model.specs.ExchangeRows.{exchange_opened, aim_from}
+use Rattle.hc_model.specs.Exchanges.{is_headless}
+use Rattle.hc_model.specs.Failures.{becomes_due}
+use Rattle.hc_model.specs.Flaws.{Flaw}
+use Rattle.hc_model.specs.Keys.{entry_of}
+use Rattle.hc_model.specs.Measures.{Measures}
+use Rattle.hc_model.specs.Owners.{Owners, IsAwaiting, Awaits, IsPast}
+use Rattle.hc_model.specs.Owners as owners
+use Rattle.hc_model.specs.Polls.{shows_at, shows_direct, move_of, if_headless}
+use Rattle.hc_model.specs.Reading.{bound, bound_to, own_open, reads}
+use Rattle.hc_model.specs.Rows.{Tables, Exchange, Representation, Consumer}
+use Rattle.hc_model.specs.Sound.{Sound, IsBound, IsAbout, IsHad, HasPen, IsFirst}
+use Rattle.hc_model.specs.Sound as sound
+use Rattle.hc_model.specs.Tables.{after_accepted}
+use Rattle.hc_model.specs.Writers.{brings_body, came_alone}
+use Rattle.hc_laws.proofs.AboutKeeps.{own_open_is}
+use Rattle.hc_model.proofs.Basics.{false_true, none_some, some_none}
+use Rattle.hc_model.proofs.BoundFrom.{BoundFrom, IsRow, bound_from}
+use Rattle.hc_model.proofs.BoundFrom as from
+use Rattle.hc_model.proofs.BoundKeeps.{opens_none}
+use Rattle.hc_model.proofs.Dues.{undue_of, due_none}
+use Rattle.hc_laws.proofs.FirstDues.{poll_undue}
+use Rattle.hc_model.proofs.FirstKeeps.{came_kept, is_opener, open_free}
+use Rattle.hc_laws.proofs.LossBy.{IsReal, IsSealing, sealed_loss}
+use Rattle.hc_model.proofs.OpensFrom.{opens_hole, hole_is}
+use Rattle.hc_model.proofs.OwnersKeep.{is_opened}
+use Rattle.hc_model.proofs.PieceKeeps.{some_inj}
+use Rattle.hc_model.proofs.Pens.{same_row, bound_some, none_about, has_pen, none_about_hole}
+use Rattle.hc_model.proofs.PollKeeps.{current_stays}
+use Rattle.hc_model.proofs.PollTree as tree
+use Rattle.hc_model.proofs.RepFrom.{RepFrom, rep_from, IsKept, IsResumed}
+use Rattle.hc_model.proofs.RepFrom as rep
+use Rattle.hc_model.proofs.Said.{IsOpening, opening_by, showing_by}
+use Rattle.hc_laws.proofs.ServedKeeps.{kept_alone}
+use Rattle.hc_laws.proofs.WaitingKeeps.{waiting_kept}
+
+some_of : (q : Option Response) → is_some q ≡ true → (response : Response) × (q ≡ Some response)
+some_of None g = absurd (false_true g)
+some_of (Some response) g = (response, refl)
+
+module _ (limits : Limits) (t : Tables) (now : ℕ) (flaw : Flaw) (s : Sound t) (o : Owners t) (m : Measures t) (ev : Event) (goes : denial t ev ≡ None) (real : IsReal limits t now ev flaw) where
+  abbrev e : Entry
+  e = entry_of limits t now ev flaw
+
+  abbrev now_on : Tables
+  now_on = after_accepted t e
+
+  -- OPENED
+
+  module _ (r x c want lo : ℕ) (hi : Option ℕ) (how : BoundBy) (q : Opening) (u : Consumer) (z : Exchange) (p : Representation) (after : now_on.representation r ≡ Some p) (after_row : now_on.consumer c ≡ Some u) (stands : u.place ≡ place.Bound r lo hi how) (opens : opening_in e.acts ≡ Some q) (mine : q.c ≡ c) (polls : ev ≡ event.Poll c want) (own_u : own_open now_on u ≡ Some x) (hole : route_of q.need ≡ route.Hole) where
+    undue_poll : (k : Consumer) → becomes_due t e c k ≡ None
+    undue_poll k = undue_of t e c k (poll_undue limits t now flaw s o ev goes c c want k polls)
+
+    none_after : (k : Consumer) → due_after t e c k (consumer_acted t e c (consumer_heard t e c ev k)) ≡ u → k.due ≡ None → u.due ≡ None
+    none_after k is none = due_none t e c k (consumer_acted t e c (consumer_heard t e c ev k)) u is (ap reads stands) none (undue_poll k)
+
+    quiet : (v : Representation) → t.representation r ≡ Some v → (IsSealing limits t now flaw s o m ev goes real r → ⊥) → loses_in r e.acts ≡ false
+    quiet v there none = by_test (loses_in r e.acts) refl
+      where
+        by_test : (a : Bool) → loses_in r e.acts ≡ a → a ≡ false
+        by_test false is = refl
+        by_test true loses = absurd (none (sealed_loss limits t now flaw s o m ev goes real r v there loses (ap brings_body polls)))
+
+    had : u.due ≡ None → HasPen now_on r p c → IsHad now_on r p x
+    had none pen = sound.own c u (sound.is_bound lo hi how after_row stands) own_u none pen
+
+    -- A LATER HOLE
+
+    pen_quiet : (k : Consumer) (v : Representation) → t.consumer c ≡ Some k → k.place ≡ place.Bound r lo hi how → t.representation r ≡ Some v → IsKept t e r v p → loses_in r e.acts ≡ false → HasPen t r v c → HasPen now_on r p c
+    pen_quiet k v row at there kept still (sound.first new is) = sound.first ((kept_alone limits t now flaw s o m ev goes real r v p kept still).0 ∙ new) (sound.first u lo hi how after_row stands (came_kept limits t now flaw s ev goes r lo hi how (ap is_some there) ∙ first_same is))
+      where
+        first_same : IsFirst t r c → came_alone t (place.Bound r lo hi how) ≡ true
+        first_same (sound.first a l h g a_row a_at alone) =
+            let one : a ≡ k = same_row (t.consumer c) a k a_row row in
+            subst (λ y. came_alone t y ≡ true) (sym a_at ∙ (ap (λ (y : Consumer). y.place) one ∙ at)) alone
+    pen_quiet k v row at there kept still (sound.alone lost is) = let all = kept_alone limits t now flaw s o m ev goes real r v p kept still in sound.alone (all.0 ∙ lost) (all.1 ∙ is)
+
+    same_place : (n : ℕ) (k a : Consumer) → k.place ≡ place.Bound r lo hi how → t.consumer c ≡ Some k → IsBound t n c a → n ≡ r
+    same_place n k a at row (sound.is_bound l h g a_row a_at) =
+        let one : a ≡ k = same_row (t.consumer c) a k a_row row in
+        (from.place_inj n l h g r lo hi how (sym a_at ∙ (ap (λ (y : Consumer). y.place) one ∙ at))).number
+
+    opening_of : (k : Consumer) → t.consumer c ≡ Some k → (n : ℕ) × IsOpening q (move_of t now n c k)
+    opening_of k row =
+        let poll = opening_by limits t now flaw s ev goes q opens in
+        let same_k : poll.k ≡ k = same_row (t.consumer c) poll.k k (sym (ap t.consumer mine) ∙ poll.poll.row) row in
+        (poll.want, subst (λ (a : Consumer). IsOpening q (move_of t now poll.want c a)) same_k (subst (λ d. IsOpening q (move_of t now poll.want d poll.k)) mine poll.move))
+
+    later : (k : Consumer) → IsRow t e c r lo hi how k u → k.place ≡ place.Bound r lo hi how → RepFrom t e r p → IsHad now_on r p x
+    later k row at (rep.founded response w none here exchange_row on made) =
+        absurd (let is_there = s.numbered.bound_to r c k (sound.is_bound lo hi how row.row at) in false_true (sym (ap is_some none) ∙ is_there))
+    later k row at (rep.was v kept) =
+        let opening = opening_of k row.row in
+        let h = hole_is q.need hole in
+        by_hole h.from h.to (opens_hole t c k q now opening.0 s row.row opening.1 h.from h.to h.is)
+      where
+        by_hole : (from_at to_at : ℕ) → tree.OpensHole t c k from_at to_at → IsHad now_on r p x
+        by_hole from_at to_at (tree.first n v2 span gap is aims there2 nobody found from_is to) =
+            let number : r ≡ n = some_inj r n (sym (ap (aim_from t k.request.key) at) ∙ aims) in
+            absurd (bound_some t r c k s.numbered (sound.is_bound lo hi how row.row at) (ap (bound t) number ∙ nobody))
+        by_hole from_at to_at (tree.later n top count v2 at_hole none from_is to) =
+            let number : n ≡ r = same_place n k k at row.row at_hole.is_reader in
+            let one : v2 ≡ v = same_row (t.representation r) v2 v (sym (ap t.representation number) ∙ at_hole.row) kept.row in
+            let pen : HasPen t r v c = subst (λ (a : Representation). HasPen t r a c) one (subst (λ i. HasPen t i v2 c) number (has_pen t n c top v2 k s at_hole)) in
+            let still = quiet v kept.row (λ y. none_about_hole t n c top y.y v2 k s at_hole (subst (λ i. IsAbout t i y.y) (sym number) (sound.headed y.w y.row y.was_open y.headed y.of_r (ap is_some kept.row)))) in
+            had (none_after k row.is at_hole.none_due) (pen_quiet k v row.row at kept.row kept still pen)
+
+    -- A FIRST HOLE
+
+    idle : (k : Consumer) → t.consumer c ≡ Some k → bound_to k.place ≡ None → k.due ≡ None
+    idle k row free = by_place k.place refl free
+      where
+        got : Rattle.hc_model.proofs.OwnersKeep.IsOpened limits t now flaw s o ev goes q
+        got = is_opened limits t now flaw s o ev goes q opens
+
+        one : got.k ≡ k
+        one = same_row (t.consumer c) got.k k (sym (ap t.consumer mine) ∙ got.row) row
+
+        free_got : bound_to got.k.place ≡ None
+        free_got = ap (λ (a : Consumer). bound_to a.place) one ∙ free
+
+        unread : shows_at t k k.place ≡ None
+        unread = sym (ap (λ (a : Consumer). shows_at t a a.place) one) ∙ got.way.unread free_got
+
+        unshown : k.shown ≡ false
+        unshown = sym (ap (λ (a : Consumer). a.shown) one) ∙ got.way.unshown free_got
+
+        by_past : (y : ℕ) → k.place ≡ place.Direct y → IsPast t y k → ⊥
+        by_past y at (owners.answered w is_row headed_w) =
+            let response = some_of w.head headed_w in
+            let no : shows_direct t y (Some w) ≡ None = sym (ap (shows_at t k) at ∙ ap (shows_direct t y) is_row) ∙ unread in
+            some_none _ (rw response.1 at no)
+        by_past y at (owners.waits w own is_row on bare) =
+            let open_own : own_open t k ≡ Some y = own_open_is t k y (record { own = own; w = w; row = is_row; opened = on }) in
+            let headless : is_headless (t.exchange y) ≡ true = ap is_headless is_row ∙ rw (on, bare) refl in
+            let heard : Rattle.std.specs.Option.option_and_then (if_headless t) (own_open t k) ≡ None = subst (λ (a : Consumer). Rattle.std.specs.Option.option_and_then (if_headless t) (own_open t a) ≡ None) one got.way.heard in
+            some_none y (rw (open_own, headless) at heard)
+
+        by_place : (a : Place) → k.place ≡ a → bound_to a ≡ None → k.due ≡ None
+        by_place place.Line at free_a = o.idle_due c k row (ap reads at)
+        by_place (place.Passed n n_kept) at free_a = o.idle_due c k row (ap reads at)
+        by_place (place.Turn y) at free_a = o.idle_due c k row (ap reads at)
+        by_place (place.Bound n l h g) at free_a = absurd (some_none n free_a)
+        by_place (place.Direct y) at free_a = absurd (by_past y at (o.past c y k row at unshown))
+        by_place (place.Down why) at free_a = o.idle_due c k row (ap reads at)
+        by_place place.Over at free_a = o.idle_due c k row (ap reads at)
+
+    not_lost : (v : Representation) → v.is_gone ≡ false → (v.is_lost ≡ true → v.is_gone ≡ true) → (a : Bool) → v.is_lost ≡ a → a ≡ false
+    not_lost v off goes_too false is = refl
+    not_lost v off goes_too true is = absurd (false_true (sym off ∙ goes_too is))
+
+    first : (k : Consumer) (a : Opening) → IsRow t e c r lo hi how k u → opening_in e.acts ≡ Some a → a.c ≡ c → bound_to (waiting t e c (consumer_heard t e c ev k)).place ≡ None → route_of a.need ≡ route.Hole → from.IsFirstHole t e c r lo hi how a (waiting t e c (consumer_heard t e c ev k)) → RepFrom t e r p → IsHad now_on r p x
+    first k a row a_opens a_mine free way gap (rep.founded response w none here exchange_row on made) = absurd (none_some gap.v (sym none ∙ gap.row))
+    first k a row a_opens a_mine free way gap (rep.was v kept) =
+        let nobody = open_free limits t now flaw s ev goes c r k a row.row a_opens a_mine free way gap.current_is in
+        let placed = (is_opener limits t now flaw s ev goes c k a row.row a_opens a_mine).place_is in
+        let one : gap.v ≡ v = same_row (t.representation r) gap.v v gap.row kept.row in
+        let not_gone : v.is_gone ≡ false = ap (λ (y : Representation). y.is_gone) (sym one) ∙ current_stays t _ r gap.v gap.current_is gap.row in
+        let still = quiet v kept.row (λ y. none_about t r y.y v s kept.row nobody (sound.headed y.w y.row y.was_open y.headed y.of_r (ap is_some kept.row))) in
+        let kept_p : p.is_lost ≡ false = (kept_alone limits t now flaw s o m ev goes real r v p kept still).0 ∙ not_lost v not_gone (s.rows r v kept.row).store.lost_is_gone v.is_lost refl in
+        had (none_after k row.is (idle k row.row (sym (ap bound_to placed) ∙ free))) (sound.first kept_p (sound.first u lo hi how after_row stands (ap (λ g. came_alone now_on (place.Bound r lo hi g)) gap.by_is)))
+
+    pub opened_had : IsHad now_on r p x
+    opened_had = by_way (bound_from t e c r lo hi how (t.consumer c) u refl after_row stands) (rep_from t e r (t.representation r) p refl after)
+      where
+        by_way : BoundFrom t e c r lo hi how u → RepFrom t e r p → IsHad now_on r p x
+        by_way (from.stays k row at) from_it = later k row at from_it
+        by_way (from.founds k y response w row here exchange_row theirs of_r by_is all) from_it = absurd (let no : event.Head y response ≡ event.Poll c want = sym here ∙ polls in cc)
+        by_way (from.opens k a row a_opens a_mine free way gap) from_it = first k a row a_opens a_mine free way gap from_it
+        by_way (from.shows k y row is all) from_it =
+            absurd (some_none q (opens_none limits t now flaw s ev goes y (showing_by limits t now flaw s ev goes y is) (Some q) opens))
+
+  pub new_had : (r x : ℕ) (q : Opening) (z : Exchange) (p : Representation) → opening_in e.acts ≡ Some q → exchange_opened t e q ≡ z → now_on.exchange x ≡ Some z → z.is_open ≡ true → z.head ≡ None → z.aim ≡ Some r → route_of z.need ≡ route.Hole → now_on.representation r ≡ Some p → IsHad now_on r p x
+  new_had r x q z p opens made after_x on bare aim hole after = by_place a.at
+    where
+      a : Awaits now_on x z
+      a = waiting_kept limits t now flaw s o ev goes real.stand x z after_x on bare
+
+      mine : q.c ≡ z.c
+      mine = ap (λ (y : Exchange). y.c) made
+
+      by_place : IsAwaiting x z a.k.place → IsHad now_on r p x
+      by_place (owners.direct way at) = absurd (let no : route.Direct ≡ route.Hole = sym way ∙ hole in cc)
+      by_place (owners.turn way at) = absurd (let no : route.Turn ≡ route.Hole = sym way ∙ hole in cc)
+      by_place (owners.hole n lo hi how way aimed at) =
+          let number : n ≡ r = some_inj n r (sym aimed ∙ aim) in
+          let got = is_opened limits t now flaw s o ev goes q opens in
+          opened_had r x z.c got.want lo hi how q a.k z p after a.row (at ∙ ap (λ y. place.Bound y lo hi how) number) opens mine (got.at ∙ ap (λ y. event.Poll y got.want) mine) (own_open_is now_on a.k x (record { own = a.own; w = z; row = after_x; opened = on })) (ap (λ (y : Exchange). route_of y.need) made ∙ hole)

@@ -1,0 +1,126 @@
+-- One key, one turn and the barrier of dooms in each run from contents by which a store may begin.
+use Rattle.std.proofs.Common.{◌≡◌, ℕ, [], ◌∷◌, Bool, true, false, refl, subst}
+use Rattle.hc_event.specs.Filters.{is_denied}
+use Rattle.hc_rules.specs.declared.room.Limits.{Limits}
+use Rattle.hc_model.specs.Currents.{current}
+use Rattle.hc_model.specs.Entries.{Entry, History, Contents}
+use Rattle.hc_model.specs.Flaws.{flaw_in}
+use Rattle.hc_model.specs.Keys.{IsOfOneKey, KeepsOthers}
+use Rattle.hc_model.specs.Beginnings.{may_begin}
+use Rattle.hc_model.specs.Laws.{OfRuns, DeliversOnce, HasOneTurn, Turns, HasPassed, IsBarred, DoomsInRuns, KeysInRuns}
+use Rattle.hc_model.specs.Rows.{Tables, Consumer}
+use Rattle.hc_model.specs.Runs.{IsRun, IsOwed}
+use Rattle.hc_model.specs.Sound.{Sound, IsBound}
+use Rattle.hc_model.specs.Sound as sound
+use Rattle.hc_model.specs.Tables.{tables, after_accepted, after_denied}
+use Rattle.hc_laws.proofs.Barred.{next_tables, denied_tables, barrier_is_kept, barrier_begins}
+use Rattle.hc_model.proofs.KeysPlaces.{keys_are_kept, keys_begin}
+use Rattle.hc_model.proofs.OneKey.{law_of_one_key}
+use Rattle.hc_model.proofs.Once.{delivers_once}
+use Rattle.hc_model.proofs.Owed.{goes}
+use Rattle.hc_laws.proofs.SoundRuns.{runs_are_sound}
+use Rattle.hc_model.proofs.Starts.{numbers_begin}
+use Rattle.hc_model.proofs.TurnFacts.{IsTaken}
+use Rattle.hc_model.proofs.TurnsKeep.{turns_are_kept, turns_begin, turns_are_one, same_entry}
+
+-- what is of one key and who has the turn, of a run so far
+record Holds (contents : Contents) (h : History) : Type 0 where
+  one : IsOfOneKey (tables contents h)
+  turns : Turns (tables contents h)
+
+-- A DENIED ENTRY
+
+bound_before : (t : Tables) (e : Entry) (r c : ℕ) (k : Consumer) → IsBound (after_denied t e) r c k → IsBound t r c k
+bound_before t e r c k (sound.is_bound lo hi how row at) = sound.is_bound lo hi how row at
+
+denied_one : (t : Tables) (e : Entry) → IsOfOneKey t → IsOfOneKey (after_denied t e)
+denied_one t e one = record {
+  exchanges = record {
+    opener = one.exchanges.opener;
+    aims = one.exchanges.aims;
+    joined = one.exchanges.joined;
+    founded = one.exchanges.founded;
+    writers = one.exchanges.writers;
+  };
+  consumers = record {
+    own = one.consumers.own;
+    bound = λ r c k is. one.consumers.bound r c k (bound_before t e r c k is);
+    passed = one.consumers.passed;
+    undue = one.consumers.undue;
+  };
+}
+
+denied_passed : (t : Tables) (e : Entry) (r : ℕ) (k : Consumer) → HasPassed t r k → HasPassed (after_denied t e) r k
+unfolding current
+denied_passed t e r k h = record { current_is = h.current_is; plain = h.plain; cached = h.cached; asks = h.asks; v = h.v; row = h.row; agrees = h.agrees }
+
+denied_turns : (t : Tables) (e : Entry) → Turns t → Turns (after_denied t e)
+denied_turns t e turns = record {
+  awaited = λ x w row bare. let a = turns.awaited x w row bare in record { k = a.k; row = a.row; own = a.own; stands = a.stands };
+  one_holder = turns.one_holder;
+  queued = turns.queued;
+  passed = λ c r keep k row at. denied_passed t e r k (turns.passed c r keep k row at);
+  first_hole = turns.first_hole;
+  validates = turns.validates;
+}
+
+-- A RUN
+
+by_denial : (limits : Limits) (contents : Contents) (h : History) (e : Entry) (b : Bool) → is_denied e.acts ≡ b → Sound (tables contents h) → IsOwed limits (tables contents h) e → Holds contents h → Holds contents (e ∷ h)
+by_denial limits contents h e true denied s owed held = record {
+  one = subst IsOfOneKey (denied_tables contents h e denied) (denied_one (tables contents h) e held.one);
+  turns = subst Turns (denied_tables contents h e denied) (denied_turns (tables contents h) e held.turns);
+}
+by_denial limits contents h e false accepted s owed held =
+    let t = tables contents h in
+    let taken : IsTaken limits t e = record { owed = owed; not_denied = accepted } in
+    let kept = keys_are_kept limits t e.now (flaw_in e.acts) s held.one e.event (goes limits t e owed accepted) in
+    record {
+      one = subst IsOfOneKey (next_tables contents h e accepted) (subst (λ z. IsOfOneKey (after_accepted t z)) (same_entry limits t e taken s held.one held.turns) kept);
+      turns = subst Turns (next_tables contents h e accepted) (turns_are_kept limits t e s held.one held.turns owed accepted);
+    }
+
+-- what is of one key and who has the turn, of every run
+pub record IsTurned (t : Tables) : Type 0 where
+  pub one : IsOfOneKey t
+  pub turns : Turns t
+
+module _ (limits : Limits) (contents : Contents) (may : may_begin limits contents ≡ true) where
+  sound_run : (h : History) → IsRun limits contents h → Sound (tables contents h)
+  sound_run h run = runs_are_sound limits contents h may run
+
+  holds : (h : History) → IsRun limits contents h → Holds contents h
+  unfolding tables
+  holds [] run = record { one = keys_begin contents; turns = turns_begin contents }
+  holds (e ∷ h) run = by_denial limits contents h e (is_denied e.acts) refl (sound_run h run.0) run.1 (holds h run.0)
+
+  barred : (h : History) → IsRun limits contents h → IsBarred contents h
+  barred [] run = barrier_begins contents (numbers_begin limits contents may)
+  barred (e ∷ h) run =
+      let held = holds h run.0 in
+      barrier_is_kept limits contents h e (sound_run h run.0) held.one held.turns (barred h run.0) run.1
+
+  others_stay : (h : History) (e : Entry) → IsRun limits contents (e ∷ h) → is_denied e.acts ≡ false → KeepsOthers (tables contents h) (tables contents (e ∷ h)) e
+  others_stay h e run accepted =
+      let held = holds h run.0 in
+      subst (λ u. KeepsOthers (tables contents h) u e) (next_tables contents h e accepted)
+      (law_of_one_key limits (tables contents h) e held.one.exchanges held.one.consumers run.1 accepted)
+
+-- Turns and keys hold of every run.
+pub turned_in_runs : OfRuns IsTurned
+turned_in_runs limits contents h may run = let held = holds limits contents may h run in record { one = held.one; turns = held.turns }
+
+pub one_key_in_runs : OfRuns IsOfOneKey
+one_key_in_runs limits contents h may run = (turned_in_runs limits contents h may run).one
+
+pub turns_in_runs : OfRuns HasOneTurn
+turns_in_runs limits contents h may run = let held = holds limits contents may h run in turns_are_one (tables contents h) (runs_are_sound limits contents h may run) held.one held.turns
+
+pub dooms_in_runs : DoomsInRuns
+dooms_in_runs limits contents h may run = (barred limits contents may h run).founded
+
+pub keys_in_runs : KeysInRuns
+keys_in_runs limits contents h e may run accepted = others_stay limits contents may h e run accepted
+
+pub delivers_in_runs : OfRuns DeliversOnce
+delivers_in_runs limits contents h may run = delivers_once (tables contents h) (runs_are_sound limits contents h may run)

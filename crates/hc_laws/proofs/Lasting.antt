@@ -1,0 +1,115 @@
+-- What is written for several and can't be completed later goes on being written, or is all there, as long as it isn't gone.
+use Rattle.std.proofs.Common.{◌≡◌, ◌⊎◌, inl, inr, ℕ, ◌≤◌, length, Bool, true, false, Some, None, refl, ap, sym, ◌∙◌, arith}
+use Rattle.std.specs.Prelude.{◌&&◌, ◌||◌, ◌==◌, not, nat_eq, nat_lt}
+use Rattle.std.proofs.lemmas.Bool.Decides.{nat_tests}
+use Rattle.hc_event.specs.Filters.{closes_in}
+use Rattle.hc_event.specs.declared.event.Event.{Event}
+use Rattle.hc_event.specs.declared.event.Event.TheVariants as event
+use Rattle.hc_rules.specs.declared.room.Limits.{Limits}
+use Rattle.hc_model.specs.ActFilters.{loses_in, has_loss}
+use Rattle.hc_model.specs.Denials.{denial}
+use Rattle.hc_model.specs.Entries.{Entry}
+use Rattle.hc_model.specs.Exchanges.{promised, is_open}
+use Rattle.hc_model.specs.Flaws.{Flaw}
+use Rattle.hc_model.specs.Gone.{becomes_gone, goes_itself, ends_early, ends_founding, stops_early, is_keepable, is_below}
+use Rattle.hc_model.specs.Keys.{entry_of}
+use Rattle.hc_model.specs.Measures.{Measures}
+use Rattle.hc_model.specs.Owners.{Owners}
+use Rattle.hc_model.specs.Reading.{is_written}
+use Rattle.hc_model.specs.RepresentationRows.{representation_heard}
+use Rattle.hc_model.specs.Rows.{Tables, Exchange, Representation}
+use Rattle.hc_model.specs.Sound.{Sound, IsGrowing}
+use Rattle.hc_model.specs.Tables.{after_accepted}
+use Rattle.hc_model.proofs.ApartKeeps.{is_on}
+use Rattle.hc_model.proofs.Basics.{false_true, true_false, or_false}
+use Rattle.hc_model.proofs.HoleLemmas.{bool_cases}
+use Rattle.hc_model.proofs.RepFrom.{RepFrom, rep_from, IsKept, IsResumed, IsEnded}
+use Rattle.hc_model.proofs.RepFrom as rep
+use Rattle.hc_laws.proofs.WritingStops.{IsAll, ends_all}
+
+module _ (limits : Limits) (t : Tables) (now : ℕ) (flaw : Flaw) (s : Sound t) (o : Owners t) (m : Measures t) (ev : Event) (goes : denial t ev ≡ None) where
+  abbrev e : Entry
+  e = entry_of limits t now ev flaw
+
+  abbrev now_on : Tables
+  now_on = after_accepted t e
+
+  module _ (r : ℕ) (v p : Representation) (there : t.representation r ≡ Some v) (kept : IsKept t e r v p) (not_gone : p.is_gone ≡ false) where
+    goes_parts : (becomes_gone t e r v ≡ false) × (v.is_gone ≡ false)
+    goes_parts =
+        let is : (becomes_gone t e r v || (representation_heard t e r ev v).is_gone) ≡ false = ap (λ (q : Representation). q.is_gone) kept.is ∙ not_gone in
+        let both = or_false (becomes_gone t e r v) _ is in
+        (both.0, sym (rep.heard t e r v ev refl).gone_is ∙ both.1)
+
+    pub was_not_gone : v.is_gone ≡ false
+    was_not_gone = goes_parts.1
+
+    -- why it would go
+    pub not_lost : loses_in r e.acts ≡ false
+    unfolding becomes_gone
+    not_lost =
+        let itself = (or_false (goes_itself t e r v) _ goes_parts.0).0 in
+        let a = (or_false _ (ends_early t e r v && not (is_keepable v)) itself).0 in
+        let b = (or_false _ (Rattle.hc_model.specs.ActFilters.misreads_in r e.acts) a).0 in
+        (or_false _ (loses_in r e.acts) b).1
+
+    not_early : (ends_early t e r v && not (is_keepable v)) ≡ false
+    unfolding becomes_gone
+    not_early = (or_false _ (ends_early t e r v && not (is_keepable v)) (or_false (goes_itself t e r v) _ goes_parts.0).0).1
+
+    module _ (unkeepable : is_keepable v ≡ false) (whole : v.head.status ≡ 200) (on : is_written t v ≡ true) (writer : v.writer ≡ Some r) where
+      lasts : ends_early t e r v ≡ false
+      lasts = by_test (ends_early t e r v) (is_keepable v) not_early unkeepable
+        where
+          by_test : (a b : Bool) → (a && not b) ≡ false → b ≡ false → a ≡ false
+          by_test false b h off = refl
+          by_test true true h off = absurd (true_false off)
+          by_test true false h off = absurd (true_false h)
+
+      not_founding_end : ends_founding e r (t.exchange r) ≡ false
+      not_founding_end = by_test (v.head.status == 200) (ends_founding e r (t.exchange r)) lasts (let st : v.head.status ≡ 200 = whole in let test : nat_eq v.head.status 200 ≡ true = grind (arith, nat_tests) in test)
+        where
+          by_test : (a b : Bool) → (a && b) ≡ false → a ≡ true → b ≡ false
+          by_test true b h on = h
+          by_test false b h on = absurd (false_true on)
+
+      grows : (w : Exchange) × IsGrowing t r v r w
+      grows = (s.rows r v there).growing r on writer
+
+      abbrev w : Exchange
+      w = grows.0
+
+      g : IsGrowing t r v r w
+      g = grows.1
+
+      was_open : w.is_open ≡ true
+      was_open = sym (ap is_open g.row) ∙ (is_on t v r on writer).open_now
+
+      -- it isn't closed, and doesn't stop early
+      unended : (stops_early w r ev ≡ false) × (closes_in r e.acts ≡ false)
+      unended = or_false (stops_early w r ev) (closes_in r e.acts) (by_open w.is_open _ was_open (sym (ap (ends_founding e r) g.row) ∙ not_founding_end))
+        where
+          by_open : (a b : Bool) → a ≡ true → (a && b) ≡ false → b ≡ false
+          by_open true b on h = h
+          by_open false b on h = absurd (false_true on)
+
+      self : nat_eq r r ≡ true
+      self = grind (arith, nat_tests)
+
+      unclosed : closes_in r e.acts ≡ true → ⊥
+      unclosed shut = false_true (sym unended.1 ∙ shut)
+
+      unfaulted : ev ≡ event.Fault r → ⊥
+      unfaulted here = false_true (sym unended.0 ∙ (ap (stops_early w r) here ∙ self))
+
+      enough : ev ≡ event.End r → (n : ℕ) → promised w ≡ Some n → n ≤ length w.body
+      enough here n is =
+          let short : ((r == r) && is_below (length w.body) (Some n)) ≡ false = sym (ap (λ q. (r == r) && is_below (length w.body) q) is) ∙ (sym (ap (stops_early w r) here) ∙ unended.0) in
+          let test : nat_lt (length w.body) n ≡ false = rw self at short in
+          grind (arith, nat_tests)
+
+      pub lasting : (is_open (now_on.exchange r) ≡ true) ⊎ IsAll p
+      lasting = elim (bool_cases (is_open (now_on.exchange r))) [
+        | inl still ↦ inl still
+        | inr off ↦ inr (ends_all limits t now flaw s o m ev goes r r v p w there on writer kept g was_open (inl not_lost) unclosed unfaulted enough ev refl off)
+      ]

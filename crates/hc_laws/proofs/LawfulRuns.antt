@@ -1,0 +1,27 @@
+-- The tables of every run keep the laws.
+use Rattle.hc_model.specs.Lawful.{Lawful}
+use Rattle.hc_model.specs.Laws.{OfRuns}
+use Rattle.hc_laws.proofs.AloneRuns.{alone_in_runs}
+use Rattle.hc_laws.proofs.GivenRuns.{given_in_runs}
+use Rattle.hc_laws.proofs.GrowingRuns.{growing_in_runs}
+use Rattle.hc_laws.proofs.InRuns.{one_key_in_runs}
+use Rattle.hc_laws.proofs.OrderRuns.{order_in_runs}
+use Rattle.hc_laws.proofs.PassedRuns.{passed_in_runs}
+use Rattle.hc_laws.proofs.PlaceRuns.{places_in_runs, endings_in_runs}
+use Rattle.hc_laws.proofs.SoundRuns.{owners_in_runs, runs_are_sound}
+use Rattle.hc_laws.proofs.WhoseRuns.{whose_in_runs}
+
+pub lawful_in_runs : OfRuns Lawful
+lawful_in_runs limits contents h may run = record {
+  sound = runs_are_sound limits contents h may run;
+  owned = owners_in_runs limits contents h may run;
+  places = places_in_runs limits contents h may run;
+  passed = passed_in_runs limits contents h may run;
+  order = order_in_runs limits contents h may run;
+  whose = whose_in_runs limits contents h may run;
+  endings = endings_in_runs limits contents h may run;
+  given = given_in_runs limits contents h may run;
+  growing = growing_in_runs limits contents h may run;
+  alone = alone_in_runs limits contents h may run;
+  keyed = one_key_in_runs limits contents h may run;
+}

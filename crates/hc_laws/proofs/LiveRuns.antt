@@ -1,0 +1,261 @@
+-- Who is over stays so. So no more are live than may start, in every run.
+use Rattle.std.proofs.Common.{◌≡◌, inl, inr, ℕ, ◌+◌, ◌<◌, ◌≤◌, List, [], ◌∷◌, length, Bool, true, false, Option, Some, None, refl, ap, sym, ◌∙◌, arith}
+use Rattle.std.specs.Prelude.{filter, nat_eq, nat_lt, nat_le, is_none, ◌||◌, ◌&&◌, not, if◌then◌else◌}
+use Rattle.std.proofs.lemmas.Bool.Decides.{nat_tests}
+use Rattle.hc_event.specs.declared.act.Refusal.TheVariants as refusal
+use Rattle.hc_event.specs.declared.event.Event.{Event}
+use Rattle.hc_event.specs.declared.event.Event.TheVariants as event
+use Rattle.hc_event.specs.declared.event.Request.{Request}
+use Rattle.hc_event.specs.declared.event.Response.{Response}
+use Rattle.hc_rules.specs.Refusals as refusals
+use Rattle.hc_rules.specs.declared.room.Limits.{Limits}
+use Rattle.hc_model.specs.declared.place.Place.{Place}
+use Rattle.hc_model.specs.declared.place.Place.TheVariants as place
+use Rattle.hc_model.specs.ActFilters.{has_loss}
+use Rattle.hc_model.specs.Cases.{case_at, case_of}
+use Rattle.hc_model.specs.ConsumerRows.{consumer_heard, consumer_made, consumer_after, by_fault, back_in_line}
+use Rattle.hc_model.specs.Denials.{denial, is_live, is_live_place, live}
+use Rattle.hc_model.specs.Dooms.{doomed, is_key}
+use Rattle.hc_model.specs.Entries.{Entry}
+use Rattle.hc_model.specs.Exchanges.{is_for}
+use Rattle.hc_model.specs.Flaws.{Flaw}
+use Rattle.hc_model.specs.Frames.{is_event_for, beside, StartsOverBy}
+use Rattle.hc_model.specs.Frames as frames
+use Rattle.hc_model.specs.Keys.{entry_of}
+use Rattle.hc_model.specs.Laws.{OfRuns, OfRunsIn}
+use Rattle.hc_model.specs.Live.{FewLive}
+use Rattle.hc_model.specs.Orders.{Descends}
+use Rattle.hc_model.specs.Owners.{Owners, IsAwaiting}
+use Rattle.hc_model.specs.Owners as owners
+use Rattle.hc_model.specs.Rows.{Tables, Exchange, Consumer}
+use Rattle.hc_model.specs.Sound.{Sound}
+use Rattle.hc_model.specs.StartingOver.{starts_over, waits_at, sends_back, loses_what_it_waits_for}
+use Rattle.hc_model.specs.Tables.{after_accepted, starts_after}
+use Rattle.hc_model.proofs.Basics.{false_true, true_false, none_some, some_none, not_so}
+use Rattle.hc_model.proofs.EventsKeep.{poll_live}
+use Rattle.hc_model.proofs.FirstKeeps.{is_new}
+use Rattle.hc_model.proofs.HoleLemmas.{bool_cases}
+use Rattle.hc_model.proofs.NumbersKeep.{starts_later}
+use Rattle.hc_laws.proofs.OrderRuns.{starts_on}
+use Rattle.hc_laws.proofs.RunFacts.{in_runs}
+use Rattle.hc_model.proofs.Standing.{far_by, after_heard, standers_stay, starting_over_is_caused}
+use Rattle.hc_model.proofs.Waiters.{waiter_as, fault_open_of}
+
+-- NO MORE OF A LIST
+
+-- of what stands below n no more passes this test than that one
+fewer : (f g : ℕ → Bool) (n : ℕ) (xs : List ℕ) → Descends n xs → ((c : ℕ) → c < n → g c ≡ true → f c ≡ true) → length (filter g xs) ≤ length (filter f xs)
+fewer f g n [] d passes = omega arith
+fewer f g n (x ∷ xs) d passes =
+    let rest : length (filter g xs) ≤ length (filter f xs) = fewer f g x xs d.1 (λ c lt h. passes c (let below : x < n = d.0 in omega arith) h) in
+    elim (bool_cases (g x)) [
+      | inl on ↦ let also : f x ≡ true = passes x d.0 on in rw (on, also) (omega arith)
+      | inr off ↦ elim (bool_cases (f x)) [
+        | inl was ↦ rw (off, was) (omega arith)
+        | inr too ↦ rw (off, too) rest
+      ]
+    ]
+
+one_more : (f : ℕ → Bool) (x : ℕ) (xs : List ℕ) → length (filter f (x ∷ xs)) ≤ length (filter f xs) + 1
+one_more f x xs = elim (bool_cases (f x)) [
+  | inl on ↦ rw on (omega arith)
+  | inr off ↦ rw off (omega arith)
+]
+
+-- REFUSED
+
+few_by : (late many : Bool) (n : ℕ) → (if late then Some (refusal.NotRising n) else if many then Some refusal.TooManyConsumers else None) ≡ None → many ≡ false
+few_by true many n h = absurd (some_none _ h)
+few_by false true n h = absurd (some_none _ h)
+few_by false false n h = refl
+
+-- a consumer starts only where fewer are live
+pub starts_few : (t : Tables) (c : ℕ) (request : Request) → denial t (event.Start c request) ≡ None → live t < 1024
+unfolding refusals.refusal_of
+starts_few t c request h =
+    let test : nat_le 1024 (live t) ≡ false = few_by (nat_le c t.last_start) (nat_le 1024 (live t)) t.last_start h in
+    grind (arith, nat_tests)
+
+live_by : (late on : Bool) → (if late then Some refusal.NoConsumer else if not on then Some refusal.Finished else None) ≡ None → on ≡ true
+live_by true on h = absurd (some_none _ h)
+live_by false true h = refl
+live_by false false h = absurd (some_none _ h)
+
+cancels_live : (t : Tables) (c : ℕ) → denial t (event.Cancel c) ≡ None → is_live (t.consumer c) ≡ true
+unfolding refusals.refusal_of
+cancels_live t c h = live_by (nat_lt t.last_start c) (is_live (t.consumer c)) h
+
+-- WHO IS OVER STAYS SO
+
+three_off : (a b c : Bool) → a ≡ false → b ≡ false → c ≡ false → (a || b || c) ≡ false
+three_off false false c p q r = r
+three_off false true c p q r = absurd (true_false q)
+three_off true b c p q r = absurd (true_false p)
+
+right_off : (a b : Bool) → b ≡ false → (a && b) ≡ false
+right_off true b off = off
+right_off false b off = refl
+
+module _ (limits : Limits) (t : Tables) (now : ℕ) (flaw : Flaw) (s : Sound t) (o : Owners t) (ev : Event) (goes : denial t ev ≡ None) where
+  abbrev e : Entry
+  e = entry_of limits t now ev flaw
+
+  abbrev now_on : Tables
+  now_on = after_accepted t e
+
+  module _ (c : ℕ) (k : Consumer) (row : t.consumer c ≡ Some k) (over : k.place ≡ place.Over) where
+    dead : is_live (t.consumer c) ≡ false
+    dead = ap is_live row ∙ ap is_live_place over
+
+    -- no exchange waits for it to hear its head
+    unawaited : (x : ℕ) (w : Exchange) → IsAwaiting x w k.place → ⊥
+    unawaited x w (owners.direct by at) = let no : place.Over ≡ place.Direct x = sym over ∙ at in cc
+    unawaited x w (owners.turn by at) = let no : place.Over ≡ place.Turn x = sym over ∙ at in cc
+    unawaited x w (owners.hole r lo hi how by aim at) = let no : place.Over ≡ place.Bound r lo hi how = sym over ∙ at in cc
+
+    unheard : (x : ℕ) (w : Exchange) → t.exchange x ≡ Some w → w.c ≡ c → w.is_open ≡ true → w.head ≡ None → ⊥
+    unheard x w w_row mine on bare = unawaited x w (waiter_as limits t now flaw s o ev goes c x k w row w_row mine on bare).at
+
+    put : starts_over t e c k ≡ false → now_on.consumer c ≡ Some (if starts_over t e c k then back_in_line now k else beside t e c k) → is_live (now_on.consumer c) ≡ false
+    put stays is = ap is_live is ∙ (rw stays (ap is_live_place over))
+
+    caused : StartsOverBy t e k → ⊥
+    caused (frames.by_doom doom waits) = false_true (sym (ap (waits_at t) over) ∙ waits)
+    caused (frames.by_going r kept at gone) = let no : place.Over ≡ place.Passed r kept = sym over ∙ at in cc
+
+    -- at another's event
+    apart : is_event_for t c ev ≡ false → is_live (now_on.consumer c) ≡ false
+    apart off = put (not_so (starts_over t e c k) (λ h. caused (starting_over_is_caused t e c k off h))) (standers_stay limits t now ev flaw e frames.whole c k row off)
+
+    -- at a fault of an exchange that was opened for it, which others read by now
+    unsent : (x : ℕ) → ev ≡ event.Fault x → starts_over t e c k ≡ false
+    unfolding starts_over case_of
+    unsent x here =
+        let none : sends_back (case_at t e) ≡ false = ap (λ (z : Event). sends_back (case_of t (has_loss e.acts) z)) here in
+        three_off _ _ _ (right_off (is_key (doomed t e) k.request.key) _ (ap (waits_at t) over)) (rw none refl) (ap (loses_what_it_waits_for t e c) over)
+
+    quiet : (x : ℕ) (z : Option Exchange) → t.exchange x ≡ z → ev ≡ event.Fault x → is_for z c ≡ true → by_fault c x z k ≡ k
+    quiet x None w_row here mine = refl
+    quiet x (Some w) w_row here mine = by_head w.head refl
+      where
+        number : w.c ≡ c
+        number = let test : nat_eq w.c c ≡ true = mine in grind (arith, nat_tests)
+
+        opened : w.is_open ≡ true
+        opened = fault_open_of limits t now flaw s o ev goes x w (sym (ap (denial t) here) ∙ goes) w_row
+
+        by_head : (h : Option Response) → w.head ≡ h → by_fault c x (Some w) k ≡ k
+        by_head None bare = absurd (unheard x w w_row number opened bare)
+        by_head (Some response) is = let some : is_none w.head ≡ false = ap (λ (q : Option Response). is_none q) is in rw (mine, some) refl
+
+    faulted : (x : ℕ) → ev ≡ event.Fault x → is_for (t.exchange x) c ≡ true → is_live (now_on.consumer c) ≡ false
+    faulted x here mine =
+        let heard : consumer_heard t e c ev k ≡ k = ap (λ (z : Event). consumer_heard t e c z k) here ∙ quiet x (t.exchange x) refl here mine in
+        let far = far_by limits t now ev flaw c (λ d want at. let no : event.Fault x ≡ event.Poll d want = sym here ∙ at in cc) e frames.whole in
+        put (unsent x here) (after_heard t e c k far heard (t.consumer c) row)
+
+    polled : (d want : ℕ) → denial t (event.Poll d want) ≡ None → is_live (t.consumer d) ≡ true
+    unfolding refusals.refusal_of
+    polled d want h = poll_live limits t now flaw s d want h
+
+    -- at its own event
+    own : (z : Event) → ev ≡ z → is_event_for t c z ≡ true → is_live (now_on.consumer c) ≡ false
+    own (event.Start d request) here mine =
+        let same : d ≡ c = (let test : nat_eq d c ≡ true = mine in grind (arith, nat_tests)) in
+        let lt : t.last_start < d = starts_later t d request (sym (ap (denial t) here) ∙ goes) in
+        absurd (none_some k (sym (s.numbered.lists.new_consumers c (omega arith)) ∙ row))
+    own (event.Poll d want) here mine =
+        let same : d ≡ c = (let test : nat_eq d c ≡ true = mine in grind (arith, nat_tests)) in
+        absurd (false_true (sym dead ∙ (sym (ap (λ n. is_live (t.consumer n)) same) ∙ polled d want (sym (ap (denial t) here) ∙ goes))))
+    own (event.Cancel d) here mine =
+        let same : d ≡ c = (let test : nat_eq d c ≡ true = mine in grind (arith, nat_tests)) in
+        absurd (false_true (sym dead ∙ (sym (ap (λ n. is_live (t.consumer n)) same) ∙ cancels_live t d (sym (ap (denial t) here) ∙ goes))))
+    own (event.Head x response) here mine = by_row (t.exchange x) refl mine
+      where
+        by_row : (z : Option Exchange) → t.exchange x ≡ z → is_for z c ≡ true → is_live (now_on.consumer c) ≡ false
+        by_row None w_row its = absurd (false_true its)
+        by_row (Some w) w_row its =
+            let number : w.c ≡ c = (let test : nat_eq w.c c ≡ true = its in grind (arith, nat_tests)) in
+            let new = is_new limits t now flaw s ev goes x response w here w_row in
+            absurd (unheard x w w_row number new.is_open new.bare)
+    own (event.Fault x) here mine = faulted x here mine
+    own (event.Piece x bytes) here mine = absurd (false_true mine)
+    own (event.End x) here mine = absurd (false_true mine)
+    own (event.Doom key) here mine = absurd (false_true mine)
+
+    pub stays_over : is_live (now_on.consumer c) ≡ false
+    stays_over = elim (bool_cases (is_event_for t c ev)) [ inl mine ↦ own ev refl mine | inr off ↦ apart off ]
+
+  unmade : (c : ℕ) → c ≤ t.last_start → (z : Event) → denial t z ≡ None → consumer_made c now z ≡ None
+  unmade c le (event.Start d request) h =
+      let lt : t.last_start < d = starts_later t d request h in
+      let off : nat_eq d c ≡ false = grind (arith, nat_tests) in
+      rw off refl
+  unmade c le (event.Poll d want) h = refl
+  unmade c le (event.Head x response) h = refl
+  unmade c le (event.Piece x bytes) h = refl
+  unmade c le (event.End x) h = refl
+  unmade c le (event.Fault x) h = refl
+  unmade c le (event.Cancel d) h = refl
+  unmade c le (event.Doom key) h = refl
+
+  still_none : (c : ℕ) → t.consumer c ≡ None → c ≤ t.last_start → now_on.consumer c ≡ None
+  unfolding consumer_after
+  still_none c row le = ap (consumer_after t e c) row ∙ unmade c le ev goes
+
+  -- who is live after an entry and started before it was live
+  was_live : (c : ℕ) (z : Option Consumer) → t.consumer c ≡ z → c ≤ t.last_start → is_live (now_on.consumer c) ≡ true → is_live (t.consumer c) ≡ true
+  was_live c None row le now_live = absurd (false_true (sym (ap is_live (still_none c row le)) ∙ now_live))
+  was_live c (Some k) row le now_live = by_place k.place refl
+    where
+      by_place : (p : Place) → k.place ≡ p → is_live (t.consumer c) ≡ true
+      by_place place.Over at = absurd (false_true (sym (stays_over c k row at) ∙ now_live))
+      by_place place.Line at = ap is_live row ∙ ap is_live_place at
+      by_place (place.Passed r kept) at = ap is_live row ∙ ap is_live_place at
+      by_place (place.Turn x) at = ap is_live row ∙ ap is_live_place at
+      by_place (place.Bound r lo hi how) at = ap is_live row ∙ ap is_live_place at
+      by_place (place.Direct x) at = ap is_live row ∙ ap is_live_place at
+      by_place (place.Down why) at = ap is_live row ∙ ap is_live_place at
+
+  -- HOW MANY
+
+  abbrev passes : ℕ → Bool
+  passes c = is_live (now_on.consumer c)
+
+  no_more : Descends (t.last_start + 1) t.starts → length (filter passes t.starts) ≤ live t
+  no_more d = fewer (λ c. is_live (t.consumer c)) passes (t.last_start + 1) t.starts d (λ c lt on. was_live c (t.consumer c) refl (omega arith) on)
+
+  few_kept : Descends (t.last_start + 1) t.starts → live t ≤ 1024 → live now_on ≤ 1024
+  few_kept d few = by_event ev goes
+    where
+      least : length (filter passes t.starts) ≤ 1024
+      least = let le : length (filter passes t.starts) ≤ live t = no_more d in omega arith
+
+      by_event : (z : Event) → denial t z ≡ None → length (filter passes (starts_after z t.starts)) ≤ 1024
+      by_event (event.Start c request) h =
+          let lt : live t < 1024 = starts_few t c request h in
+          let le : length (filter passes t.starts) ≤ live t = no_more d in
+          let one : length (filter passes (c ∷ t.starts)) ≤ length (filter passes t.starts) + 1 = one_more passes c t.starts in
+          omega arith
+      by_event (event.Poll c want) h = least
+      by_event (event.Head x response) h = least
+      by_event (event.Piece x bytes) h = least
+      by_event (event.End x) h = least
+      by_event (event.Fault x) h = least
+      by_event (event.Cancel c) h = least
+      by_event (event.Doom key) h = least
+
+-- IN RUNS
+
+record IsFew (limits : Limits) (t : Tables) : Type 0 where
+  starts : Descends (t.last_start + 1) t.starts
+  few : live t ≤ 1024
+
+few : OfRunsIn IsFew
+few = in_runs IsFew
+    (λ limits contents may. record { starts = tt; few = omega arith })
+    (λ limits t e later f. record { starts = f.starts; few = f.few })
+    (λ limits t now flaw later c f ev goes real. record { starts = starts_on t ev goes f.starts; few = few_kept limits t now flaw c.is_sound c.is_owned ev goes f.starts f.few })
+
+pub few_in_runs : OfRuns FewLive
+few_in_runs limits contents h may run = record { few = (few limits contents h may run).few }

@@ -1,0 +1,285 @@
+-- Beside who came alone others are bound only where that has neither an open exchange of its own nor a hole ahead: at each entry.
+use Rattle.std.proofs.Common.{◌≡◌, ◌⊎◌, inl, inr, ℕ, ◌<◌, Bool, true, false, Option, Some, None, refl, ap, sym, ◌∙◌, subst, arith}
+use Rattle.std.specs.Prelude.{is_some, is_none, ◌&&◌, ◌||◌}
+use Rattle.hc_event.specs.Filters.{Opening, opening_in}
+use Rattle.hc_event.specs.declared.event.Event.{Event}
+use Rattle.hc_event.specs.declared.event.Event.TheVariants as event
+use Rattle.hc_event.specs.declared.event.Response.{Response}
+use Rattle.hc_rules.specs.Needs.{route_of}
+use Rattle.hc_rules.specs.declared.need.Route.TheVariants as route
+use Rattle.hc_rules.specs.declared.room.Limits.{Limits}
+use Rattle.hc_model.specs.declared.place.Place.TheVariants as place
+use Rattle.hc_model.specs.declared.place.BoundBy.{BoundBy}
+use Rattle.hc_model.specs.ActFilters.{loses_in, Showing, showing_in}
+use Rattle.hc_model.specs.ConsumerRows.{consumer_heard, consumer_acted, by_opening, waiting}
+use Rattle.hc_model.specs.Currents.{current}
+use Rattle.hc_model.specs.Denials.{denial}
+use Rattle.hc_model.specs.Entries.{Entry}
+use Rattle.hc_model.specs.Exchanges.{is_open}
+use Rattle.hc_model.specs.ExchangeRows.{aim_from}
+use Rattle.hc_model.specs.Failures.{becomes_due}
+use Rattle.hc_model.specs.Flaws.{Flaw}
+use Rattle.hc_model.specs.Keys.{entry_of}
+use Rattle.hc_model.specs.Measures.{Measures}
+use Rattle.hc_model.specs.Owners.{Owners}
+use Rattle.hc_model.specs.Polls.{move_of}
+use Rattle.hc_model.specs.Reading.{is_written, own_open, offset, hi_of, bound_to, reads}
+use Rattle.hc_model.specs.Rows.{Tables, Exchange, Representation, Consumer}
+use Rattle.hc_model.specs.Sound.{Sound, IsBound, IsFirst}
+use Rattle.hc_model.specs.Sound as sound
+use Rattle.hc_model.specs.Tables.{after_accepted}
+use Rattle.hc_model.specs.Writers.{came_alone, may_write, has_more, lacks_some, exclusive, brings_body}
+use Rattle.hc_laws.proofs.AboutKeeps.{own_open_of, own_open_is}
+use Rattle.hc_model.proofs.ApartKeeps.{written_by}
+use Rattle.hc_model.proofs.Basics.{false_true, or_false, and_left, and_right, none_some}
+use Rattle.hc_model.proofs.BoundFrom.{BoundFrom, IsRow, IsShown, bound_from, place_inj}
+use Rattle.hc_model.proofs.BoundFrom as from
+use Rattle.hc_model.proofs.BoundKeeps.{shown_place_is}
+use Rattle.hc_model.proofs.Dues.{due_before}
+use Rattle.hc_model.proofs.ExchangeFrom.{ExchangeFrom, exchange_from}
+use Rattle.hc_model.proofs.ExchangeFrom as exchange
+use Rattle.hc_model.proofs.FirstKeeps.{is_new, is_opener, came_kept, open_free}
+use Rattle.hc_model.proofs.HoleLemmas.{bool_cases}
+use Rattle.hc_laws.proofs.LossBy.{IsReal}
+use Rattle.hc_model.proofs.Losses.{HasRest, exclusive_is, no_more, or_end, or_right}
+use Rattle.hc_model.proofs.OpenedAs as opened
+use Rattle.hc_model.proofs.OpensFrom.{hole_is, opens_hole}
+use Rattle.hc_model.proofs.OwnFrom.{OwnFrom, own_from}
+use Rattle.hc_model.proofs.OwnFrom as own
+use Rattle.hc_model.proofs.OwnersKeep.{is_opened}
+use Rattle.hc_model.proofs.Pens.{IsAtHole, same_row, bound_some, shares_source, writer_some}
+use Rattle.hc_model.proofs.PieceKeeps.{some_inj}
+use Rattle.hc_model.proofs.PollTree.{OpensHole}
+use Rattle.hc_model.proofs.PollTree as tree
+use Rattle.hc_model.proofs.RepFrom.{RepFrom, rep_from, IsKept, IsResumed}
+use Rattle.hc_model.proofs.RepFrom as rep
+use Rattle.hc_model.proofs.Said.{IsShowing, showing_by}
+use Rattle.hc_laws.proofs.ServedKeeps.{rest_by, still_rests, resumed_not}
+use Rattle.hc_model.proofs.ShownFrom.{shown_from}
+use Rattle.hc_model.proofs.Stops.{writer_about}
+use Rattle.hc_laws.proofs.ToBeShown.{heard_place}
+use Rattle.hc_laws.proofs.WriterEnds.{all_stored}
+
+-- it reads what is stored, and nothing comes for it
+pub record IsResting (t : Tables) (v : Representation) (k : Consumer) : Type 0 where
+  pub unowned : own_open t k ≡ None
+  pub rest : HasRest t v k
+
+pub record AreLone (t : Tables) : Type 0 where
+  pub lone : (r c d : ℕ) (v : Representation) (k u : Consumer) → t.representation r ≡ Some v → v.is_lost ≡ false → is_written t v ≡ false → IsFirst t r c → t.consumer c ≡ Some k → k.due ≡ None → IsBound t r d u → (d ≡ c → ⊥) → IsResting t v k
+
+pub all_three : (a b c : Bool) → a ≡ true → b ≡ true → c ≡ true → (a && b && c) ≡ true
+all_three a b c p q r = rw (p, q, r) refl
+
+-- where it isn't the exclusive writer
+pub resting_is : (t : Tables) (r c lo : ℕ) (hi : Option ℕ) (how : BoundBy) (v : Representation) (k : Consumer) → Sound t → t.consumer c ≡ Some k → k.place ≡ place.Bound r lo hi how → came_alone t (place.Bound r lo hi how) ≡ true → k.due ≡ None → is_written t v ≡ false → exclusive t r v ≡ None → IsResting t v k
+resting_is t r c lo hi how v k s row at alone none off free = elim (bool_cases (has_more t v k)) [
+  | inl more ↦
+      let may : may_write t v (Some k) ≡ true = all_three (came_alone t k.place) (is_none k.due) (has_more t v k) (ap (came_alone t) at ∙ alone) (ap (λ (q : Option Rattle.hc_event.specs.declared.act.Cause.Cause). is_none q) none) more in
+      absurd (none_some c (sym free ∙ exclusive_is t r c v k s (sound.is_bound lo hi how row at) off may))
+  | inr enough ↦
+      let known : is_some (hi_of t k.place) ≡ true = ap (λ p. is_some (hi_of t p)) at ∙ or_end hi _ (s.writes.known_end r c lo hi how k row at alone) in
+      record {
+        unowned = none_left (own_open t k) (or_left (is_some (own_open t k)) (lacks_some v (offset t k) (hi_of t k.place)) enough);
+        rest = no_more t v k (hi_of t k.place) refl known (or_right (is_some (own_open t k)) (lacks_some v (offset t k) (hi_of t k.place)) enough);
+      }
+]
+  where
+    or_left : (a b : Bool) → (a || b) ≡ false → a ≡ false
+    or_left false b h = refl
+    or_left true b h = h
+
+    none_left : (q : Option ℕ) → is_some q ≡ false → q ≡ None
+    none_left None h = refl
+    none_left (Some x) h = absurd (false_true (sym h))
+
+module _ (limits : Limits) (t : Tables) (now : ℕ) (flaw : Flaw) (s : Sound t) (o : Owners t) (m : Measures t) (was : AreLone t) (ev : Event) (goes : denial t ev ≡ None) (real : IsReal limits t now ev flaw) where
+  abbrev e : Entry
+  e = entry_of limits t now ev flaw
+
+  abbrev now_on : Tables
+  now_on = after_accepted t e
+
+  module _ (r : ℕ) (p : Representation) (after : now_on.representation r ≡ Some p) (fresh_now : p.is_lost ≡ false) (unwritten : is_written now_on p ≡ false) (c lo : ℕ) (hi : Option ℕ) (how : BoundBy) (k : Consumer) (after_row : now_on.consumer c ≡ Some k) (stands : k.place ≡ place.Bound r lo hi how) (none : k.due ≡ None) (came : came_alone now_on (place.Bound r lo hi how) ≡ true) where
+    -- IT WAS BOUND
+
+    module _ (a : Consumer) (v : Representation) (row : IsRow t e c r lo hi how a k) (at : a.place ≡ place.Bound r lo hi how) (there : t.representation r ≡ Some v) (kept : IsKept t e r v p) where
+      parts : (loses_in r e.acts ≡ false) × (v.is_lost ≡ false)
+      parts = or_false (loses_in r e.acts) v.is_lost (sym kept.lost_is ∙ fresh_now)
+
+      before : (a.due ≡ None) × (becomes_due t e c a ≡ None)
+      before = due_before t e c a (consumer_acted t e c (consumer_heard t e c ev a)) k row.is (ap reads stands) none
+
+      reader : IsBound t r c a
+      reader = sound.is_bound lo hi how row.row at
+
+      came_was : came_alone t (place.Bound r lo hi how) ≡ true
+      came_was = sym (came_kept limits t now flaw s ev goes r lo hi how (ap is_some there)) ∙ came
+
+      same_r : (q n : ℕ) (w : Representation) → IsAtHole t q c n w a → q ≡ r
+      same_r q n w hole = by_reader hole.is_reader
+        where
+          by_reader : IsBound t q c a → q ≡ r
+          by_reader (sound.is_bound b d g also at_q) = (place_inj q b d g r lo hi how (sym at_q ∙ at)).number
+
+      -- no writing was left to it, since nothing is lost
+      left_not : (y : ℕ) (q : Consumer) → t.consumer c ≡ Some q → own.IsLeft t e c y (consumer_heard t e c ev q).place → ⊥
+      left_not y q q_row l =
+          let brings_one : brings_body ev ≡ true = and_left _ _ (and_left _ _ l.loses) in
+          let placed : k.place ≡ (consumer_heard t e c ev a).place = heard_place limits t now flaw s o ev goes c r lo hi how a k (λ d want polls. false_true (sym (ap brings_body polls) ∙ brings_one)) row in
+          let one : q ≡ a = same_row (t.consumer c) q a q_row row.row in
+          let at_l : (consumer_heard t e c ev a).place ≡ place.Bound l.r l.lo l.hi l.how = ap (λ (b : Consumer). (consumer_heard t e c ev b).place) (sym one) ∙ l.at in
+          let number : l.r ≡ r = (place_inj l.r l.lo l.hi l.how r lo hi how (sym at_l ∙ (sym placed ∙ stands))).number in
+          false_true (sym parts.0 ∙ (ap (λ n. loses_in n e.acts) (sym number) ∙ and_right _ _ (and_left _ _ l.loses)))
+
+      -- nothing was opened for it, since it stands at no hole
+      opened_not : ((q n : ℕ) (w : Representation) → IsAtHole t q c n w a → ⊥) → (g : Opening) → opening_in e.acts ≡ Some g → g.c ≡ c → ⊥
+      opened_not no_hole g opens mine =
+          let by_poll = is_opened limits t now flaw s o ev goes g opens in
+          let one : by_poll.k ≡ a = same_row (t.consumer c) by_poll.k a (sym (ap t.consumer mine) ∙ by_poll.row) row.row in
+          by_way (subst (λ (b : Consumer). opened.Way t now c b g.need) one (subst (λ d. opened.Way t now d by_poll.k g.need) mine by_poll.way.way))
+        where
+          by_hole : (b d : ℕ) → OpensHole t c a b d → ⊥
+          by_hole b d (tree.first q w span hole is aims w_row nobody found lo_is hi_is) =
+              let same : r ≡ q = some_inj r q (sym (ap (aim_from t a.request.key) at) ∙ aims) in
+              bound_some t q c a s.numbered (subst (λ n. IsBound t n c a) same reader) nobody
+          by_hole b d (tree.later q n z w at_hole unheld lo_is hi_is) = no_hole q n w at_hole
+
+          by_way : opened.Way t now c a g.need → ⊥
+          by_way (opened.passes_by unbound way) = none_some r (sym unbound ∙ ap bound_to at)
+          by_way (opened.fetches unbound way cached) = none_some r (sym unbound ∙ ap bound_to at)
+          by_way (opened.fills y b span gap unbound way is_current b_row wants found need_is cached) = none_some r (sym unbound ∙ ap bound_to at)
+          by_way (opened.goes_on y b d f there_at way) =
+              let h = hole_is g.need way in
+              let opener = is_opener limits t now flaw s ev goes c a g row.row opens mine in
+              by_hole h.from h.to (opens_hole t c a g now opener.want s row.row opener.opening h.from h.to h.is)
+
+      -- so it has no open exchange, if it had none
+      unowned_now : ((y : ℕ) → own_open t a ≡ Some y → ⊥) → ((q n : ℕ) (w : Representation) → IsAtHole t q c n w a → ⊥) → own_open now_on k ≡ None
+      unowned_now had_none no_hole = by_own (own_open now_on k) refl
+        where
+          by_exchange : (y : ℕ) (z : Exchange) → a.own ≡ Some y → z.is_open ≡ true → ExchangeFrom t e y z → ⊥
+          by_exchange y z mine on (exchange.was w w_row same) = had_none y (own_open_is t a y (record { own = mine; w = w; row = w_row; opened = same.was_open on }))
+          by_exchange y z mine on (exchange.new q no_row opens here made) = false_true (sym (ap (λ (x : Option Exchange). is_some x) no_row) ∙ o.there c y a row.row mine)
+
+          by_from : (y : ℕ) (z : Exchange) → z.is_open ≡ true → now_on.exchange y ≡ Some z → OwnFrom t e c y k → ⊥
+          by_from y z on z_row (own.kept q its mine heard) = by_exchange y z (ap (λ (b : Consumer). b.own) (same_row (t.consumer c) a q row.row its.row) ∙ mine) on (exchange_from t e y (t.exchange y) z refl z_row)
+          by_from y z on z_row (own.opened q g its opens mine number) = opened_not no_hole g opens mine
+          by_from y z on z_row (own.left q its l) = left_not y q its.row l
+
+          by_own : (q : Option ℕ) → own_open now_on k ≡ q → q ≡ None
+          by_own None is = refl
+          by_own (Some y) is = let i = own_open_of now_on k y is in absurd (by_from y i.w i.opened i.row (own_from t e c y (t.consumer c) k refl after_row i.own))
+
+      -- its writing is over
+      by_writing : is_written t v ≡ true → (z : Option ℕ) → v.writer ≡ z → IsResting now_on p k
+      by_writing on None writer = absurd (writer_some t v on writer)
+      by_writing on (Some x) writer = record { unowned = unowned_now had_none no_hole; rest = by_open (is_open (now_on.exchange x)) refl }
+        where
+          had_none : (y : ℕ) → own_open t a ≡ Some y → ⊥
+          had_none y owned =
+              let one : y ≡ x = s.one_about r y x (s.writes.own_about r c y a reader owned) (writer_about t r x v s there on writer) in
+              o.apart r x c v a there on writer row.row ((own_open_of t a y owned).own ∙ ap Some one)
+
+          no_hole : (q n : ℕ) (w : Representation) → IsAtHole t q c n w a → ⊥
+          no_hole q n w hole =
+              let one : w ≡ v = same_row (t.representation r) w v (sym (ap t.representation (same_r q n w hole)) ∙ hole.row) there in
+              shares_source t q c w a w.writer hole.row hole.is_reader (ap (is_written t) one ∙ on) refl hole.no_source
+
+          by_writer : (p.writer ≡ v.writer) ⊎ IsResumed t e r v p.writer → p.writer ≡ Some x
+          by_writer (inl same) = same ∙ writer
+          by_writer (inr R) = absurd (resumed_not limits t now flaw s o m ev goes real r c lo hi how k p after after_row stands a v row at there kept before.0 before.1 on x writer R)
+
+          by_open : (b : Bool) → is_open (now_on.exchange x) ≡ b → HasRest now_on p k
+          by_open false off = rest_by limits t now flaw s o m ev goes real r c lo hi how k p after after_row stands (all_stored limits t now flaw s o m ev goes real r c x lo hi how a k v p row at stands there on writer before.1 kept (inl parts.0) off) hi refl
+          by_open true still = absurd (false_true (sym unwritten ∙ written_by now_on p x fresh_now (by_writer kept.writer_is) still))
+
+      -- it rests already
+      by_rest : IsResting t v a → IsResting now_on p k
+      by_rest i = record {
+        unowned = unowned_now (λ y owned. none_some y (sym i.unowned ∙ owned)) no_hole;
+        rest = still_rests limits t now flaw s o m ev goes real r c lo hi how k p after after_row stands a v row at there kept before.0 before.1 i.rest.hi i.rest.end i.rest.covered;
+      }
+        where
+          no_hole : (q n : ℕ) (w : Representation) → IsAtHole t q c n w a → ⊥
+          no_hole q n w hole =
+              let one : w ≡ v = same_row (t.representation r) w v (sym (ap t.representation (same_r q n w hole)) ∙ hole.row) there in
+              let missing : v.stored (offset t a) ≡ None = ap (λ (z : Representation). z.stored (offset t a)) (sym one) ∙ hole.missing in
+              let same : i.rest.hi ≡ n = same_row (hi_of t a.place) i.rest.hi n i.rest.end hole.end in
+              let under : offset t a < n = hole.before in
+              false_true (sym (ap is_some missing) ∙ i.rest.covered (offset t a) (omega arith) (omega arith))
+
+      stays_lone : (is_written t v ≡ false → IsResting t v a) → IsResting now_on p k
+      stays_lone rests = elim (bool_cases (is_written t v)) [ inl on ↦ by_writing on v.writer refl | inr off ↦ by_rest (rests off) ]
+
+      -- IN EACH WAY THE OTHER IS BOUND
+
+      old_lone : (d : ℕ) (b : Consumer) → IsBound t r d b → (d ≡ c → ⊥) → IsResting now_on p k
+      old_lone d b other apart = stays_lone (λ off. was.lone r c d v a b there parts.1 off (sound.first a lo hi how row.row at came_was) row.row before.0 other apart)
+
+      shown_lone : (d lo_d : ℕ) (hi_d : Option ℕ) (how_d : BoundBy) (b : Consumer) (z : Showing) → t.consumer d ≡ Some b → showing_in e.acts ≡ Some z → IsShown t e d r lo_d hi_d how_d z (by_opening t d (opening_in e.acts) (waiting t e d (consumer_heard t e d ev b))).place → IsResting now_on p k
+      shown_lone d lo_d hi_d how_d b z d_row is all =
+          let shows = showing_by limits t now flaw s ev goes z is in
+          let placed : (by_opening t d (opening_in e.acts) (waiting t e d (consumer_heard t e d ev b))).place ≡ b.place = subst (λ f. (by_opening t f (opening_in e.acts) (waiting t e f (consumer_heard t e f ev b))).place ≡ b.place) all.at (shown_place_is limits t now flaw s ev goes z b is) in
+          let free : reads b.place ≡ false = sym (ap reads placed) ∙ all.free in
+          let row_z : t.consumer z.c ≡ Some b = ap t.consumer all.at ∙ d_row in
+          let one : shows.k ≡ b = same_row (t.consumer z.c) shows.k b shows.poll.row row_z in
+          let show : IsShowing z (move_of t now shows.want z.c b) = subst (λ (q : Consumer). IsShowing z (move_of t now shows.want z.c q)) one shows.move in
+          let plan = shown_from t now z.c b shows.want z s row_z show free in
+          stays_lone (λ off. resting_is t r c lo hi how v a s row.row at came_was before.0 off (subst (λ n. exclusive t n v ≡ None) all.of_r (plan.lone v (ap t.representation all.of_r ∙ there) off)))
+
+    -- a head founds what wasn't there
+    unfounded : (x d : ℕ) (response : Response) (w : Exchange) (b : Consumer) → ev ≡ event.Head x response → t.exchange x ≡ Some w → x ≡ r → IsBound t r d b → ⊥
+    unfounded x d response w b here row of_r reader =
+        let no_row = sym (ap t.representation of_r) ∙ (is_new limits t now flaw s ev goes x response w here row).unfounded in
+        false_true (sym (ap (λ (z : Option Representation). is_some z) no_row) ∙ s.numbered.bound_to r d b reader)
+
+    head_opens : (x : ℕ) (response : Response) (g : Opening) → ev ≡ event.Head x response → opening_in e.acts ≡ Some g → ⊥
+    head_opens x response g here opens = let by_poll = is_opened limits t now flaw s o ev goes g opens in let no : event.Head x response ≡ event.Poll g.c by_poll.want = sym here ∙ by_poll.at in cc
+
+    nobody : (a : Consumer) (g : Opening) (f : ℕ) → t.consumer f ≡ Some a → opening_in e.acts ≡ Some g → g.c ≡ f → bound_to (waiting t e f (consumer_heard t e f ev a)).place ≡ None → route_of g.need ≡ route.Hole → current t (consumer_heard t e f ev a).request.key ≡ Some r → (d : ℕ) (b : Consumer) → IsBound t r d b → ⊥
+    nobody a g f row opens mine free way is d b reader = bound_some t r d b s.numbered reader (open_free limits t now flaw s ev goes f r a g row opens mine free way is)
+
+    shown_poll : (z : Showing) → showing_in e.acts ≡ Some z → (want : ℕ) × (ev ≡ event.Poll z.c want)
+    shown_poll z is = let shows = showing_by limits t now flaw s ev goes z is in (shows.want, shows.poll.at)
+
+    poll_inj : (b d f g : ℕ) → event.Poll b f ≡ event.Poll d g → b ≡ d
+    poll_inj b d f g is = cc
+
+    module _ (d lo_d : ℕ) (hi_d : Option ℕ) (how_d : BoundBy) (u : Consumer) (apart : d ≡ c → ⊥) where
+      by_stays : (a : Consumer) (v : Representation) → IsRow t e c r lo hi how a k → a.place ≡ place.Bound r lo hi how → t.representation r ≡ Some v → IsKept t e r v p → BoundFrom t e d r lo_d hi_d how_d u → IsResting now_on p k
+      by_stays a v row at there kept (from.stays b also at_too) = old_lone a v row at there kept d b (sound.is_bound lo_d hi_d how_d also.row at_too) apart
+      by_stays a v row at there kept (from.founds b x response w also here x_row mine of_r by_is all) = absurd (unfounded x c response w a here x_row of_r (sound.is_bound lo hi how row.row at))
+      by_stays a v row at there kept (from.opens b g also opens mine free way hole) = absurd (nobody b g d also.row opens mine free way hole.current_is c a (sound.is_bound lo hi how row.row at))
+      by_stays a v row at there kept (from.shows b z also is all) = shown_lone a v row at there kept d lo_d hi_d how_d b z also.row is all
+
+      by_rep : (a : Consumer) → IsRow t e c r lo hi how a k → a.place ≡ place.Bound r lo hi how → RepFrom t e r p → BoundFrom t e d r lo_d hi_d how_d u → IsResting now_on p k
+      by_rep a row at (rep.was v kept) other = by_stays a v row at kept.row kept other
+      by_rep a row at (rep.founded response w no_row here x_row on made) other = absurd (unfounded r c response w a here x_row refl (sound.is_bound lo hi how row.row at))
+
+      by_ways : BoundFrom t e c r lo hi how k → BoundFrom t e d r lo_d hi_d how_d u → IsResting now_on p k
+      by_ways (from.stays a row at) other = by_rep a row at (rep_from t e r (t.representation r) p refl after) other
+      by_ways (from.shows a z row is all) other = absurd (false_true (subst (λ (g : BoundBy). came_alone now_on (place.Bound r lo hi g) ≡ true) all.by_is came))
+      by_ways (from.founds a x response w row here x_row mine of_r by_is all) (from.stays b also at_too) = absurd (unfounded x d response w b here x_row of_r (sound.is_bound lo_d hi_d how_d also.row at_too))
+      by_ways (from.founds a x response w row here x_row mine of_r by_is all) (from.founds b y answer z also here_too y_row mine_too of_too by_too all_too) =
+          let same : y ≡ x = of_too ∙ sym of_r in
+          let one : z ≡ w = same_row (t.exchange x) z w (sym (ap t.exchange same) ∙ y_row) x_row in
+          absurd (apart (sym mine_too ∙ (ap (λ (q : Exchange). q.c) one ∙ mine)))
+      by_ways (from.founds a x response w row here x_row mine of_r by_is all) (from.opens b g also opens mine_too free way hole) = absurd (head_opens x response g here opens)
+      by_ways (from.founds a x response w row here x_row mine of_r by_is all) (from.shows b z also is all_too) = let polls = shown_poll z is in absurd (let no : event.Head x response ≡ event.Poll z.c polls.0 = sym here ∙ polls.1 in cc)
+      by_ways (from.opens a g row opens mine free way hole) (from.stays b also at_too) = absurd (nobody a g c row.row opens mine free way hole.current_is d b (sound.is_bound lo_d hi_d how_d also.row at_too))
+      by_ways (from.opens a g row opens mine free way hole) (from.founds b x response w also here x_row mine_too of_r by_is all) = absurd (head_opens x response g here opens)
+      by_ways (from.opens a g row opens mine free way hole) (from.opens b q also opens_too mine_too free_too way_too hole_too) =
+          absurd (apart (sym mine_too ∙ (ap (λ (z : Opening). z.c) (same_row (opening_in e.acts) q g opens_too opens) ∙ mine)))
+      by_ways (from.opens a g row opens mine free way hole) (from.shows b z also is all) =
+          let polls = shown_poll z is in
+          let by_poll = is_opened limits t now flaw s o ev goes g opens in
+          absurd (apart (sym all.at ∙ (poll_inj z.c g.c polls.0 by_poll.want (sym polls.1 ∙ by_poll.at) ∙ mine)))
+
+  by_number : (r c d : ℕ) (p : Representation) (k u : Consumer) → now_on.representation r ≡ Some p → p.is_lost ≡ false → is_written now_on p ≡ false → IsFirst now_on r c → now_on.consumer c ≡ Some k → k.due ≡ None → IsBound now_on r d u → (d ≡ c → ⊥) → IsResting now_on p k
+  by_number r c d p k u after fresh off (sound.first q lo hi how row at alone) row_k none (sound.is_bound lo_d hi_d how_d row_d at_d) apart =
+      let at_k : k.place ≡ place.Bound r lo hi how = sym (ap (λ (z : Consumer). z.place) (same_row (now_on.consumer c) q k row row_k)) ∙ at in
+      by_ways r p after fresh off c lo hi how k row_k at_k none alone d lo_d hi_d how_d u apart (bound_from t e c r lo hi how (t.consumer c) k refl row_k at_k) (bound_from t e d r lo_d hi_d how_d (t.consumer d) u refl row_d at_d)
+
+  pub lone_kept : AreLone now_on
+  lone_kept = record { lone = by_number }

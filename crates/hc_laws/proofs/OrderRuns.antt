@@ -1,0 +1,55 @@
+-- The lists stand in order in every run.
+use Rattle.std.proofs.Common.{◌≡◌, ℕ, ◌+◌, ◌<◌, ◌≤◌, List, [], ◌∷◌, Option, Some, None, refl, arith}
+use Rattle.hc_event.specs.Filters.{Opening, opening_in}
+use Rattle.hc_event.specs.declared.event.Event.{Event}
+use Rattle.hc_event.specs.declared.event.Event.TheVariants as event
+use Rattle.hc_rules.specs.declared.room.Limits.{Limits}
+use Rattle.hc_model.specs.Denials.{denial}
+use Rattle.hc_model.specs.Flaws.{Flaw}
+use Rattle.hc_model.specs.Keys.{entry_of}
+use Rattle.hc_model.specs.Laws.{OfRuns, OfRunsIn}
+use Rattle.hc_model.specs.Orders.{Descends, InOrder}
+use Rattle.hc_model.specs.Rows.{Tables}
+use Rattle.hc_model.specs.Sound.{Sound}
+use Rattle.hc_model.specs.Tables.{after_accepted, last_start_after, starts_after, opened_after, openings_after}
+use Rattle.hc_laws.proofs.FitsRuns.{fits}
+use Rattle.hc_model.proofs.NumbersKeep.{opens_next, starts_later}
+use Rattle.hc_laws.proofs.RunFacts.{in_runs}
+
+-- what rises along a run
+record Rises (limits : Limits) (t : Tables) : Type 0 where
+  starts : Descends (t.last_start + 1) t.starts
+  openings : Descends (t.opened + 1) t.openings
+
+pub descends_more : (n m : ℕ) (xs : List ℕ) → n ≤ m → Descends n xs → Descends m xs
+descends_more n m [] le d = tt
+descends_more n m (x ∷ xs) le d = (let lt : x < n = d.0 in omega arith, d.1)
+
+pub starts_on : (t : Tables) (ev : Event) → denial t ev ≡ None → Descends (t.last_start + 1) t.starts → Descends (last_start_after ev t.last_start + 1) (starts_after ev t.starts)
+starts_on t (event.Start c request) goes d = let lt : t.last_start < c = starts_later t c request goes in (omega arith, descends_more (t.last_start + 1) c t.starts (omega arith) d)
+starts_on t (event.Poll c want) goes d = d
+starts_on t (event.Head x response) goes d = d
+starts_on t (event.Piece x bytes) goes d = d
+starts_on t (event.End x) goes d = d
+starts_on t (event.Fault x) goes d = d
+starts_on t (event.Cancel c) goes d = d
+starts_on t (event.Doom key) goes d = d
+
+openings_on : (t : Tables) (z : Option Opening) → ((o : Opening) → z ≡ Some o → o.x ≡ t.opened + 1) → Descends (t.opened + 1) t.openings → Descends (opened_after z t.opened + 1) (openings_after z t.openings)
+openings_on t None next d = d
+openings_on t (Some o) next d = let number : o.x ≡ t.opened + 1 = next o refl in (omega arith, descends_more (t.opened + 1) o.x t.openings (omega arith) d)
+
+rises_kept : (limits : Limits) (t : Tables) (now : ℕ) (flaw : Flaw) → Sound t → Rises limits t → (ev : Event) → denial t ev ≡ None → Rises limits (after_accepted t (entry_of limits t now ev flaw))
+rises_kept limits t now flaw s d ev goes = record {
+  starts = starts_on t ev goes d.starts;
+  openings = openings_on t (opening_in (entry_of limits t now ev flaw).acts) (λ o is. opens_next limits t now flaw s ev o goes is) d.openings;
+}
+
+rises : OfRunsIn Rises
+rises = in_runs Rises (λ limits contents may. record { starts = tt; openings = tt }) (λ limits t e later d. record { starts = d.starts; openings = d.openings }) (λ limits t now flaw later c d ev goes real. rises_kept limits t now flaw c.is_sound d ev goes)
+
+pub order_in_runs : OfRuns InOrder
+order_in_runs limits contents h may run =
+    let d = rises limits contents h may run in
+    let f = fits limits contents h may run in
+    record { starts = d.starts; openings = d.openings; founded = f.once; used = f.used_once; used_founded = f.used_founded; founded_used = f.founded_used }

@@ -1,0 +1,232 @@
+-- A part that is read isn't empty, and who founded with the whole reads all of it, in every run.
+use Rattle.std.proofs.Common.{◌≡◌, ◌≢◌, inl, inr, ℕ, ◌+◌, ◌-◌, ◌<◌, ◌≤◌, Bool, true, false, Option, Some, None, refl, ap, sym, ◌∙◌, subst, arith}
+use Rattle.std.specs.Prelude.{is_some, nat_eq, nat_lt, min, ◌&&◌, if◌then◌else◌}
+use Rattle.std.specs.Option.{option_or}
+use Rattle.std.proofs.lemmas.Bool.Decides.{nat_tests}
+use Rattle.hc_range.specs.Spans.{resolved, IsInOrder}
+use Rattle.hc_range.specs.declared.range.Asked.{Asked}
+use Rattle.hc_range.specs.declared.range.Asked.TheVariants.{From, FromTo, Last}
+use Rattle.hc_range.specs.declared.range.Span.{Span}
+use Rattle.hc_event.specs.declared.event.Event.{Event}
+use Rattle.hc_event.specs.declared.event.Event.TheVariants as event
+use Rattle.hc_event.specs.declared.event.Request.{Request}
+use Rattle.hc_event.specs.declared.event.Response.{Response}
+use Rattle.hc_rules.specs.declared.heads.HeadCase.{HeadCase}
+use Rattle.hc_rules.specs.declared.heads.HeadCase.TheVariants as case
+use Rattle.hc_rules.specs.declared.request.Wanted.TheVariants as wanted
+use Rattle.hc_rules.specs.declared.room.Limits.{Limits}
+use Rattle.hc_rules.specs.Requests.{range_of, wanted_of, wanted_part}
+use Rattle.hc_model.specs.declared.place.BoundBy.{BoundBy}
+use Rattle.hc_model.specs.declared.place.BoundBy.TheVariants as by
+use Rattle.hc_model.specs.declared.place.Place.TheVariants as place
+use Rattle.hc_model.specs.ActFilters.{has_loss}
+use Rattle.hc_model.specs.Cases.{case_at, head_view}
+use Rattle.hc_model.specs.ConsumerRows.{consumer_heard, waiting}
+use Rattle.hc_model.specs.Denials.{denial}
+use Rattle.hc_model.specs.Entries.{Entry}
+use Rattle.hc_model.specs.ExchangeRows.{promise_in}
+use Rattle.hc_model.specs.Flaws.{Flaw}
+use Rattle.hc_model.specs.Heads.{founded_total}
+use Rattle.hc_model.specs.Keys.{entry_of}
+use Rattle.hc_model.specs.Laws.{OfRuns, OfRunsIn}
+use Rattle.hc_model.specs.Parts.{Parts}
+use Rattle.hc_model.specs.Planning.{is_ranged}
+use Rattle.hc_model.specs.RepresentationRows.{length_in}
+use Rattle.hc_model.specs.Rows.{Tables, Exchange, Representation, Consumer}
+use Rattle.hc_model.specs.Sound.{Sound}
+use Rattle.hc_model.specs.Sound as sound
+use Rattle.hc_model.specs.Tables.{after_accepted}
+use Rattle.hc_model.proofs.Basics.{false_true, none_some, some_row}
+use Rattle.hc_model.proofs.BoundFrom.{BoundFrom, IsRow, IsFounded, IsInterval, bound_from}
+use Rattle.hc_model.proofs.BoundFrom as from
+use Rattle.hc_laws.proofs.Bounded.{range_order}
+use Rattle.hc_model.proofs.ConsumerFilters.{acted, heard_same}
+use Rattle.hc_model.proofs.FirstKeeps.{case_of_head, whole_200, replaced_200, is_new}
+use Rattle.hc_model.proofs.FoundBy.{CaseBy}
+use Rattle.hc_model.proofs.FoundBy as cases
+use Rattle.hc_model.proofs.Pens.{same_row}
+use Rattle.hc_model.proofs.PieceKeeps.{some_inj}
+use Rattle.hc_model.proofs.RepFrom.{RepFrom, rep_from}
+use Rattle.hc_model.proofs.RepFrom as rep
+use Rattle.hc_laws.proofs.RunFacts.{in_runs}
+
+-- A RANGE THAT IS READ
+
+span_if : (b : Bool) (x span : Span) → (b ≡ true → x.lo < x.hi) → (if b then Some x else None) ≡ Some span → span.lo < span.hi
+span_if false x span proper is = absurd (none_some span is)
+span_if true x span proper is = subst (λ (z : Span). z.lo < z.hi) (some_inj x span is) (proper refl)
+
+resolved_some : (asked : Asked) (total : ℕ) (span : Span) → IsInOrder asked → resolved asked total ≡ Some span → span.lo < span.hi
+resolved_some (From first) total span order is = span_if (nat_lt first total) (record { lo = first; hi = total }) span (λ h. grind (arith, nat_tests)) is
+resolved_some (FromTo first last) total span order is = span_if (nat_lt first total) (record { lo = first; hi = min (last + 1) total }) span (λ h. let lt : first < total = grind (arith, nat_tests) in by_numbers first last total order lt) is
+  where
+    by_numbers : (a b n : ℕ) → a ≤ b → a < n → a < min (b + 1) n
+    by_numbers a b n p q = omega arith
+resolved_some (Last n) total span order is = span_if (nat_lt 0 n && nat_lt 0 total) (record { lo = total - n; hi = total }) span (λ h. both (nat_lt 0 n) (nat_lt 0 total) h refl refl) is
+  where
+    both : (a b : Bool) → (a && b) ≡ true → nat_lt 0 n ≡ a → nat_lt 0 total ≡ b → total - n < total
+    both true true h p q = let some : 0 < n = grind (arith, nat_tests) in let more : 0 < total = grind (arith, nat_tests) in omega arith
+    both true false h p q = absurd (false_true h)
+    both false b h p q = absurd (false_true h)
+
+part_some : (o : Option Span) (span : Span) → ((z : Span) → o ≡ Some z → z.lo < z.hi) → wanted_part o ≡ wanted.Interval span → span.lo < span.hi
+part_some None span proper is = absurd (let no : wanted.Unsatisfiable ≡ wanted.Interval span = is in cc)
+part_some (Some z) span proper is = let same : z ≡ span = cc in subst (λ (q : Span). q.lo < q.hi) same (proper z refl)
+
+pub wanted_some : (range : Option Asked) (o : Option ℕ) (span : Span) → is_some range ≡ true → ((asked : Asked) → range ≡ Some asked → IsInOrder asked) → wanted_of range o ≡ wanted.Interval span → span.lo < span.hi
+wanted_some range None span on order is = absurd (let no : wanted.TotalUnknown ≡ wanted.Interval span = is in cc)
+wanted_some None (Some n) span on order is = absurd (false_true on)
+wanted_some (Some asked) (Some n) span on order is = part_some (resolved asked n) span (λ z found. resolved_some asked n z (order asked refl) found) is
+
+interval_some : (request : Request) (o : Option ℕ) (lo hi : ℕ) → is_some (range_of request) ≡ true → IsInterval (wanted_of (range_of request) o) lo (Some hi) → lo < hi
+interval_some request o lo hi on i =
+    let lt : i.span.lo < i.span.hi = wanted_some (range_of request) o i.span on (range_order request) i.wanted_is in
+    let first : i.span.lo ≡ lo = i.from in
+    let last : i.span.hi ≡ hi = some_inj i.span.hi hi i.to in
+    omega arith
+
+-- AN ENTRY
+
+range_206 : (t : Tables) (lost : Bool) (w : Exchange) (response : Response) → CaseBy (head_view t lost w response) case.FoundsRange → response.status ≡ 206
+range_206 t lost w response (cases.founds_range way status fits kept good) = status
+
+whole_total : (w : Exchange) (response : Response) → response.status ≡ 200 → founded_total w response ≡ promise_in w response
+whole_total w response status = let off : nat_eq response.status 206 ≡ false = grind (arith, nat_tests, status) in rw off refl
+
+head_inj : (x y : ℕ) (a b : Response) → event.Head x a ≡ event.Head y b → a ≡ b
+head_inj x y a b is = cc
+
+hole_founding : (y : ℕ) → by.FirstHole y ≡ by.Founding → ⊥
+hole_founding y is = cc
+
+hole_plan : (y : ℕ) → by.FirstHole y ≡ by.Plan → ⊥
+hole_plan y is = cc
+
+founding_plan : by.Founding ≡ by.Plan → ⊥
+founding_plan is = cc
+
+module _ (limits : Limits) (t : Tables) (now : ℕ) (flaw : Flaw) (s : Sound t) (p : Parts t) (ev : Event) (goes : denial t ev ≡ None) where
+  abbrev e : Entry
+  e = entry_of limits t now ev flaw
+
+  abbrev now_on : Tables
+  now_on = after_accepted t e
+
+  request_is : (c r lo : ℕ) (hi : Option ℕ) (how : BoundBy) (k u : Consumer) → IsRow t e c r lo hi how k u → u.request ≡ k.request
+  request_is c r lo hi how k u row = ap (λ (z : Consumer). z.request) (sym row.is) ∙ (acted t e c k).request_is
+
+  ranged : (k u : Consumer) → u.request ≡ k.request → is_ranged u ≡ true → is_ranged k ≡ true
+  ranged k u same on = ap (λ (q : Request). is_some (range_of q)) (sym same) ∙ on
+
+  -- WHO FILLED A FIRST HOLE
+
+  first_by : (c r lo hi y : ℕ) (u : Consumer) → is_ranged u ≡ true → BoundFrom t e c r lo (Some hi) (by.FirstHole y) u → lo < hi
+  first_by c r lo hi y u on (from.stays k row at) = p.first c r lo hi y k row.row at (ranged k u (request_is c r lo (Some hi) (by.FirstHole y) k u row) on)
+  first_by c r lo hi y u on (from.founds k x response w row here exchange_row mine of_r by_is all) = absurd (hole_founding y by_is)
+  first_by c r lo hi y u on (from.opens k o row is mine free way hole) =
+      let h = waiting t e c (consumer_heard t e c ev k) in
+      let same : u.request ≡ h.request = request_is c r lo (Some hi) (by.FirstHole y) k u row ∙ sym (heard_same t e c ev k).request_is in
+      interval_some h.request hole.v.head.total lo hi (ranged h u same on) hole.interval
+  first_by c r lo hi y u on (from.shows k z row is all) = absurd (hole_plan y all.by_is)
+
+  -- WHO FOUNDED
+
+  -- the row of what an exchange founds
+  founded_row : (r x : ℕ) (response : Response) (w : Exchange) (v : Representation) → ev ≡ event.Head x response → t.exchange x ≡ Some w → x ≡ r → now_on.representation r ≡ Some v → (v.head.status ≡ response.status) × (v.head.total ≡ founded_total w response)
+  founded_row r x response w v here row of_r there = by_from (rep_from t e r (t.representation r) v refl there)
+    where
+      none : t.representation r ≡ None
+      none = ap t.representation (sym of_r) ∙ s.numbered.names.unfounded x w row (is_new limits t now flaw s ev goes x response w here row).bare
+
+      by_from : RepFrom t e r v → (v.head.status ≡ response.status) × (v.head.total ≡ founded_total w response)
+      by_from (rep.was q kept) = absurd (none_some q (sym none ∙ kept.row))
+      by_from (rep.founded answer z absent at exchange on is) =
+          let same : answer ≡ response = head_inj r x answer response (sym at ∙ here) in
+          let one : z ≡ w = same_row (t.exchange r) z w exchange (sym (ap t.exchange of_r) ∙ row) in
+          let status : v.head.status ≡ answer.status = ap (λ (q : Representation). q.head.status) (sym is) in
+          let total : v.head.total ≡ founded_total z answer = ap (λ (q : Representation). q.head.total) (sym is) in
+          (status ∙ ap (λ (q : Response). q.status) same, total ∙ (ap (λ (q : Exchange). founded_total q answer) one ∙ ap (founded_total w) same))
+
+  -- what was there keeps its status, and its length where that is known
+  kept_row : (r : ℕ) (v u : Representation) → t.representation r ≡ Some v → now_on.representation r ≡ Some u → (u.head.status ≡ v.head.status) × ((n : ℕ) → v.head.total ≡ Some n → u.head.total ≡ Some n)
+  kept_row r v u row there = by_from (rep_from t e r (t.representation r) u refl there)
+    where
+      by_total : (q : Representation) (n : ℕ) → q ≡ v → v.head.total ≡ Some n → rep.IsEnded t e r q u.head.total → u.head.total ≡ Some n
+      by_total q n same known ended = ended.total_is ∙ (ap (λ (z : Representation). option_or z.head.total (Some (length_in (t.exchange r)))) same ∙ rw known refl)
+
+      by_from : RepFrom t e r u → (u.head.status ≡ v.head.status) × ((n : ℕ) → v.head.total ≡ Some n → u.head.total ≡ Some n)
+      by_from (rep.was q kept) =
+          let one : q ≡ v = same_row (t.representation r) q v kept.row row in (
+            kept.status_is ∙ ap (λ (z : Representation). z.head.status) one,
+            λ n known. elim kept.total_is [
+              | inl same ↦ same ∙ (ap (λ (z : Representation). z.head.total) one ∙ known)
+              | inr ended ↦ by_total q n one known ended
+            ],
+          )
+      by_from (rep.founded answer z absent at exchange on is) = absurd (none_some v (sym absent ∙ row))
+
+  was_there : (c r lo hi : ℕ) (k : Consumer) → t.consumer c ≡ Some k → k.place ≡ place.Bound r lo (Some hi) by.Founding → (v : Representation) × (t.representation r ≡ Some v)
+  was_there c r lo hi k row at = some_row (t.representation r) (s.numbered.bound_to r c k (sound.is_bound lo (Some hi) by.Founding row at))
+
+  part_by : (c r lo hi : ℕ) (u : Consumer) (v : Representation) → now_on.representation r ≡ Some v → v.head.status ≡ 206 → is_ranged u ≡ true → BoundFrom t e c r lo (Some hi) by.Founding u → lo < hi
+  part_by c r lo hi u v there status on (from.stays k row at) =
+      let was = was_there c r lo hi k row.row at in
+      p.founded c r lo hi k was.0 row.row at was.1 (sym (kept_row r was.0 v was.1 there).0 ∙ status) (ranged k u (request_is c r lo (Some hi) by.Founding k u row) on)
+  part_by c r lo hi u v there status on (from.founds k x response w row here exchange_row mine of_r by_is all) = by_case (case_at t e) refl all
+    where
+      told : v.head.status ≡ response.status
+      told = (founded_row r x response w v here exchange_row of_r there).0
+
+      never : response.status ≡ 200 → lo < hi
+      never is = absurd (let no : 206 ≡ 200 = sym status ∙ (told ∙ is) in omega arith)
+
+      by_case : (g : Option HeadCase) → case_at t e ≡ g → IsFounded t e c r lo (Some hi) by.Founding x response w k g → lo < hi
+      by_case _ is (from.whole a b) = never (whole_200 t (has_loss e.acts) w response (case_of_head t e x response w case.FoundsWhole here exchange_row is))
+      by_case _ is (from.replaced a b) = never (replaced_200 t (has_loss e.acts) w response (case_of_head t e x response w case.FirstReplaced here exchange_row is))
+      by_case _ is (from.part i) = interval_some k.request _ lo hi (ranged k u (request_is c r lo (Some hi) by.Founding k u row) on) i
+  part_by c r lo hi u v there status on (from.opens k o row is mine free way hole) = absurd (hole_founding o.x (sym hole.by_is))
+  part_by c r lo hi u v there status on (from.shows k z row is all) = absurd (founding_plan all.by_is)
+
+  whole_by : (c r lo hi : ℕ) (u : Consumer) (v : Representation) → now_on.representation r ≡ Some v → v.head.status ≢ 206 → BoundFrom t e c r lo (Some hi) by.Founding u → v.head.total ≡ Some hi
+  whole_by c r lo hi u v there status (from.stays k row at) =
+      let was = was_there c r lo hi k row.row at in
+      let kept = kept_row r was.0 v was.1 there in
+      kept.1 hi (p.whole c r lo hi k was.0 row.row at was.1 (λ is. status (kept.0 ∙ is)))
+  whole_by c r lo hi u v there status (from.founds k x response w row here exchange_row mine of_r by_is all) = by_case (case_at t e) refl all
+    where
+      founded : (v.head.status ≡ response.status) × (v.head.total ≡ founded_total w response)
+      founded = founded_row r x response w v here exchange_row of_r there
+
+      by_case : (g : Option HeadCase) → case_at t e ≡ g → IsFounded t e c r lo (Some hi) by.Founding x response w k g → v.head.total ≡ Some hi
+      by_case _ is (from.whole a b) = founded.1 ∙ (whole_total w response (whole_200 t (has_loss e.acts) w response (case_of_head t e x response w case.FoundsWhole here exchange_row is)) ∙ sym b)
+      by_case _ is (from.replaced a b) = founded.1 ∙ (whole_total w response (replaced_200 t (has_loss e.acts) w response (case_of_head t e x response w case.FirstReplaced here exchange_row is)) ∙ sym b)
+      by_case _ is (from.part i) = absurd (status (founded.0 ∙ range_206 t (has_loss e.acts) w response (case_of_head t e x response w case.FoundsRange here exchange_row is)))
+  whole_by c r lo hi u v there status (from.opens k o row is mine free way hole) = absurd (hole_founding o.x (sym hole.by_is))
+  whole_by c r lo hi u v there status (from.shows k z row is all) = absurd (founding_plan all.by_is)
+
+  parts_kept : Parts now_on
+  parts_kept = record {
+    first = λ c r lo hi y u after at on. first_by c r lo hi y u on (bound_from t e c r lo (Some hi) (by.FirstHole y) (t.consumer c) u refl after at);
+    founded = λ c r lo hi u v after at there status on. part_by c r lo hi u v there status on (bound_from t e c r lo (Some hi) by.Founding (t.consumer c) u refl after at);
+    whole = λ c r lo hi u v after at there status. whole_by c r lo hi u v there status (bound_from t e c r lo (Some hi) by.Founding (t.consumer c) u refl after at);
+  }
+
+-- IN RUNS
+
+record HasParts (limits : Limits) (t : Tables) : Type 0 where
+  parts : Parts t
+
+has_parts : OfRunsIn HasParts
+has_parts = in_runs HasParts
+    (λ limits contents may. record {
+      parts = record {
+        first = λ c r lo hi y k row at on. absurd (none_some k row);
+        founded = λ c r lo hi k v row at there status on. absurd (none_some k row);
+        whole = λ c r lo hi k v row at there status. absurd (none_some k row);
+      };
+    })
+    (λ limits t e later h. record { parts = record { first = h.parts.first; founded = h.parts.founded; whole = h.parts.whole } })
+    (λ limits t now flaw later c h ev goes real. record { parts = parts_kept limits t now flaw c.is_sound h.parts ev goes })
+
+pub parts_in_runs : OfRuns Parts
+parts_in_runs limits contents h may run = (has_parts limits contents h may run).parts

@@ -1,0 +1,368 @@
+-- Who was shown a head reads, or is over, at each entry.
+use Rattle.std.proofs.Common.{◌≡◌, inl, inr, ℕ, ◌++◌, Bool, true, false, Option, Some, None, refl, ap, sym, ◌∙◌, subst}
+use Rattle.std.specs.Prelude.{if◌then◌else◌, is_none, is_some, ◌==◌, ◌&&◌, ◌||◌, not}
+use Rattle.hc_event.specs.Filters.{Opening, opening_in, leaves_in, shows_in}
+use Rattle.hc_event.specs.declared.event.Event.{Event}
+use Rattle.hc_event.specs.declared.event.Event.TheVariants as event
+use Rattle.hc_event.specs.declared.event.Response.{Response}
+use Rattle.hc_event.specs.declared.act.Wait.{Wait}
+use Rattle.hc_event.specs.declared.act.Wait.TheVariants as wait
+use Rattle.hc_event.specs.declared.act.Why.{Why}
+use Rattle.hc_rules.specs.declared.heads.HeadCase.{HeadCase}
+use Rattle.hc_rules.specs.HeadCases.{head_case}
+use Rattle.hc_rules.specs.declared.need.Route.TheVariants as route
+use Rattle.hc_rules.specs.declared.room.Limits.{Limits}
+use Rattle.hc_rules.specs.Needs.{route_of}
+use Rattle.hc_model.specs.declared.place.Place.{Place}
+use Rattle.hc_model.specs.declared.place.Place.TheVariants as place
+use Rattle.hc_model.specs.declared.place.BoundBy.TheVariants as by
+use Rattle.hc_model.specs.ActFilters.{has_loss, fails_in, misreads_in, leaver_in, Showing, showing_in, wait_in}
+use Rattle.hc_model.specs.Answers.{lost}
+use Rattle.hc_model.specs.Cases.{case_at, case_of, head_view, was_shown}
+use Rattle.hc_model.specs.ConsumerRows.{consumer_heard, by_head, by_fault, by_opening, shown_place, waiting, waiting_place, place_by_case}
+use Rattle.hc_model.specs.Denials.{denial}
+use Rattle.hc_model.specs.Dooms.{doomed, bypassed_by, is_key}
+use Rattle.hc_model.specs.Entries.{Entry}
+use Rattle.hc_model.specs.Exchanges.{exchange_at, is_for, is_headless}
+use Rattle.hc_model.specs.Flaws.{Flaw, flaw_in}
+use Rattle.hc_model.specs.Gone.{becomes_gone, goes_in}
+use Rattle.hc_model.specs.Keys.{entry_of}
+use Rattle.hc_model.specs.Laws.{Turns}
+use Rattle.hc_model.specs.Moves.{Shows, acts_of}
+use Rattle.hc_model.specs.Owners.{Owners, IsAwaiting}
+use Rattle.hc_model.specs.Owners as owners
+use Rattle.hc_model.specs.Polls.{move_of}
+use Rattle.hc_model.specs.Reading.{bound_to, reads}
+use Rattle.hc_model.specs.Rows.{Tables, Exchange, Representation, Consumer}
+use Rattle.hc_model.specs.Sound.{Sound}
+use Rattle.hc_model.specs.StartingOver.{starts_over, sends_back, waits_at, loses_what_it_waits_for}
+use Rattle.hc_model.specs.Tables.{after_accepted}
+use Rattle.hc_model.proofs.ActParts as parts
+use Rattle.hc_laws.proofs.AsideKeeps.{landing, new_unshown}
+use Rattle.hc_model.proofs.Basics.{false_true, and_left, and_right, or_cases, not_so}
+use Rattle.hc_model.proofs.FirstKeeps.{is_new, case_is, is_opener}
+use Rattle.hc_model.proofs.FoundBy.{CaseBy, case_by}
+use Rattle.hc_model.proofs.FoundBy as cases
+use Rattle.hc_model.proofs.HoleLemmas.{bool_cases}
+use Rattle.hc_model.proofs.OpenedAs.{opened_as}
+use Rattle.hc_model.proofs.PieceKeeps.{eq_cases}
+use Rattle.hc_model.proofs.Pens.{same_row}
+use Rattle.hc_laws.proofs.PlacesKept.{AreOwn, settled}
+use Rattle.hc_model.proofs.Said.{WaitsAs, waiting_by}
+use Rattle.hc_laws.proofs.ShownStays.{IsAside, way_bound, shows_not, unless_same}
+use Rattle.hc_model.proofs.TurnFacts.{IsTaken, AtPoll, seen, behind, far_behind, opens_behind, misreads_behind, at_poll}
+use Rattle.hc_model.proofs.TurnFacts as facts
+use Rattle.hc_model.proofs.TurnOpens as opens
+use Rattle.hc_model.proofs.TurnPlaces.{is_after}
+use Rattle.hc_model.proofs.WaitedAs.{IsForOthers, waited_as}
+use Rattle.hc_model.proofs.WaitedAs as waited
+use Rattle.hc_model.proofs.Waiters.{IsWaiter, waiter_of}
+
+-- it reads there, or is over
+abbrev pub IsReader : Place → Type 0
+IsReader (place.Bound r lo hi how) = Unit {0}
+IsReader (place.Direct x) = Unit {0}
+IsReader place.Over = Unit {0}
+IsReader _ = ⊥
+
+pub record AreReaders (t : Tables) : Type 0 where
+  pub shown : (c : ℕ) (k : Consumer) → t.consumer c ≡ Some k → k.shown ≡ true → IsReader k.place
+
+reads_reader : (p : Place) → reads p ≡ true → IsReader p
+reads_reader place.Line h = false_true h
+reads_reader (place.Passed r kept) h = false_true h
+reads_reader (place.Turn x) h = false_true h
+reads_reader (place.Bound r lo hi how) h = tt
+reads_reader (place.Direct x) h = tt
+reads_reader (place.Down why) h = false_true h
+reads_reader place.Over h = tt
+
+all_false : (p q r : Bool) → p ≡ false → q ≡ false → r ≡ false → ((p || q) || r) ≡ false
+all_false p q r a b d = rw (a, b, d) refl
+
+and_off : (p q : Bool) → q ≡ false → (p && q) ≡ false
+and_off true q off = off
+and_off false q off = refl
+
+self : (c : ℕ) → (c == c) ≡ true
+self c = elim (eq_cases c c) [
+  | inl hit ↦ hit.0
+  | inr off ↦ absurd (off.1 refl)
+]
+
+module _ (limits : Limits) (t : Tables) (now : ℕ) (flaw : Flaw) (s : Sound t) (o : Owners t) (a : IsAside t) (g : AreOwn t) (turns : Turns t) (readers : AreReaders t) (ev : Event) (goes : denial t ev ≡ None) where
+  abbrev e : Entry
+  e = entry_of limits t now ev flaw
+
+  abbrev now_on : Tables
+  now_on = after_accepted t e
+
+  -- WHO WAS SHOWN ONE
+
+  module _ (c : ℕ) (k : Consumer) (row : t.consumer c ≡ Some k) (shown : k.shown ≡ true) where
+    module _ (x : ℕ) (response : Response) (w : Exchange) (here : ev ≡ event.Head x response) (exchange_row : t.exchange x ≡ Some w) (mine : w.c ≡ c) where
+      got : (q : Consumer) × IsWaiter t w.c x q w
+      got = let new = is_new limits t now flaw s ev goes x response w here exchange_row in waiter_of limits t now flaw s o ev goes x w exchange_row new.is_open new.bare
+
+      at : IsAwaiting x w k.place
+      at = subst (λ (q : Consumer). IsAwaiting x w q.place) (same_row (t.consumer c) got.0 k (sym (ap t.consumer mine) ∙ got.1.row) row) got.1.at
+
+      turn_not : route_of w.need ≡ route.Turn → IsAwaiting x w k.place → ⊥
+      turn_not way (owners.direct it stands) = let no : route.Direct ≡ route.Turn = sym it ∙ way in cc
+      turn_not way (owners.turn it stands) = a.unturned c x k row stands shown
+      turn_not way (owners.hole r lo hi how it aim stands) = let no : route.Hole ≡ route.Turn = sym it ∙ way in cc
+
+      direct_not : route_of w.need ≡ route.Direct → IsAwaiting x w k.place → ⊥
+      direct_not way (owners.direct it stands) =
+          let h = a.apart.headed c x k row stands shown in
+          let one : h.w ≡ w = same_row (t.exchange x) h.w w h.row exchange_row in
+          false_true (sym (ap (λ (q : Option Response). is_some q) (ap (λ (q : Exchange). q.head) one ∙ got.1.bare)) ∙ h.headed)
+      direct_not way (owners.turn it stands) = let no : route.Turn ≡ route.Direct = sym it ∙ way in cc
+      direct_not way (owners.hole r lo hi how it aim stands) = let no : route.Hole ≡ route.Direct = sym it ∙ way in cc
+
+      unshown_not : was_shown (t.consumer w.c) ≡ false → ⊥
+      unshown_not off = false_true (sym off ∙ (ap was_shown (ap t.consumer mine ∙ row) ∙ shown))
+
+      abbrev view : Rattle.hc_rules.specs.declared.heads.HeadView.HeadView
+      view = head_view t (has_loss e.acts) w response
+
+      -- its head leaves it where it is, and doesn't send it back
+      by_case : (q : HeadCase) → CaseBy view q → (place_by_case x response w k (Some q) ≡ k.place) × (sends_back (Some q) ≡ false)
+      by_case _ (cases.direct_bad way h) = absurd (direct_not way at)
+      by_case _ (cases.direct_taken way) = absurd (direct_not way at)
+      by_case _ (cases.turn_bad way h) = absurd (turn_not way at)
+      by_case _ (cases.validated way h d l) = absurd (turn_not way at)
+      by_case _ (cases.not_validated way h) = absurd (turn_not way at)
+      by_case _ (cases.turn_server_error way) = absurd (turn_not way at)
+      by_case _ (cases.founds_whole way h l f) = absurd (turn_not way at)
+      by_case _ (cases.founds_range way h f l d) = absurd (turn_not way at)
+      by_case _ (cases.passes_by way) = absurd (turn_not way at)
+      by_case _ (cases.first_bad way off h) = absurd (unshown_not off)
+      by_case _ (cases.first_joins way off h f) = absurd (unshown_not off)
+      by_case _ (cases.first_server_error way off) = absurd (unshown_not off)
+      by_case _ (cases.first_changed way off) = absurd (unshown_not off)
+      by_case _ (cases.first_replaced way off h l f) = absurd (unshown_not off)
+      by_case _ (cases.first_passes_by way off) = absurd (unshown_not off)
+      by_case _ (cases.later_bad way on h) = (refl, refl)
+      by_case _ (cases.later_joins way on h f) = (refl, refl)
+      by_case _ (cases.later_changed way on) = (refl, refl)
+
+      case_here : case_at t e ≡ Some (head_case view)
+      case_here = case_is t e x response w here exchange_row
+
+      pub head_same : place_by_case x response w k (case_at t e) ≡ k.place
+      head_same = ap (place_by_case x response w k) case_here ∙ (by_case (head_case view) (case_by view)).0
+
+      unsent : sends_back (case_at t e) ≡ false
+      unsent = ap sends_back case_here ∙ (by_case (head_case view) (case_by view)).1
+
+    reader : IsReader k.place
+    reader = readers.shown c k row shown
+
+    -- IT DOESN'T START OVER
+
+    waits_not : (p : Place) → k.place ≡ p → IsReader p → waits_at t p ≡ false
+    waits_not place.Line is on = absurd on
+    waits_not (place.Passed r kept) is on = absurd on
+    waits_not (place.Turn x) is on = absurd on
+    waits_not (place.Bound r lo hi by.Founding) is on = refl
+    waits_not (place.Bound r lo hi (by.FirstHole y)) is on = let f = turns.first_hole c r lo y hi k row is shown in ap is_headless f.1 ∙ f.2
+    waits_not (place.Bound r lo hi by.Plan) is on = refl
+    waits_not (place.Direct x) is on = refl
+    waits_not (place.Down why) is on = absurd on
+    waits_not place.Over is on = refl
+
+    loses_not : (p : Place) → IsReader p → loses_what_it_waits_for t e c p ≡ false
+    loses_not place.Line on = absurd on
+    loses_not (place.Passed r kept) on = absurd on
+    loses_not (place.Turn x) on = absurd on
+    loses_not (place.Bound r lo hi how) on = refl
+    loses_not (place.Direct x) on = refl
+    loses_not (place.Down why) on = absurd on
+    loses_not place.Over on = refl
+
+    sent_by : (v : Event) → ev ≡ v → sends_back (case_of t (has_loss e.acts) v) ≡ true → is_for (exchange_at t v) c ≡ true → sends_back (case_at t e) ≡ true → ⊥
+    unfolding case_of
+    sent_by (event.Start d request) here sends it also = false_true sends
+    sent_by (event.Poll d want) here sends it also = false_true sends
+    sent_by (event.Head x response) here sends it also = by_row (t.exchange x) refl it
+      where
+        by_row : (z : Option Exchange) → t.exchange x ≡ z → is_for z c ≡ true → ⊥
+        by_row None exchange_row h = false_true h
+        by_row (Some q) exchange_row h = elim (eq_cases q.c c) [
+          | inl hit ↦ false_true (sym (unsent x response q here exchange_row hit.1) ∙ also)
+          | inr off ↦ false_true (sym off.0 ∙ h)
+        ]
+    sent_by (event.Piece x bytes) here sends it also = false_true sends
+    sent_by (event.End x) here sends it also = false_true sends
+    sent_by (event.Fault x) here sends it also = false_true sends
+    sent_by (event.Cancel d) here sends it also = false_true sends
+    sent_by (event.Doom key) here sends it also = false_true sends
+
+    not_over : starts_over t e c k ≡ false
+    unfolding starts_over
+    not_over = all_false _ _ _
+        (and_off (is_key (doomed t e) k.request.key) (waits_at t k.place) (waits_not k.place refl reader))
+        (not_so _ (λ h. sent_by ev refl (and_left _ _ h) (and_right _ _ h) (and_left _ _ h)))
+        (loses_not k.place reader)
+
+    -- WHERE IT STANDS
+
+    head_reader : (x : ℕ) (response : Response) (z : Option Exchange) → ev ≡ event.Head x response → t.exchange x ≡ z → IsReader (by_head t e c x response z k).place
+    head_reader x response None here exchange_row = reader
+    head_reader x response (Some w) here exchange_row = elim (eq_cases w.c c) [
+      | inr off ↦ rw off.0 reader
+      | inl mine ↦ rw mine.0 (subst IsReader (sym (head_same x response w here exchange_row mine.1)) reader)
+    ]
+
+    fault_reader : (x : ℕ) (z : Option Exchange) → IsReader (by_fault c x z k).place
+    fault_reader x None = reader
+    fault_reader x (Some w) = elim (bool_cases (w.c == c && is_none w.head && not k.shown)) [
+      | inl hit ↦ absurd (false_true (sym (ap not shown) ∙ and_right _ _ hit))
+      | inr off ↦ rw off reader
+    ]
+
+    heard_reader : (v : Event) → ev ≡ v → IsReader (consumer_heard t e c v k).place
+    heard_reader (event.Start d request) here = reader
+    heard_reader (event.Poll d want) here = reader
+    heard_reader (event.Head x response) here = head_reader x response (t.exchange x) here refl
+    heard_reader (event.Piece x bytes) here = reader
+    heard_reader (event.End x) here = reader
+    heard_reader (event.Fault x) here = fault_reader x (t.exchange x)
+    heard_reader (event.Cancel d) here = elim (bool_cases (d == c)) [
+      | inl hit ↦ rw hit tt
+      | inr off ↦ rw off reader
+    ]
+    heard_reader (event.Doom key) here = reader
+
+    told_not : (q : Wait) → IsForOthers q → wait_in c e.acts ≡ Some q → ⊥
+    told_not q others told =
+        let by_poll = waiting_by limits t now flaw s ev goes c q told in
+        let one : by_poll.k ≡ k = same_row (t.consumer c) by_poll.k k by_poll.poll.row row in
+        let waits : WaitsAs q (move_of t now by_poll.want c k) = subst (λ (p : Consumer). WaitsAs q (move_of t now by_poll.want c p)) one by_poll.move in
+        false_true (sym (waited_as t now c k q others by_poll.want s row waits).unshown ∙ shown)
+
+    waits_reader : (h : Consumer) (q : Option Wait) → wait_in c e.acts ≡ q → IsReader h.place → IsReader (waiting_place t h q)
+    waits_reader h None told on = on
+    waits_reader h (Some (wait.Turn d)) told on = absurd (told_not (wait.Turn d) (waited.turn d) told)
+    waits_reader h (Some (wait.Busy d)) told on = absurd (told_not (wait.Busy d) (waited.busy d) told)
+    waits_reader h (Some (wait.Head x)) told on = on
+    waits_reader h (Some (wait.Body x)) told on = on
+
+    abbrev stood : Consumer
+    stood = waiting t e c (consumer_heard t e c ev k)
+
+    opens_reader : (z : Option Opening) → opening_in e.acts ≡ z → IsReader stood.place → IsReader (by_opening t c z stood).place
+    opens_reader None is on = on
+    opens_reader (Some p) is on = elim (eq_cases p.c c) [
+      | inr off ↦ rw off.0 on
+      | inl mine ↦
+          let op = is_opener limits t now flaw s ev goes c k p row is mine.1 in
+          let way = opened_as t now c k op.want p s row op.opening in
+          let b = way_bound limits t now flaw s o ev goes a c k row shown p way.way way.unshown in
+          rw mine.0 (subst IsReader (sym (unless_same (bound_to stood.place) b.0 stood.place _ (ap bound_to op.place_is ∙ b.1))) on)
+    ]
+
+    shows_reader : (p : Place) (z : Option Showing) → showing_in e.acts ≡ z → IsReader p → IsReader (shown_place c z p)
+    shows_reader p None is on = on
+    shows_reader p (Some z) is on = elim (eq_cases z.c c) [
+      | inr off ↦ rw off.0 on
+      | inl mine ↦ absurd (shows_not limits t now flaw s o ev goes a c k row shown z is mine.1)
+    ]
+
+    left_reader : (leaves : Bool) (p : Place) → IsReader p → IsReader (if leaves then place.Over else p)
+    left_reader true p on = tt
+    left_reader false p on = on
+
+    shown_reader : (u : Consumer) → now_on.consumer c ≡ Some u → IsReader u.place
+    shown_reader u after =
+        let is = settled limits t now flaw s o a g ev goes c k u row after not_over in
+        subst (λ (q : Consumer). IsReader q.place) is
+        (left_reader (leaves_in c e.acts) _ (shows_reader _ (showing_in e.acts) refl (opens_reader (opening_in e.acts) refl (waits_reader (consumer_heard t e c ev k) (wait_in c e.acts) refl (heard_reader ev refl)))))
+
+  -- WHO IS SHOWN ONE
+
+  module _ (taken : IsTaken limits t e) (c : ℕ) (k : Consumer) (row : t.consumer c ≡ Some k) where
+    module _ (want r lo : ℕ) (hi : Option ℕ) (why : Why) (head : Response) (at : ev ≡ event.Poll c want) (all : e.acts ≡ acts_of c (Shows r why head lo hi) ++ behind limits t e taken) (saw : (seen limits t e taken).acts ≡ acts_of c (Shows r why head lo hi) ++ lost (flaw_in e.acts)) where
+      nobody : leaver_in (seen limits t e taken).acts ≡ None
+      nobody = ap leaver_in saw ∙ parts.leaver_lost (flaw_in e.acts)
+
+      stays_there : (q : ℕ) (v : Representation) → becomes_gone t e q v ≡ false
+      stays_there q v = opens.goes_none limits t e taken c want at nobody q v (ap bypassed_by (ap opening_in all ∙ opens_behind limits t e taken)) (ap (misreads_in q) all ∙ misreads_behind limits t e taken q)
+
+      goes_not : (q : ℕ) (z : Option Representation) → goes_in t e q z ≡ false
+      goes_not q None = refl
+      goes_not q (Some v) = stays_there q v
+
+      loses_none : (p : Place) → loses_what_it_waits_for t e c p ≡ false
+      loses_none place.Line = refl
+      loses_none (place.Passed q kept) = ap (λ b. b && not (fails_in c e.acts)) (goes_not q (t.representation q))
+      loses_none (place.Turn x) = refl
+      loses_none (place.Bound q l h how) = refl
+      loses_none (place.Direct x) = refl
+      loses_none (place.Down cause) = refl
+      loses_none place.Over = refl
+
+      sends_none : sends_back (case_at t e) ≡ false
+      unfolding case_of
+      sends_none = ap (λ v. sends_back (case_of t (has_loss e.acts) v)) at
+
+      stays : starts_over t e c k ≡ false
+      unfolding starts_over
+      stays = all_false _ _ _
+          (ap (λ z. is_key z k.request.key && waits_at t k.place) (opens.doom_none limits t e taken c want at nobody))
+          (ap (λ b. b && is_for (exchange_at t ev) c) sends_none)
+          (loses_none k.place)
+
+      showing : showing_in e.acts ≡ Some (record { c = c; r = r; lo = lo; hi = hi })
+      showing = ap showing_in all
+
+      shown_by : (p : Place) → IsReader (shown_place c (Some (record { c = c; r = r; lo = lo; hi = hi })) p)
+      shown_by p = elim (bool_cases (reads p)) [
+        | inl old ↦ rw (self c, old) (reads_reader p old)
+        | inr free ↦ rw (self c, free) tt
+      ]
+
+      lands : (u : Consumer) → now_on.consumer c ≡ Some u → IsReader u.place
+      lands u after =
+          let is = settled limits t now flaw s o a g ev goes c k u row after stays in
+          subst (λ (q : Consumer). IsReader q.place) is
+          (left_or (leaves_in c e.acts) _ (subst (λ z. IsReader (shown_place c z (by_opening t c (opening_in e.acts) (waiting t e c (consumer_heard t e c ev k))).place)) (sym showing) (shown_by _)))
+        where
+          left_or : (leaves : Bool) (p : Place) → IsReader p → IsReader (if leaves then place.Over else p)
+          left_or true p on = tt
+          left_or false p on = on
+
+    poll_inj : (c want d n : ℕ) → event.Poll c want ≡ event.Poll d n → want ≡ n
+    poll_inj c want d n is = cc
+
+    landed : (u : Consumer) → now_on.consumer c ≡ Some u → k.shown ≡ false → u.shown ≡ true → IsReader u.place
+    landed u after off on =
+        let l = landing limits t now flaw s o ev goes c k u row after off on in
+        by_poll l.want l.r l.lo l.hi l.why l.head l.at l.move_is (at_poll limits t e taken c l.want k s turns row l.at)
+      where
+        shows : shows_in c e.acts ≡ true
+        shows = elim (or_cases (shows_in c e.acts) k.shown (sym (is_after t e c k u row after).shown ∙ on)) [
+          | inl here ↦ here
+          | inr before ↦ absurd (false_true (sym off ∙ before))
+        ]
+
+        by_poll : (want r lo : ℕ) (hi : Option ℕ) (why : Why) (head : Response) → ev ≡ event.Poll c want → move_of t now want c k ≡ Shows r why head lo hi → AtPoll limits t e taken c k → IsReader u.place
+        by_poll want r lo hi why head at move_is (facts.moves_on n m here m_is does all saw) =
+            let same : want ≡ n = poll_inj c want c n (sym at ∙ here) in
+            let is : m ≡ Shows r why head lo hi = m_is ∙ (sym (ap (λ z. move_of t now z c k) same) ∙ move_is) in
+            lands want r lo hi why head at (all ∙ ap (λ z. acts_of c z ++ behind limits t e taken) is) (saw ∙ ap (λ z. acts_of c z ++ lost (flaw_in e.acts)) is) u after
+        by_poll want r lo hi why head at move_is (facts.misreads n q here all saw) =
+            absurd (false_true (sym (ap (shows_in c) all ∙ (far_behind limits t e taken c).shows) ∙ shows))
+
+  module _ (taken : IsTaken limits t e) where
+    by_shown : (c : ℕ) (k u : Consumer) (b : Bool) → t.consumer c ≡ Some k → k.shown ≡ b → now_on.consumer c ≡ Some u → u.shown ≡ true → IsReader u.place
+    by_shown c k u true row shown after on = shown_reader c k row shown u after
+    by_shown c k u false row off after on = landed taken c k row u after off on
+
+    by_row : (c : ℕ) (u : Consumer) (q : Option Consumer) → t.consumer c ≡ q → now_on.consumer c ≡ Some u → u.shown ≡ true → IsReader u.place
+    by_row c u None none after on = absurd (false_true (sym (new_unshown t e c (t.consumer c) u none after) ∙ on))
+    by_row c u (Some k) row after on = by_shown c k u k.shown row refl after on
+
+    pub readers_kept : AreReaders now_on
+    readers_kept = record { shown = λ c u after on. by_row c u (t.consumer c) refl after on }

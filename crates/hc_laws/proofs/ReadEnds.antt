@@ -1,0 +1,422 @@
+-- Who is told the end was given all up to it.
+use Rattle.std.proofs.Common.{◌≡◌, inl, inr, ℕ, ◌+◌, ◌-◌, ◌<◌, ◌≤◌, List, [], ◌∷◌, length, Bool, true, false, Option, Some, None, refl, ap, sym, ◌∙◌, subst, arith}
+use Rattle.std.specs.Prelude.{is_some, nat_le, nat_lt, ◌&&◌, if◌then◌else◌}
+use Rattle.std.specs.Option.{option_or}
+use Rattle.std.proofs.lemmas.Bool.Decides.{nat_tests}
+use Rattle.hc_range.specs.declared.range.Span.{Span}
+use Rattle.hc_sparse.specs.Cells.{Cell}
+use Rattle.hc_sparse.specs.declared.run.Run.{Run}
+use Rattle.hc_event.specs.Filters.{is_denied}
+use Rattle.hc_event.specs.declared.event.Event.{Event}
+use Rattle.hc_event.specs.declared.event.Request.{Request}
+use Rattle.hc_event.specs.declared.event.Response.{Response}
+use Rattle.hc_event.specs.declared.act.Act.{Act}
+use Rattle.hc_event.specs.declared.act.Act.TheVariants as act
+use Rattle.hc_event.specs.declared.act.Cause.{Cause}
+use Rattle.hc_event.specs.declared.act.Cause.TheVariants as cause
+use Rattle.hc_event.specs.declared.act.Wait.TheVariants as wait
+use Rattle.hc_event.specs.declared.act.Why.{Why}
+use Rattle.hc_rules.specs.declared.length.Length.{Length}
+use Rattle.hc_rules.specs.declared.length.Length.TheVariants as told
+use Rattle.hc_rules.specs.declared.plan.Plan.{Plan}
+use Rattle.hc_rules.specs.declared.plan.Plan.TheVariants as plan
+use Rattle.hc_rules.specs.declared.reading.ReadView.{ReadView}
+use Rattle.hc_rules.specs.declared.room.Limits.{Limits}
+use Rattle.hc_rules.specs.Lengths.{base_of, promise_of}
+use Rattle.hc_rules.specs.Plans.{plan_of}
+use Rattle.hc_rules.specs.Readings.{read_step, is_at_end, stored_or, held_or, fails_or, waits_or, opens}
+use Rattle.hc_model.specs.declared.place.BoundBy.{BoundBy}
+use Rattle.hc_model.specs.declared.place.BoundBy.TheVariants as by
+use Rattle.hc_model.specs.declared.place.Place.{Place}
+use Rattle.hc_model.specs.declared.place.Place.TheVariants as place
+use Rattle.hc_model.specs.Answers.{accepted, said}
+use Rattle.hc_model.specs.Beginnings.{may_begin}
+use Rattle.hc_model.specs.Currents.{total_in}
+use Rattle.hc_model.specs.Entries.{Entry, History, Contents}
+use Rattle.hc_model.specs.Exchanges.{base, promised, length_by}
+use Rattle.hc_model.specs.Exchanges as exchanges
+use Rattle.hc_model.specs.Flaws.{Flaw, flaw_in}
+use Rattle.hc_model.specs.Histories.{Shown, shown_of, given_of}
+use Rattle.hc_model.specs.Laws.{OfRuns}
+use Rattle.hc_model.specs.Measures.{Measures}
+use Rattle.hc_model.specs.Moves as moves
+use Rattle.hc_model.specs.Moves.{Move, Nothing, Asks, Opens, Shows, Gives, Ends, Fails, acts_of, gives, waits_for, opens_hole, shows_stored}
+use Rattle.hc_model.specs.Planning.{plan_move, plan_view, binds_current}
+use Rattle.hc_model.specs.Polls.{move_of, shows_at, shows_bound, shows_direct, shows_answer, has_joined}
+use Rattle.hc_model.specs.Reading.{reads, lo_of, hi_of, offset, base_in, end_in, end_of_direct}
+use Rattle.hc_model.specs.Reads.{ReadsAct, Says, EndsWell, Holds, IsEnd, body_of, cell_by, direct_cell, answer_cell, end_by}
+use Rattle.hc_model.specs.Reads as spec
+use Rattle.hc_model.specs.Rows.{Tables, Exchange, Representation, Consumer}
+use Rattle.hc_model.specs.Runs.{IsRun, IsOwed}
+use Rattle.hc_model.specs.Sound.{Sound}
+use Rattle.hc_model.specs.Steps.{step_move, reading, read_view, later_hole}
+use Rattle.hc_model.specs.Tables.{tables, after_accepted}
+use Rattle.hc_model.proofs.ActParts.{IsSaid, said_is}
+use Rattle.hc_model.proofs.ActParts as parts
+use Rattle.hc_laws.proofs.Barred.{next_tables, denied_tables}
+use Rattle.hc_model.proofs.Basics.{false_true, and_right, none_some, append_none}
+use Rattle.hc_laws.proofs.Bounded.{IsBounded, bounded_begun, bounded_denied, bounded_kept}
+use Rattle.hc_model.proofs.GivenNext.{read_of}
+use Rattle.hc_model.proofs.HoleLemmas.{bool_cases}
+use Rattle.hc_model.proofs.MoveBy.{MoveBy, move_by}
+use Rattle.hc_model.proofs.MoveBy as by_move
+use Rattle.hc_laws.proofs.OfEntries.{of_real}
+use Rattle.hc_model.proofs.Owed.{IsDenied, is_denial, acts_are}
+use Rattle.hc_model.proofs.Owed as owed_acts
+use Rattle.hc_model.proofs.PieceKeeps.{some_inj}
+use Rattle.hc_laws.proofs.ReadAs.{IsRead}
+use Rattle.hc_laws.proofs.ReadJoined.{joined_in_runs, is_told, aside}
+use Rattle.hc_laws.proofs.ReadNext.{by_said, shown_one}
+use Rattle.hc_laws.proofs.ReadNext as next
+use Rattle.hc_laws.proofs.SoundRuns.{carried}
+
+-- BOUNDED IN RUNS
+
+by_denial : (limits : Limits) (contents : Contents) (h : History) (e : Entry) (b : Bool) → is_denied e.acts ≡ b → may_begin limits contents ≡ true → IsRun limits contents h → IsOwed limits (tables contents h) e → IsBounded (tables contents h) → IsBounded (tables contents (e ∷ h))
+by_denial limits contents h e true denied may run owed b = subst IsBounded (denied_tables contents h e denied) (bounded_denied (tables contents h) e b)
+by_denial limits contents h e false taken may run owed b =
+    let t = tables contents h in
+    let k = carried limits contents h may run in
+    subst IsBounded (next_tables contents h e taken)
+    (of_real limits t e (λ z. IsBounded (after_accepted t z)) owed taken (λ going real. bounded_kept limits t e.now (flaw_in e.acts) k.is_sound k.is_owned e.event going b (aside limits contents h may run)))
+
+pub bounded : OfRuns IsBounded
+unfolding tables
+bounded limits contents [] may run = bounded_begun contents
+bounded limits contents (e ∷ h) may run = by_denial limits contents h e (is_denied e.acts) refl may run.0 run.1 (bounded limits contents h may run.0)
+
+-- A POLL THAT ENDS
+
+-- what promises nothing begins at the first position
+pub no_base : (l : Length) → promise_of l ≡ None → base_of l ≡ 0
+no_base told.Unknown is = refl
+no_base (told.Promised n) is = refl
+no_base (told.Part first n) is = absurd (none_some n (sym is))
+no_base told.Bad is = refl
+
+module _ (t : Tables) (now c want : ℕ) (k : Consumer) where
+  nothing_ends : Nothing ≡ Ends → ⊥
+  nothing_ends is = cc
+
+  stored_ends : (r : ℕ) (why : Why) (ranged : Bool) (lo : ℕ) (hi : Option ℕ) (o : Option Representation) → shows_stored r why ranged lo hi o ≡ Ends → ⊥
+  stored_ends r why ranged lo hi None is = nothing_ends is
+  stored_ends r why ranged lo hi (Some v) is = cc
+
+  answer_ends : (x : ℕ) (w : Exchange) (o : Option Response) → shows_answer t x w o ≡ Some Ends → ⊥
+  answer_ends x w None is = none_some Ends is
+  answer_ends x w (Some response) is = cc
+
+  direct_ends : (x : ℕ) (o : Option Exchange) → shows_direct t x o ≡ Some Ends → ⊥
+  direct_ends x None is = none_some Ends is
+  direct_ends x (Some w) is = answer_ends x w w.head is
+
+  bound_ends : (r lo : ℕ) (hi : Option ℕ) (how : BoundBy) → shows_bound t k r lo hi how ≡ Some Ends → ⊥
+  bound_ends r lo hi by.Founding is = stored_ends r _ _ lo hi (t.representation r) (some_inj _ Ends is)
+  bound_ends r lo hi (by.FirstHole y) is = elim (bool_cases (has_joined (t.exchange y))) [
+    | inl joined ↦ stored_ends r _ _ lo hi (t.representation r) (some_inj _ Ends (rw joined at is))
+    | inr off ↦ none_some Ends (rw off at is)
+  ]
+  bound_ends r lo hi by.Plan is = none_some Ends is
+
+  at_ends : (p : Place) → shows_at t k p ≡ Some Ends → ⊥
+  at_ends place.Line is = none_some Ends is
+  at_ends (place.Passed r kept) is = none_some Ends is
+  at_ends (place.Turn x) is = none_some Ends is
+  at_ends (place.Bound r lo hi how) is = bound_ends r lo _ how is
+  at_ends (place.Direct x) is = direct_ends x (t.exchange x) is
+  at_ends (place.Down why) is = none_some Ends is
+  at_ends place.Over is = none_some Ends is
+
+  hole_ends : (request : Request) (o : Option Representation) (hole : Span) → opens_hole t request o hole ≡ Ends → ⊥
+  hole_ends request None hole is = nothing_ends is
+  hole_ends request (Some v) hole is = cc
+
+  binds_ends : (why : Why) (span : Option Span) (o : Option ℕ) → binds_current t k why span o ≡ Ends → ⊥
+  binds_ends why span None is = nothing_ends is
+  binds_ends why None (Some r) is = stored_ends r why _ 0 _ (t.representation r) is
+  binds_ends why (Some span) (Some r) is = stored_ends r why _ span.lo (Some span.hi) (t.representation r) is
+
+  plan_ends : (p : Plan) → plan_move t k p ≡ Ends → ⊥
+  plan_ends (plan.Direct need) is = cc
+  plan_ends (plan.Turn d) is = cc
+  plan_ends (plan.Fetch need) is = cc
+  plan_ends (plan.Bind why span) is = binds_ends why span _ is
+  plan_ends (plan.FirstHole span hole) is = hole_ends k.request _ hole is
+  plan_ends (plan.Busy d kept) is = cc
+  plan_ends plan.Miss is = cc
+
+  record IsEnding : Type 0 where
+    shown : k.shown ≡ true
+    ends : reading t want c k ≡ Ends
+
+  ending_by : (m : Move) → MoveBy t now want c k m → m ≡ Ends → IsEnding
+  ending_by m (by_move.shows _ unshown at) is = absurd (at_ends k.place (at ∙ ap Some is))
+  ending_by _ (by_move.waits x own bare) is = absurd (let no : moves.Waits (wait.Head x) ≡ Ends = is in cc)
+  ending_by _ (by_move.down why_down at) is = absurd (let no : Fails why_down ≡ Ends = is in cc)
+  ending_by _ (by_move.over at) is = absurd (nothing_ends is)
+  ending_by _ (by_move.reads on heard) is = record { shown = on; ends = is }
+  ending_by _ (by_move.plans unshown free none heard) is = absurd (plan_ends (plan_of (plan_view t now c k)) is)
+
+  -- THE STEP
+
+  gives_ends : (o : Option Run) → gives o ≡ Ends → ⊥
+  gives_ends None is = nothing_ends is
+  gives_ends (Some z) is = cc
+
+  later_ends : (hole : Span) (hi : Option ℕ) → later_hole t k hole hi ≡ Ends → ⊥
+  later_ends hole None is = nothing_ends is
+  later_ends hole (Some hi) is = hole_ends k.request _ hole is
+
+  asks_ends : (x : ℕ) (b : Bool) → (if b then moves.Waits (wait.Body x) else Asks x) ≡ Ends → ⊥
+  asks_ends x true is = cc
+  asks_ends x false is = cc
+
+  waits_ends : (x : ℕ) (o : Option Exchange) → waits_for x o ≡ Ends → ⊥
+  waits_ends x None is = nothing_ends is
+  waits_ends x (Some w) is = asks_ends x w.asked is
+
+  abbrev view : ReadView
+  view = read_view t want c k
+
+  by_source : (o : Option ℕ) → step_move t want c k (waits_or o (opens view)) ≡ Ends → ⊥
+  by_source None is = later_ends _ (hi_of t k.place) is
+  by_source (Some x) is = waits_ends x (t.exchange x) is
+
+  by_due : (o : Option Cause) → step_move t want c k (fails_or o (waits_or view.source (opens view))) ≡ Ends → ⊥
+  by_due None is = by_source view.source is
+  by_due (Some why) is = let never : Fails why ≡ Ends = is in cc
+
+  by_held : (b : Bool) → step_move t want c k (held_or b (fails_or view.due (waits_or view.source (opens view)))) ≡ Ends → ⊥
+  by_held true is = gives_ends _ is
+  by_held false is = by_due view.due is
+
+  by_stored : (o : Option ℕ) → step_move t want c k (stored_or (hi_of t k.place) o (held_or view.held (fails_or view.due (waits_or view.source (opens view))))) ≡ Ends → ⊥
+  by_stored None is = by_held view.held is
+  by_stored (Some end) is = gives_ends _ is
+
+  at_end : reading t want c k ≡ Ends → is_at_end (hi_of t k.place) (offset t k) ≡ true
+  unfolding read_step
+  at_end is = elim (bool_cases (is_at_end (hi_of t k.place) (offset t k))) [
+    | inl past ↦ past
+    | inr before ↦ absurd (by_stored view.stored (rw before at is))
+  ]
+
+  known_end : (o : Option ℕ) (n : ℕ) → is_at_end o n ≡ true → (hi : ℕ) × (o ≡ Some hi) × (hi ≤ n)
+  known_end None n is = absurd (false_true is)
+  known_end (Some hi) n is = (hi, refl, grind (arith, nat_tests))
+
+-- WHERE IT STANDS
+
+module _ (t : Tables) (c : ℕ) (k : Consumer) (s : Sound t) (m : Measures t) (b : IsBounded t) (row : t.consumer c ≡ Some k) (apart : (y : ℕ) → k.place ≡ place.Direct y → t.representation y ≡ None) (z : Shown) (given : List ℕ) (count : k.given ≡ length given) (holds : Holds t z.r z.lo given) (read : IsRead t k z) where
+  -- the last byte that it was given is there
+  last_there : 0 < k.given → is_some (body_of t z.r (z.lo + (k.given - 1))) ≡ true
+  last_there some =
+      let lt : k.given - 1 < length given = omega arith in
+      let got = holds (k.given - 1) lt in
+      let at : z.lo + (k.given - 1) + 0 ≡ z.lo + (k.given - 1) = omega arith in
+      ap (λ p. is_some (body_of t z.r p)) (sym at) ∙ ap (λ (q : Option Cell). is_some q) (got.1 0 (omega arith))
+
+  below_reach : (r n p : ℕ) (v : Representation) → t.representation r ≡ Some v → v.head.total ≡ Some n → is_some (body_of t r p) ≡ true → p < n
+  below_reach r n p v there known some =
+      let le : v.reach ≤ n = m.within r n v there known in
+      let cell : is_some (v.body p) ≡ true = sym (ap (λ (q : Option Representation). is_some (cell_by t r p q)) there) ∙ some in
+      elim (bool_cases (nat_lt p v.reach)) [
+        | inl under ↦ let lt : p < v.reach = grind (arith, nat_tests) in omega arith
+        | inr past ↦ let over : v.reach ≤ p = grind (arith, nat_tests) in absurd (false_true (sym (ap (λ (q : Option Cell). is_some q) ((s.rows r v there).store.ends p over)) ∙ cell))
+      ]
+
+  bound_by : (r n : ℕ) (q : Option Representation) → z.r ≡ r → z.lo ≡ 0 → t.representation r ≡ q → total_in q ≡ Some n → k.given ≤ n
+  bound_by r n None same first there known = absurd (none_some n known)
+  bound_by r n (Some v) same first there known = elim (bool_cases (nat_lt 0 k.given)) [
+    | inr none ↦ let zero : k.given ≤ 0 = grind (arith, nat_tests) in omega arith
+    | inl some ↦
+        let more : 0 < k.given = grind (arith, nat_tests) in
+        let last : is_some (body_of t r (z.lo + (k.given - 1))) ≡ true = subst (λ q1. is_some (body_of t q1 (z.lo + (k.given - 1))) ≡ true) same (last_there more) in
+        let lt : z.lo + (k.given - 1) < n = below_reach r n (z.lo + (k.given - 1)) v there known last in
+        omega arith
+  ]
+
+  cell_below : (y p : ℕ) (w : Exchange) → is_some (answer_cell y p w) ≡ true → p < exchanges.front w
+  cell_below y p w some = elim (bool_cases (nat_le (base w) p && nat_lt p (exchanges.front w))) [
+    | inl on ↦ let under : nat_lt p (exchanges.front w) ≡ true = and_right (nat_le (base w) p) _ on in grind (arith, nat_tests)
+    | inr off ↦ absurd (false_true (rw off at some))
+  ]
+
+  came_of : (y : ℕ) (w : Exchange) → z.r ≡ y → z.lo ≡ base w → t.representation y ≡ None → t.exchange y ≡ Some w → k.given ≤ length w.body
+  came_of y w same first none there = elim (bool_cases (nat_lt 0 k.given)) [
+    | inr few ↦ let zero : k.given ≤ 0 = grind (arith, nat_tests) in omega arith
+    | inl some ↦
+        let more : 0 < k.given = grind (arith, nat_tests) in
+        let last : is_some (body_of t y (z.lo + (k.given - 1))) ≡ true = subst (λ q1. is_some (body_of t q1 (z.lo + (k.given - 1))) ≡ true) same (last_there more) in
+        let cell : is_some (answer_cell y (z.lo + (k.given - 1)) w) ≡ true = sym (ap (λ (q : Option Representation). is_some (cell_by t y (z.lo + (k.given - 1)) q)) none ∙ ap (λ (q : Option Exchange). is_some (direct_cell y (z.lo + (k.given - 1)) q)) there) ∙ last in
+        let lt : z.lo + (k.given - 1) < exchanges.front w = cell_below y _ w cell in
+        omega arith
+  ]
+
+  direct_end : (y n : ℕ) (w : Exchange) (q : Option ℕ) → t.exchange y ≡ Some w → promised w ≡ q → k.given ≤ length w.body → end_of_direct q w ≡ Some n → base w + k.given ≤ n
+  direct_end y n w (Some p) there promise few is =
+      let most : length w.body ≤ p = b.promise y p w there promise in
+      let same : base w + p ≡ n = some_inj (base w + p) n is in
+      omega arith
+  direct_end y n w None there promise few is = elim (bool_cases w.is_ended) [
+    | inr off ↦ absurd (none_some n (rw off at is))
+    | inl over ↦
+        let same : length w.body ≡ n = some_inj (length w.body) n (rw over at is) in
+        let first : base w ≡ 0 = no_base (length_by w w.head) promise in
+        omega arith
+  ]
+
+  direct_by : (y n : ℕ) (q : Option Exchange) → k.place ≡ place.Direct y → t.exchange y ≡ q → end_in q ≡ Some n → offset t k ≤ n
+  direct_by y n None at there is = absurd (none_some n is)
+  direct_by y n (Some w) at there is =
+      let first : lo_of t k.place ≡ base w = ap (lo_of t) at ∙ ap base_in there in
+      let same : z.r ≡ y = some_inj z.r y (sym read.number ∙ ap read_of at) in
+      let few : k.given ≤ length w.body = came_of y w same (sym read.from ∙ first) (apart y at) there in
+      let le : base w + k.given ≤ n = direct_end y n w (promised w) there refl few is in
+      omega arith
+
+  offset_by : (p : Place) (n : ℕ) → k.place ≡ p → hi_of t p ≡ Some n → offset t k ≤ n
+  offset_by (place.Bound r lo (Some hi) how) n at is =
+      let same : hi ≡ n = some_inj hi n is in
+      let le : lo + k.given ≤ hi = b.within c r lo hi how k row at in
+      let first : lo_of t k.place ≡ lo = ap (lo_of t) at in
+      omega arith
+  offset_by (place.Bound r lo None how) n at is =
+      let zero : lo ≡ 0 = b.first c r lo how k row at in
+      let first : lo_of t k.place ≡ lo = ap (lo_of t) at in
+      let start : z.lo ≡ 0 = sym read.from ∙ (first ∙ zero) in
+      let same : z.r ≡ r = some_inj z.r r (sym read.number ∙ ap read_of at) in
+      let le : k.given ≤ n = bound_by r n (t.representation r) same start refl is in
+      omega arith
+  offset_by (place.Direct y) n at is = direct_by y n (t.exchange y) at refl is
+  offset_by place.Line n at is = absurd (none_some n is)
+  offset_by (place.Passed r kept) n at is = absurd (none_some n is)
+  offset_by (place.Turn x) n at is = absurd (none_some n is)
+  offset_by (place.Down why) n at is = absurd (none_some n is)
+  offset_by place.Over n at is = absurd (none_some n is)
+
+  -- THE END
+
+  total_end : (r n : ℕ) (q : Option Representation) → total_in q ≡ Some n → end_by t r q ≡ Some n
+  total_end r n None is = absurd (none_some n is)
+  total_end r n (Some v) is = is
+
+  body_end : (p : Place) (n : ℕ) → k.place ≡ p → z.hi ≡ None → hi_of t p ≡ Some n → spec.end_of t z.r ≡ Some n
+  body_end (place.Bound r lo hi how) n at none is =
+      let unknown : hi ≡ None = read.open_end none r lo hi how at in
+      let same : z.r ≡ r = some_inj z.r r (sym read.number ∙ ap read_of at) in
+      let total : total_in (t.representation r) ≡ Some n = sym (ap (λ q. option_or q (total_in (t.representation r))) unknown) ∙ is in
+      ap (spec.end_of t) same ∙ total_end r n (t.representation r) total
+  body_end (place.Direct y) n at none is =
+      let same : z.r ≡ y = some_inj z.r y (sym read.number ∙ ap read_of at) in
+      ap (spec.end_of t) same ∙ (ap (end_by t y) (apart y at) ∙ is)
+  body_end place.Line n at none is = absurd (none_some n is)
+  body_end (place.Passed r kept) n at none is = absurd (none_some n is)
+  body_end (place.Turn x) n at none is = absurd (none_some n is)
+  body_end (place.Down why) n at none is = absurd (none_some n is)
+  body_end place.Over n at none is = absurd (none_some n is)
+
+  end_from : (q : Option ℕ) (n : ℕ) → z.hi ≡ q → hi_of t k.place ≡ Some n → IsEnd t z.r q n
+  end_from None n none is = body_end k.place n refl none is
+  end_from (Some hi) n some is = some_inj n hi (sym is ∙ read.to hi some)
+
+  is_end : is_at_end (hi_of t k.place) (offset t k) ≡ true → IsEnd t z.r z.hi (z.lo + length given)
+  is_end past =
+      let known = known_end t 0 c 0 k (hi_of t k.place) (offset t k) past in
+      let least : known.0 ≤ offset t k = known.2 in
+      let most : offset t k ≤ known.0 = offset_by k.place known.0 refl known.1 in
+      let first : lo_of t k.place ≡ z.lo = read.from in
+      let here : known.0 ≡ z.lo + length given = omega arith in
+      subst (IsEnd t z.r z.hi) here (end_from z.hi known.0 refl known.1)
+
+hi_reads : (t : Tables) (p : Place) (n : ℕ) → hi_of t p ≡ Some n → reads p ≡ true
+hi_reads t (place.Bound r lo hi how) n is = refl
+hi_reads t (place.Direct y) n is = refl
+hi_reads t place.Line n is = absurd (none_some n is)
+hi_reads t (place.Passed r kept) n is = absurd (none_some n is)
+hi_reads t (place.Turn x) n is = absurd (none_some n is)
+hi_reads t (place.Down why) n is = absurd (none_some n is)
+hi_reads t place.Over n is = absurd (none_some n is)
+
+-- WHO IS TOLD
+
+module _ (t : Tables) (now c : ℕ) where
+  abbrev it : Act
+  it = act.Ended c
+
+  record IsEnder (ev : Event) : Type 0 where
+    want : ℕ
+    k : Consumer
+    row : t.consumer c ≡ Some k
+    move_is : move_of t now want c k ≡ Ends
+
+  data EndsAs (d : ℕ) : Move → Type 0 where
+    ends_it : d ≡ c → EndsAs d Ends
+
+  ended_inj : (d : ℕ) → act.Ended d ≡ it → d ≡ c
+  ended_inj d is = cc
+
+  of_move : (d : ℕ) (m : Move) → Says it (acts_of d m) → EndsAs d m
+  of_move d Nothing h = absurd h
+  of_move d (moves.Waits w) (inl is) = absurd (let no : act.Pending d w ≡ it = is in cc)
+  of_move d (moves.Waits w) (inr h) = absurd h
+  of_move d (Asks y) (inl is) = absurd (let no : act.Ask y ≡ it = is in cc)
+  of_move d (Asks y) (inr (inl is)) = absurd (let no : act.Pending d (wait.Body y) ≡ it = is in cc)
+  of_move d (Asks y) (inr (inr h)) = absurd h
+  of_move d (Opens y n request) (inl is) = absurd (let no : act.Opened y d n request ≡ it = is in cc)
+  of_move d (Opens y n request) (inr (inl is)) = absurd (let no : act.Pending d (wait.Head y) ≡ it = is in cc)
+  of_move d (Opens y n request) (inr (inr h)) = absurd h
+  of_move d (Shows r why head lo hi) (inl is) = absurd (let no : act.Shown d r why head.status head.fields lo hi ≡ it = is in cc)
+  of_move d (Shows r why head lo hi) (inr h) = absurd h
+  of_move d (Gives run) (inl is) = absurd (let no : act.Given d run.x run.at run.bytes ≡ it = is in cc)
+  of_move d (Gives run) (inr h) = absurd h
+  of_move d Ends (inl is) = ends_it (ended_inj d is)
+  of_move d Ends (inr h) = absurd h
+  of_move d (Fails why) (inl is) = absurd (let no : act.Failed d why ≡ it = is in cc)
+  of_move d (Fails why) (inr h) = absurd h
+
+  ender_by : (ev : Event) (d want : ℕ) (k : Consumer) (m : Move) → t.consumer d ≡ Some k → m ≡ move_of t now want d k → EndsAs d m → IsEnder ev
+  ender_by ev d want k _ row is (ends_it same) = record {
+    want = want;
+    k = k;
+    row = sym (ap t.consumer same) ∙ row;
+    move_is = sym (ap (λ n. move_of t now want n k) same) ∙ sym is;
+  }
+
+  ender_of : (ev : Event) (flaw : Flaw) (acts : List Act) → IsSaid t now ev flaw acts → Says it acts → IsEnder ev
+  ender_of ev flaw _ (parts.silent) h = absurd h
+  ender_of ev flaw _ (parts.does d want k m here row is near) h = ender_by ev d want k m row is (of_move d m h)
+  ender_of ev flaw _ (parts.misreads d want q here is) (inl same) = absurd (let no : act.Failed d (cause.StoreRead q) ≡ it = same in cc)
+  ender_of ev flaw _ (parts.misreads d want q here is) (inr h) = absurd h
+
+  ender : (limits : Limits) (ev : Event) (flaw : Flaw) → Says it (accepted limits t now ev flaw) → IsEnder ev
+  ender limits ev flaw h = ender_of ev flaw (said t now ev flaw) (said_is t now ev flaw) (by_said limits t now ev flaw it (next.ends c) h)
+
+module _ (limits : Limits) (contents : Contents) (h : History) (e : Entry) (may : may_begin limits contents ≡ true) (run : IsRun limits contents (e ∷ h)) (c : ℕ) where
+  abbrev t : Tables
+  t = tables contents h
+
+  by_ender : IsEnder t e.now c e.event → ReadsAct contents h e.now [] (act.Ended c)
+  by_ender g =
+      let all = carried limits contents h may run.0 in
+      let its = ending_by t e.now c g.want g.k (move_of t e.now g.want c g.k) (move_by t e.now g.want c g.k all.is_sound g.row) g.move_is in
+      let past = at_end t e.now c g.want g.k its.ends in
+      let known = known_end t 0 c 0 g.k (hi_of t g.k.place) (offset t g.k) past in
+      let one = shown_one limits contents h run.0 c g.k g.row its.shown in
+      let j = joined_in_runs limits contents h may run.0 in
+      let tells = is_told limits contents h run.0 in
+      let read = j.read c g.k one.0 g.row one.1 (hi_reads t g.k.place known.0 known.1) in
+      let there = is_end t c g.k all.is_sound all.is_measured (bounded limits contents h may run.0) g.row (λ y at. (aside limits contents h may run.0).apart.unfounded c y g.k g.row at) one.0 (given_of c h) (tells.count c g.k g.row) (j.held c one.0 one.1) read past in
+      (one.0, append_none (shown_of c h) ∙ one.1, subst (λ (xs : List ℕ). IsEnd t one.0.r one.0.hi (one.0.lo + length xs)) (sym (append_none (given_of c h))) there)
+
+  denied_not : (acts : List Act) → IsDenied acts → Says (act.Ended c) acts → ⊥
+  denied_not _ (owed_acts.denied refusal) (inl is) = cc
+  denied_not _ (owed_acts.denied refusal) (inr later) = later
+
+  by_taken : (b : Bool) → is_denied e.acts ≡ b → Says (act.Ended c) e.acts → ReadsAct contents h e.now [] (act.Ended c)
+  by_taken true denied says = absurd (denied_not e.acts (is_denial e.acts denied) says)
+  by_taken false taken says = by_ender (ender t e.now c limits e.event (flaw_in e.acts) (subst (Says (act.Ended c)) (acts_are limits t e run.1 taken) says))
+
+-- Who is told the end was given all up to it.
+pub ends_well : EndsWell
+ends_well limits contents h e may run c says = by_taken limits contents h e may run c (is_denied e.acts) refl says

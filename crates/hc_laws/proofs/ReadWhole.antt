@@ -1,0 +1,140 @@
+-- Every run reads whole: each consumer is shown one head at most, for a reason that holds, and reads one interval of the body of that.
+use Rattle.std.proofs.Common.{◌≡◌, inl, ℕ, List, [], ◌∷◌, ◌++◌, Bool, true, false, Some, refl, ap, sym, ◌∙◌, subst}
+use Rattle.std.specs.Prelude.{map}
+use Rattle.hc_event.specs.Filters.{is_denied}
+use Rattle.hc_event.specs.declared.act.Act.{Act}
+use Rattle.hc_event.specs.declared.act.Act.TheVariants as act
+use Rattle.hc_event.specs.declared.act.Cause.TheVariants as cause
+use Rattle.hc_event.specs.declared.act.Wait.TheVariants as wait
+use Rattle.hc_rules.specs.declared.room.Limits.{Limits}
+use Rattle.hc_model.specs.Answers.{accepted, said, lost, closed}
+use Rattle.hc_model.specs.Beginnings.{may_begin}
+use Rattle.hc_model.specs.Entries.{Entry, History, Contents}
+use Rattle.hc_model.specs.Flaws.{Flaw, NoFlaw, Loses, Misreads, flaw_in}
+use Rattle.hc_model.specs.Histories.{shown_of, given_of}
+use Rattle.hc_model.specs.Moves as moves
+use Rattle.hc_model.specs.Moves.{Move, Nothing, Asks, Opens, Shows, Gives, Ends, Fails, acts_of}
+use Rattle.hc_model.specs.Polls.{move_of}
+use Rattle.hc_model.specs.Reads.{ReadsAct, ReadsActs, ReadsEach, RunsReadWhole, Says}
+use Rattle.hc_model.specs.Rows.{Tables, Consumer}
+use Rattle.hc_model.specs.Runs.{IsRun}
+use Rattle.hc_model.specs.Tables.{tables}
+use Rattle.hc_model.specs.Weights.{evicted}
+use Rattle.hc_model.proofs.ActParts.{IsAnswer, IsSaid, answer_is, said_is}
+use Rattle.hc_model.proofs.ActParts as parts
+use Rattle.hc_model.proofs.Basics.{false_true, append_none}
+use Rattle.hc_model.proofs.Owed.{IsDenied, is_denial, acts_are}
+use Rattle.hc_model.proofs.Owed as owed_acts
+use Rattle.hc_laws.proofs.ReadEnds.{ends_well}
+use Rattle.hc_laws.proofs.ReadJoined.{bodies_are_read, is_told}
+use Rattle.hc_laws.proofs.ReadNext.{gives_next}
+use Rattle.hc_laws.proofs.Reasons.{reason_holds}
+use Rattle.hc_model.proofs.ShownOnce.{is_showing, shown_shows}
+use Rattle.hc_laws.proofs.SoundRuns.{runs_are_sound}
+use Rattle.hc_model.proofs.WhyShown.{shown_why}
+
+-- ACTS THAT NO READER IS TOLD
+
+abbrev IsUnread : Act → Type 0
+IsUnread (act.Shown c r why status fields lo hi) = ⊥
+IsUnread (act.Given c x at bytes) = ⊥
+IsUnread (act.Ended c) = ⊥
+IsUnread _ = Unit {0}
+
+abbrev AreUnread : List Act → Type 0
+AreUnread [] = Unit {0}
+AreUnread (a ∷ acts) = IsUnread a × AreUnread acts
+
+closes_unread : (xs : List ℕ) → AreUnread (map act.Close xs)
+closes_unread [] = tt
+closes_unread (x ∷ xs) = (tt, closes_unread xs)
+
+evicts_unread : (rs : List ℕ) → AreUnread (map act.Evicted rs)
+evicts_unread [] = tt
+evicts_unread (r ∷ rs) = (tt, evicts_unread rs)
+
+lost_unread : (flaw : Flaw) → AreUnread (lost flaw)
+lost_unread NoFlaw = tt
+lost_unread (Loses r kind) = (tt, tt)
+lost_unread (Misreads r) = tt
+
+both_unread : (xs ys : List Act) → AreUnread xs → AreUnread ys → AreUnread (xs ++ ys)
+both_unread [] ys a b = b
+both_unread (x ∷ xs) ys a b = (a.0, both_unread xs ys a.1 b)
+
+module _ (contents : Contents) (h : History) (now : ℕ) where
+  act_unread : (before : List Act) (a : Act) → IsUnread a → ReadsAct contents h now before a
+  act_unread before (act.Opened x c need request) is = tt
+  act_unread before (act.Ask x) is = tt
+  act_unread before (act.Close x) is = tt
+  act_unread before (act.Shown c r why status fields lo hi) is = absurd is
+  act_unread before (act.Given c x at bytes) is = absurd is
+  act_unread before (act.Ended c) is = absurd is
+  act_unread before (act.Failed c why) is = tt
+  act_unread before (act.Pending c wait) is = tt
+  act_unread before (act.Lost r kind) is = tt
+  act_unread before (act.Evicted r) is = tt
+  act_unread before (act.Denied refusal) is = tt
+
+  acts_unread : (before acts : List Act) → AreUnread acts → ReadsActs contents h now before acts
+  acts_unread before [] is = tt
+  acts_unread before (a ∷ acts) is = (act_unread before a is.0, acts_unread (before ++ (a ∷ [])) acts is.1)
+
+-- AN ENTRY
+
+module _ (limits : Limits) (contents : Contents) (h : History) (e : Entry) (may : may_begin limits contents ≡ true) (run : IsRun limits contents (e ∷ h)) where
+  abbrev t : Tables
+  t = tables contents h
+
+  abbrev flaw : Flaw
+  flaw = flaw_in e.acts
+
+  unshown_of : (c want : ℕ) (k : Consumer) (m : Move) (b : Bool) → k.shown ≡ b → move_of t e.now want c k ≡ m → is_showing m ≡ true → k.shown ≡ false
+  unshown_of c want k m false off is shows = off
+  unshown_of c want k m true on is shows = absurd (false_true (sym (shown_shows t e.now want c k on) ∙ (ap is_showing is ∙ shows)))
+
+  module _ (c want : ℕ) (k : Consumer) (row : t.consumer c ≡ Some k) (rest : List Act) (quiet : AreUnread rest) where
+    by_move : (m : Move) → move_of t e.now want c k ≡ m → ((a : Act) → Says a (acts_of c m ++ rest) → Says a e.acts) → ReadsActs contents h e.now [] (acts_of c m ++ rest)
+    by_move Nothing is says = acts_unread contents h e.now [] rest quiet
+    by_move (moves.Waits w) is says = acts_unread contents h e.now [] (act.Pending c w ∷ rest) (tt, quiet)
+    by_move (Asks x) is says = acts_unread contents h e.now [] (act.Ask x ∷ act.Pending c (wait.Body x) ∷ rest) (tt, (tt, quiet))
+    by_move (Opens x n request) is says = acts_unread contents h e.now [] (act.Opened x c n request ∷ act.Pending c (wait.Head x) ∷ rest) (tt, (tt, quiet))
+    by_move (Shows r why head lo hi) is says =
+        let told = is_told limits contents h run.0 in
+        let off = unshown_of c want k (Shows r why head lo hi) k.shown refl is refl in
+        let none = told.unshown c k row off in
+        let empty = told.ungiven c none in
+        let reason = reason_holds limits contents h may run.0 e.now c r lo hi why head k row (shown_why t e.now c k r lo hi why head want (runs_are_sound limits contents h may run.0) row is) in
+        ((append_none (shown_of c h) ∙ none, append_none (given_of c h) ∙ empty, reason), acts_unread contents h e.now _ rest quiet)
+    by_move (Gives given) is says = (gives_next limits contents h e may run c given.x given.at given.bytes (says _ (inl refl)), acts_unread contents h e.now _ rest quiet)
+    by_move Ends is says = (ends_well limits contents h e may run c (says _ (inl refl)), acts_unread contents h e.now _ rest quiet)
+    by_move (Fails why) is says = acts_unread contents h e.now [] (act.Failed c why ∷ rest) (tt, quiet)
+
+  by_said : (acts rest : List Act) → AreUnread rest → IsSaid t e.now e.event flaw acts → ((a : Act) → Says a (acts ++ rest) → Says a e.acts) → ReadsActs contents h e.now [] (acts ++ rest)
+  by_said _ rest quiet (parts.silent) says = acts_unread contents h e.now [] rest quiet
+  by_said _ rest quiet (parts.does c want k m here row is near) says = by_move c want k row rest quiet m (sym is) says
+  by_said _ rest quiet (parts.misreads c want r here is) says = acts_unread contents h e.now [] (act.Failed c (cause.StoreRead r) ∷ rest) (tt, quiet)
+
+  by_answer : (acts : List Act) → IsAnswer limits t e.now e.event flaw acts → ((a : Act) → Says a acts → Says a e.acts) → ReadsActs contents h e.now [] acts
+  by_answer _ (parts.told none) says = acts_unread contents h e.now [] _ (both_unread _ _ (evicts_unread (evicted limits t e.now e.event)) (both_unread _ _ (lost_unread flaw) (closes_unread _)))
+  by_answer _ (parts.asked) says = by_said (said t e.now e.event flaw) (closed t e.now e.event flaw ++ lost flaw) (both_unread _ _ (closes_unread _) (lost_unread flaw)) (said_is t e.now e.event flaw) says
+
+  denied_reads : (acts : List Act) → IsDenied acts → ReadsActs contents h e.now [] acts
+  denied_reads _ (owed_acts.denied refusal) = (tt, tt)
+
+  by_denial : (b : Bool) → is_denied e.acts ≡ b → ReadsActs contents h e.now [] e.acts
+  by_denial true denied = denied_reads e.acts (is_denial e.acts denied)
+  by_denial false taken =
+      let acts = acts_are limits t e run.1 taken in
+      subst (ReadsActs contents h e.now []) (sym acts) (by_answer (accepted limits t e.now e.event flaw) (answer_is limits t e.now e.event flaw) (λ a says. subst (Says a) (sym acts) says))
+
+  entry_reads : ReadsActs contents h e.now [] e.acts
+  entry_reads = by_denial (is_denied e.acts) refl
+
+each_reads : (limits : Limits) (contents : Contents) (h : History) → may_begin limits contents ≡ true → IsRun limits contents h → ReadsEach contents h
+each_reads limits contents [] may run = tt
+each_reads limits contents (e ∷ h) may run = (each_reads limits contents h may run.0, entry_reads limits contents h e may run)
+
+-- Every run reads whole.
+pub runs_read_whole : RunsReadWhole
+runs_read_whole limits contents h may run = record { acts = each_reads limits contents h may run; bodies = λ c. bodies_are_read limits contents h may run c }

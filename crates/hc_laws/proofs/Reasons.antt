@@ -1,0 +1,238 @@
+-- The reason for which a consumer is shown a head holds, in every run.
+use Rattle.std.proofs.Common.{◌≡◌, ℕ, ◌-◌, [], ◌∷◌, Bool, true, false, Option, Some, None, refl, ap, sym, ◌∙◌, subst, arith}
+use Rattle.std.specs.Prelude.{is_some, nat_eq, nat_lt, ◌||◌}
+use Rattle.std.specs.Option.{option_map, option_and_then}
+use Rattle.std.proofs.lemmas.Bool.Decides.{nat_tests}
+use Rattle.hc_event.specs.Filters.{is_denied}
+use Rattle.hc_event.specs.declared.act.Wait.TheVariants as wait
+use Rattle.hc_event.specs.declared.act.Why.{Why}
+use Rattle.hc_event.specs.declared.act.Why.TheVariants as why_is
+use Rattle.hc_event.specs.declared.event.Event.{Event}
+use Rattle.hc_event.specs.declared.event.Request.{Request}
+use Rattle.hc_cachectl.specs.declared.directives.Directives.{Directives}
+use Rattle.hc_event.specs.declared.event.Load.{Load}
+use Rattle.hc_fresh.specs.Allowed.{allowed_by, is_validate, is_zero, is_older, lacks, is_skip, accepts}
+use Rattle.hc_cachectl.specs.Directives.{of_request, of_response}
+use Rattle.hc_fresh.specs.Ages.{age}
+use Rattle.hc_fresh.specs.Facts.{allowed}
+use Rattle.hc_fresh.specs.Lifetimes.{lifetime}
+use Rattle.hc_record.specs.Head.{Head}
+use Rattle.hc_rules.specs.declared.room.Limits.{Limits}
+use Rattle.hc_model.specs.declared.place.Place.{Place}
+use Rattle.hc_model.specs.declared.place.Place.TheVariants as place
+use Rattle.hc_model.specs.Beginnings.{may_begin}
+use Rattle.hc_model.specs.ConsumerRows.{consumer_heard, kept_by}
+use Rattle.hc_model.specs.Currents.{current, is_number}
+use Rattle.hc_model.specs.Denials.{denial}
+use Rattle.hc_model.specs.Entries.{Entry, History, Contents}
+use Rattle.hc_model.specs.Exchanges.{exchange_in}
+use Rattle.hc_model.specs.Flaws.{Flaw, flaw_in}
+use Rattle.hc_model.specs.Histories.{Opened, opening_of, joined_of, request_of, opened_in}
+use Rattle.hc_model.specs.Keys.{entry_of}
+use Rattle.hc_model.specs.Laws.{OfRuns, Turns}
+use Rattle.hc_model.specs.Owners.{Owners, IsFor}
+use Rattle.hc_model.specs.Polls.{has_joined}
+use Rattle.hc_model.specs.Reads.{IsReason, has_selected, selects_at, aims_at, allowed_on}
+use Rattle.hc_model.specs.Rows.{Tables, Exchange, Representation, Consumer}
+use Rattle.hc_model.specs.Runs.{IsRun, IsOwed}
+use Rattle.hc_model.specs.Sound.{Sound}
+use Rattle.hc_model.specs.Tables.{tables, after_accepted, after_denied}
+use Rattle.hc_model.proofs.Aimed.{IsAimed, aimed_begun, aimed_denied, aimed_kept}
+use Rattle.hc_laws.proofs.Barred.{next_tables, denied_tables}
+use Rattle.hc_model.proofs.Basics.{false_true, or_left, or_right, none_some}
+use Rattle.hc_model.proofs.Forward.{is_on}
+use Rattle.hc_laws.proofs.InRuns.{turned_in_runs}
+use Rattle.hc_model.proofs.JoinFilters.{exchanges_are_filtered}
+use Rattle.hc_model.proofs.Joining.{mix}
+use Rattle.hc_laws.proofs.OfEntries.{of_real}
+use Rattle.hc_model.proofs.PassedFrom.{PassedFrom, IsPassedRow, passed_from}
+use Rattle.hc_model.proofs.PassedFrom as passed
+use Rattle.hc_model.proofs.PieceKeeps.{some_inj}
+use Rattle.hc_model.proofs.ReadFilters.{consumers_are_filtered}
+use Rattle.hc_model.proofs.Said.{waiting_by}
+use Rattle.hc_laws.proofs.SoundRuns.{carried}
+use Rattle.hc_model.proofs.WhyShown.{ShownWhy}
+use Rattle.hc_model.proofs.WhyShown as shown_for
+
+same_number : (r : ℕ) → nat_eq r r ≡ true
+same_number r = grind (arith, nat_tests)
+
+-- WHAT FRESHNESS ALLOWS
+
+-- as fresh, or as stale
+abbrev IsByAge : Why → Type 0
+IsByAge (why_is.Fresh age life) = Unit {0}
+IsByAge (why_is.StaleAllowed age life) = Unit {0}
+IsByAge _ = ⊥
+
+abbrev ByAge : Option Why → Type 0
+ByAge None = Unit {0}
+ByAge (Some why) = IsByAge why
+
+allowed_age : (no_cache must_revalidate : Bool) (asked : Directives) (load : Load) (age life : ℕ) → ByAge (allowed_by no_cache must_revalidate asked load age life)
+allowed_age no_cache must_revalidate asked load age life =
+    mix ByAge (is_validate load || is_zero asked.max_age) None _ tt
+    (mix ByAge no_cache None _ tt
+    (mix ByAge (is_older age asked.max_age) None _ tt
+    (mix ByAge (lacks life age asked.min_fresh) None _ tt
+    (mix ByAge (nat_lt age life) (Some (why_is.Fresh age life)) _ tt
+    (mix ByAge must_revalidate None _ tt
+    (mix ByAge (is_skip load) (Some (why_is.StaleAllowed age life)) _ tt
+    (mix ByAge (accepts asked.max_stale (age - life)) (Some (why_is.StaleAllowed age life)) None tt tt)))))))
+
+by_age : (head : Head) (request : Request) (now : ℕ) (why : Why) → allowed head request now ≡ Some why → IsByAge why
+by_age head request now why is =
+    subst ByAge is (allowed_age (of_response head.fields).no_cache (of_response head.fields).must_revalidate (of_request request.fields) request.load (age head now) (lifetime head))
+
+-- AIMS IN RUNS
+
+aimed_by : (limits : Limits) (contents : Contents) (h : History) (e : Entry) (b : Bool) → is_denied e.acts ≡ b → may_begin limits contents ≡ true → IsRun limits contents h → IsOwed limits (tables contents h) e → IsAimed (tables contents h) → IsAimed (tables contents (e ∷ h))
+aimed_by limits contents h e true denied may run owed a = subst IsAimed (denied_tables contents h e denied) (aimed_denied (tables contents h) e a)
+aimed_by limits contents h e false taken may run owed a =
+    let t = tables contents h in
+    let k = carried limits contents h may run in
+    subst IsAimed (next_tables contents h e taken)
+    (of_real limits t e (λ z. IsAimed (after_accepted t z)) owed taken (λ going real. aimed_kept limits t e.now (flaw_in e.acts) k.is_sound k.is_owned e.event going a))
+
+pub aimed : OfRuns IsAimed
+unfolding tables
+aimed limits contents [] may run = aimed_begun contents
+aimed limits contents (e ∷ h) may run = aimed_by limits contents h e (is_denied e.acts) refl may run.0 run.1 (aimed limits contents h may run.0)
+
+-- WHO KEEPS A 304
+
+-- who keeps one waits for what its head selected
+record IsKeeping (t : Tables) (selected : ℕ → ℕ → Bool) : Type 0 where
+  chosen : (c r x : ℕ) (k : Consumer) → t.consumer c ≡ Some k → k.place ≡ place.Passed r (Some x) → selected x r ≡ true
+  asker : (c r x : ℕ) (k : Consumer) → t.consumer c ≡ Some k → k.place ≡ place.Passed r (Some x) → IsFor t x c
+
+module _ (limits : Limits) (t : Tables) (now : ℕ) (flaw : Flaw) (s : Sound t) (o : Owners t) (turns : Turns t) (ev : Event) (goes : denial t ev ≡ None) (selected : ℕ → ℕ → Bool) (g : IsKeeping t selected) where
+  abbrev e : Entry
+  e = entry_of limits t now ev flaw
+
+  abbrev now_on : Tables
+  now_on = after_accepted t e
+
+  for_on : (x c : ℕ) → IsFor t x c → IsFor now_on x c
+  for_on x c f = let on = is_on t e x f.w f.row in record { w = on.u; row = on.row; for_it = on.same.c_is ∙ f.for_it }
+
+  kept_place : (p : Place) (x : ℕ) → kept_by p ≡ Some x → (r : ℕ) × (p ≡ place.Passed r (Some x))
+  kept_place (place.Passed r kept) x is = (r, ap (place.Passed r) is)
+  kept_place place.Line x is = absurd (none_some x is)
+  kept_place (place.Turn y) x is = absurd (none_some x is)
+  kept_place (place.Bound r lo hi how) x is = absurd (none_some x is)
+  kept_place (place.Direct y) x is = absurd (none_some x is)
+  kept_place (place.Down why) x is = absurd (none_some x is)
+  kept_place place.Over x is = absurd (none_some x is)
+
+  -- it kept it where it stands, as what it waits for is current
+  stood_busy : (c r x d : ℕ) (k : Consumer) → t.consumer c ≡ Some k → Rattle.hc_model.specs.ActFilters.wait_in c e.acts ≡ Some (wait.Busy d) → Some x ≡ kept_by (consumer_heard t e c ev k).place → current t (consumer_heard t e c ev k).request.key ≡ Some r → k.place ≡ place.Passed r (Some x)
+  stood_busy c r x d k row told kept is =
+      let w = waiting_by limits t now flaw s ev goes c (wait.Busy d) told in
+      let heard : consumer_heard t e c ev k ≡ k = ap (λ v. consumer_heard t e c v k) w.poll.at in
+      let had = kept_place k.place x (ap (λ (q : Consumer). kept_by q.place) (sym heard) ∙ sym kept) in
+      let waits = turns.passed c had.0 (Some x) k row had.1 in
+      let same : had.0 ≡ r = some_inj had.0 r (sym waits.current_is ∙ (sym (ap (λ (q : Consumer). current t q.request.key) heard) ∙ is)) in
+      had.1 ∙ ap (λ n. place.Passed n (Some x)) same
+
+  chosen_by : (c r x : ℕ) (k : Consumer) (row : t.consumer c ≡ Some k) → is_denied e.acts ≡ false → PassedFrom limits t now flaw s o ev goes c r (Some x) k row → (selects_at t e x r || selected x r) ≡ true
+  chosen_by c r x k row taken (passed.stood at) = or_right (selects_at t e x r) (selected x r) (g.chosen c r x k row at)
+  chosen_by c r x k row taken (passed.validates y response w here there mine is aim kept) =
+      let same : y ≡ x = sym (some_inj x y kept) in
+      let number : is_number (exchange_in ev) x ≡ true = ap (λ v. is_number (exchange_in v) x) here ∙ (ap (λ n. nat_eq n x) same ∙ same_number x) in
+      let its : aims_at (t.exchange x) r ≡ true = ap (λ n. aims_at (t.exchange n) r) (sym same) ∙ (ap (λ (q : Option Exchange). aims_at q r) there ∙ (ap (λ (q : Option ℕ). is_number q r) aim ∙ same_number r)) in
+      or_left (selects_at t e x r) (selected x r) (rw (taken, is, number, its) refl)
+  chosen_by c r x k row taken (passed.busies d told kept is) = or_right (selects_at t e x r) (selected x r) (g.chosen c r x k row (stood_busy c r x d k row told kept is))
+
+  asker_by : (c r x : ℕ) (k : Consumer) (row : t.consumer c ≡ Some k) → PassedFrom limits t now flaw s o ev goes c r (Some x) k row → IsFor now_on x c
+  asker_by c r x k row (passed.stood at) = for_on x c (g.asker c r x k row at)
+  asker_by c r x k row (passed.validates y response w here there mine is aim kept) =
+      let same : y ≡ x = sym (some_inj x y kept) in
+      for_on x c (record { w = w; row = sym (ap t.exchange same) ∙ there; for_it = mine })
+  asker_by c r x k row (passed.busies d told kept is) = for_on x c (g.asker c r x k row (stood_busy c r x d k row told kept is))
+
+  keeping_on : is_denied e.acts ≡ false → IsKeeping now_on (λ x r. selects_at t e x r || selected x r)
+  keeping_on taken = record {
+    chosen = λ c r x u after at. let p = passed_from limits t now flaw s o ev goes c r (Some x) u after at in chosen_by c r x p.k p.row taken p.from;
+    asker = λ c r x u after at. let p = passed_from limits t now flaw s o ev goes c r (Some x) u after at in asker_by c r x p.k p.row p.from;
+  }
+
+abbrev Keeps : Contents → History → Type 0
+Keeps contents h = IsKeeping (tables contents h) (λ x r. has_selected contents x r h)
+
+denied_keeping : (contents : Contents) (h : History) (e : Entry) → Keeps contents h → IsKeeping (after_denied (tables contents h) e) (λ x r. has_selected contents x r (e ∷ h))
+denied_keeping contents h e g = record {
+  chosen = λ c r x k row at. or_right (selects_at (tables contents h) e x r) (has_selected contents x r h) (g.chosen c r x k row at);
+  asker = λ c r x k row at. let f = g.asker c r x k row at in record { w = f.w; row = f.row; for_it = f.for_it };
+}
+
+keeping_by : (limits : Limits) (contents : Contents) (h : History) (e : Entry) (b : Bool) → is_denied e.acts ≡ b → may_begin limits contents ≡ true → IsRun limits contents h → IsOwed limits (tables contents h) e → Keeps contents h → Keeps contents (e ∷ h)
+keeping_by limits contents h e true denied may run owed g = subst (λ u. IsKeeping u (λ x r. has_selected contents x r (e ∷ h))) (denied_tables contents h e denied) (denied_keeping contents h e g)
+keeping_by limits contents h e false taken may run owed g =
+    let t = tables contents h in
+    let k = carried limits contents h may run in
+    let turned = turned_in_runs limits contents h may run in
+    subst (λ u. IsKeeping u (λ x r. has_selected contents x r (e ∷ h))) (next_tables contents h e taken)
+    (of_real limits t e (λ z. IsKeeping (after_accepted t z) (λ x r. selects_at t z x r || has_selected contents x r h)) owed taken (λ going real. keeping_on limits t e.now (flaw_in e.acts) k.is_sound k.is_owned turned.turns e.event going (λ x r. has_selected contents x r h) g real.taken))
+
+keeps : (limits : Limits) (contents : Contents) (h : History) → may_begin limits contents ≡ true → IsRun limits contents h → Keeps contents h
+unfolding tables
+keeps limits contents [] may run = record { chosen = λ c r x k row at. absurd (none_some k row); asker = λ c r x k row at. absurd (none_some k row) }
+keeps limits contents (e ∷ h) may run = keeping_by limits contents h e (is_denied e.acts) refl may run.0 run.1 (keeps limits contents h may run.0)
+
+-- THE REASONS
+
+module _ (limits : Limits) (contents : Contents) (h : History) (may : may_begin limits contents ≡ true) (run : IsRun limits contents h) (now c r lo : ℕ) (hi : Option ℕ) (why : Why) (head : Rattle.hc_event.specs.declared.event.Response.Response) (k : Consumer) (row : (tables contents h).consumer c ≡ Some k) where
+  abbrev t : Tables
+  t = tables contents h
+
+  -- whose an exchange is
+  opening_is : (x : ℕ) → IsFor t x c → option_map (λ (z : Opened). z.c) (opening_of x h) ≡ Some c
+  opening_is x f =
+      let all = (exchanges_are_filtered limits contents h run).openings x in
+      ap (option_map (λ (z : Opened). z.c)) (sym all) ∙ (ap (λ (q : Option Exchange). option_map (λ (z : Opened). z.c) (option_map opened_in q)) f.row ∙ ap Some f.for_it)
+
+  joined_is : (x q : ℕ) (w : Exchange) → t.exchange x ≡ Some w → w.joined ≡ Some q → joined_of contents x h ≡ Some q
+  joined_is x q w there is =
+      let all = (exchanges_are_filtered limits contents h run).joins x in
+      sym all ∙ (ap (option_and_then (λ (z : Exchange). z.joined)) there ∙ is)
+
+  request_is : request_of c h ≡ Some k.request
+  request_is = sym ((consumers_are_filtered limits contents h run).requests c) ∙ ap (option_map (λ (q : Consumer). q.request)) row
+
+  first_joins : (y q : ℕ) (w : Exchange) (z : Option ℕ) → t.exchange y ≡ Some w → w.joined ≡ z → is_some z ≡ true → w.aim ≡ Some r → is_number (joined_of contents y h) r ≡ true
+  first_joins y q w None there is joined aim = absurd (false_true joined)
+  first_joins y q w (Some n) there is joined aim =
+      let same : n ≡ r = some_inj n r (sym ((aimed limits contents h may run).joins y n w there is) ∙ aim) in
+      ap (λ (z : Option ℕ). is_number z r) (joined_is y n w there is) ∙ (ap (λ m. nat_eq m r) same ∙ same_number r)
+
+  allows_by : (v : Representation) (y : Why) → t.representation r ≡ Some v → allowed v.head k.request now ≡ Some y → IsByAge y → IsReason contents h now c r y
+  allows_by v (why_is.Fresh age life) there is by = ap (λ (q : Option Representation). allowed_on q (request_of c h) now) there ∙ (ap (λ (q : Option Request). allowed_on (Some v) q now) request_is ∙ is)
+  allows_by v (why_is.StaleAllowed age life) there is by = ap (λ (q : Option Representation). allowed_on q (request_of c h) now) there ∙ (ap (λ (q : Option Request). allowed_on (Some v) q now) request_is ∙ is)
+  allows_by v (why_is.Fetched x) there is by = absurd by
+  allows_by v (why_is.Validated x) there is by = absurd by
+
+  kept_place_of : (p : Place) (x : ℕ) → kept_by p ≡ Some x → (q : ℕ) × (p ≡ place.Passed q (Some x))
+  kept_place_of (place.Passed q kept) x is = (q, ap (place.Passed q) is)
+  kept_place_of place.Line x is = absurd (none_some x is)
+  kept_place_of (place.Turn y) x is = absurd (none_some x is)
+  kept_place_of (place.Bound q a b how) x is = absurd (none_some x is)
+  kept_place_of (place.Direct y) x is = absurd (none_some x is)
+  kept_place_of (place.Down cause) x is = absurd (none_some x is)
+  kept_place_of place.Over x is = absurd (none_some x is)
+
+  pub reason_holds : ShownWhy t now c k r lo hi why head → IsReason contents h now c r why
+  reason_holds (shown_for.fetched is) = subst (IsReason contents h now c r) (sym is) refl
+  reason_holds (shown_for.first a y b at joined is) =
+      let f = (carried limits contents h may run).is_owned.first_own c r a y b k row at in
+      let aim = (aimed limits contents h may run).first c r a y b k f.w row at f.row in
+      let some : is_some f.w.joined ≡ true = sym (ap has_joined f.row) ∙ joined in
+      subst (IsReason contents h now c r) (sym is) (opening_is y f, or_left _ _ (first_joins y r f.w f.w.joined f.row refl some aim))
+  reason_holds (shown_for.allows v there is) = allows_by v why there is (by_age v.head k.request now why is)
+  reason_holds (shown_for.keeps x kept is why_it) =
+      let had = kept_place_of k.place x kept in
+      let g = keeps limits contents h may run in
+      let waits = (turned_in_runs limits contents h may run).turns.passed c had.0 (Some x) k row had.1 in
+      let same : had.0 ≡ r = some_inj had.0 r (sym waits.current_is ∙ is) in
+      let at : k.place ≡ place.Passed r (Some x) = had.1 ∙ ap (λ n. place.Passed n (Some x)) same in
+      subst (IsReason contents h now c r) (sym why_it) (opening_is x (g.asker c r x k row at), or_right _ _ (g.chosen c r x k row at))

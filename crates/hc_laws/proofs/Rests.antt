@@ -1,0 +1,293 @@
+-- Who became bound as the only one and has no exchange of its own has all that is left, where nobody writes it.
+use Rattle.std.proofs.Common.{◌≡◌, ◌⊎◌, inl, inr, ℕ, ◌+◌, ◌-◌, ◌≤◌, List, Bool, true, false, Option, Some, None, refl, ap, sym, ◌∙◌, subst, arith}
+use Rattle.std.specs.Prelude.{if◌then◌else◌, is_some, ◌==◌, nat_eq, bytes_eq, codes, unwrap_or}
+use Rattle.std.proofs.lemmas.Bool.Decides.{nat_tests}
+use Rattle.std.proofs.lemmas.Slice.Eq.{bytes_eq-Decides}
+use Rattle.hc_range.specs.declared.range.ContentRange.TheVariants as range
+use Rattle.hc_text.specs.declared.bytes.MethodName.{MethodName}
+use Rattle.hc_event.specs.Filters.{Opening, opening_in}
+use Rattle.hc_event.specs.declared.act.Need.{Need}
+use Rattle.hc_event.specs.declared.event.Event.{Event}
+use Rattle.hc_event.specs.declared.event.Event.TheVariants as event
+use Rattle.hc_event.specs.declared.event.Request.{Request}
+use Rattle.hc_event.specs.declared.event.Response.{Response}
+use Rattle.hc_fields.specs.FieldElements.{elements_in}
+use Rattle.hc_rules.specs.declared.heads.HeadCase.{HeadCase}
+use Rattle.hc_rules.specs.declared.heads.HeadCase.TheVariants as case
+use Rattle.hc_rules.specs.declared.length.Length.TheVariants as lengths
+use Rattle.hc_rules.specs.declared.need.Route.TheVariants as route
+use Rattle.hc_rules.specs.declared.room.Limits.{Limits}
+use Rattle.hc_rules.specs.Lengths.{length_of, promise_of, is_bad, is_head, part_length, agrees, length_told}
+use Rattle.hc_rules.specs.Needs.{route_of}
+use Rattle.hc_rules.specs.RangeTexts.{content_range_of}
+use Rattle.hc_rules.specs.Requests.{is_disabled, is_get}
+use Rattle.hc_model.specs.declared.place.Place.TheVariants as place
+use Rattle.hc_model.specs.declared.place.BoundBy.{BoundBy}
+use Rattle.hc_model.specs.declared.place.BoundBy.TheVariants as by
+use Rattle.hc_model.specs.ActFilters.{loses_in}
+use Rattle.hc_model.specs.Cases.{case_at, is_joining}
+use Rattle.hc_model.specs.Closings.{is_refused}
+use Rattle.hc_model.specs.ConsumerRows.{consumer_heard, consumer_acted, by_opening, waiting, becomes_shared}
+use Rattle.hc_model.specs.Denials.{denial}
+use Rattle.hc_model.specs.Dooms.{doomed_by_case}
+use Rattle.hc_model.specs.Entries.{Entry}
+use Rattle.hc_model.specs.ExchangeRows.{promise_in}
+use Rattle.hc_model.specs.Exchanges.{is_open, family}
+use Rattle.hc_model.specs.Failures.{becomes_due}
+use Rattle.hc_model.specs.Flaws.{Flaw}
+use Rattle.hc_model.specs.Keys.{entry_of}
+use Rattle.hc_model.specs.Measures.{Measures}
+use Rattle.hc_model.specs.Owners.{Owners}
+use Rattle.hc_model.specs.Reading.{is_written, own_open, reads}
+use Rattle.hc_model.specs.Rows.{Tables, Exchange, Representation, Consumer}
+use Rattle.hc_model.specs.Sound.{Sound, IsBound, IsFirst, HasPen, IsHad}
+use Rattle.hc_model.specs.Sound as sound
+use Rattle.hc_model.specs.Tables.{after_accepted}
+use Rattle.hc_model.specs.Writers.{came_alone, status_in}
+use Rattle.hc_laws.proofs.AboutKeeps.{own_open_of}
+use Rattle.hc_model.proofs.ApartKeeps.{written_by}
+use Rattle.hc_model.proofs.Basics.{false_true, true_false, or_false, none_some, some_none}
+use Rattle.hc_model.proofs.Beside.{IsBeside}
+use Rattle.hc_model.proofs.BoundFrom.{BoundFrom, IsRow, IsFounded, IsShown, bound_from, place_inj}
+use Rattle.hc_model.proofs.BoundFrom as from
+use Rattle.hc_model.proofs.Dues.{due_before}
+use Rattle.hc_model.proofs.ExchangeFrom.{IsHeaded}
+use Rattle.hc_model.proofs.FirstKeeps.{case_of_head, whole_200, replaced_200, is_new, came_kept, one_first_kept, founded_came}
+use Rattle.hc_model.proofs.Forward as forward
+use Rattle.hc_laws.proofs.HadHeaded.{had_kept}
+use Rattle.hc_model.proofs.HeadKeeps.{IsJoin}
+use Rattle.hc_model.proofs.HoleLemmas.{bool_cases}
+use Rattle.hc_laws.proofs.LossBy.{IsReal}
+use Rattle.hc_model.proofs.Losses.{HasRest}
+use Rattle.hc_model.proofs.OwnNone.{IsShared, own_none, after_none}
+use Rattle.hc_model.proofs.PartTold.{part_order}
+use Rattle.hc_model.proofs.Pens.{same_row, writer_some}
+use Rattle.hc_model.proofs.PieceKeeps.{eq_cases, some_inj}
+use Rattle.hc_model.proofs.RepFrom.{RepFrom, rep_from, IsKept, IsResumed}
+use Rattle.hc_model.proofs.RepFrom as rep
+use Rattle.hc_laws.proofs.ServedKeeps.{rest_by, still_rests, resumed_not, none_promised}
+use Rattle.hc_laws.proofs.TogetherHeads as together
+use Rattle.hc_model.proofs.Waiters.{waiter_of}
+use Rattle.hc_laws.proofs.WriterEnds.{all_stored}
+
+-- WHO READS GETS A BODY
+
+-- who isn't past the store asks by GET
+get_of : (request : Request) → is_disabled request ≡ false → bytes_eq request.method (codes "GET") ≡ true
+unfolding is_disabled
+get_of request h = elim (bool_cases (is_get request)) [ inl on ↦ on | inr off ↦ absurd (true_false (rw off at h)) ]
+
+not_head : (request : Request) → bytes_eq request.method (codes "GET") ≡ true → is_head request ≡ false
+not_head request get = ap (λ (a : List ℕ). bytes_eq a (codes "HEAD")) ((bytes_eq-Decides request.method (codes "GET")).0 get)
+
+-- a part that isn't bad, of which a body comes, promises a byte
+promises_some : (n : Need) (request : Request) (response : Response) (first last total : ℕ) → route_of n ≡ route.Hole → is_head request ≡ false → response.status ≡ 206 → content_range_of response.fields ≡ Some (range.Part first last (Some total)) → is_bad (length_of n request response) ≡ false → promise_of (length_of n request response) ≡ Some 0 → ⊥
+unfolding length_of
+promises_some n request response first last total way plain status part good none =
+    let a : nat_eq response.status 204 ≡ false = (let st : response.status ≡ 206 = status in grind (arith, nat_tests)) in
+    let b : nat_eq response.status 304 ≡ false = (let st : response.status ≡ 206 = status in grind (arith, nat_tests)) in
+    let d : nat_eq response.status 206 ≡ true = (let st : response.status ≡ 206 = status in grind (arith, nat_tests)) in
+    let said = length_told (elements_in (codes "content-length") response.fields) in
+    let g : is_bad (part_length said (Some (range.Part first last (Some total)))) ≡ false = rw (plain, a, b, way, d, part) at good in
+    let p : promise_of (part_length said (Some (range.Part first last (Some total)))) ≡ Some 0 = rw (plain, a, b, way, d, part) at none in
+    by_test (agrees said (last + 1 - first)) g p
+  where
+    by_test : (b : Bool) → is_bad (if b then lengths.Part first (last + 1 - first) else lengths.Bad) ≡ false → promise_of (if b then lengths.Part first (last + 1 - first) else lengths.Bad) ≡ Some 0 → ⊥
+    by_test true g p = let order = part_order response.fields first last total part in let rises : first ≤ last = order.rises in let zero_is : last + 1 - first ≡ 0 = some_inj (last + 1 - first) 0 p in absurd (omega arith)
+    by_test false g p = true_false g
+
+joining_plain : (g : Option HeadCase) (w : Exchange) (response : Response) → is_joining g ≡ true → (is_refused g ≡ false) × (doomed_by_case g w response ≡ None)
+joining_plain (Some case.FirstJoins) w response h = (refl, refl)
+joining_plain (Some case.LaterJoins) w response h = (refl, refl)
+joining_plain None w response h = absurd (false_true h)
+joining_plain (Some case.DirectBad) w response h = absurd (false_true h)
+joining_plain (Some case.DirectTaken) w response h = absurd (false_true h)
+joining_plain (Some case.TurnBad) w response h = absurd (false_true h)
+joining_plain (Some case.Validated) w response h = absurd (false_true h)
+joining_plain (Some case.NotValidated) w response h = absurd (false_true h)
+joining_plain (Some case.TurnServerError) w response h = absurd (false_true h)
+joining_plain (Some case.FoundsWhole) w response h = absurd (false_true h)
+joining_plain (Some case.FoundsRange) w response h = absurd (false_true h)
+joining_plain (Some case.PassesBy) w response h = absurd (false_true h)
+joining_plain (Some case.FirstBad) w response h = absurd (false_true h)
+joining_plain (Some case.FirstServerError) w response h = absurd (false_true h)
+joining_plain (Some case.FirstChanged) w response h = absurd (false_true h)
+joining_plain (Some case.FirstReplaced) w response h = absurd (false_true h)
+joining_plain (Some case.FirstPassesBy) w response h = absurd (false_true h)
+joining_plain (Some case.LaterBad) w response h = absurd (false_true h)
+joining_plain (Some case.LaterChanged) w response h = absurd (false_true h)
+
+module _ (limits : Limits) (t : Tables) (now : ℕ) (flaw : Flaw) (s : Sound t) (o : Owners t) (m : Measures t) (i : IsBeside t) (ev : Event) (goes : denial t ev ≡ None) (real : IsReal limits t now ev flaw) where
+  abbrev e : Entry
+  e = entry_of limits t now ev flaw
+
+  abbrev now_on : Tables
+  now_on = after_accepted t e
+
+  module _ (r c lo : ℕ) (hi : Option ℕ) (how : BoundBy) (u : Consumer) (p : Representation) (after : now_on.representation r ≡ Some p) (after_row : now_on.consumer c ≡ Some u) (stands : u.place ≡ place.Bound r lo hi how) (fresh_now : p.is_lost ≡ false) (came : came_alone now_on (place.Bound r lo hi how) ≡ true) (none : u.due ≡ None) (unowned : u.own ≡ None) (unwritten : is_written now_on p ≡ false) where
+    abbrev Rested : Type 0
+    Rested = HasRest now_on p u
+
+    first_now : IsFirst now_on r c
+    first_now = sound.first u lo hi how after_row stands came
+
+    -- an open exchange about r would be its own
+    about_not : (x : ℕ) → sound.IsAbout now_on r x → ⊥
+    about_not x about = by_had (had_kept limits t now flaw s o m ev goes real r x p after about)
+      where
+        by_pen : (d : ℕ) → HasPen now_on r p d → IsFirst now_on r d
+        by_pen d (sound.first fresh is) = is
+        by_pen d (sound.alone lost is) = absurd (false_true (sym fresh_now ∙ lost))
+
+        by_row : (d : ℕ) (q : Consumer) → IsBound now_on r d q → d ≡ c → own_open now_on q ≡ Some x → ⊥
+        by_row d q (sound.is_bound a b g q_row at) same owned =
+            let one : q ≡ u = same_row (now_on.consumer c) q u (sym (ap now_on.consumer same) ∙ q_row) after_row in
+            none_some x (sym unowned ∙ (ap (λ (w : Consumer). w.own) (sym one) ∙ (own_open_of now_on q x owned).own))
+
+        by_had : IsHad now_on r p x → ⊥
+        by_had (sound.shared on writer) = false_true (sym unwritten ∙ on)
+        by_had (sound.own d q reader owned none_due pen) = by_row d q reader (one_first_kept limits t now flaw s ev goes r d c (by_pen d pen) first_now) owned
+
+    -- IT WAS BOUND
+
+    module _ (k : Consumer) (v : Representation) (row : IsRow t e c r lo hi how k u) (at : k.place ≡ place.Bound r lo hi how) (there : t.representation r ≡ Some v) (kept : IsKept t e r v p) where
+      parts : (loses_in r e.acts ≡ false) × (v.is_lost ≡ false)
+      parts = or_false (loses_in r e.acts) v.is_lost (sym kept.lost_is ∙ fresh_now)
+
+      before : (k.due ≡ None) × (becomes_due t e c k ≡ None)
+      before = due_before t e c k (consumer_acted t e c (consumer_heard t e c ev k)) u row.is (ap reads stands) none
+
+      -- its writing is over
+      by_writing : is_written t v ≡ true → (z : Option ℕ) → v.writer ≡ z → Rested
+      by_writing on None writer = absurd (writer_some t v on writer)
+      by_writing on (Some x) writer = elim (bool_cases (is_open (now_on.exchange x))) [
+        | inr off ↦ rest_by limits t now flaw s o m ev goes real r c lo hi how u p after after_row stands (all_stored limits t now flaw s o m ev goes real r c x lo hi how k u v p row at stands there on writer before.1 kept (inl parts.0) off) hi refl
+        | inl still ↦ absurd (false_true (sym unwritten ∙ written_by now_on p x fresh_now (by_writer kept.writer_is) still))
+      ]
+        where
+          by_writer : (p.writer ≡ v.writer) ⊎ IsResumed t e r v p.writer → p.writer ≡ Some x
+          by_writer (inl same) = same ∙ writer
+          by_writer (inr R) = absurd (resumed_not limits t now flaw s o m ev goes real r c lo hi how u p after after_row stands k v row at there kept before.0 before.1 on x writer R)
+
+      -- it had none
+      unowned_was : k.own ≡ None → Rested
+      unowned_was none_own = elim (bool_cases (is_written t v)) [
+        | inl on ↦ by_writing on v.writer refl
+        | inr off ↦
+            let came_was : came_alone t (place.Bound r lo hi how) ≡ true = sym (came_kept limits t now flaw s ev goes r lo hi how (ap is_some there)) ∙ came in
+            let rest = i.rested r c v k there parts.1 (sound.first k lo hi how row.row at came_was) (sound.is_bound lo hi how row.row at) before.0 none_own off in
+            still_rests limits t now flaw s o m ev goes real r c lo hi how u p after after_row stands k v row at there kept before.0 before.1 rest.hi rest.end rest.covered
+      ]
+
+      -- its exchange is written together from now on: it goes on, since it promises bytes
+      shared_not : IsShared t e c → ⊥
+      shared_not sh = elim (bool_cases (is_open (now_on.exchange sh.x))) [
+        | inl still ↦ about_not sh.x (sound.headed g.u g.row (sym (ap is_open g.row) ∙ still) (ap (λ (a : Option Response). is_some a) got.head_is) fam (ap is_some after))
+        | inr off ↦
+            let plain = joining_plain (case_at t e) sh.w sh.response joins in
+            let none_is : promise_in sh.w sh.response ≡ Some 0 = none_promised limits t now flaw s o m ev goes real r c lo hi how u p after after_row stands sh.x sh.response sh.w sh.at sh.row plain.0 plain.1 off in
+            promises_some sh.w.need sh.w.request got.response joined.fills.from joined.fills.last joined.fills.total way.0 unheaded joined.fills.status joined.fills.part joined.good (ap (λ a. promise_of (length_of sh.w.need sh.w.request a)) answer ∙ none_is)
+      ]
+        where
+          g : forward.IsOn t e sh.x sh.w
+          g = together.on limits t now flaw s o ev goes r c lo hi how k u row at stands none sh
+
+          got : IsHeaded t e sh.x sh.w g.u
+          got = together.got limits t now flaw s o ev goes r c lo hi how k u row at stands none sh
+
+          joins : is_joining (case_at t e) ≡ true
+          joins = together.joins limits t now flaw s o ev goes r c lo hi how k u row at stands none sh
+
+          joined : IsJoin t sh.w got.response
+          joined = together.joined limits t now flaw s o ev goes r c lo hi how k u row at stands none sh
+
+          way : (route_of sh.w.need ≡ route.Hole) × (sh.w.aim ≡ Some r)
+          way = together.way limits t now flaw s o ev goes r c lo hi how k u row at stands none sh
+
+          head_inj : (a d : ℕ) (f h : Response) → event.Head a f ≡ event.Head d h → f ≡ h
+          head_inj a d f h is = cc
+
+          answer : got.response ≡ sh.response
+          answer = head_inj sh.x sh.x got.response sh.response (sym got.at ∙ sh.at)
+
+          fam : family sh.x g.u ≡ r
+          fam =
+              let joined_now : (if is_joining (case_at t e) then sh.w.aim else sh.w.joined) ≡ Some r = rw joins way.1 in
+              ap (λ (n : Option ℕ). unwrap_or n sh.x) (got.joined_is ∙ joined_now)
+
+          unheaded : is_head sh.w.request ≡ false
+          unheaded =
+              let opener = o.opener sh.x sh.w sh.row in
+              let one : opener.k ≡ k = same_row (t.consumer c) opener.k k (sym (ap t.consumer sh.mine) ∙ opener.row) row.row in
+              let cached : is_disabled k.request ≡ false = i.cached c k row.row (ap Rattle.hc_model.proofs.Beside.is_cached_place at) in
+              let method_is : sh.w.request.method ≡ k.request.method = opener.method_is ∙ ap (λ (q : Consumer). q.request.method) one in
+              ap (λ (a : MethodName). bytes_eq a (codes "HEAD")) method_is ∙ not_head k.request (get_of k.request cached)
+
+      was_bound : Rested
+      was_bound = by_own (own_none t e c k u row.is unowned)
+        where
+          by_own : (k.own ≡ None) ⊎ IsShared t e c → Rested
+          by_own (inl none_own) = unowned_was none_own
+          by_own (inr sh) = absurd (shared_not sh)
+
+    -- IT FOUNDS A PART, AND KEEPS ITS EXCHANGE
+
+    founded_not : (k : Consumer) (x : ℕ) (response : Response) (w : Exchange) → IsRow t e c r lo hi how k u → ev ≡ event.Head x response → t.exchange x ≡ Some w → w.c ≡ c → x ≡ r → how ≡ by.Founding → IsFounded t e c r lo hi how x response w k (case_at t e) → ⊥
+    founded_not k x response w row here exchange_row mine of_r by_is all = by_own (own_none t e c k u row.is unowned)
+      where
+        new : Rattle.hc_model.proofs.FirstKeeps.IsNew limits t now flaw s ev goes x w
+        new = is_new limits t now flaw s ev goes x response w here exchange_row
+
+        status : response.status ≡ 206
+        status =
+            let founding : (status_in (now_on.representation r) == 206) ≡ true = subst (λ (b : BoundBy). came_alone now_on (place.Bound r lo hi b) ≡ true) by_is came in
+            founded_came limits t now flaw s ev goes x lo hi response (now_on.representation x) here new.unfounded refl (subst (λ q. (status_in (now_on.representation q) == 206) ≡ true) (sym of_r) founding)
+
+        not_200 : response.status ≡ 200 → ⊥
+        not_200 is = let a : response.status ≡ 200 = is in let b : response.status ≡ 206 = status in absurd (omega arith)
+
+        unshared : (g : Option HeadCase) → case_at t e ≡ g → IsFounded t e c r lo hi how x response w k g → becomes_shared t e response w g ≡ false
+        unshared _ is (from.whole a b) = absurd (not_200 (whole_200 t _ w response (case_of_head t e x response w case.FoundsWhole here exchange_row is)))
+        unshared _ is (from.replaced a b) = absurd (not_200 (replaced_200 t _ w response (case_of_head t e x response w case.FirstReplaced here exchange_row is)))
+        unshared _ is (from.part a) = refl
+
+        head_same : (a d : ℕ) (f h : Response) → event.Head a f ≡ event.Head d h → (a ≡ d) × (f ≡ h)
+        head_same a d f h is = (cc, cc)
+
+        by_own : (k.own ≡ None) ⊎ IsShared t e c → ⊥
+        by_own (inl none_own) =
+            let all = waiter_of limits t now flaw s o ev goes x w exchange_row new.is_open new.bare in
+            let one : all.0 ≡ k = same_row (t.consumer c) all.0 k (sym (ap t.consumer mine) ∙ all.1.row) row.row in
+            none_some x (sym none_own ∙ (ap (λ (q : Consumer). q.own) (sym one) ∙ all.1.own))
+        by_own (inr sh) =
+            let same = head_same sh.x x sh.response response (sym sh.at ∙ here) in
+            let one : sh.w ≡ w = same_row (t.exchange x) sh.w w (sym (ap t.exchange same.0) ∙ sh.row) exchange_row in
+            let shared : becomes_shared t e response w (case_at t e) ≡ true = ap (λ (a : Exchange). becomes_shared t e response a (case_at t e)) (sym one) ∙ (ap (λ (a : Response). becomes_shared t e a sh.w (case_at t e)) (sym same.1) ∙ sh.shared) in
+            false_true (sym (unshared (case_at t e) refl all) ∙ shared)
+
+    -- WHAT IS OPENED FOR IT IS ITS OWN
+
+    opens_not : (k : Consumer) (q : Opening) → IsRow t e c r lo hi how k u → opening_in e.acts ≡ Some q → q.c ≡ c → ⊥
+    opens_not k q row opens mine =
+        let h = consumer_heard t e c ev k in
+        let w = waiting t e c h in
+        let test : nat_eq q.c c ≡ true = eq_true q.c c mine in
+        let opened : (by_opening t c (opening_in e.acts) w).own ≡ Some q.x = ap (λ z. (by_opening t c z w).own) opens ∙ rw test refl in
+        some_none q.x (sym opened ∙ after_none t e c h.place (by_opening t c (opening_in e.acts) w).own (ap (λ (z : Consumer). z.own) row.is ∙ unowned))
+      where
+        eq_true : (a b : ℕ) → a ≡ b → nat_eq a b ≡ true
+        eq_true a b is = elim (eq_cases a b) [ inl here ↦ here.0 | inr other ↦ absurd (other.1 is) ]
+
+    by_way : BoundFrom t e c r lo hi how u → RepFrom t e r p → Rested
+    by_way (from.stays k row at) (rep.was v kept) = was_bound k v row at kept.row kept
+    by_way (from.stays k row at) (rep.founded response w none_there here exchange_row on made) = absurd (let there = s.numbered.bound_to r c k (sound.is_bound lo hi how row.row at) in false_true (sym (ap is_some none_there) ∙ there))
+    by_way (from.founds k x response w row here exchange_row mine of_r by_is all) from_rep = absurd (founded_not k x response w row here exchange_row mine of_r by_is all)
+    by_way (from.opens k q row opens mine free way hole) from_rep = absurd (opens_not k q row opens mine)
+    by_way (from.shows k z row is all) from_rep = absurd (false_true (subst (λ w. came_alone now_on (place.Bound r lo hi w) ≡ true) all.by_is came))
+
+  -- Who became bound as the only one has the rest, where it has no exchange and nobody writes.
+  pub rested_kept : (r c : ℕ) (p : Representation) (u : Consumer) → now_on.representation r ≡ Some p → p.is_lost ≡ false → IsFirst now_on r c → IsBound now_on r c u → u.due ≡ None → u.own ≡ None → is_written now_on p ≡ false → HasRest now_on p u
+  rested_kept r c p u after fresh (sound.first q a d g q_row q_at came) (sound.is_bound lo hi how after_row stands) none unowned unwritten =
+      let one : q ≡ u = same_row (now_on.consumer c) q u q_row after_row in
+      let came_now : came_alone now_on (place.Bound r lo hi how) ≡ true = subst (λ z. came_alone now_on z ≡ true) (sym q_at ∙ (ap (λ (z : Consumer). z.place) one ∙ stands)) came in
+      by_way r c lo hi how u p after after_row stands fresh came_now none unowned unwritten (bound_from t e c r lo hi how (t.consumer c) u refl after_row stands) (rep_from t e r (t.representation r) p refl after)

@@ -1,0 +1,59 @@
+-- What is sound stays so at each real entry, but for who goes on alone.
+use Rattle.std.proofs.Common.{◌≡◌, ℕ, Some, None}
+use Rattle.hc_event.specs.declared.event.Event.{Event}
+use Rattle.hc_rules.specs.declared.room.Limits.{Limits}
+use Rattle.hc_model.specs.Denials.{denial}
+use Rattle.hc_model.specs.Flaws.{Flaw}
+use Rattle.hc_model.specs.Keys.{entry_of}
+use Rattle.hc_model.specs.Measures.{Measures}
+use Rattle.hc_model.specs.Owners.{Owners}
+use Rattle.hc_model.specs.Rows.{Tables, Representation, Consumer}
+use Rattle.hc_model.specs.Sound.{Sound, IsBound, IsAlone}
+use Rattle.hc_model.specs.Tables.{after_accepted}
+use Rattle.hc_laws.proofs.AboutKeeps.{own_about_kept}
+use Rattle.hc_model.proofs.BoundKeeps.{binds_kept}
+use Rattle.hc_model.proofs.CurrentKeeps.{one_current_is_kept}
+use Rattle.hc_model.proofs.EventsKeep.{deliveries_are_kept}
+use Rattle.hc_model.proofs.FirstKeeps.{ends_kept, one_first_kept}
+use Rattle.hc_laws.proofs.GrowingKeeps.{growing_kept}
+use Rattle.hc_laws.proofs.HadHeaded.{had_kept}
+use Rattle.hc_laws.proofs.HasBound.{has_bound_kept}
+use Rattle.hc_laws.proofs.LossBy.{IsReal}
+use Rattle.hc_model.proofs.NamesKeep.{names_are_kept}
+use Rattle.hc_model.proofs.NumbersKeep.{numbers_are_kept}
+use Rattle.hc_laws.proofs.ServedKeeps.{served_kept}
+use Rattle.hc_model.proofs.StoreKeeps.{stores_are_kept}
+use Rattle.hc_laws.proofs.ToBeShown.{unshown_kept}
+use Rattle.hc_laws.proofs.UndueKeeps.{undue_kept}
+
+-- who goes on alone does so soundly
+abbrev pub GoAlone : Tables → Type 0
+GoAlone t = (r c : ℕ) (v : Representation) (k : Consumer) → t.representation r ≡ Some v → v.alone ≡ Some c → IsBound t r c k → k.due ≡ None → IsAlone t v k
+
+-- Each field of soundness but the last stays.
+pub sound_kept : (limits : Limits) (t : Tables) (now : ℕ) (flaw : Flaw) → Sound t → Owners t → Measures t → (ev : Event) → denial t ev ≡ None → IsReal limits t now ev flaw → GoAlone (after_accepted t (entry_of limits t now ev flaw)) → Sound (after_accepted t (entry_of limits t now ev flaw))
+sound_kept limits t now flaw s o m ev goes real alone = record {
+  numbered = record {
+    lists = numbers_are_kept limits t now flaw s ev goes;
+    names = names_are_kept limits t now flaw s ev goes;
+    bound_to = λ r c k reader. binds_kept limits t now flaw s ev goes r c k reader;
+  };
+  waits = (deliveries_are_kept limits t now flaw s ev goes).waits;
+  one_about = (deliveries_are_kept limits t now flaw s ev goes).one_about;
+  writes = record {
+    one_first = one_first_kept limits t now flaw s ev goes;
+    served = λ r c v k row reader none. served_kept limits t now flaw s o m ev goes real r c v k row reader none;
+    had = λ r x v row about. had_kept limits t now flaw s o m ev goes real r x v row about;
+    known_end = λ r c lo hi how k row at first. ends_kept limits t now flaw s ev goes r c lo hi how k row at first;
+    own_about = λ r c x k reader own. own_about_kept limits t now flaw s o ev goes real.stand r c x k reader own;
+    undue = λ r c v k row reader on. undue_kept limits t now flaw s o ev goes real.stand r c v k row reader on;
+    has_bound = λ r v row on. has_bound_kept limits t now flaw s o ev goes real.stand r v row on;
+  };
+  rows = λ r v row. record {
+    store = stores_are_kept limits t now flaw s ev goes r v row;
+    growing = λ x on writer. growing_kept limits t now flaw s o m ev goes real.stand r x v row on writer;
+  };
+  one_current = one_current_is_kept limits t now flaw s ev;
+  unshown = λ c r lo hi how k row at off. unshown_kept limits t now flaw s o ev goes c r lo hi how k row at off;
+  alone = alone;
+}

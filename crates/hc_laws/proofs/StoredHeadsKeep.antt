@@ -1,0 +1,195 @@
+-- The moments of stored heads stay in order, and no length stands among their fields.
+use Rattle.std.proofs.Common.{◌≡◌, inl, inr, ℕ, ◌≤◌, List, [], ◌∷◌, Bool, true, false, None, Option, Some, refl, ap, sym, ◌∙◌, subst, arith}
+use Rattle.std.specs.Prelude.{◌==◌, not, nat_le, find, option_map, codes}
+use Rattle.std.proofs.lemmas.Bool.Decides.{nat_tests}
+use Rattle.hc_event.specs.Filters.{is_denied}
+use Rattle.hc_event.specs.declared.event.Event.{Event}
+use Rattle.hc_event.specs.declared.event.Event.TheVariants as event
+use Rattle.hc_event.specs.declared.event.Response.{Response}
+use Rattle.hc_fields.specs.FirstValues.{has_field}
+use Rattle.hc_record.specs.Head.{Head}
+use Rattle.hc_rules.specs.declared.room.Limits.{Limits}
+use Rattle.hc_validate.specs.Updates.{is_modest}
+use Rattle.hc_model.specs.Beginnings.{may_begin, are_good, has_right_head}
+use Rattle.hc_model.specs.Entries.{Entry, History, Content, Contents}
+use Rattle.hc_model.specs.ExchangeRows.{exchange_heard, exchange_acted}
+use Rattle.hc_model.specs.Laws.{OfRuns}
+use Rattle.hc_model.specs.Rows.{Tables, Exchange, Representation}
+use Rattle.hc_model.specs.StoredHeads.{StoredHeads, IsModestHead, HeadsAreModest, AreModest}
+use Rattle.hc_model.specs.Tables.{tables, begun, loaded, after, after_accepted, after_denied}
+use Rattle.hc_model.proofs.Basics.{false_true, and_left, and_right, none_some}
+use Rattle.hc_model.proofs.ExchangeFrom.{ExchangeFrom, exchange_from}
+use Rattle.hc_model.proofs.ExchangeFrom as exchange
+use Rattle.hc_model.proofs.FieldsKeep.{length_kept, range_kept, length_none, range_none, modest_kept, modest_founded}
+use Rattle.hc_model.proofs.Forward.{after_is}
+use Rattle.hc_model.proofs.HeadFrom.{HeadFrom, head_from}
+use Rattle.hc_model.proofs.HeadFrom as from
+use Rattle.hc_model.proofs.PieceKeeps.{eq_cases, some_inj}
+use Rattle.hc_model.proofs.RepFrom.{RepFrom, rep_from}
+use Rattle.hc_model.proofs.RepFrom as rep
+use Rattle.hc_laws.proofs.RunFacts.{in_runs}
+
+not_yes : (b : Bool) → not b ≡ true → b ≡ false
+not_yes true h = absurd (false_true h)
+not_yes false h = refl
+
+-- the moment of its opening stays
+opened_heard : (t : Tables) (e : Entry) (x : ℕ) (ev : Event) (w : Exchange) → (exchange_heard t e x ev w).opened ≡ w.opened
+opened_heard t e x (event.Start c request) w = refl
+opened_heard t e x (event.Poll c want) w = refl
+opened_heard t e x (event.Head y response) w = elim (eq_cases y x) [ inl here ↦ rw here.0 refl | inr off ↦ rw off.0 refl ]
+opened_heard t e x (event.Piece y bytes) w = elim (eq_cases y x) [ inl here ↦ rw here.0 refl | inr off ↦ rw off.0 refl ]
+opened_heard t e x (event.End y) w = elim (eq_cases y x) [ inl here ↦ rw here.0 refl | inr off ↦ rw off.0 refl ]
+opened_heard t e x (event.Fault y) w = elim (eq_cases y x) [ inl here ↦ rw here.0 refl | inr off ↦ rw off.0 refl ]
+opened_heard t e x (event.Cancel c) w = refl
+opened_heard t e x (event.Doom key) w = refl
+
+-- of a head
+pub record IsDated (moment : ℕ) (head : Head) : Type 0 where
+  pub asked : head.requested ≤ head.answered
+  pub came : head.answered ≤ moment
+  pub no_length : has_field (codes "content-length") head.fields ≡ false
+  pub no_range : has_field (codes "content-range") head.fields ≡ false
+
+module _ (t : Tables) (e : Entry) (later : t.moment ≤ e.now) (g : StoredHeads t) where
+  abbrev now_on : Tables
+  now_on = after_accepted t e
+
+  opened_by : (x : ℕ) (u : Exchange) → now_on.exchange x ≡ Some u → ExchangeFrom t e x u → u.opened ≤ e.now
+  opened_by x u row (exchange.was w at same) =
+      let made : exchange_acted x e.acts (exchange_heard t e x e.event w) ≡ u = some_inj _ u (sym (after_is t e x w (t.exchange x) at) ∙ row) in
+      let is : w.opened ≡ u.opened = sym (opened_heard t e x e.event w) ∙ ap (λ (z : Exchange). z.opened) made in
+      let old : w.opened ≤ t.moment = g.opened x w at in
+      omega arith
+  opened_by x u row (exchange.new o none opening here is) = let now_is : e.now ≡ u.opened = ap (λ (z : Exchange). z.opened) is in omega arith
+
+  dated : (r : ℕ) (v : Representation) → t.representation r ≡ Some v → IsDated e.now v.head
+  dated r v row =
+      let old = g.moments r v row in
+      let came : v.head.answered ≤ t.moment = old.1 in
+      record { asked = old.0; came = omega arith; no_length = g.lengths r v row; no_range = g.ranges r v row }
+
+  dated_from : (r : ℕ) (v u : Representation) → t.representation r ≡ Some v → HeadFrom t e r v u → IsDated e.now u.head
+  dated_from r v u row (from.still same) = subst (IsDated e.now) (sym same) (dated r v row)
+  dated_from r v u row (from.told n is) = subst (IsDated e.now) (sym is) (let old = dated r v row in record { asked = old.asked; came = old.came; no_length = old.no_length; no_range = old.no_range })
+  dated_from r v u row (from.updated x response w here at is) =
+      let old = dated r v row in
+      let opened : w.opened ≤ t.moment = g.opened x w at in
+      subst (IsDated e.now) (sym is) (record {
+        asked = (let le : w.opened ≤ e.now = omega arith in le);
+        came = omega arith;
+        no_length = length_kept v.head.fields response.fields ∙ old.no_length;
+        no_range = range_kept v.head.fields response.fields ∙ old.no_range;
+      })
+
+  dated_by : (r : ℕ) (u : Representation) → RepFrom t e r u → IsDated e.now u.head
+  dated_by r u (rep.was v kept) = dated_from r v u kept.row (head_from t e r v u kept)
+  dated_by r u (rep.founded response w none here row on is) =
+      let opened : w.opened ≤ t.moment = g.opened r w row in
+      subst (λ (z : Representation). IsDated e.now z.head) is (record {
+        asked = (let le : w.opened ≤ e.now = omega arith in le);
+        came = omega arith;
+        no_length = length_none response.fields;
+        no_range = range_none response.fields;
+      })
+
+  dated_row : (r : ℕ) (u : Representation) → now_on.representation r ≡ Some u → IsDated e.now u.head
+  dated_row r u row = dated_by r u (rep_from t e r (t.representation r) u refl row)
+
+  pub heads_kept : StoredHeads now_on
+  heads_kept = record {
+    opened = λ x u row. opened_by x u row (exchange_from t e x (t.exchange x) u refl row);
+    moments = λ r u row. let d = dated_row r u row in (d.asked, d.came);
+    lengths = λ r u row. (dated_row r u row).no_length;
+    ranges = λ r u row. (dated_row r u row).no_range;
+  }
+
+heads_denied : (t : Tables) (e : Entry) → t.moment ≤ e.now → StoredHeads t → StoredHeads (after_denied t e)
+heads_denied t e later g = record {
+  opened = λ x w row. let old : w.opened ≤ t.moment = g.opened x w row in omega arith;
+  moments = λ r v row. let old = g.moments r v row in let came : v.head.answered ≤ t.moment = old.1 in (old.0, omega arith);
+  lengths = g.lengths;
+  ranges = g.ranges;
+}
+
+-- MODEST HEADS
+
+modest_head : (e : Entry) (x : ℕ) (response : Response) → e.event ≡ event.Head x response → IsModestHead e.event → is_modest response.fields ≡ true
+modest_head e x response here modest = subst IsModestHead here modest
+
+modest_from : (t : Tables) (e : Entry) (r : ℕ) (v u : Representation) → is_modest v.head.fields ≡ true → HeadFrom t e r v u → is_modest u.head.fields ≡ true
+modest_from t e r v u old (from.still same) = ap (λ (h : Head). is_modest h.fields) same ∙ old
+modest_from t e r v u old (from.told n is) = ap (λ (h : Head). is_modest h.fields) is ∙ old
+modest_from t e r v u old (from.updated x response w here at is) = ap (λ (h : Head). is_modest h.fields) is ∙ modest_kept v.head.fields response.fields old
+
+modest_by : (t : Tables) (e : Entry) (r : ℕ) (u : Representation) → IsModestHead e.event → AreModest t → RepFrom t e r u → is_modest u.head.fields ≡ true
+modest_by t e r u modest old (rep.was v kept) = modest_from t e r v u (old r v kept.row) (head_from t e r v u kept)
+modest_by t e r u modest old (rep.founded response w none here row on is) = sym (ap (λ (z : Representation). is_modest z.head.fields) is) ∙ modest_founded response.fields (modest_head e r response here modest)
+
+modest_step : (t : Tables) (e : Entry) (b : Bool) → is_denied e.acts ≡ b → IsModestHead e.event → AreModest t → AreModest (after t e)
+unfolding after
+modest_step t e true denied modest old = rw denied old
+modest_step t e false accepted modest old = rw accepted (λ r u row. modest_by t e r u modest old (rep_from t e r (t.representation r) u refl row))
+
+-- AT THE BEGINNING
+
+abbrev of_number : ℕ → Content → Bool
+of_number r item = item.r == r
+
+module _ (limits : Limits) (contents : Contents) where
+  right_item : (r : ℕ) (a : Content) (earlier items : List Content) → are_good limits contents earlier items ≡ true → find (of_number r) items ≡ Some a → has_right_head contents a ≡ true
+  right_item r a earlier [] good is = absurd (none_some a is)
+  right_item r a earlier (item ∷ later) good is = elim (eq_cases item.r r) [
+    | inl here ↦ ap (has_right_head contents) (sym (some_inj item a (rw here.0 at is))) ∙ and_right _ _ (and_left _ _ good)
+    | inr off ↦ right_item r a (item ∷ earlier) later (and_right _ _ good) (rw off.0 at is)
+  ]
+
+  module _ (may : may_begin limits contents ≡ true) where
+    good : are_good limits contents [] contents.items ≡ true
+    unfolding may_begin
+    good = and_left _ _ (and_left _ _ (and_left _ _ (and_left _ _ (and_left _ _ may))))
+
+    pub right_head : (r : ℕ) (item : Content) → find (of_number r) contents.items ≡ Some item → has_right_head contents item ≡ true
+    right_head r item found = right_item r item [] contents.items good found
+
+    dated_item : (item : Content) → has_right_head contents item ≡ true → IsDated contents.now (loaded item).head
+    dated_item item right =
+        let five = and_left _ _ right in
+        let four = and_left _ _ five in
+        let three = and_left _ _ four in
+        let asked : nat_le item.head.requested item.head.answered ≡ true = and_right _ _ (and_left _ _ three) in
+        let came : nat_le item.head.answered contents.now ≡ true = and_right _ _ three in
+        record {
+          asked = grind (arith, nat_tests);
+          came = grind (arith, nat_tests);
+          no_length = not_yes _ (and_right _ _ four);
+          no_range = not_yes _ (and_right _ _ five);
+        }
+
+    by_item : (P : Representation → Type 0) → ((item : Content) → has_right_head contents item ≡ true → P (loaded item)) → (r : ℕ) (v : Representation) (z : Option Content) → find (of_number r) contents.items ≡ z → option_map loaded z ≡ Some v → P v
+    by_item P holds r v None found row = absurd (none_some v row)
+    by_item P holds r v (Some item) found row = subst P (some_inj (loaded item) v row) (holds item (right_head r item found))
+
+    dated_begun : (r : ℕ) (v : Representation) → (begun contents).representation r ≡ Some v → IsDated contents.now v.head
+    dated_begun r v row = by_item (λ (z : Representation). IsDated contents.now z.head) dated_item r v (find (of_number r) contents.items) refl row
+
+    heads_begin : StoredHeads (begun contents)
+    heads_begin = record {
+      opened = λ x w row. absurd (none_some w row);
+      moments = λ r v row. let d = dated_begun r v row in (d.asked, d.came);
+      lengths = λ r v row. (dated_begun r v row).no_length;
+      ranges = λ r v row. (dated_begun r v row).no_range;
+    }
+
+    modest_begin : AreModest (begun contents)
+    modest_begin r v row = by_item (λ (z : Representation). is_modest z.head.fields ≡ true) (λ item right. and_right _ _ right) r v (find (of_number r) contents.items) refl row
+
+-- IN RUNS
+
+pub heads_in_runs : OfRuns StoredHeads
+heads_in_runs = in_runs (λ limits t. StoredHeads t) (λ limits contents may. heads_begin limits contents may) (λ limits t e later g. heads_denied t e later g) (λ limits t now flaw later c g ev goes real. heads_kept t _ later g)
+
+pub modest_in_runs : (limits : Limits) (contents : Contents) (h : History) → may_begin limits contents ≡ true → HeadsAreModest h → AreModest (tables contents h)
+unfolding tables
+modest_in_runs limits contents [] may modest = modest_begin limits contents may
+modest_in_runs limits contents (e ∷ h) may modest = modest_step (tables contents h) e (is_denied e.acts) refl modest.1 (modest_in_runs limits contents h may modest.0)

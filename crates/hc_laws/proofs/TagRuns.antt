@@ -1,0 +1,151 @@
+-- In every run what has no tag by which others could join it comes from its one exchange, or is all there.
+use Rattle.std.proofs.Common.{◌≡◌, ◌≢◌, inl, inr, ℕ, List, [], ◌∷◌, Bool, true, false, Option, Some, None, refl, ap, sym, ◌∙◌, arith}
+use Rattle.std.specs.Prelude.{is_some, ◌||◌, ◌==◌, not, nat_eq, find, option_map, if◌then◌else◌}
+use Rattle.std.specs.List.{list_any}
+use Rattle.std.proofs.lemmas.Bool.Decides.{nat_tests}
+use Rattle.hc_record.specs.declared.kind.Kind.{Kind}
+use Rattle.hc_record.specs.declared.kind.Kind.TheVariants as kind
+use Rattle.hc_rules.specs.declared.room.Limits.{Limits}
+use Rattle.hc_sparse.specs.Cells.{Covers, size_below}
+use Rattle.hc_sparse.specs.Runs.{cells_of}
+use Rattle.hc_sparse.specs.declared.run.Run.{Run}
+use Rattle.hc_model.specs.Beginnings.{may_begin, needs_tag, is_whole, is_kind_right, kind_of_runs, same_kind}
+use Rattle.hc_model.specs.Entries.{Content, Contents}
+use Rattle.hc_model.specs.Laws.{OfRuns}
+use Rattle.hc_model.specs.Origins.{HasByte}
+use Rattle.hc_model.specs.Rows.{Representation}
+use Rattle.hc_model.specs.StoredHeads.{IsOfOne, Tags}
+use Rattle.hc_model.specs.StoredHeads as heads
+use Rattle.hc_model.specs.Tables.{begun, loaded, last_end, bytes_in}
+use Rattle.hc_model.proofs.Basics.{false_true, and_left, and_right, or_false, none_some}
+use Rattle.hc_model.proofs.MeasuresBegin.{rising_item, known_item}
+use Rattle.hc_model.proofs.OriginsBegin.{byte_of, has_run}
+use Rattle.hc_model.proofs.PieceKeeps.{eq_cases, some_inj}
+use Rattle.hc_model.proofs.Positions.{below_full, bytes_below}
+use Rattle.hc_laws.proofs.RunFacts.{in_runs}
+use Rattle.hc_laws.proofs.StoredHeadsKeep.{right_head}
+use Rattle.hc_laws.proofs.TagsKeep.{tags_kept, tags_denied}
+
+not_yes : (b : Bool) → not b ≡ true → b ≡ false
+not_yes true h = absurd (false_true h)
+not_yes false h = refl
+
+not_no : (b : Bool) → not b ≡ false → b ≡ true
+not_no true h = refl
+not_no false h = absurd (let no : true ≡ false = h in cc)
+
+-- an item without a tag
+record IsUntagged (item : Content) : Type 0 where
+  whole : is_whole item.head.kind ≡ true
+  full : (item.head.status == 206) ≡ false
+  own : list_any (λ (run : Run). not (run.x == item.r)) item.runs ≡ false
+
+untagged : (item : Content) → needs_tag item ≡ false → IsUntagged item
+untagged item none =
+    let a = or_false _ _ none in
+    let b = or_false _ _ a.0 in
+    record { whole = not_no (is_whole item.head.kind) b.0; full = b.1; own = a.1 }
+
+-- each run is of its own number
+own_runs : (r x : ℕ) (runs : List Run) → list_any (λ (run : Run). not (run.x == r)) runs ≡ false → list_any (λ (run : Run). run.x == x) runs ≡ true → x ≡ r
+own_runs r x [] none any = absurd (false_true any)
+own_runs r x (run ∷ runs) none any = elim (eq_cases run.x x) [
+  | inl here ↦
+      let test : nat_eq run.x r ≡ true = not_no (run.x == r) (or_false _ _ none).0 in
+      let is : run.x ≡ r = grind (arith, nat_tests) in
+      sym here.1 ∙ is
+  | inr off ↦ own_runs r x runs (or_false _ _ none).1 (rw off.0 at any)
+]
+
+whole_is : (k : Kind) → is_whole k ≡ true → k ≡ kind.Whole
+whole_is kind.Growing h = absurd (false_true h)
+whole_is kind.Whole h = refl
+whole_is kind.Truncated h = absurd (false_true h)
+whole_is kind.Ranges h = absurd (false_true h)
+
+same_whole : (k : Kind) → same_kind kind.Whole k ≡ true → k ≡ kind.Whole
+same_whole kind.Growing h = absurd (false_true h)
+same_whole kind.Whole h = refl
+same_whole kind.Truncated h = absurd (false_true h)
+same_whole kind.Ranges h = absurd (false_true h)
+
+-- whole runs have every position below the length
+whole_by : (a b : Bool) → (if a then kind.Whole else if b then kind.Truncated else kind.Ranges) ≡ kind.Whole → a ≡ true
+whole_by true b h = refl
+whole_by false true h = absurd (let no : kind.Truncated ≡ kind.Whole = h in cc)
+whole_by false false h = absurd (let no : kind.Ranges ≡ kind.Whole = h in cc)
+
+module _ (limits : Limits) (contents : Contents) (may : may_begin limits contents ≡ true) where
+  abbrev item_at : ℕ → Option Content
+  item_at r = find (λ (item : Content). item.r == r) contents.items
+
+  module _ (r : ℕ) (item : Content) (v : Representation) (found : item_at r ≡ Some item) (row : loaded item ≡ v) (none : v.head.joining ≡ None) where
+    no_tag : IsUntagged item
+    no_tag =
+        let five = and_left _ _ (and_left _ _ (and_left _ _ (right_head limits contents may r item found))) in
+        let wants : (not (needs_tag item) || is_some item.head.joining) ≡ true = and_left _ _ (and_left _ _ five) in
+        let without : is_some item.head.joining ≡ false = ap is_some (ap (λ (z : Representation). z.head.joining) row ∙ none) in
+        untagged item (by_or (needs_tag item) (is_some item.head.joining) wants without)
+      where
+        by_or : (a b : Bool) → (not a || b) ≡ true → b ≡ false → a ≡ false
+        by_or false b h off = refl
+        by_or true b h off = absurd (false_true (sym off ∙ h))
+
+    all_there : (z : Option ℕ) → item.head.total ≡ z → is_kind_right item z ≡ true → IsOfOne (begun contents) v
+    all_there None is right = absurd (false_true right)
+    all_there (Some total) is right =
+        let kinds : same_kind item.head.kind (kind_of_runs item.runs total) ≡ true = and_right _ _ right in
+        let whole : kind_of_runs item.runs total ≡ kind.Whole = same_whole _ (sym (ap (λ k. same_kind k (kind_of_runs item.runs total)) (whole_is item.head.kind no_tag.whole)) ∙ kinds) in
+        let both = whole_by _ _ whole in
+        let ends : nat_eq (last_end item.runs) (bytes_in item.runs) ≡ true = and_left _ _ both in
+        let sums : nat_eq (bytes_in item.runs) total ≡ true = and_right _ _ both in
+        let same : last_end item.runs ≡ bytes_in item.runs = grind (arith, nat_tests) in
+        let length_is : bytes_in item.runs ≡ total = grind (arith, nat_tests) in
+        let count : bytes_in item.runs ≡ size_below (cells_of item.runs) (last_end item.runs) = bytes_below 0 0 item.runs (rising_item limits contents may r item found) in
+        let covered : Covers (cells_of item.runs) 0 (last_end item.runs) = below_full (cells_of item.runs) (last_end item.runs) (omega arith) in
+        heads.whole total (sym (ap (λ (z : Representation). z.head.total) row) ∙ is) (λ p lo hi. ap (λ (z : Representation). is_some (z.stored p)) (sym row) ∙ covered p lo (omega arith))
+
+    one : IsOfOne (begun contents) v
+    one = all_there item.head.total refl (known_item limits contents may r item found)
+
+    parts : v.head.status ≢ 206
+    parts is =
+        let same : item.head.status ≡ v.head.status = ap (λ (z : Representation). z.head.status) row in
+        let here : item.head.status ≡ 206 = same ∙ is in
+        let test : nat_eq item.head.status 206 ≡ true = grind (arith, nat_tests) in
+        false_true (sym no_tag.full ∙ test)
+
+    number : item.r ≡ r
+    number = by_find contents.items found
+      where
+        by_find : (items : List Content) → find (λ (z : Content). z.r == r) items ≡ Some item → item.r ≡ r
+        by_find [] h = absurd (none_some item h)
+        by_find (a ∷ items) h = elim (eq_cases a.r r) [
+          | inl here ↦ ap (λ (z : Content). z.r) (sym (some_inj a item (rw here.0 at h))) ∙ here.1
+          | inr off ↦ by_find items (rw off.0 at h)
+        ]
+
+    own : (x : ℕ) → has_run x item ≡ true → x ≡ r
+    own x has = own_runs item.r x item.runs no_tag.own has ∙ number
+
+  -- a row is that of an item
+  by_row : (P : Type 0) → (r : ℕ) (v : Representation) (z : Option Content) → item_at r ≡ z → option_map loaded z ≡ Some v → ((item : Content) → item_at r ≡ Some item → loaded item ≡ v → P) → P
+  by_row P r v None found row h = absurd (none_some v row)
+  by_row P r v (Some item) found row h = h item found (some_inj (loaded item) v row)
+
+  own_byte : (r x : ℕ) (v : Representation) (item : Content) → item_at r ≡ Some item → loaded item ≡ v → v.head.joining ≡ None → HasByte (begun contents) r x → x ≡ r
+  own_byte r x v item found row none has =
+      let b = byte_of limits contents r x has in
+      let same : b.item ≡ item = some_inj b.item item (sym b.found ∙ found) in
+      own r item v found row none x (ap (has_run x) (sym same) ∙ b.has)
+
+  tags_begin : Tags (begun contents)
+  tags_begin = record {
+    joined = λ x r w v row is there none. none_some w row;
+    parts = λ r v row none is. by_row ⊥ r v (item_at r) refl row (λ item found same. parts r item v found same none is);
+    own = λ r x v row none has. by_row (x ≡ r) r v (item_at r) refl row (λ item found same. own_byte r x v item found same none has);
+    one = λ r v row not_gone none. by_row (IsOfOne (begun contents) v) r v (item_at r) refl row (λ item found same. one r item v found same none);
+  }
+
+pub tags_in_runs : OfRuns Tags
+tags_in_runs = in_runs (λ limits t. Tags t) (λ limits contents may. tags_begin limits contents may) (λ limits t e later g. tags_denied t e g) (λ limits t now flaw later c g ev goes real. tags_kept limits t now flaw c g ev goes real)

@@ -1,0 +1,58 @@
+-- Whose exchange is written together from now on had its head come: that joined what it is bound to.
+use Rattle.std.proofs.Common.{◌≡◌, ◌⊎◌, inl, inr, ℕ, true, Option, Some, None, ap, sym, ◌∙◌}
+use Rattle.hc_event.specs.declared.event.Event.{Event}
+use Rattle.hc_rules.specs.Needs.{route_of}
+use Rattle.hc_rules.specs.declared.need.Route.TheVariants as route
+use Rattle.hc_rules.specs.declared.room.Limits.{Limits}
+use Rattle.hc_model.specs.declared.place.BoundBy.{BoundBy}
+use Rattle.hc_model.specs.declared.place.Place.TheVariants as place
+use Rattle.hc_model.specs.Cases.{case_at, is_joining}
+use Rattle.hc_model.specs.Denials.{denial}
+use Rattle.hc_model.specs.Entries.{Entry}
+use Rattle.hc_model.specs.Flaws.{Flaw}
+use Rattle.hc_model.specs.Keys.{entry_of}
+use Rattle.hc_model.specs.Owners.{Owners}
+use Rattle.hc_model.specs.Rows.{Tables, Exchange, Consumer}
+use Rattle.hc_model.specs.Sound.{Sound}
+use Rattle.hc_model.proofs.BoundFrom.{IsRow}
+use Rattle.hc_model.proofs.ExchangeFrom.{IsHeaded, IsSame}
+use Rattle.hc_model.proofs.FirstKeeps.{IsNew, is_new}
+use Rattle.hc_model.proofs.Forward.{IsOn, is_on}
+use Rattle.hc_model.proofs.HeadKeeps.{IsJoin}
+use Rattle.hc_laws.proofs.HeadTo as to
+use Rattle.hc_model.proofs.OwnNone.{IsShared}
+use Rattle.hc_model.proofs.Pens.{same_row}
+use Rattle.hc_model.proofs.Waiters.{IsWaiter, waiter_of}
+
+module _ (limits : Limits) (t : Tables) (now : ℕ) (flaw : Flaw) (s : Sound t) (o : Owners t) (ev : Event) (goes : denial t ev ≡ None) where
+  abbrev e : Entry
+  e = entry_of limits t now ev flaw
+
+  module _ (r c lo : ℕ) (hi : Option ℕ) (how : BoundBy) (k u : Consumer) (row : IsRow t e c r lo hi how k u) (at : k.place ≡ place.Bound r lo hi how) (stands : u.place ≡ place.Bound r lo hi how) (none : u.due ≡ None) (sh : IsShared t e c) where
+    new : IsNew limits t now flaw s ev goes sh.x sh.w
+    new = is_new limits t now flaw s ev goes sh.x sh.response sh.w sh.at sh.row
+
+    waits : (q : Consumer) × IsWaiter t sh.w.c sh.x q sh.w
+    waits = waiter_of limits t now flaw s o ev goes sh.x sh.w sh.row new.is_open new.bare
+
+    owned_k : k.own ≡ Some sh.x
+    owned_k = let all = waits in ap (λ (q : Consumer). q.own) (sym (same_row (t.consumer c) all.0 k (sym (ap t.consumer sh.mine) ∙ all.1.row) row.row)) ∙ all.1.own
+
+    pub on : IsOn t e sh.x sh.w
+    on = is_on t e sh.x sh.w sh.row
+
+    by_heard : (a : Exchange) (same : IsSame t e sh.x sh.w a) → ((a.head ≡ sh.w.head) × (a.joined ≡ sh.w.joined)) ⊎ IsHeaded t e sh.x sh.w a → IsHeaded t e sh.x sh.w a
+    by_heard a same (inl still) = absurd (same.unheard (still.0 ∙ new.bare) sh.response sh.at)
+    by_heard a same (inr got) = got
+
+    pub got : IsHeaded t e sh.x sh.w on.u
+    got = by_heard on.u on.same on.same.heard_or
+
+    pub joins : is_joining (case_at t e) ≡ true
+    joins = to.joins limits t now flaw s o ev goes r c sh.x lo hi how k u sh.w on.u row at stands none owned_k sh.row on.same got
+
+    pub joined : IsJoin t sh.w got.response
+    joined = to.joined limits t now flaw s o ev goes r c sh.x lo hi how k u sh.w on.u row at stands none owned_k sh.row on.same got
+
+    pub way : (route_of sh.w.need ≡ route.Hole) × (sh.w.aim ≡ Some r)
+    way = to.way limits t now flaw s o ev goes r c sh.x lo hi how k u sh.w on.u row at stands none owned_k sh.row on.same got

@@ -1,0 +1,65 @@
+-- What is called truncated is some first bytes, since as many bytes are stored as positions: records are truthful in every run.
+use Rattle.std.proofs.Common.{◌≡◌, inl, inr, ℕ, ◌<◌, ◌≤◌, true, false, Bool, cond, Option, Some, None, refl, ap, sym, ◌∙◌, arith}
+use Rattle.std.specs.Prelude.{is_some, nat_lt, option_map}
+use Rattle.std.specs.Option.{option_and_then}
+use Rattle.std.proofs.lemmas.Bool.Decides.{nat_tests}
+use Rattle.hc_record.specs.declared.kind.Kind.TheVariants as kind
+use Rattle.hc_sparse.specs.Cells.{Cell, Covers, size_below}
+use Rattle.hc_model.specs.Kinds.{kind_of, kind_at, is_growing, is_complete, is_front}
+use Rattle.hc_model.specs.Laws.{OfRuns, IsFront, IsTruthful, TruncatedIsFront}
+use Rattle.hc_model.specs.Rows.{Representation}
+use Rattle.hc_model.specs.Sound.{IsStored}
+use Rattle.hc_model.specs.Tables.{tables}
+use Rattle.hc_model.proofs.Basics.{and_left}
+use Rattle.hc_model.proofs.HoleLemmas.{bool_cases, covers_all}
+use Rattle.hc_model.proofs.KeyNames.{and_then}
+use Rattle.hc_model.proofs.Positions.{no_other_below}
+use Rattle.hc_laws.proofs.SizesKeep.{sizes_in_runs}
+use Rattle.hc_laws.proofs.SoundRuns.{runs_are_sound}
+use Rattle.hc_model.proofs.Truthful.{whole_is}
+
+front_by : (growing complete front : Bool) → (cond growing kind.Growing (cond complete kind.Whole (cond front kind.Truncated kind.Ranges))) ≡ kind.Truncated → front ≡ true
+front_by growing complete true h = refl
+front_by true complete false h = absurd (let never : kind.Growing ≡ kind.Truncated = h in cc)
+front_by false true false h = absurd (let never : kind.Whole ≡ kind.Truncated = h in cc)
+front_by false false false h = absurd (let never : kind.Ranges ≡ kind.Truncated = h in cc)
+
+none_by : (o : Option Cell) → (is_some o ≡ true → ⊥) → o ≡ None
+none_by None h = refl
+none_by (Some cell) h = absurd (h refl)
+
+-- behind the reach nothing is stored
+behind_reach : (v : Representation) (p : ℕ) → IsStored v → v.reach ≤ p → is_some (v.stored p) ≡ true → ⊥
+behind_reach v p store le there =
+    let none : v.stored p ≡ None = store.some_stored p there ∙ store.ends p le in
+    let never : false ≡ true = ap is_some (sym none) ∙ there in
+    cc
+
+front_of : (v : Representation) → IsStored v → v.size ≡ size_below v.stored v.reach → is_front v ≡ true → IsFront v
+front_of v store count h =
+    let some : 0 < v.size = (let test : nat_lt 0 v.size ≡ true = and_left _ _ h in grind (arith, nat_tests)) in
+    let all : Covers v.stored 0 v.size = covers_all v.stored v.reach 0 v.size (and_then (nat_lt 0 v.size) _ h) in (
+      v.size,
+      some,
+      all,
+      λ p le. none_by (v.stored p) (λ there. elim (bool_cases (nat_lt p v.reach)) [
+        | inl within ↦ no_other_below v.stored v.size p v.reach all (sym count) le (grind (arith, nat_tests)) there
+        | inr past ↦ behind_reach v p store (grind (arith, nat_tests)) there
+      ]),
+    )
+
+pub truncated_is : TruncatedIsFront
+unfolding kind_of
+truncated_is t s key r v is row count found =
+    let at : option_map (kind_of t r) (Some v) ≡ Some kind.Truncated = sym (ap (option_and_then (kind_at t)) is ∙ ap (option_map (kind_of t r)) row) ∙ found in
+    let same : kind_of t r v ≡ kind.Truncated = cc in
+    front_of v (s.rows r v row).store count (front_by (is_growing t r) (is_complete v) (is_front v) same)
+
+-- Records are truthful in every run.
+pub truth_in_runs : OfRuns IsTruthful
+truth_in_runs limits contents h may run =
+    let t = tables contents h in
+    record {
+      whole = whole_is t;
+      truncated = λ key r v is row kind. truncated_is t (runs_are_sound limits contents h may run) key r v is row ((sizes_in_runs limits contents h may run).counted r v row) kind;
+    }

@@ -1,0 +1,158 @@
+-- What isn't gone and has no known length is being written for several.
+use Rattle.std.proofs.Common.{◌≡◌, ◌⊎◌, inl, inr, ℕ, ◌+◌, Bool, true, false, Option, Some, None, refl, ap, sym, ◌∙◌}
+use Rattle.std.specs.Prelude.{is_some, ◌&&◌, ◌==◌, not, nat_lt, unwrap_or, option_map}
+use Rattle.std.specs.Option.{option_or}
+use Rattle.hc_event.specs.declared.event.Event.{Event}
+use Rattle.hc_event.specs.declared.event.Event.TheVariants as event
+use Rattle.hc_event.specs.declared.event.Response.{Response}
+use Rattle.hc_rules.specs.declared.room.Limits.{Limits}
+use Rattle.hc_model.specs.Beginnings.{may_begin, is_kind_right}
+use Rattle.hc_model.specs.Cases.{case_at, is_founding}
+use Rattle.hc_model.specs.Denials.{denial}
+use Rattle.hc_model.specs.Entries.{Entry, Content, Contents}
+use Rattle.hc_model.specs.Exchanges.{is_open}
+use Rattle.hc_model.specs.Flaws.{Flaw}
+use Rattle.hc_model.specs.Gone.{is_keepable, refuses_ranges}
+use Rattle.hc_model.specs.Keys.{entry_of}
+use Rattle.hc_model.specs.Laws.{item_of, AfterDenials}
+use Rattle.hc_model.specs.Measures.{Measures, IsMeasured}
+use Rattle.hc_model.specs.Measures as measures
+use Rattle.hc_model.specs.Owners.{Owners}
+use Rattle.hc_model.specs.Reading.{is_written}
+use Rattle.hc_model.specs.Holes.{covers}
+use Rattle.hc_model.specs.RepresentationRows.{represented, asks_whole, hole_start, resumes}
+use Rattle.hc_model.specs.Rows.{Tables, Exchange, Representation}
+use Rattle.hc_model.specs.Sound.{Sound, IsGrowing, end_from}
+use Rattle.hc_model.specs.Tables.{loaded, begun, after_accepted}
+use Rattle.hc_model.proofs.ApartKeeps.{written_by, is_on}
+use Rattle.hc_model.proofs.Basics.{false_true, none_some, some_none}
+use Rattle.hc_model.proofs.DeniedKeeps.{written_same}
+use Rattle.hc_laws.proofs.LossBy.{IsReal}
+use Rattle.hc_model.proofs.MeasuresBegin.{known_item}
+use Rattle.hc_model.proofs.PieceKeeps.{some_inj}
+use Rattle.hc_model.proofs.Pens.{writer_some}
+use Rattle.hc_model.proofs.RepFrom.{RepFrom, rep_from, IsKept, IsResumed, IsEnded}
+use Rattle.hc_model.proofs.RepFrom as rep
+use Rattle.hc_laws.proofs.Lasting.{was_not_gone, not_lost, lasting}
+use Rattle.hc_laws.proofs.FoundedAs.{FoundedAs, founded_as}
+use Rattle.hc_laws.proofs.FoundedAs as founded
+use Rattle.hc_laws.proofs.WritingStops.{IsAll}
+
+ends_none : (n : ℕ) (q : Option ℕ) → end_from n q ≡ None → q ≡ None
+ends_none n None h = refl
+ends_none n (Some a) h = absurd (some_none (n + a) h)
+
+or_none : (a : Option ℕ) (n : ℕ) → option_or a (Some n) ≡ None → ⊥
+or_none None n h = some_none n h
+or_none (Some a) n h = some_none a h
+
+pub record IsOnlyWritten (t : Tables) (v : Representation) : Type 0 where
+  pub written : is_written t v ≡ true
+  pub whole : v.head.status ≡ 200
+
+abbrev pub Unknown : Tables → Type 0
+Unknown t = (r : ℕ) (v : Representation) → t.representation r ≡ Some v → v.is_gone ≡ false → v.head.total ≡ None → IsOnlyWritten t v
+
+-- AT THE BEGINNING
+
+begun_known : (item : Content) (z : Option ℕ) → is_kind_right item z ≡ true → z ≡ None → ⊥
+begun_known item None right none = false_true right
+begun_known item (Some n) right none = some_none n none
+
+pub unknown_begun : (limits : Limits) (contents : Contents) → may_begin limits contents ≡ true → Unknown (begun contents)
+unknown_begun limits contents may r v there not_gone none = by_item (item_of contents r) refl there
+  where
+    by_item : (z : Option Content) → item_of contents r ≡ z → option_map loaded z ≡ Some v → IsOnlyWritten (begun contents) v
+    by_item None found is = absurd (none_some v is)
+    by_item (Some item) found is =
+        absurd (begun_known item item.head.total (known_item limits contents may r item found) (ap (λ (q : Representation). q.head.total) (some_inj (loaded item) v is) ∙ none))
+
+pub unknown_denied : AfterDenials Unknown
+unknown_denied t e u r v there not_gone none = let w = u r v there not_gone none in record { written = written_same t e v ∙ w.written; whole = w.whole }
+
+-- AFTER AN ENTRY
+
+module _ (limits : Limits) (t : Tables) (now : ℕ) (flaw : Flaw) (s : Sound t) (o : Owners t) (m : Measures t) (unknown : Unknown t) (ev : Event) (goes : denial t ev ≡ None) (real : IsReal limits t now ev flaw) where
+  abbrev e : Entry
+  e = entry_of limits t now ev flaw
+
+  abbrev now_on : Tables
+  now_on = after_accepted t e
+
+  module _ (r : ℕ) (v p : Representation) (there : t.representation r ≡ Some v) (kept : IsKept t e r v p) (not_gone : p.is_gone ≡ false) (none : p.head.total ≡ None) where
+    none_before : v.head.total ≡ None
+    none_before = by_total kept.total_is
+      where
+        by_total : (p.head.total ≡ v.head.total) ⊎ IsEnded t e r v p.head.total → v.head.total ≡ None
+        by_total (inl same) = sym same ∙ none
+        by_total (inr ends) = absurd (or_none v.head.total _ (sym ends.total_is ∙ none))
+
+    was : IsOnlyWritten t v
+    was = unknown r v there (was_not_gone limits t now flaw s o m ev goes r v p there kept not_gone) none_before
+
+    unkeepable : is_keepable v ≡ false
+    unfolding is_keepable
+    unkeepable = rw none_before (by_parts (is_some v.head.joining))
+      where
+        by_parts : (a : Bool) → (a && false && nat_lt 0 v.size && not (refuses_ranges v)) ≡ false
+        by_parts true = refl
+        by_parts false = refl
+
+    module _ (x : ℕ) (writer : v.writer ≡ Some x) where
+      grows : (w : Exchange) × IsGrowing t r v x w
+      grows = (s.rows r v there).growing x was.written writer
+
+      abbrev w : Exchange
+      w = grows.0
+
+      g : IsGrowing t r v x w
+      g = grows.1
+
+      was_open : w.is_open ≡ true
+      was_open = sym (ap is_open g.row) ∙ (is_on t v x was.written writer).open_now
+
+      mine : x ≡ r
+      mine = by_measure (m.brings x w v g.row was_open g.headed (ap t.representation g.family_is ∙ there))
+        where
+          by_measure : IsMeasured w v → x ≡ r
+          by_measure (measures.told n total promise known ends) = absurd (none_some total (sym none_before ∙ known))
+          by_measure (measures.untold none_too unknown_too first alone was_at) = sym (ap (λ (n : Option ℕ). unwrap_or n x) alone) ∙ g.family_is
+
+      still : is_open (now_on.exchange x) ≡ true
+      still = by_end (lasting limits t now flaw s o m ev goes r v p there kept not_gone unkeepable was.whole was.written (writer ∙ ap Some mine))
+        where
+          by_end : (is_open (now_on.exchange r) ≡ true) ⊎ IsAll p → is_open (now_on.exchange x) ≡ true
+          by_end (inl on) = ap (λ n. is_open (now_on.exchange n)) mine ∙ on
+          by_end (inr all) = absurd (none_some all.total (sym none ∙ all.known))
+
+      writer_now : (p.writer ≡ v.writer) ⊎ IsResumed t e r v p.writer → p.writer ≡ Some x
+      writer_now (inl same) = same ∙ writer
+      writer_now (inr R) = absurd (by_parts R.resumed)
+        where
+          by_test : (a b d : Bool) → (a && false && b && d) ≡ true → ⊥
+          by_test true b d h = false_true h
+          by_test false b d h = false_true h
+
+          by_parts : resumes t R.response R.w v ≡ true → ⊥
+          by_parts h = by_test (asks_whole (t.consumer R.w.c)) (covers v.stored v.reach 0 (hole_start R.w.need)) (v.size == hole_start R.w.need) (rw none_before at h)
+
+      by_writer : IsOnlyWritten now_on p
+      by_writer = record { written = written_by now_on p x (kept.lost_is ∙ rw (not_lost limits t now flaw s o m ev goes r v p there kept not_gone, (is_on t v x was.written writer).kept) refl) (writer_now kept.writer_is) still; whole = kept.status_is ∙ was.whole }
+
+    writes_on : (z : Option ℕ) → v.writer ≡ z → IsOnlyWritten now_on p
+    writes_on None is = absurd (writer_some t v was.written is)
+    writes_on (Some x) is = by_writer x is
+
+  -- WHAT IS FOUNDED
+
+  founded_by : (r : ℕ) (response : Response) (w : Exchange) (p : Representation) (here : ev ≡ event.Head r response) (row : t.exchange r ≡ Some w) (founding : is_founding (case_at t e) ≡ true) (made : represented r e response w ≡ p) (after : now_on.representation r ≡ Some p) → p.head.total ≡ None → FoundedAs limits t now flaw s o m ev goes real r response w p here row founding made after → IsOnlyWritten now_on p
+  founded_by r response w p here row founding made after none (founded.comes on writer status) = record { written = on; whole = sym (ap (λ (q : Representation). q.head.status) made) ∙ status }
+  founded_by r response w p here row founding made after none (founded.empty status known) = absurd (none_some 0 (sym none ∙ known))
+  founded_by r response w p here row founding made after none (founded.part total status known fits) = absurd (none_some total (sym none ∙ known))
+
+  pub unknown_kept : Unknown now_on
+  unknown_kept r p after not_gone none = by_rep (rep_from t e r (t.representation r) p refl after)
+    where
+      by_rep : RepFrom t e r p → IsOnlyWritten now_on p
+      by_rep (rep.was v kept) = writes_on r v p kept.row kept not_gone none v.writer refl
+      by_rep (rep.founded response w none_there here row on made) = founded_by r response w p here row on made after none (founded_as limits t now flaw s o m ev goes real r response w p here row on made after)

@@ -1,0 +1,9 @@
+use Rattle.hc_model.proofs.NamesKeep.{names_are_kept}
+use Rattle.hc_model.proofs.NumbersKeep.{numbers_are_kept}
+use Rattle.hc_laws.proofs.laws.numbers_are_given_out.Goals as goal
+
+pub returns-clause-listed : goal.returns-clause-listed
+returns-clause-listed c = numbers_are_kept
+
+pub returns-clause-named : goal.returns-clause-named
+returns-clause-named c = names_are_kept

@@ -1,6 +1,0 @@
--- Each open exchange is somebody's.
-use Rattle.hc_model.proofs.WhoseRuns.{whose_in_runs}
-use Rattle.hc_model.proofs.laws.exchanges_are_somebodys.Goals as goal
-
-pub returns : goal.returns
-returns c = whose_in_runs

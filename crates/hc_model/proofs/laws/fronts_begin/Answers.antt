@@ -1,5 +1,0 @@
-use Rattle.hc_model.proofs.FrontRuns.{fronts_in_runs}
-use Rattle.hc_model.proofs.laws.fronts_begin.Goals as goal
-
-pub returns : goal.returns
-returns c = fronts_in_runs

@@ -1,6 +1,0 @@
--- Numbers stay small.
-use Rattle.hc_model.proofs.NumberRuns.{numbers_in_runs}
-use Rattle.hc_model.proofs.laws.numbers_stay_small.Goals as goal
-
-pub returns : goal.returns
-returns c = numbers_in_runs

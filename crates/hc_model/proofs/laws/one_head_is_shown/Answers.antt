@@ -1,5 +1,0 @@
-use Rattle.hc_model.proofs.OneHead.{one_head_is_shown}
-use Rattle.hc_model.proofs.laws.one_head_is_shown.Goals as goal
-
-pub returns : goal.returns
-returns c = one_head_is_shown

@@ -1,5 +1,0 @@
-use Rattle.hc_model.proofs.CurrentKeeps.{one_current_is_kept}
-use Rattle.hc_model.proofs.laws.one_is_current.Goals as goal
-
-pub returns : goal.returns
-returns c = one_current_is_kept

@@ -1,6 +1,0 @@
--- Who was let through waits for what is current.
-use Rattle.hc_model.proofs.PassedRuns.{passed_in_runs}
-use Rattle.hc_model.proofs.laws.passed_wait_for_current.Goals as goal
-
-pub returns : goal.returns
-returns c = passed_in_runs

@@ -1,6 +1,0 @@
--- Where a consumer stands tells what holds of it.
-use Rattle.hc_model.proofs.PlaceRuns.{places_in_runs}
-use Rattle.hc_model.proofs.laws.places_are_known.Goals as goal
-
-pub returns : goal.returns
-returns c = places_in_runs

@@ -1,5 +1,0 @@
-use Rattle.hc_model.proofs.ReadWhole.{runs_read_whole}
-use Rattle.hc_model.proofs.laws.runs_read_whole.Goals as goal
-
-pub returns : goal.returns
-returns c = runs_read_whole

@@ -27,17 +27,17 @@ use Rattle.hc_model.specs.Rows.{Representation}
 use Rattle.hc_model.specs.Tables.{begun, loaded, last_end, bytes_in}
 use Rattle.hc_model.proofs.Basics.{and_left, and_right, or_false, append_none}
 use Rattle.hc_entries.specs.Entries.{shelf_of}
-use Rattle.hc_core.specs.declared.rows.Rows.{Rows}
+use Rattle.hc_rows.specs.declared.rows.Rows.{Rows}
+use Rattle.hc_rows.specs.Stands.{RowsStand}
+use Rattle.hc_rows.specs.Stored.{KeepsEntry}
 use Rattle.hc_core.specs.Begins.{with_items, KeepsItem}
-use Rattle.hc_core.specs.Stands.{RowsStand}
-use Rattle.hc_core.specs.Stored.{KeepsEntry}
 use Rattle.hc_contents.specs.declared.contents.Content as coded
 use Rattle.hc_contents.specs.declared.contents.Contents as coded_all
 use Rattle.hc_contents.specs.Told.{told, told_item}
 use Rattle.hc_contents.proofs.Counting.{longer}
+use Rattle.hc_rows.proofs.BegunRuns.{runs_more}
+use Rattle.hc_rows.proofs.Words.{eqb-same, false_true, none_some}
 use Rattle.hc_core.proofs.BegunRows.{stands_more}
-use Rattle.hc_core.proofs.BegunRuns.{runs_more}
-use Rattle.hc_core.proofs.Words.{eqb-same, false_true, none_some}
 
 -- RUN BY RUN
 

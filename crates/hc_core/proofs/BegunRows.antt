@@ -28,16 +28,16 @@ use Rattle.hc_model.specs.Kinds.{kind_of}
 use Rattle.hc_model.specs.Reading.{bound}
 use Rattle.hc_model.specs.Rows.{Tables, Representation}
 use Rattle.hc_model.specs.Tables.{begun, loaded, numbers, last_end}
-use Rattle.hc_core.specs.declared.rows.Rows.{Rows}
+use Rattle.hc_rows.specs.declared.rows.Rows.{Rows}
+use Rattle.hc_rows.specs.declared.consumer.Consumer.{Consumer}
+use Rattle.hc_rows.specs.Kept.{KeepsConsumer, KeepsExchange, KeepsRunning}
+use Rattle.hc_rows.specs.Lines.{KeepsKey}
+use Rattle.hc_rows.specs.Stands.{RowsStand}
+use Rattle.hc_rows.specs.Stored.{IsEntry, KeepsEntry, KeepsEntries, TellsLength, is_usable_row}
+use Rattle.hc_rows.specs.Stored as stored
+use Rattle.hc_rows.proofs.BegunRuns.{runs_cells, runs_reach, runs_rest, kind_begun, whole_begun}
+use Rattle.hc_rows.proofs.Words.{eqb-same, false_true, none_some, as_received, none_received}
 use Rattle.hc_core.specs.Begins.{with_items, kept_item, KeepsItem}
-use Rattle.hc_core.specs.declared.consumer.Consumer.{Consumer}
-use Rattle.hc_core.specs.Kept.{KeepsConsumer, KeepsExchange, KeepsRunning}
-use Rattle.hc_core.specs.Lines.{KeepsKey}
-use Rattle.hc_core.specs.Stands.{RowsStand}
-use Rattle.hc_core.specs.Stored.{IsEntry, KeepsEntry, KeepsEntries, TellsLength, is_usable_row}
-use Rattle.hc_core.specs.Stored as stored
-use Rattle.hc_core.proofs.BegunRuns.{runs_cells, runs_reach, runs_rest, kind_begun, whole_begun}
-use Rattle.hc_core.proofs.Words.{eqb-same, false_true, none_some, as_received, none_received}
 
 -- BEFORE THE FIRST
 

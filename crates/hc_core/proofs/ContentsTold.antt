@@ -27,19 +27,19 @@ use Rattle.hc_model.proofs.PollKeeps.{current_stays}
 use Rattle.hc_exch.specs.Exchanges.{next_of}
 use Rattle.hc_contents.specs.declared.contents.Contents as coded_all
 use Rattle.hc_contents.specs.Told.{told, told_item}
+use Rattle.hc_rows.specs.declared.rows.Rows.{Rows}
+use Rattle.hc_rows.specs.Facts.{Facts}
+use Rattle.hc_rows.specs.Good.{StandsUntil}
+use Rattle.hc_rows.specs.Remains.{TellsOne, TellsAll}
+use Rattle.hc_rows.specs.Stands.{RowsStand}
+use Rattle.hc_rows.specs.Stored.{IsEntry, KeepsEntry, TellsLength}
+use Rattle.hc_rows.specs.Stored as stored
+use Rattle.hc_rows.proofs.ReaderSteps.{stands_read}
+use Rattle.hc_rows.proofs.Rooms.{idle_is}
+use Rattle.hc_rows.proofs.Standing.{facts_of_runs}
+use Rattle.hc_rows.proofs.Words.{false_true, none_some, some_is}
 use Rattle.hc_core.specs.declared.cache.Cache.{Cache}
-use Rattle.hc_core.specs.declared.rows.Rows.{Rows}
-use Rattle.hc_core.specs.Facts.{Facts}
-use Rattle.hc_core.specs.Good.{StandsUntil}
-use Rattle.hc_core.specs.Remains.{TellsOne, TellsAll}
-use Rattle.hc_core.specs.Stands.{RowsStand}
 use Rattle.hc_core.specs.Steps.{StandsFor}
-use Rattle.hc_core.specs.Stored.{IsEntry, KeepsEntry, TellsLength}
-use Rattle.hc_core.specs.Stored as stored
-use Rattle.hc_core.proofs.ReaderSteps.{stands_read}
-use Rattle.hc_core.proofs.Rooms.{idle_is}
-use Rattle.hc_core.proofs.Standing.{facts_of_runs}
-use Rattle.hc_core.proofs.Words.{false_true, none_some, some_is}
 
 -- WHAT STAYS
 

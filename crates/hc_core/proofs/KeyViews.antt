@@ -16,11 +16,11 @@ use Rattle.hc_model.specs.Lines.{turn}
 use Rattle.hc_model.specs.Rows.{Tables, Representation}
 use Rattle.hc_model.specs.Tables.{tables}
 use Rattle.hc_laws.proofs.SoundRuns.{runs_are_sound}
+use Rattle.hc_rows.proofs.CurrentTies.{IsNow, now_kept}
+use Rattle.hc_rows.proofs.TurnTies.{turn_of_is}
+use Rattle.hc_rows.proofs.Words.{none_some, some_is}
 use Rattle.hc_core.specs.declared.cache.Cache.{Cache}
 use Rattle.hc_core.specs.Steps.{StandsFor}
-use Rattle.hc_core.proofs.CurrentTies.{IsNow, now_kept}
-use Rattle.hc_core.proofs.TurnTies.{turn_of_is}
-use Rattle.hc_core.proofs.Words.{none_some, some_is}
 
 module _ {B : Type 0} {g : Ghosts B} (s : Cache B g) (key : List ℕ) (contents : Contents) (h : History) (stands : StandsFor s contents h) where
   abbrev t : Tables

@@ -35,18 +35,18 @@ use Rattle.hc_laws.proofs.ChainRuns.{chains_in_runs}
 use Rattle.hc_laws.proofs.InRuns.{delivers_in_runs, turns_in_runs, dooms_in_runs}
 use Rattle.hc_laws.proofs.TruthRuns.{truth_in_runs}
 use Rattle.hc_step.specs.Modest.{IsModestEvent}
-use Rattle.hc_core.specs.declared.rows.Rows.{Rows}
+use Rattle.hc_rows.specs.declared.rows.Rows.{Rows}
+use Rattle.hc_rows.specs.Stands.{RowsStand, Answers, gate_of, is_fault}
+use Rattle.hc_rows.specs.Facts.{Facts}
+use Rattle.hc_rows.specs.Good.{StandsUntil, counted}
+use Rattle.hc_rows.proofs.Gates.{denies_as}
+use Rattle.hc_rows.proofs.Sets.{acts_set}
+use Rattle.hc_rows.proofs.Standing.{facts_of_runs}
+use Rattle.hc_rows.proofs.Words.{none_some}
+use Rattle.hc_rows.proofs.Undenied.{undenied}
+use Rattle.hc_rows.proofs.Denying.{stands_denied, stands_begun}
 use Rattle.hc_core.specs.declared.cache.Cache.{Cache}
-use Rattle.hc_core.specs.Stands.{RowsStand, Answers, gate_of, is_fault}
-use Rattle.hc_core.specs.Facts.{Facts}
-use Rattle.hc_core.specs.Good.{StandsUntil, counted}
 use Rattle.hc_core.specs.Steps.{StandsFor, Steps, KeepsPromises, failures_in}
-use Rattle.hc_core.proofs.Gates.{denies_as}
-use Rattle.hc_core.proofs.Sets.{acts_set}
-use Rattle.hc_core.proofs.Standing.{facts_of_runs}
-use Rattle.hc_core.proofs.Words.{none_some}
-use Rattle.hc_core.proofs.Undenied.{undenied}
-use Rattle.hc_core.proofs.Denying.{stands_denied, stands_begun}
 
 -- THE BEGINNING
 

@@ -13,11 +13,11 @@ use Rattle.hc_model.specs.Entries.{Content, Contents}
 use Rattle.hc_model.specs.Tables.{begun, bytes_in}
 use Rattle.hc_contents.specs.Fit.{unfit_of}
 use Rattle.hc_contents.specs.declared.unfit.Unfit.TheVariants as unfit
+use Rattle.hc_rows.specs.declared.rows.Rows.{Rows}
+use Rattle.hc_rows.specs.Stands.{RowsStand}
 use Rattle.hc_core.specs.declared.begin.ContentsError.{ContentsError}
 use Rattle.hc_core.specs.declared.begin.ContentsError.TheVariants as error
 use Rattle.hc_core.specs.declared.begin.ContentsRefused.{ContentsRefused}
-use Rattle.hc_core.specs.declared.rows.Rows.{Rows}
-use Rattle.hc_core.specs.Stands.{RowsStand}
 
 -- ITEM BY ITEM
 

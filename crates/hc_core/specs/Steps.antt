@@ -16,8 +16,8 @@ use Rattle.hc_model.specs.Laws.{DeliversOnce, HasOneTurn, IsBehindDooms, IsTruth
 use Rattle.hc_model.specs.Numbers.{AreShort}
 use Rattle.hc_model.specs.Runs.{IsRun}
 use Rattle.hc_model.specs.Tables.{tables}
+use Rattle.hc_rows.specs.Stands.{RowsStand, is_fault, most_before}
 use Rattle.hc_core.specs.declared.cache.Cache.{Cache}
-use Rattle.hc_core.specs.Stands.{RowsStand, is_fault, most_before}
 
 -- WHAT A CACHE HAS
 

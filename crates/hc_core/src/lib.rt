@@ -4,12 +4,7 @@
 mod acts;
 mod begin;
 mod cache;
-mod changes;
-mod consumer;
-mod founded;
 mod rows;
-mod stop;
-mod stored;
 
 pub use acts::MOST_ACTS;
 pub use begin::{ContentsError, ContentsRefused};

@@ -7,7 +7,7 @@ ghost use Rattle.hc_core.specs.Steps.{StandsFor, ServesAll, faults_in, limits_in
 
 use crate::begin::{ContentsError, ContentsRefused, failure_of, refusal_of};
 use crate::cache::Cache;
-use crate::rows::Rows;
+use crate::rows::begin::{before, begin_with};
 use hc_contents::Contents;
 use hc_rules::Limits;
 use hc_store::Backend;
@@ -38,14 +38,14 @@ impl<B: Backend> Cache<B> {
         if let Some(why) = refusal_of(contents, limits, alloc) {
             return Err(ContentsRefused { why, backend });
         }
-        let mut rows = match Rows::before(backend, limits, contents, alloc) {
+        let mut rows = match before(backend, limits, contents, alloc) {
             Ok(rows) => rows,
             Err(backend) => {
                 let why = ContentsError::NoMemory;
                 return Err(ContentsRefused { why, backend });
             }
         };
-        if let Err(error) = rows.begin_with(contents) {
+        if let Err(error) = begin_with(&mut rows, contents) {
             let why = failure_of(error);
             let backend = rows.entries.into_store();
             return Err(ContentsRefused { why, backend });

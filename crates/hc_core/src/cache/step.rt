@@ -5,16 +5,17 @@ ghost use Rattle.hc_step.specs.Modest.{IsModestEvent};
 ghost use Rattle.hc_store.specs.Slots.{no_slots};
 ghost use Rattle.hc_model.specs.Entries.{no_contents};
 ghost use Rattle.hc_model.specs.Tables.{received_in};
-ghost use Rattle.hc_core.specs.Good.{is_refused, takes_no_memory, counted};
+ghost use Rattle.hc_rows.specs.Good.{is_refused, takes_no_memory, counted};
 ghost use Rattle.hc_core.specs.Steps.{StandsFor, Steps, KeepsPromises, has_failed, last_moment, steps, received, store_in, limits_in};
 
 use crate::acts::MOST_ACTS;
 use crate::cache::Cache;
-use crate::rows::Rows;
+use crate::rows::answer::answer;
 use hc_entries::Entries;
 use hc_entry::KeyTable;
 use hc_event::{Acts, Event};
 use hc_exch::Exchanges;
+use hc_rows::Rows;
 use hc_rules::Limits;
 use hc_store::Backend;
 use hc_text::NoMemory;
@@ -78,7 +79,7 @@ impl<B: Backend> Cache<B> {
             return Err(NoMemory);
         }
         self.failed = true;
-        self.rows.answer(now, event, out)?;
+        answer(&mut self.rows, now, event, out)?;
         self.last_moment = now;
         self.steps += 1;
         self.failed = false;

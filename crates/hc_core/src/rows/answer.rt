@@ -8,50 +8,106 @@ ghost use Rattle.hc_rules.specs.Refusals.{refusal_of};
 ghost use Rattle.hc_entries.specs.Entries.{shelf_of};
 ghost use Rattle.hc_exch.specs.Exchanges.{next_of};
 ghost use Rattle.hc_model.specs.Tables.{received_in};
-ghost use Rattle.hc_core.specs.Stands.{gate_of, Answers};
-ghost use Rattle.hc_core.specs.Good.{StandsUntil, takes_no_memory, counted};
+ghost use Rattle.hc_rows.specs.Stands.{gate_of, Answers};
+ghost use Rattle.hc_rows.specs.Good.{StandsUntil, takes_no_memory, counted};
 
 use crate::acts::{MOST_ACTS, put};
-use crate::rows::Rows;
+use crate::rows::doom::take_doom;
+use crate::rows::gate::refuses;
+use crate::rows::head::take_head;
+use crate::rows::leave::cancel;
+use crate::rows::piece::take_piece;
+use crate::rows::poll::poll;
+use crate::rows::start::start;
+use crate::rows::stop::{end, fault};
 use hc_event::{Act, Acts, Event};
+use hc_rows::Rows;
 use hc_store::Backend;
 use hc_text::NoMemory;
 
-impl<B: Backend> Rows<B> {
-    /// Appends the acts of an event: Denied and why, or what is owed to it. A denied event is
-    /// counted, and changes nothing else. After NoMemory the acts are as before.
-    pub(crate) fn answer(&mut self, now: u64, event: &Event, out: &mut Acts) -> Result<(), NoMemory>
-        requires stands { ∥ StandsUntil self.old now ∥₁ }
-        requires early { now < 2 ^ 62 }
-        requires modest { IsModestEvent event.now }
-        requires few { next_of self.old.exchanges < 2 ^ 62 }
-        requires small { self.old.received + received_in event.now < 2 ^ 61 }
-        ensures denied { OnOk result ((why : Refusal)
-            → refusal_of (gate_of self.old event.now) event.now ≡ Some why
-            → (self.new ≡ counted event.now self.old)
-            × (listed out.new ≡ listed out.old ++ act.Denied why ∷ [])) }
-        ensures accepted { OnOk result (refusal_of (gate_of self.old event.now) event.now ≡ None
-            → Answers self.old self.new (listed out.old) (listed out.new) now event.now) }
-        ensures next { OnOk result
-            (next_of self.new.exchanges ≤ next_of self.old.exchanges + 1) }
-        ensures received { OnOk result
-            (self.new.received ≡ self.old.received + received_in event.now) }
-        ensures limits { OnOk result (self.new.limits ≡ self.old.limits) }
-        ensures faults { OnOk result
-            ((shelf_of self.old.entries).faults ≤ (shelf_of self.new.entries).faults) }
-        ensures kept { OnErr result (listed out.new ≡ listed out.old) }
-        ensures frees { takes_no_memory event.now ≡ true → MOST_ACTS ≤ spare out.old
-            → IsOk result }
-    {
-        if out.spare() < MOST_ACTS {
-            out.reserve(MOST_ACTS)?;
+/// Appends the acts of an event: Denied and why, or what is owed to it. A denied event is
+/// counted, and changes nothing else. After NoMemory the acts are as before.
+pub(crate) fn answer<B: Backend>(
+    rows: &mut Rows<B>,
+    now: u64,
+    event: &Event,
+    out: &mut Acts,
+) -> Result<(), NoMemory>
+    requires stands { ∥ StandsUntil rows.old now ∥₁ }
+    requires early { now < 2 ^ 62 }
+    requires modest { IsModestEvent event.now }
+    requires few { next_of rows.old.exchanges < 2 ^ 62 }
+    requires small { rows.old.received + received_in event.now < 2 ^ 61 }
+    ensures denied { OnOk result ((why : Refusal)
+        → refusal_of (gate_of rows.old event.now) event.now ≡ Some why
+        → (rows.new ≡ counted event.now rows.old)
+        × (listed out.new ≡ listed out.old ++ act.Denied why ∷ [])) }
+    ensures accepted { OnOk result (refusal_of (gate_of rows.old event.now) event.now ≡ None
+        → Answers rows.old rows.new (listed out.old) (listed out.new) now event.now) }
+    ensures next { OnOk result (next_of rows.new.exchanges ≤ next_of rows.old.exchanges + 1) }
+    ensures received { OnOk result (rows.new.received ≡ rows.old.received + received_in event.now) }
+    ensures limits { OnOk result (rows.new.limits ≡ rows.old.limits) }
+    ensures faults { OnOk result
+        ((shelf_of rows.old.entries).faults ≤ (shelf_of rows.new.entries).faults) }
+    ensures kept { OnErr result (listed out.new ≡ listed out.old) }
+    ensures frees { takes_no_memory event.now ≡ true → MOST_ACTS ≤ spare out.old → IsOk result }
+{
+    if out.spare() < MOST_ACTS {
+        out.reserve(MOST_ACTS)?;
+    }
+    let Some(refusal) = refuses(rows, event) else {
+        return accept(rows, now, event, out);
+    };
+    put(out, Act::Denied { refusal });
+    rows.received += received_in(event);
+    Ok(())
+}
+
+/// Does what an event says that isn't denied.
+fn accept<B: Backend>(
+    rows: &mut Rows<B>,
+    now: u64,
+    event: &Event,
+    out: &mut Acts,
+) -> Result<(), NoMemory>
+    requires stands { ∥ StandsUntil rows.old now ∥₁ }
+    requires early { now < 2 ^ 62 }
+    requires modest { IsModestEvent event.now }
+    requires accepted { refusal_of (gate_of rows.old event.now) event.now ≡ None }
+    requires few { next_of rows.old.exchanges < 2 ^ 62 }
+    requires small { rows.old.received + received_in event.now < 2 ^ 61 }
+    requires room { MOST_ACTS ≤ spare out.old }
+    ensures answers { OnOk result
+        (Answers rows.old rows.new (listed out.old) (listed out.new) now event.now) }
+    ensures next { OnOk result (next_of rows.new.exchanges ≤ next_of rows.old.exchanges + 1) }
+    ensures received { OnOk result (rows.new.received ≡ rows.old.received + received_in event.now) }
+    ensures limits { OnOk result (rows.new.limits ≡ rows.old.limits) }
+    ensures faults { OnOk result
+        ((shelf_of rows.old.entries).faults ≤ (shelf_of rows.new.entries).faults) }
+    ensures kept { OnErr result (listed out.new ≡ listed out.old) }
+    ensures frees { takes_no_memory event.now ≡ true → IsOk result }
+{
+    match event {
+        Event::Start { c, request } => start(rows, now, *c, request),
+        Event::Poll { c, want } => poll(rows, now, *c, *want, out),
+        Event::Head { x, response } => take_head(rows, now, *x, response, out),
+        Event::Piece { x, bytes } => { take_piece(rows, now, *x, bytes.bytes.as_slice(), out) }
+        Event::End { x } => {
+            end(rows, now, *x, out);
+            Ok(())
         }
-        let Some(refusal) = self.refuses(event) else {
-            return self.accept(now, event, out);
-        };
-        put(out, Act::Denied { refusal });
-        self.received += received_in(event);
-        Ok(())
+        Event::Fault { x } => {
+            fault(rows, now, *x, out);
+            Ok(())
+        }
+        Event::Cancel { c } => {
+            cancel(rows, now, *c, out);
+            Ok(())
+        }
+        Event::Doom { key } => {
+            take_doom(rows, now, key, out);
+            Ok(())
+        }
     }
 }
 

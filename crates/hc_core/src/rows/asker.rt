@@ -8,75 +8,72 @@ ghost use Rattle.hc_model.specs.Effects.{with_consumer, with_representation};
 ghost use Rattle.hc_model.specs.Lawful.{Lawful};
 ghost use Rattle.hc_model.specs.Rows.{Tables, Exchange, Representation, Consumer};
 ghost use Rattle.hc_model.specs.StartingOver.{awaited};
-ghost use Rattle.hc_core.specs.Arms.{IsInKey};
-ghost use Rattle.hc_core.specs.Facts.{Facts};
-ghost use Rattle.hc_core.specs.Heads.{AwaitsHead, StandsApart};
-ghost use Rattle.hc_core.specs.Stands.{RowsStand, StandsForSome};
+ghost use Rattle.hc_rows.specs.Arms.{IsInKey};
+ghost use Rattle.hc_rows.specs.Facts.{Facts};
+ghost use Rattle.hc_rows.specs.Heads.{AwaitsHead, StandsApart};
+ghost use Rattle.hc_rows.specs.Stands.{RowsStand, StandsForSome};
 
-use crate::changes::{stand, start_over};
-use crate::rows::Rows;
 use crate::rows::gone::{leave_key, unbind_from};
 use hc_model::Place;
+use hc_rows::{Rows, stand, start_over};
 use hc_store::Backend;
 
-impl<B: Backend> Rows<B> {
-    /// A consumer that waits for the head of its exchange waits for its key no more, is bound to
-    /// nothing, and stands there: it reads that exchange past the store, or is to fail.
-    pub(super) fn stand_aside(&mut self, c: u64, place: Place)
-        requires stands { ∥ StandsForSome self.old ∥₁ }
-        requires live { is_some (get nat_eq self.old.consumers c) ≡ true }
-        ensures stands { (t : Tables) (x : ℕ) (w : Exchange) (k : Consumer)
-            → Facts self.old.limits t → AwaitsHead t x w k → w.c ≡ c → StandsApart x place
-            → RowsStand self.old t
-            → RowsStand self.new (with_consumer c (Some (record k { place = place })) t) }
-        ensures exchanges { self.new.exchanges ≡ self.old.exchanges }
-        ensures received { self.new.received ≡ self.old.received }
-        ensures limits { self.new.limits ≡ self.old.limits }
-        ensures faults { (shelf_of self.new.entries).faults ≡ (shelf_of self.old.entries).faults }
-    {
-        let consumer = self.consumers.get(&c).unwrap();
-        leave_key(&mut self.keys, &consumer.request.key, c);
-        unbind_from(&mut self.entries, consumer.place, c);
-        stand(&mut self.consumers, c, place);
-    }
+/// A consumer that waits for the head of its exchange waits for its key no more, is bound to
+/// nothing, and stands there: it reads that exchange past the store, or is to fail.
+pub(super) fn stand_aside<B: Backend>(rows: &mut Rows<B>, c: u64, place: Place)
+    requires stands { ∥ StandsForSome rows.old ∥₁ }
+    requires live { is_some (get nat_eq rows.old.consumers c) ≡ true }
+    ensures stands { (t : Tables) (x : ℕ) (w : Exchange) (k : Consumer)
+        → Facts rows.old.limits t → AwaitsHead t x w k → w.c ≡ c → StandsApart x place
+        → RowsStand rows.old t
+        → RowsStand rows.new (with_consumer c (Some (record k { place = place })) t) }
+    ensures exchanges { rows.new.exchanges ≡ rows.old.exchanges }
+    ensures received { rows.new.received ≡ rows.old.received }
+    ensures limits { rows.new.limits ≡ rows.old.limits }
+    ensures faults { (shelf_of rows.new.entries).faults ≡ (shelf_of rows.old.entries).faults }
+{
+    let consumer = rows.consumers.get(&c).unwrap();
+    leave_key(&mut rows.keys, &consumer.request.key, c);
+    unbind_from(&mut rows.entries, consumer.place, c);
+    stand(&mut rows.consumers, c, place);
+}
 
-    /// A consumer that waits for the head of its exchange, with the turn or for a first hole, stands
-    /// in line again, as if it had just started.
-    pub(super) fn send_back(&mut self, now: u64, c: u64)
-        requires stands { ∥ StandsForSome self.old ∥₁ }
-        requires waits { IsSomeAnd (get nat_eq self.old.consumers c) (IsInKey self.old.keys c) }
-        ensures stands { (t : Tables) (x : ℕ) (w : Exchange) (k : Consumer)
-            → Facts self.old.limits t → AwaitsHead t x w k → w.c ≡ c → awaited k.place ≡ Some x
-            → RowsStand self.old t
-            → RowsStand self.new (with_consumer c (Some (back_in_line now k)) t) }
-        ensures exchanges { self.new.exchanges ≡ self.old.exchanges }
-        ensures received { self.new.received ≡ self.old.received }
-        ensures limits { self.new.limits ≡ self.old.limits }
-        ensures faults { (shelf_of self.new.entries).faults ≡ (shelf_of self.old.entries).faults }
-    {
-        let consumer = self.consumers.get(&c).unwrap();
-        self.keys.back(&consumer.request.key, c);
-        unbind_from(&mut self.entries, consumer.place, c);
-        start_over(&mut self.consumers, c, now);
-    }
+/// A consumer that waits for the head of its exchange, with the turn or for a first hole, stands
+/// in line again, as if it had just started.
+pub(super) fn send_back<B: Backend>(rows: &mut Rows<B>, now: u64, c: u64)
+    requires stands { ∥ StandsForSome rows.old ∥₁ }
+    requires waits { IsSomeAnd (get nat_eq rows.old.consumers c) (IsInKey rows.old.keys c) }
+    ensures stands { (t : Tables) (x : ℕ) (w : Exchange) (k : Consumer)
+        → Facts rows.old.limits t → AwaitsHead t x w k → w.c ≡ c → awaited k.place ≡ Some x
+        → RowsStand rows.old t
+        → RowsStand rows.new (with_consumer c (Some (back_in_line now k)) t) }
+    ensures exchanges { rows.new.exchanges ≡ rows.old.exchanges }
+    ensures received { rows.new.received ≡ rows.old.received }
+    ensures limits { rows.new.limits ≡ rows.old.limits }
+    ensures faults { (shelf_of rows.new.entries).faults ≡ (shelf_of rows.old.entries).faults }
+{
+    let consumer = rows.consumers.get(&c).unwrap();
+    rows.keys.back(&consumer.request.key, c);
+    unbind_from(&mut rows.entries, consumer.place, c);
+    start_over(&mut rows.consumers, c, now);
+}
 
-    /// A consumer that waits for the head of its exchange, with the turn, may read what that
-    /// validated.
-    pub(super) fn let_through(&mut self, c: u64, r: u64, x: u64)
-        requires waits { IsSomeAnd (get nat_eq self.old.consumers c) (IsInKey self.old.keys c) }
-        ensures stands { (t : Tables) (w : Exchange) (k : Consumer) (v : Representation)
-            → Lawful t → AwaitsHead t x w k → w.c ≡ c → k.place ≡ place.Turn x
-            → RowsStand self.old (with_representation r (Some v) t)
-            → RowsStand self.new (with_consumer c
-            (Some (record k { place = place.Passed r (Some x) }))
-            (with_representation r (Some v) t)) }
-        ensures exchanges { self.new.exchanges ≡ self.old.exchanges }
-        ensures received { self.new.received ≡ self.old.received }
-        ensures limits { self.new.limits ≡ self.old.limits }
-        ensures faults { (shelf_of self.new.entries).faults ≡ (shelf_of self.old.entries).faults }
-    {
-        let consumer = self.consumers.get(&c).unwrap();
-        self.keys.pass(&consumer.request.key, c);
-        stand(&mut self.consumers, c, Place::Passed { r, kept: Some(x) });
-    }
+/// A consumer that waits for the head of its exchange, with the turn, may read what that
+/// validated.
+pub(super) fn let_through<B: Backend>(rows: &mut Rows<B>, c: u64, r: u64, x: u64)
+    requires waits { IsSomeAnd (get nat_eq rows.old.consumers c) (IsInKey rows.old.keys c) }
+    ensures stands { (t : Tables) (w : Exchange) (k : Consumer) (v : Representation)
+        → Lawful t → AwaitsHead t x w k → w.c ≡ c → k.place ≡ place.Turn x
+        → RowsStand rows.old (with_representation r (Some v) t)
+        → RowsStand rows.new (with_consumer c
+        (Some (record k { place = place.Passed r (Some x) }))
+        (with_representation r (Some v) t)) }
+    ensures exchanges { rows.new.exchanges ≡ rows.old.exchanges }
+    ensures received { rows.new.received ≡ rows.old.received }
+    ensures limits { rows.new.limits ≡ rows.old.limits }
+    ensures faults { (shelf_of rows.new.entries).faults ≡ (shelf_of rows.old.entries).faults }
+{
+    let consumer = rows.consumers.get(&c).unwrap();
+    rows.keys.pass(&consumer.request.key, c);
+    stand(&mut rows.consumers, c, Place::Passed { r, kept: Some(x) });
 }

@@ -9,103 +9,101 @@ ghost use Rattle.hc_rules.specs.Rooms.{weight_of};
 ghost use Rattle.hc_contents.specs.Told.{told, told_item};
 ghost use Rattle.hc_model.specs.Beginnings.{may_begin, ascend_from};
 ghost use Rattle.hc_model.specs.Tables.{begun, bytes_in, last_end};
+ghost use Rattle.hc_rows.specs.Stands.{RowsStand};
 ghost use Rattle.hc_core.specs.Begins.{with_items, KeepsItem};
-ghost use Rattle.hc_core.specs.Stands.{RowsStand};
 
-use crate::rows::Rows;
 use hc_contents::{Content, Contents};
 use hc_entries::Entries;
 use hc_entry::KeyTable;
 use hc_exch::Exchanges;
+use hc_rows::Rows;
 use hc_rules::Limits;
 use hc_sparse::Run;
 use hc_store::{Backend, StoreError};
 use std::alloc::Global;
 use std::collections::HashMap;
 
-impl<B: Backend> Rows<B> {
-    /// Nothing is kept yet, over an empty store, and the numbers are those of the contents. The store
-    /// comes back where memory is refused.
-    pub(crate) fn before(
-        store: B,
-        limits: Limits,
-        contents: &Contents,
-        alloc: Global,
-    ) -> Result<Rows<B>, B>
-        requires empty { B.slots store ≡ no_slots }
-        requires limits { B.limits store ≡ limits }
-        requires first { 0 < contents.now.next_exchange }
-        requires below { contents.now.next_exchange < 2 ^ 62 }
-        ensures stands { IfOk result
-            (λ rows. RowsStand rows (begun (with_items [] (told contents.entry.now)))) }
-        ensures limits { IfOk result (λ rows. rows.limits ≡ limits) }
-        ensures received { IfOk result (λ rows. rows.received ≡ 0) }
-        ensures used { IfOk result (λ rows. (shelf_of rows.entries).used ≡ 0) }
-        ensures store { IfOk result (λ rows. store_of rows.entries ≡ store) }
-        ensures back { IfErr result (λ back. back ≡ store) }
-    {
-        let entries = match Entries::over(store, limits, alloc) {
-            Ok(entries) => entries,
-            Err(store) => return Err(store),
-        };
-        Ok(Rows {
-            limits,
-            last_start: contents.last_consumer,
-            received: 0,
-            consumers: HashMap::new(alloc),
-            exchanges: Exchanges::from_number(alloc, contents.next_exchange),
-            keys: KeyTable::new(alloc),
-            entries,
-        })
-    }
+/// Nothing is kept yet, over an empty store, and the numbers are those of the contents. The store
+/// comes back where memory is refused.
+pub(crate) fn before<B: Backend>(
+    store: B,
+    limits: Limits,
+    contents: &Contents,
+    alloc: Global,
+) -> Result<Rows<B>, B>
+    requires empty { B.slots store ≡ no_slots }
+    requires limits { B.limits store ≡ limits }
+    requires first { 0 < contents.now.next_exchange }
+    requires below { contents.now.next_exchange < 2 ^ 62 }
+    ensures stands { IfOk result
+        (λ rows. RowsStand rows (begun (with_items [] (told contents.entry.now)))) }
+    ensures limits { IfOk result (λ rows. rows.limits ≡ limits) }
+    ensures received { IfOk result (λ rows. rows.received ≡ 0) }
+    ensures used { IfOk result (λ rows. (shelf_of rows.entries).used ≡ 0) }
+    ensures store { IfOk result (λ rows. store_of rows.entries ≡ store) }
+    ensures back { IfErr result (λ back. back ≡ store) }
+{
+    let entries = match Entries::over(store, limits, alloc) {
+        Ok(entries) => entries,
+        Err(store) => return Err(store),
+    };
+    Ok(Rows {
+        limits,
+        last_start: contents.last_consumer,
+        received: 0,
+        consumers: HashMap::new(alloc),
+        exchanges: Exchanges::from_number(alloc, contents.next_exchange),
+        keys: KeyTable::new(alloc),
+        entries,
+    })
+}
 
-    /// Keeps the items of contents that fit, in their order.
-    pub(crate) fn begin_with(&mut self, contents: &Contents) -> Result<(), StoreError>
-        requires fit { may_begin self.old.limits (told contents.now) ≡ true }
-        requires start { RowsStand self.old (begun (with_items [] (told contents.now))) }
-        requires none { (shelf_of self.old.entries).used ≡ 0 }
-        ensures ok { OnOk result (RowsStand self.new (begun (told contents.entry.now))) }
-        ensures limits { self.new.limits ≡ self.old.limits }
-        ensures received { self.new.received ≡ self.old.received }
-        ensures bounds { (shelf_of self.new.entries).limits
-            ≡ (shelf_of self.old.entries).limits }
-        ensures no_limit { HasNoLimit result }
-        ensures cause { HasCause (shelf_of self.old.entries).faults
-            (shelf_of self.new.entries).faults result }
-    {
-        for item in contents.items.as_slice() {
-            self.begin_item(item)?;
-        }
-        Ok(())
+/// Keeps the items of contents that fit, in their order.
+pub(crate) fn begin_with<B: Backend>(
+    rows: &mut Rows<B>,
+    contents: &Contents,
+) -> Result<(), StoreError>
+    requires fit { may_begin rows.old.limits (told contents.now) ≡ true }
+    requires start { RowsStand rows.old (begun (with_items [] (told contents.now))) }
+    requires none { (shelf_of rows.old.entries).used ≡ 0 }
+    ensures ok { OnOk result (RowsStand rows.new (begun (told contents.entry.now))) }
+    ensures limits { rows.new.limits ≡ rows.old.limits }
+    ensures received { rows.new.received ≡ rows.old.received }
+    ensures bounds { (shelf_of rows.new.entries).limits ≡ (shelf_of rows.old.entries).limits }
+    ensures no_limit { HasNoLimit result }
+    ensures cause { HasCause (shelf_of rows.old.entries).faults
+        (shelf_of rows.new.entries).faults result }
+{
+    for item in contents.items.as_slice() {
+        begin_item(rows, item)?;
     }
+    Ok(())
+}
 
-    /// Keeps one, which is current then.
-    fn begin_item(&mut self, item: &Content) -> Result<(), StoreError>
-        requires new { (shelf_of self.old.entries).kept item.now.r ≡ None }
-        requires moments { item.now.head.requested ≤ item.now.head.answered }
-        requires rising { ascend_from 0 0 item.now.runs ≡ true }
-        requires ends { last_end item.now.runs ≤ 2 ^ 62 }
-        requires small { bytes_in item.now.runs
-            ≤ (shelf_of self.old.entries).limits.max_entry }
-        requires light { (shelf_of self.old.entries).used + weight_of (bytes_in item.now.runs)
-            ≤ (shelf_of self.old.entries).limits.max_total }
-        ensures ok { OnOk result (KeepsItem self.old self.new (told_item item.now)) }
-        ensures used { OnOk result ((shelf_of self.new.entries).used
-            ≡ (shelf_of self.old.entries).used + weight_of (bytes_in item.now.runs)) }
-        ensures limits { self.new.limits ≡ self.old.limits }
-        ensures received { self.new.received ≡ self.old.received }
-        ensures bounds { (shelf_of self.new.entries).limits
-            ≡ (shelf_of self.old.entries).limits }
-        ensures no_limit { HasNoLimit result }
-        ensures cause { HasCause (shelf_of self.old.entries).faults
-            (shelf_of self.new.entries).faults result }
-    {
-        let key = item.key.copy()?;
-        self.entries.begin_with(item.r, key, &item.head)?;
-        put_runs(&mut self.entries, item.r, item.runs.as_slice())?;
-        self.keys.make_current(&item.key, item.r)?;
-        Ok(())
-    }
+/// Keeps one, which is current then.
+fn begin_item<B: Backend>(rows: &mut Rows<B>, item: &Content) -> Result<(), StoreError>
+    requires new { (shelf_of rows.old.entries).kept item.now.r ≡ None }
+    requires moments { item.now.head.requested ≤ item.now.head.answered }
+    requires rising { ascend_from 0 0 item.now.runs ≡ true }
+    requires ends { last_end item.now.runs ≤ 2 ^ 62 }
+    requires small { bytes_in item.now.runs ≤ (shelf_of rows.old.entries).limits.max_entry }
+    requires light { (shelf_of rows.old.entries).used + weight_of (bytes_in item.now.runs)
+        ≤ (shelf_of rows.old.entries).limits.max_total }
+    ensures ok { OnOk result (KeepsItem rows.old rows.new (told_item item.now)) }
+    ensures used { OnOk result ((shelf_of rows.new.entries).used
+        ≡ (shelf_of rows.old.entries).used + weight_of (bytes_in item.now.runs)) }
+    ensures limits { rows.new.limits ≡ rows.old.limits }
+    ensures received { rows.new.received ≡ rows.old.received }
+    ensures bounds { (shelf_of rows.new.entries).limits ≡ (shelf_of rows.old.entries).limits }
+    ensures no_limit { HasNoLimit result }
+    ensures cause { HasCause (shelf_of rows.old.entries).faults
+        (shelf_of rows.new.entries).faults result }
+{
+    let key = item.key.copy()?;
+    rows.entries.begin_with(item.r, key, &item.head)?;
+    put_runs(&mut rows.entries, item.r, item.runs.as_slice())?;
+    rows.keys.make_current(&item.key, item.r)?;
+    Ok(())
 }
 
 /// Puts runs that rise into what has no byte yet. They are no more than it may have, and all weigh no

@@ -6,7 +6,7 @@ ghost use Rattle.hc_entries.specs.Entries.{shelf_of};
 ghost use Rattle.hc_entries.specs.Shelf.{Stays, idle, is_kept, cells_at};
 ghost use Rattle.hc_contents.specs.Told.{told_item};
 ghost use Rattle.hc_model.specs.Contents.{runs_from};
-ghost use Rattle.hc_core.specs.Remains.{TellsAll, TellsOne};
+ghost use Rattle.hc_rows.specs.Remains.{TellsAll, TellsOne};
 
 use hc_contents::{Content, ContentList, RunList};
 use hc_entries::Entries;

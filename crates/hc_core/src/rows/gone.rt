@@ -6,48 +6,45 @@ ghost use Rattle.hc_exch.specs.Exchanges.{next_of};
 ghost use Rattle.hc_model.specs.Effects.{with_consumer, finished};
 ghost use Rattle.hc_model.specs.Lawful.{Lawful};
 ghost use Rattle.hc_model.specs.Rows.{Tables, Consumer};
-ghost use Rattle.hc_core.specs.Leaving.{LeavesKey, Forgets, IsUserAt, UnbindsAt, LeavesPlace};
-ghost use Rattle.hc_core.specs.Stands.{RowsStand, StandsForSome};
+ghost use Rattle.hc_rows.specs.Leaving.{LeavesKey, Forgets, IsUserAt, UnbindsAt, LeavesPlace};
+ghost use Rattle.hc_rows.specs.Stands.{RowsStand, StandsForSome};
 
-use crate::rows::Rows;
 use hc_entries::Entries;
 use hc_entry::KeyTable;
 use hc_exch::Exchanges;
 use hc_model::Place;
+use hc_rows::Rows;
 use hc_store::Backend;
 use hc_text::Key;
 
-impl<B: Backend> Rows<B> {
-    /// A consumer is gone.
-    pub(super) fn remove_consumer(&mut self, c: u64)
-        requires stands { ∥ StandsForSome self.old ∥₁ }
-        requires live { is_some (get nat_eq self.old.consumers c) ≡ true }
-        ensures stands { (t : Tables) (k : Consumer) → Lawful t → t.consumer c ≡ Some k
-            → RowsStand self.old t → RowsStand self.new (with_consumer c (Some (finished k)) t) }
-        ensures limits { self.new.limits ≡ self.old.limits }
-        ensures received { self.new.received ≡ self.old.received }
-        ensures next { next_of self.new.exchanges ≡ next_of self.old.exchanges }
-        ensures faults { (shelf_of self.new.entries).faults ≡ (shelf_of self.old.entries).faults }
-    {
-        self.leave_place(c);
-        self.consumers.remove(&c);
-    }
+/// A consumer is gone.
+pub(super) fn remove_consumer<B: Backend>(rows: &mut Rows<B>, c: u64)
+    requires stands { ∥ StandsForSome rows.old ∥₁ }
+    requires live { is_some (get nat_eq rows.old.consumers c) ≡ true }
+    ensures stands { (t : Tables) (k : Consumer) → Lawful t → t.consumer c ≡ Some k
+        → RowsStand rows.old t → RowsStand rows.new (with_consumer c (Some (finished k)) t) }
+    ensures limits { rows.new.limits ≡ rows.old.limits }
+    ensures received { rows.new.received ≡ rows.old.received }
+    ensures next { next_of rows.new.exchanges ≡ next_of rows.old.exchanges }
+    ensures faults { (shelf_of rows.new.entries).faults ≡ (shelf_of rows.old.entries).faults }
+{
+    leave_place(rows, c);
+    rows.consumers.remove(&c);
+}
 
-    /// A consumer leaves where it stands: it waits for nothing and is bound to nothing, and what is
-    /// held of its own exchange is forgotten.
-    pub(super) fn leave_place(&mut self, c: u64)
-        requires stands { ∥ StandsForSome self.old ∥₁ }
-        requires live { is_some (get nat_eq self.old.consumers c) ≡ true }
-        ensures place { IsSomeAnd (get nat_eq self.old.consumers c)
-            (LeavesPlace self.old self.new c) }
-        ensures next { next_of self.new.exchanges ≡ next_of self.old.exchanges }
-        ensures faults { (shelf_of self.new.entries).faults ≡ (shelf_of self.old.entries).faults }
-    {
-        let consumer = self.consumers.get(&c).unwrap();
-        leave_key(&mut self.keys, &consumer.request.key, c);
-        forget_own(&mut self.exchanges, consumer.own);
-        unbind_from(&mut self.entries, consumer.place, c);
-    }
+/// A consumer leaves where it stands: it waits for nothing and is bound to nothing, and what is
+/// held of its own exchange is forgotten.
+pub(super) fn leave_place<B: Backend>(rows: &mut Rows<B>, c: u64)
+    requires stands { ∥ StandsForSome rows.old ∥₁ }
+    requires live { is_some (get nat_eq rows.old.consumers c) ≡ true }
+    ensures place { IsSomeAnd (get nat_eq rows.old.consumers c) (LeavesPlace rows.old rows.new c) }
+    ensures next { next_of rows.new.exchanges ≡ next_of rows.old.exchanges }
+    ensures faults { (shelf_of rows.new.entries).faults ≡ (shelf_of rows.old.entries).faults }
+{
+    let consumer = rows.consumers.get(&c).unwrap();
+    leave_key(&mut rows.keys, &consumer.request.key, c);
+    forget_own(&mut rows.exchanges, consumer.own);
+    unbind_from(&mut rows.entries, consumer.place, c);
 }
 
 /// A consumer waits for the key no more, if it did.

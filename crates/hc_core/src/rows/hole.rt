@@ -10,138 +10,132 @@ ghost use Rattle.hc_entries.specs.Shelf.{head_at};
 ghost use Rattle.hc_entries.specs.Views.{admits_first};
 ghost use Rattle.hc_exch.specs.Exchanges.{next_of};
 ghost use Rattle.hc_model.specs.Moves.{hole_request};
-ghost use Rattle.hc_core.specs.Plans.{IsIdle, IsModestRequest, IsWaiting, HasCurrent, AnswersFirst, AnswersFilling};
-ghost use Rattle.hc_core.specs.Reads.{AnswersHole, IsInLength, IsShownAt};
-ghost use Rattle.hc_core.specs.Stands.{StandsForSome};
+ghost use Rattle.hc_rows.specs.Plans.{IsIdle, IsModestRequest, IsWaiting, HasCurrent, AnswersFirst, AnswersFilling};
+ghost use Rattle.hc_rows.specs.Reads.{AnswersHole, IsInLength, IsShownAt};
+ghost use Rattle.hc_rows.specs.Stands.{StandsForSome};
 
-use crate::changes::{bind_first, own};
-use crate::rows::Rows;
+use crate::rows::misread::misread_by;
 use crate::rows::plan::open;
 use hc_event::{Acts, Need, Request};
 use hc_exch::Role;
 use hc_range::{Span, write_range};
 use hc_record::StoredHead;
+use hc_rows::{Rows, bind_first, own};
 use hc_store::Backend;
 use hc_text::NoMemory;
 use hc_validate::set_field;
 
-impl<B: Backend> Rows<B> {
-    /// A consumer is bound to what is current as the only one, and opens an exchange for the first
-    /// hole of what it wants.
-    pub(super) fn open_first_hole(
-        &mut self,
-        now: u64,
-        c: u64,
-        r: u64,
-        head: &StoredHead,
-        span: Span,
-        hole: Span,
-        out: &mut Acts,
-    ) -> Result<(), NoMemory>
-        requires idle { IsSomeAnd (get nat_eq self.old.consumers c) IsIdle }
-        requires modest { IsSomeAnd (get nat_eq self.old.consumers c) IsModestRequest }
-        requires waits { IsSomeAnd (get nat_eq self.old.consumers c) (IsWaiting self.old.keys c) }
-        requires current { IsSomeAnd (get nat_eq self.old.consumers c)
-            (HasCurrent self.old.keys r) }
-        requires head { head_at (shelf_of self.old.entries) r ≡ Some (plain head.now) }
-        requires admits { admits_first c ((shelf_of self.old.entries).kept r) ≡ true }
-        requires hole { IsSomeAnd head.now.total (IsWithin hole) }
-        requires few { next_of self.old.exchanges < 2 ^ 62 }
-        requires room { 2 ≤ spare out.old }
-        ensures answers { OnOk result (IsSomeAnd (get nat_eq self.old.consumers c)
-            (AnswersFirst self.old self.new (listed out.old) (listed out.new)
-            now c (plain head.now) span hole)) }
-        ensures next { OnOk result
-            (next_of self.new.exchanges ≤ next_of self.old.exchanges + 1) }
-        ensures received { OnOk result (self.new.received ≡ self.old.received) }
-        ensures limits { OnOk result (self.new.limits ≡ self.old.limits) }
-        ensures faults { (shelf_of self.new.entries).faults ≡ (shelf_of self.old.entries).faults }
-        ensures kept { OnErr result (listed out.new ≡ listed out.old) }
-    {
-        let consumer = self.consumers.get(&c).unwrap();
-        let request = hole_request(head, &consumer.request, hole)?;
-        let need = Need::Hole {
-            from: hole.lo,
-            to: hole.hi,
-        };
-        let x = self
-            .exchanges
-            .launch(c, Role::Hole { r }, need, &request, now)?;
-        self.entries.bind_first(r, c)?;
-        self.keys.away(&request.key, c);
-        bind_first(&mut self.consumers, c, r, span, x);
-        open(x, c, need, request, out);
-        Ok(())
-    }
+/// A consumer is bound to what is current as the only one, and opens an exchange for the first
+/// hole of what it wants.
+pub(super) fn open_first_hole<B: Backend>(
+    rows: &mut Rows<B>,
+    now: u64,
+    c: u64,
+    r: u64,
+    head: &StoredHead,
+    span: Span,
+    hole: Span,
+    out: &mut Acts,
+) -> Result<(), NoMemory>
+    requires idle { IsSomeAnd (get nat_eq rows.old.consumers c) IsIdle }
+    requires modest { IsSomeAnd (get nat_eq rows.old.consumers c) IsModestRequest }
+    requires waits { IsSomeAnd (get nat_eq rows.old.consumers c) (IsWaiting rows.old.keys c) }
+    requires current { IsSomeAnd (get nat_eq rows.old.consumers c) (HasCurrent rows.old.keys r) }
+    requires head { head_at (shelf_of rows.old.entries) r ≡ Some (plain head.now) }
+    requires admits { admits_first c ((shelf_of rows.old.entries).kept r) ≡ true }
+    requires hole { IsSomeAnd head.now.total (IsWithin hole) }
+    requires few { next_of rows.old.exchanges < 2 ^ 62 }
+    requires room { 2 ≤ spare out.old }
+    ensures answers { OnOk result (IsSomeAnd (get nat_eq rows.old.consumers c)
+        (AnswersFirst rows.old rows.new (listed out.old) (listed out.new)
+        now c (plain head.now) span hole)) }
+    ensures next { OnOk result (next_of rows.new.exchanges ≤ next_of rows.old.exchanges + 1) }
+    ensures received { OnOk result (rows.new.received ≡ rows.old.received) }
+    ensures limits { OnOk result (rows.new.limits ≡ rows.old.limits) }
+    ensures faults { (shelf_of rows.new.entries).faults ≡ (shelf_of rows.old.entries).faults }
+    ensures kept { OnErr result (listed out.new ≡ listed out.old) }
+{
+    let consumer = rows.consumers.get(&c).unwrap();
+    let request = hole_request(head, &consumer.request, hole)?;
+    let need = Need::Hole {
+        from: hole.lo,
+        to: hole.hi,
+    };
+    let x = rows
+        .exchanges
+        .launch(c, Role::Hole { r }, need, &request, now)?;
+    rows.entries.bind_first(r, c)?;
+    rows.keys.away(&request.key, c);
+    bind_first(&mut rows.consumers, c, r, span, x);
+    open(x, c, need, request, out);
+    Ok(())
+}
 
-    /// A consumer that reads on opens an exchange for the hole that it stands before.
-    pub(super) fn open_later_hole(
-        &mut self,
-        now: u64,
-        c: u64,
-        r: u64,
-        hole: Span,
-        out: &mut Acts,
-    ) -> Result<(), NoMemory>
-        requires stands { ∥ StandsForSome self.old ∥₁ }
-        requires shown { IsSomeAnd (get nat_eq self.old.consumers c) (IsShownAt r) }
-        requires modest { IsSomeAnd (get nat_eq self.old.consumers c) IsModestRequest }
-        requires hole { IsSomeAnd (head_at (shelf_of self.old.entries) r) (IsInLength hole) }
-        requires few { next_of self.old.exchanges < 2 ^ 62 }
-        requires room { 2 ≤ spare out.old }
-        ensures answers { OnOk result (IsSomeAnd (get nat_eq self.old.consumers c)
-            (AnswersHole self.old self.new (listed out.old) (listed out.new) now c r hole)) }
-        ensures next { OnOk result
-            (next_of self.new.exchanges ≤ next_of self.old.exchanges + 1) }
-        ensures received { OnOk result (self.new.received ≡ self.old.received) }
-        ensures limits { OnOk result (self.new.limits ≡ self.old.limits) }
-        ensures faults { (shelf_of self.old.entries).faults ≤ (shelf_of self.new.entries).faults }
-        ensures kept { OnErr result (listed out.new ≡ listed out.old) }
-    {
-        match self.entries.head(r) {
-            Ok(head) => self.fill_later_hole(now, c, r, &head, hole, out),
-            Err(error) => self.misread_by(now, c, r, error, out),
-        }
+/// A consumer that reads on opens an exchange for the hole that it stands before.
+pub(super) fn open_later_hole<B: Backend>(
+    rows: &mut Rows<B>,
+    now: u64,
+    c: u64,
+    r: u64,
+    hole: Span,
+    out: &mut Acts,
+) -> Result<(), NoMemory>
+    requires stands { ∥ StandsForSome rows.old ∥₁ }
+    requires shown { IsSomeAnd (get nat_eq rows.old.consumers c) (IsShownAt r) }
+    requires modest { IsSomeAnd (get nat_eq rows.old.consumers c) IsModestRequest }
+    requires hole { IsSomeAnd (head_at (shelf_of rows.old.entries) r) (IsInLength hole) }
+    requires few { next_of rows.old.exchanges < 2 ^ 62 }
+    requires room { 2 ≤ spare out.old }
+    ensures answers { OnOk result (IsSomeAnd (get nat_eq rows.old.consumers c)
+        (AnswersHole rows.old rows.new (listed out.old) (listed out.new) now c r hole)) }
+    ensures next { OnOk result (next_of rows.new.exchanges ≤ next_of rows.old.exchanges + 1) }
+    ensures received { OnOk result (rows.new.received ≡ rows.old.received) }
+    ensures limits { OnOk result (rows.new.limits ≡ rows.old.limits) }
+    ensures faults { (shelf_of rows.old.entries).faults ≤ (shelf_of rows.new.entries).faults }
+    ensures kept { OnErr result (listed out.new ≡ listed out.old) }
+{
+    match rows.entries.head(r) {
+        Ok(head) => fill_later_hole(rows, now, c, r, &head, hole, out),
+        Err(error) => misread_by(rows, now, c, r, error, out),
     }
+}
 
-    /// A consumer that reads on opens an exchange for a hole of what has this stored head.
-    fn fill_later_hole(
-        &mut self,
-        now: u64,
-        c: u64,
-        r: u64,
-        head: &StoredHead,
-        hole: Span,
-        out: &mut Acts,
-    ) -> Result<(), NoMemory>
-        requires shown { IsSomeAnd (get nat_eq self.old.consumers c) (IsShownAt r) }
-        requires modest { IsSomeAnd (get nat_eq self.old.consumers c) IsModestRequest }
-        requires within { IsSomeAnd head.now.total (IsWithin hole) }
-        requires few { next_of self.old.exchanges < 2 ^ 62 }
-        requires room { 2 ≤ spare out.old }
-        ensures answers { OnOk result (IsSomeAnd (get nat_eq self.old.consumers c)
-            (AnswersFilling self.old self.new (listed out.old) (listed out.new)
-            now c (plain head.now) hole)) }
-        ensures next { OnOk result
-            (next_of self.new.exchanges ≤ next_of self.old.exchanges + 1) }
-        ensures received { OnOk result (self.new.received ≡ self.old.received) }
-        ensures limits { OnOk result (self.new.limits ≡ self.old.limits) }
-        ensures faults { (shelf_of self.new.entries).faults ≡ (shelf_of self.old.entries).faults }
-        ensures kept { OnErr result (listed out.new ≡ listed out.old) }
-    {
-        let consumer = self.consumers.get(&c).unwrap();
-        let request = hole_request(head, &consumer.request, hole)?;
-        let need = Need::Hole {
-            from: hole.lo,
-            to: hole.hi,
-        };
-        let x = self
-            .exchanges
-            .launch(c, Role::Hole { r }, need, &request, now)?;
-        own(&mut self.consumers, c, x);
-        open(x, c, need, request, out);
-        Ok(())
-    }
+/// A consumer that reads on opens an exchange for a hole of what has this stored head.
+fn fill_later_hole<B: Backend>(
+    rows: &mut Rows<B>,
+    now: u64,
+    c: u64,
+    r: u64,
+    head: &StoredHead,
+    hole: Span,
+    out: &mut Acts,
+) -> Result<(), NoMemory>
+    requires shown { IsSomeAnd (get nat_eq rows.old.consumers c) (IsShownAt r) }
+    requires modest { IsSomeAnd (get nat_eq rows.old.consumers c) IsModestRequest }
+    requires within { IsSomeAnd head.now.total (IsWithin hole) }
+    requires few { next_of rows.old.exchanges < 2 ^ 62 }
+    requires room { 2 ≤ spare out.old }
+    ensures answers { OnOk result (IsSomeAnd (get nat_eq rows.old.consumers c)
+        (AnswersFilling rows.old rows.new (listed out.old) (listed out.new)
+        now c (plain head.now) hole)) }
+    ensures next { OnOk result (next_of rows.new.exchanges ≤ next_of rows.old.exchanges + 1) }
+    ensures received { OnOk result (rows.new.received ≡ rows.old.received) }
+    ensures limits { OnOk result (rows.new.limits ≡ rows.old.limits) }
+    ensures faults { (shelf_of rows.new.entries).faults ≡ (shelf_of rows.old.entries).faults }
+    ensures kept { OnErr result (listed out.new ≡ listed out.old) }
+{
+    let consumer = rows.consumers.get(&c).unwrap();
+    let request = hole_request(head, &consumer.request, hole)?;
+    let need = Need::Hole {
+        from: hole.lo,
+        to: hole.hi,
+    };
+    let x = rows
+        .exchanges
+        .launch(c, Role::Hole { r }, need, &request, now)?;
+    own(&mut rows.consumers, c, x);
+    open(x, c, need, request, out);
+    Ok(())
 }
 
 /// The request for a hole, as long as the tag is that of what is stored (RFC 9110 sections 13.1.5

@@ -6,73 +6,75 @@ ghost use Rattle.hc_event.specs.declared.event.Event.TheVariants.{Poll};
 ghost use Rattle.hc_event.specs.declared.act.Act.TheVariants as act;
 ghost use Rattle.hc_entries.specs.Entries.{shelf_of};
 ghost use Rattle.hc_exch.specs.Exchanges.{next_of};
-ghost use Rattle.hc_core.specs.Good.{StandsUntil};
-ghost use Rattle.hc_core.specs.Stands.{Answers};
-ghost use Rattle.hc_core.specs.Arms.{HasTurn};
+ghost use Rattle.hc_rows.specs.Good.{StandsUntil};
+ghost use Rattle.hc_rows.specs.Stands.{Answers};
+ghost use Rattle.hc_rows.specs.Arms.{HasTurn};
 
 use crate::acts::put;
-use crate::rows::Rows;
+use crate::rows::carry::carry_out;
+use crate::rows::leave::fail_down;
+use crate::rows::past::{await_answer, read_past};
+use crate::rows::read::read_bound;
+use crate::rows::shown::await_stored;
 use hc_event::{Act, Acts, Wait};
 use hc_model::Place;
+use hc_rows::Rows;
 use hc_store::Backend;
 use hc_text::NoMemory;
 
-impl<B: Backend> Rows<B> {
-    /// A poll of a live consumer.
-    pub(super) fn poll(
-        &mut self,
-        now: u64,
-        c: u64,
-        want: u32,
-        out: &mut Acts,
-    ) -> Result<(), NoMemory>
-        requires stands { ∥ StandsUntil self.old now ∥₁ }
-        requires early { now < 2 ^ 62 }
-        requires live { is_some (get nat_eq self.old.consumers c) ≡ true }
-        requires wants { 0 < want }
-        requires small { self.old.received < 2 ^ 61 }
-        requires few { next_of self.old.exchanges < 2 ^ 62 }
-        requires room { 3 ≤ spare out.old }
-        ensures answers { OnOk result
-            (Answers self.old self.new (listed out.old) (listed out.new) now (Poll c want)) }
-        ensures next { OnOk result
-            (next_of self.new.exchanges ≤ next_of self.old.exchanges + 1) }
-        ensures received { OnOk result (self.new.received ≡ self.old.received) }
-        ensures limits { OnOk result (self.new.limits ≡ self.old.limits) }
-        ensures faults { (shelf_of self.old.entries).faults ≤ (shelf_of self.new.entries).faults }
-        ensures kept { OnErr result (listed out.new ≡ listed out.old) }
-    {
-        let consumer = self.consumers.get(&c).unwrap();
-        match consumer.place {
-            Place::Line | Place::Passed { .. } => self.carry_out(now, c, out),
-            Place::Turn(x) => {
-                self.await_head(c, x, out);
-                Ok(())
-            }
-            Place::Direct(x) if consumer.shown => self.read_past(now, c, x, want, out),
-            Place::Direct(x) => {
-                self.await_answer(c, x, out);
-                Ok(())
-            }
-            Place::Down(cause) => {
-                self.fail_down(now, c, cause, out);
-                Ok(())
-            }
-            Place::Bound { r, by, .. } if !consumer.shown => self.await_stored(now, c, r, by, out),
-            Place::Bound { r, .. } => self.read_bound(now, c, r, want, out),
-            Place::Over => unreachable!(),
+/// A poll of a live consumer.
+pub(super) fn poll<B: Backend>(
+    rows: &mut Rows<B>,
+    now: u64,
+    c: u64,
+    want: u32,
+    out: &mut Acts,
+) -> Result<(), NoMemory>
+    requires stands { ∥ StandsUntil rows.old now ∥₁ }
+    requires early { now < 2 ^ 62 }
+    requires live { is_some (get nat_eq rows.old.consumers c) ≡ true }
+    requires wants { 0 < want }
+    requires small { rows.old.received < 2 ^ 61 }
+    requires few { next_of rows.old.exchanges < 2 ^ 62 }
+    requires room { 3 ≤ spare out.old }
+    ensures answers { OnOk result
+        (Answers rows.old rows.new (listed out.old) (listed out.new) now (Poll c want)) }
+    ensures next { OnOk result (next_of rows.new.exchanges ≤ next_of rows.old.exchanges + 1) }
+    ensures received { OnOk result (rows.new.received ≡ rows.old.received) }
+    ensures limits { OnOk result (rows.new.limits ≡ rows.old.limits) }
+    ensures faults { (shelf_of rows.old.entries).faults ≤ (shelf_of rows.new.entries).faults }
+    ensures kept { OnErr result (listed out.new ≡ listed out.old) }
+{
+    let consumer = rows.consumers.get(&c).unwrap();
+    match consumer.place {
+        Place::Line | Place::Passed { .. } => carry_out(rows, now, c, out),
+        Place::Turn(x) => {
+            await_head(rows, c, x, out);
+            Ok(())
         }
+        Place::Direct(x) if consumer.shown => read_past(rows, now, c, x, want, out),
+        Place::Direct(x) => {
+            await_answer(rows, c, x, out);
+            Ok(())
+        }
+        Place::Down(cause) => {
+            fail_down(rows, now, c, cause, out);
+            Ok(())
+        }
+        Place::Bound { r, by, .. } if !consumer.shown => await_stored(rows, now, c, r, by, out),
+        Place::Bound { r, .. } => read_bound(rows, now, c, r, want, out),
+        Place::Over => unreachable!(),
     }
+}
 
-    /// A consumer that has the turn waits for the head of its exchange.
-    fn await_head(&self, c: u64, x: u64, out: &mut Acts)
-        requires turn { IsSomeAnd (get nat_eq self.now.consumers c) (HasTurn x) }
-        requires room { 1 ≤ spare out.old }
-        ensures answers { (now want : ℕ)
-            → Answers self.now self.now (listed out.old) (listed out.new) now (Poll c want) }
-    {
-        wait(c, Wait::Head(x), out);
-    }
+/// A consumer that has the turn waits for the head of its exchange.
+fn await_head<B: Backend>(rows: &Rows<B>, c: u64, x: u64, out: &mut Acts)
+    requires turn { IsSomeAnd (get nat_eq rows.now.consumers c) (HasTurn x) }
+    requires room { 1 ≤ spare out.old }
+    ensures answers { (now want : ℕ)
+        → Answers rows.now rows.now (listed out.old) (listed out.new) now (Poll c want) }
+{
+    wait(c, Wait::Head(x), out);
 }
 
 /// A consumer is to wait.

@@ -11,238 +11,244 @@ ghost use Rattle.hc_exch.specs.Known.{is_open, asked};
 ghost use Rattle.hc_model.specs.Moves.{acts_of};
 ghost use Rattle.hc_sparse.specs.Runs.{end_of};
 ghost use Rattle.hc_store.specs.Causes.{HasCause, HasNoLimit};
-ghost use Rattle.hc_core.specs.Changes.{ChangesAt, once_given};
-ghost use Rattle.hc_core.specs.Leaving.{if_running, writing_of};
-ghost use Rattle.hc_core.specs.Plans.{IsModestRequest};
-ghost use Rattle.hc_core.specs.Stands.{Answers, KeepsRest, StandsForSome};
-ghost use Rattle.hc_core.specs.Arms.{most, given, asks_or_waits, asked_in};
-ghost use Rattle.hc_core.specs.Reads.{goes_alone, headless_own, held_own, IsHeard, IsRunAhead, IsShownAt, ReadViewIs, ReadsStore, run_ahead};
+ghost use Rattle.hc_rows.specs.Changes.{ChangesAt, once_given};
+ghost use Rattle.hc_rows.specs.Leaving.{if_running, writing_of};
+ghost use Rattle.hc_rows.specs.Plans.{IsModestRequest};
+ghost use Rattle.hc_rows.specs.Stands.{Answers, KeepsRest, StandsForSome};
+ghost use Rattle.hc_rows.specs.Arms.{most, given, asks_or_waits, asked_in};
+ghost use Rattle.hc_rows.specs.Reads.{goes_alone, headless_own, held_own, IsHeard, IsRunAhead, IsShownAt, ReadViewIs, ReadsStore, run_ahead};
 
 use crate::acts::put;
-use crate::changes::count_given;
-use crate::consumer::Consumer;
-use crate::rows::Rows;
+use crate::rows::close::{if_running, writing};
+use crate::rows::hole::open_later_hole;
+use crate::rows::leave::{end_reading, fail};
+use crate::rows::misread::misread_by;
 use crate::rows::poll::wait;
+use crate::rows::shown::is_headless;
 use hc_event::{Act, Acts, Wait};
+use hc_rows::{Consumer, Rows, count_given};
 use hc_rules::{ReadStep, ReadView, read_step};
 use hc_sparse::Run;
 use hc_store::{Backend, StoreError};
 use hc_text::{Bytes, NoMemory};
 
-impl<B: Backend> Rows<B> {
-    /// A consumer reads on that is bound and was shown its head.
-    pub(super) fn read_bound(
-        &mut self,
-        now: u64,
-        c: u64,
-        r: u64,
-        want: u32,
-        out: &mut Acts,
-    ) -> Result<(), NoMemory>
-        requires stands { ∥ StandsForSome self.old ∥₁ }
-        requires shown { IsSomeAnd (get nat_eq self.old.consumers c) (IsShownAt r) }
-        requires modest { IsSomeAnd (get nat_eq self.old.consumers c) IsModestRequest }
-        requires wants { 0 < want }
-        requires small { self.old.received < 2 ^ 61 }
-        requires few { next_of self.old.exchanges < 2 ^ 62 }
-        requires room { 3 ≤ spare out.old }
-        ensures answers { OnOk result
-            (Answers self.old self.new (listed out.old) (listed out.new) now (Poll c want)) }
-        ensures next { OnOk result
-            (next_of self.new.exchanges ≤ next_of self.old.exchanges + 1) }
-        ensures received { OnOk result (self.new.received ≡ self.old.received) }
-        ensures limits { OnOk result (self.new.limits ≡ self.old.limits) }
-        ensures faults { (shelf_of self.old.entries).faults ≤ (shelf_of self.new.entries).faults }
-        ensures kept { OnErr result (listed out.new ≡ listed out.old) }
-    {
-        let consumer = self.consumers.get(&c).unwrap();
-        if let Some(x) = self.headless_own(consumer) {
-            wait(c, Wait::Head(x), out);
-            return Ok(());
-        }
-        let offset = consumer.offset();
-        let count = most(consumer.hi, offset, want);
-        match self.stored_ahead(r, offset, count) {
-            Ok(run) => self.read_on(now, c, r, want, run, out),
-            Err(error) => self.misread_by(now, c, r, error, out),
-        }
+/// A consumer reads on that is bound and was shown its head.
+pub(super) fn read_bound<B: Backend>(
+    rows: &mut Rows<B>,
+    now: u64,
+    c: u64,
+    r: u64,
+    want: u32,
+    out: &mut Acts,
+) -> Result<(), NoMemory>
+    requires stands { ∥ StandsForSome rows.old ∥₁ }
+    requires shown { IsSomeAnd (get nat_eq rows.old.consumers c) (IsShownAt r) }
+    requires modest { IsSomeAnd (get nat_eq rows.old.consumers c) IsModestRequest }
+    requires wants { 0 < want }
+    requires small { rows.old.received < 2 ^ 61 }
+    requires few { next_of rows.old.exchanges < 2 ^ 62 }
+    requires room { 3 ≤ spare out.old }
+    ensures answers { OnOk result
+        (Answers rows.old rows.new (listed out.old) (listed out.new) now (Poll c want)) }
+    ensures next { OnOk result (next_of rows.new.exchanges ≤ next_of rows.old.exchanges + 1) }
+    ensures received { OnOk result (rows.new.received ≡ rows.old.received) }
+    ensures limits { OnOk result (rows.new.limits ≡ rows.old.limits) }
+    ensures faults { (shelf_of rows.old.entries).faults ≤ (shelf_of rows.new.entries).faults }
+    ensures kept { OnErr result (listed out.new ≡ listed out.old) }
+{
+    let consumer = rows.consumers.get(&c).unwrap();
+    if let Some(x) = headless_own(rows, consumer) {
+        wait(c, Wait::Head(x), out);
+        return Ok(());
     }
-
-    /// A consumer reads on that waits for no head, with what is stored ahead of it.
-    fn read_on(
-        &mut self,
-        now: u64,
-        c: u64,
-        r: u64,
-        want: u32,
-        run: Option<Run>,
-        out: &mut Acts,
-    ) -> Result<(), NoMemory>
-        requires stands { ∥ StandsForSome self.old ∥₁ }
-        requires shown { IsSomeAnd (get nat_eq self.old.consumers c) (IsShownAt r) }
-        requires modest { IsSomeAnd (get nat_eq self.old.consumers c) IsModestRequest }
-        requires heard { IsSomeAnd (get nat_eq self.old.consumers c)
-            (IsHeard (table_of self.old.exchanges)) }
-        requires run { IsSomeAnd (get nat_eq self.old.consumers c)
-            (IsRunAhead (shelf_of self.old.entries) r want run) }
-        requires wants { 0 < want }
-        requires small { self.old.received < 2 ^ 61 }
-        requires few { next_of self.old.exchanges < 2 ^ 62 }
-        requires room { 3 ≤ spare out.old }
-        ensures answers { OnOk result
-            (Answers self.old self.new (listed out.old) (listed out.new) now (Poll c want)) }
-        ensures next { OnOk result
-            (next_of self.new.exchanges ≤ next_of self.old.exchanges + 1) }
-        ensures received { OnOk result (self.new.received ≡ self.old.received) }
-        ensures limits { OnOk result (self.new.limits ≡ self.old.limits) }
-        ensures faults { (shelf_of self.old.entries).faults ≤ (shelf_of self.new.entries).faults }
-        ensures kept { OnErr result (listed out.new ≡ listed out.old) }
-    {
-        let own = self.consumers.get(&c).unwrap().own;
-        let view = self.read_view(c, r, end_of(&run));
-        match read_step(&view) {
-            ReadStep::Ended => {
-                self.end_reading(now, c, out);
-                Ok(())
-            }
-            ReadStep::Stored { .. } => {
-                let run = run.unwrap();
-                self.give(c, run.x, run.at, run.bytes, out);
-                Ok(())
-            }
-            ReadStep::Held => {
-                let x = own.unwrap();
-                let count = most(view.hi, view.offset, want);
-                let bytes = self.exchanges.take_held(x, count)?;
-                self.give(c, x, view.offset, bytes, out);
-                Ok(())
-            }
-            ReadStep::Failed(cause) => {
-                self.fail(now, c, cause, out);
-                Ok(())
-            }
-            ReadStep::Waits(x) => {
-                self.ask(c, x, out);
-                Ok(())
-            }
-            ReadStep::Hole(hole) => self.open_later_hole(now, c, r, hole, out),
-        }
-    }
-
-    /// The exchange of its own for whose head the consumer waits.
-    fn headless_own(&self, consumer: &Consumer) -> Option<u64>
-        ensures { result ≡ headless_own (table_of self.now.exchanges) consumer.now.own }
-    {
-        let x = consumer.own?;
-        if self.is_headless(x) { Some(x) } else { None }
-    }
-
-    /// The stored bytes of one exchange that stand from the offset on, at most so many.
-    fn stored_ahead(&mut self, r: u64, offset: u64, count: usize) -> Result<Option<Run>, StoreError>
-        requires there { is_kept (shelf_of self.old.entries) r ≡ true }
-        ensures run { IfOk result
-            (λ run. run ≡ run_ahead (shelf_of self.old.entries) r offset count) }
-        ensures same { ReadsStore self.old self.new }
-        ensures no_limit { HasNoLimit result }
-        ensures cause { HasCause (shelf_of self.old.entries).faults
-            (shelf_of self.new.entries).faults result }
-    {
-        if count == 0 {
-            return Ok(None);
-        }
-        self.entries.run_at(r, offset, count)
-    }
-
-    /// What the reading of the consumer looks at, where the stored bytes ahead end there.
-    fn read_view(&self, c: u64, r: u64, stored: Option<u64>) -> ReadView
-        requires bound { is_some (get nat_eq self.now.consumers c) ≡ true }
-        requires there { is_kept (shelf_of self.now.entries) r ≡ true }
-        requires fits { IsSomeAnd (get nat_eq self.now.consumers c)
-            (λ k. k.lo + k.given ≤ 2 ^ 62) }
-        ensures { IsSomeAnd (get nat_eq self.now.consumers c)
-            (ReadViewIs self.now r c stored result) }
-    {
-        let consumer = self.consumers.get(&c).unwrap();
-        let offset = consumer.offset();
-        ReadView {
-            offset,
-            hi: consumer.hi,
-            stored,
-            held: self.goes_alone(c, r) && self.held_own(consumer) > 0,
-            due: consumer.due,
-            source: self.source(r, consumer),
-            next_stored: self.entries.next_present(r, offset),
-        }
-    }
-
-    /// The consumer goes on alone with the representation, which is lost.
-    fn goes_alone(&self, c: u64, r: u64) -> bool
-        ensures { result ≡ goes_alone c ((shelf_of self.now.entries).kept r) }
-    {
-        match self.entries.entry(r) {
-            Some(entry) => entry.is_lost && entry.alone == Some(c),
-            None => false,
-        }
-    }
-
-    /// How many bytes of the consumer's own exchange are held for it.
-    fn held_own(&self, consumer: &Consumer) -> usize
-        ensures { result ≡ held_own (table_of self.now.exchanges) consumer.now.own }
-    {
-        match consumer.own {
-            Some(x) => self.exchanges.held(x),
-            None => 0,
-        }
-    }
-
-    /// The open exchange that a consumer of the representation reads from: its own, or that of the
-    /// shared writing.
-    fn source(&self, r: u64, consumer: &Consumer) -> Option<u64>
-        ensures { result ≡ option_or (if_running (table_of self.now.exchanges) consumer.now.own)
-            (writing_of (table_of self.now.exchanges) ((shelf_of self.now.entries).kept r)) }
-    {
-        let own = self.if_running(consumer.own);
-        if own.is_some() {
-            return own;
-        }
-        self.writing(r)
+    let offset = consumer.offset();
+    let count = most(consumer.hi, offset, want);
+    match stored_ahead(rows, r, offset, count) {
+        Ok(run) => read_on(rows, now, c, r, want, run, out),
+        Err(error) => misread_by(rows, now, c, r, error, out),
     }
 }
 
-impl<B: Backend> Rows<B> {
-    /// A consumer is given these bytes of an exchange.
-    pub(super) fn give(&mut self, c: u64, x: u64, at: u64, bytes: Bytes, out: &mut Acts)
-        requires fits { IsSomeAnd (get nat_eq self.old.consumers c)
-            (λ k. k.given + length bytes ≤ 2 ^ 62) }
-        requires room { 1 ≤ spare out.old }
-        ensures acts { listed out.new ≡ listed out.old ++ given c x at bytes }
-        ensures consumers { ChangesAt self.old.consumers self.new.consumers c
-            (once_given (length bytes)) }
-        ensures rest { KeepsRest self.old self.new }
-        ensures exchanges { self.new.exchanges ≡ self.old.exchanges }
-    {
-        count_given(&mut self.consumers, c, bytes.bytes.len() as u64);
-        put(out, Act::Given { c, x, at, bytes });
-    }
-
-    /// A consumer waits for the next bytes of an exchange, which are asked for where they aren't
-    /// yet.
-    pub(super) fn ask(&mut self, c: u64, x: u64, out: &mut Acts)
-        requires running { is_open x (table_of self.old.exchanges) ≡ true }
-        requires room { 2 ≤ spare out.old }
-        ensures acts { listed out.new ≡ listed out.old
-            ++ acts_of c (asks_or_waits (asked_in (table_of self.old.exchanges x).running) x) }
-        ensures asked { Becomes asked x self.old.exchanges self.new.exchanges }
-        ensures consumers { self.new.consumers ≡ self.old.consumers }
-        ensures rest { KeepsRest self.old self.new }
-    {
-        let view = self.exchanges.view(x).unwrap();
-        if !view.asked {
-            put(out, Act::Ask { x });
-            self.exchanges.ask(x);
+/// A consumer reads on that waits for no head, with what is stored ahead of it.
+fn read_on<B: Backend>(
+    rows: &mut Rows<B>,
+    now: u64,
+    c: u64,
+    r: u64,
+    want: u32,
+    run: Option<Run>,
+    out: &mut Acts,
+) -> Result<(), NoMemory>
+    requires stands { ∥ StandsForSome rows.old ∥₁ }
+    requires shown { IsSomeAnd (get nat_eq rows.old.consumers c) (IsShownAt r) }
+    requires modest { IsSomeAnd (get nat_eq rows.old.consumers c) IsModestRequest }
+    requires heard { IsSomeAnd (get nat_eq rows.old.consumers c)
+        (IsHeard (table_of rows.old.exchanges)) }
+    requires run { IsSomeAnd (get nat_eq rows.old.consumers c)
+        (IsRunAhead (shelf_of rows.old.entries) r want run) }
+    requires wants { 0 < want }
+    requires small { rows.old.received < 2 ^ 61 }
+    requires few { next_of rows.old.exchanges < 2 ^ 62 }
+    requires room { 3 ≤ spare out.old }
+    ensures answers { OnOk result
+        (Answers rows.old rows.new (listed out.old) (listed out.new) now (Poll c want)) }
+    ensures next { OnOk result (next_of rows.new.exchanges ≤ next_of rows.old.exchanges + 1) }
+    ensures received { OnOk result (rows.new.received ≡ rows.old.received) }
+    ensures limits { OnOk result (rows.new.limits ≡ rows.old.limits) }
+    ensures faults { (shelf_of rows.old.entries).faults ≤ (shelf_of rows.new.entries).faults }
+    ensures kept { OnErr result (listed out.new ≡ listed out.old) }
+{
+    let own = rows.consumers.get(&c).unwrap().own;
+    let view = read_view(rows, c, r, end_of(&run));
+    match read_step(&view) {
+        ReadStep::Ended => {
+            end_reading(rows, now, c, out);
+            Ok(())
         }
-        wait(c, Wait::Body(x), out);
+        ReadStep::Stored { .. } => {
+            let run = run.unwrap();
+            give(rows, c, run.x, run.at, run.bytes, out);
+            Ok(())
+        }
+        ReadStep::Held => {
+            let x = own.unwrap();
+            let count = most(view.hi, view.offset, want);
+            let bytes = rows.exchanges.take_held(x, count)?;
+            give(rows, c, x, view.offset, bytes, out);
+            Ok(())
+        }
+        ReadStep::Failed(cause) => {
+            fail(rows, now, c, cause, out);
+            Ok(())
+        }
+        ReadStep::Waits(x) => {
+            ask(rows, c, x, out);
+            Ok(())
+        }
+        ReadStep::Hole(hole) => open_later_hole(rows, now, c, r, hole, out),
     }
+}
+
+/// The exchange of its own for whose head the consumer waits.
+fn headless_own<B: Backend>(rows: &Rows<B>, consumer: &Consumer) -> Option<u64>
+    ensures { result ≡ headless_own (table_of rows.now.exchanges) consumer.now.own }
+{
+    let x = consumer.own?;
+    if is_headless(rows, x) { Some(x) } else { None }
+}
+
+/// The stored bytes of one exchange that stand from the offset on, at most so many.
+fn stored_ahead<B: Backend>(
+    rows: &mut Rows<B>,
+    r: u64,
+    offset: u64,
+    count: usize,
+) -> Result<Option<Run>, StoreError>
+    requires there { is_kept (shelf_of rows.old.entries) r ≡ true }
+    ensures run { IfOk result (λ run. run ≡ run_ahead (shelf_of rows.old.entries) r offset count) }
+    ensures same { ReadsStore rows.old rows.new }
+    ensures no_limit { HasNoLimit result }
+    ensures cause { HasCause (shelf_of rows.old.entries).faults
+        (shelf_of rows.new.entries).faults result }
+{
+    if count == 0 {
+        return Ok(None);
+    }
+    rows.entries.run_at(r, offset, count)
+}
+
+/// What the reading of the consumer looks at, where the stored bytes ahead end there.
+fn read_view<B: Backend>(rows: &Rows<B>, c: u64, r: u64, stored: Option<u64>) -> ReadView
+    requires bound { is_some (get nat_eq rows.now.consumers c) ≡ true }
+    requires there { is_kept (shelf_of rows.now.entries) r ≡ true }
+    requires fits { IsSomeAnd (get nat_eq rows.now.consumers c) (λ k. k.lo + k.given ≤ 2 ^ 62) }
+    ensures { IsSomeAnd (get nat_eq rows.now.consumers c) (ReadViewIs rows.now r c stored result) }
+{
+    let consumer = rows.consumers.get(&c).unwrap();
+    let offset = consumer.offset();
+    ReadView {
+        offset,
+        hi: consumer.hi,
+        stored,
+        held: goes_alone(rows, c, r) && held_own(rows, consumer) > 0,
+        due: consumer.due,
+        source: source(rows, r, consumer),
+        next_stored: rows.entries.next_present(r, offset),
+    }
+}
+
+/// The consumer goes on alone with the representation, which is lost.
+fn goes_alone<B: Backend>(rows: &Rows<B>, c: u64, r: u64) -> bool
+    ensures { result ≡ goes_alone c ((shelf_of rows.now.entries).kept r) }
+{
+    match rows.entries.entry(r) {
+        Some(entry) => entry.is_lost && entry.alone == Some(c),
+        None => false,
+    }
+}
+
+/// How many bytes of the consumer's own exchange are held for it.
+fn held_own<B: Backend>(rows: &Rows<B>, consumer: &Consumer) -> usize
+    ensures { result ≡ held_own (table_of rows.now.exchanges) consumer.now.own }
+{
+    match consumer.own {
+        Some(x) => rows.exchanges.held(x),
+        None => 0,
+    }
+}
+
+/// The open exchange that a consumer of the representation reads from: its own, or that of the
+/// shared writing.
+fn source<B: Backend>(rows: &Rows<B>, r: u64, consumer: &Consumer) -> Option<u64>
+    ensures { result ≡ option_or (if_running (table_of rows.now.exchanges) consumer.now.own)
+        (writing_of (table_of rows.now.exchanges) ((shelf_of rows.now.entries).kept r)) }
+{
+    let own = if_running(rows, consumer.own);
+    if own.is_some() {
+        return own;
+    }
+    writing(rows, r)
+}
+
+/// A consumer is given these bytes of an exchange.
+pub(super) fn give<B: Backend>(
+    rows: &mut Rows<B>,
+    c: u64,
+    x: u64,
+    at: u64,
+    bytes: Bytes,
+    out: &mut Acts,
+)
+    requires fits { IsSomeAnd (get nat_eq rows.old.consumers c)
+        (λ k. k.given + length bytes ≤ 2 ^ 62) }
+    requires room { 1 ≤ spare out.old }
+    ensures acts { listed out.new ≡ listed out.old ++ given c x at bytes }
+    ensures consumers { ChangesAt rows.old.consumers rows.new.consumers c
+        (once_given (length bytes)) }
+    ensures rest { KeepsRest rows.old rows.new }
+    ensures exchanges { rows.new.exchanges ≡ rows.old.exchanges }
+{
+    count_given(&mut rows.consumers, c, bytes.bytes.len() as u64);
+    put(out, Act::Given { c, x, at, bytes });
+}
+
+/// A consumer waits for the next bytes of an exchange, which are asked for where they aren't
+/// yet.
+pub(super) fn ask<B: Backend>(rows: &mut Rows<B>, c: u64, x: u64, out: &mut Acts)
+    requires running { is_open x (table_of rows.old.exchanges) ≡ true }
+    requires room { 2 ≤ spare out.old }
+    ensures acts { listed out.new ≡ listed out.old
+        ++ acts_of c (asks_or_waits (asked_in (table_of rows.old.exchanges x).running) x) }
+    ensures asked { Becomes asked x rows.old.exchanges rows.new.exchanges }
+    ensures consumers { rows.new.consumers ≡ rows.old.consumers }
+    ensures rest { KeepsRest rows.old rows.new }
+{
+    let view = rows.exchanges.view(x).unwrap();
+    if !view.asked {
+        put(out, Act::Ask { x });
+        rows.exchanges.ask(x);
+    }
+    wait(c, Wait::Body(x), out);
 }
 
 /// Where the stored bytes end.

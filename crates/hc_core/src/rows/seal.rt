@@ -10,181 +10,192 @@ ghost use Rattle.hc_model.specs.Effects.{with_representation, let_go, lost_to};
 ghost use Rattle.hc_model.specs.Kinds.{is_complete, is_front};
 ghost use Rattle.hc_model.specs.LettingGo.{MayLetGo};
 ghost use Rattle.hc_model.specs.Rows.{Tables, Consumer, Representation};
-ghost use Rattle.hc_core.specs.Changes.{KeepsLive};
-ghost use Rattle.hc_core.specs.Facts.{Facts};
-ghost use Rattle.hc_core.specs.declared.stop.Stop.TheVariants as stop;
-ghost use Rattle.hc_core.specs.Stopped.{with_consumers, HoldsNothing, MayStop, HasStopped};
-ghost use Rattle.hc_core.specs.Stops.{stop_of, brought_by, may_complete, IsTold, kind_left};
-ghost use Rattle.hc_core.specs.Stands.{RowsStand};
-ghost use Rattle.hc_core.specs.Stored.{TellsShort};
+ghost use Rattle.hc_rows.specs.Changes.{KeepsLive};
+ghost use Rattle.hc_rows.specs.Facts.{Facts};
+ghost use Rattle.hc_rows.specs.declared.stop.Stop.TheVariants as stop;
+ghost use Rattle.hc_rows.specs.Stopped.{with_consumers, HoldsNothing, MayStop, HasStopped};
+ghost use Rattle.hc_rows.specs.Stops.{stop_of, brought_by, may_complete, IsTold, kind_left};
+ghost use Rattle.hc_rows.specs.Stands.{RowsStand};
+ghost use Rattle.hc_rows.specs.Stored.{TellsShort};
 
 use crate::acts::put;
-use crate::rows::Rows;
-use crate::stop::Stop;
+use crate::rows::evict::let_go;
 use hc_entries::EntryView;
 use hc_event::{Act, Acts, LostKind};
 use hc_exch::Role;
 use hc_record::Kind;
+use hc_rows::{Rows, Stop};
 use hc_store::Backend;
 
-impl<B: Backend> Rows<B> {
-    /// What becomes of what the exchange brought when that is closed.
-    pub(super) fn stop_of(&self, x: u64) -> Stop
-        ensures { result ≡ stop_of x (table_of self.now.exchanges x).running
-            (shelf_of self.now.entries) }
-    {
-        let Some(r) = self.brought(x) else {
-            return Stop::Nothing;
-        };
-        let Some(entry) = self.entries.entry(r) else {
-            return Stop::Nothing;
-        };
-        if entry.is_gone {
-            Stop::Nothing
-        } else if x == r && entry.status == 200 && !is_keepable(&entry) {
-            Stop::LetGo(r)
-        } else {
-            Stop::Seal(r)
+/// What becomes of what the exchange brought when that is closed.
+pub(super) fn stop_of<B: Backend>(rows: &Rows<B>, x: u64) -> Stop
+    ensures { result ≡ stop_of x (table_of rows.now.exchanges x).running
+        (shelf_of rows.now.entries) }
+{
+    let Some(r) = brought(rows, x) else {
+        return Stop::Nothing;
+    };
+    let Some(entry) = rows.entries.entry(r) else {
+        return Stop::Nothing;
+    };
+    if entry.is_gone {
+        Stop::Nothing
+    } else if x == r && entry.status == 200 && !is_keepable(&entry) {
+        Stop::LetGo(r)
+    } else {
+        Stop::Seal(r)
+    }
+}
+
+/// The representation that the exchange brings.
+pub(super) fn brought<B: Backend>(rows: &Rows<B>, x: u64) -> Option<u64>
+    ensures { result ≡ brought_by (table_of rows.now.exchanges x).running }
+{
+    match rows.exchanges.view(x)?.role {
+        Role::Body { r } => Some(r),
+        _ => None,
+    }
+}
+
+/// An exchange is closed that stops; what it brought is sealed, or let go where it can't be
+/// completed later. Where the seal fails it is lost, and this one, if any, goes on with it.
+pub(super) fn stop_bringing<B: Backend>(
+    rows: &mut Rows<B>,
+    now: u64,
+    x: u64,
+    alone: Option<u64>,
+    out: &mut Acts,
+)
+    requires running { is_open x (table_of rows.old.exchanges) ≡ true }
+    requires small { rows.old.received < 2 ^ 61 }
+    requires short { TellsShort (shelf_of rows.old.entries) }
+    requires room { 1 ≤ spare out.old }
+    ensures stopped { (t : Tables) (f : ℕ → Option Consumer) → Facts rows.old.limits t
+        → MayStop t f x alone → RowsStand rows.old (with_consumers f t)
+        → HasStopped (shelf_of rows.old.entries).faults rows.new t f
+        (listed out.old) (listed out.new) now x }
+    ensures next { next_of rows.new.exchanges ≡ next_of rows.old.exchanges }
+    ensures received { rows.new.received ≡ rows.old.received }
+    ensures limits { rows.new.limits ≡ rows.old.limits }
+    ensures faults { (shelf_of rows.old.entries).faults ≤ (shelf_of rows.new.entries).faults }
+{
+    match stop_of(rows, x) {
+        Stop::Nothing => rows.exchanges.close(x),
+        Stop::LetGo(r) => {
+            let_go(rows, now, r);
+            rows.exchanges.close(x);
+        }
+        Stop::Seal(r) => seal_stopped(rows, now, x, r, alone, out),
+    }
+}
+
+/// The exchange is closed, and what it brought is sealed, or lost.
+fn seal_stopped<B: Backend>(
+    rows: &mut Rows<B>,
+    now: u64,
+    x: u64,
+    r: u64,
+    alone: Option<u64>,
+    out: &mut Acts,
+)
+    requires running { is_open x (table_of rows.old.exchanges) ≡ true }
+    requires there { is_kept (shelf_of rows.old.entries) r ≡ true }
+    requires small { rows.old.received < 2 ^ 61 }
+    requires short { TellsShort (shelf_of rows.old.entries) }
+    requires room { 1 ≤ spare out.old }
+    ensures stopped { (t : Tables) (f : ℕ → Option Consumer) → Facts rows.old.limits t
+        → MayStop t f x alone → RowsStand rows.old (with_consumers f t)
+        → stop_of x (table_of rows.old.exchanges x).running (shelf_of rows.old.entries)
+        ≡ stop.Seal r
+        → HasStopped (shelf_of rows.old.entries).faults rows.new t f
+        (listed out.old) (listed out.new) now x }
+    ensures next { next_of rows.new.exchanges ≡ next_of rows.old.exchanges }
+    ensures received { rows.new.received ≡ rows.old.received }
+    ensures limits { rows.new.limits ≡ rows.old.limits }
+    ensures faults { (shelf_of rows.old.entries).faults ≤ (shelf_of rows.new.entries).faults }
+{
+    let entry = rows.entries.entry(r).unwrap();
+    let kind = kind_without(rows, r, &entry);
+    match rows.entries.seal(r, kind, entry.total) {
+        Ok(()) => rows.exchanges.close(x),
+        Err(_) => {
+            lose_to(rows, now, r, alone, LostKind::Fault, out);
+            rows.exchanges.close(x);
         }
     }
+}
 
-    /// The representation that the exchange brings.
-    pub(super) fn brought(&self, x: u64) -> Option<u64>
-        ensures { result ≡ brought_by (table_of self.now.exchanges x).running }
-    {
-        match self.exchanges.view(x)?.role {
-            Role::Body { r } => Some(r),
-            _ => None,
-        }
+/// What is stored of a representation of which nothing more comes.
+fn kind_without<B: Backend>(rows: &Rows<B>, r: u64, entry: &EntryView) -> Kind
+    requires there { is_kept (shelf_of rows.now.entries) r ≡ true }
+    ensures { (v : Representation) → IsTold v (cells_at (shelf_of rows.now.entries) r) entry.now
+        → result ≡ kind_left v }
+{
+    if is_complete(rows, r, entry) {
+        Kind::Whole
+    } else if is_front(rows, r, entry) {
+        Kind::Truncated
+    } else {
+        Kind::Ranges
     }
+}
 
-    /// An exchange is closed that stops; what it brought is sealed, or let go where it can't be
-    /// completed later. Where the seal fails it is lost, and this one, if any, goes on with it.
-    pub(super) fn stop_bringing(&mut self, now: u64, x: u64, alone: Option<u64>, out: &mut Acts)
-        requires running { is_open x (table_of self.old.exchanges) ≡ true }
-        requires small { self.old.received < 2 ^ 61 }
-        requires short { TellsShort (shelf_of self.old.entries) }
-        requires room { 1 ≤ spare out.old }
-        ensures stopped { (t : Tables) (f : ℕ → Option Consumer) → Facts self.old.limits t
-            → MayStop t f x alone → RowsStand self.old (with_consumers f t)
-            → HasStopped (shelf_of self.old.entries).faults self.new t f
-            (listed out.old) (listed out.new) now x }
-        ensures next { next_of self.new.exchanges ≡ next_of self.old.exchanges }
-        ensures received { self.new.received ≡ self.old.received }
-        ensures limits { self.new.limits ≡ self.old.limits }
-        ensures faults { (shelf_of self.old.entries).faults ≤ (shelf_of self.new.entries).faults }
-    {
-        match self.stop_of(x) {
-            Stop::Nothing => self.exchanges.close(x),
-            Stop::LetGo(r) => {
-                self.let_go(now, r);
-                self.exchanges.close(x);
-            }
-            Stop::Seal(r) => self.seal_stopped(now, x, r, alone, out),
-        }
+/// Its length is known, and all of it is stored.
+#[tactic(auto, using(hc_rows::proofs::StoredKinds::complete_as, hc_rows::proofs::StoredKinds::incomplete_as))]
+fn is_complete<B: Backend>(rows: &Rows<B>, r: u64, entry: &EntryView) -> bool
+    requires there { is_kept (shelf_of rows.now.entries) r ≡ true }
+    ensures { (v : Representation) → IsTold v (cells_at (shelf_of rows.now.entries) r) entry.now
+        → result ≡ is_complete v }
+{
+    match entry.total {
+        Some(total) => rows.entries.covers(r, 0, total),
+        None => false,
     }
+}
 
-    /// The exchange is closed, and what it brought is sealed, or lost.
-    fn seal_stopped(&mut self, now: u64, x: u64, r: u64, alone: Option<u64>, out: &mut Acts)
-        requires running { is_open x (table_of self.old.exchanges) ≡ true }
-        requires there { is_kept (shelf_of self.old.entries) r ≡ true }
-        requires small { self.old.received < 2 ^ 61 }
-        requires short { TellsShort (shelf_of self.old.entries) }
-        requires room { 1 ≤ spare out.old }
-        ensures stopped { (t : Tables) (f : ℕ → Option Consumer) → Facts self.old.limits t
-            → MayStop t f x alone → RowsStand self.old (with_consumers f t)
-            → stop_of x (table_of self.old.exchanges x).running (shelf_of self.old.entries)
-            ≡ stop.Seal r
-            → HasStopped (shelf_of self.old.entries).faults self.new t f
-            (listed out.old) (listed out.new) now x }
-        ensures next { next_of self.new.exchanges ≡ next_of self.old.exchanges }
-        ensures received { self.new.received ≡ self.old.received }
-        ensures limits { self.new.limits ≡ self.old.limits }
-        ensures faults { (shelf_of self.old.entries).faults ≤ (shelf_of self.new.entries).faults }
-    {
-        let entry = self.entries.entry(r).unwrap();
-        let kind = self.kind_without(r, &entry);
-        match self.entries.seal(r, kind, entry.total) {
-            Ok(()) => self.exchanges.close(x),
-            Err(_) => {
-                self.lose_to(now, r, alone, LostKind::Fault, out);
-                self.exchanges.close(x);
-            }
-        }
+/// What is stored of it is some first bytes.
+#[tactic(auto, using(hc_rows::proofs::StoredKinds::front_as, hc_rows::proofs::StoredKinds::no_front_as))]
+fn is_front<B: Backend>(rows: &Rows<B>, r: u64, entry: &EntryView) -> bool
+    requires there { is_kept (shelf_of rows.now.entries) r ≡ true }
+    ensures { (v : Representation) → IsTold v (cells_at (shelf_of rows.now.entries) r) entry.now
+        → result ≡ is_front v }
+{
+    if entry.size > 0 {
+        rows.entries.covers(r, 0, entry.size)
+    } else {
+        false
     }
+}
 
-    /// What is stored of a representation of which nothing more comes.
-    fn kind_without(&self, r: u64, entry: &EntryView) -> Kind
-        requires there { is_kept (shelf_of self.now.entries) r ≡ true }
-        ensures { (v : Representation) → IsTold v (cells_at (shelf_of self.now.entries) r) entry.now
-            → result ≡ kind_left v }
-    {
-        if self.is_complete(r, entry) {
-            Kind::Whole
-        } else if self.is_front(r, entry) {
-            Kind::Truncated
-        } else {
-            Kind::Ranges
-        }
-    }
-
-    /// Its length is known, and all of it is stored.
-    #[tactic(auto, using(crate::proofs::StoredKinds::complete_as, crate::proofs::StoredKinds::incomplete_as))]
-    fn is_complete(&self, r: u64, entry: &EntryView) -> bool
-        requires there { is_kept (shelf_of self.now.entries) r ≡ true }
-        ensures { (v : Representation) → IsTold v (cells_at (shelf_of self.now.entries) r) entry.now
-            → result ≡ is_complete v }
-    {
-        match entry.total {
-            Some(total) => self.entries.covers(r, 0, total),
-            None => false,
-        }
-    }
-
-    /// What is stored of it is some first bytes.
-    #[tactic(auto, using(crate::proofs::StoredKinds::front_as, crate::proofs::StoredKinds::no_front_as))]
-    fn is_front(&self, r: u64, entry: &EntryView) -> bool
-        requires there { is_kept (shelf_of self.now.entries) r ≡ true }
-        ensures { (v : Representation) → IsTold v (cells_at (shelf_of self.now.entries) r) entry.now
-            → result ≡ is_front v }
-    {
-        if entry.size > 0 {
-            self.entries.covers(r, 0, entry.size)
-        } else {
-            false
-        }
-    }
-
-    /// A write of the representation was refused, and nothing more of it is stored: it is let go,
-    /// and this one, if any, goes on with it.
-    pub(super) fn lose_to(
-        &mut self,
-        now: u64,
-        r: u64,
-        alone: Option<u64>,
-        kind: LostKind,
-        out: &mut Acts,
-    )
-        requires there { is_kept (shelf_of self.old.entries) r ≡ true }
-        requires room { 1 ≤ spare out.old }
-        ensures lost { (t : Tables) (v : Representation) → MayLetGo t
-            → t.representation r ≡ Some v → v.alone ≡ None → HoldsNothing t r v alone
-            → RowsStand self.old t
-            → RowsStand self.new
-            (let_go now r (with_representation r (Some (lost_to alone v)) t)) }
-        ensures acts { listed out.new ≡ listed out.old ++ act.Lost r kind ∷ [] }
-        ensures room { spare out.new + 1 ≡ spare out.old }
-        ensures live { KeepsLive self.old.consumers self.new.consumers }
-        ensures last_start { self.new.last_start ≡ self.old.last_start }
-        ensures exchanges { self.new.exchanges ≡ self.old.exchanges }
-        ensures limits { self.new.limits ≡ self.old.limits }
-        ensures received { self.new.received ≡ self.old.received }
-        ensures faults { (shelf_of self.new.entries).faults ≡ (shelf_of self.old.entries).faults }
-    {
-        put(out, Act::Lost { r, kind });
-        self.entries.lose(r, alone);
-        self.let_go(now, r);
-    }
+/// A write of the representation was refused, and nothing more of it is stored: it is let go,
+/// and this one, if any, goes on with it.
+pub(super) fn lose_to<B: Backend>(
+    rows: &mut Rows<B>,
+    now: u64,
+    r: u64,
+    alone: Option<u64>,
+    kind: LostKind,
+    out: &mut Acts,
+)
+    requires there { is_kept (shelf_of rows.old.entries) r ≡ true }
+    requires room { 1 ≤ spare out.old }
+    ensures lost { (t : Tables) (v : Representation) → MayLetGo t
+        → t.representation r ≡ Some v → v.alone ≡ None → HoldsNothing t r v alone
+        → RowsStand rows.old t
+        → RowsStand rows.new
+        (let_go now r (with_representation r (Some (lost_to alone v)) t)) }
+    ensures acts { listed out.new ≡ listed out.old ++ act.Lost r kind ∷ [] }
+    ensures room { spare out.new + 1 ≡ spare out.old }
+    ensures live { KeepsLive rows.old.consumers rows.new.consumers }
+    ensures last_start { rows.new.last_start ≡ rows.old.last_start }
+    ensures exchanges { rows.new.exchanges ≡ rows.old.exchanges }
+    ensures limits { rows.new.limits ≡ rows.old.limits }
+    ensures received { rows.new.received ≡ rows.old.received }
+    ensures faults { (shelf_of rows.new.entries).faults ≡ (shelf_of rows.old.entries).faults }
+{
+    put(out, Act::Lost { r, kind });
+    rows.entries.lose(r, alone);
+    let_go(rows, now, r);
 }
 
 /// What is stored can be completed later.

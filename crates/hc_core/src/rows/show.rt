@@ -8,58 +8,55 @@ ghost use Rattle.hc_entries.specs.Entries.{shelf_of};
 ghost use Rattle.hc_entries.specs.Shelf.{head_at};
 ghost use Rattle.hc_entries.specs.Views.{admits};
 ghost use Rattle.hc_model.specs.Moves.{span_to};
-ghost use Rattle.hc_core.specs.Arms.{IsQueued};
-ghost use Rattle.hc_core.specs.Plans.{begin_of, end_of, IsIdle, HasCurrent, IsShownPart, AnswersShowing};
+ghost use Rattle.hc_rows.specs.Arms.{IsQueued};
+ghost use Rattle.hc_rows.specs.Plans.{begin_of, end_of, IsIdle, HasCurrent, IsShownPart, AnswersShowing};
 
 use crate::acts::put;
-use crate::changes::bind_shown;
-use crate::rows::Rows;
+use crate::rows::leave::leave_line;
 use hc_event::{Act, Acts, Response, Why};
 use hc_range::Span;
 use hc_record::StoredHead;
+use hc_rows::{Rows, bind_shown};
 use hc_store::Backend;
 use hc_text::NoMemory;
 use hc_validate::shown;
 
-impl<B: Backend> Rows<B> {
-    /// A consumer is bound to what is current, and shown its head.
-    pub(super) fn bind(
-        &mut self,
-        c: u64,
-        r: u64,
-        head: &StoredHead,
-        why: Why,
-        span: Option<Span>,
-        out: &mut Acts,
-    ) -> Result<(), NoMemory>
-        requires idle { IsSomeAnd (get nat_eq self.old.consumers c) IsIdle }
-        requires queued { IsSomeAnd (get nat_eq self.old.consumers c) (IsQueued self.old.keys c) }
-        requires current { IsSomeAnd (get nat_eq self.old.consumers c)
-            (HasCurrent self.old.keys r) }
-        requires part { IsSomeAnd (get nat_eq self.old.consumers c)
-            (IsShownPart (plain head.now) span) }
-        requires head { head_at (shelf_of self.old.entries) r ≡ Some (plain head.now) }
-        requires admits { admits c ((shelf_of self.old.entries).kept r) ≡ true }
-        requires room { 1 ≤ spare out.old }
-        ensures answers { OnOk result (IsSomeAnd (get nat_eq self.old.consumers c)
-            (AnswersShowing self.old self.new (listed out.old) (listed out.new)
-            c r (plain head.now) why span)) }
-        ensures exchanges { OnOk result (self.new.exchanges ≡ self.old.exchanges) }
-        ensures received { OnOk result (self.new.received ≡ self.old.received) }
-        ensures limits { OnOk result (self.new.limits ≡ self.old.limits) }
-        ensures faults { (shelf_of self.new.entries).faults ≡ (shelf_of self.old.entries).faults }
-        ensures kept { OnErr result (listed out.new ≡ listed out.old) }
-    {
-        let consumer = self.consumers.get(&c).unwrap();
-        let (lo, hi) = bounds_of(span, head.total);
-        let ranged = consumer.class.range.is_some();
-        let shown = shown(head, why, span_to(lo, hi), ranged)?;
-        self.entries.bind(r, c)?;
-        self.leave_line(c);
-        bind_shown(&mut self.consumers, c, r, lo, hi);
-        put_shown(c, r, why, shown, lo, hi, out);
-        Ok(())
-    }
+/// A consumer is bound to what is current, and shown its head.
+pub(super) fn bind<B: Backend>(
+    rows: &mut Rows<B>,
+    c: u64,
+    r: u64,
+    head: &StoredHead,
+    why: Why,
+    span: Option<Span>,
+    out: &mut Acts,
+) -> Result<(), NoMemory>
+    requires idle { IsSomeAnd (get nat_eq rows.old.consumers c) IsIdle }
+    requires queued { IsSomeAnd (get nat_eq rows.old.consumers c) (IsQueued rows.old.keys c) }
+    requires current { IsSomeAnd (get nat_eq rows.old.consumers c) (HasCurrent rows.old.keys r) }
+    requires part { IsSomeAnd (get nat_eq rows.old.consumers c)
+        (IsShownPart (plain head.now) span) }
+    requires head { head_at (shelf_of rows.old.entries) r ≡ Some (plain head.now) }
+    requires admits { admits c ((shelf_of rows.old.entries).kept r) ≡ true }
+    requires room { 1 ≤ spare out.old }
+    ensures answers { OnOk result (IsSomeAnd (get nat_eq rows.old.consumers c)
+        (AnswersShowing rows.old rows.new (listed out.old) (listed out.new)
+        c r (plain head.now) why span)) }
+    ensures exchanges { OnOk result (rows.new.exchanges ≡ rows.old.exchanges) }
+    ensures received { OnOk result (rows.new.received ≡ rows.old.received) }
+    ensures limits { OnOk result (rows.new.limits ≡ rows.old.limits) }
+    ensures faults { (shelf_of rows.new.entries).faults ≡ (shelf_of rows.old.entries).faults }
+    ensures kept { OnErr result (listed out.new ≡ listed out.old) }
+{
+    let consumer = rows.consumers.get(&c).unwrap();
+    let (lo, hi) = bounds_of(span, head.total);
+    let ranged = consumer.class.range.is_some();
+    let shown = shown(head, why, span_to(lo, hi), ranged)?;
+    rows.entries.bind(r, c)?;
+    leave_line(rows, c);
+    bind_shown(&mut rows.consumers, c, r, lo, hi);
+    put_shown(c, r, why, shown, lo, hi, out);
+    Ok(())
 }
 
 /// Where what is shown begins and ends: the interval, or all of it.

@@ -2,8 +2,8 @@ use Rattle.std.proofs.Common.{refl, arith}
 use Rattle.std.proofs.Math.Logic.{∥∥₁_map}
 use Rattle.hc_event.specs.Acts.{listed}
 use Rattle.hc_rules.specs.Refusals.{refusal_of}
-use Rattle.hc_core.specs.Stands.{gate_of}
-use Rattle.hc_core.proofs.Words.{is_there}
+use Rattle.hc_rows.specs.Stands.{gate_of}
+use Rattle.hc_rows.proofs.Words.{is_there}
 use Rattle.hc_core.proofs.Stepping.{some_after, steps_on, keeps_promises}
 use Rattle.hc_core.proofs.cache.Cache.step.Goals as goal
 
@@ -21,7 +21,7 @@ invariant_of-self-2 g c =
     let done = c.in_ok-answer.ensures in
     record {
       good = λ _. (
-        ∥∥₁_map good.0 (λ until. some_after c.args.self.now.rows c.answer.new.self c.args.now c.args.event.now (listed c.args.out.now) (listed c.answer.new.out) done.denied done.accepted done.limits done.faults c.requires.modest c.args.self.now.last_moment c.requires.later until),
+        ∥∥₁_map good.0 (λ until. some_after c.args.self.now.rows c.answer.new.rows c.args.now c.args.event.now (listed c.args.out.now) (listed c.answer.new.out) done.denied done.accepted done.limits done.faults c.requires.modest c.args.self.now.last_moment c.requires.later until),
         omega (arith, few, next),
       );
     }

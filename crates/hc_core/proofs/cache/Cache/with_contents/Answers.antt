@@ -25,7 +25,7 @@ pub invariant_of-result : goal.invariant_of-result
 invariant_of-result g c =
     let may = subst (λ (l : Limits). may_begin l (told c.args.contents.now) ≡ true) (sym (c.begin_with.ensures.limits ∙ c.in-Ok.ensures.limits)) (may_by _ _ c.in_default.ensures.none) in
     let rows = c.in_default-begin_with.ensures.ok in
-    record { good = λ _. (∣ good_begun_with c.begin_with.new.self c.args.contents.now may rows ∣₁, next_begun_with c.begin_with.new.self c.args.contents.now may rows) }
+    record { good = λ _. (∣ good_begun_with c.begin_with.new.rows c.args.contents.now may rows ∣₁, next_begun_with c.begin_with.new.rows c.args.contents.now may rows) }
 
 pub returns-clause-stands : goal.returns-clause-stands
 returns-clause-stands g c =

@@ -5,7 +5,7 @@ use Rattle.hc_entries.specs.Entries.{shelf_of}
 use Rattle.hc_model.specs.Entries.{Content}
 use Rattle.hc_contents.specs.declared.contents.Content as coded
 use Rattle.hc_contents.specs.Told.{told_item}
-use Rattle.hc_core.specs.Remains.{TellsAll}
+use Rattle.hc_rows.specs.Remains.{TellsAll}
 use Rattle.hc_core.proofs.BegunItems.{calm_ok, take_next}
 use Rattle.hc_core.proofs.ContentsTold.{stays_then, idle_at, one_back, tells_more, any_default}
 use Rattle.hc_core.proofs.rows.contents.items_of.Goals as goal

@@ -1,6 +1,6 @@
 use Rattle.std.proofs.Common.{◌+◌, sym, ◌∙◌, subst}
-use Rattle.hc_core.specs.Changes.{over_if_passed}
-use Rattle.hc_core.proofs.SeatLoops.{AreChangedBelow, none_changed, nobody_more, one_more, all_changed, none_is}
+use Rattle.hc_rows.specs.Changes.{over_if_passed}
+use Rattle.hc_rows.proofs.SeatLoops.{AreChangedBelow, none_changed, nobody_more, one_more, all_changed, none_is}
 use Rattle.hc_core.proofs.rows.evict.start_passed_over.Goals.{in-Some, in_default}
 use Rattle.hc_core.proofs.rows.evict.start_passed_over.Goals as goal
 

@@ -1,5 +1,5 @@
-use Rattle.hc_core.specs.Changes.{over_if_passed}
-use Rattle.hc_core.proofs.SeatLoops.{AreChangedBelow}
+use Rattle.hc_rows.specs.Changes.{over_if_passed}
+use Rattle.hc_rows.proofs.SeatLoops.{AreChangedBelow}
 use Rattle.hc_core.proofs.rows.evict.start_passed_over.Given as goal
 
 abbrev pub invariant-loop-i : goal.invariant-loop-i

@@ -4,7 +4,7 @@ use Rattle.hc_event.specs.declared.event.Request.{Request}
 use Rattle.hc_fields.specs.FieldList.{size_of}
 use Rattle.hc_validate.proofs.Names.{IsToken-range, IsToken-if_range}
 use Rattle.hc_validate.proofs.Stored.{IsFit}
-use Rattle.hc_core.proofs.HoleAsked.{IsRangeText, range_fits, lent_or, first_or_fits}
+use Rattle.hc_rows.proofs.HoleAsked.{IsRangeText, range_fits, lent_or, first_or_fits}
 use Rattle.hc_core.proofs.rows.hole.hole_request.Goals as goal
 
 range : (c : goal.After-as_slice) → IsRangeText c.as_slice.result.now

@@ -1,6 +1,0 @@
-use Rattle.hc_contents.specs.Told.{told}
-use Rattle.hc_core.proofs.BegunItems.{AreKept}
-use Rattle.hc_core.proofs.rows.Rows.begin_with.Given as goal
-
-abbrev pub invariant-loop-item : goal.invariant-loop-item
-invariant-loop-item g l = AreKept l.initial.self l.self (told l.contents) l.item-index

@@ -1,6 +1,0 @@
-use Rattle.hc_event.specs.Acts.{listed, spare}
-use Rattle.hc_core.proofs.Rooms.{HaveGone}
-use Rattle.hc_core.proofs.rows.Rows.make_room.Given as goal
-
-abbrev pub invariant-loop-i : goal.invariant-loop-i
-invariant-loop-i g l = HaveGone l.fn.self l.self l.now l.i (listed l.fn.out) (listed l.out) (spare l.fn.out) (spare l.out)

@@ -1,0 +1,68 @@
+use Rattle.std.proofs.Common.{◌≡◌, ◌≤◌, ap, ◌∙◌, length, arith}
+use Rattle.std.proofs.Math.Logic.{∥∥₁_map}
+use Rattle.hc_event.specs.declared.event.Event.TheVariants as event
+use Rattle.hc_rules.specs.Refusals.{piece_refusal}
+use Rattle.hc_rows.specs.Stands.{gate_of, open_at}
+use Rattle.hc_rows.proofs.Accepted.{start_rises, poll_lives, poll_wants, cancel_lives, head_free, piece_free, end_free, fault_free}
+use Rattle.hc_rows.proofs.Standing.{few_kept}
+use Rattle.hc_rows.proofs.Timely.{timely}
+use Rattle.hc_core.proofs.rows.answer.accept.Goals as goal
+
+pub start-requires-clause-rising : goal.start-requires-clause-rising
+start-requires-clause-rising g c = start_rises (gate_of c.args.rows.now (event.Start c.in-Start.c c.in-Start.request)) c.in-Start.c c.in-Start.request (rw c.in-Start.is at c.requires.accepted)
+
+pub poll-requires-clause-live : goal.poll-requires-clause-live
+poll-requires-clause-live g c = poll_lives (gate_of c.args.rows.now (event.Poll c.in-Poll.c c.in-Poll.want)) c.in-Poll.c c.in-Poll.want (rw c.in-Poll.is at c.requires.accepted)
+
+pub poll-requires-clause-wants : goal.poll-requires-clause-wants
+poll-requires-clause-wants g c = poll_wants (gate_of c.args.rows.now (event.Poll c.in-Poll.c c.in-Poll.want)) c.in-Poll.c c.in-Poll.want (rw c.in-Poll.is at c.requires.accepted)
+
+pub take_head-requires-clause-accepted : goal.take_head-requires-clause-accepted
+take_head-requires-clause-accepted g c = head_free (gate_of c.args.rows.now (event.Head c.in-Head.x c.in-Head.response)) c.in-Head.x c.in-Head.response (rw c.in-Head.is at c.requires.accepted)
+
+pub take_piece-requires-clause-accepted : goal.take_piece-requires-clause-accepted
+take_piece-requires-clause-accepted g c =
+    let free = piece_free (gate_of c.args.rows.now (event.Piece c.in-Piece.x c.in-Piece.bytes)) c.in-Piece.x c.in-Piece.bytes (rw c.in-Piece.is at c.requires.accepted) in
+    ap (λ n. piece_refusal (open_at c.args.rows.now c.in-Piece.x) n) (ap length (c.as_slice.ensures.value ∙ c.bytes.view_is)) ∙ free
+
+pub end-requires-clause-accepted : goal.end-requires-clause-accepted
+end-requires-clause-accepted g c = end_free (gate_of c.args.rows.now (event.End c.in-End.x)) c.in-End.x (rw c.in-End.is at c.requires.accepted)
+
+pub fault-requires-clause-accepted : goal.fault-requires-clause-accepted
+fault-requires-clause-accepted g c = fault_free (gate_of c.args.rows.now (event.Fault c.in-Fault.x)) c.in-Fault.x (rw c.in-Fault.is at c.requires.accepted)
+
+pub cancel-requires-clause-live : goal.cancel-requires-clause-live
+cancel-requires-clause-live g c = cancel_lives (gate_of c.args.rows.now (event.Cancel c.in-Cancel.c)) c.in-Cancel.c (rw c.in-Cancel.is at c.requires.accepted)
+
+pub take_doom-requires-clause-room : goal.take_doom-requires-clause-room
+take_doom-requires-clause-room g c = let few = few_kept c.args.rows.now (∥∥₁_map c.requires.stands (λ until. until.0)) in omega (arith, few)
+
+pub start-requires-clause-stands : goal.start-requires-clause-stands
+start-requires-clause-stands g c = ∥∥₁_map c.requires.stands (λ until. until.0)
+
+pub take_head-requires-clause-stands : goal.take_head-requires-clause-stands
+take_head-requires-clause-stands g c = ∥∥₁_map c.requires.stands (λ until. until.0)
+
+pub take_piece-requires-clause-stands : goal.take_piece-requires-clause-stands
+take_piece-requires-clause-stands g c = ∥∥₁_map c.requires.stands (λ until. until.0)
+
+pub end-requires-clause-stands : goal.end-requires-clause-stands
+end-requires-clause-stands g c = ∥∥₁_map c.requires.stands (λ until. until.0)
+
+pub fault-requires-clause-stands : goal.fault-requires-clause-stands
+fault-requires-clause-stands g c = ∥∥₁_map c.requires.stands (λ until. until.0)
+
+pub cancel-requires-clause-stands : goal.cancel-requires-clause-stands
+cancel-requires-clause-stands g c = ∥∥₁_map c.requires.stands (λ until. until.0)
+
+pub take_doom-requires-clause-stands : goal.take_doom-requires-clause-stands
+take_doom-requires-clause-stands g c = ∥∥₁_map c.requires.stands (λ until. until.0)
+
+pub take_head-requires-clause-timely : goal.take_head-requires-clause-timely
+take_head-requires-clause-timely g c = timely c.args.rows.now c.in-Head.x c.args.now c.requires.early c.requires.stands
+
+pub take_piece-requires-clause-short : goal.take_piece-requires-clause-short
+take_piece-requires-clause-short g c =
+    let count : length c.as_slice.result.now ≡ length c.in-Piece.bytes = ap length (c.as_slice.ensures.value ∙ c.bytes.view_is) in
+    let small : length c.in-Piece.bytes ≤ 65536 = rw c.in-Piece.is at c.requires.modest in
+    omega (arith, count, small)

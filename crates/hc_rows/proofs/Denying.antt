@@ -1,0 +1,39 @@
+-- What is kept stands for the tables after a denied event, and at the beginning.
+use Rattle.std.proofs.Common.{◌≡◌, ℕ, ◌+◌, List, [], Option, None, refl, ap}
+use Rattle.std.specs.Prelude.{nat_eq}
+use Rattle.std.specs.HashMap.{get, hash_map_len}
+use Rattle.hc_store.specs.declared.backend.Backend.{Ghosts}
+use Rattle.hc_entries.specs.Entries.{shelf_of}
+use Rattle.hc_entry.specs.Keys.{kept_of}
+use Rattle.hc_entry.specs.Kept.{nothing}
+use Rattle.hc_exch.specs.Exchanges.{table_of, next_of}
+use Rattle.hc_exch.specs.Known.{unknown}
+use Rattle.hc_model.specs.Currents.{current}
+use Rattle.hc_model.specs.Entries.{Entry, no_contents}
+use Rattle.hc_model.specs.Rows.{Tables}
+use Rattle.hc_model.specs.Tables.{begun, after_denied, received_in}
+use Rattle.hc_rows.specs.declared.rows.Rows.{Rows}
+use Rattle.hc_rows.specs.Good.{counted}
+use Rattle.hc_rows.specs.Stands.{RowsStand}
+use Rattle.hc_rows.proofs.Counting.{stands_recounted}
+use Rattle.hc_rows.proofs.Words.{more_received, none_received}
+
+pub stands_denied : {B : Type 0} {g : Ghosts B} (r : Rows B g) (t : Tables) (e : Entry) → RowsStand r t → RowsStand (counted e.event r) (after_denied t e)
+stands_denied r t e stands =
+    stands_recounted r (counted e.event r) t e.now (t.entries + 1) (t.received + received_in e.event) refl (more_received r.received (received_in e.event) stands.received) refl refl refl refl refl stands
+
+-- AT THE BEGINNING
+
+pub stands_begun : {B : Type 0} {g : Ghosts B} (r : Rows B g) → r.last_start ≡ 0 → next_of r.exchanges ≡ 1 → hash_map_len r.consumers ≡ 0 → ((c : ℕ) → get nat_eq r.consumers c ≡ None) → ((x : ℕ) → table_of r.exchanges x ≡ unknown) → ((key : List ℕ) → kept_of r.keys key ≡ nothing) → ((q : ℕ) → (shelf_of r.entries).kept q ≡ None) → (shelf_of r.entries).order ≡ [] → (shelf_of r.entries).limits ≡ r.limits → RowsStand r (begun no_contents)
+unfolding current
+stands_begun r last next count none unopened unawaited unkept order limits = record {
+  limits = limits;
+  entries = record { each = λ q. rw (unkept q) tt; order = order };
+  received = none_received r.received;
+  last_start = last;
+  next = next;
+  count = count;
+  consumers = λ c. rw (none c) refl;
+  exchanges = λ x. record { running = rw (unopened x) refl; held = ap (λ z. z.held) (unopened x) };
+  keys = λ key. rw (unawaited key) (record { current = refl; in_line = λ c. refl; passed = λ c. refl; away = λ c. refl; holder = λ c. refl });
+}

@@ -1,0 +1,39 @@
+-- In every run the head of a representation says that it grows: how much of it is stored is told of the tables, and not of its head.
+use Rattle.std.proofs.Common.{◌≡◌, ℕ, Option, Some, None, refl, ap, sym, ◌∙◌}
+use Rattle.std.specs.Prelude.{find, option_map, ◌==◌}
+use Rattle.hc_record.specs.Head.{Head}
+use Rattle.hc_record.specs.declared.kind.Kind.TheVariants as kind
+use Rattle.hc_model.specs.Entries.{Entry, Content, Contents}
+use Rattle.hc_model.specs.Keys.{entry_of}
+use Rattle.hc_model.specs.Laws.{OfRuns}
+use Rattle.hc_model.specs.Rows.{Tables, Representation}
+use Rattle.hc_model.specs.Tables.{begun, loaded}
+use Rattle.hc_model.proofs.HeadFrom.{HeadFrom, head_from}
+use Rattle.hc_model.proofs.HeadFrom as from
+use Rattle.hc_model.proofs.RepFrom.{RepFrom, rep_from}
+use Rattle.hc_model.proofs.RepFrom as rep
+use Rattle.hc_laws.proofs.RunFacts.{in_runs}
+use Rattle.hc_rows.proofs.Words.{none_some, some_is}
+
+abbrev pub HeadsGrow : Tables → Type 0
+HeadsGrow t = (r : ℕ) (v : Representation) → t.representation r ≡ Some v → v.head.kind ≡ kind.Growing
+
+grows_from : (t : Tables) (e : Entry) (r : ℕ) (v u : Representation) → v.head.kind ≡ kind.Growing → HeadFrom t e r v u → u.head.kind ≡ kind.Growing
+grows_from t e r v u old (from.still same) = ap (λ (h : Head). h.kind) same ∙ old
+grows_from t e r v u old (from.told n is) = ap (λ (h : Head). h.kind) is ∙ old
+grows_from t e r v u old (from.updated x response w here at is) = ap (λ (h : Head). h.kind) is ∙ old
+
+grows_by : (t : Tables) (e : Entry) (r : ℕ) (u : Representation) → HeadsGrow t → RepFrom t e r u → u.head.kind ≡ kind.Growing
+grows_by t e r u old (rep.was v kept) = grows_from t e r v u (old r v kept.row) (head_from t e r v u kept)
+grows_by t e r u old (rep.founded response w none here row on is) = sym (ap (λ (z : Representation). z.head.kind) is)
+
+grow_begun : (contents : Contents) → HeadsGrow (begun contents)
+grow_begun contents r v row = by_item (find (λ (item : Content). item.r == r) contents.items) row
+  where
+    by_item : (z : Option Content) → option_map loaded z ≡ Some v → v.head.kind ≡ kind.Growing
+    by_item None is = none_some v is
+    by_item (Some item) is = sym (ap (λ (z : Representation). z.head.kind) (some_is (loaded item) v is))
+
+pub heads_grow : OfRuns HeadsGrow
+heads_grow = in_runs (λ limits t. HeadsGrow t) (λ limits contents may. grow_begun contents) (λ limits t e later g. g)
+    (λ limits t now flaw later c g ev goes real r u row. grows_by t (entry_of limits t now ev flaw) r u g (rep_from t (entry_of limits t now ev flaw) r (t.representation r) u refl row))

@@ -1,0 +1,37 @@
+-- What is known of a consumer that is polled: it is live, and its request has few and short fields.
+use Rattle.std.proofs.Common.{◌≡◌, ℕ, ◌+◌, ◌<◌, ◌≤◌, length, true, Some, sym, ap, ◌∙◌, subst, arith}
+use Rattle.std.specs.Prelude.{nat_eq}
+use Rattle.std.specs.HashMap.{get}
+use Rattle.hc_store.specs.declared.backend.Backend.{Ghosts}
+use Rattle.hc_event.specs.declared.event.Request.{Request}
+use Rattle.hc_fields.specs.FieldList.{IsModest, size_of}
+use Rattle.hc_model.specs.declared.place.Place.{Place}
+use Rattle.hc_model.specs.Denials.{is_live_place}
+use Rattle.hc_model.specs.Rows as rows
+use Rattle.hc_model.specs.Tables.{tables}
+use Rattle.hc_model.proofs.ModestRuns.{requests_are_modest}
+use Rattle.hc_rows.specs.declared.consumer.Consumer.{Consumer}
+use Rattle.hc_rows.specs.declared.rows.Rows.{Rows}
+use Rattle.hc_rows.specs.Kept.{IsKept, KeepsConsumer}
+use Rattle.hc_rows.specs.Plans.{IsModestRequest}
+use Rattle.hc_rows.specs.Stands.{StandsForSome}
+use Rattle.hc_rows.proofs.Maps.{merely_true, merely_below}
+use Rattle.hc_rows.proofs.Ties.{kept_row}
+
+module _ {B : Type 0} {g : Ghosts B} (r : Rows B g) (some : ∥ StandsForSome r ∥₁) (c : ℕ) (k : Consumer) (there : get nat_eq r.consumers c ≡ Some k) where
+  its_row : (s : StandsForSome r) → (v : rows.Consumer) × ((tables s.contents s.h).consumer c ≡ Some v) × IsKept (tables s.contents s.h) k v
+  its_row s =
+      let t = tables s.contents s.h in
+      kept_row t k (t.consumer c) (subst (λ o. KeepsConsumer t o (t.consumer c)) there (s.rows.consumers c))
+
+  pub lives_there : is_live_place k.place ≡ true
+  lives_there = merely_true (is_live_place k.place) some (λ s. (let (v, row, kept) = its_row s in ap (λ (p : Place). is_live_place p) kept.place ∙ kept.is_there))
+
+  modest_in : (s : StandsForSome r) → IsModest k.request.fields
+  modest_in s = (let (v, row, kept) = its_row s in subst (λ (z : Request). IsModest z.fields) (sym kept.request) (requests_are_modest s.contents s.h s.modest c v row))
+
+  pub modest_there : IsModestRequest k
+  modest_there =
+      let few = merely_below (length k.request.fields) 65 some (λ s. (let le = (modest_in s).few in omega (arith, le))) in
+      let small = merely_below (size_of k.request.fields) 32769 some (λ s. (let le = (modest_in s).small in omega (arith, le))) in
+      record { few = omega (arith, few); small = omega (arith, small) }

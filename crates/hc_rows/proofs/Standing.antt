@@ -1,0 +1,91 @@
+-- The facts that hold of the tables of every run.
+use Rattle.std.proofs.Common.{◌≡◌, ℕ, ◌+◌, ◌<◌, ◌≤◌, true, Option, Some, None, sym, subst, arith}
+use Rattle.std.specs.Prelude.{is_some}
+use Rattle.std.specs.HashMap.{hash_map_len}
+use Rattle.hc_store.specs.declared.backend.Backend.{Ghosts}
+use Rattle.hc_event.specs.declared.event.Response.{Response}
+use Rattle.hc_sparse.specs.Cells.{Cells, Covers}
+use Rattle.hc_rules.specs.declared.room.Limits.{Limits}
+use Rattle.hc_model.specs.Beginnings.{may_begin}
+use Rattle.hc_model.specs.Entries.{Contents, History}
+use Rattle.hc_model.specs.Exchanges.{front}
+use Rattle.hc_model.specs.Live.{most_live}
+use Rattle.hc_model.specs.Numbers.{AreShort}
+use Rattle.hc_model.specs.Rows.{Exchange}
+use Rattle.hc_model.specs.Runs.{IsRun}
+use Rattle.hc_model.specs.Tables.{tables}
+use Rattle.hc_laws.proofs.AloneRuns.{alone_in_runs}
+use Rattle.hc_model.proofs.Beside.{goes_on_at}
+use Rattle.hc_laws.proofs.BringsRuns.{brings_in_runs}
+use Rattle.hc_laws.proofs.FrontRuns.{fronts_in_runs}
+use Rattle.hc_laws.proofs.FitsRuns.{fits}
+use Rattle.hc_laws.proofs.GivenRuns.{given_in_runs}
+use Rattle.hc_laws.proofs.GrowingRuns.{growing_in_runs}
+use Rattle.hc_laws.proofs.InRuns.{turned_in_runs}
+use Rattle.hc_laws.proofs.LiveRuns.{few_in_runs}
+use Rattle.hc_laws.proofs.OriginRuns.{origins_in_runs}
+use Rattle.hc_laws.proofs.PartRuns.{parts_in_runs}
+use Rattle.hc_laws.proofs.LossRuns.{losses_in_runs}
+use Rattle.hc_laws.proofs.NumberRuns.{numbers_in_runs}
+use Rattle.hc_laws.proofs.OrderRuns.{order_in_runs}
+use Rattle.hc_laws.proofs.PassedRuns.{passed_in_runs}
+use Rattle.hc_laws.proofs.PlaceRuns.{places_in_runs, endings_in_runs}
+use Rattle.hc_laws.proofs.SizesKeep.{sizes_in_runs}
+use Rattle.hc_laws.proofs.SoundRuns.{carried, measures_in_runs}
+use Rattle.hc_laws.proofs.StoredHeadsKeep.{heads_in_runs}
+use Rattle.hc_laws.proofs.TagRuns.{tags_in_runs}
+use Rattle.hc_laws.proofs.WeightsLeft.{weights_total}
+use Rattle.hc_laws.proofs.UnendedRuns.{unended_in_runs}
+use Rattle.hc_laws.proofs.WhoseRuns.{whose_in_runs}
+use Rattle.hc_rows.specs.declared.rows.Rows.{Rows}
+use Rattle.hc_rows.specs.Facts.{Facts}
+use Rattle.hc_rows.specs.Stands.{StandsForSome}
+use Rattle.hc_rows.proofs.Maps.{merely_below}
+use Rattle.hc_rows.proofs.Words.{false_true}
+
+-- with its head it goes on at its front
+come_up : (v : Cells) (n : ℕ) (w : Exchange) → Covers v n (goes_on_at w w.head) → is_some w.head ≡ true → Covers v n (front w)
+come_up v n w all headed = by_head w.head headed all
+  where
+    by_head : (h : Option Response) → is_some h ≡ true → Covers v n (goes_on_at w h) → Covers v n (front w)
+    by_head None some up = false_true some
+    by_head (Some response) some up = up
+
+pub facts_of_runs : (limits : Limits) (contents : Contents) (h : History) → may_begin limits contents ≡ true → AreShort contents → IsRun limits contents h → Facts limits (tables contents h)
+facts_of_runs limits contents h may short run =
+    let here = carried limits contents h may run in
+    record {
+      law = record {
+        sound = here.is_sound;
+        owned = here.is_owned;
+        places = places_in_runs limits contents h may run;
+        passed = passed_in_runs limits contents h may run;
+        order = order_in_runs limits contents h may run;
+        whose = whose_in_runs limits contents h may run;
+        endings = endings_in_runs limits contents h may run;
+        given = given_in_runs limits contents h may run;
+        growing = growing_in_runs limits contents h may run;
+        alone = alone_in_runs limits contents h may run;
+        keyed = (turned_in_runs limits contents h may run).one;
+      };
+      measures = measures_in_runs limits contents h may run;
+      numbers = numbers_in_runs limits contents h may short run;
+      brings = brings_in_runs limits contents h may run;
+      losses = losses_in_runs limits contents h may run;
+      heads = heads_in_runs limits contents h may run;
+      tags = tags_in_runs limits contents h may run;
+      sizes = sizes_in_runs limits contents h may run;
+      fits = subst (λ n. n ≤ limits.max_total) (sym (weights_total (tables contents h))) (fits limits contents h may run).within;
+      live = few_in_runs limits contents h may run;
+      turns = (turned_in_runs limits contents h may run).turns;
+      come = record { covered = λ r c x v k w there pen reader undue owns row headed. come_up v.body _ w (here.beside.covered r c x v k w there pen reader undue owns row) headed };
+      parts = parts_in_runs limits contents h may run;
+      origins = origins_in_runs limits contents h may run;
+      fronts = fronts_in_runs limits contents h may run;
+      unended = unended_in_runs limits contents h may run;
+    }
+
+-- no more are kept than may be live
+pub few_kept : {B : Type 0} {g : Ghosts B} (r : Rows B g) → ∥ StandsForSome r ∥₁ → hash_map_len r.consumers < most_live + 1
+few_kept r some = merely_below (hash_map_len r.consumers) (most_live + 1) some
+    (λ s. (let few = (facts_of_runs r.limits s.contents s.h s.begins s.short s.run).live.few in let count = s.rows.count in omega (arith, few, count)))

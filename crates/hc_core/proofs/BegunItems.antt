@@ -35,7 +35,7 @@ use Rattle.hc_contents.specs.declared.contents.Content as coded
 use Rattle.hc_contents.specs.declared.contents.Contents as coded_all
 use Rattle.hc_contents.specs.Told.{told, told_item}
 use Rattle.hc_contents.proofs.Counting.{longer}
-use Rattle.hc_rows.proofs.BegunRuns.{runs_more}
+use Rattle.hc_core.proofs.BegunRuns.{runs_more}
 use Rattle.hc_rows.proofs.Words.{eqb-same, false_true, none_some}
 use Rattle.hc_core.proofs.BegunRows.{stands_more}
 

@@ -35,7 +35,7 @@ use Rattle.hc_rows.specs.Lines.{KeepsKey}
 use Rattle.hc_rows.specs.Stands.{RowsStand}
 use Rattle.hc_rows.specs.Stored.{IsEntry, KeepsEntry, KeepsEntries, TellsLength, is_usable_row}
 use Rattle.hc_rows.specs.Stored as stored
-use Rattle.hc_rows.proofs.BegunRuns.{runs_cells, runs_reach, runs_rest, kind_begun, whole_begun}
+use Rattle.hc_core.proofs.BegunRuns.{runs_cells, runs_reach, runs_rest, kind_begun, whole_begun}
 use Rattle.hc_rows.proofs.Words.{eqb-same, false_true, none_some, as_received, none_received}
 use Rattle.hc_core.specs.Begins.{with_items, kept_item, KeepsItem}
 

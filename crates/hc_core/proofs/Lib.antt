@@ -1,3 +1,11 @@
+pub mod Undenied
+pub mod Denying
+pub mod Timely
+pub mod BegunRuns
+pub mod Remaining
+pub mod HeadsGrow
+pub mod NobodyLive
+pub mod RunsBack
 pub mod KeyViews
 pub mod Stepping
 pub mod BegunRows

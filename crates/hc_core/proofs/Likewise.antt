@@ -47,12 +47,12 @@ use Rattle.hc_rows.specs.Lines.{KeepsKey, has_turn, is_away, is_passed}
 use Rattle.hc_rows.specs.Stands.{RowsStand, most_before}
 use Rattle.hc_rows.specs.Stored.{IsEntry, KeepsEntry, TellsLength, TellsWriter, is_first, is_over, is_usable_row}
 use Rattle.hc_rows.specs.Stored as stored
-use Rattle.hc_rows.proofs.BegunRuns.{kind_begun}
+use Rattle.hc_core.proofs.BegunRuns.{kind_begun}
 use Rattle.hc_rows.proofs.CurrentTies.{stays_stored}
-use Rattle.hc_rows.proofs.HeadsGrow.{HeadsGrow, heads_grow}
+use Rattle.hc_core.proofs.HeadsGrow.{HeadsGrow, heads_grow}
 use Rattle.hc_rows.proofs.LiveCounts.{filter-reverse}
-use Rattle.hc_rows.proofs.NobodyLive.{nobody, nobody_says, unbound, none_bound, shut, none_held}
-use Rattle.hc_rows.proofs.RunsBack.{cells_back}
+use Rattle.hc_core.proofs.NobodyLive.{nobody, nobody_says, unbound, none_bound, shut, none_held}
+use Rattle.hc_core.proofs.RunsBack.{cells_back}
 use Rattle.hc_rows.proofs.Standing.{facts_of_runs}
 use Rattle.hc_rows.proofs.Words.{same_or, eqb-same, eqb-other, false_true, none_some, not_true, same_row, some_is, then_false}
 use Rattle.hc_core.specs.declared.cache.Cache.{Cache}

@@ -1,34 +1,6 @@
 //! What is done with what is kept: why an event is denied, and the arm of each that isn't.
 
 pub(crate) mod answer;
-mod asker;
 pub(crate) mod begin;
-mod candidate;
-mod carry;
-mod close;
 pub(crate) mod contents;
-mod doom;
-mod dooming;
-mod evict;
-mod found;
 mod gate;
-mod gone;
-mod head;
-mod hole;
-mod join;
-mod leave;
-mod lose;
-mod misread;
-mod past;
-mod piece;
-mod plan;
-mod poll;
-mod read;
-mod seal;
-mod show;
-mod shown;
-mod start;
-mod stop;
-mod turn;
-mod unstored;
-mod writers;

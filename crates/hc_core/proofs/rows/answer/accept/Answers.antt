@@ -3,9 +3,9 @@ use Rattle.std.proofs.Math.Logic.{∥∥₁_map}
 use Rattle.hc_event.specs.declared.event.Event.TheVariants as event
 use Rattle.hc_rules.specs.Refusals.{piece_refusal}
 use Rattle.hc_rows.specs.Stands.{gate_of, open_at}
-use Rattle.hc_rows.proofs.Accepted.{start_rises, poll_lives, poll_wants, cancel_lives, head_free, piece_free, end_free, fault_free}
+use Rattle.hc_poll.proofs.Accepted.{start_rises, poll_lives, poll_wants, cancel_lives, head_free, piece_free, end_free, fault_free}
 use Rattle.hc_rows.proofs.Standing.{few_kept}
-use Rattle.hc_rows.proofs.Timely.{timely}
+use Rattle.hc_core.proofs.Timely.{timely}
 use Rattle.hc_core.proofs.rows.answer.accept.Goals as goal
 
 pub start-requires-clause-rising : goal.start-requires-clause-rising

@@ -1,7 +1,7 @@
 use Rattle.std.proofs.Common.{◌≡◌, ◌-◌, ◌≤◌, ◌^◌}
 use Rattle.hc_entries.specs.Entries.{shelf_of}
 use Rattle.hc_entries.specs.Shelf.{Stays, cells_at}
-use Rattle.hc_rows.proofs.Remaining.{AreFound}
+use Rattle.hc_core.proofs.Remaining.{AreFound}
 use Rattle.hc_core.proofs.rows.contents.runs_of.Given as goal
 
 abbrev pub invariant-runs : goal.invariant-runs

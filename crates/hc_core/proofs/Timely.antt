@@ -1,0 +1,30 @@
+-- What comes for an exchange comes once that was opened.
+use Rattle.std.proofs.Common.{◌≡◌, ℕ, ◌<◌, ◌≤◌, ◌^◌, Some, arith}
+use Rattle.std.proofs.Math.Bridge.{le_prop}
+use Rattle.std.proofs.Math.Logic.{∥∥₁_elim}
+use Rattle.hc_store.specs.declared.backend.Backend.{Ghosts}
+use Rattle.hc_exch.specs.declared.row.Open.{Open}
+use Rattle.hc_exch.specs.Exchanges.{table_of}
+use Rattle.hc_model.specs.Rows.{Tables}
+use Rattle.hc_model.specs.Tables.{tables}
+use Rattle.hc_rows.specs.declared.rows.Rows.{Rows}
+use Rattle.hc_rows.specs.Facts.{Facts}
+use Rattle.hc_rows.specs.Good.{StandsUntil}
+use Rattle.hc_rows.specs.Heads.{IsTimely}
+use Rattle.hc_rows.specs.Stands.{RowsStand}
+use Rattle.hc_body.proofs.HeardRows.{heard_row}
+use Rattle.hc_rows.proofs.Standing.{facts_of_runs}
+
+module _ {B : Type 0} {g : Ghosts B} (r : Rows B g) (x : ℕ) (o : Open) (running : (table_of r.exchanges x).running ≡ Some o) where
+  opened_by : (t : Tables) (now : ℕ) → Facts r.limits t → RowsStand r t → t.moment ≤ now → o.moment ≤ now
+  opened_by t now facts stands until =
+      let row = heard_row r t x o stands running in
+      let opened = facts.heads.opened x row.w row.row in
+      let same = row.is.moment in
+      omega (arith, opened, same, until)
+
+  pub since : (now : ℕ) → StandsUntil r now → o.moment ≤ now
+  since now (s, until) = opened_by (tables s.contents s.h) now (facts_of_runs r.limits s.contents s.h s.begins s.short s.run) s.rows until
+
+pub timely : {B : Type 0} {g : Ghosts B} (r : Rows B g) (x now : ℕ) → now < 2 ^ 62 → ∥ StandsUntil r now ∥₁ → IsTimely now (table_of r.exchanges x).running
+timely r x now early some o running = record { later = ∥∥₁_elim some le_prop (λ until. since r x o running now until); small = early }

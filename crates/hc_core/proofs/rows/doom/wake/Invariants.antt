@@ -1,5 +1,0 @@
-use Rattle.hc_rows.proofs.WakeLoop.{WokenSoFar}
-use Rattle.hc_core.proofs.rows.doom.wake.Given as goal
-
-abbrev pub invariant-loop-i : goal.invariant-loop-i
-invariant-loop-i g l = WokenSoFar l.fn.rows l.rows l.i l.now l.key

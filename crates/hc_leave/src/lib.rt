@@ -1,0 +1,11 @@
+//! What happens where a consumer leaves, an exchange is closed, or something gives way.
+#![tactic(auto)]
+
+pub mod acts;
+pub mod close;
+pub mod evict;
+pub mod gone;
+pub mod leave;
+pub mod misread;
+pub mod seal;
+pub mod writers;

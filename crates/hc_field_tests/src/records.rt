@@ -149,94 +149,96 @@ fn seals_in_place(rt: HostRuntime) -> Result<(), Fail> {
     Ok(())
 }
 
+/// Texts of records, and whether each is one.
+const RECORDS: [(&str, bool); 32] = [
+    (
+        "record 1\nG --------------------\n206 0 0 1 1\nrange: bytes=0-\na: \n",
+        true,
+    ),
+    (
+        "record 1\nW 00000000000000000000\n200 7 4611686018427387903 0 0\n",
+        true,
+    ),
+    ("", false),
+    (
+        "record 2\nG --------------------\n206 0 0 1 1\ntag -\nrange: bytes=0-\na: \n",
+        true,
+    ),
+    (
+        "record 2\nG --------------------\n200 0 0 0 0\ntag -\n",
+        true,
+    ),
+    ("record 2\nG --------------------\n200 0 0 0 0\n", false),
+    (
+        "record 2\nG --------------------\n200 0 0 0 0\ntag \"a\"\n",
+        false,
+    ),
+    (
+        "record 2\nG --------------------\n200 0 0 0 1\ntag -\netag: \"a\"\n",
+        false,
+    ),
+    (
+        "record 2\nG --------------------\n200 0 0 0 1\ntag -\netag: W/\"a\"\n",
+        true,
+    ),
+    (
+        "record 2\nG --------------------\n200 0 0 0 2\ntag -\netag: \"a\"\netag: \"a\"\n",
+        true,
+    ),
+    (
+        "record 2\nG --------------------\n200 0 0 0 0\ntag\n",
+        false,
+    ),
+    (
+        "record 3\nG --------------------\n200 0 0 0 0\ntag -\n",
+        false,
+    ),
+    ("record 1\r\nG --------------------\n200 0 0 0 0\n", false),
+    ("record 1\nX --------------------\n200 0 0 0 0\n", false),
+    ("record 1\ng --------------------\n200 0 0 0 0\n", false),
+    ("record 1\nG -------------------\n200 0 0 0 0\n", false),
+    ("record 1\nG 6\n200 0 0 0 0\n", false),
+    ("record 1\nG 04611686018427387904\n200 0 0 0 0\n", false),
+    ("record 1\nG --------------------\n201 0 0 0 0\n", false),
+    ("record 1\nG --------------------\n200 00 0 0 0\n", false),
+    ("record 1\nG --------------------\n200 0  0 0 0\n", false),
+    (
+        "record 1\nG --------------------\n200 0 4611686018427387904 0 0\n",
+        false,
+    ),
+    ("record 1\nG --------------------\n200 0 0 0 0", false),
+    ("record 1\nG --------------------\n200 0 0 0 0\n\n", false),
+    ("record 1\nG --------------------\n200 0 0 0 1\n", false),
+    ("record 1\nG --------------------\n200 0 0 0 1\na: b", false),
+    (
+        "record 1\nG --------------------\n200 0 0 0 1\nA: b\n",
+        false,
+    ),
+    (
+        "record 1\nG --------------------\n200 0 0 0 1\na:b\n",
+        false,
+    ),
+    (
+        "record 1\nG --------------------\n200 0 0 0 1\na:  b\n",
+        false,
+    ),
+    (
+        "record 1\nG --------------------\n200 0 0 0 1\na b: c\n",
+        false,
+    ),
+    (
+        "record 1\nG --------------------\n200 0 0 0 2\nb: 1\na: 2\n",
+        false,
+    ),
+    (
+        "record 1\nG --------------------\n200 0 0 99999999999999999999 0\n",
+        false,
+    ),
+];
+
 #[test]
 fn tells_records(rt: HostRuntime) -> Result<(), Fail> {
-    let table: [(&str, bool); 32] = [
-        (
-            "record 1\nG --------------------\n206 0 0 1 1\nrange: bytes=0-\na: \n",
-            true,
-        ),
-        (
-            "record 1\nW 00000000000000000000\n200 7 4611686018427387903 0 0\n",
-            true,
-        ),
-        ("", false),
-        (
-            "record 2\nG --------------------\n206 0 0 1 1\ntag -\nrange: bytes=0-\na: \n",
-            true,
-        ),
-        (
-            "record 2\nG --------------------\n200 0 0 0 0\ntag -\n",
-            true,
-        ),
-        ("record 2\nG --------------------\n200 0 0 0 0\n", false),
-        (
-            "record 2\nG --------------------\n200 0 0 0 0\ntag \"a\"\n",
-            false,
-        ),
-        (
-            "record 2\nG --------------------\n200 0 0 0 1\ntag -\netag: \"a\"\n",
-            false,
-        ),
-        (
-            "record 2\nG --------------------\n200 0 0 0 1\ntag -\netag: W/\"a\"\n",
-            true,
-        ),
-        (
-            "record 2\nG --------------------\n200 0 0 0 2\ntag -\netag: \"a\"\netag: \"a\"\n",
-            true,
-        ),
-        (
-            "record 2\nG --------------------\n200 0 0 0 0\ntag\n",
-            false,
-        ),
-        (
-            "record 3\nG --------------------\n200 0 0 0 0\ntag -\n",
-            false,
-        ),
-        ("record 1\r\nG --------------------\n200 0 0 0 0\n", false),
-        ("record 1\nX --------------------\n200 0 0 0 0\n", false),
-        ("record 1\ng --------------------\n200 0 0 0 0\n", false),
-        ("record 1\nG -------------------\n200 0 0 0 0\n", false),
-        ("record 1\nG 6\n200 0 0 0 0\n", false),
-        ("record 1\nG 04611686018427387904\n200 0 0 0 0\n", false),
-        ("record 1\nG --------------------\n201 0 0 0 0\n", false),
-        ("record 1\nG --------------------\n200 00 0 0 0\n", false),
-        ("record 1\nG --------------------\n200 0  0 0 0\n", false),
-        (
-            "record 1\nG --------------------\n200 0 4611686018427387904 0 0\n",
-            false,
-        ),
-        ("record 1\nG --------------------\n200 0 0 0 0", false),
-        ("record 1\nG --------------------\n200 0 0 0 0\n\n", false),
-        ("record 1\nG --------------------\n200 0 0 0 1\n", false),
-        ("record 1\nG --------------------\n200 0 0 0 1\na: b", false),
-        (
-            "record 1\nG --------------------\n200 0 0 0 1\nA: b\n",
-            false,
-        ),
-        (
-            "record 1\nG --------------------\n200 0 0 0 1\na:b\n",
-            false,
-        ),
-        (
-            "record 1\nG --------------------\n200 0 0 0 1\na:  b\n",
-            false,
-        ),
-        (
-            "record 1\nG --------------------\n200 0 0 0 1\na b: c\n",
-            false,
-        ),
-        (
-            "record 1\nG --------------------\n200 0 0 0 2\nb: 1\na: 2\n",
-            false,
-        ),
-        (
-            "record 1\nG --------------------\n200 0 0 99999999999999999999 0\n",
-            false,
-        ),
-    ];
-    for (text, expected) in &table {
+    for (text, expected) in &RECORDS {
         let read = read_record(rt.alloc(), text.as_bytes())?;
         assert_eq!(rt; read.is_some(), *expected, "{text}");
     }

@@ -74,82 +74,112 @@ fn allowed_at(
     }
 }
 
+/// A stored Cache-Control, an age, a load and a field of the request, and why the response is allowed.
+const ALLOWED: [(&str, u32, Load, Line, Option<Why>); 15] = [
+    (
+        "max-age=10, must-revalidate",
+        10,
+        Load::Skip,
+        ("x", ""),
+        None,
+    ),
+    (
+        "max-age=10",
+        10,
+        Load::Skip,
+        ("x", ""),
+        Some(Why::StaleAllowed {
+            age: 10,
+            lifetime: 10,
+        }),
+    ),
+    (
+        "max-age=10",
+        9,
+        Load::Normal,
+        ("x", ""),
+        Some(Why::Fresh {
+            age: 9,
+            lifetime: 10,
+        }),
+    ),
+    ("max-age=10", 10, Load::Normal, ("x", ""), None),
+    (
+        "max-age=10",
+        14,
+        Load::Normal,
+        ("cache-control", "max-stale=4"),
+        Some(Why::StaleAllowed {
+            age: 14,
+            lifetime: 10,
+        }),
+    ),
+    (
+        "max-age=10",
+        15,
+        Load::Normal,
+        ("cache-control", "max-stale=4"),
+        None,
+    ),
+    (
+        "max-age=10",
+        9000,
+        Load::Normal,
+        ("cache-control", "max-stale"),
+        Some(Why::StaleAllowed {
+            age: 9000,
+            lifetime: 10,
+        }),
+    ),
+    ("max-age=10", 1, Load::Validate, ("x", ""), None),
+    (
+        "max-age=10",
+        1,
+        Load::Normal,
+        ("cache-control", "max-age=0"),
+        None,
+    ),
+    ("max-age=10, no-cache", 1, Load::Skip, ("x", ""), None),
+    (
+        "max-age=10",
+        6,
+        Load::Normal,
+        ("cache-control", "max-age=5"),
+        None,
+    ),
+    (
+        "max-age=10",
+        5,
+        Load::Normal,
+        ("cache-control", "max-age=5"),
+        Some(Why::Fresh {
+            age: 5,
+            lifetime: 10,
+        }),
+    ),
+    (
+        "max-age=10",
+        5,
+        Load::Normal,
+        ("cache-control", "min-fresh=6"),
+        None,
+    ),
+    (
+        "max-age=10",
+        5,
+        Load::Normal,
+        ("cache-control", "min-fresh=5"),
+        Some(Why::Fresh {
+            age: 5,
+            lifetime: 10,
+        }),
+    ),
+    ("no-store", 0, Load::Normal, ("x", ""), None),
+];
+
 #[test]
 fn allows_by_the_first_case(rt: HostRuntime) -> Result<(), Fail> {
-    let fresh = |age, lifetime| Some(Why::Fresh { age, lifetime });
-    let stale = |age, lifetime| Some(Why::StaleAllowed { age, lifetime });
-    let table: [(&'static str, u32, Load, Line, Option<Why>); 15] = [
-        (
-            "max-age=10, must-revalidate",
-            10,
-            Load::Skip,
-            ("x", ""),
-            None,
-        ),
-        ("max-age=10", 10, Load::Skip, ("x", ""), stale(10, 10)),
-        ("max-age=10", 9, Load::Normal, ("x", ""), fresh(9, 10)),
-        ("max-age=10", 10, Load::Normal, ("x", ""), None),
-        (
-            "max-age=10",
-            14,
-            Load::Normal,
-            ("cache-control", "max-stale=4"),
-            stale(14, 10),
-        ),
-        (
-            "max-age=10",
-            15,
-            Load::Normal,
-            ("cache-control", "max-stale=4"),
-            None,
-        ),
-        (
-            "max-age=10",
-            9000,
-            Load::Normal,
-            ("cache-control", "max-stale"),
-            stale(9000, 10),
-        ),
-        ("max-age=10", 1, Load::Validate, ("x", ""), None),
-        (
-            "max-age=10",
-            1,
-            Load::Normal,
-            ("cache-control", "max-age=0"),
-            None,
-        ),
-        ("max-age=10, no-cache", 1, Load::Skip, ("x", ""), None),
-        (
-            "max-age=10",
-            6,
-            Load::Normal,
-            ("cache-control", "max-age=5"),
-            None,
-        ),
-        (
-            "max-age=10",
-            5,
-            Load::Normal,
-            ("cache-control", "max-age=5"),
-            fresh(5, 10),
-        ),
-        (
-            "max-age=10",
-            5,
-            Load::Normal,
-            ("cache-control", "min-fresh=6"),
-            None,
-        ),
-        (
-            "max-age=10",
-            5,
-            Load::Normal,
-            ("cache-control", "min-fresh=5"),
-            fresh(5, 10),
-        ),
-        ("no-store", 0, Load::Normal, ("x", ""), None),
-    ];
-    for (stored, age, load, asked, due) in &table {
+    for (stored, age, load, asked, due) in &ALLOWED {
         assert_eq!(rt;
             allowed_at(rt.alloc(), stored, *age, *load, &[*asked])?,
             *due,

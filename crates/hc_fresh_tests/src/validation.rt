@@ -209,74 +209,76 @@ content-range: bytes */6\netag: \"6\"\n";
 
 const NOTHING: &[u8] = b"content-length: 0\n";
 
+/// Fields of a request, and the status, the part and the fields of the answer.
+const ANSWERS: [(&[Line], u16, u64, u64, &[u8]); 17] = [
+    (&[], 200, 0, 6, WHOLE),
+    (&[("range", "bytes=-2")], 206, 4, 6, PART),
+    (&[("range", "BYTES=4-99")], 206, 4, 6, PART),
+    (&[("range", "bytes=6-")], 416, 0, 0, UNSATISFIED),
+    (&[("range", "bytes=-0")], 416, 0, 0, UNSATISFIED),
+    (&[("range", "bytes=0-1,4-5")], 200, 0, 6, WHOLE),
+    (
+        &[("range", "bytes=-2"), ("range", "bytes=-2")],
+        200,
+        0,
+        6,
+        WHOLE,
+    ),
+    (
+        &[("range", "bytes=-2"), ("if-range", "\"6\"")],
+        206,
+        4,
+        6,
+        PART,
+    ),
+    (
+        &[("range", "bytes=-2"), ("if-range", "W/\"6\"")],
+        200,
+        0,
+        6,
+        WHOLE,
+    ),
+    (
+        &[("range", "bytes=-2"), ("if-range", "\"7\"")],
+        200,
+        0,
+        6,
+        WHOLE,
+    ),
+    (
+        &[
+            ("range", "bytes=-2"),
+            ("if-range", "\"6\""),
+            ("if-range", "\"6\""),
+        ],
+        200,
+        0,
+        6,
+        WHOLE,
+    ),
+    (&[("if-none-match", "\"6\"")], 304, 0, 0, UNCHANGED),
+    (&[("if-none-match", "\"5\", W/\"6\"")], 304, 0, 0, UNCHANGED),
+    (
+        &[("if-none-match", "\"5\""), ("if-none-match", "\"6\"")],
+        304,
+        0,
+        0,
+        UNCHANGED,
+    ),
+    (
+        &[("if-none-match", "*"), ("range", "bytes=-2")],
+        304,
+        0,
+        0,
+        UNCHANGED,
+    ),
+    (&[("if-none-match", "\"5\"")], 200, 0, 6, WHOLE),
+    (&[("if-none-match", "6")], 200, 0, 6, WHOLE),
+];
+
 #[test]
 fn answers_as_the_origin(rt: HostRuntime) -> Result<(), Fail> {
-    let table: [(&'static [Line], u16, u64, u64, &'static [u8]); 17] = [
-        (&[], 200, 0, 6, WHOLE),
-        (&[("range", "bytes=-2")], 206, 4, 6, PART),
-        (&[("range", "BYTES=4-99")], 206, 4, 6, PART),
-        (&[("range", "bytes=6-")], 416, 0, 0, UNSATISFIED),
-        (&[("range", "bytes=-0")], 416, 0, 0, UNSATISFIED),
-        (&[("range", "bytes=0-1,4-5")], 200, 0, 6, WHOLE),
-        (
-            &[("range", "bytes=-2"), ("range", "bytes=-2")],
-            200,
-            0,
-            6,
-            WHOLE,
-        ),
-        (
-            &[("range", "bytes=-2"), ("if-range", "\"6\"")],
-            206,
-            4,
-            6,
-            PART,
-        ),
-        (
-            &[("range", "bytes=-2"), ("if-range", "W/\"6\"")],
-            200,
-            0,
-            6,
-            WHOLE,
-        ),
-        (
-            &[("range", "bytes=-2"), ("if-range", "\"7\"")],
-            200,
-            0,
-            6,
-            WHOLE,
-        ),
-        (
-            &[
-                ("range", "bytes=-2"),
-                ("if-range", "\"6\""),
-                ("if-range", "\"6\""),
-            ],
-            200,
-            0,
-            6,
-            WHOLE,
-        ),
-        (&[("if-none-match", "\"6\"")], 304, 0, 0, UNCHANGED),
-        (&[("if-none-match", "\"5\", W/\"6\"")], 304, 0, 0, UNCHANGED),
-        (
-            &[("if-none-match", "\"5\""), ("if-none-match", "\"6\"")],
-            304,
-            0,
-            0,
-            UNCHANGED,
-        ),
-        (
-            &[("if-none-match", "*"), ("range", "bytes=-2")],
-            304,
-            0,
-            0,
-            UNCHANGED,
-        ),
-        (&[("if-none-match", "\"5\"")], 200, 0, 6, WHOLE),
-        (&[("if-none-match", "6")], 200, 0, 6, WHOLE),
-    ];
-    for (lines, status, lo, hi, due) in &table {
+    for (lines, status, lo, hi, due) in &ANSWERS {
         let request = asking(rt.alloc(), "GET", "http://a.test/d/6?x", lines)?;
         let answer = origin_answer(&request)?;
         assert_eq!(rt; answer.response.status, *status);

@@ -26,33 +26,34 @@ fn fields_of(alloc: Global, values: &[&str]) -> Result<Fields, FieldError> {
     Ok(fields)
 }
 
+/// What an argument tells to max-age, min-fresh and max-stale.
+const ARGUMENTS: [(&str, u64, u64, Option<Option<u64>>); 21] = [
+    ("=60", 60, 60, Some(Some(60))),
+    ("=0", 0, 0, Some(Some(0))),
+    ("=007", 7, 7, Some(Some(7))),
+    ("=\"60\"", 60, 60, Some(Some(60))),
+    ("=\"\\6\\0\"", 60, 60, Some(Some(60))),
+    ("=2147483647", MOST - 1, MOST - 1, Some(Some(MOST - 1))),
+    ("=2147483648", MOST, MOST, Some(Some(MOST))),
+    ("=2147483649", MOST, MOST, Some(Some(MOST))),
+    ("=\"99999999999999999999999\"", MOST, MOST, Some(Some(MOST))),
+    ("", 0, MOST, Some(None)),
+    ("=", 0, MOST, None),
+    ("=\"\"", 0, MOST, None),
+    ("=\"", 0, MOST, None),
+    ("=\"60", 0, MOST, None),
+    ("=\"60\\\"", 0, MOST, None),
+    ("=\"6\"0", 0, MOST, None),
+    ("=60s", 0, MOST, None),
+    ("=-1", 0, MOST, None),
+    ("= 60", 0, MOST, None),
+    ("=6=0", 0, MOST, None),
+    ("=\u{e9}", 0, MOST, None),
+];
+
 #[test]
 fn reads_numbers(rt: HostRuntime) -> Result<(), Fail> {
-    // What an argument tells to max-age, min-fresh and max-stale.
-    let table: [(&str, u64, u64, Option<Option<u64>>); 21] = [
-        ("=60", 60, 60, Some(Some(60))),
-        ("=0", 0, 0, Some(Some(0))),
-        ("=007", 7, 7, Some(Some(7))),
-        ("=\"60\"", 60, 60, Some(Some(60))),
-        ("=\"\\6\\0\"", 60, 60, Some(Some(60))),
-        ("=2147483647", MOST - 1, MOST - 1, Some(Some(MOST - 1))),
-        ("=2147483648", MOST, MOST, Some(Some(MOST))),
-        ("=2147483649", MOST, MOST, Some(Some(MOST))),
-        ("=\"99999999999999999999999\"", MOST, MOST, Some(Some(MOST))),
-        ("", 0, MOST, Some(None)),
-        ("=", 0, MOST, None),
-        ("=\"\"", 0, MOST, None),
-        ("=\"", 0, MOST, None),
-        ("=\"60", 0, MOST, None),
-        ("=\"60\\\"", 0, MOST, None),
-        ("=\"6\"0", 0, MOST, None),
-        ("=60s", 0, MOST, None),
-        ("=-1", 0, MOST, None),
-        ("= 60", 0, MOST, None),
-        ("=6=0", 0, MOST, None),
-        ("=\u{e9}", 0, MOST, None),
-    ];
-    for (argument, max_age, min_fresh, max_stale) in &table {
+    for (argument, max_age, min_fresh, max_stale) in &ARGUMENTS {
         let mut fields = Fields::new(rt.alloc())?;
         for name in ["max-age", "min-fresh", "max-stale"] {
             let mut value = name.as_bytes().to_vec(rt.alloc())?;
@@ -70,52 +71,54 @@ fn reads_numbers(rt: HostRuntime) -> Result<(), Fail> {
     Ok(())
 }
 
+/// Values of Cache-Control, and what they say together.
+const VALUES: [(&[&str], Directives); 5] = [
+    (
+        &["no-store, NO-CACHE", "Must-Revalidate,, only-if-cached=x"],
+        Directives {
+            no_store: true,
+            no_cache: true,
+            must_revalidate: true,
+            only_if_cached: true,
+            ..NONE
+        },
+    ),
+    (
+        &[
+            "max-age=1, max-age=2",
+            "max-stale=x, max-stale",
+            "min-fresh=3",
+            "min-fresh",
+        ],
+        Directives {
+            max_age: Some(1),
+            min_fresh: Some(3),
+            ..NONE
+        },
+    ),
+    (
+        &["max-age", "max-age=5, public"],
+        Directives {
+            max_age: Some(0),
+            ..NONE
+        },
+    ),
+    (
+        &["private=\"no-store, max-age=1\", Max-Age=9"],
+        Directives {
+            max_age: Some(9),
+            ..NONE
+        },
+    ),
+    (
+        &["no-stores, no, -store", "max-age =1", "\"no-store\""],
+        NONE,
+    ),
+];
+
 #[test]
 fn takes_the_first_of_each(rt: HostRuntime) -> Result<(), Fail> {
-    let table: [(&[&str], Directives); 5] = [
-        (
-            &["no-store, NO-CACHE", "Must-Revalidate,, only-if-cached=x"],
-            Directives {
-                no_store: true,
-                no_cache: true,
-                must_revalidate: true,
-                only_if_cached: true,
-                ..NONE
-            },
-        ),
-        (
-            &[
-                "max-age=1, max-age=2",
-                "max-stale=x, max-stale",
-                "min-fresh=3",
-                "min-fresh",
-            ],
-            Directives {
-                max_age: Some(1),
-                min_fresh: Some(3),
-                ..NONE
-            },
-        ),
-        (
-            &["max-age", "max-age=5, public"],
-            Directives {
-                max_age: Some(0),
-                ..NONE
-            },
-        ),
-        (
-            &["private=\"no-store, max-age=1\", Max-Age=9"],
-            Directives {
-                max_age: Some(9),
-                ..NONE
-            },
-        ),
-        (
-            &["no-stores, no, -store", "max-age =1", "\"no-store\""],
-            NONE,
-        ),
-    ];
-    for (values, want) in &table {
+    for (values, want) in &VALUES {
         let fields = fields_of(rt.alloc(), values)?;
         assert_eq!(rt; read_response(&fields), *want);
         assert_eq!(rt; read_request(&fields), *want);

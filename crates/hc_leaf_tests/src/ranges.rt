@@ -50,7 +50,7 @@ fn part(first: u64, last: u64, total: Option<u64>) -> Option<ContentRange> {
 
 #[test]
 fn reads_content_ranges(rt: HostRuntime) {
-    let table: [(&str, Option<ContentRange>); 26] = [
+    let table: [(&str, Option<ContentRange>); 9] = [
         ("bytes 42-1233/1234", part(42, 1233, Some(1234))),
         ("bytes 42-1233/*", part(42, 1233, None)),
         (
@@ -68,28 +68,37 @@ fn reads_content_ranges(rt: HostRuntime) {
                 Some(4_611_686_018_427_387_903),
             ),
         ),
-        ("bytes 0-1/4611686018427387904", None),
         ("Bytes 0-1/2", part(0, 1, Some(2))),
         ("bYTES */2", Some(ContentRange::Unsatisfied { total: 2 })),
-        ("Byte 0-1/2", None),
-        ("bytes  0-1/2", None),
-        ("bytes 0-1/2 ", None),
-        ("bytes=0-1/2", None),
-        ("bytes 1-0/2", None),
-        ("bytes 0-1/1", None),
-        ("bytes 0-1", None),
-        ("bytes 0-1/", None),
-        ("bytes */*", None),
-        ("bytes *", None),
-        ("bytes **/2", None),
-        ("bytes -1/2", None),
-        ("bytes 0-/2", None),
-        ("bytes 0-1/2/3", None),
-        ("bytes ", None),
-        ("", None),
     ];
     for (text, range) in &table {
         assert_eq!(rt; read_content_range(text.as_bytes()), *range, "{text}");
+    }
+}
+
+#[test]
+fn reads_no_other_content_range(rt: HostRuntime) {
+    let table: [&str; 17] = [
+        "bytes 0-1/4611686018427387904",
+        "Byte 0-1/2",
+        "bytes  0-1/2",
+        "bytes 0-1/2 ",
+        "bytes=0-1/2",
+        "bytes 1-0/2",
+        "bytes 0-1/1",
+        "bytes 0-1",
+        "bytes 0-1/",
+        "bytes */*",
+        "bytes *",
+        "bytes **/2",
+        "bytes -1/2",
+        "bytes 0-/2",
+        "bytes 0-1/2/3",
+        "bytes ",
+        "",
+    ];
+    for text in &table {
+        assert_eq!(rt; read_content_range(text.as_bytes()), None, "{text}");
     }
 }
 

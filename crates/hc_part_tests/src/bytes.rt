@@ -180,6 +180,20 @@ const PIECES: [Piece; 5] = [
     (13097, 2, b'e', 8100),
 ];
 
+/// Whether the map covers what all pieces cover, and no more.
+fn covers_the_pieces<M: SparseBytes>(map: &M) -> bool {
+    map.covers(Span2 {
+        lo: 3990,
+        hi: 21197,
+    }) && !map.covers(Span2 {
+        lo: 3989,
+        hi: 21197,
+    }) && !map.covers(Span2 {
+        lo: 3990,
+        hi: 21198,
+    })
+}
+
 /// Whether pieces put in this order are read as they lie.
 fn order_is_the_same<M: SparseBytes>(
     alloc: Global,
@@ -208,18 +222,7 @@ fn order_is_the_same<M: SparseBytes>(
         agrees(alloc, map, &[], &reads)?
             && follows(alloc, map, 0, Some(3990))?
             && follows(alloc, map, 21197, None)?
-            && map.covers(Span2 {
-                lo: 3990,
-                hi: 21197,
-            })
-            && !map.covers(Span2 {
-                lo: 3989,
-                hi: 21197,
-            })
-            && !map.covers(Span2 {
-                lo: 3990,
-                hi: 21198,
-            })
+            && covers_the_pieces(map)
             && map.size() == 17207,
     )
 }

@@ -133,33 +133,41 @@ fn tells_what_is_wanted(rt: HostRuntime) {
     }
 }
 
+const EXCHANGE: OpenExchange = OpenExchange {
+    headed: true,
+    asked: true,
+    delivered: 2,
+    promised: Some(3),
+};
+
+/// As many consumers as there may be are live, and the last number was 4.
+const GATE: Gate = Gate {
+    last_start: 4,
+    live: 1024,
+    is_live: false,
+    exchange: Some(EXCHANGE),
+};
+
 #[test]
-fn names_the_first_refusal(rt: HostRuntime) -> Result<(), Fail> {
-    let exchange = OpenExchange {
-        headed: true,
-        asked: true,
-        delivered: 2,
-        promised: Some(3),
-    };
-    let gate = Gate {
-        last_start: 4,
-        live: 1024,
-        is_live: false,
-        exchange: Some(exchange),
-    };
+fn names_the_first_refusal_of_a_start(rt: HostRuntime) -> Result<(), Fail> {
     let request = request(rt.alloc(), "GET", Load::Normal, &[])?;
     let late = Event::Start {
         c: 4,
         request: request.copy()?,
     };
     assert_eq!(rt;
-        refusal_of(&gate, &late),
+        refusal_of(&GATE, &late),
         Some(Refusal::NotRising { last: 4 })
     );
     let start = Event::Start { c: 5, request };
-    assert_eq!(rt; refusal_of(&gate, &start), Some(Refusal::TooManyConsumers));
-    let fewer = Gate { live: 1023, ..gate };
+    assert_eq!(rt; refusal_of(&GATE, &start), Some(Refusal::TooManyConsumers));
+    let fewer = Gate { live: 1023, ..GATE };
     assert_eq!(rt; refusal_of(&fewer, &start), None);
+    Ok(())
+}
+
+#[test]
+fn names_the_first_refusal_of_a_poll(rt: HostRuntime) {
     let table = [
         (5, false, 0, Some(Refusal::NoConsumer)),
         (4, false, 0, Some(Refusal::Finished)),
@@ -167,9 +175,13 @@ fn names_the_first_refusal(rt: HostRuntime) -> Result<(), Fail> {
         (4, true, 1, None),
     ];
     for (c, is_live, want, refusal) in table {
-        let gate = Gate { is_live, ..gate };
+        let gate = Gate { is_live, ..GATE };
         assert_eq!(rt; refusal_of(&gate, &Event::Poll { c, want }), refusal);
     }
+}
+
+#[test]
+fn names_the_first_refusal_of_a_piece(rt: HostRuntime) -> Result<(), Fail> {
     let table = [
         (false, false, 0, Some(Refusal::NoHeadYet)),
         (true, false, 0, Some(Refusal::NotAsked)),
@@ -181,11 +193,11 @@ fn names_the_first_refusal(rt: HostRuntime) -> Result<(), Fail> {
         let exchange = OpenExchange {
             headed,
             asked,
-            ..exchange
+            ..EXCHANGE
         };
         let gate = Gate {
             exchange: Some(exchange),
-            ..gate
+            ..GATE
         };
         let mut bytes = Vec::new(rt.alloc());
         bytes.resize(count, b'a')?;
@@ -198,74 +210,80 @@ fn names_the_first_refusal(rt: HostRuntime) -> Result<(), Fail> {
     Ok(())
 }
 
+const PART: Length = Length::Part {
+    base: 3,
+    promised: 3,
+};
+
+/// A status and fields, and the length of an answer that is stored and of one that goes past the store.
+const LENGTHS: [(u16, &[(&str, &str)], Length, Length); 12] = [
+    (
+        200,
+        &[("content-length", "5")],
+        Length::Promised(5),
+        Length::Promised(5),
+    ),
+    (
+        200,
+        &[("content-length", "5,05")],
+        Length::Promised(5),
+        Length::Promised(5),
+    ),
+    (200, &[("content-length", "5, 6")], Length::Bad, Length::Bad),
+    (200, &[("content-length", "x")], Length::Bad, Length::Bad),
+    (200, &[], Length::Unknown, Length::Unknown),
+    (
+        304,
+        &[("content-length", "x")],
+        Length::Promised(0),
+        Length::Promised(0),
+    ),
+    (
+        206,
+        &[("content-range", "bytes 3-5/6")],
+        PART,
+        Length::Unknown,
+    ),
+    (
+        206,
+        &[("content-range", "BYTES 3-5/*")],
+        PART,
+        Length::Unknown,
+    ),
+    (
+        206,
+        &[("content-range", "bytes 3-5/6"), ("content-length", "3")],
+        PART,
+        Length::Promised(3),
+    ),
+    (
+        206,
+        &[("content-range", "bytes 3-5/6"), ("content-length", "4")],
+        Length::Bad,
+        Length::Promised(4),
+    ),
+    (
+        206,
+        &[("content-range", "bytes */6")],
+        Length::Bad,
+        Length::Unknown,
+    ),
+    (
+        206,
+        &[
+            ("content-range", "bytes 3-5/6"),
+            ("content-range", "bytes 3-5/6"),
+        ],
+        Length::Bad,
+        Length::Unknown,
+    ),
+];
+
 #[test]
 fn tells_lengths(rt: HostRuntime) -> Result<(), Fail> {
-    let part = |base, promised| Length::Part { base, promised };
-    let table: [(u16, &[(&str, &str)], Length, Length); 12] = [
-        (
-            200,
-            &[("content-length", "5")],
-            Length::Promised(5),
-            Length::Promised(5),
-        ),
-        (
-            200,
-            &[("content-length", "5,05")],
-            Length::Promised(5),
-            Length::Promised(5),
-        ),
-        (200, &[("content-length", "5, 6")], Length::Bad, Length::Bad),
-        (200, &[("content-length", "x")], Length::Bad, Length::Bad),
-        (200, &[], Length::Unknown, Length::Unknown),
-        (
-            304,
-            &[("content-length", "x")],
-            Length::Promised(0),
-            Length::Promised(0),
-        ),
-        (
-            206,
-            &[("content-range", "bytes 3-5/6")],
-            part(3, 3),
-            Length::Unknown,
-        ),
-        (
-            206,
-            &[("content-range", "BYTES 3-5/*")],
-            part(3, 3),
-            Length::Unknown,
-        ),
-        (
-            206,
-            &[("content-range", "bytes 3-5/6"), ("content-length", "3")],
-            part(3, 3),
-            Length::Promised(3),
-        ),
-        (
-            206,
-            &[("content-range", "bytes 3-5/6"), ("content-length", "4")],
-            Length::Bad,
-            Length::Promised(4),
-        ),
-        (
-            206,
-            &[("content-range", "bytes */6")],
-            Length::Bad,
-            Length::Unknown,
-        ),
-        (
-            206,
-            &[
-                ("content-range", "bytes 3-5/6"),
-                ("content-range", "bytes 3-5/6"),
-            ],
-            Length::Bad,
-            Length::Unknown,
-        ),
-    ];
     let get = request(rt.alloc(), "GET", Load::Normal, &[])?;
     let head = request(rt.alloc(), "HEAD", Load::Normal, &[])?;
-    for (status, lines, length, direct) in table {
+    for (status, lines, length, direct) in LENGTHS {
         let response = response(rt.alloc(), status, lines)?;
         assert_eq!(rt; length_of(Need::Miss, &get, &response), length, "{lines:?}");
         assert_eq!(rt;
@@ -386,76 +404,91 @@ fn plan_view(current: Option<Candidate>) -> PlanView {
     }
 }
 
+const SPAN: Span = Span { lo: 0, hi: 6 };
+
+const HOLE: Span = Span { lo: 3, hi: 6 };
+
+const FRESH: Why = Why::Fresh {
+    age: 1,
+    lifetime: 5,
+};
+
+const WHOLE: Candidate = Candidate {
+    allowed: Some(FRESH),
+    vary: true,
+    span: Wanted::Interval(SPAN),
+    hole: None,
+    writing: false,
+    exclusive: None,
+    least_bound: None,
+};
+
+const BUSY: Plan = Plan::Busy { d: 1, kept: None };
+
+/// What is current, and the plan of who asks for it.
+const PLANS: [(Option<Candidate>, Plan); 8] = [
+    (None, Plan::Fetch(Need::Miss)),
+    (
+        Some(WHOLE),
+        Plan::Bind {
+            why: FRESH,
+            span: Some(SPAN),
+        },
+    ),
+    (
+        Some(Candidate {
+            vary: false,
+            ..WHOLE
+        }),
+        Plan::Fetch(Need::Vary),
+    ),
+    (
+        Some(Candidate {
+            allowed: None,
+            ..WHOLE
+        }),
+        Plan::Fetch(Need::Validate),
+    ),
+    (
+        Some(Candidate {
+            writing: true,
+            ..WHOLE
+        }),
+        Plan::Bind {
+            why: FRESH,
+            span: None,
+        },
+    ),
+    (
+        Some(Candidate {
+            exclusive: Some(1),
+            ..WHOLE
+        }),
+        BUSY,
+    ),
+    (
+        Some(Candidate {
+            hole: Some(HOLE),
+            least_bound: Some(1),
+            ..WHOLE
+        }),
+        BUSY,
+    ),
+    (
+        Some(Candidate {
+            hole: Some(HOLE),
+            ..WHOLE
+        }),
+        Plan::FirstHole {
+            span: SPAN,
+            hole: HOLE,
+        },
+    ),
+];
+
 #[test]
 fn plans_by_the_first_row(rt: HostRuntime) {
-    let span = Span { lo: 0, hi: 6 };
-    let hole = Span { lo: 3, hi: 6 };
-    let why = Why::Fresh {
-        age: 1,
-        lifetime: 5,
-    };
-    let whole = Candidate {
-        allowed: Some(why),
-        vary: true,
-        span: Wanted::Interval(span),
-        hole: None,
-        writing: false,
-        exclusive: None,
-        least_bound: None,
-    };
-    let read = Plan::Bind {
-        why,
-        span: Some(span),
-    };
-    let busy = Plan::Busy { d: 1, kept: None };
-    let table: [(Option<Candidate>, Plan); 8] = [
-        (None, Plan::Fetch(Need::Miss)),
-        (Some(whole), read),
-        (
-            Some(Candidate {
-                vary: false,
-                ..whole
-            }),
-            Plan::Fetch(Need::Vary),
-        ),
-        (
-            Some(Candidate {
-                allowed: None,
-                ..whole
-            }),
-            Plan::Fetch(Need::Validate),
-        ),
-        (
-            Some(Candidate {
-                writing: true,
-                ..whole
-            }),
-            Plan::Bind { why, span: None },
-        ),
-        (
-            Some(Candidate {
-                exclusive: Some(1),
-                ..whole
-            }),
-            busy,
-        ),
-        (
-            Some(Candidate {
-                hole: Some(hole),
-                least_bound: Some(1),
-                ..whole
-            }),
-            busy,
-        ),
-        (
-            Some(Candidate {
-                hole: Some(hole),
-                ..whole
-            }),
-            Plan::FirstHole { span, hole },
-        ),
-    ];
-    for (current, plan) in table {
+    for (current, plan) in PLANS {
         let view = plan_view(current);
         assert_eq!(rt; plan_of(&view), plan);
         let only = PlanView {
@@ -584,6 +617,11 @@ fn makes_room(rt: HostRuntime) {
         room_of(&limits, 32_772, Write::Slot, [32_772].as_slice()),
         Room::After(1)
     );
+}
+
+#[test]
+fn makes_room_by_the_first(rt: HostRuntime) {
+    let piece = |stored, count| Write::Piece { stored, count };
     let two = Limits {
         max_entry: 65_536,
         max_total: 131_072,

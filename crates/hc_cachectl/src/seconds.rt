@@ -62,32 +62,3 @@ fn with_digit(seconds: u64, digit: u8) -> Option<u64>
         None
     }
 }
-
-#[cfg(test)]
-mod tests {
-    use super::*;
-    use std::test::Fail;
-
-    #[test]
-    fn reads_any_argument(rt: HostRuntime) -> Result<(), Fail> {
-        let mut digits = Vec::new(rt.alloc());
-        digits.resize(10_000, b'0')?;
-        digits.push(b'8')?;
-        let mut unclosed = b"\"".to_vec(rt.alloc())?;
-        unclosed.resize(10_000, b'9')?;
-        let table: [(&[u8], Option<u64>); 8] = [
-            (digits.as_slice(), Some(8)),
-            (unclosed.as_slice(), None),
-            (b"", None),
-            (b"\"\\", None),
-            (b"\"\\\"", None),
-            (b"\"\"\"", None),
-            (b"\"1\\", None),
-            (b"\xb2", None),
-        ];
-        for (argument, seconds) in &table {
-            assert_eq!(rt; read_seconds(argument), *seconds);
-        }
-        Ok(())
-    }
-}

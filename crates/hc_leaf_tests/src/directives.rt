@@ -27,7 +27,7 @@ fn fields_of(alloc: Global, values: &[&str]) -> Result<Fields, FieldError> {
 }
 
 /// What an argument tells to max-age, min-fresh and max-stale.
-const ARGUMENTS: [(&str, u64, u64, Option<Option<u64>>); 21] = [
+const ARGUMENTS: [(&str, u64, u64, Option<Option<u64>>); 25] = [
     ("=60", 60, 60, Some(Some(60))),
     ("=0", 0, 0, Some(Some(0))),
     ("=007", 7, 7, Some(Some(7))),
@@ -43,6 +43,10 @@ const ARGUMENTS: [(&str, u64, u64, Option<Option<u64>>); 21] = [
     ("=\"", 0, MOST, None),
     ("=\"60", 0, MOST, None),
     ("=\"60\\\"", 0, MOST, None),
+    ("=\"\\", 0, MOST, None),
+    ("=\"\\\"", 0, MOST, None),
+    ("=\"\"\"", 0, MOST, None),
+    ("=\"1\\", 0, MOST, None),
     ("=\"6\"0", 0, MOST, None),
     ("=60s", 0, MOST, None),
     ("=-1", 0, MOST, None),

@@ -4,8 +4,6 @@
 mod generating;
 mod replaying;
 mod rounds;
-#[cfg(test)]
-mod tests;
 
 pub use generating::{PROGRAM_LIMITS, generate};
 pub use replaying::replay;

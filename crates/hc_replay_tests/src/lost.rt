@@ -1,8 +1,8 @@
 //! A store that fails.
-use super::{AMPLE, Row};
+use crate::reports::{AMPLE, Row};
 use hc_store::Op;
 
-pub(super) static LOST: &'static [Row] = &[
+pub(crate) static LOST: &'static [Row] = &[
     Row {
         case: "a head is not stored",
         limits: AMPLE,

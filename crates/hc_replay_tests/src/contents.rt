@@ -2,12 +2,13 @@
 ghost use Rattle.std.specs.Prelude.{◌≡◌, ◌≤◌, ◌^◌, vec_len};
 ghost use Rattle.hc_store.specs.Slots.{no_slots};
 
-use super::{AMPLE, joined, replay};
+use crate::reports::{AMPLE, joined};
 use hc_contents::Contents;
 use hc_core::{Cache, ContentsError};
 use hc_io::{MemorySink, MemorySource};
 use hc_loop::step_through;
 use hc_record::Kind;
+use hc_replay::replay;
 use hc_rules::Limits;
 use hc_sched::Ended;
 use hc_store::{Backend, Failing, Memory, Op, StoreError};

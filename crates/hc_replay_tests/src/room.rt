@@ -1,8 +1,8 @@
 //! A store that holds little.
-use super::{Row, SHORT, TIGHT};
+use crate::reports::{Row, SHORT, TIGHT};
 use hc_record::Kind;
 
-pub(super) static ROOM: &'static [Row] = &[
+pub(crate) static ROOM: &'static [Row] = &[
     Row {
         case: "what was bound longest ago gives way",
         limits: TIGHT,

@@ -2,9 +2,10 @@
 //! call.
 ghost use Rattle.std.specs.Prelude.{◌≤◌, ◌^◌, vec_len};
 
-use super::{AMPLE, joined, replay, replay_over};
+use crate::reports::{AMPLE, joined, replay_over};
 use hc_core::Cache;
 use hc_io::{MemorySink, MemorySource};
+use hc_replay::replay;
 use hc_sched::{Ended, Refused, SchedRefusal};
 use hc_store::{Memory, Op};
 use hc_text::NoMemory;

@@ -2,16 +2,11 @@
 //! stored after schedules.
 ghost use Rattle.std.specs.Prelude.{◌≤◌, ◌^◌, vec_len, IfOk};
 
-mod contents;
-mod hostile;
-mod kinds;
-mod lost;
-mod room;
-
-use super::*;
+use crate::{kinds, lost, room};
 use hc_core::Cache;
 use hc_io::{MemorySink, MemorySource};
 use hc_record::Kind;
+use hc_replay::replay;
 use hc_rules::Limits;
 use hc_sched::Ended;
 use hc_store::{Failing, Memory, Op};
@@ -23,46 +18,46 @@ use std::test::Fail;
 /// A schedule over a store with these limits, of which these calls fail, the report that is due, and
 /// how much is stored at last of what is current for `http://a.test/x`.
 #[derive(Clone, Copy)]
-struct Row {
-    case: &'static str,
-    limits: Limits,
-    fails: &'static [(Op, u64)],
-    schedule: &'static [u8],
-    report: &'static [u8],
-    kind: Option<Kind>,
+pub(crate) struct Row {
+    pub(crate) case: &'static str,
+    pub(crate) limits: Limits,
+    pub(crate) fails: &'static [(Op, u64)],
+    pub(crate) schedule: &'static [u8],
+    pub(crate) report: &'static [u8],
+    pub(crate) kind: Option<Kind>,
 }
 
 /// A schedule in parts, how many events it has, and how much is stored then of what is current for
 /// `http://a.test/x`.
 #[derive(Clone, Copy)]
-struct Story {
-    case: &'static str,
-    parts: &'static [&'static [u8]],
-    events: u64,
-    kind: Option<Kind>,
+pub(crate) struct Story {
+    pub(crate) case: &'static str,
+    pub(crate) parts: &'static [&'static [u8]],
+    pub(crate) events: u64,
+    pub(crate) kind: Option<Kind>,
 }
 
 /// What a replay writes and leaves.
 #[derive(Drop)]
-struct Replayed {
-    ended: Ended,
-    report: Vec<u8>,
-    events: u64,
-    kind: Option<Kind>,
+pub(crate) struct Replayed {
+    pub(crate) ended: Ended,
+    pub(crate) report: Vec<u8>,
+    pub(crate) events: u64,
+    pub(crate) kind: Option<Kind>,
 }
 
-const AMPLE: Limits = Limits {
+pub(crate) const AMPLE: Limits = Limits {
     max_entry: 1000,
     max_total: 1_000_000,
 };
 
 /// Two short representations have room: each weighs 32,768 more than its bytes.
-const TIGHT: Limits = Limits {
+pub(crate) const TIGHT: Limits = Limits {
     max_entry: 100,
     max_total: 65_560,
 };
 
-const SHORT: Limits = Limits {
+pub(crate) const SHORT: Limits = Limits {
     max_entry: 5,
     max_total: 1_000_000,
 };
@@ -92,7 +87,7 @@ fn keeps_what_can_be_used(rt: HostRuntime) -> Result<(), Fail> {
 }
 
 /// The parts, one after another.
-fn joined<R: Abort + AllocGlobal>(rt: &R, parts: &[&[u8]]) -> Result<Vec<u8>, Fail>
+pub(crate) fn joined<R: Abort + AllocGlobal>(rt: &R, parts: &[&[u8]]) -> Result<Vec<u8>, Fail>
     ensures { IfOk result (λ schedule. vec_len schedule ≤ 2 ^ 60) }
 {
     let mut schedule = Vec::new(rt.alloc());
@@ -105,7 +100,7 @@ fn joined<R: Abort + AllocGlobal>(rt: &R, parts: &[&[u8]]) -> Result<Vec<u8>, Fa
 
 /// Replays the schedule, of which ten bytes come at a time, over a store with these limits, of which
 /// these calls fail.
-fn replay_over(
+pub(crate) fn replay_over(
     alloc: Global,
     limits: Limits,
     fails: &[(Op, u64)],

@@ -1,5 +1,5 @@
 //! How much is stored after schedules.
-use super::Story;
+use crate::reports::Story;
 use hc_record::Kind;
 
 /// One reads alone, and its head was shown.
@@ -53,7 +53,7 @@ head 1 200 1
 content-length: 0
 ";
 
-pub(super) static STORIES: &'static [Story] = &[
+pub(crate) static STORIES: &'static [Story] = &[
     Story {
         case: "who reads alone leaves",
         parts: &[SHOWN, LEFT],

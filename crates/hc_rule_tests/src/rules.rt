@@ -63,45 +63,57 @@ const DISABLED: RequestClass = RequestClass {
     ..PLAIN
 };
 
-/// What a GET with one field asks of the cache.
-fn class_with(alloc: Global, name: &str, value: &str) -> Result<RequestClass, Fail> {
-    let request = request(alloc, "GET", Load::Normal, &[(name, value)])?;
-    Ok(class_of(&request))
-}
+const ONLY: RequestClass = RequestClass {
+    only: true,
+    ..PLAIN
+};
+
+const BYPASSING: RequestClass = RequestClass {
+    bypassing: true,
+    ..PLAIN
+};
+
+const FROM_3: RequestClass = RequestClass {
+    range: Some(Asked::From(3)),
+    ..PLAIN
+};
+
+/// Fields of a GET, and what it asks of the cache.
+const CLASSES: [(&[(&str, &str)], RequestClass); 9] = [
+    (&[("cache-control", "max-age=0")], PLAIN),
+    (&[("range", "bytes=3-")], FROM_3),
+    (&[("range", "bytes=0-0,-1")], DISABLED),
+    (&[("range", "bytes=3-"), ("range", "bytes=3-")], DISABLED),
+    (&[("If-Range", "\"a\"")], DISABLED),
+    (&[("If-None-Match", "*")], DISABLED),
+    (&[("cache-control", "x, No-Store")], DISABLED),
+    (&[("cache-control", "only-if-cached")], ONLY),
+    (&[("pragma", "no-cache")], BYPASSING),
+];
 
 #[test]
 fn tells_classes(rt: HostRuntime) -> Result<(), Fail> {
-    let alloc = rt.alloc();
-    let from_3 = RequestClass {
-        range: Some(Asked::From(3)),
-        ..PLAIN
-    };
-    assert_eq!(rt; class_with(alloc, "cache-control", "max-age=0")?, PLAIN);
-    assert_eq!(rt; class_with(alloc, "range", "bytes=3-")?, from_3);
-    assert_eq!(rt; class_with(alloc, "range", "bytes=0-0,-1")?, DISABLED);
-    assert_eq!(rt; class_with(alloc, "If-Range", "\"a\"")?, DISABLED);
-    assert_eq!(rt; class_with(alloc, "If-None-Match", "*")?, DISABLED);
-    assert_eq!(rt;
-        class_with(alloc, "cache-control", "x, No-Store")?,
-        DISABLED
-    );
-    assert!(rt; class_with(alloc, "cache-control", "only-if-cached")?.only);
-    assert!(rt; class_with(alloc, "pragma", "no-cache")?.bypassing);
-    let twice = [("range", "bytes=3-"), ("range", "bytes=3-")];
-    assert_eq!(rt;
-        class_of(&request(alloc, "GET", Load::Normal, &twice)?),
-        DISABLED
-    );
-    assert_eq!(rt;
-        class_of(&request(alloc, "get", Load::Normal, &[])?),
-        DISABLED
-    );
-    assert_eq!(rt;
-        class_of(&request(alloc, "GET", Load::Disable, &[])?),
-        DISABLED
-    );
-    assert!(rt; class_of(&request(alloc, "GET", Load::Only, &[])?).only);
-    assert!(rt; class_of(&request(alloc, "GET", Load::Bypass, &[])?).bypassing);
+    for (lines, class) in CLASSES {
+        let request = request(rt.alloc(), "GET", Load::Normal, lines)?;
+        assert_eq!(rt; class_of(&request), class, "{lines:?}");
+    }
+    Ok(())
+}
+
+/// Methods and loads, and what requests with these ask of the cache.
+const CLASSES_OF_LOADS: [(&str, Load, RequestClass); 4] = [
+    ("get", Load::Normal, DISABLED),
+    ("GET", Load::Disable, DISABLED),
+    ("GET", Load::Only, ONLY),
+    ("GET", Load::Bypass, BYPASSING),
+];
+
+#[test]
+fn tells_classes_of_loads(rt: HostRuntime) -> Result<(), Fail> {
+    for (method, load, class) in CLASSES_OF_LOADS {
+        let request = request(rt.alloc(), method, load, &[])?;
+        assert_eq!(rt; class_of(&request), class, "{method} {load:?}");
+    }
     Ok(())
 }
 
@@ -326,24 +338,37 @@ fn tells_what_fills_a_hole(rt: HostRuntime) -> Result<(), Fail> {
 
 #[test]
 fn tells_what_may_be_stored(rt: HostRuntime) -> Result<(), Fail> {
+    let table: [(u16, &[(&str, &str)], bool); 3] = [
+        (206, &FIT, true),
+        (200, &[("cache-control", "no-store")], false),
+        (404, &[], false),
+    ];
     let get = request(rt.alloc(), "GET", Load::Normal, &[])?;
-    let lines = [("content-range", "bytes 3-5/6"), ("etag", "\"a\"")];
-    let fit = response(rt.alloc(), 206, &lines)?;
-    assert!(rt; is_storable(&get, &fit));
+    for (status, lines, storable) in table {
+        let response = response(rt.alloc(), status, lines)?;
+        assert!(rt; is_storable(&get, &response) == storable, "{status}");
+    }
+    Ok(())
+}
+
+/// The fields of a part that may be stored.
+const FIT: [(&str, &str); 2] = [("content-range", "bytes 3-5/6"), ("etag", "\"a\"")];
+
+#[test]
+fn tells_what_fits_to_what_was_asked(rt: HostRuntime) -> Result<(), Fail> {
+    let fit = response(rt.alloc(), 206, &FIT)?;
     assert!(rt; fits_to_found(Some(Asked::From(3)), &fit));
     assert!(rt; !fits_to_found(Some(Asked::From(2)), &fit));
     assert!(rt; !fits_to_found(Some(Asked::Last(4)), &fit));
     assert!(rt; !fits_to_found(None, &fit));
-    let secret = response(rt.alloc(), 200, &[("cache-control", "no-store")])?;
-    assert!(rt; !is_storable(&get, &secret));
-    let gone = response(rt.alloc(), 404, &[])?;
-    assert!(rt; !is_storable(&get, &gone));
-    let asking = request(
-        rt.alloc(),
-        "GET",
-        Load::Normal,
-        &[("if-none-match", "\"a\"")],
-    )?;
+    Ok(())
+}
+
+#[test]
+fn tells_who_asks_conditionally(rt: HostRuntime) -> Result<(), Fail> {
+    let get = request(rt.alloc(), "GET", Load::Normal, &[])?;
+    let lines = [("if-none-match", "\"a\"")];
+    let asking = request(rt.alloc(), "GET", Load::Normal, &lines)?;
     assert!(rt; is_conditional(Need::Validate, &asking));
     assert!(rt; !is_conditional(Need::Miss, &asking));
     assert!(rt; !is_conditional(Need::Validate, &get));

@@ -34,35 +34,38 @@ fn example(alloc: Global) -> Result<StoredHead, FieldError> {
 }
 
 #[test]
-fn writes_and_reads_the_example(rt: HostRuntime) -> Result<(), Fail> {
+fn writes_the_example(rt: HostRuntime) -> Result<(), Fail> {
     let head = example(rt.alloc())?;
     let mut record = Vec::new(rt.alloc());
     write_record(&head.copy()?, &mut record)?;
     assert_eq!(rt; (record.len(), FIRST.len()), (94, 86));
     assert_eq!(rt; record.as_slice(), EXAMPLE);
+    Ok(())
+}
+
+#[test]
+fn reads_the_example(rt: HostRuntime) -> Result<(), Fail> {
     for text in [EXAMPLE, FIRST] {
         let read = read_record(rt.alloc(), text)?.ok_or("a head")?;
-        assert!(rt; read.kind == Kind::Truncated);
-        assert_eq!(rt; read.total, Some(6));
-        assert_eq!(rt;
-            (read.status, read.requested, read.answered),
-            (200, 1000, 1000)
-        );
-        assert_eq!(rt; (read.vary_fields.len(), read.fields.len()), (0, 2));
-        assert_eq!(rt;
-            read.joining
-                .as_ref()
-                .ok_or("a tag")?
-                .opaque
-                .bytes
-                .as_slice(),
-            b"a".as_slice()
-        );
-        record.clear();
+        expect_example(&rt, &read);
+        let mut record = Vec::new(rt.alloc());
         write_record(&read, &mut record)?;
         assert_eq!(rt; record.as_slice(), EXAMPLE);
     }
     Ok(())
+}
+
+/// What was read is the head of the example.
+fn expect_example(rt: &impl Abort, read: &StoredHead) {
+    assert!(rt; read.kind == Kind::Truncated);
+    assert_eq!(rt; read.total, Some(6));
+    assert_eq!(rt;
+        (read.status, read.requested, read.answered),
+        (200, 1000, 1000)
+    );
+    assert_eq!(rt; (read.vary_fields.len(), read.fields.len()), (0, 2));
+    let tag = read.joining.as_ref();
+    assert!(rt; tag.is_some_and(|tag| tag.opaque.bytes.as_slice() == b"a".as_slice()));
 }
 
 /// The text is no record, or it is that of what is read.

@@ -59,20 +59,28 @@ fn sinks_in_memory_take_and_fail_as_listed(rt: HostRuntime) -> Result<(), Fail> 
 }
 
 #[test]
-fn a_source_is_read_to_its_end_or_its_fault(rt: HostRuntime) -> Result<(), Fail> {
+fn a_plain_source_is_read_to_its_end(rt: HostRuntime) -> Result<(), Fail> {
     let bytes = vec![in rt.alloc(); 7u8; 200_000]?;
     assert!(rt; bytes.len() == 200_000);
     let mut plain = PlainSource::new(bytes);
     let read = read_all(rt.alloc(), &mut plain)?;
     assert!(rt; read.len() == 200_000 && read.iter().all(|b| *b == 7));
+    Ok(())
+}
 
+#[test]
+fn a_source_in_memory_is_read_to_its_end_or_its_fault(rt: HostRuntime) -> Result<(), Fail> {
     for (fails, want) in [(9, None), (3, Some(ReadError::SourceFailed))] {
         let bytes = Vec::from_slice(rt.alloc(), b"abcde")?;
         assert!(rt; bytes.len() == 5);
         let mut source = MemorySource::new(bytes, 2, vec![in rt.alloc(); fails]?);
         assert_eq!(rt; read_all(rt.alloc(), &mut source).err(), want);
     }
+    Ok(())
+}
 
+#[test]
+fn a_source_over_std_is_read_to_its_end_or_its_fault(rt: HostRuntime) -> Result<(), Fail> {
     let mut adapted = StdSource::new(b"abcde".as_slice());
     let read = read_all(rt.alloc(), &mut adapted)?;
     assert!(rt; read.as_slice() == b"abcde".as_slice());

@@ -189,14 +189,22 @@ fn limits(max_entry: u64, max_total: u64) -> Limits
     }
 }
 
+/// One of which the first and the last two of six bytes are there.
+fn filled(alloc: Global) -> Result<Entries<Memory>, Fail> {
+    let limits = limits(6, 100_000);
+    let mut entries = Entries::new(Memory::new(alloc, limits), limits, alloc)?;
+    if found(&mut entries, alloc, 7, 2) != Some(Ok(()))
+        || put(&mut entries, 7, 4, b"ef") != Some(Ok(()))
+        || put(&mut entries, 7, 0, b"ab") != Some(Ok(()))
+    {
+        return Err("four bytes of one".into());
+    }
+    Ok(entries)
+}
+
 #[test]
 fn what_is_kept_is_told(rt: HostRuntime) -> Result<(), Fail> {
-    let limits = limits(6, 100_000);
-    let store = Memory::new(rt.alloc(), limits);
-    let mut entries = Entries::new(store, limits, rt.alloc())?;
-    assert_eq!(rt; found(&mut entries, rt.alloc(), 7, 2), Some(Ok(())));
-    assert_eq!(rt; put(&mut entries, 7, 4, b"ef"), Some(Ok(())));
-    assert_eq!(rt; put(&mut entries, 7, 0, b"ab"), Some(Ok(())));
+    let mut entries = filled(rt.alloc())?;
     assert_eq!(rt; set_writer(&mut entries, 7), Some(()));
     assert_eq!(rt; lose(&mut entries, 7), Some(()));
     assert_eq!(rt;
@@ -217,6 +225,12 @@ fn what_is_kept_is_told(rt: HostRuntime) -> Result<(), Fail> {
             is_gone: false,
         })
     );
+    Ok(())
+}
+
+#[test]
+fn what_is_there_is_told(rt: HostRuntime) -> Result<(), Fail> {
+    let entries = filled(rt.alloc())?;
     assert_eq!(rt; covers(&entries, 7, 4, 6), Some((true, true)));
     assert_eq!(rt; covers(&entries, 7, 0, 6), Some((false, false)));
     assert_eq!(rt; entries.used(), 32_772);
@@ -225,20 +239,23 @@ fn what_is_kept_is_told(rt: HostRuntime) -> Result<(), Fail> {
 }
 
 #[test]
-fn a_head_is_told_and_changed(rt: HostRuntime) -> Result<(), Fail> {
-    let limits = limits(6, 100_000);
-    let store = Memory::new(rt.alloc(), limits);
-    let mut entries = Entries::new(store, limits, rt.alloc())?;
-    assert_eq!(rt; found(&mut entries, rt.alloc(), 7, 2), Some(Ok(())));
+fn a_head_is_told(rt: HostRuntime) -> Result<(), Fail> {
+    let entries = filled(rt.alloc())?;
+    assert_eq!(rt; entries.key(7).map(|key| key.bytes.len()), Some(15));
+    assert_eq!(rt; entries.tag(7).map(|tag| tag.weak), Some(false));
+    assert_eq!(rt; entries.facts(7).map(|facts| facts.answered), Some(1000));
+    assert_eq!(rt; entries.facts(8), None);
+    Ok(())
+}
+
+#[test]
+fn a_head_is_changed(rt: HostRuntime) -> Result<(), Fail> {
+    let mut entries = filled(rt.alloc())?;
     assert_eq!(rt; seal(&mut entries, 7), Some(Ok(())));
     assert_eq!(rt; total_of(&entries, 7), (Some(7), Some(Kind::Truncated)));
     assert_eq!(rt; update(&mut entries, rt.alloc(), 7), Some(Ok(())));
     assert_eq!(rt; total_of(&entries, 7), (Some(6), Some(Kind::Growing)));
     assert_eq!(rt; head(&mut entries, 7), Some(Ok(200)));
-    assert_eq!(rt; entries.key(7).map(|key| key.bytes.len()), Some(15));
-    assert_eq!(rt; entries.tag(7).map(|tag| tag.weak), Some(false));
-    assert_eq!(rt; entries.facts(7).map(|facts| facts.answered), Some(1000));
-    assert_eq!(rt; entries.facts(8), None);
     Ok(())
 }
 
@@ -250,28 +267,38 @@ fn total_of<B: Backend>(entries: &Entries<B>, r: u64) -> (Option<u64>, Option<Ki
     }
 }
 
+/// Two within these limits, to each of which one is bound.
+fn two(alloc: Global, limits: Limits) -> Result<Entries<Memory>, Fail> {
+    let mut entries = Entries::new(Memory::new(alloc, limits), limits, alloc)?;
+    if found(&mut entries, alloc, 1, 11) != Some(Ok(()))
+        || found(&mut entries, alloc, 2, 12) != Some(Ok(()))
+    {
+        return Err("two".into());
+    }
+    Ok(entries)
+}
+
 #[test]
-fn idle_ones_go_in_their_order(rt: HostRuntime) -> Result<(), Fail> {
-    let limits = limits(100, TWO);
-    let store = Memory::new(rt.alloc(), limits);
-    let mut entries = Entries::new(store, limits, rt.alloc())?;
-    assert_eq!(rt; found(&mut entries, rt.alloc(), 1, 11), Some(Ok(())));
-    assert_eq!(rt; found(&mut entries, rt.alloc(), 2, 12), Some(Ok(())));
+fn whoever_comes_back_is_no_longer_idle(rt: HostRuntime) -> Result<(), Fail> {
+    let mut entries = two(rt.alloc(), limits(100, TWO))?;
     assert_eq!(rt; entries.first_idle(), None);
-    assert_eq!(rt; unbind(&mut entries, 1), Some(11));
-    assert_eq!(rt; unbind(&mut entries, 2), Some(12));
+    assert!(rt; unbind(&mut entries, 1) == Some(11) && unbind(&mut entries, 2) == Some(12));
     assert_eq!(rt; bind_first(&mut entries, 1, 13), Some(Ok(())));
     assert_eq!(rt; bind(&mut entries, 1, 12), Some(Ok(())));
     assert_eq!(rt; entries.bound(1), [12, 13].as_slice());
     assert_eq!(rt; entries.first_idle(), Some(2));
+    Ok(())
+}
+
+#[test]
+fn idle_ones_make_room(rt: HostRuntime) -> Result<(), Fail> {
+    let mut entries = two(rt.alloc(), limits(100, TWO))?;
+    assert_eq!(rt; unbind(&mut entries, 2), Some(12));
     assert_eq!(rt; entries.room(Write::Slot), Room::After(1));
     assert_eq!(rt; forget(&mut entries, 2), Some(()));
     assert_eq!(rt; entries.room(Write::Slot), Room::After(0));
     assert_eq!(rt; forget(&mut entries, 1), Some(()));
-    assert_eq!(rt;
-        (entries.entry(1).is_some(), entries.entry(2)),
-        (true, None)
-    );
+    assert!(rt; entries.entry(1).is_some() && entries.entry(2).is_none());
     Ok(())
 }
 
@@ -288,17 +315,23 @@ fn what_is_gone_is_dropped_with_its_last_user(rt: HostRuntime) -> Result<(), Fai
     Ok(())
 }
 
+/// One more slot is too much, and so are four bytes.
+const SCANT: u64 = TWO - 6;
+
 #[test]
-fn limits_are_kept(rt: HostRuntime) -> Result<(), Fail> {
-    let limits = limits(4, TWO - 6);
-    let store = Memory::new(rt.alloc(), limits);
-    let mut entries = Entries::new(store, limits, rt.alloc())?;
-    assert_eq!(rt; found(&mut entries, rt.alloc(), 1, 11), Some(Ok(())));
-    assert_eq!(rt; found(&mut entries, rt.alloc(), 2, 12), Some(Ok(())));
+fn no_slot_passes_the_limit(rt: HostRuntime) -> Result<(), Fail> {
+    let mut entries = two(rt.alloc(), limits(4, SCANT))?;
     assert_eq!(rt;
         found(&mut entries, rt.alloc(), 3, 13),
         Some(Err(StoreError::Full))
     );
+    assert_eq!(rt; (entries.entry(3), entries.used()), (None, TWO - 8));
+    Ok(())
+}
+
+#[test]
+fn no_piece_passes_a_limit(rt: HostRuntime) -> Result<(), Fail> {
+    let mut entries = two(rt.alloc(), limits(4, SCANT))?;
     assert_eq!(rt;
         put(&mut entries, 1, 0, b"abcde"),
         Some(Err(StoreError::TooLarge))
@@ -322,36 +355,54 @@ fn limits_are_kept(rt: HostRuntime) -> Result<(), Fail> {
         Room::Full
     );
     assert_eq!(rt; put(&mut entries, 1, 0, b"ab"), Some(Ok(())));
-    assert_eq!(rt; (entries.entry(3), entries.used()), (None, TWO - 6));
+    assert_eq!(rt; entries.used(), SCANT);
     Ok(())
+}
+
+const FAULT: Option<Result<(), StoreError>> = Some(Err(StoreError::Fault));
+
+/// Nothing is kept yet, and the first call of each of these fails.
+fn failing(alloc: Global, ops: &[Op]) -> Result<Entries<Failing<Memory>>, Fail> {
+    let limits = limits(100, 100_000);
+    let mut fails = Vec::new(alloc);
+    for &op in ops {
+        fails.push((op, 1))?;
+    }
+    let store = Failing::new(Memory::new(alloc, limits), fails);
+    Ok(Entries::new(store, limits, alloc)?)
+}
+
+#[test]
+fn a_fault_founds_nothing(rt: HostRuntime) -> Result<(), Fail> {
+    let mut entries = failing(rt.alloc(), &[Op::Create])?;
+    assert_eq!(rt; found(&mut entries, rt.alloc(), 1, 11), FAULT);
+    assert_eq!(rt; entries.entry(1), None);
+    assert_eq!(rt; found(&mut entries, rt.alloc(), 1, 11), Some(Ok(())));
+    Ok(())
+}
+
+/// Whether a piece, an update, a seal, a look at the head and one at the bytes all fail.
+fn fails(entries: &mut Entries<Failing<Memory>>, alloc: Global) -> bool {
+    put(entries, 1, 0, b"ab") == FAULT
+        && update(entries, alloc, 1) == FAULT
+        && seal(entries, 1) == FAULT
+        && head(entries, 1) == Some(Err(StoreError::Fault))
+        && matches!(stretch(entries, 1, 0), Some(Err(StoreError::Fault)))
 }
 
 #[test]
 fn faults_change_nothing(rt: HostRuntime) -> Result<(), Fail> {
-    let limits = limits(100, 100_000);
-    let mut fails = Vec::new(rt.alloc());
-    for op in [
-        Op::Create,
+    let ops = [
         Op::WriteRecord,
         Op::ReadRecord,
         Op::Put,
         Op::RunAt,
         Op::Seal,
-    ] {
-        fails.push((op, 1))?;
-    }
-    let store = Failing::new(Memory::new(rt.alloc(), limits), fails);
-    let mut entries = Entries::new(store, limits, rt.alloc())?;
-    let fault = Some(Err(StoreError::Fault));
-    assert_eq!(rt; found(&mut entries, rt.alloc(), 1, 11), fault);
-    assert_eq!(rt; entries.entry(1), None);
+    ];
+    let mut entries = failing(rt.alloc(), &ops)?;
     assert_eq!(rt; found(&mut entries, rt.alloc(), 1, 11), Some(Ok(())));
     let before = entries.entry(1);
-    assert_eq!(rt; put(&mut entries, 1, 0, b"ab"), fault);
-    assert_eq!(rt; update(&mut entries, rt.alloc(), 1), fault);
-    assert_eq!(rt; seal(&mut entries, 1), fault);
-    assert_eq!(rt; head(&mut entries, 1), Some(Err(StoreError::Fault)));
-    assert!(rt; matches!(stretch(&mut entries, 1, 0), Some(Err(StoreError::Fault))));
+    assert!(rt; fails(&mut entries, rt.alloc()));
     assert!(rt; entries.entry(1) == before);
     assert_eq!(rt; put(&mut entries, 1, 0, b"ab"), Some(Ok(())));
     assert!(rt; matches!(stretch(&mut entries, 1, 0), Some(Ok(Some(_)))));

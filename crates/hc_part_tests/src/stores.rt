@@ -102,41 +102,56 @@ fn head<B: Backend>(store: &mut B, slot: Slot) -> Option<StoredHead>
     store.read_record(slot).ok()
 }
 
+/// Makes a slot of which the first and the last two of six bytes are there.
+fn filled<B: Backend>(store: &mut B, alloc: Global) -> Result<Slot, Fail>
+    ensures { IfOk result (λ slot. is_live (B.slots store.new) slot.n ≡ true) }
+{
+    let Ok(slot) = make(store, alloc) else {
+        return Err("a slot".into());
+    };
+    let last = put(store, slot, 4, b"ef");
+    let first = put(store, slot, 0, b"ab");
+    if last != Some(Ok(())) || first != Some(Ok(())) {
+        return Err("four bytes".into());
+    }
+    Ok(slot)
+}
+
+/// Room for one slot of six bytes.
+const SMALL: Limits = Limits {
+    max_entry: 6,
+    max_total: 40_000,
+};
+
 #[test]
-fn what_is_kept_is_read_again(rt: HostRuntime) -> Result<(), Fail> {
-    let limits = Limits {
-        max_entry: 6,
-        max_total: 40_000,
-    };
-    let other = example(rt.alloc())?;
-    let mut store = Memory::new(rt.alloc(), limits);
-    let Ok(slot) = make(&mut store, rt.alloc()) else {
-        return Err(Fail::from("no slot"));
-    };
-    assert_eq!(rt; put(&mut store, slot, 4, b"ef"), Some(Ok(())));
-    assert_eq!(rt; put(&mut store, slot, 0, b"ab"), Some(Ok(())));
-    let Some(run) = stretch(&mut store, slot, 0) else {
-        return Err(Fail::from("no run"));
-    };
+fn bytes_are_read_again(rt: HostRuntime) -> Result<(), Fail> {
+    let mut store = Memory::new(rt.alloc(), SMALL);
+    let slot = filled(&mut store, rt.alloc())?;
+    let run = stretch(&mut store, slot, 0).ok_or("a run")?;
     assert_eq!(rt; (run.x, run.at), (1, 0));
     assert_eq!(rt; run.bytes.bytes.as_slice(), b"ab".as_slice());
-    assert_eq!(rt; seal(&mut store, slot), Ok(()));
-    assert!(rt; store.kind(slot) == Kind::Truncated);
-    let Some(sealed) = head(&mut store, slot) else {
-        return Err(Fail::from("no head"));
-    };
-    assert_eq!(rt;
-        (sealed.total, sealed.status, sealed.requested),
-        (Some(7), 200, 1000)
-    );
-    assert_eq!(rt; rewrite(&mut store, slot, &other), Ok(()));
     let view = SlotView {
         store: &store,
         slot,
     };
-    assert!(rt; view.covers(Span2 { lo: 4, hi: 6 }));
-    assert!(rt; !view.covers(Span2 { lo: 0, hi: 6 }));
+    assert!(rt; view.covers(Span2 { lo: 4, hi: 6 }) && !view.covers(Span2 { lo: 0, hi: 6 }));
     assert_eq!(rt; view.next_present(2), Some(4));
+    Ok(())
+}
+
+#[test]
+fn what_is_sealed_is_read_again(rt: HostRuntime) -> Result<(), Fail> {
+    let mut store = Memory::new(rt.alloc(), SMALL);
+    let slot = filled(&mut store, rt.alloc())?;
+    assert_eq!(rt; seal(&mut store, slot), Ok(()));
+    assert!(rt; store.kind(slot) == Kind::Truncated);
+    let sealed = head(&mut store, slot).ok_or("a head")?;
+    assert_eq!(rt;
+        (sealed.total, sealed.status, sealed.requested),
+        (Some(7), 200, 1000)
+    );
+    let other = example(rt.alloc())?;
+    assert_eq!(rt; rewrite(&mut store, slot, &other), Ok(()));
     assert!(rt; store.kind(slot) == Kind::Growing);
     store.drop_slot(slot);
     assert_eq!(rt; store.used(), 0);

@@ -111,12 +111,7 @@ fn finds_by_name(rt: HostRuntime) -> Result<(), Fail> {
 fn sets_and_removes_by_name(rt: HostRuntime) -> Result<(), Fail> {
     let mut fields = arrived(rt.alloc())?;
     fields.set(b"vary", b"6")?;
-    let set: [(&[u8], &[u8]); 4] = [
-        (b"age", b""),
-        (b"vary", b"6"),
-        (b"x", b"4"),
-        (b"x-n", b"2"),
-    ];
+    let set: [(&[u8], &[u8]); 4] = [(b"age", b""), (b"vary", b"6"), (b"x", b"4"), (b"x-n", b"2")];
     expect_list(&rt, &fields, &set)?;
     fields.remove(b"VARY");
     fields.remove(b"none");

@@ -1,6 +1,7 @@
 /* Loaded before the C library: counts the calls that allocate, and notes the processor time at the counts that MARKS lists, with
    commas between them. At the end of the program it writes to standard error how many calls came, the noted times and the time
    of the end, in seconds. */
+#include <errno.h>
 #include <stdio.h>
 #include <stdlib.h>
 #include <time.h>
@@ -68,5 +69,5 @@ void *aligned_alloc(size_t alignment, size_t size) {
 int posix_memalign(void **at, size_t alignment, size_t size) {
     count();
     *at = __libc_memalign(alignment, size);
-    return *at ? 0 : 12;
+    return *at ? 0 : ENOMEM;
 }

@@ -336,6 +336,9 @@ fn tells_what_fills_a_hole(rt: HostRuntime) -> Result<(), Fail> {
     Ok(())
 }
 
+/// The fields of a part that may be stored.
+const FIT: [(&str, &str); 2] = [("content-range", "bytes 3-5/6"), ("etag", "\"a\"")];
+
 #[test]
 fn tells_what_may_be_stored(rt: HostRuntime) -> Result<(), Fail> {
     let table: [(u16, &[(&str, &str)], bool); 3] = [
@@ -350,9 +353,6 @@ fn tells_what_may_be_stored(rt: HostRuntime) -> Result<(), Fail> {
     }
     Ok(())
 }
-
-/// The fields of a part that may be stored.
-const FIT: [(&str, &str); 2] = [("content-range", "bytes 3-5/6"), ("etag", "\"a\"")];
 
 #[test]
 fn tells_what_fits_to_what_was_asked(rt: HostRuntime) -> Result<(), Fail> {

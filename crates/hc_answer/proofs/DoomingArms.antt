@@ -57,7 +57,7 @@ use Rattle.hc_rows.specs.Facts.{Facts}
 use Rattle.hc_rows.specs.Heads.{AwaitsHead, IsPastStore, IsReadAlone}
 use Rattle.hc_rows.specs.Kept.{IsKept, KeepsConsumer, KeepsExchange, KeepsRunning, answer_for, unread, held_for}
 use Rattle.hc_rows.specs.Lines.{KeepsKey, has_turn, is_away, is_away_at, is_passed}
-use Rattle.hc_rows.specs.Stands.{Answered, RowsStand, StandsForSome}
+use Rattle.hc_rows.specs.Stands.{Answered, RowsStand, Stands}
 use Rattle.hc_rows.specs.Stored.{KeepsEntries, is_over}
 use Rattle.hc_body.proofs.AnswerArm.{reader_kept, opened_as}
 use Rattle.hc_rows.proofs.Answering.{does_answered}
@@ -478,7 +478,7 @@ accepted_row r m x w stands row opened bare = by_running (table_of r.exchanges x
     by_running None keeps = false_true (sym keeps ∙ opened)
     by_running (Some o) keeps = ap (λ (b : Bool). if b then Some refusal.HeadTwice else None) (keeps.headed ∙ ap (λ z. is_some z) bare)
 
-module _ {B : Type 0} {g : Ghosts B} (r mid : Rows B g) (now x : ℕ) (key : List ℕ) (response : Response) (before out : List Act) (unheard : IsUnheard (table_of r.exchanges) key x) (some_past : ∥ StandsForSome r ∥₁)
+module _ {B : Type 0} {g : Ghosts B} (r mid : Rows B g) (now x : ℕ) (key : List ℕ) (response : Response) (before out : List Act) (unheard : IsUnheard (table_of r.exchanges) key x) (some_past : ∥ Stands r ∥₁)
     (dooms : (t : Tables) → Lawful t → RowsStand r t → IsDoomed mid t before out now key None) where
   -- the tables once it is doomed, and its exchange
   record Heard : Type 0 where
@@ -490,7 +490,7 @@ module _ {B : Type 0} {g : Ghosts B} (r mid : Rows B g) (now x : ℕ) (key : Lis
     headless : w.head ≡ None
     length : length_by (table_of r.exchanges x).running response ≡ length_of w.need w.request response
 
-  heard_then : StandsForSome r → Heard
+  heard_then : Stands r → Heard
   heard_then p =
       let (t, facts, stands) = past_of_runs r p in
       let h = heard_as r t facts stands x unheard.o unheard.running unheard.headless in

@@ -50,7 +50,7 @@ use Rattle.hc_rows.specs.Heads.{AwaitsHead, IsAskedBy, IsReadAlone, StandsApart,
 use Rattle.hc_rows.specs.Kept.{IsRunning}
 use Rattle.hc_rows.specs.Renewals.{IsUnrenewed}
 use Rattle.hc_rows.specs.Room.{HasActs, LeavesActs, GivesWay, loss_by, room_for_write}
-use Rattle.hc_rows.specs.Stands.{Answered, RowsStand, StandsForSome, is_fault}
+use Rattle.hc_rows.specs.Stands.{Answered, RowsStand, Stands, is_fault}
 use Rattle.hc_rows.specs.Stored.{KeepsEntry}
 use Rattle.hc_body.proofs.AnswerArm.{reader_kept}
 use Rattle.hc_body.proofs.FoundArm.{aside, first, second, es, m, may_aside, may_first, make_second, one_way, m_unfounded, m_asker, read_alone, founds_answered, lost_answered, full_told}
@@ -115,7 +115,7 @@ module _ {B : Type 0} {b : Ghosts B} (r r1 r2 r3 : Rows B b) (now x c : ℕ) (go
         one_way r.limits t facts few now x w a.v a.awaits gone count
         (ap (λ (l : Limits). room_now l left write.Slot) (sym limits_is) ∙ (sym (room_is r3 left (make_second r.limits t facts few now x w a.v a.awaits gone) stood write.Slot) ∙ is))
 
-  module _ (some : ∥ StandsForSome r ∥₁) where
+  module _ (some : ∥ Stands r ∥₁) where
     few_acts : (count : ℕ) → room_for_write r3 write.Slot ≡ room.After count → count < 2
     few_acts count is = merely_below count 2 some (λ s.
         let past = past_of_runs r s in
@@ -146,7 +146,7 @@ module _ {B : Type 0} {b : Ghosts B} (r r1 r2 r3 : Rows B b) (now x c : ℕ) (go
           subst (λ (l : Limits). GivesWay u (left t facts stands w row) now (giving_way l (left t facts stands w row) write.Slot) before mid) limits_is
           (made (left t facts stands w row) (make_second r.limits t facts (few t facts stands w row) now x w (a t facts stands w row).v (a t facts stands w row).awaits gone) (stood t facts stands w row))
 
-    pub new_kept : ∥ StandsForSome r ∥₁ → (shelf_of u.entries).kept x ≡ None
+    pub new_kept : ∥ Stands r ∥₁ → (shelf_of u.entries).kept x ≡ None
     new_kept some = none_of ((shelf_of u.entries).kept x) (merely_false (is_some ((shelf_of u.entries).kept x)) some (λ s.
         let past = past_of_runs r s in
         let row = heard_row r past.0 x h.o past.2 h.there in

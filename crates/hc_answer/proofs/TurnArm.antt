@@ -30,8 +30,6 @@ use Rattle.hc_exch.specs.Known as known
 use Rattle.hc_exch.specs.Known.{seen, length_by}
 use Rattle.hc_model.specs.declared.place.Place.TheVariants as place
 use Rattle.hc_model.specs.declared.place.BoundBy.TheVariants as by
-use Rattle.hc_model.specs.Beginnings.{may_begin}
-use Rattle.hc_model.specs.Runs.{IsRun}
 use Rattle.hc_model.specs.Cases.{head_view, validates, selects_row}
 use Rattle.hc_model.specs.Currents.{current, row_of}
 use Rattle.hc_model.specs.Denials.{denial}
@@ -50,7 +48,7 @@ use Rattle.hc_rows.specs.Arms.{IsInKey}
 use Rattle.hc_rows.specs.Facts.{Facts}
 use Rattle.hc_rows.specs.Heads.{AwaitsHead, IsAskedBy, IsUnread, unless_over}
 use Rattle.hc_rows.specs.Renewals.{KeepsBeside, IsSelected, renewed}
-use Rattle.hc_rows.specs.Stands.{Answered, KeepsRest, RowsStand, StandsForSome}
+use Rattle.hc_rows.specs.Stands.{Answered, KeepsRest, RowsStand, Stands}
 use Rattle.hc_rows.specs.Stored.{KeepsEntry, IsEntry, is_usable_kept}
 use Rattle.hc_rows.proofs.Answering.{does_answered}
 use Rattle.hc_rows.proofs.Counting.{stands_counted}
@@ -69,14 +67,11 @@ use Rattle.hc_rows.proofs.Words.{same_or, eqb-same, eqb-other, and_false, false_
 pub stands_unrenewed : {B : Type 0} {g : Ghosts B} (r u : Rows B g) (t : Tables) → KeepsBeside r u → shelf.Stays (shelf_of r.entries) (shelf_of u.entries) → RowsStand r t → RowsStand u t
 stands_unrenewed r u t rest same stands = stands_stayed r u t rest.limits rest.received rest.last_start rest.consumers rest.exchanges rest.keys same stands
 
-pub past_unrenewed : {B : Type 0} {g : Ghosts B} (r u : Rows B g) → KeepsBeside r u → shelf.Stays (shelf_of r.entries) (shelf_of u.entries) → StandsForSome r → StandsForSome u
+pub past_unrenewed : {B : Type 0} {g : Ghosts B} (r u : Rows B g) → KeepsBeside r u → shelf.Stays (shelf_of r.entries) (shelf_of u.entries) → Stands r → Stands u
 past_unrenewed r u rest same p = record {
-  contents = p.contents;
-  h = p.h;
-  begins = subst (λ (n : Limits). may_begin n p.contents ≡ true) (sym rest.limits) p.begins;
-  short = p.short;
+  t = p.t;
+  facts = subst (λ (n : Limits). Facts n p.t) (sym rest.limits) p.facts;
   modest = p.modest;
-  run = subst (λ (n : Limits). IsRun n p.contents p.h) (sym rest.limits) p.run;
   rows = stands_unrenewed r u _ rest same p.rows;
 }
 
@@ -209,11 +204,11 @@ still_kept r t key q stands is =
     let k = kept_current r t key q found.0 stands found.1 (current_stays t key q found.0 cur found.1) in
     record { cur = cur; v = found.0; row = found.1; e = k.0; kept = k.1; is = k.2 }
 
-pub there_still : {B : Type 0} {g : Ghosts B} (r : Rows B g) (key : List ℕ) (q : ℕ) → ∥ StandsForSome r ∥₁ → (kept_of r.keys key).current ≡ Some q → shelf.is_kept (shelf_of r.entries) q ≡ true
+pub there_still : {B : Type 0} {g : Ghosts B} (r : Rows B g) (key : List ℕ) (q : ℕ) → ∥ Stands r ∥₁ → (kept_of r.keys key).current ≡ Some q → shelf.is_kept (shelf_of r.entries) q ≡ true
 there_still r key q some_past is = merely_true (shelf.is_kept (shelf_of r.entries) q) some_past
     (λ p. (let s = past_of_runs r p in let k = still_kept r s.0 key q s.2 is in ap (λ z. is_some z) k.kept))
 
-pub usable_still : {B : Type 0} {g : Ghosts B} (r : Rows B g) (key : List ℕ) (q : ℕ) → ∥ StandsForSome r ∥₁ → (kept_of r.keys key).current ≡ Some q → is_usable_kept ((shelf_of r.entries).kept q) ≡ true
+pub usable_still : {B : Type 0} {g : Ghosts B} (r : Rows B g) (key : List ℕ) (q : ℕ) → ∥ Stands r ∥₁ → (kept_of r.keys key).current ≡ Some q → is_usable_kept ((shelf_of r.entries).kept q) ≡ true
 usable_still r key q some_past is = merely_true (is_usable_kept ((shelf_of r.entries).kept q)) some_past
     (λ p. (let s = past_of_runs r p in let k = still_kept r s.0 key q s.2 is in ap is_usable_kept k.kept ∙ ap not (k.is.is_gone ∙ current_stays s.0 key q k.v k.cur k.row)))
 

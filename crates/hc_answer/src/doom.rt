@@ -14,7 +14,7 @@ ghost use Rattle.hc_model.specs.Lawful.{Lawful};
 ghost use Rattle.hc_model.specs.Rows.{Tables};
 ghost use Rattle.hc_rows.specs.Changes.{ChangesAt, ChangesAmong, once_over};
 ghost use Rattle.hc_rows.specs.Dooms.{awaited_by, IsAwaited, IsToClose, IsNext, AreAtMost, behind, nearer, Closes, IsUnheard, KeepsLine, KeepsSomeLine, IsUser, Unbinds, IsDoomed};
-ghost use Rattle.hc_rows.specs.Stands.{Answers, KeepsRest, RowsStand, StandsForSome};
+ghost use Rattle.hc_rows.specs.Stands.{Answers, KeepsRest, RowsStand, Stands};
 ghost use Rattle.hc_rows.specs.Stored.{KeepsEntries};
 
 use hc_event::Acts;
@@ -28,13 +28,12 @@ use hc_text::Key;
 
 /// A doom comes for the key.
 pub fn take_doom<B: Backend>(rows: &mut Rows<B>, now: u64, key: &Key, out: &mut Acts)
-    requires stands { ∥ StandsForSome rows.old ∥₁ }
+    requires stands { ∥ Stands rows.old ∥₁ }
     requires room { hash_map_len rows.old.consumers ≤ spare out.old }
     ensures answers { Answers rows.old rows.new (listed out.old) (listed out.new) now
         (Doom key.now) }
     ensures limits { rows.new.limits ≡ rows.old.limits }
     ensures received { rows.new.received ≡ rows.old.received }
-    ensures next { next_of rows.new.exchanges ≡ next_of rows.old.exchanges }
     ensures faults { (shelf_of rows.new.entries).faults ≡ (shelf_of rows.old.entries).faults }
 {
     doom(rows, now, key, None, out);
@@ -50,7 +49,7 @@ pub(crate) fn doom<B: Backend>(
     refused: Option<u64>,
     out: &mut Acts,
 )
-    requires stands { ∥ StandsForSome rows.old ∥₁ }
+    requires stands { ∥ Stands rows.old ∥₁ }
     requires unheard { IfSome refused (IsUnheard (table_of rows.old.exchanges) key.now) }
     requires room { hash_map_len rows.old.consumers ≤ spare out.old }
     ensures doomed { (t : Tables) → Lawful t → RowsStand rows.old t
@@ -58,7 +57,6 @@ pub(crate) fn doom<B: Backend>(
     ensures limits { rows.new.limits ≡ rows.old.limits }
     ensures last_start { rows.new.last_start ≡ rows.old.last_start }
     ensures received { rows.new.received ≡ rows.old.received }
-    ensures next { next_of rows.new.exchanges ≡ next_of rows.old.exchanges }
     ensures faults { (shelf_of rows.new.entries).faults ≡ (shelf_of rows.old.entries).faults }
 {
     let current = rows.keys.current(key);

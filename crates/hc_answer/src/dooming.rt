@@ -10,7 +10,7 @@ ghost use Rattle.hc_exch.specs.Exchanges.{next_of, table_of};
 ghost use Rattle.hc_exch.specs.Known.{length_by};
 ghost use Rattle.hc_rows.specs.Heads.{IsAskedBy, IsPastStore, is_bad_case, is_past_case};
 ghost use Rattle.hc_rows.specs.Dooms.{IsUnheard};
-ghost use Rattle.hc_rows.specs.Stands.{AnswersDooming, StandsForSome, open_at};
+ghost use Rattle.hc_rows.specs.Stands.{AnswersDooming, Stands, open_at};
 
 use crate::doom::doom;
 use hc_body::heard::Heard;
@@ -31,7 +31,7 @@ pub(crate) fn take_dooming<B: Backend>(
     response: &Response,
     out: &mut Acts,
 ) -> Result<(), NoMemory>
-    requires stands { ∥ StandsForSome rows.old ∥₁ }
+    requires stands { ∥ Stands rows.old ∥₁ }
     requires accepted { head_refusal (open_at rows.old heard.x) ≡ None }
     requires asker { IsAskedBy heard.c (table_of rows.old.exchanges heard.x).running }
     requires past { IsPastStore (table_of rows.old.exchanges heard.x).running }
@@ -41,7 +41,6 @@ pub(crate) fn take_dooming<B: Backend>(
     requires room { hash_map_len rows.old.consumers ≤ spare out.old }
     ensures answers { OnOk result (AnswersDooming rows.old rows.new (listed out.old)
         (listed out.new) heard.now heard.x response.now case) }
-    ensures next { OnOk result (next_of rows.new.exchanges ≡ next_of rows.old.exchanges) }
     ensures received { OnOk result (rows.new.received ≡ rows.old.received) }
     ensures limits { OnOk result (rows.new.limits ≡ rows.old.limits) }
     ensures faults { (shelf_of rows.new.entries).faults ≡ (shelf_of rows.old.entries).faults }
@@ -65,14 +64,13 @@ fn doom_badly<B: Backend>(
     key: &Key,
     out: &mut Acts,
 )
-    requires stands { ∥ StandsForSome rows.old ∥₁ }
+    requires stands { ∥ Stands rows.old ∥₁ }
     requires accepted { head_refusal (open_at rows.old heard.x) ≡ None }
     requires asker { IsAskedBy heard.c (table_of rows.old.exchanges heard.x).running }
     requires unheard { IsUnheard (table_of rows.old.exchanges) key.now heard.x }
     requires room { hash_map_len rows.old.consumers ≤ spare out.old }
     ensures answers { AnswersDooming rows.old rows.new (listed out.old) (listed out.new)
         heard.now heard.x response.now case.DirectBad }
-    ensures next { next_of rows.new.exchanges ≡ next_of rows.old.exchanges }
     ensures received { rows.new.received ≡ rows.old.received }
     ensures limits { rows.new.limits ≡ rows.old.limits }
     ensures faults { (shelf_of rows.new.entries).faults ≡ (shelf_of rows.old.entries).faults }
@@ -90,7 +88,7 @@ fn doom_taken<B: Backend>(
     key: &Key,
     out: &mut Acts,
 ) -> Result<(), NoMemory>
-    requires stands { ∥ StandsForSome rows.old ∥₁ }
+    requires stands { ∥ Stands rows.old ∥₁ }
     requires accepted { head_refusal (open_at rows.old heard.x) ≡ None }
     requires asker { IsAskedBy heard.c (table_of rows.old.exchanges heard.x).running }
     requires unheard { IsUnheard (table_of rows.old.exchanges) key.now heard.x }
@@ -99,7 +97,6 @@ fn doom_taken<B: Backend>(
     requires room { hash_map_len rows.old.consumers ≤ spare out.old }
     ensures answers { OnOk result (AnswersDooming rows.old rows.new (listed out.old)
         (listed out.new) heard.now heard.x response.now case.DirectTaken) }
-    ensures next { OnOk result (next_of rows.new.exchanges ≡ next_of rows.old.exchanges) }
     ensures received { OnOk result (rows.new.received ≡ rows.old.received) }
     ensures limits { OnOk result (rows.new.limits ≡ rows.old.limits) }
     ensures faults { (shelf_of rows.new.entries).faults ≡ (shelf_of rows.old.entries).faults }

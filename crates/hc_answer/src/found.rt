@@ -17,7 +17,7 @@ ghost use Rattle.hc_rows.specs.Founding.{MayFound, IsFounding, BeginsFounding, h
 ghost use Rattle.hc_rows.specs.Heads.{IsAskedBy, IsTimely};
 ghost use Rattle.hc_rows.specs.Renewals.{IsUnrenewed};
 ghost use Rattle.hc_rows.specs.Room.{Appends};
-ghost use Rattle.hc_rows.specs.Stands.{AnswersCase, StandsForSome, open_at};
+ghost use Rattle.hc_rows.specs.Stands.{AnswersCase, Stands, open_at};
 
 use hc_body::asker::stand_aside;
 use hc_body::heard::Heard;
@@ -45,7 +45,7 @@ pub(crate) fn found<B: Backend>(
     goes: Option<u64>,
     out: &mut Acts,
 ) -> Result<(), NoMemory>
-    requires stands { ∥ StandsForSome rows.old ∥₁ }
+    requires stands { ∥ Stands rows.old ∥₁ }
     requires live { is_some (get nat_eq rows.old.consumers heard.c) ≡ true }
     requires accepted { head_refusal (open_at rows.old heard.x) ≡ None }
     requires asker { IsAskedBy heard.c (table_of rows.old.exchanges heard.x).running }
@@ -58,7 +58,6 @@ pub(crate) fn found<B: Backend>(
     requires room { 2 ≤ spare out.old }
     ensures answers { OnOk result (AnswersCase rows.old rows.new (listed out.old)
         (listed out.new) heard.now heard.x response.now case goes) }
-    ensures next { OnOk result (next_of rows.new.exchanges ≡ next_of rows.old.exchanges) }
     ensures received { OnOk result (rows.new.received ≡ rows.old.received) }
     ensures limits { OnOk result (rows.new.limits ≡ rows.old.limits) }
     ensures faults { (shelf_of rows.old.entries).faults ≤ (shelf_of rows.new.entries).faults }
@@ -81,7 +80,7 @@ fn found_in_room<B: Backend>(
     goes: Option<u64>,
     out: &mut Acts,
 ) -> Result<(), NoMemory>
-    requires stands { ∥ StandsForSome rows.old ∥₁ }
+    requires stands { ∥ Stands rows.old ∥₁ }
     requires live { is_some (get nat_eq rows.old.consumers heard.c) ≡ true }
     requires accepted { head_refusal (open_at rows.old heard.x) ≡ None }
     requires asker { IsAskedBy heard.c (table_of rows.old.exchanges heard.x).running }
@@ -94,7 +93,6 @@ fn found_in_room<B: Backend>(
     requires room { 2 ≤ spare out.old }
     ensures answers { OnOk result (AnswersCase rows.old rows.new (listed out.old)
         (listed out.new) heard.now heard.x response.now case goes) }
-    ensures next { OnOk result (next_of rows.new.exchanges ≡ next_of rows.old.exchanges) }
     ensures received { OnOk result (rows.new.received ≡ rows.old.received) }
     ensures limits { OnOk result (rows.new.limits ≡ rows.old.limits) }
     ensures faults { (shelf_of rows.old.entries).faults ≤ (shelf_of rows.new.entries).faults }
@@ -121,7 +119,7 @@ fn founding<B: Backend>(
     heard: Heard,
     response: &Response,
 ) -> Result<Founding, NoMemory>
-    requires stands { ∥ StandsForSome rows.now ∥₁ }
+    requires stands { ∥ Stands rows.now ∥₁ }
     requires live { is_some (get nat_eq rows.now.consumers heard.c) ≡ true }
     requires running { is_open heard.x (table_of rows.now.exchanges) ≡ true }
     requires timely { IsTimely heard.now (table_of rows.now.exchanges heard.x).running }
@@ -186,7 +184,7 @@ fn part_founded<B: Backend>(
     shared: bool,
     total: Option<u64>,
 ) -> (u64, Option<u64>)
-    requires stands { ∥ StandsForSome rows.now ∥₁ }
+    requires stands { ∥ Stands rows.now ∥₁ }
     requires live { is_some (get nat_eq rows.now.consumers c) ≡ true }
     ensures { IsSomeAnd (get nat_eq rows.now.consumers c)
         (λ k. (result.0, result.1) ≡ part_by shared k.class.range total) }

@@ -20,7 +20,7 @@ ghost use Rattle.hc_rows.specs.Arms.{IsInKey};
 ghost use Rattle.hc_rows.specs.Founding.{MayFound};
 ghost use Rattle.hc_rows.specs.Heads.{IsAskedBy, IsTimely, is_bad_case, starts_anew, aim_in, kept_at, joins_kept, heard_view, let_go_by, is_past_case, changes_by};
 ghost use Rattle.hc_rows.specs.Joining.{IsAboutKept, joins_hole};
-ghost use Rattle.hc_rows.specs.Stands.{Answers, AnswersCase, StandsForSome, open_at};
+ghost use Rattle.hc_rows.specs.Stands.{Answers, AnswersCase, Stands, open_at};
 
 use crate::dooming::take_dooming;
 use crate::found::found;
@@ -47,7 +47,7 @@ pub fn take_head<B: Backend>(
     response: &Response,
     out: &mut Acts,
 ) -> Result<(), NoMemory>
-    requires stands { ∥ StandsForSome rows.old ∥₁ }
+    requires stands { ∥ Stands rows.old ∥₁ }
     requires accepted { head_refusal (open_at rows.old x) ≡ None }
     requires timely { IsTimely now (table_of rows.old.exchanges x).running }
     requires modest { IsModest response.now.fields }
@@ -55,7 +55,6 @@ pub fn take_head<B: Backend>(
     requires room { most_live ≤ spare out.old }
     ensures answers { OnOk result (Answers rows.old rows.new (listed out.old) (listed out.new)
         now (Head x response.now)) }
-    ensures next { OnOk result (next_of rows.new.exchanges ≡ next_of rows.old.exchanges) }
     ensures received { OnOk result (rows.new.received ≡ rows.old.received) }
     ensures limits { OnOk result (rows.new.limits ≡ rows.old.limits) }
     ensures faults { (shelf_of rows.old.entries).faults ≤ (shelf_of rows.new.entries).faults }
@@ -85,7 +84,7 @@ fn take_case<B: Backend>(
     goes: Option<u64>,
     out: &mut Acts,
 ) -> Result<(), NoMemory>
-    requires stands { ∥ StandsForSome rows.old ∥₁ }
+    requires stands { ∥ Stands rows.old ∥₁ }
     requires live { is_some (get nat_eq rows.old.consumers heard.c) ≡ true }
     requires accepted { head_refusal (open_at rows.old heard.x) ≡ None }
     requires asker { IsAskedBy heard.c (table_of rows.old.exchanges heard.x).running }
@@ -102,7 +101,6 @@ fn take_case<B: Backend>(
     requires room { 2 ≤ spare out.old }
     ensures answers { OnOk result (AnswersCase rows.old rows.new (listed out.old)
         (listed out.new) heard.now heard.x response.now case goes) }
-    ensures next { OnOk result (next_of rows.new.exchanges ≡ next_of rows.old.exchanges) }
     ensures received { OnOk result (rows.new.received ≡ rows.old.received) }
     ensures limits { OnOk result (rows.new.limits ≡ rows.old.limits) }
     ensures faults { (shelf_of rows.old.entries).faults ≤ (shelf_of rows.new.entries).faults }
@@ -149,7 +147,7 @@ fn case_of<B: Backend>(
     response: &Response,
     aim: Option<u64>,
 ) -> HeadCase
-    requires stands { ∥ StandsForSome rows.now ∥₁ }
+    requires stands { ∥ Stands rows.now ∥₁ }
     requires running { is_open heard.x (table_of rows.now.exchanges) ≡ true }
     requires live { is_some (get nat_eq rows.now.consumers heard.c) ≡ true }
     ensures { (o : Open) (k : Consumer)

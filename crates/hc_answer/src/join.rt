@@ -15,7 +15,7 @@ ghost use Rattle.hc_model.specs.RepresentationRows.{is_last_part};
 ghost use Rattle.hc_rules.specs.RangeTexts.{content_range_of};
 ghost use Rattle.hc_rows.specs.Joining.{AnswersJoins, Brings, IsAbout, IsGrowing, LacksOnly, ResumesIs, Shares};
 ghost use Rattle.hc_rows.specs.Renewals.{IsUnrenewed};
-ghost use Rattle.hc_rows.specs.Stands.{StandsForSome, open_at};
+ghost use Rattle.hc_rows.specs.Stands.{Stands, open_at};
 
 use crate::turn::renew;
 use hc_body::heard::Heard;
@@ -40,7 +40,7 @@ pub(crate) fn join<B: Backend>(
     r: u64,
     out: &mut Acts,
 ) -> Result<(), NoMemory>
-    requires stands { ∥ StandsForSome rows.old ∥₁ }
+    requires stands { ∥ Stands rows.old ∥₁ }
     requires live { is_some (get nat_eq rows.old.consumers heard.c) ≡ true }
     requires accepted { head_refusal (open_at rows.old heard.x) ≡ None }
     requires asker { IsAskedBy heard.c (table_of rows.old.exchanges heard.x).running }
@@ -53,7 +53,6 @@ pub(crate) fn join<B: Backend>(
     requires room { 1 ≤ spare out.old }
     ensures answers { OnOk result (AnswersJoins rows.old rows.new (listed out.old)
         (listed out.new) heard.now heard.x response.now) }
-    ensures next { OnOk result (next_of rows.new.exchanges ≡ next_of rows.old.exchanges) }
     ensures received { OnOk result (rows.new.received ≡ rows.old.received) }
     ensures limits { OnOk result (rows.new.limits ≡ rows.old.limits) }
     ensures kept { OnErr result (listed out.new ≡ listed out.old) }

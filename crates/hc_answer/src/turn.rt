@@ -15,7 +15,7 @@ ghost use Rattle.hc_exch.specs.Known.{is_open};
 ghost use Rattle.hc_rows.specs.Arms.{IsInKey};
 ghost use Rattle.hc_rows.specs.Heads.{IsAskedBy, IsTimely};
 ghost use Rattle.hc_rows.specs.Renewals.{IsRenewed, IsSelected, IsUnrenewed};
-ghost use Rattle.hc_rows.specs.Stands.{AnswersUnselected, StandsForSome, open_at};
+ghost use Rattle.hc_rows.specs.Stands.{AnswersUnselected, Stands, open_at};
 
 use hc_body::asker::let_through;
 use hc_body::heard::Heard;
@@ -38,7 +38,7 @@ pub(crate) fn validate<B: Backend>(
     aim: Option<u64>,
     out: &mut Acts,
 ) -> Result<(), NoMemory>
-    requires stands { ∥ StandsForSome rows.old ∥₁ }
+    requires stands { ∥ Stands rows.old ∥₁ }
     requires waits { IsSomeAnd (get nat_eq rows.old.consumers heard.c)
         (IsInKey rows.old.keys heard.c) }
     requires accepted { head_refusal (open_at rows.old heard.x) ≡ None }
@@ -48,7 +48,6 @@ pub(crate) fn validate<B: Backend>(
     requires room { 3 ≤ spare out.old }
     ensures answers { OnOk result (AnswersUnselected rows.old rows.new (listed out.old)
         (listed out.new) heard.now heard.x response.now aim) }
-    ensures next { OnOk result (next_of rows.new.exchanges ≡ next_of rows.old.exchanges) }
     ensures received { OnOk result (rows.new.received ≡ rows.old.received) }
     ensures limits { OnOk result (rows.new.limits ≡ rows.old.limits) }
     ensures faults { (shelf_of rows.old.entries).faults ≤ (shelf_of rows.new.entries).faults }

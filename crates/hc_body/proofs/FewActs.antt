@@ -7,28 +7,26 @@ use Rattle.hc_rules.specs.Rooms.{grown_by}
 use Rattle.hc_rules.specs.declared.room.Room.{Room}
 use Rattle.hc_rules.specs.declared.room.Room.TheVariants as room
 use Rattle.hc_rules.specs.declared.room.Write.{Write}
-use Rattle.hc_model.specs.Tables.{tables}
 use Rattle.hc_laws.proofs.WeightsLeft.{two_give_way}
 use Rattle.hc_rows.specs.declared.rows.Rows.{Rows}
 use Rattle.hc_rows.specs.Room.{HasActs, LeavesActs, room_for_write}
-use Rattle.hc_rows.specs.Stands.{StandsForSome}
+use Rattle.hc_rows.specs.Stands.{Stands}
 use Rattle.hc_body.proofs.PieceRoom.{may_make_room}
 use Rattle.hc_rows.proofs.Rooms.{room_is}
-use Rattle.hc_rows.proofs.Standing.{facts_of_runs}
 use Rattle.hc_rows.proofs.Words.{few_received}
 
 module _ {B : Type 0} {g : Ghosts B} (r : Rows B g) (w : Write) (small : grown_by w ≤ 65536) where
-  few_for : (count : ℕ) → room_for_write r w ≡ room.After count → r.received < 2 ^ 61 → StandsForSome r → count ≤ 2
+  few_for : (count : ℕ) → room_for_write r w ≡ room.After count → r.received < 2 ^ 61 → Stands r → count ≤ 2
   few_for count is short s =
-      let t = tables s.contents s.h in
-      let facts = facts_of_runs r.limits s.contents s.h s.begins s.short s.run in
+      let t = s.t in
+      let facts = s.facts in
       let may = may_make_room t facts (few_received s.rows.received short) in
       two_give_way r.limits t w count facts.fits small (sym (room_is r t may s.rows w) ∙ is)
 
-  pub few_acts : r.received < 2 ^ 61 → ∥ StandsForSome r ∥₁ → (count : ℕ) → room_for_write r w ≡ room.After count → count ≤ 2
+  pub few_acts : r.received < 2 ^ 61 → ∥ Stands r ∥₁ → (count : ℕ) → room_for_write r w ≡ room.After count → count ≤ 2
   few_acts short some count is = ∥∥₁_elim some le_prop (λ s. few_for count is short s)
 
-  pub has_few : r.received < 2 ^ 61 → ∥ StandsForSome r ∥₁ → (spare : ℕ) → 2 ≤ spare → HasActs spare (room_for_write r w)
+  pub has_few : r.received < 2 ^ 61 → ∥ Stands r ∥₁ → (spare : ℕ) → 2 ≤ spare → HasActs spare (room_for_write r w)
   has_few short some spare most = by_room (room_for_write r w) refl
     where
       by_room : (a : Room) → room_for_write r w ≡ a → HasActs spare a
@@ -37,7 +35,7 @@ module _ {B : Type 0} {g : Ghosts B} (r : Rows B g) (w : Write) (small : grown_b
       by_room room.Full is = tt
 
   -- and two more than those
-  pub leaves_two : r.received < 2 ^ 61 → ∥ StandsForSome r ∥₁ → (before after : ℕ) → 4 ≤ before → LeavesActs before after (room_for_write r w) → 2 ≤ after
+  pub leaves_two : r.received < 2 ^ 61 → ∥ Stands r ∥₁ → (before after : ℕ) → 4 ≤ before → LeavesActs before after (room_for_write r w) → 2 ≤ after
   leaves_two short some before after most leaves = by_room (room_for_write r w) refl leaves
     where
       by_room : (a : Room) → room_for_write r w ≡ a → LeavesActs before after a → 2 ≤ after

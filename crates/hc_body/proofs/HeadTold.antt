@@ -45,13 +45,12 @@ use Rattle.hc_rows.specs.Founding.{MayFound}
 use Rattle.hc_rows.specs.Heads.{aim_in, kept_at, heard_view, changes_by, is_past_case, is_bad_case, IsPastStore, puts_down, goes_past, starts_anew, let_go_by, goes_with}
 use Rattle.hc_rows.specs.Kept.{IsRunning}
 use Rattle.hc_rows.specs.Lines.{is_away, is_away_at}
-use Rattle.hc_rows.specs.Stands.{RowsStand, StandsForSome}
+use Rattle.hc_rows.specs.Stands.{RowsStand, Stands}
 use Rattle.hc_body.proofs.HeadCases.{it_is}
 use Rattle.hc_body.proofs.HeadViews.{case_is, aim_is, view_is as views_as}
 use Rattle.hc_body.proofs.HeardRows.{Asker, Headless, asker, headless_of, heard_row, runs_as}
 use Rattle.hc_rows.proofs.KeySteps.{lined}
 use Rattle.hc_rows.proofs.Maps.{merely_true, merely_below, some_that}
-use Rattle.hc_rows.proofs.Standing.{facts_of_runs}
 use Rattle.hc_body.proofs.UnstoredArms.{awaits_viewed}
 use Rattle.hc_rows.proofs.Words.{false_true, is_there, none_some, some_is, same_row}
 
@@ -476,11 +475,11 @@ anew_case k (inr is) = ap starts_anew is
 
 -- SOME PAST
 
-pub past_of_runs : {B : Type 0} {g : Ghosts B} (r : Rows B g) → StandsForSome r → (t : Tables) × Facts r.limits t × RowsStand r t
-past_of_runs r s = (tables s.contents s.h, facts_of_runs r.limits s.contents s.h s.begins s.short s.run, s.rows)
+pub past_of_runs : {B : Type 0} {g : Ghosts B} (r : Rows B g) → Stands r → (t : Tables) × Facts r.limits t × RowsStand r t
+past_of_runs r s = (s.t, s.facts, s.rows)
 
 -- its consumer is kept
-pub live_now : {B : Type 0} {g : Ghosts B} (r : Rows B g) (x : ℕ) (found : Option ExchangeView) (v : ExchangeView) → head_refusal (option_map seen (table_of r.exchanges x).running) ≡ None → found ≡ option_map (view_of x) (table_of r.exchanges x).running → found ≡ Some v → ∥ StandsForSome r ∥₁
+pub live_now : {B : Type 0} {g : Ghosts B} (r : Rows B g) (x : ℕ) (found : Option ExchangeView) (v : ExchangeView) → head_refusal (option_map seen (table_of r.exchanges x).running) ≡ None → found ≡ option_map (view_of x) (table_of r.exchanges x).running → found ≡ Some v → ∥ Stands r ∥₁
     → is_some (get nat_eq r.consumers v.c) ≡ true
 live_now r x found v accepted viewed some some_past =
     let bare = headless_of (table_of r.exchanges x).running accepted in
@@ -489,6 +488,6 @@ live_now r x found v accepted viewed some some_past =
     (λ p. (let s = past_of_runs r p in asker_lives r s.0 s.1 s.2 x bare.o bare.there bare.headless v.c (sym (ap (λ (z : ExchangeView). z.c) view_is))))
 
 -- no more are kept than may be live
-pub few_kept : {B : Type 0} {g : Ghosts B} (r : Rows B g) → ∥ StandsForSome r ∥₁ → hash_map_len r.consumers < most_live + 1
+pub few_kept : {B : Type 0} {g : Ghosts B} (r : Rows B g) → ∥ Stands r ∥₁ → hash_map_len r.consumers < most_live + 1
 few_kept r some_past = merely_below (hash_map_len r.consumers) (most_live + 1) some_past
     (λ p. (let s = past_of_runs r p in let few = s.1.live.few in let count = s.2.count in omega (arith, few, count)))

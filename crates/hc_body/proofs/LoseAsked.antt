@@ -32,7 +32,7 @@ use Rattle.hc_rows.specs.Facts.{Facts}
 use Rattle.hc_rows.specs.Heads.{AwaitsHead, IsAskedBy}
 use Rattle.hc_rows.specs.Leaving.{if_running, writing_of}
 use Rattle.hc_rows.specs.Lines.{is_passed, is_away, is_away_at}
-use Rattle.hc_rows.specs.Stands.{RowsStand, StandsForSome, open_at}
+use Rattle.hc_rows.specs.Stands.{RowsStand, Stands, open_at}
 use Rattle.hc_rows.specs.Stored.{KeepsEntry, is_usable_kept}
 use Rattle.hc_body.proofs.AnswerArm.{known_other}
 use Rattle.hc_rows.proofs.CurrentTies.{entry_row}
@@ -109,7 +109,7 @@ usable_there (Some e) on = (e, refl, by_test e.is_gone on)
     by_test false h = refl
     by_test true h = false_true h
 
-module _ {B : Type 0} {g : Ghosts B} (r first second : Rows B g) (now x c q : ℕ) (some : ∥ StandsForSome r ∥₁) (accepted : head_refusal (open_at r x) ≡ None) (asks : IsAskedBy c (table_of r.exchanges x).running) (waits : IsSomeAnd (get nat_eq r.consumers c) (IsInKey r.keys c)) (usable : is_usable_kept ((shelf_of r.entries).kept q) ≡ true)
+module _ {B : Type 0} {g : Ghosts B} (r first second : Rows B g) (now x c q : ℕ) (some : ∥ Stands r ∥₁) (accepted : head_refusal (open_at r x) ≡ None) (asks : IsAskedBy c (table_of r.exchanges x).running) (waits : IsSomeAnd (get nat_eq r.consumers c) (IsInKey r.keys c)) (usable : is_usable_kept ((shelf_of r.entries).kept q) ≡ true)
     (sends : (t : Tables) (x : ℕ) (w : Exchange) (k : rows.Consumer) → Facts r.limits t → AwaitsHead t x w k → w.c ≡ c → awaited k.place ≡ Some x → RowsStand r t → RowsStand first (with_consumer c (Some (back_in_line now k)) t)) (same_entries : second.entries ≡ first.entries) (same_exchanges : first.exchanges ≡ r.exchanges) (becomes : exch.Becomes known.closed x first.exchanges second.exchanges) where
   record Now (t : Tables) : Type 0 where
     w : Exchange

@@ -31,7 +31,7 @@ use Rattle.hc_laws.proofs.PieceEffects as does
 use Rattle.hc_rows.specs.declared.rows.Rows.{Rows}
 use Rattle.hc_rows.specs.Facts.{Facts}
 use Rattle.hc_rows.specs.Kept.{IsRunning, KeepsRunning, unread, held_of, held_for}
-use Rattle.hc_rows.specs.Stands.{Answered, RowsStand, StandsForSome, most_before}
+use Rattle.hc_rows.specs.Stands.{Answered, RowsStand, Stands, most_before}
 use Rattle.hc_rows.specs.Stops.{body_of, brought_by}
 use Rattle.hc_rows.specs.Stored.{KeepsEntry}
 use Rattle.hc_body.proofs.AnswerArm.{known_here}
@@ -40,7 +40,6 @@ use Rattle.hc_rows.proofs.Asides.{held_alike, same}
 use Rattle.hc_body.proofs.HeardRows.{heard_row}
 use Rattle.hc_rows.proofs.Maps.{merely_below}
 use Rattle.hc_body.proofs.PieceRows.{s, z, IsLike, like_same, stands_pieced}
-use Rattle.hc_rows.proofs.Standing.{facts_of_runs}
 use Rattle.hc_rows.proofs.Words.{eqb-same, false_true, none_some, some_is, same_row, not_true}
 
 -- HOW FAR IT REACHES
@@ -82,10 +81,10 @@ piece_below r t facts x n o stands running small none =
     by_promise w (Some m) is came begins got fits all start most = let le = fits m is in let reach = most m is in omega (arith, le, reach, begins)
 
 -- what the counts of an exchange need
-pub ends_below : {B : Type 0} {g : Ghosts B} (r : Rows B g) (x n : ℕ) → ∥ StandsForSome r ∥₁ → r.received + n < 2 ^ 61 → (running : Option Open) → (table_of r.exchanges x).running ≡ running → piece_refusal (option_map seen running) n ≡ None → EndsBelow n running
+pub ends_below : {B : Type 0} {g : Ghosts B} (r : Rows B g) (x n : ℕ) → ∥ Stands r ∥₁ → r.received + n < 2 ^ 61 → (running : Option Open) → (table_of r.exchanges x).running ≡ running → piece_refusal (option_map seen running) n ≡ None → EndsBelow n running
 ends_below r x n some small None is none = tt
 ends_below r x n some small (Some o) is none =
-    let below : o.base + o.delivered + n < 2 ^ 62 + 1 = merely_below (o.base + o.delivered + n) (2 ^ 62 + 1) some (λ p. piece_below r (tables p.contents p.h) (facts_of_runs r.limits p.contents p.h p.begins p.short p.run) x n o p.rows is small none) in
+    let below : o.base + o.delivered + n < 2 ^ 62 + 1 = merely_below (o.base + o.delivered + n) (2 ^ 62 + 1) some (λ p. piece_below r p.t p.facts x n o p.rows is small none) in
     omega (arith, below)
 
 -- ITS EXCHANGE

@@ -39,7 +39,6 @@ use Rattle.hc_model.specs.Reading.{bound, is_bound}
 use Rattle.hc_model.specs.RepresentationRows.{filled}
 use Rattle.hc_model.specs.Rows.{Tables, Exchange, Representation, Consumer}
 use Rattle.hc_model.specs.Runs.{has_room}
-use Rattle.hc_model.specs.Tables.{tables}
 use Rattle.hc_model.specs.Sound as sound
 use Rattle.hc_model.specs.Weights.{room_for, evicted}
 use Rattle.hc_model.proofs.HoleLemmas.{none_of}
@@ -50,7 +49,7 @@ use Rattle.hc_rows.specs.Facts.{Facts}
 use Rattle.hc_rows.specs.Kept.{IsRunning}
 use Rattle.hc_rows.specs.Pieces.{unless_lost, stored_at, stored_by, grown, IsLastKind, PutsPiece}
 use Rattle.hc_rows.specs.Room.{GivesWay}
-use Rattle.hc_rows.specs.Stands.{Answered, Answers, RowsStand, StandsForSome, open_at}
+use Rattle.hc_rows.specs.Stands.{Answered, Answers, RowsStand, Stands, open_at}
 use Rattle.hc_rows.specs.Stops.{brought_by, IsTold}
 use Rattle.hc_rows.specs.Stored.{IsEntry, KeepsEntry}
 use Rattle.hc_body.proofs.PieceArm.{Brought, brought_of, Runs, runs_of, brings_it, not_too_long}
@@ -62,7 +61,6 @@ use Rattle.hc_body.proofs.PieceKinds.{outside_behind}
 use Rattle.hc_body.proofs.PieceRows.{IsLike, like_same, last_is}
 use Rattle.hc_rows.proofs.Rooms.{used_is}
 use Rattle.hc_body.proofs.StoredPiece.{written_alike, tells, stored_stands, stored_answered}
-use Rattle.hc_rows.proofs.Standing.{facts_of_runs}
 use Rattle.hc_rows.proofs.Stopping.{size_kept}
 use Rattle.hc_rows.proofs.Words.{same_or, eqb-same, false_true, none_some, some_is, few_received}
 use Rattle.std.proofs.Math.Logic.{∥∥₁_elim}
@@ -378,7 +376,7 @@ pub kept_of : (o : Option Kept) (e : EntryView) → option_map view_of o ≡ Som
 kept_of None e is = none_some e is
 kept_of (Some k) e is = (k, refl, ap (λ (z : EntryView). z.size) (sym (some_is (view_of k) e is)))
 
-module _ {B : Type 0} {g : Ghosts B} (r mid : Rows B g) (now x q : ℕ) (bytes : List ℕ) (some : ∥ StandsForSome r ∥₁) (accepted : piece_refusal (open_at r x) (length bytes) ≡ None) (grows : stored_by r x ≡ Some q) (small : r.received + length bytes < 2 ^ 61) (before out : List Act) (stored : ℕ)
+module _ {B : Type 0} {g : Ghosts B} (r mid : Rows B g) (now x q : ℕ) (bytes : List ℕ) (some : ∥ Stands r ∥₁) (accepted : piece_refusal (open_at r x) (length bytes) ≡ None) (grows : stored_by r x ≡ Some q) (small : r.received + length bytes < 2 ^ 61) (before out : List Act) (stored : ℕ)
     (had : (k : Kept) → (shelf_of r.entries).kept q ≡ Some k → stored ≡ size k.cells)
     (gives : (t : Tables) → MayMakeRoom t → RowsStand r t → GivesWay mid t now (giving_way r.limits t (write.Piece stored (length bytes))) before out) (mid_limits : mid.limits ≡ r.limits) (mid_received : mid.received ≡ r.received) (mid_last : mid.last_start ≡ r.last_start) (mid_exchanges : mid.exchanges ≡ r.exchanges) where
   under : r.received < 2 ^ 61
@@ -386,16 +384,16 @@ module _ {B : Type 0} {g : Ghosts B} (r mid : Rows B g) (now x q : ℕ) (bytes :
 
   pub kept_mid : is_kept (shelf_of mid.entries) q ≡ true
   kept_mid = merely_true (is_kept (shelf_of mid.entries) q) some (λ p.
-      let t = tables p.contents p.h in
-      let facts = facts_of_runs r.limits p.contents p.h p.begins p.short p.run in
+      let t = p.t in
+      let facts = p.facts in
       let stands = p.rows in
       let few : t.received < 2 ^ 62 = few_received stands.received under in
       mid_kept r mid mid mid t facts stands under now x q bytes (undenied_piece r t x bytes stands accepted) grows before out stored had (gives t (may_make_room t facts few) stands) mid_limits mid_received mid_last mid_exchanges)
 
   pub absent_mid : (o : Open) → (table_of mid.exchanges x).running ≡ Some o → AreAbsent (cells_at (shelf_of mid.entries) q) (o.base + o.delivered) (o.base + o.delivered + length bytes)
   absent_mid o running n low high = none_of (cells_at (shelf_of mid.entries) q n) (merely_false (is_some (cells_at (shelf_of mid.entries) q n)) some (λ p.
-      let t = tables p.contents p.h in
-      let facts = facts_of_runs r.limits p.contents p.h p.begins p.short p.run in
+      let t = p.t in
+      let facts = p.facts in
       let stands = p.rows in
       let few : t.received < 2 ^ 62 = few_received stands.received under in
       ap (λ (e : Option Cell). is_some e) (mid_absent r mid mid mid t facts stands under now x q bytes (undenied_piece r t x bytes stands accepted) grows before out stored had (gives t (may_make_room t facts few) stands) mid_limits mid_received mid_last mid_exchanges o running n low high)))
@@ -422,8 +420,8 @@ module _ {B : Type 0} {g : Ghosts B} (r mid : Rows B g) (now x q : ℕ) (bytes :
   -- what stood there stands there, and what gives way behind it
   pub front_mid : take (length before) out ≡ before
   front_mid = ∥∥₁_elim some (acts_set (take (length before) out) before) (λ p.
-      let t = tables p.contents p.h in
-      let facts = facts_of_runs r.limits p.contents p.h p.begins p.short p.run in
+      let t = p.t in
+      let facts = p.facts in
       let few : t.received < 2 ^ 62 = few_received p.rows.received under in
       let made = gives t (may_make_room t facts few) p.rows in
       ap (take (length before)) made.acts ∙ take-append_seam before (map act.Evicted (giving_way r.limits t (write.Piece stored (length bytes)))))

@@ -11,7 +11,7 @@ ghost use Rattle.hc_model.specs.StartingOver.{awaited};
 ghost use Rattle.hc_rows.specs.Arms.{IsInKey};
 ghost use Rattle.hc_rows.specs.Facts.{Facts};
 ghost use Rattle.hc_rows.specs.Heads.{AwaitsHead, StandsApart};
-ghost use Rattle.hc_rows.specs.Stands.{RowsStand, StandsForSome};
+ghost use Rattle.hc_rows.specs.Stands.{RowsStand, Stands};
 
 use hc_leave::gone::{leave_key, unbind_from};
 use hc_model::Place;
@@ -21,7 +21,7 @@ use hc_store::Backend;
 /// A consumer that waits for the head of its exchange waits for its key no more, is bound to
 /// nothing, and stands there: it reads that exchange past the store, or is to fail.
 pub fn stand_aside<B: Backend>(rows: &mut Rows<B>, c: u64, place: Place)
-    requires stands { ∥ StandsForSome rows.old ∥₁ }
+    requires stands { ∥ Stands rows.old ∥₁ }
     requires live { is_some (get nat_eq rows.old.consumers c) ≡ true }
     ensures stands { (t : Tables) (x : ℕ) (w : Exchange) (k : Consumer)
         → Facts rows.old.limits t → AwaitsHead t x w k → w.c ≡ c → StandsApart x place
@@ -41,7 +41,7 @@ pub fn stand_aside<B: Backend>(rows: &mut Rows<B>, c: u64, place: Place)
 /// A consumer that waits for the head of its exchange, with the turn or for a first hole, stands
 /// in line again, as if it had just started.
 pub(crate) fn send_back<B: Backend>(rows: &mut Rows<B>, now: u64, c: u64)
-    requires stands { ∥ StandsForSome rows.old ∥₁ }
+    requires stands { ∥ Stands rows.old ∥₁ }
     requires waits { IsSomeAnd (get nat_eq rows.old.consumers c) (IsInKey rows.old.keys c) }
     ensures stands { (t : Tables) (x : ℕ) (w : Exchange) (k : Consumer)
         → Facts rows.old.limits t → AwaitsHead t x w k → w.c ≡ c → awaited k.place ≡ Some x

@@ -12,7 +12,7 @@ ghost use Rattle.hc_model.specs.Rows.{Tables, Representation};
 ghost use Rattle.hc_rows.specs.Arms.{IsInKey};
 ghost use Rattle.hc_rows.specs.Heads.{IsAskedBy};
 ghost use Rattle.hc_rows.specs.Heirs.{heir_of, stands_at, AnswersLosing, MayLoseShared, LosesShared, LosesWriting};
-ghost use Rattle.hc_rows.specs.Stands.{RowsStand, StandsForSome, open_at};
+ghost use Rattle.hc_rows.specs.Stands.{RowsStand, Stands, open_at};
 ghost use Rattle.hc_rows.specs.Stored.{is_usable_kept};
 
 use crate::asker::send_back;
@@ -72,7 +72,6 @@ fn lose_writing<B: Backend>(
     ensures lost { (t : Tables) (v : Representation) → MayLoseShared t r x v
         → RowsStand rows.old t
         → LosesWriting rows.new t (listed out.old) (listed out.new) now r x v kind }
-    ensures next { next_of rows.new.exchanges ≡ next_of rows.old.exchanges }
     ensures limits { rows.new.limits ≡ rows.old.limits }
     ensures received { rows.new.received ≡ rows.old.received }
     ensures faults { (shelf_of rows.new.entries).faults ≡ (shelf_of rows.old.entries).faults }
@@ -90,7 +89,7 @@ pub fn lose_asked<B: Backend>(
     r: u64,
     out: &mut Acts,
 )
-    requires stands { ∥ StandsForSome rows.old ∥₁ }
+    requires stands { ∥ Stands rows.old ∥₁ }
     requires current { is_usable_kept ((shelf_of rows.old.entries).kept r) ≡ true }
     requires waits { IsSomeAnd (get nat_eq rows.old.consumers heard.c)
         (IsInKey rows.old.keys heard.c) }
@@ -100,7 +99,6 @@ pub fn lose_asked<B: Backend>(
     requires room { 3 ≤ spare out.old }
     ensures answers { (faults : ℕ) → AnswersLosing rows.old rows.new (listed out.old)
         (listed out.new) faults heard.now heard.x r response.now }
-    ensures next { next_of rows.new.exchanges ≡ next_of rows.old.exchanges }
     ensures received { rows.new.received ≡ rows.old.received }
     ensures limits { rows.new.limits ≡ rows.old.limits }
     ensures faults { (shelf_of rows.new.entries).faults ≡ (shelf_of rows.old.entries).faults }

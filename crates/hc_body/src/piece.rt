@@ -22,7 +22,7 @@ ghost use Rattle.hc_store.specs.declared.error.StoreError.TheVariants as errors;
 ghost use Rattle.hc_rows.specs.Room.{loss_by};
 ghost use Rattle.hc_rows.specs.Pieces.{stored_by, grown, IsLastKind, PutsPiece};
 ghost use Rattle.hc_rows.specs.Refused.{brought_lost, own_loss, LosesPiece, MayLoseOwn, MayLosePiece, RefusesPiece};
-ghost use Rattle.hc_rows.specs.Stands.{RowsStand, Stays, Answers, StandsForSome, open_at};
+ghost use Rattle.hc_rows.specs.Stands.{RowsStand, Stays, Answers, Stands, open_at};
 ghost use Rattle.hc_rows.specs.Stops.{kind_left, IsTold};
 
 use crate::lose::lose_shared;
@@ -47,14 +47,13 @@ pub fn take_piece<B: Backend>(
     bytes: &[u8],
     out: &mut Acts,
 ) -> Result<(), NoMemory>
-    requires stands { ∥ StandsForSome rows.old ∥₁ }
+    requires stands { ∥ Stands rows.old ∥₁ }
     requires accepted { piece_refusal (open_at rows.old x) (length bytes.now) ≡ None }
     requires short { length bytes.now ≤ 65536 }
     requires small { rows.old.received + length bytes.now < 2 ^ 61 }
     requires room { 4 ≤ spare out.old }
     ensures answers { OnOk result (Answers rows.old rows.new (listed out.old) (listed out.new)
         now (Piece x bytes.now)) }
-    ensures next { next_of rows.new.exchanges ≡ next_of rows.old.exchanges }
     ensures received { OnOk result (rows.new.received ≡ rows.old.received + length bytes.now) }
     ensures limits { OnOk result (rows.new.limits ≡ rows.old.limits) }
     ensures faults { (shelf_of rows.old.entries).faults ≤ (shelf_of rows.new.entries).faults }
@@ -80,7 +79,7 @@ fn grow<B: Backend>(
     bytes: &[u8],
     out: &mut Acts,
 ) -> Result<(), NoMemory>
-    requires stands { ∥ StandsForSome rows.old ∥₁ }
+    requires stands { ∥ Stands rows.old ∥₁ }
     requires accepted { piece_refusal (open_at rows.old x) (length bytes.now) ≡ None }
     requires stored { stored_by rows.old x ≡ Some r }
     requires short { length bytes.now ≤ 65536 }
@@ -88,7 +87,6 @@ fn grow<B: Backend>(
     requires room { 4 ≤ spare out.old }
     ensures answers { OnOk result (Answers rows.old rows.new (listed out.old) (listed out.new)
         now (Piece x bytes.now)) }
-    ensures next { next_of rows.new.exchanges ≡ next_of rows.old.exchanges }
     ensures received { OnOk result (rows.new.received ≡ rows.old.received + length bytes.now) }
     ensures limits { rows.new.limits ≡ rows.old.limits }
     ensures faults { (shelf_of rows.old.entries).faults ≤ (shelf_of rows.new.entries).faults }
@@ -125,7 +123,6 @@ fn lose_own_piece<B: Backend>(
         → RowsStand rows.new (brought_lost now r x w bytes.now (gone (lost_to alone v))
         (own_loss now r v alone t))) }
     ensures acts { listed out.new ≡ listed out.old ++ act.Lost r kind ∷ [] }
-    ensures next { next_of rows.new.exchanges ≡ next_of rows.old.exchanges }
     ensures received { OnOk result (rows.new.received ≡ rows.old.received + length bytes.now) }
     ensures limits { rows.new.limits ≡ rows.old.limits }
     ensures faults { (shelf_of rows.new.entries).faults ≡ (shelf_of rows.old.entries).faults }
@@ -156,7 +153,6 @@ fn lose_shared_piece<B: Backend>(
         → MayLosePiece t now r x w v → RowsStand rows.old t → LosesPiece rows.new t
         (listed out.old) (listed out.new) now r x bytes.now w v kind) }
     ensures front { take (length (listed out.old)) (listed out.new) ≡ listed out.old }
-    ensures next { next_of rows.new.exchanges ≡ next_of rows.old.exchanges }
     ensures received { OnOk result (rows.new.received ≡ rows.old.received + length bytes.now) }
     ensures limits { rows.new.limits ≡ rows.old.limits }
     ensures faults { (shelf_of rows.new.entries).faults ≡ (shelf_of rows.old.entries).faults }
@@ -194,13 +190,12 @@ pub(crate) fn hold_piece<B: Backend>(
     x: u64,
     bytes: &[u8],
 ) -> Result<(), NoMemory>
-    requires stands { ∥ StandsForSome rows.old ∥₁ }
+    requires stands { ∥ Stands rows.old ∥₁ }
     requires accepted { piece_refusal (open_at rows.old x) (length bytes.now) ≡ None }
     requires unstored { stored_by rows.old x ≡ None }
     requires small { rows.old.received + length bytes.now < 2 ^ 61 }
     ensures answers { OnOk result ((now : ℕ) (before : List Act)
         → Answers rows.old rows.new before before now (Piece x bytes.now)) }
-    ensures next { next_of rows.new.exchanges ≡ next_of rows.old.exchanges }
     ensures received { OnOk result (rows.new.received ≡ rows.old.received + length bytes.now) }
     ensures limits { OnOk result (rows.new.limits ≡ rows.old.limits) }
     ensures faults { (shelf_of rows.new.entries).faults ≡ (shelf_of rows.old.entries).faults }
@@ -221,7 +216,7 @@ pub(crate) fn store_piece<B: Backend>(
     bytes: &[u8],
     out: &mut Acts,
 ) -> Result<Option<LostKind>, NoMemory>
-    requires stands { ∥ StandsForSome rows.old ∥₁ }
+    requires stands { ∥ Stands rows.old ∥₁ }
     requires accepted { piece_refusal (open_at rows.old x) (length bytes.now) ≡ None }
     requires stored { stored_by rows.old x ≡ Some r }
     requires small { rows.old.received + length bytes.now < 2 ^ 61 }
@@ -229,7 +224,6 @@ pub(crate) fn store_piece<B: Backend>(
     requires room { 4 ≤ spare out.old }
     ensures answers { result ≡ Ok None → Answers rows.old rows.new (listed out.old)
         (listed out.new) now (Piece x bytes.now) }
-    ensures next { next_of rows.new.exchanges ≡ next_of rows.old.exchanges }
     ensures refused { (kind : LostKind) → result ≡ Ok (Some kind) → RefusesPiece rows.old
         rows.new now x r bytes.now kind (listed out.old) (listed out.new) (spare out.new) }
     ensures received { result ≡ Ok None → rows.new.received ≡ rows.old.received + length bytes.now }

@@ -15,7 +15,7 @@ ghost use Rattle.hc_model.specs.LettingGo.{MayLetGo};
 ghost use Rattle.hc_model.specs.Rows.{Tables, Exchange, Representation, Consumer};
 ghost use Rattle.hc_rows.specs.Changes.{ChangesAmong, with_due};
 ghost use Rattle.hc_rows.specs.Facts.{Facts};
-ghost use Rattle.hc_rows.specs.Stands.{Answered, Answers, KeepsRest, RowsStand, StandsForSome, open_at};
+ghost use Rattle.hc_rows.specs.Stands.{Answered, Answers, KeepsRest, RowsStand, Stands, open_at};
 ghost use Rattle.hc_rows.specs.Stopped.{BrokeOff, IsBroken, Waited, SealedWhole, TellsNoLength};
 ghost use Rattle.hc_rows.specs.Stops.{readers_of, reads_from, goes_on, is_shown};
 
@@ -30,12 +30,11 @@ use hc_store::Backend;
 
 /// An exchange breaks. Before its head, whoever was shown nothing fails by that.
 pub fn fault<B: Backend>(rows: &mut Rows<B>, now: u64, x: u64, out: &mut Acts)
-    requires stands { ∥ StandsForSome rows.old ∥₁ }
+    requires stands { ∥ Stands rows.old ∥₁ }
     requires accepted { fault_refusal (open_at rows.old x) ≡ None }
     requires small { rows.old.received < 2 ^ 61 }
     requires room { 1 ≤ spare out.old }
     ensures answers { Answers rows.old rows.new (listed out.old) (listed out.new) now (Fault x) }
-    ensures next { next_of rows.new.exchanges ≡ next_of rows.old.exchanges }
     ensures received { rows.new.received ≡ rows.old.received }
     ensures limits { rows.new.limits ≡ rows.old.limits }
     ensures faults { (shelf_of rows.old.entries).faults ≤ (shelf_of rows.new.entries).faults }
@@ -50,12 +49,11 @@ pub fn fault<B: Backend>(rows: &mut Rows<B>, now: u64, x: u64, out: &mut Acts)
 
 /// An exchange ends. With less than its head promised that is a failure.
 pub fn end<B: Backend>(rows: &mut Rows<B>, now: u64, x: u64, out: &mut Acts)
-    requires stands { ∥ StandsForSome rows.old ∥₁ }
+    requires stands { ∥ Stands rows.old ∥₁ }
     requires accepted { end_refusal (open_at rows.old x) ≡ None }
     requires small { rows.old.received < 2 ^ 61 }
     requires room { 1 ≤ spare out.old }
     ensures answers { Answers rows.old rows.new (listed out.old) (listed out.new) now (End x) }
-    ensures next { next_of rows.new.exchanges ≡ next_of rows.old.exchanges }
     ensures received { rows.new.received ≡ rows.old.received }
     ensures limits { rows.new.limits ≡ rows.old.limits }
     ensures faults { (shelf_of rows.old.entries).faults ≤ (shelf_of rows.new.entries).faults }
@@ -70,7 +68,7 @@ pub fn end<B: Backend>(rows: &mut Rows<B>, now: u64, x: u64, out: &mut Acts)
 
 /// An exchange ends whose head told no length: all of it came.
 fn end_whole<B: Backend>(rows: &mut Rows<B>, now: u64, x: u64, out: &mut Acts)
-    requires stands { ∥ StandsForSome rows.old ∥₁ }
+    requires stands { ∥ Stands rows.old ∥₁ }
     requires running { is_open x (table_of rows.old.exchanges) ≡ true }
     requires small { rows.old.received < 2 ^ 61 }
     requires room { 1 ≤ spare out.old }
@@ -78,7 +76,6 @@ fn end_whole<B: Backend>(rows: &mut Rows<B>, now: u64, x: u64, out: &mut Acts)
         → denial t (End x) ≡ None → TellsNoLength t x
         → Answered rows.old.limits (shelf_of rows.old.entries).faults rows.new t
         (listed out.old) (listed out.new) now (End x) }
-    ensures next { next_of rows.new.exchanges ≡ next_of rows.old.exchanges }
     ensures received { rows.new.received ≡ rows.old.received }
     ensures limits { rows.new.limits ≡ rows.old.limits }
     ensures faults { (shelf_of rows.old.entries).faults ≤ (shelf_of rows.new.entries).faults }
@@ -133,14 +130,13 @@ fn was_shown<B: Backend>(rows: &Rows<B>, c: u64) -> bool
 
 /// An exchange breaks before its head, and its consumer, which was shown nothing, fails by that.
 fn break_wait<B: Backend>(rows: &mut Rows<B>, c: u64, x: u64)
-    requires stands { ∥ StandsForSome rows.old ∥₁ }
+    requires stands { ∥ Stands rows.old ∥₁ }
     requires live { is_some (get nat_eq rows.old.consumers c) ≡ true }
     requires running { is_open x (table_of rows.old.exchanges) ≡ true }
     ensures broken { (t : Tables) (w : Exchange) (k : Consumer) → Facts rows.old.limits t
         → RowsStand rows.old t → Waited t x c w k → RowsStand rows.new
         (with_consumer c (Some (put_down (cause.Net x) k))
         (with_exchange x (Some (over w)) t)) }
-    ensures next { next_of rows.new.exchanges ≡ next_of rows.old.exchanges }
     ensures received { rows.new.received ≡ rows.old.received }
     ensures limits { rows.new.limits ≡ rows.old.limits }
     ensures faults { (shelf_of rows.new.entries).faults ≡ (shelf_of rows.old.entries).faults }
@@ -153,7 +149,7 @@ fn break_wait<B: Backend>(rows: &mut Rows<B>, c: u64, x: u64)
 /// An exchange stops with less than it should have brought: that is due to whoever reads from
 /// it.
 fn break_off<B: Backend>(rows: &mut Rows<B>, now: u64, x: u64, cause: Cause, out: &mut Acts)
-    requires stands { ∥ StandsForSome rows.old ∥₁ }
+    requires stands { ∥ Stands rows.old ∥₁ }
     requires running { is_open x (table_of rows.old.exchanges) ≡ true }
     requires small { rows.old.received < 2 ^ 61 }
     requires room { 1 ≤ spare out.old }
@@ -161,7 +157,6 @@ fn break_off<B: Backend>(rows: &mut Rows<B>, now: u64, x: u64, cause: Cause, out
         → RowsStand rows.old t → IsBroken t x w
         → BrokeOff (shelf_of rows.old.entries).faults rows.new t
         (listed out.old) (listed out.new) now x w cause }
-    ensures next { next_of rows.new.exchanges ≡ next_of rows.old.exchanges }
     ensures received { rows.new.received ≡ rows.old.received }
     ensures limits { rows.new.limits ≡ rows.old.limits }
     ensures faults { (shelf_of rows.old.entries).faults ≤ (shelf_of rows.new.entries).faults }

@@ -15,7 +15,7 @@ ghost use Rattle.hc_model.specs.Effects.{with_answer};
 ghost use Rattle.hc_model.specs.Rows.{Tables, Exchange, Consumer};
 ghost use Rattle.hc_rows.specs.Arms.{IsInKey};
 ghost use Rattle.hc_rows.specs.Heads.{IsAskedBy, IsReadAlone, EndsInRange, end_told, unless_over, puts_down, goes_past, starts_anew, breaks_off, broken_by};
-ghost use Rattle.hc_rows.specs.Stands.{AnswersCase, KeepsRest, RowsStand, StandsForSome, open_at};
+ghost use Rattle.hc_rows.specs.Stands.{AnswersCase, KeepsRest, RowsStand, Stands, open_at};
 
 use crate::asker::{send_back, stand_aside};
 use crate::heard::Heard;
@@ -31,14 +31,13 @@ use hc_text::NoMemory;
 
 /// A bad head: whoever waits for it is to fail.
 pub fn put_down<B: Backend>(rows: &mut Rows<B>, heard: Heard, response: &Response, out: &mut Acts)
-    requires stands { ∥ StandsForSome rows.old ∥₁ }
+    requires stands { ∥ Stands rows.old ∥₁ }
     requires live { is_some (get nat_eq rows.old.consumers heard.c) ≡ true }
     requires accepted { head_refusal (open_at rows.old heard.x) ≡ None }
     requires asker { IsAskedBy heard.c (table_of rows.old.exchanges heard.x).running }
     requires room { 1 ≤ spare out.old }
     ensures answers { (g : HeadCase) → puts_down g ≡ true → AnswersCase rows.old rows.new
         (listed out.old) (listed out.new) heard.now heard.x response.now g None }
-    ensures next { next_of rows.new.exchanges ≡ next_of rows.old.exchanges }
     ensures received { rows.new.received ≡ rows.old.received }
     ensures limits { rows.new.limits ≡ rows.old.limits }
     ensures faults { (shelf_of rows.new.entries).faults ≡ (shelf_of rows.old.entries).faults }
@@ -60,7 +59,6 @@ pub fn take_past<B: Backend>(
     ensures answers { OnOk result ((before : List Act)
         → AnswersCase rows.old rows.new before before heard.now heard.x response.now
         case.DirectTaken None) }
-    ensures next { OnOk result (next_of rows.new.exchanges ≡ next_of rows.old.exchanges) }
     ensures received { OnOk result (rows.new.received ≡ rows.old.received) }
     ensures limits { OnOk result (rows.new.limits ≡ rows.old.limits) }
     ensures faults { (shelf_of rows.new.entries).faults ≡ (shelf_of rows.old.entries).faults }
@@ -75,7 +73,7 @@ pub fn go_past<B: Backend>(
     response: &Response,
     goes: Option<u64>,
 ) -> Result<(), NoMemory>
-    requires stands { ∥ StandsForSome rows.old ∥₁ }
+    requires stands { ∥ Stands rows.old ∥₁ }
     requires live { is_some (get nat_eq rows.old.consumers heard.c) ≡ true }
     requires accepted { head_refusal (open_at rows.old heard.x) ≡ None }
     requires asker { IsAskedBy heard.c (table_of rows.old.exchanges heard.x).running }
@@ -84,7 +82,6 @@ pub fn go_past<B: Backend>(
     ensures answers { OnOk result ((g : HeadCase) (before : List Act) → goes_past g ≡ true
         → AnswersCase rows.old rows.new before before heard.now heard.x response.now
         g goes) }
-    ensures next { OnOk result (next_of rows.new.exchanges ≡ next_of rows.old.exchanges) }
     ensures received { OnOk result (rows.new.received ≡ rows.old.received) }
     ensures limits { OnOk result (rows.new.limits ≡ rows.old.limits) }
     ensures faults { (shelf_of rows.new.entries).faults ≡ (shelf_of rows.old.entries).faults }
@@ -104,7 +101,7 @@ pub fn start_anew<B: Backend>(
     goes: Option<u64>,
     out: &mut Acts,
 )
-    requires stands { ∥ StandsForSome rows.old ∥₁ }
+    requires stands { ∥ Stands rows.old ∥₁ }
     requires waits { IsSomeAnd (get nat_eq rows.old.consumers heard.c)
         (IsInKey rows.old.keys heard.c) }
     requires accepted { head_refusal (open_at rows.old heard.x) ≡ None }
@@ -112,7 +109,6 @@ pub fn start_anew<B: Backend>(
     requires room { 1 ≤ spare out.old }
     ensures answers { (g : HeadCase) → starts_anew g ≡ true → AnswersCase rows.old rows.new
         (listed out.old) (listed out.new) heard.now heard.x response.now g goes }
-    ensures next { next_of rows.new.exchanges ≡ next_of rows.old.exchanges }
     ensures received { rows.new.received ≡ rows.old.received }
     ensures limits { rows.new.limits ≡ rows.old.limits }
     ensures faults { (shelf_of rows.new.entries).faults ≡ (shelf_of rows.old.entries).faults }
@@ -131,14 +127,13 @@ pub fn close_hole<B: Backend>(
     goes: Option<u64>,
     out: &mut Acts,
 )
-    requires stands { ∥ StandsForSome rows.old ∥₁ }
+    requires stands { ∥ Stands rows.old ∥₁ }
     requires accepted { head_refusal (open_at rows.old heard.x) ≡ None }
     requires asker { IsAskedBy heard.c (table_of rows.old.exchanges heard.x).running }
     requires room { 1 ≤ spare out.old }
     ensures answers { (g : HeadCase) → breaks_off g ≡ true → cause ≡ broken_by heard.x g
         → AnswersCase rows.old rows.new (listed out.old) (listed out.new) heard.now heard.x
         response.now g goes }
-    ensures next { next_of rows.new.exchanges ≡ next_of rows.old.exchanges }
     ensures received { rows.new.received ≡ rows.old.received }
     ensures limits { rows.new.limits ≡ rows.old.limits }
     ensures faults { (shelf_of rows.new.entries).faults ≡ (shelf_of rows.old.entries).faults }
@@ -161,7 +156,6 @@ pub fn answer_past<B: Backend>(
         → IsReadAlone t heard.x w k → w.c ≡ heard.c → RowsStand rows.old t
         → RowsStand rows.new
         (with_answer heard.now heard.x response.now w.joined w t)) }
-    ensures next { OnOk result (next_of rows.new.exchanges ≡ next_of rows.old.exchanges) }
     ensures received { OnOk result (rows.new.received ≡ rows.old.received) }
     ensures limits { OnOk result (rows.new.limits ≡ rows.old.limits) }
     ensures faults { (shelf_of rows.new.entries).faults ≡ (shelf_of rows.old.entries).faults }
@@ -186,7 +180,6 @@ pub fn have_answer<B: Backend>(
         → IsReadAlone t heard.x w k → w.c ≡ heard.c → RowsStand rows.old t
         → RowsStand rows.new
         (with_answer heard.now heard.x response.now w.joined w t) }
-    ensures next { next_of rows.new.exchanges ≡ next_of rows.old.exchanges }
     ensures received { rows.new.received ≡ rows.old.received }
     ensures limits { rows.new.limits ≡ rows.old.limits }
     ensures faults { (shelf_of rows.new.entries).faults ≡ (shelf_of rows.old.entries).faults }

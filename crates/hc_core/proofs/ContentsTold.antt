@@ -36,7 +36,7 @@ use Rattle.hc_rows.specs.Stored.{IsEntry, KeepsEntry, TellsLength}
 use Rattle.hc_rows.specs.Stored as stored
 use Rattle.hc_rows.proofs.ReaderSteps.{stands_read}
 use Rattle.hc_rows.proofs.Rooms.{idle_is}
-use Rattle.hc_rows.proofs.Standing.{facts_of_runs}
+use Rattle.hc_core.proofs.Standing.{facts_of_runs}
 use Rattle.hc_rows.proofs.Words.{false_true, none_some, some_is}
 use Rattle.hc_core.specs.declared.cache.Cache.{Cache}
 use Rattle.hc_core.specs.Steps.{StandsFor}

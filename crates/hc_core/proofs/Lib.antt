@@ -1,3 +1,5 @@
+pub mod Standing
+pub mod Opened
 pub mod Undenied
 pub mod Denying
 pub mod Timely

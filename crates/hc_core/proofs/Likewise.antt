@@ -53,7 +53,7 @@ use Rattle.hc_core.proofs.HeadsGrow.{HeadsGrow, heads_grow}
 use Rattle.hc_rows.proofs.LiveCounts.{filter-reverse}
 use Rattle.hc_core.proofs.NobodyLive.{nobody, nobody_says, unbound, none_bound, shut, none_held}
 use Rattle.hc_core.proofs.RunsBack.{cells_back}
-use Rattle.hc_rows.proofs.Standing.{facts_of_runs}
+use Rattle.hc_core.proofs.Standing.{facts_of_runs}
 use Rattle.hc_rows.proofs.Words.{same_or, eqb-same, eqb-other, false_true, none_some, not_true, same_row, some_is, then_false}
 use Rattle.hc_core.specs.declared.cache.Cache.{Cache}
 use Rattle.hc_core.specs.Steps.{ServesAll}

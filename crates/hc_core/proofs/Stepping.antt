@@ -41,7 +41,7 @@ use Rattle.hc_rows.specs.Facts.{Facts}
 use Rattle.hc_rows.specs.Good.{StandsUntil, counted}
 use Rattle.hc_body.proofs.Gates.{denies_as}
 use Rattle.hc_body.proofs.Sets.{acts_set}
-use Rattle.hc_rows.proofs.Standing.{facts_of_runs}
+use Rattle.hc_core.proofs.Standing.{facts_of_runs}
 use Rattle.hc_rows.proofs.Words.{none_some}
 use Rattle.hc_core.proofs.Undenied.{undenied}
 use Rattle.hc_core.proofs.Denying.{stands_denied, stands_begun}

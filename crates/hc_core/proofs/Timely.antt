@@ -13,7 +13,7 @@ use Rattle.hc_rows.specs.Good.{StandsUntil}
 use Rattle.hc_rows.specs.Heads.{IsTimely}
 use Rattle.hc_rows.specs.Stands.{RowsStand}
 use Rattle.hc_body.proofs.HeardRows.{heard_row}
-use Rattle.hc_rows.proofs.Standing.{facts_of_runs}
+use Rattle.hc_core.proofs.Standing.{facts_of_runs}
 
 module _ {B : Type 0} {g : Ghosts B} (r : Rows B g) (x : ℕ) (o : Open) (running : (table_of r.exchanges x).running ≡ Some o) where
   opened_by : (t : Tables) (now : ℕ) → Facts r.limits t → RowsStand r t → t.moment ≤ now → o.moment ≤ now

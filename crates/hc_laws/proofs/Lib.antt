@@ -1,3 +1,4 @@
+pub mod WantedSpans
 pub mod ToBeShown
 pub mod WaitingKeeps
 pub mod OwnersKept

@@ -16,11 +16,10 @@ use Rattle.hc_model.specs.Rows.{Tables, Representation}
 use Rattle.hc_model.specs.Tables.{tables}
 use Rattle.hc_rows.specs.declared.rows.Rows.{Rows}
 use Rattle.hc_rows.specs.Facts.{Facts}
-use Rattle.hc_rows.specs.Stands.{RowsStand, StandsForSome}
+use Rattle.hc_rows.specs.Stands.{RowsStand, Stands}
 use Rattle.hc_rows.specs.Stored.{KeepsEntry, TellsLength, told, untold, TellsShort}
 use Rattle.hc_rows.proofs.LeftRows.{live_row}
 use Rattle.hc_rows.proofs.Maps.{merely_below}
-use Rattle.hc_rows.proofs.Standing.{facts_of_runs}
 use Rattle.hc_rows.proofs.Words.{none_some, few_received}
 
 below_room : (n m : ℕ) → n < max (2 ^ 62) (m + 1) → m < 2 ^ 62 → n < 2 ^ 62
@@ -42,17 +41,17 @@ shorts r u t s facts before small same stands q n k at known =
     (subst (λ o. KeepsEntry s q o (s.representation q)) at (stands.entries.each q)) known
 
 -- before an event
-pub shorts_here : {B : Type 0} {g : Ghosts B} (r : Rows B g) → ∥ StandsForSome r ∥₁ → r.received < 2 ^ 61 → TellsShort (shelf_of r.entries)
+pub shorts_here : {B : Type 0} {g : Ghosts B} (r : Rows B g) → ∥ Stands r ∥₁ → r.received < 2 ^ 61 → TellsShort (shelf_of r.entries)
 shorts_here r some small q n k at known = merely_below n (2 ^ 62) some (λ s.
-    let t : Tables = tables s.contents s.h in
-    shorts r r t t (facts_of_runs r.limits s.contents s.h s.begins s.short s.run) s.rows small refl s.rows q n k at known)
+    let t : Tables = s.t in
+    shorts r r t t s.facts s.rows small refl s.rows q n k at known)
 
 -- once a consumer is gone
-pub shorts_left : {B : Type 0} {g : Ghosts B} (r u : Rows B g) (c : ℕ) → ∥ StandsForSome r ∥₁ → is_some (get nat_eq r.consumers c) ≡ true → r.received < 2 ^ 61
+pub shorts_left : {B : Type 0} {g : Ghosts B} (r u : Rows B g) (c : ℕ) → ∥ Stands r ∥₁ → is_some (get nat_eq r.consumers c) ≡ true → r.received < 2 ^ 61
     → ((t : Tables) (k : rows.Consumer) → Lawful t → t.consumer c ≡ Some k → RowsStand r t → RowsStand u (with_consumer c (Some (finished k)) t)) → TellsShort (shelf_of u.entries)
 shorts_left r u c some lives small leaves q n k at known = merely_below n (2 ^ 62) some (λ s.
-    let t : Tables = tables s.contents s.h in
-    let facts = facts_of_runs r.limits s.contents s.h s.begins s.short s.run in
+    let t : Tables = s.t in
+    let facts = s.facts in
     let v = live_row r t c lives s.rows in
     shorts r u t (with_consumer c (Some (finished v.0)) t) facts s.rows small refl (leaves t v.0 facts.law v.1 s.rows) q n k at known)
 

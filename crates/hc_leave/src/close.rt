@@ -13,7 +13,7 @@ ghost use Rattle.hc_model.specs.Rows.{Tables, Consumer};
 ghost use Rattle.hc_rows.specs.Facts.{Facts};
 ghost use Rattle.hc_rows.specs.Leaving.{if_running, writing_of, last_read, left_of};
 ghost use Rattle.hc_rows.specs.Left.{HasLeft};
-ghost use Rattle.hc_rows.specs.Stands.{RowsStand, StandsForSome};
+ghost use Rattle.hc_rows.specs.Stands.{RowsStand, Stands};
 ghost use Rattle.hc_rows.specs.Stored.{TellsShort};
 
 use crate::acts::put;
@@ -26,7 +26,7 @@ use hc_store::Backend;
 
 /// A consumer leaves: what only it read is closed, and sealed or let go.
 pub(crate) fn leave<B: Backend>(rows: &mut Rows<B>, now: u64, c: u64, out: &mut Acts)
-    requires stands { ∥ StandsForSome rows.old ∥₁ }
+    requires stands { ∥ Stands rows.old ∥₁ }
     requires live { is_some (get nat_eq rows.old.consumers c) ≡ true }
     requires small { rows.old.received < 2 ^ 61 }
     requires room { 2 ≤ spare out.old }
@@ -34,7 +34,6 @@ pub(crate) fn leave<B: Backend>(rows: &mut Rows<B>, now: u64, c: u64, out: &mut 
         → RowsStand rows.old t → t.consumer c ≡ Some k
         → HasLeft (shelf_of rows.old.entries).faults rows.new t
         (listed out.old) (listed out.new) now c k }
-    ensures next { next_of rows.new.exchanges ≡ next_of rows.old.exchanges }
     ensures received { rows.new.received ≡ rows.old.received }
     ensures limits { rows.new.limits ≡ rows.old.limits }
     ensures faults { (shelf_of rows.old.entries).faults ≤ (shelf_of rows.new.entries).faults }
@@ -126,7 +125,6 @@ fn close_left<B: Backend>(rows: &mut Rows<B>, now: u64, x: u64, alone: Option<u6
         → RowsStand rows.old (with_consumer c (Some (finished k)) t)
         → HasLeft (shelf_of rows.old.entries).faults rows.new t
         (listed out.old) (listed out.new) now c k }
-    ensures next { next_of rows.new.exchanges ≡ next_of rows.old.exchanges }
     ensures received { rows.new.received ≡ rows.old.received }
     ensures limits { rows.new.limits ≡ rows.old.limits }
     ensures faults { (shelf_of rows.old.entries).faults ≤ (shelf_of rows.new.entries).faults }

@@ -7,7 +7,7 @@ ghost use Rattle.hc_model.specs.Effects.{with_consumer, finished};
 ghost use Rattle.hc_model.specs.Lawful.{Lawful};
 ghost use Rattle.hc_model.specs.Rows.{Tables, Consumer};
 ghost use Rattle.hc_rows.specs.Leaving.{LeavesKey, Forgets, IsUserAt, UnbindsAt, LeavesPlace};
-ghost use Rattle.hc_rows.specs.Stands.{RowsStand, StandsForSome};
+ghost use Rattle.hc_rows.specs.Stands.{RowsStand, Stands};
 
 use hc_entries::Entries;
 use hc_entry::KeyTable;
@@ -19,13 +19,12 @@ use hc_text::Key;
 
 /// A consumer is gone.
 pub(crate) fn remove_consumer<B: Backend>(rows: &mut Rows<B>, c: u64)
-    requires stands { ∥ StandsForSome rows.old ∥₁ }
+    requires stands { ∥ Stands rows.old ∥₁ }
     requires live { is_some (get nat_eq rows.old.consumers c) ≡ true }
     ensures stands { (t : Tables) (k : Consumer) → Lawful t → t.consumer c ≡ Some k
         → RowsStand rows.old t → RowsStand rows.new (with_consumer c (Some (finished k)) t) }
     ensures limits { rows.new.limits ≡ rows.old.limits }
     ensures received { rows.new.received ≡ rows.old.received }
-    ensures next { next_of rows.new.exchanges ≡ next_of rows.old.exchanges }
     ensures faults { (shelf_of rows.new.entries).faults ≡ (shelf_of rows.old.entries).faults }
 {
     leave_place(rows, c);
@@ -35,10 +34,9 @@ pub(crate) fn remove_consumer<B: Backend>(rows: &mut Rows<B>, c: u64)
 /// A consumer leaves where it stands: it waits for nothing and is bound to nothing, and what is
 /// held of its own exchange is forgotten.
 pub fn leave_place<B: Backend>(rows: &mut Rows<B>, c: u64)
-    requires stands { ∥ StandsForSome rows.old ∥₁ }
+    requires stands { ∥ Stands rows.old ∥₁ }
     requires live { is_some (get nat_eq rows.old.consumers c) ≡ true }
     ensures place { IsSomeAnd (get nat_eq rows.old.consumers c) (LeavesPlace rows.old rows.new c) }
-    ensures next { next_of rows.new.exchanges ≡ next_of rows.old.exchanges }
     ensures faults { (shelf_of rows.new.entries).faults ≡ (shelf_of rows.old.entries).faults }
 {
     let consumer = rows.consumers.get(&c).unwrap();

@@ -8,7 +8,7 @@ ghost use Rattle.hc_entries.specs.Entries.{shelf_of};
 ghost use Rattle.hc_exch.specs.Exchanges.{next_of, table_of, Becomes};
 ghost use Rattle.hc_exch.specs.Known.{is_open, closed};
 ghost use Rattle.hc_model.specs.Moves.{Ends, Fails};
-ghost use Rattle.hc_rows.specs.Stands.{Answers, AnswersMove, StandsForSome, KeepsRest};
+ghost use Rattle.hc_rows.specs.Stands.{Answers, AnswersMove, Stands, KeepsRest};
 ghost use Rattle.hc_rows.specs.Arms.{IsDown, IsQueued, LeavesLine};
 
 use crate::acts::put;
@@ -19,12 +19,11 @@ use hc_store::Backend;
 
 /// A consumer is cancelled, and leaves.
 pub fn cancel<B: Backend>(rows: &mut Rows<B>, now: u64, c: u64, out: &mut Acts)
-    requires stands { ∥ StandsForSome rows.old ∥₁ }
+    requires stands { ∥ Stands rows.old ∥₁ }
     requires live { is_some (get nat_eq rows.old.consumers c) ≡ true }
     requires small { rows.old.received < 2 ^ 61 }
     requires room { 2 ≤ spare out.old }
     ensures answers { Answers rows.old rows.new (listed out.old) (listed out.new) now (Cancel c) }
-    ensures next { next_of rows.new.exchanges ≡ next_of rows.old.exchanges }
     ensures received { rows.new.received ≡ rows.old.received }
     ensures limits { rows.new.limits ≡ rows.old.limits }
     ensures faults { (shelf_of rows.old.entries).faults ≤ (shelf_of rows.new.entries).faults }
@@ -34,13 +33,12 @@ pub fn cancel<B: Backend>(rows: &mut Rows<B>, now: u64, c: u64, out: &mut Acts)
 
 /// A consumer is told its failure, and leaves.
 pub fn fail<B: Backend>(rows: &mut Rows<B>, now: u64, c: u64, cause: Cause, out: &mut Acts)
-    requires stands { ∥ StandsForSome rows.old ∥₁ }
+    requires stands { ∥ Stands rows.old ∥₁ }
     requires live { is_some (get nat_eq rows.old.consumers c) ≡ true }
     requires small { rows.old.received < 2 ^ 61 }
     requires room { 3 ≤ spare out.old }
     ensures answers { (want : ℕ) → AnswersMove rows.old rows.new
         (listed out.old) (listed out.new) now c want (Fails cause) }
-    ensures next { next_of rows.new.exchanges ≡ next_of rows.old.exchanges }
     ensures received { rows.new.received ≡ rows.old.received }
     ensures limits { rows.new.limits ≡ rows.old.limits }
     ensures faults { (shelf_of rows.old.entries).faults ≤ (shelf_of rows.new.entries).faults }
@@ -51,13 +49,12 @@ pub fn fail<B: Backend>(rows: &mut Rows<B>, now: u64, c: u64, cause: Cause, out:
 
 /// A consumer is told that it was given all that it reads, and leaves.
 pub fn end_reading<B: Backend>(rows: &mut Rows<B>, now: u64, c: u64, out: &mut Acts)
-    requires stands { ∥ StandsForSome rows.old ∥₁ }
+    requires stands { ∥ Stands rows.old ∥₁ }
     requires live { is_some (get nat_eq rows.old.consumers c) ≡ true }
     requires small { rows.old.received < 2 ^ 61 }
     requires room { 3 ≤ spare out.old }
     ensures answers { (want : ℕ) → AnswersMove rows.old rows.new
         (listed out.old) (listed out.new) now c want Ends }
-    ensures next { next_of rows.new.exchanges ≡ next_of rows.old.exchanges }
     ensures received { rows.new.received ≡ rows.old.received }
     ensures limits { rows.new.limits ≡ rows.old.limits }
     ensures faults { (shelf_of rows.old.entries).faults ≤ (shelf_of rows.new.entries).faults }
@@ -68,13 +65,12 @@ pub fn end_reading<B: Backend>(rows: &mut Rows<B>, now: u64, c: u64, out: &mut A
 
 /// A consumer that is down is told its failure, and leaves.
 pub fn fail_down<B: Backend>(rows: &mut Rows<B>, now: u64, c: u64, cause: Cause, out: &mut Acts)
-    requires stands { ∥ StandsForSome rows.old ∥₁ }
+    requires stands { ∥ Stands rows.old ∥₁ }
     requires down { IsSomeAnd (get nat_eq rows.old.consumers c) (IsDown cause) }
     requires small { rows.old.received < 2 ^ 61 }
     requires room { 3 ≤ spare out.old }
     ensures answers { (want : ℕ)
         → Answers rows.old rows.new (listed out.old) (listed out.new) now (Poll c want) }
-    ensures next { next_of rows.new.exchanges ≡ next_of rows.old.exchanges }
     ensures received { rows.new.received ≡ rows.old.received }
     ensures limits { rows.new.limits ≡ rows.old.limits }
     ensures faults { (shelf_of rows.old.entries).faults ≤ (shelf_of rows.new.entries).faults }

@@ -6,7 +6,7 @@ ghost use Rattle.hc_entries.specs.Entries.{shelf_of};
 ghost use Rattle.hc_exch.specs.Exchanges.{next_of};
 ghost use Rattle.hc_store.specs.declared.error.StoreError.TheVariants as errors;
 ghost use Rattle.hc_rows.specs.Reads.{AnswersMisread};
-ghost use Rattle.hc_rows.specs.Stands.{StandsForSome};
+ghost use Rattle.hc_rows.specs.Stands.{Stands};
 
 use crate::acts::put;
 use crate::close::left_by;
@@ -28,14 +28,13 @@ pub fn misread_by<B: Backend>(
     error: StoreError,
     out: &mut Acts,
 ) -> Result<(), NoMemory>
-    requires stands { ∥ StandsForSome rows.old ∥₁ }
+    requires stands { ∥ Stands rows.old ∥₁ }
     requires live { is_some (get nat_eq rows.old.consumers c) ≡ true }
     requires room { 2 ≤ spare out.old }
     ensures failed { OnOk result (error ≢ errors.NoMemory) }
     ensures memory { OnErr result (error ≡ errors.NoMemory) }
     ensures answers { OnOk result (AnswersMisread rows.old rows.new
         (listed out.old) (listed out.new) now c r) }
-    ensures next { OnOk result (next_of rows.new.exchanges ≡ next_of rows.old.exchanges) }
     ensures received { OnOk result (rows.new.received ≡ rows.old.received) }
     ensures limits { OnOk result (rows.new.limits ≡ rows.old.limits) }
     ensures faults { (shelf_of rows.new.entries).faults ≡ (shelf_of rows.old.entries).faults }
@@ -53,11 +52,10 @@ pub fn misread_by<B: Backend>(
 /// What the consumer is bound to, or is current for it, can't be read: it is told so and leaves,
 /// what nobody reads any more is closed, and nobody new is bound to that.
 pub(crate) fn misread<B: Backend>(rows: &mut Rows<B>, now: u64, c: u64, r: u64, out: &mut Acts)
-    requires stands { ∥ StandsForSome rows.old ∥₁ }
+    requires stands { ∥ Stands rows.old ∥₁ }
     requires live { is_some (get nat_eq rows.old.consumers c) ≡ true }
     requires room { 2 ≤ spare out.old }
     ensures answers { AnswersMisread rows.old rows.new (listed out.old) (listed out.new) now c r }
-    ensures next { next_of rows.new.exchanges ≡ next_of rows.old.exchanges }
     ensures received { rows.new.received ≡ rows.old.received }
     ensures limits { rows.new.limits ≡ rows.old.limits }
     ensures faults { (shelf_of rows.new.entries).faults ≡ (shelf_of rows.old.entries).faults }

@@ -74,7 +74,6 @@ pub fn stop_bringing<B: Backend>(
         → MayStop t f x alone → RowsStand rows.old (with_consumers f t)
         → HasStopped (shelf_of rows.old.entries).faults rows.new t f
         (listed out.old) (listed out.new) now x }
-    ensures next { next_of rows.new.exchanges ≡ next_of rows.old.exchanges }
     ensures received { rows.new.received ≡ rows.old.received }
     ensures limits { rows.new.limits ≡ rows.old.limits }
     ensures faults { (shelf_of rows.old.entries).faults ≤ (shelf_of rows.new.entries).faults }
@@ -109,7 +108,6 @@ fn seal_stopped<B: Backend>(
         ≡ stop.Seal r
         → HasStopped (shelf_of rows.old.entries).faults rows.new t f
         (listed out.old) (listed out.new) now x }
-    ensures next { next_of rows.new.exchanges ≡ next_of rows.old.exchanges }
     ensures received { rows.new.received ≡ rows.old.received }
     ensures limits { rows.new.limits ≡ rows.old.limits }
     ensures faults { (shelf_of rows.old.entries).faults ≤ (shelf_of rows.new.entries).faults }

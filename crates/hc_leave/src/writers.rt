@@ -3,7 +3,7 @@ ghost use Rattle.std.specs.Prelude.{◌≡◌, ◌+◌, ◌<◌, ◌^◌, true};
 ghost use Rattle.hc_entries.specs.Entries.{shelf_of};
 ghost use Rattle.hc_entries.specs.Shelf.{is_kept};
 ghost use Rattle.hc_rows.specs.Candidates.{ExclusiveIs, HasMoreIs};
-ghost use Rattle.hc_rows.specs.Stands.{StandsForSome};
+ghost use Rattle.hc_rows.specs.Stands.{Stands};
 
 use crate::close::{if_running, writing};
 use hc_rows::{Consumer, Rows};
@@ -11,7 +11,7 @@ use hc_store::Backend;
 
 /// Who writes the representation alone: it came alone, has no failure due, and more to come.
 pub fn exclusive<B: Backend>(rows: &Rows<B>, r: u64) -> Option<u64>
-    requires stands { ∥ StandsForSome rows.now ∥₁ }
+    requires stands { ∥ Stands rows.now ∥₁ }
     requires small { rows.now.received < 2 ^ 61 }
     ensures { ExclusiveIs rows.now r result }
 {

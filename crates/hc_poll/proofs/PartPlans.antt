@@ -37,10 +37,9 @@ use Rattle.hc_model.specs.Planning.{candidate, candidate_at, hole_of}
 use Rattle.hc_model.specs.Reading.{bound, is_bound, is_bound_place}
 use Rattle.hc_model.specs.Rows as rows
 use Rattle.hc_model.specs.Rows.{Tables, Representation}
-use Rattle.hc_model.specs.Tables.{tables}
 use Rattle.hc_model.specs.Writers.{came_alone}
 use Rattle.hc_model.proofs.EndsKeep.{wanted_within}
-use Rattle.hc_laws.proofs.PartRuns.{wanted_some}
+use Rattle.hc_laws.proofs.WantedSpans.{wanted_some}
 use Rattle.hc_model.proofs.PlanBy.{PlanBy, plan_by}
 use Rattle.hc_model.proofs.PlanBy as plans
 use Rattle.hc_rows.specs.declared.consumer.Consumer.{Consumer}
@@ -49,7 +48,7 @@ use Rattle.hc_rows.specs.Arms.{queues}
 use Rattle.hc_rows.specs.Facts.{Facts}
 use Rattle.hc_rows.specs.Kept.{IsKept, KeepsConsumer}
 use Rattle.hc_rows.specs.Plans.{IsIdle, IsWaiting, HasCurrent, IsPlanOf, IsShownPart, begin_of, end_of, AnswersFirst, AnswersPoll}
-use Rattle.hc_rows.specs.Stands.{RowsStand, StandsForSome}
+use Rattle.hc_rows.specs.Stands.{RowsStand, Stands}
 use Rattle.hc_rows.specs.Stored.{is_first}
 use Rattle.hc_poll.proofs.CandidateTies.{head_at_is, in_order, range_of_class}
 use Rattle.hc_rows.proofs.CurrentTies.{IsNow, now_kept, stays_stored, stored_ends, total_told}
@@ -57,7 +56,6 @@ use Rattle.hc_poll.proofs.HoleTies.{hole_inside}
 use Rattle.hc_rows.proofs.Maps.{known_of, some_that, merely_true, merely_within}
 use Rattle.hc_poll.proofs.PassesArm.{current_as}
 use Rattle.hc_poll.proofs.PlanArms.{found, waits_there, current_admits, plan_answers}
-use Rattle.hc_rows.proofs.Standing.{facts_of_runs}
 use Rattle.hc_rows.proofs.Ties.{kept_row}
 use Rattle.hc_rows.proofs.TurnTies.{least_none, among_in, filter_in}
 use Rattle.hc_rows.proofs.Words.{and_false, eqb-same, false_true, some_is, few_received}
@@ -231,7 +229,7 @@ module _ {B : Type 0} {g : Ghosts B} (r : Rows B g) (t : Tables) (facts : Facts 
 hole_alike : (a b : Head) (request : Request) (hole : Span) (total : ℕ) → a.fields ≡ b.fields → hole_request a request hole total ≡ hole_request b request hole total
 hole_alike a b request hole total fields = rw fields refl
 
-module _ {B : Type 0} {g : Ghosts B} (r : Rows B g) (some : ∥ StandsForSome r ∥₁) (now c : ℕ) (idle : IsSomeAnd (get nat_eq r.consumers c) IsIdle) (q : ℕ) (head : StoredHead) (held : IsSomeAnd (get nat_eq r.consumers c) (HasCurrent r.keys q)) (read : head_at (shelf_of r.entries) q ≡ Some (plain head)) where
+module _ {B : Type 0} {g : Ghosts B} (r : Rows B g) (some : ∥ Stands r ∥₁) (now c : ℕ) (idle : IsSomeAnd (get nat_eq r.consumers c) IsIdle) (q : ℕ) (head : StoredHead) (held : IsSomeAnd (get nat_eq r.consumers c) (HasCurrent r.keys q)) (read : head_at (shelf_of r.entries) q ≡ Some (plain head)) where
   abbrev it : Consumer
   it = (found r some now c idle).0
 
@@ -247,22 +245,22 @@ module _ {B : Type 0} {g : Ghosts B} (r : Rows B g) (some : ∥ StandsForSome r 
   module _ (span hole : Span) (is : IsPlanOf r now c (plan.FirstHole span hole)) where
     pub filling_waits : IsSomeAnd (get nat_eq r.consumers c) (IsWaiting r.keys c)
     filling_waits = some_that (get nat_eq r.consumers c) it (IsWaiting r.keys c) there_is (waits_there r some now c idle (merely_true (queues it) some (λ s.
-        let t = tables s.contents s.h in
-        let facts = facts_of_runs r.limits s.contents s.h s.begins s.short s.run in
+        let t = s.t in
+        let facts = s.facts in
         let (v, row, kept) = its_row t s.rows in
         filling_queues r t facts s.rows c it v row kept q held_by_it head read now span hole (filling r t facts s.rows c it v row kept q held_by_it head read now span hole (is t v facts s.rows row)))))
 
     pub filling_hole : r.received < 2 ^ 61 → IsSomeAnd head.total (IsWithin hole)
     filling_hole small = merely_within head.total hole some (λ s.
-        let t = tables s.contents s.h in
-        let facts = facts_of_runs r.limits s.contents s.h s.begins s.short s.run in
+        let t = s.t in
+        let facts = s.facts in
         let (v, row, kept) = its_row t s.rows in
         filling_within r t facts s.rows c it v row kept q held_by_it head read now span hole (filling r t facts s.rows c it v row kept q held_by_it head read now span hole (is t v facts s.rows row)) small)
 
     pub filling_alone : admits_first c ((shelf_of r.entries).kept q) ≡ true
     filling_alone = merely_true (admits_first c ((shelf_of r.entries).kept q)) some (λ s.
-        let t = tables s.contents s.h in
-        let facts = facts_of_runs r.limits s.contents s.h s.begins s.short s.run in
+        let t = s.t in
+        let facts = s.facts in
         let (v, row, kept) = its_row t s.rows in
         filling_admits r t facts s.rows c it v row kept q held_by_it head read now span hole (filling r t facts s.rows c it v row kept q held_by_it head read now span hole (is t v facts s.rows row)) (current_admits r some now c idle q held))
 
@@ -288,7 +286,7 @@ module _ {B : Type 0} {g : Ghosts B} (r : Rows B g) (some : ∥ StandsForSome r 
   -- a part that it is shown is one
   pub part_there : r.received < 2 ^ 61 → (why : Why) (span : Option Span) → IsPlanOf r now c (plan.Bind why span) → IsSomeAnd (get nat_eq r.consumers c) (IsShownPart (plain head) span)
   part_there small why span is = some_that (get nat_eq r.consumers c) it (IsShownPart (plain head) span) there_is (λ ranged part told. merely_within head.total part some (λ s.
-      let t = tables s.contents s.h in
-      let facts = facts_of_runs r.limits s.contents s.h s.begins s.short s.run in
+      let t = s.t in
+      let facts = s.facts in
       let (v, row, kept) = its_row t s.rows in
       part_within r t facts s.rows c it v row kept q held_by_it head read now small why span (is t v facts s.rows row) ranged part told))

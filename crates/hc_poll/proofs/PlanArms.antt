@@ -69,14 +69,14 @@ use Rattle.hc_rows.specs.declared.consumer.Consumer.{Consumer}
 use Rattle.hc_rows.specs.declared.rows.Rows.{Rows}
 use Rattle.hc_rows.specs.Arms.{queues, IsQueued}
 use Rattle.hc_rows.specs.Facts.{Facts}
-use Rattle.hc_rows.specs.Good.{StandsUntil}
+use Rattle.hc_rows.specs.Good.{StandsBy}
 use Rattle.hc_rows.specs.Kept.{IsKept, KeepsConsumer}
 use Rattle.hc_rows.specs.Lines.{is_passed}
 use Rattle.hc_rows.specs.Plans.{plan_view, looks_at_stored, is_idle_at, IsIdle, IsNext, IsWaiting, IsKeptPassed, HasCurrent, IsPlanOf, asked_by, shows_part, AnswersShowing, AnswersOpening, AnswersAsking, AnswersPoll}
 use Rattle.hc_rows.specs.Reads.{AnswersMisread}
 use Rattle.hc_rows.specs.Reads as reads
 use Rattle.hc_rows.specs.Stored.{IsEntry}
-use Rattle.hc_rows.specs.Stands.{Answered, Answers, AnswersMove, RowsStand, StandsForSome}
+use Rattle.hc_rows.specs.Stands.{Answered, Answers, AnswersMove, RowsStand, Stands}
 use Rattle.hc_poll.proofs.Accepted.{poll_lives}
 use Rattle.hc_poll.proofs.CandidateTies.{head_at_is}
 use Rattle.hc_rows.proofs.CurrentTies.{now_kept, total_told}
@@ -86,7 +86,6 @@ use Rattle.hc_poll.proofs.PastArm.{queues_as}
 use Rattle.hc_poll.proofs.PlanTies.{plans_are, unlooked}
 use Rattle.hc_rows.proofs.Maps.{known_of, some_that, merely_true, merely_number}
 use Rattle.hc_rows.proofs.SealArm.{stands_stayed}
-use Rattle.hc_rows.proofs.Standing.{facts_of_runs}
 use Rattle.hc_rows.proofs.Ties.{kept_row}
 use Rattle.hc_rows.proofs.TurnTies.{turn_with_is}
 use Rattle.hc_poll.proofs.WaitArms.{plans_move}
@@ -364,7 +363,7 @@ binds_shows t v q p why head (Some span) k here total fields range =
 
 -- WHAT THE ARMS ASK FOR
 
-module _ {B : Type 0} {g : Ghosts B} (r : Rows B g) (some : ∥ StandsForSome r ∥₁) (now c : ℕ) (idle : IsSomeAnd (get nat_eq r.consumers c) IsIdle) where
+module _ {B : Type 0} {g : Ghosts B} (r : Rows B g) (some : ∥ Stands r ∥₁) (now c : ℕ) (idle : IsSomeAnd (get nat_eq r.consumers c) IsIdle) where
   abbrev pub its_row : Option Consumer
   its_row = get nat_eq r.consumers c
 
@@ -373,8 +372,8 @@ module _ {B : Type 0} {g : Ghosts B} (r : Rows B g) (some : ∥ StandsForSome r 
 
   pub waits_there : queues found.0 ≡ true → IsWaiting r.keys c found.0
   waits_there on = merely_true (is_in c (line_of r.keys found.0.request.key)) some (λ s.
-      let t = tables s.contents s.h in
-      let facts = facts_of_runs r.limits s.contents s.h s.begins s.short s.run in
+      let t = s.t in
+      let facts = s.facts in
       let (v, row, kept) = kept_row t found.0 (t.consumer c) (subst (λ o. KeepsConsumer t o (t.consumer c)) found.1 (s.rows.consumers c)) in
       idle_waits r t facts s.rows c found.0 v row kept found.2 on)
 
@@ -383,15 +382,15 @@ module _ {B : Type 0} {g : Ghosts B} (r : Rows B g) (some : ∥ StandsForSome r 
 
   pub passed_there : IsSomeAnd its_row (IsKeptPassed r.keys c)
   passed_there = some_that its_row found.0 (IsKeptPassed r.keys c) found.1 (λ through. waits_there (merely_true (queues found.0) some (λ s.
-      let t = tables s.contents s.h in
-      let facts = facts_of_runs r.limits s.contents s.h s.begins s.short s.run in
+      let t = s.t in
+      let facts = s.facts in
       let (v, row, kept) = kept_row t found.0 (t.consumer c) (subst (λ o. KeepsConsumer t o (t.consumer c)) found.1 (s.rows.consumers c)) in
       passed_queues r t facts s.rows c found.0 v row kept found.2 through)))
 
-  next_some : (n : Need) → route_of n ≡ route.Turn → IsPlanOf r now c (plan.Fetch n) → StandsForSome r → IsNext r.keys c found.0
+  next_some : (n : Need) → route_of n ≡ route.Turn → IsPlanOf r now c (plan.Fetch n) → Stands r → IsNext r.keys c found.0
   next_some n turns is s =
-      let t = tables s.contents s.h in
-      let facts = facts_of_runs r.limits s.contents s.h s.begins s.short s.run in
+      let t = s.t in
+      let facts = s.facts in
       let (v, row, kept) = kept_row t found.0 (t.consumer c) (subst (λ o. KeepsConsumer t o (t.consumer c)) found.1 (s.rows.consumers c)) in
       next_by r t facts s.rows c found.0 v row kept found.2 now n turns (is t v facts s.rows row)
 
@@ -402,10 +401,10 @@ module _ {B : Type 0} {g : Ghosts B} (r : Rows B g) (some : ∥ StandsForSome r 
         merely_number (turn_with c (line_of r.keys found.0.request.key)) c some (λ s. (next_some n turns is s).1),
       )
 
-  busy_queues : (d : ℕ) (how : Option ℕ) → IsPlanOf r now c (plan.Busy d how) → StandsForSome r → queues found.0 ≡ true
+  busy_queues : (d : ℕ) (how : Option ℕ) → IsPlanOf r now c (plan.Busy d how) → Stands r → queues found.0 ≡ true
   busy_queues d how is s =
-      let t = tables s.contents s.h in
-      let facts = facts_of_runs r.limits s.contents s.h s.begins s.short s.run in
+      let t = s.t in
+      let facts = s.facts in
       let (v, row, kept) = kept_row t found.0 (t.consumer c) (subst (λ o. KeepsConsumer t o (t.consumer c)) found.1 (s.rows.consumers c)) in
       busy_by r t facts s.rows c found.0 v row kept found.2 now d how (is t v facts s.rows row)
 
@@ -416,7 +415,7 @@ module _ {B : Type 0} {g : Ghosts B} (r : Rows B g) (some : ∥ StandsForSome r 
   -- what is current is kept
   pub current_kept : (q : ℕ) → IsSomeAnd its_row (HasCurrent r.keys q) → is_kept (shelf_of r.entries) q ≡ true
   current_kept q held = merely_true (is_kept (shelf_of r.entries) q) some (λ s.
-      let t = tables s.contents s.h in
+      let t = s.t in
       let (v, row, kept) = kept_row t found.0 (t.consumer c) (subst (λ o. KeepsConsumer t o (t.consumer c)) found.1 (s.rows.consumers c)) in
       let at = now_kept r t s.rows v.request.key q (current_as r t found.0 v q s.rows kept (known_of its_row found.0 (HasCurrent r.keys q) found.1 held)) in
       ap (λ (o : Option Kept). is_some o) at.kept)
@@ -424,7 +423,7 @@ module _ {B : Type 0} {g : Ghosts B} (r : Rows B g) (some : ∥ StandsForSome r 
   -- and admits who reads nothing
   pub current_admits : (q : ℕ) → IsSomeAnd its_row (HasCurrent r.keys q) → admits c ((shelf_of r.entries).kept q) ≡ true
   current_admits q held = merely_true (admits c ((shelf_of r.entries).kept q)) some (λ s.
-      let t = tables s.contents s.h in
+      let t = s.t in
       let (v, row, kept) = kept_row t found.0 (t.consumer c) (subst (λ o. KeepsConsumer t o (t.consumer c)) found.1 (s.rows.consumers c)) in
       let at = now_kept r t s.rows v.request.key q (current_as r t found.0 v q s.rows kept (known_of its_row found.0 (HasCurrent r.keys q) found.1 held)) in
       let unbound : has itself c at.e.bound ≡ false = at.is.bound c ∙ (ap (is_bound q) row ∙ idle_unbound q v.place (sym (ap is_idle_at kept.place) ∙ found.2)) in
@@ -590,11 +589,11 @@ module _ {B : Type 0} {g : Ghosts B} (r : Rows B g) (a : Entries B g) (stays : S
   pub read_stands : (t : Tables) → RowsStand r t → RowsStand read t
   read_stands t stands = stands_stayed r read t refl refl refl refl refl refl stays stands
 
-  pub read_until : (now : ℕ) → ∥ StandsUntil r now ∥₁ → ∥ StandsUntil read now ∥₁
+  pub read_until : (now : ℕ) → ∥ StandsBy r now ∥₁ → ∥ StandsBy read now ∥₁
   read_until now some = ∥∥₁_map some (λ u.
-      let s = u.0 in (record { contents = s.contents; h = s.h; begins = s.begins; short = s.short; modest = s.modest; run = s.run; rows = read_stands (tables s.contents s.h) s.rows }, u.1))
+      let s = u.0 in (record { t = s.t; facts = s.facts; modest = s.modest; rows = read_stands s.t s.rows }, u.1))
 
-  pub read_some : (now : ℕ) → ∥ StandsUntil r now ∥₁ → ∥ StandsForSome read ∥₁
+  pub read_some : (now : ℕ) → ∥ StandsBy r now ∥₁ → ∥ Stands read ∥₁
   read_some now some = ∥∥₁_map (read_until now some) (λ u. u.0)
 
   pub read_answers : (shelf_of r.entries).faults ≤ (shelf_of a).faults → (u : Rows B g) (before out : List Act) (now c : ℕ) → AnswersPoll read u before out now c → AnswersPoll r u before out now c
@@ -613,7 +612,7 @@ module _ {B : Type 0} {g : Ghosts B} (r : Rows B g) (a : Entries B g) (stays : S
       answers want (shelf_of r.entries).faults t v failed facts (read_stands t stands) row (reads.planned (sym (ap is_idle_at kept.place) ∙ resting) now_is)
 
 -- who asks the origin with the turn has a need for that, also by the plan of the tables
-pub planned_route : {B : Type 0} {g : Ghosts B} (r : Rows B g) (some : ∥ StandsForSome r ∥₁) (now c : ℕ) → IsSomeAnd (get nat_eq r.consumers c) IsIdle → (n : Need) → IsPlanOf r now c (plan.Fetch n) → route_of n ≡ route.Turn
+pub planned_route : {B : Type 0} {g : Ghosts B} (r : Rows B g) (some : ∥ Stands r ∥₁) (now c : ℕ) → IsSomeAnd (get nat_eq r.consumers c) IsIdle → (n : Need) → IsPlanOf r now c (plan.Fetch n) → route_of n ≡ route.Turn
 planned_route r some now c idle n is = turn_is (route_of n) on
   where
     is_turn : Route → Bool
@@ -628,13 +627,13 @@ planned_route r some now c idle n is = turn_is (route_of n) on
 
     on : is_turn (route_of n) ≡ true
     on = merely_true (is_turn (route_of n)) some (λ s.
-        let t = tables s.contents s.h in
-        let facts = facts_of_runs r.limits s.contents s.h s.begins s.short s.run in
+        let t = s.t in
+        let facts = s.facts in
         let (k, at, resting) = there (get nat_eq r.consumers c) IsIdle idle in
         let (v, row, kept) = kept_row t k (t.consumer c) (subst (λ o. KeepsConsumer t o (t.consumer c)) at (s.rows.consumers c)) in
         ap is_turn (fetch_route (planning.plan_view t now c v) n (is t v facts s.rows row)))
 
-pub planned_past : {B : Type 0} {g : Ghosts B} (r : Rows B g) (some : ∥ StandsForSome r ∥₁) (now c : ℕ) → IsSomeAnd (get nat_eq r.consumers c) IsIdle → (n : Need) → IsPlanOf r now c (plan.Direct n) → route_of n ≡ route.Direct
+pub planned_past : {B : Type 0} {g : Ghosts B} (r : Rows B g) (some : ∥ Stands r ∥₁) (now c : ℕ) → IsSomeAnd (get nat_eq r.consumers c) IsIdle → (n : Need) → IsPlanOf r now c (plan.Direct n) → route_of n ≡ route.Direct
 planned_past r some now c idle n is = past_is (route_of n) on
   where
     is_past : Route → Bool
@@ -649,8 +648,8 @@ planned_past r some now c idle n is = past_is (route_of n) on
 
     on : is_past (route_of n) ≡ true
     on = merely_true (is_past (route_of n)) some (λ s.
-        let t = tables s.contents s.h in
-        let facts = facts_of_runs r.limits s.contents s.h s.begins s.short s.run in
+        let t = s.t in
+        let facts = s.facts in
         let (k, at, resting) = there (get nat_eq r.consumers c) IsIdle idle in
         let (v, row, kept) = kept_row t k (t.consumer c) (subst (λ o. KeepsConsumer t o (t.consumer c)) at (s.rows.consumers c)) in
         ap is_past (past_route (planning.plan_view t now c v) n (is t v facts s.rows row)))

@@ -8,27 +8,25 @@ use Rattle.hc_fields.specs.FieldList.{IsModest, size_of}
 use Rattle.hc_model.specs.declared.place.Place.{Place}
 use Rattle.hc_model.specs.Denials.{is_live_place}
 use Rattle.hc_model.specs.Rows as rows
-use Rattle.hc_model.specs.Tables.{tables}
-use Rattle.hc_model.proofs.ModestRuns.{requests_are_modest}
 use Rattle.hc_rows.specs.declared.consumer.Consumer.{Consumer}
 use Rattle.hc_rows.specs.declared.rows.Rows.{Rows}
 use Rattle.hc_rows.specs.Kept.{IsKept, KeepsConsumer}
 use Rattle.hc_rows.specs.Plans.{IsModestRequest}
-use Rattle.hc_rows.specs.Stands.{StandsForSome}
+use Rattle.hc_rows.specs.Stands.{Stands}
 use Rattle.hc_rows.proofs.Maps.{merely_true, merely_below}
 use Rattle.hc_rows.proofs.Ties.{kept_row}
 
-module _ {B : Type 0} {g : Ghosts B} (r : Rows B g) (some : ∥ StandsForSome r ∥₁) (c : ℕ) (k : Consumer) (there : get nat_eq r.consumers c ≡ Some k) where
-  its_row : (s : StandsForSome r) → (v : rows.Consumer) × ((tables s.contents s.h).consumer c ≡ Some v) × IsKept (tables s.contents s.h) k v
+module _ {B : Type 0} {g : Ghosts B} (r : Rows B g) (some : ∥ Stands r ∥₁) (c : ℕ) (k : Consumer) (there : get nat_eq r.consumers c ≡ Some k) where
+  its_row : (s : Stands r) → (v : rows.Consumer) × (s.t.consumer c ≡ Some v) × IsKept s.t k v
   its_row s =
-      let t = tables s.contents s.h in
+      let t = s.t in
       kept_row t k (t.consumer c) (subst (λ o. KeepsConsumer t o (t.consumer c)) there (s.rows.consumers c))
 
   pub lives_there : is_live_place k.place ≡ true
   lives_there = merely_true (is_live_place k.place) some (λ s. (let (v, row, kept) = its_row s in ap (λ (p : Place). is_live_place p) kept.place ∙ kept.is_there))
 
-  modest_in : (s : StandsForSome r) → IsModest k.request.fields
-  modest_in s = (let (v, row, kept) = its_row s in subst (λ (z : Request). IsModest z.fields) (sym kept.request) (requests_are_modest s.contents s.h s.modest c v row))
+  modest_in : (s : Stands r) → IsModest k.request.fields
+  modest_in s = (let (v, row, kept) = its_row s in subst (λ (z : Request). IsModest z.fields) (sym kept.request) (s.modest c v row))
 
   pub modest_there : IsModestRequest k
   modest_there =

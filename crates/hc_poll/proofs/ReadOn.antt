@@ -21,20 +21,18 @@ use Rattle.hc_exch.specs.Exchanges.{table_of}
 use Rattle.hc_exch.specs.Known as known
 use Rattle.hc_model.specs.Moves.{acts_of}
 use Rattle.hc_model.specs.Rows.{Tables}
-use Rattle.hc_model.specs.Tables.{tables}
 use Rattle.hc_rows.specs.declared.consumer.Consumer.{Consumer}
 use Rattle.hc_rows.specs.declared.rows.Rows.{Rows}
 use Rattle.hc_rows.specs.Arms.{most, given, asks_or_waits, asked_in}
 use Rattle.hc_rows.specs.Changes.{ChangesAt, once_given}
 use Rattle.hc_rows.specs.Facts.{Facts}
 use Rattle.hc_rows.specs.Reads.{IsShownAt, IsHeard, IsRunAhead, IsInLength, ReadViewIs}
-use Rattle.hc_rows.specs.Stands.{RowsStand, StandsForSome, Answered}
+use Rattle.hc_rows.specs.Stands.{RowsStand, Stands, Answered}
 use Rattle.hc_poll.proofs.BoundGives as gives
 use Rattle.hc_poll.proofs.BoundReads as bound
 use Rattle.hc_poll.proofs.BoundReads.{FillsHole}
 use Rattle.hc_rows.proofs.Maps.{merely_true, merely_below}
 use Rattle.hc_poll.proofs.ShowStored.{IsBoundRow, bound_row_of, bound_kept}
-use Rattle.hc_rows.proofs.Standing.{facts_of_runs}
 use Rattle.hc_rows.proofs.Words.{none_some, some_is}
 
 -- WHEREVER THERE IS SOME PAST
@@ -69,13 +67,13 @@ module _ {B : Type 0} {g : Ghosts B} (r : Rows B g) (c q : ℕ) (k : Consumer) (
   pub row_of : (t : Tables) → Facts r.limits t → RowsStand r t → IsBoundRow t c q reads.0.2 k
   row_of t facts stands = bound_row_of r t facts.law c q reads.0.0 reads.0.1 reads.0.2 k stands at reads.0.3
 
-  module _ (some : ∥ StandsForSome r ∥₁) where
-    module _ (s : StandsForSome r) where
+  module _ (some : ∥ Stands r ∥₁) where
+    module _ (s : Stands r) where
       abbrev t : Tables
-      t = tables s.contents s.h
+      t = s.t
 
       facts : Facts r.limits t
-      facts = facts_of_runs r.limits s.contents s.h s.begins s.short s.run
+      facts = s.facts
 
       rd : IsBoundRow t c q reads.0.2 k
       rd = row_of t facts s.rows

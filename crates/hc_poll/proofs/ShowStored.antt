@@ -52,14 +52,13 @@ use Rattle.hc_rows.specs.Facts.{Facts}
 use Rattle.hc_rows.specs.Kept.{IsKept, answer_at, KeepsConsumer, KeepsExchange, KeepsRunning, held_for}
 use Rattle.hc_rows.specs.Leaving.{IsUserAt}
 use Rattle.hc_rows.specs.Reads.{IsUnshownBy, is_headless_open, waits_for_first, may_be_part, is_part, why_shown}
-use Rattle.hc_rows.specs.Stands.{RowsStand, StandsForSome, Answered}
+use Rattle.hc_rows.specs.Stands.{RowsStand, Stands, Answered}
 use Rattle.hc_rows.specs.Stored.{IsEntry, TellsLength, told, untold, KeepsEntry, is_first}
 use Rattle.hc_rows.proofs.Answering.{does_answered}
 use Rattle.hc_rows.proofs.Counting.{stands_counted}
 use Rattle.hc_rows.proofs.QueueArm.{becomes_by}
 use Rattle.hc_poll.proofs.ReadLemmas.{first_is, second_is}
 use Rattle.hc_rows.proofs.ReaderSteps.{held_same, exchange_reading, stands_reading}
-use Rattle.hc_rows.proofs.Standing.{facts_of_runs}
 use Rattle.hc_rows.proofs.Ties.{kept_row}
 use Rattle.hc_rows.proofs.Unbinding.{user_kept}
 use Rattle.hc_poll.proofs.WaitArms.{head_waits}
@@ -288,12 +287,12 @@ module _ (t : Tables) {limits : _} (facts : Facts limits t) (c q : ℕ) (how : B
         by_end (Some m) to is_x = none_some m (sym (none_of e.head.total k.hi none) ∙ to)
 
 -- in some run
-module _ {B : Type 0} {g : Ghosts B} (r : Rows B g) (c q : ℕ) (how : BoundBy) (k : Consumer) (there : get nat_eq r.consumers c ≡ Some k) (at : IsUnshownBy q how k) (head : Head) (stored : head_at (shelf_of r.entries) q ≡ Some head) (small : r.received < 2 ^ 61) (s : StandsForSome r) where
+module _ {B : Type 0} {g : Ghosts B} (r : Rows B g) (c q : ℕ) (how : BoundBy) (k : Consumer) (there : get nat_eq r.consumers c ≡ Some k) (at : IsUnshownBy q how k) (head : Head) (stored : head_at (shelf_of r.entries) q ≡ Some head) (small : r.received < 2 ^ 61) (s : Stands r) where
   abbrev t : Tables
-  t = tables s.contents s.h
+  t = s.t
 
   facts : Facts r.limits t
-  facts = facts_of_runs r.limits s.contents s.h s.begins s.short s.run
+  facts = s.facts
 
   rd : IsBoundRow t c q how k
   rd = bound_row_of r t facts.law c q at.0.0 at.0.1 how k s.rows there at.0.2

@@ -5,7 +5,7 @@ ghost use Rattle.hc_record.specs.Plain.{plain};
 ghost use Rattle.hc_entries.specs.Entries.{shelf_of};
 ghost use Rattle.hc_entries.specs.Shelf.{cells_at, head_at, is_kept};
 ghost use Rattle.hc_rows.specs.Candidates.{hole_in, IsAnsweredBy, AllowedIs, CandidateIs};
-ghost use Rattle.hc_rows.specs.Good.{StandsUntil};
+ghost use Rattle.hc_rows.specs.Good.{StandsBy};
 ghost use Rattle.hc_rows.specs.Plans.{HasCurrent};
 
 use hc_event::{Request, Why};
@@ -27,7 +27,7 @@ pub(crate) fn candidate<B: Backend>(
     r: u64,
     head: &StoredHead,
 ) -> Candidate
-    requires stands { ∥ StandsUntil rows.now now ∥₁ }
+    requires stands { ∥ StandsBy rows.now now ∥₁ }
     requires early { now < 2 ^ 62 }
     requires small { rows.now.received < 2 ^ 61 }
     requires current { IsSomeAnd (get nat_eq rows.now.consumers c) (HasCurrent rows.now.keys r) }

@@ -7,9 +7,9 @@ ghost use Rattle.hc_rules.specs.Plans.{plan_of};
 ghost use Rattle.hc_entries.specs.Entries.{shelf_of};
 ghost use Rattle.hc_entries.specs.Shelf.{head_at};
 ghost use Rattle.hc_exch.specs.Exchanges.{next_of};
-ghost use Rattle.hc_rows.specs.Good.{StandsUntil};
+ghost use Rattle.hc_rows.specs.Good.{StandsBy};
 ghost use Rattle.hc_rows.specs.Plans.{PlanViewIs, IsLookedAt, looks_at_stored, IsIdle, IsModestRequest, HasCurrent, IsPlanOf, AnswersPoll};
-ghost use Rattle.hc_rows.specs.Stands.{StandsForSome};
+ghost use Rattle.hc_rows.specs.Stands.{Stands};
 
 use crate::candidate::candidate;
 use crate::hole::open_first_hole;
@@ -32,7 +32,7 @@ pub(crate) fn carry_out<B: Backend>(
     c: u64,
     out: &mut Acts,
 ) -> Result<(), NoMemory>
-    requires stands { ∥ StandsUntil rows.old now ∥₁ }
+    requires stands { ∥ StandsBy rows.old now ∥₁ }
     requires early { now < 2 ^ 62 }
     requires idle { IsSomeAnd (get nat_eq rows.old.consumers c) IsIdle }
     requires modest { IsSomeAnd (get nat_eq rows.old.consumers c) IsModestRequest }
@@ -41,7 +41,6 @@ pub(crate) fn carry_out<B: Backend>(
     requires room { 3 ≤ spare out.old }
     ensures answers { OnOk result
         (AnswersPoll rows.old rows.new (listed out.old) (listed out.new) now c) }
-    ensures next { OnOk result (next_of rows.new.exchanges ≤ next_of rows.old.exchanges + 1) }
     ensures received { OnOk result (rows.new.received ≡ rows.old.received) }
     ensures limits { OnOk result (rows.new.limits ≡ rows.old.limits) }
     ensures faults { (shelf_of rows.old.entries).faults ≤ (shelf_of rows.new.entries).faults }
@@ -99,7 +98,7 @@ fn carry_out_with<B: Backend>(
     view: &PlanView,
     out: &mut Acts,
 ) -> Result<(), NoMemory>
-    requires stands { ∥ StandsUntil rows.old now ∥₁ }
+    requires stands { ∥ StandsBy rows.old now ∥₁ }
     requires early { now < 2 ^ 62 }
     requires idle { IsSomeAnd (get nat_eq rows.old.consumers c) IsIdle }
     requires modest { IsSomeAnd (get nat_eq rows.old.consumers c) IsModestRequest }
@@ -111,7 +110,6 @@ fn carry_out_with<B: Backend>(
     requires room { 3 ≤ spare out.old }
     ensures answers { OnOk result
         (AnswersPoll rows.old rows.new (listed out.old) (listed out.new) now c) }
-    ensures next { OnOk result (next_of rows.new.exchanges ≤ next_of rows.old.exchanges + 1) }
     ensures received { OnOk result (rows.new.received ≡ rows.old.received) }
     ensures limits { OnOk result (rows.new.limits ≡ rows.old.limits) }
     ensures faults { (shelf_of rows.old.entries).faults ≤ (shelf_of rows.new.entries).faults }
@@ -133,7 +131,7 @@ fn carry_out_on<B: Backend>(
     view: &PlanView,
     out: &mut Acts,
 ) -> Result<(), NoMemory>
-    requires stands { ∥ StandsUntil rows.old now ∥₁ }
+    requires stands { ∥ StandsBy rows.old now ∥₁ }
     requires early { now < 2 ^ 62 }
     requires idle { IsSomeAnd (get nat_eq rows.old.consumers c) IsIdle }
     requires modest { IsSomeAnd (get nat_eq rows.old.consumers c) IsModestRequest }
@@ -146,7 +144,6 @@ fn carry_out_on<B: Backend>(
     requires room { 3 ≤ spare out.old }
     ensures answers { OnOk result
         (AnswersPoll rows.old rows.new (listed out.old) (listed out.new) now c) }
-    ensures next { OnOk result (next_of rows.new.exchanges ≤ next_of rows.old.exchanges + 1) }
     ensures received { OnOk result (rows.new.received ≡ rows.old.received) }
     ensures limits { OnOk result (rows.new.limits ≡ rows.old.limits) }
     ensures faults { (shelf_of rows.old.entries).faults ≤ (shelf_of rows.new.entries).faults }
@@ -167,7 +164,7 @@ fn carry_out_plan<B: Backend>(
     plan: Plan,
     out: &mut Acts,
 ) -> Result<(), NoMemory>
-    requires stands { ∥ StandsForSome rows.old ∥₁ }
+    requires stands { ∥ Stands rows.old ∥₁ }
     requires idle { IsSomeAnd (get nat_eq rows.old.consumers c) IsIdle }
     requires modest { IsSomeAnd (get nat_eq rows.old.consumers c) IsModestRequest }
     requires current { IsSomeAnd (get nat_eq rows.old.consumers c) (HasCurrent rows.old.keys r) }
@@ -178,7 +175,6 @@ fn carry_out_plan<B: Backend>(
     requires room { 3 ≤ spare out.old }
     ensures answers { OnOk result
         (AnswersPoll rows.old rows.new (listed out.old) (listed out.new) now c) }
-    ensures next { OnOk result (next_of rows.new.exchanges ≤ next_of rows.old.exchanges + 1) }
     ensures received { OnOk result (rows.new.received ≡ rows.old.received) }
     ensures limits { OnOk result (rows.new.limits ≡ rows.old.limits) }
     ensures faults { (shelf_of rows.old.entries).faults ≤ (shelf_of rows.new.entries).faults }
@@ -214,7 +210,7 @@ fn carry_out_bare<B: Backend>(
     view: &PlanView,
     out: &mut Acts,
 ) -> Result<(), NoMemory>
-    requires stands { ∥ StandsForSome rows.old ∥₁ }
+    requires stands { ∥ Stands rows.old ∥₁ }
     requires idle { IsSomeAnd (get nat_eq rows.old.consumers c) IsIdle }
     requires plan { IsPlanOf rows.old now c (plan_of view.now) }
     requires bare { view.now.current ≡ None }
@@ -223,7 +219,6 @@ fn carry_out_bare<B: Backend>(
     requires room { 3 ≤ spare out.old }
     ensures answers { OnOk result
         (AnswersPoll rows.old rows.new (listed out.old) (listed out.new) now c) }
-    ensures next { OnOk result (next_of rows.new.exchanges ≤ next_of rows.old.exchanges + 1) }
     ensures received { OnOk result (rows.new.received ≡ rows.old.received) }
     ensures limits { OnOk result (rows.new.limits ≡ rows.old.limits) }
     ensures faults { (shelf_of rows.old.entries).faults ≤ (shelf_of rows.new.entries).faults }

@@ -12,7 +12,7 @@ ghost use Rattle.hc_exch.specs.Exchanges.{next_of};
 ghost use Rattle.hc_model.specs.Moves.{hole_request};
 ghost use Rattle.hc_rows.specs.Plans.{IsIdle, IsModestRequest, IsWaiting, HasCurrent, AnswersFirst, AnswersFilling};
 ghost use Rattle.hc_rows.specs.Reads.{AnswersHole, IsInLength, IsShownAt};
-ghost use Rattle.hc_rows.specs.Stands.{StandsForSome};
+ghost use Rattle.hc_rows.specs.Stands.{Stands};
 
 use crate::plan::open;
 use hc_event::{Acts, Need, Request};
@@ -49,7 +49,6 @@ pub(crate) fn open_first_hole<B: Backend>(
     ensures answers { OnOk result (IsSomeAnd (get nat_eq rows.old.consumers c)
         (AnswersFirst rows.old rows.new (listed out.old) (listed out.new)
         now c (plain head.now) span hole)) }
-    ensures next { OnOk result (next_of rows.new.exchanges ≤ next_of rows.old.exchanges + 1) }
     ensures received { OnOk result (rows.new.received ≡ rows.old.received) }
     ensures limits { OnOk result (rows.new.limits ≡ rows.old.limits) }
     ensures faults { (shelf_of rows.new.entries).faults ≡ (shelf_of rows.old.entries).faults }
@@ -80,7 +79,7 @@ pub(crate) fn open_later_hole<B: Backend>(
     hole: Span,
     out: &mut Acts,
 ) -> Result<(), NoMemory>
-    requires stands { ∥ StandsForSome rows.old ∥₁ }
+    requires stands { ∥ Stands rows.old ∥₁ }
     requires shown { IsSomeAnd (get nat_eq rows.old.consumers c) (IsShownAt r) }
     requires modest { IsSomeAnd (get nat_eq rows.old.consumers c) IsModestRequest }
     requires hole { IsSomeAnd (head_at (shelf_of rows.old.entries) r) (IsInLength hole) }
@@ -88,7 +87,6 @@ pub(crate) fn open_later_hole<B: Backend>(
     requires room { 2 ≤ spare out.old }
     ensures answers { OnOk result (IsSomeAnd (get nat_eq rows.old.consumers c)
         (AnswersHole rows.old rows.new (listed out.old) (listed out.new) now c r hole)) }
-    ensures next { OnOk result (next_of rows.new.exchanges ≤ next_of rows.old.exchanges + 1) }
     ensures received { OnOk result (rows.new.received ≡ rows.old.received) }
     ensures limits { OnOk result (rows.new.limits ≡ rows.old.limits) }
     ensures faults { (shelf_of rows.old.entries).faults ≤ (shelf_of rows.new.entries).faults }
@@ -118,7 +116,6 @@ fn fill_later_hole<B: Backend>(
     ensures answers { OnOk result (IsSomeAnd (get nat_eq rows.old.consumers c)
         (AnswersFilling rows.old rows.new (listed out.old) (listed out.new)
         now c (plain head.now) hole)) }
-    ensures next { OnOk result (next_of rows.new.exchanges ≤ next_of rows.old.exchanges + 1) }
     ensures received { OnOk result (rows.new.received ≡ rows.old.received) }
     ensures limits { OnOk result (rows.new.limits ≡ rows.old.limits) }
     ensures faults { (shelf_of rows.new.entries).faults ≡ (shelf_of rows.old.entries).faults }

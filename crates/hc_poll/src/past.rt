@@ -6,7 +6,7 @@ ghost use Rattle.hc_event.specs.declared.event.Event.TheVariants.{Poll};
 ghost use Rattle.hc_entries.specs.Entries.{shelf_of};
 ghost use Rattle.hc_exch.specs.Exchanges.{next_of, table_of};
 ghost use Rattle.hc_rows.specs.Arms.{IsShown, IsUnshown, past_view};
-ghost use Rattle.hc_rows.specs.Stands.{Answers, StandsForSome};
+ghost use Rattle.hc_rows.specs.Stands.{Answers, Stands};
 
 use crate::poll::wait;
 use crate::read::{ask, give, most};
@@ -48,14 +48,13 @@ pub(crate) fn read_past<B: Backend>(
     want: u32,
     out: &mut Acts,
 ) -> Result<(), NoMemory>
-    requires stands { ∥ StandsForSome rows.old ∥₁ }
+    requires stands { ∥ Stands rows.old ∥₁ }
     requires shown { IsSomeAnd (get nat_eq rows.old.consumers c) (IsShown x) }
     requires wants { 0 < want }
     requires small { rows.old.received < 2 ^ 61 }
     requires room { 3 ≤ spare out.old }
     ensures answers { OnOk result
         (Answers rows.old rows.new (listed out.old) (listed out.new) now (Poll c want)) }
-    ensures next { OnOk result (next_of rows.new.exchanges ≡ next_of rows.old.exchanges) }
     ensures received { OnOk result (rows.new.received ≡ rows.old.received) }
     ensures limits { OnOk result (rows.new.limits ≡ rows.old.limits) }
     ensures faults { (shelf_of rows.old.entries).faults ≤ (shelf_of rows.new.entries).faults }

@@ -10,7 +10,7 @@ ghost use Rattle.hc_entries.specs.Entries.{shelf_of};
 ghost use Rattle.hc_exch.specs.Exchanges.{next_of};
 ghost use Rattle.hc_model.specs.Moves.{Opens, Waits};
 ghost use Rattle.hc_rows.specs.Changes.{ChangesAt, lined_up};
-ghost use Rattle.hc_rows.specs.Stands.{AnswersMove, StandsForSome};
+ghost use Rattle.hc_rows.specs.Stands.{AnswersMove, Stands};
 ghost use Rattle.hc_rows.specs.Plans.{IsIdle, IsKeptPassed, IsNext, IsOfItsKey, IsWaiting, HasCurrent, StandsInLine, StandsPassed, BeginsTurn, IsModestRequest, AnswersOpening, AnswersValidating, AnswersAsking};
 ghost use Rattle.hc_rows.specs.Arms.{IsQueued};
 ghost use Rattle.hc_rules.specs.declared.need.Route.TheVariants as route;
@@ -113,7 +113,6 @@ pub(crate) fn open_past<B: Backend>(
     requires room { 2 ≤ spare out.old }
     ensures answers { OnOk result (IsSomeAnd (get nat_eq rows.old.consumers c)
         (AnswersOpening rows.old rows.new (listed out.old) (listed out.new) now c need)) }
-    ensures next { OnOk result (next_of rows.new.exchanges ≤ next_of rows.old.exchanges + 1) }
     ensures received { OnOk result (rows.new.received ≡ rows.old.received) }
     ensures limits { OnOk result (rows.new.limits ≡ rows.old.limits) }
     ensures faults { (shelf_of rows.new.entries).faults ≡ (shelf_of rows.old.entries).faults }
@@ -137,7 +136,7 @@ fn fetch<B: Backend>(
     request: Request,
     out: &mut Acts,
 ) -> Result<(), NoMemory>
-    requires stands { ∥ StandsForSome rows.old ∥₁ }
+    requires stands { ∥ Stands rows.old ∥₁ }
     requires idle { IsSomeAnd (get nat_eq rows.old.consumers c) IsIdle }
     requires kept { IsSomeAnd (get nat_eq rows.old.consumers c) (IsKeptPassed rows.old.keys c) }
     requires turn { IsSomeAnd (get nat_eq rows.old.consumers c) (IsNext rows.old.keys c) }
@@ -149,7 +148,6 @@ fn fetch<B: Backend>(
     ensures answers { OnOk result ((want : ℕ) → AnswersMove rows.old rows.new
         (listed out.old) (listed out.new) now c want
         (Opens (next_of rows.old.exchanges) need request)) }
-    ensures next { OnOk result (next_of rows.new.exchanges ≤ next_of rows.old.exchanges + 1) }
     ensures received { OnOk result (rows.new.received ≡ rows.old.received) }
     ensures limits { OnOk result (rows.new.limits ≡ rows.old.limits) }
     ensures faults { (shelf_of rows.new.entries).faults ≡ (shelf_of rows.old.entries).faults }
@@ -168,7 +166,7 @@ pub(crate) fn fetch_bare<B: Backend>(
     need: Need,
     out: &mut Acts,
 ) -> Result<(), NoMemory>
-    requires stands { ∥ StandsForSome rows.old ∥₁ }
+    requires stands { ∥ Stands rows.old ∥₁ }
     requires idle { IsSomeAnd (get nat_eq rows.old.consumers c) IsIdle }
     requires kept { IsSomeAnd (get nat_eq rows.old.consumers c) (IsKeptPassed rows.old.keys c) }
     requires turn { IsSomeAnd (get nat_eq rows.old.consumers c) (IsNext rows.old.keys c) }
@@ -177,7 +175,6 @@ pub(crate) fn fetch_bare<B: Backend>(
     requires room { 2 ≤ spare out.old }
     ensures answers { OnOk result (IsSomeAnd (get nat_eq rows.old.consumers c)
         (AnswersOpening rows.old rows.new (listed out.old) (listed out.new) now c need)) }
-    ensures next { OnOk result (next_of rows.new.exchanges ≤ next_of rows.old.exchanges + 1) }
     ensures received { OnOk result (rows.new.received ≡ rows.old.received) }
     ensures limits { OnOk result (rows.new.limits ≡ rows.old.limits) }
     ensures faults { (shelf_of rows.new.entries).faults ≡ (shelf_of rows.old.entries).faults }
@@ -198,7 +195,7 @@ pub(crate) fn fetch_with<B: Backend>(
     head: &StoredHead,
     out: &mut Acts,
 ) -> Result<(), NoMemory>
-    requires stands { ∥ StandsForSome rows.old ∥₁ }
+    requires stands { ∥ Stands rows.old ∥₁ }
     requires idle { IsSomeAnd (get nat_eq rows.old.consumers c) IsIdle }
     requires modest { IsSomeAnd (get nat_eq rows.old.consumers c) IsModestRequest }
     requires kept { IsSomeAnd (get nat_eq rows.old.consumers c) (IsKeptPassed rows.old.keys c) }
@@ -209,7 +206,6 @@ pub(crate) fn fetch_with<B: Backend>(
     ensures answers { OnOk result (IsSomeAnd (get nat_eq rows.old.consumers c)
         (AnswersAsking rows.old rows.new (listed out.old) (listed out.new)
         now c need (plain head.now))) }
-    ensures next { OnOk result (next_of rows.new.exchanges ≤ next_of rows.old.exchanges + 1) }
     ensures received { OnOk result (rows.new.received ≡ rows.old.received) }
     ensures limits { OnOk result (rows.new.limits ≡ rows.old.limits) }
     ensures faults { (shelf_of rows.new.entries).faults ≡ (shelf_of rows.old.entries).faults }
@@ -229,7 +225,7 @@ fn fetch_as_it_is<B: Backend>(
     need: Need,
     out: &mut Acts,
 ) -> Result<(), NoMemory>
-    requires stands { ∥ StandsForSome rows.old ∥₁ }
+    requires stands { ∥ Stands rows.old ∥₁ }
     requires idle { IsSomeAnd (get nat_eq rows.old.consumers c) IsIdle }
     requires kept { IsSomeAnd (get nat_eq rows.old.consumers c) (IsKeptPassed rows.old.keys c) }
     requires turn { IsSomeAnd (get nat_eq rows.old.consumers c) (IsNext rows.old.keys c) }
@@ -239,7 +235,6 @@ fn fetch_as_it_is<B: Backend>(
     requires room { 2 ≤ spare out.old }
     ensures answers { OnOk result (IsSomeAnd (get nat_eq rows.old.consumers c)
         (AnswersOpening rows.old rows.new (listed out.old) (listed out.new) now c need)) }
-    ensures next { OnOk result (next_of rows.new.exchanges ≤ next_of rows.old.exchanges + 1) }
     ensures received { OnOk result (rows.new.received ≡ rows.old.received) }
     ensures limits { OnOk result (rows.new.limits ≡ rows.old.limits) }
     ensures faults { (shelf_of rows.new.entries).faults ≡ (shelf_of rows.old.entries).faults }
@@ -258,7 +253,7 @@ fn revalidate<B: Backend>(
     head: &StoredHead,
     out: &mut Acts,
 ) -> Result<(), NoMemory>
-    requires stands { ∥ StandsForSome rows.old ∥₁ }
+    requires stands { ∥ Stands rows.old ∥₁ }
     requires idle { IsSomeAnd (get nat_eq rows.old.consumers c) IsIdle }
     requires modest { IsSomeAnd (get nat_eq rows.old.consumers c) IsModestRequest }
     requires kept { IsSomeAnd (get nat_eq rows.old.consumers c) (IsKeptPassed rows.old.keys c) }
@@ -268,7 +263,6 @@ fn revalidate<B: Backend>(
     ensures answers { OnOk result (IsSomeAnd (get nat_eq rows.old.consumers c)
         (AnswersValidating rows.old rows.new (listed out.old) (listed out.new)
         now c (plain head.now))) }
-    ensures next { OnOk result (next_of rows.new.exchanges ≤ next_of rows.old.exchanges + 1) }
     ensures received { OnOk result (rows.new.received ≡ rows.old.received) }
     ensures limits { OnOk result (rows.new.limits ≡ rows.old.limits) }
     ensures faults { (shelf_of rows.new.entries).faults ≡ (shelf_of rows.old.entries).faults }
@@ -281,7 +275,7 @@ fn revalidate<B: Backend>(
 
 /// The consumer whose turn it is bypasses what is stored: that is let go.
 fn bypass<B: Backend>(rows: &mut Rows<B>, now: u64, c: u64, out: &mut Acts) -> Result<(), NoMemory>
-    requires stands { ∥ StandsForSome rows.old ∥₁ }
+    requires stands { ∥ Stands rows.old ∥₁ }
     requires idle { IsSomeAnd (get nat_eq rows.old.consumers c) IsIdle }
     requires kept { IsSomeAnd (get nat_eq rows.old.consumers c) (IsKeptPassed rows.old.keys c) }
     requires turn { IsSomeAnd (get nat_eq rows.old.consumers c) (IsNext rows.old.keys c) }
@@ -290,7 +284,6 @@ fn bypass<B: Backend>(rows: &mut Rows<B>, now: u64, c: u64, out: &mut Acts) -> R
     ensures answers { OnOk result (IsSomeAnd (get nat_eq rows.old.consumers c)
         (AnswersOpening rows.old rows.new (listed out.old) (listed out.new) now c
         needs.Bypass)) }
-    ensures next { OnOk result (next_of rows.new.exchanges ≤ next_of rows.old.exchanges + 1) }
     ensures received { OnOk result (rows.new.received ≡ rows.old.received) }
     ensures limits { OnOk result (rows.new.limits ≡ rows.old.limits) }
     ensures faults { (shelf_of rows.new.entries).faults ≡ (shelf_of rows.old.entries).faults }
@@ -313,7 +306,7 @@ fn begin_turn<B: Backend>(
     need: Need,
     request: &Request,
 ) -> Result<u64, NoMemory>
-    requires stands { ∥ StandsForSome rows.old ∥₁ }
+    requires stands { ∥ Stands rows.old ∥₁ }
     requires idle { IsSomeAnd (get nat_eq rows.old.consumers c) IsIdle }
     requires kept { IsSomeAnd (get nat_eq rows.old.consumers c) (IsKeptPassed rows.old.keys c) }
     requires turn { IsSomeAnd (get nat_eq rows.old.consumers c) (IsNext rows.old.keys c) }
@@ -322,7 +315,6 @@ fn begin_turn<B: Backend>(
     requires few { next_of rows.old.exchanges < 2 ^ 62 }
     ensures number { IfOk result (λ x. x ≡ next_of rows.old.exchanges) }
     ensures begun { IfOk result (BeginsTurn rows.old rows.new now c need request.now) }
-    ensures next { OnOk result (next_of rows.new.exchanges ≡ next_of rows.old.exchanges + 1) }
     ensures entries { OnOk result (rows.new.entries ≡ rows.old.entries) }
     ensures received { OnOk result (rows.new.received ≡ rows.old.received) }
     ensures limits { OnOk result (rows.new.limits ≡ rows.old.limits) }

@@ -6,7 +6,7 @@ ghost use Rattle.hc_event.specs.declared.event.Event.TheVariants.{Poll};
 ghost use Rattle.hc_event.specs.declared.act.Act.TheVariants as act;
 ghost use Rattle.hc_entries.specs.Entries.{shelf_of};
 ghost use Rattle.hc_exch.specs.Exchanges.{next_of};
-ghost use Rattle.hc_rows.specs.Good.{StandsUntil};
+ghost use Rattle.hc_rows.specs.Good.{StandsBy};
 ghost use Rattle.hc_rows.specs.Stands.{Answers};
 ghost use Rattle.hc_rows.specs.Arms.{HasTurn};
 
@@ -30,7 +30,7 @@ pub fn poll<B: Backend>(
     want: u32,
     out: &mut Acts,
 ) -> Result<(), NoMemory>
-    requires stands { ∥ StandsUntil rows.old now ∥₁ }
+    requires stands { ∥ StandsBy rows.old now ∥₁ }
     requires early { now < 2 ^ 62 }
     requires live { is_some (get nat_eq rows.old.consumers c) ≡ true }
     requires wants { 0 < want }
@@ -39,7 +39,6 @@ pub fn poll<B: Backend>(
     requires room { 3 ≤ spare out.old }
     ensures answers { OnOk result
         (Answers rows.old rows.new (listed out.old) (listed out.new) now (Poll c want)) }
-    ensures next { OnOk result (next_of rows.new.exchanges ≤ next_of rows.old.exchanges + 1) }
     ensures received { OnOk result (rows.new.received ≡ rows.old.received) }
     ensures limits { OnOk result (rows.new.limits ≡ rows.old.limits) }
     ensures faults { (shelf_of rows.old.entries).faults ≤ (shelf_of rows.new.entries).faults }

@@ -14,7 +14,7 @@ ghost use Rattle.hc_store.specs.Causes.{HasCause, HasNoLimit};
 ghost use Rattle.hc_rows.specs.Changes.{ChangesAt, once_given};
 ghost use Rattle.hc_rows.specs.Leaving.{if_running, writing_of};
 ghost use Rattle.hc_rows.specs.Plans.{IsModestRequest};
-ghost use Rattle.hc_rows.specs.Stands.{Answers, KeepsRest, StandsForSome};
+ghost use Rattle.hc_rows.specs.Stands.{Answers, KeepsRest, Stands};
 ghost use Rattle.hc_rows.specs.Arms.{most, given, asks_or_waits, asked_in};
 ghost use Rattle.hc_rows.specs.Reads.{goes_alone, headless_own, held_own, IsHeard, IsRunAhead, IsShownAt, ReadViewIs, ReadsStore, run_ahead};
 
@@ -41,7 +41,7 @@ pub(crate) fn read_bound<B: Backend>(
     want: u32,
     out: &mut Acts,
 ) -> Result<(), NoMemory>
-    requires stands { ∥ StandsForSome rows.old ∥₁ }
+    requires stands { ∥ Stands rows.old ∥₁ }
     requires shown { IsSomeAnd (get nat_eq rows.old.consumers c) (IsShownAt r) }
     requires modest { IsSomeAnd (get nat_eq rows.old.consumers c) IsModestRequest }
     requires wants { 0 < want }
@@ -50,7 +50,6 @@ pub(crate) fn read_bound<B: Backend>(
     requires room { 3 ≤ spare out.old }
     ensures answers { OnOk result
         (Answers rows.old rows.new (listed out.old) (listed out.new) now (Poll c want)) }
-    ensures next { OnOk result (next_of rows.new.exchanges ≤ next_of rows.old.exchanges + 1) }
     ensures received { OnOk result (rows.new.received ≡ rows.old.received) }
     ensures limits { OnOk result (rows.new.limits ≡ rows.old.limits) }
     ensures faults { (shelf_of rows.old.entries).faults ≤ (shelf_of rows.new.entries).faults }
@@ -79,7 +78,7 @@ fn read_on<B: Backend>(
     run: Option<Run>,
     out: &mut Acts,
 ) -> Result<(), NoMemory>
-    requires stands { ∥ StandsForSome rows.old ∥₁ }
+    requires stands { ∥ Stands rows.old ∥₁ }
     requires shown { IsSomeAnd (get nat_eq rows.old.consumers c) (IsShownAt r) }
     requires modest { IsSomeAnd (get nat_eq rows.old.consumers c) IsModestRequest }
     requires heard { IsSomeAnd (get nat_eq rows.old.consumers c)
@@ -92,7 +91,6 @@ fn read_on<B: Backend>(
     requires room { 3 ≤ spare out.old }
     ensures answers { OnOk result
         (Answers rows.old rows.new (listed out.old) (listed out.new) now (Poll c want)) }
-    ensures next { OnOk result (next_of rows.new.exchanges ≤ next_of rows.old.exchanges + 1) }
     ensures received { OnOk result (rows.new.received ≡ rows.old.received) }
     ensures limits { OnOk result (rows.new.limits ≡ rows.old.limits) }
     ensures faults { (shelf_of rows.old.entries).faults ≤ (shelf_of rows.new.entries).faults }

@@ -8,7 +8,7 @@ ghost use Rattle.hc_entries.specs.Entries.{shelf_of};
 ghost use Rattle.hc_entries.specs.Shelf.{head_at};
 ghost use Rattle.hc_exch.specs.Exchanges.{next_of, table_of};
 ghost use Rattle.hc_rows.specs.Reads.{IsUnshownBy, is_headless_open, waits_for_first, is_part, why_shown, AnswersPolls};
-ghost use Rattle.hc_rows.specs.Stands.{Answers, StandsForSome};
+ghost use Rattle.hc_rows.specs.Stands.{Answers, Stands};
 
 use crate::poll::wait;
 use crate::show::{put_shown, span_to};
@@ -32,13 +32,12 @@ pub(crate) fn await_stored<B: Backend>(
     by: BoundBy,
     out: &mut Acts,
 ) -> Result<(), NoMemory>
-    requires stands { ∥ StandsForSome rows.old ∥₁ }
+    requires stands { ∥ Stands rows.old ∥₁ }
     requires unshown { IsSomeAnd (get nat_eq rows.old.consumers c) (IsUnshownBy r by) }
     requires small { rows.old.received < 2 ^ 61 }
     requires room { 2 ≤ spare out.old }
     ensures answers { OnOk result ((want : ℕ) → Answers rows.old rows.new
         (listed out.old) (listed out.new) now (Poll c want)) }
-    ensures next { OnOk result (next_of rows.new.exchanges ≡ next_of rows.old.exchanges) }
     ensures received { OnOk result (rows.new.received ≡ rows.old.received) }
     ensures limits { OnOk result (rows.new.limits ≡ rows.old.limits) }
     ensures faults { (shelf_of rows.old.entries).faults ≤ (shelf_of rows.new.entries).faults }
@@ -65,7 +64,7 @@ fn show_stored<B: Backend>(
     mut head: StoredHead,
     out: &mut Acts,
 ) -> Result<(), NoMemory>
-    requires stands { ∥ StandsForSome rows.old ∥₁ }
+    requires stands { ∥ Stands rows.old ∥₁ }
     requires unshown { IsSomeAnd (get nat_eq rows.old.consumers c) (IsUnshownBy r by) }
     requires headed { waits_for_first (table_of rows.old.exchanges) by ≡ false }
     requires head { head_at (shelf_of rows.old.entries) r ≡ Some (plain head) }

@@ -6,7 +6,7 @@ ghost use Rattle.hc_entries.specs.Entries.{shelf_of};
 ghost use Rattle.hc_entry.specs.Keys.{line_of};
 ghost use Rattle.hc_entry.specs.Lines.{is_in};
 ghost use Rattle.hc_rows.specs.Arms.{IsEntered, KeepsRows};
-ghost use Rattle.hc_rows.specs.Stands.{Answers, StandsForSome};
+ghost use Rattle.hc_rows.specs.Stands.{Answers, Stands};
 
 use hc_event::Request;
 use hc_rows::{Consumer, Rows};
@@ -21,7 +21,7 @@ pub fn start<B: Backend>(
     c: u64,
     request: &Request,
 ) -> Result<(), NoMemory>
-    requires stands { ∥ StandsForSome rows.old ∥₁ }
+    requires stands { ∥ Stands rows.old ∥₁ }
     requires rising { rows.old.last_start < c }
     ensures answers { OnOk result ((before : List Act)
         → Answers rows.old rows.new before before now (Start c request.now)) }

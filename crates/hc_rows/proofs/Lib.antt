@@ -31,6 +31,6 @@ pub mod TurnTies
 pub mod LiveCounts
 pub mod Maps
 pub mod Wanted
-pub mod Standing
+pub mod Kept
 pub mod Renewing
 pub mod Varied

@@ -18,13 +18,12 @@ use Rattle.hc_model.specs.Lines.{is_in_line}
 use Rattle.hc_model.specs.Reading.{is_bound}
 use Rattle.hc_model.specs.Rows as rows
 use Rattle.hc_model.specs.Rows.{Tables, Exchange, Representation}
-use Rattle.hc_model.specs.Tables.{tables}
 use Rattle.hc_rows.specs.declared.consumer.Consumer.{Consumer}
 use Rattle.hc_rows.specs.declared.rows.Rows.{Rows}
 use Rattle.hc_rows.specs.Changes.{BecomesAt}
 use Rattle.hc_rows.specs.Kept.{IsKept, KeepsExchange, held_for, held_of, held_alone, unread, unstored}
 use Rattle.hc_rows.specs.Lines.{has_turn, is_passed, is_away}
-use Rattle.hc_rows.specs.Stands.{RowsStand, StandsForSome, Answered}
+use Rattle.hc_rows.specs.Stands.{RowsStand, Stands, Answered}
 use Rattle.hc_rows.specs.Stored.{KeepsEntries, is_first}
 use Rattle.hc_rows.proofs.AsideSteps.{length_same, live_same}
 use Rattle.hc_rows.proofs.Asides.{unstored_moved}
@@ -51,15 +50,12 @@ stands_read r u t limits received last consumers exchanges same_keys read stands
   entries = entries_read t (shelf_of r.entries) (shelf_of u.entries) read stands.entries;
 }
 
-pub some_read : {B : Type 0} {g : Ghosts B} (r u : Rows B g) → u.limits ≡ r.limits → u.received ≡ r.received → u.last_start ≡ r.last_start → u.consumers ≡ r.consumers → u.exchanges ≡ r.exchanges → u.keys ≡ r.keys → shelf.Stays (shelf_of r.entries) (shelf_of u.entries) → StandsForSome r → StandsForSome u
+pub some_read : {B : Type 0} {g : Ghosts B} (r u : Rows B g) → u.limits ≡ r.limits → u.received ≡ r.received → u.last_start ≡ r.last_start → u.consumers ≡ r.consumers → u.exchanges ≡ r.exchanges → u.keys ≡ r.keys → shelf.Stays (shelf_of r.entries) (shelf_of u.entries) → Stands r → Stands u
 some_read r u limits received last consumers exchanges same_keys read s = record {
-  contents = s.contents;
-  h = s.h;
-  begins = rw limits s.begins;
-  short = s.short;
+  t = s.t;
+  facts = rw limits s.facts;
   modest = s.modest;
-  run = rw limits s.run;
-  rows = stands_read r u (tables s.contents s.h) limits received last consumers exchanges same_keys read s.rows;
+  rows = stands_read r u s.t limits received last consumers exchanges same_keys read s.rows;
 }
 
 -- who answers after a read of the store answers before it

@@ -7,11 +7,15 @@ use Rattle.hc_rules.specs.Refusals.{refusal_of}
 use Rattle.hc_exch.specs.Exchanges.{next_of}
 use Rattle.hc_model.specs.Tables.{tables, received_in}
 use Rattle.hc_rows.specs.declared.rows.Rows.{Rows}
-use Rattle.hc_rows.specs.Stands.{StandsForSome, gate_of}
+use Rattle.hc_rows.specs.Stands.{StandsForSome, Stands, gate_of}
 
 -- the rows stand for the tables of a run that is no later
 abbrev pub StandsUntil : {B : Type 0} {g : Ghosts B} → Rows B g → ℕ → Type 0
 StandsUntil r moment = (s : StandsForSome r) × ((tables s.contents s.h).moment ≤ moment)
+
+-- the rows stand for tables that are no later
+abbrev pub StandsBy : {B : Type 0} {g : Ghosts B} → Rows B g → ℕ → Type 0
+StandsBy r moment = (s : Stands r) × (s.t.moment ≤ moment)
 
 -- its rows stand for some run until its last moment, and each step opened one exchange at most
 abbrev pub IsGood : {B : Type 0} {g : Ghosts B} → Rows B g → ℕ → ℕ → Type 0

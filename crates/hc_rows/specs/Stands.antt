@@ -34,7 +34,7 @@ use Rattle.hc_model.specs.Denials.{live, denial}
 use Rattle.hc_model.specs.Answers.{accepted}
 use Rattle.hc_model.specs.Runs.{IsRun, may_be}
 use Rattle.hc_model.specs.Keys.{entry_of}
-use Rattle.hc_model.specs.Modest.{FieldsAreModest}
+use Rattle.hc_model.specs.Modest.{FieldsAreModest, RequestsAreModest}
 use Rattle.hc_model.specs.Numbers.{AreShort}
 use Rattle.hc_rows.specs.declared.rows.Rows.{Rows}
 use Rattle.hc_rows.specs.Changes.{StaysAll}
@@ -68,6 +68,13 @@ pub record StandsForSome {B : Type 0} {g : Ghosts B} (r : Rows B g) : Type 0 whe
   pub modest : FieldsAreModest h
   pub run : IsRun r.limits contents h
   pub rows : RowsStand r (tables contents h)
+
+-- the rows stand for tables that have what those of every run have
+pub record Stands {B : Type 0} {g : Ghosts B} (r : Rows B g) : Type 0 where
+  pub t : Tables
+  pub facts : Facts r.limits t
+  pub modest : RequestsAreModest t
+  pub rows : RowsStand r t
 
 -- WHAT THE REFUSALS LOOK AT
 

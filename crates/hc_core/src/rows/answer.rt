@@ -45,7 +45,6 @@ pub(crate) fn answer<B: Backend>(
         × (listed out.new ≡ listed out.old ++ act.Denied why ∷ [])) }
     ensures accepted { OnOk result (refusal_of (gate_of rows.old event.now) event.now ≡ None
         → Answers rows.old rows.new (listed out.old) (listed out.new) now event.now) }
-    ensures next { OnOk result (next_of rows.new.exchanges ≤ next_of rows.old.exchanges + 1) }
     ensures received { OnOk result (rows.new.received ≡ rows.old.received + received_in event.now) }
     ensures limits { OnOk result (rows.new.limits ≡ rows.old.limits) }
     ensures faults { OnOk result
@@ -80,7 +79,6 @@ fn accept<B: Backend>(
     requires room { MOST_ACTS ≤ spare out.old }
     ensures answers { OnOk result
         (Answers rows.old rows.new (listed out.old) (listed out.new) now event.now) }
-    ensures next { OnOk result (next_of rows.new.exchanges ≤ next_of rows.old.exchanges + 1) }
     ensures received { OnOk result (rows.new.received ≡ rows.old.received + received_in event.now) }
     ensures limits { OnOk result (rows.new.limits ≡ rows.old.limits) }
     ensures faults { OnOk result

@@ -4,12 +4,10 @@ use Rattle.std.specs.HashMap.{hash_map_len}
 use Rattle.hc_event.specs.Acts.{listed}
 use Rattle.hc_exch.specs.Exchanges.{table_of}
 use Rattle.hc_exch.specs.Known.{is_open}
-use Rattle.hc_model.specs.Tables.{tables}
 use Rattle.hc_rows.specs.Dooms.{IsUnheard}
 use Rattle.hc_answer.proofs.DoomArm.{dooms, keeps_line, if_some}
 use Rattle.hc_answer.proofs.DoomCloses.{runs, few_close}
 use Rattle.hc_rows.proofs.Maps.{merely_true, merely_below}
-use Rattle.hc_rows.proofs.Standing.{facts_of_runs}
 use Rattle.hc_answer.proofs.doom.doom.Goals as goal
 
 pub close_awaited-requires-clause-running : goal.close_awaited-requires-clause-running
@@ -18,7 +16,7 @@ close_awaited-requires-clause-running g c = λ x is.
     let key = c.args.key.now in
     let unheard = if_some c.args.refused (IsUnheard (table_of r.exchanges) key) c.requires.unheard in
     merely_true (is_open x (table_of r.exchanges)) c.requires.stands
-    (λ s. runs r (tables s.contents s.h) (facts_of_runs r.limits s.contents s.h s.begins s.short s.run).law key s.rows c.args.refused unheard x is)
+    (λ s. runs r s.t s.facts.law key s.rows c.args.refused unheard x is)
 
 pub close_awaited-requires-clause-few : goal.close_awaited-requires-clause-few
 close_awaited-requires-clause-few g c = λ xs up each.
@@ -27,7 +25,7 @@ close_awaited-requires-clause-few g c = λ xs up each.
     let unheard = if_some c.args.refused (IsUnheard (table_of r.exchanges) key) c.requires.unheard in
     let few : length xs < hash_map_len r.consumers + 1 =
     merely_below (length xs) (hash_map_len r.consumers + 1) c.requires.stands
-    (λ s. (let le = few_close r (tables s.contents s.h) (facts_of_runs r.limits s.contents s.h s.begins s.short s.run).law key s.rows c.args.refused unheard xs up each in omega (arith, le))) in
+    (λ s. (let le = few_close r s.t s.facts.law key s.rows c.args.refused unheard xs up each in omega (arith, le))) in
     let room = c.requires.room in
     omega (arith, few, room)
 
@@ -38,9 +36,9 @@ wake-requires g c =
     record {
       waits = ∥∥₁_map c.requires.stands
           (λ s. record {
-            t = tables s.contents s.h;
-            law = (facts_of_runs r.limits s.contents s.h s.begins s.short s.run).law;
-            keeps = keeps_line r c.close_awaited.new.rows (tables s.contents s.h) c.args.key.now s.rows step.consumers step.rest;
+            t = s.t;
+            law = s.facts.law;
+            keeps = keeps_line r c.close_awaited.new.rows s.t c.args.key.now s.rows step.consumers step.rest;
           });
     }
 

@@ -123,9 +123,6 @@ returns-in-Err-Fault-clause-answers g c = λ t w facts stands goes row about is.
     let answered = c.lose_asked.ensures.answers (shelf_of r.entries).faults t w (facts_on r mid kept.rest t facts) (stands_unrenewed r mid t kept.rest kept.same stands) goes row s.named s.cur is (c.select.ensures.cause.fault (c.in-Err-Fault.is ∙ ap Err c.in-Err-Fault.field-0-is)) in
     subst (λ (n : Limits). Answered n (shelf_of r.entries).faults u t (listed c.args.out.now) (listed c.lose_asked.new.out) now (event.Head x response)) kept.rest.limits answered
 
-pub returns-in-Err-Fault-clause-next : goal.returns-in-Err-Fault-clause-next
-returns-in-Err-Fault-clause-next g c = c.lose_asked.ensures.next ∙ ap (λ z. next_of z) c.in-Err-Fault.ensures.err.rest.exchanges
-
 pub returns-in-Err-Fault-clause-received : goal.returns-in-Err-Fault-clause-received
 returns-in-Err-Fault-clause-received g c = c.lose_asked.ensures.received ∙ c.in-Err-Fault.ensures.err.rest.received
 

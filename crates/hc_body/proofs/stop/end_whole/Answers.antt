@@ -6,13 +6,11 @@ use Rattle.hc_entries.specs.Kept.{itself}
 use Rattle.hc_entries.specs.Views.{bound_in}
 use Rattle.hc_rising.specs.Rising.{has}
 use Rattle.hc_model.specs.Exchanges.{family, promised}
-use Rattle.hc_model.specs.Tables.{tables}
 use Rattle.hc_laws.proofs.LettingGo.{may_let_go}
 use Rattle.hc_rows.specs.Changes.{ChangesAmong, with_end}
 use Rattle.hc_rows.specs.Stopped.{SealedWhole}
 use Rattle.hc_rows.proofs.Maps.{merely_true, merely_below}
 use Rattle.hc_body.proofs.OpenViews.{viewed}
-use Rattle.hc_rows.proofs.Standing.{facts_of_runs}
 use Rattle.hc_body.proofs.WholeAnswers.{past_answered, whole_answered, brought_row, unbrought, brought_kept, delivered_short, nobody_alone, own_family}
 use Rattle.hc_rows.proofs.Words.{same_row}
 use Rattle.hc_body.proofs.stop.end_whole.Goals as goal
@@ -23,18 +21,18 @@ seal_whole-requires-clause-there g c =
     let x = c.args.x in
     let q = c.in-Some.r in
     merely_true (is_some ((shelf_of r.entries).kept q)) c.requires.stands (λ s.
-    let facts = facts_of_runs r.limits s.contents s.h s.begins s.short s.run in
-    let seen = viewed r (tables s.contents s.h) x c.view.result c.unwrap-view.result s.rows c.view.ensures c.unwrap-view.ensures in
-    brought_kept r (tables s.contents s.h) facts s.rows c.requires.small x seen.w seen.row seen.is_open q c.brought.result c.brought.ensures c.in-Some.is)
+    let facts = s.facts in
+    let seen = viewed r s.t x c.view.result c.unwrap-view.result s.rows c.view.ensures c.unwrap-view.ensures in
+    brought_kept r s.t facts s.rows c.requires.small x seen.w seen.row seen.is_open q c.brought.result c.brought.ensures c.in-Some.is)
 
 pub seal_whole-requires-clause-short : goal.seal_whole-requires-clause-short
 seal_whole-requires-clause-short g c =
     let r = c.args.rows.now in
     let x = c.args.x in
     merely_below c.unwrap-view.result.delivered (2 ^ 62) c.requires.stands (λ s.
-    let facts = facts_of_runs r.limits s.contents s.h s.begins s.short s.run in
-    let seen = viewed r (tables s.contents s.h) x c.view.result c.unwrap-view.result s.rows c.view.ensures c.unwrap-view.ensures in
-    delivered_short r (tables s.contents s.h) facts s.rows c.requires.small x seen.w seen.row seen.is_open c.unwrap-view.result.delivered seen.delivered)
+    let facts = s.facts in
+    let seen = viewed r s.t x c.view.result c.unwrap-view.result s.rows c.view.ensures c.unwrap-view.ensures in
+    delivered_short r s.t facts s.rows c.requires.small x seen.w seen.row seen.is_open c.unwrap-view.result.delivered seen.delivered)
 
 pub returns-in-None-clause-answers : goal.returns-in-None-clause-answers
 returns-in-None-clause-answers g c = λ t facts stands accepts tells.

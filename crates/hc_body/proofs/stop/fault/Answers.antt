@@ -3,11 +3,9 @@ use Rattle.std.specs.Prelude.{is_some}
 use Rattle.std.specs.HashMap.{get}
 use Rattle.hc_event.specs.Acts.{listed}
 use Rattle.hc_entries.specs.Entries.{shelf_of}
-use Rattle.hc_model.specs.Tables.{tables}
 use Rattle.hc_rows.specs.Stops.{is_shown}
 use Rattle.hc_rows.proofs.Maps.{merely_true}
 use Rattle.hc_body.proofs.OpenViews.{viewed, waiter_lives, is_broken, waited}
-use Rattle.hc_rows.proofs.Standing.{facts_of_runs}
 use Rattle.hc_body.proofs.StopAnswers.{fault_answered, wait_answered}
 use Rattle.hc_rows.proofs.Words.{false_true}
 use Rattle.hc_body.proofs.stop.fault.Goals.{then-view, else-view}
@@ -22,8 +20,8 @@ break_wait-requires-clause-live g c =
       | else-view w ↦ w.if-view.false
     ] in
     merely_true (is_some (get nat_eq r.consumers view.c)) c.requires.stands (λ s.
-    waiter_lives r (tables s.contents s.h) s.rows (facts_of_runs r.limits s.contents s.h s.begins s.short s.run).law c.args.x view
-    (viewed r (tables s.contents s.h) c.args.x c.view.result view s.rows c.view.ensures c.unwrap-view.ensures) headless)
+    waiter_lives r s.t s.rows s.facts.law c.args.x view
+    (viewed r s.t c.args.x c.view.result view s.rows c.view.ensures c.unwrap-view.ensures) headless)
 
 pub returns-then-was_shown-clause-answers : goal.returns-then-was_shown-clause-answers
 returns-then-was_shown-clause-answers g c = λ t facts stands accepts.

@@ -4,14 +4,12 @@ use Rattle.std.specs.HashMap.{get}
 use Rattle.hc_event.specs.Acts.{listed}
 use Rattle.hc_entries.specs.Entries.{shelf_of}
 use Rattle.hc_exch.specs.Exchanges.{table_of}
-use Rattle.hc_model.specs.Tables.{tables}
 use Rattle.hc_rows.specs.Facts.{Facts}
 use Rattle.hc_rows.specs.Left.{HasLeft}
 use Rattle.hc_rows.proofs.CloseArm.{leaves_nothing}
 use Rattle.hc_rows.proofs.LeftRows.{left_is, left_runs, own_is}
 use Rattle.hc_rows.proofs.Maps.{merely_true}
 use Rattle.hc_leave.proofs.Shorts.{shorts_left}
-use Rattle.hc_rows.proofs.Standing.{facts_of_runs}
 use Rattle.hc_leave.proofs.close.leave.Goals as goal
 
 pub close_left-requires-clause-running : goal.close_left-requires-clause-running
@@ -20,8 +18,8 @@ close_left-requires-clause-running g c =
     let mid = c.remove_consumer-in-Some.new.rows in
     let x = c.in-Some.x in
     merely_true (is_some (table_of mid.exchanges x).running) c.requires.stands (λ s.
-    let law = (facts_of_runs r.limits s.contents s.h s.begins s.short s.run).law in
-    left_runs r mid (tables s.contents s.h) law c.args.c x c.left_by.result c.requires.live c.left_by.ensures c.in-Some.is s.rows (λ v row. c.remove_consumer-in-Some.ensures.stands (tables s.contents s.h) v law row s.rows))
+    let law = s.facts.law in
+    left_runs r mid s.t law c.args.c x c.left_by.result c.requires.live c.left_by.ensures c.in-Some.is s.rows (λ v row. c.remove_consumer-in-Some.ensures.stands s.t v law row s.rows))
 
 pub close_left-requires-clause-short : goal.close_left-requires-clause-short
 close_left-requires-clause-short g c =

@@ -1,11 +1,9 @@
 use Rattle.std.proofs.Common.{nat_eq, refl}
 use Rattle.std.specs.HashMap.{get}
 use Rattle.hc_entries.specs.Entries.{shelf_of}
-use Rattle.hc_model.specs.Tables.{tables}
 use Rattle.hc_rows.specs.Leaving.{LeavesPlace}
 use Rattle.hc_rows.proofs.Dropping.{merely_user, user_of}
 use Rattle.hc_rows.proofs.Maps.{lent, some_that}
-use Rattle.hc_rows.proofs.Standing.{facts_of_runs}
 use Rattle.hc_leave.proofs.gone.leave_place.Goals as goal
 
 pub unbind_from-requires : goal.unbind_from-requires
@@ -14,7 +12,7 @@ unbind_from-requires g c =
     let k = c.unwrap-consumer.result.now in
     let at = lent c.get.result (get nat_eq r.consumers c.args.c) c.unwrap-consumer.result c.get.ensures.value c.unwrap-consumer.ensures in
     merely_user k.place c.args.c (shelf_of r.entries) c.requires.stands
-    (λ s. user_of r (tables s.contents s.h) (facts_of_runs r.limits s.contents s.h s.begins s.short s.run).law c.args.c k at s.rows)
+    (λ s. user_of r s.t s.facts.law c.args.c k at s.rows)
 
 pub returns-clause-place : goal.returns-clause-place
 returns-clause-place g c =

@@ -4,7 +4,6 @@ use Rattle.hc_event.specs.Acts.{listed}
 use Rattle.hc_entries.specs.Entries.{shelf_of}
 use Rattle.hc_exch.specs.Exchanges.{table_of}
 use Rattle.hc_model.specs.Effects.{finished}
-use Rattle.hc_model.specs.Tables.{tables}
 use Rattle.hc_laws.proofs.LettingGo.{may_let_go}
 use Rattle.hc_rows.specs.Reads.{bound, planned}
 use Rattle.hc_rows.proofs.LeftRows.{left_is, left_runs}
@@ -12,7 +11,6 @@ use Rattle.hc_rows.proofs.Maps.{merely_true}
 use Rattle.hc_leave.proofs.MayGo.{may_with}
 use Rattle.hc_leave.proofs.MisreadArm.{idle_leaves, fault_answered}
 use Rattle.hc_leave.proofs.MisreadBound.{misread_alone, misread_closing}
-use Rattle.hc_rows.proofs.Standing.{facts_of_runs}
 use Rattle.hc_rows.proofs.Words.{none_some}
 use Rattle.hc_leave.proofs.misread.misread.Goals as goal
 
@@ -22,8 +20,8 @@ close-requires-clause-running g c =
     let mid = c.remove_consumer.new.rows in
     let x = c.in-Some.x in
     let runs = merely_true (is_some (table_of mid.exchanges x).running) c.requires.stands (λ s.
-    let law = (facts_of_runs r.limits s.contents s.h s.begins s.short s.run).law in
-    left_runs r mid (tables s.contents s.h) law c.args.c x c.left_by-left.result c.requires.live c.left_by-left.ensures c.in-Some.is s.rows (λ v row. c.remove_consumer.ensures.stands (tables s.contents s.h) v law row s.rows)) in
+    let law = s.facts.law in
+    left_runs r mid s.t law c.args.c x c.left_by-left.result c.requires.live c.left_by-left.ensures c.in-Some.is s.rows (λ v row. c.remove_consumer.ensures.stands s.t v law row s.rows)) in
     subst (λ z. is_some (table_of z x).running ≡ true) (sym c.let_go.ensures.exchanges) runs
 
 pub returns-in_default-clause-answers : goal.returns-in_default-clause-answers

@@ -3,11 +3,9 @@ use Rattle.std.specs.Prelude.{is_some}
 use Rattle.std.specs.HashMap.{get}
 use Rattle.hc_entries.specs.declared.view.EntryView.{EntryView}
 use Rattle.hc_entries.specs.Entries.{shelf_of}
-use Rattle.hc_model.specs.Tables.{tables}
 use Rattle.hc_rows.specs.Kept.{IsKept, KeepsConsumer}
 use Rattle.hc_rows.proofs.CurrentTies.{viewed_entry, entry_row, entry_at}
 use Rattle.hc_rows.proofs.Maps.{merely_below, lent}
-use Rattle.hc_rows.proofs.Standing.{facts_of_runs}
 use Rattle.hc_rows.proofs.Words.{false_true, none_of, none_there}
 use Rattle.hc_leave.proofs.WriterTies.{exclusive_written, exclusive_some, exclusive_off, alone_row, alone_below}
 use Rattle.hc_leave.proofs.writers.exclusive.Goals as goal
@@ -24,8 +22,8 @@ has_more-requires-clause-counts g c =
     let n = c.in_ok-c.c in
     let at = lent c.get.result (get nat_eq r.consumers n) c.in_ok-consumer.consumer c.get.ensures.value c.in_ok-consumer.was in
     merely_below _ _ c.requires.stands (λ s.
-    let t = tables s.contents s.h in
-    let facts = facts_of_runs r.limits s.contents s.h s.begins s.short s.run in
+    let t = s.t in
+    let facts = s.facts in
     let (p, here, is) = entry_row r t s.rows q e kept in
     alone_below r t facts s.rows q p here e is n (alone_row r t facts s.rows q p here e is n (ap (λ (z : EntryView). z.first) seen ∙ c.in_ok-c.was)) c.in_ok-consumer.consumer.now at c.requires.small)
 

@@ -4,7 +4,6 @@ use Rattle.std.specs.Prelude.{is_some, slice_get}
 use Rattle.std.specs.HashMap.{get}
 use Rattle.hc_record.specs.Head.{Head}
 use Rattle.hc_entries.specs.Entries.{shelf_of}
-use Rattle.hc_model.specs.Tables.{tables}
 use Rattle.hc_model.proofs.PollKeeps.{current_stays}
 use Rattle.hc_rows.specs.Candidates.{AllowedIs}
 use Rattle.hc_rows.specs.Kept.{KeepsConsumer}
@@ -13,7 +12,6 @@ use Rattle.hc_poll.proofs.CandidateTies.{seen_as, in_order, headed_entry, head_a
 use Rattle.hc_rows.proofs.CurrentTies.{viewed_entry, entry_row, stays_stored}
 use Rattle.hc_rows.proofs.Maps.{lent, known_of, some_that, merely_below, merely_ordered}
 use Rattle.hc_poll.proofs.PassesArm.{current_as}
-use Rattle.hc_rows.proofs.Standing.{facts_of_runs}
 use Rattle.hc_rows.proofs.Ties.{kept_row}
 use Rattle.hc_poll.proofs.candidate.candidate.Goals as goal
 
@@ -24,7 +22,7 @@ wanted_of-span-requires g c =
     let at = lent c.get.result (get nat_eq r.consumers c.args.c) c.unwrap-consumer.result c.get.ensures.value c.unwrap-consumer.ensures in
     merely_ordered k.class.range c.requires.stands (λ u.
     let s = u.0 in
-    let t = tables s.contents s.h in
+    let t = s.t in
     let (v, row, kept) = kept_row t k (t.consumer c.args.c) (subst (λ o. KeepsConsumer t o (t.consumer c.args.c)) at (s.rows.consumers c.args.c)) in
     in_order t k v kept)
 
@@ -36,8 +34,8 @@ allowed-requires-clause-answered g c =
     some_that row e _ kept (
     let below : e.head.answered < c.args.now + 1 = merely_below _ (c.args.now + 1) c.requires.stands (λ u.
     let s = u.0 in
-    let t = tables s.contents s.h in
-    let facts = facts_of_runs r.limits s.contents s.h s.begins s.short s.run in
+    let t = s.t in
+    let facts = s.facts in
     let (p, here, is) = entry_row r t s.rows c.args.r e kept in
     let came = (facts.heads.moments c.args.r p here).1 in
     let same = ap (λ (h : Head). h.answered) is.head in

@@ -5,11 +5,9 @@ use Rattle.hc_event.specs.Acts.{listed}
 use Rattle.hc_exch.specs.Exchanges.{table_of}
 use Rattle.hc_exch.specs.Known.{is_open}
 use Rattle.hc_rules.specs.Readings.{read_step}
-use Rattle.hc_model.specs.Tables.{tables}
 use Rattle.hc_rows.specs.Arms.{IsShown}
 use Rattle.hc_rows.proofs.Maps.{lent, known_of, some_that, merely_true, merely_below}
 use Rattle.hc_poll.proofs.ReadPast.{reading_of, offset_small, more_fits, waits_open, no_stored, no_hole, ends_move, fails_move, given_answered, asks_answered}
-use Rattle.hc_rows.proofs.Standing.{facts_of_runs}
 use Rattle.hc_poll.proofs.past.read_past.Goals as goal
 
 small : (g : _) (c : goal.After-unwrap-consumer g) → c.unwrap-consumer.result.now.lo + c.unwrap-consumer.result.now.given < 2 ^ 62 + 1
@@ -19,8 +17,8 @@ small g c =
     let at = lent c.get.result (get nat_eq r.consumers c.args.c) c.unwrap-consumer.result c.get.ensures.value c.unwrap-consumer.ensures in
     let shown = known_of (get nat_eq r.consumers c.args.c) k (IsShown c.args.x) at c.requires.shown in
     merely_below (k.lo + k.given) (2 ^ 62 + 1) c.requires.stands (λ s.
-    let t = tables s.contents s.h in
-    let facts = facts_of_runs r.limits s.contents s.h s.begins s.short s.run in
+    let t = s.t in
+    let facts = s.facts in
     offset_small r t facts c.args.want c.args.c c.args.x k s.rows (reading_of r t facts.law c.args.c c.args.x k s.rows at shown.0) shown.1 c.requires.wants c.requires.small)
 
 pub overflow_add-offset : goal.overflow_add-offset
@@ -33,8 +31,8 @@ most-requires g c =
     let at = lent c.get.result (get nat_eq r.consumers c.args.c) c.unwrap-consumer.result c.get.ensures.value c.unwrap-consumer.ensures in
     let shown = known_of (get nat_eq r.consumers c.args.c) k (IsShown c.args.x) at c.requires.shown in
     let below = merely_below (k.lo + k.given) (2 ^ 62 + 1) c.requires.stands (λ s.
-    let t = tables s.contents s.h in
-    let facts = facts_of_runs r.limits s.contents s.h s.begins s.short s.run in
+    let t = s.t in
+    let facts = s.facts in
     offset_small r t facts c.args.want c.args.c c.args.x k s.rows (reading_of r t facts.law c.args.c c.args.x k s.rows at shown.0) shown.1 c.requires.wants c.requires.small) in
     omega (arith, below)
 
@@ -46,8 +44,8 @@ give-requires-clause-fits g c =
     let at = lent c.get.result (get nat_eq r.consumers c.args.c) c.unwrap-consumer.result c.get.ensures.value c.unwrap-consumer.ensures in
     let shown = known_of (get nat_eq r.consumers c.args.c) k (IsShown c.args.x) at c.requires.shown in
     let below = merely_below (k.given + length bytes) (2 ^ 62 + 1) c.requires.stands (λ s.
-    let t = tables s.contents s.h in
-    let facts = facts_of_runs r.limits s.contents s.h s.begins s.short s.run in
+    let t = s.t in
+    let facts = s.facts in
     more_fits r t facts c.args.want c.args.c c.args.x k s.rows (reading_of r t facts.law c.args.c c.args.x k s.rows at shown.0) shown.1 c.requires.wants c.requires.small c.most.result bytes c.in_ok-bytes-in-Held.ensures.bytes) in
     let fits : k.given + length bytes ≤ 2 ^ 62 = omega (arith, below) in
     some_that (get nat_eq r.consumers c.args.c) k (λ j. j.given + length bytes ≤ 2 ^ 62) at fits
@@ -59,8 +57,8 @@ ask-requires-clause-running g c =
     let at = lent c.get.result (get nat_eq r.consumers c.args.c) c.unwrap-consumer.result c.get.ensures.value c.unwrap-consumer.ensures in
     let shown = known_of (get nat_eq r.consumers c.args.c) k (IsShown c.args.x) at c.requires.shown in
     merely_true (is_open c.args.x (table_of r.exchanges)) c.requires.stands (λ s.
-    let t = tables s.contents s.h in
-    let facts = facts_of_runs r.limits s.contents s.h s.begins s.short s.run in
+    let t = s.t in
+    let facts = s.facts in
     waits_open r t facts c.args.want c.args.c c.args.x k s.rows (reading_of r t facts.law c.args.c c.args.x k s.rows at shown.0) shown.1 c.requires.wants c.args.now c.in-Waits.field-0 (sym (ap read_step c.past_view.ensures) ∙ (sym c.read_step.ensures ∙ c.in-Waits.is)))
 
 pub unreachable-requires : goal.unreachable-requires
@@ -70,8 +68,8 @@ unreachable-requires g c =
     let at = lent c.get.result (get nat_eq r.consumers c.args.c) c.unwrap-consumer.result c.get.ensures.value c.unwrap-consumer.ensures in
     let shown = known_of (get nat_eq r.consumers c.args.c) k (IsShown c.args.x) at c.requires.shown in
     not_there c.requires.stands (λ s.
-    let t = tables s.contents s.h in
-    let facts = facts_of_runs r.limits s.contents s.h s.begins s.short s.run in
+    let t = s.t in
+    let facts = s.facts in
     let rd = reading_of r t facts.law c.args.c c.args.x k s.rows at shown.0 in
     elim c.in-Stored.is [
       | inl e ↦ no_stored r t facts c.args.want c.args.c c.args.x k s.rows rd shown.1 c.requires.wants e.0 (sym (ap read_step c.past_view.ensures) ∙ (sym c.read_step.ensures ∙ e.1))

@@ -1,10 +1,8 @@
 use Rattle.std.proofs.Common.{nat_eq, ap, ◌∙◌}
 use Rattle.std.specs.HashMap.{get}
 use Rattle.hc_exch.specs.Exchanges.{next_of}
-use Rattle.hc_model.specs.Tables.{tables}
 use Rattle.hc_rows.specs.Plans.{IsIdle, IsNext, IsOfItsKey}
 use Rattle.hc_rows.proofs.Maps.{known_of, merely_true, merely_number}
-use Rattle.hc_rows.proofs.Standing.{facts_of_runs}
 use Rattle.hc_poll.proofs.FetchArm.{holds_inside, holds_turn, stands_turned}
 use Rattle.hc_rows.proofs.Words.{there}
 use Rattle.hc_poll.proofs.plan.begin_turn.Goals as goal
@@ -15,7 +13,7 @@ hold-requires-clause-inside g c =
     let row = get nat_eq r.consumers c.args.c in
     let (k, at, next) = there row (IsNext r.keys c.args.c) c.requires.turn in
     merely_true _ c.requires.stands (λ s.
-    holds_inside r c.queue_again.new.rows (tables s.contents s.h) (facts_of_runs r.limits s.contents s.h s.begins s.short s.run).law c.args.c c.args.request.now k s.rows at
+    holds_inside r c.queue_again.new.rows s.t s.facts.law c.args.c c.args.request.now k s.rows at
     (known_of row k IsIdle at c.requires.idle) next (known_of row k (IsOfItsKey c.args.request.now) at c.requires.key) c.queue_again.ensures.stands)
 
 pub hold-requires-clause-turn : goal.hold-requires-clause-turn
@@ -24,7 +22,7 @@ hold-requires-clause-turn g c =
     let row = get nat_eq r.consumers c.args.c in
     let (k, at, next) = there row (IsNext r.keys c.args.c) c.requires.turn in
     merely_number _ c.args.c c.requires.stands (λ s.
-    holds_turn r c.queue_again.new.rows (tables s.contents s.h) (facts_of_runs r.limits s.contents s.h s.begins s.short s.run).law c.args.c c.args.request.now k s.rows at
+    holds_turn r c.queue_again.new.rows s.t s.facts.law c.args.c c.args.request.now k s.rows at
     (known_of row k IsIdle at c.requires.idle) next (known_of row k (IsOfItsKey c.args.request.now) at c.requires.key) c.queue_again.ensures.stands)
 
 pub returns-clause-begun : goal.returns-clause-begun

@@ -5,14 +5,12 @@ use Rattle.std.specs.HashMap.{get}
 use Rattle.hc_event.specs.Acts.{listed}
 use Rattle.hc_entries.specs.Entries.{shelf_of}
 use Rattle.hc_entries.specs.Shelf.{is_kept}
-use Rattle.hc_model.specs.Tables.{tables}
 use Rattle.hc_rows.specs.Reads.{IsUnshownBy}
 use Rattle.hc_rows.proofs.Maps.{merely_true}
 use Rattle.hc_poll.proofs.BoundMisread.{misread_answered}
 use Rattle.hc_poll.proofs.PlanArms.{fault_only, read_answers}
 use Rattle.hc_rows.proofs.ReaderSteps.{some_read}
 use Rattle.hc_poll.proofs.ShowStored.{bound_row_of, bound_kept, first_waits_answered}
-use Rattle.hc_rows.proofs.Standing.{facts_of_runs}
 use Rattle.hc_rows.proofs.Words.{there, on_ok_by, on_ok_two}
 use Rattle.hc_poll.proofs.shown.await_stored.Goals as goal
 
@@ -27,8 +25,8 @@ head-requires g c =
     let r = c.args.rows.now in
     let (k, at, unshown) = there (get nat_eq r.consumers c.args.c) (IsUnshownBy c.args.r c.args.by) c.requires.unshown in
     merely_true (is_kept (shelf_of r.entries) c.args.r) c.requires.stands (λ s.
-    let t = tables s.contents s.h in
-    let law = (facts_of_runs r.limits s.contents s.h s.begins s.short s.run).law in
+    let t = s.t in
+    let law = s.facts.law in
     bound_kept r t law c.args.c c.args.r c.args.by k s.rows (bound_row_of r t law c.args.c c.args.r unshown.0.0 unshown.0.1 c.args.by k s.rows at unshown.0.2))
 
 pub show_stored-requires-clause-stands : goal.show_stored-requires-clause-stands

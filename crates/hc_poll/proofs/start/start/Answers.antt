@@ -5,17 +5,15 @@ use Rattle.hc_event.specs.declared.event.Event.TheVariants as event
 use Rattle.hc_rules.specs.declared.request.RequestClass.{RequestClass}
 use Rattle.hc_entries.specs.Entries.{shelf_of}
 use Rattle.hc_model.specs.declared.place.Place.TheVariants as place
-use Rattle.hc_model.specs.Tables.{tables}
 use Rattle.hc_laws.proofs.StartEffects.{starts}
 use Rattle.hc_rows.specs.Arms.{IsEntered}
 use Rattle.hc_rows.proofs.Answering.{does_answered}
 use Rattle.hc_rows.proofs.Maps.{inserted, merely_false}
 use Rattle.hc_poll.proofs.StartArm.{stands_started, not_in_yet, class_queues}
-use Rattle.hc_rows.proofs.Standing.{facts_of_runs}
 use Rattle.hc_poll.proofs.start.start.Goals as goal
 
 pub enter_line-requires : goal.enter_line-requires
-enter_line-requires g c = merely_false _ c.requires.stands (λ s. not_in_yet c.args.rows.now (tables s.contents s.h) (facts_of_runs c.args.rows.now.limits s.contents s.h s.begins s.short s.run).law c.args.c _ s.rows c.requires.rising)
+enter_line-requires g c = merely_false _ c.requires.stands (λ s. not_in_yet c.args.rows.now s.t s.facts.law c.args.c _ s.rows c.requires.rising)
 
 pub returns-clause-answers : goal.returns-clause-answers
 returns-clause-answers g c = λ before t facts rows accepted.

@@ -4,6 +4,7 @@ use Rattle.hc_event.specs.Acts.{listed}
 use Rattle.hc_rules.specs.Refusals.{refusal_of}
 use Rattle.hc_rows.specs.Stands.{gate_of}
 use Rattle.hc_rows.proofs.Words.{is_there}
+use Rattle.hc_core.proofs.Opened.{next_after}
 use Rattle.hc_core.proofs.Stepping.{some_after, steps_on, keeps_promises}
 use Rattle.hc_core.proofs.cache.Cache.step.Goals as goal
 
@@ -17,8 +18,8 @@ pub invariant_of-self-2 : goal.invariant_of-self-2
 invariant_of-self-2 g c =
     let good = c.args.self.now.good c.if-self.false in
     let few = good.1 in
-    let next = c.in_ok-answer.ensures.next in
     let done = c.in_ok-answer.ensures in
+    let next = next_after c.args.self.now.rows c.answer.new.rows (listed c.args.out.now) (listed c.answer.new.out) c.args.now c.args.event.now done.denied done.accepted c.args.self.now.last_moment good.0 in
     record {
       good = λ _. (
         ∥∥₁_map good.0 (λ until. some_after c.args.self.now.rows c.answer.new.rows c.args.now c.args.event.now (listed c.args.out.now) (listed c.answer.new.out) done.denied done.accepted done.limits done.faults c.requires.modest c.args.self.now.last_moment c.requires.later until),

@@ -1,7 +1,6 @@
 -- The facts that hold of the tables of every run.
-use Rattle.std.proofs.Common.{◌≡◌, ℕ, ◌+◌, ◌<◌, ◌≤◌, true, Option, Some, None, sym, subst, arith}
+use Rattle.std.proofs.Common.{◌≡◌, ℕ, ◌≤◌, true, Option, Some, None, sym, subst}
 use Rattle.std.specs.Prelude.{is_some}
-use Rattle.std.specs.HashMap.{hash_map_len}
 use Rattle.hc_store.specs.declared.backend.Backend.{Ghosts}
 use Rattle.hc_event.specs.declared.event.Response.{Response}
 use Rattle.hc_sparse.specs.Cells.{Cells, Covers}
@@ -9,13 +8,13 @@ use Rattle.hc_rules.specs.declared.room.Limits.{Limits}
 use Rattle.hc_model.specs.Beginnings.{may_begin}
 use Rattle.hc_model.specs.Entries.{Contents, History}
 use Rattle.hc_model.specs.Exchanges.{front}
-use Rattle.hc_model.specs.Live.{most_live}
 use Rattle.hc_model.specs.Numbers.{AreShort}
 use Rattle.hc_model.specs.Rows.{Exchange}
 use Rattle.hc_model.specs.Runs.{IsRun}
 use Rattle.hc_model.specs.Tables.{tables}
 use Rattle.hc_laws.proofs.AloneRuns.{alone_in_runs}
 use Rattle.hc_model.proofs.Beside.{goes_on_at}
+use Rattle.hc_model.proofs.ModestRuns.{requests_are_modest}
 use Rattle.hc_laws.proofs.BringsRuns.{brings_in_runs}
 use Rattle.hc_laws.proofs.FrontRuns.{fronts_in_runs}
 use Rattle.hc_laws.proofs.FitsRuns.{fits}
@@ -39,8 +38,8 @@ use Rattle.hc_laws.proofs.UnendedRuns.{unended_in_runs}
 use Rattle.hc_laws.proofs.WhoseRuns.{whose_in_runs}
 use Rattle.hc_rows.specs.declared.rows.Rows.{Rows}
 use Rattle.hc_rows.specs.Facts.{Facts}
-use Rattle.hc_rows.specs.Stands.{StandsForSome}
-use Rattle.hc_rows.proofs.Maps.{merely_below}
+use Rattle.hc_rows.specs.Stands.{StandsForSome, Stands}
+use Rattle.hc_rows.specs.Good.{StandsUntil, StandsBy}
 use Rattle.hc_rows.proofs.Words.{false_true}
 
 -- with its head it goes on at its front
@@ -85,7 +84,14 @@ facts_of_runs limits contents h may short run =
       unended = unended_in_runs limits contents h may run;
     }
 
--- no more are kept than may be live
-pub few_kept : {B : Type 0} {g : Ghosts B} (r : Rows B g) → ∥ StandsForSome r ∥₁ → hash_map_len r.consumers < most_live + 1
-few_kept r some = merely_below (hash_map_len r.consumers) (most_live + 1) some
-    (λ s. (let few = (facts_of_runs r.limits s.contents s.h s.begins s.short s.run).live.few in let count = s.rows.count in omega (arith, few, count)))
+pub stands_of_runs : {B : Type 0} {g : Ghosts B} (r : Rows B g) → StandsForSome r → Stands r
+stands_of_runs r s = record {
+  t = tables s.contents s.h;
+  facts = facts_of_runs r.limits s.contents s.h s.begins s.short s.run;
+  modest = requests_are_modest s.contents s.h s.modest;
+  rows = s.rows;
+}
+
+pub stands_by : {B : Type 0} {g : Ghosts B} (r : Rows B g) (moment : ℕ) → StandsUntil r moment → StandsBy r moment
+unfolding stands_of_runs
+stands_by r moment (s, until) = (stands_of_runs r s, until)

@@ -25,8 +25,8 @@ use Rattle.hc_exch.specs.Known.{Table, seen, begins_with, length_by}
 use Rattle.hc_exch.specs.Openings.{opened_with}
 use Rattle.hc_exch.specs.declared.row.Opening.{Opening}
 use Rattle.hc_entry.specs.Keys.{kept_of}
-use Rattle.hc_model.specs.declared.place.Place.TheVariants as place
-use Rattle.hc_model.specs.declared.place.BoundBy.TheVariants as by
+use Rattle.hc_event.specs.declared.place.Place.TheVariants as place
+use Rattle.hc_event.specs.declared.place.BoundBy.TheVariants as by
 use Rattle.hc_model.specs.Cases.{head_view}
 use Rattle.hc_model.specs.Closings.{awaits}
 use Rattle.hc_model.specs.ConsumerRows.{back_in_line}

@@ -29,7 +29,7 @@ use Rattle.hc_exch.specs.declared.exchanges.Exchanges.{Exchanges}
 use Rattle.hc_exch.specs.declared.row.Open.{Open}
 use Rattle.hc_exch.specs.Exchanges.{table_of}
 use Rattle.hc_exch.specs.Known.{seen}
-use Rattle.hc_model.specs.declared.place.Place.TheVariants as place
+use Rattle.hc_event.specs.declared.place.Place.TheVariants as place
 use Rattle.hc_model.specs.Cases.{head_view, is_founding}
 use Rattle.hc_model.specs.Currents.{current}
 use Rattle.hc_model.specs.Denials.{denial}

@@ -22,9 +22,9 @@ use Rattle.hc_rules.specs.Needs.{route_of}
 use Rattle.hc_rules.specs.RangeTexts.{content_range_of}
 use Rattle.hc_rules.specs.Requests.{is_get, is_disabled}
 use Rattle.hc_rules.proofs.RangeReads.{same_bytes}
-use Rattle.hc_model.specs.declared.place.Place.TheVariants as place
-use Rattle.hc_model.specs.declared.place.BoundBy.{BoundBy}
-use Rattle.hc_model.specs.declared.place.BoundBy.TheVariants as by
+use Rattle.hc_event.specs.declared.place.Place.TheVariants as place
+use Rattle.hc_event.specs.declared.place.BoundBy.{BoundBy}
+use Rattle.hc_event.specs.declared.place.BoundBy.TheVariants as by
 use Rattle.hc_model.specs.Cases.{head_view, joins_row}
 use Rattle.hc_model.specs.Currents.{row_of}
 use Rattle.hc_model.specs.Effects.{gone, lost_to, let_go, with_representation, back_from, waits_for}

@@ -10,7 +10,7 @@ use Rattle.hc_entry.specs.Keys as keys
 use Rattle.hc_entry.specs.Keys.{kept_of, line_of, seated_at, AllAreSeatedBelow, IsItsSeat}
 use Rattle.hc_entry.specs.Kept.{on_line}
 use Rattle.hc_entry.specs.Lines.{is_in, all_back}
-use Rattle.hc_model.specs.declared.place.Place.TheVariants as place
+use Rattle.hc_event.specs.declared.place.Place.TheVariants as place
 use Rattle.hc_model.specs.ConsumerRows.{back_in_line}
 use Rattle.hc_model.specs.Denials.{is_live}
 use Rattle.hc_model.specs.Effects.{with_consumer, woken}

@@ -18,7 +18,7 @@ use Rattle.hc_exch.specs.Exchanges as exch
 use Rattle.hc_exch.specs.Known as known
 use Rattle.hc_exch.specs.Known.{Known, is_all, seen, begins_with, length_by}
 use Rattle.hc_exch.specs.Openings.{opened_with}
-use Rattle.hc_model.specs.declared.place.Place.TheVariants as place
+use Rattle.hc_event.specs.declared.place.Place.TheVariants as place
 use Rattle.hc_model.specs.Effects as effects
 use Rattle.hc_model.specs.Effects.{answered}
 use Rattle.hc_model.specs.Exchanges.{is_reached, promised}

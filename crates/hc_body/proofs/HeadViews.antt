@@ -41,8 +41,8 @@ use Rattle.hc_entries.specs.Entries.{shelf_of}
 use Rattle.hc_entries.specs.Kept.{Kept}
 use Rattle.hc_entries.specs.Shelf.{Shelf}
 use Rattle.hc_entries.specs.Views.{view_of, tag_in}
-use Rattle.hc_model.specs.declared.place.Place.TheVariants as place
-use Rattle.hc_model.specs.declared.place.BoundBy.{BoundBy}
+use Rattle.hc_event.specs.declared.place.Place.TheVariants as place
+use Rattle.hc_event.specs.declared.place.BoundBy.{BoundBy}
 use Rattle.hc_model.specs.Cases.{joins_by, joins_row, fits_asker, was_shown, head_view}
 use Rattle.hc_model.specs.Currents.{row_of}
 use Rattle.hc_model.specs.Owners.{IsAwaiting}

@@ -3,9 +3,9 @@ use Rattle.std.proofs.Common.{◌≡◌, ◌≢◌, inl, inr, ℕ, zero, suc, Li
 use Rattle.std.specs.Prelude.{nat_eq, drop, bytes_eq, ◌&&◌}
 use Rattle.hc_entries.specs.Shelf.{Shelf}
 use Rattle.hc_entry.specs.Kept as keyed
-use Rattle.hc_model.specs.declared.place.Place.{Place}
-use Rattle.hc_model.specs.declared.place.Place.TheVariants as place
-use Rattle.hc_model.specs.declared.place.BoundBy.TheVariants as by
+use Rattle.hc_event.specs.declared.place.Place.{Place}
+use Rattle.hc_event.specs.declared.place.Place.TheVariants as place
+use Rattle.hc_event.specs.declared.place.BoundBy.TheVariants as by
 use Rattle.hc_model.specs.Currents.{current}
 use Rattle.hc_model.specs.Effects.{with_exchange}
 use Rattle.hc_model.specs.Exchanges.{family}

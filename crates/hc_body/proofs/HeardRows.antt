@@ -11,7 +11,7 @@ use Rattle.hc_rules.specs.Refusals.{head_refusal}
 use Rattle.hc_exch.specs.declared.row.Open.{Open}
 use Rattle.hc_exch.specs.Exchanges.{table_of}
 use Rattle.hc_exch.specs.Known.{seen}
-use Rattle.hc_model.specs.declared.place.Place.{Place}
+use Rattle.hc_event.specs.declared.place.Place.{Place}
 use Rattle.hc_model.specs.Denials.{denial, is_live_place}
 use Rattle.hc_model.specs.Flaws.{NoFlaw}
 use Rattle.hc_model.specs.Lawful.{Lawful}

@@ -13,9 +13,9 @@ use Rattle.hc_exch.specs.Exchanges as exch
 use Rattle.hc_exch.specs.Exchanges.{table_of}
 use Rattle.hc_exch.specs.Known as known
 use Rattle.hc_exch.specs.Known.{Table, is_open}
-use Rattle.hc_model.specs.declared.place.Place.TheVariants as place
-use Rattle.hc_model.specs.declared.place.BoundBy.{BoundBy}
-use Rattle.hc_model.specs.declared.place.BoundBy.TheVariants as by
+use Rattle.hc_event.specs.declared.place.Place.TheVariants as place
+use Rattle.hc_event.specs.declared.place.BoundBy.{BoundBy}
+use Rattle.hc_event.specs.declared.place.BoundBy.TheVariants as by
 use Rattle.hc_model.specs.ConsumerRows.{back_in_line}
 use Rattle.hc_model.specs.Effects.{with_consumer}
 use Rattle.hc_model.specs.Exchanges.{is_headless}

@@ -19,8 +19,8 @@ use Rattle.hc_rules.specs.Least.{least, lesser}
 use Rattle.hc_rules.proofs.LeastFolds.{least-append}
 use Rattle.hc_rules.specs.Survivors.{survivor_at}
 use Rattle.hc_rules.specs.Survivors as members
-use Rattle.hc_model.specs.declared.place.Place.{Place}
-use Rattle.hc_model.specs.declared.place.Place.TheVariants as place
+use Rattle.hc_event.specs.declared.place.Place.{Place}
+use Rattle.hc_event.specs.declared.place.Place.TheVariants as place
 use Rattle.hc_model.specs.Currents.{is_number}
 use Rattle.hc_model.specs.Denials.{is_live_place}
 use Rattle.hc_model.specs.Effects.{if_bound, left_with, let_go, lost_to, with_representation, writing_lost}

@@ -8,7 +8,7 @@ use Rattle.hc_exch.specs.declared.row.ExchangeView.{ExchangeView}
 use Rattle.hc_exch.specs.declared.row.Open.{Open}
 use Rattle.hc_exch.specs.Exchanges.{table_of}
 use Rattle.hc_exch.specs.Known.{view_of}
-use Rattle.hc_model.specs.declared.place.Place.{Place}
+use Rattle.hc_event.specs.declared.place.Place.{Place}
 use Rattle.hc_model.specs.Denials.{is_live, is_live_place}
 use Rattle.hc_model.specs.Exchanges.{promised}
 use Rattle.hc_model.specs.Lawful.{Lawful}

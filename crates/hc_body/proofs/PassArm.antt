@@ -10,7 +10,7 @@ use Rattle.hc_entry.specs.Keys.{kept_of}
 use Rattle.hc_entry.specs.Kept.{on_line}
 use Rattle.hc_entry.specs.Lines as lines
 use Rattle.hc_rules.proofs.RangeReads.{bytes_eq-same}
-use Rattle.hc_model.specs.declared.place.Place.TheVariants as place
+use Rattle.hc_event.specs.declared.place.Place.TheVariants as place
 use Rattle.hc_model.specs.Effects.{with_consumer, with_representation}
 use Rattle.hc_model.specs.Lawful.{Lawful}
 use Rattle.hc_model.specs.Lines.{is_in_line}

@@ -15,8 +15,8 @@ use Rattle.hc_entries.specs.Entries.{shelf_of}
 use Rattle.hc_entries.specs.Kept.{Kept, itself}
 use Rattle.hc_entries.specs.Views.{bound_in}
 use Rattle.hc_exch.specs.Exchanges.{table_of}
-use Rattle.hc_model.specs.declared.place.Place.TheVariants as place
-use Rattle.hc_model.specs.declared.place.BoundBy.{BoundBy}
+use Rattle.hc_event.specs.declared.place.Place.TheVariants as place
+use Rattle.hc_event.specs.declared.place.BoundBy.{BoundBy}
 use Rattle.hc_model.specs.Currents.{is_number}
 use Rattle.hc_model.specs.Exchanges.{base, front, family, is_headless}
 use Rattle.hc_model.specs.Holes.{absent_from}

@@ -32,8 +32,8 @@ use Rattle.hc_model.specs.ExchangeRows.{with_piece}
 use Rattle.hc_model.specs.Exchanges.{family, front, promised, is_reached}
 use Rattle.hc_model.specs.LettingGo as going
 use Rattle.hc_model.specs.LettingGo.{MayMakeRoom, giving_way, room_now, weight_now, weights_now}
-use Rattle.hc_model.specs.declared.place.Place.{Place}
-use Rattle.hc_model.specs.declared.place.Place.TheVariants as place
+use Rattle.hc_event.specs.declared.place.Place.{Place}
+use Rattle.hc_event.specs.declared.place.Place.TheVariants as place
 use Rattle.hc_model.specs.Contents.{idle_now}
 use Rattle.hc_model.specs.Reading.{bound, is_bound}
 use Rattle.hc_model.specs.RepresentationRows.{filled}

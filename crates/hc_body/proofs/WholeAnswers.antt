@@ -24,7 +24,7 @@ use Rattle.hc_entries.specs.Views.{bound_in}
 use Rattle.hc_exch.specs.Exchanges as exch
 use Rattle.hc_exch.specs.Exchanges.{table_of}
 use Rattle.hc_exch.specs.Known as known
-use Rattle.hc_model.specs.declared.place.Place.TheVariants as place
+use Rattle.hc_event.specs.declared.place.Place.TheVariants as place
 use Rattle.hc_model.specs.Denials.{denial}
 use Rattle.hc_model.specs.Effects.{Does, counted, at_end, failing, if_bound, with_due, with_dues, with_exchange, with_length, with_loss, with_representation, let_go, let_some_go, gone, lost_to, going_with, back_from}
 use Rattle.hc_model.specs.Entries.{Entry}

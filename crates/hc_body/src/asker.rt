@@ -3,7 +3,7 @@ ghost use Rattle.std.specs.Prelude.{◌≡◌, ℕ, true, Some, is_some, nat_eq,
 ghost use Rattle.std.specs.HashMap.{get};
 ghost use Rattle.hc_entries.specs.Entries.{shelf_of};
 ghost use Rattle.hc_model.specs.ConsumerRows.{back_in_line};
-ghost use Rattle.hc_model.specs.declared.place.Place.TheVariants as place;
+ghost use Rattle.hc_event.specs.declared.place.Place.TheVariants as place;
 ghost use Rattle.hc_model.specs.Effects.{with_consumer, with_representation};
 ghost use Rattle.hc_model.specs.Lawful.{Lawful};
 ghost use Rattle.hc_model.specs.Rows.{Tables, Exchange, Representation, Consumer};
@@ -13,8 +13,8 @@ ghost use Rattle.hc_rows.specs.Facts.{Facts};
 ghost use Rattle.hc_rows.specs.Heads.{AwaitsHead, StandsApart};
 ghost use Rattle.hc_rows.specs.Stands.{RowsStand, Stands};
 
+use hc_event::Place;
 use hc_leave::gone::{leave_key, unbind_from};
-use hc_model::Place;
 use hc_rows::{Rows, stand, start_over};
 use hc_store::Backend;
 

@@ -19,11 +19,10 @@ ghost use Rattle.hc_rows.specs.Stands.{AnswersCase, KeepsRest, RowsStand, Stands
 
 use crate::asker::{send_back, stand_aside};
 use crate::heard::Heard;
-use hc_event::{Act, Acts, Cause, Response};
+use hc_event::{Act, Acts, Cause, Place, Response};
 use hc_exch::Role;
 use hc_leave::acts::put;
 use hc_leave::evict::let_some_go;
-use hc_model::Place;
 use hc_rows::{Rows, make_due, take_answer};
 use hc_rules::{Length, length_of};
 use hc_store::Backend;

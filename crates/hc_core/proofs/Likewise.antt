@@ -18,7 +18,7 @@ use Rattle.hc_exch.specs.Exchanges.{table_of, next_of}
 use Rattle.hc_exch.specs.Known.{Known}
 use Rattle.hc_exch.specs.declared.row.Open.{Open}
 use Rattle.hc_rules.specs.Requests.{is_disabled, is_only}
-use Rattle.hc_model.specs.declared.place.Place.TheVariants as place
+use Rattle.hc_event.specs.declared.place.Place.TheVariants as place
 use Rattle.hc_model.specs.Beginnings.{may_begin, are_good, is_good, ascend_from, is_kind_right}
 use Rattle.hc_model.specs.Contents.{content_of, content_at, contents_of, idle_now, is_idle}
 use Rattle.hc_model.specs.Currents.{current, is_current, is_number}

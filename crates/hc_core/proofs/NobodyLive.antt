@@ -1,8 +1,8 @@
 -- Where nobody is live nobody is bound, waits or has a turn, no exchange is open, and nothing is held.
 use Rattle.std.proofs.Common.{◌≡◌, ℕ, List, [], ◌∷◌, length, Bool, true, false, Option, Some, None, refl, ap, sym, ◌∙◌, arith}
 use Rattle.std.specs.Prelude.{is_some, filter}
-use Rattle.hc_model.specs.declared.place.Place.{Place}
-use Rattle.hc_model.specs.declared.place.Place.TheVariants as place
+use Rattle.hc_event.specs.declared.place.Place.{Place}
+use Rattle.hc_event.specs.declared.place.Place.TheVariants as place
 use Rattle.hc_model.specs.Denials.{live, is_live, is_live_place}
 use Rattle.hc_model.specs.Exchanges.{is_open, family}
 use Rattle.hc_model.specs.Lawful.{Lawful}

@@ -34,7 +34,7 @@ use Rattle.hc_laws.proofs.Barred.{next_tables, denied_tables}
 use Rattle.hc_laws.proofs.ChainRuns.{chains_in_runs}
 use Rattle.hc_laws.proofs.InRuns.{delivers_in_runs, turns_in_runs, dooms_in_runs}
 use Rattle.hc_laws.proofs.TruthRuns.{truth_in_runs}
-use Rattle.hc_step.specs.Modest.{IsModestEvent}
+use Rattle.hc_event.specs.Modest.{IsModestEvent}
 use Rattle.hc_rows.specs.declared.rows.Rows.{Rows}
 use Rattle.hc_rows.specs.Stands.{RowsStand, Answers, gate_of, is_fault}
 use Rattle.hc_rows.specs.Facts.{Facts}

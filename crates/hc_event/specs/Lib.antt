@@ -1,5 +1,8 @@
 pub mod Acts
+pub mod Answering
+pub mod Counting
 pub mod Drain
 pub mod Filters
+pub mod Modest
 pub mod Safe
 pub mod Plain

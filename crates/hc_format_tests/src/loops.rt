@@ -1,11 +1,10 @@
 //! A schedule that is read in pieces of any size, and what fails on the way.
 ghost use Rattle.std.specs.Prelude.{◌≡◌, ◌<◌, ◌^◌, ⊤, length};
 
-use hc_event::{Act, Acts, Event};
+use hc_event::{Act, Acts, Event, Stepper};
 use hc_io::{MemorySink, MemorySource};
 use hc_loop::step_through;
 use hc_sched::{Ended, Refused, SchedRefusal};
-use hc_step::Stepper;
 use hc_text::NoMemory;
 use std::alloc::Global;
 use std::test::Fail;

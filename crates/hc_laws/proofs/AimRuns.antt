@@ -10,8 +10,8 @@ use Rattle.hc_rules.specs.HeadCases.{head_case, is_conditional}
 use Rattle.hc_rules.specs.declared.need.Route.TheVariants as route
 use Rattle.hc_rules.specs.declared.room.Limits.{Limits}
 use Rattle.hc_rules.specs.Needs.{route_of}
-use Rattle.hc_model.specs.declared.place.Place.{Place}
-use Rattle.hc_model.specs.declared.place.Place.TheVariants as place
+use Rattle.hc_event.specs.declared.place.Place.{Place}
+use Rattle.hc_event.specs.declared.place.Place.TheVariants as place
 use Rattle.hc_model.specs.Aims.{Aims, HasAim, CaseWithoutAim, is_about_some, needs_aim}
 use Rattle.hc_model.specs.Cases.{head_view, validates, joins_row}
 use Rattle.hc_model.specs.Currents.{current}

@@ -3,7 +3,7 @@ use Rattle.std.proofs.Common.{◌≡◌, ◌<◌, inl, inr, ℕ, ◌+◌, List, 
 use Rattle.std.specs.Prelude.{◌↔◌, filter, is_some, is_none}
 use Rattle.hc_event.specs.declared.act.Cause.{Cause}
 use Rattle.hc_sparse.specs.Cells.{EndsBy}
-use Rattle.hc_model.specs.declared.place.Place.TheVariants as place
+use Rattle.hc_event.specs.declared.place.Place.TheVariants as place
 use Rattle.hc_model.specs.Alone.{Alone, IsOnly}
 use Rattle.hc_model.specs.Entries.{Entry}
 use Rattle.hc_model.specs.Holes.{covers}

@@ -16,8 +16,8 @@ use Rattle.hc_rules.specs.Plans.{plan_of, bare_plan, in_time, from_store, queues
 use Rattle.hc_rules.specs.Requests.{is_disabled, is_only}
 use Rattle.hc_rules.proofs.Cond.{either}
 use Rattle.hc_rules.proofs.RangeReads.{same_bytes}
-use Rattle.hc_model.specs.declared.place.Place.{Place}
-use Rattle.hc_model.specs.declared.place.Place.TheVariants as place
+use Rattle.hc_event.specs.declared.place.Place.{Place}
+use Rattle.hc_event.specs.declared.place.Place.TheVariants as place
 use Rattle.hc_model.specs.Denials.{is_live_place}
 use Rattle.hc_model.specs.Lines.{turn, turn_with, holder, holds_turn, line, is_in_line, stands_in_line}
 use Rattle.hc_model.specs.Rows.{Tables, Consumer}

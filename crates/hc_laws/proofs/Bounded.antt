@@ -20,8 +20,8 @@ use Rattle.hc_rules.specs.RangeTexts.{asked_in, spec_in, positions_from, positio
 use Rattle.hc_rules.specs.Refusals as refusals
 use Rattle.hc_rules.specs.Refusals.{overlong, piece_refusal}
 use Rattle.hc_rules.specs.Requests.{range_of, ranges_read, ranges_in, wanted_of, wanted_part, is_disabled}
-use Rattle.hc_model.specs.declared.place.BoundBy.{BoundBy}
-use Rattle.hc_model.specs.declared.place.Place.TheVariants as place
+use Rattle.hc_event.specs.declared.place.BoundBy.{BoundBy}
+use Rattle.hc_event.specs.declared.place.Place.TheVariants as place
 use Rattle.hc_model.specs.ActFilters.{Showing, showing_in}
 use Rattle.hc_model.specs.Cases.{case_at}
 use Rattle.hc_model.specs.ConsumerRows.{consumer_heard, consumer_acted, consumer_made, consumer_after, by_opening, waiting}

@@ -9,9 +9,9 @@ use Rattle.hc_rules.specs.declared.room.Limits.{Limits}
 use Rattle.hc_rules.specs.HeadCases.{head_case}
 use Rattle.hc_rules.specs.Needs.{route_of}
 use Rattle.hc_rules.specs.Requests.{is_disabled}
-use Rattle.hc_model.specs.declared.place.Place.{Place}
-use Rattle.hc_model.specs.declared.place.Place.TheVariants as place
-use Rattle.hc_model.specs.declared.place.BoundBy.{BoundBy}
+use Rattle.hc_event.specs.declared.place.Place.{Place}
+use Rattle.hc_event.specs.declared.place.Place.TheVariants as place
+use Rattle.hc_event.specs.declared.place.BoundBy.{BoundBy}
 use Rattle.hc_model.specs.ActFilters.{has_loss}
 use Rattle.hc_model.specs.Cases.{case_at, head_view, is_founding}
 use Rattle.hc_model.specs.ConsumerRows.{consumer_after, consumer_made}

@@ -2,8 +2,8 @@
 use Rattle.std.proofs.Common.{◌≡◌, inl, inr, ℕ, ◌+◌, List, [], ◌∷◌, Bool, true, false, Option, Some, None, refl, ap, sym, ◌∙◌, subst}
 use Rattle.std.specs.Prelude.{◌==◌, nat_eq, if◌then◌else◌, option_map}
 use Rattle.hc_event.specs.Filters.{opening_in}
-use Rattle.hc_model.specs.declared.place.Place.{Place}
-use Rattle.hc_model.specs.declared.place.Place.TheVariants as place
+use Rattle.hc_event.specs.declared.place.Place.{Place}
+use Rattle.hc_event.specs.declared.place.Place.TheVariants as place
 use Rattle.hc_model.specs.ActFilters.{loses_in}
 use Rattle.hc_model.specs.ConsumerRows.{consumer_after, back_in_line}
 use Rattle.hc_model.specs.Effects.{with_consumer, counted, gone, let_go, let_all_go, let_some_go}

@@ -22,9 +22,9 @@ use Rattle.hc_rules.specs.HeadCases.{head_case}
 use Rattle.hc_rules.specs.Rooms.{weight_of, gives_way, grown_by, is_too_large, room_of}
 use Rattle.hc_rules.specs.Rooms as rooms
 use Rattle.hc_model.specs.Orders.{AreOnce}
-use Rattle.hc_model.specs.declared.place.Place.TheVariants as place
-use Rattle.hc_model.specs.declared.place.BoundBy.{BoundBy}
-use Rattle.hc_model.specs.declared.place.BoundBy.TheVariants as by
+use Rattle.hc_event.specs.declared.place.Place.TheVariants as place
+use Rattle.hc_event.specs.declared.place.BoundBy.{BoundBy}
+use Rattle.hc_event.specs.declared.place.BoundBy.TheVariants as by
 use Rattle.hc_model.specs.ActFilters.{loses_in, has_loss}
 use Rattle.hc_model.specs.Answers.{said, lost, closed}
 use Rattle.hc_model.specs.Cases.{case_at, case_of, head_view, is_founding}

@@ -26,8 +26,8 @@ use Rattle.hc_rules.specs.Requests.{is_get, range_of, wanted_of}
 use Rattle.hc_rules.specs.TagTexts.{strong_of}
 use Rattle.hc_rules.proofs.RangeReads.{same_bytes}
 use Rattle.hc_fields.specs.FieldElements.{elements_in}
-use Rattle.hc_model.specs.declared.place.Place.TheVariants as place
-use Rattle.hc_model.specs.declared.place.BoundBy.TheVariants as by
+use Rattle.hc_event.specs.declared.place.Place.TheVariants as place
+use Rattle.hc_event.specs.declared.place.BoundBy.TheVariants as by
 use Rattle.hc_model.specs.Cases.{head_view, is_founding, fits_asker, was_shown}
 use Rattle.hc_model.specs.ConsumerRows.{bound_by_total}
 use Rattle.hc_model.specs.Currents.{current, is_number}

@@ -13,8 +13,8 @@ use Rattle.hc_rules.specs.declared.request.Wanted.TheVariants as wanted
 use Rattle.hc_rules.specs.declared.room.Limits.{Limits}
 use Rattle.hc_rules.specs.HeadCases.{head_case}
 use Rattle.hc_rules.specs.Requests.{range_of, wanted_of}
-use Rattle.hc_model.specs.declared.place.Place.TheVariants as place
-use Rattle.hc_model.specs.declared.place.BoundBy.TheVariants as by
+use Rattle.hc_event.specs.declared.place.Place.TheVariants as place
+use Rattle.hc_event.specs.declared.place.BoundBy.TheVariants as by
 use Rattle.hc_model.specs.Cases.{head_view, is_founding, case_at, is_updating, is_joining}
 use Rattle.hc_model.specs.ConsumerRows.{bound_by_total, bound_to_wanted}
 use Rattle.hc_model.specs.Currents.{current, is_number}

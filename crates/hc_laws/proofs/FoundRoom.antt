@@ -16,7 +16,7 @@ use Rattle.hc_rules.specs.declared.room.Write.TheVariants as write
 use Rattle.hc_rules.specs.HeadCases.{head_case}
 use Rattle.hc_rules.specs.Needs.{route_of}
 use Rattle.hc_rules.specs.Rooms.{room_of, weight_of}
-use Rattle.hc_model.specs.declared.place.Place.TheVariants as place
+use Rattle.hc_event.specs.declared.place.Place.TheVariants as place
 use Rattle.hc_model.specs.Cases.{case_at, head_view, is_founding}
 use Rattle.hc_model.specs.Contents as contents
 use Rattle.hc_model.specs.Contents.{idle_now}

@@ -22,9 +22,9 @@ use Rattle.hc_rules.specs.HeadCases.{head_case, fits_to_found, fits_part, begins
 use Rattle.hc_rules.specs.Needs.{route_of}
 use Rattle.hc_rules.specs.RangeTexts.{content_range_of}
 use Rattle.hc_rules.specs.Requests.{range_of, wanted_of, wanted_part}
-use Rattle.hc_model.specs.declared.place.Place.TheVariants as place
-use Rattle.hc_model.specs.declared.place.BoundBy.{BoundBy}
-use Rattle.hc_model.specs.declared.place.BoundBy.TheVariants as by
+use Rattle.hc_event.specs.declared.place.Place.TheVariants as place
+use Rattle.hc_event.specs.declared.place.BoundBy.{BoundBy}
+use Rattle.hc_event.specs.declared.place.BoundBy.TheVariants as by
 use Rattle.hc_model.specs.ActFilters.{loses_in, has_loss}
 use Rattle.hc_model.specs.Cases.{case_at, head_view, is_founding, is_joining, is_updating, fits_asker}
 use Rattle.hc_model.specs.ConsumerRows.{consumer_heard, consumer_acted, by_head, with_head, by_opening, own_after, left_to, waiting, due_after, place_by_case, becomes_shared, is_resumed, bound_to_wanted}

@@ -14,8 +14,8 @@ use Rattle.hc_rules.specs.Least.{least, lesser}
 use Rattle.hc_rules.specs.Lengths.{is_same_number}
 use Rattle.hc_rules.specs.Needs.{route_of}
 use Rattle.hc_rules.specs.Survivors.{stands_at}
-use Rattle.hc_model.specs.declared.place.Place.TheVariants as place
-use Rattle.hc_model.specs.declared.place.BoundBy.{BoundBy}
+use Rattle.hc_event.specs.declared.place.Place.TheVariants as place
+use Rattle.hc_event.specs.declared.place.BoundBy.{BoundBy}
 use Rattle.hc_model.specs.ActFilters.{loses_in, has_loss}
 use Rattle.hc_model.specs.Cases.{case_at, is_joining}
 use Rattle.hc_model.specs.Closings.{is_left, is_left_by, has_no_survivor, leaver, leaver_by}

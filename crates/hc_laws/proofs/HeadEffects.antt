@@ -15,7 +15,7 @@ use Rattle.hc_rules.specs.declared.room.Limits.{Limits}
 use Rattle.hc_rules.specs.HeadCases.{head_case}
 use Rattle.hc_rules.specs.Lengths.{length_of, is_bad}
 use Rattle.hc_rules.specs.Needs.{route_of}
-use Rattle.hc_model.specs.declared.place.Place.TheVariants as place
+use Rattle.hc_event.specs.declared.place.Place.TheVariants as place
 use Rattle.hc_model.specs.Cases.{head_view, is_founding, is_updating, is_joining}
 use Rattle.hc_model.specs.Closings.{is_refused}
 use Rattle.hc_model.specs.ConsumerRows.{consumer_after, back_in_line}

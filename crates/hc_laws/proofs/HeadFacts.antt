@@ -53,7 +53,7 @@ use Rattle.hc_model.specs.Failures.{cause_by_case}
 use Rattle.hc_model.specs.ConsumerRows.{consumer_after, back_in_line}
 use Rattle.hc_model.specs.RepresentationRows.{representation_after, updates}
 use Rattle.hc_model.proofs.Untouched.{IsSpared}
-use Rattle.hc_model.specs.declared.place.Place.{Place}
+use Rattle.hc_event.specs.declared.place.Place.{Place}
 
 -- a bad head promises nothing
 pub stays_open : (w : Exchange) (response : Response) → is_bad (length_of w.need w.request response) ≡ true → is_reached (promise_in w response) 0 ≡ false

@@ -9,7 +9,7 @@ use Rattle.hc_event.specs.declared.act.Cause.{Cause}
 use Rattle.hc_event.specs.declared.event.Event.TheVariants as event
 use Rattle.hc_event.specs.declared.event.Response.{Response}
 use Rattle.hc_rules.specs.declared.heads.HeadCase.{HeadCase}
-use Rattle.hc_model.specs.declared.place.Place.{Place}
+use Rattle.hc_event.specs.declared.place.Place.{Place}
 use Rattle.hc_model.specs.ActFilters.{loses_in, has_loss, misreads_in}
 use Rattle.hc_model.specs.Answers.{lost}
 use Rattle.hc_model.specs.Cases.{case_at, is_founding, is_joining, is_updating}

@@ -7,8 +7,8 @@ use Rattle.hc_event.specs.declared.act.Cause.{Cause}
 use Rattle.hc_event.specs.declared.event.Event.{Event}
 use Rattle.hc_event.specs.declared.event.Event.TheVariants as event
 use Rattle.hc_rules.specs.declared.room.Limits.{Limits}
-use Rattle.hc_model.specs.declared.place.Place.{Place}
-use Rattle.hc_model.specs.declared.place.Place.TheVariants as place
+use Rattle.hc_event.specs.declared.place.Place.{Place}
+use Rattle.hc_event.specs.declared.place.Place.TheVariants as place
 use Rattle.hc_model.specs.Answers.{said}
 use Rattle.hc_model.specs.Effects.{Does, counted, with_consumer, let_some_go, let_all_go, finished, left_by, going_with, with_leave}
 use Rattle.hc_model.specs.Entries.{Entry}

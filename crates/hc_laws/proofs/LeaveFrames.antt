@@ -9,7 +9,7 @@ use Rattle.hc_event.specs.declared.act.Cause.TheVariants as cause
 use Rattle.hc_event.specs.declared.event.Event.{Event}
 use Rattle.hc_event.specs.declared.event.Event.TheVariants as event
 use Rattle.hc_rules.specs.declared.room.Limits.{Limits}
-use Rattle.hc_model.specs.declared.place.Place.TheVariants as place
+use Rattle.hc_event.specs.declared.place.Place.TheVariants as place
 use Rattle.hc_model.specs.ActFilters.{loses_in, misreads_in, showing_in, wait_in}
 use Rattle.hc_model.specs.Answers.{accepted, said, lost, is_asked}
 use Rattle.hc_model.specs.Closings.{closing, leaver_by}

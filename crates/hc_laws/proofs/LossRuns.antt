@@ -10,8 +10,8 @@ use Rattle.hc_sparse.specs.Stretch.{bytes_from, goes_on, stretch, stretch_of}
 use Rattle.hc_event.specs.Filters.{is_denied}
 use Rattle.hc_event.specs.declared.event.Response.{Response}
 use Rattle.hc_rules.specs.declared.room.Limits.{Limits}
-use Rattle.hc_model.specs.declared.place.Place.TheVariants as place
-use Rattle.hc_model.specs.declared.place.BoundBy.{BoundBy}
+use Rattle.hc_event.specs.declared.place.Place.TheVariants as place
+use Rattle.hc_event.specs.declared.place.BoundBy.{BoundBy}
 use Rattle.hc_model.specs.Currents.{is_number}
 use Rattle.hc_model.specs.Entries.{Entry, Contents}
 use Rattle.hc_model.specs.Exchanges.{base, front}

@@ -7,8 +7,8 @@ use Rattle.hc_event.specs.declared.event.Event.TheVariants as event
 use Rattle.hc_event.specs.declared.event.Event.{Event}
 use Rattle.hc_rules.specs.Lengths.{base_of}
 use Rattle.hc_rules.specs.declared.room.Limits.{Limits}
-use Rattle.hc_model.specs.declared.place.Place.TheVariants as place
-use Rattle.hc_model.specs.declared.place.BoundBy.{BoundBy}
+use Rattle.hc_event.specs.declared.place.Place.TheVariants as place
+use Rattle.hc_event.specs.declared.place.BoundBy.{BoundBy}
 use Rattle.hc_model.specs.Beginnings.{may_begin, is_kind_right}
 use Rattle.hc_model.specs.Entries.{Entry, History, Content, Contents}
 use Rattle.hc_model.specs.Exchanges.{base, promised, front}

@@ -10,8 +10,8 @@ use Rattle.hc_event.specs.declared.event.Event.{Event}
 use Rattle.hc_event.specs.declared.event.Event.TheVariants as event
 use Rattle.hc_event.specs.declared.event.Request.{Request}
 use Rattle.hc_rules.specs.Lengths.{is_same_number}
-use Rattle.hc_model.specs.declared.place.Place.{Place}
-use Rattle.hc_model.specs.declared.place.Place.TheVariants as place
+use Rattle.hc_event.specs.declared.place.Place.{Place}
+use Rattle.hc_event.specs.declared.place.Place.TheVariants as place
 use Rattle.hc_model.specs.ActFilters.{loses_in, misreads_in, fails_in, showing_in}
 use Rattle.hc_model.specs.Cases.{case_at, case_of, is_founding}
 use Rattle.hc_model.specs.Closings.{closing, closes_row, is_left, is_left_by, leaver, is_last_reader}

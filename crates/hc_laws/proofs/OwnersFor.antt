@@ -88,7 +88,7 @@ module _ (limits : Limits) (t : Tables) (now : ℕ) (flaw : Flaw) (s : Sound t) 
       ]
 
     -- what was written for several is left to one
-    module _ (p : Rattle.hc_model.specs.declared.place.Place.Place) (i : IsLeft t e c x p) where
+    module _ (p : Rattle.hc_event.specs.declared.place.Place.Place) (i : IsLeft t e c x p) where
       on : is_written t i.v ≡ true
       on = and_right _ _ i.loses
 

@@ -1,6 +1,6 @@
 -- Who was let through waits for what is current, and its 304 came from its own exchange, in every run.
 use Rattle.std.proofs.Common.{◌≡◌, ℕ, Bool, true, false, Option, Some, None, refl, subst}
-use Rattle.hc_model.specs.declared.place.Place.TheVariants as place
+use Rattle.hc_event.specs.declared.place.Place.TheVariants as place
 use Rattle.hc_model.specs.Laws.{OfRuns, Turns}
 use Rattle.hc_model.specs.Owners.{Owners}
 use Rattle.hc_model.specs.Passed.{Passed, WaitsForCurrent, OwnsOver}

@@ -19,9 +19,9 @@ use Rattle.hc_rules.specs.Refusals as refusals
 use Rattle.hc_rules.specs.Requests.{range_of, wanted_of, wanted_part}
 use Rattle.hc_range.specs.Spans.{resolved}
 use Rattle.hc_range.specs.declared.range.Asked.{Asked}
-use Rattle.hc_model.specs.declared.place.BoundBy.{BoundBy}
-use Rattle.hc_model.specs.declared.place.BoundBy.TheVariants as by
-use Rattle.hc_model.specs.declared.place.Place.TheVariants as place
+use Rattle.hc_event.specs.declared.place.BoundBy.{BoundBy}
+use Rattle.hc_event.specs.declared.place.BoundBy.TheVariants as by
+use Rattle.hc_event.specs.declared.place.Place.TheVariants as place
 use Rattle.hc_model.specs.ActFilters.{has_loss}
 use Rattle.hc_model.specs.Cases.{case_at, head_view, is_founding, fits_asker}
 use Rattle.hc_model.specs.ConsumerRows.{consumer_heard, by_head, place_by_case, bound_to_wanted}

@@ -21,10 +21,10 @@ use Rattle.hc_rules.specs.Needs.{route_of}
 use Rattle.hc_rules.specs.Refusals as refusals
 use Rattle.hc_rules.specs.Refusals.{piece_refusal}
 use Rattle.hc_rules.specs.Requests.{range_of, wanted_of}
-use Rattle.hc_model.specs.declared.place.Place.{Place}
-use Rattle.hc_model.specs.declared.place.Place.TheVariants as place
-use Rattle.hc_model.specs.declared.place.BoundBy.{BoundBy}
-use Rattle.hc_model.specs.declared.place.BoundBy.TheVariants as by
+use Rattle.hc_event.specs.declared.place.Place.{Place}
+use Rattle.hc_event.specs.declared.place.Place.TheVariants as place
+use Rattle.hc_event.specs.declared.place.BoundBy.{BoundBy}
+use Rattle.hc_event.specs.declared.place.BoundBy.TheVariants as by
 use Rattle.hc_model.specs.ActFilters.{Showing, showing_in, wait_in}
 use Rattle.hc_model.specs.Cases.{case_at}
 use Rattle.hc_model.specs.ConsumerRows.{consumer_heard, consumer_acted, consumer_settled, consumer_made, consumer_after, by_head, by_fault, by_opening, shown_place, waiting, waiting_place, due_after, place_by_case, passed_on, passed_by, kept_by, bound_to_wanted, opened_place, place_for_hole, unless_bound}

@@ -3,8 +3,8 @@ use Rattle.std.proofs.Common.{◌≡◌, ◌⊎◌, inl, inr, ℕ, true, false, 
 use Rattle.std.specs.Prelude.{is_some}
 use Rattle.hc_event.specs.declared.event.Event.{Event}
 use Rattle.hc_rules.specs.declared.room.Limits.{Limits}
-use Rattle.hc_model.specs.declared.place.Place.TheVariants as place
-use Rattle.hc_model.specs.declared.place.BoundBy.{BoundBy}
+use Rattle.hc_event.specs.declared.place.Place.TheVariants as place
+use Rattle.hc_event.specs.declared.place.BoundBy.{BoundBy}
 use Rattle.hc_model.specs.ActFilters.{loses_in}
 use Rattle.hc_model.specs.Denials.{denial}
 use Rattle.hc_model.specs.Entries.{Entry}

@@ -8,7 +8,7 @@ use Rattle.hc_event.specs.declared.event.Event.TheVariants as event
 use Rattle.hc_rules.specs.declared.room.Limits.{Limits}
 use Rattle.hc_rules.specs.declared.room.Room.{Room}
 use Rattle.hc_rules.specs.declared.room.Room.TheVariants as room
-use Rattle.hc_model.specs.declared.place.Place.{Place}
+use Rattle.hc_event.specs.declared.place.Place.{Place}
 use Rattle.hc_model.specs.ActFilters.{loses_in, leaver_in}
 use Rattle.hc_model.specs.Answers.{lost}
 use Rattle.hc_model.specs.Closings.{closing}

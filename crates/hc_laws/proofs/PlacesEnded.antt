@@ -9,8 +9,8 @@ use Rattle.hc_event.specs.declared.event.Event.{Event}
 use Rattle.hc_event.specs.declared.event.Event.TheVariants as event
 use Rattle.hc_event.specs.declared.event.Response.{Response}
 use Rattle.hc_rules.specs.declared.room.Limits.{Limits}
-use Rattle.hc_model.specs.declared.place.Place.TheVariants as place
-use Rattle.hc_model.specs.declared.place.BoundBy.TheVariants as by
+use Rattle.hc_event.specs.declared.place.Place.TheVariants as place
+use Rattle.hc_event.specs.declared.place.BoundBy.TheVariants as by
 use Rattle.hc_model.specs.Cases.{case_at}
 use Rattle.hc_model.specs.Closings.{must_close, is_refused, brings_head, is_doomed, awaits, has_no_survivor, is_left, leaver}
 use Rattle.hc_model.specs.ConsumerRows.{consumer_heard, consumer_acted, by_head}

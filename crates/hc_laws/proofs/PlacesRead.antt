@@ -10,7 +10,7 @@ use Rattle.hc_rules.specs.HeadCases.{head_case}
 use Rattle.hc_rules.specs.declared.need.Route.TheVariants as route
 use Rattle.hc_rules.specs.declared.room.Limits.{Limits}
 use Rattle.hc_rules.specs.Needs.{route_of}
-use Rattle.hc_model.specs.declared.place.Place.TheVariants as place
+use Rattle.hc_event.specs.declared.place.Place.TheVariants as place
 use Rattle.hc_model.specs.ActFilters.{has_loss}
 use Rattle.hc_model.specs.Cases.{case_at, case_of, head_view}
 use Rattle.hc_model.specs.ConsumerRows.{consumer_heard, by_head, by_fault, waiting, own_after}

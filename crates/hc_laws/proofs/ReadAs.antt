@@ -11,10 +11,10 @@ use Rattle.hc_rules.specs.declared.room.Limits.{Limits}
 use Rattle.hc_rules.specs.Lengths.{base_of, promise_of}
 use Rattle.hc_rules.specs.Refusals as refusals
 use Rattle.hc_rules.specs.Refusals.{piece_refusal}
-use Rattle.hc_model.specs.declared.place.BoundBy.{BoundBy}
-use Rattle.hc_model.specs.declared.place.BoundBy.TheVariants as by
-use Rattle.hc_model.specs.declared.place.Place.{Place}
-use Rattle.hc_model.specs.declared.place.Place.TheVariants as place
+use Rattle.hc_event.specs.declared.place.BoundBy.{BoundBy}
+use Rattle.hc_event.specs.declared.place.BoundBy.TheVariants as by
+use Rattle.hc_event.specs.declared.place.Place.{Place}
+use Rattle.hc_event.specs.declared.place.Place.TheVariants as place
 use Rattle.hc_model.specs.Currents.{total_in}
 use Rattle.hc_model.specs.Denials.{denial, as_open}
 use Rattle.hc_model.specs.Entries.{Entry}

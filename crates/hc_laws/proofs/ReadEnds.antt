@@ -25,10 +25,10 @@ use Rattle.hc_rules.specs.declared.room.Limits.{Limits}
 use Rattle.hc_rules.specs.Lengths.{base_of, promise_of}
 use Rattle.hc_rules.specs.Plans.{plan_of}
 use Rattle.hc_rules.specs.Readings.{read_step, is_at_end, stored_or, held_or, fails_or, waits_or, opens}
-use Rattle.hc_model.specs.declared.place.BoundBy.{BoundBy}
-use Rattle.hc_model.specs.declared.place.BoundBy.TheVariants as by
-use Rattle.hc_model.specs.declared.place.Place.{Place}
-use Rattle.hc_model.specs.declared.place.Place.TheVariants as place
+use Rattle.hc_event.specs.declared.place.BoundBy.{BoundBy}
+use Rattle.hc_event.specs.declared.place.BoundBy.TheVariants as by
+use Rattle.hc_event.specs.declared.place.Place.{Place}
+use Rattle.hc_event.specs.declared.place.Place.TheVariants as place
 use Rattle.hc_model.specs.Answers.{accepted, said}
 use Rattle.hc_model.specs.Beginnings.{may_begin}
 use Rattle.hc_model.specs.Currents.{total_in}

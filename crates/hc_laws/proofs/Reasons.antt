@@ -18,8 +18,8 @@ use Rattle.hc_fresh.specs.Facts.{allowed}
 use Rattle.hc_fresh.specs.Lifetimes.{lifetime}
 use Rattle.hc_record.specs.Head.{Head}
 use Rattle.hc_rules.specs.declared.room.Limits.{Limits}
-use Rattle.hc_model.specs.declared.place.Place.{Place}
-use Rattle.hc_model.specs.declared.place.Place.TheVariants as place
+use Rattle.hc_event.specs.declared.place.Place.{Place}
+use Rattle.hc_event.specs.declared.place.Place.TheVariants as place
 use Rattle.hc_model.specs.Beginnings.{may_begin}
 use Rattle.hc_model.specs.ConsumerRows.{consumer_heard, kept_by}
 use Rattle.hc_model.specs.Currents.{current, is_number}

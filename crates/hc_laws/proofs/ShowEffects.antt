@@ -4,8 +4,8 @@ use Rattle.hc_event.specs.declared.act.Why.{Why}
 use Rattle.hc_event.specs.declared.event.Event.TheVariants as event
 use Rattle.hc_event.specs.declared.event.Response.{Response}
 use Rattle.hc_rules.specs.declared.room.Limits.{Limits}
-use Rattle.hc_model.specs.declared.place.Place.TheVariants as place
-use Rattle.hc_model.specs.declared.place.BoundBy.TheVariants as by
+use Rattle.hc_event.specs.declared.place.Place.TheVariants as place
+use Rattle.hc_event.specs.declared.place.BoundBy.TheVariants as by
 use Rattle.hc_model.specs.ConsumerRows.{consumer_acted}
 use Rattle.hc_model.specs.Effects.{Does, counted, used_last, with_consumer}
 use Rattle.hc_model.specs.Entries.{Entry}

@@ -14,9 +14,9 @@ use Rattle.hc_rules.specs.declared.need.Route.TheVariants as route
 use Rattle.hc_rules.specs.declared.room.Limits.{Limits}
 use Rattle.hc_rules.specs.HeadCases.{head_case}
 use Rattle.hc_rules.specs.Needs.{route_of}
-use Rattle.hc_model.specs.declared.place.BoundBy.TheVariants as by
-use Rattle.hc_model.specs.declared.place.Place.{Place}
-use Rattle.hc_model.specs.declared.place.Place.TheVariants as place
+use Rattle.hc_event.specs.declared.place.BoundBy.TheVariants as by
+use Rattle.hc_event.specs.declared.place.Place.{Place}
+use Rattle.hc_event.specs.declared.place.Place.TheVariants as place
 use Rattle.hc_model.specs.ActFilters.{Showing, showing_in, wait_in, has_loss}
 use Rattle.hc_model.specs.Cases.{case_at, head_view, was_shown}
 use Rattle.hc_model.specs.ConsumerRows.{consumer_heard, consumer_acted, by_head, by_fault, by_opening, place_by_case, passed_on, passed_by, kept_by, waiting, waiting_place, unless_bound, shown_place, due_after, back_in_line}

@@ -12,8 +12,8 @@ use Rattle.hc_rules.specs.declared.room.Limits.{Limits}
 use Rattle.hc_rules.specs.declared.survivor.Member.{Member}
 use Rattle.hc_rules.specs.Least.{least, lesser}
 use Rattle.hc_rules.specs.Survivors.{stands_at}
-use Rattle.hc_model.specs.declared.place.Place.TheVariants as place
-use Rattle.hc_model.specs.declared.place.BoundBy.{BoundBy}
+use Rattle.hc_event.specs.declared.place.Place.TheVariants as place
+use Rattle.hc_event.specs.declared.place.BoundBy.{BoundBy}
 use Rattle.hc_model.specs.ActFilters.{loses_in}
 use Rattle.hc_model.specs.ConsumerRows.{by_opening, own_after, left_to, waiting}
 use Rattle.hc_model.specs.Currents.{is_number}

@@ -16,10 +16,10 @@ use Rattle.hc_rules.specs.declared.room.Limits.{Limits}
 use Rattle.hc_rules.specs.HeadCases.{head_case}
 use Rattle.hc_rules.specs.Needs.{route_of}
 use Rattle.hc_rules.specs.Refusals as refusals
-use Rattle.hc_model.specs.declared.place.Place.{Place}
-use Rattle.hc_model.specs.declared.place.Place.TheVariants as place
-use Rattle.hc_model.specs.declared.place.BoundBy.{BoundBy}
-use Rattle.hc_model.specs.declared.place.BoundBy.TheVariants as by
+use Rattle.hc_event.specs.declared.place.Place.{Place}
+use Rattle.hc_event.specs.declared.place.Place.TheVariants as place
+use Rattle.hc_event.specs.declared.place.BoundBy.{BoundBy}
+use Rattle.hc_event.specs.declared.place.BoundBy.TheVariants as by
 use Rattle.hc_model.specs.ActFilters.{Showing, has_loss, showing_in, wait_in}
 use Rattle.hc_model.specs.Cases.{case_at, head_view, was_shown, is_joining}
 use Rattle.hc_model.specs.ConsumerRows.{consumer_heard, by_head, by_fault, place_by_case, by_opening, shown_place, waiting, waiting_place, own_after}

@@ -4,8 +4,8 @@ use Rattle.hc_event.specs.declared.event.Event.{Event}
 use Rattle.hc_rules.specs.Needs.{route_of}
 use Rattle.hc_rules.specs.declared.need.Route.TheVariants as route
 use Rattle.hc_rules.specs.declared.room.Limits.{Limits}
-use Rattle.hc_model.specs.declared.place.BoundBy.{BoundBy}
-use Rattle.hc_model.specs.declared.place.Place.TheVariants as place
+use Rattle.hc_event.specs.declared.place.BoundBy.{BoundBy}
+use Rattle.hc_event.specs.declared.place.Place.TheVariants as place
 use Rattle.hc_model.specs.Cases.{case_at, is_joining}
 use Rattle.hc_model.specs.Denials.{denial}
 use Rattle.hc_model.specs.Entries.{Entry}

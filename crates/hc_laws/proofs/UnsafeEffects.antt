@@ -14,8 +14,8 @@ use Rattle.hc_rules.specs.declared.need.Route.TheVariants as route
 use Rattle.hc_rules.specs.declared.room.Limits.{Limits}
 use Rattle.hc_rules.specs.HeadCases.{head_case}
 use Rattle.hc_rules.specs.Needs.{route_of}
-use Rattle.hc_model.specs.declared.place.Place.{Place}
-use Rattle.hc_model.specs.declared.place.Place.TheVariants as place
+use Rattle.hc_event.specs.declared.place.Place.{Place}
+use Rattle.hc_event.specs.declared.place.Place.TheVariants as place
 use Rattle.hc_model.specs.Answers.{accepted}
 use Rattle.hc_model.specs.Cases.{case_at, head_view, is_founding, is_updating, is_joining}
 use Rattle.hc_model.specs.Closings.{closing, closes_row, is_refused, awaits, has_no_survivor}

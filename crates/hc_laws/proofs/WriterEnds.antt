@@ -11,9 +11,9 @@ use Rattle.hc_event.specs.declared.event.Response.{Response}
 use Rattle.hc_event.specs.declared.act.Cause.TheVariants as cause
 use Rattle.hc_rules.specs.Lengths.{is_same_number}
 use Rattle.hc_rules.specs.declared.room.Limits.{Limits}
-use Rattle.hc_model.specs.declared.place.Place.{Place}
-use Rattle.hc_model.specs.declared.place.Place.TheVariants as place
-use Rattle.hc_model.specs.declared.place.BoundBy.{BoundBy}
+use Rattle.hc_event.specs.declared.place.Place.{Place}
+use Rattle.hc_event.specs.declared.place.Place.TheVariants as place
+use Rattle.hc_event.specs.declared.place.BoundBy.{BoundBy}
 use Rattle.hc_model.specs.ActFilters.{loses_in}
 use Rattle.hc_model.specs.Answers.{said, lost}
 use Rattle.hc_model.specs.Closings.{must_close, is_refused, brings_head, is_doomed, has_no_survivor, is_left, is_left_by, is_last_reader, leaver, leaver_by}

@@ -11,7 +11,7 @@ use Rattle.hc_event.specs.declared.act.LostKind.TheVariants as kind
 use Rattle.hc_event.specs.declared.event.Event.{Event}
 use Rattle.hc_event.specs.declared.event.Event.TheVariants as event
 use Rattle.hc_rules.specs.declared.room.Limits.{Limits}
-use Rattle.hc_model.specs.declared.place.Place.TheVariants as place
+use Rattle.hc_event.specs.declared.place.Place.TheVariants as place
 use Rattle.hc_model.specs.Answers.{accepted}
 use Rattle.hc_model.specs.Effects.{Does, counted, let_some_go, let_go, left_by, going_with, with_leave, with_representation, lost_to}
 use Rattle.hc_model.specs.Entries.{Entry}

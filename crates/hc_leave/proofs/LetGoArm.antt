@@ -19,8 +19,8 @@ use Rattle.hc_entry.proofs.OrderLemmas.{among-merged}
 use Rattle.hc_exch.specs.Exchanges.{table_of, next_of}
 use Rattle.hc_rising.specs.Rising.{without}
 use Rattle.hc_rules.proofs.RangeReads.{same_bytes, bytes_eq-same}
-use Rattle.hc_model.specs.declared.place.Place.{Place}
-use Rattle.hc_model.specs.declared.place.Place.TheVariants as place
+use Rattle.hc_event.specs.declared.place.Place.{Place}
+use Rattle.hc_event.specs.declared.place.Place.TheVariants as place
 use Rattle.hc_model.specs.ConsumerRows.{back_in_line}
 use Rattle.hc_model.specs.Currents.{current, is_usable, total_in}
 use Rattle.hc_model.specs.Denials.{is_live}

@@ -1,7 +1,7 @@
 -- What is current may be let go, also once an exchange is opened, or a consumer stands where it waits for no body.
 use Rattle.std.proofs.Common.{◌≡◌, inl, inr, ℕ, true, false, Option, Some, refl, ap, sym, ◌∙◌}
 use Rattle.std.specs.Prelude.{is_some}
-use Rattle.hc_model.specs.declared.place.Place.TheVariants as place
+use Rattle.hc_event.specs.declared.place.Place.TheVariants as place
 use Rattle.hc_model.specs.Effects.{with_consumer, with_opening}
 use Rattle.hc_model.specs.LettingGo.{MayLetGo, WaitsOn}
 use Rattle.hc_model.specs.Planning.{has_passed}

@@ -12,9 +12,9 @@ use Rattle.hc_event.specs.declared.event.Event.TheVariants as event
 use Rattle.hc_exch.specs.Exchanges as exch
 use Rattle.hc_exch.specs.Known as known
 use Rattle.hc_rules.specs.declared.room.Limits.{Limits}
-use Rattle.hc_model.specs.declared.place.Place.{Place}
-use Rattle.hc_model.specs.declared.place.Place.TheVariants as place
-use Rattle.hc_model.specs.declared.place.BoundBy.{BoundBy}
+use Rattle.hc_event.specs.declared.place.Place.{Place}
+use Rattle.hc_event.specs.declared.place.Place.TheVariants as place
+use Rattle.hc_event.specs.declared.place.BoundBy.{BoundBy}
 use Rattle.hc_model.specs.Currents.{current, is_current}
 use Rattle.hc_model.specs.Effects.{Does, counted, with_consumer, let_go, let_some_go, gone, closed, all_closed, finished, left_by, going_with, with_leave, is_unkeepable}
 use Rattle.hc_model.specs.Exchanges.{family}

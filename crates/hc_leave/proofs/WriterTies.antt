@@ -10,9 +10,9 @@ use Rattle.hc_entries.specs.Entries.{shelf_of}
 use Rattle.hc_entries.specs.Kept.{Kept}
 use Rattle.hc_entries.specs.Shelf.{cells_at, cells_in, is_kept}
 use Rattle.hc_exch.specs.Exchanges.{table_of}
-use Rattle.hc_model.specs.declared.place.Place.{Place}
-use Rattle.hc_model.specs.declared.place.Place.TheVariants as place
-use Rattle.hc_model.specs.declared.place.BoundBy.{BoundBy}
+use Rattle.hc_event.specs.declared.place.Place.{Place}
+use Rattle.hc_event.specs.declared.place.Place.TheVariants as place
+use Rattle.hc_event.specs.declared.place.BoundBy.{BoundBy}
 use Rattle.hc_model.specs.Currents.{is_number}
 use Rattle.hc_model.specs.Reading.{own_open, if_open, is_written, is_bound_place, offset, lo_of}
 use Rattle.hc_model.specs.Rows as rows

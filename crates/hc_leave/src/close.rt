@@ -19,8 +19,7 @@ ghost use Rattle.hc_rows.specs.Stored.{TellsShort};
 use crate::acts::put;
 use crate::gone::remove_consumer;
 use crate::seal::stop_bringing;
-use hc_event::{Act, Acts};
-use hc_model::Place;
+use hc_event::{Act, Acts, Place};
 use hc_rows::Rows;
 use hc_store::Backend;
 

@@ -9,7 +9,7 @@ use Rattle.hc_io.proofs.Takings.{takes_more, takes_none}
 use Rattle.hc_sched.specs.declared.schedule.Timed.{Timed}
 use Rattle.hc_sched.specs.Laws.{AreTimed}
 use Rattle.hc_sched.specs.Report.{entry_text}
-use Rattle.hc_step.specs.Counting.{received_in}
+use Rattle.hc_event.specs.Counting.{received_in}
 use Rattle.hc_loop.specs.Counting.{size_of}
 use Rattle.hc_loop.specs.Stepping.{Entry, History, events_in, report_after, Leads, nothing, more, Steps, StepsSome, last_moment}
 use Rattle.hc_loop.specs.Reported.{Tells}

@@ -10,7 +10,7 @@ use Rattle.hc_sched.specs.declared.schedule.Timed.{Timed}
 use Rattle.hc_sched.specs.Pieces.{piece_text}
 use Rattle.hc_sched.specs.Schedule.{Item, Moment, Happens, event_line, fields_in, fields_text, item_text, text_of, events_of}
 use Rattle.hc_sched.proofs.OneReading.{brings_items}
-use Rattle.hc_step.specs.Counting.{received_in}
+use Rattle.hc_event.specs.Counting.{received_in}
 use Rattle.hc_loop.specs.Counting.{size_of}
 use Rattle.hc_loop.specs.Endings.{brought}
 

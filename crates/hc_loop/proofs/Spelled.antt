@@ -1,7 +1,7 @@
 -- An event that has a spelling is modest.
 use Rattle.hc_event.specs.declared.event.Event.{Event}
 use Rattle.hc_event.specs.declared.event.Event.TheVariants as event
-use Rattle.hc_step.specs.Modest.{IsModestEvent}
+use Rattle.hc_event.specs.Modest.{IsModestEvent}
 use Rattle.hc_sched.specs.Schedule.{IsEvent}
 
 pub modest_spelled : (e : Event) → IsEvent e → IsModestEvent e

@@ -1,6 +1,6 @@
 -- How much there is to step: events, and the bytes of their pieces.
 use Rattle.std.specs.Prelude.{ℕ, ◌+◌, List, [], ◌∷◌}
-use Rattle.hc_step.specs.Counting.{received_in}
+use Rattle.hc_event.specs.Counting.{received_in}
 use Rattle.hc_sched.specs.declared.schedule.Timed.{Timed}
 
 -- one for each event, and one for each byte of a piece

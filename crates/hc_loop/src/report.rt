@@ -5,7 +5,7 @@ ghost use Rattle.hc_sched.specs.Feeding.{lines_in, StandsAt};
 ghost use Rattle.hc_sched.specs.Reading.{events_in};
 ghost use Rattle.hc_sched.specs.Laws.{AreTimed};
 ghost use Rattle.hc_sched.specs.Schedule.{IsEvent, IsSmall};
-ghost use Rattle.hc_step.specs.Counting.{received_in};
+ghost use Rattle.hc_event.specs.Counting.{received_in};
 ghost use Rattle.hc_loop.specs.Counting.{size_of};
 ghost use Rattle.hc_loop.specs.Endings.{Goes, IsReading};
 ghost use Rattle.hc_loop.specs.Stepping.{Steps, StepsSome, last_moment};
@@ -13,10 +13,9 @@ ghost use Rattle.hc_loop.specs.Reported.{Tells};
 ghost use Rattle.hc_loop.specs.Stops.{HasStopCause};
 
 use crate::stop::Stop;
-use hc_event::{Acts, Event};
+use hc_event::{Acts, Event, Stepper};
 use hc_io::{Sink, SinkError, write_all};
 use hc_sched::{Feed, Timed, write_acts};
-use hc_step::Stepper;
 use hc_text::NoMemory;
 use std::alloc::Global;
 

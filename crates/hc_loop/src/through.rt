@@ -7,9 +7,9 @@ ghost use Rattle.hc_sched.specs.declared.schedule.Ended.TheVariants as ended;
 
 use crate::report::Report;
 use crate::stop::Stop;
+use hc_event::Stepper;
 use hc_io::{Sink, Source};
 use hc_sched::{Ended, Feed};
-use hc_step::Stepper;
 use std::alloc::Global;
 
 /// How many bytes are read at once.

@@ -2,8 +2,8 @@
 use Rattle.std.proofs.Common.{◌≡◌, ℕ, Bool, true, false, Option, Some, None}
 use Rattle.hc_sparse.specs.Cells.{Covers}
 use Rattle.hc_rules.specs.Requests.{is_disabled}
-use Rattle.hc_model.specs.declared.place.Place.{Place}
-use Rattle.hc_model.specs.declared.place.Place.TheVariants as place
+use Rattle.hc_event.specs.declared.place.Place.{Place}
+use Rattle.hc_event.specs.declared.place.Place.TheVariants as place
 pub use Rattle.hc_model.specs.Fronts.{goes_on_at}
 use Rattle.hc_model.specs.Reading.{is_written, offset}
 use Rattle.hc_model.specs.Rows.{Tables, Exchange, Representation, Consumer}

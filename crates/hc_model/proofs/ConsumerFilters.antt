@@ -9,7 +9,7 @@ use Rattle.hc_model.specs.Entries.{Entry, History, Contents}
 use Rattle.hc_model.specs.Rows.{Tables, Exchange, Consumer}
 use Rattle.hc_model.specs.StartingOver.{starts_over}
 use Rattle.hc_model.specs.ConsumerRows.{consumer_after, consumer_made, consumer_heard, consumer_acted, consumer_settled, by_head, by_fault, by_opening, with_head, with_opening, waiting, back_in_line, due_after}
-use Rattle.hc_model.specs.declared.place.Place.TheVariants as place
+use Rattle.hc_event.specs.declared.place.Place.TheVariants as place
 use Rattle.hc_model.specs.Tables.{tables, after}
 use Rattle.hc_model.specs.Histories.{each, each_after, first, last, if_accepted, request_in, request_of, since_of, start_in, start_at, starts_over_at}
 use Rattle.hc_model.proofs.HoleLemmas.{bool_cases}

@@ -9,7 +9,7 @@ use Rattle.hc_model.specs.Rows.{Tables, Exchange, Representation, Consumer}
 use Rattle.hc_model.specs.Sound.{Sound, IsBound, IsAbout, IsFirst, HasPen, IsServed, IsHad, IsGrowing, IsAlone, IsToBeShown}
 use Rattle.hc_model.specs.Sound as sound
 use Rattle.hc_model.specs.Tables.{after_denied}
-use Rattle.hc_model.specs.declared.place.BoundBy.{BoundBy}
+use Rattle.hc_event.specs.declared.place.BoundBy.{BoundBy}
 
 module _ (t : Tables) (e : Entry) where
   abbrev pub u : Tables

@@ -2,8 +2,8 @@
 use Rattle.std.proofs.Common.{◌≡◌, inl, inr, ℕ, List, [], ◌∷◌, length, Bool, true, false, Option, Some, None, refl, ap, sym, ◌∙◌, arith}
 use Rattle.std.specs.Prelude.{find, filter, bytes_eq, nat_eq, ◌==◌, ◌&&◌, not, if◌then◌else◌, option_map}
 use Rattle.std.proofs.lemmas.Bool.Decides.{nat_tests}
-use Rattle.hc_model.specs.declared.place.Place.{Place}
-use Rattle.hc_model.specs.declared.place.Place.TheVariants as place
+use Rattle.hc_event.specs.declared.place.Place.{Place}
+use Rattle.hc_event.specs.declared.place.Place.TheVariants as place
 use Rattle.hc_model.specs.ConsumerRows.{back_in_line}
 use Rattle.hc_model.specs.Currents.{current, is_usable}
 use Rattle.hc_model.specs.Denials.{live, is_live, is_live_place}

@@ -16,10 +16,10 @@ use Rattle.hc_rules.specs.declared.reading.ReadView.{ReadView}
 use Rattle.hc_rules.specs.Plans.{plan_of}
 use Rattle.hc_rules.specs.Readings.{read_step, is_at_end, stored_or, held_or, fails_or, waits_or}
 use Rattle.hc_rules.specs.Readings as readings
-use Rattle.hc_model.specs.declared.place.Place.{Place}
-use Rattle.hc_model.specs.declared.place.Place.TheVariants as place
-use Rattle.hc_model.specs.declared.place.BoundBy.{BoundBy}
-use Rattle.hc_model.specs.declared.place.BoundBy.TheVariants as by_how
+use Rattle.hc_event.specs.declared.place.Place.{Place}
+use Rattle.hc_event.specs.declared.place.Place.TheVariants as place
+use Rattle.hc_event.specs.declared.place.BoundBy.{BoundBy}
+use Rattle.hc_event.specs.declared.place.BoundBy.TheVariants as by_how
 use Rattle.hc_model.specs.Currents.{current}
 use Rattle.hc_model.specs.Moves as moves
 use Rattle.hc_model.specs.Moves.{Move, Nothing, Asks, Opens, Ends, Fails, gives, waits_for, opens_hole, shows_stored}

@@ -16,8 +16,8 @@ use Rattle.hc_event.specs.declared.act.Wait.TheVariants as wait
 use Rattle.hc_event.specs.declared.event.Request.{Request}
 use Rattle.hc_rules.specs.Readings.{read_step, is_at_end, cut_at, stored_or, held_or, fails_or, waits_or, opens}
 use Rattle.hc_rules.specs.declared.reading.ReadView.{ReadView}
-use Rattle.hc_model.specs.declared.place.Place.{Place}
-use Rattle.hc_model.specs.declared.place.Place.TheVariants as place
+use Rattle.hc_event.specs.declared.place.Place.{Place}
+use Rattle.hc_event.specs.declared.place.Place.TheVariants as place
 use Rattle.hc_model.specs.Currents.{row_of, is_number}
 use Rattle.hc_model.specs.Exchanges.{base}
 use Rattle.hc_model.specs.Exchanges as exchanges

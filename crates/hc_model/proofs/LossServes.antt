@@ -15,8 +15,8 @@ use Rattle.hc_model.specs.RepresentationRows.{representation_after, representati
 use Rattle.hc_model.specs.Rows.{Tables, Exchange, Representation, Consumer}
 use Rattle.hc_model.specs.Sound.{Sound, IsBound, IsServed, HasPen}
 use Rattle.hc_model.specs.Writers.{loses_writing, survivor, goes_on_with}
-use Rattle.hc_model.specs.declared.place.BoundBy.{BoundBy}
-use Rattle.hc_model.specs.declared.place.Place.TheVariants as place
+use Rattle.hc_event.specs.declared.place.BoundBy.{BoundBy}
+use Rattle.hc_event.specs.declared.place.Place.TheVariants as place
 use Rattle.hc_model.specs.Sound as sound
 use Rattle.hc_model.proofs.Basics.{and_both, or_left}
 use Rattle.hc_model.proofs.HoleLemmas.{bool_cases}

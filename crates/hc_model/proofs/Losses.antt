@@ -9,11 +9,11 @@ use Rattle.hc_model.specs.Reading.{is_written, bound, is_bound_place, is_bound, 
 use Rattle.hc_model.specs.Rows.{Tables, Representation, Consumer}
 use Rattle.hc_model.specs.Sound.{Sound, Among, IsBound, IsFirst, HasPen, IsServed}
 use Rattle.hc_model.specs.Writers.{may_write, bound_kind, bound_as, exclusive, came_alone, has_more, lacks_some}
-use Rattle.hc_model.specs.declared.place.Place.{Place}
+use Rattle.hc_event.specs.declared.place.Place.{Place}
 use Rattle.hc_rules.specs.Least.{least, lesser}
 use Rattle.hc_rules.specs.Admissions.{is_of, is_same_kind, numbers}
 use Rattle.hc_rules.specs.declared.admission.BoundKind.TheVariants as kind
-use Rattle.hc_model.specs.declared.place.Place.TheVariants as place
+use Rattle.hc_event.specs.declared.place.Place.TheVariants as place
 use Rattle.hc_model.specs.Sound as sound
 use Rattle.hc_model.proofs.HoleLemmas.{bool_cases, covers_all}
 use Rattle.hc_model.proofs.Pens.{same_row}

@@ -5,8 +5,8 @@ use Rattle.std.specs.Prelude.{◌&&◌, not, nat_eq, if◌then◌else◌, is_non
 use Rattle.std.specs.Option.{option_or}
 use Rattle.hc_event.specs.declared.act.Cause.{Cause}
 use Rattle.hc_event.specs.declared.act.Cause.TheVariants as cause
-use Rattle.hc_model.specs.declared.place.Place.TheVariants as place
-use Rattle.hc_model.specs.declared.place.BoundBy.{BoundBy}
+use Rattle.hc_event.specs.declared.place.Place.TheVariants as place
+use Rattle.hc_event.specs.declared.place.BoundBy.{BoundBy}
 use Rattle.hc_model.specs.ActFilters.{fails_in}
 use Rattle.hc_model.specs.Closings.{has_no_survivor}
 use Rattle.hc_model.specs.ConsumerRows.{consumer_after, consumer_acted, consumer_settled, own_after}

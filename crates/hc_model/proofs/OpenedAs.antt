@@ -21,10 +21,10 @@ use Rattle.hc_rules.specs.Needs.{route_of}
 use Rattle.hc_rules.specs.Plans.{plan_of}
 use Rattle.hc_rules.specs.Readings.{read_step}
 use Rattle.hc_rules.specs.Requests.{class_of, is_bypassing, is_disabled, range_of, wanted_of}
-use Rattle.hc_model.specs.declared.place.Place.{Place}
-use Rattle.hc_model.specs.declared.place.Place.TheVariants as place
-use Rattle.hc_model.specs.declared.place.BoundBy.{BoundBy}
-use Rattle.hc_model.specs.declared.place.BoundBy.TheVariants as by_how
+use Rattle.hc_event.specs.declared.place.Place.{Place}
+use Rattle.hc_event.specs.declared.place.Place.TheVariants as place
+use Rattle.hc_event.specs.declared.place.BoundBy.{BoundBy}
+use Rattle.hc_event.specs.declared.place.BoundBy.TheVariants as by_how
 use Rattle.hc_model.specs.Currents.{current, row_of}
 use Rattle.hc_model.specs.Holes.{first_hole}
 use Rattle.hc_model.specs.Moves as moves

@@ -5,8 +5,8 @@ use Rattle.hc_event.specs.Filters.{Opening, opening_in}
 use Rattle.hc_event.specs.declared.event.Event.{Event}
 use Rattle.hc_event.specs.declared.event.Event.TheVariants as event
 use Rattle.hc_event.specs.declared.event.Response.{Response}
-use Rattle.hc_model.specs.declared.place.Place.{Place}
-use Rattle.hc_model.specs.declared.place.Place.TheVariants as place
+use Rattle.hc_event.specs.declared.place.Place.{Place}
+use Rattle.hc_event.specs.declared.place.Place.TheVariants as place
 use Rattle.hc_model.specs.Cases.{case_at}
 use Rattle.hc_model.specs.ConsumerRows.{consumer_heard, by_head, by_fault, becomes_shared, by_opening, own_after, left_to, waiting, consumer_acted, due_after}
 use Rattle.hc_model.specs.Currents.{is_number}

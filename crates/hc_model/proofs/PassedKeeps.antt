@@ -11,7 +11,7 @@ use Rattle.hc_rules.specs.declared.heads.HeadCase.TheVariants as case
 use Rattle.hc_rules.specs.declared.room.Limits.{Limits}
 use Rattle.hc_rules.specs.HeadCases.{is_conditional}
 use Rattle.hc_rules.specs.Requests.{is_bypassing}
-use Rattle.hc_model.specs.declared.place.Place.TheVariants as place
+use Rattle.hc_event.specs.declared.place.Place.TheVariants as place
 use Rattle.hc_model.specs.ActFilters.{wait_in, has_loss}
 use Rattle.hc_model.specs.Cases.{case_at, head_view}
 use Rattle.hc_model.specs.Denials.{denial}

@@ -26,7 +26,7 @@ use Rattle.hc_model.specs.Rows.{Tables, Representation, Consumer}
 use Rattle.hc_model.specs.Sound.{Sound, Waits as StillWaits, OneAbout, IsAbout, InHole, HasPen}
 use Rattle.hc_model.specs.Steps.{held_of_lost}
 use Rattle.hc_model.specs.Tables.{after_accepted}
-use Rattle.hc_model.specs.declared.place.Place.{Place}
+use Rattle.hc_event.specs.declared.place.Place.{Place}
 use Rattle.hc_rules.specs.declared.room.Limits.{Limits}
 use Rattle.hc_model.specs.Sound as sound
 use Rattle.hc_model.proofs.Basics.{and_right, not_true}

@@ -4,8 +4,8 @@ use mathlib.Core.Path.{fun_ext}
 use Rattle.std.specs.Prelude.{◌==◌, ◌||◌, if◌then◌else◌, option_map}
 use Rattle.std.specs.Option.{option_or}
 use Rattle.hc_event.specs.declared.act.Cause.{Cause}
-use Rattle.hc_model.specs.declared.place.Place.{Place}
-use Rattle.hc_model.specs.declared.place.Place.TheVariants as place
+use Rattle.hc_event.specs.declared.place.Place.{Place}
+use Rattle.hc_event.specs.declared.place.Place.TheVariants as place
 use Rattle.hc_model.specs.ConsumerRows.{back_in_line}
 use Rattle.hc_model.specs.Currents.{is_number}
 use Rattle.hc_model.specs.Effects.{waits_for, back_from, gone, let_go, let_all_go, let_some_go, over, closed, all_closed, failing, if_bound, with_due, with_dues, with_length}

@@ -13,8 +13,8 @@ use Rattle.hc_rules.specs.declared.request.Wanted.TheVariants as wanted
 use Rattle.hc_rules.specs.Least.{least}
 use Rattle.hc_rules.specs.Plans.{plan_of}
 use Rattle.hc_rules.specs.Requests.{class_of, is_disabled, range_of, wanted_of}
-use Rattle.hc_model.specs.declared.place.Place.{Place}
-use Rattle.hc_model.specs.declared.place.Place.TheVariants as place
+use Rattle.hc_event.specs.declared.place.Place.{Place}
+use Rattle.hc_event.specs.declared.place.Place.TheVariants as place
 use Rattle.hc_model.specs.ActFilters.{Showing}
 use Rattle.hc_model.specs.Currents.{current, total_in}
 use Rattle.hc_model.specs.Holes.{first_hole}

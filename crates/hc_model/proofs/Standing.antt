@@ -12,8 +12,8 @@ use Rattle.hc_rules.specs.declared.room.Limits.{Limits}
 use Rattle.hc_rules.specs.Lengths.{is_same_number}
 use Rattle.std.specs.Option.{option_or}
 use Rattle.hc_rules.proofs.RangeReads.{bytes_eq-same}
-use Rattle.hc_model.specs.declared.place.Place.{Place}
-use Rattle.hc_model.specs.declared.place.Place.TheVariants as place
+use Rattle.hc_event.specs.declared.place.Place.{Place}
+use Rattle.hc_event.specs.declared.place.Place.TheVariants as place
 use Rattle.hc_model.specs.ActFilters.{Showing, showing_in, has_loss}
 use Rattle.hc_model.specs.Answers.{accepted, said, lost, closed, is_asked}
 use Rattle.hc_model.specs.Cases.{case_at, case_of}

@@ -15,10 +15,10 @@ use Rattle.hc_rules.specs.Refusals.{head_refusal, fault_refusal}
 use Rattle.hc_rules.specs.declared.need.Route.{Route}
 use Rattle.hc_rules.specs.declared.room.Limits.{Limits}
 use Rattle.hc_rules.specs.Needs.{route_of}
-use Rattle.hc_model.specs.declared.place.BoundBy.{BoundBy}
-use Rattle.hc_model.specs.declared.place.BoundBy.TheVariants as by
-use Rattle.hc_model.specs.declared.place.Place.{Place}
-use Rattle.hc_model.specs.declared.place.Place.TheVariants as place
+use Rattle.hc_event.specs.declared.place.BoundBy.{BoundBy}
+use Rattle.hc_event.specs.declared.place.BoundBy.TheVariants as by
+use Rattle.hc_event.specs.declared.place.Place.{Place}
+use Rattle.hc_event.specs.declared.place.Place.TheVariants as place
 use Rattle.hc_model.specs.ActFilters.{has_loss, wait_in, leaver_in, Showing, showing_in}
 use Rattle.hc_model.specs.Cases.{case_at, case_of}
 use Rattle.hc_model.specs.Closings.{must_close, is_doomed, is_left, is_left_by, awaits, leaver, leaver_by, is_refused, brings_head}

@@ -17,10 +17,10 @@ use Rattle.hc_rules.specs.declared.request.Wanted.{Wanted}
 use Rattle.hc_rules.specs.declared.request.Wanted.TheVariants as wanted
 use Rattle.hc_rules.specs.Plans.{plan_of, bare_plan, in_time, from_store, by_current, by_why, by_wanted, by_exclusive, by_hole, by_bound, plan_on, why_by, queues}
 use Rattle.hc_fresh.specs.Facts.{allowed}
-use Rattle.hc_model.specs.declared.place.BoundBy.{BoundBy}
-use Rattle.hc_model.specs.declared.place.BoundBy.TheVariants as by
-use Rattle.hc_model.specs.declared.place.Place.{Place}
-use Rattle.hc_model.specs.declared.place.Place.TheVariants as place
+use Rattle.hc_event.specs.declared.place.BoundBy.{BoundBy}
+use Rattle.hc_event.specs.declared.place.BoundBy.TheVariants as by
+use Rattle.hc_event.specs.declared.place.Place.{Place}
+use Rattle.hc_event.specs.declared.place.Place.TheVariants as place
 use Rattle.hc_model.specs.ConsumerRows.{kept_by}
 use Rattle.hc_model.specs.Currents.{current, total_in}
 use Rattle.hc_model.specs.Exchanges.{base}

@@ -6,8 +6,8 @@ use Rattle.hc_event.specs.declared.act.Refusal.{Refusal}
 use Rattle.hc_rules.specs.declared.refusal.Gate.{Gate}
 use Rattle.hc_rules.specs.declared.refusal.OpenExchange.{OpenExchange}
 use Rattle.hc_rules.specs.Refusals as refusals
-use Rattle.hc_model.specs.declared.place.Place.{Place}
-use Rattle.hc_model.specs.declared.place.Place.TheVariants as place
+use Rattle.hc_event.specs.declared.place.Place.{Place}
+use Rattle.hc_event.specs.declared.place.Place.TheVariants as place
 use Rattle.hc_model.specs.Rows.{Tables, Exchange, Consumer}
 use Rattle.hc_model.specs.Exchanges.{promised, exchange_at}
 

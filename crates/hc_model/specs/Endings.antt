@@ -1,7 +1,7 @@
 -- Where an answer past the store ends, and that what is open lacks something.
 use Rattle.std.specs.Prelude.{◌≡◌, ℕ, length, true, false, Some, None}
-use Rattle.hc_model.specs.declared.place.BoundBy.{BoundBy}
-use Rattle.hc_model.specs.declared.place.Place.TheVariants as place
+use Rattle.hc_event.specs.declared.place.BoundBy.{BoundBy}
+use Rattle.hc_event.specs.declared.place.Place.TheVariants as place
 use Rattle.hc_model.specs.Exchanges.{front, promised, is_reached}
 use Rattle.hc_model.specs.Reading.{hi_of, own_open}
 use Rattle.hc_model.specs.Rows.{Tables, Exchange, Representation, Consumer}

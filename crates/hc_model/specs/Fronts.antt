@@ -1,8 +1,8 @@
 -- Where the own exchange of a reader goes on: not before where it began to read.
 use Rattle.std.specs.Prelude.{◌≡◌, ◌≤◌, ℕ, true, Option, Some, None}
 use Rattle.hc_event.specs.declared.event.Response.{Response}
-use Rattle.hc_model.specs.declared.place.BoundBy.{BoundBy}
-use Rattle.hc_model.specs.declared.place.Place.TheVariants as place
+use Rattle.hc_event.specs.declared.place.BoundBy.{BoundBy}
+use Rattle.hc_event.specs.declared.place.Place.TheVariants as place
 use Rattle.hc_model.specs.Exchanges.{front}
 use Rattle.hc_model.specs.RepresentationRows.{hole_start}
 use Rattle.hc_model.specs.Rows.{Tables, Exchange, Consumer}

@@ -1,8 +1,8 @@
 -- What a reader was given: it stands in the body, and not past its end.
 use Rattle.std.specs.Prelude.{◌≡◌, ◌⊎◌, ℕ, ◌+◌, ◌≤◌, Option, Some, None}
 use Rattle.hc_sparse.specs.Cells.{Covers}
-use Rattle.hc_model.specs.declared.place.Place.TheVariants as place
-use Rattle.hc_model.specs.declared.place.BoundBy.{BoundBy}
+use Rattle.hc_event.specs.declared.place.Place.TheVariants as place
+use Rattle.hc_event.specs.declared.place.BoundBy.{BoundBy}
 use Rattle.hc_model.specs.Reading.{hi_of}
 use Rattle.hc_model.specs.Rows.{Tables, Representation, Consumer}
 

@@ -15,10 +15,10 @@ use Rattle.hc_rules.specs.declared.room.Limits.{Limits}
 use Rattle.hc_rules.specs.Needs.{route_of}
 use Rattle.hc_rules.specs.Requests.{is_bypassing, is_disabled, is_only}
 use Rattle.hc_fresh.specs.Vary.{matches_vary}
-use Rattle.hc_model.specs.declared.place.BoundBy.{BoundBy}
-use Rattle.hc_model.specs.declared.place.BoundBy.TheVariants as by
-use Rattle.hc_model.specs.declared.place.Place.TheVariants as place
-use Rattle.hc_model.specs.declared.place.BoundBy.{BoundBy}
+use Rattle.hc_event.specs.declared.place.BoundBy.{BoundBy}
+use Rattle.hc_event.specs.declared.place.BoundBy.TheVariants as by
+use Rattle.hc_event.specs.declared.place.Place.TheVariants as place
+use Rattle.hc_event.specs.declared.place.BoundBy.{BoundBy}
 use Rattle.hc_model.specs.Entries.{Entry, History, Content, Contents, unanswered}
 use Rattle.hc_model.specs.Flaws.{Flaw}
 use Rattle.hc_model.specs.Rows.{Tables, Exchange, Representation, Consumer}

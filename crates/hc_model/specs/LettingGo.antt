@@ -7,7 +7,7 @@ use Rattle.hc_rules.specs.declared.room.Room.{Room}
 use Rattle.hc_rules.specs.declared.room.Room.TheVariants as room
 use Rattle.hc_rules.specs.declared.room.Write.{Write}
 use Rattle.hc_rules.specs.Rooms.{weight_of, room_of}
-use Rattle.hc_model.specs.declared.place.Place.TheVariants as place
+use Rattle.hc_event.specs.declared.place.Place.TheVariants as place
 use Rattle.hc_model.specs.Contents.{idle_now}
 use Rattle.hc_model.specs.Currents.{is_current}
 use Rattle.hc_model.specs.Orders.{AreOnce}

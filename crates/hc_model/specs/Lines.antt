@@ -3,8 +3,8 @@ use Rattle.std.specs.Prelude.{ℕ, List, ◌∷◌, bytes_eq, Bool, true, false,
 use Rattle.std.specs.Option.{option_or}
 use Rattle.hc_rules.specs.Least.{least}
 use Rattle.hc_rules.specs.Requests.{is_disabled, is_only}
-use Rattle.hc_model.specs.declared.place.Place.{Place}
-use Rattle.hc_model.specs.declared.place.Place.TheVariants as place
+use Rattle.hc_event.specs.declared.place.Place.{Place}
+use Rattle.hc_event.specs.declared.place.Place.TheVariants as place
 use Rattle.hc_model.specs.Rows.{Tables, Consumer}
 
 abbrev pub stands_in_line : Place → Bool

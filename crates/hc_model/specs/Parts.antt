@@ -1,7 +1,7 @@
 -- What a consumer reads of what it is bound to: a part isn't empty, and who founded with the whole reads all of it.
 use Rattle.std.specs.Prelude.{◌≡◌, ◌≢◌, ◌<◌, ℕ, true, Some}
-use Rattle.hc_model.specs.declared.place.BoundBy.TheVariants as by
-use Rattle.hc_model.specs.declared.place.Place.TheVariants as place
+use Rattle.hc_event.specs.declared.place.BoundBy.TheVariants as by
+use Rattle.hc_event.specs.declared.place.Place.TheVariants as place
 use Rattle.hc_model.specs.Planning.{is_ranged}
 use Rattle.hc_model.specs.Rows.{Tables, Representation, Consumer}
 

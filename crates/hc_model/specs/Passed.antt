@@ -1,6 +1,6 @@
 -- Who was let through: it waits for what is current, and the 304 that it kept came from its own exchange.
 use Rattle.std.specs.Prelude.{◌≡◌, ℕ, false, Option, Some, None}
-use Rattle.hc_model.specs.declared.place.Place.TheVariants as place
+use Rattle.hc_event.specs.declared.place.Place.TheVariants as place
 use Rattle.hc_model.specs.Currents.{current}
 use Rattle.hc_model.specs.Rows.{Tables, Exchange, Representation, Consumer}
 

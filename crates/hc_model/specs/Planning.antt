@@ -19,8 +19,8 @@ use Rattle.hc_rules.specs.Least.{least}
 use Rattle.hc_fresh.specs.Facts.{allowed}
 use Rattle.hc_fresh.specs.Vary.{matches_vary}
 use Rattle.hc_validate.specs.Conditions.{conditional}
-use Rattle.hc_model.specs.declared.place.Place.{Place}
-use Rattle.hc_model.specs.declared.place.Place.TheVariants as place
+use Rattle.hc_event.specs.declared.place.Place.{Place}
+use Rattle.hc_event.specs.declared.place.Place.TheVariants as place
 use Rattle.hc_model.specs.Rows.{Tables, Representation, Consumer}
 use Rattle.hc_model.specs.Currents.{current, row_of, total_in}
 use Rattle.hc_model.specs.Holes.{first_hole}

@@ -1,8 +1,8 @@
 -- Where a consumer stands in what it reads, and from which exchange it reads.
 use Rattle.std.specs.Prelude.{ℕ, ◌+◌, List, length, Bool, false, true, Option, Some, None, if◌then◌else◌, ◌==◌, ◌&&◌, not, filter, option_and_then}
 use Rattle.std.specs.Option.{option_or}
-use Rattle.hc_model.specs.declared.place.Place.{Place}
-use Rattle.hc_model.specs.declared.place.Place.TheVariants as place
+use Rattle.hc_event.specs.declared.place.Place.{Place}
+use Rattle.hc_event.specs.declared.place.Place.TheVariants as place
 use Rattle.hc_model.specs.Rows.{Tables, Exchange, Representation, Consumer}
 use Rattle.hc_model.specs.Exchanges.{base, promised, is_open}
 use Rattle.hc_model.specs.Currents.{total_in}

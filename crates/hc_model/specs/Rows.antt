@@ -6,7 +6,7 @@ use Rattle.hc_event.specs.declared.event.Request.{Request}
 use Rattle.hc_event.specs.declared.event.Response.{Response}
 use Rattle.hc_event.specs.declared.act.Need.{Need}
 use Rattle.hc_event.specs.declared.act.Cause.{Cause}
-use Rattle.hc_model.specs.declared.place.Place.{Place}
+use Rattle.hc_event.specs.declared.place.Place.{Place}
 
 -- an exchange
 pub record Exchange : Type 0 where

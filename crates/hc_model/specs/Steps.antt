@@ -8,8 +8,8 @@ use Rattle.hc_rules.specs.declared.reading.ReadStep.{ReadStep}
 use Rattle.hc_rules.specs.declared.reading.ReadStep.TheVariants as step
 use Rattle.hc_rules.specs.declared.reading.ReadView.{ReadView}
 use Rattle.hc_rules.specs.Readings.{read_step, cut_at}
-use Rattle.hc_model.specs.declared.place.Place.{Place}
-use Rattle.hc_model.specs.declared.place.Place.TheVariants as place
+use Rattle.hc_event.specs.declared.place.Place.{Place}
+use Rattle.hc_event.specs.declared.place.Place.TheVariants as place
 use Rattle.hc_model.specs.Rows.{Tables, Exchange, Representation, Consumer}
 use Rattle.hc_model.specs.Exchanges.{base}
 use Rattle.hc_model.specs.Currents.{row_of, is_number}

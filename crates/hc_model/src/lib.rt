@@ -1,7 +1,3 @@
 //! The definitions over histories: what a run of the cache is, without queue, store or state, and the
 //! lemmas on which the laws of runs stand.
 #![tactic(auto)]
-
-mod place;
-
-pub use place::{BoundBy, Place};

@@ -13,9 +13,9 @@ use Rattle.hc_exch.specs.Known as known
 use Rattle.hc_exch.specs.Known.{Known}
 use Rattle.hc_exch.specs.declared.row.Open.{Open}
 use Rattle.hc_rules.specs.Lengths.{base_of, promise_of}
-use Rattle.hc_model.specs.declared.place.Place.{Place}
-use Rattle.hc_model.specs.declared.place.Place.TheVariants as place
-use Rattle.hc_model.specs.declared.place.BoundBy.TheVariants as by
+use Rattle.hc_event.specs.declared.place.Place.{Place}
+use Rattle.hc_event.specs.declared.place.Place.TheVariants as place
+use Rattle.hc_event.specs.declared.place.BoundBy.TheVariants as by
 use Rattle.hc_model.specs.Currents.{current, is_number}
 use Rattle.hc_model.specs.Effects.{with_ask, to_bring}
 use Rattle.hc_model.specs.Exchanges.{base, promised, family, is_headless, length_by}

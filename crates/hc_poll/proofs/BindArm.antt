@@ -20,8 +20,8 @@ use Rattle.hc_record.specs.Head.{Head}
 use Rattle.hc_rules.specs.declared.room.Limits.{Limits}
 use Rattle.hc_validate.specs.Showing.{shown}
 use Rattle.hc_exch.specs.Exchanges.{table_of, next_of}
-use Rattle.hc_model.specs.declared.place.Place.TheVariants as place
-use Rattle.hc_model.specs.declared.place.BoundBy.TheVariants as by
+use Rattle.hc_event.specs.declared.place.Place.TheVariants as place
+use Rattle.hc_event.specs.declared.place.BoundBy.TheVariants as by
 use Rattle.hc_model.specs.Currents.{current, total_in}
 use Rattle.hc_model.specs.Denials.{is_live}
 use Rattle.hc_model.specs.Effects.{counted, with_consumer, used_last}

@@ -5,10 +5,10 @@ use Rattle.hc_rising.specs.Rising.{has, with_item, without}
 use Rattle.hc_rising.proofs.RisingLemmas.{has-with}
 use Rattle.hc_entries.specs.Kept.{Kept, itself, with_user, with_first}
 use Rattle.hc_entries.specs.Shelf.{Shelf, Becomes, moved_first}
-use Rattle.hc_model.specs.declared.place.Place.{Place}
-use Rattle.hc_model.specs.declared.place.Place.TheVariants as place
-use Rattle.hc_model.specs.declared.place.BoundBy.{BoundBy}
-use Rattle.hc_model.specs.declared.place.BoundBy.TheVariants as by
+use Rattle.hc_event.specs.declared.place.Place.{Place}
+use Rattle.hc_event.specs.declared.place.Place.TheVariants as place
+use Rattle.hc_event.specs.declared.place.BoundBy.{BoundBy}
+use Rattle.hc_event.specs.declared.place.BoundBy.TheVariants as by
 use Rattle.hc_model.specs.Currents.{is_number}
 use Rattle.hc_model.specs.Exchanges.{family}
 use Rattle.hc_model.specs.Kinds.{kind_of}

@@ -11,9 +11,9 @@ use Rattle.hc_entries.specs.Entries.{shelf_of}
 use Rattle.hc_entries.specs.Kept as entry
 use Rattle.hc_entries.specs.Shelf.{cells_at, cells_in}
 use Rattle.hc_exch.specs.Exchanges.{table_of}
-use Rattle.hc_model.specs.declared.place.BoundBy.{BoundBy}
-use Rattle.hc_model.specs.declared.place.Place.{Place}
-use Rattle.hc_model.specs.declared.place.Place.TheVariants as place
+use Rattle.hc_event.specs.declared.place.BoundBy.{BoundBy}
+use Rattle.hc_event.specs.declared.place.Place.{Place}
+use Rattle.hc_event.specs.declared.place.Place.TheVariants as place
 use Rattle.hc_model.specs.Currents.{is_number, row_of}
 use Rattle.hc_model.specs.Exchanges.{base, front, family}
 use Rattle.hc_model.specs.Holes.{stretch_to, next_from, first_place, absent_from}

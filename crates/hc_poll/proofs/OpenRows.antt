@@ -5,8 +5,8 @@ use Rattle.hc_event.specs.declared.event.Request.{Request}
 use Rattle.hc_rules.specs.Needs.{route_of}
 use Rattle.hc_exch.specs.declared.role.Role.{Role}
 use Rattle.hc_exch.specs.Known.{opened}
-use Rattle.hc_model.specs.declared.place.Place.{Place}
-use Rattle.hc_model.specs.declared.place.Place.TheVariants as place
+use Rattle.hc_event.specs.declared.place.Place.{Place}
+use Rattle.hc_event.specs.declared.place.Place.TheVariants as place
 use Rattle.hc_model.specs.Denials.{is_live_place}
 use Rattle.hc_model.specs.Effects.{with_consumer, with_opening, just_opened}
 use Rattle.hc_model.specs.Reading.{reads, lo_of, hi_of}

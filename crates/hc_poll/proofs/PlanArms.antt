@@ -39,8 +39,8 @@ use Rattle.hc_rules.specs.Plans.{plan_of, bare_plan, from_store, in_time, by_cur
 use Rattle.hc_rules.specs.declared.request.RequestClass.{RequestClass}
 use Rattle.hc_rules.specs.Requests.{class_of, is_bypassing, is_disabled, is_only}
 use Rattle.hc_exch.specs.Exchanges.{next_of}
-use Rattle.hc_model.specs.declared.place.Place.{Place}
-use Rattle.hc_model.specs.declared.place.Place.TheVariants as place
+use Rattle.hc_event.specs.declared.place.Place.{Place}
+use Rattle.hc_event.specs.declared.place.Place.TheVariants as place
 use Rattle.hc_record.specs.declared.head.StoredHead.{StoredHead}
 use Rattle.hc_record.specs.Head.{Head}
 use Rattle.hc_record.specs.Plain.{plain}

@@ -15,7 +15,7 @@ use Rattle.hc_rules.specs.declared.request.Wanted.{Wanted}
 use Rattle.hc_rules.specs.declared.request.Wanted.TheVariants as wants
 use Rattle.hc_rules.specs.Plans.{plan_of, bare_plan, in_time, from_store, queues, by_current, by_why, plan_on, by_wanted, by_exclusive, by_hole, by_bound, why_by}
 use Rattle.hc_rules.specs.Requests.{class_of}
-use Rattle.hc_model.specs.declared.place.Place.{Place}
+use Rattle.hc_event.specs.declared.place.Place.{Place}
 use Rattle.hc_model.specs.ConsumerRows.{kept_by}
 use Rattle.hc_model.specs.Lines as lines
 use Rattle.hc_model.specs.Planning as planning

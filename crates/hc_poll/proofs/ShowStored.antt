@@ -26,9 +26,9 @@ use Rattle.hc_entries.specs.Shelf.{head_at, is_kept}
 use Rattle.hc_entries.specs.Views.{has_user}
 use Rattle.hc_exch.specs.Exchanges.{table_of, next_of}
 use Rattle.hc_exch.specs.declared.row.Open.{Open}
-use Rattle.hc_model.specs.declared.place.BoundBy.{BoundBy}
-use Rattle.hc_model.specs.declared.place.BoundBy.TheVariants as by
-use Rattle.hc_model.specs.declared.place.Place.TheVariants as place
+use Rattle.hc_event.specs.declared.place.BoundBy.{BoundBy}
+use Rattle.hc_event.specs.declared.place.BoundBy.TheVariants as by
+use Rattle.hc_event.specs.declared.place.Place.TheVariants as place
 use Rattle.hc_model.specs.Currents.{is_number, total_in}
 use Rattle.hc_model.specs.Effects.{with_consumer, counted}
 use Rattle.hc_model.specs.Exchanges.{is_headless}

@@ -17,9 +17,9 @@ use Rattle.hc_rising.proofs.RisingLemmas.{has-with}
 use Rattle.hc_rules.proofs.RangeReads.{bytes_eq-same}
 use Rattle.hc_exch.specs.Exchanges.{table_of}
 use Rattle.hc_entries.specs.Entries.{shelf_of}
-use Rattle.hc_model.specs.declared.place.Place.{Place}
-use Rattle.hc_model.specs.declared.place.Place.TheVariants as place
-use Rattle.hc_model.specs.declared.place.BoundBy.TheVariants as by
+use Rattle.hc_event.specs.declared.place.Place.{Place}
+use Rattle.hc_event.specs.declared.place.Place.TheVariants as place
+use Rattle.hc_event.specs.declared.place.BoundBy.TheVariants as by
 use Rattle.hc_model.specs.Lines.{is_in_line}
 use Rattle.hc_model.specs.ConsumerRows.{started}
 use Rattle.hc_model.specs.Currents.{current}

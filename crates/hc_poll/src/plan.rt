@@ -17,12 +17,11 @@ ghost use Rattle.hc_rules.specs.declared.need.Route.TheVariants as route;
 ghost use Rattle.hc_rules.specs.Needs.{route_of};
 
 use crate::poll::wait;
-use hc_event::{Act, Acts, Need, Request, Wait};
+use hc_event::{Act, Acts, Need, Place, Request, Wait};
 use hc_exch::Role;
 use hc_leave::acts::put;
 use hc_leave::evict::let_some_go;
 use hc_leave::leave::leave_line;
-use hc_model::Place;
 use hc_record::StoredHead;
 use hc_rows::{Rows, let_pass, line_up, read_past, take_turn};
 use hc_store::Backend;

@@ -12,9 +12,8 @@ ghost use Rattle.hc_rows.specs.Stands.{Answers, Stands};
 
 use crate::poll::wait;
 use crate::show::{put_shown, span_to};
-use hc_event::{Acts, Wait, Why};
+use hc_event::{Acts, BoundBy, Wait, Why};
 use hc_leave::misread::misread_by;
-use hc_model::BoundBy;
 use hc_record::StoredHead;
 use hc_rows::{Rows, show};
 use hc_rules::RequestClass;

@@ -5,7 +5,6 @@ ghost use Rattle.std.specs.Prelude.{◌≡◌, ℕ, ◌+◌, ◌<◌, ◌≤◌,
 ghost use Rattle.std.specs.Option.{option_copied};
 ghost use Rattle.hc_rising.specs.Rising.{rises, has, found, with_item, without, replaced, place};
 
-use hc_rules::Member;
 use hc_text::NoMemory;
 
 /// What has a number, by which a list of it is in order.
@@ -22,14 +21,6 @@ impl Numbered for u64 {
 
     fn number(&self) -> u64 {
         *self
-    }
-}
-
-impl Numbered for Member {
-    ghost number = { λ m. m.c };
-
-    fn number(&self) -> u64 {
-        self.c
     }
 }
 

@@ -1,8 +1,8 @@
 -- Consumers that read nothing: nothing is held for them, and they are bound to nothing.
 use Rattle.std.proofs.Common.{◌≡◌, ℕ, [], Bool, true, false, Option, Some, None, refl, ap, sym, ◌∙◌}
 use Rattle.std.specs.Prelude.{not, option_map, if◌then◌else◌}
-use Rattle.hc_model.specs.declared.place.Place.{Place}
-use Rattle.hc_model.specs.declared.place.Place.TheVariants as place
+use Rattle.hc_event.specs.declared.place.Place.{Place}
+use Rattle.hc_event.specs.declared.place.Place.TheVariants as place
 use Rattle.hc_model.specs.Effects.{gone}
 use Rattle.hc_model.specs.Exchanges.{family}
 use Rattle.hc_model.specs.Reading.{reads, is_bound}

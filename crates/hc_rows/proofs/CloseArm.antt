@@ -11,10 +11,10 @@ use Rattle.hc_rules.specs.declared.room.Limits.{Limits}
 use Rattle.hc_exch.specs.Exchanges.{table_of}
 use Rattle.hc_exch.specs.Exchanges as exch
 use Rattle.hc_exch.specs.Known as known
-use Rattle.hc_model.specs.declared.place.Place.{Place}
-use Rattle.hc_model.specs.declared.place.Place.TheVariants as place
-use Rattle.hc_model.specs.declared.place.BoundBy.{BoundBy}
-use Rattle.hc_model.specs.declared.place.BoundBy.TheVariants as by
+use Rattle.hc_event.specs.declared.place.Place.{Place}
+use Rattle.hc_event.specs.declared.place.Place.TheVariants as place
+use Rattle.hc_event.specs.declared.place.BoundBy.{BoundBy}
+use Rattle.hc_event.specs.declared.place.BoundBy.TheVariants as by
 use Rattle.hc_model.specs.ConsumerRows.{back_in_line}
 use Rattle.hc_model.specs.Effects.{with_consumer, finished, with_representation, closed, all_closed, let_go, let_some_go, gone, lost_to, back_from, waits_for, left_by, going_with, is_unkeepable}
 use Rattle.hc_model.specs.Exchanges.{family, is_headless}

@@ -14,10 +14,10 @@ use Rattle.hc_exch.specs.Exchanges as exch
 use Rattle.hc_exch.specs.Known as known
 use Rattle.hc_exch.specs.Known.{Known}
 use Rattle.hc_rules.specs.Lengths.{base_of, promise_of}
-use Rattle.hc_model.specs.declared.place.Place.{Place}
-use Rattle.hc_model.specs.declared.place.Place.TheVariants as place
-use Rattle.hc_model.specs.declared.place.BoundBy.{BoundBy}
-use Rattle.hc_model.specs.declared.place.BoundBy.TheVariants as by
+use Rattle.hc_event.specs.declared.place.Place.{Place}
+use Rattle.hc_event.specs.declared.place.Place.TheVariants as place
+use Rattle.hc_event.specs.declared.place.BoundBy.{BoundBy}
+use Rattle.hc_event.specs.declared.place.BoundBy.TheVariants as by
 use Rattle.hc_model.specs.Currents.{current, is_number}
 use Rattle.hc_model.specs.Effects.{closed, over}
 use Rattle.hc_model.specs.Exchanges.{base, promised, front, family, is_open, is_headless, length_by}

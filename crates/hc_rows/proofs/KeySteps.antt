@@ -10,7 +10,7 @@ use Rattle.hc_rising.specs.Rising.{with_item, without}
 use Rattle.hc_rising.proofs.RisingLemmas.{has-with, has-without}
 use Rattle.hc_rules.specs.Requests.{is_disabled, is_only}
 use Rattle.hc_rules.proofs.RangeReads.{bytes_eq-same}
-use Rattle.hc_model.specs.declared.place.Place.TheVariants as place
+use Rattle.hc_event.specs.declared.place.Place.TheVariants as place
 use Rattle.hc_model.specs.Lines.{is_in_line, stands_in_line, holds_place}
 use Rattle.hc_model.specs.Planning.{has_passed}
 use Rattle.hc_model.specs.Rows as rows

@@ -13,8 +13,8 @@ use Rattle.hc_entries.specs.Views.{bound_in}
 use Rattle.hc_exch.specs.Exchanges.{table_of}
 use Rattle.hc_exch.specs.Known as known
 use Rattle.hc_exch.specs.declared.row.Open.{Open}
-use Rattle.hc_model.specs.declared.place.Place.{Place}
-use Rattle.hc_model.specs.declared.place.Place.TheVariants as place
+use Rattle.hc_event.specs.declared.place.Place.{Place}
+use Rattle.hc_event.specs.declared.place.Place.TheVariants as place
 use Rattle.hc_model.specs.Closings.{is_last_reader}
 use Rattle.hc_model.specs.Currents.{is_number}
 use Rattle.hc_model.specs.Effects.{left_by, with_consumer, finished}

@@ -8,9 +8,9 @@ use Rattle.hc_entries.specs.Entries.{shelf_of}
 use Rattle.hc_entries.specs.Shelf.{Shelf}
 use Rattle.hc_entry.specs.Keys.{kept_of}
 use Rattle.hc_exch.specs.Exchanges.{table_of, next_of}
-use Rattle.hc_model.specs.declared.place.Place.{Place}
-use Rattle.hc_model.specs.declared.place.Place.TheVariants as place
-use Rattle.hc_model.specs.declared.place.BoundBy.TheVariants as by
+use Rattle.hc_event.specs.declared.place.Place.{Place}
+use Rattle.hc_event.specs.declared.place.Place.TheVariants as place
+use Rattle.hc_event.specs.declared.place.BoundBy.TheVariants as by
 use Rattle.hc_model.specs.Currents.{total_in}
 use Rattle.hc_model.specs.Denials.{live}
 use Rattle.hc_model.specs.Exchanges.{family}

@@ -8,8 +8,8 @@ use Rattle.hc_entry.specs.Keys.{kept_of}
 use Rattle.hc_entry.specs.Kept.{on_line}
 use Rattle.hc_entry.specs.Lines.{come_back}
 use Rattle.hc_event.specs.declared.event.Request.{Request}
-use Rattle.hc_model.specs.declared.place.Place.{Place}
-use Rattle.hc_model.specs.declared.place.Place.TheVariants as place
+use Rattle.hc_event.specs.declared.place.Place.{Place}
+use Rattle.hc_event.specs.declared.place.Place.TheVariants as place
 use Rattle.hc_model.specs.Denials.{is_live_place}
 use Rattle.hc_model.specs.Effects.{with_consumer}
 use Rattle.hc_model.specs.Lawful.{Lawful}

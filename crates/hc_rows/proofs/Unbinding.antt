@@ -10,9 +10,9 @@ use Rattle.hc_entries.specs.Shelf as shelf
 use Rattle.hc_entries.specs.Shelf.{Shelf, unmoved}
 use Rattle.hc_entries.specs.Views.{bound_in}
 use Rattle.hc_entry.specs.Lines.{is_among}
-use Rattle.hc_model.specs.declared.place.Place.{Place}
-use Rattle.hc_model.specs.declared.place.Place.TheVariants as place
-use Rattle.hc_model.specs.declared.place.BoundBy.{BoundBy}
+use Rattle.hc_event.specs.declared.place.Place.{Place}
+use Rattle.hc_event.specs.declared.place.Place.TheVariants as place
+use Rattle.hc_event.specs.declared.place.BoundBy.{BoundBy}
 use Rattle.hc_model.specs.Currents.{is_number}
 use Rattle.hc_model.specs.Effects.{with_consumer}
 use Rattle.hc_model.specs.Kinds.{kind_of}

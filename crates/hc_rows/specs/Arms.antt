@@ -17,8 +17,8 @@ use Rattle.hc_entry.specs.Lines.{is_in, queued, left_by, turn_with}
 use Rattle.hc_exch.specs.Exchanges.{table_of, next_of}
 use Rattle.hc_exch.specs.Known.{Known, unknown}
 use Rattle.hc_exch.specs.declared.row.Open.{Open}
-use Rattle.hc_model.specs.declared.place.Place.{Place}
-use Rattle.hc_model.specs.declared.place.Place.TheVariants as place
+use Rattle.hc_event.specs.declared.place.Place.{Place}
+use Rattle.hc_event.specs.declared.place.Place.TheVariants as place
 use Rattle.hc_model.specs.Moves as moves
 use Rattle.hc_model.specs.Moves.{Move}
 use Rattle.hc_rows.specs.declared.consumer.Consumer.{Consumer}

@@ -7,9 +7,9 @@ use Rattle.std.specs.declared.hash.FoldHasher.{FoldHasher}
 use Rattle.hc_range.specs.declared.range.Span.{Span}
 use Rattle.hc_event.specs.declared.event.Response.{Response}
 use Rattle.hc_event.specs.declared.act.Cause.{Cause}
-use Rattle.hc_model.specs.declared.place.Place.{Place}
-use Rattle.hc_model.specs.declared.place.Place.TheVariants as place
-use Rattle.hc_model.specs.declared.place.BoundBy.TheVariants as by
+use Rattle.hc_event.specs.declared.place.Place.{Place}
+use Rattle.hc_event.specs.declared.place.Place.TheVariants as place
+use Rattle.hc_event.specs.declared.place.BoundBy.TheVariants as by
 use Rattle.hc_model.specs.Planning.{has_passed}
 use Rattle.hc_rows.specs.declared.consumer.Consumer.{Consumer}
 

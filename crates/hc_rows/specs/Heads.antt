@@ -22,9 +22,9 @@ use Rattle.hc_exch.specs.declared.row.Open.{Open}
 use Rattle.hc_exch.specs.Known.{is_all}
 use Rattle.hc_entries.specs.Kept.{Kept}
 use Rattle.hc_entries.specs.Shelf.{Shelf}
-use Rattle.hc_model.specs.declared.place.Place.{Place}
-use Rattle.hc_model.specs.declared.place.Place.TheVariants as place
-use Rattle.hc_model.specs.declared.place.BoundBy.TheVariants as by
+use Rattle.hc_event.specs.declared.place.Place.{Place}
+use Rattle.hc_event.specs.declared.place.Place.TheVariants as place
+use Rattle.hc_event.specs.declared.place.BoundBy.TheVariants as by
 use Rattle.hc_model.specs.Cases.{joins_by}
 use Rattle.hc_model.specs.Currents.{current}
 use Rattle.hc_model.specs.Rows as rows

@@ -2,9 +2,9 @@
 use Rattle.std.specs.Prelude.{◌≡◌, ℕ, List, bytes_eq, Bool, false, Option, Some, None, ◌&&◌}
 use Rattle.hc_entry.specs.Kept.{Kept}
 use Rattle.hc_entry.specs.Lines.{is_among, is_held_by}
-use Rattle.hc_model.specs.declared.place.Place.{Place}
-use Rattle.hc_model.specs.declared.place.Place.TheVariants as place
-use Rattle.hc_model.specs.declared.place.BoundBy.TheVariants as by
+use Rattle.hc_event.specs.declared.place.Place.{Place}
+use Rattle.hc_event.specs.declared.place.Place.TheVariants as place
+use Rattle.hc_event.specs.declared.place.BoundBy.TheVariants as by
 use Rattle.hc_model.specs.Currents.{current}
 use Rattle.hc_model.specs.Exchanges.{is_headless}
 use Rattle.hc_model.specs.Lines.{is_in_line, holds_turn}

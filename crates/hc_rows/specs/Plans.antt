@@ -23,8 +23,8 @@ use Rattle.hc_exch.specs.Exchanges.{next_of}
 use Rattle.hc_record.specs.Head.{Head}
 use Rattle.hc_validate.specs.Conditions.{conditional}
 use Rattle.hc_validate.specs.Showing.{shown}
-use Rattle.hc_model.specs.declared.place.Place.{Place}
-use Rattle.hc_model.specs.declared.place.Place.TheVariants as place
+use Rattle.hc_event.specs.declared.place.Place.{Place}
+use Rattle.hc_event.specs.declared.place.Place.TheVariants as place
 use Rattle.hc_model.specs.ConsumerRows.{kept_by}
 use Rattle.hc_model.specs.Currents.{current}
 use Rattle.hc_model.specs.Effects.{with_consumer, with_opening, just_opened}

@@ -8,8 +8,8 @@ use Rattle.hc_event.specs.declared.act.LostKind.TheVariants as kinds
 use Rattle.hc_event.specs.declared.event.Event.TheVariants as event
 use Rattle.hc_entries.specs.Entries.{shelf_of}
 use Rattle.hc_entries.specs.Shelf.{is_kept}
-use Rattle.hc_model.specs.declared.place.Place.TheVariants as place
-use Rattle.hc_model.specs.declared.place.BoundBy.{BoundBy}
+use Rattle.hc_event.specs.declared.place.Place.TheVariants as place
+use Rattle.hc_event.specs.declared.place.BoundBy.{BoundBy}
 use Rattle.hc_model.specs.Denials.{denial}
 use Rattle.hc_model.specs.Effects.{all_closed, counted, gone, let_go, lost_to, unless_reached, with_exchange, with_representation}
 use Rattle.hc_model.specs.ExchangeRows.{with_piece}

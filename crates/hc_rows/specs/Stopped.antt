@@ -9,8 +9,8 @@ use Rattle.hc_record.specs.declared.kind.Kind.TheVariants as kinds
 use Rattle.hc_entries.specs.Entries.{shelf_of}
 use Rattle.hc_entries.specs.Kept as entry
 use Rattle.hc_entries.specs.Shelf.{Becomes, unmoved}
-use Rattle.hc_model.specs.declared.place.Place.TheVariants as place
-use Rattle.hc_model.specs.declared.place.BoundBy.TheVariants as by
+use Rattle.hc_event.specs.declared.place.Place.TheVariants as place
+use Rattle.hc_event.specs.declared.place.BoundBy.TheVariants as by
 use Rattle.hc_model.specs.Effects.{closed, failing, going_with, let_go, let_some_go, lost_to, with_representation}
 use Rattle.hc_model.specs.Exchanges.{family, promised, is_headless}
 use Rattle.hc_model.specs.LettingGo.{MayLetGo}

@@ -10,8 +10,7 @@ ghost use Rattle.hc_rows.specs.Founding.{founds_with};
 ghost use Rattle.hc_rows.specs.Changes.{ChangesAt, ChangesAmong, lined_up, passed_for, bound_shown, bound_first, with_own, reading_past, answer_of, once_answered, once_shown, once_given, with_answer, standing_at, with_turn, once_over, put_down, with_due, with_end, over_if_passed};
 
 use crate::consumer::Consumer;
-use hc_event::{Cause, Response};
-use hc_model::{BoundBy, Place};
+use hc_event::{BoundBy, Cause, Place, Response};
 use hc_range::Span;
 use std::collections::HashMap;
 

@@ -1,14 +1,13 @@
 //! What is kept of a live consumer.
 ghost use Rattle.std.specs.Prelude.{◌≡◌, ◌+◌, ◌<◌, ◌^◌, Some, None, false};
-ghost use Rattle.hc_model.specs.declared.place.Place.TheVariants as place;
+ghost use Rattle.hc_event.specs.declared.place.Place.TheVariants as place;
 ghost use Rattle.hc_model.specs.Planning.{has_passed};
 ghost use Rattle.hc_model.specs.StartingOver.{awaited};
 ghost use Rattle.hc_rows.specs.Arms.{queues};
 ghost use Rattle.hc_rows.specs.Changes.{once_over};
 ghost use Rattle.hc_rows.specs.Heirs.{stands_at};
 
-use hc_event::{Cause, Request, Response};
-use hc_model::{BoundBy, Place};
+use hc_event::{BoundBy, Cause, Place, Request, Response};
 use hc_rules::RequestClass;
 
 /// What is kept of a live consumer. Moments are whole seconds since 1970; positions and counts are of

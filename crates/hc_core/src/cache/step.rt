@@ -1,7 +1,7 @@
 //! The step of the cache.
 ghost use Rattle.std.specs.Prelude.{◌≡◌, ◌+◌, ◌≤◌, ◌<◌, ◌^◌, [], true, false, IsErr, IsOk, IfOk, OnOk, OnErr};
 ghost use Rattle.hc_event.specs.Acts.{listed, spare};
-ghost use Rattle.hc_step.specs.Modest.{IsModestEvent};
+ghost use Rattle.hc_event.specs.Modest.{IsModestEvent};
 ghost use Rattle.hc_store.specs.Slots.{no_slots};
 ghost use Rattle.hc_model.specs.Entries.{no_contents};
 ghost use Rattle.hc_model.specs.Tables.{received_in};

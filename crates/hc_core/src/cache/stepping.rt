@@ -1,7 +1,6 @@
 //! A cache answers events, one after another.
 use crate::cache::Cache;
-use hc_event::{Acts, Event};
-use hc_step::Stepper;
+use hc_event::{Acts, Event, Stepper};
 use hc_store::Backend;
 use hc_text::NoMemory;
 

@@ -3,7 +3,7 @@ ghost use Rattle.std.specs.Prelude.{◌≡◌, ◌+◌, ◌≤◌, ◌<◌, ◌^
 ghost use Rattle.hc_event.specs.Acts.{listed, spare};
 ghost use Rattle.hc_event.specs.declared.act.Act.TheVariants as act;
 ghost use Rattle.hc_event.specs.declared.act.Refusal.{Refusal};
-ghost use Rattle.hc_step.specs.Modest.{IsModestEvent};
+ghost use Rattle.hc_event.specs.Modest.{IsModestEvent};
 ghost use Rattle.hc_rules.specs.Refusals.{refusal_of};
 ghost use Rattle.hc_entries.specs.Entries.{shelf_of};
 ghost use Rattle.hc_exch.specs.Exchanges.{next_of};

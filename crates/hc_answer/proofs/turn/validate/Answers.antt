@@ -7,7 +7,7 @@ use Rattle.hc_rules.specs.declared.room.Limits.{Limits}
 use Rattle.hc_entries.specs.Entries.{shelf_of}
 use Rattle.hc_exch.specs.Exchanges.{next_of}
 use Rattle.hc_entry.specs.Keys.{kept_of}
-use Rattle.hc_model.specs.declared.place.Place.TheVariants as place
+use Rattle.hc_event.specs.declared.place.Place.TheVariants as place
 use Rattle.hc_model.specs.Cases.{head_view}
 use Rattle.hc_model.specs.Effects.{with_consumer, with_representation, refreshed}
 use Rattle.hc_rows.specs.Stands.{Answered, RowsStand}

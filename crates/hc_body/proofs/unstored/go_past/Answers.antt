@@ -1,5 +1,5 @@
 use Rattle.std.proofs.Common.{ℕ, Some, refl, sym, subst}
-use Rattle.hc_model.specs.declared.place.Place.TheVariants as place
+use Rattle.hc_event.specs.declared.place.Place.TheVariants as place
 use Rattle.hc_model.specs.Effects.{with_consumer}
 use Rattle.hc_rows.specs.Stands.{RowsStand}
 use Rattle.hc_body.proofs.HeardRows.{asker_of, asked_by}

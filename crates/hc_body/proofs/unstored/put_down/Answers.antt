@@ -1,7 +1,7 @@
 use Rattle.std.proofs.Common.{ℕ, Some, sym, subst}
 use Rattle.hc_event.specs.Acts.{listed}
 use Rattle.hc_event.specs.declared.act.Cause.TheVariants as cause
-use Rattle.hc_model.specs.declared.place.Place.TheVariants as place
+use Rattle.hc_event.specs.declared.place.Place.TheVariants as place
 use Rattle.hc_model.specs.Effects.{with_consumer}
 use Rattle.hc_rows.specs.Stands.{RowsStand}
 use Rattle.hc_body.proofs.HeardRows.{asker_of, asked_by}

@@ -4,7 +4,7 @@ use Rattle.std.specs.Prelude.{◌&&◌, not}
 use Rattle.hc_event.specs.declared.event.Event.TheVariants as event
 use Rattle.hc_rules.specs.declared.request.RequestClass.{RequestClass}
 use Rattle.hc_entries.specs.Entries.{shelf_of}
-use Rattle.hc_model.specs.declared.place.Place.TheVariants as place
+use Rattle.hc_event.specs.declared.place.Place.TheVariants as place
 use Rattle.hc_laws.proofs.StartEffects.{starts}
 use Rattle.hc_rows.specs.Arms.{IsEntered}
 use Rattle.hc_rows.proofs.Answering.{does_answered}

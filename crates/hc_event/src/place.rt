@@ -1,5 +1,5 @@
 //! Where a consumer stands.
-use hc_event::Cause;
+use crate::act::Cause;
 
 /// How a consumer became bound to a representation.
 #[derive(Clone, Copy, Debug, PartialEq, Eq)]

@@ -3,15 +3,16 @@ ghost use Rattle.std.specs.Prelude.{◌≡◌, ◌+◌, ◌<◌, ◌≤◌, ◌^
 ghost use Rattle.hc_event.specs.Acts.{listed};
 ghost use Rattle.hc_event.specs.declared.act.Act.{Act};
 ghost use Rattle.hc_event.specs.declared.event.Event.{Event};
-ghost use Rattle.hc_step.specs.Counting.{received_in};
-ghost use Rattle.hc_step.specs.Modest.{IsModestEvent};
+ghost use Rattle.hc_event.specs.Counting.{received_in};
+ghost use Rattle.hc_event.specs.Modest.{IsModestEvent};
 
-use hc_event::{Acts, Event};
+use crate::acts::Acts;
+use crate::event::Event;
 use hc_text::NoMemory;
 
 /// Answers events, one after another.
 pub trait Stepper {
-    ghost use Rattle.hc_step.specs.Answering.{Appends};
+    ghost use Rattle.hc_event.specs.Answering.{Appends};
 
     /// The moment of the last event.
     ghost moment: { Self → ℕ };

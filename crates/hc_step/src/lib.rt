@@ -1,6 +1,0 @@
-//! What answers events, one after another.
-#![tactic(auto)]
-
-mod stepper;
-
-pub use stepper::Stepper;

@@ -9,7 +9,7 @@ use Rattle.hc_fields.specs.FieldList.{IsField, IsFieldList, IsListOf}
 use Rattle.hc_fields.proofs.Ends.{IsFieldList-prefix}
 use Rattle.hc_fields.specs.Lines.{field_text, fields_text}
 use Rattle.hc_text.specs.Texts.{lacks}
-use Rattle.hc_fields.proofs.Cuts.{cut_once}
+use Rattle.hc_text.proofs.Cuts.{cut_once}
 
 abbrev Pair : Type 0
 Pair = List ℕ × List ℕ

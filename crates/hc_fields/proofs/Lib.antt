@@ -9,7 +9,6 @@ pub mod LineLemmas
 pub mod Ends
 pub mod Agreeing
 pub mod Compared
-pub mod Cuts
 pub mod FirstBytes
 pub mod FieldTexts
 pub mod ReadLemmas

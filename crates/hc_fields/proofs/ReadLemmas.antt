@@ -13,7 +13,7 @@ use Rattle.http_header.specs.Token.{AllPass, lowercase, is_token_byte, is_value_
 use Rattle.hc_text.specs.Texts.{lacks}
 use Rattle.hc_fields.specs.FieldList.{IsField, has_own_ends}
 use Rattle.hc_fields.specs.Lines.{field_text, is_lower_byte, BeginsWith, IsCut}
-use Rattle.hc_fields.proofs.Cuts.{cut_once}
+use Rattle.hc_text.proofs.Cuts.{cut_once}
 use Rattle.hc_fields.proofs.FieldTexts.{field_apart, field_once, IsLine, IsLine-field}
 
 abbrev Pair : Type 0

@@ -12,7 +12,7 @@ use Rattle.url.specs.Parser.{Parsed, parse_url, with_tail}
 use Rattle.url.specs.Setters.{set_fragment}
 use Rattle.hc_text.specs.declared.memory.NoMemory.{NoMemory}
 use Rattle.hc_rules.proofs.RangeReads.{same_bytes}
-use Rattle.hc_sched.specs.Targets.{is_target, is_short_word, gives_text, has_own_text, ReadsTarget}
+use Rattle.hc_target.specs.Targets.{is_target, is_short_word, gives_text, has_own_text, ReadsTarget}
 use Rattle.hc_head.specs.Requests.{own_key, key_in, key_of}
 
 none_of : (o : Option (List ℕ)) → is_none o ≡ true → o ≡ None

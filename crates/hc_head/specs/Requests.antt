@@ -10,7 +10,7 @@ use Rattle.url.specs.Setters.{set_fragment}
 use Rattle.hc_event.specs.declared.event.Load.TheVariants.{Normal}
 use Rattle.hc_fields.specs.FieldList.{has_name, values_of}
 use Rattle.hc_fields.specs.FirstValues.{only_of}
-use Rattle.hc_sched.specs.Targets.{is_target}
+use Rattle.hc_target.specs.Targets.{is_target}
 use Rattle.hc_head.specs.declared.message.MsgError.{MsgError}
 use Rattle.hc_head.specs.declared.message.MsgError.TheVariants.{BadHead, BadLength, UnsupportedMethod}
 use Rattle.hc_head.specs.declared.message.WireRequest.{WireRequest}

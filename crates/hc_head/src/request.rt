@@ -13,7 +13,7 @@ use crate::fields::{Leaving, has_name, is_modest, is_there, kept_of};
 use crate::head::MOST_FIELDS;
 use crate::message::{MsgError, WireRequest};
 use hc_event::{Load, Request};
-use hc_sched::is_target;
+use hc_target::is_target;
 use hc_text::{Key, MethodName, NoMemory};
 use httparse::{EMPTY_HEADER, Header, Request as Head, Status};
 use std::alloc::Global;

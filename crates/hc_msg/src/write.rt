@@ -4,7 +4,7 @@ ghost use Rattle.std.specs.Fmt.{digits};
 ghost use Rattle.std.specs.Option.{option_copied};
 ghost use Rattle.url.specs.Parts.{Parts};
 ghost use Rattle.url.specs.Parser.{parse_url};
-ghost use Rattle.hc_sched.specs.Targets.{is_target};
+ghost use Rattle.hc_target.specs.Targets.{is_target};
 ghost use Rattle.hc_msg.specs.Writing.{Keeps, line_of, lines_of, crlf, status_line, head_end, query_text, request_line, host_line, request_text, response_text, chunk_text};
 
 use hc_event::{Request, Response};

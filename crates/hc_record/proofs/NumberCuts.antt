@@ -13,7 +13,7 @@ use Rattle.std.proofs.lemmas.Str.Parse.{IsNumeralModel, numerals_by_value, digit
 use Rattle.hc_text.specs.Numbers.{IsPlain}
 use Rattle.hc_text.specs.Texts.{lacks}
 use Rattle.hc_text.proofs.NumberLemmas.{tested-AllDigits}
-use Rattle.hc_fields.proofs.Cuts.{cut_once, lacks-decimal, lacks-not}
+use Rattle.hc_text.proofs.Cuts.{cut_once, lacks-decimal, lacks-not}
 use Rattle.hc_record.specs.Lines.{IsSmall}
 
 pub tested : IsNumeralModel (λ ds. list_all is_ascii_digit ds ≡ true) (digits_value 10)

@@ -10,7 +10,7 @@ use Rattle.hc_record.specs.declared.kind.Kind.TheVariants.{Growing, Whole, Trunc
 use Rattle.hc_record.specs.declared.parts.Numbers.{Numbers}
 use Rattle.hc_record.specs.Lines.{kind_byte, total_text, seal_line, numbers_line, ended, IsSmall, IsSmallTotal}
 use Rattle.hc_record.specs.Parts.{numbers_text, AreSmall}
-use Rattle.hc_fields.proofs.Cuts.{cut_once, lacks-decimal}
+use Rattle.hc_text.proofs.Cuts.{cut_once, lacks-decimal}
 use Rattle.hc_record.proofs.Totals.{length-total_text, IsNumber-total}
 
 -- a number and the byte behind it

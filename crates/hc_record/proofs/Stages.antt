@@ -6,7 +6,7 @@ use Rattle.std.proofs.lemmas.List.{append_assoc, append-nil, append_cancel_left,
 use Rattle.hc_text.specs.Texts.{lacks}
 use Rattle.hc_fields.specs.FieldList.{values_of, IsListOf}
 use Rattle.hc_fields.specs.Lines.{fields_text}
-use Rattle.hc_fields.proofs.Cuts.{cut_once, lacks-not}
+use Rattle.hc_text.proofs.Cuts.{cut_once, lacks-not}
 use Rattle.hc_fields.proofs.FieldTexts.{fields_once}
 use Rattle.hc_record.specs.declared.version.Version.{Version}
 use Rattle.hc_record.specs.declared.version.Version.TheVariants.{First, Second}

@@ -13,7 +13,7 @@ use Rattle.hc_fields.proofs.FieldTexts.{IsLine-field}
 use Rattle.hc_fields.proofs.ReadLemmas.{IsCut-field}
 use Rattle.hc_sched.specs.FieldLines.{named, is_lower_token, has_room, may_follow, field_of}
 use Rattle.hc_sched.specs.Schedule.{IsHead}
-use Rattle.hc_sched.proofs.Steps.{cut-first, behind-append, lacks-append}
+use Rattle.hc_text.proofs.Cutting.{cut-first, behind-append, lacks-append}
 
 abbrev pub Pair : Type 0
 Pair = List ℕ × List ℕ

@@ -8,12 +8,13 @@ use Rattle.hc_text.specs.Texts.{lacks, IsSmall}
 use Rattle.hc_event.specs.declared.event.Event.TheVariants as event
 use Rattle.hc_event.specs.declared.event.Load.{Load}
 use Rattle.hc_event.specs.declared.event.Load.TheVariants as load
-use Rattle.hc_sched.specs.Words.{behind, plain_of, plain_within, numbered}
+use Rattle.hc_sched.specs.Words.{plain_of, plain_within, numbered}
+use Rattle.hc_text.specs.Cuts.{behind}
 use Rattle.hc_sched.specs.Pieces.{piece_text}
-use Rattle.hc_sched.specs.Targets.{is_target, is_short_word}
+use Rattle.hc_target.specs.Targets.{is_target, is_short_word}
 use Rattle.hc_sched.specs.FirstLines.{First, Sets, Starts, Heads, Brings, Dooms, Tells, is_method, is_word, load_of, how_of, start_of, poll_of, head_of, piece_of, doom_of, first_of}
 use Rattle.hc_sched.specs.Schedule.{Item, Moment, Happens, load_word, item_line, IsItem}
-use Rattle.hc_sched.proofs.Steps.{cut-first, lacks-append}
+use Rattle.hc_text.proofs.Cutting.{cut-first, lacks-append}
 use Rattle.hc_sched.proofs.Plain.{plain_of-decimal, lacks-decimal, plain-short}
 use Rattle.hc_sched.proofs.Hex.{IsPiece, is_piece_text-of, lacks-piece_text, length-piece_text}
 use Rattle.hc_sched.proofs.FieldReads.{lacks-failing}

@@ -3,8 +3,6 @@ pub mod Steps
 pub mod Plain
 pub mod Hex
 pub mod FieldLemmas
-pub mod TargetLemmas
-pub mod PlainTargets
 pub mod FeedLemmas
 pub mod FieldReads
 pub mod Forms

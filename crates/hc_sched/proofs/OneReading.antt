@@ -5,7 +5,7 @@ use Rattle.std.proofs.lemmas.Bool.{cases_Bool, eqb-true}
 use Rattle.std.proofs.lemmas.List.{append-nil}
 use Rattle.hc_event.specs.declared.event.Event.TheVariants as event
 use Rattle.hc_fields.specs.Lines.{fields_text}
-use Rattle.hc_fields.proofs.Cuts.{cut_once}
+use Rattle.hc_text.proofs.Cuts.{cut_once}
 use Rattle.hc_fields.proofs.FieldTexts.{fields_once}
 use Rattle.hc_sched.specs.declared.begun.Begun.{Begun}
 use Rattle.hc_sched.specs.declared.schedule.Refused.{Refused}

@@ -11,7 +11,7 @@ use Rattle.std.proofs.lemmas.Fmt.{decimal_is_IsNumeral, length-decimal-le}
 use Rattle.std.proofs.lemmas.Slice.Eq.{bytes_eq-Decides}
 use Rattle.hc_text.specs.Numbers.{IsPlain}
 use Rattle.hc_sched.specs.Words.{plain_of}
-use Rattle.hc_sched.proofs.Steps.{none_or_some}
+use Rattle.hc_text.proofs.Cutting.{none_or_some}
 use Rattle.hc_text.specs.Texts.{lacks}
 
 abbrev is_plain : List ℕ → Bool

@@ -8,11 +8,13 @@ use Rattle.hc_text.specs.Texts.{IsSmall}
 use Rattle.hc_event.specs.declared.event.Event.TheVariants as event
 use Rattle.hc_event.specs.declared.event.Load.{Load}
 use Rattle.hc_event.specs.declared.event.Load.TheVariants as load
-use Rattle.hc_sched.specs.Words.{◌>>=◌, or_else, cut, behind, plain_of, plain_within, numbered}
+use Rattle.hc_sched.specs.Words.{◌>>=◌, or_else, plain_of, plain_within, numbered}
+use Rattle.hc_text.specs.Cuts.{cut, behind}
 use Rattle.hc_sched.specs.Pieces.{piece_text, bytes_of, is_piece_text}
 use Rattle.hc_sched.specs.FirstLines.{First, Sets, Starts, Heads, Brings, Dooms, Tells, is_method, is_word, load_of, how_of, start_of, poll_of, head_of, piece_of, doom_of, first_of}
 use Rattle.hc_sched.specs.Schedule.{load_word, event_line, fields_in, IsEvent}
-use Rattle.hc_sched.proofs.Steps.{bind-Some, append-cut, append-behind}
+use Rattle.hc_sched.proofs.Steps.{bind-Some}
+use Rattle.hc_text.proofs.Cutting.{append-cut, append-behind}
 use Rattle.hc_sched.proofs.Plain.{IsPlain-plain_of}
 use Rattle.hc_sched.proofs.Hex.{IsPiece, IsPiece-text}
 

@@ -11,7 +11,7 @@ use Rattle.hc_sched.specs.declared.begun.Opening.TheVariants as opening
 use Rattle.hc_sched.specs.declared.place.Place.{Place}
 use Rattle.hc_sched.specs.declared.schedule.Timed.{Timed}
 use Rattle.hc_sched.specs.FirstLines.{First, first_of}
-use Rattle.hc_sched.specs.Targets.{is_target}
+use Rattle.hc_target.specs.Targets.{is_target}
 use Rattle.hc_sched.specs.Reading.{Progress, Reads, Step, pass, happen, begin, event_of, take_first, take_field, take_line, after, events_in}
 use Rattle.hc_sched.specs.Schedule.{Item, Moment, Happens, item_text, item_line, item_fields, text_of, IsHead, IsItem, IsEvent, IsSmall, IsSchedule, moment_after, moment_end, event_at, events_of}
 use Rattle.hc_sched.specs.Laws.{Gives, at_rest, IsReadBack}

@@ -16,15 +16,16 @@ use Rattle.hc_sched.specs.declared.begun.Opening.{Opening}
 use Rattle.hc_sched.specs.declared.begun.Opening.TheVariants as opening
 use Rattle.hc_sched.specs.declared.place.Place.{Place}
 use Rattle.hc_sched.specs.declared.schedule.Timed.{Timed}
-use Rattle.hc_sched.specs.Words.{cut, behind}
+use Rattle.hc_text.specs.Cuts.{cut, behind}
 use Rattle.hc_sched.specs.Pieces.{bytes_of}
-use Rattle.hc_sched.specs.Targets.{is_target}
+use Rattle.hc_target.specs.Targets.{is_target}
 use Rattle.hc_sched.specs.FirstLines.{First, Sets, Starts, Heads, Brings, Dooms, Tells, is_method, first_of}
 use Rattle.hc_sched.specs.FieldLines.{named, may_follow, field_of}
 use Rattle.hc_sched.specs.Reading.{Progress, Reads, Stopped, Spent, Step, begin, event_of, take_first, take_field, take_next, take_line, take_byte, after, events_in}
 use Rattle.hc_sched.specs.Schedule.{Item, Moment, Happens, load_word, event_line, item_line, item_fields, item_text, fields_in, text_of, IsHead, IsEvent, IsItem, IsSchedule, moment_after, moment_end, event_at, events_of}
 use Rattle.hc_sched.specs.Laws.{HasRead}
-use Rattle.hc_sched.proofs.Steps.{none_or_some, bind-Some, append-cut, append-behind}
+use Rattle.hc_sched.proofs.Steps.{bind-Some}
+use Rattle.hc_text.proofs.Cutting.{none_or_some, append-cut, append-behind}
 use Rattle.hc_sched.proofs.FieldLemmas.{Follows-from_test}
 use Rattle.hc_sched.proofs.FieldReads.{Pair, line_of, field_text-line}
 use Rattle.hc_sched.proofs.Sound.{Says, first_of-says, test_passes}

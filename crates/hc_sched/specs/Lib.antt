@@ -1,8 +1,6 @@
 pub mod Parts
 pub mod Report
 pub mod Words
-pub mod Targets
-pub mod PlainTargets
 pub mod Pieces
 pub mod FirstLines
 pub mod FieldLines

@@ -11,7 +11,7 @@ use Rattle.hc_sched.specs.declared.begun.Begun.{Begun}
 use Rattle.hc_sched.specs.declared.begun.Opening.{Opening}
 use Rattle.hc_sched.specs.declared.begun.Opening.TheVariants as opening
 use Rattle.hc_sched.specs.declared.place.Place.{Place}
-use Rattle.hc_sched.specs.Targets.{is_target}
+use Rattle.hc_target.specs.Targets.{is_target}
 use Rattle.hc_sched.specs.Pieces.{bytes_of}
 use Rattle.hc_sched.specs.FirstLines.{First, Sets, Starts, Heads, Brings, Dooms, Tells, first_of}
 use Rattle.hc_sched.specs.FieldLines.{field_of}

@@ -9,7 +9,7 @@ use Rattle.hc_fields.specs.FieldList.{IsFieldList, IsModest}
 use Rattle.hc_sched.specs.declared.schedule.Timed.{Timed}
 use Rattle.hc_sched.specs.FirstLines.{is_method}
 use Rattle.hc_sched.specs.Pieces.{piece_text}
-use Rattle.hc_sched.specs.Targets.{is_target}
+use Rattle.hc_target.specs.Targets.{is_target}
 pub use Rattle.hc_text.specs.Texts.{IsSmall}
 pub use Rattle.hc_fields.specs.Lines.{field_text, fields_text}
 

@@ -1,4 +1,5 @@
 -- Words of a line, and steps that may fail.
+use Rattle.hc_text.specs.Cuts.{cut}
 use Rattle.std.specs.Prelude.{ℕ, ◌+◌, ◌^◌, ◌==◌, ◌&&◌, nat_lt, nat_le, List, length, take, drop, bytes_eq, position, Option, Some, None, option_map, if◌then◌else◌}
 use Rattle.std.specs.Fmt.{decimal}
 use Rattle.std.specs.Str.Parse.{digits_value}
@@ -13,15 +14,6 @@ Some x >>= f = f x
 abbrev pub or_else : {A B : Type 0} → Option A → (A → B) → B → B
 or_else None f other = other
 or_else (Some x) f other = f x
-
--- the text up to the first b, and the text behind it
-unfoldable pub cut : ℕ → List ℕ → Option (List ℕ × List ℕ)
-cut b text = option_map (λ at. (take at text, drop (at + 1) text)) (position (λ x. x == b) text)
-
--- the text behind the prefix
-unfoldable pub behind : List ℕ → List ℕ → Option (List ℕ)
-behind prefix text =
-    if bytes_eq (take (length prefix) text) prefix then Some (drop (length prefix) text) else None
 
 -- the number whose plain decimal the text is
 unfoldable pub plain_of : List ℕ → Option ℕ

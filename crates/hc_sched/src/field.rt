@@ -6,9 +6,8 @@ ghost use Rattle.hc_fields.specs.FieldList.{is_own_value, has_own_ends};
 ghost use Rattle.hc_fields.specs.Lines.{is_lower_byte};
 ghost use Rattle.hc_sched.specs.FieldLines.{named, is_lower_token, keeps_order, has_room, may_follow, field_of};
 
-use crate::words::cut;
 use hc_fields::Fields;
-use hc_text::is_blank;
+use hc_text::{cut, is_blank};
 use http_header::is_token_char;
 
 /// The value of a field has at most this many bytes.

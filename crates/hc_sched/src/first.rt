@@ -6,8 +6,9 @@ ghost use Rattle.hc_sched.specs.FirstLines.{is_method, is_word, load_of, how_of,
 ghost use Rattle.hc_sched.specs.Lent.{as_first, Suits};
 
 use crate::piece::is_piece_text;
-use crate::words::{cut, lacks, numbered, plain, plain_within};
+use crate::words::{numbered, plain, plain_within};
 use hc_event::{Event, Load};
+use hc_text::{cut, lacks};
 use http_header::is_token_char;
 
 /// A piece has at most this many bytes, and a consumer asks for at most as many.

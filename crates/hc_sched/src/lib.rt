@@ -13,7 +13,6 @@ mod place;
 mod reader;
 mod report;
 mod schedule;
-mod target;
 mod words;
 
 pub use event::write_event;
@@ -21,4 +20,3 @@ pub use feed::Feed;
 pub use laws::a_text_has_one_reading;
 pub use report::write_acts;
 pub use schedule::{Ended, FeedError, Refused, SchedRefusal, Timed};
-pub use target::is_target;

@@ -12,9 +12,9 @@ use crate::field::read_field;
 use crate::first::{First, Start, read_first};
 use crate::piece::read_bytes;
 use crate::schedule::{FeedError, Refused, SchedRefusal, Timed};
-use crate::target::is_target;
 use hc_event::Event;
 use hc_fields::Fields;
+use hc_target::is_target;
 use hc_text::{Key, MethodName, NoMemory};
 use std::alloc::Global;
 

@@ -1,28 +1,8 @@
 //! Words of a line.
-ghost use Rattle.std.specs.Prelude.{◌≡◌, ◌==◌, ◌+◌, ◌≤◌, length, IfSome, OnSome, option_map, position};
-ghost use Rattle.hc_text.specs.Texts.{lacks};
-ghost use Rattle.hc_sched.specs.Words.{cut, numbered, plain_of, plain_within};
+ghost use Rattle.std.specs.Prelude.{◌≡◌, ◌+◌, ◌≤◌, length, IfSome, OnSome, option_map};
+ghost use Rattle.hc_sched.specs.Words.{numbered, plain_of, plain_within};
 
-use hc_text::read_plain;
-use memchr::memchr;
-
-/// Where the first `byte` stands.
-pub(crate) fn position_of(text: &[u8], byte: u8) -> Option<usize>
-    ensures { result ≡ position (λ x. x == byte) text.now }
-{
-    memchr(byte, text)
-}
-
-/// The text up to the first `byte`, and the text behind it.
-#[tactic(auto, unfolding(crate::specs::Words::cut))]
-pub(crate) fn cut(text: &[u8], byte: u8) -> Option<(&[u8], &[u8])>
-    ensures value { option_map (λ parts. (parts.0.now, parts.1.now)) result ≡ cut byte text.now }
-    ensures len { IfSome result
-        (λ parts. length parts.0.now + length parts.1.now + 1 ≡ length text.now) }
-{
-    let at = position_of(text, byte)?;
-    Some((&text[..at], &text[at + 1..]))
-}
+use hc_text::{cut, read_plain};
 
 /// The number whose plain decimal the text is.
 #[tactic(auto, using(crate::proofs::Plain::plain_of_is))]
@@ -53,11 +33,4 @@ pub(crate) fn numbered(words: &[u8]) -> Option<(u64, &[u8])>
     let (number, rest) = cut(words, b' ')?;
     let n = plain(number)?;
     Some((n, rest))
-}
-
-/// Whether the byte does not stand in the text.
-pub(crate) fn lacks(text: &[u8], byte: u8) -> bool
-    ensures { result ≡ lacks byte text.now }
-{
-    position_of(text, byte).is_none()
 }

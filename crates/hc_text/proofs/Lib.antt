@@ -1,3 +1,6 @@
 pub mod NumberLemmas
 pub mod ElementLemmas
 pub mod LawLemmas
+pub mod Cuts
+pub mod Cutting
+pub mod Growth

@@ -7,6 +7,7 @@ mod law;
 mod list;
 mod memory;
 mod number;
+mod split;
 mod token;
 
 pub use blank::is_blank;
@@ -15,4 +16,5 @@ pub use law::{a_text_has_one_cut, calls_give_the_elements};
 pub use list::{Item, next_item};
 pub use memory::NoMemory;
 pub use number::{read_number, read_plain, write_number};
+pub use split::{cut, lacks};
 pub use token::is_token;

@@ -2,7 +2,7 @@
 use super::*;
 use hc_event::{Load, Request, Response};
 use hc_fields::Fields;
-use hc_sched::is_target;
+use hc_target::is_target;
 use hc_text::{Key, MethodName};
 
 #[test]

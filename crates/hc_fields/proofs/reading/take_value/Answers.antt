@@ -2,7 +2,7 @@ use Rattle.std.proofs.Common.{◌+◌, ◌-◌, length, drop, sym, ◌∙◌, ar
 use Rattle.std.proofs.lemmas.Bool.{both_ways}
 use Rattle.std.proofs.lemmas.List.{take_all, length-drop}
 use Rattle.http_header.specs.Token.{is_value_byte}
-use Rattle.hc_fields.proofs.Cuts.{lacks-all, lacks-not, cut-position, cut_once}
+use Rattle.hc_text.proofs.Cuts.{lacks-all, lacks-not, cut-position, cut_once}
 use Rattle.hc_fields.proofs.ReadLemmas.{lacks-kind, feed_ends}
 use Rattle.hc_fields.proofs.reading.take_value.Goals as goal
 

@@ -4,7 +4,7 @@ use Rattle.std.specs.List.{position_or_len}
 use Rattle.std.proofs.lemmas.Bool.{le-ltb, false_from_ne_true}
 use Rattle.std.proofs.lemmas.List.Sums.{position_or_len_is}
 use Rattle.memchr.specs.Find.{IsFirstByte, is_byte}
-use Rattle.hc_fields.proofs.Cuts.{cut-position, lacks-all}
+use Rattle.hc_text.proofs.Cuts.{cut-position, lacks-all}
 use Rattle.hc_head.specs.Scans.{IsLineEnd}
 use Rattle.hc_head.proofs.scan.line_end.Goals as goal
 

@@ -1,5 +1,5 @@
 use Rattle.std.proofs.Common.{refl}
-use Rattle.hc_sched.proofs.Growth.{texts_grow}
+use Rattle.hc_text.proofs.Growth.{texts_grow}
 use Rattle.hc_msg.specs.Writing.{line_of, lines_of}
 use Rattle.hc_msg.proofs.write.put_lines.Goals as goal
 

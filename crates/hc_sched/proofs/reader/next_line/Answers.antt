@@ -2,7 +2,7 @@ use Rattle.std.proofs.Common.{◌≡◌, ℕ, ◌+◌, ◌-◌, ◌==◌, length
 use Rattle.std.specs.Prelude.{position}
 use Rattle.std.proofs.lemmas.List.{take_all}
 use Rattle.hc_text.specs.Texts.{lacks}
-use Rattle.hc_fields.proofs.Cuts.{cut-position, lacks-all}
+use Rattle.hc_text.proofs.Cuts.{cut-position, lacks-all}
 use Rattle.hc_sched.proofs.reader.next_line.Goals as goal
 
 pub returns : goal.returns

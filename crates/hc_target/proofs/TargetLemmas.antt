@@ -5,7 +5,7 @@ use Rattle.std.specs.Str.{is_utf8}
 use Rattle.std.proofs.lemmas.Bool.{and_parts, false_from_ne_true}
 use Rattle.std.proofs.lemmas.Str.{IsUtf8-from_is_utf8, is_utf8-from_IsUtf8}
 use Rattle.url.specs.Parser.{Parsed, parse_url}
-use Rattle.hc_sched.specs.Targets.{is_target, is_short_word, gives_text, has_own_text}
+use Rattle.hc_target.specs.Targets.{is_target, is_short_word, gives_text, has_own_text}
 use Rattle.url.specs.Parts.{Parts}
 
 pub is_target-not_utf8 : (text : List ℕ) → ¬ (IsUtf8 text) → is_target text ≡ false

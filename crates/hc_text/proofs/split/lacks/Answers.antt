@@ -2,8 +2,8 @@ use Rattle.std.proofs.Common.{◌≡◌, ℕ, ◌+◌, ◌==◌, List, Option, S
 use Rattle.std.specs.Prelude.{position, is_some}
 use Rattle.std.proofs.lemmas.Bool.{false_from_ne_true}
 use Rattle.hc_text.specs.Texts.{lacks}
-use Rattle.hc_fields.proofs.Cuts.{cut-position, lacks-all, lacks-not}
-use Rattle.hc_sched.proofs.words.lacks.Goals as goal
+use Rattle.hc_text.proofs.Cuts.{cut-position, lacks-all, lacks-not}
+use Rattle.hc_text.proofs.split.lacks.Goals as goal
 
 lacks_is : (b : ℕ) (text : List ℕ) (found : Option ℕ) → found ≡ position (λ x. x == b) text → not (is_some found) ≡ lacks b text
 lacks_is b text None h = sym (lacks-all b text (sym h))

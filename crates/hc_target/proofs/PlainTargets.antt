@@ -22,11 +22,11 @@ use Rattle.url.specs.Path.{IsSegment, IsSegmentList, join_segments, dot_count}
 use Rattle.url.specs.Scheme.{default_port, scheme_type, is_slash, scheme_len}
 use Rattle.url.specs.Parts.{IsValid, IsValidHead, serialize, kind_of}
 use Rattle.url.proofs.ValidLemmas.{IsAscii-serialize}
-use Rattle.hc_sched.specs.Words.{cut, behind}
-use Rattle.hc_sched.specs.Targets.{is_target, is_short_word, has_own_text, ReadsTarget}
-use Rattle.hc_sched.specs.PlainTargets.{is_host_byte, is_path_byte, is_query_byte, begins_dots, is_plain_path, is_plain_path_and_query, is_plain_rest, is_plain_target, plain_url}
-use Rattle.hc_sched.proofs.Steps.{none_or_some, append-cut, append-behind}
-use Rattle.hc_sched.proofs.TargetLemmas.{is_target-own}
+use Rattle.hc_text.specs.Cuts.{cut, behind}
+use Rattle.hc_target.specs.Targets.{is_target, is_short_word, has_own_text, ReadsTarget}
+use Rattle.hc_target.specs.PlainTargets.{is_host_byte, is_path_byte, is_query_byte, begins_dots, is_plain_path, is_plain_path_and_query, is_plain_rest, is_plain_target, plain_url}
+use Rattle.hc_text.proofs.Cutting.{none_or_some, append-cut, append-behind}
+use Rattle.hc_target.proofs.TargetLemmas.{is_target-own}
 
 -- bytes
 

@@ -1,7 +1,7 @@
 use Rattle.std.proofs.Common.{sym, rules}
-use Rattle.hc_sched.proofs.TargetLemmas.{is_target-not_utf8, is_target-own}
-use Rattle.hc_sched.proofs.PlainTargets.{plain_target}
-use Rattle.hc_sched.proofs.target.is_target.Goals as goal
+use Rattle.hc_target.proofs.TargetLemmas.{is_target-not_utf8, is_target-own}
+use Rattle.hc_target.proofs.PlainTargets.{plain_target}
+use Rattle.hc_target.proofs.target.is_target.Goals as goal
 
 pub returns-in_default-clause-value : goal.returns-in_default-clause-value
 returns-in_default-clause-value c = sym (is_target-not_utf8 c.args.text.now c.in_default.ensures.cases.0)

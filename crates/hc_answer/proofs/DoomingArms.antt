@@ -59,7 +59,7 @@ use Rattle.hc_rows.specs.Kept.{IsKept, KeepsConsumer, KeepsExchange, KeepsRunnin
 use Rattle.hc_rows.specs.Lines.{KeepsKey, has_turn, is_away, is_away_at, is_passed}
 use Rattle.hc_rows.specs.Stands.{Answered, RowsStand, Stands}
 use Rattle.hc_rows.specs.Stored.{KeepsEntries, is_over}
-use Rattle.hc_body.proofs.AnswerArm.{reader_kept, opened_as}
+use Rattle.hc_leave.proofs.AnswerArm.{reader_kept, opened_as}
 use Rattle.hc_rows.proofs.Answering.{does_answered}
 use Rattle.hc_rows.proofs.Asides.{same, held_alike}
 use Rattle.hc_rows.proofs.AsideSteps.{live_same}
@@ -67,19 +67,19 @@ use Rattle.hc_rows.proofs.ConsumerSteps.{SaysOfIt, key_with, key_stays}
 use Rattle.hc_rows.proofs.Counting.{stands_counted}
 use Rattle.hc_answer.proofs.DoomCloses.{among_is}
 use Rattle.hc_answer.proofs.DoomTies.{in_is}
-use Rattle.hc_body.proofs.HeardExchange.{drop_none, held_empty}
-use Rattle.hc_body.proofs.HeadTold.{heard_as, past_of_runs}
-use Rattle.hc_body.proofs.HeardRows.{Asker, headless_of, kept_as, runs_as}
+use Rattle.hc_leave.proofs.HeardExchange.{drop_none, held_empty}
+use Rattle.hc_answer.proofs.HeadTold.{heard_as, past_of_runs}
+use Rattle.hc_leave.proofs.HeardRows.{Asker, headless_of, kept_as, runs_as}
 use Rattle.hc_rows.proofs.KeySteps.{not_lined}
 use Rattle.hc_leave.proofs.LeaveArms.{flawless}
 use Rattle.hc_rows.proofs.Maps.{merely_true, merely_false}
-use Rattle.hc_body.proofs.OneConsumer.{HoldsAsMuch, held_same}
+use Rattle.hc_leave.proofs.OneConsumer.{HoldsAsMuch, held_same}
 use Rattle.hc_rows.proofs.OneOfEach.{stands_then, entries_same, growing_same}
 use Rattle.hc_rows.proofs.QueueArm.{becomes_by}
-use Rattle.hc_body.proofs.RefuseArm.{length_as}
+use Rattle.hc_leave.proofs.RefuseArm.{length_as}
 use Rattle.hc_rows.proofs.Ties.{key_same, overs_but}
 use Rattle.hc_rows.proofs.Unbinding.{entries_unbound}
-use Rattle.hc_body.proofs.UnstoredArms.{read_then, unwritten}
+use Rattle.hc_leave.proofs.UnstoredArms.{read_then, unwritten}
 use Rattle.hc_rows.proofs.Words.{same_or, eqb-same, eqb-other, and_false, then_false, false_true, none_some, some_is, same_row, as_received}
 
 -- WHOEVER READS A CLOSED EXCHANGE PAST THE STORE IS TO FAIL

@@ -52,10 +52,10 @@ use Rattle.hc_rows.specs.Renewals.{IsUnrenewed}
 use Rattle.hc_rows.specs.Room.{HasActs, LeavesActs, GivesWay, loss_by, room_for_write}
 use Rattle.hc_rows.specs.Stands.{Answered, RowsStand, Stands, is_fault}
 use Rattle.hc_rows.specs.Stored.{KeepsEntry}
-use Rattle.hc_body.proofs.AnswerArm.{reader_kept}
-use Rattle.hc_body.proofs.FoundArm.{aside, first, second, es, m, may_aside, may_first, make_second, one_way, m_unfounded, m_asker, read_alone, founds_answered, lost_answered, full_told}
-use Rattle.hc_body.proofs.HeadTold.{past_of_runs}
-use Rattle.hc_body.proofs.HeardRows.{Asker, Headless, asker, head_none, headless_of, heard_row, runs_as}
+use Rattle.hc_leave.proofs.AnswerArm.{reader_kept}
+use Rattle.hc_leave.proofs.FoundArm.{aside, first, second, es, m, may_aside, may_first, make_second, one_way, m_unfounded, m_asker, read_alone, founds_answered, lost_answered, full_told}
+use Rattle.hc_answer.proofs.HeadTold.{past_of_runs}
+use Rattle.hc_leave.proofs.HeardRows.{Asker, Headless, asker, head_none, headless_of, heard_row, runs_as}
 use Rattle.hc_rows.proofs.Maps.{known_of, merely_below, merely_false}
 use Rattle.hc_rows.proofs.ReaderSteps.{stands_read}
 use Rattle.hc_rows.proofs.Rooms.{room_is}

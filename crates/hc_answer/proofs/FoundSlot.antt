@@ -22,7 +22,7 @@ use Rattle.hc_exch.specs.Exchanges.{table_of, Becomes}
 use Rattle.hc_exch.specs.Known.{Known, headed, turned_into, length_by, begins_with}
 use Rattle.hc_exch.specs.Openings.{opened_with}
 use Rattle.hc_rows.specs.Founding.{brings_body}
-use Rattle.hc_body.proofs.AnswerArm.{known_here, known_other, opened_as}
+use Rattle.hc_leave.proofs.AnswerArm.{known_here, known_other, opened_as}
 use Rattle.hc_rows.proofs.Words.{same_or, eqb-same, eqb-other}
 
 -- its length doesn't look at what it is to the cache

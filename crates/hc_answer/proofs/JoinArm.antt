@@ -63,14 +63,14 @@ use Rattle.hc_rows.specs.Stored.{IsEntry, KeepsEntry, as_written}
 use Rattle.hc_rows.proofs.Answering.{does_answered, lossy_answered}
 use Rattle.hc_rows.proofs.Counting.{stands_counted}
 use Rattle.hc_rows.proofs.CurrentTies.{entry_row}
-use Rattle.hc_body.proofs.HeardRows.{Asker, asked_by, asker_of, headless_of, kept_as, runs_as}
+use Rattle.hc_leave.proofs.HeardRows.{Asker, asked_by, asker_of, headless_of, kept_as, runs_as}
 use Rattle.hc_answer.proofs.JoinEntries.{entries_joined, entry_gone, entry_growing}
 use Rattle.hc_answer.proofs.JoinRows.{IsJoinable, stands_joined}
 use Rattle.hc_answer.proofs.JoinTold.{Joins, first, later, goes_on, hole_aim, joinable_as, joinable_lost, joins_lost_too, joins_of, need_is, told_of, view_joins}
-use Rattle.hc_body.proofs.LoseAlone.{holds_none}
+use Rattle.hc_leave.proofs.LoseAlone.{holds_none}
 use Rattle.hc_rows.proofs.Maps.{known_of}
 use Rattle.hc_rows.proofs.QueueArm.{becomes_by}
-use Rattle.hc_body.proofs.UnstoredArms.{unwritten}
+use Rattle.hc_leave.proofs.UnstoredArms.{unwritten}
 use Rattle.hc_rows.proofs.Words.{same_or, eqb-same, eqb-other, false_true, is_there}
 
 -- ROWS THAT STAY

@@ -24,9 +24,9 @@ use Rattle.hc_rows.specs.declared.consumer.Consumer.{Consumer}
 use Rattle.hc_rows.specs.declared.rows.Rows.{Rows}
 use Rattle.hc_rows.specs.Heads.{aim_in, heard_view, is_bad_case, joins_kept, kept_at}
 use Rattle.hc_rows.specs.Joining.{IsAbout, IsAboutKept, joins_hole}
-use Rattle.hc_body.proofs.HeadCases.{case_unvalidated}
-use Rattle.hc_body.proofs.HeadTold.{viewed_as}
-use Rattle.hc_body.proofs.HeardRows.{Headless, headless_of}
+use Rattle.hc_leave.proofs.HeadCases.{case_unvalidated}
+use Rattle.hc_answer.proofs.HeadTold.{viewed_as}
+use Rattle.hc_leave.proofs.HeardRows.{Headless, headless_of}
 use Rattle.hc_rows.proofs.Words.{false_true, is_there, some_is}
 
 -- nothing joins what isn't kept

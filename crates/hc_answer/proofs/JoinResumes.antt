@@ -33,9 +33,9 @@ use Rattle.hc_rows.specs.Joining.{LacksOnly}
 use Rattle.hc_rows.specs.Kept.{KeepsConsumer, KeepsRunning}
 use Rattle.hc_rows.specs.Stands.{RowsStand}
 use Rattle.hc_rows.specs.Stored.{IsEntry}
-use Rattle.hc_body.proofs.AnswerArm.{opened_as}
+use Rattle.hc_leave.proofs.AnswerArm.{opened_as}
 use Rattle.hc_rows.proofs.CurrentTies.{covers_as, entry_at, stored_ends}
-use Rattle.hc_body.proofs.StoreArm.{stored_size}
+use Rattle.hc_leave.proofs.StoreArm.{stored_size}
 use Rattle.hc_rows.proofs.Ties.{kept_row}
 use Rattle.hc_rows.proofs.Words.{eqb-same, false_true, none_some, some_is, few_received}
 

@@ -39,11 +39,11 @@ use Rattle.hc_rows.specs.Leaving.{LeavesKey}
 use Rattle.hc_rows.specs.Lines.{KeepsKey, has_turn, is_passed, is_away, is_away_at}
 use Rattle.hc_rows.specs.Stands.{RowsStand}
 use Rattle.hc_rows.specs.Stored.{KeepsEntries}
-use Rattle.hc_body.proofs.AnswerArm.{all_reached, known_here, known_other}
+use Rattle.hc_leave.proofs.AnswerArm.{all_reached, known_here, known_other}
 use Rattle.hc_rows.proofs.AsideSteps.{live_same, length_same}
 use Rattle.hc_rows.proofs.Asides.{unstored_moved}
-use Rattle.hc_body.proofs.HeardExchange.{drop_none, held_empty}
-use Rattle.hc_body.proofs.HeardRows.{kept_as, runs_as}
+use Rattle.hc_leave.proofs.HeardExchange.{drop_none, held_empty}
+use Rattle.hc_leave.proofs.HeardRows.{kept_as, runs_as}
 use Rattle.hc_answer.proofs.JoinKeys.{keys_left}
 use Rattle.hc_rows.proofs.KeySteps.{not_lined}
 use Rattle.hc_rows.proofs.Losing.{finds_same}

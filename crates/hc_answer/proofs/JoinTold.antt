@@ -46,8 +46,8 @@ use Rattle.hc_rows.specs.Heads.{aim_in}
 use Rattle.hc_rows.specs.Joining.{joins_hole}
 use Rattle.hc_rows.specs.Kept.{IsRunning, role_awaited}
 use Rattle.hc_rows.specs.Stored.{IsEntry, TellsLength, told, untold}
-use Rattle.hc_body.proofs.HeadViews.{no_hole_left, part_within}
-use Rattle.hc_body.proofs.HeardRows.{Asker}
+use Rattle.hc_answer.proofs.HeadViews.{no_hole_left, part_within}
+use Rattle.hc_leave.proofs.HeardRows.{Asker}
 use Rattle.hc_answer.proofs.JoinRows.{IsJoinable}
 use Rattle.hc_rows.proofs.Words.{same_or, eqb-same, eqb-other, false_true, none_some, some_is, same_row}
 

@@ -1,3 +1,7 @@
+pub mod HeadViews
+pub mod PassArm
+pub mod HeadTold
+pub mod LoseAsked
 pub mod RisingLists
 pub mod DoomLoops
 pub mod Woken

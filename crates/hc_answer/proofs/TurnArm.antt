@@ -52,14 +52,14 @@ use Rattle.hc_rows.specs.Stands.{Answered, KeepsRest, RowsStand, Stands}
 use Rattle.hc_rows.specs.Stored.{KeepsEntry, IsEntry, is_usable_kept}
 use Rattle.hc_rows.proofs.Answering.{does_answered}
 use Rattle.hc_rows.proofs.Counting.{stands_counted}
-use Rattle.hc_body.proofs.HeadCases.{it_is, case_selected, case_unselected}
-use Rattle.hc_body.proofs.HeadTold.{past_of_runs}
-use Rattle.hc_body.proofs.HeardRows.{Asker, headless_of, runs_as}
+use Rattle.hc_leave.proofs.HeadCases.{it_is, case_selected, case_unselected}
+use Rattle.hc_answer.proofs.HeadTold.{past_of_runs}
+use Rattle.hc_leave.proofs.HeardRows.{Asker, headless_of, runs_as}
 use Rattle.hc_rows.proofs.Maps.{merely_true}
-use Rattle.hc_body.proofs.RefuseArm.{stands_refused, closes_as}
+use Rattle.hc_leave.proofs.RefuseArm.{stands_refused, closes_as}
 use Rattle.hc_answer.proofs.RenewedArm.{stands_renewed}
 use Rattle.hc_rows.proofs.SealArm.{stands_stayed}
-use Rattle.hc_body.proofs.UnstoredArms.{beside, unread_then, unwritten}
+use Rattle.hc_leave.proofs.UnstoredArms.{beside, unread_then, unwritten}
 use Rattle.hc_rows.proofs.Words.{same_or, eqb-same, eqb-other, and_false, false_true, none_some}
 
 -- WHERE WHAT IS STORED STAYS

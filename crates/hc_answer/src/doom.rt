@@ -1,5 +1,5 @@
 //! What a doom does.
-ghost use Rattle.std.specs.Prelude.{◌≡◌, ◌+◌, ◌≤◌, ℕ, true, nat_eq, nat_le, IfSome, option_and_then};
+ghost use Rattle.std.specs.Prelude.{◌≡◌, ◌≤◌, ℕ, true, nat_eq, nat_le, IfSome, option_and_then};
 ghost use Rattle.std.specs.HashMap.{get, hash_map_len};
 ghost use Rattle.hc_event.specs.Acts.{listed, spare};
 ghost use Rattle.hc_event.specs.declared.event.Event.TheVariants.{Doom};
@@ -7,7 +7,7 @@ ghost use Rattle.hc_entries.specs.Entries.{shelf_of};
 ghost use Rattle.hc_entry.specs.Keys.{line_of, seated_at, Becomes};
 ghost use Rattle.hc_entry.specs.Kept.{on_line};
 ghost use Rattle.hc_entry.specs.Lines.{is_in, all_back};
-ghost use Rattle.hc_exch.specs.Exchanges.{table_of, next_of};
+ghost use Rattle.hc_exch.specs.Exchanges.{table_of};
 ghost use Rattle.hc_exch.specs.Known.{is_open};
 ghost use Rattle.hc_model.specs.Effects.{woken};
 ghost use Rattle.hc_model.specs.Lawful.{Lawful};
@@ -18,9 +18,9 @@ ghost use Rattle.hc_rows.specs.Stands.{Answers, KeepsRest, RowsStand, Stands};
 ghost use Rattle.hc_rows.specs.Stored.{KeepsEntries};
 
 use hc_event::Acts;
+use hc_leave::close::close;
 use hc_leave::evict::let_some_go;
 use hc_leave::gone::unbind_from;
-use hc_leave::leave::close;
 use hc_rows::{Rows, awaited, start_over};
 use hc_rules::lesser;
 use hc_store::Backend;

@@ -6,15 +6,15 @@ ghost use Rattle.hc_rules.specs.declared.heads.HeadCase.TheVariants as case;
 ghost use Rattle.hc_rules.specs.Lengths.{is_bad};
 ghost use Rattle.hc_rules.specs.Refusals.{head_refusal};
 ghost use Rattle.hc_entries.specs.Entries.{shelf_of};
-ghost use Rattle.hc_exch.specs.Exchanges.{next_of, table_of};
+ghost use Rattle.hc_exch.specs.Exchanges.{table_of};
 ghost use Rattle.hc_exch.specs.Known.{length_by};
 ghost use Rattle.hc_rows.specs.Heads.{IsAskedBy, IsPastStore, is_bad_case, is_past_case};
 ghost use Rattle.hc_rows.specs.Dooms.{IsUnheard};
 ghost use Rattle.hc_rows.specs.Stands.{AnswersDooming, Stands, open_at};
 
 use crate::doom::doom;
-use hc_body::heard::Heard;
-use hc_body::unstored::have_answer;
+use crate::heard::Heard;
+use crate::unstored::have_answer;
 use hc_event::{Acts, Cause, Place, Response};
 use hc_rows::{Rows, stand};
 use hc_rules::HeadCase;

@@ -1,5 +1,5 @@
 //! The head of an exchange, by its case.
-ghost use Rattle.std.specs.Prelude.{◌≡◌, ◌+◌, ◌≤◌, ◌<◌, ◌^◌, ◌&&◌, Some, None, false, true, nat_eq, is_some, IsSomeAnd, OnOk, OnErr};
+ghost use Rattle.std.specs.Prelude.{◌≡◌, ◌≤◌, ◌<◌, ◌^◌, ◌&&◌, Some, None, false, true, nat_eq, is_some, IsSomeAnd, OnOk, OnErr};
 ghost use Rattle.std.specs.HashMap.{get};
 ghost use Rattle.hc_event.specs.Acts.{listed, spare};
 ghost use Rattle.hc_event.specs.declared.event.Event.TheVariants.{Head};
@@ -10,7 +10,7 @@ ghost use Rattle.hc_rules.specs.Refusals.{head_refusal};
 ghost use Rattle.hc_entries.specs.Entries.{shelf_of};
 ghost use Rattle.hc_entry.specs.Keys.{kept_of};
 ghost use Rattle.hc_exch.specs.declared.row.Open.{Open};
-ghost use Rattle.hc_exch.specs.Exchanges.{next_of, table_of};
+ghost use Rattle.hc_exch.specs.Exchanges.{table_of};
 ghost use Rattle.hc_exch.specs.Known.{is_open, length_by};
 ghost use Rattle.hc_fields.specs.FieldList.{IsModest};
 ghost use Rattle.hc_model.specs.Cases.{is_founding};
@@ -24,10 +24,10 @@ ghost use Rattle.hc_rows.specs.Stands.{Answers, AnswersCase, Stands, open_at};
 
 use crate::dooming::take_dooming;
 use crate::found::found;
+use crate::heard::Heard;
 use crate::join::join;
 use crate::turn::validate;
-use hc_body::heard::Heard;
-use hc_body::unstored::{close_hole, go_past, put_down, start_anew, take_past};
+use crate::unstored::{close_hole, go_past, put_down, start_anew, take_past};
 use hc_event::{Acts, Cause, Need, Response, is_safe};
 use hc_exch::Role;
 use hc_range::Span;

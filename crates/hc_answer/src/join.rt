@@ -8,7 +8,7 @@ ghost use Rattle.hc_store.specs.Causes.{HasCause, HasNoLimit};
 ghost use Rattle.hc_entries.specs.Entries.{shelf_of};
 ghost use Rattle.hc_entries.specs.Kept.{Kept};
 ghost use Rattle.hc_entries.specs.Shelf.{is_kept};
-ghost use Rattle.hc_exch.specs.Exchanges.{next_of, table_of};
+ghost use Rattle.hc_exch.specs.Exchanges.{table_of};
 ghost use Rattle.hc_exch.specs.Known.{is_open, length_by};
 ghost use Rattle.hc_rows.specs.Heads.{IsAskedBy, IsTimely};
 ghost use Rattle.hc_model.specs.RepresentationRows.{is_last_part};
@@ -17,8 +17,8 @@ ghost use Rattle.hc_rows.specs.Joining.{AnswersJoins, Brings, IsAbout, IsGrowing
 ghost use Rattle.hc_rows.specs.Renewals.{IsUnrenewed};
 ghost use Rattle.hc_rows.specs.Stands.{Stands, open_at};
 
+use crate::heard::Heard;
 use crate::turn::renew;
-use hc_body::heard::Heard;
 use hc_event::{Acts, LostKind, Need, Response};
 use hc_exch::Role;
 use hc_leave::gone::leave_key;

@@ -1,5 +1,5 @@
 //! 304s that may be about what is stored.
-ghost use Rattle.std.specs.Prelude.{◌≡◌, ◌≤◌, ◌<◌, ◌^◌, ℕ, true, Some, None, is_some, nat_eq, if◌then◌else◌, IfOk, IfSome, IsSomeAnd, OnOk, OnErr};
+ghost use Rattle.std.specs.Prelude.{◌≡◌, ◌≤◌, ◌<◌, ◌^◌, true, Some, None, nat_eq, if◌then◌else◌, IfOk, IsSomeAnd, OnOk, OnErr};
 ghost use Rattle.std.specs.HashMap.{get};
 ghost use Rattle.hc_event.specs.Acts.{listed, spare};
 ghost use Rattle.hc_rules.specs.Lengths.{is_same_number};
@@ -7,20 +7,20 @@ ghost use Rattle.hc_rules.specs.Refusals.{head_refusal};
 ghost use Rattle.hc_record.specs.Plain.{plain};
 ghost use Rattle.hc_store.specs.Causes.{HasCause, HasNoLimit};
 ghost use Rattle.hc_entries.specs.Entries.{shelf_of};
-ghost use Rattle.hc_entries.specs.Shelf.{is_kept, head_at};
+ghost use Rattle.hc_entries.specs.Shelf.{is_kept};
 ghost use Rattle.hc_entry.specs.Keys.{kept_of};
 ghost use Rattle.hc_exch.specs.declared.row.Open.{Open};
-ghost use Rattle.hc_exch.specs.Exchanges.{next_of, table_of};
+ghost use Rattle.hc_exch.specs.Exchanges.{table_of};
 ghost use Rattle.hc_exch.specs.Known.{is_open};
 ghost use Rattle.hc_rows.specs.Arms.{IsInKey};
 ghost use Rattle.hc_rows.specs.Heads.{IsAskedBy, IsTimely};
 ghost use Rattle.hc_rows.specs.Renewals.{IsRenewed, IsSelected, IsUnrenewed};
 ghost use Rattle.hc_rows.specs.Stands.{AnswersUnselected, Stands, open_at};
 
-use hc_body::asker::let_through;
-use hc_body::heard::Heard;
-use hc_body::lose::lose_asked;
-use hc_body::unstored::{refuse, start_anew};
+use crate::asked::lose_asked;
+use crate::asker::let_through;
+use crate::heard::Heard;
+use crate::unstored::{refuse, start_anew};
 use hc_event::{Acts, Response};
 use hc_record::StoredHead;
 use hc_rows::{Rows, renewed};

@@ -11,7 +11,7 @@ use Rattle.hc_laws.proofs.WeightsLeft.{two_give_way}
 use Rattle.hc_rows.specs.declared.rows.Rows.{Rows}
 use Rattle.hc_rows.specs.Room.{HasActs, LeavesActs, room_for_write}
 use Rattle.hc_rows.specs.Stands.{Stands}
-use Rattle.hc_body.proofs.PieceRoom.{may_make_room}
+use Rattle.hc_leave.proofs.PieceRoom.{may_make_room}
 use Rattle.hc_rows.proofs.Rooms.{room_is}
 use Rattle.hc_rows.proofs.Words.{few_received}
 

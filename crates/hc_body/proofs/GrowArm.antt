@@ -48,14 +48,14 @@ use Rattle.hc_rows.specs.Refused.{Brings, GoesOn, MayHold, MayLoseOwn, MayLosePi
 use Rattle.hc_rows.specs.Stands.{Answered, RowsStand, is_fault}
 use Rattle.hc_rows.specs.Stopped.{HoldsNothing}
 use Rattle.hc_rows.proofs.Asides.{unstored_moved}
-use Rattle.hc_body.proofs.FoundArm.{make_gone}
-use Rattle.hc_body.proofs.LoseAlone.{holds_none}
-use Rattle.hc_body.proofs.LoseTurn.{writes_it, grows, unwritten, survivor_same}
+use Rattle.hc_leave.proofs.FoundArm.{make_gone}
+use Rattle.hc_leave.proofs.LoseAlone.{holds_none}
+use Rattle.hc_leave.proofs.LoseTurn.{writes_it, grows, unwritten, survivor_same}
 use Rattle.hc_body.proofs.LostPiece.{Owner, owner, owner_within, absent, reached, brought_some}
 use Rattle.hc_body.proofs.LostTables.{own_tables, open_tables, fails_tables}
-use Rattle.hc_body.proofs.PieceArm.{open_unended}
-use Rattle.hc_body.proofs.PieceRoom.{may_make_room, gives_same, spared}
-use Rattle.hc_body.proofs.StoreArm.{Stores, bound_back}
+use Rattle.hc_leave.proofs.PieceArm.{open_unended}
+use Rattle.hc_leave.proofs.PieceRoom.{may_make_room, gives_same, spared}
+use Rattle.hc_leave.proofs.StoreArm.{Stores, bound_back}
 use Rattle.hc_rows.proofs.Words.{eqb-same, false_true, some_is, then_false}
 
 -- the acts show what is lost

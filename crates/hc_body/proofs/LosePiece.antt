@@ -27,8 +27,8 @@ use Rattle.hc_rows.specs.Stopped.{NobodyAwaits}
 use Rattle.hc_rows.proofs.Closing.{stands_unstored}
 use Rattle.hc_body.proofs.HeldPiece.{held_stands, dropped_stands}
 use Rattle.hc_rows.proofs.Maps.{act_and}
-use Rattle.hc_body.proofs.PieceArm.{Runs, runs_of}
-use Rattle.hc_body.proofs.PieceRows.{s, like_same, last_is}
+use Rattle.hc_leave.proofs.PieceArm.{Runs, runs_of}
+use Rattle.hc_leave.proofs.PieceRows.{s, like_same, last_is}
 use Rattle.hc_rows.proofs.Words.{same_or, eqb-same, eqb-other, then_false, false_true, same_row}
 
 -- the rows that stand for the tables once a loss was told, and then for those with the piece

@@ -44,11 +44,11 @@ use Rattle.hc_rows.specs.Stops.{brought_by}
 use Rattle.hc_rows.specs.Stored.{IsEntry, TellsLength, told, untold, KeepsEntry}
 use Rattle.hc_rows.proofs.Answering.{does_answered}
 use Rattle.hc_rows.proofs.Asides.{unstored_moved}
-use Rattle.hc_body.proofs.HeardExchange.{drop_none}
+use Rattle.hc_leave.proofs.HeardExchange.{drop_none}
 use Rattle.hc_body.proofs.HeldPiece.{held_stands}
 use Rattle.hc_rows.proofs.OneOfEach.{first_by}
-use Rattle.hc_body.proofs.PieceArm.{Brought, brought_of, Runs, runs_of, open_unended, brings_it, past_answered}
-use Rattle.hc_body.proofs.PieceRows.{s, z, IsLike, like_same, stands_pieced}
+use Rattle.hc_leave.proofs.PieceArm.{Brought, brought_of, Runs, runs_of, open_unended, brings_it, past_answered}
+use Rattle.hc_leave.proofs.PieceRows.{s, z, IsLike, like_same, stands_pieced}
 use Rattle.hc_rows.proofs.Words.{same_or, eqb-same, eqb-other, false_true, none_some, some_is, same_row}
 
 -- whose an open exchange is that isn't the writing's

@@ -1,5 +1,5 @@
 //! Pieces of exchanges.
-ghost use Rattle.std.specs.Prelude.{◌≡◌, ◌+◌, ◌≤◌, ◌<◌, ◌^◌, ◌++◌, ◌∷◌, ◌↔◌, [], IsTrue, ℕ, List, length, take, true, Ok, Some, None, IfOk, OnOk, OnErr};
+ghost use Rattle.std.specs.Prelude.{◌≡◌, ◌+◌, ◌≤◌, ◌<◌, ◌^◌, ◌++◌, ◌∷◌, ◌↔◌, [], IsTrue, ℕ, List, length, take, true, Ok, Some, None, OnOk, OnErr};
 ghost use Rattle.hc_sparse.specs.Cells.{AreAbsent, Covers, written};
 ghost use Rattle.hc_store.specs.Causes.{HasCause, IsWithin};
 ghost use Rattle.hc_event.specs.Acts.{listed, spare};
@@ -14,25 +14,23 @@ ghost use Rattle.hc_entries.specs.Shelf as shelf;
 ghost use Rattle.hc_entries.specs.Shelf.{is_kept, cells_at, size_at};
 ghost use Rattle.hc_entries.specs.Views.{view_of};
 ghost use Rattle.hc_exch.specs.declared.row.Open.{Open};
-ghost use Rattle.hc_exch.specs.Exchanges.{next_of, table_of};
+ghost use Rattle.hc_exch.specs.Exchanges.{table_of};
 ghost use Rattle.hc_exch.specs.Known.{is_open, is_all, EndsBelow};
 ghost use Rattle.hc_model.specs.Effects.{gone, lost_to};
 ghost use Rattle.hc_model.specs.Rows.{Tables, Exchange, Representation};
-ghost use Rattle.hc_store.specs.declared.error.StoreError.TheVariants as errors;
-ghost use Rattle.hc_rows.specs.Room.{loss_by};
 ghost use Rattle.hc_rows.specs.Pieces.{stored_by, grown, IsLastKind, PutsPiece};
 ghost use Rattle.hc_rows.specs.Refused.{brought_lost, own_loss, LosesPiece, MayLoseOwn, MayLosePiece, RefusesPiece};
 ghost use Rattle.hc_rows.specs.Stands.{RowsStand, Stays, Answers, Stands, open_at};
 ghost use Rattle.hc_rows.specs.Stops.{kind_left, IsTold};
 
-use crate::lose::lose_shared;
 use hc_event::{Acts, LostKind};
 use hc_exch::{ExchangeView, Role};
-use hc_leave::close::writing;
+use hc_leave::close::close;
 use hc_leave::evict::make_room;
-use hc_leave::leave::close;
+use hc_leave::lose::lose_shared;
 use hc_leave::seal::lose_to;
 use hc_leave::writers::exclusive;
+use hc_leave::writing::writing;
 use hc_record::Kind;
 use hc_rows::Rows;
 use hc_rules::Write;
@@ -331,17 +329,4 @@ fn covers_with<B: Backend>(rows: &Rows<B>, r: u64, at: u64, count: u64, end: u64
         0 end }
 {
     rows.entries.covers(r, 0, at.min(end)) && rows.entries.covers(r, at + count, end)
-}
-
-/// Why what the store refuses is lost. Want of memory is no loss.
-pub fn lost_kind(error: StoreError) -> Result<LostKind, NoMemory>
-    ensures lost { IfOk result (λ kind. loss_by error ≡ Some kind) }
-    ensures memory { OnErr result (error ≡ errors.NoMemory) }
-{
-    match error {
-        StoreError::Fault => Ok(LostKind::Fault),
-        StoreError::TooLarge => Ok(LostKind::TooLarge),
-        StoreError::Full => Ok(LostKind::Full),
-        StoreError::NoMemory => Err(NoMemory),
-    }
 }

@@ -1,5 +1,5 @@
 //! Ends and faults of exchanges.
-ghost use Rattle.std.specs.Prelude.{◌≡◌, ◌+◌, ◌≤◌, ◌<◌, ◌^◌, ℕ, nat_eq, true, false, None, Some, is_some, IsSomeAnd};
+ghost use Rattle.std.specs.Prelude.{◌≡◌, ◌≤◌, ◌<◌, ◌^◌, nat_eq, true, false, None, Some, is_some};
 ghost use Rattle.std.specs.HashMap.{get};
 ghost use Rattle.hc_event.specs.Acts.{listed, spare};
 ghost use Rattle.hc_event.specs.declared.act.Cause.TheVariants as cause;
@@ -7,7 +7,7 @@ ghost use Rattle.hc_event.specs.declared.event.Event.TheVariants.{End, Fault};
 ghost use Rattle.hc_rules.specs.Refusals.{end_refusal, fault_refusal};
 ghost use Rattle.hc_entries.specs.Entries.{shelf_of};
 ghost use Rattle.hc_entries.specs.Shelf.{is_kept};
-ghost use Rattle.hc_exch.specs.Exchanges.{next_of, table_of};
+ghost use Rattle.hc_exch.specs.Exchanges.{table_of};
 ghost use Rattle.hc_exch.specs.Known.{is_open};
 ghost use Rattle.hc_model.specs.Effects.{with_consumer, with_exchange, put_down, over};
 ghost use Rattle.hc_model.specs.Denials.{denial};
@@ -20,10 +20,10 @@ ghost use Rattle.hc_rows.specs.Stopped.{BrokeOff, IsBroken, Waited, SealedWhole,
 ghost use Rattle.hc_rows.specs.Stops.{readers_of, reads_from, goes_on, is_shown};
 
 use hc_event::{Acts, Cause, LostKind};
-use hc_leave::close::writing;
 use hc_leave::evict::is_current;
 use hc_leave::gone::leave_place;
 use hc_leave::seal::{brought, lose_to, stop_bringing};
+use hc_leave::writing::writing;
 use hc_record::Kind;
 use hc_rows::{Readers, Rows, fail_with, know_end, know_ends, make_all_due, make_due};
 use hc_store::Backend;

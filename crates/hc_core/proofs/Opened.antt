@@ -21,7 +21,7 @@ use Rattle.hc_rows.specs.declared.rows.Rows.{Rows}
 use Rattle.hc_rows.specs.Good.{StandsUntil, counted}
 use Rattle.hc_rows.specs.Stands.{Stands, Answers, gate_of}
 use Rattle.hc_rows.proofs.Maps.{merely_below}
-use Rattle.hc_body.proofs.Gates.{denies_as}
+use Rattle.hc_leave.proofs.Gates.{denies_as}
 use Rattle.hc_core.proofs.Standing.{stands_of_runs}
 
 opens_one : (limits : Limits) (t : Tables) (now : ℕ) (flaw : Flaw) → Sound t → (ev : Event) → denial t ev ≡ None → (after_accepted t (entry_of limits t now ev flaw)).opened ≤ t.opened + 1

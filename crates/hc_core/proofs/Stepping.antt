@@ -39,8 +39,8 @@ use Rattle.hc_rows.specs.declared.rows.Rows.{Rows}
 use Rattle.hc_rows.specs.Stands.{RowsStand, Answers, gate_of, is_fault}
 use Rattle.hc_rows.specs.Facts.{Facts}
 use Rattle.hc_rows.specs.Good.{StandsUntil, counted}
-use Rattle.hc_body.proofs.Gates.{denies_as}
-use Rattle.hc_body.proofs.Sets.{acts_set}
+use Rattle.hc_leave.proofs.Gates.{denies_as}
+use Rattle.hc_leave.proofs.Sets.{acts_set}
 use Rattle.hc_core.proofs.Standing.{facts_of_runs}
 use Rattle.hc_rows.proofs.Words.{none_some}
 use Rattle.hc_core.proofs.Undenied.{undenied}

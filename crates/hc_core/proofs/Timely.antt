@@ -12,7 +12,7 @@ use Rattle.hc_rows.specs.Facts.{Facts}
 use Rattle.hc_rows.specs.Good.{StandsUntil}
 use Rattle.hc_rows.specs.Heads.{IsTimely}
 use Rattle.hc_rows.specs.Stands.{RowsStand}
-use Rattle.hc_body.proofs.HeardRows.{heard_row}
+use Rattle.hc_leave.proofs.HeardRows.{heard_row}
 use Rattle.hc_core.proofs.Standing.{facts_of_runs}
 
 module _ {B : Type 0} {g : Ghosts B} (r : Rows B g) (x : ℕ) (o : Open) (running : (table_of r.exchanges x).running ≡ Some o) where

@@ -11,8 +11,8 @@ ghost use Rattle.hc_rows.specs.Stands.{RowsStand, Stands};
 
 use hc_entries::Entries;
 use hc_entry::KeyTable;
-use hc_exch::Exchanges;
 use hc_event::Place;
+use hc_exch::Exchanges;
 use hc_rows::Rows;
 use hc_store::Backend;
 use hc_text::Key;

@@ -6,6 +6,8 @@ pub mod close;
 pub mod evict;
 pub mod gone;
 pub mod leave;
+pub mod lose;
 pub mod misread;
 pub mod seal;
 pub mod writers;
+pub mod writing;

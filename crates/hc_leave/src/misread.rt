@@ -3,16 +3,15 @@ ghost use Rattle.std.specs.Prelude.{◌≡◌, ◌≢◌, ◌≤◌, true, is_so
 ghost use Rattle.std.specs.HashMap.{get};
 ghost use Rattle.hc_event.specs.Acts.{listed, spare};
 ghost use Rattle.hc_entries.specs.Entries.{shelf_of};
-ghost use Rattle.hc_exch.specs.Exchanges.{next_of};
 ghost use Rattle.hc_store.specs.declared.error.StoreError.TheVariants as errors;
 ghost use Rattle.hc_rows.specs.Reads.{AnswersMisread};
 ghost use Rattle.hc_rows.specs.Stands.{Stands};
 
 use crate::acts::put;
-use crate::close::left_by;
+use crate::close::close;
 use crate::evict::let_go;
 use crate::gone::remove_consumer;
-use crate::leave::close;
+use crate::leave::left_by;
 use hc_event::{Act, Acts, Cause};
 use hc_rows::Rows;
 use hc_store::{Backend, StoreError};

@@ -5,7 +5,7 @@ ghost use Rattle.hc_entries.specs.Shelf.{is_kept};
 ghost use Rattle.hc_rows.specs.Candidates.{ExclusiveIs, HasMoreIs};
 ghost use Rattle.hc_rows.specs.Stands.{Stands};
 
-use crate::close::{if_running, writing};
+use crate::writing::{if_running, writing};
 use hc_rows::{Consumer, Rows};
 use hc_store::Backend;
 

@@ -10,8 +10,8 @@ ghost use Rattle.hc_rows.specs.Plans.{HasCurrent};
 
 use hc_event::{Request, Why};
 use hc_fresh::{RequestFacts, allowed_to, vary_matches};
-use hc_leave::close::writing;
 use hc_leave::writers::exclusive;
+use hc_leave::writing::writing;
 use hc_partial::first_hole;
 use hc_range::Span;
 use hc_record::StoredHead;

@@ -11,3 +11,4 @@ mod read;
 mod show;
 mod shown;
 pub mod start;
+mod wait;

@@ -1,19 +1,19 @@
 //! What a poll does for a consumer that goes past the store.
-ghost use Rattle.std.specs.Prelude.{◌≡◌, ◌+◌, ◌≤◌, ◌<◌, ◌^◌, ℕ, nat_eq, true, IsSomeAnd, OnOk, OnErr};
+ghost use Rattle.std.specs.Prelude.{◌≡◌, ◌+◌, ◌≤◌, ◌<◌, ◌^◌, ℕ, nat_eq, IsSomeAnd, OnOk, OnErr};
 ghost use Rattle.std.specs.HashMap.{get};
 ghost use Rattle.hc_event.specs.Acts.{listed, spare};
 ghost use Rattle.hc_event.specs.declared.event.Event.TheVariants.{Poll};
 ghost use Rattle.hc_entries.specs.Entries.{shelf_of};
-ghost use Rattle.hc_exch.specs.Exchanges.{next_of, table_of};
+ghost use Rattle.hc_exch.specs.Exchanges.{table_of};
 ghost use Rattle.hc_rows.specs.Arms.{IsShown, IsUnshown, past_view};
 ghost use Rattle.hc_rows.specs.Stands.{Answers, Stands};
 
-use crate::poll::wait;
 use crate::read::{ask, give, most};
 use crate::show::put_shown;
+use crate::wait::wait;
 use hc_event::{Acts, Wait, Why};
-use hc_leave::close::if_running;
 use hc_leave::leave::{end_reading, fail};
+use hc_leave::writing::if_running;
 use hc_rows::{Consumer, Rows, show_answer};
 use hc_rules::{ReadStep, ReadView, read_step};
 use hc_store::Backend;

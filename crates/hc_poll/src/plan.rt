@@ -1,5 +1,5 @@
 //! What a consumer does that reads nothing yet: it waits, fails, or opens an exchange.
-ghost use Rattle.std.specs.Prelude.{◌≡◌, ◌≢◌, ◌+◌, ◌≤◌, ◌<◌, ◌^◌, ◌++◌, ◌∷◌, [], ℕ, nat_eq, true, is_some, IsSomeAnd, IfOk, OnOk, OnErr};
+ghost use Rattle.std.specs.Prelude.{◌≡◌, ◌≢◌, ◌+◌, ◌≤◌, ◌<◌, ◌^◌, ◌++◌, ◌∷◌, [], ℕ, nat_eq, IsSomeAnd, IfOk, OnOk, OnErr};
 ghost use Rattle.std.specs.HashMap.{get};
 ghost use Rattle.hc_event.specs.Acts.{listed, spare};
 ghost use Rattle.hc_event.specs.declared.act.Act.TheVariants as act;
@@ -16,7 +16,7 @@ ghost use Rattle.hc_rows.specs.Arms.{IsQueued};
 ghost use Rattle.hc_rules.specs.declared.need.Route.TheVariants as route;
 ghost use Rattle.hc_rules.specs.Needs.{route_of};
 
-use crate::poll::wait;
+use crate::wait::wait;
 use hc_event::{Act, Acts, Need, Place, Request, Wait};
 use hc_exch::Role;
 use hc_leave::acts::put;

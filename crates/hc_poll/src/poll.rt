@@ -1,9 +1,8 @@
 //! A poll: what is done for a consumer by where it stands.
-ghost use Rattle.std.specs.Prelude.{◌≡◌, ◌+◌, ◌≤◌, ◌<◌, ◌^◌, ◌++◌, ◌∷◌, [], None, ℕ, nat_eq, true, is_some, IsSomeAnd, OnOk, OnErr};
+ghost use Rattle.std.specs.Prelude.{◌≡◌, ◌≤◌, ◌<◌, ◌^◌, ℕ, nat_eq, true, is_some, IsSomeAnd, OnOk, OnErr};
 ghost use Rattle.std.specs.HashMap.{get};
 ghost use Rattle.hc_event.specs.Acts.{listed, spare};
 ghost use Rattle.hc_event.specs.declared.event.Event.TheVariants.{Poll};
-ghost use Rattle.hc_event.specs.declared.act.Act.TheVariants as act;
 ghost use Rattle.hc_entries.specs.Entries.{shelf_of};
 ghost use Rattle.hc_exch.specs.Exchanges.{next_of};
 ghost use Rattle.hc_rows.specs.Good.{StandsBy};
@@ -14,8 +13,7 @@ use crate::carry::carry_out;
 use crate::past::{await_answer, read_past};
 use crate::read::read_bound;
 use crate::shown::await_stored;
-use hc_event::{Act, Acts, Place, Wait};
-use hc_leave::acts::put;
+use hc_event::{Acts, Place, Wait};
 use hc_leave::leave::fail_down;
 use hc_rows::Rows;
 use hc_store::Backend;
@@ -73,13 +71,4 @@ fn await_head<B: Backend>(rows: &Rows<B>, c: u64, x: u64, out: &mut Acts)
         → Answers rows.now rows.now (listed out.old) (listed out.new) now (Poll c want) }
 {
     wait(c, Wait::Head(x), out);
-}
-
-/// A consumer is to wait.
-pub(crate) fn wait(c: u64, wait: Wait, out: &mut Acts)
-    requires { 1 ≤ spare out.old }
-    ensures acts { listed out.new ≡ listed out.old ++ act.Pending c wait ∷ [] }
-    ensures room { spare out.new + 1 ≡ spare out.old }
-{
-    put(out, Act::Pending { c, wait });
 }

@@ -19,13 +19,13 @@ ghost use Rattle.hc_rows.specs.Arms.{most, given, asks_or_waits, asked_in};
 ghost use Rattle.hc_rows.specs.Reads.{goes_alone, headless_own, held_own, IsHeard, IsRunAhead, IsShownAt, ReadViewIs, ReadsStore, run_ahead};
 
 use crate::hole::open_later_hole;
-use crate::poll::wait;
 use crate::shown::is_headless;
+use crate::wait::wait;
 use hc_event::{Act, Acts, Wait};
 use hc_leave::acts::put;
-use hc_leave::close::{if_running, writing};
 use hc_leave::leave::{end_reading, fail};
 use hc_leave::misread::misread_by;
+use hc_leave::writing::{if_running, writing};
 use hc_rows::{Consumer, Rows, count_given};
 use hc_rules::{ReadStep, ReadView, read_step};
 use hc_sparse::Run;

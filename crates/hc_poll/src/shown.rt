@@ -6,12 +6,12 @@ ghost use Rattle.hc_event.specs.declared.event.Event.TheVariants.{Poll};
 ghost use Rattle.hc_record.specs.Plain.{plain};
 ghost use Rattle.hc_entries.specs.Entries.{shelf_of};
 ghost use Rattle.hc_entries.specs.Shelf.{head_at};
-ghost use Rattle.hc_exch.specs.Exchanges.{next_of, table_of};
+ghost use Rattle.hc_exch.specs.Exchanges.{table_of};
 ghost use Rattle.hc_rows.specs.Reads.{IsUnshownBy, is_headless_open, waits_for_first, is_part, why_shown, AnswersPolls};
 ghost use Rattle.hc_rows.specs.Stands.{Answers, Stands};
 
-use crate::poll::wait;
 use crate::show::{put_shown, span_to};
+use crate::wait::wait;
 use hc_event::{Acts, BoundBy, Wait, Why};
 use hc_leave::misread::misread_by;
 use hc_record::StoredHead;

@@ -3,7 +3,7 @@ use Rattle.hc_event.specs.Acts.{listed}
 use Rattle.hc_exch.specs.Exchanges.{table_of}
 use Rattle.hc_rows.specs.Dooms.{IsDoomed, IsUnheard}
 use Rattle.hc_answer.proofs.DoomingArms.{past_place, dooming_bad}
-use Rattle.hc_body.proofs.HeardRows.{asker_of, asked_by}
+use Rattle.hc_leave.proofs.HeardRows.{asker_of, asked_by}
 use Rattle.hc_answer.proofs.dooming.doom_badly.Goals as goal
 
 pub returns-clause-answers : goal.returns-clause-answers

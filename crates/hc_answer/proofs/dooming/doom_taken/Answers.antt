@@ -2,7 +2,7 @@ use Rattle.std.proofs.Common.{None, refl, subst}
 use Rattle.hc_event.specs.Acts.{listed}
 use Rattle.hc_rows.specs.Dooms.{IsDoomed}
 use Rattle.hc_answer.proofs.DoomingArms.{past_place, accepted_then, good_then, dooming_taken}
-use Rattle.hc_body.proofs.HeardRows.{asker_of, asked_by}
+use Rattle.hc_leave.proofs.HeardRows.{asker_of, asked_by}
 use Rattle.hc_answer.proofs.dooming.doom_taken.Goals as goal
 
 pub have_answer-requires-clause-accepted : goal.have_answer-requires-clause-accepted

@@ -6,7 +6,7 @@ use Rattle.hc_exch.specs.Openings.{opened_with}
 use Rattle.hc_rows.specs.Heads.{is_bad_case}
 use Rattle.hc_rows.specs.Stands.{AnswersDooming}
 use Rattle.hc_answer.proofs.DoomingArms.{unheard_as}
-use Rattle.hc_body.proofs.HeadTold.{taken_case}
+use Rattle.hc_answer.proofs.HeadTold.{taken_case}
 use Rattle.hc_rows.proofs.Words.{ok_then}
 use Rattle.hc_answer.proofs.dooming.take_dooming.Goals as goal
 

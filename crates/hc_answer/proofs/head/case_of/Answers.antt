@@ -1,6 +1,6 @@
 use Rattle.std.proofs.Common.{nat_eq}
 use Rattle.std.specs.HashMap.{get}
-use Rattle.hc_body.proofs.HeadViews.{merely_ordered, range_ordered}
+use Rattle.hc_answer.proofs.HeadViews.{merely_ordered, range_ordered}
 use Rattle.hc_rows.proofs.Maps.{lent}
 use Rattle.hc_answer.proofs.head.case_of.Goals as goal
 

@@ -1,6 +1,6 @@
 use Rattle.std.proofs.Common.{sym, ◌∙◌}
 use Rattle.hc_entries.specs.Entries.{shelf_of}
-use Rattle.hc_body.proofs.HeadViews.{joins_told, joins_not, joins_of_kept, joins_at}
+use Rattle.hc_answer.proofs.HeadViews.{joins_told, joins_not, joins_of_kept, joins_at}
 use Rattle.hc_answer.proofs.head.joins_hole.Goals as goal
 
 pub returns-in-Joins : goal.returns-in-Joins

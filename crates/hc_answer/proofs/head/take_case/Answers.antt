@@ -3,7 +3,7 @@ use Rattle.hc_event.specs.Acts.{listed}
 use Rattle.hc_rules.specs.declared.heads.HeadCase.{HeadCase}
 use Rattle.hc_model.specs.Dooms.{doomed_by_case}
 use Rattle.hc_rows.specs.Heads.{is_bad_case, breaks_off, broken_by}
-use Rattle.hc_body.proofs.HeadTold.{down_case, past_case, good_past, anew_case, downs_none}
+use Rattle.hc_answer.proofs.HeadTold.{down_case, past_case, good_past, anew_case, downs_none}
 use Rattle.hc_answer.proofs.JoinHeads.{aim_some, kept_this, about_this, join_case, good_join}
 use Rattle.hc_rows.proofs.Words.{ok_then}
 use Rattle.hc_answer.proofs.head.take_case.Goals as goal

@@ -1,6 +1,6 @@
 use Rattle.std.proofs.Common.{ap, arith}
 use Rattle.hc_rows.specs.Heads.{starts_anew}
-use Rattle.hc_body.proofs.HeadTold.{live_now, good_as, founds_as, waits_as_told, told_as, past_of_runs, past_store, dooms_past, told_dooming, told_unselected, few_kept}
+use Rattle.hc_answer.proofs.HeadTold.{live_now, good_as, founds_as, waits_as_told, told_as, past_of_runs, past_store, dooms_past, told_dooming, told_unselected, few_kept}
 use Rattle.hc_answer.proofs.JoinHeads.{joins_as, unvalidated_as}
 use Rattle.hc_rows.proofs.Words.{ok_then}
 use Rattle.hc_answer.proofs.head.take_head.Goals as goal

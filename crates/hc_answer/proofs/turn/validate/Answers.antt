@@ -12,8 +12,8 @@ use Rattle.hc_model.specs.Cases.{head_view}
 use Rattle.hc_model.specs.Effects.{with_consumer, with_representation, refreshed}
 use Rattle.hc_rows.specs.Stands.{Answered, RowsStand}
 use Rattle.hc_rows.specs.Stored.{is_usable_kept}
-use Rattle.hc_body.proofs.HeadCases.{case_unselected}
-use Rattle.hc_body.proofs.HeardRows.{asker_of, asked_by}
+use Rattle.hc_leave.proofs.HeadCases.{case_unselected}
+use Rattle.hc_leave.proofs.HeardRows.{asker_of, asked_by}
 use Rattle.hc_leave.proofs.SeatLoops.{none_is}
 use Rattle.hc_answer.proofs.TurnArm.{accepted_on, answered_on, asked_on, usable_still, waits_on, at_turn, current_still, facts_on, key_heard, not_still, past_unrenewed, selected_of, stands_selected, stands_unrenewed, still, tells_selected, there_still, unselected_case, unstill_as, validated_answered}
 use Rattle.hc_answer.proofs.turn.validate.Goals as goal

@@ -11,9 +11,9 @@ use Rattle.hc_exch.specs.declared.exchanges.Exchanges.{Exchanges}
 use Rattle.hc_exch.specs.Exchanges.{table_of}
 use Rattle.hc_exch.specs.Known.{EndsBelow}
 use Rattle.hc_body.proofs.GrowArm.{own_answered, shared_answered}
-use Rattle.hc_body.proofs.LoseTurn.{writes_it, unwritten}
-use Rattle.hc_body.proofs.PieceArm.{ends_below}
-use Rattle.hc_body.proofs.StoreArm.{stores_of}
+use Rattle.hc_leave.proofs.LoseTurn.{writes_it, unwritten}
+use Rattle.hc_leave.proofs.PieceArm.{ends_below}
+use Rattle.hc_leave.proofs.StoreArm.{stores_of}
 use Rattle.hc_rows.proofs.Words.{on_ok_by, few_received}
 use Rattle.hc_body.proofs.piece.grow.Goals as goal
 

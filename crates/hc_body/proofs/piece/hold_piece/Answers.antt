@@ -1,7 +1,7 @@
 use Rattle.std.proofs.Common.{refl}
 use Rattle.hc_exch.specs.Exchanges.{table_of}
 use Rattle.hc_body.proofs.LostPiece.{held_answered}
-use Rattle.hc_body.proofs.PieceArm.{ends_below}
+use Rattle.hc_leave.proofs.PieceArm.{ends_below}
 use Rattle.hc_body.proofs.piece.hold_piece.Goals as goal
 
 pub piece-requires-clause-below : goal.piece-requires-clause-below

@@ -4,7 +4,7 @@ use Rattle.hc_entries.specs.declared.view.EntryView.{EntryView}
 use Rattle.hc_entries.specs.Entries.{shelf_of}
 use Rattle.hc_entries.specs.Views.{view_of}
 use Rattle.hc_model.specs.Kinds.{is_complete, is_front}
-use Rattle.hc_body.proofs.PieceKinds.{complete_with, incomplete_with, front_with, is_whole, is_truncated, is_parts, entry_small, none_told}
+use Rattle.hc_leave.proofs.PieceKinds.{complete_with, incomplete_with, front_with, is_whole, is_truncated, is_parts, entry_small, none_told}
 use Rattle.hc_rows.proofs.Words.{some_is}
 use Rattle.hc_body.proofs.piece.kind_with.Goals as goal
 use Rattle.hc_body.proofs.piece.kind_with.Goals.{in-Some+else-covers_with, in_default}

@@ -1,7 +1,7 @@
 use Rattle.std.proofs.Common.{refl, ◌∙◌, ap}
 use Rattle.hc_exch.specs.Exchanges.{table_of}
 use Rattle.hc_body.proofs.LosePiece.{own_stands}
-use Rattle.hc_body.proofs.StoreArm.{accepted_open}
+use Rattle.hc_leave.proofs.StoreArm.{accepted_open}
 use Rattle.hc_body.proofs.piece.lose_own_piece.Goals as goal
 
 pub returns-clause-lost : goal.returns-clause-lost

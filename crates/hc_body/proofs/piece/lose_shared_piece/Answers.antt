@@ -4,7 +4,7 @@ use Rattle.hc_event.specs.Acts.{listed}
 use Rattle.hc_exch.specs.Exchanges.{table_of, Becomes}
 use Rattle.hc_exch.specs.Known.{with_piece}
 use Rattle.hc_body.proofs.LosePiece.{stays_so, closes_it}
-use Rattle.hc_body.proofs.StoreArm.{accepted_open}
+use Rattle.hc_leave.proofs.StoreArm.{accepted_open}
 use Rattle.hc_body.proofs.piece.lose_shared_piece.Goals as goal
 
 pub returns-then-is_some-clause-lost : goal.returns-then-is_some-clause-lost

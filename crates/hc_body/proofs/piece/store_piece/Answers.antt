@@ -14,9 +14,9 @@ use Rattle.hc_entries.specs.Shelf.{size_at}
 use Rattle.hc_rows.specs.Room.{loss_by}
 use Rattle.std.specs.Prelude.{Result, Ok, Err, is_some}
 use Rattle.hc_body.proofs.FewActs.{has_few, leaves_two}
-use Rattle.hc_body.proofs.PieceArm.{ends_below}
-use Rattle.hc_body.proofs.RefusedPiece.{refused_by}
-use Rattle.hc_body.proofs.StoreArm.{kept_of, kept_mid, absent_mid, answered_mid, refused_mid, front_mid}
+use Rattle.hc_leave.proofs.PieceArm.{ends_below}
+use Rattle.hc_leave.proofs.RefusedPiece.{refused_by}
+use Rattle.hc_leave.proofs.StoreArm.{kept_of, kept_mid, absent_mid, answered_mid, refused_mid, front_mid}
 use Rattle.hc_rows.proofs.Words.{same_row}
 use Rattle.hc_body.proofs.piece.store_piece.Goals as goal
 

@@ -50,7 +50,8 @@ use Rattle.hc_rows.specs.Heads.{AwaitsHead, IsAskedBy, IsReadAlone, StandsApart,
 use Rattle.hc_rows.specs.Kept.{IsRunning}
 use Rattle.hc_rows.specs.Renewals.{IsUnrenewed}
 use Rattle.hc_rows.specs.Room.{HasActs, LeavesActs, GivesWay, loss_by, room_for_write}
-use Rattle.hc_rows.specs.Stands.{Answered, RowsStand, Stands, is_fault}
+use Rattle.hc_rows.specs.Stands.{Answered, RowsStand, Stands}
+use Rattle.hc_model.specs.Flaws.{is_fault}
 use Rattle.hc_rows.specs.Stored.{KeepsEntry}
 use Rattle.hc_leave.proofs.AnswerArm.{reader_kept}
 use Rattle.hc_leave.proofs.FoundArm.{aside, first, second, es, m, may_aside, may_first, make_second, one_way, m_unfounded, m_asker, read_alone, founds_answered, lost_answered, full_told}

@@ -15,6 +15,7 @@ use crate::asker::send_back;
 use crate::heard::Heard;
 use crate::unstored::refuse;
 use hc_event::{Acts, LostKind, Response};
+use hc_leave::lose::lose_writing;
 use hc_leave::seal::lose_to;
 use hc_leave::writers::exclusive;
 use hc_leave::writing::writing;

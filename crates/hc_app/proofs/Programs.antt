@@ -15,7 +15,8 @@ use Rattle.hc_model.specs.Runs.{IsRun}
 use Rattle.hc_core.specs.declared.cache.Cache.{Cache}
 use Rattle.hc_core.specs.Steps.{limits_in, faults_in}
 use Rattle.hc_replay.specs.Replays as replays
-use Rattle.hc_replay.specs.Replays.{IsWholeRun, failures, run_of}
+use Rattle.hc_replay.specs.Replays.{IsWholeRun}
+use Rattle.hc_replay.specs.Histories.{failures, run_of}
 use Rattle.hc_replay.specs.Generates as generates
 use Rattle.hc_replay.specs.declared.generating.TheConstants.{PROGRAM_LIMITS}
 use Rattle.hc_app.specs.declared.status.Status.TheVariants as status

@@ -11,8 +11,8 @@ use Rattle.hc_loop.specs.Stepping.{History, events_in, report_after}
 use Rattle.hc_model.specs.Entries.{no_contents}
 use Rattle.hc_model.specs.Reads.{ReadsWhole}
 use Rattle.hc_model.specs.Runs.{IsRun}
-use Rattle.hc_replay.specs.Replays.{run_of, failures}
-use Rattle.hc_replay.specs.Generates.{IsSummary}
+use Rattle.hc_replay.specs.Histories.{run_of, failures}
+use Rattle.hc_replay.specs.Summaries.{IsSummary}
 use Rattle.hc_replay.specs.declared.generating.TheConstants.{PROGRAM_LIMITS}
 use Rattle.hc_app.specs.declared.command.Command.TheVariants as command
 use Rattle.hc_app.specs.declared.status.Status.{Status}

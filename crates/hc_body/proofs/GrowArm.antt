@@ -45,7 +45,8 @@ use Rattle.hc_rows.specs.Heirs.{MayLoseShared, shared_loss}
 use Rattle.hc_rows.specs.Kept.{held_alone, unstored}
 use Rattle.hc_rows.specs.Leaving.{writing_of}
 use Rattle.hc_rows.specs.Refused.{Brings, GoesOn, MayHold, MayLoseOwn, MayLosePiece, LosesPiece, Refuses, brought_lost, closes_with, own_loss}
-use Rattle.hc_rows.specs.Stands.{Answered, RowsStand, is_fault}
+use Rattle.hc_rows.specs.Stands.{Answered, RowsStand}
+use Rattle.hc_model.specs.Flaws.{is_fault}
 use Rattle.hc_rows.specs.Stopped.{HoldsNothing}
 use Rattle.hc_rows.proofs.Asides.{unstored_moved}
 use Rattle.hc_leave.proofs.FoundArm.{make_gone}

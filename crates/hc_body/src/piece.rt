@@ -27,7 +27,7 @@ use hc_event::{Acts, LostKind};
 use hc_exch::{ExchangeView, Role};
 use hc_leave::close::close;
 use hc_leave::evict::make_room;
-use hc_leave::lose::lose_shared;
+use hc_leave::lose::{lose_shared, lost_kind};
 use hc_leave::seal::lose_to;
 use hc_leave::writers::exclusive;
 use hc_leave::writing::writing;

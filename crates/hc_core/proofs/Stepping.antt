@@ -36,7 +36,8 @@ use Rattle.hc_laws.proofs.InRuns.{delivers_in_runs, turns_in_runs, dooms_in_runs
 use Rattle.hc_laws.proofs.TruthRuns.{truth_in_runs}
 use Rattle.hc_event.specs.Modest.{IsModestEvent}
 use Rattle.hc_rows.specs.declared.rows.Rows.{Rows}
-use Rattle.hc_rows.specs.Stands.{RowsStand, Answers, gate_of, is_fault}
+use Rattle.hc_rows.specs.Stands.{RowsStand, Answers, gate_of}
+use Rattle.hc_model.specs.Flaws.{is_fault}
 use Rattle.hc_rows.specs.Facts.{Facts}
 use Rattle.hc_rows.specs.Good.{StandsUntil, counted}
 use Rattle.hc_leave.proofs.Gates.{denies_as}
@@ -46,7 +47,8 @@ use Rattle.hc_rows.proofs.Words.{none_some}
 use Rattle.hc_core.proofs.Undenied.{undenied}
 use Rattle.hc_core.proofs.Denying.{stands_denied, stands_begun}
 use Rattle.hc_core.specs.declared.cache.Cache.{Cache}
-use Rattle.hc_core.specs.Steps.{StandsFor, Steps, KeepsPromises, failures_in}
+use Rattle.hc_core.specs.Steps.{StandsFor, Steps, KeepsPromises}
+use Rattle.hc_model.specs.Flaws.{failures_in}
 
 -- THE BEGINNING
 

@@ -10,13 +10,13 @@ use Rattle.hc_model.specs.Contents.{contents_of}
 use Rattle.hc_model.specs.Denials.{live}
 use Rattle.hc_model.specs.Entries.{History, Contents}
 use Rattle.hc_rules.specs.declared.room.Limits.{Limits}
-use Rattle.hc_model.specs.Flaws.{flaw_in}
+use Rattle.hc_model.specs.Flaws.{failures_in}
 use Rattle.hc_model.specs.Chains.{ChainsEnd}
 use Rattle.hc_model.specs.Laws.{DeliversOnce, HasOneTurn, IsBehindDooms, IsTruthful}
 use Rattle.hc_model.specs.Numbers.{AreShort}
 use Rattle.hc_model.specs.Runs.{IsRun}
 use Rattle.hc_model.specs.Tables.{tables}
-use Rattle.hc_rows.specs.Stands.{RowsStand, is_fault, most_before}
+use Rattle.hc_rows.specs.Stands.{RowsStand, most_before}
 use Rattle.hc_core.specs.declared.cache.Cache.{Cache}
 
 -- WHAT A CACHE HAS
@@ -64,10 +64,6 @@ ServesAll s contents =
     IsRun s.rows.limits before h → live (tables before h) ≡ 0 →
     contents_of (tables before h) ≡ contents → (tables before h).received ≤ most_before →
     StandsFor s before h
-
--- one, where these acts tell that the store failed
-abbrev pub failures_in : List Act → ℕ
-failures_in acts = if is_fault (flaw_in acts) then 1 else 0
 
 -- The acts are those of one entry more, and the cache stands for that. They tell no failure of the
 -- store but one that it counted.

@@ -74,7 +74,8 @@ use Rattle.hc_rows.specs.Founding.{BeginsFounding, IsFounding, is_shared_by, par
 use Rattle.hc_rows.specs.Heads.{AwaitsHead, IsReadAlone, goes_with}
 use Rattle.hc_rows.specs.Kept.{IsRunning}
 use Rattle.hc_rows.specs.Room.{GivesWay}
-use Rattle.hc_rows.specs.Stands.{Answered, RowsStand, is_fault}
+use Rattle.hc_rows.specs.Stands.{Answered, RowsStand}
+use Rattle.hc_model.specs.Flaws.{is_fault}
 use Rattle.hc_rows.proofs.Counting.{stands_counted}
 use Rattle.hc_leave.proofs.FoundRows.{IsUnfounded, founded_stands}
 use Rattle.hc_leave.proofs.HeardRows.{runs_as}

@@ -22,6 +22,7 @@ ghost use Rattle.hc_rows.specs.Stored.{TellsShort};
 use crate::acts::put;
 use crate::gone::remove_consumer;
 use crate::seal::stop_bringing;
+use crate::writing::{if_running, writing};
 use hc_event::{Act, Acts, Cause, Place};
 use hc_rows::Rows;
 use hc_store::Backend;

@@ -13,6 +13,7 @@ use crate::carry::carry_out;
 use crate::past::{await_answer, read_past};
 use crate::read::read_bound;
 use crate::shown::await_stored;
+use crate::wait::wait;
 use hc_event::{Acts, Place, Wait};
 use hc_leave::leave::fail_down;
 use hc_rows::Rows;

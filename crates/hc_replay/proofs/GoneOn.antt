@@ -16,8 +16,9 @@ use Rattle.hc_model.specs.Tables.{tables, received_in}
 use Rattle.hc_core.specs.Steps as core
 use Rattle.hc_core.specs.Steps.{StandsFor, Answers, last_moment, received, limits_in}
 use Rattle.hc_replay.specs.declared.rounds.Rounds.{Rounds}
-use Rattle.hc_replay.specs.Generates as generates
-use Rattle.hc_replay.specs.Generates.{MayGoOn, Stands, HasGone, AreWanted, entry_at}
+use Rattle.hc_replay.specs.Summaries as summaries
+use Rattle.hc_replay.specs.Generates.{MayGoOn, Stands}
+use Rattle.hc_replay.specs.Summaries.{HasGone, AreWanted, entry_at}
 use Rattle.hc_replay.proofs.Reported.{new_moment}
 
 pub stands_new : (limits : Limits) (seed : ℕ) (r : Rounds) → StandsFor r.cache no_contents [] → core.steps r.cache + received r.cache ≡ 0 → limits_in r.cache ≡ limits → r.generator ≡ Rattle.hc_generate.specs.States.beginning seed → Stands limits seed 0 r
@@ -27,7 +28,7 @@ stands_new limits seed r new counts limited begins =
     let last : r.generator.last ≡ 0 = ap (λ (s : State). s.last) begins in
     record {
       history = [];
-      gone = subst (λ (s : State). HasGone limits seed 0 s []) (sym begins) generates.nowhere;
+      gone = subst (λ (s : State). HasGone limits seed 0 s []) (sym begins) summaries.nowhere;
       stands = new;
       limited = limited;
       moment = omega arith;
@@ -59,7 +60,7 @@ stands_quietly limits seed n r u wanted before same rising told round later grow
     let received_same : received u.cache ≡ received r.cache = ap (λ s. received s) same in
     record {
       history = before.history;
-      gone = generates.quietly n wanted r.generator u.generator before.history before.gone (are_wanted r wanted before.history rising told before.stands) round;
+      gone = summaries.quietly n wanted r.generator u.generator before.history before.gone (are_wanted r wanted before.history rising told before.stands) round;
       stands = subst (λ s. StandsFor s no_contents before.history) (sym same) before.stands;
       limited = ap (λ s. limits_in s) same ∙ before.limited;
       moment = omega arith;
@@ -97,7 +98,7 @@ stands_on limits seed n r u wanted made acts s now before rising told round shor
     record {
       history = entry_at s made acts ∷ before.history;
       gone = subst (λ (z : State). HasGone limits seed (n + 1) z (entry_at s made acts ∷ before.history)) (sym hears)
-          (generates.on n wanted made acts r.generator s before.history before.gone (are_wanted r wanted before.history rising told before.stands) round owed (omega arith));
+          (summaries.on n wanted made acts r.generator s before.history before.gone (are_wanted r wanted before.history rising told before.stands) round owed (omega arith));
       stands = after;
       limited = answers.limits ∙ before.limited;
       moment = omega arith;

@@ -21,9 +21,11 @@ use Rattle.hc_model.specs.Tables.{tables}
 use Rattle.hc_model.proofs.Basics.{some_none}
 use Rattle.hc_laws.proofs.ReadWhole.{runs_read_whole}
 use Rattle.hc_core.specs.declared.cache.Cache.{Cache}
-use Rattle.hc_core.specs.Steps.{StandsFor, Answers, limits_in, faults_in, failures_in, last_moment}
+use Rattle.hc_core.specs.Steps.{StandsFor, Answers, limits_in, faults_in, last_moment}
+use Rattle.hc_model.specs.Flaws.{failures_in}
 use Rattle.hc_replay.specs.Replays as replays
-use Rattle.hc_replay.specs.Replays.{run_of, failures, IsWholeRun, ReportsAll, ReportsSome, Replays, Completes}
+use Rattle.hc_replay.specs.Replays.{IsWholeRun, ReportsAll, ReportsSome, Replays, Completes}
+use Rattle.hc_replay.specs.Histories.{run_of, failures}
 
 module _ {B : Type 0} {g : Ghosts B} where
   -- the first event may come at any moment

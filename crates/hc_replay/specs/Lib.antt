@@ -1,2 +1,4 @@
+pub mod Histories
 pub mod Replays
+pub mod Summaries
 pub mod Generates

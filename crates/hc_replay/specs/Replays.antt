@@ -1,5 +1,5 @@
 -- What came of a schedule that was replayed: its events are a run, and the report of that was taken.
-use Rattle.std.specs.Prelude.{◌≡◌, ℕ, ◌+◌, ◌≤◌, List, [], ◌∷◌, ◌++◌, map, Option, Some}
+use Rattle.std.specs.Prelude.{◌≡◌, ℕ, ◌+◌, ◌≤◌, List, ◌++◌, Option, Some}
 use Rattle.hc_store.specs.declared.backend.Backend.{Ghosts}
 use Rattle.hc_io.specs.Sink.{Takes, TakesFront}
 use Rattle.hc_io.specs.Source.{Gives, GivesAll}
@@ -12,25 +12,14 @@ use Rattle.hc_sched.specs.Laws.{refusal_of}
 use Rattle.hc_loop.specs.Endings.{IsRefused, brought}
 use Rattle.hc_loop.specs.Stepping as steps
 use Rattle.hc_loop.specs.Stepping.{events_in, report_after}
-use Rattle.hc_model.specs.Entries.{Entry, History, no_contents}
+use Rattle.hc_model.specs.Entries.{no_contents}
 use Rattle.hc_model.specs.Reads.{ReadsWhole}
 use Rattle.hc_model.specs.Runs.{IsRun}
 use Rattle.hc_core.specs.declared.cache.Cache.{Cache}
-use Rattle.hc_core.specs.Steps.{StandsFor, limits_in, faults_in, failures_in}
+use Rattle.hc_core.specs.Steps.{StandsFor, limits_in, faults_in}
+use Rattle.hc_replay.specs.Histories.{run_of, failures}
 
 -- THE RUN
-
-abbrev pub entry_of : steps.Entry → Entry
-entry_of e = record { now = e.timed.now; event = e.timed.event; acts = e.acts }
-
--- what was stepped, as a history of the table
-abbrev pub run_of : steps.History → History
-run_of h = map entry_of h
-
--- how often acts tell that the store failed
-abbrev pub failures : steps.History → ℕ
-failures [] = 0
-failures (e ∷ h) = failures_in e.acts + failures h
 
 -- It is a run over these limits, from an empty store, in which each consumer reads one answer whole.
 pub record IsWholeRun {B : Type 0} {g : Ghosts B} (s : Cache B g) (h : steps.History) : Type 0 where

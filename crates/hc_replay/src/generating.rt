@@ -2,7 +2,8 @@
 ghost use Rattle.std.specs.Prelude.{◌≡◌, ◌≢◌, ◌≤◌, IfOk};
 ghost use Rattle.hc_io.specs.Faults.{HasRisen};
 ghost use Rattle.hc_sched.specs.declared.schedule.Ended.TheVariants as ended;
-ghost use Rattle.hc_replay.specs.Generates.{Generates, IsSummary};
+ghost use Rattle.hc_replay.specs.Generates.{Generates};
+ghost use Rattle.hc_replay.specs.Summaries.{IsSummary};
 
 use crate::rounds::Rounds;
 use hc_io::{Sink, SinkError, write_all};

@@ -7,7 +7,6 @@ use Rattle.hc_event.specs.declared.event.Event.{Event}
 use Rattle.hc_event.specs.declared.event.Event.TheVariants as event
 use Rattle.hc_event.specs.declared.event.Response.{Response}
 use Rattle.hc_event.specs.declared.act.Act.{Act}
-use Rattle.hc_event.specs.declared.act.LostKind.TheVariants as kind
 use Rattle.hc_rules.specs.declared.heads.HeadCase.{HeadCase}
 use Rattle.hc_rules.specs.declared.heads.HeadCase.TheVariants as heads
 use Rattle.hc_rules.specs.declared.refusal.Gate.{Gate}
@@ -29,7 +28,7 @@ use Rattle.hc_model.specs.Rows.{Tables, Exchange, Consumer}
 use Rattle.hc_model.specs.Beginnings.{may_begin}
 use Rattle.hc_model.specs.Tables.{tables, after_accepted}
 use Rattle.hc_model.specs.Exchanges.{exchange_in}
-use Rattle.hc_model.specs.Flaws.{Flaw, NoFlaw, Loses, Misreads, flaw_in}
+use Rattle.hc_model.specs.Flaws.{Flaw, flaw_in, is_fault}
 use Rattle.hc_model.specs.Denials.{live, denial}
 use Rattle.hc_model.specs.Answers.{accepted}
 use Rattle.hc_model.specs.Runs.{IsRun, may_be}
@@ -113,13 +112,6 @@ pub record KeepsRest {B : Type 0} {g : Ghosts B} (r u : Rows B g) : Type 0 where
   pub received : u.received ≡ r.received
   pub keys : u.keys ≡ r.keys
   pub entries : u.entries ≡ r.entries
-
--- the store failed
-abbrev pub is_fault : Flaw → Bool
-is_fault NoFlaw = false
-is_fault (Loses r kind.Fault) = true
-is_fault (Loses r _) = false
-is_fault (Misreads r) = true
 
 -- An accepted event is answered, with a flaw that may stand there and has its cause, and the rows stand for the tables
 -- after it.

@@ -6,8 +6,7 @@ ghost use Rattle.hc_sched.specs.Taking.{Takes};
 
 use crate::place::Place;
 use crate::schedule::{FeedError, SchedRefusal, Timed};
-use crate::words::position_of;
-use hc_text::NoMemory;
+use hc_text::{NoMemory, position_of};
 use std::alloc::Global;
 
 /// A line has at most this many bytes, without its line feed.

@@ -16,5 +16,5 @@ pub use law::{a_text_has_one_cut, calls_give_the_elements};
 pub use list::{Item, next_item};
 pub use memory::NoMemory;
 pub use number::{read_number, read_plain, write_number};
-pub use split::{cut, lacks};
+pub use split::{cut, lacks, position_of};
 pub use token::is_token;

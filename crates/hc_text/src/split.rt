@@ -6,7 +6,7 @@ ghost use Rattle.hc_text.specs.Cuts.{cut};
 use memchr::memchr;
 
 /// Where the first `byte` stands.
-fn position_of(text: &[u8], byte: u8) -> Option<usize>
+pub fn position_of(text: &[u8], byte: u8) -> Option<usize>
     ensures { result ≡ position (λ x. x == byte) text.now }
 {
     memchr(byte, text)

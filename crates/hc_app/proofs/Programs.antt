@@ -8,8 +8,8 @@ use Rattle.hc_sched.specs.declared.schedule.Ended.{Ended}
 use Rattle.hc_sched.specs.declared.schedule.Ended.TheVariants as ended
 use Rattle.hc_sched.specs.declared.schedule.Refused.{Refused}
 use Rattle.hc_sched.specs.declared.schedule.Timed.{Timed}
-use Rattle.hc_loop.specs.Stepping.{History}
-use Rattle.hc_loop.specs.Endings.{brought}
+use Rattle.hc_driver.specs.Stepping.{History}
+use Rattle.hc_driver.specs.Endings.{brought}
 use Rattle.hc_model.specs.Entries.{no_contents}
 use Rattle.hc_model.specs.Runs.{IsRun}
 use Rattle.hc_core.specs.declared.cache.Cache.{Cache}

@@ -6,8 +6,8 @@ use Rattle.hc_sched.specs.declared.schedule.Refused.{Refused}
 use Rattle.hc_sched.specs.declared.schedule.Timed.{Timed}
 use Rattle.hc_sched.specs.Laws.{refusal_of}
 use Rattle.hc_sched.specs.Schedule.{Item, Spells, events_of}
-use Rattle.hc_loop.specs.Endings.{IsRefused, brought}
-use Rattle.hc_loop.specs.Stepping.{History, events_in, report_after}
+use Rattle.hc_driver.specs.Endings.{IsRefused, brought}
+use Rattle.hc_driver.specs.Stepping.{History, events_in, report_after}
 use Rattle.hc_model.specs.Entries.{no_contents}
 use Rattle.hc_model.specs.Reads.{ReadsWhole}
 use Rattle.hc_model.specs.Runs.{IsRun}

@@ -14,10 +14,10 @@ use Rattle.hc_contents.specs.declared.contents.Contents as coded_all
 use Rattle.hc_contents.specs.Fit.{unfit_of}
 use Rattle.hc_contents.specs.Told.{told, told_item}
 use Rattle.hc_contents.proofs.Counting.{begins_by}
-use Rattle.hc_rows.specs.declared.rows.Rows.{Rows}
-use Rattle.hc_rows.specs.Good.{StandsUntil}
-use Rattle.hc_rows.specs.Stands.{RowsStand}
-use Rattle.hc_rows.proofs.Words.{none_some, some_is}
+use Rattle.hc_state.specs.declared.rows.Rows.{Rows}
+use Rattle.hc_state.specs.Good.{StandsUntil}
+use Rattle.hc_state.specs.Stands.{RowsStand}
+use Rattle.hc_state.proofs.Words.{none_some, some_is}
 use Rattle.hc_core.specs.declared.cache.Cache.{Cache}
 use Rattle.hc_core.specs.Steps.{StandsFor}
 use Rattle.hc_core.proofs.BegunItems.{next_fits}

@@ -18,25 +18,25 @@ use Rattle.hc_sparse.proofs.CellLemmas.{inside-past}
 use Rattle.hc_sparse.proofs.SizeLemmas.{size-put}
 use Rattle.hc_rules.specs.declared.room.Limits.{Limits}
 use Rattle.hc_rules.specs.Rooms.{weight_of}
-use Rattle.hc_entries.specs.Begun.{with_runs}
-use Rattle.hc_entries.specs.Kept.{Kept, filled}
-use Rattle.hc_entries.specs.Shelf.{Shelf, Becomes, is_kept, cells_in, cells_at, size_at, unmoved}
+use Rattle.hc_stored.specs.Begun.{with_runs}
+use Rattle.hc_stored.specs.Kept.{Kept, filled}
+use Rattle.hc_stored.specs.Shelf.{Shelf, Becomes, is_kept, cells_in, cells_at, size_at, unmoved}
 use Rattle.hc_model.specs.Beginnings.{ascend_from, is_kind_right, is_good, are_good, says, has_own_numbers, weights_of, may_begin, has_right_head}
 use Rattle.hc_model.specs.Entries.{Content, Contents}
 use Rattle.hc_model.specs.Rows.{Representation}
 use Rattle.hc_model.specs.Tables.{begun, loaded, last_end, bytes_in}
 use Rattle.hc_model.proofs.Basics.{and_left, and_right, or_false, append_none}
-use Rattle.hc_entries.specs.Entries.{shelf_of}
-use Rattle.hc_rows.specs.declared.rows.Rows.{Rows}
-use Rattle.hc_rows.specs.Stands.{RowsStand}
-use Rattle.hc_rows.specs.Stored.{KeepsEntry}
+use Rattle.hc_stored.specs.Entries.{shelf_of}
+use Rattle.hc_state.specs.declared.rows.Rows.{Rows}
+use Rattle.hc_state.specs.Stands.{RowsStand}
+use Rattle.hc_state.specs.Stored.{KeepsEntry}
 use Rattle.hc_core.specs.Begins.{with_items, KeepsItem}
 use Rattle.hc_contents.specs.declared.contents.Content as coded
 use Rattle.hc_contents.specs.declared.contents.Contents as coded_all
 use Rattle.hc_contents.specs.Told.{told, told_item}
 use Rattle.hc_contents.proofs.Counting.{longer}
 use Rattle.hc_core.proofs.BegunRuns.{runs_more}
-use Rattle.hc_rows.proofs.Words.{eqb-same, false_true, none_some}
+use Rattle.hc_state.proofs.Words.{eqb-same, false_true, none_some}
 use Rattle.hc_core.proofs.BegunRows.{stands_more}
 
 -- RUN BY RUN

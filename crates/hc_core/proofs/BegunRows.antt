@@ -10,11 +10,11 @@ use Rattle.std.proofs.lemmas.List.Folds.{find-append}
 use Rattle.hc_store.specs.declared.backend.Backend.{Ghosts}
 use Rattle.hc_sparse.specs.Runs.{cells_of}
 use Rattle.hc_record.specs.declared.kind.Kind.TheVariants as kind
-use Rattle.hc_entries.specs.Begun as entries
-use Rattle.hc_entries.specs.Begun.{with_runs}
-use Rattle.hc_entries.specs.Entries.{shelf_of}
-use Rattle.hc_entries.specs.Kept.{Kept}
-use Rattle.hc_entries.specs.Shelf.{Shelf}
+use Rattle.hc_stored.specs.Begun as entries
+use Rattle.hc_stored.specs.Begun.{with_runs}
+use Rattle.hc_stored.specs.Entries.{shelf_of}
+use Rattle.hc_stored.specs.Kept.{Kept}
+use Rattle.hc_stored.specs.Shelf.{Shelf}
 use Rattle.hc_entry.specs.Kept.{with_current, nothing}
 use Rattle.hc_entry.specs.Kept as lines
 use Rattle.hc_entry.specs.Keys.{kept_of}
@@ -28,15 +28,15 @@ use Rattle.hc_model.specs.Kinds.{kind_of}
 use Rattle.hc_model.specs.Reading.{bound}
 use Rattle.hc_model.specs.Rows.{Tables, Representation}
 use Rattle.hc_model.specs.Tables.{begun, loaded, numbers, last_end}
-use Rattle.hc_rows.specs.declared.rows.Rows.{Rows}
-use Rattle.hc_rows.specs.declared.consumer.Consumer.{Consumer}
-use Rattle.hc_rows.specs.Kept.{KeepsConsumer, KeepsExchange, KeepsRunning}
-use Rattle.hc_rows.specs.Lines.{KeepsKey}
-use Rattle.hc_rows.specs.Stands.{RowsStand}
-use Rattle.hc_rows.specs.Stored.{IsEntry, KeepsEntry, KeepsEntries, TellsLength, is_usable_row}
-use Rattle.hc_rows.specs.Stored as stored
+use Rattle.hc_state.specs.declared.rows.Rows.{Rows}
+use Rattle.hc_state.specs.declared.consumer.Consumer.{Consumer}
+use Rattle.hc_state.specs.Kept.{KeepsConsumer, KeepsExchange, KeepsRunning}
+use Rattle.hc_state.specs.Lines.{KeepsKey}
+use Rattle.hc_state.specs.Stands.{RowsStand}
+use Rattle.hc_state.specs.Stored.{IsEntry, KeepsEntry, KeepsEntries, TellsLength, is_usable_row}
+use Rattle.hc_state.specs.Stored as stored
 use Rattle.hc_core.proofs.BegunRuns.{runs_cells, runs_reach, runs_rest, kind_begun, whole_begun}
-use Rattle.hc_rows.proofs.Words.{eqb-same, false_true, none_some, as_received, none_received}
+use Rattle.hc_state.proofs.Words.{eqb-same, false_true, none_some, as_received, none_received}
 use Rattle.hc_core.specs.Begins.{with_items, kept_item, KeepsItem}
 
 -- BEFORE THE FIRST

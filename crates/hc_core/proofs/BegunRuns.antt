@@ -10,8 +10,8 @@ use Rattle.hc_sparse.proofs.CellLemmas.{inside-cases, inside-before}
 use Rattle.hc_record.specs.declared.kind.Kind.{Kind}
 use Rattle.hc_record.specs.declared.kind.Kind.TheVariants as kind
 use Rattle.hc_record.specs.Head.{Head}
-use Rattle.hc_entries.specs.Begun.{begun, with_runs}
-use Rattle.hc_entries.specs.Kept.{Kept, filled}
+use Rattle.hc_stored.specs.Begun.{begun, with_runs}
+use Rattle.hc_stored.specs.Kept.{Kept, filled}
 use Rattle.hc_model.specs.Beginnings.{ascend_from, kind_of_runs, same_kind, is_kind_right}
 use Rattle.hc_model.specs.Contents.{runs_from}
 use Rattle.hc_model.specs.Entries.{Content, Contents}
@@ -25,7 +25,7 @@ use Rattle.hc_model.proofs.Begins.{ends_all}
 use Rattle.hc_model.proofs.HoleLemmas.{bool_cases, covers_all}
 use Rattle.hc_model.proofs.KindsLeft.{kind_by, kind_right, count_is, last_is}
 use Rattle.hc_model.proofs.Positions.{bytes_below}
-use Rattle.hc_rows.proofs.Words.{false_true}
+use Rattle.hc_state.proofs.Words.{false_true}
 
 -- ONE AFTER ANOTHER
 

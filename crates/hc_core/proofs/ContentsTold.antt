@@ -7,11 +7,11 @@ use Rattle.hc_sparse.specs.Cells.{Cells, EndsBy}
 use Rattle.hc_record.specs.declared.kind.Kind.TheVariants as kind
 use Rattle.hc_record.specs.Head.{Head, sealed_head}
 use Rattle.hc_rules.specs.declared.room.Limits.{Limits}
-use Rattle.hc_entries.specs.Entries.{shelf_of}
-use Rattle.hc_entries.specs.Kept.{Kept}
-use Rattle.hc_entries.specs.Shelf as shelves
-use Rattle.hc_entries.specs.Shelf.{Shelf, Stays, idle, cells_at, cells_in}
-use Rattle.hc_entries.specs.Views.{key_in}
+use Rattle.hc_stored.specs.Entries.{shelf_of}
+use Rattle.hc_stored.specs.Kept.{Kept}
+use Rattle.hc_stored.specs.Shelf as shelves
+use Rattle.hc_stored.specs.Shelf.{Shelf, Stays, idle, cells_at, cells_in}
+use Rattle.hc_stored.specs.Views.{key_in}
 use Rattle.hc_model.specs.Contents.{content_of, content_at, contents_of, idle_now, is_idle, runs_from}
 use Rattle.hc_model.specs.Currents.{current, is_current}
 use Rattle.hc_model.specs.Entries.{Content, Contents, History}
@@ -27,17 +27,17 @@ use Rattle.hc_model.proofs.PollKeeps.{current_stays}
 use Rattle.hc_exch.specs.Exchanges.{next_of}
 use Rattle.hc_contents.specs.declared.contents.Contents as coded_all
 use Rattle.hc_contents.specs.Told.{told, told_item}
-use Rattle.hc_rows.specs.declared.rows.Rows.{Rows}
-use Rattle.hc_rows.specs.Facts.{Facts}
-use Rattle.hc_rows.specs.Good.{StandsUntil}
-use Rattle.hc_rows.specs.Remains.{TellsOne, TellsAll}
-use Rattle.hc_rows.specs.Stands.{RowsStand}
-use Rattle.hc_rows.specs.Stored.{IsEntry, KeepsEntry, TellsLength}
-use Rattle.hc_rows.specs.Stored as stored
-use Rattle.hc_rows.proofs.ReaderSteps.{stands_read}
-use Rattle.hc_rows.proofs.Rooms.{idle_is}
+use Rattle.hc_state.specs.declared.rows.Rows.{Rows}
+use Rattle.hc_state.specs.Facts.{Facts}
+use Rattle.hc_state.specs.Good.{StandsUntil}
+use Rattle.hc_state.specs.Remains.{TellsOne, TellsAll}
+use Rattle.hc_state.specs.Stands.{RowsStand}
+use Rattle.hc_state.specs.Stored.{IsEntry, KeepsEntry, TellsLength}
+use Rattle.hc_state.specs.Stored as stored
+use Rattle.hc_state.proofs.ReaderSteps.{stands_read}
+use Rattle.hc_state.proofs.Rooms.{idle_is}
 use Rattle.hc_core.proofs.Standing.{facts_of_runs}
-use Rattle.hc_rows.proofs.Words.{false_true, none_some, some_is}
+use Rattle.hc_state.proofs.Words.{false_true, none_some, some_is}
 use Rattle.hc_core.specs.declared.cache.Cache.{Cache}
 use Rattle.hc_core.specs.Steps.{StandsFor}
 

@@ -3,7 +3,7 @@ use Rattle.std.proofs.Common.{◌≡◌, ℕ, ◌+◌, List, [], Option, None, r
 use Rattle.std.specs.Prelude.{nat_eq}
 use Rattle.std.specs.HashMap.{get, hash_map_len}
 use Rattle.hc_store.specs.declared.backend.Backend.{Ghosts}
-use Rattle.hc_entries.specs.Entries.{shelf_of}
+use Rattle.hc_stored.specs.Entries.{shelf_of}
 use Rattle.hc_entry.specs.Keys.{kept_of}
 use Rattle.hc_entry.specs.Kept.{nothing}
 use Rattle.hc_exch.specs.Exchanges.{table_of, next_of}
@@ -12,11 +12,11 @@ use Rattle.hc_model.specs.Currents.{current}
 use Rattle.hc_model.specs.Entries.{Entry, no_contents}
 use Rattle.hc_model.specs.Rows.{Tables}
 use Rattle.hc_model.specs.Tables.{begun, after_denied, received_in}
-use Rattle.hc_rows.specs.declared.rows.Rows.{Rows}
-use Rattle.hc_rows.specs.Good.{counted}
-use Rattle.hc_rows.specs.Stands.{RowsStand}
-use Rattle.hc_rows.proofs.Counting.{stands_recounted}
-use Rattle.hc_rows.proofs.Words.{more_received, none_received}
+use Rattle.hc_state.specs.declared.rows.Rows.{Rows}
+use Rattle.hc_state.specs.Good.{counted}
+use Rattle.hc_state.specs.Stands.{RowsStand}
+use Rattle.hc_state.proofs.Counting.{stands_recounted}
+use Rattle.hc_state.proofs.Words.{more_received, none_received}
 
 pub stands_denied : {B : Type 0} {g : Ghosts B} (r : Rows B g) (t : Tables) (e : Entry) → RowsStand r t → RowsStand (counted e.event r) (after_denied t e)
 stands_denied r t e stands =

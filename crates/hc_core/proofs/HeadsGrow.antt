@@ -13,7 +13,7 @@ use Rattle.hc_model.proofs.HeadFrom as from
 use Rattle.hc_model.proofs.RepFrom.{RepFrom, rep_from}
 use Rattle.hc_model.proofs.RepFrom as rep
 use Rattle.hc_laws.proofs.RunFacts.{in_runs}
-use Rattle.hc_rows.proofs.Words.{none_some, some_is}
+use Rattle.hc_state.proofs.Words.{none_some, some_is}
 
 abbrev pub HeadsGrow : Tables → Type 0
 HeadsGrow t = (r : ℕ) (v : Representation) → t.representation r ≡ Some v → v.head.kind ≡ kind.Growing

@@ -3,10 +3,10 @@ use Rattle.std.proofs.Common.{◌≡◌, ℕ, List, Option, Some, None, refl, ap
 use Rattle.std.specs.Prelude.{option_map}
 use Rattle.std.specs.Option.{option_and_then}
 use Rattle.hc_store.specs.declared.backend.Backend.{Ghosts}
-use Rattle.hc_entries.specs.declared.view.EntryView.{EntryView}
-use Rattle.hc_entries.specs.Entries.{shelf_of}
-use Rattle.hc_entries.specs.Kept.{Kept}
-use Rattle.hc_entries.specs.Views.{view_of}
+use Rattle.hc_stored.specs.declared.view.EntryView.{EntryView}
+use Rattle.hc_stored.specs.Entries.{shelf_of}
+use Rattle.hc_stored.specs.Kept.{Kept}
+use Rattle.hc_stored.specs.Views.{view_of}
 use Rattle.hc_entry.specs.Keys.{kept_of, line_of}
 use Rattle.hc_entry.specs.Lines.{turn_of}
 use Rattle.hc_model.specs.Currents.{current}
@@ -16,9 +16,9 @@ use Rattle.hc_model.specs.Lines.{turn}
 use Rattle.hc_model.specs.Rows.{Tables, Representation}
 use Rattle.hc_model.specs.Tables.{tables}
 use Rattle.hc_laws.proofs.SoundRuns.{runs_are_sound}
-use Rattle.hc_rows.proofs.CurrentTies.{IsNow, now_kept}
-use Rattle.hc_rows.proofs.TurnTies.{turn_of_is}
-use Rattle.hc_rows.proofs.Words.{none_some, some_is}
+use Rattle.hc_state.proofs.CurrentTies.{IsNow, now_kept}
+use Rattle.hc_state.proofs.TurnTies.{turn_of_is}
+use Rattle.hc_state.proofs.Words.{none_some, some_is}
 use Rattle.hc_core.specs.declared.cache.Cache.{Cache}
 use Rattle.hc_core.specs.Steps.{StandsFor}
 

@@ -10,8 +10,8 @@ use Rattle.hc_sparse.specs.Runs.{cells_of}
 use Rattle.hc_record.specs.Head.{sealed_head}
 use Rattle.hc_record.specs.declared.kind.Kind.TheVariants as kinds
 use Rattle.hc_rules.specs.declared.room.Limits.{Limits}
-use Rattle.hc_entries.specs.Entries.{shelf_of}
-use Rattle.hc_entries.specs.Kept.{Kept}
+use Rattle.hc_stored.specs.Entries.{shelf_of}
+use Rattle.hc_stored.specs.Kept.{Kept}
 use Rattle.hc_entry.specs.Kept as keyed
 use Rattle.hc_entry.specs.Keys.{kept_of}
 use Rattle.hc_exch.specs.Exchanges.{table_of, next_of}
@@ -39,22 +39,22 @@ use Rattle.hc_model.proofs.PollKeeps.{current_stays}
 use Rattle.hc_model.proofs.RunsFrom.{end_is}
 use Rattle.hc_laws.proofs.SoundRuns.{carried}
 use Rattle.hc_model.proofs.Sums.{filter_among}
-use Rattle.hc_rows.specs.declared.consumer.Consumer.{Consumer}
-use Rattle.hc_rows.specs.declared.rows.Rows.{Rows}
-use Rattle.hc_rows.specs.Facts.{Facts}
-use Rattle.hc_rows.specs.Kept.{KeepsConsumer, KeepsExchange, KeepsRunning}
-use Rattle.hc_rows.specs.Lines.{KeepsKey, has_turn, is_away, is_passed}
-use Rattle.hc_rows.specs.Stands.{RowsStand, most_before}
-use Rattle.hc_rows.specs.Stored.{IsEntry, KeepsEntry, TellsLength, TellsWriter, is_first, is_over, is_usable_row}
-use Rattle.hc_rows.specs.Stored as stored
+use Rattle.hc_state.specs.declared.consumer.Consumer.{Consumer}
+use Rattle.hc_state.specs.declared.rows.Rows.{Rows}
+use Rattle.hc_state.specs.Facts.{Facts}
+use Rattle.hc_state.specs.Kept.{KeepsConsumer, KeepsExchange, KeepsRunning}
+use Rattle.hc_state.specs.Lines.{KeepsKey, has_turn, is_away, is_passed}
+use Rattle.hc_state.specs.Stands.{RowsStand, most_before}
+use Rattle.hc_state.specs.Stored.{IsEntry, KeepsEntry, TellsLength, TellsWriter, is_first, is_over, is_usable_row}
+use Rattle.hc_state.specs.Stored as stored
 use Rattle.hc_core.proofs.BegunRuns.{kind_begun}
-use Rattle.hc_rows.proofs.CurrentTies.{stays_stored}
+use Rattle.hc_state.proofs.CurrentTies.{stays_stored}
 use Rattle.hc_core.proofs.HeadsGrow.{HeadsGrow, heads_grow}
-use Rattle.hc_rows.proofs.LiveCounts.{filter-reverse}
+use Rattle.hc_state.proofs.LiveCounts.{filter-reverse}
 use Rattle.hc_core.proofs.NobodyLive.{nobody, nobody_says, unbound, none_bound, shut, none_held}
 use Rattle.hc_core.proofs.RunsBack.{cells_back}
 use Rattle.hc_core.proofs.Standing.{facts_of_runs}
-use Rattle.hc_rows.proofs.Words.{same_or, eqb-same, eqb-other, false_true, none_some, not_true, same_row, some_is, then_false}
+use Rattle.hc_state.proofs.Words.{same_or, eqb-same, eqb-other, false_true, none_some, not_true, same_row, some_is, then_false}
 use Rattle.hc_core.specs.declared.cache.Cache.{Cache}
 use Rattle.hc_core.specs.Steps.{ServesAll}
 

@@ -12,9 +12,9 @@ use Rattle.hc_model.specs.Sound as sound
 use Rattle.hc_model.specs.Whose.{IsSomebodys, may_own}
 use Rattle.hc_model.specs.Whose as whose
 use Rattle.hc_model.proofs.Pens.{filter_some}
-use Rattle.hc_rows.specs.Kept.{held_for, held_of, held_alone, unread, unstored}
-use Rattle.hc_rows.proofs.LiveCounts.{filter_nothing}
-use Rattle.hc_rows.proofs.Words.{false_true, not_true}
+use Rattle.hc_state.specs.Kept.{held_for, held_of, held_alone, unread, unstored}
+use Rattle.hc_state.proofs.LiveCounts.{filter_nothing}
+use Rattle.hc_state.proofs.Words.{false_true, not_true}
 
 none_long : (xs : List ℕ) → length xs ≡ 0 → xs ≡ []
 none_long [] none = refl

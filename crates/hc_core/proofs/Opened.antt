@@ -17,11 +17,11 @@ use Rattle.hc_model.specs.Rows.{Tables}
 use Rattle.hc_model.specs.Sound.{Sound}
 use Rattle.hc_model.specs.Tables.{after_accepted, opened_after, tables}
 use Rattle.hc_model.proofs.NumbersKeep.{opens_next}
-use Rattle.hc_rows.specs.declared.rows.Rows.{Rows}
-use Rattle.hc_rows.specs.Good.{StandsUntil, counted}
-use Rattle.hc_rows.specs.Stands.{Stands, Answers, gate_of}
-use Rattle.hc_rows.proofs.Maps.{merely_below}
-use Rattle.hc_leave.proofs.Gates.{denies_as}
+use Rattle.hc_state.specs.declared.rows.Rows.{Rows}
+use Rattle.hc_state.specs.Good.{StandsUntil, counted}
+use Rattle.hc_state.specs.Stands.{Stands, Answers, gate_of}
+use Rattle.hc_state.proofs.Maps.{merely_below}
+use Rattle.hc_on_leave.proofs.Gates.{denies_as}
 use Rattle.hc_core.proofs.Standing.{stands_of_runs}
 
 opens_one : (limits : Limits) (t : Tables) (now : ℕ) (flaw : Flaw) → Sound t → (ev : Event) → denial t ev ≡ None → (after_accepted t (entry_of limits t now ev flaw)).opened ≤ t.opened + 1

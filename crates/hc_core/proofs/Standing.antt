@@ -36,11 +36,11 @@ use Rattle.hc_laws.proofs.TagRuns.{tags_in_runs}
 use Rattle.hc_laws.proofs.WeightsLeft.{weights_total}
 use Rattle.hc_laws.proofs.UnendedRuns.{unended_in_runs}
 use Rattle.hc_laws.proofs.WhoseRuns.{whose_in_runs}
-use Rattle.hc_rows.specs.declared.rows.Rows.{Rows}
-use Rattle.hc_rows.specs.Facts.{Facts}
-use Rattle.hc_rows.specs.Stands.{StandsForSome, Stands}
-use Rattle.hc_rows.specs.Good.{StandsUntil, StandsBy}
-use Rattle.hc_rows.proofs.Words.{false_true}
+use Rattle.hc_state.specs.declared.rows.Rows.{Rows}
+use Rattle.hc_state.specs.Facts.{Facts}
+use Rattle.hc_state.specs.Stands.{StandsForSome, Stands}
+use Rattle.hc_state.specs.Good.{StandsUntil, StandsBy}
+use Rattle.hc_state.proofs.Words.{false_true}
 
 -- with its head it goes on at its front
 come_up : (v : Cells) (n : ℕ) (w : Exchange) → Covers v n (goes_on_at w w.head) → is_some w.head ≡ true → Covers v n (front w)

@@ -17,7 +17,7 @@ use Rattle.hc_rules.specs.declared.room.Limits.{Limits}
 use Rattle.hc_rules.specs.Refusals.{refusal_of}
 use Rattle.hc_exch.specs.Exchanges.{table_of, next_of}
 use Rattle.hc_exch.specs.Known.{unknown}
-use Rattle.hc_entries.specs.Entries.{shelf_of}
+use Rattle.hc_stored.specs.Entries.{shelf_of}
 use Rattle.hc_entry.specs.Keys.{kept_of}
 use Rattle.hc_entry.specs.Kept.{nothing}
 use Rattle.hc_model.specs.Answers.{answer, accepted, denied_or}
@@ -35,15 +35,15 @@ use Rattle.hc_laws.proofs.ChainRuns.{chains_in_runs}
 use Rattle.hc_laws.proofs.InRuns.{delivers_in_runs, turns_in_runs, dooms_in_runs}
 use Rattle.hc_laws.proofs.TruthRuns.{truth_in_runs}
 use Rattle.hc_event.specs.Modest.{IsModestEvent}
-use Rattle.hc_rows.specs.declared.rows.Rows.{Rows}
-use Rattle.hc_rows.specs.Stands.{RowsStand, Answers, gate_of}
+use Rattle.hc_state.specs.declared.rows.Rows.{Rows}
+use Rattle.hc_state.specs.Stands.{RowsStand, Answers, gate_of}
 use Rattle.hc_model.specs.Flaws.{is_fault}
-use Rattle.hc_rows.specs.Facts.{Facts}
-use Rattle.hc_rows.specs.Good.{StandsUntil, counted}
-use Rattle.hc_leave.proofs.Gates.{denies_as}
-use Rattle.hc_leave.proofs.Sets.{acts_set}
+use Rattle.hc_state.specs.Facts.{Facts}
+use Rattle.hc_state.specs.Good.{StandsUntil, counted}
+use Rattle.hc_on_leave.proofs.Gates.{denies_as}
+use Rattle.hc_on_leave.proofs.Sets.{acts_set}
 use Rattle.hc_core.proofs.Standing.{facts_of_runs}
-use Rattle.hc_rows.proofs.Words.{none_some}
+use Rattle.hc_state.proofs.Words.{none_some}
 use Rattle.hc_core.proofs.Undenied.{undenied}
 use Rattle.hc_core.proofs.Denying.{stands_denied, stands_begun}
 use Rattle.hc_core.specs.declared.cache.Cache.{Cache}

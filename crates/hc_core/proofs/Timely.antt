@@ -7,12 +7,12 @@ use Rattle.hc_exch.specs.declared.row.Open.{Open}
 use Rattle.hc_exch.specs.Exchanges.{table_of}
 use Rattle.hc_model.specs.Rows.{Tables}
 use Rattle.hc_model.specs.Tables.{tables}
-use Rattle.hc_rows.specs.declared.rows.Rows.{Rows}
-use Rattle.hc_rows.specs.Facts.{Facts}
-use Rattle.hc_rows.specs.Good.{StandsUntil}
-use Rattle.hc_rows.specs.Heads.{IsTimely}
-use Rattle.hc_rows.specs.Stands.{RowsStand}
-use Rattle.hc_leave.proofs.HeardRows.{heard_row}
+use Rattle.hc_state.specs.declared.rows.Rows.{Rows}
+use Rattle.hc_state.specs.Facts.{Facts}
+use Rattle.hc_state.specs.Good.{StandsUntil}
+use Rattle.hc_state.specs.Heads.{IsTimely}
+use Rattle.hc_state.specs.Stands.{RowsStand}
+use Rattle.hc_on_leave.proofs.HeardRows.{heard_row}
 use Rattle.hc_core.proofs.Standing.{facts_of_runs}
 
 module _ {B : Type 0} {g : Ghosts B} (r : Rows B g) (x : ℕ) (o : Open) (running : (table_of r.exchanges x).running ≡ Some o) where

@@ -2,10 +2,10 @@
 use Rattle.std.specs.Prelude.{◌≡◌, ◌≢◌, ◌<◌, ◌≤◌, ◌+◌, ◌^◌, ℕ, List, Bool, true, false, Option, Some, None, find, ◌==◌}
 use Rattle.hc_store.specs.declared.backend.Backend.{Ghosts}
 use Rattle.hc_rules.specs.declared.room.Limits.{Limits}
-use Rattle.hc_entries.specs.Begun as entries
-use Rattle.hc_entries.specs.Entries.{shelf_of}
-use Rattle.hc_entries.specs.Kept.{Kept}
-use Rattle.hc_entries.specs.Shelf.{Becomes, first_in}
+use Rattle.hc_stored.specs.Begun as entries
+use Rattle.hc_stored.specs.Entries.{shelf_of}
+use Rattle.hc_stored.specs.Kept.{Kept}
+use Rattle.hc_stored.specs.Shelf.{Becomes, first_in}
 use Rattle.hc_entry.specs.Kept.{with_current}
 use Rattle.hc_entry.specs.Keys as keys
 use Rattle.hc_model.specs.Beginnings.{ascend_from, is_kind_right}
@@ -13,8 +13,8 @@ use Rattle.hc_model.specs.Entries.{Content, Contents}
 use Rattle.hc_model.specs.Tables.{begun, bytes_in}
 use Rattle.hc_contents.specs.Fit.{unfit_of}
 use Rattle.hc_contents.specs.declared.unfit.Unfit.TheVariants as unfit
-use Rattle.hc_rows.specs.declared.rows.Rows.{Rows}
-use Rattle.hc_rows.specs.Stands.{RowsStand}
+use Rattle.hc_state.specs.declared.rows.Rows.{Rows}
+use Rattle.hc_state.specs.Stands.{RowsStand}
 use Rattle.hc_core.specs.declared.begin.ContentsError.{ContentsError}
 use Rattle.hc_core.specs.declared.begin.ContentsError.TheVariants as error
 use Rattle.hc_core.specs.declared.begin.ContentsRefused.{ContentsRefused}

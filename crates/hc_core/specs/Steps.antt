@@ -4,7 +4,7 @@ use Rattle.std.specs.HashMap.{hash_map_len}
 use Rattle.hc_store.specs.declared.backend.Backend.{Ghosts}
 use Rattle.hc_event.specs.declared.event.Event.{Event}
 use Rattle.hc_event.specs.declared.act.Act.{Act}
-use Rattle.hc_entries.specs.Entries.{store_of}
+use Rattle.hc_stored.specs.Entries.{store_of}
 use Rattle.hc_model.specs.Beginnings.{may_begin}
 use Rattle.hc_model.specs.Contents.{contents_of}
 use Rattle.hc_model.specs.Denials.{live}
@@ -16,7 +16,7 @@ use Rattle.hc_model.specs.Laws.{DeliversOnce, HasOneTurn, IsBehindDooms, IsTruth
 use Rattle.hc_model.specs.Numbers.{AreShort}
 use Rattle.hc_model.specs.Runs.{IsRun}
 use Rattle.hc_model.specs.Tables.{tables}
-use Rattle.hc_rows.specs.Stands.{RowsStand, most_before}
+use Rattle.hc_state.specs.Stands.{RowsStand, most_before}
 use Rattle.hc_core.specs.declared.cache.Cache.{Cache}
 
 -- WHAT A CACHE HAS

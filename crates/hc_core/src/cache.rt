@@ -1,7 +1,7 @@
 //! The cache: what it keeps of the past.
 ghost use Rattle.std.specs.Prelude.{◌≡◌, false};
 ghost use Rattle.std.proofs.Props.{props};
-ghost use Rattle.hc_rows.specs.Good.{IsGood};
+ghost use Rattle.hc_state.specs.Good.{IsGood};
 
 mod begin;
 mod contents;
@@ -9,7 +9,7 @@ mod step;
 mod stepping;
 mod views;
 
-use hc_rows::Rows;
+use hc_state::Rows;
 use hc_store::Backend;
 
 /// A cache over a store. Moments are whole seconds since 1970.

@@ -2,17 +2,17 @@
 use Rattle.std.proofs.Common.{◌≡◌, ℕ, ◌+◌, ◌<◌, List, [], Bool, true, false, not, eqb, Option, Some, None, refl, sym, ap, ◌∙◌, inl, inr, arith}
 use Rattle.std.specs.Prelude.{◌||◌}
 use Rattle.std.proofs.lemmas.Bool.{cases_Bool, cases_eq, eqb-true, eqb-false}
-use Rattle.hc_rising.specs.Rising.{rises, is_at as numbered, without}
-use Rattle.hc_rising.proofs.RisingLemmas.{has-with, has-without, rises-with, rises-filter}
+use Rattle.hc_sorted.specs.Sorted.{is_sorted, is_at as numbered, without}
+use Rattle.hc_sorted.proofs.SortedLemmas.{has-with, has-without, is_sorted-with, is_sorted-filter}
 use Rattle.hc_entry.specs.Users.{itself}
 use Rattle.hc_entry.specs.Lines.{Line, is_among, is_in, released, come_back, all_back, passed_back, stands, consumer_at, merged, IsOrderly, AllArePlacedBelow}
 use Rattle.hc_entry.proofs.SeatLemmas.{same_members}
-use Rattle.hc_entry.proofs.OrderLemmas.{gone, stays-out, no-members, rises-all, rises-passed, among-all, among-merged, orderly-back}
+use Rattle.hc_entry.proofs.OrderLemmas.{gone, stays-out, no-members, is_sorted-all, is_sorted-passed, among-all, among-merged, orderly-back}
 
 -- Those with a place below i are in line again.
 pub record AreBackBelow (i : ℕ) (old l : Line) : Type 0 where
   pub same : (d : ℕ) → is_in d l ≡ is_in d old
-  pub rising : rises itself l.in_line ≡ true
+  pub rising : is_sorted itself l.in_line ≡ true
   pub places : l.places ≡ old.places
   pub free : l.holder ≡ None
   pub back : (k d : ℕ) → k < i → consumer_at l k ≡ Some d → (is_among d l.passed ≡ false) × (is_among d l.away ≡ false)
@@ -50,7 +50,7 @@ earlier i c l there k d below has off = elim (cases_eq k i) [
 pub back-next : (i c : ℕ) (old l : Line) → AreBackBelow i old l → consumer_at l i ≡ Some c → is_in c l ≡ true → AreBackBelow (i + 1) old (come_back c l)
 back-next i c old l was there is = record {
   same = λ d. kept-in c d l is ∙ was.same d;
-  rising = rises-with itself c (without itself c l.in_line) (rises-filter itself (λ (x : ℕ). not (numbered itself c x)) l.in_line was.rising) (gone c l.in_line);
+  rising = is_sorted-with itself c (without itself c l.in_line) (is_sorted-filter itself (λ (x : ℕ). not (numbered itself c x)) l.in_line was.rising) (gone c l.in_line);
   places = was.places;
   free = rw was.free refl;
   back = λ k d below has. elim (cases_Bool (eqb c d)) [
@@ -119,7 +119,7 @@ back-all n old l o was placed =
         alone false = refl
 
       in_line : l.in_line ≡ (all_back old).in_line
-      in_line = same_members l.in_line (all_back old).in_line was.rising (rises-all old o) (λ d. members d ∙ (was.same d ∙ sym (among-all d old)))
+      in_line = same_members l.in_line (all_back old).in_line was.rising (is_sorted-all old o) (λ d. members d ∙ (was.same d ∙ sym (among-all d old)))
 
 -- THOSE THAT PASSED
 
@@ -142,10 +142,10 @@ passed-back-none old o = record {
   back = λ k d below is. absurd (omega arith);
 }
 
--- one that isn't among them is taken out of the list, which rises
-without-absent : (c : ℕ) (cs : List ℕ) → rises itself cs ≡ true → is_among c cs ≡ false → without itself c cs ≡ cs
+-- one that isn't among them is taken out of the list, which is_sorted
+without-absent : (c : ℕ) (cs : List ℕ) → is_sorted itself cs ≡ true → is_among c cs ≡ false → without itself c cs ≡ cs
 without-absent c cs rise out =
-    same_members (without itself c cs) cs (rises-filter itself (λ (x : ℕ). not (numbered itself c x)) cs rise) rise (λ d. elim (cases_Bool (eqb c d)) [
+    same_members (without itself c cs) cs (is_sorted-filter itself (λ (x : ℕ). not (numbered itself c x)) cs rise) rise (λ d. elim (cases_Bool (eqb c d)) [
       | inl on ↦ rw (has-without itself d c cs, on) (sym (ap (λ (n : ℕ). is_among n cs) (sym (eqb-true c d on)) ∙ out))
       | inr off ↦ rw (has-without itself d c cs, off) refl
     ])
@@ -233,4 +233,4 @@ passed-back-all n old l o was placed = same-line l (passed_back old) in_line pas
       ∙ (was.same d ∙ (turned (is_among d old.in_line) (is_among d old.passed) ∙ sym (among-merged d old.passed old.in_line))))
 
   in_line : l.in_line ≡ merged old.passed old.in_line
-  in_line = same_members l.in_line (merged old.passed old.in_line) was.orderly.in_line (rises-passed old o) members
+  in_line = same_members l.in_line (merged old.passed old.in_line) was.orderly.in_line (is_sorted-passed old o) members

@@ -3,8 +3,8 @@ use Rattle.std.proofs.Common.{◌≡◌, ℕ, List, [], ◌∷◌, true, false, 
 use Rattle.std.specs.Prelude.{min}
 use Rattle.std.specs.Option.{option_or}
 use Rattle.std.proofs.lemmas.Bool.{cases_Bool, eqb-false, eq-eqb, ne_eqb}
-use Rattle.hc_rising.specs.Rising.{rises, with_item, without}
-use Rattle.hc_rising.proofs.RisingLemmas.{has-with, has-without}
+use Rattle.hc_sorted.specs.Sorted.{is_sorted, with_item, without}
+use Rattle.hc_sorted.proofs.SortedLemmas.{has-with, has-without}
 use Rattle.hc_rules.specs.Least.{least}
 use Rattle.hc_entry.specs.Users.{itself, first_of}
 use Rattle.hc_entry.specs.Lines.{is_among, stands, released, Line, holder_or, turn_with}
@@ -35,7 +35,7 @@ stands-with c (Some d) cs in_line = elim (cases_Bool (eqb c d)) [
 ]
 
 -- who has the turn stands in line
-pub stands-held : (c : ℕ) (h : Option ℕ) (cs : List ℕ) → rises itself cs ≡ true → stands h cs ≡ true → holder_or h (least cs) ≡ Some c → is_among c cs ≡ true
+pub stands-held : (c : ℕ) (h : Option ℕ) (cs : List ℕ) → is_sorted itself cs ≡ true → stands h cs ≡ true → holder_or h (least cs) ≡ Some c → is_among c cs ≡ true
 stands-held c (Some d) cs up in_line is = let e : d ≡ c = cc in ap (λ k. is_among k cs) (sym e) ∙ in_line
 stands-held c None cs up in_line is = first cs (sym (least-rising cs up) ∙ is) where
   first : (ds : List ℕ) → first_of ds ≡ Some c → is_among c ds ≡ true

@@ -2,8 +2,8 @@
 use Rattle.std.proofs.Common.{◌≡◌, ℕ, suc, ◌+◌, List, [], ◌∷◌, length, Bool, true, false, not, eqb, Option, Some, None, refl, sym, ap, ◌∙◌, inl, inr, arith}
 use Rattle.std.specs.Prelude.{◌||◌, nat_le}
 use Rattle.std.proofs.lemmas.Bool.{cases_Bool, eqb-true, eq-eqb, ne_eqb}
-use Rattle.hc_rising.specs.Rising.{rises, is_at as numbered, with_item, without}
-use Rattle.hc_rising.proofs.RisingLemmas.{rises-above, has-above, has-with, has-without, rises-with, rises-filter}
+use Rattle.hc_sorted.specs.Sorted.{is_sorted, is_at as numbered, with_item, without}
+use Rattle.hc_sorted.proofs.SortedLemmas.{is_sorted-above, has-above, has-with, has-without, is_sorted-with, is_sorted-filter}
 use Rattle.hc_entry.specs.Users.{itself}
 use Rattle.hc_entry.specs.Lines.{Line, nobody, is_among, is_in, is_empty, merged, all_back, passed_back, apart, queued, passed, gone_away, come_back, held_by, turn_of, stands, IsOrderly}
 use Rattle.hc_entry.proofs.LineLemmas.{stands-left, stands-with, stands-held}
@@ -60,9 +60,9 @@ orderly-nobody = record {
 
 pub orderly-apart : (c : ℕ) (l : Line) → IsOrderly l → IsOrderly (apart c l)
 orderly-apart c l o = record {
-  in_line = rises-filter itself (λ (x : ℕ). not (numbered itself c x)) l.in_line o.in_line;
-  passed = rises-filter itself (λ (x : ℕ). not (numbered itself c x)) l.passed o.passed;
-  away = rises-filter itself (λ (x : ℕ). not (numbered itself c x)) l.away o.away;
+  in_line = is_sorted-filter itself (λ (x : ℕ). not (numbered itself c x)) l.in_line o.in_line;
+  passed = is_sorted-filter itself (λ (x : ℕ). not (numbered itself c x)) l.passed o.passed;
+  away = is_sorted-filter itself (λ (x : ℕ). not (numbered itself c x)) l.away o.away;
   in_line_or_passed = λ d is. stays-out c d l.passed (o.in_line_or_passed d (was-in c d l.in_line is));
   in_line_or_away = λ d is. stays-out c d l.away (o.in_line_or_away d (was-in c d l.in_line is));
   passed_or_away = λ d is. stays-out c d l.away (o.passed_or_away d (was-in c d l.passed is));
@@ -93,7 +93,7 @@ pub orderly-queued : (c : ℕ) (l : Line) → is_in c l ≡ false → IsOrderly 
 orderly-queued c l out o =
     let (a, b, d) = in-none c l out in
     record {
-      in_line = rises-with itself c l.in_line o.in_line a;
+      in_line = is_sorted-with itself c l.in_line o.in_line a;
       passed = o.passed;
       away = o.away;
       in_line_or_passed = apart-with c l.in_line l.passed o.in_line_or_passed b;
@@ -111,7 +111,7 @@ orderly-passed c l was =
     let o = orderly-apart c l was in
     record {
       in_line = o.in_line;
-      passed = rises-with itself c (without itself c l.passed) o.passed (gone c l.passed);
+      passed = is_sorted-with itself c (without itself c l.passed) o.passed (gone c l.passed);
       away = o.away;
       in_line_or_passed = with-apart c (without itself c l.in_line) (without itself c l.passed) o.in_line_or_passed (gone c l.in_line);
       in_line_or_away = o.in_line_or_away;
@@ -125,7 +125,7 @@ orderly-away c l was =
     record {
       in_line = o.in_line;
       passed = o.passed;
-      away = rises-with itself c (without itself c l.away) o.away (gone c l.away);
+      away = is_sorted-with itself c (without itself c l.away) o.away (gone c l.away);
       in_line_or_passed = o.in_line_or_passed;
       in_line_or_away = with-apart c (without itself c l.in_line) (without itself c l.away) o.in_line_or_away (gone c l.in_line);
       passed_or_away = with-apart c (without itself c l.passed) (without itself c l.away) o.passed_or_away (gone c l.passed);
@@ -160,20 +160,20 @@ among-rest c d ds is = elim (cases_Bool (eqb d c)) [
   | inr off ↦ rw off is
 ]
 
-pub rises-merged : (ds cs : List ℕ) → rises itself ds ≡ true → rises itself cs ≡ true → ((c : ℕ) → is_among c ds ≡ true → is_among c cs ≡ false)
-    → rises itself (merged ds cs) ≡ true
-rises-merged [] cs up rise apart = rise
-rises-merged (d ∷ ds) cs up rise apart =
-    let tail = rises-merged ds cs (rises-above itself d ds up) rise (λ c is. apart c (among-rest c d ds is)) in
+pub is_sorted-merged : (ds cs : List ℕ) → is_sorted itself ds ≡ true → is_sorted itself cs ≡ true → ((c : ℕ) → is_among c ds ≡ true → is_among c cs ≡ false)
+    → is_sorted itself (merged ds cs) ≡ true
+is_sorted-merged [] cs up rise apart = rise
+is_sorted-merged (d ∷ ds) cs up rise apart =
+    let tail = is_sorted-merged ds cs (is_sorted-above itself d ds up) rise (λ c is. apart c (among-rest c d ds is)) in
     let out = has-above itself d d ds (omega arith) up in
-    rises-with itself d (merged ds cs) tail (among-merged d ds cs ∙ or-false (is_among d ds) (is_among d cs) out (apart d (first-in d ds)))
+    is_sorted-with itself d (merged ds cs) tail (among-merged d ds cs ∙ or-false (is_among d ds) (is_among d cs) out (apart d (first-in d ds)))
 
-pub rises-passed : (l : Line) → IsOrderly l → rises itself (passed_back l).in_line ≡ true
-rises-passed l o = rises-merged l.passed l.in_line o.passed o.in_line (λ c is. flip (is_among c l.in_line) (is_among c l.passed) (o.in_line_or_passed c) is)
+pub is_sorted-passed : (l : Line) → IsOrderly l → is_sorted itself (passed_back l).in_line ≡ true
+is_sorted-passed l o = is_sorted-merged l.passed l.in_line o.passed o.in_line (λ c is. flip (is_among c l.in_line) (is_among c l.passed) (o.in_line_or_passed c) is)
 
-pub rises-all : (l : Line) → IsOrderly l → rises itself (all_back l).in_line ≡ true
-rises-all l o =
-    rises-merged l.away (merged l.passed l.in_line) o.away (rises-passed l o)
+pub is_sorted-all : (l : Line) → IsOrderly l → is_sorted itself (all_back l).in_line ≡ true
+is_sorted-all l o =
+    is_sorted-merged l.away (merged l.passed l.in_line) o.away (is_sorted-passed l o)
     (λ c is. among-merged c l.passed l.in_line ∙ or-false (is_among c l.passed) (is_among c l.in_line)
     (flip (is_among c l.passed) (is_among c l.away) (o.passed_or_away c) is) (flip (is_among c l.in_line) (is_among c l.away) (o.in_line_or_away c) is))
 
@@ -192,7 +192,7 @@ among-all c l = rw (among-merged c l.away (merged l.passed l.in_line), among-mer
 
 pub orderly-all : (l : Line) → IsOrderly l → IsOrderly (all_back l)
 orderly-all l o = record {
-  in_line = rises-all l o;
+  in_line = is_sorted-all l o;
   passed = refl;
   away = refl;
   in_line_or_passed = λ c is. refl;
@@ -210,7 +210,7 @@ stands-merged (Some c) ds cs is = among-merged c ds cs ∙ rw is (either (is_amo
 
 pub orderly-passed-back : (l : Line) → IsOrderly l → IsOrderly (passed_back l)
 orderly-passed-back l o = record {
-  in_line = rises-passed l o;
+  in_line = is_sorted-passed l o;
   passed = refl;
   away = o.away;
   in_line_or_passed = λ c is. refl;

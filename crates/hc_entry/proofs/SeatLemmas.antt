@@ -5,8 +5,8 @@ use Rattle.std.specs.Map.{keys_of}
 use Rattle.std.specs.List.{AllByRecursion, IsDistinct}
 use Rattle.std.proofs.lemmas.Bool.{cases_Bool, cases_eq, cases_lt, eqb-true, eqb-false, eq-eqb, ne_eqb}
 use Rattle.std.proofs.lemmas.List.{get_or_past}
-use Rattle.hc_rising.specs.Rising.{above, rises, is_at as numbered, with_item, without}
-use Rattle.hc_rising.proofs.RisingLemmas.{rises-above, has-above, has-with, has-without, rises-with, rises-filter, without-none}
+use Rattle.hc_sorted.specs.Sorted.{above, is_sorted, is_at as numbered, with_item, without}
+use Rattle.hc_sorted.proofs.SortedLemmas.{is_sorted-above, has-above, has-with, has-without, is_sorted-with, is_sorted-filter, without-none}
 use Rattle.hc_rules.specs.Least.{least}
 use Rattle.hc_entry.specs.declared.seat.Seat.{Seat}
 use Rattle.hc_entry.specs.declared.seat.Stand.{Stand}
@@ -29,13 +29,13 @@ first_in : (n : ℕ) (ns : List ℕ) → is_among n (n ∷ ns) ≡ true
 first_in n ns = rw (eq-eqb n n refl) refl
 
 -- a member that isn't the first is above it
-above_first : (n y : ℕ) (ys : List ℕ) → rises itself (y ∷ ys) ≡ true → is_among n ys ≡ true → y < n
+above_first : (n y : ℕ) (ys : List ℕ) → is_sorted itself (y ∷ ys) ≡ true → is_among n ys ≡ true → y < n
 above_first n y ys up is = elim (cases_lt y n) [
   | inl less ↦ less
   | inr le ↦ let out = has-above itself y n ys le up in absurd (cc)
 ]
 
-same_first : (x y : ℕ) (xs ys : List ℕ) → rises itself (x ∷ xs) ≡ true → rises itself (y ∷ ys) ≡ true
+same_first : (x y : ℕ) (xs ys : List ℕ) → is_sorted itself (x ∷ xs) ≡ true → is_sorted itself (y ∷ ys) ≡ true
     → is_among x (y ∷ ys) ≡ true → is_among y (x ∷ xs) ≡ true → x ≡ y
 same_first x y xs ys up rise there here = elim (member_is x y ys there) [
   | inl e ↦ sym e
@@ -48,13 +48,13 @@ same_first x y xs ys up rise there here = elim (member_is x y ys there) [
   ]
 ]
 
-pub same_members : (xs ys : List ℕ) → rises itself xs ≡ true → rises itself ys ≡ true → ((d : ℕ) → is_among d xs ≡ is_among d ys) → xs ≡ ys
+pub same_members : (xs ys : List ℕ) → is_sorted itself xs ≡ true → is_sorted itself ys ≡ true → ((d : ℕ) → is_among d xs ≡ is_among d ys) → xs ≡ ys
 same_members [] [] up rise same = refl
 same_members [] (y ∷ ys) up rise same = let h = same y in let k = first_in y ys in absurd (cc)
 same_members (x ∷ xs) [] up rise same = let h = same x in let k = first_in x xs in absurd (cc)
 same_members (x ∷ xs) (y ∷ ys) up rise same =
     let e = same_first x y xs ys up rise (sym (same x) ∙ first_in x xs) (same y ∙ first_in y ys) in
-    let tail = same_members xs ys (rises-above itself x xs up) (rises-above itself y ys rise) (λ d. elim (cases_Bool (eqb x d)) [
+    let tail = same_members xs ys (is_sorted-above itself x xs up) (is_sorted-above itself y ys rise) (λ d. elim (cases_Bool (eqb x d)) [
       | inl on ↦
           let is = eqb-true x d on in
           let is_y : y ≡ d = sym e ∙ is in
@@ -97,14 +97,14 @@ among-standing s d (e ∷ es) apart =
           ]
     ]
 
-pub standing-rises : (s : Stand) (es : List (ℕ × Seat)) → IsDistinct nat_eq (keys_of es) → rises itself (standing s es) ≡ true
+pub standing-is_sorted : (s : Stand) (es : List (ℕ × Seat)) → IsDistinct nat_eq (keys_of es) → is_sorted itself (standing s es) ≡ true
 unfolding IsDistinct
-standing-rises s [] apart = refl
-standing-rises s (e ∷ es) apart = elim (cases_Bool (is_same_stand e.1.stand s)) [
+standing-is_sorted s [] apart = refl
+standing-is_sorted s (e ∷ es) apart = elim (cases_Bool (is_same_stand e.1.stand s)) [
   | inl on ↦
       let out : is_among e.0 (standing s es) ≡ false = among-standing s e.0 es apart.1 ∙ ap (stands_at s) (absent-key e.0 es apart.0) in
-      rw on (rises-with itself e.0 (standing s es) (standing-rises s es apart.1) out)
-  | inr off ↦ rw off (standing-rises s es apart.1)
+      rw on (is_sorted-with itself e.0 (standing s es) (standing-is_sorted s es apart.1) out)
+  | inr off ↦ rw off (standing-is_sorted s es apart.1)
 ]
 
 -- who is in the line has a seat
@@ -134,10 +134,10 @@ module _ (c : ℕ) (w : Option Seat) (old new : List (ℕ × Seat)) (change : Re
   module _ (up : IsDistinct nat_eq (keys_of old)) (s : Stand) where
     pub standing-comes : stands_at s w ≡ true → standing s new ≡ with_item itself c (without itself c (standing s old))
     standing-comes on =
-        let left = rises-filter itself (λ (x : ℕ). not (numbered itself c x)) (standing s old) (standing-rises s old up) in
+        let left = is_sorted-filter itself (λ (x : ℕ). not (numbered itself c x)) (standing s old) (standing-is_sorted s old up) in
         let out : is_among c (without itself c (standing s old)) ≡ false = rw (has-without itself c c (standing s old), eq-eqb c c refl) refl in
         same_members (standing s new) (with_item itself c (without itself c (standing s old)))
-        (standing-rises s new change.distinct) (rises-with itself c (without itself c (standing s old)) left out)
+        (standing-is_sorted s new change.distinct) (is_sorted-with itself c (without itself c (standing s old)) left out)
         (λ d. among-standing s d new change.distinct ∙ elim (cases_Bool (eqb c d)) [
           | inl same ↦
               let e = eqb-true c d same in
@@ -151,8 +151,8 @@ module _ (c : ℕ) (w : Option Seat) (old new : List (ℕ × Seat)) (change : Re
 
     pub standing-leaves : stands_at s w ≡ false → standing s new ≡ without itself c (standing s old)
     standing-leaves out =
-        let left = rises-filter itself (λ (x : ℕ). not (numbered itself c x)) (standing s old) (standing-rises s old up) in
-        same_members (standing s new) (without itself c (standing s old)) (standing-rises s new change.distinct) left
+        let left = is_sorted-filter itself (λ (x : ℕ). not (numbered itself c x)) (standing s old) (standing-is_sorted s old up) in
+        same_members (standing s new) (without itself c (standing s old)) (standing-is_sorted s new change.distinct) left
         (λ d. among-standing s d new change.distinct ∙ elim (cases_Bool (eqb c d)) [
           | inl same ↦
               let e = eqb-true c d same in
@@ -424,8 +424,8 @@ module _ (es : List (ℕ × Seat)) (places playing : List (Option ℕ)) (h : Opt
   -- the turn of the tournament is the least in line
   pub turn-least : (w : Option ℕ) → IsLeastAt w playing → w ≡ least (standing stand.InLine es)
   turn-least w won = first w (standing stand.InLine es) won rise in_line plays ∙ sym (least-rising (standing stand.InLine es) rise) where
-    rise : rises itself (standing stand.InLine es) ≡ true
-    rise = standing-rises stand.InLine es was.distinct
+    rise : is_sorted itself (standing stand.InLine es) ≡ true
+    rise = standing-is_sorted stand.InLine es was.distinct
 
     in_line : (d : ℕ) → is_among d (standing stand.InLine es) ≡ true → (k : ℕ) × (at playing k ≡ Some d)
     in_line d is = seen (seat_of es d) refl (sym (among-standing stand.InLine d es was.distinct) ∙ is) where
@@ -448,7 +448,7 @@ module _ (es : List (ℕ × Seat)) (places playing : List (Option ℕ)) (h : Opt
       seen None none = absurd (cc)
       seen (Some c) some = seated_so c (seat_of es c) refl some
 
-    first : (w : Option ℕ) (l : List ℕ) → IsLeastAt w playing → rises itself l ≡ true
+    first : (w : Option ℕ) (l : List ℕ) → IsLeastAt w playing → is_sorted itself l ≡ true
         → ((d : ℕ) → is_among d l ≡ true → (k : ℕ) × (at playing k ≡ Some d))
         → ((k d : ℕ) → at playing k ≡ Some d → is_among d l ≡ true) → w ≡ first_of l
     first None [] won up some all = refl

@@ -5,7 +5,7 @@ use Rattle.std.specs.Map.{keys_of}
 use Rattle.std.specs.List.{IsDistinct}
 use Rattle.std.proofs.lemmas.Bool.{cases_lt, eq-eqb, ne_eqb}
 use Rattle.std.proofs.lemmas.List.{get_or_past}
-use Rattle.hc_rising.specs.Rising.{with_item}
+use Rattle.hc_sorted.specs.Sorted.{with_item}
 use Rattle.hc_entry.specs.Users.{itself}
 use Rattle.hc_entry.specs.declared.seat.Seat.{Seat}
 use Rattle.hc_entry.specs.declared.seat.Stand.{Stand}
@@ -13,7 +13,7 @@ use Rattle.hc_entry.specs.declared.seat.Stand.TheVariants as stand
 use Rattle.hc_entry.specs.Tournaments.{at}
 use Rattle.hc_entry.specs.Seats.{is_same_stand, seat_of, standing, stand_in, IsSeated}
 use Rattle.hc_entry.specs.Lines.{is_among, is_empty, stands, IsOrderly}
-use Rattle.hc_entry.proofs.SeatLemmas.{among-standing, standing-rises, stands_at, line_of}
+use Rattle.hc_entry.proofs.SeatLemmas.{among-standing, standing-is_sorted, stands_at, line_of}
 use Rattle.hc_entry.proofs.OrderLemmas.{length-with}
 
 abbrev pub stand_of : Option Seat → Option Stand
@@ -72,9 +72,9 @@ place-within xs i d has = elim (cases_lt i (length xs)) [
 -- the lists of a seated line rise, and nobody stands in two of them
 pub orderly-seated : (es : List (ℕ × Seat)) (places playing : List (Option ℕ)) (h : Option ℕ) → IsSeated es places playing h → IsOrderly (line_of es places h)
 orderly-seated es places playing h was = record {
-  in_line = standing-rises stand.InLine es was.distinct;
-  passed = standing-rises stand.Passed es was.distinct;
-  away = standing-rises stand.Away es was.distinct;
+  in_line = standing-is_sorted stand.InLine es was.distinct;
+  passed = standing-is_sorted stand.Passed es was.distinct;
+  away = standing-is_sorted stand.Away es was.distinct;
   in_line_or_passed = λ c is. apart stand.InLine stand.Passed (λ s on. in_line_passed s on) c is;
   in_line_or_away = λ c is. apart stand.InLine stand.Away (λ s on. in_line_away s on) c is;
   passed_or_away = λ c is. apart stand.Passed stand.Away (λ s on. passed_away s on) c is;

@@ -3,7 +3,7 @@ use Rattle.std.proofs.Common.{◌≡◌, ◌⊎◌, ℕ, ◌≤◌, List, [], �
 use Rattle.std.specs.Prelude.{◌&&◌, ◌||◌, filter, min, IfSome}
 use Rattle.std.specs.List.{list_any}
 use Rattle.std.proofs.lemmas.Bool.{cases_Bool, and_parts, ltb-true, eqb-true}
-use Rattle.hc_rising.specs.Rising.{above, rises, has, with_item, without, replaced}
+use Rattle.hc_sorted.specs.Sorted.{above, is_sorted, has, with_item, without, replaced}
 use Rattle.hc_rules.specs.declared.admission.Bound.{Bound}
 use Rattle.hc_rules.specs.declared.admission.BoundKind.{BoundKind}
 use Rattle.hc_rules.specs.declared.admission.BoundKind.TheVariants as kind
@@ -108,21 +108,21 @@ least-above m (c ∷ cs) up =
     rw here (ap Some (let e : min c m ≡ m = omega arith in e))
 
 -- the least of those whose numbers rise is the first
-pub least-rising : (cs : List ℕ) → rises itself cs ≡ true → least cs ≡ first_of cs
+pub least-rising : (cs : List ℕ) → is_sorted itself cs ≡ true → least cs ≡ first_of cs
 least-rising [] up = refl
 least-rising (c ∷ cs) up = least-above c cs up
 
-pub least_bound-map : (way : BoundKind) (cs : List ℕ) → rises itself cs ≡ true → least_bound (map (bound_as way) cs) ≡ first_of cs
+pub least_bound-map : (way : BoundKind) (cs : List ℕ) → is_sorted itself cs ≡ true → least_bound (map (bound_as way) cs) ≡ first_of cs
 least_bound-map way cs up = ap least (numbers-map way cs) ∙ least-rising cs up
 
-pub least_of-same : (way other : BoundKind) (cs : List ℕ) → is_same_kind way other ≡ true → rises itself cs ≡ true → least_of other (map (bound_as way) cs) ≡ first_of cs
+pub least_of-same : (way other : BoundKind) (cs : List ℕ) → is_same_kind way other ≡ true → is_sorted itself cs ≡ true → least_of other (map (bound_as way) cs) ≡ first_of cs
 least_of-same way other cs same up = ap (λ (l : List Bound). least (numbers l)) (filter-same way other cs same) ∙ least_bound-map way cs up
 
 pub least_of-other : (way other : BoundKind) (cs : List ℕ) → is_same_kind way other ≡ false → least_of other (map (bound_as way) cs) ≡ None
 least_of-other way other cs off = ap (λ (l : List Bound). least (numbers l)) (filter-other way other cs off)
 
 -- how one more may be bound
-pub admission-map : (way : BoundKind) (cs : List ℕ) (ranged holes : Bool) → rises itself cs ≡ true → admission_by way (first_of cs) ranged holes ≡ admission_of (map (bound_as way) cs) ranged holes
+pub admission-map : (way : BoundKind) (cs : List ℕ) (ranged holes : Bool) → is_sorted itself cs ≡ true → admission_by way (first_of cs) ranged holes ≡ admission_of (map (bound_as way) cs) ranged holes
 unfolding admission_of
 admission-map way [] ranged true up = refl
 admission-map way [] ranged false up = refl

@@ -1,6 +1,6 @@
 -- The line of a key: who waits for the turn, who passed, and who is away.
 use Rattle.std.specs.Prelude.{◌≡◌, ℕ, ◌<◌, ◌==◌, ◌||◌, Bool, true, false, List, [], ◌∷◌, length, ◌+◌, map, if◌then◌else◌, Option, Some, None, slice_index_or}
-use Rattle.hc_rising.specs.Rising.{rises, has, with_item, without}
+use Rattle.hc_sorted.specs.Sorted.{is_sorted, has, with_item, without}
 use Rattle.hc_rules.specs.Least.{least, lesser}
 use Rattle.hc_entry.specs.Users.{itself}
 
@@ -108,9 +108,9 @@ stands (Some c) in_line = is_among c in_line
 
 -- The lists rise, nobody stands in two of them, and who holds the turn stands in line.
 pub record IsOrderly (l : Line) : Type 0 where
-  pub in_line : rises itself l.in_line ≡ true
-  pub passed : rises itself l.passed ≡ true
-  pub away : rises itself l.away ≡ true
+  pub in_line : is_sorted itself l.in_line ≡ true
+  pub passed : is_sorted itself l.passed ≡ true
+  pub away : is_sorted itself l.away ≡ true
   pub in_line_or_passed : (c : ℕ) → is_among c l.in_line ≡ true → is_among c l.passed ≡ false
   pub in_line_or_away : (c : ℕ) → is_among c l.in_line ≡ true → is_among c l.away ≡ false
   pub passed_or_away : (c : ℕ) → is_among c l.passed ≡ true → is_among c l.away ≡ false

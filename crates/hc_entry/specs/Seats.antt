@@ -2,7 +2,7 @@
 use Rattle.std.specs.Prelude.{◌≡◌, ℕ, ◌<◌, Bool, true, false, List, [], ◌∷◌, length, if◌then◌else◌, Option, Some, None, nat_eq}
 use Rattle.std.specs.Map.{lookup, keys_of}
 use Rattle.std.specs.List.{IsDistinct}
-use Rattle.hc_rising.specs.Rising.{with_item}
+use Rattle.hc_sorted.specs.Sorted.{with_item}
 use Rattle.hc_entry.specs.Users.{itself}
 use Rattle.hc_entry.specs.declared.seat.Seat.{Seat}
 use Rattle.hc_entry.specs.declared.seat.Stand.{Stand}

@@ -1,7 +1,7 @@
 -- Who is bound to a representation, and how.
 use Rattle.std.specs.Prelude.{◌≡◌, ℕ, ◌+◌, ◌-◌, ◌≤◌, ◌==◌, ◌&&◌, Bool, true, false, List, [], ◌∷◌, map, Option, Some, None, if◌then◌else◌}
 use Rattle.std.specs.List.{list_any, list_all}
-use Rattle.hc_rising.specs.Rising.{rises, has, with_item, without, replaced}
+use Rattle.hc_sorted.specs.Sorted.{is_sorted, has, with_item, without, replaced}
 use Rattle.hc_rules.specs.declared.admission.Bound.{Bound}
 use Rattle.hc_rules.specs.declared.admission.BoundKind.{BoundKind}
 use Rattle.hc_rules.specs.declared.admission.BoundKind.TheVariants as kind
@@ -86,5 +86,5 @@ left_by c u = record u { bound = without consumer_of c u.bound; spare = u.spare 
 
 -- The numbers rise, and an exclusive writer is alone.
 pub record IsOneKind (way : BoundKind) (consumers : List ℕ) (count : ℕ) : Type 0 where
-  pub rising : rises itself consumers ≡ true
+  pub rising : is_sorted itself consumers ≡ true
   pub alone : is_same_kind way kind.Exclusive ≡ true → count ≤ 1

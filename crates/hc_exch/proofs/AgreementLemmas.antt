@@ -2,8 +2,8 @@
 use Rattle.std.proofs.Common.{◌≡◌, ◌≢◌, ℕ, List, true, false, not, eqb, Option, Some, None, refl, sym, ap, ◌∙◌, inl, inr}
 use Rattle.std.specs.Prelude.{is_some}
 use Rattle.std.proofs.lemmas.Bool.{cases_Bool, eq-eqb, ne_eqb, eqb-true, eqb-false}
-use Rattle.hc_rising.specs.Rising.{with_item, without}
-use Rattle.hc_rising.proofs.RisingLemmas.{has-with, has-without}
+use Rattle.hc_sorted.specs.Sorted.{with_item, without}
+use Rattle.hc_sorted.proofs.SortedLemmas.{has-with, has-without}
 use Rattle.hc_exch.specs.declared.row.Open.{Open}
 use Rattle.hc_exch.specs.Wishes.{Wished, itself, is_among, asks, rests, leaves, wants_more}
 use Rattle.hc_exch.specs.Known.{Known, Table, unknown, is_wanted, is_idle, Changes}

@@ -1,6 +1,6 @@
 -- Which open exchanges are wanted, and which wait for an ask.
 use Rattle.std.specs.Prelude.{◌≡◌, ℕ, ◌+◌, ◌≤◌, Bool, true, List, []}
-use Rattle.hc_rising.specs.Rising.{rises, has, with_item, without}
+use Rattle.hc_sorted.specs.Sorted.{is_sorted, has, with_item, without}
 
 abbrev pub itself : ℕ → ℕ
 itself x = x
@@ -30,7 +30,7 @@ leaves x w = record { wanted = without itself x w.wanted; idle = without itself 
 
 -- the numbers rise, and each list has room for all of both
 pub record HasRoom (wanted idle : List ℕ) (wanted_len idle_len wanted_room idle_room : ℕ) : Type 0 where
-  pub wanted_rise : rises itself wanted ≡ true
-  pub idle_rise : rises itself idle ≡ true
+  pub wanted_rise : is_sorted itself wanted ≡ true
+  pub idle_rise : is_sorted itself idle ≡ true
   pub wanted_fit : wanted_len + idle_len ≤ wanted_room
   pub idle_fit : wanted_len + idle_len ≤ idle_room

@@ -4,7 +4,7 @@ ghost use Rattle.std.specs.Option.{option_map};
 ghost use Rattle.std.specs.HashMap.{get};
 ghost use Rattle.hc_rules.specs.Lengths.{is_bad};
 ghost use Rattle.hc_rules.specs.Refusals.{head_refusal, piece_refusal};
-ghost use Rattle.hc_rising.specs.Rising.{rises};
+ghost use Rattle.hc_sorted.specs.Sorted.{is_sorted};
 ghost use Rattle.hc_exch.specs.Wishes.{is_among, itself};
 ghost use Rattle.hc_exch.specs.Openings.{opened_with};
 ghost use Rattle.hc_exch.specs.Known.{unknown, launched, asked, turned_into, closed, headed, with_piece, given, forgotten, is_wanted, is_last_of, is_open, view_of, begins_with, named, refusal_in, Changes, length_by, seen, EndsBelow};
@@ -119,7 +119,7 @@ impl Exchanges {
     /// Those that are wanted, by number: the open ones that have no head, or of which a piece was
     /// asked for.
     pub fn wanted(&self) -> &[u64]
-        ensures rising { rises itself result.now ≡ true }
+        ensures rising { is_sorted itself result.now ≡ true }
         ensures wanted { (x : ℕ) → is_among x result.now
             ≡ is_wanted (table_of self.now x).running }
     {

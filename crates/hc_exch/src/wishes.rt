@@ -1,9 +1,9 @@
 //! Which open exchanges are wanted: each is found at once, and they are listed without the others.
 ghost use Rattle.std.specs.Prelude.{◌≡◌, true, false, OnOk, OnErr};
 ghost use Rattle.hc_exch.specs.Wishes.{is_among, nobody, wants_more, asks, rests, leaves, itself};
-ghost use Rattle.hc_rising.specs.Rising.{rises};
+ghost use Rattle.hc_sorted.specs.Sorted.{is_sorted};
 
-use hc_rising::{has_item, leave_out, put_reserved, take_out};
+use hc_sorted::{has_item, leave_out, put_reserved, take_out};
 use hc_text::NoMemory;
 use std::alloc::Global;
 use std::marker::Model;
@@ -42,7 +42,7 @@ impl Wishes {
     /// Those that are wanted.
     pub(crate) fn wanted(&self) -> &[u64]
         ensures wanted { result.now ≡ self.now.wanted }
-        ensures rising { rises itself result.now ≡ true }
+        ensures rising { is_sorted itself result.now ≡ true }
     {
         self.wanted.as_slice()
     }

@@ -3,7 +3,7 @@ ghost use Rattle.std.specs.Prelude.{◌≡◌, ◌<◌, ◌^◌, ⊤, length};
 
 use hc_event::{Act, Acts, Event, Stepper};
 use hc_io::{MemorySink, MemorySource};
-use hc_loop::step_through;
+use hc_driver::step_through;
 use hc_sched::{Ended, Refused, SchedRefusal};
 use hc_text::NoMemory;
 use std::alloc::Global;

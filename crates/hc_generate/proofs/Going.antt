@@ -3,7 +3,7 @@ use Rattle.std.proofs.Common.{◌≡◌, ℕ, zero, suc, ◌+◌, ◌≤◌, Lis
 use Rattle.std.specs.Prelude.{nat_lt, Result, Ok, Err, IfOk, is_err}
 use Rattle.hc_event.specs.declared.event.Event.{Event}
 use Rattle.hc_event.specs.Modest.{IsModestEvent}
-use Rattle.hc_rising.specs.Rising.{found}
+use Rattle.hc_sorted.specs.Sorted.{found}
 use Rattle.hc_generate.specs.declared.action.Action.{Action}
 use Rattle.hc_generate.specs.declared.action.Action.TheVariants as action
 use Rattle.hc_generate.specs.declared.exchange.Exchange.{Exchange}

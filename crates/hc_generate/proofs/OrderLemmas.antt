@@ -2,8 +2,8 @@
 use Rattle.std.proofs.Common.{◌≡◌, ℕ, ◌+◌, ◌≤◌, List, [], ◌∷◌, Bool, true, false, eqb, refl, ap, ◌∙◌, sym, inl, inr, arith, ◌||◌, ◌⊎◌}
 use Rattle.std.specs.Prelude.{filter, Some, is_some}
 use Rattle.std.proofs.lemmas.Bool.{cases_Bool, eqb-true, eq-eqb, or_right}
-use Rattle.hc_rising.specs.Rising.{has, is_at, found, with_item, without}
-use Rattle.hc_rising.proofs.RisingLemmas.{has-with, has-without, has-found}
+use Rattle.hc_sorted.specs.Sorted.{has, is_at, found, with_item, without}
+use Rattle.hc_sorted.proofs.SortedLemmas.{has-with, has-without, has-found}
 use Rattle.hc_generate.specs.declared.exchange.Exchange.{Exchange}
 use Rattle.hc_generate.specs.Sending.{number_of}
 use Rattle.hc_generate.specs.States.{itself}

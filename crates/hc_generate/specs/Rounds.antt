@@ -3,7 +3,7 @@ use Rattle.std.specs.Prelude.{◌≡◌, ℕ, ◌+◌, ◌≤◌, nat_lt, List, 
 use Rattle.hc_event.specs.declared.event.Event.{Event}
 use Rattle.hc_event.specs.declared.event.Event.TheVariants as event
 use Rattle.hc_event.specs.Modest.{IsModestEvent}
-use Rattle.hc_rising.specs.Rising.{with_item, without, found}
+use Rattle.hc_sorted.specs.Sorted.{with_item, without, found}
 use Rattle.hc_generate.specs.declared.action.Action.{Action}
 use Rattle.hc_generate.specs.declared.action.Action.TheVariants as action
 use Rattle.hc_generate.specs.declared.exchange.Brought.{Brought}

@@ -1,6 +1,6 @@
 -- What the generator knows.
 use Rattle.std.specs.Prelude.{◌≡◌, ℕ, ◌≤◌, List, [], true}
-use Rattle.hc_rising.specs.Rising.{rises, has}
+use Rattle.hc_sorted.specs.Sorted.{is_sorted, has}
 use Rattle.hc_generate.specs.declared.counts.Counts.{Counts}
 use Rattle.hc_generate.specs.declared.exchange.Exchange.{Exchange}
 use Rattle.hc_generate.specs.Sending.{number_of}
@@ -27,6 +27,6 @@ itself n = n
 
 -- Numbers rise, and none of a live consumer is above the last.
 pub record IsInOrder (last : ℕ) (live : List ℕ) (exchanges : List Exchange) : Type 0 where
-  pub live_rise : rises itself live ≡ true
+  pub live_rise : is_sorted itself live ≡ true
   pub live_started : (c : ℕ) → has itself c live ≡ true → c ≤ last
-  pub exchanges_rise : rises number_of exchanges ≡ true
+  pub exchanges_rise : is_sorted number_of exchanges ≡ true

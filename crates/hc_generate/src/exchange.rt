@@ -1,11 +1,11 @@
 //! What the origin owes to exchanges.
 ghost use Rattle.std.specs.Prelude.{◌≡◌, ◌+◌, ◌<◌, ◌^◌, true, IfOk, vec_len, vec_capacity};
-ghost use Rattle.hc_rising.specs.Rising.{rises, has};
+ghost use Rattle.hc_sorted.specs.Sorted.{is_sorted, has};
 ghost use Rattle.hc_generate.specs.Hearing.{with_begun};
 ghost use Rattle.hc_generate.specs.Sending.{Brings, next_piece, number_of, origin_bytes, owed_then};
 
 use hc_event::{Event, Request};
-use hc_rising::{Numbered, leave_out, put_reserved, replace_in};
+use hc_sorted::{Numbered, leave_out, put_reserved, replace_in};
 use hc_text::{Bytes, NoMemory};
 use hc_validate::{origin_answer, origin_byte};
 use std::alloc::Global;
@@ -95,10 +95,10 @@ fn origin_bytes(alloc: Global, at: u64, n: u64) -> Result<Bytes, NoMemory>
 
 /// The exchange is owed the bytes from `at` up to `hi`. Where these are none it is forgotten.
 pub(crate) fn owe(exchanges: &mut Vec<Exchange>, x: u64, at: u64, hi: u64)
-    requires ordered { rises number_of exchanges.old.items ≡ true }
+    requires ordered { is_sorted number_of exchanges.old.items ≡ true }
     requires there { has number_of x exchanges.old.items ≡ true }
     ensures items { exchanges.new.items ≡ owed_then x at hi exchanges.old.items }
-    ensures ordered { rises number_of exchanges.new.items ≡ true }
+    ensures ordered { is_sorted number_of exchanges.new.items ≡ true }
 {
     if at < hi {
         replace_in(
@@ -115,10 +115,10 @@ pub(crate) fn owe(exchanges: &mut Vec<Exchange>, x: u64, at: u64, hi: u64)
 
 /// An exchange that is begun stands in place of any of its number. There is room for it.
 pub(crate) fn put_begun(exchanges: &mut Vec<Exchange>, begun: Option<Exchange>)
-    requires ordered { rises number_of exchanges.old.items ≡ true }
+    requires ordered { is_sorted number_of exchanges.old.items ≡ true }
     requires room { vec_len exchanges.old < vec_capacity exchanges.old }
     ensures items { exchanges.new.items ≡ with_begun begun exchanges.old.items }
-    ensures ordered { rises number_of exchanges.new.items ≡ true }
+    ensures ordered { is_sorted number_of exchanges.new.items ≡ true }
 {
     if let Some(exchange) = begun {
         leave_out(exchanges, exchange.x);

@@ -1,7 +1,7 @@
 //! What acts say of exchanges and consumers.
 ghost use Rattle.std.specs.Prelude.{◌≡◌, true, IfOk};
 ghost use Rattle.std.specs.List.{list_any};
-ghost use Rattle.hc_rising.specs.Rising.{rises};
+ghost use Rattle.hc_sorted.specs.Sorted.{is_sorted};
 ghost use Rattle.hc_generate.specs.Sending.{number_of};
 ghost use Rattle.hc_generate.specs.States.{itself};
 ghost use Rattle.hc_generate.specs.Hearing.{begun_in, closes, leaves, still_live, still_open};
@@ -28,18 +28,18 @@ pub(crate) fn begun_in(acts: &[Act]) -> Result<Option<Exchange>, NoMemory>
 
 /// Those that are closed are forgotten.
 pub(crate) fn forget_closed(exchanges: &mut Vec<Exchange>, acts: &[Act])
-    requires { rises number_of exchanges.old.items ≡ true }
+    requires { is_sorted number_of exchanges.old.items ≡ true }
     ensures items { exchanges.new.items ≡ still_open acts.now exchanges.old.items }
-    ensures ordered { rises number_of exchanges.new.items ≡ true }
+    ensures ordered { is_sorted number_of exchanges.new.items ≡ true }
 {
     exchanges.retain(|exchange| !closes_in(exchange.x, acts));
 }
 
 /// Those that ended or failed are forgotten.
 pub(crate) fn forget_gone(live: &mut Vec<u64>, acts: &[Act])
-    requires { rises itself live.old.items ≡ true }
+    requires { is_sorted itself live.old.items ≡ true }
     ensures items { live.new.items ≡ still_live acts.now live.old.items }
-    ensures ordered { rises itself live.new.items ≡ true }
+    ensures ordered { is_sorted itself live.new.items ≡ true }
 {
     live.retain(|c| !leaves_in(*c, acts));
 }

@@ -235,7 +235,7 @@ module _ (limits : Limits) (t : Tables) (now : ℕ) (flaw : Flaw) (s : Sound t) 
           let base_is : base z ≡ j.fills.from = ap base_of l in
           let promise_is : promised z ≡ Some (j.fills.last + 1 - j.fills.from) = ap promise_of l in
           let order = part_order got.response.fields j.fills.from j.fills.last j.fills.total j.fills.part in
-          let rises : j.fills.from ≤ j.fills.last = order.rises in
+          let is_sorted : j.fills.from ≤ j.fills.last = order.is_sorted in
           let all : j.fills.last + 1 ≡ j.fills.total = last in
           let still = unpieced (fills t e r v u kept) in
           let reach_now : u.reach ≡ v.reach = still.1 in

@@ -16,7 +16,7 @@ use Rattle.hc_laws.proofs.FitsRuns.{fits}
 use Rattle.hc_model.proofs.NumbersKeep.{opens_next, starts_later}
 use Rattle.hc_laws.proofs.RunFacts.{in_runs}
 
--- what rises along a run
+-- what is_sorted along a run
 record Rises (limits : Limits) (t : Tables) : Type 0 where
   starts : Descends (t.last_start + 1) t.starts
   openings : Descends (t.opened + 1) t.openings
@@ -45,11 +45,11 @@ rises_kept limits t now flaw s d ev goes = record {
   openings = openings_on t (opening_in (entry_of limits t now ev flaw).acts) (λ o is. opens_next limits t now flaw s ev o goes is) d.openings;
 }
 
-rises : OfRunsIn Rises
-rises = in_runs Rises (λ limits contents may. record { starts = tt; openings = tt }) (λ limits t e later d. record { starts = d.starts; openings = d.openings }) (λ limits t now flaw later c d ev goes real. rises_kept limits t now flaw c.is_sound d ev goes)
+is_sorted : OfRunsIn Rises
+is_sorted = in_runs Rises (λ limits contents may. record { starts = tt; openings = tt }) (λ limits t e later d. record { starts = d.starts; openings = d.openings }) (λ limits t now flaw later c d ev goes real. rises_kept limits t now flaw c.is_sound d ev goes)
 
 pub order_in_runs : OfRuns InOrder
 order_in_runs limits contents h may run =
-    let d = rises limits contents h may run in
+    let d = is_sorted limits contents h may run in
     let f = fits limits contents h may run in
     record { starts = d.starts; openings = d.openings; founded = f.once; used = f.used_once; used_founded = f.used_founded; founded_used = f.founded_used }

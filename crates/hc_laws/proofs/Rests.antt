@@ -93,7 +93,7 @@ promises_some n request response first last total way plain status part good non
     by_test (agrees said (last + 1 - first)) g p
   where
     by_test : (b : Bool) → is_bad (if b then lengths.Part first (last + 1 - first) else lengths.Bad) ≡ false → promise_of (if b then lengths.Part first (last + 1 - first) else lengths.Bad) ≡ Some 0 → ⊥
-    by_test true g p = let order = part_order response.fields first last total part in let rises : first ≤ last = order.rises in let zero_is : last + 1 - first ≡ 0 = some_inj (last + 1 - first) 0 p in absurd (omega arith)
+    by_test true g p = let order = part_order response.fields first last total part in let is_sorted : first ≤ last = order.is_sorted in let zero_is : last + 1 - first ≡ 0 = some_inj (last + 1 - first) 0 p in absurd (omega arith)
     by_test false g p = true_false g
 
 joining_plain : (g : Option HeadCase) (w : Exchange) (response : Response) → is_joining g ≡ true → (is_refused g ≡ false) × (doomed_by_case g w response ≡ None)

@@ -46,15 +46,15 @@ module _ (limits : Limits) (t : Tables) (law : Lawful t) (now c : ℕ) (request 
   by_refusal false many n h = refl
 
   -- it is new
-  rises : denial t ev ≡ None → t.consumer c ≡ None
+  is_sorted : denial t ev ≡ None → t.consumer c ≡ None
   unfolding refusals.refusal_of
-  rises goes =
+  is_sorted goes =
       let off : nat_le c t.last_start ≡ false = by_refusal (nat_le c t.last_start) (nat_le 1024 (live t)) t.last_start goes in
       law.sound.numbered.lists.new_consumers c (grind (arith, nat_tests, off))
 
   row : denial t ev ≡ None → consumer_after t e c (t.consumer c) ≡ Some (started now request)
   unfolding consumer_after
-  row goes = ap (consumer_after t e c) (rises goes) ∙ (let self : nat_eq c c ≡ true = grind (arith, nat_tests) in rw self refl)
+  row goes = ap (consumer_after t e c) (is_sorted goes) ∙ (let self : nat_eq c c ≡ true = grind (arith, nat_tests) in rw self refl)
 
   -- a consumer starts
   pub starts : denial t ev ≡ None → Does limits t now ev NoFlaw [] (counted now ev (with_start now c request t))

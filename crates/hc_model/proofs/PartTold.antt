@@ -31,7 +31,7 @@ some_inj a b is = cc
 
 -- its first position isn't above its last, and that is before the end
 pub record IsInOrder (first last total : ℕ) : Type 0 where
-  pub rises : first ≤ last
+  pub is_sorted : first ≤ last
   pub within : last < total
 
 part_inj : (a b first last total : ℕ) (o : Option ℕ) → range.Part a b o ≡ range.Part first last (Some total) → (a ≡ first) × (b ≡ last) × (o ≡ Some total)
@@ -104,7 +104,7 @@ told_order positions text (Some (FromTo a b)) first last total at is =
     let le : a ≤ b = from_order (split_at hyphen positions) a b at in
     let p : a ≡ first = all.0 in
     let q : b ≡ last = all.1 in
-    record { rises = omega arith; within = all.2 }
+    record { is_sorted = omega arith; within = all.2 }
 
 response_order : (o : Option (List ℕ × List ℕ)) (first last total : ℕ) → response_from o ≡ Some (range.Part first last (Some total)) → IsInOrder first last total
 response_order None first last total is = absurd (none_some _ is)
@@ -141,7 +141,7 @@ within_if total false x y p q = q
 within_part : (first last total : ℕ) (said : Length) → IsInOrder first last total → is_bad (part_length said (Some (range.Part first last (Some total)))) ≡ false → IsWithin total (part_length said (Some (range.Part first last (Some total))))
 within_part first last total said i =
     within_if total (agrees said (last + 1 - first)) (told.Part first (last + 1 - first)) told.Bad
-    (λ good. let a : first ≤ last = i.rises in let b : last < total = i.within in record { n = last + 1 - first; promise = refl; ends = omega arith })
+    (λ good. let a : first ≤ last = i.is_sorted in let b : last < total = i.within in record { n = last + 1 - first; promise = refl; ends = omega arith })
     (λ bad. absurd (let never : true ≡ false = bad in cc))
 
 by_way : (way : Route) (status : ℕ) → (way ≡ route.Direct → ⊥) → status ≡ 206 → tells_part way status ≡ true

@@ -1,7 +1,7 @@
 //! The calls over stores in memory, with limits and with calls that are made to fail.
 ghost use Rattle.std.specs.Prelude.{◌≡◌, ◌≤◌, IfOk};
 
-use hc_entries::{Entries, EntryView};
+use hc_stored::{Entries, EntryView};
 use hc_fields::{FieldError, Fields};
 use hc_record::{Kind, StoredHead, joining_tag};
 use hc_rules::{Limits, Room, Write};

@@ -4,7 +4,7 @@ use Rattle.hc_event.specs.declared.event.Event.{Event}
 use Rattle.hc_event.specs.declared.event.Event.TheVariants as event
 use Rattle.hc_event.specs.declared.act.Act.{Act}
 use Rattle.hc_rules.specs.declared.room.Limits.{Limits}
-use Rattle.hc_rising.specs.Rising.{rises}
+use Rattle.hc_sorted.specs.Sorted.{is_sorted}
 use Rattle.hc_exch.specs.Wishes.{is_among, itself}
 use Rattle.hc_generate.specs.Hearing.{heard}
 use Rattle.hc_generate.specs.Rounds.{IsRound, IsShort}
@@ -47,11 +47,11 @@ may_go_on limits seed n r few stands =
 abbrev pub IsToldWanted : Rounds → List ℕ → Type 0
 IsToldWanted r wanted = (contents : Contents) (h : History) → StandsFor r.cache contents h → (x : ℕ) → is_among x wanted ≡ is_wanted ((tables contents h).exchange x)
 
-are_wanted : (r : Rounds) (wanted : List ℕ) (h : History) → rises itself wanted ≡ true → IsToldWanted r wanted → StandsFor r.cache no_contents h → AreWanted (tables no_contents h) wanted
+are_wanted : (r : Rounds) (wanted : List ℕ) (h : History) → is_sorted itself wanted ≡ true → IsToldWanted r wanted → StandsFor r.cache no_contents h → AreWanted (tables no_contents h) wanted
 are_wanted r wanted h rising told stands = record { rising = rising; are = told no_contents h stands }
 
 -- no event is made
-pub stands_quietly : (limits : Limits) (seed n : ℕ) (r u : Rounds) (wanted : List ℕ) → Stands limits seed n r → u.cache ≡ r.cache → rises itself wanted ≡ true → IsToldWanted r wanted
+pub stands_quietly : (limits : Limits) (seed n : ℕ) (r u : Rounds) (wanted : List ℕ) → Stands limits seed n r → u.cache ≡ r.cache → is_sorted itself wanted ≡ true → IsToldWanted r wanted
     → IsRound wanted r.generator None u.generator → r.generator.moment ≤ u.generator.moment → u.generator.moment ≤ r.generator.moment + 30 → u.generator.last ≤ r.generator.last + 1 → Stands limits seed (n + 1) u
 stands_quietly limits seed n r u wanted before same rising told round later grows last_grows =
     let moment = before.moment in let last = before.last in let behind = before.later in let few = before.few in let small = before.small in
@@ -81,7 +81,7 @@ short_size (event.Cancel c) short = omega arith
 short_size (event.Doom key) short = omega arith
 
 -- an event is made, answered, and the answer is heard
-pub stands_on : (limits : Limits) (seed n : ℕ) (r u : Rounds) (wanted : List ℕ) (made : Event) (acts : List Act) (s : State) (now : ℕ) → Stands limits seed n r → rises itself wanted ≡ true → IsToldWanted r wanted
+pub stands_on : (limits : Limits) (seed n : ℕ) (r u : Rounds) (wanted : List ℕ) (made : Event) (acts : List Act) (s : State) (now : ℕ) → Stands limits seed n r → is_sorted itself wanted ≡ true → IsToldWanted r wanted
     → IsRound wanted r.generator (Some made) s → IsShort made → r.generator.moment ≤ s.moment → s.moment ≤ r.generator.moment + 30 → s.last ≤ r.generator.last + 1
     → now ≡ s.moment → Answers r.cache u.cache now made acts → last_moment u.cache ≡ now → core.steps u.cache ≡ core.steps r.cache + 1 → received u.cache ≡ received r.cache + received_in made
     → u.generator ≡ heard acts s → Stands limits seed (n + 1) u

@@ -11,10 +11,10 @@ use Rattle.hc_sched.specs.declared.schedule.Refused.{Refused}
 use Rattle.hc_sched.specs.declared.schedule.Timed.{Timed}
 use Rattle.hc_sched.specs.Laws.{refusal_of}
 use Rattle.hc_sched.proofs.OneReading.{is_read, is_spelled}
-use Rattle.hc_loop.specs.Endings as endings
-use Rattle.hc_loop.specs.Endings.{Ends, IsRefused, brought}
-use Rattle.hc_loop.specs.Stepping as steps
-use Rattle.hc_loop.specs.Stepping.{Leads, nothing, more, Steps, StepsSome}
+use Rattle.hc_driver.specs.Endings as endings
+use Rattle.hc_driver.specs.Endings.{Ends, IsRefused, brought}
+use Rattle.hc_driver.specs.Stepping as steps
+use Rattle.hc_driver.specs.Stepping.{Leads, nothing, more, Steps, StepsSome}
 use Rattle.hc_model.specs.Entries.{no_contents}
 use Rattle.hc_model.specs.Runs.{IsRun}
 use Rattle.hc_model.specs.Tables.{tables}

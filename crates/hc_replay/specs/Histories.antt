@@ -1,6 +1,6 @@
 -- What was stepped, as a history of the consumer table.
 use Rattle.std.specs.Prelude.{ℕ, ◌+◌, [], ◌∷◌, map}
-use Rattle.hc_loop.specs.Stepping as steps
+use Rattle.hc_driver.specs.Stepping as steps
 use Rattle.hc_model.specs.Entries.{Entry, History}
 use Rattle.hc_model.specs.Flaws.{failures_in}
 

@@ -3,7 +3,7 @@ use Rattle.std.specs.Prelude.{◌≡◌, ℕ, ◌+◌, List, [], ◌∷◌, true
 use Rattle.hc_event.specs.declared.event.Event.{Event}
 use Rattle.hc_event.specs.declared.act.Act.{Act}
 use Rattle.hc_rules.specs.declared.room.Limits.{Limits}
-use Rattle.hc_rising.specs.Rising.{rises}
+use Rattle.hc_sorted.specs.Sorted.{is_sorted}
 use Rattle.hc_exch.specs.Wishes.{is_among, itself}
 use Rattle.hc_generate.specs.States.{State, beginning}
 use Rattle.hc_generate.specs.Rounds.{IsRound}
@@ -18,7 +18,7 @@ use Rattle.hc_model.specs.Tables.{tables}
 
 -- the exchanges that are wanted, by rising number
 pub record AreWanted (t : Tables) (wanted : List ℕ) : Type 0 where
-  pub rising : rises itself wanted ≡ true
+  pub rising : is_sorted itself wanted ≡ true
   pub are : (x : ℕ) → is_among x wanted ≡ is_wanted (t.exchange x)
 
 -- the entry of an event that the generator made last

@@ -8,7 +8,7 @@ ghost use Rattle.hc_replay.specs.Replays.{Replays, Completes};
 
 use hc_core::Cache;
 use hc_io::{Sink, Source};
-use hc_loop::step_through;
+use hc_driver::step_through;
 use hc_sched::Ended;
 use hc_store::Backend;
 use std::alloc::Global;

@@ -6,7 +6,7 @@ use crate::reports::{AMPLE, joined};
 use hc_contents::Contents;
 use hc_core::{Cache, ContentsError};
 use hc_io::{MemorySink, MemorySource};
-use hc_loop::step_through;
+use hc_driver::step_through;
 use hc_record::Kind;
 use hc_replay::replay;
 use hc_rules::Limits;

@@ -1,4 +1,4 @@
-use hc_rising::{has_item, item_at, leave_out, put_in, put_reserved, replace_in, take_out};
+use hc_sorted::{has_item, item_at, leave_out, put_in, put_reserved, replace_in, take_out};
 use hc_rules::Member;
 use std::test::Fail;
 

@@ -43,21 +43,21 @@ start-first g c TooManyConsumers h = lit≤ tt
 start-first g c _ h = absurd h
 
 start-second : (g : Gate) (c : ℕ) → g.last_start < c → (s : Refusal) → StopsStart g c s → 2 ≤ rank s
-start-second g c rises (NotRising last) h = absurd (let e : c ≤ g.last_start = h.0 in omega arith)
-start-second g c rises TooManyConsumers h = lit≤ tt
-start-second g c rises _ h = absurd h
+start-second g c is_sorted (NotRising last) h = absurd (let e : c ≤ g.last_start = h.0 in omega arith)
+start-second g c is_sorted TooManyConsumers h = lit≤ tt
+start-second g c is_sorted _ h = absurd h
 
 start-none : (g : Gate) (c : ℕ) → g.last_start < c → g.live < 1024 → (s : Refusal) → StopsStart g c s → ⊥
-start-none g c rises few (NotRising last) h = let e : c ≤ g.last_start = h.0 in omega arith
-start-none g c rises few TooManyConsumers h = let e : 1024 ≤ g.live = h in omega arith
-start-none g c rises few _ h = h
+start-none g c is_sorted few (NotRising last) h = let e : c ≤ g.last_start = h.0 in omega arith
+start-none g c is_sorted few TooManyConsumers h = let e : 1024 ≤ g.live = h in omega arith
+start-none g c is_sorted few _ h = h
 
 start-least : (g : Gate) (c : ℕ) → IsLeast (StopsStart g c) (start_refusal g c)
 start-least g c =
-    either (IsLeast (StopsStart g c)) (leb c g.last_start) _ _ (λ h. ((leb-le c g.last_start h, refl), start-first g c)) (λ rises.
+    either (IsLeast (StopsStart g c)) (leb c g.last_start) _ _ (λ h. ((leb-le c g.last_start h, refl), start-first g c)) (λ is_sorted.
     either (IsLeast (StopsStart g c)) (leb 1024 g.live) _ _
-    (λ h. (leb-le 1024 g.live h, start-second g c (leb-lt c g.last_start rises)))
-    (λ few. start-none g c (leb-lt c g.last_start rises) (leb-lt 1024 g.live few)))
+    (λ h. (leb-le 1024 g.live h, start-second g c (leb-lt c g.last_start is_sorted)))
+    (λ few. start-none g c (leb-lt c g.last_start is_sorted) (leb-lt 1024 g.live few)))
 
 -- POLLS AND CANCELS
 

@@ -2,7 +2,7 @@
 ghost use Rattle.std.specs.Prelude.{◌≡◌, ℕ, true};
 ghost use Rattle.hc_model.specs.Entries.{Contents, History};
 ghost use Rattle.hc_model.specs.Exchanges.{is_open, is_wanted};
-ghost use Rattle.hc_rising.specs.Rising.{rises};
+ghost use Rattle.hc_sorted.specs.Sorted.{is_sorted};
 ghost use Rattle.hc_exch.specs.Wishes.{is_among, itself};
 ghost use Rattle.hc_model.specs.Denials.{live};
 ghost use Rattle.hc_model.specs.Kinds.{kind_for};
@@ -67,7 +67,7 @@ impl<B: Backend> Cache<B> {
 
     /// The exchanges that are wanted, by rising number.
     pub fn wanted(&self) -> &[u64]
-        ensures rising { rises itself result.now ≡ true }
+        ensures rising { is_sorted itself result.now ≡ true }
         ensures wanted { (contents : Contents) (h : History) → StandsFor self.now contents h
             → (x : ℕ) → is_among x result.now ≡ is_wanted ((tables contents h).exchange x) }
     {

@@ -2,21 +2,21 @@
 ghost use Rattle.std.specs.Prelude.{◌≡◌, ◌+◌, ◌≤◌, ◌<◌, ◌^◌, ℕ, Some, None, [], true, option_map, IfOk, IfErr, OnOk};
 ghost use Rattle.hc_store.specs.Slots.{no_slots};
 ghost use Rattle.hc_store.specs.Causes.{HasCause, HasNoLimit};
-ghost use Rattle.hc_entries.specs.Begun.{with_runs};
-ghost use Rattle.hc_entries.specs.Entries.{shelf_of, store_of};
-ghost use Rattle.hc_entries.specs.Shelf.{Becomes, is_kept, cells_at, unmoved};
+ghost use Rattle.hc_stored.specs.Begun.{with_runs};
+ghost use Rattle.hc_stored.specs.Entries.{shelf_of, store_of};
+ghost use Rattle.hc_stored.specs.Shelf.{Becomes, is_kept, cells_at, unmoved};
 ghost use Rattle.hc_rules.specs.Rooms.{weight_of};
 ghost use Rattle.hc_contents.specs.Told.{told, told_item};
 ghost use Rattle.hc_model.specs.Beginnings.{may_begin, ascend_from};
 ghost use Rattle.hc_model.specs.Tables.{begun, bytes_in, last_end};
-ghost use Rattle.hc_rows.specs.Stands.{RowsStand};
+ghost use Rattle.hc_state.specs.Stands.{RowsStand};
 ghost use Rattle.hc_core.specs.Begins.{with_items, KeepsItem};
 
 use hc_contents::{Content, Contents};
-use hc_entries::Entries;
+use hc_stored::Entries;
 use hc_entry::KeyTable;
 use hc_exch::Exchanges;
-use hc_rows::Rows;
+use hc_state::Rows;
 use hc_rules::Limits;
 use hc_sparse::Run;
 use hc_store::{Backend, StoreError};

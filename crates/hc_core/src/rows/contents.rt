@@ -2,14 +2,14 @@
 ghost use Rattle.std.specs.Prelude.{◌≡◌, ◌+◌, ◌-◌, ◌≤◌, ◌<◌, ◌^◌, ℕ, true, length, map, IfOk};
 ghost use Rattle.hc_sparse.specs.Cells.{EndsBy};
 ghost use Rattle.hc_store.specs.Causes.{HasCause, HasNoLimit};
-ghost use Rattle.hc_entries.specs.Entries.{shelf_of};
-ghost use Rattle.hc_entries.specs.Shelf.{Stays, idle, is_kept, cells_at};
+ghost use Rattle.hc_stored.specs.Entries.{shelf_of};
+ghost use Rattle.hc_stored.specs.Shelf.{Stays, idle, is_kept, cells_at};
 ghost use Rattle.hc_contents.specs.Told.{told_item};
 ghost use Rattle.hc_model.specs.Contents.{runs_from};
-ghost use Rattle.hc_rows.specs.Remains.{TellsAll, TellsOne};
+ghost use Rattle.hc_state.specs.Remains.{TellsAll, TellsOne};
 
 use hc_contents::{Content, ContentList, RunList};
-use hc_entries::Entries;
+use hc_stored::Entries;
 use hc_sparse::Run;
 use hc_store::{Backend, StoreError};
 use std::alloc::Global;

@@ -3,10 +3,10 @@ ghost use Rattle.std.specs.Prelude.{◌≡◌, nat_eq, option_map};
 ghost use Rattle.std.specs.Option.{option_and_then};
 ghost use Rattle.hc_rules.specs.Refusals.{refusal_of};
 ghost use Rattle.hc_model.specs.Exchanges.{exchange_in};
-ghost use Rattle.hc_rows.specs.Stands.{names_kept, open_at, gate_of};
+ghost use Rattle.hc_state.specs.Stands.{names_kept, open_at, gate_of};
 
 use hc_event::{Event, Refusal};
-use hc_rows::Rows;
+use hc_state::Rows;
 use hc_rules::{Gate, OpenExchange, refusal_of};
 use hc_store::Backend;
 

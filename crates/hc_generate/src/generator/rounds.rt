@@ -6,7 +6,7 @@ use crate::exchange::owe;
 use crate::generator::Generator;
 use crate::request::{KEYS, drawn_request, key_of};
 use hc_event::Event;
-use hc_rising::{item_at, leave_out, put_in};
+use hc_sorted::{item_at, leave_out, put_in};
 use hc_text::NoMemory;
 
 /// So many consumers are live at most.

@@ -13,7 +13,7 @@ given-requires c =
     only_memory c.loop-round.store.limits _ _ c.put.result
     (omega (arith, small, c.requires.bytes, boundless.entry))
     (omega (arith, c.loop-round.invariant.2, c.requires.bytes, c.requires.room.room, c.loop-round-test.true, boundless.total))
-    c.put.ensures.within (λ is. let rises = c.put.ensures.cause.fault is in absurd (omega (arith, rises)))
+    c.put.ensures.within (λ is. let is_sorted = c.put.ensures.cause.fault is in absurd (omega (arith, is_sorted)))
 
 pub loop-round-preserved : goal.loop-round-preserved
 loop-round-preserved c =

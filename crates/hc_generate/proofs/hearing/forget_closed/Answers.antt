@@ -1,8 +1,8 @@
 use Rattle.std.proofs.Common.{◌≡◌, ◌∙◌, ap, not, rules, of_calls}
 use Rattle.std.specs.List.{list_any}
 use Rattle.std.proofs.lemmas.Fn.{filter_same}
-use Rattle.hc_rising.specs.Rising.{rises}
-use Rattle.hc_rising.proofs.RisingLemmas.{rises-filter}
+use Rattle.hc_sorted.specs.Sorted.{is_sorted}
+use Rattle.hc_sorted.proofs.SortedLemmas.{is_sorted-filter}
 use Rattle.hc_generate.specs.declared.exchange.Exchange.{Exchange}
 use Rattle.hc_generate.specs.Hearing.{closes, still_open}
 use Rattle.hc_generate.specs.Sending.{number_of}
@@ -18,4 +18,4 @@ pub returns-clause-items : goal.returns-clause-items
 returns-clause-items c = kept c
 
 pub returns-clause-ordered : goal.returns-clause-ordered
-returns-clause-ordered c = ap (rises number_of) (kept c) ∙ rises-filter number_of _ c.args.exchanges.now.items c.requires
+returns-clause-ordered c = ap (is_sorted number_of) (kept c) ∙ is_sorted-filter number_of _ c.args.exchanges.now.items c.requires

@@ -1,8 +1,8 @@
 use Rattle.std.proofs.Common.{◌≡◌, ◌∙◌, ℕ, ap, not, rules, of_calls}
 use Rattle.std.specs.List.{list_any}
 use Rattle.std.proofs.lemmas.Fn.{filter_same}
-use Rattle.hc_rising.specs.Rising.{rises}
-use Rattle.hc_rising.proofs.RisingLemmas.{rises-filter}
+use Rattle.hc_sorted.specs.Sorted.{is_sorted}
+use Rattle.hc_sorted.proofs.SortedLemmas.{is_sorted-filter}
 use Rattle.hc_generate.specs.Hearing.{leaves, still_live}
 use Rattle.hc_generate.specs.States.{itself}
 use Rattle.hc_generate.proofs.ActLemmas.{still_live-any}
@@ -17,4 +17,4 @@ pub returns-clause-items : goal.returns-clause-items
 returns-clause-items c = kept c
 
 pub returns-clause-ordered : goal.returns-clause-ordered
-returns-clause-ordered c = ap (rises itself) (kept c) ∙ rises-filter itself _ c.args.live.now.items c.requires
+returns-clause-ordered c = ap (is_sorted itself) (kept c) ∙ is_sorted-filter itself _ c.args.live.now.items c.requires

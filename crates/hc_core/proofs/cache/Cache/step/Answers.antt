@@ -2,8 +2,8 @@ use Rattle.std.proofs.Common.{refl, arith}
 use Rattle.std.proofs.Math.Logic.{∥∥₁_map}
 use Rattle.hc_event.specs.Acts.{listed}
 use Rattle.hc_rules.specs.Refusals.{refusal_of}
-use Rattle.hc_rows.specs.Stands.{gate_of}
-use Rattle.hc_rows.proofs.Words.{is_there}
+use Rattle.hc_state.specs.Stands.{gate_of}
+use Rattle.hc_state.proofs.Words.{is_there}
 use Rattle.hc_core.proofs.Opened.{next_after}
 use Rattle.hc_core.proofs.Stepping.{some_after, steps_on, keeps_promises}
 use Rattle.hc_core.proofs.cache.Cache.step.Goals as goal

@@ -1,9 +1,9 @@
 use Rattle.std.proofs.Common.{◌≡◌, ℕ, ◌+◌, ◌≤◌, ◌<◌, ◌^◌, List, length, None, refl, ap, sym, ◌∙◌, subst, arith}
 use Rattle.std.specs.Prelude.{option_map}
 use Rattle.hc_sparse.proofs.SizeLemmas.{size-none}
-use Rattle.hc_entries.specs.Entries.{shelf_of}
-use Rattle.hc_entries.specs.Kept.{filled}
-use Rattle.hc_entries.specs.Shelf.{Becomes, unmoved}
+use Rattle.hc_stored.specs.Entries.{shelf_of}
+use Rattle.hc_stored.specs.Kept.{filled}
+use Rattle.hc_stored.specs.Shelf.{Becomes, unmoved}
 use Rattle.hc_core.proofs.BegunItems.{none_put, still_kept, is_placed, more_put, calm_ok}
 use Rattle.hc_core.proofs.rows.begin.put_runs.Goals as goal
 

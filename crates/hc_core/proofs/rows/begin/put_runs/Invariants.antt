@@ -1,5 +1,5 @@
 use Rattle.std.proofs.Common.{take}
-use Rattle.hc_entries.specs.Entries.{shelf_of}
+use Rattle.hc_stored.specs.Entries.{shelf_of}
 use Rattle.hc_core.proofs.BegunItems.{ArePut}
 use Rattle.hc_core.proofs.rows.begin.put_runs.Given as goal
 

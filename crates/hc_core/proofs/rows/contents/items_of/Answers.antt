@@ -1,11 +1,11 @@
 use Rattle.std.proofs.Common.{◌≡◌, ℕ, ◌+◌, ◌<◌, List, [], ◌∷◌, ◌++◌, length, take, map, get_or, true, refl, ap, sym, ◌∙◌, subst}
 use Rattle.std.specs.Prelude.{is_some}
 use Rattle.std.proofs.lemmas.List.{map-append}
-use Rattle.hc_entries.specs.Entries.{shelf_of}
+use Rattle.hc_stored.specs.Entries.{shelf_of}
 use Rattle.hc_model.specs.Entries.{Content}
 use Rattle.hc_contents.specs.declared.contents.Content as coded
 use Rattle.hc_contents.specs.Told.{told_item}
-use Rattle.hc_rows.specs.Remains.{TellsAll}
+use Rattle.hc_state.specs.Remains.{TellsAll}
 use Rattle.hc_core.proofs.BegunItems.{calm_ok, take_next}
 use Rattle.hc_core.proofs.ContentsTold.{stays_then, idle_at, one_back, tells_more, any_default}
 use Rattle.hc_core.proofs.rows.contents.items_of.Goals as goal

@@ -1,8 +1,8 @@
 use Rattle.std.proofs.Common.{◌≡◌, map, take}
-use Rattle.hc_entries.specs.Entries.{shelf_of}
-use Rattle.hc_entries.specs.Shelf.{Stays}
+use Rattle.hc_stored.specs.Entries.{shelf_of}
+use Rattle.hc_stored.specs.Shelf.{Stays}
 use Rattle.hc_contents.specs.Told.{told_item}
-use Rattle.hc_rows.specs.Remains.{TellsAll}
+use Rattle.hc_state.specs.Remains.{TellsAll}
 use Rattle.hc_core.proofs.rows.contents.items_of.Given as goal
 
 abbrev pub invariant-loop-r : goal.invariant-loop-r

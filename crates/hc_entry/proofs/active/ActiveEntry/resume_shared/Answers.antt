@@ -1,6 +1,6 @@
 use Rattle.std.proofs.Common.{◌≤◌, length, refl, sym, ap, ◌∙◌, arith}
 use Rattle.std.proofs.lemmas.Bool.{and_parts}
-use Rattle.hc_rising.specs.Rising.{has}
+use Rattle.hc_sorted.specs.Sorted.{has}
 use Rattle.hc_rules.specs.declared.admission.BoundKind.TheVariants as kind
 use Rattle.hc_rules.specs.Admissions.{is_same_kind}
 use Rattle.hc_entry.specs.Users.{itself, is_bound_as, rebound}

@@ -3,14 +3,14 @@ use Rattle.hc_entry.specs.declared.seat.Stand.TheVariants as stand
 use Rattle.hc_entry.specs.Seats.{standing}
 use Rattle.hc_entry.specs.Lines.{turn_of}
 use Rattle.hc_entry.proofs.LineLemmas.{stands-held}
-use Rattle.hc_entry.proofs.SeatLemmas.{standing-rises}
+use Rattle.hc_entry.proofs.SeatLemmas.{standing-is_sorted}
 use Rattle.hc_entry.proofs.line.KeyLine.hold.Goals as goal
 
 pub invariant_of-self : goal.invariant_of-self
 invariant_of-self c =
     let i = c.self.inside in
     let was = c.self.invariant in
-    let rise = standing-rises stand.InLine i.seats.entries was.distinct in
+    let rise = standing-is_sorted stand.InLine i.seats.entries was.distinct in
     record {
       distinct = was.distinct;
       placed = was.placed;

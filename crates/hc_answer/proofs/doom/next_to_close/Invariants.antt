@@ -1,6 +1,0 @@
-use Rattle.hc_rows.specs.Dooms.{behind}
-use Rattle.hc_answer.proofs.DoomLoops.{IsNextBelow}
-use Rattle.hc_answer.proofs.doom.next_to_close.Given as goal
-
-abbrev pub invariant-loop-i : goal.invariant-loop-i
-invariant-loop-i g l = IsNextBelow l.fn.rows l.key l.fn.refused (behind l.last) l.i l.next

@@ -1,0 +1,12 @@
+use Rattle.std.proofs.Common.{◌≡◌, ◌-◌, ◌^◌}
+use Rattle.hc_driver.proofs.Runs.{IsOn}
+use Rattle.hc_driver.proofs.through.run.Given as goal
+
+abbrev pub invariant-loop-events : goal.invariant-loop-events
+invariant-loop-events g l = IsOn g.T.Stepper.answers l.fn.on l.on l.fn.moment (g.S.Source.given l.fn.source)
+    (record { number = l.report.number; steps = g.T.Stepper.steps l.on; received = g.T.Stepper.received l.on; moment = g.T.Stepper.moment l.on; given = g.S.Source.given l.source })
+    l.feed (g.S.Source.left l.fn.source) (g.S.Source.left l.source) (g.K.Sink.taken l.fn.sink) (g.K.Sink.taken l.sink)
+    × (g.S.Source.faults l.source ≡ g.S.Source.faults l.fn.source) × (g.K.Sink.faults l.sink ≡ g.K.Sink.faults l.fn.sink)
+
+abbrev pub decreases-loop-events : goal.decreases-loop-events
+decreases-loop-events g l = 2 ^ 60 - g.S.Source.given l.source

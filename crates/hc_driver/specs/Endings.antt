@@ -1,0 +1,61 @@
+-- What came of a schedule that was read, stepped and reported.
+use Rattle.std.specs.Prelude.{◌≡◌, ℕ, List, ◌++◌, Option, Some, None, Result, Ok, Err}
+use Rattle.hc_event.specs.declared.event.Event.{Event}
+use Rattle.hc_event.specs.declared.act.Act.{Act}
+use Rattle.hc_io.specs.Source.{Gives, GivesAll}
+use Rattle.hc_sched.specs.declared.schedule.Ended.{Ended}
+use Rattle.hc_sched.specs.declared.schedule.Ended.TheVariants as ended
+use Rattle.hc_sched.specs.declared.schedule.Refused.{Refused}
+use Rattle.hc_sched.specs.declared.schedule.Timed.{Timed}
+use Rattle.hc_sched.specs.declared.place.Place.{Place}
+use Rattle.hc_sched.specs.Reading.{Progress, Reads, Stopped, after, events_in}
+use Rattle.hc_sched.specs.Feeding.{beginning}
+use Rattle.hc_sched.specs.Laws.{refusal_of}
+use Rattle.hc_driver.specs.declared.stop.Stop.{Stop}
+use Rattle.hc_driver.specs.declared.stop.Stop.TheVariants as stop
+use Rattle.hc_driver.specs.Stepping.{Steps, StepsSome}
+
+-- the reading wasn't stopped
+abbrev pub IsReading : Progress → Type 0
+IsReading progress = (place : Place) × (line : List ℕ) × (progress ≡ Reads place line)
+
+-- What came of one piece of a text: the reading went on and all of its events were reported, or up to a refusal, or some first of them were.
+abbrev pub Goes : {A : Type 0} → (A → ℕ → Event → List Act → A → Type 0) → A → A → ℕ → Progress → List ℕ → Progress → Option (List ℕ) → Option (List ℕ) → Result (Unit {0}) Stop → Type 0
+Goes answers s u n before piece now out out' (Ok done) =
+    (after before piece ≡ now) × Steps answers s u n (events_in before piece) out out'
+Goes answers s u n before piece now out out' (Err (stop.Refused refused)) =
+    (after before piece ≡ Stopped refused) × Steps answers s u n (events_in before piece) out out'
+Goes answers s u n before piece now out out' (Err stop.SourceFailed) = ⊥
+Goes answers s u n before piece now out out' (Err _) =
+    StepsSome answers s n (events_in before piece) out out'
+
+-- what a text brings that begins at this moment
+abbrev pub brought : ℕ → List ℕ → List Timed
+brought moment text = events_in (beginning moment) text
+
+-- a text is refused so, whatever follows it
+abbrev pub IsRefused : ℕ → List ℕ → Refused → Type 0
+IsRefused moment text refused = (more : List ℕ) → refusal_of moment (text ++ more) ≡ Some refused
+
+-- What came of a schedule from this moment on, by how it ended: what its source had left before and
+-- after, and what its sink had taken.
+pub data Ends {A : Type 0} (answers : A → ℕ → Event → List Act → A → Type 0) (s u : A) (moment : ℕ) (left left' out out' : Option (List ℕ)) : Ended → Type 0 where
+  -- the whole text is a schedule, and its report was taken
+  done : (text : List ℕ) → GivesAll left left' text → refusal_of moment text ≡ None →
+      Steps answers s u 0 (brought moment text) out out' → Ends answers s u moment left left' out out' ended.Done
+  -- the text is refused where it was read to, and the report of what came before was taken
+  refused : (text : List ℕ) (refused : Refused) → Gives left left' text → IsRefused moment text refused →
+      Steps answers s u 0 (brought moment text) out out' →
+      Ends answers s u moment left left' out out' (ended.Refused refused)
+  -- the whole text is cut short
+  cut_short : (text : List ℕ) (refused : Refused) → GivesAll left left' text →
+      refusal_of moment text ≡ Some refused → Steps answers s u 0 (brought moment text) out out' →
+      Ends answers s u moment left left' out out' (ended.Refused refused)
+  -- the report of the whole items was taken of what could be read
+  unreadable : (text : List ℕ) → Gives left left' text → Steps answers s u 0 (brought moment text) out out' →
+      Ends answers s u moment left left' out out' ended.SourceFailed
+  -- some first part of a report was taken, of some first events of what was read
+  unwritten : (text : List ℕ) → Gives left left' text → StepsSome answers s 0 (brought moment text) out out' →
+      Ends answers s u moment left left' out out' ended.SinkFailed
+  wanting : (text : List ℕ) → Gives left left' text → StepsSome answers s 0 (brought moment text) out out' →
+      Ends answers s u moment left left' out out' ended.NoMemory

@@ -1,0 +1,87 @@
+//! A whole schedule.
+ghost use Rattle.std.specs.Prelude.{◌≡◌, ◌≢◌, ◌+◌, ◌<◌, ◌≤◌, ◌^◌, IsErrOf};
+ghost use Rattle.hc_io.specs.Faults.{HasRisen};
+ghost use Rattle.hc_driver.specs.Endings.{Ends};
+ghost use Rattle.hc_driver.specs.Stops.{ended_as};
+ghost use Rattle.hc_sched.specs.declared.schedule.Ended.TheVariants as ended;
+
+use crate::report::Report;
+use crate::stop::Stop;
+use hc_event::Stepper;
+use hc_io::{Sink, Source};
+use hc_sched::{Ended, Feed};
+use std::alloc::Global;
+
+/// How many bytes are read at once.
+const PIECE: usize = 16_384;
+
+/// Reads a schedule from this moment on, in seconds since 1970, steps its events as soon as their
+/// items are whole, and writes the report of each before the next one is stepped.
+///
+/// At Done the whole text is a schedule. At Refused the text is refused by the grammar at that line,
+/// and the report is that of the events before it; at SourceFailed it is that of the events whose
+/// items are whole in what was read. At SinkFailed and NoMemory some first part of a report is
+/// written. WireFailed never comes.
+pub fn step_through<T: Stepper, S: Source, K: Sink>(
+    alloc: Global,
+    moment: u64,
+    on: &mut T,
+    source: &mut S,
+    sink: &mut K,
+) -> Ended
+    requires small { moment < 2 ^ 62 }
+    requires later { T.moment on.old ≤ moment }
+    requires new { T.steps on.old + T.received on.old ≡ 0 }
+    ensures ends { Ends T.answers on.old on.new moment (S.left source.old) (S.left source.new)
+        (K.taken sink.old) (K.taken sink.new) result }
+
+    // A fault comes only where one was counted, and none is counted where none comes.
+    ensures source { result ≡ ended.SourceFailed
+        → HasRisen (S.faults source.old) (S.faults source.new) }
+    ensures source_calm { result ≢ ended.SourceFailed → S.faults source.new ≡ S.faults source.old }
+    ensures sink { result ≡ ended.SinkFailed
+        → HasRisen (K.faults sink.old) (K.faults sink.new) }
+    ensures sink_calm { result ≢ ended.SinkFailed → K.faults sink.new ≡ K.faults sink.old }
+{
+    match run(alloc, moment, on, source, sink) {
+        Ok(()) => Ended::Done,
+        Err(stop) => stop.ended(),
+    }
+}
+
+/// The same, up to what stops it.
+fn run<T: Stepper, S: Source, K: Sink>(
+    alloc: Global,
+    moment: u64,
+    on: &mut T,
+    source: &mut S,
+    sink: &mut K,
+) -> Result<(), Stop>
+    requires small { moment < 2 ^ 62 }
+    requires later { T.moment on.old ≤ moment }
+    requires new { T.steps on.old + T.received on.old ≡ 0 }
+    ensures ends { Ends T.answers on.old on.new moment (S.left source.old) (S.left source.new)
+        (K.taken sink.old) (K.taken sink.new) (ended_as result) }
+    ensures source { IsErrOf result Stop.SourceFailed
+        → HasRisen (S.faults source.old) (S.faults source.new) }
+    ensures source_calm { ended_as result ≢ ended.SourceFailed
+        → S.faults source.new ≡ S.faults source.old }
+    ensures sink { IsErrOf result Stop.SinkFailed
+        → HasRisen (K.faults sink.old) (K.faults sink.new) }
+    ensures sink_calm { ended_as result ≢ ended.SinkFailed
+        → K.faults sink.new ≡ K.faults sink.old }
+{
+    let mut feed = Feed::after(alloc, moment);
+    let mut report = Report::new(alloc);
+    let mut events = Vec::new(alloc);
+    let mut piece = [0; PIECE];
+    loop {
+        let n = source.read(&mut piece)?;
+        if n == 0 {
+            break;
+        }
+        report.step_piece(&mut feed, &piece[..n], &mut events, on, sink)?;
+    }
+    feed.finish()?;
+    Ok(())
+}

@@ -1,9 +1,0 @@
-use Rattle.std.proofs.Common.{◌≡◌, ◌++◌}
-use Rattle.std.specs.Prelude.{filter, reverse}
-use Rattle.std.specs.Map.{keys_of}
-use Rattle.hc_entries.specs.Entries.{shelf_of}
-use Rattle.hc_entries.specs.Shelf.{is_unused, idle}
-use Rattle.hc_entries.proofs.entries.Entries.idle.Given as goal
-
-abbrev pub invariant-loop-r : goal.invariant-loop-r
-invariant-loop-r g l = l.idle.items ++ filter (λ r. is_unused ((shelf_of l.self).kept r)) (reverse (keys_of l.r-iterator.iter)) ≡ idle (shelf_of l.self)

@@ -1,8 +1,0 @@
-use Rattle.std.proofs.Common.{refl}
-use Rattle.hc_rows.proofs.Losing.{may_lost, stands_lost}
-use Rattle.hc_leave.proofs.seal.lose_to.Goals as goal
-
-pub returns-clause-lost : goal.returns-clause-lost
-returns-clause-lost g c = λ t v may row nobody nothing stands.
-    c.let_go.ensures.stands _ (may_lost t c.args.r v c.args.alone row may)
-    (stands_lost c.args.rows.now _ t c.args.r v c.args.alone row stands nobody nothing refl refl refl refl refl refl c.lose.ensures.changed c.requires.there)

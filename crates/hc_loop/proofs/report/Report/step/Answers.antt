@@ -1,5 +1,0 @@
-use Rattle.hc_loop.proofs.Spelled.{modest_spelled}
-use Rattle.hc_loop.proofs.report.Report.step.Goals as goal
-
-pub step-requires-clause-modest : goal.step-requires-clause-modest
-step-requires-clause-modest g c = modest_spelled c.args.event.now c.requires.spelled

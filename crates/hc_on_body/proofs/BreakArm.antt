@@ -1,0 +1,116 @@
+-- An exchange breaks: before its head its consumer is put down, and else whoever reads from it fails.
+use Rattle.std.proofs.Common.{◌≡◌, ◌≢◌, inl, inr, ℕ, List, [], ◌∷◌, ◌++◌, Bool, true, false, Option, Some, None, refl, ap, sym, ◌∙◌, subst}
+use mathlib.Core.Path.{fun_ext}
+use Rattle.std.specs.Prelude.{is_some, is_none, nat_eq, option_map, ◌&&◌, ◌==◌, if◌then◌else◌}
+use Rattle.std.specs.HashMap.{get}
+use Rattle.hc_store.specs.declared.backend.Backend.{Ghosts}
+use Rattle.hc_event.specs.declared.act.Cause.{Cause}
+use Rattle.hc_event.specs.declared.act.Cause.TheVariants as cause
+use Rattle.hc_event.specs.declared.event.Response.{Response}
+use Rattle.hc_exch.specs.Exchanges as exch
+use Rattle.hc_exch.specs.Known as known
+use Rattle.hc_event.specs.declared.place.Place.{Place}
+use Rattle.hc_event.specs.declared.place.Place.TheVariants as place
+use Rattle.hc_event.specs.declared.place.BoundBy.{BoundBy}
+use Rattle.hc_event.specs.declared.place.BoundBy.TheVariants as by
+use Rattle.hc_model.specs.Effects.{closed, over, with_consumer, with_exchange}
+use Rattle.hc_model.specs.Effects as effects
+use Rattle.hc_model.specs.Exchanges.{family, is_headless}
+use Rattle.hc_model.specs.Kinds.{brings_to}
+use Rattle.hc_model.specs.Lawful.{Lawful}
+use Rattle.hc_model.specs.Owners.{IsAwaiting}
+use Rattle.hc_model.specs.Owners as owners
+use Rattle.hc_model.specs.Rows as rows
+use Rattle.hc_model.specs.Rows.{Tables, Exchange, Representation}
+use Rattle.hc_state.specs.declared.consumer.Consumer.{Consumer}
+use Rattle.hc_state.specs.declared.rows.Rows.{Rows}
+use Rattle.hc_state.specs.Changes.{ChangesAt, put_down}
+use Rattle.hc_state.specs.Kept.{answer_for, answer_at}
+use Rattle.hc_state.specs.Leaving.{LeavesPlace}
+use Rattle.hc_state.specs.Stands.{RowsStand}
+use Rattle.hc_state.specs.Stopped.{NobodyAwaits, Waited}
+use Rattle.hc_state.proofs.Closing.{stands_unstored}
+use Rattle.hc_state.proofs.Dropping.{stands_down, moved_to}
+use Rattle.hc_state.proofs.Words.{same_or, eqb-same, eqb-other, then_false, none_some, false_true, some_is, same_row}
+
+-- the rows once it is closed, told in two ways
+abbrev mapped_over : Tables → ℕ → ℕ → Option Exchange
+mapped_over t x y = if x == y then option_map over (t.exchange y) else t.exchange y
+
+abbrev told_over : Tables → ℕ → Exchange → ℕ → Option Exchange
+told_over t x w y = if x == y then Some (over w) else t.exchange y
+
+over_rows : (t : Tables) (x : ℕ) (w : Exchange) → t.exchange x ≡ Some w → mapped_over t x ≡ told_over t x w
+over_rows t x w row = fun_ext (λ y. elim (same_or x y) [
+  | inl e ↦
+      let on : nat_eq x y ≡ true = ap (nat_eq x) (sym e) ∙ eqb-same x in
+      let here : t.exchange y ≡ Some w = sym (ap t.exchange e) ∙ row in
+      rw (on, here) refl
+  | inr ne ↦ rw (eqb-other x y ne) refl
+])
+
+pub closed_is : (t : Tables) (x : ℕ) (w : Exchange) → t.exchange x ≡ Some w → closed x t ≡ with_exchange x (Some (over w)) t
+closed_is t x w row = ap (λ (f : ℕ → Option Exchange). record t { exchange = f }) (over_rows t x w row)
+
+-- BEFORE ITS HEAD
+
+module _ (t : Tables) (law : Lawful t) (x c : ℕ) (w : Exchange) (k : rows.Consumer) (waits : Waited t x c w k) (why : Cause) where
+  abbrev s : Tables
+  s = with_consumer c (Some (moved_to (place.Down why) k)) t
+
+  -- it has no head to be shown
+  unanswered : answer_for t k ≡ None
+  unanswered = ap (λ b. if b then None else answer_at t k.place) waits.unshown ∙ by_place (subst (λ (z : rows.Consumer). IsAwaiting x w z.place) same awaits.at)
+    where
+      awaits : Rattle.hc_model.specs.Owners.Awaits t x w
+      awaits = law.owned.waiting x w waits.row waits.is_open waits.bare
+
+      same : awaits.k ≡ k
+      same = same_row (t.consumer w.c) awaits.k k awaits.row (ap t.consumer waits.for_it ∙ waits.consumer)
+
+      by_place : IsAwaiting x w k.place → answer_at t k.place ≡ None
+      by_place (owners.direct way at) = ap (answer_at t) at ∙ (ap Rattle.hc_state.specs.Kept.head_in waits.row ∙ waits.bare)
+      by_place (owners.turn way at) = ap (answer_at t) at
+      by_place (owners.hole r lo hi how way aim at) = ap (answer_at t) at
+
+  unawaited : NobodyAwaits s x
+  unawaited d r lo hi u is at = elim (same_or c d) [
+    | inl e ↦
+        let here : s.consumer c ≡ Some (moved_to (place.Down why) k) = rw (eqb-same c) refl in
+        let mine : u ≡ moved_to (place.Down why) k = some_is u (moved_to (place.Down why) k) (sym is ∙ (sym (ap s.consumer e) ∙ here)) in
+        absurd (down_not_bound (sym (ap (λ (z : rows.Consumer). z.place) mine) ∙ at))
+    | inr ne ↦
+        let same : s.consumer d ≡ t.consumer d = rw (eqb-other c d ne) refl in
+        let first = law.owned.first_own d r lo x hi u (sym same ∙ is) at in
+        let same_w : first.w ≡ w = same_row (t.exchange x) first.w w first.row waits.row in
+        absurd (ne (sym waits.for_it ∙ (ap (λ (z : Exchange). z.c) (sym same_w) ∙ first.for_it)))
+  ]
+    where
+      down_not_bound : place.Down why ≡ place.Bound r lo hi (by.FirstHole x) → ⊥
+      down_not_bound h = cc
+
+  -- it founded nothing
+  apart : (q : ℕ) (p : Representation) → t.representation q ≡ Some p → p.is_gone ≡ false → brings_to q x (t.exchange x) ≡ false
+  apart q p there stays = ap (brings_to q x) waits.row ∙ elim (same_or (family x w) q) [
+    | inl e ↦
+        let joined = (law.sound.waits.headless x w waits.row waits.bare).1 in
+        let own : family x w ≡ x = rw joined refl in
+        let none : t.representation q ≡ None = ap t.representation (sym e ∙ own) ∙ law.sound.numbered.names.unfounded x w waits.row waits.bare in
+        none_some p (sym none ∙ there)
+    | inr ne ↦ then_false w.is_open (nat_eq (family x w) q) (eqb-other (family x w) q ne)
+  ]
+
+  pub stands_broken : {B : Type 0} {g : Ghosts B} (r mid down u : Rows B g) (q : Consumer) → RowsStand r t → get nat_eq r.consumers c ≡ Some q → LeavesPlace r mid c q
+      → down.limits ≡ mid.limits → down.received ≡ mid.received → down.last_start ≡ mid.last_start → down.exchanges ≡ mid.exchanges → down.keys ≡ mid.keys → down.entries ≡ mid.entries → ChangesAt mid.consumers down.consumers c (put_down why)
+      → u.limits ≡ down.limits → u.received ≡ down.received → u.last_start ≡ down.last_start → u.consumers ≡ down.consumers → u.keys ≡ down.keys → u.entries ≡ down.entries → exch.Becomes known.closed x down.exchanges u.exchanges
+      → RowsStand u (with_consumer c (Some (effects.put_down why k)) (with_exchange x (Some (over w)) t))
+  stands_broken r mid down u q stands at left limits received last exchanges keys entries changes limits_u received_u last_u consumers_u keys_u entries_u closes =
+      subst (RowsStand u) (closed_is s x w waits.row)
+      (stands_unstored down u s x now unawaited apart limits_u received_u last_u consumers_u keys_u entries_u closes)
+    where
+      now : RowsStand down s
+      now = stands_down r down t law c q k waits.consumer at stands (limits ∙ left.limits) (received ∙ left.received) (last ∙ left.last_start)
+          (subst (λ z. Rattle.hc_state.specs.Leaving.LeavesKey c q.request.key r.keys z) (sym keys) left.line)
+          (subst (λ z. Rattle.hc_state.specs.Leaving.Forgets q.own r.exchanges z) (sym exchanges) left.forgets)
+          (subst (λ z. Rattle.hc_state.specs.Leaving.UnbindsAt q.place c (Rattle.hc_stored.specs.Entries.shelf_of r.entries) (Rattle.hc_stored.specs.Entries.shelf_of z)) (sym entries) left.unbinds)
+          why unanswered (subst (λ z. ChangesAt z down.consumers c (put_down why)) left.consumers changes)

@@ -1,0 +1,70 @@
+-- Nobody came alone to what has no known length: who came alone knows where its part ends.
+use Rattle.std.proofs.Common.{◌≡◌, ℕ, Bool, true, false, Option, Some, None, refl, ap, sym, ◌∙◌, subst}
+use Rattle.std.proofs.lemmas.Bool.Decides.{nat_tests}
+use Rattle.std.specs.Prelude.{is_some, option_map, ◌&&◌, ◌==◌, if◌then◌else◌}
+use Rattle.hc_event.specs.declared.place.Place.{Place}
+use Rattle.hc_event.specs.declared.place.Place.TheVariants as place
+use Rattle.hc_event.specs.declared.place.BoundBy.{BoundBy}
+use Rattle.hc_model.specs.ConsumerRows.{back_in_line}
+use Rattle.hc_model.specs.Effects.{let_go, back_from, gone, waits_for}
+use Rattle.hc_model.specs.Measures.{Measures}
+use Rattle.hc_model.specs.Reading.{is_bound_place}
+use Rattle.hc_model.specs.Rows as rows
+use Rattle.hc_model.specs.Rows.{Tables, Representation}
+use Rattle.hc_model.specs.Sound.{Sound, IsBound}
+use Rattle.hc_model.specs.Sound as sound
+use Rattle.hc_model.specs.Writers.{came_alone, status_in}
+use Rattle.hc_laws.proofs.HasBound.{bound_at}
+use Rattle.hc_state.specs.Stored.{is_first}
+use Rattle.hc_state.proofs.OneOfEach.{first_by}
+use Rattle.hc_state.proofs.Words.{false_true, none_some}
+
+abbrev pub NobodyFirst : Tables → ℕ → Type 0
+NobodyFirst t x = (d : ℕ) → is_first t x (t.consumer d) ≡ false
+
+parts_on : (a b : Bool) → (a && b) ≡ true → (a ≡ true) × (b ≡ true)
+parts_on true true on = (refl, refl)
+parts_on true false on = (refl, on)
+parts_on false b on = false_true on
+
+pub nobody_first : (t : Tables) (x : ℕ) (v : Representation) → Sound t → Measures t → t.representation x ≡ Some v → v.head.total ≡ None → NobodyFirst t x
+nobody_first t x v s measures there unknown d = by_row (t.consumer d) refl
+  where
+    never : (k : rows.Consumer) → t.consumer d ≡ Some k → (lo : ℕ) (hi : Option ℕ) (how : BoundBy) → k.place ≡ place.Bound x lo hi how → came_alone t (place.Bound x lo hi how) ≡ true → ⊥
+    never k row lo None how at alone = false_true (s.writes.known_end x d lo None how k row at alone)
+    never k row lo (Some end) how at alone =
+        let ends = measures.ends x d lo end how k v row at there in
+        none_some ends.total (sym unknown ∙ ends.known)
+
+    by_bound : {P : Type 0} (k : rows.Consumer) → came_alone t k.place ≡ true → IsBound t x d k → P
+    by_bound k alone (sound.is_bound lo hi how row at) = absurd (never k row lo hi how at (sym (ap (came_alone t) at) ∙ alone))
+
+    by_test : (k : rows.Consumer) → t.consumer d ≡ Some k → (b : Bool) → is_first t x (Some k) ≡ b → b ≡ false
+    by_test k row false is = refl
+    by_test k row true is =
+        let parts = parts_on (is_bound_place x k.place) (came_alone t k.place) is in
+        by_bound k parts.1 (bound_at t x d k k.place row refl parts.0)
+
+    by_row : (o : Option rows.Consumer) → t.consumer d ≡ o → is_first t x o ≡ false
+    by_row None row = refl
+    by_row (Some k) row = by_test k row (is_first t x (Some k)) refl
+
+-- letting go makes nobody one who came alone
+module _ (now q x : ℕ) (t : Tables) where
+  status_gone : (b : Bool) (o : Option Representation) → status_in (if b then option_map gone o else o) ≡ status_in o
+  status_gone true None = refl
+  status_gone true (Some v) = refl
+  status_gone false o = refl
+
+  back_first : (b : Bool) (k : rows.Consumer) → is_first t x (Some k) ≡ false → is_first t x (Some (if b then back_in_line now k else k)) ≡ false
+  back_first true k off = refl
+  back_first false k off = off
+
+  row_first : (o : Option rows.Consumer) → is_first t x o ≡ false → is_first t x (option_map (back_from now q) o) ≡ false
+  row_first None off = refl
+  row_first (Some k) off = back_first (waits_for q k.place) k off
+
+  pub nobody_first_go : NobodyFirst t x → NobodyFirst (let_go now q t) x
+  nobody_first_go nobody d =
+      first_by t (let_go now q t) (λ n. status_gone (q == n) (t.representation n)) x ((let_go now q t).consumer d)
+      ∙ row_first (t.consumer d) (nobody d)

@@ -1,0 +1,167 @@
+-- A failure becomes due to some consumers: what is kept stands for the tables in which it is.
+use Rattle.std.proofs.Common.{◌≡◌, ℕ, List, [], Bool, true, false, Option, Some, None, refl, ap, sym, ◌∙◌, subst}
+use Rattle.std.specs.Prelude.{is_some, nat_eq, bytes_eq, drop, option_map, ◌&&◌, ◌==◌, if◌then◌else◌}
+use Rattle.std.specs.Option.{option_or}
+use Rattle.std.specs.HashMap.{get, hash_map_len}
+use Rattle.hc_store.specs.declared.backend.Backend.{Ghosts}
+use Rattle.hc_event.specs.declared.act.Cause.{Cause}
+use Rattle.hc_stored.specs.Entries.{shelf_of}
+use Rattle.hc_entry.specs.Keys.{kept_of}
+use Rattle.hc_exch.specs.Exchanges.{table_of, next_of}
+use Rattle.hc_event.specs.declared.place.Place.{Place}
+use Rattle.hc_event.specs.declared.place.Place.TheVariants as place
+use Rattle.hc_event.specs.declared.place.BoundBy.TheVariants as by
+use Rattle.hc_model.specs.Currents.{current}
+use Rattle.hc_model.specs.Denials.{is_live, live}
+use Rattle.hc_model.specs.Effects.{failing}
+use Rattle.hc_model.specs.Exchanges.{family}
+use Rattle.hc_model.specs.LettingGo.{MayLetGo}
+use Rattle.hc_model.specs.Lines.{is_in_line}
+use Rattle.hc_model.specs.Reading.{is_bound}
+use Rattle.hc_model.specs.Rows as rows
+use Rattle.hc_model.specs.Rows.{Tables, Exchange, Representation}
+use Rattle.hc_state.specs.declared.consumer.Consumer.{Consumer}
+use Rattle.hc_state.specs.declared.rows.Rows.{Rows}
+use Rattle.hc_state.specs.Changes.{ChangesAmong, with_due}
+use Rattle.hc_state.specs.Kept.{IsKept, KeepsConsumer, held_for, held_of, held_alone, unread, unstored}
+use Rattle.hc_state.specs.Lines.{has_turn, is_passed, is_away, is_away_at}
+use Rattle.hc_state.specs.Stands.{RowsStand}
+use Rattle.hc_state.specs.Stopped.{with_consumers, NobodyAwaits, due_for}
+use Rattle.hc_state.specs.Stored.{is_first}
+use Rattle.hc_state.proofs.AsideSteps.{live_same}
+use Rattle.hc_state.proofs.Asides.{unstored_moved}
+use Rattle.hc_state.proofs.OneOfEach.{entries_same}
+use Rattle.hc_state.proofs.Ties.{consumer_same, exchange_same, key_same, kept_same}
+use Rattle.hc_state.proofs.Words.{none_some, some_is, as_received}
+
+module _ (t : Tables) (among : ℕ → Bool) (why : Cause) where
+  abbrev pub s : Tables
+  s = with_consumers (due_for t among why) t
+
+  -- what doesn't look at what is due is told as before
+  pub told_same : {A : Type 0} (f : Option rows.Consumer → A) → ((k : rows.Consumer) → f (Some (failing (Some why) k)) ≡ f (Some k)) → (d : ℕ) → f (s.consumer d) ≡ f (t.consumer d)
+  told_same f same d = by_test (among d) (t.consumer d)
+    where
+      by_test : (b : Bool) (o : Option rows.Consumer) → f (if b then option_map (failing (Some why)) o else o) ≡ f o
+      by_test true None = refl
+      by_test true (Some k) = same k
+      by_test false o = refl
+
+  -- whoever it is now, it was there, and stood where it stands
+  pub record Stood (d : ℕ) (u : rows.Consumer) : Type 0 where
+    pub k : rows.Consumer
+    pub row : t.consumer d ≡ Some k
+    pub place_is : u.place ≡ k.place
+    pub request_is : u.request ≡ k.request
+    pub own_is : u.own ≡ k.own
+
+  pub stood : (d : ℕ) (u : rows.Consumer) → s.consumer d ≡ Some u → Stood d u
+  stood d u is = by_test (among d) (t.consumer d) refl is
+    where
+      same : (k z : rows.Consumer) → t.consumer d ≡ Some k → z.place ≡ k.place → z.request ≡ k.request → z.own ≡ k.own → Some z ≡ Some u → Stood d u
+      same k z row place request own h =
+          let one : z ≡ u = some_is z u h in
+          record { k = k; row = row; place_is = ap (λ (q : rows.Consumer). q.place) (sym one) ∙ place; request_is = ap (λ (q : rows.Consumer). q.request) (sym one) ∙ request; own_is = ap (λ (q : rows.Consumer). q.own) (sym one) ∙ own }
+
+      by_test : (b : Bool) (o : Option rows.Consumer) → t.consumer d ≡ o → (if b then option_map (failing (Some why)) o else o) ≡ Some u → Stood d u
+      by_test true None row h = none_some u h
+      by_test true (Some k) row h = same k (failing (Some why) k) row refl refl refl h
+      by_test false None row h = none_some u h
+      by_test false (Some k) row h = same k k row refl refl refl h
+
+  -- WHAT MAY BE LET GO
+
+  pub may_due : MayLetGo t → MayLetGo s
+  may_due may = record {
+    one_current = may.one_current;
+    founded = may.founded;
+    started = λ d some. may.started d (sym (told_same (λ o. is_some o) (λ k. refl) d) ∙ some);
+    waits = λ d r kept u is at.
+        let was = stood d u is in
+        let w = may.waits d r kept was.k was.row (sym was.place_is ∙ at) in
+        record {
+          v = w.v;
+          row = w.row;
+          key_is = w.key_is ∙ ap (λ (q : Rattle.hc_event.specs.declared.event.Request.Request). q.key) (sym was.request_is);
+          not_gone = w.not_gone;
+          queues = subst (λ (q : Rattle.hc_event.specs.declared.event.Request.Request). Rattle.hc_model.specs.Places.Queues (record u { request = q })) (sym was.request_is) (record { cached = w.queues.cached; asks = w.queues.asks });
+        };
+  }
+
+  pub awaits_due : (x : ℕ) → NobodyAwaits t x → NobodyAwaits s x
+  awaits_due x nobody d r lo hi u is at = (let was = stood d u is in nobody d r lo hi was.k was.row (sym was.place_is ∙ at))
+
+  -- CONSUMERS
+
+  kept_due : (k : Consumer) (v : rows.Consumer) → IsKept t k v → IsKept s (with_due why k) (failing (Some why) v)
+  kept_due k v kp =
+      let now : IsKept s k v = kept_same t s k v (record { past = λ x at. refl; length = λ q lo hi how at. refl }) kp in
+      record {
+        is_there = now.is_there;
+        request = now.request;
+        class_is = now.class_is;
+        since = now.since;
+        place = now.place;
+        own = now.own;
+        shown = now.shown;
+        answer = now.answer;
+        begins = now.begins;
+        ends = now.ends;
+        given = now.given;
+        due = ap (λ (o : Option Cause). option_or o (Some why)) now.due;
+      }
+
+  consumer_due : (b : Bool) (o : Option Consumer) (row : Option rows.Consumer) → KeepsConsumer t o row → KeepsConsumer s (if b then option_map (with_due why) o else o) (if b then option_map (failing (Some why)) row else row)
+  consumer_due true None None kept = kept
+  consumer_due true None (Some v) kept = kept
+  consumer_due true (Some k) None kept = kept
+  consumer_due true (Some k) (Some v) kept = kept_due k v kept
+  consumer_due false o row kept = consumer_same t s o row (λ v is. record { past = λ x at. refl; length = λ q lo hi how at. refl }) kept
+
+  -- KEYS AND WHAT IS HELD
+
+  away_as : (key : List ℕ) (o : Option rows.Consumer) → is_away s key o ≡ is_away t key o
+  away_as key None = refl
+  away_as key (Some k) = ap (λ b. bytes_eq k.request.key key && b) (by_place k.place)
+    where
+      by_place : (p : Place) → is_away_at s p ≡ is_away_at t p
+      by_place (place.Bound r lo hi (by.FirstHole y)) = refl
+      by_place (place.Bound r lo hi by.Founding) = refl
+      by_place (place.Bound r lo hi by.Plan) = refl
+      by_place place.Line = refl
+      by_place (place.Passed q kept) = refl
+      by_place (place.Turn y) = refl
+      by_place (place.Direct y) = refl
+      by_place (place.Down cause) = refl
+      by_place place.Over = refl
+
+  held_due : (y : ℕ) (o : Option Exchange) → held_for s y o ≡ held_for t y o
+  held_due y None = refl
+  held_due y (Some w) = by_row (t.representation (family y w))
+    where
+      alone_due : (v : Representation) (c : Option ℕ) → held_alone s y w v c ≡ held_alone t y w v c
+      alone_due v None = refl
+      alone_due v (Some c) = told_same (unstored s y w v) (λ k. refl) c ∙ unstored_moved t s y w v (t.consumer c)
+
+      by_row : (z : Option Representation) → held_of s y w z ≡ held_of t y w z
+      by_row None = told_same (unread y w) (λ k. refl) w.c
+      by_row (Some v) = alone_due v v.alone
+
+-- ALL OF IT
+
+pub stands_due : {B : Type 0} {g : Ghosts B} (r u : Rows B g) (t : Tables) (among : ℕ → Bool) (why : Cause) → RowsStand r t → u.limits ≡ r.limits → u.received ≡ r.received → u.last_start ≡ r.last_start → u.exchanges ≡ r.exchanges → u.keys ≡ r.keys → u.entries ≡ r.entries
+    → ChangesAmong r.consumers u.consumers among (with_due why) → RowsStand u (with_consumers (due_for t among why) t)
+unfolding current
+stands_due r u t among why stands limits received last exchanges same_keys same_entries changes =
+    let z : Tables = with_consumers (due_for t among why) t in
+    record {
+      limits = rw (same_entries, limits) stands.limits;
+      received = as_received received stands.received;
+      last_start = last ∙ stands.last_start;
+      next = ap (λ e. next_of e) exchanges ∙ stands.next;
+      count = changes.len ∙ (stands.count ∙ sym (live_same t z refl (told_same t among why is_live (λ k. refl))));
+      consumers = λ d. subst (λ o. KeepsConsumer z o (z.consumer d)) (sym (changes.places d)) (consumer_due t among why (among d) (get nat_eq r.consumers d) (t.consumer d) (stands.consumers d));
+      exchanges = λ y. rw exchanges (exchange_same t z y (table_of r.exchanges y) (record { row = refl; brings = λ w at. refl; held = held_due t among why y (t.exchange y) }) (stands.exchanges y));
+      keys = λ key. rw same_keys (key_same t z key (kept_of r.keys key) (record { current = refl; in_line = told_same t among why (is_in_line key) (λ k. refl); passed = told_same t among why (is_passed key) (λ k. refl); away = λ d. told_same t among why (is_away z key) (λ k. refl) d ∙ away_as t among why key (t.consumer d); turn = told_same t among why (has_turn key) (λ k. refl) }) (stands.keys key));
+      entries = rw same_entries (entries_same t z (shelf_of r.entries) (λ q. refl) refl refl (λ q. told_same t among why (is_bound q) (λ k. refl)) (λ q. told_same t among why (is_first t q) (λ k. refl)) (λ q. refl) (λ y on. on) stands.entries);
+    }

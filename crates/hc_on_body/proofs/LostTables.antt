@@ -1,0 +1,135 @@
+-- The tables where a piece is lost for which others gave way: in whichever order that is told, they are the same.
+use Rattle.std.proofs.Common.{◌≡◌, inl, inr, ℕ, List, [], ◌∷◌, Bool, true, false, Option, Some, None, refl, ap, ap₂, sym, ◌∙◌}
+use mathlib.Core.Path.{fun_ext}
+use Rattle.std.specs.Prelude.{◌==◌, option_map, if◌then◌else◌}
+use Rattle.hc_event.specs.declared.event.Event.TheVariants as event
+use Rattle.hc_event.specs.declared.place.Place.{Place}
+use Rattle.hc_event.specs.declared.place.Place.TheVariants as place
+use Rattle.hc_model.specs.Currents.{is_number}
+use Rattle.hc_model.specs.Effects.{all_closed, back_from, counted, gone, if_bound, left_with, let_all_go, let_go, lost_to, over, with_exchange, with_representation, writing_lost}
+use Rattle.hc_model.specs.ExchangeRows.{with_piece}
+use Rattle.hc_model.specs.Exchanges.{front}
+use Rattle.hc_model.specs.RepresentationRows.{filled}
+use Rattle.hc_model.specs.Rows as rows
+use Rattle.hc_model.specs.Rows.{Tables, Exchange, Representation}
+use Rattle.hc_model.proofs.SameTables.{all_go_is, back_from_any, is_in, without}
+use Rattle.hc_state.specs.Heirs.{shared_loss}
+use Rattle.hc_state.specs.Refused.{brought_lost, own_loss}
+use Rattle.hc_state.proofs.Words.{same_or, eqb-same, eqb-other}
+
+-- WHO WAITED, AND WHO READS
+
+-- who waited for one that gives way doesn't read what is lost
+module _ (now r : ℕ) (es : List ℕ) (heir own : Option ℕ) (d : ℕ) where
+  abbrev left : rows.Consumer → rows.Consumer
+  left k = if_bound r (left_with r heir own d) k
+
+  left_later : (k : rows.Consumer) → back_from_any now es (back_from now r (left k)) ≡ back_from now r (left (back_from_any now es k))
+  left_later k = by_place k.place refl
+    where
+      by_place : (p : Place) → k.place ≡ p → back_from_any now es (back_from now r (left k)) ≡ back_from now r (left (back_from_any now es k))
+      by_place (place.Passed q kept) at = by_tests (r == q) (is_in es q) refl refl
+        where
+          by_tests : (a b : Bool) → (r == q) ≡ a → is_in es q ≡ b → back_from_any now es (back_from now r (left k)) ≡ back_from now r (left (back_from_any now es k))
+          by_tests true true a b = rw (at, a, b) refl
+          by_tests true false a b = rw (at, a, b) (rw a refl)
+          by_tests false true a b = rw (at, a, b) refl
+          by_tests false false a b = rw (at, a, b) (rw a refl)
+      by_place (place.Bound q lo hi how) at = by_tests (q == r) (is_number heir d) refl refl
+        where
+          by_tests : (a b : Bool) → (q == r) ≡ a → is_number heir d ≡ b → back_from_any now es (back_from now r (left k)) ≡ back_from now r (left (back_from_any now es k))
+          by_tests true true a b = rw (at, a, b) refl
+          by_tests true false a b = rw (at, a, b) refl
+          by_tests false true a b = rw (at, a) refl
+          by_tests false false a b = rw (at, a) refl
+      by_place place.Line at = rw at refl
+      by_place (place.Turn y) at = rw at refl
+      by_place (place.Direct y) at = rw at refl
+      by_place (place.Down why) at = rw at refl
+      by_place place.Over at = rw at refl
+
+  pub left_then : (o : Option rows.Consumer) → option_map (back_from_any now es) (option_map (back_from now r) (option_map left o)) ≡ option_map (back_from now r) (option_map left (option_map (back_from_any now es) o))
+  left_then None = refl
+  left_then (Some k) = ap Some (left_later k)
+
+module _ (now r : ℕ) (es : List ℕ) where
+  back_later : (k : rows.Consumer) → back_from_any now es (back_from now r k) ≡ back_from now r (back_from_any now es k)
+  back_later k = by_place k.place refl
+    where
+      by_place : (p : Place) → k.place ≡ p → back_from_any now es (back_from now r k) ≡ back_from now r (back_from_any now es k)
+      by_place (place.Passed q kept) at = by_tests (r == q) (is_in es q) refl refl
+        where
+          by_tests : (a b : Bool) → (r == q) ≡ a → is_in es q ≡ b → back_from_any now es (back_from now r k) ≡ back_from now r (back_from_any now es k)
+          by_tests true true a b = rw (at, a, b) refl
+          by_tests true false a b = rw (at, a, b) (rw a refl)
+          by_tests false true a b = rw (at, a, b) refl
+          by_tests false false a b = rw (at, a, b) (rw a refl)
+      by_place (place.Bound q lo hi how) at = rw at refl
+      by_place place.Line at = rw at refl
+      by_place (place.Turn y) at = rw at refl
+      by_place (place.Direct y) at = rw at refl
+      by_place (place.Down why) at = rw at refl
+      by_place place.Over at = rw at refl
+
+  pub back_then : (o : Option rows.Consumer) → option_map (back_from_any now es) (option_map (back_from now r) o) ≡ option_map (back_from now r) (option_map (back_from_any now es) o)
+  back_then None = refl
+  back_then (Some k) = ap Some (back_later k)
+
+-- THE TABLES
+
+module _ (now r x : ℕ) (bytes : List ℕ) (w : Exchange) (v : Representation) (es : List ℕ) (t : Tables) (apart : is_in es r ≡ false) (heir : Option ℕ) where
+  abbrev filled_lost : Representation
+  filled_lost = lost_to heir (filled false (front w) x bytes v)
+
+  abbrev brought : Tables
+  brought = with_exchange x (Some (with_piece bytes w)) t
+
+  -- the row of what is lost, and the others
+  abbrev lost_row : ℕ → Option Representation
+  lost_row q = if r == q then Some filled_lost else t.representation q
+
+  abbrev gone_first : ℕ → Option Representation
+  gone_first q = if is_in es q then option_map gone (t.representation q) else t.representation q
+
+  rows_then : (q : ℕ) → (if is_in es q then option_map gone (if r == q then option_map gone (lost_row q) else lost_row q) else (if r == q then option_map gone (lost_row q) else lost_row q))
+      ≡ (if r == q then Some (filled false (front w) x bytes (gone (lost_to heir v))) else (if r == q then option_map gone (if r == q then Some (lost_to heir v) else gone_first q) else (if r == q then Some (lost_to heir v) else gone_first q)))
+  rows_then q = elim (same_or r q) [
+    | inl e ↦ let off : is_in es q ≡ false = ap (is_in es) (sym e) ∙ apart in rw (e, eqb-same q, off) refl
+    | inr ne ↦ rw (eqb-other r q ne) refl
+  ]
+
+  pub own_tables : counted now (event.Piece x bytes) (let_all_go now es (let_go now r (with_representation r (Some filled_lost) brought)))
+      ≡ brought_lost now r x w bytes (gone (lost_to heir v)) (own_loss now r v heir (let_all_go now es t))
+  own_tables =
+      ap (counted now (event.Piece x bytes)) (all_go_is now es (let_go now r (with_representation r (Some filled_lost) brought)))
+      ∙ ap₂ (λ (f : ℕ → Option Representation) (h : ℕ → Option rows.Consumer). counted now (event.Piece x bytes) (record brought { representation = f; consumer = h }))
+      (fun_ext rows_then) (fun_ext (λ d. back_then now r es (t.consumer d)))
+      ∙ sym (ap (λ (z : Tables). brought_lost now r x w bytes (gone (lost_to heir v)) (own_loss now r v heir z)) (all_go_is now es t))
+
+  consumers_then : (d : ℕ) → option_map (back_from_any now es) (option_map (back_from now r) (option_map (if_bound r (left_with r heir (Some x) d)) (t.consumer d)))
+      ≡ option_map (back_from now r) (option_map (if_bound r (left_with r heir (Some x) d)) (option_map (back_from_any now es) (t.consumer d)))
+  consumers_then d = left_then now r es heir (Some x) d (t.consumer d)
+
+  -- the exchange stays open, or was closed before
+  pub open_tables : counted now (event.Piece x bytes) (let_all_go now es (let_go now r (with_representation r (Some filled_lost) (writing_lost r heir (Some x) brought))))
+      ≡ brought_lost now r x w bytes (gone (lost_to heir v)) (shared_loss now r x v heir (let_all_go now es t))
+  open_tables =
+      ap (counted now (event.Piece x bytes)) (all_go_is now es (let_go now r (with_representation r (Some filled_lost) (writing_lost r heir (Some x) brought))))
+      ∙ ap₂ (λ (f : ℕ → Option Representation) (h : ℕ → Option rows.Consumer). counted now (event.Piece x bytes) (record brought { representation = f; consumer = h }))
+      (fun_ext rows_then) (fun_ext consumers_then)
+      ∙ sym (ap (λ (z : Tables). brought_lost now r x w bytes (gone (lost_to heir v)) (shared_loss now r x v heir z)) (all_go_is now es t))
+
+  -- it is closed
+  shut_tables : counted now (event.Piece x bytes) (let_all_go now es (let_go now r (with_representation r (Some filled_lost) (writing_lost r heir (Some x) (all_closed (x ∷ []) brought)))))
+      ≡ all_closed (x ∷ []) (brought_lost now r x w bytes (gone (lost_to heir v)) (shared_loss now r x v heir (let_all_go now es t)))
+  shut_tables =
+      ap (counted now (event.Piece x bytes)) (all_go_is now es (let_go now r (with_representation r (Some filled_lost) (writing_lost r heir (Some x) (all_closed (x ∷ []) brought)))))
+      ∙ ap₂ (λ (f : ℕ → Option Representation) (h : ℕ → Option rows.Consumer). counted now (event.Piece x bytes) (record (all_closed (x ∷ []) brought) { representation = f; consumer = h }))
+      (fun_ext rows_then) (fun_ext consumers_then)
+      ∙ sym (ap (λ (z : Tables). all_closed (x ∷ []) (brought_lost now r x w bytes (gone (lost_to heir v)) (shared_loss now r x v heir z))) (all_go_is now es t))
+
+  -- it is, where the piece leaves it open
+  pub fails_tables : (b : Bool) → counted now (event.Piece x bytes) (let_all_go now es (let_go now r (with_representation r (Some filled_lost) (writing_lost r heir (Some x) (all_closed (if b then x ∷ [] else []) brought)))))
+      ≡ all_closed (if b then x ∷ [] else []) (brought_lost now r x w bytes (gone (lost_to heir v)) (shared_loss now r x v heir (let_all_go now es t)))
+  fails_tables true = shut_tables
+  fails_tables false = open_tables

@@ -1,0 +1,423 @@
+-- An exchange ends whose head told no length: what came is all. What is kept stands for that.
+use Rattle.std.proofs.Common.{◌≡◌, ◌≢◌, inl, inr, ℕ, ◌+◌, ◌-◌, ◌<◌, ◌≤◌, List, [], length, Bool, true, false, Option, Some, None, refl, ap, sym, ◌∙◌, subst, arith}
+use Rattle.std.proofs.lemmas.Bool.Decides.{nat_tests}
+use Rattle.std.specs.Prelude.{is_some, nat_eq, filter, option_map, not, ◌&&◌, ◌==◌, if◌then◌else◌}
+use Rattle.std.specs.Option.{option_or}
+use Rattle.std.specs.HashMap.{get, hash_map_len}
+use Rattle.hc_store.specs.declared.backend.Backend.{Ghosts}
+use Rattle.hc_event.specs.declared.event.Response.{Response}
+use Rattle.hc_record.specs.declared.kind.Kind.TheVariants as kinds
+use Rattle.hc_record.specs.Head.{Head, sealed_head}
+use Rattle.hc_sparse.specs.Cells.{Cell, Covers, EndsBy}
+use Rattle.hc_stored.specs.Entries.{shelf_of}
+use Rattle.hc_stored.specs.Kept as entry
+use Rattle.hc_stored.specs.Kept.{Kept}
+use Rattle.hc_stored.specs.Shelf.{Shelf}
+use Rattle.hc_entry.specs.Keys.{kept_of}
+use Rattle.hc_entry.specs.Kept as keyed
+use Rattle.hc_exch.specs.Exchanges as exch
+use Rattle.hc_exch.specs.Exchanges.{table_of, next_of}
+use Rattle.hc_exch.specs.Known as known
+use Rattle.hc_exch.specs.Known.{Known}
+use Rattle.hc_event.specs.declared.place.Place.{Place}
+use Rattle.hc_event.specs.declared.place.Place.TheVariants as place
+use Rattle.hc_event.specs.declared.place.BoundBy.{BoundBy}
+use Rattle.hc_model.specs.Currents.{current, is_number, is_usable, total_in}
+use Rattle.hc_model.specs.Effects.{at_end, with_exchange, with_length}
+use Rattle.hc_model.specs.Exchanges.{base, front, family, promised}
+use Rattle.hc_model.specs.Growing.{Grows}
+use Rattle.hc_model.specs.Holes.{covers}
+use Rattle.hc_model.specs.Kinds.{kind_of, is_growing, is_complete, covers_all, brings_to}
+use Rattle.hc_model.specs.Lawful.{Lawful}
+use Rattle.hc_model.specs.Reading.{bound, is_bound, is_bound_place, base_in, end_in, end_of_direct, lo_of, hi_of}
+use Rattle.hc_model.specs.RepresentationRows.{ended}
+use Rattle.hc_model.specs.Rows as rows
+use Rattle.hc_model.specs.Rows.{Tables, Exchange, Representation}
+use Rattle.hc_model.specs.Writers.{status_in}
+use Rattle.hc_model.proofs.HoleLemmas.{covers_yes}
+use Rattle.hc_state.specs.declared.consumer.Consumer.{Consumer}
+use Rattle.hc_state.specs.declared.rows.Rows.{Rows}
+use Rattle.hc_state.specs.Changes.{ChangesAt, ChangesAmong}
+use Rattle.hc_state.specs.Changes as changes
+use Rattle.hc_state.specs.Kept.{IsKept, KeepsConsumer, KeepsExchange, head_in, answer_at, held_for, held_of, held_alone, unstored}
+use Rattle.hc_state.specs.Lines.{KeepsKey}
+use Rattle.hc_state.specs.Stands.{RowsStand}
+use Rattle.hc_state.specs.Stopped.{NobodyAwaits}
+use Rattle.hc_state.specs.Stored.{IsEntry, TellsLength, told, untold, KeepsEntry, KeepsEntries, is_first, is_usable_row, is_over}
+use Rattle.hc_state.proofs.Asides.{unstored_moved}
+use Rattle.hc_on_body.proofs.BreakArm.{closed_is}
+use Rattle.hc_on_body.proofs.CameAlone.{NobodyFirst}
+use Rattle.hc_state.proofs.Closing.{exchange_closed, key_closed, entries_closed}
+use Rattle.hc_on_body.proofs.Ended.{with_over, with_end, told_alike, runs_end, held_end, away_end, base_end, promise_end}
+use Rattle.hc_state.proofs.Losing.{finds_same, filters_same}
+use Rattle.hc_state.proofs.OneOfEach.{first_by, growing_same, kind_same, entries_same}
+use Rattle.hc_state.proofs.SealArm.{any_none, nothing_else}
+use Rattle.hc_state.proofs.Ties.{entry_same, exchange_same, key_same, kept_same, put_over, writer_then}
+use Rattle.hc_state.proofs.Words.{same_or, eqb-same, eqb-other, then_false, none_some, false_true, same_row, as_received}
+
+eq_tells : (a b : ℕ) → nat_eq a b ≡ true → a ≡ b
+eq_tells a b is = grind (arith, nat_tests, is)
+
+-- THE EXCHANGE
+
+module _ (t : Tables) (x : ℕ) (w : Exchange) (row : t.exchange x ≡ Some w) where
+  abbrev pub z : Tables
+  z = with_exchange x (Some (at_end w)) t
+
+  pub exchange_ends : (y : ℕ) (before after : Known) → after ≡ (if nat_eq x y then known.closed before else before) → KeepsExchange t y before → KeepsExchange z y after
+  exchange_ends y before after is kept =
+      let closes : KeepsExchange (with_over x w t.exchange t) y after = subst (λ (s : Tables). KeepsExchange s y after) (closed_is t x w row) (exchange_closed t x y before after is kept) in
+      record {
+        running = runs_end t t.exchange x w y (nat_eq x y) after.running closes.running;
+        held = closes.held ∙ sym (held_end t t.exchange x w y);
+      }
+
+  pub key_ends : NobodyAwaits t x → (key : List ℕ) (k : keyed.Kept) → KeepsKey t key k → KeepsKey z key k
+  unfolding current
+  key_ends nobody key k kept =
+      let closes : KeepsKey (with_over x w t.exchange t) key k = subst (λ (s : Tables). KeepsKey s key k) (closed_is t x w row) (key_closed t x nobody key k kept) in
+      key_same (with_over x w t.exchange t) z key k (record { current = refl; in_line = λ d. refl; passed = λ d. refl; away = λ d. away_end t t.exchange x w key (t.consumer d); turn = λ d. refl }) closes
+
+  -- of what is of no family of it nothing else comes
+  pub growing_apart : (q : ℕ) → family x w ≢ q → is_growing z q ≡ is_growing t q
+  growing_apart q ne = growing_same t z q refl (λ y. elim (same_or x y) [
+    | inl e ↦
+        let after : z.exchange y ≡ Some (at_end w) = rw (e, eqb-same y) refl in
+        let before : t.exchange y ≡ Some w = sym (ap t.exchange e) ∙ row in
+        ap (brings_to q y) after ∙ sym (ap (brings_to q y) before ∙ then_false w.is_open (nat_eq (family y w) q) (ap (λ n. nat_eq (family n w) q) (sym e) ∙ eqb-other (family x w) q ne))
+    | inr off ↦ ap (brings_to q y) (let same : z.exchange y ≡ t.exchange y = rw (eqb-other x y off) refl in same)
+  ])
+
+-- WHAT IT FOUNDED IS SO LONG
+
+module _ (t : Tables) (x n : ℕ) (v : Representation) (there : t.representation x ≡ Some v) (untold_yet : v.head.total ≡ None) where
+  abbrev pub f : Tables
+  f = with_length x n t
+
+  here : f.representation x ≡ Some (ended n v)
+  here = rw (eqb-same x, there) refl
+
+  others : (q : ℕ) → x ≢ q → f.representation q ≡ t.representation q
+  others q ne = rw (eqb-other x q ne) refl
+
+  pub length_is : (ended n v).head.total ≡ Some n
+  length_is = ap (λ o. option_or o (Some n)) untold_yet
+
+  -- what doesn't look at the length is told as before
+  pub told_longer : {A : Type 0} (h : Option Representation → A) → ((u : Representation) → h (Some (ended n u)) ≡ h (Some u)) → (q : ℕ) → h (f.representation q) ≡ h (t.representation q)
+  told_longer h alike q = by_test (nat_eq x q) (t.representation q)
+    where
+      by_test : (b : Bool) (o : Option Representation) → h (if b then option_map (ended n) o else o) ≡ h o
+      by_test true None = refl
+      by_test true (Some u) = alike u
+      by_test false o = refl
+
+  held_longer : (y : ℕ) (o : Option Exchange) → held_for f y o ≡ held_for t y o
+  held_longer y None = refl
+  held_longer y (Some u) = by_test (nat_eq x (family y u)) (t.representation (family y u))
+    where
+      unstored_longer : (p : Representation) (o : Option rows.Consumer) → unstored f y u (ended n p) o ≡ unstored t y u p o
+      unstored_longer p None = refl
+      unstored_longer p (Some k) = unstored_moved t f y u p (Some k)
+
+      alone_longer : (p : Representation) (o : Option ℕ) → held_alone f y u (ended n p) o ≡ held_alone t y u p o
+      alone_longer p None = refl
+      alone_longer p (Some c) = unstored_longer p (t.consumer c)
+
+      alone_moved : (p : Representation) (o : Option ℕ) → held_alone f y u p o ≡ held_alone t y u p o
+      alone_moved p None = refl
+      alone_moved p (Some c) = unstored_moved t f y u p (t.consumer c)
+
+      by_test : (b : Bool) (o : Option Representation) → held_of f y u (if b then option_map (ended n) o else o) ≡ held_of t y u o
+      by_test true None = refl
+      by_test true (Some p) = alone_longer p p.alone
+      by_test false None = refl
+      by_test false (Some p) = alone_moved p p.alone
+
+  pub exchange_longer : (y : ℕ) (k : Known) → KeepsExchange t y k → KeepsExchange f y k
+  exchange_longer y k kept = exchange_same t f y k (record { row = refl; brings = λ u at. told_longer (λ o. is_some o) (λ p. refl) (family y u); held = held_longer y (t.exchange y) }) kept
+
+  pub key_longer : (key : List ℕ) (k : keyed.Kept) → KeepsKey t key k → KeepsKey f key k
+  unfolding current
+  key_longer key k kept = key_same t f key k (record { current = finds_same (λ q. is_usable key (t.representation q)) (λ q. is_usable key (f.representation q)) (told_longer (is_usable key) (λ p. refl)) t.founded; in_line = λ d. refl; passed = λ d. refl; away = λ d. refl; turn = λ d. refl }) kept
+
+  pub first_longer : (q : ℕ) (o : Option rows.Consumer) → is_first f q o ≡ is_first t q o
+  first_longer q o = first_by t f (λ p. told_longer status_in (λ u. refl) p) q o
+
+  -- REPRESENTATIONS
+
+  pub head_longer : (e : Kept) → sealed_head kinds.Growing v.head.total e.head ≡ v.head → sealed_head kinds.Growing (ended n v).head.total e.head ≡ (ended n v).head
+  head_longer e is = ap (λ (h : Head). record h { total = (ended n v).head.total }) is
+
+  pub untold_kept : (e : Kept) → TellsLength e v → e.head.total ≡ None
+  untold_kept e (told same) = same ∙ untold_yet
+  untold_kept e (untold u) = u.untold
+
+  -- every other stays
+  pub other_longer : (q : ℕ) → x ≢ q → (k : Option Kept) → KeepsEntry t q k (t.representation q) → KeepsEntry f q k (f.representation q)
+  unfolding bound kind_of
+  other_longer q ne k kept = subst (KeepsEntry f q k) (sym (others q ne)) (entry_same t f q k (t.representation q) refl (record { users = λ d. refl; first = λ d. first_longer q (t.consumer d); list = refl; kind = λ p at. refl; overs = λ y on. on }) kept)
+
+  pub order_longer : (order : List ℕ) → order ≡ filter (λ q. is_usable_row (t.representation q)) t.used → order ≡ filter (λ q. is_usable_row (f.representation q)) f.used
+  order_longer order is = is ∙ sym (filters_same (λ q. is_usable_row (t.representation q)) (λ q. is_usable_row (f.representation q)) (told_longer is_usable_row (λ p. refl)) t.used)
+
+-- where the exchange has stopped
+module _ (a : Tables) (x n : ℕ) (z : Option Exchange) (v : Representation) (there : a.representation x ≡ Some v) (untold_yet : v.head.total ≡ None) where
+  abbrev t : Tables
+  t = with_exchange x z a
+
+  abbrev pub longer : Tables
+  longer = with_length x n t
+
+  -- nobody is kept as the one who came alone, where nobody did
+  none_first : NobodyFirst a x → (e : Kept) → IsEntry a x e v → e.first ≡ None
+  none_first nobody e is = by_first e.first refl
+    where
+      by_first : (o : Option ℕ) → e.first ≡ o → o ≡ None
+      by_first None at = refl
+      by_first (Some d) at = false_true (sym (nobody d) ∙ (sym (is.first d) ∙ (ap (λ (z : Option ℕ). is_number z d) at ∙ eqb-same d)))
+
+  -- once it is gone its length isn't told
+  pub gone_longer : is_over z ≡ true → v.is_gone ≡ true → Covers v.body 0 n → NobodyFirst a x → (k : Option Kept) → KeepsEntry a x k (Some v) → KeepsEntry longer x k (Some (ended n v))
+  unfolding bound kind_of
+  gone_longer done is_gone came nobody None kept = record { gone = kept.gone; unused = kept.unused }
+  gone_longer done is_gone came nobody (Some e) is = record {
+    used = is.used;
+    key = is.key;
+    head = head_longer t x n v there untold_yet e is.head;
+    length = untold (record { gone = is_gone; untold = untold_kept t x n v there untold_yet e is.length; total = n; known = length_is t x n v there untold_yet; came = came; first = none_first nobody e is });
+    kind = λ stays. false_true (sym stays ∙ is_gone);
+    whole = is.whole;
+    cells = is.cells;
+    reach = is.reach;
+    bound = is.bound;
+    first = λ d. is.first d ∙ sym (first_longer t x n v there untold_yet x (a.consumer d) ∙ first_by a t (λ p. refl) x (a.consumer d));
+    writer = writer_then (λ y on. put_over (nat_eq x y) z (a.exchange y) done on) is.writer;
+    is_lost = is.is_lost;
+    alone = is.alone;
+    is_gone = is.is_gone;
+  }
+
+  -- what is sealed as whole and so long is
+  pub sealed_longer : is_over z ≡ true → is_growing t x ≡ false → Covers v.stored 0 n → EndsBy v.reach v.stored → (e : Kept) → IsEntry a x e v → IsEntry longer x (entry.sealed kinds.Whole (Some n) e) (ended n v)
+  unfolding bound kind_of
+  sealed_longer done still all ends e is = record {
+    used = is.used;
+    key = is.key;
+    head = head_longer t x n v there untold_yet e is.head;
+    length = told (sym (length_is t x n v there untold_yet));
+    kind = λ stays. sym kind_is;
+    whole = λ m whole known. subst (λ (b : ℕ). Covers v.stored 0 b) (let same : n ≡ m = cc in same) all;
+    cells = is.cells;
+    reach = is.reach;
+    bound = is.bound;
+    first = λ d. is.first d ∙ sym (first_longer t x n v there untold_yet x (a.consumer d) ∙ first_by a t (λ p. refl) x (a.consumer d));
+    writer = writer_then (λ y on. put_over (nat_eq x y) z (a.exchange y) done on) is.writer;
+    is_lost = is.is_lost;
+    alone = is.alone;
+    is_gone = is.is_gone;
+  }
+    where
+      complete : is_complete (ended n v) ≡ true
+      complete = ap (covers_all (ended n v)) (length_is t x n v there untold_yet) ∙ covers_yes v.stored v.reach 0 n ends all
+
+      kind_is : (if is_growing t x then kinds.Growing else if is_complete (ended n v) then kinds.Whole else if Rattle.hc_model.specs.Kinds.is_front (ended n v) then kinds.Truncated else kinds.Ranges) ≡ kinds.Whole
+      kind_is = rw (still, complete) refl
+
+-- ALL OF IT
+
+module _ {B : Type 0} {g : Ghosts B} (r u : Rows B g) (t : Tables) (x : ℕ) (w : Exchange) (n : ℕ) (v : Representation) (row : t.exchange x ≡ Some w) (there : t.representation x ≡ Some v) (own : family x w ≡ x) (untold_yet : v.head.total ≡ None) (stands : RowsStand r t)
+    (unread : (d : ℕ) (k : rows.Consumer) → t.consumer d ≡ Some k → k.place ≡ place.Direct x → ⊥) (unawaited : NobodyAwaits t x)
+    (limits : u.limits ≡ r.limits) (received : u.received ≡ r.received) (last : u.last_start ≡ r.last_start) (keys : u.keys ≡ r.keys) (becomes : exch.Becomes known.closed x r.exchanges u.exchanges)
+    (users : ℕ → Bool) (users_are : (d : ℕ) → users d ≡ is_bound x (t.consumer d)) (knows : ChangesAmong r.consumers u.consumers users (changes.with_end n)) (bounded : (shelf_of u.entries).limits ≡ (shelf_of r.entries).limits) where
+  abbrev mid : Tables
+  mid = with_exchange x (Some (at_end w)) t
+
+  abbrev pub whole : Tables
+  whole = with_length x n mid
+
+  -- CONSUMERS
+
+  no_length : (q : ℕ) → x ≢ q → total_in (whole.representation q) ≡ total_in (t.representation q)
+  no_length q ne = rw (eqb-other x q ne) refl
+
+  knows_end : (k : Consumer) (c : rows.Consumer) (lo : ℕ) (hi : Option ℕ) (how : BoundBy) → c.place ≡ place.Bound x lo hi how → IsKept t k c → IsKept whole (changes.with_end n k) c
+  knows_end k c lo hi how at kept = record {
+    is_there = kept.is_there;
+    request = kept.request;
+    class_is = kept.class_is;
+    since = kept.since;
+    place = kept.place;
+    own = kept.own;
+    shown = kept.shown;
+    answer = kept.answer ∙ rw at refl;
+    begins = kept.begins ∙ rw at refl;
+    ends = ap (λ o. option_or o (Some n)) (kept.ends ∙ (ap (hi_of t) at ∙ ap (λ o. option_or hi (total_in o)) there)) ∙ (by_hi hi ∙ sym (ap (hi_of whole) at ∙ ap (λ o. option_or hi (total_in o)) here_now));
+    given = kept.given;
+    due = kept.due;
+  }
+    where
+      here_now : whole.representation x ≡ Some (ended n v)
+      here_now = rw (eqb-same x, there) refl
+
+      by_hi : (o : Option ℕ) → option_or (option_or o v.head.total) (Some n) ≡ option_or o (ended n v).head.total
+      by_hi None = refl
+      by_hi (Some h) = refl
+
+  one_knows : (d : ℕ) (b : Bool) (o : Option Consumer) (c : Option rows.Consumer) → t.consumer d ≡ c → is_bound x c ≡ b → KeepsConsumer t o c → KeepsConsumer whole (if b then option_map (changes.with_end n) o else o) c
+  one_knows d true None c at on kept = kept
+  one_knows d false None c at on kept = kept
+  one_knows d b (Some k) None at on kept = absurd kept
+  one_knows d true (Some k) (Some c) at on kept = by_place c.place refl
+    where
+      by_place : (p : Place) → c.place ≡ p → IsKept whole (changes.with_end n k) c
+      by_place (place.Bound q lo hi how) is =
+          let one : q ≡ x = eq_tells q x (sym (ap (is_bound_place x) is) ∙ on) in
+          knows_end k c lo hi how (is ∙ ap (λ m. place.Bound m lo hi how) one) kept
+      by_place place.Line is = false_true (sym (ap (is_bound_place x) is) ∙ on)
+      by_place (place.Passed q old) is = false_true (sym (ap (is_bound_place x) is) ∙ on)
+      by_place (place.Turn y) is = false_true (sym (ap (is_bound_place x) is) ∙ on)
+      by_place (place.Direct y) is = false_true (sym (ap (is_bound_place x) is) ∙ on)
+      by_place (place.Down why) is = false_true (sym (ap (is_bound_place x) is) ∙ on)
+      by_place place.Over is = false_true (sym (ap (is_bound_place x) is) ∙ on)
+  one_knows d false (Some k) (Some c) at off kept = kept_same t whole k c (record { past = λ y is. other y is; length = λ q lo hi how is. no_length q (apart q lo hi how is) }) kept
+    where
+      other : (y : ℕ) → c.place ≡ place.Direct y → whole.exchange y ≡ t.exchange y
+      other y is = elim (same_or x y) [
+        | inl e ↦ absurd (unread d c at (is ∙ ap (λ m. place.Direct m) (sym e)))
+        | inr ne ↦ rw (eqb-other x y ne) refl
+      ]
+
+      apart : (q lo : ℕ) (hi : Option ℕ) (how : BoundBy) → c.place ≡ place.Bound q lo hi how → x ≢ q
+      apart q lo hi how is e = false_true (sym off ∙ (ap (is_bound_place x) is ∙ (ap (λ m. nat_eq m x) (sym e) ∙ eqb-same x)))
+
+  pub stands_whole : KeepsEntries whole (shelf_of u.entries) → RowsStand u whole
+  stands_whole entries = record {
+    limits = bounded ∙ (stands.limits ∙ sym limits);
+    received = as_received received stands.received;
+    last_start = last ∙ stands.last_start;
+    next = becomes.next ∙ stands.next;
+    count = knows.len ∙ stands.count;
+    consumers = λ d. subst (λ o. KeepsConsumer whole o (t.consumer d)) (sym (knows.places d ∙ ap (λ b. if b then option_map (changes.with_end n) (get nat_eq r.consumers d) else get nat_eq r.consumers d) (users_are d))) (one_knows d (is_bound x (t.consumer d)) (get nat_eq r.consumers d) (t.consumer d) refl refl (stands.consumers d));
+    exchanges = λ y. exchange_longer mid x n v there untold_yet y (table_of u.exchanges y) (exchange_ends t x w row y (table_of r.exchanges y) (table_of u.exchanges y) (by_here y) (stands.exchanges y));
+    keys = λ key. rw keys (key_longer mid x n v there untold_yet key (kept_of r.keys key) (key_ends t x w row unawaited key (kept_of r.keys key) (stands.keys key)));
+    entries = entries;
+  }
+    where
+      by_here : (y : ℕ) → table_of u.exchanges y ≡ (if nat_eq x y then known.closed (table_of r.exchanges y) else table_of r.exchanges y)
+      by_here y = becomes.table y ∙ elim (same_or x y) [
+        | inl e ↦ rw (e, eqb-same y) refl
+        | inr ne ↦ rw (eqb-other x y ne) refl
+      ]
+
+  -- REPRESENTATIONS
+
+  -- every other is kept as it was
+  pub entries_whole : (b : Shelf) → b.order ≡ (shelf_of r.entries).order → ((q : ℕ) → x ≢ q → b.kept q ≡ (shelf_of r.entries).kept q) → KeepsEntry whole x (b.kept x) (whole.representation x) → KeepsEntries whole b
+  unfolding bound
+  entries_whole b order kept here_kept = record {
+    each = λ q. elim (same_or x q) [
+      | inl e ↦ subst (λ m. KeepsEntry whole m (b.kept m) (whole.representation m)) e here_kept
+      | inr ne ↦
+          subst (λ k. KeepsEntry whole q k (whole.representation q)) (sym (kept q ne))
+          (other_longer mid x n v there untold_yet q ne ((shelf_of r.entries).kept q)
+          (entry_same t mid q ((shelf_of r.entries).kept q) (t.representation q) refl (record { users = λ d. refl; first = λ d. first_by t mid (λ p. refl) q (t.consumer d); list = refl; kind = λ p at. kind_same t mid q p (growing_apart t x w row q (λ same. ne (sym own ∙ same))); overs = λ y on. put_over (nat_eq x y) (Some (at_end w)) (t.exchange y) refl on }) (stands.entries.each q)))
+    ];
+    order = order_longer mid x n v there untold_yet b.order (order ∙ stands.entries.order);
+  }
+
+-- PAST THE STORE
+
+module _ {B : Type 0} {g : Ghosts B} (r u : Rows B g) (t : Tables) (law : Lawful t) (x : ℕ) (w : Exchange) (row : t.exchange x ≡ Some w) (opened : w.is_open ≡ true) (headed : is_some w.head ≡ true) (none : t.representation (family x w) ≡ None) (tells_none : promised w ≡ None) (n : ℕ) (all : n ≡ length w.body) (stands : RowsStand r t) (unawaited : NobodyAwaits t x)
+    (limits : u.limits ≡ r.limits) (received : u.received ≡ r.received) (last : u.last_start ≡ r.last_start) (keys : u.keys ≡ r.keys) (entries : u.entries ≡ r.entries) (becomes : exch.Becomes known.closed x r.exchanges u.exchanges) (c : ℕ) (its : c ≡ w.c) (knows : ChangesAt r.consumers u.consumers c (changes.with_end n)) where
+  abbrev pub past : Tables
+  past = with_exchange x (Some (at_end w)) t
+
+  unended : w.is_ended ≡ false
+  unended = by_test w.is_ended refl
+    where
+      by_test : (b : Bool) → w.is_ended ≡ b → b ≡ false
+      by_test false is = refl
+      by_test true is = false_true (sym (law.places.ended x w row is) ∙ opened)
+
+  here_past : past.exchange x ≡ Some (at_end w)
+  here_past = rw (eqb-same x) refl
+
+  no_end : end_in (Some w) ≡ None
+  no_end = ap (λ o. end_of_direct o w) tells_none ∙ ap (λ b. if b then Some (length w.body) else None) unended
+
+  an_end : end_in (Some (at_end w)) ≡ Some n
+  an_end = ap (λ o. end_of_direct o (at_end w)) (promise_end w ∙ tells_none) ∙ ap Some (sym all)
+
+  reader_knows : (k : Consumer) (v : rows.Consumer) → v.place ≡ place.Direct x → IsKept t k v → IsKept past (changes.with_end n k) v
+  reader_knows k v at kept = record {
+    is_there = kept.is_there;
+    request = kept.request;
+    class_is = kept.class_is;
+    since = kept.since;
+    place = kept.place;
+    own = kept.own;
+    shown = kept.shown;
+    answer = kept.answer ∙ (ap (λ (o : Option Response). if v.shown then None else o) (ap (answer_at t) at ∙ (ap head_in row ∙ sym (ap head_in here_past))) ∙ sym (ap (λ (o : Option Response). if v.shown then None else o) (ap (answer_at past) at)));
+    begins = kept.begins ∙ (ap (lo_of t) at ∙ (ap base_in row ∙ (sym (base_end w) ∙ (sym (ap base_in here_past) ∙ sym (ap (lo_of past) at)))));
+    ends = ap (λ o. option_or o (Some n)) (kept.ends ∙ (ap (hi_of t) at ∙ (ap end_in row ∙ no_end))) ∙ (sym an_end ∙ (sym (ap end_in here_past) ∙ sym (ap (hi_of past) at)));
+    given = kept.given;
+    due = kept.due;
+  }
+
+  reader : Rattle.hc_model.specs.Places.IsReadPast t x w
+  reader = law.places.read x w row opened headed none
+
+  consumer_past : (d : ℕ) (b : Bool) → nat_eq c d ≡ b → (o : Option Consumer) (z : Option rows.Consumer) → t.consumer d ≡ z → KeepsConsumer t o z → KeepsConsumer past (if b then option_map (changes.with_end n) o else o) z
+  consumer_past d true on None z at kept = kept
+  consumer_past d false off None z at kept = kept
+  consumer_past d b on (Some k) None at kept = absurd kept
+  consumer_past d true on (Some k) (Some v) at kept =
+      let one : w.c ≡ d = sym its ∙ eq_tells c d on in
+      let same : v ≡ reader.k = same_row (t.consumer d) v reader.k at (sym (ap t.consumer one) ∙ reader.row) in
+      reader_knows k v (ap (λ (q : rows.Consumer). q.place) same ∙ reader.place_is) kept
+  consumer_past d false off (Some k) (Some v) at kept = kept_same t past k v (record { past = λ y is. other y is; length = λ q lo hi how is. refl }) kept
+    where
+      other : (y : ℕ) → v.place ≡ place.Direct y → past.exchange y ≡ t.exchange y
+      other y is = elim (same_or x y) [
+        | inl e ↦
+            let reads = law.places.direct d x v at (is ∙ ap (λ m. place.Direct m) (sym e)) in
+            let same_w : reads.w ≡ w = same_row (t.exchange x) reads.w w reads.row row in
+            let one : c ≡ d = its ∙ (ap (λ (q : Exchange). q.c) (sym same_w) ∙ reads.for_it) in
+            false_true (sym off ∙ (ap (nat_eq c) (sym one) ∙ eqb-same c))
+        | inr ne ↦ rw (eqb-other x y ne) refl
+      ]
+
+  apart : (q : ℕ) (p : Representation) → t.representation q ≡ Some p → p.is_gone ≡ false → brings_to q x (t.exchange x) ≡ false
+  apart q p there stays = ap (brings_to q x) row ∙ elim (same_or (family x w) q) [
+    | inl e ↦ none_some p (sym none ∙ (ap t.representation e ∙ there))
+    | inr ne ↦ then_false w.is_open (nat_eq (family x w) q) (eqb-other (family x w) q ne)
+  ]
+
+  pub stands_past : RowsStand u past
+  stands_past = record {
+    limits = ap (λ e. (shelf_of e).limits) entries ∙ (stands.limits ∙ sym limits);
+    received = as_received received stands.received;
+    last_start = last ∙ stands.last_start;
+    next = becomes.next ∙ stands.next;
+    count = knows.len ∙ stands.count;
+    consumers = λ d. subst (λ o. KeepsConsumer past o (t.consumer d)) (sym (knows.places d ∙ by_number d)) (consumer_past d (nat_eq c d) refl (get nat_eq r.consumers d) (t.consumer d) refl (stands.consumers d));
+    exchanges = λ y. exchange_ends t x w row y (table_of r.exchanges y) (table_of u.exchanges y) (by_here y) (stands.exchanges y);
+    keys = λ key. rw keys (key_ends t x w row unawaited key (kept_of r.keys key) (stands.keys key));
+    entries = rw entries (entries_end (subst (λ (s : Tables). KeepsEntries s (shelf_of r.entries)) (closed_is t x w row) (entries_closed t x (shelf_of r.entries) apart stands.entries)));
+  }
+    where
+      by_here : (y : ℕ) → table_of u.exchanges y ≡ (if nat_eq x y then known.closed (table_of r.exchanges y) else table_of r.exchanges y)
+      by_here y = becomes.table y ∙ elim (same_or x y) [
+        | inl e ↦ rw (e, eqb-same y) refl
+        | inr ne ↦ rw (eqb-other x y ne) refl
+      ]
+
+      by_number : (d : ℕ) → (if nat_eq c d then option_map (changes.with_end n) (get nat_eq r.consumers c) else get nat_eq r.consumers d) ≡ (if nat_eq c d then option_map (changes.with_end n) (get nat_eq r.consumers d) else get nat_eq r.consumers d)
+      by_number d = elim (same_or c d) [
+        | inl e ↦ rw (e, eqb-same d) refl
+        | inr ne ↦ rw (eqb-other c d ne) refl
+      ]
+
+      entries_end : KeepsEntries (with_over x w t.exchange t) (shelf_of r.entries) → KeepsEntries past (shelf_of r.entries)
+      entries_end kept = entries_same (with_over x w t.exchange t) past (shelf_of r.entries) (λ q. refl) refl refl (λ q d. refl) (λ q d. refl) (λ q. growing_same (with_over x w t.exchange t) past q refl (λ y. told_alike t t.exchange x w (brings_to q y) refl y)) (λ y on. told_alike t t.exchange x w is_over refl y ∙ on) kept

@@ -1,0 +1,25 @@
+use Rattle.std.proofs.Common.{ap, sym, ◌∙◌, subst}
+use Rattle.hc_stored.specs.Entries.{shelf_of}
+use Rattle.hc_exch.specs.Known.{is_open}
+use Rattle.hc_exch.specs.Exchanges.{table_of}
+use Rattle.hc_event.specs.Acts.{listed}
+use Rattle.hc_state.specs.Facts.{Facts}
+use Rattle.hc_state.specs.Stopped.{HasStopped, MayStop}
+use Rattle.hc_state.specs.Stored.{TellsShort}
+use Rattle.hc_on_leave.proofs.Shorts.{shorts_here}
+use Rattle.hc_on_body.proofs.StopArm.{breaks_off}
+use Rattle.hc_on_body.proofs.stop.break_off.Goals as goal
+
+pub stop_bringing-requires-clause-short : goal.stop_bringing-requires-clause-short
+stop_bringing-requires-clause-short g c = subst (λ z. TellsShort (shelf_of z)) (sym c.make_due_to.ensures.rest.entries) (shorts_here c.args.rows.now c.requires.stands c.requires.small)
+
+pub returns-clause-broken : goal.returns-clause-broken
+returns-clause-broken g c = λ t w facts stands broken.
+    let r = c.args.rows.now in
+    let mid = c.make_due_to.new.rows in
+    let due = c.make_due_to.ensures in
+    breaks_off r mid _ t facts stands c.requires.small c.args.x w broken c.readers-readers.result c.readers-readers.ensures c.args.cause due.rest due.exchanges due.consumers
+    (shelf_of r.entries).faults c.args.now (listed c.args.out.now) _
+    (λ f may rows.
+    subst (λ n. HasStopped n c.stop_bringing.new.rows t f (listed c.args.out.now) (listed c.stop_bringing.new.out) c.args.now c.args.x) (ap (λ z. (shelf_of z).faults) due.rest.entries)
+    (c.stop_bringing.ensures.stopped t f (subst (λ l. Facts l t) (sym due.rest.limits) facts) (subst (λ o. MayStop t f c.args.x o) (sym c.alone.ensures) may) rows))

@@ -1,0 +1,67 @@
+use Rattle.std.proofs.Common.{◌≡◌, ℕ, ◌<◌, ◌^◌, length, None, Some, true, refl, ap, sym, ◌∙◌, subst}
+use Rattle.std.specs.Prelude.{is_some}
+use Rattle.hc_event.specs.Acts.{listed}
+use Rattle.hc_stored.specs.Entries.{shelf_of}
+use Rattle.hc_stored.specs.Kept.{itself}
+use Rattle.hc_stored.specs.Views.{bound_in}
+use Rattle.hc_sorted.specs.Sorted.{has}
+use Rattle.hc_model.specs.Exchanges.{family, promised}
+use Rattle.hc_laws.proofs.LettingGo.{may_let_go}
+use Rattle.hc_state.specs.Changes.{ChangesAmong, with_end}
+use Rattle.hc_state.specs.Stopped.{SealedWhole}
+use Rattle.hc_state.proofs.Maps.{merely_true, merely_below}
+use Rattle.hc_on_body.proofs.OpenViews.{viewed}
+use Rattle.hc_on_body.proofs.WholeAnswers.{past_answered, whole_answered, brought_row, unbrought, brought_kept, delivered_short, nobody_alone, own_family}
+use Rattle.hc_state.proofs.Words.{same_row}
+use Rattle.hc_on_body.proofs.stop.end_whole.Goals as goal
+
+pub seal_whole-requires-clause-there : goal.seal_whole-requires-clause-there
+seal_whole-requires-clause-there g c =
+    let r = c.args.rows.now in
+    let x = c.args.x in
+    let q = c.in-Some.r in
+    merely_true (is_some ((shelf_of r.entries).kept q)) c.requires.stands (λ s.
+    let facts = s.facts in
+    let seen = viewed r s.t x c.view.result c.unwrap-view.result s.rows c.view.ensures c.unwrap-view.ensures in
+    brought_kept r s.t facts s.rows c.requires.small x seen.w seen.row seen.is_open q c.brought.result c.brought.ensures c.in-Some.is)
+
+pub seal_whole-requires-clause-short : goal.seal_whole-requires-clause-short
+seal_whole-requires-clause-short g c =
+    let r = c.args.rows.now in
+    let x = c.args.x in
+    merely_below c.unwrap-view.result.delivered (2 ^ 62) c.requires.stands (λ s.
+    let facts = s.facts in
+    let seen = viewed r s.t x c.view.result c.unwrap-view.result s.rows c.view.ensures c.unwrap-view.ensures in
+    delivered_short r s.t facts s.rows c.requires.small x seen.w seen.row seen.is_open c.unwrap-view.result.delivered seen.delivered)
+
+pub returns-in-None-clause-answers : goal.returns-in-None-clause-answers
+returns-in-None-clause-answers g c = λ t facts stands accepts tells.
+    let r = c.args.rows.now in
+    let x = c.args.x in
+    let view = c.unwrap-view.result in
+    let seen = viewed r t x c.view.result view stands c.view.ensures c.unwrap-view.ensures in
+    let untold : promised seen.w ≡ None = ap (λ z. promised z) (same_row (t.exchange x) seen.w tells.w seen.row tells.row) ∙ tells.untold in
+    past_answered r.limits t facts c.args.now x seen.w seen.row untold accepts (shelf_of r.entries).faults r _ (listed c.args.out.now) view.c view.delivered
+    (unbrought r t facts stands c.requires.small x seen.w seen.row seen.is_open c.brought.result c.brought.ensures c.in-None.is) seen.delivered seen.c_is stands
+    refl refl refl refl refl c.close.ensures c.know_end.ensures
+
+pub returns-in-Some-clause-answers : goal.returns-in-Some-clause-answers
+returns-in-Some-clause-answers g c = λ t facts stands accepts tells.
+    let r = c.args.rows.now in
+    let x = c.args.x in
+    let q = c.in-Some.r in
+    let view = c.unwrap-view.result in
+    let mid = c.seal_whole.new.rows in
+    let seen = viewed r t x c.view.result view stands c.view.ensures c.unwrap-view.ensures in
+    let untold : promised seen.w ≡ None = ap (λ z. promised z) (same_row (t.exchange x) seen.w tells.w seen.row tells.row) ∙ tells.untold in
+    let b = brought_row r t facts stands c.requires.small x seen.w seen.row seen.is_open q c.brought.result c.brought.ensures c.in-Some.is in
+    let one : q ≡ x = b.2 ∙ own_family r.limits t facts c.args.now x seen.w seen.row untold accepts b.0 b.1 in
+    let there_q = ap t.representation b.2 ∙ b.1 in
+    let sealed = c.seal_whole.ensures.sealed t b.0 (may_let_go t facts.law) there_q (λ stays. nobody_alone t facts.law q b.0 there_q stays) stands in
+    whole_answered r.limits t facts c.args.now x seen.w seen.row untold accepts b.0 b.1 (shelf_of r.entries).faults r mid _ stands (listed c.args.out.now) (listed c.seal_whole.new.out)
+    refl refl refl refl refl c.close-in-Some.ensures
+    (subst (λ (n : ℕ). ChangesAmong mid.consumers c.know_ends.new.consumers (λ d. has itself d (bound_in ((shelf_of mid.entries).kept x))) (with_end n)) seen.delivered
+    (subst (λ (n : ℕ). ChangesAmong mid.consumers c.know_ends.new.consumers (λ d. has itself d (bound_in ((shelf_of mid.entries).kept n))) (with_end view.delivered)) one
+    (subst (λ xs. ChangesAmong mid.consumers c.know_ends.new.consumers (λ d. has itself d xs) (with_end view.delivered)) c.bound.ensures c.know_ends.ensures)))
+    (subst (λ (n : ℕ). SealedWhole (shelf_of r.entries).faults r mid t (listed c.args.out.now) (listed c.seal_whole.new.out) c.args.now x b.0 n) seen.delivered
+    (subst (λ (n : ℕ). SealedWhole (shelf_of r.entries).faults r mid t (listed c.args.out.now) (listed c.seal_whole.new.out) c.args.now n b.0 view.delivered) one sealed))

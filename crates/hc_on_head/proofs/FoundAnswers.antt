@@ -1,0 +1,229 @@
+-- By what the code did at a head that founds: what it asked for may be asked for, and the head is answered.
+use Rattle.std.proofs.Common.{◌≡◌, ℕ, ◌+◌, ◌<◌, ◌≤◌, ◌^◌, List, [], ◌∷◌, ◌++◌, true, false, Option, Some, None, Result, Ok, Err, refl, ap, sym, ◌∙◌, subst, arith}
+use Rattle.std.specs.Prelude.{IsSomeAnd, is_some, nat_eq, option_map}
+use Rattle.std.specs.HashMap.{get}
+use Rattle.hc_store.specs.Causes.{HasCause, IsWithin}
+use Rattle.hc_store.specs.declared.backend.Backend.{Ghosts}
+use Rattle.hc_store.specs.declared.error.StoreError.{StoreError}
+use Rattle.hc_store.specs.declared.error.StoreError.TheVariants as errors
+use Rattle.hc_event.specs.declared.act.Act.{Act}
+use Rattle.hc_event.specs.declared.act.Act.TheVariants as act
+use Rattle.hc_event.specs.declared.act.LostKind.{LostKind}
+use Rattle.hc_event.specs.declared.act.LostKind.TheVariants as kinds
+use Rattle.hc_event.specs.declared.event.Event.TheVariants as event
+use Rattle.hc_event.specs.declared.event.Request.{Request}
+use Rattle.hc_event.specs.declared.event.Response.{Response}
+use Rattle.hc_rules.specs.declared.heads.HeadCase.{HeadCase}
+use Rattle.hc_rules.specs.declared.request.RequestClass.{RequestClass}
+use Rattle.hc_rules.specs.declared.room.Limits.{Limits}
+use Rattle.hc_rules.specs.declared.room.Room.{Room}
+use Rattle.hc_rules.specs.declared.room.Room.TheVariants as room
+use Rattle.hc_rules.specs.declared.room.Write.TheVariants as write
+use Rattle.hc_rules.specs.HeadCases.{head_case}
+use Rattle.hc_rules.specs.Refusals.{head_refusal}
+use Rattle.hc_rules.specs.Requests.{class_of, range_of}
+use Rattle.hc_stored.specs.Entries.{shelf_of}
+use Rattle.hc_stored.specs.Kept.{Kept}
+use Rattle.hc_entry.specs.Keys.{kept_of}
+use Rattle.hc_exch.specs.declared.exchanges.Exchanges.{Exchanges}
+use Rattle.hc_exch.specs.declared.row.Open.{Open}
+use Rattle.hc_exch.specs.Exchanges.{table_of}
+use Rattle.hc_exch.specs.Known.{seen}
+use Rattle.hc_event.specs.declared.place.Place.TheVariants as place
+use Rattle.hc_model.specs.Cases.{head_view, is_founding}
+use Rattle.hc_model.specs.Currents.{current}
+use Rattle.hc_model.specs.Denials.{denial}
+use Rattle.hc_model.specs.Effects.{let_some_go, with_consumer, with_answer}
+use Rattle.hc_model.specs.Flaws.{Loses}
+use Rattle.hc_model.specs.LettingGo.{MayLetGo, MayMakeRoom, giving_way, room_now}
+use Rattle.hc_model.specs.Rows as rows
+use Rattle.hc_model.specs.Rows.{Tables, Exchange}
+use Rattle.hc_model.specs.Runs.{may_lose}
+use Rattle.hc_model.specs.Weights.{room_for}
+use Rattle.hc_laws.proofs.FoundDoes.{Founds, founds_of}
+use Rattle.hc_state.specs.declared.consumer.Consumer.{Consumer}
+use Rattle.hc_state.specs.declared.rows.Rows.{Rows}
+use Rattle.hc_state.specs.declared.founded.Founding.{Founding}
+use Rattle.hc_state.specs.Facts.{Facts}
+use Rattle.hc_state.specs.Founding.{BeginsFounding, IsFounding}
+use Rattle.hc_state.specs.Heads.{AwaitsHead, IsAskedBy, IsReadAlone, StandsApart, goes_with}
+use Rattle.hc_state.specs.Kept.{IsRunning}
+use Rattle.hc_state.specs.Renewals.{IsUnrenewed}
+use Rattle.hc_state.specs.Room.{HasActs, LeavesActs, GivesWay, loss_by, room_for_write}
+use Rattle.hc_state.specs.Stands.{Answered, RowsStand, Stands}
+use Rattle.hc_model.specs.Flaws.{is_fault}
+use Rattle.hc_state.specs.Stored.{KeepsEntry}
+use Rattle.hc_on_leave.proofs.AnswerArm.{reader_kept}
+use Rattle.hc_on_leave.proofs.FoundArm.{aside, first, second, es, m, may_aside, may_first, make_second, one_way, m_unfounded, m_asker, read_alone, founds_answered, lost_answered, full_told}
+use Rattle.hc_on_head.proofs.HeadTold.{past_of_runs}
+use Rattle.hc_on_leave.proofs.HeardRows.{Asker, Headless, asker, head_none, headless_of, heard_row, runs_as}
+use Rattle.hc_state.proofs.Maps.{known_of, merely_below, merely_false}
+use Rattle.hc_state.proofs.ReaderSteps.{stands_read}
+use Rattle.hc_state.proofs.Rooms.{room_is}
+use Rattle.hc_state.proofs.Words.{none_of, none_some, some_is, few_received}
+
+class_range : (request : Request) → (class_of request).range ≡ range_of request
+unfolding class_of
+class_range request = refl
+
+abbrev pub err_of : StoreError → Result (Unit {0}) StoreError
+err_of error = Err error
+
+-- what is founded has the key of what was asked for
+pub key_told : {B : Type 0} {b : Ghosts B} (r : Rows B b) (now x c : ℕ) (g : HeadCase) (response : Response) (f : Founding) → IsSomeAnd (get nat_eq r.consumers c) (λ k. (o : Open) → (table_of r.exchanges x).running ≡ Some o → IsFounding o k g now response f)
+    → (o : Open) → (table_of r.exchanges x).running ≡ Some o → f.key ≡ o.request.key
+key_told r now x c g response f = by_row (get nat_eq r.consumers c)
+  where
+    by_row : (row : Option Consumer) → IsSomeAnd row (λ k. (o : Open) → (table_of r.exchanges x).running ≡ Some o → IsFounding o k g now response f) → (o : Open) → (table_of r.exchanges x).running ≡ Some o → f.key ≡ o.request.key
+    by_row None founding o there = absurd founding
+    by_row (Some k) founding o there = (founding o there).key
+
+module _ {B : Type 0} {b : Ghosts B} (r r1 r2 r3 : Rows B b) (now x c : ℕ) (gone told : Option ℕ) (key : List ℕ) (accepted : head_refusal (option_map seen (table_of r.exchanges x).running) ≡ None) (asks : IsAskedBy c (table_of r.exchanges x).running) (small : r.received < 2 ^ 61)
+    (key_is : (o : Open) → (table_of r.exchanges x).running ≡ Some o → key ≡ o.request.key) (told_is : told ≡ (kept_of r.keys key).current)
+    (stands_aside : (t : Tables) (y : ℕ) (w : Exchange) (k : rows.Consumer) → Facts r.limits t → AwaitsHead t y w k → w.c ≡ c → StandsApart y (place.Direct x) → RowsStand r t → RowsStand r1 (with_consumer c (Some (record k { place = place.Direct x })) t))
+    (goes_first : (t : Tables) → MayLetGo t → RowsStand r1 t → RowsStand r2 (let_some_go now gone t)) (goes_second : (t : Tables) → MayLetGo t → RowsStand r2 t → RowsStand r3 (let_some_go now told t)) (limits_is : r3.limits ≡ r.limits) where
+  pub h : Headless (table_of r.exchanges x).running
+  h = headless_of (table_of r.exchanges x).running accepted
+
+  module _ (t : Tables) (facts : Facts r.limits t) (stands : RowsStand r t) (w : Exchange) (row : t.exchange x ≡ Some w) where
+    pub few : t.received < 2 ^ 62
+    few = few_received stands.received small
+
+    pub runs : IsRunning t x h.o w
+    runs = runs_as r t x h.o w stands h.there row
+
+    pub a : Asker r t x w
+    a = asker r t facts x w stands row runs.is_open (head_none w.head (sym runs.headed ∙ h.headless))
+
+    for_it : w.c ≡ c
+    for_it = sym runs.c ∙ asks h.o h.there
+
+    told_now : told ≡ current t w.request.key
+    told_now = told_is ∙ ((stands.keys key).current ∙ ap (current t) (key_is h.o h.there ∙ ap (λ (q : Request). q.key) runs.request))
+
+    abbrev pub left : Tables
+    left = second r.limits t facts few now x w a.v a.awaits gone
+
+    pub stood : RowsStand r3 left
+    stood =
+        subst (λ (o : Option ℕ). RowsStand r3 (let_some_go now o (first r.limits t facts few now x w a.v a.awaits gone))) told_now
+        (goes_second (first r.limits t facts few now x w a.v a.awaits gone) (may_first r.limits t facts few now x w a.v a.awaits gone)
+        (goes_first (aside r.limits t facts few now x w a.v a.awaits gone) (may_aside r.limits t facts few now x w a.v a.awaits gone)
+        (subst (λ (d : ℕ). RowsStand r1 (with_consumer d (Some (record a.v { place = place.Direct x })) t)) (sym for_it) (stands_aside t x w a.v facts a.awaits for_it refl stands))))
+
+    pub one_acts : (count : ℕ) → room_for_write r3 write.Slot ≡ room.After count → count ≤ 1
+    one_acts count is =
+        one_way r.limits t facts few now x w a.v a.awaits gone count
+        (ap (λ (l : Limits). room_now l left write.Slot) (sym limits_is) ∙ (sym (room_is r3 left (make_second r.limits t facts few now x w a.v a.awaits gone) stood write.Slot) ∙ is))
+
+  module _ (some : ∥ Stands r ∥₁) where
+    few_acts : (count : ℕ) → room_for_write r3 write.Slot ≡ room.After count → count < 2
+    few_acts count is = merely_below count 2 some (λ s.
+        let past = past_of_runs r s in
+        let row = heard_row r past.0 x h.o past.2 h.there in
+        let le = one_acts past.0 past.1 past.2 row.w row.row count is in
+        omega (arith, le))
+
+    pub fits_acts : (spare : ℕ) → 2 ≤ spare → HasActs spare (room_for_write r3 write.Slot)
+    fits_acts spare le = by_room (room_for_write r3 write.Slot) refl
+      where
+        by_room : (e : Room) → room_for_write r3 write.Slot ≡ e → HasActs spare e
+        by_room (room.After count) is = (let few = few_acts count is in omega (arith, few, le))
+        by_room room.TooLarge is = tt
+        by_room room.Full is = tt
+
+    pub one_left : (whole rest : ℕ) → 2 ≤ whole → LeavesActs whole rest (room_for_write r3 write.Slot) → 0 < rest
+    one_left whole rest le leaves = by_room (room_for_write r3 write.Slot) refl leaves
+      where
+        by_room : (e : Room) → room_for_write r3 write.Slot ≡ e → LeavesActs whole rest e → 0 < rest
+        by_room (room.After count) is all = (let few = few_acts count is in omega (arith, few, le, all))
+        by_room room.TooLarge is same = omega (arith, le, same)
+        by_room room.Full is same = omega (arith, le, same)
+
+  module _ (u : Rows B b) (before mid : List Act) (made : (t : Tables) → MayMakeRoom t → RowsStand r3 t → GivesWay u t now (giving_way r3.limits t write.Slot) before mid) where
+    module _ (t : Tables) (facts : Facts r.limits t) (stands : RowsStand r t) (w : Exchange) (row : t.exchange x ≡ Some w) where
+      pub gives : GivesWay u (left t facts stands w row) now (es r.limits t facts (few t facts stands w row) now x w (a t facts stands w row).v (a t facts stands w row).awaits gone) before mid
+      gives =
+          subst (λ (l : Limits). GivesWay u (left t facts stands w row) now (giving_way l (left t facts stands w row) write.Slot) before mid) limits_is
+          (made (left t facts stands w row) (make_second r.limits t facts (few t facts stands w row) now x w (a t facts stands w row).v (a t facts stands w row).awaits gone) (stood t facts stands w row))
+
+    pub new_kept : ∥ Stands r ∥₁ → (shelf_of u.entries).kept x ≡ None
+    new_kept some = none_of ((shelf_of u.entries).kept x) (merely_false (is_some ((shelf_of u.entries).kept x)) some (λ s.
+        let past = past_of_runs r s in
+        let row = heard_row r past.0 x h.o past.2 h.there in
+        let asker_is = a past.0 past.1 past.2 row.w row.row in
+        let none = m_unfounded r.limits past.0 past.1 (few past.0 past.1 past.2 row.w row.row) now x row.w asker_is.v asker_is.awaits gone in
+        by_kept (m r.limits past.0 past.1 (few past.0 past.1 past.2 row.w row.row) now x row.w asker_is.v asker_is.awaits gone) ((shelf_of u.entries).kept x)
+        (subst (KeepsEntry (m r.limits past.0 past.1 (few past.0 past.1 past.2 row.w row.row) now x row.w asker_is.v asker_is.awaits gone) x ((shelf_of u.entries).kept x)) none ((gives past.0 past.1 past.2 row.w row.row).rows.entries.each x))))
+      where
+        by_kept : (s : Tables) (o : Option Kept) → KeepsEntry s x o None → is_some o ≡ false
+        by_kept s None keeps = refl
+        by_kept s (Some e) keeps = absurd keeps
+
+    -- IT IS ANSWERED
+
+    module _ (u_limits : u.limits ≡ r.limits) (u_exchanges : u.exchanges ≡ r.exchanges) (g : HeadCase) (on : is_founding (Some g) ≡ true) (response : Response) (f : Founding) (t : Tables) (facts : Facts r.limits t) (stands : RowsStand r t) (w : Exchange) (goes : denial t (event.Head x response) ≡ None) (row : t.exchange x ≡ Some w) (is : head_case (head_view t false w response) ≡ g) (same : gone ≡ goes_with t w response g) where
+      founds : Founds g
+      founds = founds_of g on
+
+      abbrev its : Asker r t x w
+      its = a t facts stands w row
+
+      abbrev roomy : Tables
+      roomy = m r.limits t facts (few t facts stands w row) now x w its.v its.awaits gone
+
+      -- where the store took it
+      pub taken : (z : Rows B b) (n : ℕ) → IsSomeAnd (get nat_eq r.consumers c) (λ k. (o : Open) → (table_of r.exchanges x).running ≡ Some o → IsFounding o k g now response f) → BeginsFounding u z x c f response
+          → (result : Result (Unit {0}) StoreError) (v : Unit {0}) → result ≡ Ok v → IsWithin (shelf_of u.entries).limits 0 ((shelf_of u.entries).used + 32768) result → Answered r.limits n z t before mid now (event.Head x response)
+      taken z n founding begins result v is_ok told =
+          let within : IsWithin {T = Unit {0}} (shelf_of u.entries).limits 0 ((shelf_of u.entries).used + 32768) (Ok v) = subst (IsWithin (shelf_of u.entries).limits 0 ((shelf_of u.entries).used + 32768)) is_ok told in
+          let asked_at : get nat_eq r.consumers c ≡ Some its.k = ap (get nat_eq r.consumers) (sym (for_it t facts stands w row)) ∙ its.there in
+          let made_it = known_of (get nat_eq r.consumers c) its.k (λ k. (o : Open) → (table_of r.exchanges x).running ≡ Some o → IsFounding o k g now response f) asked_at founding h.o h.there in
+          let reader = reader_kept u roomy w.c x (record its.v { place = place.Direct x }) (gives t facts stands w row).rows (m_asker r.limits t facts (few t facts stands w row) now x w its.v its.awaits gone) refl in
+          let fits = (within.ok refl).1 in
+          founds_answered r.limits t facts (few t facts stands w row) now x response goes w its.v its.awaits g founds is gone same u n before mid (gives t facts stands w row) u_limits z reader.0 its.k h.o f reader.1
+          (ap (λ (e : Exchanges). (table_of e x).running) u_exchanges ∙ h.there) (ap (λ (e : RequestClass). e.range) its.is.class_is ∙ class_range its.v.request) made_it
+          (subst (λ (d : ℕ). BeginsFounding u z x d f response) (sym (for_it t facts stands w row)) begins)
+          (subst (λ (l : Limits). (shelf_of u.entries).used + 32768 ≤ l.max_total) ((gives t facts stands w row).rows.limits ∙ u_limits) fits)
+
+      -- and where it refused it
+      may_by : (error : StoreError) (kind : LostKind) → loss_by error ≡ Some kind → IsWithin {T = Unit {0}} (shelf_of u.entries).limits 0 ((shelf_of u.entries).used + 32768) (Err error) → may_lose (room_for r.limits t now (event.Head x response)) kind ≡ true
+      may_by errors.Fault kind lost within = (let one : kinds.Fault ≡ kind = some_is kinds.Fault kind lost in subst (λ (e : LostKind). may_lose (room_for r.limits t now (event.Head x response)) e ≡ true) one refl)
+      may_by errors.TooLarge kind lost within = absurd (let never = within.too_large refl in omega (arith, never))
+      may_by errors.Full kind lost within =
+          let one : kinds.Full ≡ kind = some_is kinds.Full kind lost in
+          let past = (within.full refl).1 in
+          subst (λ (e : LostKind). may_lose (room_for r.limits t now (event.Head x response)) e ≡ true) one
+          (full_told r.limits t facts (few t facts stands w row) now x response goes w its.v its.awaits g founds is gone same u 0 before mid (gives t facts stands w row) u_limits
+          (subst (λ (l : Limits). l.max_total < (shelf_of u.entries).used + 32768) ((gives t facts stands w row).rows.limits ∙ u_limits) past))
+      may_by errors.NoMemory kind lost within = none_some kind lost
+
+      fault_by : (error : StoreError) (kind : LostKind) (n k : ℕ) → loss_by error ≡ Some kind → HasCause {T = Unit {0}} n k (Err error) → is_fault (Loses x kind) ≡ true → n < k
+      fault_by errors.Fault kind n k lost cause fault = cause.fault refl
+      fault_by errors.TooLarge kind n k lost cause fault = absurd (let one : kinds.TooLarge ≡ kind = some_is kinds.TooLarge kind lost in let never : false ≡ true = ap (λ (e : LostKind). is_fault (Loses x e)) one ∙ fault in cc)
+      fault_by errors.Full kind n k lost cause fault = absurd (let one : kinds.Full ≡ kind = some_is kinds.Full kind lost in let never : false ≡ true = ap (λ (e : LostKind). is_fault (Loses x e)) one ∙ fault in cc)
+      fault_by errors.NoMemory kind n k lost cause fault = none_some kind lost
+
+      loss_in : Result (Unit {0}) StoreError → Option LostKind
+      loss_in (Ok v) = None
+      loss_in (Err error) = loss_by error
+
+      lost_apart : (error : StoreError) (kind : LostKind) → loss_by error ≡ Some kind → err_of error ≡ err_of errors.NoMemory → ⊥
+      unfolding loss_in
+      lost_apart error kind lost is = none_some kind (sym (ap loss_in is) ∙ lost)
+
+      pub refused : (y z : Rows B b) (error : StoreError) (kind : LostKind) (out : List Act) → loss_by error ≡ Some kind → (result : Result (Unit {0}) StoreError) → result ≡ Err error → ((err_of error ≡ err_of errors.NoMemory → ⊥) → IsUnrenewed u y)
+          → IsWithin (shelf_of u.entries).limits 0 ((shelf_of u.entries).used + 32768) result → HasCause (shelf_of u.entries).faults (shelf_of y.entries).faults result
+          → (shelf_of u.entries).faults ≡ (shelf_of r.entries).faults → (shelf_of z.entries).faults ≡ (shelf_of y.entries).faults
+          → ((s : Tables) (e : Exchange) (k : rows.Consumer) → IsReadAlone s x e k → e.c ≡ c → RowsStand y s → RowsStand z (with_answer now x response e.joined e s)) → out ≡ mid ++ (act.Lost x kind ∷ [])
+          → Answered r.limits (shelf_of r.entries).faults z t before out now (event.Head x response)
+      refused y z error kind out lost result is_err unless told caused was after past acts =
+          let within : IsWithin {T = Unit {0}} (shelf_of u.entries).limits 0 ((shelf_of u.entries).used + 32768) (Err error) = subst (IsWithin (shelf_of u.entries).limits 0 ((shelf_of u.entries).used + 32768)) is_err told in
+          let cause : HasCause {T = Unit {0}} (shelf_of u.entries).faults (shelf_of y.entries).faults (Err error) = subst (HasCause (shelf_of u.entries).faults (shelf_of y.entries).faults) is_err caused in
+          let stays = unless (λ same. lost_apart error kind lost same) in
+          let rest = stays.rest in
+          let alone = read_alone r.limits t facts (few t facts stands w row) now x response goes w its.v its.awaits g founds is gone same in
+          let rows_y = stands_read u y roomy rest.limits rest.received rest.last_start rest.consumers rest.exchanges rest.keys stays.same (gives t facts stands w row).rows in
+          lost_answered r.limits t facts (few t facts stands w row) now x response goes w its.v its.awaits g founds is gone same u (shelf_of r.entries).faults before mid (gives t facts stands w row) u_limits z kind out
+          (past roomy w (record its.v { place = place.Direct x }) alone (for_it t facts stands w row) rows_y) acts (may_by error kind lost within)
+          (λ fault. (let more = fault_by error kind (shelf_of u.entries).faults (shelf_of y.entries).faults lost cause fault in subst (λ n. n < (shelf_of z.entries).faults) was (subst (λ n. (shelf_of u.entries).faults < n) (sym after) more)))

@@ -1,0 +1,76 @@
+-- A slot is taken for what is founded: what changes with it.
+use Rattle.std.proofs.Common.{◌≡◌, ◌≢◌, inl, inr, ℕ, ◌<◌, ◌^◌, false, Option, Some, None, refl, ap, sym, ◌∙◌, subst}
+use Rattle.std.specs.Prelude.{option_map, ◌==◌, if◌then◌else◌}
+use Rattle.hc_event.specs.declared.act.Need.{Need}
+use Rattle.hc_event.specs.declared.event.Request.{Request}
+use Rattle.hc_event.specs.declared.event.Response.{Response}
+use Rattle.hc_rules.specs.declared.length.Length.{Length}
+use Rattle.hc_rules.specs.Lengths.{is_bad, length_of, promise_of}
+use Rattle.hc_rules.specs.RangeTexts.{content_range_of}
+use Rattle.hc_model.specs.Effects.{just_opened}
+use Rattle.hc_model.specs.Heads.{total_of_part}
+use Rattle.hc_model.proofs.ToldNumbers.{founded_early}
+use Rattle.hc_entry.specs.declared.keys.KeyTable.{KeyTable}
+use Rattle.hc_entry.specs.Keys as keys
+use Rattle.hc_entry.specs.Kept.{with_current}
+use Rattle.hc_exch.specs.declared.exchanges.Exchanges.{Exchanges}
+use Rattle.hc_exch.specs.declared.role.Role.{Role}
+use Rattle.hc_exch.specs.declared.role.Role.TheVariants as role
+use Rattle.hc_exch.specs.declared.row.Open.{Open}
+use Rattle.hc_exch.specs.declared.row.Opening.{Opening}
+use Rattle.hc_exch.specs.Exchanges.{table_of, Becomes}
+use Rattle.hc_exch.specs.Known.{Known, headed, turned_into, length_by, begins_with}
+use Rattle.hc_exch.specs.Openings.{opened_with}
+use Rattle.hc_state.specs.Founding.{brings_body}
+use Rattle.hc_on_leave.proofs.AnswerArm.{known_here, known_other, opened_as}
+use Rattle.hc_state.proofs.Words.{same_or, eqb-same, eqb-other}
+
+-- its length doesn't look at what it is to the cache
+length_turned : (kind : Role) (running : Option Open) (response : Response) → length_by (option_map (λ (o : Open). record o { role = kind }) running) response ≡ length_by running response
+length_turned kind None response = refl
+length_turned kind (Some o) response = refl
+
+-- the exchange brings what it founds
+pub brings_founded : (x : ℕ) (response : Response) (r mid u : Exchanges) → Becomes (turned_into (role.Body x)) x r mid → is_bad (length_by (table_of r x).running response) ≡ false
+    → (is_bad (length_by (table_of mid x).running response) ≡ false → Becomes (headed (length_by (table_of mid x).running response)) x mid u) → Becomes (brings_body x (length_by (table_of r x).running response)) x r u
+brings_founded x response r mid u turned good heads = record {
+  table = λ y. elim (same_or x y) [
+    | inl e ↦ subst (λ (n : ℕ). table_of u n ≡ (if x == n then brings_body x its (table_of r x) else table_of r n)) e (here ∙ sym (rw (eqb-same x) refl))
+    | inr ne ↦ known_other (headed its) x y mid u goes (λ e. ne (sym e)) ∙ (known_other (turned_into (role.Body x)) x y r mid turned (λ e. ne (sym e)) ∙ sym (rw (eqb-other x y ne) refl))
+  ];
+  next = goes.next ∙ turned.next;
+}
+  where
+    its : Length
+    its = length_by (table_of r x).running response
+
+    mid_is : table_of mid x ≡ turned_into (role.Body x) (table_of r x)
+    mid_is = known_here (turned_into (role.Body x)) x r mid turned
+
+    same : length_by (table_of mid x).running response ≡ its
+    same = ap (λ (k : Known). length_by k.running response) mid_is ∙ length_turned (role.Body x) (table_of r x).running response
+
+    goes : Becomes (headed its) x mid u
+    goes = subst (λ (l : Length). Becomes (headed l) x mid u) same (heads (ap is_bad same ∙ good))
+
+    here : table_of u x ≡ brings_body x its (table_of r x)
+    here = known_here (headed its) x mid u goes ∙ ap (headed its) mid_is
+
+-- what is current is of the key that it was opened with
+pub current_of : (op : Opening) (running : Option Open) (x : ℕ) (a b : KeyTable) → Some (opened_with op) ≡ option_map begins_with running → keys.Becomes (with_current (Some x)) op.request.now.key a b → (o : Open) → running ≡ Some o → keys.Becomes (with_current (Some x)) o.request.key a b
+current_of op running x a b opens becomes o at = subst (λ (q : Request). keys.Becomes (with_current (Some x)) q.key a b) (opened_as op running o opens at).1 becomes
+
+-- ITS LENGTH
+
+abbrev pub total_with : Need → Request → Response → Option ℕ
+total_with need request response = if response.status == 206 then total_of_part (content_range_of response.fields) else promise_of (length_of need request response)
+
+-- a head tells less than 2^62
+pub total_small : (need : Need) (request : Request) (response : Response) (n : ℕ) → total_with need request response ≡ Some n → n < 2 ^ 62
+total_small need request response n is = founded_early (just_opened 0 0 need request None) response n is
+
+pub total_then : (need : Need) (request : Request) (response : Response) (total : Option ℕ) → response.status ≡ 206 → total ≡ total_of_part (content_range_of response.fields) → total ≡ total_with need request response
+total_then need request response total status is = is ∙ sym (rw status refl)
+
+pub total_else : (need : Need) (request : Request) (response : Response) (total : Option ℕ) → response.status ≢ 206 → total ≡ promise_of (length_of need request response) → total ≡ total_with need request response
+total_else need request response total status is = is ∙ sym (rw (eqb-other response.status 206 status) refl)

@@ -1,0 +1,493 @@
+-- What the code looked up of a head is what the tables say: its consumer, its case, what it dooms and what goes with it.
+use Rattle.std.proofs.Common.{◌≡◌, ◌⊎◌, inl, inr, ℕ, ◌+◌, ◌<◌, List, Bool, true, false, Option, Some, None, refl, ap, ap₂, sym, ◌∙◌, subst, arith}
+use Rattle.std.specs.Prelude.{IsTrue, ◌==◌, is_some, nat_eq, nat_lt, option_map, IsSomeAnd, ◌&&◌, ◌||◌, if◌then◌else◌}
+use Rattle.std.specs.HashMap.{get, hash_map_len}
+use Rattle.hc_store.specs.declared.backend.Backend.{Ghosts}
+use Rattle.hc_event.specs.declared.event.Request.{Request}
+use Rattle.hc_event.specs.declared.event.Response.{Response}
+use Rattle.hc_fields.specs.FieldList.{IsModest}
+use Rattle.hc_rules.specs.declared.heads.HeadCase.{HeadCase}
+use Rattle.hc_rules.specs.declared.heads.HeadCase.TheVariants as case
+use Rattle.hc_rules.specs.declared.heads.HeadView.{HeadView}
+use Rattle.hc_rules.specs.declared.need.Route.{Route}
+use Rattle.hc_rules.specs.declared.need.Route.TheVariants as route
+use Rattle.hc_rules.specs.HeadCases.{head_case, case_on}
+use Rattle.hc_rules.specs.Lengths.{is_bad}
+use Rattle.hc_rules.specs.Needs.{route_of}
+use Rattle.hc_rules.specs.Refusals.{head_refusal}
+use Rattle.hc_rules.proofs.RangeReads.{bytes_eq-same}
+use Rattle.hc_stored.specs.Entries.{shelf_of}
+use Rattle.hc_entry.specs.Keys.{kept_of, line_of}
+use Rattle.hc_entry.specs.Lines.{is_among, is_in}
+use Rattle.hc_exch.specs.declared.row.ExchangeView.{ExchangeView}
+use Rattle.hc_exch.specs.declared.row.Open.{Open}
+use Rattle.hc_exch.specs.Exchanges.{table_of}
+use Rattle.hc_exch.specs.Known.{seen, view_of, length_by}
+use Rattle.hc_event.specs.declared.place.Place.{Place}
+use Rattle.hc_event.specs.declared.place.Place.TheVariants as place
+use Rattle.hc_event.specs.declared.place.BoundBy.TheVariants as by
+use Rattle.hc_model.specs.Cases.{head_view, is_founding}
+use Rattle.hc_model.specs.Currents.{current}
+use Rattle.hc_model.specs.Dooms.{doomed_by_case, changes}
+use Rattle.hc_model.specs.Exchanges.{is_headless}
+use Rattle.hc_model.specs.Lines.{is_in_line}
+use Rattle.hc_model.specs.Live.{most_live}
+use Rattle.hc_model.specs.Rows.{Tables, Exchange}
+use Rattle.hc_model.specs.StartingOver.{awaited}
+use Rattle.hc_model.specs.Tables.{tables}
+use Rattle.hc_model.proofs.FoundBy.{CaseBy, case_by}
+use Rattle.hc_model.proofs.FoundBy as cases
+use Rattle.hc_state.specs.declared.consumer.Consumer.{Consumer}
+use Rattle.hc_state.specs.declared.rows.Rows.{Rows}
+use Rattle.hc_state.specs.Arms.{IsInKey}
+use Rattle.hc_state.specs.Facts.{Facts}
+use Rattle.hc_state.specs.Founding.{MayFound}
+use Rattle.hc_state.specs.Heads.{aim_in, kept_at, heard_view, changes_by, is_past_case, is_bad_case, IsPastStore, puts_down, goes_past, starts_anew, let_go_by, goes_with}
+use Rattle.hc_state.specs.Kept.{IsRunning}
+use Rattle.hc_state.specs.Lines.{is_away, is_away_at}
+use Rattle.hc_state.specs.Stands.{RowsStand, Stands}
+use Rattle.hc_on_leave.proofs.HeadCases.{it_is}
+use Rattle.hc_on_head.proofs.HeadViews.{case_is, aim_is, view_is as views_as}
+use Rattle.hc_on_leave.proofs.HeardRows.{Asker, Headless, asker, headless_of, heard_row, runs_as}
+use Rattle.hc_state.proofs.KeySteps.{lined}
+use Rattle.hc_state.proofs.Maps.{merely_true, merely_below, some_that}
+use Rattle.hc_on_leave.proofs.UnstoredArms.{awaits_viewed}
+use Rattle.hc_state.proofs.Words.{false_true, is_there, none_some, some_is, same_row}
+
+-- A BAD HEAD IS OF A BAD CASE
+
+bad_on : (way : Route) (v : HeadView) → v.bad ≡ true → is_bad_case (case_on way v) ≡ true
+bad_on route.Direct v bad = rw bad refl
+bad_on route.Turn v bad = rw bad refl
+bad_on route.Hole v bad = by_shown v.shown refl
+  where
+    by_shown : (b : Bool) → v.shown ≡ b → is_bad_case (case_on route.Hole v) ≡ true
+    by_shown true shown = rw (shown, bad) refl
+    by_shown false shown = rw (shown, bad) refl
+
+bad_shows : (v : HeadView) → v.bad ≡ true → is_bad_case (head_case v) ≡ true
+unfolding head_case
+bad_shows v bad = bad_on (route_of v.need) v bad
+
+-- a head of another case is good
+good_case : (v : HeadView) (k : HeadCase) → k ≡ head_case v → is_bad_case k ≡ false → v.bad ≡ false
+good_case v k is off = by_test v.bad refl
+  where
+    by_test : (b : Bool) → v.bad ≡ b → b ≡ false
+    by_test false good = refl
+    by_test true bad = false_true (sym (ap is_bad_case (sym is) ∙ off) ∙ bad_shows v bad)
+
+pub good_told : (running : Option Open) (o : Open) (c : Option Consumer) (response : Response) (k : HeadCase) (kept : Option _) → running ≡ Some o → is_some c ≡ true → ((q : Open) (u : Consumer) → running ≡ Some q → c ≡ Some u → k ≡ head_case (heard_view q u kept response)) → is_bad_case k ≡ false
+    → is_bad (length_by running response) ≡ false
+good_told running o c response k kept there lives tells off =
+    let u = is_there c lives in
+    ap (λ (z : Option Open). is_bad (length_by z response)) there ∙ good_case (heard_view o u.0 kept response) k (tells o u.0 there u.1) off
+
+-- WHO WAITS FOR IT
+
+-- what the code looked up of the exchange
+pub viewed_as : (x : ℕ) (running : Option Open) (o : Open) (found : Option ExchangeView) (v : ExchangeView) → running ≡ Some o → found ≡ option_map (view_of x) running → found ≡ Some v → v ≡ view_of x o
+viewed_as x running o found v there is at = sym (some_is (view_of x o) v (sym (ap (option_map (view_of x)) there) ∙ (sym is ∙ at)))
+
+module _ {B : Type 0} {g : Ghosts B} (r : Rows B g) (t : Tables) (facts : Facts r.limits t) (stands : RowsStand r t) (x : ℕ) (o : Open) (there : (table_of r.exchanges x).running ≡ Some o) (headless : o.headed ≡ false) where
+  -- the exchange, and its consumer
+  pub record HeardAs : Type 0 where
+    pub w : Exchange
+    pub row : t.exchange x ≡ Some w
+    pub asked : Asker r t x w
+    pub for_it : w.c ≡ o.c
+
+  pub heard_as : HeardAs
+  heard_as =
+      let h = heard_row r t x o stands there in
+      record {
+        w = h.w;
+        row = h.row;
+        asked = asker r t facts x h.w stands h.row h.is.is_open (bare h.w.head (sym h.is.headed ∙ headless));
+        for_it = sym h.is.c;
+      }
+    where
+      bare : (z : Option Response) → is_some z ≡ false → z ≡ None
+      bare None off = refl
+      bare (Some response) off = false_true (sym off)
+
+  pub asker_lives : (c : ℕ) → o.c ≡ c → is_some (get nat_eq r.consumers c) ≡ true
+  asker_lives c same = (let h = heard_as in ap (λ (z : Option Consumer). is_some z) (ap (get nat_eq r.consumers) (sym (h.for_it ∙ same)) ∙ h.asked.there))
+
+-- whoever waits to found or to join is kept by its key
+waits_in_key : {B : Type 0} {g : Ghosts B} (r : Rows B g) (t : Tables) (facts : Facts r.limits t) (stands : RowsStand r t) (x : ℕ) (w : Exchange) (a : Asker r t x w) → awaited a.v.place ≡ Some x → is_in w.c (line_of r.keys a.k.request.key) ≡ true
+waits_in_key r t facts stands x w a waits = by_place a.v.place refl waits
+  where
+    key : List ℕ
+    key = a.k.request.key
+
+    same_key : key ≡ a.v.request.key
+    same_key = ap (λ (q : Request). q.key) a.is.request
+
+    first_on : (p q s : Bool) → p ≡ true → (p || q || s) ≡ true
+    first_on true q s on = refl
+    first_on false q s on = false_true on
+
+    last_on : (p q s : Bool) → s ≡ true → (p || q || s) ≡ true
+    last_on true q s on = refl
+    last_on false true s on = refl
+    last_on false false s on = on
+
+    in_line : is_in_line key (Some a.v) ≡ true → is_in w.c (line_of r.keys key) ≡ true
+    in_line on = first_on (is_among w.c (kept_of r.keys key).in_line) (is_among w.c (kept_of r.keys key).passed) (is_among w.c (kept_of r.keys key).away) ((stands.keys key).in_line w.c ∙ (ap (is_in_line key) a.awaits.asker ∙ on))
+
+    away : is_away t key (Some a.v) ≡ true → is_in w.c (line_of r.keys key) ≡ true
+    away on = last_on (is_among w.c (kept_of r.keys key).in_line) (is_among w.c (kept_of r.keys key).passed) (is_among w.c (kept_of r.keys key).away) ((stands.keys key).away w.c ∙ (ap (is_away t key) a.awaits.asker ∙ on))
+
+    by_place : (p : Place) → a.v.place ≡ p → awaited p ≡ Some x → is_in w.c (line_of r.keys key) ≡ true
+    by_place (place.Turn y) at on =
+        let queues = facts.law.places.turn_queues w.c y a.v a.awaits.asker at in
+        in_line (ap (λ k. is_in_line k (Some a.v)) same_key ∙ lined a.v (ap Rattle.hc_model.specs.Lines.stands_in_line at) queues.cached queues.asks)
+    by_place (place.Bound q lo hi (by.FirstHole y)) at on =
+        let same_y : y ≡ x = some_is y x on in
+        let opened = a.awaits.is_open in
+        let headless = a.awaits.headless in
+        let waits : is_headless (t.exchange y) ≡ true = ap (λ (n : ℕ). is_headless (t.exchange n)) same_y ∙ (ap is_headless a.awaits.row ∙ rw (opened, headless) refl) in
+        away (ap₂ ◌&&◌ (bytes_eq-same a.v.request.key key (sym same_key)) (ap (is_away_at t) at ∙ waits))
+    by_place (place.Bound q lo hi by.Founding) at on = none_some x on
+    by_place (place.Bound q lo hi by.Plan) at on = none_some x on
+    by_place place.Line at on = none_some x on
+    by_place (place.Passed q kept) at on = none_some x on
+    by_place (place.Direct y) at on = none_some x on
+    by_place (place.Down why) at on = none_some x on
+    by_place place.Over at on = none_some x on
+
+-- WHAT IS TOLD OF IT
+
+-- it dooms nothing
+doomless_as : (w : Exchange) (response : Response) (k : HeadCase) → (is_past_case k && changes w response) ≡ false → doomed_by_case (Some k) w response ≡ None
+doomless_as w response case.DirectBad off = rw off refl
+doomless_as w response case.DirectTaken off = rw off refl
+doomless_as w response case.TurnBad off = refl
+doomless_as w response case.Validated off = refl
+doomless_as w response case.NotValidated off = refl
+doomless_as w response case.TurnServerError off = refl
+doomless_as w response case.FoundsWhole off = refl
+doomless_as w response case.FoundsRange off = refl
+doomless_as w response case.PassesBy off = refl
+doomless_as w response case.FirstBad off = refl
+doomless_as w response case.FirstJoins off = refl
+doomless_as w response case.FirstServerError off = refl
+doomless_as w response case.FirstChanged off = refl
+doomless_as w response case.FirstReplaced off = refl
+doomless_as w response case.FirstPassesBy off = refl
+doomless_as w response case.LaterBad off = refl
+doomless_as w response case.LaterJoins off = refl
+doomless_as w response case.LaterChanged off = refl
+
+turn_apart : (way : Route) → way ≡ route.Turn → way ≡ route.Direct → ⊥
+turn_apart way turn is = let never : route.Turn ≡ route.Direct = sym turn ∙ is in cc
+
+hole_apart : (way : Route) → way ≡ route.Hole → way ≡ route.Direct → ⊥
+hole_apart way hole is = let never : route.Hole ≡ route.Direct = sym hole ∙ is in cc
+
+-- what goes with it depends on what it is about only where that is told
+goes_by : (now aim about : Option ℕ) (status : ℕ) (v : HeadView) (k : HeadCase) → CaseBy v k → ((route_of v.need ≡ route.Direct → ⊥) → aim ≡ about) → let_go_by now aim status k ≡ let_go_by now about status k
+goes_by now aim about status v _ (cases.not_validated way s) same = same (turn_apart (route_of v.need) way)
+goes_by now aim about status v _ (cases.first_changed way shown) same = same (hole_apart (route_of v.need) way)
+goes_by now aim about status v _ (cases.first_passes_by way shown) same = same (hole_apart (route_of v.need) way)
+goes_by now aim about status v _ (cases.later_changed way shown) same = ap (λ (o : Option ℕ). if nat_lt status 500 then o else None) (same (hole_apart (route_of v.need) way))
+goes_by now aim about status v _ (cases.direct_bad way bad) same = refl
+goes_by now aim about status v _ (cases.direct_taken way) same = refl
+goes_by now aim about status v _ (cases.turn_bad way bad) same = refl
+goes_by now aim about status v _ (cases.validated way s asked kept) same = refl
+goes_by now aim about status v _ (cases.turn_server_error way) same = refl
+goes_by now aim about status v _ (cases.founds_whole way s kept good) same = refl
+goes_by now aim about status v _ (cases.founds_range way s fits kept good) same = refl
+goes_by now aim about status v _ (cases.passes_by way) same = refl
+goes_by now aim about status v _ (cases.first_bad way shown bad) same = refl
+goes_by now aim about status v _ (cases.first_joins way shown joins good) same = refl
+goes_by now aim about status v _ (cases.first_server_error way shown) same = refl
+goes_by now aim about status v _ (cases.first_replaced way shown s kept good) same = same (hole_apart (route_of v.need) way)
+goes_by now aim about status v _ (cases.later_bad way shown bad) same = refl
+goes_by now aim about status v _ (cases.later_joins way shown joins good) same = refl
+
+-- the row of its exchange, its case, and what goes with it
+pub record Told (t : Tables) (x : ℕ) (response : Response) (k : HeadCase) (goes : Option ℕ) : Type 0 where
+  pub w : Exchange
+  pub row : t.exchange x ≡ Some w
+  pub is : head_case (head_view t false w response) ≡ k
+  pub doomless : doomed_by_case (Some k) w response ≡ None
+  pub same : goes ≡ goes_with t w response k
+
+module _ {B : Type 0} {g : Ghosts B} (r : Rows B g) (t : Tables) (facts : Facts r.limits t) (stands : RowsStand r t) (x c : ℕ) (o : Open) (there : (table_of r.exchanges x).running ≡ Some o) (headless : o.headed ≡ false) (same_c : o.c ≡ c) (response : Response) (k : HeadCase)
+    (tells : (q : Open) (u : Consumer) → (table_of r.exchanges x).running ≡ Some q → get nat_eq r.consumers c ≡ Some u → k ≡ head_case (heard_view q u (kept_at (shelf_of r.entries) (aim_in o.role)) response)) where
+  h : HeardAs r t facts stands x o there headless
+  h = heard_as r t facts stands x o there headless
+
+  here : get nat_eq r.consumers c ≡ Some h.asked.k
+  here = ap (get nat_eq r.consumers) (sym (h.for_it ∙ same_c)) ∙ h.asked.there
+
+  runs : IsRunning t x o h.w
+  runs = runs_as r t x o h.w stands there h.row
+
+  -- whoever is to start anew waits in its key
+  pub waits_told : starts_anew k ≡ true → (u : Consumer) → get nat_eq r.consumers c ≡ Some u → is_in c (line_of r.keys u.request.key) ≡ true
+  waits_told on u at =
+      let one = same_row (get nat_eq r.consumers c) h.asked.k u here at in
+      let view : HeadView = heard_view o h.asked.k (kept_at (shelf_of r.entries) (aim_in o.role)) response in
+      let waits = waits_in_key r t facts stands x h.w h.asked (awaits_viewed x h.w h.asked.v view k runs.need h.asked.is.shown h.asked.stands on (tells o h.asked.k there here)) in
+      subst (λ (n : ℕ). is_in n (line_of r.keys u.request.key) ≡ true) (h.for_it ∙ same_c)
+      (subst (λ (q : Consumer). is_in h.w.c (line_of r.keys q.request.key) ≡ true) one waits)
+
+  module _ (apart : k ≡ case.NotValidated → ⊥) where
+    is_told : head_case (head_view t false h.w response) ≡ k
+    is_told = case_is r t facts stands x h.w h.asked o there response k (tells o h.asked.k there here) apart
+
+    current_as : (kept_of r.keys o.request.key).current ≡ current t h.w.request.key
+    current_as = (stands.keys o.request.key).current ∙ ap (λ (q : Request). current t q.key) runs.request
+
+    pub told_of : (goes : Option ℕ) → (is_past_case k && changes_by o.request response) ≡ false → goes ≡ let_go_by (kept_of r.keys o.request.key).current (aim_in o.role) response.status k → Told t x response k goes
+    told_of goes off goes_is = record {
+      w = h.w;
+      row = h.row;
+      is = is_told;
+      doomless = doomless_as h.w response k (ap (λ (q : Request). is_past_case k && changes_by q response) (sym runs.request) ∙ off);
+      same = goes_is
+          ∙ (ap (λ (n : Option ℕ). let_go_by n (aim_in o.role) response.status k) current_as
+          ∙ goes_by (current t h.w.request.key) (aim_in o.role) h.w.aim response.status (head_view t false h.w response) k (subst (CaseBy (head_view t false h.w response)) is_told (case_by (head_view t false h.w response)))
+          (λ past. aim_is r t facts stands x h.w h.asked o there response (route_of h.w.need) refl past));
+    }
+
+-- A HEAD THAT DOOMS
+
+-- one past the store
+past_way : (v : HeadView) (k : HeadCase) → CaseBy v k → is_past_case k ≡ true → route_of v.need ≡ route.Direct
+past_way v _ (cases.direct_bad way bad) on = way
+past_way v _ (cases.direct_taken way) on = way
+past_way v _ (cases.turn_bad way bad) on = false_true on
+past_way v _ (cases.validated way s asked kept) on = false_true on
+past_way v _ (cases.not_validated way s) on = false_true on
+past_way v _ (cases.turn_server_error way) on = false_true on
+past_way v _ (cases.founds_whole way s kept good) on = false_true on
+past_way v _ (cases.founds_range way s fits kept good) on = false_true on
+past_way v _ (cases.passes_by way) on = false_true on
+past_way v _ (cases.first_bad way shown bad) on = false_true on
+past_way v _ (cases.first_joins way shown joins good) on = false_true on
+past_way v _ (cases.first_server_error way shown) on = false_true on
+past_way v _ (cases.first_changed way shown) on = false_true on
+past_way v _ (cases.first_replaced way shown s kept good) on = false_true on
+past_way v _ (cases.first_passes_by way shown) on = false_true on
+past_way v _ (cases.later_bad way shown bad) on = false_true on
+past_way v _ (cases.later_joins way shown joins good) on = false_true on
+past_way v _ (cases.later_changed way shown) on = false_true on
+
+-- it is bad, or is taken
+pub taken_case : (k : HeadCase) → is_past_case k ≡ true → (k ≡ case.DirectBad → ⊥) → k ≡ case.DirectTaken
+taken_case case.DirectTaken on off = refl
+taken_case case.DirectBad on off = absurd (off refl)
+taken_case case.TurnBad on off = false_true on
+taken_case case.Validated on off = false_true on
+taken_case case.NotValidated on off = false_true on
+taken_case case.TurnServerError on off = false_true on
+taken_case case.FoundsWhole on off = false_true on
+taken_case case.FoundsRange on off = false_true on
+taken_case case.PassesBy on off = false_true on
+taken_case case.FirstBad on off = false_true on
+taken_case case.FirstJoins on off = false_true on
+taken_case case.FirstServerError on off = false_true on
+taken_case case.FirstChanged on off = false_true on
+taken_case case.FirstReplaced on off = false_true on
+taken_case case.FirstPassesBy on off = false_true on
+taken_case case.LaterBad on off = false_true on
+taken_case case.LaterJoins on off = false_true on
+taken_case case.LaterChanged on off = false_true on
+
+past_apart : (k : HeadCase) → is_past_case k ≡ true → k ≡ case.NotValidated → ⊥
+past_apart k on is = false_true (sym (ap is_past_case is) ∙ on)
+
+both_of : (a b : Bool) → (a && b) ≡ true → (a ≡ true) × (b ≡ true)
+both_of true b on = (refl, on)
+both_of false b on = false_true on
+
+-- the row of its exchange and its case, and that it may have changed something
+pub record ToldDooming (t : Tables) (x : ℕ) (response : Response) (k : HeadCase) : Type 0 where
+  pub w : Exchange
+  pub row : t.exchange x ≡ Some w
+  pub is : head_case (head_view t false w response) ≡ k
+  pub unsafe : changes w response ≡ true
+
+-- A 304 TO A CONDITIONAL REQUEST
+
+-- the row of its exchange, what that is about, and that it may select that
+pub record ToldUnselected (t : Tables) (x : ℕ) (response : Response) (aim : Option ℕ) : Type 0 where
+  pub w : Exchange
+  pub row : t.exchange x ≡ Some w
+  pub about : aim ≡ w.aim
+  pub is : head_case (record (head_view t false w response) { selects = false }) ≡ case.NotValidated
+
+turn_not_direct : route.Turn ≡ route.Direct → ⊥
+turn_not_direct is = cc
+
+-- A HEAD THAT FOUNDS
+
+-- a 200 or a 206
+founds_status : (v : HeadView) (k : HeadCase) → CaseBy v k → is_founding (Some k) ≡ true → IsTrue (v.status == 200 || v.status == 206)
+founds_status v _ (cases.founds_whole way s kept good) on = rw s refl
+founds_status v _ (cases.founds_range way s fits kept good) on = rw s refl
+founds_status v _ (cases.first_replaced way shown s kept good) on = rw s refl
+founds_status v _ (cases.direct_bad way bad) on = false_true on
+founds_status v _ (cases.direct_taken way) on = false_true on
+founds_status v _ (cases.turn_bad way bad) on = false_true on
+founds_status v _ (cases.validated way s asked kept) on = false_true on
+founds_status v _ (cases.not_validated way s) on = false_true on
+founds_status v _ (cases.turn_server_error way) on = false_true on
+founds_status v _ (cases.passes_by way) on = false_true on
+founds_status v _ (cases.first_bad way shown bad) on = false_true on
+founds_status v _ (cases.first_joins way shown joins good) on = false_true on
+founds_status v _ (cases.first_server_error way shown) on = false_true on
+founds_status v _ (cases.first_changed way shown) on = false_true on
+founds_status v _ (cases.first_passes_by way shown) on = false_true on
+founds_status v _ (cases.later_bad way shown bad) on = false_true on
+founds_status v _ (cases.later_joins way shown joins good) on = false_true on
+founds_status v _ (cases.later_changed way shown) on = false_true on
+
+-- BY WHAT THE CODE LOOKED UP
+
+module _ {B : Type 0} {g : Ghosts B} (r : Rows B g) (x : ℕ) (response : Response) (found : Option ExchangeView) (v : ExchangeView) (aim : Option ℕ) (k : HeadCase) (accepted : head_refusal (option_map seen (table_of r.exchanges x).running) ≡ None) (viewed : found ≡ option_map (view_of x) (table_of r.exchanges x).running) (some : found ≡ Some v) (about : aim ≡ aim_in v.role)
+    (tells : (q : Open) (u : Consumer) → (table_of r.exchanges x).running ≡ Some q → get nat_eq r.consumers v.c ≡ Some u → k ≡ head_case (heard_view q u (kept_at (shelf_of r.entries) aim) response)) where
+  bare : Headless (table_of r.exchanges x).running
+  bare = headless_of (table_of r.exchanges x).running accepted
+
+  view_is : v ≡ view_of x bare.o
+  view_is = viewed_as x (table_of r.exchanges x).running bare.o found v bare.there viewed some
+
+  aim_as : aim ≡ aim_in bare.o.role
+  aim_as = about ∙ ap (λ (z : ExchangeView). aim_in z.role) view_is
+
+  for_c : bare.o.c ≡ v.c
+  for_c = sym (ap (λ (z : ExchangeView). z.c) view_is)
+
+  tells_as : (q : Open) (u : Consumer) → (table_of r.exchanges x).running ≡ Some q → get nat_eq r.consumers v.c ≡ Some u → k ≡ head_case (heard_view q u (kept_at (shelf_of r.entries) (aim_in bare.o.role)) response)
+  tells_as q u there at = tells q u there at ∙ ap (λ (a : Option ℕ). head_case (heard_view q u (kept_at (shelf_of r.entries) a) response)) aim_as
+
+  pub good_as : is_some (get nat_eq r.consumers v.c) ≡ true → is_bad_case k ≡ false → is_bad (length_by (table_of r.exchanges x).running response) ≡ false
+  good_as lives off = good_told (table_of r.exchanges x).running bare.o (get nat_eq r.consumers v.c) response k (kept_at (shelf_of r.entries) aim) bare.there lives tells off
+
+  pub founds_as : is_some (get nat_eq r.consumers v.c) ≡ true → IsModest response.fields → is_founding (Some k) ≡ true → MayFound response
+  founds_as lives modest on =
+      let u = is_there (get nat_eq r.consumers v.c) lives in
+      let view : HeadView = heard_view bare.o u.0 (kept_at (shelf_of r.entries) aim) response in
+      record {
+        status = founds_status view k (subst (CaseBy view) (sym (tells bare.o u.0 bare.there u.1)) (case_by view)) on;
+        modest = modest;
+      }
+
+  pub waits_as_told : {P : Type 0} → ∥ P ∥₁ → (P → (t : Tables) × Facts r.limits t × RowsStand r t) → is_some (get nat_eq r.consumers v.c) ≡ true → starts_anew k ≡ true → IsSomeAnd (get nat_eq r.consumers v.c) (IsInKey r.keys v.c)
+  waits_as_told some_past past lives on =
+      let u = is_there (get nat_eq r.consumers v.c) lives in
+      some_that (get nat_eq r.consumers v.c) u.0 (IsInKey r.keys v.c) u.1
+      (merely_true (is_in v.c (line_of r.keys u.0.request.key)) some_past
+      (λ p. (let s = past p in waits_told r s.0 s.1 s.2 x v.c bare.o bare.there bare.headless for_c response k tells_as on u.0 u.1)))
+
+  pub told_as : (t : Tables) (facts : Facts r.limits t) (stands : RowsStand r t) (d : Bool) (goes : Option ℕ) → ((q : Open) → (table_of r.exchanges x).running ≡ Some q → d ≡ (is_past_case k && changes_by q.request response)) → d ≡ false
+      → ((q : Open) → (table_of r.exchanges x).running ≡ Some q → goes ≡ let_go_by (kept_of r.keys q.request.key).current aim response.status k) → (k ≡ case.NotValidated → ⊥) → Told t x response k goes
+  told_as t facts stands d goes dooms off goes_is apart =
+      told_of r t facts stands x v.c bare.o bare.there bare.headless for_c response k tells_as apart goes (sym (dooms bare.o bare.there) ∙ off)
+      (goes_is bare.o bare.there ∙ ap (λ (a : Option ℕ). let_go_by (kept_of r.keys bare.o.request.key).current a response.status k) aim_as)
+
+  -- where it may select what is stored
+  pub told_unselected : (t : Tables) (facts : Facts r.limits t) (stands : RowsStand r t) → k ≡ case.NotValidated → ToldUnselected t x response aim
+  told_unselected t facts stands is_k =
+      let e = h r t facts stands x v.c bare.o bare.there bare.headless for_c response k tells_as in
+      let its = here r t facts stands x v.c bare.o bare.there bare.headless for_c response k tells_as in
+      let unselected : head_case (record (head_view t false e.w response) { selects = false }) ≡ case.NotValidated =
+      sym (ap head_case (views_as r t facts stands x e.w e.asked bare.o bare.there response)) ∙ (sym (tells_as bare.o e.asked.k bare.there its) ∙ is_k) in
+      record {
+        w = e.w;
+        row = e.row;
+        about = aim_as ∙ aim_is r t facts stands x e.w e.asked bare.o bare.there response route.Turn (it_is (head_view t false e.w response) unselected).0 turn_not_direct;
+        is = unselected;
+      }
+
+  -- where it dooms
+  module _ (d : Bool) (dooms : (q : Open) → (table_of r.exchanges x).running ≡ Some q → d ≡ (is_past_case k && changes_by q.request response)) (on : d ≡ true) where
+    parts : ((is_past_case k ≡ true) × (changes_by bare.o.request response ≡ true))
+    parts = both_of (is_past_case k) (changes_by bare.o.request response) (sym (dooms bare.o bare.there) ∙ on)
+
+    pub dooms_past : is_past_case k ≡ true
+    dooms_past = parts.0
+
+    pub past_store : is_some (get nat_eq r.consumers v.c) ≡ true → IsPastStore (table_of r.exchanges x).running
+    past_store lives = λ q there.
+        let u = is_there (get nat_eq r.consumers v.c) lives in
+        let view : HeadView = heard_view q u.0 (kept_at (shelf_of r.entries) aim) response in
+        past_way view k (subst (CaseBy view) (sym (tells q u.0 there u.1)) (case_by view)) parts.0
+
+    pub told_dooming : (t : Tables) (facts : Facts r.limits t) (stands : RowsStand r t) → ToldDooming t x response k
+    told_dooming t facts stands =
+        let e = h r t facts stands x v.c bare.o bare.there bare.headless for_c response k tells_as in
+        record {
+          w = e.w;
+          row = e.row;
+          is = is_told r t facts stands x v.c bare.o bare.there bare.headless for_c response k tells_as (past_apart k parts.0);
+          unsafe = ap (λ (q : Request). changes_by q response) (sym (runs_as r t x bare.o e.w stands bare.there e.row).request) ∙ parts.1;
+        }
+
+-- a head that puts down lets nothing go
+pub downs_none : (t : Tables) (w : Exchange) (response : Response) (k : HeadCase) → puts_down k ≡ true → None ≡ goes_with t w response k
+downs_none t w response case.DirectBad on = refl
+downs_none t w response case.TurnBad on = refl
+downs_none t w response case.FirstBad on = refl
+downs_none t w response case.DirectTaken on = false_true on
+downs_none t w response case.Validated on = false_true on
+downs_none t w response case.NotValidated on = false_true on
+downs_none t w response case.TurnServerError on = false_true on
+downs_none t w response case.FoundsWhole on = false_true on
+downs_none t w response case.FoundsRange on = false_true on
+downs_none t w response case.PassesBy on = false_true on
+downs_none t w response case.FirstJoins on = false_true on
+downs_none t w response case.FirstServerError on = false_true on
+downs_none t w response case.FirstChanged on = false_true on
+downs_none t w response case.FirstReplaced on = false_true on
+downs_none t w response case.FirstPassesBy on = false_true on
+downs_none t w response case.LaterBad on = false_true on
+downs_none t w response case.LaterJoins on = false_true on
+downs_none t w response case.LaterChanged on = false_true on
+
+-- WHICH CASE IT IS
+
+pub down_case : (k : HeadCase) → (k ≡ case.DirectBad) ⊎ ((k ≡ case.TurnBad) ⊎ (k ≡ case.FirstBad)) → puts_down k ≡ true
+down_case k (inl is) = ap puts_down is
+down_case k (inr (inl is)) = ap puts_down is
+down_case k (inr (inr is)) = ap puts_down is
+
+pub past_case : (k : HeadCase) → (k ≡ case.TurnServerError) ⊎ ((k ≡ case.PassesBy) ⊎ ((k ≡ case.FirstServerError) ⊎ (k ≡ case.FirstPassesBy))) → goes_past k ≡ true
+past_case k (inl is) = ap goes_past is
+past_case k (inr (inl is)) = ap goes_past is
+past_case k (inr (inr (inl is))) = ap goes_past is
+past_case k (inr (inr (inr is))) = ap goes_past is
+
+pub good_past : (k : HeadCase) → (k ≡ case.TurnServerError) ⊎ ((k ≡ case.PassesBy) ⊎ ((k ≡ case.FirstServerError) ⊎ (k ≡ case.FirstPassesBy))) → is_bad_case k ≡ false
+good_past k (inl is) = ap is_bad_case is
+good_past k (inr (inl is)) = ap is_bad_case is
+good_past k (inr (inr (inl is))) = ap is_bad_case is
+good_past k (inr (inr (inr is))) = ap is_bad_case is
+
+pub anew_case : (k : HeadCase) → (k ≡ case.NotValidated) ⊎ (k ≡ case.FirstChanged) → starts_anew k ≡ true
+anew_case k (inl is) = ap starts_anew is
+anew_case k (inr is) = ap starts_anew is
+
+-- SOME PAST
+
+pub past_of_runs : {B : Type 0} {g : Ghosts B} (r : Rows B g) → Stands r → (t : Tables) × Facts r.limits t × RowsStand r t
+past_of_runs r s = (s.t, s.facts, s.rows)
+
+-- its consumer is kept
+pub live_now : {B : Type 0} {g : Ghosts B} (r : Rows B g) (x : ℕ) (found : Option ExchangeView) (v : ExchangeView) → head_refusal (option_map seen (table_of r.exchanges x).running) ≡ None → found ≡ option_map (view_of x) (table_of r.exchanges x).running → found ≡ Some v → ∥ Stands r ∥₁
+    → is_some (get nat_eq r.consumers v.c) ≡ true
+live_now r x found v accepted viewed some some_past =
+    let bare = headless_of (table_of r.exchanges x).running accepted in
+    let view_is = viewed_as x (table_of r.exchanges x).running bare.o found v bare.there viewed some in
+    merely_true (is_some (get nat_eq r.consumers v.c)) some_past
+    (λ p. (let s = past_of_runs r p in asker_lives r s.0 s.1 s.2 x bare.o bare.there bare.headless v.c (sym (ap (λ (z : ExchangeView). z.c) view_is))))
+
+-- no more are kept than may be live
+pub few_kept : {B : Type 0} {g : Ghosts B} (r : Rows B g) → ∥ Stands r ∥₁ → hash_map_len r.consumers < most_live + 1
+few_kept r some_past = merely_below (hash_map_len r.consumers) (most_live + 1) some_past
+    (λ p. (let s = past_of_runs r p in let few = s.1.live.few in let count = s.2.count in omega (arith, few, count)))

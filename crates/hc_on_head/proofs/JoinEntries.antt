@@ -1,0 +1,139 @@
+-- The head of an exchange came that brings bytes of a hole: what is kept of representations stands for the tables then.
+use Rattle.std.proofs.Common.{◌≡◌, ◌≢◌, inl, inr, ℕ, List, [], ◌∷◌, Bool, true, false, Option, Some, refl, ap, sym, ◌∙◌, subst}
+use Rattle.std.specs.Prelude.{nat_eq, ◌||◌}
+use Rattle.std.specs.List.{list_any}
+use Rattle.hc_event.specs.declared.event.Response.{Response}
+use Rattle.hc_record.specs.Head.{Head, sealed_head}
+use Rattle.hc_record.specs.declared.kind.Kind.TheVariants as kinds
+use Rattle.hc_stored.specs.Kept.{Kept}
+use Rattle.hc_stored.specs.Shelf.{Shelf}
+use Rattle.hc_model.specs.Currents.{is_number}
+use Rattle.hc_model.specs.ExchangeRows.{promise_in}
+use Rattle.hc_model.specs.Exchanges.{family, is_reached}
+use Rattle.hc_model.specs.Kinds.{brings_to, is_growing, kind_of}
+use Rattle.hc_model.specs.Reading.{bound, is_bound}
+use Rattle.hc_model.specs.Rows as rows
+use Rattle.hc_model.specs.Rows.{Tables, Exchange, Representation}
+use Rattle.hc_model.specs.Sound.{Among}
+use Rattle.hc_model.specs.Writers.{status_in}
+use Rattle.hc_state.specs.Stored.{IsEntry, TellsLength, told, untold, KeepsEntry, KeepsEntries, is_first, is_usable_row, TellsWriter}
+use Rattle.hc_on_head.proofs.JoinRows.{IsJoinable, s, z, told_consumer, told_representation, exchange_here, exchange_other, representation_here, representation_other}
+use Rattle.hc_state.proofs.Losing.{filters_same}
+use Rattle.hc_state.proofs.OneOfEach.{bound_same, first_by, growing_same, kind_same}
+use Rattle.hc_state.proofs.Ties.{entry_same, OversStay, overs_open, writer_then}
+use Rattle.hc_state.proofs.Words.{same_or, eqb-same, eqb-other, then_false, false_true, none_some}
+
+-- one of them passes the test
+any_there : (f : ℕ → Bool) (c : ℕ) (cs : List ℕ) → Among c cs → f c ≡ true → list_any f cs ≡ true
+any_there f c [] none on = absurd none
+any_there f c (d ∷ cs) (inl here) on = (let it : f d ≡ true = ap f here ∙ on in rw it refl)
+any_there f c (d ∷ cs) (inr later) on = by_test (f d) (any_there f c cs later on)
+  where
+    by_test : (b : Bool) → list_any f cs ≡ true → (b || list_any f cs) ≡ true
+    by_test true rest = refl
+    by_test false rest = rest
+
+module _ (t : Tables) (now x q : ℕ) (response : Response) (w : Exchange) (v : rows.Consumer) (p : Representation) (j : IsJoinable t x q w v p) (h : Head) (total : h.total ≡ p.head.total) (status : h.status ≡ p.head.status) (wr : Option ℕ) (own : Option ℕ) (apart : (y : ℕ) → x ≢ y → is_number own y ≡ false) where
+  abbrev m : Tables
+  m = s t now x q response w v p j h total wr own apart
+
+  abbrev now_row : Representation
+  now_row = z t now x q response w v p j h total wr own apart
+
+  overs : OversStay t.exchange m.exchange
+  overs = overs_open t.exchange m.exchange x w j.row j.is_open (exchange_other t now x q response w v p j h total wr own apart)
+
+  users : (n d : ℕ) → is_bound n (m.consumer d) ≡ is_bound n (t.consumer d)
+  users n = told_consumer t now x q response w v p j h total wr own apart (is_bound n) refl
+
+  firsts : (n d : ℕ) → is_first m n (m.consumer d) ≡ is_first t n (t.consumer d)
+  firsts n d =
+      first_by t m (told_representation t now x q response w v p j h total wr own apart status_in status) n (m.consumer d)
+      ∙ told_consumer t now x q response w v p j h total wr own apart (is_first t n) refl d
+
+  lists : (n : ℕ) → bound m n ≡ bound t n
+  lists n = bound_same t m n refl (users n)
+
+  -- what another one brings stays
+  brings_else : (n y : ℕ) (o : Representation) → q ≢ n → t.representation n ≡ Some o → brings_to n y (m.exchange y) ≡ brings_to n y (t.exchange y)
+  brings_else n y o ne there = elim (same_or x y) [
+    | inr off ↦ ap (brings_to n y) (exchange_other t now x q response w v p j h total wr own apart y off)
+    | inl e ↦ subst (λ (k : ℕ). brings_to n k (m.exchange k) ≡ brings_to n k (t.exchange k)) e (
+        let itself_apart : nat_eq x n ≡ false = eqb-other x n (λ same. none_some o (sym j.unfounded ∙ (ap t.representation same ∙ there))) in
+        let none = j.unjoined in
+        let was : nat_eq (family x w) n ≡ false = rw none itself_apart in
+        ap (brings_to n x) (exchange_here t now x q response w v p j h total wr own apart)
+        ∙ (then_false _ (nat_eq q n) (eqb-other q n ne)
+        ∙ sym (ap (brings_to n x) j.row ∙ then_false w.is_open (nat_eq (family x w) n) was)))
+  ]
+
+  others_then : (shelf : Shelf) (n : ℕ) → q ≢ n → KeepsEntry t n (shelf.kept n) (t.representation n) → KeepsEntry m n (shelf.kept n) (m.representation n)
+  others_then shelf n ne kept =
+      subst (KeepsEntry m n (shelf.kept n)) (sym (representation_other t now x q response w v p j h total wr own apart n ne))
+      (entry_same t m n (shelf.kept n) (t.representation n) refl (record { users = users n; first = firsts n; list = lists n; kind = λ o there. kind_same t m n o (growing_same t m n refl (λ y. brings_else n y o ne there)); overs = overs }) kept)
+
+  -- more comes of it
+  growing_now : is_reached (promise_in w response) 0 ≡ false → kind_of m q now_row ≡ kinds.Growing
+  unfolding kind_of
+  growing_now on =
+      let here : brings_to q x (m.exchange x) ≡ true = ap (brings_to q x) (exchange_here t now x q response w v p j h total wr own apart) ∙ (let opened = j.is_open in rw (on, opened) (eqb-same q)) in
+      let grows : is_growing m q ≡ true = any_there (λ y. brings_to q y (m.exchange y)) x t.openings j.listed here in
+      rw grows refl
+
+  -- where its head tells that
+  pub entry_growing : (e : Kept) (k : Head) (writer : Option ℕ) → IsEntry t q e p → is_reached (promise_in w response) 0 ≡ false → sealed_head kinds.Growing h.total k ≡ h → k.total ≡ e.head.total → k.kind ≡ kinds.Growing → TellsWriter t.exchange writer wr → IsEntry m q (record e { head = k; writer = writer }) now_row
+  unfolding bound
+  entry_growing e k writer is on sealed told_as kind_is by = record {
+    used = λ gone none. is.used gone (sym (lists q) ∙ none);
+    key = is.key;
+    head = sealed;
+    length = by_length is.length;
+    kind = λ stays. kind_is ∙ sym (growing_now on);
+    whole = λ n whole known. absurd (let never : kinds.Growing ≡ kinds.Whole = sym kind_is ∙ whole in cc);
+    cells = is.cells;
+    reach = is.reach;
+    bound = λ d. is.bound d ∙ sym (users q d);
+    first = λ d. is.first d ∙ sym (firsts q d);
+    writer = writer_then overs by;
+    is_lost = is.is_lost;
+    alone = is.alone;
+    is_gone = is.is_gone;
+  }
+    where
+      by_length : TellsLength e p → TellsLength (record e { head = k; writer = writer }) now_row
+      by_length (told same) = told (told_as ∙ (same ∙ sym total))
+      by_length (untold u) = untold (record { gone = u.gone; untold = told_as ∙ u.untold; total = u.total; known = total ∙ u.known; came = u.came; first = u.first })
+
+  -- what is gone tells as before
+  pub entry_gone : (e : Kept) → IsEntry t q e p → p.is_gone ≡ true → h ≡ p.head → wr ≡ p.writer → IsEntry m q e now_row
+  unfolding bound
+  entry_gone e is gone same by = record {
+    used = λ gone none. is.used gone (sym (lists q) ∙ none);
+    key = is.key;
+    head = ap (λ (n : Head). sealed_head kinds.Growing n.total e.head) same ∙ (is.head ∙ sym same);
+    length = by_length is.length;
+    kind = λ stays. false_true (sym stays ∙ gone);
+    whole = λ n whole known. is.whole n whole known;
+    cells = is.cells;
+    reach = is.reach;
+    bound = λ d. is.bound d ∙ sym (users q d);
+    first = λ d. is.first d ∙ sym (firsts q d);
+    writer = writer_then overs (subst (TellsWriter t.exchange e.writer) (sym by) is.writer);
+    is_lost = is.is_lost;
+    alone = is.alone;
+    is_gone = is.is_gone;
+  }
+    where
+      by_length : TellsLength e p → TellsLength e now_row
+      by_length (told known) = told (known ∙ sym total)
+      by_length (untold u) = untold (record { gone = u.gone; untold = u.untold; total = u.total; known = total ∙ u.known; came = u.came; first = u.first })
+
+  -- all of them
+  pub entries_joined : (a b : Shelf) (e : Kept) → KeepsEntries t a → b.order ≡ a.order → ((n : ℕ) → q ≢ n → b.kept n ≡ a.kept n) → b.kept q ≡ Some e → IsEntry m q e now_row → KeepsEntries m b
+  entries_joined a b e kept order others at is = record {
+    each = λ n. elim (same_or q n) [
+      | inl same ↦ subst (λ (k : ℕ). KeepsEntry m k (b.kept k) (m.representation k)) same (subst (λ (o : Option Kept). KeepsEntry m q o (m.representation q)) (sym at) (subst (KeepsEntry m q (Some e)) (sym (representation_here t now x q response w v p j h total wr own apart)) is))
+      | inr ne ↦ subst (λ (o : Option Kept). KeepsEntry m n o (m.representation n)) (sym (others n ne)) (others_then a n ne (kept.each n))
+    ];
+    order = order ∙ (kept.order ∙ sym (filters_same (λ n. is_usable_row (t.representation n)) (λ n. is_usable_row (m.representation n)) (told_representation t now x q response w v p j h total wr own apart is_usable_row refl) t.used));
+  }

@@ -1,0 +1,115 @@
+-- What a head that joins was opened about is kept; and a 304 isn't said to select what is stored before that is looked at.
+use Rattle.std.proofs.Common.{◌≡◌, ◌⊎◌, inl, inr, ℕ, Bool, true, false, Option, Some, None, refl, ap, sym, ◌∙◌, subst}
+use Rattle.std.specs.Prelude.{is_some, IsSomeAnd, nat_eq, option_map}
+use Rattle.std.specs.HashMap.{get}
+use Rattle.hc_store.specs.declared.backend.Backend.{Ghosts}
+use Rattle.hc_event.specs.declared.act.Need.{Need}
+use Rattle.hc_event.specs.declared.act.Need.TheVariants as need
+use Rattle.hc_event.specs.declared.event.Response.{Response}
+use Rattle.hc_rules.specs.declared.heads.HeadCase.{HeadCase}
+use Rattle.hc_rules.specs.declared.heads.HeadCase.TheVariants as case
+use Rattle.hc_rules.specs.declared.heads.HeadView.{HeadView}
+use Rattle.hc_rules.specs.HeadCases.{head_case}
+use Rattle.hc_rules.specs.Refusals.{head_refusal}
+use Rattle.hc_stored.specs.Entries.{shelf_of}
+use Rattle.hc_stored.specs.Kept.{Kept}
+use Rattle.hc_stored.specs.Shelf.{Shelf, is_kept}
+use Rattle.hc_exch.specs.declared.row.ExchangeView.{ExchangeView}
+use Rattle.hc_exch.specs.declared.row.Open.{Open}
+use Rattle.hc_exch.specs.Exchanges.{table_of}
+use Rattle.hc_exch.specs.Known.{seen, view_of}
+use Rattle.hc_model.proofs.FoundBy.{CaseBy, case_by}
+use Rattle.hc_model.proofs.FoundBy as cases
+use Rattle.hc_state.specs.declared.consumer.Consumer.{Consumer}
+use Rattle.hc_state.specs.declared.rows.Rows.{Rows}
+use Rattle.hc_state.specs.Heads.{aim_in, heard_view, is_bad_case, joins_kept, kept_at}
+use Rattle.hc_state.specs.Joining.{IsAbout, IsAboutKept, joins_hole}
+use Rattle.hc_on_leave.proofs.HeadCases.{case_unvalidated}
+use Rattle.hc_on_head.proofs.HeadTold.{viewed_as}
+use Rattle.hc_on_leave.proofs.HeardRows.{Headless, headless_of}
+use Rattle.hc_state.proofs.Words.{false_true, is_there, some_is}
+
+-- nothing joins what isn't kept
+unkept : (n : Need) (response : Response) → joins_kept n None response ≡ true → {A : Type 0} → A
+unkept need.Disabled response on = false_true on
+unkept need.TimedOut response on = false_true on
+unkept need.Bypass response on = false_true on
+unkept need.Miss response on = false_true on
+unkept need.Vary response on = false_true on
+unkept need.Validate response on = false_true on
+unkept need.Unsatisfied response on = false_true on
+unkept (need.Hole from to) response on = false_true on
+
+joins_aim : (s : Shelf) (n : Need) (aim : Option ℕ) (response : Response) → joins_kept n (kept_at s aim) response ≡ true → IsSomeAnd aim (λ q. is_kept s q ≡ true)
+joins_aim s n None response on = unkept n response on
+joins_aim s n (Some q) response on = by_kept (s.kept q) on
+  where
+    by_kept : (k : Option Kept) → joins_kept n k response ≡ true → is_some k ≡ true
+    by_kept None joins = unkept n response joins
+    by_kept (Some k) joins = refl
+
+joins_by_case : (v : HeadView) (k : HeadCase) → CaseBy v k → joins_hole k ≡ true → v.joins ≡ true
+joins_by_case v _ (cases.direct_bad way bad) on = false_true on
+joins_by_case v _ (cases.direct_taken way) on = false_true on
+joins_by_case v _ (cases.turn_bad way bad) on = false_true on
+joins_by_case v _ (cases.validated way s asked kept) on = false_true on
+joins_by_case v _ (cases.not_validated way s) on = false_true on
+joins_by_case v _ (cases.turn_server_error way) on = false_true on
+joins_by_case v _ (cases.founds_whole way s kept good) on = false_true on
+joins_by_case v _ (cases.founds_range way s fits kept good) on = false_true on
+joins_by_case v _ (cases.passes_by way) on = false_true on
+joins_by_case v _ (cases.first_bad way shown bad) on = false_true on
+joins_by_case v _ (cases.first_joins way shown joins good) on = joins
+joins_by_case v _ (cases.first_server_error way shown) on = false_true on
+joins_by_case v _ (cases.first_changed way shown) on = false_true on
+joins_by_case v _ (cases.first_replaced way shown s kept good) on = false_true on
+joins_by_case v _ (cases.first_passes_by way shown) on = false_true on
+joins_by_case v _ (cases.later_bad way shown bad) on = false_true on
+joins_by_case v _ (cases.later_joins way shown joins good) on = joins
+joins_by_case v _ (cases.later_changed way shown) on = false_true on
+
+pub join_case : (k : HeadCase) → (k ≡ case.FirstJoins) ⊎ (k ≡ case.LaterJoins) → joins_hole k ≡ true
+join_case k (inl is) = ap joins_hole is
+join_case k (inr is) = ap joins_hole is
+
+pub good_join : (k : HeadCase) → (k ≡ case.FirstJoins) ⊎ (k ≡ case.LaterJoins) → is_bad_case k ≡ false
+good_join k (inl is) = ap is_bad_case is
+good_join k (inr is) = ap is_bad_case is
+
+-- BY WHAT THE CODE LOOKED UP
+
+module _ {B : Type 0} {g : Ghosts B} (r : Rows B g) (x : ℕ) (found : Option ExchangeView) (v : ExchangeView) (aim : Option ℕ) (response : Response) (accepted : head_refusal (option_map seen (table_of r.exchanges x).running) ≡ None) (viewed : found ≡ option_map (view_of x) (table_of r.exchanges x).running) (some : found ≡ Some v) (about : aim ≡ aim_in v.role) where
+  bare : Headless (table_of r.exchanges x).running
+  bare = headless_of (table_of r.exchanges x).running accepted
+
+  aim_as : (o : Open) → (table_of r.exchanges x).running ≡ Some o → aim ≡ aim_in o.role
+  aim_as o there = about ∙ ap (λ (z : ExchangeView). aim_in z.role) (viewed_as x (table_of r.exchanges x).running o found v there viewed some)
+
+  aim_kept : IsAboutKept (shelf_of r.entries) (table_of r.exchanges x).running → IsSomeAnd aim (λ q. is_kept (shelf_of r.entries) q ≡ true)
+  aim_kept keeps = subst (λ (n : Option ℕ). IsSomeAnd n (λ q. is_kept (shelf_of r.entries) q ≡ true)) (sym (aim_as bare.o bare.there)) (keeps bare.o bare.there)
+
+  pub aim_some : IsAboutKept (shelf_of r.entries) (table_of r.exchanges x).running → is_some aim ≡ true
+  aim_some keeps = by_aim aim (aim_kept keeps)
+    where
+      by_aim : (n : Option ℕ) → IsSomeAnd n (λ q. is_kept (shelf_of r.entries) q ≡ true) → is_some n ≡ true
+      by_aim None keeps = absurd keeps
+      by_aim (Some q) keeps = refl
+
+  pub kept_this : (q : ℕ) → aim ≡ Some q → IsAboutKept (shelf_of r.entries) (table_of r.exchanges x).running → is_kept (shelf_of r.entries) q ≡ true
+  kept_this q is keeps = subst (λ (n : Option ℕ). IsSomeAnd n (λ q. is_kept (shelf_of r.entries) q ≡ true)) is (aim_kept keeps)
+
+  pub about_this : (q : ℕ) → aim ≡ Some q → IsAbout q (table_of r.exchanges x).running
+  about_this q is = λ o there. sym (aim_as o there) ∙ is
+
+  module _ (k : HeadCase) (lives : is_some (get nat_eq r.consumers v.c) ≡ true) (tells : (q : Open) (u : Consumer) → (table_of r.exchanges x).running ≡ Some q → get nat_eq r.consumers v.c ≡ Some u → k ≡ head_case (heard_view q u (kept_at (shelf_of r.entries) aim) response)) where
+    pub joins_as : joins_hole k ≡ true → IsAboutKept (shelf_of r.entries) (table_of r.exchanges x).running
+    joins_as on = λ o there.
+        let u = is_there (get nat_eq r.consumers v.c) lives in
+        let view : HeadView = heard_view o u.0 (kept_at (shelf_of r.entries) aim) response in
+        let joins = joins_by_case view k (subst (CaseBy view) (sym (tells o u.0 there u.1)) (case_by view)) on in
+        subst (λ (n : Option ℕ). IsSomeAnd n (λ q. is_kept (shelf_of r.entries) q ≡ true)) (aim_as o there) (joins_aim (shelf_of r.entries) o.need aim response joins)
+
+    pub unvalidated_as : k ≡ case.Validated → ⊥
+    unvalidated_as is =
+        let u = is_there (get nat_eq r.consumers v.c) lives in
+        case_unvalidated (heard_view bare.o u.0 (kept_at (shelf_of r.entries) aim) response) refl (sym (tells bare.o u.0 bare.there u.1) ∙ is)

@@ -1,0 +1,146 @@
+-- Whether an exchange brings all that is missing, for who asks for the whole, is what the tables say.
+use Rattle.std.proofs.Common.{◌≡◌, ℕ, ◌<◌, ◌^◌, Bool, true, false, Option, Some, None, refl, ap, sym, ◌∙◌, subst, arith}
+use Rattle.std.proofs.lemmas.Bool.Decides.{nat_tests}
+use Rattle.std.specs.Prelude.{is_some, is_none, nat_eq, option_map, ◌&&◌, ◌==◌, ◌↔◌, IsTrue}
+use Rattle.std.specs.HashMap.{get}
+use Rattle.hc_store.specs.declared.backend.Backend.{Ghosts}
+use Rattle.hc_sparse.specs.Cells.{Covers, size}
+use Rattle.hc_range.specs.declared.range.Asked.{Asked}
+use Rattle.hc_event.specs.declared.act.Need.TheVariants as need
+use Rattle.hc_event.specs.declared.event.Response.{Response}
+use Rattle.hc_rules.specs.declared.request.RequestClass.{RequestClass}
+use Rattle.hc_rules.specs.RangeTexts.{content_range_of}
+use Rattle.hc_rules.specs.Requests.{class_of}
+use Rattle.hc_stored.specs.Entries.{shelf_of}
+use Rattle.hc_stored.specs.Kept.{Kept}
+use Rattle.hc_stored.specs.declared.view.EntryView.{EntryView}
+use Rattle.hc_stored.specs.Shelf.{cells_in}
+use Rattle.hc_stored.specs.Views.{view_of}
+use Rattle.hc_exch.specs.declared.row.Open.{Open}
+use Rattle.hc_exch.specs.Exchanges.{table_of}
+use Rattle.hc_exch.specs.Known.{begins_with}
+use Rattle.hc_exch.specs.declared.row.Opening.{Opening}
+use Rattle.hc_exch.specs.Openings.{opened_with}
+use Rattle.hc_model.specs.Holes.{covers}
+use Rattle.hc_model.specs.RepresentationRows.{asks_whole, hole_start, is_last_part, resumes}
+use Rattle.hc_model.specs.Rows as rows
+use Rattle.hc_model.specs.Rows.{Tables, Exchange, Representation}
+use Rattle.hc_model.proofs.HoleLemmas as holes
+use Rattle.hc_state.specs.declared.consumer.Consumer.{Consumer}
+use Rattle.hc_state.specs.declared.rows.Rows.{Rows}
+use Rattle.hc_state.specs.Facts.{Facts}
+use Rattle.hc_state.specs.Joining.{LacksOnly}
+use Rattle.hc_state.specs.Kept.{KeepsConsumer, KeepsRunning}
+use Rattle.hc_state.specs.Stands.{RowsStand}
+use Rattle.hc_state.specs.Stored.{IsEntry}
+use Rattle.hc_on_leave.proofs.AnswerArm.{opened_as}
+use Rattle.hc_state.proofs.CurrentTies.{covers_as, entry_at, stored_ends}
+use Rattle.hc_on_leave.proofs.StoreArm.{stored_size}
+use Rattle.hc_state.proofs.Ties.{kept_row}
+use Rattle.hc_state.proofs.Words.{eqb-same, false_true, none_some, some_is, few_received}
+
+-- a request for the whole has no range
+whole_as : (k : Consumer) (v : rows.Consumer) → k.class ≡ class_of v.request → is_none k.class.range ≡ asks_whole (Some v)
+unfolding class_of
+whole_as k v is = ap (λ (z : RequestClass). is_none z.range) is
+
+-- what is told of it tells that
+pub lacks_is : (o : Option Kept) (view : EntryView) (from : ℕ) (response : Response) (b : Bool) → option_map view_of o ≡ Some view → view.size ≡ from → is_last_part view.total (content_range_of response.fields) ≡ true → (IsTrue b ↔ Covers (λ n. cells_in o n) 0 from) → IsTrue b ↔ LacksOnly from response o
+lacks_is None view from response b viewed size_is last tells = none_some view viewed
+lacks_is (Some k) view from response b viewed size_is last tells =
+    let one : view_of k ≡ view = some_is (view_of k) view viewed in
+    let known : is_last_part k.head.total (content_range_of response.fields) ≡ true = ap (λ (z : EntryView). is_last_part z.total (content_range_of response.fields)) one ∙ last in
+    let sized : size k.cells ≡ from = ap (λ (z : EntryView). z.size) one ∙ size_is in
+    ((λ on. (known, (sized, tells.0 on))), (λ lacks. tells.1 lacks.1.1))
+
+-- THE HOLE
+
+module _ {B : Type 0} {g : Ghosts B} (r : Rows B g) (t : Tables) (x : ℕ) (op : Opening) (w : Exchange) (from to : ℕ) (stands : RowsStand r t) (row : t.exchange x ≡ Some w) (opened : w.is_open ≡ true) (opens : Some (opened_with op) ≡ option_map begins_with (table_of r.exchanges x).running) (hole : w.need ≡ need.Hole from to) where
+  need_is : op.need.now ≡ need.Hole from to
+  need_is = by_running (table_of r.exchanges x).running refl (subst (KeepsRunning t x (table_of r.exchanges x).running) row (stands.exchanges x).running)
+    where
+      by_running : (o : Option Open) → (table_of r.exchanges x).running ≡ o → KeepsRunning t x o (Some w) → op.need.now ≡ need.Hole from to
+      by_running None at keeps = false_true (sym keeps ∙ opened)
+      by_running (Some o) at keeps = (opened_as op (table_of r.exchanges x).running o opens at).0 ∙ (keeps.need ∙ hole)
+
+  pub no_hole : {P : Type 0} → ((a b : ℕ) → op.need.now ≡ need.Hole a b → ⊥) → P
+  no_hole off = absurd (off from to need_is)
+
+  pub is_start : (a b : ℕ) → op.need.now ≡ need.Hole a b → a ≡ from
+  is_start a b is = (let same : need.Hole a b ≡ need.Hole from to = sym is ∙ need_is in cc)
+
+module _ {B : Type 0} {g : Ghosts B} (r : Rows B g) (t : Tables) (facts : Facts r.limits t) (stands : RowsStand r t) (small : r.received < 2 ^ 61) (q c from to : ℕ) (response : Response) (w : Exchange) (p : Representation) (k : Consumer) (e : Kept)
+    (hole : w.need ≡ need.Hole from to) (for_it : w.c ≡ c) (there : get nat_eq r.consumers c ≡ Some k) (row : t.representation q ≡ Some p) (stays : p.is_lost ≡ false) (kept : (shelf_of r.entries).kept q ≡ Some e) (told : e.head.total ≡ p.head.total) where
+  is : IsEntry t q e p
+  is = entry_at r t stands q e kept p row
+
+  few : t.received < 2 ^ 62
+  few = few_received stands.received small
+
+  asks : asks_whole (t.consumer w.c) ≡ is_none k.class.range
+  asks =
+      let found = kept_row t k (t.consumer c) (subst (λ o. KeepsConsumer t o (t.consumer c)) there (stands.consumers c)) in
+      ap asks_whole (ap t.consumer for_it ∙ found.1) ∙ sym (whole_as k found.0 found.2.class_is)
+
+  size_is : size e.cells ≡ p.size
+  size_is = stored_size r t facts q p e t few row is
+
+  start_is : hole_start w.need ≡ from
+  start_is = ap hole_start hole
+
+  resumes_is : resumes t response w p ≡ (is_none k.class.range && is_last_part e.head.total (content_range_of response.fields) && covers p.stored p.reach 0 from && (size e.cells == from))
+  resumes_is = rw (asks, told, start_is, size_is) refl
+
+  -- it asks for a part
+  pub resumes_not : is_some k.class.range ≡ true → false ≡ resumes t response w p
+  resumes_not some = sym (resumes_is ∙ by_range k.class.range some)
+    where
+      by_range : (o : Option Asked) → is_some o ≡ true → (is_none o && is_last_part e.head.total (content_range_of response.fields) && covers p.stored p.reach 0 from && (size e.cells == from)) ≡ false
+      by_range None on = false_true on
+      by_range (Some asked) on = refl
+
+  -- it asks for the whole
+  pub resumes_as : is_some k.class.range ≡ false → (b : Bool) → (IsTrue b ↔ LacksOnly from response ((shelf_of r.entries).kept q)) → b ≡ resumes t response w p
+  resumes_as none b tells = by_test b refl ∙ sym resumes_is
+    where
+      whole : is_none k.class.range ≡ true
+      whole = by_range k.class.range none
+        where
+          by_range : (o : Option Asked) → is_some o ≡ false → is_none o ≡ true
+          by_range None off = refl
+          by_range (Some asked) off = false_true (sym off)
+
+      both : IsTrue b ↔ LacksOnly from response (Some e)
+      both = subst (λ (o : Option Kept). IsTrue b ↔ LacksOnly from response o) kept tells
+
+      covered : (a : Bool) → (IsTrue a ↔ Covers e.cells 0 from) → a ≡ covers p.stored p.reach 0 from
+      covered a says = covers_as t q e p is (stored_ends t facts.law q p row stays) a 0 from says
+
+      all : Bool
+      all = is_none k.class.range && is_last_part e.head.total (content_range_of response.fields) && covers p.stored p.reach 0 from && (size e.cells == from)
+
+      and_parts : (a b : Bool) → (a && b) ≡ true → (a ≡ true) × (b ≡ true)
+      and_parts true true on = (refl, refl)
+      and_parts true false on = false_true on
+      and_parts false b on = false_true on
+
+      by_test : (a : Bool) → b ≡ a → a ≡ (is_none k.class.range && is_last_part e.head.total (content_range_of response.fields) && covers p.stored p.reach 0 from && (size e.cells == from))
+      by_test true on =
+          let lacks = both.0 on in
+          let last = lacks.0 in
+          let same : (size e.cells == from) ≡ true = ap (λ n. n == from) lacks.1.0 ∙ eqb-same from in
+          let yes : true ≡ covers p.stored p.reach 0 from = covered true ((λ h. lacks.1.1), (λ h. refl)) in
+          rw (whole, last, sym yes, same) refl
+      by_test false off = by_all all refl
+        where
+          by_all : (z : Bool) → all ≡ z → false ≡ all
+          by_all false none_left = sym none_left
+          by_all true on =
+              let first = and_parts (is_none k.class.range && is_last_part e.head.total (content_range_of response.fields) && covers p.stored p.reach 0 from) (size e.cells == from) on in
+              let second = and_parts (is_none k.class.range && is_last_part e.head.total (content_range_of response.fields)) (covers p.stored p.reach 0 from) first.0 in
+              let third = and_parts (is_none k.class.range) (is_last_part e.head.total (content_range_of response.fields)) second.0 in
+              let same : size e.cells ≡ from = (let test = first.1 in grind (arith, nat_tests, test)) in
+              false_true (sym off ∙ both.1 (third.1, (same, holds second.1)))
+            where
+              holds : covers p.stored p.reach 0 from ≡ true → Covers e.cells 0 from
+              holds on n low high = ap (λ z. is_some z) (is.cells n) ∙ holes.covers_all p.stored p.reach 0 from on n low high

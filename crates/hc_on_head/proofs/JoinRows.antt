@@ -1,0 +1,369 @@
+-- The head of an exchange came that brings bytes of a hole: what is kept stands for the tables then.
+use Rattle.std.proofs.Common.{◌≡◌, ◌≢◌, ◌⊎◌, inl, inr, ℕ, ◌-◌, List, [], Bool, true, false, Option, Some, None, refl, ap, sym, ◌∙◌, subst}
+use Rattle.std.specs.Prelude.{is_some, nat_eq, drop, bytes_eq, option_map, ◌&&◌, if◌then◌else◌}
+use Rattle.std.specs.HashMap.{get}
+use Rattle.hc_store.specs.declared.backend.Backend.{Ghosts}
+use Rattle.hc_event.specs.declared.event.Response.{Response}
+use Rattle.hc_record.specs.Head.{Head}
+use Rattle.hc_rules.specs.declared.length.Length.{Length}
+use Rattle.hc_rules.specs.Lengths.{length_of, base_of, promise_of}
+use Rattle.hc_stored.specs.Entries.{shelf_of}
+use Rattle.hc_entry.specs.Keys.{kept_of}
+use Rattle.hc_entry.specs.Kept as keyed
+use Rattle.hc_exch.specs.declared.role.Role.TheVariants as role
+use Rattle.hc_exch.specs.declared.row.Open.{Open}
+use Rattle.hc_exch.specs.Exchanges as exch
+use Rattle.hc_exch.specs.Exchanges.{table_of, next_of}
+use Rattle.hc_exch.specs.Known.{Known, is_all, length_by}
+use Rattle.hc_event.specs.declared.place.Place.{Place}
+use Rattle.hc_event.specs.declared.place.Place.TheVariants as place
+use Rattle.hc_event.specs.declared.place.BoundBy.{BoundBy}
+use Rattle.hc_event.specs.declared.place.BoundBy.TheVariants as by
+use Rattle.hc_model.specs.Currents.{current, is_usable, is_number, total_in}
+use Rattle.hc_model.specs.Denials.{is_live, is_live_place}
+use Rattle.hc_model.specs.Effects.{answered, with_answer, with_consumer, with_representation}
+use Rattle.hc_model.specs.ExchangeRows.{promise_in}
+use Rattle.hc_model.specs.Exchanges.{base, family, is_headless, is_reached}
+use Rattle.hc_model.specs.Lines.{is_in_line, stands_in_line}
+use Rattle.hc_model.specs.Planning.{has_passed}
+use Rattle.hc_model.specs.Reading.{is_bound_place}
+use Rattle.hc_model.specs.Rows as rows
+use Rattle.hc_model.specs.Rows.{Tables, Exchange, Representation}
+use Rattle.hc_model.specs.Sound.{Among}
+use Rattle.hc_state.specs.declared.consumer.Consumer.{Consumer}
+use Rattle.hc_state.specs.declared.rows.Rows.{Rows}
+use Rattle.hc_state.specs.Changes.{BecomesAt}
+use Rattle.hc_state.specs.Joining.{bringing}
+use Rattle.hc_state.specs.Kept.{IsKept, IsRunning, KeepsConsumer, KeepsExchange, KeepsRunning, first_lacking, held_for, held_of, held_alone, unread, unstored}
+use Rattle.hc_state.specs.Leaving.{LeavesKey}
+use Rattle.hc_state.specs.Lines.{KeepsKey, has_turn, is_passed, is_away, is_away_at}
+use Rattle.hc_state.specs.Stands.{RowsStand}
+use Rattle.hc_state.specs.Stored.{KeepsEntries}
+use Rattle.hc_on_leave.proofs.AnswerArm.{all_reached, known_here, known_other}
+use Rattle.hc_state.proofs.AsideSteps.{live_same, length_same}
+use Rattle.hc_state.proofs.Asides.{unstored_moved}
+use Rattle.hc_on_leave.proofs.HeardExchange.{drop_none, held_empty}
+use Rattle.hc_on_leave.proofs.HeardRows.{kept_as, runs_as}
+use Rattle.hc_on_head.proofs.JoinKeys.{keys_left}
+use Rattle.hc_state.proofs.KeySteps.{not_lined}
+use Rattle.hc_state.proofs.Losing.{finds_same}
+use Rattle.hc_state.proofs.Ties.{consumer_same, exchange_same, key_same, kept_same}
+use Rattle.hc_state.proofs.Words.{same_or, eqb-same, eqb-other, and_false, then_false, as_received}
+
+-- x, of which nothing came yet, waits for its head for a consumer that is bound to q and reads on from it
+pub record IsJoinable (t : Tables) (x q : ℕ) (w : Exchange) (v : rows.Consumer) (p : Representation) : Type 0 where
+  pub row : t.exchange x ≡ Some w
+  pub is_open : w.is_open ≡ true
+  pub headless : w.head ≡ None
+  pub empty : w.body ≡ []
+  pub unjoined : w.joined ≡ None
+  pub unfounded : t.representation x ≡ None
+  pub listed : Among x t.openings
+  pub asker : t.consumer w.c ≡ Some v
+  pub mine : v.own ≡ Some x
+  pub lo : ℕ
+  pub hi : Option ℕ
+  pub how : BoundBy
+  pub at : v.place ≡ place.Bound q lo hi how
+  pub there : t.representation q ≡ Some p
+  pub unread : (d : ℕ) (u : rows.Consumer) → t.consumer d ≡ Some u → u.place ≡ place.Direct x → ⊥
+  pub first : (d n lo : ℕ) (hi : Option ℕ) (u : rows.Consumer) → t.consumer d ≡ Some u → u.place ≡ place.Bound n lo hi (by.FirstHole x) → d ≡ w.c
+  pub heard : (y : ℕ) → how ≡ by.FirstHole y → (y ≡ x) ⊎ (is_headless (t.exchange y) ≡ false)
+
+-- what is stored has this head and this writer, and the exchange is its consumer's own or isn't
+module _ (t : Tables) (now x q : ℕ) (response : Response) (w : Exchange) (v : rows.Consumer) (p : Representation) (j : IsJoinable t x q w v p) (h : Head) (total : h.total ≡ p.head.total) (wr : Option ℕ) (own : Option ℕ) (apart : (y : ℕ) → x ≢ y → is_number own y ≡ false) where
+  abbrev pub ans : Exchange
+  ans = answered now response (Some q) w
+
+  abbrev pub z : Representation
+  z = record p { head = h; writer = wr }
+
+  abbrev pub vn : rows.Consumer
+  vn = record v { own = own }
+
+  abbrev pub s : Tables
+  s = with_consumer w.c (Some vn) (with_answer now x response (Some q) w (with_representation q (Some z) t))
+
+  pub exchange_here : s.exchange x ≡ Some ans
+  exchange_here = rw (eqb-same x) refl
+
+  pub exchange_other : (y : ℕ) → x ≢ y → s.exchange y ≡ t.exchange y
+  exchange_other y ne = rw (eqb-other x y ne) refl
+
+  pub representation_here : s.representation q ≡ Some z
+  representation_here = rw (eqb-same q) refl
+
+  pub representation_other : (n : ℕ) → q ≢ n → s.representation n ≡ t.representation n
+  representation_other n ne = rw (eqb-other q n ne) refl
+
+  pub consumer_here : s.consumer w.c ≡ Some vn
+  consumer_here = rw (eqb-same w.c) refl
+
+  pub consumer_other : (d : ℕ) → w.c ≢ d → s.consumer d ≡ t.consumer d
+  consumer_other d ne = rw (eqb-other w.c d ne) refl
+
+  -- what doesn't look at its exchange is told as before
+  pub told_consumer : {A : Type 0} (f : Option rows.Consumer → A) → f (Some vn) ≡ f (Some v) → (d : ℕ) → f (s.consumer d) ≡ f (t.consumer d)
+  told_consumer f same d = elim (same_or w.c d) [
+    | inl e ↦ ap f (sym (ap s.consumer e) ∙ consumer_here) ∙ (same ∙ sym (ap f (sym (ap t.consumer e) ∙ j.asker)))
+    | inr ne ↦ ap f (consumer_other d ne)
+  ]
+
+  -- what looks neither at its head nor at who writes it is told as before
+  pub told_representation : {A : Type 0} (f : Option Representation → A) → f (Some z) ≡ f (Some p) → (n : ℕ) → f (s.representation n) ≡ f (t.representation n)
+  told_representation f same n = elim (same_or q n) [
+    | inl e ↦ ap f (sym (ap s.representation e) ∙ representation_here) ∙ (same ∙ sym (ap f (sym (ap t.representation e) ∙ j.there)))
+    | inr ne ↦ ap f (representation_other n ne)
+  ]
+
+  -- CONSUMERS
+
+  lengths : (n lo : ℕ) (hi : Option ℕ) (how : BoundBy) → total_in (s.representation n) ≡ total_in (t.representation n)
+  lengths n lo hi how = told_representation total_in total n
+
+  consumer_then : (d : ℕ) (o : Option Consumer) → w.c ≢ d → KeepsConsumer t o (t.consumer d) → KeepsConsumer s o (s.consumer d)
+  consumer_then d o ne kept =
+      subst (KeepsConsumer s o) (sym (consumer_other d ne))
+      (consumer_same t s o (t.consumer d) (λ u row. record {
+        past = λ y at. elim (same_or x y) [
+          | inl e ↦ absurd (j.unread d u row (at ∙ ap (λ (n : ℕ). place.Direct n) (sym e)))
+          | inr off ↦ exchange_other y off
+        ];
+        length = λ n lo hi how at. lengths n lo hi how;
+      }) kept)
+
+  asker_then : (k : Consumer) → IsKept t k v → IsKept s (record k { own = own }) vn
+  asker_then k is =
+      let stood = j.at in
+      let kp : IsKept s k v = kept_same t s k v (record { past = λ y at. absurd (let never : place.Bound q j.lo j.hi j.how ≡ place.Direct y = sym stood ∙ at in cc); length = λ n lo hi how at. lengths n lo hi how }) is in
+      record {
+        is_there = kp.is_there;
+        request = kp.request;
+        class_is = kp.class_is;
+        since = kp.since;
+        place = kp.place;
+        own = refl;
+        shown = kp.shown;
+        answer = kp.answer;
+        begins = kp.begins;
+        ends = kp.ends;
+        given = kp.given;
+        due = kp.due;
+      }
+
+  -- THE EXCHANGE
+
+  -- nothing of it is held
+  nothing_of : (m : Tables) (a : Exchange) (b : Representation) (o : Option ℕ) → a.body ≡ [] → held_alone m x a b o ≡ []
+  nothing_of m a b None none = refl
+  nothing_of m a b (Some d) none = by_row (m.consumer d)
+    where
+      by_row : (o : Option rows.Consumer) → unstored m x a b o ≡ []
+      by_row None = refl
+      by_row (Some u) = by_test (is_bound_place (family x a) u.place && is_number u.own x)
+        where
+          by_test : (c : Bool) → (if c then drop (first_lacking m a b u - base a) a.body else []) ≡ []
+          by_test true = drop_none (first_lacking m a b u - base a) a.body none
+          by_test false = refl
+
+  held_then : held_for s x (s.exchange x) ≡ []
+  held_then = ap (held_for s x) exchange_here ∙ (ap (held_of s x ans) representation_here ∙ nothing_of s ans z z.alone j.empty)
+
+  held_before : held_for t x (t.exchange x) ≡ []
+  held_before = ap (held_for t x) j.row ∙ held_empty t x w j.empty j.unjoined j.unfounded
+
+  -- nothing of another one is held otherwise
+  alone_else : (y : ℕ) (a : Exchange) (b : Representation) → x ≢ y → (o : Option ℕ) → held_alone s y a b o ≡ held_alone t y a b o
+  alone_else y a b ne None = refl
+  alone_else y a b ne (Some d) = elim (same_or w.c d) [
+    | inl e ↦
+        ap (unstored s y a b) (sym (ap s.consumer e) ∙ consumer_here)
+        ∙ (off s vn (apart y ne)
+        ∙ sym (ap (unstored t y a b) (sym (ap t.consumer e) ∙ j.asker) ∙ off t v (ap (λ (o : Option ℕ). is_number o y) j.mine ∙ eqb-other x y ne)))
+    | inr other ↦ ap (unstored s y a b) (consumer_other d other) ∙ unstored_moved t s y a b (t.consumer d)
+  ]
+    where
+      off : (m : Tables) (u : rows.Consumer) → is_number u.own y ≡ false → unstored m y a b (Some u) ≡ []
+      off m u other = (let none : (is_bound_place (family y a) u.place && is_number u.own y) ≡ false = then_false (is_bound_place (family y a) u.place) (is_number u.own y) other in rw none refl)
+
+  held_else : (y : ℕ) → x ≢ y → (o : Option Exchange) → held_for s y o ≡ held_for t y o
+  held_else y ne None = refl
+  held_else y ne (Some a) = elim (same_or q (family y a)) [
+    | inl e ↦
+        ap (held_of s y a) (sym (ap s.representation e) ∙ representation_here)
+        ∙ (alone_else y a z ne p.alone
+        ∙ (like p.alone
+        ∙ sym (ap (held_of t y a) (sym (ap t.representation e) ∙ j.there))))
+    | inr other ↦ ap (held_of s y a) (representation_other (family y a) other) ∙ by_row (t.representation (family y a))
+  ]
+    where
+      like : (o : Option ℕ) → held_alone t y a z o ≡ held_alone t y a p o
+      like None = refl
+      like (Some d) = by_consumer (t.consumer d)
+        where
+          by_consumer : (o : Option rows.Consumer) → unstored t y a z o ≡ unstored t y a p o
+          by_consumer None = refl
+          by_consumer (Some u) = refl
+
+      past : unread y a (Some vn) ≡ unread y a (Some v)
+      past = (let stood = j.at in rw stood refl)
+
+      by_row : (o : Option Representation) → held_of s y a o ≡ held_of t y a o
+      by_row None = told_consumer (unread y a) past a.c
+      by_row (Some b) = alone_else y a b ne b.alone
+
+  module _ (a b : Known) (o : Open) (opened : a.running ≡ Some o) (runs : IsRunning t x o w) (on : is_reached (promise_in w response) 0 ≡ false) (becomes : b ≡ bringing q response a) where
+    abbrev l : Length
+    l = length_of w.need w.request response
+
+    length_is : length_by a.running response ≡ l
+    length_is = ap (λ (r : Option Open). length_by r response) opened ∙ (ap (λ n. length_of n o.request response) runs.need ∙ ap (λ r. length_of w.need r response) runs.request)
+
+    goes_on : is_all (promise_of (length_by a.running response)) 0 ≡ false
+    goes_on = all_reached (promise_of (length_by a.running response)) 0 ∙ (ap (λ (n : Length). is_reached (promise_of n) 0) length_is ∙ on)
+
+    abbrev its : Open
+    its = record o { role = role.Body q; headed = true; base = base_of (length_by a.running response); promised = promise_of (length_by a.running response) }
+
+    running_then : b.running ≡ Some its
+    running_then = ap (λ (n : Known). n.running) becomes ∙ rw (goes_on) (ap (λ (r : Option Open). option_map (λ (n : Open). record n { headed = true; base = base_of (length_by a.running response); promised = promise_of (length_by a.running response) }) (option_map (λ (n : Open). record n { role = role.Body q }) r)) opened)
+
+    held_stays : b.held ≡ a.held
+    held_stays = ap (λ (n : Known). n.held) becomes ∙ rw (goes_on) refl
+
+    runs_then : IsRunning s x its ans
+    runs_then = record {
+      is_open = (let opened_still = j.is_open in rw (on, opened_still) refl);
+      c = runs.c;
+      need = runs.need;
+      request = runs.request;
+      moment = runs.moment;
+      headed = refl;
+      asked = runs.asked;
+      base_is = ap base_of length_is;
+      delivered = runs.delivered;
+      promised_is = ap promise_of length_is;
+      role = (let here = representation_here in rw here refl);
+    }
+
+    exchange_then : a.held ≡ held_for t x (t.exchange x) → KeepsExchange s x b
+    exchange_then held = record {
+      running = subst (KeepsRunning s x b.running) (sym exchange_here) (subst (λ (n : Option Open). KeepsRunning s x n (Some ans)) (sym running_then) runs_then);
+      held = held_stays ∙ (held ∙ (held_before ∙ sym held_then));
+    }
+
+  exchange_stays : (y : ℕ) (a : Known) → x ≢ y → KeepsExchange t y a → KeepsExchange s y a
+  exchange_stays y a ne kept = exchange_same t s y a (record { row = exchange_other y ne; brings = λ b row. told_representation (λ o. is_some o) refl (family y b); held = held_else y ne (t.exchange y) }) kept
+
+  -- KEYS
+
+  current_same : h.fields ≡ h.fields → (key : List ℕ) → current s key ≡ current t key
+  unfolding current
+  current_same any key = finds_same (λ n. is_usable key (t.representation n)) (λ n. is_usable key (s.representation n)) (told_representation (is_usable key) refl) t.founded
+
+  -- it waits for its head no more
+  here_then : is_away_at s v.place ≡ false
+  here_then = ap (is_away_at s) j.at ∙ by_how j.how refl
+    where
+      by_how : (b : BoundBy) → j.how ≡ b → is_away_at s (place.Bound q j.lo j.hi b) ≡ false
+      by_how by.Founding is = refl
+      by_how by.Plan is = refl
+      by_how (by.FirstHole y) is = elim (j.heard y is) [
+        | inl same ↦ ap is_headless (ap s.exchange same ∙ exchange_here) ∙ then_false ans.is_open false refl
+        | inr off ↦ elim (same_or x y) [
+          | inl e ↦ ap is_headless (sym (ap s.exchange e) ∙ exchange_here) ∙ then_false ans.is_open false refl
+          | inr ne ↦ ap is_headless (exchange_other y ne) ∙ off
+        ]
+      ]
+
+  away_other : (key : List ℕ) (d : ℕ) → w.c ≢ d → (o : Option rows.Consumer) → t.consumer d ≡ o → is_away s key o ≡ is_away t key o
+  away_other key d ne None row = refl
+  away_other key d ne (Some u) row = ap (λ b. bytes_eq u.request.key key && b) (by_place u.place refl)
+    where
+      by_place : (n : Place) → u.place ≡ n → is_away_at s n ≡ is_away_at t n
+      by_place (place.Bound m lo hi (by.FirstHole y)) at = elim (same_or x y) [
+        | inl e ↦ absurd (ne (sym (j.first d m lo hi u row (at ∙ ap (λ (n : ℕ). place.Bound m lo hi (by.FirstHole n)) (sym e)))))
+        | inr off ↦ ap is_headless (exchange_other y off)
+      ]
+      by_place (place.Bound m lo hi by.Founding) at = refl
+      by_place (place.Bound m lo hi by.Plan) at = refl
+      by_place place.Line at = refl
+      by_place (place.Passed m how) at = refl
+      by_place (place.Turn y) at = refl
+      by_place (place.Direct y) at = refl
+      by_place (place.Down why) at = refl
+      by_place place.Over at = refl
+
+  -- the tables without it
+  abbrev without : Tables
+  without = with_consumer w.c None t
+
+  not_waiting : (key : List ℕ) → is_in_line key (Some vn) ≡ false
+  not_waiting key = not_lined key vn (ap stands_in_line j.at)
+
+  gone_at : (d : ℕ) → w.c ≡ d → without.consumer d ≡ None
+  gone_at d e = rw (e, eqb-same d) refl
+
+  still_at : (d : ℕ) → w.c ≢ d → without.consumer d ≡ t.consumer d
+  still_at d ne = rw (eqb-other w.c d ne) refl
+
+  says_it : {A : Type 0} (f k : Option rows.Consumer → A) → f (Some vn) ≡ k None → ((d : ℕ) → w.c ≢ d → f (t.consumer d) ≡ k (t.consumer d)) → (d : ℕ) → f (s.consumer d) ≡ k (without.consumer d)
+  says_it f k of_it of_others d = elim (same_or w.c d) [
+    | inl e ↦ ap f (sym (ap s.consumer e) ∙ consumer_here) ∙ (of_it ∙ sym (ap k (gone_at d e)))
+    | inr ne ↦ ap f (consumer_other d ne) ∙ (of_others d ne ∙ sym (ap k (still_at d ne)))
+  ]
+
+  key_then : (key : List ℕ) (a : keyed.Kept) → KeepsKey without key a → KeepsKey s key a
+  unfolding current
+  key_then key a kept = key_same without s key a (record {
+    current = current_same refl key;
+    in_line = says_it (is_in_line key) (is_in_line key) (not_waiting key) (λ d ne. refl);
+    passed = says_it (is_passed key) (is_passed key) (then_false (bytes_eq v.request.key key) _ (ap has_passed j.at)) (λ d ne. refl);
+    away = says_it (is_away s key) (is_away without key) (then_false (bytes_eq v.request.key key) _ here_then) (λ d ne. away_other key d ne (t.consumer d) refl);
+    turn = says_it (has_turn key) (has_turn key) (and_false (is_in_line key (Some vn)) _ (not_waiting key)) (λ d ne. refl);
+  }) kept
+
+  -- ALL OF IT
+
+  module _ {B : Type 0} {g : Ghosts B} (r u : Rows B g) (k : Consumer) (o : Open) (stands : RowsStand r t) (there : get nat_eq r.consumers w.c ≡ Some k) (running : (table_of r.exchanges x).running ≡ Some o) (on : is_reached (promise_in w response) 0 ≡ false)
+      (limits : (shelf_of u.entries).limits ≡ u.limits) (received : u.received ≡ r.received) (last : u.last_start ≡ r.last_start) (becomes : BecomesAt r.consumers u.consumers w.c (Some (record k { own = own }))) (line : LeavesKey w.c k.request.key r.keys u.keys)
+      (brings : exch.Becomes (bringing q response) x r.exchanges u.exchanges) (entries : KeepsEntries s (shelf_of u.entries)) where
+    is : IsKept t k v
+    is = kept_as r t w.c v k stands j.asker there
+
+    runs : IsRunning t x o w
+    runs = runs_as r t x o w stands running j.row
+
+    lives : is_live_place v.place ≡ true
+    lives = ap is_live_place j.at
+
+    asker_kept : get nat_eq u.consumers w.c ≡ Some (record k { own = own })
+    asker_kept = becomes.places w.c ∙ rw (eqb-same w.c) refl
+
+    others_kept : (d : ℕ) → w.c ≢ d → get nat_eq u.consumers d ≡ get nat_eq r.consumers d
+    others_kept d ne = becomes.places d ∙ rw (eqb-other w.c d ne) refl
+
+    consumers_then : (d : ℕ) → KeepsConsumer s (get nat_eq u.consumers d) (s.consumer d)
+    consumers_then d = elim (same_or w.c d) [
+      | inl e ↦ subst (λ (n : ℕ). KeepsConsumer s (get nat_eq u.consumers n) (s.consumer n)) e (subst (λ (n : Option Consumer). KeepsConsumer s n (s.consumer w.c)) (sym asker_kept) (subst (KeepsConsumer s (Some (record k { own = own }))) (sym consumer_here) (asker_then k is)))
+      | inr ne ↦ subst (λ (n : Option Consumer). KeepsConsumer s n (s.consumer d)) (sym (others_kept d ne)) (consumer_then d (get nat_eq r.consumers d) ne (stands.consumers d))
+    ]
+
+    exchanges_then : (y : ℕ) → KeepsExchange s y (table_of u.exchanges y)
+    exchanges_then y = elim (same_or x y) [
+      | inl e ↦ subst (λ (n : ℕ). KeepsExchange s n (table_of u.exchanges n)) e (exchange_then (table_of r.exchanges x) (table_of u.exchanges x) o running runs on (known_here (bringing q response) x r.exchanges u.exchanges brings) (stands.exchanges x).held)
+      | inr ne ↦ subst (KeepsExchange s y) (sym (known_other (bringing q response) x y r.exchanges u.exchanges brings (λ e. ne (sym e)))) (exchange_stays y (table_of r.exchanges y) ne (stands.exchanges y))
+    ]
+
+    pub stands_joined : RowsStand u s
+    stands_joined = record {
+      limits = limits;
+      received = as_received received stands.received;
+      last_start = last ∙ stands.last_start;
+      next = brings.next ∙ stands.next;
+      count = length_same r u t w.c v (record k { own = own }) stands j.asker lives becomes ∙ (stands.count ∙ sym (live_same t s refl (told_consumer is_live refl)));
+      consumers = consumers_then;
+      exchanges = exchanges_then;
+      keys = λ key. key_then key (kept_of u.keys key) (keys_left t w.c v j.asker r.keys u.keys stands.keys (subst (λ (n : List ℕ). LeavesKey w.c n r.keys u.keys) (ap (λ (n : _). n.key) is.request) line) key);
+      entries = entries;
+    }

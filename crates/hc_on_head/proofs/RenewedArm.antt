@@ -1,0 +1,155 @@
+-- The head of a representation is renewed: what is kept stands for the tables then.
+use Rattle.std.proofs.Common.{◌≡◌, ◌≢◌, inl, inr, ℕ, List, [], ◌∷◌, Bool, Option, Some, None, refl, ap, sym, ◌∙◌, subst}
+use Rattle.std.specs.Prelude.{is_some, nat_eq, option_map, filter, find}
+use Rattle.std.specs.HashMap.{get, hash_map_len}
+use Rattle.hc_store.specs.declared.backend.Backend.{Ghosts}
+use Rattle.hc_event.specs.declared.event.Response.{Response}
+use Rattle.hc_record.specs.Head.{Head}
+use Rattle.hc_validate.specs.Updates.{updated}
+use Rattle.hc_stored.specs.Entries.{shelf_of}
+use Rattle.hc_stored.specs.Kept.{Kept, with_head}
+use Rattle.hc_stored.specs.Shelf as shelf
+use Rattle.hc_stored.specs.Shelf.{Shelf, unmoved}
+use Rattle.hc_entry.specs.Keys.{kept_of}
+use Rattle.hc_exch.specs.Exchanges.{table_of, next_of}
+use Rattle.hc_model.specs.Currents.{current, is_usable, total_in}
+use Rattle.hc_model.specs.Effects.{with_representation, refreshed}
+use Rattle.hc_model.specs.Exchanges.{family}
+use Rattle.hc_model.specs.Kinds.{kind_of}
+use Rattle.hc_model.specs.Reading.{bound}
+use Rattle.hc_model.specs.Rows as rows
+use Rattle.hc_model.specs.Rows.{Tables, Exchange, Representation}
+use Rattle.hc_model.specs.Writers.{status_in}
+use Rattle.hc_state.specs.declared.rows.Rows.{Rows}
+use Rattle.hc_state.specs.Kept.{unstored, held_alone, held_of, held_for}
+use Rattle.hc_state.specs.Renewals.{KeepsBeside, renewed}
+use Rattle.hc_state.specs.Stands.{RowsStand}
+use Rattle.hc_state.specs.Stored.{IsEntry, TellsLength, told, untold, KeepsEntry, KeepsEntries, is_usable_row}
+use Rattle.hc_state.proofs.Asides.{unstored_moved}
+use Rattle.hc_state.proofs.OneOfEach.{first_by}
+use Rattle.hc_state.proofs.Ties.{consumer_same, exchange_same, entry_same, key_same}
+use Rattle.hc_state.proofs.Words.{same_or, eqb-same, eqb-other, as_received}
+
+filters_same : (f h : ℕ → Bool) → ((q : ℕ) → h q ≡ f q) → (qs : List ℕ) → filter h qs ≡ filter f qs
+filters_same f h alike [] = refl
+filters_same f h alike (q ∷ qs) = rw (alike q, filters_same f h alike qs) refl
+
+finds_same : (f h : ℕ → Bool) → ((q : ℕ) → h q ≡ f q) → (qs : List ℕ) → find h qs ≡ find f qs
+finds_same f h alike [] = refl
+finds_same f h alike (q ∷ qs) = rw (alike q, finds_same f h alike qs) refl
+
+module _ (t : Tables) (now : ℕ) (response : Response) (w : Exchange) (r : ℕ) (v : Representation) (row : t.representation r ≡ Some v) where
+  abbrev z : Representation
+  z = refreshed now response w v
+
+  abbrev pub s : Tables
+  s = with_representation r (Some z) t
+
+  here : s.representation r ≡ Some z
+  here = rw (eqb-same r) refl
+
+  others : (q : ℕ) → r ≢ q → s.representation q ≡ t.representation q
+  others q ne = rw (eqb-other r q ne) refl
+
+  -- what an update leaves is told as before
+  told_same : {A : Type 0} (f : Option Representation → A) → f (Some z) ≡ f (Some v) → (q : ℕ) → f (s.representation q) ≡ f (t.representation q)
+  told_same f leaves q = elim (same_or r q) [
+    | inl e ↦ ap f (sym (ap s.representation e) ∙ here) ∙ (leaves ∙ sym (ap f (sym (ap t.representation e) ∙ row)))
+    | inr ne ↦ ap f (others q ne)
+  ]
+
+  -- WHAT IS HELD
+
+  alone_moved : (y : ℕ) (e : Exchange) (u : Representation) (o : Option ℕ) → held_alone s y e u o ≡ held_alone t y e u o
+  alone_moved y e u None = refl
+  alone_moved y e u (Some c) = unstored_moved t s y e u (t.consumer c)
+
+  alone_renewed : (y : ℕ) (e : Exchange) (o : Option ℕ) → held_alone t y e z o ≡ held_alone t y e v o
+  alone_renewed y e None = refl
+  alone_renewed y e (Some c) = by_consumer (t.consumer c)
+    where
+      by_consumer : (k : Option rows.Consumer) → unstored t y e z k ≡ unstored t y e v k
+      by_consumer None = refl
+      by_consumer (Some k) = refl
+
+  held_renewed : (y : ℕ) (o : Option Exchange) → held_for s y o ≡ held_for t y o
+  held_renewed y None = refl
+  held_renewed y (Some e) = elim (same_or r (family y e)) [
+    | inl is ↦
+        let after : s.representation (family y e) ≡ Some z = sym (ap s.representation is) ∙ here in
+        let before : t.representation (family y e) ≡ Some v = sym (ap t.representation is) ∙ row in
+        ap (held_of s y e) after ∙ (alone_moved y e z v.alone ∙ (alone_renewed y e v.alone ∙ sym (ap (held_of t y e) before)))
+    | inr ne ↦ ap (held_of s y e) (others (family y e) ne) ∙ by_row (t.representation (family y e))
+  ]
+    where
+      by_row : (o : Option Representation) → held_of s y e o ≡ held_of t y e o
+      by_row None = refl
+      by_row (Some u) = alone_moved y e u u.alone
+
+  -- KEYS
+
+  current_same : (key : List ℕ) → current s key ≡ current t key
+  unfolding current
+  current_same key = finds_same (λ q. is_usable key (t.representation q)) (λ q. is_usable key (s.representation q)) (told_same (is_usable key) refl) t.founded
+
+  -- REPRESENTATIONS
+
+  entry_renewed : (e : Kept) → IsEntry t r e v → IsEntry s r (with_head (renewed w.opened now response.fields e.head) e) z
+  unfolding bound kind_of
+  entry_renewed e is = record {
+    used = is.used;
+    key = is.key;
+    head = ap (λ (h : Head). record h { requested = w.opened; answered = now; fields = updated h.fields response.fields }) is.head;
+    length = by_length is.length;
+    kind = is.kind;
+    whole = is.whole;
+    cells = is.cells;
+    reach = is.reach;
+    bound = is.bound;
+    first = λ c. is.first c ∙ sym (first_by t s (told_same status_in refl) r (t.consumer c));
+    writer = is.writer;
+    is_lost = is.is_lost;
+    alone = is.alone;
+    is_gone = is.is_gone;
+  }
+    where
+      by_length : TellsLength e v → TellsLength (with_head (renewed w.opened now response.fields e.head) e) z
+      by_length (told same) = told same
+      by_length (untold u) = untold (record { gone = u.gone; untold = u.untold; total = u.total; known = u.known; came = u.came; first = u.first })
+
+  entries_renewed : (a b : Shelf) (e : Kept) → a.kept r ≡ Some e → KeepsEntries t a → shelf.Becomes (option_map (with_head (renewed w.opened now response.fields e.head))) unmoved r a b → KeepsEntries s b
+  unfolding bound kind_of
+  entries_renewed a b e at kept becomes = record {
+    each = λ q. elim (same_or r q) [
+      | inl same_q ↦ subst (λ n. KeepsEntry s n (b.kept n) (s.representation n)) same_q its
+      | inr ne ↦ rw (becomes.kept q, eqb-other r q ne) (entry_same t s q (a.kept q) (t.representation q) refl (record { users = λ d. refl; first = λ d. first_by t s (told_same status_in refl) q (t.consumer d); list = refl; kind = λ p there. refl; overs = λ y on. on }) (kept.each q))
+    ];
+    order = becomes.order ∙ (kept.order ∙ sym (filters_same (λ q. is_usable_row (t.representation q)) (λ q. is_usable_row (s.representation q)) (told_same is_usable_row refl) t.used));
+  }
+    where
+      its : KeepsEntry s r (b.kept r) (s.representation r)
+      its =
+          let is : IsEntry t r e v = subst (λ k. KeepsEntry t r k (Some v)) at (subst (KeepsEntry t r (a.kept r)) row (kept.each r)) in
+          let after : b.kept r ≡ Some (with_head (renewed w.opened now response.fields e.head) e) = becomes.kept r ∙ rw (eqb-same r, at) refl in
+          subst (λ k. KeepsEntry s r k (s.representation r)) (sym after) (subst (KeepsEntry s r (Some (with_head (renewed w.opened now response.fields e.head) e))) (sym here) (entry_renewed e is))
+
+-- ALL OF IT
+
+pub stands_renewed : {B : Type 0} {g : Ghosts B} (r u : Rows B g) (t : Tables) (now : ℕ) (response : Response) (w : Exchange) (q : ℕ) (v : Representation) (e : Kept) → t.representation q ≡ Some v → RowsStand r t → KeepsBeside r u → (shelf_of r.entries).kept q ≡ Some e
+    → shelf.Becomes (option_map (with_head (renewed w.opened now response.fields e.head))) unmoved q (shelf_of r.entries) (shelf_of u.entries) → RowsStand u (with_representation q (Some (refreshed now response w v)) t)
+stands_renewed r u t now response w q v e row stands rest at becomes =
+    let m : Tables = with_representation q (Some (refreshed now response w v)) t in
+    let consumers = rest.consumers in
+    let exchanges = rest.exchanges in
+    let same_keys = rest.keys in
+    record {
+      limits = becomes.limits ∙ (stands.limits ∙ sym rest.limits);
+      received = as_received rest.received stands.received;
+      last_start = rest.last_start ∙ stands.last_start;
+      next = ap (λ z. next_of z) exchanges ∙ stands.next;
+      count = ap (λ z. hash_map_len z) consumers ∙ stands.count;
+      consumers = λ d. rw consumers (consumer_same t m (get nat_eq r.consumers d) (t.consumer d) (λ k is. record { past = λ x stood. refl; length = λ n lo hi how stood. told_same t now response w q v row total_in refl n }) (stands.consumers d));
+      exchanges = λ y. rw exchanges (exchange_same t m y (table_of r.exchanges y) (record { row = refl; brings = λ e is. told_same t now response w q v row (λ o. is_some o) refl (family y e); held = held_renewed t now response w q v row y (t.exchange y) }) (stands.exchanges y));
+      keys = λ key. rw same_keys (key_same t m key (kept_of r.keys key) (record { current = current_same t now response w q v row key; in_line = λ d. refl; passed = λ d. refl; away = λ d. refl; turn = λ d. refl }) (stands.keys key));
+      entries = entries_renewed t now response w q v row (shelf_of r.entries) (shelf_of u.entries) e at stands.entries becomes;
+    }

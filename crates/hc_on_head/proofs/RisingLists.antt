@@ -1,0 +1,97 @@
+-- Lists that rise: with one more at the end, and one that falls the other way round.
+use Rattle.std.proofs.Common.{◌≡◌, ◌⊎◌, inl, inr, ℕ, ◌<◌, ◌≤◌, List, [], ◌∷◌, ◌++◌, Bool, true, false, eqb, refl, ap, sym, ◌∙◌, arith}
+use Rattle.std.proofs.lemmas.Bool.Decides.{nat_tests}
+use Rattle.std.proofs.lemmas.List.{reverse-append}
+use Rattle.std.specs.Prelude.{reverse, nat_lt, ◌||◌}
+use Rattle.hc_entry.specs.Lines.{is_among}
+use Rattle.hc_entry.specs.Users.{itself}
+use Rattle.hc_model.specs.Orders.{Descends}
+use Rattle.hc_sorted.specs.Sorted.{above, is_sorted}
+use Rattle.hc_sorted.proofs.SortedLemmas.{has-above}
+use Rattle.hc_state.proofs.Words.{eqb-same, false_true}
+
+bool_cases : (b : Bool) → (b ≡ true) ⊎ (b ≡ false)
+bool_cases true = inl refl
+bool_cases false = inr refl
+
+in_either : (a b : Bool) → (a || b) ≡ true → (a ≡ true) ⊎ (b ≡ true)
+in_either true b on = inl refl
+in_either false b on = inr on
+
+eq_by : (a b : ℕ) → eqb a b ≡ true → a ≡ b
+eq_by a b on = grind (arith, nat_tests, on)
+
+-- MEMBERS
+
+pub among_first : (x : ℕ) (xs : List ℕ) → is_among x (x ∷ xs) ≡ true
+among_first x xs = rw (eqb-same x) refl
+
+pub among_later : (x n : ℕ) (xs : List ℕ) → is_among n xs ≡ true → is_among n (x ∷ xs) ≡ true
+among_later x n xs there = by_test (eqb x n)
+  where
+    by_test : (b : Bool) → (b || is_among n xs) ≡ true
+    by_test true = refl
+    by_test false = there
+
+pub data IsHead (n x : ℕ) (xs : List ℕ) : Type 0 where
+  is_first : x ≡ n → IsHead n x xs
+  is_later : is_among n xs ≡ true → IsHead n x xs
+
+pub among_cases : (n x : ℕ) (xs : List ℕ) → is_among n (x ∷ xs) ≡ true → IsHead n x xs
+among_cases n x xs there = elim (in_either (eqb x n) (is_among n xs) there) [
+  | inl here ↦ is_first (eq_by x n here)
+  | inr later ↦ is_later later
+]
+
+pub among-append : (n : ℕ) (xs ys : List ℕ) → is_among n (xs ++ ys) ≡ (is_among n xs || is_among n ys)
+among-append n [] ys = refl
+among-append n (x ∷ xs) ys = ap (λ b. eqb x n || b) (among-append n xs ys) ∙ by_test (eqb x n)
+  where
+    by_test : (b : Bool) → (b || (is_among n xs || is_among n ys)) ≡ ((b || is_among n xs) || is_among n ys)
+    by_test true = refl
+    by_test false = refl
+
+-- whoever is among the rest is above the first
+pub above_first : (n x : ℕ) (xs : List ℕ) → above itself x xs ≡ true → is_among n xs ≡ true → x < n
+above_first n x xs up there = elim (bool_cases (nat_lt x n)) [
+  | inl lt ↦ grind (arith, nat_tests, lt)
+  | inr off ↦ false_true (let le : n ≤ x = grind (arith, nat_tests, off) in sym (has-above itself x n xs le up) ∙ there)
+]
+
+-- ONE MORE AT THE END
+
+pub rises_last : (x : ℕ) (xs : List ℕ) → is_sorted itself xs ≡ true → ((n : ℕ) → is_among n xs ≡ true → n < x) → is_sorted itself (xs ++ (x ∷ [])) ≡ true
+rises_last x [] up low = refl
+rises_last x (y ∷ ys) up low = above_last y ys up (low y (among_first y ys)) (λ n there. low n (among_later y n ys there))
+  where
+    above_last : (m : ℕ) (zs : List ℕ) → above itself m zs ≡ true → m < x → ((n : ℕ) → is_among n zs ≡ true → n < x) → above itself m (zs ++ (x ∷ [])) ≡ true
+    above_last m [] high lt below = let test : nat_lt m x ≡ true = grind (arith, nat_tests, lt) in rw test refl
+    above_last m (z ∷ zs) high lt below = elim (bool_cases (nat_lt m z)) [
+      | inl on ↦ (let rest : above itself z zs ≡ true = rw on at high in rw on (above_last z zs rest (below z (among_first z zs)) (λ n there. below n (among_later z n zs there))))
+      | inr off ↦ false_true (rw off at high)
+    ]
+
+-- THE OTHER WAY ROUND
+
+pub among-reverse : (n : ℕ) (xs : List ℕ) → is_among n (reverse xs) ≡ is_among n xs
+among-reverse n [] = refl
+among-reverse n (x ∷ xs) =
+    ap (is_among n) (reverse-append (x ∷ []) xs) ∙ (among-append n (reverse xs) (x ∷ []) ∙ (ap (λ b. b || is_among n (x ∷ [])) (among-reverse n xs) ∙ by_tests (is_among n xs) (eqb x n)))
+  where
+    by_tests : (b first : Bool) → (b || (first || false)) ≡ (first || b)
+    by_tests true true = refl
+    by_tests true false = refl
+    by_tests false true = refl
+    by_tests false false = refl
+
+pub among_below : (n m : ℕ) (xs : List ℕ) → Descends m xs → is_among n xs ≡ true → n < m
+among_below n m [] down there = false_true there
+among_below n m (x ∷ xs) down there = elim (among_cases n x xs there) [
+  | is_first e ↦ (let lt : x < m = down.0 in omega (arith, e))
+  | is_later later ↦ (let lt : x < m = down.0 in let low = among_below n x xs down.1 later in omega arith)
+]
+
+pub reverse_rises : (m : ℕ) (xs : List ℕ) → Descends m xs → is_sorted itself (reverse xs) ≡ true
+reverse_rises m [] down = refl
+reverse_rises m (x ∷ xs) down =
+    ap (is_sorted itself) (reverse-append (x ∷ []) xs) ∙ rises_last x (reverse xs) (reverse_rises x xs down.1) (λ n there. among_below n x xs down.1 (sym (among-reverse n xs) ∙ there))

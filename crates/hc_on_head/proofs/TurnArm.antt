@@ -1,0 +1,280 @@
+-- A 304 that may be about what is stored: it is answered.
+use Rattle.std.proofs.Common.{◌≡◌, inl, inr, ℕ, ◌+◌, ◌≤◌, List, [], ◌∷◌, ◌++◌, Bool, true, false, Option, Some, None, Result, Ok, refl, ap, ap₂, sym, ◌∙◌, subst, arith}
+use Rattle.std.proofs.lemmas.Bool.Decides.{nat_tests}
+use Rattle.std.specs.Prelude.{is_some, IfOk, IsSomeAnd, nat_eq, map, option_map, not, ◌||◌, if◌then◌else◌}
+use Rattle.std.specs.HashMap.{get}
+use Rattle.hc_store.specs.declared.backend.Backend.{Ghosts}
+use Rattle.hc_store.specs.declared.error.StoreError.{StoreError}
+use Rattle.hc_event.specs.declared.act.Act.{Act}
+use Rattle.hc_event.specs.declared.act.Act.TheVariants as act
+use Rattle.hc_event.specs.declared.event.Event.{Event}
+use Rattle.hc_event.specs.declared.event.Event.TheVariants as event
+use Rattle.hc_event.specs.declared.event.Request.{Request}
+use Rattle.hc_event.specs.declared.event.Response.{Response}
+use Rattle.hc_record.specs.Head.{Head}
+use Rattle.hc_rules.specs.declared.heads.HeadCase.TheVariants as case
+use Rattle.hc_rules.specs.declared.need.Route.TheVariants as route
+use Rattle.hc_rules.specs.declared.room.Limits.{Limits}
+use Rattle.hc_rules.specs.HeadCases.{head_case}
+use Rattle.hc_rules.specs.Lengths.{length_of, is_head, is_same_number}
+use Rattle.hc_rules.specs.Refusals.{head_refusal}
+use Rattle.hc_validate.specs.Selection.{selects}
+use Rattle.hc_stored.specs.Entries.{shelf_of}
+use Rattle.hc_stored.specs.Kept.{Kept, with_head}
+use Rattle.hc_stored.specs.Shelf as shelf
+use Rattle.hc_entry.specs.Keys.{kept_of}
+use Rattle.hc_exch.specs.declared.row.Open.{Open}
+use Rattle.hc_exch.specs.Exchanges.{table_of}
+use Rattle.hc_exch.specs.Exchanges as exch
+use Rattle.hc_exch.specs.Known as known
+use Rattle.hc_exch.specs.Known.{seen, length_by}
+use Rattle.hc_event.specs.declared.place.Place.TheVariants as place
+use Rattle.hc_event.specs.declared.place.BoundBy.TheVariants as by
+use Rattle.hc_model.specs.Cases.{head_view, validates, selects_row}
+use Rattle.hc_model.specs.Currents.{current, row_of}
+use Rattle.hc_model.specs.Denials.{denial}
+use Rattle.hc_model.specs.Effects.{counted, all_closed, with_answer, with_consumer, with_representation, refreshed, unless_ended}
+use Rattle.hc_model.specs.ExchangeRows.{promise_in}
+use Rattle.hc_model.specs.Exchanges.{is_reached}
+use Rattle.hc_model.specs.Owners.{IsAwaiting}
+use Rattle.hc_model.specs.Owners as owners
+use Rattle.hc_model.specs.Rows as rows
+use Rattle.hc_model.specs.Rows.{Tables, Exchange, Representation}
+use Rattle.hc_model.proofs.KeysKeep.{current_row}
+use Rattle.hc_model.proofs.PollKeeps.{current_stays}
+use Rattle.hc_laws.proofs.UpdateEffects.{validated}
+use Rattle.hc_state.specs.declared.rows.Rows.{Rows}
+use Rattle.hc_state.specs.Arms.{IsInKey}
+use Rattle.hc_state.specs.Facts.{Facts}
+use Rattle.hc_state.specs.Heads.{AwaitsHead, IsAskedBy, IsUnread, unless_over}
+use Rattle.hc_state.specs.Renewals.{KeepsBeside, IsSelected, renewed}
+use Rattle.hc_state.specs.Stands.{Answered, KeepsRest, RowsStand, Stands}
+use Rattle.hc_state.specs.Stored.{KeepsEntry, IsEntry, is_usable_kept}
+use Rattle.hc_state.proofs.Answering.{does_answered}
+use Rattle.hc_state.proofs.Counting.{stands_counted}
+use Rattle.hc_on_leave.proofs.HeadCases.{it_is, case_selected, case_unselected}
+use Rattle.hc_on_head.proofs.HeadTold.{past_of_runs}
+use Rattle.hc_on_leave.proofs.HeardRows.{Asker, headless_of, runs_as}
+use Rattle.hc_state.proofs.Maps.{merely_true}
+use Rattle.hc_on_leave.proofs.RefuseArm.{stands_refused, closes_as}
+use Rattle.hc_on_head.proofs.RenewedArm.{stands_renewed}
+use Rattle.hc_state.proofs.SealArm.{stands_stayed}
+use Rattle.hc_on_leave.proofs.UnstoredArms.{beside, unread_then, unwritten}
+use Rattle.hc_state.proofs.Words.{same_or, eqb-same, eqb-other, and_false, false_true, none_some}
+
+-- WHERE WHAT IS STORED STAYS
+
+pub stands_unrenewed : {B : Type 0} {g : Ghosts B} (r u : Rows B g) (t : Tables) → KeepsBeside r u → shelf.Stays (shelf_of r.entries) (shelf_of u.entries) → RowsStand r t → RowsStand u t
+stands_unrenewed r u t rest same stands = stands_stayed r u t rest.limits rest.received rest.last_start rest.consumers rest.exchanges rest.keys same stands
+
+pub past_unrenewed : {B : Type 0} {g : Ghosts B} (r u : Rows B g) → KeepsBeside r u → shelf.Stays (shelf_of r.entries) (shelf_of u.entries) → Stands r → Stands u
+past_unrenewed r u rest same p = record {
+  t = p.t;
+  facts = subst (λ (n : Limits). Facts n p.t) (sym rest.limits) p.facts;
+  modest = p.modest;
+  rows = stands_unrenewed r u _ rest same p.rows;
+}
+
+-- a count of faults from earlier on
+pub answered_since : {B : Type 0} {g : Ghosts B} (limits : Limits) (a b : ℕ) (u : Rows B g) (t : Tables) (before out : List Act) (now : ℕ) (ev : Event) → a ≤ b → Answered limits b u t before out now ev → Answered limits a u t before out now ev
+answered_since limits a b u t before out now ev le it = record {
+  flaw = it.flaw;
+  acts = it.acts;
+  shown = it.shown;
+  may = it.may;
+  caused = λ on. (let lt = it.caused on in omega (arith, le, lt));
+  rows = it.rows;
+}
+
+-- WHAT IS CURRENT STILL
+
+-- one that is current is kept
+pub kept_current : {B : Type 0} {g : Ghosts B} (r : Rows B g) (t : Tables) (key : List ℕ) (q : ℕ) (v : Representation) → RowsStand r t → t.representation q ≡ Some v → v.is_gone ≡ false → (e : Kept) × ((shelf_of r.entries).kept q ≡ Some e) × IsEntry t q e v
+kept_current r t key q v stands row stays = by_kept ((shelf_of r.entries).kept q) refl (subst (KeepsEntry t q ((shelf_of r.entries).kept q)) row (stands.entries.each q))
+  where
+    by_kept : (k : Option Kept) → (shelf_of r.entries).kept q ≡ k → KeepsEntry t q k (Some v) → (e : Kept) × ((shelf_of r.entries).kept q ≡ Some e) × IsEntry t q e v
+    by_kept None at keeps = false_true (sym stays ∙ keeps.gone)
+    by_kept (Some e) at keeps = (e, at, keeps)
+
+-- the same head selects, whatever is told of its length
+pub selects_same : (t : Tables) (q : ℕ) (e : Kept) (v : Representation) (response : Response) → IsEntry t q e v → selects e.head response ≡ selects v.head response
+selects_same t q e v response is = ap (λ (h : Head). selects h response) is.head
+
+module _ {B : Type 0} {g : Ghosts B} (r mid thr u : Rows B g) (t : Tables) (facts : Facts r.limits t) (stands : RowsStand r t) (now x : ℕ) (response : Response) (goes : denial t (event.Head x response) ≡ None) (w : Exchange) (a : Asker r t x w)
+    (unselected : head_case (record (head_view t false w response) { selects = false }) ≡ case.NotValidated) (q : ℕ) (v : Representation) (aim : w.aim ≡ Some q) (cur : current t w.request.key ≡ Some q) (row : t.representation q ≡ Some v) (before out : List Act) where
+  abbrev ev : Event
+  ev = event.Head x response
+
+  abbrev aw : AwaitsHead t x w a.v
+  aw = a.awaits
+
+  pub at_turn : a.v.place ≡ place.Turn x
+  at_turn = by_at a.at
+    where
+      by_at : IsAwaiting x w a.v.place → a.v.place ≡ place.Turn x
+      by_at (owners.direct way stood) = absurd (let never : route.Direct ≡ route.Turn = sym way ∙ (it_is (head_view t false w response) unselected).0 in cc)
+      by_at (owners.turn way stood) = stood
+      by_at (owners.hole n lo hi how way named stood) = absurd (let never : route.Hole ≡ route.Turn = sym way ∙ (it_is (head_view t false w response) unselected).0 in cc)
+
+  -- a 304 has no body
+  bodiless : is_reached (promise_in w response) 0 ≡ true
+  unfolding length_of
+  bodiless = (let status = (it_is (head_view t false w response) unselected).1 in rw (status, or_last (is_head w.request)) refl)
+    where
+      or_last : (b : Bool) → (b || false || true) ≡ true
+      or_last true = refl
+      or_last false = refl
+
+  ended : unless_ended x response w ≡ []
+  ended = ap (λ (b : Bool). if b then [] else x ∷ []) bodiless
+
+  -- IT SELECTS WHAT IS STORED
+
+  abbrev z : rows.Consumer
+  z = record a.v { place = place.Passed q (Some x) }
+
+  abbrev m : Tables
+  m = with_representation q (Some (refreshed now response w v)) t
+
+  abbrev moved : Tables
+  moved = with_consumer w.c (Some z) m
+
+  founds_none : t.representation x ≡ None
+  founds_none = facts.law.sound.numbered.names.unfounded x w aw.row aw.headless
+
+  unfounded : moved.representation x ≡ None
+  unfounded = elim (same_or q x) [
+    | inl same ↦ none_some v (sym founds_none ∙ (ap t.representation (sym same) ∙ row))
+    | inr ne ↦ rw (eqb-other q x ne) founds_none
+  ]
+
+  unread : IsUnread moved x w
+  unread =
+      unread_then t facts.law x w a.v aw moved z (rw (eqb-same w.c) refl) (λ d n is ne. inl (sym (beside m w.c d (Some z) ne) ∙ is)) aw.row unfounded
+      (λ n lo hi h. (let never : place.Passed q (Some x) ≡ place.Bound n lo hi (by.FirstHole x) = h in absurd (cc))) (λ h. (let never : place.Passed q (Some x) ≡ place.Direct x = h in absurd (cc)))
+
+  pub validated_answered : selects v.head response ≡ true → RowsStand thr moved → out ≡ before ++ map act.Close (unless_over x (length_by (table_of thr.exchanges x).running response)) → KeepsRest thr u → u.consumers ≡ thr.consumers → exch.Becomes known.closed x thr.exchanges u.exchanges
+      → Answered r.limits (shelf_of r.entries).faults u t before out now ev
+  validated_answered on stood told rest consumers becomes =
+      let validates_now : validates t w response ≡ true = rw (cur, aim, eqb-same q, row) on in
+      let is = case_selected (head_view t false w response) unselected validates_now refl in
+      let tells = told ∙ (ap (λ (ys : List ℕ). before ++ map act.Close ys) (closes_as thr moved x w response stood aw.row aw.is_open ∙ ended)) in
+      does_answered r.limits (shelf_of r.entries).faults u t (counted now ev (with_consumer w.c (Some z) (with_answer now x response w.joined w m))) before out [] now ev
+      (validated r.limits t facts.law now x response goes w aw.row a.v aw.asker q v aim row is) (unwritten t now x response w case.Validated aw.row is refl) refl tells
+      (stands_counted u _ now ev refl (subst (λ (ys : List ℕ). RowsStand u (all_closed ys (with_answer now x response w.joined w moved))) ended (stands_refused thr u moved now x response w stood unread rest consumers becomes)))
+
+  -- IT DOESN'T
+
+  pub unselected_case : selects v.head response ≡ false → head_case (head_view t false w response) ≡ case.NotValidated
+  unselected_case off = case_unselected (head_view t false w response) unselected (rw (cur, aim, eqb-same q, row) off)
+
+-- FROM WHAT THE CODE LOOKED UP
+
+pub not_still : (a b : Option ℕ) → None ≡ (if is_same_number a b then b else None) → is_same_number a b ≡ false
+not_still None b is = refl
+not_still (Some m) None is = refl
+not_still (Some m) (Some n) is = by_test (nat_eq m n) is
+  where
+    by_test : (b : Bool) → None ≡ (if b then Some n else None) → b ≡ false
+    by_test false h = refl
+    by_test true h = none_some n h
+
+pub still : (a b : Option ℕ) (q : ℕ) → Some q ≡ (if is_same_number a b then b else None) → (a ≡ Some q) × (b ≡ Some q)
+still None b q is = none_some q (sym is)
+still (Some m) None q is = none_some q (sym is)
+still (Some m) (Some n) q is = by_test (nat_eq m n) refl is
+  where
+    by_test : (b : Bool) → nat_eq m n ≡ b → Some q ≡ (if b then Some n else None) → (Some m ≡ Some q) × (Some n ≡ Some q)
+    by_test false same h = none_some q (sym h)
+    by_test true same h = (let one : m ≡ n = grind (arith, nat_tests, same) in (ap Some one ∙ sym h, sym h))
+
+-- what is current is kept
+pub record IsStill {B : Type 0} {g : Ghosts B} (r : Rows B g) (t : Tables) (key : List ℕ) (q : ℕ) : Type 0 where
+  pub cur : current t key ≡ Some q
+  pub v : Representation
+  pub row : t.representation q ≡ Some v
+  pub e : Kept
+  pub kept : (shelf_of r.entries).kept q ≡ Some e
+  pub is : IsEntry t q e v
+
+pub still_kept : {B : Type 0} {g : Ghosts B} (r : Rows B g) (t : Tables) (key : List ℕ) (q : ℕ) → RowsStand r t → (kept_of r.keys key).current ≡ Some q → IsStill r t key q
+still_kept r t key q stands is =
+    let cur : current t key ≡ Some q = sym (stands.keys key).current ∙ is in
+    let found = current_row t q key cur in
+    let k = kept_current r t key q found.0 stands found.1 (current_stays t key q found.0 cur found.1) in
+    record { cur = cur; v = found.0; row = found.1; e = k.0; kept = k.1; is = k.2 }
+
+pub there_still : {B : Type 0} {g : Ghosts B} (r : Rows B g) (key : List ℕ) (q : ℕ) → ∥ Stands r ∥₁ → (kept_of r.keys key).current ≡ Some q → shelf.is_kept (shelf_of r.entries) q ≡ true
+there_still r key q some_past is = merely_true (shelf.is_kept (shelf_of r.entries) q) some_past
+    (λ p. (let s = past_of_runs r p in let k = still_kept r s.0 key q s.2 is in ap (λ z. is_some z) k.kept))
+
+pub usable_still : {B : Type 0} {g : Ghosts B} (r : Rows B g) (key : List ℕ) (q : ℕ) → ∥ Stands r ∥₁ → (kept_of r.keys key).current ≡ Some q → is_usable_kept ((shelf_of r.entries).kept q) ≡ true
+usable_still r key q some_past is = merely_true (is_usable_kept ((shelf_of r.entries).kept q)) some_past
+    (λ p. (let s = past_of_runs r p in let k = still_kept r s.0 key q s.2 is in ap is_usable_kept k.kept ∙ ap not (k.is.is_gone ∙ current_stays s.0 key q k.v k.cur k.row)))
+
+-- the exchange's key, as the code has it
+pub key_heard : {B : Type 0} {g : Ghosts B} (r : Rows B g) (x : ℕ) (aim : Option ℕ) (found : Option ℕ) → head_refusal (option_map seen (table_of r.exchanges x).running) ≡ None
+    → ((o : Open) → (table_of r.exchanges x).running ≡ Some o → found ≡ (if is_same_number (kept_of r.keys o.request.key).current aim then aim else None)) → (o : Open) × ((table_of r.exchanges x).running ≡ Some o) × (found ≡ (if is_same_number (kept_of r.keys o.request.key).current aim then aim else None))
+key_heard r x aim found accepted tells = let h = headless_of (table_of r.exchanges x).running accepted in (h.o, h.there, tells h.o h.there)
+
+-- where it isn't current any more, nothing is selected
+pub unstill_as : {B : Type 0} {g : Ghosts B} (r : Rows B g) (t : Tables) (x : ℕ) (o : Open) (w : Exchange) (aim : Option ℕ) (response : Response) → RowsStand r t → (table_of r.exchanges x).running ≡ Some o → t.exchange x ≡ Some w → aim ≡ w.aim
+    → is_same_number (kept_of r.keys o.request.key).current aim ≡ false → validates t w response ≡ false
+unstill_as r t x o w aim response stands there row about off =
+    let runs = runs_as r t x o w stands there row in
+    and_false (is_same_number (current t w.request.key) w.aim) (selects_row (row_of t w.aim) response)
+    (ap₂ is_same_number (ap (λ (q : Request). current t q.key) (sym runs.request) ∙ sym (stands.keys o.request.key).current) (sym about) ∙ off)
+
+-- ALL BUT WHAT IS KEPT OF REPRESENTATIONS STAYS
+
+module _ {B : Type 0} {g : Ghosts B} (r mid : Rows B g) (rest : KeepsBeside r mid) where
+  pub waits_on : (c : ℕ) → IsSomeAnd (get nat_eq r.consumers c) (IsInKey r.keys c) → IsSomeAnd (get nat_eq mid.consumers c) (IsInKey mid.keys c)
+  waits_on c waits = (let consumers = rest.consumers in let same_keys = rest.keys in rw (consumers, same_keys) waits)
+
+  pub accepted_on : (x : ℕ) → head_refusal (option_map seen (table_of r.exchanges x).running) ≡ None → head_refusal (option_map seen (table_of mid.exchanges x).running) ≡ None
+  accepted_on x accepted = (let exchanges = rest.exchanges in rw exchanges accepted)
+
+  pub asked_on : (c x : ℕ) → IsAskedBy c (table_of r.exchanges x).running → IsAskedBy c (table_of mid.exchanges x).running
+  asked_on c x asked = (let exchanges = rest.exchanges in rw exchanges asked)
+
+  pub facts_on : (t : Tables) → Facts r.limits t → Facts mid.limits t
+  facts_on t facts = subst (λ (n : Limits). Facts n t) (sym rest.limits) facts
+
+  -- what is answered from then on
+  pub answered_on : (u : Rows B g) (t : Tables) (before out : List Act) (now : ℕ) (ev : Event) → (shelf_of r.entries).faults ≤ (shelf_of mid.entries).faults → Answered mid.limits (shelf_of mid.entries).faults u t before out now ev → Answered r.limits (shelf_of r.entries).faults u t before out now ev
+  answered_on u t before out now ev le it =
+      answered_since r.limits (shelf_of r.entries).faults (shelf_of mid.entries).faults u t before out now ev le
+      (subst (λ (n : Limits). Answered n (shelf_of mid.entries).faults u t before out now ev) rest.limits it)
+
+-- WHAT IT SELECTED
+
+pub selected_of : {B : Type 0} {g : Ghosts B} (r mid : Rows B g) (x now q : ℕ) (response : Response) (result : Result Bool StoreError) (b : Bool) → result ≡ Ok b → IfOk result (IsSelected r mid x now q response) → IsSelected r mid x now q response b
+selected_of r mid x now q response result b is ok = subst (λ z. IfOk z (IsSelected r mid x now q response)) is ok
+
+-- what the exchange was opened about is current still, and kept
+pub record IsCurrentStill {B : Type 0} {g : Ghosts B} (r : Rows B g) (t : Tables) (w : Exchange) (q : ℕ) : Type 0 where
+  pub cur : current t w.request.key ≡ Some q
+  pub named : w.aim ≡ Some q
+  pub v : Representation
+  pub row : t.representation q ≡ Some v
+  pub e : Kept
+  pub kept : (shelf_of r.entries).kept q ≡ Some e
+  pub is : IsEntry t q e v
+
+pub current_still : {B : Type 0} {g : Ghosts B} (r : Rows B g) (t : Tables) (x : ℕ) (o : Open) (w : Exchange) (aim : Option ℕ) (q : ℕ) → RowsStand r t → (table_of r.exchanges x).running ≡ Some o → t.exchange x ≡ Some w → aim ≡ w.aim
+    → Some q ≡ (if is_same_number (kept_of r.keys o.request.key).current aim then aim else None) → IsCurrentStill r t w q
+current_still r t x o w aim q stands there row about tells =
+    let runs = runs_as r t x o w stands there row in
+    let found = still (kept_of r.keys o.request.key).current aim q tells in
+    let s = still_kept r t o.request.key q stands found.0 in
+    record { cur = ap (λ (n : Request). current t n.key) (sym runs.request) ∙ s.cur; named = sym about ∙ found.1; v = s.v; row = s.row; e = s.e; kept = s.kept; is = s.is }
+
+module _ {B : Type 0} {g : Ghosts B} (r mid : Rows B g) (t : Tables) (x now : ℕ) (o : Open) (w : Exchange) (q : ℕ) (response : Response) (stands : RowsStand r t) (there : (table_of r.exchanges x).running ≡ Some o) (row : t.exchange x ≡ Some w) (s : IsCurrentStill r t w q) where
+  pub tells_selected : (b : Bool) → IsSelected r mid x now q response b → b ≡ selects s.v.head response
+  tells_selected b sel = sel.tells s.e s.kept ∙ selects_same t q s.e s.v response s.is
+
+  pub stands_selected : IsSelected r mid x now q response true → RowsStand mid (with_representation q (Some (refreshed now response w s.v)) t)
+  stands_selected sel =
+      let runs = runs_as r t x o w stands there row in
+      stands_renewed r mid t now response w q s.v s.e s.row stands sel.rest s.kept
+      (subst (λ (n : ℕ). shelf.Becomes (option_map (with_head (renewed n now response.fields s.e.head))) shelf.unmoved q (shelf_of r.entries) (shelf_of mid.entries)) runs.moment (sel.head o there s.e s.kept))

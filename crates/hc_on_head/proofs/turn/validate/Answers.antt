@@ -1,0 +1,130 @@
+use Rattle.std.proofs.Common.{◌≡◌, ◌<◌, ◌^◌, ℕ, true, false, Some, Ok, Err, refl, ap, sym, ◌∙◌, subst}
+use Rattle.std.proofs.Math.Logic.{∥∥₁_map}
+use Rattle.hc_event.specs.Acts.{listed}
+use Rattle.hc_event.specs.declared.event.Event.TheVariants as event
+use Rattle.hc_rules.specs.declared.heads.HeadCase.TheVariants as case
+use Rattle.hc_rules.specs.declared.room.Limits.{Limits}
+use Rattle.hc_stored.specs.Entries.{shelf_of}
+use Rattle.hc_exch.specs.Exchanges.{next_of}
+use Rattle.hc_entry.specs.Keys.{kept_of}
+use Rattle.hc_event.specs.declared.place.Place.TheVariants as place
+use Rattle.hc_model.specs.Cases.{head_view}
+use Rattle.hc_model.specs.Effects.{with_consumer, with_representation, refreshed}
+use Rattle.hc_state.specs.Stands.{Answered, RowsStand}
+use Rattle.hc_state.specs.Stored.{is_usable_kept}
+use Rattle.hc_on_leave.proofs.HeadCases.{case_unselected}
+use Rattle.hc_on_leave.proofs.HeardRows.{asker_of, asked_by}
+use Rattle.hc_on_leave.proofs.SeatLoops.{none_is}
+use Rattle.hc_on_head.proofs.TurnArm.{accepted_on, answered_on, asked_on, usable_still, waits_on, at_turn, current_still, facts_on, key_heard, not_still, past_unrenewed, selected_of, stands_selected, stands_unrenewed, still, tells_selected, there_still, unselected_case, unstill_as, validated_answered}
+use Rattle.hc_on_head.proofs.turn.validate.Goals as goal
+
+pub returns-in_default-clause-answers : goal.returns-in_default-clause-answers
+returns-in_default-clause-answers g c = λ t w facts stands goes row about is.
+    let r = c.args.rows.now in
+    let x = c.args.heard.x in
+    let response = c.args.response.now in
+    let h = key_heard r x c.args.aim c.still_current.result c.requires.accepted c.still_current.ensures in
+    let off = not_still (kept_of r.keys h.0.request.key).current c.args.aim (sym (none_is c.still_current.result c.in_default.not-Some) ∙ h.2) in
+    c.start_anew.ensures.answers case.NotValidated refl t w facts stands goes row (case_unselected (head_view t false w response) is (unstill_as r t x h.0 w c.args.aim response stands h.1 row about off)) refl about
+
+pub select-requires-clause-there : goal.select-requires-clause-there
+select-requires-clause-there g c =
+    let r = c.args.rows.now in
+    let h = key_heard r c.args.heard.x c.args.aim c.still_current.result c.requires.accepted c.still_current.ensures in
+    let found = still (kept_of r.keys h.0.request.key).current c.args.aim c.in-Some.r (sym c.in-Some.is ∙ h.2) in
+    there_still r h.0.request.key c.in-Some.r c.requires.stands found.0
+
+pub start_anew-requires-in-Ok-false-clause-stands : goal.start_anew-requires-in-Ok-false-clause-stands
+start_anew-requires-in-Ok-false-clause-stands g c =
+    let r = c.args.rows.now in
+    let mid = c.select.new.rows in
+    let x = c.args.heard.x in
+    let h = key_heard r x c.args.aim c.still_current.result c.requires.accepted c.still_current.ensures in
+    let found : c.select.result ≡ Ok false = cc in
+    let sel = selected_of r mid x c.args.heard.now c.in-Some.r c.args.response.now c.select.result false found c.select.ensures.ok in
+    ∥∥₁_map c.requires.stands (λ p. past_unrenewed r mid sel.rest (sel.head h.0 h.1) p)
+
+pub returns-in-Ok-true-clause-answers : goal.returns-in-Ok-true-clause-answers
+returns-in-Ok-true-clause-answers g c = λ t w facts stands goes row about is.
+    let r = c.args.rows.now in
+    let mid = c.select.new.rows in
+    let thr = c.let_through.new.rows in
+    let u = c.refuse.new.rows in
+    let now = c.args.heard.now in
+    let x = c.args.heard.x in
+    let q = c.in-Some.r in
+    let response = c.args.response.now in
+    let before = listed c.args.out.now in
+    let h = key_heard r x c.args.aim c.still_current.result c.requires.accepted c.still_current.ensures in
+    let s = current_still r t x h.0 w c.args.aim q stands h.1 row about (sym c.in-Some.is ∙ h.2) in
+    let a = asker_of r t facts now x response w stands goes row in
+    let for_it = asked_by r t x c.args.heard.c w stands c.requires.accepted c.requires.asker row in
+    let found : c.select.result ≡ Ok true = cc in
+    let sel = selected_of r mid x now q response c.select.result true found c.select.ensures.ok in
+    let stood = subst (λ (d : ℕ). RowsStand thr (with_consumer d (Some (record a.v { place = place.Passed q (Some x) })) (with_representation q (Some (refreshed now response w s.v)) t))) (sym for_it)
+    (c.let_through.ensures.stands t w a.v (refreshed now response w s.v) facts.law a.awaits for_it (at_turn r mid thr u t facts stands now x response goes w a is q s.v s.named s.cur s.row before before) (stands_selected r mid t x now h.0 w q response stands h.1 row s sel)) in
+    validated_answered r mid thr u t facts stands now x response goes w a is q s.v s.named s.cur s.row before (listed c.refuse.new.out)
+    (sym (tells_selected r mid t x now h.0 w q response stands h.1 row s true sel)) stood c.refuse.ensures.acts c.refuse.ensures.rest c.refuse.ensures.consumers c.refuse.ensures.closed
+
+pub returns-in-Ok-false-clause-answers : goal.returns-in-Ok-false-clause-answers
+returns-in-Ok-false-clause-answers g c = λ t w facts stands goes row about is.
+    let r = c.args.rows.now in
+    let mid = c.select.new.rows in
+    let u = c.start_anew-in-Ok-false.new.rows in
+    let now = c.args.heard.now in
+    let x = c.args.heard.x in
+    let q = c.in-Some.r in
+    let response = c.args.response.now in
+    let before = listed c.args.out.now in
+    let h = key_heard r x c.args.aim c.still_current.result c.requires.accepted c.still_current.ensures in
+    let s = current_still r t x h.0 w c.args.aim q stands h.1 row about (sym c.in-Some.is ∙ h.2) in
+    let a = asker_of r t facts now x response w stands goes row in
+    let found : c.select.result ≡ Ok false = cc in
+    let sel = selected_of r mid x now q response c.select.result false found c.select.ensures.ok in
+    let off = sym (tells_selected r mid t x now h.0 w q response stands h.1 row s false sel) in
+    answered_on r mid sel.rest u t before (listed c.start_anew-in-Ok-false.new.out) now (event.Head x response) c.select.ensures.cause.later
+    (c.start_anew-in-Ok-false.ensures.answers case.NotValidated refl t w (facts_on r mid sel.rest t facts) (stands_unrenewed r mid t sel.rest (sel.head h.0 h.1) stands) goes row
+    (unselected_case r mid mid u t facts stands now x response goes w a is q s.v s.named s.cur s.row before before off) refl about)
+
+pub lose_asked-requires-clause-stands : goal.lose_asked-requires-clause-stands
+lose_asked-requires-clause-stands g c = (let kept = c.in-Err-Fault.ensures.err in ∥∥₁_map c.requires.stands (λ p. past_unrenewed c.args.rows.now c.select.new.rows kept.rest kept.same p))
+
+pub lose_asked-requires-clause-current : goal.lose_asked-requires-clause-current
+lose_asked-requires-clause-current g c =
+    let r = c.args.rows.now in
+    let h = key_heard r c.args.heard.x c.args.aim c.still_current.result c.requires.accepted c.still_current.ensures in
+    let found = still (kept_of r.keys h.0.request.key).current c.args.aim c.in-Some.r (sym c.in-Some.is ∙ h.2) in
+    ap is_usable_kept (c.in-Err-Fault.ensures.err.same.kept c.in-Some.r) ∙ usable_still r h.0.request.key c.in-Some.r c.requires.stands found.0
+
+pub lose_asked-requires-clause-waits : goal.lose_asked-requires-clause-waits
+lose_asked-requires-clause-waits g c = waits_on c.args.rows.now c.select.new.rows c.in-Err-Fault.ensures.err.rest c.args.heard.c c.requires.waits
+
+pub lose_asked-requires-clause-accepted : goal.lose_asked-requires-clause-accepted
+lose_asked-requires-clause-accepted g c = accepted_on c.args.rows.now c.select.new.rows c.in-Err-Fault.ensures.err.rest c.args.heard.x c.requires.accepted
+
+pub lose_asked-requires-clause-asker : goal.lose_asked-requires-clause-asker
+lose_asked-requires-clause-asker g c = asked_on c.args.rows.now c.select.new.rows c.in-Err-Fault.ensures.err.rest c.args.heard.c c.args.heard.x c.requires.asker
+
+pub lose_asked-requires-clause-small : goal.lose_asked-requires-clause-small
+lose_asked-requires-clause-small g c = (let received = c.in-Err-Fault.ensures.err.rest.received in subst (λ (n : ℕ). n < 2 ^ 61) (sym received) c.requires.small)
+
+pub returns-in-Err-Fault-clause-answers : goal.returns-in-Err-Fault-clause-answers
+returns-in-Err-Fault-clause-answers g c = λ t w facts stands goes row about is.
+    let r = c.args.rows.now in
+    let mid = c.select.new.rows in
+    let u = c.lose_asked.new.rows in
+    let now = c.args.heard.now in
+    let x = c.args.heard.x in
+    let q = c.in-Some.r in
+    let response = c.args.response.now in
+    let kept = c.in-Err-Fault.ensures.err in
+    let h = key_heard r x c.args.aim c.still_current.result c.requires.accepted c.still_current.ensures in
+    let s = current_still r t x h.0 w c.args.aim q stands h.1 row about (sym c.in-Some.is ∙ h.2) in
+    let answered = c.lose_asked.ensures.answers (shelf_of r.entries).faults t w (facts_on r mid kept.rest t facts) (stands_unrenewed r mid t kept.rest kept.same stands) goes row s.named s.cur is (c.select.ensures.cause.fault (c.in-Err-Fault.is ∙ ap Err c.in-Err-Fault.field-0-is)) in
+    subst (λ (n : Limits). Answered n (shelf_of r.entries).faults u t (listed c.args.out.now) (listed c.lose_asked.new.out) now (event.Head x response)) kept.rest.limits answered
+
+pub returns-in-Err-Fault-clause-received : goal.returns-in-Err-Fault-clause-received
+returns-in-Err-Fault-clause-received g c = c.lose_asked.ensures.received ∙ c.in-Err-Fault.ensures.err.rest.received
+
+pub returns-in-Err-Fault-clause-limits : goal.returns-in-Err-Fault-clause-limits
+returns-in-Err-Fault-clause-limits g c = c.lose_asked.ensures.limits ∙ c.in-Err-Fault.ensures.err.rest.limits

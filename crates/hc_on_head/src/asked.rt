@@ -1,0 +1,55 @@
+//! What a 304 may be about, where it can't be read or updated.
+ghost use Rattle.std.specs.Prelude.{◌≡◌, ◌≤◌, ◌<◌, ◌^◌, ℕ, true, None, nat_eq, IsSomeAnd};
+ghost use Rattle.std.specs.HashMap.{get};
+ghost use Rattle.hc_event.specs.Acts.{listed, spare};
+ghost use Rattle.hc_rules.specs.Refusals.{head_refusal};
+ghost use Rattle.hc_stored.specs.Entries.{shelf_of};
+ghost use Rattle.hc_exch.specs.Exchanges.{table_of};
+ghost use Rattle.hc_state.specs.Arms.{IsInKey};
+ghost use Rattle.hc_state.specs.Heads.{IsAskedBy};
+ghost use Rattle.hc_state.specs.Heirs.{AnswersLosing};
+ghost use Rattle.hc_state.specs.Stands.{Stands, open_at};
+ghost use Rattle.hc_state.specs.Stored.{is_usable_kept};
+
+use crate::asker::send_back;
+use crate::heard::Heard;
+use crate::unstored::refuse;
+use hc_event::{Acts, LostKind, Response};
+use hc_on_leave::lose::lose_writing;
+use hc_on_leave::seal::lose_to;
+use hc_on_leave::writers::exclusive;
+use hc_on_leave::writing::writing;
+use hc_state::Rows;
+use hc_store::Backend;
+
+/// What a 304 may be about can't be read or updated: it is lost, and whoever asked starts over.
+pub fn lose_asked<B: Backend>(
+    rows: &mut Rows<B>,
+    heard: Heard,
+    response: &Response,
+    r: u64,
+    out: &mut Acts,
+)
+    requires stands { ∥ Stands rows.old ∥₁ }
+    requires current { is_usable_kept ((shelf_of rows.old.entries).kept r) ≡ true }
+    requires waits { IsSomeAnd (get nat_eq rows.old.consumers heard.c)
+        (IsInKey rows.old.keys heard.c) }
+    requires accepted { head_refusal (open_at rows.old heard.x) ≡ None }
+    requires asker { IsAskedBy heard.c (table_of rows.old.exchanges heard.x).running }
+    requires small { rows.old.received < 2 ^ 61 }
+    requires room { 3 ≤ spare out.old }
+    ensures answers { (faults : ℕ) → AnswersLosing rows.old rows.new (listed out.old)
+        (listed out.new) faults heard.now heard.x r response.now }
+    ensures received { rows.new.received ≡ rows.old.received }
+    ensures limits { rows.new.limits ≡ rows.old.limits }
+    ensures faults { (shelf_of rows.new.entries).faults ≡ (shelf_of rows.old.entries).faults }
+{
+    let writing = writing(rows, r);
+    let alone = exclusive(rows, r);
+    send_back(rows, heard.now, heard.c);
+    refuse(rows, heard.x, response, out);
+    match writing {
+        Some(x) => lose_writing(rows, heard.now, r, x, LostKind::Fault, out),
+        None => lose_to(rows, heard.now, r, alone, LostKind::Fault, out),
+    }
+}

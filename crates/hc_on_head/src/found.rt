@@ -1,0 +1,253 @@
+//! Heads that found a representation.
+ghost use Rattle.std.specs.Prelude.{◌≡◌, ◌+◌, ◌≤◌, ◌<◌, ◌^◌, Some, None, Err, true, false, nat_eq, is_some, IfOk, IsSomeAnd, OnOk, OnErr};
+ghost use Rattle.std.specs.HashMap.{get};
+ghost use Rattle.hc_event.specs.Acts.{listed, spare};
+ghost use Rattle.hc_record.specs.Plain.{plain};
+ghost use Rattle.hc_rules.specs.Lengths.{is_bad};
+ghost use Rattle.hc_rules.specs.Refusals.{head_refusal};
+ghost use Rattle.hc_store.specs.Causes.{HasCause, IsWithin};
+ghost use Rattle.hc_store.specs.declared.error.StoreError.TheVariants as errors;
+ghost use Rattle.hc_stored.specs.Entries.{shelf_of};
+ghost use Rattle.hc_exch.specs.Exchanges.{table_of};
+ghost use Rattle.hc_exch.specs.Known.{is_open, length_by};
+ghost use Rattle.hc_exch.specs.declared.row.Open.{Open};
+ghost use Rattle.hc_model.specs.Cases.{is_founding};
+ghost use Rattle.hc_model.specs.Heads.{total_of_part};
+ghost use Rattle.hc_state.specs.Founding.{MayFound, IsFounding, BeginsFounding, head_by, is_shared_by, part_by};
+ghost use Rattle.hc_state.specs.Heads.{IsAskedBy, IsTimely};
+ghost use Rattle.hc_state.specs.Renewals.{IsUnrenewed};
+ghost use Rattle.hc_state.specs.Room.{Appends};
+ghost use Rattle.hc_state.specs.Stands.{AnswersCase, Stands, open_at};
+
+use crate::asker::stand_aside;
+use crate::heard::Heard;
+use crate::unstored::answer_past;
+use hc_event::{Act, Acts, Place, Response};
+use hc_exch::Role;
+use hc_on_leave::acts::put;
+use hc_on_leave::evict::{let_some_go, make_room};
+use hc_on_leave::lose::lost_kind;
+use hc_range::ContentRange;
+use hc_record::{Kind, StoredHead};
+use hc_state::{Founding, Rows, founded_head, read_founded};
+use hc_rules::{HeadCase, Wanted, Write, content_range_of, length_of, wanted_of};
+use hc_store::{Backend, StoreError};
+use hc_text::NoMemory;
+
+/// An answer founds a representation. With it this isn't used any more, nor is what was
+/// current. Where the store refuses it, the answer goes on past the store.
+pub(crate) fn found<B: Backend>(
+    rows: &mut Rows<B>,
+    case: HeadCase,
+    heard: Heard,
+    response: &Response,
+    goes: Option<u64>,
+    out: &mut Acts,
+) -> Result<(), NoMemory>
+    requires stands { ∥ Stands rows.old ∥₁ }
+    requires live { is_some (get nat_eq rows.old.consumers heard.c) ≡ true }
+    requires accepted { head_refusal (open_at rows.old heard.x) ≡ None }
+    requires asker { IsAskedBy heard.c (table_of rows.old.exchanges heard.x).running }
+    requires good { is_bad (length_by (table_of rows.old.exchanges heard.x).running
+        response.now) ≡ false }
+    requires timely { IsTimely heard.now (table_of rows.old.exchanges heard.x).running }
+    requires founds { is_founding (Some case) ≡ true }
+    requires may { MayFound response.now }
+    requires small { rows.old.received < 2 ^ 61 }
+    requires room { 2 ≤ spare out.old }
+    ensures answers { OnOk result (AnswersCase rows.old rows.new (listed out.old)
+        (listed out.new) heard.now heard.x response.now case goes) }
+    ensures received { OnOk result (rows.new.received ≡ rows.old.received) }
+    ensures limits { OnOk result (rows.new.limits ≡ rows.old.limits) }
+    ensures faults { (shelf_of rows.old.entries).faults ≤ (shelf_of rows.new.entries).faults }
+    ensures kept { OnErr result (listed out.new ≡ listed out.old) }
+{
+    let told = out.list().len();
+    let founded = found_in_room(rows, case, heard, response, goes, out);
+    if founded.is_err() {
+        out.truncate(told);
+    }
+    founded
+}
+
+/// The same, but that after want of memory it may be told what made room.
+fn found_in_room<B: Backend>(
+    rows: &mut Rows<B>,
+    case: HeadCase,
+    heard: Heard,
+    response: &Response,
+    goes: Option<u64>,
+    out: &mut Acts,
+) -> Result<(), NoMemory>
+    requires stands { ∥ Stands rows.old ∥₁ }
+    requires live { is_some (get nat_eq rows.old.consumers heard.c) ≡ true }
+    requires accepted { head_refusal (open_at rows.old heard.x) ≡ None }
+    requires asker { IsAskedBy heard.c (table_of rows.old.exchanges heard.x).running }
+    requires good { is_bad (length_by (table_of rows.old.exchanges heard.x).running
+        response.now) ≡ false }
+    requires timely { IsTimely heard.now (table_of rows.old.exchanges heard.x).running }
+    requires founds { is_founding (Some case) ≡ true }
+    requires may { MayFound response.now }
+    requires small { rows.old.received < 2 ^ 61 }
+    requires room { 2 ≤ spare out.old }
+    ensures answers { OnOk result (AnswersCase rows.old rows.new (listed out.old)
+        (listed out.new) heard.now heard.x response.now case goes) }
+    ensures received { OnOk result (rows.new.received ≡ rows.old.received) }
+    ensures limits { OnOk result (rows.new.limits ≡ rows.old.limits) }
+    ensures faults { (shelf_of rows.old.entries).faults ≤ (shelf_of rows.new.entries).faults }
+    ensures appends { Appends (listed out.old) (listed out.new) }
+{
+    let founding = founding(rows, case, heard, response)?;
+    let current = rows.keys.current(&founding.key);
+    stand_aside(rows, heard.c, Place::Direct(heard.x));
+    let_some_go(rows, heard.now, goes);
+    let_some_go(rows, heard.now, current);
+    make_room(rows, heard.now, Write::Slot, out);
+    if let Err(error) = found_with(rows, heard, response, founding) {
+        let kind = lost_kind(error)?;
+        answer_past(rows, heard, response)?;
+        put(out, Act::Lost { r: heard.x, kind });
+    }
+    Ok(())
+}
+
+/// What the answer founds.
+fn founding<B: Backend>(
+    rows: &Rows<B>,
+    case: HeadCase,
+    heard: Heard,
+    response: &Response,
+) -> Result<Founding, NoMemory>
+    requires stands { ∥ Stands rows.now ∥₁ }
+    requires live { is_some (get nat_eq rows.now.consumers heard.c) ≡ true }
+    requires running { is_open heard.x (table_of rows.now.exchanges) ≡ true }
+    requires timely { IsTimely heard.now (table_of rows.now.exchanges heard.x).running }
+    requires may { MayFound response.now }
+    ensures { IfOk result (λ founding. IsSomeAnd (get nat_eq rows.now.consumers heard.c) (λ k.
+        (o : Open) → (table_of rows.now.exchanges heard.x).running ≡ Some o
+        → IsFounding o k case heard.now response.now founding)) }
+{
+    let head = head_founded(rows, heard, response)?;
+    let key = rows.exchanges.opening(heard.x).unwrap().request.key.copy()?;
+    let shared = is_shared(case);
+    let (lo, hi) = part_founded(rows, heard.c, shared, head.total);
+    Ok(Founding {
+        key,
+        head,
+        shared,
+        lo,
+        hi,
+    })
+}
+
+/// The head of what is founded.
+fn head_founded<B: Backend>(
+    rows: &Rows<B>,
+    heard: Heard,
+    response: &Response,
+) -> Result<StoredHead, NoMemory>
+    requires running { is_open heard.x (table_of rows.now.exchanges) ≡ true }
+    requires timely { IsTimely heard.now (table_of rows.now.exchanges heard.x).running }
+    requires may { MayFound response.now }
+    ensures { IfOk result (λ head. (o : Open)
+        → (table_of rows.now.exchanges heard.x).running ≡ Some o
+        → plain head ≡ head_by o heard.now response.now) }
+{
+    let opening = rows.exchanges.opening(heard.x).unwrap();
+    let promise = length_of(*opening.need, opening.request, response).promise();
+    let total = if response.status == 206 {
+        total_of(content_range_of(&response.fields))
+    } else {
+        promise
+    };
+    // Where nothing is promised, all of it is there.
+    let kind = if promise == Some(0) {
+        Kind::Whole
+    } else {
+        Kind::Growing
+    };
+    founded_head(
+        opening.request,
+        response,
+        opening.moment,
+        heard.now,
+        kind,
+        total,
+    )
+}
+
+/// What the consumer reads of what is founded for it, from where to where.
+fn part_founded<B: Backend>(
+    rows: &Rows<B>,
+    c: u64,
+    shared: bool,
+    total: Option<u64>,
+) -> (u64, Option<u64>)
+    requires stands { ∥ Stands rows.now ∥₁ }
+    requires live { is_some (get nat_eq rows.now.consumers c) ≡ true }
+    ensures { IsSomeAnd (get nat_eq rows.now.consumers c)
+        (λ k. (result.0, result.1) ≡ part_by shared k.class.range total) }
+{
+    let consumer = rows.consumers.get(&c).unwrap();
+    if shared {
+        return (0, total);
+    }
+    match wanted_of(consumer.class.range, total) {
+        Wanted::Interval(span) => (span.lo, Some(span.hi)),
+        _ => (0, total),
+    }
+}
+
+/// A slot for what is founded, where the store takes it: that is current then, its exchange
+/// brings it, and the consumer reads it.
+fn found_with<B: Backend>(
+    rows: &mut Rows<B>,
+    heard: Heard,
+    response: &Response,
+    founding: Founding,
+) -> Result<(), StoreError>
+    requires accepted { head_refusal (open_at rows.old heard.x) ≡ None }
+    requires good { is_bad (length_by (table_of rows.old.exchanges heard.x).running
+        response.now) ≡ false }
+    requires new { (shelf_of rows.old.entries).kept heard.x ≡ None }
+    requires moments { founding.head.requested ≤ founding.head.answered }
+    ensures ok { OnOk result (BeginsFounding rows.old rows.new heard.x heard.c founding
+        response.now) }
+    ensures err { (result ≡ Err errors.NoMemory → ⊥)
+        → OnErr result (IsUnrenewed rows.old rows.new) }
+    ensures within { IsWithin (shelf_of rows.old.entries).limits 0
+        ((shelf_of rows.old.entries).used + 32768) result }
+    ensures cause { HasCause (shelf_of rows.old.entries).faults
+        (shelf_of rows.new.entries).faults result }
+{
+    let (x, c) = (heard.x, heard.c);
+    let (shared, lo, hi) = (founding.shared, founding.lo, founding.hi);
+    let writer = if shared { Some(x) } else { None };
+    rows.entries
+        .found(x, founding.key, &founding.head, c, !shared, writer)?;
+    let opening = rows.exchanges.opening(x).unwrap();
+    rows.keys.make_current(&opening.request.key, x)?;
+    rows.exchanges.turn_into(x, Role::Body { r: x });
+    let Ok(_) = rows.exchanges.head(x, response, heard.now) else {
+        unreachable!()
+    };
+    read_founded(&mut rows.consumers, c, x, shared, lo, hi);
+    Ok(())
+}
+
+/// Others read with its consumer what is founded.
+fn is_shared(case: HeadCase) -> bool
+    ensures { result ≡ is_shared_by case }
+{
+    !matches!(case, HeadCase::FoundsRange)
+}
+
+/// The length of the whole, where a part tells it.
+fn total_of(range: Option<ContentRange>) -> Option<u64>
+    ensures { result ≡ total_of_part range }
+{
+    match range {
+        Some(ContentRange::Part { total, .. }) => total,
+        _ => None,
+    }
+}

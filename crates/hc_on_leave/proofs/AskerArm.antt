@@ -1,0 +1,313 @@
+-- A consumer that waits for the head of its exchange stands elsewhere: what is kept stands for the tables then.
+use Rattle.std.proofs.Common.{◌≡◌, inl, inr, ℕ, zero, suc, List, [], Bool, true, false, Some, None, refl, ap, sym, ◌∙◌, subst}
+use Rattle.std.specs.Prelude.{nat_eq, drop, bytes_eq, ◌&&◌}
+use Rattle.std.specs.HashMap.{get}
+use Rattle.hc_store.specs.declared.backend.Backend.{Ghosts}
+use Rattle.hc_event.specs.declared.event.Request.{Request}
+use Rattle.hc_stored.specs.Entries.{shelf_of}
+use Rattle.hc_entry.specs.Keys as keys
+use Rattle.hc_entry.specs.Keys.{kept_of}
+use Rattle.hc_entry.specs.Kept.{on_line}
+use Rattle.hc_entry.specs.Lines.{come_back}
+use Rattle.hc_event.specs.declared.place.Place.{Place}
+use Rattle.hc_event.specs.declared.place.Place.TheVariants as place
+use Rattle.hc_event.specs.declared.place.BoundBy.TheVariants as by
+use Rattle.hc_model.specs.ConsumerRows.{back_in_line}
+use Rattle.hc_model.specs.Denials.{is_live_place}
+use Rattle.hc_model.specs.Effects.{with_consumer}
+use Rattle.hc_model.specs.Exchanges.{family}
+use Rattle.hc_model.specs.Lawful.{Lawful}
+use Rattle.hc_model.specs.Lines.{is_in_line, stands_in_line}
+use Rattle.hc_model.specs.Owners.{IsAwaiting}
+use Rattle.hc_model.specs.Owners as owners
+use Rattle.hc_model.specs.Places.{Queues}
+use Rattle.hc_model.specs.Planning.{has_passed}
+use Rattle.hc_model.specs.Reading.{is_bound_place, lo_of, hi_of}
+use Rattle.hc_model.specs.Rows as rows
+use Rattle.hc_model.specs.Rows.{Tables, Exchange, Representation}
+use Rattle.hc_model.specs.StartingOver.{awaited}
+use Rattle.hc_state.specs.declared.consumer.Consumer.{Consumer}
+use Rattle.hc_state.specs.declared.rows.Rows.{Rows}
+use Rattle.hc_state.specs.Changes.{ChangesAt, standing_at, once_over}
+use Rattle.hc_state.specs.Heads.{AwaitsHead, StandsApart}
+use Rattle.hc_state.specs.Kept.{IsKept, answer_for, unread, unstored}
+use Rattle.hc_state.specs.Leaving.{LeavesKey, UnbindsAt}
+use Rattle.hc_state.specs.Lines.{is_away_at}
+use Rattle.hc_state.specs.Stands.{RowsStand}
+use Rattle.hc_state.proofs.Apart.{keys_apart, entries_apart}
+use Rattle.hc_state.proofs.ConsumerSteps.{keys_with}
+use Rattle.hc_state.proofs.Dropping.{unbinds_limits}
+use Rattle.hc_on_leave.proofs.HeardRows.{live_at, waits_as, kept_as}
+use Rattle.hc_state.proofs.KeySteps.{not_lined, lined, comes_back, says_elsewhere}
+use Rattle.hc_on_leave.proofs.OneConsumer.{HoldsAsMuch, stands_moved}
+use Rattle.hc_state.proofs.QueueArm.{becomes_by}
+use Rattle.hc_state.proofs.Words.{eqb-same, eqb-other, same_or, then_false, false_true, none_some, same_row}
+
+-- WHERE NOTHING IS READ
+
+abbrev none : List ℕ
+none = []
+
+drop_none : (n : ℕ) (bytes : List ℕ) → bytes ≡ none → drop n bytes ≡ none
+drop_none n bytes empty = rw empty (by_count n)
+  where
+    by_count : (n : ℕ) → drop n none ≡ none
+    by_count zero = refl
+    by_count (suc n) = refl
+
+-- it waits in no line, and is bound to nothing
+pub record IsApartPlace (p : Place) : Type 0 where
+  pub live : is_live_place p ≡ true
+  pub unbound : (q : ℕ) → is_bound_place q p ≡ false
+  pub unlined : stands_in_line p ≡ false
+  pub unpassed : has_passed p ≡ false
+  pub here : (t : Tables) → is_away_at t p ≡ false
+
+apart_by : (x : ℕ) (p : Place) → StandsApart x p → IsApartPlace p
+apart_by x (place.Direct y) is = record { live = refl; unbound = λ q. refl; unlined = refl; unpassed = refl; here = λ t. refl }
+apart_by x (place.Down why) is = record { live = refl; unbound = λ q. refl; unlined = refl; unpassed = refl; here = λ t. refl }
+apart_by x place.Line is = absurd is
+apart_by x (place.Passed r kept) is = absurd is
+apart_by x (place.Turn y) is = absurd is
+apart_by x (place.Bound r lo hi by) is = absurd is
+apart_by x place.Over is = absurd is
+
+module _ (t : Tables) (law : Lawful t) (x : ℕ) (w : Exchange) (row : t.exchange x ≡ Some w) (opened : w.is_open ≡ true) (bare : w.head ≡ None) (v : rows.Consumer) (asker : t.consumer w.c ≡ Some v) (own : v.own ≡ Some x) (at : IsAwaiting x w v.place) where
+  empty : w.body ≡ []
+  empty = (law.sound.waits.headless x w row bare).0
+
+  unjoined : w.joined ≡ None
+  unjoined = (law.sound.waits.headless x w row bare).1
+
+  unfounded : t.representation x ≡ None
+  unfounded = law.sound.numbered.names.unfounded x w row bare
+
+  -- who reads x past the store has nothing of it
+  past_none : (u : rows.Consumer) (y : ℕ) (z : Exchange) → u.place ≡ place.Direct x → t.exchange y ≡ Some z → unread y z (Some u) ≡ []
+  past_none u y z at there = rw at (elim (same_or x y) [
+    | inl e ↦
+        let one : w ≡ z = same_row (t.exchange y) w z (subst (λ (n : ℕ). t.exchange n ≡ Some w) e row) there in
+        rw (e, eqb-same y) (drop_none u.given z.body (ap (λ (q : Exchange). q.body) (sym one) ∙ empty))
+    | inr ne ↦ rw (eqb-other x y ne) refl
+  ])
+
+  -- nothing of it is held for who waits for its head
+  asker_past : (y : ℕ) (z : Exchange) → t.exchange y ≡ Some z → unread y z (Some v) ≡ []
+  asker_past y z there = by_at at
+    where
+      by_at : IsAwaiting x w v.place → unread y z (Some v) ≡ []
+      by_at (owners.direct way stood) = past_none v y z stood there
+      by_at (owners.turn way stood) = rw stood refl
+      by_at (owners.hole q lo hi how way aim stood) = rw stood refl
+
+  not_its : (y : ℕ) (z : Exchange) (b : Representation) → t.exchange y ≡ Some z → t.representation (family y z) ≡ Some b → (is_bound_place (family y z) v.place && (nat_eq x y)) ≡ false
+  not_its y z b there founded = elim (same_or x y) [
+    | inl e ↦
+        let one : w ≡ z = same_row (t.exchange y) w z (subst (λ (n : ℕ). t.exchange n ≡ Some w) e row) there in
+        let own : family y z ≡ x = (let none : z.joined ≡ None = ap (λ (q : Exchange). q.joined) (sym one) ∙ unjoined in rw none (sym e)) in
+        none_some b (sym unfounded ∙ (ap t.representation (sym own) ∙ founded))
+    | inr ne ↦ then_false (is_bound_place (family y z) v.place) (nat_eq x y) (eqb-other x y ne)
+  ]
+
+  asker_lost : (y : ℕ) (z : Exchange) (b : Representation) → t.exchange y ≡ Some z → t.representation (family y z) ≡ Some b → unstored t y z b (Some v) ≡ []
+  asker_lost y z b there founded = rw (own, not_its y z b there founded) refl
+
+  -- it isn't shown anything past the store yet
+  asker_answer : answer_for t v ≡ None
+  asker_answer = by_shown v.shown refl
+    where
+      by_at : v.shown ≡ false → IsAwaiting x w v.place → answer_for t v ≡ None
+      by_at off (owners.direct way stood) = rw (off, stood, row) bare
+      by_at off (owners.turn way stood) = rw (off, stood) refl
+      by_at off (owners.hole q lo hi how way aim stood) = rw (off, stood) refl
+
+      by_shown : (b : Bool) → v.shown ≡ b → answer_for t v ≡ None
+      by_shown true on = rw on refl
+      by_shown false off = by_at off at
+
+  pub unended : w.is_ended ≡ false
+  unended = by_test w.is_ended refl
+    where
+      by_test : (b : Bool) → w.is_ended ≡ b → b ≡ false
+      by_test false off = refl
+      by_test true on = false_true (sym (law.places.ended x w row on) ∙ opened)
+
+  -- IT STANDS ASIDE
+
+  module _ (p : Place) (apart : StandsApart x p) where
+    abbrev z : rows.Consumer
+    z = record v { place = p }
+
+    place_is : IsApartPlace p
+    place_is = apart_by x p apart
+
+    answer_then : answer_for t z ≡ None
+    answer_then = by_shown v.shown refl
+      where
+        by_place : (q : Place) → p ≡ q → StandsApart x q → v.shown ≡ false → answer_for t z ≡ None
+        by_place (place.Direct y) at same off = rw (off, at, same, row) bare
+        by_place (place.Down why) at same off = rw (off, at) refl
+        by_place place.Line at same off = absurd same
+        by_place (place.Passed q kept) at same off = absurd same
+        by_place (place.Turn y) at same off = absurd same
+        by_place (place.Bound q lo hi by) at same off = absurd same
+        by_place place.Over at same off = absurd same
+
+        by_shown : (b : Bool) → v.shown ≡ b → answer_for t z ≡ None
+        by_shown true on = rw on refl
+        by_shown false off = by_place p refl apart off
+
+    begins_then : (q : Place) → StandsApart x q → lo_of t q ≡ 0
+    begins_then (place.Direct y) same = rw (same, row, bare) refl
+    begins_then (place.Down why) same = refl
+    begins_then place.Line same = absurd same
+    begins_then (place.Passed q kept) same = absurd same
+    begins_then (place.Turn y) same = absurd same
+    begins_then (place.Bound q lo hi by) same = absurd same
+    begins_then place.Over same = absurd same
+
+    ends_then : (q : Place) → StandsApart x q → hi_of t q ≡ None
+    ends_then (place.Direct y) same = rw (same, row, bare, unended) refl
+    ends_then (place.Down why) same = refl
+    ends_then place.Line same = absurd same
+    ends_then (place.Passed q kept) same = absurd same
+    ends_then (place.Turn y) same = absurd same
+    ends_then (place.Bound q lo hi by) same = absurd same
+    ends_then place.Over same = absurd same
+
+    kept_then : (k : Consumer) → IsKept t k v → IsKept t (standing_at p k) z
+    kept_then k is = record {
+      is_there = place_is.live;
+      request = is.request;
+      class_is = is.class_is;
+      since = is.since;
+      place = refl;
+      own = is.own;
+      shown = is.shown;
+      answer = is.answer ∙ (asker_answer ∙ sym answer_then);
+      begins = sym (begins_then p apart);
+      ends = sym (ends_then p apart);
+      given = is.given;
+      due = is.due;
+    }
+
+    past_then : (y : ℕ) (e : Exchange) → t.exchange y ≡ Some e → unread y e (Some z) ≡ []
+    past_then y e there = by_place p refl apart
+      where
+        by_place : (q : Place) → p ≡ q → StandsApart x q → unread y e (Some z) ≡ []
+        by_place (place.Direct n) at same = past_none z y e (at ∙ ap (λ (m : ℕ). place.Direct m) same) there
+        by_place (place.Down why) at same = rw at refl
+        by_place place.Line at same = absurd same
+        by_place (place.Passed q kept) at same = absurd same
+        by_place (place.Turn n) at same = absurd same
+        by_place (place.Bound q lo hi by) at same = absurd same
+        by_place place.Over at same = absurd same
+
+    lost_then : (y : ℕ) (e : Exchange) (b : Representation) → unstored t y e b (Some z) ≡ []
+    lost_then y e b = rw (place_is.unbound (family y e)) refl
+
+    much : HoldsAsMuch t w.c v z asker
+    much = record {
+      past = λ y e there. past_then y e there ∙ sym (asker_past y e there);
+      lost = λ y e b there founded. lost_then y e b ∙ sym (asker_lost y e b there founded);
+    }
+
+    pub stands_apart : {B : Type 0} {g : Ghosts B} (r u : Rows B g) (k : Consumer) → get nat_eq r.consumers w.c ≡ Some k → IsKept t k v → RowsStand r t
+        → u.limits ≡ r.limits → u.received ≡ r.received → u.last_start ≡ r.last_start → u.exchanges ≡ r.exchanges → ChangesAt r.consumers u.consumers w.c (standing_at p)
+        → LeavesKey w.c k.request.key r.keys u.keys → UnbindsAt k.place w.c (shelf_of r.entries) (shelf_of u.entries) → RowsStand u (with_consumer w.c (Some z) t)
+    stands_apart r u k there is stands limits received last exchanges changes line unbinds =
+        stands_moved r u t w.c v z (standing_at p k) stands asker (live_at x w v.place at) place_is.live limits received last exchanges
+        (unbinds_limits k.place w.c (shelf_of r.entries) (shelf_of u.entries) unbinds)
+        (becomes_by r.consumers u.consumers w.c k (standing_at p) there changes) (kept_then k is)
+        (keys_apart t law w.c v z asker place_is.unbound (λ key. not_lined key z place_is.unlined) (λ key. then_false (bytes_eq v.request.key key) (has_passed p) place_is.unpassed) (λ key. then_false (bytes_eq v.request.key key) (is_away_at t p) (place_is.here t))
+        r.keys u.keys stands.keys (subst (λ (q : Request). LeavesKey w.c q.key r.keys u.keys) is.request line))
+        (entries_apart t law w.c v z asker place_is.unbound (shelf_of r.entries) (shelf_of u.entries) stands.entries (subst (λ q. UnbindsAt q w.c (shelf_of r.entries) (shelf_of u.entries)) is.place unbinds))
+        much
+
+  -- IT STANDS IN LINE AGAIN
+
+  module _ (now : ℕ) (waits : awaited v.place ≡ Some x) where
+    abbrev back : rows.Consumer
+    back = back_in_line now v
+
+    queues : Queues v
+    queues = by_place v.place refl waits
+      where
+        by_place : (p : Place) → v.place ≡ p → awaited p ≡ Some x → Queues v
+        by_place (place.Turn y) stood on = law.places.turn_queues w.c y v asker stood
+        by_place (place.Bound q lo hi (by.FirstHole y)) stood on = record { cached = law.places.bound_cached w.c q lo hi (by.FirstHole y) v asker stood; asks = law.places.first_asks w.c q lo y hi v asker stood }
+        by_place (place.Bound q lo hi by.Founding) stood on = none_some x on
+        by_place (place.Bound q lo hi by.Plan) stood on = none_some x on
+        by_place place.Line stood on = none_some x on
+        by_place (place.Passed q kept) stood on = none_some x on
+        by_place (place.Direct y) stood on = none_some x on
+        by_place (place.Down why) stood on = none_some x on
+        by_place place.Over stood on = none_some x on
+
+    answer_back : answer_for t back ≡ None
+    answer_back = by_shown v.shown refl
+      where
+        by_shown : (b : Bool) → v.shown ≡ b → answer_for t back ≡ None
+        by_shown true on = rw on refl
+        by_shown false off = rw off refl
+
+    back_kept : (k : Consumer) → IsKept t k v → IsKept t (once_over now k) back
+    back_kept k is = record {
+      is_there = refl;
+      request = is.request;
+      class_is = is.class_is;
+      since = λ cached asks. refl;
+      place = refl;
+      own = refl;
+      shown = is.shown;
+      answer = is.answer ∙ (asker_answer ∙ sym answer_back);
+      begins = refl;
+      ends = refl;
+      given = is.given;
+      due = refl;
+    }
+
+    back_much : HoldsAsMuch t w.c v back asker
+    back_much = record {
+      past = λ y e there. sym (asker_past y e there);
+      lost = λ y e b there founded. sym (asker_lost y e b there founded);
+    }
+
+    pub stands_queued : {B : Type 0} {g : Ghosts B} (r u : Rows B g) (k : Consumer) → get nat_eq r.consumers w.c ≡ Some k → IsKept t k v → RowsStand r t
+        → u.limits ≡ r.limits → u.received ≡ r.received → u.last_start ≡ r.last_start → u.exchanges ≡ r.exchanges → ChangesAt r.consumers u.consumers w.c (once_over now)
+        → keys.Becomes (on_line (come_back w.c)) k.request.key r.keys u.keys → UnbindsAt k.place w.c (shelf_of r.entries) (shelf_of u.entries) → RowsStand u (with_consumer w.c (Some back) t)
+    stands_queued r u k there is stands limits received last exchanges changes line unbinds =
+        stands_moved r u t w.c v back (once_over now k) stands asker (live_at x w v.place at) refl limits received last exchanges
+        (unbinds_limits k.place w.c (shelf_of r.entries) (shelf_of u.entries) unbinds)
+        (becomes_by r.consumers u.consumers w.c k (once_over now) there changes) (back_kept k is)
+        (keys_with t w.c (Some back) (on_line (come_back w.c)) v.request.key r.keys u.keys stands.keys (subst (λ (q : Request). keys.Becomes (on_line (come_back w.c)) q.key r.keys u.keys) is.request line)
+        (comes_back t w.c (Some back) v.request.key (kept_of r.keys v.request.key) (lined back refl queues.cached queues.asks)
+        (then_false (bytes_eq v.request.key v.request.key) false refl) (then_false (bytes_eq v.request.key v.request.key) false refl) (then_false (is_in_line v.request.key (Some back)) false refl))
+        (λ other off. says_elsewhere t w.c v back other asker refl off))
+        (entries_apart t law w.c v back asker (λ q. refl) (shelf_of r.entries) (shelf_of u.entries) stands.entries (subst (λ q. UnbindsAt q w.c (shelf_of r.entries) (shelf_of u.entries)) is.place unbinds))
+        back_much
+
+-- whoever it is called
+pub stands_aside_as : {B : Type 0} {g : Ghosts B} (r u : Rows B g) (t : Tables) (law : Lawful t) (x c : ℕ) (w : Exchange) (v : rows.Consumer) (k : Consumer) (p : Place) → AwaitsHead t x w v → w.c ≡ c → StandsApart x p → get nat_eq r.consumers c ≡ Some k → RowsStand r t
+    → u.limits ≡ r.limits → u.received ≡ r.received → u.last_start ≡ r.last_start → u.exchanges ≡ r.exchanges → ChangesAt r.consumers u.consumers c (standing_at p)
+    → LeavesKey c k.request.key r.keys u.keys → UnbindsAt k.place c (shelf_of r.entries) (shelf_of u.entries) → RowsStand u (with_consumer c (Some (record v { place = p })) t)
+stands_aside_as r u t law x c w v k p awaits for_it apart there stands limits received last exchanges changes line unbinds =
+    let a = waits_as t law x w v awaits in
+    let at : get nat_eq r.consumers w.c ≡ Some k = ap (get nat_eq r.consumers) for_it ∙ there in
+    subst (λ (d : ℕ). RowsStand u (with_consumer d (Some (record v { place = p })) t)) for_it
+    (stands_apart t law x w awaits.row awaits.is_open awaits.headless v awaits.asker a.own a.at p apart r u k at (kept_as r t w.c v k stands awaits.asker at) stands limits received last exchanges
+    (subst (λ (d : ℕ). ChangesAt r.consumers u.consumers d (standing_at p)) (sym for_it) changes)
+    (subst (λ (d : ℕ). LeavesKey d k.request.key r.keys u.keys) (sym for_it) line)
+    (subst (λ (d : ℕ). UnbindsAt k.place d (shelf_of r.entries) (shelf_of u.entries)) (sym for_it) unbinds))
+
+pub stands_back_as : {B : Type 0} {g : Ghosts B} (r u : Rows B g) (t : Tables) (law : Lawful t) (now x c : ℕ) (w : Exchange) (v : rows.Consumer) (k : Consumer) → AwaitsHead t x w v → w.c ≡ c → awaited v.place ≡ Some x → get nat_eq r.consumers c ≡ Some k → RowsStand r t
+    → u.limits ≡ r.limits → u.received ≡ r.received → u.last_start ≡ r.last_start → u.exchanges ≡ r.exchanges → ChangesAt r.consumers u.consumers c (once_over now)
+    → keys.Becomes (on_line (come_back c)) k.request.key r.keys u.keys → UnbindsAt k.place c (shelf_of r.entries) (shelf_of u.entries) → RowsStand u (with_consumer c (Some (back_in_line now v)) t)
+stands_back_as r u t law now x c w v k awaits for_it waits there stands limits received last exchanges changes line unbinds =
+    let a = waits_as t law x w v awaits in
+    let at : get nat_eq r.consumers w.c ≡ Some k = ap (get nat_eq r.consumers) for_it ∙ there in
+    subst (λ (d : ℕ). RowsStand u (with_consumer d (Some (back_in_line now v)) t)) for_it
+    (stands_queued t law x w awaits.row awaits.is_open awaits.headless v awaits.asker a.own a.at now waits r u k at (kept_as r t w.c v k stands awaits.asker at) stands limits received last exchanges
+    (subst (λ (d : ℕ). ChangesAt r.consumers u.consumers d (once_over now)) (sym for_it) changes)
+    (subst (λ (d : ℕ). keys.Becomes (on_line (come_back d)) k.request.key r.keys u.keys) (sym for_it) line)
+    (subst (λ (d : ℕ). UnbindsAt k.place d (shelf_of r.entries) (shelf_of u.entries)) (sym for_it) unbinds))

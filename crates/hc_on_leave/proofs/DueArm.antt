@@ -1,0 +1,78 @@
+-- A failure becomes due to a consumer: what is kept stands for the tables then.
+use Rattle.std.proofs.Common.{◌≡◌, ◌≢◌, inl, inr, ℕ, List, Option, Some, None, refl, ap, sym, ◌∙◌}
+use Rattle.std.specs.Prelude.{nat_eq}
+use Rattle.std.specs.Option.{option_or}
+use Rattle.std.specs.HashMap.{get}
+use Rattle.hc_store.specs.declared.backend.Backend.{Ghosts}
+use Rattle.hc_event.specs.declared.act.Cause.{Cause}
+use Rattle.hc_stored.specs.Entries.{shelf_of}
+use Rattle.hc_entry.specs.Keys.{kept_of}
+use Rattle.hc_model.specs.Effects.{with_consumer}
+use Rattle.hc_model.specs.Reading.{is_bound}
+use Rattle.hc_model.specs.Rows as rows
+use Rattle.hc_model.specs.Rows.{Tables}
+use Rattle.hc_state.specs.declared.consumer.Consumer.{Consumer}
+use Rattle.hc_state.specs.declared.rows.Rows.{Rows}
+use Rattle.hc_state.specs.Changes.{ChangesAt, with_due}
+use Rattle.hc_state.specs.Kept.{IsKept}
+use Rattle.hc_state.specs.Lines.{KeepsKey}
+use Rattle.hc_state.specs.Stands.{RowsStand}
+use Rattle.hc_state.specs.Stored.{is_first}
+use Rattle.hc_state.proofs.ConsumerSteps.{key_with, key_stays}
+use Rattle.hc_on_leave.proofs.OneConsumer.{stands_moved}
+use Rattle.hc_state.proofs.OneOfEach.{entries_same}
+use Rattle.hc_state.proofs.QueueArm.{becomes_by}
+use Rattle.hc_state.proofs.Words.{same_or, eqb-same, eqb-other}
+
+module _ {B : Type 0} {g : Ghosts B} (r u : Rows B g) (t : Tables) (c : ℕ) (v : rows.Consumer) (k : Consumer) (why : Cause) (stands : RowsStand r t) (row : t.consumer c ≡ Some v) (there : get nat_eq r.consumers c ≡ Some k) (is : IsKept t k v) (undue : v.due ≡ None)
+    (limits : u.limits ≡ r.limits) (received : u.received ≡ r.received) (last : u.last_start ≡ r.last_start) (exchanges : u.exchanges ≡ r.exchanges) (same_keys : u.keys ≡ r.keys) (same_entries : u.entries ≡ r.entries) (changes : ChangesAt r.consumers u.consumers c (with_due why)) where
+  abbrev z : rows.Consumer
+  z = record v { due = Some why }
+
+  abbrev s : Tables
+  s = with_consumer c (Some z) t
+
+  here : s.consumer c ≡ Some z
+  here = rw (eqb-same c) refl
+
+  others : (d : ℕ) → d ≢ c → s.consumer d ≡ t.consumer d
+  others d ne = rw (eqb-other c d (λ e. ne (sym e))) refl
+
+  due_then : IsKept t (with_due why k) z
+  due_then = record {
+    is_there = is.is_there;
+    request = is.request;
+    class_is = is.class_is;
+    since = is.since;
+    place = is.place;
+    own = is.own;
+    shown = is.shown;
+    answer = is.answer;
+    begins = is.begins;
+    ends = is.ends;
+    given = is.given;
+    due = ap (λ (d : Option Cause). option_or d (Some why)) (is.due ∙ undue);
+  }
+
+  users : (q d : ℕ) → is_bound q (s.consumer d) ≡ is_bound q (t.consumer d)
+  users q d = elim (same_or c d) [
+    | inl e ↦ rw (← e, here, row) refl
+    | inr ne ↦ ap (is_bound q) (others d (λ e. ne (sym e)))
+  ]
+
+  firsts : (q d : ℕ) → is_first t q (s.consumer d) ≡ is_first t q (t.consumer d)
+  firsts q d = elim (same_or c d) [
+    | inl e ↦ rw (← e, here, row) refl
+    | inr ne ↦ ap (is_first t q) (others d (λ e. ne (sym e)))
+  ]
+
+  keys_then : (key : List ℕ) → KeepsKey s key (kept_of u.keys key)
+  keys_then key = rw same_keys (key_with t c (Some z) key (kept_of r.keys key) (kept_of r.keys key) (stands.keys key)
+      (key_stays t c (Some z) key (kept_of r.keys key) (stands.keys key) (record { in_line = rw row refl; passed = rw row refl; away = rw row refl; turn = rw row refl })))
+
+  pub stands_due : RowsStand u s
+  stands_due =
+      stands_moved r u t c v z (with_due why k) stands row is.is_there is.is_there limits received last exchanges (ap (λ e. (shelf_of e).limits) same_entries)
+      (becomes_by r.consumers u.consumers c k (with_due why) there changes) due_then keys_then
+      (rw same_entries (entries_same t s (shelf_of r.entries) (λ q. refl) refl refl users firsts (λ q. refl) (λ y on. on) stands.entries))
+      (record { past = λ y e at. refl; lost = λ y e b at founded. refl })

@@ -1,0 +1,54 @@
+-- What is denied is what the tables say, and a denial changes the moment alone.
+use Rattle.std.proofs.Common.{◌≡◌, ℕ, false, Option, Some, None, refl, ap}
+use Rattle.std.specs.Prelude.{option_map, nat_eq}
+use Rattle.std.specs.Option.{option_and_then}
+use Rattle.std.specs.HashMap.{get}
+use Rattle.hc_store.specs.declared.backend.Backend.{Ghosts}
+use Rattle.hc_event.specs.declared.event.Event.{Event}
+use Rattle.hc_event.specs.declared.event.Event.TheVariants as event
+use Rattle.hc_rules.specs.declared.refusal.Gate.{Gate}
+use Rattle.hc_rules.specs.Refusals.{refusal_of}
+use Rattle.hc_exch.specs.Exchanges.{table_of}
+use Rattle.hc_exch.specs.Known.{seen}
+use Rattle.hc_exch.specs.declared.row.Open.{Open}
+use Rattle.hc_model.specs.Denials.{denial, gate, as_open, names_live}
+use Rattle.hc_model.specs.Exchanges.{exchange_in, exchange_at}
+use Rattle.hc_model.specs.Rows.{Tables, Exchange}
+use Rattle.hc_state.specs.declared.rows.Rows.{Rows}
+use Rattle.hc_state.specs.Kept.{KeepsRunning, IsRunning}
+use Rattle.hc_state.specs.Stands.{RowsStand, gate_of, open_at, names_kept}
+use Rattle.hc_state.proofs.Ties.{kept_lives}
+
+-- an open exchange is seen as the tables have it
+seen_as : (t : Tables) (x : ℕ) (o : Open) (w : Exchange) → IsRunning t x o w → Some (seen o) ≡ as_open (Some w)
+seen_as t x o w is = rw is.is_open (ap Some (rw (is.headed, is.asked, is.delivered, is.promised_is) refl))
+
+closed_as : (row : Option Exchange) → Rattle.hc_model.specs.Exchanges.is_open row ≡ false → None ≡ as_open row
+closed_as None is = refl
+closed_as (Some w) is = rw is refl
+
+sees : (t : Tables) (x : ℕ) (o : Option Open) (row : Option Exchange) → KeepsRunning t x o row → option_map seen o ≡ as_open row
+sees t x None row keeps = closed_as row keeps
+sees t x (Some o) None keeps = absurd keeps
+sees t x (Some o) (Some w) keeps = seen_as t x o w keeps
+
+sees_at : {B : Type 0} {g : Ghosts B} (r : Rows B g) (t : Tables) (x : Option ℕ) → RowsStand r t → option_and_then (open_at r) x ≡ as_open (option_and_then t.exchange x)
+sees_at r t None stands = refl
+sees_at r t (Some x) stands = sees t x (table_of r.exchanges x).running (t.exchange x) (stands.exchanges x).running
+
+names_as : {B : Type 0} {g : Ghosts B} (r : Rows B g) (t : Tables) (ev : Event) → RowsStand r t → names_kept r ev ≡ names_live t ev
+names_as r t (event.Poll c want) stands = kept_lives t (get nat_eq r.consumers c) (t.consumer c) (stands.consumers c)
+names_as r t (event.Cancel c) stands = kept_lives t (get nat_eq r.consumers c) (t.consumer c) (stands.consumers c)
+names_as r t (event.Start c request) stands = refl
+names_as r t (event.Head x response) stands = refl
+names_as r t (event.Piece x bytes) stands = refl
+names_as r t (event.End x) stands = refl
+names_as r t (event.Fault x) stands = refl
+names_as r t (event.Doom key) stands = refl
+
+gates_are : {B : Type 0} {g : Ghosts B} (r : Rows B g) (t : Tables) (ev : Event) → RowsStand r t → gate_of r ev ≡ gate t ev
+gates_are r t ev stands = rw (stands.last_start, stands.count, names_as r t ev stands, sees_at r t (exchange_in ev) stands) refl
+
+-- What the rows refuse is what the tables deny.
+pub denies_as : {B : Type 0} {g : Ghosts B} (r : Rows B g) (t : Tables) (ev : Event) → RowsStand r t → refusal_of (gate_of r ev) ev ≡ denial t ev
+denies_as r t ev stands = ap (λ (g : Gate). refusal_of g ev) (gates_are r t ev stands)

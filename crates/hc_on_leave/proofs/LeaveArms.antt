@@ -1,0 +1,148 @@
+-- Who is cancelled, ends or fails: the event is answered.
+use Rattle.std.proofs.Common.{◌≡◌, ℕ, List, [], ◌∷◌, ◌++◌, Bool, true, false, Option, Some, None, refl, ap, sym, ◌∙◌, subst}
+use Rattle.std.proofs.lemmas.List.{append_assoc}
+use Rattle.std.specs.Prelude.{nat_eq, map, not, ◌||◌}
+use Rattle.hc_store.specs.declared.backend.Backend.{Ghosts}
+use Rattle.hc_event.specs.declared.act.Act.{Act}
+use Rattle.hc_event.specs.declared.act.Act.TheVariants as act
+use Rattle.hc_event.specs.declared.act.Cause.{Cause}
+use Rattle.hc_event.specs.declared.act.Cause.TheVariants as cause
+use Rattle.hc_event.specs.declared.act.LostKind.TheVariants as kind
+use Rattle.hc_event.specs.declared.event.Event.{Event}
+use Rattle.hc_event.specs.declared.event.Event.TheVariants as event
+use Rattle.hc_rules.specs.declared.room.Limits.{Limits}
+use Rattle.hc_event.specs.declared.place.Place.TheVariants as place
+use Rattle.hc_model.specs.Answers.{accepted}
+use Rattle.hc_model.specs.Effects.{Does, counted, let_some_go, let_go, left_by, going_with, with_leave, with_representation, lost_to}
+use Rattle.hc_model.specs.Entries.{Entry}
+use Rattle.hc_model.specs.Exchanges.{family}
+use Rattle.hc_model.specs.Flaws.{NoFlaw, Loses, flaw_in}
+use Rattle.hc_model.specs.Keys.{entry_of}
+use Rattle.hc_model.specs.Lawful.{Lawful}
+use Rattle.hc_model.specs.Moves.{Ends, Fails, acts_of}
+use Rattle.hc_model.specs.Places.{is_failed_read}
+use Rattle.hc_model.specs.Polls.{move_of}
+use Rattle.hc_model.specs.Rows as rows
+use Rattle.hc_model.specs.Rows.{Tables, Representation}
+use Rattle.hc_model.specs.Runs.{is_kept}
+use Rattle.hc_model.specs.Tables.{added}
+use Rattle.hc_model.specs.Writes.{written}
+use Rattle.hc_model.specs.Writers.{exclusive}
+use Rattle.hc_model.proofs.FailsTold.{fails_told}
+use Rattle.hc_laws.proofs.LeaveEffects as effects
+use Rattle.hc_laws.proofs.SealEffects as seal_effects
+use Rattle.hc_state.specs.declared.rows.Rows.{Rows}
+use Rattle.hc_state.specs.Left.{HasLeft, quietly, unsealed}
+use Rattle.hc_state.specs.Stands.{Answered, RowsStand}
+use Rattle.hc_state.proofs.Answering.{does_answered, lossy_answered}
+use Rattle.hc_state.proofs.Counting.{stands_counted}
+use Rattle.hc_state.proofs.SealWritten.{sealed_leaving}
+use Rattle.hc_state.proofs.Words.{false_true}
+
+-- who is down fails by that
+pub down_fails : (t : Tables) (law : Lawful t) (now want c : ℕ) (k : rows.Consumer) (why : Cause) → t.consumer c ≡ Some k → k.place ≡ place.Down why → move_of t now want c k ≡ Fails why
+down_fails t law now want c k why row at = let a = law.places.down c why k row at in rw (a.idle.unshown, a.unowned, at) refl
+
+-- WHAT THE ACTS SHOW
+
+-- before what is closed
+pub data TellsOf (front : List Act) : Type 0 where
+  nothing : front ≡ [] → TellsOf front
+  ended : (c : ℕ) → front ≡ act.Ended c ∷ [] → TellsOf front
+  failed : (c : ℕ) (why : Cause) → is_failed_read (Some why) ≡ false → front ≡ act.Failed c why ∷ [] → TellsOf front
+
+pub flawless : (xs : List ℕ) → flaw_in (map act.Close xs) ≡ NoFlaw
+flawless [] = refl
+flawless (x ∷ xs) = flawless xs
+
+by_cause : (c : ℕ) (why : Cause) (acts : List Act) → is_failed_read (Some why) ≡ false → flaw_in (act.Failed c why ∷ acts) ≡ flaw_in acts
+by_cause c (cause.StoreRead q) acts told = false_true (sym told)
+by_cause c (cause.Net x) acts told = refl
+by_cause c (cause.Short x got promised) acts told = refl
+by_cause c (cause.Changed x) acts told = refl
+by_cause c (cause.StoreWrite q) acts told = refl
+by_cause c cause.Miss acts told = refl
+by_cause c (cause.BadHead x) acts told = refl
+
+shows : (front acts : List Act) → TellsOf front → flaw_in (front ++ acts) ≡ flaw_in acts
+shows front acts (nothing is) = rw is refl
+shows front acts (ended c is) = rw is refl
+shows front acts (failed c why told is) = rw is (by_cause c why acts told)
+
+-- THE EVENT
+
+module _ {B : Type 0} {g : Ghosts B} (limits : Limits) (faults : ℕ) (u : Rows B g) (t : Tables) (law : Lawful t) (now c : ℕ) (k : rows.Consumer) (row : t.consumer c ≡ Some k) where
+  -- it is kept until the seal fails
+  not_lost : (r : ℕ) (v : Representation) → t.representation r ≡ Some v → v.is_gone ≡ false → v.is_lost ≡ false
+  not_lost r v there stays = by_test v.is_lost refl
+    where
+      by_test : (b : Bool) → v.is_lost ≡ b → b ≡ false
+      by_test false is = refl
+      by_test true is = false_true (sym stays ∙ (law.sound.rows r v there).store.lost_is_gone is)
+
+  kept_by : (r : ℕ) (v : Representation) → t.representation r ≡ Some v → v.is_gone ≡ false → is_kept (t.representation r) ≡ true
+  kept_by r v there stays = rw (there, not_lost r v there stays) refl
+
+  pub cancel_answered : (before out : List Act) → HasLeft faults u t before out now c k → Answered limits faults u t before out now (event.Cancel c)
+  unfolding written
+  cancel_answered before out (quietly acts rows) =
+      let s : Tables = let_some_go now (going_with t (left_by t c k)) (with_leave c k t) in
+      does_answered limits faults u t (counted now (event.Cancel c) s) before out (map act.Close (added (left_by t c k) [])) now (event.Cancel c) (effects.cancels limits t law now c k row) refl
+      (flawless (added (left_by t c k) [])) acts (stands_counted u s now (event.Cancel c) refl rows)
+  cancel_answered before out (unsealed f) =
+      let q = f.sealed in
+      let s : Tables = let_go now q.r (with_representation q.r (Some (lost_to (exclusive t q.r q.v) q.v)) (with_leave c k t)) in
+      let does = seal_effects.seal_cancels limits t law now c k row f.x q.w q.r q.v kind.Fault f.left q.row q.of_r q.there (not_lost q.r q.v q.there q.stays) in
+      lossy_answered limits faults u t (counted now (event.Cancel c) s) before out (act.Close f.x ∷ act.Lost q.r kind.Fault ∷ []) now (event.Cancel c) q.r does
+      (ap (λ acts. written t (record { now = now; event = event.Cancel c; acts = acts })) does.acts_are
+      ∙ sealed_leaving t law (record { now = now; event = event.Cancel c; acts = act.Close f.x ∷ [] }) f.x q.w q.r q.v q.row q.of_r q.there q.stays q.kept (λ y. refl) (λ y z. refl) (λ y. or_off (nat_eq f.x y)))
+      (kept_by q.r q.v q.there q.stays) refl f.failed f.acts (stands_counted u s now (event.Cancel c) refl f.rows)
+    where
+      or_off : (b : Bool) → (b || false) ≡ b
+      or_off true = refl
+      or_off false = refl
+
+  module _ (want : ℕ) (front : List Act) (tells : TellsOf front) where
+    or_off : (b : Bool) → (b || false) ≡ b
+    or_off true = refl
+    or_off false = refl
+
+    -- what is sealed is what the poll writes
+    writes : (x : ℕ) (w : rows.Exchange) (r : ℕ) (v : Representation) → t.exchange x ≡ Some w → family x w ≡ r → t.representation r ≡ Some v → v.is_gone ≡ false → going_with t (Some x) ≡ None
+        → written t (record { now = now; event = event.Poll c want; acts = front ++ (act.Close x ∷ act.Lost r kind.Fault ∷ []) }) ≡ Some r
+    unfolding written
+    writes x w r v ex of_r there stays kept = by_front tells
+      where
+        by_front : TellsOf front → written t (record { now = now; event = event.Poll c want; acts = front ++ (act.Close x ∷ act.Lost r kind.Fault ∷ []) }) ≡ Some r
+        by_front (nothing is) = rw is (sealed_leaving t law (record { now = now; event = event.Poll c want; acts = act.Close x ∷ [] }) x w r v ex of_r there stays kept (λ y. refl) (λ y z. refl) (λ y. or_off (nat_eq x y)))
+        by_front (ended d is) = rw is (sealed_leaving t law (record { now = now; event = event.Poll c want; acts = act.Ended d ∷ act.Close x ∷ [] }) x w r v ex of_r there stays kept (λ y. refl) (λ y z. refl) (λ y. or_off (nat_eq x y)))
+        by_front (failed d why told is) = rw is (sealed_leaving t law (record { now = now; event = event.Poll c want; acts = act.Failed d why ∷ act.Close x ∷ [] }) x w r v ex of_r there stays kept (λ y. refl) (λ y z. refl) (λ y. or_off (nat_eq x y)))
+
+    then_told : (before mid out acts : List Act) → mid ≡ before ++ front → out ≡ mid ++ acts → out ≡ before ++ (front ++ acts)
+    then_told before mid out acts first second = second ∙ (ap (λ (z : List Act). z ++ acts) first ∙ append_assoc before front acts)
+
+    pub poll_answered : (before mid out : List Act) → mid ≡ before ++ front → Does limits t now (event.Poll c want) NoFlaw (front ++ map act.Close (added (left_by t c k) [])) (counted now (event.Poll c want) (let_some_go now (going_with t (left_by t c k)) (with_leave c k t)))
+        → ((x : ℕ) (w : rows.Exchange) (r : ℕ) (v : Representation) → left_by t c k ≡ Some x → t.exchange x ≡ Some w → family x w ≡ r → t.representation r ≡ Some v → v.is_lost ≡ false
+        → Does limits t now (event.Poll c want) (Loses r kind.Fault) (front ++ (act.Close x ∷ act.Lost r kind.Fault ∷ [])) (counted now (event.Poll c want) (let_go now r (with_representation r (Some (lost_to (exclusive t r v) v)) (with_leave c k t)))))
+        → HasLeft faults u t mid out now c k → Answered limits faults u t before out now (event.Poll c want)
+    poll_answered before mid out first quiet_does seal_does (quietly acts rows) =
+        let s : Tables = let_some_go now (going_with t (left_by t c k)) (with_leave c k t) in
+        does_answered limits faults u t (counted now (event.Poll c want) s) before out (front ++ map act.Close (added (left_by t c k) [])) now (event.Poll c want) quiet_does refl
+        (shows front (map act.Close (added (left_by t c k) [])) tells ∙ flawless (added (left_by t c k) [])) (then_told before mid out (map act.Close (added (left_by t c k) [])) first acts) (stands_counted u s now (event.Poll c want) refl rows)
+    poll_answered before mid out first quiet_does seal_does (unsealed f) =
+        let q = f.sealed in
+        let s : Tables = let_go now q.r (with_representation q.r (Some (lost_to (exclusive t q.r q.v) q.v)) (with_leave c k t)) in
+        let does = seal_does f.x q.w q.r q.v f.left q.row q.of_r q.there (not_lost q.r q.v q.there q.stays) in
+        lossy_answered limits faults u t (counted now (event.Poll c want) s) before out (front ++ (act.Close f.x ∷ act.Lost q.r kind.Fault ∷ [])) now (event.Poll c want) q.r does
+        (ap (λ acts. written t (record { now = now; event = event.Poll c want; acts = acts })) does.acts_are ∙ writes f.x q.w q.r q.v q.row q.of_r q.there q.stays q.kept)
+        (kept_by q.r q.v q.there q.stays) (shows front (act.Close f.x ∷ act.Lost q.r kind.Fault ∷ []) tells) f.failed (then_told before mid out (act.Close f.x ∷ act.Lost q.r kind.Fault ∷ []) first f.acts) (stands_counted u s now (event.Poll c want) refl f.rows)
+
+  pub end_answered : (want : ℕ) (before mid out : List Act) → move_of t now want c k ≡ Ends → mid ≡ before ++ (act.Ended c ∷ []) → HasLeft faults u t mid out now c k → Answered limits faults u t before out now (event.Poll c want)
+  end_answered want before mid out is first left =
+      poll_answered want (act.Ended c ∷ []) (ended c refl) before mid out first (effects.ends limits t law now c k row want is)
+      (λ x w r v out_of ex of_r there kept. seal_effects.seal_ends limits t law now c k row x w r v kind.Fault out_of ex of_r there kept want is) left
+
+  pub fail_answered : (want : ℕ) (why : Cause) (before mid out : List Act) → move_of t now want c k ≡ Fails why → mid ≡ before ++ (act.Failed c why ∷ []) → HasLeft faults u t mid out now c k → Answered limits faults u t before out now (event.Poll c want)
+  fail_answered want why before mid out is first left =
+      poll_answered want (act.Failed c why ∷ []) (failed c why (fails_told t now want c k why law.sound law.places row is) refl) before mid out first (effects.fails limits t law now c k row want why is)
+      (λ x w r v out_of ex of_r there kept. seal_effects.seal_fails limits t law now c k row x w r v kind.Fault out_of ex of_r there kept want why is) left

@@ -1,0 +1,248 @@
+-- What several read together is lost: one has its exchange for its own, and to the others a failure is due. What is kept stands for the
+-- tables then.
+use Rattle.std.proofs.Common.{◌≡◌, ◌≢◌, inl, inr, ℕ, List, [], Bool, true, false, Option, Some, None, refl, ap, sym, ◌∙◌, subst}
+use Rattle.std.specs.Prelude.{is_some, nat_eq, bytes_eq, option_map, ◌&&◌, if◌then◌else◌}
+use Rattle.std.specs.Option.{option_or}
+use Rattle.std.specs.HashMap.{get}
+use Rattle.hc_store.specs.declared.backend.Backend.{Ghosts}
+use Rattle.hc_event.specs.declared.act.Cause.{Cause}
+use Rattle.hc_event.specs.declared.act.Cause.TheVariants as cause
+use Rattle.hc_event.specs.declared.event.Request.{Request}
+use Rattle.hc_stored.specs.Entries.{shelf_of}
+use Rattle.hc_entry.specs.Keys.{kept_of}
+use Rattle.hc_exch.specs.Exchanges.{table_of, next_of}
+use Rattle.hc_event.specs.declared.place.Place.{Place}
+use Rattle.hc_event.specs.declared.place.Place.TheVariants as place
+use Rattle.hc_event.specs.declared.place.BoundBy.TheVariants as by
+use Rattle.hc_model.specs.Currents.{current, is_number}
+use Rattle.hc_model.specs.Denials.{is_live}
+use Rattle.hc_model.specs.Effects.{if_bound, left_with, writing_lost}
+use Rattle.hc_model.specs.Exchanges.{family}
+use Rattle.hc_model.specs.LettingGo.{MayLetGo}
+use Rattle.hc_model.specs.Lines.{is_in_line}
+use Rattle.hc_model.specs.Places.{Queues}
+use Rattle.hc_model.specs.Reading.{is_bound, is_bound_place}
+use Rattle.hc_model.specs.Rows as rows
+use Rattle.hc_model.specs.Rows.{Tables, Exchange, Representation}
+use Rattle.hc_state.specs.declared.consumer.Consumer.{Consumer}
+use Rattle.hc_state.specs.declared.rows.Rows.{Rows}
+use Rattle.hc_state.specs.Heirs.{ChangesEach, parted}
+use Rattle.hc_state.specs.Kept.{IsKept, KeepsConsumer, held_for, held_of, held_alone, unread, unstored}
+use Rattle.hc_state.specs.Lines.{has_turn, is_passed, is_away, is_away_at}
+use Rattle.hc_state.specs.Stands.{RowsStand}
+use Rattle.hc_state.specs.Stored.{is_first}
+use Rattle.hc_state.proofs.AsideSteps.{live_same}
+use Rattle.hc_state.proofs.Asides.{unstored_moved}
+use Rattle.hc_state.proofs.OneOfEach.{entries_same}
+use Rattle.hc_state.proofs.Ties.{exchange_same, key_same, kept_same}
+use Rattle.hc_state.proofs.Words.{same_or, eqb-other, none_some, some_is, false_true, as_received}
+
+module _ (t : Tables) (q x : ℕ) (heir : Option ℕ) where
+  abbrev pub s : Tables
+  s = writing_lost q heir (Some x) t
+
+  -- whoever is bound has another exchange or another failure, and all else it had
+  pub data IsPart (d : ℕ) (k u : rows.Consumer) : Type 0 where
+    apart : is_bound_place q k.place ≡ false → u ≡ k → IsPart d k u
+    bound : (own : Option ℕ) (due : Option Cause) → is_bound_place q k.place ≡ true → u ≡ record k { own = own; due = due } → IsPart d k u
+
+  pub part_of : (d : ℕ) (k : rows.Consumer) → IsPart d k (if_bound q (left_with q heir (Some x) d) k)
+  part_of d k = by_test (is_bound_place q k.place) refl (is_number heir d)
+    where
+      by_test : (b : Bool) → is_bound_place q k.place ≡ b → (h : Bool) → IsPart d k (if b then (if h then record k { own = Some x } else record k { due = option_or k.due (Some (cause.StoreWrite q)) }) else k)
+      by_test false off h = apart off refl
+      by_test true on true = bound (Some x) k.due on refl
+      by_test true on false = bound k.own (option_or k.due (Some (cause.StoreWrite q))) on refl
+
+  -- what looks neither at its exchange nor at its failure is told as before
+  pub told_same : {A : Type 0} (f : Option rows.Consumer → A) → ((k : rows.Consumer) (own : Option ℕ) (due : Option Cause) → f (Some (record k { own = own; due = due })) ≡ f (Some k)) → (d : ℕ) → f (s.consumer d) ≡ f (t.consumer d)
+  told_same f same d = by_row (t.consumer d)
+    where
+      by_part : (k u : rows.Consumer) → IsPart d k u → f (Some u) ≡ f (Some k)
+      by_part k u (apart off is) = ap (λ z. f (Some z)) is
+      by_part k u (bound own due on is) = ap (λ z. f (Some z)) is ∙ same k own due
+
+      by_row : (o : Option rows.Consumer) → f (option_map (if_bound q (left_with q heir (Some x) d)) o) ≡ f o
+      by_row None = refl
+      by_row (Some k) = by_part k _ (part_of d k)
+
+  -- whoever it is now, it was there, and stood where it stands
+  pub record Stood (d : ℕ) (u : rows.Consumer) : Type 0 where
+    pub k : rows.Consumer
+    pub row : t.consumer d ≡ Some k
+    pub place_is : u.place ≡ k.place
+    pub request_is : u.request ≡ k.request
+
+  pub stood : (d : ℕ) (u : rows.Consumer) → s.consumer d ≡ Some u → Stood d u
+  stood d u is = by_row (t.consumer d) refl is
+    where
+      by_part : (k z : rows.Consumer) → t.consumer d ≡ Some k → IsPart d k z → Some z ≡ Some u → Stood d u
+      by_part k z row (apart off at) h =
+          let one : u ≡ k = sym (some_is z u h) ∙ at in
+          record { k = k; row = row; place_is = ap (λ (n : rows.Consumer). n.place) one; request_is = ap (λ (n : rows.Consumer). n.request) one }
+      by_part k z row (bound own due on at) h =
+          let one : u ≡ record k { own = own; due = due } = sym (some_is z u h) ∙ at in
+          record { k = k; row = row; place_is = ap (λ (n : rows.Consumer). n.place) one; request_is = ap (λ (n : rows.Consumer). n.request) one }
+
+      by_row : (o : Option rows.Consumer) → t.consumer d ≡ o → option_map (if_bound q (left_with q heir (Some x) d)) o ≡ Some u → Stood d u
+      by_row None row h = none_some u h
+      by_row (Some k) row h = by_part k _ row (part_of d k) h
+
+  -- WHAT MAY BE LET GO
+
+  pub may_part : MayLetGo t → MayLetGo s
+  may_part may = record {
+    one_current = may.one_current;
+    founded = may.founded;
+    started = λ d some. may.started d (sym (told_same (λ o. is_some o) (λ k own due. refl) d) ∙ some);
+    waits = λ d r kept u is at.
+        let was = stood d u is in
+        let w = may.waits d r kept was.k was.row (sym was.place_is ∙ at) in
+        record {
+          v = w.v;
+          row = w.row;
+          key_is = w.key_is ∙ ap (λ (n : Request). n.key) (sym was.request_is);
+          not_gone = w.not_gone;
+          queues = subst (λ (n : Request). Queues (record u { request = n })) (sym was.request_is) (record { cached = w.queues.cached; asks = w.queues.asks });
+        };
+  }
+
+  -- CONSUMERS
+
+  kept_part : (d : ℕ) (k : Consumer) (v : rows.Consumer) → IsKept t k v → IsKept s (parted heir x (cause.StoreWrite q) d k) (left_with q heir (Some x) d v)
+  kept_part d k v kp = by_heir (is_number heir d)
+    where
+      now : IsKept s k v
+      now = kept_same t s k v (record { past = λ y at. refl; length = λ n lo hi how at. refl }) kp
+
+      by_heir : (h : Bool) → IsKept s (if h then record k { own = Some x } else record k { due = option_or k.due (Some (cause.StoreWrite q)) }) (if h then record v { own = Some x } else record v { due = option_or v.due (Some (cause.StoreWrite q)) })
+      by_heir true = record {
+        is_there = now.is_there;
+        request = now.request;
+        class_is = now.class_is;
+        since = now.since;
+        place = now.place;
+        own = refl;
+        shown = now.shown;
+        answer = now.answer;
+        begins = now.begins;
+        ends = now.ends;
+        given = now.given;
+        due = now.due;
+      }
+      by_heir false = record {
+        is_there = now.is_there;
+        request = now.request;
+        class_is = now.class_is;
+        since = now.since;
+        place = now.place;
+        own = now.own;
+        shown = now.shown;
+        answer = now.answer;
+        begins = now.begins;
+        ends = now.ends;
+        given = now.given;
+        due = ap (λ (o : Option Cause). option_or o (Some (cause.StoreWrite q))) now.due;
+      }
+
+  consumer_part : (d : ℕ) (b : Bool) (o : Option Consumer) (row : Option rows.Consumer) → (is_some row ≡ true → b ≡ is_bound q row) → KeepsConsumer t o row → KeepsConsumer s (if b then option_map (parted heir x (cause.StoreWrite q) d) o else o) (option_map (if_bound q (left_with q heir (Some x) d)) row)
+  consumer_part d true None None alike kept = kept
+  consumer_part d false None None alike kept = kept
+  consumer_part d b (Some k) None alike kept = absurd kept
+  consumer_part d true None (Some v) alike kept = by_part _ (part_of d v)
+    where
+      by_part : (u : rows.Consumer) → IsPart d v u → is_live (Some u) ≡ false
+      by_part u (apart off is) = ap (λ z. is_live (Some z)) is ∙ kept
+      by_part u (bound own due on is) = ap (λ z. is_live (Some z)) is ∙ kept
+  consumer_part d false None (Some v) alike kept = by_part _ (part_of d v)
+    where
+      by_part : (u : rows.Consumer) → IsPart d v u → is_live (Some u) ≡ false
+      by_part u (apart off is) = ap (λ z. is_live (Some z)) is ∙ kept
+      by_part u (bound own due on is) = ap (λ z. is_live (Some z)) is ∙ kept
+  consumer_part d true (Some k) (Some v) alike kept = rw (sym (alike refl)) (kept_part d k v kept)
+  consumer_part d false (Some k) (Some v) alike kept = rw (sym (alike refl)) (kept_same t s k v (record { past = λ y at. refl; length = λ n lo hi how at. refl }) kept)
+
+  -- KEYS AND WHAT IS HELD
+
+  away_as : (key : List ℕ) (o : Option rows.Consumer) → is_away s key o ≡ is_away t key o
+  away_as key None = refl
+  away_as key (Some k) = ap (λ b. bytes_eq k.request.key key && b) (by_place k.place)
+    where
+      by_place : (p : Place) → is_away_at s p ≡ is_away_at t p
+      by_place (place.Bound r lo hi (by.FirstHole y)) = refl
+      by_place (place.Bound r lo hi by.Founding) = refl
+      by_place (place.Bound r lo hi by.Plan) = refl
+      by_place place.Line = refl
+      by_place (place.Passed n kept) = refl
+      by_place (place.Turn y) = refl
+      by_place (place.Direct y) = refl
+      by_place (place.Down why) = refl
+      by_place place.Over = refl
+
+  -- who is bound to another one isn't bound to this
+  off_other : (n : ℕ) (p : Place) → n ≢ q → is_bound_place q p ≡ true → is_bound_place n p ≡ false
+  off_other n (place.Bound a lo hi by) ne on = elim (same_or a n) [
+    | inl e ↦ absurd (by_same (sym e) on)
+    | inr off ↦ eqb-other a n off
+  ]
+    where
+      by_same : n ≡ a → nat_eq a q ≡ true → ⊥
+      by_same e h = elim (same_or a q) [
+        | inl one ↦ ne (e ∙ one)
+        | inr off ↦ (let no : nat_eq a q ≡ false = eqb-other a q off in false_true (sym no ∙ h))
+      ]
+  off_other n place.Line ne on = false_true on
+  off_other n (place.Passed a kept) ne on = false_true on
+  off_other n (place.Turn y) ne on = false_true on
+  off_other n (place.Direct y) ne on = false_true on
+  off_other n (place.Down why) ne on = false_true on
+  off_other n place.Over ne on = false_true on
+
+  alone_part : (y : ℕ) (w : Exchange) (u : Representation) → family y w ≢ q → (o : Option ℕ) → held_alone s y w u o ≡ held_alone t y w u o
+  alone_part y w u ne None = refl
+  alone_part y w u ne (Some d) = by_row (t.consumer d)
+    where
+      off : (k : rows.Consumer) → is_bound_place q k.place ≡ true → (a : Tables) (own : Option ℕ) (due : Option Cause) → unstored a y w u (Some (record k { own = own; due = due })) ≡ []
+      off k on a own due = (let unbound = off_other (family y w) k.place ne on in rw unbound refl)
+
+      by_part : (k z : rows.Consumer) → IsPart d k z → unstored s y w u (Some z) ≡ unstored t y w u (Some k)
+      by_part k z (apart unbound is) = ap (λ n. unstored s y w u (Some n)) is ∙ unstored_moved t s y w u (Some k)
+      by_part k z (bound own due on is) = ap (λ n. unstored s y w u (Some n)) is ∙ (off k on s own due ∙ sym (off k on t k.own k.due))
+
+      by_row : (o : Option rows.Consumer) → unstored s y w u (option_map (if_bound q (left_with q heir (Some x) d)) o) ≡ unstored t y w u o
+      by_row None = refl
+      by_row (Some k) = by_part k _ (part_of d k)
+
+  held_part : (v : Representation) → t.representation q ≡ Some v → v.alone ≡ None → (y : ℕ) (o : Option Exchange) → held_for s y o ≡ held_for t y o
+  held_part v there nobody y None = refl
+  held_part v there nobody y (Some w) = elim (same_or (family y w) q) [
+    | inl e ↦
+        let row : t.representation (family y w) ≡ Some v = ap t.representation e ∙ there in
+        let none : (a : Tables) → held_of a y w (Some v) ≡ [] = λ a. ap (held_alone a y w v) nobody in
+        ap (held_of s y w) row ∙ (none s ∙ sym (ap (held_of t y w) row ∙ none t))
+    | inr ne ↦ by_row ne (t.representation (family y w))
+  ]
+    where
+      by_row : family y w ≢ q → (z : Option Representation) → held_of s y w z ≡ held_of t y w z
+      by_row ne None = told_same (unread y w) (λ k own due. refl) w.c
+      by_row ne (Some u) = alone_part y w u ne u.alone
+
+-- ALL OF IT
+
+pub stands_parted : {B : Type 0} {g : Ghosts B} (r u : Rows B g) (t : Tables) (q x : ℕ) (heir : Option ℕ) (v : Representation) (among : ℕ → Bool) → RowsStand r t → t.representation q ≡ Some v → v.alone ≡ None
+    → u.limits ≡ r.limits → u.received ≡ r.received → u.last_start ≡ r.last_start → u.exchanges ≡ r.exchanges → u.keys ≡ r.keys → u.entries ≡ r.entries
+    → ((d : ℕ) → is_some (t.consumer d) ≡ true → among d ≡ is_bound q (t.consumer d)) → ChangesEach r.consumers u.consumers among (parted heir x (cause.StoreWrite q)) → RowsStand u (writing_lost q heir (Some x) t)
+unfolding current
+stands_parted r u t q x heir v among stands there nobody limits received last exchanges same_keys same_entries alike changes =
+    let z : Tables = writing_lost q heir (Some x) t in
+    record {
+      limits = rw (same_entries, limits) stands.limits;
+      received = as_received received stands.received;
+      last_start = last ∙ stands.last_start;
+      next = ap (λ e. next_of e) exchanges ∙ stands.next;
+      count = changes.len ∙ (stands.count ∙ sym (live_same t z refl (told_same t q x heir is_live (λ k own due. refl))));
+      consumers = λ d. subst (λ o. KeepsConsumer z o (z.consumer d)) (sym (changes.places d)) (consumer_part t q x heir d (among d) (get nat_eq r.consumers d) (t.consumer d) (alike d) (stands.consumers d));
+      exchanges = λ y. rw exchanges (exchange_same t z y (table_of r.exchanges y) (record { row = refl; brings = λ w at. refl; held = held_part t q x heir v there nobody y (t.exchange y) }) (stands.exchanges y));
+      keys = λ key. rw same_keys (key_same t z key (kept_of r.keys key) (record { current = refl; in_line = told_same t q x heir (is_in_line key) (λ k own due. refl); passed = told_same t q x heir (is_passed key) (λ k own due. refl); away = λ d. told_same t q x heir (is_away z key) (λ k own due. refl) d ∙ away_as t q x heir key (t.consumer d); turn = told_same t q x heir (has_turn key) (λ k own due. refl) }) (stands.keys key));
+      entries = rw same_entries (entries_same t z (shelf_of r.entries) (λ n. refl) refl refl (λ n. told_same t q x heir (is_bound n) (λ k own due. refl)) (λ n. told_same t q x heir (is_first t n) (λ k own due. refl)) (λ n. refl) (λ y on. on) stands.entries);
+    }

@@ -1,0 +1,74 @@
+-- The stored head of what is current can't be read: who asked for it fails, and what is current is let go.
+use Rattle.std.proofs.Common.{◌≡◌, ℕ, ◌<◌, List, [], ◌∷◌, ◌++◌, Bool, true, false, Option, Some, None, refl, ap, sym, ◌∙◌, subst}
+use Rattle.std.specs.Prelude.{map, ◌||◌}
+use Rattle.hc_store.specs.declared.backend.Backend.{Ghosts}
+use Rattle.hc_stored.specs.Entries.{shelf_of}
+use Rattle.hc_event.specs.declared.act.Act.{Act}
+use Rattle.hc_event.specs.declared.act.Act.TheVariants as act
+use Rattle.hc_event.specs.declared.act.Cause.TheVariants as cause
+use Rattle.hc_event.specs.declared.event.Event.TheVariants as event
+use Rattle.hc_rules.specs.declared.room.Limits.{Limits}
+use Rattle.hc_event.specs.declared.place.Place.{Place}
+use Rattle.hc_event.specs.declared.place.Place.TheVariants as place
+use Rattle.hc_model.specs.Closings.{is_last_reader}
+use Rattle.hc_model.specs.Currents.{current, is_number}
+use Rattle.hc_model.specs.Effects.{Does, counted, with_consumer, let_go, let_some_go, all_closed, finished, left_by, going_with}
+use Rattle.hc_model.specs.Flaws.{Misreads, flaw_in}
+use Rattle.hc_model.specs.Lawful.{Lawful}
+use Rattle.hc_model.specs.Places.{IsAway}
+use Rattle.hc_model.specs.Reading.{is_bound}
+use Rattle.hc_model.specs.Rows.{Tables, Consumer}
+use Rattle.hc_model.specs.Tables.{added}
+use Rattle.hc_laws.proofs.MisreadEffects.{misreads}
+use Rattle.hc_state.specs.declared.rows.Rows.{Rows}
+use Rattle.hc_state.specs.Plans.{is_idle_at}
+use Rattle.hc_state.specs.Stands.{Answered, RowsStand}
+use Rattle.hc_state.proofs.Counting.{stands_counted}
+use Rattle.hc_state.proofs.Words.{eqb-same, false_true}
+
+-- who reads nothing leaves no exchange
+pub idle_leaves : (t : Tables) (law : Lawful t) (c : ℕ) (v : Consumer) → t.consumer c ≡ Some v → is_idle_at v.place ≡ true → left_by t c v ≡ None
+idle_leaves t law c v row idle = by_place v.place refl
+  where
+    by_away : IsAway t v → is_last_reader t c v.place ≡ false → left_by t c v ≡ None
+    by_away away off = rw (away.unowned, off) refl
+
+    by_place : (p : Place) → v.place ≡ p → left_by t c v ≡ None
+    by_place place.Line at = by_away (law.places.line c v row at) (ap (is_last_reader t c) at)
+    by_place (place.Passed q how) at = by_away (law.places.passed c q how v row at) (ap (is_last_reader t c) at)
+    by_place (place.Turn x) at = false_true (sym (ap is_idle_at at) ∙ idle)
+    by_place (place.Bound q lo hi by) at = false_true (sym (ap is_idle_at at) ∙ idle)
+    by_place (place.Direct x) at = false_true (sym (ap is_idle_at at) ∙ idle)
+    by_place (place.Down why) at = false_true (sym (ap is_idle_at at) ∙ idle)
+    by_place place.Over at = false_true (sym (ap is_idle_at at) ∙ idle)
+
+or_last : (a b : Bool) → b ≡ true → (a || b) ≡ true
+or_last true b on = refl
+or_last false b on = on
+
+module _ {B : Type 0} {g : Ghosts B} (limits : Limits) (faults : ℕ) (u : Rows B g) (t : Tables) (law : Lawful t) (now c want r : ℕ) (v : Consumer) (row : t.consumer c ≡ Some v) (idle : is_idle_at v.place ≡ true) (before out : List Act) where
+  abbrev s : Tables
+  s = let_go now r (with_consumer c (Some (finished v)) t)
+
+  abbrev acts : List Act
+  acts = act.Failed c (cause.StoreRead r) ∷ []
+
+  does_fail : Does limits t now (event.Poll c want) (Misreads r) acts (counted now (event.Poll c want) s)
+  does_fail =
+      let none = idle_leaves t law c v row idle in
+      let does = misreads limits t law now c want v row r in
+      record {
+        acts_are = does.acts_are ∙ ap (λ (o : Option ℕ). act.Failed c (cause.StoreRead r) ∷ map act.Close (added o [])) none;
+        tables_are = does.tables_are
+            ∙ ap (λ (o : Option ℕ). counted now (event.Poll c want) (let_go now r (let_some_go now (going_with t o) (with_consumer c (Some (finished v)) (all_closed (added o []) t))))) none;
+      }
+
+  pub fault_answered : current t v.request.key ≡ Some r → faults < (shelf_of u.entries).faults → out ≡ before ++ acts → RowsStand u s → Answered limits faults u t before out now (event.Poll c want)
+  fault_answered now_is failed told stands = record {
+    flaw = Misreads r;
+    acts = told ∙ ap (λ z. before ++ z) (sym does_fail.acts_are);
+    shown = ap flaw_in does_fail.acts_are;
+    may = rw row (or_last (is_bound r (Some v)) (is_number (current t v.request.key) r) (ap (λ (o : Option ℕ). is_number o r) now_is ∙ eqb-same r));
+    caused = λ on. failed;
+    rows = subst (RowsStand u) (sym does_fail.tables_are) (stands_counted u s now (event.Poll c want) refl stands);
+  }

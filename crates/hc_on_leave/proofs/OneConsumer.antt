@@ -1,0 +1,88 @@
+-- One consumer changes and no exchange: what is kept stands for the tables then, where as much is held for it.
+use Rattle.std.proofs.Common.{◌≡◌, ◌≢◌, inl, inr, ℕ, List, true, Option, Some, None, refl, ap, sym, ◌∙◌}
+use Rattle.hc_store.specs.declared.backend.Backend.{Ghosts}
+use Rattle.hc_stored.specs.Entries.{shelf_of}
+use Rattle.hc_entry.specs.Keys.{kept_of}
+use Rattle.hc_exch.specs.Exchanges.{table_of}
+use Rattle.hc_model.specs.Denials.{is_live, is_live_place}
+use Rattle.hc_model.specs.Effects.{with_consumer}
+use Rattle.hc_model.specs.Exchanges.{family}
+use Rattle.hc_model.specs.Rows as rows
+use Rattle.hc_model.specs.Rows.{Tables, Exchange, Representation}
+use Rattle.hc_state.specs.declared.consumer.Consumer.{Consumer}
+use Rattle.hc_state.specs.declared.rows.Rows.{Rows}
+use Rattle.hc_state.specs.Changes.{BecomesAt}
+use Rattle.hc_state.specs.Kept.{KeepsConsumer, unread, unstored, held_alone, held_of, held_for}
+use Rattle.hc_state.specs.Lines.{KeepsKey}
+use Rattle.hc_state.specs.Stands.{RowsStand}
+use Rattle.hc_state.specs.Stored.{KeepsEntries}
+use Rattle.hc_state.proofs.Asides.{unstored_moved}
+use Rattle.hc_state.proofs.AsideSteps.{length_same, live_same}
+use Rattle.hc_state.proofs.ConsumerSteps.{all_kept_with}
+use Rattle.hc_state.proofs.Ties.{exchange_same}
+use Rattle.hc_state.proofs.Words.{same_or, eqb-same, eqb-other, as_received}
+
+module _ (t : Tables) (c : ℕ) (v z : rows.Consumer) (row : t.consumer c ≡ Some v) where
+  abbrev pub s : Tables
+  s = with_consumer c (Some z) t
+
+  -- as much of what it reads past the store is held for it, and of what was lost
+  pub record HoldsAsMuch : Type 0 where
+    pub past : (y : ℕ) (w : Exchange) → t.exchange y ≡ Some w → unread y w (Some z) ≡ unread y w (Some v)
+    pub lost : (y : ℕ) (w : Exchange) (b : Representation) → t.exchange y ≡ Some w → t.representation (family y w) ≡ Some b → unstored t y w b (Some z) ≡ unstored t y w b (Some v)
+
+  here : s.consumer c ≡ Some z
+  here = rw (eqb-same c) refl
+
+  others : (d : ℕ) → d ≢ c → s.consumer d ≡ t.consumer d
+  others d ne = rw (eqb-other c d (λ e. ne (sym e))) refl
+
+  module _ (much : HoldsAsMuch) where
+    past_same : (y d : ℕ) (w : Exchange) → t.exchange y ≡ Some w → unread y w (s.consumer d) ≡ unread y w (t.consumer d)
+    past_same y d w at = elim (same_or c d) [
+      | inl e ↦ rw (← e, here, row) (much.past y w at)
+      | inr ne ↦ ap (unread y w) (others d (λ e. ne (sym e)))
+    ]
+
+    lost_same : (y d : ℕ) (w : Exchange) (b : Representation) → t.exchange y ≡ Some w → t.representation (family y w) ≡ Some b → unstored s y w b (s.consumer d) ≡ unstored t y w b (t.consumer d)
+    lost_same y d w b at there = unstored_moved t s y w b (s.consumer d) ∙ elim (same_or c d) [
+      | inl e ↦ rw (← e, here, row) (much.lost y w b at there)
+      | inr ne ↦ ap (unstored t y w b) (others d (λ e. ne (sym e)))
+    ]
+
+    alone_same : (y : ℕ) (w : Exchange) (b : Representation) (o : Option ℕ) → t.exchange y ≡ Some w → t.representation (family y w) ≡ Some b → held_alone s y w b o ≡ held_alone t y w b o
+    alone_same y w b None at there = refl
+    alone_same y w b (Some d) at there = lost_same y d w b at there
+
+    of_same : (y : ℕ) (w : Exchange) (o : Option Representation) → t.exchange y ≡ Some w → t.representation (family y w) ≡ o → held_of s y w o ≡ held_of t y w o
+    of_same y w None at there = past_same y w.c w at
+    of_same y w (Some b) at there = alone_same y w b b.alone at there
+
+    pub held_same : (y : ℕ) (o : Option Exchange) → t.exchange y ≡ o → held_for s y o ≡ held_for t y o
+    held_same y None at = refl
+    held_same y (Some w) at = of_same y w (t.representation (family y w)) at refl
+
+-- ALL OF IT
+
+module _ {B : Type 0} {g : Ghosts B} (r u : Rows B g) (t : Tables) (c : ℕ) (v z : rows.Consumer) (k : Consumer) (stands : RowsStand r t) (row : t.consumer c ≡ Some v) (lived : is_live_place v.place ≡ true) (lives : is_live_place z.place ≡ true)
+    (limits : u.limits ≡ r.limits) (received : u.received ≡ r.received) (last : u.last_start ≡ r.last_start) (exchanges : u.exchanges ≡ r.exchanges) (bounded : (shelf_of u.entries).limits ≡ (shelf_of r.entries).limits)
+    (becomes : BecomesAt r.consumers u.consumers c (Some k)) (kept : KeepsConsumer t (Some k) (Some z)) (keys : (key : List ℕ) → KeepsKey (with_consumer c (Some z) t) key (kept_of u.keys key))
+    (entries : KeepsEntries (with_consumer c (Some z) t) (shelf_of u.entries)) (much : HoldsAsMuch t c v z row) where
+  live_each : (d : ℕ) → is_live ((with_consumer c (Some z) t).consumer d) ≡ is_live (t.consumer d)
+  live_each d = elim (same_or c d) [
+    | inl e ↦ rw (← e, here t c v z row, row) (lives ∙ sym lived)
+    | inr ne ↦ ap is_live (others t c v z row d (λ e. ne (sym e)))
+  ]
+
+  pub stands_moved : RowsStand u (with_consumer c (Some z) t)
+  stands_moved = record {
+    limits = bounded ∙ (stands.limits ∙ sym limits);
+    received = as_received received stands.received;
+    last_start = last ∙ stands.last_start;
+    next = rw exchanges stands.next;
+    count = length_same r u t c v k stands row lived becomes ∙ (stands.count ∙ sym (live_same t (with_consumer c (Some z) t) refl live_each));
+    consumers = all_kept_with t c (Some z) r u (Some k) becomes kept stands.consumers;
+    exchanges = λ y. rw exchanges (exchange_same t (with_consumer c (Some z) t) y (table_of r.exchanges y) (record { row = refl; brings = λ w at. refl; held = held_same t c v z row much y (t.exchange y) refl }) (stands.exchanges y));
+    keys = keys;
+    entries = entries;
+  }

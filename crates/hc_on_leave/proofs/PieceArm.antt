@@ -1,0 +1,195 @@
+-- A piece is answered that isn't stored: what is kept stands for the tables then.
+use Rattle.std.proofs.Common.{◌≡◌, ◌≢◌, inl, inr, ℕ, ◌+◌, ◌<◌, ◌≤◌, ◌^◌, List, [], ◌∷◌, ◌++◌, length, drop, Bool, true, false, cond, Option, Some, None, refl, ap, sym, ◌∙◌, subst, arith}
+use Rattle.std.proofs.lemmas.Bool.Decides.{nat_tests}
+use Rattle.std.proofs.lemmas.List.{append-nil, drop-append-le}
+use Rattle.std.specs.Prelude.{is_some, is_none, nat_eq, nat_lt, not, option_map, ◌==◌, if◌then◌else◌}
+use Rattle.hc_store.specs.declared.backend.Backend.{Ghosts}
+use Rattle.hc_event.specs.declared.act.Act.{Act}
+use Rattle.hc_event.specs.declared.act.Refusal.{Refusal}
+use Rattle.hc_event.specs.declared.event.Event.TheVariants as event
+use Rattle.hc_rules.specs.Refusals.{piece_refusal, overlong}
+use Rattle.hc_rules.specs.Refusals as refusals
+use Rattle.hc_stored.specs.Entries.{shelf_of}
+use Rattle.hc_stored.specs.Kept.{Kept}
+use Rattle.hc_stored.specs.declared.entries.Entries.{Entries}
+use Rattle.hc_exch.specs.Exchanges as exch
+use Rattle.hc_exch.specs.Exchanges.{table_of}
+use Rattle.hc_exch.specs.Known as known
+use Rattle.hc_exch.specs.Known.{Known, seen, EndsBelow}
+use Rattle.hc_exch.specs.declared.row.Open.{Open}
+use Rattle.hc_model.specs.Denials.{denial, as_open}
+use Rattle.hc_model.specs.Entries.{unanswered}
+use Rattle.hc_model.specs.ExchangeRows.{with_piece}
+use Rattle.hc_model.specs.Exchanges.{family, promised, base}
+use Rattle.hc_model.specs.Lawful.{Lawful}
+use Rattle.hc_model.specs.Rows as rows
+use Rattle.hc_model.specs.Rows.{Tables, Exchange, Representation}
+use Rattle.hc_model.specs.Tables.{tables}
+use Rattle.hc_model.specs.Weights.{write_in}
+use Rattle.hc_model.proofs.Once.{IsTaken, taken}
+use Rattle.hc_laws.proofs.PieceEffects as does
+use Rattle.hc_state.specs.declared.rows.Rows.{Rows}
+use Rattle.hc_state.specs.Facts.{Facts}
+use Rattle.hc_state.specs.Kept.{IsRunning, KeepsRunning, unread, held_of, held_for}
+use Rattle.hc_state.specs.Stands.{Answered, RowsStand, Stands, most_before}
+use Rattle.hc_state.specs.Stops.{body_of, brought_by}
+use Rattle.hc_state.specs.Stored.{KeepsEntry}
+use Rattle.hc_on_leave.proofs.AnswerArm.{known_here}
+use Rattle.hc_state.proofs.Answering.{does_answered}
+use Rattle.hc_state.proofs.Asides.{held_alike, same}
+use Rattle.hc_on_leave.proofs.HeardRows.{heard_row}
+use Rattle.hc_state.proofs.Maps.{merely_below}
+use Rattle.hc_on_leave.proofs.PieceRows.{s, z, IsLike, like_same, stands_pieced}
+use Rattle.hc_state.proofs.Words.{eqb-same, false_true, none_some, some_is, same_row, not_true}
+
+-- HOW FAR IT REACHES
+
+test_off : (b : Bool) (r : Refusal) (rest : Option Refusal) → cond b (Some r) rest ≡ None → (b ≡ false) × (rest ≡ None)
+test_off false r rest is = (refl, is)
+test_off true r rest is = none_some r (sym is)
+
+on_by : (b : Bool) → not b ≡ false → b ≡ true
+on_by true is = refl
+on_by false is = sym is
+
+within : (p got : ℕ) (r : Refusal) → cond (nat_lt p got) (Some r) None ≡ None → got ≤ p
+within p got r is = let off = (test_off (nat_lt p got) r None is).0 in grind (arith, nat_tests, off)
+
+pub not_overlong : (o : Option ℕ) (got p : ℕ) → overlong o got ≡ None → o ≡ Some p → got ≤ p
+not_overlong None got p none is = none_some p is
+not_overlong (Some q) got p none is = let same_p : q ≡ p = some_is q p is in rw (← same_p) (within q got _ none)
+
+-- it has a head, and brings no more than that promised
+pub not_too_long : (o : Open) (n : ℕ) → piece_refusal (Some (seen o)) n ≡ None → (o.headed ≡ true) × (0 < n) × ((p : ℕ) → o.promised ≡ Some p → o.delivered + n ≤ p)
+not_too_long o n none =
+    let first = test_off (not o.headed) _ _ none in
+    let second = test_off (not o.asked) _ _ first.1 in
+    let third = test_off (n == 0) _ _ second.1 in
+    let off = third.0 in
+    (on_by o.headed first.0, grind (arith, nat_tests, off), λ p is. not_overlong o.promised (o.delivered + n) p third.1 is)
+
+pub piece_below : {B : Type 0} {g : Ghosts B} (r : Rows B g) (t : Tables) (facts : Facts r.limits t) (x n : ℕ) (o : Open) → RowsStand r t → (table_of r.exchanges x).running ≡ Some o → r.received + n < 2 ^ 61 → piece_refusal (Some (seen o)) n ≡ None → o.base + o.delivered + n < 2 ^ 62 + 1
+piece_below r t facts x n o stands running small none =
+    let allowed = not_too_long o n none in
+    let h = heard_row r t x o stands running in
+    let w = h.w in
+    by_promise w (promised w) refl h.is.delivered h.is.base_is (facts.law.places.received x w h.row) (λ p is. allowed.2 p (h.is.promised_is ∙ is)) stands.received (λ none. facts.numbers.unpromised x w h.row none) (λ p is. facts.numbers.promises x p w h.row is)
+  where
+    by_promise : (w : Exchange) (p : Option ℕ) → promised w ≡ p → o.delivered ≡ length w.body → o.base ≡ base w → length w.body ≤ t.received → ((m : ℕ) → promised w ≡ Some m → o.delivered + n ≤ m) → t.received ≤ r.received + most_before
+        → (promised w ≡ None → base w ≡ 0) → ((m : ℕ) → promised w ≡ Some m → base w + m ≤ 2 ^ 62) → o.base + o.delivered + n < 2 ^ 62 + 1
+    by_promise w None is came begins got fits all start most = let zero : base w ≡ 0 = start is in omega (arith, zero, came, begins, got, small, all)
+    by_promise w (Some m) is came begins got fits all start most = let le = fits m is in let reach = most m is in omega (arith, le, reach, begins)
+
+-- what the counts of an exchange need
+pub ends_below : {B : Type 0} {g : Ghosts B} (r : Rows B g) (x n : ℕ) → ∥ Stands r ∥₁ → r.received + n < 2 ^ 61 → (running : Option Open) → (table_of r.exchanges x).running ≡ running → piece_refusal (option_map seen running) n ≡ None → EndsBelow n running
+ends_below r x n some small None is none = tt
+ends_below r x n some small (Some o) is none =
+    let below : o.base + o.delivered + n < 2 ^ 62 + 1 = merely_below (o.base + o.delivered + n) (2 ^ 62 + 1) some (λ p. piece_below r p.t p.facts x n o p.rows is small none) in
+    omega (arith, below)
+
+-- ITS EXCHANGE
+
+pub record Brought (t : Tables) (x n : ℕ) : Type 0 where
+  pub w : Exchange
+  pub row : t.exchange x ≡ Some w
+  pub taken : IsTaken w n
+
+pub brought_of : (t : Tables) (x : ℕ) (bytes : List ℕ) → denial t (event.Piece x bytes) ≡ None → Brought t x (length bytes)
+unfolding refusals.refusal_of
+brought_of t x bytes goes = by_row (t.exchange x) refl goes
+  where
+    by_row : (e : Option Exchange) → t.exchange x ≡ e → piece_refusal (as_open (t.exchange x)) (length bytes) ≡ None → Brought t x (length bytes)
+    by_row None at accepted = none_some _ (sym (ap (λ e. piece_refusal (as_open e) (length bytes)) (sym at) ∙ accepted))
+    by_row (Some w) at accepted = record { w = w; row = at; taken = taken (length bytes) w (sym (ap (λ e. piece_refusal (as_open e) (length bytes)) at) ∙ accepted) }
+
+none_is : {A : Type 0} (o : Option A) → is_some o ≡ true → is_none o ≡ false
+none_is None h = false_true h
+none_is (Some a) h = refl
+
+pub open_unended : (t : Tables) (law : Lawful t) (x : ℕ) (w : Exchange) → t.exchange x ≡ Some w → w.is_open ≡ true → w.is_ended ≡ false
+open_unended t law x w row opened = not_true w.is_ended (λ on. false_true (sym (law.places.ended x w row on) ∙ opened))
+
+-- as the rows have it
+pub record Runs {B : Type 0} {g : Ghosts B} (r : Rows B g) (t : Tables) (x : ℕ) (w : Exchange) : Type 0 where
+  pub o : Open
+  pub running : (table_of r.exchanges x).running ≡ Some o
+  pub is : IsRunning t x o w
+
+pub runs_of : {B : Type 0} {g : Ghosts B} (r : Rows B g) (t : Tables) (x : ℕ) (w : Exchange) → RowsStand r t → t.exchange x ≡ Some w → w.is_open ≡ true → Runs r t x w
+runs_of r t x w stands row opened = by_open (table_of r.exchanges x).running refl (subst (KeepsRunning t x (table_of r.exchanges x).running) row (stands.exchanges x).running)
+  where
+    by_open : (k : Option Open) → (table_of r.exchanges x).running ≡ k → KeepsRunning t x k (Some w) → Runs r t x w
+    by_open None at kept = false_true (sym kept ∙ opened)
+    by_open (Some o) at kept = record { o = o; running = at; is = kept }
+
+-- what it brings where it has a head
+pub brings_none : (t : Tables) (x : ℕ) (o : Open) (w : Exchange) → IsRunning t x o w → is_some w.head ≡ true → body_of o.role ≡ None → t.representation (family x w) ≡ None
+brings_none t x o w is headed none = by_row (t.representation (family x w)) refl
+  where
+    by_row : (e : Option Representation) → t.representation (family x w) ≡ e → t.representation (family x w) ≡ None
+    by_row None at = at
+    by_row (Some v) at = none_some (family x w) (sym none ∙ (ap body_of is.role ∙ rw (none_is w.head headed, at) refl))
+
+pub brings_it : (t : Tables) (x q : ℕ) (o : Open) (w : Exchange) → IsRunning t x o w → is_some w.head ≡ true → body_of o.role ≡ Some q → (family x w ≡ q) × ((v : Representation) × (t.representation (family x w) ≡ Some v))
+brings_it t x q o w is headed some = by_row (t.representation (family x w)) refl
+  where
+    by_row : (e : Option Representation) → t.representation (family x w) ≡ e → (family x w ≡ q) × ((v : Representation) × (t.representation (family x w) ≡ Some v))
+    by_row None at = none_some q (sym (ap body_of is.role ∙ rw (none_is w.head headed, at) refl) ∙ some)
+    by_row (Some v) at = (some_is (family x w) q (sym (ap body_of is.role ∙ rw (none_is w.head headed, at) refl) ∙ some), (v, at))
+
+-- PAST THE STORE
+
+module _ {B : Type 0} {g : Ghosts B} (r u : Rows B g) (t : Tables) (facts : Facts r.limits t) (stands : RowsStand r t) (now x : ℕ) (bytes : List ℕ) (goes : denial t (event.Piece x bytes) ≡ None) (past : brought_by (table_of r.exchanges x).running ≡ None)
+    (limits : u.limits ≡ r.limits) (received : u.received ≡ r.received + length bytes) (last : u.last_start ≡ r.last_start) (same_map : u.consumers ≡ r.consumers) (same_keys : u.keys ≡ r.keys) (same_entries : u.entries ≡ r.entries) (becomes : exch.Becomes (known.with_piece bytes true) x r.exchanges u.exchanges) where
+  b : Brought t x (length bytes)
+  b = brought_of t x bytes goes
+
+  runs : Runs r t x b.w
+  runs = runs_of r t x b.w stands b.row b.taken.is_open
+
+  none : t.representation (family x b.w) ≡ None
+  none = brings_none t x runs.o b.w runs.is b.taken.headed (sym (ap brought_by runs.running) ∙ past)
+
+  abbrev after : Tables
+  after = s t now x b.w bytes t.representation
+
+  held_then : held_for after x (Some (with_piece bytes b.w)) ≡ held_for t x (Some b.w) ++ bytes
+  held_then =
+      let reads = facts.law.places.read x b.w b.row b.taken.is_open b.taken.headed none in
+      let k = reads.k in
+      let at = reads.place_is in
+      let past = facts.law.places.direct b.w.c x k reads.row at in
+      let same_w : past.w ≡ b.w = same_row (t.exchange x) past.w b.w past.row b.row in
+      let given : k.given ≤ length b.w.body = subst (λ (e : Exchange). k.given ≤ length e.body) same_w past.given in
+      let new : unread x (with_piece bytes b.w) (Some k) ≡ drop k.given (b.w.body ++ bytes) = rw (at, eqb-same x) refl in
+      let old : unread x b.w (Some k) ≡ drop k.given b.w.body = rw (at, eqb-same x) refl in
+      ap (held_of after x (with_piece bytes b.w)) none
+      ∙ (ap (unread x (with_piece bytes b.w)) reads.row
+      ∙ (new
+      ∙ (drop-append-le k.given b.w.body bytes given
+      ∙ ap (λ (ys : List ℕ). ys ++ bytes) (sym (ap (held_of t x b.w) none ∙ (ap (unread x b.w) reads.row ∙ old))))))
+
+  kept_none : KeepsEntry after (family x b.w) ((shelf_of u.entries).kept (family x b.w)) (t.representation (family x b.w))
+  kept_none = subst (λ (e : Entries B g). KeepsEntry after (family x b.w) ((shelf_of e).kept (family x b.w)) (t.representation (family x b.w))) (sym same_entries) (subst (KeepsEntry after (family x b.w) ((shelf_of r.entries).kept (family x b.w))) (sym none) (by_kept ((shelf_of r.entries).kept (family x b.w)) (subst (KeepsEntry t (family x b.w) ((shelf_of r.entries).kept (family x b.w))) none (stands.entries.each (family x b.w)))))
+    where
+      by_kept : (k : Option Kept) → KeepsEntry t (family x b.w) k None → KeepsEntry after (family x b.w) k None
+      by_kept None kept = tt
+      by_kept (Some k) kept = absurd kept
+
+  past_stands : RowsStand u after
+  past_stands =
+      stands_pieced t now x b.w bytes t.representation b.row b.taken.is_open b.taken.headed r u stands (open_unended t facts.law x b.w b.row b.taken.is_open) (λ q. like_same (t.representation q) (t.representation q) refl) (λ q ne. refl) true runs.o runs.running
+      received last same_map same_keys becomes
+      (ap (λ (ys : List ℕ). ys ++ bytes) ((stands.exchanges x).held ∙ ap (held_for t x) b.row) ∙ sym held_then)
+      (λ y e ne at. held_alike t after (λ d. same refl) y e refl)
+      (rw (same_entries, limits) stands.limits) (λ q ne. rw same_entries refl) (rw same_entries refl) kept_none
+
+  pub past_answered : (before : List Act) → Answered r.limits (shelf_of r.entries).faults u t before before now (event.Piece x bytes)
+  past_answered before =
+      does_answered r.limits (shelf_of r.entries).faults u t after before before [] now (event.Piece x bytes) (does.past r.limits t facts.law now x bytes b.w b.row goes none) unwritten refl (sym (append-nil before)) past_stands
+    where
+      unwritten : write_in t (unanswered now (event.Piece x bytes)) (event.Piece x bytes) ≡ None
+      unwritten =
+          let at = b.row in
+          let gone = none in
+          rw (at, gone) refl

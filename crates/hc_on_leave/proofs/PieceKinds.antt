@@ -1,0 +1,62 @@
+-- How much is stored of a representation with a piece more.
+use Rattle.std.proofs.Common.{◌≡◌, ℕ, ◌+◌, ◌<◌, ◌≤◌, ◌^◌, List, length, Bool, true, false, Option, Some, None, refl, ap, sym, ◌∙◌, subst, arith}
+use Rattle.std.proofs.lemmas.Bool.Decides.{nat_tests}
+use Rattle.std.specs.Prelude.{nat_lt, nat_le, option_map, ◌&&◌, ◌↔◌, IsTrue, if◌then◌else◌}
+use Rattle.hc_record.specs.declared.kind.Kind.TheVariants as kind
+use Rattle.hc_sparse.specs.Cells.{Covers, inside, written}
+use Rattle.hc_sparse.proofs.SizeLemmas.{size-le}
+use Rattle.hc_stored.specs.declared.view.EntryView.{EntryView}
+use Rattle.hc_stored.specs.Kept.{Kept}
+use Rattle.hc_stored.specs.Shelf.{Shelf, cells_in, cells_at}
+use Rattle.hc_stored.specs.Views.{view_of}
+use Rattle.hc_model.specs.Kinds.{is_complete, is_front}
+use Rattle.hc_model.specs.Rows.{Representation}
+use Rattle.hc_state.specs.Pieces.{grown}
+use Rattle.hc_state.specs.Stops.{IsTold, kind_left}
+use Rattle.hc_state.proofs.StoredKinds.{complete_as, incomplete_as, front_as}
+use Rattle.hc_state.proofs.Words.{none_some, some_is}
+
+-- behind the piece it brings nothing
+pub outside_behind : (at p : ℕ) (bytes : List ℕ) → at + length bytes ≤ p → inside at (length bytes) p ≡ false
+outside_behind at p bytes le = by_test (nat_le at p) (let off : nat_lt p (at + length bytes) ≡ false = grind (arith, nat_tests, le) in off)
+  where
+    by_test : (a : Bool) → nat_lt p (at + length bytes) ≡ false → (a && nat_lt p (at + length bytes)) ≡ false
+    by_test true off = off
+    by_test false off = refl
+
+-- WHAT IS TOLD
+
+-- no more is stored than there are positions
+pub entry_small : (o : Option Kept) (e : EntryView) → option_map view_of o ≡ Some e → e.size ≤ 2 ^ 62
+entry_small None e is = none_some e is
+entry_small (Some k) e is = subst (λ (z : EntryView). z.size ≤ 2 ^ 62) (some_is (view_of k) e is) (size-le k.cells)
+
+pub none_told : (o : Option ℕ) → ((n : ℕ) → o ≡ Some n → ⊥) → o ≡ None
+none_told None off = refl
+none_told (Some n) off = absurd (off n refl)
+
+-- ITS KIND
+
+module _ (s : Shelf) (r at x count : ℕ) (bytes : List ℕ) (v : Representation) (k : Kept) (same : length bytes ≡ count) (kept : s.kept r ≡ Some k) (is : IsTold v (written at x bytes k.cells) (grown count (view_of k))) where
+  covered : (b : Bool) (end : ℕ) → ((x : ℕ) (bytes : List ℕ) → length bytes ≡ count → IsTrue b ↔ Covers (written at x bytes (cells_at s r)) 0 end) → IsTrue b ↔ Covers (written at x bytes k.cells) 0 end
+  covered b end tells = subst (λ (o : Option Kept). IsTrue b ↔ Covers (written at x bytes (λ p. cells_in o p)) 0 end) kept (tells x bytes same)
+
+  pub complete_with : (b : Bool) (total : ℕ) → k.head.total ≡ Some total → ((x : ℕ) (bytes : List ℕ) → length bytes ≡ count → IsTrue b ↔ Covers (written at x bytes (cells_at s r)) 0 total) → b ≡ is_complete v
+  complete_with b total known tells = complete_as v (written at x bytes k.cells) (grown count (view_of k)) is b total known (covered b total tells)
+
+  pub incomplete_with : k.head.total ≡ None → false ≡ is_complete v
+  incomplete_with none = incomplete_as v (written at x bytes k.cells) (grown count (view_of k)) is none
+
+  pub front_with : (b : Bool) (end : ℕ) → 0 < end → end ≡ (view_of k).size + count → ((x : ℕ) (bytes : List ℕ) → length bytes ≡ count → IsTrue b ↔ Covers (written at x bytes (cells_at s r)) 0 end) → b ≡ is_front v
+  front_with b end some grows tells =
+      front_as v (written at x bytes k.cells) (grown count (view_of k)) is b (subst (λ n. 0 < n) grows some)
+      (subst (λ (n : ℕ). IsTrue b ↔ Covers (written at x bytes k.cells) 0 n) grows (covered b end tells))
+
+pub is_whole : (v : Representation) → is_complete v ≡ true → kind.Whole ≡ kind_left v
+is_whole v on = rw on refl
+
+pub is_truncated : (v : Representation) → is_complete v ≡ false → is_front v ≡ true → kind.Truncated ≡ kind_left v
+is_truncated v off on = rw (off, on) refl
+
+pub is_parts : (v : Representation) → is_complete v ≡ false → is_front v ≡ false → kind.Ranges ≡ kind_left v
+is_parts v off none = rw (off, none) refl

@@ -1,0 +1,185 @@
+-- What gives way to a piece is what is idle before it, and what the piece is of isn't among that.
+use Rattle.std.proofs.Common.{◌≡◌, ◌≢◌, inl, inr, ℕ, zero, suc, ◌+◌, ◌<◌, ◌≤◌, ◌^◌, List, [], ◌∷◌, length, take, max, Bool, true, false, Option, Some, None, refl, ap, sym, ◌∙◌, subst, arith}
+use mathlib.Core.Path.{fun_ext}
+use Rattle.std.proofs.lemmas.Bool.Decides.{nat_tests}
+use Rattle.std.specs.Prelude.{is_some, nat_eq, nat_le, nat_lt, filter, map, reverse, not, ◌==◌, ◌&&◌, ◌||◌, if◌then◌else◌}
+use Rattle.std.specs.List.{sum_by}
+use Rattle.hc_sparse.specs.Cells.{Cells, Cell, EndsBy}
+use Rattle.hc_event.specs.declared.event.Event.{Event}
+use Rattle.hc_event.specs.declared.event.Event.TheVariants as event
+use Rattle.hc_rules.specs.declared.room.Limits.{Limits}
+use Rattle.hc_rules.specs.declared.room.Room.{Room}
+use Rattle.hc_rules.specs.declared.room.Room.TheVariants as room
+use Rattle.hc_rules.specs.declared.room.Write.{Write}
+use Rattle.hc_rules.specs.declared.room.Write.TheVariants as write
+use Rattle.hc_rules.specs.Rooms.{room_of, gives_way, weight_of}
+use Rattle.hc_model.specs.Contents as contents
+use Rattle.hc_model.specs.Contents.{idle_now}
+use Rattle.hc_model.specs.Currents.{is_current}
+use Rattle.hc_model.specs.Denials.{denial}
+use Rattle.hc_model.specs.Entries.{Entry, unanswered}
+use Rattle.hc_model.specs.Evictions.{outlasts, outlasts_row}
+use Rattle.hc_model.specs.Exchanges.{family}
+use Rattle.hc_model.specs.Flaws.{NoFlaw}
+use Rattle.hc_model.specs.Gone.{goes_itself, becomes_gone}
+use Rattle.hc_model.specs.Lawful.{Lawful}
+use Rattle.hc_model.specs.LettingGo as going
+use Rattle.hc_model.specs.LettingGo.{MayMakeRoom, weight_now, room_now, giving_way}
+use Rattle.hc_model.specs.Reading.{bound}
+use Rattle.hc_model.specs.Rows.{Tables, Exchange, Representation}
+use Rattle.hc_model.specs.Runs.{has_room}
+use Rattle.hc_model.specs.Sound as sound
+use Rattle.hc_model.specs.Weights as weights
+use Rattle.hc_model.specs.Weights.{weight, idle, evicted, room_for, room_by, write_in, stays_bound}
+use Rattle.hc_laws.proofs.IdleNow.{idle_but_gone, bound_is}
+use Rattle.hc_laws.proofs.LettingGo.{may_let_go}
+use Rattle.hc_laws.proofs.PieceEffects as does
+use Rattle.hc_model.proofs.SameTables.{is_in}
+use Rattle.hc_state.specs.Facts.{Facts}
+use Rattle.hc_state.proofs.Stopping.{size_kept}
+use Rattle.hc_state.proofs.Words.{same_or, eqb-same, eqb-other, false_true, none_some, then_false}
+
+-- LISTS
+
+all_pass : (f : ℕ → Bool) (xs : List ℕ) → ((n : ℕ) → f n ≡ true) → filter f xs ≡ xs
+all_pass f [] on = refl
+all_pass f (x ∷ xs) on = rw (on x, all_pass f xs on) refl
+
+not_filtered : (f : ℕ → Bool) (n : ℕ) (xs : List ℕ) → f n ≡ false → is_in (filter f xs) n ≡ false
+not_filtered f n [] off = refl
+not_filtered f n (x ∷ xs) off = by_test (f x) refl (not_filtered f n xs off)
+  where
+    by_test : (b : Bool) → f x ≡ b → is_in (filter f xs) n ≡ false → is_in (filter f (x ∷ xs)) n ≡ false
+    by_test false fails rest = rw fails rest
+    by_test true passes rest = elim (same_or x n) [
+      | inl e ↦ false_true (sym off ∙ (ap f (sym e) ∙ passes))
+      | inr ne ↦ rw (passes, eqb-other x n ne) rest
+    ]
+
+not_taken : (count n : ℕ) (xs : List ℕ) → is_in xs n ≡ false → is_in (take count xs) n ≡ false
+not_taken zero n xs off = by_list xs
+  where
+    by_list : (ys : List ℕ) → is_in (take zero ys) n ≡ false
+    by_list [] = refl
+    by_list (y ∷ ys) = refl
+not_taken (suc count) n [] off = refl
+not_taken (suc count) n (x ∷ xs) off = by_tests (nat_eq x n) (is_in xs n) refl refl (λ rest. not_taken count n xs rest)
+  where
+    by_tests : (a b : Bool) → nat_eq x n ≡ a → is_in xs n ≡ b → (is_in xs n ≡ false → is_in (take count xs) n ≡ false) → is_in (take (suc count) (x ∷ xs)) n ≡ false
+    by_tests true b same rest further = false_true (sym off ∙ rw same refl)
+    by_tests false true other rest further = false_true (sym off ∙ rw (other, rest) refl)
+    by_tests false false other rest further = rw other (further rest)
+
+some_list : (xs : List ℕ) → xs ≢ [] → nat_eq (length xs) 0 ≡ false
+some_list [] some = absurd (some refl)
+some_list (x ∷ xs) some = grind (arith, nat_tests)
+
+or_first : (a b : Bool) → (a || b) ≡ false → a ≡ false
+or_first true b off = off
+or_first false b off = refl
+
+and_true : (a : Bool) → (a && true) ≡ a
+and_true true = refl
+and_true false = refl
+
+-- WHAT THE RUN ALLOWS
+
+reaches_small : (n m : ℕ) → n ≤ max (2 ^ 62) m → m < 2 ^ 62 → n ≤ 2 ^ 62
+reaches_small n m le small = grind (arith, nat_tests)
+
+none_by : (stored body : Option Cell) → (is_some stored ≡ true → stored ≡ body) → body ≡ None → stored ≡ None
+none_by None body same none = refl
+none_by (Some cell) body same none = same refl ∙ none
+
+pub may_make_room : {limits : Limits} (t : Tables) → Facts limits t → t.received < 2 ^ 62 → MayMakeRoom t
+may_make_room t facts small = record {
+  may = may_let_go t facts.law;
+  used = facts.law.order.used;
+  founded = facts.law.order.founded;
+  sized = λ q v there. (let store = (facts.law.sound.rows q v there).store in
+      sym (size_kept v.stored v.stored v.size v.reach (λ p. refl) (λ p past. none_by (v.stored p) (v.body p) (store.some_stored p) (store.ends p past)) (reaches_small v.reach t.received (facts.numbers.reaches q v there) small) (facts.sizes.counted q v there)));
+}
+
+-- WHAT GIVES WAY
+
+module _ (limits : Limits) (t : Tables) (law : Lawful t) (now x : ℕ) (bytes : List ℕ) (goes : denial t (event.Piece x bytes) ≡ None) (w : Exchange) (row : t.exchange x ≡ Some w) where
+  abbrev e : Entry
+  e = unanswered now (event.Piece x bytes)
+
+  -- a piece lets nothing go by itself
+  stays : (q : ℕ) (p : Representation) → goes_itself t e q p ≡ false
+  unfolding becomes_gone
+  stays q p = or_first (goes_itself t e q p) _ (does.piece_goes limits t law now x bytes w row NoFlaw [] q p (λ on. false_true on))
+
+  weight_same : (q : ℕ) → weight t e q ≡ weight_now t q
+  weight_same q = by_row (t.representation q)
+    where
+      by_row : (o : Option Representation) → weights.weight_in t e q o ≡ going.weight_in t q o
+      by_row None = refl
+      by_row (Some p) =
+          let current_is : (is_current t p.key q && not (goes_itself t e q p)) ≡ is_current t p.key q = ap (λ b. is_current t p.key q && not b) (stays q p) ∙ and_true (is_current t p.key q) in
+          let bound_so : stays_bound t e q ≡ not (length (bound t q) == 0) = bound_is t now (event.Piece x bytes) law.sound law.owned goes q p (stays q p) in
+          ap (λ b. if b || stays_bound t e q then weight_of p.size else 0) current_is ∙ ap (λ b. if is_current t p.key q || b then weight_of p.size else 0) bound_so
+
+  idle_same : idle t e ≡ idle_now t
+  idle_same = idle_but_gone t now (event.Piece x bytes) law.sound law.owned goes ∙ all_pass (outlasts t e) (idle_now t) (λ q. by_row q (t.representation q))
+    where
+      by_row : (q : ℕ) (o : Option Representation) → outlasts_row t e q o ≡ true
+      by_row q None = refl
+      by_row q (Some p) = ap not (stays q p)
+
+  module _ (v : Representation) (there : t.representation (family x w) ≡ Some v) (fresh : v.is_lost ≡ false) where
+    abbrev pub wrote : Write
+    wrote = write.Piece v.size (length bytes)
+
+    pub room_same : room_for limits t now (event.Piece x bytes) ≡ room_now limits t wrote
+    unfolding room_for
+    room_same =
+        let write_is : write_in t e (event.Piece x bytes) ≡ Some wrote = rw (row, there, fresh) refl in
+        let weights_are : weight t e ≡ weight_now t = fun_ext weight_same in
+        ap (room_by limits t e) write_is
+        ∙ (ap (λ (f : ℕ → ℕ). room_of limits (sum_by f t.founded) wrote (map f (idle t e))) weights_are
+        ∙ ap (λ qs. room_of limits (sum_by (weight_now t) t.founded) wrote (map (weight_now t) qs)) idle_same)
+
+    firsts_same : (a : Room) → weights.first_idle t e a ≡ going.first_idle t a
+    firsts_same (room.After count) = ap (take count) idle_same
+    firsts_same room.TooLarge = refl
+    firsts_same room.Full = refl
+
+    pub gives_same : evicted limits t now (event.Piece x bytes) ≡ giving_way limits t wrote
+    gives_same = ap (weights.first_idle t e) room_same ∙ firsts_same (room_now limits t wrote)
+
+    -- who reads it keeps it
+    pub spared : w.is_open ≡ true → is_some w.head ≡ true → is_in (giving_way limits t wrote) (family x w) ≡ false
+    spared opened headed = by_room (room_now limits t wrote)
+      where
+        some_bound : bound t (family x w) ≢ []
+        some_bound none = law.whose.unread (family x w) x v there none (sound.headed w row opened headed refl (ap (λ (o : Option Representation). is_some o) there))
+
+        busy : contents.is_idle t (family x w) (t.representation (family x w)) ≡ false
+        busy = ap (contents.is_idle t (family x w)) there ∙ then_false (is_current t v.key (family x w)) (length (bound t (family x w)) == 0) (some_list (bound t (family x w)) some_bound)
+
+        by_room : (a : Room) → is_in (going.first_idle t a) (family x w) ≡ false
+        by_room (room.After count) = not_taken count (family x w) (idle_now t) (not_filtered (λ q. contents.is_idle t q (t.representation q)) (family x w) (reverse t.used) busy)
+        by_room room.TooLarge = refl
+        by_room room.Full = refl
+
+-- WHERE THE STORE TOOK IT
+
+gives_first : (most sum : ℕ) (ws : List ℕ) → sum ≤ most → gives_way most sum ws ≡ Some 0
+gives_first most sum [] le = (let on : nat_le sum most ≡ true = grind (arith, nat_tests, le) in rw on refl)
+gives_first most sum (x ∷ ws) le = (let on : nat_le sum most ≡ true = grind (arith, nat_tests, le) in rw on refl)
+
+-- there was room, where the write is within the limits
+pub room_there : (limits : Limits) (sum size n : ℕ) (ws : List ℕ) → size + n ≤ limits.max_entry → (room_of limits sum (write.Piece size n) ws ≡ room.Full → sum + n ≤ limits.max_total) → has_room (room_of limits sum (write.Piece size n) ws) ≡ true
+unfolding room_of
+room_there limits sum size n ws small full = by_gives (gives_way limits.max_total (sum + n) ws) refl
+  where
+    fits : nat_lt limits.max_entry (size + n) ≡ false
+    fits = grind (arith, nat_tests, small)
+
+    by_gives : (o : Option ℕ) → gives_way limits.max_total (sum + n) ws ≡ o → has_room (room_of limits sum (write.Piece size n) ws) ≡ true
+    by_gives (Some count) is = rw (fits, is) refl
+    by_gives None is =
+        let never : room_of limits sum (write.Piece size n) ws ≡ room.Full = rw (fits, is) refl in
+        none_some 0 (sym is ∙ gives_first limits.max_total (sum + n) ws (full never))

@@ -1,0 +1,236 @@
+-- An exchange brings bytes: what is kept stands for the tables then.
+use Rattle.std.proofs.Common.{◌≡◌, ◌≢◌, inl, inr, ℕ, ◌+◌, List, [], ◌∷◌, ◌++◌, length, Bool, true, false, cond, Option, Some, None, refl, ap, ap₂, sym, ◌∙◌, subst}
+use Rattle.std.proofs.lemmas.List.{length-append}
+use Rattle.std.specs.Prelude.{is_some, is_none, nat_eq, bytes_eq, filter, find, not, ◌&&◌, if◌then◌else◌}
+use Rattle.std.specs.HashMap.{get}
+use Rattle.hc_store.specs.declared.backend.Backend.{Ghosts}
+use Rattle.hc_event.specs.declared.event.Event.TheVariants as event
+use Rattle.hc_stored.specs.Entries.{shelf_of}
+use Rattle.hc_stored.specs.Shelf.{Shelf}
+use Rattle.hc_entry.specs.Kept as keyed
+use Rattle.hc_entry.specs.Keys.{kept_of}
+use Rattle.hc_exch.specs.Exchanges as exch
+use Rattle.hc_exch.specs.Exchanges.{table_of}
+use Rattle.hc_exch.specs.Known as known
+use Rattle.hc_exch.specs.Known.{Known, is_all, is_last_of}
+use Rattle.hc_exch.specs.declared.role.Role.{Role}
+use Rattle.hc_exch.specs.declared.role.Role.TheVariants as role
+use Rattle.hc_exch.specs.declared.row.Open.{Open}
+use Rattle.hc_rules.specs.Needs.{route_of}
+use Rattle.hc_event.specs.declared.place.Place.{Place}
+use Rattle.hc_event.specs.declared.place.Place.TheVariants as place
+use Rattle.hc_event.specs.declared.place.BoundBy.TheVariants as by
+use Rattle.hc_model.specs.Currents.{current, is_usable, total_in}
+use Rattle.hc_model.specs.Effects.{counted, with_exchange}
+use Rattle.hc_model.specs.ExchangeRows.{with_piece}
+use Rattle.hc_model.specs.Exchanges.{family, promised, is_reached, is_headless}
+use Rattle.hc_model.specs.Kinds.{is_growing, brings_to}
+use Rattle.hc_model.specs.Reading.{base_in, end_in, end_of_direct}
+use Rattle.hc_model.specs.Rows as rows
+use Rattle.hc_model.specs.Rows.{Tables, Exchange, Representation}
+use Rattle.hc_model.specs.Writers.{status_in}
+use Rattle.hc_state.specs.declared.rows.Rows.{Rows}
+use Rattle.hc_state.specs.Kept.{IsRunning, KeepsRunning, KeepsExchange, head_in, held_for, role_awaited}
+use Rattle.hc_state.specs.Lines.{KeepsKey, is_away, is_away_at}
+use Rattle.hc_state.specs.Stands.{RowsStand}
+use Rattle.hc_state.specs.Stored.{KeepsEntry, KeepsEntries, is_usable_row}
+use Rattle.hc_on_leave.proofs.AnswerArm.{all_reached, known_here, known_other}
+use Rattle.hc_state.proofs.Losing.{finds_same, filters_same}
+use Rattle.hc_state.proofs.OneOfEach.{first_by, bound_same, growing_same, kind_same}
+use Rattle.hc_state.proofs.PastRows.{SeesAlike, consumer_alike}
+use Rattle.hc_state.proofs.Ties.{key_same, entry_same, exchange_same, overs_open}
+use Rattle.hc_state.proofs.Words.{same_or, eqb-same, eqb-other, then_false, false_true, same_row, as_received, more_received}
+
+-- what bytes don't change of a representation
+pub record IsLike (o p : Option Representation) : Type 0 where
+  pub there : is_some p ≡ is_some o
+  pub total : total_in p ≡ total_in o
+  pub status : status_in p ≡ status_in o
+  pub usable : (key : List ℕ) → is_usable key p ≡ is_usable key o
+  pub usable_row : is_usable_row p ≡ is_usable_row o
+
+pub like_same : (o p : Option Representation) → p ≡ o → IsLike o p
+like_same o p is = record {
+  there = ap (λ (z : Option Representation). is_some z) is;
+  total = ap total_in is;
+  status = ap status_in is;
+  usable = λ key. ap (is_usable key) is;
+  usable_row = ap is_usable_row is;
+}
+
+none_is : {A : Type 0} (o : Option A) → is_some o ≡ true → is_none o ≡ false
+none_is None h = false_true h
+none_is (Some a) h = refl
+
+module _ (t : Tables) (now x : ℕ) (w : Exchange) (bytes : List ℕ) (vs : ℕ → Option Representation) where
+  -- it brought these bytes, and of representations this is said
+  abbrev pub s : Tables
+  s = counted now (event.Piece x bytes) (record (with_exchange x (Some (with_piece bytes w)) t) { representation = vs })
+
+  abbrev pub z : Exchange
+  z = with_piece bytes w
+
+  module _ (row : t.exchange x ≡ Some w) (opened : w.is_open ≡ true) (headed : is_some w.head ≡ true) where
+    pub here : s.exchange x ≡ Some z
+    here = rw (eqb-same x) refl
+
+    pub others : (y : ℕ) → x ≢ y → s.exchange y ≡ t.exchange y
+    others y ne = rw (eqb-other x y ne) refl
+
+    -- what is told of it before and after is told of all
+    told : {A : Type 0} (f : Option Exchange → A) → f (Some z) ≡ f (Some w) → (y : ℕ) → f (s.exchange y) ≡ f (t.exchange y)
+    told f alike y = elim (same_or x y) [
+      | inl e ↦ ap f (sym (ap s.exchange e) ∙ here) ∙ (alike ∙ sym (ap f (sym (ap t.exchange e) ∙ row)))
+      | inr ne ↦ ap f (others y ne)
+    ]
+
+    -- CONSUMERS
+
+    ends_so : w.is_ended ≡ false → (o : Option ℕ) → end_of_direct o z ≡ end_of_direct o w
+    ends_so unended None = rw unended refl
+    ends_so unended (Some n) = refl
+
+    sees : w.is_ended ≡ false → ((q : ℕ) → IsLike (t.representation q) (vs q)) → SeesAlike t s
+    sees unended like = record {
+      head = told head_in refl;
+      begins = told base_in refl;
+      ends = told end_in (ends_so unended (promised w));
+      length = λ q. (like q).total;
+    }
+
+    -- KEYS
+
+    away_same : (key : List ℕ) (o : Option rows.Consumer) → is_away s key o ≡ is_away t key o
+    away_same key None = refl
+    away_same key (Some k) = ap (λ b. bytes_eq k.request.key key && b) (by_place k.place refl)
+      where
+        headless_none : is_headless (Some z) ≡ is_headless (Some w)
+        headless_none = then_false z.is_open (is_none w.head) (none_is w.head headed) ∙ sym (then_false w.is_open (is_none w.head) (none_is w.head headed))
+
+        by_place : (p : Place) → k.place ≡ p → is_away_at s k.place ≡ is_away_at t k.place
+        by_place (place.Bound q lo hi (by.FirstHole y)) at = rw at (told is_headless headless_none y)
+        by_place (place.Bound q lo hi by.Founding) at = rw at refl
+        by_place (place.Bound q lo hi by.Plan) at = rw at refl
+        by_place place.Line at = rw at refl
+        by_place (place.Passed q kept) at = rw at refl
+        by_place (place.Turn y) at = rw at refl
+        by_place (place.Direct y) at = rw at refl
+        by_place (place.Down why) at = rw at refl
+        by_place place.Over at = rw at refl
+
+    key_pieced : ((q : ℕ) → IsLike (t.representation q) (vs q)) → (key : List ℕ) (k : keyed.Kept) → KeepsKey t key k → KeepsKey s key k
+    unfolding current
+    key_pieced like key k kept =
+        key_same t s key k (record {
+          current = finds_same (λ q. is_usable key (t.representation q)) (λ q. is_usable key (vs q)) (λ q. (like q).usable key) t.founded;
+          in_line = λ d. refl;
+          passed = λ d. refl;
+          away = λ d. away_same key (t.consumer d);
+          turn = λ d. refl;
+        }) kept
+
+    -- REPRESENTATIONS
+
+    brings_other : (q : ℕ) → family x w ≢ q → (y : ℕ) → brings_to q y (s.exchange y) ≡ brings_to q y (t.exchange y)
+    brings_other q ne y = elim (same_or x y) [
+      | inl e ↦ subst (λ (n : ℕ). brings_to q n (s.exchange n) ≡ brings_to q n (t.exchange n)) e
+          (ap (brings_to q x) here ∙ (off z.is_open ∙ sym (ap (brings_to q x) row ∙ off w.is_open)))
+      | inr ne ↦ ap (brings_to q y) (others y ne)
+    ]
+      where
+        off : (b : Bool) → (b && nat_eq (family x w) q) ≡ false
+        off b = then_false b (nat_eq (family x w) q) (eqb-other (family x w) q ne)
+
+    -- where it stays open, all that grew grows
+    pub grows_on : z.is_open ≡ true → (q : ℕ) → is_growing s q ≡ is_growing t q
+    grows_on still q = growing_same t s q refl (λ y. told_at y)
+      where
+        told_at : (y : ℕ) → brings_to q y (s.exchange y) ≡ brings_to q y (t.exchange y)
+        told_at y = elim (same_or x y) [
+          | inl e ↦ subst (λ (n : ℕ). brings_to q n (s.exchange n) ≡ brings_to q n (t.exchange n)) e
+              (ap (brings_to q x) here ∙ (ap (λ b. b && nat_eq (family x w) q) (still ∙ sym opened) ∙ sym (ap (brings_to q x) row)))
+          | inr ne ↦ ap (brings_to q y) (others y ne)
+        ]
+
+    entries_pieced : (a b : Shelf) → ((q : ℕ) → IsLike (t.representation q) (vs q)) → ((q : ℕ) → family x w ≢ q → vs q ≡ t.representation q) → ((q : ℕ) → family x w ≢ q → b.kept q ≡ a.kept q) → b.order ≡ a.order
+        → KeepsEntry s (family x w) (b.kept (family x w)) (vs (family x w)) → KeepsEntries t a → KeepsEntries s b
+    entries_pieced a b like apart kept_else order its kept = record {
+      each = λ q. elim (same_or (family x w) q) [
+        | inl e ↦ subst (λ (n : ℕ). KeepsEntry s n (b.kept n) (vs n)) e its
+        | inr ne ↦
+            subst (λ o. KeepsEntry s q o (vs q)) (sym (kept_else q ne)) (subst (KeepsEntry s q (a.kept q)) (sym (apart q ne))
+            (entry_same t s q (a.kept q) (t.representation q) refl
+            (record { users = λ d. refl; first = λ d. first_by t s (λ n. (like n).status) q (t.consumer d); list = bound_same t s q refl (λ d. refl); kind = λ v at. kind_same t s q v (growing_same t s q refl (brings_other q ne)); overs = overs_open t.exchange s.exchange x w row opened others }) (kept.each q)))
+      ];
+      order = order ∙ (kept.order ∙ sym (filters_same (λ q. is_usable_row (t.representation q)) (λ q. is_usable_row (vs q)) (λ q. (like q).usable_row) t.used));
+    }
+
+    -- THE EXCHANGE
+
+    module _ (o : Open) (is : IsRunning t x o w) (like : IsLike (t.representation (family x w)) (vs (family x w))) where
+      count_is : o.delivered + length bytes ≡ length (w.body ++ bytes)
+      count_is = ap (λ n. n + length bytes) is.delivered ∙ sym (length-append w.body bytes)
+
+      pub last_is : is_last_of (Some o) (length bytes) ≡ is_reached (promised w) (length (w.body ++ bytes))
+      last_is = ap₂ is_all is.promised_is count_is ∙ all_reached (promised w) (length (w.body ++ bytes))
+
+      abbrev role_with : Bool → Role
+      role_with founded = if is_none w.head then role_awaited (route_of w.need) w.aim else if founded then role.Body (family x w) else role.Direct
+
+      running_after : (b : Bool) → is_reached (promised w) (length (w.body ++ bytes)) ≡ b → KeepsRunning s x (cond b None (Some (record o { delivered = o.delivered + length bytes; asked = false }))) (Some z)
+      running_after true reached = rw reached refl
+      running_after false reached = record {
+        is_open = rw reached opened;
+        c = is.c;
+        need = is.need;
+        request = is.request;
+        moment = is.moment;
+        headed = is.headed;
+        asked = refl;
+        base_is = is.base_is;
+        delivered = count_is;
+        promised_is = is.promised_is;
+        role = is.role ∙ ap role_with (sym like.there);
+      }
+
+      -- what is known of it then
+      pub known_pieced : (k : Known) (hold : Bool) → k.running ≡ Some o → (known.with_piece bytes hold k).held ≡ held_for s x (Some z) → KeepsExchange s x (known.with_piece bytes hold k)
+      known_pieced k hold running held = record {
+        running = rw (running, last_is, eqb-same x) (running_after (is_reached (promised w) (length (w.body ++ bytes))) refl);
+        held = held ∙ ap (held_for s x) (sym here);
+      }
+
+    -- ALL OF IT
+
+    module _ {B : Type 0} {g : Ghosts B} (r u : Rows B g) (stands : RowsStand r t) (unended : w.is_ended ≡ false) (like : (q : ℕ) → IsLike (t.representation q) (vs q)) (apart : (q : ℕ) → family x w ≢ q → vs q ≡ t.representation q) (hold : Bool) (o : Open) (running : (table_of r.exchanges x).running ≡ Some o)
+        (received : u.received ≡ r.received + length bytes) (last : u.last_start ≡ r.last_start) (same_map : u.consumers ≡ r.consumers) (same_keys : u.keys ≡ r.keys) (becomes : exch.Becomes (known.with_piece bytes hold) x r.exchanges u.exchanges)
+        (held_here : (known.with_piece bytes hold (table_of r.exchanges x)).held ≡ held_for s x (Some z)) (held_else : (y : ℕ) (e : Exchange) → x ≢ y → t.exchange y ≡ Some e → held_for s y (Some e) ≡ held_for t y (Some e))
+        (bounded : (shelf_of u.entries).limits ≡ u.limits) (kept_else : (q : ℕ) → family x w ≢ q → (shelf_of u.entries).kept q ≡ (shelf_of r.entries).kept q) (order : (shelf_of u.entries).order ≡ (shelf_of r.entries).order)
+        (its : KeepsEntry s (family x w) ((shelf_of u.entries).kept (family x w)) (vs (family x w))) where
+      is_running : IsRunning t x o w
+      is_running = subst (KeepsRunning t x (Some o)) row (subst (λ (k : Option Open). KeepsRunning t x k (t.exchange x)) running (stands.exchanges x).running)
+
+      held_row : (y : ℕ) (e : Option Exchange) → x ≢ y → t.exchange y ≡ e → held_for s y e ≡ held_for t y e
+      held_row y None ne at = refl
+      held_row y (Some e) ne at = held_else y e ne at
+
+      all_exchanges : (y : ℕ) → KeepsExchange s y (table_of u.exchanges y)
+      all_exchanges y = elim (same_or x y) [
+        | inl e ↦ subst (λ (n : ℕ). KeepsExchange s n (table_of u.exchanges n)) e
+            (subst (KeepsExchange s x) (sym (known_here (known.with_piece bytes hold) x r.exchanges u.exchanges becomes)) (known_pieced o is_running (like (family x w)) (table_of r.exchanges x) hold running held_here))
+        | inr ne ↦ subst (KeepsExchange s y) (sym (known_other (known.with_piece bytes hold) x y r.exchanges u.exchanges becomes (λ e. ne (sym e))))
+            (exchange_same t s y (table_of r.exchanges y) (record { row = others y ne; brings = λ e at. (like (family y e)).there; held = held_row y (t.exchange y) ne refl }) (stands.exchanges y))
+      ]
+
+      pub stands_pieced : RowsStand u s
+      stands_pieced = record {
+        limits = bounded;
+        received = as_received received (more_received r.received (length bytes) stands.received);
+        last_start = last ∙ stands.last_start;
+        next = becomes.next ∙ stands.next;
+        count = rw same_map stands.count;
+        consumers = λ d. rw same_map (consumer_alike t s (sees unended like) (get nat_eq r.consumers d) (t.consumer d) (stands.consumers d));
+        exchanges = all_exchanges;
+        keys = λ key. rw same_keys (key_pieced like key (kept_of r.keys key) (stands.keys key));
+        entries = entries_pieced (shelf_of r.entries) (shelf_of u.entries) like apart kept_else order its stands.entries;
+      }

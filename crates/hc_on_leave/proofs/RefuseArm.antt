@@ -1,0 +1,120 @@
+-- An exchange whose answer isn't used is over with its head, or closed: what is kept stands for the tables then.
+use Rattle.std.proofs.Common.{◌≡◌, ◌≢◌, inl, inr, ℕ, [], ◌∷◌, Bool, true, false, Option, Some, None, refl, ap, sym, ◌∙◌, subst}
+use Rattle.std.specs.Prelude.{nat_eq, if◌then◌else◌}
+use Rattle.std.specs.HashMap.{get}
+use Rattle.hc_store.specs.declared.backend.Backend.{Ghosts}
+use Rattle.hc_event.specs.declared.event.Response.{Response}
+use Rattle.hc_rules.specs.declared.length.Length.{Length}
+use Rattle.hc_rules.specs.Lengths.{length_of, promise_of}
+use Rattle.hc_stored.specs.Entries.{shelf_of}
+use Rattle.hc_exch.specs.declared.row.Open.{Open}
+use Rattle.hc_exch.specs.Exchanges.{table_of}
+use Rattle.hc_exch.specs.Exchanges as exch
+use Rattle.hc_exch.specs.Known as known
+use Rattle.hc_exch.specs.Known.{Known, length_by}
+use Rattle.hc_event.specs.declared.place.Place.TheVariants as place
+use Rattle.hc_model.specs.Effects.{with_answer, with_exchange, answered, over, closed, all_closed, unless_ended}
+use Rattle.hc_model.specs.ExchangeRows.{promise_in}
+use Rattle.hc_model.specs.Exchanges.{is_reached}
+use Rattle.hc_model.specs.Rows as rows
+use Rattle.hc_model.specs.Rows.{Tables, Exchange}
+use Rattle.hc_model.proofs.Basics.{same_functions}
+use Rattle.hc_state.specs.declared.rows.Rows.{Rows}
+use Rattle.hc_state.specs.Changes.{BecomesAt}
+use Rattle.hc_state.specs.Heads.{IsBare, IsUnread, unless_over}
+use Rattle.hc_state.specs.Kept.{KeepsExchange, KeepsRunning, held_for}
+use Rattle.hc_state.specs.Stands.{RowsStand, KeepsRest}
+use Rattle.hc_on_leave.proofs.AnswerArm.{all_reached, known_here, known_other}
+use Rattle.hc_on_leave.proofs.HeardExchange.{held_empty, held_else, here, others, key_heard, entries_heard}
+use Rattle.hc_state.proofs.OneOfEach.{stands_then}
+use Rattle.hc_state.proofs.Ties.{consumer_same}
+use Rattle.hc_state.proofs.Words.{same_or, eqb-same, eqb-other, as_received}
+
+module _ {B : Type 0} {g : Ghosts B} (r u : Rows B g) (t : Tables) (x : ℕ) (w z : Exchange) (stands : RowsStand r t) (unused : IsUnread t x w) (shut : z.is_open ≡ false) (empty : z.body ≡ []) (unjoined : z.joined ≡ None)
+    (rest : KeepsRest r u) (consumers : u.consumers ≡ r.consumers) (becomes : exch.Becomes known.closed x r.exchanges u.exchanges) where
+  abbrev s : Tables
+  s = with_exchange x (Some z) t
+
+  abbrev bare : IsBare t x w
+  bare = unused.bare
+
+  s_here : s.exchange x ≡ Some z
+  s_here = here t x w z bare unjoined
+
+  s_other : (y : ℕ) → y ≢ x → s.exchange y ≡ t.exchange y
+  s_other = others t x w z bare unjoined
+
+  stays : BecomesAt r.consumers u.consumers w.c (get nat_eq r.consumers w.c)
+  stays = rw consumers (record { places = by_number; len = refl })
+    where
+      by_number : (d : ℕ) → get nat_eq r.consumers d ≡ (if nat_eq w.c d then get nat_eq r.consumers w.c else get nat_eq r.consumers d)
+      by_number d = elim (same_or w.c d) [
+        | inl e ↦ rw (← e, eqb-same w.c) refl
+        | inr ne ↦ rw (eqb-other w.c d ne) refl
+      ]
+
+  past_same : (d y : ℕ) (k : rows.Consumer) → t.consumer d ≡ Some k → k.place ≡ place.Direct y → s.exchange y ≡ t.exchange y
+  past_same d y k row at = elim (same_or y x) [
+    | inl e ↦ absurd (unused.unread d k row (at ∙ ap (λ (n : ℕ). place.Direct n) e))
+    | inr ne ↦ s_other y ne
+  ]
+
+  exchange_shut : KeepsExchange s x (table_of u.exchanges x)
+  exchange_shut =
+      let known_then = known_here known.closed x r.exchanges u.exchanges becomes in
+      record {
+        running = subst (λ (k : Known). KeepsRunning s x k.running (s.exchange x)) (sym known_then) (subst (KeepsRunning s x None) (sym s_here) shut);
+        held = ap (λ (k : Known). k.held) known_then
+            ∙ ((stands.exchanges x).held
+            ∙ (ap (held_for t x) bare.row
+            ∙ (held_empty t x w bare.empty bare.unjoined bare.unfounded
+            ∙ sym (ap (held_for s x) s_here ∙ held_empty s x z empty unjoined bare.unfounded))));
+      }
+
+  pub stands_shut : RowsStand u s
+  stands_shut =
+      stands_then r u t s w.c x (get nat_eq r.consumers w.c) stands rest.limits (as_received rest.received stands.received) (rest.last_start ∙ stands.last_start) (becomes.next ∙ stands.next)
+      (rw consumers stands.count) stays (λ y ne. known_other known.closed x y r.exchanges u.exchanges becomes ne) (λ d ne. refl) s_other (λ q. refl)
+      (consumer_same t s (get nat_eq r.consumers w.c) (t.consumer w.c) (λ k row. record { past = λ y at. past_same w.c y k row at; length = λ q lo hi how at. refl }) (stands.consumers w.c))
+      exchange_shut (let same_keys = rest.keys in λ key. rw same_keys (key_heard t x w z bare unjoined key _ (stands.keys key)))
+      (λ d k ne row at. unused.unread d k row at) (λ y e ne row. held_else t x w z bare unjoined y e)
+      (let same_entries = rest.entries in let same_limits = rest.limits in rw (same_entries, same_limits) stands.limits)
+      (let same_entries = rest.entries in rw same_entries (entries_heard t x w z bare unjoined (shelf_of r.entries) stands.entries))
+
+-- IT IS OVER WITH ITS HEAD, OR CLOSED
+
+closed_twice : (t : Tables) (x : ℕ) (a : Exchange) → closed x (with_exchange x (Some a) t) ≡ with_exchange x (Some (over a)) t
+closed_twice t x a =
+    let rows : (closed x (with_exchange x (Some a) t)).exchange ≡ (with_exchange x (Some (over a)) t).exchange = same_functions _ _ by_number in
+    λ i. record (with_exchange x (Some (over a)) t) { exchange = rows i }
+  where
+    by_number : (y : ℕ) → (closed x (with_exchange x (Some a) t)).exchange y ≡ (with_exchange x (Some (over a)) t).exchange y
+    by_number y = elim (same_or x y) [
+      | inl e ↦ rw (e, eqb-same y) refl
+      | inr ne ↦ rw (eqb-other x y ne) refl
+    ]
+
+module _ {B : Type 0} {g : Ghosts B} (r u : Rows B g) (t : Tables) (now x : ℕ) (response : Response) (w : Exchange) (stands : RowsStand r t) (unused : IsUnread t x w)
+    (rest : KeepsRest r u) (consumers : u.consumers ≡ r.consumers) (becomes : exch.Becomes known.closed x r.exchanges u.exchanges) where
+  by_test : (b : Bool) → is_reached (promise_in w response) 0 ≡ b → RowsStand u (all_closed (if b then [] else x ∷ []) (with_answer now x response w.joined w t))
+  by_test true reached = stands_shut r u t x w (answered now response w.joined w) stands unused (rw reached refl) unused.bare.empty unused.bare.unjoined rest consumers becomes
+  by_test false reached =
+      subst (RowsStand u) (sym (closed_twice t x (answered now response w.joined w)))
+      (stands_shut r u t x w (over (answered now response w.joined w)) stands unused refl unused.bare.empty unused.bare.unjoined rest consumers becomes)
+
+  pub stands_refused : RowsStand u (all_closed (unless_ended x response w) (with_answer now x response w.joined w t))
+  stands_refused = by_test (is_reached (promise_in w response) 0) refl
+
+-- WHAT IS TOLD
+
+-- what the head says to the exchange
+pub length_as : {B : Type 0} {g : Ghosts B} (r : Rows B g) (t : Tables) (x : ℕ) (w : Exchange) (response : Response) → RowsStand r t → t.exchange x ≡ Some w → w.is_open ≡ true → length_by (table_of r.exchanges x).running response ≡ length_of w.need w.request response
+length_as r t x w response stands row opened = by_running (table_of r.exchanges x).running refl (subst (KeepsRunning t x (table_of r.exchanges x).running) row (stands.exchanges x).running)
+  where
+    by_running : (z : Option Open) → (table_of r.exchanges x).running ≡ z → KeepsRunning t x z (Some w) → length_by (table_of r.exchanges x).running response ≡ length_of w.need w.request response
+    by_running None at keeps = absurd (let never : false ≡ true = sym keeps ∙ opened in cc)
+    by_running (Some o) at keeps = ap (λ (z : Option Open). length_by z response) at ∙ (ap (λ n. length_of n o.request response) keeps.need ∙ ap (λ q. length_of w.need q response) keeps.request)
+
+pub closes_as : {B : Type 0} {g : Ghosts B} (r : Rows B g) (t : Tables) (x : ℕ) (w : Exchange) (response : Response) → RowsStand r t → t.exchange x ≡ Some w → w.is_open ≡ true → unless_over x (length_by (table_of r.exchanges x).running response) ≡ unless_ended x response w
+closes_as r t x w response stands row opened =
+    ap (λ (b : Bool). if b then [] else x ∷ []) (all_reached (promise_of (length_by (table_of r.exchanges x).running response)) 0 ∙ ap (λ (l : Length). is_reached (promise_of l) 0) (length_as r t x w response stands row opened))

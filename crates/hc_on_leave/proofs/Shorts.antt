@@ -1,0 +1,68 @@
+-- Lengths that are told are short enough for a store.
+use Rattle.std.proofs.Common.{◌≡◌, ℕ, ◌+◌, ◌<◌, ◌^◌, max, true, Option, Some, None, refl, ap, sym, ◌∙◌, subst, arith}
+use Rattle.std.proofs.lemmas.Bool.Decides.{nat_tests}
+use Rattle.std.specs.Prelude.{option_map, nat_eq, is_some, IfSome}
+use Rattle.std.specs.HashMap.{get}
+use Rattle.hc_store.specs.declared.backend.Backend.{Ghosts}
+use Rattle.hc_stored.specs.declared.view.EntryView.{EntryView}
+use Rattle.hc_stored.specs.Entries.{shelf_of}
+use Rattle.hc_stored.specs.Kept.{Kept}
+use Rattle.hc_stored.specs.Shelf.{Shelf}
+use Rattle.hc_stored.specs.Views.{view_of}
+use Rattle.hc_model.specs.Effects.{with_consumer, finished}
+use Rattle.hc_model.specs.Lawful.{Lawful}
+use Rattle.hc_model.specs.Rows as rows
+use Rattle.hc_model.specs.Rows.{Tables, Representation}
+use Rattle.hc_model.specs.Tables.{tables}
+use Rattle.hc_state.specs.declared.rows.Rows.{Rows}
+use Rattle.hc_state.specs.Facts.{Facts}
+use Rattle.hc_state.specs.Stands.{RowsStand, Stands}
+use Rattle.hc_state.specs.Stored.{KeepsEntry, TellsLength, told, untold, TellsShort}
+use Rattle.hc_state.proofs.LeftRows.{live_row}
+use Rattle.hc_state.proofs.Maps.{merely_below}
+use Rattle.hc_state.proofs.Words.{none_some, few_received}
+
+below_room : (n m : ℕ) → n < max (2 ^ 62) (m + 1) → m < 2 ^ 62 → n < 2 ^ 62
+below_room n m lt small = grind (arith, nat_tests)
+
+-- the length of what is kept is that of its row
+pub entry_short : (t : Tables) (q n : ℕ) (k : Kept) (o : Option Representation) → ((v : Representation) → o ≡ Some v → v.head.total ≡ Some n → n < 2 ^ 62) → KeepsEntry t q (Some k) o → k.head.total ≡ Some n → n < 2 ^ 62
+entry_short t q n k None rows kept known = absurd kept
+entry_short t q n k (Some v) rows kept known = by_length kept.length
+  where
+    by_length : TellsLength k v → n < 2 ^ 62
+    by_length (told same) = rows v refl (sym same ∙ known)
+    by_length (untold u) = none_some n (sym u.untold ∙ known)
+
+-- where they stand for tables with the representations of a run
+pub shorts : {B : Type 0} {g : Ghosts B} (r u : Rows B g) (t s : Tables) → Facts r.limits t → RowsStand r t → r.received < 2 ^ 61 → s.representation ≡ t.representation → RowsStand u s → TellsShort (shelf_of u.entries)
+shorts r u t s facts before small same stands q n k at known =
+    entry_short s q n k (s.representation q) (λ v row is. below_room n t.received (facts.numbers.totals q n v (sym (ap (λ f. f q) same) ∙ row) is) (few_received before.received small))
+    (subst (λ o. KeepsEntry s q o (s.representation q)) at (stands.entries.each q)) known
+
+-- before an event
+pub shorts_here : {B : Type 0} {g : Ghosts B} (r : Rows B g) → ∥ Stands r ∥₁ → r.received < 2 ^ 61 → TellsShort (shelf_of r.entries)
+shorts_here r some small q n k at known = merely_below n (2 ^ 62) some (λ s.
+    let t : Tables = s.t in
+    shorts r r t t s.facts s.rows small refl s.rows q n k at known)
+
+-- once a consumer is gone
+pub shorts_left : {B : Type 0} {g : Ghosts B} (r u : Rows B g) (c : ℕ) → ∥ Stands r ∥₁ → is_some (get nat_eq r.consumers c) ≡ true → r.received < 2 ^ 61
+    → ((t : Tables) (k : rows.Consumer) → Lawful t → t.consumer c ≡ Some k → RowsStand r t → RowsStand u (with_consumer c (Some (finished k)) t)) → TellsShort (shelf_of u.entries)
+shorts_left r u c some lives small leaves q n k at known = merely_below n (2 ^ 62) some (λ s.
+    let t : Tables = s.t in
+    let facts = s.facts in
+    let v = live_row r t c lives s.rows in
+    shorts r u t (with_consumer c (Some (finished v.0)) t) facts s.rows small refl (leaves t v.0 facts.law v.1 s.rows) q n k at known)
+
+-- what is told of what is kept
+pub view_short : (s : Shelf) (q : ℕ) (o : Option EntryView) (entry : EntryView) → TellsShort s → o ≡ option_map view_of (s.kept q) → o ≡ Some entry → IfSome entry.total (λ n. n < 2 ^ 62)
+view_short s q o entry short is some = by_total entry.total refl
+  where
+    by_kept : (n : ℕ) (z : Option Kept) → s.kept q ≡ z → option_map view_of z ≡ Some entry → entry.total ≡ Some n → n < 2 ^ 62
+    by_kept n None at view known = none_some entry view
+    by_kept n (Some k) at view known = short q n k at (let same : view_of k ≡ entry = cc in ap (λ (e : EntryView). e.total) same ∙ known)
+
+    by_total : (z : Option ℕ) → entry.total ≡ z → IfSome z (λ n. n < 2 ^ 62)
+    by_total None known = tt
+    by_total (Some n) known = by_kept n (s.kept q) refl (sym is ∙ some) known

@@ -1,0 +1,173 @@
+-- Who writes what is stored alone, by what is kept, is who does by the tables.
+use Rattle.std.proofs.Common.{◌≡◌, ◌⊎◌, inl, inr, ℕ, ◌+◌, ◌<◌, ◌≤◌, ◌^◌, Bool, true, false, max, Option, Some, None, refl, ap, sym, ◌∙◌, subst, arith}
+use Rattle.std.proofs.lemmas.Bool.Decides.{nat_tests}
+use Rattle.std.specs.Prelude.{is_some, nat_eq, not, ◌&&◌, ◌↔◌, IsTrue}
+use Rattle.std.specs.Option.{option_and_then}
+use Rattle.std.specs.HashMap.{get}
+use Rattle.hc_store.specs.declared.backend.Backend.{Ghosts}
+use Rattle.hc_sparse.specs.Cells.{Covers}
+use Rattle.hc_stored.specs.Entries.{shelf_of}
+use Rattle.hc_stored.specs.Kept.{Kept}
+use Rattle.hc_stored.specs.Shelf.{cells_at, cells_in, is_kept}
+use Rattle.hc_exch.specs.Exchanges.{table_of}
+use Rattle.hc_event.specs.declared.place.Place.{Place}
+use Rattle.hc_event.specs.declared.place.Place.TheVariants as place
+use Rattle.hc_event.specs.declared.place.BoundBy.{BoundBy}
+use Rattle.hc_model.specs.Currents.{is_number}
+use Rattle.hc_model.specs.Reading.{own_open, if_open, is_written, is_bound_place, offset, lo_of}
+use Rattle.hc_model.specs.Rows as rows
+use Rattle.hc_model.specs.Rows.{Tables, Representation}
+use Rattle.hc_model.specs.Sound as sound
+use Rattle.hc_model.specs.Sound.{IsFirst, IsBound}
+use Rattle.hc_model.specs.Writers.{exclusive, has_more, lacks_some, came_alone}
+use Rattle.hc_laws.proofs.Exclusives.{exclusive_parts}
+use Rattle.hc_state.specs.declared.consumer.Consumer.{Consumer}
+use Rattle.hc_state.specs.declared.rows.Rows.{Rows}
+use Rattle.hc_state.specs.Facts.{Facts}
+use Rattle.hc_state.specs.Kept.{IsKept, KeepsConsumer}
+use Rattle.hc_state.specs.Leaving.{if_running, writing_of}
+use Rattle.hc_state.specs.Stands.{RowsStand}
+use Rattle.hc_state.specs.Stored.{IsEntry, is_first}
+use Rattle.hc_state.proofs.CurrentTies.{stored_ends, covers_as, kept_entry}
+use Rattle.hc_state.proofs.LeftRows.{running_as, writing_as}
+use Rattle.hc_state.proofs.Words.{eqb-same, false_true, some_is, few_received}
+
+-- HAS MORE
+
+module _ {B : Type 0} {g : Ghosts B} (r : Rows B g) (t : Tables) (stands : RowsStand r t) (k : Consumer) (v : rows.Consumer) (kept : IsKept t k v) (p : Representation) where
+  own_as : if_running (table_of r.exchanges) k.own ≡ own_open t v
+  own_as = running_as r t stands k.own ∙ ap (option_and_then (if_open t)) kept.own
+
+  offset_as : k.lo + k.given ≡ offset t v
+  offset_as = ap (λ (n : ℕ). n + k.given) kept.begins ∙ ap (λ (n : ℕ). lo_of t v.place + n) kept.given
+
+  -- an exchange of its own is open
+  pub more_own : is_some (if_running (table_of r.exchanges) k.own) ≡ true → true ≡ has_more t p v
+  more_own on = rw (sym (ap (λ (o : Option ℕ). is_some o) own_as) ∙ on) refl
+
+  -- none is, and its end isn't known
+  pub more_none : is_some (if_running (table_of r.exchanges) k.own) ≡ false → k.hi ≡ None → false ≡ has_more t p v
+  more_none off none = rw (sym (ap (λ (o : Option ℕ). is_some o) own_as) ∙ off, sym kept.ends ∙ none) refl
+
+  pub more_ahead : (law : Facts r.limits t) (q : ℕ) → t.representation q ≡ Some p → p.is_lost ≡ false → is_kept (shelf_of r.entries) q ≡ true → is_some (if_running (table_of r.exchanges) k.own) ≡ false → (hi : ℕ) → k.hi ≡ Some hi
+      → (b : Bool) → (IsTrue b ↔ Covers (cells_at (shelf_of r.entries) q) (k.lo + k.given) hi) → not b ≡ has_more t p v
+  more_ahead facts q here stays there off hi at b tells =
+      let entry = kept_entry r t stands q p here there in
+      let covered = covers_as t q entry.0 p entry.2 (stored_ends t facts.law q p here stays) b (k.lo + k.given) hi (subst (λ (o : Option Kept). IsTrue b ↔ Covers (λ n. cells_in o n) (k.lo + k.given) hi) entry.1 tells) in
+      ap not covered ∙ (ap (λ (n : ℕ). lacks_some p n (Some hi)) offset_as ∙ rw (sym (ap (λ (o : Option ℕ). is_some o) own_as) ∙ off, sym kept.ends ∙ at) refl)
+
+-- THE EXCLUSIVE WRITER
+
+module _ {B : Type 0} {g : Ghosts B} (r : Rows B g) (t : Tables) (facts : Facts r.limits t) (stands : RowsStand r t) (q : ℕ) (p : Representation) (here : t.representation q ≡ Some p) where
+  none_by : (o : Option ℕ) → exclusive t q p ≡ o → ((c : ℕ) → exclusive t q p ≡ Some c → ⊥) → None ≡ exclusive t q p
+  none_by None at off = sym at
+  none_by (Some c) at off = absurd (off c at)
+
+  -- nobody writes alone what is written for several
+  pub exclusive_written : is_some (writing_of (table_of r.exchanges) ((shelf_of r.entries).kept q)) ≡ true → None ≡ exclusive t q p
+  exclusive_written on = none_by (exclusive t q p) refl (λ c at. (
+      let parts = exclusive_parts t q c p at in
+      let off : writing_of (table_of r.exchanges) ((shelf_of r.entries).kept q) ≡ None = writing_as r t stands facts.law q ∙ rw (here, parts.unwritten) refl in
+      (let never : false ≡ true = rw off at on in cc)))
+
+  written_off : is_some (writing_of (table_of r.exchanges) ((shelf_of r.entries).kept q)) ≡ false → is_written t p ≡ false
+  unfolding is_written
+  written_off off = by_test (is_written t p) refl
+    where
+      by_writer : (o : Option ℕ) → p.writer ≡ o → is_written t p ≡ true → is_some p.writer ≡ true
+      by_writer None none on = (let never : (not p.is_lost && false) ≡ true = rw none at on in false_true (and_none (not p.is_lost) never))
+        where
+          and_none : (b : Bool) → (b && false) ≡ true → false ≡ true
+          and_none true on = on
+          and_none false on = on
+      by_writer (Some x) some on = rw some refl
+
+      by_test : (b : Bool) → is_written t p ≡ b → b ≡ false
+      by_test false is = refl
+      by_test true is =
+          let same : writing_of (table_of r.exchanges) ((shelf_of r.entries).kept q) ≡ p.writer = writing_as r t stands facts.law q ∙ rw (here, is) refl in
+          false_true (sym off ∙ (ap (λ (o : Option ℕ). is_some o) same ∙ by_writer p.writer refl is))
+
+  module _ (e : Kept) (is : IsEntry t q e p) where
+    first_on : (c : ℕ) → IsFirst t q c → is_number e.first c ≡ true
+    first_on c (sound.first k lo hi by row at came) = is.first c ∙ rw (row, at) (both (nat_eq q q) (eqb-same q) came)
+      where
+        both : {x : Bool} (b : Bool) → b ≡ true → x ≡ true → (b && x) ≡ true
+        both true on also = also
+        both false on also = false_true on
+
+    first_is : (c : ℕ) → e.first ≡ Some c → is_first t q (t.consumer c) ≡ true
+    first_is c at = sym (is.first c) ∙ (ap (λ (o : Option ℕ). is_number o c) at ∙ eqb-same c)
+
+    -- nobody came alone
+    pub exclusive_none : e.first ≡ None → None ≡ exclusive t q p
+    exclusive_none none = none_by (exclusive t q p) refl (λ c at. (let on = first_on c (exclusive_parts t q c p at).first in let never : false ≡ true = rw none at on in cc))
+
+    -- who came alone is there
+    pub record IsAlone (c : ℕ) : Type 0 where
+      pub v : rows.Consumer
+      pub row : t.consumer c ≡ Some v
+      pub lo : ℕ
+      pub hi : Option ℕ
+      pub by : BoundBy
+      pub at : v.place ≡ place.Bound q lo hi by
+      pub came : came_alone t (place.Bound q lo hi by) ≡ true
+
+    alone_there : (c : ℕ) (o : Option rows.Consumer) → t.consumer c ≡ o → is_first t q o ≡ true → IsAlone c
+    alone_there c None row on = false_true on
+    alone_there c (Some v) row on = by_place v.place refl (and_parts (is_bound_place q v.place) (came_alone t v.place) on)
+      where
+        and_parts : (a b : Bool) → (a && b) ≡ true → (a ≡ true) × (b ≡ true)
+        and_parts true b on = (refl, on)
+        and_parts false b on = false_true on
+
+        same_number : (a : ℕ) → nat_eq a q ≡ true → a ≡ q
+        same_number a on = grind (arith, nat_tests, on)
+
+        by_place : (z : Place) → v.place ≡ z → (is_bound_place q v.place ≡ true) × (came_alone t v.place ≡ true) → IsAlone c
+        by_place (place.Bound a lo hi by) at both =
+            let one : a ≡ q = same_number a (sym (ap (is_bound_place q) at) ∙ both.0) in
+            let here_at : v.place ≡ place.Bound q lo hi by = at ∙ ap (λ (n : ℕ). place.Bound n lo hi by) one in
+            record { v = v; row = row; lo = lo; hi = hi; by = by; at = here_at; came = sym (ap (came_alone t) here_at) ∙ both.1 }
+        by_place place.Line at both = false_true (sym (ap (is_bound_place q) at) ∙ both.0)
+        by_place (place.Passed a how) at both = false_true (sym (ap (is_bound_place q) at) ∙ both.0)
+        by_place (place.Turn x) at both = false_true (sym (ap (is_bound_place q) at) ∙ both.0)
+        by_place (place.Direct x) at both = false_true (sym (ap (is_bound_place q) at) ∙ both.0)
+        by_place (place.Down why) at both = false_true (sym (ap (is_bound_place q) at) ∙ both.0)
+        by_place place.Over at both = false_true (sym (ap (is_bound_place q) at) ∙ both.0)
+
+    pub alone_row : (c : ℕ) → e.first ≡ Some c → IsAlone c
+    alone_row c at = alone_there c (t.consumer c) refl (first_is c at)
+
+    is_the_first : (c : ℕ) (a : IsAlone c) → IsFirst t q c
+    is_the_first c a = sound.first a.v a.lo a.hi a.by a.row a.at a.came
+
+    -- who came alone, has nothing due and more to come, writes alone
+    pub exclusive_some : (c : ℕ) (a : IsAlone c) → p.is_lost ≡ false → is_some (writing_of (table_of r.exchanges) ((shelf_of r.entries).kept q)) ≡ false → a.v.due ≡ None → has_more t p a.v ≡ true → Some c ≡ exclusive t q p
+    exclusive_some c a stays off undue more = sym ((facts.law.alone.writes q c p a.v here stays (written_off off) (is_the_first c a) a.row undue).1 more)
+
+    -- else nobody does
+    pub exclusive_off : (c : ℕ) (a : IsAlone c) → ((a.v.due ≡ None) × (has_more t p a.v ≡ true) → ⊥) → None ≡ exclusive t q p
+    exclusive_off c a off = none_by (exclusive t q p) refl (λ d at. (
+        let parts = exclusive_parts t q d p at in
+        let one : d ≡ c = facts.law.sound.writes.one_first q d c parts.first (is_the_first c a) in
+        let same : parts.k ≡ a.v = by_reader d parts.k parts.reader one in
+        off (ap (λ (z : rows.Consumer). z.due) (sym same) ∙ parts.none_due, ap (has_more t p) (sym same) ∙ parts.more)))
+      where
+        by_reader : (d : ℕ) (j : rows.Consumer) → IsBound t q d j → d ≡ c → j ≡ a.v
+        by_reader d j (sound.is_bound lo hi by row at) one = some_is j a.v (sym row ∙ (ap t.consumer one ∙ a.row))
+
+    -- where it stands is in range
+    pub alone_below : (c : ℕ) (a : IsAlone c) (k : Consumer) → get nat_eq r.consumers c ≡ Some k → r.received < 2 ^ 61 → k.lo + k.given < 2 ^ 63
+    alone_below c a k there small =
+        let kept : IsKept t k a.v = subst (KeepsConsumer t (Some k)) a.row (subst (λ o. KeepsConsumer t o (t.consumer c)) there (stands.consumers c)) in
+        let begins : k.lo ≡ a.lo = kept.begins ∙ ap (lo_of t) a.at in
+        let given = kept.given in
+        let starts : a.lo ≤ max (2 ^ 62) t.received = facts.numbers.starts c q a.lo a.hi a.by a.v a.row a.at in
+        let reaches : p.reach ≤ max (2 ^ 62) t.received = facts.numbers.reaches q p here in
+        let few : t.received < 2 ^ 62 = few_received stands.received small in
+        below k.lo k.given a.lo a.v.given p.reach t.received begins given starts reaches few (facts.law.given.reaches c q a.lo a.hi a.by a.v p a.row a.at here)
+      where
+        below : (lo given from n reach received : ℕ) → lo ≡ from → given ≡ n → from ≤ max (2 ^ 62) received → reach ≤ max (2 ^ 62) received → received < 2 ^ 62 → (n ≡ 0) ⊎ (from + n ≤ reach) → lo + given < 2 ^ 63
+        below lo given from n reach received a b c d e (inl none) = omega arith
+        below lo given from n reach received a b c d e (inr le) = omega arith

@@ -1,0 +1,75 @@
+//! A consumer is gone.
+ghost use Rattle.std.specs.Prelude.{◌≡◌, true, Some, is_some, nat_eq, IsSomeAnd};
+ghost use Rattle.std.specs.HashMap.{get};
+ghost use Rattle.hc_stored.specs.Entries.{shelf_of};
+ghost use Rattle.hc_exch.specs.Exchanges.{next_of};
+ghost use Rattle.hc_model.specs.Effects.{with_consumer, finished};
+ghost use Rattle.hc_model.specs.Lawful.{Lawful};
+ghost use Rattle.hc_model.specs.Rows.{Tables, Consumer};
+ghost use Rattle.hc_state.specs.Leaving.{LeavesKey, Forgets, IsUserAt, UnbindsAt, LeavesPlace};
+ghost use Rattle.hc_state.specs.Stands.{RowsStand, Stands};
+
+use hc_stored::Entries;
+use hc_entry::KeyTable;
+use hc_event::Place;
+use hc_exch::Exchanges;
+use hc_state::Rows;
+use hc_store::Backend;
+use hc_text::Key;
+
+/// A consumer is gone.
+pub(crate) fn remove_consumer<B: Backend>(rows: &mut Rows<B>, c: u64)
+    requires stands { ∥ Stands rows.old ∥₁ }
+    requires live { is_some (get nat_eq rows.old.consumers c) ≡ true }
+    ensures stands { (t : Tables) (k : Consumer) → Lawful t → t.consumer c ≡ Some k
+        → RowsStand rows.old t → RowsStand rows.new (with_consumer c (Some (finished k)) t) }
+    ensures limits { rows.new.limits ≡ rows.old.limits }
+    ensures received { rows.new.received ≡ rows.old.received }
+    ensures faults { (shelf_of rows.new.entries).faults ≡ (shelf_of rows.old.entries).faults }
+{
+    leave_place(rows, c);
+    rows.consumers.remove(&c);
+}
+
+/// A consumer leaves where it stands: it waits for nothing and is bound to nothing, and what is
+/// held of its own exchange is forgotten.
+pub fn leave_place<B: Backend>(rows: &mut Rows<B>, c: u64)
+    requires stands { ∥ Stands rows.old ∥₁ }
+    requires live { is_some (get nat_eq rows.old.consumers c) ≡ true }
+    ensures place { IsSomeAnd (get nat_eq rows.old.consumers c) (LeavesPlace rows.old rows.new c) }
+    ensures faults { (shelf_of rows.new.entries).faults ≡ (shelf_of rows.old.entries).faults }
+{
+    let consumer = rows.consumers.get(&c).unwrap();
+    leave_key(&mut rows.keys, &consumer.request.key, c);
+    forget_own(&mut rows.exchanges, consumer.own);
+    unbind_from(&mut rows.entries, consumer.place, c);
+}
+
+/// A consumer waits for the key no more, if it did.
+pub fn leave_key(keys: &mut KeyTable, key: &Key, c: u64)
+    ensures { LeavesKey c key.now keys.old keys.new }
+{
+    if keys.is_in(key, c) {
+        keys.leave(key, c);
+    }
+}
+
+/// What is held of its own exchange, if it has one, isn't wanted any more.
+fn forget_own(exchanges: &mut Exchanges, own: Option<u64>)
+    ensures { Forgets own exchanges.old exchanges.new }
+{
+    if let Some(x) = own {
+        exchanges.forget(x);
+    }
+}
+
+/// It isn't bound any more, if it was.
+pub fn unbind_from<B: Backend>(entries: &mut Entries<B>, place: Place, c: u64)
+    requires { IsUserAt place c (shelf_of entries.old) }
+    ensures unbound { UnbindsAt place c (shelf_of entries.old) (shelf_of entries.new) }
+    ensures faults { (shelf_of entries.new).faults ≡ (shelf_of entries.old).faults }
+{
+    if let Place::Bound { r, .. } = place {
+        entries.unbind(r, c);
+    }
+}

@@ -1,0 +1,189 @@
+//! Who is cancelled, ends or fails, and who leaves the line.
+ghost use Rattle.std.specs.Prelude.{◌≡◌, ◌≤◌, ◌<◌, ◌^◌, ℕ, nat_eq, true, is_some, IsSomeAnd, Some, None, ◌==◌, if◌then◌else◌};
+ghost use Rattle.std.specs.HashMap.{get};
+ghost use Rattle.hc_event.specs.Acts.{listed, spare};
+ghost use Rattle.hc_event.specs.declared.event.Event.TheVariants.{Cancel, Poll};
+ghost use Rattle.hc_stored.specs.Entries.{shelf_of};
+ghost use Rattle.hc_exch.specs.Exchanges.{table_of};
+ghost use Rattle.hc_exch.specs.Known.{is_open};
+ghost use Rattle.hc_model.specs.Moves.{Ends, Fails};
+ghost use Rattle.hc_state.specs.Stands.{Answers, AnswersMove, Stands, RowsStand};
+ghost use Rattle.hc_state.specs.Arms.{IsDown, IsQueued, LeavesLine};
+ghost use Rattle.std.specs.List.{list_all};
+ghost use Rattle.hc_stored.specs.Views.{bound_in};
+ghost use Rattle.hc_model.specs.Currents.{is_number};
+ghost use Rattle.hc_model.specs.Effects.{with_consumer, finished, left_by};
+ghost use Rattle.hc_model.specs.Rows.{Tables, Consumer};
+ghost use Rattle.hc_state.specs.Facts.{Facts};
+ghost use Rattle.hc_state.specs.Leaving.{if_running, last_read, left_of};
+ghost use Rattle.hc_state.specs.Left.{HasLeft};
+ghost use Rattle.hc_state.specs.Stored.{TellsShort};
+
+use crate::acts::put;
+use crate::gone::remove_consumer;
+use crate::seal::stop_bringing;
+use crate::writing::{if_running, writing};
+use hc_event::{Act, Acts, Cause, Place};
+use hc_state::Rows;
+use hc_store::Backend;
+
+/// A consumer is cancelled, and leaves.
+pub fn cancel<B: Backend>(rows: &mut Rows<B>, now: u64, c: u64, out: &mut Acts)
+    requires stands { ∥ Stands rows.old ∥₁ }
+    requires live { is_some (get nat_eq rows.old.consumers c) ≡ true }
+    requires small { rows.old.received < 2 ^ 61 }
+    requires room { 2 ≤ spare out.old }
+    ensures answers { Answers rows.old rows.new (listed out.old) (listed out.new) now (Cancel c) }
+    ensures received { rows.new.received ≡ rows.old.received }
+    ensures limits { rows.new.limits ≡ rows.old.limits }
+    ensures faults { (shelf_of rows.old.entries).faults ≤ (shelf_of rows.new.entries).faults }
+{
+    leave(rows, now, c, out);
+}
+
+/// A consumer is told its failure, and leaves.
+pub fn fail<B: Backend>(rows: &mut Rows<B>, now: u64, c: u64, cause: Cause, out: &mut Acts)
+    requires stands { ∥ Stands rows.old ∥₁ }
+    requires live { is_some (get nat_eq rows.old.consumers c) ≡ true }
+    requires small { rows.old.received < 2 ^ 61 }
+    requires room { 3 ≤ spare out.old }
+    ensures answers { (want : ℕ) → AnswersMove rows.old rows.new
+        (listed out.old) (listed out.new) now c want (Fails cause) }
+    ensures received { rows.new.received ≡ rows.old.received }
+    ensures limits { rows.new.limits ≡ rows.old.limits }
+    ensures faults { (shelf_of rows.old.entries).faults ≤ (shelf_of rows.new.entries).faults }
+{
+    put(out, Act::Failed { c, cause });
+    leave(rows, now, c, out);
+}
+
+/// A consumer is told that it was given all that it reads, and leaves.
+pub fn end_reading<B: Backend>(rows: &mut Rows<B>, now: u64, c: u64, out: &mut Acts)
+    requires stands { ∥ Stands rows.old ∥₁ }
+    requires live { is_some (get nat_eq rows.old.consumers c) ≡ true }
+    requires small { rows.old.received < 2 ^ 61 }
+    requires room { 3 ≤ spare out.old }
+    ensures answers { (want : ℕ) → AnswersMove rows.old rows.new
+        (listed out.old) (listed out.new) now c want Ends }
+    ensures received { rows.new.received ≡ rows.old.received }
+    ensures limits { rows.new.limits ≡ rows.old.limits }
+    ensures faults { (shelf_of rows.old.entries).faults ≤ (shelf_of rows.new.entries).faults }
+{
+    put(out, Act::Ended { c });
+    leave(rows, now, c, out);
+}
+
+/// A consumer that is down is told its failure, and leaves.
+pub fn fail_down<B: Backend>(rows: &mut Rows<B>, now: u64, c: u64, cause: Cause, out: &mut Acts)
+    requires stands { ∥ Stands rows.old ∥₁ }
+    requires down { IsSomeAnd (get nat_eq rows.old.consumers c) (IsDown cause) }
+    requires small { rows.old.received < 2 ^ 61 }
+    requires room { 3 ≤ spare out.old }
+    ensures answers { (want : ℕ)
+        → Answers rows.old rows.new (listed out.old) (listed out.new) now (Poll c want) }
+    ensures received { rows.new.received ≡ rows.old.received }
+    ensures limits { rows.new.limits ≡ rows.old.limits }
+    ensures faults { (shelf_of rows.old.entries).faults ≤ (shelf_of rows.new.entries).faults }
+{
+    fail(rows, now, c, cause, out);
+}
+
+/// A consumer that waits with others leaves the line of its key.
+pub fn leave_line<B: Backend>(rows: &mut Rows<B>, c: u64)
+    requires { IsSomeAnd (get nat_eq rows.old.consumers c) (IsQueued rows.old.keys c) }
+    ensures { LeavesLine rows.old rows.new c }
+{
+    let consumer = rows.consumers.get(&c).unwrap();
+    if consumer.queues() {
+        rows.keys.leave(&consumer.request.key, c);
+    }
+}
+
+/// A consumer leaves: what only it read is closed, and sealed or let go.
+fn leave<B: Backend>(rows: &mut Rows<B>, now: u64, c: u64, out: &mut Acts)
+    requires stands { ∥ Stands rows.old ∥₁ }
+    requires live { is_some (get nat_eq rows.old.consumers c) ≡ true }
+    requires small { rows.old.received < 2 ^ 61 }
+    requires room { 2 ≤ spare out.old }
+    ensures left { (t : Tables) (k : Consumer) → Facts rows.old.limits t
+        → RowsStand rows.old t → t.consumer c ≡ Some k
+        → HasLeft (shelf_of rows.old.entries).faults rows.new t
+        (listed out.old) (listed out.new) now c k }
+    ensures received { rows.new.received ≡ rows.old.received }
+    ensures limits { rows.new.limits ≡ rows.old.limits }
+    ensures faults { (shelf_of rows.old.entries).faults ≤ (shelf_of rows.new.entries).faults }
+{
+    match left_by(rows, c) {
+        None => remove_consumer(rows, c),
+        Some(x) => {
+            let alone = if_own(rows, c, x);
+            remove_consumer(rows, c);
+            close_left(rows, now, x, alone, out);
+        }
+    }
+}
+
+/// The exchange that nobody reads any more once the consumer leaves: its own, or that of the
+/// shared writing of which it is the last reader.
+pub(crate) fn left_by<B: Backend>(rows: &Rows<B>, c: u64) -> Option<u64>
+    requires { is_some (get nat_eq rows.now.consumers c) ≡ true }
+    ensures { IsSomeAnd (get nat_eq rows.now.consumers c) (λ k. result ≡ left_of rows.now c k) }
+{
+    let consumer = rows.consumers.get(&c).unwrap();
+    let own = if_running(rows, consumer.own);
+    if own.is_some() {
+        return own;
+    }
+    last_read(rows, c, consumer.place)
+}
+
+/// The exchange of the shared writing that the consumer reads as the last one.
+fn last_read<B: Backend>(rows: &Rows<B>, c: u64, place: Place) -> Option<u64>
+    ensures { result ≡ last_read (table_of rows.now.exchanges) (shelf_of rows.now.entries) c place }
+{
+    match place {
+        Place::Bound { r, .. } if is_last(rows, r, c) => writing(rows, r),
+        _ => None,
+    }
+}
+
+/// Nobody else is bound to the representation.
+fn is_last<B: Backend>(rows: &Rows<B>, r: u64, c: u64) -> bool
+    ensures { result ≡ list_all (λ d. d == c) (bound_in ((shelf_of rows.now.entries).kept r)) }
+{
+    rows.entries.bound(r).iter().all(|d| *d == c)
+}
+
+/// The consumer, where the exchange is its own.
+fn if_own<B: Backend>(rows: &Rows<B>, c: u64, x: u64) -> Option<u64>
+    requires { is_some (get nat_eq rows.now.consumers c) ≡ true }
+    ensures { IsSomeAnd (get nat_eq rows.now.consumers c)
+        (λ k. result ≡ (if is_number k.own x then Some c else None)) }
+{
+    let consumer = rows.consumers.get(&c).unwrap();
+    if consumer.own == Some(x) {
+        Some(c)
+    } else {
+        None
+    }
+}
+
+/// What the consumer left is closed.
+fn close_left<B: Backend>(rows: &mut Rows<B>, now: u64, x: u64, alone: Option<u64>, out: &mut Acts)
+    requires running { is_open x (table_of rows.old.exchanges) ≡ true }
+    requires small { rows.old.received < 2 ^ 61 }
+    requires short { TellsShort (shelf_of rows.old.entries) }
+    requires room { 2 ≤ spare out.old }
+    ensures left { (t : Tables) (c : ℕ) (k : Consumer) → Facts rows.old.limits t
+        → t.consumer c ≡ Some k → left_by t c k ≡ Some x
+        → alone ≡ (if is_number k.own x then Some c else None)
+        → RowsStand rows.old (with_consumer c (Some (finished k)) t)
+        → HasLeft (shelf_of rows.old.entries).faults rows.new t
+        (listed out.old) (listed out.new) now c k }
+    ensures received { rows.new.received ≡ rows.old.received }
+    ensures limits { rows.new.limits ≡ rows.old.limits }
+    ensures faults { (shelf_of rows.old.entries).faults ≤ (shelf_of rows.new.entries).faults }
+{
+    put(out, Act::Close { x });
+    stop_bringing(rows, now, x, alone, out);
+}

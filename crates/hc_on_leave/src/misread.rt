@@ -1,0 +1,70 @@
+//! What can't be read.
+ghost use Rattle.std.specs.Prelude.{◌≡◌, ◌≢◌, ◌≤◌, true, is_some, nat_eq, OnOk, OnErr};
+ghost use Rattle.std.specs.HashMap.{get};
+ghost use Rattle.hc_event.specs.Acts.{listed, spare};
+ghost use Rattle.hc_stored.specs.Entries.{shelf_of};
+ghost use Rattle.hc_store.specs.declared.error.StoreError.TheVariants as errors;
+ghost use Rattle.hc_state.specs.Reads.{AnswersMisread};
+ghost use Rattle.hc_state.specs.Stands.{Stands};
+
+use crate::acts::put;
+use crate::close::close;
+use crate::evict::let_go;
+use crate::gone::remove_consumer;
+use crate::leave::left_by;
+use hc_event::{Act, Acts, Cause};
+use hc_state::Rows;
+use hc_store::{Backend, StoreError};
+use hc_text::NoMemory;
+
+/// A read of what the consumer is bound to, or of what is current for it, failed: that is want of
+/// memory, or the store failed.
+pub fn misread_by<B: Backend>(
+    rows: &mut Rows<B>,
+    now: u64,
+    c: u64,
+    r: u64,
+    error: StoreError,
+    out: &mut Acts,
+) -> Result<(), NoMemory>
+    requires stands { ∥ Stands rows.old ∥₁ }
+    requires live { is_some (get nat_eq rows.old.consumers c) ≡ true }
+    requires room { 2 ≤ spare out.old }
+    ensures failed { OnOk result (error ≢ errors.NoMemory) }
+    ensures memory { OnErr result (error ≡ errors.NoMemory) }
+    ensures answers { OnOk result (AnswersMisread rows.old rows.new
+        (listed out.old) (listed out.new) now c r) }
+    ensures received { OnOk result (rows.new.received ≡ rows.old.received) }
+    ensures limits { OnOk result (rows.new.limits ≡ rows.old.limits) }
+    ensures faults { (shelf_of rows.new.entries).faults ≡ (shelf_of rows.old.entries).faults }
+    ensures kept { OnErr result (listed out.new ≡ listed out.old) }
+{
+    match error {
+        StoreError::NoMemory => Err(NoMemory),
+        _ => {
+            misread(rows, now, c, r, out);
+            Ok(())
+        }
+    }
+}
+
+/// What the consumer is bound to, or is current for it, can't be read: it is told so and leaves,
+/// what nobody reads any more is closed, and nobody new is bound to that.
+pub(crate) fn misread<B: Backend>(rows: &mut Rows<B>, now: u64, c: u64, r: u64, out: &mut Acts)
+    requires stands { ∥ Stands rows.old ∥₁ }
+    requires live { is_some (get nat_eq rows.old.consumers c) ≡ true }
+    requires room { 2 ≤ spare out.old }
+    ensures answers { AnswersMisread rows.old rows.new (listed out.old) (listed out.new) now c r }
+    ensures received { rows.new.received ≡ rows.old.received }
+    ensures limits { rows.new.limits ≡ rows.old.limits }
+    ensures faults { (shelf_of rows.new.entries).faults ≡ (shelf_of rows.old.entries).faults }
+{
+    let cause = Cause::StoreRead(r);
+    put(out, Act::Failed { c, cause });
+    let left = left_by(rows, c);
+    remove_consumer(rows, c);
+    let_go(rows, now, r);
+    if let Some(x) = left {
+        close(rows, x, out);
+    }
+}

@@ -1,0 +1,46 @@
+//! Who writes what is stored alone.
+ghost use Rattle.std.specs.Prelude.{◌≡◌, ◌+◌, ◌<◌, ◌^◌, true};
+ghost use Rattle.hc_stored.specs.Entries.{shelf_of};
+ghost use Rattle.hc_stored.specs.Shelf.{is_kept};
+ghost use Rattle.hc_state.specs.Candidates.{ExclusiveIs, HasMoreIs};
+ghost use Rattle.hc_state.specs.Stands.{Stands};
+
+use crate::writing::{if_running, writing};
+use hc_state::{Consumer, Rows};
+use hc_store::Backend;
+
+/// Who writes the representation alone: it came alone, has no failure due, and more to come.
+pub fn exclusive<B: Backend>(rows: &Rows<B>, r: u64) -> Option<u64>
+    requires stands { ∥ Stands rows.now ∥₁ }
+    requires small { rows.now.received < 2 ^ 61 }
+    ensures { ExclusiveIs rows.now r result }
+{
+    if writing(rows, r).is_some() {
+        return None;
+    }
+    let c = rows.entries.entry(r)?.first?;
+    let consumer = rows.consumers.get(&c)?;
+    if consumer.due.is_some() {
+        return None;
+    }
+    if has_more(rows, r, consumer) {
+        Some(c)
+    } else {
+        None
+    }
+}
+
+/// Whether the consumer has more to come: an exchange of its own, or a hole ahead.
+fn has_more<B: Backend>(rows: &Rows<B>, r: u64, consumer: &Consumer) -> bool
+    requires there { is_kept (shelf_of rows.now.entries) r ≡ true }
+    requires counts { consumer.now.lo + consumer.now.given < 2 ^ 63 }
+    ensures { HasMoreIs rows.now r consumer.now result }
+{
+    if if_running(rows, consumer.own).is_some() {
+        return true;
+    }
+    match consumer.hi {
+        Some(hi) => !rows.entries.covers(r, consumer.offset(), hi),
+        None => false,
+    }
+}

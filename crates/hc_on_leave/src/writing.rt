@@ -1,0 +1,28 @@
+//! The exchange that writes a representation for several.
+ghost use Rattle.std.specs.Prelude.{◌≡◌, ◌<◌, Some, None};
+ghost use Rattle.hc_stored.specs.Entries.{shelf_of};
+ghost use Rattle.hc_exch.specs.Exchanges.{table_of};
+ghost use Rattle.hc_state.specs.Leaving.{if_running, writing_of};
+
+use hc_state::Rows;
+use hc_store::Backend;
+
+/// The exchange of the shared writing of a representation, as long as that is on.
+pub fn writing<B: Backend>(rows: &Rows<B>, r: u64) -> Option<u64>
+    ensures { result ≡ writing_of (table_of rows.now.exchanges)
+        ((shelf_of rows.now.entries).kept r) }
+{
+    let entry = rows.entries.entry(r)?;
+    if entry.is_lost {
+        return None;
+    }
+    if_running(rows, entry.writer)
+}
+
+/// The exchange, if there is one and it is open.
+pub fn if_running<B: Backend>(rows: &Rows<B>, x: Option<u64>) -> Option<u64>
+    ensures { result ≡ if_running (table_of rows.now.exchanges) x }
+{
+    let view = rows.exchanges.view(x?)?;
+    Some(view.x)
+}

@@ -1,0 +1,68 @@
+-- What an event says that isn't denied.
+use Rattle.std.proofs.Common.{◌≡◌, ℕ, ◌<◌, List, length, Bool, true, false, Option, Some, None, refl, ap, sym, ◌∙◌, arith}
+use Rattle.std.proofs.lemmas.Bool.Decides.{nat_tests}
+use Rattle.std.specs.Prelude.{nat_le, nat_lt, ◌==◌, if◌then◌else◌, not}
+use Rattle.hc_event.specs.declared.event.Event.TheVariants as event
+use Rattle.hc_event.specs.declared.event.Request.{Request}
+use Rattle.hc_event.specs.declared.event.Response.{Response}
+use Rattle.hc_event.specs.declared.act.Refusal.{Refusal}
+use Rattle.hc_rules.specs.declared.refusal.Gate.{Gate}
+use Rattle.hc_rules.specs.declared.request.RequestClass.{RequestClass}
+use Rattle.hc_rules.specs.Requests.{class_of, is_disabled, is_only}
+use Rattle.hc_rules.specs.Refusals.{refusal_of, head_refusal, piece_refusal, end_refusal, fault_refusal}
+use Rattle.hc_state.proofs.Words.{none_some}
+
+first_off : (b : Bool) (r : Refusal) (rest : Option Refusal) → (if b then Some r else rest) ≡ None → b ≡ false
+first_off false r rest is = refl
+first_off true r rest is = none_some r (sym is)
+
+rest_off : (b : Bool) (r : Refusal) (rest : Option Refusal) → (if b then Some r else rest) ≡ None → rest ≡ None
+rest_off false r rest is = is
+rest_off true r rest is = none_some r (sym is)
+
+not_off : (b : Bool) → not b ≡ false → b ≡ true
+not_off true is = refl
+not_off false is = sym is
+
+pub start_rises : (g : Gate) (c : ℕ) (request : Request) → refusal_of g (event.Start c request) ≡ None → g.last_start < c
+unfolding refusal_of
+start_rises g c request none = let off = first_off (nat_le c g.last_start) _ _ none in grind (arith, nat_tests, off)
+
+pub poll_lives : (g : Gate) (c want : ℕ) → refusal_of g (event.Poll c want) ≡ None → g.is_live ≡ true
+unfolding refusal_of
+poll_lives g c want none = not_off g.is_live (first_off (not g.is_live) _ _ (rest_off (nat_lt g.last_start c) _ _ none))
+
+pub poll_wants : (g : Gate) (c want : ℕ) → refusal_of g (event.Poll c want) ≡ None → 0 < want
+unfolding refusal_of
+poll_wants g c want none =
+    let off : (want == 0) ≡ false = first_off (want == 0) _ _ (rest_off (not g.is_live) _ _ (rest_off (nat_lt g.last_start c) _ _ none)) in
+    grind (arith, nat_tests, off)
+
+pub cancel_lives : (g : Gate) (c : ℕ) → refusal_of g (event.Cancel c) ≡ None → g.is_live ≡ true
+unfolding refusal_of
+cancel_lives g c none = not_off g.is_live (first_off (not g.is_live) _ _ (rest_off (nat_lt g.last_start c) _ _ none))
+
+pub head_free : (g : Gate) (x : ℕ) (response : Response) → refusal_of g (event.Head x response) ≡ None → head_refusal g.exchange ≡ None
+unfolding refusal_of
+head_free g x response none = none
+
+pub piece_free : (g : Gate) (x : ℕ) (bytes : List ℕ) → refusal_of g (event.Piece x bytes) ≡ None → piece_refusal g.exchange (length bytes) ≡ None
+unfolding refusal_of
+piece_free g x bytes none = none
+
+pub end_free : (g : Gate) (x : ℕ) → refusal_of g (event.End x) ≡ None → end_refusal g.exchange ≡ None
+unfolding refusal_of
+end_free g x none = none
+
+pub fault_free : (g : Gate) (x : ℕ) → refusal_of g (event.Fault x) ≡ None → fault_refusal g.exchange ≡ None
+unfolding refusal_of
+fault_free g x none = none
+
+not_only : (b : Bool) → not b ≡ true → b ≡ false
+not_only false plain = refl
+not_only true plain = sym plain
+
+-- a start that is built
+pub past_by_class : (request : Request) (class : RequestClass) → class ≡ class_of request → class.disabled ≡ true → not class.only ≡ true → (is_disabled request ≡ true) × (is_only request ≡ false)
+unfolding class_of
+past_by_class request class is disabled plain = (sym (ap (λ (z : RequestClass). z.disabled) is) ∙ disabled, sym (ap (λ (z : RequestClass). z.only) is) ∙ not_only class.only plain)

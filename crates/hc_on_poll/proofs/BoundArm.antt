@@ -1,0 +1,198 @@
+-- A consumer that read nothing becomes bound to what is current: what is held, and the representations, stand for the tables then.
+use Rattle.std.proofs.Common.{◌≡◌, ◌≢◌, inl, inr, ℕ, List, [], ◌∷◌, Bool, true, false, Option, Some, None, refl, ap, sym, ◌∙◌, subst}
+use Rattle.std.specs.Prelude.{filter, not, option_map, ◌==◌, ◌&&◌}
+use Rattle.hc_sorted.specs.Sorted.{has, with_item, without}
+use Rattle.hc_sorted.proofs.SortedLemmas.{has-with}
+use Rattle.hc_stored.specs.Kept.{Kept, itself, with_user, with_first}
+use Rattle.hc_stored.specs.Shelf.{Shelf, Becomes, moved_first}
+use Rattle.hc_event.specs.declared.place.Place.{Place}
+use Rattle.hc_event.specs.declared.place.Place.TheVariants as place
+use Rattle.hc_event.specs.declared.place.BoundBy.{BoundBy}
+use Rattle.hc_event.specs.declared.place.BoundBy.TheVariants as by
+use Rattle.hc_model.specs.Currents.{is_number}
+use Rattle.hc_model.specs.Exchanges.{family}
+use Rattle.hc_model.specs.Kinds.{kind_of}
+use Rattle.hc_model.specs.Lawful.{Lawful}
+use Rattle.hc_model.specs.Reading.{reads, is_bound, is_bound_place}
+use Rattle.hc_model.specs.Rows as rows
+use Rattle.hc_model.specs.Rows.{Tables, Exchange, Representation}
+use Rattle.hc_model.specs.Writers.{came_alone}
+use Rattle.hc_state.specs.Kept.{held_for, held_of, held_alone, unread, unstored}
+use Rattle.hc_state.specs.Stored.{IsEntry, KeepsEntry, KeepsEntries, TellsLength, is_first, is_usable_row}
+use Rattle.hc_state.specs.Stored as stored
+use Rattle.hc_state.proofs.Asides.{unread_aside, unstored_aside, unstored_moved}
+use Rattle.hc_state.proofs.AsideSteps.{first_aside}
+use Rattle.hc_state.proofs.CurrentTies.{stays_stored, total_told}
+use Rattle.hc_state.proofs.OneOfEach.{first_row, bound_same}
+use Rattle.hc_state.proofs.Ties.{entry_same, OversStay, writer_then}
+use Rattle.hc_state.proofs.Words.{same_or, eqb-same, eqb-other, and_false, then_false, false_true, none_some, same_row}
+
+-- LISTS
+
+filters_swap : (f g : ℕ → Bool) (xs : List ℕ) → filter f (filter g xs) ≡ filter g (filter f xs)
+filters_swap f g [] = refl
+filters_swap f g (x ∷ xs) = by_tests (f x) (g x) refl refl (filters_swap f g xs)
+  where
+    by_tests : (a b : Bool) → f x ≡ a → g x ≡ b → filter f (filter g xs) ≡ filter g (filter f xs) → filter f (filter g (x ∷ xs)) ≡ filter g (filter f (x ∷ xs))
+    by_tests true true a b rest = rw (a, b, a) (ap (λ (ys : List ℕ). x ∷ ys) rest)
+    by_tests true false a b rest = rw (a, b) rest
+    by_tests false true a b rest = rw (a, b, a) rest
+    by_tests false false a b rest = rw (a, b) rest
+
+module _ (t s : Tables) (law : Lawful t) (c q lo : ℕ) (hi : Option ℕ) (how : BoundBy) (v w : rows.Consumer) (p : Representation) (row : t.consumer c ≡ Some v) (here : s.consumer c ≡ Some w) (others : (d : ℕ) → d ≢ c → s.consumer d ≡ t.consumer d)
+    (idle : reads v.place ≡ false) (at : w.place ≡ place.Bound q lo hi how) (same : (n : ℕ) → s.representation n ≡ t.representation n) (starts : s.starts ≡ t.starts) (used : s.used ≡ q ∷ filter (λ n. not (n == q)) t.used)
+    (there : t.representation q ≡ Some p) (stays : p.is_gone ≡ false) (kinds : (n : ℕ) (b : Representation) → t.representation n ≡ Some b → kind_of s n b ≡ kind_of t n b) where
+  -- WHAT IS HELD
+
+  alone_none : p.alone ≡ None
+  alone_none = (law.sound.rows q p there).store.nobody_alone (stays_stored t law q p there stays)
+
+  bound_at : (n : ℕ) → is_bound_place n w.place ≡ (q == n)
+  bound_at n = ap (is_bound_place n) at
+
+  unstored_here : (y : ℕ) (e : Exchange) (b : Representation) → t.representation (family y e) ≡ Some b → b.alone ≡ Some c → unstored s y e b (Some w) ≡ []
+  unstored_here y e b of_y alone = elim (same_or q (family y e)) [
+    | inl one ↦ none_some c (sym alone_none ∙ (ap (λ (z : Representation). z.alone) (same_row (t.representation q) p b there (ap t.representation one ∙ of_y)) ∙ alone))
+    | inr ne ↦ (let off : (is_bound_place (family y e) w.place && is_number w.own y) ≡ false = and_false (is_bound_place (family y e) w.place) (is_number w.own y) (bound_at (family y e) ∙ eqb-other q (family y e) ne) in rw off refl)
+  ]
+
+  unread_here : (y : ℕ) (e : Exchange) → unread y e (Some w) ≡ []
+  unread_here y e = rw at refl
+
+  pub held_bound : (y : ℕ) (e : Exchange) → held_for s y (Some e) ≡ held_for t y (Some e)
+  held_bound y e = ap (held_of s y e) (same (family y e)) ∙ by_row (t.representation (family y e)) refl
+    where
+      by_alone : (b : Representation) (o : Option ℕ) → t.representation (family y e) ≡ Some b → b.alone ≡ o → held_alone s y e b o ≡ held_alone t y e b o
+      by_alone b None of_y is = refl
+      by_alone b (Some d) of_y is = elim (same_or c d) [
+        | inl one ↦ rw (← one, here, row) (unstored_here y e b of_y (is ∙ ap Some (sym one)) ∙ sym (unstored_aside t y e b (Some v) (ap not idle)))
+        | inr ne ↦ ap (unstored s y e b) (others d (λ is. ne (sym is))) ∙ unstored_moved t s y e b (t.consumer d)
+      ]
+
+      by_row : (o : Option Representation) → t.representation (family y e) ≡ o → held_of s y e o ≡ held_of t y e o
+      by_row None of_y = elim (same_or c e.c) [
+        | inl one ↦ rw (← one, here, row) (unread_here y e ∙ sym (unread_aside y e (Some v) (ap not idle)))
+        | inr ne ↦ ap (unread y e) (others e.c (λ is. ne (sym is)))
+      ]
+      by_row (Some b) of_y = by_alone b b.alone of_y refl
+
+  -- WHO IS BOUND
+
+  idle_unbound : (n : ℕ) → is_bound n (Some v) ≡ false
+  idle_unbound n = by_place v.place refl
+    where
+      by_place : (z : Place) → v.place ≡ z → is_bound n (Some v) ≡ false
+      by_place (place.Bound a l h b) is = false_true (sym idle ∙ ap reads is)
+      by_place place.Line is = rw is refl
+      by_place (place.Passed a kept) is = rw is refl
+      by_place (place.Turn x) is = rw is refl
+      by_place (place.Direct x) is = rw is refl
+      by_place (place.Down why) is = rw is refl
+      by_place place.Over is = rw is refl
+
+  users_other : (n : ℕ) → n ≢ q → (d : ℕ) → is_bound n (s.consumer d) ≡ is_bound n (t.consumer d)
+  users_other n ne d = elim (same_or c d) [
+    | inl one ↦ rw (← one, here, row) (bound_at n ∙ (eqb-other q n (λ is. ne (sym is)) ∙ sym (idle_unbound n)))
+    | inr off ↦ ap (is_bound n) (others d (λ is. off (sym is)))
+  ]
+
+  first_other : (n : ℕ) → n ≢ q → (d : ℕ) → is_first s n (s.consumer d) ≡ is_first t n (t.consumer d)
+  first_other n ne d = elim (same_or c d) [
+    | inl one ↦ rw (← one, here, row) (and_false (is_bound_place n w.place) (came_alone s w.place) (bound_at n ∙ eqb-other q n (λ is. ne (sym is))) ∙ sym (first_aside t n (Some v) (ap not idle)))
+    | inr off ↦ ap (is_first s n) (others d (λ is. off (sym is))) ∙ first_row t s same n (t.consumer d)
+  ]
+
+  entry_other : OversStay t.exchange s.exchange → (n : ℕ) → n ≢ q → (k : Option Kept) → KeepsEntry t n k (t.representation n) → KeepsEntry s n k (s.representation n)
+  entry_other overs n ne k kept = subst (KeepsEntry s n k) (sym (same n))
+      (entry_same t s n k (t.representation n) refl (record { users = users_other n ne; first = first_other n ne; list = bound_same t s n starts (users_other n ne); kind = kinds n; overs = overs }) kept)
+
+  module _ (e : Kept) (is : IsEntry t q e p) where
+    with_it : (d : ℕ) → has itself d (with_item itself c e.bound) ≡ is_bound q (s.consumer d)
+    with_it d = has-with itself d c e.bound ∙ elim (same_or c d) [
+      | inl one ↦ rw (← one, here, eqb-same c) (sym (bound_at q ∙ eqb-same q))
+      | inr ne ↦ rw (eqb-other c d ne) (is.bound d ∙ sym (ap (is_bound q) (others d (λ z. ne (sym z)))))
+    ]
+
+    first_else : (d : ℕ) → d ≢ c → is_number e.first d ≡ is_first s q (s.consumer d)
+    first_else d ne = is.first d ∙ sym (ap (is_first s q) (others d ne) ∙ first_row t s same q (t.consumer d))
+
+    not_first : is_number e.first c ≡ false
+    not_first = is.first c ∙ (ap (is_first t q) row ∙ first_aside t q (Some v) (ap not idle))
+
+    -- one more is bound, by its plan
+    pub entry_with : OversStay t.exchange s.exchange → how ≡ by.Plan → IsEntry s q (with_user c e) p
+    entry_with overs plan = record {
+      used = λ gone. false_true (sym stays ∙ gone);
+      key = is.key;
+      head = is.head;
+      length = stored.told (total_told t q e p is stays);
+      kind = λ off. is.kind off ∙ sym (kinds q p there);
+      whole = is.whole;
+      cells = is.cells;
+      reach = is.reach;
+      bound = with_it;
+      first = λ d. elim (same_or c d) [
+        | inl one ↦ rw (← one, here) (not_first ∙ sym (then_false (is_bound_place q w.place) (came_alone s w.place) (ap (came_alone s) at ∙ rw plan refl)))
+        | inr ne ↦ first_else d (λ z. ne (sym z))
+      ];
+      writer = writer_then overs is.writer;
+      is_lost = is.is_lost;
+      alone = is.alone;
+      is_gone = is.is_gone;
+    }
+
+    -- or as the only one, where nobody came alone
+    pub entry_first : OversStay t.exchange s.exchange → (x : ℕ) → how ≡ by.FirstHole x → e.first ≡ None → IsEntry s q (with_first c e) p
+    entry_first overs x first none = record {
+      used = λ gone. false_true (sym stays ∙ gone);
+      key = is.key;
+      head = is.head;
+      length = stored.told (total_told t q e p is stays);
+      kind = λ off. is.kind off ∙ sym (kinds q p there);
+      whole = is.whole;
+      cells = is.cells;
+      reach = is.reach;
+      bound = with_it;
+      first = λ d. elim (same_or c d) [
+        | inl one ↦ rw (← one, here, eqb-same c) (sym (both (is_bound_place q w.place) (bound_at q ∙ eqb-same q) (ap (came_alone s) at ∙ rw first refl)))
+        | inr ne ↦ rw (eqb-other c d ne) (ap (λ (o : Option ℕ). is_number o d) (sym none) ∙ first_else d (λ z. ne (sym z)))
+      ];
+      writer = writer_then overs is.writer;
+      is_lost = is.is_lost;
+      alone = is.alone;
+      is_gone = is.is_gone;
+    }
+      where
+        both : {x : Bool} (b : Bool) → b ≡ true → x ≡ true → (b && x) ≡ true
+        both true on also = also
+        both false on also = false_true on
+
+  -- ALL REPRESENTATIONS
+
+  pub entries_bound : OversStay t.exchange s.exchange → (a b : Shelf) (f : Kept → Kept) (e : Kept) → KeepsEntries t a → a.kept q ≡ Some e → IsEntry s q (f e) p → Becomes (option_map f) (moved_first q) q a b → KeepsEntries s b
+  entries_bound overs a b f e kept at_q is becomes = record {
+    each = λ n. elim (same_or q n) [
+      | inl one ↦ subst (λ (m : ℕ). KeepsEntry s m (b.kept m) (s.representation m)) one (subst (λ (o : Option Kept). KeepsEntry s q o (s.representation q)) (sym changed) (subst (KeepsEntry s q (Some (f e))) (sym (same q ∙ there)) is))
+      | inr ne ↦ subst (λ (o : Option Kept). KeepsEntry s n o (s.representation n)) (sym (stayed n ne)) (entry_other overs n (λ z. ne (sym z)) (a.kept n) (kept.each n))
+    ];
+    order = becomes.order ∙ (ap (λ (ns : List ℕ). q ∷ without itself q ns) kept.order ∙ sym (ap (filter usable_s) used ∙ (rw (usable_q) (ap (λ (ns : List ℕ). q ∷ ns) (filters_as (filter (λ n. not (n == q)) t.used) ∙ filters_swap usable_t (λ n. not (n == q)) t.used)))));
+  }
+    where
+      changed : b.kept q ≡ Some (f e)
+      changed = becomes.kept q ∙ rw (eqb-same q) (ap (option_map f) at_q)
+
+      stayed : (n : ℕ) → q ≢ n → b.kept n ≡ a.kept n
+      stayed n ne = becomes.kept n ∙ rw (eqb-other q n ne) refl
+
+      usable_s : ℕ → Bool
+      usable_s n = is_usable_row (s.representation n)
+
+      usable_t : ℕ → Bool
+      usable_t n = is_usable_row (t.representation n)
+
+      usable_q : is_usable_row (s.representation q) ≡ true
+      usable_q = ap is_usable_row (same q ∙ there) ∙ ap not stays
+
+      filters_as : (ns : List ℕ) → filter (λ n. is_usable_row (s.representation n)) ns ≡ filter (λ n. is_usable_row (t.representation n)) ns
+      filters_as [] = refl
+      filters_as (n ∷ ns) = rw (same n, filters_as ns) refl

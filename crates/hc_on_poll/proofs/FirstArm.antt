@@ -1,0 +1,263 @@
+-- A consumer that reads nothing is bound to what is current as the only one, and opens an exchange for a first hole: what is kept stands for the tables then.
+use Rattle.std.proofs.Common.{◌≡◌, ◌≢◌, inl, inr, ℕ, ◌+◌, List, [], ◌++◌, Bool, true, false, Option, Some, None, refl, ap, sym, ◌∙◌, subst, arith}
+use Rattle.std.specs.Prelude.{bytes_eq, nat_eq, is_none, not, option_map, ◌&&◌}
+use Rattle.std.specs.HashMap.{get}
+use Rattle.hc_store.specs.declared.backend.Backend.{Ghosts}
+use Rattle.hc_event.specs.declared.act.Act.{Act}
+use Rattle.hc_event.specs.declared.act.Need.{Need}
+use Rattle.hc_event.specs.declared.act.Need.TheVariants as need
+use Rattle.hc_event.specs.declared.event.Event.TheVariants as event
+use Rattle.hc_event.specs.declared.event.Request.{Request}
+use Rattle.hc_range.specs.declared.range.Asked.{Asked}
+use Rattle.hc_range.specs.declared.range.Span.{Span}
+use Rattle.hc_sorted.specs.Sorted.{has}
+use Rattle.hc_rules.specs.declared.need.Route.TheVariants as route
+use Rattle.hc_rules.specs.declared.request.RequestClass.{RequestClass}
+use Rattle.hc_rules.specs.declared.request.Wanted.TheVariants as wanted
+use Rattle.hc_rules.specs.declared.room.Limits.{Limits}
+use Rattle.hc_rules.specs.Needs.{route_of}
+use Rattle.hc_rules.specs.Requests.{range_of, wanted_of}
+use Rattle.hc_rules.proofs.RangeReads.{bytes_eq-same}
+use Rattle.hc_entry.specs.declared.keys.KeyTable.{KeyTable}
+use Rattle.hc_entry.specs.Keys as keys
+use Rattle.hc_entry.specs.Keys.{kept_of}
+use Rattle.hc_entry.specs.Kept.{on_line}
+use Rattle.hc_entry.specs.Lines.{gone_away}
+use Rattle.hc_stored.specs.declared.entries.Entries.{Entries}
+use Rattle.hc_stored.specs.Entries.{shelf_of}
+use Rattle.hc_stored.specs.Kept.{Kept, itself, with_first}
+use Rattle.hc_stored.specs.Shelf.{moved_first}
+use Rattle.hc_stored.specs.Shelf as shelf
+use Rattle.hc_stored.specs.Views.{admits_first}
+use Rattle.hc_exch.specs.declared.exchanges.Exchanges.{Exchanges}
+use Rattle.hc_exch.specs.declared.role.Role.TheVariants as role
+use Rattle.hc_exch.specs.Exchanges.{table_of, next_of}
+use Rattle.hc_exch.specs.Known.{launched, opened, Changes}
+use Rattle.hc_event.specs.declared.place.Place.{Place}
+use Rattle.hc_event.specs.declared.place.Place.TheVariants as place
+use Rattle.hc_event.specs.declared.place.BoundBy.TheVariants as by
+use Rattle.hc_model.specs.Currents.{current, total_in}
+use Rattle.hc_model.specs.Denials.{is_live}
+use Rattle.hc_model.specs.Effects.{counted, used_last, with_consumer, with_opening, just_opened}
+use Rattle.hc_model.specs.Kinds.{kind_of}
+use Rattle.hc_model.specs.Lawful.{Lawful}
+use Rattle.hc_model.specs.Lines.{is_in_line}
+use Rattle.hc_model.specs.Moves.{Opens, acts_of}
+use Rattle.hc_model.specs.Polls.{move_of}
+use Rattle.hc_model.specs.Reading.{bound_to}
+use Rattle.hc_model.specs.Rows as rows
+use Rattle.hc_model.specs.Rows.{Tables, Exchange, Representation}
+use Rattle.hc_laws.proofs.HoleEffects.{fills_first}
+use Rattle.hc_state.specs.declared.consumer.Consumer.{Consumer}
+use Rattle.hc_state.specs.declared.rows.Rows.{Rows}
+use Rattle.hc_state.specs.Changes.{Numbered, ChangesAt, BecomesAt, bound_first}
+use Rattle.hc_state.specs.Kept.{IsKept, IsRunning, KeepsConsumer, KeepsExchange, KeepsRunning, answer_for, held_for}
+use Rattle.hc_state.specs.Lines.{KeepsKey, is_away}
+use Rattle.hc_state.specs.Plans.{is_idle_at, HasCurrent}
+use Rattle.hc_state.specs.Stands.{Answered, RowsStand}
+use Rattle.hc_state.proofs.Answering.{does_answered}
+use Rattle.hc_state.proofs.Asides.{answer_aside}
+use Rattle.hc_state.proofs.AsideSteps.{length_same, live_same}
+use Rattle.hc_on_poll.proofs.BoundArm.{held_bound, entry_first, entries_bound}
+use Rattle.hc_on_poll.proofs.CandidateTies.{range_of_class}
+use Rattle.hc_state.proofs.ConsumerSteps.{keys_with}
+use Rattle.hc_state.proofs.Counting.{stands_counted}
+use Rattle.hc_state.proofs.CurrentTies.{IsNow, now_kept}
+use Rattle.hc_state.proofs.KeySteps.{not_lined, says_elsewhere, away_key}
+use Rattle.hc_state.proofs.OneOfEach.{stands_then}
+use Rattle.hc_on_poll.proofs.OpenArm.{unread_yet}
+use Rattle.hc_on_poll.proofs.OpenKeys.{key_with_opening}
+use Rattle.hc_on_poll.proofs.OpenKinds.{kinds_opened}
+use Rattle.hc_on_poll.proofs.PassesArm.{current_as}
+use Rattle.hc_on_poll.proofs.PastArm.{idle_reads, idle_lives}
+use Rattle.hc_state.proofs.QueueArm.{becomes_by}
+use Rattle.hc_state.proofs.Ties.{key_same, overs_opened}
+use Rattle.hc_state.proofs.Words.{same_or, eqb-same, eqb-other, and_false, then_false, false_true}
+
+-- nobody came to it alone
+first_none : (c : ℕ) (o : Option Kept) (e : Kept) → o ≡ Some e → admits_first c o ≡ true → e.first ≡ None
+first_none c o e at on = by_parts (not e.is_gone) (not (has itself c e.bound)) e.first (sym (ap (admits_first c) at) ∙ on)
+  where
+    by_parts : (a b : Bool) (first : Option ℕ) → (a && b && is_none first) ≡ true → first ≡ None
+    by_parts true true None on = refl
+    by_parts true true (Some d) on = false_true on
+    by_parts true false first on = false_true on
+    by_parts false b first on = false_true on
+
+idle_unbound : (p : Place) → is_idle_at p ≡ true → bound_to p ≡ None
+idle_unbound place.Line on = refl
+idle_unbound (place.Passed q how) on = refl
+idle_unbound (place.Turn x) on = false_true on
+idle_unbound (place.Bound q lo hi by) on = false_true on
+idle_unbound (place.Direct x) on = false_true on
+idle_unbound (place.Down why) on = false_true on
+idle_unbound place.Over on = false_true on
+
+module _ {B : Type 0} {g : Ghosts B} (r : Rows B g) (e : Exchanges) (a : Entries B g) (b : KeyTable) (m : Numbered Consumer) (t : Tables) (law : Lawful t) (now c x q : ℕ) (span : Span) (n : Need) (request : Request) (k : Consumer) (v : rows.Consumer)
+    (stands : RowsStand r t) (there : get nat_eq r.consumers c ≡ Some k) (row : t.consumer c ≡ Some v) (idle : is_idle_at k.place ≡ true) (now_is : HasCurrent r.keys q k) (admits : admits_first c ((shelf_of r.entries).kept q) ≡ true) (by_hole : route_of n ≡ route.Hole) (x_is : x ≡ next_of r.exchanges)
+    (next : next_of e ≡ next_of r.exchanges + 1) (launches : Changes (launched c (role.Hole q) n request now) (next_of r.exchanges) (table_of r.exchanges) (table_of e)) (binds : shelf.Becomes (option_map (with_first c)) (moved_first q) q (shelf_of r.entries) (shelf_of a))
+    (goes : keys.Becomes (on_line (gone_away c)) k.request.key r.keys b) (changes : ChangesAt r.consumers m c (bound_first q span x)) where
+  abbrev u : Rows B g
+  u = record r { exchanges = e; entries = a; keys = b; consumers = m }
+
+  kept : IsKept t k v
+  kept = subst (KeepsConsumer t (Some k)) row (subst (λ o. KeepsConsumer t o (t.consumer c)) there (stands.consumers c))
+
+  v_idle : is_idle_at v.place ≡ true
+  v_idle = sym (ap is_idle_at kept.place) ∙ idle
+
+  abbrev its : List ℕ
+  its = v.request.key
+
+  abbrev w : rows.Consumer
+  w = record v { own = Some x; place = place.Bound q span.lo (Some span.hi) (by.FirstHole x) }
+
+  abbrev z : Exchange
+  z = just_opened now c n request (Some q)
+
+  abbrev o : Tables
+  o = with_opening x z t
+
+  abbrev s : Tables
+  s = used_last q (with_consumer c (Some w) o)
+
+  is_next : x ≡ t.opened + 1
+  is_next = x_is ∙ stands.next
+
+  at_q : current t its ≡ Some q
+  at_q = current_as r t k v q stands kept now_is
+
+  at : IsNow r t stands its q
+  at = now_kept r t stands its q at_q
+
+  free : t.exchange x ≡ None
+  free = law.sound.numbered.lists.new_exchanges x (omega (arith, is_next))
+
+  unfounded : t.representation x ≡ None
+  unfounded = law.sound.numbered.lists.new_representations x (omega (arith, is_next))
+
+  here : s.consumer c ≡ Some w
+  here = rw (eqb-same c) refl
+
+  others : (d : ℕ) → d ≢ c → s.consumer d ≡ t.consumer d
+  others d ne = rw (eqb-other c d (λ e. ne (sym e))) refl
+
+  opened_is : s.exchange x ≡ Some z
+  opened_is = rw (eqb-same x) refl
+
+  exchanges : (y : ℕ) → y ≢ x → s.exchange y ≡ t.exchange y
+  exchanges y ne = rw (eqb-other x y (λ e. ne (sym e))) refl
+
+  kinds : (d : ℕ) (p : Representation) → t.representation d ≡ Some p → kind_of s d p ≡ kind_of t d p
+  kinds = kinds_opened t s x z free unfounded opened_is exchanges refl refl
+
+  live_each : (d : ℕ) → is_live (s.consumer d) ≡ is_live (t.consumer d)
+  live_each d = elim (same_or c d) [
+    | inl one ↦ rw (← one, here, row) (sym (idle_lives v.place v_idle))
+    | inr off ↦ ap is_live (others d (λ e. off (sym e)))
+  ]
+
+  -- ITS ROW
+
+  unanswered : answer_for s w ≡ None
+  unanswered = by_shown v.shown refl
+    where
+      by_shown : (shown : Bool) → v.shown ≡ shown → answer_for s w ≡ None
+      by_shown true is = rw is refl
+      by_shown false is = rw is refl
+
+  kept_then : IsKept s (bound_first q span x k) w
+  kept_then = record {
+    is_there = refl;
+    request = kept.request;
+    class_is = kept.class_is;
+    since = kept.since;
+    place = refl;
+    own = refl;
+    shown = kept.shown;
+    answer = kept.answer ∙ (answer_aside t v (idle_reads v.place v_idle) ∙ sym unanswered);
+    begins = refl;
+    ends = refl;
+    given = kept.given;
+    due = kept.due;
+  }
+
+  becomes : BecomesAt r.consumers m c (Some (bound_first q span x k))
+  becomes = becomes_by r.consumers m c k (bound_first q span x) there changes
+
+  -- ITS EXCHANGE
+
+  runs : IsRunning s x (opened c (role.Hole q) n request now) z
+  runs = record {
+    is_open = refl;
+    c = refl;
+    need = refl;
+    request = refl;
+    moment = refl;
+    headed = refl;
+    asked = refl;
+    base_is = refl;
+    delivered = refl;
+    promised_is = refl;
+    role = rw by_hole refl;
+  }
+
+  -- nothing came of it yet
+  none_held : held_for s x (Some z) ≡ []
+  none_held = rw (unfounded, here) refl
+
+  known_then : KeepsExchange s x (launched c (role.Hole q) n request now (table_of r.exchanges x))
+  known_then = record {
+    running = subst (KeepsRunning s x (Some (opened c (role.Hole q) n request now))) (sym opened_is) runs;
+    held = sym (ap (held_for s x) opened_is ∙ none_held);
+  }
+
+  launches_at : Changes (launched c (role.Hole q) n request now) x (table_of r.exchanges) (table_of e)
+  launches_at = subst (λ (y : ℕ). Changes (launched c (role.Hole q) n request now) y (table_of r.exchanges) (table_of e)) (sym x_is) launches
+
+  known_is : table_of e x ≡ launched c (role.Hole q) n request now (table_of r.exchanges x)
+  known_is = launches_at x ∙ rw (eqb-same x) refl
+
+  -- ITS KEY
+
+  off_line : is_in_line its (Some w) ≡ false
+  off_line = not_lined its w refl
+
+  away_there : is_away o its (Some w) ≡ true
+  away_there = rw (bytes_eq-same its its refl, eqb-same x) refl
+
+  keys_then : (key : List ℕ) → KeepsKey s key (kept_of b key)
+  unfolding current
+  keys_then key =
+      key_same (with_consumer c (Some w) o) s key (kept_of b key) (record { current = refl; in_line = λ d. refl; passed = λ d. refl; away = λ d. refl; turn = λ d. refl })
+      (keys_with o c (Some w) (on_line (gone_away c)) its r.keys b (λ other. key_with_opening t law x z free other (kept_of r.keys other) (stands.keys other)) (subst (λ (y : List ℕ). keys.Becomes (on_line (gone_away c)) y r.keys b) (ap (λ (y : Request). y.key) kept.request) goes)
+      (away_key o c (Some w) its (kept_of r.keys its) off_line (then_false (bytes_eq its its) false refl) away_there (and_false (is_in_line its (Some w)) false off_line))
+      (λ other off. says_elsewhere o c v w other row refl off) key)
+
+  -- ALL OF IT
+
+  held_else : (y : ℕ) (f : Exchange) → held_for s y (Some f) ≡ held_for t y (Some f)
+  held_else = held_bound t s law c q span.lo (Some span.hi) (by.FirstHole x) v w at.p row here others (idle_reads v.place v_idle) refl (λ d. refl) refl refl at.row at.stays kinds
+
+  pub stands_filling : RowsStand u s
+  stands_filling =
+      let reads_none = idle_reads v.place v_idle in
+      stands_then r u t s c x (Some (bound_first q span x k)) stands refl stands.received stands.last_start
+      (let before = stands.next in omega (arith, next, before, is_next))
+      (length_same r u t c v (bound_first q span x k) stands row (idle_lives v.place v_idle) becomes ∙ (stands.count ∙ sym (live_same t s refl live_each)))
+      becomes (λ y ne. launches_at y ∙ rw (eqb-other x y (λ e. ne (sym e))) refl) others exchanges (λ d. refl) (subst (KeepsConsumer s (Some (bound_first q span x k))) (sym here) kept_then) (subst (KeepsExchange s x) (sym known_is) known_then) keys_then
+      (λ d j ne is place_is. unread_yet t law x d j free is place_is)
+      (λ y f ne is. held_else y f)
+      (binds.limits ∙ stands.limits)
+      (entries_bound t s law c q span.lo (Some span.hi) (by.FirstHole x) v w at.p row here others reads_none refl (λ d. refl) refl refl at.row at.stays kinds (overs_opened t.exchange s.exchange x free exchanges) (shelf_of r.entries) (shelf_of a) (with_first c) at.e stands.entries at.kept
+      (entry_first t s law c q span.lo (Some span.hi) (by.FirstHole x) v w at.p row here others reads_none refl (λ d. refl) refl refl at.row at.stays kinds at.e at.is (overs_opened t.exchange s.exchange x free exchanges) x refl (first_none c ((shelf_of r.entries).kept q) at.e at.kept admits)) binds)
+
+  pub filling_answered : (bounds : Limits) (faults want : ℕ) (before out : List Act) (from to : ℕ) → n ≡ need.Hole from to → (total : Option ℕ) → total ≡ total_in (t.representation q) → wanted_of k.class.range total ≡ wanted.Interval span
+      → move_of t now want c v ≡ Opens x n request → out ≡ before ++ acts_of c (Opens x n request) → Answered bounds faults u t before out now (event.Poll c want)
+  filling_answered bounds faults want before out from to hole total same_total wants is told =
+      let same : Opens x n request ≡ Opens x (need.Hole from to) request = ap (λ (y : Need). Opens x y request) hole in
+      let range : k.class.range ≡ range_of v.request = ap (λ (y : RequestClass). y.range) kept.class_is ∙ range_of_class v.request in
+      let wanted_is : wanted_of (range_of v.request) at.p.head.total ≡ wanted.Interval span =
+      ap (λ (y : Option Asked). wanted_of y at.p.head.total) (sym range) ∙ (ap (wanted_of k.class.range) (sym (same_total ∙ ap total_in at.row)) ∙ wants) in
+      does_answered bounds faults u t (counted now (event.Poll c want) s) before out (acts_of c (Opens x n request)) now (event.Poll c want)
+      (rw hole (fills_first bounds t law now c want v row x from to request (is ∙ same) (idle_unbound v.place v_idle) q at.p span at_q at.row wanted_is)) refl refl told (stands_counted u s now (event.Poll c want) refl stands_filling)

@@ -1,0 +1,346 @@
+-- Who is bound and reads on opens an exchange for the hole that it stands before: what is kept stands for the tables then.
+use Rattle.std.proofs.Common.{◌≡◌, ◌≢◌, ◌⊎◌, inl, inr, ℕ, ◌+◌, ◌-◌, ◌≤◌, ◌<◌, List, [], ◌++◌, drop, min, Bool, true, false, Option, Some, None, refl, ap, sym, ◌∙◌, subst, arith}
+use Rattle.std.proofs.Math.ListN.{drop_of_length-le}
+use Rattle.std.proofs.lemmas.Bool.Decides.{nat_tests}
+use Rattle.std.specs.Prelude.{is_some, nat_eq, bytes_eq, ◌&&◌, if◌then◌else◌}
+use Rattle.std.specs.HashMap.{get}
+use Rattle.hc_store.specs.declared.backend.Backend.{Ghosts}
+use Rattle.hc_event.specs.Filters.{Opening}
+use Rattle.hc_event.specs.declared.act.Act.{Act}
+use Rattle.hc_event.specs.declared.act.Need.{Need}
+use Rattle.hc_event.specs.declared.act.Need.TheVariants as need
+use Rattle.hc_event.specs.declared.event.Event.TheVariants as event
+use Rattle.hc_event.specs.declared.event.Request.{Request}
+use Rattle.hc_sparse.specs.Cells.{Covers}
+use Rattle.hc_sparse.proofs.StretchLemmas.{stretch-absent}
+use Rattle.hc_stored.specs.Entries.{shelf_of}
+use Rattle.hc_entry.specs.Keys.{kept_of}
+use Rattle.hc_exch.specs.declared.role.Role.TheVariants as role
+use Rattle.hc_exch.specs.Exchanges.{table_of, next_of}
+use Rattle.hc_exch.specs.Known.{launched, opened, Changes}
+use Rattle.hc_event.specs.declared.place.BoundBy.{BoundBy}
+use Rattle.hc_event.specs.declared.place.BoundBy.TheVariants as by
+use Rattle.hc_event.specs.declared.place.Place.{Place}
+use Rattle.hc_event.specs.declared.place.Place.TheVariants as place
+use Rattle.hc_model.specs.Currents.{current, is_number}
+use Rattle.hc_model.specs.Denials.{is_live}
+use Rattle.hc_model.specs.Effects.{with_consumer, with_opening, just_opened, counted}
+use Rattle.hc_model.specs.ExchangeRows.{aim_from}
+use Rattle.hc_model.specs.Exchanges.{base, front, family}
+use Rattle.hc_model.specs.Holes.{stretch_to}
+use Rattle.hc_model.specs.Lines.{is_in_line}
+use Rattle.hc_model.specs.Moves.{Opens, acts_of}
+use Rattle.hc_model.specs.Polls.{move_of}
+use Rattle.hc_model.specs.Reading.{bound, bound_to, hi_of, is_bound, is_bound_place, lo_of, offset}
+use Rattle.hc_model.specs.Rows as rows
+use Rattle.hc_model.specs.Rows.{Tables, Exchange, Representation}
+use Rattle.hc_model.specs.Sound.{IsBound}
+use Rattle.hc_model.specs.Sound as sound
+use Rattle.hc_model.specs.Steps.{held_of_lost}
+use Rattle.hc_laws.proofs.HoleEffects.{fills_later}
+use Rattle.hc_model.proofs.OpensFrom.{opens_hole}
+use Rattle.hc_model.proofs.Pens.{bound_some}
+use Rattle.hc_model.proofs.PollTree.{OpensHole}
+use Rattle.hc_model.proofs.PollTree as tree
+use Rattle.hc_model.proofs.Said.{IsOpening}
+use Rattle.hc_model.proofs.Said as said
+use Rattle.hc_state.specs.declared.consumer.Consumer.{Consumer}
+use Rattle.hc_state.specs.declared.rows.Rows.{Rows}
+use Rattle.hc_state.specs.Changes.{ChangesAt, BecomesAt, with_own}
+use Rattle.hc_state.specs.Facts.{Facts}
+use Rattle.hc_state.specs.Kept.{IsKept, KeepsConsumer, KeepsExchange, answer_at, KeepsRunning, first_lacking, held_for, held_of, held_alone, unread, unstored}
+use Rattle.hc_state.specs.Lines.{KeepsKey, has_turn, is_passed, is_away, is_away_at}
+use Rattle.hc_state.specs.Stands.{RowsStand, Answered}
+use Rattle.hc_state.specs.Stored.{KeepsEntries, is_first}
+use Rattle.hc_state.proofs.Answering.{does_answered}
+use Rattle.hc_state.proofs.AsideSteps.{length_same, live_same}
+use Rattle.hc_state.proofs.Asides.{unstored_moved}
+use Rattle.hc_on_poll.proofs.BoundViews.{both_true, unstored_own, absent_here, lost_run, unread_bound}
+use Rattle.hc_state.proofs.Counting.{stands_counted}
+use Rattle.hc_state.proofs.OneOfEach.{stands_then, bound_same, first_row}
+use Rattle.hc_on_poll.proofs.OpenArm.{unread_yet}
+use Rattle.hc_on_poll.proofs.OpenKinds.{kinds_opened}
+use Rattle.hc_state.proofs.QueueArm.{becomes_by}
+use Rattle.hc_on_poll.proofs.ShowStored.{IsBoundRow}
+use Rattle.hc_state.proofs.Ties.{entry_same, key_same, overs_opened}
+use Rattle.hc_state.proofs.Words.{same_or, eqb-same, eqb-other, none_some, false_true, some_is, same_row, as_received}
+
+-- where it stands before a hole
+record IsAtHole (t : Tables) (c q : ℕ) (v : rows.Consumer) (p : Representation) : Type 0 where
+  undue : v.due ≡ None
+  missing : p.stored (offset t v) ≡ None
+  n : ℕ
+  none_held : held_of_lost c (offset t v) n (Some p) ≡ None
+
+module _ {B : Type 0} {g : Ghosts B} (r u : Rows B g) (t : Tables) (facts : Facts r.limits t) (stands : RowsStand r t) (now want c q x from to : ℕ) (how : BoundBy) (k : Consumer) (rd : IsBoundRow t c q how k) (there : get nat_eq r.consumers c ≡ Some k) (shown : k.shown ≡ true) (request copied : Request)
+    (moves : move_of t now want c rd.v ≡ Opens (next_of r.exchanges) (need.Hole from to) request) (is_next : x ≡ next_of r.exchanges) (copies : copied ≡ request)
+    (limits : u.limits ≡ r.limits) (received : u.received ≡ r.received) (last : u.last_start ≡ r.last_start) (same_keys : u.keys ≡ r.keys) (same_entries : u.entries ≡ r.entries) (next : next_of u.exchanges ≡ next_of r.exchanges + 1)
+    (launches : Changes (launched c (role.Hole q) (need.Hole from to) copied now) (next_of r.exchanges) (table_of r.exchanges) (table_of u.exchanges)) (changes : ChangesAt r.consumers u.consumers c (with_own x)) where
+  abbrev v : rows.Consumer
+  v = rd.v
+
+  abbrev n : Need
+  n = need.Hole from to
+
+  abbrev w : rows.Consumer
+  w = record v { own = Some x }
+
+  abbrev z : Exchange
+  z = just_opened now c n request (Some q)
+
+  abbrev s : Tables
+  s = with_consumer c (Some w) (with_opening x z t)
+
+  x_is : x ≡ t.opened + 1
+  x_is = let same = stands.next in is_next ∙ same
+
+  free : t.exchange x ≡ None
+  free = facts.law.sound.numbered.lists.new_exchanges x (let above = x_is in omega (arith, above))
+
+  unfounded : t.representation x ≡ None
+  unfounded = facts.law.sound.numbered.lists.new_representations x (let above = x_is in omega (arith, above))
+
+  here : s.consumer c ≡ Some w
+  here = rw (eqb-same c) refl
+
+  others : (d : ℕ) → d ≢ c → s.consumer d ≡ t.consumer d
+  others d ne = rw (eqb-other c d (λ e. ne (sym e))) refl
+
+  opened_is : s.exchange x ≡ Some z
+  opened_is = rw (eqb-same x) refl
+
+  exchanges : (y : ℕ) → y ≢ x → s.exchange y ≡ t.exchange y
+  exchanges y ne = rw (eqb-other x y (λ e. ne (sym e))) refl
+
+  reader : IsBound t q c v
+  reader = sound.is_bound rd.lo rd.hi how rd.row rd.at
+
+  -- WHY IT OPENS ONE
+
+  abbrev opening : Opening
+  opening = record { x = next_of r.exchanges; c = c; need = n; request = request }
+
+  at_hole : IsAtHole t c q v rd.p
+  at_hole = by_reason (opens_hole t c v opening now want facts.law.sound rd.row (subst (IsOpening opening) (sym moves) said.opens) from to refl)
+    where
+      by_reason : OpensHole t c v from to → IsAtHole t c q v rd.p
+      by_reason (tree.first a b span hole current_is aims a_row nobody found lo_is hi_is) =
+          let one : q ≡ a = some_is q a (sym (ap (aim_from t v.request.key) rd.at) ∙ aims) in
+          absurd (bound_some t q c v facts.law.sound.numbered reader (ap (bound t) one ∙ nobody))
+      by_reason (tree.later a hi m b at none lo_is up) =
+          let one : b ≡ rd.p = same_p a b at.is_reader at.row in
+          record {
+            undue = at.none_due;
+            missing = ap (λ (y : Representation). y.stored (offset t v)) (sym one) ∙ at.missing;
+            n = m;
+            none_held = ap (λ (y : Representation). held_of_lost c (offset t v) m (Some y)) (sym one) ∙ none;
+          }
+        where
+          same_p : (a : ℕ) (b : Representation) → IsBound t a c v → t.representation a ≡ Some b → b ≡ rd.p
+          same_p a b (sound.is_bound lo hi by_it row at) a_row =
+              let one : a ≡ q = some_is a q (sym (ap bound_to at) ∙ ap bound_to rd.at) in
+              same_row (t.representation q) b rd.p (sym (ap t.representation one) ∙ a_row) rd.there
+
+  -- nothing is held for it
+  nothing : (y : ℕ) (e : Exchange) (b : Representation) → t.exchange y ≡ Some e → t.representation (family y e) ≡ Some b → b.alone ≡ Some c → unstored t y e b (Some v) ≡ []
+  nothing y e b y_row founded alone = by_test (is_bound_place (family y e) v.place && is_number v.own y) refl
+    where
+      is_it : (o : Option ℕ) → is_number o y ≡ true → o ≡ Some y
+      is_it None on = false_true on
+      is_it (Some a) on = let same : a ≡ y = grind (arith, nat_tests) in ap Some same
+
+      lost_of : (p : Representation) → t.representation q ≡ Some p → p.alone ≡ Some c → p.is_lost ≡ true
+      lost_of p row is = by_lost p.is_lost refl
+        where
+          by_lost : (d : Bool) → p.is_lost ≡ d → d ≡ true
+          by_lost true on = refl
+          by_lost false off = none_some c (sym ((facts.law.sound.rows q p row).store.nobody_alone off) ∙ is)
+
+      by_alone : rd.p.alone ≡ Some c → family y e ≡ q → v.own ≡ Some y → drop (first_lacking t e rd.p v - base e) e.body ≡ []
+      by_alone is of_q own =
+          let a = facts.law.sound.alone q c rd.p v rd.there is reader at_hole.undue in
+          let number : a.x ≡ y = some_is a.x y (sym a.own ∙ own) in
+          let one : a.w ≡ e = same_row (t.exchange y) a.w e (sym (ap t.exchange number) ∙ a.row) y_row in
+          let lost = lost_of rd.p rd.there is in
+          let mine : is_number rd.p.alone c ≡ true = ap (λ (o : Option ℕ). is_number o c) is ∙ eqb-same c in
+          let none : stretch_to rd.p.body rd.p.reach (offset t v) at_hole.n ≡ None = sym (lost_run c (offset t v) at_hole.n rd.p lost mine) ∙ at_hole.none_held in
+          let absent : rd.p.body (offset t v) ≡ None = (stretch-absent rd.p.body (offset t v) (min at_hole.n (rd.p.reach - offset t v))).0 none in
+          let past : front e ≤ offset t v = by_front e (subst (λ (f : Exchange). Covers rd.p.body (offset t v) (front f)) one a.covered) absent in
+          let first : first_lacking t e rd.p v ≡ offset t v = absent_here rd.p.stored rd.p.reach (offset t v) (front e) at_hole.missing in
+          drop_of_length-le e.body (omega (arith, past, first))
+        where
+          by_front : (e : Exchange) → Covers rd.p.body (offset t v) (front e) → rd.p.body (offset t v) ≡ None → front e ≤ offset t v
+          by_front e covered absent = elim (le_or (front e) (offset t v)) [
+            | inl le ↦ le
+            | inr lt ↦ false_true (sym (ap (λ o. is_some o) absent) ∙ covered (offset t v) (omega arith) lt)
+          ]
+            where
+              le_or : (a b : ℕ) → (a ≤ b) ⊎ (b < a)
+              le_or a b = grind (arith, nat_tests)
+
+      by_test : (d : Bool) → (is_bound_place (family y e) v.place && is_number v.own y) ≡ d → unstored t y e b (Some v) ≡ []
+      by_test false off = rw off refl
+      by_test true on =
+          let parts = both_true (is_bound_place (family y e) v.place) (is_number v.own y) on in
+          let same : is_bound_place (family y e) (place.Bound q rd.lo rd.hi how) ≡ true = sym (ap (is_bound_place (family y e)) rd.at) ∙ parts.0 in
+          let of_q : q ≡ family y e = grind (arith, nat_tests, same) in
+          let own : v.own ≡ Some y = is_it v.own parts.1 in
+          let one : rd.p ≡ b = same_row (t.representation (family y e)) rd.p b (sym (ap t.representation of_q) ∙ rd.there) founded in
+          let alone_p : rd.p.alone ≡ Some c = ap (λ (a : Representation). a.alone) one ∙ alone in
+          ap (λ (a : Representation). unstored t y e a (Some v)) (sym one) ∙ (unstored_own t y e rd.p v q rd.lo rd.hi how rd.at own (sym of_q) ∙ by_alone alone_p (sym of_q) own)
+
+  -- WHAT IS HELD
+
+  unstored_then : (y : ℕ) (e : Exchange) (b : Representation) → y ≢ x → unstored s y e b (Some w) ≡ []
+  unstored_then y e b ne =
+      let off : (is_bound_place (family y e) v.place && is_number (Some x) y) ≡ false = by_other (is_bound_place (family y e) v.place) (nat_eq x y) (eqb-other x y (λ e. ne (sym e))) in
+      rw off refl
+    where
+      by_other : (a b : Bool) → b ≡ false → (a && b) ≡ false
+      by_other true b off = off
+      by_other false b off = refl
+
+  unread_same : (y d : ℕ) (e : Exchange) → unread y e (s.consumer d) ≡ unread y e (t.consumer d)
+  unread_same y d e = elim (same_or c d) [
+    | inl is ↦ rw (← is, here, rd.row) refl
+    | inr off ↦ ap (unread y e) (others d (λ is. off (sym is)))
+  ]
+
+  held_else : (y : ℕ) (e : Exchange) → y ≢ x → t.exchange y ≡ Some e → held_for s y (Some e) ≡ held_for t y (Some e)
+  held_else y e ne row = by_row (t.representation (family y e)) refl
+    where
+      by_alone : (b : Representation) (o : Option ℕ) → t.representation (family y e) ≡ Some b → b.alone ≡ o → held_alone s y e b o ≡ held_alone t y e b o
+      by_alone b None founded alone = refl
+      by_alone b (Some d) founded alone = elim (same_or c d) [
+        | inl is ↦ rw (← is, here, rd.row) (unstored_then y e b ne ∙ sym (nothing y e b row founded (alone ∙ ap Some (sym is))))
+        | inr off ↦ ap (unstored s y e b) (others d (λ is. off (sym is))) ∙ unstored_moved t s y e b (t.consumer d)
+      ]
+
+      by_row : (o : Option Representation) → t.representation (family y e) ≡ o → held_of s y e o ≡ held_of t y e o
+      by_row None founded = unread_same y e.c e
+      by_row (Some b) founded = by_alone b b.alone founded refl
+
+  none_held : held_for s x (Some z) ≡ []
+  none_held = ap (held_of s x z) unfounded ∙ (ap (unread x z) here ∙ unread_bound x z w q rd.lo rd.hi how rd.at)
+
+  -- KEYS
+
+  away_else : (d : ℕ) (key : List ℕ) (o : Option rows.Consumer) → t.consumer d ≡ o → is_away s key o ≡ is_away t key o
+  away_else d key None row = refl
+  away_else d key (Some j) row = ap (λ (b : Bool). bytes_eq j.request.key key && b) (by_place j.place refl)
+    where
+      by_place : (p : Place) → j.place ≡ p → is_away_at s j.place ≡ is_away_at t j.place
+      by_place (place.Bound a lo hi (by.FirstHole y)) is =
+          let first = facts.law.owned.first_own d a lo y hi j row is in
+          let ne : x ≢ y = λ e. none_some first.w (sym free ∙ (ap t.exchange e ∙ first.row)) in
+          rw (is, eqb-other x y ne) refl
+      by_place (place.Bound a lo hi by.Founding) is = rw is refl
+      by_place (place.Bound a lo hi by.Plan) is = rw is refl
+      by_place place.Line is = rw is refl
+      by_place (place.Passed a kept) is = rw is refl
+      by_place (place.Turn y) is = rw is refl
+      by_place (place.Direct y) is = rw is refl
+      by_place (place.Down why) is = rw is refl
+      by_place place.Over is = rw is refl
+
+  -- whatever is said of it by where it stands stays
+  same_of : {A : Type 0} (f : Option rows.Consumer → A) → f (Some w) ≡ f (Some v) → (d : ℕ) → f (s.consumer d) ≡ f (t.consumer d)
+  same_of f same d = elim (same_or c d) [
+    | inl is ↦ rw (← is, here, rd.row) same
+    | inr off ↦ ap f (others d (λ is. off (sym is)))
+  ]
+
+  away_same : (key : List ℕ) (d : ℕ) → is_away s key (s.consumer d) ≡ is_away t key (t.consumer d)
+  away_same key d = same_of (is_away s key) refl d ∙ away_else d key (t.consumer d) refl
+
+  keys_then : (key : List ℕ) → KeepsKey s key (kept_of u.keys key)
+  unfolding current
+  keys_then key =
+      rw same_keys (key_same t s key (kept_of r.keys key) (record {
+        current = refl;
+        in_line = same_of (is_in_line key) refl;
+        passed = same_of (is_passed key) refl;
+        away = away_same key;
+        turn = same_of (has_turn key) refl;
+      }) (stands.keys key))
+
+  -- REPRESENTATIONS
+
+  entries_then : KeepsEntries s (shelf_of r.entries)
+  entries_then = record {
+    each = λ a. entry_same t s a ((shelf_of r.entries).kept a) (t.representation a) refl (record {
+      users = same_of (is_bound a) refl;
+      first = λ d. first_row t s (λ b. refl) a (s.consumer d) ∙ same_of (is_first t a) refl d;
+      list = bound_same t s a refl (same_of (is_bound a) refl);
+      kind = λ b row. kinds_opened t s x z free unfounded opened_is exchanges refl refl a b row;
+      overs = overs_opened t.exchange s.exchange x free exchanges;
+    }) (stands.entries.each a);
+    order = stands.entries.order;
+  }
+
+  -- ALL OF IT
+
+  kept_then : IsKept s (with_own x k) w
+  kept_then =
+      let kp = rd.kept in
+      record {
+        is_there = kp.is_there;
+        request = kp.request;
+        class_is = kp.class_is;
+        since = kp.since;
+        place = kp.place;
+        own = refl;
+        shown = kp.shown;
+        answer = kp.answer ∙ no_answer v.shown (sym kp.shown ∙ shown);
+        begins = kp.begins ∙ (ap (lo_of t) rd.at ∙ sym (ap (lo_of s) rd.at));
+        ends = kp.ends ∙ (ap (hi_of t) rd.at ∙ sym (ap (hi_of s) rd.at));
+        given = kp.given;
+        due = kp.due;
+      }
+    where
+      no_answer : (b : Bool) → b ≡ true → (if b then None else answer_at t v.place) ≡ (if b then None else answer_at s v.place)
+      no_answer true is = refl
+      no_answer false is = false_true is
+
+  launched_is : table_of u.exchanges x ≡ launched c (role.Hole q) n copied now (table_of r.exchanges x)
+  launched_is = subst (λ (y : ℕ). Changes (launched c (role.Hole q) n copied now) y (table_of r.exchanges) (table_of u.exchanges)) (sym is_next) launches x ∙ rw (eqb-same x) refl
+
+  known_then : KeepsExchange s x (launched c (role.Hole q) n copied now (table_of r.exchanges x))
+  known_then = record {
+    running = subst (KeepsRunning s x (Some (opened c (role.Hole q) n copied now))) (sym opened_is) (record {
+      is_open = refl;
+      c = refl;
+      need = refl;
+      request = copies;
+      moment = refl;
+      headed = refl;
+      asked = refl;
+      base_is = refl;
+      delivered = refl;
+      promised_is = refl;
+      role = refl;
+    });
+    held = sym (ap (held_for s x) opened_is ∙ none_held);
+  }
+
+  becomes : BecomesAt r.consumers u.consumers c (Some (with_own x k))
+  becomes = becomes_by r.consumers u.consumers c k (with_own x) there changes
+
+  stands_filled : RowsStand u s
+  stands_filled =
+      stands_then r u t s c x (Some (with_own x k)) stands limits (as_received received stands.received) (last ∙ stands.last_start)
+      (let before = stands.next in let above = x_is in omega (arith, next, before, above))
+      (length_same r u t c v (with_own x k) stands rd.row rd.kept.is_there becomes ∙ (stands.count ∙ sym (live_same t s refl (same_of is_live refl))))
+      becomes (λ y ne. launches y ∙ rw (eqb-other (next_of r.exchanges) y (λ e. ne (sym e ∙ sym is_next))) refl) others exchanges (λ a. refl)
+      (subst (λ o. KeepsConsumer s (Some (with_own x k)) o) (sym here) kept_then) (subst (KeepsExchange s x) (sym launched_is) known_then) keys_then
+      (λ d j ne row at. unread_yet t facts.law x d j free row at)
+      (λ y e ne row. held_else y e ne row)
+      (rw (same_entries, limits) stands.limits)
+      (rw same_entries entries_then)
+
+  pub filled_answered : (before out : List Act) → out ≡ before ++ acts_of c (Opens x n copied) → Answered r.limits (shelf_of r.entries).faults u t before out now (event.Poll c want)
+  filled_answered before out told =
+      let is : move_of t now want c v ≡ Opens x n request = moves ∙ ap (λ (y : ℕ). Opens y n request) (sym is_next) in
+      let v_shown : v.shown ≡ true = sym rd.kept.shown ∙ shown in
+      does_answered r.limits (shelf_of r.entries).faults u t (counted now (event.Poll c want) s) before out (acts_of c (Opens x n request)) now (event.Poll c want)
+      (fills_later r.limits t facts.law now c want v rd.row x from to request is q rd.lo rd.hi how rd.at v_shown) refl refl (told ∙ ap (λ (a : Request). before ++ acts_of c (Opens x n a)) copies) (stands_counted u s now (event.Poll c want) refl stands_filled)

@@ -1,0 +1,92 @@
+-- The rows of a consumer that opens an exchange, and of that exchange.
+use Rattle.std.proofs.Common.{◌≡◌, ℕ, Bool, true, false, Option, Some, None, refl, ap, sym, ◌∙◌}
+use Rattle.hc_event.specs.declared.act.Need.{Need}
+use Rattle.hc_event.specs.declared.event.Request.{Request}
+use Rattle.hc_rules.specs.Needs.{route_of}
+use Rattle.hc_exch.specs.declared.role.Role.{Role}
+use Rattle.hc_exch.specs.Known.{opened}
+use Rattle.hc_event.specs.declared.place.Place.{Place}
+use Rattle.hc_event.specs.declared.place.Place.TheVariants as place
+use Rattle.hc_model.specs.Denials.{is_live_place}
+use Rattle.hc_model.specs.Effects.{with_consumer, with_opening, just_opened}
+use Rattle.hc_model.specs.Reading.{reads, lo_of, hi_of}
+use Rattle.hc_model.specs.Rows as rows
+use Rattle.hc_model.specs.Rows.{Tables}
+use Rattle.hc_state.specs.declared.consumer.Consumer.{Consumer}
+use Rattle.hc_state.specs.Kept.{IsKept, IsRunning, answer_for, role_awaited}
+use Rattle.hc_state.proofs.Asides.{answer_aside}
+use Rattle.hc_on_poll.proofs.OpenArm.{WaitsFor, past, turned}
+use Rattle.hc_state.proofs.Words.{eqb-same, false_true}
+
+module _ (t : Tables) (now c x : ℕ) (n : Need) (request : Request) (aim : Option ℕ) (v : rows.Consumer) (p : Place) (idle : reads v.place ≡ false) (at : WaitsFor x p) where
+  abbrev pub w : rows.Consumer
+  w = record v { own = Some x; place = p }
+
+  abbrev pub s : Tables
+  s = with_consumer c (Some w) (with_opening x (just_opened now c n request aim) t)
+
+  pub runs : (role : Role) (copied : Request) → copied ≡ request → role ≡ role_awaited (route_of n) aim → IsRunning s x (opened c role n copied now) (just_opened now c n request aim)
+  runs role copied copies is = record {
+    is_open = refl;
+    c = refl;
+    need = refl;
+    request = copies;
+    moment = refl;
+    headed = refl;
+    asked = refl;
+    base_is = refl;
+    delivered = refl;
+    promised_is = refl;
+    role = is;
+  }
+
+  pub live_then : {y : ℕ} {q : Place} → WaitsFor y q → is_live_place q ≡ true
+  live_then past = refl
+  live_then turned = refl
+
+  answer_none : (b : Bool) → v.shown ≡ b → {q : Place} → WaitsFor x q → p ≡ q → answer_for s w ≡ None
+  answer_none true is to same = rw is refl
+  answer_none false is past same = rw (is, same, eqb-same x) refl
+  answer_none false is turned same = rw (is, same) refl
+
+  lo_idle : (q : Place) → v.place ≡ q → lo_of t v.place ≡ 0
+  lo_idle place.Line same = rw same refl
+  lo_idle (place.Passed a kept) same = rw same refl
+  lo_idle (place.Turn y) same = rw same refl
+  lo_idle (place.Bound a lo hi by) same = false_true (sym idle ∙ ap reads same)
+  lo_idle (place.Direct y) same = false_true (sym idle ∙ ap reads same)
+  lo_idle (place.Down why) same = rw same refl
+  lo_idle place.Over same = rw same refl
+
+  hi_idle : (q : Place) → v.place ≡ q → hi_of t v.place ≡ None
+  hi_idle place.Line same = rw same refl
+  hi_idle (place.Passed a kept) same = rw same refl
+  hi_idle (place.Turn y) same = rw same refl
+  hi_idle (place.Bound a lo hi by) same = false_true (sym idle ∙ ap reads same)
+  hi_idle (place.Direct y) same = false_true (sym idle ∙ ap reads same)
+  hi_idle (place.Down why) same = rw same refl
+  hi_idle place.Over same = rw same refl
+
+  lo_then : {q : Place} → WaitsFor x q → lo_of s q ≡ 0
+  lo_then past = rw (eqb-same x) refl
+  lo_then turned = refl
+
+  hi_then : {q : Place} → WaitsFor x q → hi_of s q ≡ None
+  hi_then past = rw (eqb-same x) refl
+  hi_then turned = refl
+
+  pub opener_kept : (k : Consumer) → IsKept t k v → IsKept s (record k { place = p; own = Some x }) w
+  opener_kept k kept = record {
+    is_there = live_then at;
+    request = kept.request;
+    class_is = kept.class_is;
+    since = kept.since;
+    place = refl;
+    own = refl;
+    shown = kept.shown;
+    answer = kept.answer ∙ (answer_aside t v idle ∙ sym (answer_none v.shown refl at refl));
+    begins = kept.begins ∙ (lo_idle v.place refl ∙ sym (lo_then at));
+    ends = kept.ends ∙ (hi_idle v.place refl ∙ sym (hi_then at));
+    given = kept.given;
+    due = kept.due;
+  }

@@ -1,0 +1,142 @@
+-- A consumer waits for another that uses what is current, outside of the line: what is kept stands for the tables then.
+use Rattle.std.proofs.Common.{◌≡◌, ℕ, List, [], ◌∷◌, ◌++◌, Bool, true, false, Option, Some, None, refl, ap, sym, ◌∙◌, subst}
+use Rattle.std.specs.Prelude.{nat_eq, bytes_eq}
+use Rattle.std.specs.HashMap.{get}
+use Rattle.hc_store.specs.declared.backend.Backend.{Ghosts}
+use Rattle.hc_entry.specs.Keys as keys
+use Rattle.hc_entry.specs.Keys.{kept_of}
+use Rattle.hc_entry.specs.Kept.{on_line}
+use Rattle.hc_entry.specs.Lines.{passed}
+use Rattle.hc_event.specs.declared.act.Act.{Act}
+use Rattle.hc_event.specs.declared.act.Act.TheVariants as act
+use Rattle.hc_event.specs.declared.act.Wait.TheVariants as wait
+use Rattle.hc_event.specs.declared.event.Event.TheVariants as event
+use Rattle.hc_event.specs.declared.event.Request.{Request}
+use Rattle.hc_rules.specs.declared.room.Limits.{Limits}
+use Rattle.hc_rules.proofs.RangeReads.{bytes_eq-same}
+use Rattle.hc_event.specs.declared.place.Place.{Place}
+use Rattle.hc_event.specs.declared.place.Place.TheVariants as place
+use Rattle.hc_model.specs.ConsumerRows.{kept_by, passed_by}
+use Rattle.hc_model.specs.Currents.{current}
+use Rattle.hc_model.specs.Denials.{is_live_place}
+use Rattle.hc_model.specs.Effects.{counted, with_consumer}
+use Rattle.hc_model.specs.Lawful.{Lawful}
+use Rattle.hc_model.specs.Lines.{is_in_line}
+use Rattle.hc_model.specs.Moves as moves
+use Rattle.hc_model.specs.Moves.{acts_of}
+use Rattle.hc_model.specs.Polls.{move_of}
+use Rattle.hc_model.specs.Reading.{reads}
+use Rattle.hc_model.specs.Rows as rows
+use Rattle.hc_model.specs.Rows.{Tables}
+use Rattle.hc_laws.proofs.PollEffects.{same_consumer}
+use Rattle.hc_laws.proofs.WaitEffects.{waits}
+use Rattle.hc_state.specs.declared.consumer.Consumer.{Consumer}
+use Rattle.hc_state.specs.declared.rows.Rows.{Rows}
+use Rattle.hc_state.specs.Changes.{ChangesAt, passed_for}
+use Rattle.hc_state.specs.Kept.{IsKept, KeepsConsumer, answer_for}
+use Rattle.hc_state.specs.Lines.{KeepsKey}
+use Rattle.hc_state.specs.Plans.{is_idle_at, let_through, HasCurrent}
+use Rattle.hc_state.specs.Stands.{Answered, RowsStand}
+use Rattle.hc_state.proofs.Answering.{does_answered}
+use Rattle.hc_state.proofs.AsideSteps.{stands_aside}
+use Rattle.hc_state.proofs.ConsumerSteps.{keys_with}
+use Rattle.hc_state.proofs.Counting.{stands_counted}
+use Rattle.hc_state.proofs.KeySteps.{says_elsewhere, not_lined, passes_key}
+use Rattle.hc_state.proofs.QueueArm.{becomes_by}
+use Rattle.hc_state.proofs.Words.{and_false, then_false, false_true, some_is, as_received}
+
+module _ {B : Type 0} {g : Ghosts B} (r u : Rows B g) (t : Tables) (law : Lawful t) (c q : ℕ) (k : Consumer) (v : rows.Consumer) (stands : RowsStand r t) (there : get nat_eq r.consumers c ≡ Some k) (row : t.consumer c ≡ Some v) (now_is : current t v.request.key ≡ Some q)
+    (limits : u.limits ≡ r.limits) (received : u.received ≡ r.received) (last : u.last_start ≡ r.last_start) (exchanges : u.exchanges ≡ r.exchanges) (entries : u.entries ≡ r.entries) where
+  kept : IsKept t k v
+  kept = subst (KeepsConsumer t (Some k)) row (subst (λ o. KeepsConsumer t o (t.consumer c)) there (stands.consumers c))
+
+  abbrev w : rows.Consumer
+  w = let_through q v
+
+  -- who has passed stays as it is
+  pub stands_passed : is_idle_at k.place ≡ true → (k.place ≡ place.Line → ⊥) → u.consumers ≡ r.consumers → u.keys ≡ r.keys → RowsStand u (with_consumer c (Some w) t)
+  stands_passed idle unlined consumers same_keys = by_place k.place refl
+    where
+      still : (n : ℕ) (how : Option ℕ) → v.place ≡ place.Passed n how → w ≡ v
+      still n how at =
+          let waits = law.passed.waits c n how v row at in
+          let same : q ≡ n = some_is q n (sym now_is ∙ waits.current_is) in
+          ap (λ (p : Place). record v { place = p }) (ap (place.Passed q) (ap kept_by at) ∙ (ap (λ (m : ℕ). place.Passed m how) same ∙ sym at))
+
+      stands_still : with_consumer c (Some w) t ≡ t → RowsStand u (with_consumer c (Some w) t)
+      stands_still same = subst (RowsStand u) (sym same) (record {
+        limits = rw (entries, limits) stands.limits;
+        received = as_received received stands.received;
+        last_start = last ∙ stands.last_start;
+        next = rw exchanges stands.next;
+        count = rw consumers stands.count;
+        consumers = rw consumers stands.consumers;
+        exchanges = rw exchanges stands.exchanges;
+        keys = rw same_keys stands.keys;
+        entries = rw entries stands.entries;
+      })
+
+      by_place : (p : Place) → k.place ≡ p → RowsStand u (with_consumer c (Some w) t)
+      by_place place.Line at = absurd (unlined at)
+      by_place (place.Passed n how) at = stands_still (ap (λ (z : rows.Consumer). with_consumer c (Some z) t) (still n how (sym kept.place ∙ at)) ∙ same_consumer t t c v row)
+      by_place (place.Turn x) at = false_true (sym (ap is_idle_at at) ∙ idle)
+      by_place (place.Bound n lo hi by) at = false_true (sym (ap is_idle_at at) ∙ idle)
+      by_place (place.Direct x) at = false_true (sym (ap is_idle_at at) ∙ idle)
+      by_place (place.Down why) at = false_true (sym (ap is_idle_at at) ∙ idle)
+      by_place place.Over at = false_true (sym (ap is_idle_at at) ∙ idle)
+
+  -- who stands in line passes
+  module _ (at : k.place ≡ place.Line) (changes : ChangesAt r.consumers u.consumers c (passed_for q)) (passes : keys.Becomes (on_line (passed c)) k.request.key r.keys u.keys) where
+    v_at : v.place ≡ place.Line
+    v_at = sym kept.place ∙ at
+
+    abbrev its : List ℕ
+    its = v.request.key
+
+    place_is : place.Passed q None ≡ w.place
+    place_is = ap (place.Passed q) (sym (ap kept_by v_at))
+
+    passed_kept : IsKept t (passed_for q k) w
+    passed_kept = record {
+      is_there = refl;
+      request = kept.request;
+      class_is = kept.class_is;
+      since = kept.since;
+      place = place_is;
+      own = kept.own;
+      shown = kept.shown;
+      answer = kept.answer ∙ by_shown v.shown refl;
+      begins = kept.begins ∙ rw v_at refl;
+      ends = kept.ends ∙ rw v_at refl;
+      given = kept.given;
+      due = kept.due;
+    }
+      where
+        by_shown : (b : Bool) → v.shown ≡ b → answer_for t v ≡ answer_for t w
+        by_shown true is = rw is refl
+        by_shown false is = rw (is, v_at) refl
+
+    keys_then : (key : List ℕ) → KeepsKey (with_consumer c (Some w) t) key (kept_of u.keys key)
+    keys_then =
+        let line_off : is_in_line its (Some w) ≡ false = not_lined its w refl in
+        keys_with t c (Some w) (on_line (passed c)) its r.keys u.keys stands.keys (subst (λ (key : List ℕ). keys.Becomes (on_line (passed c)) key r.keys u.keys) (ap (λ (z : Request). z.key) kept.request) passes)
+        (passes_key t c (Some w) its (kept_of r.keys its) line_off (rw (bytes_eq-same its its refl) refl) (then_false (bytes_eq its its) false refl) (and_false (is_in_line its (Some w)) false line_off))
+        (λ other off. says_elsewhere t c v w other row refl off)
+
+    pub stands_let : RowsStand u (with_consumer c (Some w) t)
+    stands_let =
+        stands_aside r u t c v w (passed_for q k) stands row (ap reads v_at) refl (ap is_live_place v_at) refl limits received last exchanges entries
+        (becomes_by r.consumers u.consumers c k (passed_for q) there changes) passed_kept keys_then
+
+module _ {B : Type 0} {g : Ghosts B} (limits : Limits) (faults : ℕ) (u : Rows B g) (t : Tables) (law : Lawful t) (now c want q d : ℕ) (v : rows.Consumer) (row : t.consumer c ≡ Some v) (before out : List Act) where
+  pub use_waits : current t v.request.key ≡ Some q → move_of t now want c v ≡ moves.Waits (wait.Busy d) → out ≡ before ++ (act.Pending c (wait.Busy d) ∷ []) → RowsStand u (with_consumer c (Some (let_through q v)) t) → Answered limits faults u t before out now (event.Poll c want)
+  use_waits now_is is told stands =
+      let s : Tables = with_consumer c (Some (record v { place = passed_by (kept_by v.place) (current t v.request.key) })) t in
+      let same : with_consumer c (Some (let_through q v)) t ≡ s = ap (λ (o : Option ℕ). with_consumer c (Some (record v { place = passed_by (kept_by v.place) o })) t) (sym now_is) in
+      does_answered limits faults u t (counted now (event.Poll c want) s) before out (acts_of c (moves.Waits (wait.Busy d))) now (event.Poll c want)
+      (waits limits t law now c want v row (wait.Busy d) is) refl refl told (stands_counted u s now (event.Poll c want) refl (subst (RowsStand u) same stands))
+
+-- what is kept as current is
+pub current_as : {B : Type 0} {g : Ghosts B} (r : Rows B g) (t : Tables) (k : Consumer) (v : rows.Consumer) (q : ℕ) → RowsStand r t → IsKept t k v → HasCurrent r.keys q k → current t v.request.key ≡ Some q
+current_as r t k v q stands kept at =
+    sym (stands.keys v.request.key).current ∙ (ap (λ (key : List ℕ). (kept_of r.keys key).current) (sym (ap (λ (z : Request). z.key) kept.request)) ∙ at)

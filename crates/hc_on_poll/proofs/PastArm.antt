@@ -1,0 +1,164 @@
+-- A consumer that reads nothing goes past the store: it opens its exchange, and stands in no line.
+use Rattle.std.proofs.Common.{◌≡◌, ℕ, ◌+◌, List, ◌++◌, Bool, true, false, Some, refl, ap, sym, ◌∙◌, subst, arith}
+use Rattle.std.specs.Prelude.{nat_eq, not, ◌&&◌}
+use Rattle.std.specs.HashMap.{get}
+use Rattle.hc_store.specs.declared.backend.Backend.{Ghosts}
+use Rattle.hc_entry.specs.declared.keys.KeyTable.{KeyTable}
+use Rattle.hc_entry.specs.Keys as keys
+use Rattle.hc_entry.specs.Keys.{kept_of}
+use Rattle.hc_entry.specs.Kept.{on_line}
+use Rattle.hc_entry.specs.Lines.{left_by}
+use Rattle.hc_event.specs.declared.act.Act.{Act}
+use Rattle.hc_event.specs.declared.act.Need.{Need}
+use Rattle.hc_event.specs.declared.event.Event.TheVariants as event
+use Rattle.hc_event.specs.declared.event.Request.{Request}
+use Rattle.hc_rules.specs.declared.need.Route.TheVariants as route
+use Rattle.hc_rules.specs.declared.request.RequestClass.{RequestClass}
+use Rattle.hc_rules.specs.declared.room.Limits.{Limits}
+use Rattle.hc_rules.specs.Needs.{route_of}
+use Rattle.hc_rules.specs.Requests.{class_of, is_disabled, is_only}
+use Rattle.hc_exch.specs.declared.role.Role.TheVariants as role
+use Rattle.hc_exch.specs.declared.exchanges.Exchanges.{Exchanges}
+use Rattle.hc_exch.specs.Exchanges.{table_of, next_of}
+use Rattle.hc_exch.specs.Known.{launched, Changes}
+use Rattle.hc_event.specs.declared.place.Place.{Place}
+use Rattle.hc_event.specs.declared.place.Place.TheVariants as place
+use Rattle.hc_model.specs.Currents.{current}
+use Rattle.hc_model.specs.Denials.{is_live_place}
+use Rattle.hc_model.specs.Effects.{counted, with_consumer, with_opening, just_opened}
+use Rattle.hc_model.specs.Lawful.{Lawful}
+use Rattle.hc_model.specs.Moves.{Opens, acts_of}
+use Rattle.hc_model.specs.Polls.{move_of}
+use Rattle.hc_model.specs.Reading.{reads}
+use Rattle.hc_model.specs.Rows as rows
+use Rattle.hc_model.specs.Rows.{Tables, Exchange}
+use Rattle.hc_laws.proofs.PastEffects.{passes_by}
+use Rattle.hc_state.specs.declared.consumer.Consumer.{Consumer}
+use Rattle.hc_state.specs.declared.rows.Rows.{Rows}
+use Rattle.hc_state.specs.Arms.{queues, IsLeft, LeftIf, LeavesLine}
+use Rattle.hc_state.specs.Changes.{Numbered, ChangesAt, reading_past}
+use Rattle.hc_state.specs.Kept.{IsKept, KeepsConsumer}
+use Rattle.hc_state.specs.Lines.{KeepsKey}
+use Rattle.hc_state.specs.Plans.{is_idle_at}
+use Rattle.hc_state.specs.Stands.{Answered, RowsStand}
+use Rattle.hc_state.proofs.Answering.{does_answered}
+use Rattle.hc_state.proofs.ConsumerSteps.{keys_with, key_with, key_stays}
+use Rattle.hc_state.proofs.Counting.{stands_counted}
+use Rattle.hc_state.proofs.KeySteps.{IsUnsaid, leaves_key, says_elsewhere, says_none, apart_unsaid, unqueued_unsaid}
+use Rattle.hc_state.proofs.Maps.{known_of}
+use Rattle.hc_on_poll.proofs.OpenArm.{past}
+use Rattle.hc_on_poll.proofs.OpenKeys.{key_opened}
+use Rattle.hc_on_poll.proofs.OpenStands.{stands_opened}
+use Rattle.hc_state.proofs.QueueArm.{becomes_by}
+use Rattle.hc_state.proofs.Words.{false_true}
+
+-- WHO IS IDLE
+
+-- it reads nothing, and is there
+pub idle_reads : (p : Place) → is_idle_at p ≡ true → reads p ≡ false
+idle_reads place.Line idle = refl
+idle_reads (place.Passed r kept) idle = refl
+idle_reads (place.Turn x) idle = false_true idle
+idle_reads (place.Bound r lo hi by) idle = false_true idle
+idle_reads (place.Direct x) idle = false_true idle
+idle_reads (place.Down why) idle = false_true idle
+idle_reads place.Over idle = false_true idle
+
+pub idle_lives : (p : Place) → is_idle_at p ≡ true → is_live_place p ≡ true
+idle_lives place.Line idle = refl
+idle_lives (place.Passed r kept) idle = refl
+idle_lives (place.Turn x) idle = false_true idle
+idle_lives (place.Bound r lo hi by) idle = false_true idle
+idle_lives (place.Direct x) idle = false_true idle
+idle_lives (place.Down why) idle = false_true idle
+idle_lives place.Over idle = false_true idle
+
+-- what is kept of its class says whether it waits with others
+pub queues_as : (t : Tables) (k : Consumer) (v : rows.Consumer) → IsKept t k v → queues k ≡ (not (is_disabled v.request) && not (is_only v.request))
+unfolding class_of
+queues_as t k v kept = ap (λ (z : RequestClass). not z.disabled && not z.only) kept.class_is
+
+-- WHAT IS KEPT BY KEY
+
+module _ (t : Tables) (law : Lawful t) (c : ℕ) (k : Consumer) (v w : rows.Consumer) (row : t.consumer c ≡ Some v) (kept : IsKept t k v) (idle : is_idle_at v.place ≡ true) (nothing : (key : List ℕ) → IsUnsaid t key (Some w)) (same : w.request ≡ v.request) where
+  unsaid : (key : List ℕ) → queues k ≡ false → IsUnsaid t key (Some v)
+  unsaid key off = by_place v.place refl
+    where
+      off_here : (not (is_disabled v.request) && not (is_only v.request)) ≡ false
+      off_here = sym (queues_as t k v kept) ∙ off
+
+      by_place : (p : Place) → v.place ≡ p → IsUnsaid t key (Some v)
+      by_place place.Line is = unqueued_unsaid t key v is off_here
+      by_place (place.Passed q how) is =
+          let queued = law.places.passed_queues c q how v row is in
+          let on : (not (is_disabled v.request) && not (is_only v.request)) ≡ true = rw (queued.cached, queued.asks) refl in
+          false_true (sym off_here ∙ on)
+      by_place (place.Turn y) is = false_true (sym (ap is_idle_at is) ∙ idle)
+      by_place (place.Bound q lo hi by) is = false_true (sym (ap is_idle_at is) ∙ idle)
+      by_place (place.Direct y) is = false_true (sym (ap is_idle_at is) ∙ idle)
+      by_place (place.Down why) is = false_true (sym (ap is_idle_at is) ∙ idle)
+      by_place place.Over is = false_true (sym (ap is_idle_at is) ∙ idle)
+
+  -- it waits for its key no more
+  pub keys_past : (a b : KeyTable) → ((key : List ℕ) → KeepsKey t key (kept_of a key)) → IsLeft a b c k → (key : List ℕ) → KeepsKey (with_consumer c (Some w) t) key (kept_of b key)
+  keys_past a b each left = by_test (queues k) refl left
+    where
+      its : List ℕ
+      its = v.request.key
+
+      by_test : (q : Bool) → queues k ≡ q → LeftIf q c k.request.key a b → (key : List ℕ) → KeepsKey (with_consumer c (Some w) t) key (kept_of b key)
+      by_test true is leaves =
+          let none = nothing its in
+          keys_with t c (Some w) (on_line (left_by c)) its a b each (subst (λ (key : List ℕ). keys.Becomes (on_line (left_by c)) key a b) (ap (λ (z : Request). z.key) kept.request) leaves)
+          (leaves_key t c (Some w) its (kept_of a its) none.in_line none.passed none.away none.turn)
+          (λ other off. says_elsewhere t c v w other row same off)
+      by_test false is stays = λ key.
+          rw (stays key) (key_with t c (Some w) key (kept_of a key) (kept_of a key) (each key)
+          (key_stays t c (Some w) key (kept_of a key) (each key) (says_none t c v w key row (unsaid key is) (nothing key))))
+
+-- ALL OF IT
+
+module _ {B : Type 0} {g : Ghosts B} (r mid : Rows B g) (e : Exchanges) (m : Numbered Consumer) (t : Tables) (law : Lawful t) (now c want : ℕ) (n : Need) (k : Consumer) (v : rows.Consumer) (stands : RowsStand r t) (there : get nat_eq r.consumers c ≡ Some k) (row : t.consumer c ≡ Some v) (idle : is_idle_at k.place ≡ true)
+    (x : ℕ) (copied : Request) (copies : copied ≡ k.request) (way : route_of n ≡ route.Direct) (moves : move_of t now want c v ≡ Opens (next_of r.exchanges) n k.request) (is_next : x ≡ next_of r.exchanges) (next : next_of e ≡ next_of r.exchanges + 1)
+    (launches : Changes (launched c role.Direct n copied now) (next_of r.exchanges) (table_of r.exchanges) (table_of e)) (leaves : LeavesLine (record r { exchanges = e }) mid c) (changes : ChangesAt mid.consumers m c (reading_past x)) where
+  abbrev u : Rows B g
+  u = record mid { consumers = m }
+
+  kept : IsKept t k v
+  kept = subst (KeepsConsumer t (Some k)) row (subst (λ o. KeepsConsumer t o (t.consumer c)) there (stands.consumers c))
+
+  v_idle : is_idle_at v.place ≡ true
+  v_idle = sym (ap is_idle_at kept.place) ∙ idle
+
+  abbrev w : rows.Consumer
+  w = record v { own = Some x; place = place.Direct x }
+
+  abbrev z : Exchange
+  z = just_opened now c n k.request (current t v.request.key)
+
+  abbrev s : Tables
+  s = with_consumer c (Some w) (with_opening x z t)
+
+  x_is : x ≡ t.opened + 1
+  x_is = let same = stands.next in is_next ∙ same
+
+  launched_then : Changes (launched c role.Direct n copied now) x (table_of r.exchanges) (table_of mid.exchanges)
+  launched_then = subst (λ (b : Exchanges). Changes (launched c role.Direct n copied now) x (table_of r.exchanges) (table_of b)) (sym leaves.exchanges) (subst (λ (y : ℕ). Changes (launched c role.Direct n copied now) y (table_of r.exchanges) (table_of e)) (sym is_next) launches)
+
+  changed : ChangesAt r.consumers m c (reading_past x)
+  changed = subst (λ (b : Numbered Consumer). ChangesAt b m c (reading_past x)) leaves.consumers changes
+
+  left : IsLeft r.keys mid.keys c k
+  left = known_of (get nat_eq r.consumers c) k (IsLeft r.keys mid.keys c) there leaves.line
+
+  stands_past : RowsStand u s
+  stands_past =
+      stands_opened r u t law now c x n k.request copied (current t v.request.key) role.Direct k v (place.Direct x) stands there row (idle_reads v.place v_idle) (idle_lives v.place v_idle) past x_is
+      leaves.limits leaves.received leaves.last_start leaves.entries (ap next_of leaves.exchanges ∙ next) launched_then (becomes_by r.consumers m c k (reading_past x) there changed) copies (rw way refl)
+      (λ key. key_opened t law c x w z (law.sound.numbered.lists.new_exchanges x (let above = x_is in omega (arith, above))) past key (kept_of mid.keys key) (keys_past t law c k v w row kept v_idle (λ other. apart_unsaid t other w refl refl refl) refl r.keys mid.keys stands.keys left key))
+
+  pub past_answered : (bounds : Limits) (faults : ℕ) (before out : List Act) → out ≡ before ++ acts_of c (Opens x n copied) → Answered bounds faults u t before out now (event.Poll c want)
+  past_answered bounds faults before out told =
+      let is : move_of t now want c v ≡ Opens x n k.request = moves ∙ ap (λ (y : ℕ). Opens y n k.request) (sym is_next) in
+      does_answered bounds faults u t (counted now (event.Poll c want) s) before out (acts_of c (Opens x n k.request)) now (event.Poll c want)
+      (passes_by bounds t law now c want v row x n k.request is way) refl refl (told ∙ ap (λ (q : Request). before ++ acts_of c (Opens x n q)) copies) (stands_counted u s now (event.Poll c want) refl stands_past)

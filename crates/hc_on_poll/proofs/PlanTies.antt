@@ -1,0 +1,176 @@
+-- The plan of a consumer, but for what is current, is that of the tables.
+use Rattle.std.proofs.Common.{◌≡◌, ℕ, List, Bool, true, false, cond, eqb, Option, Some, None, refl, ap, sym, ◌∙◌}
+use Rattle.std.specs.Prelude.{is_none, unwrap_or, ◌&&◌}
+use Rattle.hc_store.specs.declared.backend.Backend.{Ghosts}
+use Rattle.hc_range.specs.declared.range.Span.{Span}
+use Rattle.hc_entry.specs.Keys.{kept_of, line_of}
+use Rattle.hc_entry.specs.Lines.{turn_with}
+use Rattle.hc_event.specs.declared.act.Why.{Why}
+use Rattle.hc_event.specs.declared.event.Request.{Request}
+use Rattle.hc_rules.specs.declared.plan.Candidate.{Candidate}
+use Rattle.hc_rules.specs.declared.plan.Plan.{Plan}
+use Rattle.hc_rules.specs.declared.plan.PlanView.{PlanView}
+use Rattle.hc_rules.specs.declared.request.RequestClass.{RequestClass}
+use Rattle.hc_rules.specs.declared.request.Wanted.{Wanted}
+use Rattle.hc_rules.specs.declared.request.Wanted.TheVariants as wants
+use Rattle.hc_rules.specs.Plans.{plan_of, bare_plan, in_time, from_store, queues, by_current, by_why, plan_on, by_wanted, by_exclusive, by_hole, by_bound, why_by}
+use Rattle.hc_rules.specs.Requests.{class_of}
+use Rattle.hc_event.specs.declared.place.Place.{Place}
+use Rattle.hc_model.specs.ConsumerRows.{kept_by}
+use Rattle.hc_model.specs.Lines as lines
+use Rattle.hc_model.specs.Planning as planning
+use Rattle.hc_model.specs.Planning.{has_passed}
+use Rattle.hc_model.specs.Rows as rows
+use Rattle.hc_model.specs.Rows.{Tables}
+use Rattle.hc_model.specs.Sound.{IsListed}
+use Rattle.hc_state.specs.declared.consumer.Consumer.{Consumer}
+use Rattle.hc_state.specs.declared.rows.Rows.{Rows}
+use Rattle.hc_state.specs.Kept.{IsKept}
+use Rattle.hc_state.specs.Plans.{plan_view, looks_at_stored}
+use Rattle.hc_state.specs.Stands.{RowsStand}
+use Rattle.hc_state.proofs.TurnTies.{turn_with_is}
+use Rattle.hc_state.proofs.Words.{false_true}
+
+-- SINCE WHEN IT WAITS
+
+then_same : (q : Bool) (a b x y : Plan) → q ≡ true → a ≡ x → cond q a b ≡ cond q x y
+then_same true a b x y on same = same
+then_same false a b x y on same = false_true on
+
+module _ (v : PlanView) (a b : ℕ) where
+  abbrev va : PlanView
+  va = record v { since = a }
+
+  abbrev vb : PlanView
+  vb = record v { since = b }
+
+  bounds_same : (span hole : Span) (o : Option ℕ) → by_bound va span hole o ≡ by_bound vb span hole o
+  bounds_same span hole None = refl
+  bounds_same span hole (Some d) = refl
+
+  holes_same : (s : Candidate) (why : Why) (span : Span) (o : Option Span) → by_hole va s why span o ≡ by_hole vb s why span o
+  holes_same s why span None = refl
+  holes_same s why span (Some hole) = bounds_same span hole s.least_bound
+
+  exclusives_same : (s : Candidate) (why : Why) (span : Span) (o : Option ℕ) → by_exclusive va s why span o ≡ by_exclusive vb s why span o
+  exclusives_same s why span None = holes_same s why span s.hole
+  exclusives_same s why span (Some d) = refl
+
+  wants_same : (s : Candidate) (why : Why) (w : Wanted) → by_wanted va s why w ≡ by_wanted vb s why w
+  wants_same s why wants.TotalUnknown = refl
+  wants_same s why wants.Unsatisfiable = refl
+  wants_same s why (wants.Interval span) = by_test s.writing refl
+    where
+      by_test : (q : Bool) → s.writing ≡ q → by_wanted va s why (wants.Interval span) ≡ by_wanted vb s why (wants.Interval span)
+      by_test true is = rw is refl
+      by_test false is = rw is (exclusives_same s why span s.exclusive)
+
+  reads_same : (s : Candidate) (why : Why) → plan_on va s why ≡ plan_on vb s why
+  reads_same s why = by_test (is_none v.class.range && s.writing) refl
+    where
+      by_test : (q : Bool) → (is_none v.class.range && s.writing) ≡ q → plan_on va s why ≡ plan_on vb s why
+      by_test true is = rw is refl
+      by_test false is = rw is (wants_same s why s.span)
+
+  whys_same : (s : Candidate) (o : Option Why) → by_why va s o ≡ by_why vb s o
+  whys_same s None = refl
+  whys_same s (Some why) = reads_same s why
+
+  currents_same : (o : Option Candidate) → by_current va o ≡ by_current vb o
+  currents_same None = refl
+  currents_same (Some s) = by_test s.vary refl
+    where
+      by_test : (q : Bool) → s.vary ≡ q → by_current va (Some s) ≡ by_current vb (Some s)
+      by_test false is = rw is refl
+      by_test true is = rw is (whys_same s (why_by v.kept s.allowed))
+
+  bare_same : bare_plan va ≡ bare_plan vb
+  bare_same = by_disabled v.class.disabled refl
+    where
+      by_disabled : (q : Bool) → v.class.disabled ≡ q → bare_plan va ≡ bare_plan vb
+      by_disabled true is = rw is refl
+      by_disabled false is = by_queue (queues v) refl
+        where
+          by_queue : (q : Bool) → queues v ≡ q → bare_plan va ≡ bare_plan vb
+          by_queue true waits = rw (is, waits) refl
+          by_queue false waits = by_bypass v.class.bypassing refl
+            where
+              by_bypass : (q : Bool) → v.class.bypassing ≡ q → bare_plan va ≡ bare_plan vb
+              by_bypass true past = rw (is, waits, past) refl
+              by_bypass false past = rw (is, waits, past) (currents_same v.current)
+
+  -- that is looked at only where it waits with others
+  pub since_unread : (v.class.disabled ≡ false → v.class.only ≡ false → a ≡ b) → plan_of va ≡ plan_of vb
+  unfolding plan_of
+  since_unread alike = by_only v.class.only refl
+    where
+      by_only : (q : Bool) → v.class.only ≡ q → plan_of va ≡ plan_of vb
+      by_only true is = then_same v.class.only (from_store (bare_plan va)) (in_time va (bare_plan va)) (from_store (bare_plan vb)) (in_time vb (bare_plan vb)) is (ap from_store bare_same)
+      by_only false is = by_disabled v.class.disabled refl
+        where
+          by_disabled : (q : Bool) → v.class.disabled ≡ q → plan_of va ≡ plan_of vb
+          by_disabled true off = rw (is, off) refl
+          by_disabled false on = ap (λ (n : ℕ). plan_of (record v { since = n })) (alike on is)
+
+-- WHAT IS CURRENT
+
+abbrev pub IsUnlooked : PlanView → Option Candidate → Type 0
+IsUnlooked v now = plan_of (record v { current = now }) ≡ plan_of (record v { current = None })
+
+-- it isn't looked at
+pub unlooked : (v : PlanView) (now : Option Candidate) → looks_at_stored v ≡ false → (v.class.bypassing ≡ true → v.passed ≡ false) → IsUnlooked v now
+unfolding plan_of
+unlooked v now off unpassed = by_disabled v.class.disabled refl
+  where
+    by_disabled : (q : Bool) → v.class.disabled ≡ q → IsUnlooked v now
+    by_disabled true disabled = rw disabled refl
+    by_disabled false cached = by_bypass v.class.bypassing refl
+      where
+        by_passed : (q : Bool) → v.passed ≡ q → v.class.bypassing ≡ false → IsUnlooked v now
+        by_passed true passed plain = false_true (sym off ∙ rw (cached, plain, passed) refl)
+        by_passed false passed plain = by_turn (eqb v.turn v.c) refl
+          where
+            by_turn : (q : Bool) → eqb v.turn v.c ≡ q → IsUnlooked v now
+            by_turn true mine = false_true (sym off ∙ rw (cached, plain, passed, mine) refl)
+            by_turn false others = by_only v.class.only refl
+              where
+                by_only : (q : Bool) → v.class.only ≡ q → IsUnlooked v now
+                by_only true only = false_true (sym off ∙ rw (cached, plain, passed, others, only) refl)
+                by_only false only = rw (cached, plain, passed, others, only) refl
+
+        by_bypass : (q : Bool) → v.class.bypassing ≡ q → IsUnlooked v now
+        by_bypass false plain = by_passed v.passed refl plain
+        by_bypass true past = by_turn (eqb v.turn v.c) refl
+          where
+            by_turn : (q : Bool) → eqb v.turn v.c ≡ q → IsUnlooked v now
+            by_turn true mine = rw (cached, past, unpassed past, mine) refl
+            by_turn false others = by_only v.class.only refl
+              where
+                by_only : (q : Bool) → v.class.only ≡ q → IsUnlooked v now
+                by_only true only = rw (cached, past, unpassed past, others, only) refl
+                by_only false only = rw (cached, past, unpassed past, others, only) refl
+
+-- THE PLAN OF THE TABLES
+
+abbrev view_as : RequestClass → ℕ → ℕ → ℕ → Place → ℕ → Option Candidate → PlanView
+view_as class now since c p turn o = record { moment = now; since = since; c = c; class = class; passed = has_passed p; kept = kept_by p; turn = turn; current = o }
+
+module _ {B : Type 0} {g : Ghosts B} (r : Rows B g) (t : Tables) (now c : ℕ) (k : Consumer) (v : rows.Consumer) (stands : RowsStand r t) (lists : IsListed t) (kept : IsKept t k v) where
+  pub turns_are : unwrap_or (turn_with c (line_of r.keys k.request.key)) c ≡ lines.turn_with t v.request.key c
+  turns_are =
+      let same : k.request.key ≡ v.request.key = ap (λ (q : Request). q.key) kept.request in
+      ap (λ (key : List ℕ). unwrap_or (turn_with c (line_of r.keys key)) c) same
+      ∙ turn_with_is t v.request.key (kept_of r.keys v.request.key) lists (stands.keys v.request.key) c
+
+  since_is : (class : RequestClass) → class ≡ class_of v.request → class.disabled ≡ false → class.only ≡ false → k.since ≡ v.since
+  unfolding class_of
+  since_is class is disabled only = kept.since (sym (ap (λ (z : RequestClass). z.disabled) is) ∙ disabled) (sym (ap (λ (z : RequestClass). z.only) is) ∙ only)
+
+  -- with whatever is current
+  pub plans_are : (o : Option Candidate) → plan_of (record (plan_view r now c k) { current = o }) ≡ plan_of (record (planning.plan_view t now c v) { current = o })
+  plans_are o =
+      let turn : ℕ = unwrap_or (turn_with c (line_of r.keys k.request.key)) c in
+      since_unread (view_as k.class now k.since c k.place turn o) k.since v.since (since_is k.class kept.class_is)
+      ∙ (ap (λ (class : RequestClass). plan_of (view_as class now v.since c k.place turn o)) kept.class_is
+      ∙ (ap (λ (p : Place). plan_of (view_as (class_of v.request) now v.since c p turn o)) kept.place
+      ∙ ap (λ (n : ℕ). plan_of (view_as (class_of v.request) now v.since c v.place n o)) turns_are))

@@ -1,0 +1,161 @@
+-- Who is bound reads on: what its calls need holds wherever there is some past.
+use Rattle.std.proofs.Common.{◌≡◌, ℕ, ◌+◌, ◌<◌, ◌≤◌, ◌^◌, List, ◌++◌, length, take, true, Option, Some, None, refl, ap, ap₂, sym, ◌∙◌, subst, arith}
+use Rattle.std.proofs.lemmas.Grind.{not_there}
+use Rattle.std.specs.Prelude.{is_some, nat_eq, option_map, IsSomeAnd, IfSome}
+use Rattle.std.specs.HashMap.{get}
+use Rattle.hc_store.specs.declared.backend.Backend.{Ghosts}
+use Rattle.hc_event.specs.declared.act.Act.{Act}
+use Rattle.hc_event.specs.declared.event.Event.TheVariants as event
+use Rattle.hc_range.specs.Spans.{IsWithin}
+use Rattle.hc_range.specs.declared.range.Span.{Span}
+use Rattle.hc_record.specs.Head.{Head}
+use Rattle.hc_sparse.specs.Runs.{end_of}
+use Rattle.hc_sparse.specs.declared.run.Run.{Run}
+use Rattle.hc_rules.specs.declared.reading.ReadStep.TheVariants as step
+use Rattle.hc_rules.specs.declared.reading.ReadView.{ReadView}
+use Rattle.hc_rules.specs.Readings.{read_step}
+use Rattle.hc_stored.specs.Entries.{shelf_of}
+use Rattle.hc_stored.specs.Shelf.{head_at, is_kept}
+use Rattle.hc_exch.specs.Exchanges as exch
+use Rattle.hc_exch.specs.Exchanges.{table_of}
+use Rattle.hc_exch.specs.Known as known
+use Rattle.hc_model.specs.Moves.{acts_of}
+use Rattle.hc_model.specs.Rows.{Tables}
+use Rattle.hc_state.specs.declared.consumer.Consumer.{Consumer}
+use Rattle.hc_state.specs.declared.rows.Rows.{Rows}
+use Rattle.hc_state.specs.Arms.{most, given, asks_or_waits, asked_in}
+use Rattle.hc_state.specs.Changes.{ChangesAt, once_given}
+use Rattle.hc_state.specs.Facts.{Facts}
+use Rattle.hc_state.specs.Reads.{IsShownAt, IsHeard, IsRunAhead, IsInLength, ReadViewIs}
+use Rattle.hc_state.specs.Stands.{RowsStand, Stands, Answered}
+use Rattle.hc_on_poll.proofs.BoundGives as gives
+use Rattle.hc_on_poll.proofs.BoundReads as bound
+use Rattle.hc_on_poll.proofs.BoundReads.{FillsHole}
+use Rattle.hc_state.proofs.Maps.{merely_true, merely_below}
+use Rattle.hc_on_poll.proofs.ShowStored.{IsBoundRow, bound_row_of, bound_kept}
+use Rattle.hc_state.proofs.Words.{none_some, some_is}
+
+-- WHEREVER THERE IS SOME PAST
+
+-- at most so many
+merely_most : {P : Type 0} (n m : ℕ) → ∥ P ∥₁ → (P → n < m + 1) → n ≤ m
+merely_most n m some h = let below = merely_below n (m + 1) some h in omega (arith, below)
+
+-- a span within a length
+merely_within : {P : Type 0} (z : Option ℕ) (x : Span) → ∥ P ∥₁ → (P → (n : ℕ) × (z ≡ Some n) × IsWithin x n) → IsSomeAnd z (IsWithin x)
+merely_within None x some h = absurd (not_there some (λ p. let all = h p in none_some all.0 all.1))
+merely_within {P} (Some n) x some h = record {
+  not_empty = merely_below x.lo x.hi some (λ p. (its p).not_empty);
+  within = merely_most x.hi n some (λ p. let le = (its p).within in omega (arith, le));
+  small = merely_below n (2 ^ 62) some (λ p. (its p).small);
+}
+  where
+    its : P → IsWithin x n
+    its p = let all = h p in subst (IsWithin x) (sym (some_is n all.0 all.1)) all.2
+
+merely_in_length : {P : Type 0} (o : Option Head) (x : Span) → ∥ P ∥₁ → (P → (head : Head) × (o ≡ Some head) × ((n : ℕ) × (head.total ≡ Some n) × IsWithin x n)) → IsSomeAnd o (IsInLength x)
+merely_in_length None x some h = absurd (not_there some (λ p. let all = h p in none_some all.0 all.1))
+merely_in_length (Some head) x some h = merely_within head.total x some (λ p.
+    let all = h p in
+    let same : all.0 ≡ head = sym (some_is head all.0 all.1) in
+    (all.2.0, ap (λ (z : Head). z.total) (sym same) ∙ all.2.1, all.2.2))
+
+-- WHO READS ON
+
+module _ {B : Type 0} {g : Ghosts B} (r : Rows B g) (c q : ℕ) (k : Consumer) (at : get nat_eq r.consumers c ≡ Some k) (reads : IsShownAt q k) where
+  -- its row
+  pub row_of : (t : Tables) → Facts r.limits t → RowsStand r t → IsBoundRow t c q reads.0.2 k
+  row_of t facts stands = bound_row_of r t facts.law c q reads.0.0 reads.0.1 reads.0.2 k stands at reads.0.3
+
+  module _ (some : ∥ Stands r ∥₁) where
+    module _ (s : Stands r) where
+      abbrev t : Tables
+      t = s.t
+
+      facts : Facts r.limits t
+      facts = s.facts
+
+      rd : IsBoundRow t c q reads.0.2 k
+      rd = row_of t facts s.rows
+
+    -- what it reads is kept
+    pub kept : is_kept (shelf_of r.entries) q ≡ true
+    kept = merely_true (is_kept (shelf_of r.entries) q) some (λ s. bound_kept r (t s) (facts s).law c q reads.0.2 k s.rows (rd s))
+
+    module _ (small : r.received < 2 ^ 61) where
+      pub offset_fits : k.lo + k.given ≤ 2 ^ 62
+      offset_fits = merely_most (k.lo + k.given) (2 ^ 62) some (λ s. bound.offset_small r (t s) (facts s) s.rows c q reads.0.2 k (rd s) small)
+
+      module _ (want : ℕ) (wants : 0 < want) (run : Option Run) (run_is : IsRunAhead (shelf_of r.entries) q want run k) where
+        end_fits_of : (z : Option Run) → run ≡ z → IfSome z (λ y. end_of y ≤ 2 ^ 62)
+        end_fits_of None is = tt
+        end_fits_of (Some z) is = merely_most (end_of z) (2 ^ 62) some (λ s. (bound.run_small r (t s) (facts s) s.rows c q reads.0.2 k (rd s) small want wants run run_is z is).0)
+
+        pub end_fits : IfSome run (λ y. end_of y ≤ 2 ^ 62)
+        end_fits = end_fits_of run refl
+
+        pub run_fits : (z : Run) → run ≡ Some z → k.given + length z.bytes ≤ 2 ^ 62
+        run_fits z is = merely_most (k.given + length z.bytes) (2 ^ 62) some (λ s. (bound.run_small r (t s) (facts s) s.rows c q reads.0.2 k (rd s) small want wants run run_is z is).1)
+
+        module _ (heard : IsHeard (table_of r.exchanges) k) (view : ReadView) (view_is : ReadViewIs r q c (option_map end_of run) view k) where
+          -- where a step reads what is stored there is some
+          pub run_there : (n : ℕ) → read_step view ≡ step.Stored n → is_some run ≡ true
+          run_there n is = merely_true (is_some run) some (λ s. ap (λ (z : Option Run). is_some z) (bound.stored_move r (t s) (facts s) s.rows c q reads.0.2 k (rd s) 0 want reads.1 heard wants run run_is view view_is n is).1.read_is)
+
+          -- where it is of its own exchange it has one
+          pub own_there : read_step view ≡ step.Held → is_some k.own ≡ true
+          own_there is = merely_true (is_some k.own) some (λ s. ap (λ (z : Option ℕ). is_some z) (bound.held_move r (t s) (facts s) s.rows c q reads.0.2 k (rd s) 0 want reads.1 heard wants run run_is view view_is is).0.own)
+
+          pub held_fits : read_step view ≡ step.Held → (x n : ℕ) → k.own ≡ Some x → k.given + length (take n (table_of r.exchanges x).held) ≤ 2 ^ 62
+          held_fits is x n own = merely_most (k.given + length (take n (table_of r.exchanges x).held)) (2 ^ 62) some (λ s.
+              let h = (bound.held_move r (t s) (facts s) s.rows c q reads.0.2 k (rd s) 0 want reads.1 heard wants run run_is view view_is is).0 in
+              let same : h.x ≡ x = some_is h.x x (sym h.own ∙ own) in
+              subst (λ (y : ℕ). k.given + length (take n (table_of r.exchanges y).held) < 2 ^ 62 + 1) same (bound.held_small r (t s) (facts s) s.rows c q reads.0.2 k (rd s) small h n))
+
+          -- what it waits for is open
+          pub source_runs : (x : ℕ) → read_step view ≡ step.Waits x → known.is_open x (table_of r.exchanges) ≡ true
+          source_runs x is = merely_true (known.is_open x (table_of r.exchanges)) some (λ s. (bound.waits_move r (t s) (facts s) s.rows c q reads.0.2 k (rd s) 0 want reads.1 heard wants run run_is view view_is x is).is_open)
+
+          -- a hole is within the length
+          pub hole_within : (hole : Span) → read_step view ≡ step.Hole hole → IsSomeAnd (head_at (shelf_of r.entries) q) (IsInLength hole)
+          hole_within hole is = merely_in_length (head_at (shelf_of r.entries) q) hole some (λ s.
+              let f = bound.hole_move r (t s) (facts s) s.rows c q reads.0.2 k (rd s) 0 want reads.1 heard wants run run_is view view_is hole is small in
+              (f.head, f.head_is, (f.total, f.known, f.within)))
+
+  -- WHAT IT DOES
+
+  module _ (u : Rows B g) (before out : List Act) (now want : ℕ) (wants : 0 < want) (run : Option Run) (run_is : IsRunAhead (shelf_of r.entries) q want run k) (heard : IsHeard (table_of r.exchanges) k) (view : ReadView) (view_is : ReadViewIs r q c (option_map end_of run) view k)
+      (received : u.received ≡ r.received) (limits : u.limits ≡ r.limits) (last : u.last_start ≡ r.last_start) (same_keys : u.keys ≡ r.keys) (same_entries : u.entries ≡ r.entries) (t : Tables) (facts : Facts r.limits t) (stands : RowsStand r t) where
+    abbrev its : IsBoundRow t c q reads.0.2 k
+    its = row_of t facts stands
+
+    -- what is stored is given
+    pub gives_stored : (n : ℕ) → read_step view ≡ step.Stored n → (z : Run) → run ≡ Some z → out ≡ before ++ given c z.x z.at z.bytes → u.exchanges ≡ r.exchanges → ChangesAt r.consumers u.consumers c (once_given (length z.bytes)) → Answered r.limits (shelf_of r.entries).faults u t before out now (event.Poll c want)
+    gives_stored n is z read acts exchanges changes =
+        let found = bound.stored_move r t facts stands c q reads.0.2 k its now want reads.1 heard wants run run_is view view_is n is in
+        let same : found.0 ≡ z = some_is found.0 z (sym found.1.read_is ∙ read) in
+        let m = subst (λ (y : Run). bound.Reads r t facts stands c q reads.0.2 k its now want reads.1 heard wants run run_is view view_is y) same found.1 in
+        let a = m.ahead_of in
+        gives.stored_answered r u t facts stands now want c q reads.0.2 k its at before out received limits last same_keys same_entries z a.at a.within a.each m.move_is acts exchanges changes
+
+    -- what is held is given
+    pub gives_held : read_step view ≡ step.Held → (x o n : ℕ) (bytes : List ℕ) → k.own ≡ Some x → o ≡ view.offset → n ≡ most view.hi view.offset want → bytes ≡ take n (table_of r.exchanges x).held → out ≡ before ++ given c x o bytes → exch.Becomes (known.given n) x r.exchanges u.exchanges → ChangesAt r.consumers u.consumers c (once_given (length bytes))
+        → Answered r.limits (shelf_of r.entries).faults u t before out now (event.Poll c want)
+    gives_held is x o n bytes own o_is n_is bytes_are acts becomes changes =
+        let found = bound.held_move r t facts stands c q reads.0.2 k its now want reads.1 heard wants run run_is view view_is is in
+        let h = found.0 in
+        let same : x ≡ h.x = some_is x h.x (sym own ∙ h.own) in
+        let at_offset : o ≡ k.lo + k.given = o_is ∙ ap (λ (y : ReadView). y.offset) view_is.is in
+        let as_many : n ≡ most k.hi (k.lo + k.given) want = n_is ∙ ap (λ (y : ReadView). most y.hi y.offset want) view_is.is in
+        let taken : bytes ≡ take (most k.hi (k.lo + k.given) want) (table_of r.exchanges h.x).held = bytes_are ∙ ap₂ (λ (m y : ℕ). take m (table_of r.exchanges y).held) as_many same in
+        let told : out ≡ before ++ given c h.x (k.lo + k.given) (take (most k.hi (k.lo + k.given) want) (table_of r.exchanges h.x).held) =
+        acts ∙ (ap (λ (y : ℕ). before ++ given c y o bytes) same ∙ (ap (λ (y : ℕ). before ++ given c h.x y bytes) at_offset ∙ ap (λ (ys : List ℕ). before ++ given c h.x (k.lo + k.given) ys) taken)) in
+        gives.held_answered r u t facts stands now want c q reads.0.2 k its at before out received limits last same_keys same_entries h (most k.hi (k.lo + k.given) want)
+        (subst (λ (y : ℕ). exch.Becomes (known.given (most k.hi (k.lo + k.given) want)) y r.exchanges u.exchanges) same (subst (λ (m : ℕ). exch.Becomes (known.given m) x r.exchanges u.exchanges) as_many becomes))
+        found.1.move_is told (subst (λ (ys : List ℕ). ChangesAt r.consumers u.consumers c (once_given (length ys))) taken changes)
+
+    -- it asks, or waits
+    pub asks_for : (x : ℕ) → read_step view ≡ step.Waits x → u.consumers ≡ r.consumers → exch.Becomes known.asked x r.exchanges u.exchanges → out ≡ before ++ acts_of c (asks_or_waits (asked_in (table_of r.exchanges x).running) x) → Answered r.limits (shelf_of r.entries).faults u t before out now (event.Poll c want)
+    asks_for x is consumers becomes acts =
+        let m = bound.waits_move r t facts stands c q reads.0.2 k its now want reads.1 heard wants run run_is view view_is x is in
+        gives.asks_answered r u t facts stands now want c q reads.0.2 k its at before out received limits last same_keys same_entries x consumers becomes m.move_is acts

@@ -1,0 +1,64 @@
+use Rattle.std.proofs.Common.{inl, inr, ap, sym, ◌∙◌}
+use Rattle.hc_event.specs.Acts.{listed}
+use Rattle.hc_rules.specs.declared.plan.Plan.TheVariants as plan
+use Rattle.hc_on_poll.proofs.PlanArms.{past_route, fetch_route, queued_there, passed_there, next_there, plan_same, direct_answers, turn_answers, fetch_answers, miss_answers, bare_validates, is_bare, bare_uses}
+use Rattle.hc_state.proofs.Words.{false_true, on_ok_by}
+use Rattle.hc_on_poll.proofs.carry.carry_out_bare.Goals as goal
+
+pub open_past-requires-clause-queued : goal.open_past-requires-clause-queued
+open_past-requires-clause-queued g c = queued_there c.args.rows.now c.requires.stands c.args.now c.args.c c.requires.idle
+
+pub open_past-requires-clause-past : goal.open_past-requires-clause-past
+open_past-requires-clause-past g c = past_route c.args.view.now c.in-Direct.need (sym c.plan_of.ensures ∙ c.in-Direct.is)
+
+pub wait_for_turn-requires-clause-kept : goal.wait_for_turn-requires-clause-kept
+wait_for_turn-requires-clause-kept g c = passed_there c.args.rows.now c.requires.stands c.args.now c.args.c c.requires.idle
+
+pub returns-in-Direct-clause-answers : goal.returns-in-Direct-clause-answers
+returns-in-Direct-clause-answers g c =
+    let r = c.args.rows.now in
+    let is = plan_same r c.args.now c.args.c _ (plan.Direct c.in-Direct.need) c.requires.plan (sym c.plan_of.ensures ∙ c.in-Direct.is) in
+    on_ok_by c.open_past.result c.open_past.ensures.answers (direct_answers r c.requires.stands c.args.now c.args.c c.requires.idle c.open_past.new.rows (listed c.args.out.now) (listed c.open_past.new.out) c.in-Direct.need is)
+
+pub returns-in-Turn-clause-answers : goal.returns-in-Turn-clause-answers
+returns-in-Turn-clause-answers g c =
+    let r = c.args.rows.now in
+    let is = plan_same r c.args.now c.args.c _ (plan.Turn c.in-Turn.d) c.requires.plan (sym c.plan_of.ensures ∙ c.in-Turn.is) in
+    turn_answers r c.requires.stands c.args.now c.args.c c.requires.idle c.wait_for_turn.new.rows (listed c.args.out.now) (listed c.wait_for_turn.new.out) c.in-Turn.d is c.wait_for_turn.ensures.answers
+
+pub returns-in-Miss-clause-answers : goal.returns-in-Miss-clause-answers
+returns-in-Miss-clause-answers g c =
+    let r = c.args.rows.now in
+    let is = plan_same r c.args.now c.args.c _ plan.Miss c.requires.plan (sym c.plan_of.ensures ∙ c.in-Miss.is) in
+    miss_answers r c.requires.stands c.args.now c.args.c c.requires.idle c.fail.new.rows (listed c.args.out.now) (listed c.fail.new.out) is c.fail.ensures.answers
+
+pub fetch_bare-requires-clause-kept : goal.fetch_bare-requires-clause-kept
+fetch_bare-requires-clause-kept g c = passed_there c.args.rows.now c.requires.stands c.args.now c.args.c c.requires.idle
+
+pub fetch_bare-requires-clause-turn : goal.fetch_bare-requires-clause-turn
+fetch_bare-requires-clause-turn g c =
+    let r = c.args.rows.now in
+    let is = plan_same r c.args.now c.args.c _ (plan.Fetch c.in-Fetch.need) c.requires.plan (sym c.plan_of.ensures ∙ c.in-Fetch.is) in
+    next_there r c.requires.stands c.args.now c.args.c c.requires.idle c.in-Fetch.need (fetch_route c.args.view.now c.in-Fetch.need (sym c.plan_of.ensures ∙ c.in-Fetch.is)) is
+
+pub fetch_bare-requires-clause-turns : goal.fetch_bare-requires-clause-turns
+fetch_bare-requires-clause-turns g c = fetch_route c.args.view.now c.in-Fetch.need (sym c.plan_of.ensures ∙ c.in-Fetch.is)
+
+pub returns-in-Fetch-clause-answers : goal.returns-in-Fetch-clause-answers
+returns-in-Fetch-clause-answers g c =
+    let r = c.args.rows.now in
+    let at = sym c.plan_of.ensures ∙ c.in-Fetch.is in
+    let is = plan_same r c.args.now c.args.c _ (plan.Fetch c.in-Fetch.need) c.requires.plan at in
+    on_ok_by c.fetch_bare.result c.fetch_bare.ensures.answers
+    (fetch_answers r c.requires.stands c.args.now c.args.c c.requires.idle c.fetch_bare.new.rows (listed c.args.out.now) (listed c.fetch_bare.new.out) c.in-Fetch.need (bare_validates c.args.view.now c.in-Fetch.need c.requires.bare at) is)
+
+pub unreachable-requires : goal.unreachable-requires
+unreachable-requires g c =
+    let bare = bare_uses c.args.view.now c.requires.bare in
+    elim c.in-Bind.is [
+      | inl h ↦ false_true (sym (ap is_bare (sym c.plan_of.ensures ∙ h.2)) ∙ bare)
+      | inr more ↦ elim more [
+        | inl h ↦ false_true (sym (ap is_bare (sym c.plan_of.ensures ∙ h.2)) ∙ bare)
+        | inr h ↦ false_true (sym (ap is_bare (sym c.plan_of.ensures ∙ h.2)) ∙ bare)
+      ]
+    ]

@@ -1,0 +1,226 @@
+use Rattle.std.proofs.Common.{◌≡◌, ◌+◌, ◌≤◌, ◌^◌, ap, sym, ◌∙◌, refl, length, take, subst, arith, nat_eq}
+use Rattle.std.specs.HashMap.{get}
+use Rattle.hc_event.specs.Acts.{listed}
+use Rattle.hc_stored.specs.Entries.{shelf_of}
+use Rattle.hc_stored.specs.Shelf.{head_at}
+use Rattle.hc_exch.specs.Exchanges.{table_of}
+use Rattle.hc_rules.specs.declared.reading.ReadView.{ReadView}
+use Rattle.hc_state.specs.Reads.{IsShownAt, ReadViewIs}
+use Rattle.hc_on_poll.proofs.BoundReads.{ends_move, fails_move, hole_move}
+use Rattle.hc_state.proofs.Maps.{lent, known_of, some_that}
+use Rattle.hc_on_poll.proofs.ReadOn.{row_of, kept, offset_fits, end_fits, run_fits, run_there, own_there, held_fits, source_runs, hole_within, gives_stored, gives_held, asks_for}
+use Rattle.hc_state.proofs.Words.{on_ok_by}
+use Rattle.hc_on_poll.proofs.read.read_on.Goals as goal
+
+pub end_of-requires : goal.end_of-requires
+end_of-requires g c =
+    let r = c.args.rows.now in
+    let k = c.unwrap.result.now in
+    let at = lent c.get.result (get nat_eq r.consumers c.args.c) c.unwrap.result c.get.ensures.value c.unwrap.ensures in
+    let reads = known_of (get nat_eq r.consumers c.args.c) k (IsShownAt c.args.r) at c.requires.shown in
+    end_fits r c.args.c c.args.r k at reads c.requires.stands c.requires.small c.args.want c.requires.wants c.args.run (known_of (get nat_eq r.consumers c.args.c) k _ at c.requires.run)
+
+pub read_view-view-requires-clause-there : goal.read_view-view-requires-clause-there
+read_view-view-requires-clause-there g c =
+    let r = c.args.rows.now in
+    let k = c.unwrap.result.now in
+    let at = lent c.get.result (get nat_eq r.consumers c.args.c) c.unwrap.result c.get.ensures.value c.unwrap.ensures in
+    let reads = known_of (get nat_eq r.consumers c.args.c) k (IsShownAt c.args.r) at c.requires.shown in
+    kept r c.args.c c.args.r k at reads c.requires.stands
+
+pub read_view-view-requires-clause-fits : goal.read_view-view-requires-clause-fits
+read_view-view-requires-clause-fits g c =
+    let r = c.args.rows.now in
+    let k = c.unwrap.result.now in
+    let at = lent c.get.result (get nat_eq r.consumers c.args.c) c.unwrap.result c.get.ensures.value c.unwrap.ensures in
+    let reads = known_of (get nat_eq r.consumers c.args.c) k (IsShownAt c.args.r) at c.requires.shown in
+    some_that (get nat_eq r.consumers c.args.c) k (λ j. j.lo + j.given ≤ 2 ^ 62) at (offset_fits r c.args.c c.args.r k at reads c.requires.stands c.requires.small)
+
+pub unwrap-run-requires : goal.unwrap-run-requires
+unwrap-run-requires g c =
+    let r = c.args.rows.now in
+    let k = c.unwrap.result.now in
+    let run = c.args.run in
+    let view = c.read_view-view.result in
+    let at = lent c.get.result (get nat_eq r.consumers c.args.c) c.unwrap.result c.get.ensures.value c.unwrap.ensures in
+    let reads = known_of (get nat_eq r.consumers c.args.c) k (IsShownAt c.args.r) at c.requires.shown in
+    let heard = known_of (get nat_eq r.consumers c.args.c) k _ at c.requires.heard in
+    let ahead = known_of (get nat_eq r.consumers c.args.c) k _ at c.requires.run in
+    let view_is = subst (λ z. ReadViewIs r c.args.r c.args.c z view k) c.end_of.ensures (known_of (get nat_eq r.consumers c.args.c) k _ at c.read_view-view.ensures) in
+    run_there r c.args.c c.args.r k at reads c.requires.stands c.requires.small c.args.want c.requires.wants run ahead heard view view_is c.in-Stored.upto (sym c.read_step.ensures ∙ c.in-Stored.is)
+
+pub unwrap-x-requires : goal.unwrap-x-requires
+unwrap-x-requires g c =
+    let r = c.args.rows.now in
+    let k = c.unwrap.result.now in
+    let run = c.args.run in
+    let view = c.read_view-view.result in
+    let at = lent c.get.result (get nat_eq r.consumers c.args.c) c.unwrap.result c.get.ensures.value c.unwrap.ensures in
+    let reads = known_of (get nat_eq r.consumers c.args.c) k (IsShownAt c.args.r) at c.requires.shown in
+    let heard = known_of (get nat_eq r.consumers c.args.c) k _ at c.requires.heard in
+    let ahead = known_of (get nat_eq r.consumers c.args.c) k _ at c.requires.run in
+    let view_is = subst (λ z. ReadViewIs r c.args.r c.args.c z view k) c.end_of.ensures (known_of (get nat_eq r.consumers c.args.c) k _ at c.read_view-view.ensures) in
+    own_there r c.args.c c.args.r k at reads c.requires.stands c.requires.small c.args.want c.requires.wants run ahead heard view view_is (sym c.read_step.ensures ∙ c.in-Held.is)
+
+pub give-requires-clause-fits : goal.give-requires-clause-fits
+give-requires-clause-fits g c =
+    let r = c.args.rows.now in
+    let k = c.unwrap.result.now in
+    let run = c.args.run in
+    let view = c.read_view-view.result in
+    let at = lent c.get.result (get nat_eq r.consumers c.args.c) c.unwrap.result c.get.ensures.value c.unwrap.ensures in
+    let reads = known_of (get nat_eq r.consumers c.args.c) k (IsShownAt c.args.r) at c.requires.shown in
+    let heard = known_of (get nat_eq r.consumers c.args.c) k _ at c.requires.heard in
+    let ahead = known_of (get nat_eq r.consumers c.args.c) k _ at c.requires.run in
+    let view_is = subst (λ z. ReadViewIs r c.args.r c.args.c z view k) c.end_of.ensures (known_of (get nat_eq r.consumers c.args.c) k _ at c.read_view-view.ensures) in
+    some_that (get nat_eq r.consumers c.args.c) k (λ j. j.given + length c.unwrap-run.result.bytes ≤ 2 ^ 62) at (run_fits r c.args.c c.args.r k at reads c.requires.stands c.requires.small c.args.want c.requires.wants run ahead c.unwrap-run.result c.unwrap-run.ensures)
+
+pub most-count-requires : goal.most-count-requires
+most-count-requires g c =
+    let r = c.args.rows.now in
+    let k = c.unwrap.result.now in
+    let run = c.args.run in
+    let view = c.read_view-view.result in
+    let at = lent c.get.result (get nat_eq r.consumers c.args.c) c.unwrap.result c.get.ensures.value c.unwrap.ensures in
+    let reads = known_of (get nat_eq r.consumers c.args.c) k (IsShownAt c.args.r) at c.requires.shown in
+    let heard = known_of (get nat_eq r.consumers c.args.c) k _ at c.requires.heard in
+    let ahead = known_of (get nat_eq r.consumers c.args.c) k _ at c.requires.run in
+    let view_is = subst (λ z. ReadViewIs r c.args.r c.args.c z view k) c.end_of.ensures (known_of (get nat_eq r.consumers c.args.c) k _ at c.read_view-view.ensures) in
+    let fits = offset_fits r c.args.c c.args.r k at reads c.requires.stands c.requires.small in
+    let same : view.offset ≡ k.lo + k.given = ap (λ (z : ReadView). z.offset) view_is.is in
+    omega (arith, fits, same)
+
+pub give-requires-in-Held-clause-fits : goal.give-requires-in-Held-clause-fits
+give-requires-in-Held-clause-fits g c =
+    let r = c.args.rows.now in
+    let k = c.unwrap.result.now in
+    let run = c.args.run in
+    let view = c.read_view-view.result in
+    let at = lent c.get.result (get nat_eq r.consumers c.args.c) c.unwrap.result c.get.ensures.value c.unwrap.ensures in
+    let reads = known_of (get nat_eq r.consumers c.args.c) k (IsShownAt c.args.r) at c.requires.shown in
+    let heard = known_of (get nat_eq r.consumers c.args.c) k _ at c.requires.heard in
+    let ahead = known_of (get nat_eq r.consumers c.args.c) k _ at c.requires.run in
+    let view_is = subst (λ z. ReadViewIs r c.args.r c.args.c z view k) c.end_of.ensures (known_of (get nat_eq r.consumers c.args.c) k _ at c.read_view-view.ensures) in
+    let bytes = c.in_ok-bytes-in-Held.bytes in
+    let fits = held_fits r c.args.c c.args.r k at reads c.requires.stands c.requires.small c.args.want c.requires.wants run ahead heard view view_is (sym c.read_step.ensures ∙ c.in-Held.is) c.unwrap-x.result c.most-count.result c.unwrap-x.ensures in
+    let long : length bytes ≡ length (take c.most-count.result (table_of r.exchanges c.unwrap-x.result).held) = ap length c.in_ok-bytes-in-Held.ensures.bytes in
+    some_that (get nat_eq r.consumers c.args.c) k (λ j. j.given + length bytes ≤ 2 ^ 62) at (omega (arith, fits, long))
+
+pub ask-requires-clause-running : goal.ask-requires-clause-running
+ask-requires-clause-running g c =
+    let r = c.args.rows.now in
+    let k = c.unwrap.result.now in
+    let run = c.args.run in
+    let view = c.read_view-view.result in
+    let at = lent c.get.result (get nat_eq r.consumers c.args.c) c.unwrap.result c.get.ensures.value c.unwrap.ensures in
+    let reads = known_of (get nat_eq r.consumers c.args.c) k (IsShownAt c.args.r) at c.requires.shown in
+    let heard = known_of (get nat_eq r.consumers c.args.c) k _ at c.requires.heard in
+    let ahead = known_of (get nat_eq r.consumers c.args.c) k _ at c.requires.run in
+    let view_is = subst (λ z. ReadViewIs r c.args.r c.args.c z view k) c.end_of.ensures (known_of (get nat_eq r.consumers c.args.c) k _ at c.read_view-view.ensures) in
+    source_runs r c.args.c c.args.r k at reads c.requires.stands c.requires.small c.args.want c.requires.wants run ahead heard view view_is c.in-Waits.x (sym c.read_step.ensures ∙ c.in-Waits.is)
+
+pub open_later_hole-requires-clause-hole : goal.open_later_hole-requires-clause-hole
+open_later_hole-requires-clause-hole g c =
+    let r = c.args.rows.now in
+    let k = c.unwrap.result.now in
+    let run = c.args.run in
+    let view = c.read_view-view.result in
+    let at = lent c.get.result (get nat_eq r.consumers c.args.c) c.unwrap.result c.get.ensures.value c.unwrap.ensures in
+    let reads = known_of (get nat_eq r.consumers c.args.c) k (IsShownAt c.args.r) at c.requires.shown in
+    let heard = known_of (get nat_eq r.consumers c.args.c) k _ at c.requires.heard in
+    let ahead = known_of (get nat_eq r.consumers c.args.c) k _ at c.requires.run in
+    let view_is = subst (λ z. ReadViewIs r c.args.r c.args.c z view k) c.end_of.ensures (known_of (get nat_eq r.consumers c.args.c) k _ at c.read_view-view.ensures) in
+    hole_within r c.args.c c.args.r k at reads c.requires.stands c.requires.small c.args.want c.requires.wants run ahead heard view view_is c.in-Hole.hole (sym c.read_step.ensures ∙ c.in-Hole.is)
+
+pub returns-in-Ended-clause-answers : goal.returns-in-Ended-clause-answers
+returns-in-Ended-clause-answers g c =
+    let r = c.args.rows.now in
+    let k = c.unwrap.result.now in
+    let run = c.args.run in
+    let view = c.read_view-view.result in
+    let at = lent c.get.result (get nat_eq r.consumers c.args.c) c.unwrap.result c.get.ensures.value c.unwrap.ensures in
+    let reads = known_of (get nat_eq r.consumers c.args.c) k (IsShownAt c.args.r) at c.requires.shown in
+    let heard = known_of (get nat_eq r.consumers c.args.c) k _ at c.requires.heard in
+    let ahead = known_of (get nat_eq r.consumers c.args.c) k _ at c.requires.run in
+    let view_is = subst (λ z. ReadViewIs r c.args.r c.args.c z view k) c.end_of.ensures (known_of (get nat_eq r.consumers c.args.c) k _ at c.read_view-view.ensures) in
+    λ t facts rows accepted.
+    let rd = row_of r c.args.c c.args.r k at reads t facts rows in
+    c.end_reading.ensures.answers c.args.want t rd.v facts rows rd.row (ends_move r t facts rows c.args.c c.args.r reads.0.2 k rd c.args.now c.args.want reads.1 heard c.requires.wants run ahead view view_is (sym c.read_step.ensures ∙ c.in-Ended.is))
+
+pub returns-in-Failed-clause-answers : goal.returns-in-Failed-clause-answers
+returns-in-Failed-clause-answers g c =
+    let r = c.args.rows.now in
+    let k = c.unwrap.result.now in
+    let run = c.args.run in
+    let view = c.read_view-view.result in
+    let at = lent c.get.result (get nat_eq r.consumers c.args.c) c.unwrap.result c.get.ensures.value c.unwrap.ensures in
+    let reads = known_of (get nat_eq r.consumers c.args.c) k (IsShownAt c.args.r) at c.requires.shown in
+    let heard = known_of (get nat_eq r.consumers c.args.c) k _ at c.requires.heard in
+    let ahead = known_of (get nat_eq r.consumers c.args.c) k _ at c.requires.run in
+    let view_is = subst (λ z. ReadViewIs r c.args.r c.args.c z view k) c.end_of.ensures (known_of (get nat_eq r.consumers c.args.c) k _ at c.read_view-view.ensures) in
+    λ t facts rows accepted.
+    let rd = row_of r c.args.c c.args.r k at reads t facts rows in
+    c.fail.ensures.answers c.args.want t rd.v facts rows rd.row (fails_move r t facts rows c.args.c c.args.r reads.0.2 k rd c.args.now c.args.want reads.1 heard c.requires.wants run ahead view view_is c.in-Failed.cause (sym c.read_step.ensures ∙ c.in-Failed.is))
+
+pub returns-in-Stored-clause-answers : goal.returns-in-Stored-clause-answers
+returns-in-Stored-clause-answers g c =
+    let r = c.args.rows.now in
+    let k = c.unwrap.result.now in
+    let run = c.args.run in
+    let view = c.read_view-view.result in
+    let at = lent c.get.result (get nat_eq r.consumers c.args.c) c.unwrap.result c.get.ensures.value c.unwrap.ensures in
+    let reads = known_of (get nat_eq r.consumers c.args.c) k (IsShownAt c.args.r) at c.requires.shown in
+    let heard = known_of (get nat_eq r.consumers c.args.c) k _ at c.requires.heard in
+    let ahead = known_of (get nat_eq r.consumers c.args.c) k _ at c.requires.run in
+    let view_is = subst (λ z. ReadViewIs r c.args.r c.args.c z view k) c.end_of.ensures (known_of (get nat_eq r.consumers c.args.c) k _ at c.read_view-view.ensures) in
+    let rest = c.give.ensures.rest in
+    λ t facts rows accepted. gives_stored r c.args.c c.args.r k at reads c.give.new.rows (listed c.args.out.now) (listed c.give.new.out) c.args.now c.args.want c.requires.wants run ahead heard view view_is rest.received rest.limits rest.last_start rest.keys rest.entries t facts rows
+    c.in-Stored.upto (sym c.read_step.ensures ∙ c.in-Stored.is) c.unwrap-run.result c.unwrap-run.ensures c.give.ensures.acts c.give.ensures.exchanges c.give.ensures.consumers
+
+pub returns-in_ok-bytes-in-Held-clause-answers : goal.returns-in_ok-bytes-in-Held-clause-answers
+returns-in_ok-bytes-in-Held-clause-answers g c =
+    let r = c.args.rows.now in
+    let k = c.unwrap.result.now in
+    let run = c.args.run in
+    let view = c.read_view-view.result in
+    let at = lent c.get.result (get nat_eq r.consumers c.args.c) c.unwrap.result c.get.ensures.value c.unwrap.ensures in
+    let reads = known_of (get nat_eq r.consumers c.args.c) k (IsShownAt c.args.r) at c.requires.shown in
+    let heard = known_of (get nat_eq r.consumers c.args.c) k _ at c.requires.heard in
+    let ahead = known_of (get nat_eq r.consumers c.args.c) k _ at c.requires.run in
+    let view_is = subst (λ z. ReadViewIs r c.args.r c.args.c z view k) c.end_of.ensures (known_of (get nat_eq r.consumers c.args.c) k _ at c.read_view-view.ensures) in
+    let give = c.give-in-Held.ensures in
+    let rest = give.rest in
+    λ t facts rows accepted. gives_held r c.args.c c.args.r k at reads c.give-in-Held.new.rows (listed c.args.out.now) (listed c.give-in-Held.new.out) c.args.now c.args.want c.requires.wants run ahead heard view view_is rest.received rest.limits rest.last_start rest.keys rest.entries t facts rows
+    (sym c.read_step.ensures ∙ c.in-Held.is) c.unwrap-x.result view.offset c.most-count.result c.in_ok-bytes-in-Held.bytes c.unwrap-x.ensures refl c.most-count.ensures c.in_ok-bytes-in-Held.ensures.bytes give.acts (rw give.exchanges c.in_ok-bytes-in-Held.ensures.ok) give.consumers
+
+pub returns-in-Waits-clause-answers : goal.returns-in-Waits-clause-answers
+returns-in-Waits-clause-answers g c =
+    let r = c.args.rows.now in
+    let k = c.unwrap.result.now in
+    let run = c.args.run in
+    let view = c.read_view-view.result in
+    let at = lent c.get.result (get nat_eq r.consumers c.args.c) c.unwrap.result c.get.ensures.value c.unwrap.ensures in
+    let reads = known_of (get nat_eq r.consumers c.args.c) k (IsShownAt c.args.r) at c.requires.shown in
+    let heard = known_of (get nat_eq r.consumers c.args.c) k _ at c.requires.heard in
+    let ahead = known_of (get nat_eq r.consumers c.args.c) k _ at c.requires.run in
+    let view_is = subst (λ z. ReadViewIs r c.args.r c.args.c z view k) c.end_of.ensures (known_of (get nat_eq r.consumers c.args.c) k _ at c.read_view-view.ensures) in
+    let rest = c.ask.ensures.rest in
+    λ t facts rows accepted. asks_for r c.args.c c.args.r k at reads c.ask.new.rows (listed c.args.out.now) (listed c.ask.new.out) c.args.now c.args.want c.requires.wants run ahead heard view view_is rest.received rest.limits rest.last_start rest.keys rest.entries t facts rows
+    c.in-Waits.x (sym c.read_step.ensures ∙ c.in-Waits.is) c.ask.ensures.consumers c.ask.ensures.asked c.ask.ensures.acts
+
+pub returns-in-Hole-clause-answers : goal.returns-in-Hole-clause-answers
+returns-in-Hole-clause-answers g c =
+    let r = c.args.rows.now in
+    let k = c.unwrap.result.now in
+    let run = c.args.run in
+    let view = c.read_view-view.result in
+    let at = lent c.get.result (get nat_eq r.consumers c.args.c) c.unwrap.result c.get.ensures.value c.unwrap.ensures in
+    let reads = known_of (get nat_eq r.consumers c.args.c) k (IsShownAt c.args.r) at c.requires.shown in
+    let heard = known_of (get nat_eq r.consumers c.args.c) k _ at c.requires.heard in
+    let ahead = known_of (get nat_eq r.consumers c.args.c) k _ at c.requires.run in
+    let view_is = subst (λ z. ReadViewIs r c.args.r c.args.c z view k) c.end_of.ensures (known_of (get nat_eq r.consumers c.args.c) k _ at c.read_view-view.ensures) in
+    on_ok_by c.open_later_hole.result c.open_later_hole.ensures.answers (λ all.
+    λ t facts rows accepted.
+    let rd = row_of r c.args.c c.args.r k at reads t facts rows in
+    let f = hole_move r t facts rows c.args.c c.args.r reads.0.2 k rd c.args.now c.args.want reads.1 heard c.requires.wants run ahead view view_is c.in-Hole.hole (sym c.read_step.ensures ∙ c.in-Hole.is) c.requires.small in
+    known_of (head_at (shelf_of r.entries) c.args.r) f.head _ f.head_is (known_of (get nat_eq r.consumers c.args.c) k _ at all) c.args.want t rd.v facts rows rd.row f.move_is)

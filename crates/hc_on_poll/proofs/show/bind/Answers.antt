@@ -1,0 +1,34 @@
+use Rattle.std.proofs.Common.{Some, nat_eq, ap, ◌∙◌, subst}
+use Rattle.std.specs.HashMap.{get}
+use Rattle.hc_event.specs.Acts.{listed}
+use Rattle.hc_event.specs.declared.event.Response.{Response}
+use Rattle.hc_record.specs.Plain.{plain}
+use Rattle.hc_validate.specs.Showing.{shown}
+use Rattle.hc_state.specs.Kept.{KeepsConsumer}
+use Rattle.hc_state.specs.Plans.{IsIdle, HasCurrent}
+use Rattle.hc_on_poll.proofs.BindArm.{bind_answered, shows_told, part_ends, current_total}
+use Rattle.hc_state.proofs.Maps.{lent, known_of, some_that}
+use Rattle.hc_on_poll.proofs.PassesArm.{current_as}
+use Rattle.hc_on_poll.proofs.show.bind.Goals as goal
+
+pub returns-clause-answers : goal.returns-clause-answers
+returns-clause-answers g c =
+    let r = c.args.rows.now in
+    let at_row = get nat_eq r.consumers c.args.c in
+    let k = c.unwrap-consumer.result.now in
+    let lo = c.bounds_of-lo.result.0 in
+    let hi = c.bounds_of-lo.result.1 in
+    let head = plain c.args.head.now in
+    let at = lent c.get.result at_row c.unwrap-consumer.result c.get.ensures.value c.unwrap-consumer.ensures in
+    let idle = known_of at_row k IsIdle at c.requires.idle in
+    let now_is = known_of at_row k (HasCurrent r.keys c.args.r) at c.requires.current in
+    some_that at_row k _ at (λ now want t v facts stands row is.
+    let kept = subst (KeepsConsumer t (Some k)) row (subst (λ o. KeepsConsumer t o (t.consumer c.args.c)) at (stands.consumers c.args.c)) in
+    let same = current_total r t v.request.key c.args.r head stands (current_as r t k v c.args.r stands kept now_is) c.requires.head in
+    let response : Response = record { status = c.in_ok-shown.shown.status; fields = c.in_ok-shown.shown.fields } in
+    let from = c.bounds_of-lo.ensures.from in
+    let to = c.bounds_of-lo.ensures.to in
+    bind_answered r c.leave_line.new.rows c.bind.new.self c.bind_shown.new.consumers t facts.law c.args.c c.args.r lo hi k v stands at row idle now_is
+    (part_ends (t.representation c.args.r) head c.args.span hi to same)
+    c.leave_line.ensures c.in_ok-bind.ensures.ok c.bind_shown.ensures r.limits _ now want c.args.why response (listed c.args.out.now) (listed c.put_shown.new.out)
+    (is ∙ shows_told c.args.r head c.args.why c.args.span k lo hi _ response from to c.is_some-ranged.ensures (c.in_ok-shown.ensures ∙ ap (λ s. shown head c.args.why s c.is_some-ranged.result) c.span_to.ensures)) c.put_shown.ensures)

@@ -1,0 +1,153 @@
+//! Exchanges for holes of what is stored.
+ghost use Rattle.std.specs.Prelude.{◌≡◌, ◌+◌, ◌≤◌, ◌<◌, ◌^◌, Some, None, nat_eq, true, length, unwrap_or, is_some, IsSomeAnd, IfOk, OnOk, OnErr};
+ghost use Rattle.std.specs.HashMap.{get};
+ghost use Rattle.hc_event.specs.Acts.{listed, spare};
+ghost use Rattle.hc_fields.specs.FieldList.{IsModest};
+ghost use Rattle.hc_range.specs.Spans.{IsWithin};
+ghost use Rattle.hc_record.specs.Plain.{plain};
+ghost use Rattle.hc_stored.specs.Entries.{shelf_of};
+ghost use Rattle.hc_stored.specs.Shelf.{head_at};
+ghost use Rattle.hc_stored.specs.Views.{admits_first};
+ghost use Rattle.hc_exch.specs.Exchanges.{next_of};
+ghost use Rattle.hc_model.specs.Moves.{hole_request};
+ghost use Rattle.hc_state.specs.Plans.{IsIdle, IsModestRequest, IsWaiting, HasCurrent, AnswersFirst, AnswersFilling};
+ghost use Rattle.hc_state.specs.Reads.{AnswersHole, IsInLength, IsShownAt};
+ghost use Rattle.hc_state.specs.Stands.{Stands};
+
+use crate::plan::open;
+use hc_event::{Acts, Need, Request};
+use hc_exch::Role;
+use hc_on_leave::misread::misread_by;
+use hc_range::{Span, write_range};
+use hc_record::StoredHead;
+use hc_state::{Rows, bind_first, own};
+use hc_store::Backend;
+use hc_text::NoMemory;
+use hc_validate::set_field;
+
+/// A consumer is bound to what is current as the only one, and opens an exchange for the first
+/// hole of what it wants.
+pub(crate) fn open_first_hole<B: Backend>(
+    rows: &mut Rows<B>,
+    now: u64,
+    c: u64,
+    r: u64,
+    head: &StoredHead,
+    span: Span,
+    hole: Span,
+    out: &mut Acts,
+) -> Result<(), NoMemory>
+    requires idle { IsSomeAnd (get nat_eq rows.old.consumers c) IsIdle }
+    requires modest { IsSomeAnd (get nat_eq rows.old.consumers c) IsModestRequest }
+    requires waits { IsSomeAnd (get nat_eq rows.old.consumers c) (IsWaiting rows.old.keys c) }
+    requires current { IsSomeAnd (get nat_eq rows.old.consumers c) (HasCurrent rows.old.keys r) }
+    requires head { head_at (shelf_of rows.old.entries) r ≡ Some (plain head.now) }
+    requires admits { admits_first c ((shelf_of rows.old.entries).kept r) ≡ true }
+    requires hole { IsSomeAnd head.now.total (IsWithin hole) }
+    requires few { next_of rows.old.exchanges < 2 ^ 62 }
+    requires room { 2 ≤ spare out.old }
+    ensures answers { OnOk result (IsSomeAnd (get nat_eq rows.old.consumers c)
+        (AnswersFirst rows.old rows.new (listed out.old) (listed out.new)
+        now c (plain head.now) span hole)) }
+    ensures received { OnOk result (rows.new.received ≡ rows.old.received) }
+    ensures limits { OnOk result (rows.new.limits ≡ rows.old.limits) }
+    ensures faults { (shelf_of rows.new.entries).faults ≡ (shelf_of rows.old.entries).faults }
+    ensures kept { OnErr result (listed out.new ≡ listed out.old) }
+{
+    let consumer = rows.consumers.get(&c).unwrap();
+    let request = hole_request(head, &consumer.request, hole)?;
+    let need = Need::Hole {
+        from: hole.lo,
+        to: hole.hi,
+    };
+    let x = rows
+        .exchanges
+        .launch(c, Role::Hole { r }, need, &request, now)?;
+    rows.entries.bind_first(r, c)?;
+    rows.keys.away(&request.key, c);
+    bind_first(&mut rows.consumers, c, r, span, x);
+    open(x, c, need, request, out);
+    Ok(())
+}
+
+/// A consumer that reads on opens an exchange for the hole that it stands before.
+pub(crate) fn open_later_hole<B: Backend>(
+    rows: &mut Rows<B>,
+    now: u64,
+    c: u64,
+    r: u64,
+    hole: Span,
+    out: &mut Acts,
+) -> Result<(), NoMemory>
+    requires stands { ∥ Stands rows.old ∥₁ }
+    requires shown { IsSomeAnd (get nat_eq rows.old.consumers c) (IsShownAt r) }
+    requires modest { IsSomeAnd (get nat_eq rows.old.consumers c) IsModestRequest }
+    requires hole { IsSomeAnd (head_at (shelf_of rows.old.entries) r) (IsInLength hole) }
+    requires few { next_of rows.old.exchanges < 2 ^ 62 }
+    requires room { 2 ≤ spare out.old }
+    ensures answers { OnOk result (IsSomeAnd (get nat_eq rows.old.consumers c)
+        (AnswersHole rows.old rows.new (listed out.old) (listed out.new) now c r hole)) }
+    ensures received { OnOk result (rows.new.received ≡ rows.old.received) }
+    ensures limits { OnOk result (rows.new.limits ≡ rows.old.limits) }
+    ensures faults { (shelf_of rows.old.entries).faults ≤ (shelf_of rows.new.entries).faults }
+    ensures kept { OnErr result (listed out.new ≡ listed out.old) }
+{
+    match rows.entries.head(r) {
+        Ok(head) => fill_later_hole(rows, now, c, r, &head, hole, out),
+        Err(error) => misread_by(rows, now, c, r, error, out),
+    }
+}
+
+/// A consumer that reads on opens an exchange for a hole of what has this stored head.
+fn fill_later_hole<B: Backend>(
+    rows: &mut Rows<B>,
+    now: u64,
+    c: u64,
+    r: u64,
+    head: &StoredHead,
+    hole: Span,
+    out: &mut Acts,
+) -> Result<(), NoMemory>
+    requires shown { IsSomeAnd (get nat_eq rows.old.consumers c) (IsShownAt r) }
+    requires modest { IsSomeAnd (get nat_eq rows.old.consumers c) IsModestRequest }
+    requires within { IsSomeAnd head.now.total (IsWithin hole) }
+    requires few { next_of rows.old.exchanges < 2 ^ 62 }
+    requires room { 2 ≤ spare out.old }
+    ensures answers { OnOk result (IsSomeAnd (get nat_eq rows.old.consumers c)
+        (AnswersFilling rows.old rows.new (listed out.old) (listed out.new)
+        now c (plain head.now) hole)) }
+    ensures received { OnOk result (rows.new.received ≡ rows.old.received) }
+    ensures limits { OnOk result (rows.new.limits ≡ rows.old.limits) }
+    ensures faults { (shelf_of rows.new.entries).faults ≡ (shelf_of rows.old.entries).faults }
+    ensures kept { OnErr result (listed out.new ≡ listed out.old) }
+{
+    let consumer = rows.consumers.get(&c).unwrap();
+    let request = hole_request(head, &consumer.request, hole)?;
+    let need = Need::Hole {
+        from: hole.lo,
+        to: hole.hi,
+    };
+    let x = rows
+        .exchanges
+        .launch(c, Role::Hole { r }, need, &request, now)?;
+    own(&mut rows.consumers, c, x);
+    open(x, c, need, request, out);
+    Ok(())
+}
+
+/// The request for a hole, as long as the tag is that of what is stored (RFC 9110 sections 13.1.5
+/// and 14.2).
+fn hole_request(head: &StoredHead, asked: &Request, hole: Span) -> Result<Request, NoMemory>
+    requires modest { IsModest asked.now.fields }
+    requires within { IsSomeAnd head.now.total (IsWithin hole) }
+    ensures { IfOk result (λ made. made
+        ≡ hole_request (plain head.now) asked.now hole (unwrap_or head.now.total 0)) }
+{
+    let mut request = asked.copy()?;
+    let mut range = Vec::new(request.fields.allocator());
+    write_range(hole, head.total.unwrap_or(0), &mut range)?;
+    set_field(&mut request.fields, b"range", range.as_slice())?;
+    let tag = head.fields.get(b"etag").unwrap_or(b"".as_slice());
+    set_field(&mut request.fields, b"if-range", tag)?;
+    Ok(request)
+}

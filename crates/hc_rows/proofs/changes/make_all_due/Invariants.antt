@@ -1,6 +1,0 @@
-use Rattle.hc_rows.specs.Changes.{with_due}
-use Rattle.hc_rows.proofs.ListLoops.{ChangedFirst}
-use Rattle.hc_rows.proofs.changes.make_all_due.Given as goal
-
-abbrev pub invariant-loop-c : goal.invariant-loop-c
-invariant-loop-c l = ChangedFirst l.c-index l.cs (with_due l.cause) l.initial.consumers l.consumers

@@ -1,8 +1,0 @@
-use Rattle.std.proofs.Common.{take}
-use Rattle.hc_entries.specs.Kept.{itself}
-use Rattle.hc_rising.specs.Rising.{has}
-use Rattle.hc_rows.specs.Heirs.{ChangesEach, parted}
-use Rattle.hc_rows.proofs.changes.part.Given as goal
-
-abbrev pub invariant-loop-c : goal.invariant-loop-c
-invariant-loop-c l = ChangesEach l.initial.consumers l.consumers (λ d. has itself d (take l.c-index l.cs)) (parted l.heir l.x l.cause)

@@ -1,8 +1,0 @@
-use Rattle.std.proofs.Common.{◌≡◌, drop}
-use Rattle.hc_validate.specs.Updates.{left_by}
-use Rattle.hc_model.specs.Heads.{varied_by}
-use Rattle.hc_rows.proofs.Varied.{unnamed}
-use Rattle.hc_rows.proofs.founded.varied.Given as goal
-
-abbrev pub invariant-loop-i : goal.invariant-loop-i
-invariant-loop-i l = left_by (unnamed l.told (drop l.i l.asked)) l.fields ≡ varied_by l.asked l.told

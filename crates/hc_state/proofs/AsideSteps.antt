@@ -1,0 +1,117 @@
+-- A consumer that reads nothing, before and after, stands elsewhere: what is kept stands for the tables then.
+use Rattle.std.proofs.Common.{◌≡◌, ◌≢◌, inl, inr, ℕ, ◌+◌, List, [], ◌∷◌, length, Bool, true, false, eqb, Option, Some, None, refl, ap, sym, ◌∙◌, subst, arith}
+use Rattle.std.specs.Prelude.{is_some, nat_eq, filter, not}
+use Rattle.std.specs.HashMap.{get, hash_map_len}
+use Rattle.hc_store.specs.declared.backend.Backend.{Ghosts}
+use Rattle.hc_stored.specs.Entries.{shelf_of}
+use Rattle.hc_entry.specs.Keys.{kept_of}
+use Rattle.hc_exch.specs.Exchanges.{table_of, next_of}
+use Rattle.hc_event.specs.declared.place.Place.{Place}
+use Rattle.hc_event.specs.declared.place.Place.TheVariants as place
+use Rattle.hc_model.specs.Denials.{is_live, is_live_place, live}
+use Rattle.hc_model.specs.Effects.{with_consumer}
+use Rattle.hc_model.specs.Reading.{reads}
+use Rattle.hc_model.specs.Rows as rows
+use Rattle.hc_model.specs.Rows.{Tables, Exchange}
+use Rattle.hc_state.specs.declared.consumer.Consumer.{Consumer}
+use Rattle.hc_state.specs.declared.rows.Rows.{Rows}
+use Rattle.hc_state.specs.Changes.{BecomesAt, one}
+use Rattle.hc_state.specs.Kept.{KeepsConsumer, KeepsExchange, held_for}
+use Rattle.hc_state.specs.Lines.{KeepsKey}
+use Rattle.hc_state.specs.Stands.{RowsStand}
+use Rattle.hc_state.specs.Stored.{is_first}
+use Rattle.hc_state.proofs.Asides.{IsAlike, same, aside, is_aside, held_alike, users_alike}
+use Rattle.hc_state.proofs.ConsumerSteps.{all_kept_with}
+use Rattle.hc_state.proofs.OneOfEach.{entries_same}
+use Rattle.hc_state.proofs.Ties.{exchange_same, kept_row}
+use Rattle.hc_state.proofs.Words.{same_or, eqb-same, eqb-other, false_true, is_there, as_received}
+
+-- WHO CAME ALONE
+
+-- whoever reads nothing is bound to nothing
+pub first_aside : (t : Tables) (q : ℕ) (row : Option rows.Consumer) → is_aside row ≡ true → is_first t q row ≡ false
+first_aside t q None is = refl
+first_aside t q (Some k) is = by_place k.place refl
+  where
+    by_place : (p : Place) → k.place ≡ p → is_first t q (Some k) ≡ false
+    by_place (place.Bound a lo hi by) at = false_true (sym (ap (λ z. not (reads z)) at) ∙ is)
+    by_place place.Line at = rw at refl
+    by_place (place.Passed a kept) at = rw at refl
+    by_place (place.Turn y) at = rw at refl
+    by_place (place.Direct y) at = rw at refl
+    by_place (place.Down why) at = rw at refl
+    by_place place.Over at = rw at refl
+
+pub first_alike : (t : Tables) (q : ℕ) (o p : Option rows.Consumer) → IsAlike o p → is_first t q p ≡ is_first t q o
+first_alike t q o p (same is) = ap (is_first t q) is
+first_alike t q o p (aside was is) = first_aside t q p is ∙ sym (first_aside t q o was)
+
+-- HOW MANY ARE LIVE
+
+filters_same : (f h : ℕ → Bool) → ((d : ℕ) → h d ≡ f d) → (cs : List ℕ) → filter h cs ≡ filter f cs
+filters_same f h alike [] = refl
+filters_same f h alike (d ∷ cs) = rw (alike d, filters_same f h alike cs) refl
+
+-- as many as before, where whoever is live is the same
+pub live_same : (t s : Tables) → s.starts ≡ t.starts → ((d : ℕ) → is_live (s.consumer d) ≡ is_live (t.consumer d)) → live s ≡ live t
+live_same t s starts lives = ap (λ cs. length (filter (λ d. is_live (s.consumer d)) cs)) starts ∙ ap length (filters_same (λ d. is_live (t.consumer d)) (λ d. is_live (s.consumer d)) lives t.starts)
+
+one_is : {A : Type 0} (o : Option A) → is_some o ≡ true → one o ≡ 1
+one_is None is = false_true is
+one_is (Some a) is = refl
+
+-- what stays there isn't counted anew
+pub length_same : {B : Type 0} {g : Ghosts B} (r u : Rows B g) (t : Tables) (c : ℕ) (v : rows.Consumer) (q : Consumer) → RowsStand r t → t.consumer c ≡ Some v → is_live_place v.place ≡ true → BecomesAt r.consumers u.consumers c (Some q) → hash_map_len u.consumers ≡ hash_map_len r.consumers
+length_same r u t c v q stands row lives becomes =
+    let kept : KeepsConsumer t (get nat_eq r.consumers c) (Some v) = subst (KeepsConsumer t (get nat_eq r.consumers c)) row (stands.consumers c) in
+    let before : one (get nat_eq r.consumers c) ≡ 1 = one_is (get nat_eq r.consumers c) (some_by (get nat_eq r.consumers c) kept) in
+    let len = becomes.len in
+    omega (arith, len, before)
+  where
+    some_by : (o : Option Consumer) → KeepsConsumer t o (Some v) → is_some o ≡ true
+    some_by None kept = false_true (sym kept ∙ lives)
+    some_by (Some k) kept = refl
+
+-- ALL OF IT
+
+module _ {B : Type 0} {g : Ghosts B} (r u : Rows B g) (t : Tables) (c : ℕ) (v w : rows.Consumer) (q : Consumer) (stands : RowsStand r t) (row : t.consumer c ≡ Some v)
+    (was : reads v.place ≡ false) (is_now : reads w.place ≡ false) (lived : is_live_place v.place ≡ true) (lives : is_live_place w.place ≡ true)
+    (limits : u.limits ≡ r.limits) (received : u.received ≡ r.received) (last : u.last_start ≡ r.last_start) (exchanges : u.exchanges ≡ r.exchanges) (entries : u.entries ≡ r.entries)
+    (becomes : BecomesAt r.consumers u.consumers c (Some q)) (kept : KeepsConsumer t (Some q) (Some w)) (keys : (key : List ℕ) → KeepsKey (with_consumer c (Some w) t) key (kept_of u.keys key)) where
+  abbrev s : Tables
+  s = with_consumer c (Some w) t
+
+  others : (d : ℕ) → d ≢ c → s.consumer d ≡ t.consumer d
+  others d ne = rw (eqb-other c d (λ e. ne (sym e))) refl
+
+  here : s.consumer c ≡ Some w
+  here = rw (eqb-same c) refl
+
+  pub alike : (d : ℕ) → IsAlike (t.consumer d) (s.consumer d)
+  alike d = elim (same_or c d) [
+    | inl e ↦ aside (rw (← e, row) (ap not was)) (rw (← e, here) (ap not is_now))
+    | inr ne ↦ same (others d (λ e. ne (sym e)))
+  ]
+
+  live_each : (d : ℕ) → is_live (s.consumer d) ≡ is_live (t.consumer d)
+  live_each d = elim (same_or c d) [
+    | inl e ↦ rw (← e, here, row) (lives ∙ sym lived)
+    | inr ne ↦ ap is_live (others d (λ e. ne (sym e)))
+  ]
+
+  held : (x : ℕ) (o : Option Exchange) → held_for s x o ≡ held_for t x o
+  held x None = refl
+  held x (Some z) = held_alike t s alike x z refl
+
+  pub stands_aside : RowsStand u s
+  stands_aside = record {
+    limits = rw (entries, limits) stands.limits;
+    received = as_received received stands.received;
+    last_start = last ∙ stands.last_start;
+    next = rw exchanges stands.next;
+    count = length_same r u t c v q stands row lived becomes ∙ (stands.count ∙ sym (live_same t s refl live_each));
+    consumers = all_kept_with t c (Some w) r u (Some q) becomes kept stands.consumers;
+    exchanges = λ x. rw exchanges (exchange_same t s x (table_of r.exchanges x) (record { row = refl; brings = λ z at. refl; held = held x (t.exchange x) }) (stands.exchanges x));
+    keys = keys;
+    entries = rw entries (entries_same t s (shelf_of r.entries) (λ n. refl) refl refl (λ n d. users_alike t s alike n d) (λ n d. first_alike t n (t.consumer d) (s.consumer d) (alike d)) (λ n. refl) (λ y on. on) stands.entries);
+  }

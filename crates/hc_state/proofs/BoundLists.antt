@@ -1,0 +1,64 @@
+-- Somebody is bound to a representation in the tables where and only where somebody is kept as bound to it.
+use Rattle.std.proofs.Common.{◌≡◌, ◌≢◌, inl, inr, ℕ, List, [], ◌∷◌, length, Bool, true, false, Option, Some, None, refl, ap, sym, ◌∙◌, arith}
+use Rattle.std.proofs.lemmas.Bool.Decides.{nat_tests}
+use Rattle.std.specs.Prelude.{is_some, filter, ◌==◌}
+use Rattle.hc_stored.specs.Kept.{Kept, itself, is_nobody}
+use Rattle.hc_sorted.specs.Sorted.{has}
+use Rattle.hc_model.specs.Reading.{bound, is_bound}
+use Rattle.hc_model.specs.Rows as rows
+use Rattle.hc_model.specs.Rows.{Tables, Representation}
+use Rattle.hc_model.specs.Sound.{Among}
+use Rattle.hc_state.specs.Stored.{IsEntry}
+use Rattle.hc_state.proofs.Words.{eqb-same, false_true}
+
+nobody_passes : (f : ℕ → Bool) → ((c : ℕ) → f c ≡ false) → (cs : List ℕ) → filter f cs ≡ []
+nobody_passes f none [] = refl
+nobody_passes f none (c ∷ cs) = rw (none c) (nobody_passes f none cs)
+
+none_left : (d : ℕ) (ds : List ℕ) → (d ∷ ds) ≡ [] → ⊥
+none_left d ds never = cc
+
+somebody_passes : (f : ℕ → Bool) (c : ℕ) (cs : List ℕ) → Among c cs → f c ≡ true → filter f cs ≢ []
+somebody_passes f c [] among passes = λ is. absurd among
+somebody_passes f c (d ∷ cs) (inl here) passes = λ is. let on : f d ≡ true = ap f here ∙ passes in none_left d (filter f cs) (rw on at is)
+somebody_passes f c (d ∷ cs) (inr later) passes = by_test (f d) refl (somebody_passes f c cs later passes)
+  where
+    by_test : (b : Bool) → f d ≡ b → filter f cs ≢ [] → filter f (d ∷ cs) ≢ []
+    by_test true on rest = λ is. none_left d (filter f cs) (rw on at is)
+    by_test false off rest = λ is. rest (rw off at is)
+
+no_user : (cs : List ℕ) → is_nobody cs ≡ true → (c : ℕ) → has itself c cs ≡ false
+no_user [] none c = refl
+no_user (d ∷ cs) none c = false_true none
+
+first_user : (cs : List ℕ) → is_nobody cs ≡ false → (c : ℕ) × (has itself c cs ≡ true)
+first_user [] some = false_true (sym some)
+first_user (d ∷ cs) some = (d, rw (eqb-same d) refl)
+
+module _ (t : Tables) (n : ℕ) (k : Kept) (v : Representation) (entry : IsEntry t n k v) where
+  pub bound_none : is_nobody k.bound ≡ true → bound t n ≡ []
+  unfolding bound
+  bound_none none = nobody_passes (λ c. is_bound n (t.consumer c)) (λ c. sym (entry.bound c) ∙ no_user k.bound none c) t.starts
+
+bound_row : (n : ℕ) (z : Option rows.Consumer) → is_bound n z ≡ true → is_some z ≡ true
+bound_row n None is = false_true is
+bound_row n (Some w) is = refl
+
+module _ (t : Tables) (started : (c : ℕ) → is_some (t.consumer c) ≡ true → Among c t.starts) (n : ℕ) (k : Kept) (v : Representation) (entry : IsEntry t n k v) where
+  pub bound_some : is_nobody k.bound ≡ false → bound t n ≢ []
+  unfolding bound
+  bound_some some =
+      let (c, user) = first_user k.bound some in
+      let reads : is_bound n (t.consumer c) ≡ true = sym (entry.bound c) ∙ user in
+      somebody_passes (λ d. is_bound n (t.consumer d)) c t.starts (started c (bound_row n (t.consumer c) reads)) reads
+
+  no_length : (cs : List ℕ) → cs ≢ [] → (length cs == 0) ≡ false
+  no_length [] some = absurd (some refl)
+  no_length (c ∷ cs) some = grind (arith, nat_tests)
+
+  pub nobody_bound : is_nobody k.bound ≡ (length (bound t n) == 0)
+  nobody_bound = by_test (is_nobody k.bound) refl
+    where
+      by_test : (b : Bool) → is_nobody k.bound ≡ b → b ≡ (length (bound t n) == 0)
+      by_test true none = rw (bound_none t n k v entry none) refl
+      by_test false some = sym (no_length (bound t n) (bound_some some))

@@ -1,0 +1,204 @@
+-- An exchange is closed that stops: the acts, and the tables for which the rows stand.
+use Rattle.std.proofs.Common.{◌≡◌, ◌≢◌, inl, inr, ℕ, List, [], ◌∷◌, ◌++◌, Bool, true, false, Option, Some, None, refl, ap, sym, ◌∙◌, subst, arith}
+use Rattle.std.proofs.lemmas.Bool.Decides.{nat_tests}
+use Rattle.std.proofs.lemmas.List.{append-nil}
+use Rattle.std.specs.Prelude.{is_some, nat_eq, map, option_map, not, ◌&&◌, if◌then◌else◌}
+use Rattle.hc_store.specs.declared.backend.Backend.{Ghosts}
+use Rattle.hc_event.specs.declared.act.Act.{Act}
+use Rattle.hc_event.specs.declared.act.Act.TheVariants as act
+use Rattle.hc_event.specs.declared.act.LostKind.TheVariants as kind
+use Rattle.hc_rules.specs.declared.room.Limits.{Limits}
+use Rattle.hc_exch.specs.Exchanges.{table_of}
+use Rattle.hc_exch.specs.Exchanges as exch
+use Rattle.hc_exch.specs.Known as known
+use Rattle.hc_event.specs.declared.place.Place.{Place}
+use Rattle.hc_event.specs.declared.place.Place.TheVariants as place
+use Rattle.hc_event.specs.declared.place.BoundBy.{BoundBy}
+use Rattle.hc_event.specs.declared.place.BoundBy.TheVariants as by
+use Rattle.hc_model.specs.ConsumerRows.{back_in_line}
+use Rattle.hc_model.specs.Effects.{with_consumer, finished, with_representation, closed, all_closed, let_go, let_some_go, gone, lost_to, back_from, waits_for, left_by, going_with, is_unkeepable}
+use Rattle.hc_model.specs.Exchanges.{family, is_headless}
+use Rattle.hc_model.specs.Kinds.{brings_to}
+use Rattle.hc_model.specs.Rows as rows
+use Rattle.hc_model.specs.Rows.{Tables, Exchange, Representation}
+use Rattle.hc_model.specs.Tables.{added}
+use Rattle.hc_model.specs.Writers.{exclusive}
+use Rattle.hc_model.proofs.SameTables.{same_tables}
+use Rattle.hc_state.specs.declared.rows.Rows.{Rows}
+use Rattle.hc_state.specs.Facts.{Facts}
+use Rattle.hc_state.specs.Left as leaving
+use Rattle.hc_state.specs.Left.{HasLeft}
+use Rattle.hc_state.specs.Stands.{RowsStand, KeepsRest}
+use Rattle.hc_state.specs.Stopped.{with_consumers, NobodyAwaits, MayStop, HasStopped, quietly, unsealed}
+use Rattle.hc_state.proofs.Closing.{stands_unstored}
+use Rattle.hc_state.proofs.LeftAlone.{once_left}
+use Rattle.hc_state.proofs.Maps.{act_and}
+use Rattle.hc_state.proofs.Stopping.{IsApartNow, GoesWith}
+use Rattle.hc_state.proofs.Words.{same_or, eqb-same, eqb-other, then_false, none_some, false_true, some_is, same_row}
+
+-- WHAT IS LET GO
+
+-- nobody waits for it
+abbrev pub NobodyWaits : Tables → ℕ → Type 0
+NobodyWaits t q = (d : ℕ) (kept : Option ℕ) (u : rows.Consumer) → t.consumer d ≡ Some u → u.place ≡ place.Passed q kept → ⊥
+
+-- what is gone already is let go by nothing
+pub let_gone_is : (now : ℕ) (t : Tables) (q : ℕ) (p : Representation) → t.representation q ≡ Some p → p.is_gone ≡ true → NobodyWaits t q → let_go now q t ≡ t
+let_gone_is now t q p row is_gone nobody = same_tables (let_go now q t) t (record {
+  moment = refl;
+  entries = refl;
+  received = refl;
+  last_start = refl;
+  starts = refl;
+  opened = refl;
+  openings = refl;
+  founded = refl;
+  used = refl;
+  exchange = λ x. refl;
+  representation = rep_same;
+  consumer = λ d. by_row d (t.consumer d) refl;
+})
+  where
+    gone_same : gone p ≡ p
+    gone_same = ap (λ (b : Bool). record p { is_gone = b }) (sym is_gone)
+
+    rep_same : (n : ℕ) → (let_go now q t).representation n ≡ t.representation n
+    rep_same n = elim (same_or q n) [
+      | inl e ↦
+          let here : t.representation n ≡ Some p = ap t.representation (sym e) ∙ row in
+          let goes : (let_go now q t).representation n ≡ option_map gone (t.representation n) = rw (e, eqb-same n) refl in
+          goes ∙ (ap (option_map gone) here ∙ (ap Some gone_same ∙ sym here))
+      | inr ne ↦ rw (eqb-other q n ne) refl
+    ]
+
+    by_row : (d : ℕ) (o : Option rows.Consumer) → t.consumer d ≡ o → option_map (back_from now q) o ≡ o
+    by_row d None at = refl
+    by_row d (Some u) at = ap Some (by_place u.place refl)
+      where
+        by_test : (n : ℕ) (kept : Option ℕ) (b : Bool) → u.place ≡ place.Passed n kept → nat_eq q n ≡ b → (if b then back_in_line now u else u) ≡ u
+        by_test n kept false place_is off = refl
+        by_test n kept true place_is same =
+            let one : n ≡ q = grind (arith, nat_tests, same) in
+            absurd (nobody d kept u at (place_is ∙ ap (λ (m : ℕ). place.Passed m kept) one))
+
+        at_place : (p : Place) → u.place ≡ p → back_from now q u ≡ (if waits_for q p then back_in_line now u else u)
+        at_place p place_is = ap (λ (z : Place). if waits_for q z then back_in_line now u else u) place_is
+
+        by_place : (p : Place) → u.place ≡ p → back_from now q u ≡ u
+        by_place (place.Passed n kept) place_is = at_place (place.Passed n kept) place_is ∙ by_test n kept (nat_eq q n) place_is refl
+        by_place place.Line place_is = at_place place.Line place_is
+        by_place (place.Turn y) place_is = at_place (place.Turn y) place_is
+        by_place (place.Bound n lo hi how) place_is = at_place (place.Bound n lo hi how) place_is
+        by_place (place.Direct y) place_is = at_place (place.Direct y) place_is
+        by_place (place.Down why) place_is = at_place (place.Down why) place_is
+        by_place place.Over place_is = at_place place.Over place_is
+
+-- whoever starts over reads nothing, and waits for no head
+module _ (now q : ℕ) (t : Tables) (x : ℕ) where
+  stood : (d : ℕ) (k u : rows.Consumer) → t.consumer d ≡ Some k → (let_go now q t).consumer d ≡ Some u → (u.place ≡ place.Line → ⊥) → u ≡ k
+  stood d k u at is off =
+      let after : Some (back_from now q k) ≡ Some u = sym (ap (option_map (back_from now q)) at) ∙ is in
+      by_test (waits_for q k.place) refl (some_is (back_from now q k) u after)
+    where
+      by_test : (b : Bool) → waits_for q k.place ≡ b → (if b then back_in_line now k else k) ≡ u → u ≡ k
+      by_test true on same = absurd (off (sym (ap (λ (z : rows.Consumer). z.place) same)))
+      by_test false on same = sym same
+
+  there : (d : ℕ) (u : rows.Consumer) → (let_go now q t).consumer d ≡ Some u → (k : rows.Consumer) × (t.consumer d ≡ Some k)
+  there d u is = by_row (t.consumer d) refl is
+    where
+      by_row : (o : Option rows.Consumer) → t.consumer d ≡ o → option_map (back_from now q) o ≡ Some u → (k : rows.Consumer) × (t.consumer d ≡ Some k)
+      by_row None at h = none_some u h
+      by_row (Some k) at h = (k, at)
+
+  line_not_direct : (y : ℕ) → place.Line ≡ place.Direct y → ⊥
+  line_not_direct y h = cc
+
+  pub unread_go : ((d : ℕ) (k : rows.Consumer) → t.consumer d ≡ Some k → k.place ≡ place.Direct x → ⊥) → (d : ℕ) (u : rows.Consumer) → (let_go now q t).consumer d ≡ Some u → u.place ≡ place.Direct x → ⊥
+  unread_go nobody d u is at =
+      let k = there d u is in
+      let same = stood d k.0 u k.1 is (λ line. line_not_direct x (sym line ∙ at)) in
+      nobody d k.0 k.1 (sym (ap (λ (z : rows.Consumer). z.place) same) ∙ at)
+
+  line_not_bound : (r lo : ℕ) (hi : Option ℕ) (how : BoundBy) → place.Line ≡ place.Bound r lo hi how → ⊥
+  line_not_bound r lo hi how h = cc
+
+  pub unawaited_go : NobodyAwaits t x → NobodyAwaits (let_go now q t) x
+  unawaited_go nobody d r lo hi u is at =
+      let k = there d u is in
+      let same = stood d k.0 u k.1 is (λ line. line_not_bound r lo hi (by.FirstHole x) (sym line ∙ at)) in
+      nobody d r lo hi k.0 k.1 (sym (ap (λ (z : rows.Consumer). z.place) same) ∙ at)
+
+-- WHERE IT STOPS
+
+module _ {B : Type 0} {g : Ghosts B} (limits : Limits) (u : Rows B g) (t : Tables) (facts : Facts limits t) (f : ℕ → Option rows.Consumer) (x : ℕ) (alone : Option ℕ) (stop : MayStop t f x alone) (now faults : ℕ) (before out : List Act) where
+  abbrev s : Tables
+  s = with_consumers f t
+
+  pub quiet : (o : Option ℕ) → going_with t (Some x) ≡ o → out ≡ before → RowsStand u (let_some_go now o (closed x s)) → HasStopped faults u t f before out now x
+  quiet o going acts rows = quietly acts (subst (λ (z : Option ℕ). RowsStand u (let_some_go now z (closed x s))) (sym going) rows)
+
+  -- nothing that isn't gone is stored by it
+  pub stopped_nothing : (r : Rows B g) → RowsStand r s → KeepsRest r u → u.consumers ≡ r.consumers → exch.Becomes known.closed x r.exchanges u.exchanges → IsApartNow t x → out ≡ before → HasStopped faults u t f before out now x
+  stopped_nothing r stands rest consumers becomes apart acts = by_test (is_unkeepable (t.representation x)) refl
+    where
+      rows : RowsStand u (closed x s)
+      rows = stands_unstored r u s x stands stop.unawaited apart.apart rest.limits rest.received rest.last_start consumers rest.keys rest.entries becomes
+
+      by_row : (z : Option Representation) → t.representation x ≡ z → is_unkeepable z ≡ true → let_go now x (closed x s) ≡ closed x s
+      by_row None at on = false_true on
+      by_row (Some p) at on =
+          let went = apart.went p at on in
+          let_gone_is now (closed x s) x p at went (λ d kept k is place_is.
+          let w = stop.may.waits d x kept k is place_is in
+          let gone_too : w.v.is_gone ≡ true = ap (λ (z : Representation). z.is_gone) (same_row (t.representation x) w.v p w.row at) ∙ went in
+          let never : true ≡ false = sym gone_too ∙ w.not_gone in absurd (cc))
+
+      by_test : (b : Bool) → is_unkeepable (t.representation x) ≡ b → HasStopped faults u t f before out now x
+      by_test false off = quiet None (rw off refl) acts rows
+      by_test true on = quiet (Some x) (rw on refl) acts (subst (RowsStand u) (sym (by_row (t.representation x) refl on)) rows)
+
+  -- a 200 that can't be completed later goes
+  stopped_gone : (r : Rows B g) → RowsStand r (let_go now x s) → KeepsRest r u → u.consumers ≡ r.consumers → exch.Becomes known.closed x r.exchanges u.exchanges → GoesWith t x x stop.w → out ≡ before → HasStopped faults u t f before out now x
+  stopped_gone r stands rest consumers becomes goes acts =
+      quiet (Some x) (rw (goes.row, goes.unkept) refl) acts
+      (stands_unstored r u (let_go now x s) x stands (unawaited_go now x s x stop.unawaited) apart rest.limits rest.received rest.last_start consumers rest.keys rest.entries becomes)
+    where
+      gone_there : (o : Option Representation) (p : Representation) → option_map gone o ≡ Some p → p.is_gone ≡ true
+      gone_there None p h = none_some p h
+      gone_there (Some a) p h = sym (ap (λ (z : Representation). z.is_gone) (some_is (gone a) p h))
+
+      apart : (q : ℕ) (p : Representation) → (let_go now x s).representation q ≡ Some p → p.is_gone ≡ false → brings_to q x (t.exchange x) ≡ false
+      apart q p there stays = elim (same_or x q) [
+        | inl e ↦
+            let goes_there : (let_go now x s).representation q ≡ option_map gone (t.representation q) = rw (e, eqb-same q) refl in
+            false_true (sym stays ∙ gone_there (t.representation q) p (sym goes_there ∙ there))
+        | inr ne ↦ ap (brings_to q x) stop.row ∙ then_false stop.w.is_open (nat_eq (family x stop.w) q) (rw goes.founded (eqb-other x q ne))
+      ]
+
+  -- whatever it is called
+  pub stopped_going : (q : ℕ) (r : Rows B g) → RowsStand r (let_go now q s) → KeepsRest r u → u.consumers ≡ r.consumers → exch.Becomes known.closed x r.exchanges u.exchanges → GoesWith t x q stop.w → out ≡ before → HasStopped faults u t f before out now x
+  stopped_going q r stands rest consumers becomes goes acts =
+      stopped_gone r (subst (λ (n : ℕ). RowsStand r (let_go now n s)) goes.here stands) rest consumers becomes (subst (λ (n : ℕ). GoesWith t x n stop.w) goes.here goes) acts
+
+-- WHERE ITS CONSUMER LEFT
+
+-- it told that it is closed
+pub has_left : {B : Type 0} {g : Ghosts B} (u : Rows B g) (t : Tables) (c : ℕ) (v : rows.Consumer) (x now faults : ℕ) (before mid out : List Act) → left_by t c v ≡ Some x → mid ≡ before ++ (act.Close x ∷ []) → HasStopped faults u t (once_left t c v) mid out now x → HasLeft faults u t before out now c v
+has_left u t c v x now faults before mid out left first (quietly same rows) =
+    leaving.quietly (same ∙ (first ∙ ap (λ (z : Option ℕ). before ++ map act.Close (added z [])) (sym left)))
+    (subst (λ (z : Option ℕ). RowsStand u (let_some_go now (going_with t z) (with_consumer c (Some (finished v)) (all_closed (added z []) t)))) (sym left) rows)
+has_left u t c v x now faults before mid out left first (unsealed f) = leaving.unsealed (record {
+  x = x;
+  left = left;
+  sealed = f.sealed;
+  acts = act_and before mid out (act.Close x) (act.Lost f.sealed.r kind.Fault ∷ []) first f.acts;
+  failed = f.failed;
+  rows = subst (λ (z : Option ℕ). RowsStand u (let_go now f.sealed.r (with_representation f.sealed.r (Some (lost_to (exclusive t f.sealed.r f.sealed.v) f.sealed.v)) (with_consumer c (Some (finished v)) (all_closed (added z []) t))))) (sym left) f.rows;
+})
+
+-- where it leaves nothing
+pub leaves_nothing : {B : Type 0} {g : Ghosts B} (u : Rows B g) (t : Tables) (c : ℕ) (v : rows.Consumer) (now faults : ℕ) (before : List Act) → left_by t c v ≡ None → RowsStand u (with_consumer c (Some (finished v)) t) → HasLeft faults u t before before now c v
+leaves_nothing u t c v now faults before none rows =
+    leaving.quietly (sym (append-nil before) ∙ ap (λ (z : Option ℕ). before ++ map act.Close (added z [])) (sym none))
+    (subst (λ (z : Option ℕ). RowsStand u (let_some_go now (going_with t z) (with_consumer c (Some (finished v)) (all_closed (added z []) t)))) (sym none) rows)

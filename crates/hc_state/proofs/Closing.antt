@@ -1,0 +1,239 @@
+-- An exchange is closed: what is kept stands for the tables in which it is over.
+use Rattle.std.proofs.Common.{◌≡◌, ◌≢◌, inl, inr, ℕ, ◌+◌, ◌-◌, List, [], ◌∷◌, length, Bool, true, false, Option, Some, None, refl, ap, sym, ◌∙◌, subst}
+use Rattle.std.specs.Prelude.{nat_eq, bytes_eq, drop, option_map, ◌&&◌, if◌then◌else◌}
+use Rattle.std.specs.HashMap.{get, hash_map_len}
+use Rattle.hc_store.specs.declared.backend.Backend.{Ghosts}
+use Rattle.hc_event.specs.declared.event.Response.{Response}
+use Rattle.hc_stored.specs.Entries.{shelf_of}
+use Rattle.hc_stored.specs.Kept.{Kept}
+use Rattle.hc_stored.specs.Shelf.{Shelf}
+use Rattle.hc_entry.specs.Keys.{kept_of}
+use Rattle.hc_entry.specs.Kept as keyed
+use Rattle.hc_exch.specs.Exchanges.{table_of, next_of}
+use Rattle.hc_exch.specs.Exchanges as exch
+use Rattle.hc_exch.specs.Known as known
+use Rattle.hc_exch.specs.Known.{Known}
+use Rattle.hc_rules.specs.Lengths.{base_of, promise_of}
+use Rattle.hc_event.specs.declared.place.Place.{Place}
+use Rattle.hc_event.specs.declared.place.Place.TheVariants as place
+use Rattle.hc_event.specs.declared.place.BoundBy.{BoundBy}
+use Rattle.hc_event.specs.declared.place.BoundBy.TheVariants as by
+use Rattle.hc_model.specs.Currents.{current, is_number}
+use Rattle.hc_model.specs.Effects.{closed, over}
+use Rattle.hc_model.specs.Exchanges.{base, promised, front, family, is_open, is_headless, length_by}
+use Rattle.hc_model.specs.Holes.{absent_from}
+use Rattle.hc_model.specs.Kinds.{kind_of, is_growing, brings_to}
+use Rattle.hc_model.specs.Reading.{bound, offset, is_bound_place, base_in, end_in, end_of_direct}
+use Rattle.hc_model.specs.Rows as rows
+use Rattle.hc_model.specs.Rows.{Tables, Exchange, Representation}
+use Rattle.hc_state.specs.declared.consumer.Consumer.{Consumer}
+use Rattle.hc_state.specs.declared.rows.Rows.{Rows}
+use Rattle.hc_state.specs.Kept.{KeepsConsumer, head_in, KeepsExchange, KeepsRunning, held_for, held_of, held_alone, unread, unstored}
+use Rattle.hc_state.specs.Lines.{KeepsKey, is_away, is_away_at}
+use Rattle.hc_state.specs.Stands.{RowsStand}
+use Rattle.hc_state.specs.Stopped.{NobodyAwaits}
+use Rattle.hc_state.specs.Stored.{IsEntry, IsDropped, KeepsEntry, KeepsEntries, is_first}
+use Rattle.hc_state.proofs.Asides.{same, held_alike}
+use Rattle.hc_state.proofs.OneOfEach.{first_row, growing_same, kind_same}
+use Rattle.hc_state.proofs.PastRows.{consumer_alike}
+use Rattle.hc_state.proofs.Ties.{exchange_same, key_same, overs_closed, writer_then}
+use Rattle.hc_state.proofs.Words.{same_or, eqb-same, eqb-other, then_false, as_received}
+
+-- WHAT IS OVER BROUGHT AS MUCH
+
+pub base_over : (w : Exchange) → base (over w) ≡ base w
+base_over w = by_head w.head
+  where
+    by_head : (h : Option Response) → base_of (length_by (over w) h) ≡ base_of (length_by w h)
+    by_head None = refl
+    by_head (Some response) = refl
+
+pub promise_over : (w : Exchange) → promised (over w) ≡ promised w
+promise_over w = by_head w.head
+  where
+    by_head : (h : Option Response) → promise_of (length_by (over w) h) ≡ promise_of (length_by w h)
+    by_head None = refl
+    by_head (Some response) = refl
+
+module _ (t : Tables) (x : ℕ) where
+  abbrev pub s : Tables
+  s = closed x t
+
+  unstored_over : (w : Exchange) (v : Representation) (o : Option rows.Consumer) → unstored t x (over w) v o ≡ unstored t x w v o
+  unstored_over w v None = refl
+  unstored_over w v (Some k) =
+      ap (λ (b : ℕ). if is_bound_place (family x w) k.place && is_number k.own x then drop (absent_from v.stored v.reach (offset t k) (b + length w.body) - b) w.body else []) (base_over w)
+
+  alone_over : (w : Exchange) (v : Representation) (o : Option ℕ) → held_alone t x (over w) v o ≡ held_alone t x w v o
+  alone_over w v None = refl
+  alone_over w v (Some c) = unstored_over w v (t.consumer c)
+
+  pub of_over : (w : Exchange) (o : Option Representation) → held_of t x (over w) o ≡ held_of t x w o
+  of_over w None = refl
+  of_over w (Some v) = alone_over w v v.alone
+
+  held_same : (y : ℕ) (o : Option Exchange) → held_for s y o ≡ held_for t y o
+  held_same y None = refl
+  held_same y (Some w) = held_alike t s (λ d. same refl) y w refl
+
+  held_over : (o : Option Exchange) → held_for s x (option_map over o) ≡ held_for t x o
+  held_over None = refl
+  held_over (Some w) = held_same x (Some (over w)) ∙ of_over w (t.representation (family x w))
+
+  not_open : (o : Option Exchange) → is_open (option_map over o) ≡ false
+  not_open None = refl
+  not_open (Some w) = refl
+
+  here : s.exchange x ≡ option_map over (t.exchange x)
+  here = rw (eqb-same x) refl
+
+  others : (y : ℕ) → x ≢ y → s.exchange y ≡ t.exchange y
+  others y ne = rw (eqb-other x y ne) refl
+
+  pub exchange_closed : (y : ℕ) (before after : Known) → after ≡ (if nat_eq x y then known.closed before else before) → KeepsExchange t y before → KeepsExchange s y after
+  exchange_closed y before after is kept = elim (same_or x y) [
+    | inl e ↦
+        let at : after ≡ known.closed before = is ∙ rw (e, eqb-same y) refl in
+        let row : s.exchange y ≡ option_map over (t.exchange y) = rw (e, eqb-same y) refl in
+        record {
+          running = rw at (subst (λ (o : Option Exchange). KeepsRunning s y None o) (sym row) (not_open (t.exchange y)));
+          held = rw at (kept.held ∙ sym (ap (held_for s y) row ∙ subst (λ (n : ℕ). held_for s n (option_map over (t.exchange n)) ≡ held_for t n (t.exchange n)) e (held_over (t.exchange x))));
+        }
+    | inr ne ↦
+        let at : after ≡ before = is ∙ rw (eqb-other x y ne) refl in
+        rw at (exchange_same t s y before (record { row = others y ne; brings = λ w there. refl; held = held_same y (t.exchange y) }) kept)
+  ]
+
+  headless_over : (o : Option Exchange) → is_headless (option_map over o) ≡ false
+  headless_over None = refl
+  headless_over (Some w) = refl
+
+  away_closed : NobodyAwaits t x → (key : List ℕ) (d : ℕ) (o : Option rows.Consumer) → t.consumer d ≡ o → is_away s key o ≡ is_away t key o
+  away_closed nobody key d None row = refl
+  away_closed nobody key d (Some k) row = ap (λ b. bytes_eq k.request.key key && b) (by_place k.place refl)
+    where
+      by_place : (p : Place) → k.place ≡ p → is_away_at s k.place ≡ is_away_at t k.place
+      by_place (place.Bound r lo hi (by.FirstHole y)) at = rw at (elim (same_or x y) [
+        | inl e ↦
+            let headed : is_headless (t.exchange y) ≡ false = subst (λ (n : ℕ). is_headless (t.exchange n) ≡ false) e (nobody d r lo hi k row (at ∙ ap (λ (n : ℕ). place.Bound r lo hi (by.FirstHole n)) (sym e))) in
+            ap is_headless (let there : s.exchange y ≡ option_map over (t.exchange y) = rw (e, eqb-same y) refl in there) ∙ (headless_over (t.exchange y) ∙ sym headed)
+        | inr ne ↦ ap is_headless (others y ne)
+      ])
+      by_place (place.Bound r lo hi by.Founding) at = rw at refl
+      by_place (place.Bound r lo hi by.Plan) at = rw at refl
+      by_place place.Line at = rw at refl
+      by_place (place.Passed q kept) at = rw at refl
+      by_place (place.Turn y) at = rw at refl
+      by_place (place.Direct y) at = rw at refl
+      by_place (place.Down why) at = rw at refl
+      by_place place.Over at = rw at refl
+
+  pub key_closed : NobodyAwaits t x → (key : List ℕ) (k : keyed.Kept) → KeepsKey t key k → KeepsKey s key k
+  unfolding current
+  key_closed nobody key k kept = key_same t s key k (record { current = refl; in_line = λ d. refl; passed = λ d. refl; away = λ d. away_closed nobody key d (t.consumer d) refl; turn = λ d. refl }) kept
+
+  -- REPRESENTATIONS
+
+  -- it brings nothing of this
+  abbrev pub IsApart : ℕ → Type 0
+  IsApart q = brings_to q x (t.exchange x) ≡ false
+
+  brings_over : (q : ℕ) (o : Option Exchange) → brings_to q x (option_map over o) ≡ false
+  brings_over q None = refl
+  brings_over q (Some w) = refl
+
+  growing_apart : (q : ℕ) → IsApart q → is_growing s q ≡ is_growing t q
+  growing_apart q apart = growing_same t s q refl (λ y. elim (same_or x y) [
+    | inl e ↦ subst (λ (n : ℕ). brings_to q n (s.exchange n) ≡ brings_to q n (t.exchange n)) e (ap (brings_to q x) here ∙ (brings_over q (t.exchange x) ∙ sym apart))
+    | inr ne ↦ ap (brings_to q y) (others y ne)
+  ])
+
+  -- of what isn't gone it brings nothing
+  pub entry_closed : (q : ℕ) (k : Option Kept) (o : Option Representation) → ((v : Representation) → o ≡ Some v → v.is_gone ≡ false → IsApart q) → KeepsEntry t q k o → KeepsEntry s q k o
+  unfolding bound
+  entry_closed q None None apart kept = tt
+  entry_closed q None (Some v) apart kept = record { gone = kept.gone; unused = kept.unused }
+  entry_closed q (Some k) None apart kept = kept
+  entry_closed q (Some k) (Some v) apart kept = record {
+    used = kept.used;
+    key = kept.key;
+    head = kept.head;
+    length = kept.length;
+    kind = λ stays. kept.kind stays ∙ sym (kind_same t s q v (growing_apart q (apart v refl stays)));
+    whole = kept.whole;
+    cells = kept.cells;
+    reach = kept.reach;
+    bound = kept.bound;
+    first = λ c. kept.first c ∙ sym (first_row t s (λ n. refl) q (t.consumer c));
+    writer = writer_then (λ y on. overs_closed (nat_eq x y) (t.exchange y) on) kept.writer;
+    is_lost = kept.is_lost;
+    alone = kept.alone;
+    is_gone = kept.is_gone;
+  }
+
+  pub entries_closed : (shelf : Shelf) → ((q : ℕ) (v : Representation) → t.representation q ≡ Some v → v.is_gone ≡ false → IsApart q) → KeepsEntries t shelf → KeepsEntries s shelf
+  entries_closed shelf apart kept = record {
+    each = λ q. entry_closed q (shelf.kept q) (t.representation q) (apart q) (kept.each q);
+    order = kept.order;
+  }
+
+  -- CONSUMERS
+
+  head_over : (b : Bool) (o : Option Exchange) → head_in (if b then option_map over o else o) ≡ head_in o
+  head_over true None = refl
+  head_over true (Some w) = refl
+  head_over false o = refl
+
+  begin_over : (b : Bool) (o : Option Exchange) → base_in (if b then option_map over o else o) ≡ base_in o
+  begin_over true None = refl
+  begin_over true (Some w) = base_over w
+  begin_over false o = refl
+
+  end_over : (b : Bool) (o : Option Exchange) → end_in (if b then option_map over o else o) ≡ end_in o
+  end_over true None = refl
+  end_over true (Some w) = ap (λ p. end_of_direct p (over w)) (promise_over w) ∙ by_promise (promised w)
+    where
+      by_promise : (p : Option ℕ) → end_of_direct p (over w) ≡ end_of_direct p w
+      by_promise None = refl
+      by_promise (Some n) = ap (λ m. Some (m + n)) (base_over w)
+  end_over false o = refl
+
+  -- whoever reads it past the store sees the same
+  pub consumer_over : (k : Option Consumer) (row : Option rows.Consumer) → KeepsConsumer t k row → KeepsConsumer s k row
+  consumer_over = consumer_alike t s (record {
+    head = λ y. head_over (nat_eq x y) (t.exchange y);
+    begins = λ y. begin_over (nat_eq x y) (t.exchange y);
+    ends = λ y. end_over (nat_eq x y) (t.exchange y);
+    length = λ q. refl;
+  })
+
+-- ALL OF IT
+
+module _ {B : Type 0} {g : Ghosts B} (r u : Rows B g) (t : Tables) (x : ℕ) (stands : RowsStand r t) (unawaited : NobodyAwaits t x)
+    (limits : u.limits ≡ r.limits) (received : u.received ≡ r.received) (last : u.last_start ≡ r.last_start) (consumers : u.consumers ≡ r.consumers) (keys : u.keys ≡ r.keys)
+    (becomes : exch.Becomes known.closed x r.exchanges u.exchanges) (bounded : (shelf_of u.entries).limits ≡ (shelf_of r.entries).limits) where
+  pub stands_closed : KeepsEntries (closed x t) (shelf_of u.entries) → RowsStand u (closed x t)
+  stands_closed entries = record {
+    limits = bounded ∙ (stands.limits ∙ sym limits);
+    received = as_received received stands.received;
+    last_start = last ∙ stands.last_start;
+    next = becomes.next ∙ stands.next;
+    count = ap (λ z. hash_map_len z) consumers ∙ stands.count;
+    consumers = λ d. rw consumers (consumer_over t x (get nat_eq r.consumers d) (t.consumer d) (stands.consumers d));
+    exchanges = λ y. exchange_closed t x y (table_of r.exchanges y) (table_of u.exchanges y) (by_here y) (stands.exchanges y);
+    keys = λ key. rw keys (key_closed t x unawaited key (kept_of r.keys key) (stands.keys key));
+    entries = entries;
+  }
+    where
+      by_here : (y : ℕ) → table_of u.exchanges y ≡ (if nat_eq x y then known.closed (table_of r.exchanges y) else table_of r.exchanges y)
+      by_here y = becomes.table y ∙ elim (same_or x y) [
+        | inl e ↦ rw (e, eqb-same y) refl
+        | inr ne ↦ rw (eqb-other x y ne) refl
+      ]
+
+-- it brings nothing of what isn't gone
+pub stands_unstored : {B : Type 0} {g : Ghosts B} (r u : Rows B g) (t : Tables) (x : ℕ) → RowsStand r t → NobodyAwaits t x → ((q : ℕ) (v : Representation) → t.representation q ≡ Some v → v.is_gone ≡ false → IsApart t x q)
+    → u.limits ≡ r.limits → u.received ≡ r.received → u.last_start ≡ r.last_start → u.consumers ≡ r.consumers → u.keys ≡ r.keys → u.entries ≡ r.entries → exch.Becomes known.closed x r.exchanges u.exchanges → RowsStand u (closed x t)
+stands_unstored r u t x stands unawaited apart limits received last consumers keys same_entries becomes =
+    stands_closed r u t x stands unawaited limits received last consumers keys becomes (ap (λ z. (shelf_of z).limits) same_entries)
+    (subst (λ z. KeepsEntries (closed x t) (shelf_of z)) (sym same_entries) (entries_closed t x (shelf_of r.entries) apart stands.entries))

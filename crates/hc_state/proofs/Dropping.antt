@@ -1,0 +1,334 @@
+-- A consumer is gone, or is to fail: what is kept stands for the tables without it, or in which it is down.
+use Rattle.std.proofs.Common.{◌≡◌, ◌≢◌, inl, inr, ℕ, ◌+◌, List, [], Bool, true, false, Option, Some, None, refl, ap, sym, ◌∙◌, subst, arith}
+use Rattle.std.proofs.lemmas.Bool.Decides.{nat_tests}
+use Rattle.std.specs.Prelude.{is_some, nat_eq, bytes_eq, drop, not, ◌&&◌, if◌then◌else◌}
+use Rattle.std.specs.HashMap.{get, hash_map_len}
+use Rattle.hc_store.specs.declared.backend.Backend.{Ghosts}
+use Rattle.hc_event.specs.declared.act.Cause.{Cause}
+use Rattle.hc_event.specs.declared.event.Request.{Request}
+use Rattle.hc_event.specs.declared.event.Response.{Response}
+use Rattle.hc_rules.specs.Requests.{is_disabled, is_only}
+use Rattle.hc_entry.specs.declared.keys.KeyTable.{KeyTable}
+use Rattle.hc_entry.specs.Keys.{kept_of}
+use Rattle.hc_exch.specs.Exchanges.{table_of}
+use Rattle.hc_exch.specs.Known.{Known, forgotten}
+use Rattle.hc_stored.specs.Entries.{shelf_of}
+use Rattle.hc_stored.specs.Shelf.{Shelf}
+use Rattle.hc_event.specs.declared.place.Place.{Place}
+use Rattle.hc_event.specs.declared.place.Place.TheVariants as place
+use Rattle.hc_model.specs.Currents.{is_number}
+use Rattle.hc_model.specs.Denials.{is_live, live}
+use Rattle.hc_model.specs.Effects.{with_consumer, finished}
+use Rattle.hc_model.specs.Exchanges.{family}
+use Rattle.hc_model.specs.Lawful.{Lawful}
+use Rattle.hc_model.specs.Lines.{is_in_line, stands_in_line}
+use Rattle.hc_model.specs.Planning.{has_passed}
+use Rattle.hc_model.specs.Reading.{is_bound_place}
+use Rattle.hc_model.specs.Rows as rows
+use Rattle.hc_model.specs.Rows.{Tables, Exchange, Representation}
+use Rattle.hc_model.specs.Sound.{Among}
+use Rattle.hc_model.specs.Writers.{came_alone}
+use Rattle.hc_state.specs.declared.consumer.Consumer.{Consumer}
+use Rattle.hc_state.specs.declared.rows.Rows.{Rows}
+use Rattle.hc_state.specs.Changes.{ChangesAt, BecomesAt, one, put_down}
+use Rattle.hc_state.specs.Kept.{IsKept, KeepsConsumer, KeepsExchange, answer_for, is_direct, held_for, held_of, held_alone, unread, unstored}
+use Rattle.hc_state.specs.Leaving.{LeavesKey, Forgets, IsUserAt, UnbindsAt}
+use Rattle.hc_state.specs.Lines.{KeepsKey, is_passed, is_away, is_away_at}
+use Rattle.hc_state.specs.Stands.{RowsStand}
+use Rattle.hc_state.specs.Stored.{KeepsEntries, is_first}
+use Rattle.hc_state.proofs.Apart.{keys_apart, entries_apart, user_at}
+use Rattle.hc_state.proofs.ConsumerSteps.{all_kept_with}
+use Rattle.hc_state.proofs.LiveCounts as counts
+use Rattle.hc_state.proofs.Maps.{merely_true}
+use Rattle.hc_state.proofs.AsideSteps.{live_same}
+use Rattle.hc_state.proofs.QueueArm.{becomes_by}
+use Rattle.hc_state.proofs.Ties.{exchange_same, kept_row, runs_same}
+use Rattle.hc_state.proofs.Words.{same_or, eqb-same, eqb-other, false_true, then_false, and_false, as_received}
+
+-- TESTS
+
+number_tells : (o : Option ℕ) (n : ℕ) → is_number o n ≡ true → o ≡ Some n
+number_tells None n is = false_true is
+number_tells (Some m) n is = ap Some (let same : m ≡ n = grind (arith, nat_tests, is) in same)
+
+-- HOW MANY ARE LIVE
+
+-- one that was live isn't
+pub live_without : (t : Tables) (law : Lawful t) (c n m : ℕ) (v w : rows.Consumer) → t.consumer c ≡ Some v → is_live (Some v) ≡ true → is_live (Some w) ≡ false → n + 1 ≡ m + 0 → m ≡ live t → n ≡ live (with_consumer c (Some w) t)
+live_without t law c n m v w row was is len count =
+    let f : ℕ → Bool = λ d. is_live (t.consumer d) in
+    let h : ℕ → Bool = λ d. is_live ((with_consumer c (Some w) t).consumer d) in
+    let started : Among c t.starts = law.sound.numbered.lists.started c (ap (λ z. is_some z) row) in
+    let moves = counts.counted_moves f h c (t.last_start + 1) t.starts law.order.starts started (λ d ne. rw (eqb-other c d (λ e. ne (sym e))) refl) in
+    let before : counts.one (f c) ≡ 1 = rw (row, was) refl in
+    let after : counts.one (h c) ≡ 0 = rw (eqb-same c, is) refl in
+    let all : m ≡ counts.counted f t.starts = count in
+    let goal : n ≡ counts.counted h t.starts = omega (arith, moves, before, after, all, len) in
+    goal
+
+-- WHERE IT STANDS NOW
+
+-- it reads nothing, and waits for nothing
+pub data IsNowhere (p : Place) : Type 0 where
+  over : p ≡ place.Over → IsNowhere p
+  down : (why : Cause) → p ≡ place.Down why → IsNowhere p
+
+abbrev pub moved_to : Place → rows.Consumer → rows.Consumer
+moved_to p v = record v { place = p; due = None }
+
+module _ (v : rows.Consumer) (p : Place) (nowhere : IsNowhere p) where
+  by_nowhere : {A : Type 0} (f : Place → A) (a : A) → f place.Over ≡ a → ((why : Cause) → f (place.Down why) ≡ a) → f p ≡ a
+  by_nowhere f a is_over is_down = by_way nowhere
+    where
+      by_way : IsNowhere p → f p ≡ a
+      by_way (over e) = ap f e ∙ is_over
+      by_way (down why e) = ap f e ∙ is_down why
+
+  stands_off : stands_in_line p ≡ false
+  stands_off = by_nowhere stands_in_line false refl (λ why. refl)
+
+  moved_line : (key : List ℕ) → is_in_line key (Some (moved_to p v)) ≡ false
+  moved_line key = rw stands_off (by_tests (bytes_eq v.request.key key) (not (is_disabled v.request)) (not (is_only v.request)))
+    where
+      by_tests : (b d o : Bool) → (b && false && d && o) ≡ false
+      by_tests true d o = refl
+      by_tests false d o = refl
+
+  moved_passed : (key : List ℕ) → is_passed key (Some (moved_to p v)) ≡ false
+  moved_passed key = then_false (bytes_eq v.request.key key) (has_passed p) (by_nowhere has_passed false refl (λ why. refl))
+
+  moved_away : (t : Tables) (key : List ℕ) → is_away t key (Some (moved_to p v)) ≡ false
+  moved_away t key = then_false (bytes_eq v.request.key key) (is_away_at t p) (by_nowhere (is_away_at t) false refl (λ why. refl))
+
+  moved_bound : (q : ℕ) → is_bound_place q p ≡ false
+  moved_bound q = by_nowhere (is_bound_place q) false refl (λ why. refl)
+
+  moved_unread : (y : ℕ) (w : Exchange) → unread y w (Some (moved_to p v)) ≡ []
+  moved_unread y w = ap (λ b. if b then drop v.given w.body else []) (by_nowhere (λ z. is_direct z y) false refl (λ why. refl))
+
+  moved_unstored : (z : Tables) (y : ℕ) (w : Exchange) (u : Representation) → unstored z y w u (Some (moved_to p v)) ≡ []
+  moved_unstored z y w u = rw (moved_bound (family y w)) refl
+
+  moved_first : (z : Tables) (q : ℕ) → is_first z q (Some (moved_to p v)) ≡ false
+  moved_first z q = and_false (is_bound_place q p) (came_alone z p) (moved_bound q)
+
+module _ (t : Tables) (law : Lawful t) (c : ℕ) (v : rows.Consumer) (row : t.consumer c ≡ Some v) (at_now : Place) (nowhere : IsNowhere at_now) where
+  abbrev pub moved : rows.Consumer
+  moved = moved_to at_now v
+
+  abbrev pub s : Tables
+  s = with_consumer c (Some moved) t
+
+  here : s.consumer c ≡ Some moved
+  here = rw (eqb-same c) refl
+
+  others : (d : ℕ) → d ≢ c → s.consumer d ≡ t.consumer d
+  others d ne = rw (eqb-other c d (λ e. ne (sym e))) refl
+
+  -- WHAT IS HELD
+
+  -- whoever else reads past the store, reads its own exchange
+  own_past : (d y : ℕ) (u : rows.Consumer) → d ≢ c → t.consumer d ≡ Some u → u.place ≡ place.Direct y → is_number v.own y ≡ false
+  own_past d y u ne is at = by_test (is_number v.own y) refl
+    where
+      by_test : (b : Bool) → is_number v.own y ≡ b → b ≡ false
+      by_test false off = refl
+      by_test true on = absurd (ne (law.owned.one d c y u v is row (law.places.direct d y u is at).own (number_tells v.own y on)))
+
+  not_its : (d y : ℕ) (u : rows.Consumer) → d ≢ c → t.consumer d ≡ Some u → is_number v.own y ≡ true → is_number u.own y ≡ false
+  not_its d y u ne is on = by_test (is_number u.own y) refl
+    where
+      by_test : (b : Bool) → is_number u.own y ≡ b → b ≡ false
+      by_test false off = refl
+      by_test true also = absurd (ne (law.owned.one d c y u v is row (number_tells u.own y also) (number_tells v.own y on)))
+
+  unread_other : (y d : ℕ) (w : Exchange) (o : Option rows.Consumer) → d ≢ c → t.consumer d ≡ o → is_number v.own y ≡ true → unread y w o ≡ []
+  unread_other y d w None ne is on = refl
+  unread_other y d w (Some u) ne is on = by_place u.place refl
+    where
+      by_test : (z : ℕ) (b : Bool) → u.place ≡ place.Direct z → nat_eq z y ≡ b → (if b then drop u.given w.body else []) ≡ []
+      by_test z false at off = refl
+      by_test z true at same =
+          let one : z ≡ y = grind (arith, nat_tests, same) in
+          false_true (sym (own_past d y u ne is (at ∙ ap (λ (n : ℕ). place.Direct n) one)) ∙ on)
+
+      by_place : (p : Place) → u.place ≡ p → unread y w (Some u) ≡ []
+      by_place (place.Direct z) at = rw at (by_test z (nat_eq z y) at refl)
+      by_place place.Line at = rw at refl
+      by_place (place.Passed q kept) at = rw at refl
+      by_place (place.Turn z) at = rw at refl
+      by_place (place.Bound q lo hi by) at = rw at refl
+      by_place (place.Down why) at = rw at refl
+      by_place place.Over at = rw at refl
+
+  unstored_off : (z : Tables) (y : ℕ) (w : Exchange) (p : Representation) (u : rows.Consumer) → is_number u.own y ≡ false → unstored z y w p (Some u) ≡ []
+  unstored_off z y w p u off = rw (then_false (is_bound_place (family y w) u.place) (is_number u.own y) off) refl
+
+  unstored_other : (y d : ℕ) (w : Exchange) (p : Representation) (o : Option rows.Consumer) → d ≢ c → t.consumer d ≡ o → is_number v.own y ≡ true → unstored s y w p o ≡ []
+  unstored_other y d w p None ne is on = refl
+  unstored_other y d w p (Some u) ne is on = unstored_off s y w p u (not_its d y u ne is on)
+
+  alone_gone : (y : ℕ) (w : Exchange) (p : Representation) (o : Option ℕ) → is_number v.own y ≡ true → held_alone s y w p o ≡ []
+  alone_gone y w p None on = refl
+  alone_gone y w p (Some d) on = elim (same_or c d) [
+    | inl e ↦ ap (unstored s y w p) (sym (ap s.consumer e) ∙ here) ∙ moved_unstored v at_now nowhere s y w p
+    | inr ne ↦ let off : d ≢ c = λ e. ne (sym e) in ap (unstored s y w p) (others d off) ∙ unstored_other y d w p (t.consumer d) off refl on
+  ]
+
+  of_gone : (y : ℕ) (w : Exchange) (o : Option Representation) → is_number v.own y ≡ true → held_of s y w o ≡ []
+  of_gone y w None on = elim (same_or c w.c) [
+    | inl e ↦ ap (unread y w) (sym (ap s.consumer e) ∙ here) ∙ moved_unread v at_now nowhere y w
+    | inr ne ↦ let off : w.c ≢ c = λ e. ne (sym e) in ap (unread y w) (others w.c off) ∙ unread_other y w.c w (t.consumer w.c) off refl on
+  ]
+  of_gone y w (Some p) on = alone_gone y w p p.alone on
+
+  -- nothing is held of its own exchange any more
+  pub held_gone : (y : ℕ) (o : Option Exchange) → is_number v.own y ≡ true → held_for s y o ≡ []
+  held_gone y None on = refl
+  held_gone y (Some w) on = of_gone y w (t.representation (family y w)) on
+
+  unread_off : (y : ℕ) (w : Exchange) → is_number v.own y ≡ false → unread y w (Some v) ≡ []
+  unread_off y w off = by_place v.place refl
+    where
+      by_test : (z : ℕ) (b : Bool) → v.place ≡ place.Direct z → nat_eq z y ≡ b → (if b then drop v.given w.body else []) ≡ []
+      by_test z false at other = refl
+      by_test z true at same =
+          let own : is_number v.own y ≡ true = ap (λ (o : Option ℕ). is_number o y) (law.places.direct c z v row at).own ∙ same in
+          false_true (sym off ∙ own)
+
+      by_place : (p : Place) → v.place ≡ p → unread y w (Some v) ≡ []
+      by_place (place.Direct z) at = rw at (by_test z (nat_eq z y) at refl)
+      by_place place.Line at = rw at refl
+      by_place (place.Passed q kept) at = rw at refl
+      by_place (place.Turn z) at = rw at refl
+      by_place (place.Bound q lo hi by) at = rw at refl
+      by_place (place.Down why) at = rw at refl
+      by_place place.Over at = rw at refl
+
+  alone_stays : (y : ℕ) (w : Exchange) (p : Representation) (o : Option ℕ) → is_number v.own y ≡ false → held_alone s y w p o ≡ held_alone t y w p o
+  alone_stays y w p None off = refl
+  alone_stays y w p (Some d) off = elim (same_or c d) [
+    | inl e ↦ ap (unstored s y w p) (sym (ap s.consumer e) ∙ here) ∙ (moved_unstored v at_now nowhere s y w p ∙ sym (ap (unstored t y w p) (sym (ap t.consumer e) ∙ row) ∙ unstored_off t y w p v off))
+    | inr ne ↦ ap (unstored s y w p) (others d (λ e. ne (sym e)))
+  ]
+
+  of_stays : (y : ℕ) (w : Exchange) (o : Option Representation) → is_number v.own y ≡ false → held_of s y w o ≡ held_of t y w o
+  of_stays y w None off = elim (same_or c w.c) [
+    | inl e ↦ ap (unread y w) (sym (ap s.consumer e) ∙ here) ∙ (moved_unread v at_now nowhere y w ∙ sym (ap (unread y w) (sym (ap t.consumer e) ∙ row) ∙ unread_off y w off))
+    | inr ne ↦ ap (unread y w) (others w.c (λ e. ne (sym e)))
+  ]
+  of_stays y w (Some p) off = alone_stays y w p p.alone off
+
+  -- of every other all that was
+  pub held_stays : (y : ℕ) (o : Option Exchange) → is_number v.own y ≡ false → held_for s y o ≡ held_for t y o
+  held_stays y None off = refl
+  held_stays y (Some w) off = of_stays y w (t.representation (family y w)) off
+
+  -- KEYS
+
+  -- what is kept by key stands for it
+  keys_left : (a b : KeyTable) → ((key : List ℕ) → KeepsKey t key (kept_of a key)) → LeavesKey c v.request.key a b → (key : List ℕ) → KeepsKey s key (kept_of b key)
+  keys_left = keys_apart t law c v moved row (moved_bound v at_now nowhere) (moved_line v at_now nowhere) (moved_passed v at_now nowhere) (moved_away v at_now nowhere t)
+
+  -- what is kept of representations stands for it
+  entries_left : (a b : Shelf) → KeepsEntries t a → UnbindsAt v.place c a b → KeepsEntries s b
+  entries_left = entries_apart t law c v moved row (moved_bound v at_now nowhere)
+
+  -- EXCHANGES
+
+  pub exchange_left : (y : ℕ) (before after : Known) → after ≡ (if is_number v.own y then forgotten before else before) → KeepsExchange t y before → KeepsExchange s y after
+  exchange_left y before after is kept = by_test (is_number v.own y) refl is
+    where
+      by_test : (b : Bool) → is_number v.own y ≡ b → after ≡ (if b then forgotten before else before) → KeepsExchange s y after
+      by_test true on same = record {
+        running = rw same (runs_same t s y before.running (t.exchange y) (λ w at. refl) kept.running);
+        held = rw same (sym (held_gone y (t.exchange y) on));
+      }
+      by_test false off same = rw same (exchange_same t s y before (record { row = refl; brings = λ w at. refl; held = held_stays y (t.exchange y) off }) kept)
+
+-- WHAT UNBINDING LEAVES
+
+pub unbinds_limits : (p : Place) (c : ℕ) (a b : Shelf) → UnbindsAt p c a b → b.limits ≡ a.limits
+unbinds_limits (place.Bound q lo hi how) c a b h = h.limits
+unbinds_limits place.Line c a b h = ap (λ (z : Shelf). z.limits) h
+unbinds_limits (place.Passed z kept_it) c a b h = ap (λ (z : Shelf). z.limits) h
+unbinds_limits (place.Turn x) c a b h = ap (λ (z : Shelf). z.limits) h
+unbinds_limits (place.Direct x) c a b h = ap (λ (z : Shelf). z.limits) h
+unbinds_limits (place.Down why) c a b h = ap (λ (z : Shelf). z.limits) h
+unbinds_limits place.Over c a b h = ap (λ (z : Shelf). z.limits) h
+
+pub merely_user : {P : Type 0} (p : Place) (c : ℕ) (a : Shelf) → ∥ P ∥₁ → (P → IsUserAt p c a) → IsUserAt p c a
+merely_user (place.Bound q lo hi how) c a some h = merely_true _ some h
+merely_user place.Line c a some h = tt
+merely_user (place.Passed z kept_it) c a some h = tt
+merely_user (place.Turn x) c a some h = tt
+merely_user (place.Direct x) c a some h = tt
+merely_user (place.Down why) c a some h = tt
+merely_user place.Over c a some h = tt
+
+-- ALL OF IT
+
+module _ {B : Type 0} {g : Ghosts B} (r u : Rows B g) (t : Tables) (law : Lawful t) (c : ℕ) (k : Consumer) (v : rows.Consumer) (row : t.consumer c ≡ Some v) (at : get nat_eq r.consumers c ≡ Some k) (stands : RowsStand r t)
+    (limits : u.limits ≡ r.limits) (received : u.received ≡ r.received) (last : u.last_start ≡ r.last_start)
+    (line : LeavesKey c k.request.key r.keys u.keys) (forgets : Forgets k.own r.exchanges u.exchanges) (unbinds : UnbindsAt k.place c (shelf_of r.entries) (shelf_of u.entries)) where
+  pub kept : IsKept t k v
+  kept = subst (λ o. KeepsConsumer t o (Some v)) at (subst (KeepsConsumer t (get nat_eq r.consumers c)) row (stands.consumers c))
+
+  -- it stands there now
+  stands_moved : (p : Place) → IsNowhere p → (o : Option Consumer) → BecomesAt r.consumers u.consumers c o → hash_map_len u.consumers ≡ live (with_consumer c (Some (moved_to p v)) t) → KeepsConsumer t o (Some (moved_to p v)) → RowsStand u (with_consumer c (Some (moved_to p v)) t)
+  stands_moved p nowhere o becomes count now = record {
+    limits = unbinds_limits k.place c (shelf_of r.entries) (shelf_of u.entries) unbinds ∙ (stands.limits ∙ sym limits);
+    received = as_received received stands.received;
+    last_start = last ∙ stands.last_start;
+    next = forgets.next ∙ stands.next;
+    count = count;
+    consumers = all_kept_with t c (Some (moved_to p v)) r u o becomes now stands.consumers;
+    exchanges = λ y. exchange_left t law c v row p nowhere y (table_of r.exchanges y) (table_of u.exchanges y) (subst (λ (o : Option ℕ). table_of u.exchanges y ≡ (if is_number o y then forgotten (table_of r.exchanges y) else table_of r.exchanges y)) kept.own (forgets.table y)) (stands.exchanges y);
+    keys = keys_left t law c v row p nowhere r.keys u.keys stands.keys (subst (λ (q : Request). LeavesKey c q.key r.keys u.keys) kept.request line);
+    entries = entries_left t law c v row p nowhere (shelf_of r.entries) (shelf_of u.entries) stands.entries (subst (λ p. UnbindsAt p c (shelf_of r.entries) (shelf_of u.entries)) kept.place unbinds);
+  }
+
+  -- it is gone
+  pub stands_left : BecomesAt r.consumers u.consumers c None → RowsStand u (with_consumer c (Some (finished v)) t)
+  stands_left becomes =
+      stands_moved place.Over (over refl) None becomes
+      (live_without t law c (hash_map_len u.consumers) (hash_map_len r.consumers) v (finished v) row kept.is_there refl (ap (λ (o : Option Consumer). hash_map_len u.consumers + one o) (sym at) ∙ becomes.len) stands.count) refl
+
+  -- it is to fail, and was shown nothing
+  pub stands_down : (why : Cause) → answer_for t v ≡ None → ChangesAt r.consumers u.consumers c (put_down why) → RowsStand u (with_consumer c (Some (moved_to (place.Down why) v)) t)
+  stands_down why unanswered changes =
+      stands_moved (place.Down why) (down why refl) (Some (put_down why k)) (becomes_by r.consumers u.consumers c k (put_down why) at changes)
+      (changes.len ∙ (stands.count ∙ sym (live_same t (with_consumer c (Some (moved_to (place.Down why) v)) t) refl lives)))
+      (record {
+        is_there = refl;
+        request = kept.request;
+        class_is = kept.class_is;
+        since = kept.since;
+        place = refl;
+        own = kept.own;
+        shown = kept.shown;
+        answer = kept.answer ∙ (unanswered ∙ sym (none_shown v.shown));
+        begins = refl;
+        ends = refl;
+        given = kept.given;
+        due = refl;
+      })
+    where
+      none_given : Option Response
+      none_given = None
+
+      none_shown : (b : Bool) → (if b then none_given else none_given) ≡ none_given
+      none_shown true = refl
+      none_shown false = refl
+
+      lives : (d : ℕ) → is_live ((with_consumer c (Some (moved_to (place.Down why) v)) t).consumer d) ≡ is_live (t.consumer d)
+      lives d = elim (same_or c d) [
+        | inl e ↦ rw (← e, eqb-same c, row) (sym kept.is_there)
+        | inr ne ↦ rw (eqb-other c d ne) refl
+      ]
+
+-- where the consumer stands, it is bound
+pub user_of : {B : Type 0} {g : Ghosts B} (r : Rows B g) (t : Tables) (law : Lawful t) (c : ℕ) (k : Consumer) → get nat_eq r.consumers c ≡ Some k → RowsStand r t → IsUserAt k.place c (shelf_of r.entries)
+user_of r t law c k at stands =
+    let found = kept_row t k (t.consumer c) (subst (λ o. KeepsConsumer t o (t.consumer c)) at (stands.consumers c)) in
+    subst (λ p. IsUserAt p c (shelf_of r.entries)) (sym found.2.place) (user_at t law c found.0 found.1 (shelf_of r.entries) stands.entries)

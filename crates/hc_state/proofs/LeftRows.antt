@@ -1,0 +1,223 @@
+-- What the rows say that a consumer leaves is what the tables say.
+use Rattle.std.proofs.Common.{◌≡◌, inl, inr, ℕ, List, [], ◌∷◌, Bool, true, false, Option, Some, None, refl, ap, ap₂, sym, ◌∙◌, subst, arith}
+use Rattle.std.proofs.lemmas.Bool.Decides.{nat_tests}
+use Rattle.std.specs.Prelude.{is_some, IsSomeAnd, nat_eq, filter, not, ◌&&◌, ◌||◌, ◌==◌, if◌then◌else◌}
+use Rattle.std.specs.List.{list_all}
+use Rattle.std.specs.Option.{option_or, option_and_then}
+use Rattle.std.specs.HashMap.{get}
+use Rattle.hc_store.specs.declared.backend.Backend.{Ghosts}
+use Rattle.hc_sorted.specs.Sorted.{has}
+use Rattle.hc_stored.specs.Entries.{shelf_of}
+use Rattle.hc_stored.specs.Kept.{Kept, itself}
+use Rattle.hc_stored.specs.Views.{bound_in}
+use Rattle.hc_exch.specs.Exchanges.{table_of}
+use Rattle.hc_exch.specs.Known as known
+use Rattle.hc_exch.specs.declared.row.Open.{Open}
+use Rattle.hc_event.specs.declared.place.Place.{Place}
+use Rattle.hc_event.specs.declared.place.Place.TheVariants as place
+use Rattle.hc_model.specs.Closings.{is_last_reader}
+use Rattle.hc_model.specs.Currents.{is_number}
+use Rattle.hc_model.specs.Effects.{left_by, with_consumer, finished}
+use Rattle.hc_model.specs.Exchanges.{is_open}
+use Rattle.hc_model.specs.Lawful.{Lawful}
+use Rattle.hc_model.specs.Reading.{bound, is_bound, own_open, if_open, shared, writing_in, is_written, is_open_writer}
+use Rattle.hc_model.specs.Rows as rows
+use Rattle.hc_model.specs.Rows.{Tables, Exchange, Representation}
+use Rattle.hc_model.specs.Sound as sound
+use Rattle.hc_model.specs.Sound.{Among}
+use Rattle.hc_laws.proofs.OfConsumers.{left_open}
+use Rattle.hc_model.proofs.Pens.{filter_some}
+use Rattle.hc_state.specs.declared.consumer.Consumer.{Consumer}
+use Rattle.hc_state.specs.declared.rows.Rows.{Rows}
+use Rattle.hc_state.specs.Kept.{IsKept, KeepsConsumer, KeepsRunning}
+use Rattle.hc_state.specs.Arms.{IsDown}
+use Rattle.hc_event.specs.declared.act.Cause.{Cause}
+use Rattle.hc_state.specs.Leaving.{if_running, writing_of, last_read, left_of}
+use Rattle.hc_state.specs.Stands.{RowsStand}
+use Rattle.hc_state.specs.Stored.{KeepsEntry, TellsWriter, as_written, forgotten, is_over}
+use Rattle.hc_state.proofs.Ties.{kept_row}
+use Rattle.hc_state.proofs.Words.{eqb-same, false_true, there, is_there, not_true}
+
+-- LISTS
+
+same_test : (a b : Bool) → (a ≡ true → b ≡ true) → (b ≡ true → a ≡ true) → a ≡ b
+same_test true b to back = sym (to refl)
+same_test false true to back = back refl
+same_test false false to back = refl
+
+and_both : (a b : Bool) → a ≡ true → b ≡ true → (a && b) ≡ true
+and_both true b on also = also
+and_both false b on also = false_true on
+
+and_first : (a b : Bool) → (a && b) ≡ true → a ≡ true
+and_first true b on = refl
+and_first false b on = false_true on
+
+and_then : (a b : Bool) → (a && b) ≡ true → b ≡ true
+and_then true b on = on
+and_then false b on = false_true on
+
+or_then : (a b : Bool) → b ≡ true → (a || b) ≡ true
+or_then true b on = refl
+or_then false b on = on
+
+all_has : (test : ℕ → Bool) (cs : List ℕ) → ((d : ℕ) → has itself d cs ≡ true → test d ≡ true) → list_all test cs ≡ true
+all_has test [] each = refl
+all_has test (x ∷ xs) each = and_both (test x) (list_all test xs) (each x (rw (eqb-same x) refl)) (all_has test xs (λ d on. each d (or_then (nat_eq x d) (has itself d xs) on)))
+
+has_first : (test : ℕ → Bool) (x d : ℕ) (xs : List ℕ) (b : Bool) → nat_eq x d ≡ b → (b || has itself d xs) ≡ true → test x ≡ true → (has itself d xs ≡ true → test d ≡ true) → test d ≡ true
+has_first test x d xs true same on here rest = let one : x ≡ d = grind (arith, nat_tests, same) in subst (λ n. test n ≡ true) one here
+has_first test x d xs false off on here rest = rest on
+
+has_all : (test : ℕ → Bool) (cs : List ℕ) → list_all test cs ≡ true → (d : ℕ) → has itself d cs ≡ true → test d ≡ true
+has_all test [] all d on = false_true on
+has_all test (x ∷ xs) all d on = has_first test x d xs (nat_eq x d) refl on (and_first (test x) (list_all test xs) all) (λ later. has_all test xs (and_then (test x) (list_all test xs) all) d later)
+
+passing_first : (test f : ℕ → Bool) (x : ℕ) (xs : List ℕ) (b : Bool) → f x ≡ b → (f x ≡ true → test x ≡ true) → list_all test (filter f xs) ≡ true → list_all test (filter f (x ∷ xs)) ≡ true
+passing_first test f x xs true on here rest = rw on (and_both (test x) (list_all test (filter f xs)) (here on) rest)
+passing_first test f x xs false off here rest = rw off rest
+
+all_passing : (test f : ℕ → Bool) (cs : List ℕ) → ((d : ℕ) → f d ≡ true → test d ≡ true) → list_all test (filter f cs) ≡ true
+all_passing test f [] each = refl
+all_passing test f (x ∷ xs) each = passing_first test f x xs (f x) refl (each x) (all_passing test f xs each)
+
+first_passing : (test f : ℕ → Bool) (x d : ℕ) (xs : List ℕ) (b : Bool) → f x ≡ b → Among d (x ∷ xs) → f d ≡ true → list_all test (filter f (x ∷ xs)) ≡ true → (list_all test (filter f xs) ≡ true → Among d xs → test d ≡ true) → test d ≡ true
+first_passing test f x d xs true passes (inl same) on all rest = let both : (test x && list_all test (filter f xs)) ≡ true = rw passes at all in subst (λ n. test n ≡ true) same (and_first (test x) (list_all test (filter f xs)) both)
+first_passing test f x d xs true passes (inr later) on all rest = let both : (test x && list_all test (filter f xs)) ≡ true = rw passes at all in rest (and_then (test x) (list_all test (filter f xs)) both) later
+first_passing test f x d xs false fails (inl same) on all rest = false_true (sym fails ∙ (ap f same ∙ on))
+first_passing test f x d xs false fails (inr later) on all rest = let more : list_all test (filter f xs) ≡ true = rw fails at all in rest more later
+
+passing_all : (test f : ℕ → Bool) (cs : List ℕ) → list_all test (filter f cs) ≡ true → (d : ℕ) → Among d cs → f d ≡ true → test d ≡ true
+passing_all test f [] all d among on = absurd among
+passing_all test f (x ∷ xs) all d among on = first_passing test f x d xs (f x) refl among on all (λ more later. passing_all test f xs more d later on)
+
+-- EXCHANGES
+
+-- an exchange that is kept is open
+pub open_as : (t : Tables) (x : ℕ) (o : Option Open) (row : Option Exchange) → KeepsRunning t x o row → is_some o ≡ is_open row
+open_as t x None row keeps = sym keeps
+open_as t x (Some o) None keeps = absurd keeps
+open_as t x (Some o) (Some w) keeps = sym keeps.is_open
+
+-- what is over isn't open
+shut : (o : Option Exchange) → is_over o ≡ true → is_open o ≡ false
+shut None on = refl
+shut (Some w) on = not_true w.is_open (λ opened. false_true (sym (ap not opened) ∙ on))
+
+module _ {B : Type 0} {g : Ghosts B} (r : Rows B g) (t : Tables) (stands : RowsStand r t) where
+  pub is_open_as : (x : ℕ) → known.is_open x (table_of r.exchanges) ≡ is_open (t.exchange x)
+  is_open_as x = open_as t x (table_of r.exchanges x).running (t.exchange x) (stands.exchanges x).running
+
+  pub running_as : (own : Option ℕ) → if_running (table_of r.exchanges) own ≡ option_and_then (if_open t) own
+  running_as None = refl
+  running_as (Some x) = ap (λ (b : Bool). if b then Some x else None) (is_open_as x)
+
+  -- the exchange of the writing of what is kept
+  pub writing_as : (law : Lawful t) (q : ℕ) → writing_of (table_of r.exchanges) ((shelf_of r.entries).kept q) ≡ writing_in t (t.representation q)
+  unfolding is_written
+  writing_as law q = by_row ((shelf_of r.entries).kept q) (t.representation q) refl (stands.entries.each q)
+    where
+      both : (b : Bool) (z : Option ℕ) → (if b then None else if_running (table_of r.exchanges) z) ≡ (if (not b && is_open_writer t z) then z else None)
+      both true z = refl
+      both false None = refl
+      both false (Some x) = running_as (Some x)
+
+      none_written : (b : Bool) (z : Option ℕ) (x : ℕ) → z ≡ Some x → is_open (t.exchange x) ≡ false → (if b then None else None) ≡ (if (not b && is_open_writer t z) then z else None)
+      none_written true z x is off = refl
+      none_written false z x is off = rw (is, off) refl
+
+      by_writer : (e : Kept) (v : Representation) → TellsWriter t.exchange e.writer v.writer → (if v.is_lost then None else if_running (table_of r.exchanges) e.writer) ≡ (if (not v.is_lost && is_open_writer t v.writer) then v.writer else None)
+      by_writer e v (as_written is) = rw is (both v.is_lost v.writer)
+      by_writer e v (forgotten x none is on) = rw none (none_written v.is_lost v.writer x is (shut (t.exchange x) on))
+
+      unwritten : (v : Representation) (b : Bool) → is_written t v ≡ b → (is_written t v ≡ true → ⊥) → None ≡ (if b then v.writer else None)
+      unwritten v true is off = absurd (off is)
+      unwritten v false is off = refl
+
+      by_row : (k : Option Kept) (o : Option Representation) → t.representation q ≡ o → KeepsEntry t q k o → writing_of (table_of r.exchanges) k ≡ writing_in t o
+      by_row None None there kept = refl
+      by_row None (Some v) there kept = unwritten v (is_written t v) refl (λ written. law.sound.writes.has_bound q v there written kept.unused)
+      by_row (Some e) None there kept = absurd kept
+      by_row (Some e) (Some v) there kept = rw kept.is_lost (by_writer e v kept.writer)
+
+  module _ (law : Lawful t) (c : ℕ) (k : Consumer) (v : rows.Consumer) (row : t.consumer c ≡ Some v) (is : IsKept t k v) where
+    bound_there : (q : ℕ) (o : Option rows.Consumer) → is_bound q o ≡ true → is_some o ≡ true
+    bound_there q None on = false_true on
+    bound_there q (Some u) on = refl
+
+    -- whoever is bound is told in both
+    all_as : (q : ℕ) (test : ℕ → Bool) → is_bound q (Some v) ≡ true → is_some (t.representation q) ≡ true → (e : Option Kept) (o : Option Representation) → t.representation q ≡ o → KeepsEntry t q e o → list_all test (bound_in e) ≡ list_all test (bound t q)
+    unfolding bound
+    all_as q test on some None None at kept = false_true (sym (ap (λ z. is_some z) at) ∙ some)
+    all_as q test on some None (Some p) at kept = absurd (filter_some (λ d. is_bound q (t.consumer d)) c t.starts (law.sound.numbered.lists.started c (ap (λ z. is_some z) row)) (ap (is_bound q) row ∙ on) kept.unused)
+    all_as q test on some (Some e) None at kept = absurd kept
+    all_as q test on some (Some e) (Some p) at kept = same_test (list_all test e.bound) (list_all test (filter (λ d. is_bound q (t.consumer d)) t.starts))
+        (λ all. all_passing test (λ d. is_bound q (t.consumer d)) t.starts (λ d passes. has_all test e.bound all d (kept.bound d ∙ passes)))
+        (λ all. all_has test e.bound (λ d has_it. let passes : is_bound q (t.consumer d) ≡ true = sym (kept.bound d) ∙ has_it in passing_all test (λ n. is_bound q (t.consumer n)) t.starts all d (law.sound.numbered.lists.started d (bound_there q (t.consumer d) passes)) passes))
+
+    last_as : last_read (table_of r.exchanges) (shelf_of r.entries) c v.place ≡ (if is_last_reader t c v.place then shared t v.place else None)
+    last_as = by_place v.place refl
+      where
+        by_place : (p : Place) → v.place ≡ p → last_read (table_of r.exchanges) (shelf_of r.entries) c p ≡ (if is_last_reader t c p then shared t p else None)
+        by_place (place.Bound q lo hi how) at =
+            ap₂ (λ (b : Bool) (o : Option ℕ). if b then o else None)
+            (all_as q (λ d. d == c) (rw at (eqb-same q)) (law.sound.numbered.bound_to q c v (sound.is_bound lo hi how row at)) ((shelf_of r.entries).kept q) (t.representation q) refl (stands.entries.each q))
+            (writing_as law q)
+        by_place place.Line at = refl
+        by_place (place.Passed z kept_it) at = refl
+        by_place (place.Turn x) at = refl
+        by_place (place.Direct x) at = refl
+        by_place (place.Down why) at = refl
+        by_place place.Over at = refl
+
+    pub left_as : left_of r c k ≡ left_by t c v
+    left_as =
+        ap₂ option_or (running_as k.own ∙ ap (option_and_then (if_open t)) is.own)
+        (ap (last_read (table_of r.exchanges) (shelf_of r.entries) c) is.place ∙ last_as)
+
+-- WHAT THE CODE FOUND
+
+pub open_row : (o : Option Exchange) → is_open o ≡ true → (w : Exchange) × (o ≡ Some w) × (w.is_open ≡ true)
+open_row None on = false_true on
+open_row (Some w) on = (w, refl, on)
+
+module _ {B : Type 0} {g : Ghosts B} (r : Rows B g) (t : Tables) (law : Lawful t) (c : ℕ) (v : rows.Consumer) (row : t.consumer c ≡ Some v) (stands : RowsStand r t) where
+  kept_here : (k : Consumer) → get nat_eq r.consumers c ≡ Some k → IsKept t k v
+  kept_here k at = subst (λ o. KeepsConsumer t o (Some v)) at (subst (KeepsConsumer t (get nat_eq r.consumers c)) row (stands.consumers c))
+
+  pub left_is : (left : Option ℕ) → IsSomeAnd (get nat_eq r.consumers c) (λ k. left ≡ left_of r c k) → left ≡ left_by t c v
+  left_is left known =
+      let found = there (get nat_eq r.consumers c) (λ k. left ≡ left_of r c k) known in
+      found.2 ∙ left_as r t stands law c found.0 v row (kept_here found.0 found.1)
+
+  pub own_is : (x : ℕ) (alone : Option ℕ) → IsSomeAnd (get nat_eq r.consumers c) (λ k. alone ≡ (if is_number k.own x then Some c else None)) → alone ≡ (if is_number v.own x then Some c else None)
+  own_is x alone known =
+      let found = there (get nat_eq r.consumers c) (λ k. alone ≡ (if is_number k.own x then Some c else None)) known in
+      found.2 ∙ ap (λ (o : Option ℕ). if is_number o x then Some c else None) (kept_here found.0 found.1).own
+
+-- what it leaves is still open once it is gone
+pub left_runs : {B : Type 0} {g : Ghosts B} (r mid : Rows B g) (t : Tables) (law : Lawful t) (c x : ℕ) (left : Option ℕ) → is_some (get nat_eq r.consumers c) ≡ true → IsSomeAnd (get nat_eq r.consumers c) (λ k. left ≡ left_of r c k) → left ≡ Some x → RowsStand r t
+    → ((v : rows.Consumer) → t.consumer c ≡ Some v → RowsStand mid (with_consumer c (Some (finished v)) t)) → is_some (table_of mid.exchanges x).running ≡ true
+left_runs r mid t law c x left lives known is stands after =
+    let found = is_there (get nat_eq r.consumers c) lives in
+    let kept = kept_row t found.0 (t.consumer c) (subst (λ o. KeepsConsumer t o (t.consumer c)) found.1 (stands.consumers c)) in
+    let leaves : left_by t c kept.0 ≡ Some x = sym (left_is r t law c kept.0 kept.1 stands left known) ∙ is in
+    is_open_as mid (with_consumer c (Some (finished kept.0)) t) (after kept.0 kept.1) x ∙ left_open t law.sound law.owned c kept.0 kept.1 x leaves
+
+-- the row of who is kept
+pub live_row : {B : Type 0} {g : Ghosts B} (r : Rows B g) (t : Tables) (c : ℕ) → is_some (get nat_eq r.consumers c) ≡ true → RowsStand r t → (v : rows.Consumer) × (t.consumer c ≡ Some v)
+live_row r t c lives stands =
+    let found = is_there (get nat_eq r.consumers c) lives in
+    let kept = kept_row t found.0 (t.consumer c) (subst (λ o. KeepsConsumer t o (t.consumer c)) found.1 (stands.consumers c)) in
+    (kept.0, kept.1)
+
+-- what is left is open
+pub open_left : (t : Tables) (law : Lawful t) (c : ℕ) (v : rows.Consumer) → t.consumer c ≡ Some v → (x : ℕ) → left_by t c v ≡ Some x → (w : Exchange) × (t.exchange x ≡ Some w) × (w.is_open ≡ true)
+open_left t law c v row x left = open_row (t.exchange x) (left_open t law.sound law.owned c v row x left)
+
+-- the row of who is down
+pub down_row : {B : Type 0} {g : Ghosts B} (r : Rows B g) (t : Tables) (c : ℕ) (why : Cause) → IsSomeAnd (get nat_eq r.consumers c) (IsDown why) → RowsStand r t → (v : rows.Consumer) × (t.consumer c ≡ Some v) × (v.place ≡ place.Down why)
+down_row r t c why down stands =
+    let found = there (get nat_eq r.consumers c) (IsDown why) down in
+    let kept = kept_row t found.0 (t.consumer c) (subst (λ o. KeepsConsumer t o (t.consumer c)) found.1 (stands.consumers c)) in
+    (kept.0, kept.1, sym kept.2.place ∙ found.2)

@@ -1,0 +1,208 @@
+-- A representation is lost: what is kept stands for the tables in which it is.
+use Rattle.std.proofs.Common.{◌≡◌, ◌≢◌, inl, inr, ℕ, List, [], ◌∷◌, Bool, true, false, Option, Some, None, refl, ap, sym, ◌∙◌, subst}
+use Rattle.std.specs.Prelude.{is_some, nat_eq, bytes_eq, find, filter, not, ◌&&◌, option_map, if◌then◌else◌}
+use Rattle.std.specs.HashMap.{get, hash_map_len}
+use Rattle.hc_store.specs.declared.backend.Backend.{Ghosts}
+use Rattle.hc_stored.specs.Entries.{shelf_of}
+use Rattle.hc_stored.specs.Kept as entry
+use Rattle.hc_stored.specs.Kept.{Kept}
+use Rattle.hc_stored.specs.Shelf as shelf
+use Rattle.hc_stored.specs.Shelf.{Shelf, unmoved}
+use Rattle.hc_entry.specs.Keys.{kept_of}
+use Rattle.hc_exch.specs.Exchanges.{table_of, next_of}
+use Rattle.hc_event.specs.declared.place.Place.{Place}
+use Rattle.hc_event.specs.declared.place.Place.TheVariants as place
+use Rattle.hc_event.specs.declared.place.BoundBy.TheVariants as by
+use Rattle.hc_model.specs.Currents.{current, is_usable, total_in}
+use Rattle.hc_model.specs.Effects.{with_representation, lost_to}
+use Rattle.hc_model.specs.Exchanges.{family}
+use Rattle.hc_model.specs.Kinds.{kind_of}
+use Rattle.hc_model.specs.LettingGo.{MayLetGo}
+use Rattle.hc_model.specs.Reading.{bound}
+use Rattle.hc_model.specs.Rows as rows
+use Rattle.hc_model.specs.Rows.{Tables, Exchange, Representation}
+use Rattle.hc_model.specs.Writers.{status_in}
+use Rattle.hc_state.specs.declared.rows.Rows.{Rows}
+use Rattle.hc_state.specs.Kept.{KeepsConsumer, KeepsExchange, held_for, held_of, held_alone, unstored}
+use Rattle.hc_state.specs.Stands.{RowsStand}
+use Rattle.hc_state.specs.Stopped.{HoldsNothing}
+use Rattle.hc_state.specs.Stored.{IsEntry, TellsLength, told, untold, KeepsEntry, KeepsEntries, is_first, is_usable_row}
+use Rattle.hc_state.proofs.Asides.{unstored_moved}
+use Rattle.hc_state.proofs.Ties.{consumer_same, exchange_same, key_same, entry_same}
+use Rattle.hc_state.proofs.Words.{same_or, eqb-same, eqb-other, false_true, same_row, as_received}
+
+pub finds_same : (f h : ℕ → Bool) → ((q : ℕ) → h q ≡ f q) → (qs : List ℕ) → find h qs ≡ find f qs
+finds_same f h alike [] = refl
+finds_same f h alike (q ∷ qs) = rw (alike q, finds_same f h alike qs) refl
+
+pub filters_same : (f h : ℕ → Bool) → ((q : ℕ) → h q ≡ f q) → (qs : List ℕ) → filter h qs ≡ filter f qs
+filters_same f h alike [] = refl
+filters_same f h alike (q ∷ qs) = rw (alike q, filters_same f h alike qs) refl
+
+module _ (t : Tables) (r : ℕ) (v : Representation) (alone : Option ℕ) (row : t.representation r ≡ Some v) where
+  abbrev pub s : Tables
+  s = with_representation r (Some (lost_to alone v)) t
+
+  -- what it was, with its key
+  record Was (q : ℕ) (u : Representation) : Type 0 where
+    old : Representation
+    was : t.representation q ≡ Some old
+    key_is : u.key ≡ old.key
+    gone_is : u.is_gone ≡ old.is_gone
+
+  here : s.representation r ≡ Some (lost_to alone v)
+  here = rw (eqb-same r) refl
+
+  others : (q : ℕ) → r ≢ q → s.representation q ≡ t.representation q
+  others q ne = rw (eqb-other r q ne) refl
+
+  -- what a loss leaves is told as before
+  told_same : {A : Type 0} (f : Option Representation → A) → f (Some (lost_to alone v)) ≡ f (Some v) → (q : ℕ) → f (s.representation q) ≡ f (t.representation q)
+  told_same f leaves q = elim (same_or r q) [
+    | inl e ↦ ap f (sym (ap s.representation e) ∙ here) ∙ (leaves ∙ sym (ap f (sym (ap t.representation e) ∙ row)))
+    | inr ne ↦ ap f (others q ne)
+  ]
+
+  first_same : (q : ℕ) (o : Option rows.Consumer) → is_first s q o ≡ is_first t q o
+  first_same q None = refl
+  first_same q (Some k) = by_place k.place refl
+    where
+      by_place : (p : Place) → k.place ≡ p → is_first s q (Some k) ≡ is_first t q (Some k)
+      by_place (place.Bound a lo hi by.Founding) at = rw (at, told_same status_in refl a) refl
+      by_place (place.Bound a lo hi (by.FirstHole y)) at = rw at refl
+      by_place (place.Bound a lo hi by.Plan) at = rw at refl
+      by_place place.Line at = rw at refl
+      by_place (place.Passed a kept) at = rw at refl
+      by_place (place.Turn y) at = rw at refl
+      by_place (place.Direct y) at = rw at refl
+      by_place (place.Down why) at = rw at refl
+      by_place place.Over at = rw at refl
+
+  -- WHAT IS HELD
+
+  alone_moved : (y : ℕ) (w : Exchange) (u : Representation) (o : Option ℕ) → held_alone s y w u o ≡ held_alone t y w u o
+  alone_moved y w u None = refl
+  alone_moved y w u (Some c) = unstored_moved t s y w u (t.consumer c)
+
+  held_lost : v.alone ≡ None → HoldsNothing t r v alone → (y : ℕ) (o : Option Exchange) → t.exchange y ≡ o → held_for s y o ≡ held_for t y o
+  held_lost nobody nothing y None ex = refl
+  held_lost nobody nothing y (Some w) ex = elim (same_or r (family y w)) [
+    | inl e ↦
+        let after : s.representation (family y w) ≡ Some (lost_to alone v) = sym (ap s.representation e) ∙ here in
+        let before : t.representation (family y w) ≡ Some v = sym (ap t.representation e) ∙ row in
+        ap (held_of s y w) after
+        ∙ (alone_moved y w (lost_to alone v) alone
+        ∙ (by_alone alone
+        ∙ (nothing y w ex (sym e)
+        ∙ sym (ap (held_of t y w) before ∙ ap (held_alone t y w v) nobody))))
+    | inr ne ↦ ap (held_of s y w) (others (family y w) ne) ∙ by_row (t.representation (family y w))
+  ]
+    where
+      by_alone : (o : Option ℕ) → held_alone t y w (lost_to alone v) o ≡ held_alone t y w v o
+      by_alone None = refl
+      by_alone (Some c) = by_consumer (t.consumer c)
+        where
+          by_consumer : (z : Option rows.Consumer) → unstored t y w (lost_to alone v) z ≡ unstored t y w v z
+          by_consumer None = refl
+          by_consumer (Some k) = refl
+
+      by_row : (z : Option Representation) → held_of s y w z ≡ held_of t y w z
+      by_row None = refl
+      by_row (Some u) = alone_moved y w u u.alone
+
+  -- KEYS
+
+  current_same : (key : List ℕ) → current s key ≡ current t key
+  unfolding current
+  current_same key = finds_same (λ q. is_usable key (t.representation q)) (λ q. is_usable key (s.representation q)) (told_same (is_usable key) refl) t.founded
+
+  -- WHAT MAY BE LET GO
+
+  row_as : (q : ℕ) (u : Representation) → s.representation q ≡ Some u → Was q u
+  row_as q u is = elim (same_or r q) [
+    | inl e ↦
+        let mine : u ≡ lost_to alone v = same_row (s.representation r) u (lost_to alone v) (ap s.representation e ∙ is) here in
+        record { old = v; was = sym (ap t.representation e) ∙ row; key_is = ap (λ (z : Representation). z.key) mine; gone_is = ap (λ (z : Representation). z.is_gone) mine }
+    | inr ne ↦ record { old = u; was = sym (others q ne) ∙ is; key_is = refl; gone_is = refl }
+  ]
+
+  -- whoever waits for a body still does, and of each key no more is current
+  pub may_lost : MayLetGo t → MayLetGo s
+  may_lost may = record {
+    one_current = λ q n u z is_u is_z u_stays z_stays keys_same.
+        let a = row_as q u is_u in
+        let b = row_as n z is_z in
+        may.one_current q n a.old b.old a.was b.was (sym a.gone_is ∙ u_stays) (sym b.gone_is ∙ z_stays) (sym a.key_is ∙ (keys_same ∙ b.key_is));
+    founded = λ q some. may.founded q (sym (told_same (λ o. is_some o) refl q) ∙ some);
+    started = may.started;
+    waits = λ d q kept u is at.
+        let w = may.waits d q kept u is at in
+        elim (same_or r q) [
+          | inl e ↦
+              let at_r : t.representation r ≡ Some w.v = ap t.representation e ∙ w.row in
+              let one : w.v ≡ v = same_row (t.representation r) w.v v at_r row in
+              record { v = lost_to alone v; row = sym (ap s.representation e) ∙ here; key_is = ap (λ (z : Representation). z.key) (sym one) ∙ w.key_is; not_gone = ap (λ (z : Representation). z.is_gone) (sym one) ∙ w.not_gone; queues = w.queues }
+          | inr ne ↦ record { v = w.v; row = others q ne ∙ w.row; key_is = w.key_is; not_gone = w.not_gone; queues = w.queues }
+        ];
+  }
+
+  -- REPRESENTATIONS
+
+  entry_lost : (e : Kept) → IsEntry t r e v → IsEntry s r (entry.lost alone e) (lost_to alone v)
+  unfolding bound kind_of
+  entry_lost e is = record {
+    used = is.used;
+    key = is.key;
+    head = is.head;
+    length = by_length is.length;
+    kind = is.kind;
+    whole = is.whole;
+    cells = is.cells;
+    reach = λ off. false_true (sym off);
+    bound = is.bound;
+    first = λ c. is.first c ∙ sym (first_same r (t.consumer c));
+    writer = is.writer;
+    is_lost = refl;
+    alone = refl;
+    is_gone = is.is_gone;
+  }
+    where
+      by_length : TellsLength e v → TellsLength (entry.lost alone e) (lost_to alone v)
+      by_length (told same) = told same
+      by_length (untold u) = untold (record { gone = u.gone; untold = u.untold; total = u.total; known = u.known; came = u.came; first = u.first })
+
+  entries_lost : (a b : Shelf) → KeepsEntries t a → shelf.Becomes (option_map (entry.lost alone)) unmoved r a b → shelf.is_kept a r ≡ true → KeepsEntries s b
+  unfolding bound kind_of
+  entries_lost a b kept becomes there = record {
+    each = λ q. elim (same_or r q) [
+      | inl e ↦ subst (λ n. KeepsEntry s n (b.kept n) (s.representation n)) e (by_kept (a.kept r) refl)
+      | inr ne ↦ rw (becomes.kept q, eqb-other r q ne) (entry_same t s q (a.kept q) (t.representation q) refl (record { users = λ d. refl; first = λ d. first_same q (t.consumer d); list = refl; kind = λ p at. refl; overs = λ y on. on }) (kept.each q))
+    ];
+    order = becomes.order ∙ (kept.order ∙ sym (filters_same (λ q. is_usable_row (t.representation q)) (λ q. is_usable_row (s.representation q)) (told_same is_usable_row refl) t.used));
+  }
+    where
+      by_kept : (k : Option Kept) → a.kept r ≡ k → KeepsEntry s r (b.kept r) (s.representation r)
+      by_kept None at = false_true (sym (ap (λ z. is_some z) at) ∙ there)
+      by_kept (Some e) at =
+          let is : IsEntry t r e v = subst (λ k. KeepsEntry t r k (Some v)) at (subst (KeepsEntry t r (a.kept r)) row (kept.each r)) in
+          let after : b.kept r ≡ Some (entry.lost alone e) = becomes.kept r ∙ rw (eqb-same r, at) refl in
+          subst (λ k. KeepsEntry s r k (s.representation r)) (sym after) (subst (KeepsEntry s r (Some (entry.lost alone e))) (sym here) (entry_lost e is))
+
+-- ALL OF IT
+
+pub stands_lost : {B : Type 0} {g : Ghosts B} (r u : Rows B g) (t : Tables) (q : ℕ) (v : Representation) (alone : Option ℕ) (row : t.representation q ≡ Some v) → RowsStand r t → v.alone ≡ None → HoldsNothing t q v alone
+    → u.limits ≡ r.limits → u.received ≡ r.received → u.last_start ≡ r.last_start → u.consumers ≡ r.consumers → u.keys ≡ r.keys → u.exchanges ≡ r.exchanges
+    → shelf.Becomes (option_map (entry.lost alone)) unmoved q (shelf_of r.entries) (shelf_of u.entries) → shelf.is_kept (shelf_of r.entries) q ≡ true → RowsStand u (with_representation q (Some (lost_to alone v)) t)
+stands_lost r u t q v alone row stands nobody nothing limits received last consumers keys exchanges becomes there =
+    let z : Tables = with_representation q (Some (lost_to alone v)) t in
+    record {
+      limits = becomes.limits ∙ (stands.limits ∙ sym limits);
+      received = as_received received stands.received;
+      last_start = last ∙ stands.last_start;
+      next = ap (λ z. next_of z) exchanges ∙ stands.next;
+      count = ap (λ z. hash_map_len z) consumers ∙ stands.count;
+      consumers = λ d. rw consumers (consumer_same t z (get nat_eq r.consumers d) (t.consumer d) (λ k at. record { past = λ x is. refl; length = λ n lo hi how is. told_same t q v alone row total_in refl n }) (stands.consumers d));
+      exchanges = λ y. rw exchanges (exchange_same t z y (table_of r.exchanges y) (record { row = refl; brings = λ w at. told_same t q v alone row (λ o. is_some o) refl (family y w); held = held_lost t q v alone row nobody nothing y (t.exchange y) refl }) (stands.exchanges y));
+      keys = λ key. rw keys (key_same t z key (kept_of r.keys key) (record { current = current_same t q v alone row key; in_line = λ d. refl; passed = λ d. refl; away = λ d. refl; turn = λ d. refl }) (stands.keys key));
+      entries = entries_lost t q v alone row (shelf_of r.entries) (shelf_of u.entries) stands.entries becomes there;
+    }

@@ -1,0 +1,159 @@
+-- A consumer that reads stays where it stands, and is given more, or was shown its head: what is kept stands for the tables then.
+use Rattle.std.proofs.Common.{◌≡◌, ◌≢◌, inl, inr, ℕ, ◌≤◌, List, arith, Bool, true, Option, Some, None, refl, ap, sym, ◌∙◌}
+use Rattle.std.specs.HashMap.{hash_map_len}
+use Rattle.hc_store.specs.declared.backend.Backend.{Ghosts}
+use Rattle.hc_event.specs.declared.event.Event.{Event}
+use Rattle.hc_event.specs.declared.act.Act.{Act}
+use Rattle.hc_rules.specs.declared.room.Limits.{Limits}
+use Rattle.hc_stored.specs.Entries.{shelf_of}
+use Rattle.hc_stored.specs.Shelf as shelf
+use Rattle.hc_stored.specs.Shelf.{Shelf}
+use Rattle.hc_entry.specs.Keys.{kept_of}
+use Rattle.hc_exch.specs.Exchanges.{table_of, next_of}
+use Rattle.hc_exch.specs.Known.{Known}
+use Rattle.hc_model.specs.Denials.{is_live, is_live_place}
+use Rattle.hc_model.specs.Effects.{with_consumer}
+use Rattle.hc_model.specs.Exchanges.{family}
+use Rattle.hc_model.specs.Lines.{is_in_line}
+use Rattle.hc_model.specs.Reading.{is_bound}
+use Rattle.hc_model.specs.Rows as rows
+use Rattle.hc_model.specs.Rows.{Tables, Exchange, Representation}
+use Rattle.hc_state.specs.declared.consumer.Consumer.{Consumer}
+use Rattle.hc_state.specs.declared.rows.Rows.{Rows}
+use Rattle.hc_state.specs.Changes.{BecomesAt}
+use Rattle.hc_state.specs.Kept.{IsKept, KeepsExchange, held_for, held_of, held_alone, unread, unstored}
+use Rattle.hc_state.specs.Lines.{has_turn, is_passed, is_away}
+use Rattle.hc_state.specs.Stands.{RowsStand, Stands, Answered}
+use Rattle.hc_state.specs.Stored.{KeepsEntries, is_first}
+use Rattle.hc_state.proofs.AsideSteps.{length_same, live_same}
+use Rattle.hc_state.proofs.Asides.{unstored_moved}
+use Rattle.hc_state.proofs.ConsumerSteps.{SaysOfIt, all_kept_with, key_stays, key_with}
+use Rattle.hc_state.proofs.OneOfEach.{entries_same}
+use Rattle.hc_state.proofs.Ties.{exchange_same}
+use Rattle.hc_state.proofs.Words.{same_or, eqb-same, eqb-other, as_received}
+
+-- what stays of the representations, over a store that was read
+pub entries_read : (t : Tables) (a b : Shelf) → shelf.Stays a b → KeepsEntries t a → KeepsEntries t b
+entries_read t a b stays kept = record { each = λ q. rw (stays.kept q) (kept.each q); order = stays.order ∙ kept.order }
+
+-- what stands over a store stands after a read of it
+pub stands_read : {B : Type 0} {g : Ghosts B} (r u : Rows B g) (t : Tables) → u.limits ≡ r.limits → u.received ≡ r.received → u.last_start ≡ r.last_start → u.consumers ≡ r.consumers → u.exchanges ≡ r.exchanges → u.keys ≡ r.keys → shelf.Stays (shelf_of r.entries) (shelf_of u.entries) → RowsStand r t → RowsStand u t
+stands_read r u t limits received last consumers exchanges same_keys read stands = record {
+  limits = read.limits ∙ (stands.limits ∙ sym limits);
+  received = as_received received stands.received;
+  last_start = last ∙ stands.last_start;
+  next = ap (λ z. next_of z) exchanges ∙ stands.next;
+  count = ap (λ z. hash_map_len z) consumers ∙ stands.count;
+  consumers = λ d. rw consumers (stands.consumers d);
+  exchanges = λ y. rw exchanges (stands.exchanges y);
+  keys = λ key. rw same_keys (stands.keys key);
+  entries = entries_read t (shelf_of r.entries) (shelf_of u.entries) read stands.entries;
+}
+
+pub some_read : {B : Type 0} {g : Ghosts B} (r u : Rows B g) → u.limits ≡ r.limits → u.received ≡ r.received → u.last_start ≡ r.last_start → u.consumers ≡ r.consumers → u.exchanges ≡ r.exchanges → u.keys ≡ r.keys → shelf.Stays (shelf_of r.entries) (shelf_of u.entries) → Stands r → Stands u
+some_read r u limits received last consumers exchanges same_keys read s = record {
+  t = s.t;
+  facts = rw limits s.facts;
+  modest = s.modest;
+  rows = stands_read r u s.t limits received last consumers exchanges same_keys read s.rows;
+}
+
+-- who answers after a read of the store answers before it
+pub answered_since : {B : Type 0} {g : Ghosts B} (limits : Limits) (a b : ℕ) (u : Rows B g) (t : Tables) (before out : List Act) (now : ℕ) (event : Event) → a ≤ b → Answered limits b u t before out now event → Answered limits a u t before out now event
+answered_since limits a b u t before out now event le answered = record {
+  flaw = answered.flaw;
+  acts = answered.acts;
+  shown = answered.shown;
+  may = answered.may;
+  caused = λ on. let lt = answered.caused on in omega (arith, le, lt);
+  rows = answered.rows;
+}
+
+module _ (t : Tables) (c : ℕ) (v : rows.Consumer) (shown : Bool) (given : ℕ) (row : t.consumer c ≡ Some v) where
+  abbrev pub w : rows.Consumer
+  w = record v { shown = shown; given = given }
+
+  abbrev pub s : Tables
+  s = with_consumer c (Some w) t
+
+  here : s.consumer c ≡ Some w
+  here = rw (eqb-same c) refl
+
+  others : (d : ℕ) → d ≢ c → s.consumer d ≡ t.consumer d
+  others d ne = rw (eqb-other c d (λ e. ne (sym e))) refl
+
+  -- WHAT IS HELD
+
+  module _ (y : ℕ) (z : Exchange) (past : z.c ≡ c → unread y z (Some w) ≡ unread y z (Some v))
+      (lost : (p : Representation) → t.representation (family y z) ≡ Some p → p.alone ≡ Some c → unstored t y z p (Some w) ≡ unstored t y z p (Some v)) where
+    past_same : (d : ℕ) → z.c ≡ d → unread y z (s.consumer d) ≡ unread y z (t.consumer d)
+    past_same d opener = elim (same_or c d) [
+      | inl e ↦ rw (← e, here, row) (past (opener ∙ sym e))
+      | inr ne ↦ ap (unread y z) (others d (λ e. ne (sym e)))
+    ]
+
+    lost_same : (p : Representation) → t.representation (family y z) ≡ Some p → (d : ℕ) → p.alone ≡ Some d → unstored s y z p (s.consumer d) ≡ unstored t y z p (t.consumer d)
+    lost_same p there d alone = unstored_moved t s y z p (s.consumer d) ∙ elim (same_or c d) [
+      | inl e ↦ rw (← e, here, row) (lost p there (alone ∙ ap Some (sym e)))
+      | inr ne ↦ ap (unstored t y z p) (others d (λ e. ne (sym e)))
+    ]
+
+    alone_same : (p : Representation) → t.representation (family y z) ≡ Some p → (o : Option ℕ) → p.alone ≡ o → held_alone s y z p o ≡ held_alone t y z p o
+    alone_same p there None alone = refl
+    alone_same p there (Some d) alone = lost_same p there d alone
+
+    of_same : (o : Option Representation) → t.representation (family y z) ≡ o → held_of s y z o ≡ held_of t y z o
+    of_same None there = past_same z.c refl
+    of_same (Some p) there = alone_same p there p.alone refl
+
+    -- as much is held of an exchange, where as much is unread of it, and as much unstored
+    pub held_same : held_for s y (Some z) ≡ held_for t y (Some z)
+    held_same = of_same (t.representation (family y z)) refl
+
+  -- ALL ELSE
+
+  says_same : (key : _) → SaysOfIt t c (Some w) key
+  says_same key = record {
+    in_line = sym (ap (is_in_line key) row);
+    passed = sym (ap (is_passed key) row);
+    away = sym (ap (is_away t key) row);
+    turn = sym (ap (has_turn key) row);
+  }
+
+  users : (q d : ℕ) → is_bound q (s.consumer d) ≡ is_bound q (t.consumer d)
+  users q d = elim (same_or c d) [
+    | inl e ↦ rw (← e, here, row) refl
+    | inr ne ↦ ap (is_bound q) (others d (λ e. ne (sym e)))
+  ]
+
+  firsts : (q d : ℕ) → is_first t q (s.consumer d) ≡ is_first t q (t.consumer d)
+  firsts q d = elim (same_or c d) [
+    | inl e ↦ rw (← e, here, row) refl
+    | inr ne ↦ ap (is_first t q) (others d (λ e. ne (sym e)))
+  ]
+
+  live_each : (d : ℕ) → is_live (s.consumer d) ≡ is_live (t.consumer d)
+  live_each d = elim (same_or c d) [
+    | inl e ↦ rw (← e, here, row) refl
+    | inr ne ↦ ap is_live (others d (λ e. ne (sym e)))
+  ]
+
+  -- an exchange of which as much is held
+  pub exchange_reading : (y : ℕ) (known : Known) → held_for s y (t.exchange y) ≡ held_for t y (t.exchange y) → KeepsExchange t y known → KeepsExchange s y known
+  exchange_reading y known same kept = exchange_same t s y known (record { row = refl; brings = λ z at. refl; held = same }) kept
+
+  module _ {B : Type 0} {g : Ghosts B} (r u : Rows B g) (stands : RowsStand r t) (lived : is_live_place v.place ≡ true)
+      (limits : u.limits ≡ r.limits) (received : u.received ≡ r.received) (last : u.last_start ≡ r.last_start) (same_keys : u.keys ≡ r.keys) (next : next_of u.exchanges ≡ next_of r.exchanges) (read : shelf.Stays (shelf_of r.entries) (shelf_of u.entries))
+      (q : Consumer) (becomes : BecomesAt r.consumers u.consumers c (Some q)) (kept : IsKept t q w) (exchanges : (y : ℕ) → KeepsExchange s y (table_of u.exchanges y)) where
+    pub stands_reading : RowsStand u s
+    stands_reading = record {
+      limits = read.limits ∙ (stands.limits ∙ sym limits);
+      received = as_received received stands.received;
+      last_start = last ∙ stands.last_start;
+      next = next ∙ stands.next;
+      count = length_same r u t c v q stands row lived becomes ∙ (stands.count ∙ sym (live_same t s refl live_each));
+      consumers = all_kept_with t c (Some w) r u (Some q) becomes kept stands.consumers;
+      exchanges = exchanges;
+      keys = λ key. rw same_keys (key_with t c (Some w) key (kept_of r.keys key) (kept_of r.keys key) (stands.keys key) (key_stays t c (Some w) key (kept_of r.keys key) (stands.keys key) (says_same key)));
+      entries = entries_same t s (shelf_of u.entries) (λ n. refl) refl refl users firsts (λ n. refl) (λ y on. on) (entries_read t (shelf_of r.entries) (shelf_of u.entries) read stands.entries);
+    }

@@ -1,0 +1,46 @@
+-- How much is stored of a representation, by what is told of what is kept.
+use Rattle.std.proofs.Common.{◌≡◌, ℕ, ◌<◌, Bool, true, false, Option, Some, None, refl, ap, sym, ◌∙◌, subst, arith}
+use Rattle.std.proofs.lemmas.Bool.Decides.{nat_tests}
+use Rattle.std.specs.Prelude.{is_some, nat_lt, ◌&&◌, ◌↔◌, IsTrue}
+use Rattle.hc_sparse.specs.Cells.{Cells, Covers}
+use Rattle.hc_stored.specs.declared.view.EntryView.{EntryView}
+use Rattle.hc_model.specs.Holes.{covers}
+use Rattle.hc_model.specs.Kinds.{is_complete, is_front, covers_all}
+use Rattle.hc_model.specs.Rows.{Representation}
+use Rattle.hc_model.proofs.HoleLemmas as holes
+use Rattle.hc_state.specs.Stops.{IsTold}
+
+same_test : (a b : Bool) → (a ≡ true → b ≡ true) → (b ≡ true → a ≡ true) → a ≡ b
+same_test true b to back = sym (to refl)
+same_test false true to back = back refl
+same_test false false to back = refl
+
+module _ (v : Representation) (cells : Cells) (entry : EntryView) (is : IsTold v cells entry) where
+  -- what the store covers is covered
+  covers_as : (b : Bool) (hi : ℕ) → (IsTrue b ↔ Covers cells 0 hi) → b ≡ covers v.stored v.reach 0 hi
+  covers_as b hi tells = same_test b (covers v.stored v.reach 0 hi)
+      (λ on. holes.covers_yes v.stored v.reach 0 hi is.ends (λ p lo up. ap (λ z. is_some z) (sym (is.stored p)) ∙ tells.0 on p lo up))
+      (λ on. tells.1 (λ p lo up. ap (λ z. is_some z) (is.stored p) ∙ holes.covers_all v.stored v.reach 0 hi on p lo up))
+
+  pub complete_as : (b : Bool) (total : ℕ) → entry.total ≡ Some total → (IsTrue b ↔ Covers cells 0 total) → b ≡ is_complete v
+  complete_as b total known tells = covers_as b total tells ∙ ap (covers_all v) (sym known ∙ is.total)
+
+  pub incomplete_as : entry.total ≡ None → false ≡ is_complete v
+  incomplete_as none = ap (covers_all v) (sym none ∙ is.total)
+
+  pub front_as : (b : Bool) → 0 < entry.size → (IsTrue b ↔ Covers cells 0 entry.size) → b ≡ is_front v
+  front_as b some tells = covers_as b entry.size tells ∙ (ap (λ n. covers v.stored v.reach 0 n) is.size ∙ sym (by_test (nat_lt 0 v.size) (tests v.size (subst (λ n. 0 < n) is.size some))))
+    where
+      tests : (n : ℕ) → 0 < n → nat_lt 0 n ≡ true
+      tests n lt = grind (arith, nat_tests, lt)
+
+      by_test : (a : Bool) → a ≡ true → (a && covers v.stored v.reach 0 v.size) ≡ covers v.stored v.reach 0 v.size
+      by_test true on = refl
+      by_test false on = absurd (let never : false ≡ true = on in cc)
+
+  pub no_front_as : nat_lt 0 entry.size ≡ false → false ≡ is_front v
+  no_front_as none = sym (by_test (nat_lt 0 v.size) (ap (nat_lt 0) (sym is.size) ∙ none))
+    where
+      by_test : (a : Bool) → a ≡ false → (a && covers v.stored v.reach 0 v.size) ≡ false
+      by_test false off = refl
+      by_test true off = absurd (let never : true ≡ false = off in cc)

@@ -1,0 +1,263 @@
+-- Whose turn it is: what is kept of a key tells it as the tables do.
+use Rattle.std.proofs.Common.{◌≡◌, ◌≢◌, ◌⊎◌, inl, inr, ℕ, ◌≤◌, List, [], ◌∷◌, Bool, true, false, min, eqb, Option, Some, None, refl, ap, sym, ◌∙◌, arith}
+use Rattle.std.proofs.lemmas.Bool.Decides.{nat_tests}
+use Rattle.std.specs.Prelude.{filter, find, is_some, unwrap_or, ◌&&◌, ◌||◌}
+use Rattle.std.specs.Option.{option_or}
+use Rattle.hc_entry.specs.Kept.{Kept, line_in}
+use Rattle.hc_entry.specs.Lines.{is_among, is_held_by, turn_of, turn_with}
+use Rattle.hc_rules.specs.Least.{least, lesser}
+use Rattle.hc_model.specs.Lines as lines
+use Rattle.hc_model.specs.Lines.{is_in_line, holds_turn, line, holder}
+use Rattle.hc_model.specs.Rows.{Tables, Consumer}
+use Rattle.hc_model.specs.Sound.{Among, IsListed}
+use Rattle.hc_state.specs.Lines.{KeepsKey, has_turn}
+use Rattle.hc_state.proofs.Words.{same_or, false_true, none_some, some_is, eqb-same}
+
+-- THE LEAST
+
+bool_cases : (b : Bool) → (b ≡ true) ⊎ (b ≡ false)
+bool_cases true = inl refl
+bool_cases false = inr refl
+
+eq_by : (a b : ℕ) → eqb a b ≡ true → a ≡ b
+eq_by a b on = grind (arith, nat_tests, on)
+
+in_either : (a b : Bool) → (a || b) ≡ true → (a ≡ true) ⊎ (b ≡ true)
+in_either true b on = inl refl
+in_either false b on = inr on
+
+later_in : (a b : Bool) → b ≡ true → (a || b) ≡ true
+later_in true b on = refl
+later_in false b on = on
+
+pub record IsLeast (m : ℕ) (xs : List ℕ) : Type 0 where
+  pub among : is_among m xs ≡ true
+  pub below : (c : ℕ) → is_among c xs ≡ true → m ≤ c
+
+pub least_none : (xs : List ℕ) → least xs ≡ None → xs ≡ []
+least_none [] is = refl
+least_none (n ∷ ns) is = by_least (least ns) is
+  where
+    by_least : (o : Option ℕ) → lesser o n ≡ None → n ∷ ns ≡ []
+    by_least None never = none_some n (sym never)
+    by_least (Some m) never = none_some (min m n) (sym never)
+
+pub least_some : (xs : List ℕ) (m : ℕ) → least xs ≡ Some m → IsLeast m xs
+least_some [] m is = none_some m is
+least_some (n ∷ ns) m is = by_least (λ k some. least_some ns k some) (least ns) refl is
+  where
+    by_least : ((k : ℕ) → least ns ≡ Some k → IsLeast k ns) → (o : Option ℕ) → least ns ≡ o → lesser o n ≡ Some m → IsLeast m (n ∷ ns)
+    by_least before None none at =
+        let same : n ≡ m = some_is n m at in
+        let empty : ns ≡ [] = least_none ns none in
+        record {
+          among = rw (← same, eqb-same n) refl;
+          below = λ c there. elim (in_either (eqb n c) (is_among c ns) there) [
+            | inl here ↦ (let eq = eq_by n c here in omega (arith, same, eq))
+            | inr later ↦ false_true (let never : is_among c [] ≡ true = rw empty at later in never)
+          ];
+        }
+    by_least before (Some k) some at =
+        let same : min k n ≡ m = some_is (min k n) m at in
+        let rest = before k some in
+        record {
+          among = elim (bool_cases (eqb n m)) [
+            | inl here ↦ rw here refl
+            | inr off ↦ (let is_k : k ≡ m = grind (arith, nat_tests, off, same) in later_in (eqb n m) (is_among m ns) (rw (← is_k) rest.among))
+          ];
+          below = λ c there. elim (in_either (eqb n c) (is_among c ns) there) [
+            | inl here ↦ (let eq = eq_by n c here in omega (arith, same, eq))
+            | inr later ↦ (let le = rest.below c later in omega (arith, same, le))
+          ];
+        }
+
+pub least_there : (xs : List ℕ) (c : ℕ) → is_among c xs ≡ true → (m : ℕ) × (least xs ≡ Some m)
+least_there xs c there = by_least (least xs) refl
+  where
+    by_least : (o : Option ℕ) → least xs ≡ o → (m : ℕ) × (least xs ≡ Some m)
+    by_least None none = let empty = least_none xs none in false_true (rw empty at there)
+    by_least (Some m) some = (m, some)
+
+pub least_alike : (xs ys : List ℕ) → ((c : ℕ) → is_among c xs ≡ is_among c ys) → least xs ≡ least ys
+least_alike xs ys alike = by_least (least xs) refl
+  where
+    by_other : (m : ℕ) → least xs ≡ Some m → (o : Option ℕ) → least ys ≡ o → least xs ≡ least ys
+    by_other m some None none = let here = (least_some xs m some).among in let empty = least_none ys none in let never : is_among m ys ≡ true = sym (alike m) ∙ here in false_true (rw empty at never)
+    by_other m some (Some k) other =
+        let a = least_some xs m some in
+        let b = least_some ys k other in
+        let up : m ≤ k = a.below k (alike k ∙ b.among) in
+        let down : k ≤ m = b.below m (sym (alike m) ∙ a.among) in
+        let same : m ≡ k = omega (arith, up, down) in
+        some ∙ (ap Some same ∙ sym other)
+
+    by_none : least xs ≡ None → (o : Option ℕ) → least ys ≡ o → least xs ≡ least ys
+    by_none none None other = none ∙ sym other
+    by_none none (Some k) other = let there = (least_some ys k other).among in let empty = least_none xs none in let never : is_among k xs ≡ true = alike k ∙ there in false_true (rw empty at never)
+
+    by_least : (o : Option ℕ) → least xs ≡ o → least xs ≡ least ys
+    by_least None none = by_none none (least ys) refl
+    by_least (Some m) some = by_other m some (least ys) refl
+
+-- THE LINE OF THE TABLES
+
+pub among_in : (c : ℕ) (xs : List ℕ) → Among c xs → is_among c xs ≡ true
+among_in c [] none = absurd none
+among_in c (x ∷ xs) (inl is) = rw (is, eqb-same c) refl
+among_in c (x ∷ xs) (inr later) = later_in (eqb x c) (is_among c xs) (among_in c xs later)
+
+pub filter_in : (f : ℕ → Bool) (c : ℕ) (xs : List ℕ) → is_among c (filter f xs) ≡ (f c && is_among c xs)
+filter_in f c [] = and_none (f c)
+  where
+    and_none : (b : Bool) → false ≡ (b && false)
+    and_none true = refl
+    and_none false = refl
+filter_in f c (x ∷ xs) = by_test (filter_in f c xs) (f x) refl
+  where
+    swaps : (e b rest : Bool) → (e ≡ true → b ≡ true) → (e || (b && rest)) ≡ (b && (e || rest))
+    swaps true true rest same = refl
+    swaps true false rest same = false_true (same refl)
+    swaps false b rest same = refl
+
+    drops : (e b rest : Bool) → (e ≡ true → b ≡ false) → (b && rest) ≡ (b && (e || rest))
+    drops e false rest same = refl
+    drops true true rest same = false_true (sym (same refl))
+    drops false true rest same = refl
+
+    by_test : is_among c (filter f xs) ≡ (f c && is_among c xs) → (b : Bool) → f x ≡ b → is_among c (filter f (x ∷ xs)) ≡ (f c && is_among c (x ∷ xs))
+    by_test rest true is = rw (is, rest) (swaps (eqb x c) (f c) (is_among c xs) (λ on. ap f (sym (eq_by x c on)) ∙ is))
+    by_test rest false is = rw (is, rest) (drops (eqb x c) (f c) (is_among c xs) (λ on. ap f (sym (eq_by x c on)) ∙ is))
+
+in_line_there : (key : List ℕ) (o : Option Consumer) → is_in_line key o ≡ true → is_some o ≡ true
+in_line_there key None on = on
+in_line_there key (Some k) on = refl
+
+line_is : (t : Tables) (key : List ℕ) (c : ℕ) → IsListed t → is_among c (line t key) ≡ is_in_line key (t.consumer c)
+unfolding line
+line_is t key c lists = filter_in (λ d. is_in_line key (t.consumer d)) c t.starts ∙ by_test (is_in_line key (t.consumer c)) refl
+  where
+    by_test : (b : Bool) → is_in_line key (t.consumer c) ≡ b → (b && is_among c t.starts) ≡ b
+    by_test false is = refl
+    by_test true is = among_in c t.starts (lists.started c (in_line_there key (t.consumer c) is))
+
+-- THE HOLDER
+
+find_off : (g : ℕ → Bool) (xs : List ℕ) → ((c : ℕ) → is_among c xs ≡ true → g c ≡ false) → find g xs ≡ None
+find_off g [] off = refl
+find_off g (x ∷ xs) off = let here = off x (rw (eqb-same x) refl) in rw here (find_off g xs (λ c there. off c (later_in (eqb x c) (is_among c xs) there)))
+
+pub record IsFound (g : ℕ → Bool) (xs : List ℕ) : Type 0 where
+  pub d : ℕ
+  pub found : find g xs ≡ Some d
+  pub among : is_among d xs ≡ true
+  pub passes : g d ≡ true
+
+find_on : (g : ℕ → Bool) (xs : List ℕ) (c : ℕ) → is_among c xs ≡ true → g c ≡ true → IsFound g xs
+find_on g [] c there on = false_true there
+find_on g (x ∷ xs) c there on = by_test (λ later. find_on g xs c later on) (g x) refl
+  where
+    more : IsFound g xs → g x ≡ false → IsFound g (x ∷ xs)
+    more rest off = record { d = rest.d; found = rw off rest.found; among = later_in (eqb x rest.d) (is_among rest.d xs) rest.among; passes = rest.passes }
+
+    by_test : (is_among c xs ≡ true → IsFound g xs) → (b : Bool) → g x ≡ b → IsFound g (x ∷ xs)
+    by_test rest true is = record { d = x; found = rw is refl; among = rw (eqb-same x) refl; passes = is }
+    by_test rest false is = elim (in_either (eqb x c) (is_among c xs) there) [
+      | inl here ↦ false_true (sym is ∙ (ap g (eq_by x c here) ∙ on))
+      | inr later ↦ more (rest later) is
+    ]
+
+pub and_parts : (a b : Bool) → (a && b) ≡ true → (a ≡ true) × (b ≡ true)
+and_parts true true on = (refl, refl)
+and_parts true false on = false_true on
+and_parts false b on = false_true on
+
+and_then : (a b : Bool) → (a && b) ≡ false → a ≡ true → b ≡ false
+and_then true b off on = off
+and_then false b off on = false_true on
+
+module _ (t : Tables) (key : List ℕ) (a : Kept) (lists : IsListed t) (kept : KeepsKey t key a) where
+  holder_by : (o : Option ℕ) → a.holder ≡ o → holder t key ≡ o
+  holder_by None is = find_off (λ c. holds_turn (t.consumer c)) (line t key) (λ c there. and_then (is_in_line key (t.consumer c)) (holds_turn (t.consumer c)) (sym (kept.holder c) ∙ ap (is_held_by c) is) (sym (line_is t key c lists) ∙ there))
+  holder_by (Some d) is =
+      let held : has_turn key (t.consumer d) ≡ true = sym (kept.holder d) ∙ (ap (is_held_by d) is ∙ eqb-same d) in
+      let parts = and_parts (is_in_line key (t.consumer d)) (holds_turn (t.consumer d)) held in
+      let found = find_on (λ c. holds_turn (t.consumer c)) (line t key) d (line_is t key d lists ∙ parts.0) parts.1 in
+      let in_line : is_in_line key (t.consumer found.d) ≡ true = sym (line_is t key found.d lists) ∙ found.among in
+      let passes : holds_turn (t.consumer found.d) ≡ true = found.passes in
+      let both : has_turn key (t.consumer found.d) ≡ true = rw (in_line, passes) refl in
+      let same : eqb d found.d ≡ true = sym (ap (is_held_by found.d) is) ∙ (kept.holder found.d ∙ both) in
+      found.found ∙ ap Some (sym (eq_by d found.d same))
+
+  least_is : least (line t key) ≡ least a.in_line
+  least_is = least_alike (line t key) a.in_line (λ c. line_is t key c lists ∙ sym (kept.in_line c))
+
+  -- what is kept tells the turn
+  pub turn_with_is : (c : ℕ) → unwrap_or (turn_with c (line_in a)) c ≡ lines.turn_with t key c
+  turn_with_is c = by_holder a.holder refl
+    where
+      by_holder : (o : Option ℕ) → a.holder ≡ o → unwrap_or (turn_with c (line_in a)) c ≡ lines.turn_with t key c
+      by_holder None is = let none = holder_by None is in let same = least_is in rw (is, none, same) refl
+      by_holder (Some d) is = let some = holder_by (Some d) is in rw (is, some) refl
+
+  pub turn_of_is : turn_of (line_in a) ≡ lines.turn t key
+  unfolding lines.turn
+  turn_of_is = by_holder a.holder refl
+    where
+      by_holder : (o : Option ℕ) → a.holder ≡ o → turn_of (line_in a) ≡ option_or (holder t key) (least (line t key))
+      by_holder None is = let none = holder_by None is in let same = least_is in rw (is, none, same) refl
+      by_holder (Some d) is = let some = holder_by (Some d) is in rw (is, some) refl
+
+  -- who is next, and doesn't hold the turn yet, has it, and nobody holds it
+  pub turn_is : (c : ℕ) → unwrap_or (turn_with c (line_in a)) c ≡ c → is_in_line key (t.consumer c) ≡ true → has_turn key (t.consumer c) ≡ false → (a.holder ≡ None) × (turn_of (line_in a) ≡ Some c)
+  turn_is c next in_line idle = by_holder a.holder refl
+    where
+      first : a.holder ≡ None → (m : ℕ) → least a.in_line ≡ Some m → turn_of (line_in a) ≡ Some c
+      first free m some =
+          let least_m = least_some a.in_line m some in
+          let le : m ≤ c = least_m.below c (kept.in_line c ∙ in_line) in
+          let chosen : min m c ≡ c = (let with_c : unwrap_or (turn_with c (line_in a)) c ≡ min m c = rw (free, some) refl in sym with_c ∙ next) in
+          let same : m ≡ c = omega (arith, le, chosen) in
+          rw (free, some) (ap Some same)
+
+      by_holder : (o : Option ℕ) → a.holder ≡ o → (a.holder ≡ None) × (turn_of (line_in a) ≡ Some c)
+      by_holder None is = let (m, some) = least_there a.in_line c (kept.in_line c ∙ in_line) in (is, first is m some)
+      by_holder (Some d) is =
+          let same : d ≡ c = (let with_c : unwrap_or (turn_with c (line_in a)) c ≡ d = rw is refl in sym with_c ∙ next) in
+          let held : is_held_by c a.holder ≡ true = rw (is, same) (eqb-same c) in
+          false_true (sym (kept.holder c ∙ idle) ∙ held)
+
+-- Once it stands in line, it has the turn: of the others as many stand there, and nobody holds it.
+pub turn_next : (c : ℕ) (a b : Kept) → ((d : ℕ) → d ≢ c → is_among d b.in_line ≡ is_among d a.in_line) → ((d : ℕ) → is_held_by d b.holder ≡ is_held_by d a.holder) → is_held_by c a.holder ≡ false
+    → is_among c b.in_line ≡ true → turn_with c (line_in a) ≡ Some c → (b.holder ≡ None) × (turn_of (line_in b) ≡ Some c)
+turn_next c a b others holders idle there next = by_holder a.holder refl
+  where
+    none_held : (o : Option ℕ) → ((d : ℕ) → is_held_by d o ≡ false) → o ≡ None
+    none_held None none = refl
+    none_held (Some d) none = false_true (sym (none d) ∙ eqb-same d)
+
+    below_first : (o : Option ℕ) (m : ℕ) → least a.in_line ≡ o → is_among m a.in_line ≡ true → lesser o c ≡ Some c → c ≤ m
+    below_first None m none in_a is = let empty = least_none a.in_line none in false_true (rw empty at in_a)
+    below_first (Some l) m some in_a is =
+        let le : l ≤ m = (least_some a.in_line l some).below m in_a in
+        let least_c : min l c ≡ c = some_is (min l c) c is in
+        omega (arith, le, least_c)
+
+    first : a.holder ≡ None → b.holder ≡ None → turn_of (line_in b) ≡ Some c
+    first free free_then =
+        let (m, some) = least_there b.in_line c there in
+        let least_m = least_some b.in_line m some in
+        let le : m ≤ c = least_m.below c there in
+        let is_c : lesser (least a.in_line) c ≡ Some c = rw free at next in
+        let same : m ≡ c = elim (same_or m c) [
+          | inl e ↦ e
+          | inr ne ↦ (let ge : c ≤ m = below_first (least a.in_line) m refl (sym (others m ne) ∙ least_m.among) is_c in omega (arith, le, ge))
+        ] in
+        rw (free_then, some) (ap Some same)
+
+    by_holder : (o : Option ℕ) → a.holder ≡ o → (b.holder ≡ None) × (turn_of (line_in b) ≡ Some c)
+    by_holder None is =
+        let free : b.holder ≡ None = none_held b.holder (λ d. holders d ∙ ap (is_held_by d) is) in
+        (free, first is free)
+    by_holder (Some d) is =
+        let same : d ≡ c = some_is d c (rw is at next) in
+        false_true (sym idle ∙ (ap (is_held_by c) is ∙ rw same (eqb-same c)))

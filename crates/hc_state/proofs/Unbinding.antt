@@ -1,0 +1,228 @@
+-- One consumer isn't bound any more: what is kept of representations stands for the tables in which its row is another.
+use Rattle.std.proofs.Common.{◌≡◌, ◌≢◌, inl, inr, ℕ, List, [], ◌∷◌, Bool, true, false, cond, eqb, Option, Some, None, refl, ap, sym, ◌∙◌, subst}
+use Rattle.std.specs.Prelude.{is_some, not, ◌&&◌, if◌then◌else◌}
+use Rattle.std.specs.Option.{option_and_then}
+use Rattle.hc_sorted.specs.Sorted.{has, without}
+use Rattle.hc_sorted.proofs.SortedLemmas.{has-without}
+use Rattle.hc_stored.specs.Kept as entry
+use Rattle.hc_stored.specs.Kept.{Kept, itself, is_nobody, unless_it, without_user}
+use Rattle.hc_stored.specs.Shelf as shelf
+use Rattle.hc_stored.specs.Shelf.{Shelf, unmoved}
+use Rattle.hc_stored.specs.Views.{bound_in}
+use Rattle.hc_entry.specs.Lines.{is_among}
+use Rattle.hc_event.specs.declared.place.Place.{Place}
+use Rattle.hc_event.specs.declared.place.Place.TheVariants as place
+use Rattle.hc_event.specs.declared.place.BoundBy.{BoundBy}
+use Rattle.hc_model.specs.Currents.{is_number}
+use Rattle.hc_model.specs.Effects.{with_consumer}
+use Rattle.hc_model.specs.Kinds.{kind_of}
+use Rattle.hc_model.specs.Reading.{bound, is_bound, is_bound_place}
+use Rattle.hc_model.specs.Rows as rows
+use Rattle.hc_model.specs.Rows.{Tables, Representation}
+use Rattle.hc_model.specs.Sound.{Among}
+use Rattle.hc_model.specs.Writers.{came_alone}
+use Rattle.hc_model.proofs.Pens.{filter_some}
+use Rattle.hc_state.specs.Leaving.{IsUserAt, UnbindsAt}
+use Rattle.hc_state.specs.Stored.{IsEntry, TellsLength, told, untold, KeepsEntry, KeepsEntries, is_first}
+use Rattle.hc_state.proofs.LiveCounts as counts
+use Rattle.hc_state.proofs.OneOfEach.{bound_same}
+use Rattle.hc_state.proofs.Ties.{entry_same}
+use Rattle.hc_state.proofs.Words.{same_or, eqb-same, eqb-other, false_true, and_false}
+
+-- it isn't among them any more
+pub without_is : (c : ℕ) (cs : List ℕ) (d : ℕ) → is_among d (without itself c cs) ≡ cond (eqb c d) false (is_among d cs)
+without_is c cs d = has-without itself d c cs ∙ by_test (eqb c d)
+  where
+    by_test : (b : Bool) → (not b && is_among d cs) ≡ cond b false (is_among d cs)
+    by_test true = refl
+    by_test false = refl
+
+-- it is bound to nothing then
+module _ (t : Tables) (started : (d : ℕ) → is_some (t.consumer d) ≡ true → Among d t.starts) (c : ℕ) (v w : rows.Consumer) (row : t.consumer c ≡ Some v) (free : (q : ℕ) → is_bound_place q w.place ≡ false) where
+  abbrev s : Tables
+  s = with_consumer c (Some w) t
+
+  here : s.consumer c ≡ Some w
+  here = rw (eqb-same c) refl
+
+  others : (d : ℕ) → d ≢ c → s.consumer d ≡ t.consumer d
+  others d ne = rw (eqb-other c d (λ e. ne (sym e))) refl
+
+  users : (q : ℕ) → is_bound q (Some v) ≡ false → (d : ℕ) → is_bound q (s.consumer d) ≡ is_bound q (t.consumer d)
+  users q off d = elim (same_or c d) [
+    | inl e ↦ rw (← e, here, row) (free q ∙ sym off)
+    | inr ne ↦ ap (is_bound q) (others d (λ e. ne (sym e)))
+  ]
+
+  firsts : (q : ℕ) → is_bound q (Some v) ≡ false → (d : ℕ) → is_first s q (s.consumer d) ≡ is_first t q (t.consumer d)
+  firsts q off d = elim (same_or c d) [
+    | inl e ↦ rw (← e, here, row) (and_false (is_bound_place q w.place) (came_alone s w.place) (free q) ∙ sym (and_false (is_bound_place q v.place) (came_alone t v.place) off))
+    | inr ne ↦ ap (is_first s q) (others d (λ e. ne (sym e)))
+  ]
+
+  -- that it wasn't bound to
+  entry_stays : (q : ℕ) (k : Option Kept) (o : Option Representation) → t.representation q ≡ o → is_bound q (Some v) ≡ false → KeepsEntry t q k o → KeepsEntry s q k o
+  unfolding kind_of
+  entry_stays q k o at off kept = entry_same t s q k o at (record { users = users q off; first = firsts q off; list = bound_same t s q refl (users q off); kind = λ p is. refl; overs = λ y on. on }) kept
+
+  bound_started : (z : Tables) (q d : ℕ) → z.starts ≡ t.starts → is_bound q (z.consumer d) ≡ true → is_some (t.consumer d) ≡ true → bound z q ≢ []
+  unfolding bound
+  bound_started z q d starts on there = filter_some (λ n. is_bound q (z.consumer n)) d z.starts (subst (Among d) (sym starts) (started d there)) on
+
+  -- whoever is bound started
+  bound_there : (q d : ℕ) (o : Option rows.Consumer) → is_bound q o ≡ true → is_some o ≡ true
+  bound_there q d None on = false_true on
+  bound_there q d (Some u) on = refl
+
+  there_too : (d : ℕ) → is_some (s.consumer d) ≡ true → is_some (t.consumer d) ≡ true
+  there_too d there = elim (same_or c d) [
+    | inl e ↦ rw (← e, row) refl
+    | inr ne ↦ ap (λ z. is_some z) (sym (others d (λ e. ne (sym e)))) ∙ there
+  ]
+
+  module _ (q : ℕ) (bound_here : is_bound q (Some v) ≡ true) where
+    nobody_not : bound t q ≡ [] → ⊥
+    nobody_not none = bound_started t q c refl (ap (is_bound q) row ∙ bound_here) (ap (λ z. is_some z) row) none
+
+    module _ (e : Kept) (p : Representation) (is : IsEntry t q e p) where
+      has_left : (d : ℕ) → has itself d (without itself c e.bound) ≡ is_bound q (s.consumer d)
+      has_left d = without_is c e.bound d ∙ elim (same_or c d) [
+        | inl same ↦ rw (← same, eqb-same c) (sym (free q))
+        | inr ne ↦ rw (eqb-other c d ne) (is.bound d)
+      ]
+
+      first_left : (d : ℕ) → is_number (unless_it c e.first) d ≡ is_first s q (s.consumer d)
+      first_left d = elim (same_or c d) [
+        | inl same ↦ rw (← same, here) (unless_off e.first ∙ sym (and_false (is_bound_place q w.place) (came_alone s w.place) (free q)))
+        | inr ne ↦ unless_other e.first ne ∙ (is.first d ∙ sym (ap (is_first s q) (others d (λ eq. ne (sym eq)))))
+      ]
+        where
+          unless_off : (o : Option ℕ) → is_number (unless_it c o) c ≡ false
+          unless_off None = refl
+          unless_off (Some f) = elim (same_or f c) [
+            | inl same ↦ rw (same, eqb-same c) refl
+            | inr ne ↦ rw (eqb-other f c ne) (eqb-other f c ne)
+          ]
+
+          unless_other : (o : Option ℕ) → c ≢ d → is_number (unless_it c o) d ≡ is_number o d
+          unless_other None apart = refl
+          unless_other (Some f) apart = elim (same_or f c) [
+            | inl same ↦ rw (same, eqb-same c) (sym (eqb-other c d apart))
+            | inr off ↦ rw (eqb-other f c off) refl
+          ]
+
+      nobody_has : (cs : List ℕ) (d : ℕ) → is_nobody cs ≡ true → has itself d cs ≡ false
+      nobody_has [] d none = refl
+      nobody_has (x ∷ xs) d none = false_true none
+
+      somebody : (cs : List ℕ) → is_nobody cs ≡ false → (d : ℕ) × (has itself d cs ≡ true)
+      somebody [] some = false_true (sym some)
+      somebody (x ∷ xs) some = (x, rw (eqb-same x) refl)
+
+      nobody_left : is_nobody (without itself c e.bound) ≡ true → bound s q ≡ []
+      unfolding bound
+      nobody_left none = counts.filter_nothing (λ n. is_bound q (s.consumer n)) s.starts (λ d. sym (has_left d) ∙ nobody_has (without itself c e.bound) d none)
+
+      still_used : is_nobody (without itself c e.bound) ≡ false → bound s q ≢ []
+      still_used some =
+          let one = somebody (without itself c e.bound) some in
+          let on : is_bound q (s.consumer one.0) ≡ true = sym (has_left one.0) ∙ one.1 in
+          bound_started s q one.0 refl on (there_too one.0 (bound_there q one.0 (s.consumer one.0) on))
+
+      used_by_test : (g n : Bool) → e.is_gone ≡ g → is_nobody (without itself c e.bound) ≡ n → (g && n) ≡ false → p.is_gone ≡ true → bound s q ≢ []
+      used_by_test true false gone some off is_gone = still_used some
+      used_by_test true true gone none off is_gone = false_true (sym off)
+      used_by_test false n stays n_is off is_gone = false_true (sym stays ∙ (is.is_gone ∙ is_gone))
+
+      gone_by_test : (g n : Bool) → (g && n) ≡ true → (g ≡ true) × (n ≡ true)
+      gone_by_test true true on = (refl, refl)
+      gone_by_test true false on = false_true on
+      gone_by_test false n on = false_true on
+
+      by_length : TellsLength e p → TellsLength (without_user c e) p
+      by_length (told same) = told same
+      by_length (untold u) = untold (record { gone = u.gone; untold = u.untold; total = u.total; known = u.known; came = u.came; first = ap (unless_it c) u.first })
+
+      left_by_test : (b : Bool) → (e.is_gone && is_nobody (without itself c e.bound)) ≡ b → KeepsEntry s q (if b then None else Some (without_user c e)) (Some p)
+      unfolding kind_of
+      left_by_test true on =
+          let both = gone_by_test e.is_gone (is_nobody (without itself c e.bound)) on in
+          record { gone = sym is.is_gone ∙ both.0; unused = nobody_left both.1 }
+      left_by_test false off = record {
+        used = used_by_test e.is_gone (is_nobody (without itself c e.bound)) refl refl off;
+        key = is.key;
+        head = is.head;
+        length = by_length is.length;
+        kind = is.kind;
+        whole = is.whole;
+        cells = is.cells;
+        reach = is.reach;
+        bound = has_left;
+        first = first_left;
+        writer = is.writer;
+        is_lost = is.is_lost;
+        alone = is.alone;
+        is_gone = is.is_gone;
+      }
+
+    -- that it was bound to
+    entry_left : (k : Option Kept) (o : Option Representation) → KeepsEntry t q k o → KeepsEntry s q (option_and_then (entry.left_by c) k) o
+    entry_left None None kept = tt
+    entry_left None (Some p) kept = absurd (nobody_not kept.unused)
+    entry_left (Some e) None kept = absurd kept
+    entry_left (Some e) (Some p) kept = left_by_test e p kept (e.is_gone && is_nobody (without itself c e.bound)) refl
+
+  -- what is kept of representations stands for it
+  pub entries_unbound : (a b : Shelf) → KeepsEntries t a → UnbindsAt v.place c a b → KeepsEntries s b
+  entries_unbound a b kept unbinds = by_place v.place refl
+    where
+      as_were : b ≡ a → ((q : ℕ) → is_bound q (Some v) ≡ false) → KeepsEntries s b
+      as_were same off = record {
+        each = λ q. rw same (entry_stays q (a.kept q) (t.representation q) refl (off q) (kept.each q));
+        order = rw same kept.order;
+      }
+
+      by_place : (p : Place) → v.place ≡ p → KeepsEntries s b
+      by_place (place.Bound q0 lo hi how) at =
+          let left : shelf.Becomes (option_and_then (entry.left_by c)) unmoved q0 a b = subst (λ p. UnbindsAt p c a b) at unbinds in
+          record {
+            each = λ q. elim (same_or q0 q) [
+              | inl e ↦ subst (λ n. KeepsEntry s n (b.kept n) (s.representation n)) e (rw (left.kept q0, eqb-same q0) (entry_left q0 (rw at (eqb-same q0)) (a.kept q0) (t.representation q0) (kept.each q0)))
+              | inr ne ↦ rw (left.kept q, eqb-other q0 q ne) (entry_stays q (a.kept q) (t.representation q) refl (rw at (eqb-other q0 q ne)) (kept.each q))
+            ];
+            order = left.order ∙ kept.order;
+          }
+      by_place place.Line at = as_were (subst (λ p. UnbindsAt p c a b) at unbinds) (λ q. rw at refl)
+      by_place (place.Passed z kept_it) at = as_were (subst (λ p. UnbindsAt p c a b) at unbinds) (λ q. rw at refl)
+      by_place (place.Turn x) at = as_were (subst (λ p. UnbindsAt p c a b) at unbinds) (λ q. rw at refl)
+      by_place (place.Direct x) at = as_were (subst (λ p. UnbindsAt p c a b) at unbinds) (λ q. rw at refl)
+      by_place (place.Down why) at = as_were (subst (λ p. UnbindsAt p c a b) at unbinds) (λ q. rw at refl)
+      by_place place.Over at = as_were (subst (λ p. UnbindsAt p c a b) at unbinds) (λ q. rw at refl)
+
+-- WHO IS BOUND IS KEPT AS BOUND
+
+module _ (t : Tables) (started : (d : ℕ) → is_some (t.consumer d) ≡ true → Among d t.starts) (c : ℕ) (v : rows.Consumer) (row : t.consumer c ≡ Some v) (stored : (q lo : ℕ) (hi : Option ℕ) (how : BoundBy) → v.place ≡ place.Bound q lo hi how → is_some (t.representation q) ≡ true) where
+  nobody_else : (q : ℕ) → is_bound q (t.consumer c) ≡ true → bound t q ≢ []
+  unfolding bound
+  nobody_else q on = filter_some (λ n. is_bound q (t.consumer n)) c t.starts (started c (ap (λ z. is_some z) row)) on
+
+  -- where it is bound, it is kept that it is
+  pub user_kept : (a : Shelf) → KeepsEntries t a → IsUserAt v.place c a
+  user_kept a kept = by_place v.place refl
+    where
+      by_kept : (q : ℕ) → is_bound q (Some v) ≡ true → is_some (t.representation q) ≡ true → (k : Option Kept) (o : Option Representation) → t.representation q ≡ o → KeepsEntry t q k o → has itself c (bound_in k) ≡ true
+      by_kept q on there None None at each = false_true (sym (ap (λ z. is_some z) at) ∙ there)
+      by_kept q on there None (Some p) at each = absurd (nobody_else q (ap (is_bound q) row ∙ on) each.unused)
+      by_kept q on there (Some e) None at each = absurd each
+      by_kept q on there (Some e) (Some p) at each = each.bound c ∙ (ap (is_bound q) row ∙ on)
+
+      by_place : (p : Place) → v.place ≡ p → IsUserAt v.place c a
+      by_place (place.Bound q lo hi how) at =
+          subst (λ p. IsUserAt p c a) (sym at)
+          (by_kept q (rw at (eqb-same q)) (stored q lo hi how at) (a.kept q) (t.representation q) refl (kept.each q))
+      by_place place.Line at = subst (λ p. IsUserAt p c a) (sym at) tt
+      by_place (place.Passed z kept_it) at = subst (λ p. IsUserAt p c a) (sym at) tt
+      by_place (place.Turn x) at = subst (λ p. IsUserAt p c a) (sym at) tt
+      by_place (place.Direct x) at = subst (λ p. IsUserAt p c a) (sym at) tt
+      by_place (place.Down why) at = subst (λ p. IsUserAt p c a) (sym at) tt
+      by_place place.Over at = subst (λ p. IsUserAt p c a) (sym at) tt

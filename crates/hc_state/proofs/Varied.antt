@@ -1,0 +1,103 @@
+-- The fields of a request that Vary names are left, where those that it doesn't name are removed, name by name.
+use Rattle.std.proofs.Common.{◌≡◌, ℕ, ◌+◌, Bool, true, false, not, List, [], ◌∷◌, ◌++◌, drop, Some, refl, ap, sym, ◌∙◌, arith}
+use Rattle.std.specs.Prelude.{◌||◌, bytes_eq, codes, filter, slice_get}
+use Rattle.std.specs.List.{list_any}
+use Rattle.std.proofs.lemmas.List.{append_assoc, drop_more}
+use Rattle.std.proofs.lemmas.Option.{slice_get_within, get_or_from_slice_get}
+use Rattle.http_header.specs.Token.{lowercase}
+use Rattle.hc_fields.specs.FieldElements.{elements_in}
+use Rattle.hc_fields.specs.FieldList.{IsFieldList, IsModest, has_name, without}
+use Rattle.hc_fields.proofs.Edits.{length-parts, size_of-parts}
+use Rattle.hc_rules.proofs.RangeReads.{bytes_eq-same, same_bytes}
+use Rattle.hc_validate.specs.Heads.{FieldPairs}
+use Rattle.hc_validate.specs.Updates.{is_renewed, left_by}
+use Rattle.hc_validate.proofs.Renewals.{field_at, left_by-more}
+use Rattle.hc_model.specs.Heads.{is_varied, kept_fields, varied_by}
+use Rattle.hc_state.specs.Founding.{is_named_by}
+use Rattle.hc_state.proofs.Words.{false_true}
+
+abbrev pub Pair : Type 0
+Pair = List ℕ × List ℕ
+
+-- WHAT IS REMOVED BY ITS NAME
+
+module _ (p : Pair → Bool) (same : (f g : Pair) → has_name g.0 f ≡ true → p f ≡ p g) where
+  abbrev out : FieldPairs → FieldPairs
+  out fs = filter (λ f. not (p f)) fs
+
+  none_renews : (zs : FieldPairs) (f : Pair) → p f ≡ true → is_renewed (out zs) f ≡ false
+  none_renews [] f on = refl
+  none_renews (g ∷ zs) f on = by_tests (p g) (has_name g.0 f) refl refl (none_renews zs f on)
+    where
+      by_tests : (a b : Bool) → p g ≡ a → has_name g.0 f ≡ b → is_renewed (out zs) f ≡ false → is_renewed (out (g ∷ zs)) f ≡ false
+      by_tests true b passes is rest = rw passes rest
+      by_tests false true fails is rest = false_true (sym fails ∙ (sym (same f g is) ∙ on))
+      by_tests false false fails is rest = rw (fails, is) rest
+
+  self_renews : (ys xs : FieldPairs) (f : Pair) → p f ≡ false → is_renewed (out (ys ++ (f ∷ xs))) f ≡ true
+  self_renews [] xs f off = let self : has_name f.0 f ≡ true = bytes_eq-same f.0 f.0 refl in rw (off, self) refl
+  self_renews (g ∷ ys) xs f off = by_test (p g) refl (self_renews ys xs f off)
+    where
+      either : (b : Bool) → (b || true) ≡ true
+      either true = refl
+      either false = refl
+
+      by_test : (a : Bool) → p g ≡ a → is_renewed (out (ys ++ (f ∷ xs))) f ≡ true → is_renewed (out (g ∷ (ys ++ (f ∷ xs)))) f ≡ true
+      by_test true passes rest = rw passes rest
+      by_test false fails rest = rw (fails, rest) (either (has_name g.0 f))
+
+  left_is : (ys xs : FieldPairs) → left_by (out (ys ++ xs)) xs ≡ filter p xs
+  left_is ys [] = refl
+  left_is ys (f ∷ xs) = by_test (p f) refl (ap (λ (zs : FieldPairs). left_by (out zs) xs) (sym (append_assoc ys (f ∷ []) xs)) ∙ left_is (ys ++ (f ∷ [])) xs)
+    where
+      by_test : (a : Bool) → p f ≡ a → left_by (out (ys ++ (f ∷ xs))) xs ≡ filter p xs → left_by (out (ys ++ (f ∷ xs))) (f ∷ xs) ≡ filter p (f ∷ xs)
+      by_test true on rest = let none : is_renewed (out (ys ++ (f ∷ xs))) f ≡ false = none_renews (ys ++ (f ∷ xs)) f on in rw (none, on) (ap (λ (zs : FieldPairs). f ∷ zs) rest)
+      by_test false off rest = let some : is_renewed (out (ys ++ (f ∷ xs))) f ≡ true = self_renews ys xs f off in rw (some, off) rest
+
+-- WHAT VARY NAMES
+
+-- those that it doesn't name
+abbrev pub unnamed : FieldPairs → FieldPairs → FieldPairs
+unnamed told fs = filter (λ f. not (is_varied told f)) fs
+
+by_name : (told : FieldPairs) (f g : Pair) → has_name g.0 f ≡ true → is_varied told f ≡ is_varied told g
+by_name told f g is = ap (λ (name : List ℕ). list_any (λ element. bytes_eq (lowercase element) name) (elements_in (codes "vary") told)) (same_bytes f.0 g.0 is)
+
+pub varied-first : (asked told : FieldPairs) → left_by (unnamed told asked) asked ≡ varied_by asked told
+varied-first asked told = left_is (is_varied told) (by_name told) [] asked
+
+-- as the code tests it
+pub varied-lower : (told : FieldPairs) (name value : List ℕ) → lowercase name ≡ name → list_any (is_named_by name) (elements_in (codes "vary") told) ≡ is_varied told (name, value)
+varied-lower told name value lower = ap (λ (n : List ℕ). list_any (λ element. bytes_eq (lowercase element) n) (elements_in (codes "vary") told)) lower
+
+pub unnamed-more : (told asked : FieldPairs) (i : ℕ) (g : Pair) → slice_get asked i ≡ Some g → is_varied told g ≡ false → unnamed told (drop i asked) ≡ g ∷ unnamed told (drop (i + 1) asked)
+unnamed-more told asked i g is off = rw (drop_more asked i g (slice_get_within asked i g is), get_or_from_slice_get asked i g g is, off) refl
+
+pub unnamed-named : (told asked : FieldPairs) (i : ℕ) (g : Pair) → slice_get asked i ≡ Some g → is_varied told g ≡ true → unnamed told (drop i asked) ≡ unnamed told (drop (i + 1) asked)
+unnamed-named told asked i g is on = rw (drop_more asked i g (slice_get_within asked i g is), get_or_from_slice_get asked i g g is, on) refl
+
+-- one field more is looked at
+module _ (told asked fields : FieldPairs) (i : ℕ) (g : Pair) (list : IsFieldList asked) (is : slice_get asked i ≡ Some g) (left : left_by (unnamed told (drop i asked)) fields ≡ varied_by asked told) where
+  lower : lowercase g.0 ≡ g.0
+  lower = (field_at asked i g list is).is_lower
+
+  pub varied-removed : list_any (is_named_by g.0) (elements_in (codes "vary") told) ≡ false → (after : FieldPairs) → after ≡ without (lowercase g.0) fields → left_by (unnamed told (drop (i + 1) asked)) after ≡ varied_by asked told
+  varied-removed off after removed =
+      let rest = unnamed told (drop (i + 1) asked) in
+      ap (left_by rest) (removed ∙ ap (λ (n : List ℕ). without n fields) lower)
+      ∙ (left_by-more g rest fields
+      ∙ (ap (λ (t : FieldPairs). left_by t fields) (sym (unnamed-more told asked i g is (sym (varied-lower told g.0 g.1 lower) ∙ off))) ∙ left))
+
+  pub varied-kept : list_any (is_named_by g.0) (elements_in (codes "vary") told) ≡ true → left_by (unnamed told (drop (i + 1) asked)) fields ≡ varied_by asked told
+  varied-kept on = ap (λ (t : FieldPairs). left_by t fields) (sym (unnamed-named told asked i g is (sym (varied-lower told g.0 g.1 lower) ∙ on))) ∙ left
+
+-- WHAT IS STORED
+
+less_modest : (name : List ℕ) (fs : FieldPairs) → IsModest fs → IsModest (without name fs)
+less_modest name fs modest = record {
+  few = (let few = modest.few in let parts = length-parts name fs in omega (arith, few, parts));
+  small = (let small = modest.small in let parts = size_of-parts name fs in omega (arith, small, parts));
+}
+
+pub kept_modest : (fs : FieldPairs) → IsModest fs → IsModest (kept_fields fs)
+kept_modest fs modest = less_modest (codes "content-length") _ (less_modest (codes "content-range") fs modest)

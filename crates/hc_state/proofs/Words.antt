@@ -1,0 +1,107 @@
+-- Small facts on tests, options and numbers.
+use Rattle.std.proofs.Common.{◌≡◌, ◌≢◌, ◌⊎◌, inl, inr, ℕ, ◌+◌, ◌<◌, ◌≤◌, ◌^◌, Bool, true, false, cond, eqb, Option, Some, None, Result, Ok, Err, refl, sym, ◌∙◌, arith}
+use Rattle.std.proofs.lemmas.Bool.Decides.{nat_tests, eqb_tells}
+use Rattle.std.specs.Prelude.{is_some, IsSomeAnd, OnOk, OnErr, ◌||◌, ◌&&◌}
+use Rattle.hc_state.specs.Stands.{most_before}
+
+pub same_or : (c d : ℕ) → (c ≡ d) ⊎ (c ≢ d)
+same_or c d = elim (eqb_tells c d) [ inl e ↦ inl e.1 | inr e ↦ inr e.1 ]
+
+pub eqb-same : (c : ℕ) → eqb c c ≡ true
+eqb-same c = grind (arith, nat_tests)
+
+pub eqb-other : (c d : ℕ) → c ≢ d → eqb c d ≡ false
+eqb-other c d ne = grind (arith, nat_tests)
+
+pub none_some : {A P : Type 0} (a : A) → None ≡ Some a → P
+none_some a h = absurd (let never : None ≡ Some a = h in cc)
+
+pub false_true : {P : Type 0} → false ≡ true → P
+false_true h = absurd (let never : false ≡ true = h in cc)
+
+pub some_is : {A : Type 0} (a b : A) → Some a ≡ Some b → a ≡ b
+some_is a b h = cc
+
+pub same_row : {A : Type 0} (o : Option A) (a b : A) → o ≡ Some a → o ≡ Some b → a ≡ b
+same_row o a b is at = some_is a b (sym is ∙ at)
+
+-- a value that is there, and what is known of it
+pub there : {A : Type 0} (o : Option A) (P : A → Type 0) → IsSomeAnd o P → (k : A) × (o ≡ Some k) × P k
+there None P h = absurd h
+there (Some k) P h = (k, refl, h)
+
+pub is_there : {A : Type 0} (o : Option A) → is_some o ≡ true → (k : A) × (o ≡ Some k)
+is_there None h = false_true h
+is_there (Some k) h = (k, refl)
+
+-- what holds, where a call failed
+pub err_with : {A E P : Type 0} (r : Result A E) → P → OnErr r P
+err_with (Ok x) p = tt
+err_with (Err e) p = p
+
+pub or_false : (a b : Bool) → a ≡ false → b ≡ false → (a || b) ≡ false
+or_false false b p q = q
+or_false true b p q = false_true (sym p)
+
+pub and_false : (a b : Bool) → a ≡ false → (a && b) ≡ false
+and_false false b p = refl
+and_false true b p = false_true (sym p)
+
+pub then_false : (a b : Bool) → b ≡ false → (a && b) ≡ false
+then_false false b p = refl
+then_false true b p = p
+
+pub not_true : (b : Bool) → (b ≡ true → ⊥) → b ≡ false
+not_true true off = absurd (off refl)
+not_true false off = refl
+
+pub or_none : {A : Type 0} (o : Option A) → cond (is_some o) o None ≡ o
+or_none None = refl
+or_none (Some a) = refl
+
+-- what follows where a call succeeded
+pub on_ok : {A E P Q R S : Type 0} (r : Result A E) → OnOk r P → OnOk r Q → OnOk r R → (P → Q → R → S) → OnOk r S
+on_ok (Ok x) p q s f = f p q s
+on_ok (Err e) p q s f = tt
+
+pub ok_then : {A E P Q : Type 0} (r : Result A E) → OnOk r P → (P → Q) → OnOk r Q
+ok_then (Ok x) p f = f p
+ok_then (Err e) p f = tt
+
+pub none_of : {A : Type 0} (o : Option A) → is_some o ≡ false → o ≡ None
+none_of None off = refl
+none_of (Some a) off = false_true (sym off)
+
+-- what is none isn't there
+pub none_there : {A P : Type 0} (o : Option A) → o ≡ None → is_some o ≡ true → P
+none_there None none on = false_true on
+none_there (Some a) none on = none_some a (sym none)
+
+-- what holds where a call succeeded, by what it says then
+pub on_ok_by : {A E P Q : Type 0} (r : Result A E) → OnOk r P → (P → Q) → OnOk r Q
+on_ok_by (Ok x) p f = f p
+on_ok_by (Err e) p f = tt
+
+pub on_ok_two : {A E P Q R : Type 0} (r : Result A E) → OnOk r P → OnOk r Q → (P → Q → R) → OnOk r R
+on_ok_two (Ok x) p q f = f p q
+on_ok_two (Err e) p q f = tt
+
+-- HOW MANY BYTES CAME
+
+-- pieces had no more bytes than were counted, and as many as may have come before: so it stays where both counts stay,
+pub same_received : {a b m n : ℕ} → a ≡ b → n ≡ m → m ≤ b + most_before → n ≤ a + most_before
+same_received count told most = omega (arith, count, told, most)
+
+pub as_received : {a b n : ℕ} → a ≡ b → n ≤ b + most_before → n ≤ a + most_before
+as_received count most = omega (arith, count, most)
+
+-- and where both grow by as many
+pub more_received : {n : ℕ} (a more : ℕ) → n ≤ a + most_before → n + more ≤ a + more + most_before
+more_received a more most = omega (arith, most)
+
+pub none_received : (a : ℕ) → 0 ≤ a + most_before
+none_received a = omega arith
+
+-- while few are counted, few came in all
+pub few_received : {a n : ℕ} → n ≤ a + most_before → a < 2 ^ 61 → n < 2 ^ 62
+few_received most small = omega (arith, most, small)

@@ -1,0 +1,38 @@
+-- What a cache is that may step, and what a step needs.
+use Rattle.std.specs.Prelude.{ℕ, ◌+◌, ◌≤◌, ◌^◌, Bool, true, false, is_some}
+use Rattle.hc_store.specs.declared.backend.Backend.{Ghosts}
+use Rattle.hc_event.specs.declared.event.Event.{Event}
+use Rattle.hc_event.specs.declared.event.Event.TheVariants as event
+use Rattle.hc_rules.specs.Refusals.{refusal_of}
+use Rattle.hc_exch.specs.Exchanges.{next_of}
+use Rattle.hc_model.specs.Tables.{tables, received_in}
+use Rattle.hc_state.specs.declared.rows.Rows.{Rows}
+use Rattle.hc_state.specs.Stands.{StandsForSome, Stands, gate_of}
+
+-- the rows stand for the tables of a run that is no later
+abbrev pub StandsUntil : {B : Type 0} {g : Ghosts B} → Rows B g → ℕ → Type 0
+StandsUntil r moment = (s : StandsForSome r) × ((tables s.contents s.h).moment ≤ moment)
+
+-- the rows stand for tables that are no later
+abbrev pub StandsBy : {B : Type 0} {g : Ghosts B} → Rows B g → ℕ → Type 0
+StandsBy r moment = (s : Stands r) × (s.t.moment ≤ moment)
+
+-- its rows stand for some run until its last moment, and each step opened one exchange at most
+abbrev pub IsGood : {B : Type 0} {g : Ghosts B} → Rows B g → ℕ → ℕ → Type 0
+IsGood r moment n = ∥ StandsUntil r moment ∥₁ × (next_of r.exchanges ≤ 2 ^ 60 + n)
+
+-- the event is denied
+abbrev pub is_refused : {B : Type 0} {g : Ghosts B} → Rows B g → Event → Bool
+is_refused r event = is_some (refusal_of (gate_of r event) event)
+
+-- a denied event is counted
+abbrev pub counted : {B : Type 0} {g : Ghosts B} → Event → Rows B g → Rows B g
+counted event r = record r { received = r.received + received_in event }
+
+-- whoever leaves, and what ends, breaks or is doomed, is told without memory
+abbrev pub takes_no_memory : Event → Bool
+takes_no_memory (event.End x) = true
+takes_no_memory (event.Fault x) = true
+takes_no_memory (event.Cancel c) = true
+takes_no_memory (event.Doom key) = true
+takes_no_memory _ = false

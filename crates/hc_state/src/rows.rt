@@ -1,0 +1,25 @@
+//! What is kept: live consumers, exchanges, keys and representations.
+use crate::consumer::Consumer;
+use hc_stored::Entries;
+use hc_entry::KeyTable;
+use hc_exch::Exchanges;
+use hc_rules::Limits;
+use hc_store::Backend;
+use std::collections::HashMap;
+
+/// What is kept of the past: live consumers, open exchanges and what is held of them, who waits for
+/// each key, and the representations that are current or used. It is a plain record: what is done to
+/// it, and that it stands for the tables of a run, is said by the contracts of those who do it.
+#[derive(Drop)]
+pub struct Rows<B: Backend> {
+    pub limits: Limits,
+    /// The number of the last consumer that started.
+    pub last_start: u64,
+    /// How many bytes pieces had so far.
+    pub received: u64,
+    /// The live ones, by number.
+    pub consumers: HashMap<u64, Consumer>,
+    pub exchanges: Exchanges,
+    pub keys: KeyTable,
+    pub entries: Entries<B>,
+}

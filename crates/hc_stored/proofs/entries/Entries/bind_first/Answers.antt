@@ -1,0 +1,27 @@
+use Rattle.std.proofs.Common.{refl}
+use Rattle.hc_stored.specs.Rows.{rows_of, used_first_by}
+use Rattle.hc_stored.proofs.ShelfLemmas.{updated-shelved, kept-slots, same-shelved}
+use Rattle.hc_stored.proofs.RowLemmas.{shelved-first}
+use Rattle.hc_stored.proofs.CurrentLemmas.{admits-row, admits-from_first, rising-users, absent-user, ordered-first}
+use Rattle.hc_stored.proofs.entries.Entries.bind_first.Goals as goal
+
+pub bind_first_in-requires-clause-rising : goal.bind_first_in-requires-clause-rising
+bind_first_in-requires-clause-rising g c = rising-users c.args.self.now.shelved c.args.r
+
+pub invariant_of-self : goal.invariant_of-self
+invariant_of-self g c = let e = c.args.self.now in record { limited = e.limited; shelved = same-shelved e.shelved c.in_err-bind_first_in.ensures.err }
+
+pub invariant_of-self-2 : goal.invariant_of-self-2
+invariant_of-self-2 g c =
+    let e = c.args.self.now in
+    let r = c.args.r in
+    let slots = g.B.Backend.slots e.store in
+    let is = admits-row slots c.args.c (rows_of e.rows r) (admits-from_first slots c.args.c (rows_of e.rows r) c.requires) in
+    let f = used_first_by c.args.c in
+    record {
+      limited = e.limited;
+      shelved =
+          rw c.move_first.ensures (updated-shelved e.shelved r is.0 is.1 f (λ h. h) (λ a. refl) c.in_ok-bind_first_in.ensures.ok (kept-slots slots is.0)
+          (λ a b there h. shelved-first c.args.c a b (absent-user c.args.c (rows_of e.rows r) a there is.3) h)
+          (ordered-first e.shelved r f c.in_ok-bind_first_in.ensures.ok is.2 (λ a. refl)));
+    }

@@ -1,0 +1,10 @@
+use mathlib.Core.Path.{fun_ext}
+use Rattle.hc_stored.specs.Rows.{rows_of}
+use Rattle.hc_stored.proofs.ShelfLemmas.{cells-kept}
+use Rattle.hc_stored.proofs.entries.Entries.next_present.Goals as goal
+
+pub returns-clause-next : goal.returns-clause-next
+returns-clause-next g c =
+    let e = c.args.self.now in
+    let same = fun_ext (cells-kept (g.B.Backend.slots e.store) (rows_of e.rows c.args.r) c.slot_in.result.n c.slot_in.ensures) in
+    rw (← same) c.next_present.ensures.next

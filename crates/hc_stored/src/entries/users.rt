@@ -1,0 +1,90 @@
+//! Who is bound to representations, and what becomes of them.
+ghost use Rattle.std.specs.Prelude.{◌≡◌, ℕ, true, option_map, OnOk, OnErr};
+ghost use Rattle.std.specs.Option.{option_and_then};
+ghost use Rattle.hc_stored.specs.Kept.{with_user, with_first, left_by, gone, lost, written_by};
+ghost use Rattle.hc_stored.specs.Views.{admits, admits_first, has_user};
+
+use super::Entries;
+use crate::rows::{bind_first_in, bind_in, drop_in, go_in, is_over, lose_in, unbind_in, write_in};
+use hc_store::Backend;
+use hc_text::NoMemory;
+
+impl<B: Backend> Entries<B> {
+    ghost use Rattle.hc_stored.specs.Entries.{shelf_of};
+    ghost use Rattle.hc_stored.specs.Shelf.{is_kept, unmoved, moved_first, taken_out, Becomes, Stays};
+
+    /// One more consumer is bound, and the representation stands first in the order.
+    pub fn bind(&mut self, r: u64, c: u64) -> Result<(), NoMemory>
+        requires { admits c ((shelf_of self.old).kept r) ≡ true }
+        ensures ok { OnOk result (Becomes (option_map (with_user c)) (moved_first r)
+            r (shelf_of self.old) (shelf_of self.new)) }
+        ensures err { OnErr result (Stays (shelf_of self.old) (shelf_of self.new)) }
+        ensures faults { (shelf_of self.new).faults ≡ (shelf_of self.old).faults }
+    {
+        bind_in(&mut self.rows, r, c)?;
+        self.order.move_first(r);
+        Ok(())
+    }
+
+    /// The same for one that comes alone.
+    pub fn bind_first(&mut self, r: u64, c: u64) -> Result<(), NoMemory>
+        requires { admits_first c ((shelf_of self.old).kept r) ≡ true }
+        ensures ok { OnOk result (Becomes (option_map (with_first c)) (moved_first r)
+            r (shelf_of self.old) (shelf_of self.new)) }
+        ensures err { OnErr result (Stays (shelf_of self.old) (shelf_of self.new)) }
+        ensures faults { (shelf_of self.new).faults ≡ (shelf_of self.old).faults }
+    {
+        bind_first_in(&mut self.rows, r, c)?;
+        self.order.move_first(r);
+        Ok(())
+    }
+
+    /// A consumer isn't bound any more. What is gone and has nobody now is dropped with its slot.
+    pub fn unbind(&mut self, r: u64, c: u64)
+        requires { has_user c ((shelf_of self.old).kept r) ≡ true }
+        ensures changed { Becomes (option_and_then (left_by c)) unmoved r
+            (shelf_of self.old) (shelf_of self.new) }
+        ensures faults { (shelf_of self.new).faults ≡ (shelf_of self.old).faults }
+    {
+        unbind_in(&mut self.rows, r, c);
+        if is_over(&self.rows, r) {
+            let slot = drop_in(&mut self.rows, r);
+            self.store.drop_slot(slot);
+        }
+    }
+
+    /// The representation is gone, and where nobody is bound to it, it is dropped with its slot.
+    pub fn forget(&mut self, r: u64)
+        requires { is_kept (shelf_of self.old) r ≡ true }
+        ensures changed { Becomes (option_and_then gone) (taken_out r) r
+            (shelf_of self.old) (shelf_of self.new) }
+        ensures faults { (shelf_of self.new).faults ≡ (shelf_of self.old).faults }
+    {
+        go_in(&mut self.rows, r);
+        self.order.take_out(r);
+        if is_over(&self.rows, r) {
+            let slot = drop_in(&mut self.rows, r);
+            self.store.drop_slot(slot);
+        }
+    }
+
+    /// A write of the representation was refused, and this one, if any, goes on with it.
+    pub fn lose(&mut self, r: u64, alone: Option<u64>)
+        requires { is_kept (shelf_of self.old) r ≡ true }
+        ensures changed { Becomes (option_map (lost alone)) unmoved r
+            (shelf_of self.old) (shelf_of self.new) }
+        ensures faults { (shelf_of self.new).faults ≡ (shelf_of self.old).faults }
+    {
+        lose_in(&mut self.rows, r, alone);
+    }
+
+    /// This exchange writes the representation for all.
+    pub fn set_writer(&mut self, r: u64, x: u64)
+        requires { is_kept (shelf_of self.old) r ≡ true }
+        ensures changed { Becomes (option_map (written_by x)) unmoved r
+            (shelf_of self.old) (shelf_of self.new) }
+        ensures faults { (shelf_of self.new).faults ≡ (shelf_of self.old).faults }
+    {
+        write_in(&mut self.rows, r, x);
+    }
+}

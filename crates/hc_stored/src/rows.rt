@@ -1,0 +1,166 @@
+//! Entries by the numbers of their representations: one changes, and the others stay.
+ghost use Rattle.std.specs.Prelude.{◌≡◌, ℕ, ◌∷◌, Some, None, is_some, option_map, true, false, OnOk, OnErr};
+ghost use Rattle.hc_sorted.specs.Sorted.{is_sorted, has};
+ghost use Rattle.hc_stored.specs.Kept.{itself};
+ghost use Rattle.hc_stored.specs.Rows.{row_of, rows_of, told_in, with_row, Changes, with_told, reaching, sealed_as, used_by, used_first_by, unused_by, going, losing, written_in, slot_at, users_at, is_over, is_unused_row};
+
+use crate::entry::Entry;
+use crate::order::Order;
+use crate::told::HeadTold;
+use hc_record::Kind;
+use hc_store::Slot;
+use hc_text::NoMemory;
+use std::collections::HashMap;
+
+/// The slot of one.
+pub(crate) fn slot_in(rows: &HashMap<u64, Entry>, r: u64) -> Slot
+    requires { is_some (rows_of rows.now r) ≡ true }
+    ensures { slot_at (rows_of rows.now r) ≡ Some result.n }
+{
+    rows.get(&r).unwrap().slot
+}
+
+/// Whether it is gone and nobody is bound to it.
+pub(crate) fn is_over(rows: &HashMap<u64, Entry>, r: u64) -> bool
+    ensures { result ≡ is_over (rows_of rows.now r) }
+{
+    match rows.get(&r) {
+        Some(entry) => entry.gone && entry.bound.is_empty(),
+        None => false,
+    }
+}
+
+/// Whether it is there and nobody is bound to it.
+pub(crate) fn is_unused(rows: &HashMap<u64, Entry>, r: u64) -> bool
+    ensures { result ≡ is_unused_row (rows_of rows.now r) }
+{
+    match rows.get(&r) {
+        Some(entry) => entry.bound.is_empty(),
+        None => false,
+    }
+}
+
+/// One more, which stands first in the order.
+pub(crate) fn keep_in(
+    rows: &mut HashMap<u64, Entry>,
+    order: &mut Order,
+    r: u64,
+    entry: Entry,
+) -> Result<(), NoMemory>
+    requires new { rows_of rows.old r ≡ None }
+    requires unlisted { has itself r order.old ≡ false }
+    ensures ok { OnOk result ((q : ℕ) → rows_of rows.new q
+        ≡ with_row r (Some (row_of entry)) (rows_of rows.old) q) }
+    ensures first { OnOk result (order.new ≡ r ∷ order.old) }
+    ensures err { OnErr result ((q : ℕ) → rows_of rows.new q ≡ rows_of rows.old q) }
+    ensures unmoved { OnErr result (order.new ≡ order.old) }
+{
+    rows.insert(r, entry)?;
+    if let Err(refused) = order.put_first(r) {
+        rows.remove(&r);
+        return Err(refused);
+    }
+    Ok(())
+}
+
+/// It is there no more. Its slot.
+pub(crate) fn drop_in(rows: &mut HashMap<u64, Entry>, r: u64) -> Slot
+    requires { is_some (rows_of rows.old r) ≡ true }
+    ensures slot { slot_at (rows_of rows.old r) ≡ Some result.n }
+    ensures changes { (q : ℕ) → rows_of rows.new q ≡ with_row r None (rows_of rows.old) q }
+{
+    rows.remove(&r).unwrap().slot
+}
+
+/// Its head tells this.
+pub(crate) fn tell_in(rows: &mut HashMap<u64, Entry>, r: u64, told: HeadTold)
+    ensures { Changes (with_told (told_in told)) r (rows_of rows.old) (rows_of rows.new) }
+{
+    if let Some(entry) = rows.get_mut(&r) {
+        entry.told = told;
+    }
+}
+
+/// Bytes of it came that end there, and with the last of them another kind.
+pub(crate) fn fill_in(rows: &mut HashMap<u64, Entry>, r: u64, end: u64, last: Option<Kind>)
+    ensures { Changes (reaching end last) r (rows_of rows.old) (rows_of rows.new) }
+{
+    if let Some(entry) = rows.get_mut(&r) {
+        entry.fill(end, last);
+    }
+}
+
+/// Another kind and total.
+pub(crate) fn seal_in(rows: &mut HashMap<u64, Entry>, r: u64, kind: Kind, total: Option<u64>)
+    ensures { Changes (sealed_as kind total) r (rows_of rows.old) (rows_of rows.new) }
+{
+    if let Some(entry) = rows.get_mut(&r) {
+        entry.told.kind = kind;
+        entry.told.total = total;
+    }
+}
+
+/// One more is bound to it.
+pub(crate) fn bind_in(rows: &mut HashMap<u64, Entry>, r: u64, c: u64) -> Result<(), NoMemory>
+    requires rising { is_sorted itself (users_at (rows_of rows.old r)) ≡ true }
+    requires absent { has itself c (users_at (rows_of rows.old r)) ≡ false }
+    ensures ok { OnOk result (Changes (used_by c) r (rows_of rows.old) (rows_of rows.new)) }
+    ensures err { OnErr result ((q : ℕ) → rows_of rows.new q ≡ rows_of rows.old q) }
+{
+    if let Some(entry) = rows.get_mut(&r) {
+        entry.bind(c)?;
+    }
+    Ok(())
+}
+
+/// One more is bound to it, which comes alone.
+pub(crate) fn bind_first_in(rows: &mut HashMap<u64, Entry>, r: u64, c: u64) -> Result<(), NoMemory>
+    requires rising { is_sorted itself (users_at (rows_of rows.old r)) ≡ true }
+    requires absent { has itself c (users_at (rows_of rows.old r)) ≡ false }
+    ensures ok { OnOk result (Changes (used_first_by c) r (rows_of rows.old) (rows_of rows.new)) }
+    ensures err { OnErr result ((q : ℕ) → rows_of rows.new q ≡ rows_of rows.old q) }
+{
+    if let Some(entry) = rows.get_mut(&r) {
+        entry.bind(c)?;
+        entry.first = Some(c);
+    }
+    Ok(())
+}
+
+/// One isn't bound to it any more.
+pub(crate) fn unbind_in(rows: &mut HashMap<u64, Entry>, r: u64, c: u64)
+    requires { is_sorted itself (users_at (rows_of rows.old r)) ≡ true }
+    ensures { Changes (unused_by c) r (rows_of rows.old) (rows_of rows.new) }
+{
+    if let Some(entry) = rows.get_mut(&r) {
+        entry.unbind(c);
+    }
+}
+
+/// It is gone.
+pub(crate) fn go_in(rows: &mut HashMap<u64, Entry>, r: u64)
+    ensures { Changes going r (rows_of rows.old) (rows_of rows.new) }
+{
+    if let Some(entry) = rows.get_mut(&r) {
+        entry.gone = true;
+    }
+}
+
+/// It is lost, and this one, if any, goes on with it.
+pub(crate) fn lose_in(rows: &mut HashMap<u64, Entry>, r: u64, alone: Option<u64>)
+    ensures { Changes (losing alone) r (rows_of rows.old) (rows_of rows.new) }
+{
+    if let Some(entry) = rows.get_mut(&r) {
+        entry.lost = true;
+        entry.alone = alone;
+    }
+}
+
+/// This exchange writes it.
+pub(crate) fn write_in(rows: &mut HashMap<u64, Entry>, r: u64, x: u64)
+    ensures { Changes (written_in x) r (rows_of rows.old) (rows_of rows.new) }
+{
+    if let Some(entry) = rows.get_mut(&r) {
+        entry.writer = Some(x);
+    }
+}

@@ -4,8 +4,8 @@ ghost use Rattle.hc_rules.specs.declared.admission.BoundKind.TheVariants as way;
 ghost use Rattle.hc_rules.specs.Admissions.{admission_of, least_of, least_bound, is_same_kind};
 ghost use Rattle.hc_entry.specs.Users.{nobody, is_bound, is_bound_as, with_user, admitted, rebound, settled, all_unshared, left_by, are_all, first_of, admission_by, kind_by};
 
-use hc_sorted::{has_item, put_reserved, take_out};
 use hc_rules::{Admission, BoundKind};
+use hc_sorted::{has_item, put_reserved, take_out};
 use hc_text::NoMemory;
 use std::alloc::Global;
 use std::marker::Model;

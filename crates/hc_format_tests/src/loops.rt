@@ -1,9 +1,9 @@
 //! A schedule that is read in pieces of any size, and what fails on the way.
 ghost use Rattle.std.specs.Prelude.{◌≡◌, ◌<◌, ◌^◌, ⊤, length};
 
+use hc_driver::step_through;
 use hc_event::{Act, Acts, Event, Stepper};
 use hc_io::{MemorySink, MemorySource};
-use hc_driver::step_through;
 use hc_sched::{Ended, Refused, SchedRefusal};
 use hc_text::NoMemory;
 use std::alloc::Global;

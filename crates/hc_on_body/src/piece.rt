@@ -32,8 +32,8 @@ use hc_on_leave::seal::lose_to;
 use hc_on_leave::writers::exclusive;
 use hc_on_leave::writing::writing;
 use hc_record::Kind;
-use hc_state::Rows;
 use hc_rules::Write;
+use hc_state::Rows;
 use hc_store::{Backend, StoreError};
 use hc_text::NoMemory;
 

@@ -21,8 +21,8 @@ use hc_event::Acts;
 use hc_on_leave::close::close;
 use hc_on_leave::evict::let_some_go;
 use hc_on_leave::gone::unbind_from;
-use hc_state::{Rows, awaited, start_over};
 use hc_rules::lesser;
+use hc_state::{Rows, awaited, start_over};
 use hc_store::Backend;
 use hc_text::Key;
 

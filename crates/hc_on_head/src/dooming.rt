@@ -16,8 +16,8 @@ use crate::doom::doom;
 use crate::heard::Heard;
 use crate::unstored::have_answer;
 use hc_event::{Acts, Cause, Place, Response};
-use hc_state::{Rows, stand};
 use hc_rules::HeadCase;
+use hc_state::{Rows, stand};
 use hc_store::Backend;
 use hc_text::{Key, NoMemory};
 

@@ -29,8 +29,8 @@ use hc_on_leave::evict::{let_some_go, make_room};
 use hc_on_leave::lose::lost_kind;
 use hc_range::ContentRange;
 use hc_record::{Kind, StoredHead};
-use hc_state::{Founding, Rows, founded_head, read_founded};
 use hc_rules::{HeadCase, Wanted, Write, content_range_of, length_of, wanted_of};
+use hc_state::{Founding, Rows, founded_head, read_founded};
 use hc_store::{Backend, StoreError};
 use hc_text::NoMemory;
 

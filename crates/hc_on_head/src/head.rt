@@ -31,11 +31,11 @@ use crate::unstored::{close_hole, go_past, put_down, start_anew, take_past};
 use hc_event::{Acts, Cause, Need, Response, is_safe};
 use hc_exch::Role;
 use hc_range::Span;
-use hc_state::Rows;
 use hc_rules::{
     HeadCase, HeadView, HoleAnswer, fits_to_found, head_case, hole_answer, is_conditional,
     is_storable, length_of,
 };
+use hc_state::Rows;
 use hc_store::Backend;
 use hc_text::NoMemory;
 

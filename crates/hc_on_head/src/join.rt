@@ -25,8 +25,8 @@ use hc_on_leave::gone::leave_key;
 use hc_on_leave::seal::lose_to;
 use hc_range::ContentRange;
 use hc_record::Kind;
-use hc_state::{Rows, disown};
 use hc_rules::content_range_of;
+use hc_state::{Rows, disown};
 use hc_store::{Backend, StoreError};
 use hc_text::NoMemory;
 

@@ -23,8 +23,8 @@ use hc_event::{Act, Acts, Cause, Place, Response};
 use hc_exch::Role;
 use hc_on_leave::acts::put;
 use hc_on_leave::evict::let_some_go;
-use hc_state::{Rows, make_due, take_answer};
 use hc_rules::{Length, length_of};
+use hc_state::{Rows, make_due, take_answer};
 use hc_store::Backend;
 use hc_text::NoMemory;
 

@@ -9,12 +9,12 @@ ghost use Rattle.hc_model.specs.Rows.{Tables, Consumer};
 ghost use Rattle.hc_state.specs.Leaving.{LeavesKey, Forgets, IsUserAt, UnbindsAt, LeavesPlace};
 ghost use Rattle.hc_state.specs.Stands.{RowsStand, Stands};
 
-use hc_stored::Entries;
 use hc_entry::KeyTable;
 use hc_event::Place;
 use hc_exch::Exchanges;
 use hc_state::Rows;
 use hc_store::Backend;
+use hc_stored::Entries;
 use hc_text::Key;
 
 /// A consumer is gone.

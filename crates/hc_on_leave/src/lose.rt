@@ -17,8 +17,8 @@ ghost use Rattle.hc_state.specs.Room.{loss_by};
 use crate::close::close;
 use crate::seal::lose_to;
 use hc_event::{Acts, Cause, LostKind};
-use hc_state::{Rows, part};
 use hc_rules::lesser;
+use hc_state::{Rows, part};
 use hc_store::{Backend, StoreError};
 use hc_text::NoMemory;
 

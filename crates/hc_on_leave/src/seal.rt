@@ -20,12 +20,12 @@ ghost use Rattle.hc_state.specs.Stored.{TellsShort};
 
 use crate::acts::put;
 use crate::evict::let_go;
-use hc_stored::EntryView;
 use hc_event::{Act, Acts, LostKind};
 use hc_exch::Role;
 use hc_record::Kind;
 use hc_state::{Rows, Stop};
 use hc_store::Backend;
+use hc_stored::EntryView;
 
 /// What becomes of what the exchange brought when that is closed.
 pub(crate) fn stop_of<B: Backend>(rows: &Rows<B>, x: u64) -> Stop

@@ -15,8 +15,8 @@ use hc_on_leave::writing::writing;
 use hc_partial::first_hole;
 use hc_range::Span;
 use hc_record::StoredHead;
-use hc_state::Rows;
 use hc_rules::{Candidate, Wanted, wanted_of};
+use hc_state::Rows;
 use hc_store::Backend;
 
 /// What is current as the plan of the consumer sees it, with its stored head.

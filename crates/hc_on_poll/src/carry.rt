@@ -19,8 +19,8 @@ use hc_event::{Acts, Cause, Place};
 use hc_on_leave::leave::fail;
 use hc_on_leave::misread::misread_by;
 use hc_record::StoredHead;
-use hc_state::Rows;
 use hc_rules::{Plan, PlanView, plan_of};
+use hc_state::Rows;
 use hc_store::Backend;
 use hc_text::NoMemory;
 

@@ -14,8 +14,8 @@ use crate::wait::wait;
 use hc_event::{Acts, Wait, Why};
 use hc_on_leave::leave::{end_reading, fail};
 use hc_on_leave::writing::if_running;
-use hc_state::{Consumer, Rows, show_answer};
 use hc_rules::{ReadStep, ReadView, read_step};
+use hc_state::{Consumer, Rows, show_answer};
 use hc_store::Backend;
 use hc_text::NoMemory;
 

@@ -26,9 +26,9 @@ use hc_on_leave::acts::put;
 use hc_on_leave::leave::{end_reading, fail};
 use hc_on_leave::misread::misread_by;
 use hc_on_leave::writing::{if_running, writing};
-use hc_state::{Consumer, Rows, count_given};
 use hc_rules::{ReadStep, ReadView, read_step};
 use hc_sparse::Run;
+use hc_state::{Consumer, Rows, count_given};
 use hc_store::{Backend, StoreError};
 use hc_text::{Bytes, NoMemory};
 

@@ -9,8 +9,8 @@ ghost use Rattle.hc_state.specs.Arms.{IsEntered, KeepsRows};
 ghost use Rattle.hc_state.specs.Stands.{Answers, Stands};
 
 use hc_event::Request;
-use hc_state::{Consumer, Rows};
 use hc_rules::class_of;
+use hc_state::{Consumer, Rows};
 use hc_store::Backend;
 use hc_text::{Key, NoMemory};
 

@@ -1,12 +1,12 @@
 //! The calls over stores in memory, with limits and with calls that are made to fail.
 ghost use Rattle.std.specs.Prelude.{◌≡◌, ◌≤◌, IfOk};
 
-use hc_stored::{Entries, EntryView};
 use hc_fields::{FieldError, Fields};
 use hc_record::{Kind, StoredHead, joining_tag};
 use hc_rules::{Limits, Room, Write};
 use hc_sparse::{Presence, Run, Span2};
 use hc_store::{Backend, Failing, Memory, Op, StoreError};
+use hc_stored::{Entries, EntryView};
 use hc_text::{Key, NoMemory};
 use std::alloc::Global;
 use std::test::Fail;

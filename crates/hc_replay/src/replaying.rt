@@ -7,8 +7,8 @@ ghost use Rattle.hc_core.specs.Steps.{StandsFor, steps, received};
 ghost use Rattle.hc_replay.specs.Replays.{Replays, Completes};
 
 use hc_core::Cache;
-use hc_io::{Sink, Source};
 use hc_driver::step_through;
+use hc_io::{Sink, Source};
 use hc_sched::Ended;
 use hc_store::Backend;
 use std::alloc::Global;

@@ -1,5 +1,5 @@
-use hc_sorted::{has_item, item_at, leave_out, put_in, put_reserved, replace_in, take_out};
 use hc_rules::Member;
+use hc_sorted::{has_item, item_at, leave_out, put_in, put_reserved, replace_in, take_out};
 use std::test::Fail;
 
 #[test]

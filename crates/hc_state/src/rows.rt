@@ -1,10 +1,10 @@
 //! What is kept: live consumers, exchanges, keys and representations.
 use crate::consumer::Consumer;
-use hc_stored::Entries;
 use hc_entry::KeyTable;
 use hc_exch::Exchanges;
 use hc_rules::Limits;
 use hc_store::Backend;
+use hc_stored::Entries;
 use std::collections::HashMap;
 
 /// What is kept of the past: live consumers, open exchanges and what is held of them, who waits for

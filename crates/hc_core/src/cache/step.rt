@@ -11,13 +11,13 @@ ghost use Rattle.hc_core.specs.Steps.{StandsFor, Steps, KeepsPromises, has_faile
 use crate::acts::MOST_ACTS;
 use crate::cache::Cache;
 use crate::rows::answer::answer;
-use hc_stored::Entries;
 use hc_entry::KeyTable;
 use hc_event::{Acts, Event};
 use hc_exch::Exchanges;
-use hc_state::Rows;
 use hc_rules::Limits;
+use hc_state::Rows;
 use hc_store::Backend;
+use hc_stored::Entries;
 use hc_text::NoMemory;
 use std::alloc::Global;
 use std::collections::HashMap;

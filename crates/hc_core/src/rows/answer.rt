@@ -13,11 +13,11 @@ ghost use Rattle.hc_state.specs.Good.{StandsUntil, takes_no_memory, counted};
 
 use crate::acts::MOST_ACTS;
 use crate::rows::gate::refuses;
-use hc_on_head::doom::take_doom;
-use hc_on_head::head::take_head;
+use hc_event::{Act, Acts, Event};
 use hc_on_body::piece::take_piece;
 use hc_on_body::stop::{end, fault};
-use hc_event::{Act, Acts, Event};
+use hc_on_head::doom::take_doom;
+use hc_on_head::head::take_head;
 use hc_on_leave::acts::put;
 use hc_on_leave::leave::cancel;
 use hc_on_poll::poll::poll;

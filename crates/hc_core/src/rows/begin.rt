@@ -13,13 +13,13 @@ ghost use Rattle.hc_state.specs.Stands.{RowsStand};
 ghost use Rattle.hc_core.specs.Begins.{with_items, KeepsItem};
 
 use hc_contents::{Content, Contents};
-use hc_stored::Entries;
 use hc_entry::KeyTable;
 use hc_exch::Exchanges;
-use hc_state::Rows;
 use hc_rules::Limits;
 use hc_sparse::Run;
+use hc_state::Rows;
 use hc_store::{Backend, StoreError};
+use hc_stored::Entries;
 use std::alloc::Global;
 use std::collections::HashMap;
 

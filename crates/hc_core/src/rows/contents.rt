@@ -9,9 +9,9 @@ ghost use Rattle.hc_model.specs.Contents.{runs_from};
 ghost use Rattle.hc_state.specs.Remains.{TellsAll, TellsOne};
 
 use hc_contents::{Content, ContentList, RunList};
-use hc_stored::Entries;
 use hc_sparse::Run;
 use hc_store::{Backend, StoreError};
+use hc_stored::Entries;
 use std::alloc::Global;
 
 /// No byte is at this position, or behind it.

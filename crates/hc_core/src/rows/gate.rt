@@ -6,8 +6,8 @@ ghost use Rattle.hc_model.specs.Exchanges.{exchange_in};
 ghost use Rattle.hc_state.specs.Stands.{names_kept, open_at, gate_of};
 
 use hc_event::{Event, Refusal};
-use hc_state::Rows;
 use hc_rules::{Gate, OpenExchange, refusal_of};
+use hc_state::Rows;
 use hc_store::Backend;
 
 /// Why an event is denied: the first refusal that applies, or none.

@@ -8,8 +8,6 @@ mod feeds;
 #[cfg(test)]
 mod heads;
 #[cfg(test)]
-mod loops;
-#[cfg(test)]
 mod messages;
 #[cfg(test)]
 mod reports;

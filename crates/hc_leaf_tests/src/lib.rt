@@ -13,8 +13,6 @@ mod ranges;
 #[cfg(test)]
 mod spans;
 #[cfg(test)]
-mod streams;
-#[cfg(test)]
 mod tag_lists;
 #[cfg(test)]
 mod tags;

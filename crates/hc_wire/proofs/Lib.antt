@@ -1,4 +1,3 @@
 pub mod LogLemmas
-pub mod SocketLemmas
 pub mod FollowLemmas
 pub mod StallLemmas

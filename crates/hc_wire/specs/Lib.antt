@@ -2,6 +2,5 @@ pub mod Events
 pub mod Logs
 pub mod Scripts
 pub mod Following
-pub mod Sockets
 pub mod Wires
 pub mod Stalls

@@ -4,8 +4,8 @@ ghost use Rattle.std.specs.Result.{is_ok};
 
 use crate::event::{Address, WireError, WireEvent};
 
-/// The most events that are handed out.
-pub(crate) const MOST_EVENTS: u64 = 1 << 45;
+/// The most events that a wire hands out.
+pub const MOST_EVENTS: u64 = 1 << 45;
 
 /// Connections of clients and to an origin, each with a number of its own.
 ///

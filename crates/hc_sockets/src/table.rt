@@ -1,10 +1,10 @@
 //! The sockets of a wire, by number.
 ghost use Rattle.std.specs.Prelude.{◌≡◌, ◌<◌, ◌≤◌, ℕ, false, length, OnOk, OnErr, IfOk, IfSome};
 ghost use Rattle.hc_wire.specs.Events.{Open, Closed, FitsIn, with_stage, closed_of};
-ghost use Rattle.hc_wire.specs.Sockets.{life, IsOfLive};
+ghost use Rattle.hc_sockets.specs.Sockets.{life, IsOfLive};
 
-use crate::event::WireEvent;
 use crate::socket::Socket;
+use hc_wire::WireEvent;
 use mio::event::Event;
 use std::alloc::{AllocError, Global};
 use std::collections::{HashMap, VecDeque};

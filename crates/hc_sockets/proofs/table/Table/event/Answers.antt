@@ -1,9 +1,9 @@
 use Rattle.std.proofs.Common.{Option, None, Some, ◌∙◌}
 use Rattle.std.specs.Prelude.{IfSome}
 use Rattle.hc_wire.specs.declared.event.WireEvent.{WireEvent}
-use Rattle.hc_wire.specs.Sockets.{life, IsOfLive}
-use Rattle.hc_wire.proofs.SocketLemmas.{live-same}
-use Rattle.hc_wire.proofs.table.Table.event.Goals as goal
+use Rattle.hc_sockets.specs.Sockets.{life, IsOfLive}
+use Rattle.hc_sockets.proofs.SocketLemmas.{live-same}
+use Rattle.hc_sockets.proofs.table.Table.event.Goals as goal
 
 pub returns-then-is_some-clause-of_live : goal.returns-then-is_some-clause-of_live
 returns-then-is_some-clause-of_live c = of c.event_in-event.result c.event_in-event.ensures.of_live where

@@ -4,9 +4,9 @@ use Rattle.std.proofs.lemmas.Bool.{cases_Bool, cases_eq, eq-eqb, ne_eqb, ltb-tru
 use Rattle.std.specs.HashMap.{HashMap}
 use Rattle.hc_wire.specs.declared.event.WireEvent.{WireEvent}
 use Rattle.hc_wire.specs.declared.event.WireEvent.TheVariants as event
-use Rattle.hc_wire.specs.declared.socket.Socket.{Socket}
+use Rattle.hc_sockets.specs.declared.socket.Socket.{Socket}
 use Rattle.hc_wire.specs.Events.{Stage, Unseen, Open, with_stage, IsOfOpen, stages_after}
-use Rattle.hc_wire.specs.Sockets.{life, stage_at, IsOfLive, IsBelow}
+use Rattle.hc_sockets.specs.Sockets.{life, stage_at, IsOfLive, IsBelow}
 
 -- what is live before is live after
 pub live-same : (f g : ℕ → Stage) → ((k : ℕ) → g k ≡ f k) → (e : WireEvent) → IsOfLive g e → IsOfLive f e

@@ -2,20 +2,17 @@
 ghost use Rattle.std.specs.Prelude.{◌≡◌, ◌+◌, ◌<◌, ◌≤◌, ◌^◌, ℕ, Some, None, length, IfOk, IfSome, OnErr};
 ghost use Rattle.hc_wire.specs.Events.{Open, IsOfOpen, FitsIn, stages_after, with_stage};
 ghost use Rattle.hc_wire.specs.Wires.{HasRisen};
-ghost use Rattle.hc_wire.specs.Sockets.{stage_at, life, answered, IsBelow, accepts};
+ghost use Rattle.hc_sockets.specs.Sockets.{stage_at, life, answered, IsBelow, accepts};
 
-use crate::event::{Address, WireError, WireEvent};
 use crate::socket::Socket;
 use crate::table::Table;
-use crate::wire::{MOST_EVENTS, Wire};
+use hc_wire::{Address, MOST_EVENTS, Wire, WireError, WireEvent};
 use mio::net::{TcpListener, TcpStream};
 use mio::{Events, Interest, Poll, Token};
 use std::alloc::{AllocError, Global};
 use std::io;
 use std::io::ErrorKind;
 use std::net::{Ipv4Addr, Net, SocketAddr};
-#[cfg(test)]
-use std::os::fd::RawFd;
 use std::rt::Clock;
 use std::time::{Duration, SystemTime, UNIX_EPOCH};
 
@@ -85,12 +82,6 @@ impl<R: Net + Clock + AllocGlobal + Drop> MioWire<R> {
             handed: 0,
             failed: 0,
         }
-    }
-
-    /// The system's number of the connection's socket, if it has one.
-    #[cfg(test)]
-    pub(crate) fn descriptor(&self, k: u64) -> Option<RawFd> {
-        self.table.sockets.get(&k)?.descriptor()
     }
 
     /// Counts a fault.

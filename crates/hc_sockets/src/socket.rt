@@ -1,15 +1,13 @@
 //! A connection over a socket.
 ghost use Rattle.std.specs.Prelude.{◌≡◌, ◌<◌, ◌≤◌, false, length, IfOk, IfSome};
 ghost use Rattle.hc_wire.specs.Events.{FitsIn};
-ghost use Rattle.hc_wire.specs.Sockets.{IsOf};
+ghost use Rattle.hc_sockets.specs.Sockets.{IsOf};
 
-use crate::event::WireEvent;
+use hc_wire::WireEvent;
 use mio::event::Event;
 use mio::net::TcpStream;
 use std::alloc::{AllocError, Global};
 use std::io::{ErrorKind, Read, Write};
-#[cfg(test)]
-use std::os::fd::{AsRawFd, RawFd};
 
 /// How many bytes that aren't sent yet are held, at most.
 const HOLD: usize = 65_536;
@@ -65,12 +63,6 @@ impl Socket {
             unsent: false,
             closed: false,
         }
-    }
-
-    /// The system's number of its socket, if it has one.
-    #[cfg(test)]
-    pub(crate) fn descriptor(&self) -> Option<RawFd> {
-        Some(self.stream.as_ref()?.as_raw_fd())
     }
 
     /// What the system tells of it.

@@ -1,11 +1,9 @@
 //! Walks through scripts.
-use super::*;
 use hc_text::Bytes;
+use hc_wire::{ScriptWire, Scripted, Wire, WireError, WireEvent, is_script};
 use std::alloc::Global;
 use std::process::Abort;
 use std::test::Fail;
-
-mod sockets;
 
 /// An event of a script, with its bytes as a text.
 #[derive(Clone, Copy)]

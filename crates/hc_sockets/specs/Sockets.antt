@@ -3,9 +3,9 @@ use Rattle.std.specs.Prelude.{◌≡◌, ℕ, ◌<◌, nat_eq, nat_lt, Option, N
 use Rattle.std.specs.HashMap.{HashMap, get}
 use Rattle.hc_wire.specs.declared.event.WireEvent.{WireEvent}
 use Rattle.hc_wire.specs.declared.event.WireEvent.TheVariants as event
-use Rattle.hc_wire.specs.declared.adapter.Accept.{Accept}
-use Rattle.hc_wire.specs.declared.adapter.Accept.TheVariants as accept
-use Rattle.hc_wire.specs.declared.socket.Socket.{Socket}
+use Rattle.hc_sockets.specs.declared.adapter.Accept.{Accept}
+use Rattle.hc_sockets.specs.declared.adapter.Accept.TheVariants as accept
+use Rattle.hc_sockets.specs.declared.socket.Socket.{Socket}
 use Rattle.hc_wire.specs.Events.{Stage, Unseen, Open, Closed, with_stage}
 
 abbrev pub life_of : Option Socket → Stage

@@ -1,0 +1,17 @@
+//! Tries wires over sockets of this machine: what no contract of them says.
+//!
+//! It exits with 0, or with 1 after it has said on standard error what was otherwise than it is to be.
+#![tactic(auto)]
+
+mod fault;
+mod pattern;
+mod refused;
+mod side;
+mod transfer;
+
+use fault::Fault;
+
+fn main(rt: HostRuntime) -> Result<(), Fault> {
+    transfer::move_bytes(&rt)?;
+    refused::dial_in_vain(&rt)
+}

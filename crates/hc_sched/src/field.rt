@@ -17,7 +17,7 @@ const MOST_VALUE: usize = 8192;
 const MOST_SIZE: usize = 32_768;
 
 /// The name and the value of a line `NAME: VALUE`.
-#[tactic(auto, unfolding(crate::specs::Words::behind, crate::specs::FieldLines::named))]
+#[tactic(auto, unfolding(hc_text::specs::Cuts::behind, crate::specs::FieldLines::named))]
 fn named(line: &[u8]) -> Option<(&[u8], &[u8])>
     ensures value { option_map (λ field. (field.0.now, field.1.now)) result ≡ named line.now }
     ensures len { IfSome result

@@ -2,12 +2,4 @@
 #![tactic(auto)]
 
 #[cfg(test)]
-mod keys;
-#[cfg(test)]
-mod lines;
-#[cfg(test)]
-mod rising;
-#[cfg(test)]
 mod rules;
-#[cfg(test)]
-mod stitching;

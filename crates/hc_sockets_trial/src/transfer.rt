@@ -10,6 +10,9 @@ use std::rt::Clock;
 /// How many turns there are, at most. Each moves some thousand bytes, or waits.
 const TURNS: u32 = 1_000_000;
 
+/// In how many turns in a row nothing comes, at most. Each waits some hundredths of a second.
+const QUIET: u32 = 100;
+
 /// Of this many ports one is free.
 const PORTS: u16 = 1_000;
 
@@ -20,14 +23,19 @@ pub(crate) fn move_bytes<R: Net + Clock + AllocGlobal + Clone + Drop>(rt: &R) ->
     let (mut near, mut far) = connected(rt)?;
     let pattern = Pattern::new(rt.alloc(), OFFER)?;
     let mut into = [0; PIECE];
-    let mut quiet = false;
+    let mut quiet = 0u32;
     for _ in 0..TURNS {
-        let told = near.turn(quiet, &pattern, &mut into)?;
+        let near_moved = near.turn(quiet > 0, &pattern, &mut into)?;
         if near.is_done() {
             near.close();
         }
-        quiet = !far.turn(quiet, &pattern, &mut into)? && !told;
-        if far.ended {
+        let far_moved = far.turn(quiet > 0, &pattern, &mut into)?;
+        quiet = if near_moved || far_moved {
+            0
+        } else {
+            quiet.saturating_add(1)
+        };
+        if far.ended || quiet >= QUIET {
             break;
         }
     }

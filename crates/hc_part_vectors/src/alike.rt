@@ -1,0 +1,57 @@
+//! Many small pieces in a row, each of an exchange of its own: they cross the border of a block.
+use crate::bytes::answer;
+use hc_sparse::{PlainSparse, Presence, Span2, Sparse, SparseAnswer, SparseBytes, SparseOp};
+use hc_text::{Bytes, NoMemory};
+use std::alloc::Global;
+
+/// How many pieces there are.
+const COUNT: u64 = 44;
+
+/// Where the first begins.
+const FIRST: u64 = 3000;
+
+/// How long each is.
+const SIZE: u64 = 100;
+
+/// Whether blocks and runs tell the same behind each put, where every so many pieces on comes the next.
+pub(crate) fn steps_are_alike(alloc: Global, apart: u64) -> Result<bool, NoMemory> {
+    let mut blocks = Sparse::new(alloc);
+    let mut runs = PlainSparse::new(alloc);
+    for k in 0..COUNT {
+        let place = k.wrapping_mul(apart) % COUNT;
+        let are_put = is_put(alloc, &mut blocks, place)? && is_put(alloc, &mut runs, place)?;
+        if !are_put || !are_alike(&blocks, &runs) {
+            return Ok(false);
+        }
+    }
+    Ok(blocks.covers(Span2 {
+        lo: FIRST,
+        hi: FIRST + COUNT * SIZE,
+    }))
+}
+
+/// Whether the put of this piece is done.
+fn is_put<M: SparseBytes>(alloc: Global, map: &mut M, place: u64) -> Result<bool, NoMemory> {
+    let bytes = vec![in alloc; b'a'; SIZE as usize]?;
+    let op = SparseOp::Put {
+        at: FIRST.saturating_add(place.saturating_mul(SIZE)),
+        x: place,
+        bytes: Bytes { bytes },
+    };
+    Ok(matches!(answer(alloc, map, op)?, Some(SparseAnswer::Done)))
+}
+
+/// Whether both tell the same between any two borders of pieces, and up to the position past the second.
+fn are_alike(blocks: &Sparse, runs: &PlainSparse) -> bool {
+    (0..(COUNT + 1) * (COUNT + 1)).all(|pair| {
+        let lo = FIRST + pair / (COUNT + 1) * SIZE;
+        let hi = FIRST + pair % (COUNT + 1) * SIZE;
+        tell_the_same(blocks, runs, lo, hi) && tell_the_same(blocks, runs, lo, hi + 1)
+    })
+}
+
+/// Whether both tell the same of the positions from one to below another.
+fn tell_the_same(blocks: &Sparse, runs: &PlainSparse, lo: u64, hi: u64) -> bool {
+    let span = Span2 { lo, hi };
+    blocks.covers(span) == runs.covers(span) && blocks.next_present(lo) == runs.next_present(lo)
+}

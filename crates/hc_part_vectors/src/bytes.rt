@@ -1,0 +1,208 @@
+//! Calls of sparse bytes. Each is made on blocks and on a list of runs, however many orders of puts are
+//! kept, and what differs is told.
+ghost use Rattle.std.specs.Prelude.{IsTrue, ◌↔◌};
+ghost use Rattle.hc_sparse.specs.Ops.{IsAllowed};
+
+use crate::alike::steps_are_alike;
+use crate::order::{CODES, order_of};
+use crate::stitching;
+use crate::values::show_run;
+use hc_sparse::{PlainSparse, Span2, Sparse, SparseAnswer, SparseBytes, SparseOp, run_ops};
+use hc_text::{Bytes, NoMemory};
+use hc_vector::{Fault, Vector, show};
+use std::alloc::Global;
+
+/// Past the last position that there may be.
+const END: u64 = 1 << 62;
+
+/// The arguments of five puts.
+const FIVE_PUTS: &str = "nntnntnntnntnnt";
+
+/// The same bytes as blocks and as a list of runs.
+#[derive(Drop)]
+struct Both {
+    blocks: Sparse,
+    runs: PlainSparse,
+}
+
+impl Both {
+    fn new(alloc: Global) -> Both {
+        Both {
+            blocks: Sparse::new(alloc),
+            runs: PlainSparse::new(alloc),
+        }
+    }
+
+    /// Makes the call on both, and writes what differs.
+    fn tell(&mut self, v: &Vector, to: &mut String) -> Result<bool, Fault> {
+        let mut other = String::new(v.alloc());
+        let is_told = tell_of(&mut self.blocks, v, to)? && tell_of(&mut self.runs, v, &mut other)?;
+        if to.as_str() != other.as_str() {
+            write!(to, ", in runs {other}")?;
+        }
+        Ok(is_told)
+    }
+
+    /// Puts five pieces in this order. Whether all puts are done.
+    fn put_in_order(&mut self, v: &Vector, order: [usize; 5]) -> Result<bool, NoMemory> {
+        for place in order {
+            if !put_at(&mut self.blocks, v, place)? || !put_at(&mut self.runs, v, place)? {
+                return Ok(false);
+            }
+        }
+        Ok(true)
+    }
+}
+
+/// Bytes that were put in different orders: to be the same.
+#[derive(Drop)]
+pub(crate) struct ManyBytes {
+    orders: Vec<Both>,
+}
+
+impl ManyBytes {
+    /// There are none.
+    pub(crate) fn new(alloc: Global) -> ManyBytes {
+        ManyBytes {
+            orders: Vec::new(alloc),
+        }
+    }
+
+    /// Makes the call on all, and writes what came of the first, and what differs from it.
+    pub(crate) fn tell(&mut self, v: &Vector, to: &mut String) -> Result<bool, Fault> {
+        match v.call() {
+            ("bytes_new", "") => {
+                self.orders.clear();
+                self.orders.push(Both::new(v.alloc()))?;
+                show(&self.orders.len(), to)?;
+                return Ok(true);
+            }
+            ("bytes_in_every_order", FIVE_PUTS) => {
+                self.put_in_every_order(v)?;
+                show(&self.orders.len(), to)?;
+                return Ok(true);
+            }
+            ("bytes_in_steps", "n") => {
+                show(&steps_are_alike(v.alloc(), v.number(0))?, to)?;
+                return Ok(true);
+            }
+            _ => self.tell_of_all(v, to),
+        }
+    }
+
+    fn tell_of_all(&mut self, v: &Vector, to: &mut String) -> Result<bool, Fault> {
+        let mut is_first = true;
+        for both in self.orders.iter_mut() {
+            let mut value = String::new(v.alloc());
+            if !both.tell(v, &mut value)? {
+                return Ok(false);
+            }
+            if is_first {
+                to.push_str(value.as_str())?;
+            } else if to.as_str() != value.as_str() {
+                write!(to, ", in another order {value}")?;
+            }
+            is_first = false;
+        }
+        Ok(!is_first)
+    }
+
+    /// Keeps what comes of five puts in each order in which all are done.
+    fn put_in_every_order(&mut self, v: &Vector) -> Result<(), NoMemory> {
+        self.orders.clear();
+        for code in 0..CODES {
+            if let Some(order) = order_of(code) {
+                let mut both = Both::new(v.alloc());
+                if both.put_in_order(v, order)? {
+                    self.orders.push(both)?;
+                }
+            }
+        }
+        Ok(())
+    }
+}
+
+fn tell_of<M: SparseBytes>(map: &mut M, v: &Vector, to: &mut String) -> Result<bool, Fault> {
+    let a = v.number(0);
+    let b = v.number(1);
+    match v.call() {
+        ("bytes_put", "nnt") => return tell_op(map, v.alloc(), put_of(v, 0)?, to),
+        ("bytes_run", "nn") => {
+            let want = b as usize;
+            return tell_op(map, v.alloc(), SparseOp::RunAt { p: a, want }, to);
+        }
+        ("bytes_next", "n") => return tell_op(map, v.alloc(), SparseOp::Next { p: a }, to),
+        ("bytes_next_present", "n") => show(&map.next_present(a), to)?,
+        ("bytes_covers", "nn") => show(&map.covers(Span2 { lo: a, hi: b }), to)?,
+        ("bytes_size", "") => show(&map.size(), to)?,
+        ("bytes_copy", "nn") if b > 0 => {
+            let copy = match map.run_at(a, b as usize)? {
+                Some(run) => Some(run.copy()?),
+                None => None,
+            };
+            show_run(&copy, to)?;
+        }
+        _ => return stitching::tell(map, v, to),
+    }
+    Ok(true)
+}
+
+/// The put whose arguments begin at this place.
+fn put_of(v: &Vector, at: usize) -> Result<SparseOp, NoMemory> {
+    let bytes = v.text(at.saturating_add(2)).to_vec(v.alloc())?;
+    Ok(SparseOp::Put {
+        at: v.number(at),
+        x: v.number(at.saturating_add(1)),
+        bytes: Bytes { bytes },
+    })
+}
+
+/// Makes one of five puts. Whether it is done.
+fn put_at<M: SparseBytes>(map: &mut M, v: &Vector, place: usize) -> Result<bool, NoMemory> {
+    let op = put_of(v, place.saturating_mul(3))?;
+    Ok(matches!(answer(v.alloc(), map, op)?, Some(SparseAnswer::Done)))
+}
+
+/// Does the operation, and writes its answer. False where it isn't allowed.
+fn tell_op<M: SparseBytes>(
+    map: &mut M,
+    alloc: Global,
+    op: SparseOp,
+    to: &mut String,
+) -> Result<bool, Fault> {
+    match answer(alloc, map, op)? {
+        Some(SparseAnswer::Run(run)) => show_run(&run, to)?,
+        Some(SparseAnswer::Next(next)) => show(&next, to)?,
+        Some(SparseAnswer::Done) => to.push_str("Done")?,
+        Some(SparseAnswer::Taken) => to.push_str("Taken")?,
+        None => return Ok(false),
+    }
+    Ok(true)
+}
+
+/// The only answer to an operation, or none where it isn't allowed.
+pub(crate) fn answer<M: SparseBytes>(
+    alloc: Global,
+    map: &mut M,
+    op: SparseOp,
+) -> Result<Option<SparseAnswer>, NoMemory> {
+    let ops = [op];
+    if !ops.iter().all(|op| is_allowed(op)) {
+        return Ok(None);
+    }
+    let mut answers = run_ops(alloc, map, &ops)?;
+    Ok(answers.items.pop())
+}
+
+fn is_allowed(op: &SparseOp) -> bool
+    ensures { IsTrue result ↔ IsAllowed op.now }
+{
+    match op {
+        SparseOp::Put { at, bytes, .. } => {
+            let len = bytes.bytes.as_slice().len() as u64;
+            *at <= END && len <= END - *at
+        }
+        SparseOp::RunAt { want, .. } => *want > 0,
+        SparseOp::Next { .. } => true,
+    }
+}

@@ -1,0 +1,69 @@
+//! What stores are given.
+ghost use Rattle.std.specs.Prelude.{◌≤◌, IfOk};
+
+use hc_fields::Fields;
+use hc_record::{Kind, StoredHead, joining_tag};
+use hc_store::{Limits, Op};
+use hc_text::{Key, NoMemory};
+use hc_vector::{Fault, Vector};
+use std::alloc::Global;
+
+/// The head of a body of six bytes.
+pub(crate) fn head(alloc: Global) -> Result<StoredHead, Fault>
+    ensures { IfOk result (λ head. head.requested ≤ head.answered) }
+{
+    let vary_fields = Fields::new(alloc)?;
+    let mut fields = Fields::new(alloc)?;
+    fields.append(b"etag", b"\"a\"")?;
+    fields.append(b"accept-ranges", b"none")?;
+    if vary_fields.len() > 0 || !fields.modest() {
+        return Err(Fault::NoSuchCall);
+    }
+    let joining = joining_tag(alloc, &fields)?;
+    Ok(StoredHead {
+        kind: Kind::Growing,
+        total: Some(6),
+        status: 200,
+        requested: 1000,
+        answered: 1000,
+        joining,
+        vary_fields,
+        fields,
+    })
+}
+
+pub(crate) fn key(alloc: Global) -> Result<Key, NoMemory> {
+    let bytes = b"http://a.test/x".to_vec(alloc)?;
+    Ok(Key { bytes })
+}
+
+/// The limits that the first two arguments are.
+pub(crate) fn limits_of(v: &Vector) -> Limits {
+    Limits {
+        max_entry: v.number(0),
+        max_total: v.number(1),
+    }
+}
+
+/// The calls that the words behind the limits name: the first of each is to fail.
+pub(crate) fn fails_of(v: &Vector) -> Result<Vec<(Op, u64)>, NoMemory> {
+    let mut fails = Vec::new(v.alloc());
+    for at in 2..v.call().1.len() {
+        if let Some(op) = op_of(v.word(at)) {
+            fails.push((op, 1))?;
+        }
+    }
+    Ok(fails)
+}
+
+fn op_of(word: &str) -> Option<Op> {
+    match word {
+        "create" => Some(Op::Create),
+        "write_record" => Some(Op::WriteRecord),
+        "read_record" => Some(Op::ReadRecord),
+        "put" => Some(Op::Put),
+        "run_at" => Some(Op::RunAt),
+        "seal" => Some(Op::Seal),
+        _ => None,
+    }
+}

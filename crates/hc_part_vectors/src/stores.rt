@@ -1,0 +1,168 @@
+//! Calls of a store, on a slot of it.
+ghost use Rattle.std.specs.Prelude.{◌≡◌, true};
+ghost use Rattle.hc_store.specs.Slots.{is_live};
+
+use crate::samples::{fails_of, head, key, limits_of};
+use crate::values::{show_run, show_some};
+use hc_record::{Kind, StoredHead};
+use hc_sparse::{Presence, Run, Span2};
+use hc_store::{Backend, Failing, Memory, Slot, SlotView, StoreError};
+use hc_vector::{Fault, Vector, show};
+
+/// Past the last position that there may be.
+const END: u64 = 1 << 62;
+
+/// A store and a slot of it.
+#[derive(Drop)]
+struct Kept<B: Backend> {
+    store: B,
+    slot: Slot,
+    ghost live: { is_live (B.slots store) slot.n ≡ true },
+}
+
+impl<B: Backend> Kept<B> {
+    /// A slot is made.
+    fn begun(mut store: B, v: &Vector) -> Result<Result<Kept<B>, StoreError>, Fault>
+    where
+        B: Drop,
+    {
+        let key = key(v.alloc())?;
+        let head = head(v.alloc())?;
+        Ok(match store.create(&key, &head) {
+            Ok(slot) => Ok(Kept { store, slot }),
+            Err(error) => Err(error),
+        })
+    }
+
+    /// One more slot is made.
+    fn create(&mut self, v: &Vector) -> Result<Option<StoreError>, Fault> {
+        let key = key(v.alloc())?;
+        let head = head(v.alloc())?;
+        Ok(self.store.create(&key, &head).err())
+    }
+
+    /// Puts bytes at positions that are absent, or says that they aren't.
+    fn put(&mut self, at: u64, bytes: &[u8]) -> Option<Result<(), StoreError>> {
+        let len = bytes.len() as u64;
+        if len > END || at > END - len {
+            return None;
+        }
+        match self.store.next_present(self.slot, at) {
+            Some(n) if n < at + len => None,
+            _ => Some(self.store.put(self.slot, at, 1, bytes, None)),
+        }
+    }
+
+    fn run_at(&mut self, p: u64) -> Result<Option<Run>, StoreError> {
+        self.store.run_at(self.slot, p, 9)
+    }
+
+    fn seal(&mut self) -> Result<(), StoreError> {
+        self.store.seal(self.slot, Kind::Truncated, Some(7))
+    }
+
+    fn write_record(&mut self, head: &StoredHead) -> Result<(), StoreError> {
+        self.store.write_record(self.slot, head)
+    }
+
+    fn read_record(&mut self) -> Result<StoredHead, StoreError> {
+        self.store.read_record(self.slot)
+    }
+
+    fn view(&self) -> SlotView<'_, B> {
+        SlotView {
+            store: &self.store,
+            slot: self.slot,
+        }
+    }
+
+    /// Makes a call that changes nothing, if this is one.
+    fn ask(&self, v: &Vector, to: &mut String) -> Result<bool, Fault> {
+        let a = v.number(0);
+        let span = Span2 {
+            lo: a,
+            hi: v.number(1),
+        };
+        match v.call() {
+            ("store_covers", "nn") => show(&self.view().covers(span), to)?,
+            ("store_next", "n") => show(&self.view().next_present(a), to)?,
+            ("store_kind", "") => show(&self.store.kind(self.slot), to)?,
+            ("store_used", "") => show(&self.store.used(), to)?,
+            ("store_used_by", "") => show(&self.store.used_by(self.slot), to)?,
+            _ => return Ok(false),
+        }
+        Ok(true)
+    }
+
+    /// Makes another call, if this is one.
+    fn change(&mut self, v: &Vector, to: &mut String) -> Result<bool, Fault> {
+        match v.call() {
+            ("store_create", "") => show(&self.create(v)?, to)?,
+            ("store_put", "nt") => return Ok(show_some(self.put(v.number(0), v.text(1)), to)?),
+            ("store_run", "n") => match self.run_at(v.number(0)) {
+                Ok(run) => show_run(&run, to)?,
+                Err(error) => write!(to, "Err({error:?})")?,
+            },
+            ("store_seal", "") => show(&self.seal(), to)?,
+            ("store_write_record", "") => show(&self.write_record(&head(v.alloc())?), to)?,
+            ("store_read_record", "") => {
+                let told = self
+                    .read_record()
+                    .map(|head| (head.total, head.status, head.requested));
+                show(&told, to)?;
+            }
+            _ => return Ok(false),
+        }
+        Ok(true)
+    }
+
+    /// What the store holds once the slot is dropped.
+    fn dropped(self) -> u64
+    where
+        B: Drop,
+    {
+        let mut store = self.store;
+        store.drop_slot(self.slot);
+        store.used()
+    }
+}
+
+/// A store in memory that fails where it is told to, with a slot, if that was made.
+#[derive(Drop)]
+pub(crate) struct Cupboard {
+    kept: Option<Kept<Failing<Memory>>>,
+}
+
+impl Cupboard {
+    /// There is none.
+    pub(crate) fn new() -> Cupboard {
+        Cupboard { kept: None }
+    }
+
+    /// Makes the call, and writes what it answers.
+    pub(crate) fn tell(&mut self, v: &Vector, to: &mut String) -> Result<bool, Fault> {
+        match v.call() {
+            ("store_new", shape) if shape.starts_with("nn") => {
+                self.begin(v, to)?;
+                return Ok(true);
+            }
+            ("store_drop", "") => {
+                let used = self.kept.take().map(|kept| kept.dropped());
+                return Ok(show_some(used, to)?);
+            }
+            _ => {}
+        }
+        let Some(kept) = &mut self.kept else {
+            return Ok(false);
+        };
+        Ok(kept.ask(v, to)? || kept.change(v, to)?)
+    }
+
+    fn begin(&mut self, v: &Vector, to: &mut String) -> Result<(), Fault> {
+        let memory = Memory::new(v.alloc(), limits_of(v));
+        let begun = Kept::begun(Failing::new(memory, fails_of(v)?), v)?;
+        show(&begun.as_ref().err(), to)?;
+        self.kept = begun.ok();
+        Ok(())
+    }
+}

@@ -1,11 +1,11 @@
 //! Calls of what is kept of representations, over a store.
 use crate::samples::{fails_of, head, key, limits_of};
 use crate::values::{show_run, show_some};
-use hc_stored::Entries;
 use hc_record::Kind;
 use hc_rules::Write;
 use hc_sparse::{Presence, Span2};
 use hc_store::{Backend, Failing, Memory, StoreError};
+use hc_stored::Entries;
 use hc_text::NoMemory;
 use hc_vector::{Fault, Vector, quote, show};
 

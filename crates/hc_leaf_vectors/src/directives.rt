@@ -6,14 +6,23 @@ use hc_vector::{Vector, fields_of, show};
 
 /// Writes the value of the call, if it is one of these.
 pub(crate) fn call(v: &Vector, to: &mut String) -> Result<bool, FieldError> {
-    let text = v.text(0);
     match v.call() {
-        ("read_delta_seconds", "t") => show(&read_delta_seconds(text), to)?,
-        ("read_response", "t") => tell(&read_response(&fields_of(v.alloc(), text)?), to)?,
-        ("read_request", "t") => tell(&read_request(&fields_of(v.alloc(), text)?), to)?,
+        ("read_delta_seconds", "t") => show(&read_delta_seconds(v.text(0)), to)?,
+        ("read_response", "t") => tell_response(v, to)?,
+        ("read_request", "t") => tell_request(v, to)?,
         _ => return Ok(false),
     }
     Ok(true)
+}
+
+fn tell_response(v: &Vector, to: &mut String) -> Result<(), FieldError> {
+    let fields = fields_of(v.alloc(), v.text(0))?;
+    Ok(tell(&read_response(&fields), to)?)
+}
+
+fn tell_request(v: &Vector, to: &mut String) -> Result<(), FieldError> {
+    let fields = fields_of(v.alloc(), v.text(0))?;
+    Ok(tell(&read_request(&fields), to)?)
 }
 
 /// The directives that are there, in brackets.

@@ -1,8 +1,12 @@
 //! Stored heads as arguments and as values.
+use crate::lists::lines_of;
 use hc_fields::Fields;
 use hc_record::{Kind, StoredHead, joining_tag, write_record};
 use hc_text::NoMemory;
 use hc_vector::{Fault, Vector, fields_of, quote};
+
+/// Moments and totals are below this.
+const LIMIT: u64 = 1 << 62;
 
 /// The kind of this name.
 pub(crate) fn kind_of(name: &str) -> Option<Kind> {
@@ -18,23 +22,24 @@ pub(crate) fn kind_of(name: &str) -> Option<Kind> {
 /// The head that the arguments tell: kind, total, status, both moments, the fields of the request and those
 /// of the head. None where no head may be so.
 pub(crate) fn head_of(v: &Vector) -> Result<Option<StoredHead>, Fault> {
-    let vary_fields = fields_of(v.alloc(), v.text(5))?;
-    let fields = fields_of(v.alloc(), v.text(6))?;
-    let joining = joining_tag(v.alloc(), &fields)?;
     let Some(kind) = kind_of(v.word(0)) else {
         return Ok(None);
     };
-    let (total, requested, answered) = (v.option(1), v.number(3), v.number(4));
     let status = match v.number(2) {
         200 => 200,
         206 => 206,
         _ => return Ok(None),
     };
-    let are_small = requested < 1 << 62 && answered < 1 << 62;
-    if total.is_some_and(|n| n >= 1 << 62) || !are_small || !fields.modest() {
+    let (total, requested, answered) = (v.option(1), v.number(3), v.number(4));
+    if total.is_some_and(|n| n >= LIMIT) || requested >= LIMIT || answered >= LIMIT {
         return Ok(None);
     }
-    let _ = vary_fields.len();
+    let vary_fields = fields_of(v.alloc(), v.text(5))?;
+    let fields = fields_of(v.alloc(), v.text(6))?;
+    let joining = joining_tag(v.alloc(), &fields)?;
+    if vary_fields.len() > 80 || !fields.modest() {
+        return Ok(None);
+    }
     Ok(Some(StoredHead {
         kind,
         total,
@@ -67,8 +72,6 @@ pub(crate) fn tell_head(head: &StoredHead, to: &mut String) -> Result<(), NoMemo
 }
 
 fn tell_lines(fields: &Fields, to: &mut String) -> Result<(), NoMemory> {
-    let mut lines = Vec::new(fields.allocator());
-    fields.write_lines(&mut lines)?;
     to.push(' ')?;
-    quote(&lines, to)
+    quote(&lines_of(fields)?, to)
 }

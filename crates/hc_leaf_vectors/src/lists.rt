@@ -1,21 +1,23 @@
 //! What is told of lists of fields.
-use hc_fields::{FieldList, Fields};
+use hc_fields::Fields;
 use hc_text::NoMemory;
 use hc_vector::{Vector, quote};
-use std::alloc::Global;
 
 /// The lines of the list, by `at`. Where the list as plain data, what it writes or its copy tell others,
 /// these follow.
 pub(crate) fn tell_list(fields: &Fields, to: &mut String) -> Result<(), NoMemory> {
     let lines = lines_by_place(fields)?;
     quote(&lines, to)?;
-    let listed = lines_listed(fields.allocator(), &fields.listed()?.copy()?)?;
-    tell_other(" listed ", &listed, &lines, to)?;
-    let copied = lines_by_place(&fields.copy()?)?;
-    tell_other(" copied ", &copied, &lines, to)?;
-    let mut written = Vec::new(fields.allocator());
-    fields.write_lines(&mut written)?;
-    tell_other(" written ", &written, &lines, to)
+    tell_other(" listed ", &lines_listed(fields)?, &lines, to)?;
+    tell_other(" copied ", &lines_copied(fields)?, &lines, to)?;
+    tell_other(" written ", &lines_of(fields)?, &lines, to)
+}
+
+/// The lines that the list writes.
+pub(crate) fn lines_of(fields: &Fields) -> Result<Vec<u8>, NoMemory> {
+    let mut lines = Vec::new(fields.allocator());
+    fields.write_lines(&mut lines)?;
+    Ok(lines)
 }
 
 fn tell_other(name: &str, found: &[u8], lines: &[u8], to: &mut String) -> Result<(), NoMemory> {
@@ -35,8 +37,13 @@ fn lines_by_place(fields: &Fields) -> Result<Vec<u8>, NoMemory> {
     Ok(lines)
 }
 
-fn lines_listed(alloc: Global, list: &FieldList) -> Result<Vec<u8>, NoMemory> {
-    let mut lines = Vec::new(alloc);
+fn lines_copied(fields: &Fields) -> Result<Vec<u8>, NoMemory> {
+    lines_by_place(&fields.copy()?)
+}
+
+fn lines_listed(fields: &Fields) -> Result<Vec<u8>, NoMemory> {
+    let list = fields.listed()?.copy()?;
+    let mut lines = Vec::new(fields.allocator());
     for (name, value) in list.items.as_slice() {
         push_line(&name.bytes, &value.bytes, &mut lines)?;
     }
@@ -63,9 +70,7 @@ pub(crate) fn tell_read(
         to.push_str("None")?;
         return Ok(());
     };
-    let mut lines = Vec::new(v.alloc());
-    fields.write_lines(&mut lines)?;
-    let is_same = text.get(..len) == Some(lines.as_slice());
+    let is_same = text.get(..len) == Some(lines_of(&fields)?.as_slice());
     let how = if is_same {
         "written again"
     } else {
@@ -75,13 +80,13 @@ pub(crate) fn tell_read(
     Ok(())
 }
 
-/// The text so many times.
-pub(crate) fn repeated(alloc: Global, text: &[u8], times: u64) -> Result<Vec<u8>, NoMemory> {
-    let mut all = Vec::new(alloc);
-    for _ in 0..times {
-        all.extend_from_slice(text)?;
+/// The same of a text that stands so many times.
+pub(crate) fn tell_read_of_many(v: &Vector, to: &mut String) -> Result<(), NoMemory> {
+    let mut text = Vec::new(v.alloc());
+    for _ in 0..v.number(1) {
+        text.extend_from_slice(v.text(0))?;
     }
-    Ok(all)
+    tell_read(v, &text, v.number(2), to)
 }
 
 /// Appends a field so often: how often it was done, and before how many of these times, and up to which of

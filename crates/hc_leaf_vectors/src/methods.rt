@@ -9,8 +9,8 @@ pub(crate) fn call(v: &Vector, to: &mut String) -> Result<bool, NoMemory> {
         ("is_safe", "t") => {
             let bytes = v.text(0).to_vec(v.alloc())?;
             show(&is_safe(&MethodName { bytes }), to)?;
+            Ok(true)
         }
-        _ => return Ok(false),
+        _ => Ok(false),
     }
-    Ok(true)
 }

@@ -1,5 +1,6 @@
 //! Records that differ in one byte.
 use crate::heads::record_of;
+use crate::lists::lines_of;
 use hc_record::{StoredHead, read_record};
 use hc_text::NoMemory;
 use std::alloc::Global;
@@ -18,7 +19,7 @@ impl Tally {
             return Ok(());
         };
         self.records = self.records.wrapping_add(1);
-        if !is_written_as_read(alloc, text, &head)? {
+        if !is_written_as_read(text, &head)? {
             self.others = self.others.wrapping_add(1);
         }
         Ok(())
@@ -39,20 +40,19 @@ impl Tally {
     }
 }
 
-/// Whether the record of the head is the text. Where the text is of the first version, whether both have
-/// the same second line, and the same lines of fields at their end.
-fn is_written_as_read(alloc: Global, text: &[u8], head: &StoredHead) -> Result<bool, NoMemory> {
+/// Whether the record of the head is the text. One of the first version isn't, but is like it.
+fn is_written_as_read(text: &[u8], head: &StoredHead) -> Result<bool, NoMemory> {
     let record = record_of(head)?;
     if text.starts_with(b"record 2") {
         return Ok(record.as_slice() == text);
     }
-    let mut lines = Vec::new(alloc);
-    head.fields.write_lines(&mut lines)?;
-    Ok(
-        record.get(9..32) == text.get(9..32)
-            && text.ends_with(lines.as_slice())
-            && record.ends_with(lines.as_slice()),
-    )
+    let lines = lines_of(&head.fields)?;
+    Ok(are_alike(&record, text, &lines))
+}
+
+/// Whether both texts have the same second line, and these lines at their end.
+fn are_alike(a: &[u8], b: &[u8], lines: &[u8]) -> bool {
+    a.get(9..32) == b.get(9..32) && a.ends_with(lines) && b.ends_with(lines)
 }
 
 /// What the texts are that differ from this one in one byte.

@@ -1,0 +1,111 @@
+//! What is told of lists of fields.
+use hc_fields::Fields;
+use hc_text::NoMemory;
+use hc_vector::{Vector, quote};
+
+/// The lines of the list, by `at`. Where the list as plain data, what it writes or its copy tell others,
+/// these follow.
+pub(crate) fn tell_list(fields: &Fields, to: &mut String) -> Result<(), NoMemory> {
+    let lines = lines_by_place(fields)?;
+    quote(&lines, to)?;
+    tell_other(" listed ", &lines_listed(fields)?, &lines, to)?;
+    tell_other(" copied ", &lines_copied(fields)?, &lines, to)?;
+    tell_other(" written ", &lines_of(fields)?, &lines, to)
+}
+
+/// The lines that the list writes.
+pub(crate) fn lines_of(fields: &Fields) -> Result<Vec<u8>, NoMemory> {
+    let mut lines = Vec::new(fields.allocator());
+    fields.write_lines(&mut lines)?;
+    Ok(lines)
+}
+
+fn tell_other(name: &str, found: &[u8], lines: &[u8], to: &mut String) -> Result<(), NoMemory> {
+    if found != lines {
+        to.push_str(name)?;
+        quote(found, to)?;
+    }
+    Ok(())
+}
+
+fn lines_by_place(fields: &Fields) -> Result<Vec<u8>, NoMemory> {
+    let mut lines = Vec::new(fields.allocator());
+    for i in 0..fields.len() {
+        let (name, value) = fields.at(i);
+        push_line(name, value, &mut lines)?;
+    }
+    Ok(lines)
+}
+
+fn lines_copied(fields: &Fields) -> Result<Vec<u8>, NoMemory> {
+    lines_by_place(&fields.copy()?)
+}
+
+fn lines_listed(fields: &Fields) -> Result<Vec<u8>, NoMemory> {
+    let list = fields.listed()?.copy()?;
+    let mut lines = Vec::new(fields.allocator());
+    for (name, value) in list.items.as_slice() {
+        push_line(&name.bytes, &value.bytes, &mut lines)?;
+    }
+    Ok(lines)
+}
+
+fn push_line(name: &[u8], value: &[u8], to: &mut Vec<u8>) -> Result<(), NoMemory> {
+    to.extend_from_slice(name)?;
+    to.extend_from_slice(b": ")?;
+    to.extend_from_slice(value)?;
+    to.push(b'\n')?;
+    Ok(())
+}
+
+/// What is read of the field lines that a text begins with: how many fields, of how many bytes, and
+/// whether just these bytes are written of them again.
+pub(crate) fn tell_read(
+    v: &Vector,
+    text: &[u8],
+    count: u64,
+    to: &mut String,
+) -> Result<(), NoMemory> {
+    let Some((fields, len)) = Fields::read_lines(v.alloc(), text, count)? else {
+        to.push_str("None")?;
+        return Ok(());
+    };
+    let is_same = text.get(..len) == Some(lines_of(&fields)?.as_slice());
+    let how = if is_same {
+        "written again"
+    } else {
+        "written otherwise"
+    };
+    write!(to, "{} fields, {len} bytes, {how}", fields.len())?;
+    Ok(())
+}
+
+/// The same of a text that stands so many times.
+pub(crate) fn tell_read_of_many(v: &Vector, to: &mut String) -> Result<(), NoMemory> {
+    let mut text = Vec::new(v.alloc());
+    for _ in 0..v.number(1) {
+        text.extend_from_slice(v.text(0))?;
+    }
+    tell_read(v, &text, v.number(2), to)
+}
+
+/// Appends a field so often: how often it was done, and before how many of these times, and up to which of
+/// them, the list was modest.
+pub(crate) fn append_often(
+    fields: &mut Fields,
+    v: &Vector,
+    to: &mut String,
+) -> Result<(), NoMemory> {
+    let (mut done, mut modest, mut last) = (0_u64, 0_u64, 0_u64);
+    for i in 0..v.number(2) {
+        if fields.modest() {
+            modest = modest.wrapping_add(1);
+            last = i;
+        }
+        if fields.append(v.text(0), v.text(1)).is_ok() {
+            done = done.wrapping_add(1);
+        }
+    }
+    write!(to, "{done} done, modest before {modest}, up to {last}")?;
+    Ok(())
+}

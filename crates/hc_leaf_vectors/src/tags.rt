@@ -1,0 +1,121 @@
+//! Calls of `hc_etag`.
+use hc_etag::{
+    Tag, TagList, read_tag, read_tag_list, strong_equal, strong_in, tag_in, weak_equal, write_tag,
+};
+use hc_text::NoMemory;
+use hc_vector::{Vector, quote, show};
+
+/// Writes the value of the call, if it is one of these.
+pub(crate) fn call(v: &Vector, to: &mut String) -> Result<bool, NoMemory> {
+    match v.call() {
+        ("read_tag", "t") => tell_tag(v, to),
+        ("tag_in", "t") => tell_tag_in(v.text(0), to),
+        ("strong_in", "t") => tell_strong_in(v.text(0), to),
+        ("write_tag", "t") => return tell_written(v, to),
+        ("equal_tags", "tt") => return compare(v, to),
+        ("read_tag_list", "t") => tell_list(v, to),
+        ("tags_are", "tt") => tell_same(v, to),
+        _ => return Ok(false),
+    }?;
+    Ok(true)
+}
+
+fn tell_tag(v: &Vector, to: &mut String) -> Result<(), NoMemory> {
+    match read_tag(v.alloc(), v.text(0))? {
+        Some(tag) => tell_opaque(tag.weak, &tag.opaque.bytes, to),
+        None => tell_none(to),
+    }
+}
+
+fn tell_tag_in(text: &[u8], to: &mut String) -> Result<(), NoMemory> {
+    match tag_in(text) {
+        Some(tag) => tell_opaque(tag.weak, tag.opaque, to),
+        None => tell_none(to),
+    }
+}
+
+fn tell_strong_in(text: &[u8], to: &mut String) -> Result<(), NoMemory> {
+    match strong_in(text) {
+        Some(opaque) => quote(opaque, to),
+        None => tell_none(to),
+    }
+}
+
+fn tell_none(to: &mut String) -> Result<(), NoMemory> {
+    to.push_str("None")?;
+    Ok(())
+}
+
+/// What stands between the quotes of a tag, and whether it is weak.
+fn tell_opaque(weak: bool, opaque: &[u8], to: &mut String) -> Result<(), NoMemory> {
+    to.push_str(if weak { "weak " } else { "strong " })?;
+    quote(opaque, to)
+}
+
+/// What is written of the copy of a tag, where the text is one.
+fn tell_written(v: &Vector, to: &mut String) -> Result<bool, NoMemory> {
+    let Some(tag) = read_tag(v.alloc(), v.text(0))? else {
+        return Ok(false);
+    };
+    tell_text(v, &tag.copy()?, to)?;
+    Ok(true)
+}
+
+fn tell_text(v: &Vector, tag: &Tag, to: &mut String) -> Result<(), NoMemory> {
+    let mut text = Vec::new(v.alloc());
+    write_tag(tag, &mut text)?;
+    quote(&text, to)
+}
+
+/// How two tags are equal, where both texts are tags.
+fn compare(v: &Vector, to: &mut String) -> Result<bool, NoMemory> {
+    let Some(a) = read_tag(v.alloc(), v.text(0))? else {
+        return Ok(false);
+    };
+    let Some(b) = read_tag(v.alloc(), v.text(1))? else {
+        return Ok(false);
+    };
+    tell_equal(&a, &b, to)?;
+    Ok(true)
+}
+
+fn tell_equal(a: &Tag, b: &Tag, to: &mut String) -> Result<(), NoMemory> {
+    to.push_str("strong ")?;
+    show(&strong_equal(a, b), to)?;
+    to.push_str(", weak ")?;
+    show(&weak_equal(a, b), to)
+}
+
+fn tell_list(v: &Vector, to: &mut String) -> Result<(), NoMemory> {
+    match read_tag_list(v.alloc(), v.text(0))? {
+        Some(list) => tell_tags(v, &list.copy()?, to),
+        None => tell_none(to),
+    }
+}
+
+/// The texts that are written of the tags of a list.
+fn tell_tags(v: &Vector, list: &TagList, to: &mut String) -> Result<(), NoMemory> {
+    let TagList::Tags(tags) = list else {
+        to.push_str("Any")?;
+        return Ok(());
+    };
+    to.push_str("Tags")?;
+    for tag in tags.items.as_slice() {
+        to.push(' ')?;
+        tell_text(v, tag, to)?;
+    }
+    Ok(())
+}
+
+/// Whether the second text is that of the tags of a list, each with a blank behind it.
+fn tell_same(v: &Vector, to: &mut String) -> Result<(), NoMemory> {
+    let Some(TagList::Tags(tags)) = read_tag_list(v.alloc(), v.text(0))? else {
+        return show(&false, to);
+    };
+    let mut found = Vec::new(v.alloc());
+    for tag in tags.items.as_slice() {
+        write_tag(tag, &mut found)?;
+        found.push(b' ')?;
+    }
+    show(&(found.as_slice() == v.text(1)), to)
+}

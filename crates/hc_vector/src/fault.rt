@@ -5,10 +5,10 @@ use std::alloc::{AllocError, AllocFailed};
 use std::io;
 
 /// Why a line has no value.
-#[derive(Debug, Drop)]
+#[derive(Clone, Copy, Debug, PartialEq, Eq)]
 pub enum Fault {
     /// A stream failed.
-    Io(io::Error),
+    Io(io::ErrorKind),
     NoMemory,
     /// A quote is open at the end of the line, or `%` begins no byte.
     BadQuoting,
@@ -22,7 +22,7 @@ pub enum Fault {
 
 impl From<io::Error> for Fault {
     fn from(e: io::Error) -> Self {
-        Fault::Io(e)
+        Fault::Io(e.kind())
     }
 }
 

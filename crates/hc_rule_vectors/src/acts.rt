@@ -1,0 +1,157 @@
+//! Acts and reports: each line that is an act is kept, and its value is its text in a report.
+use crate::given::{fields_at, request_at};
+use crate::told::{tell, tell_bytes};
+use crate::words::{cause_at, kind_at, need_at, refusal_of, wait_at, why_at};
+use hc_event::{Act, Acts};
+use hc_sched::write_acts;
+use hc_text::{Bytes, NoMemory};
+use hc_vector::{Fault, Vector};
+use std::alloc::Global;
+
+/// The acts that were told since the last report.
+#[derive(Drop)]
+pub(crate) struct Report {
+    acts: Acts,
+}
+
+impl Report {
+    /// Of no act.
+    pub(crate) fn new(alloc: Global) -> Report {
+        Report {
+            acts: Acts::new(alloc),
+        }
+    }
+
+    /// Writes the value of the call, if it is one of these.
+    pub(crate) fn call(&mut self, v: &Vector, to: &mut String) -> Result<bool, Fault> {
+        match v.call() {
+            ("report", "n") => self.tell(v, to)?,
+            ("keeps_room", "n") => tell_room(v, to)?,
+            _ => match act_of(v)? {
+                Some(act) => self.keep(v.alloc(), act, to)?,
+                None => return Ok(false),
+            },
+        }
+        Ok(true)
+    }
+
+    /// Keeps the act, and writes the text of a copy as an entry of its number.
+    fn keep(&mut self, alloc: Global, act: Act, to: &mut String) -> Result<(), Fault> {
+        let copy = act.copy()?;
+        self.acts.push(act)?;
+        let mut text = Vec::new(alloc);
+        write_acts(self.acts.list().len() as u64, &[copy], &mut text)?;
+        tell_bytes(&text, to)
+    }
+
+    /// Writes the entry of this number with all acts, which are handed out.
+    fn tell(&mut self, v: &Vector, to: &mut String) -> Result<(), Fault> {
+        let mut acts = Vec::new(v.alloc());
+        for act in self.acts.drain() {
+            acts.push(act)?;
+        }
+        let mut text = Vec::new(v.alloc());
+        write_acts(v.number(0), &acts, &mut text)?;
+        tell_bytes(&text, to)?;
+        write!(to, " {} left", self.acts.list().len())?;
+        Ok(())
+    }
+}
+
+/// The act that the line is.
+fn act_of(v: &Vector) -> Result<Option<Act>, Fault> {
+    let n = v.number(0);
+    Ok(Some(match v.call() {
+        ("open", "nnwt") => opened(v)?,
+        ("ask", "n") => Act::Ask { x: n },
+        ("close", "n") => Act::Close { x: n },
+        ("shown", "nnwnnnt") => shown(v)?,
+        ("data", "nnnt") => given(v)?,
+        ("ended", "n") => Act::Ended { c: n },
+        ("failed", "nw") => Act::Failed {
+            c: n,
+            cause: cause_at(v, 1)?,
+        },
+        ("pending", "nw") => Act::Pending {
+            c: n,
+            wait: wait_at(v, 1)?,
+        },
+        ("lost", "nw") => Act::Lost {
+            r: n,
+            kind: kind_at(v, 1)?,
+        },
+        ("evicted", "n") => Act::Evicted { r: n },
+        ("denied", "n" | "nn") => Act::Denied {
+            refusal: refusal_of(n, v.number(1))?,
+        },
+        _ => return Ok(None),
+    }))
+}
+
+/// The exchange, its consumer, its need, and the request.
+fn opened(v: &Vector) -> Result<Act, Fault> {
+    Ok(Act::Opened {
+        x: v.number(0),
+        c: v.number(1),
+        need: need_at(v, 2)?,
+        request: request_at(v, 3)?,
+    })
+}
+
+/// The consumer, the representation, why, the status, from where up to where, and the fields.
+fn shown(v: &Vector) -> Result<Act, Fault> {
+    let status = v.number(3);
+    if status > 599 {
+        return Err(Fault::NoSuchCall);
+    }
+    Ok(Act::Shown {
+        c: v.number(0),
+        r: v.number(1),
+        why: why_at(v, 2)?,
+        status: status as u16,
+        lo: v.number(4),
+        hi: v.option(5),
+        fields: fields_at(v, 6)?,
+    })
+}
+
+/// The consumer, the exchange, the position, and the bytes.
+fn given(v: &Vector) -> Result<Act, Fault> {
+    let bytes = v.text(3).to_vec(v.alloc())?;
+    Ok(Act::Given {
+        c: v.number(0),
+        x: v.number(1),
+        at: v.number(2),
+        bytes: Bytes { bytes },
+    })
+}
+
+/// Writes whether room for so many acts is kept.
+fn tell_room(v: &Vector, to: &mut String) -> Result<(), Fault> {
+    let count = v.number(0);
+    if count > 1024 {
+        return Err(Fault::NoSuchCall);
+    }
+    tell(&keeps_room(v.alloc(), count as usize)?, to)
+}
+
+/// Whether room that is made for so many acts falls by one with each, and is back when they are gone.
+fn keeps_room(alloc: Global, count: usize) -> Result<bool, NoMemory> {
+    let mut acts = Acts::new(alloc);
+    acts.reserve(count)?;
+    let before = acts.spare();
+    for x in 0..count as u64 {
+        acts.push(Act::Ask { x })?;
+    }
+    let behind = acts.spare();
+    let is_listed = acts.list().len() == count;
+    acts.truncate(0);
+    let truncated = acts.spare();
+    acts.clear();
+    Ok(
+        is_listed
+            && before.saturating_sub(behind) == count
+            && truncated == before
+            && acts.spare() == before,
+    )
+}

@@ -1,0 +1,57 @@
+//! Calls of `hc_head`.
+use crate::told::{tell, tell_request, tell_response};
+use hc_head::{Reply, Scan, Sought, call_of, find_end, line_end, reply_of};
+use hc_vector::{Fault, Vector};
+
+/// Whole heads have no more bytes.
+const MOST: usize = 32_768;
+
+/// Writes the value of the call, if it is one of these.
+pub(crate) fn call(v: &Vector, to: &mut String) -> Result<bool, Fault> {
+    match v.call() {
+        ("call_of", "t") => tell_call(v, to)?,
+        ("reply_of", "wt") => tell_reply(v, to)?,
+        ("find_end", "t") => tell_end(v, to)?,
+        ("line_end", "t") => tell(&line_end(v.text(0)), to)?,
+        _ => return Ok(false),
+    }
+    Ok(true)
+}
+
+/// Writes what the head of a request asks for.
+fn tell_call(v: &Vector, to: &mut String) -> Result<(), Fault> {
+    let text = v.text(0);
+    if text.len() > MOST {
+        return Err(Fault::NoSuchCall);
+    }
+    match call_of(v.alloc(), text) {
+        Ok(asked) => tell_request(&asked.request, to),
+        Err(e) => tell(&e, to),
+    }
+}
+
+/// Writes what the head of an answer comes to, where the request was a HEAD or not.
+fn tell_reply(v: &Vector, to: &mut String) -> Result<(), Fault> {
+    let text = v.text(1);
+    if text.len() > MOST {
+        return Err(Fault::NoSuchCall);
+    }
+    match reply_of(v.alloc(), v.word(0) == "head", text) {
+        Ok(Reply::Skips) => Ok(to.push_str("skips")?),
+        Ok(Reply::Shows(response, framing)) => {
+            write!(to, "{framing:?} ")?;
+            tell_response(&response, to)
+        }
+        Err(e) => tell(&e, to),
+    }
+}
+
+/// Writes where the head ends.
+fn tell_end(v: &Vector, to: &mut String) -> Result<(), Fault> {
+    match find_end(0, Scan::Before, v.text(0)) {
+        Ok(Sought::Ends(end)) => write!(to, "ends at {end}")?,
+        Ok(Sought::Open(scan)) => write!(to, "open {scan:?}")?,
+        Err(e) => write!(to, "{e:?}")?,
+    }
+    Ok(())
+}

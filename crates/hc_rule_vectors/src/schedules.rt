@@ -1,0 +1,157 @@
+//! Calls of `hc_sched`: schedules that are read, however they are cut, and events that are written.
+ghost use Rattle.std.specs.Prelude.{◌+◌, ◌<◌, ◌≤◌, ◌^◌, length};
+ghost use Rattle.hc_sched.specs.Feeding.{lines_in};
+
+use crate::given::{MOST, event_at};
+use crate::told::{tell, tell_event};
+use hc_event::Event;
+use hc_sched::{Feed, FeedError, Refused, SchedRefusal, Timed, write_event};
+use hc_target::is_target;
+use hc_vector::{Fault, Vector, quote};
+use std::alloc::Global;
+
+/// Writes the value of the call, if it is one of these.
+pub(crate) fn call(v: &Vector, to: &mut String) -> Result<bool, Fault> {
+    match v.call() {
+        ("is_target", "t") => tell_target(v, to)?,
+        ("copy", "t") => tell_copy(v, to)?,
+        ("read_schedule", "nt") => tell_alike(v, to)?,
+        ("read_schedule", "nnt") => tell_read(v, to)?,
+        ("cut_schedule", "t") => tell_cuts(v, to)?,
+        ("write_end", "nnn") => tell_end(v, to)?,
+        _ => return Ok(false),
+    }
+    Ok(true)
+}
+
+fn tell_target(v: &Vector, to: &mut String) -> Result<(), Fault> {
+    tell(&is_target(v.alloc(), v.text(0))?, to)
+}
+
+/// Writes a copy of an event.
+fn tell_copy(v: &Vector, to: &mut String) -> Result<(), Fault> {
+    let event = event_at(v, 0)?;
+    tell_event(&event.copy()?, to)
+}
+
+/// Writes the text of an end, behind a moment, at a moment, and of an exchange.
+fn tell_end(v: &Vector, to: &mut String) -> Result<(), Fault> {
+    let (last, now, x) = (v.number(0), v.number(1), v.number(2));
+    if last > now || now >= 1 << 62 || x >= 1 << 62 {
+        return Err(Fault::NoSuchCall);
+    }
+    let mut text = Vec::new(v.alloc());
+    let event = Event::End { x };
+    write_event(last, &Timed { now, event }, &mut text)?;
+    Ok(quote(&text, to)?)
+}
+
+/// Writes what is told of a text in pieces of so many bytes.
+fn tell_read(v: &Vector, to: &mut String) -> Result<(), Fault> {
+    let told = read(v.alloc(), v.number(0), v.text(2), v.number(1) as usize)?;
+    Ok(to.push_str(told.as_str())?)
+}
+
+/// Writes what is told of a text in pieces of 1 to 300 bytes, and also of the first size that tells
+/// another.
+fn tell_alike(v: &Vector, to: &mut String) -> Result<(), Fault> {
+    let told = read(v.alloc(), v.number(0), v.text(1), 1)?;
+    to.push_str(told.as_str())?;
+    for size in 2..301 {
+        let other = read(v.alloc(), v.number(0), v.text(1), size)?;
+        if other != told {
+            write!(to, " but by {size} {other}")?;
+            break;
+        }
+    }
+    Ok(())
+}
+
+/// What is told of the text, which comes in pieces of `size` bytes: its events, what the last piece
+/// answered and what is held then, and the same of the end.
+fn read(alloc: Global, moment: u64, text: &[u8], size: usize) -> Result<String, Fault> {
+    if moment >= 1 << 62 || size == 0 || text.len() > MOST {
+        return Err(Fault::NoSuchCall);
+    }
+    let mut feed = Feed::after(alloc, moment);
+    let mut events = Vec::new(alloc);
+    let mut told = String::new(alloc);
+    let fed = feed_pieces(&mut feed, text, size, &mut events);
+    for timed in &events {
+        write!(told, "{} ", timed.now)?;
+        tell_event(&timed.event, &mut told)?;
+        told.push_str(" | ")?;
+    }
+    tell_answer(fed, feed.held(), &mut told)?;
+    told.push_str(", ")?;
+    let ended = feed.finish();
+    tell_answer(ended, feed.held(), &mut told)?;
+    Ok(told)
+}
+
+/// Feeds the text in pieces of `size` bytes, those behind an error too, and answers as the last one.
+fn feed_pieces(
+    feed: &mut Feed,
+    text: &[u8],
+    size: usize,
+    out: &mut Vec<Timed>,
+) -> Result<(), FeedError>
+    requires some { 0 < size }
+    requires few { lines_in feed.old + length text.now ≤ 2 ^ 60 }
+    ensures { lines_in feed.new ≤ lines_in feed.old + length text.now }
+{
+    let mut fed = Ok(());
+    let mut rest = text;
+    while !rest.is_empty() {
+        let (piece, behind) = rest.split_at(size.min(rest.len()));
+        fed = feed.feed(piece, out);
+        rest = behind;
+    }
+    fed
+}
+
+/// Writes an answer, and how many bytes are held.
+fn tell_answer(answer: Result<(), FeedError>, held: usize, to: &mut String) -> Result<(), Fault> {
+    match answer {
+        Ok(()) => write!(to, "ok {held}")?,
+        Err(FeedError::Refused(Refused { line, why })) => write!(to, "line {line} {why:?} {held}")?,
+        Err(FeedError::NoMemory) => return Err(Fault::NoMemory),
+    }
+    Ok(())
+}
+
+/// Writes how many of the front parts of a schedule are whole, how many are cut short, and how many are
+/// refused otherwise.
+fn tell_cuts(v: &Vector, to: &mut String) -> Result<(), Fault> {
+    let text = v.text(0);
+    if text.len() > MOST {
+        return Err(Fault::NoSuchCall);
+    }
+    let (mut whole, mut cut, mut other) = (0_u64, 0_u64, 0_u64);
+    for len in 0..=text.len() {
+        match ending(v.alloc(), &text[..len]) {
+            Ok(()) => whole = whole.saturating_add(1),
+            Err(
+                FeedError::Refused(
+                    Refused {
+                        why: SchedRefusal::CutShort,
+                        ..
+                    },
+                ),
+            ) => cut = cut.saturating_add(1),
+            Err(_) => other = other.saturating_add(1),
+        }
+    }
+    write!(to, "{whole} whole, {cut} cut short, {other} other")?;
+    Ok(())
+}
+
+/// What the end of the text answers.
+fn ending(alloc: Global, text: &[u8]) -> Result<(), FeedError>
+    requires { length text.now < 2 ^ 41 }
+{
+    let mut feed = Feed::new(alloc);
+    let mut events = Vec::new(alloc);
+    let fed = feed_pieces(&mut feed, text, 11, &mut events);
+    fed.and(feed.finish())
+}

@@ -1,0 +1,77 @@
+//! Calls of `hc_validate`.
+use crate::given::{fields_at, head_at, is_yes, request_at, response_at};
+use crate::told::{tell, tell_fields, tell_response};
+use crate::words::{span_at, why_at};
+use hc_fields::Fields;
+use hc_validate::{conditional, origin_answer, origin_byte, selects, shown, update};
+use hc_vector::{Fault, Vector};
+
+/// Writes the value of the call, if it is one of these.
+pub(crate) fn call(v: &Vector, to: &mut String) -> Result<bool, Fault> {
+    match v.call() {
+        ("conditional", "tt") => tell_conditional(v, to)?,
+        ("selects", "tt") => tell_selects(v, to)?,
+        ("update", "tt") => tell_update(v, to)?,
+        ("update_by_many", "tn") => tell_update_by_many(v, to)?,
+        ("shown", "twnw" | "twww") => tell_shown(v, to)?,
+        ("origin_answer", "t") => tell_origin(v, to)?,
+        ("origin_byte", "n") => tell(&char::from(origin_byte(v.number(0))), to)?,
+        _ => return Ok(false),
+    }
+    Ok(true)
+}
+
+/// Writes the fields of the conditional request.
+fn tell_conditional(v: &Vector, to: &mut String) -> Result<(), Fault> {
+    let head = head_at(v, 0)?;
+    let request = request_at(v, 1)?;
+    if !request.fields.modest() {
+        return Err(Fault::NoSuchCall);
+    }
+    let asked = conditional(&head, &request)?;
+    tell_fields(&asked.fields, to)
+}
+
+fn tell_selects(v: &Vector, to: &mut String) -> Result<(), Fault> {
+    let head = head_at(v, 0)?;
+    let answer = response_at(v, 1)?;
+    tell(&selects(&head, &answer), to)
+}
+
+fn tell_update(v: &Vector, to: &mut String) -> Result<(), Fault> {
+    let stored = fields_at(v, 0)?;
+    let from = fields_at(v, 1)?;
+    tell_fields(&update(&stored, &from)?, to)
+}
+
+/// Writes how many fields come of an update by so many.
+fn tell_update_by_many(v: &Vector, to: &mut String) -> Result<(), Fault> {
+    let mut from = Fields::new(v.alloc())?;
+    for _ in 0..v.number(1) {
+        from.append(b"x-n", b"1")?;
+    }
+    let stored = fields_at(v, 0)?;
+    tell(&update(&stored, &from)?.len(), to)
+}
+
+/// Writes what is shown of a head: why, which span of it, and whether to a consumer with a range.
+fn tell_shown(v: &Vector, to: &mut String) -> Result<(), Fault> {
+    let why = why_at(v, 1)?;
+    let span = span_at(v, 2)?;
+    let ranged = is_yes(v, 3)?;
+    let is_within = span.is_some_and(|span| span.lo < span.hi && span.hi <= 6);
+    if ranged && !is_within {
+        return Err(Fault::NoSuchCall);
+    }
+    let head = head_at(v, 0)?;
+    let response = shown(&head, why, span, ranged)?;
+    tell_response(&response, to)
+}
+
+/// Writes the bytes and the head of the answer.
+fn tell_origin(v: &Vector, to: &mut String) -> Result<(), Fault> {
+    let request = request_at(v, 0)?;
+    let answer = origin_answer(&request)?;
+    write!(to, "{} to {}, ", answer.lo, answer.hi)?;
+    tell_response(&answer.response, to)
+}

@@ -1,4 +1,7 @@
-"""The program that is timed, as it is now and as it was at an older revision."""
+"""The program that is timed, as it is now and as it was at an older revision.
+
+`rt run` in crates/hc_bench builds it.
+"""
 import os
 import pathlib
 import subprocess
@@ -7,6 +10,8 @@ import tempfile
 
 TOP = pathlib.Path(__file__).resolve().parent.parent
 PROGRAM = TOP / "crates" / "hc_bench" / "out" / "hc_bench"
+if not os.access(PROGRAM, os.X_OK):
+    sys.exit("bench: build the program first: rt run in crates/hc_bench")
 
 
 def used(program, words):

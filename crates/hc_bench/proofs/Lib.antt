@@ -1,5 +1,2 @@
-pub mod Names
-pub mod Building
-pub mod Places
-pub mod Heads
-pub mod SlotLemmas
+mod Absence
+mod Live

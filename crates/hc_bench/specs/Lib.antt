@@ -1,6 +1,2 @@
-pub mod Names
-pub mod Built
-pub mod Words
-pub mod Downloads
-pub mod Calls
+pub mod Places
 pub mod Stores

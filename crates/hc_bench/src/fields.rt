@@ -1,61 +1,66 @@
-//! A list of `hc_fields`, made and looked up.
-ghost use Rattle.std.specs.Prelude.{◌≡◌, ◌+◌, ◌<◌, ◌≤◌, IfOk, OnOk};
-ghost use Rattle.hc_bench.specs.Built.{AreBuilt};
+//! Lists of `hc_fields`, made and looked up.
+ghost use Rattle.std.specs.Prelude.{◌≤◌};
 
-use crate::name::{VALUE, name_at};
+use crate::error::BenchError;
+use crate::words::{number_of, times_of};
 use hc_fields::{FieldError, Fields};
-use hc_text::NoMemory;
 use std::alloc::Global;
 
+/// The most fields of a list.
+pub(crate) const MOST: u64 = 80;
+
+/// The value of each field.
+pub(crate) const VALUE: &[u8] = b"twenty bytes or so..";
+
+/// `FIELDS COUNT`.
+pub(crate) fn run(alloc: Global, words: &[String]) -> Result<(), BenchError> {
+    let [count, times] = words else {
+        return Err(BenchError::Usage);
+    };
+    let count = number_of(count.as_str(), 1, MOST)?;
+    for _round in 0..times_of(times.as_str())? {
+        if look_up(alloc, count)? != count {
+            return Err(BenchError::Wrong);
+        }
+    }
+    Ok(())
+}
+
 /// Makes a list of `count` fields, and answers how many of their names it has.
-pub(crate) fn look_up(alloc: Global, count: usize) -> Result<usize, NoMemory>
-    requires { count ≤ 80 }
-    ensures { IfOk result (λ found. found ≡ count) }
-{
+fn look_up(alloc: Global, count: u64) -> Result<u64, BenchError> {
     let fields = build(alloc, count)?;
     Ok(found_in(&fields, count))
 }
 
 /// The list of the first `count` fields.
-fn build(alloc: Global, count: usize) -> Result<Fields, NoMemory>
-    requires { count ≤ 80 }
-    ensures { IfOk result (AreBuilt count) }
-{
+fn build(alloc: Global, count: u64) -> Result<Fields, BenchError> {
     let mut fields = Fields::new(alloc)?;
     for place in 0..count {
-        add(&mut fields, place)?;
+        match fields.append(&name_at(place), VALUE) {
+            Ok(()) => {}
+            Err(FieldError::NoMemory) => return Err(BenchError::NoMemory),
+            Err(_) => return Err(BenchError::Wrong),
+        }
     }
     Ok(fields)
 }
 
-/// Adds the field that comes at this place.
-fn add(fields: &mut Fields, place: usize) -> Result<(), NoMemory>
-    requires few { place < 80 }
-    requires built { AreBuilt place fields.old }
-    ensures { OnOk result (AreBuilt (place + 1) fields.new) }
-{
-    let name = name_at(place);
-    match fields.append(&name, VALUE) {
-        Ok(()) => Ok(()),
-        Err(e) => match e {
-            FieldError::NoMemory => Err(NoMemory),
-            _ => unreachable!(),
-        },
-    }
-}
-
 /// How many of the first `count` names the list has.
-fn found_in(fields: &Fields, count: usize) -> usize
-    requires few { count ≤ 80 }
-    requires built { AreBuilt count fields.now }
-    ensures { result ≡ count }
-{
-    let mut found = 0;
+fn found_in(fields: &Fields, count: u64) -> u64 {
+    let mut found = 0u64;
     for place in 0..count {
-        let name = name_at(place);
-        if fields.get(&name).is_some() {
-            found += 1;
+        if fields.get(&name_at(place)).is_some() {
+            found = found.wrapping_add(1);
         }
     }
     found
+}
+
+/// The name of the field that comes at this place. No two of the first 80 are equal, and they come in
+/// no order.
+pub(crate) fn name_at(place: u64) -> [u8; 8] {
+    let number = place.wrapping_mul(37) % 81;
+    let tens = b'0' + (number / 10) as u8;
+    let ones = b'0' + (number % 10) as u8;
+    [b'f', b'i', b'e', b'l', b'd', b'-', tens, ones]
 }

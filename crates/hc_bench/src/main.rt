@@ -1,35 +1,58 @@
 //! What the scripts of `bench` time: work of the libraries, again and again.
+//!
+//! `hc_bench SUBJECT WORDS.. COUNT` does what the words name COUNT times, and ends with 0, with 1
+//! where an answer isn't the right one, with 2 where the words name nothing, with 3 where a stream
+//! fails, and with 6 for want of memory. Without words it does nothing.
 #![tactic(auto)]
 
-mod calls;
-mod command;
-mod download;
+mod error;
 mod fields;
-mod map;
-mod name;
+mod line;
+mod maps;
+mod messages;
+mod order;
 mod reading;
-mod run;
+mod rules;
+mod schedules;
+mod sparse;
 mod stores;
+mod texts;
 mod words;
 
-use run::{Status, run};
-use std::io::ErrorKind;
+use error::BenchError;
+use std::env;
 use std::process::ExitCode;
-use std::{env, io};
 
-/// Calls `run` with the words after the program's name, and exits with what it answers.
 fn main(rt: HostRuntime) -> ExitCode {
-    let status = match arguments(&rt) {
-        Ok(words) => run(rt.alloc(), words.as_slice()),
-        Err(e) if e.kind() == ErrorKind::OutOfMemory => Status::NoMemory,
-        // A word that isn't UTF-8 is no command.
-        Err(_) => Status::Usage,
+    ExitCode::from(match bench(&rt) {
+        Ok(()) => 0,
+        Err(e) => e.status(),
+    })
+}
+
+/// Does what the words after the program's name ask for.
+fn bench(rt: &HostRuntime) -> Result<(), BenchError> {
+    let words = arguments(rt)?;
+    let [subject, words @ ..] = words.as_slice() else {
+        return Ok(());
     };
-    ExitCode::from(status.code())
+    let alloc = rt.alloc();
+    match subject.as_str() {
+        "fields" => fields::run(alloc, words),
+        "map" => maps::run(alloc, words),
+        "sparse" => sparse::run(alloc, words),
+        "read" => reading::run(alloc, words),
+        "store" => stores::run(alloc, words),
+        "call" => rules::run(alloc, words),
+        "message" => messages::run(alloc, words),
+        "line" => line::run(alloc, words),
+        "schedule" => schedules::run(alloc, words, &mut rt.stdin(), &mut rt.stdout()),
+        _ => Err(BenchError::Usage),
+    }
 }
 
 /// The words after the program's name.
-fn arguments(rt: &HostRuntime) -> io::Result<Vec<String>> {
+fn arguments(rt: &HostRuntime) -> Result<Vec<String>, BenchError> {
     let mut words = Vec::new(rt.alloc());
     for word in env::args(rt)?.skip(1) {
         words.push(word)?;

@@ -1,72 +1,70 @@
 //! Bodies read back in pieces.
-ghost use Rattle.std.specs.Prelude.{◌≡◌, ◌≤◌, ◌^◌, IfOk};
+ghost use Rattle.std.specs.Prelude.{◌≡◌, ◌≤◌, ◌^◌};
+ghost use Rattle.hc_sparse.specs.Cells.{nothing};
 
-use crate::command::{Body, Kept, Order, Reads};
-use crate::download::{PIECE_LEN, put};
+use crate::error::BenchError;
+use crate::order::Order;
+use crate::sparse::{MOST, PIECE_LEN, put};
+use crate::words::{number_of, times_of};
 use hc_sparse::{PlainSparse, Sparse, SparseBytes};
-use hc_text::NoMemory;
 use std::alloc::Global;
 
 /// How many bytes a read wants.
 const WANT: u64 = 16_384;
 
-/// Makes the body once, and reads it back so many times. Answers how often it was read.
-pub(crate) fn read_rounds(alloc: Global, reads: Reads) -> Result<u64, NoMemory>
-    ensures { IfOk result (λ rounds. rounds ≡ reads.times) }
-{
-    let piece = [b'x'; PIECE_LEN as usize];
-    let count = PIECE_LEN * reads.pieces / WANT;
-    match reads.body {
-        Body::List => {
-            let body = vec![in alloc; b'x'; (PIECE_LEN * reads.pieces) as usize]?;
-            list_rounds(alloc, body.as_slice(), reads.times)
-        }
-        Body::Sparse(Kept::Blocks) => {
-            let mut body = Sparse::new(alloc);
-            put(&mut body, Order::Forward, &piece, reads.pieces)?;
-            sparse_rounds(&body, count, reads.times)
-        }
-        Body::Sparse(Kept::Runs) => {
-            let mut body = PlainSparse::new(alloc);
-            put(&mut body, Order::Forward, &piece, reads.pieces)?;
-            sparse_rounds(&body, count, reads.times)
-        }
+/// `BODY PIECES COUNT`: a body of so many pieces is made once, and read back so many times.
+pub(crate) fn run(alloc: Global, words: &[String]) -> Result<(), BenchError> {
+    let [body, pieces, times] = words else {
+        return Err(BenchError::Usage);
+    };
+    let pieces = number_of(pieces.as_str(), 1, MOST)?;
+    let times = times_of(times.as_str())?;
+    match body.as_str() {
+        "list" => read_list(alloc, pieces, times),
+        "blocks" => read_sparse(&mut Sparse::new(alloc), pieces, times),
+        "runs" => read_sparse(&mut PlainSparse::new(alloc), pieces, times),
+        _ => Err(BenchError::Usage),
     }
 }
 
-/// Copies a list in pieces, so many times.
-fn list_rounds(alloc: Global, body: &[u8], times: u64) -> Result<u64, NoMemory>
-    ensures { IfOk result (λ rounds. rounds ≡ times) }
+/// Copies a list of bytes in pieces.
+fn read_list(alloc: Global, pieces: u64, times: u64) -> Result<(), BenchError>
+    requires { pieces ≤ 2 ^ 20 }
 {
-    let mut rounds = 0;
+    let body = vec![in alloc; b'x'; (PIECE_LEN * pieces) as usize]?;
     for _round in 0..times {
         for piece in body.chunks(WANT as usize) {
             copied(alloc, piece)?;
         }
-        rounds += 1;
     }
-    Ok(rounds)
+    Ok(())
 }
 
 /// A copy of a piece, which isn't inlined, so that it is made.
 #[inline(never)]
-fn copied(alloc: Global, piece: &[u8]) -> Result<Vec<u8>, NoMemory>
-    ensures { IfOk result (λ copy. copy.items ≡ piece.now) }
-{
+fn copied(alloc: Global, piece: &[u8]) -> Result<Vec<u8>, BenchError> {
     Ok(piece.to_vec(alloc)?)
 }
 
-/// Reads sparse bytes in so many pieces, so many times.
-fn sparse_rounds<M: SparseBytes>(body: &M, count: u64, times: u64) -> Result<u64, NoMemory>
-    requires { count ≤ 2 ^ 32 }
-    ensures { IfOk result (λ rounds. rounds ≡ times) }
+/// Puts the pieces into sparse bytes, and reads these in pieces.
+fn read_sparse<M: SparseBytes>(body: &mut M, pieces: u64, times: u64) -> Result<(), BenchError>
+    requires empty { M.cells body.old ≡ nothing }
+    requires few { pieces ≤ 2 ^ 20 }
 {
-    let mut rounds = 0;
+    let piece = [b'x'; PIECE_LEN as usize];
+    put(body, Order::Forward, &piece, pieces)?;
     for _round in 0..times {
-        for k in 0..count {
-            body.run_at(WANT * k, WANT as usize)?;
+        for k in 0..PIECE_LEN * pieces / WANT {
+            read_at(body, WANT * k)?;
         }
-        rounds += 1;
     }
-    Ok(rounds)
+    Ok(())
+}
+
+/// Reads one piece.
+fn read_at<M: SparseBytes>(body: &M, at: u64) -> Result<(), BenchError> {
+    match body.run_at(at, WANT as usize)? {
+        Some(run) if run.bytes.bytes.len() == WANT as usize => Ok(()),
+        _ => Err(BenchError::Wrong),
+    }
 }

@@ -1,4 +1,4 @@
-//! Tests of schedules that are replayed, in a crate of their own, since a crate with tests is proved twice.
+//! Tests of replays that no text can say: caches that begin with contents, and hostile streams.
 #![tactic(auto)]
 
 #[cfg(test)]
@@ -6,10 +6,4 @@ mod contents;
 #[cfg(test)]
 mod hostile;
 #[cfg(test)]
-mod kinds;
-#[cfg(test)]
-mod lost;
-#[cfg(test)]
 mod reports;
-#[cfg(test)]
-mod room;

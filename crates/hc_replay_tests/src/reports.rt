@@ -1,8 +1,6 @@
-//! Schedules over stores that fail or hold little, with the reports that are due, and how much is
-//! stored after schedules.
+//! What tests of replays share: schedules in parts, and a replay over a store of which calls fail.
 ghost use Rattle.std.specs.Prelude.{◌≤◌, ◌^◌, vec_len, IfOk};
 
-use crate::{kinds, lost, room};
 use hc_core::Cache;
 use hc_io::{MemorySink, MemorySource};
 use hc_record::Kind;
@@ -14,28 +12,6 @@ use hc_text::{Key, NoMemory};
 use std::alloc::Global;
 use std::process::Abort;
 use std::test::Fail;
-
-/// A schedule over a store with these limits, of which these calls fail, the report that is due, and
-/// how much is stored at last of what is current for `http://a.test/x`.
-#[derive(Clone, Copy)]
-pub(crate) struct Row {
-    pub(crate) case: &'static str,
-    pub(crate) limits: Limits,
-    pub(crate) fails: &'static [(Op, u64)],
-    pub(crate) schedule: &'static [u8],
-    pub(crate) report: &'static [u8],
-    pub(crate) kind: Option<Kind>,
-}
-
-/// A schedule in parts, how many events it has, and how much is stored then of what is current for
-/// `http://a.test/x`.
-#[derive(Clone, Copy)]
-pub(crate) struct Story {
-    pub(crate) case: &'static str,
-    pub(crate) parts: &'static [&'static [u8]],
-    pub(crate) events: u64,
-    pub(crate) kind: Option<Kind>,
-}
 
 /// What a replay writes and leaves.
 #[derive(Drop)]
@@ -50,41 +26,6 @@ pub(crate) const AMPLE: Limits = Limits {
     max_entry: 1000,
     max_total: 1_000_000,
 };
-
-/// Two short representations have room: each weighs 32,768 more than its bytes.
-pub(crate) const TIGHT: Limits = Limits {
-    max_entry: 100,
-    max_total: 65_560,
-};
-
-pub(crate) const SHORT: Limits = Limits {
-    max_entry: 5,
-    max_total: 1_000_000,
-};
-
-#[test]
-fn reports_are_due(rt: HostRuntime) -> Result<(), Fail> {
-    for row in lost::LOST.iter().chain(room::ROOM) {
-        let schedule = joined(&rt, &[row.schedule])?;
-        let replayed = replay_over(rt.alloc(), row.limits, row.fails, schedule)?;
-        assert_eq!(rt; replayed.ended, Ended::Done, "{}", row.case);
-        assert!(rt; replayed.report.as_slice() == row.report, "{}", row.case);
-        assert_eq!(rt; replayed.kind, row.kind, "{}", row.case);
-    }
-    Ok(())
-}
-
-#[test]
-fn keeps_what_can_be_used(rt: HostRuntime) -> Result<(), Fail> {
-    for story in kinds::STORIES {
-        let schedule = joined(&rt, story.parts)?;
-        let replayed = replay_over(rt.alloc(), AMPLE, &[], schedule)?;
-        assert_eq!(rt; replayed.ended, Ended::Done, "{}", story.case);
-        assert_eq!(rt; replayed.events, story.events, "{}", story.case);
-        assert_eq!(rt; replayed.kind, story.kind, "{}", story.case);
-    }
-    Ok(())
-}
 
 /// The parts, one after another.
 pub(crate) fn joined<R: Abort + AllocGlobal>(rt: &R, parts: &[&[u8]]) -> Result<Vec<u8>, Fail>

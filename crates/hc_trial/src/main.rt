@@ -1,54 +1,39 @@
-//! A program that replays a schedule over a small store that fails where it is told to.
+//! A program that replays schedules over small stores that fail where they are told to.
 //!
-//! Its words are the most bytes of one representation and of all, and then, in pairs, a call of the
-//! store and which of these calls fails, from 1: `100 65560 put 3 seal 1`.
+//! Standard input has trials. A trial begins with a line `trial MAX_ENTRY MAX_TOTAL`, the most bytes
+//! of one representation and of all, behind which pairs may stand, a call of the store and which of
+//! these calls fails, from 1: `trial 100 65560 put 3 seal 1`. The lines of its schedule follow. Empty
+//! lines and those that begin with `#` end it, and are comments.
+//!
+//! The output has each comment and each line that begins a trial as they are, and behind the latter
+//! the report, how the replay ended, how much is stored then of what is current for
+//! `http://a.test/x`, and how many events were stepped.
 #![tactic(auto)]
 
 mod trial;
+mod trials;
 
 use hc_io::{StdSink, StdSource};
-use hc_sched::Ended;
-use hc_text::NoMemory;
-use std::io::ErrorKind;
 use std::process::ExitCode;
-use std::{env, io};
-use trial::{Trial, TrialError};
+use trials::{Stop, run};
 
-/// The words are none of a trial.
-const WRONG_WORDS: u8 = 2;
-
-const NO_MEMORY: u8 = 6;
-
-/// Replays standard input, and exits with 0 where that is a schedule, 1 where it is refused, 2 where
-/// the words are none of a trial, 3 and 4 where a stream fails, and 6 for want of memory.
+/// Exits with 0 where all trials were replayed, with 1 where a line is none of a trial or a schedule is
+/// too long, with 3 and 4 where a stream fails, and with 6 for want of memory.
 fn main(rt: HostRuntime) -> ExitCode {
-    let words = match words(&rt) {
-        Ok(words) => words,
-        Err(e) if e.kind() == ErrorKind::OutOfMemory => return ExitCode::from(NO_MEMORY),
-        Err(_) => return ExitCode::from(WRONG_WORDS),
-    };
-    let trial = match Trial::new(rt.alloc(), words.as_slice()) {
-        Ok(trial) => trial,
-        Err(TrialError::NoMemory) => return ExitCode::from(NO_MEMORY),
-        Err(TrialError::WrongWords) => return ExitCode::from(WRONG_WORDS),
-    };
     let mut input = StdSource::new(rt.stdin());
     let mut out = StdSink::new(rt.stdout());
-    ExitCode::from(match trial.replay(rt.alloc(), &mut input, &mut out) {
-        Ok(Ended::Done) => 0,
-        Ok(Ended::Refused(_)) => 1,
-        Ok(Ended::SourceFailed) => 3,
-        Ok(Ended::SinkFailed) => 4,
-        Ok(Ended::WireFailed) => 5,
-        Ok(Ended::NoMemory) | Err(NoMemory) => NO_MEMORY,
+    ExitCode::from(match run(rt.alloc(), &mut input, &mut out) {
+        Ok(()) => 0,
+        Err(Stop::BadLine { line }) => {
+            let _ = eprintln!(rt; "line {line} is none of a trial");
+            1
+        }
+        Err(Stop::TooLong) => {
+            let _ = eprintln!(rt; "a schedule is too long");
+            1
+        }
+        Err(Stop::SourceFailed) => 3,
+        Err(Stop::SinkFailed) => 4,
+        Err(Stop::NoMemory) => 6,
     })
-}
-
-/// The words after the program's name.
-fn words(rt: &HostRuntime) -> io::Result<Vec<String>> {
-    let mut words = Vec::new(rt.alloc());
-    for word in env::args(rt)?.skip(1) {
-        words.push(word)?;
-    }
-    Ok(words)
 }

@@ -1,9 +1,6 @@
-use Rattle.std.proofs.Common.{◌+◌, ap, ◌∙◌}
+use Rattle.std.proofs.Common.{ap, ◌∙◌}
 use Rattle.hc_store.specs.Slots.{Slots, is_live}
 use Rattle.hc_bench.proofs.stores.read_rounds.Goals as goal
 
 pub loop-round-preserved : goal.loop-round-preserved
-loop-round-preserved c = (
-  ap (λ k. k + 1) c.loop-round.invariant.0,
-  ap (λ (s : Slots). is_live s c.args.slot.n) c.read_record.ensures.same ∙ c.loop-round.invariant.1,
-)
+loop-round-preserved c = ap (λ (s : Slots). is_live s c.args.slot.n) c.in_ok-read_record.ensures.same ∙ c.loop-round.invariant

@@ -4,4 +4,4 @@ use Rattle.hc_bench.specs.Stores.{slots_in}
 use Rattle.hc_bench.proofs.stores.run_rounds.Given as goal
 
 abbrev pub invariant-loop-round : goal.invariant-loop-round
-invariant-loop-round l = (l.rounds ≡ l._round) × (is_live (slots_in l.store) l.slot.n ≡ true)
+invariant-loop-round l = is_live (slots_in l.store) l.slot.n ≡ true

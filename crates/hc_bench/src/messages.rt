@@ -1,0 +1,138 @@
+//! Heads and chunked bodies that are read, beside `httparse` and a plain copy.
+ghost use Rattle.std.specs.Prelude.{◌<◌};
+
+use crate::error::BenchError;
+use crate::texts::{CHUNKED, LONG_ANSWERS, LONG_REQUESTS, SHORT_ANSWERS, SHORT_REQUESTS};
+use crate::words::times_of;
+use hc_msg::{RequestReader, ResponseReader, Taken, write_chunk};
+use httparse::{EMPTY_HEADER, Request, Response, Status};
+use std::alloc::Global;
+
+/// How many bytes a piece has.
+const PIECE_LEN: usize = 16_384;
+
+/// `BY WHAT COUNT`.
+pub(crate) fn run(alloc: Global, words: &[String]) -> Result<(), BenchError> {
+    let [by, what, times] = words else {
+        return Err(BenchError::Usage);
+    };
+    let times = times_of(times.as_str())?;
+    match by.as_str() {
+        "hc_msg" => read(alloc, what.as_str(), times),
+        "plain" => read_plainly(alloc, what.as_str(), times),
+        _ => Err(BenchError::Usage),
+    }
+}
+
+/// Reads by `hc_msg`.
+fn read(alloc: Global, what: &str, times: u64) -> Result<(), BenchError> {
+    match what {
+        "short-request" => requests(alloc, SHORT_REQUESTS, times),
+        "long-request" => requests(alloc, LONG_REQUESTS, times),
+        "short-answer" => answers(alloc, SHORT_ANSWERS, times),
+        "long-answer" => answers(alloc, LONG_ANSWERS, times),
+        "body" => body(alloc, times),
+        _ => Err(BenchError::Usage),
+    }
+}
+
+/// Reads heads by `httparse`, and copies a body.
+fn read_plainly(alloc: Global, what: &str, times: u64) -> Result<(), BenchError> {
+    match what {
+        "short-request" => plain_requests(SHORT_REQUESTS, times),
+        "long-request" => plain_requests(LONG_REQUESTS, times),
+        "short-answer" => plain_answers(SHORT_ANSWERS, times),
+        "long-answer" => plain_answers(LONG_ANSWERS, times),
+        "body" => plain_body(alloc, times),
+        _ => Err(BenchError::Usage),
+    }
+}
+
+/// The one or the other, by turns.
+fn by_turns(texts: [&str; 2], k: u64) -> &[u8] {
+    let text = if k % 2 == 0 { texts[0] } else { texts[1] };
+    text.as_bytes()
+}
+
+fn requests(alloc: Global, texts: [&str; 2], times: u64) -> Result<(), BenchError> {
+    let mut reader = RequestReader::new(alloc);
+    for k in 0..times {
+        if reader.take(by_turns(texts, k))?.got.is_none() {
+            return Err(BenchError::Wrong);
+        }
+    }
+    Ok(())
+}
+
+fn answers(alloc: Global, texts: [&str; 2], times: u64) -> Result<(), BenchError> {
+    for k in 0..times {
+        let mut reader = ResponseReader::new(alloc, false);
+        if reader.take(by_turns(texts, k), PIECE_LEN)?.got.is_none() {
+            return Err(BenchError::Wrong);
+        }
+    }
+    Ok(())
+}
+
+fn plain_requests(texts: [&str; 2], times: u64) -> Result<(), BenchError> {
+    for k in 0..times {
+        let mut room = [EMPTY_HEADER; 64];
+        match Request::new(&mut room).parse(by_turns(texts, k)) {
+            Ok(Status::Complete(_)) => {}
+            _ => return Err(BenchError::Wrong),
+        }
+    }
+    Ok(())
+}
+
+fn plain_answers(texts: [&str; 2], times: u64) -> Result<(), BenchError> {
+    for k in 0..times {
+        let mut room = [EMPTY_HEADER; 64];
+        match Response::new(&mut room).parse(by_turns(texts, k)) {
+            Ok(Status::Complete(_)) => {}
+            _ => return Err(BenchError::Wrong),
+        }
+    }
+    Ok(())
+}
+
+/// A chunked body of so many pieces.
+fn body(alloc: Global, times: u64) -> Result<(), BenchError> {
+    let piece = vec![in alloc; b'x'; PIECE_LEN]?;
+    let mut chunk = Vec::new(alloc);
+    write_chunk(&piece, &mut chunk)?;
+    let mut reader = ResponseReader::new(alloc, false);
+    reader.take(CHUNKED.as_bytes(), PIECE_LEN)?;
+    for _ in 0..times {
+        take_all(&mut reader, &chunk)?;
+    }
+    Ok(())
+}
+
+/// Takes all parts of the text.
+fn take_all(reader: &mut ResponseReader, text: &[u8]) -> Result<(), BenchError> {
+    let mut rest = text;
+    for _ in 0..u64::MAX {
+        if rest.is_empty() {
+            break;
+        }
+        let Taken { used, got: _ } = reader.take(rest, PIECE_LEN)?;
+        if used == 0 {
+            return Err(BenchError::Wrong);
+        }
+        rest = &rest[used..];
+    }
+    Ok(())
+}
+
+/// The same bytes, each piece copied.
+fn plain_body(alloc: Global, times: u64) -> Result<(), BenchError> {
+    let piece = vec![in alloc; b'x'; PIECE_LEN]?;
+    for k in 0..times {
+        let copy = Vec::from_slice(alloc, &piece)?;
+        if copy.get(k as usize % PIECE_LEN) != Some(&b'x') {
+            return Err(BenchError::Wrong);
+        }
+    }
+    Ok(())
+}

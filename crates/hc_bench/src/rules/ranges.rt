@@ -1,0 +1,132 @@
+//! Calls on byte ranges.
+ghost use Rattle.hc_range.specs.Spans.{IsInOrder, IsWithin};
+
+use crate::error::BenchError;
+use hc_range::{
+    Asked, ContentRange, Span, read_content_range, read_range, resolve, write_content_range,
+    write_range,
+};
+use std::alloc::Global;
+
+/// The length of the representation.
+const TOTAL: u64 = 1234;
+
+/// `read_range` of a range with a last position or without.
+pub(super) fn read_ranges(times: u64) -> Result<(), BenchError> {
+    for round in 0..times {
+        let (text, asked) = range_case(round);
+        if read_range(text) != Some(asked) {
+            return Err(BenchError::Wrong);
+        }
+    }
+    Ok(())
+}
+
+/// A range, and what it asks for.
+#[inline(never)]
+fn range_case(round: u64) -> (&'static [u8], Asked) {
+    if round % 2 == 0 {
+        (b"bytes=500-999", Asked::FromTo(500, 999))
+    } else {
+        (b"bytes=734-", Asked::From(734))
+    }
+}
+
+/// `read_content_range` of a part.
+pub(super) fn read_content_ranges(times: u64) -> Result<(), BenchError> {
+    for round in 0..times {
+        let (text, range) = content_range_case(round);
+        if read_content_range(text) != Some(range) {
+            return Err(BenchError::Wrong);
+        }
+    }
+    Ok(())
+}
+
+/// A text, and what it tells.
+#[inline(never)]
+fn content_range_case(round: u64) -> (&'static [u8], ContentRange) {
+    let total = Some(TOTAL);
+    if round % 2 == 0 {
+        let range = ContentRange::Part {
+            first: 500,
+            last: 999,
+            total,
+        };
+        (b"bytes 500-999/1234", range)
+    } else {
+        let range = ContentRange::Part {
+            first: 734,
+            last: 1233,
+            total,
+        };
+        (b"bytes 734-1233/1234", range)
+    }
+}
+
+/// `resolve` of a range with a first and a last position or a suffix.
+pub(super) fn resolve_ranges(times: u64) -> Result<(), BenchError> {
+    for round in 0..times {
+        let (asked, span) = resolve_case(round);
+        if resolve(asked, TOTAL) != Some(span) {
+            return Err(BenchError::Wrong);
+        }
+    }
+    Ok(())
+}
+
+/// What is asked for, and where that is.
+#[inline(never)]
+fn resolve_case(round: u64) -> (Asked, Span)
+    ensures { IsInOrder result.0 }
+{
+    if round % 2 == 0 {
+        (Asked::FromTo(500, 999), Span { lo: 500, hi: 1000 })
+    } else {
+        (Asked::Last(500), Span { lo: 734, hi: 1234 })
+    }
+}
+
+/// How long the text is that asks for a span of `span_at`.
+const RANGE_LEN: usize = 13;
+
+/// `write_range` of a span.
+pub(super) fn write_ranges(alloc: Global, times: u64) -> Result<(), BenchError> {
+    let mut to = Vec::new(alloc);
+    for round in 0..times {
+        to.clear();
+        write_range(span_at(round), TOTAL, &mut to)?;
+        if to.len() != RANGE_LEN {
+            return Err(BenchError::Wrong);
+        }
+    }
+    Ok(())
+}
+
+/// How long the text is that tells a span of `span_at`.
+const CONTENT_RANGE_LEN: usize = 18;
+
+/// `write_content_range` of a span.
+pub(super) fn write_content_ranges(alloc: Global, times: u64) -> Result<(), BenchError> {
+    let mut to = Vec::new(alloc);
+    for round in 0..times {
+        to.clear();
+        write_content_range(span_at(round), TOTAL, &mut to)?;
+        if to.len() != CONTENT_RANGE_LEN {
+            return Err(BenchError::Wrong);
+        }
+    }
+    Ok(())
+}
+
+/// A span whose first and last position have three digits each.
+#[inline(never)]
+fn span_at(round: u64) -> Span
+    ensures { IsWithin result TOTAL }
+{
+    if round % 2 == 0 {
+        Span { lo: 500, hi: 1000 }
+    } else {
+        Span { lo: 100, hi: 400 }
+    }
+}

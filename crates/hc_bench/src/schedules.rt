@@ -1,0 +1,106 @@
+//! Schedules that are read as a stream, and events that are written.
+ghost use Rattle.std.specs.Prelude.{◌≤◌, IfOk};
+ghost use Rattle.hc_sched.specs.Schedule.{IsEvent};
+
+use crate::error::BenchError;
+use crate::words::times_of;
+use hc_event::Event;
+use hc_sched::{Feed, Timed, write_event};
+use hc_text::Bytes;
+use std::alloc::Global;
+use std::io::{Read, Write};
+
+/// How many bytes are read at once.
+const READ_LEN: usize = 16_384;
+
+/// How often is read at most.
+const MOST_PARTS: u64 = 1 << 40;
+
+/// From how many bytes on they are written.
+const WRITE_LEN: usize = 65_536;
+
+/// How many bytes a piece has.
+const PIECE_LEN: usize = 65_536;
+
+/// The moment of each event.
+const NOW: u64 = 1_700_000_000;
+
+/// `read` reads a schedule to its end. `pieces COUNT` and `polls COUNT` write so many such events.
+pub(crate) fn run<R: Read, W: Write>(
+    alloc: Global,
+    words: &[String],
+    input: &mut R,
+    output: &mut W,
+) -> Result<(), BenchError> {
+    match words {
+        [what] if what.as_str() == "read" => read(alloc, input),
+        [what, times] => {
+            let times = times_of(times.as_str())?;
+            write(alloc, common_event(alloc, what.as_str())?, times, output)
+        }
+        _ => Err(BenchError::Usage),
+    }
+}
+
+/// Reads a schedule to its end.
+fn read<R: Read>(alloc: Global, input: &mut R) -> Result<(), BenchError> {
+    let mut feed = Feed::new(alloc);
+    let mut events = Vec::new(alloc);
+    let mut buffer = vec![in alloc; 0u8; READ_LEN]?;
+    for _part in 0..MOST_PARTS {
+        let n = input.read(&mut buffer)?;
+        if n == 0 {
+            break;
+        }
+        feed.feed(&buffer[..n], &mut events)?;
+        events.clear();
+    }
+    feed.finish()?;
+    Ok(())
+}
+
+/// The event that there are most of where there are many of these.
+fn common_event(alloc: Global, what: &str) -> Result<Event, BenchError>
+    ensures { IfOk result IsEvent }
+{
+    match what {
+        "pieces" => piece(alloc, PIECE_LEN),
+        "polls" => Ok(Event::Poll { c: 1, want: 4096 }),
+        _ => Err(BenchError::Usage),
+    }
+}
+
+/// A piece of so many bytes.
+fn piece(alloc: Global, len: usize) -> Result<Event, BenchError>
+    requires { len ≤ 65536 }
+    ensures { IfOk result IsEvent }
+{
+    let bytes = vec![in alloc; b'x'; len]?;
+    Ok(Event::Piece {
+        x: 1,
+        bytes: Bytes { bytes },
+    })
+}
+
+/// Writes the event so many times.
+fn write<W: Write>(
+    alloc: Global,
+    event: Event,
+    times: u64,
+    output: &mut W,
+) -> Result<(), BenchError>
+    requires { IsEvent event }
+{
+    let timed = Timed { now: NOW, event };
+    let mut text = Vec::new(alloc);
+    for k in 0..times {
+        let last = if k == 0 { 0 } else { NOW };
+        write_event(last, &timed, &mut text)?;
+        if text.len() >= WRITE_LEN {
+            output.write_all(text.as_slice())?;
+            text.clear();
+        }
+    }
+    output.write_all(text.as_slice())?;
+    Ok(())
+}

@@ -1,5 +1,6 @@
 //! Why a bench doesn't come to its end.
 
+use hc_io::SourceFailed;
 use hc_msg::MsgError;
 use hc_sched::FeedError;
 use hc_store::StoreError;
@@ -57,6 +58,12 @@ impl<T: Drop> From<AllocFailed<T>> for BenchError {
 impl From<NoMemory> for BenchError {
     fn from(_: NoMemory) -> Self {
         BenchError::NoMemory
+    }
+}
+
+impl From<SourceFailed> for BenchError {
+    fn from(_: SourceFailed) -> Self {
+        BenchError::StreamFailed
     }
 }
 

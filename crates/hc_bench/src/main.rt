@@ -20,6 +20,7 @@ mod texts;
 mod words;
 
 use error::BenchError;
+use hc_io::StdSource;
 use std::env;
 use std::process::ExitCode;
 
@@ -46,7 +47,10 @@ fn bench(rt: &HostRuntime) -> Result<(), BenchError> {
         "call" => rules::run(alloc, words),
         "message" => messages::run(alloc, words),
         "line" => line::run(alloc, words),
-        "schedule" => schedules::run(alloc, words, &mut rt.stdin(), &mut rt.stdout()),
+        "schedule" => {
+            let mut input = StdSource::new(rt.stdin());
+            schedules::run(alloc, words, &mut input, &mut rt.stdout())
+        },
         _ => Err(BenchError::Usage),
     }
 }

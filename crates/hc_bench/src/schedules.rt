@@ -5,16 +5,14 @@ ghost use Rattle.hc_sched.specs.Schedule.{IsEvent};
 use crate::error::BenchError;
 use crate::words::times_of;
 use hc_event::Event;
+use hc_io::Source;
 use hc_sched::{Feed, Timed, write_event};
 use hc_text::Bytes;
 use std::alloc::Global;
-use std::io::{Read, Write};
+use std::io::Write;
 
 /// How many bytes are read at once.
 const READ_LEN: usize = 16_384;
-
-/// How often is read at most.
-const MOST_PARTS: u64 = 1 << 40;
 
 /// From how many bytes on they are written.
 const WRITE_LEN: usize = 65_536;
@@ -26,10 +24,10 @@ const PIECE_LEN: usize = 65_536;
 const NOW: u64 = 1_700_000_000;
 
 /// `read` reads a schedule to its end. `pieces COUNT` and `polls COUNT` write so many such events.
-pub(crate) fn run<R: Read, W: Write>(
+pub(crate) fn run<S: Source, W: Write>(
     alloc: Global,
     words: &[String],
-    input: &mut R,
+    input: &mut S,
     output: &mut W,
 ) -> Result<(), BenchError> {
     match words {
@@ -43,12 +41,12 @@ pub(crate) fn run<R: Read, W: Write>(
 }
 
 /// Reads a schedule to its end.
-fn read<R: Read>(alloc: Global, input: &mut R) -> Result<(), BenchError> {
+fn read<S: Source>(alloc: Global, source: &mut S) -> Result<(), BenchError> {
     let mut feed = Feed::new(alloc);
     let mut events = Vec::new(alloc);
     let mut buffer = vec![in alloc; 0u8; READ_LEN]?;
-    for _part in 0..MOST_PARTS {
-        let n = input.read(&mut buffer)?;
+    for _ in 0..u64::MAX {
+        let n = source.read(&mut buffer)?;
         if n == 0 {
             break;
         }

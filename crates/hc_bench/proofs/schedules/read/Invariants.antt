@@ -1,7 +1,7 @@
-use Rattle.std.proofs.Common.{◌≤◌, ◌*◌}
+use Rattle.std.proofs.Common.{◌≤◌, ◌^◌}
 use Rattle.hc_sched.specs.Feeding.{lines_in}
 use Rattle.hc_bench.proofs.schedules.read.Given as goal
 
 -- each line has a byte
-abbrev pub invariant-loop-part : goal.invariant-loop-part
-invariant-loop-part g l = lines_in l.feed ≤ 16384 * l._part
+abbrev pub invariant-loop : goal.invariant-loop
+invariant-loop g l = (lines_in l.feed ≤ g.S.Source.given l.source) × (lines_in l.feed ≤ 2 ^ 60)

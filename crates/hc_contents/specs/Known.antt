@@ -2,9 +2,8 @@
 use Rattle.std.specs.Prelude.{◌≡◌, ℕ, ◌+◌, ◌≤◌, List, length, drop, bytes_eq, nat_eq, nat_le, nat_lt, Bool, false, not, ◌&&◌, Option, Some, None, is_some, ◌==◌}
 use Rattle.std.specs.List.{list_any}
 use Rattle.std.specs.HashMap.{get}
-use Rattle.std.specs.HashSet.{contains}
+use Rattle.std.specs.HashSet.{contains, contains_by}
 use Rattle.hc_sparse.specs.declared.run.Run.{Run}
-use Rattle.hc_entry.specs.Keys.{kept_of}
 use Rattle.hc_model.specs.Beginnings.{says}
 use Rattle.hc_model.specs.Entries.{Content}
 use Rattle.hc_contents.specs.declared.seen.Seen.{Seen}
@@ -22,7 +21,7 @@ TellsLast last items =
 
 -- the keys and numbers of the earlier ones of some items, and the last places of representations
 pub record Knows (s : Seen) (earlier items : List Content) : Type 0 where
-  pub keys : (key : List ℕ) → is_some (kept_of s.keys key).current
+  pub keys : (key : List ℕ) → contains_by (λ stored. bytes_eq key stored.items) s.keys
       ≡ list_any (λ (other : Content). bytes_eq other.key key) earlier
   pub said : (x : ℕ) → contains nat_eq s.said x ≡ list_any (says x) earlier
   pub last : TellsLast (get nat_eq s.last) items

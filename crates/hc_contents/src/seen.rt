@@ -10,7 +10,6 @@ ghost use Rattle.hc_contents.specs.Known.{TellsLast, is_from};
 ghost use Rattle.hc_contents.specs.Told.{told_item};
 
 use crate::contents::Content;
-use hc_entry::KeyTable;
 use hc_sparse::Run;
 use hc_text::NoMemory;
 use std::alloc::Global;
@@ -20,7 +19,7 @@ use std::collections::{HashMap, HashSet};
 /// representation for the last time.
 #[derive(Drop)]
 pub(crate) struct Seen {
-    keys: KeyTable,
+    keys: HashSet<Vec<u8>>,
     said: HashSet<u64>,
     last: HashMap<u64, usize>,
 }
@@ -34,7 +33,7 @@ impl Seen {
     {
         let last = last_places(items, alloc)?;
         Ok(Seen {
-            keys: KeyTable::new(alloc),
+            keys: HashSet::new(alloc),
             said: HashSet::new(alloc),
             last,
         })
@@ -46,7 +45,7 @@ impl Seen {
             → Knows self.now earlier items → i < length items → contents.next_exchange ≡ end
             → result ≡ is_apart contents earlier (told_item item.now) (drop (i + 1) items) }
     {
-        self.keys.current(&item.key).is_none()
+        !self.keys.contains(item.key.bytes.as_slice())
             && is_given_out(item.r, end)
             && !self.said.contains(&item.r)
             && self.has_own_runs(i, item.runs.as_slice(), end)
@@ -81,7 +80,7 @@ impl Seen {
         ensures { OnOk result ((earlier items : List model.Content) → Knows self.old earlier items
             → Knows self.new (told_item item.now ∷ earlier) items) }
     {
-        self.keys.make_current(&item.key, item.r)?;
+        self.keys.insert(item.key.bytes.clone()?)?;
         self.said.insert(item.r)?;
         say_runs(&mut self.said, item.runs.as_slice())
     }

@@ -1,4 +1,4 @@
--- An event that has a spelling is modest.
+-- An event that has a spelling is within limits.
 use Rattle.hc_event.specs.declared.event.Event.{Event}
 use Rattle.hc_event.specs.declared.event.Event.TheVariants as event
 use Rattle.hc_event.specs.Modest.{IsModestEvent}

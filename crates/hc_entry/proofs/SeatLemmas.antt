@@ -18,7 +18,7 @@ use Rattle.hc_entry.specs.Lines.{Line, is_among, released, stands, left_by}
 use Rattle.hc_entry.proofs.UserLemmas.{least-rising}
 use Rattle.hc_entry.proofs.LineLemmas.{stands-left, stands-with}
 
--- two rising lists with the same members are equal
+-- two ascending lists with the same members are equal
 member_is : (n y : ℕ) (ys : List ℕ) → is_among n (y ∷ ys) ≡ true → (y ≡ n) ⊎ (is_among n ys ≡ true)
 member_is n y ys is = elim (cases_Bool (eqb y n)) [
   | inl same ↦ inl (eqb-true y n same)

@@ -34,9 +34,6 @@ with_current r k = record k { current = r }
 abbrev pub is_nothing : Kept → Bool
 is_nothing k = is_empty (line_in k) && not (is_some k.current)
 
-abbrev pub IsAwaited : Kept → Type 0
-IsAwaited k = (c : ℕ) × (is_in c (line_in k) ≡ true)
-
 -- what is kept of each key
 abbrev pub Table : Type 0
 Table = List ℕ → Kept

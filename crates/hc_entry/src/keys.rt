@@ -1,12 +1,11 @@
 //! What is kept by key.
 ghost use Rattle.std.specs.Prelude.{◌≡◌, ℕ, List, Some, None, true, false, IfSome, OnOk, OnErr};
-ghost use Rattle.hc_entry.specs.Seats.{stand_in};
 ghost use Rattle.hc_entry.specs.Lines.{is_in, turn_of, turn_with, queued, held_by, passed, gone_away, come_back, left_by, all_back, passed_back};
-ghost use Rattle.hc_entry.specs.Kept.{nothing, on_line, with_current, IsAwaited};
+ghost use Rattle.hc_entry.specs.Kept.{nothing, on_line, with_current};
 ghost use Rattle.hc_entry.specs.KeyRows.{IsTidy, AreOrderly};
 
 use crate::rows::{
-    KeyRow, all_back_in, current_in, enter_in, hold_in, leave_in, make_current_in, passed_back_in,
+    KeyRow, all_back_in, clear_current_in, enter_in, hold_in, leave_in, make_current_in, passed_back_in,
     reseat_in, row_in, tidy_in,
 };
 use crate::seat::Stand;
@@ -69,13 +68,6 @@ impl KeyTable {
             Some(row) => row.line.is_in(c),
             None => false,
         }
-    }
-
-    /// Where the consumer stands. None exactly where it doesn't wait for the key.
-    pub fn stand(&self, key: &Key, c: u64) -> Option<Stand>
-        ensures { result ≡ stand_in c (line_of self.now key.now) }
-    {
-        row_in(&self.rows, key)?.line.stand(c)
     }
 
     /// How many seats the key has, of which each is that of a consumer, or empty.
@@ -162,15 +154,7 @@ impl KeyTable {
         tidy_in(&mut self.rows, key);
     }
 
-    /// The representation is current. It needs no memory, since somebody waits for the key.
-    pub fn set_current(&mut self, key: &Key, r: u64)
-        requires { IsAwaited (kept_of self.old key.now) }
-        ensures { Becomes (with_current (Some r)) key.now self.old self.new }
-    {
-        current_in(&mut self.rows, key, Some(r));
-    }
-
-    /// The representation is current, also where nobody waits for the key.
+    /// The representation is current.
     pub fn make_current(&mut self, key: &Key, r: u64) -> Result<(), NoMemory>
         ensures ok { OnOk result (Becomes (with_current (Some r)) key.now self.old self.new) }
         ensures err { OnErr result (Stays self.old self.new) }
@@ -182,7 +166,7 @@ impl KeyTable {
     pub fn clear_current(&mut self, key: &Key)
         ensures { Becomes (with_current None) key.now self.old self.new }
     {
-        current_in(&mut self.rows, key, None);
+        clear_current_in(&mut self.rows, key);
         tidy_in(&mut self.rows, key);
     }
 }

@@ -188,7 +188,6 @@ impl KeyLine {
     pub fn passed_back(&mut self)
         ensures { self.new ≡ passed_back self.old }
     {
-        let _ = &self.seats;
         for place in 0..self.seats() {
             if let Some(c) = self.seated(place) {
                 if self.has_passed(c) {

@@ -4,7 +4,7 @@ ghost use Rattle.std.specs.Bool.{OnTrue};
 ghost use Rattle.std.specs.Option.{option_copied};
 ghost use Rattle.hc_entry.specs.Seats.{moved_to};
 ghost use Rattle.hc_entry.specs.Lines.{is_in, turn_of, queued, held_by, left_by, all_back, passed_back};
-ghost use Rattle.hc_entry.specs.Kept.{nothing, on_line, line_in, with_current, is_nothing, IsAwaited};
+ghost use Rattle.hc_entry.specs.Kept.{nothing, on_line, line_in, with_current, is_nothing};
 ghost use Rattle.hc_entry.specs.KeyRows.{row_at, rows_of, RowChanges, RowsStay, IsTidyAt};
 
 use crate::line::KeyLine;
@@ -122,13 +122,12 @@ pub(crate) fn leave_in(rows: &mut HashMap<Vec<u8>, KeyRow>, key: &Key, c: u64)
     row.line.leave(c);
 }
 
-/// This is current, or none is.
-pub(crate) fn current_in(rows: &mut HashMap<Vec<u8>, KeyRow>, key: &Key, r: Option<u64>)
-    requires { is_some r ≡ true → IsAwaited (rows_of rows.old key.now) }
-    ensures { RowChanges (with_current r) key.now rows.old rows.new }
+/// None is current.
+pub(crate) fn clear_current_in(rows: &mut HashMap<Vec<u8>, KeyRow>, key: &Key)
+    ensures { RowChanges (with_current None) key.now rows.old rows.new }
 {
     if let Some(row) = rows.get_mut(key.bytes.as_slice()) {
-        row.current = r;
+        row.current = None;
     }
 }
 

@@ -153,11 +153,11 @@ impl Exchanges {
     }
 
     /// Its head came. False exactly where the length that it declares is bad, and then nothing
-    /// changes. It needs no memory.
-    pub fn head(&mut self, x: u64, response: &Response, _now: u64) -> Result<bool, NoMemory>
+    /// changes.
+    pub fn head(&mut self, x: u64, response: &Response) -> bool
         requires { head_refusal (option_map seen (table_of self.old x).running) ≡ None }
         ensures answer { result
-            ≡ Ok (not (is_bad (length_by (table_of self.old x).running response.now))) }
+            ≡ not (is_bad (length_by (table_of self.old x).running response.now)) }
         ensures good { is_bad (length_by (table_of self.old x).running response.now) ≡ false
             → Becomes (headed (length_by (table_of self.old x).running response.now))
             x self.old self.new }
@@ -167,11 +167,11 @@ impl Exchanges {
         let open = running_in(&self.rows, x).unwrap();
         let length = length_of(open.need, &open.request, response);
         if length.is_bad() {
-            return Ok(false);
+            return false;
         }
         head_in(&mut self.rows, x, length);
         settle(&mut self.rows, &mut self.wishes, x);
-        Ok(true)
+        true
     }
 
     /// A piece came, which is held or not. True exactly where the exchange is over with it.

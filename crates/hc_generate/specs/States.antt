@@ -12,9 +12,9 @@ pub record State : Type 0 where
   pub moment : ℕ
   -- the consumer that started last
   pub last : ℕ
-  -- the live consumers, by rising number
+  -- the live consumers, in ascending order of their numbers
   pub live : List ℕ
-  -- what is owed to exchanges, by rising number
+  -- what is owed to exchanges, in ascending order of their numbers
   pub exchanges : List Exchange
   pub counts : Counts
 

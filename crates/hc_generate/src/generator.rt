@@ -72,8 +72,8 @@ impl Generator {
         self.moment
     }
 
-    /// A round, where the cache wants these exchanges, by rising number: its event, or none. Where
-    /// memory is refused nothing changes.
+    /// A round, where the cache wants these exchanges, in ascending order of their numbers: its
+    /// event, or none. Where memory is refused nothing changes.
     pub fn next(&mut self, wanted: &[u64]) -> Result<Option<Event>, NoMemory>
         requires moment { self.old.moment + 30 < 2 ^ 62 }
         requires last { self.old.last + 1 < 2 ^ 62 }

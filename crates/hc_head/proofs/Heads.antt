@@ -31,7 +31,7 @@ any_here test headers i d is total lt told hit all =
     let here : test (field_in (get_or headers i d)) ≡ true = sym told ∙ hit in
     rw here at (any_cons test headers i d total lt all)
 
--- no value is long where the fields are modest
+-- no value is long where the fields are within limits
 pub modest_at : (headers : List Header) (i : ℕ) (d : Header) → i < length headers → is_modest (fields_in headers) ≡ true → length (get_or headers i d).value.now ≤ 8192
 modest_at [] i d lt h = absurd (omega arith)
 modest_at (x ∷ headers) zero d lt h = leb-true (length x.value.now) 8192 (and_parts (nat_le (length x.value.now) 8192) (is_modest (fields_in headers)) h).0

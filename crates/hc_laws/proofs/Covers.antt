@@ -1,4 +1,4 @@
--- Who has the pen has all up to where its exchange goes on.
+-- The exclusive writer has all up to where its exchange goes on.
 use Rattle.std.proofs.Common.{◌≡◌, ◌⊎◌, inl, inr, ℕ, ◌+◌, ◌<◌, ◌≤◌, List, length, true, Option, Some, None, refl, ap, sym, ◌∙◌, subst, arith, length-append}
 use Rattle.std.specs.Prelude.{is_some}
 use Rattle.hc_sparse.specs.Cells.{Cells, Cell, Covers, written}

@@ -1,4 +1,4 @@
--- After an entry whoever has the pen has all up to where its exchange goes on.
+-- After an entry the exclusive writer has all up to where its exchange goes on.
 use Rattle.std.proofs.Common.{◌≡◌, ◌⊎◌, inl, inr, ℕ, ◌+◌, ◌<◌, ◌≤◌, true, false, Option, Some, None, refl, ap, sym, ◌∙◌, subst, arith}
 use Rattle.std.specs.Prelude.{is_some, nat_eq}
 use Rattle.hc_sparse.specs.Cells.{Covers}

@@ -1,4 +1,4 @@
--- Who goes on alone has all that its own exchange goes on behind, or that brought nothing: also where a failure is due.
+-- The detached reader has all that its own exchange goes on behind, or that brought nothing: also where a failure is due.
 use Rattle.std.proofs.Common.{◌≡◌, ◌⊎◌, inl, inr, ℕ, ◌≤◌, List, [], length, Bool, true, false, Option, Some, None, refl, ap, sym, ◌∙◌, subst, arith}
 use Rattle.std.specs.Prelude.{◌&&◌, if◌then◌else◌}
 use Rattle.hc_sparse.specs.Cells.{Covers}
@@ -91,7 +91,7 @@ module _ (limits : Limits) (t : Tables) (now : ℕ) (flaw : Flaw) (s : Sound t) 
       reader : IsBound t r c k
       reader = sound.is_bound lo hi how row.row at
 
-      -- it has the pen, of what isn't written together
+      -- it is the exclusive writer, of what isn't written together
       module _ (off : is_written t v ≡ false) (pen : HasPen t r v c) (was : IsAhead t v k) where
         -- where something was due before, its own exchange was closed
         closed : (d : Cause) → k.due ≡ Some d → (x : ℕ) → own_open t k ≡ Some x → ⊥

@@ -1,4 +1,4 @@
--- After an entry whoever goes on alone does so soundly.
+-- After an entry the detached reader reads on soundly.
 use Rattle.std.proofs.Common.{◌≡◌, ◌⊎◌, inl, inr, ℕ, ◌+◌, ◌≤◌, List, [], ◌∷◌, length, Bool, true, false, Option, Some, None, refl, ap, sym, ◌∙◌, subst, arith, length-append}
 use Rattle.std.specs.Prelude.{if◌then◌else◌, is_some, ◌||◌, not}
 use Rattle.std.specs.Option.{option_and_then}
@@ -484,7 +484,7 @@ module _ (limits : Limits) (t : Tables) (now : ℕ) (flaw : Flaw) (s : Sound t) 
       by_test true lost = refl
       by_test false fresh = absurd (none_some c (sym ((stores_are_kept limits t now flaw s ev goes r p after).nobody_alone fresh) ∙ is_alone))
 
-  -- Whoever goes on alone does so soundly.
+  -- The detached reader reads on soundly.
   pub go_alone : GoAlone now_on
   go_alone r c p u after is_alone (sound.is_bound lo hi how after_row stands) none =
       by_way r c lo hi how u p after after_row stands none (lost_of r c p after is_alone) is_alone (bound_from t e c r lo hi how (t.consumer c) u refl after_row stands) (rep_from t e r (t.representation r) p refl after)

@@ -360,7 +360,7 @@ module _ (limits : Limits) (t : Tables) (now : ℕ) (flaw : Flaw) (s : Sound t) 
   bare_by r x z p after_x on bare aim hole after (exchange.was w row same) = bare_had limits t now flaw s o m ev goes real r x w z p row same after_x on bare aim hole after
   bare_by r x z p after_x on bare aim hole after (exchange.new q none opens here made) = new_had limits t now flaw s o m ev goes real r x q z p opens made after_x on bare aim hole after
 
-  -- An open exchange about a representation is that of its writing, or of the one who has the pen.
+  -- An open exchange about a representation is that of its writing, or of the one the exclusive writer.
   pub had_kept : (r x : ℕ) (p : Representation) → now_on.representation r ≡ Some p → IsAbout now_on r x → IsHad now_on r p x
   had_kept r x p after (sound.headed z row on some of_r there) = headed_by r x z p row on some of_r after (exchange_from t e x (t.exchange x) z refl row)
   had_kept r x p after (sound.asks z from_at to_at row on bare needs aim) = bare_by r x z p row on bare aim (ap route_of needs) after (exchange_from t e x (t.exchange x) z refl row)

@@ -1,4 +1,4 @@
--- Whose an open exchange is that is about a representation: the writing's, or that of the one who has the pen.
+-- Whose an open exchange is that is about a representation: the writing's, or the exclusive writer's.
 use Rattle.std.proofs.Common.{◌≡◌, ◌⊎◌, inl, inr, ℕ, ◌<◌, ◌≤◌, List, [], ◌∷◌, Bool, true, false, cond, Option, Some, None, refl, ap, sym, ◌∙◌, subst, arith, min}
 use Rattle.std.specs.Prelude.{if◌then◌else◌, is_some, is_none, nat_le, map, filter}
 use Rattle.std.specs.Option.{option_or}

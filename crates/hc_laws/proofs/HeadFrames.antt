@@ -202,7 +202,7 @@ module _ (t : Tables) (now x : ℕ) (response : Response) (es : List ℕ) (flaw 
           ap (λ (u : Representation). Some (representation_acted t e r v u)) heard_it
           ∙ rw (loses_as r, unlost, stays, is) refl)
 
-      -- what it loses, with who goes on alone
+      -- what it loses, with the detached reader
       pub row_loses : (alone : Option ℕ) → v.is_lost ≡ false → loses_in r (lost flaw) ≡ true → goes_on_with t e r v ≡ alone → becomes_gone t e r v ≡ true
           → representation_after t e r (t.representation r) ≡ Some (gone (lost_to alone v))
       unfolding representation_after

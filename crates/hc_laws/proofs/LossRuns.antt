@@ -1,4 +1,4 @@
--- What is held for who goes on alone came of its own exchange, in every run.
+-- What is held for the detached reader came of its own exchange, in every run.
 use Rattle.std.proofs.Common.{◌≡◌, ◌⊎◌, inl, inr, ℕ, zero, suc, ◌+◌, ◌-◌, ◌≤◌, ◌<◌, List, [], ◌∷◌, length, take, drop, Bool, true, false, Option, Some, None, refl, ap, sym, ◌∙◌, subst, arith}
 use Rattle.std.specs.Prelude.{◌==◌, is_some, slice_index, min, nat_eq, nat_lt}
 use Rattle.std.proofs.Math.ListN.{drop_of_length-le}

@@ -1,4 +1,4 @@
--- Whose own an exchange may be: that of its consumer, or of who goes on alone with what it wrote for several, in every run.
+-- Whose own an exchange may be: that of its consumer, or of the detached reader of what it wrote for several, in every run.
 use Rattle.std.proofs.Common.{◌≡◌, inl, inr, ℕ, true, Option, Some, None, refl, ap, sym, ◌∙◌, subst}
 use Rattle.std.specs.Prelude.{is_some, unwrap_or, ◌&&◌}
 use Rattle.hc_event.specs.Filters.{Opening, opening_in}

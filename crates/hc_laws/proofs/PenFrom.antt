@@ -1,4 +1,4 @@
--- Whoever is bound before and after an entry and has the pen after it had it before, survives the loss of a shared writing, or wrote alone what is lost.
+-- Whoever is bound before and after an entry and is the exclusive writer after it was so before, survives the loss of a shared writing, or wrote alone what is lost.
 use Rattle.std.proofs.Common.{◌≡◌, ◌⊎◌, inl, inr, ℕ, true, false, Option, Some, None, ap, sym, ◌∙◌, subst}
 use Rattle.std.specs.Prelude.{is_some}
 use Rattle.hc_event.specs.declared.event.Event.{Event}
@@ -63,7 +63,7 @@ module _ (limits : Limits) (t : Tables) (now : ℕ) (flaw : Flaw) (s : Sound t) 
       let parts = or_false (loses_in r e.acts) v.is_lost (sym kept.lost_is ∙ fresh_now) in
       first parts.1 parts.0 (sound.first k lo hi how row at (sym (came_kept limits t now flaw s ev goes r lo hi how (ap is_some there)) ∙ came_now))
 
-  -- but for who survives, it had the pen
+  -- but for who survives, it was the exclusive writer
   pub had_pen : (r c : ℕ) (v : Representation) → PenFrom r c v → HasPen t r v c ⊎ ((loses_writing t e r v ≡ true) × (survivor t r v ≡ Some c))
   had_pen r c v (first fresh_was quiet is) = inl (sound.first fresh_was is)
   had_pen r c v (alone lost quiet is) = inl (sound.alone lost is)

@@ -1,4 +1,4 @@
--- Whoever is bound and has nothing due reads with others, has the pen, or has all that it needs.
+-- Whoever is bound and has nothing due reads with others, is the exclusive writer, or has all that it needs.
 use Rattle.std.proofs.Common.{◌≡◌, ◌⊎◌, inl, inr, ℕ, ◌+◌, ◌≤◌, List, [], length, Bool, true, false, Option, Some, None, refl, ap, sym, ◌∙◌, subst, arith}
 use Rattle.std.specs.Prelude.{if◌then◌else◌, is_some, is_none, ◌==◌, ◌&&◌, ◌||◌, not, nat_eq, unwrap_or}
 use Rattle.std.specs.Option.{option_or}
@@ -98,7 +98,7 @@ module _ (limits : Limits) (t : Tables) (now : ℕ) (flaw : Flaw) (s : Sound t) 
 
   -- WHAT A LOSS LEAVES
 
-  -- who goes on alone with it
+  -- its detached reader
   pub alone_is : (r : ℕ) (v p : Representation) → IsKept t e r v p → p.alone ≡ (if loses_in r e.acts && not v.is_lost then goes_on_with t e r v else v.alone)
   alone_is r v p kept = sym (ap (λ (q : Representation). q.alone) kept.is) ∙ by_test (loses_in r e.acts && not v.is_lost)
     where

@@ -1,4 +1,4 @@
--- What is sound stays so at each real entry, but for who goes on alone.
+-- What is sound stays so at each real entry, but for the detached reader.
 use Rattle.std.proofs.Common.{◌≡◌, ℕ, Some, None}
 use Rattle.hc_event.specs.declared.event.Event.{Event}
 use Rattle.hc_rules.specs.declared.room.Limits.{Limits}
@@ -26,7 +26,7 @@ use Rattle.hc_model.proofs.StoreKeeps.{stores_are_kept}
 use Rattle.hc_laws.proofs.ToBeShown.{unshown_kept}
 use Rattle.hc_laws.proofs.UndueKeeps.{undue_kept}
 
--- who goes on alone does so soundly
+-- the detached reader reads on soundly
 abbrev pub GoAlone : Tables → Type 0
 GoAlone t = (r c : ℕ) (v : Representation) (k : Consumer) → t.representation r ≡ Some v → v.alone ≡ Some c → IsBound t r c k → k.due ≡ None → IsAlone t v k
 

@@ -1,4 +1,4 @@
--- What the own exchange of who goes on alone brought since the loss is held, and all else ahead of it is stored: at each entry.
+-- What the own exchange of the detached reader brought since the loss is held, and all else ahead of it is stored: at each entry.
 use Rattle.std.proofs.Common.{◌≡◌, ◌⊎◌, inl, inr, ℕ, ◌+◌, ◌≤◌, ◌<◌, List, [], length, length-append, Bool, true, false, Option, Some, None, refl, ap, sym, ◌∙◌, arith}
 use Rattle.std.specs.Prelude.{is_some, ◌||◌, unwrap_or}
 use Rattle.hc_sparse.specs.Cells.{Cells, inside, written}
@@ -230,7 +230,7 @@ module _ (limits : Limits) (t : Tables) (now : ℕ) (flaw : Flaw) (s : Sound t) 
           or_swap true false h = refl
           or_swap false false h = h
 
-      -- of who has the pen
+      -- of the exclusive writer
       pen_only : is_written t v ≡ false → HasPen t r v c → k.own ≡ Some x → (y : ℕ) → IsAbout t r y → y ≡ x
       pen_only off pen mine y about = by_had (s.writes.had r y v there about)
         where

@@ -1,4 +1,4 @@
--- Who goes on alone with what has no known end reads from the exchange that founded it, which is still open: in every run.
+-- The detached reader of what has no known end reads from the exchange that founded it, which is still open: in every run.
 use Rattle.std.proofs.Common.{◌≡◌, ◌⊎◌, inl, inr, ℕ, List, length, Bool, true, false, Option, Some, None, refl, ap, sym, ◌∙◌, subst, arith}
 use Rattle.std.specs.Prelude.{◌&&◌, ◌++◌, is_some, is_none, nat_eq, unwrap_or, if◌then◌else◌}
 use Rattle.std.specs.Option.{option_or}

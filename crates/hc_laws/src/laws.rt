@@ -159,9 +159,9 @@ pub fn writings_grow()
     ensures { MeasuredAfterEach AreGrowing }
 {}
 
-/// Whoever is bound and has no failure due reads with others from a writing that is on, has the pen, or has
+/// Whoever is bound and has no failure due reads with others from a writing that is on, is the exclusive writer, or has
 /// all that it needs stored; and each open exchange about a representation is that of its writing, or the
-/// own one of who has the pen: after each accepted entry of a run.
+/// own one of the exclusive writer: after each accepted entry of a run.
 pub fn readers_are_served()
     ensures served { KeptByEntries AreServed }
     ensures had { KeptByEntries AreHad }
@@ -241,8 +241,8 @@ pub fn evictions_come_last()
 {}
 
 /// What an entry doesn't speak of stays. Of a representation: its head but for one that updates it and for the end of what
-/// founded it, its writer but for a head that resumes it, its bytes but for a piece of its family, who goes on alone with
-/// it but for its loss; and it goes only for a cause. So do the rows of exchanges, and of consumers at another's event: one
+/// founded it, its writer but for a head that resumes it, its bytes but for a piece of its family, its detached
+/// reader but for its loss; and it goes only for a cause. So do the rows of exchanges, and of consumers at another's event: one
 /// stands where it stood unless it starts over, though a failure may become due to it, or the exchange of a lost writing
 /// its own. What is current for a key stays so unless it goes or another is founded, which is current then.
 pub fn what_is_not_spoken_of_stays()
@@ -291,7 +291,7 @@ pub fn lists_are_in_order()
 {}
 
 /// Where an answer past the store ends is known once it is over without a failure: where all of it came. An open exchange
-/// has yet to bring some of what it promised. Who goes on alone with what has no known end reads, without a failure, from
+/// has yet to bring some of what it promised. The detached reader of what has no known end reads, without a failure, from
 /// the exchange that founded it, which is still open. So in every run.
 pub fn endings_are_known()
     ensures past { OfRuns Endings }
@@ -300,7 +300,7 @@ pub fn endings_are_known()
 
 /// Each open exchange is somebody's, in every run: of no representation, it is the own one of its consumer, which
 /// waits for its head or reads it; else it is that of the writing for several, or the own one of one who is bound to
-/// what it brings, for whom it was opened or who goes on alone. Who owns an open one stands where it may, about
+/// what it brings, for whom it was opened or the detached reader. Who owns an open one stands where it may, about
 /// what nobody is bound to none is open, and what is written is of the key of who asked for it.
 pub fn exchanges_are_somebodys()
     ensures { OfRuns Whose }
@@ -367,7 +367,7 @@ pub fn one_exchange_brings_it()
 {}
 
 /// What an exchange brought stands in the body that it founded or joined, and nothing else there is from it, in every
-/// run. For who goes on alone with what was lost, whether or not a failure is due to it, what its own exchange brought
+/// run. For the detached reader, whether or not a failure is due to it, what its own exchange brought
 /// is held from one position on, up to the front, and else all that came ahead of it is stored: so what it is given
 /// next, where nothing is stored, is what its exchange brought there.
 pub fn losses_are_held()

@@ -90,7 +90,7 @@ pub(crate) fn tell_read_of_many(v: &Vector, to: &mut String) -> Result<(), NoMem
 }
 
 /// Appends a field so often: how often it was done, and before how many of these times, and up to which of
-/// them, the list was modest.
+/// them, the list was within limits.
 pub(crate) fn append_often(
     fields: &mut Fields,
     v: &Vector,
@@ -106,6 +106,6 @@ pub(crate) fn append_often(
             done = done.wrapping_add(1);
         }
     }
-    write!(to, "{done} done, modest before {modest}, up to {last}")?;
+    write!(to, "{done} done, within limits before {modest}, up to {last}")?;
     Ok(())
 }

@@ -18,7 +18,7 @@ use Rattle.hc_model.proofs.PieceKeeps.{some_inj}
 
 -- REQUESTS
 
--- each of them is modest
+-- each of them is within limits
 abbrev EachModest : List Request → Type 0
 EachModest [] = Unit {0}
 EachModest (request ∷ rest) = IsModest request.fields × EachModest rest

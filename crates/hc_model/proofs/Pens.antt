@@ -42,7 +42,7 @@ about_read t r x v s row about = elim (s.writes.had r x v row about) [
 pub none_about : (t : Tables) (r x : ℕ) (v : Representation) → Sound t → t.representation r ≡ Some v → bound t r ≡ [] → IsAbout t r x → ⊥
 none_about t r x v s row nobody about = about_read t r x v s row about nobody
 
--- who has the pen is one
+-- the exclusive writer is one
 pub one_pen : (t : Tables) (r : ℕ) (v : Representation) (c d : ℕ) → Sound t → HasPen t r v c → HasPen t r v d → c ≡ d
 one_pen t r v c d s (sound.first kept a) (sound.first also b) = s.writes.one_first r c d a b
 one_pen t r v c d s (sound.first kept a) (sound.alone lost b) = absurd (let never : false ≡ true = sym kept ∙ lost in cc)
@@ -85,7 +85,7 @@ pub record IsAtHole (t : Tables) (r c hi : ℕ) (v : Representation) (k : Consum
   pub before : offset t k < hi
   pub missing : v.stored (offset t k) ≡ None
 
--- it has the pen
+-- it is the exclusive writer
 pub has_pen : (t : Tables) (r c hi : ℕ) (v : Representation) (k : Consumer) → Sound t → IsAtHole t r c hi v k → HasPen t r v c
 has_pen t r c hi v k s at = elim (s.writes.served r c v k at.row at.is_reader at.none_due) [
   | sound.shares on ↦ absurd (shares_source t r c v k v.writer at.row at.is_reader on refl at.no_source)

@@ -98,7 +98,7 @@ not_held : (c n p : ℕ) (v : Representation) → v.is_lost ≡ true → v.alone
 not_held c n p v lost alone none =
     no_cell v.body p _ (v.body p) refl (cond_none (v.is_lost && is_number v.alone c) (stretch_to v.body v.reach p n) (and_true v.is_lost _ lost (is_same v.alone c alone)) none)
 
--- of what it has the pen of, what isn't stored or held hasn't come
+-- of what it is the exclusive writer of, what isn't stored or held hasn't come
 pub not_come : (t : Tables) (r c hi n : ℕ) (v : Representation) (k : Consumer) → Sound t → IsAtHole t r c hi v k → held_of_lost c (offset t k) n (Some v) ≡ None → HasPen t r v c → v.body (offset t k) ≡ None
 not_come t r c hi n v k s at none (sound.first kept is) = sym ((s.rows r v at.row).store.all_stored kept (offset t k)) ∙ at.missing
 not_come t r c hi n v k s at none (sound.alone lost is) = not_held c n (offset t k) v lost is none

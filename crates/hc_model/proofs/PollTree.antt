@@ -1,4 +1,4 @@
--- What a poll may open: a first hole where nobody reads, or a later hole where it has the pen.
+-- What a poll may open: a first hole where nobody reads, or a later hole where it is the exclusive writer.
 use Rattle.std.proofs.Common.{◌≡◌, ◌≢◌, inl, inr, ℕ, ◌+◌, ◌<◌, List, [], ◌∷◌, Bool, true, false, cond, Option, Some, None, refl, ap, sym, ◌∙◌, subst, arith}
 use Rattle.std.specs.Prelude.{if◌then◌else◌, is_some}
 use Rattle.std.specs.Option.{option_and_then, option_map}

@@ -1,4 +1,4 @@
--- What is stored as runs: as many bytes as positions, up to the last one, rising, each of a number that delivered.
+-- What is stored as runs: as many bytes as positions, up to the last one, ascending, each of a number that delivered.
 use Rattle.std.proofs.Common.{◌≡◌, inl, inr, ℕ, zero, suc, ◌+◌, ◌<◌, ◌≤◌, List, [], ◌∷◌, length, Bool, true, false, cond, Option, Some, None, refl, ap, sym, ◌∙◌, arith, max}
 use Rattle.std.specs.Prelude.{is_some, nat_eq, nat_le, nat_lt, ◌==◌, ◌&&◌, ◌||◌, not, if◌then◌else◌}
 use Rattle.std.specs.List.{list_any, list_all}

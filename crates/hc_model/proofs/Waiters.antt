@@ -343,7 +343,7 @@ module _ (limits : Limits) (t : Tables) (now : ℕ) (flaw : Flaw) (s : Sound t) 
     pub unclosed : (exchange_in ev ≡ Some y → ⊥) → (ev ≡ event.Cancel c → ⊥) → leaves_in c e.acts ≡ false → starts_over t e c k ≡ false → closes_in y e.acts ≡ false
     unclosed other = unclosed_unless (λ refused. refused_by ev (and_right _ _ refused) other)
 
-  -- who waits for a hole of r has nothing due, and has the pen
+  -- who waits for a hole of r has nothing due, and is the exclusive writer
   pub waits_undue : (r c x lo : ℕ) (hi : Option ℕ) (how : BoundBy) (v : Representation) (k : Consumer) (w : Exchange) → IsWaiter t c x k w → k.place ≡ place.Bound r lo hi how → t.representation r ≡ Some v → (k.due ≡ None) × HasPen t r v c
   waits_undue r c x lo hi how v k w is at there = by_had (s.writes.had r x v there (asks_about c x k w is r lo hi how at is.at))
     where

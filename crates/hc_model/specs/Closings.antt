@@ -91,6 +91,6 @@ abbrev pub closes_row : Tables → Entry → ℕ → Option Exchange → Bool
 closes_row t e x None = false
 closes_row t e x (Some w) = must_close t e x w && (exchange_heard t e x e.event w).is_open
 
--- the exchanges that must be closed, by rising number: of those that the event leaves open
+-- the exchanges that must be closed, in ascending order of their numbers: of those that the event leaves open
 unfoldable pub closing : Tables → Entry → List ℕ
 closing t e = filter (λ x. closes_row t e x (t.exchange x)) (reverse t.openings)

@@ -236,7 +236,7 @@ is_awaited t key x None = false
 is_awaited t key x (Some w) =
     bytes_eq key w.request.key && is_headless (Some w) && awaits (t.consumer w.c) x
 
--- these exchanges and this one, by rising number
+-- these exchanges and this one, in ascending order of their numbers
 abbrev pub awaited_and : Tables → List ℕ → Option ℕ → List ℕ
 awaited_and t key also =
     filter (λ x. is_number also x || is_awaited t key x (t.exchange x)) (reverse t.openings)

@@ -15,7 +15,7 @@ pub record Endings (t : Tables) : Type 0 where
   pub unreached : (x : ℕ) (w : Exchange) → t.exchange x ≡ Some w → w.is_open ≡ true →
       is_reached (promised w) (length w.body) ≡ false
 
--- who goes on alone with what has no known end reads, as long as no failure is due to it, from the exchange that founded that,
+-- the detached reader of what has no known end reads, as long as no failure is due to it, from the exchange that founded that,
 -- which is still open
 pub record Unended (t : Tables) : Type 0 where
   pub alone : (r c lo : ℕ) (how : BoundBy) (v : Representation) (k : Consumer) →

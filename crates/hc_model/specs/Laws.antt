@@ -494,13 +494,13 @@ KeptByEntries P =
     (limits : Limits) (t : Tables) (e : Entry) → Sound t → Owners t → Measures t →
     IsOwed limits t e → is_denied e.acts ≡ false → P (after_accepted t e)
 
--- whoever is bound and has nothing due reads with others, has the pen, or needs nothing more
+-- whoever is bound and has nothing due reads with others, is the exclusive writer, or needs nothing more
 abbrev pub AreServed : Tables → Type 0
 AreServed t =
     (r c : ℕ) (v : Representation) (k : Consumer) → t.representation r ≡ Some v →
     IsBound t r c k → k.due ≡ None → IsServed t r v c k
 
--- an open exchange about r is that of its writing, or of the one who has the pen
+-- an open exchange about r is that of its writing, or of the one the exclusive writer
 abbrev pub AreHad : Tables → Type 0
 AreHad t =
     (r x : ℕ) (v : Representation) → t.representation r ≡ Some v → IsAbout t r x →

@@ -1,4 +1,4 @@
--- What exchanges brought of bodies, and what of it is held for who goes on alone with what was lost.
+-- What exchanges brought of bodies, and what of it is held for the detached reader.
 use Rattle.std.specs.Prelude.{◌≡◌, ◌⊎◌, ℕ, ◌-◌, ◌<◌, ◌≤◌, slice_index, take, drop, true, Some, None, is_some}
 use Rattle.hc_sparse.specs.Cells.{Cell}
 use Rattle.hc_model.specs.Exchanges.{base, front, family}
@@ -39,7 +39,7 @@ pub record HoldsOwn (t : Tables) (c : ℕ) (v : Representation) (k : Consumer) :
   pub next : v.stored (offset t k) ≡ None → (n : ℕ) → 0 < n →
       held t c k n ≡ run_of x (offset t k) (take n (drop (offset t k - base w) w.body))
 
--- who goes on alone, also where a failure is due
+-- the detached reader, also where a failure is due
 pub record Losses (t : Tables) : Type 0 where
   pub alone : (r c : ℕ) (v : Representation) (k : Consumer) → t.representation r ≡ Some v →
       v.alone ≡ Some c → IsBound t r c k → HoldsOwn t c v k

@@ -97,19 +97,19 @@ pub data IsFirst (t : Tables) (r c : ℕ) : Type 0 where
 abbrev pub OneFirst : Tables → Type 0
 OneFirst t = (r c d : ℕ) → IsFirst t r c → IsFirst t r d → c ≡ d
 
--- who has the pen of r: the first one, until r is lost, and then who goes on alone
+-- the exclusive writer of r: the first one, until r is lost, and then the detached reader
 pub data HasPen (t : Tables) (r : ℕ) (v : Representation) (c : ℕ) : Type 0 where
   first : v.is_lost ≡ false → IsFirst t r c → HasPen t r v c
   alone : v.is_lost ≡ true → v.alone ≡ Some c → HasPen t r v c
 
--- a bound consumer to which no failure is due reads with others from a writing that is on, has the pen, or needs nothing more
+-- a bound consumer to which no failure is due reads with others from a writing that is on, is the exclusive writer, or needs nothing more
 pub data IsServed (t : Tables) (r : ℕ) (v : Representation) (c : ℕ) (k : Consumer) : Type 0 where
   shares : is_written t v ≡ true → IsServed t r v c k
   writes : HasPen t r v c → IsServed t r v c k
   reads : (hi : ℕ) → hi_of t k.place ≡ Some hi → Covers v.stored (offset t k) hi →
       IsServed t r v c k
 
--- whose an open exchange about r is: the writing's, or that of the one who has the pen, is bound to r and has nothing due
+-- whose an open exchange about r is: the writing's, or the exclusive writer's, is bound to r and has nothing due
 pub data IsHad (t : Tables) (r : ℕ) (v : Representation) (x : ℕ) : Type 0 where
   shared : is_written t v ≡ true → v.writer ≡ Some x → IsHad t r v x
   own : (c : ℕ) (k : Consumer) → IsBound t r c k → own_open t k ≡ Some x → k.due ≡ None →
@@ -163,7 +163,7 @@ pub record IsSoundRepresentation (t : Tables) (r : ℕ) (v : Representation) : T
   pub growing : (x : ℕ) → is_written t v ≡ true → v.writer ≡ Some x →
       (w : Exchange) × IsGrowing t r v x w
 
--- who goes on alone, as long as no failure is due to it, reads up to the front of its exchange, and nothing that isn't stored stands past that
+-- the detached reader, as long as no failure is due to it, reads up to the front of its exchange, and nothing that isn't stored stands past that
 pub record IsAlone (t : Tables) (v : Representation) (k : Consumer) : Type 0 where
   pub x : ℕ
   pub w : Exchange

@@ -14,7 +14,7 @@ may_own (place.Bound r lo hi by) = true
 may_own (place.Direct x) = true
 may_own _ = false
 
--- whose own it may be: that of the consumer for which it was opened, or of who goes on alone with what it wrote for several
+-- whose own it may be: that of the consumer for which it was opened, or of the detached reader of what it wrote for several
 pub data IsOwner (t : Tables) (x : ℕ) (w : Exchange) (c : ℕ) : Type 0 where
   opener : w.c ≡ c → IsOwner t x w c
   alone : (v : Representation) → t.representation (family x w) ≡ Some v → v.alone ≡ Some c →

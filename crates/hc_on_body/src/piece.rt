@@ -182,7 +182,7 @@ pub(crate) fn stored_by<B: Backend>(rows: &Rows<B>, x: u64) -> Option<u64>
 }
 
 /// A piece of which nothing is stored: it is held until it is read. Past the store that is by
-/// whom it was asked for, and of what was lost by who goes on alone with that.
+/// whom it was asked for, and of what was lost by its detached reader.
 pub(crate) fn hold_piece<B: Backend>(
     rows: &mut Rows<B>,
     x: u64,

@@ -198,7 +198,7 @@ fn make_due_to<B: Backend>(rows: &mut Rows<B>, readers: Readers, cause: Cause)
     }
 }
 
-/// Who goes on alone where what is read is lost.
+/// The detached reader where what is read is lost.
 fn alone(readers: Readers) -> Option<u64>
     ensures { result ≡ goes_on readers }
 {

@@ -107,8 +107,8 @@ fn wake_one<B: Backend>(rows: &mut Rows<B>, now: u64, c: u64)
     start_over(&mut rows.consumers, c, now);
 }
 
-/// Closes, by rising number, the exchanges for whose heads those wait who wait for the key, and
-/// the refused one.
+/// Closes, in ascending order of their numbers, the exchanges for whose heads those wait who wait
+/// for the key, and the refused one.
 fn close_awaited<B: Backend>(rows: &mut Rows<B>, key: &Key, refused: Option<u64>, out: &mut Acts)
     requires running { (x : ℕ) → IsToClose rows.old key.now refused x
         → is_open x (table_of rows.old.exchanges) ≡ true }

@@ -228,9 +228,7 @@ fn found_with<B: Backend>(
     let opening = rows.exchanges.opening(x).unwrap();
     rows.keys.make_current(&opening.request.key, x)?;
     rows.exchanges.turn_into(x, Role::Body { r: x });
-    let Ok(_) = rows.exchanges.head(x, response, heard.now) else {
-        unreachable!()
-    };
+    rows.exchanges.head(x, response);
     read_founded(&mut rows.consumers, c, x, shared, lo, hi);
     Ok(())
 }

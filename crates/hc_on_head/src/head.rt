@@ -3,7 +3,7 @@ ghost use Rattle.std.specs.Prelude.{◌≡◌, ◌≤◌, ◌<◌, ◌^◌, ◌&
 ghost use Rattle.std.specs.HashMap.{get};
 ghost use Rattle.hc_event.specs.Acts.{listed, spare};
 ghost use Rattle.hc_event.specs.declared.event.Event.TheVariants.{Head};
-ghost use Rattle.hc_rules.specs.declared.heads.HeadCase.TheVariants.{Validated};
+ghost use Rattle.hc_rules.specs.declared.heads.HeadCase.TheVariants.{Validated, NotValidated};
 ghost use Rattle.hc_rules.specs.HeadCases.{head_case};
 ghost use Rattle.hc_rules.specs.Lengths.{is_bad};
 ghost use Rattle.hc_rules.specs.Refusals.{head_refusal};
@@ -94,6 +94,7 @@ fn take_case<B: Backend>(
         (get nat_eq rows.old.consumers heard.c) (IsInKey rows.old.keys heard.c) }
     requires timely { IsTimely heard.now (table_of rows.old.exchanges heard.x).running }
     requires selected { case ≡ Validated → ⊥ }
+    requires validated { case ≡ NotValidated → ⊥ }
     requires founds { is_founding (Some case) ≡ true → MayFound response.now }
     requires joins { joins_hole case ≡ true → IsAboutKept (shelf_of rows.old.entries)
         (table_of rows.old.exchanges heard.x).running }
@@ -116,7 +117,7 @@ fn take_case<B: Backend>(
         | HeadCase::PassesBy
         | HeadCase::FirstServerError
         | HeadCase::FirstPassesBy => go_past(rows, heard, response, goes),
-        HeadCase::NotValidated | HeadCase::FirstChanged => {
+        HeadCase::FirstChanged => {
             start_anew(rows, heard, response, goes, out);
             Ok(())
         }
@@ -136,7 +137,7 @@ fn take_case<B: Backend>(
             join(rows, heard, response, aim_of(role).unwrap(), out)
         }
         // What a 304 selects was looked at before.
-        HeadCase::Validated => unreachable!(),
+        HeadCase::Validated | HeadCase::NotValidated => unreachable!(),
     }
 }
 

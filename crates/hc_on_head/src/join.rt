@@ -125,9 +125,7 @@ fn bring<B: Backend>(rows: &mut Rows<B>, heard: Heard, response: &Response, r: u
     let consumer = rows.consumers.get(&heard.c).unwrap();
     leave_key(&mut rows.keys, &consumer.request.key, heard.c);
     rows.exchanges.turn_into(heard.x, Role::Body { r });
-    let Ok(_) = rows.exchanges.head(heard.x, response, heard.now) else {
-        unreachable!()
-    };
+    rows.exchanges.head(heard.x, response);
 }
 
 /// The exchange writes the representation for several from now on.

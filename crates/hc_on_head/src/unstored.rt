@@ -186,9 +186,7 @@ pub fn have_answer<B: Backend>(
     let opening = rows.exchanges.opening(heard.x).unwrap();
     let length = length_of(*opening.need, opening.request, response);
     rows.exchanges.turn_into(heard.x, Role::Direct);
-    let Ok(_) = rows.exchanges.head(heard.x, response, heard.now) else {
-        unreachable!()
-    };
+    rows.exchanges.head(heard.x, response);
     let end = end_of(length);
     take_answer(&mut rows.consumers, heard.c, answer, length.base(), end);
 }

@@ -208,7 +208,7 @@ is_it : (o : Option ℕ) (c : ℕ) → is_number o c ≡ true → o ≡ Some c
 is_it None c on = false_true on
 is_it (Some n) c on = let same : n ≡ c = grind (arith, nat_tests) in ap Some same
 
--- what is held for who goes on alone with what was lost, of its own exchange
+-- what is held for the detached reader, of its own exchange
 pub record Holds {B : Type 0} {g : Ghosts B} (r : Rows B g) (t : Tables) (c q : ℕ) (k : Consumer) (v : rows.Consumer) (p : Representation) : Type 0 where
   pub x : ℕ
   pub w : Exchange

@@ -105,7 +105,7 @@ impl Table {
         }
         match event {
             Event::Head { x, response } => {
-                let is_good = self.exchanges.head(*x, response, 1001)?;
+                let is_good = self.exchanges.head(*x, response);
                 write!(to, "good {is_good}: ")?;
             }
             Event::Piece { x, bytes } => {

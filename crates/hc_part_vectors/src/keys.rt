@@ -36,7 +36,6 @@ impl TwoKeys {
     fn ask(&self, key: &Key, v: &Vector, to: &mut String) -> Result<bool, Fault> {
         let c = v.number(1);
         match v.call() {
-            ("key_stand", "wn") => show(&self.table.stand(key, c), to)?,
             ("key_turn_with", "wn") => show(&self.table.turn_with(key, c), to)?,
             ("key_met", "w") => {
                 let met = self.met(key);
@@ -71,7 +70,6 @@ impl TwoKeys {
             ("key_away", "wn") if is_in => table.away(key, c),
             ("key_back", "wn") if is_in => table.back(key, c),
             ("key_leave", "wn") if is_in => table.leave(key, c),
-            ("key_set", "wnn") if is_in => table.set_current(key, v.number(2)),
             ("key_make", "wn") => table.make_current(key, c)?,
             ("key_clear", "w") => table.clear_current(key),
             ("key_all_back", "w") => table.all_back(key),

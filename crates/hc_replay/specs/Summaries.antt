@@ -16,7 +16,7 @@ use Rattle.hc_model.specs.Rows.{Tables}
 use Rattle.hc_model.specs.Runs.{IsOwed}
 use Rattle.hc_model.specs.Tables.{tables}
 
--- the exchanges that are wanted, by rising number
+-- the exchanges that are wanted, in ascending order of their numbers
 pub record AreWanted (t : Tables) (wanted : List ℕ) : Type 0 where
   pub rising : is_sorted itself wanted ≡ true
   pub are : (x : ℕ) → is_among x wanted ≡ is_wanted (t.exchange x)

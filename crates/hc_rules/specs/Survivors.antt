@@ -1,4 +1,4 @@
--- Who goes on alone with a representation that is lost while several write it together.
+-- The detached reader of a representation that is lost while several write it together.
 use Rattle.std.specs.Prelude.{ℕ, ◌==◌, Bool, List, map, filter, Option}
 use Rattle.hc_rules.specs.declared.survivor.Member.{Member}
 use Rattle.hc_rules.specs.Least.{least}

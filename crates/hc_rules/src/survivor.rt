@@ -1,4 +1,4 @@
-//! Who goes on alone with a representation that is lost while several write it together.
+//! The detached reader of a representation that is lost while several write it together.
 ghost use Rattle.std.specs.Prelude.{◌≡◌};
 ghost use Rattle.hc_rules.specs.Survivors.{survivor_at};
 

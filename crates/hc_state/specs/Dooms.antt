@@ -67,7 +67,7 @@ AreAtMost n P =
     (xs : List ℕ) → is_sorted itself xs ≡ true → ((x : ℕ) → is_among x xs ≡ true → P x) →
     length xs ≤ n
 
--- The ones to close are closed, by rising number.
+-- The ones to close are closed, in ascending order of their numbers.
 pub record Closes {B : Type 0} {g : Ghosts B} (r : Rows B g) (after : Exchanges) (key : List ℕ) (refused : Option ℕ) (before out : List Act) : Type 0 where
   pub xs : List ℕ
   pub rising : is_sorted itself xs ≡ true

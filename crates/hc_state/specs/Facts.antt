@@ -20,7 +20,7 @@ use Rattle.hc_model.specs.Parts.{Parts}
 use Rattle.hc_model.specs.Sizes.{Sizes}
 use Rattle.hc_model.specs.StoredHeads.{StoredHeads, Tags}
 
--- whoever has the pen of a representation, with no failure due, has all of it from where it stands
+-- the exclusive writer of a representation, with no failure due, has all of it from where it stands
 -- up to where its exchange goes on
 pub record HasCome (t : Tables) : Type 0 where
   pub covered : (r c x : ℕ) (v : Representation) (k : Consumer) (w : Exchange) →

@@ -42,7 +42,7 @@ heir_of consumers (Some k) =
 
 -- WHAT BECOMES OF THEM
 
--- the heir has the exchange for its own, and to each other this failure is due
+-- the detached reader has the exchange for its own, and to each other this failure is due
 abbrev pub parted : Option ℕ → ℕ → Cause → ℕ → Consumer → Consumer
 parted heir x why c k = if is_number heir c then with_own x k else with_due why k
 

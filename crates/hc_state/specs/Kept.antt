@@ -112,7 +112,7 @@ unstored t x w v (Some k) =
     if is_bound_place (family x w) k.place && is_number k.own x
     then drop (first_lacking t w v k - base w) w.body else []
 
--- for who goes on alone with what was lost
+-- for the detached reader
 abbrev pub held_alone : Tables → ℕ → Exchange → Representation → Option ℕ → List ℕ
 held_alone t x w v None = []
 held_alone t x w v (Some c) = unstored t x w v (t.consumer c)

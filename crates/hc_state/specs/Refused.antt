@@ -49,7 +49,7 @@ pub record RefusesPiece {B : Type 0} {g : Ghosts B} (r u : Rows B g) (now x q : 
 
 -- WHO GOES ON
 
--- who goes on alone with what was lost
+-- the detached reader
 pub record GoesOn (t : Tables) (x : ℕ) (w : Exchange) (v : Representation) : Type 0 where
   pub c : ℕ
   pub k : rows.Consumer

@@ -207,8 +207,8 @@ pub fn disown(consumers: &mut HashMap<u64, Consumer>, c: u64)
     }
 }
 
-/// What these read together is lost: the heir, if there is one, goes on with the exchange, and to
-/// each other this failure is due, unless another one is.
+/// What these read together is lost: the detached reader, if there is one, goes on with the
+/// exchange, and to each other this failure is due, unless another one is.
 pub fn part(
     consumers: &mut HashMap<u64, Consumer>,
     cs: &[u64],

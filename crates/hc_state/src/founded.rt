@@ -46,10 +46,8 @@ pub fn founded_head(
     let mut fields = response.fields.copy()?;
     fields.remove(b"content-range");
     fields.remove(b"content-length");
-    let _count = fields.len();
     let joining = joining_tag(fields.allocator(), &fields)?;
     let vary_fields = varied(&request.fields, &response.fields)?;
-    let _varied = vary_fields.len();
     Ok(StoredHead {
         kind,
         total,

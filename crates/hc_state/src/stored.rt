@@ -22,7 +22,6 @@ pub fn renewed(
         (λ new. plain new ≡ renewed requested answered from.now (plain head)) }
 {
     let fields = update(&head.fields, from)?;
-    let _count = fields.len();
     Ok(StoredHead {
         requested,
         answered,

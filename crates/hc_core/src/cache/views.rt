@@ -65,7 +65,7 @@ impl<B: Backend> Cache<B> {
         }
     }
 
-    /// The exchanges that are wanted, by rising number.
+    /// The exchanges that are wanted, in ascending order of their numbers.
     pub fn wanted(&self) -> &[u64]
         ensures rising { is_sorted itself result.now ≡ true }
         ensures wanted { (contents : Contents) (h : History) → StandsFor self.now contents h

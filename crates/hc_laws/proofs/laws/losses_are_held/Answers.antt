@@ -1,4 +1,4 @@
--- What is held for who goes on alone.
+-- What is held for the detached reader.
 use Rattle.hc_laws.proofs.BringsRuns.{brings_in_runs}
 use Rattle.hc_laws.proofs.LossRuns.{losses_in_runs}
 use Rattle.hc_laws.proofs.laws.losses_are_held.Goals as goal

@@ -76,28 +76,28 @@ module _ (left : List ℕ) (out diag : Option (List ℕ)) (after : Streams) wher
   module _ (words : List (List ℕ)) where
     spelled_keeps : (items : List Item) (s : Status) → IsCommand words command.Replay → Spells 0 left items → Keeps words start after s → IsFaultless s → EndsWith (code_of s) 0
     spelled_keeps items s is spells (program.replayed word did) sound = spelled_replays items s spells did sound
-    spelled_keeps items s is spells (program.generated seed count word did aside) sound = absurd (not_both words seed count is word)
+    spelled_keeps items s is spells (program.generated seed count word did fallback) sound = absurd (not_both words seed count is word)
     spelled_keeps items _ is spells (program.told none same said) sound = absurd (none command.Replay is)
     spelled_keeps items _ is spells (program.untold none same said) sound = absurd (none command.Replay is)
     spelled_keeps items _ is spells (program.wanting_usage none same said) sound = absurd (none command.Replay is)
 
     refused_keeps : (r : Refused) (s : Status) → IsCommand words command.Replay → refusal_of 0 left ≡ Some r → Keeps words start after s → IsFaultless s → EndsWith (code_of s) 1
     refused_keeps r s is refused (program.replayed word did) sound = refused_replays r s refused did sound
-    refused_keeps r s is refused (program.generated seed count word did aside) sound = absurd (not_both words seed count is word)
+    refused_keeps r s is refused (program.generated seed count word did fallback) sound = absurd (not_both words seed count is word)
     refused_keeps r _ is refused (program.told none same said) sound = absurd (none command.Replay is)
     refused_keeps r _ is refused (program.untold none same said) sound = absurd (none command.Replay is)
     refused_keeps r _ is refused (program.wanting_usage none same said) sound = absurd (none command.Replay is)
 
     generated_keeps : (seed count : ℕ) (s : Status) → IsCommand words (command.Generate seed count) → Keeps words start after s → IsFaultless s → EndsWith (code_of s) 0
     generated_keeps seed count s is (program.replayed word did) sound = absurd (not_both words seed count word is)
-    generated_keeps seed count s is (program.generated a b word did aside) sound = made a b s did sound
+    generated_keeps seed count s is (program.generated a b word did fallback) sound = made a b s did sound
     generated_keeps seed count _ is (program.told none same said) sound = absurd (none (command.Generate seed count) is)
     generated_keeps seed count _ is (program.untold none same said) sound = absurd (none (command.Generate seed count) is)
     generated_keeps seed count _ is (program.wanting_usage none same said) sound = absurd (none (command.Generate seed count) is)
 
     usage_keeps : (s : Status) → IsNoCommand words → Keeps words start after s → IsFaultless s → EndsWith (code_of s) 2
     usage_keeps s none (program.replayed word did) sound = absurd (none command.Replay word)
-    usage_keeps s none (program.generated a b word did aside) sound = absurd (none (command.Generate a b) word)
+    usage_keeps s none (program.generated a b word did fallback) sound = absurd (none (command.Generate a b) word)
     usage_keeps _ none (program.told other same said) sound = inl refl
     usage_keeps _ none (program.untold other same said) sound = absurd sound
     usage_keeps _ none (program.wanting_usage other same said) sound = inr refl

@@ -9,7 +9,7 @@ use Rattle.hc_sched.specs.declared.schedule.Ended.TheVariants as ended
 use Rattle.hc_sched.specs.declared.schedule.Refused.{Refused}
 use Rattle.hc_sched.specs.declared.schedule.Timed.{Timed}
 use Rattle.hc_driver.specs.Stepping.{History}
-use Rattle.hc_driver.specs.Endings.{brought}
+use Rattle.hc_driver.specs.Endings.{events_from}
 use Rattle.hc_model.specs.Entries.{no_contents}
 use Rattle.hc_model.specs.Runs.{IsRun}
 use Rattle.hc_core.specs.declared.cache.Cache.{Cache}
@@ -89,7 +89,7 @@ module _ {B : Type 0} {g : Rattle.hc_store.specs.declared.backend.Backend.Ghosts
     record Stops (r : Refused) : Type 0 where
       text : List ℕ
       refused : IsRefusedIn left left' text r
-      report : ReportsAll (brought 0 text) out out'
+      report : ReportsAll (events_from 0 text) out out'
 
     same_refusal : (r q : Refused) → ended.Refused r ≡ ended.Refused q → r ≡ q
     same_refusal r q is = cc

@@ -6,7 +6,7 @@ use Rattle.hc_sched.specs.declared.schedule.Refused.{Refused}
 use Rattle.hc_sched.specs.declared.schedule.Timed.{Timed}
 use Rattle.hc_sched.specs.Laws.{refusal_of}
 use Rattle.hc_sched.specs.Schedule.{Item, Spells, events_of}
-use Rattle.hc_driver.specs.Endings.{IsRefused, brought}
+use Rattle.hc_driver.specs.Endings.{IsRefused, events_from}
 use Rattle.hc_driver.specs.Stepping.{History, events_in, report_after}
 use Rattle.hc_model.specs.Entries.{no_contents}
 use Rattle.hc_model.specs.Reads.{ReadsWhole}
@@ -67,26 +67,26 @@ pub data Replays (before after : Streams) : Status → Type 0 where
       after.diag ≡ before.diag → Replays before after status.Done
   -- the report of what came before the refused line was taken, and the line was said
   refused : (text : List ℕ) (refused : Refused) → IsRefusedIn before.left after.left text refused →
-      ReportsAll (brought 0 text) before.out after.out →
+      ReportsAll (events_from 0 text) before.out after.out →
       Takes before.diag after.diag (refusal_text refused) → Replays before after status.Refused
   -- the report of the whole items was taken of what could be read
   unreadable : (text : List ℕ) → Gives before.left after.left text →
-      ReportsAll (brought 0 text) before.out after.out → after.diag ≡ before.diag →
+      ReportsAll (events_from 0 text) before.out after.out → after.diag ≡ before.diag →
       Replays before after status.SourceFailed
   -- some first part of the report was taken
   unwritten : (text : List ℕ) → Gives before.left after.left text →
-      ReportsSome (brought 0 text) before.out after.out → after.diag ≡ before.diag →
+      ReportsSome (events_from 0 text) before.out after.out → after.diag ≡ before.diag →
       Replays before after status.SinkFailed
   wanting : (text : List ℕ) → Gives before.left after.left text →
-      ReportsSome (brought 0 text) before.out after.out → after.diag ≡ before.diag →
+      ReportsSome (events_from 0 text) before.out after.out → after.diag ≡ before.diag →
       Replays before after status.NoMemory
   -- the report was taken, and some first part of what is to be said of the refused line
   unsaid : (text : List ℕ) (refused : Refused) → IsRefusedIn before.left after.left text refused →
-      ReportsAll (brought 0 text) before.out after.out →
+      ReportsAll (events_from 0 text) before.out after.out →
       TakesFront before.diag after.diag (refusal_text refused) → Replays before after status.SinkFailed
   wanting_word : (text : List ℕ) (refused : Refused) →
       IsRefusedIn before.left after.left text refused →
-      ReportsAll (brought 0 text) before.out after.out →
+      ReportsAll (events_from 0 text) before.out after.out →
       TakesFront before.diag after.diag (refusal_text refused) → Replays before after status.NoMemory
   -- nothing was read
   wanting_all : after ≡ before → Replays before after status.NoMemory
@@ -106,7 +106,7 @@ pub data Generates (seed count : ℕ) (out out' : Option (List ℕ)) : Status �
 -- THE PROGRAM
 
 -- the input wasn't read, and nothing was said
-pub record IsAside (before after : Streams) : Type 0 where
+pub record IsFallback (before after : Streams) : Type 0 where
   pub unread : after.left ≡ before.left
   pub unsaid : after.diag ≡ before.diag
 
@@ -120,7 +120,7 @@ pub data Keeps (words : List (List ℕ)) (before after : Streams) : Status → T
   replayed : {s : Status} → IsCommand words command.Replay → Replays before after s →
       Keeps words before after s
   generated : {s : Status} (seed count : ℕ) → IsCommand words (command.Generate seed count) →
-      Generates seed count before.out after.out s → IsAside before after →
+      Generates seed count before.out after.out s → IsFallback before after →
       Keeps words before after s
   told : IsNoCommand words → IsUntouched before after →
       Takes before.diag after.diag usage_text → Keeps words before after status.Usage

@@ -6,16 +6,16 @@ use Rattle.hc_sched.specs.declared.schedule.SchedRefusal.{SchedRefusal}
 use Rattle.hc_sched.specs.declared.schedule.SchedRefusal.TheVariants as why
 
 -- the number and the name of a refusal
-abbrev pub named : SchedRefusal → List ℕ
-named why.BadLine = codes ": 1 BadLine" ++ 10 ∷ []
-named why.LineTooLong = codes ": 2 LineTooLong" ++ 10 ∷ []
-named why.BadTarget = codes ": 3 BadTarget" ++ 10 ∷ []
-named (why.MomentBack last) = codes ": 4 MomentBack" ++ 10 ∷ []
-named why.CutShort = codes ": 5 CutShort" ++ 10 ∷ []
+abbrev pub refusal_line : SchedRefusal → List ℕ
+refusal_line why.BadLine = codes ": 1 BadLine" ++ 10 ∷ []
+refusal_line why.LineTooLong = codes ": 2 LineTooLong" ++ 10 ∷ []
+refusal_line why.BadTarget = codes ": 3 BadTarget" ++ 10 ∷ []
+refusal_line (why.MomentBack last) = codes ": 4 MomentBack" ++ 10 ∷ []
+refusal_line why.CutShort = codes ": 5 CutShort" ++ 10 ∷ []
 
 -- the text for a refused line
 abbrev pub refusal_text : Refused → List ℕ
-refusal_text refused = codes "line " ++ decimal refused.line ++ named refused.why
+refusal_text refused = codes "line " ++ decimal refused.line ++ refusal_line refused.why
 
 abbrev pub usage_text : List ℕ
 usage_text = codes "usage: replay | generate SEED COUNT" ++ 10 ∷ []

@@ -1,7 +1,7 @@
 //! What is said on the diagnostics.
 ghost use Rattle.std.specs.Prelude.{◌≡◌, ◌++◌, OnOk, IsErrOf};
 ghost use Rattle.hc_io.specs.Sink.{Takes, TakesFront, HasSinkCause};
-ghost use Rattle.hc_app.specs.Texts.{refusal_text, named, usage_text};
+ghost use Rattle.hc_app.specs.Texts.{refusal_text, refusal_line, usage_text};
 
 use hc_io::{Sink, SinkError, write_all};
 use hc_sched::{Refused, SchedRefusal};
@@ -38,7 +38,7 @@ fn write_refusal(refused: Refused, to: &mut Vec<u8>) -> Result<(), NoMemory>
 
 /// The number and the name of a refusal.
 fn named(why: SchedRefusal) -> &'static [u8]
-    ensures { result.now ≡ named why }
+    ensures { result.now ≡ refusal_line why }
 {
     match why {
         SchedRefusal::BadLine => b": 1 BadLine\n",

@@ -1,7 +1,7 @@
 -- Nothing is yet at the places of the pieces that are to come.
 use Rattle.std.proofs.Common.{◌≡◌, ℕ, ◌+◌, ◌*◌, ◌<◌, ◌≤◌, List, length, None, inl, inr, ap, ◌∙◌, arith}
 use Rattle.std.proofs.lemmas.Bool.Decides.{nat_tests}
-use Rattle.hc_sparse.specs.Cells.{Cells, AreAbsent, written}
+use Rattle.hc_sparse.specs.Cells.{Cells, AreAbsent, cells_with}
 use Rattle.hc_sparse.proofs.CellLemmas.{inside-cases, inside-past}
 use Rattle.hc_bench.specs.declared.order.Order.{Order}
 use Rattle.hc_bench.specs.declared.order.Order.TheVariants.{Forward, Backward, Alternate}
@@ -23,7 +23,7 @@ abbrev pub AwaitsRest : Order → ℕ → ℕ → Cells → Type 0
 AwaitsRest order count k cells = (j : ℕ) → k ≤ j → j < count → AreAbsent cells (1460 * place_of order j count) (1460 * place_of order j count + 1460)
 
 pub AwaitsRest-more : (order : Order) (count k x : ℕ) (piece : List ℕ) (old new : Cells) → length piece ≡ 1460 → k < count → AwaitsRest order count k old
-    → new ≡ written (1460 * place_of order k count) x piece old → AwaitsRest order count (k + 1) new
+    → new ≡ cells_with (1460 * place_of order k count) x piece old → AwaitsRest order count (k + 1) new
 AwaitsRest-more order count k x piece old new len more rest is = λ j low high p from past.
     ap (λ (f : Cells). f p) is ∙
     elim (inside-cases (1460 * place_of order k count) (length piece) p) [
@@ -37,5 +37,5 @@ AwaitsRest-more order count k x piece old new len more rest is = λ j low high p
     ]
 
 -- nothing is from a position on, once a piece that ends there was put
-pub absent-past : (at x from p : ℕ) (piece : List ℕ) (old new : Cells) → at + length piece ≤ p → old p ≡ None → new ≡ written at x piece old → new p ≡ None
+pub absent-past : (at x from p : ℕ) (piece : List ℕ) (old new : Cells) → at + length piece ≤ p → old p ≡ None → new ≡ cells_with at x piece old → new p ≡ None
 absent-past at x from p piece old new past none is = ap (λ (f : Cells). f p) is ∙ rw (inside-past at (length piece) p past) none

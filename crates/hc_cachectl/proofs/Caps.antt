@@ -6,7 +6,7 @@ use Rattle.std.specs.List.{find, list_all, list_any, after_first}
 use Rattle.std.specs.Char.{is_ascii_digit}
 use Rattle.std.proofs.lemmas.Bool.{cases_Bool}
 use Rattle.hc_text.specs.Elements.{quote}
-use Rattle.hc_cachectl.specs.Seconds.{most_seconds, plain_seconds, unquoted, seconds_of}
+use Rattle.hc_cachectl.specs.Seconds.{most_seconds, plain_seconds, quoted_content, seconds_of}
 use Rattle.hc_cachectl.specs.Directives.{is_directive, is_equals, argument_of, seconds_in, staleness_in, directives_of, IsCapped}
 
 abbrev IsSmall : Option ℕ → Type 0
@@ -26,7 +26,7 @@ quoted_small (Some ds) = plain_small ds
 argument_small : (text : List ℕ) → IsSmall (seconds_of text)
 argument_small [] = tt
 argument_small (b ∷ text) = elim (cases_Bool (b == quote)) [
-  | inl passes ↦ rw passes (quoted_small (unquoted text))
+  | inl passes ↦ rw passes (quoted_small (quoted_content text))
   | inr fails ↦ rw fails (plain_small (b ∷ text))
 ]
 

@@ -10,7 +10,7 @@ use Rattle.std.proofs.lemmas.Option.{slice_get_within, get_or_from_slice_get}
 use Rattle.hc_text.specs.Elements.{elements}
 use Rattle.hc_cachectl.specs.Seconds.{most_seconds, seconds_of}
 use Rattle.hc_cachectl.specs.Directives.{is_directive, is_equals, seconds_in, staleness_in, directives_of}
-use Rattle.hc_cachectl.specs.Found.{argument_in, asked, present, nothing_found, with_element, with_elements, told_or, staleness_of, said_by}
+use Rattle.hc_cachectl.specs.Found.{argument_in, directive_argument, present, nothing_found, with_element, with_elements, seconds_or, staleness_of, said_by}
 use Rattle.hc_cachectl.specs.declared.element.Argument.{Argument}
 use Rattle.hc_cachectl.specs.declared.found.Found.{Found}
 
@@ -30,7 +30,7 @@ one_more found next values i value is next_is =
 abbrev first : List ℕ → List (List ℕ) → Option Argument
 first name es = option_map argument_in (find (is_directive name) es)
 
-first-more : (name e : List ℕ) (es : List (List ℕ)) (found : Option Argument) → option_or (option_or found (asked name e)) (first name es) ≡ option_or found (first name (e ∷ es))
+first-more : (name e : List ℕ) (es : List (List ℕ)) (found : Option Argument) → option_or (option_or found (directive_argument name e)) (first name es) ≡ option_or found (first name (e ∷ es))
 first-more name e es None = elim (cases_Bool (is_directive name e)) [
   | inl passes ↦ rw passes refl
   | inr fails ↦ rw fails refl
@@ -69,17 +69,17 @@ folded found (e ∷ es) =
     ) refl in
     folded (with_element found e) es ∙ more
 
-told_or-present : (d : ℕ) (seconds : Option ℕ) → told_or d (present seconds) ≡ unwrap_or seconds d
+told_or-present : (d : ℕ) (seconds : Option ℕ) → seconds_or d (present seconds) ≡ unwrap_or seconds d
 told_or-present d None = refl
 told_or-present d (Some n) = refl
 
-told_or-argument : (d : ℕ) (e : List ℕ) → told_or d (argument_in e) ≡ unwrap_or (seconds_in e) d
+told_or-argument : (d : ℕ) (e : List ℕ) → seconds_or d (argument_in e) ≡ unwrap_or (seconds_in e) d
 told_or-argument d e = elim (cases_Bool (list_any is_equals e)) [
   | inl passes ↦ rw passes (told_or-present d (seconds_of (after_first is_equals e)))
   | inr fails ↦ rw fails refl
 ]
 
-told : (d : ℕ) (o : Option (List ℕ)) → option_map (told_or d) (option_map argument_in o) ≡ option_map (λ e. unwrap_or (seconds_in e) d) o
+told : (d : ℕ) (o : Option (List ℕ)) → option_map (seconds_or d) (option_map argument_in o) ≡ option_map (λ e. unwrap_or (seconds_in e) d) o
 told d None = refl
 told d (Some e) = ap Some (told_or-argument d e)
 

@@ -7,7 +7,7 @@ use Rattle.std.specs.Str.Parse.{digits_value_after}
 use Rattle.std.proofs.lemmas.Bool.{cases_lt, ne_eqb}
 use Rattle.std.proofs.lemmas.List.{drop_more, drop_all}
 use Rattle.hc_text.specs.Elements.{quote, backslash}
-use Rattle.hc_cachectl.specs.Seconds.{most_seconds, plain_seconds, unquoted}
+use Rattle.hc_cachectl.specs.Seconds.{most_seconds, plain_seconds, quoted_content}
 
 -- one more digit
 abbrev pub more : Option ℕ → ℕ → ℕ
@@ -42,10 +42,10 @@ said_is (Some ds) = plain_is ds
 
 -- the seconds of what a quoted string says behind those before
 abbrev pub quoted_after : Option ℕ → List ℕ → Option ℕ
-quoted_after seconds text = option_and_then (seconds_after seconds) (unquoted text)
+quoted_after seconds text = option_and_then (seconds_after seconds) (quoted_content text)
 
-pub quoted_is : (text : List ℕ) → quoted_after None text ≡ option_and_then plain_seconds (unquoted text)
-quoted_is text = said_is (unquoted text)
+pub quoted_is : (text : List ℕ) → quoted_after None text ≡ option_and_then plain_seconds (quoted_content text)
+quoted_is text = said_is (quoted_content text)
 
 -- a byte that is said
 said-digit : (seconds : Option ℕ) (d : ℕ) (text : Option (List ℕ)) → is_ascii_digit d ≡ true → option_and_then (seconds_after seconds) (option_map (λ ds. d ∷ ds) text) ≡ option_and_then (seconds_after (Some (more seconds d))) text
@@ -66,15 +66,15 @@ SaysNext text i at = ((get_or text i 0 ≡ backslash) × (at ≡ i + 1)) ⊎ ((g
 module _ (seconds : Option ℕ) (text : List ℕ) (i at : ℕ) (lt : i + 1 < length text) (no_end : get_or text i 0 ≢ quote) where
   pub next_digit : SaysNext text i at → is_ascii_digit (get_or text at 0) ≡ true → quoted_after seconds (drop i text) ≡ quoted_after (Some (more seconds (get_or text at 0))) (drop (at + 1) text)
   next_digit (inl taken) digit =
-      rw (taken.1, front text i lt, ne_eqb (get_or text i 0) quote no_end, taken.0) (said-digit seconds (get_or text (i + 1) 0) (unquoted (drop (i + 1 + 1) text)) (rw (← taken.1) digit))
+      rw (taken.1, front text i lt, ne_eqb (get_or text i 0) quote no_end, taken.0) (said-digit seconds (get_or text (i + 1) 0) (quoted_content (drop (i + 1 + 1) text)) (rw (← taken.1) digit))
   next_digit (inr plain) digit =
-      rw (plain.1, front text i lt, ne_eqb (get_or text i 0) quote no_end, ne_eqb (get_or text i 0) backslash plain.0, drop_more text (i + 1) 0 lt) (said-digit seconds (get_or text i 0) (unquoted (get_or text (i + 1) 0 ∷ drop (i + 1 + 1) text)) (rw (← plain.1) digit))
+      rw (plain.1, front text i lt, ne_eqb (get_or text i 0) quote no_end, ne_eqb (get_or text i 0) backslash plain.0, drop_more text (i + 1) 0 lt) (said-digit seconds (get_or text i 0) (quoted_content (get_or text (i + 1) 0 ∷ drop (i + 1 + 1) text)) (rw (← plain.1) digit))
 
   pub next_other : SaysNext text i at → is_ascii_digit (get_or text at 0) ≡ false → quoted_after seconds (drop i text) ≡ None
   next_other (inl taken) digit =
-      rw (front text i lt, ne_eqb (get_or text i 0) quote no_end, taken.0) (said-other seconds (get_or text (i + 1) 0) (unquoted (drop (i + 1 + 1) text)) (rw (← taken.1) digit))
+      rw (front text i lt, ne_eqb (get_or text i 0) quote no_end, taken.0) (said-other seconds (get_or text (i + 1) 0) (quoted_content (drop (i + 1 + 1) text)) (rw (← taken.1) digit))
   next_other (inr plain) digit =
-      rw (front text i lt, ne_eqb (get_or text i 0) quote no_end, ne_eqb (get_or text i 0) backslash plain.0) (said-other seconds (get_or text i 0) (unquoted (get_or text (i + 1) 0 ∷ drop (i + 1 + 1) text)) (rw (← plain.1) digit))
+      rw (front text i lt, ne_eqb (get_or text i 0) quote no_end, ne_eqb (get_or text i 0) backslash plain.0) (said-other seconds (get_or text i 0) (quoted_content (get_or text (i + 1) 0 ∷ drop (i + 1 + 1) text)) (rw (← plain.1) digit))
 
 pub closed_early : (seconds : Option ℕ) (text : List ℕ) (i : ℕ) → i + 1 < length text → get_or text i 0 ≡ quote → quoted_after seconds (drop i text) ≡ None
 closed_early seconds text i lt is = rw (front text i lt, is) refl

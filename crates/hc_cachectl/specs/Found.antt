@@ -18,8 +18,8 @@ abbrev pub argument_in : List ℕ → Argument
 argument_in element = if list_any is_equals element then present (seconds_in element) else Absent
 
 -- the argument of an element that is the directive of this name
-abbrev pub asked : List ℕ → List ℕ → Option Argument
-asked name element = if is_directive name element then Some (argument_in element) else None
+abbrev pub directive_argument : List ℕ → List ℕ → Option Argument
+directive_argument name element = if is_directive name element then Some (argument_in element) else None
 
 abbrev pub nothing_found : Found
 nothing_found = record {
@@ -35,9 +35,9 @@ nothing_found = record {
 -- with one more element
 abbrev pub with_element : Found → List ℕ → Found
 with_element found e = record {
-  max_age = option_or found.max_age (asked (codes "max-age") e);
-  min_fresh = option_or found.min_fresh (asked (codes "min-fresh") e);
-  max_stale = option_or found.max_stale (asked (codes "max-stale") e);
+  max_age = option_or found.max_age (directive_argument (codes "max-age") e);
+  min_fresh = option_or found.min_fresh (directive_argument (codes "min-fresh") e);
+  max_stale = option_or found.max_stale (directive_argument (codes "max-stale") e);
   no_store = found.no_store || is_directive (codes "no-store") e;
   no_cache = found.no_cache || is_directive (codes "no-cache") e;
   must_revalidate = found.must_revalidate || is_directive (codes "must-revalidate") e;
@@ -50,10 +50,10 @@ with_elements found [] = found
 with_elements found (e ∷ es) = with_elements (with_element found e) es
 
 -- the seconds of an argument, or these where it tells none
-abbrev pub told_or : ℕ → Argument → ℕ
-told_or other Absent = other
-told_or other Unreadable = other
-told_or other (Seconds n) = n
+abbrev pub seconds_or : ℕ → Argument → ℕ
+seconds_or other Absent = other
+seconds_or other Unreadable = other
+seconds_or other (Seconds n) = n
 
 abbrev pub staleness_of : Argument → Option (Option ℕ)
 staleness_of Absent = Some None
@@ -63,11 +63,11 @@ staleness_of (Seconds n) = Some (Some n)
 -- the directives that were found
 abbrev pub said_by : Found → Directives
 said_by found = record {
-  max_age = option_map (told_or 0) found.max_age;
+  max_age = option_map (seconds_or 0) found.max_age;
   no_store = found.no_store;
   no_cache = found.no_cache;
   must_revalidate = found.must_revalidate;
   only_if_cached = found.only_if_cached;
-  min_fresh = option_map (told_or most_seconds) found.min_fresh;
+  min_fresh = option_map (seconds_or most_seconds) found.min_fresh;
   max_stale = option_and_then staleness_of found.max_stale;
 }

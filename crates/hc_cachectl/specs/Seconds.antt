@@ -23,15 +23,15 @@ plain_seconds (d ∷ ds) =
 
 -- What a quoted string says, from behind its opening quote up to the quote that closes it, where that is the last byte.
 -- A backslash stands before a byte that is taken as it is.
-abbrev pub unquoted : List ℕ → Option (List ℕ)
-unquoted [] = None
-unquoted (b ∷ []) = if b == quote then Some [] else None
-unquoted (b ∷ c ∷ text) =
+abbrev pub quoted_content : List ℕ → Option (List ℕ)
+quoted_content [] = None
+quoted_content (b ∷ []) = if b == quote then Some [] else None
+quoted_content (b ∷ c ∷ text) =
     if b == quote then None else (
-    if b == backslash then option_map (λ said. c ∷ said) (unquoted text)
-    else option_map (λ said. b ∷ said) (unquoted (c ∷ text)))
+    if b == backslash then option_map (λ said. c ∷ said) (quoted_content text)
+    else option_map (λ said. b ∷ said) (quoted_content (c ∷ text)))
 
 -- the seconds that an argument tells, itself or within quotes
 abbrev pub seconds_of : List ℕ → Option ℕ
 seconds_of [] = None
-seconds_of (b ∷ text) = if b == quote then option_and_then plain_seconds (unquoted text) else plain_seconds (b ∷ text)
+seconds_of (b ∷ text) = if b == quote then option_and_then plain_seconds (quoted_content text) else plain_seconds (b ∷ text)

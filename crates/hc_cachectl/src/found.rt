@@ -4,7 +4,7 @@ ghost use Rattle.std.specs.Option.{option_map, option_and_then};
 ghost use Rattle.http_header.specs.Token.{lowercase};
 ghost use Rattle.hc_text.specs.Elements.{elements};
 ghost use Rattle.hc_fields.specs.FieldElements.{elements_in};
-ghost use Rattle.hc_cachectl.specs.Found.{with_element, with_elements, nothing_found, told_or, staleness_of, said_by};
+ghost use Rattle.hc_cachectl.specs.Found.{with_element, with_elements, nothing_found, seconds_or, staleness_of, said_by};
 
 use crate::directives::Directives;
 use crate::element::{Argument, Directive};
@@ -87,7 +87,7 @@ impl Found {
 
 /// The seconds of an argument, or these where it tells none.
 fn seconds_or(argument: Option<Argument>, other: u64) -> Option<u64>
-    ensures { result ≡ option_map (told_or other) argument }
+    ensures { result ≡ option_map (seconds_or other) argument }
 {
     match argument? {
         Argument::Seconds(n) => Some(n),

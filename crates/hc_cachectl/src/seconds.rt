@@ -2,7 +2,7 @@
 ghost use Rattle.std.specs.Prelude.{◌≡◌, ◌≤◌, ◌+◌, ◌*◌, min, true, false, IfSome, MatchOption};
 ghost use Rattle.std.specs.Char.{is_ascii_digit, digit_value};
 ghost use Rattle.std.specs.Option.{option_and_then};
-ghost use Rattle.hc_cachectl.specs.Seconds.{GrowsBy, most_seconds, plain_seconds, unquoted, seconds_of};
+ghost use Rattle.hc_cachectl.specs.Seconds.{GrowsBy, most_seconds, plain_seconds, quoted_content, seconds_of};
 
 /// More seconds count as this many (RFC 9111 section 1.2.2).
 pub(crate) const MOST: u64 = 1 << 31;
@@ -32,7 +32,7 @@ pub fn read_delta_seconds(digits: &[u8]) -> Option<u64>
 
 /// The seconds that the digits of a quoted string tell, of which the opening quote is left out.
 fn read_quoted(text: &[u8]) -> Option<u64>
-    ensures { result ≡ option_and_then plain_seconds (unquoted text.now) }
+    ensures { result ≡ option_and_then plain_seconds (quoted_content text.now) }
 {
     let mut seconds = None;
     let mut at = 0;

@@ -11,7 +11,7 @@ use Rattle.hc_contents.specs.declared.contents.Content as coded
 use Rattle.hc_contents.specs.declared.unfit.Unfit.{Unfit}
 use Rattle.hc_contents.specs.declared.unfit.Unfit.TheVariants as unfit
 use Rattle.hc_contents.specs.Fit.{is_apart, is_right, count_good, has_good_numbers, unfit_of}
-use Rattle.hc_contents.specs.Told.{told_item}
+use Rattle.hc_contents.specs.PlainContents.{plain_item}
 use Rattle.hc_contents.proofs.Knowing.{take_told}
 
 -- ONE
@@ -28,14 +28,14 @@ good_is limits contents earlier item later =
 
 -- COUNTING
 
-drop_told : (items : List coded.Content) (i : ℕ) (item : coded.Content) → i < length items → item ≡ get_or items i item → drop i (map told_item items) ≡ told_item item ∷ drop (suc i) (map told_item items)
+drop_told : (items : List coded.Content) (i : ℕ) (item : coded.Content) → i < length items → item ≡ get_or items i item → drop i (map plain_item items) ≡ plain_item item ∷ drop (suc i) (map plain_item items)
 drop_told [] i item lt is = absurd (let none : i < 0 = lt in omega arith)
-drop_told (x ∷ xs) zero item lt is = ap (λ (y : coded.Content). told_item y ∷ map told_item xs) (sym is)
+drop_told (x ∷ xs) zero item lt is = ap (λ (y : coded.Content). plain_item y ∷ map plain_item xs) (sym is)
 drop_told (x ∷ xs) (suc i) item lt is = drop_told xs i item (omega arith) is
 
 module _ (limits : Limits) (contents : Contents) (items : List coded.Content) where
   abbrev told : List Content
-  told = map told_item items
+  told = map plain_item items
 
   abbrev before : ℕ → List Content
   before i = reverse (take i told)
@@ -51,31 +51,31 @@ module _ (limits : Limits) (contents : Contents) (items : List coded.Content) wh
     next : i + 1 ≡ suc i
     next = omega arith
 
-    here : count_good limits contents [] told ≡ i + (cond (is_good limits contents (before i) (told_item item) (drop (i + 1) told)) (1 + count_good limits contents (told_item item ∷ before i) (drop (i + 1) told)) 0)
-    here = c.count ∙ (ap (λ ys. i + count_good limits contents (before i) ys) (drop_told items i item lt is) ∙ ap (λ n. i + (cond (is_good limits contents (before i) (told_item item) (drop n told)) (1 + count_good limits contents (told_item item ∷ before i) (drop n told)) 0)) (sym next))
+    here : count_good limits contents [] told ≡ i + (cond (is_good limits contents (before i) (plain_item item) (drop (i + 1) told)) (1 + count_good limits contents (plain_item item ∷ before i) (drop (i + 1) told)) 0)
+    here = c.count ∙ (ap (λ ys. i + count_good limits contents (before i) ys) (drop_told items i item lt is) ∙ ap (λ n. i + (cond (is_good limits contents (before i) (plain_item item) (drop n told)) (1 + count_good limits contents (plain_item item ∷ before i) (drop n told)) 0)) (sym next))
 
     -- it is the first that isn't
-    pub stops : is_good limits contents (before i) (told_item item) (drop (i + 1) told) ≡ false → i ≡ count_good limits contents [] told
-    stops off = let all : count_good limits contents [] told ≡ i + 0 = here ∙ ap (λ (b : Bool). i + (cond b (1 + count_good limits contents (told_item item ∷ before i) (drop (i + 1) told)) 0)) off in omega arith
+    pub stops : is_good limits contents (before i) (plain_item item) (drop (i + 1) told) ≡ false → i ≡ count_good limits contents [] told
+    stops off = let all : count_good limits contents [] told ≡ i + 0 = here ∙ ap (λ (b : Bool). i + (cond b (1 + count_good limits contents (plain_item item ∷ before i) (drop (i + 1) told)) 0)) off in omega arith
 
-    pub more_before : told_item item ∷ before i ≡ before (i + 1)
-    more_before = sym (ap before next ∙ (ap reverse (take_told items i item lt is) ∙ reverse-append (take i told) (told_item item ∷ [])))
+    pub more_before : plain_item item ∷ before i ≡ before (i + 1)
+    more_before = sym (ap before next ∙ (ap reverse (take_told items i item lt is) ∙ reverse-append (take i told) (plain_item item ∷ [])))
 
     -- with what a test of it told
-    pub stopped : (result : Bool) → result ≡ false → result ≡ is_good limits contents (before i) (told_item item) (drop (i + 1) told) → i ≡ count_good limits contents [] told
+    pub stopped : (result : Bool) → result ≡ false → result ≡ is_good limits contents (before i) (plain_item item) (drop (i + 1) told) → i ≡ count_good limits contents [] told
     stopped result off tells = stops (sym tells ∙ off)
 
     -- it is good too
-    pub goes_on : is_good limits contents (before i) (told_item item) (drop (i + 1) told) ≡ true → IsCounted (i + 1)
+    pub goes_on : is_good limits contents (before i) (plain_item item) (drop (i + 1) told) ≡ true → IsCounted (i + 1)
     goes_on on =
-        let all : count_good limits contents [] told ≡ i + (1 + count_good limits contents (told_item item ∷ before i) (drop (i + 1) told)) = here ∙ ap (λ (b : Bool). i + (cond b (1 + count_good limits contents (told_item item ∷ before i) (drop (i + 1) told)) 0)) on in
-        let same : count_good limits contents (told_item item ∷ before i) (drop (i + 1) told) ≡ count_good limits contents (before (i + 1)) (drop (i + 1) told) = ap (λ xs. count_good limits contents xs (drop (i + 1) told)) more_before in
+        let all : count_good limits contents [] told ≡ i + (1 + count_good limits contents (plain_item item ∷ before i) (drop (i + 1) told)) = here ∙ ap (λ (b : Bool). i + (cond b (1 + count_good limits contents (plain_item item ∷ before i) (drop (i + 1) told)) 0)) on in
+        let same : count_good limits contents (plain_item item ∷ before i) (drop (i + 1) told) ≡ count_good limits contents (before (i + 1)) (drop (i + 1) told) = ap (λ xs. count_good limits contents xs (drop (i + 1) told)) more_before in
         record { count = omega arith }
 
   -- all are good
   pub all_counted : (i : ℕ) → i ≤ length items → length items ≤ i → IsCounted i → length items ≡ count_good limits contents [] told
   all_counted i le ge c =
-      let none : drop i told ≡ [] = drop_all i told (let count : length told ≡ length items = length-map items told_item in omega arith) in
+      let none : drop i told ≡ [] = drop_all i told (let count : length told ≡ length items = length-map items plain_item in omega arith) in
       let all : count_good limits contents [] told ≡ i + 0 = c.count ∙ ap (λ ys. i + count_good limits contents (before i) ys) none in
       omega arith
 
@@ -143,5 +143,5 @@ begins_by limits contents why is =
     by_tests true true true true true false bad = refl
 
 -- as many as there are plain ones
-pub longer : (items : List coded.Content) (i : ℕ) → i < length items → i < length (map told_item items)
-longer items i lt = let all : length (map told_item items) ≡ length items = length-map items told_item in omega arith
+pub longer : (items : List coded.Content) (i : ℕ) → i < length items → i < length (map plain_item items)
+longer items i lt = let all : length (map plain_item items) ≡ length items = length-map items plain_item in omega arith

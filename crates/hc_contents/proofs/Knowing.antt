@@ -8,7 +8,7 @@ use Rattle.std.specs.List.{list_any}
 use Rattle.hc_model.specs.Entries.{Content}
 use Rattle.hc_contents.specs.declared.contents.Content as coded
 use Rattle.hc_contents.specs.Known.{TellsLast, is_from}
-use Rattle.hc_contents.specs.Told.{told_item}
+use Rattle.hc_contents.specs.PlainContents.{plain_item}
 
 drop_append : {A : Type 0} (i : ℕ) (xs ys : List A) → i ≤ length xs → drop i (xs ++ ys) ≡ drop i xs ++ ys
 drop_append zero xs ys le = refl
@@ -62,22 +62,22 @@ module _ (last now : ℕ → Option ℕ) (items : List Content) (item : Content)
 -- AT EACH ITEM
 
 -- as far as the next item
-pub take_told : (items : List coded.Content) (i : ℕ) (item : coded.Content) → i < length items → item ≡ get_or items i item → take (suc i) (map told_item items) ≡ take i (map told_item items) ++ told_item item ∷ []
+pub take_told : (items : List coded.Content) (i : ℕ) (item : coded.Content) → i < length items → item ≡ get_or items i item → take (suc i) (map plain_item items) ≡ take i (map plain_item items) ++ plain_item item ∷ []
 take_told [] i item lt is = absurd (let none : i < 0 = lt in omega arith)
-take_told (x ∷ xs) zero item lt is = ap (λ (y : coded.Content). told_item y ∷ []) (sym is)
-take_told (x ∷ xs) (suc i) item lt is = ap (λ (ys : List Content). told_item x ∷ ys) (take_told xs i item (omega arith) is)
+take_told (x ∷ xs) zero item lt is = ap (λ (y : coded.Content). plain_item y ∷ []) (sym is)
+take_told (x ∷ xs) (suc i) item lt is = ap (λ (ys : List Content). plain_item x ∷ ys) (take_told xs i item (omega arith) is)
 
 pub tells_none : (last : ℕ → Option ℕ) → ((x : ℕ) → last x ≡ None) → TellsLast last []
 tells_none last none x i le = rw (none x) (ap (list_any (λ (other : Content). other.r == x)) (sym (drop_all i [] (omega arith))))
 
-pub tells_next : (last now : ℕ → Option ℕ) (items : List coded.Content) (i : ℕ) (item : coded.Content) → i < length items → item ≡ get_or items i item → TellsLast last (take i (map told_item items))
-    → ((x : ℕ) → now x ≡ cond (nat_eq item.r x) (Some i) (last x)) → TellsLast now (take (i + 1) (map told_item items))
+pub tells_next : (last now : ℕ → Option ℕ) (items : List coded.Content) (i : ℕ) (item : coded.Content) → i < length items → item ≡ get_or items i item → TellsLast last (take i (map plain_item items))
+    → ((x : ℕ) → now x ≡ cond (nat_eq item.r x) (Some i) (last x)) → TellsLast now (take (i + 1) (map plain_item items))
 tells_next last now items i item lt is tells updates =
     let next : i + 1 ≡ suc i = omega arith in
-    let all : length (map told_item items) ≡ length items = length-map items told_item in
-    let count : length (take i (map told_item items)) ≡ i = (let some : length (take i (map told_item items)) ≡ min i (length (map told_item items)) = length-take i (map told_item items) in omega arith) in
-    subst (TellsLast now) (sym (ap (λ n. take n (map told_item items)) next ∙ take_told items i item lt is))
-    (tells_more last now (take i (map told_item items)) (told_item item) tells (λ x. updates x ∙ ap (λ n. cond (nat_eq item.r x) (Some n) (last x)) (sym count)))
+    let all : length (map plain_item items) ≡ length items = length-map items plain_item in
+    let count : length (take i (map plain_item items)) ≡ i = (let some : length (take i (map plain_item items)) ≡ min i (length (map plain_item items)) = length-take i (map plain_item items) in omega arith) in
+    subst (TellsLast now) (sym (ap (λ n. take n (map plain_item items)) next ∙ take_told items i item lt is))
+    (tells_more last now (take i (map plain_item items)) (plain_item item) tells (λ x. updates x ∙ ap (λ n. cond (nat_eq item.r x) (Some n) (last x)) (sym count)))
 
-pub tells_all : (last : ℕ → Option ℕ) (items : List coded.Content) (i : ℕ) → length items ≤ i → TellsLast last (take i (map told_item items)) → TellsLast last (map told_item items)
-tells_all last items i le tells = subst (TellsLast last) (take_all i (map told_item items) (let all : length (map told_item items) ≡ length items = length-map items told_item in omega arith)) tells
+pub tells_all : (last : ℕ → Option ℕ) (items : List coded.Content) (i : ℕ) → length items ≤ i → TellsLast last (take i (map plain_item items)) → TellsLast last (map plain_item items)
+tells_all last items i le tells = subst (TellsLast last) (take_all i (map plain_item items) (let all : length (map plain_item items) ≡ length items = length-map items plain_item in omega arith)) tells

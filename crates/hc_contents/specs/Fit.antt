@@ -4,7 +4,7 @@ use Rattle.std.specs.List.{list_any}
 use Rattle.hc_fields.specs.FirstValues.{has_field}
 use Rattle.hc_sparse.specs.declared.run.Run.{Run}
 use Rattle.hc_rules.specs.declared.room.Limits.{Limits}
-use Rattle.hc_validate.specs.Updates.{is_modest}
+use Rattle.hc_validate.specs.Updates.{is_within_limits}
 use Rattle.hc_model.specs.Beginnings.{ascend_from, is_kind_right, needs_tag, has_own_numbers, is_good, are_good, weights_of}
 use Rattle.hc_model.specs.Entries.{Content, Contents}
 use Rattle.hc_model.specs.Tables.{last_end, bytes_in}
@@ -27,7 +27,7 @@ could_come now item =
     && nat_le item.head.requested item.head.answered && nat_le item.head.answered now
     && not (has_field (codes "content-length") item.head.fields)
     && not (has_field (codes "content-range") item.head.fields)
-    && is_modest item.head.fields
+    && is_within_limits item.head.fields
 
 -- its runs rise, end by its length, are no more than so many bytes and of its kind, and so is its head
 abbrev pub is_right : ℕ → ℕ → Content → Bool

@@ -1,3 +1,3 @@
-pub mod Told
+pub mod PlainContents
 pub mod Fit
 pub mod Known

@@ -6,7 +6,7 @@ ghost use Rattle.hc_sparse.specs.declared.run.Run.{Run};
 ghost use Rattle.hc_model.specs.Tables.{last_end, bytes_in};
 ghost use Rattle.hc_model.specs.Beginnings.{kind_of_runs, is_whole, needs_tag};
 ghost use Rattle.hc_contents.specs.Fit.{could_come, is_right, extent_of};
-ghost use Rattle.hc_contents.specs.Told.{told_item};
+ghost use Rattle.hc_contents.specs.PlainContents.{plain_item};
 
 use crate::contents::Content;
 use hc_fields::has_field;
@@ -23,7 +23,7 @@ pub(crate) struct Extent {
 /// Whether its runs rise and end by its length, have no more bytes than they may, and are of its
 /// kind, and its head is one that could have come by this moment.
 pub(crate) fn is_right(item: &Content, now: u64, most: u64) -> bool
-    ensures { result ≡ is_right now most (told_item item.now) }
+    ensures { result ≡ is_right now most (plain_item item.now) }
 {
     let Some(total) = item.head.total else {
         return false;
@@ -96,7 +96,7 @@ fn kind_of(extent: Extent, total: u64) -> Kind
 
 /// Whether the head is one that could have come by this moment.
 fn has_right_head(item: &Content, now: u64) -> bool
-    ensures { result ≡ could_come now (told_item item.now) }
+    ensures { result ≡ could_come now (plain_item item.now) }
 {
     let head = &item.head;
     (head.joining.is_some() || !needs_tag(item))
@@ -108,7 +108,7 @@ fn has_right_head(item: &Content, now: u64) -> bool
 
 /// Whether only by its tag could it have come to be, or be completed.
 fn needs_tag(item: &Content) -> bool
-    ensures { result ≡ needs_tag (told_item item.now) }
+    ensures { result ≡ needs_tag (plain_item item.now) }
 {
     !is_whole(item.head.kind) || item.head.status == 206 || has_joined(item)
 }

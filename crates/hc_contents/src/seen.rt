@@ -7,7 +7,7 @@ ghost use Rattle.hc_sparse.specs.declared.run.Run.{Run};
 ghost use Rattle.hc_model.specs.Entries as model;
 ghost use Rattle.hc_contents.specs.Fit.{is_apart};
 ghost use Rattle.hc_contents.specs.Known.{TellsLast, is_from};
-ghost use Rattle.hc_contents.specs.Told.{told_item};
+ghost use Rattle.hc_contents.specs.PlainContents.{plain_item};
 
 use crate::contents::Content;
 use hc_sparse::Run;
@@ -29,7 +29,7 @@ impl Seen {
 
     /// No item was seen of these.
     pub(crate) fn new(items: &[Content], alloc: Global) -> Result<Seen, NoMemory>
-        ensures { IfOk result (λ seen. Knows seen [] (map told_item items.now)) }
+        ensures { IfOk result (λ seen. Knows seen [] (map plain_item items.now)) }
     {
         let last = last_places(items, alloc)?;
         Ok(Seen {
@@ -43,7 +43,7 @@ impl Seen {
     pub(crate) fn is_apart(&self, i: usize, item: &Content, end: u64) -> bool
         ensures { (contents : model.Contents) (earlier items : List model.Content)
             → Knows self.now earlier items → i < length items → contents.next_exchange ≡ end
-            → result ≡ is_apart contents earlier (told_item item.now) (drop (i + 1) items) }
+            → result ≡ is_apart contents earlier (plain_item item.now) (drop (i + 1) items) }
     {
         !self.keys.contains(item.key.bytes.as_slice())
             && is_given_out(item.r, end)
@@ -78,7 +78,7 @@ impl Seen {
     /// One more was seen.
     pub(crate) fn add(&mut self, item: &Content) -> Result<(), NoMemory>
         ensures { OnOk result ((earlier items : List model.Content) → Knows self.old earlier items
-            → Knows self.new (told_item item.now ∷ earlier) items) }
+            → Knows self.new (plain_item item.now ∷ earlier) items) }
     {
         self.keys.insert(item.key.bytes.clone()?)?;
         self.said.insert(item.r)?;
@@ -88,7 +88,7 @@ impl Seen {
 
 /// Where each number stands as that of a representation for the last time.
 fn last_places(items: &[Content], alloc: Global) -> Result<HashMap<u64, usize>, NoMemory>
-    ensures { IfOk result (λ last. TellsLast (get nat_eq last) (map told_item items.now)) }
+    ensures { IfOk result (λ last. TellsLast (get nat_eq last) (map plain_item items.now)) }
 {
     let mut last = HashMap::new(alloc);
     for (i, item) in items.iter().enumerate() {

@@ -6,7 +6,7 @@ ghost use Rattle.hc_model.specs.Entries as model;
 ghost use Rattle.hc_model.specs.Tables.{bytes_in};
 ghost use Rattle.hc_contents.specs.Fit.{count_good, has_good_numbers, unfit_of};
 ghost use Rattle.hc_contents.specs.Known.{Knows};
-ghost use Rattle.hc_contents.specs.Told.{told, told_item};
+ghost use Rattle.hc_contents.specs.PlainContents.{plain_contents, plain_item};
 
 use crate::contents::{Content, Contents};
 use crate::item::{count_of, is_right};
@@ -37,9 +37,9 @@ pub fn why_unfit(
     limits: Limits,
     alloc: Global,
 ) -> Result<Option<Unfit>, NoMemory>
-    ensures why { IfOk result (λ why. why ≡ unfit_of limits (told contents.entry.now)) }
+    ensures why { IfOk result (λ why. why ≡ unfit_of limits (plain_contents contents.entry.now)) }
     ensures begins { IfOk result
-        (λ why. is_none why ≡ may_begin limits (told contents.entry.now)) }
+        (λ why. is_none why ≡ may_begin limits (plain_contents contents.entry.now)) }
 {
     let items = contents.items.as_slice();
     let good = count_good(contents, limits, alloc)?;
@@ -58,8 +58,8 @@ pub fn why_unfit(
 
 /// How many items stand before the first that isn't good.
 fn count_good(contents: &Contents, limits: Limits, alloc: Global) -> Result<usize, NoMemory>
-    ensures { IfOk result (λ good. good ≡ count_good limits (told contents.entry.now) []
-        (map told_item contents.entry.now.items)) }
+    ensures { IfOk result (λ good. good ≡ count_good limits (plain_contents contents.entry.now) []
+        (map plain_item contents.entry.now.items)) }
 {
     let items = contents.items.as_slice();
     let mut seen = Seen::new(items, alloc)?;
@@ -75,15 +75,15 @@ fn count_good(contents: &Contents, limits: Limits, alloc: Global) -> Result<usiz
 /// Whether the item at this place is good, where those before it were seen.
 fn is_good(contents: &Contents, limits: Limits, seen: &Seen, i: usize, item: &Content) -> bool
     ensures { (earlier items : List model.Content) → Knows seen.now earlier items
-        → i < length items → result ≡ is_good limits (told contents.entry.now) earlier
-        (told_item item.now) (drop (i + 1) items) }
+        → i < length items → result ≡ is_good limits (plain_contents contents.entry.now) earlier
+        (plain_item item.now) (drop (i + 1) items) }
 {
     seen.is_apart(i, item, contents.next_exchange) && is_right(item, contents.now, limits.max_entry)
 }
 
 /// Whether the moment and the numbers are within those with which a cache may begin.
 fn has_good_numbers(contents: &Contents) -> bool
-    ensures { result ≡ has_good_numbers (told contents.entry.now) }
+    ensures { result ≡ has_good_numbers (plain_contents contents.entry.now) }
 {
     contents.now < LIMIT
         && contents.last_consumer < LIMIT
@@ -92,7 +92,7 @@ fn has_good_numbers(contents: &Contents) -> bool
 
 /// Whether all items weigh at most so much.
 fn fits(items: &[Content], most: u64) -> bool
-    ensures { result ≡ nat_le (weights_of (map told_item items.now)) most }
+    ensures { result ≡ nat_le (weights_of (map plain_item items.now)) most }
 {
     let mut left = most;
     for item in items {

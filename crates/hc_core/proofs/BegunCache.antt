@@ -8,11 +8,11 @@ use Rattle.hc_exch.specs.Exchanges.{next_of}
 use Rattle.hc_model.specs.Beginnings.{may_begin}
 use Rattle.hc_model.specs.Entries.{Content, Contents}
 use Rattle.hc_model.specs.Numbers.{AreShort}
-use Rattle.hc_model.specs.Tables.{begun, tables}
+use Rattle.hc_model.specs.Tables.{first_tables, tables}
 use Rattle.hc_contents.specs.declared.contents.Content as coded
 use Rattle.hc_contents.specs.declared.contents.Contents as coded_all
 use Rattle.hc_contents.specs.Fit.{unfit_of}
-use Rattle.hc_contents.specs.Told.{told, told_item}
+use Rattle.hc_contents.specs.PlainContents.{plain_contents, plain_item}
 use Rattle.hc_contents.proofs.Counting.{begins_by}
 use Rattle.hc_state.specs.declared.rows.Rows.{Rows}
 use Rattle.hc_state.specs.Good.{StandsUntil}
@@ -27,17 +27,17 @@ pub may_by : (limits : Limits) (contents : Contents) → unfit_of limits content
 may_by limits contents fit = sym (begins_by limits contents None (sym fit))
 
 -- stored heads tell lengths that heads can tell
-pub short_told : (contents : coded_all.Contents) → AreShort (told contents)
+pub short_told : (contents : coded_all.Contents) → AreShort (plain_contents contents)
 short_told contents r n item found total = by_items contents.items found
   where
-    by_items : (items : List coded.Content) → find (λ (o : Content). o.r == r) (map told_item items) ≡ Some item → n < 2 ^ 62
+    by_items : (items : List coded.Content) → find (λ (o : Content). o.r == r) (map plain_item items) ≡ Some item → n < 2 ^ 62
     by_items [] found = none_some item found
     by_items (x ∷ xs) found = elim (cases_Bool (x.r == r)) [
-      | inl here ↦ let same : told_item x ≡ item = some_is (told_item x) item (rw here at found) in x.head.own.small_total n (ap (λ (z : Content). z.head.total) same ∙ total)
+      | inl here ↦ let same : plain_item x ≡ item = some_is (plain_item x) item (rw here at found) in x.head.own.small_total n (ap (λ (z : Content). z.head.total) same ∙ total)
       | inr other ↦ by_items xs (rw other at found)
     ]
 
-pub stands_begun_with : {B : Type 0} {g : Ghosts B} (s : Cache B g) (contents : coded_all.Contents) → s.last_moment ≡ contents.now → may_begin s.rows.limits (told contents) ≡ true → RowsStand s.rows (begun (told contents)) → StandsFor s (told contents) []
+pub stands_begun_with : {B : Type 0} {g : Ghosts B} (s : Cache B g) (contents : coded_all.Contents) → s.last_moment ≡ contents.now → may_begin s.rows.limits (plain_contents contents) ≡ true → RowsStand s.rows (first_tables (plain_contents contents)) → StandsFor s (plain_contents contents) []
 unfolding tables
 stands_begun_with s contents moment may rows = record {
   begins = may;
@@ -47,9 +47,9 @@ stands_begun_with s contents moment may rows = record {
   rows = rows;
 }
 
-pub good_begun_with : {B : Type 0} {g : Ghosts B} (r : Rows B g) (contents : coded_all.Contents) → may_begin r.limits (told contents) ≡ true → RowsStand r (begun (told contents)) → StandsUntil r contents.now
+pub good_begun_with : {B : Type 0} {g : Ghosts B} (r : Rows B g) (contents : coded_all.Contents) → may_begin r.limits (plain_contents contents) ≡ true → RowsStand r (first_tables (plain_contents contents)) → StandsUntil r contents.now
 unfolding tables
-good_begun_with r contents may rows = (record { contents = told contents; h = []; begins = may; short = short_told contents; modest = tt; run = tt; rows = rows }, omega arith)
+good_begun_with r contents may rows = (record { contents = plain_contents contents; h = []; begins = may; short = short_told contents; within_limits = tt; run = tt; rows = rows }, omega arith)
 
-pub next_begun_with : {B : Type 0} {g : Ghosts B} (r : Rows B g) (contents : coded_all.Contents) → may_begin r.limits (told contents) ≡ true → RowsStand r (begun (told contents)) → next_of r.exchanges ≤ 2 ^ 60 + 0
-next_begun_with r contents may rows = let fits = next_fits r.limits (told contents) may in let next = rows.next in omega (arith, fits, next)
+pub next_begun_with : {B : Type 0} {g : Ghosts B} (r : Rows B g) (contents : coded_all.Contents) → may_begin r.limits (plain_contents contents) ≡ true → RowsStand r (first_tables (plain_contents contents)) → next_of r.exchanges ≤ 2 ^ 60 + 0
+next_begun_with r contents may rows = let fits = next_fits r.limits (plain_contents contents) may in let next = rows.next in omega (arith, fits, next)

@@ -11,7 +11,7 @@ use Rattle.hc_store.specs.declared.backend.Backend.{Ghosts}
 use Rattle.hc_store.specs.declared.error.StoreError.TheVariants as error
 use Rattle.hc_store.specs.Causes.{HasCause}
 use Rattle.std.proofs.lemmas.List.Sums.{sum_by-cons, sum_by-append, sum_by-take-le}
-use Rattle.hc_sparse.specs.Cells.{Cells, AreAbsent, EndsBy, size, written}
+use Rattle.hc_sparse.specs.Cells.{Cells, AreAbsent, EndsBy, size, cells_with}
 use Rattle.hc_sparse.specs.Runs.{end_of}
 use Rattle.hc_sparse.specs.declared.run.Run.{Run}
 use Rattle.hc_sparse.proofs.CellLemmas.{inside-past}
@@ -19,12 +19,12 @@ use Rattle.hc_sparse.proofs.SizeLemmas.{size-put}
 use Rattle.hc_rules.specs.declared.room.Limits.{Limits}
 use Rattle.hc_rules.specs.Rooms.{weight_of}
 use Rattle.hc_stored.specs.Begun.{with_runs}
-use Rattle.hc_stored.specs.Kept.{Kept, filled}
-use Rattle.hc_stored.specs.Shelf.{Shelf, Becomes, is_kept, cells_in, cells_at, size_at, unmoved}
+use Rattle.hc_stored.specs.Kept.{Kept, kept_with_bytes}
+use Rattle.hc_stored.specs.Shelf.{Shelf, Becomes, is_kept, cells_in, cells_at, size_at, same_order}
 use Rattle.hc_model.specs.Beginnings.{ascend_from, is_kind_right, is_good, are_good, says, has_own_numbers, weights_of, may_begin, has_right_head}
 use Rattle.hc_model.specs.Entries.{Content, Contents}
 use Rattle.hc_model.specs.Rows.{Representation}
-use Rattle.hc_model.specs.Tables.{begun, loaded, last_end, bytes_in}
+use Rattle.hc_model.specs.Tables.{first_tables, representation_of_content, last_end, bytes_in}
 use Rattle.hc_model.proofs.Basics.{and_left, and_right, or_false, append_none}
 use Rattle.hc_stored.specs.Entries.{shelf_of}
 use Rattle.hc_state.specs.declared.rows.Rows.{Rows}
@@ -33,7 +33,7 @@ use Rattle.hc_state.specs.Stored.{KeepsEntry}
 use Rattle.hc_core.specs.Begins.{with_items, KeepsItem}
 use Rattle.hc_contents.specs.declared.contents.Content as coded
 use Rattle.hc_contents.specs.declared.contents.Contents as coded_all
-use Rattle.hc_contents.specs.Told.{told, told_item}
+use Rattle.hc_contents.specs.PlainContents.{plain_contents, plain_item}
 use Rattle.hc_contents.proofs.Counting.{longer}
 use Rattle.hc_core.proofs.BegunRuns.{runs_more}
 use Rattle.hc_state.proofs.Words.{eqb-same, false_true, none_some}
@@ -91,7 +91,7 @@ twice f h k (Some z) is = ap Some (sym (is z))
 
 -- so many runs were put into what had no byte
 pub record ArePut (a u : Shelf) (r : ℕ) (runs : List Run) : Type 0 where
-  pub becomes : Becomes (option_map (with_runs runs)) unmoved r a u
+  pub becomes : Becomes (option_map (with_runs runs)) same_order r a u
   pub used : u.used ≡ a.used + bytes_in runs
   pub size : size_at u r ≡ bytes_in runs
   pub ends : EndsBy (last_end runs) (cells_at u r)
@@ -123,7 +123,7 @@ still_kept a m r done there before = ap is_some (before.becomes.kept r ∙ rw (e
     still (Some k) there = refl
 
 module _ (a m u : Shelf) (r i : ℕ) (runs : List Run) (run : Run) (there : is_kept a r ≡ true) (lt : i < length runs) (is : run ≡ get_or runs i run) (placed : IsPlaced runs i run)
-    (before : ArePut a m r (take i runs)) (puts : Becomes (option_map (filled run.at run.x run.bytes None)) unmoved r m u) (used : u.used ≡ m.used + length run.bytes) (faults : u.faults ≡ m.faults) (fits : last_end runs ≤ 2 ^ 62) where
+    (before : ArePut a m r (take i runs)) (puts : Becomes (option_map (kept_with_bytes run.at run.x run.bytes None)) same_order r m u) (used : u.used ≡ m.used + length run.bytes) (faults : u.faults ≡ m.faults) (fits : last_end runs ≤ 2 ^ 62) where
   abbrev done : List Run
   done = take i runs
 
@@ -136,30 +136,30 @@ module _ (a m u : Shelf) (r i : ℕ) (runs : List Run) (run : Run) (there : is_k
   absent : AreAbsent (cells_at m r) run.at (run.at + length run.bytes)
   absent p le lt = before.ends p (let behind = placed.behind in omega arith)
 
-  kept_now : u.kept r ≡ option_map (filled run.at run.x run.bytes None) (m.kept r)
+  kept_now : u.kept r ≡ option_map (kept_with_bytes run.at run.x run.bytes None) (m.kept r)
   kept_now = puts.kept r ∙ rw (eqb-same r) refl
 
-  cells_now : (p : ℕ) → cells_at u r p ≡ written run.at run.x run.bytes (cells_at m r) p
+  cells_now : (p : ℕ) → cells_at u r p ≡ cells_with run.at run.x run.bytes (cells_at m r) p
   cells_now p = ap (λ (o : Option Kept). cells_in o p) kept_now ∙ by_kept (m.kept r) kept_still
     where
-      by_kept : (o : Option Kept) → is_some o ≡ true → cells_in (option_map (filled run.at run.x run.bytes None) o) p ≡ written run.at run.x run.bytes (cells_in o) p
+      by_kept : (o : Option Kept) → is_some o ≡ true → cells_in (option_map (kept_with_bytes run.at run.x run.bytes None) o) p ≡ cells_with run.at run.x run.bytes (cells_in o) p
       by_kept None there = false_true there
       by_kept (Some k) there = refl
 
-  becomes_now : Becomes (option_map (with_runs (done ++ run ∷ []))) unmoved r a u
+  becomes_now : Becomes (option_map (with_runs (done ++ run ∷ []))) same_order r a u
   becomes_now = record {
     kept = λ q. puts.kept q ∙ by_number q (eqb r q) (before.becomes.kept q);
     order = puts.order ∙ before.becomes.order;
     limits = puts.limits ∙ before.becomes.limits;
   }
     where
-      here : option_map (filled run.at run.x run.bytes None) (m.kept r) ≡ option_map (with_runs (done ++ run ∷ [])) (a.kept r)
+      here : option_map (kept_with_bytes run.at run.x run.bytes None) (m.kept r) ≡ option_map (with_runs (done ++ run ∷ [])) (a.kept r)
       here =
-          ap (option_map (filled run.at run.x run.bytes None)) (before.becomes.kept r ∙ rw (eqb-same r) refl)
-          ∙ twice (filled run.at run.x run.bytes None) (with_runs done) (with_runs (done ++ run ∷ [])) (a.kept r) (runs_more done run)
+          ap (option_map (kept_with_bytes run.at run.x run.bytes None)) (before.becomes.kept r ∙ rw (eqb-same r) refl)
+          ∙ twice (kept_with_bytes run.at run.x run.bytes None) (with_runs done) (with_runs (done ++ run ∷ [])) (a.kept r) (runs_more done run)
 
       by_number : (q : ℕ) (b : Bool) → m.kept q ≡ cond b (option_map (with_runs done) (a.kept r)) (a.kept q)
-          → cond b (option_map (filled run.at run.x run.bytes None) (m.kept r)) (m.kept q) ≡ cond b (option_map (with_runs (done ++ run ∷ [])) (a.kept r)) (a.kept q)
+          → cond b (option_map (kept_with_bytes run.at run.x run.bytes None) (m.kept r)) (m.kept q) ≡ cond b (option_map (with_runs (done ++ run ∷ [])) (a.kept r)) (a.kept q)
       by_number q true was = here
       by_number q false was = was
 
@@ -226,7 +226,7 @@ good_from limits contents earlier (first ∷ items) (suc i) item good lt is =
 -- what is known of an item that is good
 pub record IsFit (limits : Limits) (before : List Content) (item : Content) : Type 0 where
   pub new : find (λ (o : Content). o.r == item.r) before ≡ None
-  pub rising : ascend_from 0 0 item.runs ≡ true
+  pub ascending : ascend_from 0 0 item.runs ≡ true
   pub right : is_kind_right item item.head.total ≡ true
   pub small : bytes_in item.runs ≤ limits.max_entry
   pub moments : item.head.requested ≤ item.head.answered
@@ -247,7 +247,7 @@ fit_by limits contents before item later good =
     let moments_test : nat_le item.head.requested item.head.answered ≡ true = and_right _ _ (and_left _ _ (and_left _ _ (and_left _ _ (and_left _ _ head)))) in
     record {
       new = unsaid item.r before (sym (any_reverse (says item.r) before) ∙ not_is _ apart);
-      rising = and_right _ _ upto_runs;
+      ascending = and_right _ _ upto_runs;
       right = and_right _ _ upto_kind;
       small = grind (arith, nat_tests);
       moments = grind (arith, nat_tests);
@@ -287,7 +287,7 @@ fit_ends item right short = by_total item.head.total right short
 
 -- so many items are kept
 pub record AreKept {B : Type 0} {g : Ghosts B} (a u : Rows B g) (contents : Contents) (i : ℕ) : Type 0 where
-  pub stands : RowsStand u (begun (with_items (take i contents.items) contents))
+  pub stands : RowsStand u (first_tables (with_items (take i contents.items) contents))
   pub used : (shelf_of u.entries).used ≡ weights_of (take i contents.items)
   pub limits : u.limits ≡ a.limits
   pub received : u.received ≡ a.received
@@ -296,23 +296,23 @@ pub record AreKept {B : Type 0} {g : Ghosts B} (a u : Rows B g) (contents : Cont
 
 module _ {B : Type 0} {g : Ghosts B} (r : Rows B g) (contents : Contents) where
   -- what has no number there isn't kept
-  pub unkept : (items : List Content) (n : ℕ) → RowsStand r (begun (with_items items contents)) → find (λ (o : Content). o.r == n) items ≡ None → (shelf_of r.entries).kept n ≡ None
-  unkept items n stands none = by_row ((shelf_of r.entries).kept n) (option_map loaded (find (λ (o : Content). o.r == n) items)) (ap (option_map loaded) none) (stands.entries.each n)
+  pub unkept : (items : List Content) (n : ℕ) → RowsStand r (first_tables (with_items items contents)) → find (λ (o : Content). o.r == n) items ≡ None → (shelf_of r.entries).kept n ≡ None
+  unkept items n stands none = by_row ((shelf_of r.entries).kept n) (option_map representation_of_content (find (λ (o : Content). o.r == n) items)) (ap (option_map representation_of_content) none) (stands.entries.each n)
     where
-      by_row : (k : Option Kept) (z : Option Representation) → z ≡ None → KeepsEntry (begun (with_items items contents)) n k z → k ≡ None
+      by_row : (k : Option Kept) (z : Option Representation) → z ≡ None → KeepsEntry (first_tables (with_items items contents)) n k z → k ≡ None
       by_row None z off e = refl
       by_row (Some k) None off e = absurd e
       by_row (Some k) (Some v) off e = none_some v (sym off)
 
-  pub none_kept : RowsStand r (begun (with_items [] contents)) → (shelf_of r.entries).used ≡ 0 → AreKept r r contents 0
+  pub none_kept : RowsStand r (first_tables (with_items [] contents)) → (shelf_of r.entries).used ≡ 0 → AreKept r r contents 0
   none_kept stands used = record { stands = stands; used = used; limits = refl; received = refl; bounds = refl; faults = refl }
 
-  pub all_kept : (u : Rows B g) (i : ℕ) → length contents.items ≤ i → AreKept r u contents i → RowsStand u (begun contents)
-  all_kept u i le k = subst (λ (zs : List Content). RowsStand u (begun (with_items zs contents))) (take_all i contents.items le) k.stands
+  pub all_kept : (u : Rows B g) (i : ℕ) → length contents.items ≤ i → AreKept r u contents i → RowsStand u (first_tables contents)
+  all_kept u i le k = subst (λ (zs : List Content). RowsStand u (first_tables (with_items zs contents))) (take_all i contents.items le) k.stands
 
-told_at : (items : List coded.Content) (i : ℕ) (item : coded.Content) → i < length items → item ≡ get_or items i item → told_item item ≡ get_or (map told_item items) i (told_item item)
+told_at : (items : List coded.Content) (i : ℕ) (item : coded.Content) → i < length items → item ≡ get_or items i item → plain_item item ≡ get_or (map plain_item items) i (plain_item item)
 told_at [] i item lt is = absurd (let none : i < 0 = lt in omega arith)
-told_at (x ∷ xs) zero item lt is = ap told_item is
+told_at (x ∷ xs) zero item lt is = ap plain_item is
 told_at (x ∷ xs) (suc i) item lt is = told_at xs i item (omega arith) is
 
 good_of : (limits : Limits) (contents : Contents) → may_begin limits contents ≡ true → are_good limits contents [] contents.items ≡ true
@@ -332,24 +332,24 @@ next_fits limits contents may =
 
 -- what the item at a place needs, and what it leaves
 module _ {B : Type 0} {g : Ghosts B} (a r : Rows B g) (contents : coded_all.Contents) (i : ℕ) (item : coded.Content) (lt : i < length contents.items) (is : item ≡ get_or contents.items i item)
-    (may : may_begin a.limits (told contents) ≡ true) (kept : AreKept a r (told contents) i) where
-  abbrev place : i < length (map told_item contents.items)
+    (may : may_begin a.limits (plain_contents contents) ≡ true) (kept : AreKept a r (plain_contents contents) i) where
+  abbrev place : i < length (map plain_item contents.items)
   place = longer contents.items i lt
 
-  abbrev at : told_item item ≡ get_or (map told_item contents.items) i (told_item item)
+  abbrev at : plain_item item ≡ get_or (map plain_item contents.items) i (plain_item item)
   at = told_at contents.items i item lt is
 
-  abbrev good : are_good a.limits (told contents) [] (map told_item contents.items) ≡ true
-  good = good_of a.limits (told contents) may
+  abbrev good : are_good a.limits (plain_contents contents) [] (map plain_item contents.items) ≡ true
+  good = good_of a.limits (plain_contents contents) may
 
-  pub item_fits : IsFit a.limits (take i (map told_item contents.items)) (told_item item)
-  item_fits = is_fit a.limits (told contents) good i (told_item item) place at
+  pub item_fits : IsFit a.limits (take i (map plain_item contents.items)) (plain_item item)
+  item_fits = is_fit a.limits (plain_contents contents) good i (plain_item item) place at
 
   pub item_new : (shelf_of r.entries).kept item.r ≡ None
-  item_new = unkept r (told contents) (take i (map told_item contents.items)) item.r kept.stands item_fits.new
+  item_new = unkept r (plain_contents contents) (take i (map plain_item contents.items)) item.r kept.stands item_fits.new
 
   pub item_ends : last_end item.runs ≤ 2 ^ 62
-  item_ends = fit_ends (told_item item) item_fits.right item.head.own.small_total
+  item_ends = fit_ends (plain_item item) item_fits.right item.head.own.small_total
 
   bounds_are : (shelf_of r.entries).limits ≡ a.limits
   bounds_are = kept.stands.limits ∙ kept.limits
@@ -360,14 +360,14 @@ module _ {B : Type 0} {g : Ghosts B} (a r : Rows B g) (contents : coded_all.Cont
   pub item_light : (shelf_of r.entries).used + weight_of (bytes_in item.runs) ≤ (shelf_of r.entries).limits.max_total
   item_light =
       subst (λ (l : Limits). (shelf_of r.entries).used + weight_of (bytes_in item.runs) ≤ l.max_total) (sym bounds_are)
-      (subst (λ (n : ℕ). n + weight_of (bytes_in item.runs) ≤ a.limits.max_total) (sym kept.used) (light a.limits (told contents) good i (told_item item) place at (weight_fits a.limits (told contents) may)))
+      (subst (λ (n : ℕ). n + weight_of (bytes_in item.runs) ≤ a.limits.max_total) (sym kept.used) (light a.limits (plain_contents contents) good i (plain_item item) place at (weight_fits a.limits (plain_contents contents) may)))
 
-  pub one_more_kept : (u : Rows B g) → KeepsItem r u (told_item item) → (shelf_of u.entries).used ≡ (shelf_of r.entries).used + weight_of (bytes_in item.runs) → (shelf_of u.entries).faults ≡ (shelf_of r.entries).faults → AreKept a u (told contents) (i + 1)
+  pub one_more_kept : (u : Rows B g) → KeepsItem r u (plain_item item) → (shelf_of u.entries).used ≡ (shelf_of r.entries).used + weight_of (bytes_in item.runs) → (shelf_of u.entries).faults ≡ (shelf_of r.entries).faults → AreKept a u (plain_contents contents) (i + 1)
   one_more_kept u keeps used faults = record {
     stands =
-        subst (λ (zs : List Content). RowsStand u (begun (with_items zs (told contents)))) (sym (items_more a.limits (told contents) good i (told_item item) place at))
-        (stands_more r u (told contents) (take i (map told_item contents.items)) (told_item item) item_fits.rising item_fits.right item_fits.new keeps kept.stands);
-    used = used ∙ (ap (λ (n : ℕ). n + weight_of (bytes_in item.runs)) kept.used ∙ sym (weights_more a.limits (told contents) good i (told_item item) place at));
+        subst (λ (zs : List Content). RowsStand u (first_tables (with_items zs (plain_contents contents)))) (sym (items_more a.limits (plain_contents contents) good i (plain_item item) place at))
+        (stands_more r u (plain_contents contents) (take i (map plain_item contents.items)) (plain_item item) item_fits.ascending item_fits.right item_fits.new keeps kept.stands);
+    used = used ∙ (ap (λ (n : ℕ). n + weight_of (bytes_in item.runs)) kept.used ∙ sym (weights_more a.limits (plain_contents contents) good i (plain_item item) place at));
     limits = keeps.limits ∙ kept.limits;
     received = keeps.received ∙ kept.received;
     bounds = keeps.entries.limits ∙ kept.bounds;

@@ -27,7 +27,7 @@ use Rattle.hc_model.specs.Entries.{Content, Contents}
 use Rattle.hc_model.specs.Kinds.{kind_of}
 use Rattle.hc_model.specs.Reading.{bound}
 use Rattle.hc_model.specs.Rows.{Tables, Representation}
-use Rattle.hc_model.specs.Tables.{begun, loaded, numbers, last_end}
+use Rattle.hc_model.specs.Tables.{first_tables, representation_of_content, numbers, last_end}
 use Rattle.hc_state.specs.declared.rows.Rows.{Rows}
 use Rattle.hc_state.specs.declared.consumer.Consumer.{Consumer}
 use Rattle.hc_state.specs.Kept.{KeepsConsumer, KeepsExchange, KeepsRunning}
@@ -43,7 +43,7 @@ use Rattle.hc_core.specs.Begins.{with_items, kept_item, KeepsItem}
 
 pub stands_before : {B : Type 0} {g : Ghosts B} (r : Rows B g) (contents : Contents) → r.last_start ≡ contents.last_consumer → next_of r.exchanges ≡ contents.next_exchange → 0 < contents.next_exchange → hash_map_len r.consumers ≡ 0
     → ((c : ℕ) → get nat_eq r.consumers c ≡ None) → ((x : ℕ) → table_of r.exchanges x ≡ unknown) → ((key : List ℕ) → kept_of r.keys key ≡ nothing) → ((q : ℕ) → (shelf_of r.entries).kept q ≡ None) → (shelf_of r.entries).order ≡ []
-    → (shelf_of r.entries).limits ≡ r.limits → RowsStand r (begun (with_items [] contents))
+    → (shelf_of r.entries).limits ≡ r.limits → RowsStand r (first_tables (with_items [] contents))
 unfolding current
 stands_before r contents last next some count none unopened unawaited unkept order limits = record {
   limits = limits;
@@ -100,36 +100,36 @@ or_none (Some a) = refl
 -- ONE MORE
 
 module _ {B : Type 0} {g : Ghosts B} (r u : Rows B g) (contents : Contents) (items : List Content) (item : Content) (ascends : ascend_from 0 0 item.runs ≡ true) (right : is_kind_right item item.head.total ≡ true)
-    (new : find (λ (other : Content). other.r == item.r) items ≡ None) (keeps : KeepsItem r u item) (stands : RowsStand r (begun (with_items items contents))) where
+    (new : find (λ (other : Content). other.r == item.r) items ≡ None) (keeps : KeepsItem r u item) (stands : RowsStand r (first_tables (with_items items contents))) where
   abbrev more : List Content
   more = items ++ item ∷ []
 
   abbrev t : Tables
-  t = begun (with_items items contents)
+  t = first_tables (with_items items contents)
 
   abbrev s : Tables
-  s = begun (with_items more contents)
+  s = first_tables (with_items more contents)
 
   -- ROWS
 
-  row_new : s.representation item.r ≡ Some (loaded item)
+  row_new : s.representation item.r ≡ Some (representation_of_content item)
   row_new =
       let self : (item.r == item.r) ≡ true = eqb-same item.r in
       let found : find (λ (o : Content). o.r == item.r) more ≡ Some item = find-append (λ (o : Content). o.r == item.r) items (item ∷ []) ∙ rw (new, self) refl in
-      ap (option_map loaded) found
+      ap (option_map representation_of_content) found
 
   row_old : (q : ℕ) → eqb item.r q ≡ false → s.representation q ≡ t.representation q
   row_old q other =
       let off : (item.r == q) ≡ false = other in
       let same : find (λ (o : Content). o.r == q) more ≡ find (λ (o : Content). o.r == q) items = find-append (λ (o : Content). o.r == q) items (item ∷ []) ∙ rw off (or_none (find (λ (o : Content). o.r == q) items)) in
-      ap (option_map loaded) same
+      ap (option_map representation_of_content) same
 
   -- WHAT IS KEPT
 
-  rest : kept_item item ≡ record (entries.begun item.key item.head) { cells = (kept_item item).cells; reach = (kept_item item).reach }
-  rest = runs_rest item.runs (entries.begun item.key item.head)
+  rest : kept_item item ≡ record (entries.kept_at_beginning item.key item.head) { cells = (kept_item item).cells; reach = (kept_item item).reach }
+  rest = runs_rest item.runs (entries.kept_at_beginning item.key item.head)
 
-  entry_new : IsEntry s item.r (kept_item item) (loaded item)
+  entry_new : IsEntry s item.r (kept_item item) (representation_of_content item)
   unfolding bound
   entry_new = record {
     used = λ gone. false_true gone;
@@ -138,8 +138,8 @@ module _ {B : Type 0} {g : Ghosts B} (r u : Rows B g) (contents : Contents) (ite
     length = stored.told (ap (λ (k : Kept). k.head.total) rest);
     kind = λ fresh. ap (λ (k : Kept). k.head.kind) rest ∙ sym (kind_begun item ascends right (with_items more contents) item.r);
     whole = λ n is total. whole_begun item ascends right n (sym (ap (λ (k : Kept). k.head.kind) rest) ∙ is) (sym (ap (λ (k : Kept). k.head.total) rest) ∙ total);
-    cells = λ p. runs_cells 0 0 p item.runs (entries.begun item.key item.head) ascends ∙ or_none (cells_of item.runs p);
-    reach = λ held. runs_reach item.runs (entries.begun item.key item.head) ∙ none_first (last_end item.runs);
+    cells = λ p. runs_cells 0 0 p item.runs (entries.kept_at_beginning item.key item.head) ascends ∙ or_none (cells_of item.runs p);
+    reach = λ held. runs_reach item.runs (entries.kept_at_beginning item.key item.head) ∙ none_first (last_end item.runs);
     bound = λ c. rw rest refl;
     first = λ c. rw rest refl;
     writer = stored.as_written (ap (λ (k : Kept). k.writer) rest);
@@ -224,7 +224,7 @@ module _ {B : Type 0} {g : Ghosts B} (r u : Rows B g) (contents : Contents) (ite
       by_key false is = let k = stands.keys key in record { current = k.current ∙ sym is; in_line = k.in_line; passed = k.passed; away = k.away; holder = k.holder }
 
   -- One item more is kept.
-  pub stands_more : RowsStand u (begun (with_items (items ++ item ∷ []) contents))
+  pub stands_more : RowsStand u (first_tables (with_items (items ++ item ∷ []) contents))
   stands_more = record {
     limits = keeps.entries.limits ∙ (stands.limits ∙ sym keeps.limits);
     received = as_received keeps.received stands.received;

@@ -3,15 +3,15 @@ use Rattle.std.proofs.Common.{◌≡◌, ◌⊎◌, inl, inr, ℕ, ◌+◌, ◌-
 use Rattle.std.specs.Prelude.{is_some, nat_eq, nat_le, nat_lt, ◌==◌, ◌&&◌, not, if◌then◌else◌}
 use Rattle.std.specs.Option.{option_or}
 use Rattle.std.proofs.lemmas.Bool.Decides.{nat_tests}
-use Rattle.hc_sparse.specs.Cells.{Cells, Covers, EndsBy, nothing, written, size_below}
+use Rattle.hc_sparse.specs.Cells.{Cells, Covers, EndsBy, nothing, cells_with, size_below}
 use Rattle.hc_sparse.specs.Runs.{cells_of, end_of}
 use Rattle.hc_sparse.specs.declared.run.Run.{Run}
 use Rattle.hc_sparse.proofs.CellLemmas.{inside-cases, inside-before}
 use Rattle.hc_record.specs.declared.kind.Kind.{Kind}
 use Rattle.hc_record.specs.declared.kind.Kind.TheVariants as kind
 use Rattle.hc_record.specs.Head.{Head}
-use Rattle.hc_stored.specs.Begun.{begun, with_runs}
-use Rattle.hc_stored.specs.Kept.{Kept, filled}
+use Rattle.hc_stored.specs.Begun.{kept_at_beginning, with_runs}
+use Rattle.hc_stored.specs.Kept.{Kept, kept_with_bytes}
 use Rattle.hc_model.specs.Beginnings.{ascend_from, kind_of_runs, same_kind, is_kind_right}
 use Rattle.hc_model.specs.Contents.{runs_from}
 use Rattle.hc_model.specs.Entries.{Content, Contents}
@@ -19,7 +19,7 @@ use Rattle.hc_model.specs.Holes.{covers}
 use Rattle.hc_model.specs.Kinds as kinds
 use Rattle.hc_model.specs.Kinds.{kind_of, is_front}
 use Rattle.hc_model.specs.Tables as tables
-use Rattle.hc_model.specs.Tables.{last_end, bytes_in, loaded}
+use Rattle.hc_model.specs.Tables.{last_end, bytes_in, representation_of_content}
 use Rattle.hc_model.proofs.Basics.{and_left, and_right}
 use Rattle.hc_model.proofs.Begins.{ends_all}
 use Rattle.hc_model.proofs.HoleLemmas.{bool_cases, covers_all}
@@ -42,7 +42,7 @@ pub runs_cells : (n x p : ℕ) (runs : List Run) (k : Kept) → ascend_from n x 
 runs_cells n x p [] k good = refl
 runs_cells n x p (run ∷ runs) k good =
     let later : ascend_from (end_of run) run.x runs ≡ true = and_right _ _ good in
-    runs_cells (end_of run) run.x p runs (filled run.at run.x run.bytes None k) later ∙ elim (inside-cases run.at (length run.bytes) p) [
+    runs_cells (end_of run) run.x p runs (kept_with_bytes run.at run.x run.bytes None k) later ∙ elim (inside-cases run.at (length run.bytes) p) [
       | inl here ↦ rw (here.0, before_runs (end_of run) run.x p runs later here.2) refl
       | inr off ↦ rw off.0 refl
     ]
@@ -50,7 +50,7 @@ runs_cells n x p (run ∷ runs) k good =
 pub runs_reach : (runs : List Run) (k : Kept) → (with_runs runs k).reach ≡ max k.reach (last_end runs)
 runs_reach [] k = omega arith
 runs_reach (run ∷ runs) k =
-    let rest : (with_runs runs (filled run.at run.x run.bytes None k)).reach ≡ max (max k.reach (end_of run)) (last_end runs) = runs_reach runs (filled run.at run.x run.bytes None k) in
+    let rest : (with_runs runs (kept_with_bytes run.at run.x run.bytes None k)).reach ≡ max (max k.reach (end_of run)) (last_end runs) = runs_reach runs (kept_with_bytes run.at run.x run.bytes None k) in
     rest ∙ turned k.reach (end_of run) (last_end runs)
   where
     turned : (a b c : ℕ) → max (max a b) c ≡ max a (max b c)
@@ -59,12 +59,12 @@ runs_reach (run ∷ runs) k =
 -- all else stays
 pub runs_rest : (runs : List Run) (k : Kept) → with_runs runs k ≡ record k { cells = (with_runs runs k).cells; reach = (with_runs runs k).reach }
 runs_rest [] k = refl
-runs_rest (run ∷ runs) k = runs_rest runs (filled run.at run.x run.bytes None k)
+runs_rest (run ∷ runs) k = runs_rest runs (kept_with_bytes run.at run.x run.bytes None k)
 
 -- one more
-pub runs_more : (runs : List Run) (run : Run) (k : Kept) → with_runs (runs ++ run ∷ []) k ≡ filled run.at run.x run.bytes None (with_runs runs k)
+pub runs_more : (runs : List Run) (run : Run) (k : Kept) → with_runs (runs ++ run ∷ []) k ≡ kept_with_bytes run.at run.x run.bytes None (with_runs runs k)
 runs_more [] run k = refl
-runs_more (first ∷ runs) run k = runs_more runs run (filled first.at first.x first.bytes None k)
+runs_more (first ∷ runs) run k = runs_more runs run (kept_with_bytes first.at first.x first.bytes None k)
 
 -- THEIR KIND
 
@@ -118,7 +118,7 @@ module _ (item : Content) (ascends : ascend_from 0 0 item.runs ≡ true) where
   abbrev reach : ℕ
   reach = last_end item.runs
 
-  told_by : (o : Option ℕ) → is_kind_right item o ≡ true → kind_by (kinds.covers_all (loaded item) o) (is_front (loaded item)) ≡ item.head.kind
+  told_by : (o : Option ℕ) → is_kind_right item o ≡ true → kind_by (kinds.covers_all (representation_of_content item) o) (is_front (representation_of_content item)) ≡ item.head.kind
   told_by None right = false_true right
   told_by (Some total) right =
       let test : nat_le reach total ≡ true = and_left _ _ right in
@@ -133,11 +133,11 @@ module _ (item : Content) (ascends : ascend_from 0 0 item.runs ≡ true) where
 
   module _ (right : is_kind_right item item.head.total ≡ true) where
     -- a good item is of the kind that it tells
-    pub kind_begun : (contents : Contents) (r : ℕ) → kind_of (tables.begun contents) r (loaded item) ≡ item.head.kind
+    pub kind_begun : (contents : Contents) (r : ℕ) → kind_of (tables.first_tables contents) r (representation_of_content item) ≡ item.head.kind
     unfolding kind_of
     kind_begun contents r = told_by item.head.total right
 
     -- what is called whole is
     pub whole_begun : (n : ℕ) → item.head.kind ≡ kind.Whole → item.head.total ≡ Some n → Covers cells 0 n
     whole_begun n is total =
-        covers_all cells reach 0 n (whole_by (covers cells reach 0 n) (is_front (loaded item)) (told_by (Some n) (ap (is_kind_right item) (sym total) ∙ right) ∙ is))
+        covers_all cells reach 0 n (whole_by (covers cells reach 0 n) (is_front (representation_of_content item)) (told_by (Some n) (ap (is_kind_right item) (sym total) ∙ right) ∙ is))

@@ -26,7 +26,7 @@ use Rattle.hc_laws.proofs.LettingGo.{may_let_go}
 use Rattle.hc_model.proofs.PollKeeps.{current_stays}
 use Rattle.hc_exch.specs.Exchanges.{next_of}
 use Rattle.hc_contents.specs.declared.contents.Contents as coded_all
-use Rattle.hc_contents.specs.Told.{told, told_item}
+use Rattle.hc_contents.specs.PlainContents.{plain_contents, plain_item}
 use Rattle.hc_state.specs.declared.rows.Rows.{Rows}
 use Rattle.hc_state.specs.Facts.{Facts}
 use Rattle.hc_state.specs.Good.{StandsUntil}
@@ -136,7 +136,7 @@ module _ {B : Type 0} {g : Ghosts B} (r : Rows B g) (t : Tables) (limits : Limit
 -- THE CACHE
 
 pub contents_told : {B : Type 0} {g : Ghosts B} (s : Cache B g) (found : coded_all.Contents) → found.now ≡ s.last_moment → found.last_consumer ≡ s.rows.last_start → found.next_exchange ≡ next_of s.rows.exchanges
-    → TellsAll (shelf_of s.rows.entries) (idle (shelf_of s.rows.entries)) (map told_item found.items) → (contents : Contents) (h : History) → StandsFor s contents h → told found ≡ contents_of (tables contents h)
+    → TellsAll (shelf_of s.rows.entries) (idle (shelf_of s.rows.entries)) (map plain_item found.items) → (contents : Contents) (h : History) → StandsFor s contents h → plain_contents found ≡ contents_of (tables contents h)
 unfolding contents_of
 contents_told s found moment last next tells contents h stands =
     let t = tables contents h in
@@ -145,7 +145,7 @@ contents_told s found moment last next tells contents h stands =
       now = (moment ∙ stands.moment) i;
       last_consumer = (last ∙ stands.rows.last_start) i;
       next_exchange = (next ∙ stands.rows.next) i;
-      items = (sym (items_are s.rows t s.rows.limits facts stands.rows (map told_item found.items) tells)) i;
+      items = (sym (items_are s.rows t s.rows.limits facts stands.rows (map plain_item found.items) tells)) i;
     }
 
 -- the cache stands for the same where what is kept stays
@@ -210,7 +210,7 @@ good_still r u moment limits received last consumers exchanges same_keys stays u
     h = until.0.h;
     begins = rw limits until.0.begins;
     short = until.0.short;
-    modest = until.0.modest;
+    within_limits = until.0.within_limits;
     run = rw limits until.0.run;
     rows = stands_read r u (tables until.0.contents until.0.h) limits received last consumers exchanges same_keys stays until.0.rows;
   },

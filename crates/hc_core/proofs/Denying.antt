@@ -11,20 +11,20 @@ use Rattle.hc_exch.specs.Known.{unknown}
 use Rattle.hc_model.specs.Currents.{current}
 use Rattle.hc_model.specs.Entries.{Entry, no_contents}
 use Rattle.hc_model.specs.Rows.{Tables}
-use Rattle.hc_model.specs.Tables.{begun, after_denied, received_in}
+use Rattle.hc_model.specs.Tables.{first_tables, after_denied, received_in}
 use Rattle.hc_state.specs.declared.rows.Rows.{Rows}
-use Rattle.hc_state.specs.Good.{counted}
+use Rattle.hc_state.specs.Good.{rows_with_event}
 use Rattle.hc_state.specs.Stands.{RowsStand}
 use Rattle.hc_state.proofs.Counting.{stands_recounted}
 use Rattle.hc_state.proofs.Words.{more_received, none_received}
 
-pub stands_denied : {B : Type 0} {g : Ghosts B} (r : Rows B g) (t : Tables) (e : Entry) → RowsStand r t → RowsStand (counted e.event r) (after_denied t e)
+pub stands_denied : {B : Type 0} {g : Ghosts B} (r : Rows B g) (t : Tables) (e : Entry) → RowsStand r t → RowsStand (rows_with_event e.event r) (after_denied t e)
 stands_denied r t e stands =
-    stands_recounted r (counted e.event r) t e.now (t.entries + 1) (t.received + received_in e.event) refl (more_received r.received (received_in e.event) stands.received) refl refl refl refl refl stands
+    stands_recounted r (rows_with_event e.event r) t e.now (t.entries + 1) (t.received + received_in e.event) refl (more_received r.received (received_in e.event) stands.received) refl refl refl refl refl stands
 
 -- AT THE BEGINNING
 
-pub stands_begun : {B : Type 0} {g : Ghosts B} (r : Rows B g) → r.last_start ≡ 0 → next_of r.exchanges ≡ 1 → hash_map_len r.consumers ≡ 0 → ((c : ℕ) → get nat_eq r.consumers c ≡ None) → ((x : ℕ) → table_of r.exchanges x ≡ unknown) → ((key : List ℕ) → kept_of r.keys key ≡ nothing) → ((q : ℕ) → (shelf_of r.entries).kept q ≡ None) → (shelf_of r.entries).order ≡ [] → (shelf_of r.entries).limits ≡ r.limits → RowsStand r (begun no_contents)
+pub stands_begun : {B : Type 0} {g : Ghosts B} (r : Rows B g) → r.last_start ≡ 0 → next_of r.exchanges ≡ 1 → hash_map_len r.consumers ≡ 0 → ((c : ℕ) → get nat_eq r.consumers c ≡ None) → ((x : ℕ) → table_of r.exchanges x ≡ unknown) → ((key : List ℕ) → kept_of r.keys key ≡ nothing) → ((q : ℕ) → (shelf_of r.entries).kept q ≡ None) → (shelf_of r.entries).order ≡ [] → (shelf_of r.entries).limits ≡ r.limits → RowsStand r (first_tables no_contents)
 unfolding current
 stands_begun r last next count none unopened unawaited unkept order limits = record {
   limits = limits;

@@ -7,7 +7,7 @@ use Rattle.hc_model.specs.Entries.{Entry, Content, Contents}
 use Rattle.hc_model.specs.Keys.{entry_of}
 use Rattle.hc_model.specs.Laws.{OfRuns}
 use Rattle.hc_model.specs.Rows.{Tables, Representation}
-use Rattle.hc_model.specs.Tables.{begun, loaded}
+use Rattle.hc_model.specs.Tables.{first_tables, representation_of_content}
 use Rattle.hc_model.proofs.HeadFrom.{HeadFrom, head_from}
 use Rattle.hc_model.proofs.HeadFrom as from
 use Rattle.hc_model.proofs.RepFrom.{RepFrom, rep_from}
@@ -27,12 +27,12 @@ grows_by : (t : Tables) (e : Entry) (r : ℕ) (u : Representation) → HeadsGrow
 grows_by t e r u old (rep.was v kept) = grows_from t e r v u (old r v kept.row) (head_from t e r v u kept)
 grows_by t e r u old (rep.founded response w none here row on is) = sym (ap (λ (z : Representation). z.head.kind) is)
 
-grow_begun : (contents : Contents) → HeadsGrow (begun contents)
+grow_begun : (contents : Contents) → HeadsGrow (first_tables contents)
 grow_begun contents r v row = by_item (find (λ (item : Content). item.r == r) contents.items) row
   where
-    by_item : (z : Option Content) → option_map loaded z ≡ Some v → v.head.kind ≡ kind.Growing
+    by_item : (z : Option Content) → option_map representation_of_content z ≡ Some v → v.head.kind ≡ kind.Growing
     by_item None is = none_some v is
-    by_item (Some item) is = sym (ap (λ (z : Representation). z.head.kind) (some_is (loaded item) v is))
+    by_item (Some item) is = sym (ap (λ (z : Representation). z.head.kind) (some_is (representation_of_content item) v is))
 
 pub heads_grow : OfRuns HeadsGrow
 heads_grow = in_runs (λ limits t. HeadsGrow t) (λ limits contents may. grow_begun contents) (λ limits t e later g. g)

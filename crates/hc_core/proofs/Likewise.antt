@@ -30,7 +30,7 @@ use Rattle.hc_model.specs.Reading.{bound}
 use Rattle.hc_model.specs.Rows as rows
 use Rattle.hc_model.specs.Rows.{Tables, Exchange, Representation}
 use Rattle.hc_model.specs.Sound.{Among, Sound}
-use Rattle.hc_model.specs.Tables.{begun, loaded, numbers, last_end, tables}
+use Rattle.hc_model.specs.Tables.{first_tables, representation_of_content, numbers, last_end, tables}
 use Rattle.hc_model.proofs.Basics.{and_left, and_right, number_is}
 use Rattle.hc_model.proofs.Closed.{among_filter}
 use Rattle.hc_model.proofs.CurrentKeeps.{current_is}
@@ -78,7 +78,7 @@ unfolding may_begin
 good_of limits contents may = and_left _ _ (and_left _ _ (and_left _ _ (and_left _ _ (and_left _ _ may))))
 
 -- what contents begin with is sound
-begun_sound : (limits : Limits) (contents : Contents) → may_begin limits contents ≡ true → Sound (begun contents)
+begun_sound : (limits : Limits) (contents : Contents) → may_begin limits contents ≡ true → Sound (first_tables contents)
 unfolding tables
 begun_sound limits contents may = (carried limits contents [] may tt).is_sound
 
@@ -156,9 +156,9 @@ module _ (t : Tables) where
 
 -- THE ROWS
 
-module _ {B : Type 0} {g : Ghosts B} (r : Rows B g) (limits : Limits) (t : Tables) (facts : Facts limits t) (grow : HeadsGrow t) (none : live t ≡ 0) (may : may_begin limits (contents_of t) ≡ true) (small : t.received ≤ most_before) (stands : RowsStand r (begun (contents_of t))) where
+module _ {B : Type 0} {g : Ghosts B} (r : Rows B g) (limits : Limits) (t : Tables) (facts : Facts limits t) (grow : HeadsGrow t) (none : live t ≡ 0) (may : may_begin limits (contents_of t) ≡ true) (small : t.received ≤ most_before) (stands : RowsStand r (first_tables (contents_of t))) where
   abbrev s : Tables
-  s = begun (contents_of t)
+  s = first_tables (contents_of t)
 
   sound : Sound s
   sound = begun_sound limits (contents_of t) may
@@ -193,7 +193,7 @@ module _ {B : Type 0} {g : Ghosts B} (r : Rows B g) (limits : Limits) (t : Table
   remains q = by_row (t.representation q) refl
     where
       unlisted : is_usable_row (t.representation q) ≡ false → s.representation q ≡ None
-      unlisted off = ap (option_map loaded) (found_unlisted t q (idle_now t) (λ among. false_true (sym (idle_is q ∙ off) ∙ (filter_among (λ n. is_idle t n (t.representation n)) q (reverse t.used) among).1)))
+      unlisted off = ap (option_map representation_of_content) (found_unlisted t q (idle_now t) (λ among. false_true (sym (idle_is q ∙ off) ∙ (filter_among (λ n. is_idle t n (t.representation n)) q (reverse t.used) among).1)))
 
       listed : (v : Representation) → t.representation q ≡ Some v → v.is_gone ≡ false → Among q (idle_now t)
       listed v row fresh =
@@ -208,8 +208,8 @@ module _ {B : Type 0} {g : Ghosts B} (r : Rows B g) (limits : Limits) (t : Table
       by_row None row = has_none row (unlisted (ap is_usable_row row))
       by_row (Some v) row = by_gone v row v.is_gone refl
 
-  loaded_row : (q : ℕ) (v : Representation) → find (λ (o : Content). o.r == q) (contents_of t).items ≡ Some (content_of t q v) → s.representation q ≡ Some (loaded (content_of t q v))
-  loaded_row q v found = ap (option_map loaded) found
+  loaded_row : (q : ℕ) (v : Representation) → find (λ (o : Content). o.r == q) (contents_of t).items ≡ Some (content_of t q v) → s.representation q ≡ Some (representation_of_content (content_of t q v))
+  loaded_row q v found = ap (option_map representation_of_content) found
 
   -- REPRESENTATIONS
 
@@ -244,7 +244,7 @@ module _ {B : Type 0} {g : Ghosts B} (r : Rows B g) (limits : Limits) (t : Table
     forgets k (stored.as_written is) = is
     forgets k (stored.forgotten x off is on) = off
 
-    entry_is : (k : Kept) → IsEntry s q k (loaded item) → IsEntry t q k v
+    entry_is : (k : Kept) → IsEntry s q k (representation_of_content item) → IsEntry t q k v
     entry_is k e =
         let good = good_found limits (contents_of t) q item [] (contents_of t).items (good_of limits (contents_of t) may) found in
         record {
@@ -264,7 +264,7 @@ module _ {B : Type 0} {g : Ghosts B} (r : Rows B g) (limits : Limits) (t : Table
           is_gone = e.is_gone ∙ sym fresh;
         }
       where
-        by_length : TellsLength k (loaded item) → k.head.total ≡ v.head.total
+        by_length : TellsLength k (representation_of_content item) → k.head.total ≡ v.head.total
         by_length (stored.told is) = is
         by_length (stored.untold u) = false_true u.gone
 
@@ -286,7 +286,7 @@ module _ {B : Type 0} {g : Ghosts B} (r : Rows B g) (limits : Limits) (t : Table
       by_case (has_gone v row is off) = rw (row, unkept q off) (record { gone = is; unused = none_bound t facts.law none q })
       by_case (has_item v row fresh found) = subst (KeepsEntry t q (kept_at q)) (sym row) (by_kept (kept_at q) (subst (KeepsEntry s q (kept_at q)) (loaded_row q v found) (stands.entries.each q)))
         where
-          by_kept : (o : Option Kept) → KeepsEntry s q o (Some (loaded (content_of t q v))) → KeepsEntry t q o (Some v)
+          by_kept : (o : Option Kept) → KeepsEntry s q o (Some (representation_of_content (content_of t q v))) → KeepsEntry t q o (Some v)
           by_kept None e = false_true e.gone
           by_kept (Some k) e = entry_is q v row fresh found k e
 
@@ -326,14 +326,14 @@ module _ {B : Type 0} {g : Ghosts B} (r : Rows B g) (limits : Limits) (t : Table
       by_some q at (has_item v row fresh found) =
           let its = current_row t q key at in
           let same = same_row (t.representation q) v its.0 row its.1 in
-          current_is s key q (loaded (content_of t q v)) sound (loaded_row q v found) (ap (λ (z : Representation). z.key) same ∙ its.2) refl
+          current_is s key q (representation_of_content (content_of t q v)) sound (loaded_row q v found) (ap (λ (z : Representation). z.key) same ∙ its.2) refl
 
       by_none : (q : ℕ) → current t key ≡ None → current s key ≡ Some q → Remains q → ⊥
       by_none q at is (has_none row off) = (let its = current_row s q key is in none_some its.0 (sym off ∙ its.1))
       by_none q at is (has_gone v row went off) = (let its = current_row s q key is in none_some its.0 (sym off ∙ its.1))
       by_none q at is (has_item v row fresh found) =
           let its = current_row s q key is in
-          let same = same_row (s.representation q) (loaded (content_of t q v)) its.0 (loaded_row q v found) its.1 in
+          let same = same_row (s.representation q) (representation_of_content (content_of t q v)) its.0 (loaded_row q v found) its.1 in
           none_some q (sym at ∙ current_is t key q v facts.law.sound row (ap (λ (z : Representation). z.key) same ∙ its.2) fresh)
 
       none_by : (o : Option ℕ) → current t key ≡ None → current s key ≡ o → o ≡ None
@@ -389,7 +389,7 @@ module _ {B : Type 0} {g : Ghosts B} (r : Rows B g) (limits : Limits) (t : Table
 
 -- THE CACHE
 
-pub serves_all : {B : Type 0} {g : Ghosts B} (s : Cache B g) (contents : Contents) → s.last_moment ≡ contents.now → may_begin s.rows.limits contents ≡ true → RowsStand s.rows (begun contents) → ServesAll s contents
+pub serves_all : {B : Type 0} {g : Ghosts B} (s : Cache B g) (contents : Contents) → s.last_moment ≡ contents.now → may_begin s.rows.limits contents ≡ true → RowsStand s.rows (first_tables contents) → ServesAll s contents
 unfolding contents_of
 serves_all s contents moment may stands before h begins short run none leaves small =
     record {
@@ -400,5 +400,5 @@ serves_all s contents moment may stands before h begins short run none leaves sm
       rows =
           rows_likewise s.rows s.rows.limits (tables before h) (facts_of_runs s.rows.limits before h begins short run) (heads_grow s.rows.limits before h begins run) none
           (subst (λ (c : Contents). may_begin s.rows.limits c ≡ true) (sym leaves) may) small
-          (subst (λ (c : Contents). RowsStand s.rows (begun c)) (sym leaves) stands);
+          (subst (λ (c : Contents). RowsStand s.rows (first_tables c)) (sym leaves) stands);
     }

@@ -11,8 +11,8 @@ use Rattle.hc_model.specs.Rows.{Tables, Exchange, Representation, Consumer}
 use Rattle.hc_model.specs.Sound as sound
 use Rattle.hc_model.specs.Whose.{IsSomebodys, may_own}
 use Rattle.hc_model.specs.Whose as whose
-use Rattle.hc_model.proofs.Pens.{filter_some}
-use Rattle.hc_state.specs.Kept.{held_for, held_of, held_alone, unread, unstored}
+use Rattle.hc_model.proofs.ExclusiveWriters.{filter_some}
+use Rattle.hc_state.specs.Kept.{held_for, held_of, held_alone, unread, unstored_bytes}
 use Rattle.hc_state.proofs.LiveCounts.{filter_nothing}
 use Rattle.hc_state.proofs.Words.{false_true, not_true}
 
@@ -76,7 +76,7 @@ module _ (t : Tables) (law : Lawful t) (none : live t ≡ 0) where
   unread_none x w c None row = refl
   unread_none x w c (Some k) row = (let at = has_left c k row in rw at refl)
 
-  unstored_none : (x : ℕ) (w : Exchange) (v : Representation) (c : ℕ) (o : Option Consumer) → t.consumer c ≡ o → unstored t x w v o ≡ []
+  unstored_none : (x : ℕ) (w : Exchange) (v : Representation) (c : ℕ) (o : Option Consumer) → t.consumer c ≡ o → unstored_bytes t x w v o ≡ []
   unstored_none x w v c None row = refl
   unstored_none x w v c (Some k) row = (let at = has_left c k row in rw at refl)
 

@@ -8,7 +8,7 @@ use Rattle.hc_event.specs.declared.event.Event.{Event}
 use Rattle.hc_rules.specs.declared.room.Limits.{Limits}
 use Rattle.hc_rules.specs.Refusals.{refusal_of}
 use Rattle.hc_exch.specs.Exchanges.{next_of}
-use Rattle.hc_model.specs.Answers.{accepted}
+use Rattle.hc_model.specs.Answers.{accepted_acts}
 use Rattle.hc_model.specs.Denials.{denial}
 use Rattle.hc_event.specs.Filters.{Opening, opening_in}
 use Rattle.hc_model.specs.Flaws.{Flaw}
@@ -18,21 +18,21 @@ use Rattle.hc_model.specs.Sound.{Sound}
 use Rattle.hc_model.specs.Tables.{after_accepted, opened_after, tables}
 use Rattle.hc_model.proofs.NumbersKeep.{opens_next}
 use Rattle.hc_state.specs.declared.rows.Rows.{Rows}
-use Rattle.hc_state.specs.Good.{StandsUntil, counted}
+use Rattle.hc_state.specs.Good.{StandsUntil, rows_with_event}
 use Rattle.hc_state.specs.Stands.{Stands, Answers, gate_of}
 use Rattle.hc_state.proofs.Maps.{merely_below}
 use Rattle.hc_on_leave.proofs.Gates.{denies_as}
 use Rattle.hc_core.proofs.Standing.{stands_of_runs}
 
 opens_one : (limits : Limits) (t : Tables) (now : ℕ) (flaw : Flaw) → Sound t → (ev : Event) → denial t ev ≡ None → (after_accepted t (entry_of limits t now ev flaw)).opened ≤ t.opened + 1
-opens_one limits t now flaw sound ev free = by_opening (opening_in (accepted limits t now ev flaw)) refl
+opens_one limits t now flaw sound ev free = by_opening (opening_in (accepted_acts limits t now ev flaw)) refl
   where
-    by_opening : (z : Option Opening) → opening_in (accepted limits t now ev flaw) ≡ z → opened_after z t.opened ≤ t.opened + 1
+    by_opening : (z : Option Opening) → opening_in (accepted_acts limits t now ev flaw) ≡ z → opened_after z t.opened ≤ t.opened + 1
     by_opening None is = omega arith
     by_opening (Some o) is = let next : o.x ≡ t.opened + 1 = opens_next limits t now flaw sound ev o free is in omega (arith, next)
 
 module _ {B : Type 0} {g : Ghosts B} (r u : Rows B g) (before out : List Act) (now : ℕ) (ev : Event)
-    (denied : (why : Refusal) → refusal_of (gate_of r ev) ev ≡ Some why → (u ≡ counted ev r) × (out ≡ before ++ act.Denied why ∷ []))
+    (denied : (why : Refusal) → refusal_of (gate_of r ev) ev ≡ Some why → (u ≡ rows_with_event ev r) × (out ≡ before ++ act.Denied why ∷ []))
     (answers : refusal_of (gate_of r ev) ev ≡ None → Answers r u before out now ev) where
   by_gate : Stands r → (z : Option Refusal) → refusal_of (gate_of r ev) ev ≡ z → next_of u.exchanges ≤ next_of r.exchanges + 1
   by_gate s None is =

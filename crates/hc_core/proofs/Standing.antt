@@ -14,7 +14,7 @@ use Rattle.hc_model.specs.Runs.{IsRun}
 use Rattle.hc_model.specs.Tables.{tables}
 use Rattle.hc_laws.proofs.AloneRuns.{alone_in_runs}
 use Rattle.hc_model.proofs.Beside.{goes_on_at}
-use Rattle.hc_model.proofs.ModestRuns.{requests_are_modest}
+use Rattle.hc_model.proofs.RunsWithinLimits.{requests_are_within_limits}
 use Rattle.hc_laws.proofs.BringsRuns.{brings_in_runs}
 use Rattle.hc_laws.proofs.FrontRuns.{fronts_in_runs}
 use Rattle.hc_laws.proofs.FitsRuns.{fits}
@@ -77,7 +77,7 @@ facts_of_runs limits contents h may short run =
       fits = subst (λ n. n ≤ limits.max_total) (sym (weights_total (tables contents h))) (fits limits contents h may run).within;
       live = few_in_runs limits contents h may run;
       turns = (turned_in_runs limits contents h may run).turns;
-      come = record { covered = λ r c x v k w there pen reader undue owns row headed. come_up v.body _ w (here.beside.covered r c x v k w there pen reader undue owns row) headed };
+      come = record { covered = λ r c x v k w there exclusive_writer reader undue owns row headed. come_up v.body _ w (here.beside.covered r c x v k w there exclusive_writer reader undue owns row) headed };
       parts = parts_in_runs limits contents h may run;
       origins = origins_in_runs limits contents h may run;
       fronts = fronts_in_runs limits contents h may run;
@@ -88,7 +88,7 @@ pub stands_of_runs : {B : Type 0} {g : Ghosts B} (r : Rows B g) → StandsForSom
 stands_of_runs r s = record {
   t = tables s.contents s.h;
   facts = facts_of_runs r.limits s.contents s.h s.begins s.short s.run;
-  modest = requests_are_modest s.contents s.h s.modest;
+  within_limits = requests_are_within_limits s.contents s.h s.within_limits;
   rows = s.rows;
 }
 

@@ -20,12 +20,12 @@ use Rattle.hc_exch.specs.Known.{unknown}
 use Rattle.hc_stored.specs.Entries.{shelf_of}
 use Rattle.hc_entry.specs.Keys.{kept_of}
 use Rattle.hc_entry.specs.Kept.{nothing}
-use Rattle.hc_model.specs.Answers.{answer, accepted, denied_or}
+use Rattle.hc_model.specs.Answers.{answer, accepted_acts, denied_or}
 use Rattle.hc_model.specs.Beginnings.{may_begin}
 use Rattle.hc_model.specs.Denials.{denial}
 use Rattle.hc_model.specs.Entries.{Entry, History, Contents, no_contents}
 use Rattle.hc_model.specs.Flaws.{Flaw, NoFlaw, flaw_in}
-use Rattle.hc_model.specs.Modest.{HasModestFields}
+use Rattle.hc_model.specs.WithinLimits.{HasFieldsWithinLimits}
 use Rattle.hc_model.specs.Numbers.{AreShort}
 use Rattle.hc_model.specs.Rows.{Tables}
 use Rattle.hc_model.specs.Runs.{IsRun, IsOwed, may_stand, may_be}
@@ -34,12 +34,12 @@ use Rattle.hc_laws.proofs.Barred.{next_tables, denied_tables}
 use Rattle.hc_laws.proofs.ChainRuns.{chains_in_runs}
 use Rattle.hc_laws.proofs.InRuns.{delivers_in_runs, turns_in_runs, dooms_in_runs}
 use Rattle.hc_laws.proofs.TruthRuns.{truth_in_runs}
-use Rattle.hc_event.specs.Modest.{IsModestEvent}
+use Rattle.hc_event.specs.WithinLimits.{IsEventWithinLimits}
 use Rattle.hc_state.specs.declared.rows.Rows.{Rows}
 use Rattle.hc_state.specs.Stands.{RowsStand, Answers, gate_of}
 use Rattle.hc_model.specs.Flaws.{is_fault}
 use Rattle.hc_state.specs.Facts.{Facts}
-use Rattle.hc_state.specs.Good.{StandsUntil, counted}
+use Rattle.hc_state.specs.Good.{StandsUntil, rows_with_event}
 use Rattle.hc_on_leave.proofs.Gates.{denies_as}
 use Rattle.hc_on_leave.proofs.Sets.{acts_set}
 use Rattle.hc_core.proofs.Standing.{facts_of_runs}
@@ -72,29 +72,29 @@ stands_beginning s moment last next count none unopened unawaited unkept order l
 
 pub begins_good : {B : Type 0} {g : Ghosts B} (r : Rows B g) → r.last_start ≡ 0 → next_of r.exchanges ≡ 1 → hash_map_len r.consumers ≡ 0 → ((c : ℕ) → get nat_eq r.consumers c ≡ None) → ((x : ℕ) → table_of r.exchanges x ≡ unknown) → ((key : List ℕ) → kept_of r.keys key ≡ nothing) → ((q : ℕ) → (shelf_of r.entries).kept q ≡ None) → (shelf_of r.entries).order ≡ [] → (shelf_of r.entries).limits ≡ r.limits → StandsUntil r 0
 unfolding tables
-begins_good r last next count none unopened unawaited unkept order limits = (record { contents = no_contents; h = []; begins = begins r.limits; short = none_long; modest = tt; run = tt; rows = stands_begun r last next count none unopened unawaited unkept order limits }, omega arith)
+begins_good r last next count none unopened unawaited unkept order limits = (record { contents = no_contents; h = []; begins = begins r.limits; short = none_long; within_limits = tt; run = tt; rows = stands_begun r last next count none unopened unawaited unkept order limits }, omega arith)
 
 -- WHAT COMES
 
-modest_fields : (ev : Event) → IsModestEvent ev → HasModestFields ev
-modest_fields (event.Start c request) modest = modest
-modest_fields (event.Poll c want) modest = tt
-modest_fields (event.Head x response) modest = modest
-modest_fields (event.Piece x bytes) modest = tt
-modest_fields (event.End x) modest = tt
-modest_fields (event.Fault x) modest = tt
-modest_fields (event.Cancel c) modest = tt
-modest_fields (event.Doom key) modest = tt
+within_limits_fields : (ev : Event) → IsEventWithinLimits ev → HasFieldsWithinLimits ev
+within_limits_fields (event.Start c request) within_limits = within_limits
+within_limits_fields (event.Poll c want) within_limits = tt
+within_limits_fields (event.Head x response) within_limits = within_limits
+within_limits_fields (event.Piece x bytes) within_limits = tt
+within_limits_fields (event.End x) within_limits = tt
+within_limits_fields (event.Fault x) within_limits = tt
+within_limits_fields (event.Cancel c) within_limits = tt
+within_limits_fields (event.Doom key) within_limits = tt
 
 -- WHAT IS OWED
 
-answer_accepted : (limits : Limits) (t : Tables) (now : ℕ) (ev : Event) (flaw : Flaw) → denial t ev ≡ None → answer limits t now ev flaw ≡ accepted limits t now ev flaw
+answer_accepted : (limits : Limits) (t : Tables) (now : ℕ) (ev : Event) (flaw : Flaw) → denial t ev ≡ None → answer limits t now ev flaw ≡ accepted_acts limits t now ev flaw
 unfolding answer
-answer_accepted limits t now ev flaw none = ap (λ o. denied_or o (accepted limits t now ev flaw)) none
+answer_accepted limits t now ev flaw none = ap (λ o. denied_or o (accepted_acts limits t now ev flaw)) none
 
 answer_denied : (limits : Limits) (t : Tables) (now : ℕ) (ev : Event) (flaw : Flaw) (why : Refusal) → denial t ev ≡ Some why → answer limits t now ev flaw ≡ act.Denied why ∷ []
 unfolding answer
-answer_denied limits t now ev flaw why some = ap (λ o. denied_or o (accepted limits t now ev flaw)) some
+answer_denied limits t now ev flaw why some = ap (λ o. denied_or o (accepted_acts limits t now ev flaw)) some
 
 or_second : (a b : Bool) → b ≡ true → (a || b) ≡ true
 or_second true b on = refl
@@ -138,7 +138,7 @@ one_counted faults after flaw true is caused never = let one = caused is in omeg
 one_counted faults after flaw false is caused never = omega (arith, never)
 
 module _ {B : Type 0} {g : Ghosts B} (r u : Rows B g) (now : ℕ) (ev : Event) (before out : List Act)
-    (denied : (why : Refusal) → refusal_of (gate_of r ev) ev ≡ Some why → (u ≡ counted ev r) × (out ≡ before ++ act.Denied why ∷ []))
+    (denied : (why : Refusal) → refusal_of (gate_of r ev) ev ≡ Some why → (u ≡ rows_with_event ev r) × (out ≡ before ++ act.Denied why ∷ []))
     (answered : refusal_of (gate_of r ev) ev ≡ None → Answers r u before out now ev) (limits : u.limits ≡ r.limits) (never : (shelf_of r.entries).faults ≤ (shelf_of u.entries).faults) where
   module _ (contents : Contents) (h : History) (begun : may_begin r.limits contents ≡ true) (short : AreShort contents) (run : IsRun r.limits contents h) (rows : RowsStand r (tables contents h)) (in_time : (tables contents h).moment ≤ now) where
     abbrev t : Tables
@@ -165,7 +165,7 @@ module _ {B : Type 0} {g : Ghosts B} (r u : Rows B g) (now : ℕ) (ev : Event) (
     by_refusal None is =
         let free : denial t ev ≡ None = sym (denies_as r t ev rows) ∙ is in
         let done = answered is t facts rows free in
-        let acts = accepted r.limits t now ev done.flaw in
+        let acts = accepted_acts r.limits t now ev done.flaw in
         let e : Entry = with_acts acts in
         let counts = one_counted (shelf_of r.entries).faults (shelf_of u.entries).faults done.flaw (is_fault done.flaw) refl done.caused never in
         told_by r u contents h before out acts now ev done.acts
@@ -191,10 +191,10 @@ module _ {B : Type 0} {g : Ghosts B} (r u : Rows B g) (now : ℕ) (ev : Event) (
   abbrev some_more : (last : ℕ) → last ≤ now → (some : StandsUntil r last) → Told r u some.0.contents some.0.h before out now ev
   some_more last later (s, until) = one_more s.contents s.h s.begins s.short s.run s.rows (omega (arith, later, until))
 
-  pub some_after : IsModestEvent ev → (last : ℕ) → last ≤ now → StandsUntil r last → StandsUntil u now
-  some_after modest last later (s, until) =
+  pub some_after : IsEventWithinLimits ev → (last : ℕ) → last ≤ now → StandsUntil r last → StandsUntil u now
+  some_after within_limits last later (s, until) =
       let more = (some_more last later (s, until)).more in
-      (record { contents = s.contents; h = record { now = now; event = ev; acts = acts_in before out } ∷ s.h; begins = more.begins; short = s.short; modest = (s.modest, modest_fields ev modest); run = more.run; rows = more.rows }, subst (λ n. n ≤ now) (sym more.moment) (omega arith))
+      (record { contents = s.contents; h = record { now = now; event = ev; acts = acts_in before out } ∷ s.h; begins = more.begins; short = s.short; within_limits = (s.within_limits, within_limits_fields ev within_limits); run = more.run; rows = more.rows }, subst (λ n. n ≤ now) (sym more.moment) (omega arith))
 
   pub told_after : (last : ℕ) → last ≤ now → ∥ StandsUntil r last ∥₁ → out ≡ before ++ acts_in before out
   told_after last later some = ∥∥₁_elim some (acts_set out (before ++ acts_in before out)) (λ s. (some_more last later s).told)
@@ -203,7 +203,7 @@ module _ {B : Type 0} {g : Ghosts B} (r u : Rows B g) (now : ℕ) (ev : Event) (
   counted_after last later some = ∥∥₁_elim some le_prop (λ s. (some_more last later s).more.counted)
 
 module _ {B : Type 0} {g : Ghosts B} (s u : Cache B g) (now : ℕ) (ev : Event) (before out : List Act)
-    (denied : (why : Refusal) → refusal_of (gate_of s.rows ev) ev ≡ Some why → (u.rows ≡ counted ev s.rows) × (out ≡ before ++ act.Denied why ∷ []))
+    (denied : (why : Refusal) → refusal_of (gate_of s.rows ev) ev ≡ Some why → (u.rows ≡ rows_with_event ev s.rows) × (out ≡ before ++ act.Denied why ∷ []))
     (answered : refusal_of (gate_of s.rows ev) ev ≡ None → Answers s.rows u.rows before out now ev)
     (later : s.last_moment ≤ now) (moment : u.last_moment ≡ now) (limits : u.rows.limits ≡ s.rows.limits) (never : (shelf_of s.rows.entries).faults ≤ (shelf_of u.rows.entries).faults) where
   stands_on : (contents : Contents) (h : History) → StandsFor s contents h → StandsFor u contents (record { now = now; event = ev; acts = acts_in before out } ∷ h)

@@ -7,16 +7,16 @@ use Rattle.hc_event.specs.declared.event.Event.TheVariants as event
 use Rattle.hc_event.specs.declared.act.Act.{Act}
 use Rattle.hc_event.specs.declared.act.Act.TheVariants as act
 use Rattle.hc_rules.specs.declared.room.Limits.{Limits}
-use Rattle.hc_model.specs.Answers.{accepted, said, poll_acts, lost, closed}
+use Rattle.hc_model.specs.Answers.{accepted_acts, answer_acts, poll_acts, loss_acts, close_acts}
 use Rattle.hc_model.specs.Flaws.{Flaw, NoFlaw, Loses, Misreads}
 use Rattle.hc_model.specs.Moves as moves
 use Rattle.hc_model.specs.Moves.{Move, Nothing, Asks, Opens, Shows, Gives, Ends, Fails, acts_of}
-use Rattle.hc_model.specs.Polls.{polled}
+use Rattle.hc_model.specs.Polls.{poll_move}
 use Rattle.hc_model.specs.Closings.{closing}
 use Rattle.hc_model.specs.Rows.{Tables}
 use Rattle.hc_model.specs.Weights.{evicted}
 
-then_closes : (ys : List ℕ) (flaw : Flaw) → is_denied (map act.Close ys ++ lost flaw) ≡ false
+then_closes : (ys : List ℕ) (flaw : Flaw) → is_denied (map act.Close ys ++ loss_acts flaw) ≡ false
 then_closes [] NoFlaw = refl
 then_closes [] (Loses r kind) = refl
 then_closes [] (Misreads r) = refl
@@ -33,11 +33,11 @@ by_move c Ends acts off = refl
 by_move c (Fails cause) acts off = refl
 
 by_flaw : (t : Tables) (now want c : ℕ) (flaw : Flaw) (acts : List Act) → is_denied acts ≡ false → is_denied (poll_acts t now want c flaw ++ acts) ≡ false
-by_flaw t now want c NoFlaw acts off = by_move c (polled t now want c (t.consumer c)) acts off
-by_flaw t now want c (Loses r kind) acts off = by_move c (polled t now want c (t.consumer c)) acts off
+by_flaw t now want c NoFlaw acts off = by_move c (poll_move t now want c (t.consumer c)) acts off
+by_flaw t now want c (Loses r kind) acts off = by_move c (poll_move t now want c (t.consumer c)) acts off
 by_flaw t now want c (Misreads r) acts off = refl
 
-then_lost : (ys : List ℕ) (flaw : Flaw) → is_denied (lost flaw ++ map act.Close ys) ≡ false
+then_lost : (ys : List ℕ) (flaw : Flaw) → is_denied (loss_acts flaw ++ map act.Close ys) ≡ false
 then_lost [] NoFlaw = refl
 then_lost [] (Loses r kind) = refl
 then_lost [] (Misreads r) = refl
@@ -49,14 +49,14 @@ then_evicts : (rs : List ℕ) (acts : List Act) → is_denied acts ≡ false →
 then_evicts [] acts off = off
 then_evicts (r ∷ rs) acts off = refl
 
-outside : (limits : Limits) (t : Tables) (now : ℕ) (ev : Event) (flaw : Flaw) → is_denied (map act.Evicted (evicted limits t now ev) ++ (lost flaw ++ closed t now ev flaw)) ≡ false
-outside limits t now ev flaw = then_evicts (evicted limits t now ev) (lost flaw ++ closed t now ev flaw) (then_lost (closing t (record { now = now; event = ev; acts = said t now ev flaw ++ lost flaw })) flaw)
+outside : (limits : Limits) (t : Tables) (now : ℕ) (ev : Event) (flaw : Flaw) → is_denied (map act.Evicted (evicted limits t now ev) ++ (loss_acts flaw ++ close_acts t now ev flaw)) ≡ false
+outside limits t now ev flaw = then_evicts (evicted limits t now ev) (loss_acts flaw ++ close_acts t now ev flaw) (then_lost (closing t (record { now = now; event = ev; acts = answer_acts t now ev flaw ++ loss_acts flaw })) flaw)
 
-pub undenied : (limits : Limits) (t : Tables) (now : ℕ) (ev : Event) (flaw : Flaw) → is_denied (accepted limits t now ev flaw) ≡ false
+pub undenied : (limits : Limits) (t : Tables) (now : ℕ) (ev : Event) (flaw : Flaw) → is_denied (accepted_acts limits t now ev flaw) ≡ false
 undenied limits t now (event.Poll c want) flaw =
-    by_flaw t now want c flaw (closed t now (event.Poll c want) flaw ++ lost flaw)
-    (then_closes (closing t (record { now = now; event = event.Poll c want; acts = said t now (event.Poll c want) flaw ++ lost flaw })) flaw)
-undenied limits t now (event.Cancel c) flaw = then_closes (closing t (record { now = now; event = event.Cancel c; acts = lost flaw })) flaw
+    by_flaw t now want c flaw (close_acts t now (event.Poll c want) flaw ++ loss_acts flaw)
+    (then_closes (closing t (record { now = now; event = event.Poll c want; acts = answer_acts t now (event.Poll c want) flaw ++ loss_acts flaw })) flaw)
+undenied limits t now (event.Cancel c) flaw = then_closes (closing t (record { now = now; event = event.Cancel c; acts = loss_acts flaw })) flaw
 undenied limits t now (event.Start c request) flaw = outside limits t now (event.Start c request) flaw
 undenied limits t now (event.Head x response) flaw = outside limits t now (event.Head x response) flaw
 undenied limits t now (event.Piece x bytes) flaw = outside limits t now (event.Piece x bytes) flaw

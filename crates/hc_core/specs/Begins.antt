@@ -10,7 +10,7 @@ use Rattle.hc_entry.specs.Kept.{with_current}
 use Rattle.hc_entry.specs.Keys as keys
 use Rattle.hc_model.specs.Beginnings.{ascend_from, is_kind_right}
 use Rattle.hc_model.specs.Entries.{Content, Contents}
-use Rattle.hc_model.specs.Tables.{begun, bytes_in}
+use Rattle.hc_model.specs.Tables.{first_tables, bytes_in}
 use Rattle.hc_contents.specs.Fit.{unfit_of}
 use Rattle.hc_contents.specs.declared.unfit.Unfit.TheVariants as unfit
 use Rattle.hc_state.specs.declared.rows.Rows.{Rows}
@@ -27,7 +27,7 @@ with_items items contents = record contents { items = items }
 
 -- what is kept of an item
 abbrev pub kept_item : Content → Kept
-kept_item item = entries.with_runs item.runs (entries.begun item.key item.head)
+kept_item item = entries.with_runs item.runs (entries.kept_at_beginning item.key item.head)
 
 -- an item more is kept and current, and all else stays
 pub record KeepsItem {B : Type 0} {g : Ghosts B} (r u : Rows B g) (item : Content) : Type 0 where

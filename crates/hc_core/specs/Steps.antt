@@ -30,8 +30,8 @@ last_moment s = s.last_moment
 abbrev pub steps : {B : Type 0} {g : Ghosts B} → Cache B g → ℕ
 steps s = s.steps
 
-abbrev pub received : {B : Type 0} {g : Ghosts B} → Cache B g → ℕ
-received s = s.rows.received
+abbrev pub bytes_received : {B : Type 0} {g : Ghosts B} → Cache B g → ℕ
+bytes_received s = s.rows.received
 
 -- how many consumers are live
 abbrev pub live_in : {B : Type 0} {g : Ghosts B} → Cache B g → ℕ

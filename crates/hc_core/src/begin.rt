@@ -1,7 +1,7 @@
 //! Why a cache can't begin with contents.
 ghost use Rattle.std.specs.Prelude.{◌≡◌, ◌≢◌, ℕ, None, false, IfNone, IfSome};
 ghost use Rattle.hc_contents.specs.Fit.{unfit_of};
-ghost use Rattle.hc_contents.specs.Told.{told};
+ghost use Rattle.hc_contents.specs.PlainContents.{plain_contents};
 ghost use Rattle.hc_core.specs.Begins.{IsCause, is_unfit};
 
 use hc_contents::{Contents, Unfit, why_unfit};
@@ -38,9 +38,9 @@ pub(crate) fn refusal_of(
     limits: Limits,
     alloc: Global,
 ) -> Option<ContentsError>
-    ensures none { IfNone result (unfit_of limits (told contents.entry.now) ≡ None) }
+    ensures none { IfNone result (unfit_of limits (plain_contents contents.entry.now) ≡ None) }
     ensures some { IfSome result (λ why. (n : ℕ)
-        → IsCause limits (told contents.entry.now) n n why) }
+        → IsCause limits (plain_contents contents.entry.now) n n why) }
 {
     match why_unfit(contents, limits, alloc) {
         Ok(None) => None,

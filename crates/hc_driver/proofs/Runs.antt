@@ -27,7 +27,7 @@ use Rattle.hc_driver.specs.declared.stop.Stop.TheVariants as stop
 use Rattle.hc_driver.specs.Counting.{size_of}
 use Rattle.hc_driver.specs.Stepping.{Steps, StepsSome, last_moment}
 use Rattle.hc_driver.specs.Endings as endings
-use Rattle.hc_driver.specs.Endings.{IsReading, Goes, brought, IsRefused, Ends}
+use Rattle.hc_driver.specs.Endings.{IsReading, Goes, events_from, IsRefused, Ends}
 use Rattle.hc_driver.specs.Stops.{of_feed, of_sink, ended_by, ended_as}
 use Rattle.hc_driver.proofs.Sizes.{size_of-append, brought_small}
 use Rattle.hc_driver.proofs.Timings.{timed_from, timed_back, last-append, last_later}
@@ -47,13 +47,13 @@ pub record IsOn {A : Type 0} (answers : A → ℕ → Event → List Act → A �
   pub gives : Gives left left' text
   pub leads : after (beginning moment) text ≡ feed
   pub reading : IsReading feed
-  pub steps : Steps answers s u 0 (brought moment text) out out'
+  pub steps : Steps answers s u 0 (events_from moment text) out out'
   pub count : now.given ≡ given + length text
   pub lines : lines_in feed ≤ length text
   pub numbered : now.number ≡ now.steps
-  pub number_is : now.number ≡ 0 + length (brought moment text)
-  pub size : now.steps + now.received ≡ size_of (brought moment text)
-  pub moment_is : now.moment ≤ last_moment moment (brought moment text)
+  pub number_is : now.number ≡ 0 + length (events_from moment text)
+  pub size : now.steps + now.received ≡ size_of (events_from moment text)
+  pub moment_is : now.moment ≤ last_moment moment (events_from moment text)
 
 -- what the end of a text answers is its refusal
 abbrev IsAs : Progress → Result (Unit {0}) FeedError → Type 0
@@ -78,7 +78,7 @@ module _ {A : Type 0} (answers : A → ℕ → Event → List Act → A → Type
     moment_is = le;
   }
 
-  pub brought-append : (moment : ℕ) (text piece : List ℕ) → brought moment (text ++ piece) ≡ brought moment text ++ events_in (after (beginning moment) text) piece
+  pub brought-append : (moment : ℕ) (text piece : List ℕ) → events_from moment (text ++ piece) ≡ events_from moment text ++ events_in (after (beginning moment) text) piece
   brought-append moment text piece = events_in-append (beginning moment) text piece
 
   -- the events of the next piece may be stepped, and are no more than fit
@@ -86,17 +86,17 @@ module _ {A : Type 0} (answers : A → ℕ → Event → List Act → A → Type
       → IsOn answers s u moment given now feed left left' out out' → AreTimed now.moment (events_in feed piece)
   next_timed s u moment given now feed left left' out out' piece small on =
       let all = brings_timed moment (on.text ++ piece) small in
-      let parts : brought moment (on.text ++ piece) ≡ brought moment on.text ++ events_in feed piece = brought-append moment on.text piece ∙ ap (λ (p : Progress). brought moment on.text ++ events_in p piece) on.leads in
-      let back = timed_back moment (brought moment on.text) (events_in feed piece) (subst (λ (l : List Timed). AreTimed moment l) parts all) in
-      timed_from (last_moment moment (brought moment on.text)) now.moment (events_in feed piece) on.moment_is back
+      let parts : events_from moment (on.text ++ piece) ≡ events_from moment on.text ++ events_in feed piece = brought-append moment on.text piece ∙ ap (λ (p : Progress). events_from moment on.text ++ events_in p piece) on.leads in
+      let back = timed_back moment (events_from moment on.text) (events_in feed piece) (subst (λ (l : List Timed). AreTimed moment l) parts all) in
+      timed_from (last_moment moment (events_from moment on.text)) now.moment (events_in feed piece) on.moment_is back
 
   pub next_small : (s u : A) (moment given : ℕ) (now : Extent) (feed : Progress) (left left' out out' : Option (List ℕ)) (piece : List ℕ)
       → (on : IsOn answers s u moment given now feed left left' out out') → now.steps + now.received + size_of (events_in feed piece) ≤ length on.text + length piece
   next_small s u moment given now feed left left' out out' piece on =
-      let parts : brought moment (on.text ++ piece) ≡ brought moment on.text ++ events_in feed piece = brought-append moment on.text piece ∙ ap (λ (p : Progress). brought moment on.text ++ events_in p piece) on.leads in
+      let parts : events_from moment (on.text ++ piece) ≡ events_from moment on.text ++ events_in feed piece = brought-append moment on.text piece ∙ ap (λ (p : Progress). events_from moment on.text ++ events_in p piece) on.leads in
       let small = brought_small moment (on.text ++ piece) in
       let len = length-append on.text piece in
-      let size : size_of (brought moment (on.text ++ piece)) ≡ size_of (brought moment on.text) + size_of (events_in feed piece) = ap size_of parts ∙ size_of-append (brought moment on.text) (events_in feed piece) in
+      let size : size_of (events_from moment (on.text ++ piece)) ≡ size_of (events_from moment on.text) + size_of (events_in feed piece) = ap size_of parts ∙ size_of-append (events_from moment on.text) (events_in feed piece) in
       let on_size = on.size in
       omega arith
 
@@ -142,20 +142,20 @@ module _ {A : Type 0} (answers : A → ℕ → Event → List Act → A → Type
       → next.steps + next.received ≡ now.steps + now.received + size_of (events_in feed piece) → next.moment ≡ last_moment now.moment (events_in feed piece)
       → IsOn answers s u moment given next feed' left new a c
   on_more s t u moment given now next feed feed' piece left mid new a b c on gives goes reading count lines number steps size last =
-      let parts : brought moment (on.text ++ piece) ≡ brought moment on.text ++ events_in feed piece = brought-append moment on.text piece ∙ ap (λ (p : Progress). brought moment on.text ++ events_in p piece) on.leads in
+      let parts : events_from moment (on.text ++ piece) ≡ events_from moment on.text ++ events_in feed piece = brought-append moment on.text piece ∙ ap (λ (p : Progress). events_from moment on.text ++ events_in p piece) on.leads in
       let len = length-append on.text piece in
-      let events = length-append (brought moment on.text) (events_in feed piece) in
-      let same : length (brought moment (on.text ++ piece)) ≡ length (brought moment on.text ++ events_in feed piece) = ap length parts in
+      let events = length-append (events_from moment on.text) (events_in feed piece) in
+      let same : length (events_from moment (on.text ++ piece)) ≡ length (events_from moment on.text ++ events_in feed piece) = ap length parts in
       let on_count = on.count in let on_lines = on.lines in let on_numbered = on.numbered in let on_number = on.number_is in let on_size = on.size in
-      let sizes : size_of (brought moment (on.text ++ piece)) ≡ size_of (brought moment on.text) + size_of (events_in feed piece) = ap size_of parts ∙ size_of-append (brought moment on.text) (events_in feed piece) in
-      let later : last_moment now.moment (events_in feed piece) ≤ last_moment (last_moment moment (brought moment on.text)) (events_in feed piece) = last_later now.moment _ (events_in feed piece) on.moment_is in
-      let is_last : last_moment moment (brought moment (on.text ++ piece)) ≡ last_moment (last_moment moment (brought moment on.text)) (events_in feed piece) = ap (last_moment moment) parts ∙ last-append moment (brought moment on.text) (events_in feed piece) in
+      let sizes : size_of (events_from moment (on.text ++ piece)) ≡ size_of (events_from moment on.text) + size_of (events_in feed piece) = ap size_of parts ∙ size_of-append (events_from moment on.text) (events_in feed piece) in
+      let later : last_moment now.moment (events_in feed piece) ≤ last_moment (last_moment moment (events_from moment on.text)) (events_in feed piece) = last_later now.moment _ (events_in feed piece) on.moment_is in
+      let is_last : last_moment moment (events_from moment (on.text ++ piece)) ≡ last_moment (last_moment moment (events_from moment on.text)) (events_in feed piece) = ap (last_moment moment) parts ∙ last-append moment (events_from moment on.text) (events_in feed piece) in
       record {
         text = on.text ++ piece;
         gives = gives_more left mid new on.text piece on.gives gives;
         leads = after-append (beginning moment) on.text piece ∙ (ap (λ (p : Progress). after p piece) on.leads ∙ goes.0);
         reading = reading;
-        steps = subst (λ (l : List Timed). Steps answers s u 0 l a c) (sym parts) (steps_more answers s t u 0 now.number (brought moment on.text) (events_in feed piece) a b c on.steps on.number_is goes.1);
+        steps = subst (λ (l : List Timed). Steps answers s u 0 l a c) (sym parts) (steps_more answers s t u 0 now.number (events_from moment on.text) (events_in feed piece) a b c on.steps on.number_is goes.1);
         count = omega arith;
         lines = omega arith;
         numbered = omega arith;
@@ -216,21 +216,21 @@ module _ {A : Type 0} (answers : A → ℕ → Event → List Act → A → Type
       → IsOn answers s t moment given now feed left mid a b → Gives mid new piece → Goes answers t u now.number feed piece feed' b c (Err st)
       → Ends answers s u moment left new a c (ended_by st)
   ends_stopped s t u moment given now feed feed' piece left mid new a b c st on gives goes =
-      let parts : brought moment (on.text ++ piece) ≡ brought moment on.text ++ events_in feed piece = brought-append moment on.text piece ∙ ap (λ (p : Progress). brought moment on.text ++ events_in p piece) on.leads in
+      let parts : events_from moment (on.text ++ piece) ≡ events_from moment on.text ++ events_in feed piece = brought-append moment on.text piece ∙ ap (λ (p : Progress). events_from moment on.text ++ events_in p piece) on.leads in
       let all = gives_more left mid new on.text piece on.gives gives in
       by_stop st goes parts all
     where
-      by_stop : (st : Stop) → Goes answers t u now.number feed piece feed' b c (Err st) → brought moment (on.text ++ piece) ≡ brought moment on.text ++ events_in feed piece
+      by_stop : (st : Stop) → Goes answers t u now.number feed piece feed' b c (Err st) → events_from moment (on.text ++ piece) ≡ events_from moment on.text ++ events_in feed piece
           → Gives left new (on.text ++ piece) → Ends answers s u moment left new a c (ended_by st)
       by_stop (stop.Refused r) goes parts all =
           let leads = after-append (beginning moment) on.text piece ∙ (ap (λ (p : Progress). after p piece) on.leads ∙ goes.0) in
-          let steps = subst (λ (l : List Timed). Steps answers s u 0 l a c) (sym parts) (steps_more answers s t u 0 now.number (brought moment on.text) (events_in feed piece) a b c on.steps on.number_is goes.1) in
+          let steps = subst (λ (l : List Timed). Steps answers s u 0 l a c) (sym parts) (steps_more answers s t u 0 now.number (events_from moment on.text) (events_in feed piece) a b c on.steps on.number_is goes.1) in
           endings.refused (on.text ++ piece) r all (stays moment (on.text ++ piece) r leads) steps
       by_stop stop.SourceFailed goes parts all = absurd goes
       by_stop stop.SinkFailed goes parts all =
-          endings.unwritten (on.text ++ piece) all (subst (λ (l : List Timed). StepsSome answers s 0 l a c) (sym parts) (some_more answers s t u 0 now.number (brought moment on.text) (events_in feed piece) a b c on.steps on.number_is goes))
+          endings.unwritten (on.text ++ piece) all (subst (λ (l : List Timed). StepsSome answers s 0 l a c) (sym parts) (some_more answers s t u 0 now.number (events_from moment on.text) (events_in feed piece) a b c on.steps on.number_is goes))
       by_stop stop.NoMemory goes parts all =
-          endings.wanting (on.text ++ piece) all (subst (λ (l : List Timed). StepsSome answers s 0 l a c) (sym parts) (some_more answers s t u 0 now.number (brought moment on.text) (events_in feed piece) a b c on.steps on.number_is goes))
+          endings.wanting (on.text ++ piece) all (subst (λ (l : List Timed). StepsSome answers s 0 l a c) (sym parts) (some_more answers s t u 0 now.number (events_from moment on.text) (events_in feed piece) a b c on.steps on.number_is goes))
 
   -- as what was read stopped it, so it ends
   pub ends_source : (s u : A) (moment given : ℕ) (now : Extent) (feed : Progress) (left mid new a b : Option (List ℕ)) (stopped : Result (Unit {0}) Stop)

@@ -12,7 +12,7 @@ use Rattle.hc_sched.specs.Schedule.{Item, Moment, Happens, event_line, fields_in
 use Rattle.hc_sched.proofs.OneReading.{brings_items}
 use Rattle.hc_event.specs.Counting.{received_in}
 use Rattle.hc_driver.specs.Counting.{size_of}
-use Rattle.hc_driver.specs.Endings.{brought}
+use Rattle.hc_driver.specs.Endings.{events_from}
 
 pub size_of-append : (xs ys : List Timed) → size_of (xs ++ ys) ≡ size_of xs + size_of ys
 size_of-append [] ys = omega arith
@@ -49,11 +49,11 @@ items_long now (Happens e ∷ items) =
     let long = line_long e in
     omega arith
 
-pub brought_small : (now : ℕ) (text : List ℕ) → size_of (brought now text) ≤ length text
+pub brought_small : (now : ℕ) (text : List ℕ) → size_of (events_from now text) ≤ length text
 brought_small now text =
     let read = brings_items now text in
     let whole = length-append (text_of read.items) read.rest in
     let small = items_long now read.items in
     let same : length (text_of read.items ++ read.rest) ≡ length text = ap length read.whole in
-    let size : size_of (brought now text) ≡ size_of (events_of now read.items) = ap size_of read.events_are in
+    let size : size_of (events_from now text) ≡ size_of (events_of now read.items) = ap size_of read.events_are in
     omega arith

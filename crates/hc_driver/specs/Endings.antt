@@ -30,8 +30,8 @@ Goes answers s u n before piece now out out' (Err _) =
     StepsSome answers s n (events_in before piece) out out'
 
 -- what a text brings that begins at this moment
-abbrev pub brought : ℕ → List ℕ → List Timed
-brought moment text = events_in (beginning moment) text
+abbrev pub events_from : ℕ → List ℕ → List Timed
+events_from moment text = events_in (beginning moment) text
 
 -- a text is refused so, whatever follows it
 abbrev pub IsRefused : ℕ → List ℕ → Refused → Type 0
@@ -42,20 +42,20 @@ IsRefused moment text refused = (more : List ℕ) → refusal_of moment (text ++
 pub data Ends {A : Type 0} (answers : A → ℕ → Event → List Act → A → Type 0) (s u : A) (moment : ℕ) (left left' out out' : Option (List ℕ)) : Ended → Type 0 where
   -- the whole text is a schedule, and its report was taken
   done : (text : List ℕ) → GivesAll left left' text → refusal_of moment text ≡ None →
-      Steps answers s u 0 (brought moment text) out out' → Ends answers s u moment left left' out out' ended.Done
+      Steps answers s u 0 (events_from moment text) out out' → Ends answers s u moment left left' out out' ended.Done
   -- the text is refused where it was read to, and the report of what came before was taken
   refused : (text : List ℕ) (refused : Refused) → Gives left left' text → IsRefused moment text refused →
-      Steps answers s u 0 (brought moment text) out out' →
+      Steps answers s u 0 (events_from moment text) out out' →
       Ends answers s u moment left left' out out' (ended.Refused refused)
   -- the whole text is cut short
   cut_short : (text : List ℕ) (refused : Refused) → GivesAll left left' text →
-      refusal_of moment text ≡ Some refused → Steps answers s u 0 (brought moment text) out out' →
+      refusal_of moment text ≡ Some refused → Steps answers s u 0 (events_from moment text) out out' →
       Ends answers s u moment left left' out out' (ended.Refused refused)
   -- the report of the whole items was taken of what could be read
-  unreadable : (text : List ℕ) → Gives left left' text → Steps answers s u 0 (brought moment text) out out' →
+  unreadable : (text : List ℕ) → Gives left left' text → Steps answers s u 0 (events_from moment text) out out' →
       Ends answers s u moment left left' out out' ended.SourceFailed
   -- some first part of a report was taken, of some first events of what was read
-  unwritten : (text : List ℕ) → Gives left left' text → StepsSome answers s 0 (brought moment text) out out' →
+  unwritten : (text : List ℕ) → Gives left left' text → StepsSome answers s 0 (events_from moment text) out out' →
       Ends answers s u moment left left' out out' ended.SinkFailed
-  wanting : (text : List ℕ) → Gives left left' text → StepsSome answers s 0 (brought moment text) out out' →
+  wanting : (text : List ℕ) → Gives left left' text → StepsSome answers s 0 (events_from moment text) out out' →
       Ends answers s u moment left left' out out' ended.NoMemory

@@ -5,14 +5,14 @@ use Rattle.std.proofs.lemmas.Bool.{cases_Bool, cases_eq, eqb-true, eqb-false}
 use Rattle.hc_sorted.specs.Sorted.{is_sorted, is_at as numbered, without}
 use Rattle.hc_sorted.proofs.SortedLemmas.{has-with, has-without, is_sorted-with, is_sorted-filter}
 use Rattle.hc_entry.specs.Users.{itself}
-use Rattle.hc_entry.specs.Lines.{Line, is_among, is_in, released, come_back, all_back, passed_back, stands, consumer_at, merged, IsOrderly, AllArePlacedBelow}
+use Rattle.hc_entry.specs.Lines.{Line, is_among, is_in, holder_without, come_back, all_back, passed_back, stands, consumer_at, union_of, IsOrderly, AllArePlacedBelow}
 use Rattle.hc_entry.proofs.SeatLemmas.{same_members}
 use Rattle.hc_entry.proofs.OrderLemmas.{gone, stays-out, no-members, is_sorted-all, is_sorted-passed, among-all, among-merged, orderly-back}
 
 -- Those with a place below i are in line again.
 pub record AreBackBelow (i : ℕ) (old l : Line) : Type 0 where
   pub same : (d : ℕ) → is_in d l ≡ is_in d old
-  pub rising : is_sorted itself l.in_line ≡ true
+  pub ascending : is_sorted itself l.in_line ≡ true
   pub places : l.places ≡ old.places
   pub free : l.holder ≡ None
   pub back : (k d : ℕ) → k < i → consumer_at l k ≡ Some d → (is_among d l.passed ≡ false) × (is_among d l.away ≡ false)
@@ -23,7 +23,7 @@ freed l = record l { holder = None }
 pub back-none : (old : Line) → IsOrderly old → AreBackBelow 0 old (freed old)
 back-none old o = record {
   same = λ d. refl;
-  rising = o.in_line;
+  ascending = o.in_line;
   places = refl;
   free = refl;
   back = λ k d below is. absurd (omega arith);
@@ -50,7 +50,7 @@ earlier i c l there k d below has off = elim (cases_eq k i) [
 pub back-next : (i c : ℕ) (old l : Line) → AreBackBelow i old l → consumer_at l i ≡ Some c → is_in c l ≡ true → AreBackBelow (i + 1) old (come_back c l)
 back-next i c old l was there is = record {
   same = λ d. kept-in c d l is ∙ was.same d;
-  rising = is_sorted-with itself c (without itself c l.in_line) (is_sorted-filter itself (λ (x : ℕ). not (numbered itself c x)) l.in_line was.rising) (gone c l.in_line);
+  ascending = is_sorted-with itself c (without itself c l.in_line) (is_sorted-filter itself (λ (x : ℕ). not (numbered itself c x)) l.in_line was.ascending) (gone c l.in_line);
   places = was.places;
   free = rw was.free refl;
   back = λ k d below has. elim (cases_Bool (eqb c d)) [
@@ -68,7 +68,7 @@ back-next i c old l was there is = record {
 pub back-empty : (i : ℕ) (old l : Line) → AreBackBelow i old l → consumer_at l i ≡ None → AreBackBelow (i + 1) old l
 back-empty i old l was none = record {
   same = was.same;
-  rising = was.rising;
+  ascending = was.ascending;
   places = was.places;
   free = was.free;
   back = λ k d below has. elim (cases_eq k i) [
@@ -119,7 +119,7 @@ back-all n old l o was placed =
         alone false = refl
 
       in_line : l.in_line ≡ (all_back old).in_line
-      in_line = same_members l.in_line (all_back old).in_line was.rising (is_sorted-all old o) (λ d. members d ∙ (was.same d ∙ sym (among-all d old)))
+      in_line = same_members l.in_line (all_back old).in_line was.ascending (is_sorted-all old o) (λ d. members d ∙ (was.same d ∙ sym (among-all d old)))
 
 -- THOSE THAT PASSED
 
@@ -150,7 +150,7 @@ without-absent c cs rise out =
       | inr off ↦ rw (has-without itself d c cs, off) refl
     ])
 
-still-held : (c : ℕ) (h : Option ℕ) (cs : List ℕ) → stands h cs ≡ true → is_among c cs ≡ false → released c h ≡ h
+still-held : (c : ℕ) (h : Option ℕ) (cs : List ℕ) → stands h cs ≡ true → is_among c cs ≡ false → holder_without c h ≡ h
 still-held c None cs is out = refl
 still-held c (Some d) cs is out = elim (cases_Bool (eqb d c)) [
   | inl on ↦ let in_it = ap (λ (n : ℕ). is_among n cs) (eqb-true d c on) in absurd (cc)
@@ -226,11 +226,11 @@ passed-back-all n old l o was placed = same-line l (passed_back old) in_line pas
   alone true = refl
   alone false = refl
 
-  members : (d : ℕ) → is_among d l.in_line ≡ is_among d (merged old.passed old.in_line)
+  members : (d : ℕ) → is_among d l.in_line ≡ is_among d (union_of old.passed old.in_line)
   members d =
       alone (is_among d l.in_line)
       ∙ (ap (λ (cs : List ℕ). is_among d l.in_line || is_among d cs) (sym passed)
       ∙ (was.same d ∙ (turned (is_among d old.in_line) (is_among d old.passed) ∙ sym (among-merged d old.passed old.in_line))))
 
-  in_line : l.in_line ≡ merged old.passed old.in_line
-  in_line = same_members l.in_line (merged old.passed old.in_line) was.orderly.in_line (is_sorted-passed old o) members
+  in_line : l.in_line ≡ union_of old.passed old.in_line
+  in_line = same_members l.in_line (union_of old.passed old.in_line) was.orderly.in_line (is_sorted-passed old o) members

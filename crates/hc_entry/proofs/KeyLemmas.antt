@@ -12,7 +12,7 @@ use Rattle.hc_entry.specs.declared.rows.KeyRow.{KeyRow}
 use Rattle.hc_entry.specs.declared.seat.Stand.{Stand}
 use Rattle.hc_entry.specs.declared.seat.Stand.TheVariants as stand
 use Rattle.hc_entry.specs.Seats.{moved_to}
-use Rattle.hc_entry.specs.Lines.{Line, is_in, is_empty, queued, all_back, passed_back, IsOrderly}
+use Rattle.hc_entry.specs.Lines.{Line, is_in, is_empty, line_with, all_back, passed_back, IsOrderly}
 use Rattle.hc_entry.specs.Kept.{Kept, line_in, kept_in, on_line, with_current, is_nothing}
 use Rattle.hc_entry.specs.KeyRows.{Rows, row_at, rows_of, kept_by, RowChanges, RowsStay, IsTidyAt, IsTidy, AreOrderly}
 use Rattle.hc_entry.proofs.OrderLemmas.{in-some, in-queued, orderly-queued, empty-all, empty-passed-back}
@@ -138,11 +138,11 @@ made-current (Err e) r key old new ok err tidy orderly = (rows-tidy old new err 
 
 -- the rows as they are entered, or stay
 pub entered : {X E : Type 0} (r : Result X E) (c : ℕ) (key : List ℕ) (old new : Rows) → is_in c (line_in (rows_of old key)) ≡ false
-    → OnOk r (RowChanges (on_line (queued c)) key old new) → OnErr r (RowsStay old new) → IsTidy old → AreOrderly old → IsTidy new × AreOrderly new
+    → OnOk r (RowChanges (on_line (line_with c)) key old new) → OnErr r (RowsStay old new) → IsTidy old → AreOrderly old → IsTidy new × AreOrderly new
 entered (Ok x) c key old new out ok err tidy orderly =
     let k = rows_of old key in (
-      tidy-some (on_line (queued c)) key old new ok tidy (awaited-some c (on_line (queued c) k) (in-queued c (line_in k))),
-      orderly-changes (on_line (queued c)) key old new ok orderly (orderly-queued c (line_in k) out (orderly key)),
+      tidy-some (on_line (line_with c)) key old new ok tidy (awaited-some c (on_line (line_with c) k) (in-queued c (line_in k))),
+      orderly-changes (on_line (line_with c)) key old new ok orderly (orderly-queued c (line_in k) out (orderly key)),
     )
 entered (Err e) c key old new out ok err tidy orderly = (rows-tidy old new err tidy, rows-orderly old new err orderly)
 

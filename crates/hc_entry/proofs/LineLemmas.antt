@@ -7,8 +7,8 @@ use Rattle.hc_sorted.specs.Sorted.{is_sorted, with_item, without}
 use Rattle.hc_sorted.proofs.SortedLemmas.{has-with, has-without}
 use Rattle.hc_rules.specs.Least.{least}
 use Rattle.hc_entry.specs.Users.{itself, first_of}
-use Rattle.hc_entry.specs.Lines.{is_among, stands, released, Line, holder_or, turn_with}
-use Rattle.hc_entry.proofs.UserLemmas.{least-rising}
+use Rattle.hc_entry.specs.Lines.{is_among, stands, holder_without, Line, holder_or, turn_with}
+use Rattle.hc_entry.proofs.UserLemmas.{least-ascending}
 
 left-other : (c d : ℕ) (cs : List ℕ) → eqb c d ≡ false → is_among d (without itself c cs) ≡ is_among d cs
 left-other c d cs off = rw (has-without itself d c cs, off) refl
@@ -20,7 +20,7 @@ with-same : (c d : ℕ) (cs : List ℕ) → eqb c d ≡ true → is_among d (wit
 with-same c d cs on = rw (has-with itself d c cs, on) refl
 
 -- who holds the turn stands in line, when one leaves and when one comes
-pub stands-left : (c : ℕ) (h : Option ℕ) (cs : List ℕ) → stands h cs ≡ true → stands (released c h) (without itself c cs) ≡ true
+pub stands-left : (c : ℕ) (h : Option ℕ) (cs : List ℕ) → stands h cs ≡ true → stands (holder_without c h) (without itself c cs) ≡ true
 stands-left c None cs in_line = refl
 stands-left c (Some d) cs in_line = elim (cases_Bool (eqb d c)) [
   | inl held ↦ rw held refl
@@ -37,7 +37,7 @@ stands-with c (Some d) cs in_line = elim (cases_Bool (eqb c d)) [
 -- who has the turn stands in line
 pub stands-held : (c : ℕ) (h : Option ℕ) (cs : List ℕ) → is_sorted itself cs ≡ true → stands h cs ≡ true → holder_or h (least cs) ≡ Some c → is_among c cs ≡ true
 stands-held c (Some d) cs up in_line is = let e : d ≡ c = cc in ap (λ k. is_among k cs) (sym e) ∙ in_line
-stands-held c None cs up in_line is = first cs (sym (least-rising cs up) ∙ is) where
+stands-held c None cs up in_line is = first cs (sym (least-ascending cs up) ∙ is) where
   first : (ds : List ℕ) → first_of ds ≡ Some c → is_among c ds ≡ true
   first [] none = absurd (cc)
   first (d ∷ ds) some = let e : d ≡ c = cc in rw (eq-eqb d c e) refl

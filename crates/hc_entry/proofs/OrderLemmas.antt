@@ -5,7 +5,7 @@ use Rattle.std.proofs.lemmas.Bool.{cases_Bool, eqb-true, eq-eqb, ne_eqb}
 use Rattle.hc_sorted.specs.Sorted.{is_sorted, is_at as numbered, with_item, without}
 use Rattle.hc_sorted.proofs.SortedLemmas.{is_sorted-above, has-above, has-with, has-without, is_sorted-with, is_sorted-filter}
 use Rattle.hc_entry.specs.Users.{itself}
-use Rattle.hc_entry.specs.Lines.{Line, nobody, is_among, is_in, is_empty, merged, all_back, passed_back, apart, queued, passed, gone_away, come_back, held_by, turn_of, stands, IsOrderly}
+use Rattle.hc_entry.specs.Lines.{Line, nobody, is_among, is_in, is_empty, union_of, all_back, passed_back, apart, line_with, line_after_pass, gone_away, come_back, held_by, turn_of, stands, IsOrderly}
 use Rattle.hc_entry.proofs.LineLemmas.{stands-left, stands-with, stands-held}
 
 flip : (a b : Bool) → (a ≡ true → b ≡ false) → b ≡ true → a ≡ false
@@ -89,7 +89,7 @@ with-apart c cs ds off out d is =
     let other : eqb c d ≡ false = ne_eqb c d (λ e. let h = ap (λ (k : ℕ). is_among k cs) e in absurd (cc)) in
     rw (with-in c d ds, other) (off d is)
 
-pub orderly-queued : (c : ℕ) (l : Line) → is_in c l ≡ false → IsOrderly l → IsOrderly (queued c l)
+pub orderly-queued : (c : ℕ) (l : Line) → is_in c l ≡ false → IsOrderly l → IsOrderly (line_with c l)
 orderly-queued c l out o =
     let (a, b, d) = in-none c l out in
     record {
@@ -105,7 +105,7 @@ orderly-queued c l out o =
 pub orderly-back : (c : ℕ) (l : Line) → IsOrderly l → IsOrderly (come_back c l)
 orderly-back c l o = orderly-queued c (apart c l) (gone-from c l) (orderly-apart c l o)
 
-pub orderly-passed : (c : ℕ) (l : Line) → IsOrderly l → IsOrderly (passed c l)
+pub orderly-passed : (c : ℕ) (l : Line) → IsOrderly l → IsOrderly (line_after_pass c l)
 orderly-passed c l was =
     let r = apart c l in
     let o = orderly-apart c l was in
@@ -144,11 +144,11 @@ orderly-held c l turn o = record {
 }
 
 -- both lists in one
-pub among-merged : (c : ℕ) (ds cs : List ℕ) → is_among c (merged ds cs) ≡ is_among c ds || is_among c cs
+pub among-merged : (c : ℕ) (ds cs : List ℕ) → is_among c (union_of ds cs) ≡ is_among c ds || is_among c cs
 among-merged c [] cs = refl
 among-merged c (d ∷ ds) cs = elim (cases_Bool (eqb d c)) [
-  | inl on ↦ rw (with-in d c (merged ds cs), on) refl
-  | inr off ↦ rw (with-in d c (merged ds cs), off) (among-merged c ds cs)
+  | inl on ↦ rw (with-in d c (union_of ds cs), on) refl
+  | inr off ↦ rw (with-in d c (union_of ds cs), off) (among-merged c ds cs)
 ]
 
 first-in : (d : ℕ) (ds : List ℕ) → is_among d (d ∷ ds) ≡ true
@@ -161,25 +161,25 @@ among-rest c d ds is = elim (cases_Bool (eqb d c)) [
 ]
 
 pub is_sorted-merged : (ds cs : List ℕ) → is_sorted itself ds ≡ true → is_sorted itself cs ≡ true → ((c : ℕ) → is_among c ds ≡ true → is_among c cs ≡ false)
-    → is_sorted itself (merged ds cs) ≡ true
+    → is_sorted itself (union_of ds cs) ≡ true
 is_sorted-merged [] cs up rise apart = rise
 is_sorted-merged (d ∷ ds) cs up rise apart =
     let tail = is_sorted-merged ds cs (is_sorted-above itself d ds up) rise (λ c is. apart c (among-rest c d ds is)) in
     let out = has-above itself d d ds (omega arith) up in
-    is_sorted-with itself d (merged ds cs) tail (among-merged d ds cs ∙ or-false (is_among d ds) (is_among d cs) out (apart d (first-in d ds)))
+    is_sorted-with itself d (union_of ds cs) tail (among-merged d ds cs ∙ or-false (is_among d ds) (is_among d cs) out (apart d (first-in d ds)))
 
 pub is_sorted-passed : (l : Line) → IsOrderly l → is_sorted itself (passed_back l).in_line ≡ true
 is_sorted-passed l o = is_sorted-merged l.passed l.in_line o.passed o.in_line (λ c is. flip (is_among c l.in_line) (is_among c l.passed) (o.in_line_or_passed c) is)
 
 pub is_sorted-all : (l : Line) → IsOrderly l → is_sorted itself (all_back l).in_line ≡ true
 is_sorted-all l o =
-    is_sorted-merged l.away (merged l.passed l.in_line) o.away (is_sorted-passed l o)
+    is_sorted-merged l.away (union_of l.passed l.in_line) o.away (is_sorted-passed l o)
     (λ c is. among-merged c l.passed l.in_line ∙ or-false (is_among c l.passed) (is_among c l.in_line)
     (flip (is_among c l.passed) (is_among c l.away) (o.passed_or_away c) is) (flip (is_among c l.in_line) (is_among c l.away) (o.in_line_or_away c) is))
 
 -- all who stand in it are in line
 pub among-all : (c : ℕ) (l : Line) → is_among c (all_back l).in_line ≡ is_in c l
-among-all c l = rw (among-merged c l.away (merged l.passed l.in_line), among-merged c l.passed l.in_line) (turned (is_among c l.in_line) (is_among c l.passed) (is_among c l.away)) where
+among-all c l = rw (among-merged c l.away (union_of l.passed l.in_line), among-merged c l.passed l.in_line) (turned (is_among c l.in_line) (is_among c l.passed) (is_among c l.away)) where
   turned : (i p a : Bool) → a || (p || i) ≡ ((i || p) || a)
   turned true true true = refl
   turned true true false = refl
@@ -201,7 +201,7 @@ orderly-all l o = record {
   holder = refl;
 }
 
-pub stands-merged : (h : Option ℕ) (ds cs : List ℕ) → stands h cs ≡ true → stands h (merged ds cs) ≡ true
+pub stands-merged : (h : Option ℕ) (ds cs : List ℕ) → stands h cs ≡ true → stands h (union_of ds cs) ≡ true
 stands-merged None ds cs is = refl
 stands-merged (Some c) ds cs is = among-merged c ds cs ∙ rw is (either (is_among c ds)) where
   either : (b : Bool) → b || true ≡ true
@@ -234,9 +234,9 @@ length-with c (d ∷ ds) = elim (cases_Bool (nat_le c d)) [
   | inr off ↦ rw off (ap suc (length-with c ds))
 ]
 
-length-merged : (ds cs : List ℕ) → length (merged ds cs) ≡ length ds + length cs
+length-merged : (ds cs : List ℕ) → length (union_of ds cs) ≡ length ds + length cs
 length-merged [] cs = omega arith
-length-merged (d ∷ ds) cs = let h = length-with d (merged ds cs) in let k = length-merged ds cs in omega arith
+length-merged (d ∷ ds) cs = let h = length-with d (union_of ds cs) in let k = length-merged ds cs in omega arith
 
 -- who stands in it is one
 pub in-some : (c : ℕ) (l : Line) → is_in c l ≡ true → is_empty l ≡ false
@@ -261,18 +261,18 @@ empty-lists l e =
 
 pub empty-all : (l : Line) → is_empty (all_back l) ≡ is_empty l
 empty-all l = ap (λ (n : ℕ). eqb n 0) count where
-  count : length (merged l.away (merged l.passed l.in_line)) + 0 + 0 ≡ length l.in_line + length l.passed + length l.away
-  count = let h = length-merged l.away (merged l.passed l.in_line) in let k = length-merged l.passed l.in_line in omega arith
+  count : length (union_of l.away (union_of l.passed l.in_line)) + 0 + 0 ≡ length l.in_line + length l.passed + length l.away
+  count = let h = length-merged l.away (union_of l.passed l.in_line) in let k = length-merged l.passed l.in_line in omega arith
 
 pub empty-passed-back : (l : Line) → is_empty (passed_back l) ≡ is_empty l
 empty-passed-back l = ap (λ (n : ℕ). eqb n 0) count where
-  count : length (merged l.passed l.in_line) + 0 + length l.away ≡ length l.in_line + length l.passed + length l.away
+  count : length (union_of l.passed l.in_line) + 0 + length l.away ≡ length l.in_line + length l.passed + length l.away
   count = let k = length-merged l.passed l.in_line in omega arith
 
-pub in-queued : (c : ℕ) (l : Line) → is_in c (queued c l) ≡ true
+pub in-queued : (c : ℕ) (l : Line) → is_in c (line_with c l) ≡ true
 in-queued c l = rw (with-in c c l.in_line, eq-eqb c c refl) refl
 
-pub in-passed : (c : ℕ) (l : Line) → is_in c (passed c l) ≡ true
+pub in-passed : (c : ℕ) (l : Line) → is_in c (line_after_pass c l) ≡ true
 in-passed c l = rw (gone c l.in_line, with-in c c (without itself c l.passed), eq-eqb c c refl) refl
 
 pub in-away : (c : ℕ) (l : Line) → is_in c (gone_away c l) ≡ true

@@ -13,9 +13,9 @@ use Rattle.hc_entry.specs.declared.seat.Stand.{Stand}
 use Rattle.hc_entry.specs.declared.seat.Stand.TheVariants as stand
 use Rattle.hc_entry.specs.Users.{itself, first_of}
 use Rattle.hc_entry.specs.Tournaments.{at, IsLeastAt}
-use Rattle.hc_entry.specs.Seats.{is_same_stand, called_at, seat_of, standing, called_from, called, moved_to, IsSeated}
-use Rattle.hc_entry.specs.Lines.{Line, is_among, released, stands, left_by}
-use Rattle.hc_entry.proofs.UserLemmas.{least-rising}
+use Rattle.hc_entry.specs.Seats.{is_same_stand, called_at, seat_of, standing, called_from, seat_in_line, moved_to, IsSeated}
+use Rattle.hc_entry.specs.Lines.{Line, is_among, holder_without, stands, left_by}
+use Rattle.hc_entry.proofs.UserLemmas.{least-ascending}
 use Rattle.hc_entry.proofs.LineLemmas.{stands-left, stands-with}
 
 -- two ascending lists with the same members are equal
@@ -190,15 +190,15 @@ module _ (es : List (ℕ × Seat)) (places playing : List (Option ℕ)) (h : Opt
   place-seat k c has = let (seat, is, e) = was.seated k c has in rw is refl
 
   -- a change of one consumer leaves the others' places in the tournament
-  called-other : (new : List (ℕ × Seat)) (c : ℕ) (w : Option Seat) (change : Reseats c w es new) (o : Option ℕ) → (o ≡ Some c → ⊥) → called new o ≡ called es o
+  called-other : (new : List (ℕ × Seat)) (c : ℕ) (w : Option Seat) (change : Reseats c w es new) (o : Option ℕ) → (o ≡ Some c → ⊥) → seat_in_line new o ≡ seat_in_line es o
   called-other new c w change None off = refl
   called-other new c w change (Some d) off =
       let other : eqb c d ≡ false = ne_eqb c d (λ e. off (ap Some (sym e))) in
       ap (called_from d) (elsewhere c w es new change d other)
 
-  holds-new : (new : List (ℕ × Seat)) (c : ℕ) (w : Option Seat) (change : Reseats c w es new) → stands (released c h) (standing stand.InLine new) ≡ true
+  holds-new : (new : List (ℕ × Seat)) (c : ℕ) (w : Option Seat) (change : Reseats c w es new) → stands (holder_without c h) (standing stand.InLine new) ≡ true
   holds-new new c w change = elim (cases_Bool (stands_at stand.InLine w)) [
-    | inl on ↦ rw (standing-comes c w es new change was.distinct stand.InLine on) (stands-with c (released c h) (without itself c (standing stand.InLine es)) (stands-left c h (standing stand.InLine es) was.holds))
+    | inl on ↦ rw (standing-comes c w es new change was.distinct stand.InLine on) (stands-with c (holder_without c h) (without itself c (standing stand.InLine es)) (stands-left c h (standing stand.InLine es) was.holds))
     | inr off ↦ rw (standing-leaves c w es new change was.distinct stand.InLine off) (stands-left c h (standing stand.InLine es) was.holds)
   ]
 
@@ -232,19 +232,19 @@ module _ (es : List (ℕ × Seat)) (places playing : List (Option ℕ)) (h : Opt
           (x, elsewhere c (Some (record { place = p; stand = s })) es new change d off ∙ there, at_k)
     ]
 
-    moved-plays : (k : ℕ) → at (set playing p (called_at s c)) k ≡ called new (at places k)
+    moved-plays : (k : ℕ) → at (set playing p (called_at s c)) k ≡ seat_in_line new (at places k)
     moved-plays k = elim (cases_eq k p) [
       | inl on ↦
           ap (at (set playing p (called_at s c))) on
           ∙ (get_or-set_same playing p (called_at s c) None (was.room p c at_place)
-          ∙ sym (ap (λ (j : ℕ). called new (at places j)) on ∙ (ap (called new) at_place ∙ ap (called_from c) (here c (Some (record { place = p; stand = s })) es new change))))
+          ∙ sym (ap (λ (j : ℕ). seat_in_line new (at places j)) on ∙ (ap (seat_in_line new) at_place ∙ ap (called_from c) (here c (Some (record { place = p; stand = s })) es new change))))
       | inr off ↦
           get_or-set_other playing p k (called_at s c) None off
           ∙ (was.plays k
           ∙ sym (called-other new c (Some (record { place = p; stand = s })) change (at places k) (λ has. off (one_place c seat k is has ∙ e))))
     ]
 
-    pub seated-moved : (playing' : List (Option ℕ)) (h' : Option ℕ) → playing' ≡ set playing p (called_at s c) → h' ≡ released c h → IsSeated new places playing' h'
+    pub seated-moved : (playing' : List (Option ℕ)) (h' : Option ℕ) → playing' ≡ set playing p (called_at s c) → h' ≡ holder_without c h → IsSeated new places playing' h'
     seated-moved playing' h' plays holder = record {
       distinct = change.distinct;
       placed = moved-placed;
@@ -274,19 +274,19 @@ module _ (es : List (ℕ × Seat)) (places playing : List (Option ℕ)) (h : Opt
     other-than : (k d : ℕ) → at places k ≡ Some d → (k ≡ seat.place → ⊥) → eqb c d ≡ false
     other-than k d has off = ne_eqb c d (λ e. off (one_place c seat k is (has ∙ ap Some (sym e))))
 
-    left-plays : (k : ℕ) → at (set playing seat.place None) k ≡ called new (at (set places seat.place None) k)
+    left-plays : (k : ℕ) → at (set playing seat.place None) k ≡ seat_in_line new (at (set places seat.place None) k)
     left-plays k = elim (cases_eq k seat.place) [
       | inl on ↦
           let room = place-room c seat is in
           let in_use : seat.place < length places = in-use places seat.place c (was.placed c seat is) in
           ap (at (set playing seat.place None)) on
           ∙ (get_or-set_same playing seat.place None None room
-          ∙ sym (ap (λ (j : ℕ). called new (at (set places seat.place None) j)) on
-          ∙ ap (called new) (get_or-set_same places seat.place None None in_use)))
+          ∙ sym (ap (λ (j : ℕ). seat_in_line new (at (set places seat.place None) j)) on
+          ∙ ap (seat_in_line new) (get_or-set_same places seat.place None None in_use)))
       | inr off ↦
           get_or-set_other playing seat.place k None None off
           ∙ (was.plays k
-          ∙ sym (ap (called new) (get_or-set_other places seat.place k None None off)
+          ∙ sym (ap (seat_in_line new) (get_or-set_other places seat.place k None None off)
           ∙ called-other new c None change (at places k) (λ has. off (one_place c seat k is has))))
     ] where
       in-use : (xs : List (Option ℕ)) (i d : ℕ) → at xs i ≡ Some d → i < length xs
@@ -295,7 +295,7 @@ module _ (es : List (ℕ × Seat)) (places playing : List (Option ℕ)) (h : Opt
         | inr past ↦ let none = get_or_past xs i None past in absurd (cc)
       ]
 
-    pub seated-left : (places' playing' : List (Option ℕ)) (h' : Option ℕ) → places' ≡ set places seat.place None → playing' ≡ set playing seat.place None → h' ≡ released c h
+    pub seated-left : (places' playing' : List (Option ℕ)) (h' : Option ℕ) → places' ≡ set places seat.place None → playing' ≡ set playing seat.place None → h' ≡ holder_without c h
         → IsSeated new places' playing' h'
     seated-left places' playing' h' cleared plays holder = record {
       distinct = change.distinct;
@@ -326,16 +326,16 @@ module _ (es : List (ℕ × Seat)) (places playing : List (Option ℕ)) (h : Opt
     }
 
     -- its place is the only one that it leaves
-    pub places-left : map (released c) places ≡ set places seat.place None
+    pub places-left : map (holder_without c) places ≡ set places seat.place None
     places-left = cleared places seat.place (was.placed c seat is) (λ k has. one_place c seat k is has) where
-      kept : (os : List (Option ℕ)) → ((k : ℕ) → at os k ≡ Some c → ⊥) → map (released c) os ≡ os
+      kept : (os : List (Option ℕ)) → ((k : ℕ) → at os k ≡ Some c → ⊥) → map (holder_without c) os ≡ os
       kept [] none = refl
       kept (None ∷ os) none = ap (λ (l : List (Option ℕ)). None ∷ l) (kept os (λ k has. none (suc k) has))
       kept (Some d ∷ os) none =
           let off : eqb d c ≡ false = ne_eqb d c (λ e. none 0 (ap Some e)) in
           rw off (ap (λ (l : List (Option ℕ)). Some d ∷ l) (kept os (λ k has. none (suc k) has)))
 
-      cleared : (os : List (Option ℕ)) (p : ℕ) → at os p ≡ Some c → ((k : ℕ) → at os k ≡ Some c → k ≡ p) → map (released c) os ≡ set os p None
+      cleared : (os : List (Option ℕ)) (p : ℕ) → at os p ≡ Some c → ((k : ℕ) → at os k ≡ Some c → k ≡ p) → map (holder_without c) os ≡ set os p None
       cleared [] p has only = absurd (cc)
       cleared (None ∷ os) zero has only = absurd (cc)
       cleared (Some d ∷ os) zero has only =
@@ -373,18 +373,18 @@ module _ (es : List (ℕ × Seat)) (places playing : List (Option ℕ)) (h : Opt
           let none = ap (seat_of es) (sym e) ∙ absent in
           absurd (cc))
 
-      entered-plays : (k : ℕ) → at (set playing1 p (Some c)) k ≡ called new (at places' k)
+      entered-plays : (k : ℕ) → at (set playing1 p (Some c)) k ≡ seat_in_line new (at places' k)
       entered-plays k = elim (cases_eq k p) [
         | inl on ↦
             ap (at (set playing1 p (Some c))) on
             ∙ (get_or-set_same playing1 p (Some c) None fits
-            ∙ sym (ap (λ (j : ℕ). called new (at places' j)) on
-            ∙ (ap (called new) there ∙ ap (called_from c) (here c (Some (record { place = p; stand = stand.InLine })) es new change))))
+            ∙ sym (ap (λ (j : ℕ). seat_in_line new (at places' j)) on
+            ∙ (ap (seat_in_line new) there ∙ ap (called_from c) (here c (Some (record { place = p; stand = stand.InLine })) es new change))))
         | inr off ↦
             get_or-set_other playing1 p k (Some c) None off
             ∙ (same k
             ∙ (was.plays k
-            ∙ sym (ap (called new) (others k off)
+            ∙ sym (ap (seat_in_line new) (others k off)
             ∙ called-other new c (Some (record { place = p; stand = stand.InLine })) change (at places k) (λ has. let no = not_c k c has in eqb-false c c no refl))))
       ]
 
@@ -423,7 +423,7 @@ module _ (es : List (ℕ × Seat)) (places playing : List (Option ℕ)) (h : Opt
 
   -- the turn of the tournament is the least in line
   pub turn-least : (w : Option ℕ) → IsLeastAt w playing → w ≡ least (standing stand.InLine es)
-  turn-least w won = first w (standing stand.InLine es) won rise in_line plays ∙ sym (least-rising (standing stand.InLine es) rise) where
+  turn-least w won = first w (standing stand.InLine es) won rise in_line plays ∙ sym (least-ascending (standing stand.InLine es) rise) where
     rise : is_sorted itself (standing stand.InLine es) ≡ true
     rise = standing-is_sorted stand.InLine es was.distinct
 
@@ -431,7 +431,7 @@ module _ (es : List (ℕ × Seat)) (places playing : List (Option ℕ)) (h : Opt
     in_line d is = seen (seat_of es d) refl (sym (among-standing stand.InLine d es was.distinct) ∙ is) where
       seen : (o : Option Seat) → seat_of es d ≡ o → stands_at stand.InLine o ≡ true → (k : ℕ) × (at playing k ≡ Some d)
       seen None has none = absurd (cc)
-      seen (Some x) has on = (x.place, was.plays x.place ∙ (ap (called es) (was.placed d x has) ∙ (ap (called_from d) has ∙ rw on refl)))
+      seen (Some x) has on = (x.place, was.plays x.place ∙ (ap (seat_in_line es) (was.placed d x has) ∙ (ap (called_from d) has ∙ rw on refl)))
 
     plays : (k d : ℕ) → at playing k ≡ Some d → is_among d (standing stand.InLine es) ≡ true
     plays k d is = seen (at places k) (sym (was.plays k) ∙ is) where
@@ -444,7 +444,7 @@ module _ (es : List (ℕ × Seat)) (places playing : List (Option ℕ)) (h : Opt
         | inr off ↦ let h = rw off at some in absurd (cc)
       ]
 
-      seen : (o : Option ℕ) → called es o ≡ Some d → is_among d (standing stand.InLine es) ≡ true
+      seen : (o : Option ℕ) → seat_in_line es o ≡ Some d → is_among d (standing stand.InLine es) ≡ true
       seen None none = absurd (cc)
       seen (Some c) some = seated_so c (seat_of es c) refl some
 
@@ -473,7 +473,7 @@ line_of es places h = record {
   places = places;
 }
 
-module _ (es : List (ℕ × Seat)) (places : List (Option ℕ)) (h : Option ℕ) (up : IsDistinct nat_eq (keys_of es)) (c p : ℕ) (new : List (ℕ × Seat)) (h' : Option ℕ) (holder : h' ≡ released c h) where
+module _ (es : List (ℕ × Seat)) (places : List (Option ℕ)) (h : Option ℕ) (up : IsDistinct nat_eq (keys_of es)) (c p : ℕ) (new : List (ℕ × Seat)) (h' : Option ℕ) (holder : h' ≡ holder_without c h) where
   pub line-moved : (s : Stand) → Reseats c (Some (record { place = p; stand = s })) es new → line_of new places h' ≡ moved_to s c (line_of es places h)
   line-moved stand.InLine change =
       let w : Option Seat = Some (record { place = p; stand = stand.InLine }) in
@@ -485,7 +485,7 @@ module _ (es : List (ℕ × Seat)) (places : List (Option ℕ)) (h : Option ℕ)
       let w : Option Seat = Some (record { place = p; stand = stand.Away }) in
       rw (standing-leaves c w es new change up stand.InLine refl, standing-leaves c w es new change up stand.Passed refl, standing-comes c w es new change up stand.Away refl, holder) refl
 
-  pub line-left : (places' : List (Option ℕ)) → places' ≡ map (released c) places → Reseats c None es new → line_of new places' h' ≡ left_by c (line_of es places h)
+  pub line-left : (places' : List (Option ℕ)) → places' ≡ map (holder_without c) places → Reseats c None es new → line_of new places' h' ≡ left_by c (line_of es places h)
   line-left places' left change =
       rw (standing-leaves c None es new change up stand.InLine refl, standing-leaves c None es new change up stand.Passed refl, standing-leaves c None es new change up stand.Away refl, holder, left) refl
 

@@ -9,7 +9,7 @@ use Rattle.hc_rules.specs.declared.admission.BoundKind.{BoundKind}
 use Rattle.hc_rules.specs.declared.admission.BoundKind.TheVariants as kind
 use Rattle.hc_rules.specs.Admissions.{is_same_kind, is_of, numbers, least_of, least_bound, admission_of}
 use Rattle.hc_rules.specs.Least.{lesser, least}
-use Rattle.hc_entry.specs.Users.{itself, consumer_of, bound_as, unshared, are_all, first_of, admission_by, kind_by, Users, is_bound_as, settled, rebound}
+use Rattle.hc_entry.specs.Users.{itself, consumer_of, bound_as, without_sharing, are_all, first_of, admission_by, kind_by, Users, is_bound_as, users_without_writer, rebound}
 
 and_false : (a : Bool) → a && false ≡ false
 and_false true = refl
@@ -58,11 +58,11 @@ module _ (way : BoundKind) where
   bound_as-map other c [] = sym (and_false (is_same_kind way other))
   bound_as-map other c (d ∷ cs) = ap (λ (b : Bool). (eqb d c && is_same_kind way other) || b) (bound_as-map other c cs) ∙ spread (eqb d c) (is_same_kind way other) (has itself c cs)
 
-  pub unshared-map : (cs : List ℕ) → is_same_kind way kind.Shared ≡ false → map unshared (map (bound_as way) cs) ≡ map (bound_as way) cs
+  pub unshared-map : (cs : List ℕ) → is_same_kind way kind.Shared ≡ false → map without_sharing (map (bound_as way) cs) ≡ map (bound_as way) cs
   unshared-map [] off = refl
   unshared-map (c ∷ cs) off = rw (off, unshared-map cs off) refl
 
-  pub reader-map : (cs : List ℕ) → is_same_kind way kind.Shared ≡ true → map unshared (map (bound_as way) cs) ≡ map (bound_as kind.Reader) cs
+  pub reader-map : (cs : List ℕ) → is_same_kind way kind.Shared ≡ true → map without_sharing (map (bound_as way) cs) ≡ map (bound_as kind.Reader) cs
   reader-map [] on = refl
   reader-map (c ∷ cs) on = rw (on, reader-map cs on) refl
 
@@ -108,12 +108,12 @@ least-above m (c ∷ cs) up =
     rw here (ap Some (let e : min c m ≡ m = omega arith in e))
 
 -- the least of those whose numbers rise is the first
-pub least-rising : (cs : List ℕ) → is_sorted itself cs ≡ true → least cs ≡ first_of cs
-least-rising [] up = refl
-least-rising (c ∷ cs) up = least-above c cs up
+pub least-ascending : (cs : List ℕ) → is_sorted itself cs ≡ true → least cs ≡ first_of cs
+least-ascending [] up = refl
+least-ascending (c ∷ cs) up = least-above c cs up
 
 pub least_bound-map : (way : BoundKind) (cs : List ℕ) → is_sorted itself cs ≡ true → least_bound (map (bound_as way) cs) ≡ first_of cs
-least_bound-map way cs up = ap least (numbers-map way cs) ∙ least-rising cs up
+least_bound-map way cs up = ap least (numbers-map way cs) ∙ least-ascending cs up
 
 pub least_of-same : (way other : BoundKind) (cs : List ℕ) → is_same_kind way other ≡ true → is_sorted itself cs ≡ true → least_of other (map (bound_as way) cs) ≡ first_of cs
 least_of-same way other cs same up = ap (λ (l : List Bound). least (numbers l)) (filter-same way other cs same) ∙ least_bound-map way cs up
@@ -165,10 +165,10 @@ pub made : (r : ℕ) (gone : Bool) (bound other : List Bound) (spare more : ℕ)
     → let whole : Users = record { r = r; bound = bound; spare = spare; gone = gone } in let after : Users = record { r = r; bound = other; spare = more; gone = gone } in whole ≡ after
 made r gone bound other spare more same room = rw (same, room) refl
 
-pub settled-writer : (c : ℕ) (u : Users) → is_bound_as kind.Exclusive c u ≡ true → settled c u ≡ rebound kind.Reader c u
+pub settled-writer : (c : ℕ) (u : Users) → is_bound_as kind.Exclusive c u ≡ true → users_without_writer c u ≡ rebound kind.Reader c u
 settled-writer c u on = rw on refl
 
-pub settled-other : (c : ℕ) (u : Users) → is_bound_as kind.Exclusive c u ≡ false → settled c u ≡ u
+pub settled-other : (c : ℕ) (u : Users) → is_bound_as kind.Exclusive c u ≡ false → users_without_writer c u ≡ u
 settled-other c u off = rw off refl
 
 pub admitted-same : (way : BoundKind) (cs : List ℕ) (ranged holes : Bool) (o : Option BoundKind) → o ≡ kind_by (admission_by way (first_of cs) ranged holes)

@@ -35,8 +35,8 @@ is_held_by c None = false
 is_held_by c (Some d) = d == c
 
 -- one holds the turn, or has the place, no more
-abbrev pub released : ℕ → Option ℕ → Option ℕ
-released c holder = if is_held_by c holder then None else holder
+abbrev pub holder_without : ℕ → Option ℕ → Option ℕ
+holder_without c holder = if is_held_by c holder then None else holder
 
 -- one stands nowhere, and keeps its place
 abbrev pub apart : ℕ → Line → Line
@@ -44,36 +44,36 @@ apart c l = record l {
   in_line = without itself c l.in_line;
   passed = without itself c l.passed;
   away = without itself c l.away;
-  holder = released c l.holder;
+  holder = holder_without c l.holder;
 }
 
 abbrev pub left_by : ℕ → Line → Line
-left_by c l = let rest = apart c l in record rest { places = map (released c) l.places }
+left_by c l = let rest = apart c l in record rest { places = map (holder_without c) l.places }
 
-abbrev pub queued : ℕ → Line → Line
-queued c l = record l { in_line = with_item itself c l.in_line }
+abbrev pub line_with : ℕ → Line → Line
+line_with c l = record l { in_line = with_item itself c l.in_line }
 
-abbrev pub passed : ℕ → Line → Line
-passed c l = let rest = apart c l in record rest { passed = with_item itself c rest.passed }
+abbrev pub line_after_pass : ℕ → Line → Line
+line_after_pass c l = let rest = apart c l in record rest { passed = with_item itself c rest.passed }
 
 abbrev pub gone_away : ℕ → Line → Line
 gone_away c l = let rest = apart c l in record rest { away = with_item itself c rest.away }
 
 abbrev pub come_back : ℕ → Line → Line
-come_back c l = queued c (apart c l)
+come_back c l = line_with c (apart c l)
 
 abbrev pub held_by : ℕ → Line → Line
 held_by c l = record l { holder = Some c }
 
 -- both lists in one, by number
-abbrev pub merged : List ℕ → List ℕ → List ℕ
-merged [] cs = cs
-merged (d ∷ ds) cs = with_item itself d (merged ds cs)
+abbrev pub union_of : List ℕ → List ℕ → List ℕ
+union_of [] cs = cs
+union_of (d ∷ ds) cs = with_item itself d (union_of ds cs)
 
 -- everyone stands in line, and nobody holds the turn
 abbrev pub all_back : Line → Line
 all_back l = record l {
-  in_line = merged l.away (merged l.passed l.in_line);
+  in_line = union_of l.away (union_of l.passed l.in_line);
   passed = [];
   away = [];
   holder = None;
@@ -81,11 +81,11 @@ all_back l = record l {
 
 -- whoever passed stands in line
 abbrev pub passed_back : Line → Line
-passed_back l = record l { in_line = merged l.passed l.in_line; passed = [] }
+passed_back l = record l { in_line = union_of l.passed l.in_line; passed = [] }
 
 -- One more is in line, at a place that nobody had; the others keep theirs.
 pub record Enters (c place : ℕ) (old new : Line) : Type 0 where
-  pub line : new ≡ (let more = queued c old in record more { places = new.places })
+  pub line : new ≡ (let more = line_with c old in record more { places = new.places })
   pub free : consumer_at old place ≡ None
   pub there : consumer_at new place ≡ Some c
   pub others : (k : ℕ) → (k ≡ place → ⊥) → consumer_at new k ≡ consumer_at old k

@@ -8,7 +8,7 @@ use Rattle.hc_entry.specs.declared.seat.Seat.{Seat}
 use Rattle.hc_entry.specs.declared.seat.Stand.{Stand}
 use Rattle.hc_entry.specs.declared.seat.Stand.TheVariants as stand
 use Rattle.hc_entry.specs.Tournaments.{at}
-use Rattle.hc_entry.specs.Lines.{Line, is_among, stands, passed, gone_away, come_back}
+use Rattle.hc_entry.specs.Lines.{Line, is_among, stands, line_after_pass, gone_away, come_back}
 
 abbrev pub is_same_stand : Stand → Stand → Bool
 is_same_stand stand.InLine stand.InLine = true
@@ -23,7 +23,7 @@ called_at s c = if is_same_stand s stand.InLine then Some c else None
 -- the line once one stands there
 abbrev pub moved_to : Stand → ℕ → Line → Line
 moved_to stand.InLine c l = come_back c l
-moved_to stand.Passed c l = passed c l
+moved_to stand.Passed c l = line_after_pass c l
 moved_to stand.Away c l = gone_away c l
 
 -- where one stands
@@ -47,15 +47,15 @@ called_from c None = None
 called_from c (Some seat) = called_at seat.stand c
 
 -- who is in line at a place
-abbrev pub called : List (ℕ × Seat) → Option ℕ → Option ℕ
-called seats None = None
-called seats (Some c) = called_from c (seat_of seats c)
+abbrev pub seat_in_line : List (ℕ × Seat) → Option ℕ → Option ℕ
+seat_in_line seats None = None
+seat_in_line seats (Some c) = called_from c (seat_of seats c)
 
 -- Each consumer has one place, each place in use one consumer; those in line play, and who holds the turn is in line.
 pub record IsSeated (seats : List (ℕ × Seat)) (places playing : List (Option ℕ)) (holder : Option ℕ) : Type 0 where
   pub distinct : IsDistinct nat_eq (keys_of seats)
   pub placed : (c : ℕ) (seat : Seat) → seat_of seats c ≡ Some seat → at places seat.place ≡ Some c
   pub seated : (k c : ℕ) → at places k ≡ Some c → (seat : Seat) × (seat_of seats c ≡ Some seat) × (seat.place ≡ k)
-  pub plays : (k : ℕ) → at playing k ≡ called seats (at places k)
+  pub plays : (k : ℕ) → at playing k ≡ seat_in_line seats (at places k)
   pub room : (k c : ℕ) → at places k ≡ Some c → k < length playing
   pub holds : stands holder (standing stand.InLine seats) ≡ true

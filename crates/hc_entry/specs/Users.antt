@@ -49,8 +49,8 @@ with_user_by None c u = u
 with_user_by (Some way) c u = with_user way c u
 
 -- it is bound as it is admitted
-abbrev pub admitted : Admission → ℕ → Users → Users
-admitted a c u = with_user_by (kind_by a) c u
+abbrev pub users_with : Admission → ℕ → Users → Users
+users_with a c u = with_user_by (kind_by a) c u
 
 abbrev pub are_all : BoundKind → List Bound → Bool
 are_all way bound = list_all (λ (b : Bound). is_same_kind b.kind way) bound
@@ -71,20 +71,20 @@ abbrev pub rebound : BoundKind → ℕ → Users → Users
 rebound way c u = record u { bound = replaced consumer_of (bound_as way c) u.bound }
 
 -- an exclusive writer becomes a reader
-abbrev pub settled : ℕ → Users → Users
-settled c u = if is_bound_as kind.Exclusive c u then rebound kind.Reader c u else u
+abbrev pub users_without_writer : ℕ → Users → Users
+users_without_writer c u = if is_bound_as kind.Exclusive c u then rebound kind.Reader c u else u
 
-abbrev pub unshared : Bound → Bound
-unshared b = if is_same_kind b.kind kind.Shared then bound_as kind.Reader b.c else b
+abbrev pub without_sharing : Bound → Bound
+without_sharing b = if is_same_kind b.kind kind.Shared then bound_as kind.Reader b.c else b
 
 -- members of the shared writing become readers
 abbrev pub all_unshared : Users → Users
-all_unshared u = record u { bound = map unshared u.bound }
+all_unshared u = record u { bound = map without_sharing u.bound }
 
 abbrev pub left_by : ℕ → Users → Users
 left_by c u = record u { bound = without consumer_of c u.bound; spare = u.spare + 1 }
 
 -- The numbers rise, and an exclusive writer is alone.
 pub record IsOneKind (way : BoundKind) (consumers : List ℕ) (count : ℕ) : Type 0 where
-  pub rising : is_sorted itself consumers ≡ true
+  pub ascending : is_sorted itself consumers ≡ true
   pub alone : is_same_kind way kind.Exclusive ≡ true → count ≤ 1

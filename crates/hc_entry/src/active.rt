@@ -2,7 +2,7 @@
 ghost use Rattle.std.specs.Prelude.{◌≡◌, ◌≤◌, [], Ok, true, false, is_some, IfSome, OnOk, OnErr};
 ghost use Rattle.hc_rules.specs.declared.admission.BoundKind.TheVariants as way;
 ghost use Rattle.hc_rules.specs.Admissions.{admission_of, least_of, least_bound, is_same_kind};
-ghost use Rattle.hc_entry.specs.Users.{nobody, is_bound, is_bound_as, with_user, admitted, rebound, settled, all_unshared, left_by, are_all, first_of, admission_by, kind_by};
+ghost use Rattle.hc_entry.specs.Users.{nobody, is_bound, is_bound_as, with_user, users_with, rebound, users_without_writer, all_unshared, left_by, are_all, first_of, admission_by, kind_by};
 
 use hc_rules::{Admission, BoundKind};
 use hc_sorted::{has_item, put_reserved, take_out};
@@ -132,7 +132,7 @@ impl ActiveEntry {
         requires room { 1 ≤ self.old.spare }
         requires unbound { is_bound c self.old ≡ false }
         ensures admission { result ≡ admission_of self.old.bound ranged holes }
-        ensures bound { self.new ≡ admitted result c self.old }
+        ensures bound { self.new ≡ users_with result c self.old }
     {
         let admission = self.admission(c, ranged, holes);
         if let Some(kind) = self.kind_for(ranged, holes) {
@@ -184,7 +184,7 @@ impl ActiveEntry {
     /// Where the consumer is the exclusive writer it reads from now on. Else nothing changes.
     pub fn settle(&mut self, c: u64)
         requires { is_bound c self.old ≡ true }
-        ensures { self.new ≡ settled c self.old }
+        ensures { self.new ≡ users_without_writer c self.old }
     {
         if is_exclusive(self.kind) {
             self.kind = BoundKind::Reader;

@@ -1,12 +1,12 @@
 //! What is kept by key.
 ghost use Rattle.std.specs.Prelude.{◌≡◌, ℕ, List, Some, None, true, false, IfSome, OnOk, OnErr};
-ghost use Rattle.hc_entry.specs.Lines.{is_in, turn_of, turn_with, queued, held_by, passed, gone_away, come_back, left_by, all_back, passed_back};
+ghost use Rattle.hc_entry.specs.Lines.{is_in, turn_of, turn_with, line_with, held_by, line_after_pass, gone_away, come_back, left_by, all_back, passed_back};
 ghost use Rattle.hc_entry.specs.Kept.{nothing, on_line, with_current};
 ghost use Rattle.hc_entry.specs.KeyRows.{IsTidy, AreOrderly};
 
 use crate::rows::{
-    KeyRow, all_back_in, clear_current_in, enter_in, hold_in, leave_in, make_current_in, passed_back_in,
-    reseat_in, row_in, tidy_in,
+    KeyRow, all_back_in, clear_current_in, enter_in, hold_in, leave_in, make_current_in,
+    passed_back_in, reseat_in, row_in, tidy_in,
 };
 use crate::seat::Stand;
 use hc_text::{Key, NoMemory};
@@ -92,7 +92,7 @@ impl KeyTable {
     /// The consumer is in line.
     pub fn enter(&mut self, key: &Key, c: u64) -> Result<(), NoMemory>
         requires { is_in c (line_of self.old key.now) ≡ false }
-        ensures ok { OnOk result (Becomes (on_line (queued c)) key.now self.old self.new) }
+        ensures ok { OnOk result (Becomes (on_line (line_with c)) key.now self.old self.new) }
         ensures err { OnErr result (Stays self.old self.new) }
     {
         enter_in(self.alloc, &mut self.rows, key, c)
@@ -110,7 +110,7 @@ impl KeyTable {
     /// The consumer has passed.
     pub fn pass(&mut self, key: &Key, c: u64)
         requires { is_in c (line_of self.old key.now) ≡ true }
-        ensures { Becomes (on_line (passed c)) key.now self.old self.new }
+        ensures { Becomes (on_line (line_after_pass c)) key.now self.old self.new }
     {
         reseat_in(&mut self.rows, key, c, Stand::Passed);
     }

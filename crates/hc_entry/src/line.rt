@@ -4,7 +4,7 @@ ghost use Rattle.std.specs.Bool.{OnTrue};
 ghost use Rattle.std.specs.Map.{keys_of};
 ghost use Rattle.std.specs.HashMap.{IsUnique};
 ghost use Rattle.hc_entry.specs.Seats.{seat_of, stand_in, moved_to};
-ghost use Rattle.hc_entry.specs.Lines.{nobody, is_among, is_in, is_empty, queued, passed, gone_away, come_back, all_back, passed_back, held_by, left_by, turn_of, turn_with, released, consumer_at, Enters, AllArePlacedBelow, IsItsPlace};
+ghost use Rattle.hc_entry.specs.Lines.{nobody, is_among, is_in, is_empty, line_with, line_after_pass, gone_away, come_back, all_back, passed_back, held_by, left_by, turn_of, turn_with, holder_without, consumer_at, Enters, AllArePlacedBelow, IsItsPlace};
 
 use crate::seat::{Seat, Stand};
 use crate::tournament::Tournament;
@@ -151,7 +151,7 @@ impl KeyLine {
     /// The consumer has passed.
     pub fn pass(&mut self, c: u64)
         requires { is_in c self.old ≡ true }
-        ensures { self.new ≡ passed c self.old }
+        ensures { self.new ≡ line_after_pass c self.old }
     {
         self.stands_at(c, Stand::Passed);
     }
@@ -260,7 +260,7 @@ fn reseat(seats: &mut HashMap<u64, Seat>, c: u64, stand: Stand) -> usize
 
 /// Who holds the turn once the consumer doesn't.
 fn released(holder: Option<u64>, c: u64) -> Option<u64>
-    ensures { result ≡ released c holder }
+    ensures { result ≡ holder_without c holder }
 {
     match holder {
         Some(d) if d == c => None,

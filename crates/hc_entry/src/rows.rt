@@ -3,7 +3,7 @@ ghost use Rattle.std.specs.Prelude.{◌≡◌, Some, None, true, false, is_some,
 ghost use Rattle.std.specs.Bool.{OnTrue};
 ghost use Rattle.std.specs.Option.{option_copied};
 ghost use Rattle.hc_entry.specs.Seats.{moved_to};
-ghost use Rattle.hc_entry.specs.Lines.{is_in, turn_of, queued, held_by, left_by, all_back, passed_back};
+ghost use Rattle.hc_entry.specs.Lines.{is_in, turn_of, line_with, held_by, left_by, all_back, passed_back};
 ghost use Rattle.hc_entry.specs.Kept.{nothing, on_line, line_in, with_current, is_nothing};
 ghost use Rattle.hc_entry.specs.KeyRows.{row_at, rows_of, RowChanges, RowsStay, IsTidyAt};
 
@@ -36,7 +36,7 @@ pub(crate) fn enter_in(
     c: u64,
 ) -> Result<(), NoMemory>
     requires { is_in c (line_in (rows_of rows.old key.now)) ≡ false }
-    ensures ok { OnOk result (RowChanges (on_line (queued c)) key.now rows.old rows.new) }
+    ensures ok { OnOk result (RowChanges (on_line (line_with c)) key.now rows.old rows.new) }
     ensures err { OnErr result (RowsStay rows.old rows.new) }
 {
     if let Some(row) = rows.get_mut(key.bytes.as_slice()) {
@@ -54,7 +54,7 @@ fn begin_in(
     c: u64,
 ) -> Result<(), NoMemory>
     requires { row_at rows.old key.now ≡ None }
-    ensures ok { OnOk result (RowChanges (on_line (queued c)) key.now rows.old rows.new) }
+    ensures ok { OnOk result (RowChanges (on_line (line_with c)) key.now rows.old rows.new) }
     ensures err { OnErr result (RowsStay rows.old rows.new) }
 {
     let mut line = KeyLine::new(alloc);

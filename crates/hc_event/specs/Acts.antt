@@ -4,8 +4,8 @@ use Rattle.hc_event.specs.declared.act.Act.{Act}
 use Rattle.hc_event.specs.declared.acts.Acts.{Acts}
 
 -- the acts, in order
-abbrev pub listed : Acts → List Act
-listed a = a.acts.items
+abbrev pub act_list : Acts → List Act
+act_list a = a.acts.items
 
 -- how many acts surely fit
 abbrev pub spare : Acts → ℕ

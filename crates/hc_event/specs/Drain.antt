@@ -4,11 +4,11 @@ use Rattle.std.specs.Borrow.{GName}
 use Rattle.std.specs.Iterator.{YieldsFirst, Yields}
 use Rattle.hc_event.specs.declared.act.Act.{Act}
 use Rattle.hc_event.specs.declared.drain.Drain.{Drain}
-use Rattle.hc_event.specs.Acts.{listed, room}
+use Rattle.hc_event.specs.Acts.{act_list, room}
 
 -- the acts that are still to come
 abbrev pub left_of : Drain → List Act
-left_of d = reverse (listed d.acts.now)
+left_of d = reverse (act_list d.acts.now)
 
 -- how many acts the list will have room for
 abbrev pub room_of : Drain → ℕ

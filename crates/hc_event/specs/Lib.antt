@@ -3,6 +3,6 @@ pub mod Answering
 pub mod Counting
 pub mod Drain
 pub mod Filters
-pub mod Modest
+pub mod WithinLimits
 pub mod Safe
 pub mod Plain

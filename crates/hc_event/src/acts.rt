@@ -14,12 +14,12 @@ pub struct Acts {
 }
 
 impl Acts {
-    ghost use Rattle.hc_event.specs.Acts.{listed, spare, room};
+    ghost use Rattle.hc_event.specs.Acts.{act_list, spare, room};
     ghost use Rattle.hc_event.specs.Drain.{left_of, room_of, lender_of, KeepsAlong};
 
     /// No act.
     pub fn new(alloc: Global) -> Self
-        ensures { listed result ≡ [] }
+        ensures { act_list result ≡ [] }
     {
         Acts {
             acts: Vec::new(alloc),
@@ -29,7 +29,7 @@ impl Acts {
     /// Makes room: afterwards `spare` is at least `n`.
     pub fn reserve(&mut self, n: usize) -> Result<(), NoMemory>
         ensures ok { OnOk result (n ≤ spare self.new) }
-        ensures same { listed self.new ≡ listed self.old }
+        ensures same { act_list self.new ≡ act_list self.old }
         ensures room { spare self.old ≤ spare self.new }
     {
         self.acts.reserve(n)?;
@@ -46,8 +46,8 @@ impl Acts {
     /// The act stands last, or nothing changes. Where there is room it takes no memory, and `spare`
     /// falls by one.
     pub fn push(&mut self, act: Act) -> Result<(), NoMemory>
-        ensures ok { OnOk result (listed self.new ≡ listed self.old ++ act ∷ []) }
-        ensures err { OnErr result (listed self.new ≡ listed self.old) }
+        ensures ok { OnOk result (act_list self.new ≡ act_list self.old ++ act ∷ []) }
+        ensures err { OnErr result (act_list self.new ≡ act_list self.old) }
         ensures fits { 0 < spare self.old → IsOk result }
         ensures room { 0 < spare self.old → spare self.new + 1 ≡ spare self.old }
     {
@@ -61,8 +61,8 @@ impl Acts {
 
     /// The first `n` acts are left, and `spare` does not fall.
     pub fn truncate(&mut self, n: usize)
-        requires { n ≤ length (listed self.old) }
-        ensures acts { listed self.new ≡ take n (listed self.old) }
+        requires { n ≤ length (act_list self.old) }
+        ensures acts { act_list self.new ≡ take n (act_list self.old) }
         ensures room { spare self.old ≤ spare self.new }
     {
         self.acts.truncate(n);
@@ -70,9 +70,9 @@ impl Acts {
 
     /// No act is left, and the room is kept.
     pub fn clear(&mut self)
-        ensures acts { listed self.new ≡ [] }
+        ensures acts { act_list self.new ≡ [] }
         ensures room { spare self.old ≤ spare self.new }
-        ensures kept { spare self.new ≡ length (listed self.old) + spare self.old }
+        ensures kept { spare self.new ≡ length (act_list self.old) + spare self.old }
     {
         self.acts.clear();
     }
@@ -80,8 +80,8 @@ impl Acts {
     /// Hands out the acts by value, in order. Once what it answers is dropped, no act is left, and the
     /// room is kept.
     pub fn drain(&mut self) -> Drain<'_>
-        ensures left { left_of result ≡ listed self.old }
-        ensures room { room_of result ≡ length (listed self.old) + spare self.old }
+        ensures left { left_of result ≡ act_list self.old }
+        ensures room { room_of result ≡ length (act_list self.old) + spare self.old }
         ensures same_reference { lender_of result ≡ self.entry.ghost_name }
         ensures stays { KeepsAlong result }
     {
@@ -90,8 +90,8 @@ impl Acts {
 
     /// The last act goes.
     pub(crate) fn pop(&mut self) -> Option<Act>
-        ensures acts { listed self.old ≡ listed self.new ++ option_to_list result }
-        ensures none { IfNone result (listed self.old ≡ []) }
+        ensures acts { act_list self.old ≡ act_list self.new ++ option_to_list result }
+        ensures none { IfNone result (act_list self.old ≡ []) }
         ensures room { room self.new ≡ room self.old }
     {
         self.acts.pop()
@@ -99,7 +99,7 @@ impl Acts {
 
     /// The last act stands first.
     pub(crate) fn reverse(&mut self)
-        ensures acts { listed self.new ≡ reverse (listed self.old) }
+        ensures acts { act_list self.new ≡ reverse (act_list self.old) }
         ensures room { room self.new ≡ room self.old }
     {
         self.acts.as_mut_slice().reverse();
@@ -107,7 +107,7 @@ impl Acts {
 
     /// The acts, in order.
     pub fn list(&self) -> &[Act]
-        ensures { result.now ≡ listed self.now }
+        ensures { result.now ≡ act_list self.now }
     {
         self.acts.as_slice()
     }

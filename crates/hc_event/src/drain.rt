@@ -13,12 +13,12 @@ pub struct Drain<'a> {
 
 impl<'a> Drain<'a> {
     ghost use Rattle.std.specs.Prelude.{◌≡◌};
-    ghost use Rattle.hc_event.specs.Acts.{listed, room};
+    ghost use Rattle.hc_event.specs.Acts.{act_list, room};
     ghost use Rattle.hc_event.specs.Drain.{left_of, room_of, lender_of, KeepsAlong};
 
     /// Hands out these acts from the first on.
     pub(crate) fn new(acts: &'a mut Acts) -> Drain<'a>
-        ensures left { left_of result ≡ listed acts.old }
+        ensures left { left_of result ≡ act_list acts.old }
         ensures room { room_of result ≡ room acts.old }
         ensures same_reference { lender_of result ≡ acts.entry.ghost_name }
         ensures stays { KeepsAlong result }
@@ -30,11 +30,11 @@ impl<'a> Drain<'a> {
 
 impl Drop for Drain<'_> {
     ghost use Rattle.std.specs.Prelude.{◌≡◌, []};
-    ghost use Rattle.hc_event.specs.Acts.{listed, spare};
+    ghost use Rattle.hc_event.specs.Acts.{act_list, spare};
     ghost use Rattle.hc_event.specs.Drain.{room_of};
 
     fn drop(self)
-        ensures empty { listed self.exit.0.now ≡ [] }
+        ensures empty { act_list self.exit.0.now ≡ [] }
         ensures room { spare self.exit.0.now ≡ room_of self.entry }
     {
         let Drain { acts } = self;

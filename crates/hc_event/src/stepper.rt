@@ -1,10 +1,10 @@
 //! What events are stepped on.
 ghost use Rattle.std.specs.Prelude.{◌≡◌, ◌+◌, ◌<◌, ◌≤◌, ◌^◌, ℕ, List, OnOk, OnErr};
-ghost use Rattle.hc_event.specs.Acts.{listed};
+ghost use Rattle.hc_event.specs.Acts.{act_list};
 ghost use Rattle.hc_event.specs.declared.act.Act.{Act};
 ghost use Rattle.hc_event.specs.declared.event.Event.{Event};
 ghost use Rattle.hc_event.specs.Counting.{received_in};
-ghost use Rattle.hc_event.specs.Modest.{IsModestEvent};
+ghost use Rattle.hc_event.specs.WithinLimits.{IsEventWithinLimits};
 
 use crate::acts::Acts;
 use crate::event::Event;
@@ -32,14 +32,14 @@ pub trait Stepper {
     fn step(&mut self, now: u64, event: &Event, out: &mut Acts) -> Result<(), NoMemory>
         requires later { moment self.old ≤ now }
         requires early { now < 2 ^ 62 }
-        requires modest { IsModestEvent event.now }
+        requires within_limits { IsEventWithinLimits event.now }
         requires few { steps self.old < 2 ^ 60 }
         requires small { received self.old + received_in event.now < 2 ^ 61 }
         ensures answered { OnOk result (Appends answers self.old self.new now event.now
-            (listed out.old) (listed out.new)) }
+            (act_list out.old) (act_list out.new)) }
         ensures moment { OnOk result (moment self.new ≡ now) }
         ensures steps { OnOk result (steps self.new ≡ steps self.old + 1) }
         ensures received { OnOk result
             (received self.new ≡ received self.old + received_in event.now) }
-        ensures kept { OnErr result (listed out.new ≡ listed out.old) };
+        ensures kept { OnErr result (act_list out.new ≡ act_list out.old) };
 }

@@ -4,14 +4,14 @@ use Rattle.std.proofs.lemmas.List.{drop-append-le, take-append-le, append-nil}
 use Rattle.std.proofs.Math.Seq.{take-length, drop-append_seam}
 use Rattle.std.specs.Prelude.{min}
 use Rattle.std.proofs.lemmas.Bool.{cases_lt}
-use Rattle.hc_exch.specs.Pieces.{joined, first_length, IsCounted, TakesFront}
+use Rattle.hc_exch.specs.Pieces.{bytes_of_pieces, first_length, IsCounted, TakesFront}
 
 drop-none : (n : ℕ) → drop n (let e : List ℕ = [] in e) ≡ []
 drop-none zero = refl
 drop-none (suc n) = refl
 
 -- where bytes are left, a piece is
-pub some_left : (pieces : List (List ℕ)) (read : ℕ) (taken all : List ℕ) (count : ℕ) → taken ++ drop read (joined pieces) ≡ all
+pub some_left : (pieces : List (List ℕ)) (read : ℕ) (taken all : List ℕ) (count : ℕ) → taken ++ drop read (bytes_of_pieces pieces) ≡ all
     → length taken < count → count ≤ length all → 0 < length pieces
 some_left [] read taken all count is few there =
     absurd (let same : length all ≡ length taken = sym (ap length is) ∙ (ap (λ (l : List ℕ). length (taken ++ l)) (drop-none read) ∙ ap length (append-nil taken)) in omega arith)
@@ -28,34 +28,34 @@ taken_is taken rest all count is len =
 pub rest_is : (taken rest all : List ℕ) (count : ℕ) → taken ++ rest ≡ all → length taken ≡ count → rest ≡ drop count all
 rest_is taken rest all count is len = sym (rw (← is, ← len) (drop-whole taken rest))
 
-joined-append : (xs ys : List (List ℕ)) → joined (xs ++ ys) ≡ joined xs ++ joined ys
+joined-append : (xs ys : List (List ℕ)) → bytes_of_pieces (xs ++ ys) ≡ bytes_of_pieces xs ++ bytes_of_pieces ys
 joined-append [] ys = refl
-joined-append (x ∷ xs) ys = ap (λ (l : List ℕ). x ++ l) (joined-append xs ys) ∙ sym (append_assoc x (joined xs) (joined ys))
+joined-append (x ∷ xs) ys = ap (λ (l : List ℕ). x ++ l) (joined-append xs ys) ∙ sym (append_assoc x (bytes_of_pieces xs) (bytes_of_pieces ys))
 
 -- a piece more at the end
-pub joined-push : (pieces : List (List ℕ)) (piece : List ℕ) → joined (pieces ++ piece ∷ []) ≡ joined pieces ++ piece
-joined-push pieces piece = joined-append pieces (piece ∷ []) ∙ ap (λ (l : List ℕ). joined pieces ++ l) (append-nil piece)
+pub joined-push : (pieces : List (List ℕ)) (piece : List ℕ) → bytes_of_pieces (pieces ++ piece ∷ []) ≡ bytes_of_pieces pieces ++ piece
+joined-push pieces piece = joined-append pieces (piece ∷ []) ∙ ap (λ (l : List ℕ). bytes_of_pieces pieces ++ l) (append-nil piece)
 
 first-push : (pieces : List (List ℕ)) (piece : List ℕ) (read : ℕ) → read ≤ first_length pieces → read ≤ first_length (pieces ++ piece ∷ [])
 first-push [] piece read le = omega arith
 first-push (p ∷ pieces) piece read le = le
 
-first-joined : (pieces : List (List ℕ)) → first_length pieces ≤ length (joined pieces)
+first-joined : (pieces : List (List ℕ)) → first_length pieces ≤ length (bytes_of_pieces pieces)
 first-joined [] = omega arith
-first-joined (p ∷ pieces) = let h = length-append p (joined pieces) in omega arith
+first-joined (p ∷ pieces) = let h = length-append p (bytes_of_pieces pieces) in omega arith
 
 pub IsCounted-push : (pieces : List (List ℕ)) (read left : ℕ) (piece : List ℕ) (now : List (List ℕ)) (count : ℕ) → IsCounted pieces read left → now ≡ pieces ++ piece ∷ []
     → length piece ≡ count → IsCounted now read (left + count)
 IsCounted-push pieces read left piece now count h is len =
     record {
-      all = rw (is, joined-push pieces piece, length-append (joined pieces) piece) (let all = h.all in omega arith);
+      all = rw (is, joined-push pieces piece, length-append (bytes_of_pieces pieces) piece) (let all = h.all in omega arith);
       front = rw is (first-push pieces piece read h.front);
     }
 
 pub view-push : (pieces : List (List ℕ)) (read : ℕ) (piece : List ℕ) (now : List (List ℕ)) → read ≤ first_length pieces → now ≡ pieces ++ piece ∷ []
-    → drop read (joined now) ≡ drop read (joined pieces) ++ piece
+    → drop read (bytes_of_pieces now) ≡ drop read (bytes_of_pieces pieces) ++ piece
 view-push pieces read piece now le is =
-    rw (is, joined-push pieces piece) (drop-append-le read (joined pieces) piece (let h = first-joined pieces in omega arith))
+    rw (is, joined-push pieces piece) (drop-append-le read (bytes_of_pieces pieces) piece (let h = first-joined pieces in omega arith))
 
 take_past : (v : List ℕ) (n : ℕ) → length v ≤ n → take n v ≡ v
 take_past [] zero le = refl
@@ -82,28 +82,28 @@ drop-min v n = elim (cases_lt n (length v)) [
   | inr all ↦ let least : min n (length v) ≡ length v = omega arith in rw least (drop_past v (length v) (omega arith) ∙ sym (drop_past v n all))
 ]
 
-pub length-view : (pieces : List (List ℕ)) (read left : ℕ) → IsCounted pieces read left → length (drop read (joined pieces)) ≡ left
-length-view pieces read left h = let all = h.all in let len = length-drop read (joined pieces) in omega arith
+pub length-view : (pieces : List (List ℕ)) (read left : ℕ) → IsCounted pieces read left → length (drop read (bytes_of_pieces pieces)) ≡ left
+length-view pieces read left h = let all = h.all in let len = length-drop read (bytes_of_pieces pieces) in omega arith
 
 -- what is counted after so many bytes were taken
 pub IsCounted-take : (pieces now : List (List ℕ)) (read left count next : ℕ) (taken : List ℕ) → IsCounted pieces read left → count ≤ left
-    → TakesFront count (drop read (joined pieces)) now taken next → IsCounted now next (left - count)
+    → TakesFront count (drop read (bytes_of_pieces pieces)) now taken next → IsCounted now next (left - count)
 IsCounted-take pieces now read left count next taken h few took =
     let before = length-view pieces read left h in
-    let after : length (drop next (joined now)) ≡ length (drop count (drop read (joined pieces))) = ap length took.rest in
-    let a = length-drop next (joined now) in
-    let b = length-drop count (drop read (joined pieces)) in
+    let after : length (drop next (bytes_of_pieces now)) ≡ length (drop count (drop read (bytes_of_pieces pieces))) = ap length took.rest in
+    let a = length-drop next (bytes_of_pieces now) in
+    let b = length-drop count (drop read (bytes_of_pieces pieces)) in
     let front = took.front in
     let whole = first-joined now in
     record { all = omega arith; front = front }
 
 -- a whole piece is taken
 pub takes-piece : (pieces now : List (List ℕ)) (piece : List ℕ) (read count : ℕ) → read ≡ 0 → pieces ≡ piece ∷ now → first_length pieces ≡ count
-    → TakesFront count (drop read (joined pieces)) now piece 0
+    → TakesFront count (drop read (bytes_of_pieces pieces)) now piece 0
 takes-piece pieces now piece read count none is len =
     let size : length piece ≡ count = ap first_length (sym is) ∙ len in
     record {
-      bytes = rw (none, is) (taken_is piece (joined now) (piece ++ joined now) count refl size);
-      rest = rw (none, is) (rest_is piece (joined now) (piece ++ joined now) count refl size);
+      bytes = rw (none, is) (taken_is piece (bytes_of_pieces now) (piece ++ bytes_of_pieces now) count refl size);
+      rest = rw (none, is) (rest_is piece (bytes_of_pieces now) (piece ++ bytes_of_pieces now) count refl size);
       front = omega arith;
     }

@@ -8,7 +8,7 @@ use Rattle.hc_event.specs.declared.event.Request.{Request}
 use Rattle.hc_exch.specs.declared.role.Role.{Role}
 use Rattle.hc_exch.specs.declared.row.Row.{Row}
 use Rattle.hc_exch.specs.Wishes.{Wished, wants_more, leaves}
-use Rattle.hc_exch.specs.Known.{Known, unknown, launched, opened, is_idle, Changes, fits}
+use Rattle.hc_exch.specs.Known.{Known, unknown, with_new_exchange, exchange_at_opening, is_idle, Changes, fits}
 use Rattle.hc_exch.specs.Rows.{Rows, rows_of, known_by, keeps}
 use Rattle.hc_exch.specs.Agreement.{Agrees, IsTidy}
 use Rattle.hc_exch.proofs.AgreementLemmas.{agrees-same, agrees-leaves, agrees-wanted, agrees_but-new, changes-other, changes-same}
@@ -61,25 +61,25 @@ agrees-refused x w old now h new same =
 
 module _ (c : ℕ) (role : Role) (need : Need) (request : Request) (moment : ℕ) where
   pub agrees-launched : (x : ℕ) (w : Wished) (old now : Rows) → Agrees w (rows_of old) → rows_of old x ≡ unknown
-      → Changes (launched c role need request moment) x (rows_of old) (rows_of now) → Agrees (wants_more x w) (rows_of now)
+      → Changes (with_new_exchange c role need request moment) x (rows_of old) (rows_of now) → Agrees (wants_more x w) (rows_of now)
   agrees-launched x w old now h new change =
-      let but = agrees_but-new x w (rows_of old) (rows_of now) h new (changes-other (launched c role need request moment) x (rows_of old) (rows_of now) change) in
-      agrees-wanted x (wants_more x w) (rows_of now) (opened c role need request moment) but
-      (ap (λ (k : Known). k.running) (changes-same (launched c role need request moment) x (rows_of old) (rows_of now) change))
+      let but = agrees_but-new x w (rows_of old) (rows_of now) h new (changes-other (with_new_exchange c role need request moment) x (rows_of old) (rows_of now) change) in
+      agrees-wanted x (wants_more x w) (rows_of now) (exchange_at_opening c role need request moment) but
+      (ap (λ (k : Known). k.running) (changes-same (with_new_exchange c role need request moment) x (rows_of old) (rows_of now) change))
       refl (h.idle x ∙ ap (λ (k : Known). is_idle k.running) new)
 
-  pub tidy-launched : (x : ℕ) (old now : Rows) → IsTidy x old → Changes (launched c role need request moment) x (rows_of old) (rows_of now)
+  pub tidy-launched : (x : ℕ) (old now : Rows) → IsTidy x old → Changes (with_new_exchange c role need request moment) x (rows_of old) (rows_of now)
       → ((y : ℕ) → y ≢ x → get nat_eq now y ≡ get nat_eq old y) → IsTidy (x + 1) now
   tidy-launched x old now h change others =
-      let at = changes-same (launched c role need request moment) x (rows_of old) (rows_of now) change in
+      let at = changes-same (with_new_exchange c role need request moment) x (rows_of old) (rows_of now) change in
       record {
         keeps = λ y. elim (cases_Bool (eqb y x)) [
           | inl on ↦ let e = eqb-true y x on in rw e (keeps-by (get nat_eq now x) (ap (λ (k : Known). is_some k.running) at))
           | inr off ↦ ap keeps (others y (eqb-false y x off)) ∙ h.keeps y
         ];
-        new = λ y le. let ne : y ≢ x = λ e. absurd (omega arith) in changes-other (launched c role need request moment) x (rows_of old) (rows_of now) change y ne ∙ h.new y (omega arith);
+        new = λ y le. let ne : y ≢ x = λ e. absurd (omega arith) in changes-other (with_new_exchange c role need request moment) x (rows_of old) (rows_of now) change y ne ∙ h.new y (omega arith);
         counted = λ y. elim (cases_Bool (eqb y x)) [
           | inl on ↦ let e = eqb-true y x on in rw e (ap fits at)
-          | inr off ↦ ap fits (changes-other (launched c role need request moment) x (rows_of old) (rows_of now) change y (eqb-false y x off)) ∙ h.counted y
+          | inr off ↦ ap fits (changes-other (with_new_exchange c role need request moment) x (rows_of old) (rows_of now) change y (eqb-false y x off)) ∙ h.counted y
         ];
       }

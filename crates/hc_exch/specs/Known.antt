@@ -32,35 +32,35 @@ Table = ℕ → Known
 abbrev pub Changes : (Known → Known) → ℕ → Table → Table → Type 0
 Changes f x before after = (y : ℕ) → after y ≡ (if x == y then f (before x) else before y)
 
-abbrev pub opened : ℕ → Role → Need → Request → ℕ → Open
-opened c role need request now =
+abbrev pub exchange_at_opening : ℕ → Role → Need → Request → ℕ → Open
+exchange_at_opening c role need request now =
     record { c = c; role = role; need = need; request = request; moment = now; headed = false; asked = false; base = 0; delivered = 0; promised = None }
 
-abbrev pub launched : ℕ → Role → Need → Request → ℕ → Known → Known
-launched c role need request now k = record { running = Some (opened c role need request now); held = [] }
+abbrev pub with_new_exchange : ℕ → Role → Need → Request → ℕ → Known → Known
+with_new_exchange c role need request now k = record { running = Some (exchange_at_opening c role need request now); held = [] }
 
 -- what is open changes
 abbrev pub on_open : (Open → Open) → Known → Known
 on_open f k = record k { running = option_map f k.running }
 
-abbrev pub asked : Known → Known
-asked k = on_open (λ (o : Open). record o { asked = true }) k
+abbrev pub with_asking : Known → Known
+with_asking k = on_open (λ (o : Open). record o { asked = true }) k
 
 abbrev pub turned_into : Role → Known → Known
 turned_into role k = on_open (λ (o : Open). record o { role = role }) k
 
 -- it isn't open any more, and what is held stays
-abbrev pub closed : Known → Known
-closed k = record k { running = None }
+abbrev pub without_exchange : Known → Known
+without_exchange k = record k { running = None }
 
 abbrev pub is_all : Option ℕ → ℕ → Bool
 is_all None n = false
 is_all (Some promised) n = promised == n
 
 -- its head came, and it is over where nothing is promised
-abbrev pub headed : Length → Known → Known
-headed length k =
-    if is_all (promise_of length) 0 then closed k
+abbrev pub with_good_head : Length → Known → Known
+with_good_head length k =
+    if is_all (promise_of length) 0 then without_exchange k
     else on_open (λ (o : Open). record o { headed = true; base = base_of length; promised = promise_of length }) k
 
 abbrev pub is_last_of : Option Open → ℕ → Bool
@@ -75,8 +75,8 @@ with_piece bytes hold k = record {
 }
 
 -- the first bytes are given
-abbrev pub given : ℕ → Known → Known
-given n k = record k { held = drop n k.held }
+abbrev pub without_first : ℕ → Known → Known
+without_first n k = record k { held = drop n k.held }
 
 abbrev pub forgotten : Known → Known
 forgotten k = record k { held = [] }
@@ -92,8 +92,8 @@ is_idle None = false
 is_idle (Some o) = not (not o.headed || o.asked)
 
 -- as the refusals see it
-abbrev pub seen : Open → OpenExchange
-seen o = record { headed = o.headed; asked = o.asked; delivered = o.delivered; promised = o.promised }
+abbrev pub open_view : Open → OpenExchange
+open_view o = record { headed = o.headed; asked = o.asked; delivered = o.delivered; promised = o.promised }
 
 -- With so many bytes more, those that came and those that are held stay in range.
 abbrev pub CountsTo : ℕ → Known → Type 0
@@ -108,16 +108,16 @@ abbrev pub fits : Known → Bool
 fits k = fits_by k.running (length k.held)
 
 -- the number that an event of an exchange names
-abbrev pub named : Event → ℕ
-named (event.Head x response) = x
-named (event.Piece x bytes) = x
-named (event.End x) = x
-named (event.Fault x) = x
-named _ = 0
+abbrev pub exchange_number : Event → ℕ
+exchange_number (event.Head x response) = x
+exchange_number (event.Piece x bytes) = x
+exchange_number (event.End x) = x
+exchange_number (event.Fault x) = x
+exchange_number _ = 0
 
 -- why an event of an exchange is denied
 abbrev pub refusal_in : Table → Event → Option Refusal
-refusal_in t e = exchange_refusal (option_map seen (t (named e)).running) e
+refusal_in t e = exchange_refusal (option_map open_view (t (exchange_number e)).running) e
 
 abbrev pub view_of : ℕ → Open → ExchangeView
 view_of x o = record { x = x; c = o.c; role = o.role; headed = o.headed; asked = o.asked; base = o.base; delivered = o.delivered; promised = o.promised }

@@ -7,7 +7,7 @@ ghost use Rattle.hc_rules.specs.Refusals.{head_refusal, piece_refusal};
 ghost use Rattle.hc_sorted.specs.Sorted.{is_sorted};
 ghost use Rattle.hc_exch.specs.Wishes.{is_among, itself};
 ghost use Rattle.hc_exch.specs.Openings.{opened_with};
-ghost use Rattle.hc_exch.specs.Known.{unknown, launched, asked, turned_into, closed, headed, with_piece, given, forgotten, is_wanted, is_last_of, is_open, view_of, begins_with, named, refusal_in, Changes, length_by, seen, EndsBelow};
+ghost use Rattle.hc_exch.specs.Known.{unknown, with_new_exchange, with_asking, turned_into, without_exchange, with_good_head, with_piece, without_first, forgotten, is_wanted, is_last_of, is_open, view_of, begins_with, exchange_number, refusal_in, Changes, length_by, open_view, EndsBelow};
 ghost use Rattle.hc_exch.specs.Rows.{rows_of, keeps};
 ghost use Rattle.hc_exch.specs.Agreement.{Agrees, AgreesBut, IsTidy};
 
@@ -81,7 +81,7 @@ impl Exchanges {
         requires { next_of self.old < 2 ^ 62 }
         ensures number { IfOk result (λ x. x ≡ next_of self.old) }
         ensures next { OnOk result (next_of self.new ≡ next_of self.old + 1) }
-        ensures ok { OnOk result (Changes (launched c role need request.now now)
+        ensures ok { OnOk result (Changes (with_new_exchange c role need request.now now)
             (next_of self.old) (table_of self.old) (table_of self.new)) }
         ensures err { OnErr result (Stays self.old self.new) }
     {
@@ -119,7 +119,7 @@ impl Exchanges {
     /// Those that are wanted, by number: the open ones that have no head, or of which a piece was
     /// asked for.
     pub fn wanted(&self) -> &[u64]
-        ensures rising { is_sorted itself result.now ≡ true }
+        ensures ascending { is_sorted itself result.now ≡ true }
         ensures wanted { (x : ℕ) → is_among x result.now
             ≡ is_wanted (table_of self.now x).running }
     {
@@ -137,7 +137,7 @@ impl Exchanges {
     /// The next piece is asked for.
     pub fn ask(&mut self, x: u64)
         requires { is_open x (table_of self.old) ≡ true }
-        ensures { Becomes asked x self.old self.new }
+        ensures { Becomes with_asking x self.old self.new }
     {
         ask_in(&mut self.rows, x);
         settle(&mut self.rows, &mut self.wishes, x);
@@ -155,11 +155,11 @@ impl Exchanges {
     /// Its head came. False exactly where the length that it declares is bad, and then nothing
     /// changes.
     pub fn head(&mut self, x: u64, response: &Response) -> bool
-        requires { head_refusal (option_map seen (table_of self.old x).running) ≡ None }
+        requires { head_refusal (option_map open_view (table_of self.old x).running) ≡ None }
         ensures answer { result
             ≡ not (is_bad (length_by (table_of self.old x).running response.now)) }
         ensures good { is_bad (length_by (table_of self.old x).running response.now) ≡ false
-            → Becomes (headed (length_by (table_of self.old x).running response.now))
+            → Becomes (with_good_head (length_by (table_of self.old x).running response.now))
             x self.old self.new }
         ensures bad { is_bad (length_by (table_of self.old x).running response.now) ≡ true
             → Stays self.old self.new }
@@ -176,7 +176,7 @@ impl Exchanges {
 
     /// A piece came, which is held or not. True exactly where the exchange is over with it.
     pub fn piece(&mut self, x: u64, bytes: &[u8], hold: bool) -> Result<bool, NoMemory>
-        requires accepted { piece_refusal (option_map seen (table_of self.old x).running)
+        requires accepted { piece_refusal (option_map open_view (table_of self.old x).running)
             (length bytes.now) ≡ None }
         requires below { EndsBelow (length bytes.now) (table_of self.old x).running }
         ensures over { IfOk result
@@ -192,7 +192,7 @@ impl Exchanges {
     /// It is over, or closed. What is held for it stays.
     pub fn close(&mut self, x: u64)
         requires { is_open x (table_of self.old) ≡ true }
-        ensures { Becomes closed x self.old self.new }
+        ensures { Becomes without_exchange x self.old self.new }
     {
         close_in(&mut self.rows, x);
         settle(&mut self.rows, &mut self.wishes, x);
@@ -208,7 +208,7 @@ impl Exchanges {
     /// The first bytes that are held, at most `want`.
     pub fn take_held(&mut self, x: u64, want: usize) -> Result<Bytes, NoMemory>
         ensures bytes { IfOk result (λ bytes. bytes ≡ take want (table_of self.old x).held) }
-        ensures ok { OnOk result (Becomes (given want) x self.old self.new) }
+        ensures ok { OnOk result (Becomes (without_first want) x self.old self.new) }
         ensures err { OnErr result (Stays self.old self.new) }
     {
         let bytes = take_in(self.alloc, &mut self.rows, x, want)?;
@@ -227,7 +227,7 @@ impl Exchanges {
 
 /// The number that an event of an exchange names. No exchange has the number 0.
 fn named(event: &Event) -> u64
-    ensures { result ≡ named event.now }
+    ensures { result ≡ exchange_number event.now }
 {
     match event {
         Event::Head { x, .. } | Event::Piece { x, .. } | Event::End { x } | Event::Fault { x } =>

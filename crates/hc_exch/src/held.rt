@@ -2,7 +2,7 @@
 ghost use Rattle.std.specs.Prelude.{◌≡◌, ◌==◌, ◌++◌, ◌+◌, ◌≤◌, ◌<◌, ◌^◌, [], length, take, drop, IfOk, OnOk, OnErr};
 ghost use Rattle.std.specs.Prelude.{vec_len, vec_capacity};
 ghost use Rattle.std.specs.VecDeque.{deque_len};
-ghost use Rattle.hc_exch.specs.Pieces.{joined, first_length, TakesFront};
+ghost use Rattle.hc_exch.specs.Pieces.{bytes_of_pieces, first_length, TakesFront};
 
 use hc_text::{Bytes, NoMemory};
 use std::alloc::Global;
@@ -23,11 +23,11 @@ impl Model for Held {
     ghost use Rattle.std.specs.Prelude.{List, ℕ, drop};
     ghost use Rattle.std.specs.Prelude.{vec_len, vec_capacity};
     ghost use Rattle.std.specs.VecDeque.{deque_len};
-    ghost use Rattle.hc_exch.specs.Pieces.{joined, IsCounted};
+    ghost use Rattle.hc_exch.specs.Pieces.{bytes_of_pieces, IsCounted};
 
     ghost Value = { List ℕ };
 
-    ghost view = { λ h. drop h.read (joined h.pieces.items) };
+    ghost view = { λ h. drop h.read (bytes_of_pieces h.pieces.items) };
 
     ghost invariant = { λ h. IsCounted h.pieces.items h.read h.len };
 }
@@ -97,9 +97,10 @@ fn take_front(
     count: usize,
 ) -> Result<(Bytes, usize), NoMemory>
     requires front { read ≤ first_length pieces.old.items }
-    requires there { count + read ≤ length (joined pieces.old.items) }
+    requires there { count + read ≤ length (bytes_of_pieces pieces.old.items) }
     ensures ok { IfOk result
-        (λ r. TakesFront count (drop read (joined pieces.old.items)) pieces.new.items r.0 r.1) }
+        (λ r. TakesFront count (drop read (bytes_of_pieces pieces.old.items))
+        pieces.new.items r.0 r.1) }
     ensures err { OnErr result (pieces.new.items ≡ pieces.old.items) }
 {
     if read == 0 && count > 0 && first_len(pieces) == count {
@@ -121,8 +122,8 @@ fn take_part(pieces: &mut VecDeque<Bytes>, read: usize, most: usize, taken: &mut
     requires some { 0 < deque_len pieces.old }
     requires wanted { 0 < most }
     requires room { vec_len taken.old + most ≤ vec_capacity taken.old }
-    ensures all { taken.new.items ++ drop result (joined pieces.new.items)
-        ≡ taken.old.items ++ drop read (joined pieces.old.items) }
+    ensures all { taken.new.items ++ drop result (bytes_of_pieces pieces.new.items)
+        ≡ taken.old.items ++ drop read (bytes_of_pieces pieces.old.items) }
     ensures front { result ≤ first_length pieces.new.items }
     ensures few { vec_len taken.new ≤ vec_len taken.old + most }
     ensures further { deque_len pieces.new + vec_len taken.old

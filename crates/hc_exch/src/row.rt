@@ -1,6 +1,6 @@
 //! What is kept of an exchange.
 ghost use Rattle.std.specs.Prelude.{◌≡◌, Some, length, IfOk, OnOk, OnErr};
-ghost use Rattle.hc_exch.specs.Known.{seen, headed, with_piece, is_last_of, CountsTo, view_of, is_wanted, opened};
+ghost use Rattle.hc_exch.specs.Known.{open_view, with_good_head, with_piece, is_last_of, CountsTo, view_of, is_wanted, exchange_at_opening};
 
 use crate::held::Held;
 use crate::role::Role;
@@ -59,7 +59,8 @@ impl Open {
         request: &Request,
         moment: u64,
     ) -> Result<Open, NoMemory>
-        ensures { IfOk result (λ begun. begun ≡ opened c role need request.now moment) }
+        ensures { IfOk result
+            (λ begun. begun ≡ exchange_at_opening c role need request.now moment) }
     {
         Ok(Open {
             c,
@@ -100,7 +101,7 @@ impl Open {
 
     /// As the refusals see it.
     pub(crate) fn seen(&self) -> OpenExchange
-        ensures { result ≡ seen self.now }
+        ensures { result ≡ open_view self.now }
     {
         OpenExchange {
             headed: self.headed,
@@ -123,7 +124,7 @@ impl Row {
 
     /// Its head came, which promises so much.
     pub(crate) fn head(&mut self, length: Length)
-        ensures { known_by (Some self.new) ≡ headed length (known_by (Some self.old)) }
+        ensures { known_by (Some self.new) ≡ with_good_head length (known_by (Some self.old)) }
     {
         if length.promise() == Some(0) {
             self.running = None;

@@ -2,7 +2,7 @@
 ghost use Rattle.std.specs.Prelude.{◌≡◌, ℕ, ◌+◌, ◌<◌, ◌≤◌, ◌^◌, Some, None, is_some, true, length, IfOk, OnOk, OnErr, take};
 ghost use Rattle.std.specs.Option.{option_copied};
 ghost use Rattle.hc_rules.specs.declared.length.Length.{Length};
-ghost use Rattle.hc_exch.specs.Known.{Changes, asked, turned_into, closed, headed, with_piece, given, forgotten, CountsTo};
+ghost use Rattle.hc_exch.specs.Known.{Changes, with_asking, turned_into, without_exchange, with_good_head, with_piece, without_first, forgotten, CountsTo};
 ghost use Rattle.hc_exch.specs.Rows.{running_in, held_in, rows_of, begins, keeps};
 ghost use Rattle.std.specs.Prelude.{◌≢◌, nat_eq};
 ghost use Rattle.std.specs.HashMap.{get};
@@ -53,7 +53,7 @@ pub(crate) fn begin_in(
 
 /// Its next piece was asked for.
 pub(crate) fn ask_in(rows: &mut HashMap<u64, Row>, x: u64)
-    ensures changes { Changes asked x (rows_of rows.old) (rows_of rows.new) }
+    ensures changes { Changes with_asking x (rows_of rows.old) (rows_of rows.new) }
     ensures others { (y : ℕ) → y ≢ x → get nat_eq rows.new y ≡ get nat_eq rows.old y }
 {
     if let Some(row) = rows.get_mut(&x) {
@@ -77,7 +77,7 @@ pub(crate) fn turn_in(rows: &mut HashMap<u64, Row>, x: u64, role: Role)
 
 /// Its head came, which promises so much.
 pub(crate) fn head_in(rows: &mut HashMap<u64, Row>, x: u64, length: Length)
-    ensures changes { Changes (headed length) x (rows_of rows.old) (rows_of rows.new) }
+    ensures changes { Changes (with_good_head length) x (rows_of rows.old) (rows_of rows.new) }
     ensures others { (y : ℕ) → y ≢ x → get nat_eq rows.new y ≡ get nat_eq rows.old y }
 {
     if let Some(row) = rows.get_mut(&x) {
@@ -107,7 +107,7 @@ pub(crate) fn piece_in(
 
 /// It isn't open any more.
 pub(crate) fn close_in(rows: &mut HashMap<u64, Row>, x: u64)
-    ensures changes { Changes closed x (rows_of rows.old) (rows_of rows.new) }
+    ensures changes { Changes without_exchange x (rows_of rows.old) (rows_of rows.new) }
     ensures others { (y : ℕ) → y ≢ x → get nat_eq rows.new y ≡ get nat_eq rows.old y }
 {
     if let Some(row) = rows.get_mut(&x) {
@@ -123,7 +123,8 @@ pub(crate) fn take_in(
     want: usize,
 ) -> Result<Bytes, NoMemory>
     ensures bytes { IfOk result (λ bytes. bytes ≡ take want (held_in rows.old x)) }
-    ensures ok { OnOk result (Changes (given want) x (rows_of rows.old) (rows_of rows.new)) }
+    ensures ok { OnOk result
+        (Changes (without_first want) x (rows_of rows.old) (rows_of rows.new)) }
     ensures err { OnErr result ((y : ℕ) → get nat_eq rows.new y ≡ get nat_eq rows.old y) }
     ensures others { (y : ℕ) → y ≢ x → get nat_eq rows.new y ≡ get nat_eq rows.old y }
 {

@@ -42,7 +42,7 @@ impl Wishes {
     /// Those that are wanted.
     pub(crate) fn wanted(&self) -> &[u64]
         ensures wanted { result.now ≡ self.now.wanted }
-        ensures rising { is_sorted itself result.now ≡ true }
+        ensures ascending { is_sorted itself result.now ≡ true }
     {
         self.wanted.as_slice()
     }

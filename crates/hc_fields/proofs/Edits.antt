@@ -7,7 +7,7 @@ use Rattle.std.proofs.lemmas.List.Elements.{All-cons, All-head, All-tail, All-fi
 use Rattle.std.proofs.lemmas.List.Filters.{sum_by-filter_both, length-filter_both}
 use Rattle.std.proofs.lemmas.List.Sums.{sum_by-cons}
 use Rattle.std.proofs.lemmas.Slice.Eq.{bytes_eq-Decides}
-use Rattle.hc_fields.specs.FieldList.{comes_before, put, has_name, values_of, without, size_of, is_sorted, start_of, end_of, IsField, IsFieldList}
+use Rattle.hc_fields.specs.FieldList.{comes_before, field_list_with, has_name, values_of, without, size_of, is_sorted, start_of, end_of, IsField, IsFieldList}
 use Rattle.hc_fields.proofs.Names.{one_way, cases_names}
 use Rattle.hc_fields.proofs.Sorted.{Pair, list_all-weaker, list_all-filter, list_all-put, to_not, sorted_rest, after_rest, filter-after, without-after, start_of-before, start_of-stop, end_of-more, end_of-stop, NoneBefore, start_of-none}
 
@@ -16,7 +16,7 @@ abbrev pub bytes_of : Pair → ℕ
 bytes_of f = length f.0 + length f.1
 
 -- a field is put at the end of those of its name
-pub put-insert : (name value : List ℕ) (fs : List Pair) → put name value fs ≡ insert fs (end_of name fs) (name, value)
+pub put-insert : (name value : List ℕ) (fs : List Pair) → field_list_with name value fs ≡ insert fs (end_of name fs) (name, value)
 put-insert name value [] = refl
 put-insert name value (f ∷ fs) =
     elim (cases_Bool (comes_before name f.0)) [
@@ -25,7 +25,7 @@ put-insert name value (f ∷ fs) =
           rw (after, one-add) (ap (λ (l : List Pair). f ∷ l) (put-insert name value fs))
     ]
 
-pub length-put : (name value : List ℕ) (fs : List Pair) → length (put name value fs) ≡ length fs + 1
+pub length-put : (name value : List ℕ) (fs : List Pair) → length (field_list_with name value fs) ≡ length fs + 1
 length-put name value [] = refl
 length-put name value (f ∷ fs) =
     elim (cases_Bool (comes_before name f.0)) [
@@ -33,25 +33,25 @@ length-put name value (f ∷ fs) =
       | inr after ↦ rw after (omega (arith, length-put name value fs))
     ]
 
-pub size_of-put : (name value : List ℕ) (fs : List Pair) → size_of (put name value fs) ≡ size_of fs + (length name + length value)
+pub size_of-put : (name value : List ℕ) (fs : List Pair) → size_of (field_list_with name value fs) ≡ size_of fs + (length name + length value)
 size_of-put name value [] = omega arith
 size_of-put name value (f ∷ fs) =
     elim (cases_Bool (comes_before name f.0)) [
       | inl before ↦ rw before (omega (arith, sum_by-cons bytes_of (name, value) (f ∷ fs)))
       | inr after ↦
-          rw after (omega (arith, size_of-put name value fs, sum_by-cons bytes_of f (put name value fs), sum_by-cons bytes_of f fs))
+          rw after (omega (arith, size_of-put name value fs, sum_by-cons bytes_of f (field_list_with name value fs), sum_by-cons bytes_of f fs))
     ]
 
-pub All-put : (P : Pair → Type 0) (name value : List ℕ) (fs : List Pair) → P (name, value) → All P fs → All P (put name value fs)
+pub All-put : (P : Pair → Type 0) (name value : List ℕ) (fs : List Pair) → P (name, value) → All P fs → All P (field_list_with name value fs)
 All-put P name value [] here all = All-cons P (name, value) [] here all
 All-put P name value (f ∷ fs) here all =
     elim (cases_Bool (comes_before name f.0)) [
       | inl before ↦ rw before (All-cons P (name, value) (f ∷ fs) here all)
       | inr after ↦
-          rw after (All-cons P f (put name value fs) (All-head P f fs all) (All-put P name value fs here (All-tail P f fs all)))
+          rw after (All-cons P f (field_list_with name value fs) (All-head P f fs all) (All-put P name value fs here (All-tail P f fs all)))
     ]
 
-pub sorted-put : (name value : List ℕ) (fs : List Pair) → is_sorted fs ≡ true → is_sorted (put name value fs) ≡ true
+pub sorted-put : (name value : List ℕ) (fs : List Pair) → is_sorted fs ≡ true → is_sorted (field_list_with name value fs) ≡ true
 sorted-put name value [] sorted = refl
 sorted-put name value (f ∷ fs) sorted =
     let both = sorted_rest f fs sorted in
@@ -84,7 +84,7 @@ pub length-parts : (name : List ℕ) (fs : List Pair) → length (filter (has_na
 length-parts name fs = length-filter_both (has_name name) (λ (f : Pair). not (has_name name f)) (λ _. refl) fs
 
 -- a list stays one where a field of its own is put, and where the fields of a name go
-pub IsFieldList-put : (name value : List ℕ) (fs : List Pair) → IsFieldList fs → IsField (name, value) → length fs < 80 → size_of fs + length name + length value ≤ 49152 → IsFieldList (put name value fs)
+pub IsFieldList-put : (name value : List ℕ) (fs : List Pair) → IsFieldList fs → IsField (name, value) → length fs < 80 → size_of fs + length name + length value ≤ 49152 → IsFieldList (field_list_with name value fs)
 IsFieldList-put name value fs list field few small =
     let length_is = length-put name value fs in
     let size_is = size_of-put name value fs in
@@ -109,7 +109,7 @@ IsFieldList-without name fs list =
     }
 
 -- one field takes the place of those of its name
-pub put-without : (name value : List ℕ) (fs : List Pair) → is_sorted fs ≡ true → put name value (without name fs) ≡ take (start_of name fs) fs ++ (name, value) ∷ drop (end_of name fs) fs
+pub put-without : (name value : List ℕ) (fs : List Pair) → is_sorted fs ≡ true → field_list_with name value (without name fs) ≡ take (start_of name fs) fs ++ (name, value) ∷ drop (end_of name fs) fs
 put-without name value [] sorted = refl
 put-without name value (f ∷ fs) sorted =
     let both = sorted_rest f fs sorted in
@@ -136,7 +136,7 @@ pub has_name-other : (name other value : List ℕ) → other ≢ name → has_na
 has_name-other name other value differ =
     false_from_ne_true _ (λ e. differ (sym ((bytes_eq-Decides name other).0 e)))
 
-pub values_of-put_same : (name value : List ℕ) (fs : List Pair) → is_sorted fs ≡ true → values_of name (put name value fs) ≡ values_of name fs ++ value ∷ []
+pub values_of-put_same : (name value : List ℕ) (fs : List Pair) → is_sorted fs ≡ true → values_of name (field_list_with name value fs) ≡ values_of name fs ++ value ∷ []
 values_of-put_same name value [] sorted = rw (has_name-own name value) refl
 values_of-put_same name value (f ∷ fs) sorted =
     let rest = values_of-put_same name value fs (sorted_rest f fs sorted).1 in
@@ -150,7 +150,7 @@ values_of-put_same name value (f ∷ fs) sorted =
           ]
     ]
 
-pub values_of-put_other : (name value other : List ℕ) (fs : List Pair) → other ≢ name → values_of other (put name value fs) ≡ values_of other fs
+pub values_of-put_other : (name value other : List ℕ) (fs : List Pair) → other ≢ name → values_of other (field_list_with name value fs) ≡ values_of other fs
 values_of-put_other name value other [] differ = rw (has_name-other name other value differ) refl
 values_of-put_other name value other (f ∷ fs) differ =
     let rest = values_of-put_other name value other fs differ in

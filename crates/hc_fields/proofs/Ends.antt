@@ -7,7 +7,7 @@ use Rattle.std.proofs.lemmas.List.{get_or_append_left, get_or_at}
 use Rattle.std.proofs.lemmas.List.Elements.{All-nil}
 use Rattle.std.proofs.lemmas.List.Sums.{sum_by-append}
 use Rattle.std.proofs.lemmas.Option.{get_or_from_slice_get, slice_get_within}
-use Rattle.hc_fields.specs.FieldList.{comes_before, put, is_sorted, IsField, IsFieldList}
+use Rattle.hc_fields.specs.FieldList.{comes_before, field_list_with, is_sorted, IsField, IsFieldList}
 use Rattle.hc_fields.proofs.Names.{chain}
 use Rattle.hc_fields.proofs.Sorted.{Pair, list_all_at, not_before, to_not, sorted_at, sorted_rest}
 
@@ -50,7 +50,7 @@ none_after-last name fs last sorted is =
     ]
 
 -- a field that comes after none is put last
-pub put-last : (name value : List ℕ) (fs : List Pair) → NoneAfter name fs → put name value fs ≡ fs ++ (name, value) ∷ []
+pub put-last : (name value : List ℕ) (fs : List Pair) → NoneAfter name fs → field_list_with name value fs ≡ fs ++ (name, value) ∷ []
 put-last name value [] h = refl
 put-last name value (f ∷ fs) h =
     let both = and_parts _ _ h in

@@ -8,7 +8,7 @@ use Rattle.std.proofs.lemmas.List.Concat.{flat_map-append}
 use Rattle.std.proofs.lemmas.List.Sums.{sum_by-cons}
 use Rattle.hc_fields.specs.declared.mark.Mark.{Mark}
 use Rattle.hc_fields.specs.FieldList.{size_of, has_name, joined_of}
-use Rattle.hc_fields.specs.Marks.{field_at, fields_at, separated, AreMarked, IsLineAt}
+use Rattle.hc_fields.specs.Marks.{field_at, fields_at, separated_text, AreMarked, IsLineAt}
 use Rattle.hc_fields.proofs.Sorted.{Pair}
 use Rattle.hc_fields.proofs.Edits.{size_of-parts, length-parts}
 
@@ -23,30 +23,30 @@ module _ (text : List ℕ) where
   values-fields_at [] = refl
   values-fields_at (f ∷ fs) = ap (λ (l : List (List ℕ)). (field_at text f).1 ∷ l) (values-fields_at fs)
 
-  pub separated-append : (xs ys : List Mark) → separated text (xs ++ ys) ≡ separated text xs ++ separated text ys
+  pub separated-append : (xs ys : List Mark) → separated_text text (xs ++ ys) ≡ separated_text text xs ++ separated_text text ys
   separated-append xs ys =
       ap (flat_map (λ (v : List ℕ). codes ", " ++ v)) (map-append (value text) xs ys)
       ∙ flat_map-append (λ (v : List ℕ). codes ", " ++ v) (map (value text) xs) (map (value text) ys)
 
   -- one more value, with what stands before it
-  pub separated-more : (fs : List Mark) (i : ℕ) (d : Mark) → i < length fs → length (separated text (take (i + 1) fs)) ≡ length (separated text (take i fs)) + (2 + length (field_at text (get_or fs i d)).1)
+  pub separated-more : (fs : List Mark) (i : ℕ) (d : Mark) → i < length fs → length (separated_text text (take (i + 1) fs)) ≡ length (separated_text text (take i fs)) + (2 + length (field_at text (get_or fs i d)).1)
   separated-more fs i d lt =
       rw (take_more fs i d lt, separated-append, length-append, length-append) (omega (arith, length-append (codes ", ") (field_at text (get_or fs i d)).1))
 
   -- what was joined so far, and one more, is within all
-  pub separated-within : (fs : List Mark) (i : ℕ) (d : Mark) → i < length fs → length (separated text (take i fs)) + (2 + length (field_at text (get_or fs i d)).1) ≤ length (separated text fs)
+  pub separated-within : (fs : List Mark) (i : ℕ) (d : Mark) → i < length fs → length (separated_text text (take i fs)) + (2 + length (field_at text (get_or fs i d)).1) ≤ length (separated_text text fs)
   separated-within fs i d lt =
       let more = separated-more fs i d lt in
-      let whole : length (separated text fs) ≡ length (separated text (take (i + 1) fs)) + length (separated text (drop (i + 1) fs)) =
-      ap (λ (l : List Mark). length (separated text l)) (sym (take-append-drop (i + 1) fs))
+      let whole : length (separated_text text fs) ≡ length (separated_text text (take (i + 1) fs)) + length (separated_text text (drop (i + 1) fs)) =
+      ap (λ (l : List Mark). length (separated_text text l)) (sym (take-append-drop (i + 1) fs))
       ∙ (ap length (separated-append (take (i + 1) fs) (drop (i + 1) fs))
-      ∙ length-append (separated text (take (i + 1) fs)) (separated text (drop (i + 1) fs))) in
+      ∙ length-append (separated_text text (take (i + 1) fs)) (separated_text text (drop (i + 1) fs))) in
       omega (arith, more, whole)
 
-  pub separated-le : (fs : List Mark) → length (separated text fs) ≤ 2 * length fs + size_of (fields_at text fs)
+  pub separated-le : (fs : List Mark) → length (separated_text text fs) ≤ 2 * length fs + size_of (fields_at text fs)
   separated-le [] = omega arith
   separated-le (f ∷ fs) =
-      omega (arith, separated-le fs, length-append (codes ", ") (field_at text f).1, length-append (codes ", " ++ (field_at text f).1) (separated text fs), sum_by-cons bytes (field_at text f) (fields_at text fs))
+      omega (arith, separated-le fs, length-append (codes ", ") (field_at text f).1, length-append (codes ", " ++ (field_at text f).1) (separated_text text fs), sum_by-cons bytes (field_at text f) (fields_at text fs))
 
   -- all but the first
   abbrev pub rest_of : List Mark → List Mark
@@ -69,7 +69,7 @@ module _ (text : List ℕ) where
       let sizes = sum_by-cons bytes (field_at text f) (fields_at text fs) in
       rw (rest_of-cons f fs) (record { short = omega arith; at_first = All-head (IsLineAt text) f fs lines; lines = All-tail (IsLineAt text) f fs lines; few = omega arith; small = omega arith })
 
-  pub joined_of-rest : (fs : List Mark) (d : Mark) (joined : List ℕ) → 1 ≤ length fs → joined ≡ (field_at text (get_or fs 0 d)).1 ++ separated text (rest_of fs) → Some joined ≡ joined_of (map (λ (g : Pair). g.1) (fields_at text fs))
+  pub joined_of-rest : (fs : List Mark) (d : Mark) (joined : List ℕ) → 1 ≤ length fs → joined ≡ (field_at text (get_or fs 0 d)).1 ++ separated_text text (rest_of fs) → Some joined ≡ joined_of (map (λ (g : Pair). g.1) (fields_at text fs))
   joined_of-rest [] d joined some joined_is = absurd (omega arith)
   joined_of-rest (f ∷ fs) d joined some joined_is = rw (joined_is, rest_of-cons f fs, values-fields_at fs) refl
 

@@ -10,7 +10,7 @@ use Rattle.std.proofs.lemmas.List.Sums.{sum_by_more}
 use Rattle.http_header.specs.Token.{lowercase}
 use Rattle.http_header.proofs.TokenLemmas.{IsHeaderName-lowercase}
 use Rattle.hc_fields.specs.declared.mark.Mark.{Mark}
-use Rattle.hc_fields.specs.FieldList.{put, size_of, has_name, without, is_sorted, start_of, end_of, IsField, IsAllowed, HasPlace}
+use Rattle.hc_fields.specs.FieldList.{field_list_with, size_of, has_name, without, is_sorted, start_of, end_of, IsField, IsAllowed, HasPlace}
 use Rattle.hc_fields.specs.declared.search.Place.{Place}
 use Rattle.hc_fields.specs.Place.{IsPlace}
 use Rattle.hc_fields.specs.Lines.{field_text, fields_text}
@@ -44,13 +44,13 @@ fields-put text marks name value i j new_text new_marks lines is =
     rw (is.text_is, is.marks_are) (fields_at-with text name value marks i j lines)
 
 -- a field that is put at the end of those of its name
-pub put_is : (text : List ℕ) (marks : List Mark) (name value : List ℕ) (at : ℕ) (new_text : List ℕ) (new_marks : List Mark) → All (IsLineAt text) marks → at ≡ end_of name (fields_at text marks) → IsPut text marks name value at at new_text new_marks → fields_at new_text new_marks ≡ put name value (fields_at text marks)
+pub put_is : (text : List ℕ) (marks : List Mark) (name value : List ℕ) (at : ℕ) (new_text : List ℕ) (new_marks : List Mark) → All (IsLineAt text) marks → at ≡ end_of name (fields_at text marks) → IsPut text marks name value at at new_text new_marks → fields_at new_text new_marks ≡ field_list_with name value (fields_at text marks)
 put_is text marks name value at new_text new_marks lines at_is is =
     fields-put text marks name value at at new_text new_marks lines is
     ∙ rw at_is (sym (put-insert name value (fields_at text marks)))
 
 -- a field in the place of those of its name
-pub set_is : (text : List ℕ) (marks : List Mark) (name value : List ℕ) (p : Place) (new_text : List ℕ) (new_marks : List Mark) → All (IsLineAt text) marks → is_sorted (fields_at text marks) ≡ true → IsPlace name (fields_at text marks) p → IsPut text marks name value p.start (p.start + p.count) new_text new_marks → fields_at new_text new_marks ≡ put name value (without name (fields_at text marks))
+pub set_is : (text : List ℕ) (marks : List Mark) (name value : List ℕ) (p : Place) (new_text : List ℕ) (new_marks : List Mark) → All (IsLineAt text) marks → is_sorted (fields_at text marks) ≡ true → IsPlace name (fields_at text marks) p → IsPut text marks name value p.start (p.start + p.count) new_text new_marks → fields_at new_text new_marks ≡ field_list_with name value (without name (fields_at text marks))
 set_is text marks name value p new_text new_marks lines sorted place is =
     fields-put text marks name value p.start (p.start + p.count) new_text new_marks lines is
     ∙ rw (place.end_is, place.start_is) (sym (put-without name value (fields_at text marks) sorted))

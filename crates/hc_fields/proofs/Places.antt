@@ -22,32 +22,32 @@ pub record Searched (test : Pair → Bool) (fs : List Pair) (low high : ℕ) : T
   pub passes : (k : ℕ) → high ≤ k → k < length fs → test (get_or fs k ([], [])) ≡ true
 
 -- where a field fails, so do all before it
-abbrev pub IsRising : (Pair → Bool) → List Pair → Type 0
-IsRising test fs =
+abbrev pub IsAscending : (Pair → Bool) → List Pair → Type 0
+IsAscending test fs =
     (i j : ℕ) → i ≤ j → j < length fs → test (get_or fs j ([], [])) ≡ false → test (get_or fs i ([], [])) ≡ false
 
 pub searched_none : (test : Pair → Bool) (fs : List Pair) (high : ℕ) → high ≡ length fs → Searched test fs 0 high
 searched_none test fs high is =
     record { order = omega arith; within = omega arith; fails = λ k lt. absurd (omega arith); passes = λ k le lt. absurd (omega arith) }
 
-pub searched_right : (test : Pair → Bool) (fs : List Pair) (low middle high : ℕ) → IsRising test fs → Searched test fs low high → middle < high → test (get_or fs middle ([], [])) ≡ false → Searched test fs (middle + 1) high
-searched_right test fs low middle high rising s lt here =
+pub searched_right : (test : Pair → Bool) (fs : List Pair) (low middle high : ℕ) → IsAscending test fs → Searched test fs low high → middle < high → test (get_or fs middle ([], [])) ≡ false → Searched test fs (middle + 1) high
+searched_right test fs low middle high ascending s lt here =
     let within = s.within in
     record {
       order = omega arith;
       within = within;
-      fails = λ k below. rising k middle (omega arith) (omega arith) here;
+      fails = λ k below. ascending k middle (omega arith) (omega arith) here;
       passes = s.passes;
     }
 
-pub searched_left : (test : Pair → Bool) (fs : List Pair) (low middle high : ℕ) → IsRising test fs → Searched test fs low high → low ≤ middle → middle < high → test (get_or fs middle ([], [])) ≡ true → Searched test fs low middle
-searched_left test fs low middle high rising s le lt here =
+pub searched_left : (test : Pair → Bool) (fs : List Pair) (low middle high : ℕ) → IsAscending test fs → Searched test fs low high → low ≤ middle → middle < high → test (get_or fs middle ([], [])) ≡ true → Searched test fs low middle
+searched_left test fs low middle high ascending s le lt here =
     let within = s.within in
     record {
       order = le;
       within = omega arith;
       fails = s.fails;
-      passes = λ k above k_lt. true_from_ne_false _ (λ e. both_ways _ (rising middle k above k_lt e) here);
+      passes = λ k above k_lt. true_from_ne_false _ (λ e. both_ways _ (ascending middle k above k_lt e) here);
     }
 
 pub searched : (test : Pair → Bool) (fs : List Pair) (low high : ℕ) → Searched test fs low high → high ≤ low → low ≡ position_or_len test fs
@@ -63,13 +63,13 @@ abbrev pub is_behind : List ℕ → Pair → Bool
 is_behind name f = comes_before name f.0
 
 -- no kept field comes before an earlier one
-pub rising_start : (name : List ℕ) (fs : List Pair) → is_sorted fs ≡ true → IsRising (not_before name) fs
-rising_start name fs sorted i j le lt h =
+pub ascending_start : (name : List ℕ) (fs : List Pair) → is_sorted fs ≡ true → IsAscending (not_before name) fs
+ascending_start name fs sorted i j le lt h =
     let before : comes_before (get_or fs j ([], [])).0 name ≡ true = not-false _ h in
     rw (upto_before (get_or fs i ([], [])).0 (get_or fs j ([], [])).0 name (sorted_at fs i j ([], []) sorted le lt) before) refl
 
-pub rising_end : (name : List ℕ) (fs : List Pair) → is_sorted fs ≡ true → IsRising (is_behind name) fs
-rising_end name fs sorted i j le lt h =
+pub ascending_end : (name : List ℕ) (fs : List Pair) → is_sorted fs ≡ true → IsAscending (is_behind name) fs
+ascending_end name fs sorted i j le lt h =
     chain name (get_or fs j ([], [])).0 (get_or fs i ([], [])).0 h (sorted_at fs i j ([], []) sorted le lt)
 
 -- before the fields of a name none comes after it

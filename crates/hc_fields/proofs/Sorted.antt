@@ -3,7 +3,7 @@ use Rattle.std.proofs.Common.{◌≡◌, ℕ, zero, suc, ◌+◌, ◌<◌, ◌�
 use Rattle.std.specs.Prelude.{filter, ◌&&◌}
 use Rattle.std.specs.List.{list_all}
 use Rattle.std.proofs.lemmas.Bool.{cases_Bool, and_parts, and_from, both_ways}
-use Rattle.hc_fields.specs.FieldList.{comes_before, put, has_name, without, is_sorted, start_of, end_of}
+use Rattle.hc_fields.specs.FieldList.{comes_before, field_list_with, has_name, without, is_sorted, start_of, end_of}
 use Rattle.hc_fields.proofs.Names.{irreflexive, before_upto, differs_from_before, bytes_eq-swap, cases_names}
 
 abbrev pub Pair : Type 0
@@ -25,14 +25,14 @@ list_all-filter p q (f ∷ fs) all =
       | inr fails ↦ rw fails rest
     ]
 
-pub list_all-put : (q : Pair → Bool) (name value : List ℕ) (fs : List Pair) → q (name, value) ≡ true → list_all q fs ≡ true → list_all q (put name value fs) ≡ true
+pub list_all-put : (q : Pair → Bool) (name value : List ℕ) (fs : List Pair) → q (name, value) ≡ true → list_all q fs ≡ true → list_all q (field_list_with name value fs) ≡ true
 list_all-put q name value [] here all = and_from (q (name, value)) true here refl
 list_all-put q name value (f ∷ fs) here all =
     let both = and_parts (q f) (list_all q fs) all in
     elim (cases_Bool (comes_before name f.0)) [
       | inl before ↦ rw before (and_from (q (name, value)) (q f && list_all q fs) here all)
       | inr after ↦
-          rw after (and_from (q f) (list_all q (put name value fs)) both.0 (list_all-put q name value fs here both.1))
+          rw after (and_from (q f) (list_all q (field_list_with name value fs)) both.0 (list_all-put q name value fs here both.1))
     ]
 
 pub list_all_at : (p : Pair → Bool) (fs : List Pair) (k : ℕ) (d : Pair) → k < length fs → list_all p fs ≡ true → p (get_or fs k d) ≡ true

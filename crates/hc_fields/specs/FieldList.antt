@@ -13,10 +13,10 @@ abbrev pub comes_before : List ℕ → List ℕ → Bool
 comes_before a b = is_lt (slice_cmp nat_cmp a b)
 
 -- the list with the field after those of its name
-abbrev pub put : List ℕ → List ℕ → List (List ℕ × List ℕ) → List (List ℕ × List ℕ)
-put name value [] = (name, value) ∷ []
-put name value (f ∷ fs) =
-    if comes_before name f.0 then (name, value) ∷ f ∷ fs else f ∷ put name value fs
+abbrev pub field_list_with : List ℕ → List ℕ → List (List ℕ × List ℕ) → List (List ℕ × List ℕ)
+field_list_with name value [] = (name, value) ∷ []
+field_list_with name value (f ∷ fs) =
+    if comes_before name f.0 then (name, value) ∷ f ∷ fs else f ∷ field_list_with name value fs
 
 -- the field has this name
 abbrev pub has_name : List ℕ → List ℕ × List ℕ → Bool
@@ -103,7 +103,7 @@ pub record IsFieldList (fs : List (List ℕ × List ℕ)) : Type 0 where
   pub small : size_of fs ≤ 49152
 
 -- as few and as small as the fields of a head from outside
-pub record IsModest (fs : List (List ℕ × List ℕ)) : Type 0 where
+pub record IsWithinLimits (fs : List (List ℕ × List ℕ)) : Type 0 where
   pub few : length fs ≤ 64
   pub small : size_of fs ≤ 32768
 

@@ -30,8 +30,8 @@ pub record AreMarked (text : List ℕ) (marks : List Mark) : Type 0 where
   pub list : IsFieldList (fields_at text marks)
 
 -- the values of the fields, each behind a comma and a space
-abbrev pub separated : List ℕ → List Mark → List ℕ
-separated text marks = separated_values (map (λ (m : Mark). (field_at text m).1) marks)
+abbrev pub separated_text : List ℕ → List Mark → List ℕ
+separated_text text marks = separated_values (map (λ (m : Mark). (field_at text m).1) marks)
 
 -- what holds of a text with the marks of its lines: their size is known, and whether the text has just
 -- these lines in this order

@@ -2,7 +2,7 @@
 ghost use Rattle.std.specs.Prelude.{◌≡◌, ◌≢◌, ℕ, List, ◌≤◌, ◌⊎◌, ◌∷◌, ◌++◌, [], length, true, OnOk, OnErr, IfOk, IfErr, IfSome, IfNone, MatchResult, MatchOption, ◌<◌, ◌↔◌, IsTrue, option_copied, slice_get, Some};
 ghost use Rattle.http_header.specs.Token.{lowercase, IsToken};
 ghost use Rattle.hc_fields.specs.FirstValues.{only_of};
-ghost use Rattle.hc_fields.specs.FieldList.{put, size_of, HasPlace, LacksPlace, Refuses, IsAllowed, IsFieldList, IsModest, values_of, joined_of, without, KeepsOthers, is_own_value, is_sorted, IsListOf};
+ghost use Rattle.hc_fields.specs.FieldList.{field_list_with, size_of, HasPlace, LacksPlace, Refuses, IsAllowed, IsFieldList, IsWithinLimits, values_of, joined_of, without, KeepsOthers, is_own_value, is_sorted, IsListOf};
 ghost use Rattle.hc_fields.specs.Lines.{fields_text, BeginsWith};
 ghost use Rattle.hc_fields.specs.Place.{IsPlace};
 
@@ -202,7 +202,8 @@ impl Fields {
 
     /// Adds the field after those of its name, which is lowered.
     pub fn append(&mut self, name: &[u8], value: &[u8]) -> Result<(), FieldError>
-        ensures ok { OnOk result (self.new ≡ put (lowercase name.now) value.now self.old) }
+        ensures ok { OnOk result
+            (self.new ≡ field_list_with (lowercase name.now) value.now self.old) }
         ensures refused { OnErr result (self.new ≡ self.old) }
         ensures answer { MatchResult result (λ _. IsAllowed self.old name.now value.now)
             (λ e. ((e ≡ FieldError.NoMemory) × IsAllowed self.old name.now value.now)
@@ -224,7 +225,8 @@ impl Fields {
     pub fn append_checked(&mut self, name: &[u8], value: &[u8]) -> Result<(), FieldError>
         requires is_name { IsToken name.now }
         requires is_value { is_own_value value.now ≡ true }
-        ensures ok { OnOk result (self.new ≡ put (lowercase name.now) value.now self.old) }
+        ensures ok { OnOk result
+            (self.new ≡ field_list_with (lowercase name.now) value.now self.old) }
         ensures refused { OnErr result (self.new ≡ self.old) }
         ensures answer { MatchResult result (λ _. IsAllowed self.old name.now value.now)
             (λ e. ((e ≡ FieldError.NoMemory) × IsAllowed self.old name.now value.now)
@@ -240,7 +242,8 @@ impl Fields {
     /// Adds a field that is allowed after those of its name.
     fn put_last(&mut self, name: &[u8], value: &[u8]) -> Result<(), FieldError>
         requires { IsAllowed self.old name.now value.now }
-        ensures ok { OnOk result (self.new ≡ put (lowercase name.now) value.now self.old) }
+        ensures ok { OnOk result
+            (self.new ≡ field_list_with (lowercase name.now) value.now self.old) }
         ensures refused { OnErr result (self.new ≡ self.old) }
         ensures memory { IfErr result (λ e. e ≡ FieldError.NoMemory) }
         ensures list { is_sorted self.old ≡ true }
@@ -267,7 +270,8 @@ impl Fields {
     /// One field takes the place of all of its name, which is lowered.
     pub fn set(&mut self, name: &[u8], value: &[u8]) -> Result<(), FieldError>
         ensures ok { OnOk result (self.new
-            ≡ put (lowercase name.now) value.now (without (lowercase name.now) self.old)) }
+            ≡ field_list_with (lowercase name.now) value.now
+            (without (lowercase name.now) self.old)) }
         ensures refused { OnErr result (self.new ≡ self.old) }
         ensures answer { MatchResult result
             (λ _. IsAllowed (without (lowercase name.now) self.old) name.now value.now)
@@ -352,8 +356,8 @@ impl Fields {
     }
 
     /// Whether there are at most 64 fields of at most 32,768 bytes in all, as of a head from outside.
-    pub fn modest(&self) -> bool
-        ensures value { IsTrue result ↔ IsModest self.now }
+    pub fn within_limits(&self) -> bool
+        ensures value { IsTrue result ↔ IsWithinLimits self.now }
         ensures list { IsFieldList self.now }
     {
         self.marks.len() <= 64 && self.size <= 32768

@@ -11,16 +11,16 @@ seconds_until None date = 0
 seconds_until (Some expires) date = expires - date
 
 -- a tenth of the time since the last change, a week at most (RFC 9111 section 4.2.2)
-abbrev pub guessed : Option ℕ → ℕ → ℕ
-guessed None date = 0
-guessed (Some modified) date = if nat_le modified date then min ((date - modified) / 10) 604800 else 0
+abbrev pub heuristic_lifetime : Option ℕ → ℕ → ℕ
+heuristic_lifetime None date = 0
+heuristic_lifetime (Some modified) date = if nat_le modified date then min ((date - modified) / 10) 604800 else 0
 
 -- max-age, where it stands; else by Expires, where that stands; else guessed
 abbrev pub lifetime_by : Option ℕ → Head → ℕ
 lifetime_by (Some seconds) head = seconds
 lifetime_by None head =
     if has_field (codes "expires") head.fields then seconds_until (date_in (codes "expires") head.fields) (date_of head)
-    else guessed (date_in (codes "last-modified") head.fields) (date_of head)
+    else heuristic_lifetime (date_in (codes "last-modified") head.fields) (date_of head)
 
 unfoldable pub lifetime : Head → ℕ
 lifetime head = lifetime_by (of_response head.fields).max_age head

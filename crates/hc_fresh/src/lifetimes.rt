@@ -3,7 +3,7 @@ ghost use Rattle.std.specs.Prelude.{◌≡◌, ◌<◌, ◌≤◌, ◌^◌, min,
 ghost use Rattle.std.specs.Option.{ForSome};
 ghost use Rattle.hc_record.specs.Plain.{plain};
 ghost use Rattle.hc_fresh.specs.Dates.{date_in, date_of};
-ghost use Rattle.hc_fresh.specs.Lifetimes.{guessed, lifetime, lifetime_by, seconds_until};
+ghost use Rattle.hc_fresh.specs.Lifetimes.{heuristic_lifetime, lifetime, lifetime_by, seconds_until};
 
 use crate::dates::{date_in, date_of};
 use hc_cachectl::read_response;
@@ -56,7 +56,7 @@ fn seconds_until(expires: Option<u64>, date: u64) -> u64
 
 /// A tenth of the time from the last change to the date, 0 where that isn't before it.
 fn guessed(modified: Option<u64>, date: u64) -> u64
-    ensures value { result ≡ guessed modified date }
+    ensures value { result ≡ heuristic_lifetime modified date }
     ensures small { result < 2 ^ 62 }
 {
     match modified {

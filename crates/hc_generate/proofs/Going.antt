@@ -2,7 +2,7 @@
 use Rattle.std.proofs.Common.{◌≡◌, ℕ, zero, suc, ◌+◌, ◌≤◌, List, length, Bool, true, false, Option, Some, None, refl, ap, sym, ◌∙◌, subst, arith}
 use Rattle.std.specs.Prelude.{nat_lt, Result, Ok, Err, IfOk, is_err}
 use Rattle.hc_event.specs.declared.event.Event.{Event}
-use Rattle.hc_event.specs.Modest.{IsModestEvent}
+use Rattle.hc_event.specs.WithinLimits.{IsEventWithinLimits}
 use Rattle.hc_sorted.specs.Sorted.{found}
 use Rattle.hc_generate.specs.declared.action.Action.{Action}
 use Rattle.hc_generate.specs.declared.action.Action.TheVariants as action
@@ -11,16 +11,16 @@ use Rattle.hc_generate.specs.declared.exchange.Brought.{Brought}
 use Rattle.hc_generate.specs.declared.exchange.Owed.{Owed}
 use Rattle.hc_generate.specs.declared.exchange.Owed.TheVariants as owes
 use Rattle.hc_generate.specs.Actions.{action_of}
-use Rattle.hc_generate.specs.Draws.{drawn, picked}
-use Rattle.hc_generate.specs.Rounds.{IsShort, IsShortIfMade, IsModestIfMade, Move, Nothing, Makes, Answers, onward, started, polled_by, answered_by, answered_to, cancelled_by, faulted_by, by_action, round, IsMade, IsRound}
+use Rattle.hc_generate.specs.Draws.{drawn, choice_of}
+use Rattle.hc_generate.specs.Rounds.{IsShort, IsShortIfMade, IsWithinLimitsIfMade, Move, Nothing, Makes, Answers, onward, start_move, polled_by, answered_by, answered_to, cancelled_by, faulted_by, by_action, round, IsMade, IsRound}
 use Rattle.hc_generate.specs.Sending.{Brings, number_of, origin_bytes, next_length}
 use Rattle.hc_generate.specs.States.{State}
-use Rattle.hc_generate.proofs.Modesty.{modest_answer, modest_request}
+use Rattle.hc_generate.proofs.LimitsKept.{within_limits_answer, within_limits_request}
 
 -- time doesn't go back, and what is made is small
 abbrev Fine : State → Move → Type 0
 Fine s (Nothing u) = s.moment ≤ u.moment
-Fine s (Makes e u) = (s.moment ≤ u.moment) × IsShort e × IsModestEvent e
+Fine s (Makes e u) = (s.moment ≤ u.moment) × IsShort e × IsEventWithinLimits e
 Fine s (Answers x owed u) = s.moment ≤ u.moment
 
 length-origin : (at n : ℕ) → length (origin_bytes at n) ≡ n
@@ -34,17 +34,17 @@ brought_short x (owes.Bytes at hi) b brings =
     let short : length (origin_bytes at (next_length at hi)) ≤ 512 = omega arith in
     subst (λ (z : Brought). IsShort z.event) (sym brings) short
 
-brought_modest : (x : ℕ) (owed : Owed) (b : Brought) → Brings x owed b → IsModestEvent b.event
-brought_modest x (owes.Answer request) b brings = subst (λ (z : Brought). IsModestEvent z.event) (sym brings.2) (modest_answer request brings.0 brings.1)
-brought_modest x (owes.Bytes at hi) b brings =
+brought_within_limits : (x : ℕ) (owed : Owed) (b : Brought) → Brings x owed b → IsEventWithinLimits b.event
+brought_within_limits x (owes.Answer request) b brings = subst (λ (z : Brought). IsEventWithinLimits z.event) (sym brings.2) (within_limits_answer request brings.0 brings.1)
+brought_within_limits x (owes.Bytes at hi) b brings =
     let all = length-origin at (next_length at hi) in
     let short : length (origin_bytes at (next_length at hi)) ≤ 65536 = omega arith in
-    subst (λ (z : Brought). IsModestEvent z.event) (sym brings) short
+    subst (λ (z : Brought). IsEventWithinLimits z.event) (sym brings) short
 
 pub record GoesOn (s u : State) (made : Option Event) : Type 0 where
   pub later : s.moment ≤ u.moment
   pub short : (e : Event) → made ≡ Some e → IsShort e
-  pub modest : (e : Event) → made ≡ Some e → IsModestEvent e
+  pub within_limits : (e : Event) → made ≡ Some e → IsEventWithinLimits e
 
 some_event : (e f : Event) → Some e ≡ Some f → e ≡ f
 some_event e f is = cc
@@ -56,21 +56,21 @@ made_fine : (s u : State) (m : Move) (made : Option Event) → Fine s m → IsMa
 made_fine s u (Nothing v) made fine is = record {
   later = subst (λ (z : State). s.moment ≤ z.moment) (sym is.1) fine;
   short = λ e some. absurd (none_event e (sym is.0 ∙ some));
-  modest = λ e some. absurd (none_event e (sym is.0 ∙ some));
+  within_limits = λ e some. absurd (none_event e (sym is.0 ∙ some));
 }
 made_fine s u (Makes f v) made fine is = record {
   later = subst (λ (z : State). s.moment ≤ z.moment) (sym is.1) fine.0;
   short = λ e some. subst (λ (z : Event). IsShort z) (some_event f e (sym is.0 ∙ some)) fine.1;
-  modest = λ e some. subst (λ (z : Event). IsModestEvent z) (some_event f e (sym is.0 ∙ some)) fine.2;
+  within_limits = λ e some. subst (λ (z : Event). IsEventWithinLimits z) (some_event f e (sym is.0 ∙ some)) fine.2;
 }
 made_fine s u (Answers x owed v) made fine is = record {
   later = let same : u.moment ≡ v.moment = ap (λ (z : State). z.moment) is.3 in omega arith;
   short = λ e some. subst (λ (z : Event). IsShort z) (some_event is.0.event e (sym is.2 ∙ some)) (brought_short x owed is.0 is.1);
-  modest = λ e some. subst (λ (z : Event). IsModestEvent z) (some_event is.0.event e (sym is.2 ∙ some)) (brought_modest x owed is.0 is.1);
+  within_limits = λ e some. subst (λ (z : Event). IsEventWithinLimits z) (some_event is.0.event e (sym is.2 ∙ some)) (brought_within_limits x owed is.0 is.1);
 }
 
-started_fine : (s : State) (b : Bool) → nat_lt (length s.live) 64 ≡ b → Fine s (started s)
-started_fine s true on = rw on (omega arith, tt, modest_request s.draws)
+started_fine : (s : State) (b : Bool) → nat_lt (length s.live) 64 ≡ b → Fine s (start_move s)
+started_fine s true on = rw on (omega arith, tt, within_limits_request s.draws)
 started_fine s false on = rw on (omega arith)
 
 polled_fine : (s : State) (o : Option ℕ) → Fine s (polled_by o s)
@@ -95,27 +95,27 @@ faulted_fine s (Some x) = (omega arith, tt, tt)
 
 action_fine : (wanted : List ℕ) (s : State) (a : Action) → Fine s (by_action a wanted s)
 action_fine wanted s action.Start = started_fine s (nat_lt (length s.live) 64) refl
-action_fine wanted s action.Poll = polled_fine s (picked s.live s.draws)
-action_fine wanted s action.Bring = answered_fine s (picked wanted s.draws)
-action_fine wanted s action.Cancel = cancelled_fine s (picked s.live s.draws)
+action_fine wanted s action.Poll = polled_fine s (choice_of s.live s.draws)
+action_fine wanted s action.Bring = answered_fine s (choice_of wanted s.draws)
+action_fine wanted s action.Cancel = cancelled_fine s (choice_of s.live s.draws)
 action_fine wanted s action.Wait = omega arith
-action_fine wanted s action.Fault = faulted_fine s (picked wanted s.draws)
+action_fine wanted s action.Fault = faulted_fine s (choice_of wanted s.draws)
 action_fine wanted s action.Doom = (omega arith, tt, tt)
 
 pub goes_on : (wanted : List ℕ) (s u : State) (made : Option Event) → IsRound wanted s made u → GoesOn s u made
 goes_on wanted s u made is =
     let after = made_fine (onward s) u (round wanted s) made (action_fine wanted (onward s) (action_of (drawn 100 s.draws))) is in
-    record { later = after.later; short = after.short; modest = after.modest }
+    record { later = after.later; short = after.short; within_limits = after.within_limits }
 
 pub short_made : {E : Type 0} (wanted : List ℕ) (s u : State) (r : Result (Option Event) E) → IfOk r (λ made. IsRound wanted s made u) → IfOk r IsShortIfMade
 short_made wanted s u (Err e) is = tt
 short_made wanted s u (Ok None) is = tt
 short_made wanted s u (Ok (Some e)) is = (goes_on wanted s u (Some e) is).short e refl
 
-pub modest_made : {E : Type 0} (wanted : List ℕ) (s u : State) (r : Result (Option Event) E) → IfOk r (λ made. IsRound wanted s made u) → IfOk r IsModestIfMade
-modest_made wanted s u (Err e) is = tt
-modest_made wanted s u (Ok None) is = tt
-modest_made wanted s u (Ok (Some e)) is = (goes_on wanted s u (Some e) is).modest e refl
+pub within_limits_made : {E : Type 0} (wanted : List ℕ) (s u : State) (r : Result (Option Event) E) → IfOk r (λ made. IsRound wanted s made u) → IfOk r IsWithinLimitsIfMade
+within_limits_made wanted s u (Err e) is = tt
+within_limits_made wanted s u (Ok None) is = tt
+within_limits_made wanted s u (Ok (Some e)) is = (goes_on wanted s u (Some e) is).within_limits e refl
 
 pub later_made : {E : Type 0} (wanted : List ℕ) (s u : State) (r : Result (Option Event) E) → is_err r ≡ false → IfOk r (λ made. IsRound wanted s made u) → s.moment ≤ u.moment
 later_made wanted s u (Err e) ok is = absurd (let never : true ≡ false = ok in cc)

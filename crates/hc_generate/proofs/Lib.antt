@@ -4,4 +4,4 @@ pub mod CountLemmas
 pub mod OrderLemmas
 pub mod RangeTexts
 pub mod Going
-pub mod Modesty
+pub mod LimitsKept

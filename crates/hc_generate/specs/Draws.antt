@@ -10,8 +10,8 @@ unfoldable pub drawn : ℕ → ℕ → ℕ
 drawn n s = stepped s / 2 ^ 33 % n
 
 -- the one of these that is drawn, if there is any
-abbrev pub picked : List ℕ → ℕ → Option ℕ
-picked numbers s = slice_get numbers (drawn (length numbers) s)
+abbrev pub choice_of : List ℕ → ℕ → Option ℕ
+choice_of numbers s = slice_get numbers (drawn (length numbers) s)
 
 -- the state after that: where there is none, nothing is drawn
 abbrev pub past_pick : Option ℕ → ℕ → ℕ

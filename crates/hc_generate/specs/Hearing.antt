@@ -8,7 +8,7 @@ use Rattle.hc_generate.specs.declared.exchange.Exchange.{Exchange}
 use Rattle.hc_generate.specs.declared.exchange.Owed.TheVariants.{Answer}
 use Rattle.hc_generate.specs.Sending.{number_of}
 use Rattle.hc_generate.specs.States.{State}
-use Rattle.hc_generate.specs.Summary.{counted}
+use Rattle.hc_generate.specs.Summary.{counts_with_event}
 
 -- ONE ACT
 
@@ -24,8 +24,8 @@ leaves c _ = false
 -- ALL OF THEM
 
 -- an exchange that was opened is owed the answer to its request
-abbrev pub begun : Opening → Exchange
-begun o = record { x = o.x; owed = Answer o.request }
+abbrev pub owing_exchange : Opening → Exchange
+owing_exchange o = record { x = o.x; owed = Answer o.request }
 
 abbrev pub with_begun : Option Exchange → List Exchange → List Exchange
 with_begun None exchanges = exchanges
@@ -33,7 +33,7 @@ with_begun (Some e) exchanges = with_item number_of e (without number_of e.x exc
 
 -- an opened one
 abbrev pub begun_in : List Act → Option Exchange
-begun_in acts = option_map begun (opening_in acts)
+begun_in acts = option_map owing_exchange (opening_in acts)
 
 -- those that are not closed
 abbrev pub still_open : List Act → List Exchange → List Exchange
@@ -44,9 +44,9 @@ abbrev pub still_live : List Act → List ℕ → List ℕ
 still_live acts live = filter (λ c. not (leaves_in c acts)) live
 
 -- the state once these acts were heard
-abbrev pub heard : List Act → State → State
-heard acts s = record s {
+abbrev pub state_after : List Act → State → State
+state_after acts s = record s {
   live = still_live acts s.live;
   exchanges = still_open acts (with_begun (begun_in acts) s.exchanges);
-  counts = counted acts s.counts;
+  counts = counts_with_event acts s.counts;
 }

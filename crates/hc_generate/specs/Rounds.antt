@@ -2,7 +2,7 @@
 use Rattle.std.specs.Prelude.{◌≡◌, ℕ, ◌+◌, ◌≤◌, nat_lt, List, length, Option, Some, None, if◌then◌else◌}
 use Rattle.hc_event.specs.declared.event.Event.{Event}
 use Rattle.hc_event.specs.declared.event.Event.TheVariants as event
-use Rattle.hc_event.specs.Modest.{IsModestEvent}
+use Rattle.hc_event.specs.WithinLimits.{IsEventWithinLimits}
 use Rattle.hc_sorted.specs.Sorted.{with_item, without, found}
 use Rattle.hc_generate.specs.declared.action.Action.{Action}
 use Rattle.hc_generate.specs.declared.action.Action.TheVariants as action
@@ -10,7 +10,7 @@ use Rattle.hc_generate.specs.declared.exchange.Brought.{Brought}
 use Rattle.hc_generate.specs.declared.exchange.Exchange.{Exchange}
 use Rattle.hc_generate.specs.declared.exchange.Owed.{Owed}
 use Rattle.hc_generate.specs.Actions.{action_of}
-use Rattle.hc_generate.specs.Draws.{stepped, drawn, picked}
+use Rattle.hc_generate.specs.Draws.{stepped, drawn, choice_of}
 use Rattle.hc_generate.specs.Requests.{drawn_request, past_request, key_of}
 use Rattle.hc_generate.specs.Sending.{Brings, number_of, owed_then}
 use Rattle.hc_generate.specs.States.{State, itself}
@@ -29,8 +29,8 @@ onward s = record s { draws = stepped s.draws }
 -- THE ACTIONS
 
 -- a consumer starts, where fewer than 64 are live
-abbrev pub started : State → Move
-started s =
+abbrev pub start_move : State → Move
+start_move s =
     if nat_lt (length s.live) 64
     then Makes (event.Start (s.last + 1) (drawn_request s.draws))
     (record s { draws = past_request s.draws; last = s.last + 1; live = with_item itself (s.last + 1) s.live })
@@ -41,8 +41,8 @@ polled_by None s = Nothing s
 polled_by (Some c) s = Makes (event.Poll c 4096) (onward s)
 
 -- one that is live asks for 4,096 bytes
-abbrev pub polled : State → Move
-polled s = polled_by (picked s.live s.draws) s
+abbrev pub poll_of_round : State → Move
+poll_of_round s = polled_by (choice_of s.live s.draws) s
 
 abbrev pub answered_to : ℕ → Option Exchange → State → Move
 answered_to x None s = Nothing s
@@ -53,43 +53,43 @@ answered_by None s = Nothing s
 answered_by (Some x) s = answered_to x (found number_of x s.exchanges) (onward s)
 
 -- one that is wanted gets its head, or its next bytes. Nothing is owed to one that isn't known
-abbrev pub answered : List ℕ → State → Move
-answered wanted s = answered_by (picked wanted s.draws) s
+abbrev pub answer_move : List ℕ → State → Move
+answer_move wanted s = answered_by (choice_of wanted s.draws) s
 
 abbrev pub cancelled_by : Option ℕ → State → Move
 cancelled_by None s = Nothing s
 cancelled_by (Some c) s = Makes (event.Cancel c) (record (onward s) { live = without itself c s.live })
 
 -- one that is live leaves
-abbrev pub cancelled : State → Move
-cancelled s = cancelled_by (picked s.live s.draws) s
+abbrev pub cancel_move : State → Move
+cancel_move s = cancelled_by (choice_of s.live s.draws) s
 
 -- from one to thirty seconds pass
-abbrev pub waited : State → Move
-waited s = Nothing (record (onward s) { moment = s.moment + (drawn 30 s.draws + 1) })
+abbrev pub wait_move : State → Move
+wait_move s = Nothing (record (onward s) { moment = s.moment + (drawn 30 s.draws + 1) })
 
 abbrev pub faulted_by : Option ℕ → State → Move
 faulted_by None s = Nothing s
 faulted_by (Some x) s = Makes (event.Fault x) (record (onward s) { exchanges = without number_of x s.exchanges })
 
 -- one that is wanted breaks
-abbrev pub faulted : List ℕ → State → Move
-faulted wanted s = faulted_by (picked wanted s.draws) s
+abbrev pub fault_move : List ℕ → State → Move
+fault_move wanted s = faulted_by (choice_of wanted s.draws) s
 
 -- what is stored for a key is not to be used any more
-abbrev pub doomed : State → Move
-doomed s = Makes (event.Doom (key_of (drawn 8 s.draws))) (onward s)
+abbrev pub doom_move : State → Move
+doom_move s = Makes (event.Doom (key_of (drawn 8 s.draws))) (onward s)
 
 -- THE ROUND
 
 abbrev pub by_action : Action → List ℕ → State → Move
-by_action action.Start wanted s = started s
-by_action action.Poll wanted s = polled s
-by_action action.Bring wanted s = answered wanted s
-by_action action.Cancel wanted s = cancelled s
-by_action action.Wait wanted s = waited s
-by_action action.Fault wanted s = faulted wanted s
-by_action action.Doom wanted s = doomed s
+by_action action.Start wanted s = start_move s
+by_action action.Poll wanted s = poll_of_round s
+by_action action.Bring wanted s = answer_move wanted s
+by_action action.Cancel wanted s = cancel_move s
+by_action action.Wait wanted s = wait_move s
+by_action action.Fault wanted s = fault_move wanted s
+by_action action.Doom wanted s = doom_move s
 
 -- a round, where the cache wants these exchanges
 abbrev pub round : List ℕ → State → Move
@@ -118,9 +118,9 @@ IsShortIfMade None = Unit {0}
 IsShortIfMade (Some made) = IsShort made
 
 -- what is made, if anything, is no larger than what a schedule can spell
-abbrev pub IsModestIfMade : Option Event → Type 0
-IsModestIfMade None = Unit {0}
-IsModestIfMade (Some made) = IsModestEvent made
+abbrev pub IsWithinLimitsIfMade : Option Event → Type 0
+IsWithinLimitsIfMade None = Unit {0}
+IsWithinLimitsIfMade (Some made) = IsEventWithinLimits made
 
 -- the draws alone went on
 abbrev pub IsBesidesDraws : State → State → Type 0

@@ -47,8 +47,8 @@ summary answered = record {
 }
 
 -- some acts more, of the same event
-abbrev pub noted : List Act → Counts → Counts
-noted acts n = record n {
+abbrev pub counts_with_acts : List Act → Counts → Counts
+counts_with_acts acts n = record n {
   opens = up_to_end (n.opens + count_by is_opened acts);
   bytes = up_to_end (n.bytes + sum_by given_size acts);
   ended = up_to_end (n.ended + count_by is_ended acts);
@@ -57,13 +57,13 @@ noted acts n = record n {
 }
 
 -- one event more, with these acts
-abbrev pub counted : List Act → Counts → Counts
-counted acts n = noted acts (record n { events = up_to_end (n.events + 1) })
+abbrev pub counts_with_event : List Act → Counts → Counts
+counts_with_event acts n = counts_with_acts acts (record n { events = up_to_end (n.events + 1) })
 
 -- that is the summary of all of them
 abbrev pub OneMoreIsCounted : Type 0
 OneMoreIsCounted =
-    (answered : List (List Act)) (acts : List Act) → summary (answered ++ acts ∷ []) ≡ counted acts (summary answered)
+    (answered : List (List Act)) (acts : List Act) → summary (answered ++ acts ∷ []) ≡ counts_with_event acts (summary answered)
 
 -- ITS TEXT
 

@@ -1,7 +1,7 @@
 //! What is counted over all that is answered.
 ghost use Rattle.std.specs.Prelude.{◌≡◌, ◌++◌, [], count_by, IfOk, OnOk};
 ghost use Rattle.std.specs.List.{sum_by};
-ghost use Rattle.hc_generate.specs.Summary.{counted, given_size, is_ended, is_failed, is_lost, is_opened, line, summary, summary_text, up_to_end};
+ghost use Rattle.hc_generate.specs.Summary.{counts_with_event, given_size, is_ended, is_failed, is_lost, is_opened, line, summary, summary_text, up_to_end};
 
 use hc_event::Act;
 use hc_text::{NoMemory, write_number};
@@ -36,7 +36,7 @@ impl Counts {
 
     /// One event more was answered, with these acts.
     pub(crate) fn add(&mut self, acts: &[Act])
-        ensures { self.new ≡ counted acts.now self.old }
+        ensures { self.new ≡ counts_with_event acts.now self.old }
     {
         self.events = self.events.saturating_add(1);
         self.opens = self.opens.saturating_add(opens(acts));

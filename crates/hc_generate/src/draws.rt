@@ -1,6 +1,6 @@
 //! Draws: numbers that follow one another by a linear step, from a seed.
 ghost use Rattle.std.specs.Prelude.{◌≡◌, ◌<◌};
-ghost use Rattle.hc_generate.specs.Draws.{drawn, past_pick, picked, stepped};
+ghost use Rattle.hc_generate.specs.Draws.{drawn, past_pick, choice_of, stepped};
 
 /// The state of the draws.
 #[derive(Clone, Copy)]
@@ -33,7 +33,7 @@ impl Draws {
 
     /// One of these. None, and no draw, exactly where there is none.
     pub(crate) fn pick(&mut self, numbers: &[u64]) -> Option<u64>
-        ensures number { result ≡ picked numbers.now self.old.state }
+        ensures number { result ≡ choice_of numbers.now self.old.state }
         ensures state { self.new.state ≡ past_pick result self.old.state }
     {
         if numbers.is_empty() {

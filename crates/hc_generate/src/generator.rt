@@ -46,8 +46,8 @@ impl Model for Generator {
 
 impl Generator {
     ghost use Rattle.hc_generate.specs.States.{State, beginning};
-    ghost use Rattle.hc_generate.specs.Hearing.{heard};
-    ghost use Rattle.hc_generate.specs.Rounds.{IsRound, IsShortIfMade, IsModestIfMade};
+    ghost use Rattle.hc_generate.specs.Hearing.{state_after};
+    ghost use Rattle.hc_generate.specs.Rounds.{IsRound, IsShortIfMade, IsWithinLimitsIfMade};
     ghost use Rattle.hc_generate.specs.Summary.{summary_text};
 
     /// Nothing was made yet.
@@ -80,7 +80,7 @@ impl Generator {
         ensures ok { IfOk result (λ made. IsRound wanted.now self.old made self.new) }
         ensures err { OnErr result (self.new ≡ self.old) }
         ensures short { IfOk result IsShortIfMade }
-        ensures modest { IfOk result IsModestIfMade }
+        ensures within_limits { IfOk result IsWithinLimitsIfMade }
         ensures later { self.old.moment ≤ self.new.moment }
         ensures moment_grows { self.new.moment ≤ self.old.moment + 30 }
         ensures last_grows { self.new.last ≤ self.old.last + 1 }
@@ -97,7 +97,7 @@ impl Generator {
     /// What the cache answered to the event that was made last. Where memory is refused nothing
     /// changes.
     pub fn hear(&mut self, acts: &[Act]) -> Result<(), NoMemory>
-        ensures ok { OnOk result (self.new ≡ heard acts.now self.old) }
+        ensures ok { OnOk result (self.new ≡ state_after acts.now self.old) }
         ensures err { OnErr result (self.new ≡ self.old) }
     {
         let begun = begun_in(acts)?;

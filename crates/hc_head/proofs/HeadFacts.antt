@@ -17,7 +17,7 @@ use Rattle.hc_text.specs.Elements.{is_blank}
 use Rattle.hc_head.specs.Held.{IsGood, fields_in}
 use Rattle.httparse.proofs.TrimLemmas.{AllPass-trim_ows}
 use Rattle.hc_fields.specs.FieldList.{is_own_value, has_own_ends, size_of}
-use Rattle.hc_head.specs.Rules.{lowered, fields_of}
+use Rattle.hc_head.specs.Rules.{lowercase_field, fields_of}
 
 token_byte : (b : ℕ) → grammar.is_token_byte b ≡ header.is_token_byte b
 unfolding grammar.is_token_byte header.is_token_byte
@@ -64,7 +64,7 @@ size_fields (f ∷ fs) =
     let value = trim_len f.raw in
     let rest = size_fields fs in
     let lower = lower_len f.name in
-    rw (sum_by-cons (λ (g : List ℕ × List ℕ). length g.0 + length g.1) (lowered (name_and_value f)) (fields_of fs))
+    rw (sum_by-cons (λ (g : List ℕ × List ℕ). length g.0 + length g.1) (lowercase_field (name_and_value f)) (fields_of fs))
     (simp length-append (omega (arith, value, rest, lower)))
 
 cond_either : (b : Bool) → (b || true) ≡ true
@@ -157,11 +157,11 @@ small_request h = simp length-append (omega (arith, size_fields h.fields))
 pub small_headers : (headers : List Header) (h : ResponseHead) (text rest : List ℕ) → map header_parts headers ≡ map name_and_value h.fields → ReadsResponse text h rest → length text ≤ 32768
     → size_of (fields_in headers) ≤ 32768
 small_headers headers h text rest same reads short =
-    let equal : size_of (fields_in headers) ≡ size_of (fields_of h.fields) = ap (λ (l : List (List ℕ × List ℕ)). size_of (map lowered l)) same in
+    let equal : size_of (fields_in headers) ≡ size_of (fields_of h.fields) = ap (λ (l : List (List ℕ × List ℕ)). size_of (map lowercase_field l)) same in
     omega (arith, equal, small_response h, ap length reads.1, length-append (print_response h) rest)
 
 pub small_asked : (headers : List Header) (h : RequestHead) (text rest : List ℕ) → map header_parts headers ≡ map name_and_value h.fields → ReadsRequest text h rest → length text ≤ 32768
     → size_of (fields_in headers) ≤ 32768
 small_asked headers h text rest same reads short =
-    let equal : size_of (fields_in headers) ≡ size_of (fields_of h.fields) = ap (λ (l : List (List ℕ × List ℕ)). size_of (map lowered l)) same in
+    let equal : size_of (fields_in headers) ≡ size_of (fields_of h.fields) = ap (λ (l : List (List ℕ × List ℕ)). size_of (map lowercase_field l)) same in
     omega (arith, equal, small_request h, ap length reads.1, length-append (print_request h) rest)

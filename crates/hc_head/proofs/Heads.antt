@@ -7,7 +7,7 @@ use Rattle.std.proofs.lemmas.List.{drop_more}
 use Rattle.std.proofs.lemmas.List.Sums.{sum_by-cons}
 use Rattle.hc_fields.specs.FieldList.{size_of}
 use Rattle.hc_head.specs.declared.fields.Leaving.{Leaving}
-use Rattle.hc_head.specs.Rules.{is_modest, is_kept, put_all}
+use Rattle.hc_head.specs.Rules.{is_within_limits, is_kept, put_all}
 use Rattle.httparse.specs.declared.borrowed.Header.{Header}
 use Rattle.hc_head.specs.Held.{field_in, fields_in, with_field}
 
@@ -32,10 +32,10 @@ any_here test headers i d is total lt told hit all =
     rw here at (any_cons test headers i d total lt all)
 
 -- no value is long where the fields are within limits
-pub modest_at : (headers : List Header) (i : ℕ) (d : Header) → i < length headers → is_modest (fields_in headers) ≡ true → length (get_or headers i d).value.now ≤ 8192
-modest_at [] i d lt h = absurd (omega arith)
-modest_at (x ∷ headers) zero d lt h = leb-true (length x.value.now) 8192 (and_parts (nat_le (length x.value.now) 8192) (is_modest (fields_in headers)) h).0
-modest_at (x ∷ headers) (suc i) d lt h = modest_at headers i d (omega arith) (and_parts (nat_le (length x.value.now) 8192) (is_modest (fields_in headers)) h).1
+pub within_limits_at : (headers : List Header) (i : ℕ) (d : Header) → i < length headers → is_within_limits (fields_in headers) ≡ true → length (get_or headers i d).value.now ≤ 8192
+within_limits_at [] i d lt h = absurd (omega arith)
+within_limits_at (x ∷ headers) zero d lt h = leb-true (length x.value.now) 8192 (and_parts (nat_le (length x.value.now) 8192) (is_within_limits (fields_in headers)) h).0
+within_limits_at (x ∷ headers) (suc i) d lt h = within_limits_at headers i d (omega arith) (and_parts (nat_le (length x.value.now) 8192) (is_within_limits (fields_in headers)) h).1
 
 put_more : (p : List ℕ × List ℕ → Bool) (f : List ℕ × List ℕ) (sorted fields : List (List ℕ × List ℕ))
     → put_all (put_all sorted (filter p (f ∷ []))) (filter p fields) ≡ put_all sorted (filter p (f ∷ fields))

@@ -5,13 +5,13 @@ use Rattle.httparse.specs.declared.borrowed.Header.{Header}
 use Rattle.httparse.specs.Borrowed.{header_parts}
 use Rattle.hc_fields.specs.FieldList.{is_own_value}
 use Rattle.hc_head.specs.declared.fields.Leaving.{Leaving}
-use Rattle.hc_head.specs.Rules.{lowered, is_kept, put_all}
+use Rattle.hc_head.specs.Rules.{lowercase_field, is_kept, put_all}
 
 abbrev pub field_in : Header → List ℕ × List ℕ
-field_in header = lowered (header_parts header)
+field_in header = lowercase_field (header_parts header)
 
 abbrev pub fields_in : List Header → List (List ℕ × List ℕ)
-fields_in headers = map lowered (map header_parts headers)
+fields_in headers = map lowercase_field (map header_parts headers)
 
 -- a token as the name, and a value without blanks at its ends
 pub record IsGood (header : Header) : Type 0 where

@@ -15,7 +15,7 @@ use Rattle.hc_head.specs.declared.message.MsgError.{MsgError}
 use Rattle.hc_head.specs.declared.message.MsgError.TheVariants.{BadHead, BadLength, UnsupportedMethod}
 use Rattle.hc_head.specs.declared.message.WireRequest.{WireRequest}
 use Rattle.hc_head.specs.declared.fields.Leaving.TheVariants.{Address}
-use Rattle.hc_head.specs.Rules.{fields_of, is_there, is_modest, kept_of}
+use Rattle.hc_head.specs.Rules.{fields_of, is_there, is_within_limits, kept_of}
 
 abbrev pub begins_with : List ℕ → List ℕ → Bool
 begins_with prefix text = bytes_eq (take (length prefix) text) prefix
@@ -73,7 +73,7 @@ with_key method minor fields (Some key) =
 -- by the parts of the head
 unfoldable pub asked_of : List ℕ → List ℕ → ℕ → List (List ℕ × List ℕ) → Asked
 asked_of method target minor fields =
-    if not (is_modest fields) then Denies BadHead
+    if not (is_within_limits fields) then Denies BadHead
     else if bytes_eq method (codes "CONNECT") then Denies UnsupportedMethod
     else if nat_lt 15 (length method) then Denies BadHead
     else with_key method minor fields (option_and_then key_of (asked_text target fields))

@@ -4,14 +4,14 @@ use Rattle.http_header.specs.Token.{lowercase}
 use Rattle.httparse.specs.Grammar.{ResponseHead, ReadsResponse, status_code}
 use Rattle.hc_event.specs.declared.event.Response.{Response}
 use Rattle.hc_fields.specs.FieldElements.{elements_in}
-use Rattle.hc_rules.specs.Lengths.{length_told, promise_of}
+use Rattle.hc_rules.specs.Lengths.{content_length_of, promise_of}
 use Rattle.hc_head.specs.declared.message.MsgError.{MsgError}
 use Rattle.hc_head.specs.declared.message.MsgError.TheVariants.{BadHead, BadLength}
 use Rattle.hc_head.specs.declared.framing.Framing.{Framing}
 use Rattle.hc_head.specs.declared.framing.Framing.TheVariants.{Bodiless, Chunked, Counted, ToClose}
 use Rattle.hc_head.specs.declared.fields.Leaving.{Leaving}
 use Rattle.hc_head.specs.declared.fields.Leaving.TheVariants.{Nothing, Length}
-use Rattle.hc_head.specs.Rules.{fields_of, is_there, is_modest, kept_of}
+use Rattle.hc_head.specs.Rules.{fields_of, is_there, is_within_limits, kept_of}
 
 -- the one element is `chunked`, in any case (RFC 9112 section 7.1)
 abbrev pub is_chunked : List (List ℕ) → Bool
@@ -33,7 +33,7 @@ framing_of told status fields =
     if has_no_body told status then Some Bodiless
     else if is_there (codes "transfer-encoding") fields then
     (if is_chunked (elements_in (codes "transfer-encoding") fields) then Some Chunked else None)
-    else Some (by_length (promise_of (length_told (elements_in (codes "content-length") fields))))
+    else Some (by_length (promise_of (content_length_of (elements_in (codes "content-length") fields))))
 
 -- Content-Length says nothing of a chunked body
 abbrev pub left_out : Framing → Leaving
@@ -61,7 +61,7 @@ is_interim status = nat_le 100 status && nat_lt status 200 && not (status == 101
 -- by the status and the fields of the head
 unfoldable pub heard_of : Bool → ℕ → List (List ℕ × List ℕ) → Heard
 heard_of told status fields =
-    if not (is_modest fields) then Refuses BadHead
+    if not (is_within_limits fields) then Refuses BadHead
     else if is_interim status then Skips
     else if nat_lt status 200 || nat_le 600 status then Refuses BadHead
     else with_framing status fields (framing_of told status fields)

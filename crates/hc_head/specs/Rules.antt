@@ -5,25 +5,25 @@ use Rattle.http_header.specs.Token.{lowercase}
 use Rattle.httparse.specs.Grammar.{Field}
 use Rattle.httparse.specs.Spans.{name_and_value}
 use Rattle.hc_text.specs.Elements.{elements}
-use Rattle.hc_fields.specs.FieldList.{put, has_name}
+use Rattle.hc_fields.specs.FieldList.{field_list_with, has_name}
 use Rattle.hc_head.specs.declared.fields.Leaving.{Leaving}
 use Rattle.hc_head.specs.declared.fields.Leaving.TheVariants.{Nothing, Length, Address}
 
 -- the name in lower case, and the value
-abbrev pub lowered : List ℕ × List ℕ → List ℕ × List ℕ
-lowered field = (lowercase field.0, field.1)
+abbrev pub lowercase_field : List ℕ × List ℕ → List ℕ × List ℕ
+lowercase_field field = (lowercase field.0, field.1)
 
 -- the fields of a head, with their names in lower case
 abbrev pub fields_of : List Field → List (List ℕ × List ℕ)
-fields_of fields = map lowered (map name_and_value fields)
+fields_of fields = map lowercase_field (map name_and_value fields)
 
 -- a field of this name is there
 abbrev pub is_there : List ℕ → List (List ℕ × List ℕ) → Bool
 is_there name fields = list_any (has_name name) fields
 
 -- no value has more than 8,192 bytes
-abbrev pub is_modest : List (List ℕ × List ℕ) → Bool
-is_modest fields = list_all (λ (f : List ℕ × List ℕ). nat_le (length f.1) 8192) fields
+abbrev pub is_within_limits : List (List ℕ × List ℕ) → Bool
+is_within_limits fields = list_all (λ (f : List ℕ × List ℕ). nat_le (length f.1) 8192) fields
 
 -- an element of the list is this name, in any case
 abbrev pub lists_name : List ℕ → List ℕ → Bool
@@ -58,7 +58,7 @@ is_kept leaving fields field = not (is_left leaving field.0) && not (is_hop fiel
 -- the fields sorted by name, in their order within one name, behind these
 abbrev pub put_all : List (List ℕ × List ℕ) → List (List ℕ × List ℕ) → List (List ℕ × List ℕ)
 put_all sorted [] = sorted
-put_all sorted (f ∷ fields) = put_all (put f.0 f.1 sorted) fields
+put_all sorted (f ∷ fields) = put_all (field_list_with f.0 f.1 sorted) fields
 
 -- the fields that are passed on, sorted
 abbrev pub kept_of : Leaving → List (List ℕ × List ℕ) → List (List ℕ × List ℕ)

@@ -6,7 +6,7 @@ ghost use Rattle.http_header.specs.Token.{lowercase};
 ghost use Rattle.hc_text.specs.Elements.{elements};
 ghost use Rattle.hc_fields.specs.FieldList.{has_name, values_of, size_of};
 ghost use Rattle.hc_fields.specs.FirstValues.{only_of};
-ghost use Rattle.hc_head.specs.Rules.{is_there, is_modest, lists_name, is_option, is_hop_name, is_hop, is_left, is_kept, kept_of, put_all};
+ghost use Rattle.hc_head.specs.Rules.{is_there, is_within_limits, lists_name, is_option, is_hop_name, is_hop, is_left, is_kept, kept_of, put_all};
 ghost use Rattle.hc_head.specs.Options.{names_other, lists_other, is_other, has_others};
 ghost use Rattle.hc_head.specs.Held.{fields_in, field_in, IsGood, AreGood, with_field};
 
@@ -55,8 +55,8 @@ pub(crate) fn is_there(headers: &[Header<'_>], name: &[u8]) -> bool
 }
 
 /// Whether no value has more than 8,192 bytes.
-pub(crate) fn is_modest(headers: &[Header<'_>]) -> bool
-    ensures { result ≡ is_modest (fields_in headers.now) }
+pub(crate) fn is_within_limits(headers: &[Header<'_>]) -> bool
+    ensures { result ≡ is_within_limits (fields_in headers.now) }
 {
     for header in headers {
         if header.value.len() > MOST_VALUE {
@@ -242,7 +242,7 @@ pub(crate) fn kept_of(
     bytes: usize,
 ) -> Result<Fields, NoMemory>
     requires good { AreGood headers.now }
-    requires modest { is_modest (fields_in headers.now) ≡ true }
+    requires within_limits { is_within_limits (fields_in headers.now) ≡ true }
     requires few { length headers.now ≤ 64 }
     requires small { size_of (fields_in headers.now) ≤ 32768 }
     ensures { IfOk result (λ fields. fields ≡ kept_of leaving (fields_in headers.now)) }

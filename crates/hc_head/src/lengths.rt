@@ -3,7 +3,7 @@ ghost use Rattle.std.specs.Prelude.{◌≡◌, codes, bytes_eq};
 ghost use Rattle.http_header.specs.Token.{lowercase};
 ghost use Rattle.hc_text.specs.Elements.{elements};
 ghost use Rattle.hc_fields.specs.FieldElements.{elements_in};
-ghost use Rattle.hc_rules.specs.Lengths.{length_told};
+ghost use Rattle.hc_rules.specs.Lengths.{content_length_of};
 ghost use Rattle.hc_rules.specs.LengthSoFar.{with_element, with_elements};
 ghost use Rattle.hc_rules.specs.RangeTexts.{number_of};
 ghost use Rattle.hc_head.specs.Responses.{is_chunked};
@@ -121,9 +121,9 @@ fn length_with(length: Length, header: &Header<'_>) -> Length
 }
 
 /// The number that all elements of all values of Content-Length are (RFC 9110 section 8.6).
-pub(crate) fn length_told(headers: &[Header<'_>]) -> Length
+pub(crate) fn content_length_of(headers: &[Header<'_>]) -> Length
     ensures { result
-        ≡ length_told (elements_in (codes "content-length") (fields_in headers.now)) }
+        ≡ content_length_of (elements_in (codes "content-length") (fields_in headers.now)) }
 {
     let mut length = Length::Unknown;
     for header in headers {

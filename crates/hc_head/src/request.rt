@@ -6,10 +6,10 @@ ghost use Rattle.hc_fields.specs.FieldList.{size_of, values_of};
 ghost use Rattle.hc_fields.specs.FirstValues.{only_of};
 ghost use Rattle.hc_head.specs.Requests.{asked_of, asked_text, key_of, own_key, may_have_body, says_zero, request_of};
 ghost use Rattle.hc_head.specs.Held.{fields_in, field_in, AreGood};
-ghost use Rattle.hc_head.specs.Rules.{is_modest};
+ghost use Rattle.hc_head.specs.Rules.{is_within_limits};
 ghost use Rattle.hc_head.specs.Calls.{Gives, CallsFor};
 
-use crate::fields::{Leaving, has_name, is_modest, is_there, kept_of};
+use crate::fields::{Leaving, has_name, is_there, is_within_limits, kept_of};
 use crate::head::MOST_FIELDS;
 use crate::message::{MsgError, WireRequest};
 use hc_event::{Load, Request};
@@ -165,7 +165,7 @@ fn with_key(
     key: Key,
 ) -> Result<WireRequest, NoMemory>
     requires good { AreGood headers.now }
-    requires modest { is_modest (fields_in headers.now) ≡ true }
+    requires within_limits { is_within_limits (fields_in headers.now) ≡ true }
     requires few { length headers.now ≤ 64 }
     requires small { size_of (fields_in headers.now) ≤ 32768 }
     ensures { IfOk result (λ request. request
@@ -201,7 +201,7 @@ fn asked_of(
     requires small { size_of (fields_in headers.now) ≤ 32768 }
     ensures { Gives result (asked_of method.now target.now minor (fields_in headers.now)) }
 {
-    if !is_modest(headers) {
+    if !is_within_limits(headers) {
         return Err(MsgError::BadHead);
     }
     if method == b"CONNECT".as_slice() {

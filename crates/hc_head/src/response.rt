@@ -5,10 +5,10 @@ ghost use Rattle.hc_head.specs.Responses.{framing_of, has_no_body, left_out, is_
 ghost use Rattle.hc_head.specs.Held.{fields_in, AreGood};
 ghost use Rattle.hc_head.specs.Replies.{Hears, RepliesTo};
 
-use crate::fields::{Leaving, is_modest, is_there, kept_of};
+use crate::fields::{Leaving, is_there, is_within_limits, kept_of};
 use crate::framing::Framing;
 use crate::head::MOST_FIELDS;
-use crate::lengths::{is_chunked, length_told};
+use crate::lengths::{content_length_of, is_chunked};
 use crate::message::MsgError;
 use hc_event::Response;
 use httparse::{EMPTY_HEADER, Header, Response as Head, Status};
@@ -42,7 +42,7 @@ fn framing_of(no_body: bool, status: u16, headers: &[Header<'_>]) -> Option<Fram
         return Some(Framing::Bodiless);
     }
     if !is_there(headers, b"transfer-encoding") {
-        return Some(match length_told(headers).promise() {
+        return Some(match content_length_of(headers).promise() {
             Some(n) => Framing::Counted(n),
             None => Framing::ToClose,
         });
@@ -75,7 +75,7 @@ fn heard_of(
     requires small { size_of (fields_in headers.now) ≤ 32768 }
     ensures { Hears result (heard_of no_body status (fields_in headers.now)) }
 {
-    if !is_modest(headers) {
+    if !is_within_limits(headers) {
         return Err(MsgError::BadHead);
     }
     if is_interim(status) {

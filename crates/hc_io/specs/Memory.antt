@@ -17,8 +17,8 @@ abbrev pub after_call : Script → Bool → Script
 after_call s failed = record s { calls = one_more s.calls; faults = faults_after s.faults failed }
 
 -- A script before the first call.
-abbrev pub unstarted : List ℕ → Script
-unstarted fails = record { fails = fails; calls = 0; faults = 0 }
+abbrev pub new_script : List ℕ → Script
+new_script fails = record { fails = fails; calls = 0; faults = 0 }
 
 -- The bytes left, how many were given, and how many are given at most in a call.
 pub record SourceState : Type 0 where

@@ -3,7 +3,7 @@ ghost use Rattle.std.specs.Prelude.{◌≡◌, ◌≢◌, ◌↔◌, ◌+◌, �
 ghost use Rattle.std.specs.Result.{result_unwrap_or, is_err};
 ghost use Rattle.hc_io.specs.Sink.{Takes, HasSinkCause};
 ghost use Rattle.hc_io.specs.Source.{Gives, IsAtEnd, HasSourceCause};
-ghost use Rattle.hc_io.specs.Memory.{FailsNext, after_call, unstarted};
+ghost use Rattle.hc_io.specs.Memory.{FailsNext, after_call, new_script};
 
 use crate::copies::copy_front;
 use crate::script::Failures;
@@ -46,7 +46,7 @@ impl MemorySource {
           left = bytes.items;
           given = 0;
           step = step;
-          script = unstarted fails.items;
+          script = new_script fails.items;
         } }
     {
         MemorySource {
@@ -115,7 +115,7 @@ impl Model for MemorySink {
 impl MemorySink {
     /// An empty sink that fails at the listed calls, from 1.
     pub fn new(alloc: Global, fails: Vec<u64>) -> Self
-        ensures { result ≡ record { taken = []; script = unstarted fails.items } }
+        ensures { result ≡ record { taken = []; script = new_script fails.items } }
     {
         MemorySink {
             bytes: Vec::new(alloc),

@@ -22,10 +22,10 @@ impl Model for Failures {
 
 impl Failures {
     ghost use Rattle.hc_io.specs.Faults.{HasRisen};
-    ghost use Rattle.hc_io.specs.Memory.{FailsNext, after_call, unstarted};
+    ghost use Rattle.hc_io.specs.Memory.{FailsNext, after_call, new_script};
 
     pub(crate) fn new(fails: Vec<u64>) -> Self
-        ensures { result ≡ unstarted fails.items }
+        ensures { result ≡ new_script fails.items }
     {
         Failures {
             fails,

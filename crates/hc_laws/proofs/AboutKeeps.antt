@@ -35,7 +35,7 @@ use Rattle.hc_model.proofs.OwnFrom.{OwnFrom, IsRow, IsLeft, own_from}
 use Rattle.hc_model.proofs.OwnFrom as own
 use Rattle.hc_model.proofs.OwnersKeep.{new_number, one_kept, left_writing}
 use Rattle.hc_model.proofs.PieceKeeps.{some_inj}
-use Rattle.hc_model.proofs.Pens.{same_row}
+use Rattle.hc_model.proofs.ExclusiveWriters.{same_row}
 use Rattle.hc_laws.proofs.ReadingKeeps.{reader_stays, head_some, unpolled, left_body}
 use Rattle.hc_model.proofs.RepFrom as rep
 use Rattle.hc_laws.proofs.WaitingKeeps.{waiting_kept}

@@ -24,7 +24,7 @@ use Rattle.hc_model.proofs.HolesOpened.{stored_ends}
 use Rattle.hc_model.proofs.Losses.{exclusive_is}
 use Rattle.hc_laws.proofs.Lone.{AreLone, IsResting, lone_kept, all_three}
 use Rattle.hc_laws.proofs.OrderRuns.{order_in_runs}
-use Rattle.hc_model.proofs.Pens.{same_row, eq-refl}
+use Rattle.hc_model.proofs.ExclusiveWriters.{same_row, eq-refl}
 use Rattle.hc_model.proofs.PieceKeeps.{eq_cases}
 use Rattle.hc_laws.proofs.RunFacts.{in_runs}
 use Rattle.hc_laws.proofs.SoundRuns.{carried}

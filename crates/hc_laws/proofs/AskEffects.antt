@@ -4,7 +4,7 @@ use Rattle.std.specs.Prelude.{◌==◌, ◌||◌, nat_eq, if◌then◌else◌, o
 use Rattle.hc_event.specs.declared.event.Event.TheVariants as event
 use Rattle.hc_rules.specs.declared.room.Limits.{Limits}
 use Rattle.hc_model.specs.ConsumerRows.{consumer_acted}
-use Rattle.hc_model.specs.Effects.{Does, counted, to_bring, with_ask}
+use Rattle.hc_model.specs.Effects.{Does, with_event, to_bring, with_ask}
 use Rattle.hc_model.specs.Entries.{Entry}
 use Rattle.hc_model.specs.ExchangeRows.{exchange_after}
 use Rattle.hc_model.specs.Flaws.{NoFlaw}
@@ -43,7 +43,7 @@ module _ (limits : Limits) (t : Tables) (law : Lawful t) (now c want : ℕ) (k :
       by_test false other = refl
 
   -- its consumer stays as it is
-  pub asks : Does limits t now (event.Poll c want) NoFlaw (acts_of c (Asks x)) (counted now (event.Poll c want) (with_ask x t))
+  pub asks : Does limits t now (event.Poll c want) NoFlaw (acts_of c (Asks x)) (with_event now (event.Poll c want) (with_ask x t))
   asks =
       let does = poll_does limits t law now c want k row (Asks x) (polls.asks x) is []
       (nothing_goes limits t law now c want k row (Asks x) (polls.asks x) is refl)
@@ -52,5 +52,5 @@ module _ (limits : Limits) (t : Tables) (law : Lawful t) (now c want : ℕ) (k :
       acted refl (law.owned.idle_due c k row) (none_waits k.place) (none_waits k.place) in
       record {
         acts_are = does.acts_are;
-        tables_are = does.tables_are ∙ ap (counted now (event.Poll c want)) (same_consumer t (with_ask x t) c k row);
+        tables_are = does.tables_are ∙ ap (with_event now (event.Poll c want)) (same_consumer t (with_ask x t) c k row);
       }

@@ -31,12 +31,12 @@ use Rattle.hc_model.specs.Laws as laws
 use Rattle.hc_model.specs.Rows.{Tables, Exchange, Representation, Consumer}
 use Rattle.hc_model.specs.Runs.{IsOwed}
 use Rattle.hc_model.specs.Sound.{Sound}
-use Rattle.hc_model.specs.Tables.{tables, after, after_accepted, after_denied, loaded, opened_after}
+use Rattle.hc_model.specs.Tables.{tables, after, after_accepted, after_denied, representation_of_content, opened_after}
 use Rattle.hc_model.proofs.Basics.{none_some}
 use Rattle.hc_model.proofs.CurrentKeeps.{current_is, WasOrFounded, was_or_founded}
 use Rattle.hc_model.proofs.CurrentKeeps as current
 use Rattle.hc_model.proofs.KeysKeep.{same_exchange}
-use Rattle.hc_model.specs.StartingOver.{awaited}
+use Rattle.hc_model.specs.StartingOver.{awaited_exchange}
 use Rattle.hc_model.proofs.HoleLemmas.{bool_cases}
 use Rattle.hc_model.proofs.Joining.{mix}
 use Rattle.hc_model.proofs.KeyNames.{not_true, key_is, opener_key}
@@ -89,7 +89,7 @@ stands_turn x k _ (laws.later r lo hi how at shown) is = absurd (let no_one : ro
 record Bars (u : Tables) (bar : List ℕ → ℕ) : Type 0 where
   within : (key : List ℕ) → bar key ≤ u.opened
   founded : (r : ℕ) (v : Representation) → u.representation r ≡ Some v → v.is_gone ≡ false → bar v.key < r
-  awaited : (x : ℕ) (w : Exchange) → u.exchange x ≡ Some w → is_headless (Some w) ≡ true → route_of w.need ≢ route.Direct → was_shown (u.consumer w.c) ≡ false → bar w.request.key < x
+  awaited_exchange : (x : ℕ) (w : Exchange) → u.exchange x ≡ Some w → is_headless (Some w) ≡ true → route_of w.need ≢ route.Direct → was_shown (u.consumer w.c) ≡ false → bar w.request.key < x
 
 of_bars : (contents : Contents) (h : History) → Bars (tables contents h) (λ key. barrier contents key h) → IsBarred contents h
 of_bars contents h bars = record { within = bars.within; founded = bars.founded; awaited = bars.awaited }
@@ -202,13 +202,13 @@ module _ (limits : Limits) (t : Tables) (e : Entry) (taken : IsTaken limits t e)
       doom_k : is_key (doomed t e) it.k.request.key ≡ true
       doom_k = ap (is_key (doomed t e)) (sym (opener_key t x w it.k one.exchanges row it.row)) ∙ doom
 
-      waits : is_number (awaited it.k.place) x ≡ true → ⊥
+      waits : is_number (awaited_exchange it.k.place) x ≡ true → ⊥
       waits h = dooms limits t e taken s one turns x w row bare stays doom_k h
 
       by_stand : (r : Route) → StandsFor x it.k r → r ≢ route.Direct → ⊥
       by_stand _ (laws.direct at) other = other refl
-      by_stand _ (laws.has_turn at shown) other = waits (ap (λ p. is_number (awaited p) x) at ∙ eq-refl x)
-      by_stand _ (laws.first r lo hi at shown) other = waits (ap (λ p. is_number (awaited p) x) at ∙ eq-refl x)
+      by_stand _ (laws.has_turn at shown) other = waits (ap (λ p. is_number (awaited_exchange p) x) at ∙ eq-refl x)
+      by_stand _ (laws.first r lo hi at shown) other = waits (ap (λ p. is_number (awaited_exchange p) x) at ∙ eq-refl x)
       by_stand _ (laws.later r lo hi how at shown) other = let no_one : false ≡ true = sym unshown ∙ shown in cc
 
   awaits_behind : (x : ℕ) (z : Exchange) → WasHeadless limits t e taken s one turns x z → route_of z.need ≢ route.Direct → was_shown (u.consumer z.c) ≡ false → bar z.request.key < x
@@ -263,7 +263,7 @@ barred_by limits contents h e true denied s one turns barred owed =
 pub barrier_is_kept : BarrierIsKept
 barrier_is_kept limits contents h e s one turns barred owed = barred_by limits contents h e (is_denied e.acts) refl s one turns barred owed
 
-item_row : (contents : Contents) (r : ℕ) (o : Option Content) (v : Representation) → AreNumbered contents → item_of contents r ≡ o → option_map loaded o ≡ Some v → 0 < r
+item_row : (contents : Contents) (r : ℕ) (o : Option Content) (v : Representation) → AreNumbered contents → item_of contents r ≡ o → option_map representation_of_content o ≡ Some v → 0 < r
 item_row contents r None v numbered is row = absurd (none_some v row)
 item_row contents r (Some item) v numbered is row = numbered r item is
 

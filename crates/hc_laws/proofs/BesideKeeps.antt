@@ -10,25 +10,25 @@ use Rattle.hc_model.specs.Laws.{AfterDenials}
 use Rattle.hc_model.specs.Measures.{Measures}
 use Rattle.hc_model.specs.Owners.{Owners}
 use Rattle.hc_model.specs.Rows.{Tables, Representation, Consumer}
-use Rattle.hc_model.specs.Sound.{Sound, IsBound, IsFirst, HasPen}
+use Rattle.hc_model.specs.Sound.{Sound, IsBound, IsFirst, IsExclusiveWriter}
 use Rattle.hc_model.specs.Sound as sound
-use Rattle.hc_model.specs.Tables.{begun, after_accepted, after_denied}
+use Rattle.hc_model.specs.Tables.{first_tables, after_accepted, after_denied}
 use Rattle.hc_model.proofs.Basics.{none_some}
 use Rattle.hc_model.proofs.Beside.{IsBeside}
 use Rattle.hc_laws.proofs.CachedKeeps.{cached_kept}
 use Rattle.hc_laws.proofs.CoversKept.{covered_kept}
-use Rattle.hc_model.proofs.DeniedKeeps.{written_same, was_bound, was_first, was_pen}
+use Rattle.hc_model.proofs.DeniedKeeps.{written_same, was_bound, was_first, was_exclusive_writer}
 use Rattle.hc_laws.proofs.LossBy.{IsReal}
 use Rattle.hc_model.proofs.Losses.{HasRest}
 use Rattle.hc_laws.proofs.Rests.{rested_kept}
 
 -- nobody reads at the beginning
-nobody : (contents : Contents) (r c : ℕ) (k : Consumer) → IsBound (begun contents) r c k → ⊥
+nobody : (contents : Contents) (r c : ℕ) (k : Consumer) → IsBound (first_tables contents) r c k → ⊥
 nobody contents r c k (sound.is_bound lo hi how row at) = none_some k row
 
-pub beside_begun : (contents : Contents) → IsBeside (begun contents)
+pub beside_begun : (contents : Contents) → IsBeside (first_tables contents)
 beside_begun contents = record {
-  covered = λ r c x v k w there pen reader none own row. absurd (nobody contents r c k reader);
+  covered = λ r c x v k w there exclusive_writer reader none own row. absurd (nobody contents r c k reader);
   rested = λ r c v k there fresh first reader none own off. absurd (nobody contents r c k reader);
   cached = λ c k row at. absurd (none_some k row);
 }
@@ -38,14 +38,14 @@ still_rests t e v k rest = record { hi = rest.hi; end = rest.end; covered = rest
 
 pub beside_denied : AfterDenials IsBeside
 beside_denied t e i = record {
-  covered = λ r c x v k w there pen reader none own row. i.covered r c x v k w there (was_pen t e r c v pen) (was_bound t e r c k reader) none own row;
+  covered = λ r c x v k w there exclusive_writer reader none own row. i.covered r c x v k w there (was_exclusive_writer t e r c v exclusive_writer) (was_bound t e r c k reader) none own row;
   rested = λ r c v k there fresh first reader none own off. still_rests t e v k (i.rested r c v k there fresh (was_first t e r c first) (was_bound t e r c k reader) none own (sym (written_same t e v) ∙ off));
   cached = i.cached;
 }
 
 pub beside_kept : (limits : Limits) (t : Tables) (now : ℕ) (flaw : Flaw) → Sound t → Owners t → Measures t → IsBeside t → (ev : Event) → denial t ev ≡ None → IsReal limits t now ev flaw → IsBeside (after_accepted t (entry_of limits t now ev flaw))
 beside_kept limits t now flaw s o m i ev goes real = record {
-  covered = λ r c x v k w there pen reader none own row. covered_kept limits t now flaw s o m i ev goes real r c x v k w there pen reader none own row;
+  covered = λ r c x v k w there exclusive_writer reader none own row. covered_kept limits t now flaw s o m i ev goes real r c x v k w there exclusive_writer reader none own row;
   rested = λ r c v k there fresh first reader none own off. rested_kept limits t now flaw s o m i ev goes real r c v k there fresh first reader none own off;
   cached = λ c k row at. cached_kept limits t now flaw s o i ev goes c k row at;
 }

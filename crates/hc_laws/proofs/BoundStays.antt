@@ -33,7 +33,7 @@ use Rattle.hc_model.proofs.FirstKeeps.{is_new}
 use Rattle.hc_model.proofs.Forward.{is_kept}
 use Rattle.hc_model.proofs.HoleLemmas.{bool_cases}
 use Rattle.hc_model.proofs.PieceKeeps.{eq_cases}
-use Rattle.hc_model.proofs.Pens.{same_row}
+use Rattle.hc_model.proofs.ExclusiveWriters.{same_row}
 use Rattle.hc_model.proofs.Said.{waiting_by}
 use Rattle.hc_model.proofs.WaitedAs.{IsForOthers, waited_as}
 use Rattle.hc_model.proofs.WaitedAs as waited

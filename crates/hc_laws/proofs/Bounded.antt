@@ -4,7 +4,7 @@ use Rattle.std.specs.Str.{str_to_ascii_lowercase}
 use Rattle.std.specs.Prelude.{bytes_eq, codes, take, drop, IfSome, nat_lt, nat_le, min, unwrap_or, ◌||◌, ◌&&◌, if◌then◌else◌}
 use Rattle.std.specs.Option.{option_map}
 use Rattle.std.proofs.lemmas.Bool.Decides.{nat_tests}
-use Rattle.hc_range.specs.Spans.{resolved, IsInOrder}
+use Rattle.hc_range.specs.Spans.{resolved_span, IsInOrder}
 use Rattle.hc_range.specs.declared.range.Asked.{Asked}
 use Rattle.hc_range.specs.declared.range.Asked.TheVariants.{From, FromTo, Last}
 use Rattle.hc_range.specs.declared.range.Span.{Span}
@@ -27,7 +27,7 @@ use Rattle.hc_model.specs.Cases.{case_at}
 use Rattle.hc_model.specs.ConsumerRows.{consumer_heard, consumer_acted, consumer_made, consumer_after, by_opening, waiting}
 use Rattle.hc_model.specs.Denials.{denial, as_open}
 use Rattle.hc_model.specs.Entries.{Entry, Contents}
-use Rattle.hc_model.specs.Exchanges.{promised}
+use Rattle.hc_model.specs.Exchanges.{promised_bytes}
 use Rattle.hc_rules.specs.Lengths.{promise_of}
 use Rattle.hc_model.specs.Flaws.{Flaw}
 use Rattle.hc_model.specs.Keys.{entry_of}
@@ -38,7 +38,7 @@ use Rattle.hc_model.specs.Reading.{reads, lo_of, hi_of}
 use Rattle.hc_model.specs.Rows.{Tables, Exchange, Consumer}
 use Rattle.hc_model.specs.Sound.{Sound}
 use Rattle.hc_model.specs.StartingOver.{starts_over}
-use Rattle.hc_model.specs.Tables.{begun, after_accepted, after_denied}
+use Rattle.hc_model.specs.Tables.{first_tables, after_accepted, after_denied}
 use Rattle.hc_model.proofs.Basics.{false_true, none_some}
 use Rattle.hc_model.proofs.BoundFrom.{BoundFrom, IsRow, IsFounded, IsInterval, IsShown, bound_from}
 use Rattle.hc_model.proofs.BoundFrom as from
@@ -55,14 +55,14 @@ use Rattle.hc_model.proofs.Givers.{gives_of, some_want}
 use Rattle.hc_model.proofs.MoveBy.{move_by}
 use Rattle.hc_model.proofs.Once.{taken}
 use Rattle.hc_model.proofs.PieceKeeps.{eq_cases, some_inj}
-use Rattle.hc_model.proofs.Pens.{same_row}
+use Rattle.hc_model.proofs.ExclusiveWriters.{same_row}
 use Rattle.hc_model.proofs.PollActs.{ToOne, to_one}
 use Rattle.hc_model.proofs.PollActs as acts_to
 use Rattle.hc_model.proofs.Said.{IsShowing, showing_by}
 use Rattle.hc_model.proofs.ShownFrom.{ShownAs, shown_from}
 use Rattle.hc_model.proofs.ShownFrom as shown_as
 use Rattle.hc_model.proofs.ShownOnce as shown_once
-use Rattle.hc_laws.proofs.ShownStays.{IsAside, StaysOrIdle, shown_stays}
+use Rattle.hc_laws.proofs.ShownStays.{IsFallback, StaysOrIdle, shown_stays}
 use Rattle.hc_laws.proofs.ShownStays as stands
 use Rattle.hc_model.proofs.TurnPlaces.{is_after}
 
@@ -120,7 +120,7 @@ span_if : (b : Bool) (x span : Span) → (b ≡ true → x.lo ≤ x.hi) → (if 
 span_if false x span proper is = absurd (none_some span is)
 span_if true x span proper is = subst (λ (z : Span). z.lo ≤ z.hi) (some_inj x span is) (proper refl)
 
-resolved_proper : (asked : Asked) (total : ℕ) (span : Span) → IsInOrder asked → resolved asked total ≡ Some span → span.lo ≤ span.hi
+resolved_proper : (asked : Asked) (total : ℕ) (span : Span) → IsInOrder asked → resolved_span asked total ≡ Some span → span.lo ≤ span.hi
 resolved_proper (From first) total span order is = span_if (nat_lt first total) (record { lo = first; hi = total }) span (λ h. let lt : first < total = grind (arith, nat_tests) in omega arith) is
 resolved_proper (FromTo first last) total span order is = span_if (nat_lt first total) (record { lo = first; hi = min (last + 1) total }) span (λ h. let lt : first < total = grind (arith, nat_tests) in by_numbers first last total order lt) is
   where
@@ -138,7 +138,7 @@ whole_span n span is = let same : record { lo = 0; hi = n } ≡ span = cc in sub
 pub wanted_proper : (range : Option Asked) (o : Option ℕ) (span : Span) → ((asked : Asked) → range ≡ Some asked → IsInOrder asked) → wanted_of range o ≡ wanted.Interval span → span.lo ≤ span.hi
 wanted_proper range None span order is = absurd (let no : wanted.TotalUnknown ≡ wanted.Interval span = is in cc)
 wanted_proper None (Some n) span order is = whole_span n span is
-wanted_proper (Some asked) (Some n) span order is = part_proper (resolved asked n) span (λ z found. resolved_proper asked n z (order asked refl) found) is
+wanted_proper (Some asked) (Some n) span order is = part_proper (resolved_span asked n) span (λ z found. resolved_proper asked n z (order asked refl) found) is
 
 interval_proper : (request : Request) (o : Option ℕ) (lo hi : ℕ) → IsInterval (wanted_of (range_of request) o) lo (Some hi) → lo ≤ hi
 interval_proper request o lo hi i =
@@ -154,7 +154,7 @@ pub record IsBounded (t : Tables) : Type 0 where
   pub first : (c r lo : ℕ) (how : BoundBy) (k : Consumer) → t.consumer c ≡ Some k → k.place ≡ place.Bound r lo None how → lo ≡ 0
   pub fresh : (c : ℕ) (k : Consumer) → t.consumer c ≡ Some k → k.shown ≡ false → k.given ≡ 0
   pub within : (c r lo hi : ℕ) (how : BoundBy) (k : Consumer) → t.consumer c ≡ Some k → k.place ≡ place.Bound r lo (Some hi) how → lo + k.given ≤ hi
-  pub promise : (x p : ℕ) (w : Exchange) → t.exchange x ≡ Some w → promised w ≡ Some p → length w.body ≤ p
+  pub promise : (x p : ℕ) (w : Exchange) → t.exchange x ≡ Some w → promised_bytes w ≡ Some p → length w.body ≤ p
 
 made_given : (c now : ℕ) (ev : Event) (u : Consumer) → consumer_made c now ev ≡ Some u → u.given ≡ 0
 made_given c now (event.Start d request) u h = elim (eq_cases d c) [
@@ -254,7 +254,7 @@ module _ (limits : Limits) (t : Tables) (now : ℕ) (flaw : Flaw) (s : Sound t) 
         let sum : u.given ≡ k.given + length (given_in c e.acts) = given_is c k u row after in
         omega arith
 
-    module _ (a : IsAside t) where
+    module _ (a : IsFallback t) where
       -- who is given something stays within its end
       given_within : (c r lo hi : ℕ) (how : BoundBy) (k : Consumer) → t.consumer c ≡ Some k → k.shown ≡ true → k.place ≡ place.Bound r lo (Some hi) how → ToOne t now c ev e.acts → lo + (k.given + length (given_in c e.acts)) ≤ hi
       given_within c r lo hi how k row on at (acts_to.quiet none quiet off) =
@@ -303,13 +303,13 @@ module _ (limits : Limits) (t : Tables) (now : ℕ) (flaw : Flaw) (s : Sound t) 
         | inr in_time ↦ let same : m ≡ p = some_inj m p is in let le : n ≤ m = grind (arith, nat_tests) in omega arith
       ]
 
-      piece_fits : (y p : ℕ) (bytes : List ℕ) (w : Exchange) → t.exchange y ≡ Some w → promised w ≡ Some p → denial t (event.Piece y bytes) ≡ None → length w.body + length bytes ≤ p
+      piece_fits : (y p : ℕ) (bytes : List ℕ) (w : Exchange) → t.exchange y ≡ Some w → promised_bytes w ≡ Some p → denial t (event.Piece y bytes) ≡ None → length w.body + length bytes ≤ p
       unfolding refusals.refusal_of
       piece_fits y p bytes w row is h =
           let got = taken (length bytes) w (sym (ap (λ z. piece_refusal (as_open z) (length bytes)) row) ∙ h) in
-          fits p (length w.body + length bytes) (promised w) is got.fits
+          fits p (length w.body + length bytes) (promised_bytes w) is got.fits
 
-      brought : (y p : ℕ) (w z : Exchange) → t.exchange y ≡ Some w → promised w ≡ Some p → Brings t e y w z → length z.body ≤ p
+      brought : (y p : ℕ) (w z : Exchange) → t.exchange y ≡ Some w → promised_bytes w ≡ Some p → Brings t e y w z → length z.body ≤ p
       brought y p w z row is (fills_by.still none same) =
           let count : length z.body ≡ length w.body = ap (λ (xs : List ℕ). length xs) same in
           let le : length w.body ≤ p = b.promise y p w row is in
@@ -319,7 +319,7 @@ module _ (limits : Limits) (t : Tables) (now : ℕ) (flaw : Flaw) (s : Sound t) 
           let le : length w.body + length bytes ≤ p = piece_fits y p bytes w row is (sym (ap (denial t) here) ∙ goes) in
           omega arith
 
-      promise_by : (y p : ℕ) (z : Exchange) → promised z ≡ Some p → now_on.exchange y ≡ Some z → ExchangeFrom t e y z → length z.body ≤ p
+      promise_by : (y p : ℕ) (z : Exchange) → promised_bytes z ≡ Some p → now_on.exchange y ≡ Some z → ExchangeFrom t e y z → length z.body ≤ p
       promise_by y p z is after (exchange.was w row same) = by_heard same.heard_or
         where
           by_heard : ((z.head ≡ w.head) × (z.joined ≡ w.joined)) ⊎ IsHeaded t e y w z → length z.body ≤ p
@@ -342,7 +342,7 @@ module _ (limits : Limits) (t : Tables) (now : ℕ) (flaw : Flaw) (s : Sound t) 
         promise = λ x p z after is. promise_by x p z is after (exchange_from t e x (t.exchange x) z refl after);
       }
 
-pub bounded_begun : (contents : Contents) → IsBounded (begun contents)
+pub bounded_begun : (contents : Contents) → IsBounded (first_tables contents)
 bounded_begun contents = record {
   proper = λ c r lo hi how k row at. absurd (none_some k row);
   first = λ c r lo how k row at. absurd (none_some k row);

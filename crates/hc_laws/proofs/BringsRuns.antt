@@ -3,7 +3,7 @@ use Rattle.std.proofs.Common.{◌≡◌, ◌≤◌, ◌<◌, ◌⊎◌, inl, inr
 use Rattle.std.specs.Prelude.{is_some, slice_index, unwrap_or}
 use Rattle.std.proofs.Math.ListN.{get_or-append}
 use Rattle.std.proofs.Math.Seq.{get_or-append_right}
-use Rattle.hc_sparse.specs.Cells.{Cell, inside, written}
+use Rattle.hc_sparse.specs.Cells.{Cell, inside, cells_with}
 use Rattle.hc_sparse.proofs.CellLemmas.{inside-cases}
 use Rattle.hc_event.specs.Filters.{is_denied}
 use Rattle.hc_event.specs.declared.event.Event.{Event}
@@ -17,7 +17,7 @@ use Rattle.hc_model.specs.Exchanges.{base, front, family}
 use Rattle.hc_model.specs.Flaws.{Flaw, flaw_in}
 use Rattle.hc_model.specs.Keys.{entry_of}
 use Rattle.hc_model.specs.Laws.{OfRuns}
-use Rattle.hc_model.specs.Losses.{Brings, brought}
+use Rattle.hc_model.specs.Losses.{Brings, cell_from}
 use Rattle.hc_model.specs.Measures.{Measures}
 use Rattle.hc_model.specs.Origins.{Origins, MayDeliver}
 use Rattle.hc_model.specs.Origins as origins
@@ -35,7 +35,7 @@ use Rattle.hc_model.proofs.NumbersKeep.{opens_next}
 use Rattle.hc_laws.proofs.OfEntries.{of_real}
 use Rattle.hc_model.proofs.Once.{delivers_once}
 use Rattle.hc_laws.proofs.OriginRuns.{origins_in_runs}
-use Rattle.hc_model.proofs.Pens.{same_row}
+use Rattle.hc_model.proofs.ExclusiveWriters.{same_row}
 use Rattle.hc_model.proofs.PieceKeeps.{some_inj}
 use Rattle.hc_model.proofs.RepFrom.{RepFrom, rep_from, IsKept}
 use Rattle.hc_model.proofs.RepFrom as rep
@@ -119,11 +119,11 @@ module _ (limits : Limits) (t : Tables) (now : ℕ) (flaw : Flaw) (s : Sound t) 
     by_fills v row (fills_by.still none body stored reach) = old_cell v row (sym (ap (λ f. f p) body) ∙ there) (exchange_from t e x (t.exchange x) z refl after_x)
     by_fills v row (fills_by.more y bytes a is body stored reach) = elim (inside-cases (front a) (length bytes) p) [
       | inl in_it ↦
-          let at : written (front a) y bytes v.body p ≡ Some cell = sym (ap (λ f. f p) body) ∙ there in
+          let at : cells_with (front a) y bytes v.body p ≡ Some cell = sym (ap (λ f. f p) body) ∙ there in
           let same : y ≡ x = ap (λ (q : Cell). q.x) (some_inj _ cell (rw in_it.0 at at)) ∙ from in
           new_cell bytes a (subst (λ n. IsPiece t e r n bytes a) same is) in_it.1 in_it.2 (exchange_from t e x (t.exchange x) z refl after_x)
       | inr off ↦
-          let at : written (front a) y bytes v.body p ≡ Some cell = sym (ap (λ f. f p) body) ∙ there in
+          let at : cells_with (front a) y bytes v.body p ≡ Some cell = sym (ap (λ f. f p) body) ∙ there in
           old_cell v row (rw off.0 at at) (exchange_from t e x (t.exchange x) z refl after_x)
     ]
 
@@ -144,23 +144,23 @@ module _ (limits : Limits) (t : Tables) (now : ℕ) (flaw : Flaw) (s : Sound t) 
     first = base_same x w z row headed same
 
     -- it was there
-    old_there : (v : Representation) → t.representation r ≡ Some v → p < front w → v.body p ≡ Some (brought x w p)
+    old_there : (v : Representation) → t.representation r ≡ Some v → p < front w → v.body p ≡ Some (cell_from x w p)
     old_there v there lt = was.stands x p w v row headed there (let same_base : base z ≡ base w = first in omega arith) lt
 
     -- no piece comes over it
     not_over : (v : Representation) (y : ℕ) (bytes : List ℕ) (a : Exchange) → t.representation r ≡ Some v → IsPiece t e r y bytes a → p < front w → (front a ≤ p) → p < front a + length bytes → ⊥
     not_over v y bytes a there is lt from to =
         let absent : v.body p ≡ None = delivers_once t s y bytes a v (sym (ap (denial t) is.at) ∙ goes) is.row (ap t.representation is.of_r ∙ there) p from to in
-        none_some (brought x w p) (sym absent ∙ old_there v there lt)
+        none_some (cell_from x w p) (sym absent ∙ old_there v there lt)
 
-    kept_there : (v : Representation) → t.representation r ≡ Some v → Fills t e r v u → p < front w → u.body p ≡ Some (brought x w p)
+    kept_there : (v : Representation) → t.representation r ≡ Some v → Fills t e r v u → p < front w → u.body p ≡ Some (cell_from x w p)
     kept_there v there (fills_by.still none body stored reach) lt = ap (λ f. f p) body ∙ old_there v there lt
     kept_there v there (fills_by.more y bytes a is body stored reach) lt = ap (λ f. f p) body ∙ elim (inside-cases (front a) (length bytes) p) [
       | inl in_it ↦ absurd (not_over v y bytes a there is lt in_it.1 in_it.2)
       | inr off ↦ rw off.0 (old_there v there lt)
     ]
 
-    by_still : (v : Representation) → t.representation r ≡ Some v → IsKept t e r v u → fills_by.Brings t e x w z → u.body p ≡ Some (brought x z p)
+    by_still : (v : Representation) → t.representation r ≡ Some v → IsKept t e r v u → fills_by.Brings t e x w z → u.body p ≡ Some (cell_from x z p)
     by_still v there kept (fills_by.still none body_is) =
         let same_base : base z ≡ base w = first in
         let count : length z.body ≡ length w.body = ap (λ (b : List ℕ). length b) body_is in
@@ -173,28 +173,28 @@ module _ (limits : Limits) (t : Tables) (now : ℕ) (flaw : Flaw) (s : Sound t) 
         byte_is : slice_index z.body (p - base z) ≡ slice_index (w.body ++ bytes) (p - base w)
         byte_is = ap (λ (b : List ℕ). slice_index b (p - base z)) body_is ∙ ap (λ n. slice_index (w.body ++ bytes) (p - n)) first
 
-        old_one : (p < front w) ⊎ (front w + length bytes ≤ p) → u.body p ≡ Some (brought x z p)
+        old_one : (p < front w) ⊎ (front w + length bytes ≤ p) → u.body p ≡ Some (cell_from x z p)
         old_one (inl lt) = kept_there v there (fills t e r v u kept) lt ∙ cell_is x _ _ (sym (old_bytes w bytes p (let same_base : base z ≡ base w = first in omega arith) lt) ∙ sym byte_is)
         old_one (inr past) =
             let same_base : base z ≡ base w = first in
             let count : length z.body ≡ length w.body + length bytes = ap (λ (b : List ℕ). length b) body_is ∙ length-append w.body bytes in
             absurd (omega arith)
 
-        by_fills : inside (front w) (length bytes) p ≡ true → front w ≤ p → Fills t e r v u → u.body p ≡ Some (brought x z p)
+        by_fills : inside (front w) (length bytes) p ≡ true → front w ≤ p → Fills t e r v u → u.body p ≡ Some (cell_from x z p)
         by_fills in_it from (fills_by.still none body stored reach) = absurd (none x bytes w (record { at = here; row = row; of_r = refl }))
         by_fills in_it from (fills_by.more y other a is body stored reach) =
             let both = piece_inj y x other bytes (sym is.at ∙ here) in
             let one : a ≡ w = same_row (t.exchange x) a w (sym (ap t.exchange both.0) ∙ is.row) row in
-            let at : written (front w) x bytes v.body p ≡ Some (record { byte = slice_index bytes (p - front w); x = x }) = rw in_it refl in
-            let body_at : u.body p ≡ written (front w) x bytes v.body p = ap (λ f. f p) body ∙ (ap (λ n. written (front a) n other v.body p) both.0 ∙ (ap (λ b. written (front a) x b v.body p) both.1 ∙ ap (λ (q : Exchange). written (front q) x bytes v.body p) one)) in
+            let at : cells_with (front w) x bytes v.body p ≡ Some (record { byte = slice_index bytes (p - front w); x = x }) = rw in_it refl in
+            let body_at : u.body p ≡ cells_with (front w) x bytes v.body p = ap (λ f. f p) body ∙ (ap (λ n. cells_with (front a) n other v.body p) both.0 ∙ (ap (λ b. cells_with (front a) x b v.body p) both.1 ∙ ap (λ (q : Exchange). cells_with (front q) x bytes v.body p) one)) in
             body_at ∙ (at ∙ cell_is x _ _ (sym (more_bytes w bytes p (let same_base : base z ≡ base w = first in omega arith) from) ∙ sym byte_is))
 
     -- what it is of was there
-    by_rep : RepFrom t e r u → u.body p ≡ Some (brought x z p)
+    by_rep : RepFrom t e r u → u.body p ≡ Some (cell_from x z p)
     by_rep (rep.was v kept) = by_still v kept.row kept (brings t e x w z row after_x)
     by_rep (rep.founded response q none here q_row on made) = by_joined w.joined refl
       where
-        by_joined : (j : Option ℕ) → w.joined ≡ j → u.body p ≡ Some (brought x z p)
+        by_joined : (j : Option ℕ) → w.joined ≡ j → u.body p ≡ Some (cell_from x z p)
         by_joined (Some n) joined =
             let of_n : r ≡ n = ap (λ (a : Option ℕ). unwrap_or a x) joined in
             absurd (false_true (sym (ap (λ (a : Option Representation). is_some a) none) ∙ (ap (λ a. is_some (t.representation a)) of_n ∙ s.numbered.names.joined x n w row joined)))
@@ -203,7 +203,7 @@ module _ (limits : Limits) (t : Tables) (now : ℕ) (flaw : Flaw) (s : Sound t) 
             let bare = (is_new limits t now flaw s ev goes x response w (here ∙ ap (λ n. event.Head n response) own) row).bare in
             absurd (false_true (sym (ap (λ (a : Option Response). is_some a) bare) ∙ headed))
 
-  stands_by : (x p : ℕ) (z : Exchange) (u : Representation) → now_on.exchange x ≡ Some z → is_some z.head ≡ true → now_on.representation (family x z) ≡ Some u → base z ≤ p → p < front z → ExchangeFrom t e x z → u.body p ≡ Some (brought x z p)
+  stands_by : (x p : ℕ) (z : Exchange) (u : Representation) → now_on.exchange x ≡ Some z → is_some z.head ≡ true → now_on.representation (family x z) ≡ Some u → base z ≤ p → p < front z → ExchangeFrom t e x z → u.body p ≡ Some (cell_from x z p)
   stands_by x p z u after_x headed after low under (exchange.new q none opens number made) =
       let empty : length z.body ≡ 0 = ap (λ (a : Exchange). length a.body) (sym made) in
       absurd (omega arith)

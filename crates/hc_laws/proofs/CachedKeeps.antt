@@ -35,7 +35,7 @@ use Rattle.hc_model.proofs.Forward as forward
 use Rattle.hc_model.proofs.FoundBy.{founding_by, founds_way}
 use Rattle.hc_model.proofs.OpenedAs as opened
 use Rattle.hc_model.proofs.OwnersKeep.{is_opened}
-use Rattle.hc_model.proofs.Pens.{same_row}
+use Rattle.hc_model.proofs.ExclusiveWriters.{same_row}
 use Rattle.hc_model.proofs.PieceKeeps.{eq_cases, some_inj}
 use Rattle.hc_model.proofs.TurnPlaces.{ComesFrom, IsPlain, is_after}
 use Rattle.hc_model.proofs.TurnPlaces as turn

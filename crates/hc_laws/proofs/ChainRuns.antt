@@ -11,7 +11,7 @@ use Rattle.hc_model.specs.Moves as moves
 use Rattle.hc_model.specs.Moves.{Move}
 use Rattle.hc_model.specs.Places.{Places}
 use Rattle.hc_model.specs.Planning.{plan_view}
-use Rattle.hc_model.specs.Polls.{move_of, polled}
+use Rattle.hc_model.specs.Polls.{move_of, poll_move}
 use Rattle.hc_model.specs.Rows.{Tables, Consumer}
 use Rattle.hc_model.specs.Sound.{Sound, IsBound}
 use Rattle.hc_model.specs.Sound as sound
@@ -48,7 +48,7 @@ module _ (t : Tables) (s : Sound t) (places : Places t) (endings : Endings t) (u
     polls_by : (ends : Move → Type 0) (d : ℕ) (u : Consumer) → t.consumer d ≡ Some u → is_live_place u.place ≡ true → ((want : ℕ) → 0 < want → ends (move_of t now want d u)) → PollsEnd ends t now d
     polls_by ends d u row live polls = record {
       live = ap is_live row ∙ live;
-      polls = λ want many. subst (λ (o : Option Consumer). ends (polled t now want d o)) (sym row) (polls want many);
+      polls = λ want many. subst (λ (o : Option Consumer). ends (poll_move t now want d o)) (sym row) (polls want many);
     }
 
     -- WHO READS
@@ -97,7 +97,7 @@ module _ (t : Tables) (s : Sound t) (places : Places t) (endings : Endings t) (u
           turn_polls
           (λ d is. busy_polls (ChainEnds 1 t now) (reader_ends (λ b. PollsEnd (ChainEnds 0 t now) t now b)) c want d k row is)
 
-    any_ends : (c want : ℕ) (o : Option Consumer) → t.consumer c ≡ o → is_live o ≡ true → 0 < want → ChainEnds 2 t now (polled t now want c o)
+    any_ends : (c want : ℕ) (o : Option Consumer) → t.consumer c ≡ o → is_live o ≡ true → 0 < want → ChainEnds 2 t now (poll_move t now want c o)
     any_ends c want None row live many = absurd (false_true live)
     any_ends c want (Some k) row live many = ends c want k row live many
 

@@ -1,7 +1,7 @@
 -- The exclusive writer has all up to where its exchange goes on.
 use Rattle.std.proofs.Common.{◌≡◌, ◌⊎◌, inl, inr, ℕ, ◌+◌, ◌<◌, ◌≤◌, List, length, true, Option, Some, None, refl, ap, sym, ◌∙◌, subst, arith, length-append}
 use Rattle.std.specs.Prelude.{is_some}
-use Rattle.hc_sparse.specs.Cells.{Cells, Cell, Covers, written}
+use Rattle.hc_sparse.specs.Cells.{Cells, Cell, Covers, cells_with}
 use Rattle.hc_sparse.proofs.CellLemmas.{inside-yes}
 use Rattle.hc_event.specs.Filters.{Opening, opening_in, given_in}
 use Rattle.hc_event.specs.declared.act.Need.{Need}
@@ -24,7 +24,7 @@ use Rattle.hc_model.specs.Owners.{Owners}
 use Rattle.hc_model.specs.Reading.{bound, offset, lo_of, reads}
 use Rattle.hc_model.specs.RepresentationRows.{hole_start}
 use Rattle.hc_model.specs.Rows.{Tables, Exchange, Representation, Consumer}
-use Rattle.hc_model.specs.Sound.{Sound, IsBound, IsAbout, HasPen}
+use Rattle.hc_model.specs.Sound.{Sound, IsBound, IsAbout, IsExclusiveWriter}
 use Rattle.hc_model.specs.Sound as sound
 use Rattle.hc_model.specs.Tables.{after_accepted}
 use Rattle.hc_laws.proofs.AboutKeeps.{own_open_is}
@@ -41,7 +41,7 @@ use Rattle.hc_laws.proofs.HeadTo.{front_within}
 use Rattle.hc_laws.proofs.LossBy.{IsReal}
 use Rattle.hc_model.proofs.MeasuresKeep.{IsHeld, held, piece_taken}
 use Rattle.hc_model.proofs.OpensFrom.{IsHole, opens_hole}
-use Rattle.hc_model.proofs.Pens.{same_row, bound_some}
+use Rattle.hc_model.proofs.ExclusiveWriters.{same_row, bound_some}
 use Rattle.hc_model.proofs.PieceKeeps.{some_inj}
 use Rattle.hc_model.proofs.PollTree.{OpensHole}
 use Rattle.hc_model.proofs.PollTree as tree
@@ -100,24 +100,24 @@ module _ (limits : Limits) (t : Tables) (now : ℕ) (flaw : Flaw) (s : Sound t) 
           by_about (sound.headed q q_row q_open q_head fam q_there) = ap (family x) (same_row (t.exchange x) w q exchange_row q_row) ∙ fam
           by_about (sound.asks q a b q_row q_open bare needs aim) = absurd (false_true (sym (ap (λ (z : Option Response). is_some z) bare) ∙ (ap (λ (z : Exchange). is_some z.head) (same_row (t.exchange x) q w q_row exchange_row) ∙ headed)))
 
-      pub piece_body : (bytes : List ℕ) → ev ≡ event.Piece x bytes → p.body ≡ written (front w) x bytes v.body
+      pub piece_body : (bytes : List ℕ) → ev ≡ event.Piece x bytes → p.body ≡ cells_with (front w) x bytes v.body
       piece_body bytes here = by_fills (fills t e r v p kept)
         where
           taken : Rattle.hc_model.proofs.Once.IsTaken w (length bytes)
           taken = piece_taken limits t now flaw s o m ev goes x bytes w here exchange_row
 
-          by_fills : Fills t e r v p → p.body ≡ written (front w) x bytes v.body
+          by_fills : Fills t e r v p → p.body ≡ cells_with (front w) x bytes v.body
           by_fills (fills_by.still none_of body_is stored_is reach_is) = absurd (none_of x bytes w (record { at = here; row = exchange_row; of_r = of_r taken.is_open taken.headed }))
           by_fills (fills_by.more y more a is body_is stored_is reach_is) =
               let same = piece_inj x y bytes more (sym here ∙ is.at) in
               let one : a ≡ w = same_row (t.exchange x) a w (ap t.exchange same.0 ∙ is.row) exchange_row in
-              body_is ∙ (ap (λ (q : Exchange). written (front q) y more v.body) one ∙ (ap (λ n. written (front w) n more v.body) (sym same.0) ∙ ap (λ d. written (front w) x d v.body) (sym same.1)))
+              body_is ∙ (ap (λ (q : Exchange). cells_with (front q) y more v.body) one ∙ (ap (λ n. cells_with (front w) n more v.body) (sym same.0) ∙ ap (λ d. cells_with (front w) x d v.body) (sym same.1)))
 
     -- ITS OWN EXCHANGE STAYS
 
-    module _ (x : ℕ) (w z : Exchange) (v p : Representation) (there : t.representation r ≡ Some v) (kept : IsKept t e r v p) (after : now_on.representation r ≡ Some p) (none : u.due ≡ None) (own : k.own ≡ Some x) (exchange_row : t.exchange x ≡ Some w) (same : IsSame t e x w z) (after_x : now_on.exchange x ≡ Some z) (pen : HasPen t r v c) where
+    module _ (x : ℕ) (w z : Exchange) (v p : Representation) (there : t.representation r ≡ Some v) (kept : IsKept t e r v p) (after : now_on.representation r ≡ Some p) (none : u.due ≡ None) (own : k.own ≡ Some x) (exchange_row : t.exchange x ≡ Some w) (same : IsSame t e x w z) (after_x : now_on.exchange x ≡ Some z) (exclusive_writer : IsExclusiveWriter t r v c) where
       was : Covers v.body (offset t k) (goes_on_at w w.head)
-      was = i.covered r c x v k w there pen reader (none_before none) own exchange_row
+      was = i.covered r c x v k w there exclusive_writer reader (none_before none) own exchange_row
 
       further : (a : ℕ) → a ≤ goes_on_at w w.head → Covers p.body (offset now_on u) a
       further a le d from_u lt = grown r v p (offset t k) (goes_on_at w w.head) there after was d (let more : offset t k ≤ offset now_on u = offset_more in let begins : offset now_on u ≤ d = from_u in omega arith) (omega arith)

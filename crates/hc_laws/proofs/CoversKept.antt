@@ -26,7 +26,7 @@ use Rattle.hc_model.specs.Owners.{Owners}
 use Rattle.hc_model.specs.Reading.{bound_to, offset, lo_of, reads}
 use Rattle.hc_model.specs.RepresentationRows.{hole_start}
 use Rattle.hc_model.specs.Rows.{Tables, Exchange, Representation, Consumer}
-use Rattle.hc_model.specs.Sound.{Sound, IsBound, IsFirst, HasPen}
+use Rattle.hc_model.specs.Sound.{Sound, IsBound, IsFirst, IsExclusiveWriter}
 use Rattle.hc_model.specs.Sound as sound
 use Rattle.hc_model.specs.Tables.{after_accepted}
 use Rattle.hc_model.specs.Writers.{brings_body, came_alone, loses_writing, survivor}
@@ -44,9 +44,9 @@ use Rattle.hc_laws.proofs.LossBy.{IsReal}
 use Rattle.hc_model.proofs.OwnFrom.{OwnFrom, IsLeft, own_from, after_by}
 use Rattle.hc_model.proofs.OwnFrom as own
 use Rattle.hc_model.proofs.OwnersKeep.{is_opened, new_number}
-use Rattle.hc_laws.proofs.PenFrom.{PenFrom, alone_from, pen_from, had_pen}
-use Rattle.hc_laws.proofs.PenFrom as pens
-use Rattle.hc_model.proofs.Pens.{same_row}
+use Rattle.hc_laws.proofs.ExclusiveWriterFrom.{ExclusiveWriterFrom, alone_from, exclusive_writer_from, had_exclusive_writer}
+use Rattle.hc_laws.proofs.ExclusiveWriterFrom as exclusive_writers
+use Rattle.hc_model.proofs.ExclusiveWriters.{same_row}
 use Rattle.hc_model.proofs.PieceKeeps.{eq_cases, some_inj}
 use Rattle.hc_model.proofs.PollKeeps.{current_stays}
 use Rattle.hc_model.proofs.RepFrom.{RepFrom, rep_from, IsKept}
@@ -70,16 +70,16 @@ module _ (limits : Limits) (t : Tables) (now : ℕ) (flaw : Flaw) (s : Sound t) 
 
   -- who isn't bound to what is there and isn't gone doesn't go on with it
   pub not_alone : (r c : ℕ) (v p : Representation) (k : Consumer) → t.consumer c ≡ Some k → bound_to k.place ≡ None → t.representation r ≡ Some v → v.is_gone ≡ false → brings_body ev ≡ false → IsKept t e r v p → p.is_lost ≡ true → p.alone ≡ Some c → ⊥
-  not_alone r c v p k row free there not_gone quiet_event kept lost is = by_pen (alone_from limits t now flaw s o m ev goes real r c v p there kept lost is)
+  not_alone r c v p k row free there not_gone quiet_event kept lost is = by_exclusive_writer (alone_from limits t now flaw s o m ev goes real r c v p there kept lost is)
     where
       bound_not : (q : Consumer) → IsBound t r c q → ⊥
       bound_not q (sound.is_bound lo hi how q_row at) = none_some r (sym free ∙ ap bound_to (ap (λ (z : Consumer). z.place) (same_row (t.consumer c) k q row q_row) ∙ at))
 
-      by_pen : PenFrom limits t now flaw s o m ev goes real r c v → ⊥
-      by_pen (pens.first fresh quiet is) = false_true (sym (kept.lost_is ∙ rw (quiet, fresh) refl) ∙ lost)
-      by_pen (pens.alone was quiet is) = false_true (sym not_gone ∙ (s.rows r v there).store.lost_is_gone was)
-      by_pen (pens.wrote fresh loses x) = bound_not x.k x.reader
-      by_pen (pens.survives losing is) = false_true (sym quiet_event ∙ brings_writing r v losing)
+      by_exclusive_writer : ExclusiveWriterFrom limits t now flaw s o m ev goes real r c v → ⊥
+      by_exclusive_writer (exclusive_writers.first fresh quiet is) = false_true (sym (kept.lost_is ∙ rw (quiet, fresh) refl) ∙ lost)
+      by_exclusive_writer (exclusive_writers.alone was quiet is) = false_true (sym not_gone ∙ (s.rows r v there).store.lost_is_gone was)
+      by_exclusive_writer (exclusive_writers.wrote fresh loses x) = bound_not x.k x.reader
+      by_exclusive_writer (exclusive_writers.survives losing is) = false_true (sym quiet_event ∙ brings_writing r v losing)
 
   -- what is opened for it is its own
   pub own_opened : (c x : ℕ) (k u : Consumer) (q : Opening) → due_after t e c k (consumer_acted t e c (consumer_heard t e c ev k)) ≡ u → opening_in e.acts ≡ Some q → q.c ≡ c → u.own ≡ Some x → q.x ≡ x
@@ -101,7 +101,7 @@ module _ (limits : Limits) (t : Tables) (now : ℕ) (flaw : Flaw) (s : Sound t) 
   pub opened_row : (x : ℕ) (q : Opening) (z : Exchange) → opening_in e.acts ≡ Some q → q.x ≡ x → now_on.exchange x ≡ Some z → exchange_opened t e q ≡ z
   opened_row x q z opens this after_x = same_row (now_on.exchange x) (exchange_opened t e q) z (forward.opened_on t e x q (t.exchange x) (new_number limits t now flaw s o ev goes q x opens this) opens this) after_x
 
-  module _ (r c x lo : ℕ) (hi : Option ℕ) (how : BoundBy) (u : Consumer) (p : Representation) (z : Exchange) (after : now_on.representation r ≡ Some p) (after_row : now_on.consumer c ≡ Some u) (stands : u.place ≡ place.Bound r lo hi how) (none : u.due ≡ None) (owned : u.own ≡ Some x) (after_x : now_on.exchange x ≡ Some z) (pen : HasPen now_on r p c) where
+  module _ (r c x lo : ℕ) (hi : Option ℕ) (how : BoundBy) (u : Consumer) (p : Representation) (z : Exchange) (after : now_on.representation r ≡ Some p) (after_row : now_on.consumer c ≡ Some u) (stands : u.place ≡ place.Bound r lo hi how) (none : u.due ≡ None) (owned : u.own ≡ Some x) (after_x : now_on.exchange x ≡ Some z) (exclusive_writer : IsExclusiveWriter now_on r p c) where
     abbrev IsCovered : Type 0
     IsCovered = Covers p.body (offset now_on u) (goes_on_at z z.head)
 
@@ -128,7 +128,7 @@ module _ (limits : Limits) (t : Tables) (now : ℕ) (flaw : Flaw) (s : Sound t) 
       one_k q q_row = same_row (t.consumer c) q k q_row row.row
 
       kept_own : k.own ≡ Some x → IsCovered
-      kept_own mine = elim (had_pen limits t now flaw s o m ev goes real r c v (pen_from limits t now flaw s o m ev goes real r c lo hi how k u v p row.row at there kept after_row stands pen)) [
+      kept_own mine = elim (had_exclusive_writer limits t now flaw s o m ev goes real r c v (exclusive_writer_from limits t now flaw s o m ev goes real r c lo hi how k u v p row.row at there kept after_row stands exclusive_writer)) [
         | inr both ↦ survived v there both.0 both.1
         | inl was ↦
             let w = some_row (t.exchange x) (o.there c x k row.row mine) in
@@ -212,7 +212,7 @@ module _ (limits : Limits) (t : Tables) (now : ℕ) (flaw : Flaw) (s : Sound t) 
     -- IT IS SHOWN WHAT IS CURRENT
 
     shown : (k : Consumer) (a : Showing) → IsRow t e c r lo hi how k u → showing_in e.acts ≡ Some a → IsShown t e c r lo hi how a (by_opening t c (opening_in e.acts) (waiting t e c (consumer_heard t e c ev k))).place → RepFrom t e r p → IsCovered
-    shown k a row is all from_rep = by_pen pen
+    shown k a row is all from_rep = by_exclusive_writer exclusive_writer
       where
         planned : IsPlanned t now a.c k a
         planned = planned_at limits t now flaw s ev goes a k (ap t.consumer all.at ∙ row.row) is (subst (λ d. reads (by_opening t d (opening_in e.acts) (waiting t e d (consumer_heard t e d ev k))).place ≡ false) (sym all.at) all.free)
@@ -228,9 +228,9 @@ module _ (limits : Limits) (t : Tables) (now : ℕ) (flaw : Flaw) (s : Sound t) 
         by_rep lost is (rep.founded response w none_there here exchange_row on made) = false_true (ap (λ (q : Representation). q.is_lost) made ∙ lost)
         by_rep lost is (rep.was v kept) = not_alone r c v p k row.row planned.free kept.row (current_v planned.shown_as v kept.row) (ap brings_body shows.poll.at) kept lost is
 
-        by_pen : HasPen now_on r p c → IsCovered
-        by_pen (sound.alone lost is) = absurd (by_rep lost is from_rep)
-        by_pen (sound.first fresh (sound.first q b d g q_row q_at came)) =
+        by_exclusive_writer : IsExclusiveWriter now_on r p c → IsCovered
+        by_exclusive_writer (sound.alone lost is) = absurd (by_rep lost is from_rep)
+        by_exclusive_writer (sound.first fresh (sound.first q b d g q_row q_at came)) =
             let one : q ≡ u = same_row (now_on.consumer c) q u q_row after_row in
             let plan : g ≡ by.Plan = (place_inj r b d g r lo hi how (sym q_at ∙ (ap (λ (w : Consumer). w.place) one ∙ stands))).by_is ∙ all.by_is in
             absurd (false_true (subst (λ w. came_alone now_on (place.Bound r b d w) ≡ true) plan came))
@@ -242,6 +242,6 @@ module _ (limits : Limits) (t : Tables) (now : ℕ) (flaw : Flaw) (s : Sound t) 
     by_way (from.opens k q row opens mine free way hole) from_rep own_of = opens_first k q row opens mine free way hole
     by_way (from.shows k a row is all) from_rep own_of = shown k a row is all from_rep
 
-  pub covered_kept : (r c x : ℕ) (p : Representation) (u : Consumer) (z : Exchange) → now_on.representation r ≡ Some p → HasPen now_on r p c → IsBound now_on r c u → u.due ≡ None → u.own ≡ Some x → now_on.exchange x ≡ Some z → Covers p.body (offset now_on u) (goes_on_at z z.head)
-  covered_kept r c x p u z after pen (sound.is_bound lo hi how after_row stands) none owned after_x =
-      by_way r c x lo hi how u p z after after_row stands none owned after_x pen (bound_from t e c r lo hi how (t.consumer c) u refl after_row stands) (rep_from t e r (t.representation r) p refl after) (own_from t e c x (t.consumer c) u refl after_row owned)
+  pub covered_kept : (r c x : ℕ) (p : Representation) (u : Consumer) (z : Exchange) → now_on.representation r ≡ Some p → IsExclusiveWriter now_on r p c → IsBound now_on r c u → u.due ≡ None → u.own ≡ Some x → now_on.exchange x ≡ Some z → Covers p.body (offset now_on u) (goes_on_at z z.head)
+  covered_kept r c x p u z after exclusive_writer (sound.is_bound lo hi how after_row stands) none owned after_x =
+      by_way r c x lo hi how u p z after after_row stands none owned after_x exclusive_writer (bound_from t e c r lo hi how (t.consumer c) u refl after_row stands) (rep_from t e r (t.representation r) p refl after) (own_from t e c x (t.consumer c) u refl after_row owned)

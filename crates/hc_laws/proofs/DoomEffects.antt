@@ -14,7 +14,7 @@ use Rattle.hc_model.specs.ConsumerRows.{consumer_after, back_in_line}
 use Rattle.hc_model.specs.Currents.{current, is_current, is_number}
 use Rattle.hc_model.specs.Denials.{denial}
 use Rattle.hc_model.specs.Dooms.{doomed}
-use Rattle.hc_model.specs.Effects.{Does, counted, let_some_go, let_all_go, gone, over, all_closed, sent_back, woken, is_awaited, awaited_and}
+use Rattle.hc_model.specs.Effects.{Does, with_event, let_some_go, let_all_go, as_gone, over, all_closed, sent_back, woken, is_awaited, awaited_and}
 use Rattle.hc_model.specs.Entries.{Entry}
 use Rattle.hc_model.specs.Exchanges.{family}
 use Rattle.hc_model.specs.Flaws.{NoFlaw}
@@ -23,7 +23,7 @@ use Rattle.hc_model.specs.Gone.{becomes_gone, ends_early, ends_founding}
 use Rattle.hc_model.specs.Lawful.{Lawful}
 use Rattle.hc_model.specs.RepresentationRows.{representation_after}
 use Rattle.hc_model.specs.Rows.{Tables, Exchange, Representation, Consumer}
-use Rattle.hc_model.specs.Tables.{after_accepted, added}
+use Rattle.hc_model.specs.Tables.{after_accepted, with_item_first}
 use Rattle.hc_model.proofs.Basics.{none_some, false_true, and_left, and_right, not_so, number_is}
 use Rattle.hc_laws.proofs.ConsumerEffects.{some_all}
 use Rattle.hc_model.proofs.DoomFrames.{sent_as, awaited_apart}
@@ -93,7 +93,7 @@ module _ (limits : Limits) (t : Tables) (law : Lawful t) (now : ℕ) (key : Key)
   ]
 
   abbrev rs : List ℕ
-  rs = added (current t key) []
+  rs = with_item_first (current t key) []
 
   goes : (r : ℕ) (v : Representation) → t.representation r ≡ Some v → becomes_gone t it r v ≡ is_in rs r
   unfolding doomed
@@ -112,10 +112,10 @@ module _ (limits : Limits) (t : Tables) (law : Lawful t) (now : ℕ) (key : Key)
       ends_none : ends_early t it r v ≡ false
       ends_none = then_false (v.head.status == 200) _ (by_row (t.exchange r))
 
-  rows : (r : ℕ) → representation_after t it r (t.representation r) ≡ (if is_in rs r then option_map gone (t.representation r) else t.representation r)
+  rows : (r : ℕ) → representation_after t it r (t.representation r) ≡ (if is_in rs r then option_map as_gone (t.representation r) else t.representation r)
   rows r = by_row (t.representation r) refl
     where
-      by_row : (z : Option Representation) → t.representation r ≡ z → representation_after t it r z ≡ (if is_in rs r then option_map gone z else z)
+      by_row : (z : Option Representation) → t.representation r ≡ z → representation_after t it r z ≡ (if is_in rs r then option_map as_gone z else z)
       by_row None there = representation_none t now ev (dooms key) NoFlaw xs r (is_in rs r)
       by_row (Some v) there = representation_by t now ev (dooms key) NoFlaw xs r v v (is_in rs r) refl refl (goes r v there)
 
@@ -142,13 +142,13 @@ module _ (limits : Limits) (t : Tables) (law : Lawful t) (now : ℕ) (key : Key)
   unfolding refusals.refusal_of
   never_denied = refl
 
-  tables_are : after_accepted t it ≡ counted now ev (let_some_go now (current t key) (all_closed xs (woken now key t)))
+  tables_are : after_accepted t it ≡ with_event now ev (let_some_go now (current t key) (all_closed xs (woken now key t)))
   tables_are =
       told_by t now ev (dooms key) NoFlaw xs rs (λ y. if is_in xs y then option_map over (t.exchange y) else t.exchange y) t.representation (woken now key t).consumer
       (λ y. exchange_other t now ev (dooms key) NoFlaw xs y (λ x is. absurd (none_some x is)))
       rows consumers
-      ∙ (ap (λ (u : Tables). counted now ev (let_all_go now rs u)) (sym (all_closed_is xs (woken now key t)))
-      ∙ ap (counted now ev) (some_all now (current t key) (all_closed xs (woken now key t))))
+      ∙ (ap (λ (u : Tables). with_event now ev (let_all_go now rs u)) (sym (all_closed_is xs (woken now key t)))
+      ∙ ap (with_event now ev) (some_all now (current t key) (all_closed xs (woken now key t))))
 
-  pub doom_does : Does limits t now ev NoFlaw (map act.Close (awaited_and t key None)) (counted now ev (let_some_go now (current t key) (all_closed (awaited_and t key None) (woken now key t))))
+  pub doom_does : Does limits t now ev NoFlaw (map act.Close (awaited_and t key None)) (with_event now ev (let_some_go now (current t key) (all_closed (awaited_and t key None) (woken now key t))))
   doom_does = told_plainly t now ev (dooms key) NoFlaw xs limits law never_denied (let_some_go now (current t key) (all_closed xs (woken now key t))) closing_is tables_are refl

@@ -24,7 +24,7 @@ use Rattle.hc_model.specs.Measures.{Measures}
 use Rattle.hc_model.specs.Owners.{Owners}
 use Rattle.hc_model.specs.Reading.{is_written, offset, own_open, reads}
 use Rattle.hc_model.specs.Rows.{Tables, Exchange, Representation, Consumer}
-use Rattle.hc_model.specs.Sound.{Sound, IsBound, HasPen, IsHad}
+use Rattle.hc_model.specs.Sound.{Sound, IsBound, IsExclusiveWriter, IsHad}
 use Rattle.hc_model.specs.Sound as sound
 use Rattle.hc_model.specs.Tables.{after_accepted}
 use Rattle.hc_model.specs.Writers.{has_more}
@@ -47,9 +47,9 @@ use Rattle.hc_model.proofs.MeasuresKeep.{piece_taken}
 use Rattle.hc_model.proofs.OwnFrom.{OwnFrom, own_from}
 use Rattle.hc_model.proofs.OwnFrom as own
 use Rattle.hc_model.proofs.OwnNone.{IsShared, own_none}
-use Rattle.hc_laws.proofs.PenFrom.{PenFrom, alone_from}
-use Rattle.hc_laws.proofs.PenFrom as pens
-use Rattle.hc_model.proofs.Pens.{same_row, one_pen}
+use Rattle.hc_laws.proofs.ExclusiveWriterFrom.{ExclusiveWriterFrom, alone_from}
+use Rattle.hc_laws.proofs.ExclusiveWriterFrom as exclusive_writers
+use Rattle.hc_model.proofs.ExclusiveWriters.{same_row, one_exclusive_writer}
 use Rattle.hc_model.proofs.PieceKeeps.{some_inj}
 use Rattle.hc_model.proofs.RepFrom.{RepFrom, rep_from, IsKept}
 use Rattle.hc_model.proofs.RepFrom as rep
@@ -92,7 +92,7 @@ module _ (limits : Limits) (t : Tables) (now : ℕ) (flaw : Flaw) (s : Sound t) 
       reader = sound.is_bound lo hi how row.row at
 
       -- it is the exclusive writer, of what isn't written together
-      module _ (off : is_written t v ≡ false) (pen : HasPen t r v c) (was : IsAhead t v k) where
+      module _ (off : is_written t v ≡ false) (exclusive_writer : IsExclusiveWriter t r v c) (was : IsAhead t v k) where
         -- where something was due before, its own exchange was closed
         closed : (d : Cause) → k.due ≡ Some d → (x : ℕ) → own_open t k ≡ Some x → ⊥
         closed d was_due x opened = by_had (s.writes.had r x v there (s.writes.own_about r c x k reader opened))
@@ -104,7 +104,7 @@ module _ (limits : Limits) (t : Tables) (now : ℕ) (flaw : Flaw) (s : Sound t) 
 
             by_had : IsHad t r v x → ⊥
             by_had (sound.shared on writer) = false_true (sym off ∙ on)
-            by_had (sound.own b q theirs own_opened none_due their_pen) = by_row b q theirs (one_pen t r v b c s their_pen pen) none_due
+            by_had (sound.own b q theirs own_opened none_due their_exclusive_writer) = by_row b q theirs (one_exclusive_writer t r v b c s their_exclusive_writer exclusive_writer) none_due
 
         -- else it becomes due now
         due_now : k.due ≡ None → becomes_due t e c k ≡ None → ⊥
@@ -215,16 +215,16 @@ module _ (limits : Limits) (t : Tables) (now : ℕ) (flaw : Flaw) (s : Sound t) 
               let w = some_row (t.exchange x) (o.there c x k row.row mine) in
               record { x = x; w = w.0; own = mine; row = w.1; covered = by_head x w.0 mine w.1 w.0.head refl }
 
-      by_pen : AreAhead t → PenFrom limits t now flaw s o m ev goes real r c v → IsAhead now_on p u
-      by_pen was (pens.first fresh quiet is) = absurd (false_true (sym (kept.lost_is ∙ rw (quiet, fresh) refl) ∙ lost_now))
-      by_pen was (pens.alone lost quiet is) = step (unwritten_lost limits t now flaw s o m i ev goes real r c lo hi how u p after after_row stands lost_now is_alone k v row at there kept lost) (sound.alone lost is) (was.ahead r c v k there is reader)
-      by_pen was (pens.wrote fresh loses writes) = step writes.unwritten (sound.first fresh writes.first) (wrote_ahead fresh writes)
-      by_pen was (pens.survives losing is) =
+      by_exclusive_writer : AreAhead t → ExclusiveWriterFrom limits t now flaw s o m ev goes real r c v → IsAhead now_on p u
+      by_exclusive_writer was (exclusive_writers.first fresh quiet is) = absurd (false_true (sym (kept.lost_is ∙ rw (quiet, fresh) refl) ∙ lost_now))
+      by_exclusive_writer was (exclusive_writers.alone lost quiet is) = step (unwritten_lost limits t now flaw s o m i ev goes real r c lo hi how u p after after_row stands lost_now is_alone k v row at there kept lost) (sound.alone lost is) (was.ahead r c v k there is reader)
+      by_exclusive_writer was (exclusive_writers.wrote fresh loses writes) = step writes.unwritten (sound.first fresh writes.first) (wrote_ahead fresh writes)
+      by_exclusive_writer was (exclusive_writers.survives losing is) =
           let g = goes_on limits t now flaw s o m ev goes real r c v p u there losing is after after_row in
           record { x = g.is.x; w = g.is.w; own = g.is.own; row = g.is.row; covered = inr g.is.covered }
 
     due_ahead : AreAhead t → BoundFrom t e c r lo hi how u → RepFrom t e r p → IsAhead now_on p u
-    due_ahead was (from.stays k row at) (rep.was v kept) = by_pen k v row at kept.row kept was (alone_from limits t now flaw s o m ev goes real r c v p kept.row kept lost_now is_alone)
+    due_ahead was (from.stays k row at) (rep.was v kept) = by_exclusive_writer k v row at kept.row kept was (alone_from limits t now flaw s o m ev goes real r c v p kept.row kept lost_now is_alone)
     due_ahead was (from.stays k row at) (rep.founded response w none_there here w_row on is_made) = absurd (false_true (ap (λ (b : Representation). b.is_lost) is_made ∙ lost_now))
     due_ahead was (from.founds k y response w row here w_row mine of_it by_is all) from_rep = absurd (founds_not limits t now flaw s o m i ev goes real r c lo hi how u p after after_row stands lost_now is_alone y response w here w_row of_it from_rep)
     due_ahead was (from.opens k q row opens mine free way hole) from_rep = absurd (opens_not limits t now flaw s o m i ev goes real r c lo hi how u p after after_row stands lost_now is_alone k q row opens mine free hole from_rep)

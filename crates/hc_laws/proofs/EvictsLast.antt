@@ -19,12 +19,12 @@ use Rattle.hc_event.specs.declared.place.BoundBy.TheVariants as by
 use Rattle.hc_event.specs.declared.place.Place.{Place}
 use Rattle.hc_event.specs.declared.place.Place.TheVariants as place
 use Rattle.hc_model.specs.ActFilters.{has_loss, fails_in, without_losses}
-use Rattle.hc_model.specs.Answers.{accepted, said, lost, closed}
+use Rattle.hc_model.specs.Answers.{accepted_acts, answer_acts, loss_acts, close_acts}
 use Rattle.hc_model.specs.Cases.{case_at, case_of, head_view}
 use Rattle.hc_model.specs.ConsumerRows.{consumer_heard, consumer_acted, by_head, place_by_case, bound_to_wanted}
 use Rattle.hc_model.specs.Closings.{closing}
 use Rattle.hc_model.specs.Denials.{denial}
-use Rattle.hc_model.specs.Entries.{Entry, unanswered}
+use Rattle.hc_model.specs.Entries.{Entry, entry_without_acts}
 use Rattle.hc_model.specs.Evictions.{evict_all, unevicting, unevicting_entry, EvictsLast, EvictionsComeLast}
 use Rattle.hc_model.specs.Flaws.{Flaw, NoFlaw, Loses, Misreads, flaw_in}
 use Rattle.hc_model.specs.Heads.{founded_total}
@@ -47,7 +47,7 @@ use Rattle.hc_model.proofs.FoundBy.{CaseBy}
 use Rattle.hc_model.proofs.FoundBy as cases
 use Rattle.hc_model.proofs.GivingWay.{writes_nothing}
 use Rattle.hc_model.proofs.HoleLemmas.{bool_cases}
-use Rattle.hc_model.proofs.Pens.{same_row}
+use Rattle.hc_model.proofs.ExclusiveWriters.{same_row}
 use Rattle.hc_model.proofs.PieceKeeps.{eq_cases}
 use Rattle.hc_model.proofs.PieceServes.{IsQuietActs, quiet_acts}
 use Rattle.hc_laws.proofs.PollEffects.{none_waits}
@@ -121,15 +121,15 @@ placed_waits rs x response w k (Some case.FirstServerError) empty off = refl
 placed_waits rs x response w k (Some case.FirstPassesBy) empty off = refl
 placed_waits rs x response w k _ empty off = off
 
-not_lost : (t : Tables) (lost : Bool) (w : Exchange) (response : Response) → CaseBy (head_view t lost w response) case.Validated → lost ≡ false
-not_lost t lost w response (cases.validated way status conditional kept) = kept
+not_lost : (t : Tables) (loss_acts : Bool) (w : Exchange) (response : Response) → CaseBy (head_view t loss_acts w response) case.Validated → loss_acts ≡ false
+not_lost t loss_acts w response (cases.validated way status conditional kept) = kept
 
 module _ (limits : Limits) (t : Tables) (now : ℕ) (ev : Event) (flaw : Flaw) where
   abbrev rs : List ℕ
   rs = evicted limits t now ev
 
   abbrev b : List Act
-  b = lost flaw ++ closed t now ev flaw
+  b = loss_acts flaw ++ close_acts t now ev flaw
 
   abbrev a : List Act
   a = map act.Evicted rs ++ b
@@ -138,30 +138,30 @@ module _ (limits : Limits) (t : Tables) (now : ℕ) (ev : Event) (flaw : Flaw) w
   f = record { now = now; event = ev; acts = b }
 
   evicts_none : (r : ℕ) → evicts_in r b ≡ false
-  evicts_none r = evicts_lost r flaw (closed t now ev flaw) ∙ evicts_closes r (closing t (record { now = now; event = ev; acts = said t now ev flaw ++ lost flaw }))
+  evicts_none r = evicts_lost r flaw (close_acts t now ev flaw) ∙ evicts_closes r (closing t (record { now = now; event = ev; acts = answer_acts t now ev flaw ++ loss_acts flaw }))
 
   fails_none : (c : ℕ) → fails_in c b ≡ false
-  fails_none c = let far = far_loss c flaw (closed t now ev flaw) (far_closed c (closing t (record { now = now; event = ev; acts = said t now ev flaw ++ lost flaw }))) in far.fails
+  fails_none c = let far = far_loss c flaw (close_acts t now ev flaw) (far_closed c (closing t (record { now = now; event = ev; acts = answer_acts t now ev flaw ++ loss_acts flaw }))) in far.fails
 
   quiet : IsQuietActs b
-  quiet = quiet_acts [] (closing t (record { now = now; event = ev; acts = said t now ev flaw ++ lost flaw })) flaw
+  quiet = quiet_acts [] (closing t (record { now = now; event = ev; acts = answer_acts t now ev flaw ++ loss_acts flaw })) flaw
 
   acted_place : (c : ℕ) (h : Consumer) → (consumer_acted t f c h).place ≡ h.place
   acted_place c h = rw (quiet.waits c, quiet.opens, quiet.leaves c, quiet.showing) refl
 
-  none_evicted : write_in t (unanswered now ev) ev ≡ None → rs ≡ []
+  none_evicted : write_in t (entry_without_acts now ev) ev ≡ None → rs ≡ []
   none_evicted none = (writes_nothing limits t now ev none).1
 
   -- a 304 makes no room
   none_validated : (x : ℕ) (response : Response) (w : Exchange) → ev ≡ event.Head x response → t.exchange x ≡ Some w → case_at t f ≡ Some case.Validated → rs ≡ []
   none_validated x response w here row is =
       let kept : has_loss b ≡ false = not_lost t (has_loss b) w response (case_of_head t f x response w case.Validated here row is) in
-      let same : case_at t (unanswered now ev) ≡ Some case.Validated = ap (λ l. case_of t l ev) (sym kept) ∙ is in
-      none_evicted (ap (write_in t (unanswered now ev)) here ∙ rw same refl)
+      let same : case_at t (entry_without_acts now ev) ≡ Some case.Validated = ap (λ l. case_of t l ev) (sym kept) ∙ is in
+      none_evicted (ap (write_in t (entry_without_acts now ev)) here ∙ rw same refl)
 
   -- what is evicted has a row
   there : (r : ℕ) → is_in rs r ≡ true → is_some (t.representation r) ≡ true
-  there r h = there_first t (unanswered now ev) r (room_for limits t now ev) h
+  there r h = there_first t (entry_without_acts now ev) r (room_for limits t now ev) h
 
   module _ (s : Sound t) (o : Owners t) (goes : denial t ev ≡ None) where
     head_moves : (c x : ℕ) (response : Response) (k : Consumer) (z : Option Exchange) → ev ≡ event.Head x response → t.consumer c ≡ Some k → t.exchange x ≡ z → waits_for_any rs (by_head t f c x response z k).place ≡ waits_for_any rs k.place
@@ -183,11 +183,11 @@ module _ (limits : Limits) (t : Tables) (now : ℕ) (ev : Event) (flaw : Flaw) w
     heard_moves (event.Piece x bytes) here c k row = refl
     heard_moves (event.End x) here c k row = refl
     heard_moves (event.Fault x) here c k row =
-        let none : rs ≡ [] = none_evicted (ap (write_in t (unanswered now ev)) here) in
+        let none : rs ≡ [] = none_evicted (ap (write_in t (entry_without_acts now ev)) here) in
         let off : (p : Place) → waits_for_any rs p ≡ false = λ p. ap (λ ys. waits_for_any ys p) none ∙ none_waits p in
         off (consumer_heard t f c (event.Fault x) k).place ∙ sym (off k.place)
     heard_moves (event.Cancel d) here c k row =
-        let none : rs ≡ [] = none_evicted (ap (write_in t (unanswered now ev)) here) in
+        let none : rs ≡ [] = none_evicted (ap (write_in t (entry_without_acts now ev)) here) in
         let off : (p : Place) → waits_for_any rs p ≡ false = λ p. ap (λ ys. waits_for_any ys p) none ∙ none_waits p in
         off (consumer_heard t f c (event.Cancel d) k).place ∙ sym (off k.place)
     heard_moves (event.Doom key) here c k row = refl
@@ -215,7 +215,7 @@ module _ (limits : Limits) (t : Tables) (now : ℕ) (ev : Event) (flaw : Flaw) w
   flaw_last = flaw_same rs b
 
   -- an event of its consumer's own makes no room
-  asked_last : write_in t (unanswered now ev) ev ≡ None → accepted limits t now ev flaw ≡ unevicting t now ev flaw → EvictsLast limits t now ev flaw
+  asked_last : write_in t (entry_without_acts now ev) ev ≡ None → accepted_acts limits t now ev flaw ≡ unevicting t now ev flaw → EvictsLast limits t now ev flaw
   asked_last none same =
       let empty = none_evicted none in
       let entry : entry_of limits t now ev flaw ≡ unevicting_entry t now ev flaw = ap (λ (acts : List Act). record { now = now; event = ev; acts = acts }) same in

@@ -33,7 +33,7 @@ use Rattle.hc_laws.proofs.FirstDues.{beside, poll_undue, unlost}
 use Rattle.hc_model.proofs.FirstKeeps.{is_new, came_kept, open_free}
 use Rattle.hc_model.proofs.OwnersKeep.{is_opened}
 use Rattle.hc_model.proofs.PieceKeeps.{eq_cases}
-use Rattle.hc_model.proofs.Pens.{same_row, bound_some}
+use Rattle.hc_model.proofs.ExclusiveWriters.{same_row, bound_some}
 use Rattle.hc_model.proofs.Said.{showing_by}
 
 module _ (limits : Limits) (t : Tables) (now : ℕ) (flaw : Flaw) (s : Sound t) (o : Owners t) (ev : Event) (goes : denial t ev ≡ None) where

@@ -20,9 +20,9 @@ use Rattle.hc_model.specs.Failures.{becomes_due, cause_of_stop, cause_of_loss, c
 use Rattle.hc_model.specs.Flaws.{Flaw}
 use Rattle.hc_model.specs.Keys.{entry_of}
 use Rattle.hc_model.specs.Owners.{Owners}
-use Rattle.hc_model.specs.Reading.{is_written, own_open, source, shared, writing_in, reads}
+use Rattle.hc_model.specs.Reading.{is_written, own_open, source, shared_exchange, writing_in, reads}
 use Rattle.hc_model.specs.Rows.{Tables, Exchange, Representation, Consumer}
-use Rattle.hc_model.specs.Sound.{Sound, IsBound, IsFirst, HasPen, IsAbout}
+use Rattle.hc_model.specs.Sound.{Sound, IsBound, IsFirst, IsExclusiveWriter, IsAbout}
 use Rattle.hc_model.specs.Sound as sound
 use Rattle.hc_model.specs.StartingOver.{starts_over}
 use Rattle.hc_model.specs.Tables.{after_accepted}
@@ -31,7 +31,7 @@ use Rattle.hc_model.proofs.Basics.{false_true, and_left, and_right, or_false, no
 use Rattle.hc_model.proofs.Dues.{IsUndue, undue_parts, undue_of, stop_none, loss_at}
 use Rattle.hc_model.proofs.FirstKeeps.{is_new}
 use Rattle.hc_model.proofs.PieceKeeps.{eq_cases, some_inj}
-use Rattle.hc_model.proofs.Pens.{same_row, writer_some}
+use Rattle.hc_model.proofs.ExclusiveWriters.{same_row, writer_some}
 use Rattle.hc_model.proofs.RepFrom.{RepFrom, rep_from}
 use Rattle.hc_model.proofs.RepFrom as rep
 use Rattle.hc_model.proofs.Stops.{source_is}
@@ -125,12 +125,12 @@ module _ (limits : Limits) (t : Tables) (now : ℕ) (flaw : Flaw) (s : Sound t) 
     no_own : (x : ℕ) → own_open t u ≡ Some x → ⊥
     no_own x own = elim (s.writes.had r x v there (s.writes.own_about r d x u reader_d own)) [
       | sound.shared on writer ↦ o.apart r x d v u there on writer (row_of r d u reader_d) (own_of u x u.own refl own)
-      | sound.own g z reader theirs none pen ↦ by_pen g z reader theirs pen
+      | sound.own g z reader theirs none exclusive_writer ↦ by_exclusive_writer g z reader theirs exclusive_writer
     ]
       where
-        by_pen : (g : ℕ) (z : Consumer) → IsBound t r g z → own_open t z ≡ Some x → HasPen t r v g → ⊥
-        by_pen g z reader theirs (sound.alone lost is) = false_true (sym fresh ∙ lost)
-        by_pen g z reader theirs (sound.first kept_too is) =
+        by_exclusive_writer : (g : ℕ) (z : Consumer) → IsBound t r g z → own_open t z ≡ Some x → IsExclusiveWriter t r v g → ⊥
+        by_exclusive_writer g z reader theirs (sound.alone lost is) = false_true (sym fresh ∙ lost)
+        by_exclusive_writer g z reader theirs (sound.first kept_too is) =
             let same : g ≡ c = s.writes.one_first r g c is first in
             apart (o.one d g x u z (row_of r d u reader_d) (row_of r g z reader) (own_of u x u.own refl own) (own_of z x z.own refl theirs) ∙ same)
 
@@ -168,8 +168,8 @@ module _ (limits : Limits) (t : Tables) (now : ℕ) (flaw : Flaw) (s : Sound t) 
     source_same z None own on writer = absurd (writer_some t v on writer)
     source_same z (Some x) own on writer = source_is t r d x v u s there reader_d on writer ∙ sym (source_is t r c x v k s there reader_c on writer)
 
-    shared_off : IsBound t r d u → is_written t v ≡ false → shared t u.place ≡ None
-    shared_off (sound.is_bound lo hi how row at) off = ap (shared t) at ∙ (ap (writing_in t) there ∙ rw off refl)
+    shared_off : IsBound t r d u → is_written t v ≡ false → shared_exchange t u.place ≡ None
+    shared_off (sound.is_bound lo hi how row at) off = ap (shared_exchange t) at ∙ (ap (writing_in t) there ∙ rw off refl)
 
     stop_by : (z : Option ℕ) (b : Bool) → own_open t u ≡ z → is_written t v ≡ b → cause_of_stop t e u ≡ None
     stop_by (Some x) b own on = absurd (no_own x own)
@@ -177,7 +177,7 @@ module _ (limits : Limits) (t : Tables) (now : ℕ) (flaw : Flaw) (s : Sound t) 
         let same = source_same None v.writer own on refl in
         ap (λ (z : Option ℕ). if is_same_number z (exchange_in e.event) then stop_cause t e.event else None) same ∙ (undue_parts t e c k undue_c).stop
     stop_by None false own off =
-        let none : source t u ≡ None = ap (λ z. option_or z (shared t u.place)) own ∙ shared_off reader_d off in
+        let none : source t u ≡ None = ap (λ z. option_or z (shared_exchange t u.place)) own ∙ shared_off reader_d off in
         ap (λ (z : Option ℕ). if is_same_number z (exchange_in e.event) then stop_cause t e.event else None) none
 
     pub beside : (u.due ≡ None) × (becomes_due t e d u ≡ None)

@@ -26,12 +26,12 @@ use Rattle.hc_event.specs.declared.place.Place.TheVariants as place
 use Rattle.hc_event.specs.declared.place.BoundBy.{BoundBy}
 use Rattle.hc_event.specs.declared.place.BoundBy.TheVariants as by
 use Rattle.hc_model.specs.ActFilters.{loses_in, has_loss}
-use Rattle.hc_model.specs.Answers.{said, lost, closed}
+use Rattle.hc_model.specs.Answers.{answer_acts, loss_acts, close_acts}
 use Rattle.hc_model.specs.Cases.{case_at, case_of, head_view, is_founding}
 use Rattle.hc_model.specs.ConsumerRows.{consumer_heard, by_head, place_by_case, by_opening, waiting}
 use Rattle.hc_model.specs.Currents.{is_current}
 use Rattle.hc_model.specs.Denials.{denial}
-use Rattle.hc_model.specs.Entries.{Entry, unanswered}
+use Rattle.hc_model.specs.Entries.{Entry, entry_without_acts}
 use Rattle.hc_model.specs.ExchangeRows.{promise_in}
 use Rattle.hc_model.specs.Exchanges.{family, exchange_at, is_for}
 use Rattle.hc_model.specs.Flaws.{Flaw, NoFlaw, Loses, Misreads, flaw_in}
@@ -45,7 +45,7 @@ use Rattle.hc_model.specs.Rows.{Tables, Exchange, Representation, Consumer}
 use Rattle.hc_model.specs.Runs.{may_stand, may_be, may_misread, has_room}
 use Rattle.hc_model.specs.Sound.{Sound, Among, IsBound}
 use Rattle.hc_model.specs.Sound as sound
-use Rattle.hc_model.specs.Tables.{founds, added, after_accepted}
+use Rattle.hc_model.specs.Tables.{founds, with_item_first, after_accepted}
 use Rattle.hc_model.specs.Weights.{weight, weight_in, weights, idle, is_idle, is_replacing, moves_on, stays_bound, stays_current, room_by, room_for, write_in, write_of_piece, piece_write, first_idle, evicted}
 use Rattle.hc_model.proofs.Basics.{false_true, true_false, and_left, and_right, or_false, none_some, some_row, number_yes}
 use Rattle.hc_model.proofs.BoundFrom.{BoundFrom, IsRow, bound_from, place_inj}
@@ -58,7 +58,7 @@ use Rattle.hc_model.proofs.HoleLemmas.{bool_cases}
 use Rattle.hc_laws.proofs.LossBy.{IsReal, lost_is}
 use Rattle.hc_model.proofs.OwnersKeep.{is_opened}
 use Rattle.hc_model.proofs.PieceKeeps.{some_inj}
-use Rattle.hc_model.proofs.Pens.{same_row}
+use Rattle.hc_model.proofs.ExclusiveWriters.{same_row}
 use Rattle.hc_model.proofs.PollKeeps.{current_stays}
 use Rattle.hc_model.proofs.RepFrom.{RepFrom, rep_from, IsKept}
 use Rattle.hc_model.proofs.RepFrom as rep
@@ -200,7 +200,7 @@ module _ (limits : Limits) (t : Tables) (now : ℕ) (flaw : Flaw) (s : Sound t) 
 
   unwritten : founds t e ≡ None → ((r : ℕ) (n : IsOn r) → IsFilled t e r n.v n.p → ⊥) → total now_on ≤ limits.max_total
   unwritten none unfilled =
-      let same : now_on.founded ≡ t.founded = ap (λ q. added q t.founded) none in
+      let same : now_on.founded ≡ t.founded = ap (λ q. with_item_first q t.founded) none in
       let sum : total now_on ≡ sum_by (held now_on) t.founded = ap (sum_by (held now_on)) same in
       let less : sum_by (held now_on) t.founded ≤ total t = sum_le (held now_on) (held t) t.founded (λ r among. still_held r among (unfilled r)) in
       let fits : total t ≤ limits.max_total = f.within in
@@ -209,7 +209,7 @@ module _ (limits : Limits) (t : Tables) (now : ℕ) (flaw : Flaw) (s : Sound t) 
   -- WHERE THERE IS ROOM FOR WHAT IS WRITTEN
 
   abbrev e0 : Entry
-  e0 = unanswered now ev
+  e0 = entry_without_acts now ev
 
   abbrev w0 : ℕ → ℕ
   w0 = weight t e0
@@ -388,15 +388,15 @@ module _ (limits : Limits) (t : Tables) (now : ℕ) (flaw : Flaw) (s : Sound t) 
       misread_not r (event.Cancel c) here h = false_true h
       misread_not r (event.Doom key) here h = false_true h
 
-      silent : (z : Event) → ev ≡ z → said t now ev flaw ≡ []
+      silent : (z : Event) → ev ≡ z → answer_acts t now ev flaw ≡ []
       silent (event.Poll c want) here = absurd (unpolled c want here)
-      silent (event.Start c request) here = ap (λ q. said t now q flaw) here
-      silent (event.Head x response) here = ap (λ q. said t now q flaw) here
-      silent (event.Piece x bytes) here = ap (λ q. said t now q flaw) here
-      silent (event.End x) here = ap (λ q. said t now q flaw) here
-      silent (event.Fault x) here = ap (λ q. said t now q flaw) here
-      silent (event.Cancel c) here = ap (λ q. said t now q flaw) here
-      silent (event.Doom key) here = ap (λ q. said t now q flaw) here
+      silent (event.Start c request) here = ap (λ q. answer_acts t now q flaw) here
+      silent (event.Head x response) here = ap (λ q. answer_acts t now q flaw) here
+      silent (event.Piece x bytes) here = ap (λ q. answer_acts t now q flaw) here
+      silent (event.End x) here = ap (λ q. answer_acts t now q flaw) here
+      silent (event.Fault x) here = ap (λ q. answer_acts t now q flaw) here
+      silent (event.Cancel c) here = ap (λ q. answer_acts t now q flaw) here
+      silent (event.Doom key) here = ap (λ q. answer_acts t now q flaw) here
 
       may : may_be limits t e flaw ≡ true
       may = elim (or_cases (is_denied e.acts) (may_be limits t e (flaw_in e.acts)) real.stand) [
@@ -407,7 +407,7 @@ module _ (limits : Limits) (t : Tables) (now : ℕ) (flaw : Flaw) (s : Sound t) 
       by_flaw : (z : Flaw) → flaw ≡ z → has_room (room_for limits t now ev) ≡ true
       by_flaw NoFlaw is = sym (ap (may_be limits t e) is) ∙ may
       by_flaw (Misreads r) is = absurd (misread_not r ev refl (sym (ap (may_be limits t e) is) ∙ may))
-      by_flaw (Loses r kind) is = absurd (true_false (sym (loss_is limits t now flaw s ev ∙ (ap (λ z. has_loss (z ++ lost flaw)) (silent ev refl) ∙ ap (λ z. has_loss (lost z)) is)) ∙ lossless))
+      by_flaw (Loses r kind) is = absurd (true_false (sym (loss_is limits t now flaw s ev ∙ (ap (λ z. has_loss (z ++ loss_acts flaw)) (silent ev refl) ∙ ap (λ z. has_loss (loss_acts z)) is)) ∙ lossless))
 
   record IsRoom : Type 0 where
     count : ℕ
@@ -465,10 +465,10 @@ module _ (limits : Limits) (t : Tables) (now : ℕ) (flaw : Flaw) (s : Sound t) 
       let placed : room_of limits (weights t e0) write.Slot (map w0 (idle t e0)) ≡ room.After r.count = sym (ap (room_by limits t e0) write_is) ∙ r.is in
       let gives = gives_of (weights t e0) write.Slot (map w0 (idle t e0)) r.count placed in
       let gone_is : evicted limits t now ev ≡ take r.count (idle t e0) = ap (first_idle t e0) r.is in
-      let acts_are : e.acts ≡ map act.Evicted (evicted limits t now ev) ++ (lost flaw ++ closed t now ev flaw) = ap (λ z. Rattle.hc_model.specs.Answers.accepted limits t now z flaw) here ∙ ap (λ z. map act.Evicted (evicted limits t now z) ++ (lost flaw ++ closed t now z flaw)) (sym here) in
-      let most : sum_by (held now_on) t.founded + 32768 ≤ limits.max_total + 0 = roomy lossless unpolled (evicted limits t now ev) (lost flaw ++ closed t now ev flaw) acts_are r.count gone_is x 0 (λ q n filled. absurd (let no : event.Head x response ≡ event.Piece filled.x filled.bytes = sym here ∙ filled.at in cc)) 32768 gives in
+      let acts_are : e.acts ≡ map act.Evicted (evicted limits t now ev) ++ (loss_acts flaw ++ close_acts t now ev flaw) = ap (λ z. Rattle.hc_model.specs.Answers.accepted_acts limits t now z flaw) here ∙ ap (λ z. map act.Evicted (evicted limits t now z) ++ (loss_acts flaw ++ close_acts t now z flaw)) (sym here) in
+      let most : sum_by (held now_on) t.founded + 32768 ≤ limits.max_total + 0 = roomy lossless unpolled (evicted limits t now ev) (loss_acts flaw ++ close_acts t now ev flaw) acts_are r.count gone_is x 0 (λ q n filled. absurd (let no : event.Head x response ≡ event.Piece filled.x filled.bytes = sym here ∙ filled.at in cc)) 32768 gives in
       let founds_x : founds t e ≡ Some x = rw on (ap Rattle.hc_model.specs.Exchanges.exchange_in here) in
-      let list_is : now_on.founded ≡ x ∷ t.founded = ap (λ q. added q t.founded) founds_x in
+      let list_is : now_on.founded ≡ x ∷ t.founded = ap (λ q. with_item_first q t.founded) founds_x in
       let sum : total now_on ≡ held now_on x + sum_by (held now_on) t.founded = ap (sum_by (held now_on)) list_is ∙ sum_by-cons (held now_on) x t.founded in
       let slot : held now_on x ≤ 32768 = founded_held x (now_on.representation x) refl (is_new limits t now flaw s ev goes x response w here row).unfounded in
       omega arith
@@ -511,15 +511,15 @@ module _ (limits : Limits) (t : Tables) (now : ℕ) (flaw : Flaw) (s : Sound t) 
       let placed : room_of limits (weights t e0) (write.Piece v.size (length bytes)) (map w0 (idle t e0)) ≡ room.After r.count = sym (ap (room_by limits t e0) write_is) ∙ r.is in
       let gives = gives_of (weights t e0) (write.Piece v.size (length bytes)) (map w0 (idle t e0)) r.count placed in
       let gone_is : evicted limits t now ev ≡ take r.count (idle t e0) = ap (first_idle t e0) r.is in
-      let acts_are : e.acts ≡ map act.Evicted (evicted limits t now ev) ++ (lost flaw ++ closed t now ev flaw) = ap (λ z. Rattle.hc_model.specs.Answers.accepted limits t now z flaw) here ∙ ap (λ z. map act.Evicted (evicted limits t now z) ++ (lost flaw ++ closed t now z flaw)) (sym here) in
-      let most : sum_by (held now_on) t.founded + length bytes ≤ limits.max_total + length bytes = roomy lossless unpolled (evicted limits t now ev) (lost flaw ++ closed t now ev flaw) acts_are r.count gone_is (family x w) (length bytes) (λ q n filled.
+      let acts_are : e.acts ≡ map act.Evicted (evicted limits t now ev) ++ (loss_acts flaw ++ close_acts t now ev flaw) = ap (λ z. Rattle.hc_model.specs.Answers.accepted_acts limits t now z flaw) here ∙ ap (λ z. map act.Evicted (evicted limits t now z) ++ (loss_acts flaw ++ close_acts t now z flaw)) (sym here) in
+      let most : sum_by (held now_on) t.founded + length bytes ≤ limits.max_total + length bytes = roomy lossless unpolled (evicted limits t now ev) (loss_acts flaw ++ close_acts t now ev flaw) acts_are r.count gone_is (family x w) (length bytes) (λ q n filled.
       let same = piece_inj x filled.x bytes filled.bytes (sym here ∙ filled.at) in
       let one : filled.w ≡ w = same_row (t.exchange x) filled.w w (ap t.exchange same.0 ∙ filled.row) row in
       let count : length filled.bytes ≡ length bytes = ap (λ (b : List ℕ). length b) (sym same.1) in
       let size_is : n.p.size ≡ n.v.size + length filled.bytes = filled.size_is in
       (sym filled.of_r ∙ (ap (λ b. family b filled.w) (sym same.0) ∙ ap (family x) one), size_is ∙ ap (λ b. n.v.size + b) count)) (length bytes) gives in
       let none : founds t e ≡ None = ap (λ z. if is_founding (case_of t (has_loss e.acts) z) then Rattle.hc_model.specs.Exchanges.exchange_in z else None) here in
-      let same : now_on.founded ≡ t.founded = ap (λ q. added q t.founded) none in
+      let same : now_on.founded ≡ t.founded = ap (λ q. with_item_first q t.founded) none in
       let sum : total now_on ≡ sum_by (held now_on) t.founded = ap (sum_by (held now_on)) same in
       omega arith
 

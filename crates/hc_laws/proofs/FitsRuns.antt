@@ -15,12 +15,12 @@ use Rattle.hc_rules.specs.HeadCases.{head_case}
 use Rattle.hc_rules.specs.Needs.{route_of}
 use Rattle.hc_rules.specs.Rooms.{weight_of}
 use Rattle.hc_model.specs.ActFilters.{Showing, showing_in, has_loss}
-use Rattle.hc_model.specs.Answers.{accepted}
+use Rattle.hc_model.specs.Answers.{accepted_acts}
 use Rattle.hc_model.specs.Beginnings.{may_begin, are_good, is_good, says, weights_of}
 use Rattle.hc_model.specs.Cases.{case_at, case_of, head_view, is_founding, was_shown}
 use Rattle.hc_model.specs.Currents.{current, is_usable}
 use Rattle.hc_model.specs.Denials.{denial}
-use Rattle.hc_model.specs.Entries.{Entry, Content, Contents, unanswered}
+use Rattle.hc_model.specs.Entries.{Entry, Content, Contents, entry_without_acts}
 use Rattle.hc_model.specs.Exchanges.{exchange_in}
 use Rattle.hc_model.specs.Flaws.{Flaw, flaw_in}
 use Rattle.hc_model.specs.Keys.{entry_of}
@@ -32,7 +32,7 @@ use Rattle.hc_model.specs.Reading.{bound, reads}
 use Rattle.hc_model.specs.Rows.{Tables, Exchange, Representation, Consumer}
 use Rattle.hc_model.specs.Runs.{IsOwed}
 use Rattle.hc_model.specs.Sound.{Sound, Among}
-use Rattle.hc_model.specs.Tables.{tables, begun, loaded, numbers, bytes_in, founds, added, is_hole, is_reading, binds, binds_by_opening, binds_by_showing, to_front, after_accepted, after_denied}
+use Rattle.hc_model.specs.Tables.{tables, first_tables, representation_of_content, numbers, bytes_in, founds, with_item_first, is_hole, is_reading, binds, binds_by_opening, binds_by_showing, to_front, after_accepted, after_denied}
 use Rattle.hc_model.specs.Weights.{weights}
 use Rattle.hc_model.proofs.Basics.{false_true, and_left, and_right, none_some}
 use Rattle.hc_model.proofs.Closed.{among_filter}
@@ -107,11 +107,11 @@ module _ (limits : Limits) (t : Tables) (now : ℕ) (flaw : Flaw) (s : Sound t) 
   founded_by (event.Cancel c) here x is = absurd (false_true (sym (ap (λ z. is_founding (case_of t (has_loss e.acts) z)) here) ∙ (if_some (is_founding (case_at t e)) (exchange_in ev) x is).0))
   founded_by (event.Doom key) here x is = absurd (false_true (sym (ap (λ z. is_founding (case_of t (has_loss e.acts) z)) here) ∙ (if_some (is_founding (case_at t e)) (exchange_in ev) x is).0))
 
-  once_by : (z : Option ℕ) → founds t e ≡ z → AreOnce (added z t.founded)
+  once_by : (z : Option ℕ) → founds t e ≡ z → AreOnce (with_item_first z t.founded)
   once_by None is = f.once
   once_by (Some x) is = ((λ among. false_true (sym (ap (λ (q : Option Representation). is_some q) (founded_by ev refl x is).none) ∙ f.rows x among)), f.once)
 
-  rows_by : (z : Option ℕ) → founds t e ≡ z → (r : ℕ) → Among r (added z t.founded) → is_some (now_on.representation r) ≡ true
+  rows_by : (z : Option ℕ) → founds t e ≡ z → (r : ℕ) → Among r (with_item_first z t.founded) → is_some (now_on.representation r) ≡ true
   rows_by None is r among = rep.stays t e r (t.representation r) (f.rows r among)
   rows_by (Some x) is r (inl here) = ap (λ n. is_some (now_on.representation n)) (sym here) ∙ (founded_by ev refl x is).there
   rows_by (Some x) is r (inr there) = rep.stays t e r (t.representation r) (f.rows r there)
@@ -128,7 +128,7 @@ module _ (limits : Limits) (t : Tables) (now : ℕ) (flaw : Flaw) (s : Sound t) 
   used_by None = f.used_once
   used_by (Some r) = ((λ among. apart_not r among), filter_once (λ q. not (q == r)) t.used f.used_once)
 
-  more_founded : (z : Option ℕ) (r : ℕ) → Among r t.founded → Among r (added z t.founded)
+  more_founded : (z : Option ℕ) (r : ℕ) → Among r t.founded → Among r (with_item_first z t.founded)
   more_founded None r among = among
   more_founded (Some x) r among = inr among
 
@@ -158,7 +158,7 @@ module _ (limits : Limits) (t : Tables) (now : ℕ) (flaw : Flaw) (s : Sound t) 
   binds_among None (Some x) d r is = inr (inl is)
   binds_among None None d r is = inr (inr is)
 
-  bound_founded : (r : ℕ) → binds t e ≡ Some r → (z : Option ℕ) → founds t e ≡ z → Among r (added z t.founded)
+  bound_founded : (r : ℕ) → binds t e ≡ Some r → (z : Option ℕ) → founds t e ≡ z → Among r (with_item_first z t.founded)
   bound_founded r is z founds_is = elim (binds_among (founds t e) (binds_by_opening t (opening_in e.acts)) (binds_by_showing t (showing_in e.acts)) r is) [
     | inl founded ↦ by_founded z (sym founds_is ∙ founded)
     | inr other ↦ elim other [
@@ -167,7 +167,7 @@ module _ (limits : Limits) (t : Tables) (now : ℕ) (flaw : Flaw) (s : Sound t) 
     ]
   ]
     where
-      by_founded : (z : Option ℕ) → z ≡ Some r → Among r (added z t.founded)
+      by_founded : (z : Option ℕ) → z ≡ Some r → Among r (with_item_first z t.founded)
       by_founded None h = absurd (none_some r h)
       by_founded (Some x) h = inl (some_inj x r h)
 
@@ -188,7 +188,7 @@ module _ (limits : Limits) (t : Tables) (now : ℕ) (flaw : Flaw) (s : Sound t) 
   front_used q None is = absurd (none_some q is)
   front_used q (Some r) is = inl (some_inj r q is)
 
-  founded_used_by : (z : Option ℕ) → founds t e ≡ z → (r : ℕ) → Among r (added z t.founded) → Among r now_on.used
+  founded_used_by : (z : Option ℕ) → founds t e ≡ z → (r : ℕ) → Among r (with_item_first z t.founded) → Among r now_on.used
   founded_used_by None is r among = still_used (binds t e) r (f.founded_used r among)
   founded_used_by (Some x) is r (inl here) = subst (λ n. Among n now_on.used) here (front_used x (binds t e) (ap (λ z. option_or z (option_or (binds_by_opening t (opening_in e.acts)) (binds_by_showing t (showing_in e.acts)))) is))
   founded_used_by (Some x) is r (inr there) = still_used (binds t e) r (f.founded_used r there)
@@ -216,10 +216,10 @@ weight_at item = weight_of (bytes_in item.runs)
 
 -- what an item comes to
 abbrev loaded_held : Contents → ℕ → Option Content → ℕ
-loaded_held contents r z = held_in (begun contents) r (option_map loaded z)
+loaded_held contents r z = held_in (first_tables contents) r (option_map representation_of_content z)
 
 held_item : (contents : Contents) (r : ℕ) (item : Content) → loaded_held contents r (Some item) ≤ weight_of (bytes_in item.runs)
-held_item contents r item = elim (bool_cases (is_held (begun contents) r (loaded item))) [
+held_item contents r item = elim (bool_cases (is_held (first_tables contents) r (representation_of_content item))) [
   | inl on ↦ let is : loaded_held contents r (Some item) ≡ weight_of (bytes_in item.runs) = rw on refl in omega arith
   | inr off ↦ let is : loaded_held contents r (Some item) ≡ 0 = rw off refl in omega arith
 ]
@@ -282,7 +282,7 @@ module _ (limits : Limits) (contents : Contents) where
       later_found : (n : ℕ) → (item.r ≡ n → ⊥) → find (of_number n) (item ∷ later) ≡ find (of_number n) later
       later_found n other = elim (eq_cases item.r n) [ inl same ↦ absurd (other same.1) | inr off ↦ rw off.0 refl ]
 
-  row_there : (n : ℕ) (items : List Content) → Among n (numbers items) → is_some (option_map loaded (find (of_number n) items)) ≡ true
+  row_there : (n : ℕ) (items : List Content) → Among n (numbers items) → is_some (option_map representation_of_content (find (of_number n) items)) ≡ true
   row_there n [] among = absurd among
   row_there n (item ∷ later) among = elim (eq_cases item.r n) [
     | inl same ↦ rw same.0 refl
@@ -293,7 +293,7 @@ module _ (limits : Limits) (contents : Contents) where
       others (inl here) other = absurd (other here)
       others (inr there) other = there
 
-  pub fits_begin : may_begin limits contents ≡ true → Fits limits (begun contents)
+  pub fits_begin : may_begin limits contents ≡ true → Fits limits (first_tables contents)
   unfolding may_begin
   fits_begin may =
       let good : are_good limits contents [] contents.items ≡ true = and_left _ _ (and_left _ _ (and_left _ _ (and_left _ _ (and_left _ _ may)))) in
@@ -308,10 +308,10 @@ module _ (limits : Limits) (contents : Contents) where
         founded_used = λ r among. among;
       }
     where
-      weigh : are_good limits contents [] contents.items ≡ true → nat_le (weights_of contents.items) limits.max_total ≡ true → total (begun contents) ≤ limits.max_total
+      weigh : are_good limits contents [] contents.items ≡ true → nat_le (weights_of contents.items) limits.max_total ≡ true → total (first_tables contents) ≤ limits.max_total
       weigh good test =
-          let turned : total (begun contents) ≡ sum_by (held (begun contents)) (numbers contents.items) = reverse_sum (held (begun contents)) (numbers contents.items) in
-          let most : sum_by (held (begun contents)) (numbers contents.items) ≤ sum_by weight_at contents.items = sum_items (λ n. find (of_number n) contents.items) [] contents.items good (λ n among. refl) in
+          let turned : total (first_tables contents) ≡ sum_by (held (first_tables contents)) (numbers contents.items) = reverse_sum (held (first_tables contents)) (numbers contents.items) in
+          let most : sum_by (held (first_tables contents)) (numbers contents.items) ≤ sum_by weight_at contents.items = sum_items (λ n. find (of_number n) contents.items) [] contents.items good (λ n among. refl) in
           let same : sum_by weight_at contents.items ≡ weights_of contents.items = refl in
           let fits : weights_of contents.items ≤ limits.max_total = grind (arith, nat_tests) in
           omega arith
@@ -335,9 +335,9 @@ count_none _ (owed_acts.denied refusal) = refl
 few_by : (limits : Limits) (t : Tables) (e : Entry) (b : Bool) → is_denied e.acts ≡ b → IsOwed limits t e → total t ≤ limits.max_total → IsSmallPiece e.event → count_evicted e.acts ≤ 2
 few_by limits t e true denied owed within small = let none : count_evicted e.acts ≡ 0 = count_none e.acts (is_denial e.acts denied) in omega arith
 few_by limits t e false not_denied owed within small =
-    let most : weights t (unanswered e.now e.event) ≤ total t = weights_most t (unanswered e.now e.event) in
-    let few : count_evicted (accepted limits t e.now e.event (flaw_in e.acts)) ≤ 2 = few_give_way limits t e.now e.event (flaw_in e.acts) (omega arith) small in
-    let same : count_evicted e.acts ≡ count_evicted (accepted limits t e.now e.event (flaw_in e.acts)) = ap count_evicted (acts_are limits t e owed not_denied) in
+    let most : weights t (entry_without_acts e.now e.event) ≤ total t = weights_most t (entry_without_acts e.now e.event) in
+    let few : count_evicted (accepted_acts limits t e.now e.event (flaw_in e.acts)) ≤ 2 = few_give_way limits t e.now e.event (flaw_in e.acts) (omega arith) small in
+    let same : count_evicted e.acts ≡ count_evicted (accepted_acts limits t e.now e.event (flaw_in e.acts)) = ap count_evicted (acts_are limits t e owed not_denied) in
     omega arith
 
 -- An entry evicts at most two.

@@ -5,7 +5,7 @@ use Rattle.hc_range.specs.declared.range.Asked.{Asked}
 use Rattle.hc_range.specs.declared.range.Span.{Span}
 use Rattle.hc_range.specs.declared.range.ContentRange.{ContentRange}
 use Rattle.hc_range.specs.declared.range.ContentRange.TheVariants as range
-use Rattle.hc_range.specs.Spans.{resolved}
+use Rattle.hc_range.specs.Spans.{resolved_span}
 use Rattle.hc_event.specs.declared.act.Act.TheVariants as act
 use Rattle.hc_event.specs.declared.act.LostKind.{LostKind}
 use Rattle.hc_event.specs.declared.event.Event.{Event}
@@ -19,7 +19,7 @@ use Rattle.hc_rules.specs.declared.need.Route.TheVariants as route
 use Rattle.hc_rules.specs.declared.request.Wanted.TheVariants as wanted
 use Rattle.hc_rules.specs.declared.room.Limits.{Limits}
 use Rattle.hc_rules.specs.HeadCases.{head_case, is_storable, fits_to_found, fits_part, begins_at}
-use Rattle.hc_rules.specs.Lengths.{length_of, length_told, part_length, promise_of, agrees, is_head}
+use Rattle.hc_rules.specs.Lengths.{length_of, content_length_of, part_length, promise_of, agrees, is_head}
 use Rattle.hc_rules.specs.Needs.{route_of}
 use Rattle.hc_rules.specs.RangeTexts.{content_range_of}
 use Rattle.hc_rules.specs.Requests.{is_get, range_of, wanted_of}
@@ -32,8 +32,8 @@ use Rattle.hc_model.specs.Cases.{head_view, is_founding, fits_asker, was_shown}
 use Rattle.hc_model.specs.ConsumerRows.{bound_by_total}
 use Rattle.hc_model.specs.Currents.{current, is_number}
 use Rattle.hc_model.specs.Denials.{denial}
-use Rattle.hc_model.specs.Effects.{Does, counted, let_all_go, let_some_go, with_consumer, with_answer, with_founding, just_founded}
-use Rattle.hc_model.specs.Entries.{unanswered}
+use Rattle.hc_model.specs.Effects.{Does, with_event, let_all_go, let_some_go, with_consumer, with_answer, with_founding, just_founded}
+use Rattle.hc_model.specs.Entries.{entry_without_acts}
 use Rattle.hc_model.specs.ExchangeRows.{promise_in}
 use Rattle.hc_model.specs.Flaws.{NoFlaw, Loses}
 use Rattle.hc_model.specs.Gone.{goes_by_case}
@@ -42,7 +42,7 @@ use Rattle.hc_model.specs.Lawful.{Lawful}
 use Rattle.hc_model.specs.Owners.{IsAwaiting}
 use Rattle.hc_model.specs.Owners as owners
 use Rattle.hc_model.specs.Rows.{Tables, Exchange, Consumer}
-use Rattle.hc_model.specs.Tables.{added}
+use Rattle.hc_model.specs.Tables.{with_item_first}
 use Rattle.hc_model.specs.Weights.{evicted}
 use Rattle.hc_model.proofs.Basics.{false_true, and_left, and_right, none_some}
 use Rattle.hc_model.proofs.FoundBy.{CaseBy, case_by}
@@ -108,7 +108,7 @@ fits_wanted (Some asked) response fits = by_range (content_range_of response.fie
     by_range None on = absurd (false_true on)
     by_range (Some (range.Unsatisfied total)) on = absurd (false_true on)
     by_range (Some (range.Part first last None)) on = absurd (false_true on)
-    by_range (Some (range.Part first last (Some total))) on = by_span (resolved asked total) first last on
+    by_range (Some (range.Part first last (Some total))) on = by_span (resolved_span asked total) first last on
 
 -- a part of what is asked for by GET has a byte
 get_no_head : (request : Request) → is_get request ≡ true → is_head request ≡ false
@@ -122,17 +122,17 @@ pub part_has : (w : Exchange) (response : Response) → route_of w.need ≡ rout
 unfolding length_of
 part_has w response way status get none = by_range (content_range_of response.fields) refl (sym promise_is ∙ none)
   where
-    promise_is : promise_in w response ≡ promise_of (part_length (length_told (elements_in (codes "content-length") response.fields)) (content_range_of response.fields))
+    promise_is : promise_in w response ≡ promise_of (part_length (content_length_of (elements_in (codes "content-length") response.fields)) (content_range_of response.fields))
     promise_is = (let bodied = get_no_head w.request get in rw (bodied, way, status) refl)
 
     by_agreed : (b : Bool) (first last : ℕ) → first ≤ last → promise_of (if b then says.Part first (last + 1 - first) else says.Bad) ≡ Some 0 → ⊥
     by_agreed false first last le is = none_some 0 is
     by_agreed true first last le is = (let same : last + 1 - first ≡ 0 = (let one : Some (last + 1 - first) ≡ Some 0 = is in cc) in omega (arith, le, same))
 
-    by_range : (o : Option ContentRange) → content_range_of response.fields ≡ o → promise_of (part_length (length_told (elements_in (codes "content-length") response.fields)) o) ≡ Some 0 → ⊥
+    by_range : (o : Option ContentRange) → content_range_of response.fields ≡ o → promise_of (part_length (content_length_of (elements_in (codes "content-length") response.fields)) o) ≡ Some 0 → ⊥
     by_range None at is = none_some 0 is
     by_range (Some (range.Unsatisfied total)) at is = none_some 0 is
-    by_range (Some (range.Part first last total)) at is = by_agreed (agrees (length_told (elements_in (codes "content-length") response.fields)) (last + 1 - first)) first last ((range_early response (range.Part first last total) at).0) is
+    by_range (Some (range.Part first last total)) at is = by_agreed (agrees (content_length_of (elements_in (codes "content-length") response.fields)) (last + 1 - first)) first last ((range_early response (range.Part first last total) at).0) is
 
 module _ (limits : Limits) (t : Tables) (law : Lawful t) (now x : ℕ) (response : Response) (goes : denial t (event.Head x response) ≡ None) (w : Exchange) (row : t.exchange x ≡ Some w) (k : Consumer) (asker : t.consumer w.c ≡ Some k) where
   abbrev ev : Event
@@ -148,21 +148,21 @@ module _ (limits : Limits) (t : Tables) (law : Lawful t) (now x : ℕ) (response
   case_as g is = subst (CaseBy (head_view t false w response)) is (case_by (head_view t false w response))
 
   -- what goes
-  pub founds_goes : (g : HeadCase) → Founds g → (r : ℕ) → goes_by_case t (unanswered now ev) r (Some g) w ≡ is_in (added (replaces w g) (added key_current [])) r
+  pub founds_goes : (g : HeadCase) → Founds g → (r : ℕ) → goes_by_case t (entry_without_acts now ev) r (Some g) w ≡ is_in (with_item_first (replaces w g) (with_item_first key_current [])) r
   founds_goes _ whole r = sym (in_one key_current r)
   founds_goes _ part r = sym (in_one key_current r)
-  founds_goes _ replaced r = ap (λ b. is_number w.aim r || b) (sym (in_one key_current r)) ∙ adds_one w.aim (added key_current []) r
+  founds_goes _ replaced r = ap (λ b. is_number w.aim r || b) (sym (in_one key_current r)) ∙ adds_one w.aim (with_item_first key_current []) r
 
   -- who reads what is founded
   pub founds_does : (g : HeadCase) → Founds g → Is g → Does limits t now ev NoFlaw (map act.Evicted (evicted limits t now ev))
-      (counted now ev (let_all_go now (evicted limits t now ev) (let_some_go now key_current (let_some_go now (replaces w g) (with_consumer w.c (Some (founder x response w g k)) (with_answer now x response w.joined w (with_founding x (just_founded now x response w) t)))))))
+      (with_event now ev (let_all_go now (evicted limits t now ev) (let_some_go now key_current (let_some_go now (replaces w g) (with_consumer w.c (Some (founder x response w g k)) (with_answer now x response w.joined w (with_founding x (just_founded now x response w) t)))))))
   founds_does _ whole is = founds_whole limits t law now x response goes w row k asker is
   founds_does _ part is = founds_range limits t law now x response goes w row k asker is
   founds_does _ replaced is = first_replaced limits t law now x response goes w row k asker is
 
   -- it goes past the store, where that is lost
   pub lost_does : (kind : LostKind) (g : HeadCase) → Founds g → Is g → Does limits t now ev (Loses x kind) (map act.Evicted (evicted limits t now ev) ++ (act.Lost x kind ∷ []))
-      (counted now ev (let_all_go now (evicted limits t now ev) (let_some_go now key_current (let_some_go now (replaces w g) (with_consumer w.c (Some (record k { place = place.Direct x })) (with_answer now x response w.joined w t))))))
+      (with_event now ev (let_all_go now (evicted limits t now ev) (let_some_go now key_current (let_some_go now (replaces w g) (with_consumer w.c (Some (record k { place = place.Direct x })) (with_answer now x response w.joined w t))))))
   lost_does kind _ whole is = passes_by_lost limits t law now x response goes w row k asker kind (whole_lost (head_view t false w response) is)
   lost_does kind _ part is = passes_by_lost limits t law now x response goes w row k asker kind (range_lost (head_view t false w response) is)
   lost_does kind _ replaced is = first_replaced_lost limits t law now x response goes w row k asker kind (replaced_lost (head_view t false w response) is)

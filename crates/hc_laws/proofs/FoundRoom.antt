@@ -23,8 +23,8 @@ use Rattle.hc_model.specs.Contents.{idle_now}
 use Rattle.hc_model.specs.Currents.{current, is_current}
 use Rattle.hc_model.specs.Denials.{denial}
 use Rattle.hc_model.specs.Dooms.{doomed_by_case}
-use Rattle.hc_model.specs.Effects.{gone, let_all_go, with_consumer}
-use Rattle.hc_model.specs.Entries.{Entry, unanswered}
+use Rattle.hc_model.specs.Effects.{as_gone, let_all_go, with_consumer}
+use Rattle.hc_model.specs.Entries.{Entry, entry_without_acts}
 use Rattle.hc_model.specs.Flaws.{NoFlaw}
 use Rattle.hc_model.specs.Gone.{goes_itself, goes_by_case, becomes_gone}
 use Rattle.hc_model.specs.Lawful.{Lawful}
@@ -62,23 +62,23 @@ any_filtered f h b (x ∷ xs) both = by_tests (f x) (b x) refl refl (any_filtere
     by_tests false q fails is rest = let here : h x ≡ false = both x ∙ rw fails refl in rw (fails, here) rest
 
 module _ (limits : Limits) (t : Tables) (law : Lawful t) (now x : ℕ) (response : Response) (goes : denial t (event.Head x response) ≡ None) (w : Exchange) (row : t.exchange x ≡ Some w) (k : Consumer) (asker : t.consumer w.c ≡ Some k) (g : HeadCase) (is : head_case (head_view t false w response) ≡ g) (doomless : doomed_by_case (Some g) w response ≡ None) (founds : is_founding (Some g) ≡ true)
-    (rs : List ℕ) (tests : (r : ℕ) (v : Representation) → t.representation r ≡ Some v → goes_by_case t (unanswered now (event.Head x response)) r (Some g) w ≡ is_in rs r) where
+    (rs : List ℕ) (tests : (r : ℕ) (v : Representation) → t.representation r ≡ Some v → goes_by_case t (entry_without_acts now (event.Head x response)) r (Some g) w ≡ is_in rs r) where
   abbrev ev : Event
   ev = event.Head x response
 
   abbrev e : Entry
-  e = unanswered now ev
+  e = entry_without_acts now ev
 
   case_now : case_at t e ≡ Some g
   case_now = case_is t e x response w refl row ∙ ap Some is
 
   -- its consumer reads past the store
-  abbrev pub aside : Tables
-  aside = with_consumer w.c (Some (record k { place = place.Direct x })) t
+  abbrev pub fallback : Tables
+  fallback = with_consumer w.c (Some (record k { place = place.Direct x })) t
 
   -- and those went
   abbrev pub left : Tables
-  left = let_all_go now rs aside
+  left = let_all_go now rs fallback
 
   -- WHAT GOES
 
@@ -121,43 +121,43 @@ module _ (limits : Limits) (t : Tables) (law : Lawful t) (now x : ℕ) (response
       by_way (cases.part way status fits kept good) = rw (unbound_turn r way) refl
       by_way (cases.replaced way status kept) = and_off (is_bound_place r k.place)
 
-  still_bound : (r d : ℕ) → is_bound r (aside.consumer d) ≡ (is_bound r (t.consumer d) && not (moves_on t e d))
+  still_bound : (r d : ℕ) → is_bound r (fallback.consumer d) ≡ (is_bound r (t.consumer d) && not (moves_on t e d))
   still_bound r d = elim (eq_cases w.c d) [
     | inl here ↦ rw here.0 (sym (rw (moves_is d, here.0) (ap (λ o. is_bound r o && not (weights.is_replacing (Some g) && true)) (sym (ap t.consumer here.1) ∙ asker) ∙ stays_here r)))
     | inr other ↦ rw other.0 (sym (rw (moves_is d, other.0, and_off (weights.is_replacing (Some g))) (and_on (is_bound r (t.consumer d)))))
   ]
 
-  module _ (may : MayLetGo aside) where
+  module _ (may : MayLetGo fallback) where
     bound_then : (r : ℕ) → stays_bound t e r ≡ not (length (bound left r) == 0)
     unfolding bound
     bound_then r =
-        any_filtered (λ d. is_bound r (t.consumer d)) (λ d. is_bound r (aside.consumer d)) (λ d. not (moves_on t e d)) t.starts (still_bound r)
-        ∙ ap (λ cs. not (length cs == 0)) (sym (bound_all now rs aside may r))
+        any_filtered (λ d. is_bound r (t.consumer d)) (λ d. is_bound r (fallback.consumer d)) (λ d. not (moves_on t e d)) t.starts (still_bound r)
+        ∙ ap (λ cs. not (length cs == 0)) (sym (bound_all now rs fallback may r))
 
     current_then : (r : ℕ) (v : Representation) → t.representation r ≡ Some v → is_current left v.key r ≡ stays_current t e r v
     unfolding current
-    current_then r v there = current_all now rs aside may v.key r ∙ ap (λ b. is_current t v.key r && not b) (sym (goes_same r v there))
+    current_then r v there = current_all now rs fallback may v.key r ∙ ap (λ b. is_current t v.key r && not b) (sym (goes_same r v there))
 
     -- WHAT WEIGHS, AND WHAT IS IDLE
 
-    row_then : (r : ℕ) → left.representation r ≡ (if is_in rs r then option_map gone (t.representation r) else t.representation r)
-    row_then r = ap (λ (s : Tables). s.representation r) (all_go_is now rs aside)
+    row_then : (r : ℕ) → left.representation r ≡ (if is_in rs r then option_map as_gone (t.representation r) else t.representation r)
+    row_then r = ap (λ (s : Tables). s.representation r) (all_go_is now rs fallback)
 
-    weighs : (r : ℕ) (b : Bool) (v : Representation) → t.representation r ≡ Some v → going.weight_in left r (if b then option_map gone (Some v) else Some v) ≡ weights.weight_in t e r (Some v)
+    weighs : (r : ℕ) (b : Bool) (v : Representation) → t.representation r ≡ Some v → going.weight_in left r (if b then option_map as_gone (Some v) else Some v) ≡ weights.weight_in t e r (Some v)
     weighs r b v there = by_test b ∙ ap (λ z. if z then weight_of v.size else 0) (ap (λ z. z || not (length (bound left r) == 0)) (current_then r v there) ∙ ap (λ z. stays_current t e r v || z) (sym (bound_then r)))
       where
-        by_test : (b : Bool) → going.weight_in left r (if b then option_map gone (Some v) else Some v) ≡ (if is_current left v.key r || not (length (bound left r) == 0) then weight_of v.size else 0)
+        by_test : (b : Bool) → going.weight_in left r (if b then option_map as_gone (Some v) else Some v) ≡ (if is_current left v.key r || not (length (bound left r) == 0) then weight_of v.size else 0)
         by_test true = refl
         by_test false = refl
 
     weight_same : (r : ℕ) → weight t e r ≡ weight_now left r
     weight_same r = sym (ap (going.weight_in left r) (row_then r) ∙ by_row (t.representation r) refl)
       where
-        none_weighs : (b : Bool) → going.weight_in left r (if b then option_map gone None else None) ≡ 0
+        none_weighs : (b : Bool) → going.weight_in left r (if b then option_map as_gone None else None) ≡ 0
         none_weighs true = refl
         none_weighs false = refl
 
-        by_row : (o : Option Representation) → t.representation r ≡ o → going.weight_in left r (if is_in rs r then option_map gone o else o) ≡ weights.weight_in t e r o
+        by_row : (o : Option Representation) → t.representation r ≡ o → going.weight_in left r (if is_in rs r then option_map as_gone o else o) ≡ weights.weight_in t e r o
         by_row None there = none_weighs (is_in rs r)
         by_row (Some v) there = weighs r (is_in rs r) v there
 
@@ -165,21 +165,21 @@ module _ (limits : Limits) (t : Tables) (law : Lawful t) (now x : ℕ) (response
     twice true = refl
     twice false = refl
 
-    idles : (r : ℕ) (b : Bool) (v : Representation) → t.representation r ≡ Some v → contents.is_idle left r (if b then option_map gone (Some v) else Some v) ≡ is_idle t e r (Some v)
+    idles : (r : ℕ) (b : Bool) (v : Representation) → t.representation r ≡ Some v → contents.is_idle left r (if b then option_map as_gone (Some v) else Some v) ≡ is_idle t e r (Some v)
     idles r b v there = by_test b ∙ (ap (λ z. z && (length (bound left r) == 0)) (current_then r v there) ∙ ap (λ z. stays_current t e r v && z) (sym (ap not (bound_then r) ∙ twice (length (bound left r) == 0))))
       where
-        by_test : (b : Bool) → contents.is_idle left r (if b then option_map gone (Some v) else Some v) ≡ (is_current left v.key r && (length (bound left r) == 0))
+        by_test : (b : Bool) → contents.is_idle left r (if b then option_map as_gone (Some v) else Some v) ≡ (is_current left v.key r && (length (bound left r) == 0))
         by_test true = refl
         by_test false = refl
 
     idle_row : (r : ℕ) → contents.is_idle left r (left.representation r) ≡ is_idle t e r (t.representation r)
     idle_row r = ap (contents.is_idle left r) (row_then r) ∙ by_row (t.representation r) refl
       where
-        none_idles : (b : Bool) → contents.is_idle left r (if b then option_map gone None else None) ≡ false
+        none_idles : (b : Bool) → contents.is_idle left r (if b then option_map as_gone None else None) ≡ false
         none_idles true = refl
         none_idles false = refl
 
-        by_row : (o : Option Representation) → t.representation r ≡ o → contents.is_idle left r (if is_in rs r then option_map gone o else o) ≡ is_idle t e r o
+        by_row : (o : Option Representation) → t.representation r ≡ o → contents.is_idle left r (if is_in rs r then option_map as_gone o else o) ≡ is_idle t e r o
         by_row None there = none_idles (is_in rs r)
         by_row (Some v) there = idles r (is_in rs r) v there
 
@@ -187,7 +187,7 @@ module _ (limits : Limits) (t : Tables) (law : Lawful t) (now x : ℕ) (response
     unfolding idle
     idle_same =
         sym (ap (λ (f : ℕ → Bool). filter f (reverse left.used)) (fun_ext idle_row)
-        ∙ ap (λ (s : Tables). filter (λ r. is_idle t e r (t.representation r)) (reverse s.used)) (all_go_is now rs aside))
+        ∙ ap (λ (s : Tables). filter (λ r. is_idle t e r (t.representation r)) (reverse s.used)) (all_go_is now rs fallback))
 
     -- THE ROOM
 
@@ -198,7 +198,7 @@ module _ (limits : Limits) (t : Tables) (law : Lawful t) (now x : ℕ) (response
         ap (room_by limits t e) write_is
         ∙ (ap (λ (f : ℕ → ℕ). room_of limits (sum_by f t.founded) write.Slot (map f (idle t e))) (fun_ext weight_same)
         ∙ (ap (λ qs. room_of limits (sum_by (weight_now left) t.founded) write.Slot (map (weight_now left) qs)) idle_same
-        ∙ ap (λ (s : Tables). room_of limits (sum_by (weight_now left) s.founded) write.Slot (map (weight_now left) (idle_now left))) (sym (all_go_is now rs aside))))
+        ∙ ap (λ (s : Tables). room_of limits (sum_by (weight_now left) s.founded) write.Slot (map (weight_now left) (idle_now left))) (sym (all_go_is now rs fallback))))
 
     firsts_same : (a : Room) → weights.first_idle t e a ≡ going.first_idle left a
     firsts_same (room.After count) = ap (take count) idle_same

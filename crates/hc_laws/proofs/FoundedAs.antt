@@ -26,7 +26,7 @@ use Rattle.hc_model.specs.Keys.{entry_of}
 use Rattle.hc_model.specs.Measures.{Measures}
 use Rattle.hc_model.specs.Owners.{Owners}
 use Rattle.hc_model.specs.Reading.{is_written}
-use Rattle.hc_model.specs.RepresentationRows.{represented, writer_at}
+use Rattle.hc_model.specs.RepresentationRows.{new_representation, writer_at}
 use Rattle.hc_model.specs.Rows.{Tables, Exchange, Representation}
 use Rattle.hc_model.specs.Sound.{Sound}
 use Rattle.hc_model.specs.Tables.{after_accepted}
@@ -49,7 +49,7 @@ module _ (limits : Limits) (t : Tables) (now : ℕ) (flaw : Flaw) (s : Sound t) 
   abbrev now_on : Tables
   now_on = after_accepted t e
 
-  module _ (r : ℕ) (response : Response) (w : Exchange) (p : Representation) (here : ev ≡ event.Head r response) (row : t.exchange r ≡ Some w) (founding : is_founding (case_at t e) ≡ true) (made : represented r e response w ≡ p) (after : now_on.representation r ≡ Some p) where
+  module _ (r : ℕ) (response : Response) (w : Exchange) (p : Representation) (here : ev ≡ event.Head r response) (row : t.exchange r ≡ Some w) (founding : is_founding (case_at t e) ≡ true) (made : new_representation r e response w ≡ p) (after : now_on.representation r ≡ Some p) where
     -- a whole answer is written for several from now on, or has no byte; a part has a length, and fits
     pub data FoundedAs : Type 0 where
       comes : is_written now_on p ≡ true → p.writer ≡ Some r → response.status ≡ 200 → FoundedAs

@@ -58,7 +58,7 @@ use Rattle.hc_model.proofs.OwnFrom.{OwnFrom, IsLeft, own_from}
 use Rattle.hc_model.proofs.OwnFrom as own
 use Rattle.hc_model.proofs.OwnersKeep.{is_opened, new_number}
 use Rattle.hc_model.proofs.PartTold as told
-use Rattle.hc_model.proofs.Pens.{same_row}
+use Rattle.hc_model.proofs.ExclusiveWriters.{same_row}
 use Rattle.hc_model.proofs.PieceKeeps.{some_inj}
 use Rattle.hc_laws.proofs.RunFacts.{in_runs}
 use Rattle.hc_model.proofs.Said.{ShowsBy, showing_by}

@@ -4,7 +4,7 @@ use Rattle.hc_sparse.specs.declared.run.Run.{Run}
 use Rattle.hc_event.specs.declared.event.Event.TheVariants as event
 use Rattle.hc_rules.specs.declared.room.Limits.{Limits}
 use Rattle.hc_model.specs.ConsumerRows.{consumer_acted}
-use Rattle.hc_model.specs.Effects.{Does, counted, with_consumer}
+use Rattle.hc_model.specs.Effects.{Does, with_event, with_consumer}
 use Rattle.hc_model.specs.Entries.{Entry}
 use Rattle.hc_model.specs.Flaws.{NoFlaw}
 use Rattle.hc_model.specs.Lawful.{Lawful}
@@ -30,7 +30,7 @@ module _ (limits : Limits) (t : Tables) (law : Lawful t) (now c want : ℕ) (k :
   acted = rw (eqb-same c, append_none run.bytes, own_stays t e c k.place k.own (spared_bodiless t e k.place refl)) refl
 
   -- its consumer was given so many more
-  pub gives_bytes : Does limits t now (event.Poll c want) NoFlaw (acts_of c (Gives run)) (counted now (event.Poll c want) (with_consumer c (Some (record k { given = k.given + length run.bytes })) t))
+  pub gives_bytes : Does limits t now (event.Poll c want) NoFlaw (acts_of c (Gives run)) (with_event now (event.Poll c want) (with_consumer c (Some (record k { given = k.given + length run.bytes })) t))
   gives_bytes =
       poll_does limits t law now c want k row (Gives run) (polls.gives run) is []
       (nothing_goes limits t law now c want k row (Gives run) (polls.gives run) is refl)

@@ -2,7 +2,7 @@
 use Rattle.std.proofs.Common.{◌≡◌, ◌⊎◌, inl, inr, ℕ, ◌+◌, ◌≤◌, List, [], ◌∷◌, length, Bool, true, false, Option, Some, None, refl, ap, sym, ◌∙◌, subst, arith, length-append}
 use Rattle.std.specs.Prelude.{if◌then◌else◌, is_some, ◌||◌, not}
 use Rattle.std.specs.Option.{option_and_then}
-use Rattle.hc_sparse.specs.Cells.{Cells, Covers, written}
+use Rattle.hc_sparse.specs.Cells.{Cells, Covers, cells_with}
 use Rattle.hc_sparse.proofs.CellLemmas.{inside-past}
 use Rattle.hc_event.specs.Filters.{Opening, opening_in}
 use Rattle.hc_event.specs.declared.act.Act.{Act}
@@ -31,7 +31,7 @@ use Rattle.hc_model.specs.Owners.{Owners}
 use Rattle.hc_model.specs.Reading.{is_written, own_open, if_open, bound_to, offset, hi_of, reads}
 use Rattle.hc_model.specs.RepresentationRows.{resumes}
 use Rattle.hc_model.specs.Rows.{Tables, Exchange, Representation, Consumer}
-use Rattle.hc_model.specs.Sound.{Sound, IsBound, IsAbout, IsAlone, IsFirst, HasPen, IsHad}
+use Rattle.hc_model.specs.Sound.{Sound, IsBound, IsAbout, IsAlone, IsFirst, IsExclusiveWriter, IsHad}
 use Rattle.hc_model.specs.Sound as sound
 use Rattle.hc_model.specs.Tables.{after_accepted}
 use Rattle.hc_model.specs.Writers.{brings_body, has_more, lacks_some}
@@ -62,9 +62,9 @@ use Rattle.hc_model.proofs.OwnFrom.{OwnFrom, own_from}
 use Rattle.hc_model.proofs.OwnFrom as own
 use Rattle.hc_model.proofs.OwnNone.{IsShared, own_none}
 use Rattle.hc_model.proofs.OwnersKeep.{is_opened, there_kept}
-use Rattle.hc_laws.proofs.PenFrom.{PenFrom, alone_from}
-use Rattle.hc_laws.proofs.PenFrom as pens
-use Rattle.hc_model.proofs.Pens.{same_row, one_pen, has_pen, bound_some}
+use Rattle.hc_laws.proofs.ExclusiveWriterFrom.{ExclusiveWriterFrom, alone_from}
+use Rattle.hc_laws.proofs.ExclusiveWriterFrom as exclusive_writers
+use Rattle.hc_model.proofs.ExclusiveWriters.{same_row, one_exclusive_writer, has_exclusive_writer, bound_some}
 use Rattle.hc_model.proofs.PieceKeeps.{some_inj}
 use Rattle.hc_model.proofs.PollKeeps.{current_stays, not_come}
 use Rattle.hc_model.proofs.PollTree.{OpensHole}
@@ -145,7 +145,7 @@ module _ (limits : Limits) (t : Tables) (now : ℕ) (flaw : Flaw) (s : Sound t) 
     where
       by_fills : Fills t e r v p → p.stored ≡ v.stored
       by_fills (fills_by.still none_of body_is stored_is reach_is) = stored_is
-      by_fills (fills_by.more y bytes w is body_is stored_is reach_is) = stored_is ∙ ap (λ b. if not b then written (front w) y bytes v.stored else v.stored) lost
+      by_fills (fills_by.more y bytes w is body_is stored_is reach_is) = stored_is ∙ ap (λ b. if not b then cells_with (front w) y bytes v.stored else v.stored) lost
 
   -- whether or not a failure is due
   module _ (r c lo : ℕ) (hi : Option ℕ) (how : BoundBy) (u : Consumer) (p : Representation) (after : now_on.representation r ≡ Some p) (after_row : now_on.consumer c ≡ Some u) (stands : u.place ≡ place.Bound r lo hi how) (lost_now : p.is_lost ≡ true) (is_alone : p.alone ≡ Some c) where
@@ -286,8 +286,8 @@ module _ (limits : Limits) (t : Tables) (now : ℕ) (flaw : Flaw) (s : Sound t) 
       piece_inj : (x y : ℕ) (a b : List ℕ) → event.Piece x a ≡ event.Piece y b → (x ≡ y) × (a ≡ b)
       piece_inj x y a b is = (cc, cc)
 
-      own_piece : (y : ℕ) (bytes : List ℕ) (a : Exchange) → is_written t v ≡ false → HasPen t r v c → fills_by.IsPiece t e r y bytes a → k.own ≡ Some y
-      own_piece y bytes a off pen is = by_had (s.writes.had r y v there (sound.headed a is.row taken.is_open taken.headed is.of_r (ap is_some there)))
+      own_piece : (y : ℕ) (bytes : List ℕ) (a : Exchange) → is_written t v ≡ false → IsExclusiveWriter t r v c → fills_by.IsPiece t e r y bytes a → k.own ≡ Some y
+      own_piece y bytes a off exclusive_writer is = by_had (s.writes.had r y v there (sound.headed a is.row taken.is_open taken.headed is.of_r (ap is_some there)))
         where
           taken : Rattle.hc_model.proofs.Once.IsTaken a (length bytes)
           taken = piece_taken limits t now flaw s o m ev goes y bytes a is.at is.row
@@ -299,10 +299,10 @@ module _ (limits : Limits) (t : Tables) (now : ℕ) (flaw : Flaw) (s : Sound t) 
 
           by_had : IsHad t r v y → k.own ≡ Some y
           by_had (sound.shared on writer) = absurd (false_true (sym off ∙ on))
-          by_had (sound.own d q theirs owned none_due their_pen) = by_row d q theirs (one_pen t r v d c s their_pen pen) owned
+          by_had (sound.own d q theirs owned none_due their_exclusive_writer) = by_row d q theirs (one_exclusive_writer t r v d c s their_exclusive_writer exclusive_writer) owned
 
-      past_front : (x : ℕ) (w z : Exchange) → is_written t v ≡ false → HasPen t r v c → k.own ≡ Some x → t.exchange x ≡ Some w → IsSame t e x w z → now_on.exchange x ≡ Some z → (d : ℕ) → front z ≤ d → p.body d ≡ v.body d
-      past_front x w z off pen owned exchange_row same after_x d le = by_fills (fills t e r v p kept)
+      past_front : (x : ℕ) (w z : Exchange) → is_written t v ≡ false → IsExclusiveWriter t r v c → k.own ≡ Some x → t.exchange x ≡ Some w → IsSame t e x w z → now_on.exchange x ≡ Some z → (d : ℕ) → front z ≤ d → p.body d ≡ v.body d
+      past_front x w z off exclusive_writer owned exchange_row same after_x d le = by_fills (fills t e r v p kept)
         where
           no_head : (bytes : List ℕ) → ev ≡ event.Piece x bytes → ((z.head ≡ w.head) × (z.joined ≡ w.joined)) ⊎ IsHeaded t e x w z → IsHeld limits t now flaw s o m ev goes x w z
           no_head bytes here (inl still) = held limits t now flaw s o m ev goes x w z same still.0 still.1
@@ -320,7 +320,7 @@ module _ (limits : Limits) (t : Tables) (now : ℕ) (flaw : Flaw) (s : Sound t) 
           by_fills : Fills t e r v p → p.body d ≡ v.body d
           by_fills (fills_by.still none_of body_is stored_is reach_is) = ap (λ (f : Cells). f d) body_is
           by_fills (fills_by.more y bytes a is body_is stored_is reach_is) =
-              let number : y ≡ x = some_inj y x (sym (own_piece y bytes a off pen is) ∙ owned) in
+              let number : y ≡ x = some_inj y x (sym (own_piece y bytes a off exclusive_writer is) ∙ owned) in
               let here : ev ≡ event.Piece x bytes = is.at ∙ ap (λ n. event.Piece n bytes) number in
               let one : a ≡ w = same_row (t.exchange x) a w (sym (ap t.exchange number) ∙ is.row) exchange_row in
               let far : front w + length bytes ≤ d = by_brings bytes here (brings t e x w z exchange_row after_x) in
@@ -378,7 +378,7 @@ module _ (limits : Limits) (t : Tables) (now : ℕ) (flaw : Flaw) (s : Sound t) 
           past_hole from_at to_at (tree.later q end n y stands_at none_held lo_is up) =
               let number : q ≡ r = bound_number q stands_at.is_reader in
               let one : y ≡ v = same_row (t.representation r) y v (sym (ap t.representation number) ∙ stands_at.row) there in
-              let gone : v.body (offset t k) ≡ None = ap (λ (b : Representation). b.body (offset t k)) (sym one) ∙ not_come t q c end n y k s stands_at none_held (has_pen t q c end y k s stands_at) in
+              let gone : v.body (offset t k) ≡ None = ap (λ (b : Representation). b.body (offset t k)) (sym one) ∙ not_come t q c end n y k s stands_at none_held (has_exclusive_writer t q c end y k s stands_at) in
               elim (split (offset t k) (front a.w)) [
                 | inl before ↦ absurd (let has = a.covered (offset t k) (omega arith) before in let never : false ≡ true = rw gone at has in false_true never)
                 | inr past ↦ past
@@ -461,14 +461,14 @@ module _ (limits : Limits) (t : Tables) (now : ℕ) (flaw : Flaw) (s : Sound t) 
           by_own None is = by_none (own_none t e c k u row.is is)
           by_own (Some x) is = by_from x is (own_from t e c x (t.consumer c) u refl after_row is)
 
-      by_pen : PenFrom limits t now flaw s o m ev goes real r c v → IsAlone now_on p u
-      by_pen (pens.first fresh quiet is) = absurd (false_true (sym (kept.lost_is ∙ rw (quiet, fresh) refl) ∙ lost_now))
-      by_pen (pens.alone lost quiet is) = went lost quiet is
-      by_pen (pens.wrote fresh loses x) = wrote_it fresh loses x
-      by_pen (pens.survives losing is) = (goes_on limits t now flaw s o m ev goes real r c v p u there losing is after after_row).is
+      by_exclusive_writer : ExclusiveWriterFrom limits t now flaw s o m ev goes real r c v → IsAlone now_on p u
+      by_exclusive_writer (exclusive_writers.first fresh quiet is) = absurd (false_true (sym (kept.lost_is ∙ rw (quiet, fresh) refl) ∙ lost_now))
+      by_exclusive_writer (exclusive_writers.alone lost quiet is) = went lost quiet is
+      by_exclusive_writer (exclusive_writers.wrote fresh loses x) = wrote_it fresh loses x
+      by_exclusive_writer (exclusive_writers.survives losing is) = (goes_on limits t now flaw s o m ev goes real r c v p u there losing is after after_row).is
 
       was_bound : IsAlone now_on p u
-      was_bound = by_pen (alone_from limits t now flaw s o m ev goes real r c v p there kept lost_now is_alone)
+      was_bound = by_exclusive_writer (alone_from limits t now flaw s o m ev goes real r c v p there kept lost_now is_alone)
 
     by_way : BoundFrom t e c r lo hi how u → RepFrom t e r p → IsAlone now_on p u
     by_way (from.stays k row at) (rep.was v kept) = was_bound k v row at kept.row kept

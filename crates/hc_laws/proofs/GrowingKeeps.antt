@@ -2,7 +2,7 @@
 use Rattle.std.proofs.Common.{◌≡◌, ◌⊎◌, inl, inr, ℕ, zero, suc, ◌+◌, ◌-◌, ◌<◌, ◌≤◌, List, length, Bool, true, false, Option, Some, None, refl, ap, sym, ◌∙◌, subst, arith, max, min, length-append}
 use Rattle.std.specs.Prelude.{if◌then◌else◌, is_some, is_none, ◌==◌, ◌&&◌, ◌||◌, not, nat_eq, nat_le, unwrap_or}
 use Rattle.std.proofs.lemmas.Bool.Decides.{nat_tests}
-use Rattle.hc_sparse.specs.Cells.{written, Cells, Covers}
+use Rattle.hc_sparse.specs.Cells.{cells_with, Cells, Covers}
 use Rattle.hc_sparse.proofs.CellLemmas.{inside-cases}
 use Rattle.hc_range.specs.declared.range.ContentRange.TheVariants as range
 use Rattle.hc_event.specs.declared.event.Event.{Event}
@@ -22,7 +22,7 @@ use Rattle.hc_model.specs.Currents.{row_of}
 use Rattle.hc_model.specs.Denials.{denial}
 use Rattle.hc_model.specs.Entries.{Entry}
 use Rattle.hc_model.specs.ExchangeRows.{exchange_heard, exchange_acted, promise_in}
-use Rattle.hc_model.specs.Exchanges.{base, promised, front, length_by, is_open, is_reached}
+use Rattle.hc_model.specs.Exchanges.{base, promised_bytes, front, length_by, is_open, is_reached}
 use Rattle.hc_model.specs.Flaws.{Flaw}
 use Rattle.hc_model.specs.Heads.{founded_total}
 use Rattle.hc_model.specs.Holes.{covers, absent_from}
@@ -30,7 +30,7 @@ use Rattle.hc_model.specs.Keys.{entry_of}
 use Rattle.hc_model.specs.Measures.{Measures}
 use Rattle.hc_model.specs.Owners.{Owners}
 use Rattle.hc_model.specs.Reading.{is_written}
-use Rattle.hc_model.specs.RepresentationRows.{represented, resumes, hole_start, is_last_part, writer_at}
+use Rattle.hc_model.specs.RepresentationRows.{new_representation, resumes, hole_start, is_last_part, writer_at}
 use Rattle.hc_model.specs.Rows.{Tables, Exchange, Representation}
 use Rattle.hc_model.specs.Runs.{may_stand}
 use Rattle.hc_model.specs.Sound.{Sound, IsGrowing, InHole, end_from}
@@ -50,7 +50,7 @@ use Rattle.hc_model.proofs.MeasuresKeep.{held, IsHeld, total_same, one_piece}
 use Rattle.hc_model.proofs.PartTold.{part_told, whole_base, IsTold, part_order}
 use Rattle.hc_model.proofs.PartTold as tells
 use Rattle.hc_model.proofs.PieceKeeps.{some_inj}
-use Rattle.hc_model.proofs.Pens.{same_row}
+use Rattle.hc_model.proofs.ExclusiveWriters.{same_row}
 use Rattle.hc_model.proofs.RepFrom.{RepFrom, rep_from, IsKept, IsResumed}
 use Rattle.hc_model.proofs.RepFrom as rep
 
@@ -70,7 +70,7 @@ last_is (Some k) first last total n is h =
     let test : nat_eq (last + 1) k ≡ true = h in
     grind (arith, nat_tests)
 
-covers_more : (at x : ℕ) (bytes : List ℕ) (f : Cells) → Covers f 0 at → Covers (written at x bytes f) 0 (at + length bytes)
+covers_more : (at x : ℕ) (bytes : List ℕ) (f : Cells) → Covers f 0 at → Covers (cells_with at x bytes f) 0 (at + length bytes)
 covers_more at x bytes f all p lo lt = elim (inside-cases at (length bytes) p) [
   | inl here ↦ rw here.0 refl
   | inr off ↦ rw off.0 (all p lo (before off.1 lt))
@@ -122,7 +122,7 @@ module _ (limits : Limits) (t : Tables) (now : ℕ) (flaw : Flaw) (s : Sound t) 
         let reach_now : u.reach ≡ max v.reach (front q + length more) = reach_is in
         let first : base z ≡ base w = keeps.base_is in
         let was : front w ≡ v.reach = g.front_is in
-        let stored_now : u.stored ≡ written (front q) y more v.stored = stored_is ∙ ap (λ b. if not b then written (front q) y more v.stored else v.stored) stored_on in
+        let stored_now : u.stored ≡ cells_with (front q) y more v.stored = stored_is ∙ ap (λ b. if not b then cells_with (front q) y more v.stored else v.stored) stored_on in
         let all : Covers v.stored 0 (front q) = (λ p lo lt. g.whole p lo (let lt_it : p < front q = lt in omega arith)) in
         record {
           front_is = omega arith;
@@ -142,7 +142,7 @@ module _ (limits : Limits) (t : Tables) (now : ℕ) (flaw : Flaw) (s : Sound t) 
           headed = ap (λ (a : Option Response). is_some a) keeps.head_is ∙ g.headed;
           front_is = more.front_is;
           whole = more.whole;
-          promise = total ∙ (g.promise ∙ (ap (λ n. end_from n (promised w)) (sym keeps.base_is) ∙ ap (end_from (base z)) (sym keeps.promise_is)));
+          promise = total ∙ (g.promise ∙ (ap (λ n. end_from n (promised_bytes w)) (sym keeps.base_is) ∙ ap (end_from (base z)) (sym keeps.promise_is)));
         }
 
   -- A HEAD THAT BEGINS ONE
@@ -233,7 +233,7 @@ module _ (limits : Limits) (t : Tables) (now : ℕ) (flaw : Flaw) (s : Sound t) 
       resumes_told (tells.part is) =
           let l : length_by z z.head ≡ told.Part j.fills.from (j.fills.last + 1 - j.fills.from) = length_is ∙ is in
           let base_is : base z ≡ j.fills.from = ap base_of l in
-          let promise_is : promised z ≡ Some (j.fills.last + 1 - j.fills.from) = ap promise_of l in
+          let promise_is : promised_bytes z ≡ Some (j.fills.last + 1 - j.fills.from) = ap promise_of l in
           let order = part_order got.response.fields j.fills.from j.fills.last j.fills.total j.fills.part in
           let is_sorted : j.fills.from ≤ j.fills.last = order.is_sorted in
           let all : j.fills.last + 1 ≡ j.fills.total = last in
@@ -263,7 +263,7 @@ module _ (limits : Limits) (t : Tables) (now : ℕ) (flaw : Flaw) (s : Sound t) 
     zero_end None n is = refl
     zero_end (Some k) n is = ap Some (omega arith)
 
-    now_founded : (u : Representation) → represented x e got.response w ≡ u → now_on.representation x ≡ Some u → (got.response.status == 206) ≡ false → IsGrowing now_on x u x z
+    now_founded : (u : Representation) → new_representation x e got.response w ≡ u → now_on.representation x ≡ Some u → (got.response.status == 206) ≡ false → IsGrowing now_on x u x z
     now_founded u made there off =
         let first : base z ≡ 0 = ap base_of length_is ∙ whole_base w.need w.request got.response off in
         let none : length z.body ≡ 0 = body_none in
@@ -276,7 +276,7 @@ module _ (limits : Limits) (t : Tables) (now : ℕ) (flaw : Flaw) (s : Sound t) 
           headed = ap (λ (a : Option Response). is_some a) got.head_is;
           front_is = omega arith;
           whole = λ p lo lt. absurd (let lt_it : p < u.reach = lt in omega arith);
-          promise = sym (ap (λ (a : Representation). a.head.total) made) ∙ (total_now ∙ (sym (ap promise_of length_is) ∙ zero_end (promised z) (base z) first));
+          promise = sym (ap (λ (a : Representation). a.head.total) made) ∙ (total_now ∙ (sym (ap promise_of length_is) ∙ zero_end (promised_bytes z) (base z) first));
         }
 
   -- ALL OF IT
@@ -325,7 +325,7 @@ module _ (limits : Limits) (t : Tables) (now : ℕ) (flaw : Flaw) (s : Sound t) 
       head_inj : (n : ℕ) (a c : Response) → event.Head n a ≡ event.Head n c → a ≡ c
       head_inj n a c is = cc
 
-  is_founded : (r x : ℕ) (response : Response) (w : Exchange) (u : Representation) → ev ≡ event.Head r response → t.exchange r ≡ Some w → represented r e response w ≡ u → now_on.representation r ≡ Some u → IsOn now_on u x → u.writer ≡ Some x → (z : Exchange) × IsGrowing now_on r u x z
+  is_founded : (r x : ℕ) (response : Response) (w : Exchange) (u : Representation) → ev ≡ event.Head r response → t.exchange r ≡ Some w → new_representation r e response w ≡ u → now_on.representation r ≡ Some u → IsOn now_on u x → u.writer ≡ Some x → (z : Exchange) × IsGrowing now_on r u x z
   is_founded r x response w u here row made there on writer =
       let writes : writer_at r response ≡ Some x = ap (λ (a : Representation). a.writer) made ∙ writer in
       let off : (response.status == 206) ≡ false = writer_if (response.status == 206) r x writes in
@@ -334,7 +334,7 @@ module _ (limits : Limits) (t : Tables) (now : ℕ) (flaw : Flaw) (s : Sound t) 
       let got = headed_of r w goes_on.u response here goes_on.same row in
       let answer : response ≡ got.response = head_inj r response got.response (sym here ∙ got.at) in
       let opened = open_of r goes_on.u goes_on.row (ap (λ n. is_open (now_on.exchange n)) number ∙ on.open_now) in
-      let grows : IsGrowing now_on r u r goes_on.u = now_founded r w goes_on.u row goes_on.same opened goes_on.row got u (ap (λ (a : Response). represented r e a w) (sym answer) ∙ made) there (ap (λ (a : Response). a.status == 206) (sym answer) ∙ off) in
+      let grows : IsGrowing now_on r u r goes_on.u = now_founded r w goes_on.u row goes_on.same opened goes_on.row got u (ap (λ (a : Response). new_representation r e a w) (sym answer) ∙ made) there (ap (λ (a : Response). a.status == 206) (sym answer) ∙ off) in
       (goes_on.u, subst (λ n. IsGrowing now_on r u n goes_on.u) number grows)
     where
       head_inj : (n : ℕ) (a c : Response) → event.Head n a ≡ event.Head n c → a ≡ c

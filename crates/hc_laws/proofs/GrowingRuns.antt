@@ -34,7 +34,7 @@ use Rattle.hc_laws.proofs.FitsKept.{any_some}
 use Rattle.hc_model.proofs.HeadKeeps.{is_join, is_aimed}
 use Rattle.hc_model.proofs.HoleLemmas.{bool_cases}
 use Rattle.hc_laws.proofs.OfEntries.{of_real}
-use Rattle.hc_model.proofs.Pens.{writer_some}
+use Rattle.hc_model.proofs.ExclusiveWriters.{writer_some}
 use Rattle.hc_model.proofs.RepFrom as rep
 use Rattle.hc_laws.proofs.SoundRuns.{carried}
 use Rattle.hc_laws.proofs.Unknowns.{Unknown}

@@ -6,7 +6,7 @@ use Rattle.hc_range.specs.declared.range.Asked.{Asked}
 use Rattle.hc_range.specs.declared.range.ContentRange.{ContentRange}
 use Rattle.hc_range.specs.declared.range.ContentRange.TheVariants as range
 use Rattle.hc_range.specs.declared.range.Span.{Span}
-use Rattle.hc_range.specs.Spans.{resolved}
+use Rattle.hc_range.specs.Spans.{resolved_span}
 use Rattle.hc_event.specs.Filters.{Opening, opening_in}
 use Rattle.hc_event.specs.declared.act.Act.{Act}
 use Rattle.hc_event.specs.declared.act.Act.TheVariants as act
@@ -39,9 +39,9 @@ use Rattle.hc_model.specs.Keys.{entry_of}
 use Rattle.hc_model.specs.Measures.{Measures}
 use Rattle.hc_model.specs.Owners.{Owners}
 use Rattle.hc_model.specs.Reading.{is_written, reads}
-use Rattle.hc_model.specs.RepresentationRows.{representation_heard, represented, resumes, updates, writer_at, renewed, headed}
+use Rattle.hc_model.specs.RepresentationRows.{representation_heard, new_representation, resumes, updates, writer_at, with_renewed_head, representation_after_head}
 use Rattle.hc_model.specs.Rows.{Tables, Exchange, Representation, Consumer}
-use Rattle.hc_model.specs.Sound.{Sound, IsBound, IsAbout, IsHad, HasPen}
+use Rattle.hc_model.specs.Sound.{Sound, IsBound, IsAbout, IsHad, IsExclusiveWriter}
 use Rattle.hc_model.specs.Sound as sound
 use Rattle.hc_model.specs.StartingOver.{starts_over}
 use Rattle.hc_model.specs.Tables.{after_accepted}
@@ -64,7 +64,7 @@ use Rattle.hc_model.proofs.HoleLemmas.{bool_cases}
 use Rattle.hc_laws.proofs.LossBy.{IsReal}
 use Rattle.hc_model.proofs.MeasuresKeep.{founder_not, number_not}
 use Rattle.hc_model.proofs.OwnersKeep.{is_opened}
-use Rattle.hc_model.proofs.Pens.{same_row}
+use Rattle.hc_model.proofs.ExclusiveWriters.{same_row}
 use Rattle.hc_model.proofs.RepFrom.{RepFrom, rep_from, IsKept}
 use Rattle.hc_model.proofs.RepFrom as rep
 use Rattle.hc_laws.proofs.UndueKeeps.{founder_undue, no_cause}
@@ -101,7 +101,7 @@ part_by k w response asked None is status at h = absurd (false_true h)
 part_by k w response asked (Some (range.Unsatisfied total)) is status at h = absurd (false_true h)
 part_by k w response asked (Some (range.Part first last None)) is status at h = absurd (false_true h)
 part_by k w response asked (Some (range.Part first last (Some total))) is status at h =
-    let span = some_span (resolved asked total) first last h in
+    let span = some_span (resolved_span asked total) first last h in
     let on : nat_eq response.status 206 ≡ true = (let st : response.status ≡ 206 = status in grind (arith, nat_tests)) in
     let told : founded_total w response ≡ Some total = rw (on, at) refl in
     record { span = span.0; wanted_is = ap (λ q. wanted_of q (founded_total w response)) is ∙ (ap (wanted_of (Some asked)) told ∙ ap wanted_part span.1) }
@@ -220,8 +220,8 @@ module _ (limits : Limits) (t : Tables) (now : ℕ) (flaw : Flaw) (s : Sound t) 
       resumed_had resumed quiet =
           let number : is_number w.aim r ≡ true = ap (λ a. is_number a r) aim ∙ (let test : nat_eq r r ≡ true = grind (arith, nat_tests) in test) in
           let updates_it : updates t e r w v ≡ true = and_both _ _ (and_both _ _ (updating (case_at t e) joins) number) (ap not quiet) in
-          let writes : (renewed t e x got.response w v).writer ≡ Some x = rw (joins, resumed) refl in
-          let heard_row : (representation_heard t e r ev v).writer ≡ Some x = ap (λ a. (representation_heard t e r a v).writer) got.at ∙ (ap (λ a. (headed t e r x got.response a v).writer) is_row ∙ (rw updates_it writes)) in
+          let writes : (with_renewed_head t e x got.response w v).writer ≡ Some x = rw (joins, resumed) refl in
+          let heard_row : (representation_heard t e r ev v).writer ≡ Some x = ap (λ a. (representation_heard t e r a v).writer) got.at ∙ (ap (λ a. (representation_after_head t e r x got.response a v).writer) is_row ∙ (rw updates_it writes)) in
           let writer : p.writer ≡ Some x = sym (ap (λ (q : Representation). q.writer) kept.is) ∙ heard_row in
           let parts = or_false v.is_lost (loses_in r e.acts) quiet in
           let not_lost : p.is_lost ≡ false = kept.lost_is ∙ rw (parts.0, parts.1) refl in
@@ -252,11 +252,11 @@ module _ (limits : Limits) (t : Tables) (now : ℕ) (flaw : Flaw) (s : Sound t) 
       kept_had unshared =
           let at : k.place ≡ place.Bound r stood.0 stood.1 stood.2 = stood.3 in
           let off : is_written t v ≡ false = not_so _ (λ written. unwritten limits t now flaw s o ev goes w.c x k w waiter r stood.0 stood.1 stood.2 v v.writer at kept.row written refl) in
-          let pens = waits_undue limits t now flaw s o ev goes r w.c x stood.0 stood.1 stood.2 v k w waiter at kept.row in
+          let exclusive_writers = waits_undue limits t now flaw s o ev goes r w.c x stood.0 stood.1 stood.2 v k w waiter at kept.row in
           let placed : place_by_case x got.response w k (case_at t e) ≡ place.Bound r stood.0 stood.1 stood.2 = joins_place limits t now flaw s o ev goes real.stand x got.response w k (case_at t e) joins ∙ at in
           let unlosing : loses_writing t e r v ≡ false = not_so _ (λ h. false_true (sym off ∙ and_right _ _ h)) in
           let stays : own_after t e w.c (place_by_case x got.response w k (case_at t e)) (Some x) ≡ Some x = ap (λ a. own_after t e w.c a (Some x)) placed ∙ (ap (λ a. left_to t e w.c r a (Some x)) kept.row ∙ rw unlosing refl) in
-          own_had limits t now flaw s o m ev goes real r w.c x stood.0 stood.1 stood.2 k (u join_binds unshared) v p waiter.row at kept.row kept (own_open_is t k x (record { own = waiter.own; w = w; row = is_row; opened = waiter.was_open })) pens.0 off pens.1 (u_row join_binds unshared) (u_place join_binds unshared ∙ placed) w z same after_x on (u_is join_binds unshared) (own_if join_binds unshared stays) (no_head join_binds unshared)
+          own_had limits t now flaw s o m ev goes real r w.c x stood.0 stood.1 stood.2 k (u join_binds unshared) v p waiter.row at kept.row kept (own_open_is t k x (record { own = waiter.own; w = w; row = is_row; opened = waiter.was_open })) exclusive_writers.0 off exclusive_writers.1 (u_row join_binds unshared) (u_place join_binds unshared ∙ placed) w z same after_x on (u_is join_binds unshared) (own_if join_binds unshared stays) (no_head join_binds unshared)
 
       joined_had : IsHad now_on r p x
       joined_had = elim (bool_cases (is_resumed t e got.response w (row_of t w.aim))) [
@@ -272,7 +272,7 @@ module _ (limits : Limits) (t : Tables) (now : ℕ) (flaw : Flaw) (s : Sound t) 
 
     -- FOUNDED
 
-    module _ (p : Representation) (founding : is_founding (case_at t e) ≡ true) (made : represented x e got.response w ≡ p) (after : now_on.representation x ≡ Some p) where
+    module _ (p : Representation) (founding : is_founding (case_at t e) ≡ true) (made : new_representation x e got.response w ≡ p) (after : now_on.representation x ≡ Some p) where
       found_binds : (is_founding (case_at t e) || is_joining (case_at t e)) ≡ true
       found_binds = or_left _ _ founding
 
@@ -316,7 +316,7 @@ module _ (limits : Limits) (t : Tables) (now : ℕ) (flaw : Flaw) (s : Sound t) 
     own_by r p here after (rep.founded response y none also row_too founding made) =
         let answer : response ≡ got.response = head_inj r x response got.response (sym also ∙ got.at) in
         let one : y ≡ w = same_row (t.exchange x) y w (sym (ap t.exchange here) ∙ row_too) is_row in
-        let made_x : represented x e got.response w ≡ p = ap (λ (a : Exchange). represented x e got.response a) (sym one) ∙ (ap (λ (a : Response). represented x e a y) (sym answer) ∙ (ap (λ (n : ℕ). represented n e response y) (sym here) ∙ made)) in
+        let made_x : new_representation x e got.response w ≡ p = ap (λ (a : Exchange). new_representation x e got.response a) (sym one) ∙ (ap (λ (a : Response). new_representation x e a y) (sym answer) ∙ (ap (λ (n : ℕ). new_representation n e response y) (sym here) ∙ made)) in
         subst (λ n. IsHad now_on n p x) (sym here) (founded_had p founding made_x (sym (ap now_on.representation here) ∙ after))
 
     join_by : (r : ℕ) (p : Representation) → is_joining (case_at t e) ≡ true → w.aim ≡ Some r → now_on.representation r ≡ Some p → RepFrom t e r p → IsHad now_on r p x

@@ -32,9 +32,9 @@ use Rattle.hc_model.specs.Measures.{Measures}
 use Rattle.hc_model.specs.Owners.{Owners, IsAwaiting, Awaits}
 use Rattle.hc_model.specs.Owners as owners
 use Rattle.hc_model.specs.Polls.{move_of}
-use Rattle.hc_model.specs.Reading.{is_written, bound, bound_to, own_open, reads, source, shared}
+use Rattle.hc_model.specs.Reading.{is_written, bound, bound_to, own_open, reads, source, shared_exchange}
 use Rattle.hc_model.specs.Rows.{Tables, Exchange, Representation, Consumer}
-use Rattle.hc_model.specs.Sound.{Sound, Among, IsBound, IsAbout, IsHad, HasPen, IsFirst, IsGrowing}
+use Rattle.hc_model.specs.Sound.{Sound, Among, IsBound, IsAbout, IsHad, IsExclusiveWriter, IsFirst, IsGrowing}
 use Rattle.hc_model.specs.Sound as sound
 use Rattle.hc_model.specs.StartingOver.{starts_over}
 use Rattle.hc_model.specs.Tables.{after_accepted}
@@ -58,7 +58,7 @@ use Rattle.hc_model.proofs.OpensFrom.{opens_hole, hole_is}
 use Rattle.hc_model.proofs.OpenedAs as opened
 use Rattle.hc_model.proofs.OwnersKeep.{is_opened}
 use Rattle.hc_model.proofs.PieceKeeps.{eq_cases, some_inj}
-use Rattle.hc_model.proofs.Pens.{same_row, writer_some, bound_some}
+use Rattle.hc_model.proofs.ExclusiveWriters.{same_row, writer_some, bound_some}
 use Rattle.hc_model.proofs.PollTree as tree
 use Rattle.hc_model.proofs.RepFrom.{RepFrom, rep_from, IsKept, IsResumed}
 use Rattle.hc_model.proofs.RepFrom as rep
@@ -110,7 +110,7 @@ module _ (limits : Limits) (t : Tables) (now : ℕ) (flaw : Flaw) (s : Sound t) 
   -- NOTHING BECOMES DUE BY WHAT GOES ON
 
   own_source : (k : Consumer) (x : ℕ) → own_open t k ≡ Some x → source t k ≡ Some x
-  own_source k x own = ap (λ z. option_or z (shared t k.place)) own
+  own_source k x own = ap (λ z. option_or z (shared_exchange t k.place)) own
 
   stop_by : (k : Consumer) (x : ℕ) (w z : Exchange) → source t k ≡ Some x → IsSame t e x w z → z.is_open ≡ true → (v : Event) → ev ≡ v → cause_of_stop t e k ≡ None
   stop_by k x w z from_x same on (event.Start d request) here = stop_none t e k (ap (stop_cause t) here)
@@ -150,7 +150,7 @@ module _ (limits : Limits) (t : Tables) (now : ℕ) (flaw : Flaw) (s : Sound t) 
   unlosing : (r : ℕ) (v : Representation) → is_written t v ≡ false → loses_writing t e r v ≡ false
   unlosing r v off = not_so _ (λ h. false_true (sym off ∙ and_right _ _ h))
 
-  module _ (r c x lo : ℕ) (hi : Option ℕ) (how : BoundBy) (k u : Consumer) (v p : Representation) (row : t.consumer c ≡ Some k) (at : k.place ≡ place.Bound r lo hi how) (there : t.representation r ≡ Some v) (kept : IsKept t e r v p) (own : own_open t k ≡ Some x) (none_due : k.due ≡ None) (off : is_written t v ≡ false) (pen : HasPen t r v c) (after_row : now_on.consumer c ≡ Some u) (stands : u.place ≡ place.Bound r lo hi how) where
+  module _ (r c x lo : ℕ) (hi : Option ℕ) (how : BoundBy) (k u : Consumer) (v p : Representation) (row : t.consumer c ≡ Some k) (at : k.place ≡ place.Bound r lo hi how) (there : t.representation r ≡ Some v) (kept : IsKept t e r v p) (own : own_open t k ≡ Some x) (none_due : k.due ≡ None) (off : is_written t v ≡ false) (exclusive_writer : IsExclusiveWriter t r v c) (after_row : now_on.consumer c ≡ Some u) (stands : u.place ≡ place.Bound r lo hi how) where
     reader : IsBound t r c k
     reader = sound.is_bound lo hi how row at
 
@@ -162,17 +162,17 @@ module _ (limits : Limits) (t : Tables) (now : ℕ) (flaw : Flaw) (s : Sound t) 
     may : IsFirst t r c → may_write t v (Some k) ≡ true
     may is = rw (ap (came_alone t) at ∙ first_same is, none_due, own) refl
 
-    pen_after : HasPen now_on r p c
-    pen_after = by_pen pen
+    exclusive_writer_after : IsExclusiveWriter now_on r p c
+    exclusive_writer_after = by_exclusive_writer exclusive_writer
       where
-        by_pen : HasPen t r v c → HasPen now_on r p c
-        by_pen (sound.first new is) = elim (bool_cases (loses_in r e.acts)) [
+        by_exclusive_writer : IsExclusiveWriter t r v c → IsExclusiveWriter now_on r p c
+        by_exclusive_writer (sound.first new is) = elim (bool_cases (loses_in r e.acts)) [
           | inr quiet ↦ sound.first ((kept_alone limits t now flaw s o m ev goes real r v p kept quiet).0 ∙ new) (sound.first u lo hi how after_row stands (came_kept limits t now flaw s ev goes r lo hi how (ap is_some there) ∙ first_same is))
           | inl loses ↦
               let all = lost_alone limits t now flaw s o m ev goes real r v p there kept loses in
               sound.alone all.0 (all.1 ∙ (rw (unlosing r v off) (exclusive_is t r c v k s reader off (may is))))
         ]
-        by_pen (sound.alone lost is) = elim (bool_cases (loses_in r e.acts)) [
+        by_exclusive_writer (sound.alone lost is) = elim (bool_cases (loses_in r e.acts)) [
           | inl loses ↦ absurd (false_true (sym (fresh limits t now flaw s o m ev goes real r v there loses) ∙ lost))
           | inr quiet ↦ let all = kept_alone limits t now flaw s o m ev goes real r v p kept quiet in sound.alone (all.0 ∙ lost) (all.1 ∙ is)
         ]
@@ -181,7 +181,7 @@ module _ (limits : Limits) (t : Tables) (now : ℕ) (flaw : Flaw) (s : Sound t) 
     own_had w z same after_x opened_now is mine no_head =
         let undue : becomes_due t e c k ≡ None = undue_of t e c k (record { stop = stop_by k x w z (own_source k x own) same opened_now ev refl; loss = loss_at t e c r lo hi how k v at there (unlosing r v off); head = no_head }) in
         let none : u.due ≡ None = due_none t e c k (consumer_acted t e c (consumer_heard t e c ev k)) u is (ap reads stands) none_due undue in
-        sound.own c u (sound.is_bound lo hi how after_row stands) (own_open_is now_on u x (record { own = mine; w = z; row = after_x; opened = opened_now })) none pen_after
+        sound.own c u (sound.is_bound lo hi how after_row stands) (own_open_is now_on u x (record { own = mine; w = z; row = after_x; opened = opened_now })) none exclusive_writer_after
 
   -- AN OWN EXCHANGE WITH ITS HEAD
 
@@ -258,9 +258,9 @@ module _ (limits : Limits) (t : Tables) (now : ℕ) (flaw : Flaw) (s : Sound t) 
         let left : own_after t e c k.place (Some x) ≡ Some x = ap (λ a. own_after t e c a (Some x)) at ∙ (ap (λ a. left_to t e c r a (Some x)) there ∙ rw quiet refl) in
         sym (ap (λ (q : Consumer). q.own) stays.is) ∙ (ap (λ (h : Consumer). own_after t e c h.place (by_opening t c (opening_in e.acts) (waiting t e c h)).own) stays.heard_is ∙ (ap (own_after t e c k.place) mine ∙ left))
 
-    pub headed_had : (p : Representation) → IsKept t e r v p → k.due ≡ None → HasPen t r v c → IsHad now_on r p x
-    headed_had p kept none_due pen =
-        own_had r c x lo hi how k stays.u v p row at there kept own none_due (own_unwritten r c x k v own_reader row there own) pen stays.after stays.stands w z same after_x opened_now stays.is own_stays
+    pub headed_had : (p : Representation) → IsKept t e r v p → k.due ≡ None → IsExclusiveWriter t r v c → IsHad now_on r p x
+    headed_had p kept none_due exclusive_writer =
+        own_had r c x lo hi how k stays.u v p row at there kept own none_due (own_unwritten r c x k v own_reader row there own) exclusive_writer stays.after stays.stands w z same after_x opened_now stays.is own_stays
         (head_by c (λ y response q here exchange_row mine. let new = is_new limits t now flaw s ev goes y response q here exchange_row in no_waiter y q exchange_row new.is_open new.bare mine) ev refl)
 
   -- AN OWN EXCHANGE WITHOUT ITS HEAD
@@ -285,10 +285,10 @@ module _ (limits : Limits) (t : Tables) (now : ℕ) (flaw : Flaw) (s : Sound t) 
           let going = forward.is_kept t e w.c k waiter.row in
           let one : going.u ≡ st.u = same_row (now_on.consumer w.c) going.u st.u going.row st.row in
           let is : due_after t e w.c k (consumer_acted t e w.c (consumer_heard t e w.c ev k)) ≡ st.u = settled w.c k (consumer_acted t e w.c (consumer_heard t e w.c ev k)) st.u (starts_over t e w.c k) refl never_over (going.is ∙ one) in
-          let pens = waits_undue limits t now flaw s o ev goes r w.c x lo hi how v k w waiter at kept.row in
+          let exclusive_writers = waits_undue limits t now flaw s o ev goes r w.c x lo hi how v k w waiter at kept.row in
           let off : is_written t v ≡ false = not_so _ (λ written. unwritten limits t now flaw s o ev goes w.c x k w waiter r lo hi how v v.writer at kept.row written refl) in
           let own : own_open t k ≡ Some x = own_open_is t k x (record { own = waiter.own; w = w; row = is_row; opened = waiter.was_open }) in
-          own_had r w.c x lo hi how k st.u v p waiter.row at kept.row kept own pens.0 off pens.1 st.row (st.place_is ∙ at) w z same after_x on is st.own_is
+          own_had r w.c x lo hi how k st.u v p waiter.row at kept.row kept own exclusive_writers.0 off exclusive_writers.1 st.row (st.place_is ∙ at) w z same after_x on is st.own_is
           (head_by w.c (λ y response q here exchange_row mine. other (ap exchange_in here ∙ ap Some (head_is_own limits t now flaw s o ev goes w.c x k w waiter y response q here exchange_row mine))) ev refl)
 
       by_place : (k : Consumer) (waiter : IsWaiter t w.c x k w) → IsAwaiting x w k.place → IsHad now_on r p x
@@ -395,9 +395,9 @@ module _ (limits : Limits) (t : Tables) (now : ℕ) (flaw : Flaw) (s : Sound t) 
   pub was_headed : (r x : ℕ) (w z : Exchange) (v p : Representation) → t.representation r ≡ Some v → IsKept t e r v p → t.exchange x ≡ Some w → is_some w.head ≡ true → family x w ≡ r → IsSame t e x w z → now_on.exchange x ≡ Some z → z.is_open ≡ true → IsHad now_on r p x
   was_headed r x w z v p there kept is_row headed of_r same after_x on = by_had (s.writes.had r x v there (sound.headed w is_row (same.was_open on) headed of_r (ap is_some there)))
     where
-      by_reader_of : (c : ℕ) (k : Consumer) → IsBound t r c k → own_open t k ≡ Some x → k.due ≡ None → HasPen t r v c → IsHad now_on r p x
-      by_reader_of c k (sound.is_bound lo hi how row at) own none pen = headed_had r c x lo hi how k v w z row at there own is_row headed same after_x on p kept none pen
+      by_reader_of : (c : ℕ) (k : Consumer) → IsBound t r c k → own_open t k ≡ Some x → k.due ≡ None → IsExclusiveWriter t r v c → IsHad now_on r p x
+      by_reader_of c k (sound.is_bound lo hi how row at) own none exclusive_writer = headed_had r c x lo hi how k v w z row at there own is_row headed same after_x on p kept none exclusive_writer
 
       by_had : IsHad t r v x → IsHad now_on r p x
       by_had (sound.shared written writer) = shared_had r x w z v p there kept written writer is_row headed same after_x on
-      by_had (sound.own c k reader own none pen) = by_reader_of c k reader own none pen
+      by_had (sound.own c k reader own none exclusive_writer) = by_reader_of c k reader own none exclusive_writer

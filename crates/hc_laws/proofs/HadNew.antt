@@ -26,7 +26,7 @@ use Rattle.hc_model.specs.Owners as owners
 use Rattle.hc_model.specs.Polls.{shows_at, shows_direct, move_of, if_headless}
 use Rattle.hc_model.specs.Reading.{bound, bound_to, own_open, reads}
 use Rattle.hc_model.specs.Rows.{Tables, Exchange, Representation, Consumer}
-use Rattle.hc_model.specs.Sound.{Sound, IsBound, IsAbout, IsHad, HasPen, IsFirst}
+use Rattle.hc_model.specs.Sound.{Sound, IsBound, IsAbout, IsHad, IsExclusiveWriter, IsFirst}
 use Rattle.hc_model.specs.Sound as sound
 use Rattle.hc_model.specs.Tables.{after_accepted}
 use Rattle.hc_model.specs.Writers.{brings_body, came_alone}
@@ -42,7 +42,7 @@ use Rattle.hc_laws.proofs.LossBy.{IsReal, IsSealing, sealed_loss}
 use Rattle.hc_model.proofs.OpensFrom.{opens_hole, hole_is}
 use Rattle.hc_model.proofs.OwnersKeep.{is_opened}
 use Rattle.hc_model.proofs.PieceKeeps.{some_inj}
-use Rattle.hc_model.proofs.Pens.{same_row, bound_some, none_about, has_pen, none_about_hole}
+use Rattle.hc_model.proofs.ExclusiveWriters.{same_row, bound_some, none_about, has_exclusive_writer, none_about_hole}
 use Rattle.hc_model.proofs.PollKeeps.{current_stays}
 use Rattle.hc_model.proofs.PollTree as tree
 use Rattle.hc_model.proofs.RepFrom.{RepFrom, rep_from, IsKept, IsResumed}
@@ -78,19 +78,19 @@ module _ (limits : Limits) (t : Tables) (now : ℕ) (flaw : Flaw) (s : Sound t) 
         by_test false is = refl
         by_test true loses = absurd (none (sealed_loss limits t now flaw s o m ev goes real r v there loses (ap brings_body polls)))
 
-    had : u.due ≡ None → HasPen now_on r p c → IsHad now_on r p x
-    had none pen = sound.own c u (sound.is_bound lo hi how after_row stands) own_u none pen
+    had : u.due ≡ None → IsExclusiveWriter now_on r p c → IsHad now_on r p x
+    had none exclusive_writer = sound.own c u (sound.is_bound lo hi how after_row stands) own_u none exclusive_writer
 
     -- A LATER HOLE
 
-    pen_quiet : (k : Consumer) (v : Representation) → t.consumer c ≡ Some k → k.place ≡ place.Bound r lo hi how → t.representation r ≡ Some v → IsKept t e r v p → loses_in r e.acts ≡ false → HasPen t r v c → HasPen now_on r p c
-    pen_quiet k v row at there kept still (sound.first new is) = sound.first ((kept_alone limits t now flaw s o m ev goes real r v p kept still).0 ∙ new) (sound.first u lo hi how after_row stands (came_kept limits t now flaw s ev goes r lo hi how (ap is_some there) ∙ first_same is))
+    exclusive_writer_quiet : (k : Consumer) (v : Representation) → t.consumer c ≡ Some k → k.place ≡ place.Bound r lo hi how → t.representation r ≡ Some v → IsKept t e r v p → loses_in r e.acts ≡ false → IsExclusiveWriter t r v c → IsExclusiveWriter now_on r p c
+    exclusive_writer_quiet k v row at there kept still (sound.first new is) = sound.first ((kept_alone limits t now flaw s o m ev goes real r v p kept still).0 ∙ new) (sound.first u lo hi how after_row stands (came_kept limits t now flaw s ev goes r lo hi how (ap is_some there) ∙ first_same is))
       where
         first_same : IsFirst t r c → came_alone t (place.Bound r lo hi how) ≡ true
         first_same (sound.first a l h g a_row a_at alone) =
             let one : a ≡ k = same_row (t.consumer c) a k a_row row in
             subst (λ y. came_alone t y ≡ true) (sym a_at ∙ (ap (λ (y : Consumer). y.place) one ∙ at)) alone
-    pen_quiet k v row at there kept still (sound.alone lost is) = let all = kept_alone limits t now flaw s o m ev goes real r v p kept still in sound.alone (all.0 ∙ lost) (all.1 ∙ is)
+    exclusive_writer_quiet k v row at there kept still (sound.alone lost is) = let all = kept_alone limits t now flaw s o m ev goes real r v p kept still in sound.alone (all.0 ∙ lost) (all.1 ∙ is)
 
     same_place : (n : ℕ) (k a : Consumer) → k.place ≡ place.Bound r lo hi how → t.consumer c ≡ Some k → IsBound t n c a → n ≡ r
     same_place n k a at row (sound.is_bound l h g a_row a_at) =
@@ -118,9 +118,9 @@ module _ (limits : Limits) (t : Tables) (now : ℕ) (flaw : Flaw) (s : Sound t) 
         by_hole from_at to_at (tree.later n top count v2 at_hole none from_is to) =
             let number : n ≡ r = same_place n k k at row.row at_hole.is_reader in
             let one : v2 ≡ v = same_row (t.representation r) v2 v (sym (ap t.representation number) ∙ at_hole.row) kept.row in
-            let pen : HasPen t r v c = subst (λ (a : Representation). HasPen t r a c) one (subst (λ i. HasPen t i v2 c) number (has_pen t n c top v2 k s at_hole)) in
+            let exclusive_writer : IsExclusiveWriter t r v c = subst (λ (a : Representation). IsExclusiveWriter t r a c) one (subst (λ i. IsExclusiveWriter t i v2 c) number (has_exclusive_writer t n c top v2 k s at_hole)) in
             let still = quiet v kept.row (λ y. none_about_hole t n c top y.y v2 k s at_hole (subst (λ i. IsAbout t i y.y) (sym number) (sound.headed y.w y.row y.was_open y.headed y.of_r (ap is_some kept.row)))) in
-            had (none_after k row.is at_hole.none_due) (pen_quiet k v row.row at kept.row kept still pen)
+            had (none_after k row.is at_hole.none_due) (exclusive_writer_quiet k v row.row at kept.row kept still exclusive_writer)
 
     -- A FIRST HOLE
 

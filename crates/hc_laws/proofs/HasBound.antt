@@ -27,7 +27,7 @@ use Rattle.hc_model.specs.Flaws.{Flaw}
 use Rattle.hc_model.specs.Keys.{entry_of}
 use Rattle.hc_model.specs.Owners.{Owners, IsAwaiting}
 use Rattle.hc_model.specs.Owners as owners
-use Rattle.hc_model.specs.Reading.{is_written, is_bound, is_bound_place, bound, shared}
+use Rattle.hc_model.specs.Reading.{is_written, is_bound, is_bound_place, bound, shared_exchange}
 use Rattle.hc_model.specs.Rows.{Tables, Exchange, Representation, Consumer}
 use Rattle.hc_model.specs.Runs.{may_stand}
 use Rattle.hc_model.specs.Sound.{Sound, Numbered, Among, IsBound}
@@ -45,7 +45,7 @@ use Rattle.hc_laws.proofs.MemberStays.{member_stays}
 use Rattle.hc_model.proofs.NamesKeep.{names_are_kept}
 use Rattle.hc_model.proofs.NumbersKeep.{numbers_are_kept}
 use Rattle.hc_model.proofs.PieceKeeps.{eq_cases, some_inj}
-use Rattle.hc_model.proofs.Pens.{writer_some, bound_some}
+use Rattle.hc_model.proofs.ExclusiveWriters.{writer_some, bound_some}
 use Rattle.hc_model.proofs.RepFrom.{RepFrom, rep_from, IsKept, IsResumed}
 use Rattle.hc_model.proofs.RepFrom as rep
 use Rattle.hc_model.proofs.Said.{leaving_by}
@@ -163,8 +163,8 @@ module _ (limits : Limits) (t : Tables) (now : ℕ) (flaw : Flaw) (s : Sound t) 
 
   shared_is : (r l x : ℕ) (k : Consumer) (v : Representation) → IsBound t r l k → t.representation r ≡ Some v → is_written t v ≡ true → v.writer ≡ Some x → list_all (λ d. d == l) (bound t r) ≡ true → is_left_by t x l (Some k) ≡ true
   shared_is r l x k v (sound.is_bound lo hi how row at) there on writer all =
-      let from : shared t k.place ≡ Some x = rw (at, there, on) writer in
-      let number : is_number (shared t k.place) x ≡ true = ap (λ z. is_number z x) from ∙ (let test : nat_eq x x ≡ true = grind (arith, nat_tests) in test) in
+      let from : shared_exchange t k.place ≡ Some x = rw (at, there, on) writer in
+      let number : is_number (shared_exchange t k.place) x ≡ true = ap (λ z. is_number z x) from ∙ (let test : nat_eq x x ≡ true = grind (arith, nat_tests) in test) in
       let last : is_last_reader t l k.place ≡ true = ap (is_last_reader t l) at ∙ all in
       or_right _ _ (and_both _ _ number last)
 
@@ -343,33 +343,33 @@ module _ (limits : Limits) (t : Tables) (now : ℕ) (flaw : Flaw) (s : Sound t) 
 
   -- and that of one that founds with all of a body reads what it founds
   founds_place : (r x : ℕ) (response : Response) (w : Exchange) (k : Consumer) (g : Option HeadCase) → becomes_shared t e response w g ≡ true → is_founding g ≡ true → place_by_case x response w k g ≡ place.Bound x 0 (promise_in w response) by.Founding
-  founds_place r x response w k None shared on = absurd (false_true on)
-  founds_place r x response w k (Some case.FoundsWhole) shared on = refl
-  founds_place r x response w k (Some case.FirstReplaced) shared on = refl
-  founds_place r x response w k (Some case.FoundsRange) shared on = absurd (false_true shared)
-  founds_place r x response w k (Some case.FirstJoins) shared on = absurd (false_true on)
-  founds_place r x response w k (Some case.LaterJoins) shared on = absurd (false_true on)
-  founds_place r x response w k (Some case.DirectBad) shared on = absurd (false_true on)
-  founds_place r x response w k (Some case.DirectTaken) shared on = absurd (false_true on)
-  founds_place r x response w k (Some case.TurnBad) shared on = absurd (false_true on)
-  founds_place r x response w k (Some case.Validated) shared on = absurd (false_true on)
-  founds_place r x response w k (Some case.NotValidated) shared on = absurd (false_true on)
-  founds_place r x response w k (Some case.TurnServerError) shared on = absurd (false_true on)
-  founds_place r x response w k (Some case.PassesBy) shared on = absurd (false_true on)
-  founds_place r x response w k (Some case.FirstBad) shared on = absurd (false_true on)
-  founds_place r x response w k (Some case.FirstServerError) shared on = absurd (false_true on)
-  founds_place r x response w k (Some case.FirstChanged) shared on = absurd (false_true on)
-  founds_place r x response w k (Some case.FirstPassesBy) shared on = absurd (false_true on)
-  founds_place r x response w k (Some case.LaterBad) shared on = absurd (false_true on)
-  founds_place r x response w k (Some case.LaterChanged) shared on = absurd (false_true on)
+  founds_place r x response w k None shared_exchange on = absurd (false_true on)
+  founds_place r x response w k (Some case.FoundsWhole) shared_exchange on = refl
+  founds_place r x response w k (Some case.FirstReplaced) shared_exchange on = refl
+  founds_place r x response w k (Some case.FoundsRange) shared_exchange on = absurd (false_true shared_exchange)
+  founds_place r x response w k (Some case.FirstJoins) shared_exchange on = absurd (false_true on)
+  founds_place r x response w k (Some case.LaterJoins) shared_exchange on = absurd (false_true on)
+  founds_place r x response w k (Some case.DirectBad) shared_exchange on = absurd (false_true on)
+  founds_place r x response w k (Some case.DirectTaken) shared_exchange on = absurd (false_true on)
+  founds_place r x response w k (Some case.TurnBad) shared_exchange on = absurd (false_true on)
+  founds_place r x response w k (Some case.Validated) shared_exchange on = absurd (false_true on)
+  founds_place r x response w k (Some case.NotValidated) shared_exchange on = absurd (false_true on)
+  founds_place r x response w k (Some case.TurnServerError) shared_exchange on = absurd (false_true on)
+  founds_place r x response w k (Some case.PassesBy) shared_exchange on = absurd (false_true on)
+  founds_place r x response w k (Some case.FirstBad) shared_exchange on = absurd (false_true on)
+  founds_place r x response w k (Some case.FirstServerError) shared_exchange on = absurd (false_true on)
+  founds_place r x response w k (Some case.FirstChanged) shared_exchange on = absurd (false_true on)
+  founds_place r x response w k (Some case.FirstPassesBy) shared_exchange on = absurd (false_true on)
+  founds_place r x response w k (Some case.LaterBad) shared_exchange on = absurd (false_true on)
+  founds_place r x response w k (Some case.LaterChanged) shared_exchange on = absurd (false_true on)
 
   by_founded : (r x : ℕ) (response : Response) (w : Exchange) → ev ≡ event.Head r response → t.exchange r ≡ Some w → is_founding (case_at t e) ≡ true → writer_at r response ≡ Some x → bound now_on r ≢ []
   by_founded r x response w here row on writer =
       let new = is_new limits t now flaw s ev goes r response w here row in
       let got = waiter_of limits t now flaw s o ev goes r w row new.is_open new.bare in
-      let shared = founded_shared limits t now flaw s o ev goes stand r x response w (case_at t e) here row refl on writer in
+      let shared_exchange = founded_shared limits t now flaw s o ev goes stand r x response w (case_at t e) here row refl on writer in
       let st = head_stands w.c r response w got.0 got.1 here (or_left _ _ on) in
-      read_by r w.c (st.0, sound.is_bound 0 (promise_in w response) by.Founding st.1 (st.2 ∙ founds_place r r response w got.0 (case_at t e) shared on))
+      read_by r w.c (st.0, sound.is_bound 0 (promise_in w response) by.Founding st.1 (st.2 ∙ founds_place r r response w got.0 (case_at t e) shared_exchange on))
 
   reader_from : (r x : ℕ) (v : Representation) → is_written now_on v ≡ true → v.writer ≡ Some x → RepFrom t e r v → bound now_on r ≢ []
   reader_from r x v on writer (rep.was q kept) = elim kept.writer_is [

@@ -15,14 +15,14 @@ use Rattle.hc_rules.specs.declared.room.Write.TheVariants as write
 use Rattle.hc_rules.specs.HeadCases.{head_case}
 use Rattle.hc_rules.specs.Lengths.{length_of, is_bad, promise_of}
 use Rattle.hc_model.specs.ActFilters.{has_loss, loses_in}
-use Rattle.hc_model.specs.Answers.{accepted, lost}
+use Rattle.hc_model.specs.Answers.{accepted_acts, loss_acts}
 use Rattle.hc_model.specs.Cases.{case_at, head_view, is_founding, is_updating, is_joining}
 use Rattle.hc_model.specs.Closings.{closing, closes_row, is_refused, has_no_survivor}
 use Rattle.hc_model.specs.Currents.{is_number}
 use Rattle.hc_model.specs.Denials.{denial}
 use Rattle.hc_model.specs.Dooms.{doomed, doomed_by_case}
-use Rattle.hc_model.specs.Effects.{Does, counted, let_all_go, all_closed, with_consumer, with_answer, gone}
-use Rattle.hc_model.specs.Entries.{Entry, unanswered}
+use Rattle.hc_model.specs.Effects.{Does, with_event, let_all_go, all_closed, with_consumer, with_answer, as_gone}
+use Rattle.hc_model.specs.Entries.{Entry, entry_without_acts}
 use Rattle.hc_model.specs.ExchangeRows.{promise_in}
 use Rattle.hc_model.specs.Exchanges.{is_reached, family}
 use Rattle.hc_model.specs.Flaws.{Flaw, NoFlaw}
@@ -30,7 +30,7 @@ use Rattle.hc_model.specs.Lawful.{Lawful}
 use Rattle.hc_model.specs.Owners.{IsAwaiting}
 use Rattle.hc_model.specs.Owners as owners
 use Rattle.hc_model.specs.Rows.{Tables, Exchange, Representation, Consumer}
-use Rattle.hc_model.specs.Tables.{added, after_accepted, to_front}
+use Rattle.hc_model.specs.Tables.{with_item_first, after_accepted, to_front}
 use Rattle.hc_model.specs.Weights.{evicted}
 use Rattle.hc_model.specs.Writers.{survivor}
 use Rattle.hc_model.proofs.ActParts.{leaver_lost}
@@ -40,7 +40,7 @@ use Rattle.hc_model.proofs.FewClosings.{evicts_nothing}
 use Rattle.hc_model.proofs.FirstKeeps.{IsNew, is_new, case_is}
 use Rattle.hc_laws.proofs.HeadFrames.{e, has_as, heard, asker_goes_on, asker_goes_back, asker_fails, after_head, others, goes_by, rows_but, row_by, doomed_is, spared_as}
 use Rattle.hc_laws.proofs.OfConsumers.{one_of, descends_once, or_off}
-use Rattle.hc_model.proofs.Pens.{same_row}
+use Rattle.hc_model.proofs.ExclusiveWriters.{same_row}
 use Rattle.hc_model.proofs.PieceKeeps.{eq_cases, some_inj}
 use Rattle.hc_model.proofs.SameTables.{is_in, waits_for_any}
 use Rattle.hc_model.proofs.Sums.{reverse_once}
@@ -101,19 +101,19 @@ module _ (limits : Limits) (t : Tables) (law : Lawful t) (now x : ℕ) (response
 
   -- THE CASE
 
-  pub case_on : (es xs : List ℕ) (flaw : Flaw) (g : HeadCase) → head_case (head_view t (has_loss (lost flaw)) w response) ≡ g → case_at t (e t now x response es flaw xs) ≡ Some g
+  pub case_on : (es xs : List ℕ) (flaw : Flaw) (g : HeadCase) → head_case (head_view t (has_loss (loss_acts flaw)) w response) ≡ g → case_at t (e t now x response es flaw xs) ≡ Some g
   case_on es xs flaw g is = case_is t (e t now x response es flaw xs) x response w refl row ∙ (ap (λ l. Some (head_case (head_view t l w response))) (has_as t now x response es flaw xs) ∙ ap Some is)
 
   -- THE ACTS
 
   -- what founds nothing evicts nothing
   pub evicts_none : is_founding (Some (head_case (head_view t false w response))) ≡ false → evicted limits t now ev ≡ []
-  evicts_none off = evicts_nothing limits t now ev (ap (λ g. if is_founding g then Some write.Slot else None) (case_is t (unanswered now ev) x response w refl row) ∙ rw off refl)
+  evicts_none off = evicts_nothing limits t now ev (ap (λ g. if is_founding g then Some write.Slot else None) (case_is t (entry_without_acts now ev) x response w refl row) ∙ rw off refl)
 
-  module _ (flaw : Flaw) (g : HeadCase) (is : head_case (head_view t (has_loss (lost flaw)) w response) ≡ g) where
+  module _ (flaw : Flaw) (g : HeadCase) (is : head_case (head_view t (has_loss (loss_acts flaw)) w response) ≡ g) where
     -- the entry as the closings see it
     abbrev pub b : Entry
-    b = record { now = now; event = ev; acts = lost flaw }
+    b = record { now = now; event = ev; acts = loss_acts flaw }
 
     pub case_before : case_at t b ≡ Some g
     case_before = case_is t b x response w refl row ∙ ap Some is
@@ -122,7 +122,7 @@ module _ (limits : Limits) (t : Tables) (law : Lawful t) (now x : ℕ) (response
     abbrev refuses : Bool
     refuses = is_refused (Some g) && not (is_reached (promise_in w response) 0)
 
-    module _ (spared : (r : ℕ) (v : Representation) → t.representation r ≡ Some v → (loses_in r (lost flaw) && is_written t v) ≡ false) where
+    module _ (spared : (r : ℕ) (v : Representation) → t.representation r ≡ Some v → (loses_in r (loss_acts flaw) && is_written t v) ≡ false) where
       pub no_survivor : (y r : ℕ) (o : Option Representation) → t.representation r ≡ o → has_no_survivor t b y r o ≡ false
       no_survivor y r None there = refl
       no_survivor y r (Some v) there = rw (spared r v there) (drop (is_number v.writer y))
@@ -157,7 +157,7 @@ module _ (limits : Limits) (t : Tables) (law : Lawful t) (now x : ℕ) (response
             by_row None apart = apart_by refuses apart
             by_row (Some u) apart = rw (apart, case_before, doomless, no_survivor y (family y u) (t.representation (family y u)) refl, leaver_lost flaw) (rw (drop (is_refused (Some g))) (apart_by refuses apart))
 
-        pub closing_is : closing t b ≡ added (if refuses then Some x else None) []
+        pub closing_is : closing t b ≡ with_item_first (if refuses then Some x else None) []
         unfolding closing
         closing_is =
             ap (λ (test : ℕ → Bool). filter test (reverse t.openings)) (fun_ext closes_as)
@@ -172,8 +172,8 @@ module _ (limits : Limits) (t : Tables) (law : Lawful t) (now x : ℕ) (response
 
   -- WHAT IT DOES
 
-  module _ (k : Consumer) (asker : t.consumer w.c ≡ Some k) (flaw : Flaw) (g : HeadCase) (is : head_case (head_view t (has_loss (lost flaw)) w response) ≡ g) (doomless : doomed_by_case (Some g) w response ≡ None)
-      (spared : (r : ℕ) (v : Representation) → t.representation r ≡ Some v → (loses_in r (lost flaw) && is_written t v) ≡ false) (es : List ℕ) (makes_room : evicted limits t now ev ≡ es) (xs : List ℕ) (shuts : added (if is_refused (Some g) && not (is_reached (promise_in w response) 0) then Some x else None) [] ≡ xs) where
+  module _ (k : Consumer) (asker : t.consumer w.c ≡ Some k) (flaw : Flaw) (g : HeadCase) (is : head_case (head_view t (has_loss (loss_acts flaw)) w response) ≡ g) (doomless : doomed_by_case (Some g) w response ≡ None)
+      (spared : (r : ℕ) (v : Representation) → t.representation r ≡ Some v → (loses_in r (loss_acts flaw) && is_written t v) ≡ false) (es : List ℕ) (makes_room : evicted limits t now ev ≡ es) (xs : List ℕ) (shuts : with_item_first (if is_refused (Some g) && not (is_reached (promise_in w response) 0) then Some x else None) [] ≡ xs) where
     abbrev pub it : Entry
     it = e t now x response es flaw xs
 
@@ -190,8 +190,8 @@ module _ (limits : Limits) (t : Tables) (law : Lawful t) (now x : ℕ) (response
     closes_it : closing t (b flaw g is) ≡ xs
     closes_it = closing_is flaw g is spared doomless_before ∙ shuts
 
-    acts_are : accepted limits t now ev flaw ≡ map act.Evicted es ++ (lost flaw ++ map act.Close xs)
-    acts_are = ap (λ rs. map act.Evicted rs ++ (lost flaw ++ map act.Close (closing t (b flaw g is)))) makes_room ∙ ap (λ ys. map act.Evicted es ++ (lost flaw ++ map act.Close ys)) closes_it
+    acts_are : accepted_acts limits t now ev flaw ≡ map act.Evicted es ++ (loss_acts flaw ++ map act.Close xs)
+    acts_are = ap (λ rs. map act.Evicted rs ++ (loss_acts flaw ++ map act.Close (closing t (b flaw g is)))) makes_room ∙ ap (λ ys. map act.Evicted es ++ (loss_acts flaw ++ map act.Close ys)) closes_it
 
     spared_it : (p : Place) → IsSpared t it p
     spared_it p = λ r lo hi how v at there. spared_as t now x response es flaw xs r v (spared r v there)
@@ -199,12 +199,12 @@ module _ (limits : Limits) (t : Tables) (law : Lawful t) (now x : ℕ) (response
     unclosed : (r : ℕ) (v : Representation) → t.representation r ≡ Some v → is_in xs r ≡ false
     unclosed r v there = ap (λ ys. is_in ys r) (sym shuts) ∙ by_test (is_refused (Some g) && not (is_reached (promise_in w response) 0))
       where
-        by_test : (a : Bool) → is_in (added (if a then Some x else None) []) r ≡ false
+        by_test : (a : Bool) → is_in (with_item_first (if a then Some x else None) []) r ≡ false
         by_test true = or_off (nat_eq x r) ∙ not_it r v there
         by_test false = refl
 
     -- by its case, a loss or to make room
-    pub goes_it : (rs : List ℕ) → ((r : ℕ) (v : Representation) → t.representation r ≡ Some v → (goes_by_case t it r (Some g) w || loses_in r (lost flaw) || is_in es r) ≡ is_in rs r) → (r : ℕ) (v : Representation) → t.representation r ≡ Some v → becomes_gone t it r v ≡ is_in rs r
+    pub goes_it : (rs : List ℕ) → ((r : ℕ) (v : Representation) → t.representation r ≡ Some v → (goes_by_case t it r (Some g) w || loses_in r (loss_acts flaw) || is_in es r) ≡ is_in rs r) → (r : ℕ) (v : Representation) → t.representation r ≡ Some v → becomes_gone t it r v ≡ is_in rs r
     goes_it rs tests r v there = goes_by t now x response es flaw xs w row g is_it r v (unclosed r v there) doomless_it ∙ tests r v there
 
     abbrev pub heard_it : Consumer
@@ -219,22 +219,22 @@ module _ (limits : Limits) (t : Tables) (law : Lawful t) (now x : ℕ) (response
     pub fails : (why : Cause) → sends_back (Some g) ≡ false → cause_by_case (Some g) x ≡ Some why → heard_it ≡ k → reads k.place ≡ true → consumer_after t it w.c (t.consumer w.c) ≡ Some (record k { due = Some why })
     fails = asker_fails t now x response es flaw xs w row g is_it k asker (waiter k asker).at (undue k asker) (rw doomless_it refl) (spared_it k.place) (spared_it heard_it.place)
 
-    module _ (rs : List ℕ) (tests : (r : ℕ) (v : Representation) → t.representation r ≡ Some v → (goes_by_case t it r (Some g) w || loses_in r (lost flaw) || is_in es r) ≡ is_in rs r) where
-      pub rows : (q : ℕ) (z : Option Representation) → representation_after t it q (t.representation q) ≡ (if is_in rs q then option_map gone z else z)
-          → ((r : ℕ) → nat_eq q r ≡ false → (is_founding (Some g) && nat_eq x r) ≡ false) → ((r : ℕ) (v : Representation) → nat_eq q r ≡ false → t.representation r ≡ Some v → (updates t it r w v ≡ false) × (loses_in r (lost flaw) ≡ false))
-          → (r : ℕ) → representation_after t it r (t.representation r) ≡ (if is_in rs r then option_map gone (if q == r then z else t.representation r) else (if q == r then z else t.representation r))
+    module _ (rs : List ℕ) (tests : (r : ℕ) (v : Representation) → t.representation r ≡ Some v → (goes_by_case t it r (Some g) w || loses_in r (loss_acts flaw) || is_in es r) ≡ is_in rs r) where
+      pub rows : (q : ℕ) (z : Option Representation) → representation_after t it q (t.representation q) ≡ (if is_in rs q then option_map as_gone z else z)
+          → ((r : ℕ) → nat_eq q r ≡ false → (is_founding (Some g) && nat_eq x r) ≡ false) → ((r : ℕ) (v : Representation) → nat_eq q r ≡ false → t.representation r ≡ Some v → (updates t it r w v ≡ false) × (loses_in r (loss_acts flaw) ≡ false))
+          → (r : ℕ) → representation_after t it r (t.representation r) ≡ (if is_in rs r then option_map as_gone (if q == r then z else t.representation r) else (if q == r then z else t.representation r))
       rows = rows_but t now x response es flaw xs w row g is_it rs (goes_it rs tests)
 
-      pub rows_same : is_founding (Some g) ≡ false → ((r : ℕ) (v : Representation) → t.representation r ≡ Some v → (updates t it r w v ≡ false) × (loses_in r (lost flaw) ≡ false)) → (r : ℕ) → representation_after t it r (t.representation r) ≡ (if is_in rs r then option_map gone (t.representation r) else t.representation r)
+      pub rows_same : is_founding (Some g) ≡ false → ((r : ℕ) (v : Representation) → t.representation r ≡ Some v → (updates t it r w v ≡ false) × (loses_in r (loss_acts flaw) ≡ false)) → (r : ℕ) → representation_after t it r (t.representation r) ≡ (if is_in rs r then option_map as_gone (t.representation r) else t.representation r)
       rows_same unfounding stays r = row_by t now x response es flaw xs w row g is_it rs (goes_it rs tests) r (rw unfounding refl) (stays r)
 
-      pub rows_stay : is_founding (Some g) ≡ false → is_updating (Some g) ≡ false → ((r : ℕ) (v : Representation) → t.representation r ≡ Some v → loses_in r (lost flaw) ≡ false) → (r : ℕ) → representation_after t it r (t.representation r) ≡ (if is_in rs r then option_map gone (t.representation r) else t.representation r)
+      pub rows_stay : is_founding (Some g) ≡ false → is_updating (Some g) ≡ false → ((r : ℕ) (v : Representation) → t.representation r ≡ Some v → loses_in r (loss_acts flaw) ≡ false) → (r : ℕ) → representation_after t it r (t.representation r) ≡ (if is_in rs r then option_map as_gone (t.representation r) else t.representation r)
       rows_stay unfounding unupdating unlost = rows_same unfounding (λ r v there. (rw (is_it, unupdating) refl, unlost r v there))
 
       -- its exchange has it, its consumer is q, and these are let go
-      pub head_does : (fs us : List ℕ) (reps : ℕ → Option Representation) (joined : Option ℕ) (q : Consumer) → (if is_joining (Some g) then w.aim else w.joined) ≡ joined → added (if is_founding (Some g) then Some x else None) t.founded ≡ fs → to_front (if is_founding (Some g) then Some x else None) t.used ≡ us
-          → ((r : ℕ) → representation_after t it r (t.representation r) ≡ (if is_in rs r then option_map gone (reps r) else reps r)) → consumer_after t it w.c (t.consumer w.c) ≡ Some q → waits_for_any rs q.place ≡ false
-          → Does limits t now ev flaw (map act.Evicted es ++ (lost flaw ++ map act.Close xs)) (counted now ev (let_all_go now rs (with_consumer w.c (Some q) (all_closed xs (with_answer now x response joined w (record t { founded = fs; used = us; representation = reps }))))))
+      pub head_does : (fs us : List ℕ) (reps : ℕ → Option Representation) (joined : Option ℕ) (q : Consumer) → (if is_joining (Some g) then w.aim else w.joined) ≡ joined → with_item_first (if is_founding (Some g) then Some x else None) t.founded ≡ fs → to_front (if is_founding (Some g) then Some x else None) t.used ≡ us
+          → ((r : ℕ) → representation_after t it r (t.representation r) ≡ (if is_in rs r then option_map as_gone (reps r) else reps r)) → consumer_after t it w.c (t.consumer w.c) ≡ Some q → waits_for_any rs q.place ≡ false
+          → Does limits t now ev flaw (map act.Evicted es ++ (loss_acts flaw ++ map act.Close xs)) (with_event now ev (let_all_go now rs (with_consumer w.c (Some q) (all_closed xs (with_answer now x response joined w (record t { founded = fs; used = us; representation = reps }))))))
       head_does fs us reps joined q joins founded used representation asks unwaiting = record {
         acts_are = acts_are;
         tables_are =

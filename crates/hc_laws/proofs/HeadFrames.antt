@@ -11,12 +11,12 @@ use Rattle.hc_event.specs.declared.event.Response.{Response}
 use Rattle.hc_rules.specs.declared.heads.HeadCase.{HeadCase}
 use Rattle.hc_event.specs.declared.place.Place.{Place}
 use Rattle.hc_model.specs.ActFilters.{loses_in, has_loss, misreads_in}
-use Rattle.hc_model.specs.Answers.{lost}
+use Rattle.hc_model.specs.Answers.{loss_acts}
 use Rattle.hc_model.specs.Cases.{case_at, is_founding, is_joining, is_updating}
 use Rattle.hc_model.specs.ConsumerRows.{consumer_after, consumer_heard, consumer_settled, consumer_acted, place_by_case, becomes_shared, back_in_line}
 use Rattle.hc_model.specs.Currents.{is_current, is_number}
 use Rattle.hc_model.specs.Dooms.{doomed, doomed_by_case, is_key}
-use Rattle.hc_model.specs.Effects.{counted, gone, let_all_go, over, all_closed, with_consumer, with_answer, answered, refreshed, just_founded, lost_to}
+use Rattle.hc_model.specs.Effects.{with_event, as_gone, let_all_go, over, all_closed, with_consumer, with_answer, exchange_with_head, with_refreshed_head, just_founded, lost_to}
 use Rattle.hc_model.specs.Entries.{Entry}
 use Rattle.hc_model.specs.ExchangeRows.{exchange_after, joined_at}
 use Rattle.hc_model.specs.Failures.{becomes_due, cause_by_case}
@@ -26,10 +26,10 @@ use Rattle.hc_model.specs.Lawful.{Lawful}
 use Rattle.hc_model.specs.Owners.{IsAwaiting}
 use Rattle.hc_model.specs.Owners as owners
 use Rattle.hc_model.specs.Reading.{reads, is_written}
-use Rattle.hc_model.specs.RepresentationRows.{representation_after, updates, representation_heard, representation_acted, renewed, resumes}
+use Rattle.hc_model.specs.RepresentationRows.{representation_after, updates, representation_heard, representation_acted, with_renewed_head, resumes}
 use Rattle.hc_model.specs.Rows.{Tables, Exchange, Representation, Consumer}
 use Rattle.hc_model.specs.StartingOver.{starts_over, sends_back, waits_at, loses_what_it_waits_for}
-use Rattle.hc_model.specs.Tables.{after_accepted, added, founds, binds, to_front, opened_after, openings_after}
+use Rattle.hc_model.specs.Tables.{after_accepted, with_item_first, founds, binds, to_front, opened_after, openings_after}
 use Rattle.hc_model.specs.Writers.{loses_writing, goes_on_with}
 use Rattle.hc_model.proofs.ActParts.{IsFarFrom, closes_evicted, closes_lost, asks_evicted, asks_lost, asks_closes, loses_evicted, loses_before, evicts_lost, evicts_closes, far_evicted, far_loss, far_closed}
 use Rattle.hc_model.proofs.Basics.{none_some, or_left, or_right}
@@ -57,7 +57,7 @@ module _ (t : Tables) (now x : ℕ) (response : Response) (es : List ℕ) (flaw 
   -- THE ENTRY
 
   abbrev pub acts : List Act
-  acts = map act.Evicted es ++ (lost flaw ++ map act.Close xs)
+  acts = map act.Evicted es ++ (loss_acts flaw ++ map act.Close xs)
 
   abbrev pub e : Entry
   e = record { now = now; event = event.Head x response; acts = acts }
@@ -66,29 +66,29 @@ module _ (t : Tables) (now x : ℕ) (response : Response) (es : List ℕ) (flaw 
   opens_none = (quiet_acts es xs flaw).opens
 
   asks_none : (y : ℕ) → asks_in y acts ≡ false
-  asks_none y = (asks_evicted y 0 es (lost flaw ++ map act.Close xs)).asks ∙ ((asks_lost y 0 flaw (map act.Close xs)).asks ∙ (asks_closes y 0 xs).asks)
+  asks_none y = (asks_evicted y 0 es (loss_acts flaw ++ map act.Close xs)).asks ∙ ((asks_lost y 0 flaw (map act.Close xs)).asks ∙ (asks_closes y 0 xs).asks)
 
   misreads_none : (r : ℕ) → misreads_in r acts ≡ false
-  misreads_none r = (asks_evicted 0 r es (lost flaw ++ map act.Close xs)).misreads ∙ ((asks_lost 0 r flaw (map act.Close xs)).misreads ∙ (asks_closes 0 r xs).misreads)
+  misreads_none r = (asks_evicted 0 r es (loss_acts flaw ++ map act.Close xs)).misreads ∙ ((asks_lost 0 r flaw (map act.Close xs)).misreads ∙ (asks_closes 0 r xs).misreads)
 
   closes_as : (y : ℕ) → closes_in y acts ≡ is_in xs y
-  closes_as y = closes_evicted y es (lost flaw ++ map act.Close xs) ∙ (closes_lost y flaw (map act.Close xs) ∙ closes_are y xs)
+  closes_as y = closes_evicted y es (loss_acts flaw ++ map act.Close xs) ∙ (closes_lost y flaw (map act.Close xs) ∙ closes_are y xs)
 
-  pub loses_as : (r : ℕ) → loses_in r acts ≡ loses_in r (lost flaw)
-  loses_as r = loses_evicted r es (lost flaw ++ map act.Close xs) ∙ loses_before r flaw xs
+  pub loses_as : (r : ℕ) → loses_in r acts ≡ loses_in r (loss_acts flaw)
+  loses_as r = loses_evicted r es (loss_acts flaw ++ map act.Close xs) ∙ loses_before r flaw xs
 
   -- what reads no writing that is lost is spared
-  pub spared_as : (r : ℕ) (v : Representation) → (loses_in r (lost flaw) && is_written t v) ≡ false → loses_writing t e r v ≡ false
+  pub spared_as : (r : ℕ) (v : Representation) → (loses_in r (loss_acts flaw) && is_written t v) ≡ false → loses_writing t e r v ≡ false
   spared_as r v off = ap (λ b. b && is_written t v) (loses_as r) ∙ off
 
-  pub has_as : has_loss acts ≡ has_loss (lost flaw)
+  pub has_as : has_loss acts ≡ has_loss (loss_acts flaw)
   has_as = told_loss es xs flaw
 
   evicts_as : (r : ℕ) → evicts_in r acts ≡ is_in es r
-  evicts_as r = evicts_are r es (lost flaw ++ map act.Close xs) (evicts_lost r flaw (map act.Close xs) ∙ evicts_closes r xs)
+  evicts_as r = evicts_are r es (loss_acts flaw ++ map act.Close xs) (evicts_lost r flaw (map act.Close xs) ∙ evicts_closes r xs)
 
   pub far : (d : ℕ) → IsFarFrom d acts
-  far d = far_evicted d es (lost flaw ++ map act.Close xs) (far_loss d flaw (map act.Close xs) (far_closed d xs))
+  far d = far_evicted d es (loss_acts flaw ++ map act.Close xs) (far_loss d flaw (map act.Close xs) (far_closed d xs))
 
   -- its consumer, as a head of this case leaves it
   abbrev pub heard : Exchange → HeadCase → Consumer → Consumer
@@ -109,14 +109,14 @@ module _ (t : Tables) (now x : ℕ) (response : Response) (es : List ℕ) (flaw 
     none_left true = refl
     none_left false = refl
 
-    exchange_here : (joined : Option ℕ) → joined_at t e w ≡ joined → exchange_after t e x (t.exchange x) ≡ (if is_in xs x then option_map over (Some (answered now response joined w)) else Some (answered now response joined w))
+    exchange_here : (joined : Option ℕ) → joined_at t e w ≡ joined → exchange_after t e x (t.exchange x) ≡ (if is_in xs x then option_map over (Some (exchange_with_head now response joined w)) else Some (exchange_with_head now response joined w))
     unfolding exchange_after
-    exchange_here joined joins = ap (exchange_after t e x) row ∙ rw (eqb-same x, asks_none x, closes_as x, joins) (by_test (is_in xs x) (answered now response joined w))
+    exchange_here joined joins = ap (exchange_after t e x) row ∙ rw (eqb-same x, asks_none x, closes_as x, joins) (by_test (is_in xs x) (exchange_with_head now response joined w))
 
-    exchange_by : (joined : Option ℕ) → joined_at t e w ≡ joined → (y : ℕ) → exchange_after t e y (t.exchange y) ≡ (if is_in xs y then option_map over (if x == y then Some (answered now response joined w) else t.exchange y) else (if x == y then Some (answered now response joined w) else t.exchange y))
+    exchange_by : (joined : Option ℕ) → joined_at t e w ≡ joined → (y : ℕ) → exchange_after t e y (t.exchange y) ≡ (if is_in xs y then option_map over (if x == y then Some (exchange_with_head now response joined w) else t.exchange y) else (if x == y then Some (exchange_with_head now response joined w) else t.exchange y))
     unfolding exchange_after
     exchange_by joined joins y = elim (eq_cases x y) [
-      | inl here ↦ rw here.0 (subst (λ z. exchange_after t e z (t.exchange z) ≡ (if is_in xs z then option_map over (Some (answered now response joined w)) else Some (answered now response joined w))) here.1 (exchange_here joined joins))
+      | inl here ↦ rw here.0 (subst (λ z. exchange_after t e z (t.exchange z) ≡ (if is_in xs z then option_map over (Some (exchange_with_head now response joined w)) else Some (exchange_with_head now response joined w))) here.1 (exchange_here joined joins))
       | inr other ↦ rw other.0 (by_row (t.exchange y) other.0)
     ]
       where
@@ -139,72 +139,72 @@ module _ (t : Tables) (now x : ℕ) (response : Response) (es : List ℕ) (flaw 
           by_row (Some u) = then_false u.is_open (closes_in r acts) (closes_as r ∙ unclosed)
 
       -- by a doom, by the case of the head, by a loss, or to make room
-      pub goes_as : becomes_gone t e r v ≡ ((is_current t v.key r && is_key (doomed t e) v.key) || goes_by_case t e r (Some g) w || loses_in r (lost flaw) || is_in es r)
+      pub goes_as : becomes_gone t e r v ≡ ((is_current t v.key r && is_key (doomed t e) v.key) || goes_by_case t e r (Some g) w || loses_in r (loss_acts flaw) || is_in es r)
       unfolding becomes_gone
       goes_as =
-          rw (opens_none, row, is, loses_as r, misreads_none r, ends_none, evicts_as r) (drop (is_current t v.key r) (is_key (doomed t e) v.key) (goes_by_case t e r (Some g) w) (loses_in r (lost flaw)) (is_in es r))
+          rw (opens_none, row, is, loses_as r, misreads_none r, ends_none, evicts_as r) (drop (is_current t v.key r) (is_key (doomed t e) v.key) (goes_by_case t e r (Some g) w) (loses_in r (loss_acts flaw)) (is_in es r))
         where
           drop : (a b d f h : Bool) → ((a && (b || false)) || d || f || false || false || h) ≡ ((a && b) || d || f || h)
           drop a b d f h = ap (λ z. (a && z) || d || f || false || false || h) (or_off b) ∙ two_off ((a && b) || d || f) h
 
-      pub goes_by : doomed t e ≡ None → becomes_gone t e r v ≡ (goes_by_case t e r (Some g) w || loses_in r (lost flaw) || is_in es r)
-      goes_by doomless = goes_as ∙ rw doomless (drop (is_current t v.key r) (goes_by_case t e r (Some g) w) (loses_in r (lost flaw)) (is_in es r))
+      pub goes_by : doomed t e ≡ None → becomes_gone t e r v ≡ (goes_by_case t e r (Some g) w || loses_in r (loss_acts flaw) || is_in es r)
+      goes_by doomless = goes_as ∙ rw doomless (drop (is_current t v.key r) (goes_by_case t e r (Some g) w) (loses_in r (loss_acts flaw)) (is_in es r))
         where
           drop : (a d f h : Bool) → ((a && false) || d || f || h) ≡ (d || f || h)
           drop true d f h = refl
           drop false d f h = refl
 
     -- what is lost goes
-    pub goes_lost : (r : ℕ) (v : Representation) → loses_in r (lost flaw) ≡ true → becomes_gone t e r v ≡ true
+    pub goes_lost : (r : ℕ) (v : Representation) → loses_in r (loss_acts flaw) ≡ true → becomes_gone t e r v ≡ true
     unfolding becomes_gone
     goes_lost r v h = or_left _ _ (or_left _ _ (or_left _ _ (or_right _ _ (loses_as r ∙ h))))
 
     -- REPRESENTATIONS
 
     module _ (rs : List ℕ) (goes : (r : ℕ) (v : Representation) → t.representation r ≡ Some v → becomes_gone t e r v ≡ is_in rs r) where
-      gone_by : (b : Bool) (v : Representation) → Some (if b then gone v else v) ≡ (if b then option_map gone (Some v) else Some v)
+      gone_by : (b : Bool) (v : Representation) → Some (if b then as_gone v else v) ≡ (if b then option_map as_gone (Some v) else Some v)
       gone_by true v = refl
       gone_by false v = refl
 
-      absent_by : (b : Bool) → None ≡ (if b then option_map gone None else None)
+      absent_by : (b : Bool) → None ≡ (if b then option_map as_gone None else None)
       absent_by true = refl
       absent_by false = refl
 
       -- what the head neither founds, updates nor loses stays, or is let go
-      pub row_by : (r : ℕ) → (is_founding (Some g) && nat_eq x r) ≡ false → ((v : Representation) → t.representation r ≡ Some v → (updates t e r w v ≡ false) × (loses_in r (lost flaw) ≡ false))
-          → representation_after t e r (t.representation r) ≡ (if is_in rs r then option_map gone (t.representation r) else t.representation r)
+      pub row_by : (r : ℕ) → (is_founding (Some g) && nat_eq x r) ≡ false → ((v : Representation) → t.representation r ≡ Some v → (updates t e r w v ≡ false) × (loses_in r (loss_acts flaw) ≡ false))
+          → representation_after t e r (t.representation r) ≡ (if is_in rs r then option_map as_gone (t.representation r) else t.representation r)
       row_by r unfounding stays = by_row (t.representation r) refl
         where
-          by_row : (o : Option Representation) → t.representation r ≡ o → representation_after t e r o ≡ (if is_in rs r then option_map gone o else o)
+          by_row : (o : Option Representation) → t.representation r ≡ o → representation_after t e r o ≡ (if is_in rs r then option_map as_gone o else o)
           by_row None there = representation_absent t e r (rw (is, unfounding) refl) ∙ absent_by (is_in rs r)
           by_row (Some v) there =
               let both = stays v there in
               representation_frame t e r v (rw (row, both.0) refl) (loses_as r ∙ both.1)
-              ∙ (ap (λ (b : Bool). Some (if b then gone v else v)) (goes r v there) ∙ gone_by (is_in rs r) v)
+              ∙ (ap (λ (b : Bool). Some (if b then as_gone v else v)) (goes r v there) ∙ gone_by (is_in rs r) v)
 
       -- and all but one do
-      pub rows_but : (q : ℕ) (z : Option Representation) → representation_after t e q (t.representation q) ≡ (if is_in rs q then option_map gone z else z)
-          → ((r : ℕ) → nat_eq q r ≡ false → (is_founding (Some g) && nat_eq x r) ≡ false) → ((r : ℕ) (v : Representation) → nat_eq q r ≡ false → t.representation r ≡ Some v → (updates t e r w v ≡ false) × (loses_in r (lost flaw) ≡ false))
-          → (r : ℕ) → representation_after t e r (t.representation r) ≡ (if is_in rs r then option_map gone (if q == r then z else t.representation r) else (if q == r then z else t.representation r))
+      pub rows_but : (q : ℕ) (z : Option Representation) → representation_after t e q (t.representation q) ≡ (if is_in rs q then option_map as_gone z else z)
+          → ((r : ℕ) → nat_eq q r ≡ false → (is_founding (Some g) && nat_eq x r) ≡ false) → ((r : ℕ) (v : Representation) → nat_eq q r ≡ false → t.representation r ≡ Some v → (updates t e r w v ≡ false) × (loses_in r (loss_acts flaw) ≡ false))
+          → (r : ℕ) → representation_after t e r (t.representation r) ≡ (if is_in rs r then option_map as_gone (if q == r then z else t.representation r) else (if q == r then z else t.representation r))
       rows_but q z here unfounding stays r = elim (eq_cases q r) [
-        | inl same ↦ rw same.0 (subst (λ m. representation_after t e m (t.representation m) ≡ (if is_in rs m then option_map gone z else z)) same.1 here)
+        | inl same ↦ rw same.0 (subst (λ m. representation_after t e m (t.representation m) ≡ (if is_in rs m then option_map as_gone z else z)) same.1 here)
         | inr other ↦ rw other.0 (row_by r (unfounding r other.0) (λ v there. stays r v other.0 there))
       ]
 
     module _ (r : ℕ) (v : Representation) (there : t.representation r ≡ Some v) where
       -- what it updates
-      pub row_updates : updates t e r w v ≡ true → loses_in r (lost flaw) ≡ false → becomes_gone t e r v ≡ false
-          → representation_after t e r (t.representation r) ≡ Some (record (refreshed now response w v) { writer = if is_joining (Some g) && resumes t response w v then Some x else v.writer })
+      pub row_updates : updates t e r w v ≡ true → loses_in r (loss_acts flaw) ≡ false → becomes_gone t e r v ≡ false
+          → representation_after t e r (t.representation r) ≡ Some (record (with_refreshed_head now response w v) { writer = if is_joining (Some g) && resumes t response w v then Some x else v.writer })
       unfolding representation_after
       row_updates on unlost stays =
           ap (representation_after t e r) there
-          ∙ (let heard_it : representation_heard t e r e.event v ≡ renewed t e x response w v = rw (row, on) refl in
+          ∙ (let heard_it : representation_heard t e r e.event v ≡ with_renewed_head t e x response w v = rw (row, on) refl in
           ap (λ (u : Representation). Some (representation_acted t e r v u)) heard_it
           ∙ rw (loses_as r, unlost, stays, is) refl)
 
       -- what it loses, with the detached reader
-      pub row_loses : (alone : Option ℕ) → v.is_lost ≡ false → loses_in r (lost flaw) ≡ true → goes_on_with t e r v ≡ alone → becomes_gone t e r v ≡ true
-          → representation_after t e r (t.representation r) ≡ Some (gone (lost_to alone v))
+      pub row_loses : (alone : Option ℕ) → v.is_lost ≡ false → loses_in r (loss_acts flaw) ≡ true → goes_on_with t e r v ≡ alone → becomes_gone t e r v ≡ true
+          → representation_after t e r (t.representation r) ≡ Some (as_gone (lost_to alone v))
       unfolding representation_after
       row_loses alone kept lost_now goes_on goes =
           let loses : loses_in r acts ≡ true = loses_as r ∙ lost_now in
@@ -296,9 +296,9 @@ module _ (t : Tables) (now x : ℕ) (response : Response) (es : List ℕ) (flaw 
     -- what else the entry makes of them: u is without what it says of the exchange, its consumer, and what is let go
     pub record HeadComes (rs : List ℕ) (u : Tables) (joined : Option ℕ) (q : Consumer) : Type 0 where
       pub joins : joined_at t e w ≡ joined
-      pub founded : added (if is_founding (Some g) then Some x else None) t.founded ≡ u.founded
+      pub founded : with_item_first (if is_founding (Some g) then Some x else None) t.founded ≡ u.founded
       pub used : to_front (if is_founding (Some g) then Some x else None) t.used ≡ u.used
-      pub representation : (r : ℕ) → representation_after t e r (t.representation r) ≡ (if is_in rs r then option_map gone (u.representation r) else u.representation r)
+      pub representation : (r : ℕ) → representation_after t e r (t.representation r) ≡ (if is_in rs r then option_map as_gone (u.representation r) else u.representation r)
       pub asker : consumer_after t e w.c (t.consumer w.c) ≡ Some q
       pub unwaiting : waits_for_any rs q.place ≡ false
       pub others : (d : ℕ) → nat_eq w.c d ≡ false → consumer_after t e d (t.consumer d) ≡ option_map (back_from_any now rs) (u.consumer d)
@@ -314,9 +314,9 @@ module _ (t : Tables) (now x : ℕ) (response : Response) (es : List ℕ) (flaw 
       abbrev pub rest : Tables
       rest = record t { founded = fs; used = us; representation = reps; consumer = cs }
 
-      pub after_head : HeadComes rs rest joined q → after_accepted t e ≡ counted now e.event (let_all_go now rs (with_consumer w.c (Some q) (all_closed xs (with_answer now x response joined w rest))))
+      pub after_head : HeadComes rs rest joined q → after_accepted t e ≡ with_event now e.event (let_all_go now rs (with_consumer w.c (Some q) (all_closed xs (with_answer now x response joined w rest))))
       after_head h =
-          same_tables (after_accepted t e) (counted now e.event (without now rs (with_consumer w.c (Some q) (shut xs (with_answer now x response joined w rest))))) (record {
+          same_tables (after_accepted t e) (with_event now e.event (without now rs (with_consumer w.c (Some q) (shut xs (with_answer now x response joined w rest))))) (record {
             moment = refl;
             entries = refl;
             received = refl;
@@ -324,14 +324,14 @@ module _ (t : Tables) (now x : ℕ) (response : Response) (es : List ℕ) (flaw 
             starts = refl;
             opened = ap (λ o. opened_after o t.opened) opens_none;
             openings = ap (λ o. openings_after o t.openings) opens_none;
-            founded = ap (λ o. added (if is_founding o then Some x else None) t.founded) is ∙ h.founded;
+            founded = ap (λ o. with_item_first (if is_founding o then Some x else None) t.founded) is ∙ h.founded;
             used = ap (λ (o : Option ℕ). to_front o t.used) binds_as ∙ h.used;
             exchange = exchange_by joined h.joins;
             representation = h.representation;
             consumer = by_number;
           })
-          ∙ (ap (λ (s : Tables). counted now e.event (without now rs (with_consumer w.c (Some q) s))) (sym (all_closed_is xs (with_answer now x response joined w rest)))
-          ∙ ap (counted now e.event) (sym (all_go_is now rs (with_consumer w.c (Some q) (all_closed xs (with_answer now x response joined w rest))))))
+          ∙ (ap (λ (s : Tables). with_event now e.event (without now rs (with_consumer w.c (Some q) s))) (sym (all_closed_is xs (with_answer now x response joined w rest)))
+          ∙ ap (with_event now e.event) (sym (all_go_is now rs (with_consumer w.c (Some q) (all_closed xs (with_answer now x response joined w rest))))))
         where
           by_number : (d : ℕ) → consumer_after t e d (t.consumer d) ≡ option_map (back_from_any now rs) (if w.c == d then Some q else cs d)
           by_number d = elim (eq_cases w.c d) [

@@ -48,7 +48,7 @@ use Rattle.hc_model.proofs.FoundBy as cases
 use Rattle.hc_model.proofs.HeadKeeps.{IsJoin, is_join}
 use Rattle.hc_model.proofs.PartTold.{IsTold, part_told}
 use Rattle.hc_model.proofs.PartTold as told
-use Rattle.hc_model.proofs.Pens.{same_row}
+use Rattle.hc_model.proofs.ExclusiveWriters.{same_row}
 use Rattle.hc_laws.proofs.ToBeShown.{heard_place}
 use Rattle.hc_model.proofs.Waiters.{IsWaiter, waiter_of}
 

@@ -47,7 +47,7 @@ use Rattle.hc_model.proofs.FoundBy as cases
 use Rattle.hc_model.proofs.Forward.{after_is}
 use Rattle.hc_model.proofs.OwnFrom.{IsRow}
 use Rattle.hc_model.proofs.PieceKeeps.{eq_cases, some_inj}
-use Rattle.hc_model.proofs.Pens.{same_row}
+use Rattle.hc_model.proofs.ExclusiveWriters.{same_row}
 use Rattle.hc_model.proofs.Said.{leaving_by}
 use Rattle.hc_laws.proofs.ToBeShown.{heard_place}
 use Rattle.hc_model.proofs.Waiters.{IsWaiter, waiter_of, case_same}

@@ -14,7 +14,7 @@ use Rattle.hc_event.specs.declared.place.BoundBy.TheVariants as by
 use Rattle.hc_model.specs.ConsumerRows.{opened_place, place_for_hole, bound_to_wanted, unless_bound}
 use Rattle.hc_rules.specs.declared.need.Route.TheVariants as route
 use Rattle.hc_model.specs.Currents.{current, row_of}
-use Rattle.hc_model.specs.Effects.{Does, counted, used_last, with_consumer, with_opening, just_opened}
+use Rattle.hc_model.specs.Effects.{Does, with_event, used_last, with_consumer, with_opening, just_opened}
 use Rattle.hc_model.specs.Entries.{Entry}
 use Rattle.hc_model.specs.ExchangeRows.{aim_from}
 use Rattle.hc_model.specs.Flaws.{NoFlaw}
@@ -57,9 +57,9 @@ module _ (limits : Limits) (t : Tables) (law : Lawful t) (now c want : ℕ) (k :
 
     -- its consumer becomes bound to what is current
     pub fills_first : Does limits t now (event.Poll c want) NoFlaw (acts_of c (Opens x n request))
-        (counted now (event.Poll c want) (used_last r (with_consumer c (Some (record k { own = Some x; place = place.Bound r span.lo (Some span.hi) (by.FirstHole x) })) (with_opening x (just_opened now c n request (Some r)) t))))
+        (with_event now (event.Poll c want) (used_last r (with_consumer c (Some (record k { own = Some x; place = place.Bound r span.lo (Some span.hi) (by.FirstHole x) })) (with_opening x (just_opened now c n request (Some r)) t))))
     fills_first =
-        subst (λ aim. Does limits t now (event.Poll c want) NoFlaw (acts_of c (Opens x n request)) (counted now (event.Poll c want) (used_last r (with_consumer c (Some (record k { own = Some x; place = place.Bound r span.lo (Some span.hi) (by.FirstHole x) })) (with_opening x (just_opened now c n request aim) t)))))
+        subst (λ aim. Does limits t now (event.Poll c want) NoFlaw (acts_of c (Opens x n request)) (with_event now (event.Poll c want) (used_last r (with_consumer c (Some (record k { own = Some x; place = place.Bound r span.lo (Some span.hi) (by.FirstHole x) })) (with_opening x (just_opened now c n request aim) t)))))
         now_is
         (about_current limits t law now c want k row x n request is free [] (to_front (Some r) t.used) (place.Bound r span.lo (Some span.hi) (by.FirstHole x))
         (keeps_all limits t law now c want k row x n request is refl) binds_it place_is (λ off. absurd (false_true (sym off))) (none_waits k.place) refl)
@@ -74,9 +74,9 @@ module _ (limits : Limits) (t : Tables) (law : Lawful t) (now c want : ℕ) (k :
 
     -- its consumer stays where it reads
     pub fills_later : Does limits t now (event.Poll c want) NoFlaw (acts_of c (Opens x n request))
-        (counted now (event.Poll c want) (with_consumer c (Some (record k { own = Some x })) (with_opening x (just_opened now c n request (Some r)) t)))
+        (with_event now (event.Poll c want) (with_consumer c (Some (record k { own = Some x })) (with_opening x (just_opened now c n request (Some r)) t)))
     fills_later =
-        subst (λ aim. Does limits t now (event.Poll c want) NoFlaw (acts_of c (Opens x n request)) (counted now (event.Poll c want) (with_consumer c (Some (record k { own = Some x })) (with_opening x (just_opened now c n request aim) t))))
+        subst (λ aim. Does limits t now (event.Poll c want) NoFlaw (acts_of c (Opens x n request)) (with_event now (event.Poll c want) (with_consumer c (Some (record k { own = Some x })) (with_opening x (just_opened now c n request aim) t))))
         (ap (aim_from t k.request.key) at)
         (opens limits t law now c want k row x n request is [] t.used k.place
         (keeps_all limits t law now c want k row x n request is refl) binds_none (ap (λ (o : Option ℕ). unless_bound o k.place (opened_place t x k route.Hole)) (ap bound_to at)) (law.owned.idle_due c k row) (none_waits k.place) (none_waits k.place))

@@ -17,7 +17,7 @@ use Rattle.hc_model.specs.Contents as contents
 use Rattle.hc_model.specs.Contents.{idle_now}
 use Rattle.hc_model.specs.Currents.{is_current}
 use Rattle.hc_model.specs.Denials.{denial}
-use Rattle.hc_model.specs.Entries.{Entry, unanswered}
+use Rattle.hc_model.specs.Entries.{Entry, entry_without_acts}
 use Rattle.hc_model.specs.Evictions.{outlasts, outlasts_row, IdleButGone}
 use Rattle.hc_model.specs.Exchanges.{exchange_at, is_for}
 use Rattle.hc_model.specs.Flaws.{NoFlaw}
@@ -35,7 +35,7 @@ use Rattle.hc_model.proofs.FoundBy.{CaseBy}
 use Rattle.hc_model.proofs.FoundBy as cases
 use Rattle.hc_laws.proofs.HasBound.{reader_of}
 use Rattle.hc_model.proofs.HoleLemmas.{bool_cases}
-use Rattle.hc_model.proofs.Pens.{same_row}
+use Rattle.hc_model.proofs.ExclusiveWriters.{same_row}
 
 -- LISTS
 
@@ -67,7 +67,7 @@ replacing_is _ h = absurd (false_true h)
 
 module _ (t : Tables) (now : ℕ) (ev : Event) (s : Sound t) (o : Owners t) (goes : denial t ev ≡ None) where
   abbrev e : Entry
-  e = unanswered now ev
+  e = entry_without_acts now ev
 
   abbrev any : Limits
   any = record { max_entry = 0; max_total = 0 }
@@ -160,4 +160,4 @@ module _ (t : Tables) (now : ℕ) (ev : Event) (s : Sound t) (o : Owners t) (goe
 pub idle_but_gone : IdleButGone
 unfolding idle
 idle_but_gone t now ev s o goes =
-    filter_both (λ r. is_idle t (unanswered now ev) r (t.representation r)) (outlasts t (unanswered now ev)) (λ r. contents.is_idle t r (t.representation r)) (reverse t.used) (λ r. idle_row t now ev s o goes r (t.representation r))
+    filter_both (λ r. is_idle t (entry_without_acts now ev) r (t.representation r)) (outlasts t (entry_without_acts now ev)) (λ r. contents.is_idle t r (t.representation r)) (reverse t.used) (λ r. idle_row t now ev s o goes r (t.representation r))

@@ -9,7 +9,7 @@ use Rattle.hc_rules.specs.declared.room.Limits.{Limits}
 use Rattle.hc_model.specs.ActFilters.{loses_in, has_loss}
 use Rattle.hc_model.specs.Denials.{denial}
 use Rattle.hc_model.specs.Entries.{Entry}
-use Rattle.hc_model.specs.Exchanges.{promised, is_open}
+use Rattle.hc_model.specs.Exchanges.{promised_bytes, is_open}
 use Rattle.hc_model.specs.Flaws.{Flaw}
 use Rattle.hc_model.specs.Gone.{becomes_gone, goes_itself, ends_early, ends_founding, stops_early, is_keepable, is_below}
 use Rattle.hc_model.specs.Keys.{entry_of}
@@ -102,7 +102,7 @@ module _ (limits : Limits) (t : Tables) (now : ℕ) (flaw : Flaw) (s : Sound t) 
       unfaulted : ev ≡ event.Fault r → ⊥
       unfaulted here = false_true (sym unended.0 ∙ (ap (stops_early w r) here ∙ self))
 
-      enough : ev ≡ event.End r → (n : ℕ) → promised w ≡ Some n → n ≤ length w.body
+      enough : ev ≡ event.End r → (n : ℕ) → promised_bytes w ≡ Some n → n ≤ length w.body
       enough here n is =
           let short : ((r == r) && is_below (length w.body) (Some n)) ≡ false = sym (ap (λ q. (r == r) && is_below (length w.body) q) is) ∙ (sym (ap (stops_early w r) here) ∙ unended.0) in
           let test : nat_lt (length w.body) n ≡ false = rw self at short in

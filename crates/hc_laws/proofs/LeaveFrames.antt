@@ -11,11 +11,11 @@ use Rattle.hc_event.specs.declared.event.Event.TheVariants as event
 use Rattle.hc_rules.specs.declared.room.Limits.{Limits}
 use Rattle.hc_event.specs.declared.place.Place.TheVariants as place
 use Rattle.hc_model.specs.ActFilters.{loses_in, misreads_in, showing_in, wait_in}
-use Rattle.hc_model.specs.Answers.{accepted, said, lost, is_asked}
+use Rattle.hc_model.specs.Answers.{accepted_acts, answer_acts, loss_acts, is_asked}
 use Rattle.hc_model.specs.Closings.{closing, leaver_by}
 use Rattle.hc_model.specs.ConsumerRows.{consumer_after, consumer_acted, consumer_heard}
 use Rattle.hc_model.specs.Currents.{is_current, is_number}
-use Rattle.hc_model.specs.Effects.{counted, with_consumer, let_all_go, over, gone, finished, left_by, is_unkeepable, going_with}
+use Rattle.hc_model.specs.Effects.{with_event, with_consumer, let_all_go, over, as_gone, as_over, left_by, is_unkeepable, going_with}
 use Rattle.hc_model.specs.Entries.{Entry}
 use Rattle.hc_model.specs.ExchangeRows.{exchange_after}
 use Rattle.hc_model.specs.Exchanges.{is_open}
@@ -26,7 +26,7 @@ use Rattle.hc_model.specs.Places.{is_failed_read}
 use Rattle.hc_model.specs.RepresentationRows.{representation_after}
 use Rattle.hc_model.specs.Rows.{Tables, Exchange, Representation, Consumer}
 use Rattle.hc_model.specs.StartingOver.{loses_what_it_waits_for}
-use Rattle.hc_model.specs.Tables.{after_accepted, added, starts_after, last_start_after, opened_after, openings_after}
+use Rattle.hc_model.specs.Tables.{after_accepted, with_item_first, starts_after, last_start_after, opened_after, openings_after}
 use Rattle.hc_model.proofs.ActParts.{IsFarFrom, far_closing, far_lost_only, closes_before, evicts_closed, loses_closed, asks_closed, asks_loss}
 use Rattle.hc_model.proofs.Basics.{none_some, false_true, number_is}
 use Rattle.hc_laws.proofs.ConsumerEffects.{after_by, others}
@@ -83,7 +83,7 @@ fronts c _ _ _ rest (fails want why told) = record { asked = refl; far = λ d ot
 fronts c _ _ _ rest (misreads want q) = record { asked = refl; far = λ d other far. record { waits = far.waits; leaves = rw other far.leaves; fails = rw other far.fails; shows = far.shows; given = far.given; opens = far.opens; showing = far.showing }; closes = λ x. refl; asks = λ x. refl; loses = λ r. refl; evicts = λ r. refl; misreads = λ r none. or_rest (q == r) (misreads_in r rest) none; opens = refl; shows = refl }
 fronts c _ _ _ rest cancels = record { asked = refl; far = λ d other far. far; closes = λ x. refl; asks = λ x. refl; loses = λ r. refl; evicts = λ r. refl; misreads = λ r none. none; opens = refl; shows = refl }
 
-leaver_is : (c : ℕ) (ev : Event) (o : Option ℕ) (front : List Act) (flaw : Flaw) → IsFront c ev o front → leaver_by ev (front ++ lost flaw) ≡ Some c
+leaver_is : (c : ℕ) (ev : Event) (o : Option ℕ) (front : List Act) (flaw : Flaw) → IsFront c ev o front → leaver_by ev (front ++ loss_acts flaw) ≡ Some c
 leaver_is c _ _ _ flaw (ends want) = refl
 leaver_is c _ _ _ flaw (fails want why told) = refl
 leaver_is c _ _ _ flaw (misreads want r) = refl
@@ -95,7 +95,7 @@ pub closes_are : (x : ℕ) (xs : List ℕ) → closes_in x (map act.Close xs) �
 closes_are x [] = refl
 closes_are x (y ∷ ys) = ap (λ b. (y == x) || b) (closes_are x ys)
 
-no_misread : (r : ℕ) (xs : List ℕ) (flaw : Flaw) → misreads_in r (map act.Close xs ++ lost flaw) ≡ false
+no_misread : (r : ℕ) (xs : List ℕ) (flaw : Flaw) → misreads_in r (map act.Close xs ++ loss_acts flaw) ≡ false
 no_misread r [] NoFlaw = refl
 no_misread r [] (Loses q kind) = refl
 no_misread r [] (Misreads q) = refl
@@ -110,7 +110,7 @@ record IsSilent (c : ℕ) (acts : List Act) : Type 0 where
   shows : shows_in c acts ≡ false
   gives : given_in c acts ≡ []
 
-silent : (c : ℕ) (xs : List ℕ) (flaw : Flaw) → IsSilent c (map act.Close xs ++ lost flaw)
+silent : (c : ℕ) (xs : List ℕ) (flaw : Flaw) → IsSilent c (map act.Close xs ++ loss_acts flaw)
 silent c [] NoFlaw = record { opens = refl; showing = refl; waits = refl; leaves = refl; shows = refl; gives = refl }
 silent c [] (Loses q kind) = record { opens = refl; showing = refl; waits = refl; leaves = refl; shows = refl; gives = refl }
 silent c [] (Misreads q) = record { opens = refl; showing = refl; waits = refl; leaves = refl; shows = refl; gives = refl }
@@ -139,10 +139,10 @@ no_last c _ _ _ cancels n = refl
 module _ (limits : Limits) (t : Tables) (law : Lawful t) (now c : ℕ) (k : Consumer) (row : t.consumer c ≡ Some k) (ev : Event) (flaw : Flaw) (o : Option ℕ) (front : List Act) (is : IsFront c ev o front) where
   -- what is closed
   abbrev pub xs : List ℕ
-  xs = added (left_by t c k) []
+  xs = with_item_first (left_by t c k) []
 
   abbrev pub rest : List Act
-  rest = map act.Close xs ++ lost flaw
+  rest = map act.Close xs ++ loss_acts flaw
 
   -- the entry of the leave
   abbrev pub e : Entry
@@ -154,12 +154,12 @@ module _ (limits : Limits) (t : Tables) (law : Lawful t) (now c : ℕ) (k : Cons
   f : Fronts c ev o front rest
   f = fronts c ev o front rest is
 
-  closing_is : closing t (record { now = now; event = ev; acts = front ++ lost flaw }) ≡ xs
-  closing_is = closes_left t (record { now = now; event = ev; acts = front ++ lost flaw }) c (nothing (front ++ lost flaw)) law.sound law.owned law.order c k row (leaver_is c ev o front flaw is)
+  closing_is : closing t (record { now = now; event = ev; acts = front ++ loss_acts flaw }) ≡ xs
+  closing_is = closes_left t (record { now = now; event = ev; acts = front ++ loss_acts flaw }) c (nothing (front ++ loss_acts flaw)) law.sound law.owned law.order c k row (leaver_is c ev o front flaw is)
 
   -- what is said, closed and lost
-  pub acts_left : said t now ev flaw ≡ front → accepted limits t now ev flaw ≡ front ++ rest
-  acts_left said_is = rw f.asked (rw said_is (ap (λ ys. front ++ (map act.Close ys ++ lost flaw)) closing_is))
+  pub acts_left : answer_acts t now ev flaw ≡ front → accepted_acts limits t now ev flaw ≡ front ++ rest
+  acts_left said_is = rw f.asked (rw said_is (ap (λ ys. front ++ (map act.Close ys ++ loss_acts flaw)) closing_is))
 
   unopened : opening_in (front ++ rest) ≡ None
   unopened = f.opens ∙ (silent c xs flaw).opens
@@ -170,7 +170,7 @@ module _ (limits : Limits) (t : Tables) (law : Lawful t) (now c : ℕ) (k : Cons
   closes_as x = f.closes x ∙ (closes_before x xs flaw ∙ closes_are x xs)
 
   asks_none : (x : ℕ) → asks_in x (front ++ rest) ≡ false
-  asks_none x = f.asks x ∙ ((asks_closed x 0 xs (lost flaw)).asks ∙ (asks_loss x 0 flaw).asks)
+  asks_none x = f.asks x ∙ ((asks_closed x 0 xs (loss_acts flaw)).asks ∙ (asks_loss x 0 flaw).asks)
 
   exchange_by : (x : ℕ) → exchange_after t e x (t.exchange x) ≡ (if is_in xs x then option_map over (t.exchange x) else t.exchange x)
   exchange_by x = by_row (t.exchange x)
@@ -189,8 +189,8 @@ module _ (limits : Limits) (t : Tables) (law : Lawful t) (now c : ℕ) (k : Cons
 
   -- WHAT GOES
 
-  pub loses_as : (r : ℕ) → loses_in r (front ++ rest) ≡ loses_in r (lost flaw)
-  loses_as r = f.loses r ∙ loses_closed r xs (lost flaw)
+  pub loses_as : (r : ℕ) → loses_in r (front ++ rest) ≡ loses_in r (loss_acts flaw)
+  loses_as r = f.loses r ∙ loses_closed r xs (loss_acts flaw)
 
   -- what a 200 founded that is closed goes, where it can't be completed later
   ends_as : (r : ℕ) (v : Representation) → t.representation r ≡ Some v → (ends_early t e r v && not (is_keepable v)) ≡ is_number (going_with t (left_by t c k)) r
@@ -237,10 +237,10 @@ module _ (limits : Limits) (t : Tables) (law : Lawful t) (now c : ℕ) (k : Cons
       ]
 
   -- by a loss, a failed read, or with what founded it
-  pub goes_by : (r : ℕ) (v : Representation) → t.representation r ≡ Some v → becomes_gone t e r v ≡ (loses_in r (lost flaw) || is_number o r || is_number (going_with t (left_by t c k)) r)
+  pub goes_by : (r : ℕ) (v : Representation) → t.representation r ≡ Some v → becomes_gone t e r v ≡ (loses_in r (loss_acts flaw) || is_number o r || is_number (going_with t (left_by t c k)) r)
   goes_by r v there =
       goes_as t e c (nothing (front ++ rest)) r v
-      ∙ rw (unopened, loses_as r, f.misreads r (no_misread r xs flaw), ends_as r v there, f.evicts r ∙ evicts_closed r xs flaw) (drop (is_current t v.key r) (loses_in r (lost flaw)) (is_number o r) (is_number (going_with t (left_by t c k)) r))
+      ∙ rw (unopened, loses_as r, f.misreads r (no_misread r xs flaw), ends_as r v there, f.evicts r ∙ evicts_closed r xs flaw) (drop (is_current t v.key r) (loses_in r (loss_acts flaw)) (is_number o r) (is_number (going_with t (left_by t c k)) r))
     where
       drop : (a b d g : Bool) → ((a && false) || b || d || g || false) ≡ (b || d || g)
       drop true b d g = or_off (b || d || g)
@@ -249,10 +249,10 @@ module _ (limits : Limits) (t : Tables) (law : Lawful t) (now c : ℕ) (k : Cons
   -- CONSUMERS
 
   pub far : (d : ℕ) → nat_eq c d ≡ false → IsFarFrom d (front ++ rest)
-  far d other = f.far d other (far_closing d xs (lost flaw) (far_lost_only d flaw))
+  far d other = f.far d other (far_closing d xs (loss_acts flaw) (far_lost_only d flaw))
 
   -- it is over, and starts over by nothing
-  pub itself : loses_what_it_waits_for t e c k.place ≡ false → consumer_after t e c (t.consumer c) ≡ Some (finished k)
+  pub itself : loses_what_it_waits_for t e c k.place ≡ false → consumer_after t e c (t.consumer c) ≡ Some (as_over k)
   itself stays =
       ap (consumer_after t e c) row
       ∙ consumer_itself t e c (nothing (front ++ rest)) c k (consumer_heard t e c ev k) (record k { place = place.Over }) refl (over_by t now c k ev o front rest is (silent c xs flaw)) stays
@@ -261,10 +261,10 @@ module _ (limits : Limits) (t : Tables) (law : Lawful t) (now c : ℕ) (k : Cons
 
   -- c is over, what nobody reads any more is closed, and these are let go
   pub leaves : (rs : List ℕ) (rep : ℕ → Option Representation) → ((r : ℕ) (v : Representation) → t.representation r ≡ Some v → becomes_gone t e r v ≡ is_in rs r)
-      → ((r : ℕ) → representation_after t e r (t.representation r) ≡ (if is_in rs r then option_map gone (rep r) else rep r)) → loses_what_it_waits_for t e c k.place ≡ false
-      → after_accepted t e ≡ counted now ev (let_all_go now rs (with_consumer c (Some (finished k)) (record (shut xs t) { representation = rep })))
+      → ((r : ℕ) → representation_after t e r (t.representation r) ≡ (if is_in rs r then option_map as_gone (rep r) else rep r)) → loses_what_it_waits_for t e c k.place ≡ false
+      → after_accepted t e ≡ with_event now ev (let_all_go now rs (with_consumer c (Some (as_over k)) (record (shut xs t) { representation = rep })))
   leaves rs rep goes rows stays =
-      after_by t e c (nothing (front ++ rest)) rs (record (shut xs t) { representation = rep }) (finished k) (record {
+      after_by t e c (nothing (front ++ rest)) rs (record (shut xs t) { representation = rep }) (as_over k) (record {
         entries = refl;
         received = refl;
         last_start = no_last c ev o front is t.last_start;

@@ -26,7 +26,7 @@ use Rattle.hc_model.specs.Rows.{Tables, Exchange, Representation}
 use Rattle.hc_model.specs.Sizes.{Sizes}
 use Rattle.hc_model.specs.Sound.{Sound, Among, IsStored}
 use Rattle.hc_model.specs.Sound as sound
-use Rattle.hc_model.specs.StoredHeads.{StoredHeads, AreModest, IsOfOne, Tags}
+use Rattle.hc_model.specs.StoredHeads.{StoredHeads, AreWithinLimits, IsOfOne, Tags}
 use Rattle.hc_model.specs.StoredHeads as heads
 use Rattle.hc_model.specs.Tables.{tables, bytes_in, last_end}
 use Rattle.hc_model.proofs.Basics.{false_true, and_left, and_right, and_both, none_some}
@@ -34,13 +34,13 @@ use Rattle.hc_laws.proofs.FitsKept.{Fits}
 use Rattle.hc_model.proofs.HoleLemmas.{bool_cases, covers_yes}
 use Rattle.hc_model.proofs.KindsLeft.{kind_by, kind_right, count_is, last_is}
 use Rattle.hc_laws.proofs.OriginRuns.{origins_in_runs}
-use Rattle.hc_model.proofs.Pens.{none_about}
+use Rattle.hc_model.proofs.ExclusiveWriters.{none_about}
 use Rattle.hc_model.proofs.PieceKeeps.{eq_cases, some_inj}
 use Rattle.hc_model.proofs.PollKeeps.{current_stays}
 use Rattle.hc_model.proofs.RunsFrom.{HasCell, is_of, of_cell, all_of, ascends}
 use Rattle.hc_laws.proofs.SizesKeep.{sized_runs}
 use Rattle.hc_laws.proofs.SoundRuns.{IsCarried, carried}
-use Rattle.hc_laws.proofs.StoredHeadsKeep.{heads_in_runs, modest_in_runs}
+use Rattle.hc_laws.proofs.StoredHeadsKeep.{heads_in_runs, within_limits_in_runs}
 use Rattle.hc_model.proofs.Sums.{sum_le, sum_some, is_in, among_of, filter_among, filter_once, reverse_among, reverse_once}
 use Rattle.hc_laws.proofs.TagRuns.{tags_in_runs}
 use Rattle.hc_laws.proofs.Unknowns.{Unknown}
@@ -70,7 +70,7 @@ pub record IsSettled (limits : Limits) (t : Tables) : Type 0 where
   pub origins : Origins t
   pub sizes : Sizes limits t
   pub heads : StoredHeads t
-  pub modest : AreModest t
+  pub within_limits : AreWithinLimits t
   pub tags : Tags t
 
 module _ (limits : Limits) (t : Tables) (g : IsSettled limits t) where
@@ -214,8 +214,8 @@ module _ (limits : Limits) (t : Tables) (g : IsSettled limits t) where
       ],
     )
 
-    rising : ascend_from 0 0 item.runs ≡ true
-    rising = ascends v.stored v.reach (λ x h. (g.origins.given_out r x (origins.has_byte h.p h.cell v i.row (sym (stored_is h.p) ∙ h.there) h.from)).0)
+    ascending : ascend_from 0 0 item.runs ≡ true
+    ascending = ascends v.stored v.reach (λ x h. (g.origins.given_out r x (origins.has_byte h.p h.cell v i.row (sym (stored_is h.p) ∙ h.there) h.from)).0)
 
     -- ITS HEAD
 
@@ -262,7 +262,7 @@ module _ (limits : Limits) (t : Tables) (g : IsSettled limits t) where
         let came : v.head.answered ≤ t.moment = m.1 in
         let a : nat_le v.head.requested v.head.answered ≡ true = grind (arith, nat_tests) in
         let b : nat_le v.head.answered t.moment ≡ true = grind (arith, nat_tests) in
-        rw (a, b, g.heads.lengths r v i.row, g.heads.ranges r v i.row, g.modest r v i.row) (by_need (needs_tag item) (is_some v.head.joining) tag_needed)
+        rw (a, b, g.heads.lengths r v i.row, g.heads.ranges r v i.row, g.within_limits r v i.row) (by_need (needs_tag item) (is_some v.head.joining) tag_needed)
       where
         by_need : (a b : Bool) → (a ≡ true → b ≡ true) → ((not a || b) && true && true && true && true && true) ≡ true
         by_need false b h = refl
@@ -348,7 +348,7 @@ module _ (limits : Limits) (t : Tables) (g : IsSettled limits t) where
         and_both _ _ (and_both _ _ (and_both _ _ (and_both _ _ (and_both _ _
         (not_by _ (none_of r (λ (other : Content). bytes_eq other.key i.v.key) earlier before other_key))
         (own_numbers earlier later before after))
-        (rising r i))
+        (ascending r i))
         (kind_ok r i))
         (small r i))
         (head_ok r i)
@@ -435,7 +435,7 @@ module _ (limits : Limits) (t : Tables) (g : IsSettled limits t) where
 
 -- A store may begin with what a run leaves.
 pub leaves_good : LeavesInRuns
-leaves_good limits contents may h run modest in_limits =
+leaves_good limits contents may h run within_limits in_limits =
     let sized = sized_runs limits contents h may run in
     may_begin_again limits (tables contents h) (record {
       carried = carried limits contents h may run;
@@ -444,6 +444,6 @@ leaves_good limits contents may h run modest in_limits =
       origins = origins_in_runs limits contents h may run;
       sizes = sized.sizes;
       heads = heads_in_runs limits contents h may run;
-      modest = modest_in_runs limits contents h may modest;
+      within_limits = within_limits_in_runs limits contents h may within_limits;
       tags = tags_in_runs limits contents h may run;
     }) in_limits

@@ -8,7 +8,7 @@ use Rattle.hc_model.specs.ConsumerRows.{back_in_line}
 use Rattle.hc_model.specs.Contents.{idle_now, is_idle}
 use Rattle.hc_model.specs.Currents.{current, is_usable, is_number}
 use Rattle.hc_model.specs.Denials.{live}
-use Rattle.hc_model.specs.Effects.{waits_for, back_from, gone, let_go, let_all_go}
+use Rattle.hc_model.specs.Effects.{waits_for, back_from, as_gone, let_go, let_all_go}
 use Rattle.hc_model.specs.Evictions.{evict, unless_it}
 use Rattle.hc_model.specs.Lawful.{Lawful}
 use Rattle.hc_model.specs.LettingGo.{WaitsOn, MayLetGo}
@@ -83,8 +83,8 @@ module _ (now r : ℕ) (t : Tables) where
   there : (q : ℕ) → is_some ((let_go now r t).representation q) ≡ is_some (t.representation q)
   there q = by_test (r == q)
     where
-      by_test : (b : Bool) → is_some (if b then option_map gone (t.representation q) else t.representation q) ≡ is_some (t.representation q)
-      by_test true = mapped gone (t.representation q)
+      by_test : (b : Bool) → is_some (if b then option_map as_gone (t.representation q) else t.representation q) ≡ is_some (t.representation q)
+      by_test true = mapped as_gone (t.representation q)
       by_test false = refl
 
   -- and so others may be let go then
@@ -153,11 +153,11 @@ module _ (t : Tables) (may : MayLetGo t) where
       by_consumer d None row = refl
       by_consumer d (Some k) row = ap Some (by_place d k k.place row refl)
 
-      by_row : (z : Option Representation) → t.representation r ≡ z → option_map gone z ≡ z
+      by_row : (z : Option Representation) → t.representation r ≡ z → option_map as_gone z ≡ z
       by_row None row = refl
       by_row (Some v) row = ap (λ b. Some (record v { is_gone = b })) (sym (is_gone v row))
 
-      by_number : (q : ℕ) (b : Bool) → nat_eq r q ≡ b → (if b then option_map gone (t.representation q) else t.representation q) ≡ t.representation q
+      by_number : (q : ℕ) (b : Bool) → nat_eq r q ≡ b → (if b then option_map as_gone (t.representation q) else t.representation q) ≡ t.representation q
       by_number q false off = refl
       by_number q true on = let same : r ≡ q = grind (arith, nat_tests) in by_row (t.representation q) (ap t.representation same)
 
@@ -205,17 +205,17 @@ module _ (now r : ℕ) (t : Tables) (may : MayLetGo t) where
       one false = refl
   by_number false b c = refl
 
-  idle_row : (q : ℕ) (z : Option Representation) → is_idle (let_go now r t) q (if r == q then option_map gone z else z) ≡ (is_idle t q z && not (r == q))
+  idle_row : (q : ℕ) (z : Option Representation) → is_idle (let_go now r t) q (if r == q then option_map as_gone z else z) ≡ (is_idle t q z && not (r == q))
   idle_row q None = by_test (r == q)
     where
-      by_test : (b : Bool) → is_idle (let_go now r t) q (if b then option_map gone None else None) ≡ (false && not b)
+      by_test : (b : Bool) → is_idle (let_go now r t) q (if b then option_map as_gone None else None) ≡ (false && not b)
       by_test true = refl
       by_test false = refl
   idle_row q (Some v) = by_test (r == q) ∙ (ap (λ o. is_number o q && (length (bound (let_go now r t) q) == 0)) (current_let_go now r t may.one_current v.key)
       ∙ (ap (λ cs. is_number (unless_it r (current t v.key)) q && (length cs == 0)) (bound_let_go now r t may.one_current q)
       ∙ (ap (λ b. b && (length (bound t q) == 0)) (number_same (current t v.key) q) ∙ by_number (is_number (current t v.key) q) (length (bound t q) == 0) (r == q))))
     where
-      by_test : (b : Bool) → is_idle (let_go now r t) q (if b then option_map gone (Some v) else Some v) ≡ (is_number (current (let_go now r t) v.key) q && (length (bound (let_go now r t) q) == 0))
+      by_test : (b : Bool) → is_idle (let_go now r t) q (if b then option_map as_gone (Some v) else Some v) ≡ (is_number (current (let_go now r t) v.key) q && (length (bound (let_go now r t) q) == 0))
       by_test true = refl
       by_test false = refl
 

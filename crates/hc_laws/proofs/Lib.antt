@@ -29,7 +29,7 @@ pub mod TogetherHeads
 pub mod CachedKeeps
 pub mod HeadTo
 pub mod Exclusives
-pub mod PenFrom
+pub mod ExclusiveWriterFrom
 pub mod Covers
 pub mod CoversKept
 pub mod Rests
@@ -50,7 +50,7 @@ pub mod ChainRuns
 pub mod TruthRuns
 pub mod PastApart
 pub mod ShownStays
-pub mod AsideKeeps
+pub mod FallbackKeeps
 pub mod ReadAs
 pub mod ReadJoined
 pub mod ReadNext

@@ -35,11 +35,11 @@ use Rattle.hc_model.specs.Moves.{Move, gives, waits_for, opens_hole, shows_store
 use Rattle.hc_model.specs.Places.{Places, ReadsPast}
 use Rattle.hc_model.specs.Planning.{plan_view, plan_move, binds_current, current_row}
 use Rattle.hc_model.specs.Polls.{shows_at, shows_bound, shows_direct, shows_answer, has_joined, move_of}
-use Rattle.hc_model.specs.Reading.{bound_to, offset, lo_of, hi_of, own_open, source, shared, writing_in, is_written, is_open_writer, base_in}
+use Rattle.hc_model.specs.Reading.{bound_to, offset, lo_of, hi_of, own_open, source, shared_exchange, writing_in, is_written, is_open_writer, base_in}
 use Rattle.hc_model.specs.Rows.{Tables, Exchange, Representation, Consumer}
-use Rattle.hc_model.specs.Sound.{Sound, IsBound, IsFirst, HasPen, IsServed}
+use Rattle.hc_model.specs.Sound.{Sound, IsBound, IsFirst, IsExclusiveWriter, IsServed}
 use Rattle.hc_model.specs.Sound as sound
-use Rattle.hc_model.specs.Steps.{bound_row, stored_ahead, stored_from, held, held_at, held_of_exchange, run_of, read_view, later_hole, step_move, reading, most}
+use Rattle.hc_model.specs.Steps.{bound_row, stored_ahead, stored_from, run_held_for, held_at, held_of_exchange, run_of, read_view, later_hole, step_move, reading, most}
 use Rattle.hc_model.specs.Writers.{came_alone}
 use Rattle.hc_laws.proofs.AboutKeeps.{own_open_of, own_open_is}
 use Rattle.hc_model.proofs.Basics.{false_true, none_some, some_none, some_row, and_left, and_right, not_so}
@@ -47,7 +47,7 @@ use Rattle.hc_model.proofs.GivenNext.{some_ahead}
 use Rattle.hc_model.proofs.HoleLemmas.{bool_cases}
 use Rattle.hc_model.proofs.MoveBy.{MoveBy, IsHeard, move_by}
 use Rattle.hc_model.proofs.MoveBy as by
-use Rattle.hc_model.proofs.Pens.{same_row, shares_source}
+use Rattle.hc_model.proofs.ExclusiveWriters.{same_row, shares_source}
 use Rattle.hc_model.proofs.PieceKeeps.{some_inj}
 use Rattle.hc_model.proofs.PlanBy.{PlanBy, plan_by}
 use Rattle.hc_model.proofs.PlanBy as plans
@@ -145,7 +145,7 @@ module _ (t : Tables) (s : Sound t) (places : Places t) (endings : Endings t) (u
     | inr off ↦ absurd (none_some x (rw off at is))
   ]
 
-  shared_by : (x : ℕ) (p : Place) → shared t p ≡ Some x → is_open (t.exchange x) ≡ true
+  shared_by : (x : ℕ) (p : Place) → shared_exchange t p ≡ Some x → is_open (t.exchange x) ≡ true
   shared_by x (place.Bound r lo hi z) is = shared_opened x (t.representation r) is
   shared_by x place.Line is = absurd (none_some x is)
   shared_by x (place.Passed r kept) is = absurd (none_some x is)
@@ -154,7 +154,7 @@ module _ (t : Tables) (s : Sound t) (places : Places t) (endings : Endings t) (u
   shared_by x (place.Down why) is = absurd (none_some x is)
   shared_by x place.Over is = absurd (none_some x is)
 
-  source_by : (x : ℕ) (o : Option ℕ) → own_open t k ≡ o → option_or o (shared t k.place) ≡ Some x → is_open (t.exchange x) ≡ true
+  source_by : (x : ℕ) (o : Option ℕ) → own_open t k ≡ o → option_or o (shared_exchange t k.place) ≡ Some x → is_open (t.exchange x) ≡ true
   source_by x None none is = shared_by x k.place is
   source_by x (Some y) own is = own_opened x (own ∙ is)
 
@@ -250,7 +250,7 @@ module _ (t : Tables) (s : Sound t) (places : Places t) (endings : Endings t) (u
 
     module _ (undue : k.due ≡ None) (none : source t k ≡ None) where
       unowned : (x : ℕ) → own_open t k ≡ Some x → ⊥
-      unowned x own = some_none x (sym (ap (λ (o : Option ℕ). option_or o (shared t k.place)) own) ∙ none)
+      unowned x own = some_none x (sym (ap (λ (o : Option ℕ). option_or o (shared_exchange t k.place)) own) ∙ none)
 
       -- who is bound knows its end
       module _ (r lo : ℕ) (hi : Option ℕ) (z : BoundBy) (at : k.place ≡ place.Bound r lo hi z) where
@@ -288,7 +288,7 @@ module _ (t : Tables) (s : Sound t) (places : Places t) (endings : Endings t) (u
         later_goes hole (Some hi) is = opens_goes k.request (bound_row t k) hole bound_there
 
       -- and of who reads past the store there is more, up to its end
-      module _ (x : ℕ) (at : k.place ≡ place.Direct x) (before : is_at_end (hi_of t k.place) (offset t k) ≡ false) (nothing : is_some (held t c k want) ≡ false) where
+      module _ (x : ℕ) (at : k.place ≡ place.Direct x) (before : is_at_end (hi_of t k.place) (offset t k) ≡ false) (nothing : is_some (run_held_for t c k want) ≡ false) where
         past : ReadsPast t c x k
         past = places.direct c x k row at
 
@@ -308,7 +308,7 @@ module _ (t : Tables) (s : Sound t) (places : Places t) (endings : Endings t) (u
         ahead : offset t k < front past.w
         ahead = below (hi_of t k.place) (offset t k) (front past.w) end_is before
 
-        holds : is_some (held t c k want) ≡ true
+        holds : is_some (run_held_for t c k want) ≡ true
         holds =
             let first : lo_of t k.place ≡ base past.w = lo_is in
             let less : offset t k < front past.w = ahead in
@@ -321,26 +321,26 @@ module _ (t : Tables) (s : Sound t) (places : Places t) (endings : Endings t) (u
         never : ⊥
         never = false_true (sym nothing ∙ holds)
 
-      hole_goes : is_at_end (hi_of t k.place) (offset t k) ≡ false → is_some (held t c k want) ≡ false → (hole : Span) → IsReader → Fine (later_hole t k hole (hi_of t k.place))
+      hole_goes : is_at_end (hi_of t k.place) (offset t k) ≡ false → is_some (run_held_for t c k want) ≡ false → (hole : Span) → IsReader → Fine (later_hole t k hole (hi_of t k.place))
       hole_goes before nothing hole (is_bound r lo hi z at) = later_goes r lo hi z at hole (hi_of t k.place) refl
       hole_goes before nothing hole (is_past x at) = absurd (never x at before nothing)
 
     -- ALL CASES
 
     module _ (before : is_at_end (hi_of t k.place) (offset t k) ≡ false) where
-      waits_goes : (o : Option ℕ) → k.due ≡ None → is_some (held t c k want) ≡ false → source t k ≡ o → GoesStep (waits_or o (readings.opens v))
+      waits_goes : (o : Option ℕ) → k.due ≡ None → is_some (run_held_for t c k want) ≡ false → source t k ≡ o → GoesStep (waits_or o (readings.opens v))
       waits_goes None undue nothing none = hole_goes undue none before nothing _ (reader_by k.place refl)
       waits_goes (Some x) undue nothing from = asks_goes x (t.exchange x) refl (source_opened x from)
 
-      due_goes : (o : Option Cause) → k.due ≡ o → is_some (held t c k want) ≡ false → GoesStep (fails_or o (waits_or v.source (readings.opens v)))
+      due_goes : (o : Option Cause) → k.due ≡ o → is_some (run_held_for t c k want) ≡ false → GoesStep (fails_or o (waits_or v.source (readings.opens v)))
       due_goes (Some cause) due nothing = tt
       due_goes None undue nothing = waits_goes v.source undue nothing refl
 
       some_most : 0 < most t want k
       some_most = some_ahead (hi_of t k.place) (offset t k + want) (offset t k) before (omega arith)
 
-      held_goes : (b : Bool) → is_some (held t c k want) ≡ b → GoesStep (held_or b (fails_or v.due (waits_or v.source (readings.opens v))))
-      held_goes true some = gives_goes (held t c k (most t want k)) (held_same want (most t want k) k.place some_most some)
+      held_goes : (b : Bool) → is_some (run_held_for t c k want) ≡ b → GoesStep (held_or b (fails_or v.due (waits_or v.source (readings.opens v))))
+      held_goes true some = gives_goes (run_held_for t c k (most t want k)) (held_same want (most t want k) k.place some_most some)
       held_goes false nothing = due_goes v.due refl nothing
 
       stored_goes_on : (o : Option ℕ) → option_map end_of (stored_ahead t k want) ≡ o → GoesStep (stored_or v.hi o (held_or v.held (fails_or v.due (waits_or v.source (readings.opens v)))))

@@ -47,7 +47,7 @@ use Rattle.hc_model.proofs.OpensFrom.{hole_is, opens_hole}
 use Rattle.hc_model.proofs.OwnFrom.{OwnFrom, own_from}
 use Rattle.hc_model.proofs.OwnFrom as own
 use Rattle.hc_model.proofs.OwnersKeep.{is_opened}
-use Rattle.hc_model.proofs.Pens.{IsAtHole, same_row, bound_some, shares_source, writer_some}
+use Rattle.hc_model.proofs.ExclusiveWriters.{IsAtHole, same_row, bound_some, shares_source, writer_some}
 use Rattle.hc_model.proofs.PieceKeeps.{some_inj}
 use Rattle.hc_model.proofs.PollTree.{OpensHole}
 use Rattle.hc_model.proofs.PollTree as tree

@@ -8,7 +8,7 @@ use Rattle.hc_event.specs.declared.event.Event.{Event}
 use Rattle.hc_event.specs.declared.event.Event.TheVariants as event
 use Rattle.hc_rules.specs.declared.room.Limits.{Limits}
 use Rattle.hc_model.specs.ActFilters.{loses_in, without_losses}
-use Rattle.hc_model.specs.Answers.{lost, said, accepted}
+use Rattle.hc_model.specs.Answers.{loss_acts, answer_acts, accepted_acts}
 use Rattle.hc_model.specs.Closings.{closing}
 use Rattle.hc_model.specs.Currents.{is_number}
 use Rattle.hc_model.specs.Denials.{denial}
@@ -32,7 +32,7 @@ use Rattle.hc_model.proofs.Closed.{before}
 use Rattle.hc_model.proofs.KeyActs.{found_some, closes_lossless, test_some}
 use Rattle.hc_model.proofs.MeasuresKeep.{ender}
 use Rattle.hc_model.proofs.PieceKeeps.{eq_cases, some_inj}
-use Rattle.hc_model.proofs.Pens.{same_row}
+use Rattle.hc_model.proofs.ExclusiveWriters.{same_row}
 use Rattle.hc_model.proofs.Unclosed.{had_open}
 use Rattle.hc_model.proofs.Waiters.{fault_open_of}
 
@@ -41,7 +41,7 @@ pub record IsLoss (r : ℕ) (flaw : Flaw) : Type 0 where
   pub kind : LostKind
   pub is : flaw ≡ Loses r kind
 
-loss_of : (r : ℕ) (flaw : Flaw) → loses_in r (lost flaw) ≡ true → IsLoss r flaw
+loss_of : (r : ℕ) (flaw : Flaw) → loses_in r (loss_acts flaw) ≡ true → IsLoss r flaw
 loss_of r NoFlaw h = absurd (false_true h)
 loss_of r (Misreads q) h = absurd (false_true h)
 loss_of r (Loses q kind) h = elim (or_cases (q == r) false h) [
@@ -52,8 +52,8 @@ loss_of r (Loses q kind) h = elim (or_cases (q == r) false h) [
 -- what holds of an entry of a run
 pub record IsReal (limits : Limits) (t : Tables) (now : ℕ) (ev : Event) (flaw : Flaw) : Type 0 where
   pub stand : may_stand limits t (entry_of limits t now ev flaw) ≡ true
-  pub shown : flaw_in (accepted limits t now ev flaw) ≡ flaw
-  pub taken : is_denied (accepted limits t now ev flaw) ≡ false
+  pub shown : flaw_in (accepted_acts limits t now ev flaw) ≡ flaw
+  pub taken : is_denied (accepted_acts limits t now ev flaw) ≡ false
 
 module _ (limits : Limits) (t : Tables) (now : ℕ) (flaw : Flaw) (s : Sound t) (o : Owners t) (m : Measures t) (ev : Event) (goes : denial t ev ≡ None) (real : IsReal limits t now ev flaw) where
   abbrev e : Entry
@@ -62,14 +62,14 @@ module _ (limits : Limits) (t : Tables) (now : ℕ) (flaw : Flaw) (s : Sound t) 
   abbrev b : Entry
   b = before limits t now flaw s ev
 
-  pub loses_flaw : (r : ℕ) (v : Event) → loses_in r (accepted limits t now v flaw) ≡ loses_in r (lost flaw)
+  pub loses_flaw : (r : ℕ) (v : Event) → loses_in r (accepted_acts limits t now v flaw) ≡ loses_in r (loss_acts flaw)
   loses_flaw r (event.Start c request) = loses_evicted r (evicted limits t now (event.Start c request)) _ ∙ loses_before r flaw _
-  loses_flaw r (event.Poll c want) = (said_closes 0 r t now (event.Poll c want) flaw (said t now (event.Poll c want) flaw) _ (said_is t now (event.Poll c want) flaw)).loses ∙ loses_closed r (closing t (before limits t now flaw s (event.Poll c want))) (lost flaw)
+  loses_flaw r (event.Poll c want) = (said_closes 0 r t now (event.Poll c want) flaw (answer_acts t now (event.Poll c want) flaw) _ (said_is t now (event.Poll c want) flaw)).loses ∙ loses_closed r (closing t (before limits t now flaw s (event.Poll c want))) (loss_acts flaw)
   loses_flaw r (event.Head x response) = loses_evicted r (evicted limits t now (event.Head x response)) _ ∙ loses_before r flaw _
   loses_flaw r (event.Piece x bytes) = loses_evicted r (evicted limits t now (event.Piece x bytes)) _ ∙ loses_before r flaw _
   loses_flaw r (event.End x) = loses_evicted r (evicted limits t now (event.End x)) _ ∙ loses_before r flaw _
   loses_flaw r (event.Fault x) = loses_evicted r (evicted limits t now (event.Fault x)) _ ∙ loses_before r flaw _
-  loses_flaw r (event.Cancel c) = loses_closed r (closing t (before limits t now flaw s (event.Cancel c))) (lost flaw)
+  loses_flaw r (event.Cancel c) = loses_closed r (closing t (before limits t now flaw s (event.Cancel c))) (loss_acts flaw)
   loses_flaw r (event.Doom key) = loses_evicted r (evicted limits t now (event.Doom key)) _ ∙ loses_before r flaw _
 
   -- what is lost is what is written, and wasn't lost

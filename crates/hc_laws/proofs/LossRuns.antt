@@ -17,20 +17,20 @@ use Rattle.hc_model.specs.Entries.{Entry, Contents}
 use Rattle.hc_model.specs.Exchanges.{base, front}
 use Rattle.hc_model.specs.Flaws.{flaw_in}
 use Rattle.hc_model.specs.Laws.{OfRuns}
-use Rattle.hc_model.specs.Losses.{Brings, Losses, IsHeldFrom, HoldsOwn, brought}
+use Rattle.hc_model.specs.Losses.{Brings, Losses, IsHeldFrom, HoldsOwn, cell_from}
 use Rattle.hc_model.specs.Reading.{offset}
 use Rattle.hc_model.specs.Rows.{Tables, Exchange, Representation, Consumer}
 use Rattle.hc_model.specs.Runs.{IsOwed}
 use Rattle.hc_model.specs.Sound.{Sound, IsBound}
 use Rattle.hc_model.specs.Sound as sound
-use Rattle.hc_model.specs.Steps.{held, held_at, held_of_lost, run_of}
-use Rattle.hc_model.specs.Tables.{tables, begun, after, after_accepted, after_denied}
+use Rattle.hc_model.specs.Steps.{run_held_for, held_at, held_of_lost, run_of}
+use Rattle.hc_model.specs.Tables.{tables, first_tables, after, after_accepted, after_denied}
 use Rattle.hc_model.proofs.Basics.{false_true, none_some}
 use Rattle.hc_laws.proofs.BringsRuns.{brings_in_runs}
 use Rattle.hc_laws.proofs.DueAhead.{IsAhead, AreAhead, ahead_kept}
 use Rattle.hc_model.proofs.HoleLemmas.{bool_cases}
 use Rattle.hc_laws.proofs.OfEntries.{of_real}
-use Rattle.hc_model.proofs.Pens.{eq-refl, same_row}
+use Rattle.hc_model.proofs.ExclusiveWriters.{eq-refl, same_row}
 use Rattle.hc_model.proofs.PieceKeeps.{some_inj}
 use Rattle.hc_laws.proofs.SoundRuns.{IsCarried, carried}
 use Rattle.hc_laws.proofs.Tails.{AreTails, IsTail, tails_kept}
@@ -76,13 +76,13 @@ ahead_in_runs : OfRuns AreAhead
 unfolding tables
 ahead_in_runs limits contents [] may run = record { ahead = λ r c v k there alone reader. unbound contents r c k reader }
   where
-    unbound : {A : Type 0} (contents : Contents) (r c : ℕ) (k : Consumer) → IsBound (begun contents) r c k → A
+    unbound : {A : Type 0} (contents : Contents) (r c : ℕ) (k : Consumer) → IsBound (first_tables contents) r c k → A
     unbound contents r c k (sound.is_bound lo hi how row at) = absurd (none_some k row)
 ahead_in_runs limits contents (e ∷ h) may run = ahead_by_denial limits (tables contents h) e (is_denied e.acts) refl (carried limits contents h may run.0) (carried limits contents (e ∷ h) may run).is_sound run.1 (ahead_in_runs limits contents h may run.0)
 
 -- ONE STRETCH
 
-module _ (f : Cells) (x : ℕ) (w : Exchange) (from : ℕ) (low : base w ≤ from) (came : (q : ℕ) → from ≤ q → q < front w → f q ≡ Some (brought x w q)) (only : (q : ℕ) (cell : Cell) → f q ≡ Some cell → cell.x ≡ x → q < front w) where
+module _ (f : Cells) (x : ℕ) (w : Exchange) (from : ℕ) (low : base w ≤ from) (came : (q : ℕ) → from ≤ q → q < front w → f q ≡ Some (cell_from x w q)) (only : (q : ℕ) (cell : Cell) → f q ≡ Some cell → cell.x ≡ x → q < front w) where
   past_end : (p n : ℕ) → front w ≤ p → bytes_from f x p n ≡ []
   past_end p zero past = refl
   past_end p (suc n) past = by_cell (f p) refl
@@ -150,10 +150,10 @@ module _ (t : Tables) (s : Sound t) (brings : Brings t) (tails : AreTails t) (ah
         by_test true is = refl
         by_test false fresh = absurd (none_some c (sym ((s.rows r v there).store.nobody_alone fresh) ∙ is_alone))
 
-    came : (p : ℕ) → tail.from ≤ p → p < front w → v.body p ≡ Some (brought x w p)
+    came : (p : ℕ) → tail.from ≤ p → p < front w → v.body p ≡ Some (cell_from x w p)
     came p low under = by_head w.head refl
       where
-        by_head : (q : Option Response) → w.head ≡ q → v.body p ≡ Some (brought x w p)
+        by_head : (q : Option Response) → w.head ≡ q → v.body p ≡ Some (cell_from x w p)
         by_head None bare =
             let after_base : base w ≤ tail.from = tail.after_base in
             let empty : length w.body ≡ 0 = ap (λ (b : List ℕ). length b) (s.waits.headless x w w_row bare).0 in
@@ -172,22 +172,22 @@ module _ (t : Tables) (s : Sound t) (brings : Brings t) (tails : AreTails t) (ah
     abbrev o : ℕ
     o = offset t k
 
-    held_is : (n : ℕ) → held t c k n ≡ stretch v.body o (min n (v.reach - o))
+    held_is : (n : ℕ) → run_held_for t c k n ≡ stretch v.body o (min n (v.reach - o))
     held_is n = ap (held_at t c o n) at ∙ (ap (held_of_lost c o n) there ∙ rw (lost, number) refl)
       where
         number : is_number v.alone c ≡ true
         number = ap (λ a. is_number a c) is_alone ∙ eq-refl c
 
     -- nothing came there
-    unheld : v.body o ≡ None → drop (o - base w) w.body ≡ [] → (n : ℕ) → held t c k n ≡ run_of x o (take n (drop (o - base w) w.body))
+    unheld : v.body o ≡ None → drop (o - base w) w.body ≡ [] → (n : ℕ) → run_held_for t c k n ≡ run_of x o (take n (drop (o - base w) w.body))
     unfolding stretch
     unheld absent rest n = held_is n ∙ (ap (stretch_of v.body o (min n (v.reach - o))) absent ∙ sym (ap (λ b. run_of x o (take n b)) rest ∙ ap (run_of x o) (take_none n)))
 
-    past : front w ≤ o → (n : ℕ) → v.stored o ≡ None → held t c k n ≡ run_of x o (take n (drop (o - base w) w.body))
+    past : front w ≤ o → (n : ℕ) → v.stored o ≡ None → run_held_for t c k n ≡ run_of x o (take n (drop (o - base w) w.body))
     past over n missing = unheld (sym (tail.stored o (omega arith) (inr over)) ∙ missing) (drop_of_length-le w.body (omega arith)) n
 
     -- nor anywhere
-    empty : w.body ≡ [] → (n : ℕ) → v.stored o ≡ None → held t c k n ≡ run_of x o (take n (drop (o - base w) w.body))
+    empty : w.body ≡ [] → (n : ℕ) → v.stored o ≡ None → run_held_for t c k n ≡ run_of x o (take n (drop (o - base w) w.body))
     empty none n missing = unheld absent (ap (drop (o - base w)) none ∙ drop_none (o - base w)) n
       where
         absent : v.body o ≡ None
@@ -200,7 +200,7 @@ module _ (t : Tables) (s : Sound t) (brings : Brings t) (tails : AreTails t) (ah
               sym (tail.stored o (omega arith) (inr (omega arith))) ∙ missing
         ]
 
-    inside : Covers v.body o (front w) → o < front w → (n : ℕ) → 0 < n → v.stored o ≡ None → held t c k n ≡ run_of x o (take n (drop (o - base w) w.body))
+    inside : Covers v.body o (front w) → o < front w → (n : ℕ) → 0 < n → v.stored o ≡ None → run_held_for t c k n ≡ run_of x o (take n (drop (o - base w) w.body))
     unfolding stretch
     inside all under n some missing =
         let low : tail.from ≤ o = begins under missing in
@@ -228,7 +228,7 @@ module _ (t : Tables) (s : Sound t) (brings : Brings t) (tails : AreTails t) (ah
           | inl on ↦ let under_reach : front w - 1 < v.reach = grind (arith, nat_tests) in omega arith
           | inr off ↦
               let over : v.reach ≤ front w - 1 = grind (arith, nat_tests) in
-              absurd (none_some (brought x w (front w - 1)) (sym ((s.rows r v there).store.ends (front w - 1) over) ∙ came (front w - 1) (omega arith) (omega arith)))
+              absurd (none_some (cell_from x w (front w - 1)) (sym ((s.rows r v there).store.ends (front w - 1) over) ∙ came (front w - 1) (omega arith) (omega arith)))
         ]
 
     -- all is there up to its front, or it brought nothing
@@ -238,7 +238,7 @@ module _ (t : Tables) (s : Sound t) (brings : Brings t) (tails : AreTails t) (ah
         let one : goes.w ≡ w = same_row (t.exchange x) goes.w w (sym (ap t.exchange number) ∙ goes.row) w_row in
         subst (λ (q : Exchange). (q.body ≡ []) ⊎ Covers v.body o (front q)) one goes.covered
 
-    next : v.stored o ≡ None → (n : ℕ) → 0 < n → held t c k n ≡ run_of x o (take n (drop (o - base w) w.body))
+    next : v.stored o ≡ None → (n : ℕ) → 0 < n → run_held_for t c k n ≡ run_of x o (take n (drop (o - base w) w.body))
     next missing n some = elim covered [
       | inl none ↦ empty none n missing
       | inr all ↦ elim (bool_cases (nat_lt o (front w))) [

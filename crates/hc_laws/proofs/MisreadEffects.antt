@@ -11,14 +11,14 @@ use Rattle.hc_event.specs.declared.place.Place.{Place}
 use Rattle.hc_event.specs.declared.place.Place.TheVariants as place
 use Rattle.hc_model.specs.ActFilters.{fails_in}
 use Rattle.hc_model.specs.Currents.{is_number}
-use Rattle.hc_model.specs.Effects.{Does, counted, with_consumer, let_go, let_some_go, let_all_go, finished, left_by, going_with, with_leave}
+use Rattle.hc_model.specs.Effects.{Does, with_event, with_consumer, let_go, let_some_go, let_all_go, as_over, left_by, going_with, with_leave}
 use Rattle.hc_model.specs.Entries.{Entry}
 use Rattle.hc_model.specs.Flaws.{Flaw, Misreads}
 use Rattle.hc_model.specs.Gone.{becomes_gone, goes_in}
 use Rattle.hc_model.specs.Lawful.{Lawful}
 use Rattle.hc_model.specs.Rows.{Tables, Representation, Consumer}
 use Rattle.hc_model.specs.StartingOver.{loses_what_it_waits_for}
-use Rattle.hc_model.specs.Tables.{after_accepted, added}
+use Rattle.hc_model.specs.Tables.{after_accepted, with_item_first}
 use Rattle.hc_model.proofs.ActParts.{IsFarFrom}
 use Rattle.hc_model.proofs.Basics.{append_none}
 use Rattle.hc_laws.proofs.ConsumerEffects.{representations, two_all}
@@ -51,9 +51,9 @@ module _ (limits : Limits) (t : Tables) (law : Lawful t) (now c want : ℕ) (k :
   far_it = far limits t law now c k row ev flaw (Some r) front is
 
   abbrev rs : List ℕ
-  rs = added (going_with t (left_by t c k)) (r ∷ [])
+  rs = with_item_first (going_with t (left_by t c k)) (r ∷ [])
 
-  either : (g : Option ℕ) (q : ℕ) → (false || (r == q) || is_number g q) ≡ is_in (added g (r ∷ [])) q
+  either : (g : Option ℕ) (q : ℕ) → (false || (r == q) || is_number g q) ≡ is_in (with_item_first g (r ∷ [])) q
   either None q = refl
   either (Some g) q = by_tests (r == q) (g == q)
     where
@@ -79,14 +79,14 @@ module _ (limits : Limits) (t : Tables) (law : Lawful t) (now c want : ℕ) (k :
   stays place.Over = refl
 
   -- it is over, what nobody reads any more is closed, and what it was to read is let go
-  pub misreads : Does limits t now ev flaw (act.Failed c (cause.StoreRead r) ∷ map act.Close (added (left_by t c k) [])) (counted now ev (let_go now r (let_some_go now (going_with t (left_by t c k)) (with_leave c k t))))
+  pub misreads : Does limits t now ev flaw (act.Failed c (cause.StoreRead r) ∷ map act.Close (with_item_first (left_by t c k) [])) (with_event now ev (let_go now r (let_some_go now (going_with t (left_by t c k)) (with_leave c k t))))
   misreads = record {
-    acts_are = acts_left limits t law now c k row ev flaw (Some r) front is refl ∙ ap (λ acts. front ++ acts) (append_none (map act.Close (added (left_by t c k) [])));
+    acts_are = acts_left limits t law now c k row ev flaw (Some r) front is refl ∙ ap (λ acts. front ++ acts) (append_none (map act.Close (with_item_first (left_by t c k) [])));
     tables_are =
         ap (λ acts. after_accepted t (record { now = now; event = ev; acts = acts })) (acts_left limits t law now c k row ev flaw (Some r) front is refl)
         ∙ (leaves limits t law now c k row ev flaw (Some r) front is rs t.representation goes
         (representations t it c n law far_it rs goes (loses_as limits t law now c k row ev flaw (Some r) front is))
         (stays k.place)
-        ∙ (ap (λ (u : Tables). counted now ev (let_all_go now rs (with_consumer c (Some (finished k)) u))) (sym (all_closed_is (added (left_by t c k) []) t))
-        ∙ ap (counted now ev) (two_all now r (going_with t (left_by t c k)) (with_leave c k t))));
+        ∙ (ap (λ (u : Tables). with_event now ev (let_all_go now rs (with_consumer c (Some (as_over k)) u))) (sym (all_closed_is (with_item_first (left_by t c k) []) t))
+        ∙ ap (with_event now ev) (two_all now r (going_with t (left_by t c k)) (with_leave c k t))));
   }

@@ -11,7 +11,7 @@ use Rattle.hc_event.specs.declared.place.Place.TheVariants as place
 use Rattle.hc_event.specs.declared.place.BoundBy.{BoundBy}
 use Rattle.hc_model.specs.Beginnings.{may_begin, is_kind_right}
 use Rattle.hc_model.specs.Entries.{Entry, History, Content, Contents}
-use Rattle.hc_model.specs.Exchanges.{base, promised, front}
+use Rattle.hc_model.specs.Exchanges.{base, promised_bytes, front}
 use Rattle.hc_model.specs.Laws.{item_of}
 use Rattle.hc_model.specs.Measures.{Measures}
 use Rattle.hc_model.specs.Numbers.{Numbers, NumbersInRuns, AreShort, most, too_long}
@@ -21,7 +21,7 @@ use Rattle.hc_model.specs.Rows.{Tables, Exchange, Representation, Consumer}
 use Rattle.hc_model.specs.Runs.{IsRun}
 use Rattle.hc_model.specs.Sound.{Sound, IsBound}
 use Rattle.hc_model.specs.Sound as sound
-use Rattle.hc_model.specs.Tables.{tables, after_accepted, begun, loaded}
+use Rattle.hc_model.specs.Tables.{tables, after_accepted, first_tables, representation_of_content}
 use Rattle.hc_laws.proofs.Barred.{next_tables, denied_tables}
 use Rattle.hc_model.proofs.Basics.{false_true, none_some, some_row}
 use Rattle.hc_laws.proofs.Bounded.{IsBounded}
@@ -41,11 +41,11 @@ use Rattle.hc_model.proofs.ToldNumbers.{promise_early, founded_early}
 -- OF ONE STATE
 
 module _ (t : Tables) (p : Places t) where
-  unpromised_by : (w : Exchange) → promised w ≡ None → base w ≡ 0
+  unpromised_by : (w : Exchange) → promised_bytes w ≡ None → base w ≡ 0
   unpromised_by w is = no_base _ is
 
   -- what came of an exchange was received, or promised
-  front_by : (x : ℕ) (w : Exchange) (o : Option ℕ) → t.exchange x ≡ Some w → promised w ≡ o → front w ≤ most t
+  front_by : (x : ℕ) (w : Exchange) (o : Option ℕ) → t.exchange x ≡ Some w → promised_bytes w ≡ o → front w ≤ most t
   front_by x w None row is =
       let first : base w ≡ 0 = unpromised_by w is in
       let le : length w.body ≤ t.received = p.received x w row in
@@ -62,28 +62,28 @@ record AreShortRows (t : Tables) : Type 0 where
   reaches : (r : ℕ) (v : Representation) → t.representation r ≡ Some v → v.reach ≤ most t
 
 module _ (limits : Limits) (contents : Contents) (may : may_begin limits contents ≡ true) (short : AreShort contents) where
-  begun_total : (r n : ℕ) (v : Representation) → (begun contents).representation r ≡ Some v → v.head.total ≡ Some n → n < 2 ^ 62
+  begun_total : (r n : ℕ) (v : Representation) → (first_tables contents).representation r ≡ Some v → v.head.total ≡ Some n → n < 2 ^ 62
   begun_total r n v row known = by_item (item_of contents r) refl row
     where
-      by_item : (z : Option Content) → item_of contents r ≡ z → option_map loaded z ≡ Some v → n < 2 ^ 62
+      by_item : (z : Option Content) → item_of contents r ≡ z → option_map representation_of_content z ≡ Some v → n < 2 ^ 62
       by_item None found is = absurd (none_some v is)
-      by_item (Some item) found is = short r n item found (ap (λ (q : Representation). q.head.total) (some_inj (loaded item) v is) ∙ known)
+      by_item (Some item) found is = short r n item found (ap (λ (q : Representation). q.head.total) (some_inj (representation_of_content item) v is) ∙ known)
 
-  begun_reach : (r : ℕ) (v : Representation) → (begun contents).representation r ≡ Some v → v.reach ≤ 2 ^ 62
+  begun_reach : (r : ℕ) (v : Representation) → (first_tables contents).representation r ≡ Some v → v.reach ≤ 2 ^ 62
   begun_reach r v row = by_item (item_of contents r) refl row
     where
-      by_total : (item : Content) (o : Option ℕ) → item_of contents r ≡ Some item → loaded item ≡ v → item.head.total ≡ o → v.reach ≤ 2 ^ 62
+      by_total : (item : Content) (o : Option ℕ) → item_of contents r ≡ Some item → representation_of_content item ≡ v → item.head.total ≡ o → v.reach ≤ 2 ^ 62
       by_total item None found same unknown = absurd (false_true (ap (is_kind_right item) (sym unknown) ∙ known_item limits contents may r item found))
       by_total item (Some n) found same known =
           let small : n < 2 ^ 62 = short r n item found known in
           let le : v.reach ≤ n = (measures_begin limits contents may).within r n v row (ap (λ (q : Representation). q.head.total) (sym same) ∙ known) in
           omega arith
 
-      by_item : (z : Option Content) → item_of contents r ≡ z → option_map loaded z ≡ Some v → v.reach ≤ 2 ^ 62
+      by_item : (z : Option Content) → item_of contents r ≡ z → option_map representation_of_content z ≡ Some v → v.reach ≤ 2 ^ 62
       by_item None found is = absurd (none_some v is)
-      by_item (Some item) found is = by_total item item.head.total found (some_inj (loaded item) v is) refl
+      by_item (Some item) found is = by_total item item.head.total found (some_inj (representation_of_content item) v is) refl
 
-  begun_short : AreShortRows (begun contents)
+  begun_short : AreShortRows (first_tables contents)
   begun_short = record {
     totals = λ r n v row known. let small = begun_total r n v row known in omega arith;
     reaches = λ r v row. let small = begun_reach r v row in omega arith;
@@ -134,7 +134,7 @@ module _ (t : Tables) (e : Entry) (was : AreShortRows t) (p : Places t) (q : Pla
           let count : length bytes ≡ length other = ap (λ (ev : Event). bytes_in ev) (sym here ∙ also) in
           let first : base z.u ≡ base w = by_base z.same.heard_or in
           let longer : length z.u.body ≡ length w.body + length other = ap (λ (b : List ℕ). length b) body_is ∙ length-append w.body other in
-          let ends : front z.u ≤ most now_on = front_by now_on q x z.u (promised z.u) z.row refl in
+          let ends : front z.u ≤ most now_on = front_by now_on q x z.u (promised_bytes z.u) z.row refl in
           omega arith
 
   reach_by : (r : ℕ) (u : Representation) → RepFrom t e r u → u.reach ≤ most now_on
@@ -192,7 +192,7 @@ module _ (t : Tables) (s : Sound t) (m : Measures t) (b : IsBounded t) (p : Plac
   numbers_by = record {
     promises = λ x n w row is. promise_early w n is;
     unpromised = λ x w row is. unpromised_by t p w is;
-    fronts = λ x w row. front_by t p x w (promised w) row refl;
+    fronts = λ x w row. front_by t p x w (promised_bytes w) row refl;
     totals = short.totals;
     reaches = short.reaches;
     starts = starts_by;

@@ -17,7 +17,7 @@ use Rattle.hc_model.specs.Cases.{case_at, case_of, is_founding}
 use Rattle.hc_model.specs.Closings.{closing, closes_row, is_left, is_left_by, leaver, is_last_reader}
 use Rattle.hc_model.specs.ConsumerRows.{consumer_after, consumer_heard, consumer_made, consumer_acted, consumer_settled, back_in_line}
 use Rattle.hc_model.specs.Currents.{is_current, is_number}
-use Rattle.hc_model.specs.Dooms.{doomed, bypassed, is_key}
+use Rattle.hc_model.specs.Dooms.{doomed, bypass_key, is_key}
 use Rattle.hc_model.specs.Effects.{left_by}
 use Rattle.hc_model.specs.Entries.{Entry}
 use Rattle.hc_model.specs.ExchangeRows.{exchange_after, exchange_heard, exchange_acted}
@@ -26,12 +26,12 @@ use Rattle.hc_model.specs.Failures.{becomes_due, cause_of_head}
 use Rattle.hc_model.specs.Gone.{becomes_gone, ends_early, ends_founding, stops_early, is_keepable}
 use Rattle.hc_model.specs.Orders.{Descends, AreOnce, InOrder}
 use Rattle.hc_model.specs.Owners.{Owners}
-use Rattle.hc_model.specs.Reading.{reads, own_open, shared, writing_in, is_written, source}
+use Rattle.hc_model.specs.Reading.{reads, own_open, shared_exchange, writing_in, is_written, source}
 use Rattle.hc_model.specs.RepresentationRows.{representation_heard, founded_at}
 use Rattle.hc_model.specs.Rows.{Tables, Exchange, Representation, Consumer}
 use Rattle.hc_model.specs.Sound.{Sound, Among, IsBound, is_bound}
 use Rattle.hc_model.specs.StartingOver.{starts_over, loses_what_it_waits_for}
-use Rattle.hc_model.specs.Tables.{added, founds, binds, binds_by_opening, binds_by_showing, to_front}
+use Rattle.hc_model.specs.Tables.{with_item_first, founds, binds, binds_by_opening, binds_by_showing, to_front}
 use Rattle.hc_model.specs.Writers.{brings_body}
 use Rattle.hc_laws.proofs.AboutKeeps.{own_open_of}
 use Rattle.hc_model.proofs.ActParts.{IsFarFrom}
@@ -90,7 +90,7 @@ one_here : (y x : ℕ) (xs : List ℕ) → AreOnce (x ∷ xs) → y ≡ x → fi
 one_here y x xs once same = filter_apart y xs (λ there. once.0 (subst (λ z. Among z xs) same there))
 
 -- where it stands once, it alone passes
-pub one_of : (o : Option ℕ) (xs : List ℕ) → AreOnce xs → ((x : ℕ) → o ≡ Some x → Among x xs) → filter (is_number o) xs ≡ added o []
+pub one_of : (o : Option ℕ) (xs : List ℕ) → AreOnce xs → ((x : ℕ) → o ≡ Some x → Among x xs) → filter (is_number o) xs ≡ with_item_first o []
 one_of None xs once there = filter_none xs
 one_of (Some y) [] once there = absurd (there y refl)
 one_of (Some y) (x ∷ xs) once there = elim (eq_cases y x) [
@@ -139,7 +139,7 @@ module _ (t : Tables) (s : Sound t) (o : Owners t) (c : ℕ) (k : Consumer) (row
   writing_some r x (Some v) row is = let both = test_some (is_written t v) v.writer x is in (v, row, both.0, both.1)
 
   -- the exchange of a writing that is read is open, and isn't the own one of who reads it
-  shared_by : (x : ℕ) (p : Place) → k.place ≡ p → shared t p ≡ Some x → (is_open (t.exchange x) ≡ true) × ((y : ℕ) → own_open t k ≡ Some y → ⊥)
+  shared_by : (x : ℕ) (p : Place) → k.place ≡ p → shared_exchange t p ≡ Some x → (is_open (t.exchange x) ≡ true) × ((y : ℕ) → own_open t k ≡ Some y → ⊥)
   shared_by x (place.Bound r lo hi how) at is =
       let all = writing_some r x (t.representation r) refl is in
       let reader : IsBound t r c k = is_bound lo hi how row at in (
@@ -159,9 +159,9 @@ module _ (t : Tables) (s : Sound t) (o : Owners t) (c : ℕ) (k : Consumer) (row
   pub left_open : (x : ℕ) → left_by t c k ≡ Some x → is_open (t.exchange x) ≡ true
   left_open x is = by_own (own_open t k) refl is
     where
-      by_own : (z : Option ℕ) → own_open t k ≡ z → option_or z (if is_last_reader t c k.place then shared t k.place else None) ≡ Some x → is_open (t.exchange x) ≡ true
+      by_own : (z : Option ℕ) → own_open t k ≡ z → option_or z (if is_last_reader t c k.place then shared_exchange t k.place else None) ≡ Some x → is_open (t.exchange x) ≡ true
       by_own (Some y) own h = own_opened x (own ∙ h)
-      by_own None own h = (shared_by x k.place refl (test_some (is_last_reader t c k.place) (shared t k.place) x h).1).0
+      by_own None own h = (shared_by x k.place refl (test_some (is_last_reader t c k.place) (shared_exchange t k.place) x h).1).0
 
   -- just one exchange is
   pub left_test : (x : ℕ) → is_left_by t x c (Some k) ≡ is_number (left_by t c k) x
@@ -171,13 +171,13 @@ module _ (t : Tables) (s : Sound t) (o : Owners t) (c : ℕ) (k : Consumer) (row
       by_last true z = and_true (is_number z x)
       by_last false z = then_false (is_number z x) false refl
 
-      alone : (y : ℕ) → own_open t k ≡ Some y → (z : Option ℕ) (last : Bool) → shared t k.place ≡ z → (nat_eq y x || (is_number z x && last)) ≡ nat_eq y x
+      alone : (y : ℕ) → own_open t k ≡ Some y → (z : Option ℕ) (last : Bool) → shared_exchange t k.place ≡ z → (nat_eq y x || (is_number z x && last)) ≡ nat_eq y x
       alone y own None last is = or_off (nat_eq y x)
       alone y own (Some z) last is = absurd ((shared_by z k.place refl is).1 y own)
 
-      by_own : (z : Option ℕ) → own_open t k ≡ z → (is_number z x || (is_number (shared t k.place) x && is_last_reader t c k.place)) ≡ is_number (option_or z (if is_last_reader t c k.place then shared t k.place else None)) x
-      by_own None own = by_last (is_last_reader t c k.place) (shared t k.place)
-      by_own (Some y) own = alone y own (shared t k.place) (is_last_reader t c k.place) refl
+      by_own : (z : Option ℕ) → own_open t k ≡ z → (is_number z x || (is_number (shared_exchange t k.place) x && is_last_reader t c k.place)) ≡ is_number (option_or z (if is_last_reader t c k.place then shared_exchange t k.place else None)) x
+      by_own None own = by_last (is_last_reader t c k.place) (shared_exchange t k.place)
+      by_own (Some y) own = alone y own (shared_exchange t k.place) (is_last_reader t c k.place) refl
 
 module _ (t : Tables) (e : Entry) (a : ℕ) (n : BringsNothing t e a) where
   -- NOTHING BECOMES DUE
@@ -227,9 +227,9 @@ module _ (t : Tables) (e : Entry) (a : ℕ) (n : BringsNothing t e a) where
   -- WHAT GOES
 
   -- by a bypass, a loss, a failed read, an early end or an eviction
-  pub goes_as : (r : ℕ) (v : Representation) → becomes_gone t e r v ≡ ((is_current t v.key r && is_key (bypassed e) v.key) || loses_in r e.acts || misreads_in r e.acts || (ends_early t e r v && not (is_keepable v)) || evicts_in r e.acts)
+  pub goes_as : (r : ℕ) (v : Representation) → becomes_gone t e r v ≡ ((is_current t v.key r && is_key (bypass_key e) v.key) || loses_in r e.acts || misreads_in r e.acts || (ends_early t e r v && not (is_keepable v)) || evicts_in r e.acts)
   unfolding becomes_gone
-  goes_as r v = rw (n.doomless, n.nowhere) (drop_false (is_current t v.key r && is_key (bypassed e) v.key) (loses_in r e.acts) (misreads_in r e.acts) (ends_early t e r v && not (is_keepable v)) (evicts_in r e.acts))
+  goes_as r v = rw (n.doomless, n.nowhere) (drop_false (is_current t v.key r && is_key (bypass_key e) v.key) (loses_in r e.acts) (misreads_in r e.acts) (ends_early t e r v && not (is_keepable v)) (evicts_in r e.acts))
     where
       drop_false : (a b c d f : Bool) → (a || false || b || c || d || f) ≡ (a || b || c || d || f)
       drop_false true b c d f = refl
@@ -243,7 +243,7 @@ module _ (t : Tables) (e : Entry) (a : ℕ) (n : BringsNothing t e a) where
       by_row None = refl
       by_row (Some w) = then_false w.is_open (stops_early w r e.event || closes_in r e.acts) (rw (n.goes_on r w, closes) refl)
 
-  pub goes_nothing : (r : ℕ) (v : Representation) → bypassed e ≡ None → loses_in r e.acts ≡ false → misreads_in r e.acts ≡ false → closes_in r e.acts ≡ false → evicts_in r e.acts ≡ false → becomes_gone t e r v ≡ false
+  pub goes_nothing : (r : ℕ) (v : Representation) → bypass_key e ≡ None → loses_in r e.acts ≡ false → misreads_in r e.acts ≡ false → closes_in r e.acts ≡ false → evicts_in r e.acts ≡ false → becomes_gone t e r v ≡ false
   goes_nothing r v bypass loses misreads closes evicts = goes_as r v ∙ rw (bypass, loses, misreads, ends_none r v closes, evicts) (drop_and (is_current t v.key r))
     where
       drop_and : (b : Bool) → ((b && false) || false || false || false || false) ≡ false
@@ -279,7 +279,7 @@ module _ (t : Tables) (e : Entry) (a : ℕ) (n : BringsNothing t e a) where
 
   module _ (s : Sound t) (o : Owners t) (order : InOrder t) (c : ℕ) (k : Consumer) (row : t.consumer c ≡ Some k) where
     -- what it leaves, where c does
-    pub closes_left : leaver e ≡ Some c → closing t e ≡ added (left_by t c k) []
+    pub closes_left : leaver e ≡ Some c → closing t e ≡ with_item_first (left_by t c k) []
     closes_left leaves =
         closing_as
         ∙ (ap (λ (test : ℕ → Bool). filter test (reverse t.openings)) (fun_ext test_is)

@@ -12,7 +12,7 @@ use Rattle.hc_event.specs.declared.place.Place.TheVariants as place
 use Rattle.hc_model.specs.ConsumerRows.{consumer_acted, opened_place, unless_bound}
 use Rattle.hc_model.specs.Currents.{current}
 use Rattle.hc_model.specs.Dooms.{bypassed_for}
-use Rattle.hc_model.specs.Effects.{Does, counted, with_consumer, with_opening, just_opened, let_all_go}
+use Rattle.hc_model.specs.Effects.{Does, with_event, with_consumer, with_opening, just_opened, let_all_go}
 use Rattle.hc_model.specs.Entries.{Entry}
 use Rattle.hc_model.specs.ExchangeRows.{exchange_after, exchange_made, aim_from, aim_of}
 use Rattle.hc_model.specs.Flaws.{NoFlaw}
@@ -93,7 +93,7 @@ module _ (limits : Limits) (t : Tables) (law : Lawful t) (now c want : ℕ) (k :
   -- it is opened, its consumer stands at p and owns it, and what is bypassed is let go
   pub opens : (rs us : List ℕ) (p : Place) → ((r : ℕ) (v : Representation) → t.representation r ≡ Some v → becomes_gone t e r v ≡ is_in rs r) → to_front (binds t e) t.used ≡ us
       → unless_bound (bound_to k.place) k.place (opened_place t x k (route_of n)) ≡ p → (reads p ≡ false → k.due ≡ None) → waits_for_any rs k.place ≡ false → waits_for_any rs p ≡ false
-      → Does limits t now (event.Poll c want) NoFlaw (acts_of c (Opens x n request)) (counted now (event.Poll c want) (let_all_go now rs (with_consumer c (Some (record k { own = Some x; place = p })) (record (with_opening x made t) { used = us }))))
+      → Does limits t now (event.Poll c want) NoFlaw (acts_of c (Opens x n request)) (with_event now (event.Poll c want) (let_all_go now rs (with_consumer c (Some (record k { own = Some x; place = p })) (record (with_opening x made t) { used = us }))))
   opens rs us p goes used at idle unwaiting unwaits =
       poll_does limits t law now c want k row (Opens x n request) (polls.opens x n request) is rs goes
       (record k { own = Some x; place = p }) x (x ∷ t.openings) us (with_opening x made t).exchange refl refl used exchange_by
@@ -110,7 +110,7 @@ module _ (limits : Limits) (t : Tables) (law : Lawful t) (now c want : ℕ) (k :
   -- what is opened for who is bound to nothing is about what is current
   pub about_current : bound_to k.place ≡ None → (rs us : List ℕ) (p : Place) → ((r : ℕ) (v : Representation) → t.representation r ≡ Some v → becomes_gone t e r v ≡ is_in rs r) → to_front (binds t e) t.used ≡ us
       → unless_bound (bound_to k.place) k.place (opened_place t x k (route_of n)) ≡ p → (reads p ≡ false → k.due ≡ None) → waits_for_any rs k.place ≡ false → waits_for_any rs p ≡ false
-      → Does limits t now (event.Poll c want) NoFlaw (acts_of c (Opens x n request)) (counted now (event.Poll c want) (let_all_go now rs (with_consumer c (Some (record k { own = Some x; place = p })) (record (with_opening x (just_opened now c n request (current t k.request.key)) t) { used = us }))))
+      → Does limits t now (event.Poll c want) NoFlaw (acts_of c (Opens x n request)) (with_event now (event.Poll c want) (let_all_go now rs (with_consumer c (Some (record k { own = Some x; place = p })) (record (with_opening x (just_opened now c n request (current t k.request.key)) t) { used = us }))))
   about_current free rs us p goes used at idle unwaiting unwaits =
-      subst (λ aim. Does limits t now (event.Poll c want) NoFlaw (acts_of c (Opens x n request)) (counted now (event.Poll c want) (let_all_go now rs (with_consumer c (Some (record k { own = Some x; place = p })) (record (with_opening x (just_opened now c n request aim) t) { used = us })))))
+      subst (λ aim. Does limits t now (event.Poll c want) NoFlaw (acts_of c (Opens x n request)) (with_event now (event.Poll c want) (let_all_go now rs (with_consumer c (Some (record k { own = Some x; place = p })) (record (with_opening x (just_opened now c n request aim) t) { used = us })))))
       (aim_free t k.request.key k.place free) (opens rs us p goes used at idle unwaiting unwaits)

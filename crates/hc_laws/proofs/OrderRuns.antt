@@ -17,7 +17,7 @@ use Rattle.hc_model.proofs.NumbersKeep.{opens_next, starts_later}
 use Rattle.hc_laws.proofs.RunFacts.{in_runs}
 
 -- what is_sorted along a run
-record Rises (limits : Limits) (t : Tables) : Type 0 where
+record Ascends (limits : Limits) (t : Tables) : Type 0 where
   starts : Descends (t.last_start + 1) t.starts
   openings : Descends (t.opened + 1) t.openings
 
@@ -39,14 +39,14 @@ openings_on : (t : Tables) (z : Option Opening) → ((o : Opening) → z ≡ Som
 openings_on t None next d = d
 openings_on t (Some o) next d = let number : o.x ≡ t.opened + 1 = next o refl in (omega arith, descends_more (t.opened + 1) o.x t.openings (omega arith) d)
 
-rises_kept : (limits : Limits) (t : Tables) (now : ℕ) (flaw : Flaw) → Sound t → Rises limits t → (ev : Event) → denial t ev ≡ None → Rises limits (after_accepted t (entry_of limits t now ev flaw))
-rises_kept limits t now flaw s d ev goes = record {
+ascends_kept : (limits : Limits) (t : Tables) (now : ℕ) (flaw : Flaw) → Sound t → Ascends limits t → (ev : Event) → denial t ev ≡ None → Ascends limits (after_accepted t (entry_of limits t now ev flaw))
+ascends_kept limits t now flaw s d ev goes = record {
   starts = starts_on t ev goes d.starts;
   openings = openings_on t (opening_in (entry_of limits t now ev flaw).acts) (λ o is. opens_next limits t now flaw s ev o goes is) d.openings;
 }
 
-is_sorted : OfRunsIn Rises
-is_sorted = in_runs Rises (λ limits contents may. record { starts = tt; openings = tt }) (λ limits t e later d. record { starts = d.starts; openings = d.openings }) (λ limits t now flaw later c d ev goes real. rises_kept limits t now flaw c.is_sound d ev goes)
+is_sorted : OfRunsIn Ascends
+is_sorted = in_runs Ascends (λ limits contents may. record { starts = tt; openings = tt }) (λ limits t e later d. record { starts = d.starts; openings = d.openings }) (λ limits t now flaw later c d ev goes real. ascends_kept limits t now flaw c.is_sound d ev goes)
 
 pub order_in_runs : OfRuns InOrder
 order_in_runs limits contents h may run =

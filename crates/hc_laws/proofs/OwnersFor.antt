@@ -31,7 +31,7 @@ use Rattle.hc_laws.proofs.LossBy.{IsReal, fresh}
 use Rattle.hc_model.proofs.OwnFrom.{OwnFrom, own_from, IsLeft}
 use Rattle.hc_model.proofs.OwnFrom as own_by
 use Rattle.hc_model.proofs.OwnersKeep.{new_number}
-use Rattle.hc_model.proofs.Pens.{same_row}
+use Rattle.hc_model.proofs.ExclusiveWriters.{same_row}
 use Rattle.hc_model.proofs.RepFrom.{RepFrom, rep_from, IsKept}
 use Rattle.hc_model.proofs.RepFrom as rep
 use Rattle.hc_laws.proofs.RunFacts.{in_runs}

@@ -11,7 +11,7 @@ use Rattle.hc_model.specs.Owners.{Owners}
 use Rattle.hc_model.specs.Rows.{Tables, Representation}
 use Rattle.hc_model.specs.Runs.{may_stand}
 use Rattle.hc_model.specs.Sound.{Sound}
-use Rattle.hc_model.specs.Tables.{after_accepted, begun, loaded}
+use Rattle.hc_model.specs.Tables.{after_accepted, first_tables, representation_of_content}
 use Rattle.hc_model.proofs.ApartKeeps.{apart_kept}
 use Rattle.hc_model.proofs.Basics.{none_some}
 use Rattle.hc_laws.proofs.FirstDueKeeps.{first_due_kept}
@@ -40,11 +40,11 @@ owners_kept limits t now flaw s o ev goes stand = record {
   first_due = λ r c d v k u after kept is_first row none reader. first_due_kept limits t now flaw s o ev goes r c d v k u after kept is_first row none reader;
 }
 
-loaded_writer : (o : Option Content) (v : Representation) (x : ℕ) → option_map loaded o ≡ Some v → v.writer ≡ Some x → ⊥
+loaded_writer : (o : Option Content) (v : Representation) (x : ℕ) → option_map representation_of_content o ≡ Some v → v.writer ≡ Some x → ⊥
 loaded_writer None v x is writer = none_some v is
-loaded_writer (Some item) v x is writer = none_some x (let same : loaded item ≡ v = cc in ap (λ (z : Representation). z.writer) same ∙ writer)
+loaded_writer (Some item) v x is writer = none_some x (let same : representation_of_content item ≡ v = cc in ap (λ (z : Representation). z.writer) same ∙ writer)
 
-pub owners_begun : (contents : Contents) → Owners (begun contents)
+pub owners_begun : (contents : Contents) → Owners (first_tables contents)
 owners_begun contents = record {
   opener = λ x w row. absurd (none_some w row);
   there = λ c x k row is. absurd (none_some k row);

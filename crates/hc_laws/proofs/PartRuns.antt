@@ -3,7 +3,7 @@ use Rattle.std.proofs.Common.{◌≡◌, ◌≢◌, inl, inr, ℕ, ◌+◌, ◌-
 use Rattle.std.specs.Prelude.{is_some, nat_eq, nat_lt, min, ◌&&◌, if◌then◌else◌}
 use Rattle.std.specs.Option.{option_or}
 use Rattle.std.proofs.lemmas.Bool.Decides.{nat_tests}
-use Rattle.hc_range.specs.Spans.{resolved, IsInOrder}
+use Rattle.hc_range.specs.Spans.{resolved_span, IsInOrder}
 use Rattle.hc_range.specs.declared.range.Asked.{Asked}
 use Rattle.hc_range.specs.declared.range.Asked.TheVariants.{From, FromTo, Last}
 use Rattle.hc_range.specs.declared.range.Span.{Span}
@@ -44,7 +44,7 @@ use Rattle.hc_model.proofs.ConsumerFilters.{acted, heard_same}
 use Rattle.hc_model.proofs.FirstKeeps.{case_of_head, whole_200, replaced_200, is_new}
 use Rattle.hc_model.proofs.FoundBy.{CaseBy}
 use Rattle.hc_model.proofs.FoundBy as cases
-use Rattle.hc_model.proofs.Pens.{same_row}
+use Rattle.hc_model.proofs.ExclusiveWriters.{same_row}
 use Rattle.hc_model.proofs.PieceKeeps.{some_inj}
 use Rattle.hc_model.proofs.RepFrom.{RepFrom, rep_from}
 use Rattle.hc_model.proofs.RepFrom as rep

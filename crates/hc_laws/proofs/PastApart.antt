@@ -17,7 +17,7 @@ use Rattle.hc_rules.specs.Needs.{route_of}
 use Rattle.hc_rules.specs.RangeTexts.{content_range_of}
 use Rattle.hc_rules.specs.Refusals as refusals
 use Rattle.hc_rules.specs.Requests.{range_of, wanted_of, wanted_part}
-use Rattle.hc_range.specs.Spans.{resolved}
+use Rattle.hc_range.specs.Spans.{resolved_span}
 use Rattle.hc_range.specs.declared.range.Asked.{Asked}
 use Rattle.hc_event.specs.declared.place.BoundBy.{BoundBy}
 use Rattle.hc_event.specs.declared.place.BoundBy.TheVariants as by
@@ -45,7 +45,7 @@ use Rattle.hc_model.proofs.Once.{never}
 use Rattle.hc_laws.proofs.PastKeeps.{IsFrom, PlaceFrom, direct_from}
 use Rattle.hc_laws.proofs.PastKeeps as past
 use Rattle.hc_model.proofs.PieceKeeps.{eq_cases}
-use Rattle.hc_model.proofs.Pens.{same_row}
+use Rattle.hc_model.proofs.ExclusiveWriters.{same_row}
 use Rattle.hc_model.proofs.RepFrom.{RepFrom, rep_from}
 use Rattle.hc_model.proofs.RepFrom as rep
 use Rattle.hc_laws.proofs.ToBeShown.{heard_place}
@@ -57,7 +57,7 @@ bound_direct : (r lo : ℕ) (hi : Option ℕ) (how : BoundBy) (y : ℕ) → plac
 bound_direct r lo hi how y is = cc
 
 -- a part that founds is one of an interval that is wanted
-part_wanted : (asked : Asked) (first last total : ℕ) (q : Option Span) → resolved asked total ≡ q → begins_at q first last ≡ true → (z : Span) × (wanted_of (Some asked) (Some total) ≡ wanted.Interval z)
+part_wanted : (asked : Asked) (first last total : ℕ) (q : Option Span) → resolved_span asked total ≡ q → begins_at q first last ≡ true → (z : Span) × (wanted_of (Some asked) (Some total) ≡ wanted.Interval z)
 part_wanted asked first last total None is h = absurd (false_true h)
 part_wanted asked first last total (Some span) is h = (span, ap wanted_part is)
 
@@ -65,7 +65,7 @@ part_range : (asked : Asked) (q : Option ContentRange) → fits_part asked q ≡
 part_range asked None h = absurd (false_true h)
 part_range asked (Some (range.Unsatisfied total)) h = absurd (false_true h)
 part_range asked (Some (range.Part first last None)) h = absurd (false_true h)
-part_range asked (Some (range.Part first last (Some total))) h = part_wanted asked first last total (resolved asked total) refl h
+part_range asked (Some (range.Part first last (Some total))) h = part_wanted asked first last total (resolved_span asked total) refl h
 
 fits_wanted : (w : Exchange) (response : Response) (q : Option Asked) → response.status ≡ 206 → fits_to_found q response ≡ true → (z : Span) × (wanted_of q (founded_total w response) ≡ wanted.Interval z)
 fits_wanted w response None status h = absurd (false_true h)

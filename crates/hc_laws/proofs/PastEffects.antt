@@ -11,7 +11,7 @@ use Rattle.hc_event.specs.declared.place.Place.TheVariants as place
 use Rattle.hc_model.specs.ConsumerRows.{opened_place, unless_bound}
 use Rattle.hc_model.specs.Currents.{current}
 use Rattle.hc_model.specs.Dooms.{bypassed_for}
-use Rattle.hc_model.specs.Effects.{Does, counted, with_consumer, with_opening, just_opened}
+use Rattle.hc_model.specs.Effects.{Does, with_event, with_consumer, with_opening, just_opened}
 use Rattle.hc_model.specs.Flaws.{NoFlaw}
 use Rattle.hc_model.specs.Lawful.{Lawful}
 use Rattle.hc_model.specs.Moves.{Opens, acts_of}
@@ -51,7 +51,7 @@ module _ (limits : Limits) (t : Tables) (law : Lawful t) (now c want : ℕ) (k :
 
   -- its consumer waits for its head, past the store
   pub passes_by : Does limits t now (event.Poll c want) NoFlaw (acts_of c (Opens x n request))
-      (counted now (event.Poll c want) (with_consumer c (Some (record k { own = Some x; place = place.Direct x })) (with_opening x (just_opened now c n request (current t k.request.key)) t)))
+      (with_event now (event.Poll c want) (with_consumer c (Some (record k { own = Some x; place = place.Direct x })) (with_opening x (just_opened now c n request (current t k.request.key)) t)))
   passes_by =
       about_current limits t law now c want k row x n request is free [] t.used (place.Direct x)
       (keeps_all limits t law now c want k row x n request is (plain_past n request past))

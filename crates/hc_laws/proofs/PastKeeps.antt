@@ -52,7 +52,7 @@ use Rattle.hc_model.proofs.HoleLemmas.{bool_cases}
 use Rattle.hc_model.proofs.Once.{taken, never}
 use Rattle.hc_model.proofs.OwnersKeep.{new_number}
 use Rattle.hc_model.proofs.PieceKeeps.{eq_cases, some_inj}
-use Rattle.hc_model.proofs.Pens.{same_row}
+use Rattle.hc_model.proofs.ExclusiveWriters.{same_row}
 use Rattle.hc_laws.proofs.ToBeShown.{heard_place}
 use Rattle.hc_model.proofs.Waiters.{IsWaiter, waiter_of, unclosed}
 use Rattle.hc_laws.proofs.WaitingKeeps.{waiting_kept}

@@ -22,14 +22,14 @@ use Rattle.hc_model.specs.Reading.{own_open, reads, hi_of, end_in}
 use Rattle.hc_model.specs.Rows.{Tables, Exchange, Consumer}
 use Rattle.hc_model.specs.Runs.{IsOwed}
 use Rattle.hc_model.specs.Sound.{Sound}
-use Rattle.hc_model.specs.Tables.{tables, begun, after_accepted, after_denied}
+use Rattle.hc_model.specs.Tables.{tables, first_tables, after_accepted, after_denied}
 use Rattle.hc_laws.proofs.Barred.{next_tables, denied_tables}
 use Rattle.hc_model.proofs.Basics.{false_true, none_some}
 use Rattle.hc_model.proofs.Beside.{IsBeside, is_cached_place}
 use Rattle.hc_laws.proofs.Bounded.{IsBounded}
 use Rattle.hc_laws.proofs.InRuns.{turned_in_runs}
 use Rattle.hc_laws.proofs.OfEntries.{of_real}
-use Rattle.hc_model.proofs.Pens.{same_row}
+use Rattle.hc_model.proofs.ExclusiveWriters.{same_row}
 use Rattle.hc_laws.proofs.PlacesKept.{AreOwn, IsOwnTurn, own_kept, turn_direct, bound_direct, bound_turn}
 use Rattle.hc_laws.proofs.PlacesRead.{AreRead, read_kept}
 use Rattle.hc_laws.proofs.PlacesEnded.{AreEnded, ended_kept}
@@ -38,8 +38,8 @@ use Rattle.hc_laws.proofs.PlacesShown.{AreReaders, IsReader, readers_kept}
 use Rattle.hc_laws.proofs.PlacesStand.{Stands, AreStanding, standing_kept}
 use Rattle.hc_model.proofs.PlacesTold.{AreTold, told_kept, told_denied, down_told}
 use Rattle.hc_laws.proofs.ReadEnds.{bounded}
-use Rattle.hc_laws.proofs.ReadJoined.{aside}
-use Rattle.hc_laws.proofs.ShownStays.{IsAside}
+use Rattle.hc_laws.proofs.ReadJoined.{fallback}
+use Rattle.hc_laws.proofs.ShownStays.{IsFallback}
 use Rattle.hc_laws.proofs.SoundRuns.{IsCarried, carried}
 use Rattle.hc_model.proofs.TurnFacts.{IsTaken}
 use Rattle.hc_laws.proofs.Unreached.{unreached}
@@ -55,7 +55,7 @@ pub record IsKnown (t : Tables) : Type 0 where
   pub ended : AreEnded t
   pub standing : AreStanding t
 
-known_begun : (contents : Contents) → IsKnown (begun contents)
+known_begun : (contents : Contents) → IsKnown (first_tables contents)
 known_begun contents = record {
   owned = record { direct = λ c x k row at. absurd (none_some k row); turn = λ c x k row at. absurd (none_some k row) };
   reads = record { read = λ x w row on headed none. absurd (none_some w row) };
@@ -80,7 +80,7 @@ known_denied t e known = record {
   standing = record { stands = known.standing.stands };
 }
 
-by_denial : (limits : Limits) (contents : Contents) (h : History) (e : Entry) (b : Bool) → is_denied e.acts ≡ b → IsCarried (tables contents h) → IsAside (tables contents h) → Turns (tables contents h) → IsBounded (tables contents h) → Sound (tables contents (e ∷ h)) → IsOwed limits (tables contents h) e → IsKnown (tables contents h) → IsKnown (tables contents (e ∷ h))
+by_denial : (limits : Limits) (contents : Contents) (h : History) (e : Entry) (b : Bool) → is_denied e.acts ≡ b → IsCarried (tables contents h) → IsFallback (tables contents h) → Turns (tables contents h) → IsBounded (tables contents h) → Sound (tables contents (e ∷ h)) → IsOwed limits (tables contents h) e → IsKnown (tables contents h) → IsKnown (tables contents (e ∷ h))
 by_denial limits contents h e true denied c a turns b later owed known = subst IsKnown (denied_tables contents h e denied) (known_denied (tables contents h) e known)
 by_denial limits contents h e false accepted c a turns b later owed known =
     let t = tables contents h in
@@ -99,11 +99,11 @@ by_denial limits contents h e false accepted c a turns b later owed known =
 pub known_in_runs : OfRuns IsKnown
 unfolding tables
 known_in_runs limits contents [] may run = known_begun contents
-known_in_runs limits contents (e ∷ h) may run = by_denial limits contents h e (is_denied e.acts) refl (carried limits contents h may run.0) (aside limits contents h may run.0) (turned_in_runs limits contents h may run.0).turns (bounded limits contents h may run.0) (carried limits contents (e ∷ h) may run).is_sound run.1 (known_in_runs limits contents h may run.0)
+known_in_runs limits contents (e ∷ h) may run = by_denial limits contents h e (is_denied e.acts) refl (carried limits contents h may run.0) (fallback limits contents h may run.0) (turned_in_runs limits contents h may run.0).turns (bounded limits contents h may run.0) (carried limits contents (e ∷ h) may run).is_sound run.1 (known_in_runs limits contents h may run.0)
 
 -- BY PLACE
 
-module _ (t : Tables) (s : Sound t) (o : Owners t) (a : IsAside t) (b : IsBounded t) (turns : Turns t) (beside : IsBeside t) (known : IsKnown t) where
+module _ (t : Tables) (s : Sound t) (o : Owners t) (a : IsFallback t) (b : IsBounded t) (turns : Turns t) (beside : IsBeside t) (known : IsKnown t) where
   -- it neither waits for a head nor reads
   abbrev Elsewhere : Place → Type 0
   Elsewhere place.Line = Unit {0}
@@ -256,7 +256,7 @@ module _ (t : Tables) (s : Sound t) (o : Owners t) (a : IsAside t) (b : IsBounde
 pub places_in_runs : OfRuns Places
 places_in_runs limits contents h may run =
     let c = carried limits contents h may run in
-    places_by (tables contents h) c.is_sound c.is_owned (aside limits contents h may run) (bounded limits contents h may run) (turned_in_runs limits contents h may run).turns c.beside (known_in_runs limits contents h may run)
+    places_by (tables contents h) c.is_sound c.is_owned (fallback limits contents h may run) (bounded limits contents h may run) (turned_in_runs limits contents h may run).turns c.beside (known_in_runs limits contents h may run)
 
 pub endings_in_runs : OfRuns Endings
 endings_in_runs limits contents h may run = record {

@@ -17,17 +17,17 @@ use Rattle.hc_model.specs.ConsumerRows.{consumer_heard, consumer_acted, by_head}
 use Rattle.hc_model.specs.Currents.{is_number}
 use Rattle.hc_model.specs.Denials.{denial}
 use Rattle.hc_model.specs.Entries.{Entry}
-use Rattle.hc_model.specs.Exchanges.{exchange_in, base, front, promised, family, is_reached}
+use Rattle.hc_model.specs.Exchanges.{exchange_in, base, front, promised_bytes, family, is_reached}
 use Rattle.hc_model.specs.ExchangeRows.{exchange_heard, exchange_acted, with_head, with_piece, promise_in}
 use Rattle.hc_model.specs.Failures.{stop_cause, short_of, short_cause}
 use Rattle.hc_model.specs.Flaws.{Flaw}
 use Rattle.hc_model.specs.Keys.{entry_of}
 use Rattle.hc_model.specs.Measures.{Measures}
 use Rattle.hc_model.specs.Owners.{Owners}
-use Rattle.hc_model.specs.Reading.{end_of_direct, own_open, source, shared, reads}
+use Rattle.hc_model.specs.Reading.{end_of_direct, own_open, source, shared_exchange, reads}
 use Rattle.hc_model.specs.Rows.{Tables, Exchange, Consumer}
 use Rattle.hc_model.specs.Sound.{Sound}
-use Rattle.hc_model.specs.StartingOver.{awaited}
+use Rattle.hc_model.specs.StartingOver.{awaited_exchange}
 use Rattle.hc_model.specs.Tables.{after_accepted}
 use Rattle.hc_model.proofs.Basics.{false_true, and_left, and_right, not_so, or_cases, none_some}
 use Rattle.hc_laws.proofs.Bounded.{IsBounded}
@@ -44,39 +44,39 @@ use Rattle.hc_model.proofs.OwnersKeep.{new_number}
 use Rattle.hc_laws.proofs.PastKeeps.{IsFrom, PlaceFrom, direct_from}
 use Rattle.hc_laws.proofs.PastKeeps as past
 use Rattle.hc_model.proofs.PieceKeeps.{eq_cases, some_inj}
-use Rattle.hc_model.proofs.Pens.{same_row}
+use Rattle.hc_model.proofs.ExclusiveWriters.{same_row}
 use Rattle.hc_laws.proofs.PlacesKept.{AreOwn, left_past, head_poll, over_direct}
 use Rattle.hc_laws.proofs.ReadEnds.{no_base}
-use Rattle.hc_laws.proofs.ShownStays.{IsAside}
+use Rattle.hc_laws.proofs.ShownStays.{IsFallback}
 use Rattle.hc_laws.proofs.ToBeShown.{heard_place}
 use Rattle.hc_model.proofs.Unclosed.{had_to}
 use Rattle.hc_model.proofs.Waiters.{IsWaiter, waiter_as, case_same, unclosed_unless, unleft, fault_open_of}
 
 -- all of it came, and where it ends is known
 abbrev pub IsAllCome : Exchange → Type 0
-IsAllCome w = end_of_direct (promised w) w ≡ Some (front w)
+IsAllCome w = end_of_direct (promised_bytes w) w ≡ Some (front w)
 
 pub record AreEnded (t : Tables) : Type 0 where
   pub past : (c x : ℕ) (k : Consumer) (w : Exchange) → t.consumer c ≡ Some k → k.place ≡ place.Direct x → t.exchange x ≡ Some w → w.is_open ≡ false → k.due ≡ None → IsAllCome w
 
 -- as many bytes as were promised
-told_come : (w : Exchange) (n : ℕ) → promised w ≡ Some n → n ≡ length w.body → IsAllCome w
+told_come : (w : Exchange) (n : ℕ) → promised_bytes w ≡ Some n → n ≡ length w.body → IsAllCome w
 told_come w n promise count = ap (λ q. end_of_direct q w) promise ∙ ap (λ m. Some (base w + m)) count
 
-reached_come : (w : Exchange) → is_reached (promised w) (length w.body) ≡ true → IsAllCome w
-reached_come w reached = by_promise (promised w) refl
+reached_come : (w : Exchange) → is_reached (promised_bytes w) (length w.body) ≡ true → IsAllCome w
+reached_come w reached = by_promise (promised_bytes w) refl
   where
-    by_promise : (q : Option ℕ) → promised w ≡ q → IsAllCome w
+    by_promise : (q : Option ℕ) → promised_bytes w ≡ q → IsAllCome w
     by_promise None is = absurd (false_true (sym (ap (λ q. is_reached q (length w.body)) is) ∙ reached))
     by_promise (Some n) is =
         let test : nat_eq n (length w.body) ≡ true = sym (ap (λ q. is_reached q (length w.body)) is) ∙ reached in
         told_come w n is (grind (arith, nat_tests))
 
 -- or up to a clean end, where none were
-ended_come : (w : Exchange) → w.is_ended ≡ true → ((n : ℕ) → promised w ≡ Some n → n ≡ length w.body) → IsAllCome w
-ended_come w ended enough = by_promise (promised w) refl
+ended_come : (w : Exchange) → w.is_ended ≡ true → ((n : ℕ) → promised_bytes w ≡ Some n → n ≡ length w.body) → IsAllCome w
+ended_come w ended enough = by_promise (promised_bytes w) refl
   where
-    by_promise : (q : Option ℕ) → promised w ≡ q → IsAllCome w
+    by_promise : (q : Option ℕ) → promised_bytes w ≡ q → IsAllCome w
     by_promise (Some n) is = told_come w n is (enough n is)
     by_promise None is =
         let first : base w ≡ 0 = no_base _ is in
@@ -85,13 +85,13 @@ ended_come w ended enough = by_promise (promised w) refl
 
 -- what the acts say of it changes nothing of that
 acted_come : (x : ℕ) (acts : List Act) (w : Exchange) → IsAllCome w → IsAllCome (exchange_acted x acts w)
-acted_come x acts w came = by_promise (promised w) came
+acted_come x acts w came = by_promise (promised_bytes w) came
   where
     by_promise : (q : Option ℕ) → end_of_direct q w ≡ Some (front w) → end_of_direct q (exchange_acted x acts w) ≡ Some (front w)
     by_promise None h = h
     by_promise (Some n) h = h
 
-module _ (limits : Limits) (t : Tables) (now : ℕ) (flaw : Flaw) (s : Sound t) (o : Owners t) (m : Measures t) (a : IsAside t) (bounds : IsBounded t) (g : AreOwn t) (ended : AreEnded t) (ev : Event) (goes : denial t ev ≡ None) where
+module _ (limits : Limits) (t : Tables) (now : ℕ) (flaw : Flaw) (s : Sound t) (o : Owners t) (m : Measures t) (a : IsFallback t) (bounds : IsBounded t) (g : AreOwn t) (ended : AreEnded t) (ev : Event) (goes : denial t ev ≡ None) where
   abbrev e : Entry
   e = entry_of limits t now ev flaw
 
@@ -150,7 +150,7 @@ module _ (limits : Limits) (t : Tables) (now : ℕ) (flaw : Flaw) (s : Sound t) 
       family_is = let all = g.direct c y k f.row at in ap (λ (q : Option ℕ). unwrap_or q y) (ap (λ (q : Exchange). q.joined) (same_row (t.exchange y) w all.its.w row all.its.row) ∙ all.unjoined)
 
       awaits_not : awaits (t.consumer w.c) y ≡ false
-      awaits_not = ap (λ z. awaits z y) (ap t.consumer mine ∙ f.row) ∙ ap (λ p. is_number (awaited p) y) at
+      awaits_not = ap (λ z. awaits z y) (ap t.consumer mine ∙ f.row) ∙ ap (λ p. is_number (awaited_exchange p) y) at
 
       undoomed : is_doomed t b y w ≡ true → ⊥
       undoomed h = false_true (sym awaits_not ∙ and_right _ (awaits (t.consumer w.c) y) h)
@@ -201,7 +201,7 @@ module _ (limits : Limits) (t : Tables) (now : ℕ) (flaw : Flaw) (s : Sound t) 
       stop_none at on brings =
           let mine_is : k.own ≡ Some y = own at in
           let open_is : own_open t k ≡ Some y = rw (mine_is, row, on) refl in
-          let from : source t k ≡ Some y = ap (λ q. option_or q (shared t k.place)) open_is in
+          let from : source t k ≡ Some y = ap (λ q. option_or q (shared_exchange t k.place)) open_is in
           let self : nat_eq y y ≡ true = grind (arith, nat_tests) in
           let undue = (due_before t e c k (consumer_acted t e c (consumer_heard t e c ev k)) u f.is (ap reads stands) none).1 in
           rw (from, brings, self) at (undue_parts t e c k undue).stop
@@ -222,7 +222,7 @@ module _ (limits : Limits) (t : Tables) (now : ℕ) (flaw : Flaw) (s : Sound t) 
           by_test false h = absurd (false_true (sym h))
 
       piece_come : (bytes : List ℕ) → ev ≡ event.Piece y bytes → (with_piece bytes w).is_open ≡ false → IsAllCome (with_piece bytes w)
-      piece_come bytes here off = elim (bool_cases (is_reached (promised w) (length (w.body ++ bytes)))) [
+      piece_come bytes here off = elim (bool_cases (is_reached (promised_bytes w) (length (w.body ++ bytes)))) [
         | inl reached ↦ reached_come (with_piece bytes w) reached
         | inr short ↦ absurd (false_true (sym (rw short at off) ∙ (piece_taken limits t now flaw s o m ev goes y bytes w here row).is_open))
       ]
@@ -233,12 +233,12 @@ module _ (limits : Limits) (t : Tables) (now : ℕ) (flaw : Flaw) (s : Sound t) 
           on : w.is_open ≡ true
           on = let z = ender limits t now flaw s o m ev goes y here in ap (λ (q : Exchange). q.is_open) (same_row (t.exchange y) w z.w row z.row) ∙ z.ending.is_open
 
-          unstopped : short_of y w (promised w) ≡ None
+          unstopped : short_of y w (promised_bytes w) ≡ None
           unstopped =
               sym (ap (stop_cause t) here ∙ ap (short_cause y) row)
               ∙ stop_none (stood_at (λ response is. let no : event.End y ≡ event.Head y response = sym here ∙ is in cc)) on (ap exchange_in here)
 
-          enough : (n : ℕ) → promised w ≡ Some n → n ≡ length w.body
+          enough : (n : ℕ) → promised_bytes w ≡ Some n → n ≡ length w.body
           enough n promise = elim (bool_cases (nat_lt (length w.body) n)) [
             | inl less ↦ absurd (never _ (rw (promise, less) at unstopped))
             | inr reached ↦

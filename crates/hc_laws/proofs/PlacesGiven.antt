@@ -29,7 +29,7 @@ use Rattle.hc_model.specs.Moves.{Gives}
 use Rattle.hc_model.specs.Owners.{Owners, IsAwaiting}
 use Rattle.hc_model.specs.Owners as owners
 use Rattle.hc_model.specs.Polls.{move_of}
-use Rattle.hc_model.specs.Reading.{bound_to, reads, base_in, lo_of, own_open, source, shared}
+use Rattle.hc_model.specs.Reading.{bound_to, reads, base_in, lo_of, own_open, source, shared_exchange}
 use Rattle.hc_model.specs.Reads.{answer_cell, direct_cell, cell_by, body_of}
 use Rattle.hc_model.specs.Rows.{Tables, Exchange, Representation, Consumer}
 use Rattle.hc_model.specs.Runs.{may_stand}
@@ -57,12 +57,12 @@ use Rattle.hc_model.proofs.OwnersKeep.{is_opened, new_number}
 use Rattle.hc_laws.proofs.PastKeeps.{IsFrom, PlaceFrom, direct_from}
 use Rattle.hc_laws.proofs.PastKeeps as past
 use Rattle.hc_model.proofs.PieceKeeps.{eq_cases, some_inj}
-use Rattle.hc_model.proofs.Pens.{same_row}
+use Rattle.hc_model.proofs.ExclusiveWriters.{same_row}
 use Rattle.hc_laws.proofs.PlacesKept.{AreOwn, IsOwnPast, past_unopened, left_past, head_poll, bound_direct, over_direct}
 use Rattle.hc_model.proofs.PollActs.{ToOne, to_one}
 use Rattle.hc_model.proofs.PollActs as acts_to
 use Rattle.hc_model.proofs.ShownOnce as shown_once
-use Rattle.hc_laws.proofs.ShownStays.{IsAside, StaysOrIdle, shown_stays, unless_same}
+use Rattle.hc_laws.proofs.ShownStays.{IsFallback, StaysOrIdle, shown_stays, unless_same}
 use Rattle.hc_laws.proofs.ShownStays as stands
 use Rattle.hc_laws.proofs.ToBeShown.{heard_place}
 use Rattle.hc_model.proofs.Waiters.{IsWaiter, waiter_as, waits_undue}
@@ -84,7 +84,7 @@ answer_below x p w cell is = elim (bool_cases (nat_le (base w) p && nat_lt p (fr
   | inr off ↦ absurd (none_some cell (rw off at is))
 ]
 
-module _ (limits : Limits) (t : Tables) (now : ℕ) (flaw : Flaw) (s : Sound t) (o : Owners t) (a : IsAside t) (b : IsBounded t) (g : AreOwn t) (p : ArePast t) (ev : Event) (goes : denial t ev ≡ None) (stand : may_stand limits t (entry_of limits t now ev flaw) ≡ true) where
+module _ (limits : Limits) (t : Tables) (now : ℕ) (flaw : Flaw) (s : Sound t) (o : Owners t) (a : IsFallback t) (b : IsBounded t) (g : AreOwn t) (p : ArePast t) (ev : Event) (goes : denial t ev ≡ None) (stand : may_stand limits t (entry_of limits t now ev flaw) ≡ true) where
   abbrev e : Entry
   e = entry_of limits t now ev flaw
 
@@ -260,7 +260,7 @@ module _ (limits : Limits) (t : Tables) (now : ℕ) (flaw : Flaw) (s : Sound t) 
           let mine_is : k.own ≡ Some y = before.own in
           let on : w.is_open ≡ true = was_open in
           let own : own_open t k ≡ Some y = rw (mine_is, row, on) refl in
-          ap (λ q. option_or q (shared t k.place)) own
+          ap (λ q. option_or q (shared_exchange t k.place)) own
 
       other : (x : ℕ) (cause : Option Cause) → (x ≡ y → ⊥) → (if is_same_number (source t k) (Some x) then cause else None) ≡ None
       other x cause apart = ap (λ q. if is_same_number q (Some x) then cause else None) source_is ∙ elim (eq_cases y x) [

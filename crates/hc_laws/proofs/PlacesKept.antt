@@ -25,7 +25,7 @@ use Rattle.hc_event.specs.declared.place.BoundBy.TheVariants as by
 use Rattle.hc_model.specs.ActFilters.{has_loss, loses_in}
 use Rattle.hc_model.specs.Cases.{case_at, head_view, is_joining}
 use Rattle.hc_model.specs.Closings.{is_refused}
-use Rattle.hc_model.specs.ConsumerRows.{consumer_after, consumer_made, started, consumer_heard, consumer_acted, consumer_settled, by_head, by_fault, by_opening, becomes_shared, own_after, left_to, waiting, due_after, place_by_case, passed_on, bound_to_wanted}
+use Rattle.hc_model.specs.ConsumerRows.{consumer_after, consumer_made, new_consumer, consumer_heard, consumer_acted, consumer_settled, by_head, by_fault, by_opening, becomes_shared, own_after, left_to, waiting, due_after, place_by_case, passed_on, bound_to_wanted}
 use Rattle.hc_model.specs.Denials.{denial, as_open}
 use Rattle.hc_model.specs.Entries.{Entry}
 use Rattle.hc_model.specs.Exchanges.{exchange_at, exchange_in, is_for, is_headless}
@@ -57,8 +57,8 @@ use Rattle.hc_model.proofs.OwnersKeep.{is_opened, new_number}
 use Rattle.hc_laws.proofs.PastKeeps.{PlaceFrom, direct_from}
 use Rattle.hc_laws.proofs.PastKeeps as past
 use Rattle.hc_model.proofs.PieceKeeps.{eq_cases, some_inj}
-use Rattle.hc_model.proofs.Pens.{same_row}
-use Rattle.hc_laws.proofs.ShownStays.{IsAside}
+use Rattle.hc_model.proofs.ExclusiveWriters.{same_row}
+use Rattle.hc_laws.proofs.ShownStays.{IsFallback}
 use Rattle.hc_laws.proofs.ToBeShown.{heard_place}
 use Rattle.hc_model.proofs.TurnPlaces.{ComesFrom, StaysOrPlain, is_after}
 use Rattle.hc_model.proofs.TurnPlaces as places
@@ -153,7 +153,7 @@ poll_of (event.Fault x) = inr (λ c want is. false_true (ap is_poll is))
 poll_of (event.Cancel d) = inr (λ c want is. false_true (ap is_poll is))
 poll_of (event.Doom key) = inr (λ c want is. false_true (ap is_poll is))
 
-module _ (limits : Limits) (t : Tables) (now : ℕ) (flaw : Flaw) (s : Sound t) (o : Owners t) (a : IsAside t) (g : AreOwn t) (ev : Event) (goes : denial t ev ≡ None) where
+module _ (limits : Limits) (t : Tables) (now : ℕ) (flaw : Flaw) (s : Sound t) (o : Owners t) (a : IsFallback t) (g : AreOwn t) (ev : Event) (goes : denial t ev ≡ None) where
   abbrev e : Entry
   e = entry_of limits t now ev flaw
 
@@ -463,7 +463,7 @@ module _ (limits : Limits) (t : Tables) (now : ℕ) (flaw : Flaw) (s : Sound t) 
 
   -- WITH THE TURN
 
-  made : (c : ℕ) (v : Event) (u : Consumer) → consumer_made c e.now v ≡ Some u → (request : Request) × (started e.now request ≡ u)
+  made : (c : ℕ) (v : Event) (u : Consumer) → consumer_made c e.now v ≡ Some u → (request : Request) × (new_consumer e.now request ≡ u)
   made c (event.Start d request) u h = elim (eq_cases d c) [
     | inl here ↦ (request, some_inj _ u (rw here.0 at h))
     | inr off ↦ absurd (none_some u (rw off.0 at h))
@@ -477,7 +477,7 @@ module _ (limits : Limits) (t : Tables) (now : ℕ) (flaw : Flaw) (s : Sound t) 
   made c (event.Doom key) u h = absurd (none_some u h)
 
   -- who wasn't there has just started
-  pub new_is : (c : ℕ) (q : Option Consumer) (u : Consumer) → q ≡ None → consumer_after t e c q ≡ Some u → (request : Request) × (started e.now request ≡ u)
+  pub new_is : (c : ℕ) (q : Option Consumer) (u : Consumer) → q ≡ None → consumer_after t e c q ≡ Some u → (request : Request) × (new_consumer e.now request ≡ u)
   unfolding consumer_after
   new_is c None u none h = made c ev u h
   new_is c (Some k) u none h = absurd (some_none k none)

@@ -41,11 +41,11 @@ use Rattle.hc_laws.proofs.HeadedAs as head
 use Rattle.hc_model.proofs.HoleLemmas.{bool_cases}
 use Rattle.hc_model.proofs.OwnFrom.{IsRow}
 use Rattle.hc_model.proofs.PieceKeeps.{eq_cases, some_inj}
-use Rattle.hc_model.proofs.Pens.{same_row}
+use Rattle.hc_model.proofs.ExclusiveWriters.{same_row}
 use Rattle.hc_laws.proofs.PlacesKept.{AreOwn, past_unopened, opening_stays, own_free, settled}
 use Rattle.hc_laws.proofs.ReadingKeeps.{reader_stays}
 use Rattle.hc_model.proofs.RepFrom as rep
-use Rattle.hc_laws.proofs.ShownStays.{IsAside}
+use Rattle.hc_laws.proofs.ShownStays.{IsFallback}
 use Rattle.hc_model.proofs.Waiters.{IsWaiter, waiter_of}
 
 -- who reads what is open and of no representation
@@ -59,7 +59,7 @@ and_off : (p q : Bool) → q ≡ false → (p && q) ≡ false
 and_off true q off = off
 and_off false q off = refl
 
-module _ (limits : Limits) (t : Tables) (now : ℕ) (flaw : Flaw) (s : Sound t) (o : Owners t) (a : IsAside t) (g : AreOwn t) (ev : Event) (goes : denial t ev ≡ None) where
+module _ (limits : Limits) (t : Tables) (now : ℕ) (flaw : Flaw) (s : Sound t) (o : Owners t) (a : IsFallback t) (g : AreOwn t) (ev : Event) (goes : denial t ev ≡ None) where
   abbrev e : Entry
   e = entry_of limits t now ev flaw
 

@@ -17,7 +17,7 @@ use Rattle.hc_event.specs.declared.place.Place.{Place}
 use Rattle.hc_event.specs.declared.place.Place.TheVariants as place
 use Rattle.hc_event.specs.declared.place.BoundBy.TheVariants as by
 use Rattle.hc_model.specs.ActFilters.{has_loss, fails_in, misreads_in, leaver_in, Showing, showing_in, wait_in}
-use Rattle.hc_model.specs.Answers.{lost}
+use Rattle.hc_model.specs.Answers.{loss_acts}
 use Rattle.hc_model.specs.Cases.{case_at, case_of, head_view, was_shown}
 use Rattle.hc_model.specs.ConsumerRows.{consumer_heard, by_head, by_fault, by_opening, shown_place, waiting, waiting_place, place_by_case}
 use Rattle.hc_model.specs.Denials.{denial}
@@ -38,7 +38,7 @@ use Rattle.hc_model.specs.Sound.{Sound}
 use Rattle.hc_model.specs.StartingOver.{starts_over, sends_back, waits_at, loses_what_it_waits_for}
 use Rattle.hc_model.specs.Tables.{after_accepted}
 use Rattle.hc_model.proofs.ActParts as parts
-use Rattle.hc_laws.proofs.AsideKeeps.{landing, new_unshown}
+use Rattle.hc_laws.proofs.FallbackKeeps.{landing, new_unshown}
 use Rattle.hc_model.proofs.Basics.{false_true, and_left, and_right, or_cases, not_so}
 use Rattle.hc_model.proofs.FirstKeeps.{is_new, case_is, is_opener}
 use Rattle.hc_model.proofs.FoundBy.{CaseBy, case_by}
@@ -46,10 +46,10 @@ use Rattle.hc_model.proofs.FoundBy as cases
 use Rattle.hc_model.proofs.HoleLemmas.{bool_cases}
 use Rattle.hc_model.proofs.OpenedAs.{opened_as}
 use Rattle.hc_model.proofs.PieceKeeps.{eq_cases}
-use Rattle.hc_model.proofs.Pens.{same_row}
+use Rattle.hc_model.proofs.ExclusiveWriters.{same_row}
 use Rattle.hc_laws.proofs.PlacesKept.{AreOwn, settled}
 use Rattle.hc_model.proofs.Said.{WaitsAs, waiting_by}
-use Rattle.hc_laws.proofs.ShownStays.{IsAside, way_bound, shows_not, unless_same}
+use Rattle.hc_laws.proofs.ShownStays.{IsFallback, way_bound, shows_not, unless_same}
 use Rattle.hc_model.proofs.TurnFacts.{IsTaken, AtPoll, seen, behind, far_behind, opens_behind, misreads_behind, at_poll}
 use Rattle.hc_model.proofs.TurnFacts as facts
 use Rattle.hc_model.proofs.TurnOpens as opens
@@ -90,7 +90,7 @@ self c = elim (eq_cases c c) [
   | inr off ↦ absurd (off.1 refl)
 ]
 
-module _ (limits : Limits) (t : Tables) (now : ℕ) (flaw : Flaw) (s : Sound t) (o : Owners t) (a : IsAside t) (g : AreOwn t) (turns : Turns t) (readers : AreReaders t) (ev : Event) (goes : denial t ev ≡ None) where
+module _ (limits : Limits) (t : Tables) (now : ℕ) (flaw : Flaw) (s : Sound t) (o : Owners t) (a : IsFallback t) (g : AreOwn t) (turns : Turns t) (readers : AreReaders t) (ev : Event) (goes : denial t ev ≡ None) where
   abbrev e : Entry
   e = entry_of limits t now ev flaw
 
@@ -283,7 +283,7 @@ module _ (limits : Limits) (t : Tables) (now : ℕ) (flaw : Flaw) (s : Sound t) 
   -- WHO IS SHOWN ONE
 
   module _ (taken : IsTaken limits t e) (c : ℕ) (k : Consumer) (row : t.consumer c ≡ Some k) where
-    module _ (want r lo : ℕ) (hi : Option ℕ) (why : Why) (head : Response) (at : ev ≡ event.Poll c want) (all : e.acts ≡ acts_of c (Shows r why head lo hi) ++ behind limits t e taken) (saw : (seen limits t e taken).acts ≡ acts_of c (Shows r why head lo hi) ++ lost (flaw_in e.acts)) where
+    module _ (want r lo : ℕ) (hi : Option ℕ) (why : Why) (head : Response) (at : ev ≡ event.Poll c want) (all : e.acts ≡ acts_of c (Shows r why head lo hi) ++ behind limits t e taken) (saw : (seen limits t e taken).acts ≡ acts_of c (Shows r why head lo hi) ++ loss_acts (flaw_in e.acts)) where
       nobody : leaver_in (seen limits t e taken).acts ≡ None
       nobody = ap leaver_in saw ∙ parts.leaver_lost (flaw_in e.acts)
 
@@ -351,7 +351,7 @@ module _ (limits : Limits) (t : Tables) (now : ℕ) (flaw : Flaw) (s : Sound t) 
         by_poll want r lo hi why head at move_is (facts.moves_on n m here m_is does all saw) =
             let same : want ≡ n = poll_inj c want c n (sym at ∙ here) in
             let is : m ≡ Shows r why head lo hi = m_is ∙ (sym (ap (λ z. move_of t now z c k) same) ∙ move_is) in
-            lands want r lo hi why head at (all ∙ ap (λ z. acts_of c z ++ behind limits t e taken) is) (saw ∙ ap (λ z. acts_of c z ++ lost (flaw_in e.acts)) is) u after
+            lands want r lo hi why head at (all ∙ ap (λ z. acts_of c z ++ behind limits t e taken) is) (saw ∙ ap (λ z. acts_of c z ++ loss_acts (flaw_in e.acts)) is) u after
         by_poll want r lo hi why head at move_is (facts.misreads n q here all saw) =
             absurd (false_true (sym (ap (shows_in c) all ∙ (far_behind limits t e taken c).shows) ∙ shows))
 

@@ -53,12 +53,12 @@ use Rattle.hc_model.proofs.FoundBy as cases
 use Rattle.hc_model.proofs.HoleLemmas.{bool_cases}
 use Rattle.hc_model.proofs.MoveBy.{IsHeard}
 use Rattle.hc_model.proofs.PieceKeeps.{eq_cases}
-use Rattle.hc_model.proofs.Pens.{same_row}
+use Rattle.hc_model.proofs.ExclusiveWriters.{same_row}
 use Rattle.hc_laws.proofs.PlacesKept.{AreOwn, waits_not, past_not, own_poll, own_is, unopened, poll_of, new_is, turn_bare}
 use Rattle.hc_laws.proofs.PlacesShown.{AreReaders, head_same}
 use Rattle.hc_model.proofs.Said.{WaitsAs, waiting_by}
 use Rattle.hc_model.proofs.Said as said
-use Rattle.hc_laws.proofs.ShownStays.{IsAside, unless_same}
+use Rattle.hc_laws.proofs.ShownStays.{IsFallback, unless_same}
 use Rattle.hc_laws.proofs.ToBeShown.{heard_place}
 use Rattle.hc_model.proofs.TurnFacts.{IsTaken}
 use Rattle.hc_model.proofs.TurnHeads.{valid_aim}
@@ -143,7 +143,7 @@ busy_waits d _ said.waits = refl
 busy_waits d _ (said.asks x is) = absurd (let no : wait.Busy d ≡ wait.Body x = is in cc)
 busy_waits d _ (said.opens x n request is) = absurd (let no : wait.Busy d ≡ wait.Head x = is in cc)
 
-module _ (limits : Limits) (t : Tables) (now : ℕ) (flaw : Flaw) (s : Sound t) (o : Owners t) (a : IsAside t) (g : AreOwn t) (turns : Turns t) (readers : AreReaders t) (was : AreStanding t) (ev : Event) (goes : denial t ev ≡ None) where
+module _ (limits : Limits) (t : Tables) (now : ℕ) (flaw : Flaw) (s : Sound t) (o : Owners t) (a : IsFallback t) (g : AreOwn t) (turns : Turns t) (readers : AreReaders t) (was : AreStanding t) (ev : Event) (goes : denial t ev ≡ None) where
   abbrev e : Entry
   e = entry_of limits t now ev flaw
 

@@ -17,11 +17,11 @@ use Rattle.hc_rules.specs.declared.room.Limits.{Limits}
 use Rattle.hc_event.specs.declared.place.Place.{Place}
 use Rattle.hc_event.specs.declared.place.Place.TheVariants as place
 use Rattle.hc_model.specs.ActFilters.{loses_in, misreads_in, leaver_in}
-use Rattle.hc_model.specs.Answers.{accepted, said}
+use Rattle.hc_model.specs.Answers.{accepted_acts, answer_acts}
 use Rattle.hc_model.specs.Closings.{closing}
 use Rattle.hc_model.specs.ConsumerRows.{consumer_after, consumer_acted}
-use Rattle.hc_model.specs.Dooms.{bypassed}
-use Rattle.hc_model.specs.Effects.{Does, counted, with_consumer, let_all_go}
+use Rattle.hc_model.specs.Dooms.{bypass_key}
+use Rattle.hc_model.specs.Effects.{Does, with_event, with_consumer, let_all_go}
 use Rattle.hc_model.specs.Entries.{Entry}
 use Rattle.hc_model.specs.ExchangeRows.{exchange_after}
 use Rattle.hc_model.specs.Flaws.{NoFlaw}
@@ -29,7 +29,7 @@ use Rattle.hc_model.specs.Gone.{becomes_gone, goes_in}
 use Rattle.hc_model.specs.Lawful.{Lawful}
 use Rattle.hc_model.specs.Moves as moves
 use Rattle.hc_model.specs.Moves.{Move, Asks, Opens, Shows, Gives, acts_of}
-use Rattle.hc_model.specs.Polls.{move_of, polled}
+use Rattle.hc_model.specs.Polls.{move_of, poll_move}
 use Rattle.hc_model.specs.Reading.{reads}
 use Rattle.hc_model.specs.Rows.{Tables, Exchange, Representation, Consumer}
 use Rattle.hc_model.specs.StartingOver.{loses_what_it_waits_for}
@@ -116,21 +116,21 @@ module _ (limits : Limits) (t : Tables) (law : Lawful t) (now c want : ℕ) (k :
   nothing : (acts : List Act) → BringsNothing t (record { now = now; event = ev; acts = acts }) c
   nothing acts = brings_nothing t now c ev acts (event_of.polls want)
 
-  said_is : said t now ev NoFlaw ≡ acts_of c m
-  said_is = ap (λ (o : Option Consumer). acts_of c (polled t now want c o)) row ∙ ap (acts_of c) is
+  said_is : answer_acts t now ev NoFlaw ≡ acts_of c m
+  said_is = ap (λ (o : Option Consumer). acts_of c (poll_move t now want c o)) row ∙ ap (acts_of c) is
 
-  closes_none : closing t (record { now = now; event = ev; acts = said t now ev NoFlaw ++ [] }) ≡ []
-  closes_none = closes_nothing t (record { now = now; event = ev; acts = said t now ev NoFlaw ++ [] }) (little t (record { now = now; event = ev; acts = said t now ev NoFlaw ++ [] }) c (nothing (said t now ev NoFlaw ++ []))) (ap (λ acts. leaver_in (acts ++ [])) said_is ∙ (mild c m stays).leaves)
+  closes_none : closing t (record { now = now; event = ev; acts = answer_acts t now ev NoFlaw ++ [] }) ≡ []
+  closes_none = closes_nothing t (record { now = now; event = ev; acts = answer_acts t now ev NoFlaw ++ [] }) (little t (record { now = now; event = ev; acts = answer_acts t now ev NoFlaw ++ [] }) c (nothing (answer_acts t now ev NoFlaw ++ []))) (ap (λ acts. leaver_in (acts ++ [])) said_is ∙ (mild c m stays).leaves)
 
   -- just what its move says
-  pub acts_are : accepted limits t now ev NoFlaw ≡ acts_of c m
-  acts_are = ap (λ xs. said t now ev NoFlaw ++ (map act.Close xs ++ [])) closes_none ∙ (append_none (said t now ev NoFlaw) ∙ said_is)
+  pub acts_are : accepted_acts limits t now ev NoFlaw ≡ acts_of c m
+  acts_are = ap (λ xs. answer_acts t now ev NoFlaw ++ (map act.Close xs ++ [])) closes_none ∙ (append_none (answer_acts t now ev NoFlaw) ∙ said_is)
 
   far : (d : ℕ) → nat_eq c d ≡ false → IsFarFrom d (acts_of c m)
   far d other = subst (IsFarFrom d) (append_none (acts_of c m)) (far_other d c m [] other (far_closed d []))
 
   -- where it bypasses nothing, nothing goes
-  pub nothing_goes : bypassed e ≡ None → (r : ℕ) (v : Representation) → t.representation r ≡ Some v → becomes_gone t e r v ≡ is_in [] r
+  pub nothing_goes : bypass_key e ≡ None → (r : ℕ) (v : Representation) → t.representation r ≡ Some v → becomes_gone t e r v ≡ is_in [] r
   nothing_goes plain r v there = let a = mild c m stays in goes_nothing t e c (nothing (acts_of c m)) r v plain (a.loses r) (a.misreads r) (a.closes r) (a.evicts r)
 
   module _ (rs : List ℕ) (goes : (r : ℕ) (v : Representation) → t.representation r ≡ Some v → becomes_gone t e r v ≡ is_in rs r) (q : Consumer) where
@@ -143,7 +143,7 @@ module _ (limits : Limits) (t : Tables) (law : Lawful t) (now c want : ℕ) (k :
     -- what it comes to: its consumer, exchanges, and whom it binds
     pub poll_does : (o : ℕ) (os us : List ℕ) (xs : ℕ → Option Exchange) → opened_after (opening_in (acts_of c m)) t.opened ≡ o → openings_after (opening_in (acts_of c m)) t.openings ≡ os → to_front (binds t e) t.used ≡ us → ((x : ℕ) → exchange_after t e x (t.exchange x) ≡ xs x)
         → consumer_acted t e c k ≡ q → q.due ≡ k.due → (reads q.place ≡ false → k.due ≡ None) → waits_for_any rs k.place ≡ false → waits_for_any rs q.place ≡ false
-        → Does limits t now ev NoFlaw (acts_of c m) (counted now ev (let_all_go now rs (with_consumer c (Some q) (record t { opened = o; openings = os; used = us; exchange = xs }))))
+        → Does limits t now ev NoFlaw (acts_of c m) (with_event now ev (let_all_go now rs (with_consumer c (Some q) (record t { opened = o; openings = os; used = us; exchange = xs }))))
     poll_does o os us xs opened openings used exchange acted due idle unwaiting unwaits = record {
       acts_are = acts_are;
       tables_are =

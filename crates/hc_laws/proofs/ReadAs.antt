@@ -19,7 +19,7 @@ use Rattle.hc_model.specs.Currents.{total_in}
 use Rattle.hc_model.specs.Denials.{denial, as_open}
 use Rattle.hc_model.specs.Entries.{Entry}
 use Rattle.hc_model.specs.ExchangeRows.{exchange_heard, exchange_acted}
-use Rattle.hc_model.specs.Exchanges.{base, promised, length_by}
+use Rattle.hc_model.specs.Exchanges.{base, promised_bytes, length_by}
 use Rattle.hc_model.specs.Flaws.{Flaw}
 use Rattle.hc_model.specs.Histories.{Shown}
 use Rattle.hc_model.specs.Keys.{entry_of}
@@ -31,7 +31,7 @@ use Rattle.hc_model.specs.Reading.{bound_to, reads, lo_of, hi_of, base_in, end_i
 use Rattle.hc_model.specs.Rows.{Tables, Exchange, Representation, Consumer}
 use Rattle.hc_model.specs.Sound.{Sound}
 use Rattle.hc_model.specs.Tables.{after_accepted}
-use Rattle.hc_laws.proofs.AsideKeeps.{IsLanding, shown_headed}
+use Rattle.hc_laws.proofs.FallbackKeeps.{IsLanding, shown_headed}
 use Rattle.hc_model.proofs.Basics.{false_true, none_some}
 use Rattle.hc_model.proofs.ExchangeFrom.{IsSame, IsHeaded}
 use Rattle.hc_model.proofs.Fills.{Brings, brings, length_same}
@@ -45,10 +45,10 @@ use Rattle.hc_model.proofs.MoveBy as by_move
 use Rattle.hc_model.proofs.Once.{taken}
 use Rattle.hc_laws.proofs.PastApart.{IsHeadedRow}
 use Rattle.hc_model.proofs.PieceKeeps.{eq_cases, some_inj}
-use Rattle.hc_model.proofs.Pens.{same_row}
+use Rattle.hc_model.proofs.ExclusiveWriters.{same_row}
 use Rattle.hc_model.proofs.RepFrom.{RepFrom, rep_from}
 use Rattle.hc_model.proofs.RepFrom as rep
-use Rattle.hc_laws.proofs.ShownStays.{IsAside, Lands}
+use Rattle.hc_laws.proofs.ShownStays.{IsFallback, Lands}
 use Rattle.hc_laws.proofs.ShownStays as stands
 
 -- it reads what it was shown, from where and to where it was shown
@@ -86,7 +86,7 @@ heard_ended t e x (event.Doom key) w over = over
 
 -- AS LONG AS IT READS
 
-module _ (limits : Limits) (t : Tables) (now : ℕ) (flaw : Flaw) (s : Sound t) (ev : Event) (goes : denial t ev ≡ None) (a : IsAside t) where
+module _ (limits : Limits) (t : Tables) (now : ℕ) (flaw : Flaw) (s : Sound t) (ev : Event) (goes : denial t ev ≡ None) (a : IsFallback t) where
   abbrev e : Entry
   e = entry_of limits t now ev flaw
 
@@ -163,9 +163,9 @@ module _ (limits : Limits) (t : Tables) (now : ℕ) (flaw : Flaw) (s : Sound t) 
     hi_direct n is =
         let on = is_on t e y h.w h.row in
         let told = told_same on.u on.same in
-        let before : end_of_direct (promised h.w) h.w ≡ Some n = sym (ap end_in h.row) ∙ is in
-        let promise : promised on.u ≡ promised h.w = ap promise_of told in
-        ap end_in on.row ∙ (ap (λ q. end_of_direct q on.u) promise ∙ end_by (promised h.w) on.u n on.row (ap base_of told) before)
+        let before : end_of_direct (promised_bytes h.w) h.w ≡ Some n = sym (ap end_in h.row) ∙ is in
+        let promise : promised_bytes on.u ≡ promised_bytes h.w = ap promise_of told in
+        ap end_in on.row ∙ (ap (λ q. end_of_direct q on.u) promise ∙ end_by (promised_bytes h.w) on.u n on.row (ap base_of told) before)
 
   pub lo_stays : (p : Place) → HasHead t p → lo_of now_on p ≡ lo_of t p
   lo_stays place.Line has = refl
@@ -277,7 +277,7 @@ module _ (t : Tables) (now c want r lo : ℕ) (why : Why) (head : Response) (hi 
   pub shown_read : Sound t → t.consumer c ≡ Some k → move_of t now want c k ≡ show → k.shown ≡ false → reads k.place ≡ true → ((y : ℕ) → k.place ≡ place.Direct y → IsHeadedRow t y) → IsRead t k as_shown
   shown_read s row is off old headed = by_moves (move_of t now want c k) (move_by t now want c k s row) is off old headed
 
-module _ (limits : Limits) (t : Tables) (now : ℕ) (flaw : Flaw) (s : Sound t) (o : Owners t) (ev : Event) (goes : denial t ev ≡ None) (a : IsAside t) where
+module _ (limits : Limits) (t : Tables) (now : ℕ) (flaw : Flaw) (s : Sound t) (o : Owners t) (ev : Event) (goes : denial t ev ≡ None) (a : IsFallback t) where
   -- who is shown a head reads what it is shown
   pub landed_read : (c : ℕ) (k u : Consumer) → t.consumer c ≡ Some k → k.shown ≡ false → reads u.place ≡ true → (l : IsLanding limits t now flaw s o ev goes c k u) → IsRead (after_accepted t (entry_of limits t now ev flaw)) u (record { r = l.r; why = l.why; lo = l.lo; hi = l.hi })
   landed_read c k u row off old l = by_lands l.lands

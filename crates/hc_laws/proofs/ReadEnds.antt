@@ -29,11 +29,11 @@ use Rattle.hc_event.specs.declared.place.BoundBy.{BoundBy}
 use Rattle.hc_event.specs.declared.place.BoundBy.TheVariants as by
 use Rattle.hc_event.specs.declared.place.Place.{Place}
 use Rattle.hc_event.specs.declared.place.Place.TheVariants as place
-use Rattle.hc_model.specs.Answers.{accepted, said}
+use Rattle.hc_model.specs.Answers.{accepted_acts, answer_acts}
 use Rattle.hc_model.specs.Beginnings.{may_begin}
 use Rattle.hc_model.specs.Currents.{total_in}
 use Rattle.hc_model.specs.Entries.{Entry, History, Contents}
-use Rattle.hc_model.specs.Exchanges.{base, promised, length_by}
+use Rattle.hc_model.specs.Exchanges.{base, promised_bytes, length_by}
 use Rattle.hc_model.specs.Exchanges as exchanges
 use Rattle.hc_model.specs.Flaws.{Flaw, flaw_in}
 use Rattle.hc_model.specs.Histories.{Shown, shown_of, given_of}
@@ -65,7 +65,7 @@ use Rattle.hc_model.proofs.Owed.{IsDenied, is_denial, acts_are}
 use Rattle.hc_model.proofs.Owed as owed_acts
 use Rattle.hc_model.proofs.PieceKeeps.{some_inj}
 use Rattle.hc_laws.proofs.ReadAs.{IsRead}
-use Rattle.hc_laws.proofs.ReadJoined.{joined_in_runs, is_told, aside}
+use Rattle.hc_laws.proofs.ReadJoined.{joined_in_runs, is_told, fallback}
 use Rattle.hc_laws.proofs.ReadNext.{by_said, shown_one}
 use Rattle.hc_laws.proofs.ReadNext as next
 use Rattle.hc_laws.proofs.SoundRuns.{carried}
@@ -78,7 +78,7 @@ by_denial limits contents h e false taken may run owed b =
     let t = tables contents h in
     let k = carried limits contents h may run in
     subst IsBounded (next_tables contents h e taken)
-    (of_real limits t e (λ z. IsBounded (after_accepted t z)) owed taken (λ going real. bounded_kept limits t e.now (flaw_in e.acts) k.is_sound k.is_owned e.event going b (aside limits contents h may run)))
+    (of_real limits t e (λ z. IsBounded (after_accepted t z)) owed taken (λ going real. bounded_kept limits t e.now (flaw_in e.acts) k.is_sound k.is_owned e.event going b (fallback limits contents h may run)))
 
 pub bounded : OfRuns IsBounded
 unfolding tables
@@ -253,7 +253,7 @@ module _ (t : Tables) (c : ℕ) (k : Consumer) (s : Sound t) (m : Measures t) (b
         omega arith
   ]
 
-  direct_end : (y n : ℕ) (w : Exchange) (q : Option ℕ) → t.exchange y ≡ Some w → promised w ≡ q → k.given ≤ length w.body → end_of_direct q w ≡ Some n → base w + k.given ≤ n
+  direct_end : (y n : ℕ) (w : Exchange) (q : Option ℕ) → t.exchange y ≡ Some w → promised_bytes w ≡ q → k.given ≤ length w.body → end_of_direct q w ≡ Some n → base w + k.given ≤ n
   direct_end y n w (Some p) there promise few is =
       let most : length w.body ≤ p = b.promise y p w there promise in
       let same : base w + p ≡ n = some_inj (base w + p) n is in
@@ -272,7 +272,7 @@ module _ (t : Tables) (c : ℕ) (k : Consumer) (s : Sound t) (m : Measures t) (b
       let first : lo_of t k.place ≡ base w = ap (lo_of t) at ∙ ap base_in there in
       let same : z.r ≡ y = some_inj z.r y (sym read.number ∙ ap read_of at) in
       let few : k.given ≤ length w.body = came_of y w same (sym read.from ∙ first) (apart y at) there in
-      let le : base w + k.given ≤ n = direct_end y n w (promised w) there refl few is in
+      let le : base w + k.given ≤ n = direct_end y n w (promised_bytes w) there refl few is in
       omega arith
 
   offset_by : (p : Place) (n : ℕ) → k.place ≡ p → hi_of t p ≡ Some n → offset t k ≤ n
@@ -389,8 +389,8 @@ module _ (t : Tables) (now c : ℕ) where
   ender_of ev flaw _ (parts.misreads d want q here is) (inl same) = absurd (let no : act.Failed d (cause.StoreRead q) ≡ it = same in cc)
   ender_of ev flaw _ (parts.misreads d want q here is) (inr h) = absurd h
 
-  ender : (limits : Limits) (ev : Event) (flaw : Flaw) → Says it (accepted limits t now ev flaw) → IsEnder ev
-  ender limits ev flaw h = ender_of ev flaw (said t now ev flaw) (said_is t now ev flaw) (by_said limits t now ev flaw it (next.ends c) h)
+  ender : (limits : Limits) (ev : Event) (flaw : Flaw) → Says it (accepted_acts limits t now ev flaw) → IsEnder ev
+  ender limits ev flaw h = ender_of ev flaw (answer_acts t now ev flaw) (said_is t now ev flaw) (by_said limits t now ev flaw it (next.ends c) h)
 
 module _ (limits : Limits) (contents : Contents) (h : History) (e : Entry) (may : may_begin limits contents ≡ true) (run : IsRun limits contents (e ∷ h)) (c : ℕ) where
   abbrev t : Tables
@@ -406,7 +406,7 @@ module _ (limits : Limits) (contents : Contents) (h : History) (e : Entry) (may 
       let j = joined_in_runs limits contents h may run.0 in
       let tells = is_told limits contents h run.0 in
       let read = j.read c g.k one.0 g.row one.1 (hi_reads t g.k.place known.0 known.1) in
-      let there = is_end t c g.k all.is_sound all.is_measured (bounded limits contents h may run.0) g.row (λ y at. (aside limits contents h may run.0).apart.unfounded c y g.k g.row at) one.0 (given_of c h) (tells.count c g.k g.row) (j.held c one.0 one.1) read past in
+      let there = is_end t c g.k all.is_sound all.is_measured (bounded limits contents h may run.0) g.row (λ y at. (fallback limits contents h may run.0).apart.unfounded c y g.k g.row at) one.0 (given_of c h) (tells.count c g.k g.row) (j.held c one.0 one.1) read past in
       (one.0, append_none (shown_of c h) ∙ one.1, subst (λ (xs : List ℕ). IsEnd t one.0.r one.0.hi (one.0.lo + length xs)) (sym (append_none (given_of c h))) there)
 
   denied_not : (acts : List Act) → IsDenied acts → Says (act.Ended c) acts → ⊥

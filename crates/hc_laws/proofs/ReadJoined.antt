@@ -28,7 +28,7 @@ use Rattle.hc_model.specs.Rows.{Tables, Consumer}
 use Rattle.hc_model.specs.Runs.{IsRun, IsOwed}
 use Rattle.hc_model.specs.Sound.{Sound}
 use Rattle.hc_model.specs.Tables.{tables, after_accepted, after_denied}
-use Rattle.hc_laws.proofs.AsideKeeps.{landing_by, aside_begun, aside_denied, aside_kept}
+use Rattle.hc_laws.proofs.FallbackKeeps.{landing_by, fallback_begun, fallback_denied, fallback_kept}
 use Rattle.hc_laws.proofs.Barred.{next_tables, denied_tables}
 use Rattle.hc_model.proofs.Basics.{false_true, none_some, append_none}
 use Rattle.hc_model.proofs.GivenNext.{read_of, given_next}
@@ -43,7 +43,7 @@ use Rattle.hc_model.proofs.PollActs as acts_to
 use Rattle.hc_laws.proofs.ReadAs.{IsRead, read_kept, landed_read}
 use Rattle.hc_model.proofs.ReadFilters.{consumers_are_filtered}
 use Rattle.hc_model.proofs.ShownOnce.{no_first}
-use Rattle.hc_laws.proofs.ShownStays.{IsAside, StaysOrIdle, shown_stays}
+use Rattle.hc_laws.proofs.ShownStays.{IsFallback, StaysOrIdle, shown_stays}
 use Rattle.hc_laws.proofs.ShownStays as stands
 use Rattle.hc_laws.proofs.SoundRuns.{IsCarried, carried}
 
@@ -55,17 +55,17 @@ one_inj x y is = cc
 
 -- AN ANSWER PAST THE STORE, IN RUNS
 
-aside_by : (limits : Limits) (contents : Contents) (h : History) (e : Entry) (b : Bool) → is_denied e.acts ≡ b → IsCarried (tables contents h) → IsOwed limits (tables contents h) e → IsAside (tables contents h) → IsAside (tables contents (e ∷ h))
-aside_by limits contents h e true denied c owed a = subst IsAside (denied_tables contents h e denied) (aside_denied (tables contents h) e a)
-aside_by limits contents h e false accepted c owed a =
+fallback_by : (limits : Limits) (contents : Contents) (h : History) (e : Entry) (b : Bool) → is_denied e.acts ≡ b → IsCarried (tables contents h) → IsOwed limits (tables contents h) e → IsFallback (tables contents h) → IsFallback (tables contents (e ∷ h))
+fallback_by limits contents h e true denied c owed a = subst IsFallback (denied_tables contents h e denied) (fallback_denied (tables contents h) e a)
+fallback_by limits contents h e false accepted c owed a =
     let t = tables contents h in
-    subst IsAside (next_tables contents h e accepted)
-    (of_real limits t e (λ z. IsAside (after_accepted t z)) owed accepted (λ going real. aside_kept limits t e.now (flaw_in e.acts) c.is_sound c.is_owned e.event going real.stand a))
+    subst IsFallback (next_tables contents h e accepted)
+    (of_real limits t e (λ z. IsFallback (after_accepted t z)) owed accepted (λ going real. fallback_kept limits t e.now (flaw_in e.acts) c.is_sound c.is_owned e.event going real.stand a))
 
-pub aside : OfRuns IsAside
+pub fallback : OfRuns IsFallback
 unfolding tables
-aside limits contents [] may run = aside_begun contents
-aside limits contents (e ∷ h) may run = aside_by limits contents h e (is_denied e.acts) refl (carried limits contents h may run.0) run.1 (aside limits contents h may run.0)
+fallback limits contents [] may run = fallback_begun contents
+fallback limits contents (e ∷ h) may run = fallback_by limits contents h e (is_denied e.acts) refl (carried limits contents h may run.0) run.1 (fallback limits contents h may run.0)
 
 -- WHAT IS HELD
 
@@ -113,7 +113,7 @@ pub record IsTold (t : Tables) (shown : ℕ → List Shown) (given : ℕ → Lis
   pub ungiven : (c : ℕ) → shown c ≡ [] → given c ≡ []
   pub count : (c : ℕ) (k : Consumer) → t.consumer c ≡ Some k → k.given ≡ length (given c)
 
-module _ (limits : Limits) (t : Tables) (now : ℕ) (flaw : Flaw) (s : Sound t) (o : Owners t) (ev : Event) (goes : denial t ev ≡ None) (a : IsAside t) (shown : ℕ → List Shown) (given : ℕ → List ℕ) (told : IsTold t shown given) (joined : IsJoined t shown given) where
+module _ (limits : Limits) (t : Tables) (now : ℕ) (flaw : Flaw) (s : Sound t) (o : Owners t) (ev : Event) (goes : denial t ev ≡ None) (a : IsFallback t) (shown : ℕ → List Shown) (given : ℕ → List ℕ) (told : IsTold t shown given) (joined : IsJoined t shown given) where
   abbrev e : Entry
   e = entry_of limits t now ev flaw
 
@@ -277,7 +277,7 @@ by_denial limits contents h e false accepted may run owed j =
     let t = tables contents h in
     let k = carried limits contents h may run in
     subst (λ u. IsJoined u (λ c. shown_of c (e ∷ h)) (λ c. given_of c (e ∷ h))) (next_tables contents h e accepted)
-    (of_real limits t e (λ z. IsJoined (after_accepted t z) (λ c. shown_of c h ++ shown_in c z.acts) (λ c. given_of c h ++ given_in c z.acts)) owed accepted (λ going real. joined_on limits t e.now (flaw_in e.acts) k.is_sound k.is_owned e.event going (aside limits contents h may run) (λ c. shown_of c h) (λ c. given_of c h) (is_told limits contents h run) j))
+    (of_real limits t e (λ z. IsJoined (after_accepted t z) (λ c. shown_of c h ++ shown_in c z.acts) (λ c. given_of c h ++ given_in c z.acts)) owed accepted (λ going real. joined_on limits t e.now (flaw_in e.acts) k.is_sound k.is_owned e.event going (fallback limits contents h may run) (λ c. shown_of c h) (λ c. given_of c h) (is_told limits contents h run) j))
 
 pub joined_in_runs : (limits : Limits) (contents : Contents) (h : History) → may_begin limits contents ≡ true → IsRun limits contents h → Joined contents h
 joined_in_runs limits contents [] may run = record { read = λ c k z row was on. absurd (nil_cons z [] was); held = λ c z was. absurd (nil_cons z [] was) }

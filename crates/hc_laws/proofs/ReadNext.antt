@@ -11,7 +11,7 @@ use Rattle.hc_event.specs.declared.act.Act.TheVariants as act
 use Rattle.hc_event.specs.declared.act.Cause.TheVariants as cause
 use Rattle.hc_event.specs.declared.act.Why.{Why}
 use Rattle.hc_rules.specs.declared.room.Limits.{Limits}
-use Rattle.hc_model.specs.Answers.{accepted, said, lost, closed}
+use Rattle.hc_model.specs.Answers.{accepted_acts, answer_acts, loss_acts, close_acts}
 use Rattle.hc_model.specs.Beginnings.{may_begin}
 use Rattle.hc_model.specs.Entries.{Entry, History, Contents}
 use Rattle.hc_model.specs.Flaws.{Flaw, NoFlaw, Loses, Misreads, flaw_in}
@@ -31,7 +31,7 @@ use Rattle.hc_model.proofs.OneHead.{one_head_is_shown}
 use Rattle.hc_model.proofs.Owed.{IsDenied, is_denial, acts_are, goes}
 use Rattle.hc_model.proofs.Owed as owed_acts
 use Rattle.hc_model.proofs.ReadFilters.{consumers_are_filtered}
-use Rattle.hc_laws.proofs.ReadJoined.{next_of, joined_in_runs, is_told, aside}
+use Rattle.hc_laws.proofs.ReadJoined.{next_of, joined_in_runs, is_told, fallback}
 use Rattle.hc_model.proofs.ShownOnce.{is_giving, unshown_gives}
 use Rattle.hc_laws.proofs.SoundRuns.{carried}
 
@@ -61,7 +61,7 @@ evict_not _ r (gives c y at bytes) is = cc
 evict_not _ r (ends c) is = cc
 evict_not _ r (shows c q why status fields lo hi) is = cc
 
-lost_not : (a : Act) (flaw : Flaw) → IsTold a → Says a (lost flaw) → ⊥
+lost_not : (a : Act) (flaw : Flaw) → IsTold a → Says a (loss_acts flaw) → ⊥
 lost_not a NoFlaw told h = h
 lost_not _ (Loses r kind) (gives c y at bytes) (inl is) = cc
 lost_not _ (Loses r kind) (ends c) (inl is) = cc
@@ -82,24 +82,24 @@ evicts_not a (r ∷ rs) told (inl is) = evict_not a r told is
 evicts_not a (r ∷ rs) told (inr h) = evicts_not a rs told h
 
 module _ (limits : Limits) (t : Tables) (now : ℕ) (ev : Event) (flaw : Flaw) (a : Act) (told : IsTold a) where
-  by_answer : (acts : List Act) → IsAnswer limits t now ev flaw acts → Says a acts → Says a (said t now ev flaw)
+  by_answer : (acts : List Act) → IsAnswer limits t now ev flaw acts → Says a acts → Says a (answer_acts t now ev flaw)
   by_answer _ (parts.told none) h = absurd (elim (says_part a (map act.Evicted (evicted limits t now ev)) _ h) [
     | inl evicts ↦ evicts_not a (evicted limits t now ev) told evicts
-    | inr rest ↦ elim (says_part a (lost flaw) _ rest) [
+    | inr rest ↦ elim (says_part a (loss_acts flaw) _ rest) [
       | inl loses ↦ lost_not a flaw told loses
       | inr closes ↦ closes_not a _ told closes
     ]
   ])
-  by_answer _ (parts.asked) h = elim (says_part a (said t now ev flaw) _ h) [
+  by_answer _ (parts.asked) h = elim (says_part a (answer_acts t now ev flaw) _ h) [
     | inl its ↦ its
-    | inr rest ↦ absurd (elim (says_part a (closed t now ev flaw) _ rest) [
+    | inr rest ↦ absurd (elim (says_part a (close_acts t now ev flaw) _ rest) [
       | inl closes ↦ closes_not a _ told closes
       | inr loses ↦ lost_not a flaw told loses
     ])
   ]
 
-  pub by_said : Says a (accepted limits t now ev flaw) → Says a (said t now ev flaw)
-  by_said h = by_answer (accepted limits t now ev flaw) (answer_is limits t now ev flaw) h
+  pub by_said : Says a (accepted_acts limits t now ev flaw) → Says a (answer_acts t now ev flaw)
+  by_said h = by_answer (accepted_acts limits t now ev flaw) (answer_is limits t now ev flaw) h
 
 -- A POLL THAT GIVES
 
@@ -158,8 +158,8 @@ module _ (t : Tables) (now c x at : ℕ) (bytes : List ℕ) where
   giver_of ev flaw _ (parts.misreads d want q here is) (inl same) = absurd (let no : act.Failed d (cause.StoreRead q) ≡ it = same in cc)
   giver_of ev flaw _ (parts.misreads d want q here is) (inr h) = absurd h
 
-  pub giver : (limits : Limits) (ev : Event) (flaw : Flaw) → Says it (accepted limits t now ev flaw) → IsGiver ev
-  giver limits ev flaw h = giver_of ev flaw (said t now ev flaw) (said_is t now ev flaw) (by_said limits t now ev flaw it (gives c x at bytes) h)
+  pub giver : (limits : Limits) (ev : Event) (flaw : Flaw) → Says it (accepted_acts limits t now ev flaw) → IsGiver ev
+  giver limits ev flaw h = giver_of ev flaw (answer_acts t now ev flaw) (said_is t now ev flaw) (by_said limits t now ev flaw it (gives c x at bytes) h)
 
 -- WHAT WAS SHOWN
 
@@ -191,7 +191,7 @@ module _ (limits : Limits) (contents : Contents) (h : History) (e : Entry) (may 
       let k = carried limits contents h may run.0 in
       let on = shown_giver g g.k.shown refl in
       let one = shown_one limits contents h run.0 c g.k g.row on in
-      let next = next_of limits t e.now (flaw_in e.acts) k.is_sound k.is_owned e.event (goes limits t e run.1 accepted_it) (aside limits contents h may run.0) (λ d. shown_of d h) (λ d. given_of d h) (is_told limits contents h run.0) (joined_in_runs limits contents h may run.0) c g.want g.k (record { x = x; at = at; bytes = bytes }) one.0 g.is_poll g.row g.move_is one.1 in (
+      let next = next_of limits t e.now (flaw_in e.acts) k.is_sound k.is_owned e.event (goes limits t e run.1 accepted_it) (fallback limits contents h may run.0) (λ d. shown_of d h) (λ d. given_of d h) (is_told limits contents h run.0) (joined_in_runs limits contents h may run.0) c g.want g.k (record { x = x; at = at; bytes = bytes }) one.0 g.is_poll g.row g.move_is one.1 in (
         one.0,
         append_none (shown_of c h) ∙ one.1,
         record {

@@ -7,7 +7,7 @@ use Rattle.hc_event.specs.declared.act.Act.TheVariants as act
 use Rattle.hc_event.specs.declared.act.Cause.TheVariants as cause
 use Rattle.hc_event.specs.declared.act.Wait.TheVariants as wait
 use Rattle.hc_rules.specs.declared.room.Limits.{Limits}
-use Rattle.hc_model.specs.Answers.{accepted, said, lost, closed}
+use Rattle.hc_model.specs.Answers.{accepted_acts, answer_acts, loss_acts, close_acts}
 use Rattle.hc_model.specs.Beginnings.{may_begin}
 use Rattle.hc_model.specs.Entries.{Entry, History, Contents}
 use Rattle.hc_model.specs.Flaws.{Flaw, NoFlaw, Loses, Misreads, flaw_in}
@@ -53,7 +53,7 @@ evicts_unread : (rs : List ℕ) → AreUnread (map act.Evicted rs)
 evicts_unread [] = tt
 evicts_unread (r ∷ rs) = (tt, evicts_unread rs)
 
-lost_unread : (flaw : Flaw) → AreUnread (lost flaw)
+lost_unread : (flaw : Flaw) → AreUnread (loss_acts flaw)
 lost_unread NoFlaw = tt
 lost_unread (Loses r kind) = (tt, tt)
 lost_unread (Misreads r) = tt
@@ -117,7 +117,7 @@ module _ (limits : Limits) (contents : Contents) (h : History) (e : Entry) (may 
 
   by_answer : (acts : List Act) → IsAnswer limits t e.now e.event flaw acts → ((a : Act) → Says a acts → Says a e.acts) → ReadsActs contents h e.now [] acts
   by_answer _ (parts.told none) says = acts_unread contents h e.now [] _ (both_unread _ _ (evicts_unread (evicted limits t e.now e.event)) (both_unread _ _ (lost_unread flaw) (closes_unread _)))
-  by_answer _ (parts.asked) says = by_said (said t e.now e.event flaw) (closed t e.now e.event flaw ++ lost flaw) (both_unread _ _ (closes_unread _) (lost_unread flaw)) (said_is t e.now e.event flaw) says
+  by_answer _ (parts.asked) says = by_said (answer_acts t e.now e.event flaw) (close_acts t e.now e.event flaw ++ loss_acts flaw) (both_unread _ _ (closes_unread _) (lost_unread flaw)) (said_is t e.now e.event flaw) says
 
   denied_reads : (acts : List Act) → IsDenied acts → ReadsActs contents h e.now [] acts
   denied_reads _ (owed_acts.denied refusal) = (tt, tt)
@@ -126,7 +126,7 @@ module _ (limits : Limits) (contents : Contents) (h : History) (e : Entry) (may 
   by_denial true denied = denied_reads e.acts (is_denial e.acts denied)
   by_denial false taken =
       let acts = acts_are limits t e run.1 taken in
-      subst (ReadsActs contents h e.now []) (sym acts) (by_answer (accepted limits t e.now e.event flaw) (answer_is limits t e.now e.event flaw) (λ a says. subst (Says a) (sym acts) says))
+      subst (ReadsActs contents h e.now []) (sym acts) (by_answer (accepted_acts limits t e.now e.event flaw) (answer_is limits t e.now e.event flaw) (λ a says. subst (Says a) (sym acts) says))
 
   entry_reads : ReadsActs contents h e.now [] e.acts
   entry_reads = by_denial (is_denied e.acts) refl

@@ -42,7 +42,7 @@ use Rattle.hc_model.proofs.OwnFrom.{OwnFrom, IsRow, IsLeft, own_from, after_by}
 use Rattle.hc_model.proofs.OwnFrom as own
 use Rattle.hc_model.proofs.OwnersKeep.{is_opened, new_number}
 use Rattle.hc_model.proofs.PieceKeeps.{eq_cases, some_inj}
-use Rattle.hc_model.proofs.Pens.{same_row}
+use Rattle.hc_model.proofs.ExclusiveWriters.{same_row}
 use Rattle.hc_model.proofs.Said.{WaitsAs, waiting_by}
 use Rattle.hc_model.proofs.SaidActs.{leaves_leaver}
 use Rattle.hc_model.proofs.WaitedAs.{IsForOthers, waited_as}

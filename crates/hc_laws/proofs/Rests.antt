@@ -17,7 +17,7 @@ use Rattle.hc_rules.specs.declared.heads.HeadCase.TheVariants as case
 use Rattle.hc_rules.specs.declared.length.Length.TheVariants as lengths
 use Rattle.hc_rules.specs.declared.need.Route.TheVariants as route
 use Rattle.hc_rules.specs.declared.room.Limits.{Limits}
-use Rattle.hc_rules.specs.Lengths.{length_of, promise_of, is_bad, is_head, part_length, agrees, length_told}
+use Rattle.hc_rules.specs.Lengths.{length_of, promise_of, is_bad, is_head, part_length, agrees, content_length_of}
 use Rattle.hc_rules.specs.Needs.{route_of}
 use Rattle.hc_rules.specs.RangeTexts.{content_range_of}
 use Rattle.hc_rules.specs.Requests.{is_disabled, is_get}
@@ -40,7 +40,7 @@ use Rattle.hc_model.specs.Measures.{Measures}
 use Rattle.hc_model.specs.Owners.{Owners}
 use Rattle.hc_model.specs.Reading.{is_written, own_open, reads}
 use Rattle.hc_model.specs.Rows.{Tables, Exchange, Representation, Consumer}
-use Rattle.hc_model.specs.Sound.{Sound, IsBound, IsFirst, HasPen, IsHad}
+use Rattle.hc_model.specs.Sound.{Sound, IsBound, IsFirst, IsExclusiveWriter, IsHad}
 use Rattle.hc_model.specs.Sound as sound
 use Rattle.hc_model.specs.Tables.{after_accepted}
 use Rattle.hc_model.specs.Writers.{came_alone, status_in}
@@ -61,7 +61,7 @@ use Rattle.hc_laws.proofs.LossBy.{IsReal}
 use Rattle.hc_model.proofs.Losses.{HasRest}
 use Rattle.hc_model.proofs.OwnNone.{IsShared, own_none, after_none}
 use Rattle.hc_model.proofs.PartTold.{part_order}
-use Rattle.hc_model.proofs.Pens.{same_row, writer_some}
+use Rattle.hc_model.proofs.ExclusiveWriters.{same_row, writer_some}
 use Rattle.hc_model.proofs.PieceKeeps.{eq_cases, some_inj}
 use Rattle.hc_model.proofs.RepFrom.{RepFrom, rep_from, IsKept, IsResumed}
 use Rattle.hc_model.proofs.RepFrom as rep
@@ -87,7 +87,7 @@ promises_some n request response first last total way plain status part good non
     let a : nat_eq response.status 204 ≡ false = (let st : response.status ≡ 206 = status in grind (arith, nat_tests)) in
     let b : nat_eq response.status 304 ≡ false = (let st : response.status ≡ 206 = status in grind (arith, nat_tests)) in
     let d : nat_eq response.status 206 ≡ true = (let st : response.status ≡ 206 = status in grind (arith, nat_tests)) in
-    let said = length_told (elements_in (codes "content-length") response.fields) in
+    let said = content_length_of (elements_in (codes "content-length") response.fields) in
     let g : is_bad (part_length said (Some (range.Part first last (Some total)))) ≡ false = rw (plain, a, b, way, d, part) at good in
     let p : promise_of (part_length said (Some (range.Part first last (Some total)))) ≡ Some 0 = rw (plain, a, b, way, d, part) at none in
     by_test (agrees said (last + 1 - first)) g p
@@ -135,9 +135,9 @@ module _ (limits : Limits) (t : Tables) (now : ℕ) (flaw : Flaw) (s : Sound t) 
     about_not : (x : ℕ) → sound.IsAbout now_on r x → ⊥
     about_not x about = by_had (had_kept limits t now flaw s o m ev goes real r x p after about)
       where
-        by_pen : (d : ℕ) → HasPen now_on r p d → IsFirst now_on r d
-        by_pen d (sound.first fresh is) = is
-        by_pen d (sound.alone lost is) = absurd (false_true (sym fresh_now ∙ lost))
+        by_exclusive_writer : (d : ℕ) → IsExclusiveWriter now_on r p d → IsFirst now_on r d
+        by_exclusive_writer d (sound.first fresh is) = is
+        by_exclusive_writer d (sound.alone lost is) = absurd (false_true (sym fresh_now ∙ lost))
 
         by_row : (d : ℕ) (q : Consumer) → IsBound now_on r d q → d ≡ c → own_open now_on q ≡ Some x → ⊥
         by_row d q (sound.is_bound a b g q_row at) same owned =
@@ -146,7 +146,7 @@ module _ (limits : Limits) (t : Tables) (now : ℕ) (flaw : Flaw) (s : Sound t) 
 
         by_had : IsHad now_on r p x → ⊥
         by_had (sound.shared on writer) = false_true (sym unwritten ∙ on)
-        by_had (sound.own d q reader owned none_due pen) = by_row d q reader (one_first_kept limits t now flaw s ev goes r d c (by_pen d pen) first_now) owned
+        by_had (sound.own d q reader owned none_due exclusive_writer) = by_row d q reader (one_first_kept limits t now flaw s ev goes r d c (by_exclusive_writer d exclusive_writer) first_now) owned
 
     -- IT WAS BOUND
 

@@ -11,14 +11,14 @@ use Rattle.hc_model.specs.Keys.{entry_of}
 use Rattle.hc_model.specs.Laws.{OfRunsIn}
 use Rattle.hc_model.specs.Rows.{Tables}
 use Rattle.hc_model.specs.Runs.{IsOwed}
-use Rattle.hc_model.specs.Tables.{tables, begun, after, after_accepted, after_denied}
+use Rattle.hc_model.specs.Tables.{tables, first_tables, after, after_accepted, after_denied}
 use Rattle.hc_laws.proofs.LossBy.{IsReal}
 use Rattle.hc_laws.proofs.OfEntries.{of_real}
 use Rattle.hc_laws.proofs.SoundRuns.{IsCarried, carried}
 
 module _ (P : Limits → Tables → Type 0) where
   abbrev pub Begins : Type 0
-  Begins = (limits : Limits) (contents : Contents) → may_begin limits contents ≡ true → P limits (begun contents)
+  Begins = (limits : Limits) (contents : Contents) → may_begin limits contents ≡ true → P limits (first_tables contents)
 
   -- a denied entry leaves it
   abbrev pub Denies : Type 0

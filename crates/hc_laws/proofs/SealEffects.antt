@@ -11,20 +11,20 @@ use Rattle.hc_rules.specs.declared.room.Limits.{Limits}
 use Rattle.hc_event.specs.declared.place.Place.{Place}
 use Rattle.hc_event.specs.declared.place.Place.TheVariants as place
 use Rattle.hc_model.specs.ActFilters.{loses_in}
-use Rattle.hc_model.specs.Answers.{said}
+use Rattle.hc_model.specs.Answers.{answer_acts}
 use Rattle.hc_model.specs.Currents.{is_number}
-use Rattle.hc_model.specs.Effects.{Does, counted, with_consumer, with_representation, let_go, gone, finished, left_by, is_unkeepable, going_with, with_leave, lost_to}
+use Rattle.hc_model.specs.Effects.{Does, with_event, with_consumer, with_representation, let_go, as_gone, as_over, left_by, is_unkeepable, going_with, with_leave, lost_to}
 use Rattle.hc_model.specs.Entries.{Entry}
 use Rattle.hc_model.specs.Exchanges.{family}
 use Rattle.hc_model.specs.Flaws.{Flaw, Loses}
 use Rattle.hc_model.specs.Gone.{becomes_gone}
 use Rattle.hc_model.specs.Lawful.{Lawful}
 use Rattle.hc_model.specs.Moves.{Ends, Fails, acts_of}
-use Rattle.hc_model.specs.Polls.{move_of, polled}
+use Rattle.hc_model.specs.Polls.{move_of, poll_move}
 use Rattle.hc_model.specs.RepresentationRows.{representation_after, representation_acted}
 use Rattle.hc_model.specs.Rows.{Tables, Exchange, Representation, Consumer}
 use Rattle.hc_model.specs.StartingOver.{loses_what_it_waits_for}
-use Rattle.hc_model.specs.Tables.{after_accepted, added}
+use Rattle.hc_model.specs.Tables.{after_accepted, with_item_first}
 use Rattle.hc_model.specs.Writers.{exclusive}
 use Rattle.hc_model.proofs.ActParts.{IsFarFrom}
 use Rattle.hc_model.proofs.Basics.{none_some, number_is}
@@ -42,7 +42,7 @@ use Rattle.hc_model.proofs.Tests.{eqb-same}
 use Rattle.hc_model.proofs.Untouched.{representation_frame, representation_absent}
 
 module _ (limits : Limits) (t : Tables) (law : Lawful t) (now c : ℕ) (k : Consumer) (row : t.consumer c ≡ Some k) (x : ℕ) (w : Exchange) (r : ℕ) (v : Representation) (kind : LostKind) (left : left_by t c k ≡ Some x) (is_row : t.exchange x ≡ Some w) (of_family : family x w ≡ r) (there : t.representation r ≡ Some v) (kept : v.is_lost ≡ false) where
-  module _ (ev : Event) (front : List Act) (is : IsFront c ev None front) (says : said t now ev (Loses r kind) ≡ front) where
+  module _ (ev : Event) (front : List Act) (is : IsFront c ev None front) (says : answer_acts t now ev (Loses r kind) ≡ front) where
     abbrev flaw : Flaw
     flaw = Loses r kind
 
@@ -98,7 +98,7 @@ module _ (limits : Limits) (t : Tables) (law : Lawful t) (now c : ℕ) (k : Cons
         ∙ unwaiting k.place refl)
 
     -- it alone is lost, and who writes it alone goes on with it
-    lost_row : representation_after t it r (Some v) ≡ Some (gone (lost_to (exclusive t r v) v))
+    lost_row : representation_after t it r (Some v) ≡ Some (as_gone (lost_to (exclusive t r v) v))
     unfolding representation_after
     lost_row =
         let loses : loses_in r it.acts ≡ true = loses_as limits t law now c k row ev flaw None front is r ∙ rw (eqb-same r) refl in
@@ -106,9 +106,9 @@ module _ (limits : Limits) (t : Tables) (law : Lawful t) (now c : ℕ) (k : Cons
         ap (λ (u : Representation). Some (representation_acted t it r v u)) (n.representation r v)
         ∙ rw (goes_so, loses, n.bodiless, kept) refl
 
-    rows : (q : ℕ) → representation_after t it q (t.representation q) ≡ (if is_in (r ∷ []) q then option_map gone (if r == q then Some (lost_to (exclusive t r v) v) else t.representation q) else (if r == q then Some (lost_to (exclusive t r v) v) else t.representation q))
+    rows : (q : ℕ) → representation_after t it q (t.representation q) ≡ (if is_in (r ∷ []) q then option_map as_gone (if r == q then Some (lost_to (exclusive t r v) v) else t.representation q) else (if r == q then Some (lost_to (exclusive t r v) v) else t.representation q))
     rows q = elim (eq_cases r q) [
-      | inl here ↦ rw here.0 (subst (λ m. representation_after t it m (t.representation m) ≡ Some (gone (lost_to (exclusive t r v) v))) here.1 (ap (representation_after t it r) there ∙ lost_row))
+      | inl here ↦ rw here.0 (subst (λ m. representation_after t it m (t.representation m) ≡ Some (as_gone (lost_to (exclusive t r v) v))) here.1 (ap (representation_after t it r) there ∙ lost_row))
       | inr other ↦ rw other.0 (by_row (t.representation q) refl other.0)
     ]
       where
@@ -119,23 +119,23 @@ module _ (limits : Limits) (t : Tables) (law : Lawful t) (now c : ℕ) (k : Cons
             representation_frame t it q u (n.representation q u) (loses_as limits t law now c k row ev flaw None front is q ∙ rw apart refl)
             ∙ rw goes_not refl
 
-    pub seal_does : Does limits t now ev flaw (front ++ (map act.Close (x ∷ []) ++ (act.Lost r kind ∷ []))) (counted now ev (let_go now r (with_representation r (Some (lost_to (exclusive t r v) v)) (with_leave c k t))))
+    pub seal_does : Does limits t now ev flaw (front ++ (map act.Close (x ∷ []) ++ (act.Lost r kind ∷ []))) (with_event now ev (let_go now r (with_representation r (Some (lost_to (exclusive t r v) v)) (with_leave c k t))))
     seal_does = record {
-      acts_are = acts_left limits t law now c k row ev flaw None front is says ∙ ap (λ (z : Option ℕ). front ++ (map act.Close (added z []) ++ (act.Lost r kind ∷ []))) left;
+      acts_are = acts_left limits t law now c k row ev flaw None front is says ∙ ap (λ (z : Option ℕ). front ++ (map act.Close (with_item_first z []) ++ (act.Lost r kind ∷ []))) left;
       tables_are =
           ap (λ acts. after_accepted t (record { now = now; event = ev; acts = acts })) (acts_left limits t law now c k row ev flaw None front is says)
           ∙ (leaves limits t law now c k row ev flaw None front is (r ∷ []) (λ q. if r == q then Some (lost_to (exclusive t r v) v) else t.representation q) goes rows stays
-          ∙ ap (λ (u : Tables). counted now ev (let_go now r (with_representation r (Some (lost_to (exclusive t r v) v)) (with_consumer c (Some (finished k)) u)))) (sym (all_closed_is (added (left_by t c k) []) t)));
+          ∙ ap (λ (u : Tables). with_event now ev (let_go now r (with_representation r (Some (lost_to (exclusive t r v) v)) (with_consumer c (Some (as_over k)) u)))) (sym (all_closed_is (with_item_first (left_by t c k) []) t)));
     }
 
   pub seal_ends : (want : ℕ) → move_of t now want c k ≡ Ends → Does limits t now (event.Poll c want) (Loses r kind) (acts_of c Ends ++ (map act.Close (x ∷ []) ++ (act.Lost r kind ∷ [])))
-      (counted now (event.Poll c want) (let_go now r (with_representation r (Some (lost_to (exclusive t r v) v)) (with_leave c k t))))
-  seal_ends want is = seal_does (event.Poll c want) (acts_of c Ends) (front_of.ends want) (ap (λ (o : Option Consumer). acts_of c (polled t now want c o)) row ∙ ap (acts_of c) is)
+      (with_event now (event.Poll c want) (let_go now r (with_representation r (Some (lost_to (exclusive t r v) v)) (with_leave c k t))))
+  seal_ends want is = seal_does (event.Poll c want) (acts_of c Ends) (front_of.ends want) (ap (λ (o : Option Consumer). acts_of c (poll_move t now want c o)) row ∙ ap (acts_of c) is)
 
   pub seal_fails : (want : ℕ) (why : Cause) → move_of t now want c k ≡ Fails why → Does limits t now (event.Poll c want) (Loses r kind) (acts_of c (Fails why) ++ (map act.Close (x ∷ []) ++ (act.Lost r kind ∷ [])))
-      (counted now (event.Poll c want) (let_go now r (with_representation r (Some (lost_to (exclusive t r v) v)) (with_leave c k t))))
-  seal_fails want why is = seal_does (event.Poll c want) (acts_of c (Fails why)) (front_of.fails want why (fails_told t now want c k why law.sound law.places row is)) (ap (λ (o : Option Consumer). acts_of c (polled t now want c o)) row ∙ ap (acts_of c) is)
+      (with_event now (event.Poll c want) (let_go now r (with_representation r (Some (lost_to (exclusive t r v) v)) (with_leave c k t))))
+  seal_fails want why is = seal_does (event.Poll c want) (acts_of c (Fails why)) (front_of.fails want why (fails_told t now want c k why law.sound law.places row is)) (ap (λ (o : Option Consumer). acts_of c (poll_move t now want c o)) row ∙ ap (acts_of c) is)
 
   pub seal_cancels : Does limits t now (event.Cancel c) (Loses r kind) (act.Close x ∷ act.Lost r kind ∷ [])
-      (counted now (event.Cancel c) (let_go now r (with_representation r (Some (lost_to (exclusive t r v) v)) (with_leave c k t))))
+      (with_event now (event.Cancel c) (let_go now r (with_representation r (Some (lost_to (exclusive t r v) v)) (with_leave c k t))))
   seal_cancels = seal_does (event.Cancel c) [] front_of.cancels refl

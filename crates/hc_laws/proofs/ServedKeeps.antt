@@ -3,7 +3,7 @@ use Rattle.std.proofs.Common.{◌≡◌, ◌⊎◌, inl, inr, ℕ, ◌+◌, ◌�
 use Rattle.std.specs.Prelude.{if◌then◌else◌, is_some, is_none, ◌==◌, ◌&&◌, ◌||◌, not, nat_eq, unwrap_or}
 use Rattle.std.specs.Option.{option_or}
 use Rattle.std.proofs.lemmas.Bool.Decides.{nat_tests}
-use Rattle.hc_sparse.specs.Cells.{Cells, Covers, written}
+use Rattle.hc_sparse.specs.Cells.{Cells, Covers, cells_with}
 use Rattle.hc_sparse.proofs.CellLemmas.{inside-cases}
 use Rattle.hc_range.specs.declared.range.Span.{Span}
 use Rattle.hc_event.specs.Filters.{Opening, opening_in, leaves_in, closes_in, given_in}
@@ -33,9 +33,9 @@ use Rattle.hc_model.specs.Keys.{entry_of}
 use Rattle.hc_model.specs.Measures.{Measures}
 use Rattle.hc_model.specs.Owners.{Owners}
 use Rattle.hc_model.specs.Reading.{is_written, bound, hi_of, offset, reads}
-use Rattle.hc_model.specs.RepresentationRows.{represented, writer_at}
+use Rattle.hc_model.specs.RepresentationRows.{new_representation, writer_at}
 use Rattle.hc_model.specs.Rows.{Tables, Exchange, Representation, Consumer}
-use Rattle.hc_model.specs.Sound.{Sound, IsBound, IsServed, HasPen, IsFirst, IsGrowing}
+use Rattle.hc_model.specs.Sound.{Sound, IsBound, IsServed, IsExclusiveWriter, IsFirst, IsGrowing}
 use Rattle.hc_model.specs.Sound as sound
 use Rattle.hc_model.specs.Tables.{after_accepted}
 use Rattle.hc_model.specs.Writers.{brings_body, came_alone, loses_writing, survivor, goes_on_with, status_in}
@@ -62,7 +62,7 @@ use Rattle.hc_model.proofs.LossServes.{survives}
 use Rattle.hc_model.proofs.Losses.{HasRest, goes_on_or_rests}
 use Rattle.hc_model.proofs.OwnersKeep.{is_opened}
 use Rattle.hc_model.proofs.PieceKeeps.{some_inj}
-use Rattle.hc_model.proofs.Pens.{same_row, writer_some, none_about}
+use Rattle.hc_model.proofs.ExclusiveWriters.{same_row, writer_some, none_about}
 use Rattle.hc_model.proofs.PollKeeps.{current_stays}
 use Rattle.hc_model.proofs.RepFrom.{RepFrom, rep_from, IsKept, IsResumed}
 use Rattle.hc_model.proofs.RepFrom as rep
@@ -80,7 +80,7 @@ or_false : (a b : Bool) → a ≡ false → b ≡ false → (a || b) ≡ false
 or_false a b p q = rw (p, q) refl
 
 -- what was written over stays there
-pub written_covers : (at x lo hi : ℕ) (bytes : List ℕ) (f : Cells) → Covers f lo hi → Covers (written at x bytes f) lo hi
+pub written_covers : (at x lo hi : ℕ) (bytes : List ℕ) (f : Cells) → Covers f lo hi → Covers (cells_with at x bytes f) lo hi
 written_covers at x lo hi bytes f all p from_lo lt = elim (inside-cases at (length bytes) p) [
   | inl here ↦ rw here.0 refl
   | inr off ↦ rw off.0 (all p from_lo lt)
@@ -119,7 +119,7 @@ module _ (limits : Limits) (t : Tables) (now : ℕ) (flaw : Flaw) (s : Sound t) 
   pub stored_covers : (r lo hi : ℕ) (v p : Representation) → IsKept t e r v p → Covers v.stored lo hi → Covers p.stored lo hi
   stored_covers r lo hi v p kept all = by_fills (fills t e r v p kept)
     where
-      by_kept : (a : Bool) (at x : ℕ) (bytes : List ℕ) → Covers (if a then written at x bytes v.stored else v.stored) lo hi
+      by_kept : (a : Bool) (at x : ℕ) (bytes : List ℕ) → Covers (if a then cells_with at x bytes v.stored else v.stored) lo hi
       by_kept true at x bytes = written_covers at x lo hi bytes v.stored all
       by_kept false at x bytes = all
 
@@ -289,22 +289,22 @@ module _ (limits : Limits) (t : Tables) (now : ℕ) (flaw : Flaw) (s : Sound t) 
           let same = from.place_inj r a d g r lo hi how (sym q_at ∙ (ap (λ (z : Consumer). z.place) one ∙ at)) in
           subst (λ z. came_alone t z ≡ true) (sym q_at ∙ (ap (λ (z : Consumer). z.place) one ∙ at)) alone
 
-      by_pen : HasPen t r v c → Served
-      by_pen (sound.first new is) = elim (bool_cases (loses_in r e.acts)) [
+      by_exclusive_writer : IsExclusiveWriter t r v c → Served
+      by_exclusive_writer (sound.first new is) = elim (bool_cases (loses_in r e.acts)) [
         | inr quiet ↦ first_now ((kept_alone r v p kept quiet).0 ∙ new) (came_kept limits t now flaw s ev goes r lo hi how (ap is_some there) ∙ first_same is)
         | inl loses ↦ elim (bool_cases (is_written t v)) [
           | inl on ↦ by_shared on v.writer refl
           | inr off ↦ alone_or_rest off loses
         ]
       ]
-      by_pen (sound.alone lost is) = elim (bool_cases (loses_in r e.acts)) [
+      by_exclusive_writer (sound.alone lost is) = elim (bool_cases (loses_in r e.acts)) [
         | inl loses ↦ absurd (false_true (sym (fresh limits t now flaw s o m ev goes real r v there loses) ∙ lost))
         | inr quiet ↦ let all = kept_alone r v p kept quiet in alone_now (all.0 ∙ lost) (all.1 ∙ is)
       ]
 
       by_served : IsServed t r v c k → Served
       by_served (sound.shares on) = by_shared on v.writer refl
-      by_served (sound.writes pen) = by_pen pen
+      by_served (sound.writes exclusive_writer) = by_exclusive_writer exclusive_writer
       by_served (sound.reads n end covered) = still_reads n end covered
 
       was_bound : Served
@@ -521,7 +521,7 @@ module _ (limits : Limits) (t : Tables) (now : ℕ) (flaw : Flaw) (s : Sound t) 
               let still : is_open (now_on.exchange x) ≡ true = ap is_open (after_is t e x w (t.exchange x) exchange_row) ∙ and_both _ _ (ap not (unshut (closes_in x e.acts) refl)) heard in
               absurd (false_true (sym off ∙ still))
 
-      whole : (z : Exchange) (answer : Response) → x ≡ r → represented r e answer z ≡ p → response ≡ answer → response.status ≡ 200 → is_refused (case_at t e) ≡ false → doomed_by_case (case_at t e) w response ≡ None → hi ≡ promise_in w response → Served
+      whole : (z : Exchange) (answer : Response) → x ≡ r → new_representation r e answer z ≡ p → response ≡ answer → response.status ≡ 200 → is_refused (case_at t e) ≡ false → doomed_by_case (case_at t e) w response ≡ None → hi ≡ promise_in w response → Served
       whole z answer of_r made same status unrefused undoomed to = elim (bool_cases (is_open (now_on.exchange x))) [
         | inl on ↦
             let other : nat_eq answer.status 206 ≡ false = (let st : answer.status ≡ 200 = ap (λ (a : Response). a.status) (sym same) ∙ status in grind (arith, nat_tests)) in
@@ -532,7 +532,7 @@ module _ (limits : Limits) (t : Tables) (now : ℕ) (flaw : Flaw) (s : Sound t) 
             reads_to 0 0 (end_is p.head.total refl ∙ ap (λ a. option_or a p.head.total) none) (λ d from_lo lt. absurd (omega arith)) (omega arith)
       ]
 
-      part : (z : Exchange) (answer : Response) → represented r e answer z ≡ p → response ≡ answer → response.status ≡ 206 → how ≡ by.Founding → Served
+      part : (z : Exchange) (answer : Response) → new_representation r e answer z ≡ p → response ≡ answer → response.status ≡ 206 → how ≡ by.Founding → Served
       part z answer made same status by_is =
           let is_206 : p.head.status ≡ 206 = sym (ap (λ (a : Representation). a.head.status) made) ∙ (ap (λ (a : Response). a.status) (sym same) ∙ status) in
           let test : nat_eq p.head.status 206 ≡ true = grind (arith, nat_tests) in
@@ -542,7 +542,7 @@ module _ (limits : Limits) (t : Tables) (now : ℕ) (flaw : Flaw) (s : Sound t) 
     head_inj : (a d : ℕ) (f g : Response) → event.Head a f ≡ event.Head d g → f ≡ g
     head_inj a d f g is = cc
 
-    founded_by : (k : Consumer) (x : ℕ) (response : Response) (w : Exchange) (g : Option HeadCase) → ev ≡ event.Head x response → t.exchange x ≡ Some w → x ≡ r → how ≡ by.Founding → case_at t e ≡ g → IsFounded t e c r lo hi how x response w k g → (z : Exchange) (answer : Response) → represented r e answer z ≡ p → response ≡ answer → Served
+    founded_by : (k : Consumer) (x : ℕ) (response : Response) (w : Exchange) (g : Option HeadCase) → ev ≡ event.Head x response → t.exchange x ≡ Some w → x ≡ r → how ≡ by.Founding → case_at t e ≡ g → IsFounded t e c r lo hi how x response w k g → (z : Exchange) (answer : Response) → new_representation r e answer z ≡ p → response ≡ answer → Served
     founded_by k x response w _ here exchange_row of_r by_is is (from.whole from_is to) z answer made same =
         whole x response w here exchange_row z answer of_r made same (whole_200 t (has_loss e.acts) w response (case_of_head t e x response w case.FoundsWhole here exchange_row is)) (ap is_refused is) (ap (λ q. doomed_by_case q w response) is) to
     founded_by k x response w _ here exchange_row of_r by_is is (from.replaced from_is to) z answer made same =

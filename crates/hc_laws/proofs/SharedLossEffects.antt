@@ -15,12 +15,12 @@ use Rattle.hc_event.specs.declared.place.Place.{Place}
 use Rattle.hc_event.specs.declared.place.Place.TheVariants as place
 use Rattle.hc_event.specs.declared.place.BoundBy.{BoundBy}
 use Rattle.hc_model.specs.ActFilters.{loses_in}
-use Rattle.hc_model.specs.Answers.{lost}
+use Rattle.hc_model.specs.Answers.{loss_acts}
 use Rattle.hc_model.specs.Closings.{closing, closes_row, has_no_survivor}
 use Rattle.hc_model.specs.ConsumerRows.{own_after, left_to}
 use Rattle.hc_model.specs.Currents.{is_number}
 use Rattle.hc_model.specs.Denials.{denial, as_open}
-use Rattle.hc_model.specs.Effects.{Does, counted, with_exchange, with_representation, left_with, if_bound, writing_lost, let_go, let_all_go, over, all_closed, lost_to, unless_reached}
+use Rattle.hc_model.specs.Effects.{Does, with_event, with_exchange, with_representation, left_with, if_bound, writing_lost, let_go, let_all_go, over, all_closed, lost_to, unless_reached}
 use Rattle.hc_model.specs.Entries.{Entry}
 use Rattle.hc_model.specs.ExchangeRows.{with_piece}
 use Rattle.hc_model.specs.Exchanges.{family, front}
@@ -30,10 +30,10 @@ use Rattle.hc_model.specs.Frames.{beside}
 use Rattle.hc_model.specs.Gone.{becomes_gone}
 use Rattle.hc_model.specs.Lawful.{Lawful}
 use Rattle.hc_model.specs.Reading.{is_bound_place, is_written, reads}
-use Rattle.hc_model.specs.RepresentationRows.{filled}
+use Rattle.hc_model.specs.RepresentationRows.{with_stored_bytes}
 use Rattle.hc_model.specs.Rows.{Tables, Exchange, Representation, Consumer}
 use Rattle.hc_model.specs.Sound as sound
-use Rattle.hc_model.specs.Tables.{added}
+use Rattle.hc_model.specs.Tables.{with_item_first}
 use Rattle.hc_model.specs.Weights.{evicted}
 use Rattle.hc_model.specs.Writers.{survivor, loses_writing}
 use Rattle.hc_model.proofs.ApartKeeps.{is_on}
@@ -44,7 +44,7 @@ use Rattle.hc_model.proofs.FewClosings.{ClosesLittle, closes_nothing}
 use Rattle.hc_model.proofs.Frames.{undoomed}
 use Rattle.hc_laws.proofs.OfConsumers.{one_of, descends_once}
 use Rattle.hc_model.proofs.Once.{IsTaken, taken}
-use Rattle.hc_model.proofs.Pens.{same_row, writer_some}
+use Rattle.hc_model.proofs.ExclusiveWriters.{same_row, writer_some}
 use Rattle.hc_laws.proofs.PieceEffects.{it, leaver_none, piece_goes, piece_brings, rows_by, lost_row}
 use Rattle.hc_model.proofs.PieceKeeps.{eq_cases, some_inj}
 use Rattle.hc_model.proofs.SameTables.{is_in, back_from_any, all_closed_is}
@@ -68,8 +68,8 @@ module _ (limits : Limits) (t : Tables) (law : Lawful t) (now x : ℕ) (bytes : 
   why = Some (cause.StoreWrite r)
 
   -- who goes on
-  abbrev pub heir : Option ℕ
-  heir = survivor t r v
+  abbrev pub detached_reader : Option ℕ
+  detached_reader = survivor t r v
 
   -- THE WRITING
 
@@ -97,7 +97,7 @@ module _ (limits : Limits) (t : Tables) (law : Lawful t) (now x : ℕ) (bytes : 
   made_by o c z = option_map (if_bound r (left_with r o (Some x) c)) z
 
   abbrev after_by : Option ℕ → Tables → Tables
-  after_by o u = with_representation r (Some (lost_to o (filled false (front w) x bytes v))) (writing_lost r o (Some x) u)
+  after_by o u = with_representation r (Some (lost_to o (with_stored_bytes false (front w) x bytes v))) (writing_lost r o (Some x) u)
 
   module _ (xs : List ℕ) where
     -- nothing else becomes due than by the loss
@@ -105,11 +105,11 @@ module _ (limits : Limits) (t : Tables) (law : Lawful t) (now x : ℕ) (bytes : 
     unfolding becomes_due
     due_by c k = rw (stop_none t (e xs) k refl) (or_nothing (cause_of_loss t (e xs) c k.place))
 
-    abbrev is_heir : ℕ → Bool
-    is_heir c = is_number heir c
+    abbrev is_detached_reader : ℕ → Bool
+    is_detached_reader c = is_number detached_reader c
 
     abbrev made : ℕ → Option Consumer → Option Consumer
-    made c z = made_by heir c z
+    made c z = made_by detached_reader c z
 
     loses_other : (q : ℕ) (u : Representation) → nat_eq r q ≡ false → loses_writing t (e xs) q u ≡ false
     loses_other q u apart = rw apart (by_list xs)
@@ -131,21 +131,21 @@ module _ (limits : Limits) (t : Tables) (law : Lawful t) (now x : ℕ) (bytes : 
     bound_by : (c lo : ℕ) (hi : Option ℕ) (how : BoundBy) (k : Consumer) → k.place ≡ place.Bound r lo hi how → option_map (beside t (e xs) c) (Some k) ≡ made c (Some k)
     bound_by c lo hi how k at =
         ap Some (parts (own_after t (e xs) c k.place k.own) (becomes_due t (e xs) c k) (reads k.place) (ap (λ p. own_after t (e xs) c p k.own) at ∙ own_is) (due_by c k ∙ (ap (cause_of_loss t (e xs) c) at ∙ cause_is)) (ap reads at))
-        ∙ (by_test (is_heir c) ∙ ap (λ a. Some (if a then left_with r heir (Some x) c k else k)) (sym here))
+        ∙ (by_test (is_detached_reader c) ∙ ap (λ a. Some (if a then left_with r detached_reader (Some x) c k else k)) (sym here))
       where
         here : is_bound_place r k.place ≡ true
         here = ap (is_bound_place r) at ∙ eqb-same r
 
-        own_is : left_to t (e xs) c r (t.representation r) k.own ≡ (if is_heir c then Some x else k.own)
+        own_is : left_to t (e xs) c r (t.representation r) k.own ≡ (if is_detached_reader c then Some x else k.own)
         own_is =
             ap (λ z. left_to t (e xs) c r z k.own) there
-            ∙ (ap (λ a. if a && is_heir c then v.writer else k.own) (loses_it (map act.Close xs)) ∙ ap (λ o. if is_heir c then o else k.own) writer_is)
+            ∙ (ap (λ a. if a && is_detached_reader c then v.writer else k.own) (loses_it (map act.Close xs)) ∙ ap (λ o. if is_detached_reader c then o else k.own) writer_is)
 
-        cause_is : cause_by_loss t (e xs) c r (t.representation r) ≡ (if not (is_heir c) then why else None)
-        cause_is = ap (cause_by_loss t (e xs) c r) there ∙ ap (λ a. if a && not (is_heir c) then why else None) (loses_it (map act.Close xs))
+        cause_is : cause_by_loss t (e xs) c r (t.representation r) ≡ (if not (is_detached_reader c) then why else None)
+        cause_is = ap (cause_by_loss t (e xs) c r) there ∙ ap (λ a. if a && not (is_detached_reader c) then why else None) (loses_it (map act.Close xs))
 
-        parts : (own : Option ℕ) (due : Option Cause) (reading : Bool) → own ≡ (if is_heir c then Some x else k.own) → due ≡ (if not (is_heir c) then why else None) → reading ≡ true
-            → record k { own = own; due = if reading then option_or k.due due else None } ≡ record k { own = if is_heir c then Some x else k.own; due = option_or k.due (if not (is_heir c) then why else None) }
+        parts : (own : Option ℕ) (due : Option Cause) (reading : Bool) → own ≡ (if is_detached_reader c then Some x else k.own) → due ≡ (if not (is_detached_reader c) then why else None) → reading ≡ true
+            → record k { own = own; due = if reading then option_or k.due due else None } ≡ record k { own = if is_detached_reader c then Some x else k.own; due = option_or k.due (if not (is_detached_reader c) then why else None) }
         parts own due reading p q h = rw (p, q, h) refl
 
         by_test : (b : Bool) → Some (record k { own = if b then Some x else k.own; due = option_or k.due (if not b then why else None) }) ≡ Some (if b then record k { own = Some x } else record k { due = option_or k.due why })
@@ -173,7 +173,7 @@ module _ (limits : Limits) (t : Tables) (law : Lawful t) (now x : ℕ) (bytes : 
 
     -- THE TABLES
 
-    module _ (closes : closing t (record { now = now; event = ev; acts = lost flaw }) ≡ xs) (only : (q : ℕ) → is_in xs q ≡ true → x ≡ q) where
+    module _ (closes : closing t (record { now = now; event = ev; acts = loss_acts flaw }) ≡ xs) (only : (q : ℕ) → is_in xs q ≡ true → x ≡ q) where
       abbrev es : List ℕ
       es = evicted limits t now ev
 
@@ -183,34 +183,34 @@ module _ (limits : Limits) (t : Tables) (law : Lawful t) (now x : ℕ) (bytes : 
           unjoined : w.joined ≡ None → family x w ≡ x
           unjoined none = rw none refl
 
-          closed_it : is_in xs q ≡ true → loses_in q (lost flaw) ≡ true
+          closed_it : is_in xs q ≡ true → loses_in q (loss_acts flaw) ≡ true
           closed_it shut =
               let same = only q shut in
               let mine : r ≡ q = sym of_r ∙ (unjoined (law.owned.founders x w u row (ap t.representation same ∙ is)) ∙ same) in
               ap (λ b. b || false) (ap (nat_eq r) (sym mine) ∙ eqb-same r)
 
-      pub loses_shared : Does limits t now ev flaw (map act.Evicted es ++ (act.Lost r kind ∷ map act.Close xs)) (counted now ev (let_all_go now es (let_go now r (after_by heir (all_closed xs (with_exchange x (Some (with_piece bytes w)) t))))))
+      pub loses_shared : Does limits t now ev flaw (map act.Evicted es ++ (act.Lost r kind ∷ map act.Close xs)) (with_event now ev (let_all_go now es (let_go now r (after_by detached_reader (all_closed xs (with_exchange x (Some (with_piece bytes w)) t))))))
       loses_shared =
-          told_does t now ev (pieces x bytes) flaw xs limits law accepts (let_go now r (after_by heir (all_closed xs (with_exchange x (Some (with_piece bytes w)) t)))) closes
+          told_does t now ev (pieces x bytes) flaw xs limits law accepts (let_go now r (after_by detached_reader (all_closed xs (with_exchange x (Some (with_piece bytes w)) t)))) closes
           (told_by t now ev (pieces x bytes) flaw xs (r ∷ []) (λ y. if is_in xs y then option_map over (if x == y then Some (with_piece bytes w) else t.exchange y) else (if x == y then Some (with_piece bytes w) else t.exchange y))
-          (λ q. if r == q then Some (lost_to heir (filled false (front w) x bytes v)) else t.representation q) (λ c. made c (t.consumer c))
+          (λ q. if r == q then Some (lost_to detached_reader (with_stored_bytes false (front w) x bytes v)) else t.representation q) (λ c. made c (t.consumer c))
           (piece_brings limits t law now x bytes w row flaw xs)
-          (rows_by limits t law now x bytes w row flaw xs (r ∷ []) r v (lost_to heir (filled false (front w) x bytes v)) of_r there goes (λ q apart. rw apart refl)
-          (lost_row limits t law now x bytes w row accepts r v of_r there kind kept xs heir (rw (loses_it (map act.Close xs)) refl) (goes r v there ∙ rw (eqb-same r) refl) ∙ rw (eqb-same r) refl))
+          (rows_by limits t law now x bytes w row flaw xs (r ∷ []) r v (lost_to detached_reader (with_stored_bytes false (front w) x bytes v)) of_r there goes (λ q apart. rw apart refl)
+          (lost_row limits t law now x bytes w row accepts r v of_r there kind kept xs detached_reader (rw (loses_it (map act.Close xs)) refl) (goes r v there ∙ rw (eqb-same r) refl) ∙ rw (eqb-same r) refl))
           (λ c. consumer_by t now ev (pieces x bytes) flaw xs law (r ∷ []) goes (undoomed t (e xs) refl) c (λ k here. refl) ∙ ap (option_map (back_from_any now (r ∷ []))) (made_so c))
-          ∙ ap (λ (u : Tables). counted now ev (let_go now r (after_by heir u))) (sym (all_closed_is xs (with_exchange x (Some (with_piece bytes w)) t))))
+          ∙ ap (λ (u : Tables). with_event now ev (let_go now r (after_by detached_reader u))) (sym (all_closed_is xs (with_exchange x (Some (with_piece bytes w)) t))))
 
   -- ONE GOES ON
 
-  module _ (d : ℕ) (survives : heir ≡ Some d) where
-    little : ClosesLittle t (record { now = now; event = ev; acts = lost flaw })
+  module _ (d : ℕ) (survives : detached_reader ≡ Some d) where
+    little : ClosesLittle t (record { now = now; event = ev; acts = loss_acts flaw })
     little = record {
-      unrefused = λ y. rw ((says_little t now ev (pieces x bytes)).caseless (lost flaw)) refl;
-      undoomed = λ y u. rw (undoomed t (record { now = now; event = ev; acts = lost flaw }) refl) refl;
+      unrefused = λ y. rw ((says_little t now ev (pieces x bytes)).caseless (loss_acts flaw)) refl;
+      undoomed = λ y u. rw (undoomed t (record { now = now; event = ev; acts = loss_acts flaw }) refl) refl;
       survives = λ y q. some_survives y q (t.representation q) refl;
     }
       where
-        some_survives : (y q : ℕ) (z : Option Representation) → t.representation q ≡ z → has_no_survivor t (record { now = now; event = ev; acts = lost flaw }) y q z ≡ false
+        some_survives : (y q : ℕ) (z : Option Representation) → t.representation q ≡ z → has_no_survivor t (record { now = now; event = ev; acts = loss_acts flaw }) y q z ≡ false
         some_survives y q None is = refl
         some_survives y q (Some u) is = elim (eq_cases r q) [
           | inr apart ↦ and_false _ (is_none (survivor t q u)) (then_false (is_number u.writer y) (loses_writing t (e []) q u) (loses_other [] q u apart.0))
@@ -221,24 +221,24 @@ module _ (limits : Limits) (t : Tables) (law : Lawful t) (now x : ℕ) (bytes : 
 
     -- it has the exchange for its own, and the others fail
     pub goes_on : Does limits t now ev flaw (map act.Evicted (evicted limits t now ev) ++ (act.Lost r kind ∷ []))
-        (counted now ev (let_all_go now (evicted limits t now ev) (let_go now r (with_representation r (Some (lost_to (Some d) (filled false (front w) x bytes v))) (writing_lost r (Some d) (Some x) (with_exchange x (Some (with_piece bytes w)) t))))))
+        (with_event now ev (let_all_go now (evicted limits t now ev) (let_go now r (with_representation r (Some (lost_to (Some d) (with_stored_bytes false (front w) x bytes v))) (writing_lost r (Some d) (Some x) (with_exchange x (Some (with_piece bytes w)) t))))))
     goes_on =
-        subst (λ (o : Option ℕ). Does limits t now ev flaw (map act.Evicted (evicted limits t now ev) ++ (act.Lost r kind ∷ [])) (counted now ev (let_all_go now (evicted limits t now ev) (let_go now r (after_by o (with_exchange x (Some (with_piece bytes w)) t)))))) survives
-        (loses_shared [] (closes_nothing t (record { now = now; event = ev; acts = lost flaw }) little (leaver_none flaw)) (λ q shut. absurd (false_true shut)))
+        subst (λ (o : Option ℕ). Does limits t now ev flaw (map act.Evicted (evicted limits t now ev) ++ (act.Lost r kind ∷ [])) (with_event now ev (let_all_go now (evicted limits t now ev) (let_go now r (after_by o (with_exchange x (Some (with_piece bytes w)) t)))))) survives
+        (loses_shared [] (closes_nothing t (record { now = now; event = ev; acts = loss_acts flaw }) little (leaver_none flaw)) (λ q shut. absurd (false_true shut)))
 
   -- NOBODY CAN
 
-  module _ (nobody : heir ≡ None) where
+  module _ (nobody : detached_reader ≡ None) where
     abbrev b : Entry
-    b = record { now = now; event = ev; acts = lost flaw }
+    b = record { now = now; event = ev; acts = loss_acts flaw }
 
     abbrev left : Option ℕ
     left = if (with_piece bytes w).is_open then Some x else None
 
-    left_is : added left [] ≡ unless_reached x bytes w
+    left_is : with_item_first left [] ≡ unless_reached x bytes w
     left_is = by_test (with_piece bytes w).is_open
       where
-        by_test : (a : Bool) → added (if a then Some x else None) [] ≡ (if a then x ∷ [] else [])
+        by_test : (a : Bool) → with_item_first (if a then Some x else None) [] ≡ (if a then x ∷ [] else [])
         by_test true = refl
         by_test false = refl
 
@@ -246,7 +246,7 @@ module _ (limits : Limits) (t : Tables) (law : Lawful t) (now x : ℕ) (bytes : 
     closes_it =
         let no_one : has_no_survivor t b x (family x w) (t.representation (family x w)) ≡ true = ap (λ n. has_no_survivor t b x n (t.representation n)) of_r ∙ (ap (has_no_survivor t b x r) there ∙ and_both _ _ (and_both _ _ (number_yes v.writer x writer_is) (loses_it [])) (ap (λ (o : Option ℕ). is_none o) nobody)) in
         ap (closes_row t b x) row
-        ∙ rw ((says_little t now ev (pieces x bytes)).caseless (lost flaw), undoomed t b refl, no_one, eqb-same x) (by_test (with_piece bytes w).is_open)
+        ∙ rw ((says_little t now ev (pieces x bytes)).caseless (loss_acts flaw), undoomed t b refl, no_one, eqb-same x) (by_test (with_piece bytes w).is_open)
       where
         by_test : (a : Bool) → a ≡ is_number (if a then Some x else None) x
         by_test true = sym (eqb-same x)
@@ -277,7 +277,7 @@ module _ (limits : Limits) (t : Tables) (law : Lawful t) (now x : ℕ) (bytes : 
         by_row : (z : Option Exchange) → nat_eq x y ≡ false → closes_row t b y z ≡ is_number left y
         by_row None other = sym (off other)
         by_row (Some u) other =
-            rw ((says_little t now ev (pieces x bytes)).caseless (lost flaw), undoomed t b refl, some_writes (family y u) (t.representation (family y u)) refl other) (sym (off other))
+            rw ((says_little t now ev (pieces x bytes)).caseless (loss_acts flaw), undoomed t b refl, some_writes (family y u) (t.representation (family y u)) refl other) (sym (off other))
 
     closing_is : closing t b ≡ unless_reached x bytes w
     unfolding closing
@@ -301,7 +301,7 @@ module _ (limits : Limits) (t : Tables) (law : Lawful t) (now x : ℕ) (bytes : 
 
     -- all fail, and the exchange is closed that this piece leaves open
     pub all_fail : Does limits t now ev flaw (map act.Evicted (evicted limits t now ev) ++ (act.Lost r kind ∷ map act.Close (unless_reached x bytes w)))
-        (counted now ev (let_all_go now (evicted limits t now ev) (let_go now r (with_representation r (Some (lost_to None (filled false (front w) x bytes v))) (writing_lost r None (Some x) (all_closed (unless_reached x bytes w) (with_exchange x (Some (with_piece bytes w)) t)))))))
+        (with_event now ev (let_all_go now (evicted limits t now ev) (let_go now r (with_representation r (Some (lost_to None (with_stored_bytes false (front w) x bytes v))) (writing_lost r None (Some x) (all_closed (unless_reached x bytes w) (with_exchange x (Some (with_piece bytes w)) t)))))))
     all_fail =
-        subst (λ (o : Option ℕ). Does limits t now ev flaw (map act.Evicted (evicted limits t now ev) ++ (act.Lost r kind ∷ map act.Close (unless_reached x bytes w))) (counted now ev (let_all_go now (evicted limits t now ev) (let_go now r (after_by o (all_closed (unless_reached x bytes w) (with_exchange x (Some (with_piece bytes w)) t))))))) nobody
+        subst (λ (o : Option ℕ). Does limits t now ev flaw (map act.Evicted (evicted limits t now ev) ++ (act.Lost r kind ∷ map act.Close (unless_reached x bytes w))) (with_event now ev (let_all_go now (evicted limits t now ev) (let_go now r (after_by o (all_closed (unless_reached x bytes w) (with_exchange x (Some (with_piece bytes w)) t))))))) nobody
         (loses_shared (unless_reached x bytes w) closing_is only_it)

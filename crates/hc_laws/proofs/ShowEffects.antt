@@ -7,7 +7,7 @@ use Rattle.hc_rules.specs.declared.room.Limits.{Limits}
 use Rattle.hc_event.specs.declared.place.Place.TheVariants as place
 use Rattle.hc_event.specs.declared.place.BoundBy.TheVariants as by
 use Rattle.hc_model.specs.ConsumerRows.{consumer_acted}
-use Rattle.hc_model.specs.Effects.{Does, counted, used_last, with_consumer}
+use Rattle.hc_model.specs.Effects.{Does, with_event, used_last, with_consumer}
 use Rattle.hc_model.specs.Entries.{Entry}
 use Rattle.hc_model.specs.Flaws.{NoFlaw}
 use Rattle.hc_model.specs.Lawful.{Lawful}
@@ -39,7 +39,7 @@ module _ (limits : Limits) (t : Tables) (law : Lawful t) (now c want : ℕ) (k :
     binds_none : to_front (binds t e) t.used ≡ t.used
     binds_none = let nobody : binds t e ≡ None = binds_as t e c nothing ∙ rw (row, reading) refl in ap (λ (z : Option ℕ). to_front z t.used) nobody
 
-    pub shows_reader : Does limits t now (event.Poll c want) NoFlaw (acts_of c (Shows r why head lo hi)) (counted now (event.Poll c want) (with_consumer c (Some (record k { shown = true })) t))
+    pub shows_reader : Does limits t now (event.Poll c want) NoFlaw (acts_of c (Shows r why head lo hi)) (with_event now (event.Poll c want) (with_consumer c (Some (record k { shown = true })) t))
     shows_reader =
         poll_does limits t law now c want k row (Shows r why head lo hi) (polls.shows r why head lo hi) is []
         (nothing_goes limits t law now c want k row (Shows r why head lo hi) (polls.shows r why head lo hi) is refl)
@@ -55,7 +55,7 @@ module _ (limits : Limits) (t : Tables) (law : Lawful t) (now c want : ℕ) (k :
     binds_it : to_front (binds t e) t.used ≡ to_front (Some r) t.used
     binds_it = let it : binds t e ≡ Some r = binds_as t e c nothing ∙ rw (row, idle) refl in ap (λ (z : Option ℕ). to_front z t.used) it
 
-    pub shows_new : Does limits t now (event.Poll c want) NoFlaw (acts_of c (Shows r why head lo hi)) (counted now (event.Poll c want) (used_last r (with_consumer c (Some (record k { place = place.Bound r lo hi by.Plan; shown = true })) t)))
+    pub shows_new : Does limits t now (event.Poll c want) NoFlaw (acts_of c (Shows r why head lo hi)) (with_event now (event.Poll c want) (used_last r (with_consumer c (Some (record k { place = place.Bound r lo hi by.Plan; shown = true })) t)))
     shows_new =
         poll_does limits t law now c want k row (Shows r why head lo hi) (polls.shows r why head lo hi) is []
         (nothing_goes limits t law now c want k row (Shows r why head lo hi) (polls.shows r why head lo hi) is refl)

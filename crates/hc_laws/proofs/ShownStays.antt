@@ -44,7 +44,7 @@ use Rattle.hc_model.proofs.OpenedAs.{Way, opened_as}
 use Rattle.hc_model.proofs.OpenedAs as opened
 use Rattle.hc_laws.proofs.PastApart.{IsApart}
 use Rattle.hc_model.proofs.PieceKeeps.{eq_cases}
-use Rattle.hc_model.proofs.Pens.{same_row}
+use Rattle.hc_model.proofs.ExclusiveWriters.{same_row}
 use Rattle.hc_model.proofs.Said.{IsShowing, IsOpening, WaitsAs, opening_by, showing_by, waiting_by}
 use Rattle.hc_model.proofs.Said as said
 use Rattle.hc_model.proofs.ShownOnce.{is_showing, shown_shows}
@@ -69,7 +69,7 @@ pub data Lands (p q : Place) (r lo : ℕ) (hi : Option ℕ) : Type 0 where
   planned : reads p ≡ false → q ≡ place.Bound r lo hi by.Plan → Lands p q r lo hi
 
 -- what is carried besides: an answer past the store stands apart, who was shown a head hasn't the turn, and what ended isn't open
-pub record IsAside (t : Tables) : Type 0 where
+pub record IsFallback (t : Tables) : Type 0 where
   pub apart : IsApart t
   pub unturned : (c x : ℕ) (k : Consumer) → t.consumer c ≡ Some k → k.place ≡ place.Turn x → k.shown ≡ true → ⊥
   pub ended : (x : ℕ) (w : Exchange) → t.exchange x ≡ Some w → w.is_ended ≡ true → w.is_open ≡ false
@@ -95,7 +95,7 @@ module _ (limits : Limits) (t : Tables) (now : ℕ) (flaw : Flaw) (s : Sound t) 
 
   -- WHO WAS SHOWN A HEAD
 
-  module _ (a : IsAside t) (c : ℕ) (k : Consumer) (row : t.consumer c ≡ Some k) (shown : k.shown ≡ true) where
+  module _ (a : IsFallback t) (c : ℕ) (k : Consumer) (row : t.consumer c ≡ Some k) (shown : k.shown ≡ true) where
     abbrev Stays : Place → Type 0
     Stays q = StaysOrIdle k.place q
 

@@ -15,17 +15,17 @@ use Rattle.hc_model.specs.Exchanges.{front, family}
 use Rattle.hc_model.specs.Flaws.{Flaw}
 use Rattle.hc_model.specs.Keys.{entry_of}
 use Rattle.hc_model.specs.Laws.{OfRunsIn}
-use Rattle.hc_model.specs.RepresentationRows.{representation_heard, headed, renewed, updates, pieced, filled, ended, length_in}
+use Rattle.hc_model.specs.RepresentationRows.{representation_heard, representation_after_head, with_renewed_head, updates, representation_after_piece, with_stored_bytes, with_total_if_none, length_in}
 use Rattle.hc_model.specs.Rows.{Tables, Exchange, Representation}
 use Rattle.hc_model.specs.Sizes.{Sizes}
 use Rattle.hc_model.specs.Sound.{Sound, IsStored}
-use Rattle.hc_model.specs.Tables.{begun, loaded, bytes_in, after_accepted, after_denied}
+use Rattle.hc_model.specs.Tables.{first_tables, representation_of_content, bytes_in, after_accepted, after_denied}
 use Rattle.hc_model.proofs.Basics.{false_true, and_left, and_right, none_some}
 use Rattle.hc_laws.proofs.FitsKept.{Fits, stored_small}
 use Rattle.hc_laws.proofs.FitsRuns.{fits_begin, fits_denied, fits_kept}
 use Rattle.hc_model.proofs.KeyNames.{eq_is}
 use Rattle.hc_laws.proofs.LossBy.{IsReal}
-use Rattle.hc_model.proofs.MeasuresBegin.{rising_item}
+use Rattle.hc_model.proofs.MeasuresBegin.{ascending_item}
 use Rattle.hc_model.proofs.Once.{delivers_once}
 use Rattle.hc_model.proofs.PieceKeeps.{eq_cases, some_inj}
 use Rattle.hc_model.proofs.Positions.{below_none, below_past, below_put, bytes_below}
@@ -56,7 +56,7 @@ ends_stored v store p le = by_cell (v.stored p) refl
     by_cell None is = is
     by_cell (Some cell) is = store.some_stored p (ap is_some is) ∙ store.ends p le
 
-filled_counts : (b : Bool) (at x : ℕ) (bytes : List ℕ) (v : Representation) → IsStored v → Counts v → (b ≡ true → AreAbsent v.stored at (at + length bytes)) → Counts (filled b at x bytes v)
+filled_counts : (b : Bool) (at x : ℕ) (bytes : List ℕ) (v : Representation) → IsStored v → Counts v → (b ≡ true → AreAbsent v.stored at (at + length bytes)) → Counts (with_stored_bytes b at x bytes v)
 filled_counts true at x bytes v store old absent = ap (λ n. n + length bytes) old ∙ sym (below_put v.stored at x v.reach bytes (ends_stored v store) (absent refl))
 filled_counts false at x bytes v store old absent = old ∙ sym (below_past v.stored v.reach (max v.reach (at + length bytes)) (ends_stored v store) (omega arith))
 
@@ -66,20 +66,20 @@ module _ (t : Tables) (e : Entry) (s : Sound t) (goes : denial t e.event ≡ Non
       (s.rows r v there).store.all_stored kept p
       ∙ delivers_once t s x bytes w v (sym (ap (denial t) at) ∙ goes) row (ap t.representation of_r ∙ there) p lo hi
 
-  piece_counts : (r x : ℕ) (bytes : List ℕ) (o : Option Exchange) (v : Representation) → e.event ≡ event.Piece x bytes → t.exchange x ≡ o → t.representation r ≡ Some v → Counts v → Counts (pieced e r x bytes o v)
+  piece_counts : (r x : ℕ) (bytes : List ℕ) (o : Option Exchange) (v : Representation) → e.event ≡ event.Piece x bytes → t.exchange x ≡ o → t.representation r ≡ Some v → Counts v → Counts (representation_after_piece e r x bytes o v)
   piece_counts r x bytes None v at row there old = old
   piece_counts r x bytes (Some w) v at row there old = counts_if (family x w == r) v _ old (λ of_r.
       filled_counts (not (v.is_lost || loses_in r e.acts)) (front w) x bytes v (s.rows r v there).store old
       (λ kept. absent_at r x bytes w v at row (eq_is (family x w) r of_r) there (kept_parts v.is_lost (loses_in r e.acts) kept)))
 
-  head_counts : (r x : ℕ) (response : Response) (o : Option Exchange) (v : Representation) → Counts v → Counts (headed t e r x response o v)
+  head_counts : (r x : ℕ) (response : Response) (o : Option Exchange) (v : Representation) → Counts v → Counts (representation_after_head t e r x response o v)
   head_counts r x response None v old = old
-  head_counts r x response (Some w) v old = counts_if (updates t e r w v) v (renewed t e x response w v) old (λ _. old)
+  head_counts r x response (Some w) v old = counts_if (updates t e r w v) v (with_renewed_head t e x response w v) old (λ _. old)
 
   heard_counts : (r : ℕ) (ev : Event) (v : Representation) → e.event ≡ ev → t.representation r ≡ Some v → Counts v → Counts (representation_heard t e r ev v)
   heard_counts r (event.Head x response) v at there old = head_counts r x response (t.exchange x) v old
   heard_counts r (event.Piece x bytes) v at there old = piece_counts r x bytes (t.exchange x) v at refl there old
-  heard_counts r (event.End x) v at there old = counts_if (x == r) v (ended (length_in (t.exchange x)) v) old (λ _. old)
+  heard_counts r (event.End x) v at there old = counts_if (x == r) v (with_total_if_none (length_in (t.exchange x)) v) old (λ _. old)
   heard_counts r _ v at there old = old
 
   after_counts : (r : ℕ) (u : Representation) → ((v : Representation) → t.representation r ≡ Some v → Counts v) → RepFrom t e r u → Counts u
@@ -99,9 +99,9 @@ module _ (limits : Limits) (t : Tables) (now : ℕ) (flaw : Flaw) (c : IsCarried
   small_by : (r : ℕ) (u : Representation) → RepFrom t e r u → u.size ≤ limits.max_entry
   small_by r u (rep.was v kept) = elim (sized t e r v u kept) [
     | inl same ↦ let old : v.size ≤ limits.max_entry = g.sizes.small r v kept.row in let is : u.size ≡ v.size = same in omega arith
-    | inr filled ↦
-        let is : u.size ≡ v.size + length filled.bytes = filled.size_is in
-        let most : v.size + length filled.bytes ≤ limits.max_entry = stored_small limits t now flaw c.is_sound c.is_owned c.is_measured g.fits ev goes real r v u kept.row filled in
+    | inr with_stored_bytes ↦
+        let is : u.size ≡ v.size + length with_stored_bytes.bytes = with_stored_bytes.size_is in
+        let most : v.size + length with_stored_bytes.bytes ≤ limits.max_entry = stored_small limits t now flaw c.is_sound c.is_owned c.is_measured g.fits ev goes real r v u kept.row with_stored_bytes in
         omega arith
   ]
   small_by r u (rep.founded response w none at row on is) = let zero_is : 0 ≡ u.size = ap (λ (z : Representation). z.size) is in omega arith
@@ -142,18 +142,18 @@ module _ (limits : Limits) (contents : Contents) where
     unfolding may_begin
     good = and_left _ _ (and_left _ _ (and_left _ _ (and_left _ _ (and_left _ _ may))))
 
-    counts_of : (r : ℕ) (z : Option Content) (v : Representation) → find (of_number r) contents.items ≡ z → option_map loaded z ≡ Some v → Counts v
+    counts_of : (r : ℕ) (z : Option Content) (v : Representation) → find (of_number r) contents.items ≡ z → option_map representation_of_content z ≡ Some v → Counts v
     counts_of r None v found row = absurd (none_some v row)
-    counts_of r (Some item) v found row = subst Counts (some_inj (loaded item) v row) (bytes_below 0 0 item.runs (rising_item limits contents may r item found))
+    counts_of r (Some item) v found row = subst Counts (some_inj (representation_of_content item) v row) (bytes_below 0 0 item.runs (ascending_item limits contents may r item found))
 
-    small_of : (r : ℕ) (z : Option Content) (v : Representation) → find (of_number r) contents.items ≡ z → option_map loaded z ≡ Some v → v.size ≤ limits.max_entry
+    small_of : (r : ℕ) (z : Option Content) (v : Representation) → find (of_number r) contents.items ≡ z → option_map representation_of_content z ≡ Some v → v.size ≤ limits.max_entry
     small_of r None v found row = absurd (none_some v row)
     small_of r (Some item) v found row =
-        let same : bytes_in item.runs ≡ v.size = ap (λ (q : Representation). q.size) (some_inj (loaded item) v row) in
+        let same : bytes_in item.runs ≡ v.size = ap (λ (q : Representation). q.size) (some_inj (representation_of_content item) v row) in
         let most : bytes_in item.runs ≤ limits.max_entry = small_item r item [] contents.items good found in
         omega arith
 
-    begun_sized : IsSized limits (begun contents)
+    begun_sized : IsSized limits (first_tables contents)
     begun_sized = record {
       fits = fits_begin limits contents may;
       sizes = record {

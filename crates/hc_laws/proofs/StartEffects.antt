@@ -9,12 +9,12 @@ use Rattle.hc_event.specs.declared.event.Event.TheVariants as event
 use Rattle.hc_event.specs.declared.event.Request.{Request}
 use Rattle.hc_rules.specs.Refusals as refusals
 use Rattle.hc_rules.specs.declared.room.Limits.{Limits}
-use Rattle.hc_model.specs.Answers.{accepted}
+use Rattle.hc_model.specs.Answers.{accepted_acts}
 use Rattle.hc_model.specs.Closings.{closing}
-use Rattle.hc_model.specs.ConsumerRows.{started, consumer_after}
+use Rattle.hc_model.specs.ConsumerRows.{new_consumer, consumer_after}
 use Rattle.hc_model.specs.Denials.{denial, live}
-use Rattle.hc_model.specs.Effects.{Does, counted, with_start}
-use Rattle.hc_model.specs.Entries.{Entry, unanswered}
+use Rattle.hc_model.specs.Effects.{Does, with_event, with_start}
+use Rattle.hc_model.specs.Entries.{Entry, entry_without_acts}
 use Rattle.hc_model.specs.Flaws.{NoFlaw}
 use Rattle.hc_model.specs.Lawful.{Lawful}
 use Rattle.hc_model.specs.Rows.{Tables}
@@ -31,12 +31,12 @@ module _ (limits : Limits) (t : Tables) (law : Lawful t) (now c : ℕ) (request 
   ev = event.Start c request
 
   abbrev e : Entry
-  e = unanswered now ev
+  e = entry_without_acts now ev
 
   nothing : BringsNothing t e c
   nothing = brings_nothing t now c ev [] (event_of.starts request)
 
-  acts_none : accepted limits t now ev NoFlaw ≡ []
+  acts_none : accepted_acts limits t now ev NoFlaw ≡ []
   acts_none =
       ap (λ rs. map act.Evicted rs ++ map act.Close (closing t e)) (evicts_nothing limits t now ev refl)
       ∙ ap (λ xs. map act.Close xs) (closes_nothing t e (little t e c nothing) refl)
@@ -52,17 +52,17 @@ module _ (limits : Limits) (t : Tables) (law : Lawful t) (now c : ℕ) (request 
       let off : nat_le c t.last_start ≡ false = by_refusal (nat_le c t.last_start) (nat_le 1024 (live t)) t.last_start goes in
       law.sound.numbered.lists.new_consumers c (grind (arith, nat_tests, off))
 
-  row : denial t ev ≡ None → consumer_after t e c (t.consumer c) ≡ Some (started now request)
+  row : denial t ev ≡ None → consumer_after t e c (t.consumer c) ≡ Some (new_consumer now request)
   unfolding consumer_after
   row goes = ap (consumer_after t e c) (is_sorted goes) ∙ (let self : nat_eq c c ≡ true = grind (arith, nat_tests) in rw self refl)
 
   -- a consumer starts
-  pub starts : denial t ev ≡ None → Does limits t now ev NoFlaw [] (counted now ev (with_start now c request t))
+  pub starts : denial t ev ≡ None → Does limits t now ev NoFlaw [] (with_event now ev (with_start now c request t))
   starts goes = record {
     acts_are = acts_none;
     tables_are =
         ap (λ acts. after_accepted t (record { now = now; event = ev; acts = acts })) acts_none
-        ∙ after_by t e c nothing [] (record t { last_start = c; starts = c ∷ t.starts }) (started now request) (record {
+        ∙ after_by t e c nothing [] (record t { last_start = c; starts = c ∷ t.starts }) (new_consumer now request) (record {
           entries = refl;
           received = refl;
           last_start = refl;

@@ -10,9 +10,9 @@ use Rattle.hc_event.specs.declared.place.Place.TheVariants as place
 use Rattle.hc_model.specs.ConsumerRows.{consumer_after, consumer_heard, consumer_acted, consumer_settled, by_fault}
 use Rattle.hc_model.specs.Currents.{is_number}
 use Rattle.hc_model.specs.Denials.{denial}
-use Rattle.hc_model.specs.Effects.{Does, counted, with_consumer, with_exchange, with_due, put_down, over, at_end, going_with}
+use Rattle.hc_model.specs.Effects.{Does, with_event, with_consumer, with_exchange, with_due, put_down, over, at_end, going_with}
 use Rattle.hc_model.specs.Entries.{Entry}
-use Rattle.hc_model.specs.Exchanges.{family, promised}
+use Rattle.hc_model.specs.Exchanges.{family, promised_bytes}
 use Rattle.hc_model.specs.Failures.{short_of}
 use Rattle.hc_model.specs.Flaws.{NoFlaw}
 use Rattle.hc_model.specs.Frames.{beside}
@@ -26,7 +26,7 @@ use Rattle.hc_model.specs.Rows.{Tables, Exchange, Representation, Consumer}
 use Rattle.hc_model.specs.StartingOver.{starts_over}
 use Rattle.hc_model.proofs.Basics.{none_some, true_false, false_true}
 use Rattle.hc_model.proofs.Frames.{undoomed}
-use Rattle.hc_model.proofs.Pens.{same_row}
+use Rattle.hc_model.proofs.ExclusiveWriters.{same_row}
 use Rattle.hc_model.proofs.PieceKeeps.{eq_cases}
 use Rattle.hc_laws.proofs.PollEffects.{none_waits}
 use Rattle.hc_model.proofs.SameTables.{is_in, waits_for_any, back_from_any}
@@ -58,7 +58,7 @@ module _ (limits : Limits) (t : Tables) (law : Lawful t) (now x : ℕ) (w : Exch
 
   module _ (accepts : denial t ev ≡ None) (c : ℕ) (k : Consumer) (here : t.consumer c ≡ Some k) (owns : k.own ≡ Some x) where
     -- its reader fails by it
-    pub reader_fails : reads k.place ≡ true → ((d : ℕ) (z : Consumer) → t.consumer d ≡ Some z → consumer_heard t (it limits t law now x w row on ev s NoFlaw) d ev z ≡ z) → Does limits t now ev NoFlaw [] (counted now ev (with_due c s.why (with_exchange x (Some s.u) t)))
+    pub reader_fails : reads k.place ≡ true → ((d : ℕ) (z : Consumer) → t.consumer d ≡ Some z → consumer_heard t (it limits t law now x w row on ev s NoFlaw) d ev z ≡ z) → Does limits t now ev NoFlaw [] (with_event now ev (with_due c s.why (with_exchange x (Some s.u) t)))
     reader_fails reading quiet =
         stop_does limits t law now x w row on ev s NoFlaw accepts [] t.representation (with_due c s.why t).consumer rows_stay
         (λ d. others_by limits t law now x w row on ev s NoFlaw [] nothing_goes (with_due c s.why t).consumer d (quiet d)
@@ -72,7 +72,7 @@ module _ (limits : Limits) (t : Tables) (law : Lawful t) (now x : ℕ) (w : Exch
 
     -- its consumer becomes this, and nobody else changes
     pub waiter_is : (q : Consumer) → consumer_after t (it limits t law now x w row on ev s NoFlaw) c (Some k) ≡ Some q → (waits_for_any [] q.place ≡ false) → ((d : ℕ) (z : Consumer) → nat_eq c d ≡ false → t.consumer d ≡ Some z → consumer_heard t (it limits t law now x w row on ev s NoFlaw) d ev z ≡ z)
-        → Does limits t now ev NoFlaw [] (counted now ev (with_consumer c (Some q) (with_exchange x (Some s.u) t)))
+        → Does limits t now ev NoFlaw [] (with_event now ev (with_consumer c (Some q) (with_exchange x (Some s.u) t)))
     waiter_is q becomes unwaiting quiet =
         stop_does limits t law now x w row on ev s NoFlaw accepts [] t.representation (with_consumer c (Some q) t).consumer rows_stay by_number
       where
@@ -101,17 +101,17 @@ module _ (limits : Limits) (t : Tables) (law : Lawful t) (now x : ℕ) (w : Exch
         by_row (Some v) is = absurd (none_some v (sym past ∙ (ap t.representation (unjoined (law.owned.founders x w v row is)) ∙ is)))
 
     module _ (headed : is_some w.head ≡ true) (on : w.is_open ≡ true) (ev : Event) (s : Stops t now x w ev) (accepts : denial t ev ≡ None) (quiet : (d : ℕ) (z : Consumer) → t.consumer d ≡ Some z → consumer_heard t (it limits t law now x w row on ev s NoFlaw) d ev z ≡ z) where
-      past_fails : Does limits t now ev NoFlaw [] (counted now ev (with_due w.c s.why (with_exchange x (Some s.u) t)))
+      past_fails : Does limits t now ev NoFlaw [] (with_event now ev (with_due w.c s.why (with_exchange x (Some s.u) t)))
       past_fails =
           let reader = law.places.read x w row on headed past in
           let at = law.places.direct w.c x reader.k reader.row reader.place_is in
           reader_fails limits t law now x w row on ev s unfounded accepts w.c reader.k reader.row at.own (ap reads reader.place_is) quiet
 
     -- who reads it fails where too little came, and knows its length
-    pub ends_past : denial t (event.End x) ≡ None → Does limits t now (event.End x) NoFlaw [] (counted now (event.End x) (with_due w.c (short_of x w (promised w)) (with_exchange x (Some (at_end w)) t)))
+    pub ends_past : denial t (event.End x) ≡ None → Does limits t now (event.End x) NoFlaw [] (with_event now (event.End x) (with_due w.c (short_of x w (promised_bytes w)) (with_exchange x (Some (at_end w)) t)))
     ends_past accepts = past_fails (end_of t x w row accepts).headed (end_of t x w row accepts).was_open (event.End x) (end_stops t now x w row) accepts (λ d z is. refl)
 
-    pub faults_past : is_some w.head ≡ true → denial t (event.Fault x) ≡ None → Does limits t now (event.Fault x) NoFlaw [] (counted now (event.Fault x) (with_due w.c (Some (cause.Net x)) (with_exchange x (Some (over w)) t)))
+    pub faults_past : is_some w.head ≡ true → denial t (event.Fault x) ≡ None → Does limits t now (event.Fault x) NoFlaw [] (with_event now (event.Fault x) (with_due w.c (Some (cause.Net x)) (with_exchange x (Some (over w)) t)))
     faults_past headed accepts =
         past_fails headed (fault_of t x w row accepts) (event.Fault x) (fault_stops t now x w) accepts (λ d z is. fault_unheard d x w z (t.exchange x) row (off (nat_eq w.c d) w.head headed z.shown))
       where
@@ -142,7 +142,7 @@ module _ (limits : Limits) (t : Tables) (law : Lawful t) (now x : ℕ) (w : Exch
     s = fault_stops t now x w
 
     -- who was shown a head, and fills a later hole, fails by it
-    pub faults_later : k.shown ≡ true → Does limits t now (event.Fault x) NoFlaw [] (counted now (event.Fault x) (with_due w.c (Some (cause.Net x)) (with_exchange x (Some (over w)) t)))
+    pub faults_later : k.shown ≡ true → Does limits t now (event.Fault x) NoFlaw [] (with_event now (event.Fault x) (with_due w.c (Some (cause.Net x)) (with_exchange x (Some (over w)) t)))
     faults_later shown =
         reader_fails limits t law now x w row on (event.Fault x) s unfounded_bare accepts w.c k here owns (reading waits.at)
         (λ d z is. fault_unheard d x w z (t.exchange x) row (off d z is))
@@ -182,7 +182,7 @@ module _ (limits : Limits) (t : Tables) (law : Lawful t) (now x : ℕ) (w : Exch
           ∙ rw starts refl)
 
       -- who was shown nothing is put down
-      pub faults_first : Does limits t now (event.Fault x) NoFlaw [] (counted now (event.Fault x) (with_consumer w.c (Some (put_down (cause.Net x) k)) (with_exchange x (Some (over w)) t)))
+      pub faults_first : Does limits t now (event.Fault x) NoFlaw [] (with_event now (event.Fault x) (with_consumer w.c (Some (put_down (cause.Net x) k)) (with_exchange x (Some (over w)) t)))
       faults_first =
           waiter_is limits t law now x w row on (event.Fault x) s unfounded_bare accepts w.c k here owns (put_down (cause.Net x) k) becomes refl
           (λ d z apart is. fault_unheard d x w z (t.exchange x) row (rw apart refl))

@@ -14,14 +14,14 @@ use Rattle.hc_rules.specs.declared.room.Limits.{Limits}
 use Rattle.hc_event.specs.declared.place.Place.{Place}
 use Rattle.hc_event.specs.declared.place.Place.TheVariants as place
 use Rattle.hc_model.specs.ActFilters.{loses_in}
-use Rattle.hc_model.specs.Answers.{lost}
+use Rattle.hc_model.specs.Answers.{loss_acts}
 use Rattle.hc_model.specs.Closings.{closing, leaver, leaver_by}
 use Rattle.hc_model.specs.ConsumerRows.{consumer_after, consumer_heard, own_after}
 use Rattle.hc_model.specs.Currents.{is_current, is_number}
 use Rattle.hc_model.specs.Denials.{denial}
 use Rattle.hc_model.specs.Dooms.{doomed}
-use Rattle.hc_model.specs.Effects.{Does, counted, with_exchange, failing, let_all_go, gone, over, at_end, is_unkeepable, going_with}
-use Rattle.hc_model.specs.Entries.{Entry, unanswered}
+use Rattle.hc_model.specs.Effects.{Does, with_event, with_exchange, failing, let_all_go, as_gone, over, at_end, is_unkeepable, going_with}
+use Rattle.hc_model.specs.Entries.{Entry, entry_without_acts}
 use Rattle.hc_model.specs.ExchangeRows.{exchange_heard}
 use Rattle.hc_model.specs.Exchanges.{family, exchange_in}
 use Rattle.hc_model.specs.Failures.{becomes_due, cause_of_stop, cause_of_head, stop_cause, short_cause}
@@ -29,8 +29,8 @@ use Rattle.hc_model.specs.Flaws.{Flaw}
 use Rattle.hc_model.specs.Frames.{beside}
 use Rattle.hc_model.specs.Gone.{becomes_gone, ends_early, ends_founding, stops_early, is_short, is_keepable}
 use Rattle.hc_model.specs.Lawful.{Lawful}
-use Rattle.hc_model.specs.Reading.{is_bound_place, is_written, own_open, shared, source, writing_in, reads}
-use Rattle.hc_model.specs.RepresentationRows.{representation_after, representation_heard, ended, length_in}
+use Rattle.hc_model.specs.Reading.{is_bound_place, is_written, own_open, shared_exchange, source, writing_in, reads}
+use Rattle.hc_model.specs.RepresentationRows.{representation_after, representation_heard, with_total_if_none, length_in}
 use Rattle.hc_model.specs.Rows.{Tables, Exchange, Representation, Consumer}
 use Rattle.hc_model.specs.Sound.{IsBound}
 use Rattle.hc_model.specs.Sound as sound
@@ -43,7 +43,7 @@ use Rattle.hc_model.proofs.Frames.{undoomed, may_doom}
 use Rattle.hc_model.proofs.HoleLemmas.{bool_cases}
 use Rattle.hc_model.proofs.KeyActs.{test_some}
 use Rattle.hc_laws.proofs.OfConsumers.{or_off}
-use Rattle.hc_model.proofs.Pens.{same_row}
+use Rattle.hc_model.proofs.ExclusiveWriters.{same_row}
 use Rattle.hc_laws.proofs.PieceEffects.{leaver_none}
 use Rattle.hc_model.proofs.PieceKeeps.{eq_cases}
 use Rattle.hc_model.proofs.SameTables.{is_in, back_from_any}
@@ -66,7 +66,7 @@ pub record Stops (t : Tables) (now x : ℕ) (w : Exchange) (ev : Event) : Type 0
   pub names : exchange_in ev ≡ Some x
   pub bodiless : brings_body ev ≡ false
   pub calm : may_doom ev ≡ false
-  pub unwritten : write_in t (unanswered now ev) ev ≡ None
+  pub unwritten : write_in t (entry_without_acts now ev) ev ≡ None
   pub u : Exchange
   pub heard : (acts : List Act) → exchange_heard t (record { now = now; event = ev; acts = acts }) x ev w ≡ u
   pub why : Option Cause
@@ -90,8 +90,8 @@ end_stops t now x w row = record {
   why = short_cause x (Some w);
   why_is = ap (short_cause x) row;
   headless = λ c acts. refl;
-  longer = ended (length w.body);
-  itself = λ v acts. rw (eqb-same x) (ap (λ z. ended (length_in z) v) row);
+  longer = with_total_if_none (length w.body);
+  itself = λ v acts. rw (eqb-same x) (ap (λ z. with_total_if_none (length_in z) v) row);
   other = λ q v acts apart. rw apart refl;
   early = is_short w;
   early_is = λ q z is. elim (eq_cases x q) [
@@ -171,7 +171,7 @@ module _ (t : Tables) (law : Lawful t) (x : ℕ) (w : Exchange) (row : t.exchang
   shared_row k q None there bound_it is = absurd (none_some x is)
   shared_row k q (Some v) there bound_it is = let both = test_some (is_written t v) v.writer x is in record { q = q; v = v; bound_it = bound_it; there = there; written = both.0; writer = both.1 }
 
-  shared_of : (k : Consumer) (p : Place) → k.place ≡ p → shared t p ≡ Some x → IsShared k
+  shared_of : (k : Consumer) (p : Place) → k.place ≡ p → shared_exchange t p ≡ Some x → IsShared k
   shared_of k (place.Bound q lo hi how) at is = shared_row k q (t.representation q) refl (ap (is_bound_place q) at ∙ eqb-same q) is
   shared_of k place.Line at is = absurd (none_some x is)
   shared_of k (place.Passed q old) at is = absurd (none_some x is)
@@ -188,7 +188,7 @@ module _ (t : Tables) (law : Lawful t) (x : ℕ) (w : Exchange) (row : t.exchang
   source_of : (k : Consumer) → source t k ≡ Some x → IsSource k
   source_of k is = by_own (own_open t k) refl is
     where
-      by_own : (z : Option ℕ) → own_open t k ≡ z → option_or z (shared t k.place) ≡ Some x → IsSource k
+      by_own : (z : Option ℕ) → own_open t k ≡ z → option_or z (shared_exchange t k.place) ≡ Some x → IsSource k
       by_own (Some y) mine h = own (own_open_of t k x (mine ∙ h)).own
       by_own None mine h = shares (shared_of k k.place refl h)
 
@@ -246,7 +246,7 @@ module _ (limits : Limits) (t : Tables) (law : Lawful t) (now x : ℕ) (w : Exch
   it = told.e t now ev s.is_told flaw []
 
   abbrev b : Entry
-  b = record { now = now; event = ev; acts = lost flaw }
+  b = record { now = now; event = ev; acts = loss_acts flaw }
 
   doomless : (acts : List Act) → doomed t (record { now = now; event = ev; acts = acts }) ≡ None
   doomless acts = undoomed t (record { now = now; event = ev; acts = acts }) s.calm
@@ -254,23 +254,23 @@ module _ (limits : Limits) (t : Tables) (law : Lawful t) (now x : ℕ) (w : Exch
   leaves_none : leaver b ≡ None
   leaves_none = by_event s.is_told
     where
-      by_event : {z : Event} → IsTold z → leaver_by z (lost flaw) ≡ None
+      by_event : {z : Event} → IsTold z → leaver_by z (loss_acts flaw) ≡ None
       by_event (told.pieces y bytes) = leaver_none flaw
       by_event (told.ends y) = leaver_none flaw
       by_event (told.faults y) = leaver_none flaw
       by_event (told.dooms key) = leaver_none flaw
 
   closes_none : closing t b ≡ []
-  closes_none = closes_nothing t b (quiet_closes t b ((says_little t now ev s.is_told).caseless (lost flaw)) (doomless (lost flaw)) s.bodiless) leaves_none
+  closes_none = closes_nothing t b (quiet_closes t b ((says_little t now ev s.is_told).caseless (loss_acts flaw)) (doomless (loss_acts flaw)) s.bodiless) leaves_none
 
   -- what goes: what is lost, and what it founded, where that is early and can't be completed
   abbrev pub going : Option ℕ
   going = if s.early then going_with t (Some x) else None
 
-  pub goes_with : (q : ℕ) (v : Representation) → t.representation q ≡ Some v → becomes_gone t it q v ≡ (loses_in q (lost flaw) || is_number going q)
+  pub goes_with : (q : ℕ) (v : Representation) → t.representation q ≡ Some v → becomes_gone t it q v ≡ (loses_in q (loss_acts flaw) || is_number going q)
   goes_with q v there =
       goes_as t now ev s.is_told flaw [] q v
-      ∙ rw (doomless it.acts) (drop (is_current t v.key q) (loses_in q (lost flaw)) (ends_early t it q v && not (is_keepable v)) ∙ ap (λ a. loses_in q (lost flaw) || a) (early_by (t.exchange q) refl))
+      ∙ rw (doomless it.acts) (drop (is_current t v.key q) (loses_in q (loss_acts flaw)) (ends_early t it q v && not (is_keepable v)) ∙ ap (λ a. loses_in q (loss_acts flaw) || a) (early_by (t.exchange q) refl))
     where
       drop : (a c d : Bool) → ((a && false) || c || d) ≡ (c || d)
       drop true c d = refl
@@ -343,13 +343,13 @@ module _ (limits : Limits) (t : Tables) (law : Lawful t) (now x : ℕ) (w : Exch
   ]
 
   -- what isn't lost
-  pub row_by : (q : ℕ) (g : Bool) (z : Option Representation) → t.representation q ≡ z → loses_in q (lost flaw) ≡ false → ((v : Representation) → z ≡ Some v → becomes_gone t it q v ≡ g) → representation_after t it q z ≡ (if g then option_map gone (longer_row q z) else longer_row q z)
-  row_by q g None there kept goes = representation_none t now ev s.is_told flaw [] q g ∙ ap (λ o. if g then option_map gone o else o) (none_longer (x == q))
+  pub row_by : (q : ℕ) (g : Bool) (z : Option Representation) → t.representation q ≡ z → loses_in q (loss_acts flaw) ≡ false → ((v : Representation) → z ≡ Some v → becomes_gone t it q v ≡ g) → representation_after t it q z ≡ (if g then option_map as_gone (longer_row q z) else longer_row q z)
+  row_by q g None there kept goes = representation_none t now ev s.is_told flaw [] q g ∙ ap (λ o. if g then option_map as_gone o else o) (none_longer (x == q))
     where
       none_longer : (a : Bool) → None ≡ (if a then option_map s.longer None else None)
       none_longer true = refl
       none_longer false = refl
-  row_by q g (Some v) there kept goes = representation_by t now ev s.is_told flaw [] q v (representation_heard t it q ev v) g refl kept (goes v refl) ∙ ap (λ o. if g then option_map gone o else o) (heard_is q v)
+  row_by q g (Some v) there kept goes = representation_by t now ev s.is_told flaw [] q v (representation_heard t it q ev v) g refl kept (goes v refl) ∙ ap (λ o. if g then option_map as_gone o else o) (heard_is q v)
 
   -- CONSUMERS
 
@@ -388,9 +388,9 @@ module _ (limits : Limits) (t : Tables) (law : Lawful t) (now x : ℕ) (w : Exch
   -- ALL OF IT
 
   pub stop_does : denial t ev ≡ None → (rs : List ℕ) (vs : ℕ → Option Representation) (ks : ℕ → Option Consumer)
-      → ((r : ℕ) → representation_after t it r (t.representation r) ≡ (if is_in rs r then option_map gone (vs r) else vs r))
+      → ((r : ℕ) → representation_after t it r (t.representation r) ≡ (if is_in rs r then option_map as_gone (vs r) else vs r))
       → ((c : ℕ) → consumer_after t it c (t.consumer c) ≡ option_map (back_from_any now rs) (ks c))
-      → Does limits t now ev flaw (lost flaw ++ []) (counted now ev (let_all_go now rs (record (with_exchange x (Some s.u) t) { representation = vs; consumer = ks })))
+      → Does limits t now ev flaw (loss_acts flaw ++ []) (with_event now ev (let_all_go now rs (record (with_exchange x (Some s.u) t) { representation = vs; consumer = ks })))
   stop_does accepts rs vs ks rows consumers =
       told_plainly t now ev s.is_told flaw [] limits law accepts (let_all_go now rs (record (with_exchange x (Some s.u) t) { representation = vs; consumer = ks })) closes_none
       (told_by t now ev s.is_told flaw [] rs (with_exchange x (Some s.u) t).exchange vs ks

@@ -16,8 +16,8 @@ use Rattle.hc_event.specs.declared.place.Place.TheVariants as place
 use Rattle.hc_model.specs.ConsumerRows.{consumer_heard, by_fault}
 use Rattle.hc_model.specs.Currents.{is_number}
 use Rattle.hc_model.specs.Denials.{denial}
-use Rattle.hc_model.specs.Effects.{Does, counted, with_exchange, with_due, with_dues, with_length, with_loss, if_bound, failing, let_go, let_some_go, gone, over, at_end, lost_to, is_unkeepable, going_with}
-use Rattle.hc_model.specs.Exchanges.{family, promised}
+use Rattle.hc_model.specs.Effects.{Does, with_event, with_exchange, with_due, with_dues, with_length, with_loss, if_bound, failing, let_go, let_some_go, as_gone, over, at_end, lost_to, is_unkeepable, going_with}
+use Rattle.hc_model.specs.Exchanges.{family, promised_bytes}
 use Rattle.hc_model.specs.Failures.{short_of}
 use Rattle.hc_model.specs.Flaws.{Flaw, NoFlaw, Loses}
 use Rattle.hc_model.specs.Gone.{becomes_gone, is_short}
@@ -27,12 +27,12 @@ use Rattle.hc_model.specs.Owners as owners
 use Rattle.hc_model.specs.Reading.{is_bound, is_bound_place, is_written, reads, source}
 use Rattle.hc_model.specs.RepresentationRows.{representation_after, representation_heard}
 use Rattle.hc_model.specs.Rows.{Tables, Exchange, Representation, Consumer}
-use Rattle.hc_model.specs.Tables.{added}
+use Rattle.hc_model.specs.Tables.{with_item_first}
 use Rattle.hc_model.specs.Writers.{exclusive}
 use Rattle.hc_model.proofs.Basics.{none_some, false_true, number_is}
 use Rattle.hc_laws.proofs.ConsumerEffects.{some_all}
 use Rattle.hc_model.proofs.KeyActs.{test_some}
-use Rattle.hc_model.proofs.Pens.{same_row}
+use Rattle.hc_model.proofs.ExclusiveWriters.{same_row}
 use Rattle.hc_model.proofs.PieceKeeps.{eq_cases, some_inj}
 use Rattle.hc_model.proofs.SameTables.{is_in, in_one}
 use Rattle.hc_laws.proofs.StopEffects.{fault_unheard}
@@ -54,15 +54,15 @@ module _ (limits : Limits) (t : Tables) (law : Lawful t) (now x : ℕ) (w : Exch
     abbrev gone_is : Option ℕ
     gone_is = going limits t law now x w row on ev s NoFlaw
 
-    goes : (q : ℕ) (u : Representation) → t.representation q ≡ Some u → becomes_gone t (it limits t law now x w row on ev s NoFlaw) q u ≡ is_in (added gone_is []) q
+    goes : (q : ℕ) (u : Representation) → t.representation q ≡ Some u → becomes_gone t (it limits t law now x w row on ev s NoFlaw) q u ≡ is_in (with_item_first gone_is []) q
     goes q u is = goes_with limits t law now x w row on ev s NoFlaw q u is ∙ sym (in_one gone_is q)
 
-    pub seals : Does limits t now ev NoFlaw [] (counted now ev (let_some_go now gone_is (record (with_exchange x (Some s.u) t) { representation = longer; consumer = failed })))
+    pub seals : Does limits t now ev NoFlaw [] (with_event now ev (let_some_go now gone_is (record (with_exchange x (Some s.u) t) { representation = longer; consumer = failed })))
     seals =
-        subst (λ u. Does limits t now ev NoFlaw [] (counted now ev u)) (some_all now gone_is (record (with_exchange x (Some s.u) t) { representation = longer; consumer = failed }))
-        (stop_does limits t law now x w row on ev s NoFlaw accepts (added gone_is []) longer failed
-        (λ q. row_by limits t law now x w row on ev s NoFlaw q (is_in (added gone_is []) q) (t.representation q) refl refl (λ u is. goes q u is))
-        (λ c. others_by limits t law now x w row on ev s NoFlaw (added gone_is []) goes failed c (quiet NoFlaw c) (fails limits t law now x w row on ev s NoFlaw hit hits reading c ∙ failed_is c)))
+        subst (λ u. Does limits t now ev NoFlaw [] (with_event now ev u)) (some_all now gone_is (record (with_exchange x (Some s.u) t) { representation = longer; consumer = failed }))
+        (stop_does limits t law now x w row on ev s NoFlaw accepts (with_item_first gone_is []) longer failed
+        (λ q. row_by limits t law now x w row on ev s NoFlaw q (is_in (with_item_first gone_is []) q) (t.representation q) refl refl (λ u is. goes q u is))
+        (λ c. others_by limits t law now x w row on ev s NoFlaw (with_item_first gone_is []) goes failed c (quiet NoFlaw c) (fails limits t law now x w row on ev s NoFlaw hit hits reading c ∙ failed_is c)))
 
     -- where that fails it is lost, and who writes it alone goes on
     module _ (kind : LostKind) (kept : v.is_lost ≡ false) where
@@ -95,18 +95,18 @@ module _ (limits : Limits) (t : Tables) (law : Lawful t) (now x : ℕ) (w : Exch
       abbrev lost_at : ℕ → Option Representation
       lost_at q = if r == q then option_map (lost_to (exclusive t r v)) (longer q) else longer q
 
-      row_lost : representation_after t (it limits t law now x w row on ev s flaw) r (Some v) ≡ option_map gone (option_map (lost_to (exclusive t r v)) (longer_row limits t law now x w row on ev s NoFlaw r (Some v)))
+      row_lost : representation_after t (it limits t law now x w row on ev s flaw) r (Some v) ≡ option_map as_gone (option_map (lost_to (exclusive t r v)) (longer_row limits t law now x w row on ev s NoFlaw r (Some v)))
       row_lost =
           lost_by t now ev s.is_told flaw [] r v (representation_heard t (it limits t law now x w row on ev s flaw) r ev v) (exclusive t r v) refl (rw (eqb-same r) refl) kept (goes_lost r v there ∙ rw (eqb-same r) refl) (rw s.bodiless refl)
-          ∙ ap (λ o. option_map gone (option_map (lost_to (exclusive t r v)) o)) (heard_is limits t law now x w row on ev s flaw r v)
+          ∙ ap (λ o. option_map as_gone (option_map (lost_to (exclusive t r v)) o)) (heard_is limits t law now x w row on ev s flaw r v)
 
-      rows_lost : (q : ℕ) → representation_after t (it limits t law now x w row on ev s flaw) q (t.representation q) ≡ (if is_in (r ∷ []) q then option_map gone (lost_at q) else lost_at q)
+      rows_lost : (q : ℕ) → representation_after t (it limits t law now x w row on ev s flaw) q (t.representation q) ≡ (if is_in (r ∷ []) q then option_map as_gone (lost_at q) else lost_at q)
       rows_lost q = elim (eq_cases r q) [
-        | inl same ↦ rw same.0 (subst (λ n. representation_after t (it limits t law now x w row on ev s flaw) n (t.representation n) ≡ option_map gone (option_map (lost_to (exclusive t r v)) (longer n))) same.1 (subst (λ z. representation_after t (it limits t law now x w row on ev s flaw) r z ≡ option_map gone (option_map (lost_to (exclusive t r v)) (longer_row limits t law now x w row on ev s NoFlaw r z))) (sym there) row_lost))
+        | inl same ↦ rw same.0 (subst (λ n. representation_after t (it limits t law now x w row on ev s flaw) n (t.representation n) ≡ option_map as_gone (option_map (lost_to (exclusive t r v)) (longer n))) same.1 (subst (λ z. representation_after t (it limits t law now x w row on ev s flaw) r z ≡ option_map as_gone (option_map (lost_to (exclusive t r v)) (longer_row limits t law now x w row on ev s NoFlaw r z))) (sym there) row_lost))
         | inr apart ↦ rw apart.0 (row_by limits t law now x w row on ev s flaw q false (t.representation q) refl (rw apart.0 refl) (λ u is. goes_lost q u is ∙ rw apart.0 refl))
       ]
 
-      pub seal_loses : Does limits t now ev flaw (act.Lost r kind ∷ []) (counted now ev (let_go now r (record (with_exchange x (Some s.u) t) { representation = lost_at; consumer = failed })))
+      pub seal_loses : Does limits t now ev flaw (act.Lost r kind ∷ []) (with_event now ev (let_go now r (record (with_exchange x (Some s.u) t) { representation = lost_at; consumer = failed })))
       seal_loses =
           stop_does limits t law now x w row on ev s flaw accepts (r ∷ []) lost_at failed rows_lost
           (λ c. others_by limits t law now x w row on ev s flaw (r ∷ []) goes_lost failed c (quiet flaw c) (fails limits t law now x w row on ev s flaw hit hits reading c ∙ failed_is c))
@@ -167,27 +167,27 @@ module _ (limits : Limits) (t : Tables) (law : Lawful t) (now x : ℕ) (w : Exch
 
       -- where too little came they fail, and it is let go where a 200 founded it that can't be completed
       pub ends_shared : Does limits t now (event.End x) NoFlaw []
-          (counted now (event.End x) (let_some_go now (if is_short w then going_with t (Some x) else None) (with_length x (length w.body) (with_dues r (short_of x w (promised w)) (with_exchange x (Some (at_end w)) t)))))
-      ends_shared = seals (event.End x) taken.was_open taken.headed (end_stops t now x w row) accepts (λ c. is_bound r (t.consumer c)) (members taken.was_open) (members_read taken.was_open) (with_dues r (short_of x w (promised w)) t).consumer (all_fail (short_of x w (promised w))) (λ flaw c k is. refl)
+          (with_event now (event.End x) (let_some_go now (if is_short w then going_with t (Some x) else None) (with_length x (length w.body) (with_dues r (short_of x w (promised_bytes w)) (with_exchange x (Some (at_end w)) t)))))
+      ends_shared = seals (event.End x) taken.was_open taken.headed (end_stops t now x w row) accepts (λ c. is_bound r (t.consumer c)) (members taken.was_open) (members_read taken.was_open) (with_dues r (short_of x w (promised_bytes w)) t).consumer (all_fail (short_of x w (promised_bytes w))) (λ flaw c k is. refl)
 
       pub ends_shared_lost : (kind : LostKind) → v.is_lost ≡ false → Does limits t now (event.End x) (Loses r kind) (act.Lost r kind ∷ [])
-          (counted now (event.End x) (let_go now r (with_loss r (exclusive t r v) (with_length x (length w.body) (with_dues r (short_of x w (promised w)) (with_exchange x (Some (at_end w)) t))))))
-      ends_shared_lost kind kept = seal_loses (event.End x) taken.was_open taken.headed (end_stops t now x w row) accepts (λ c. is_bound r (t.consumer c)) (members taken.was_open) (members_read taken.was_open) (with_dues r (short_of x w (promised w)) t).consumer (all_fail (short_of x w (promised w))) (λ flaw c k is. refl) kind kept
+          (with_event now (event.End x) (let_go now r (with_loss r (exclusive t r v) (with_length x (length w.body) (with_dues r (short_of x w (promised_bytes w)) (with_exchange x (Some (at_end w)) t))))))
+      ends_shared_lost kind kept = seal_loses (event.End x) taken.was_open taken.headed (end_stops t now x w row) accepts (λ c. is_bound r (t.consumer c)) (members taken.was_open) (members_read taken.was_open) (with_dues r (short_of x w (promised_bytes w)) t).consumer (all_fail (short_of x w (promised_bytes w))) (λ flaw c k is. refl) kind kept
 
     module _ (headed : is_some w.head ≡ true) (accepts : denial t (event.Fault x) ≡ None) where
       abbrev opened : w.is_open ≡ true
       opened = fault_of t x w row accepts
 
       pub faults_shared : Does limits t now (event.Fault x) NoFlaw []
-          (counted now (event.Fault x) (let_some_go now (going_with t (Some x)) (with_dues r (Some (cause.Net x)) (with_exchange x (Some (over w)) t))))
+          (with_event now (event.Fault x) (let_some_go now (going_with t (Some x)) (with_dues r (Some (cause.Net x)) (with_exchange x (Some (over w)) t))))
       faults_shared =
-          subst (λ (f : ℕ → Option Representation). Does limits t now (event.Fault x) NoFlaw [] (counted now (event.Fault x) (let_some_go now (going_with t (Some x)) (record (with_dues r (Some (cause.Net x)) (with_exchange x (Some (over w)) t)) { representation = f })))) same_rows
+          subst (λ (f : ℕ → Option Representation). Does limits t now (event.Fault x) NoFlaw [] (with_event now (event.Fault x) (let_some_go now (going_with t (Some x)) (record (with_dues r (Some (cause.Net x)) (with_exchange x (Some (over w)) t)) { representation = f })))) same_rows
           (seals (event.Fault x) opened headed (fault_stops t now x w) accepts (λ c. is_bound r (t.consumer c)) (members opened) (members_read opened) (with_dues r (Some (cause.Net x)) t).consumer (all_fail (Some (cause.Net x))) (λ flaw c k is. fault_quiet headed c k))
 
       pub faults_shared_lost : (kind : LostKind) → v.is_lost ≡ false → Does limits t now (event.Fault x) (Loses r kind) (act.Lost r kind ∷ [])
-          (counted now (event.Fault x) (let_go now r (with_loss r (exclusive t r v) (with_dues r (Some (cause.Net x)) (with_exchange x (Some (over w)) t)))))
+          (with_event now (event.Fault x) (let_go now r (with_loss r (exclusive t r v) (with_dues r (Some (cause.Net x)) (with_exchange x (Some (over w)) t)))))
       faults_shared_lost kind kept =
-          subst (λ (f : ℕ → Option Representation). Does limits t now (event.Fault x) (Loses r kind) (act.Lost r kind ∷ []) (counted now (event.Fault x) (let_go now r (with_loss r (exclusive t r v) (record (with_dues r (Some (cause.Net x)) (with_exchange x (Some (over w)) t)) { representation = f }))))) same_rows
+          subst (λ (f : ℕ → Option Representation). Does limits t now (event.Fault x) (Loses r kind) (act.Lost r kind ∷ []) (with_event now (event.Fault x) (let_go now r (with_loss r (exclusive t r v) (record (with_dues r (Some (cause.Net x)) (with_exchange x (Some (over w)) t)) { representation = f }))))) same_rows
           (seal_loses (event.Fault x) opened headed (fault_stops t now x w) accepts (λ c. is_bound r (t.consumer c)) (members opened) (members_read opened) (with_dues r (Some (cause.Net x)) t).consumer (all_fail (Some (cause.Net x))) (λ flaw c k is. fault_quiet headed c k) kind kept)
 
   -- the one whose own it is
@@ -211,25 +211,25 @@ module _ (limits : Limits) (t : Tables) (law : Lawful t) (now x : ℕ) (w : Exch
       taken_it = end_of t x w row accepts
 
       pub ends_own : Does limits t now (event.End x) NoFlaw []
-          (counted now (event.End x) (let_some_go now (if is_short w then going_with t (Some x) else None) (with_length x (length w.body) (with_due c (short_of x w (promised w)) (with_exchange x (Some (at_end w)) t)))))
-      ends_own = seals (event.End x) taken_it.was_open taken_it.headed (end_stops t now x w row) accepts (λ d. c == d) (reader taken_it.was_open taken_it.headed) (reader_reads taken_it.was_open taken_it.headed) (with_due c (short_of x w (promised w)) t).consumer (λ d. refl) (λ flaw d z is. refl)
+          (with_event now (event.End x) (let_some_go now (if is_short w then going_with t (Some x) else None) (with_length x (length w.body) (with_due c (short_of x w (promised_bytes w)) (with_exchange x (Some (at_end w)) t)))))
+      ends_own = seals (event.End x) taken_it.was_open taken_it.headed (end_stops t now x w row) accepts (λ d. c == d) (reader taken_it.was_open taken_it.headed) (reader_reads taken_it.was_open taken_it.headed) (with_due c (short_of x w (promised_bytes w)) t).consumer (λ d. refl) (λ flaw d z is. refl)
 
       pub ends_own_lost : (kind : LostKind) → v.is_lost ≡ false → Does limits t now (event.End x) (Loses r kind) (act.Lost r kind ∷ [])
-          (counted now (event.End x) (let_go now r (with_loss r (exclusive t r v) (with_length x (length w.body) (with_due c (short_of x w (promised w)) (with_exchange x (Some (at_end w)) t))))))
-      ends_own_lost kind kept = seal_loses (event.End x) taken_it.was_open taken_it.headed (end_stops t now x w row) accepts (λ d. c == d) (reader taken_it.was_open taken_it.headed) (reader_reads taken_it.was_open taken_it.headed) (with_due c (short_of x w (promised w)) t).consumer (λ d. refl) (λ flaw d z is. refl) kind kept
+          (with_event now (event.End x) (let_go now r (with_loss r (exclusive t r v) (with_length x (length w.body) (with_due c (short_of x w (promised_bytes w)) (with_exchange x (Some (at_end w)) t))))))
+      ends_own_lost kind kept = seal_loses (event.End x) taken_it.was_open taken_it.headed (end_stops t now x w row) accepts (λ d. c == d) (reader taken_it.was_open taken_it.headed) (reader_reads taken_it.was_open taken_it.headed) (with_due c (short_of x w (promised_bytes w)) t).consumer (λ d. refl) (λ flaw d z is. refl) kind kept
 
     module _ (headed : is_some w.head ≡ true) (accepts : denial t (event.Fault x) ≡ None) where
       abbrev opened_it : w.is_open ≡ true
       opened_it = fault_of t x w row accepts
 
       pub faults_own : Does limits t now (event.Fault x) NoFlaw []
-          (counted now (event.Fault x) (let_some_go now (going_with t (Some x)) (with_due c (Some (cause.Net x)) (with_exchange x (Some (over w)) t))))
+          (with_event now (event.Fault x) (let_some_go now (going_with t (Some x)) (with_due c (Some (cause.Net x)) (with_exchange x (Some (over w)) t))))
       faults_own =
-          subst (λ (f : ℕ → Option Representation). Does limits t now (event.Fault x) NoFlaw [] (counted now (event.Fault x) (let_some_go now (going_with t (Some x)) (record (with_due c (Some (cause.Net x)) (with_exchange x (Some (over w)) t)) { representation = f })))) same_rows
+          subst (λ (f : ℕ → Option Representation). Does limits t now (event.Fault x) NoFlaw [] (with_event now (event.Fault x) (let_some_go now (going_with t (Some x)) (record (with_due c (Some (cause.Net x)) (with_exchange x (Some (over w)) t)) { representation = f })))) same_rows
           (seals (event.Fault x) opened_it headed (fault_stops t now x w) accepts (λ d. c == d) (reader opened_it headed) (reader_reads opened_it headed) (with_due c (Some (cause.Net x)) t).consumer (λ d. refl) (λ flaw d z is. fault_quiet headed d z))
 
       pub faults_own_lost : (kind : LostKind) → v.is_lost ≡ false → Does limits t now (event.Fault x) (Loses r kind) (act.Lost r kind ∷ [])
-          (counted now (event.Fault x) (let_go now r (with_loss r (exclusive t r v) (with_due c (Some (cause.Net x)) (with_exchange x (Some (over w)) t)))))
+          (with_event now (event.Fault x) (let_go now r (with_loss r (exclusive t r v) (with_due c (Some (cause.Net x)) (with_exchange x (Some (over w)) t)))))
       faults_own_lost kind kept =
-          subst (λ (f : ℕ → Option Representation). Does limits t now (event.Fault x) (Loses r kind) (act.Lost r kind ∷ []) (counted now (event.Fault x) (let_go now r (with_loss r (exclusive t r v) (record (with_due c (Some (cause.Net x)) (with_exchange x (Some (over w)) t)) { representation = f }))))) same_rows
+          subst (λ (f : ℕ → Option Representation). Does limits t now (event.Fault x) (Loses r kind) (act.Lost r kind ∷ []) (with_event now (event.Fault x) (let_go now r (with_loss r (exclusive t r v) (record (with_due c (Some (cause.Net x)) (with_exchange x (Some (over w)) t)) { representation = f }))))) same_rows
           (seal_loses (event.Fault x) opened_it headed (fault_stops t now x w) accepts (λ d. c == d) (reader opened_it headed) (reader_reads opened_it headed) (with_due c (Some (cause.Net x)) t).consumer (λ d. refl) (λ flaw d z is. fault_quiet headed d z) kind kept)

@@ -9,18 +9,18 @@ use Rattle.hc_event.specs.declared.event.Response.{Response}
 use Rattle.hc_fields.specs.FirstValues.{has_field}
 use Rattle.hc_record.specs.Head.{Head}
 use Rattle.hc_rules.specs.declared.room.Limits.{Limits}
-use Rattle.hc_validate.specs.Updates.{is_modest}
+use Rattle.hc_validate.specs.Updates.{is_within_limits}
 use Rattle.hc_model.specs.Beginnings.{may_begin, are_good, has_right_head}
 use Rattle.hc_model.specs.Entries.{Entry, History, Content, Contents}
 use Rattle.hc_model.specs.ExchangeRows.{exchange_heard, exchange_acted}
 use Rattle.hc_model.specs.Laws.{OfRuns}
 use Rattle.hc_model.specs.Rows.{Tables, Exchange, Representation}
-use Rattle.hc_model.specs.StoredHeads.{StoredHeads, IsModestHead, HeadsAreModest, AreModest}
-use Rattle.hc_model.specs.Tables.{tables, begun, loaded, after, after_accepted, after_denied}
+use Rattle.hc_model.specs.StoredHeads.{StoredHeads, IsHeadWithinLimits, HeadsAreWithinLimits, AreWithinLimits}
+use Rattle.hc_model.specs.Tables.{tables, first_tables, representation_of_content, after, after_accepted, after_denied}
 use Rattle.hc_model.proofs.Basics.{false_true, and_left, and_right, none_some}
 use Rattle.hc_model.proofs.ExchangeFrom.{ExchangeFrom, exchange_from}
 use Rattle.hc_model.proofs.ExchangeFrom as exchange
-use Rattle.hc_model.proofs.FieldsKeep.{length_kept, range_kept, length_none, range_none, modest_kept, modest_founded}
+use Rattle.hc_model.proofs.FieldsKeep.{length_kept, range_kept, length_none, range_none, within_limits_kept, within_limits_founded}
 use Rattle.hc_model.proofs.Forward.{after_is}
 use Rattle.hc_model.proofs.HeadFrom.{HeadFrom, head_from}
 use Rattle.hc_model.proofs.HeadFrom as from
@@ -114,22 +114,22 @@ heads_denied t e later g = record {
 
 -- MODEST HEADS
 
-modest_head : (e : Entry) (x : ℕ) (response : Response) → e.event ≡ event.Head x response → IsModestHead e.event → is_modest response.fields ≡ true
-modest_head e x response here modest = subst IsModestHead here modest
+within_limits_head : (e : Entry) (x : ℕ) (response : Response) → e.event ≡ event.Head x response → IsHeadWithinLimits e.event → is_within_limits response.fields ≡ true
+within_limits_head e x response here within_limits = subst IsHeadWithinLimits here within_limits
 
-modest_from : (t : Tables) (e : Entry) (r : ℕ) (v u : Representation) → is_modest v.head.fields ≡ true → HeadFrom t e r v u → is_modest u.head.fields ≡ true
-modest_from t e r v u old (from.still same) = ap (λ (h : Head). is_modest h.fields) same ∙ old
-modest_from t e r v u old (from.told n is) = ap (λ (h : Head). is_modest h.fields) is ∙ old
-modest_from t e r v u old (from.updated x response w here at is) = ap (λ (h : Head). is_modest h.fields) is ∙ modest_kept v.head.fields response.fields old
+within_limits_from : (t : Tables) (e : Entry) (r : ℕ) (v u : Representation) → is_within_limits v.head.fields ≡ true → HeadFrom t e r v u → is_within_limits u.head.fields ≡ true
+within_limits_from t e r v u old (from.still same) = ap (λ (h : Head). is_within_limits h.fields) same ∙ old
+within_limits_from t e r v u old (from.told n is) = ap (λ (h : Head). is_within_limits h.fields) is ∙ old
+within_limits_from t e r v u old (from.updated x response w here at is) = ap (λ (h : Head). is_within_limits h.fields) is ∙ within_limits_kept v.head.fields response.fields old
 
-modest_by : (t : Tables) (e : Entry) (r : ℕ) (u : Representation) → IsModestHead e.event → AreModest t → RepFrom t e r u → is_modest u.head.fields ≡ true
-modest_by t e r u modest old (rep.was v kept) = modest_from t e r v u (old r v kept.row) (head_from t e r v u kept)
-modest_by t e r u modest old (rep.founded response w none here row on is) = sym (ap (λ (z : Representation). is_modest z.head.fields) is) ∙ modest_founded response.fields (modest_head e r response here modest)
+within_limits_by : (t : Tables) (e : Entry) (r : ℕ) (u : Representation) → IsHeadWithinLimits e.event → AreWithinLimits t → RepFrom t e r u → is_within_limits u.head.fields ≡ true
+within_limits_by t e r u within_limits old (rep.was v kept) = within_limits_from t e r v u (old r v kept.row) (head_from t e r v u kept)
+within_limits_by t e r u within_limits old (rep.founded response w none here row on is) = sym (ap (λ (z : Representation). is_within_limits z.head.fields) is) ∙ within_limits_founded response.fields (within_limits_head e r response here within_limits)
 
-modest_step : (t : Tables) (e : Entry) (b : Bool) → is_denied e.acts ≡ b → IsModestHead e.event → AreModest t → AreModest (after t e)
+within_limits_step : (t : Tables) (e : Entry) (b : Bool) → is_denied e.acts ≡ b → IsHeadWithinLimits e.event → AreWithinLimits t → AreWithinLimits (after t e)
 unfolding after
-modest_step t e true denied modest old = rw denied old
-modest_step t e false accepted modest old = rw accepted (λ r u row. modest_by t e r u modest old (rep_from t e r (t.representation r) u refl row))
+within_limits_step t e true denied within_limits old = rw denied old
+within_limits_step t e false accepted within_limits old = rw accepted (λ r u row. within_limits_by t e r u within_limits old (rep_from t e r (t.representation r) u refl row))
 
 -- AT THE BEGINNING
 
@@ -152,7 +152,7 @@ module _ (limits : Limits) (contents : Contents) where
     pub right_head : (r : ℕ) (item : Content) → find (of_number r) contents.items ≡ Some item → has_right_head contents item ≡ true
     right_head r item found = right_item r item [] contents.items good found
 
-    dated_item : (item : Content) → has_right_head contents item ≡ true → IsDated contents.now (loaded item).head
+    dated_item : (item : Content) → has_right_head contents item ≡ true → IsDated contents.now (representation_of_content item).head
     dated_item item right =
         let five = and_left _ _ right in
         let four = and_left _ _ five in
@@ -166,14 +166,14 @@ module _ (limits : Limits) (contents : Contents) where
           no_range = not_yes _ (and_right _ _ five);
         }
 
-    by_item : (P : Representation → Type 0) → ((item : Content) → has_right_head contents item ≡ true → P (loaded item)) → (r : ℕ) (v : Representation) (z : Option Content) → find (of_number r) contents.items ≡ z → option_map loaded z ≡ Some v → P v
+    by_item : (P : Representation → Type 0) → ((item : Content) → has_right_head contents item ≡ true → P (representation_of_content item)) → (r : ℕ) (v : Representation) (z : Option Content) → find (of_number r) contents.items ≡ z → option_map representation_of_content z ≡ Some v → P v
     by_item P holds r v None found row = absurd (none_some v row)
-    by_item P holds r v (Some item) found row = subst P (some_inj (loaded item) v row) (holds item (right_head r item found))
+    by_item P holds r v (Some item) found row = subst P (some_inj (representation_of_content item) v row) (holds item (right_head r item found))
 
-    dated_begun : (r : ℕ) (v : Representation) → (begun contents).representation r ≡ Some v → IsDated contents.now v.head
+    dated_begun : (r : ℕ) (v : Representation) → (first_tables contents).representation r ≡ Some v → IsDated contents.now v.head
     dated_begun r v row = by_item (λ (z : Representation). IsDated contents.now z.head) dated_item r v (find (of_number r) contents.items) refl row
 
-    heads_begin : StoredHeads (begun contents)
+    heads_begin : StoredHeads (first_tables contents)
     heads_begin = record {
       opened = λ x w row. absurd (none_some w row);
       moments = λ r v row. let d = dated_begun r v row in (d.asked, d.came);
@@ -181,15 +181,15 @@ module _ (limits : Limits) (contents : Contents) where
       ranges = λ r v row. (dated_begun r v row).no_range;
     }
 
-    modest_begin : AreModest (begun contents)
-    modest_begin r v row = by_item (λ (z : Representation). is_modest z.head.fields ≡ true) (λ item right. and_right _ _ right) r v (find (of_number r) contents.items) refl row
+    within_limits_begin : AreWithinLimits (first_tables contents)
+    within_limits_begin r v row = by_item (λ (z : Representation). is_within_limits z.head.fields ≡ true) (λ item right. and_right _ _ right) r v (find (of_number r) contents.items) refl row
 
 -- IN RUNS
 
 pub heads_in_runs : OfRuns StoredHeads
 heads_in_runs = in_runs (λ limits t. StoredHeads t) (λ limits contents may. heads_begin limits contents may) (λ limits t e later g. heads_denied t e later g) (λ limits t now flaw later c g ev goes real. heads_kept t _ later g)
 
-pub modest_in_runs : (limits : Limits) (contents : Contents) (h : History) → may_begin limits contents ≡ true → HeadsAreModest h → AreModest (tables contents h)
+pub within_limits_in_runs : (limits : Limits) (contents : Contents) (h : History) → may_begin limits contents ≡ true → HeadsAreWithinLimits h → AreWithinLimits (tables contents h)
 unfolding tables
-modest_in_runs limits contents [] may modest = modest_begin limits contents may
-modest_in_runs limits contents (e ∷ h) may modest = modest_step (tables contents h) e (is_denied e.acts) refl modest.1 (modest_in_runs limits contents h may modest.0)
+within_limits_in_runs limits contents [] may within_limits = within_limits_begin limits contents may
+within_limits_in_runs limits contents (e ∷ h) may within_limits = within_limits_step (tables contents h) e (is_denied e.acts) refl within_limits.1 (within_limits_in_runs limits contents h may within_limits.0)

@@ -2,7 +2,7 @@
 use Rattle.std.proofs.Common.{◌≡◌, ◌⊎◌, inl, inr, ℕ, ◌+◌, ◌<◌, ◌≤◌, List, [], ◌∷◌, length, true, Option, Some, None, refl, ap, sym, ◌∙◌, subst, arith, min, length-append}
 use Rattle.std.specs.Prelude.{if◌then◌else◌, is_some, ◌||◌, not, nat_eq, nat_le, map, filter}
 use Rattle.std.proofs.lemmas.Bool.Decides.{nat_tests}
-use Rattle.hc_sparse.specs.Cells.{Cells, Covers, written}
+use Rattle.hc_sparse.specs.Cells.{Cells, Covers, cells_with}
 use Rattle.hc_sparse.proofs.CellLemmas.{inside-past, inside-yes}
 use Rattle.hc_event.specs.Filters.{leaves_in, given_in, opening_in}
 use Rattle.hc_event.specs.declared.event.Event.{Event}
@@ -46,7 +46,7 @@ use Rattle.hc_laws.proofs.LossBy.{IsReal, fresh}
 use Rattle.hc_model.proofs.MeasuresKeep.{IsHeld, held, one_piece}
 use Rattle.hc_laws.proofs.MemberStays as member_stays
 use Rattle.hc_model.proofs.PieceKeeps.{some_inj}
-use Rattle.hc_model.proofs.Pens.{same_row, writer_some}
+use Rattle.hc_model.proofs.ExclusiveWriters.{same_row, writer_some}
 use Rattle.hc_laws.proofs.OfEntries.{of_real}
 use Rattle.hc_laws.proofs.HasBound.{reader_of}
 use Rattle.hc_model.proofs.RepFrom.{RepFrom, rep_from, IsKept}
@@ -124,7 +124,7 @@ module _ (limits : Limits) (t : Tables) (now : ℕ) (flaw : Flaw) (s : Sound t) 
         let count : length more ≡ length bytes = ap (λ (b : List ℕ). length b) (sym bytes_same) in
         let new = fresh limits t now flaw s o m ev goes real r v there loses in
         let quiet : (v.is_lost || loses_in r e.acts) ≡ true = rw (new, loses) refl in
-        let stored_now : p.stored ≡ v.stored = stored_is ∙ ap (λ b. if not b then written (front a) y more v.stored else v.stored) quiet in
+        let stored_now : p.stored ≡ v.stored = stored_is ∙ ap (λ b. if not b then cells_with (front a) y more v.stored else v.stored) quiet in
         record {
           covered = λ n le q from_n lt. ap (λ (f : Cells). is_some (f q)) same_body ∙ (let below : q < front z = lt in let yes = inside-yes (front a) (length more) q (omega arith) (omega arith) in rw yes refl);
           ahead = λ q le. ap (λ (f : Cells). f q) stored_now ∙ ((s.rows r v there).store.all_stored new q ∙ sym (ap (λ (f : Cells). f q) same_body ∙ (let past : front z ≤ q = le in let off = inside-past (front a) (length more) q (omega arith) in rw off refl)));

@@ -16,9 +16,9 @@ use Rattle.hc_model.specs.Origins.{HasByte}
 use Rattle.hc_model.specs.Rows.{Representation}
 use Rattle.hc_model.specs.StoredHeads.{IsOfOne, Tags}
 use Rattle.hc_model.specs.StoredHeads as heads
-use Rattle.hc_model.specs.Tables.{begun, loaded, last_end, bytes_in}
+use Rattle.hc_model.specs.Tables.{first_tables, representation_of_content, last_end, bytes_in}
 use Rattle.hc_model.proofs.Basics.{false_true, and_left, and_right, or_false, none_some}
-use Rattle.hc_model.proofs.MeasuresBegin.{rising_item, known_item}
+use Rattle.hc_model.proofs.MeasuresBegin.{ascending_item, known_item}
 use Rattle.hc_model.proofs.OriginsBegin.{byte_of, has_run}
 use Rattle.hc_model.proofs.PieceKeeps.{eq_cases, some_inj}
 use Rattle.hc_model.proofs.Positions.{below_full, bytes_below}
@@ -79,7 +79,7 @@ module _ (limits : Limits) (contents : Contents) (may : may_begin limits content
   abbrev item_at : ℕ → Option Content
   item_at r = find (λ (item : Content). item.r == r) contents.items
 
-  module _ (r : ℕ) (item : Content) (v : Representation) (found : item_at r ≡ Some item) (row : loaded item ≡ v) (none : v.head.joining ≡ None) where
+  module _ (r : ℕ) (item : Content) (v : Representation) (found : item_at r ≡ Some item) (row : representation_of_content item ≡ v) (none : v.head.joining ≡ None) where
     no_tag : IsUntagged item
     no_tag =
         let five = and_left _ _ (and_left _ _ (and_left _ _ (right_head limits contents may r item found))) in
@@ -91,7 +91,7 @@ module _ (limits : Limits) (contents : Contents) (may : may_begin limits content
         by_or false b h off = refl
         by_or true b h off = absurd (false_true (sym off ∙ h))
 
-    all_there : (z : Option ℕ) → item.head.total ≡ z → is_kind_right item z ≡ true → IsOfOne (begun contents) v
+    all_there : (z : Option ℕ) → item.head.total ≡ z → is_kind_right item z ≡ true → IsOfOne (first_tables contents) v
     all_there None is right = absurd (false_true right)
     all_there (Some total) is right =
         let kinds : same_kind item.head.kind (kind_of_runs item.runs total) ≡ true = and_right _ _ right in
@@ -101,11 +101,11 @@ module _ (limits : Limits) (contents : Contents) (may : may_begin limits content
         let sums : nat_eq (bytes_in item.runs) total ≡ true = and_right _ _ both in
         let same : last_end item.runs ≡ bytes_in item.runs = grind (arith, nat_tests) in
         let length_is : bytes_in item.runs ≡ total = grind (arith, nat_tests) in
-        let count : bytes_in item.runs ≡ size_below (cells_of item.runs) (last_end item.runs) = bytes_below 0 0 item.runs (rising_item limits contents may r item found) in
+        let count : bytes_in item.runs ≡ size_below (cells_of item.runs) (last_end item.runs) = bytes_below 0 0 item.runs (ascending_item limits contents may r item found) in
         let covered : Covers (cells_of item.runs) 0 (last_end item.runs) = below_full (cells_of item.runs) (last_end item.runs) (omega arith) in
         heads.whole total (sym (ap (λ (z : Representation). z.head.total) row) ∙ is) (λ p lo hi. ap (λ (z : Representation). is_some (z.stored p)) (sym row) ∙ covered p lo (omega arith))
 
-    one : IsOfOne (begun contents) v
+    one : IsOfOne (first_tables contents) v
     one = all_there item.head.total refl (known_item limits contents may r item found)
 
     parts : v.head.status ≢ 206
@@ -129,22 +129,22 @@ module _ (limits : Limits) (contents : Contents) (may : may_begin limits content
     own x has = own_runs item.r x item.runs no_tag.own has ∙ number
 
   -- a row is that of an item
-  by_row : (P : Type 0) → (r : ℕ) (v : Representation) (z : Option Content) → item_at r ≡ z → option_map loaded z ≡ Some v → ((item : Content) → item_at r ≡ Some item → loaded item ≡ v → P) → P
+  by_row : (P : Type 0) → (r : ℕ) (v : Representation) (z : Option Content) → item_at r ≡ z → option_map representation_of_content z ≡ Some v → ((item : Content) → item_at r ≡ Some item → representation_of_content item ≡ v → P) → P
   by_row P r v None found row h = absurd (none_some v row)
-  by_row P r v (Some item) found row h = h item found (some_inj (loaded item) v row)
+  by_row P r v (Some item) found row h = h item found (some_inj (representation_of_content item) v row)
 
-  own_byte : (r x : ℕ) (v : Representation) (item : Content) → item_at r ≡ Some item → loaded item ≡ v → v.head.joining ≡ None → HasByte (begun contents) r x → x ≡ r
+  own_byte : (r x : ℕ) (v : Representation) (item : Content) → item_at r ≡ Some item → representation_of_content item ≡ v → v.head.joining ≡ None → HasByte (first_tables contents) r x → x ≡ r
   own_byte r x v item found row none has =
       let b = byte_of limits contents r x has in
       let same : b.item ≡ item = some_inj b.item item (sym b.found ∙ found) in
       own r item v found row none x (ap (has_run x) (sym same) ∙ b.has)
 
-  tags_begin : Tags (begun contents)
+  tags_begin : Tags (first_tables contents)
   tags_begin = record {
     joined = λ x r w v row is there none. none_some w row;
     parts = λ r v row none is. by_row ⊥ r v (item_at r) refl row (λ item found same. parts r item v found same none is);
     own = λ r x v row none has. by_row (x ≡ r) r v (item_at r) refl row (λ item found same. own_byte r x v item found same none has);
-    one = λ r v row not_gone none. by_row (IsOfOne (begun contents) v) r v (item_at r) refl row (λ item found same. one r item v found same none);
+    one = λ r v row not_gone none. by_row (IsOfOne (first_tables contents) v) r v (item_at r) refl row (λ item found same. one r item v found same none);
   }
 
 pub tags_in_runs : OfRuns Tags

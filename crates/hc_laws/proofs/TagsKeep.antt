@@ -16,7 +16,7 @@ use Rattle.hc_rules.specs.Requests.{range_of}
 use Rattle.hc_rules.specs.TagTexts.{strong_of}
 use Rattle.hc_etag.proofs.TagReads.{strong_in-some}
 use Rattle.hc_rules.specs.declared.room.Limits.{Limits}
-use Rattle.hc_sparse.specs.Cells.{Cells, Covers, written}
+use Rattle.hc_sparse.specs.Cells.{Cells, Covers, cells_with}
 use Rattle.hc_sparse.proofs.CellLemmas.{inside-cases}
 use Rattle.hc_model.specs.ActFilters.{loses_in, has_loss}
 use Rattle.hc_model.specs.Cases.{case_at, is_joining, fits_asker}
@@ -30,7 +30,7 @@ use Rattle.hc_model.specs.Keys.{entry_of}
 use Rattle.hc_model.specs.Origins.{HasByte, Origins}
 use Rattle.hc_model.specs.Origins as origins
 use Rattle.hc_model.specs.Reading.{is_written}
-use Rattle.hc_model.specs.RepresentationRows.{represented}
+use Rattle.hc_model.specs.RepresentationRows.{new_representation}
 use Rattle.hc_model.specs.Rows.{Tables, Exchange, Representation, Consumer}
 use Rattle.hc_model.specs.Sound.{IsGrowing}
 use Rattle.hc_model.specs.StoredHeads.{IsOfOne, Tags}
@@ -53,7 +53,7 @@ use Rattle.hc_model.proofs.HeadKeeps.{is_join}
 use Rattle.hc_laws.proofs.Lasting.{was_not_gone, not_lost, lasting}
 use Rattle.hc_laws.proofs.LossBy.{IsReal}
 use Rattle.hc_model.proofs.OriginsKeep.{Brought, from_before}
-use Rattle.hc_model.proofs.Pens.{writer_some}
+use Rattle.hc_model.proofs.ExclusiveWriters.{writer_some}
 use Rattle.hc_model.proofs.PieceKeeps.{some_inj}
 use Rattle.hc_model.proofs.RepFrom.{RepFrom, rep_from, IsKept, IsResumed}
 use Rattle.hc_model.proofs.RepFrom as rep
@@ -84,13 +84,13 @@ asker_tag (Some k) response h = fits_tag (range_of k.request) response h
 
 -- AFTER AN ENTRY
 
-written_some : (at x p : ℕ) (bytes : List ℕ) (f : Cells) → is_some (f p) ≡ true → is_some (written at x bytes f p) ≡ true
+written_some : (at x p : ℕ) (bytes : List ℕ) (f : Cells) → is_some (f p) ≡ true → is_some (cells_with at x bytes f p) ≡ true
 written_some at x p bytes f old = elim (inside-cases at (length bytes) p) [
   | inl here ↦ rw here.0 refl
   | inr off ↦ rw off.0 old
 ]
 
-if_written : (b : Bool) (at x p : ℕ) (bytes : List ℕ) (f : Cells) → is_some (f p) ≡ true → is_some ((if b then written at x bytes f else f) p) ≡ true
+if_written : (b : Bool) (at x p : ℕ) (bytes : List ℕ) (f : Cells) → is_some (f p) ≡ true → is_some ((if b then cells_with at x bytes f else f) p) ≡ true
 if_written true at x p bytes f old = written_some at x p bytes f old
 if_written false at x p bytes f old = old
 
@@ -162,12 +162,12 @@ module _ (limits : Limits) (t : Tables) (now : ℕ) (flaw : Flaw) (c : IsCarried
       by_from (inr b) = let no : event.Head r response ≡ event.Piece x b.bytes = sym here ∙ b.is.at in cc
 
   -- no part
-  tag_founded : (r : ℕ) (response : Response) (w : Exchange) (p : Representation) → represented r e response w ≡ p → p.head.joining ≡ None → fits_asker (t.consumer w.c) response ≡ true → ⊥
+  tag_founded : (r : ℕ) (response : Response) (w : Exchange) (p : Representation) → new_representation r e response w ≡ p → p.head.joining ≡ None → fits_asker (t.consumer w.c) response ≡ true → ⊥
   tag_founded r response w p made none fits =
       let own : joining_of (Rattle.hc_model.specs.Heads.kept_fields response.fields) ≡ None = ap (λ (z : Representation). z.head.joining) made ∙ none in
       strong_joins (values_of (codes "etag") response.fields) (asker_tag (t.consumer w.c) response fits) (sym (ap one_strong_opaque (etag_kept response.fields)) ∙ own)
 
-  whole_status : (r : ℕ) (response : Response) (w : Exchange) (p : Representation) → represented r e response w ≡ p → response.status ≡ 200 → p.head.status ≢ 206
+  whole_status : (r : ℕ) (response : Response) (w : Exchange) (p : Representation) → new_representation r e response w ≡ p → response.status ≡ 200 → p.head.status ≢ 206
   whole_status r response w p made whole is =
       let same : response.status ≡ p.head.status = ap (λ (z : Representation). z.head.status) made in
       let here : response.status ≡ 200 = whole in
@@ -180,7 +180,7 @@ module _ (limits : Limits) (t : Tables) (now : ℕ) (flaw : Flaw) (c : IsCarried
   parts_by r p after none (rep.founded response w none_there here row on made) is = by_way (founded_as limits t now flaw c.is_sound c.is_owned c.is_measured ev goes real r response w p here row on made after)
     where
       by_way : FoundedAs limits t now flaw c.is_sound c.is_owned c.is_measured ev goes real r response w p here row on made after → ⊥
-      by_way (founded.comes written writer status) = whole_status r response w p made status is
+      by_way (founded.comes cells_with writer status) = whole_status r response w p made status is
       by_way (founded.empty status known) = whole_status r response w p made status is
       by_way (founded.part total status known fits) = tag_founded r response w p made none fits
 
@@ -234,7 +234,7 @@ module _ (limits : Limits) (t : Tables) (now : ℕ) (flaw : Flaw) (c : IsCarried
   one_row r p after not_gone none (rep.founded response w none_there here row on made) = by_way (founded_as limits t now flaw c.is_sound c.is_owned c.is_measured ev goes real r response w p here row on made after)
     where
       by_way : FoundedAs limits t now flaw c.is_sound c.is_owned c.is_measured ev goes real r response w p here row on made after → IsOfOne now_on p
-      by_way (founded.comes written writer status) = heads.comes written (sym (ap (λ (z : Representation). z.head.status) made) ∙ status)
+      by_way (founded.comes cells_with writer status) = heads.comes cells_with (sym (ap (λ (z : Representation). z.head.status) made) ∙ status)
       by_way (founded.empty status known) = heads.whole 0 known (λ q lo hi. absurd (omega arith))
       by_way (founded.part total status known fits) = absurd (tag_founded r response w p made none fits)
 

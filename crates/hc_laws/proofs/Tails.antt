@@ -1,7 +1,7 @@
 -- What the own exchange of the detached reader brought since the loss is held, and all else ahead of it is stored: at each entry.
 use Rattle.std.proofs.Common.{◌≡◌, ◌⊎◌, inl, inr, ℕ, ◌+◌, ◌≤◌, ◌<◌, List, [], length, length-append, Bool, true, false, Option, Some, None, refl, ap, sym, ◌∙◌, arith}
 use Rattle.std.specs.Prelude.{is_some, ◌||◌, unwrap_or}
-use Rattle.hc_sparse.specs.Cells.{Cells, inside, written}
+use Rattle.hc_sparse.specs.Cells.{Cells, inside, cells_with}
 use Rattle.hc_sparse.proofs.CellLemmas.{inside-cases}
 use Rattle.hc_event.specs.Filters.{Opening, opening_in}
 use Rattle.hc_event.specs.declared.event.Event.{Event}
@@ -22,7 +22,7 @@ use Rattle.hc_model.specs.Measures.{Measures}
 use Rattle.hc_model.specs.Owners.{Owners}
 use Rattle.hc_model.specs.Reading.{is_written, offset, own_open}
 use Rattle.hc_model.specs.Rows.{Tables, Exchange, Representation, Consumer}
-use Rattle.hc_model.specs.Sound.{Sound, IsBound, IsAbout, HasPen, IsHad, IsAlone}
+use Rattle.hc_model.specs.Sound.{Sound, IsBound, IsAbout, IsExclusiveWriter, IsHad, IsAlone}
 use Rattle.hc_model.specs.Sound as sound
 use Rattle.hc_model.specs.Tables.{after_accepted}
 use Rattle.hc_laws.proofs.AboutKeeps.{own_open_of, own_open_is}
@@ -44,9 +44,9 @@ use Rattle.hc_model.proofs.Once.{delivers_once}
 use Rattle.hc_model.proofs.OwnFrom.{OwnFrom, own_from}
 use Rattle.hc_model.proofs.OwnFrom as own
 use Rattle.hc_model.proofs.OwnersKeep.{new_number}
-use Rattle.hc_laws.proofs.PenFrom.{PenFrom, alone_from}
-use Rattle.hc_laws.proofs.PenFrom as pens
-use Rattle.hc_model.proofs.Pens.{same_row, one_pen}
+use Rattle.hc_laws.proofs.ExclusiveWriterFrom.{ExclusiveWriterFrom, alone_from}
+use Rattle.hc_laws.proofs.ExclusiveWriterFrom as exclusive_writers
+use Rattle.hc_model.proofs.ExclusiveWriters.{same_row, one_exclusive_writer}
 use Rattle.hc_model.proofs.PieceKeeps.{some_inj}
 use Rattle.hc_model.proofs.RepFrom.{RepFrom, rep_from, IsKept}
 use Rattle.hc_model.proofs.RepFrom as rep
@@ -124,7 +124,7 @@ module _ (limits : Limits) (t : Tables) (now : ℕ) (flaw : Flaw) (s : Sound t) 
         by_far q (inr past) = inr (let a : front z ≡ front w = ends in omega arith)
 
     -- a piece comes
-    pieced : (bytes : List ℕ) → ev ≡ event.Piece x bytes → base z ≡ base w → front z ≡ front w + length bytes → family x z ≡ family x w → family x w ≡ r → p.body ≡ written (front w) x bytes v.body → IsTail now_on r p u x z
+    pieced : (bytes : List ℕ) → ev ≡ event.Piece x bytes → base z ≡ base w → front z ≡ front w + length bytes → family x z ≡ family x w → family x w ≡ r → p.body ≡ cells_with (front w) x bytes v.body → IsTail now_on r p u x z
     pieced bytes here first ends fam of_it body = record {
       from = tail.from;
       after_base = let a : base w ≤ tail.from = tail.after_base in omega arith;
@@ -138,7 +138,7 @@ module _ (limits : Limits) (t : Tables) (now : ℕ) (flaw : Flaw) (s : Sound t) 
         by_far q (inl low) = inl low
         by_far q (inr past) = inr (let a : front z ≡ front w + length bytes = ends in omega arith)
 
-        outside : (q : ℕ) → (q < tail.from) ⊎ (front z ≤ q) → written (front w) x bytes v.body q ≡ v.body q
+        outside : (q : ℕ) → (q < tail.from) ⊎ (front z ≤ q) → cells_with (front w) x bytes v.body q ≡ v.body q
         outside q far = elim (inside-cases (front w) (length bytes) q) [
           | inr off ↦ rw off.0 refl
           | inl on ↦ absurd (not_on far on.1 on.2)
@@ -168,12 +168,12 @@ module _ (limits : Limits) (t : Tables) (now : ℕ) (flaw : Flaw) (s : Sound t) 
         let of_it = of_x taken.is_open taken.headed in
         pieced bytes here first (omega arith) (ap (λ (q : Option ℕ). unwrap_or q x) still.1) of_it (by_fills of_it (fills t e r v p kept))
       where
-        by_fills : family x w ≡ r → Fills t e r v p → p.body ≡ written (front w) x bytes v.body
+        by_fills : family x w ≡ r → Fills t e r v p → p.body ≡ cells_with (front w) x bytes v.body
         by_fills of_it (fills_by.still none body stored reach) = absurd (none x bytes w (record { at = here; row = row; of_r = of_it }))
         by_fills of_it (fills_by.more y other a is body stored reach) =
             let both = piece_inj y x other bytes (sym is.at ∙ here) in
             let one : a ≡ w = same_row (t.exchange x) a w (sym (ap t.exchange both.0) ∙ is.row) row in
-            body ∙ (ap (λ n. written (front a) n other v.body) both.0 ∙ (ap (λ b. written (front a) x b v.body) both.1 ∙ ap (λ (q : Exchange). written (front q) x bytes v.body) one))
+            body ∙ (ap (λ n. cells_with (front a) n other v.body) both.0 ∙ (ap (λ b. cells_with (front a) x b v.body) both.1 ∙ ap (λ (q : Exchange). cells_with (front q) x bytes v.body) one))
 
     -- its head comes: nothing of it came before
     by_head : exchange.IsHeaded t e x w z → IsTail now_on r p u x z
@@ -231,8 +231,8 @@ module _ (limits : Limits) (t : Tables) (now : ℕ) (flaw : Flaw) (s : Sound t) 
           or_swap false false h = h
 
       -- of the exclusive writer
-      pen_only : is_written t v ≡ false → HasPen t r v c → k.own ≡ Some x → (y : ℕ) → IsAbout t r y → y ≡ x
-      pen_only off pen mine y about = by_had (s.writes.had r y v there about)
+      exclusive_writer_only : is_written t v ≡ false → IsExclusiveWriter t r v c → k.own ≡ Some x → (y : ℕ) → IsAbout t r y → y ≡ x
+      exclusive_writer_only off exclusive_writer mine y about = by_had (s.writes.had r y v there about)
         where
           by_row : (d : ℕ) (q : Consumer) → IsBound t r d q → d ≡ c → own_open t q ≡ Some y → y ≡ x
           by_row d q (sound.is_bound l h g q_row q_at) same opened =
@@ -241,7 +241,7 @@ module _ (limits : Limits) (t : Tables) (now : ℕ) (flaw : Flaw) (s : Sound t) 
 
           by_had : IsHad t r v y → y ≡ x
           by_had (sound.shared on writer) = absurd (false_true (sym off ∙ on))
-          by_had (sound.own d q theirs opened none_due their_pen) = by_row d q theirs (one_pen t r v d c s their_pen pen) opened
+          by_had (sound.own d q theirs opened none_due their_exclusive_writer) = by_row d q theirs (one_exclusive_writer t r v d c s their_exclusive_writer exclusive_writer) opened
 
       of_own : (w : Exchange) → k.own ≡ Some x → t.exchange x ≡ Some w → w.is_open ≡ true → is_some w.head ≡ true → family x w ≡ r
       of_own w mine w_row on headed = by_about (s.writes.own_about r c x k reader (own_open_is t k x (record { own = mine; w = w; row = w_row; opened = on })))
@@ -250,20 +250,20 @@ module _ (limits : Limits) (t : Tables) (now : ℕ) (flaw : Flaw) (s : Sound t) 
           by_about (sound.headed q q_row q_on q_headed fam q_there) = ap (family x) (same_row (t.exchange x) w q w_row q_row) ∙ fam
           by_about (sound.asks q b d q_row q_on bare hole aim) = absurd (false_true (sym (ap (λ (h : Option Response). is_some h) (ap (λ (y : Exchange). y.head) (same_row (t.exchange x) w q w_row q_row) ∙ bare)) ∙ headed))
 
-      by_pen : (w : Exchange) → k.own ≡ Some x → t.exchange x ≡ Some w → IsSame t e x w z → PenFrom limits t now flaw s o m ev goes real r c v → IsTail now_on r p u x z
-      by_pen w mine w_row same (pens.first fresh quiet is) = absurd (false_true (sym (kept.lost_is ∙ rw (quiet, fresh) refl) ∙ lost_now))
-      by_pen w mine w_row same (pens.alone lost quiet is) =
-          step r x k u v p w z there kept lost_then more w_row after_x same (pen_only (Rattle.hc_laws.proofs.GoAlone.unwritten_lost limits t now flaw s o m i ev goes real r c lo hi how u p after after_row stands lost_now is_alone k v row at there kept lost) (sound.alone lost is) mine) (of_own w mine w_row)
+      by_exclusive_writer : (w : Exchange) → k.own ≡ Some x → t.exchange x ≡ Some w → IsSame t e x w z → ExclusiveWriterFrom limits t now flaw s o m ev goes real r c v → IsTail now_on r p u x z
+      by_exclusive_writer w mine w_row same (exclusive_writers.first fresh quiet is) = absurd (false_true (sym (kept.lost_is ∙ rw (quiet, fresh) refl) ∙ lost_now))
+      by_exclusive_writer w mine w_row same (exclusive_writers.alone lost quiet is) =
+          step r x k u v p w z there kept lost_then more w_row after_x same (exclusive_writer_only (Rattle.hc_laws.proofs.GoAlone.unwritten_lost limits t now flaw s o m i ev goes real r c lo hi how u p after after_row stands lost_now is_alone k v row at there kept lost) (sound.alone lost is) mine) (of_own w mine w_row)
           (was.tail r c x v k w there is reader mine w_row)
-      by_pen w mine w_row same (pens.wrote fresh loses writes) =
-          step r x k u v p w z there kept lost_then more w_row after_x same (pen_only writes.unwritten (sound.first fresh writes.first) mine) (of_own w mine w_row) (fresh_tail t r x v k w s there fresh)
-      by_pen w mine w_row same (pens.survives losing is) =
+      by_exclusive_writer w mine w_row same (exclusive_writers.wrote fresh loses writes) =
+          step r x k u v p w z there kept lost_then more w_row after_x same (exclusive_writer_only writes.unwritten (sound.first fresh writes.first) mine) (of_own w mine w_row) (fresh_tail t r x v k w s there fresh)
+      by_exclusive_writer w mine w_row same (exclusive_writers.survives losing is) =
           let g = goes_on limits t now flaw s o m ev goes real r c v p u there losing is after after_row in
           let number : g.is.x ≡ x = some_inj g.is.x x (sym g.is.own ∙ owned) in
           absurd (o.apart r x c v k there (and_right _ _ losing) (g.own_is ∙ ap Some number) row.row mine)
 
       kept_tail : k.own ≡ Some x → ExchangeFrom t e x z → IsTail now_on r p u x z
-      kept_tail mine (exchange.was w w_row same) = by_pen w mine w_row same (alone_from limits t now flaw s o m ev goes real r c v p there kept lost_now is_alone)
+      kept_tail mine (exchange.was w w_row same) = by_exclusive_writer w mine w_row same (alone_from limits t now flaw s o m ev goes real r c v p there kept lost_now is_alone)
       kept_tail mine (exchange.new q no_row opens number made) = absurd (false_true (sym (ap (λ (y : Option Exchange). is_some y) no_row) ∙ o.there c x k row.row mine))
 
       opened_tail : (q : Opening) → opening_in e.acts ≡ Some q → q.c ≡ c → q.x ≡ x → ExchangeFrom t e x z → IsTail now_on r p u x z

@@ -51,7 +51,7 @@ use Rattle.hc_model.proofs.Once.{never, taken}
 use Rattle.hc_rules.specs.Refusals.{piece_refusal}
 use Rattle.hc_model.proofs.OwnersKeep.{is_opened, new_number}
 use Rattle.hc_model.proofs.PieceKeeps.{eq_cases, some_inj}
-use Rattle.hc_model.proofs.Pens.{same_row}
+use Rattle.hc_model.proofs.ExclusiveWriters.{same_row}
 use Rattle.hc_model.proofs.Said.{shows_it, showing_by, waiting_by}
 use Rattle.hc_model.proofs.Waiters.{IsWaiter, waiter_of, heard_same, unclosed, own_acted}
 

@@ -21,7 +21,7 @@ use Rattle.hc_model.proofs.Forward.{IsOn, is_on}
 use Rattle.hc_model.proofs.HeadKeeps.{IsJoin}
 use Rattle.hc_laws.proofs.HeadTo as to
 use Rattle.hc_model.proofs.OwnNone.{IsShared}
-use Rattle.hc_model.proofs.Pens.{same_row}
+use Rattle.hc_model.proofs.ExclusiveWriters.{same_row}
 use Rattle.hc_model.proofs.Waiters.{IsWaiter, waiter_of}
 
 module _ (limits : Limits) (t : Tables) (now : ℕ) (flaw : Flaw) (s : Sound t) (o : Owners t) (ev : Event) (goes : denial t ev ≡ None) where

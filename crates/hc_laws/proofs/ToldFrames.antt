@@ -9,15 +9,15 @@ use Rattle.hc_event.specs.declared.event.Event.TheVariants as event
 use Rattle.hc_text.specs.declared.bytes.Key.{Key}
 use Rattle.hc_rules.specs.declared.room.Limits.{Limits}
 use Rattle.hc_model.specs.ActFilters.{loses_in, misreads_in}
-use Rattle.hc_model.specs.Answers.{lost, said, is_asked}
+use Rattle.hc_model.specs.Answers.{loss_acts, answer_acts, is_asked}
 use Rattle.hc_model.specs.Cases.{case_at, case_of, is_founding}
 use Rattle.hc_model.specs.Closings.{closing}
 use Rattle.hc_model.specs.ConsumerRows.{consumer_after, consumer_heard, consumer_made, due_after, back_in_line}
 use Rattle.hc_model.specs.Currents.{is_current}
 use Rattle.hc_model.specs.Denials.{denial}
 use Rattle.hc_model.specs.Dooms.{doomed, is_key}
-use Rattle.hc_model.specs.Effects.{Does, counted, gone, let_all_go, over, lost_to}
-use Rattle.hc_model.specs.Entries.{Entry, unanswered}
+use Rattle.hc_model.specs.Effects.{Does, with_event, as_gone, let_all_go, over, lost_to}
+use Rattle.hc_model.specs.Entries.{Entry, entry_without_acts}
 use Rattle.hc_model.specs.Evictions.{evict_all, unevicting}
 use Rattle.hc_model.specs.ExchangeRows.{exchange_after, exchange_heard, exchange_acted}
 use Rattle.hc_model.specs.Exchanges.{exchange_at, exchange_in}
@@ -30,7 +30,7 @@ use Rattle.hc_model.specs.Reading.{reads}
 use Rattle.hc_model.specs.RepresentationRows.{representation_after, representation_heard, representation_acted, founded_at}
 use Rattle.hc_model.specs.Rows.{Tables, Exchange, Representation, Consumer}
 use Rattle.hc_model.specs.StartingOver.{starts_over, waits_at}
-use Rattle.hc_model.specs.Tables.{after_accepted, added, starts_after, last_start_after, opened_after, openings_after, to_front, founds}
+use Rattle.hc_model.specs.Tables.{after_accepted, with_item_first, starts_after, last_start_after, opened_after, openings_after, to_front, founds}
 use Rattle.hc_model.specs.Weights.{evicted, write_in}
 use Rattle.hc_model.specs.Writers.{goes_on_with}
 use Rattle.hc_model.proofs.ActParts.{IsFarFrom, asks_lost, asks_closes, closes_lost, loses_before, evicts_lost, evicts_closes, far_loss, far_closed}
@@ -56,7 +56,7 @@ pub data IsTold : Event → Type 0 where
 -- it asks nothing, starts and founds nothing, and has no case
 pub record SaysLittle (t : Tables) (now : ℕ) (ev : Event) : Type 0 where
   pub unasked : is_asked ev ≡ false
-  pub says : (flaw : Flaw) → said t now ev flaw ≡ []
+  pub says : (flaw : Flaw) → answer_acts t now ev flaw ≡ []
   pub starts : (cs : List ℕ) → starts_after ev cs ≡ cs
   pub last : (n : ℕ) → last_start_after ev n ≡ n
   pub caseless : (acts : List Act) → case_at t (record { now = now; event = ev; acts = acts }) ≡ None
@@ -74,7 +74,7 @@ module _ (t : Tables) (now : ℕ) (ev : Event) (told : IsTold ev) (flaw : Flaw) 
   -- THE ENTRY
 
   abbrev pub e : Entry
-  e = record { now = now; event = ev; acts = lost flaw ++ map act.Close xs }
+  e = record { now = now; event = ev; acts = loss_acts flaw ++ map act.Close xs }
 
   abbrev n : SaysLittle t now ev
   n = says_little t now ev told
@@ -94,7 +94,7 @@ module _ (t : Tables) (now : ℕ) (ev : Event) (told : IsTold ev) (flaw : Flaw) 
   pub closes_as : (y : ℕ) → closes_in y e.acts ≡ is_in xs y
   closes_as y = closes_lost y flaw (map act.Close xs) ∙ closes_are y xs
 
-  pub loses_as : (r : ℕ) → loses_in r e.acts ≡ loses_in r (lost flaw)
+  pub loses_as : (r : ℕ) → loses_in r e.acts ≡ loses_in r (loss_acts flaw)
   loses_as r = loses_before r flaw xs
 
   pub far : (d : ℕ) → IsFarFrom d e.acts
@@ -139,11 +139,11 @@ module _ (t : Tables) (now : ℕ) (ev : Event) (told : IsTold ev) (flaw : Flaw) 
   no_case r (Some w) = rw (n.caseless e.acts) refl
 
   -- by a doom, a loss or an early end
-  pub goes_as : (r : ℕ) (v : Representation) → becomes_gone t e r v ≡ ((is_current t v.key r && is_key (doomed t e) v.key) || loses_in r (lost flaw) || (ends_early t e r v && not (is_keepable v)))
+  pub goes_as : (r : ℕ) (v : Representation) → becomes_gone t e r v ≡ ((is_current t v.key r && is_key (doomed t e) v.key) || loses_in r (loss_acts flaw) || (ends_early t e r v && not (is_keepable v)))
   unfolding becomes_gone
   goes_as r v =
       rw (no_case r (exchange_at t ev), opens_none, loses_as r, misreads_none r, evicts_none r)
-      (drop (is_current t v.key r) (is_key (doomed t e) v.key) (loses_in r (lost flaw)) (ends_early t e r v && not (is_keepable v)))
+      (drop (is_current t v.key r) (is_key (doomed t e) v.key) (loses_in r (loss_acts flaw)) (ends_early t e r v && not (is_keepable v)))
     where
       drop : (a b c d : Bool) → (((a && (b || false)) || false || c || false || d) || false) ≡ ((a && b) || c || d)
       drop true true c d = refl
@@ -155,25 +155,25 @@ module _ (t : Tables) (now : ℕ) (ev : Event) (told : IsTold ev) (flaw : Flaw) 
   -- REPRESENTATIONS
 
   -- one that isn't lost
-  pub representation_by : (r : ℕ) (v u : Representation) (b : Bool) → representation_heard t e r ev v ≡ u → loses_in r (lost flaw) ≡ false → becomes_gone t e r v ≡ b → representation_after t e r (Some v) ≡ (if b then option_map gone (Some u) else Some u)
+  pub representation_by : (r : ℕ) (v u : Representation) (b : Bool) → representation_heard t e r ev v ≡ u → loses_in r (loss_acts flaw) ≡ false → becomes_gone t e r v ≡ b → representation_after t e r (Some v) ≡ (if b then option_map as_gone (Some u) else Some u)
   unfolding representation_after
   representation_by r v u b heard kept goes = ap (λ (z : Representation). Some (representation_acted t e r v z)) heard ∙ rw (loses_as r, kept, goes) (by_test b)
     where
-      by_test : (b : Bool) → Some (record u { is_gone = b || u.is_gone }) ≡ (if b then option_map gone (Some u) else Some u)
+      by_test : (b : Bool) → Some (record u { is_gone = b || u.is_gone }) ≡ (if b then option_map as_gone (Some u) else Some u)
       by_test true = refl
       by_test false = refl
 
   -- one that is lost, with which this one goes on
-  pub lost_by : (r : ℕ) (v u : Representation) (alone : Option ℕ) → representation_heard t e r ev v ≡ u → loses_in r (lost flaw) ≡ true → v.is_lost ≡ false → becomes_gone t e r v ≡ true → goes_on_with t e r v ≡ alone → representation_after t e r (Some v) ≡ Some (gone (lost_to alone u))
+  pub lost_by : (r : ℕ) (v u : Representation) (alone : Option ℕ) → representation_heard t e r ev v ≡ u → loses_in r (loss_acts flaw) ≡ true → v.is_lost ≡ false → becomes_gone t e r v ≡ true → goes_on_with t e r v ≡ alone → representation_after t e r (Some v) ≡ Some (as_gone (lost_to alone u))
   unfolding representation_after
   lost_by r v u alone heard loses kept goes goes_on =
       ap (λ (z : Representation). Some (representation_acted t e r v z)) heard
       ∙ ap Some (by_parts (loses_in r e.acts) v.is_lost (becomes_gone t e r v) (goes_on_with t e r v) (loses_as r ∙ loses) kept goes goes_on)
     where
-      by_parts : (l k g : Bool) (o : Option ℕ) → l ≡ true → k ≡ false → g ≡ true → o ≡ alone → record u { is_lost = l || u.is_lost; alone = if l && not k then o else u.alone; is_gone = g || u.is_gone } ≡ gone (lost_to alone u)
+      by_parts : (l k g : Bool) (o : Option ℕ) → l ≡ true → k ≡ false → g ≡ true → o ≡ alone → record u { is_lost = l || u.is_lost; alone = if l && not k then o else u.alone; is_gone = g || u.is_gone } ≡ as_gone (lost_to alone u)
       by_parts l k g o a b c d = rw (a, b, c, d) refl
 
-  pub representation_none : (r : ℕ) (b : Bool) → representation_after t e r None ≡ (if b then option_map gone None else None)
+  pub representation_none : (r : ℕ) (b : Bool) → representation_after t e r None ≡ (if b then option_map as_gone None else None)
   representation_none r true = representation_absent t e r (n.unfounded e.acts r)
   representation_none r false = representation_absent t e r (n.unfounded e.acts r)
 
@@ -212,11 +212,11 @@ module _ (t : Tables) (now : ℕ) (ev : Event) (told : IsTold ev) (flaw : Flaw) 
 
   pub told_by : (rs : List ℕ) (es : ℕ → Option Exchange) (vs : ℕ → Option Representation) (ks : ℕ → Option Consumer)
       → ((y : ℕ) → exchange_after t e y (t.exchange y) ≡ es y)
-      → ((r : ℕ) → representation_after t e r (t.representation r) ≡ (if is_in rs r then option_map gone (vs r) else vs r))
+      → ((r : ℕ) → representation_after t e r (t.representation r) ≡ (if is_in rs r then option_map as_gone (vs r) else vs r))
       → ((c : ℕ) → consumer_after t e c (t.consumer c) ≡ option_map (back_from_any now rs) (ks c))
-      → after_accepted t e ≡ counted now ev (let_all_go now rs (record t { exchange = es; representation = vs; consumer = ks }))
+      → after_accepted t e ≡ with_event now ev (let_all_go now rs (record t { exchange = es; representation = vs; consumer = ks }))
   told_by rs es vs ks exchanges representations consumers =
-      same_tables (after_accepted t e) (counted now ev (without now rs (record t { exchange = es; representation = vs; consumer = ks }))) (record {
+      same_tables (after_accepted t e) (with_event now ev (without now rs (record t { exchange = es; representation = vs; consumer = ks }))) (record {
         moment = refl;
         entries = refl;
         received = refl;
@@ -224,23 +224,23 @@ module _ (t : Tables) (now : ℕ) (ev : Event) (told : IsTold ev) (flaw : Flaw) 
         starts = n.starts t.starts;
         opened = ap (λ o. opened_after o t.opened) opens_none;
         openings = ap (λ o. openings_after o t.openings) opens_none;
-        founded = ap (λ o. added o t.founded) founds_none;
+        founded = ap (λ o. with_item_first o t.founded) founds_none;
         used = ap (λ o. to_front o t.used) (binds_nobody t e (ap is_founding (n.caseless e.acts)) opens_none (quiet_acts [] xs flaw).showing);
         exchange = exchanges;
         representation = representations;
         consumer = consumers;
       })
-      ∙ ap (counted now ev) (sym (all_go_is now rs (record t { exchange = es; representation = vs; consumer = ks })))
+      ∙ ap (with_event now ev) (sym (all_go_is now rs (record t { exchange = es; representation = vs; consumer = ks })))
 
-  module _ (limits : Limits) (law : Lawful t) (taken : denial t ev ≡ None) (s : Tables) (closes : closing t (record { now = now; event = ev; acts = lost flaw }) ≡ xs) (tables : after_accepted t e ≡ counted now ev s) where
+  module _ (limits : Limits) (law : Lawful t) (taken : denial t ev ≡ None) (s : Tables) (closes : closing t (record { now = now; event = ev; acts = loss_acts flaw }) ≡ xs) (tables : after_accepted t e ≡ with_event now ev s) where
     acts_are : unevicting t now ev flaw ≡ e.acts
-    acts_are = rw n.unasked (ap (λ acts. lost flaw ++ map act.Close (closing t (record { now = now; event = ev; acts = acts ++ lost flaw }))) (n.says flaw) ∙ ap (λ ys. lost flaw ++ map act.Close ys) closes)
+    acts_are = rw n.unasked (ap (λ acts. loss_acts flaw ++ map act.Close (closing t (record { now = now; event = ev; acts = acts ++ loss_acts flaw }))) (n.says flaw) ∙ ap (λ ys. loss_acts flaw ++ map act.Close ys) closes)
 
     abbrev es : List ℕ
     es = evicted limits t now ev
 
     -- and what makes room goes last
-    pub told_does : Does limits t now ev flaw (map act.Evicted es ++ (lost flaw ++ map act.Close xs)) (counted now ev (let_all_go now es s))
+    pub told_does : Does limits t now ev flaw (map act.Evicted es ++ (loss_acts flaw ++ map act.Close xs)) (with_event now ev (let_all_go now es s))
     told_does =
         let last = evictions_come_last limits t now ev flaw law.sound law.owned taken in
         record {
@@ -249,10 +249,10 @@ module _ (t : Tables) (now : ℕ) (ev : Event) (told : IsTold ev) (flaw : Flaw) 
               last.tables
               ∙ (ap (λ acts. evict_all es (after_accepted t (record { now = now; event = ev; acts = acts }))) acts_are
               ∙ (ap (evict_all es) tables
-              ∙ (all_go_is now es (counted now ev s) ∙ ap (counted now ev) (sym (all_go_is now es s)))));
+              ∙ (all_go_is now es (with_event now ev s) ∙ ap (with_event now ev) (sym (all_go_is now es s)))));
         }
 
     -- nothing does where nothing is written
-    pub told_plainly : write_in t (unanswered now ev) ev ≡ None → Does limits t now ev flaw (lost flaw ++ map act.Close xs) (counted now ev s)
+    pub told_plainly : write_in t (entry_without_acts now ev) ev ≡ None → Does limits t now ev flaw (loss_acts flaw ++ map act.Close xs) (with_event now ev s)
     told_plainly unwritten =
-        subst (λ ys. Does limits t now ev flaw (map act.Evicted ys ++ (lost flaw ++ map act.Close xs)) (counted now ev (let_all_go now ys s))) (evicts_nothing limits t now ev unwritten) told_does
+        subst (λ ys. Does limits t now ev flaw (map act.Evicted ys ++ (loss_acts flaw ++ map act.Close xs)) (with_event now ev (let_all_go now ys s))) (evicts_nothing limits t now ev unwritten) told_does

@@ -13,7 +13,7 @@ use Rattle.hc_event.specs.declared.place.Place.TheVariants as place
 use Rattle.hc_model.specs.ConsumerRows.{opened_place, unless_bound}
 use Rattle.hc_model.specs.Currents.{current, is_current}
 use Rattle.hc_model.specs.Dooms.{bypassed_for}
-use Rattle.hc_model.specs.Effects.{Does, counted, with_consumer, with_opening, just_opened, let_some_go}
+use Rattle.hc_model.specs.Effects.{Does, with_event, with_consumer, with_opening, just_opened, let_some_go}
 use Rattle.hc_model.specs.Entries.{Entry}
 use Rattle.hc_model.specs.Flaws.{NoFlaw}
 use Rattle.hc_model.specs.Gone.{becomes_gone}
@@ -22,7 +22,7 @@ use Rattle.hc_model.specs.Moves.{Opens, acts_of}
 use Rattle.hc_model.specs.Polls.{move_of}
 use Rattle.hc_model.specs.Reading.{bound_to}
 use Rattle.hc_model.specs.Rows.{Tables, Representation, Consumer}
-use Rattle.hc_model.specs.Tables.{added, is_hole}
+use Rattle.hc_model.specs.Tables.{with_item_first, is_hole}
 use Rattle.hc_model.proofs.Basics.{false_true}
 use Rattle.hc_laws.proofs.ConsumerEffects.{some_all}
 use Rattle.hc_model.proofs.KeyNames.{current_test}
@@ -62,7 +62,7 @@ module _ (limits : Limits) (t : Tables) (law : Lawful t) (now c want : ℕ) (k :
 
   -- its consumer waits for its head, with the turn
   pub fetches : n ≢ need.Bypass → Does limits t now (event.Poll c want) NoFlaw (acts_of c (Opens x n request))
-      (counted now (event.Poll c want) (with_consumer c (Some (record k { own = Some x; place = place.Turn x })) (with_opening x (just_opened now c n request (current t k.request.key)) t)))
+      (with_event now (event.Poll c want) (with_consumer c (Some (record k { own = Some x; place = place.Turn x })) (with_opening x (just_opened now c n request (current t k.request.key)) t)))
   fetches other =
       about_current limits t law now c want k row x n request is free [] t.used (place.Turn x)
       (keeps_all limits t law now c want k row x n request is (plain_turn n request other))
@@ -80,7 +80,7 @@ module _ (limits : Limits) (t : Tables) (law : Lawful t) (now c want : ℕ) (k :
   reason = why limits t law now c want k row x need.Bypass request is
 
   -- just what is current is bypassed
-  goes : (r : ℕ) (v : Representation) → t.representation r ≡ Some v → becomes_gone t it r v ≡ is_in (added (current t k.request.key) []) r
+  goes : (r : ℕ) (v : Representation) → t.representation r ≡ Some v → becomes_gone t it r v ≡ is_in (with_item_first (current t k.request.key) []) r
   goes r v there =
       goes_as t it c said_nothing r v
       ∙ (rw reason.key_is (rw (ends_none t it c said_nothing r v refl) (drop (is_current t v.key r && bytes_eq k.request.key v.key)))
@@ -91,7 +91,7 @@ module _ (limits : Limits) (t : Tables) (law : Lawful t) (now c want : ℕ) (k :
       drop false = refl
 
   -- it waits for no body
-  unwaiting : (p : Place) → k.place ≡ p → waits_for_any (added (current t k.request.key) []) p ≡ false
+  unwaiting : (p : Place) → k.place ≡ p → waits_for_any (with_item_first (current t k.request.key) []) p ≡ false
   unwaiting (place.Passed r kept) at = absurd (false_true (sym (law.owned.passed c r kept k row at) ∙ reason.bypasses refl))
   unwaiting place.Line at = refl
   unwaiting (place.Turn y) at = refl
@@ -102,12 +102,12 @@ module _ (limits : Limits) (t : Tables) (law : Lawful t) (now c want : ℕ) (k :
 
   -- and what is current is let go
   pub bypasses : Does limits t now (event.Poll c want) NoFlaw (acts_of c (Opens x need.Bypass request))
-      (counted now (event.Poll c want) (let_some_go now (current t k.request.key) (with_consumer c (Some (record k { own = Some x; place = place.Turn x })) (with_opening x (just_opened now c need.Bypass request (current t k.request.key)) t))))
+      (with_event now (event.Poll c want) (let_some_go now (current t k.request.key) (with_consumer c (Some (record k { own = Some x; place = place.Turn x })) (with_opening x (just_opened now c need.Bypass request (current t k.request.key)) t))))
   bypasses =
-      let does = about_current limits t law now c want k row x need.Bypass request is (free limits t law now c want k row x need.Bypass request is refl) (added (current t k.request.key) []) t.used (place.Turn x)
+      let does = about_current limits t law now c want k row x need.Bypass request is (free limits t law now c want k row x need.Bypass request is refl) (with_item_first (current t k.request.key) []) t.used (place.Turn x)
       goes (binds_none limits t law now c want k row x need.Bypass request is refl)
       (place_is limits t law now c want k row x need.Bypass request is refl) (λ off. undue limits t law now c want k row x need.Bypass request is refl) (unwaiting k.place refl) refl in
       record {
         acts_are = does.acts_are;
-        tables_are = does.tables_are ∙ ap (counted now (event.Poll c want)) (some_all now (current t k.request.key) (with_consumer c (Some (record k { own = Some x; place = place.Turn x })) (with_opening x (just_opened now c need.Bypass request (current t k.request.key)) t)));
+        tables_are = does.tables_are ∙ ap (with_event now (event.Poll c want)) (some_all now (current t k.request.key) (with_consumer c (Some (record k { own = Some x; place = place.Turn x })) (with_opening x (just_opened now c need.Bypass request (current t k.request.key)) t)));
       }

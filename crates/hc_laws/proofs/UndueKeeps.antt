@@ -30,7 +30,7 @@ use Rattle.hc_model.specs.Owners as owners
 use Rattle.hc_model.specs.Reading.{is_written, source, reads}
 use Rattle.hc_model.specs.Rows.{Tables, Exchange, Representation, Consumer}
 use Rattle.hc_model.specs.Runs.{may_stand}
-use Rattle.hc_model.specs.Sound.{Sound, IsBound, IsFirst, HasPen, IsAbout}
+use Rattle.hc_model.specs.Sound.{Sound, IsBound, IsFirst, IsExclusiveWriter, IsAbout}
 use Rattle.hc_model.specs.Sound as sound
 use Rattle.hc_model.specs.Tables.{after_accepted}
 use Rattle.hc_model.specs.Writers.{loses_writing}
@@ -48,7 +48,7 @@ use Rattle.hc_model.proofs.FoundBy.{case_by, founding_by, founds_way}
 use Rattle.hc_laws.proofs.MemberStays.{head_not}
 use Rattle.hc_model.proofs.OwnersKeep.{is_opened}
 use Rattle.hc_model.proofs.PieceKeeps.{eq_cases, some_inj}
-use Rattle.hc_model.proofs.Pens.{same_row, writer_some}
+use Rattle.hc_model.proofs.ExclusiveWriters.{same_row, writer_some}
 use Rattle.hc_model.proofs.RepFrom.{RepFrom, rep_from, IsKept, IsResumed}
 use Rattle.hc_model.proofs.RepFrom as rep
 use Rattle.hc_model.proofs.Stops.{source_is}
@@ -171,7 +171,7 @@ module _ (limits : Limits) (t : Tables) (now : ℕ) (flaw : Flaw) (s : Sound t) 
 
   -- RESUMED
 
-  none_lost : (r c : ℕ) (v : Representation) → v.is_lost ≡ false → HasPen t r v c → IsFirst t r c
+  none_lost : (r c : ℕ) (v : Representation) → v.is_lost ≡ false → IsExclusiveWriter t r v c → IsFirst t r c
   none_lost r c v fresh (sound.first kept is) = is
   none_lost r c v fresh (sound.alone lost is) = absurd (false_true (sym fresh ∙ lost))
 

@@ -20,7 +20,7 @@ use Rattle.hc_model.specs.Denials.{denial}
 use Rattle.hc_model.specs.Endings.{Unended}
 use Rattle.hc_model.specs.Entries.{Entry}
 use Rattle.hc_model.specs.ExchangeRows.{aim_from, exchange_acted, exchange_heard, with_piece}
-use Rattle.hc_model.specs.Exchanges.{exchange_in, family, is_open, is_reached, promised}
+use Rattle.hc_model.specs.Exchanges.{exchange_in, family, is_open, is_reached, promised_bytes}
 use Rattle.hc_model.specs.Failures.{becomes_due, stop_cause}
 use Rattle.hc_model.specs.Flaws.{Flaw}
 use Rattle.hc_model.specs.Keys.{entry_of}
@@ -28,7 +28,7 @@ use Rattle.hc_model.specs.Laws.{OfRuns}
 use Rattle.hc_model.specs.Measures.{Measures, IsMeasured}
 use Rattle.hc_model.specs.Measures as measures
 use Rattle.hc_model.specs.Owners.{Owners}
-use Rattle.hc_model.specs.Reading.{bound, bound_to, is_written, own_open, shared, source, reads}
+use Rattle.hc_model.specs.Reading.{bound, bound_to, is_written, own_open, shared_exchange, source, reads}
 use Rattle.hc_model.specs.Rows.{Tables, Exchange, Representation, Consumer}
 use Rattle.hc_model.specs.Sound.{Sound, IsBound, IsFirst, IsGrowing}
 use Rattle.hc_model.specs.Sound as sound
@@ -52,9 +52,9 @@ use Rattle.hc_model.proofs.OwnFrom.{OwnFrom, own_from}
 use Rattle.hc_model.proofs.OwnFrom as own
 use Rattle.hc_model.proofs.OwnNone.{IsShared, own_none}
 use Rattle.hc_model.proofs.OwnersKeep.{is_opened}
-use Rattle.hc_laws.proofs.PenFrom.{PenFrom, alone_from}
-use Rattle.hc_laws.proofs.PenFrom as pens
-use Rattle.hc_model.proofs.Pens.{same_row, bound_some, writer_some}
+use Rattle.hc_laws.proofs.ExclusiveWriterFrom.{ExclusiveWriterFrom, alone_from}
+use Rattle.hc_laws.proofs.ExclusiveWriterFrom as exclusive_writers
+use Rattle.hc_model.proofs.ExclusiveWriters.{same_row, bound_some, writer_some}
 use Rattle.hc_model.proofs.PieceKeeps.{eq_cases, some_inj}
 use Rattle.hc_model.proofs.PollTree.{OpensHole}
 use Rattle.hc_model.proofs.PollTree as tree
@@ -88,7 +88,7 @@ pub record IsEndless (t : Tables) (r x : ℕ) (w : Exchange) : Type 0 where
   pub is_open : w.is_open ≡ true
   pub headed : is_some w.head ≡ true
   pub mine : x ≡ r
-  pub unpromised : promised w ≡ None
+  pub unpromised : promised_bytes w ≡ None
 
 endless : (t : Tables) (m : Measures t) (r x : ℕ) (v : Representation) (w : Exchange) → t.representation r ≡ Some v → v.head.total ≡ None → t.exchange x ≡ Some w → w.is_open ≡ true → is_some w.head ≡ true → family x w ≡ r → IsEndless t r x w
 endless t m r x v w there none row on headed of_r = by_measure (m.brings x w v row on headed (ap t.representation of_r ∙ there))
@@ -187,7 +187,7 @@ module _ (limits : Limits) (t : Tables) (now : ℕ) (flaw : Flaw) (s : Sound t) 
 
       piece_on : (bytes : List ℕ) → (with_piece bytes w).is_open ≡ true
       piece_on bytes =
-          let promise : is_reached (promised w) (length (w.body ++ bytes)) ≡ false = ap (λ q. is_reached q (length (w.body ++ bytes))) is.unpromised in
+          let promise : is_reached (promised_bytes w) (length (w.body ++ bytes)) ≡ false = ap (λ q. is_reached q (length (w.body ++ bytes))) is.unpromised in
           let on = is.is_open in
           rw (promise, on) refl
 
@@ -232,7 +232,7 @@ module _ (limits : Limits) (t : Tables) (now : ℕ) (flaw : Flaw) (s : Sound t) 
         w = own_of.w
 
         reads_own : source t k ≡ Some r
-        reads_own = ap (λ (q : Option ℕ). option_or q (shared t k.place)) opened_own
+        reads_own = ap (λ (q : Option ℕ). option_or q (shared_exchange t k.place)) opened_own
 
         off : is_written t v ≡ false
         off = unwritten_lost limits t now flaw s o m i ev goes real r c lo None how u p after after_row stands lost_now is_alone k v row at there kept lost
@@ -376,11 +376,11 @@ module _ (limits : Limits) (t : Tables) (now : ℕ) (flaw : Flaw) (s : Sound t) 
       by_writer losing is None writer = absurd (writer_some t v (and_right _ _ losing) writer)
       by_writer losing is (Some x) writer = survives losing is x writer
 
-      by_pen : (v.is_lost ≡ true → v.alone ≡ Some c → own_open t k ≡ Some r) → PenFrom limits t now flaw s o m ev goes real r c v → own_open now_on u ≡ Some r
-      by_pen was (pens.first fresh quiet is) = absurd (first_ends is)
-      by_pen was (pens.alone lost quiet is) = went_on lost (was lost is)
-      by_pen was (pens.wrote fresh loses writes) = absurd (first_ends writes.first)
-      by_pen was (pens.survives losing is) = by_writer losing is v.writer refl
+      by_exclusive_writer : (v.is_lost ≡ true → v.alone ≡ Some c → own_open t k ≡ Some r) → ExclusiveWriterFrom limits t now flaw s o m ev goes real r c v → own_open now_on u ≡ Some r
+      by_exclusive_writer was (exclusive_writers.first fresh quiet is) = absurd (first_ends is)
+      by_exclusive_writer was (exclusive_writers.alone lost quiet is) = went_on lost (was lost is)
+      by_exclusive_writer was (exclusive_writers.wrote fresh loses writes) = absurd (first_ends writes.first)
+      by_exclusive_writer was (exclusive_writers.survives losing is) = by_writer losing is v.writer refl
 
   module _ (was : Unended t) (r c lo : ℕ) (how : BoundBy) (u : Consumer) (p : Representation) (after : now_on.representation r ≡ Some p) (is_alone : p.alone ≡ Some c) (after_row : now_on.consumer c ≡ Some u) (stands : u.place ≡ place.Bound r lo None how) (none : p.head.total ≡ None) (undue : u.due ≡ None) where
     lost_now : p.is_lost ≡ true
@@ -388,7 +388,7 @@ module _ (limits : Limits) (t : Tables) (now : ℕ) (flaw : Flaw) (s : Sound t) 
 
     by_reader : BoundFrom t e c r lo None how u → RepFrom t e r p → own_open now_on u ≡ Some r
     by_reader (from.stays k row at) (rep.was v kept) =
-        by_pen r c lo how k u v p row at stands kept.row kept none undue lost_now is_alone after after_row
+        by_exclusive_writer r c lo how k u v p row at stands kept.row kept none undue lost_now is_alone after after_row
         (λ lost alone_was. was.alone r c lo how v k kept.row alone_was row.row at (none_before r c lo how k u v p row at stands kept.row kept none undue) (dues r c lo how k u v p row at stands kept.row kept none undue).0)
         (alone_from limits t now flaw s o m ev goes real r c v p kept.row kept lost_now is_alone)
     by_reader (from.stays k row at) (rep.founded response w none_there here w_row on is_made) = absurd (false_true (ap (λ (q : Representation). q.is_lost) is_made ∙ lost_now))

@@ -20,17 +20,17 @@ use Rattle.hc_model.specs.Measures as measures
 use Rattle.hc_model.specs.Owners.{Owners}
 use Rattle.hc_model.specs.Reading.{is_written}
 use Rattle.hc_model.specs.Holes.{covers}
-use Rattle.hc_model.specs.RepresentationRows.{represented, asks_whole, hole_start, resumes}
+use Rattle.hc_model.specs.RepresentationRows.{new_representation, asks_whole, hole_start, resumes}
 use Rattle.hc_model.specs.Rows.{Tables, Exchange, Representation}
 use Rattle.hc_model.specs.Sound.{Sound, IsGrowing, end_from}
-use Rattle.hc_model.specs.Tables.{loaded, begun, after_accepted}
+use Rattle.hc_model.specs.Tables.{representation_of_content, first_tables, after_accepted}
 use Rattle.hc_model.proofs.ApartKeeps.{written_by, is_on}
 use Rattle.hc_model.proofs.Basics.{false_true, none_some, some_none}
 use Rattle.hc_model.proofs.DeniedKeeps.{written_same}
 use Rattle.hc_laws.proofs.LossBy.{IsReal}
 use Rattle.hc_model.proofs.MeasuresBegin.{known_item}
 use Rattle.hc_model.proofs.PieceKeeps.{some_inj}
-use Rattle.hc_model.proofs.Pens.{writer_some}
+use Rattle.hc_model.proofs.ExclusiveWriters.{writer_some}
 use Rattle.hc_model.proofs.RepFrom.{RepFrom, rep_from, IsKept, IsResumed, IsEnded}
 use Rattle.hc_model.proofs.RepFrom as rep
 use Rattle.hc_laws.proofs.Lasting.{was_not_gone, not_lost, lasting}
@@ -59,13 +59,13 @@ begun_known : (item : Content) (z : Option ℕ) → is_kind_right item z ≡ tru
 begun_known item None right none = false_true right
 begun_known item (Some n) right none = some_none n none
 
-pub unknown_begun : (limits : Limits) (contents : Contents) → may_begin limits contents ≡ true → Unknown (begun contents)
+pub unknown_begun : (limits : Limits) (contents : Contents) → may_begin limits contents ≡ true → Unknown (first_tables contents)
 unknown_begun limits contents may r v there not_gone none = by_item (item_of contents r) refl there
   where
-    by_item : (z : Option Content) → item_of contents r ≡ z → option_map loaded z ≡ Some v → IsOnlyWritten (begun contents) v
+    by_item : (z : Option Content) → item_of contents r ≡ z → option_map representation_of_content z ≡ Some v → IsOnlyWritten (first_tables contents) v
     by_item None found is = absurd (none_some v is)
     by_item (Some item) found is =
-        absurd (begun_known item item.head.total (known_item limits contents may r item found) (ap (λ (q : Representation). q.head.total) (some_inj (loaded item) v is) ∙ none))
+        absurd (begun_known item item.head.total (known_item limits contents may r item found) (ap (λ (q : Representation). q.head.total) (some_inj (representation_of_content item) v is) ∙ none))
 
 pub unknown_denied : AfterDenials Unknown
 unknown_denied t e u r v there not_gone none = let w = u r v there not_gone none in record { written = written_same t e v ∙ w.written; whole = w.whole }
@@ -145,7 +145,7 @@ module _ (limits : Limits) (t : Tables) (now : ℕ) (flaw : Flaw) (s : Sound t) 
 
   -- WHAT IS FOUNDED
 
-  founded_by : (r : ℕ) (response : Response) (w : Exchange) (p : Representation) (here : ev ≡ event.Head r response) (row : t.exchange r ≡ Some w) (founding : is_founding (case_at t e) ≡ true) (made : represented r e response w ≡ p) (after : now_on.representation r ≡ Some p) → p.head.total ≡ None → FoundedAs limits t now flaw s o m ev goes real r response w p here row founding made after → IsOnlyWritten now_on p
+  founded_by : (r : ℕ) (response : Response) (w : Exchange) (p : Representation) (here : ev ≡ event.Head r response) (row : t.exchange r ≡ Some w) (founding : is_founding (case_at t e) ≡ true) (made : new_representation r e response w ≡ p) (after : now_on.representation r ≡ Some p) → p.head.total ≡ None → FoundedAs limits t now flaw s o m ev goes real r response w p here row founding made after → IsOnlyWritten now_on p
   founded_by r response w p here row founding made after none (founded.comes on writer status) = record { written = on; whole = sym (ap (λ (q : Representation). q.head.status) made) ∙ status }
   founded_by r response w p here row founding made after none (founded.empty status known) = absurd (none_some 0 (sym none ∙ known))
   founded_by r response w p here row founding made after none (founded.part total status known fits) = absurd (none_some total (sym none ∙ known))

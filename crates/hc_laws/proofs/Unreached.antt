@@ -9,7 +9,7 @@ use Rattle.hc_rules.specs.declared.room.Limits.{Limits}
 use Rattle.hc_model.specs.Denials.{denial}
 use Rattle.hc_model.specs.Entries.{Entry}
 use Rattle.hc_model.specs.ExchangeRows.{exchange_after, exchange_heard, exchange_acted, exchange_made, promise_in}
-use Rattle.hc_model.specs.Exchanges.{promised, is_reached}
+use Rattle.hc_model.specs.Exchanges.{promised_bytes, is_reached}
 use Rattle.hc_model.specs.Flaws.{Flaw}
 use Rattle.hc_model.specs.Keys.{entry_of}
 use Rattle.hc_model.specs.Laws.{OfRunsIn}
@@ -22,7 +22,7 @@ use Rattle.hc_model.proofs.PieceKeeps.{eq_cases, some_inj}
 use Rattle.hc_laws.proofs.RunFacts.{in_runs}
 
 pub record IsUnreached (limits : Limits) (t : Tables) : Type 0 where
-  pub lacks : (x : ℕ) (w : Exchange) → t.exchange x ≡ Some w → w.is_open ≡ true → is_reached (promised w) (length w.body) ≡ false
+  pub lacks : (x : ℕ) (w : Exchange) → t.exchange x ≡ Some w → w.is_open ≡ true → is_reached (promised_bytes w) (length w.body) ≡ false
 
 not_first : (a b : Bool) → (not a && b) ≡ true → a ≡ false
 not_first true b h = absurd (false_true h)
@@ -33,7 +33,7 @@ module _ (limits : Limits) (t : Tables) (now : ℕ) (flaw : Flaw) (s : Sound t) 
   e = entry_of limits t now ev flaw
 
   -- what the event leaves open lacks something
-  heard : (x : ℕ) (w : Exchange) → t.exchange x ≡ Some w → (z : Event) → ev ≡ z → (exchange_heard t e x z w).is_open ≡ true → is_reached (promised (exchange_heard t e x z w)) (length (exchange_heard t e x z w).body) ≡ false
+  heard : (x : ℕ) (w : Exchange) → t.exchange x ≡ Some w → (z : Event) → ev ≡ z → (exchange_heard t e x z w).is_open ≡ true → is_reached (promised_bytes (exchange_heard t e x z w)) (length (exchange_heard t e x z w).body) ≡ false
   heard x w row (event.Start c request) at on = was.lacks x w row on
   heard x w row (event.Poll c want) at on = was.lacks x w row on
   heard x w row (event.Head y response) at on = elim (eq_cases y x) [
@@ -50,7 +50,7 @@ module _ (limits : Limits) (t : Tables) (now : ℕ) (flaw : Flaw) (s : Sound t) 
           let empty : length w.body ≡ 0 = ap (λ (xs : List ℕ). length xs) (s.waits.headless x w row new.bare).0 in
           ap (is_reached (promise_in w response)) empty ∙ not_first (is_reached (promise_in w response) 0) w.is_open opened
   heard x w row (event.Piece y bytes) at on = elim (eq_cases y x) [
-    | inl same ↦ rw same.0 (not_first (is_reached (promised w) (length (w.body ++ bytes))) w.is_open (rw same.0 at on))
+    | inl same ↦ rw same.0 (not_first (is_reached (promised_bytes w) (length (w.body ++ bytes))) w.is_open (rw same.0 at on))
     | inr apart ↦ rw apart.0 (was.lacks x w row (rw apart.0 at on))
   ]
   heard x w row (event.End y) at on = elim (eq_cases y x) [
@@ -64,21 +64,21 @@ module _ (limits : Limits) (t : Tables) (now : ℕ) (flaw : Flaw) (s : Sound t) 
   heard x w row (event.Cancel c) at on = was.lacks x w row on
   heard x w row (event.Doom key) at on = was.lacks x w row on
 
-  made : (x : ℕ) (o : Option Opening) (w : Exchange) → exchange_made t e x o ≡ Some w → is_reached (promised w) (length w.body) ≡ false
+  made : (x : ℕ) (o : Option Opening) (w : Exchange) → exchange_made t e x o ≡ Some w → is_reached (promised_bytes w) (length w.body) ≡ false
   made x None w h = absurd (none_some w h)
   made x (Some o) w h = by_number (nat_eq o.x x) h
     where
-      by_number : (b : Bool) → (if b then Some (Rattle.hc_model.specs.ExchangeRows.exchange_opened t e o) else None) ≡ Some w → is_reached (promised w) (length w.body) ≡ false
-      by_number true is = ap (λ (z : Exchange). is_reached (promised z) (length z.body)) (sym (some_inj (Rattle.hc_model.specs.ExchangeRows.exchange_opened t e o) w is))
+      by_number : (b : Bool) → (if b then Some (Rattle.hc_model.specs.ExchangeRows.exchange_opened t e o) else None) ≡ Some w → is_reached (promised_bytes w) (length w.body) ≡ false
+      by_number true is = ap (λ (z : Exchange). is_reached (promised_bytes z) (length z.body)) (sym (some_inj (Rattle.hc_model.specs.ExchangeRows.exchange_opened t e o) w is))
       by_number false is = absurd (none_some w is)
 
-  by_row : (x : ℕ) (w : Exchange) (o : Option Exchange) → t.exchange x ≡ o → exchange_after t e x o ≡ Some w → w.is_open ≡ true → is_reached (promised w) (length w.body) ≡ false
+  by_row : (x : ℕ) (w : Exchange) (o : Option Exchange) → t.exchange x ≡ o → exchange_after t e x o ≡ Some w → w.is_open ≡ true → is_reached (promised_bytes w) (length w.body) ≡ false
   unfolding exchange_after
   by_row x w None row is on = made x (opening_in e.acts) w is
   by_row x w (Some z) row is on =
       let same : exchange_acted x e.acts (exchange_heard t e x ev z) ≡ w = some_inj (exchange_acted x e.acts (exchange_heard t e x ev z)) w is in
       let opened : (exchange_acted x e.acts (exchange_heard t e x ev z)).is_open ≡ true = ap (λ (q : Exchange). q.is_open) same ∙ on in
-      sym (ap (λ (q : Exchange). is_reached (promised q) (length q.body)) same) ∙ heard x z row ev refl (and_right (not (closes_in x e.acts)) (exchange_heard t e x ev z).is_open opened)
+      sym (ap (λ (q : Exchange). is_reached (promised_bytes q) (length q.body)) same) ∙ heard x z row ev refl (and_right (not (closes_in x e.acts)) (exchange_heard t e x ev z).is_open opened)
 
   pub lacks_after : IsUnreached limits (after_accepted t e)
   lacks_after = record { lacks = λ x w is on. by_row x w (t.exchange x) refl is on }

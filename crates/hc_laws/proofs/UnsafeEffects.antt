@@ -16,14 +16,14 @@ use Rattle.hc_rules.specs.HeadCases.{head_case}
 use Rattle.hc_rules.specs.Needs.{route_of}
 use Rattle.hc_event.specs.declared.place.Place.{Place}
 use Rattle.hc_event.specs.declared.place.Place.TheVariants as place
-use Rattle.hc_model.specs.Answers.{accepted}
+use Rattle.hc_model.specs.Answers.{accepted_acts}
 use Rattle.hc_model.specs.Cases.{case_at, head_view, is_founding, is_updating, is_joining}
 use Rattle.hc_model.specs.Closings.{closing, closes_row, is_refused, awaits, has_no_survivor}
 use Rattle.hc_model.specs.ConsumerRows.{consumer_after, back_in_line}
 use Rattle.hc_model.specs.Currents.{current, is_number, is_current}
 use Rattle.hc_model.specs.Denials.{denial}
 use Rattle.hc_model.specs.Dooms.{doomed, doomed_by_case, changes, is_key}
-use Rattle.hc_model.specs.Effects.{Does, counted, let_some_go, all_closed, with_consumer, with_answer, sent_back, woken, is_awaited, awaited_and}
+use Rattle.hc_model.specs.Effects.{Does, with_event, let_some_go, all_closed, with_consumer, with_answer, sent_back, woken, is_awaited, awaited_and}
 use Rattle.hc_model.specs.Entries.{Entry}
 use Rattle.hc_model.specs.ExchangeRows.{promise_in}
 use Rattle.hc_model.specs.Exchanges.{is_reached, family}
@@ -36,7 +36,7 @@ use Rattle.hc_model.specs.Owners as owners
 use Rattle.hc_model.specs.Reading.{is_written}
 use Rattle.hc_model.specs.Rows.{Tables, Exchange, Representation, Consumer}
 use Rattle.hc_model.specs.StartingOver.{sends_back, waits_at}
-use Rattle.hc_model.specs.Tables.{after_accepted, added}
+use Rattle.hc_model.specs.Tables.{after_accepted, with_item_first}
 use Rattle.hc_model.proofs.Basics.{none_some}
 use Rattle.hc_laws.proofs.ConsumerEffects.{waits_as, some_all}
 use Rattle.hc_model.proofs.DoomFrames.{sent_as, awaited_apart}
@@ -145,7 +145,7 @@ module _ (limits : Limits) (t : Tables) (law : Lawful t) (now x : ℕ) (response
     unfolding closing
     closing_is = ap (λ (test : ℕ → Bool). filter test (reverse t.openings)) (fun_ext closes_as)
 
-    acts_are : accepted limits t now ev NoFlaw ≡ map act.Close xs
+    acts_are : accepted_acts limits t now ev NoFlaw ≡ map act.Close xs
     acts_are =
         ap (λ rs. map act.Evicted rs ++ map act.Close (closing t b)) (evicts_none limits t law now x response goes w row (ap (λ h. is_founding (Some h)) is ∙ unfounding))
         ∙ ap (λ ys. map act.Close ys) closing_is
@@ -161,7 +161,7 @@ module _ (limits : Limits) (t : Tables) (law : Lawful t) (now x : ℕ) (response
         is_x y false at = absurd (none_some y at)
 
     abbrev rs : List ℕ
-    rs = added (current t key) []
+    rs = with_item_first (current t key) []
 
     -- just what is current goes
     goes_as_it : ((r : ℕ) → goes_by_case t it r (Some g) w ≡ false) → (r : ℕ) (v : Representation) → t.representation r ≡ Some v → becomes_gone t it r v ≡ is_in rs r
@@ -191,7 +191,7 @@ module _ (limits : Limits) (t : Tables) (law : Lawful t) (now x : ℕ) (response
           ∙ ap Some same
 
       -- who waits for the key starts over, what is awaited is closed, and what is current is let go
-      dooms_key : (q : Consumer) → heard t now x response [] NoFlaw xs w g k ≡ q → waits_for_any rs q.place ≡ false → Does limits t now ev NoFlaw (map act.Close xs) (counted now ev (let_some_go now (current t key) (with_consumer w.c (Some q) (all_closed xs (with_answer now x response w.joined w (woken now key t))))))
+      dooms_key : (q : Consumer) → heard t now x response [] NoFlaw xs w g k ≡ q → waits_for_any rs q.place ≡ false → Does limits t now ev NoFlaw (map act.Close xs) (with_event now ev (let_some_go now (current t key) (with_consumer w.c (Some q) (all_closed xs (with_answer now x response w.joined w (woken now key t))))))
       dooms_key q same unwaiting = record {
         acts_are = acts_are;
         tables_are =
@@ -205,7 +205,7 @@ module _ (limits : Limits) (t : Tables) (law : Lawful t) (now x : ℕ) (response
               unwaiting = unwaiting;
               others = others_are;
             })
-            ∙ ap (counted now ev) (some_all now (current t key) (with_consumer w.c (Some q) (all_closed xs (with_answer now x response w.joined w (woken now key t))))));
+            ∙ ap (with_event now ev) (some_all now (current t key) (with_consumer w.c (Some q) (all_closed xs (with_answer now x response w.joined w (woken now key t))))));
       }
 
   -- what its consumer reads is past the store
@@ -228,10 +228,10 @@ module _ (limits : Limits) (t : Tables) (law : Lawful t) (now x : ℕ) (response
 
   -- its exchange has the head
   pub dooms_taken : head_case (head_view t false w response) ≡ case.DirectTaken → Does limits t now ev NoFlaw (map act.Close (awaited_and t key None))
-      (counted now ev (let_some_go now (current t key) (all_closed (awaited_and t key None) (with_answer now x response w.joined w (woken now key t)))))
+      (with_event now ev (let_some_go now (current t key) (all_closed (awaited_and t key None) (with_answer now x response w.joined w (woken now key t)))))
   dooms_taken is =
       let past = direct_place (direct_way (case_as is)) in
-      subst (λ (s : Tables). Does limits t now ev NoFlaw (map act.Close (awaited_and t key None)) (counted now ev (let_some_go now (current t key) s))) (same_consumer t (all_closed (awaited_and t key None) (with_answer now x response w.joined w (woken now key t))) w.c k (stays_so past))
+      subst (λ (s : Tables). Does limits t now ev NoFlaw (map act.Close (awaited_and t key None)) (with_event now ev (let_some_go now (current t key) s))) (same_consumer t (all_closed (awaited_and t key None) (with_answer now x response w.joined w (woken now key t))) w.c k (stays_so past))
       (dooms_key case.DirectTaken is (rw unsafe refl) past refl refl refl refl refl None refl (λ r. refl) k refl (rw past refl))
     where
       by_waiting : (b : Bool) → k.place ≡ place.Direct x → Some (if b && waits_at t k.place then back_in_line now k else k) ≡ Some k
@@ -243,7 +243,7 @@ module _ (limits : Limits) (t : Tables) (law : Lawful t) (now x : ℕ) (response
 
   -- a bad head puts its consumer down too
   pub dooms_bad : head_case (head_view t false w response) ≡ case.DirectBad → Does limits t now ev NoFlaw (map act.Close (awaited_and t key (Some x)))
-      (counted now ev (let_some_go now (current t key) (with_consumer w.c (Some (record k { place = place.Down (cause.BadHead x) })) (all_closed (awaited_and t key (Some x)) (with_answer now x response w.joined w (woken now key t))))))
+      (with_event now ev (let_some_go now (current t key) (with_consumer w.c (Some (record k { place = place.Down (cause.BadHead x) })) (all_closed (awaited_and t key (Some x)) (with_answer now x response w.joined w (woken now key t))))))
   dooms_bad is =
       let from = bad_way (case_as is) in
       dooms_key case.DirectBad is (rw unsafe refl) (direct_place from.0) refl refl refl refl refl (Some x) (rw (stays_open w response from.1) refl) (λ r. refl) (record k { place = place.Down (cause.BadHead x) }) refl refl

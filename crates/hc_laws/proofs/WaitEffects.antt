@@ -8,7 +8,7 @@ use Rattle.hc_rules.specs.declared.room.Limits.{Limits}
 use Rattle.hc_event.specs.declared.place.Place.{Place}
 use Rattle.hc_event.specs.declared.place.Place.TheVariants as place
 use Rattle.hc_model.specs.ConsumerRows.{waiting_place, consumer_acted}
-use Rattle.hc_model.specs.Effects.{Does, counted, with_consumer}
+use Rattle.hc_model.specs.Effects.{Does, with_event, with_consumer}
 use Rattle.hc_model.specs.Entries.{Entry}
 use Rattle.hc_model.specs.Flaws.{NoFlaw}
 use Rattle.hc_model.specs.Lawful.{Lawful}
@@ -64,7 +64,7 @@ module _ (limits : Limits) (t : Tables) (law : Lawful t) (now c want : ℕ) (k :
 
   -- it stands where it is to wait
   pub waits : (w : Wait) → move_of t now want c k ≡ moves.Waits w
-      → Does limits t now (event.Poll c want) NoFlaw (acts_of c (moves.Waits w)) (counted now (event.Poll c want) (with_consumer c (Some (record k { place = waiting_place t k (Some w) })) t))
+      → Does limits t now (event.Poll c want) NoFlaw (acts_of c (moves.Waits w)) (with_event now (event.Poll c want) (with_consumer c (Some (record k { place = waiting_place t k (Some w) })) t))
   waits w is =
       let nothing = brings_nothing t now c (event.Poll c want) (acts_of c (moves.Waits w)) (event_of.polls want) in
       poll_does limits t law now c want k row (moves.Waits w) (polls.waits w) is []
@@ -75,10 +75,10 @@ module _ (limits : Limits) (t : Tables) (law : Lawful t) (now c want : ℕ) (k :
 
   -- who waits for an exchange stays as it is
   pub waits_on : (w : Wait) → move_of t now want c k ≡ moves.Waits w → waiting_place t k (Some w) ≡ k.place
-      → Does limits t now (event.Poll c want) NoFlaw (acts_of c (moves.Waits w)) (counted now (event.Poll c want) t)
+      → Does limits t now (event.Poll c want) NoFlaw (acts_of c (moves.Waits w)) (with_event now (event.Poll c want) t)
   waits_on w is stays =
       let does = waits w is in
       record {
         acts_are = does.acts_are;
-        tables_are = does.tables_are ∙ (ap (λ (p : Place). counted now (event.Poll c want) (with_consumer c (Some (record k { place = p })) t)) stays ∙ ap (counted now (event.Poll c want)) (same_consumer t t c k row));
+        tables_are = does.tables_are ∙ (ap (λ (p : Place). with_event now (event.Poll c want) (with_consumer c (Some (record k { place = p })) t)) stays ∙ ap (with_event now (event.Poll c want)) (same_consumer t t c k row));
       }

@@ -29,11 +29,11 @@ use Rattle.hc_model.specs.Flaws.{Flaw}
 use Rattle.hc_model.specs.Keys.{entry_of}
 use Rattle.hc_model.specs.Owners.{Owners, IsAwaiting, Awaits}
 use Rattle.hc_model.specs.Owners as owners
-use Rattle.hc_model.specs.Polls.{polled, move_of}
+use Rattle.hc_model.specs.Polls.{poll_move, move_of}
 use Rattle.hc_model.specs.Reading.{own_open, reads}
 use Rattle.hc_model.specs.Rows.{Tables, Exchange, Consumer}
 use Rattle.hc_model.specs.Sound.{Sound}
-use Rattle.hc_model.specs.StartingOver.{starts_over, waits_at, awaited, sends_back, loses_what_it_waits_for}
+use Rattle.hc_model.specs.StartingOver.{starts_over, waits_at, awaited_exchange, sends_back, loses_what_it_waits_for}
 use Rattle.hc_model.specs.Tables.{after_accepted}
 use Rattle.hc_model.proofs.Basics.{false_true, and_left, and_right, and_both, or_cases, or_left, or_right, not_so, none_some, number_yes}
 use Rattle.hc_model.proofs.Closed.{before, closes}
@@ -43,7 +43,7 @@ use Rattle.hc_model.proofs.Forward.{heard_other, is_kept}
 use Rattle.hc_model.proofs.HoleLemmas.{bool_cases}
 use Rattle.hc_model.proofs.Once.{taken}
 use Rattle.hc_model.proofs.PieceKeeps.{eq_cases, some_inj}
-use Rattle.hc_model.proofs.Pens.{same_row}
+use Rattle.hc_model.proofs.ExclusiveWriters.{same_row}
 use Rattle.hc_model.proofs.Said.{IsShowing, WaitsAs, showing_by, waiting_by, opening_by}
 use Rattle.hc_model.proofs.SaidActs.{leaves_leaver}
 use Rattle.hc_model.proofs.ShownFrom.{shown_from}
@@ -97,12 +97,12 @@ module _ (limits : Limits) (t : Tables) (now : ℕ) (flaw : Flaw) (s : Sound t) 
 
     -- IT DOESN'T START OVER
 
-    awaited_at : (p : Place) → k.place ≡ p → IsAwaiting y w p → waits_at t p ≡ true → awaited p ≡ Some y
+    awaited_at : (p : Place) → k.place ≡ p → IsAwaiting y w p → waits_at t p ≡ true → awaited_exchange p ≡ Some y
     awaited_at p at (owners.direct way stands) waits = absurd (false_true (sym (ap (waits_at t) stands) ∙ waits))
-    awaited_at p at (owners.turn way stands) waits = ap awaited stands
-    awaited_at p at (owners.hole r lo hi how way aim stands) waits = ap awaited stands ∙ by_how how (at ∙ stands) (sym (ap (waits_at t) stands) ∙ waits)
+    awaited_at p at (owners.turn way stands) waits = ap awaited_exchange stands
+    awaited_at p at (owners.hole r lo hi how way aim stands) waits = ap awaited_exchange stands ∙ by_how how (at ∙ stands) (sym (ap (waits_at t) stands) ∙ waits)
       where
-        by_how : (g : BoundBy) → k.place ≡ place.Bound r lo hi g → waits_at t (place.Bound r lo hi g) ≡ true → awaited (place.Bound r lo hi g) ≡ Some y
+        by_how : (g : BoundBy) → k.place ≡ place.Bound r lo hi g → waits_at t (place.Bound r lo hi g) ≡ true → awaited_exchange (place.Bound r lo hi g) ≡ Some y
         by_how by.Founding at h = absurd (false_true h)
         by_how (by.FirstHole z) at h =
             let all = headless_parts (t.exchange z) h in
@@ -115,10 +115,10 @@ module _ (limits : Limits) (t : Tables) (now : ℕ) (flaw : Flaw) (s : Sound t) 
 
     doomed_must : is_key (doomed t e) k.request.key ≡ true → waits_at t k.place ≡ true → ⊥
     doomed_must key waits =
-        let at_it : awaited k.place ≡ Some y = awaited_at k.place refl is.at waits in
+        let at_it : awaited_exchange k.place ≡ Some y = awaited_at k.place refl is.at waits in
         let keyed : is_key (doomed t b) w.request.key ≡ true = ap (is_key (doomed t b)) is.key_is ∙ (ap (λ z. is_key z k.request.key) (sym (doomed_same limits t now flaw s o ev goes)) ∙ key) in
         let bare : is_headless (Some w) ≡ true = sym (ap is_headless is.exchange_row) ∙ headless_is limits t now flaw s o ev goes c y k w is in
-        let awaiting : awaits (t.consumer w.c) y ≡ true = ap (λ z. awaits z y) (ap t.consumer is.for_it ∙ is.row) ∙ number_yes (awaited k.place) y at_it in
+        let awaiting : awaits (t.consumer w.c) y ≡ true = ap (λ z. awaits z y) (ap t.consumer is.for_it ∙ is.row) ∙ number_yes (awaited_exchange k.place) y at_it in
         let doomed_it : is_doomed t b y w ≡ true = and_both _ _ (and_both _ _ keyed bare) awaiting in
         not_must (or_left _ _ (or_left _ _ (or_right _ _ doomed_it)))
 
@@ -272,7 +272,7 @@ module _ (limits : Limits) (t : Tables) (now : ℕ) (flaw : Flaw) (s : Sound t) 
   new_waiting p opens stand =
       let by_poll = opening_by limits t now flaw s ev goes p opens in
       let way = opened_as t now p.c by_poll.k by_poll.want p s by_poll.poll.row by_poll.move in
-      let move_is : polled t now by_poll.want p.c (t.consumer p.c) ≡ Opens p.x p.need p.request = ap (polled t now by_poll.want p.c) by_poll.poll.row ∙ opening_is t now p.c by_poll.k p (move_of t now by_poll.want p.c by_poll.k) by_poll.move in
+      let move_is : poll_move t now by_poll.want p.c (t.consumer p.c) ≡ Opens p.x p.need p.request = ap (poll_move t now by_poll.want p.c) by_poll.poll.row ∙ opening_is t now p.c by_poll.k p (move_of t now by_poll.want p.c by_poll.k) by_poll.move in
       subst (λ v. (denial t v ≡ None) → opening_in (entry_of limits t now v flaw).acts ≡ Some p → may_stand limits t (entry_of limits t now v flaw) ≡ true → Awaits (after_accepted t (entry_of limits t now v flaw)) p.x (exchange_opened t (entry_of limits t now v flaw) p)) (sym by_poll.poll.at) (λ going opening standing. new_awaits limits t now flaw s o p.c by_poll.want going p by_poll.k refl opening by_poll.poll.row way move_is standing) goes opens stand
 
   waiting_from : (x : ℕ) (u : Exchange) → may_stand limits t e ≡ true → u.is_open ≡ true → u.head ≡ None → ExchangeFrom t e x u → Awaits now_on x u

@@ -84,7 +84,7 @@ module _ (t : Tables) (s : Sound t) (unknown : Unknown t) where
   unknown_span : (range : Option Rattle.hc_range.specs.declared.range.Asked.Asked) (total : Option ℕ) → wanted_of range total ≡ wanted.TotalUnknown → total ≡ None
   unknown_span range None h = refl
   unknown_span None (Some total) h = absurd (let no : wanted.Interval _ ≡ wanted.TotalUnknown = h in cc)
-  unknown_span (Some asked) (Some total) h = absurd (part_not (Rattle.hc_range.specs.Spans.resolved asked total) h)
+  unknown_span (Some asked) (Some total) h = absurd (part_not (Rattle.hc_range.specs.Spans.resolved_span asked total) h)
     where
       part_not : (q : Option Rattle.hc_range.specs.declared.range.Span.Span) → Rattle.hc_rules.specs.Requests.wanted_part q ≡ wanted.TotalUnknown → ⊥
       part_not None h = let no : wanted.Unsatisfiable ≡ wanted.TotalUnknown = h in cc

@@ -2,7 +2,7 @@
 use Rattle.std.proofs.Common.{◌≡◌, ℕ, ◌+◌, ◌-◌, ◌<◌, ◌≤◌, Bool, true, false, Option, Some, None, refl, subst, arith}
 use Rattle.std.specs.Prelude.{is_some, nat_lt, min, ◌&&◌, if◌then◌else◌}
 use Rattle.std.proofs.lemmas.Bool.Decides.{nat_tests}
-use Rattle.hc_range.specs.Spans.{resolved, IsInOrder}
+use Rattle.hc_range.specs.Spans.{resolved_span, IsInOrder}
 use Rattle.hc_range.specs.declared.range.Asked.{Asked}
 use Rattle.hc_range.specs.declared.range.Asked.TheVariants.{From, FromTo, Last}
 use Rattle.hc_range.specs.declared.range.Span.{Span}
@@ -15,7 +15,7 @@ span_if : (b : Bool) (x span : Span) → (b ≡ true → x.lo < x.hi) → (if b 
 span_if false x span proper is = absurd (none_some span is)
 span_if true x span proper is = subst (λ (z : Span). z.lo < z.hi) (some_inj x span is) (proper refl)
 
-resolved_some : (asked : Asked) (total : ℕ) (span : Span) → IsInOrder asked → resolved asked total ≡ Some span → span.lo < span.hi
+resolved_some : (asked : Asked) (total : ℕ) (span : Span) → IsInOrder asked → resolved_span asked total ≡ Some span → span.lo < span.hi
 resolved_some (From first) total span order is = span_if (nat_lt first total) (record { lo = first; hi = total }) span (λ h. grind (arith, nat_tests)) is
 resolved_some (FromTo first last) total span order is = span_if (nat_lt first total) (record { lo = first; hi = min (last + 1) total }) span (λ h. let lt : first < total = grind (arith, nat_tests) in by_numbers first last total order lt) is
   where
@@ -35,4 +35,4 @@ part_some (Some z) span proper is = let same : z ≡ span = cc in subst (λ (q :
 pub wanted_some : (range : Option Asked) (o : Option ℕ) (span : Span) → is_some range ≡ true → ((asked : Asked) → range ≡ Some asked → IsInOrder asked) → wanted_of range o ≡ wanted.Interval span → span.lo < span.hi
 wanted_some range None span on order is = absurd (let no : wanted.TotalUnknown ≡ wanted.Interval span = is in cc)
 wanted_some None (Some n) span on order is = absurd (false_true on)
-wanted_some (Some asked) (Some n) span on order is = part_some (resolved asked n) span (λ z found. resolved_some asked n z (order asked refl) found) is
+wanted_some (Some asked) (Some n) span on order is = part_some (resolved_span asked n) span (λ z found. resolved_some asked n z (order asked refl) found) is

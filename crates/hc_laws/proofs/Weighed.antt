@@ -12,11 +12,11 @@ use Rattle.hc_model.specs.ActFilters.{loses_in, has_loss}
 use Rattle.hc_model.specs.Cases.{case_at}
 use Rattle.hc_model.specs.Currents.{current, is_current, is_number}
 use Rattle.hc_model.specs.Dooms.{doomed, doomed_in, doomed_by_head, is_key}
-use Rattle.hc_model.specs.Entries.{Entry, unanswered}
+use Rattle.hc_model.specs.Entries.{Entry, entry_without_acts}
 use Rattle.hc_model.specs.Exchanges.{front, family, exchange_at}
 use Rattle.hc_model.specs.Gone.{goes_by_case, goes_by_exchange, goes_by_head, goes_itself, ends_early, ends_founding, stops_early, is_keepable}
 use Rattle.hc_model.specs.Reading.{bound}
-use Rattle.hc_model.specs.RepresentationRows.{representation_heard, representation_acted, headed, renewed, updates, pieced, filled, ended, length_in}
+use Rattle.hc_model.specs.RepresentationRows.{representation_heard, representation_acted, representation_after_head, with_renewed_head, updates, representation_after_piece, with_stored_bytes, with_total_if_none, length_in}
 use Rattle.hc_model.specs.Rows.{Tables, Exchange, Representation, Consumer}
 use Rattle.hc_model.specs.Sound.{Sound, Among, IsBound}
 use Rattle.hc_model.specs.Weights.{weight, weight_in, weights, moves_on, stays_current, stays_bound}
@@ -25,7 +25,7 @@ use Rattle.hc_model.proofs.CurrentKeeps.{current_is}
 use Rattle.hc_laws.proofs.HasBound.{reader_of}
 use Rattle.hc_model.proofs.HoleLemmas.{bool_cases}
 use Rattle.hc_model.proofs.PieceKeeps.{eq_cases}
-use Rattle.hc_model.proofs.Pens.{bound_some}
+use Rattle.hc_model.proofs.ExclusiveWriters.{bound_some}
 use Rattle.hc_model.proofs.PollKeeps.{current_stays}
 use Rattle.hc_model.proofs.RepFrom.{IsKept}
 use Rattle.hc_model.proofs.Sums.{sum_le}
@@ -132,26 +132,26 @@ module _ (t : Tables) (e : Entry) (r : ℕ) (v : Representation) where
   abbrev Sized : Representation → Type 0
   Sized p = (p.size ≡ v.size) ⊎ IsFilled t e r v p
 
-  headed_size : (x : ℕ) (response : Response) (o : Option Exchange) → (headed t e r x response o v).size ≡ v.size
+  headed_size : (x : ℕ) (response : Response) (o : Option Exchange) → (representation_after_head t e r x response o v).size ≡ v.size
   headed_size x response None = refl
   headed_size x response (Some w) = by_test (updates t e r w v)
     where
-      by_test : (b : Bool) → (if b then renewed t e x response w v else v).size ≡ v.size
+      by_test : (b : Bool) → (if b then with_renewed_head t e x response w v else v).size ≡ v.size
       by_test true = refl
       by_test false = refl
 
-  pieced_size : (x : ℕ) (bytes : List ℕ) (o : Option Exchange) → e.event ≡ event.Piece x bytes → t.exchange x ≡ o → Sized (pieced e r x bytes o v)
+  pieced_size : (x : ℕ) (bytes : List ℕ) (o : Option Exchange) → e.event ≡ event.Piece x bytes → t.exchange x ≡ o → Sized (representation_after_piece e r x bytes o v)
   pieced_size x bytes None at row = inl refl
   pieced_size x bytes (Some w) at row = elim (eq_cases (family x w) r) [
     | inr off ↦ rw off.0 (inl refl)
     | inl hit ↦ rw hit.0 (by_kept (not (v.is_lost || loses_in r e.acts)) refl hit.1)
   ]
     where
-      by_kept : (b : Bool) → not (v.is_lost || loses_in r e.acts) ≡ b → family x w ≡ r → Sized (filled b (front w) x bytes v)
+      by_kept : (b : Bool) → not (v.is_lost || loses_in r e.acts) ≡ b → family x w ≡ r → Sized (with_stored_bytes b (front w) x bytes v)
       by_kept true is of_r = let both = or_false v.is_lost (loses_in r e.acts) is in inr (record { x = x; bytes = bytes; w = w; at = at; row = row; of_r = of_r; kept = both.0; quiet = both.1; size_is = refl })
       by_kept false is of_r = inl refl
 
-  ended_size : (n : ℕ) (b : Bool) → (if b then ended n v else v).size ≡ v.size
+  ended_size : (n : ℕ) (b : Bool) → (if b then with_total_if_none n v else v).size ≡ v.size
   ended_size n true = refl
   ended_size n false = refl
 
@@ -176,7 +176,7 @@ module _ (t : Tables) (e : Entry) (r : ℕ) (v : Representation) where
 
 module _ (t : Tables) (e : Entry) (r : ℕ) (lossless : has_loss e.acts ≡ false) where
   abbrev e0 : Entry
-  e0 = unanswered e.now e.event
+  e0 = entry_without_acts e.now e.event
 
   pub case_same : case_at t e0 ≡ case_at t e
   case_same = ap (λ lost. Rattle.hc_model.specs.Cases.case_of t lost e.event) (sym lossless)
@@ -266,7 +266,7 @@ module _ (t : Tables) (e : Entry) (r : ℕ) (lossless : has_loss e.acts ≡ fals
       both true k f h = rw (f refl) h
       both false k f h = absurd (false_true h)
 
-      by_doom : (a b : Bool) → is_key (doomed t e) v.key ≡ b → (a && (b || false)) ≡ true → (a && (is_key (doomed t e) v.key || is_key (Rattle.hc_model.specs.Dooms.bypassed e) v.key)) ≡ true
+      by_doom : (a b : Bool) → is_key (doomed t e) v.key ≡ b → (a && (b || false)) ≡ true → (a && (is_key (doomed t e) v.key || is_key (Rattle.hc_model.specs.Dooms.bypass_key e) v.key)) ≡ true
       by_doom true true is h = rw is refl
       by_doom true false is h = absurd (false_true h)
       by_doom false b is h = absurd (false_true h)

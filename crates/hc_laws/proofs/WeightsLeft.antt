@@ -10,7 +10,7 @@ use Rattle.hc_rules.specs.Rooms as rooms
 use Rattle.hc_rules.specs.Rooms.{room_of, gives_way, grown_by, is_too_large, weight_of}
 use Rattle.hc_model.specs.Contents.{idle_now, is_idle}
 use Rattle.hc_model.specs.Currents.{current, is_current}
-use Rattle.hc_model.specs.Effects.{gone, let_all_go, with_consumer}
+use Rattle.hc_model.specs.Effects.{as_gone, let_all_go, with_consumer}
 use Rattle.hc_model.specs.LettingGo.{MayLetGo, MayMakeRoom, weight_in, weight_now, weights_now, room_now, first_idle, giving_way}
 use Rattle.hc_model.specs.Orders.{AreOnce}
 use Rattle.hc_model.specs.Reading.{bound, is_bound, is_bound_place}
@@ -57,17 +57,17 @@ module _ (now : ℕ) (rs : List ℕ) (t : Tables) (may : MayLetGo t) where
   abbrev left : Tables
   left = let_all_go now rs t
 
-  row_left : (r : ℕ) → left.representation r ≡ (if tables.is_in rs r then option_map gone (t.representation r) else t.representation r)
+  row_left : (r : ℕ) → left.representation r ≡ (if tables.is_in rs r then option_map as_gone (t.representation r) else t.representation r)
   row_left r = ap (λ (s : Tables). s.representation r) (all_go_is now rs t)
 
   founded_left : left.founded ≡ t.founded
   founded_left = ap (λ (s : Tables). s.founded) (all_go_is now rs t)
 
-  none_in : (r : ℕ) (b : Bool) → weight_in left r (if b then option_map gone None else None) ≡ 0
+  none_in : (r : ℕ) (b : Bool) → weight_in left r (if b then option_map as_gone None else None) ≡ 0
   none_in r true = refl
   none_in r false = refl
 
-  some_in : (r : ℕ) (b : Bool) (v : Representation) → weight_in left r (if b then option_map gone (Some v) else Some v) ≡ (if is_current left v.key r || not (length (bound left r) == 0) then weight_of v.size else 0)
+  some_in : (r : ℕ) (b : Bool) (v : Representation) → weight_in left r (if b then option_map as_gone (Some v) else Some v) ≡ (if is_current left v.key r || not (length (bound left r) == 0) then weight_of v.size else 0)
   some_in r true v = refl
   some_in r false v = refl
 
@@ -75,13 +75,13 @@ module _ (now : ℕ) (rs : List ℕ) (t : Tables) (may : MayLetGo t) where
   weight_left : (r : ℕ) (v : Representation) → t.representation r ≡ Some v → weight_now left r ≡ (if (is_current t v.key r && not (is_in rs r)) || not (length (bound t r) == 0) then weight_of v.size else 0)
   unfolding current
   weight_left r v there =
-      ap (weight_in left r) (row_left r ∙ ap (λ o. if tables.is_in rs r then option_map gone o else o) there)
+      ap (weight_in left r) (row_left r ∙ ap (λ o. if tables.is_in rs r then option_map as_gone o else o) there)
       ∙ (some_in r (tables.is_in rs r) v
       ∙ (ap (λ b. if b || not (length (bound left r) == 0) then weight_of v.size else 0) (current_all now rs t may v.key r ∙ ap (λ b. is_current t v.key r && not b) (same_in rs r))
       ∙ ap (λ cs. if (is_current t v.key r && not (is_in rs r)) || not (length cs == 0) then weight_of v.size else 0) (bound_all now rs t may r)))
 
   weight_none : (r : ℕ) → t.representation r ≡ None → weight_now left r ≡ 0
-  weight_none r none = ap (weight_in left r) (row_left r ∙ ap (λ o. if tables.is_in rs r then option_map gone o else o) none) ∙ none_in r (tables.is_in rs r)
+  weight_none r none = ap (weight_in left r) (row_left r ∙ ap (λ o. if tables.is_in rs r then option_map as_gone o else o) none) ∙ none_in r (tables.is_in rs r)
 
   less : (a b d : Bool) (n : ℕ) → (if (a && b) || d then n else 0) ≤ (if a || d then n else 0)
   less true true d n = omega arith

@@ -21,7 +21,7 @@ use Rattle.hc_laws.proofs.AboutKeeps.{own_open_of}
 use Rattle.hc_model.proofs.Basics.{none_some}
 use Rattle.hc_laws.proofs.InRuns.{turned_in_runs}
 use Rattle.hc_laws.proofs.OwnersFor.{owners_for}
-use Rattle.hc_model.proofs.Pens.{none_about}
+use Rattle.hc_model.proofs.ExclusiveWriters.{none_about}
 use Rattle.hc_laws.proofs.PlaceRuns.{places_in_runs}
 use Rattle.hc_laws.proofs.SoundRuns.{carried}
 
@@ -41,7 +41,7 @@ module _ (t : Tables) (s : Sound t) (o : Owners t) (one : IsOfOneKey t) (places 
 
     had_by : (v : Representation) → t.representation (family x w) ≡ Some v → IsHad t (family x w) v x → IsSomebodys t x w
     had_by v there (sound.shared written writer) = whose.shared v there written writer
-    had_by v there (sound.own c k reader open_own none pen) =
+    had_by v there (sound.own c k reader open_own none exclusive_writer) =
         let own = (own_open_of t k x open_own).own in
         whose.read c k v there reader own none (owner c x k w (bound_row reader) own row)
       where

@@ -15,20 +15,20 @@ use Rattle.hc_event.specs.declared.place.Place.{Place}
 use Rattle.hc_event.specs.declared.place.Place.TheVariants as place
 use Rattle.hc_event.specs.declared.place.BoundBy.{BoundBy}
 use Rattle.hc_model.specs.ActFilters.{loses_in}
-use Rattle.hc_model.specs.Answers.{said, lost}
+use Rattle.hc_model.specs.Answers.{answer_acts, loss_acts}
 use Rattle.hc_model.specs.Closings.{must_close, is_refused, brings_head, is_doomed, has_no_survivor, is_left, is_left_by, is_last_reader, leaver, leaver_by}
 use Rattle.hc_model.specs.Cases.{case_at}
 use Rattle.hc_model.specs.ConsumerRows.{consumer_heard}
 use Rattle.hc_model.specs.Currents.{is_number}
 use Rattle.hc_model.specs.Denials.{denial}
 use Rattle.hc_model.specs.Entries.{Entry}
-use Rattle.hc_model.specs.Exchanges.{exchange_in, is_open, family, promised}
+use Rattle.hc_model.specs.Exchanges.{exchange_in, is_open, family, promised_bytes}
 use Rattle.hc_model.specs.Failures.{becomes_due, stop_cause, short_cause, short_of}
 use Rattle.hc_model.specs.Flaws.{Flaw}
 use Rattle.hc_model.specs.Keys.{entry_of}
 use Rattle.hc_model.specs.Measures.{Measures}
 use Rattle.hc_model.specs.Owners.{Owners}
-use Rattle.hc_model.specs.Reading.{is_written, bound, is_bound, own_open, if_open, shared, writing_in, source}
+use Rattle.hc_model.specs.Reading.{is_written, bound, is_bound, own_open, if_open, shared_exchange, writing_in, source}
 use Rattle.hc_model.specs.Rows.{Tables, Exchange, Representation, Consumer}
 use Rattle.hc_model.specs.Sound.{Sound, Among, IsBound, IsGrowing, end_from}
 use Rattle.hc_model.specs.Sound as sound
@@ -43,7 +43,7 @@ use Rattle.hc_model.proofs.Dues.{undue_parts}
 use Rattle.hc_model.proofs.HoleLemmas.{bool_cases}
 use Rattle.hc_laws.proofs.LossBy.{IsReal, loses_flaw}
 use Rattle.hc_model.proofs.PieceKeeps.{some_inj}
-use Rattle.hc_model.proofs.Pens.{same_row}
+use Rattle.hc_model.proofs.ExclusiveWriters.{same_row}
 use Rattle.hc_model.proofs.RepFrom.{IsKept}
 use Rattle.hc_model.proofs.SaidActs.{leaver_leaves}
 use Rattle.hc_model.proofs.Stops.{source_is}
@@ -72,7 +72,7 @@ module _ (limits : Limits) (t : Tables) (now : ℕ) (flaw : Flaw) (s : Sound t) 
 
   -- closings see the same losses
   pub loses_same : (r : ℕ) → loses_in r b.acts ≡ loses_in r e.acts
-  loses_same r = (said_closes 0 r t now ev flaw (said t now ev flaw) (lost flaw) (said_is t now ev flaw)).loses ∙ sym (loses_flaw limits t now flaw s o m ev goes real r ev)
+  loses_same r = (said_closes 0 r t now ev flaw (answer_acts t now ev flaw) (loss_acts flaw) (said_is t now ev flaw)).loses ∙ sym (loses_flaw limits t now flaw s o m ev goes real r ev)
 
   module _ (r c x lo : ℕ) (hi : Option ℕ) (how : BoundBy) (k u : Consumer) (v p : Representation) (row : IsRow t e c r lo hi how k u) (at : k.place ≡ place.Bound r lo hi how) (stands : u.place ≡ place.Bound r lo hi how) (there : t.representation r ≡ Some v) (on : is_written t v ≡ true) (writer : v.writer ≡ Some x) (undue : becomes_due t e c k ≡ None) (kept : IsKept t e r v p) (calm : (loses_in r e.acts ≡ false) ⊎ (brings_body ev ≡ false)) where
     reader : IsBound t r c k
@@ -139,7 +139,7 @@ module _ (limits : Limits) (t : Tables) (now : ℕ) (flaw : Flaw) (s : Sound t) 
       unfolding bound
       among_bound = among_filter c (λ d. is_bound r (t.consumer d)) t.starts (ap (is_bound r) row.row ∙ (ap (λ (z : Place). Rattle.hc_model.specs.Reading.is_bound_place r z) at ∙ (let test : nat_eq r r ≡ true = grind (arith, nat_tests) in test))) (s.numbered.lists.started c (ap (λ (z : Option Consumer). is_some z) row.row))
 
-      last_is : (l : ℕ) (z : Place) → shared t z ≡ Some x → is_last_reader t l z ≡ true → c ≡ l
+      last_is : (l : ℕ) (z : Place) → shared_exchange t z ≡ Some x → is_last_reader t l z ≡ true → c ≡ l
       last_is l (place.Bound q a d g_by) h all = all_same l c (bound t r) (ap (λ n. list_all (λ z. z == l) (bound t n)) (sym (writes_r q (t.representation q) refl h)) ∙ all) among_bound
       last_is l place.Line h all = absurd (none_some x h)
       last_is l (place.Passed q kept) h all = absurd (none_some x h)
@@ -152,7 +152,7 @@ module _ (limits : Limits) (t : Tables) (now : ℕ) (flaw : Flaw) (s : Sound t) 
       left_row l None row h = absurd (false_true h)
       left_row l (Some q) row h = elim (or_cases (is_number (own_open t q) x) _ h) [
         | inl own ↦ absurd (o.apart r x l v q there on writer row (own_is l q q.own row refl (number_is (own_open t q) x own)))
-        | inr group ↦ last_is l q.place (number_is (shared t q.place) x (and_left _ (is_last_reader t l q.place) group)) (and_right _ (is_last_reader t l q.place) group)
+        | inr group ↦ last_is l q.place (number_is (shared_exchange t q.place) x (and_left _ (is_last_reader t l q.place) group)) (and_right _ (is_last_reader t l q.place) group)
       ]
 
       left_not : (z : Option ℕ) → leaver b ≡ z → is_left t x z ≡ true → ⊥
@@ -188,7 +188,7 @@ module _ (limits : Limits) (t : Tables) (now : ℕ) (flaw : Flaw) (s : Sound t) 
           let no : Some (cause.Net x) ≡ None = sym (ap (stop_cause t) faults) ∙ stop_is_none (ap exchange_in faults) in
           some_none (cause.Net x) no
 
-      enough : ev ≡ event.End x → (n : ℕ) → promised w ≡ Some n → n ≤ length w.body
+      enough : ev ≡ event.End x → (n : ℕ) → promised_bytes w ≡ Some n → n ≤ length w.body
       enough here n is = elim (bool_cases (nat_lt (length w.body) n)) [
         | inl short ↦ absurd (some_none _ (rw short at none_short))
         | inr long ↦ grind (arith, nat_tests)

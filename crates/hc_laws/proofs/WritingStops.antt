@@ -3,7 +3,7 @@ use Rattle.std.proofs.Common.{◌≡◌, ◌⊎◌, inl, inr, ℕ, ◌+◌, ◌<
 use Rattle.std.specs.Prelude.{if◌then◌else◌, is_some, ◌&&◌, ◌||◌, not, nat_eq, unwrap_or}
 use Rattle.std.specs.Option.{option_or}
 use Rattle.std.proofs.lemmas.Bool.Decides.{nat_tests}
-use Rattle.hc_sparse.specs.Cells.{Cells, Covers, written}
+use Rattle.hc_sparse.specs.Cells.{Cells, Covers, cells_with}
 use Rattle.hc_event.specs.Filters.{closes_in}
 use Rattle.hc_event.specs.declared.event.Event.{Event}
 use Rattle.hc_event.specs.declared.event.Event.TheVariants as event
@@ -14,7 +14,7 @@ use Rattle.hc_model.specs.Closings.{brings_head}
 use Rattle.hc_model.specs.Denials.{denial}
 use Rattle.hc_model.specs.Entries.{Entry}
 use Rattle.hc_model.specs.ExchangeRows.{exchange_heard}
-use Rattle.hc_model.specs.Exchanges.{is_open, is_reached, front, base, promised}
+use Rattle.hc_model.specs.Exchanges.{is_open, is_reached, front, base, promised_bytes}
 use Rattle.hc_model.specs.Flaws.{Flaw}
 use Rattle.hc_model.specs.Keys.{entry_of}
 use Rattle.hc_model.specs.Measures.{Measures, IsMeasured}
@@ -34,7 +34,7 @@ use Rattle.hc_model.proofs.Fills as fills_by
 use Rattle.hc_model.proofs.FirstKeeps.{is_new}
 use Rattle.hc_model.proofs.Forward.{after_is}
 use Rattle.hc_model.proofs.PieceKeeps.{eq_cases}
-use Rattle.hc_model.proofs.Pens.{same_row}
+use Rattle.hc_model.proofs.ExclusiveWriters.{same_row}
 use Rattle.hc_model.proofs.RepFrom.{IsKept}
 use Rattle.hc_model.proofs.Stops.{last_piece, clean_end}
 
@@ -74,7 +74,7 @@ module _ (limits : Limits) (t : Tables) (now : ℕ) (flaw : Flaw) (s : Sound t) 
     refused_not (event.Doom key) here h = false_true h
 
     -- it isn't closed, doesn't fault, and has brought all that it promised
-    module _ (calm : (loses_in r e.acts ≡ false) ⊎ (brings_body ev ≡ false)) (unclosed : closes_in x e.acts ≡ true → ⊥) (unfaulted : ev ≡ event.Fault x → ⊥) (enough : ev ≡ event.End x → (n : ℕ) → promised w ≡ Some n → n ≤ length w.body) where
+    module _ (calm : (loses_in r e.acts ≡ false) ⊎ (brings_body ev ≡ false)) (unclosed : closes_in x e.acts ≡ true → ⊥) (unfaulted : ev ≡ event.Fault x → ⊥) (enough : ev ≡ event.End x → (n : ℕ) → promised_bytes w ≡ Some n → n ≤ length w.body) where
       still_open : (exchange_heard t e x ev w).is_open ≡ true → is_open (now_on.exchange x) ≡ true
       still_open heard = ap is_open (after_is t e x w (t.exchange x) g.row) ∙ by_test (closes_in x e.acts) refl
         where
@@ -82,18 +82,18 @@ module _ (limits : Limits) (t : Tables) (now : ℕ) (flaw : Flaw) (s : Sound t) 
           by_test true shut = absurd (unclosed shut)
           by_test false shut = heard
 
-      stored_on : (v.is_lost || loses_in r e.acts) ≡ false → (bytes : List ℕ) → ev ≡ event.Piece x bytes → p.stored ≡ written (front w) x bytes v.stored
+      stored_on : (v.is_lost || loses_in r e.acts) ≡ false → (bytes : List ℕ) → ev ≡ event.Piece x bytes → p.stored ≡ cells_with (front w) x bytes v.stored
       stored_on quiet bytes here = by_fills (fills t e r v p kept)
         where
           piece_same : (a c : ℕ) (d f : List ℕ) → event.Piece a d ≡ event.Piece c f → (a ≡ c) × (d ≡ f)
           piece_same a c d f is = (cc, cc)
 
-          by_fills : Fills t e r v p → p.stored ≡ written (front w) x bytes v.stored
+          by_fills : Fills t e r v p → p.stored ≡ cells_with (front w) x bytes v.stored
           by_fills (fills_by.still none body_is stored_is reach_is) = absurd (none x bytes w (record { at = here; row = g.row; of_r = g.family_is }))
           by_fills (fills_by.more y more q is body_is stored_is reach_is) =
               let same = piece_same y x more bytes (sym is.at ∙ here) in
               let one : q ≡ w = same_row (t.exchange x) q w (sym (ap t.exchange same.0) ∙ is.row) g.row in
-              stored_is ∙ (ap (λ a. if not a then written (front q) y more v.stored else v.stored) quiet ∙ (ap (λ (a : Exchange). written (front a) y more v.stored) one ∙ (ap (λ n. written (front w) n more v.stored) same.0 ∙ ap (λ d. written (front w) x d v.stored) same.1)))
+              stored_is ∙ (ap (λ a. if not a then cells_with (front q) y more v.stored else v.stored) quiet ∙ (ap (λ (a : Exchange). cells_with (front a) y more v.stored) one ∙ (ap (λ n. cells_with (front w) n more v.stored) same.0 ∙ ap (λ d. cells_with (front w) x d v.stored) same.1)))
 
       stored_still : ((bytes : List ℕ) (y : ℕ) → ev ≡ event.Piece y bytes → ⊥) → p.stored ≡ v.stored
       stored_still other = by_fills (fills t e r v p kept)
@@ -103,8 +103,8 @@ module _ (limits : Limits) (t : Tables) (now : ℕ) (flaw : Flaw) (s : Sound t) 
           by_fills (fills_by.more y more q is body_is stored_is reach_is) = absurd (other more y is.at)
 
       -- with the last piece
-      by_piece : (bytes : List ℕ) → ev ≡ event.Piece x bytes → is_reached (promised w) (length (w.body ++ bytes)) ≡ true → IsAll p
-      by_piece bytes here reached = by_promise (promised w) refl
+      by_piece : (bytes : List ℕ) → ev ≡ event.Piece x bytes → is_reached (promised_bytes w) (length (w.body ++ bytes)) ≡ true → IsAll p
+      by_piece bytes here reached = by_promise (promised_bytes w) refl
         where
           quiet_now : loses_in r e.acts ≡ false
           quiet_now = by_calm calm
@@ -116,7 +116,7 @@ module _ (limits : Limits) (t : Tables) (now : ℕ) (flaw : Flaw) (s : Sound t) 
           both_off : (a d : Bool) → a ≡ false → d ≡ false → (a || d) ≡ false
           both_off a d f h = rw (f, h) refl
 
-          by_promise : (q : Option ℕ) → promised w ≡ q → IsAll p
+          by_promise : (q : Option ℕ) → promised_bytes w ≡ q → IsAll p
           by_promise None is = absurd (false_true (sym (ap (λ z. is_reached z (length (w.body ++ bytes))) is) ∙ reached))
           by_promise (Some n) is =
               let known : v.head.total ≡ Some (base w + n) = g.promise ∙ ap (end_from (base w)) is in
@@ -129,12 +129,12 @@ module _ (limits : Limits) (t : Tables) (now : ℕ) (flaw : Flaw) (s : Sound t) 
 
       -- by its end
       by_end : ev ≡ event.End x → IsAll p
-      by_end here = by_promise (promised w) refl
+      by_end here = by_promise (promised_bytes w) refl
         where
           still : p.stored ≡ v.stored
           still = stored_still (λ bytes y is. let no : event.End x ≡ event.Piece y bytes = sym here ∙ is in cc)
 
-          own_end : promised w ≡ None → IsMeasured w v → IsAll p
+          own_end : promised_bytes w ≡ None → IsMeasured w v → IsAll p
           own_end none (measures.told n total promise known ends) = absurd (none_some n (sym none ∙ promise))
           own_end none (measures.untold none_too unknown first alone was) =
               let mine : x ≡ r = sym (ap (λ (n : Option ℕ). unwrap_or n x) alone) ∙ g.family_is in
@@ -145,7 +145,7 @@ module _ (limits : Limits) (t : Tables) (now : ℕ) (flaw : Flaw) (s : Sound t) 
                 covered = λ d from_lo lt. ap (λ (f : Cells). is_some (f d)) still ∙ clean_end t r x v w g d from_lo lt;
               }
 
-          by_promise : (q : Option ℕ) → promised w ≡ q → IsAll p
+          by_promise : (q : Option ℕ) → promised_bytes w ≡ q → IsAll p
           by_promise None is = own_end is (m.brings x w v g.row was_open g.headed (ap t.representation g.family_is ∙ there))
           by_promise (Some n) is =
               let known : v.head.total ≡ Some (base w + n) = g.promise ∙ ap (end_from (base w)) is in
@@ -169,10 +169,10 @@ module _ (limits : Limits) (t : Tables) (now : ℕ) (flaw : Flaw) (s : Sound t) 
       ]
       ends_all (event.Piece y bytes) here off = elim (eq_cases y x) [
         | inr other ↦ goes_on _ here (rw other.0 refl) off
-        | inl hit ↦ by_test (is_reached (promised w) (length (w.body ++ bytes))) refl hit.1 hit.0
+        | inl hit ↦ by_test (is_reached (promised_bytes w) (length (w.body ++ bytes))) refl hit.1 hit.0
       ]
         where
-          by_test : (a : Bool) → is_reached (promised w) (length (w.body ++ bytes)) ≡ a → y ≡ x → nat_eq y x ≡ true → IsAll p
+          by_test : (a : Bool) → is_reached (promised_bytes w) (length (w.body ++ bytes)) ≡ a → y ≡ x → nat_eq y x ≡ true → IsAll p
           by_test true reached same test = by_piece bytes (here ∙ ap (λ n. event.Piece n bytes) same) reached
           by_test false reached same test =
               let heard : (exchange_heard t e x (event.Piece y bytes) w).is_open ≡ true = rw (test, reached, was_open) refl in

@@ -18,14 +18,14 @@ use Rattle.hc_rules.specs.Needs.{route_of}
 use Rattle.hc_event.specs.declared.place.Place.{Place}
 use Rattle.hc_event.specs.declared.place.Place.TheVariants as place
 use Rattle.hc_event.specs.declared.place.BoundBy.{BoundBy}
-use Rattle.hc_model.specs.Answers.{accepted, lost}
+use Rattle.hc_model.specs.Answers.{accepted_acts, loss_acts}
 use Rattle.hc_model.specs.Cases.{case_at, head_view, is_joining}
 use Rattle.hc_model.specs.Closings.{closing, closes_row, must_close}
 use Rattle.hc_model.specs.ConsumerRows.{consumer_after, back_in_line}
 use Rattle.hc_model.specs.Currents.{is_number}
 use Rattle.hc_model.specs.Denials.{denial}
 use Rattle.hc_model.specs.Dooms.{doomed}
-use Rattle.hc_model.specs.Effects.{Does, counted, gone, let_go, all_closed, with_consumer, with_representation, with_answer, lost_to, left_with, if_bound, writing_lost, unless_survived}
+use Rattle.hc_model.specs.Effects.{Does, with_event, as_gone, let_go, all_closed, with_consumer, with_representation, with_answer, lost_to, left_with, if_bound, writing_lost, unless_survived}
 use Rattle.hc_model.specs.Entries.{Entry}
 use Rattle.hc_model.specs.ExchangeRows.{exchange_heard}
 use Rattle.hc_model.specs.Flaws.{Flaw, Loses}
@@ -50,7 +50,7 @@ use Rattle.hc_laws.proofs.HeadFrames.{e, far, loses_as, spared_as, apart, doomed
 use Rattle.hc_model.proofs.HoleLemmas.{bool_cases}
 use Rattle.hc_model.proofs.LostFrames.{goes_on_as, member_as, closed_with, writer_now, closed_row, closed_apart, no_survivor_as}
 use Rattle.hc_laws.proofs.OfConsumers.{one_of, descends_once, or_off, and_so}
-use Rattle.hc_model.proofs.Pens.{same_row}
+use Rattle.hc_model.proofs.ExclusiveWriters.{same_row}
 use Rattle.hc_model.proofs.PieceKeeps.{eq_cases}
 use Rattle.hc_model.proofs.PieceServes.{quiet_acts}
 use Rattle.hc_model.proofs.SameTables.{is_in, in_one, waits_for_any, back_from_any}
@@ -78,7 +78,7 @@ module _ (limits : Limits) (t : Tables) (law : Lawful t) (now x : ℕ) (response
 
   -- the entry as the closings see it
   abbrev b : Entry
-  b = record { now = now; event = ev; acts = lost flaw }
+  b = record { now = now; event = ev; acts = loss_acts flaw }
 
   is_it : case_at t it ≡ Some case.NotValidated
   is_it = case_on limits t law now x response goes w row [] xs flaw case.NotValidated is
@@ -146,7 +146,7 @@ module _ (limits : Limits) (t : Tables) (law : Lawful t) (now x : ℕ) (response
   by_case : (route_of w.need ≡ route.Turn) × (response.status ≡ 304)
   by_case = by_turn (subst (CaseBy (head_view t true w response)) is (case_by (head_view t true w response)))
 
-  acts_are : accepted limits t now ev flaw ≡ act.Lost r kind ∷ map act.Close xs
+  acts_are : accepted_acts limits t now ev flaw ≡ act.Lost r kind ∷ map act.Close xs
   acts_are =
       ap (λ rs. map act.Evicted rs ++ (act.Lost r kind ∷ map act.Close (closing t b))) (evicts_none limits t law now x response goes w row (unchanged_founds (head_view t false w response) by_case.1))
       ∙ ap (λ ys. act.Lost r kind ∷ map act.Close ys) closing_is
@@ -165,12 +165,12 @@ module _ (limits : Limits) (t : Tables) (law : Lawful t) (now x : ℕ) (response
         goes_by t now x response [] flaw xs w row case.NotValidated is_it q u unclosed doomless_it ∙ rw (aim, other.0) refl
   ]
 
-  lost_row : representation_after t it r (t.representation r) ≡ (if is_in rs r then option_map gone (Some (lost_to (survivor t r v) v)) else Some (lost_to (survivor t r v) v))
+  lost_row : representation_after t it r (t.representation r) ≡ (if is_in rs r then option_map as_gone (Some (lost_to (survivor t r v) v)) else Some (lost_to (survivor t r v) v))
   lost_row =
       row_loses t now x response [] flaw xs w row case.NotValidated is_it r v there (survivor t r v) kept (rw (eqb-same r) refl) (goes_on_as t it law r v there losing_it) (goes_it r v there ∙ rw (eqb-same r) refl)
       ∙ rw (eqb-same r) refl
 
-  rows : (q : ℕ) → representation_after t it q (t.representation q) ≡ (if is_in rs q then option_map gone (if r == q then Some (lost_to (survivor t r v) v) else t.representation q) else (if r == q then Some (lost_to (survivor t r v) v) else t.representation q))
+  rows : (q : ℕ) → representation_after t it q (t.representation q) ≡ (if is_in rs q then option_map as_gone (if r == q then Some (lost_to (survivor t r v) v) else t.representation q) else (if r == q then Some (lost_to (survivor t r v) v) else t.representation q))
   rows = rows_but t now x response [] flaw xs w row case.NotValidated is_it rs goes_it r (Some (lost_to (survivor t r v) v)) lost_row (λ q other. refl) (λ q u other here. (rw is_it refl, rw other refl))
 
   -- WHO READS IT
@@ -230,7 +230,7 @@ module _ (limits : Limits) (t : Tables) (law : Lawful t) (now x : ℕ) (response
 
   -- one of those who read it goes on, and its consumer stands in the line again
   pub validated_lost_written : Does limits t now ev flaw (act.Lost r kind ∷ map act.Close xs)
-      (counted now ev (let_go now r (with_consumer w.c (Some (back_in_line now k)) (all_closed xs (with_answer now x response w.joined w (writing_lost r (survivor t r v) v.writer (with_representation r (Some (lost_to (survivor t r v) v)) t)))))))
+      (with_event now ev (let_go now r (with_consumer w.c (Some (back_in_line now k)) (all_closed xs (with_answer now x response w.joined w (writing_lost r (survivor t r v) v.writer (with_representation r (Some (lost_to (survivor t r v) v)) t)))))))
   validated_lost_written = record {
     acts_are = acts_are;
     tables_are =

@@ -16,7 +16,7 @@ ghost use Rattle.hc_model.specs.Growing.{Growing, StopsInRuns};
 ghost use Rattle.hc_model.specs.Live.{FewLive};
 ghost use Rattle.hc_model.specs.Losses.{Brings, Losses};
 ghost use Rattle.hc_model.specs.Measures.{Measures};
-ghost use Rattle.hc_model.specs.Modest.{RequestsStayModest, HeadsComeModest};
+ghost use Rattle.hc_model.specs.WithinLimits.{RequestsStayWithinLimits, HeadsComeWithinLimits};
 ghost use Rattle.hc_model.specs.Numbers.{NumbersInRuns};
 ghost use Rattle.hc_model.specs.Orders.{InOrder};
 ghost use Rattle.hc_model.specs.Origins.{Origins};
@@ -341,9 +341,9 @@ pub fn few_are_live()
 
 /// Where each request and each head that comes has no more fields than one from outside may have, each
 /// request that is kept has no more either.
-pub fn requests_stay_modest()
-    ensures requests { RequestsStayModest }
-    ensures heads { HeadsComeModest }
+pub fn requests_stay_within_limits()
+    ensures requests { RequestsStayWithinLimits }
+    ensures heads { HeadsComeWithinLimits }
 {}
 
 /// A range that is read isn't empty, of who founded with a part or filled its first hole, and who

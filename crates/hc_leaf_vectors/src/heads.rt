@@ -37,7 +37,7 @@ pub(crate) fn head_of(v: &Vector) -> Result<Option<StoredHead>, Fault> {
     let vary_fields = fields_of(v.alloc(), v.text(5))?;
     let fields = fields_of(v.alloc(), v.text(6))?;
     let joining = joining_tag(v.alloc(), &fields)?;
-    if vary_fields.len() > 80 || !fields.modest() {
+    if vary_fields.len() > 80 || !fields.within_limits() {
         return Ok(None);
     }
     Ok(Some(StoredHead {

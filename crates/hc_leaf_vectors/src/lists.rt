@@ -96,16 +96,19 @@ pub(crate) fn append_often(
     v: &Vector,
     to: &mut String,
 ) -> Result<(), NoMemory> {
-    let (mut done, mut modest, mut last) = (0_u64, 0_u64, 0_u64);
+    let (mut done, mut within_limits, mut last) = (0_u64, 0_u64, 0_u64);
     for i in 0..v.number(2) {
-        if fields.modest() {
-            modest = modest.wrapping_add(1);
+        if fields.within_limits() {
+            within_limits = within_limits.wrapping_add(1);
             last = i;
         }
         if fields.append(v.text(0), v.text(1)).is_ok() {
             done = done.wrapping_add(1);
         }
     }
-    write!(to, "{done} done, within limits before {modest}, up to {last}")?;
+    write!(
+        to,
+        "{done} done, within limits before {within_limits}, up to {last}"
+    )?;
     Ok(())
 }

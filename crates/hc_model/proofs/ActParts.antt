@@ -9,11 +9,11 @@ use Rattle.hc_event.specs.declared.event.Event.{Event}
 use Rattle.hc_event.specs.declared.event.Event.TheVariants as event
 use Rattle.hc_rules.specs.declared.room.Limits.{Limits}
 use Rattle.hc_model.specs.ActFilters.{loses_in, misreads_in, fails_in, leaver_in, wait_in, Showing, showing_in}
-use Rattle.hc_model.specs.Answers.{accepted, said, poll_acts, lost, closed}
+use Rattle.hc_model.specs.Answers.{accepted_acts, answer_acts, poll_acts, loss_acts, close_acts}
 use Rattle.hc_model.specs.Flaws.{Flaw, NoFlaw, Loses, Misreads}
 use Rattle.hc_model.specs.Moves as moves
 use Rattle.hc_model.specs.Moves.{Move, Nothing, Asks, Opens, Shows, Gives, Ends, Fails, acts_of}
-use Rattle.hc_model.specs.Polls.{polled}
+use Rattle.hc_model.specs.Polls.{poll_move}
 use Rattle.hc_model.specs.Rows.{Tables, Consumer}
 use Rattle.hc_model.specs.Weights.{evicted}
 use Rattle.hc_model.proofs.HoleLemmas.{bool_cases}
@@ -24,10 +24,10 @@ use Rattle.hc_model.proofs.PollKeys.{IsNear, near_polled}
 
 -- the acts of an accepted event, by its kind
 pub data IsAnswer (limits : Limits) (t : Tables) (now : ℕ) (ev : Event) (flaw : Flaw) : List Act → Type 0 where
-  told : said t now ev flaw ≡ [] → IsAnswer limits t now ev flaw (map act.Evicted (evicted limits t now ev) ++ (lost flaw ++ closed t now ev flaw))
-  asked : IsAnswer limits t now ev flaw (said t now ev flaw ++ (closed t now ev flaw ++ lost flaw))
+  told : answer_acts t now ev flaw ≡ [] → IsAnswer limits t now ev flaw (map act.Evicted (evicted limits t now ev) ++ (loss_acts flaw ++ close_acts t now ev flaw))
+  asked : IsAnswer limits t now ev flaw (answer_acts t now ev flaw ++ (close_acts t now ev flaw ++ loss_acts flaw))
 
-pub answer_is : (limits : Limits) (t : Tables) (now : ℕ) (ev : Event) (flaw : Flaw) → IsAnswer limits t now ev flaw (accepted limits t now ev flaw)
+pub answer_is : (limits : Limits) (t : Tables) (now : ℕ) (ev : Event) (flaw : Flaw) → IsAnswer limits t now ev flaw (accepted_acts limits t now ev flaw)
 answer_is limits t now (event.Poll c want) flaw = asked
 answer_is limits t now (event.Cancel c) flaw = asked
 answer_is limits t now (event.Start c request) flaw = told refl
@@ -40,15 +40,15 @@ answer_is limits t now (event.Doom key) flaw = told refl
 -- what is said to the consumer of a poll: nothing, its move, or that a read failed
 pub data IsSaid (t : Tables) (now : ℕ) (ev : Event) (flaw : Flaw) : List Act → Type 0 where
   silent : IsSaid t now ev flaw []
-  does : (c want : ℕ) (k : Consumer) (m : Move) → ev ≡ event.Poll c want → t.consumer c ≡ Some k → m ≡ polled t now want c (Some k) → IsNear t k m → IsSaid t now ev flaw (acts_of c m)
+  does : (c want : ℕ) (k : Consumer) (m : Move) → ev ≡ event.Poll c want → t.consumer c ≡ Some k → m ≡ poll_move t now want c (Some k) → IsNear t k m → IsSaid t now ev flaw (acts_of c m)
   misreads : (c want r : ℕ) → ev ≡ event.Poll c want → flaw ≡ Misreads r → IsSaid t now ev flaw (act.Failed c (cause.StoreRead r) ∷ [])
 
-pub said_is : (t : Tables) (now : ℕ) (ev : Event) (flaw : Flaw) → IsSaid t now ev flaw (said t now ev flaw)
+pub said_is : (t : Tables) (now : ℕ) (ev : Event) (flaw : Flaw) → IsSaid t now ev flaw (answer_acts t now ev flaw)
 said_is t now (event.Poll c want) flaw = by_flaw flaw
   where
-    by_row : (f : Flaw) (o : Option Consumer) → t.consumer c ≡ o → IsSaid t now (event.Poll c want) f (acts_of c (polled t now want c o))
+    by_row : (f : Flaw) (o : Option Consumer) → t.consumer c ≡ o → IsSaid t now (event.Poll c want) f (acts_of c (poll_move t now want c o))
     by_row f None row = silent
-    by_row f (Some k) row = does c want k (polled t now want c (Some k)) refl row refl (near_polled t c k now want)
+    by_row f (Some k) row = does c want k (poll_move t now want c (Some k)) refl row refl (near_polled t c k now want)
 
     by_flaw : (f : Flaw) → IsSaid t now (event.Poll c want) f (poll_acts t now want c f)
     by_flaw NoFlaw = by_row NoFlaw (t.consumer c) refl
@@ -82,12 +82,12 @@ pub asks_closes : (x r : ℕ) (ys : List ℕ) → AsksAs x r (map act.Close ys) 
 asks_closes x r [] = record { asks = refl; misreads = refl; opens = refl }
 asks_closes x r (y ∷ ys) = let a = asks_closes x r ys in record { asks = a.asks; misreads = a.misreads; opens = a.opens }
 
-pub asks_lost : (x r : ℕ) (flaw : Flaw) (rest : List Act) → AsksAs x r (lost flaw ++ rest) rest
+pub asks_lost : (x r : ℕ) (flaw : Flaw) (rest : List Act) → AsksAs x r (loss_acts flaw ++ rest) rest
 asks_lost x r NoFlaw rest = record { asks = refl; misreads = refl; opens = refl }
 asks_lost x r (Loses q kind) rest = record { asks = refl; misreads = refl; opens = refl }
 asks_lost x r (Misreads q) rest = record { asks = refl; misreads = refl; opens = refl }
 
-pub asks_loss : (x r : ℕ) (flaw : Flaw) → AsksAs x r (lost flaw) []
+pub asks_loss : (x r : ℕ) (flaw : Flaw) → AsksAs x r (loss_acts flaw) []
 asks_loss x r NoFlaw = record { asks = refl; misreads = refl; opens = refl }
 asks_loss x r (Loses q kind) = record { asks = refl; misreads = refl; opens = refl }
 asks_loss x r (Misreads q) = record { asks = refl; misreads = refl; opens = refl }
@@ -99,12 +99,12 @@ pub closes_evicted : (x : ℕ) (rs : List ℕ) (rest : List Act) → closes_in x
 closes_evicted x [] rest = refl
 closes_evicted x (q ∷ rs) rest = closes_evicted x rs rest
 
-pub closes_lost : (x : ℕ) (flaw : Flaw) (rest : List Act) → closes_in x (lost flaw ++ rest) ≡ closes_in x rest
+pub closes_lost : (x : ℕ) (flaw : Flaw) (rest : List Act) → closes_in x (loss_acts flaw ++ rest) ≡ closes_in x rest
 closes_lost x NoFlaw rest = refl
 closes_lost x (Loses q kind) rest = refl
 closes_lost x (Misreads q) rest = refl
 
-pub closes_before : (x : ℕ) (ys : List ℕ) (flaw : Flaw) → closes_in x (map act.Close ys ++ lost flaw) ≡ closes_in x (map act.Close ys)
+pub closes_before : (x : ℕ) (ys : List ℕ) (flaw : Flaw) → closes_in x (map act.Close ys ++ loss_acts flaw) ≡ closes_in x (map act.Close ys)
 closes_before x [] NoFlaw = refl
 closes_before x [] (Loses q kind) = refl
 closes_before x [] (Misreads q) = refl
@@ -134,7 +134,7 @@ loses_closes : (r : ℕ) (ys : List ℕ) → loses_in r (map act.Close ys) ≡ f
 loses_closes r [] = refl
 loses_closes r (y ∷ ys) = loses_closes r ys
 
-pub loses_before : (r : ℕ) (flaw : Flaw) (ys : List ℕ) → loses_in r (lost flaw ++ map act.Close ys) ≡ loses_in r (lost flaw)
+pub loses_before : (r : ℕ) (flaw : Flaw) (ys : List ℕ) → loses_in r (loss_acts flaw ++ map act.Close ys) ≡ loses_in r (loss_acts flaw)
 loses_before r NoFlaw ys = loses_closes r ys
 loses_before r (Loses q kind) ys = ap (λ b. (q == r) || b) (loses_closes r ys)
 loses_before r (Misreads q) ys = loses_closes r ys
@@ -144,12 +144,12 @@ pub evicts_closes : (r : ℕ) (ys : List ℕ) → evicts_in r (map act.Close ys)
 evicts_closes r [] = refl
 evicts_closes r (y ∷ ys) = evicts_closes r ys
 
-pub evicts_lost : (r : ℕ) (flaw : Flaw) (rest : List Act) → evicts_in r (lost flaw ++ rest) ≡ evicts_in r rest
+pub evicts_lost : (r : ℕ) (flaw : Flaw) (rest : List Act) → evicts_in r (loss_acts flaw ++ rest) ≡ evicts_in r rest
 evicts_lost r NoFlaw rest = refl
 evicts_lost r (Loses q kind) rest = refl
 evicts_lost r (Misreads q) rest = refl
 
-pub evicts_closed : (r : ℕ) (ys : List ℕ) (flaw : Flaw) → evicts_in r (map act.Close ys ++ lost flaw) ≡ false
+pub evicts_closed : (r : ℕ) (ys : List ℕ) (flaw : Flaw) → evicts_in r (map act.Close ys ++ loss_acts flaw) ≡ false
 evicts_closed r [] NoFlaw = refl
 evicts_closed r [] (Loses q kind) = refl
 evicts_closed r [] (Misreads q) = refl
@@ -204,12 +204,12 @@ pub record IsFarFrom (c : ℕ) (acts : List Act) : Type 0 where
 far_nil : (c : ℕ) → IsFarFrom c []
 far_nil c = record { waits = refl; leaves = refl; fails = refl; shows = refl; given = refl; opens = λ o h. absurd (let never : None ≡ Some o = h in cc); showing = λ s h. absurd (let never : None ≡ Some s = h in cc) }
 
-pub far_loss : (c : ℕ) (flaw : Flaw) (rest : List Act) → IsFarFrom c rest → IsFarFrom c (lost flaw ++ rest)
+pub far_loss : (c : ℕ) (flaw : Flaw) (rest : List Act) → IsFarFrom c rest → IsFarFrom c (loss_acts flaw ++ rest)
 far_loss c NoFlaw rest far = far
 far_loss c (Loses r kind) rest far = record { waits = far.waits; leaves = far.leaves; fails = far.fails; shows = far.shows; given = far.given; opens = far.opens; showing = far.showing }
 far_loss c (Misreads r) rest far = far
 
-pub far_lost_only : (c : ℕ) (flaw : Flaw) → IsFarFrom c (lost flaw)
+pub far_lost_only : (c : ℕ) (flaw : Flaw) → IsFarFrom c (loss_acts flaw)
 far_lost_only c NoFlaw = far_nil c
 far_lost_only c (Loses r kind) = let far = far_nil c in record { waits = refl; leaves = refl; fails = refl; shows = refl; given = refl; opens = far.opens; showing = far.showing }
 far_lost_only c (Misreads r) = far_nil c
@@ -263,7 +263,7 @@ far_said c t now ev flaw _ rest other (misreads d want q at is) far = far_other 
 
 -- WHO LEAVES
 
-pub leaver_lost : (flaw : Flaw) → leaver_in (lost flaw) ≡ None
+pub leaver_lost : (flaw : Flaw) → leaver_in (loss_acts flaw) ≡ None
 leaver_lost NoFlaw = refl
 leaver_lost (Loses r kind) = refl
 leaver_lost (Misreads r) = refl

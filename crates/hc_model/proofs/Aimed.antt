@@ -18,7 +18,7 @@ use Rattle.hc_model.specs.Owners.{Owners}
 use Rattle.hc_model.specs.Reading.{bound_to}
 use Rattle.hc_model.specs.Rows.{Tables, Exchange, Consumer}
 use Rattle.hc_model.specs.Sound.{Sound}
-use Rattle.hc_model.specs.Tables.{begun, after_accepted, after_denied}
+use Rattle.hc_model.specs.Tables.{first_tables, after_accepted, after_denied}
 use Rattle.hc_model.proofs.Basics.{none_some}
 use Rattle.hc_model.proofs.BoundFrom.{BoundFrom, bound_from}
 use Rattle.hc_model.proofs.BoundFrom as from
@@ -27,7 +27,7 @@ use Rattle.hc_model.proofs.ExchangeFrom as exchange
 use Rattle.hc_model.proofs.FirstKeeps.{is_new, is_opener}
 use Rattle.hc_model.proofs.Forward.{is_on, opened_on}
 use Rattle.hc_model.proofs.OwnersKeep.{new_number}
-use Rattle.hc_model.proofs.Pens.{same_row}
+use Rattle.hc_model.proofs.ExclusiveWriters.{same_row}
 
 pub record IsAimed (t : Tables) : Type 0 where
   pub first : (c r lo y : ℕ) (hi : Option ℕ) (k : Consumer) (w : Exchange) → t.consumer c ≡ Some k → k.place ≡ place.Bound r lo hi (by.FirstHole y) → t.exchange y ≡ Some w → w.aim ≡ Some r
@@ -95,7 +95,7 @@ module _ (limits : Limits) (t : Tables) (now : ℕ) (flaw : Flaw) (s : Sound t) 
     joins = λ x q z after is. joins_by x q z is (exchange_from t e x (t.exchange x) z refl after);
   }
 
-pub aimed_begun : (contents : Contents) → IsAimed (begun contents)
+pub aimed_begun : (contents : Contents) → IsAimed (first_tables contents)
 aimed_begun contents = record {
   first = λ c r lo y hi k w row at there. absurd (none_some k row);
   joins = λ x q w row is. absurd (none_some w row);

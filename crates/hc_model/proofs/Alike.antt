@@ -15,17 +15,17 @@ use Rattle.hc_model.specs.ActFilters.{loses_in, has_loss, misreads_in, fails_in,
 use Rattle.hc_model.specs.Cases.{case_at, case_of}
 use Rattle.hc_model.specs.ConsumerRows.{consumer_heard, by_head, becomes_shared, is_resumed, waiting, by_opening, own_after, left_to, consumer_acted}
 use Rattle.hc_model.specs.Currents.{row_of, is_current}
-use Rattle.hc_model.specs.Dooms.{doomed, doomed_in, doomed_by_head, doomed_by_case, bypassed, bypassed_by, is_key}
+use Rattle.hc_model.specs.Dooms.{doomed, doomed_in, doomed_by_head, doomed_by_case, bypass_key, bypassed_by, is_key}
 use Rattle.hc_model.specs.Entries.{Entry}
 use Rattle.hc_model.specs.ExchangeRows.{exchange_after, exchange_heard, exchange_acted, exchange_made}
 use Rattle.hc_model.specs.Exchanges.{exchange_at, family}
 use Rattle.hc_model.specs.Failures.{becomes_due, cause_of_loss, cause_by_loss, cause_of_head}
 use Rattle.hc_model.specs.Gone.{goes_by_case, goes_by_exchange, ends_founding, is_keepable, goes_itself}
-use Rattle.hc_model.specs.RepresentationRows.{representation_heard, headed, pieced, founded_at}
+use Rattle.hc_model.specs.RepresentationRows.{representation_heard, representation_after_head, representation_after_piece, founded_at}
 use Rattle.hc_model.specs.Rows.{Tables, Exchange, Representation, Consumer}
 use Rattle.hc_model.specs.Tables.{founds, binds}
 use Rattle.hc_model.specs.Writers.{loses_writing, goes_on_with}
-use Rattle.hc_model.specs.Writes.{written_in, head_writes, first_found, sealed, seals_at, sealed_by, is_sealed, stops}
+use Rattle.hc_model.specs.Writes.{written_in, head_writes, first_found, sealed_representation, seals_at, sealed_by, is_sealed, stops}
 
 -- the acts say the same but for what makes room
 pub record AreAlike (a b : List Act) : Type 0 where
@@ -76,7 +76,7 @@ module _ (t : Tables) (now : ℕ) (ev : Event) (a b : List Act) (k : AreAlike a 
   unfolding doomed
   doomed_same = doomed_by ev
 
-  bypassed_same : bypassed e ≡ bypassed f
+  bypassed_same : bypass_key e ≡ bypass_key f
   bypassed_same = ap bypassed_by k.opens
 
   by_case_same : (r : ℕ) (g : Option HeadCase) (w : Exchange) → goes_by_case t e r g w ≡ goes_by_case t f r g w
@@ -94,7 +94,7 @@ module _ (t : Tables) (now : ℕ) (ev : Event) (a b : List Act) (k : AreAlike a 
   pub itself_same : (r : ℕ) (v : Representation) → goes_itself t e r v ≡ goes_itself t f r v
   itself_same r v =
       any_of_five _ _ _ _ _ _ _ _ _ _
-      (ap (λ z. is_current t v.key r && (is_key z v.key || is_key (bypassed e) v.key)) doomed_same ∙ ap (λ z. is_current t v.key r && (is_key (doomed t f) v.key || is_key z v.key)) bypassed_same)
+      (ap (λ z. is_current t v.key r && (is_key z v.key || is_key (bypass_key e) v.key)) doomed_same ∙ ap (λ z. is_current t v.key r && (is_key (doomed t f) v.key || is_key z v.key)) bypassed_same)
       (by_exchange_same r (exchange_at t ev)) (k.loses r) (k.misreads r)
       (ap (λ z. (v.head.status == 200 && z) && not (is_keepable v)) (ends_same r (t.exchange r)))
 
@@ -125,11 +125,11 @@ module _ (t : Tables) (now : ℕ) (ev : Event) (a b : List Act) (k : AreAlike a 
   founded_same r (event.Head x response) = rw k.loss refl
   founded_same r _ = refl
 
-  headed_same : (r x : ℕ) (response : Response) (v : Representation) (z : Option Exchange) → headed t e r x response z v ≡ headed t f r x response z v
+  headed_same : (r x : ℕ) (response : Response) (v : Representation) (z : Option Exchange) → representation_after_head t e r x response z v ≡ representation_after_head t f r x response z v
   headed_same r x response v None = refl
   headed_same r x response v (Some w) = rw (k.loss, k.loses r) refl
 
-  pieced_same : (r x : ℕ) (bytes : List ℕ) (v : Representation) (z : Option Exchange) → pieced e r x bytes z v ≡ pieced f r x bytes z v
+  pieced_same : (r x : ℕ) (bytes : List ℕ) (v : Representation) (z : Option Exchange) → representation_after_piece e r x bytes z v ≡ representation_after_piece f r x bytes z v
   pieced_same r x bytes v None = refl
   pieced_same r x bytes v (Some w) = rw (k.loses r) refl
 
@@ -217,7 +217,7 @@ module _ (t : Tables) (now : ℕ) (ev : Event) (a b : List Act) (k : AreAlike a 
       ap (λ q. if stops x ev || q then sealed_by t e x (t.exchange x) else None) (k.closes x)
       ∙ ap (λ q. if stops x ev || closes_in x b then q else None) (sealed_by_same x (t.exchange x))
 
-  sealed_same : sealed t e ≡ sealed t f
+  sealed_same : sealed_representation t e ≡ sealed_representation t f
   sealed_same = by_list t.openings
     where
       by_list : (xs : List ℕ) → first_found (seals_at t e) xs ≡ first_found (seals_at t f) xs

@@ -12,7 +12,7 @@ use Rattle.hc_model.specs.Laws.{IsStart, StartsAreSound, item_of}
 use Rattle.hc_model.specs.Reading.{is_written}
 use Rattle.hc_model.specs.Rows.{Representation, Consumer}
 use Rattle.hc_model.specs.Sound.{Waits, Sound, Numbered, OneAbout, Writes, Among, IsAbout, IsBound, IsFirst, IsSoundRepresentation}
-use Rattle.hc_model.specs.Tables.{begun, loaded, last_end, numbers}
+use Rattle.hc_model.specs.Tables.{first_tables, representation_of_content, last_end, numbers}
 use Rattle.hc_model.specs.Sound as sound
 use Rattle.hc_model.proofs.Basics.{false_true, none_some}
 use Rattle.hc_model.proofs.HoleLemmas.{bool_cases}
@@ -22,11 +22,11 @@ use Rattle.hc_model.proofs.PieceKeeps.{some_inj}
 record IsLoaded (contents : Contents) (r : ℕ) (v : Representation) : Type 0 where
   item : Content
   found : item_of contents r ≡ Some item
-  row : loaded item ≡ v
+  row : representation_of_content item ≡ v
 
-is_loaded : (contents : Contents) (r : ℕ) (o : Option Content) (v : Representation) → item_of contents r ≡ o → option_map loaded o ≡ Some v → IsLoaded contents r v
+is_loaded : (contents : Contents) (r : ℕ) (o : Option Content) (v : Representation) → item_of contents r ≡ o → option_map representation_of_content o ≡ Some v → IsLoaded contents r v
 is_loaded contents r None v found is = absurd (let never : None ≡ Some v = is in cc)
-is_loaded contents r (Some item) v found is = record { item = item; found = found; row = some_inj (loaded item) v is }
+is_loaded contents r (Some item) v found is = record { item = item; found = found; row = some_inj (representation_of_content item) v is }
 
 -- nothing is behind the last of some runs
 pub ends_all : (runs : List Run) → EndsBy (last_end runs) (cells_of runs)
@@ -60,30 +60,30 @@ among_reverse r [] among = absurd among
 among_reverse r (x ∷ xs) (inl here) = subst (Among r) (sym (reverse-append (x ∷ []) xs)) (among_right r (reverse xs) (x ∷ []) (inl here))
 among_reverse r (x ∷ xs) (inr there) = subst (Among r) (sym (reverse-append (x ∷ []) xs)) (among_left r (reverse xs) (x ∷ []) (among_reverse r xs there))
 
-some_among : (contents : Contents) (r : ℕ) (o : Option Content) → item_of contents r ≡ o → is_some (option_map loaded o) ≡ true → Among r (map (λ (i : Content). i.r) contents.items)
+some_among : (contents : Contents) (r : ℕ) (o : Option Content) → item_of contents r ≡ o → is_some (option_map representation_of_content o) ≡ true → Among r (map (λ (i : Content). i.r) contents.items)
 some_among contents r None found some = absurd (false_true some)
 some_among contents r (Some item) found some = found_among contents.items r item found
 
-new_none : (contents : Contents) → IsStart contents → (r : ℕ) (o : Option Content) → item_of contents r ≡ o → contents.next_exchange - 1 < r → option_map loaded o ≡ None
+new_none : (contents : Contents) → IsStart contents → (r : ℕ) (o : Option Content) → item_of contents r ≡ o → contents.next_exchange - 1 < r → option_map representation_of_content o ≡ None
 new_none contents start r None found past = refl
 new_none contents start r (Some item) found past = absurd (let below = start.numbered r item found in omega arith)
 
-no_consumer : (contents : Contents) (r c : ℕ) (k : Consumer) → IsBound (begun contents) r c k → ⊥
+no_consumer : (contents : Contents) (r c : ℕ) (k : Consumer) → IsBound (first_tables contents) r c k → ⊥
 no_consumer contents r c k (sound.is_bound lo hi how row place) = none_some k row
 
-no_first : (contents : Contents) (r c : ℕ) → IsFirst (begun contents) r c → ⊥
+no_first : (contents : Contents) (r c : ℕ) → IsFirst (first_tables contents) r c → ⊥
 no_first contents r c (sound.first k lo hi how row place alone) = none_some k row
 
-none_about : (contents : Contents) (r x : ℕ) → IsAbout (begun contents) r x → ⊥
+none_about : (contents : Contents) (r x : ℕ) → IsAbout (first_tables contents) r x → ⊥
 none_about contents r x (sound.headed w row is_open headed fam there) = none_some w row
 none_about contents r x (sound.asks w from to row is_open bare hole aim) = none_some w row
 
-not_written : (contents : Contents) (r : ℕ) (v : Representation) → IsLoaded contents r v → is_written (begun contents) v ≡ true → ⊥
+not_written : (contents : Contents) (r : ℕ) (v : Representation) → IsLoaded contents r v → is_written (first_tables contents) v ≡ true → ⊥
 unfolding is_written
-not_written contents r v l on = let never : is_written (begun contents) (loaded l.item) ≡ true = ap (is_written (begun contents)) l.row ∙ on in false_true never
+not_written contents r v l on = let never : is_written (first_tables contents) (representation_of_content l.item) ≡ true = ap (is_written (first_tables contents)) l.row ∙ on in false_true never
 
-sound_row : (contents : Contents) (r : ℕ) (v : Representation) → IsLoaded contents r v → IsSoundRepresentation (begun contents) r v
-sound_row contents r v l = subst (IsSoundRepresentation (begun contents) r) l.row (record {
+sound_row : (contents : Contents) (r : ℕ) (v : Representation) → IsLoaded contents r v → IsSoundRepresentation (first_tables contents) r v
+sound_row contents r v l = subst (IsSoundRepresentation (first_tables contents) r) l.row (record {
   store = record {
     ends = ends_all l.item.runs;
     lost_is_gone = λ h. absurd (false_true h);

@@ -22,7 +22,7 @@ use Rattle.hc_model.specs.Tables.{after_accepted}
 use Rattle.hc_model.specs.Sound as sound
 use Rattle.hc_model.proofs.BoundFrom.{BoundFrom, IsFounded, IsFirstHole, IsShown, IsRow, bound_from}
 use Rattle.hc_model.proofs.BoundFrom as from
-use Rattle.hc_model.proofs.Pens.{same_row}
+use Rattle.hc_model.proofs.ExclusiveWriters.{same_row}
 use Rattle.hc_model.proofs.RepFrom.{stays, founds}
 use Rattle.hc_event.specs.declared.act.Wait.{Wait}
 use Rattle.hc_model.proofs.Said.{ShowsBy, OpensBy, IsPoll, IsOpening, IsShowing, WaitsAs, opening_by, showing_by, waiting_by}

@@ -9,7 +9,7 @@ use Rattle.hc_event.specs.declared.event.Event.TheVariants as event
 use Rattle.hc_event.specs.declared.act.Act.{Act}
 use Rattle.hc_event.specs.declared.act.Act.TheVariants as act
 use Rattle.hc_rules.specs.declared.room.Limits.{Limits}
-use Rattle.hc_model.specs.Answers.{accepted, poll_acts, said, lost}
+use Rattle.hc_model.specs.Answers.{accepted_acts, poll_acts, answer_acts, loss_acts}
 use Rattle.hc_model.specs.Closings.{closing, closes_row, must_close}
 use Rattle.hc_model.specs.Entries.{Entry}
 use Rattle.hc_model.specs.ExchangeRows.{exchange_heard}
@@ -53,7 +53,7 @@ closes_evicted : (x : ℕ) (rs : List ℕ) (rest : List Act) → closes_in x res
 closes_evicted x [] rest closes = closes
 closes_evicted x (r ∷ rs) rest closes = closes_evicted x rs rest closes
 
-closes_lost : (x : ℕ) (flaw : Flaw) (rest : List Act) → closes_in x rest ≡ true → closes_in x (lost flaw ++ rest) ≡ true
+closes_lost : (x : ℕ) (flaw : Flaw) (rest : List Act) → closes_in x rest ≡ true → closes_in x (loss_acts flaw ++ rest) ≡ true
 closes_lost x NoFlaw rest closes = closes
 closes_lost x (Loses r kind) rest closes = closes
 closes_lost x (Misreads r) rest closes = closes
@@ -90,20 +90,20 @@ closes_after x (act.Denied refusal ∷ acts) rest closes = closes_after x acts r
 module _ (limits : Limits) (t : Tables) (now : ℕ) (flaw : Flaw) (s : Sound t) where
   -- the entry as the closings see it
   abbrev pub before : Event → Entry
-  before ev = record { now = now; event = ev; acts = said t now ev flaw ++ lost flaw }
+  before ev = record { now = now; event = ev; acts = answer_acts t now ev flaw ++ loss_acts flaw }
 
-  closes_by : (ev : Event) (x : ℕ) → Among x (closing t (before ev)) → closes_in x (accepted limits t now ev flaw) ≡ true
+  closes_by : (ev : Event) (x : ℕ) → Among x (closing t (before ev)) → closes_in x (accepted_acts limits t now ev flaw) ≡ true
   closes_by (event.Start c request) x there = closes_evicted x (evicted limits t now (event.Start c request)) _ (closes_lost x flaw _ (closes_all x (closing t (before (event.Start c request))) there))
-  closes_by (event.Poll c want) x there = closes_after x (poll_acts t now want c flaw) _ (closes_list x (closing t (before (event.Poll c want))) (lost flaw) there)
+  closes_by (event.Poll c want) x there = closes_after x (poll_acts t now want c flaw) _ (closes_list x (closing t (before (event.Poll c want))) (loss_acts flaw) there)
   closes_by (event.Head y response) x there = closes_evicted x (evicted limits t now (event.Head y response)) _ (closes_lost x flaw _ (closes_all x (closing t (before (event.Head y response))) there))
   closes_by (event.Piece y bytes) x there = closes_evicted x (evicted limits t now (event.Piece y bytes)) _ (closes_lost x flaw _ (closes_all x (closing t (before (event.Piece y bytes))) there))
   closes_by (event.End y) x there = closes_evicted x (evicted limits t now (event.End y)) _ (closes_lost x flaw _ (closes_all x (closing t (before (event.End y))) there))
   closes_by (event.Fault y) x there = closes_evicted x (evicted limits t now (event.Fault y)) _ (closes_lost x flaw _ (closes_all x (closing t (before (event.Fault y))) there))
-  closes_by (event.Cancel c) x there = closes_list x (closing t (before (event.Cancel c))) (lost flaw) there
+  closes_by (event.Cancel c) x there = closes_list x (closing t (before (event.Cancel c))) (loss_acts flaw) there
   closes_by (event.Doom key) x there = closes_evicted x (evicted limits t now (event.Doom key)) _ (closes_lost x flaw _ (closes_all x (closing t (before (event.Doom key))) there))
 
   -- an exchange that must be closed, and that the event leaves open, is closed
-  pub closes : (ev : Event) (x : ℕ) (w : Exchange) → t.exchange x ≡ Some w → must_close t (before ev) x w ≡ true → (exchange_heard t (before ev) x ev w).is_open ≡ true → closes_in x (accepted limits t now ev flaw) ≡ true
+  pub closes : (ev : Event) (x : ℕ) (w : Exchange) → t.exchange x ≡ Some w → must_close t (before ev) x w ≡ true → (exchange_heard t (before ev) x ev w).is_open ≡ true → closes_in x (accepted_acts limits t now ev flaw) ≡ true
   unfolding closing
   closes ev x w row must on =
       let test : closes_row t (before ev) x (t.exchange x) ≡ true = ap (closes_row t (before ev) x) row ∙ and_both _ _ must on in

@@ -7,7 +7,7 @@ use Rattle.hc_range.specs.declared.range.Asked.{Asked}
 use Rattle.hc_range.specs.declared.range.ContentRange.{ContentRange}
 use Rattle.hc_range.specs.declared.range.ContentRange.TheVariants as range
 use Rattle.hc_range.specs.declared.range.Span.{Span}
-use Rattle.hc_range.specs.Spans.{resolved}
+use Rattle.hc_range.specs.Spans.{resolved_span}
 use Rattle.hc_event.specs.Filters.{Opening, opening_in}
 use Rattle.hc_event.specs.declared.act.Need.{Need}
 use Rattle.hc_event.specs.declared.act.Need.TheVariants as need
@@ -58,7 +58,7 @@ use Rattle.hc_model.proofs.OpenedAs as opened
 use Rattle.hc_model.proofs.OwnersKeep.{is_opened}
 use Rattle.hc_model.proofs.PartTold.{IsTold, part_told, whole_base}
 use Rattle.hc_model.proofs.PartTold as told
-use Rattle.hc_model.proofs.Pens.{same_row}
+use Rattle.hc_model.proofs.ExclusiveWriters.{same_row}
 use Rattle.hc_model.proofs.PieceKeeps.{some_inj}
 use Rattle.hc_model.proofs.PollKeeps.{current_stays}
 
@@ -93,8 +93,8 @@ module _ (k : Consumer) (w : Exchange) (response : Response) (lo : ℕ) (hi : Op
   part_by asked (Some (range.Part first last (Some total))) is at h =
       let on : nat_eq response.status 206 ≡ true = (let st : response.status ≡ 206 = status in grind (arith, nat_tests)) in
       let told : founded_total w response ≡ Some total = rw (on, at) refl in
-      let wants : wanted_part (resolved asked total) ≡ wanted.Interval i.span = sym (ap (λ q. wanted_of q (founded_total w response)) is ∙ ap (wanted_of (Some asked)) told) ∙ i.wanted_is in
-      record { first = first; last = last; total = total; told = at; starts = begins_by first last i.span (resolved asked total) h wants ∙ i.from }
+      let wants : wanted_part (resolved_span asked total) ≡ wanted.Interval i.span = sym (ap (λ q. wanted_of q (founded_total w response)) is ∙ ap (wanted_of (Some asked)) told) ∙ i.wanted_is in
+      record { first = first; last = last; total = total; told = at; starts = begins_by first last i.span (resolved_span asked total) h wants ∙ i.from }
 
   fits_by : (z : Option Asked) → range_of k.request ≡ z → fits_to_found z response ≡ true → IsPartFrom response lo
   fits_by None is h = absurd (false_true h)

@@ -8,13 +8,13 @@ use Rattle.hc_event.specs.declared.event.Response.{Response}
 use Rattle.hc_rules.specs.declared.heads.HeadCase.{HeadCase}
 use Rattle.hc_rules.specs.declared.heads.HeadCase.TheVariants as case
 use Rattle.hc_rules.proofs.RangeReads.{bytes_eq-same, same_bytes}
-use Rattle.hc_model.specs.Answers.{accepted}
+use Rattle.hc_model.specs.Answers.{accepted_acts}
 use Rattle.hc_model.specs.Cases.{case_at, is_founding}
 use Rattle.hc_model.specs.Currents.{current, is_usable, is_number}
 use Rattle.hc_model.specs.Entries.{Entry}
 use Rattle.hc_model.specs.Gone.{becomes_gone, goes_by_head, goes_by_exchange, goes_by_case, is_current_of}
 use Rattle.hc_model.specs.Laws.{OneCurrentIsKept}
-use Rattle.hc_model.specs.RepresentationRows.{representation_after, representation_heard, representation_acted, founded_at, represented, headed, renewed, updates, pieced, ended, length_in}
+use Rattle.hc_model.specs.RepresentationRows.{representation_after, representation_heard, representation_acted, founded_at, new_representation, representation_after_head, with_renewed_head, updates, representation_after_piece, with_total_if_none, length_in}
 use Rattle.hc_model.specs.Exchanges.{family, exchange_at}
 use Rattle.hc_model.specs.Rows.{Tables, Exchange, Representation}
 use Rattle.hc_model.specs.Sound.{Sound, Among, OneCurrent}
@@ -41,15 +41,15 @@ heard_same t e r (event.Start c request) v = same v
 heard_same t e r (event.Poll c want) v = same v
 heard_same t e r (event.Head x response) v = by_row (t.exchange x)
   where
-    by_row : (o : Option Exchange) → IsSame v (headed t e r x response o v)
+    by_row : (o : Option Exchange) → IsSame v (representation_after_head t e r x response o v)
     by_row None = same v
-    by_row (Some w) = same_if (updates t e r w v) v (renewed t e x response w v) (record { key_is = refl; gone_is = refl })
+    by_row (Some w) = same_if (updates t e r w v) v (with_renewed_head t e x response w v) (record { key_is = refl; gone_is = refl })
 heard_same t e r (event.Piece x bytes) v = by_row (t.exchange x)
   where
-    by_row : (o : Option Exchange) → IsSame v (pieced e r x bytes o v)
+    by_row : (o : Option Exchange) → IsSame v (representation_after_piece e r x bytes o v)
     by_row None = same v
     by_row (Some w) = same_if (family x w == r) v _ (record { key_is = refl; gone_is = refl })
-heard_same t e r (event.End x) v = same_if (x == r) v (ended (length_in (t.exchange x)) v) (record { key_is = refl; gone_is = refl })
+heard_same t e r (event.End x) v = same_if (x == r) v (with_total_if_none (length_in (t.exchange x)) v) (record { key_is = refl; gone_is = refl })
 heard_same t e r (event.Fault x) v = same v
 heard_same t e r (event.Cancel c) v = same v
 heard_same t e r (event.Doom key) v = same v
@@ -64,12 +64,12 @@ and_both true true h = (refl, refl)
 and_both true false h = absurd (let never : false ≡ true = h in cc)
 and_both false b h = absurd (let never : false ≡ true = h in cc)
 
-made : (t : Tables) (e : Entry) (r x : ℕ) (response : Response) (u : Representation) (b : Bool) (o : Option Exchange) → e.event ≡ event.Head x response → t.representation r ≡ None → (b ≡ true → (is_founding (case_at t e) ≡ true) × (x ≡ r)) → t.exchange x ≡ o → (if b then option_map (represented r e response) o else None) ≡ Some u → WasOrFounded t e r u
+made : (t : Tables) (e : Entry) (r x : ℕ) (response : Response) (u : Representation) (b : Bool) (o : Option Exchange) → e.event ≡ event.Head x response → t.representation r ≡ None → (b ≡ true → (is_founding (case_at t e) ≡ true) × (x ≡ r)) → t.exchange x ≡ o → (if b then option_map (new_representation r e response) o else None) ≡ Some u → WasOrFounded t e r u
 made t e r x response u false o at none is row h = absurd (let never : None ≡ Some u = h in cc)
 made t e r x response u true None at none is row h = absurd (let never : None ≡ Some u = h in cc)
 made t e r x response u true (Some w) at none is row h =
     let parts = is refl in
-    founded x response w at parts.1 parts.0 row (sym (ap (λ (z : Representation). z.key) (some_inj (represented r e response w) u h))) none
+    founded x response w at parts.1 parts.0 row (sym (ap (λ (z : Representation). z.key) (some_inj (new_representation r e response w) u h))) none
 
 of_none : (t : Tables) (e : Entry) (r : ℕ) (ev : Event) (u : Representation) → e.event ≡ ev → t.representation r ≡ None → founded_at t e r ev ≡ Some u → WasOrFounded t e r u
 of_none t e r (event.Start c request) u at none h = absurd (let never : None ≡ Some u = h in cc)
@@ -211,4 +211,4 @@ one_current_after t e s r q z u row row' fresh fresh' same_key =
     one t e r q z u s (was_or_founded t e r (t.representation r) z refl row) (was_or_founded t e q (t.representation q) u refl row') fresh fresh' same_key
 
 pub one_current_is_kept : OneCurrentIsKept
-one_current_is_kept limits t now flaw s event = one_current_after t (record { now = now; event = event; acts = accepted limits t now event flaw }) s
+one_current_is_kept limits t now flaw s event = one_current_after t (record { now = now; event = event; acts = accepted_acts limits t now event flaw }) s

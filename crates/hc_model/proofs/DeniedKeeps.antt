@@ -6,7 +6,7 @@ use Rattle.hc_model.specs.Owners.{Owners, IsPast}
 use Rattle.hc_model.specs.Owners as owners
 use Rattle.hc_model.specs.Reading.{is_written, bound}
 use Rattle.hc_model.specs.Rows.{Tables, Exchange, Representation, Consumer}
-use Rattle.hc_model.specs.Sound.{Sound, IsBound, IsAbout, IsFirst, HasPen, IsServed, IsHad, IsGrowing, IsAlone, IsToBeShown}
+use Rattle.hc_model.specs.Sound.{Sound, IsBound, IsAbout, IsFirst, IsExclusiveWriter, IsServed, IsHad, IsGrowing, IsAlone, IsToBeShown}
 use Rattle.hc_model.specs.Sound as sound
 use Rattle.hc_model.specs.Tables.{after_denied}
 use Rattle.hc_event.specs.declared.place.BoundBy.{BoundBy}
@@ -43,22 +43,22 @@ module _ (t : Tables) (e : Entry) where
   is_first : (r c : ℕ) → IsFirst t r c → IsFirst u r c
   is_first r c (sound.first k lo hi how row at alone) = sound.first k lo hi how row at alone
 
-  has_pen : (r c : ℕ) (v : Representation) → HasPen t r v c → HasPen u r v c
-  has_pen r c v (sound.first kept is) = sound.first kept (is_first r c is)
-  has_pen r c v (sound.alone lost is) = sound.alone lost is
+  has_exclusive_writer : (r c : ℕ) (v : Representation) → IsExclusiveWriter t r v c → IsExclusiveWriter u r v c
+  has_exclusive_writer r c v (sound.first kept is) = sound.first kept (is_first r c is)
+  has_exclusive_writer r c v (sound.alone lost is) = sound.alone lost is
 
-  pub was_pen : (r c : ℕ) (v : Representation) → HasPen u r v c → HasPen t r v c
-  was_pen r c v (sound.first kept is) = sound.first kept (was_first r c is)
-  was_pen r c v (sound.alone lost is) = sound.alone lost is
+  pub was_exclusive_writer : (r c : ℕ) (v : Representation) → IsExclusiveWriter u r v c → IsExclusiveWriter t r v c
+  was_exclusive_writer r c v (sound.first kept is) = sound.first kept (was_first r c is)
+  was_exclusive_writer r c v (sound.alone lost is) = sound.alone lost is
 
   is_served : (r c : ℕ) (v : Representation) (k : Consumer) → IsServed t r v c k → IsServed u r v c k
   is_served r c v k (sound.shares on) = sound.shares (written_same v ∙ on)
-  is_served r c v k (sound.writes pen) = sound.writes (has_pen r c v pen)
+  is_served r c v k (sound.writes exclusive_writer) = sound.writes (has_exclusive_writer r c v exclusive_writer)
   is_served r c v k (sound.reads hi is covered) = sound.reads hi is covered
 
   is_had : (r x : ℕ) (v : Representation) → IsHad t r v x → IsHad u r v x
   is_had r x v (sound.shared on writer) = sound.shared (written_same v ∙ on) writer
-  is_had r x v (sound.own c k reader own none pen) = sound.own c k (is_bound r c k reader) own none (has_pen r c v pen)
+  is_had r x v (sound.own c k reader own none exclusive_writer) = sound.own c k (is_bound r c k reader) own none (has_exclusive_writer r c v exclusive_writer)
 
   to_be_shown : (k : Consumer) (how : BoundBy) → IsToBeShown t k how → IsToBeShown u k how
   to_be_shown k _ sound.founded = sound.founded

@@ -5,7 +5,7 @@ use Rattle.std.specs.Option.{option_or}
 use Rattle.hc_range.specs.declared.range.Asked.{Asked}
 use Rattle.hc_range.specs.declared.range.Asked.TheVariants.{FromTo, From, Last}
 use Rattle.hc_range.specs.declared.range.Span.{Span}
-use Rattle.hc_range.specs.Spans.{resolved}
+use Rattle.hc_range.specs.Spans.{resolved_span}
 use Rattle.hc_event.specs.Filters.{opening_in}
 use Rattle.hc_event.specs.declared.event.Event.{Event}
 use Rattle.hc_event.specs.declared.event.Event.TheVariants as event
@@ -42,7 +42,7 @@ use Rattle.hc_model.proofs.BoundKeeps.{shown_place_is}
 use Rattle.hc_model.proofs.FirstKeeps.{case_of_head, whole_200, replaced_200, is_new}
 use Rattle.hc_model.proofs.MeasuresKeep.{brings_kept, tight_kept, within_kept, number_not}
 use Rattle.hc_model.proofs.PieceKeeps.{some_inj}
-use Rattle.hc_model.proofs.Pens.{same_row}
+use Rattle.hc_model.proofs.ExclusiveWriters.{same_row}
 use Rattle.hc_model.proofs.RepFrom.{RepFrom, rep_from, IsKept, IsEnded}
 use Rattle.hc_model.proofs.RepFrom as rep
 use Rattle.hc_model.proofs.Said.{IsShowing, showing_by}
@@ -61,7 +61,7 @@ span_if : (b : Bool) (x span : Span) (total : ℕ) → (b ≡ true → x.hi ≤ 
 span_if false x span total most is = absurd (none_some span is)
 span_if true x span total most is = let same : x ≡ span = some_inj x span is in let hi : x.hi ≡ span.hi = ap (λ (z : Span). z.hi) same in let le : x.hi ≤ total = most refl in omega arith
 
-resolved_within : (asked : Asked) (total : ℕ) (span : Span) → resolved asked total ≡ Some span → span.hi ≤ total
+resolved_within : (asked : Asked) (total : ℕ) (span : Span) → resolved_span asked total ≡ Some span → span.hi ≤ total
 resolved_within (From first) total span is = span_if (nat_lt first total) (record { lo = first; hi = total }) span total (λ h. omega arith) is
 resolved_within (FromTo first last) total span is = span_if (nat_lt first total) (record { lo = first; hi = min (last + 1) total }) span total (λ h. omega arith) is
 resolved_within (Last n) total span is = span_if (nat_lt 0 n && nat_lt 0 total) (record { lo = total - n; hi = total }) span total (λ h. omega arith) is
@@ -80,7 +80,7 @@ wanted_within None (Some total) span is =
     let hi : total ≡ span.hi = ap (λ (q : Span). q.hi) same in
     record { total = total; known = refl; ends = omega arith }
 wanted_within (Some asked) (Some total) span is =
-    record { total = total; known = refl; ends = part_within (resolved asked total) span total (λ z found. resolved_within asked total z found) is }
+    record { total = total; known = refl; ends = part_within (resolved_span asked total) span total (λ z found. resolved_within asked total z found) is }
 
 interval_within : (range : Option Asked) (o : Option ℕ) (lo hi : ℕ) → IsInterval (wanted_of range o) lo (Some hi) → IsSpanOf o hi
 interval_within range o lo hi i =

@@ -8,11 +8,11 @@ use Rattle.hc_event.specs.declared.event.Event.TheVariants as event
 use Rattle.hc_event.specs.declared.event.Response.{Response}
 use Rattle.hc_event.specs.declared.act.Act.{Act}
 use Rattle.hc_event.specs.declared.act.Act.TheVariants as act
-use Rattle.hc_model.specs.Answers.{accepted, lost}
+use Rattle.hc_model.specs.Answers.{accepted_acts, loss_acts}
 use Rattle.hc_model.specs.Closings.{closing}
 use Rattle.hc_model.specs.Denials.{is_live, denial, as_open, gate}
 use Rattle.hc_model.specs.Entries.{Entry}
-use Rattle.hc_model.specs.Exchanges.{promised}
+use Rattle.hc_model.specs.Exchanges.{promised_bytes}
 use Rattle.hc_model.specs.Flaws.{Flaw, NoFlaw, Loses, Misreads}
 use Rattle.hc_model.specs.Laws.{KeepsDeliveries, DeliveriesAreKept}
 use Rattle.hc_model.specs.Rows.{Tables, Exchange, Consumer}
@@ -33,7 +33,7 @@ evicts_open_none : (rs : List ℕ) (rest : List Act) → opening_in rest ≡ Non
 evicts_open_none [] rest none = none
 evicts_open_none (r ∷ rs) rest none = evicts_open_none rs rest none
 
-losses_then : (flaw : Flaw) (xs : List ℕ) → opening_in (lost flaw ++ map act.Close xs) ≡ None
+losses_then : (flaw : Flaw) (xs : List ℕ) → opening_in (loss_acts flaw ++ map act.Close xs) ≡ None
 losses_then NoFlaw [] = refl
 losses_then NoFlaw (x ∷ xs) = losses_then NoFlaw xs
 losses_then (Loses r kind) [] = refl
@@ -42,7 +42,7 @@ losses_then (Misreads r) [] = refl
 losses_then (Misreads r) (x ∷ xs) = losses_then (Misreads r) xs
 
 abbrev pub owed_entry : Limits → Tables → ℕ → Event → Flaw → Entry
-owed_entry limits t now event flaw = record { now = now; event = event; acts = accepted limits t now event flaw }
+owed_entry limits t now event flaw = record { now = now; event = event; acts = accepted_acts limits t now event flaw }
 
 -- an event that opens nothing and brings nothing
 quiet_keeps : (t : Tables) (e : Entry) → Sound t → is_quiet e.event ≡ true → opening_in e.acts ≡ None → KeepsDeliveries (after_accepted t e)
@@ -69,29 +69,29 @@ live_by false true zero h = refl
 live_by false false zero h = absurd (never _ h)
 
 module _ (limits : Limits) (t : Tables) (now : ℕ) (flaw : Flaw) (s : Sound t) where
-  pub told : (event : Event) → opening_in (map act.Evicted (evicted limits t now event) ++ (lost flaw ++ map act.Close (closing t (record { now = now; event = event; acts = lost flaw })))) ≡ None
+  pub told : (event : Event) → opening_in (map act.Evicted (evicted limits t now event) ++ (loss_acts flaw ++ map act.Close (closing t (record { now = now; event = event; acts = loss_acts flaw })))) ≡ None
   told event =
-      let xs = closing t (record { now = now; event = event; acts = lost flaw }) in
-      evicts_open_none (evicted limits t now event) (lost flaw ++ map act.Close xs) (losses_then flaw xs)
+      let xs = closing t (record { now = now; event = event; acts = loss_acts flaw }) in
+      evicts_open_none (evicted limits t now event) (loss_acts flaw ++ map act.Close xs) (losses_then flaw xs)
 
-  pub cancels : (c : ℕ) → opening_in (map act.Close (closing t (record { now = now; event = event.Cancel c; acts = lost flaw })) ++ lost flaw) ≡ None
-  cancels c = closes_open_none (closing t (record { now = now; event = event.Cancel c; acts = lost flaw })) (lost flaw) (losses_open_none flaw)
+  pub cancels : (c : ℕ) → opening_in (map act.Close (closing t (record { now = now; event = event.Cancel c; acts = loss_acts flaw })) ++ loss_acts flaw) ≡ None
+  cancels c = closes_open_none (closing t (record { now = now; event = event.Cancel c; acts = loss_acts flaw })) (loss_acts flaw) (losses_open_none flaw)
 
   piece_is : (x : ℕ) (bytes : List ℕ) (o : Option Exchange) → t.exchange x ≡ o → piece_refusal (as_open o) (length bytes) ≡ None → KeepsDeliveries (after_accepted t (owed_entry limits t now (event.Piece x bytes) flaw))
   piece_is x bytes None row goes = absurd (never _ goes)
   piece_is x bytes (Some w) row goes =
       let got : IsTaken w (length bytes) = taken (length bytes) w goes in
-      let piece : IsPiece t now x bytes (accepted limits t now (event.Piece x bytes) flaw) w = record { row = row; was_open = got.is_open; headed = got.headed; opens_none = told (event.Piece x bytes) } in
+      let piece : IsPiece t now x bytes (accepted_acts limits t now (event.Piece x bytes) flaw) w = record { row = row; was_open = got.is_open; headed = got.headed; opens_none = told (event.Piece x bytes) } in
       record { waits = piece_waits t now x bytes _ w s piece; one_about = piece_one_about t now x bytes _ w s piece }
 
   pub head_taken : (w : Exchange) → head_refusal (as_open (Some w)) ≡ None → (w.is_open ≡ true) × (w.head ≡ None)
-  head_taken w goes = let parts = head_by w.is_open (is_some w.head) w.asked (length w.body) (promised w) goes in (parts.0, no_head w.head parts.1)
+  head_taken w goes = let parts = head_by w.is_open (is_some w.head) w.asked (length w.body) (promised_bytes w) goes in (parts.0, no_head w.head parts.1)
 
   head_is : (x : ℕ) (response : Response) (o : Option Exchange) → t.exchange x ≡ o → head_refusal (as_open o) ≡ None → KeepsDeliveries (after_accepted t (owed_entry limits t now (event.Head x response) flaw))
   head_is x response None row goes = absurd (never _ goes)
   head_is x response (Some w) row goes =
       let got = head_taken w goes in
-      let head : IsHead t now x response (accepted limits t now (event.Head x response) flaw) w = record { row = row; was_open = got.0; headless = got.1; opens_none = told (event.Head x response) } in
+      let head : IsHead t now x response (accepted_acts limits t now (event.Head x response) flaw) w = record { row = row; was_open = got.0; headless = got.1; opens_none = told (event.Head x response) } in
       record { waits = head_waits t now x response _ w s head; one_about = head_one_about t now x response _ w s head }
 
   poll_is : (c want : ℕ) (o : Option Consumer) → t.consumer c ≡ o → is_live o ≡ true → KeepsDeliveries (after_accepted t (owed_entry limits t now (event.Poll c want) flaw))

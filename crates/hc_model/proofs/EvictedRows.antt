@@ -10,9 +10,9 @@ use Rattle.hc_event.specs.declared.place.Place.{Place}
 use Rattle.hc_event.specs.declared.place.Place.TheVariants as place
 use Rattle.hc_model.specs.ActFilters.{fails_in}
 use Rattle.hc_model.specs.Cases.{case_at}
-use Rattle.hc_model.specs.ConsumerRows.{consumer_heard, consumer_acted, consumer_settled, consumer_made, consumer_after, started}
+use Rattle.hc_model.specs.ConsumerRows.{consumer_heard, consumer_acted, consumer_settled, consumer_made, consumer_after, new_consumer}
 use Rattle.hc_model.specs.Dooms.{doomed, is_key}
-use Rattle.hc_model.specs.Effects.{gone}
+use Rattle.hc_model.specs.Effects.{as_gone}
 use Rattle.hc_model.specs.Entries.{Entry}
 use Rattle.hc_model.specs.Evictions.{evict_all}
 use Rattle.hc_model.specs.Exchanges.{exchange_at, is_for}
@@ -20,7 +20,7 @@ use Rattle.hc_model.specs.Gone.{goes_itself, becomes_gone, goes_in}
 use Rattle.hc_model.specs.RepresentationRows.{representation_after, representation_heard, representation_acted}
 use Rattle.hc_model.specs.Rows.{Tables, Representation, Consumer}
 use Rattle.hc_model.specs.StartingOver.{starts_over, waits_at, sends_back, loses_what_it_waits_for}
-use Rattle.hc_model.specs.Tables.{after_accepted, added, to_front, opened_after, openings_after}
+use Rattle.hc_model.specs.Tables.{after_accepted, with_item_first, to_front, opened_after, openings_after}
 use Rattle.hc_model.proofs.Alike.{AreAlike, alike_evicted, case_same, doomed_same, itself_same, exchange_same, founds_same, binds_same, founded_same, heard_same, heard_consumer, acted_same, due_same}
 use Rattle.hc_model.proofs.Basics.{false_true}
 use Rattle.hc_model.proofs.HoleLemmas.{bool_cases}
@@ -71,10 +71,10 @@ module _ (t : Tables) (now : ℕ) (ev : Event) (rs : List ℕ) (b : List Act) (n
   unfolding becomes_gone
   gone_after r v = ap (λ z. goes_itself t f r v || z) (none r) ∙ or_off (goes_itself t f r v)
 
-  acted_row : (r : ℕ) (v u : Representation) → representation_acted t e r v u ≡ (if is_in rs r then gone (representation_acted t f r v u) else representation_acted t f r v u)
+  acted_row : (r : ℕ) (v u : Representation) → representation_acted t e r v u ≡ (if is_in rs r then as_gone (representation_acted t f r v u) else representation_acted t f r v u)
   acted_row r v u = rw (like.loses r, gone_before r v, gone_after r v) (by_test (goes_itself t f r v) (is_in rs r))
     where
-      by_test : (i h : Bool) → record (representation_acted t f r v u) { is_gone = (i || h) || u.is_gone } ≡ (if h then gone (representation_acted t f r v u) else record (representation_acted t f r v u) { is_gone = i || u.is_gone })
+      by_test : (i h : Bool) → record (representation_acted t f r v u) { is_gone = (i || h) || u.is_gone } ≡ (if h then as_gone (representation_acted t f r v u) else record (representation_acted t f r v u) { is_gone = i || u.is_gone })
       by_test true true = refl
       by_test true false = refl
       by_test false true = refl
@@ -87,14 +87,14 @@ module _ (t : Tables) (now : ℕ) (ev : Event) (rs : List ℕ) (b : List Act) (n
       by_test false is = refl
       by_test true is = absurd (false_true (sym (ap is_some row) ∙ there r is))
 
-  pub representation_row : (r : ℕ) (z : Option Representation) → t.representation r ≡ z → representation_after t e r z ≡ (if is_in rs r then option_map gone (representation_after t f r z) else representation_after t f r z)
+  pub representation_row : (r : ℕ) (z : Option Representation) → t.representation r ≡ z → representation_after t e r z ≡ (if is_in rs r then option_map as_gone (representation_after t f r z) else representation_after t f r z)
   unfolding representation_after
   representation_row r None row = founded_same t now ev a b like r ev ∙ rw (stays_none r row) refl
   representation_row r (Some v) row =
       ap Some (ap (representation_acted t e r v) (heard_same t now ev a b like r v ev) ∙ acted_row r v (representation_heard t f r ev v))
       ∙ by_test (is_in rs r) (representation_acted t f r v (representation_heard t f r ev v))
     where
-      by_test : (h : Bool) (u : Representation) → Some (if h then gone u else u) ≡ (if h then Some (gone u) else Some u)
+      by_test : (h : Bool) (u : Representation) → Some (if h then as_gone u else u) ≡ (if h then Some (as_gone u) else Some u)
       by_test true u = refl
       by_test false u = refl
 
@@ -131,7 +131,7 @@ module _ (t : Tables) (now : ℕ) (ev : Event) (rs : List ℕ) (b : List Act) (n
   made_row : (c : ℕ) (z : Event) → consumer_made c now z ≡ option_map (back_from_any now rs) (consumer_made c now z)
   made_row c (event.Start d request) = by_test (d == c)
     where
-      by_test : (b : Bool) → (if b then Some (started now request) else None) ≡ option_map (back_from_any now rs) (if b then Some (started now request) else None)
+      by_test : (b : Bool) → (if b then Some (new_consumer now request) else None) ≡ option_map (back_from_any now rs) (if b then Some (new_consumer now request) else None)
       by_test true = refl
       by_test false = refl
   made_row c _ = refl
@@ -157,7 +157,7 @@ module _ (t : Tables) (now : ℕ) (ev : Event) (rs : List ℕ) (b : List Act) (n
           starts = refl;
           opened = ap (λ z. opened_after z t.opened) like.opens;
           openings = ap (λ z. openings_after z t.openings) like.opens;
-          founded = ap (λ z. added z t.founded) (founds_same t now ev a b like);
+          founded = ap (λ z. with_item_first z t.founded) (founds_same t now ev a b like);
           used = ap (λ z. to_front z t.used) (binds_same t now ev a b like);
           exchange = λ x. exchange_same t now ev a b like x (t.exchange x);
           representation = λ r. representation_row r (t.representation r) refl;

@@ -7,7 +7,7 @@ use Rattle.hc_event.specs.declared.place.Place.TheVariants as place
 use Rattle.hc_model.specs.ConsumerRows.{back_in_line}
 use Rattle.hc_model.specs.Currents.{current, is_usable}
 use Rattle.hc_model.specs.Denials.{live, is_live, is_live_place}
-use Rattle.hc_model.specs.Effects.{waits_for, back_from, gone}
+use Rattle.hc_model.specs.Effects.{waits_for, back_from, as_gone}
 use Rattle.hc_model.specs.Evictions.{evict, evict_all, unless_it, EvictsOne, AnyLeavesOneCurrent}
 use Rattle.hc_model.specs.Reading.{bound, is_bound, is_bound_place}
 use Rattle.hc_model.specs.Rows.{Tables, Representation, Consumer}
@@ -56,10 +56,10 @@ live_same t r = ap (λ test. length (filter test t.starts)) (same_functions _ _ 
 
 -- WHAT IS CURRENT
 
-usable_other : (key : List ℕ) (r q : ℕ) (z : Option Representation) → nat_eq r q ≡ false → is_usable key (if r == q then option_map gone z else z) ≡ is_usable key z
+usable_other : (key : List ℕ) (r q : ℕ) (z : Option Representation) → nat_eq r q ≡ false → is_usable key (if r == q then option_map as_gone z else z) ≡ is_usable key z
 usable_other key r q z other = rw other refl
 
-no_more : (key : List ℕ) (r q : ℕ) (z : Option Representation) → nat_eq r q ≡ true → is_usable key (if r == q then option_map gone z else z) ≡ false
+no_more : (key : List ℕ) (r q : ℕ) (z : Option Representation) → nat_eq r q ≡ true → is_usable key (if r == q then option_map as_gone z else z) ≡ false
 no_more key r q None here = rw here refl
 no_more key r q (Some v) here = rw here (by_key (bytes_eq v.key key))
   where
@@ -75,7 +75,7 @@ module _ (t : Tables) (r : ℕ) (one : OneCurrent t) (key : List ℕ) where
   before q = is_usable key (t.representation q)
 
   abbrev after : ℕ → Bool
-  after q = is_usable key (if r == q then option_map gone (t.representation q) else t.representation q)
+  after q = is_usable key (if r == q then option_map as_gone (t.representation q) else t.representation q)
 
   -- only r fails that passed
   find_same : (q : ℕ) (ns : List ℕ) → nat_eq r q ≡ false → ((n : ℕ) → before n ≡ true → n ≡ q) → find before ns ≡ Some q → find after ns ≡ Some q
@@ -136,10 +136,10 @@ module _ (t : Tables) (r : ℕ) (one : OneCurrent t) (key : List ℕ) where
   current_same = current_by (find before t.founded) refl
 
 -- what is not gone after wasn't before
-was_fresh : (b : Bool) (z : Option Representation) (v : Representation) → (if b then option_map gone z else z) ≡ Some v → v.is_gone ≡ false → z ≡ Some v
+was_fresh : (b : Bool) (z : Option Representation) (v : Representation) → (if b then option_map as_gone z else z) ≡ Some v → v.is_gone ≡ false → z ≡ Some v
 was_fresh false z v is fresh = is
 was_fresh true None v is fresh = is
-was_fresh true (Some u) v is fresh = absurd (false_true (sym fresh ∙ sym (ap (λ (w : Representation). w.is_gone) (some_inj (gone u) v is))))
+was_fresh true (Some u) v is fresh = absurd (false_true (sym fresh ∙ sym (ap (λ (w : Representation). w.is_gone) (some_inj (as_gone u) v is))))
 
 one_after : (t : Tables) (r : ℕ) → OneCurrent t → OneCurrent (evict r t)
 one_after t r one n q v u row row' fresh fresh' same_key =

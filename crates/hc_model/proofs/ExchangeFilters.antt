@@ -13,7 +13,7 @@ use Rattle.hc_rules.specs.Refusals.{head_refusal, piece_refusal, end_refusal}
 use Rattle.hc_rules.specs.Refusals as refusals
 use Rattle.hc_model.specs.Denials.{denial, as_open}
 use Rattle.hc_model.specs.Entries.{Entry, History, Contents}
-use Rattle.hc_model.specs.Exchanges.{promised}
+use Rattle.hc_model.specs.Exchanges.{promised_bytes}
 use Rattle.hc_model.specs.ExchangeRows.{exchange_after, exchange_heard, exchange_made, with_head, with_piece}
 use Rattle.hc_model.specs.Rows.{Tables, Exchange}
 use Rattle.hc_model.specs.Runs.{IsRun, IsOwed}
@@ -85,7 +85,7 @@ no_head true (Some response) asked n p h = absurd (never _ h)
 no_head true None asked n p h = refl
 
 pub headless : (w : Exchange) → head_refusal (as_open (Some w)) ≡ None → w.head ≡ None
-headless w h = no_head w.is_open w.head w.asked (length w.body) (promised w) h
+headless w h = no_head w.is_open w.head w.asked (length w.body) (promised_bytes w) h
 
 abbrev answered : Option Exchange → Option Answered
 answered o = option_and_then answered_in o

@@ -24,7 +24,7 @@ use Rattle.hc_model.specs.Currents.{current}
 use Rattle.hc_model.specs.Moves as moves
 use Rattle.hc_model.specs.Moves.{Move, Nothing, Asks, Opens, Ends, Fails, gives, waits_for, opens_hole, shows_stored}
 use Rattle.hc_model.specs.Places.{Places, is_failed_read}
-use Rattle.hc_model.specs.Planning.{plan_view, plan_move, fetched, current_row, binds_current}
+use Rattle.hc_model.specs.Planning.{plan_view, plan_move, origin_request, current_row, binds_current}
 use Rattle.hc_model.specs.Polls.{move_of, shows_at, shows_bound, shows_direct, shows_answer, has_joined}
 use Rattle.hc_model.specs.Reading.{source, hi_of}
 use Rattle.hc_model.specs.Rows.{Tables, Exchange, Representation, Consumer}
@@ -106,7 +106,7 @@ module _ (t : Tables) (now want c : ℕ) (k : Consumer) (why : Cause) where
   told_plan : (p : Plan) → plan_move t k p ≡ Fails why → cause.Miss ≡ why
   told_plan (plan.Direct n) is = absurd (let never : moves.opens t n k.request ≡ Fails why = is in cc)
   told_plan (plan.Turn d) is = absurd (let never : moves.Waits (wait.Turn d) ≡ Fails why = is in cc)
-  told_plan (plan.Fetch n) is = absurd (let never : moves.opens t n (fetched t k n) ≡ Fails why = is in cc)
+  told_plan (plan.Fetch n) is = absurd (let never : moves.opens t n (origin_request t k n) ≡ Fails why = is in cc)
   told_plan (plan.Bind reason span) is = absurd (binds_fails reason span (current t k.request.key) is)
   told_plan (plan.FirstHole span hole) is = absurd (hole_fails k.request (current_row t k) hole is)
   told_plan (plan.Busy d kept) is = absurd (let never : moves.Waits (wait.Busy d) ≡ Fails why = is in cc)

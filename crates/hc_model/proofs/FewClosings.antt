@@ -10,7 +10,7 @@ use Rattle.hc_model.specs.Cases.{case_at}
 use Rattle.hc_model.specs.Closings.{closing, closes_row, must_close, is_refused, is_doomed, has_no_survivor, is_left, leaver, brings_head}
 use Rattle.hc_model.specs.Currents.{is_number}
 use Rattle.hc_model.specs.Dooms.{doomed}
-use Rattle.hc_model.specs.Entries.{Entry, unanswered}
+use Rattle.hc_model.specs.Entries.{Entry, entry_without_acts}
 use Rattle.hc_model.specs.ExchangeRows.{exchange_heard}
 use Rattle.hc_model.specs.Exchanges.{family}
 use Rattle.hc_model.specs.Rows.{Tables, Exchange, Representation}
@@ -60,6 +60,6 @@ module _ (t : Tables) (e : Entry) (little : ClosesLittle t e) where
   closes_nothing none = ap (λ (test : ℕ → Bool). filter test (reverse t.openings)) (fun_ext (λ x. none_row none x (t.exchange x))) ∙ filter_none (reverse t.openings)
 
 -- what writes nothing evicts nothing
-pub evicts_nothing : (limits : Limits) (t : Tables) (now : ℕ) (ev : Event) → write_in t (unanswered now ev) ev ≡ None → evicted limits t now ev ≡ []
+pub evicts_nothing : (limits : Limits) (t : Tables) (now : ℕ) (ev : Event) → write_in t (entry_without_acts now ev) ev ≡ None → evicted limits t now ev ≡ []
 unfolding room_for
-evicts_nothing limits t now ev none = ap (λ (o : Option Write). first_idle t (unanswered now ev) (room_by limits t (unanswered now ev) o)) none
+evicts_nothing limits t now ev none = ap (λ (o : Option Write). first_idle t (entry_without_acts now ev) (room_by limits t (entry_without_acts now ev) o)) none

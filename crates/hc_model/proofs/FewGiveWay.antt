@@ -14,10 +14,10 @@ use Rattle.hc_rules.specs.declared.room.Room.{Room}
 use Rattle.hc_rules.specs.declared.room.Room.TheVariants as room
 use Rattle.hc_rules.specs.declared.room.Write.{Write}
 use Rattle.hc_rules.specs.declared.room.Write.TheVariants as write
-use Rattle.hc_model.specs.Answers.{said, lost}
+use Rattle.hc_model.specs.Answers.{answer_acts, loss_acts}
 use Rattle.hc_model.specs.Cases.{case_at, is_founding}
 use Rattle.hc_model.specs.Closings.{closing}
-use Rattle.hc_model.specs.Entries.{Entry, unanswered}
+use Rattle.hc_model.specs.Entries.{Entry, entry_without_acts}
 use Rattle.hc_model.specs.Exchanges.{family}
 use Rattle.hc_model.specs.Flaws.{Flaw, NoFlaw, Loses, Misreads}
 use Rattle.hc_model.specs.Laws.{count_evicted, IsSmallPiece, FewGiveWay}
@@ -141,9 +141,9 @@ few_room : (limits : Limits) (t : Tables) (e : Entry) (o : Option Write) → wei
 few_room limits t e None fits small = omega arith
 few_room limits t e (Some w) fits small = few_of limits (weights t e) w (map (weight t e) (idle t e)) (heavy_idle t e) fits small
 
-few_for : (limits : Limits) (t : Tables) (now : ℕ) (ev : Event) → weights t (unanswered now ev) ≤ limits.max_total → IsSmallPiece ev → Few (room_for limits t now ev)
+few_for : (limits : Limits) (t : Tables) (now : ℕ) (ev : Event) → weights t (entry_without_acts now ev) ≤ limits.max_total → IsSmallPiece ev → Few (room_for limits t now ev)
 unfolding room_for
-few_for limits t now ev fits small = few_room limits t (unanswered now ev) (write_in t (unanswered now ev) ev) fits (small_write t (unanswered now ev) ev small)
+few_for limits t now ev fits small = few_room limits t (entry_without_acts now ev) (write_in t (entry_without_acts now ev) ev) fits (small_write t (entry_without_acts now ev) ev small)
 
 length_take : (n : ℕ) (rs : List ℕ) → length (take n rs) ≤ n
 length_take zero rs = omega arith
@@ -161,13 +161,13 @@ count_closes : (ys : List ℕ) → count_evicted (map act.Close ys) ≡ 0
 count_closes [] = refl
 count_closes (y ∷ ys) = count_closes ys
 
-count_closed : (ys : List ℕ) (flaw : Flaw) → count_evicted (map act.Close ys ++ lost flaw) ≡ 0
+count_closed : (ys : List ℕ) (flaw : Flaw) → count_evicted (map act.Close ys ++ loss_acts flaw) ≡ 0
 count_closed [] NoFlaw = refl
 count_closed [] (Loses r kind) = refl
 count_closed [] (Misreads r) = refl
 count_closed (y ∷ ys) flaw = count_closed ys flaw
 
-count_lost : (flaw : Flaw) (rest : List Act) → count_evicted (lost flaw ++ rest) ≡ count_evicted rest
+count_lost : (flaw : Flaw) (rest : List Act) → count_evicted (loss_acts flaw ++ rest) ≡ count_evicted rest
 count_lost NoFlaw rest = refl
 count_lost (Loses r kind) rest = refl
 count_lost (Misreads r) rest = refl
@@ -193,14 +193,14 @@ count_said t now ev flaw _ rest (parts.misreads c want r at is) = refl
 
 few_acts : (limits : Limits) (t : Tables) (now : ℕ) (ev : Event) (flaw : Flaw) (acts : List Act) → IsAnswer limits t now ev flaw acts → length (evicted limits t now ev) ≤ 2 → count_evicted acts ≤ 2
 few_acts limits t now ev flaw _ (parts.told silent) few =
-    let ys = closing t (record { now = now; event = ev; acts = said t now ev flaw ++ lost flaw }) in
-    let all = count_all (evicted limits t now ev) (lost flaw ++ map act.Close ys) (count_lost flaw (map act.Close ys) ∙ count_closes ys) in
+    let ys = closing t (record { now = now; event = ev; acts = answer_acts t now ev flaw ++ loss_acts flaw }) in
+    let all = count_all (evicted limits t now ev) (loss_acts flaw ++ map act.Close ys) (count_lost flaw (map act.Close ys) ∙ count_closes ys) in
     subst (λ n. n ≤ 2) (sym all) few
 few_acts limits t now ev flaw _ parts.asked few =
-    let ys = closing t (record { now = now; event = ev; acts = said t now ev flaw ++ lost flaw }) in
-    subst (λ n. n ≤ 2) (sym (count_said t now ev flaw (said t now ev flaw) (map act.Close ys ++ lost flaw) (said_is t now ev flaw) ∙ count_closed ys flaw)) (omega arith)
+    let ys = closing t (record { now = now; event = ev; acts = answer_acts t now ev flaw ++ loss_acts flaw }) in
+    subst (λ n. n ≤ 2) (sym (count_said t now ev flaw (answer_acts t now ev flaw) (map act.Close ys ++ loss_acts flaw) (said_is t now ev flaw) ∙ count_closed ys flaw)) (omega arith)
 
 pub few_give_way : FewGiveWay
 few_give_way limits t now event flaw fits small =
     few_acts limits t now event flaw _ (answer_is limits t now event flaw)
-    (first_few t (unanswered now event) (room_for limits t now event) (few_for limits t now event fits small))
+    (first_few t (entry_without_acts now event) (room_for limits t now event) (few_for limits t now event fits small))

@@ -3,12 +3,12 @@ use Rattle.std.proofs.Common.{◌≡◌, ◌≢◌, inl, inr, ℕ, ◌≤◌, Li
 use Rattle.std.specs.Prelude.{bytes_eq, nat_le, nat_lt, if◌then◌else◌, codes}
 use Rattle.std.specs.List.{list_any}
 use Rattle.std.proofs.lemmas.Bool.Decides.{nat_tests}
-use Rattle.hc_fields.specs.FieldList.{values_of, has_name, put, without, size_of}
+use Rattle.hc_fields.specs.FieldList.{values_of, has_name, field_list_with, without, size_of}
 use Rattle.hc_fields.specs.FirstValues.{has_field}
 use Rattle.hc_fields.proofs.Edits.{values_of-put_other, values_of-without_same, values_of-without_other}
 use Rattle.hc_rules.proofs.RangeReads.{same_bytes, bytes_eq-same}
 use Rattle.hc_validate.specs.Heads.{FieldPairs}
-use Rattle.hc_validate.specs.Updates.{fixed_names, is_fixed, taken, is_renewed, with_all, left_by, replaced, is_modest, updated}
+use Rattle.hc_validate.specs.Updates.{fixed_names, is_fixed, changeable_fields, is_renewed, with_all, left_by, fields_with, is_within_limits, updated_fields}
 use Rattle.hc_validate.proofs.Settings.{length-without, size_of-without}
 use Rattle.hc_model.specs.Heads.{kept_fields}
 use Rattle.hc_model.proofs.Basics.{false_true, and_left, and_right}
@@ -29,7 +29,7 @@ module _ (name : List ℕ) (fixed : list_any (bytes_eq name) fixed_names ≡ tru
   AllFree [] = Unit {0}
   AllFree (f ∷ fs) = (is_fixed f ≡ false) × AllFree fs
 
-  taken_free : (fields : FieldPairs) → AllFree (taken fields)
+  taken_free : (fields : FieldPairs) → AllFree (changeable_fields fields)
   taken_free [] = tt
   taken_free (f ∷ fs) = elim (bool_cases (is_fixed f)) [
     | inl stays ↦ rw stays (taken_free fs)
@@ -39,7 +39,7 @@ module _ (name : List ℕ) (fixed : list_any (bytes_eq name) fixed_names ≡ tru
   with_all_of : (new fields : FieldPairs) → AllFree new → values_of name (with_all new fields) ≡ values_of name fields
   with_all_of [] fields free = refl
   with_all_of (f ∷ new) fields free =
-      with_all_of new (put f.0 f.1 fields) free.1
+      with_all_of new (field_list_with f.0 f.1 fields) free.1
       ∙ values_of-put_other f.0 f.1 name fields (λ same. false_true (sym (not_it f free.0) ∙ bytes_eq-same f.0 name (sym same)))
 
   renewed_not : (f : List ℕ × List ℕ) (new : FieldPairs) → AllFree new → f.0 ≡ name → is_renewed new f ≡ false
@@ -60,11 +60,11 @@ module _ (name : List ℕ) (fixed : list_any (bytes_eq name) fixed_names ≡ tru
   ]
 
   -- its values stay
-  pub values_kept : (fields new : FieldPairs) → values_of name (updated fields new) ≡ values_of name fields
-  values_kept fields new = by_test (is_modest (replaced fields (taken new)))
+  pub values_kept : (fields new : FieldPairs) → values_of name (updated_fields fields new) ≡ values_of name fields
+  values_kept fields new = by_test (is_within_limits (fields_with fields (changeable_fields new)))
     where
-      by_test : (b : Bool) → values_of name (if b then replaced fields (taken new) else fields) ≡ values_of name fields
-      by_test true = with_all_of (taken new) (left_by (taken new) fields) (taken_free new) ∙ left_of (taken new) fields (taken_free new)
+      by_test : (b : Bool) → values_of name (if b then fields_with fields (changeable_fields new) else fields) ≡ values_of name fields
+      by_test true = with_all_of (changeable_fields new) (left_by (changeable_fields new) fields) (taken_free new) ∙ left_of (changeable_fields new) fields (taken_free new)
       by_test false = refl
 
 abbrev pub length_name : List ℕ
@@ -76,10 +76,10 @@ range_name = codes "content-range"
 has_by : (values other : List (List ℕ)) → values ≡ other → nat_lt 0 (length values) ≡ nat_lt 0 (length other)
 has_by values other same = ap (λ (l : List (List ℕ)). nat_lt 0 (length l)) same
 
-pub length_kept : (fields new : FieldPairs) → has_field length_name (updated fields new) ≡ has_field length_name fields
+pub length_kept : (fields new : FieldPairs) → has_field length_name (updated_fields fields new) ≡ has_field length_name fields
 length_kept fields new = has_by _ _ (values_kept length_name refl fields new)
 
-pub range_kept : (fields new : FieldPairs) → has_field range_name (updated fields new) ≡ has_field range_name fields
+pub range_kept : (fields new : FieldPairs) → has_field range_name (updated_fields fields new) ≡ has_field range_name fields
 range_kept fields new = has_by _ _ (values_kept range_name refl fields new)
 
 -- WHAT IS FOUNDED
@@ -100,14 +100,14 @@ etag_kept fields =
 
 -- MODEST FIELDS
 
-pub modest_kept : (fields new : FieldPairs) → is_modest fields ≡ true → is_modest (updated fields new) ≡ true
-modest_kept fields new old = elim (bool_cases (is_modest (replaced fields (taken new)))) [
+pub within_limits_kept : (fields new : FieldPairs) → is_within_limits fields ≡ true → is_within_limits (updated_fields fields new) ≡ true
+within_limits_kept fields new old = elim (bool_cases (is_within_limits (fields_with fields (changeable_fields new)))) [
   | inl fits ↦ rw fits fits
   | inr large ↦ rw large old
 ]
 
-modest_by : (a b : FieldPairs) → length b ≤ length a → size_of b ≤ size_of a → is_modest a ≡ true → is_modest b ≡ true
-modest_by a b fewer smaller is =
+within_limits_by : (a b : FieldPairs) → length b ≤ length a → size_of b ≤ size_of a → is_within_limits a ≡ true → is_within_limits b ≡ true
+within_limits_by a b fewer smaller is =
     let count : nat_le (length a) 64 ≡ true = and_left _ _ is in
     let size : nat_le (size_of a) 32768 ≡ true = and_right _ _ is in
     let few : length a ≤ 64 = grind (arith, nat_tests) in
@@ -116,8 +116,8 @@ modest_by a b fewer smaller is =
     let second : nat_le (size_of b) 32768 ≡ true = (let le : size_of b ≤ 32768 = omega arith in grind (arith, nat_tests)) in
     rw (first, second) refl
 
-without_modest : (name : List ℕ) (fields : FieldPairs) → is_modest fields ≡ true → is_modest (without name fields) ≡ true
-without_modest name fields is = modest_by fields (without name fields) (length-without name fields) (size_of-without name fields) is
+without_within_limits : (name : List ℕ) (fields : FieldPairs) → is_within_limits fields ≡ true → is_within_limits (without name fields) ≡ true
+without_within_limits name fields is = within_limits_by fields (without name fields) (length-without name fields) (size_of-without name fields) is
 
-pub modest_founded : (fields : FieldPairs) → is_modest fields ≡ true → is_modest (kept_fields fields) ≡ true
-modest_founded fields is = without_modest length_name (without range_name fields) (without_modest range_name fields is)
+pub within_limits_founded : (fields : FieldPairs) → is_within_limits fields ≡ true → is_within_limits (kept_fields fields) ≡ true
+within_limits_founded fields is = without_within_limits length_name (without range_name fields) (without_within_limits range_name fields is)

@@ -1,7 +1,7 @@
 -- What an entry brings: bytes of a body and of an exchange, at a piece alone.
 use Rattle.std.proofs.Common.{◌≡◌, inl, inr, ℕ, ◌+◌, List, length, ◌++◌, Bool, true, false, Option, Some, None, refl, ap, sym, ◌∙◌, subst, max}
 use Rattle.std.specs.Prelude.{if◌then◌else◌, ◌==◌, ◌||◌, not}
-use Rattle.hc_sparse.specs.Cells.{written}
+use Rattle.hc_sparse.specs.Cells.{cells_with}
 use Rattle.hc_event.specs.declared.event.Event.{Event}
 use Rattle.hc_event.specs.declared.event.Event.TheVariants as event
 use Rattle.hc_event.specs.declared.event.Request.{Request}
@@ -12,11 +12,11 @@ use Rattle.hc_model.specs.ActFilters.{loses_in}
 use Rattle.hc_model.specs.Entries.{Entry}
 use Rattle.hc_model.specs.ExchangeRows.{exchange_after, exchange_heard, exchange_acted}
 use Rattle.hc_model.specs.Exchanges.{front, family, length_by}
-use Rattle.hc_model.specs.RepresentationRows.{representation_heard, representation_acted, headed, renewed, updates, pieced, filled, ended, length_in}
+use Rattle.hc_model.specs.RepresentationRows.{representation_heard, representation_acted, representation_after_head, with_renewed_head, updates, representation_after_piece, with_stored_bytes, with_total_if_none, length_in}
 use Rattle.hc_model.specs.Rows.{Tables, Exchange, Representation}
 use Rattle.hc_model.proofs.Forward.{after_is}
 use Rattle.hc_model.proofs.PieceKeeps.{eq_cases, some_inj}
-use Rattle.hc_model.proofs.Pens.{same_row}
+use Rattle.hc_model.proofs.ExclusiveWriters.{same_row}
 use Rattle.hc_model.proofs.RepFrom.{IsKept}
 
 module _ (t : Tables) (e : Entry) where
@@ -29,14 +29,14 @@ module _ (t : Tables) (e : Entry) where
   -- what came of r stays, or a piece comes
   pub data Fills (r : ℕ) (v u : Representation) : Type 0 where
     still : ((x : ℕ) (bytes : List ℕ) (w : Exchange) → IsPiece r x bytes w → ⊥) → u.body ≡ v.body → u.stored ≡ v.stored → u.reach ≡ v.reach → Fills r v u
-    more : (x : ℕ) (bytes : List ℕ) (w : Exchange) → IsPiece r x bytes w → u.body ≡ written (front w) x bytes v.body → u.stored ≡ (if not (v.is_lost || loses_in r e.acts) then written (front w) x bytes v.stored else v.stored) → u.reach ≡ max v.reach (front w + length bytes) → Fills r v u
+    more : (x : ℕ) (bytes : List ℕ) (w : Exchange) → IsPiece r x bytes w → u.body ≡ cells_with (front w) x bytes v.body → u.stored ≡ (if not (v.is_lost || loses_in r e.acts) then cells_with (front w) x bytes v.stored else v.stored) → u.reach ≡ max v.reach (front w + length bytes) → Fills r v u
 
   module _ (r : ℕ) (v : Representation) where
-    headed_still : ((x : ℕ) (bytes : List ℕ) (w : Exchange) → IsPiece r x bytes w → ⊥) → (x : ℕ) (response : Response) (o : Option Exchange) → Fills r v (headed t e r x response o v)
+    headed_still : ((x : ℕ) (bytes : List ℕ) (w : Exchange) → IsPiece r x bytes w → ⊥) → (x : ℕ) (response : Response) (o : Option Exchange) → Fills r v (representation_after_head t e r x response o v)
     headed_still none x response None = still none refl refl refl
     headed_still none x response (Some w) = by_test (updates t e r w v)
       where
-        by_test : (b : Bool) → Fills r v (if b then renewed t e x response w v else v)
+        by_test : (b : Bool) → Fills r v (if b then with_renewed_head t e x response w v else v)
         by_test true = still none refl refl refl
         by_test false = still none refl refl refl
 
@@ -46,7 +46,7 @@ module _ (t : Tables) (e : Entry) where
     piece_inj : (x y : ℕ) (a b : List ℕ) → event.Piece x a ≡ event.Piece y b → (x ≡ y) × (a ≡ b)
     piece_inj x y a b is = (cc, cc)
 
-    pieced_by : (x : ℕ) (bytes : List ℕ) (o : Option Exchange) → e.event ≡ event.Piece x bytes → t.exchange x ≡ o → Fills r v (pieced e r x bytes o v)
+    pieced_by : (x : ℕ) (bytes : List ℕ) (o : Option Exchange) → e.event ≡ event.Piece x bytes → t.exchange x ≡ o → Fills r v (representation_after_piece e r x bytes o v)
     pieced_by x bytes None here row = still (λ y more w is. let same = piece_inj y x more bytes (sym is.at ∙ here) in none_some w (sym row ∙ (sym (ap t.exchange same.0) ∙ is.row))) refl refl refl
       where
         none_some : (w : Exchange) → None ≡ Some w → ⊥
@@ -59,10 +59,10 @@ module _ (t : Tables) (e : Entry) where
       | inl hit ↦ rw hit.0 (by_kept (not (v.is_lost || loses_in r e.acts)) refl hit.1)
     ]
       where
-        by_kept : (b : Bool) → not (v.is_lost || loses_in r e.acts) ≡ b → family x w ≡ r → Fills r v (filled b (front w) x bytes v)
-        by_kept b is of_r = more x bytes w (record { at = here; row = row; of_r = of_r }) refl (ap (λ q. if q then written (front w) x bytes v.stored else v.stored) (sym is)) refl
+        by_kept : (b : Bool) → not (v.is_lost || loses_in r e.acts) ≡ b → family x w ≡ r → Fills r v (with_stored_bytes b (front w) x bytes v)
+        by_kept b is of_r = more x bytes w (record { at = here; row = row; of_r = of_r }) refl (ap (λ q. if q then cells_with (front w) x bytes v.stored else v.stored) (sym is)) refl
 
-    ended_by : ((x : ℕ) (bytes : List ℕ) (w : Exchange) → IsPiece r x bytes w → ⊥) → (n : ℕ) (b : Bool) → Fills r v (if b then ended n v else v)
+    ended_by : ((x : ℕ) (bytes : List ℕ) (w : Exchange) → IsPiece r x bytes w → ⊥) → (n : ℕ) (b : Bool) → Fills r v (if b then with_total_if_none n v else v)
     ended_by none n true = still none refl refl refl
     ended_by none n false = still none refl refl refl
 

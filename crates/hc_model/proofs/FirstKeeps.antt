@@ -30,7 +30,7 @@ use Rattle.hc_model.proofs.BoundFrom as from
 use Rattle.hc_model.proofs.FoundBy.{CaseBy, case_by}
 use Rattle.hc_model.proofs.FoundBy as cases
 use Rattle.hc_model.proofs.OpensFrom.{nobody_bound}
-use Rattle.hc_model.proofs.Pens.{same_row, bound_some}
+use Rattle.hc_model.proofs.ExclusiveWriters.{same_row, bound_some}
 use Rattle.hc_model.proofs.PieceKeeps.{some_inj}
 use Rattle.hc_model.proofs.RepFrom.{RepFrom, rep_from, stays}
 use Rattle.hc_model.proofs.RepFrom as rep

@@ -13,7 +13,7 @@ use Rattle.hc_model.specs.StartingOver.{starts_over}
 use Rattle.hc_model.proofs.ConsumerFilters.{acted}
 use Rattle.hc_model.proofs.ExchangeFrom.{IsSame, ExchangeFrom, exchange_from, stays}
 use Rattle.hc_model.proofs.ExchangeFrom as exchange
-use Rattle.hc_model.proofs.Pens.{same_row}
+use Rattle.hc_model.proofs.ExclusiveWriters.{same_row}
 use Rattle.hc_model.proofs.PieceKeeps.{eq_cases, some_inj}
 
 module _ (t : Tables) (e : Entry) where

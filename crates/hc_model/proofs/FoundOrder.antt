@@ -3,7 +3,7 @@ use Rattle.std.proofs.Common.{◌≡◌, inl, inr, ℕ, List, false, Option, Som
 use mathlib.Core.Path.{fun_ext}
 use Rattle.std.specs.Prelude.{◌==◌, if◌then◌else◌, option_map}
 use Rattle.hc_event.specs.declared.event.Response.{Response}
-use Rattle.hc_model.specs.Effects.{gone, let_all_go, with_consumer, with_answer, with_founding}
+use Rattle.hc_model.specs.Effects.{as_gone, let_all_go, with_consumer, with_answer, with_founding}
 use Rattle.hc_model.specs.Rows.{Tables, Exchange, Representation, Consumer}
 use Rattle.hc_model.proofs.PieceKeeps.{eq_cases}
 use Rattle.hc_model.proofs.SameTables.{is_in, waits_for_any, back_from_any, all_go_is}
@@ -23,7 +23,7 @@ module _ (now x c : ℕ) (response : Response) (joined : Option ℕ) (w : Exchan
       | inr other ↦ rw other.0 refl
     ]
 
-    its_row : (r : ℕ) → (if is_in rs r then option_map gone (if x == r then Some v else t.representation r) else (if x == r then Some v else t.representation r)) ≡ (if x == r then Some v else (if is_in rs r then option_map gone (t.representation r) else t.representation r))
+    its_row : (r : ℕ) → (if is_in rs r then option_map as_gone (if x == r then Some v else t.representation r) else (if x == r then Some v else t.representation r)) ≡ (if x == r then Some v else (if is_in rs r then option_map as_gone (t.representation r) else t.representation r))
     its_row r = elim (eq_cases x r) [
       | inl here ↦ (let off : is_in rs r ≡ false = ap (is_in rs) (sym here.1) ∙ apart in rw (here.0, off) refl)
       | inr other ↦ rw other.0 refl

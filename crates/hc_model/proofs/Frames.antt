@@ -11,14 +11,14 @@ use Rattle.hc_rules.specs.declared.heads.HeadCase.TheVariants as case
 use Rattle.hc_model.specs.ActFilters.{loses_in, misreads_in, has_loss}
 use Rattle.hc_model.specs.Cases.{case_at, case_of, is_founding, is_updating}
 use Rattle.hc_model.specs.Currents.{current, is_current, is_number}
-use Rattle.hc_model.specs.Dooms.{doomed, doomed_in, bypassed, is_key}
-use Rattle.hc_model.specs.Entries.{Entry, unanswered}
+use Rattle.hc_model.specs.Dooms.{doomed, doomed_in, bypass_key, is_key}
+use Rattle.hc_model.specs.Entries.{Entry, entry_without_acts}
 use Rattle.hc_model.specs.ExchangeRows.{exchange_after, exchange_heard, exchange_acted, exchange_made}
 use Rattle.hc_model.specs.Exchanges.{family, exchange_at, exchange_in}
 use Rattle.hc_model.specs.Frames.{updates_row, is_headed, is_of_family, is_filled, is_ended, KeepsParts, IsKeptIn, PartsAreKept, answers_about, head_about, is_event_of, is_current_for, are_acts_of, speaks_of, OthersStay, OthersDontGo, GoesBy, GoneIsCaused, is_opened, speaks_of_exchange, ExchangesStay}
 use Rattle.hc_model.specs.Frames as frames
 use Rattle.hc_model.specs.Gone.{becomes_gone, goes_itself, goes_by_case, goes_by_exchange, goes_by_head, is_current_of, ends_early, ends_founding, stops_early, is_keepable}
-use Rattle.hc_model.specs.RepresentationRows.{representation_after, representation_heard, representation_acted, headed, updates, pieced, ended, length_in, founded_at, represented}
+use Rattle.hc_model.specs.RepresentationRows.{representation_after, representation_heard, representation_acted, representation_after_head, updates, representation_after_piece, with_total_if_none, length_in, founded_at, new_representation}
 use Rattle.hc_model.specs.Rows.{Tables, Exchange, Representation}
 use Rattle.hc_model.proofs.Basics.{false_true, true_false, and_left, and_right, or_cases, or_false, number_is, number_yes, not_so, none_some}
 use Rattle.hc_model.proofs.HoleLemmas.{bool_cases}
@@ -44,7 +44,7 @@ hears_none : (t : Tables) (e : Entry) (r : ℕ) (v : Representation) (ev : Event
 hears_none t e r v ev = record { key = refl; head = λ a b. refl; writer = λ a. refl; body = λ a. refl; stored = λ a. refl; reach = λ a. refl; size = λ a. refl; lost = refl; alone = refl; gone = refl }
 
 module _ (t : Tables) (e : Entry) (r : ℕ) (v : Representation) where
-  hears_head : (x : ℕ) (response : Response) (z : Option Exchange) → t.exchange x ≡ z → HearsParts t e r v (headed t e r x response z v) (event.Head x response)
+  hears_head : (x : ℕ) (response : Response) (z : Option Exchange) → t.exchange x ≡ z → HearsParts t e r v (representation_after_head t e r x response z v) (event.Head x response)
   hears_head x response None row = hears_none t e r v (event.Head x response)
   hears_head x response (Some w) row = elim (bool_cases (updates t e r w v)) [
     | inr off ↦ rw off (hears_none t e r v (event.Head x response))
@@ -64,7 +64,7 @@ module _ (t : Tables) (e : Entry) (r : ℕ) (v : Representation) where
         })
   ]
 
-  hears_piece : (x : ℕ) (bytes : List ℕ) (z : Option Exchange) → t.exchange x ≡ z → HearsParts t e r v (pieced e r x bytes z v) (event.Piece x bytes)
+  hears_piece : (x : ℕ) (bytes : List ℕ) (z : Option Exchange) → t.exchange x ≡ z → HearsParts t e r v (representation_after_piece e r x bytes z v) (event.Piece x bytes)
   hears_piece x bytes None row = hears_none t e r v (event.Piece x bytes)
   hears_piece x bytes (Some w) row = elim (bool_cases (family x w == r)) [
     | inr off ↦ rw off (hears_none t e r v (event.Piece x bytes))
@@ -84,7 +84,7 @@ module _ (t : Tables) (e : Entry) (r : ℕ) (v : Representation) where
         })
   ]
 
-  hears_end : (x : ℕ) → HearsParts t e r v (if x == r then ended (length_in (t.exchange x)) v else v) (event.End x)
+  hears_end : (x : ℕ) → HearsParts t e r v (if x == r then with_total_if_none (length_in (t.exchange x)) v else v) (event.End x)
   hears_end x = elim (bool_cases (x == r)) [
     | inr off ↦ rw off (hears_none t e r v (event.End x))
     | inl here ↦ rw here (record {
@@ -145,12 +145,12 @@ status_is : (n : ℕ) → (n == 200) ≡ true → n ≡ 200
 status_is n h = let test : nat_eq n 200 ≡ true = h in grind (arith, nat_tests)
 
 module _ (t : Tables) (e : Entry) (r : ℕ) (v : Representation) where
-  caused_key : (is_current t v.key r && (is_key (doomed t e) v.key || is_key (bypassed e) v.key)) ≡ true → GoesBy t e r v
+  caused_key : (is_current t v.key r && (is_key (doomed t e) v.key || is_key (bypass_key e) v.key)) ≡ true → GoesBy t e r v
   caused_key h =
       let now : current t v.key ≡ Some r = number_is (current t v.key) r (and_left (is_current t v.key r) _ h) in
       elim (or_cases _ _ (and_right (is_current t v.key r) _ h)) [
         | inl doom ↦ frames.by_doom now (key_is (doomed t e) v.key doom)
-        | inr past ↦ frames.by_bypass now (key_is (bypassed e) v.key past)
+        | inr past ↦ frames.by_bypass now (key_is (bypass_key e) v.key past)
       ]
 
   caused_row : (x : ℕ) (response : Response) (z : Option Exchange) → e.event ≡ event.Head x response → t.exchange x ≡ z → goes_by_exchange t e r z ≡ true → GoesBy t e r v
@@ -209,7 +209,7 @@ gone_is_caused t e r v h = caused t e r v h
 -- a piece makes nothing gone by itself
 module _ (t : Tables) (now x : ℕ) (bytes : List ℕ) (r : ℕ) (v : Representation) where
   abbrev brings : Entry
-  brings = unanswered now (event.Piece x bytes)
+  brings = entry_without_acts now (event.Piece x bytes)
 
   spared : GoesBy t brings r v → ⊥
   unfolding doomed
@@ -230,10 +230,10 @@ number_of : (o : Option ℕ) (n : ℕ) → is_number o n ≡ false → o ≡ Som
 number_of o n off is = false_true (sym off ∙ number_yes o n is)
 
 module _ (t : Tables) (e : Entry) (r : ℕ) (silent : speaks_of t e r ≡ false) where
-  parts_of : (is_event_of t e r e.event ≡ false) × (is_current_for t (doomed t e) r ≡ false) × (is_current_for t (bypassed e) r ≡ false) × (are_acts_of r e ≡ false)
+  parts_of : (is_event_of t e r e.event ≡ false) × (is_current_for t (doomed t e) r ≡ false) × (is_current_for t (bypass_key e) r ≡ false) × (are_acts_of r e ≡ false)
   parts_of =
       let a = or_false _ (are_acts_of r e) silent in
-      let b = or_false _ (is_current_for t (bypassed e) r) a.0 in
+      let b = or_false _ (is_current_for t (bypass_key e) r) a.0 in
       let c = or_false (is_event_of t e r e.event) (is_current_for t (doomed t e) r) b.0 in
       (c.0, c.1, b.1, a.1)
 
@@ -267,13 +267,13 @@ module _ (t : Tables) (e : Entry) (r : ℕ) (silent : speaks_of t e r ≡ false)
   about_gone (Some case.LaterChanged) w h = and_left (is_number w.aim r) _ h
   about_gone _ w h = absurd (false_true h)
 
-  head_stays : (v : Representation) (x : ℕ) (response : Response) (z : Option Exchange) → head_about t e r z ≡ false → headed t e r x response z v ≡ v
+  head_stays : (v : Representation) (x : ℕ) (response : Response) (z : Option Exchange) → head_about t e r z ≡ false → representation_after_head t e r x response z v ≡ v
   head_stays v x response None off = refl
   head_stays v x response (Some w) off =
       let none : updates t e r w v ≡ false = not_so (updates t e r w v) (λ up. let both = and_left (is_updating (case_at t e) && is_number w.aim r) _ up in false_true (sym off ∙ about_updated (case_at t e) w (and_left (is_updating (case_at t e)) _ both) (and_right (is_updating (case_at t e)) _ both))) in
       rw none refl
 
-  piece_stays : (v : Representation) (x : ℕ) (bytes : List ℕ) (z : Option Exchange) → is_of_family r x z ≡ false → pieced e r x bytes z v ≡ v
+  piece_stays : (v : Representation) (x : ℕ) (bytes : List ℕ) (z : Option Exchange) → is_of_family r x z ≡ false → representation_after_piece e r x bytes z v ≡ v
   piece_stays v x bytes None off = refl
   piece_stays v x bytes (Some w) off = rw off refl
 
@@ -308,7 +308,7 @@ module _ (t : Tables) (e : Entry) (r : ℕ) (silent : speaks_of t e r ≡ false)
 
   not_gone : (v : Representation) → GoesBy t e r v → ⊥
   not_gone v (frames.by_doom now is) = current_off (doomed t e) v.key parts_of.1 is now
-  not_gone v (frames.by_bypass now is) = current_off (bypassed e) v.key parts_of.2 is now
+  not_gone v (frames.by_bypass now is) = current_off (bypass_key e) v.key parts_of.2 is now
   not_gone v (frames.by_head x response w at row h) = false_true (sym (about_row x response w at row) ∙ about_gone (case_at t e) w h)
   not_gone v (frames.by_loss h) = false_true (sym acts_parts.0 ∙ h)
   not_gone v (frames.by_misread h) = false_true (sym acts_parts.1 ∙ h)
@@ -328,7 +328,7 @@ module _ (t : Tables) (e : Entry) (r : ℕ) (silent : speaks_of t e r ≡ false)
   unfounded : (ev : Event) → is_event_of t e r ev ≡ false → founded_at t e r ev ≡ None
   unfounded (event.Head x response) off = rw ((or_false (x == r) (head_about t e r (t.exchange x)) off).0) (by_test (is_founding (case_at t e)))
     where
-      by_test : (b : Bool) → (if b && false then option_map (represented r e response) (t.exchange x) else None) ≡ None
+      by_test : (b : Bool) → (if b && false then option_map (new_representation r e response) (t.exchange x) else None) ≡ None
       by_test true = refl
       by_test false = refl
   unfounded _ off = refl

@@ -28,7 +28,7 @@ use Rattle.hc_model.specs.Reading.{bound_to, offset, hi_of, lo_of}
 use Rattle.hc_model.specs.Reads.{Delivers, answer_cell, cell_by, body_of, direct_cell}
 use Rattle.hc_model.specs.Rows.{Tables, Exchange, Representation, Consumer}
 use Rattle.hc_model.specs.Sound.{Sound, IsStored}
-use Rattle.hc_model.specs.Steps.{stored_from, stored_ahead, run_of, held_of_exchange, held_of_lost, held_at, held, read_view, most, later_hole, step_move, reading}
+use Rattle.hc_model.specs.Steps.{stored_from, stored_ahead, run_of, held_of_exchange, held_of_lost, held_at, run_held_for, read_view, most, later_hole, step_move, reading}
 use Rattle.hc_model.proofs.Basics.{none_some}
 use Rattle.hc_model.proofs.HoleLemmas.{bool_cases}
 use Rattle.hc_model.proofs.PieceKeeps.{some_inj}
@@ -111,7 +111,7 @@ module _ (t : Tables) (want c : ℕ) (k : Consumer) (run : Run) where
 
   data Comes : Type 0 where
     stored : (end : ℕ) → is_at_end until (offset t k) ≡ false → option_map end_of (stored_ahead t k want) ≡ Some end → stored_ahead t k (cut_at until end - offset t k) ≡ Some run → Comes
-    held_back : is_at_end until (offset t k) ≡ false → held t c k (most t want k) ≡ Some run → Comes
+    held_back : is_at_end until (offset t k) ≡ false → run_held_for t c k (most t want k) ≡ Some run → Comes
 
   gives_is : (o : Option Run) → gives o ≡ Gives run → o ≡ Some run
   gives_is None is = absurd (let never : Nothing ≡ Gives run = is in cc)

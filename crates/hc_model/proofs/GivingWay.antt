@@ -11,7 +11,7 @@ use Rattle.hc_rules.specs.Rooms.{gives_way, room_of, grown_by, is_too_large}
 use Rattle.hc_rules.specs.declared.room.Limits.{Limits}
 use Rattle.hc_rules.specs.declared.room.Room.TheVariants as room
 use Rattle.hc_rules.specs.declared.room.Write.{Write}
-use Rattle.hc_model.specs.Entries.{Entry, unanswered}
+use Rattle.hc_model.specs.Entries.{Entry, entry_without_acts}
 use Rattle.hc_model.specs.Evictions.{GivesWay, MakesRoom, SomeGiveWay, HasNoRoom, HasTooLarge, WritesNothing}
 use Rattle.hc_model.specs.Evictions as evictions
 use Rattle.hc_model.specs.Rows.{Tables}
@@ -83,7 +83,7 @@ module _ (weight : ℕ → ℕ) (most : ℕ) where
 
 module _ (limits : Limits) (t : Tables) (now : ℕ) (event : Event) where
   abbrev e : Entry
-  e = unanswered now event
+  e = entry_without_acts now event
 
   room_is : (w : Write) → write_in t e event ≡ Some w → room_for limits t now event ≡ room_of limits (weights t e) w (map (weight t e) (idle t e))
   unfolding room_for
@@ -107,26 +107,26 @@ module _ (limits : Limits) (t : Tables) (now : ℕ) (event : Event) where
 
 pub makes_room : MakesRoom
 makes_room limits t now event w gone is small gives =
-    let e = unanswered now event in
+    let e = entry_without_acts now event in
     let sum = weights t e + grown_by w in
     let room_now : room_for limits t now event ≡ room.After (length gone) = room_is limits t now event w is ∙ small_room limits t now event w (Some (length gone)) small (counts (weight t e) limits.max_total sum (idle t e) gone gives) in
     (room_now, ap (first_idle t e) room_now ∙ takes (weight t e) limits.max_total sum (idle t e) gone gives)
 
 pub has_no_room : HasNoRoom
 has_no_room limits t now event w is small past =
-    let e = unanswered now event in
+    let e = entry_without_acts now event in
     let room_now : room_for limits t now event ≡ room.Full = room_is limits t now event w is ∙ small_room limits t now event w None small (never (weight t e) limits.max_total (weights t e + grown_by w) (idle t e) past) in
     (room_now, ap (first_idle t e) room_now)
 
 pub has_too_large : HasTooLarge
 has_too_large limits t now event w is large =
     let room_now : room_for limits t now event ≡ room.TooLarge = room_is limits t now event w is ∙ large_room limits t now event w large in
-    (room_now, ap (first_idle t (unanswered now event)) room_now)
+    (room_now, ap (first_idle t (entry_without_acts now event)) room_now)
 
 pub writes_nothing : WritesNothing
 writes_nothing limits t now event none =
     let room_now = nothing_room limits t now event none in
-    (room_now, ap (first_idle t (unanswered now event)) room_now ∙ none_taken limits t now event (idle t (unanswered now event)))
+    (room_now, ap (first_idle t (entry_without_acts now event)) room_now ∙ none_taken limits t now event (idle t (entry_without_acts now event)))
 
 pub some_give_way : SomeGiveWay
 some_give_way weight most sum xs le = enough weight most sum xs le

@@ -9,7 +9,7 @@ use Rattle.hc_model.specs.ActFilters.{loses_in}
 use Rattle.hc_model.specs.Entries.{Entry}
 use Rattle.hc_model.specs.Exchanges.{family, front}
 use Rattle.hc_model.specs.Heads.{updated_head}
-use Rattle.hc_model.specs.RepresentationRows.{representation_heard, representation_acted, headed, renewed, updates, pieced, filled, ended, length_in}
+use Rattle.hc_model.specs.RepresentationRows.{representation_heard, representation_acted, representation_after_head, with_renewed_head, updates, representation_after_piece, with_stored_bytes, with_total_if_none, length_in}
 use Rattle.hc_model.specs.Rows.{Tables, Exchange, Representation}
 use Rattle.hc_model.proofs.RepFrom.{IsKept}
 
@@ -19,23 +19,23 @@ module _ (t : Tables) (e : Entry) (r : ℕ) (v : Representation) where
     updated : (x : ℕ) (response : Response) (w : Exchange) → e.event ≡ event.Head x response → t.exchange x ≡ Some w → u.head ≡ updated_head e.now response w v.head → HeadFrom u
     told : (n : ℕ) → u.head ≡ record v.head { total = option_or v.head.total (Some n) } → HeadFrom u
 
-  headed_from : (x : ℕ) (response : Response) (o : Option Exchange) → e.event ≡ event.Head x response → t.exchange x ≡ o → HeadFrom (headed t e r x response o v)
+  headed_from : (x : ℕ) (response : Response) (o : Option Exchange) → e.event ≡ event.Head x response → t.exchange x ≡ o → HeadFrom (representation_after_head t e r x response o v)
   headed_from x response None here row = still refl
   headed_from x response (Some w) here row = by_test (updates t e r w v)
     where
-      by_test : (b : Bool) → HeadFrom (if b then renewed t e x response w v else v)
+      by_test : (b : Bool) → HeadFrom (if b then with_renewed_head t e x response w v else v)
       by_test true = updated x response w here row refl
       by_test false = still refl
 
-  pieced_from : (x : ℕ) (bytes : List ℕ) (o : Option Exchange) → HeadFrom (pieced e r x bytes o v)
+  pieced_from : (x : ℕ) (bytes : List ℕ) (o : Option Exchange) → HeadFrom (representation_after_piece e r x bytes o v)
   pieced_from x bytes None = still refl
   pieced_from x bytes (Some w) = by_test (family x w == r)
     where
-      by_test : (b : Bool) → HeadFrom (if b then filled (not (v.is_lost || loses_in r e.acts)) (front w) x bytes v else v)
+      by_test : (b : Bool) → HeadFrom (if b then with_stored_bytes (not (v.is_lost || loses_in r e.acts)) (front w) x bytes v else v)
       by_test true = still refl
       by_test false = still refl
 
-  ended_from : (n : ℕ) (b : Bool) → HeadFrom (if b then ended n v else v)
+  ended_from : (n : ℕ) (b : Bool) → HeadFrom (if b then with_total_if_none n v else v)
   ended_from n true = told n refl
   ended_from n false = still refl
 

@@ -13,9 +13,9 @@ use Rattle.hc_model.specs.ActFilters.{has_loss}
 use Rattle.hc_model.specs.Cases.{is_joining, case_of, case_at, head_view}
 use Rattle.hc_model.specs.Entries.{Entry}
 use Rattle.hc_model.specs.ExchangeRows.{joined_at, exchange_after, exchange_heard, exchange_acted}
-use Rattle.hc_model.specs.Exchanges.{base, promised, front, family, length_by}
+use Rattle.hc_model.specs.Exchanges.{base, promised_bytes, front, family, length_by}
 use Rattle.hc_model.specs.Currents.{row_of}
-use Rattle.hc_model.specs.RepresentationRows.{headed, representation_after, representation_heard, representation_acted, renewed, represented}
+use Rattle.hc_model.specs.RepresentationRows.{representation_after_head, representation_after, representation_heard, representation_acted, with_renewed_head, new_representation}
 use Rattle.hc_model.specs.Rows.{Tables, Exchange, Representation}
 use Rattle.hc_model.specs.Sound.{Waits, Sound, OneAbout, IsAbout, IsPromised, InHole}
 use Rattle.hc_model.specs.Tables.{after_accepted}
@@ -25,7 +25,7 @@ use Rattle.hc_rules.specs.declared.length.Length.{Length}
 use Rattle.hc_rules.specs.Lengths.{length_of, base_of, promise_of, is_bad}
 use Rattle.hc_model.specs.Sound as sound
 use Rattle.hc_model.proofs.Basics.{and_right}
-use Rattle.hc_model.proofs.Pens.{same_row}
+use Rattle.hc_model.proofs.ExclusiveWriters.{same_row}
 use Rattle.hc_model.proofs.PieceKeeps.{eq_cases, some_inj, ends_same}
 use Rattle.hc_model.proofs.QuietKeeps.{IsSame, IsKept, closed_only}
 use Rattle.hc_model.proofs.Joining.{MayJoin, may_join, IsFilling, filling, LiesIn, lies}
@@ -59,7 +59,7 @@ pub is_aimed : (t : Tables) (w : Exchange) (response : Response) → IsJoin t w 
 is_aimed t w response j = aimed_by t w w.aim j.fills.v refl j.fills.row
 
 -- positions that a joining exchange is to bring are of its hole
-in_hole : (from to p : ℕ) (u : Exchange) (l : Length) → LiesIn from to l → is_bad l ≡ false → length_by u u.head ≡ l → base u ≤ p → IsPromised (promised u) u p → (from ≤ p) × (p < to)
+in_hole : (from to p : ℕ) (u : Exchange) (l : Length) → LiesIn from to l → is_bad l ≡ false → length_by u u.head ≡ l → base u ≤ p → IsPromised (promised_bytes u) u p → (from ≤ p) × (p < to)
 in_hole from to p u _ join.bad good is le ends = absurd (let never : true ≡ false = good in cc)
 in_hole from to p u _ join.empty good is le ends =
     let first : base u ≡ 0 = ap base_of is in
@@ -102,14 +102,14 @@ cond_body : (b : Bool) (v u : Representation) → v.body ≡ u.body → (cond b 
 cond_body true v u one = one
 cond_body false v u one = refl
 
-headed_body : (t : Tables) (e : Entry) (r x : ℕ) (response : Response) (o : Option Exchange) (v : Representation) → (headed t e r x response o v).body ≡ v.body
+headed_body : (t : Tables) (e : Entry) (r x : ℕ) (response : Response) (o : Option Exchange) (v : Representation) → (representation_after_head t e r x response o v).body ≡ v.body
 headed_body t e r x response None v = refl
-headed_body t e r x response (Some w) v = cond_body _ (renewed t e x response w v) v refl
+headed_body t e r x response (Some w) v = cond_body _ (with_renewed_head t e x response w v) v refl
 
-founded_row : (t : Tables) (e : Entry) (x r : ℕ) (response : Response) (b : Bool) (o : Option Exchange) (u : Representation) → t.representation r ≡ None → (b ≡ true → x ≡ r) → cond b (option_map (represented r e response) o) None ≡ Some u → RepRow t x r u
+founded_row : (t : Tables) (e : Entry) (x r : ℕ) (response : Response) (b : Bool) (o : Option Exchange) (u : Representation) → t.representation r ≡ None → (b ≡ true → x ≡ r) → cond b (option_map (new_representation r e response) o) None ≡ Some u → RepRow t x r u
 founded_row t e x r response false o u none at is = absurd (let never : None ≡ Some u = is in cc)
 founded_row t e x r response true None u none at is = absurd (let never : None ≡ Some u = is in cc)
-founded_row t e x r response true (Some w) u none at is = subst (RepRow t x r) (some_inj (represented r e response w) u is) (founded (at refl) none (λ p. refl))
+founded_row t e x r response true (Some w) u none at is = subst (RepRow t x r) (some_inj (new_representation r e response w) u is) (founded (at refl) none (λ p. refl))
 
 pub rep_row : (t : Tables) (now x r : ℕ) (response : Response) (acts : List Act) (o : Option Representation) (u : Representation) → t.representation r ≡ o → representation_after t (of_head now x response acts) r o ≡ Some u → RepRow t x r u
 unfolding representation_after
@@ -155,7 +155,7 @@ module _ (t : Tables) (now x : ℕ) (response : Response) (acts : List Act) (w :
   not_founded : Sound t → IsHead → t.representation x ≡ None
   not_founded s head = s.numbered.names.unfounded x w head.row head.headless
 
-  front_here : Sound t → IsHead → (y : ℕ) (u : Exchange) (v : Representation) (p : ℕ) (q : Exchange) → x ≡ y → t.exchange y ≡ Some q → u.body ≡ q.body → u.joined ≡ joined_at t (of_head now x response acts) q → length_by u u.head ≡ length_of q.need q.request response → RepRow t x (family y u) v → front u ≤ p → IsPromised (promised u) u p → v.body p ≡ None
+  front_here : Sound t → IsHead → (y : ℕ) (u : Exchange) (v : Representation) (p : ℕ) (q : Exchange) → x ≡ y → t.exchange y ≡ Some q → u.body ≡ q.body → u.joined ≡ joined_at t (of_head now x response acts) q → length_by u u.head ≡ length_of q.need q.request response → RepRow t x (family y u) v → front u ≤ p → IsPromised (promised_bytes u) u p → v.body p ≡ None
   front_here s head y u v p q at row body joined length_is (founded is none empty) le ends = empty p
   front_here s head y u v p q at row body joined length_is (kept rep) le ends =
       let also : t.exchange y ≡ Some w = rw (sym at) head.row in
@@ -178,16 +178,16 @@ module _ (t : Tables) (now x : ℕ) (response : Response) (acts : List Act) (w :
             ap (λ (f : Cells). f p) rep.body_is ∙ s.waits.holes x w a.r rep.v p head.row head.was_open head.headless a.aim (ap t.representation (sym fam) ∙ rep.row) hole
       ]
 
-  front_same : Sound t → (y : ℕ) (u : Exchange) (v : Representation) (p : ℕ) (q : Exchange) → t.exchange y ≡ Some q → IsSame y q u → RepRow t x (family y u) v → u.is_open ≡ true → is_some u.head ≡ true → front u ≤ p → IsPromised (promised u) u p → v.body p ≡ None
-  front_same s y u v p q row still (founded is none empty) is_open headed le ends = empty p
-  front_same s y u v p q row still (kept rep) is_open headed le ends =
+  front_same : Sound t → (y : ℕ) (u : Exchange) (v : Representation) (p : ℕ) (q : Exchange) → t.exchange y ≡ Some q → IsSame y q u → RepRow t x (family y u) v → u.is_open ≡ true → is_some u.head ≡ true → front u ≤ p → IsPromised (promised_bytes u) u p → v.body p ≡ None
+  front_same s y u v p q row still (founded is none empty) is_open representation_after_head le ends = empty p
+  front_same s y u v p q row still (kept rep) is_open representation_after_head le ends =
       let there : t.representation (family y q) ≡ Some rep.v = rw still.family_is at rep.row in
       let ahead : front q ≤ p = rw still.front_is at le in
-      ap (λ (f : Cells). f p) rep.body_is ∙ s.waits.fronts y q rep.v p row (still.was_open is_open) (rw still.head_is at headed) there ahead (ends_same (promised q) u q p still.base_is (rw still.promised_is at ends))
+      ap (λ (f : Cells). f p) rep.body_is ∙ s.waits.fronts y q rep.v p row (still.was_open is_open) (rw still.head_is at representation_after_head) there ahead (ends_same (promised_bytes q) u q p still.base_is (rw still.promised_is at ends))
 
-  front_kept : Sound t → IsHead → (y : ℕ) (u : Exchange) (v : Representation) (p : ℕ) → HeadRow t now x response acts y u → RepRow t x (family y u) v → u.is_open ≡ true → is_some u.head ≡ true → front u ≤ p → IsPromised (promised u) u p → v.body p ≡ None
-  front_kept s head y u v p (same q other row still) rep is_open headed le ends = front_same s y u v p q row still rep is_open headed le ends
-  front_kept s head y u v p (here q at row was headed_now body joined length_is) rep is_open headed le ends = front_here s head y u v p q at row body joined length_is rep le ends
+  front_kept : Sound t → IsHead → (y : ℕ) (u : Exchange) (v : Representation) (p : ℕ) → HeadRow t now x response acts y u → RepRow t x (family y u) v → u.is_open ≡ true → is_some u.head ≡ true → front u ≤ p → IsPromised (promised_bytes u) u p → v.body p ≡ None
+  front_kept s head y u v p (same q other row still) rep is_open representation_after_head le ends = front_same s y u v p q row still rep is_open representation_after_head le ends
+  front_kept s head y u v p (here q at row was headed_now body joined length_is) rep is_open representation_after_head le ends = front_here s head y u v p q at row body joined length_is rep le ends
 
   hole_kept : Sound t → IsHead → (y : ℕ) (u : Exchange) (r : ℕ) (v : Representation) (p : ℕ) → HeadRow t now x response acts y u → RepRow t x r v → u.is_open ≡ true → u.head ≡ None → u.aim ≡ Some r → InHole u.need p → v.body p ≡ None
   hole_kept s head y u r v p row (founded is none empty) is_open bare aim hole = empty p
@@ -201,7 +201,7 @@ module _ (t : Tables) (now x : ℕ) (response : Response) (acts : List Act) (w :
 
   pub head_waits : Sound t → IsHead → Waits now_on
   head_waits s head = record {
-    fronts = λ y u v p row is_open headed at le ends. front_kept s head y u v p (head_row t now x y response acts (t.exchange y) u refl head.opens_none row) (rep_row t now x (family y u) response acts (t.representation (family y u)) v refl at) is_open headed le ends;
+    fronts = λ y u v p row is_open representation_after_head at le ends. front_kept s head y u v p (head_row t now x y response acts (t.exchange y) u refl head.opens_none row) (rep_row t now x (family y u) response acts (t.representation (family y u)) v refl at) is_open representation_after_head le ends;
     holes = λ y u r v p row is_open bare aim at hole. hole_kept s head y u r v p (head_row t now x y response acts (t.exchange y) u refl head.opens_none row) (rep_row t now x r response acts (t.representation r) v refl at) is_open bare aim hole;
     headless = λ y u row bare. headless_kept s y u (head_row t now x y response acts (t.exchange y) u refl head.opens_none row) bare;
   }
@@ -229,8 +229,8 @@ module _ (t : Tables) (now x : ℕ) (response : Response) (acts : List Act) (w :
   not_there r there none = let never : false ≡ true = rw none at there in cc
 
   headed_same : Sound t → (r y : ℕ) (u q : Exchange) → x ≢ y → t.exchange y ≡ Some q → IsSame y q u → u.is_open ≡ true → is_some u.head ≡ true → family y u ≡ r → (is_some (t.representation r) ≡ true) ⊎ ((x ≡ r) × (t.representation r ≡ None)) → AboutBefore r y
-  headed_same s r y u q other row still is_open headed fam (inl there) = before (sound.headed q row (still.was_open is_open) (rw still.head_is at headed) (sym still.family_is ∙ fam) there)
-  headed_same s r y u q other row still is_open headed fam (inr new) =
+  headed_same s r y u q other row still is_open representation_after_head fam (inl there) = before (sound.headed q row (still.was_open is_open) (rw still.head_is at representation_after_head) (sym still.family_is ∙ fam) there)
+  headed_same s r y u q other row still is_open representation_after_head fam (inr new) =
       let of_r : family y q ≡ r = sym still.family_is ∙ fam in
       elim (family_or y q.joined) [
         | inl own ↦ absurd (other (new.0 ∙ (sym of_r ∙ own)))
@@ -239,7 +239,7 @@ module _ (t : Tables) (now x : ℕ) (response : Response) (acts : List Act) (w :
 
   -- what isn't founded has no exchange about it
   none_before : Sound t → (r y : ℕ) → t.representation r ≡ None → IsAbout t r y → ⊥
-  none_before s r y none (sound.headed q row is_open headed fam there) = not_there r there none
+  none_before s r y none (sound.headed q row is_open representation_after_head fam there) = not_there r there none
   none_before s r y none (sound.asks q from to row is_open bare hole aim) = not_there r (s.numbered.names.aims y r q row aim) none
 
   headed_here : Sound t → IsHead → (r y : ℕ) (u q : Exchange) → x ≡ y → t.exchange y ≡ Some q → u.joined ≡ joined_at t (of_head now x response acts) q → family y u ≡ r → (is_some (t.representation r) ≡ true) ⊎ ((x ≡ r) × (t.representation r ≡ None)) → AboutBefore r y
@@ -259,15 +259,15 @@ module _ (t : Tables) (now x : ℕ) (response : Response) (acts : List Act) (w :
       ]
 
   headed_before : Sound t → IsHead → (r y : ℕ) (u : Exchange) → HeadRow t now x response acts y u → u.is_open ≡ true → is_some u.head ≡ true → family y u ≡ r → (is_some (t.representation r) ≡ true) ⊎ ((x ≡ r) × (t.representation r ≡ None)) → AboutBefore r y
-  headed_before s head r y u (same q other row still) is_open headed fam there = headed_same s r y u q other row still is_open headed fam there
-  headed_before s head r y u (here q at row was headed_now body joined length_is) is_open headed fam there = headed_here s head r y u q at row joined fam there
+  headed_before s head r y u (same q other row still) is_open representation_after_head fam there = headed_same s r y u q other row still is_open representation_after_head fam there
+  headed_before s head r y u (here q at row was headed_now body joined length_is) is_open representation_after_head fam there = headed_here s head r y u q at row joined fam there
 
   asks_before : Sound t → (r y from to : ℕ) (u : Exchange) → HeadRow t now x response acts y u → u.is_open ≡ true → u.head ≡ None → u.need ≡ need.Hole from to → u.aim ≡ Some r → AboutBefore r y
   asks_before s r y from to u (same q other row still) is_open bare hole aim = before (sound.asks q from to row (still.was_open is_open) (sym still.head_is ∙ bare) (sym still.need_is ∙ hole) (sym still.aim_is ∙ aim))
   asks_before s r y from to u (here q at row was headed_now body joined length_is) is_open bare hole aim = absurd (let never : false ≡ true = rw bare at headed_now in cc)
 
   about_before : Sound t → IsHead → (r y : ℕ) → IsAbout now_on r y → AboutBefore r y
-  about_before s head r y (sound.headed u row is_open headed fam there) = headed_before s head r y u (head_row t now x y response acts (t.exchange y) u refl head.opens_none row) is_open headed fam (there_or r (now_on.representation r) refl there)
+  about_before s head r y (sound.headed u row is_open representation_after_head fam there) = headed_before s head r y u (head_row t now x y response acts (t.exchange y) u refl head.opens_none row) is_open representation_after_head fam (there_or r (now_on.representation r) refl there)
   about_before s head r y (sound.asks u from to row is_open bare hole aim) = asks_before s r y from to u (head_row t now x y response acts (t.exchange y) u refl head.opens_none row) is_open bare hole aim
 
   founded_none : Sound t → IsHead → (r : ℕ) → x ≡ r → t.representation r ≡ None

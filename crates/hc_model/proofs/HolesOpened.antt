@@ -7,11 +7,11 @@ use Rattle.hc_model.specs.Exchanges.{front}
 use Rattle.hc_model.specs.Holes.{first_hole, hole_at, absent_from, covers}
 use Rattle.hc_model.specs.Reading.{offset}
 use Rattle.hc_model.specs.Rows.{Tables, Representation, Consumer}
-use Rattle.hc_model.specs.Sound.{Sound, IsSoundRepresentation, IsAlone, HasPen, IsAbout}
+use Rattle.hc_model.specs.Sound.{Sound, IsSoundRepresentation, IsAlone, IsExclusiveWriter, IsAbout}
 use Rattle.hc_model.specs.Sound as sound
 use Rattle.hc_model.proofs.Basics.{split}
 use Rattle.hc_model.proofs.HoleLemmas.{bool_cases, none_of, hole_absent}
-use Rattle.hc_model.proofs.Pens.{IsAtHole, has_pen}
+use Rattle.hc_model.proofs.ExclusiveWriters.{IsAtHole, has_exclusive_writer}
 
 -- what is stored ends where the body ends
 pub stored_ends : (t : Tables) (r : ℕ) (v : Representation) → IsSoundRepresentation t r v → EndsBy v.reach v.stored
@@ -25,11 +25,11 @@ pub later_absent : (t : Tables) (r c hi : ℕ) (v : Representation) (k : Consume
 later_absent t r c hi v k s at none p le lt =
     let row = s.rows r v at.row in
     let missing : v.stored p ≡ None = hole_absent v.stored v.reach (offset t k) hi p (stored_ends t r v row) le lt in
-    by_pen (has_pen t r c hi v k s at) row missing
+    by_exclusive_writer (has_exclusive_writer t r c hi v k s at) row missing
   where
-    by_pen : HasPen t r v c → IsSoundRepresentation t r v → v.stored p ≡ None → v.body p ≡ None
-    by_pen (sound.first kept came) row missing = sym (row.store.all_stored kept p) ∙ missing
-    by_pen (sound.alone lost is) row missing =
+    by_exclusive_writer : IsExclusiveWriter t r v c → IsSoundRepresentation t r v → v.stored p ≡ None → v.body p ≡ None
+    by_exclusive_writer (sound.first kept came) row missing = sym (row.store.all_stored kept p) ∙ missing
+    by_exclusive_writer (sound.alone lost is) row missing =
         let a = s.alone r c v k at.row is at.is_reader at.none_due in
         elim (split (offset t k) (front a.w)) [
           | inl before ↦ absurd (let there = a.covered (offset t k) (omega arith) before in let never : false ≡ true = rw none at there in cc)

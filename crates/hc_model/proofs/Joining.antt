@@ -15,7 +15,7 @@ use Rattle.hc_rules.specs.declared.heads.HeadView.{HeadView}
 use Rattle.hc_rules.specs.declared.length.Length.{Length}
 use Rattle.hc_rules.specs.declared.length.Length.TheVariants as told
 use Rattle.hc_rules.specs.HeadCases.{head_case, case_on, direct_case, turn_case, first_case, later_case}
-use Rattle.hc_rules.specs.Lengths.{length_of, length_told, part_length, has_no_body}
+use Rattle.hc_rules.specs.Lengths.{length_of, content_length_of, part_length, has_no_body}
 use Rattle.hc_rules.specs.Needs.{route_of}
 use Rattle.hc_rules.specs.RangeTexts.{content_range_of}
 use Rattle.hc_rules.proofs.Cond.{either}
@@ -120,7 +120,7 @@ lies_hole : (from to last total : ℕ) (request : Request) (response : Response)
 unfolding length_of
 lies_hole from to last total request response status part below =
     let is_part : (response.status == 206) ≡ true = grind (arith, nat_tests) in
-    let said = length_told (elements_in (codes "content-length") response.fields) in
+    let said = content_length_of (elements_in (codes "content-length") response.fields) in
     let here : LiesIn from to (part_length said (content_range_of response.fields)) = rw part (lies_part from to last total said below) in
     mix (LiesIn from to) (has_no_body request response.status) (told.Promised 0) _ empty (first_side from to (response.status == 206) _ _ is_part here)
 

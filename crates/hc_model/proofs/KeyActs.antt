@@ -16,12 +16,12 @@ use Rattle.hc_rules.specs.declared.room.Limits.{Limits}
 use Rattle.hc_rules.specs.declared.room.Room.{Room}
 use Rattle.hc_rules.specs.declared.room.Room.TheVariants as room
 use Rattle.hc_model.specs.ActFilters.{loses_in, misreads_in, leaver_in, without_losses}
-use Rattle.hc_model.specs.Answers.{accepted, said, lost}
+use Rattle.hc_model.specs.Answers.{accepted_acts, answer_acts, loss_acts}
 use Rattle.hc_model.specs.Cases.{case_at, is_founding, is_joining}
 use Rattle.hc_model.specs.Closings.{must_close, closes_row, closing, brings_head, is_doomed, has_no_survivor, is_left, is_left_by, leaver_by}
 use Rattle.hc_model.specs.Currents.{is_number}
-use Rattle.hc_model.specs.Dooms.{bypassed, bypassed_by, bypassed_for}
-use Rattle.hc_model.specs.Entries.{Entry, unanswered}
+use Rattle.hc_model.specs.Dooms.{bypass_key, bypassed_by, bypassed_for}
+use Rattle.hc_model.specs.Entries.{Entry, entry_without_acts}
 use Rattle.hc_model.specs.Exchanges.{family}
 use Rattle.hc_model.specs.Flaws.{Flaw, NoFlaw, Loses, Misreads, flaw_in}
 use Rattle.hc_model.specs.Keys.{key_of, key_of_exchange, is_of_key, ExchangeKeys, ConsumerKeys}
@@ -32,7 +32,7 @@ use Rattle.hc_model.specs.Rows.{Tables, Exchange, Representation, Consumer}
 use Rattle.hc_model.specs.Runs.{may_be, is_near, may_misread}
 use Rattle.hc_model.specs.Weights.{evicted, first_idle, idle, is_idle, room_for}
 use Rattle.hc_model.specs.Writers.{brings_body, loses_writing}
-use Rattle.hc_model.specs.Writes.{written, written_in, head_writes, may_validate, piece_writes, unless_lost, sealed, seals_at, sealed_by, stops, first_found, lossless}
+use Rattle.hc_model.specs.Writes.{written, written_in, head_writes, may_validate, piece_writes, unless_lost, sealed_representation, seals_at, sealed_by, stops, first_found, lossless}
 use Rattle.hc_model.proofs.ActParts.{IsAnswer, IsSaid, IsFarFrom, AllPass, answer_is, said_is, asks_evicted, asks_closed, asks_closes, asks_lost, asks_loss, closes_evicted, closes_lost, closes_before, closes_filter, loses_evicted, loses_closed, loses_before, evicts_closes, evicts_lost, evicts_closed, evicts_all, said_closes, far_loss, far_lost_only, far_closing, far_closed, far_evicted, far_said, leaver_lost}
 use Rattle.hc_model.proofs.ActParts as parts
 use Rattle.hc_model.proofs.Basics.{and_left, or_cases, none_some, number_is}
@@ -91,7 +91,7 @@ misread_move r c (Gives run) rest none h = absurd (let never : false ≡ true = 
 misread_move r c Ends rest none h = absurd (let never : false ≡ true = sym none ∙ h in cc)
 
 -- who leaves by a poll is the polled one
-leaver_move : (c d : ℕ) (m : Move) (flaw : Flaw) → leaver_in (acts_of c m ++ lost flaw) ≡ Some d → c ≡ d
+leaver_move : (c d : ℕ) (m : Move) (flaw : Flaw) → leaver_in (acts_of c m ++ loss_acts flaw) ≡ Some d → c ≡ d
 leaver_move c d Ends flaw h = some_inj c d h
 leaver_move c d (Fails cause) flaw h = some_inj c d h
 leaver_move c d Nothing flaw h = absurd (none_some d (sym (leaver_lost flaw) ∙ h))
@@ -151,9 +151,9 @@ first_rows t e' room.Full = tt
 
 -- what makes room has a row
 pub evicted_rows : (limits : Limits) (t : Tables) (now : ℕ) (ev : Event) → AllPass (HasRow t) (evicted limits t now ev)
-evicted_rows limits t now ev = first_rows t (unanswered now ev) (room_for limits t now ev)
+evicted_rows limits t now ev = first_rows t (entry_without_acts now ev) (room_for limits t now ev)
 
-module _ (limits : Limits) (t : Tables) (e : Entry) (flaw : Flaw) (exchanges : ExchangeKeys t) (consumers : ConsumerKeys t) (acts_is : e.acts ≡ accepted limits t e.now e.event flaw) (flaw_is : flaw_in e.acts ≡ flaw) (may : may_be limits t e flaw ≡ true) where
+module _ (limits : Limits) (t : Tables) (e : Entry) (flaw : Flaw) (exchanges : ExchangeKeys t) (consumers : ConsumerKeys t) (acts_is : e.acts ≡ accepted_acts limits t e.now e.event flaw) (flaw_is : flaw_in e.acts ≡ flaw) (may : may_be limits t e flaw ≡ true) where
   abbrev Other : List ℕ → Type 0
   Other key = IsOther t e.event key
 
@@ -164,19 +164,19 @@ module _ (limits : Limits) (t : Tables) (e : Entry) (flaw : Flaw) (exchanges : E
   IsSaidHere acts = IsSaid t e.now e.event flaw acts
 
   abbrev asked_of : List Act
-  asked_of = said t e.now e.event flaw
+  asked_of = answer_acts t e.now e.event flaw
 
   said_here : IsSaidHere asked_of
   said_here = said_is t e.now e.event flaw
 
   -- what closings look at
   abbrev seen : Entry
-  seen = record { now = e.now; event = e.event; acts = asked_of ++ lost flaw }
+  seen = record { now = e.now; event = e.event; acts = asked_of ++ loss_acts flaw }
 
   abbrev closings : List ℕ
   closings = closing t seen
 
-  pub is_answer : answered (accepted limits t e.now e.event flaw)
+  pub is_answer : answered (accepted_acts limits t e.now e.event flaw)
   is_answer = answer_is limits t e.now e.event flaw
 
   pub poll_key : (c want : ℕ) (k : Consumer) → e.event ≡ event.Poll c want → t.consumer c ≡ Some k → key_of t e.event ≡ Some k.request.key
@@ -210,7 +210,7 @@ module _ (limits : Limits) (t : Tables) (e : Entry) (flaw : Flaw) (exchanges : E
 
   -- WRITTEN BY A HEAD OR A PIECE
 
-  lost_written : (r : ℕ) (f : Flaw) → may_be limits t e f ≡ true → loses_in r (lost f) ≡ true → written t e ≡ Some r
+  lost_written : (r : ℕ) (f : Flaw) → may_be limits t e f ≡ true → loses_in r (loss_acts f) ≡ true → written t e ≡ Some r
   lost_written r NoFlaw may_so h = absurd (let never : false ≡ true = h in cc)
   lost_written r (Misreads q) may_so h = absurd (let never : false ≡ true = h in cc)
   lost_written r (Loses q kind) may_so h = elim (or_cases (q == r) false h) [
@@ -249,7 +249,7 @@ module _ (limits : Limits) (t : Tables) (e : Entry) (flaw : Flaw) (exchanges : E
     body_written (event.Piece x bytes) body h = piece_row x (t.exchange x) refl h
     body_written _ body h = absurd (let never : false ≡ true = body in cc)
 
-    body_lost : brings_body e.event ≡ true → loses_in r (lost flaw) ≡ true → key_of t e.event ≡ Some v.key
+    body_lost : brings_body e.event ≡ true → loses_in r (loss_acts flaw) ≡ true → key_of t e.event ≡ Some v.key
     unfolding written
     body_lost body h = body_written e.event body (lost_written r flaw may h)
 
@@ -272,7 +272,7 @@ module _ (limits : Limits) (t : Tables) (e : Entry) (flaw : Flaw) (exchanges : E
         let both = and_left _ _ h in
         let writes : v.writer ≡ Some x = number_is v.writer x (and_left _ _ both) in
         let losing = and_left _ _ (and_then (is_number v.writer x) (loses_writing t seen r v) both) in
-        let now_lost : loses_in r (lost flaw) ≡ true = sym (said_closes x r t e.now e.event flaw asked_of (lost flaw) said_here).loses ∙ and_then _ _ losing in
+        let now_lost : loses_in r (loss_acts flaw) ≡ true = sym (said_closes x r t e.now e.event flaw asked_of (loss_acts flaw) said_here).loses ∙ and_then _ _ losing in
         not_it (body_lost r v there (and_left _ _ losing) now_lost ∙ ap Some (writer_key t r x w v exchanges there writes row))
 
     left_by : (c : ℕ) (o : Option Consumer) → t.consumer c ≡ o → ((k : Consumer) → t.consumer c ≡ Some k → key_of t e.event ≡ Some k.request.key) → is_left_by t x c o ≡ true → ⊥
@@ -283,7 +283,7 @@ module _ (limits : Limits) (t : Tables) (e : Entry) (flaw : Flaw) (exchanges : E
     ]
 
     -- by the leaver of a poll
-    left_said : (acts : List Act) (o : Option ℕ) → IsSaidHere acts → leaver_in (acts ++ lost flaw) ≡ o → is_left t x o ≡ true → ⊥
+    left_said : (acts : List Act) (o : Option ℕ) → IsSaidHere acts → leaver_in (acts ++ loss_acts flaw) ≡ o → is_left t x o ≡ true → ⊥
     left_said acts None said_so is h = let never : false ≡ true = h in cc
     left_said _ (Some d) parts.silent is h = none_some d (sym (leaver_lost flaw) ∙ is)
     left_said _ (Some d) (parts.does c want k m at is_row does near) is h =
@@ -293,15 +293,15 @@ module _ (limits : Limits) (t : Tables) (e : Entry) (flaw : Flaw) (exchanges : E
         let same : c ≡ d = some_inj c d is in
         left_by d (t.consumer d) refl (λ u there. poll_key d want u (at ∙ ap (λ n. event.Poll n want) same) there) h
 
-    not_left : (ev : Event) → e.event ≡ ev → is_left t x (leaver_by ev (asked_of ++ lost flaw)) ≡ true → ⊥
+    not_left : (ev : Event) → e.event ≡ ev → is_left t x (leaver_by ev (asked_of ++ loss_acts flaw)) ≡ true → ⊥
     not_left (event.Cancel c) at h = left_by c (t.consumer c) refl (λ k there. ap (key_of t) at ∙ ap (option_map (λ (k : Consumer). k.request.key)) there) h
-    not_left (event.Start c request) at h = left_said asked_of (leaver_in (asked_of ++ lost flaw)) said_here refl h
-    not_left (event.Poll c want) at h = left_said asked_of (leaver_in (asked_of ++ lost flaw)) said_here refl h
-    not_left (event.Head y response) at h = left_said asked_of (leaver_in (asked_of ++ lost flaw)) said_here refl h
-    not_left (event.Piece y bytes) at h = left_said asked_of (leaver_in (asked_of ++ lost flaw)) said_here refl h
-    not_left (event.End y) at h = left_said asked_of (leaver_in (asked_of ++ lost flaw)) said_here refl h
-    not_left (event.Fault y) at h = left_said asked_of (leaver_in (asked_of ++ lost flaw)) said_here refl h
-    not_left (event.Doom key) at h = left_said asked_of (leaver_in (asked_of ++ lost flaw)) said_here refl h
+    not_left (event.Start c request) at h = left_said asked_of (leaver_in (asked_of ++ loss_acts flaw)) said_here refl h
+    not_left (event.Poll c want) at h = left_said asked_of (leaver_in (asked_of ++ loss_acts flaw)) said_here refl h
+    not_left (event.Head y response) at h = left_said asked_of (leaver_in (asked_of ++ loss_acts flaw)) said_here refl h
+    not_left (event.Piece y bytes) at h = left_said asked_of (leaver_in (asked_of ++ loss_acts flaw)) said_here refl h
+    not_left (event.End y) at h = left_said asked_of (leaver_in (asked_of ++ loss_acts flaw)) said_here refl h
+    not_left (event.Fault y) at h = left_said asked_of (leaver_in (asked_of ++ loss_acts flaw)) said_here refl h
+    not_left (event.Doom key) at h = left_said asked_of (leaver_in (asked_of ++ loss_acts flaw)) said_here refl h
 
     stays_open : must_close t seen x w ≡ true → ⊥
     stays_open h = elim (or_cases _ _ h) [
@@ -353,7 +353,7 @@ module _ (limits : Limits) (t : Tables) (e : Entry) (flaw : Flaw) (exchanges : E
         let is : family x w ≡ r = some_inj _ r (test_some _ (Some (family x w)) r h).1 in
         ends_key x w row ends ∙ ap Some (sym (family_key t x r w v exchanges row is there))
 
-    sealed_key : sealed t (lossless e) ≡ Some r → key_of t e.event ≡ Some v.key
+    sealed_key : sealed_representation t (lossless e) ≡ Some r → key_of t e.event ≡ Some v.key
     sealed_key h =
         let found = found_some (seals_at t (lossless e)) t.openings r h in
         let both = test_some (stops found.0 e.event || closes_in found.0 (without_losses e.acts)) (sealed_by t (lossless e) found.0 (t.exchange found.0)) r found.1 in
@@ -368,9 +368,9 @@ module _ (limits : Limits) (t : Tables) (e : Entry) (flaw : Flaw) (exchanges : E
     unfolding written
     written_key h = written_by e.event refl h
 
-    loses_by : (acts : List Act) → answered acts → loses_in r acts ≡ loses_in r (lost flaw)
+    loses_by : (acts : List Act) → answered acts → loses_in r acts ≡ loses_in r (loss_acts flaw)
     loses_by _ (parts.told silent) = loses_evicted r (evicted limits t e.now e.event) _ ∙ loses_before r flaw closings
-    loses_by _ parts.asked = (said_closes 0 r t e.now e.event flaw asked_of _ said_here).loses ∙ loses_closed r closings (lost flaw)
+    loses_by _ parts.asked = (said_closes 0 r t e.now e.event flaw asked_of _ said_here).loses ∙ loses_closed r closings (loss_acts flaw)
 
     -- a representation of another key isn't lost
     pub loses_none : Other v.key → loses_in r e.acts ≡ false
@@ -422,7 +422,7 @@ module _ (limits : Limits) (t : Tables) (e : Entry) (flaw : Flaw) (exchanges : E
   opens_key o h = opens_by _ o is_answer (sym (ap opening_in acts_is) ∙ h)
 
   -- and so is what is bypassed
-  pub bypassed_key : (key : List ℕ) → bypassed e ≡ Some key → key_of t e.event ≡ Some key
+  pub bypassed_key : (key : List ℕ) → bypass_key e ≡ Some key → key_of t e.event ≡ Some key
   bypassed_key key h = by_opening (opening_in e.acts) refl h
     where
       by_need : (n : Need) (k : List ℕ) → bypassed_for n k ≡ Some key → k ≡ key

@@ -19,12 +19,12 @@ use Rattle.hc_model.specs.Dooms.{doomed, doomed_in, doomed_by_head, doomed_by_ca
 use Rattle.hc_model.specs.Entries.{Entry}
 use Rattle.hc_model.specs.Exchanges.{family, is_open}
 use Rattle.hc_model.specs.Keys.{HasRow, key_of, is_of_key, key_of_exchange, ExchangeKeys, ConsumerKeys}
-use Rattle.hc_model.specs.Reading.{own_open, if_open, shared, writing_in, is_written, source, is_bound, is_bound_place}
+use Rattle.hc_model.specs.Reading.{own_open, if_open, shared_exchange, writing_in, is_written, source, is_bound, is_bound_place}
 use Rattle.hc_model.specs.Rows.{Tables, Exchange, Representation, Consumer}
 use Rattle.hc_model.specs.Sound.{IsBound}
 use Rattle.hc_model.specs.Sound as sound
 use Rattle.hc_model.proofs.Basics.{and_left, or_cases, number_is, not_so, true_false}
-use Rattle.hc_model.proofs.Pens.{same_row}
+use Rattle.hc_model.proofs.ExclusiveWriters.{same_row}
 use Rattle.hc_model.proofs.PieceKeeps.{some_inj}
 use Rattle.hc_model.proofs.PollKeeps.{find_passes}
 use Rattle.hc_model.proofs.HoleLemmas.{bool_cases}
@@ -159,7 +159,7 @@ module _ (t : Tables) (c : ℕ) (k : Consumer) (exchanges : ExchangeKeys t) (con
   pub bound_key : (r lo : ℕ) (hi : Option ℕ) (how : BoundBy) (v : Representation) → k.place ≡ place.Bound r lo hi how → t.representation r ≡ Some v → v.key ≡ k.request.key
   bound_key r lo hi how v at row = of_row t r k.request.key v (consumers.bound r c k (sound.is_bound lo hi how is_row at)) row
 
-  pub shared_key : (place : Place) (x : ℕ) (w : Exchange) → k.place ≡ place → shared t place ≡ Some x → t.exchange x ≡ Some w → w.request.key ≡ k.request.key
+  pub shared_key : (place : Place) (x : ℕ) (w : Exchange) → k.place ≡ place → shared_exchange t place ≡ Some x → t.exchange x ≡ Some w → w.request.key ≡ k.request.key
   shared_key (place.Bound r lo hi how) x w at is row = by_row (t.representation r) refl is
     where
       by_test : (v : Representation) (b : Bool) → (if b then v.writer else None) ≡ Some x → v.writer ≡ Some x
@@ -177,7 +177,7 @@ module _ (t : Tables) (c : ℕ) (k : Consumer) (exchanges : ExchangeKeys t) (con
   pub source_key : (x : ℕ) (w : Exchange) → source t k ≡ Some x → t.exchange x ≡ Some w → w.request.key ≡ k.request.key
   source_key x w is row = by_own (own_open t k) refl is
     where
-      by_own : (o : Option ℕ) → own_open t k ≡ o → option_or o (shared t k.place) ≡ Some x → w.request.key ≡ k.request.key
+      by_own : (o : Option ℕ) → own_open t k ≡ o → option_or o (shared_exchange t k.place) ≡ Some x → w.request.key ≡ k.request.key
       by_own None own h = shared_key k.place x w refl h row
       by_own (Some y) own h = own_key x w (own ∙ h) row
 

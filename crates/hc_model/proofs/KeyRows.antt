@@ -16,7 +16,7 @@ use Rattle.hc_model.specs.ActFilters.{loses_in, misreads_in, Showing, showing_in
 use Rattle.hc_model.specs.Cases.{case_at}
 use Rattle.hc_model.specs.ConsumerRows.{consumer_after, consumer_settled, consumer_acted, consumer_heard, by_head, by_fault, by_opening, waiting, waiting_place, shown_place, own_after, left_to, due_after, back_in_line}
 use Rattle.hc_model.specs.Currents.{is_current}
-use Rattle.hc_model.specs.Dooms.{doomed, bypassed, is_key}
+use Rattle.hc_model.specs.Dooms.{doomed, bypass_key, is_key}
 use Rattle.hc_model.specs.Entries.{Entry}
 use Rattle.hc_model.specs.ExchangeRows.{exchange_after, exchange_heard, exchange_acted}
 use Rattle.hc_model.specs.Exchanges.{family, exchange_in, exchange_at, is_for}
@@ -24,7 +24,7 @@ use Rattle.hc_model.specs.Failures.{becomes_due, cause_of_stop, cause_of_loss, c
 use Rattle.hc_model.specs.Gone.{becomes_gone, goes_itself, goes_by_head, goes_by_exchange, goes_by_case, is_current_of, ends_early, ends_founding, stops_early, is_keepable, goes_in}
 use Rattle.hc_model.specs.Keys.{key_of, key_of_exchange, ExchangeKeys, ConsumerKeys, loses}
 use Rattle.hc_model.specs.Reading.{reads, source}
-use Rattle.hc_model.specs.RepresentationRows.{representation_after, representation_heard, representation_acted, headed, updates, pieced}
+use Rattle.hc_model.specs.RepresentationRows.{representation_after, representation_heard, representation_acted, representation_after_head, updates, representation_after_piece}
 use Rattle.hc_model.specs.Rows.{Tables, Exchange, Representation, Consumer}
 use Rattle.hc_model.specs.StartingOver.{starts_over, sends_back, loses_what_it_waits_for, waits_at}
 use Rattle.hc_model.specs.Writers.{loses_writing}
@@ -78,7 +78,7 @@ pub record IsFarEntry (t : Tables) (e : Entry) : Type 0 where
   pub closes : (x : ℕ) (w : Exchange) → t.exchange x ≡ Some w → IsOther t e.event w.request.key → closes_in x e.acts ≡ false
   pub loses : (r : ℕ) (v : Representation) → t.representation r ≡ Some v → IsOther t e.event v.key → loses_in r e.acts ≡ false
   pub misreads : (r : ℕ) (v : Representation) → t.representation r ≡ Some v → IsOther t e.event v.key → misreads_in r e.acts ≡ false
-  pub bypassed : (key : List ℕ) → bypassed e ≡ Some key → key_of t e.event ≡ Some key
+  pub bypassed : (key : List ℕ) → bypass_key e ≡ Some key → key_of t e.event ≡ Some key
   pub says : (c : ℕ) (k : Consumer) → t.consumer c ≡ Some k → IsOther t e.event k.request.key → IsFarFrom c e.acts
   pub comes : (x : ℕ) → exchange_in e.event ≡ Some x → (w : Exchange) × (t.exchange x ≡ Some w)
   pub evicted : (r : ℕ) → evicts_in r e.acts ≡ true → (v : Representation) × (t.representation r ≡ Some v)
@@ -119,12 +119,12 @@ module _ (t : Tables) (e : Entry) (exchanges : ExchangeKeys t) (consumers : Cons
     stays_if : (b : Bool) (u : Representation) → (b ≡ true → ⊥) → (if b then u else v) ≡ v
     stays_if b u never_so = let fails = not_true b never_so in rw fails refl
 
-    head_stays : (x : ℕ) (response : Response) (o : Option Exchange) → key_of t e.event ≡ key_of_exchange t x → t.exchange x ≡ o → headed t e r x response o v ≡ v
+    head_stays : (x : ℕ) (response : Response) (o : Option Exchange) → key_of t e.event ≡ key_of_exchange t x → t.exchange x ≡ o → representation_after_head t e r x response o v ≡ v
     head_stays x response None of_key row = refl
     head_stays x response (Some w) of_key row = stays_if (updates t e r w v) _ (λ h.
         not_ours x w of_key row (aims_key t x r w v exchanges row (number_is w.aim r (and_then _ _ (and_left _ _ h))) there))
 
-    piece_stays : (x : ℕ) (bytes : List ℕ) (o : Option Exchange) → key_of t e.event ≡ key_of_exchange t x → t.exchange x ≡ o → pieced e r x bytes o v ≡ v
+    piece_stays : (x : ℕ) (bytes : List ℕ) (o : Option Exchange) → key_of t e.event ≡ key_of_exchange t x → t.exchange x ≡ o → representation_after_piece e r x bytes o v ≡ v
     piece_stays x bytes None of_key row = refl
     piece_stays x bytes (Some w) of_key row = stays_if (family x w == r) _ (λ h.
         not_ours x w of_key row (family_key t x r w v exchanges row (eq_is (family x w) r h) there))
@@ -139,7 +139,7 @@ module _ (t : Tables) (e : Entry) (exchanges : ExchangeKeys t) (consumers : Cons
     heard_representation _ at = refl
 
     -- nor does it become gone by itself
-    not_doomed : (is_current t v.key r && (is_key (doomed t e) v.key || is_key (bypassed e) v.key)) ≡ true → ⊥
+    not_doomed : (is_current t v.key r && (is_key (doomed t e) v.key || is_key (bypass_key e) v.key)) ≡ true → ⊥
     not_doomed h = elim (or_cases _ _ (and_then _ _ h)) [
       | inl doom ↦ not_other t e.event v.key (doomed_key t e v.key (key_is _ v.key doom)) other
       | inr past ↦ not_other t e.event v.key (far.bypassed v.key (key_is _ v.key past)) other
@@ -184,7 +184,7 @@ module _ (t : Tables) (e : Entry) (exchanges : ExchangeKeys t) (consumers : Cons
 
     pub not_going : goes_itself t e r v ≡ false
     not_going =
-        all_none (is_current t v.key r && (is_key (doomed t e) v.key || is_key (bypassed e) v.key)) (goes_by_head t e r) (loses_in r e.acts) (misreads_in r e.acts) (ends_early t e r v && not (is_keepable v))
+        all_none (is_current t v.key r && (is_key (doomed t e) v.key || is_key (bypass_key e) v.key)) (goes_by_head t e r) (loses_in r e.acts) (misreads_in r e.acts) (ends_early t e r v && not (is_keepable v))
         (not_true _ not_doomed) (not_true _ (not_by_head e.event refl)) (far.loses r v there other) (far.misreads r v there other)
         (not_true _ (λ h. not_ended (t.exchange r) refl (and_then _ _ (and_left _ _ h))))
 

@@ -12,7 +12,7 @@ use Rattle.hc_event.specs.declared.event.Request.{Request}
 use Rattle.hc_event.specs.declared.event.Response.{Response}
 use Rattle.hc_rules.specs.declared.room.Limits.{Limits}
 use Rattle.hc_rules.proofs.RangeReads.{same_bytes}
-use Rattle.hc_model.specs.Answers.{accepted, said, lost}
+use Rattle.hc_model.specs.Answers.{accepted_acts, answer_acts, loss_acts}
 use Rattle.hc_model.specs.Cases.{case_at, is_founding, is_joining}
 use Rattle.hc_model.specs.Closings.{closing}
 use Rattle.hc_model.specs.Currents.{current, is_usable}
@@ -21,7 +21,7 @@ use Rattle.hc_model.specs.ExchangeRows.{exchange_after, exchange_heard, exchange
 use Rattle.hc_model.specs.Flaws.{Flaw}
 use Rattle.hc_model.specs.Keys.{HasRow}
 use Rattle.hc_model.specs.Moves.{Move, acts_of}
-use Rattle.hc_model.specs.RepresentationRows.{representation_after, representation_heard, representation_acted, founded_at, represented, headed, renewed, updates, resumes, pieced, ended, length_in, writer_at}
+use Rattle.hc_model.specs.RepresentationRows.{representation_after, representation_heard, representation_acted, founded_at, new_representation, representation_after_head, with_renewed_head, updates, resumes, representation_after_piece, with_total_if_none, length_in, writer_at}
 use Rattle.hc_model.specs.Rows.{Tables, Exchange, Representation, Consumer}
 use Rattle.hc_model.specs.Tables.{after_accepted}
 use Rattle.hc_model.specs.Weights.{evicted}
@@ -75,13 +75,13 @@ opened_said t now ev flaw _ rest o (parts.misreads c want r at is) none h = absu
 
 opened_by : (limits : Limits) (t : Tables) (now : ℕ) (ev : Event) (flaw : Flaw) (acts : List Act) (o : Opening) → IsAnswer limits t now ev flaw acts → opening_in acts ≡ Some o → IsOpening t ev o
 opened_by limits t now ev flaw _ o (parts.told silent) h =
-    let seen : Entry = record { now = now; event = ev; acts = said t now ev flaw ++ lost flaw } in
+    let seen : Entry = record { now = now; event = ev; acts = answer_acts t now ev flaw ++ loss_acts flaw } in
     absurd (none_some o (sym ((asks_evicted 0 0 (evicted limits t now ev) _).opens ∙ ((asks_lost 0 0 flaw _).opens ∙ (asks_closes 0 0 (closing t seen)).opens)) ∙ h))
 opened_by limits t now ev flaw _ o parts.asked h =
-    let seen : Entry = record { now = now; event = ev; acts = said t now ev flaw ++ lost flaw } in
-    opened_said t now ev flaw (said t now ev flaw) _ o (said_is t now ev flaw) ((asks_closed 0 0 (closing t seen) _).opens ∙ (asks_loss 0 0 flaw).opens) h
+    let seen : Entry = record { now = now; event = ev; acts = answer_acts t now ev flaw ++ loss_acts flaw } in
+    opened_said t now ev flaw (answer_acts t now ev flaw) _ o (said_is t now ev flaw) ((asks_closed 0 0 (closing t seen) _).opens ∙ (asks_loss 0 0 flaw).opens) h
 
-pub opened_is : (limits : Limits) (t : Tables) (now : ℕ) (ev : Event) (flaw : Flaw) (o : Opening) → opening_in (accepted limits t now ev flaw) ≡ Some o → IsOpening t ev o
+pub opened_is : (limits : Limits) (t : Tables) (now : ℕ) (ev : Event) (flaw : Flaw) (o : Opening) → opening_in (accepted_acts limits t now ev flaw) ≡ Some o → IsOpening t ev o
 opened_is limits t now ev flaw o h = opened_by limits t now ev flaw _ o (answer_is limits t now ev flaw) h
 
 -- ROWS BEFORE AND AFTER
@@ -161,25 +161,25 @@ module _ (t : Tables) (e : Entry) where
   kept_if r true v u is = is
   kept_if r false v u is = kept refl
 
-  writer_if : (r x : ℕ) (response : Response) (w : Exchange) (v : Representation) (b : Bool) → renews b x v.writer ≡ (renewed t e x response w v).writer → t.exchange x ≡ Some w → w.aim ≡ Some r → WasWriter r v (renewed t e x response w v)
+  writer_if : (r x : ℕ) (response : Response) (w : Exchange) (v : Representation) (b : Bool) → renews b x v.writer ≡ (with_renewed_head t e x response w v).writer → t.exchange x ≡ Some w → w.aim ≡ Some r → WasWriter r v (with_renewed_head t e x response w v)
   writer_if r x response w v true is row aim = resumed x w row aim (sym is)
   writer_if r x response w v false is row aim = kept (sym is)
 
-  headed_writer : (r x : ℕ) (response : Response) (v : Representation) (o : Option Exchange) → t.exchange x ≡ o → WasWriter r v (headed t e r x response o v)
+  headed_writer : (r x : ℕ) (response : Response) (v : Representation) (o : Option Exchange) → t.exchange x ≡ o → WasWriter r v (representation_after_head t e r x response o v)
   headed_writer r x response v None row = kept refl
   headed_writer r x response v (Some w) row = elim (bool_cases (updates t e r w v)) [
     | inr stays ↦ rw stays (kept refl)
     | inl goes ↦ rw goes (writer_if r x response w v (is_joining (case_at t e) && resumes t response w v) refl row (number_is w.aim r (and_then _ _ (and_left _ _ goes))))
   ]
 
-  pieced_writer : (r x : ℕ) (bytes : List ℕ) (v : Representation) (o : Option Exchange) → WasWriter r v (pieced e r x bytes o v)
+  pieced_writer : (r x : ℕ) (bytes : List ℕ) (v : Representation) (o : Option Exchange) → WasWriter r v (representation_after_piece e r x bytes o v)
   pieced_writer r x bytes v None = kept refl
   pieced_writer r x bytes v (Some w) = kept_if r (family x w == r) v _ (kept refl)
 
   heard_writer : (r : ℕ) (v : Representation) (ev : Event) → WasWriter r v (representation_heard t e r ev v)
   heard_writer r v (event.Head x response) = headed_writer r x response v (t.exchange x) refl
   heard_writer r v (event.Piece x bytes) = pieced_writer r x bytes v (t.exchange x)
-  heard_writer r v (event.End x) = kept_if r (x == r) v (ended (length_in (t.exchange x)) v) (kept refl)
+  heard_writer r v (event.End x) = kept_if r (x == r) v (with_total_if_none (length_in (t.exchange x)) v) (kept refl)
   heard_writer r v _ = kept refl
 
   acted_writer : (r : ℕ) (v u : Representation) → representation_acted t e r v (representation_heard t e r e.event v) ≡ u → WasWriter r v (representation_heard t e r e.event v) → WasWriter r v u
@@ -191,11 +191,11 @@ module _ (t : Tables) (e : Entry) where
     was_row : (v : Representation) → t.representation r ≡ Some v → u.key ≡ v.key → WasWriter r v u → WasRow r u
     new_row : (response : Response) (w : Exchange) → t.exchange r ≡ Some w → u.key ≡ w.request.key → u.writer ≡ writer_at r response → WasRow r u
 
-  founded_with : (r x : ℕ) (response : Response) (u : Representation) (b : Bool) (o : Option Exchange) → (b ≡ true → x ≡ r) → t.exchange x ≡ o → (if b then option_map (represented r e response) o else None) ≡ Some u → WasRow r u
+  founded_with : (r x : ℕ) (response : Response) (u : Representation) (b : Bool) (o : Option Exchange) → (b ≡ true → x ≡ r) → t.exchange x ≡ o → (if b then option_map (new_representation r e response) o else None) ≡ Some u → WasRow r u
   founded_with r x response u false o here row h = absurd (none_some u h)
   founded_with r x response u true None here row h = absurd (none_some u h)
   founded_with r x response u true (Some w) here row h =
-      let is = sym (some_inj (represented r e response w) u h) in
+      let is = sym (some_inj (new_representation r e response w) u h) in
       new_row response w (ap t.exchange (sym (here refl)) ∙ row) (ap (λ (z : Representation). z.key) is) (ap (λ (z : Representation). z.writer) is)
 
   founded_new : (r : ℕ) (u : Representation) (ev : Event) → founded_at t e r ev ≡ Some u → WasRow r u

@@ -27,10 +27,10 @@ use Rattle.hc_event.specs.declared.place.BoundBy.TheVariants as by
 use Rattle.hc_event.specs.declared.place.Place.{Place}
 use Rattle.hc_event.specs.declared.place.Place.TheVariants as place
 use Rattle.hc_model.specs.ActFilters.{wait_in, Showing, showing_in}
-use Rattle.hc_model.specs.Answers.{accepted, said, lost}
+use Rattle.hc_model.specs.Answers.{accepted_acts, answer_acts, loss_acts}
 use Rattle.hc_model.specs.Cases.{case_at, is_founding}
 use Rattle.hc_model.specs.Closings.{closing}
-use Rattle.hc_model.specs.ConsumerRows.{bound_to_wanted, place_by_case, passed_on, by_head, by_fault, by_opening, becomes_shared, consumer_after, consumer_settled, consumer_acted, consumer_heard, consumer_made, waiting, waiting_place, passed_by, kept_by, opened_place, place_for_hole, unless_bound, with_opening, shown_place, own_after, left_to, due_after, back_in_line, started}
+use Rattle.hc_model.specs.ConsumerRows.{bound_to_wanted, place_by_case, passed_on, by_head, by_fault, by_opening, becomes_shared, consumer_after, consumer_settled, consumer_acted, consumer_heard, consumer_made, waiting, waiting_place, passed_by, kept_by, opened_place, place_for_hole, unless_bound, with_opening, shown_place, own_after, left_to, due_after, back_in_line, new_consumer}
 use Rattle.hc_model.specs.Currents.{current, row_of, is_number}
 use Rattle.hc_model.specs.Denials.{denial}
 use Rattle.hc_model.specs.Entries.{Entry, Content, Contents}
@@ -41,12 +41,12 @@ use Rattle.hc_model.specs.Heads.{founded_total}
 use Rattle.hc_model.specs.Keys.{HasRow, IsOfOneKey, ExchangeKeys, ConsumerKeys, entry_of, KeysAreKept, KeysBegin}
 use Rattle.hc_model.specs.Moves.{Move, acts_of}
 use Rattle.hc_model.specs.Reading.{reads, bound_to}
-use Rattle.hc_model.specs.RepresentationRows.{representation_after, founded_at, represented}
+use Rattle.hc_model.specs.RepresentationRows.{representation_after, founded_at, new_representation}
 use Rattle.hc_model.specs.Rows.{Tables, Exchange, Representation, Consumer}
 use Rattle.hc_model.specs.Sound.{Sound, IsBound}
 use Rattle.hc_model.specs.Sound as sound
 use Rattle.hc_model.specs.StartingOver.{starts_over}
-use Rattle.hc_model.specs.Tables.{after_accepted, begun, loaded}
+use Rattle.hc_model.specs.Tables.{after_accepted, first_tables, representation_of_content}
 use Rattle.hc_model.specs.Weights.{evicted}
 use Rattle.hc_model.specs.Writers.{loses_writing, survivor}
 use Rattle.hc_model.proofs.ActParts.{IsAnswer, IsSaid, answer_is, said_is}
@@ -56,7 +56,7 @@ use Rattle.hc_model.proofs.KeyNames.{eq_is, opener_key, aims_key}
 use Rattle.hc_model.proofs.KeysKeep.{HasExchange, IsOpening, current_row, opened_is, exchange_stays, exchange_new, representation_stays}
 use Rattle.hc_model.proofs.KeysKeep as keeps
 use Rattle.hc_model.proofs.NumbersKeep.{opens_next}
-use Rattle.hc_model.proofs.Pens.{same_row}
+use Rattle.hc_model.proofs.ExclusiveWriters.{same_row}
 use Rattle.hc_model.proofs.PieceKeeps.{some_inj}
 use Rattle.hc_model.proofs.PollKeys.{IsNear}
 use Rattle.hc_model.proofs.PollKeys as polls
@@ -69,7 +69,7 @@ pub record IsMute (acts : List Act) : Type 0 where
   pub shows : showing_in acts ≡ None
   pub waits : (d : ℕ) → wait_in d acts ≡ None
 
-mute_lost : (flaw : Flaw) → IsMute (lost flaw)
+mute_lost : (flaw : Flaw) → IsMute (loss_acts flaw)
 mute_lost NoFlaw = record { opens = refl; shows = refl; waits = λ d. refl }
 mute_lost (Loses r kind) = record { opens = refl; shows = refl; waits = λ d. refl }
 mute_lost (Misreads r) = record { opens = refl; shows = refl; waits = λ d. refl }
@@ -82,7 +82,7 @@ mute_closes : (ys : List ℕ) → IsMute (map act.Close ys)
 mute_closes [] = record { opens = refl; shows = refl; waits = λ d. refl }
 mute_closes (y ∷ ys) = let m = mute_closes ys in record { opens = m.opens; shows = m.shows; waits = m.waits }
 
-mute_loss : (flaw : Flaw) (rest : List Act) → IsMute rest → IsMute (lost flaw ++ rest)
+mute_loss : (flaw : Flaw) (rest : List Act) → IsMute rest → IsMute (loss_acts flaw ++ rest)
 mute_loss NoFlaw rest mute = mute
 mute_loss (Loses r kind) rest mute = record { opens = mute.opens; shows = mute.shows; waits = mute.waits }
 mute_loss (Misreads r) rest mute = mute
@@ -115,13 +115,13 @@ shown_said t now ev flaw _ rest s (parts.misreads c want r at is) mute h = absur
 
 shown_by : (limits : Limits) (t : Tables) (now : ℕ) (ev : Event) (flaw : Flaw) (acts : List Act) (s : Showing) → IsAnswer limits t now ev flaw acts → showing_in acts ≡ Some s → IsShowing t ev s acts
 shown_by limits t now ev flaw _ s (parts.told silent) h =
-    let seen : Entry = record { now = now; event = ev; acts = said t now ev flaw ++ lost flaw } in
+    let seen : Entry = record { now = now; event = ev; acts = answer_acts t now ev flaw ++ loss_acts flaw } in
     absurd (none_some s (sym (mute_evicted (evicted limits t now ev) _ (mute_loss flaw _ (mute_closes (closing t seen)))).shows ∙ h))
 shown_by limits t now ev flaw _ s parts.asked h =
-    let seen : Entry = record { now = now; event = ev; acts = said t now ev flaw ++ lost flaw } in
-    shown_said t now ev flaw (said t now ev flaw) _ s (said_is t now ev flaw) (mute_closed (closing t seen) _ (mute_lost flaw)) h
+    let seen : Entry = record { now = now; event = ev; acts = answer_acts t now ev flaw ++ loss_acts flaw } in
+    shown_said t now ev flaw (answer_acts t now ev flaw) _ s (said_is t now ev flaw) (mute_closed (closing t seen) _ (mute_lost flaw)) h
 
-pub shown_is : (limits : Limits) (t : Tables) (now : ℕ) (ev : Event) (flaw : Flaw) (s : Showing) → showing_in (accepted limits t now ev flaw) ≡ Some s → IsShowing t ev s (accepted limits t now ev flaw)
+pub shown_is : (limits : Limits) (t : Tables) (now : ℕ) (ev : Event) (flaw : Flaw) (s : Showing) → showing_in (accepted_acts limits t now ev flaw) ≡ Some s → IsShowing t ev s (accepted_acts limits t now ev flaw)
 shown_is limits t now ev flaw s h = shown_by limits t now ev flaw _ s (answer_is limits t now ev flaw) h
 
 -- PLACES
@@ -185,7 +185,7 @@ module _ (limits : Limits) (t : Tables) (now : ℕ) (flaw : Flaw) (s : Sound t) 
     unfolding representation_after
     founded_row x w response (Some v) at is founding there = representation_stays t e x w.request.key (v, there, one.exchanges.founded x w v is there)
     founded_row x w response None at is founding there =
-        (represented x e response w, ap (representation_after t e x) there ∙ (ap (founded_at t e x) at ∙ rw (founding, eq-refl x, is) refl), refl)
+        (new_representation x e response w, ap (representation_after t e x) there ∙ (ap (founded_at t e x) at ∙ rw (founding, eq-refl x, is) refl), refl)
 
     founded : (x : ℕ) (w : Exchange) (response : Response) → ev ≡ event.Head x response → t.exchange x ≡ Some w → w.request.key ≡ k.request.key → is_founding (case_at t e) ≡ true → P x
     founded x w response at is same founding =
@@ -403,8 +403,8 @@ module _ (limits : Limits) (t : Tables) (now : ℕ) (flaw : Flaw) (s : Sound t) 
   started_names : (c : ℕ) (z : Consumer) (f : Event) → consumer_made c now f ≡ Some z → NamesItsKey z
   started_names c z (event.Start d request) h = by_test (d == c) h
     where
-      by_test : (b : Bool) → (if b then Some (started now request) else None) ≡ Some z → NamesItsKey z
-      by_test true is = subst NamesItsKey (some_inj (started now request) z is) (record { place = tt; own = tt; undue = λ none. refl })
+      by_test : (b : Bool) → (if b then Some (new_consumer now request) else None) ≡ Some z → NamesItsKey z
+      by_test true is = subst NamesItsKey (some_inj (new_consumer now request) z is) (record { place = tt; own = tt; undue = λ none. refl })
       by_test false is = absurd (none_some z is)
   started_names c z _ h = absurd (none_some z h)
 
@@ -538,11 +538,11 @@ keys_are_kept limits t now flaw s one event goes = record {
 
 -- FROM THE BEGINNING
 
-loaded_writer : (o : Option Content) (v : Representation) (x : ℕ) → option_map loaded o ≡ Some v → v.writer ≡ Some x → ⊥
+loaded_writer : (o : Option Content) (v : Representation) (x : ℕ) → option_map representation_of_content o ≡ Some v → v.writer ≡ Some x → ⊥
 loaded_writer None v x row is = none_some v row
-loaded_writer (Some item) v x row is = none_some x (ap (λ (z : Representation). z.writer) (some_inj (loaded item) v row) ∙ is)
+loaded_writer (Some item) v x row is = none_some x (ap (λ (z : Representation). z.writer) (some_inj (representation_of_content item) v row) ∙ is)
 
-none_bound : (contents : Contents) (r c : ℕ) (k : Consumer) → IsBound (begun contents) r c k → ⊥
+none_bound : (contents : Contents) (r c : ℕ) (k : Consumer) → IsBound (first_tables contents) r c k → ⊥
 none_bound contents r c k (sound.is_bound lo hi how row at) = none_some k row
 
 pub keys_begin : KeysBegin

@@ -9,7 +9,7 @@ use Rattle.hc_model.specs.Closings.{is_last_reader}
 use Rattle.hc_model.specs.Effects.{left_by, is_unkeepable, going_with}
 use Rattle.hc_model.specs.Exchanges.{is_open}
 use Rattle.hc_model.specs.Lawful.{Lawful}
-use Rattle.hc_model.specs.Reading.{own_open, shared, if_open}
+use Rattle.hc_model.specs.Reading.{own_open, shared_exchange, if_open}
 use Rattle.hc_model.specs.Rows.{Tables, Exchange, Representation, Consumer}
 use Rattle.hc_model.proofs.Basics.{some_none}
 
@@ -20,7 +20,7 @@ pub left_own : (t : Tables) (c x : ℕ) (k : Consumer) → own_open t k ≡ Some
 left_own t c x k own = rw own refl
 
 -- else that of the writing that it reads as the last one
-pub left_shared : (t : Tables) (c : ℕ) (k : Consumer) → own_open t k ≡ None → is_last_reader t c k.place ≡ true → left_by t c k ≡ shared t k.place
+pub left_shared : (t : Tables) (c : ℕ) (k : Consumer) → own_open t k ≡ None → is_last_reader t c k.place ≡ true → left_by t c k ≡ shared_exchange t k.place
 left_shared t c k own last = rw (own, last) refl
 
 pub left_others : (t : Tables) (c : ℕ) (k : Consumer) → own_open t k ≡ None → is_last_reader t c k.place ≡ false → left_by t c k ≡ None
@@ -49,8 +49,8 @@ module _ (t : Tables) (law : Lawful t) (c : ℕ) (k : Consumer) (row : t.consume
   left_direct x at =
       let a = law.places.direct c x k row at in
       let own : own_open t k ≡ if_open t x = ap (option_and_then (if_open t)) a.own in
-      ap (λ (o : Option ℕ). option_or o (if is_last_reader t c k.place then shared t k.place else None)) own
-      ∙ (ap (λ (p : Place). option_or (if_open t x) (if is_last_reader t c p then shared t p else None)) at ∙ or_none (if_open t x))
+      ap (λ (o : Option ℕ). option_or o (if is_last_reader t c k.place then shared_exchange t k.place else None)) own
+      ∙ (ap (λ (p : Place). option_or (if_open t x) (if is_last_reader t c p then shared_exchange t p else None)) at ∙ or_none (if_open t x))
     where
       or_none : (o : Option ℕ) → option_or o None ≡ o
       or_none None = refl

@@ -1,7 +1,7 @@
 pub mod Basics
 pub mod HoleLemmas
 pub mod Once
-pub mod Pens
+pub mod ExclusiveWriters
 pub mod PieceKeeps
 pub mod QuietKeeps
 pub mod HolesOpened
@@ -113,7 +113,7 @@ pub mod FoundCases
 pub mod FoundOrder
 pub mod DoomFrames
 pub mod LostFrames
-pub mod ModestRuns
+pub mod RunsWithinLimits
 pub mod FailsTold
 pub mod LeftBy
 pub mod GivingWay

@@ -11,9 +11,9 @@ use Rattle.hc_model.specs.Entries.{Entry}
 use Rattle.hc_model.specs.Exchanges.{front, family}
 use Rattle.hc_model.specs.Failures.{becomes_due, cause_of_stop, cause_of_loss, cause_by_loss}
 use Rattle.hc_model.specs.Reading.{is_written}
-use Rattle.hc_model.specs.RepresentationRows.{representation_after, representation_acted, pieced, filled}
+use Rattle.hc_model.specs.RepresentationRows.{representation_after, representation_acted, representation_after_piece, with_stored_bytes}
 use Rattle.hc_model.specs.Rows.{Tables, Exchange, Representation, Consumer}
-use Rattle.hc_model.specs.Sound.{Sound, IsBound, IsServed, HasPen}
+use Rattle.hc_model.specs.Sound.{Sound, IsBound, IsServed, IsExclusiveWriter}
 use Rattle.hc_model.specs.Writers.{loses_writing, survivor, goes_on_with}
 use Rattle.hc_event.specs.declared.place.BoundBy.{BoundBy}
 use Rattle.hc_event.specs.declared.place.Place.TheVariants as place
@@ -43,16 +43,16 @@ not_or true l h = refl
 not_or false true h = refl
 not_or false false h = absurd (let never : false ≡ true = h in cc)
 
-not_kept : (b : Bool) (at x : ℕ) (bytes : List ℕ) (v : Representation) → b ≡ false → KeepsStore v (filled b at x bytes v)
+not_kept : (b : Bool) (at x : ℕ) (bytes : List ℕ) (v : Representation) → b ≡ false → KeepsStore v (with_stored_bytes b at x bytes v)
 not_kept true at x bytes v h = absurd (let never : true ≡ false = h in cc)
 not_kept false at x bytes v h = (refl, refl, refl)
 
 -- a piece that is lost isn't stored
-lost_piece : (e : Entry) (r x : ℕ) (bytes : List ℕ) (o : Option Exchange) (v : Representation) → loses_in r e.acts ≡ true → KeepsStore v (pieced e r x bytes o v)
+lost_piece : (e : Entry) (r x : ℕ) (bytes : List ℕ) (o : Option Exchange) (v : Representation) → loses_in r e.acts ≡ true → KeepsStore v (representation_after_piece e r x bytes o v)
 lost_piece e r x bytes None v lost = (refl, refl, refl)
 lost_piece e r x bytes (Some w) v lost =
     let b = not (v.is_lost || loses_in r e.acts) in
-    keeps_if (nat_eq (family x w) r) v (filled b (front w) x bytes v) (not_kept b (front w) x bytes v (not_or v.is_lost (loses_in r e.acts) lost))
+    keeps_if (nat_eq (family x w) r) v (with_stored_bytes b (front w) x bytes v) (not_kept b (front w) x bytes v (not_or v.is_lost (loses_in r e.acts) lost))
 
 cond_left : {A : Type 0} (b : Bool) (x y : A) → b ≡ true → cond b x y ≡ x
 cond_left true x y h = refl
@@ -67,7 +67,7 @@ unfolding representation_after
 lost_row t now x r bytes acts v u row lost fresh is =
     let e = of_piece now x bytes acts in
     let keeps = lost_piece e r x bytes (t.exchange x) v lost in
-    subst (IsLostRow t e r v) (some_inj (representation_acted t e r v (pieced e r x bytes (t.exchange x) v)) u is) (record {
+    subst (IsLostRow t e r v) (some_inj (representation_acted t e r v (representation_after_piece e r x bytes (t.exchange x) v)) u is) (record {
       lost = or_left (loses_in r acts) _ lost;
       alone_is = cond_left (loses_in r acts && not v.is_lost) _ _ (and_both (loses_in r acts) (not v.is_lost) lost (ap not fresh));
       stored_is = keeps.0;

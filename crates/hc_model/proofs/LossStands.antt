@@ -16,7 +16,7 @@ use Rattle.hc_rules.specs.declared.room.Limits.{Limits}
 use Rattle.hc_rules.specs.HeadCases.{head_case}
 use Rattle.hc_rules.specs.Needs.{route_of}
 use Rattle.hc_model.specs.ActFilters.{has_loss, loses_in}
-use Rattle.hc_model.specs.Answers.{lost}
+use Rattle.hc_model.specs.Answers.{loss_acts}
 use Rattle.hc_model.specs.Cases.{case_at, head_view, is_founding, is_joining}
 use Rattle.hc_model.specs.Closings.{closing}
 use Rattle.hc_model.specs.Currents.{is_number}
@@ -132,14 +132,14 @@ module _ (limits : Limits) (t : Tables) (now : ℕ) (flaw : Flaw) (s : Sound t) 
         ap (head_writes t (lossless e) x response) row
         ∙ (is_joined (is_founding (case_at t (lossless e))) (is_joining (case_at t (lossless e))) (may_validate t w response) (Some x) w.aim founds_not joins_lossless ∙ aim)
 
-    by_flaw : (f : Flaw) → flaw ≡ f → has_loss (lost f) ≡ false
+    by_flaw : (f : Flaw) → flaw ≡ f → has_loss (loss_acts f) ≡ false
     unfolding may_stand
     by_flaw NoFlaw is = refl
     by_flaw (Misreads q) is = refl
     by_flaw (Loses q kind) is =
         let xs = closing t (before limits t now flaw s ev) in
         let rs = evicted limits t now ev in
-        let acts_are : e.acts ≡ map act.Evicted rs ++ (act.Lost q kind ∷ map act.Close xs) = ap (λ f. map act.Evicted rs ++ (lost f ++ map act.Close xs)) is in
+        let acts_are : e.acts ≡ map act.Evicted rs ++ (act.Lost q kind ∷ map act.Close xs) = ap (λ f. map act.Evicted rs ++ (loss_acts f ++ map act.Close xs)) is in
         let flaw_is : flaw_in e.acts ≡ Loses q kind = ap flaw_in acts_are ∙ flaw_closes q kind xs rs in
         elim (or_cases (is_denied e.acts) (may_be limits t e (flaw_in e.acts)) stand) [
           | inl denied ↦ absurd (false_true (sym (ap is_denied acts_are ∙ undenied q kind xs rs) ∙ denied))

@@ -7,7 +7,7 @@ use Rattle.hc_sparse.specs.Cells.{Covers}
 use Rattle.hc_model.specs.Holes.{covers}
 use Rattle.hc_model.specs.Reading.{is_written, bound, is_bound_place, is_bound, offset, hi_of}
 use Rattle.hc_model.specs.Rows.{Tables, Representation, Consumer}
-use Rattle.hc_model.specs.Sound.{Sound, Among, IsBound, IsFirst, HasPen, IsServed}
+use Rattle.hc_model.specs.Sound.{Sound, Among, IsBound, IsFirst, IsExclusiveWriter, IsServed}
 use Rattle.hc_model.specs.Writers.{may_write, bound_kind, bound_as, exclusive, came_alone, has_more, lacks_some}
 use Rattle.hc_event.specs.declared.place.Place.{Place}
 use Rattle.hc_rules.specs.Least.{least, lesser}
@@ -16,7 +16,7 @@ use Rattle.hc_rules.specs.declared.admission.BoundKind.TheVariants as kind
 use Rattle.hc_event.specs.declared.place.Place.TheVariants as place
 use Rattle.hc_model.specs.Sound as sound
 use Rattle.hc_model.proofs.HoleLemmas.{bool_cases, covers_all}
-use Rattle.hc_model.proofs.Pens.{same_row}
+use Rattle.hc_model.proofs.ExclusiveWriters.{same_row}
 
 -- THE LEAST OF A LIST OF ONE NUMBER
 
@@ -172,9 +172,9 @@ pub goes_on_or_rests : (t : Tables) (r c : ℕ) (v : Representation) (k : Consum
 goes_on_or_rests t r c v k s row reader none_due unwritten kept = elim (s.writes.served r c v k row reader none_due) [
   | sound.shares on ↦ absurd (let never : false ≡ true = sym unwritten ∙ on in cc)
   | sound.reads hi end covered ↦ inr (record { hi = hi; end = end; covered = covered })
-  | sound.writes pen ↦ by_pen pen
+  | sound.writes exclusive_writer ↦ by_exclusive_writer exclusive_writer
 ]
   where
-    by_pen : HasPen t r v c → (exclusive t r v ≡ Some c) ⊎ HasRest t v k
-    by_pen (sound.first fresh is) = by_first t r c v k s reader none_due unwritten is
-    by_pen (sound.alone lost is) = absurd (let never : false ≡ true = sym kept ∙ lost in cc)
+    by_exclusive_writer : IsExclusiveWriter t r v c → (exclusive t r v ≡ Some c) ⊎ HasRest t v k
+    by_exclusive_writer (sound.first fresh is) = by_first t r c v k s reader none_due unwritten is
+    by_exclusive_writer (sound.alone lost is) = absurd (let never : false ≡ true = sym kept ∙ lost in cc)

@@ -22,7 +22,7 @@ use Rattle.hc_model.specs.Rows.{Tables, Exchange, Representation, Consumer}
 use Rattle.hc_model.specs.StartingOver.{starts_over}
 use Rattle.hc_model.specs.Writers.{loses_writing, survivor, goes_on_with}
 use Rattle.hc_model.proofs.Basics.{and_right, none_some}
-use Rattle.hc_model.proofs.Pens.{same_row, writer_some}
+use Rattle.hc_model.proofs.ExclusiveWriters.{same_row, writer_some}
 use Rattle.hc_model.proofs.PieceKeeps.{eq_cases, some_inj}
 use Rattle.hc_model.proofs.PieceServes.{IsQuietActs, acted_quiet}
 use Rattle.hc_model.proofs.Stops.{writer_open}

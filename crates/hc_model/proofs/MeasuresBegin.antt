@@ -3,7 +3,7 @@ use Rattle.std.proofs.Common.{◌≡◌, ◌⊎◌, inl, inr, ℕ, ◌+◌, ◌<
 use Rattle.std.specs.Prelude.{is_some, find, nat_lt, nat_le, option_map, ◌==◌}
 use Rattle.std.proofs.lemmas.Bool.Decides.{nat_tests}
 use Rattle.hc_sparse.proofs.CellLemmas.{inside-cases}
-use Rattle.hc_sparse.specs.Cells.{written, Cells}
+use Rattle.hc_sparse.specs.Cells.{cells_with, Cells}
 use Rattle.hc_sparse.specs.Runs.{cells_of, end_of}
 use Rattle.hc_sparse.specs.declared.run.Run.{Run}
 use Rattle.hc_rules.specs.declared.room.Limits.{Limits}
@@ -11,12 +11,12 @@ use Rattle.hc_model.specs.Beginnings.{may_begin, are_good, is_good, ascend_from,
 use Rattle.hc_model.specs.Entries.{Content, Contents}
 use Rattle.hc_model.specs.Measures.{Measures}
 use Rattle.hc_model.specs.Rows.{Representation}
-use Rattle.hc_model.specs.Tables.{begun, loaded, last_end}
+use Rattle.hc_model.specs.Tables.{first_tables, representation_of_content, last_end}
 use Rattle.hc_model.proofs.Basics.{and_left, and_right, none_some}
 use Rattle.hc_model.proofs.HoleLemmas.{bool_cases}
 use Rattle.hc_model.proofs.PieceKeeps.{eq_cases, some_inj}
 
-written_some : (at x p : ℕ) (bytes : List ℕ) (f : Cells) → ((p < at) ⊎ (at + length bytes ≤ p) → is_some (f p) ≡ true) → is_some (written at x bytes f p) ≡ true
+written_some : (at x p : ℕ) (bytes : List ℕ) (f : Cells) → ((p < at) ⊎ (at + length bytes ≤ p) → is_some (f p) ≡ true) → is_some (cells_with at x bytes f p) ≡ true
 written_some at x p bytes f old = elim (inside-cases at (length bytes) p) [
   | inl here ↦ rw here.0 refl
   | inr off ↦ rw off.0 (old off.1)
@@ -73,10 +73,10 @@ module _ (limits : Limits) (contents : Contents) where
     unfolding may_begin
     good = and_left _ _ (and_left _ _ (and_left _ _ (and_left _ _ (and_left _ _ may))))
 
-    tight_of : (r n : ℕ) (z : Option Content) (v : Representation) → find (of_number r) contents.items ≡ z → option_map loaded z ≡ Some v → v.reach ≡ n + 1 → is_some (v.body n) ≡ true
+    tight_of : (r n : ℕ) (z : Option Content) (v : Representation) → find (of_number r) contents.items ≡ z → option_map representation_of_content z ≡ Some v → v.reach ≡ n + 1 → is_some (v.body n) ≡ true
     tight_of r n None v found is ends = absurd (none_some v is)
     tight_of r n (Some item) v found is ends =
-        let same : loaded item ≡ v = some_inj (loaded item) v is in
+        let same : representation_of_content item ≡ v = some_inj (representation_of_content item) v is in
         let l = laid r item [] contents.items good found in
         ap (λ (q : Representation). is_some (q.body n)) (sym same) ∙ ends_tight n 0 0 item.runs l.rise (ap (λ (q : Representation). q.reach) same ∙ ends)
 
@@ -88,10 +88,10 @@ module _ (limits : Limits) (contents : Contents) where
         let le : last_end item.runs ≤ n = grind (arith, nat_tests) in
         omega arith
 
-    within_of : (r total : ℕ) (z : Option Content) (v : Representation) → find (of_number r) contents.items ≡ z → option_map loaded z ≡ Some v → v.head.total ≡ Some total → v.reach ≤ total
+    within_of : (r total : ℕ) (z : Option Content) (v : Representation) → find (of_number r) contents.items ≡ z → option_map representation_of_content z ≡ Some v → v.head.total ≡ Some total → v.reach ≤ total
     within_of r total None v found is known = absurd (none_some v is)
     within_of r total (Some item) v found is known =
-        let same : loaded item ≡ v = some_inj (loaded item) v is in
+        let same : representation_of_content item ≡ v = some_inj (representation_of_content item) v is in
         let l = laid r item [] contents.items good found in
         let at : last_end item.runs ≡ v.reach = ap (λ (q : Representation). q.reach) same in
         let most : last_end item.runs ≤ total = kind_within item total item.head.total (ap (λ (q : Representation). q.head.total) same ∙ known) l.right in
@@ -102,11 +102,11 @@ module _ (limits : Limits) (contents : Contents) where
     known_item r item found = (laid r item [] contents.items good found).right
 
     -- its runs rise without overlap
-    pub rising_item : (r : ℕ) (item : Content) → find (of_number r) contents.items ≡ Some item → ascend_from 0 0 item.runs ≡ true
-    rising_item r item found = (laid r item [] contents.items good found).rise
+    pub ascending_item : (r : ℕ) (item : Content) → find (of_number r) contents.items ≡ Some item → ascend_from 0 0 item.runs ≡ true
+    ascending_item r item found = (laid r item [] contents.items good found).rise
 
     -- What a store may begin with is measured.
-    pub measures_begin : Measures (begun contents)
+    pub measures_begin : Measures (first_tables contents)
     measures_begin = record {
       brings = λ x w v row on headed there. absurd (none_some w row);
       tight = λ r n v row ends. tight_of r n (find (of_number r) contents.items) v refl row ends;

@@ -3,7 +3,7 @@ use Rattle.std.proofs.Common.{◌≡◌, ◌⊎◌, inl, inr, ℕ, ◌+◌, ◌<
 use Rattle.std.specs.Prelude.{if◌then◌else◌, is_some, nat_eq, nat_lt, unwrap_or}
 use Rattle.std.specs.Option.{option_or}
 use Rattle.std.proofs.lemmas.Bool.Decides.{nat_tests}
-use Rattle.hc_sparse.specs.Cells.{written}
+use Rattle.hc_sparse.specs.Cells.{cells_with}
 use Rattle.hc_sparse.proofs.CellLemmas.{inside-cases}
 use Rattle.hc_range.specs.declared.range.Asked.{Asked}
 use Rattle.hc_range.specs.declared.range.ContentRange.{ContentRange}
@@ -26,14 +26,14 @@ use Rattle.hc_model.specs.ActFilters.{has_loss}
 use Rattle.hc_model.specs.Cases.{case_at, head_view, is_founding, is_joining, fits_asker}
 use Rattle.hc_model.specs.Denials.{denial, as_open}
 use Rattle.hc_model.specs.Entries.{Entry}
-use Rattle.hc_model.specs.Exchanges.{base, promised, front, family, length_by}
+use Rattle.hc_model.specs.Exchanges.{base, promised_bytes, front, family, length_by}
 use Rattle.hc_model.specs.Flaws.{Flaw}
 use Rattle.hc_model.specs.Heads.{founded_total}
 use Rattle.hc_model.specs.Keys.{entry_of}
 use Rattle.hc_model.specs.Measures.{Measures, IsMeasured}
 use Rattle.hc_model.specs.Measures as measures
 use Rattle.hc_model.specs.Owners.{Owners}
-use Rattle.hc_model.specs.RepresentationRows.{represented, length_in}
+use Rattle.hc_model.specs.RepresentationRows.{new_representation, length_in}
 use Rattle.hc_model.specs.Rows.{Tables, Exchange, Representation, Consumer}
 use Rattle.hc_model.specs.Sound.{Sound, IsAbout}
 use Rattle.hc_model.specs.Sound as sound
@@ -51,7 +51,7 @@ use Rattle.hc_model.proofs.HoleLemmas.{bool_cases}
 use Rattle.hc_model.proofs.Once.{taken, IsTaken, never}
 use Rattle.hc_model.proofs.PartTold.{part_within, whole_base, IsWithin}
 use Rattle.hc_model.proofs.PieceKeeps.{some_inj}
-use Rattle.hc_model.proofs.Pens.{same_row}
+use Rattle.hc_model.proofs.ExclusiveWriters.{same_row}
 use Rattle.hc_model.proofs.RepFrom.{RepFrom, rep_from, IsKept, IsEnded}
 use Rattle.hc_model.proofs.RepFrom as rep
 
@@ -145,7 +145,7 @@ module _ (limits : Limits) (t : Tables) (now : ℕ) (flaw : Flaw) (s : Sound t) 
     pub head_is : z.head ≡ w.head
     pub joined_is : z.joined ≡ w.joined
     pub base_is : base z ≡ base w
-    pub promise_is : promised z ≡ promised w
+    pub promise_is : promised_bytes z ≡ promised_bytes w
 
   pub held : (x : ℕ) (w z : Exchange) → IsSame t e x w z → z.head ≡ w.head → z.joined ≡ w.joined → IsHeld x w z
   held x w z same head_is joined_is =
@@ -250,7 +250,7 @@ module _ (limits : Limits) (t : Tables) (now : ℕ) (flaw : Flaw) (s : Sound t) 
     -- FOUNDED
 
     abbrev founded_now : Representation
-    founded_now = represented x e got.response w
+    founded_now = new_representation x e got.response w
 
     body_none : z.body ≡ []
     body_none = got.body_is ∙ (s.waits.headless x w row bare).0
@@ -300,7 +300,7 @@ module _ (limits : Limits) (t : Tables) (now : ℕ) (flaw : Flaw) (s : Sound t) 
             let at_x : event.Head y response ≡ event.Head x got.response = sym here ∙ got.at in
             let answer : response ≡ got.response = cc in
             let one : p ≡ w = same_row (t.exchange x) p w (sym (ap t.exchange same_is) ∙ also) row in
-            subst (IsMeasured z) (ap (λ (a : Exchange). represented x e got.response a) (sym one) ∙ (ap (λ (a : Response). represented x e a p) (sym answer) ∙ (ap (λ (n : ℕ). represented n e response p) (sym same_is) ∙ made))) (founded_measured on)
+            subst (IsMeasured z) (ap (λ (a : Exchange). new_representation x e got.response a) (sym one) ∙ (ap (λ (a : Response). new_representation x e a p) (sym answer) ∙ (ap (λ (n : ℕ). new_representation n e response p) (sym same_is) ∙ made))) (founded_measured on)
 
         by_own : is_joining (case_at t e) ≡ false → IsMeasured z u
         by_own off =
@@ -338,7 +338,7 @@ module _ (limits : Limits) (t : Tables) (now : ℕ) (flaw : Flaw) (s : Sound t) 
           was_there all.0 all.1 (family x w) refl (rep_from t e (family x w) (t.representation (family x w)) u refl (sym (ap now_on.representation fam) ∙ there))
       by_heard (inr got) = new_measured x w z row same got u there
 
-  written_some : (at x p : ℕ) (bytes : List ℕ) (f : Rattle.hc_sparse.specs.Cells.Cells) → ((p < at) ⊎ (at + length bytes ≤ p) → is_some (f p) ≡ true) → is_some (written at x bytes f p) ≡ true
+  written_some : (at x p : ℕ) (bytes : List ℕ) (f : Rattle.hc_sparse.specs.Cells.Cells) → ((p < at) ⊎ (at + length bytes ≤ p) → is_some (f p) ≡ true) → is_some (cells_with at x bytes f p) ≡ true
   written_some at x p bytes f old = elim (inside-cases at (length bytes) p) [
     | inl here ↦ rw here.0 refl
     | inr off ↦ rw off.0 (old off.1)

@@ -11,7 +11,7 @@ use Rattle.hc_event.specs.declared.place.BoundBy.TheVariants as by
 use Rattle.hc_model.specs.Exchanges.{is_headless}
 use Rattle.hc_model.specs.Moves as moves
 use Rattle.hc_model.specs.Moves.{Move, Nothing, Fails}
-use Rattle.hc_model.specs.Planning.{planned}
+use Rattle.hc_model.specs.Planning.{planned_move}
 use Rattle.hc_model.specs.Polls.{shows_at, shows_head, if_headless, waits_for_head, or_else, by_place, move_of}
 use Rattle.hc_model.specs.Reading.{bound_to, own_open}
 use Rattle.hc_model.specs.Rows.{Tables, Consumer}
@@ -30,7 +30,7 @@ pub data MoveBy (t : Tables) (now want c : ℕ) (k : Consumer) : Move → Type 0
   down : (cause : Cause) → k.place ≡ place.Down cause → MoveBy t now want c k (Fails cause)
   over : k.place ≡ place.Over → MoveBy t now want c k Nothing
   reads : k.shown ≡ true → IsHeard t k → MoveBy t now want c k (reading t want c k)
-  plans : k.shown ≡ false → bound_to k.place ≡ None → shows_at t k k.place ≡ None → IsHeard t k → MoveBy t now want c k (planned t now c k)
+  plans : k.shown ≡ false → bound_to k.place ≡ None → shows_at t k k.place ≡ None → IsHeard t k → MoveBy t now want c k (planned_move t now c k)
 
 cond_false : {A : Type 0} (b : Bool) (x y : A) → b ≡ false → cond b x y ≡ y
 cond_false true x y h = absurd (let never : true ≡ false = h in cc)
@@ -55,7 +55,7 @@ module _ (t : Tables) (now want c : ℕ) (k : Consumer) where
   free (place.Down cause) s row at shown none heard = refl
   free place.Over s row at shown none heard = refl
 
-  other_by : (b : Bool) → Sound t → t.consumer c ≡ Some k → k.shown ≡ b → shows_head t k ≡ None → IsHeard t k → MoveBy t now want c k (if b then reading t want c k else planned t now c k)
+  other_by : (b : Bool) → Sound t → t.consumer c ≡ Some k → k.shown ≡ b → shows_head t k ≡ None → IsHeard t k → MoveBy t now want c k (if b then reading t want c k else planned_move t now c k)
   other_by true s row shown none heard = reads shown heard
   other_by false s row shown none heard = plans shown (free k.place s row refl shown none heard) (shows_of k.place refl shown none) heard
 

@@ -8,7 +8,7 @@ use Rattle.hc_event.specs.declared.event.Response.{Response}
 use Rattle.hc_rules.specs.declared.room.Limits.{Limits}
 use Rattle.hc_event.specs.declared.place.Place.{Place}
 use Rattle.hc_event.specs.declared.place.Place.TheVariants as place
-use Rattle.hc_model.specs.Answers.{accepted}
+use Rattle.hc_model.specs.Answers.{accepted_acts}
 use Rattle.hc_model.specs.Cases.{case_at, is_joining, is_founding}
 use Rattle.hc_model.specs.Currents.{current, is_usable}
 use Rattle.hc_model.specs.Denials.{denial}
@@ -16,7 +16,7 @@ use Rattle.hc_model.specs.Entries.{Entry}
 use Rattle.hc_model.specs.ExchangeRows.{exchange_after, exchange_heard, exchange_acted, exchange_made, exchange_opened, aim_of, aim_from}
 use Rattle.hc_model.specs.Flaws.{Flaw}
 use Rattle.hc_model.specs.Laws.{NamesAreKept}
-use Rattle.hc_model.specs.RepresentationRows.{representation_after, founded_at, represented}
+use Rattle.hc_model.specs.RepresentationRows.{representation_after, founded_at, new_representation}
 use Rattle.hc_model.specs.Rows.{Tables, Exchange, Representation, Consumer}
 use Rattle.hc_model.specs.Sound.{Sound}
 use Rattle.hc_model.specs.Sound as sound
@@ -123,7 +123,7 @@ founded_quiet t e x (event.Head y response) other = elim (eq_cases y x) [
   | inr apart ↦ rw apart.0 (none_by (is_founding (case_at t e)))
 ]
   where
-    none_by : (b : Bool) → (if b && false then option_map (represented x e response) (t.exchange y) else None) ≡ None
+    none_by : (b : Bool) → (if b && false then option_map (new_representation x e response) (t.exchange y) else None) ≡ None
     none_by true = refl
     none_by false = refl
 founded_quiet t e x (event.Piece y bytes) other = refl
@@ -134,7 +134,7 @@ founded_quiet t e x (event.Doom key) other = refl
 
 module _ (limits : Limits) (t : Tables) (now : ℕ) (flaw : Flaw) (s : Sound t) (event : Event) (goes : denial t event ≡ None) where
   abbrev e : Entry
-  e = record { now = now; event = event; acts = accepted limits t now event flaw }
+  e = record { now = now; event = event; acts = accepted_acts limits t now event flaw }
 
   there : (r : ℕ) → is_some (t.representation r) ≡ true → is_some ((after_accepted t e).representation r) ≡ true
   there r was_there = stays t e r (t.representation r) was_there

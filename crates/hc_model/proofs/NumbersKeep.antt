@@ -10,7 +10,7 @@ use Rattle.hc_event.specs.declared.act.Refusal.TheVariants as refusal
 use Rattle.hc_rules.specs.declared.room.Limits.{Limits}
 use Rattle.hc_rules.specs.Refusals.{poll_refusal, start_refusal}
 use Rattle.hc_rules.specs.Refusals as refusals
-use Rattle.hc_model.specs.Answers.{accepted}
+use Rattle.hc_model.specs.Answers.{accepted_acts}
 use Rattle.hc_model.specs.Cases.{case_at, is_founding}
 use Rattle.hc_model.specs.ConsumerRows.{consumer_after, consumer_made}
 use Rattle.hc_model.specs.Denials.{denial, is_live}
@@ -19,10 +19,10 @@ use Rattle.hc_model.specs.ExchangeRows.{exchange_after, exchange_made}
 use Rattle.hc_model.specs.Exchanges.{exchange_in}
 use Rattle.hc_model.specs.Flaws.{Flaw}
 use Rattle.hc_model.specs.Laws.{NumbersAreKept}
-use Rattle.hc_model.specs.RepresentationRows.{representation_after, founded_at, represented}
+use Rattle.hc_model.specs.RepresentationRows.{representation_after, founded_at, new_representation}
 use Rattle.hc_model.specs.Rows.{Tables, Exchange, Representation, Consumer}
 use Rattle.hc_model.specs.Sound.{Sound, Among, IsListed}
-use Rattle.hc_model.specs.Tables.{last_start_after, starts_after, opened_after, openings_after, founds, added}
+use Rattle.hc_model.specs.Tables.{last_start_after, starts_after, opened_after, openings_after, founds, with_item_first}
 use Rattle.hc_model.proofs.EventsKeep.{told, cancels, poll_live}
 use Rattle.hc_model.proofs.Once.{never}
 use Rattle.hc_model.proofs.PieceKeeps.{eq_cases}
@@ -34,11 +34,11 @@ never_opens : {A : Type 0} (o : Option A) (a : A) → o ≡ None → o ≡ Some 
 never_opens o a none is = let no : None ≡ Some a = sym none ∙ is in cc
 
 module _ (limits : Limits) (t : Tables) (now : ℕ) (flaw : Flaw) (s : Sound t) where
-  by_poll : (c want : ℕ) (k : Option Consumer) (o : Opening) → t.consumer c ≡ k → is_live k ≡ true → opening_in (accepted limits t now (event.Poll c want) flaw) ≡ Some o → o.x ≡ t.opened + 1
+  by_poll : (c want : ℕ) (k : Option Consumer) (o : Opening) → t.consumer c ≡ k → is_live k ≡ true → opening_in (accepted_acts limits t now (event.Poll c want) flaw) ≡ Some o → o.x ≡ t.opened + 1
   by_poll c want None o row live is = absurd (let no : false ≡ true = live in cc)
   by_poll c want (Some k) o row live is = poll_opens_next limits t now c want k s row flaw o is
 
-  pub opens_next : (event : Event) (o : Opening) → denial t event ≡ None → opening_in (accepted limits t now event flaw) ≡ Some o → o.x ≡ t.opened + 1
+  pub opens_next : (event : Event) (o : Opening) → denial t event ≡ None → opening_in (accepted_acts limits t now event flaw) ≡ Some o → o.x ≡ t.opened + 1
   unfolding refusals.refusal_of
   opens_next (event.Start c request) o h is = absurd (never_opens _ o (told limits t now flaw s (event.Start c request)) is)
   opens_next (event.Poll c want) o h is = by_poll c want (t.consumer c) o refl (poll_live limits t now flaw s c want h) is
@@ -51,14 +51,14 @@ module _ (limits : Limits) (t : Tables) (now : ℕ) (flaw : Flaw) (s : Sound t) 
 
 -- CONSUMERS
 
-rising : (late full : Bool) (n m : ℕ) → (if late then Some (refusal.NotRising n) else if full then Some refusal.TooManyConsumers else None) ≡ None → late ≡ false
-rising true full n m h = absurd (never _ h)
-rising false full n m h = refl
+ascending : (late full : Bool) (n m : ℕ) → (if late then Some (refusal.NotRising n) else if full then Some refusal.TooManyConsumers else None) ≡ None → late ≡ false
+ascending true full n m h = absurd (never _ h)
+ascending false full n m h = refl
 
 pub starts_later : (t : Tables) (c : ℕ) (request : Request) → denial t (event.Start c request) ≡ None → t.last_start < c
 unfolding refusals.refusal_of
 starts_later t c request h =
-    let test : nat_le c t.last_start ≡ false = rising (nat_le c t.last_start) _ t.last_start 0 h in
+    let test : nat_le c t.last_start ≡ false = ascending (nat_le c t.last_start) _ t.last_start 0 h in
     grind (arith, nat_tests)
 
 -- a number above the last start was above it before, and isn't the one that starts
@@ -157,12 +157,12 @@ founded_none t e r (event.Head x response) l lt = elim (eq_cases x r) [
   | inr other ↦ rw other.0 (by_test (is_founding (case_at t e)))
 ]
   where
-    by_row : (b : Bool) (o : Option Exchange) → o ≡ None → (if b then option_map (represented r e response) o else None) ≡ None
+    by_row : (b : Bool) (o : Option Exchange) → o ≡ None → (if b then option_map (new_representation r e response) o else None) ≡ None
     by_row true None is = refl
     by_row false None is = refl
     by_row b (Some w) is = absurd (let no : Some w ≡ None = is in cc)
 
-    by_test : (b : Bool) → (if b && false then option_map (represented r e response) (t.exchange x) else None) ≡ None
+    by_test : (b : Bool) → (if b && false then option_map (new_representation r e response) (t.exchange x) else None) ≡ None
     by_test true = refl
     by_test false = refl
 founded_none t e r (event.Piece x bytes) l lt = refl
@@ -176,11 +176,11 @@ unfolding representation_after
 representation_none t e r None is none = none
 representation_none t e r (Some v) is none = absurd (let no : Some v ≡ None = is in cc)
 
-still_founded : (r : ℕ) (rs : List ℕ) (o : Option ℕ) → Among r rs → Among r (added o rs)
+still_founded : (r : ℕ) (rs : List ℕ) (o : Option ℕ) → Among r rs → Among r (with_item_first o rs)
 still_founded r rs None there = there
 still_founded r rs (Some q) there = inr there
 
-founded_among : (t : Tables) (e : Entry) (r : ℕ) (rs : List ℕ) (event : Event) → is_some (founded_at t e r event) ≡ true → Among r (added (if is_founding (case_at t e) then exchange_in event else None) rs)
+founded_among : (t : Tables) (e : Entry) (r : ℕ) (rs : List ℕ) (event : Event) → is_some (founded_at t e r event) ≡ true → Among r (with_item_first (if is_founding (case_at t e) then exchange_in event else None) rs)
 founded_among t e r rs (event.Start c request) some = absurd (let no : false ≡ true = some in cc)
 founded_among t e r rs (event.Poll c want) some = absurd (let no : false ≡ true = some in cc)
 founded_among t e r rs (event.Head x response) some = elim (eq_cases x r) [
@@ -188,11 +188,11 @@ founded_among t e r rs (event.Head x response) some = elim (eq_cases x r) [
   | inl here ↦ by_case (is_founding (case_at t e)) refl
 ]
   where
-    none_by : (b : Bool) → is_some (if b && false then option_map (represented r e response) (t.exchange x) else None) ≡ true → ⊥
+    none_by : (b : Bool) → is_some (if b && false then option_map (new_representation r e response) (t.exchange x) else None) ≡ true → ⊥
     none_by true h = let no : false ≡ true = h in cc
     none_by false h = let no : false ≡ true = h in cc
 
-    by_case : (b : Bool) → is_founding (case_at t e) ≡ b → Among r (added (if is_founding (case_at t e) then Some x else None) rs)
+    by_case : (b : Bool) → is_founding (case_at t e) ≡ b → Among r (with_item_first (if is_founding (case_at t e) then Some x else None) rs)
     by_case true is = elim (eq_cases x r) [
       | inl same ↦ rw is (inl same.1)
       | inr other ↦ absurd (none_by (is_founding (case_at t e)) (rw other.0 at some))
@@ -204,7 +204,7 @@ founded_among t e r rs (event.Fault x) some = absurd (let no : false ≡ true = 
 founded_among t e r rs (event.Cancel c) some = absurd (let no : false ≡ true = some in cc)
 founded_among t e r rs (event.Doom key) some = absurd (let no : false ≡ true = some in cc)
 
-representation_among : (t : Tables) (e : Entry) (r : ℕ) (o : Option Representation) → t.representation r ≡ o → IsListed t → is_some (representation_after t e r o) ≡ true → Among r (added (founds t e) t.founded)
+representation_among : (t : Tables) (e : Entry) (r : ℕ) (o : Option Representation) → t.representation r ≡ o → IsListed t → is_some (representation_after t e r o) ≡ true → Among r (with_item_first (founds t e) t.founded)
 unfolding representation_after
 representation_among t e r None row l some = founded_among t e r t.founded e.event some
 representation_among t e r (Some v) row l some = still_founded r t.founded (founds t e) (l.founded r (ap is_some row))
@@ -213,7 +213,7 @@ representation_among t e r (Some v) row l some = still_founded r t.founded (foun
 
 pub numbers_are_kept : NumbersAreKept
 numbers_are_kept limits t now flaw s event h =
-    let e : Entry = record { now = now; event = event; acts = accepted limits t now event flaw } in
+    let e : Entry = record { now = now; event = event; acts = accepted_acts limits t now event flaw } in
     let l = s.numbered.lists in
     let next : (p : Opening) → opening_in e.acts ≡ Some p → p.x ≡ t.opened + 1 = λ p is. opens_next limits t now flaw s event p h is in
     record {

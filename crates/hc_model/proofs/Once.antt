@@ -4,7 +4,7 @@ use Rattle.std.specs.Prelude.{is_some, nat_lt, if◌then◌else◌, ◌==◌}
 use Rattle.std.proofs.lemmas.Bool.Decides.{nat_tests}
 use Rattle.hc_event.specs.declared.act.Refusal.TheVariants as refusal
 use Rattle.hc_model.specs.Denials.{as_open}
-use Rattle.hc_model.specs.Exchanges.{promised, front}
+use Rattle.hc_model.specs.Exchanges.{promised_bytes, front}
 use Rattle.hc_model.specs.Laws.{DeliversOnce}
 use Rattle.hc_model.specs.Rows.{Tables, Exchange}
 use Rattle.hc_model.specs.Sound.{Sound, IsPromised}
@@ -29,7 +29,7 @@ pub record IsTaken (w : Exchange) (n : ℕ) : Type 0 where
   pub is_open : w.is_open ≡ true
   pub headed : is_some w.head ≡ true
   pub some : 0 < n
-  pub fits : overlong (promised w) (length w.body + n) ≡ None
+  pub fits : overlong (promised_bytes w) (length w.body + n) ≡ None
 
 -- what the refusals test, one after another
 module _ (delivered : ℕ) (o : Option ℕ) where
@@ -52,11 +52,11 @@ module _ (delivered : ℕ) (o : Option ℕ) where
 pub taken : (n : ℕ) (w : Exchange) → piece_refusal (as_open (Some w)) n ≡ None → IsTaken w n
 unfolding gate_of
 taken n w h =
-    let parts = taken_by (length w.body) (promised w) w.is_open (is_some w.head) w.asked n h in
+    let parts = taken_by (length w.body) (promised_bytes w) w.is_open (is_some w.head) w.asked n h in
     record { is_open = parts.0; headed = parts.1; some = parts.2.0; fits = parts.2.1 }
 
 pub delivers_once : (t : Tables) → Sound t → DeliversOnce t
 unfolding refusals.refusal_of
 delivers_once t sound x bytes w v accepted is row p le lt =
     let got : IsTaken w (length bytes) = taken (length bytes) w (rw is at accepted) in
-    sound.waits.fronts x w v p is got.is_open got.headed row le (ends_by (promised w) w (length bytes) p got.fits lt)
+    sound.waits.fronts x w v p is got.is_open got.headed row le (ends_by (promised_bytes w) w (length bytes) p got.fits lt)

@@ -15,9 +15,9 @@ use Rattle.hc_model.specs.Exchanges.{exchange_in}
 use Rattle.hc_model.specs.Flaws.{flaw_in}
 use Rattle.hc_model.specs.Keys.{key_of, is_of_key, concerns_exchange, concerns_representation, concerns_consumer, ExchangeKeys, ConsumerKeys, IsEvicted, LawOfOneKey}
 use Rattle.hc_model.specs.ExchangeRows.{exchange_after, exchange_made, exchange_opened}
-use Rattle.hc_model.specs.ConsumerRows.{consumer_after, consumer_made, started}
+use Rattle.hc_model.specs.ConsumerRows.{consumer_after, consumer_made, new_consumer}
 use Rattle.hc_model.specs.Cases.{case_at, is_founding}
-use Rattle.hc_model.specs.RepresentationRows.{represented, founded_at, representation_after}
+use Rattle.hc_model.specs.RepresentationRows.{new_representation, founded_at, representation_after}
 use Rattle.hc_model.specs.Rows.{Tables, Exchange, Representation, Consumer}
 use Rattle.hc_model.specs.Runs.{IsOwed, may_stand, may_be}
 use Rattle.hc_model.proofs.Basics.{none_some}
@@ -102,11 +102,11 @@ module _ (limits : Limits) (t : Tables) (e : Entry) (exchanges : ExchangeKeys t)
   exchange_new x w None is made = new_exchange x w (opening_in e.acts) refl made
   exchange_new x w (Some u) is made = absurd (never u is)
 
-  founded_row : (x r : ℕ) (response : Response) (v : Representation) (b : Bool) (o : Option Exchange) → e.event ≡ event.Head x response → t.exchange x ≡ o → (if b then option_map (represented r e response) o else None) ≡ Some v → key_of t e.event ≡ Some v.key
+  founded_row : (x r : ℕ) (response : Response) (v : Representation) (b : Bool) (o : Option Exchange) → e.event ≡ event.Head x response → t.exchange x ≡ o → (if b then option_map (new_representation r e response) o else None) ≡ Some v → key_of t e.event ≡ Some v.key
   founded_row x r response v false o at row made = absurd (none_some v made)
   founded_row x r response v true None at row made = absurd (none_some v made)
   founded_row x r response v true (Some w) at row made =
-      ap (key_of t) at ∙ (ap (option_map (λ (w : Exchange). w.request.key)) row ∙ ap (λ (u : Representation). Some u.key) (some_inj (represented r e response w) v made))
+      ap (key_of t) at ∙ (ap (option_map (λ (w : Exchange). w.request.key)) row ∙ ap (λ (u : Representation). Some u.key) (some_inj (new_representation r e response w) v made))
 
   founded_key : (r : ℕ) (v : Representation) (ev : Event) → e.event ≡ ev → founded_at t e r ev ≡ Some v → key_of t e.event ≡ Some v.key
   founded_key r v (event.Head x response) at made = founded_row x r response v (is_founding (case_at t e) && x == r) (t.exchange x) at refl made
@@ -120,8 +120,8 @@ module _ (limits : Limits) (t : Tables) (e : Entry) (exchanges : ExchangeKeys t)
   started_key : (c : ℕ) (k : Consumer) (ev : Event) → e.event ≡ ev → consumer_made c e.now ev ≡ Some k → key_of t e.event ≡ Some k.request.key
   started_key c k (event.Start d request) at made = by_test (d == c) made
     where
-      by_test : (b : Bool) → (if b then Some (started e.now request) else None) ≡ Some k → key_of t e.event ≡ Some k.request.key
-      by_test true h = ap (key_of t) at ∙ ap (λ (u : Consumer). Some u.request.key) (some_inj (started e.now request) k h)
+      by_test : (b : Bool) → (if b then Some (new_consumer e.now request) else None) ≡ Some k → key_of t e.event ≡ Some k.request.key
+      by_test true h = ap (key_of t) at ∙ ap (λ (u : Consumer). Some u.request.key) (some_inj (new_consumer e.now request) k h)
       by_test false h = absurd (none_some k h)
   started_key c k _ at made = absurd (none_some k made)
 

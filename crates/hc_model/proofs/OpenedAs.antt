@@ -29,7 +29,7 @@ use Rattle.hc_model.specs.Currents.{current, row_of}
 use Rattle.hc_model.specs.Holes.{first_hole}
 use Rattle.hc_model.specs.Moves as moves
 use Rattle.hc_model.specs.Moves.{Move, Nothing, Fails, Opens, gives, waits_for, opens_hole, shows_stored}
-use Rattle.hc_model.specs.Planning.{plan_view, plan_move, fetched, conditional_on, current_row, binds_current, hole_of}
+use Rattle.hc_model.specs.Planning.{plan_view, plan_move, origin_request, conditional_on, current_row, binds_current, hole_of}
 use Rattle.hc_model.specs.Polls.{shows_at, shows_bound, shows_direct, shows_answer, has_joined, move_of}
 use Rattle.hc_model.specs.Reading.{bound_to}
 use Rattle.hc_model.specs.Rows.{Tables, Exchange, Representation, Consumer}
@@ -153,7 +153,7 @@ module _ (t : Tables) (now c : ℕ) (k : Consumer) where
 
     -- PLANS
 
-    fetched_key : (m : Need) → (fetched t k m).key ≡ k.request.key
+    fetched_key : (m : Need) → (origin_request t k m).key ≡ k.request.key
     fetched_key need.Disabled = refl
     fetched_key need.TimedOut = refl
     fetched_key need.Bypass = refl
@@ -167,7 +167,7 @@ module _ (t : Tables) (now c : ℕ) (k : Consumer) where
     fetched_key (need.Hole from to) = refl
     fetched_key need.Unsatisfied = refl
 
-    fetched_method : (m : Need) → (fetched t k m).method ≡ k.request.method
+    fetched_method : (m : Need) → (origin_request t k m).method ≡ k.request.method
     fetched_method need.Disabled = refl
     fetched_method need.TimedOut = refl
     fetched_method need.Bypass = refl
@@ -222,7 +222,7 @@ module _ (t : Tables) (now c : ℕ) (k : Consumer) where
         let same = opens_same (t.opened + 1) m k.request is in
         record { key_is = sym (ap (λ (z : Request). z.key) same.1); method_is = sym (ap (λ (z : Request). z.method) same.1); plain = λ at. absurd (direct_other m way (same.0 ∙ at)); bypasses = λ at. absurd (direct_bypass m way (same.0 ∙ at)); heard = heard; unread = λ is. none; unshown = λ is. off; asked = λ at. subst (Asked (plan_view t now c k)) same.0 asks; way = passes_by free (sym (ap route_of same.0) ∙ way) }
     by_plan _ (plans.fetches m way plain bypass cached) asks free off none heard is =
-        let same = opens_same (t.opened + 1) m (fetched t k m) is in
+        let same = opens_same (t.opened + 1) m (origin_request t k m) is in
         record { key_is = sym (ap (λ (z : Request). z.key) same.1) ∙ fetched_key m; method_is = sym (ap (λ (z : Request). z.method) same.1) ∙ fetched_method m; plain = λ at. sym (bypassing_is k.request) ∙ plain (same.0 ∙ at); bypasses = λ at. sym (bypassing_is k.request) ∙ bypass (same.0 ∙ at); heard = heard; unread = λ is. none; unshown = λ is. off; asked = λ at. subst (Asked (plan_view t now c k)) same.0 asks; way = fetches free (sym (ap route_of same.0) ∙ way) (cached_is cached) }
     by_plan _ (plans.joins why cached j) asks free off none heard is = absurd (binds_opens why None (current t k.request.key) is)
     by_plan _ (plans.reads why span cached j) asks free off none heard is = absurd (binds_opens why (Some span) (current t k.request.key) is)

@@ -10,7 +10,7 @@ use Rattle.hc_event.specs.declared.act.Act.TheVariants as act
 use Rattle.hc_event.specs.declared.act.LostKind.{LostKind}
 use Rattle.hc_rules.specs.declared.room.Limits.{Limits}
 use Rattle.hc_model.specs.ActFilters.{showing_in, loses_in, misreads_in, leaver_in, without_losses}
-use Rattle.hc_model.specs.Answers.{poll_acts, lost}
+use Rattle.hc_model.specs.Answers.{poll_acts, loss_acts}
 use Rattle.hc_model.specs.Cases.{case_at, case_of}
 use Rattle.hc_model.specs.Closings.{closing, must_close, is_refused, is_doomed, brings_head, has_no_survivor, is_left, leaver}
 use Rattle.hc_model.specs.Currents.{is_number}
@@ -20,7 +20,7 @@ use Rattle.hc_model.specs.Exchanges.{family}
 use Rattle.hc_model.specs.Flaws.{Flaw, NoFlaw, Loses, Misreads, flaw_in}
 use Rattle.hc_model.specs.Keys.{entry_of}
 use Rattle.hc_model.specs.Moves.{Opens, acts_of}
-use Rattle.hc_model.specs.Polls.{polled}
+use Rattle.hc_model.specs.Polls.{poll_move}
 use Rattle.hc_model.specs.Rows.{Tables, Exchange, Representation}
 use Rattle.hc_model.specs.Runs.{may_stand, may_be}
 use Rattle.hc_model.specs.Sound.{Sound}
@@ -34,33 +34,33 @@ use Rattle.hc_model.proofs.Unclosed.{had_to, had_row}
 
 -- ACTS BEHIND AN OPENING
 
-no_misread : (r : ℕ) (xs : List ℕ) (f : Flaw) → misreads_in r (map act.Close xs ++ lost f) ≡ false
+no_misread : (r : ℕ) (xs : List ℕ) (f : Flaw) → misreads_in r (map act.Close xs ++ loss_acts f) ≡ false
 no_misread r [] NoFlaw = refl
 no_misread r [] (Loses q kind) = refl
 no_misread r [] (Misreads q) = refl
 no_misread r (x ∷ xs) f = no_misread r xs f
 
-no_eviction : (r : ℕ) (xs : List ℕ) (f : Flaw) → evicts_in r (map act.Close xs ++ lost f) ≡ false
+no_eviction : (r : ℕ) (xs : List ℕ) (f : Flaw) → evicts_in r (map act.Close xs ++ loss_acts f) ≡ false
 no_eviction r [] NoFlaw = refl
 no_eviction r [] (Loses q kind) = refl
 no_eviction r [] (Misreads q) = refl
 no_eviction r (x ∷ xs) f = no_eviction r xs f
 
-no_showing : (xs : List ℕ) (f : Flaw) → showing_in (map act.Close xs ++ lost f) ≡ None
+no_showing : (xs : List ℕ) (f : Flaw) → showing_in (map act.Close xs ++ loss_acts f) ≡ None
 no_showing [] NoFlaw = refl
 no_showing [] (Loses q kind) = refl
 no_showing [] (Misreads q) = refl
 no_showing (x ∷ xs) f = no_showing xs f
 
-losses_of : (r : ℕ) (xs : List ℕ) (f : Flaw) → loses_in r (map act.Close xs ++ lost f) ≡ loses_in r (lost f)
+losses_of : (r : ℕ) (xs : List ℕ) (f : Flaw) → loses_in r (map act.Close xs ++ loss_acts f) ≡ loses_in r (loss_acts f)
 losses_of r [] f = refl
 losses_of r (x ∷ xs) f = losses_of r xs f
 
-flaw_of : (q : ℕ) (kind : LostKind) (xs : List ℕ) → flaw_in (map act.Close xs ++ lost (Loses q kind)) ≡ Loses q kind
+flaw_of : (q : ℕ) (kind : LostKind) (xs : List ℕ) → flaw_in (map act.Close xs ++ loss_acts (Loses q kind)) ≡ Loses q kind
 flaw_of q kind [] = refl
 flaw_of q kind (x ∷ xs) = flaw_of q kind xs
 
-no_leaver : (f : Flaw) → leaver_in (lost f) ≡ None
+no_leaver : (f : Flaw) → leaver_in (loss_acts f) ≡ None
 no_leaver NoFlaw = refl
 no_leaver (Loses q kind) = refl
 no_leaver (Misreads q) = refl
@@ -92,14 +92,14 @@ module _ (limits : Limits) (t : Tables) (now : ℕ) (flaw : Flaw) (s : Sound t) 
   abbrev xs : List ℕ
   xs = closing t b
 
-  module _ (p : Opening) (here : p.c ≡ c) (opens : opening_in e.acts ≡ Some p) (move_is : polled t now want c (t.consumer c) ≡ Opens p.x p.need p.request) where
+  module _ (p : Opening) (here : p.c ≡ c) (opens : opening_in e.acts ≡ Some p) (move_is : poll_move t now want c (t.consumer c) ≡ Opens p.x p.need p.request) where
     abbrev behind : List Act
-    behind = map act.Close xs ++ lost flaw
+    behind = map act.Close xs ++ loss_acts flaw
 
     -- a read that fails opens nothing
     not_misread : (r : ℕ) → flaw ≡ Misreads r → ⊥
     not_misread r at =
-        let none : opening_in (poll_acts t now want c (Misreads r) ++ behind) ≡ None = closes_open_none xs (lost flaw) (subst (λ f. opening_in (lost f) ≡ None) (sym at) refl) in
+        let none : opening_in (poll_acts t now want c (Misreads r) ++ behind) ≡ None = closes_open_none xs (loss_acts flaw) (subst (λ f. opening_in (loss_acts f) ≡ None) (sym at) refl) in
         none_some p (sym none ∙ (sym (ap (λ f. opening_in (poll_acts t now want c f ++ behind)) at) ∙ opens))
 
     said_is : (f : Flaw) → flaw ≡ f → poll_acts t now want c f ≡ acts_of c (Opens p.x p.need p.request)
@@ -110,8 +110,8 @@ module _ (limits : Limits) (t : Tables) (now : ℕ) (flaw : Flaw) (s : Sound t) 
     pub acts_are : e.acts ≡ acts_of c (Opens p.x p.need p.request) ++ behind
     acts_are = ap (λ acts. acts ++ behind) (said_is flaw refl)
 
-    before_are : b.acts ≡ acts_of c (Opens p.x p.need p.request) ++ lost flaw
-    before_are = ap (λ acts. acts ++ lost flaw) (said_is flaw refl)
+    before_are : b.acts ≡ acts_of c (Opens p.x p.need p.request) ++ loss_acts flaw
+    before_are = ap (λ acts. acts ++ loss_acts flaw) (said_is flaw refl)
 
     pub leaves_none : (d : ℕ) → leaves_in d e.acts ≡ false
     leaves_none d = ap (leaves_in d) acts_are ∙ closes_leave limits t now flaw s d xs flaw
@@ -184,7 +184,7 @@ module _ (limits : Limits) (t : Tables) (now : ℕ) (flaw : Flaw) (s : Sound t) 
     loses_not : (q : ℕ) (kind : LostKind) → may_stand limits t e ≡ true → flaw ≡ Loses q kind → ⊥
     unfolding may_stand
     loses_not q kind stand at =
-        let flaw_is : flaw_in e.acts ≡ Loses q kind = ap flaw_in acts_are ∙ (ap (λ f. flaw_in (map act.Close xs ++ lost f)) at ∙ flaw_of q kind xs) in
+        let flaw_is : flaw_in e.acts ≡ Loses q kind = ap flaw_in acts_are ∙ (ap (λ f. flaw_in (map act.Close xs ++ loss_acts f)) at ∙ flaw_of q kind xs) in
         let undenied : is_denied e.acts ≡ false = ap is_denied acts_are in
         elim (or_cases (is_denied e.acts) (may_be limits t e (flaw_in e.acts)) stand) [
           | inl denied ↦ false_true (sym undenied ∙ denied)
@@ -194,7 +194,7 @@ module _ (limits : Limits) (t : Tables) (now : ℕ) (flaw : Flaw) (s : Sound t) 
               false_true (sym (ap (λ z. is_number z q) written_none) ∙ number)
         ]
 
-    lost_not : (r : ℕ) (f : Flaw) → may_stand limits t e ≡ true → flaw ≡ f → loses_in r (lost f) ≡ false
+    lost_not : (r : ℕ) (f : Flaw) → may_stand limits t e ≡ true → flaw ≡ f → loses_in r (loss_acts f) ≡ false
     lost_not r NoFlaw stand at = refl
     lost_not r (Loses q kind) stand at = absurd (loses_not q kind stand at)
     lost_not r (Misreads q) stand at = refl

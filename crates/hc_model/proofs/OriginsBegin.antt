@@ -13,7 +13,7 @@ use Rattle.hc_model.specs.Entries.{Content, Contents}
 use Rattle.hc_model.specs.Origins.{HasByte, Origins}
 use Rattle.hc_model.specs.Origins as origins
 use Rattle.hc_model.specs.Rows.{Representation}
-use Rattle.hc_model.specs.Tables.{begun, loaded}
+use Rattle.hc_model.specs.Tables.{first_tables, representation_of_content}
 use Rattle.hc_model.proofs.Basics.{false_true, and_left, and_right, or_right, or_false, not_true, none_some}
 use Rattle.hc_model.proofs.HoleLemmas.{bool_cases}
 use Rattle.hc_model.proofs.PieceKeeps.{eq_cases, some_inj}
@@ -162,19 +162,19 @@ module _ (limits : Limits) (contents : Contents) where
     pub found : item_at r ≡ Some item
     pub has : has_run x item ≡ true
 
-  loaded_byte : (r x p : ℕ) (cell : Cell) (v : Representation) (z : Option Content) → item_at r ≡ z → option_map loaded z ≡ Some v → v.body p ≡ Some cell → cell.x ≡ x → IsLoadedByte r x
+  loaded_byte : (r x p : ℕ) (cell : Cell) (v : Representation) (z : Option Content) → item_at r ≡ z → option_map representation_of_content z ≡ Some v → v.body p ≡ Some cell → cell.x ≡ x → IsLoadedByte r x
   loaded_byte r x p cell v None found row there from = absurd (none_some v row)
   loaded_byte r x p cell v (Some item) found row there from = record {
     item = item;
     found = found;
-    has = ap (λ n. has_run n item) (sym from) ∙ of_run item.runs p cell (ap (λ (q : Representation). q.body p) (some_inj (loaded item) v row) ∙ there);
+    has = ap (λ n. has_run n item) (sym from) ∙ of_run item.runs p cell (ap (λ (q : Representation). q.body p) (some_inj (representation_of_content item) v row) ∙ there);
   }
 
-  pub byte_of : (r x : ℕ) → HasByte (begun contents) r x → IsLoadedByte r x
+  pub byte_of : (r x : ℕ) → HasByte (first_tables contents) r x → IsLoadedByte r x
   byte_of r x (origins.has_byte p cell v row there from) = loaded_byte r x p cell v (item_at r) refl row there from
 
   -- a row is that of an item
-  row_item : (r : ℕ) (z : Option Content) → item_at r ≡ z → is_some (option_map loaded z) ≡ true → (item : Content) × (item_at r ≡ Some item)
+  row_item : (r : ℕ) (z : Option Content) → item_at r ≡ z → is_some (option_map representation_of_content z) ≡ true → (item : Content) × (item_at r ≡ Some item)
   row_item r None found there = absurd (false_true there)
   row_item r (Some item) found there = (item, found)
 
@@ -191,7 +191,7 @@ module _ (limits : Limits) (contents : Contents) where
         let under : x < contents.next_exchange = grind (arith, nat_tests) in
         (some, omega arith)
 
-    pub origins_begin : Origins (begun contents)
+    pub origins_begin : Origins (first_tables contents)
     origins_begin = record {
       founded = λ r there. let i = row_item r (item_at r) refl there in numbers_begin limits contents may r i.0 i.1;
       opened = λ x there. absurd (false_true there);

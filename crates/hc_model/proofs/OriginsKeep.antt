@@ -5,7 +5,7 @@ use Rattle.std.proofs.lemmas.Bool.Decides.{nat_tests}
 use Rattle.hc_event.specs.Filters.{Opening, opening_in}
 use Rattle.hc_event.specs.declared.event.Event.{Event}
 use Rattle.hc_rules.specs.declared.room.Limits.{Limits}
-use Rattle.hc_sparse.specs.Cells.{Cell, written}
+use Rattle.hc_sparse.specs.Cells.{Cell, cells_with}
 use Rattle.hc_sparse.proofs.CellLemmas.{inside-cases}
 use Rattle.hc_model.specs.Denials.{denial}
 use Rattle.hc_model.specs.Entries.{Entry}
@@ -29,7 +29,7 @@ use Rattle.hc_model.proofs.Forward.{is_on}
 use Rattle.hc_model.proofs.HoleLemmas.{bool_cases}
 use Rattle.hc_model.proofs.MeasuresKeep.{piece_taken}
 use Rattle.hc_model.proofs.NumbersKeep.{opens_next}
-use Rattle.hc_model.proofs.Pens.{same_row}
+use Rattle.hc_model.proofs.ExclusiveWriters.{same_row}
 use Rattle.hc_model.proofs.PieceKeeps.{some_inj}
 use Rattle.hc_model.proofs.RepFrom.{RepFrom, rep_from}
 use Rattle.hc_model.proofs.RepFrom as rep
@@ -49,11 +49,11 @@ module _ (t : Tables) (e : Entry) where
   by_fill r x p cell v u row there from (fill.still none body stored reach) = inl (origins.has_byte p cell v row (sym (ap (λ f. f p) body) ∙ there) from)
   by_fill r x p cell v u row there from (fill.more y bytes w is body stored reach) = elim (inside-cases (front w) (length bytes) p) [
     | inl here ↦
-        let at : written (front w) y bytes v.body p ≡ Some cell = sym (ap (λ f. f p) body) ∙ there in
+        let at : cells_with (front w) y bytes v.body p ≡ Some cell = sym (ap (λ f. f p) body) ∙ there in
         let same : y ≡ cell.x = ap (λ (z : Cell). z.x) (some_inj _ cell (rw here.0 at at)) in
         inr (record { bytes = bytes; w = w; is = subst_piece (same ∙ from) is })
     | inr off ↦
-        let at : written (front w) y bytes v.body p ≡ Some cell = sym (ap (λ f. f p) body) ∙ there in
+        let at : cells_with (front w) y bytes v.body p ≡ Some cell = sym (ap (λ f. f p) body) ∙ there in
         inl (origins.has_byte p cell v row (rw off.0 at at) from)
   ]
     where

@@ -6,7 +6,7 @@ use Rattle.hc_event.specs.declared.act.Act.TheVariants as act
 use Rattle.hc_event.specs.declared.act.Refusal.{Refusal}
 use Rattle.hc_rules.specs.declared.room.Limits.{Limits}
 use Rattle.hc_model.specs.ActFilters.{loses_in}
-use Rattle.hc_model.specs.Answers.{answer, accepted, denied_or}
+use Rattle.hc_model.specs.Answers.{answer, accepted_acts, denied_or}
 use Rattle.hc_model.specs.Denials.{denial}
 use Rattle.hc_model.specs.Entries.{Entry}
 use Rattle.hc_model.specs.Flaws.{flaw_in}
@@ -22,13 +22,13 @@ goes_by (Some refusal) acts h = absurd (let never : true ≡ false = h in cc)
 pub goes : (limits : Limits) (t : Tables) (e : Entry) → IsOwed limits t e → is_denied e.acts ≡ false → denial t e.event ≡ None
 unfolding answer
 goes limits t e owed not_denied =
-    goes_by (denial t e.event) (accepted limits t e.now e.event (flaw_in e.acts)) (sym (ap is_denied owed.acts) ∙ not_denied)
+    goes_by (denial t e.event) (accepted_acts limits t e.now e.event (flaw_in e.acts)) (sym (ap is_denied owed.acts) ∙ not_denied)
 
 -- and its acts are those of an accepted event
-pub acts_are : (limits : Limits) (t : Tables) (e : Entry) → IsOwed limits t e → is_denied e.acts ≡ false → e.acts ≡ accepted limits t e.now e.event (flaw_in e.acts)
+pub acts_are : (limits : Limits) (t : Tables) (e : Entry) → IsOwed limits t e → is_denied e.acts ≡ false → e.acts ≡ accepted_acts limits t e.now e.event (flaw_in e.acts)
 unfolding answer
 acts_are limits t e owed not_denied =
-    owed.acts ∙ ap (λ (o : Option Refusal). denied_or o (accepted limits t e.now e.event (flaw_in e.acts))) (goes limits t e owed not_denied)
+    owed.acts ∙ ap (λ (o : Option Refusal). denied_or o (accepted_acts limits t e.now e.event (flaw_in e.acts))) (goes limits t e owed not_denied)
 
 -- what is denied says nothing else
 pub data IsDenied : List Act → Type 0 where

@@ -16,7 +16,7 @@ use Rattle.hc_model.specs.Writers.{loses_writing, survivor}
 use Rattle.hc_model.proofs.Basics.{and_left, and_right, some_none}
 use Rattle.hc_model.proofs.HoleLemmas.{bool_cases}
 use Rattle.hc_model.proofs.PieceKeeps.{eq_cases}
-use Rattle.hc_model.proofs.Pens.{writer_some}
+use Rattle.hc_model.proofs.ExclusiveWriters.{writer_some}
 
 module _ (t : Tables) (e : Entry) (c : ℕ) where
   -- its exchange gets its head, and is written together from then on

@@ -35,7 +35,7 @@ use Rattle.hc_model.proofs.NumbersKeep.{opens_next}
 use Rattle.hc_model.proofs.OpenedAs.{OpenedAs, opened_as}
 use Rattle.hc_model.proofs.OwnFrom.{OwnFrom, own_from, IsLeft}
 use Rattle.hc_model.proofs.OwnFrom as own
-use Rattle.hc_model.proofs.Pens.{same_row}
+use Rattle.hc_model.proofs.ExclusiveWriters.{same_row}
 use Rattle.hc_model.proofs.RepFrom.{RepFrom, rep_from}
 use Rattle.hc_model.proofs.RepFrom as rep
 use Rattle.hc_model.proofs.Said.{opening_by}

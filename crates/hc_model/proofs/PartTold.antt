@@ -17,10 +17,10 @@ use Rattle.hc_rules.specs.declared.length.Length.{Length}
 use Rattle.hc_rules.specs.declared.length.Length.TheVariants as told
 use Rattle.hc_rules.specs.declared.need.Route.{Route}
 use Rattle.hc_rules.specs.declared.need.Route.TheVariants as route
-use Rattle.hc_rules.specs.Lengths.{length_of, base_of, promise_of, is_bad, part_length, agrees, length_told, has_no_body, tells_part, all_tell}
+use Rattle.hc_rules.specs.Lengths.{length_of, base_of, promise_of, is_bad, part_length, agrees, content_length_of, has_no_body, tells_part, all_tell}
 use Rattle.hc_rules.specs.Lengths as lengths
 use Rattle.hc_rules.specs.Needs.{route_of}
-use Rattle.hc_rules.specs.RangeTexts.{content_range_of, content_range_in, response_in, response_from, told_by, with_total, without_part, spec_in, positions_from, positions_by, from_to, number_of, split_at, hyphen, slash}
+use Rattle.hc_rules.specs.RangeTexts.{content_range_of, content_range_in, response_in, response_from, content_range_from, with_total, without_part, spec_in, positions_from, positions_by, from_to, number_of, split_at, hyphen, slash}
 use Rattle.hc_model.proofs.Basics.{none_some}
 use Rattle.hc_model.proofs.HoleLemmas.{bool_cases}
 
@@ -95,7 +95,7 @@ without_not positions text first last total is = elim (bool_cases (bytes_eq posi
     by_number None h = none_some _ h
     by_number (Some n) h = unsatisfied_part n first last total (some_inj _ _ h)
 
-told_order : (positions text : List ℕ) (o : Option Asked) (first last total : ℕ) → spec_in positions ≡ o → told_by positions text o ≡ Some (range.Part first last (Some total)) → IsInOrder first last total
+told_order : (positions text : List ℕ) (o : Option Asked) (first last total : ℕ) → spec_in positions ≡ o → content_range_from positions text o ≡ Some (range.Part first last (Some total)) → IsInOrder first last total
 told_order positions text None first last total at is = absurd (without_not positions text first last total is)
 told_order positions text (Some (From a)) first last total at is = absurd (none_some _ is)
 told_order positions text (Some (Last n)) first last total at is = absurd (none_some _ is)
@@ -153,22 +153,22 @@ by_way route.Hole status past is = let test : nat_eq status 206 ≡ true = grind
 pub part_within : (n : Need) (request : Request) (response : Response) (first last total : ℕ) → (route_of n ≡ route.Direct → ⊥) → response.status ≡ 206 → content_range_of response.fields ≡ Some (range.Part first last (Some total)) → is_bad (length_of n request response) ≡ false → IsWithin total (length_of n request response)
 unfolding length_of
 part_within n request response first last total past status part =
-    let said = length_told (elements_in (codes "content-length") response.fields) in
+    let said = content_length_of (elements_in (codes "content-length") response.fields) in
     within_if total (has_no_body request response.status) (told.Promised 0) _
     (λ good. record { n = 0; promise = refl; ends = omega arith })
     (rw (by_way (route_of n) response.status past status, part) (within_part first last total said (part_order response.fields first last total part)))
 
 -- WITHOUT A PART
 
-plain_told : (elements : List (List ℕ)) → base_of (length_told elements) ≡ 0
+plain_told : (elements : List (List ℕ)) → base_of (content_length_of elements) ≡ 0
 plain_told [] = refl
 plain_told (element ∷ elements) = by_test (all_tell (number_of element) (element ∷ elements)) (number_of element)
   where
-    by_number : (o : Option ℕ) → base_of (lengths.told o) ≡ 0
+    by_number : (o : Option ℕ) → base_of (lengths.promised_or_bad o) ≡ 0
     by_number None = refl
     by_number (Some n) = refl
 
-    by_test : (b : Bool) (o : Option ℕ) → base_of (if b then lengths.told o else told.Bad) ≡ 0
+    by_test : (b : Bool) (o : Option ℕ) → base_of (if b then lengths.promised_or_bad o else told.Bad) ≡ 0
     by_test true o = by_number o
     by_test false o = refl
 
@@ -202,6 +202,6 @@ told_if first last false x y p q = q
 pub part_told : (n : Need) (request : Request) (response : Response) (first last total : ℕ) → (route_of n ≡ route.Direct → ⊥) → response.status ≡ 206 → content_range_of response.fields ≡ Some (range.Part first last (Some total)) → is_bad (length_of n request response) ≡ false → IsTold first last (length_of n request response)
 unfolding length_of
 part_told n request response first last total past status is_part =
-    let said = length_told (elements_in (codes "content-length") response.fields) in
+    let said = content_length_of (elements_in (codes "content-length") response.fields) in
     told_if first last (has_no_body request response.status) (told.Promised 0) _ (λ good. none refl)
     (rw (by_way (route_of n) response.status past status, is_part) (told_if first last (agrees said (last + 1 - first)) (told.Part first (last + 1 - first)) told.Bad (λ good. part refl) (λ bad. absurd (let never : true ≡ false = bad in cc))))

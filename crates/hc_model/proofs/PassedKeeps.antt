@@ -29,7 +29,7 @@ use Rattle.hc_model.proofs.FoundBy as cases
 use Rattle.hc_model.proofs.Forward.{is_kept}
 use Rattle.hc_model.proofs.PassedFrom.{PassedFrom, passed_from}
 use Rattle.hc_model.proofs.PassedFrom as passed
-use Rattle.hc_model.proofs.Pens.{same_row}
+use Rattle.hc_model.proofs.ExclusiveWriters.{same_row}
 use Rattle.hc_model.proofs.Said.{waiting_by}
 use Rattle.hc_model.proofs.WaitedAs.{waited_as}
 use Rattle.hc_model.proofs.WaitedAs as waited

@@ -7,18 +7,18 @@ use Rattle.hc_event.specs.declared.event.Event.TheVariants as event
 use Rattle.hc_event.specs.declared.act.Act.{Act}
 use Rattle.hc_event.specs.declared.act.Need.{Need}
 use Rattle.hc_event.specs.declared.act.Need.TheVariants as need
-use Rattle.hc_sparse.specs.Cells.{Cells, written}
+use Rattle.hc_sparse.specs.Cells.{Cells, cells_with}
 use Rattle.hc_sparse.proofs.CellLemmas.{inside-past}
 use Rattle.hc_model.specs.Entries.{Entry}
 use Rattle.hc_model.specs.ExchangeRows.{exchange_after, exchange_heard, exchange_acted}
-use Rattle.hc_model.specs.Exchanges.{base, promised, front, family}
-use Rattle.hc_model.specs.RepresentationRows.{representation_after, representation_heard, representation_acted, pieced}
+use Rattle.hc_model.specs.Exchanges.{base, promised_bytes, front, family}
+use Rattle.hc_model.specs.RepresentationRows.{representation_after, representation_heard, representation_acted, representation_after_piece}
 use Rattle.hc_model.specs.Rows.{Tables, Exchange, Representation}
 use Rattle.hc_model.specs.Sound.{Waits, Sound, OneAbout, IsAbout, IsPromised, InHole}
 use Rattle.hc_model.specs.Tables.{after_accepted}
 use Rattle.hc_model.specs.Sound as sound
 use Rattle.hc_model.proofs.Basics.{and_right}
-use Rattle.hc_model.proofs.Pens.{same_row}
+use Rattle.hc_model.proofs.ExclusiveWriters.{same_row}
 
 abbrev pub of_piece : ℕ → ℕ → List ℕ → List Act → Entry
 of_piece now x bytes acts = record { now = now; event = event.Piece x bytes; acts = acts }
@@ -36,7 +36,7 @@ pub record WasExchange (t : Tables) (x y : ℕ) (bytes : List ℕ) (u : Exchange
   pub aim_is : u.aim ≡ w.aim
   pub joined_is : u.joined ≡ w.joined
   pub family_is : family y u ≡ family y w
-  pub promised_is : promised u ≡ promised w
+  pub promised_is : promised_bytes u ≡ promised_bytes w
   pub base_is : base u ≡ base w
   pub body_is : u.body ≡ cond (nat_eq x y) (w.body ++ bytes) w.body
 
@@ -85,9 +85,9 @@ was_exchange t now x y bytes acts (Some w) u is none row =
 pub record WasRepresentation (t : Tables) (x r : ℕ) (bytes : List ℕ) (u : Representation) : Type 0 where
   pub v : Representation
   pub row : t.representation r ≡ Some v
-  pub body_is : (w : Exchange) → t.exchange x ≡ Some w → u.body ≡ (cond (nat_eq (family x w) r) (written (front w) x bytes v.body) v.body)
+  pub body_is : (w : Exchange) → t.exchange x ≡ Some w → u.body ≡ (cond (nat_eq (family x w) r) (cells_with (front w) x bytes v.body) v.body)
 
-body_after : (r x : ℕ) (bytes : List ℕ) (e : Entry) (w : Exchange) (v : Representation) → (pieced e r x bytes (Some w) v).body ≡ cond (nat_eq (family x w) r) (written (front w) x bytes v.body) v.body
+body_after : (r x : ℕ) (bytes : List ℕ) (e : Entry) (w : Exchange) (v : Representation) → (representation_after_piece e r x bytes (Some w) v).body ≡ cond (nat_eq (family x w) r) (cells_with (front w) x bytes v.body) v.body
 body_after r x bytes e w v = elim (eq_cases (family x w) r) [
   | inl here ↦ rw here.0 refl
   | inr other ↦ rw other.0 refl
@@ -140,7 +140,7 @@ module _ (t : Tables) (now x : ℕ) (bytes : List ℕ) (acts : List Act) (w : Ex
     pub opens_none : opening_in acts ≡ None
 
   -- what was absent stays so, where the piece is of another representation, or before it
-  stays_absent : (b : Bool) (v : Representation) (p : ℕ) → v.body p ≡ None → (b ≡ true → front w + length bytes ≤ p) → (cond b (written (front w) x bytes v.body) v.body) p ≡ None
+  stays_absent : (b : Bool) (v : Representation) (p : ℕ) → v.body p ≡ None → (b ≡ true → front w + length bytes ≤ p) → (cond b (cells_with (front w) x bytes v.body) v.body) p ≡ None
   stays_absent false v p none past = none
   stays_absent true v p none past = rw (inside-past (front w) (length bytes) p (past refl)) none
 
@@ -166,17 +166,17 @@ module _ (t : Tables) (now x : ℕ) (bytes : List ℕ) (acts : List Act) (w : Ex
         let n : length u.body ≡ length w.body + length bytes = ap length body ∙ length-append w.body bytes in
         omega arith
 
-    front_absent : (rep : WasRepresentation t x (family y u) bytes v) → u.is_open ≡ true → is_some u.head ≡ true → front u ≤ p → IsPromised (promised u) u p → v.body p ≡ None
+    front_absent : (rep : WasRepresentation t x (family y u) bytes v) → u.is_open ≡ true → is_some u.head ≡ true → front u ≤ p → IsPromised (promised_bytes u) u p → v.body p ≡ None
     front_absent rep is_open headed le ends =
         let open_before = was.was_open is_open in
         let headed_before : is_some was.w.head ≡ true = rw was.head_is at headed in
         let there : t.representation (family y was.w) ≡ Some rep.v = rw was.family_is at rep.row in
-        let none = s.waits.fronts y was.w rep.v p was.row open_before headed_before there (was_ahead t x y p bytes u was le) (ends_same (promised was.w) u was.w p was.base_is (rw was.promised_is at ends)) in
+        let none = s.waits.fronts y was.w rep.v p was.row open_before headed_before there (was_ahead t x y p bytes u was le) (ends_same (promised_bytes was.w) u was.w p was.base_is (rw was.promised_is at ends)) in
         ap (λ (f : Cells). f p) (rep.body_is w piece.row) ∙ stays_absent (nat_eq (family x w) (family y u)) rep.v p none (λ b.
         let same : family x w ≡ family y u = grind (arith, nat_tests) in
         past (one was.w was.row open_before headed_before (same ∙ was.family_is) (rw there refl)) le)
 
-  pub fronts_kept : Sound t → IsPiece → (y : ℕ) (u : Exchange) (v : Representation) (p : ℕ) → (after_accepted t (of_piece now x bytes acts)).exchange y ≡ Some u → u.is_open ≡ true → is_some u.head ≡ true → (after_accepted t (of_piece now x bytes acts)).representation (family y u) ≡ Some v → front u ≤ p → IsPromised (promised u) u p → v.body p ≡ None
+  pub fronts_kept : Sound t → IsPiece → (y : ℕ) (u : Exchange) (v : Representation) (p : ℕ) → (after_accepted t (of_piece now x bytes acts)).exchange y ≡ Some u → u.is_open ≡ true → is_some u.head ≡ true → (after_accepted t (of_piece now x bytes acts)).representation (family y u) ≡ Some v → front u ≤ p → IsPromised (promised_bytes u) u p → v.body p ≡ None
   fronts_kept s piece y u v p row is_open headed at le ends =
       let was = was_exchange t now x y bytes acts (t.exchange y) u refl piece.opens_none row in
       let rep = was_representation t now x (family y u) bytes acts (t.representation (family y u)) v refl at in

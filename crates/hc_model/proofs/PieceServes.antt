@@ -6,7 +6,7 @@ use Rattle.hc_event.specs.Filters.{opening_in, shows_in, given_in, leaves_in}
 use Rattle.hc_event.specs.declared.act.Act.{Act}
 use Rattle.hc_event.specs.declared.act.Act.TheVariants as act
 use Rattle.hc_model.specs.ActFilters.{wait_in, showing_in}
-use Rattle.hc_model.specs.Answers.{lost}
+use Rattle.hc_model.specs.Answers.{loss_acts}
 use Rattle.hc_model.specs.ConsumerRows.{consumer_after, consumer_acted, consumer_settled, own_after}
 use Rattle.hc_model.specs.Entries.{Entry}
 use Rattle.hc_model.specs.Failures.{becomes_due}
@@ -31,7 +31,7 @@ quiet_closes : (xs : List ℕ) → IsQuietActs (map act.Close xs)
 quiet_closes [] = record { opens = refl; waits = λ c. refl; shows = λ c. refl; showing = refl; gives = λ c. refl; leaves = λ c. refl }
 quiet_closes (x ∷ xs) = let q = quiet_closes xs in record { opens = q.opens; waits = q.waits; shows = q.shows; showing = q.showing; gives = q.gives; leaves = q.leaves }
 
-pub quiet_losses : (flaw : Flaw) (rest : List Act) → IsQuietActs rest → IsQuietActs (lost flaw ++ rest)
+pub quiet_losses : (flaw : Flaw) (rest : List Act) → IsQuietActs rest → IsQuietActs (loss_acts flaw ++ rest)
 quiet_losses NoFlaw rest q = q
 quiet_losses (Loses r kind) rest q = record { opens = q.opens; waits = q.waits; shows = q.shows; showing = q.showing; gives = q.gives; leaves = q.leaves }
 quiet_losses (Misreads r) rest q = q
@@ -40,7 +40,7 @@ quiet_evictions : (rs : List ℕ) (rest : List Act) → IsQuietActs rest → IsQ
 quiet_evictions [] rest q = q
 quiet_evictions (r ∷ rs) rest q = let p = quiet_evictions rs rest q in record { opens = p.opens; waits = p.waits; shows = p.shows; showing = p.showing; gives = p.gives; leaves = p.leaves }
 
-pub quiet_acts : (rs xs : List ℕ) (flaw : Flaw) → IsQuietActs (map act.Evicted rs ++ (lost flaw ++ map act.Close xs))
+pub quiet_acts : (rs xs : List ℕ) (flaw : Flaw) → IsQuietActs (map act.Evicted rs ++ (loss_acts flaw ++ map act.Close xs))
 quiet_acts rs xs flaw = quiet_evictions rs _ (quiet_losses flaw _ (quiet_closes xs))
 
 -- a consumer that is bound after a piece was bound before, and only what is due and its own exchange may have changed

@@ -28,7 +28,7 @@ use Rattle.hc_model.specs.Cases.{case_at}
 use Rattle.hc_model.specs.ConsumerRows.{consumer_heard, consumer_acted, consumer_made, consumer_after, by_head, by_fault, by_opening, shown_place, waiting, waiting_place, due_after, back_in_line, place_by_case, passed_on, passed_by, kept_by, bound_to_wanted, opened_place, place_for_hole, unless_bound}
 use Rattle.hc_model.specs.Currents.{current, row_of, is_number}
 use Rattle.hc_model.specs.Entries.{Entry}
-use Rattle.hc_model.specs.Exchanges.{exchange_in, is_for, promised}
+use Rattle.hc_model.specs.Exchanges.{exchange_in, is_for, promised_bytes}
 use Rattle.hc_model.specs.Failures.{becomes_due, cause_of_stop, cause_of_loss, cause_by_loss, cause_of_head, cause_by_case, stop_cause, short_cause, short_of}
 use Rattle.hc_model.specs.Heads.{founded_total}
 use Rattle.hc_model.specs.Places.{is_failed_read}
@@ -82,7 +82,7 @@ module _ (t : Tables) (e : Entry) (c : ℕ) where
 
   short_row : (x : ℕ) (q : Option Exchange) → is_failed_read (short_cause x q) ≡ false
   short_row x None = refl
-  short_row x (Some w) = short_told x w (promised w)
+  short_row x (Some w) = short_told x w (promised_bytes w)
 
   stop_told : (v : Event) → is_failed_read (stop_cause t v) ≡ false
   stop_told (event.Fault x) = refl

@@ -12,13 +12,13 @@ use Rattle.hc_event.specs.declared.act.Act.TheVariants as act
 use Rattle.hc_event.specs.declared.act.Why.{Why}
 use Rattle.hc_rules.specs.declared.room.Limits.{Limits}
 use Rattle.hc_model.specs.ActFilters.{showing_in}
-use Rattle.hc_model.specs.Answers.{accepted, poll_acts, lost}
+use Rattle.hc_model.specs.Answers.{accepted_acts, poll_acts, loss_acts}
 use Rattle.hc_model.specs.Closings.{closing}
 use Rattle.hc_model.specs.Flaws.{Flaw, NoFlaw, Loses, Misreads}
 use Rattle.hc_model.specs.Histories.{shown_in}
 use Rattle.hc_model.specs.Moves as moves
 use Rattle.hc_model.specs.Moves.{Move, Nothing, Asks, Opens, Shows, Gives, Ends, Fails, acts_of}
-use Rattle.hc_model.specs.Polls.{polled, move_of}
+use Rattle.hc_model.specs.Polls.{poll_move, move_of}
 use Rattle.hc_model.specs.Rows.{Tables, Consumer}
 use Rattle.hc_model.proofs.Basics.{append_none}
 use Rattle.hc_model.proofs.Named.{IsFar, far_told, far_poll, far_closes, far_lost}
@@ -52,7 +52,7 @@ module _ (t : Tables) (now c : ℕ) where
     by_move want k Ends at row is = quiet f.gives none_shown f.shows
     by_move want k (Fails why) at row is = quiet f.gives none_shown f.shows
 
-    by_row : (want : ℕ) (q : Option Consumer) → ev ≡ event.Poll c want → t.consumer c ≡ q → ToOne ev (acts_of c (polled t now want c q) ++ rest)
+    by_row : (want : ℕ) (q : Option Consumer) → ev ≡ event.Poll c want → t.consumer c ≡ q → ToOne ev (acts_of c (poll_move t now want c q) ++ rest)
     by_row want None at row = quiet f.gives none_shown f.shows
     by_row want (Some k) at row = by_move want k (move_of t now want c k) at row refl
 
@@ -66,18 +66,18 @@ module _ (t : Tables) (now c : ℕ) where
 
   module _ (limits : Limits) (flaw : Flaw) where
     -- what an accepted event shows and gives to one consumer
-    pub to_one : (ev : Event) → ToOne ev (accepted limits t now ev flaw)
+    pub to_one : (ev : Event) → ToOne ev (accepted_acts limits t now ev flaw)
     to_one (event.Start d request) = far_one (event.Start d request) _ (far_told limits t now c flaw (event.Start d request))
     to_one (event.Poll d want) = elim (eq_cases d c) [
-      | inr other ↦ far_one (event.Poll d want) _ (far_poll t now want c d flaw _ other.0 (far_closes c (closing t (record { now = now; event = event.Poll d want; acts = poll_acts t now want d flaw ++ lost flaw })) (lost flaw) (far_lost c flaw)))
+      | inr other ↦ far_one (event.Poll d want) _ (far_poll t now want c d flaw _ other.0 (far_closes c (closing t (record { now = now; event = event.Poll d want; acts = poll_acts t now want d flaw ++ loss_acts flaw })) (loss_acts flaw) (far_lost c flaw)))
       | inl here ↦
-          let rest = map act.Close (closing t (record { now = now; event = event.Poll d want; acts = poll_acts t now want d flaw ++ lost flaw })) ++ lost flaw in
-          let f = far_closes c (closing t (record { now = now; event = event.Poll d want; acts = poll_acts t now want d flaw ++ lost flaw })) (lost flaw) (far_lost c flaw) in
+          let rest = map act.Close (closing t (record { now = now; event = event.Poll d want; acts = poll_acts t now want d flaw ++ loss_acts flaw })) ++ loss_acts flaw in
+          let f = far_closes c (closing t (record { now = now; event = event.Poll d want; acts = poll_acts t now want d flaw ++ loss_acts flaw })) (loss_acts flaw) (far_lost c flaw) in
           subst (λ n. ToOne (event.Poll d want) (poll_acts t now want n flaw ++ rest)) (sym here.1) (by_flaw (event.Poll d want) rest f want flaw (ap (λ n. event.Poll n want) here.1))
     ]
     to_one (event.Head x response) = far_one (event.Head x response) _ (far_told limits t now c flaw (event.Head x response))
     to_one (event.Piece x bytes) = far_one (event.Piece x bytes) _ (far_told limits t now c flaw (event.Piece x bytes))
     to_one (event.End x) = far_one (event.End x) _ (far_told limits t now c flaw (event.End x))
     to_one (event.Fault x) = far_one (event.Fault x) _ (far_told limits t now c flaw (event.Fault x))
-    to_one (event.Cancel d) = far_one (event.Cancel d) _ (far_closes c (closing t (record { now = now; event = event.Cancel d; acts = lost flaw })) (lost flaw) (far_lost c flaw))
+    to_one (event.Cancel d) = far_one (event.Cancel d) _ (far_closes c (closing t (record { now = now; event = event.Cancel d; acts = loss_acts flaw })) (loss_acts flaw) (far_lost c flaw))
     to_one (event.Doom key) = far_one (event.Doom key) _ (far_told limits t now c flaw (event.Doom key))

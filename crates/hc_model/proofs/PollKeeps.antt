@@ -11,7 +11,7 @@ use Rattle.hc_event.specs.declared.act.Act.{Act}
 use Rattle.hc_event.specs.declared.act.Act.TheVariants as act
 use Rattle.hc_event.specs.declared.act.Need.{Need}
 use Rattle.hc_event.specs.declared.act.Need.TheVariants as need
-use Rattle.hc_model.specs.Answers.{poll_acts, lost, accepted}
+use Rattle.hc_model.specs.Answers.{poll_acts, loss_acts, accepted_acts}
 use Rattle.hc_model.specs.Closings.{closing}
 use Rattle.hc_model.specs.Currents.{current, is_usable, is_number}
 use Rattle.hc_model.specs.Entries.{Entry}
@@ -20,10 +20,10 @@ use Rattle.hc_model.specs.Flaws.{Flaw, NoFlaw, Loses, Misreads}
 use Rattle.hc_model.specs.Holes.{stretch_to}
 use Rattle.hc_model.specs.Moves as moves
 use Rattle.hc_model.specs.Moves.{Move, Nothing, Asks, Opens, Shows, Gives, Ends, Fails, acts_of}
-use Rattle.hc_model.specs.Polls.{polled}
+use Rattle.hc_model.specs.Polls.{poll_move}
 use Rattle.hc_model.specs.Reading.{offset}
 use Rattle.hc_model.specs.Rows.{Tables, Representation, Consumer}
-use Rattle.hc_model.specs.Sound.{Sound, Waits as StillWaits, OneAbout, IsAbout, InHole, HasPen}
+use Rattle.hc_model.specs.Sound.{Sound, Waits as StillWaits, OneAbout, IsAbout, InHole, IsExclusiveWriter}
 use Rattle.hc_model.specs.Steps.{held_of_lost}
 use Rattle.hc_model.specs.Tables.{after_accepted}
 use Rattle.hc_event.specs.declared.place.Place.{Place}
@@ -31,7 +31,7 @@ use Rattle.hc_rules.specs.declared.room.Limits.{Limits}
 use Rattle.hc_model.specs.Sound as sound
 use Rattle.hc_model.proofs.Basics.{and_right, not_true}
 use Rattle.hc_model.proofs.HoleLemmas.{bool_cases}
-use Rattle.hc_model.proofs.Pens.{IsAtHole, same_row, has_pen, none_about, none_about_hole}
+use Rattle.hc_model.proofs.ExclusiveWriters.{IsAtHole, same_row, has_exclusive_writer, none_about, none_about_hole}
 use Rattle.hc_model.proofs.PieceKeeps.{some_inj}
 use Rattle.hc_model.proofs.QuietKeeps.{OpensWell, waits_kept, one_about_kept}
 use Rattle.hc_model.proofs.HolesOpened.{first_absent, later_absent}
@@ -57,7 +57,7 @@ pub closes_open_none : (xs : List ℕ) (rest : List Act) → opening_in rest ≡
 closes_open_none [] rest none = none
 closes_open_none (x ∷ xs) rest none = closes_open_none xs rest none
 
-pub losses_open_none : (flaw : Flaw) → opening_in (lost flaw) ≡ None
+pub losses_open_none : (flaw : Flaw) → opening_in (loss_acts flaw) ≡ None
 losses_open_none NoFlaw = refl
 losses_open_none (Loses r kind) = refl
 losses_open_none (Misreads r) = refl
@@ -95,13 +95,13 @@ no_cell f p n (Some cell) is none = absurd (let never : stretch_of f p n (Some c
 
 -- what isn't held of a lost one, for the one that goes on with it, hasn't come
 not_held : (c n p : ℕ) (v : Representation) → v.is_lost ≡ true → v.alone ≡ Some c → held_of_lost c p n (Some v) ≡ None → v.body p ≡ None
-not_held c n p v lost alone none =
-    no_cell v.body p _ (v.body p) refl (cond_none (v.is_lost && is_number v.alone c) (stretch_to v.body v.reach p n) (and_true v.is_lost _ lost (is_same v.alone c alone)) none)
+not_held c n p v loss_acts alone none =
+    no_cell v.body p _ (v.body p) refl (cond_none (v.is_lost && is_number v.alone c) (stretch_to v.body v.reach p n) (and_true v.is_lost _ loss_acts (is_same v.alone c alone)) none)
 
 -- of what it is the exclusive writer of, what isn't stored or held hasn't come
-pub not_come : (t : Tables) (r c hi n : ℕ) (v : Representation) (k : Consumer) → Sound t → IsAtHole t r c hi v k → held_of_lost c (offset t k) n (Some v) ≡ None → HasPen t r v c → v.body (offset t k) ≡ None
+pub not_come : (t : Tables) (r c hi n : ℕ) (v : Representation) (k : Consumer) → Sound t → IsAtHole t r c hi v k → held_of_lost c (offset t k) n (Some v) ≡ None → IsExclusiveWriter t r v c → v.body (offset t k) ≡ None
 not_come t r c hi n v k s at none (sound.first kept is) = sym ((s.rows r v at.row).store.all_stored kept (offset t k)) ∙ at.missing
-not_come t r c hi n v k s at none (sound.alone lost is) = not_held c n (offset t k) v lost is none
+not_come t r c hi n v k s at none (sound.alone loss_acts is) = not_held c n (offset t k) v loss_acts is none
 
 -- where the aim of a poll is
 aim_row : (t : Tables) (c : ℕ) (k : Consumer) → t.consumer c ≡ Some k → aim_of t (t.consumer c) ≡ aim_from t k.request.key k.place
@@ -125,7 +125,7 @@ module _ (t : Tables) (c : ℕ) (k : Consumer) (s : Sound t) (is_row : t.consume
       let same : q ≡ r = some_inj q r (sym (aim_bound t q c k k.place at_hole.is_reader) ∙ (sym (aim_row t c k is_row) ∙ aim)) in
       let there : t.representation r ≡ Some u = ap t.representation (sym same) ∙ at_hole.row in
       let one : u ≡ v = same_row (t.representation r) u v there at in
-      ap (λ (w : Representation). w.body p) (sym one) ∙ later_absent t q c hi u k s at_hole (not_come t q c hi n u k s at_hole none (has_pen t q c hi u k s at_hole)) p (let a : from ≡ offset t k = from_is in omega arith) (rw to_is at lt)
+      ap (λ (w : Representation). w.body p) (sym one) ∙ later_absent t q c hi u k s at_hole (not_come t q c hi n u k s at_hole none (has_exclusive_writer t q c hi u k s at_hole)) p (let a : from ≡ offset t k = from_is in omega arith) (rw to_is at lt)
 
   hole_alone_at : (from to r y : ℕ) → OpensHole t c k from to → aim_of t (t.consumer c) ≡ Some r → IsAbout t r y → ⊥
   hole_alone_at from to r y (tree.first q u span hole is aims row nobody found from_is to_is) aim about =
@@ -153,15 +153,15 @@ opened_why t c k o _ (tree.fails cause) by = elim by [ ]
 opened_why t c k o _ (tree.opens x n request is_next why) (opens _ _ _ at needs number) = record { at = at; why = λ from to is. why from to (sym needs ∙ is); next = number ∙ is_next }
 
 abbrev poll_entry : Limits → Tables → ℕ → ℕ → ℕ → Flaw → Entry
-poll_entry limits t now c want flaw = record { now = now; event = event.Poll c want; acts = accepted limits t now (event.Poll c want) flaw }
+poll_entry limits t now c want flaw = record { now = now; event = event.Poll c want; acts = accepted_acts limits t now (event.Poll c want) flaw }
 
 module _ (limits : Limits) (t : Tables) (now c want : ℕ) (k : Consumer) (s : Sound t) (is_row : t.consumer c ≡ Some k) where
-  by_move : (o : Opening) (rest : List Act) → opening_in rest ≡ None → opening_in (acts_of c (polled t now want c (t.consumer c)) ++ rest) ≡ Some o → Opened t c k o
-  by_move o rest none is = opened_why t c k o (polled t now want c (Some k)) (fine_polled t c k s is_row now want) (opened_by c (polled t now want c (Some k)) rest o none (rw is_row at is))
+  by_move : (o : Opening) (rest : List Act) → opening_in rest ≡ None → opening_in (acts_of c (poll_move t now want c (t.consumer c)) ++ rest) ≡ Some o → Opened t c k o
+  by_move o rest none is = opened_why t c k o (poll_move t now want c (Some k)) (fine_polled t c k s is_row now want) (opened_by c (poll_move t now want c (Some k)) rest o none (rw is_row at is))
 
-  by_poll : (flaw : Flaw) (xs : List ℕ) (o : Opening) → opening_in (poll_acts t now want c flaw ++ (map act.Close xs ++ lost flaw)) ≡ Some o → Opened t c k o
+  by_poll : (flaw : Flaw) (xs : List ℕ) (o : Opening) → opening_in (poll_acts t now want c flaw ++ (map act.Close xs ++ loss_acts flaw)) ≡ Some o → Opened t c k o
   by_poll NoFlaw xs o is = by_move o (map act.Close xs ++ []) (closes_open_none xs [] refl) is
-  by_poll (Loses r kind) xs o is = by_move o (map act.Close xs ++ lost (Loses r kind)) (closes_open_none xs (lost (Loses r kind)) refl) is
+  by_poll (Loses r kind) xs o is = by_move o (map act.Close xs ++ loss_acts (Loses r kind)) (closes_open_none xs (loss_acts (Loses r kind)) refl) is
   by_poll (Misreads r) xs o is = absurd (let never : None ≡ Some o = rw (closes_open_none xs [] refl) at is in cc)
 
   in_hole : (o : Opening) (r p : ℕ) (v : Representation) → Opened t c k o → aim_of t (t.consumer c) ≡ Some r → t.representation r ≡ Some v → (n : Need) → o.need ≡ n → InHole n p → v.body p ≡ None
@@ -178,7 +178,7 @@ module _ (limits : Limits) (t : Tables) (now c want : ℕ) (k : Consumer) (s : S
   aim_at o r opened aim = ap (λ d. aim_of t (t.consumer d)) (sym opened.at) ∙ aim
 
   abbrev closed : Flaw → List ℕ
-  closed flaw = closing t (record { now = now; event = event.Poll c want; acts = poll_acts t now want c flaw ++ lost flaw })
+  closed flaw = closing t (record { now = now; event = event.Poll c want; acts = poll_acts t now want c flaw ++ loss_acts flaw })
 
   poll_well : (flaw : Flaw) → OpensWell t (poll_entry limits t now c want flaw)
   poll_well flaw = record {
@@ -187,7 +187,7 @@ module _ (limits : Limits) (t : Tables) (now c want : ℕ) (k : Consumer) (s : S
   }
 
   -- what a poll opens has the next number
-  pub poll_opens_next : (flaw : Flaw) (o : Opening) → opening_in (accepted limits t now (event.Poll c want) flaw) ≡ Some o → o.x ≡ t.opened + 1
+  pub poll_opens_next : (flaw : Flaw) (o : Opening) → opening_in (accepted_acts limits t now (event.Poll c want) flaw) ≡ Some o → o.x ≡ t.opened + 1
   poll_opens_next flaw o is = (by_poll flaw (closed flaw) o is).next
 
   -- A poll keeps what open exchanges are still to bring absent, and one of them at most about each representation.

@@ -28,9 +28,9 @@ use Rattle.hc_model.specs.Currents.{current}
 use Rattle.hc_model.specs.Reading.{reads, hi_of, own_open, source}
 use Rattle.hc_model.specs.Moves as moves
 use Rattle.hc_model.specs.Moves.{Move, Nothing, Asks, Opens, Shows, Gives, Ends, Fails, opens_hole, shows_stored, gives, waits_for}
-use Rattle.hc_model.specs.Planning.{plan_view, plan_move, planned, fetched, conditional_on, current_row, binds_current}
-use Rattle.hc_model.specs.Steps.{bound_row, most, held, read_view, later_hole, step_move, reading}
-use Rattle.hc_model.specs.Polls.{shows_answer, shows_direct, shows_bound, shows_at, shows_head, has_joined, if_headless, waits_for_head, or_else, by_place, polled}
+use Rattle.hc_model.specs.Planning.{plan_view, plan_move, planned_move, origin_request, conditional_on, current_row, binds_current}
+use Rattle.hc_model.specs.Steps.{bound_row, most, run_held_for, read_view, later_hole, step_move, reading}
+use Rattle.hc_model.specs.Polls.{shows_answer, shows_direct, shows_bound, shows_at, shows_head, has_joined, if_headless, waits_for_head, or_else, by_place, poll_move}
 use Rattle.hc_model.proofs.HoleLemmas.{bool_cases}
 use Rattle.hc_model.proofs.Joining.{mix}
 use Rattle.hc_model.proofs.PieceKeeps.{some_inj}
@@ -103,7 +103,7 @@ module _ (t : Tables) (c : ℕ) (k : Consumer) where
     near_reading =
         mix NearStep (is_at_end v.hi v.offset) step.Ended (stored_or v.hi v.stored by_held) ends
         (step_stored v.hi v.stored by_held
-        (mix NearStep v.held step.Held (fails_or v.due by_waits) (near_gives (held t c k (most t want k)))
+        (mix NearStep v.held step.Held (fails_or v.due by_waits) (near_gives (run_held_for t c k (most t want k)))
         (step_fails v.due by_waits (step_waits (source t k) refl))))
 
   -- PLANS
@@ -112,7 +112,7 @@ module _ (t : Tables) (c : ℕ) (k : Consumer) where
   conditional_key None request = refl
   conditional_key (Some v) request = refl
 
-  fetched_key : (n : Need) → (fetched t k n).key ≡ k.request.key
+  fetched_key : (n : Need) → (origin_request t k n).key ≡ k.request.key
   fetched_key need.Validate = conditional_key (current_row t k) k.request
   fetched_key need.Disabled = refl
   fetched_key need.TimedOut = refl
@@ -173,7 +173,7 @@ module _ (t : Tables) (c : ℕ) (k : Consumer) where
 
   -- ALL MOVES
 
-  near_other : (now want : ℕ) → IsNear t k (if k.shown then reading t want c k else planned t now c k)
+  near_other : (now want : ℕ) → IsNear t k (if k.shown then reading t want c k else planned_move t now c k)
   near_other now want = mix (IsNear t k) k.shown _ _ (near_reading want) (near_plan (plan_of (plan_view t now c k)))
 
   near_place : (now want : ℕ) (place : Place) → IsNear t k (by_place t now want c k place)
@@ -181,7 +181,7 @@ module _ (t : Tables) (c : ℕ) (k : Consumer) where
   near_place now want place.Over = nothing
   near_place now want _ = near_other now want
 
-  pub near_polled : (now want : ℕ) → IsNear t k (polled t now want c (Some k))
+  pub near_polled : (now want : ℕ) → IsNear t k (poll_move t now want c (Some k))
   near_polled now want =
       near_some (shows_head t k) _ (λ n is. near_head k.shown n is)
       (near_some (waits_for_head (option_and_then (if_headless t) (own_open t k))) _

@@ -34,14 +34,14 @@ use Rattle.hc_model.specs.Reading.{bound, bound_to, offset, hi_of, own_open, sou
 use Rattle.hc_model.specs.ExchangeRows.{aim_from}
 use Rattle.hc_model.specs.Moves as moves
 use Rattle.hc_model.specs.Moves.{Move, Nothing, Asks, Opens, Shows, Gives, Ends, Fails, opens_hole, shows_stored, gives, waits_for}
-use Rattle.hc_model.specs.Planning.{plan_view, plan_move, planned, candidate, candidate_at, hole_of, binds_current}
-use Rattle.hc_model.specs.Steps.{bound_row, stored_ahead, stored_from, held, held_at, held_of_lost, read_view, later_hole, step_move, reading, most}
-use Rattle.hc_model.specs.Polls.{shows_answer, shows_direct, shows_bound, shows_at, shows_head, has_joined, if_headless, waits_for_head, or_else, by_place, polled}
+use Rattle.hc_model.specs.Planning.{plan_view, plan_move, planned_move, candidate, candidate_at, hole_of, binds_current}
+use Rattle.hc_model.specs.Steps.{bound_row, stored_ahead, stored_from, run_held_for, held_at, held_of_lost, read_view, later_hole, step_move, reading, most}
+use Rattle.hc_model.specs.Polls.{shows_answer, shows_direct, shows_bound, shows_at, shows_head, has_joined, if_headless, waits_for_head, or_else, by_place, poll_move}
 use Rattle.hc_model.specs.Sound.{Sound, IsBound, IsToBeShown}
 use Rattle.hc_model.specs.Sound as sound
 use Rattle.hc_model.proofs.HoleLemmas.{bool_cases}
 use Rattle.hc_model.proofs.Joining.{mix}
-use Rattle.hc_model.proofs.Pens.{IsAtHole}
+use Rattle.hc_model.proofs.ExclusiveWriters.{IsAtHole}
 use Rattle.hc_model.proofs.PieceKeeps.{some_inj}
 use Rattle.hc_model.proofs.PlanTree.{IsFree, Fine, fine_plan}
 use Rattle.hc_model.proofs.PlanTree as plans
@@ -165,24 +165,24 @@ module _ (t : Tables) (c : ℕ) (k : Consumer) where
     no_run None h = refl
     no_run (Some run) h = absurd (let never : Some (end_of run) ≡ None = h in cc)
 
-    step_waits : (o : Option ℕ) → source t k ≡ o → k.due ≡ None → is_at_end (hi_of t k.place) (offset t k) ≡ false → stored_ahead t k want ≡ None → held t c k want ≡ None → FineStep (waits_or o (readings.opens v))
+    step_waits : (o : Option ℕ) → source t k ≡ o → k.due ≡ None → is_at_end (hi_of t k.place) (offset t k) ≡ false → stored_ahead t k want ≡ None → run_held_for t c k want ≡ None → FineStep (waits_or o (readings.opens v))
     step_waits (Some x) from none_due off missing none_held = fine_asks x (t.exchange x)
     step_waits None from none_due off missing none_held =
         later_by is_row want none_due (λ hi is. not_at (hi_of t k.place) (offset t k) hi off is) from k.place (bound_row t k) (hi_of t k.place) refl refl refl missing none_held
 
-    step_fails : (o : Option Cause) → k.due ≡ o → is_at_end (hi_of t k.place) (offset t k) ≡ false → stored_ahead t k want ≡ None → held t c k want ≡ None → FineStep (fails_or o (waits_or (source t k) (readings.opens v)))
+    step_fails : (o : Option Cause) → k.due ≡ o → is_at_end (hi_of t k.place) (offset t k) ≡ false → stored_ahead t k want ≡ None → run_held_for t c k want ≡ None → FineStep (fails_or o (waits_or (source t k) (readings.opens v)))
     step_fails (Some cause) due off missing none_held = fails cause
     step_fails None due off missing none_held = step_waits (source t k) refl due off missing none_held
 
-    step_held : (b : Bool) → is_some (held t c k want) ≡ b → is_at_end (hi_of t k.place) (offset t k) ≡ false → stored_ahead t k want ≡ None → FineStep (held_or b (fails_or k.due (waits_or (source t k) (readings.opens v))))
-    step_held true is off missing = fine_gives (held t c k (most t want k))
-    step_held false is off missing = step_fails k.due refl off missing (not_some (held t c k want) is)
+    step_held : (b : Bool) → is_some (run_held_for t c k want) ≡ b → is_at_end (hi_of t k.place) (offset t k) ≡ false → stored_ahead t k want ≡ None → FineStep (held_or b (fails_or k.due (waits_or (source t k) (readings.opens v))))
+    step_held true is off missing = fine_gives (run_held_for t c k (most t want k))
+    step_held false is off missing = step_fails k.due refl off missing (not_some (run_held_for t c k want) is)
 
-    step_stored : (o : Option ℕ) → option_map end_of (stored_ahead t k want) ≡ o → is_at_end (hi_of t k.place) (offset t k) ≡ false → FineStep (stored_or (hi_of t k.place) o (held_or (is_some (held t c k want)) (fails_or k.due (waits_or (source t k) (readings.opens v)))))
+    step_stored : (o : Option ℕ) → option_map end_of (stored_ahead t k want) ≡ o → is_at_end (hi_of t k.place) (offset t k) ≡ false → FineStep (stored_or (hi_of t k.place) o (held_or (is_some (run_held_for t c k want)) (fails_or k.due (waits_or (source t k) (readings.opens v)))))
     step_stored (Some end) is off = fine_gives _
-    step_stored None is off = step_held (is_some (held t c k want)) refl off (no_run (stored_ahead t k want) is)
+    step_stored None is off = step_held (is_some (run_held_for t c k want)) refl off (no_run (stored_ahead t k want) is)
 
-    step_end : (b : Bool) → is_at_end (hi_of t k.place) (offset t k) ≡ b → FineStep (cond b step.Ended (stored_or (hi_of t k.place) (option_map end_of (stored_ahead t k want)) (held_or (is_some (held t c k want)) (fails_or k.due (waits_or (source t k) (readings.opens v))))))
+    step_end : (b : Bool) → is_at_end (hi_of t k.place) (offset t k) ≡ b → FineStep (cond b step.Ended (stored_or (hi_of t k.place) (option_map end_of (stored_ahead t k want)) (held_or (is_some (run_held_for t c k want)) (fails_or k.due (waits_or (source t k) (readings.opens v))))))
     step_end true is = ends
     step_end false is = step_stored (option_map end_of (stored_ahead t k want)) refl is
 
@@ -262,7 +262,7 @@ module _ (t : Tables) (c : ℕ) (k : Consumer) where
   fine_shows_head true m shown is = absurd (let never : None ≡ Some m = is in cc)
   fine_shows_head false m shown is = fine_shows_at k.place m is
 
-  fine_unbound : t.consumer c ≡ Some k → aim_from t k.request.key k.place ≡ current t k.request.key → (now want : ℕ) → FineMove t c k (if k.shown then reading t want c k else planned t now c k)
+  fine_unbound : t.consumer c ≡ Some k → aim_from t k.request.key k.place ≡ current t k.request.key → (now want : ℕ) → FineMove t c k (if k.shown then reading t want c k else planned_move t now c k)
   fine_unbound is_row aims now want = mix (FineMove t c k) k.shown _ _ (fine_reading is_row want) (fine_plan_move aims now _ (fine_plan (plan_view t now c k)))
 
   shows_of : (place : Place) → k.place ≡ place → k.shown ≡ false → shows_head t k ≡ None → shows_at t k place ≡ None
@@ -274,7 +274,7 @@ module _ (t : Tables) (c : ℕ) (k : Consumer) where
   never_plans r lo hi _ at shown (sound.joined y joined) none not_waiting = let never : shows_at t k (place.Bound r lo hi (by.FirstHole y)) ≡ None = shows_of _ at shown none in let also = rw joined at never in cc
   never_plans r lo hi _ at shown (sound.waits y own headless) none not_waiting = let never : Some y ≡ None = rw (own, headless) at not_waiting in cc
 
-  fine_bound : Sound t → t.consumer c ≡ Some k → (now want r lo : ℕ) (hi : Option ℕ) (how : BoundBy) (b : Bool) → k.place ≡ place.Bound r lo hi how → k.shown ≡ b → shows_head t k ≡ None → option_and_then (if_headless t) (own_open t k) ≡ None → FineMove t c k (if b then reading t want c k else planned t now c k)
+  fine_bound : Sound t → t.consumer c ≡ Some k → (now want r lo : ℕ) (hi : Option ℕ) (how : BoundBy) (b : Bool) → k.place ≡ place.Bound r lo hi how → k.shown ≡ b → shows_head t k ≡ None → option_and_then (if_headless t) (own_open t k) ≡ None → FineMove t c k (if b then reading t want c k else planned_move t now c k)
   fine_bound s is_row now want r lo hi how true at shown none not_waiting = fine_reading is_row want
   fine_bound s is_row now want r lo hi how false at shown none not_waiting = absurd (never_plans r lo hi how at shown (s.unshown c r lo hi how k is_row at shown) none not_waiting)
 
@@ -288,7 +288,7 @@ module _ (t : Tables) (c : ℕ) (k : Consumer) where
   fine_by_place s is_row now want place.Over at none not_waiting = nothing
 
   -- every move of a poll is fine
-  pub fine_polled : Sound t → t.consumer c ≡ Some k → (now want : ℕ) → FineMove t c k (polled t now want c (Some k))
+  pub fine_polled : Sound t → t.consumer c ≡ Some k → (now want : ℕ) → FineMove t c k (poll_move t now want c (Some k))
   fine_polled s is_row now want =
       fine_or_else (shows_head t k) _ (λ m is. fine_shows_head k.shown m refl is) (λ none.
       fine_waits_head (option_and_then (if_headless t) (own_open t k)) _ (λ not_waiting.

@@ -3,7 +3,7 @@ use Rattle.std.proofs.Common.{◌≡◌, inl, inr, ℕ, zero, suc, ◌+◌, ◌-
 use Rattle.std.specs.Prelude.{is_some, nat_le, nat_lt}
 use Rattle.std.proofs.lemmas.Bool.Decides.{nat_tests}
 use Rattle.std.proofs.lemmas.List.Sums.{sum_by-cons}
-use Rattle.hc_sparse.specs.Cells.{Cells, Covers, EndsBy, AreAbsent, written, size_below}
+use Rattle.hc_sparse.specs.Cells.{Cells, Covers, EndsBy, AreAbsent, cells_with, size_below}
 use Rattle.hc_sparse.specs.Runs.{cells_of, end_of}
 use Rattle.hc_sparse.specs.declared.run.Run.{Run}
 use Rattle.hc_sparse.proofs.CellLemmas.{inside-cases, inside-before}
@@ -27,7 +27,7 @@ below_past f n (suc m) ends le = elim (bool_cases (nat_le n m)) [
   | inr over ↦ let same : n ≡ suc m = (let past : m < n = grind (arith, nat_tests) in omega arith) in rw same refl
 ]
 
-pub below_written : (f : Cells) (from x : ℕ) (bytes : List ℕ) (n : ℕ) → AreAbsent f from (from + length bytes) → size_below (written from x bytes f) n ≡ size_below f n + (min n (from + length bytes) - from)
+pub below_written : (f : Cells) (from x : ℕ) (bytes : List ℕ) (n : ℕ) → AreAbsent f from (from + length bytes) → size_below (cells_with from x bytes f) n ≡ size_below f n + (min n (from + length bytes) - from)
 unfolding size_below
 below_written f from x bytes zero absent = omega arith
 below_written f from x bytes (suc n) absent =
@@ -38,7 +38,7 @@ below_written f from x bytes (suc n) absent =
     ]
 
 -- written where nothing was, up to the farther of both ends
-pub below_put : (f : Cells) (from x n : ℕ) (bytes : List ℕ) → EndsBy n f → AreAbsent f from (from + length bytes) → size_below (written from x bytes f) (max n (from + length bytes)) ≡ size_below f n + length bytes
+pub below_put : (f : Cells) (from x n : ℕ) (bytes : List ℕ) → EndsBy n f → AreAbsent f from (from + length bytes) → size_below (cells_with from x bytes f) (max n (from + length bytes)) ≡ size_below f n + length bytes
 below_put f from x n bytes ends absent =
     let all = below_written f from x bytes (max n (from + length bytes)) absent in
     let past : size_below f (max n (from + length bytes)) ≡ size_below f n = below_past f n (max n (from + length bytes)) ends (omega arith) in

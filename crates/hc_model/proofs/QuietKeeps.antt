@@ -10,14 +10,14 @@ use Rattle.hc_event.specs.declared.act.Need.TheVariants as need
 use Rattle.hc_sparse.specs.Cells.{Cells}
 use Rattle.hc_model.specs.Entries.{Entry}
 use Rattle.hc_model.specs.ExchangeRows.{exchange_after, exchange_heard, exchange_acted, exchange_made, aim_of}
-use Rattle.hc_model.specs.Exchanges.{base, promised, front, family}
-use Rattle.hc_model.specs.RepresentationRows.{representation_after, representation_heard, founded_at, ended, length_in}
+use Rattle.hc_model.specs.Exchanges.{base, promised_bytes, front, family}
+use Rattle.hc_model.specs.RepresentationRows.{representation_after, representation_heard, founded_at, with_total_if_none, length_in}
 use Rattle.hc_model.specs.Rows.{Tables, Exchange, Representation}
 use Rattle.hc_model.specs.Sound.{Waits, Sound, OneAbout, IsAbout, IsPromised, InHole}
 use Rattle.hc_model.specs.Tables.{after_accepted}
 use Rattle.hc_model.specs.Sound as sound
 use Rattle.hc_model.proofs.Basics.{and_right}
-use Rattle.hc_model.proofs.Pens.{same_row}
+use Rattle.hc_model.proofs.ExclusiveWriters.{same_row}
 use Rattle.hc_model.proofs.PieceKeeps.{eq_cases, some_inj, ends_same}
 
 -- it brings neither a head nor a piece
@@ -39,7 +39,7 @@ pub record IsSame (y : ℕ) (w u : Exchange) : Type 0 where
   pub aim_is : u.aim ≡ w.aim
   pub joined_is : u.joined ≡ w.joined
   pub family_is : family y u ≡ family y w
-  pub promised_is : promised u ≡ promised w
+  pub promised_is : promised_bytes u ≡ promised_bytes w
   pub base_is : base u ≡ base w
   pub front_is : front u ≡ front w
   pub body_is : u.body ≡ w.body
@@ -68,7 +68,7 @@ quiet_exchange t e y (event.Cancel c) w quiet = closed_only y e.acts w
 quiet_exchange t e y (event.Doom key) w quiet = closed_only y e.acts w
 
 -- no body changes
-totalled_body : (b : Bool) (n : ℕ) (v : Representation) → (cond b (ended n v) v).body ≡ v.body
+totalled_body : (b : Bool) (n : ℕ) (v : Representation) → (cond b (with_total_if_none n v) v).body ≡ v.body
 totalled_body true n v = refl
 totalled_body false n v = refl
 
@@ -129,11 +129,11 @@ pub record OpensWell (t : Tables) (e : Entry) : Type 0 where
   pub alone : (o : Opening) (r from to y : ℕ) → opening_in e.acts ≡ Some o → aim_of t (t.consumer o.c) ≡ Some r → o.need ≡ need.Hole from to → IsAbout t r y → ⊥
 
 module _ (t : Tables) (e : Entry) (s : Sound t) (quiet : is_quiet e.event ≡ true) (well : OpensWell t e) where
-  front_kept : (y : ℕ) (u : Exchange) (v : Representation) (p : ℕ) → WasOrNew t e y u → IsKept t (family y u) v → u.is_open ≡ true → is_some u.head ≡ true → front u ≤ p → IsPromised (promised u) u p → v.body p ≡ None
+  front_kept : (y : ℕ) (u : Exchange) (v : Representation) (p : ℕ) → WasOrNew t e y u → IsKept t (family y u) v → u.is_open ≡ true → is_some u.head ≡ true → front u ≤ p → IsPromised (promised_bytes u) u p → v.body p ≡ None
   front_kept y u v p (was w row same) kept is_open headed le ends =
       let there : t.representation (family y w) ≡ Some kept.v = rw same.family_is at kept.row in
       let ahead : front w ≤ p = rw same.front_is at le in
-      ap (λ (f : Cells). f p) kept.body_is ∙ s.waits.fronts y w kept.v p row (same.was_open is_open) (rw same.head_is at headed) there ahead (ends_same (promised w) u w p same.base_is (rw same.promised_is at ends))
+      ap (λ (f : Cells). f p) kept.body_is ∙ s.waits.fronts y w kept.v p row (same.was_open is_open) (rw same.head_is at headed) there ahead (ends_same (promised_bytes w) u w p same.base_is (rw same.promised_is at ends))
   front_kept y u v p (new o opens here bare joined body need aim) kept is_open headed le ends = absurd (let never : false ≡ true = rw bare at headed in cc)
 
   hole_kept : (y : ℕ) (u : Exchange) (r : ℕ) (v : Representation) (p : ℕ) → WasOrNew t e y u → IsKept t r v → u.is_open ≡ true → u.head ≡ None → u.aim ≡ Some r → InHole u.need p → v.body p ≡ None

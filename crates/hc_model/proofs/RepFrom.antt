@@ -10,7 +10,7 @@ use Rattle.hc_event.specs.declared.event.Response.{Response}
 use Rattle.hc_model.specs.ActFilters.{loses_in}
 use Rattle.hc_model.specs.Cases.{case_at, is_founding, is_joining}
 use Rattle.hc_model.specs.Entries.{Entry}
-use Rattle.hc_model.specs.RepresentationRows.{representation_after, representation_heard, representation_acted, founded_at, represented, headed, renewed, updates, resumes, pieced, filled, ended, length_in}
+use Rattle.hc_model.specs.RepresentationRows.{representation_after, representation_heard, representation_acted, founded_at, new_representation, representation_after_head, with_renewed_head, updates, resumes, representation_after_piece, with_stored_bytes, with_total_if_none, length_in}
 use Rattle.hc_model.specs.Exchanges.{family, front}
 use Rattle.hc_model.specs.Rows.{Tables, Exchange, Representation}
 use Rattle.hc_model.proofs.HoleLemmas.{bool_cases}
@@ -47,7 +47,7 @@ heard_same : (t : Tables) (e : Entry) (r : ℕ) (v : Representation) → IsHeard
 heard_same t e r v = record { key_is = refl; status_is = refl; lost_is = refl; alone_is = refl; gone_is = refl; writer_is = inl refl; total_is = inl refl }
 
 module _ (t : Tables) (e : Entry) (r : ℕ) (v : Representation) where
-  renewed_by : (x : ℕ) (response : Response) (w : Exchange) (b : Bool) → e.event ≡ event.Head x response → t.exchange x ≡ Some w → updates t e r w v ≡ true → (is_joining (case_at t e) && resumes t response w v) ≡ b → IsHeard t e r v (renewed t e x response w v)
+  renewed_by : (x : ℕ) (response : Response) (w : Exchange) (b : Bool) → e.event ≡ event.Head x response → t.exchange x ≡ Some w → updates t e r w v ≡ true → (is_joining (case_at t e) && resumes t response w v) ≡ b → IsHeard t e r v (with_renewed_head t e x response w v)
   renewed_by x response w true at row up is = record {
     key_is = refl;
     status_is = refl;
@@ -67,25 +67,25 @@ module _ (t : Tables) (e : Entry) (r : ℕ) (v : Representation) where
       right false b h = absurd (let never : false ≡ true = h in cc)
   renewed_by x response w false at row up is = record { key_is = refl; status_is = refl; lost_is = refl; alone_is = refl; gone_is = refl; writer_is = inl (rw is refl); total_is = inl refl }
 
-  headed_by : (x : ℕ) (response : Response) (o : Option Exchange) → e.event ≡ event.Head x response → t.exchange x ≡ o → IsHeard t e r v (headed t e r x response o v)
+  headed_by : (x : ℕ) (response : Response) (o : Option Exchange) → e.event ≡ event.Head x response → t.exchange x ≡ o → IsHeard t e r v (representation_after_head t e r x response o v)
   headed_by x response None at row = heard_same t e r v
   headed_by x response (Some w) at row = elim (bool_cases (updates t e r w v)) [
-    | inl up ↦ subst (λ (b : Bool). IsHeard t e r v (if b then renewed t e x response w v else v)) (sym up) (renewed_by x response w (is_joining (case_at t e) && resumes t response w v) at row up refl)
-    | inr off ↦ subst (λ (b : Bool). IsHeard t e r v (if b then renewed t e x response w v else v)) (sym off) (heard_same t e r v)
+    | inl up ↦ subst (λ (b : Bool). IsHeard t e r v (if b then with_renewed_head t e x response w v else v)) (sym up) (renewed_by x response w (is_joining (case_at t e) && resumes t response w v) at row up refl)
+    | inr off ↦ subst (λ (b : Bool). IsHeard t e r v (if b then with_renewed_head t e x response w v else v)) (sym off) (heard_same t e r v)
   ]
 
-  filled_by : (b : Bool) (at x : ℕ) (bytes : List ℕ) → IsHeard t e r v (filled b at x bytes v)
+  filled_by : (b : Bool) (at x : ℕ) (bytes : List ℕ) → IsHeard t e r v (with_stored_bytes b at x bytes v)
   filled_by b at x bytes = record { key_is = refl; status_is = refl; lost_is = refl; alone_is = refl; gone_is = refl; writer_is = inl refl; total_is = inl refl }
 
-  pieced_by : (x : ℕ) (bytes : List ℕ) (o : Option Exchange) → IsHeard t e r v (pieced e r x bytes o v)
+  pieced_by : (x : ℕ) (bytes : List ℕ) (o : Option Exchange) → IsHeard t e r v (representation_after_piece e r x bytes o v)
   pieced_by x bytes None = heard_same t e r v
   pieced_by x bytes (Some w) = cond_by (family x w == r)
     where
-      cond_by : (b : Bool) → IsHeard t e r v (if b then filled (not (v.is_lost || loses_in r e.acts)) (front w) x bytes v else v)
+      cond_by : (b : Bool) → IsHeard t e r v (if b then with_stored_bytes (not (v.is_lost || loses_in r e.acts)) (front w) x bytes v else v)
       cond_by true = filled_by _ (front w) x bytes
       cond_by false = heard_same t e r v
 
-  ended_by : (x : ℕ) → e.event ≡ event.End x → IsHeard t e r v (if x == r then ended (length_in (t.exchange x)) v else v)
+  ended_by : (x : ℕ) → e.event ≡ event.End x → IsHeard t e r v (if x == r then with_total_if_none (length_in (t.exchange x)) v else v)
   ended_by x at = elim (eq_cases x r) [
     | inl here ↦ rw here.0 (record { key_is = refl; status_is = refl; lost_is = refl; alone_is = refl; gone_is = refl; writer_is = inl refl; total_is = inr (record { at = at ∙ ap event.End here.1; total_is = ap (λ n. option_or v.head.total (Some (length_in (t.exchange n)))) here.1 }) })
     | inr other ↦ rw other.0 (heard_same t e r v)
@@ -113,7 +113,7 @@ pub record IsKept (t : Tables) (e : Entry) (r : ℕ) (v u : Representation) : Ty
 
 pub data RepFrom (t : Tables) (e : Entry) (r : ℕ) (u : Representation) : Type 0 where
   was : (v : Representation) → IsKept t e r v u → RepFrom t e r u
-  founded : (response : Response) (w : Exchange) → t.representation r ≡ None → e.event ≡ event.Head r response → t.exchange r ≡ Some w → is_founding (case_at t e) ≡ true → represented r e response w ≡ u → RepFrom t e r u
+  founded : (response : Response) (w : Exchange) → t.representation r ≡ None → e.event ≡ event.Head r response → t.exchange r ≡ Some w → is_founding (case_at t e) ≡ true → new_representation r e response w ≡ u → RepFrom t e r u
 
 module _ (t : Tables) (e : Entry) (r : ℕ) where
   none_some : {A : Type 0} (a : A) → None ≡ Some a → ⊥
@@ -130,7 +130,7 @@ module _ (t : Tables) (e : Entry) (r : ℕ) where
     total_is = h.total_is;
   }
 
-  founded_by : (x : ℕ) (response : Response) (o : Option Exchange) (u : Representation) → t.representation r ≡ None → e.event ≡ event.Head x response → t.exchange x ≡ o → (if is_founding (case_at t e) && x == r then option_map (represented r e response) o else None) ≡ Some u → RepFrom t e r u
+  founded_by : (x : ℕ) (response : Response) (o : Option Exchange) (u : Representation) → t.representation r ≡ None → e.event ≡ event.Head x response → t.exchange x ≡ o → (if is_founding (case_at t e) && x == r then option_map (new_representation r e response) o else None) ≡ Some u → RepFrom t e r u
   founded_by x response o u none at row is = elim (bool_cases (is_founding (case_at t e))) [
     | inr off ↦ absurd (none_some u (rw off at is))
     | inl on ↦ elim (eq_cases x r) [
@@ -139,9 +139,9 @@ module _ (t : Tables) (e : Entry) (r : ℕ) where
     ]
   ]
     where
-      by_row : (o : Option Exchange) → t.exchange x ≡ o → option_map (represented r e response) o ≡ Some u → x ≡ r → is_founding (case_at t e) ≡ true → RepFrom t e r u
+      by_row : (o : Option Exchange) → t.exchange x ≡ o → option_map (new_representation r e response) o ≡ Some u → x ≡ r → is_founding (case_at t e) ≡ true → RepFrom t e r u
       by_row None row is here on = absurd (none_some u is)
-      by_row (Some w) row is here on = founded response w none (at ∙ ap (λ n. event.Head n response) here) (sym (ap t.exchange here) ∙ row) on (some_inj (represented r e response w) u is)
+      by_row (Some w) row is here on = founded response w none (at ∙ ap (λ n. event.Head n response) here) (sym (ap t.exchange here) ∙ row) on (some_inj (new_representation r e response w) u is)
 
   new_from : (ev : Event) (u : Representation) → t.representation r ≡ None → e.event ≡ ev → founded_at t e r ev ≡ Some u → RepFrom t e r u
   new_from (event.Start c request) u none at is = absurd (none_some u is)
@@ -167,7 +167,7 @@ module _ (t : Tables) (e : Entry) (r : ℕ) where
   stays None there = absurd (let never : false ≡ true = there in cc)
   stays (Some v) there = refl
 
-  some_by : (b c : Bool) (response : Response) (w : Exchange) (o : Option Exchange) → b ≡ true → c ≡ true → o ≡ Some w → is_some (if b && c then option_map (represented r e response) o else None) ≡ true
+  some_by : (b c : Bool) (response : Response) (w : Exchange) (o : Option Exchange) → b ≡ true → c ≡ true → o ≡ Some w → is_some (if b && c then option_map (new_representation r e response) o else None) ≡ true
   some_by b c response w o on here row = rw (on, here, row) refl
 
   -- what founds is there

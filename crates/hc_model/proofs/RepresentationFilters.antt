@@ -6,14 +6,14 @@ use Rattle.hc_event.specs.Filters.{is_denied}
 use Rattle.hc_event.specs.declared.event.Event.{Event}
 use Rattle.hc_event.specs.declared.event.Event.TheVariants as event
 use Rattle.hc_event.specs.declared.event.Response.{Response}
-use Rattle.hc_sparse.specs.Cells.{Cells, nothing, written, inside}
+use Rattle.hc_sparse.specs.Cells.{Cells, nothing, cells_with, inside}
 use Rattle.hc_sparse.specs.declared.run.Run.{Run}
 use Rattle.hc_model.specs.ActFilters.{loses_in}
 use Rattle.hc_model.specs.Entries.{Entry, History, Content, Contents}
 use Rattle.hc_model.specs.Exchanges.{family}
 use Rattle.hc_model.specs.Rows.{Tables, Exchange, Representation}
-use Rattle.hc_model.specs.RepresentationRows.{representation_after, representation_heard, representation_acted, founded_at, represented, headed, renewed, updates, pieced, ended, length_in}
-use Rattle.hc_model.specs.Tables.{tables, after, begun, loaded}
+use Rattle.hc_model.specs.RepresentationRows.{representation_after, representation_heard, representation_acted, founded_at, new_representation, representation_after_head, with_renewed_head, updates, representation_after_piece, with_total_if_none, length_in}
+use Rattle.hc_model.specs.Tables.{tables, after, first_tables, representation_of_content}
 use Rattle.hc_model.specs.Histories.{if_accepted, piece_by, piece_in, pieces_of, was_lost, stored_of, over, begun_with, cells_in, IsFilteredRow, RunsAreFiltered}
 use Rattle.hc_model.proofs.HoleLemmas.{bool_cases}
 use Rattle.hc_model.proofs.Owed.{denied_loses}
@@ -25,10 +25,10 @@ use Rattle.hc_model.proofs.JoinFilters.{exchanges_are_filtered}
 
 over_append : (xs ys : List Run) (f : Cells) → over (xs ++ ys) f ≡ over ys (over xs f)
 over_append [] ys f = refl
-over_append (run ∷ xs) ys f = over_append xs ys (written run.at run.x run.bytes f)
+over_append (run ∷ xs) ys f = over_append xs ys (cells_with run.at run.x run.bytes f)
 
 -- the same over what has the same at each position
-written_at : (at x q : ℕ) (bytes : List ℕ) (f g : Cells) → f q ≡ g q → written at x bytes f q ≡ written at x bytes g q
+written_at : (at x q : ℕ) (bytes : List ℕ) (f g : Cells) → f q ≡ g q → cells_with at x bytes f q ≡ cells_with at x bytes g q
 written_at at x q bytes f g same = elim (bool_cases (inside at (length bytes) q)) [
   | inl here ↦ rw here refl
   | inr off ↦ rw off same
@@ -37,7 +37,7 @@ written_at at x q bytes f g same = elim (bool_cases (inside at (length bytes) q)
 over_at : (runs : List Run) (f g : Cells) (p : ℕ) → ((q : ℕ) → f q ≡ g q) → over runs f p ≡ over runs g p
 over_at [] f g p same = same p
 over_at (run ∷ runs) f g p same =
-    over_at runs (written run.at run.x run.bytes f) (written run.at run.x run.bytes g) p (λ q. written_at run.at run.x q run.bytes f g (same q))
+    over_at runs (cells_with run.at run.x run.bytes f) (cells_with run.at run.x run.bytes g) p (λ q. written_at run.at run.x q run.bytes f g (same q))
 
 -- what one event does to a row: it adds these pieces, and stores them where they are kept
 record IsHeard (kept : Bool) (runs : List Run) (v u : Representation) : Type 0 where
@@ -56,11 +56,11 @@ still_if : (b kept : Bool) (v u : Representation) → IsHeard kept [] v u → Is
 still_if true kept v u is = is
 still_if false kept v u is = still kept v v refl refl refl
 
-headed_row : (t : Tables) (e : Entry) (r x : ℕ) (response : Response) (kept : Bool) (o : Option Exchange) (v : Representation) → IsHeard kept [] v (headed t e r x response o v)
+headed_row : (t : Tables) (e : Entry) (r x : ℕ) (response : Response) (kept : Bool) (o : Option Exchange) (v : Representation) → IsHeard kept [] v (representation_after_head t e r x response o v)
 headed_row t e r x response kept None v = still kept v v refl refl refl
-headed_row t e r x response kept (Some w) v = still_if (updates t e r w v) kept v (renewed t e x response w v) (still kept v (renewed t e x response w v) refl refl refl)
+headed_row t e r x response kept (Some w) v = still_if (updates t e r w v) kept v (with_renewed_head t e x response w v) (still kept v (with_renewed_head t e x response w v) refl refl refl)
 
-pieced_row : (e : Entry) (r x : ℕ) (bytes : List ℕ) (o : Option Exchange) (v : Representation) → IsHeard (not (v.is_lost || loses_in r e.acts)) (piece_by r x bytes o (Some v)) v (pieced e r x bytes o v)
+pieced_row : (e : Entry) (r x : ℕ) (bytes : List ℕ) (o : Option Exchange) (v : Representation) → IsHeard (not (v.is_lost || loses_in r e.acts)) (piece_by r x bytes o (Some v)) v (representation_after_piece e r x bytes o v)
 pieced_row e r x bytes None v = still _ v v refl refl refl
 pieced_row e r x bytes (Some w) v = elim (bool_cases (family x w == r)) [
   | inl here ↦ rw here (record { body_is = refl; stored_is = refl; lost_is = refl })
@@ -72,7 +72,7 @@ heard_row t e r v (event.Start c request) row = still _ v v refl refl refl
 heard_row t e r v (event.Poll c want) row = still _ v v refl refl refl
 heard_row t e r v (event.Head x response) row = headed_row t e r x response _ (t.exchange x) v
 heard_row t e r v (event.Piece x bytes) row = rw row (pieced_row e r x bytes (t.exchange x) v)
-heard_row t e r v (event.End x) row = still_if (x == r) _ v (ended (length_in (t.exchange x)) v) (still _ v (ended (length_in (t.exchange x)) v) refl refl refl)
+heard_row t e r v (event.End x) row = still_if (x == r) _ v (with_total_if_none (length_in (t.exchange x)) v) (still _ v (with_total_if_none (length_in (t.exchange x)) v) refl refl refl)
 heard_row t e r v (event.Fault x) row = still _ v v refl refl refl
 heard_row t e r v (event.Cancel c) row = still _ v v refl refl refl
 heard_row t e r v (event.Doom key) row = still _ v v refl refl refl
@@ -209,7 +209,7 @@ founded_empty t e r (event.Start c request) = tt
 founded_empty t e r (event.Poll c want) = tt
 founded_empty t e r (event.Head x response) = by_test _ (t.exchange x)
   where
-    by_test : (b : Bool) (o : Option Exchange) → IsEmpty (if b then option_map (represented r e response) o else None)
+    by_test : (b : Bool) (o : Option Exchange) → IsEmpty (if b then option_map (new_representation r e response) o else None)
     by_test false o = tt
     by_test true None = tt
     by_test true (Some w) = (refl, refl, refl)
@@ -242,7 +242,7 @@ row_after contents r h e false denied row = rw denied (row_accepted contents r h
 
 -- AT THE BEGINNING
 
-begun_row : (contents : Contents) (r : ℕ) (o : Option Content) → (begun contents).representation r ≡ option_map loaded o → IsRow contents r [] (option_map loaded o)
+begun_row : (contents : Contents) (r : ℕ) (o : Option Content) → (first_tables contents).representation r ≡ option_map representation_of_content o → IsRow contents r [] (option_map representation_of_content o)
 begun_row contents r None is = record { pieces = refl; stored = refl; begun_is = ap cells_in is; lost = refl }
 begun_row contents r (Some item) is = record {
   body = λ p. sym (ap (λ (z : Option Representation). cells_in z p) is);

@@ -17,7 +17,7 @@ use Rattle.hc_event.specs.declared.act.Why.{Why}
 use Rattle.hc_rules.specs.declared.room.Limits.{Limits}
 use Rattle.hc_rules.specs.Refusals as refusals
 use Rattle.hc_model.specs.ActFilters.{Showing, showing_in, wait_in}
-use Rattle.hc_model.specs.Answers.{accepted, poll_acts, lost}
+use Rattle.hc_model.specs.Answers.{accepted_acts, poll_acts, loss_acts}
 use Rattle.hc_model.specs.Closings.{closing}
 use Rattle.hc_model.specs.Denials.{denial, is_live}
 use Rattle.hc_model.specs.Flaws.{Flaw, NoFlaw, Loses, Misreads}
@@ -37,7 +37,7 @@ use Rattle.hc_model.proofs.PieceServes.{IsQuietActs, quiet_acts}
 nothing_said : IsQuietActs []
 nothing_said = record { opens = refl; waits = λ c. refl; shows = λ c. refl; showing = refl; gives = λ c. refl; leaves = λ c. refl }
 
-lost_quiet : (flaw : Flaw) → IsQuietActs (lost flaw)
+lost_quiet : (flaw : Flaw) → IsQuietActs (loss_acts flaw)
 lost_quiet NoFlaw = nothing_said
 lost_quiet (Loses r kind) = record { opens = refl; waits = λ c. refl; shows = λ c. refl; showing = refl; gives = λ c. refl; leaves = λ c. refl }
 lost_quiet (Misreads r) = nothing_said
@@ -175,28 +175,28 @@ pub record LeavesBy (t : Tables) (ev : Event) (c : ℕ) : Type 0 where
 
 module _ (limits : Limits) (t : Tables) (now : ℕ) (flaw : Flaw) (s : Sound t) where
   -- of an event that isn't a poll nothing is said to any consumer
-  told_quiet : (ev : Event) → IsQuietActs (map act.Evicted (evicted limits t now ev) ++ (lost flaw ++ map act.Close (closing t (record { now = now; event = ev; acts = lost flaw }))))
-  told_quiet ev = quiet_acts (evicted limits t now ev) (closing t (record { now = now; event = ev; acts = lost flaw })) flaw
+  told_quiet : (ev : Event) → IsQuietActs (map act.Evicted (evicted limits t now ev) ++ (loss_acts flaw ++ map act.Close (closing t (record { now = now; event = ev; acts = loss_acts flaw }))))
+  told_quiet ev = quiet_acts (evicted limits t now ev) (closing t (record { now = now; event = ev; acts = loss_acts flaw })) flaw
 
   pub data IsSaid (ev : Event) (acts : List Act) : Type 0 where
     quiet : IsQuietActs acts → IsSaid ev acts
     polled : (c want : ℕ) (k : Consumer) (rest : List Act) → IsPoll t ev c want k → IsQuietActs rest → acts ≡ acts_of c (move_of t now want c k) ++ rest → IsSaid ev acts
     misread : (c want r : ℕ) (k : Consumer) (rest : List Act) → IsPoll t ev c want k → IsQuietActs rest → acts ≡ acts_of c (Fails (cause.StoreRead r)) ++ rest → IsSaid ev acts
 
-  poll_rest : (c want : ℕ) → IsQuietActs (map act.Close (closing t (record { now = now; event = event.Poll c want; acts = poll_acts t now want c flaw ++ lost flaw })) ++ lost flaw)
-  poll_rest c want = closes_quiet (closing t (record { now = now; event = event.Poll c want; acts = poll_acts t now want c flaw ++ lost flaw })) (lost flaw) (lost_quiet flaw)
+  poll_rest : (c want : ℕ) → IsQuietActs (map act.Close (closing t (record { now = now; event = event.Poll c want; acts = poll_acts t now want c flaw ++ loss_acts flaw })) ++ loss_acts flaw)
+  poll_rest c want = closes_quiet (closing t (record { now = now; event = event.Poll c want; acts = poll_acts t now want c flaw ++ loss_acts flaw })) (loss_acts flaw) (lost_quiet flaw)
 
   by_flaw : (c want : ℕ) (k : Consumer) (rest : List Act) (f : Flaw) → t.consumer c ≡ Some k → IsQuietActs rest → IsSaid (event.Poll c want) (poll_acts t now want c f ++ rest)
   by_flaw c want k rest NoFlaw row q = polled c want k rest (record { at = refl; row = row }) q (rw row refl)
   by_flaw c want k rest (Loses r kind) row q = polled c want k rest (record { at = refl; row = row }) q (rw row refl)
   by_flaw c want k rest (Misreads r) row q = misread c want r k rest (record { at = refl; row = row }) q refl
 
-  by_row : (c want : ℕ) (o : Option Consumer) → t.consumer c ≡ o → is_live o ≡ true → IsSaid (event.Poll c want) (accepted limits t now (event.Poll c want) flaw)
+  by_row : (c want : ℕ) (o : Option Consumer) → t.consumer c ≡ o → is_live o ≡ true → IsSaid (event.Poll c want) (accepted_acts limits t now (event.Poll c want) flaw)
   by_row c want None row live = absurd (false_true live)
   by_row c want (Some k) row live = by_flaw c want k _ flaw row (poll_rest c want)
 
   -- what the acts of an accepted event say
-  pub is_said : (ev : Event) → denial t ev ≡ None → IsSaid ev (accepted limits t now ev flaw)
+  pub is_said : (ev : Event) → denial t ev ≡ None → IsSaid ev (accepted_acts limits t now ev flaw)
   unfolding refusals.refusal_of
   is_said (event.Start c request) goes = quiet (told_quiet (event.Start c request))
   is_said (event.Poll c want) goes = by_row c want (t.consumer c) refl (poll_live limits t now flaw s c want goes)
@@ -204,7 +204,7 @@ module _ (limits : Limits) (t : Tables) (now : ℕ) (flaw : Flaw) (s : Sound t) 
   is_said (event.Piece x bytes) goes = quiet (told_quiet (event.Piece x bytes))
   is_said (event.End x) goes = quiet (told_quiet (event.End x))
   is_said (event.Fault x) goes = quiet (told_quiet (event.Fault x))
-  is_said (event.Cancel c) goes = quiet (closes_quiet (closing t (record { now = now; event = event.Cancel c; acts = lost flaw })) (lost flaw) (lost_quiet flaw))
+  is_said (event.Cancel c) goes = quiet (closes_quiet (closing t (record { now = now; event = event.Cancel c; acts = loss_acts flaw })) (loss_acts flaw) (lost_quiet flaw))
   is_said (event.Doom key) goes = quiet (told_quiet (event.Doom key))
 
   opens_by : (ev : Event) (acts : List Act) (o : Opening) → IsSaid ev acts → opening_in acts ≡ Some o → OpensBy t now ev o
@@ -241,14 +241,14 @@ module _ (limits : Limits) (t : Tables) (now : ℕ) (flaw : Flaw) (s : Sound t) 
       record { want = want; k = k; poll = rw (sym all.0) poll }
 
   module _ (ev : Event) (goes : denial t ev ≡ None) where
-    pub opening_by : (o : Opening) → opening_in (accepted limits t now ev flaw) ≡ Some o → OpensBy t now ev o
-    opening_by o is = opens_by ev (accepted limits t now ev flaw) o (is_said ev goes) is
+    pub opening_by : (o : Opening) → opening_in (accepted_acts limits t now ev flaw) ≡ Some o → OpensBy t now ev o
+    opening_by o is = opens_by ev (accepted_acts limits t now ev flaw) o (is_said ev goes) is
 
-    pub showing_by : (z : Showing) → showing_in (accepted limits t now ev flaw) ≡ Some z → ShowsBy t now ev z
-    showing_by z is = shows_by ev (accepted limits t now ev flaw) z (is_said ev goes) is
+    pub showing_by : (z : Showing) → showing_in (accepted_acts limits t now ev flaw) ≡ Some z → ShowsBy t now ev z
+    showing_by z is = shows_by ev (accepted_acts limits t now ev flaw) z (is_said ev goes) is
 
-    pub waiting_by : (d : ℕ) (z : Wait) → wait_in d (accepted limits t now ev flaw) ≡ Some z → WaitsBy t now ev d z
-    waiting_by d z is = waits_by ev (accepted limits t now ev flaw) d z (is_said ev goes) is
+    pub waiting_by : (d : ℕ) (z : Wait) → wait_in d (accepted_acts limits t now ev flaw) ≡ Some z → WaitsBy t now ev d z
+    waiting_by d z is = waits_by ev (accepted_acts limits t now ev flaw) d z (is_said ev goes) is
 
-    pub leaving_by : (d : ℕ) → leaves_in d (accepted limits t now ev flaw) ≡ true → LeavesBy t ev d
-    leaving_by d is = leaves_by ev (accepted limits t now ev flaw) d (is_said ev goes) is
+    pub leaving_by : (d : ℕ) → leaves_in d (accepted_acts limits t now ev flaw) ≡ true → LeavesBy t ev d
+    leaving_by d is = leaves_by ev (accepted_acts limits t now ev flaw) d (is_said ev goes) is

@@ -9,12 +9,12 @@ use Rattle.hc_event.specs.declared.act.Act.{Act}
 use Rattle.hc_event.specs.declared.act.Act.TheVariants as act
 use Rattle.hc_rules.specs.declared.room.Limits.{Limits}
 use Rattle.hc_model.specs.ActFilters.{has_loss, leaver_in}
-use Rattle.hc_model.specs.Answers.{accepted, poll_acts, lost}
+use Rattle.hc_model.specs.Answers.{accepted_acts, poll_acts, loss_acts}
 use Rattle.hc_model.specs.Closings.{closing, leaver_by}
 use Rattle.hc_model.specs.Flaws.{Flaw, NoFlaw, Loses, Misreads}
 use Rattle.hc_model.specs.Moves as moves
 use Rattle.hc_model.specs.Moves.{Move, Nothing, Asks, Opens, Shows, Gives, Ends, Fails, acts_of}
-use Rattle.hc_model.specs.Polls.{polled}
+use Rattle.hc_model.specs.Polls.{poll_move}
 use Rattle.hc_model.specs.Rows.{Tables}
 use Rattle.hc_model.specs.Sound.{Sound}
 use Rattle.hc_model.specs.Weights.{evicted}
@@ -54,29 +54,29 @@ or_false true = refl
 or_false false = refl
 
 -- beside what makes room and what is closed
-pub told_loss : (rs xs : List ℕ) (flaw : Flaw) → has_loss (map act.Evicted rs ++ (lost flaw ++ map act.Close xs)) ≡ has_loss (lost flaw)
+pub told_loss : (rs xs : List ℕ) (flaw : Flaw) → has_loss (map act.Evicted rs ++ (loss_acts flaw ++ map act.Close xs)) ≡ has_loss (loss_acts flaw)
 told_loss rs xs flaw =
-    evicted_lose rs (lost flaw ++ map act.Close xs)
-    ∙ (loss_append (lost flaw) (map act.Close xs)
-    ∙ (ap (λ b. has_loss (lost flaw) || b) (all_lose xs) ∙ or_false (has_loss (lost flaw))))
+    evicted_lose rs (loss_acts flaw ++ map act.Close xs)
+    ∙ (loss_append (loss_acts flaw) (map act.Close xs)
+    ∙ (ap (λ b. has_loss (loss_acts flaw) || b) (all_lose xs) ∙ or_false (has_loss (loss_acts flaw))))
 
 module _ (limits : Limits) (t : Tables) (now : ℕ) (flaw : Flaw) (s : Sound t) where
-  told_loses : (ev : Event) → has_loss (map act.Evicted (evicted limits t now ev) ++ (lost flaw ++ map act.Close (closing t (record { now = now; event = ev; acts = lost flaw })))) ≡ has_loss (lost flaw)
-  told_loses ev = told_loss (evicted limits t now ev) (closing t (record { now = now; event = ev; acts = lost flaw })) flaw
+  told_loses : (ev : Event) → has_loss (map act.Evicted (evicted limits t now ev) ++ (loss_acts flaw ++ map act.Close (closing t (record { now = now; event = ev; acts = loss_acts flaw })))) ≡ has_loss (loss_acts flaw)
+  told_loses ev = told_loss (evicted limits t now ev) (closing t (record { now = now; event = ev; acts = loss_acts flaw })) flaw
 
   -- the closings see what is lost
-  pub loss_is : (ev : Event) → has_loss (accepted limits t now ev flaw) ≡ has_loss (before limits t now flaw s ev).acts
+  pub loss_is : (ev : Event) → has_loss (accepted_acts limits t now ev flaw) ≡ has_loss (before limits t now flaw s ev).acts
   loss_is (event.Start c request) = told_loses (event.Start c request)
   loss_is (event.Poll c want) =
       let xs = closing t (before limits t now flaw s (event.Poll c want)) in
-      loss_append (poll_acts t now want c flaw) (map act.Close xs ++ lost flaw)
-      ∙ (ap (λ b. has_loss (poll_acts t now want c flaw) || b) (closes_lose xs (lost flaw))
-      ∙ sym (loss_append (poll_acts t now want c flaw) (lost flaw)))
+      loss_append (poll_acts t now want c flaw) (map act.Close xs ++ loss_acts flaw)
+      ∙ (ap (λ b. has_loss (poll_acts t now want c flaw) || b) (closes_lose xs (loss_acts flaw))
+      ∙ sym (loss_append (poll_acts t now want c flaw) (loss_acts flaw)))
   loss_is (event.Head x response) = told_loses (event.Head x response)
   loss_is (event.Piece x bytes) = told_loses (event.Piece x bytes)
   loss_is (event.End x) = told_loses (event.End x)
   loss_is (event.Fault x) = told_loses (event.Fault x)
-  loss_is (event.Cancel c) = closes_lose (closing t (before limits t now flaw s (event.Cancel c))) (lost flaw)
+  loss_is (event.Cancel c) = closes_lose (closing t (before limits t now flaw s (event.Cancel c))) (loss_acts flaw)
   loss_is (event.Doom key) = told_loses (event.Doom key)
 
   -- WHO LEAVES
@@ -84,7 +84,7 @@ module _ (limits : Limits) (t : Tables) (now : ℕ) (flaw : Flaw) (s : Sound t) 
   none_some : (d : ℕ) → None ≡ Some d → ⊥
   none_some d is = cc
 
-  lost_leaves : (d : ℕ) (f : Flaw) → leaver_in (lost f) ≡ Some d → ⊥
+  lost_leaves : (d : ℕ) (f : Flaw) → leaver_in (loss_acts f) ≡ Some d → ⊥
   lost_leaves d NoFlaw is = none_some d is
   lost_leaves d (Loses r kind) is = none_some d is
   lost_leaves d (Misreads r) is = none_some d is
@@ -92,7 +92,7 @@ module _ (limits : Limits) (t : Tables) (now : ℕ) (flaw : Flaw) (s : Sound t) 
   named : (c d : ℕ) (b : Bool) → Some c ≡ Some d → (nat_eq c d || b) ≡ true
   named c d b is = let same : c ≡ d = cc in let test : nat_eq c d ≡ true = grind (arith, nat_tests) in rw test refl
 
-  move_leaves : (c d : ℕ) (m : Move) (f : Flaw) (rest : List Act) → leaver_in (acts_of c m ++ lost f) ≡ Some d → leaves_in d (acts_of c m ++ rest) ≡ true
+  move_leaves : (c d : ℕ) (m : Move) (f : Flaw) (rest : List Act) → leaver_in (acts_of c m ++ loss_acts f) ≡ Some d → leaves_in d (acts_of c m ++ rest) ≡ true
   move_leaves c d Nothing f rest is = absurd (lost_leaves d f is)
   move_leaves c d (moves.Waits wait) f rest is = absurd (lost_leaves d f is)
   move_leaves c d (Asks x) f rest is = absurd (lost_leaves d f is)
@@ -102,13 +102,13 @@ module _ (limits : Limits) (t : Tables) (now : ℕ) (flaw : Flaw) (s : Sound t) 
   move_leaves c d Ends f rest is = named c d (leaves_in d rest) is
   move_leaves c d (Fails cause) f rest is = named c d (leaves_in d rest) is
 
-  poll_leaves : (c d want : ℕ) (f g : Flaw) (rest : List Act) → leaver_in (poll_acts t now want c f ++ lost g) ≡ Some d → leaves_in d (poll_acts t now want c f ++ rest) ≡ true
-  poll_leaves c d want NoFlaw g rest is = move_leaves c d (polled t now want c (t.consumer c)) g rest is
-  poll_leaves c d want (Loses r kind) g rest is = move_leaves c d (polled t now want c (t.consumer c)) g rest is
+  poll_leaves : (c d want : ℕ) (f g : Flaw) (rest : List Act) → leaver_in (poll_acts t now want c f ++ loss_acts g) ≡ Some d → leaves_in d (poll_acts t now want c f ++ rest) ≡ true
+  poll_leaves c d want NoFlaw g rest is = move_leaves c d (poll_move t now want c (t.consumer c)) g rest is
+  poll_leaves c d want (Loses r kind) g rest is = move_leaves c d (poll_move t now want c (t.consumer c)) g rest is
   poll_leaves c d want (Misreads r) g rest is = named c d (leaves_in d rest) is
 
   -- who leaves, as the closings see it, leaves
-  pub leaver_leaves : (ev : Event) (d : ℕ) → leaver_in (before limits t now flaw s ev).acts ≡ Some d → leaves_in d (accepted limits t now ev flaw) ≡ true
+  pub leaver_leaves : (ev : Event) (d : ℕ) → leaver_in (before limits t now flaw s ev).acts ≡ Some d → leaves_in d (accepted_acts limits t now ev flaw) ≡ true
   leaver_leaves (event.Start c request) d is = absurd (lost_leaves d flaw is)
   leaver_leaves (event.Poll c want) d is = poll_leaves c d want flaw flaw _ is
   leaver_leaves (event.Head x response) d is = absurd (lost_leaves d flaw is)
@@ -119,7 +119,7 @@ module _ (limits : Limits) (t : Tables) (now : ℕ) (flaw : Flaw) (s : Sound t) 
   leaver_leaves (event.Doom key) d is = absurd (lost_leaves d flaw is)
 
   -- and who leaves is seen by them
-  pub closes_leave : (d : ℕ) (xs : List ℕ) (f : Flaw) → leaves_in d (map act.Close xs ++ lost f) ≡ false
+  pub closes_leave : (d : ℕ) (xs : List ℕ) (f : Flaw) → leaves_in d (map act.Close xs ++ loss_acts f) ≡ false
   closes_leave d [] NoFlaw = refl
   closes_leave d [] (Loses r kind) = refl
   closes_leave d [] (Misreads r) = refl
@@ -128,14 +128,14 @@ module _ (limits : Limits) (t : Tables) (now : ℕ) (flaw : Flaw) (s : Sound t) 
   false_true : false ≡ true → ⊥
   false_true h = cc
 
-  one_leaves : (c d : ℕ) (xs : List ℕ) (f : Flaw) → (nat_eq c d || leaves_in d (map act.Close xs ++ lost f)) ≡ true → Some c ≡ Some d
+  one_leaves : (c d : ℕ) (xs : List ℕ) (f : Flaw) → (nat_eq c d || leaves_in d (map act.Close xs ++ loss_acts f)) ≡ true → Some c ≡ Some d
   one_leaves c d xs f h = by_test (nat_eq c d) refl
     where
       by_test : (b : Bool) → nat_eq c d ≡ b → Some c ≡ Some d
       by_test true is = let same : c ≡ d = grind (arith, nat_tests) in ap Some same
       by_test false is = absurd (false_true (rw (is, closes_leave d xs f) at h))
 
-  move_leaver : (c d : ℕ) (m : Move) (f g : Flaw) (xs : List ℕ) → leaves_in d (acts_of c m ++ (map act.Close xs ++ lost f)) ≡ true → leaver_in (acts_of c m ++ lost g) ≡ Some d
+  move_leaver : (c d : ℕ) (m : Move) (f g : Flaw) (xs : List ℕ) → leaves_in d (acts_of c m ++ (map act.Close xs ++ loss_acts f)) ≡ true → leaver_in (acts_of c m ++ loss_acts g) ≡ Some d
   move_leaver c d Nothing f g xs h = absurd (false_true (sym (closes_leave d xs f) ∙ h))
   move_leaver c d (moves.Waits wait) f g xs h = absurd (false_true (sym (closes_leave d xs f) ∙ h))
   move_leaver c d (Asks x) f g xs h = absurd (false_true (sym (closes_leave d xs f) ∙ h))
@@ -145,15 +145,15 @@ module _ (limits : Limits) (t : Tables) (now : ℕ) (flaw : Flaw) (s : Sound t) 
   move_leaver c d Ends f g xs h = one_leaves c d xs f h
   move_leaver c d (Fails cause) f g xs h = one_leaves c d xs f h
 
-  poll_leaver : (c d want : ℕ) (z f g : Flaw) (xs : List ℕ) → leaves_in d (poll_acts t now want c z ++ (map act.Close xs ++ lost f)) ≡ true → leaver_in (poll_acts t now want c z ++ lost g) ≡ Some d
-  poll_leaver c d want NoFlaw f g xs h = move_leaver c d (polled t now want c (t.consumer c)) f g xs h
-  poll_leaver c d want (Loses r kind) f g xs h = move_leaver c d (polled t now want c (t.consumer c)) f g xs h
+  poll_leaver : (c d want : ℕ) (z f g : Flaw) (xs : List ℕ) → leaves_in d (poll_acts t now want c z ++ (map act.Close xs ++ loss_acts f)) ≡ true → leaver_in (poll_acts t now want c z ++ loss_acts g) ≡ Some d
+  poll_leaver c d want NoFlaw f g xs h = move_leaver c d (poll_move t now want c (t.consumer c)) f g xs h
+  poll_leaver c d want (Loses r kind) f g xs h = move_leaver c d (poll_move t now want c (t.consumer c)) f g xs h
   poll_leaver c d want (Misreads r) f g xs h = one_leaves c d xs f h
 
-  told_leaves : (ev : Event) (d : ℕ) → leaves_in d (map act.Evicted (evicted limits t now ev) ++ (lost flaw ++ map act.Close (closing t (record { now = now; event = ev; acts = lost flaw })))) ≡ false
-  told_leaves ev d = (quiet_acts (evicted limits t now ev) (closing t (record { now = now; event = ev; acts = lost flaw })) flaw).leaves d
+  told_leaves : (ev : Event) (d : ℕ) → leaves_in d (map act.Evicted (evicted limits t now ev) ++ (loss_acts flaw ++ map act.Close (closing t (record { now = now; event = ev; acts = loss_acts flaw })))) ≡ false
+  told_leaves ev d = (quiet_acts (evicted limits t now ev) (closing t (record { now = now; event = ev; acts = loss_acts flaw })) flaw).leaves d
 
-  pub leaves_leaver : (ev : Event) (d : ℕ) → leaves_in d (accepted limits t now ev flaw) ≡ true → leaver_by ev (before limits t now flaw s ev).acts ≡ Some d
+  pub leaves_leaver : (ev : Event) (d : ℕ) → leaves_in d (accepted_acts limits t now ev flaw) ≡ true → leaver_by ev (before limits t now flaw s ev).acts ≡ Some d
   leaves_leaver (event.Start c request) d h = absurd (false_true (sym (told_leaves (event.Start c request) d) ∙ h))
   leaves_leaver (event.Poll c want) d h = poll_leaver c d want flaw flaw flaw (closing t (before limits t now flaw s (event.Poll c want))) h
   leaves_leaver (event.Head x response) d h = absurd (false_true (sym (told_leaves (event.Head x response) d) ∙ h))

@@ -8,11 +8,11 @@ use Rattle.hc_event.specs.declared.place.Place.{Place}
 use Rattle.hc_event.specs.declared.place.Place.TheVariants as place
 use Rattle.hc_model.specs.ConsumerRows.{back_in_line}
 use Rattle.hc_model.specs.Currents.{is_number}
-use Rattle.hc_model.specs.Effects.{waits_for, back_from, gone, let_go, let_all_go, let_some_go, over, closed, all_closed, failing, if_bound, with_due, with_dues, with_length}
+use Rattle.hc_model.specs.Effects.{waits_for, back_from, as_gone, let_go, let_all_go, let_some_go, over, tables_after_close, all_closed, failing, if_bound, with_due, with_dues, with_length}
 use Rattle.hc_model.specs.Reading.{is_bound_place}
-use Rattle.hc_model.specs.RepresentationRows.{ended}
+use Rattle.hc_model.specs.RepresentationRows.{with_total_if_none}
 use Rattle.hc_model.specs.Rows.{Tables, Exchange, Representation, Consumer}
-use Rattle.hc_model.specs.Tables.{added}
+use Rattle.hc_model.specs.Tables.{with_item_first}
 use Rattle.hc_model.proofs.PieceKeeps.{eq_cases}
 
 -- PARTS
@@ -68,7 +68,7 @@ back_first : (now q : ℕ) (rs : List ℕ) (o : Option Consumer) → option_map 
 back_first now q rs None = refl
 back_first now q rs (Some k) = ap Some (waits_one now q rs k (waits_for q k.place) k.place refl refl ∙ ap (λ (b : Bool). if b then back_in_line now k else k) (any_first q rs k.place))
 
-gone_first : (a b : Bool) (o : Option Representation) → (if b then option_map gone (if a then option_map gone o else o) else (if a then option_map gone o else o)) ≡ (if a || b then option_map gone o else o)
+gone_first : (a b : Bool) (o : Option Representation) → (if b then option_map as_gone (if a then option_map as_gone o else o) else (if a then option_map as_gone o else o)) ≡ (if a || b then option_map as_gone o else o)
 gone_first true true None = refl
 gone_first true true (Some v) = refl
 gone_first true false o = refl
@@ -84,7 +84,7 @@ over_first false false o = refl
 
 -- all that is let go at once
 abbrev pub without : ℕ → List ℕ → Tables → Tables
-without now rs t = record t { representation = λ q. if is_in rs q then option_map gone (t.representation q) else t.representation q; consumer = λ d. option_map (back_from_any now rs) (t.consumer d) }
+without now rs t = record t { representation = λ q. if is_in rs q then option_map as_gone (t.representation q) else t.representation q; consumer = λ d. option_map (back_from_any now rs) (t.consumer d) }
 
 stays_mapped : (now : ℕ) (o : Option Consumer) → o ≡ option_map (back_from_any now []) o
 stays_mapped now None = refl
@@ -107,7 +107,7 @@ all_go_is now (r ∷ rs) t =
     (fun_ext (λ q. gone_first (r == q) (is_in rs q) (t.representation q)))
     (fun_ext (λ d. back_first now r rs (t.consumer d)))
 
-pub some_go_is : (now : ℕ) (o : Option ℕ) (t : Tables) → let_some_go now o t ≡ without now (added o []) t
+pub some_go_is : (now : ℕ) (o : Option ℕ) (t : Tables) → let_some_go now o t ≡ without now (with_item_first o []) t
 some_go_is now None t = all_go_is now [] t
 some_go_is now (Some r) t = all_go_is now (r ∷ []) t
 
@@ -118,11 +118,11 @@ shut xs t = record t { exchange = λ y. if is_in xs y then option_map over (t.ex
 pub all_closed_is : (xs : List ℕ) (t : Tables) → all_closed xs t ≡ shut xs t
 all_closed_is [] t = refl
 all_closed_is (x ∷ xs) t =
-    all_closed_is xs (closed x t)
+    all_closed_is xs (tables_after_close x t)
     ∙ ap (λ (f : ℕ → Option Exchange). record t { exchange = f }) (fun_ext (λ y. over_first (x == y) (is_in xs y) (t.exchange y)))
 
 -- there is one, and it is this one
-pub in_one : (o : Option ℕ) (n : ℕ) → is_in (added o []) n ≡ is_number o n
+pub in_one : (o : Option ℕ) (n : ℕ) → is_in (with_item_first o []) n ≡ is_number o n
 in_one None n = refl
 in_one (Some m) n = or_off (m == n)
   where
@@ -162,7 +162,7 @@ no_dues r t = ap (λ (f : ℕ → Option Consumer). record t { consumer = f }) (
 pub no_length : (x n : ℕ) (t : Tables) → t.representation x ≡ None → with_length x n t ≡ t
 no_length x n t none = ap (λ (f : ℕ → Option Representation). record t { representation = f }) (fun_ext by_number)
   where
-    by_number : (q : ℕ) → (if x == q then option_map (ended n) (t.representation q) else t.representation q) ≡ t.representation q
+    by_number : (q : ℕ) → (if x == q then option_map (with_total_if_none n) (t.representation q) else t.representation q) ≡ t.representation q
     by_number q = elim (eq_cases x q) [
       | inl same ↦ (let there : t.representation q ≡ None = ap t.representation (sym same.1) ∙ none in rw (same.0, there) refl)
       | inr apart ↦ rw apart.0 refl
@@ -171,10 +171,10 @@ no_length x n t none = ap (λ (f : ℕ → Option Representation). record t { re
 pub known_length : (x n m : ℕ) (v : Representation) (t : Tables) → t.representation x ≡ Some v → v.head.total ≡ Some m → with_length x n t ≡ t
 known_length x n m v t row known = ap (λ (f : ℕ → Option Representation). record t { representation = f }) (fun_ext by_number)
   where
-    same_length : ended n v ≡ v
+    same_length : with_total_if_none n v ≡ v
     same_length = ap (λ (o : Option ℕ). record v { head = record v.head { total = o } }) (ap (λ (o : Option ℕ). option_or o (Some n)) known ∙ sym known)
 
-    by_number : (q : ℕ) → (if x == q then option_map (ended n) (t.representation q) else t.representation q) ≡ t.representation q
+    by_number : (q : ℕ) → (if x == q then option_map (with_total_if_none n) (t.representation q) else t.representation q) ≡ t.representation q
     by_number q = elim (eq_cases x q) [
       | inl same ↦ (let there : t.representation q ≡ Some v = ap t.representation (sym same.1) ∙ row in rw (same.0, there) (ap Some same_length))
       | inr apart ↦ rw apart.0 refl

@@ -20,7 +20,7 @@ use Rattle.hc_model.specs.Currents.{current, total_in}
 use Rattle.hc_model.specs.Holes.{first_hole}
 use Rattle.hc_model.specs.Moves as moves
 use Rattle.hc_model.specs.Moves.{Move, Nothing, Fails, Shows, opens_hole, shows_stored}
-use Rattle.hc_model.specs.Planning.{plan_view, plan_move, fetched, candidate, hole_of, binds_current}
+use Rattle.hc_model.specs.Planning.{plan_view, plan_move, origin_request, candidate, hole_of, binds_current}
 use Rattle.hc_model.specs.Polls.{shows_at, move_of}
 use Rattle.hc_model.specs.Reading.{is_written, bound, bound_to, reads}
 use Rattle.hc_model.specs.Rows.{Tables, Representation, Consumer}
@@ -29,7 +29,7 @@ use Rattle.hc_model.specs.Writers.{exclusive}
 use Rattle.hc_model.proofs.Basics.{false_true, none_some}
 use Rattle.hc_model.proofs.MoveBy.{MoveBy, IsHeard, move_by}
 use Rattle.hc_model.proofs.MoveBy as by
-use Rattle.hc_model.proofs.Pens.{same_row}
+use Rattle.hc_model.proofs.ExclusiveWriters.{same_row}
 use Rattle.hc_model.proofs.PieceKeeps.{some_inj}
 use Rattle.hc_model.proofs.PlanBy.{PlanBy, plan_by}
 use Rattle.hc_model.proofs.PlanBy as plans
@@ -143,7 +143,7 @@ module _ (t : Tables) (now c : ℕ) (k : Consumer) where
     by_plan _ (plans.busy d kept plain) is = absurd (let never : moves.Waits (wait.Busy d) ≡ show = is in cc)
     by_plan _ plans.misses is = absurd (let never : Fails cause.Miss ≡ show = is in cc)
     by_plan _ (plans.passes_by n way) is = absurd (let never : moves.Opens (t.opened + 1) n k.request ≡ show = is in cc)
-    by_plan _ (plans.fetches n way plain bypass cached) is = absurd (let never : moves.Opens (t.opened + 1) n (fetched t k n) ≡ show = is in cc)
+    by_plan _ (plans.fetches n way plain bypass cached) is = absurd (let never : moves.Opens (t.opened + 1) n (origin_request t k n) ≡ show = is in cc)
     by_plan _ (plans.joins why cached j) is = let both = joined why j (current t k.request.key) refl is in (cached_is cached, both.0, both.1)
     by_plan _ (plans.reads why span cached j) is = let both = read why span j (current t k.request.key) refl is in (cached_is cached, both.0, both.1)
     by_plan _ (plans.fills span hole cached j nobody) is = absurd (hole_shows k.request _ hole is)

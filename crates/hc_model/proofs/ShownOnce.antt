@@ -25,11 +25,11 @@ use Rattle.hc_event.specs.declared.place.BoundBy.TheVariants as by
 use Rattle.hc_model.specs.Moves as moves
 use Rattle.hc_model.specs.Moves.{Move, Nothing, Asks, Opens, Shows, Gives, Ends, Fails, acts_of, gives, waits_for, opens_hole, shows_stored}
 use Rattle.hc_model.specs.Planning.{plan_move, binds_current}
-use Rattle.hc_model.specs.Polls.{polled, move_of, by_place, shows_head, shows_at, shows_bound, shows_direct, shows_answer, waits_for_head, or_else, has_joined}
+use Rattle.hc_model.specs.Polls.{poll_move, move_of, by_place, shows_head, shows_at, shows_bound, shows_direct, shows_answer, waits_for_head, or_else, has_joined}
 use Rattle.hc_model.specs.Rows.{Tables, Exchange, Representation, Consumer}
 use Rattle.hc_model.specs.Steps.{step_move, later_hole, read_view}
 use Rattle.hc_rules.specs.declared.room.Limits.{Limits}
-use Rattle.hc_model.specs.Answers.{accepted, poll_acts, lost}
+use Rattle.hc_model.specs.Answers.{accepted_acts, poll_acts, loss_acts}
 use Rattle.hc_model.specs.Closings.{closing}
 use Rattle.hc_model.specs.Flaws.{Flaw, NoFlaw, Loses, Misreads}
 use Rattle.hc_model.specs.Histories.{Shown, first, shown_in}
@@ -37,7 +37,7 @@ use Rattle.hc_model.specs.Reading.{own_open}
 use Rattle.hc_model.specs.Polls.{if_headless}
 use Rattle.hc_model.proofs.HoleLemmas.{bool_cases}
 use Rattle.hc_model.proofs.Named.{IsFar, far_told, far_poll, far_closes, far_lost}
-use Rattle.hc_model.proofs.Pens.{same_row}
+use Rattle.hc_model.proofs.ExclusiveWriters.{same_row}
 use Rattle.hc_model.proofs.PieceKeeps.{eq_cases, some_inj}
 use Rattle.hc_model.proofs.ReadFilters.{shows_are}
 
@@ -222,7 +222,7 @@ pub record IsShownWell (t : Tables) (c : ℕ) (acts : List Act) : Type 0 where
   pub again : (k : Consumer) → t.consumer c ≡ Some k → k.shown ≡ true → shown_in c acts ≡ []
   pub before : (k : Consumer) → t.consumer c ≡ Some k → k.shown ≡ false → given_in c acts ≡ []
 
-well_move : (t : Tables) (now want c : ℕ) (o : Option Consumer) (rest : List Act) → t.consumer c ≡ o → shown_in c rest ≡ [] → given_in c rest ≡ [] → IsShownWell t c (acts_of c (polled t now want c o) ++ rest)
+well_move : (t : Tables) (now want c : ℕ) (o : Option Consumer) (rest : List Act) → t.consumer c ≡ o → shown_in c rest ≡ [] → given_in c rest ≡ [] → IsShownWell t c (acts_of c (poll_move t now want c o) ++ rest)
 well_move t now want c None rest row shows gives = record { one = rw shows (omega arith); again = λ k is shown. shows; before = λ k is shown. gives }
 well_move t now want c (Some u) rest row shows gives = record {
   one = acts_show c c (move_of t now want c u) rest shows;
@@ -246,18 +246,18 @@ well_far : (t : Tables) (c : ℕ) (acts : List Act) → IsFar c acts → IsShown
 well_far t c acts f = record { one = rw (unshown_of c acts f) (omega arith); again = λ k is shown. unshown_of c acts f; before = λ k is shown. f.gives }
 
 module _ (limits : Limits) (t : Tables) (now c : ℕ) (flaw : Flaw) where
-  pub by_event : (event : Event) → IsShownWell t c (accepted limits t now event flaw)
+  pub by_event : (event : Event) → IsShownWell t c (accepted_acts limits t now event flaw)
   by_event (event.Start d request) = well_far t c _ (far_told limits t now c flaw (event.Start d request))
   by_event (event.Poll d want) = elim (eq_cases d c) [
-    | inr other ↦ well_far t c _ (far_poll t now want c d flaw _ other.0 (far_closes c (closing t (record { now = now; event = event.Poll d want; acts = poll_acts t now want d flaw ++ lost flaw })) (lost flaw) (far_lost c flaw)))
+    | inr other ↦ well_far t c _ (far_poll t now want c d flaw _ other.0 (far_closes c (closing t (record { now = now; event = event.Poll d want; acts = poll_acts t now want d flaw ++ loss_acts flaw })) (loss_acts flaw) (far_lost c flaw)))
     | inl here ↦
-        let rest = map act.Close (closing t (record { now = now; event = event.Poll d want; acts = poll_acts t now want d flaw ++ lost flaw })) ++ lost flaw in
-        let f = far_closes c (closing t (record { now = now; event = event.Poll d want; acts = poll_acts t now want d flaw ++ lost flaw })) (lost flaw) (far_lost c flaw) in
+        let rest = map act.Close (closing t (record { now = now; event = event.Poll d want; acts = poll_acts t now want d flaw ++ loss_acts flaw })) ++ loss_acts flaw in
+        let f = far_closes c (closing t (record { now = now; event = event.Poll d want; acts = poll_acts t now want d flaw ++ loss_acts flaw })) (loss_acts flaw) (far_lost c flaw) in
         subst (λ n. IsShownWell t c (poll_acts t now want n flaw ++ rest)) (sym here.1) (well_poll t now want c flaw rest (unshown_of c rest f) f.gives)
   ]
   by_event (event.Head x response) = well_far t c _ (far_told limits t now c flaw (event.Head x response))
   by_event (event.Piece x bytes) = well_far t c _ (far_told limits t now c flaw (event.Piece x bytes))
   by_event (event.End x) = well_far t c _ (far_told limits t now c flaw (event.End x))
   by_event (event.Fault x) = well_far t c _ (far_told limits t now c flaw (event.Fault x))
-  by_event (event.Cancel d) = well_far t c _ (far_closes c (closing t (record { now = now; event = event.Cancel d; acts = lost flaw })) (lost flaw) (far_lost c flaw))
+  by_event (event.Cancel d) = well_far t c _ (far_closes c (closing t (record { now = now; event = event.Cancel d; acts = loss_acts flaw })) (loss_acts flaw) (far_lost c flaw))
   by_event (event.Doom key) = well_far t c _ (far_told limits t now c flaw (event.Doom key))

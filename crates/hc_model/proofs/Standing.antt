@@ -15,7 +15,7 @@ use Rattle.hc_rules.proofs.RangeReads.{bytes_eq-same}
 use Rattle.hc_event.specs.declared.place.Place.{Place}
 use Rattle.hc_event.specs.declared.place.Place.TheVariants as place
 use Rattle.hc_model.specs.ActFilters.{Showing, showing_in, has_loss}
-use Rattle.hc_model.specs.Answers.{accepted, said, lost, closed, is_asked}
+use Rattle.hc_model.specs.Answers.{accepted_acts, answer_acts, loss_acts, close_acts, is_asked}
 use Rattle.hc_model.specs.Cases.{case_at, case_of}
 use Rattle.hc_model.specs.Closings.{closing}
 use Rattle.hc_model.specs.ConsumerRows.{consumer_heard, by_head, by_fault, by_opening, waiting, shown_place, own_after, left_to, consumer_acted, consumer_settled, consumer_made, consumer_after, back_in_line}
@@ -30,11 +30,11 @@ use Rattle.hc_model.specs.Frames as frames
 use Rattle.hc_model.specs.Failures.{becomes_due, cause_of_loss, cause_by_loss, cause_of_head}
 use Rattle.hc_model.specs.Gone.{becomes_gone, goes_in}
 use Rattle.hc_model.specs.Reading.{bound, is_bound, reads, source}
-use Rattle.hc_model.specs.RepresentationRows.{founded_at, represented, representation_after}
+use Rattle.hc_model.specs.RepresentationRows.{founded_at, new_representation, representation_after}
 use Rattle.hc_model.specs.Rows.{Tables, Exchange, Representation, Consumer}
 use Rattle.hc_model.specs.Sound.{Sound, Among}
 use Rattle.hc_model.specs.StartingOver.{starts_over, sends_back, loses_what_it_waits_for}
-use Rattle.hc_model.specs.Tables.{after_accepted, founds, added, starts_after}
+use Rattle.hc_model.specs.Tables.{after_accepted, founds, with_item_first, starts_after}
 use Rattle.hc_model.specs.Weights.{evicted}
 use Rattle.hc_model.proofs.ActParts.{IsAnswer, IsFarFrom, answer_is, said_is, far_evicted, far_loss, far_closed, far_said, far_closing, far_lost_only}
 use Rattle.hc_model.proofs.ActParts as parts
@@ -56,24 +56,24 @@ plus_none n = omega arith
 -- the acts of an entry say nothing to a consumer whom its event doesn't poll
 module _ (limits : Limits) (t : Tables) (now : ℕ) (ev : Event) (flaw : Flaw) (c : ℕ) (apart : (d want : ℕ) → ev ≡ event.Poll d want → nat_eq d c ≡ false) where
   abbrev closings : List ℕ
-  closings = closing t (record { now = now; event = ev; acts = said t now ev flaw ++ lost flaw })
+  closings = closing t (record { now = now; event = ev; acts = answer_acts t now ev flaw ++ loss_acts flaw })
 
-  far_told : IsFarFrom c (lost flaw ++ closed t now ev flaw)
+  far_told : IsFarFrom c (loss_acts flaw ++ close_acts t now ev flaw)
   far_told = far_loss c flaw _ (far_closed c closings)
 
-  far_asked : IsFarFrom c (said t now ev flaw ++ (closed t now ev flaw ++ lost flaw))
-  far_asked = far_said c t now ev flaw (said t now ev flaw) _ apart (said_is t now ev flaw) (far_closing c closings _ (far_lost_only c flaw))
+  far_asked : IsFarFrom c (answer_acts t now ev flaw ++ (close_acts t now ev flaw ++ loss_acts flaw))
+  far_asked = far_said c t now ev flaw (answer_acts t now ev flaw) _ apart (said_is t now ev flaw) (far_closing c closings _ (far_lost_only c flaw))
 
   far_answer : (acts : List Act) → IsAnswer limits t now ev flaw acts → IsFarFrom c acts
   far_answer _ (parts.told silent) = far_evicted c (evicted limits t now ev) _ far_told
   far_answer _ parts.asked = far_asked
 
-  far_if : (b : Bool) → IsFarFrom c (if b then said t now ev flaw ++ (closed t now ev flaw ++ lost flaw) else lost flaw ++ closed t now ev flaw)
+  far_if : (b : Bool) → IsFarFrom c (if b then answer_acts t now ev flaw ++ (close_acts t now ev flaw ++ loss_acts flaw) else loss_acts flaw ++ close_acts t now ev flaw)
   far_if true = far_asked
   far_if false = far_told
 
   pub far_by : (e : Entry) → IsEntry limits t now ev flaw e → IsFarFrom c e.acts
-  far_by _ frames.whole = far_answer (accepted limits t now ev flaw) (answer_is limits t now ev flaw)
+  far_by _ frames.whole = far_answer (accepted_acts limits t now ev flaw) (answer_is limits t now ev flaw)
   far_by _ frames.unevicting = far_if (is_asked ev)
 
 module _ (t : Tables) (e : Entry) (c : ℕ) (k : Consumer) (far : IsFarFrom c e.acts) where
@@ -324,7 +324,7 @@ module _ (t : Tables) (e : Entry) (s : Sound t) (key : List ℕ) (other : Founds
       let fresh_now : kept.u.is_gone ≡ false = kept.parts.gone ∙ rw (stays, fresh) refl in
       usable key (u.representation r) kept.u kept.row (kept.parts.key ∙ of_key) fresh_now
 
-  among_after : (r : ℕ) (z : Option ℕ) → Among r t.founded → Among r (added z t.founded)
+  among_after : (r : ℕ) (z : Option ℕ) → Among r t.founded → Among r (with_item_first z t.founded)
   among_after r None among = among
   among_after r (Some x) among = inr among
 
@@ -352,10 +352,10 @@ unfolding current representation_after
 founded_is_current t e x response w at row none on =
     let self : nat_eq x x ≡ true = grind (arith, nat_tests) in
     let founds_it : founds t e ≡ Some x = rw on (ap exchange_in at) in
-    let made : founded_at t e x (event.Head x response) ≡ Some (represented x e response w) = rw (on, self, row) refl in
-    let row_is : representation_after t e x (t.representation x) ≡ Some (represented x e response w) = ap (representation_after t e x) none ∙ (ap (founded_at t e x) at ∙ made) in
+    let made : founded_at t e x (event.Head x response) ≡ Some (new_representation x e response w) = rw (on, self, row) refl in
+    let row_is : representation_after t e x (t.representation x) ≡ Some (new_representation x e response w) = ap (representation_after t e x) none ∙ (ap (founded_at t e x) at ∙ made) in
     let passes : is_usable w.request.key (representation_after t e x (t.representation x)) ≡ true = ap (is_usable w.request.key) row_is ∙ by_key (bytes_eq w.request.key w.request.key) (bytes_eq-same w.request.key w.request.key refl) in
-    ap (λ z. find (λ n. is_usable w.request.key (representation_after t e n (t.representation n))) (added z t.founded)) founds_it ∙ rw passes refl
+    ap (λ z. find (λ n. is_usable w.request.key (representation_after t e n (t.representation n))) (with_item_first z t.founded)) founds_it ∙ rw passes refl
   where
     by_key : (b : Bool) → b ≡ true → (b && not false) ≡ true
     by_key true is = refl

@@ -5,12 +5,12 @@ use Rattle.std.specs.Option.{option_or}
 use Rattle.std.proofs.lemmas.Bool.Decides.{nat_tests}
 use Rattle.hc_event.specs.declared.event.Event.TheVariants as event
 use Rattle.hc_event.specs.declared.act.Cause.{Cause}
-use Rattle.hc_sparse.specs.Cells.{Covers, written}
+use Rattle.hc_sparse.specs.Cells.{Covers, cells_with}
 use Rattle.hc_sparse.proofs.CellLemmas.{inside-yes, inside-before}
 use Rattle.hc_model.specs.Entries.{Entry}
-use Rattle.hc_model.specs.Exchanges.{base, promised, front, is_open, is_reached, exchange_in}
+use Rattle.hc_model.specs.Exchanges.{base, promised_bytes, front, is_open, is_reached, exchange_in}
 use Rattle.hc_model.specs.Failures.{becomes_due, cause_of_stop, stop_cause, short_of}
-use Rattle.hc_model.specs.Reading.{is_written, is_open_writer, own_open, source, shared}
+use Rattle.hc_model.specs.Reading.{is_written, is_open_writer, own_open, source, shared_exchange}
 use Rattle.hc_model.specs.Rows.{Tables, Exchange, Representation, Consumer}
 use Rattle.hc_model.specs.Sound.{Sound, IsAbout, IsBound, IsGrowing, IsSoundRepresentation, end_from, promised_end}
 use Rattle.hc_rules.specs.Lengths.{is_same_number}
@@ -34,14 +34,14 @@ writer_about t r x v s row on writer =
     let g = grows.1 in
     sound.headed grows.0 g.row (open_row (t.exchange x) grows.0 g.row (writer_open t v x on writer)) g.headed g.family_is (ap is_some row)
 
-shared_of : (t : Tables) (r c x : ℕ) (v : Representation) (k : Consumer) → t.representation r ≡ Some v → IsBound t r c k → is_written t v ≡ true → v.writer ≡ Some x → shared t k.place ≡ Some x
+shared_of : (t : Tables) (r c x : ℕ) (v : Representation) (k : Consumer) → t.representation r ≡ Some v → IsBound t r c k → is_written t v ≡ true → v.writer ≡ Some x → shared_exchange t k.place ≡ Some x
 shared_of t r c x v k row (sound.is_bound lo hi how is place) on writer = rw (place, row, on) writer
 
 -- a member reads from the exchange of the writing
 pub source_is : (t : Tables) (r c x : ℕ) (v : Representation) (k : Consumer) → Sound t → t.representation r ≡ Some v → IsBound t r c k → is_written t v ≡ true → v.writer ≡ Some x → source t k ≡ Some x
 source_is t r c x v k s row reader on writer = by_own (own_open t k) refl
   where
-    by_own : (o : Option ℕ) → own_open t k ≡ o → option_or (own_open t k) (shared t k.place) ≡ Some x
+    by_own : (o : Option ℕ) → own_open t k ≡ o → option_or (own_open t k) (shared_exchange t k.place) ≡ Some x
     by_own None own = rw own (shared_of t r c x v k row reader on writer)
     by_own (Some z) own = rw own (ap Some (s.one_about r z x (s.writes.own_about r c z k reader own) (writer_about t r x v s row on writer)))
 
@@ -63,7 +63,7 @@ fault_is_due t e r c x v k s row reader on writer brings some =
     or_first (cause_of_stop t e k) _ (stops t e k x (source_is t r c x v k s row reader on writer) brings some)
 
 -- an End is due as long as less came than was promised
-pub short_due : (t : Tables) (x p : ℕ) (w : Exchange) → t.exchange x ≡ Some w → promised w ≡ Some p → length w.body < p → is_some (stop_cause t (event.End x)) ≡ true
+pub short_due : (t : Tables) (x p : ℕ) (w : Exchange) → t.exchange x ≡ Some w → promised_bytes w ≡ Some p → length w.body < p → is_some (stop_cause t (event.End x)) ≡ true
 short_due t x p w row promise less = rw (row, promise) (short_some p less)
   where
     short_some : (p : ℕ) → length w.body < p → is_some (short_of x w (Some p)) ≡ true
@@ -75,10 +75,10 @@ eq_of : (a b : ℕ) → nat_eq a b ≡ true → a ≡ b
 eq_of a b h = grind (arith, nat_tests)
 
 -- with the last promised piece, each position below the total is stored
-pub last_piece : (t : Tables) (r x total : ℕ) (bytes : List ℕ) (v : Representation) (w : Exchange) → IsGrowing t r v x w → v.head.total ≡ Some total → is_reached (promised w) (length (w.body ++ bytes)) ≡ true → Covers (written (front w) x bytes v.stored) 0 total
-last_piece t r x total bytes v w g known reached q lo lt = by_promise (promised w) refl
+pub last_piece : (t : Tables) (r x total : ℕ) (bytes : List ℕ) (v : Representation) (w : Exchange) → IsGrowing t r v x w → v.head.total ≡ Some total → is_reached (promised_bytes w) (length (w.body ++ bytes)) ≡ true → Covers (cells_with (front w) x bytes v.stored) 0 total
+last_piece t r x total bytes v w g known reached q lo lt = by_promise (promised_bytes w) refl
   where
-    by_promise : (o : Option ℕ) → promised w ≡ o → is_some (written (front w) x bytes v.stored q) ≡ true
+    by_promise : (o : Option ℕ) → promised_bytes w ≡ o → is_some (cells_with (front w) x bytes v.stored q) ≡ true
     by_promise None is = absurd (let never : is_reached None (length (w.body ++ bytes)) ≡ true = rw is at reached in let no : false ≡ true = never in cc)
     by_promise (Some p) is =
         let all : p ≡ length (w.body ++ bytes) = eq_of p (length (w.body ++ bytes)) (rw is at reached) in

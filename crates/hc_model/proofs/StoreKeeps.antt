@@ -4,16 +4,16 @@ use Rattle.std.specs.Prelude.{◌&&◌, ◌||◌, not, ◌==◌, nat_eq, is_some
 use Rattle.std.proofs.lemmas.Bool.Decides.{nat_tests}
 use Rattle.hc_event.specs.declared.event.Event.{Event}
 use Rattle.hc_event.specs.declared.event.Event.TheVariants as event
-use Rattle.hc_sparse.specs.Cells.{Cells, Cell, EndsBy, AreAbsent, written}
+use Rattle.hc_sparse.specs.Cells.{Cells, Cell, EndsBy, AreAbsent, cells_with}
 use Rattle.hc_sparse.proofs.CellLemmas.{inside-cases, inside-past, inside-yes}
 use Rattle.hc_model.specs.ActFilters.{loses_in}
-use Rattle.hc_model.specs.Answers.{accepted}
+use Rattle.hc_model.specs.Answers.{accepted_acts}
 use Rattle.hc_model.specs.Denials.{denial}
 use Rattle.hc_model.specs.Entries.{Entry}
 use Rattle.hc_model.specs.Exchanges.{family, front}
 use Rattle.hc_model.specs.Gone.{becomes_gone}
 use Rattle.hc_model.specs.Laws.{StoresAreKept}
-use Rattle.hc_model.specs.RepresentationRows.{representation_after, representation_heard, representation_acted, founded_at, represented, headed, renewed, updates, pieced, filled, ended, length_in}
+use Rattle.hc_model.specs.RepresentationRows.{representation_after, representation_heard, representation_acted, founded_at, new_representation, representation_after_head, with_renewed_head, updates, representation_after_piece, with_stored_bytes, with_total_if_none, length_in}
 use Rattle.hc_model.specs.Rows.{Tables, Exchange, Representation}
 use Rattle.hc_model.specs.Sound.{Sound, IsStored}
 use Rattle.hc_model.proofs.Basics.{or_left, or_right, or_false}
@@ -44,9 +44,9 @@ keeps e r v = not (v.is_lost || loses_in r e.acts)
 -- the row is as it was, or has a piece of its family more
 data IsHeard (t : Tables) (e : Entry) (r : ℕ) (v u : Representation) : Type 0 where
   quiet : IsStill v u → IsHeard t e r v u
-  piece : (x : ℕ) (bytes : List ℕ) (w : Exchange) → e.event ≡ event.Piece x bytes → t.exchange x ≡ Some w → family x w ≡ r → u ≡ filled (keeps e r v) (front w) x bytes v → IsHeard t e r v u
+  piece : (x : ℕ) (bytes : List ℕ) (w : Exchange) → e.event ≡ event.Piece x bytes → t.exchange x ≡ Some w → family x w ≡ r → u ≡ with_stored_bytes (keeps e r v) (front w) x bytes v → IsHeard t e r v u
 
-heard_piece : (t : Tables) (e : Entry) (r x : ℕ) (bytes : List ℕ) (o : Option Exchange) (v : Representation) → e.event ≡ event.Piece x bytes → t.exchange x ≡ o → IsHeard t e r v (pieced e r x bytes o v)
+heard_piece : (t : Tables) (e : Entry) (r x : ℕ) (bytes : List ℕ) (o : Option Exchange) (v : Representation) → e.event ≡ event.Piece x bytes → t.exchange x ≡ o → IsHeard t e r v (representation_after_piece e r x bytes o v)
 heard_piece t e r x bytes None v at row = quiet (still v)
 heard_piece t e r x bytes (Some w) v at row = elim (bool_cases (family x w == r)) [
   | inl here ↦ rw here (piece x bytes w at row (let test : nat_eq (family x w) r ≡ true = here in grind (arith, nat_tests)) refl)
@@ -58,11 +58,11 @@ heard t e r (event.Start c request) v at = quiet (still v)
 heard t e r (event.Poll c want) v at = quiet (still v)
 heard t e r (event.Head x response) v at = quiet (by_row (t.exchange x))
   where
-    by_row : (o : Option Exchange) → IsStill v (headed t e r x response o v)
+    by_row : (o : Option Exchange) → IsStill v (representation_after_head t e r x response o v)
     by_row None = still v
-    by_row (Some w) = still_if (updates t e r w v) v (renewed t e x response w v) (record { body_is = refl; stored_is = refl; reach_is = refl; lost_is = refl; alone_is = refl })
+    by_row (Some w) = still_if (updates t e r w v) v (with_renewed_head t e x response w v) (record { body_is = refl; stored_is = refl; reach_is = refl; lost_is = refl; alone_is = refl })
 heard t e r (event.Piece x bytes) v at = heard_piece t e r x bytes (t.exchange x) v at refl
-heard t e r (event.End x) v at = quiet (still_if (x == r) v (ended (length_in (t.exchange x)) v) (record { body_is = refl; stored_is = refl; reach_is = refl; lost_is = refl; alone_is = refl }))
+heard t e r (event.End x) v at = quiet (still_if (x == r) v (with_total_if_none (length_in (t.exchange x)) v) (record { body_is = refl; stored_is = refl; reach_is = refl; lost_is = refl; alone_is = refl }))
 heard t e r (event.Fault x) v at = quiet (still v)
 heard t e r (event.Cancel c) v at = quiet (still v)
 heard t e r (event.Doom key) v at = quiet (still v)
@@ -83,29 +83,29 @@ quiet_kept v u loses s is = record {
 }
 
 -- the same written over what is the same there
-written_same : (at x p : ℕ) (bytes : List ℕ) (f g : Cells) → (is_some (f p) ≡ true → f p ≡ g p) → is_some (written at x bytes f p) ≡ true → written at x bytes f p ≡ written at x bytes g p
+written_same : (at x p : ℕ) (bytes : List ℕ) (f g : Cells) → (is_some (f p) ≡ true → f p ≡ g p) → is_some (cells_with at x bytes f p) ≡ true → cells_with at x bytes f p ≡ cells_with at x bytes g p
 written_same at x p bytes f g old there = elim (inside-cases at (length bytes) p) [
   | inl here ↦ let yes = inside-yes at (length bytes) p here.1 here.2 in rw yes refl
   | inr off ↦ rw off.0 (old (rw off.0 at there))
 ]
 
-written_all : (at x p : ℕ) (bytes : List ℕ) (f g : Cells) → f p ≡ g p → written at x bytes f p ≡ written at x bytes g p
+written_all : (at x p : ℕ) (bytes : List ℕ) (f g : Cells) → f p ≡ g p → cells_with at x bytes f p ≡ cells_with at x bytes g p
 written_all at x p bytes f g old = elim (inside-cases at (length bytes) p) [
   | inl here ↦ let yes = inside-yes at (length bytes) p here.1 here.2 in rw yes refl
   | inr off ↦ rw off.0 old
 ]
 
 -- what wasn't there is written beside what was
-written_beside : (at x p : ℕ) (bytes : List ℕ) (f g : Cells) → AreAbsent g at (at + length bytes) → (is_some (f p) ≡ true → f p ≡ g p) → is_some (f p) ≡ true → f p ≡ written at x bytes g p
+written_beside : (at x p : ℕ) (bytes : List ℕ) (f g : Cells) → AreAbsent g at (at + length bytes) → (is_some (f p) ≡ true → f p ≡ g p) → is_some (f p) ≡ true → f p ≡ cells_with at x bytes g p
 written_beside at x p bytes f g absent old there = elim (inside-cases at (length bytes) p) [
   | inl here ↦ absurd (let gone : f p ≡ None = old there ∙ absent p here.1 here.2 in let no : false ≡ true = sym (ap (λ (o : Option Cell). is_some o) gone) ∙ there in cc)
   | inr off ↦ rw off.0 (old there)
 ]
 
-piece_kept : (v : Representation) (loses : Bool) (at x : ℕ) (bytes : List ℕ) → IsStored v → AreAbsent v.body at (at + length bytes) → IsKept v (filled (not (v.is_lost || loses)) at x bytes v) (loses || v.is_lost)
+piece_kept : (v : Representation) (loses : Bool) (at x : ℕ) (bytes : List ℕ) → IsStored v → AreAbsent v.body at (at + length bytes) → IsKept v (with_stored_bytes (not (v.is_lost || loses)) at x bytes v) (loses || v.is_lost)
 piece_kept v loses at x bytes s absent = by_loss (v.is_lost || loses) refl
   where
-    ends_by : EndsBy (max v.reach (at + length bytes)) (written at x bytes v.body)
+    ends_by : EndsBy (max v.reach (at + length bytes)) (cells_with at x bytes v.body)
     ends_by p le =
         let here : at + length bytes ≤ p = omega arith in
         let before : v.reach ≤ p = omega arith in
@@ -116,7 +116,7 @@ piece_kept v loses at x bytes s absent = by_loss (v.is_lost || loses) refl
     parts false true h = absurd (let never : true ≡ false = h in cc)
     parts true b h = absurd (let never : true ≡ false = h in cc)
 
-    by_loss : (b : Bool) → (v.is_lost || loses) ≡ b → IsKept v (filled (not b) at x bytes v) (loses || v.is_lost)
+    by_loss : (b : Bool) → (v.is_lost || loses) ≡ b → IsKept v (with_stored_bytes (not b) at x bytes v) (loses || v.is_lost)
     by_loss false is = record {
       ends = ends_by;
       all = λ h p. written_all at x p bytes v.stored v.body (s.all_stored ((or_false v.is_lost loses is).0) p);
@@ -179,10 +179,10 @@ founded_stored t e r (event.Start c request) u h = absurd (let never : None ≡ 
 founded_stored t e r (event.Poll c want) u h = absurd (let never : None ≡ Some u = h in cc)
 founded_stored t e r (event.Head x response) u h = by_test _ (t.exchange x) h
   where
-    by_test : (b : Bool) (o : Option Exchange) → (if b then option_map (represented r e response) o else None) ≡ Some u → IsStored u
+    by_test : (b : Bool) (o : Option Exchange) → (if b then option_map (new_representation r e response) o else None) ≡ Some u → IsStored u
     by_test false o h = absurd (let never : None ≡ Some u = h in cc)
     by_test true None h = absurd (let never : None ≡ Some u = h in cc)
-    by_test true (Some w) h = subst IsStored (some_inj (represented r e response w) u h) (record {
+    by_test true (Some w) h = subst IsStored (some_inj (new_representation r e response w) u h) (record {
       ends = λ p le. refl;
       lost_is_gone = λ h. absurd (let never : false ≡ true = h in cc);
       all_stored = λ h p. refl;
@@ -206,4 +206,4 @@ after_stored t e r (Some v) u s goes row h =
 
 pub stores_are_kept : StoresAreKept
 stores_are_kept limits t now flaw s event goes r u h =
-    after_stored t (record { now = now; event = event; acts = accepted limits t now event flaw }) r (t.representation r) u s goes refl h
+    after_stored t (record { now = now; event = event; acts = accepted_acts limits t now event flaw }) r (t.representation r) u s goes refl h

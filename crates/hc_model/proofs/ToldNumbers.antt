@@ -13,12 +13,12 @@ use Rattle.hc_rules.specs.declared.length.Length.{Length}
 use Rattle.hc_rules.specs.declared.need.Route.{Route}
 use Rattle.hc_rules.specs.declared.need.Route.TheVariants as route
 use Rattle.hc_rules.specs.declared.length.Length.TheVariants as says
-use Rattle.hc_rules.specs.Lengths.{length_of, length_told, part_length, all_tell, told, agrees, has_no_body, tells_part, base_of, promise_of}
+use Rattle.hc_rules.specs.Lengths.{length_of, content_length_of, part_length, all_tell, promised_or_bad, agrees, has_no_body, tells_part, base_of, promise_of}
 use Rattle.hc_rules.specs.Needs.{route_of}
 use Rattle.hc_rules.specs.RangeTexts.{number_of, content_range_of, content_range_in}
 use Rattle.hc_rules.proofs.Numbers.{IsNumber-told}
 use Rattle.hc_rules.proofs.RangeReads.{content_range_in-some}
-use Rattle.hc_model.specs.Exchanges.{base, promised, length_by}
+use Rattle.hc_model.specs.Exchanges.{base, promised_bytes, length_by}
 use Rattle.hc_model.specs.Heads.{total_of_part, founded_total}
 use Rattle.hc_model.specs.Rows.{Exchange}
 use Rattle.hc_model.proofs.Basics.{none_some}
@@ -35,13 +35,13 @@ if_early : (b : Bool) (l m : Length) → EndsEarly l → EndsEarly m → EndsEar
 if_early true l m a b = a
 if_early false l m a b = b
 
-number_early : (text : List ℕ) (o : Option ℕ) → number_of text ≡ o → EndsEarly (told o)
+number_early : (text : List ℕ) (o : Option ℕ) → number_of text ≡ o → EndsEarly (promised_or_bad o)
 number_early text None is = tt
 number_early text (Some n) is = let small = (IsNumber-told text n is).0 in omega arith
 
-told_early : (elements : List (List ℕ)) → EndsEarly (length_told elements)
+told_early : (elements : List (List ℕ)) → EndsEarly (content_length_of elements)
 told_early [] = tt
-told_early (element ∷ elements) = if_early (all_tell (number_of element) (element ∷ elements)) (told (number_of element)) says.Bad (number_early element (number_of element) refl) tt
+told_early (element ∷ elements) = if_early (all_tell (number_of element) (element ∷ elements)) (promised_or_bad (number_of element)) says.Bad (number_early element (number_of element) refl) tt
 
 -- a part that a text spells
 abbrev IsEarlyPart : ContentRange → Type 0
@@ -78,8 +78,8 @@ unfolding length_of
 length_early need request response =
     let es = elements_in (codes "content-length") response.fields in
     if_early (has_no_body request response.status) (says.Promised 0) _ (omega arith)
-    (if_early (tells_part (route_of need) response.status) (part_length (length_told es) (content_range_of response.fields)) (length_told es)
-    (part_early (length_told es) (content_range_of response.fields) (range_early response))
+    (if_early (tells_part (route_of need) response.status) (part_length (content_length_of es) (content_range_of response.fields)) (content_length_of es)
+    (part_early (content_length_of es) (content_range_of response.fields) (range_early response))
     (told_early es))
 
 by_early : (l : Length) (n : ℕ) → EndsEarly l → promise_of l ≡ Some n → base_of l + n ≤ 2 ^ 62
@@ -89,7 +89,7 @@ by_early (says.Promised p) n early is = let same : p ≡ n = some_inj p n is in 
 by_early (says.Part first p) n early is = let same : p ≡ n = some_inj p n is in omega arith
 
 -- where what an exchange promised ends
-pub promise_early : (w : Exchange) (n : ℕ) → promised w ≡ Some n → base w + n ≤ 2 ^ 62
+pub promise_early : (w : Exchange) (n : ℕ) → promised_bytes w ≡ Some n → base w + n ≤ 2 ^ 62
 promise_early w n is = by_early (length_by w w.head) n (by_head w.head) is
   where
     by_head : (o : Option Response) → EndsEarly (length_by w o)
@@ -112,11 +112,11 @@ no_part_if : (b : Bool) (l m : Length) → TellsNoPart l → TellsNoPart m → T
 no_part_if true l m a b = a
 no_part_if false l m a b = b
 
-told_no_part : (elements : List (List ℕ)) → TellsNoPart (length_told elements)
+told_no_part : (elements : List (List ℕ)) → TellsNoPart (content_length_of elements)
 told_no_part [] = tt
-told_no_part (element ∷ elements) = no_part_if (all_tell (number_of element) (element ∷ elements)) (told (number_of element)) says.Bad (by_number (number_of element)) tt
+told_no_part (element ∷ elements) = no_part_if (all_tell (number_of element) (element ∷ elements)) (promised_or_bad (number_of element)) says.Bad (by_number (number_of element)) tt
   where
-    by_number : (o : Option ℕ) → TellsNoPart (told o)
+    by_number : (o : Option ℕ) → TellsNoPart (promised_or_bad o)
     by_number None = tt
     by_number (Some n) = tt
 

@@ -12,7 +12,7 @@ use Rattle.hc_event.specs.declared.event.Event.TheVariants as event
 use Rattle.hc_event.specs.declared.event.Response.{Response}
 use Rattle.hc_rules.specs.declared.room.Limits.{Limits}
 use Rattle.hc_model.specs.ActFilters.{loses_in, has_loss, misreads_in, fails_in, without_losses}
-use Rattle.hc_model.specs.Answers.{accepted, said, lost, closed}
+use Rattle.hc_model.specs.Answers.{accepted_acts, answer_acts, loss_acts, close_acts}
 use Rattle.hc_model.specs.Cases.{case_at, case_of}
 use Rattle.hc_model.specs.Closings.{closing, closes_row, must_close}
 use Rattle.hc_model.specs.Dooms.{doomed, doomed_in, doomed_by_head, doomed_by_case}
@@ -22,7 +22,7 @@ use Rattle.hc_model.specs.Flaws.{Flaw, NoFlaw, Loses, Misreads, flaw_in}
 use Rattle.hc_model.specs.Laws.{Turns}
 use Rattle.hc_model.specs.Moves as moves
 use Rattle.hc_model.specs.Moves.{Move, acts_of}
-use Rattle.hc_model.specs.Polls.{polled}
+use Rattle.hc_model.specs.Polls.{poll_move}
 use Rattle.hc_model.specs.Rows.{Tables, Exchange, Consumer}
 use Rattle.hc_model.specs.Runs.{IsOwed, may_stand, may_be}
 use Rattle.hc_model.specs.Sound.{Sound, Among}
@@ -76,7 +76,7 @@ loss_closes : (ys : List ℕ) → has_loss (map act.Close ys) ≡ false
 loss_closes [] = refl
 loss_closes (y ∷ ys) = loss_closes ys
 
-loss_before : (flaw : Flaw) (ys : List ℕ) → has_loss (lost flaw ++ map act.Close ys) ≡ has_loss (lost flaw)
+loss_before : (flaw : Flaw) (ys : List ℕ) → has_loss (loss_acts flaw ++ map act.Close ys) ≡ has_loss (loss_acts flaw)
 loss_before NoFlaw ys = loss_closes ys
 loss_before (Loses r kind) ys = refl
 loss_before (Misreads r) ys = loss_closes ys
@@ -131,14 +131,14 @@ module _ (limits : Limits) (t : Tables) (e : Entry) (taken : IsTaken limits t e)
   flaw = flaw_in e.acts
 
   abbrev asked_of : List Act
-  asked_of = said t e.now e.event flaw
+  asked_of = answer_acts t e.now e.event flaw
 
-  pub acts_is : e.acts ≡ accepted limits t e.now e.event flaw
+  pub acts_is : e.acts ≡ accepted_acts limits t e.now e.event flaw
   acts_is = acts_are limits t e taken.owed taken.not_denied
 
   -- what closings look at
   abbrev pub seen : Entry
-  seen = record { now = e.now; event = e.event; acts = said t e.now e.event (flaw_in e.acts) ++ lost (flaw_in e.acts) }
+  seen = record { now = e.now; event = e.event; acts = answer_acts t e.now e.event (flaw_in e.acts) ++ loss_acts (flaw_in e.acts) }
 
   abbrev closings : List ℕ
   closings = closing t seen
@@ -146,7 +146,7 @@ module _ (limits : Limits) (t : Tables) (e : Entry) (taken : IsTaken limits t e)
   abbrev answered : List Act → Type 0
   answered acts = IsAnswer limits t e.now e.event flaw acts
 
-  is_answer : answered (accepted limits t e.now e.event flaw)
+  is_answer : answered (accepted_acts limits t e.now e.event flaw)
   is_answer = answer_is limits t e.now e.event flaw
 
   said_here : IsSaid t e.now e.event flaw asked_of
@@ -179,18 +179,18 @@ module _ (limits : Limits) (t : Tables) (e : Entry) (taken : IsTaken limits t e)
 
   -- THE CASE OF A HEAD
 
-  loss_by : (acts : List Act) → answered acts → has_loss acts ≡ has_loss (lost flaw)
+  loss_by : (acts : List Act) → answered acts → has_loss acts ≡ has_loss (loss_acts flaw)
   loss_by _ (parts.told silent) = loss_evicted (evicted limits t e.now e.event) _ ∙ loss_before flaw closings
-  loss_by _ parts.asked = loss_said t e.now e.event flaw asked_of _ said_here ∙ loss_closed closings (lost flaw)
+  loss_by _ parts.asked = loss_said t e.now e.event flaw asked_of _ said_here ∙ loss_closed closings (loss_acts flaw)
 
-  pub loss_as : has_loss e.acts ≡ has_loss (lost flaw)
+  pub loss_as : has_loss e.acts ≡ has_loss (loss_acts flaw)
   loss_as = ap has_loss acts_is ∙ loss_by _ is_answer
 
   pub loss_seen : has_loss seen.acts ≡ has_loss e.acts
-  loss_seen = loss_said t e.now e.event flaw asked_of (lost flaw) said_here ∙ sym loss_as
+  loss_seen = loss_said t e.now e.event flaw asked_of (loss_acts flaw) said_here ∙ sym loss_as
 
   pub same_case : case_at t e ≡ case_at t seen
-  same_case = ap (λ b. case_of t b e.event) (loss_as ∙ sym (loss_said t e.now e.event flaw asked_of (lost flaw) said_here))
+  same_case = ap (λ b. case_of t b e.event) (loss_as ∙ sym (loss_said t e.now e.event flaw asked_of (loss_acts flaw) said_here))
 
   pub same_doom : doomed t e ≡ doomed t seen
   unfolding doomed
@@ -207,25 +207,25 @@ module _ (limits : Limits) (t : Tables) (e : Entry) (taken : IsTaken limits t e)
 
   -- LOST, EVICTED, MISREAD
 
-  loses_by : (r : ℕ) (acts : List Act) → answered acts → loses_in r acts ≡ loses_in r (lost flaw)
+  loses_by : (r : ℕ) (acts : List Act) → answered acts → loses_in r acts ≡ loses_in r (loss_acts flaw)
   loses_by r _ (parts.told silent) = loses_evicted r (evicted limits t e.now e.event) _ ∙ loses_before r flaw closings
-  loses_by r _ parts.asked = (said_closes 0 r t e.now e.event flaw asked_of _ said_here).loses ∙ loses_closed r closings (lost flaw)
+  loses_by r _ parts.asked = (said_closes 0 r t e.now e.event flaw asked_of _ said_here).loses ∙ loses_closed r closings (loss_acts flaw)
 
-  pub loses_as : (r : ℕ) → loses_in r e.acts ≡ loses_in r (lost (flaw_in e.acts))
+  pub loses_as : (r : ℕ) → loses_in r e.acts ≡ loses_in r (loss_acts (flaw_in e.acts))
   loses_as r = ap (loses_in r) acts_is ∙ loses_by r _ is_answer
 
   pub may_be_so : may_be limits t e (flaw_in e.acts) ≡ true
   may_be_so = may_of limits t e taken.not_denied taken.owed.flaw
 
-  evicts_poll : (r : ℕ) (ev : Event) → is_asking ev ≡ true → evicts_in r (accepted limits t e.now ev flaw) ≡ false
+  evicts_poll : (r : ℕ) (ev : Event) → is_asking ev ≡ true → evicts_in r (accepted_acts limits t e.now ev flaw) ≡ false
   evicts_poll r (event.Poll c want) h =
-      (said_closes 0 r t e.now (event.Poll c want) flaw _ _ (said_is t e.now (event.Poll c want) flaw)).evicts ∙ evicts_closed r (closing t (record { now = e.now; event = event.Poll c want; acts = said t e.now (event.Poll c want) flaw ++ lost flaw })) flaw
-  evicts_poll r (event.Cancel c) h = evicts_closed r (closing t (record { now = e.now; event = event.Cancel c; acts = lost flaw })) flaw
+      (said_closes 0 r t e.now (event.Poll c want) flaw _ _ (said_is t e.now (event.Poll c want) flaw)).evicts ∙ evicts_closed r (closing t (record { now = e.now; event = event.Poll c want; acts = answer_acts t e.now (event.Poll c want) flaw ++ loss_acts flaw })) flaw
+  evicts_poll r (event.Cancel c) h = evicts_closed r (closing t (record { now = e.now; event = event.Cancel c; acts = loss_acts flaw })) flaw
   evicts_poll r _ h = absurd (let no_one : false ≡ true = h in cc)
 
   asked_by : (r : ℕ) (ev : Event) → e.event ≡ ev → is_asking ev ≡ true → evicts_in r e.acts ≡ false
-  asked_by r (event.Poll c want) at h = ap (evicts_in r) acts_is ∙ (ap (λ z. evicts_in r (accepted limits t e.now z flaw)) at ∙ evicts_poll r (event.Poll c want) refl)
-  asked_by r (event.Cancel c) at h = ap (evicts_in r) acts_is ∙ (ap (λ z. evicts_in r (accepted limits t e.now z flaw)) at ∙ evicts_poll r (event.Cancel c) refl)
+  asked_by r (event.Poll c want) at h = ap (evicts_in r) acts_is ∙ (ap (λ z. evicts_in r (accepted_acts limits t e.now z flaw)) at ∙ evicts_poll r (event.Poll c want) refl)
+  asked_by r (event.Cancel c) at h = ap (evicts_in r) acts_is ∙ (ap (λ z. evicts_in r (accepted_acts limits t e.now z flaw)) at ∙ evicts_poll r (event.Cancel c) refl)
   asked_by r _ at h = absurd (let no_one : false ≡ true = h in cc)
 
   pub evicts_asked : (r : ℕ) → is_asking e.event ≡ true → evicts_in r e.acts ≡ false
@@ -248,36 +248,36 @@ module _ (limits : Limits) (t : Tables) (e : Entry) (taken : IsTaken limits t e)
 
   -- A POLL
 
-  told_by : (x r : ℕ) (acts : List Act) → answered acts → said t e.now e.event flaw ≡ [] → is_asking e.event ≡ false → parts.AsksAs x r acts []
+  told_by : (x r : ℕ) (acts : List Act) → answered acts → answer_acts t e.now e.event flaw ≡ [] → is_asking e.event ≡ false → parts.AsksAs x r acts []
   told_by x r _ (parts.told silent) none asks =
-      let a = asks_evicted x r (evicted limits t e.now e.event) (lost flaw ++ map act.Close closings) in
+      let a = asks_evicted x r (evicted limits t e.now e.event) (loss_acts flaw ++ map act.Close closings) in
       let b = asks_lost x r flaw (map act.Close closings) in
       let d = asks_closes x r closings in
       record { asks = a.asks ∙ (b.asks ∙ d.asks); misreads = a.misreads ∙ (b.misreads ∙ d.misreads); opens = a.opens ∙ (b.opens ∙ d.opens) }
   told_by x r _ parts.asked none asks =
-      let a = asks_closed x r closings (lost flaw) in
+      let a = asks_closed x r closings (loss_acts flaw) in
       let b = asks_loss x r flaw in
-      subst (λ acts. parts.AsksAs x r (acts ++ (map act.Close closings ++ lost flaw)) []) (sym none)
+      subst (λ acts. parts.AsksAs x r (acts ++ (map act.Close closings ++ loss_acts flaw)) []) (sym none)
       (record { asks = a.asks ∙ b.asks; misreads = a.misreads ∙ b.misreads; opens = a.opens ∙ b.opens })
 
   -- an event from outside asks, opens and misreads nothing
-  pub told_quiet : (x r : ℕ) → said t e.now e.event (flaw_in e.acts) ≡ [] → is_asking e.event ≡ false → parts.AsksAs x r e.acts []
+  pub told_quiet : (x r : ℕ) → answer_acts t e.now e.event (flaw_in e.acts) ≡ [] → is_asking e.event ≡ false → parts.AsksAs x r e.acts []
   told_quiet x r none asks = subst (λ acts. parts.AsksAs x r acts []) (sym acts_is) (told_by x r _ is_answer none asks)
 
   evicts_by : (r : ℕ) (acts : List Act) → answered acts → evicted limits t e.now e.event ≡ [] → evicts_in r acts ≡ false
-  evicts_by r _ (parts.told silent) none = ap (λ rs. evicts_in r (map act.Evicted rs ++ (lost flaw ++ map act.Close closings))) none ∙ (parts.evicts_lost r flaw _ ∙ parts.evicts_closes r closings)
+  evicts_by r _ (parts.told silent) none = ap (λ rs. evicts_in r (map act.Evicted rs ++ (loss_acts flaw ++ map act.Close closings))) none ∙ (parts.evicts_lost r flaw _ ∙ parts.evicts_closes r closings)
   evicts_by r _ parts.asked none = (said_closes 0 r t e.now e.event flaw asked_of _ said_here).evicts ∙ evicts_closed r closings flaw
 
   -- where nothing gives way, nothing is evicted
   pub evicts_none : (r : ℕ) → evicted limits t e.now e.event ≡ [] → evicts_in r e.acts ≡ false
   evicts_none r none = ap (evicts_in r) acts_is ∙ evicts_by r _ is_answer none
 
-  pub misreads_behind : (r : ℕ) → misreads_in r (map act.Close (closing t seen) ++ lost (flaw_in e.acts)) ≡ false
+  pub misreads_behind : (r : ℕ) → misreads_in r (map act.Close (closing t seen) ++ loss_acts (flaw_in e.acts)) ≡ false
   misreads_behind r = (asks_closed 0 r closings _).misreads ∙ (asks_loss 0 r flaw).misreads
 
   -- what is said behind what is said to the consumer
   abbrev pub behind : List Act
-  behind = map act.Close (closing t seen) ++ lost (flaw_in e.acts)
+  behind = map act.Close (closing t seen) ++ loss_acts (flaw_in e.acts)
 
   pub far_behind : (c : ℕ) → IsFarFrom c behind
   far_behind c = far_closing c closings _ (far_lost_only c flaw)
@@ -287,25 +287,25 @@ module _ (limits : Limits) (t : Tables) (e : Entry) (taken : IsTaken limits t e)
 
   -- of its consumer
   pub data AtPoll (c : ℕ) (k : Consumer) : Type 0 where
-    moves_on : (want : ℕ) (m : Move) → e.event ≡ event.Poll c want → m ≡ polled t e.now want c (Some k) → Does t c k m → e.acts ≡ acts_of c m ++ behind → seen.acts ≡ acts_of c m ++ lost (flaw_in e.acts) → AtPoll c k
-    misreads : (want r : ℕ) → e.event ≡ event.Poll c want → e.acts ≡ act.Failed c (cause.StoreRead r) ∷ behind → seen.acts ≡ act.Failed c (cause.StoreRead r) ∷ lost (flaw_in e.acts) → AtPoll c k
+    moves_on : (want : ℕ) (m : Move) → e.event ≡ event.Poll c want → m ≡ poll_move t e.now want c (Some k) → Does t c k m → e.acts ≡ acts_of c m ++ behind → seen.acts ≡ acts_of c m ++ loss_acts (flaw_in e.acts) → AtPoll c k
+    misreads : (want r : ℕ) → e.event ≡ event.Poll c want → e.acts ≡ act.Failed c (cause.StoreRead r) ∷ behind → seen.acts ≡ act.Failed c (cause.StoreRead r) ∷ loss_acts (flaw_in e.acts) → AtPoll c k
 
   pub at_poll : (c want : ℕ) (k : Consumer) → Sound t → Turns t → t.consumer c ≡ Some k → e.event ≡ event.Poll c want → AtPoll c k
   at_poll c want k s turns row at = by_flaw flaw refl
     where
-      by_asked : (ev : Event) → ev ≡ event.Poll c want → accepted limits t e.now ev flaw ≡ said t e.now ev flaw ++ (closed t e.now ev flaw ++ lost flaw)
-      by_asked ev is = subst (λ z. accepted limits t e.now z flaw ≡ said t e.now z flaw ++ (closed t e.now z flaw ++ lost flaw)) (sym is) refl
+      by_asked : (ev : Event) → ev ≡ event.Poll c want → accepted_acts limits t e.now ev flaw ≡ answer_acts t e.now ev flaw ++ (close_acts t e.now ev flaw ++ loss_acts flaw)
+      by_asked ev is = subst (λ z. accepted_acts limits t e.now z flaw ≡ answer_acts t e.now z flaw ++ (close_acts t e.now z flaw ++ loss_acts flaw)) (sym is) refl
 
-      by_move : (f : Flaw) → flaw ≡ f → said t e.now (event.Poll c want) f ≡ acts_of c (polled t e.now want c (t.consumer c)) → AtPoll c k
+      by_move : (f : Flaw) → flaw ≡ f → answer_acts t e.now (event.Poll c want) f ≡ acts_of c (poll_move t e.now want c (t.consumer c)) → AtPoll c k
       by_move f is says =
-          let m = polled t e.now want c (Some k) in
-          let here : asked_of ≡ acts_of c m = ap (λ z. said t e.now z flaw) at ∙ (ap (said t e.now (event.Poll c want)) is ∙ (says ∙ ap (λ o. acts_of c (polled t e.now want c o)) row)) in
+          let m = poll_move t e.now want c (Some k) in
+          let here : asked_of ≡ acts_of c m = ap (λ z. answer_acts t e.now z flaw) at ∙ (ap (answer_acts t e.now (event.Poll c want)) is ∙ (says ∙ ap (λ o. acts_of c (poll_move t e.now want c o)) row)) in
           let all : e.acts ≡ asked_of ++ behind = acts_is ∙ by_asked e.event at in
-          moves_on want m at refl (does_polled t c k s turns row e.now want) (all ∙ ap (λ acts. acts ++ behind) here) (ap (λ acts. acts ++ lost flaw) here)
+          moves_on want m at refl (does_polled t c k s turns row e.now want) (all ∙ ap (λ acts. acts ++ behind) here) (ap (λ acts. acts ++ loss_acts flaw) here)
 
       by_flaw : (f : Flaw) → flaw ≡ f → AtPoll c k
       by_flaw NoFlaw is = by_move NoFlaw is refl
       by_flaw (Loses r kind) is = by_move (Loses r kind) is refl
       by_flaw (Misreads r) is =
-          let here : asked_of ≡ act.Failed c (cause.StoreRead r) ∷ [] = ap (λ z. said t e.now z flaw) at ∙ ap (said t e.now (event.Poll c want)) is in
-          misreads want r at (acts_is ∙ (by_asked e.event at ∙ ap (λ acts. acts ++ behind) here)) (ap (λ acts. acts ++ lost flaw) here)
+          let here : asked_of ≡ act.Failed c (cause.StoreRead r) ∷ [] = ap (λ z. answer_acts t e.now z flaw) at ∙ ap (answer_acts t e.now (event.Poll c want)) is in
+          misreads want r at (acts_is ∙ (by_asked e.event at ∙ ap (λ acts. acts ++ behind) here)) (ap (λ acts. acts ++ loss_acts flaw) here)

@@ -22,12 +22,12 @@ use Rattle.hc_rules.specs.HeadCases.{head_case, case_on, direct_case, first_case
 use Rattle.hc_rules.specs.Lengths.{is_same_number}
 use Rattle.hc_rules.specs.Needs.{route_of}
 use Rattle.hc_model.specs.ActFilters.{has_loss, loses_in, misreads_in, leaver_in}
-use Rattle.hc_model.specs.Answers.{said, lost}
+use Rattle.hc_model.specs.Answers.{answer_acts, loss_acts}
 use Rattle.hc_model.specs.Cases.{case_at, case_of, head_view, validates, is_founding}
 use Rattle.hc_model.specs.Closings.{must_close, is_doomed, is_left, leaver, leaver_by, is_refused, brings_head, has_no_survivor, awaits}
 use Rattle.hc_model.specs.Currents.{current, is_current, is_number}
-use Rattle.hc_model.specs.Dooms.{doomed, doomed_in, doomed_by_head, doomed_by_case, bypassed, bypassed_by, is_key}
-use Rattle.hc_model.specs.Entries.{Entry, unanswered}
+use Rattle.hc_model.specs.Dooms.{doomed, doomed_in, doomed_by_head, doomed_by_case, bypass_key, bypassed_by, is_key}
+use Rattle.hc_model.specs.Entries.{Entry, entry_without_acts}
 use Rattle.hc_model.specs.Exchanges.{exchange_at, is_headless, family}
 use Rattle.hc_model.specs.Flaws.{flaw_in}
 use Rattle.hc_model.specs.Gone.{becomes_gone, goes_by_head, goes_by_exchange, goes_by_case, ends_early, ends_founding, stops_early, is_keepable}
@@ -164,8 +164,8 @@ module _ (limits : Limits) (t : Tables) (e : Entry) (taken : IsTaken limits t e)
   saw_lossless : has_loss saw.acts ≡ false
   saw_lossless = facts.loss_seen limits t e taken ∙ lossless
 
-  silent : said t e.now e.event (flaw_in e.acts) ≡ []
-  silent = ap (λ ev. said t e.now ev (flaw_in e.acts)) at
+  silent : answer_acts t e.now e.event (flaw_in e.acts) ≡ []
+  silent = ap (λ ev. answer_acts t e.now ev (flaw_in e.acts)) at
 
   keeps_writing : (y r : ℕ) (o : Option Representation) → has_no_survivor t saw y r o ≡ false
   keeps_writing y r None = refl
@@ -178,7 +178,7 @@ module _ (limits : Limits) (t : Tables) (e : Entry) (taken : IsTaken limits t e)
       (ap (λ c. is_refused c && brings_head y e.event) saw_case)
       (ap (λ o. is_key o u.request.key && is_headless (Some u) && awaits (t.consumer u.c) y) (sym (same_doom limits t e taken) ∙ doom_at))
       (keeps_writing y (family y u) (t.representation (family y u)))
-      (ap (is_left t y) (ap (λ ev. leaver_by ev saw.acts) at ∙ (ap (λ acts. leaver_in (acts ++ lost (flaw_in e.acts))) silent ∙ parts.leaver_lost (flaw_in e.acts))))
+      (ap (is_left t y) (ap (λ ev. leaver_by ev saw.acts) at ∙ (ap (λ acts. leaver_in (acts ++ loss_acts (flaw_in e.acts))) silent ∙ parts.leaver_lost (flaw_in e.acts))))
     where
       all_false : (a b d f : Bool) → a ≡ false → b ≡ false → d ≡ false → f ≡ false → (a || b || d || f) ≡ false
       all_false a b d f p q y z = rw (p, q, y, z) refl
@@ -190,25 +190,25 @@ module _ (limits : Limits) (t : Tables) (e : Entry) (taken : IsTaken limits t e)
   opens_none : opening_in e.acts ≡ None
   opens_none = (told_quiet limits t e taken 0 0 silent (ap facts.is_asking at)).opens
 
-  case_before : case_at t (unanswered e.now e.event) ≡ Some case.Validated
+  case_before : case_at t (entry_without_acts e.now e.event) ≡ Some case.Validated
   case_before = ap (λ b. case_of t b e.event) (sym lossless) ∙ found
 
-  write_none : write_in t (unanswered e.now e.event) e.event ≡ None
-  write_none = ap (write_in t (unanswered e.now e.event)) at ∙ ap (λ c. write_by c) case_before
+  write_none : write_in t (entry_without_acts e.now e.event) e.event ≡ None
+  write_none = ap (write_in t (entry_without_acts e.now e.event)) at ∙ ap (λ c. write_by c) case_before
     where
       write_by : Option HeadCase → Option Write
       write_by c = if is_founding c then Some write.Slot else None
 
   evicted_none : evicted limits t e.now e.event ≡ []
   unfolding room_for
-  evicted_none = ap (λ o. first_idle t (unanswered e.now e.event) (room_by limits t (unanswered e.now e.event) o)) write_none
+  evicted_none = ap (λ o. first_idle t (entry_without_acts e.now e.event) (room_by limits t (entry_without_acts e.now e.event) o)) write_none
 
   -- nothing goes
   pub goes_none : (r : ℕ) (v : Representation) → becomes_gone t e r v ≡ false
   unfolding becomes_gone
   goes_none r v =
       let head : goes_by_head t e r ≡ false = ap (λ ev. goes_by_exchange t e r (exchange_at t ev)) at ∙ (ap (goes_by_exchange t e r) row ∙ ap (λ c. goes_by_case t e r c w) found) in
-      let past : bypassed e ≡ None = ap bypassed_by opens_none in
+      let past : bypass_key e ≡ None = ap bypassed_by opens_none in
       let reads : misreads_in r e.acts ≡ false = (told_quiet limits t e taken 0 r silent (ap facts.is_asking at)).misreads in
       let early : ends_early t e r v ≡ false = ap (λ b. v.head.status == 200 && b) (ends_none r (t.exchange r)) ∙ and_none (v.head.status == 200) in
       rw (doom_at, past, head, no_loss r e.acts lossless, reads, early, evicts_none limits t e taken r evicted_none) (by_current (is_current t v.key r))

@@ -35,12 +35,12 @@ use Rattle.hc_model.specs.Laws.{HasPassed, Turns}
 use Rattle.hc_model.specs.Lines.{turn_with}
 use Rattle.hc_model.specs.Moves as moves
 use Rattle.hc_model.specs.Moves.{Move, Nothing, Asks, Opens, Shows, Gives, Ends, Fails, opens_hole, shows_stored, gives, waits_for}
-use Rattle.hc_model.specs.Planning.{plan_view, plan_move, planned, has_passed, candidate, candidate_at, current_row, binds_current}
-use Rattle.hc_model.specs.Polls.{shows_answer, shows_direct, shows_bound, shows_at, shows_head, has_joined, if_headless, waits_for_head, or_else, by_place, polled}
+use Rattle.hc_model.specs.Planning.{plan_view, plan_move, planned_move, has_passed, candidate, candidate_at, current_row, binds_current}
+use Rattle.hc_model.specs.Polls.{shows_answer, shows_direct, shows_bound, shows_at, shows_head, has_joined, if_headless, waits_for_head, or_else, by_place, poll_move}
 use Rattle.hc_model.specs.Reading.{bound_to, hi_of, own_open, source}
 use Rattle.hc_model.specs.Rows.{Tables, Exchange, Representation, Consumer}
 use Rattle.hc_model.specs.Sound.{Sound}
-use Rattle.hc_model.specs.Steps.{bound_row, most, held, read_view, later_hole, step_move, reading}
+use Rattle.hc_model.specs.Steps.{bound_row, most, run_held_for, read_view, later_hole, step_move, reading}
 use Rattle.hc_model.proofs.Basics.{none_some}
 use Rattle.hc_model.proofs.HoleLemmas.{bool_cases}
 use Rattle.hc_model.proofs.Joining.{mix}
@@ -169,7 +169,7 @@ module _ (t : Tables) (c : ℕ) (k : Consumer) where
     does_reading =
         mix DoesStep (is_at_end v.hi v.offset) step.Ended (stored_or v.hi v.stored by_held) ends
         (step_stored v.hi v.stored by_held
-        (mix DoesStep v.held step.Held (fails_or v.due by_waits) (does_gives (held t c k (most t want k)))
+        (mix DoesStep v.held step.Held (fails_or v.due by_waits) (does_gives (run_held_for t c k (most t want k)))
         (step_fails v.due by_waits (step_waits (source t k)))))
 
   -- SHOWING
@@ -327,10 +327,10 @@ module _ (t : Tables) (c : ℕ) (k : Consumer) where
         let m = may_read varied (plain_is plain) in passes d m.0 (asking u queue.asks) (queueing queue) m.1
     does_plan u _ plans.misses = fails _
 
-    does_planned : IsUnread k → Does t c k (planned t now c k)
+    does_planned : IsUnread k → Does t c k (planned_move t now c k)
     does_planned u = does_plan u (plan_of view) (plan_is view through)
 
-    by_shown : (want : ℕ) (b : Bool) → k.shown ≡ b → (b ≡ false → (bound_to k.place ≡ None) × Plans k.place) → Does t c k (if b then reading t want c k else planned t now c k)
+    by_shown : (want : ℕ) (b : Bool) → k.shown ≡ b → (b ≡ false → (bound_to k.place ≡ None) × Plans k.place) → Does t c k (if b then reading t want c k else planned_move t now c k)
     by_shown want true shown free = does_reading want shown
     by_shown want false shown free = let both = free refl in does_planned (record { shown = shown; bound = both.0; plans = both.1 })
 
@@ -345,7 +345,7 @@ module _ (t : Tables) (c : ℕ) (k : Consumer) where
         by_shown want k.shown refl (λ shown. absurd (never_plans t c k r lo hi how at shown (s.unshown c r lo hi how k row at shown) none not_waiting))
 
     -- every move of a poll is such
-    pub does_polled : (want : ℕ) → Does t c k (polled t now want c (Some k))
+    pub does_polled : (want : ℕ) → Does t c k (poll_move t now want c (Some k))
     does_polled want =
         does_some (shows_head t k) _ (λ n is. does_head k.shown n is) (λ none.
         does_some (waits_for_head (option_and_then (if_headless t) (own_open t k))) _

@@ -19,12 +19,12 @@ use Rattle.hc_event.specs.declared.place.BoundBy.TheVariants as by
 use Rattle.hc_event.specs.declared.place.Place.{Place}
 use Rattle.hc_event.specs.declared.place.Place.TheVariants as place
 use Rattle.hc_model.specs.ActFilters.{wait_in, fails_in, leaver_in, loses_in, misreads_in, has_loss, without_losses, Showing, showing_in}
-use Rattle.hc_model.specs.Answers.{lost}
+use Rattle.hc_model.specs.Answers.{loss_acts}
 use Rattle.hc_model.specs.Cases.{case_at, case_of}
 use Rattle.hc_model.specs.Closings.{must_close, is_doomed, is_left, leaver, leaver_by, is_refused, brings_head, has_no_survivor, awaits}
 use Rattle.hc_model.specs.ConsumerRows.{consumer_after, consumer_settled, consumer_acted, consumer_heard, by_opening, waiting, waiting_place, shown_place, own_after, left_to, due_after, back_in_line, with_opening, unless_bound, opened_place}
 use Rattle.hc_model.specs.Currents.{is_number, is_current}
-use Rattle.hc_model.specs.Dooms.{doomed, doomed_in, bypassed, bypassed_by, bypassed_for, is_key}
+use Rattle.hc_model.specs.Dooms.{doomed, doomed_in, bypass_key, bypassed_by, bypassed_for, is_key}
 use Rattle.hc_model.specs.Entries.{Entry}
 use Rattle.hc_model.specs.Exchanges.{exchange_at, is_headless, family}
 use Rattle.hc_model.specs.Flaws.{Flaw, NoFlaw, Loses, Misreads, flaw_in}
@@ -112,7 +112,7 @@ module _ (limits : Limits) (t : Tables) (e : Entry) (taken : IsTaken limits t e)
   unfolding written
   writes_none = ap (written_in t (lossless e)) at ∙ found_none (seals_at t (lossless e)) t.openings seals_none
 
-  lost_none : (r : ℕ) (f : Flaw) → may_be limits t e f ≡ true → loses_in r (lost f) ≡ false
+  lost_none : (r : ℕ) (f : Flaw) → may_be limits t e f ≡ true → loses_in r (loss_acts f) ≡ false
   lost_none r NoFlaw may = refl
   lost_none r (Misreads q) may = refl
   lost_none r (Loses q kind) may =
@@ -134,7 +134,7 @@ module _ (limits : Limits) (t : Tables) (e : Entry) (taken : IsTaken limits t e)
   ends_none r (Some w) = ap (λ b. w.is_open && b) (rw (ap (stops_early w r) at) (closes_none r)) ∙ and_none w.is_open
 
   -- and nothing goes, but what is bypassed or misread
-  pub goes_none : (r : ℕ) (v : Representation) → bypassed e ≡ None → misreads_in r e.acts ≡ false → becomes_gone t e r v ≡ false
+  pub goes_none : (r : ℕ) (v : Representation) → bypass_key e ≡ None → misreads_in r e.acts ≡ false → becomes_gone t e r v ≡ false
   unfolding becomes_gone
   goes_none r v past reads =
       let none : doomed t e ≡ None = doom_none in
@@ -212,7 +212,7 @@ pub record IsOpenedAt (limits : Limits) (t : Tables) (e : Entry) (taken : IsTake
   pub next : o.x ≡ t.opened + 1
   pub why : OpensFor t o.c k o.x o.need
   pub acts : e.acts ≡ acts_of o.c (moves.Opens o.x o.need o.request) ++ behind limits t e taken
-  pub saw : (seen limits t e taken).acts ≡ acts_of o.c (moves.Opens o.x o.need o.request) ++ lost (flaw_in e.acts)
+  pub saw : (seen limits t e taken).acts ≡ acts_of o.c (moves.Opens o.x o.need o.request) ++ loss_acts (flaw_in e.acts)
 
 pub opened_at : (limits : Limits) (t : Tables) (e : Entry) (taken : IsTaken limits t e) → Sound t → Turns t → (o : Opening) → opening_in e.acts ≡ Some o → IsOpenedAt limits t e taken o
 opened_at limits t e taken s turns o is = by_opening_of (opened_is limits t e.now e.event (flaw_in e.acts) o (sym (ap opening_in (acts_is limits t e taken)) ∙ is))
@@ -232,7 +232,7 @@ opened_at limits t e taken s turns o is = by_opening_of (opened_is limits t e.no
           next = both.0;
           why = both.1;
           acts = all ∙ ap (λ z. acts_of o.c z ++ behind limits t e taken) it;
-          saw = told ∙ ap (λ z. acts_of o.c z ++ lost (flaw_in e.acts)) it;
+          saw = told ∙ ap (λ z. acts_of o.c z ++ loss_acts (flaw_in e.acts)) it;
         }
 
     by_opening_of : IsOpening t e.event o → IsOpenedAt limits t e taken o
@@ -273,7 +273,7 @@ module _ (limits : Limits) (t : Tables) (e : Entry) (taken : IsTaken limits t e)
   past_none (need.Hole from to) key other = refl
   past_none need.Unsatisfied key other = refl
 
-  bypassed_none : is_bypassing k.request ≡ false → bypassed e ≡ None
+  bypassed_none : is_bypassing k.request ≡ false → bypass_key e ≡ None
   bypassed_none plain = ap bypassed_by is ∙ past_none o.need o.request.key (not_bypass opened.why plain)
 
   loses_nothing : (p : Place) → k.place ≡ p → loses_what_it_waits_for t e c p ≡ false

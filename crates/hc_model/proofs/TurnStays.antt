@@ -28,18 +28,18 @@ use Rattle.hc_model.specs.Denials.{denial, as_open}
 use Rattle.hc_model.specs.Dooms.{doomed, is_key}
 use Rattle.hc_model.specs.Entries.{Entry}
 use Rattle.hc_model.specs.ExchangeRows.{exchange_heard, exchange_acted}
-use Rattle.hc_model.specs.Exchanges.{promised, exchange_at, is_for, is_headless, is_open}
+use Rattle.hc_model.specs.Exchanges.{promised_bytes, exchange_at, is_for, is_headless, is_open}
 use Rattle.hc_model.specs.Keys.{IsOfOneKey}
 use Rattle.hc_model.specs.Laws.{Turns, StandsFor, IsAwaited}
 use Rattle.hc_model.specs.Laws as laws
 use Rattle.hc_model.specs.Moves as moves
 use Rattle.hc_model.specs.Moves.{Move, acts_of}
-use Rattle.hc_model.specs.Polls.{polled, shows_head, shows_at, shows_direct, shows_answer, if_headless, waits_for_head, or_else, by_place, has_joined}
+use Rattle.hc_model.specs.Polls.{poll_move, shows_head, shows_at, shows_direct, shows_answer, if_headless, waits_for_head, or_else, by_place, has_joined}
 use Rattle.hc_model.specs.Reading.{own_open, if_open, is_written, is_open_writer}
 use Rattle.hc_model.specs.Rows.{Tables, Exchange, Representation, Consumer}
 use Rattle.hc_model.specs.Sound.{Sound, IsAbout, IsBound}
 use Rattle.hc_model.specs.Sound as sound
-use Rattle.hc_model.specs.StartingOver.{starts_over, sends_back, waits_at, awaited, loses_what_it_waits_for}
+use Rattle.hc_model.specs.StartingOver.{starts_over, sends_back, waits_at, awaited_exchange, loses_what_it_waits_for}
 use Rattle.hc_model.specs.Writers.{loses_writing}
 use Rattle.hc_model.proofs.ActParts.{IsFarFrom}
 use Rattle.hc_model.proofs.Basics.{and_left}
@@ -47,7 +47,7 @@ use Rattle.hc_model.proofs.HoleLemmas.{bool_cases}
 use Rattle.hc_model.proofs.KeyNames.{not_true, and_then, eq_is, opener_key}
 use Rattle.hc_model.proofs.Once.{never}
 use Rattle.hc_model.proofs.Owed.{goes}
-use Rattle.hc_model.proofs.Pens.{same_row}
+use Rattle.hc_model.proofs.ExclusiveWriters.{same_row}
 use Rattle.hc_model.proofs.PieceKeeps.{some_inj}
 use Rattle.hc_model.proofs.TurnFacts.{IsTaken, AtPoll, seen, behind, far_behind, at_poll, far_from, is_closed, same_case, same_doom}
 use Rattle.hc_model.proofs.TurnFacts as facts
@@ -87,7 +87,7 @@ head_by true false asked n p h = (refl, refl)
 
 pub head_opens : (w : Exchange) → head_refusal (as_open (Some w)) ≡ None → is_headless (Some w) ≡ true
 head_opens w h =
-    let both = head_by w.is_open (is_some w.head) w.asked (length w.body) (promised w) h in
+    let both = head_by w.is_open (is_some w.head) w.asked (length w.body) (promised_bytes w) h in
     rw both.0 (no_head w.head both.1)
 
 fault_by : (a b asked : Bool) (n : ℕ) (p : Option ℕ) → fault_refusal (if a then Some (record { headed = b; asked = asked; delivered = n; promised = p }) else None) ≡ None → a ≡ true
@@ -95,7 +95,7 @@ fault_by false b asked n p h = absurd (never _ h)
 fault_by true b asked n p h = refl
 
 pub fault_opens : (w : Exchange) → fault_refusal (as_open (Some w)) ≡ None → is_none w.head ≡ true → is_headless (Some w) ≡ true
-fault_opens w h none = rw (fault_by w.is_open (is_some w.head) w.asked (length w.body) (promised w) h) none
+fault_opens w h none = rw (fault_by w.is_open (is_some w.head) w.asked (length w.body) (promised_bytes w) h) none
 
 -- of a headless exchange
 pub is_open_headless : (w : Exchange) → is_headless (Some w) ≡ true → w.is_open ≡ true
@@ -236,7 +236,7 @@ module _ (limits : Limits) (t : Tables) (e : Entry) (taken : IsTaken limits t e)
   shows_nothing _ (laws.first r lo hi at unshown) = shown_none k.shown _ (ap (shows_at t k) at ∙ rw nothing_joined refl)
   shows_nothing _ (laws.later r lo hi how at shown) = shown_yes k.shown _ shown
 
-  polls_head : (now want : ℕ) → polled t now want c (Some k) ≡ moves.Waits (wait.Head x)
+  polls_head : (now want : ℕ) → poll_move t now want c (Some k) ≡ moves.Waits (wait.Head x)
   polls_head now want =
       let waits : option_and_then (if_headless t) (own_open t k) ≡ Some x = ap (option_and_then (if_headless t)) own_is_open ∙ rw (row, headless) refl in
       ap (λ o. or_else o (or_else (waits_for_head (option_and_then (if_headless t) (own_open t k))) (by_place t now want c k k.place))) (shows_nothing (route_of w.need) it.stands)
@@ -321,7 +321,7 @@ module _ (limits : Limits) (t : Tables) (e : Entry) (taken : IsTaken limits t e)
 
   -- IT DOESN'T START OVER
 
-  pub dooms : is_key (doomed t e) k.request.key ≡ true → is_number (awaited k.place) x ≡ true → ⊥
+  pub dooms : is_key (doomed t e) k.request.key ≡ true → is_number (awaited_exchange k.place) x ≡ true → ⊥
   dooms doom waits =
       let key_of = opener_key t x w k one.exchanges row it.row in
       let for_it : is_key (doomed t (seen limits t e taken)) w.request.key ≡ true = ap (λ o. is_key o w.request.key) (sym (same_doom limits t e taken)) ∙ (ap (is_key (doomed t e)) key_of ∙ doom) in
@@ -342,8 +342,8 @@ module _ (limits : Limits) (t : Tables) (e : Entry) (taken : IsTaken limits t e)
 
   not_doomed : (way : Route) → StandsFor x k way → is_key (doomed t e) k.request.key ≡ true → waits_at t k.place ≡ true → ⊥
   not_doomed _ (laws.direct at) doom waits = let no_one : false ≡ true = sym (ap (waits_at t) at) ∙ waits in cc
-  not_doomed _ (laws.has_turn at unshown) doom waits = dooms doom (ap (λ p. is_number (awaited p) x) at ∙ eq-refl x)
-  not_doomed _ (laws.first r lo hi at unshown) doom waits = dooms doom (ap (λ p. is_number (awaited p) x) at ∙ eq-refl x)
+  not_doomed _ (laws.has_turn at unshown) doom waits = dooms doom (ap (λ p. is_number (awaited_exchange p) x) at ∙ eq-refl x)
+  not_doomed _ (laws.first r lo hi at unshown) doom waits = dooms doom (ap (λ p. is_number (awaited_exchange p) x) at ∙ eq-refl x)
   not_doomed _ (laws.later r lo hi how at shown) doom waits = not_waiting r lo hi how at shown (sym (ap (waits_at t) at) ∙ waits)
 
   sent_row : (y : ℕ) (response : Response) (o : Option Exchange) → e.event ≡ event.Head y response → head_refusal (as_open o) ≡ None → t.exchange y ≡ o → is_for o c ≡ true → ⊥

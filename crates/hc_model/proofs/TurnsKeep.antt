@@ -28,16 +28,16 @@ use Rattle.hc_event.specs.declared.place.BoundBy.TheVariants as by
 use Rattle.hc_event.specs.declared.place.Place.{Place}
 use Rattle.hc_event.specs.declared.place.Place.TheVariants as place
 use Rattle.hc_model.specs.ActFilters.{wait_in, fails_in, leaver_in, misreads_in}
-use Rattle.hc_model.specs.Answers.{lost}
+use Rattle.hc_model.specs.Answers.{loss_acts}
 use Rattle.hc_model.specs.Cases.{case_at}
-use Rattle.hc_model.specs.ConsumerRows.{consumer_after, consumer_made, started, unless_bound, opened_place}
+use Rattle.hc_model.specs.ConsumerRows.{consumer_after, consumer_made, new_consumer, unless_bound, opened_place}
 use Rattle.hc_model.specs.Currents.{current, is_usable}
 use Rattle.hc_model.specs.Denials.{denial, as_open}
 use Rattle.hc_model.specs.Dooms.{bypassed_by, doomed, is_key}
 use Rattle.hc_model.specs.Entries.{Entry}
 use Rattle.hc_model.specs.ExchangeRows.{exchange_after, exchange_heard, exchange_acted, exchange_opened, aim_of, aim_from, promise_in}
 use Rattle.hc_model.specs.ExchangeRows as exchanges
-use Rattle.hc_model.specs.Exchanges.{is_headless, exchange_at, is_for, promised, is_reached}
+use Rattle.hc_model.specs.Exchanges.{is_headless, exchange_at, is_for, promised_bytes, is_reached}
 use Rattle.hc_model.specs.Flaws.{flaw_in}
 use Rattle.hc_model.specs.Gone.{becomes_gone, goes_in}
 use Rattle.hc_model.specs.Keys.{IsOfOneKey, entry_of}
@@ -62,7 +62,7 @@ use Rattle.hc_model.proofs.KeysKeep.{same_exchange, representation_stays, exchan
 use Rattle.hc_model.proofs.KeysKeep as keeps
 use Rattle.hc_model.proofs.NumbersKeep.{numbers_are_kept}
 use Rattle.hc_model.proofs.Owed.{goes}
-use Rattle.hc_model.proofs.Pens.{same_row}
+use Rattle.hc_model.proofs.ExclusiveWriters.{same_row}
 use Rattle.hc_model.proofs.PieceKeeps.{eq_cases, some_inj}
 use Rattle.hc_model.proofs.PollKeeps.{current_stays}
 use Rattle.hc_model.proofs.TurnFacts.{IsTaken, AtPoll, acts_is, seen, behind, far_behind, opens_behind, misreads_behind, at_poll, far_from, fails_leaves}
@@ -196,7 +196,7 @@ module _ (t : Tables) (e : Entry) (x : ℕ) (w : Exchange) where
   if_pieced : (b : Bool) (bytes : List ℕ) → Stays (if b then exchanges.with_piece bytes w else w) → is_headless (Some w) ≡ true
   if_pieced true bytes h =
       let open_yet = and_then (not (closes_in x e.acts)) _ (and_left _ (is_none w.head) h) in
-      rw (and_then (not (is_reached (promised w) (length (w.body ++ bytes)))) w.is_open open_yet) (and_then _ (is_none w.head) h)
+      rw (and_then (not (is_reached (promised_bytes w) (length (w.body ++ bytes)))) w.is_open open_yet) (and_then _ (is_none w.head) h)
   if_pieced false bytes h = still h
 
   headless_before : (ev : Event) → Stays (exchange_heard t e x ev w) → is_headless (Some w) ≡ true
@@ -323,8 +323,8 @@ module _ (limits : Limits) (t : Tables) (e : Entry) (taken : IsTaken limits t e)
   started_line : (c : ℕ) (z : Consumer) (ev : Event) → consumer_made c e.now ev ≡ Some z → WasConsumer c z
   started_line c z (event.Start d request) h = by_test (d == c) h
     where
-      by_test : (b : Bool) → (if b then Some (started e.now request) else None) ≡ Some z → WasConsumer c z
-      by_test true is = begins (ap (λ (q : Consumer). q.place) (sym (some_inj (started e.now request) z is)))
+      by_test : (b : Bool) → (if b then Some (new_consumer e.now request) else None) ≡ Some z → WasConsumer c z
+      by_test true is = begins (ap (λ (q : Consumer). q.place) (sym (some_inj (new_consumer e.now request) z is)))
       by_test false is = absurd (none_some z is)
   started_line c z _ h = absurd (none_some z h)
 
@@ -464,7 +464,7 @@ module _ (limits : Limits) (t : Tables) (e : Entry) (taken : IsTaken limits t e)
       }
 
   -- who is to wait for a busy one
-  busy_move : (c d r want : ℕ) (k : Consumer) (m : Move) → e.event ≡ event.Poll c want → current t k.request.key ≡ Some r → e.acts ≡ acts_of c m ++ behind limits t e taken → (seen limits t e taken).acts ≡ acts_of c m ++ lost (flaw_in e.acts) → Does t c k m → waits_of m ≡ Some (wait.Busy d) → MayPass r k
+  busy_move : (c d r want : ℕ) (k : Consumer) (m : Move) → e.event ≡ event.Poll c want → current t k.request.key ≡ Some r → e.acts ≡ acts_of c m ++ behind limits t e taken → (seen limits t e taken).acts ≡ acts_of c m ++ loss_acts (flaw_in e.acts) → Does t c k m → waits_of m ≡ Some (wait.Busy d) → MayPass r k
   busy_move c d r want k _ at now all saw (does.passes d' r' is_new queues may) is =
       let same : r' ≡ r = some_inj r' r (sym may.current ∙ now) in
       let there : t.representation r ≡ Some may.v = ap t.representation (sym same) ∙ may.row in

@@ -8,13 +8,13 @@ use Rattle.hc_event.specs.declared.event.Event.TheVariants as event
 use Rattle.hc_event.specs.declared.act.Act.{Act}
 use Rattle.hc_event.specs.declared.act.Act.TheVariants as act
 use Rattle.hc_rules.specs.declared.room.Limits.{Limits}
-use Rattle.hc_model.specs.Answers.{accepted, poll_acts, lost}
+use Rattle.hc_model.specs.Answers.{accepted_acts, poll_acts, loss_acts}
 use Rattle.hc_model.specs.Closings.{closing, closes_row, must_close}
 use Rattle.hc_model.specs.ExchangeRows.{exchange_heard}
 use Rattle.hc_model.specs.Flaws.{Flaw, NoFlaw, Loses, Misreads}
 use Rattle.hc_model.specs.Moves as moves
 use Rattle.hc_model.specs.Moves.{Move, Nothing, Asks, Opens, Shows, Gives, Ends, Fails, acts_of}
-use Rattle.hc_model.specs.Polls.{polled}
+use Rattle.hc_model.specs.Polls.{poll_move}
 use Rattle.hc_model.specs.Rows.{Tables, Exchange}
 use Rattle.hc_model.specs.Sound.{Sound, Among}
 use Rattle.hc_model.specs.Weights.{evicted}
@@ -36,7 +36,7 @@ among_test x test (z ∷ xs) there = elim (bool_cases (test z)) [
 
 -- ACTS
 
-lost_closes : (x : ℕ) (flaw : Flaw) → closes_in x (lost flaw) ≡ true → ⊥
+lost_closes : (x : ℕ) (flaw : Flaw) → closes_in x (loss_acts flaw) ≡ true → ⊥
 lost_closes x NoFlaw h = false_true h
 lost_closes x (Loses r kind) h = false_true h
 lost_closes x (Misreads r) h = false_true h
@@ -59,7 +59,7 @@ in_evicted : (x : ℕ) (rs : List ℕ) (rest : List Act) → closes_in x (map ac
 in_evicted x [] rest h = h
 in_evicted x (r ∷ rs) rest h = in_evicted x rs rest h
 
-in_lost : (x : ℕ) (flaw : Flaw) (rest : List Act) → closes_in x (lost flaw ++ rest) ≡ true → closes_in x rest ≡ true
+in_lost : (x : ℕ) (flaw : Flaw) (rest : List Act) → closes_in x (loss_acts flaw ++ rest) ≡ true → closes_in x rest ≡ true
 in_lost x NoFlaw rest h = h
 in_lost x (Loses r kind) rest h = h
 in_lost x (Misreads r) rest h = h
@@ -75,26 +75,26 @@ in_move x c Ends rest h = h
 in_move x c (Fails cause) rest h = h
 
 in_poll : (t : Tables) (now want c x : ℕ) (flaw : Flaw) (rest : List Act) → closes_in x (poll_acts t now want c flaw ++ rest) ≡ true → closes_in x rest ≡ true
-in_poll t now want c x NoFlaw rest h = in_move x c (polled t now want c (t.consumer c)) rest h
-in_poll t now want c x (Loses r kind) rest h = in_move x c (polled t now want c (t.consumer c)) rest h
+in_poll t now want c x NoFlaw rest h = in_move x c (poll_move t now want c (t.consumer c)) rest h
+in_poll t now want c x (Loses r kind) rest h = in_move x c (poll_move t now want c (t.consumer c)) rest h
 in_poll t now want c x (Misreads r) rest h = h
 
 module _ (limits : Limits) (t : Tables) (now : ℕ) (flaw : Flaw) (s : Sound t) where
-  told : (ev : Event) (x : ℕ) → closes_in x (map act.Evicted (evicted limits t now ev) ++ (lost flaw ++ map act.Close (closing t (record { now = now; event = ev; acts = lost flaw })))) ≡ true → Among x (closing t (record { now = now; event = ev; acts = lost flaw }))
-  told ev x h = in_all x (closing t (record { now = now; event = ev; acts = lost flaw })) (in_lost x flaw _ (in_evicted x (evicted limits t now ev) _ h))
+  told : (ev : Event) (x : ℕ) → closes_in x (map act.Evicted (evicted limits t now ev) ++ (loss_acts flaw ++ map act.Close (closing t (record { now = now; event = ev; acts = loss_acts flaw })))) ≡ true → Among x (closing t (record { now = now; event = ev; acts = loss_acts flaw }))
+  told ev x h = in_all x (closing t (record { now = now; event = ev; acts = loss_acts flaw })) (in_lost x flaw _ (in_evicted x (evicted limits t now ev) _ h))
 
-  closed_by : (ev : Event) (x : ℕ) → closes_in x (accepted limits t now ev flaw) ≡ true → Among x (closing t (before limits t now flaw s ev))
+  closed_by : (ev : Event) (x : ℕ) → closes_in x (accepted_acts limits t now ev flaw) ≡ true → Among x (closing t (before limits t now flaw s ev))
   closed_by (event.Start c request) x h = told (event.Start c request) x h
-  closed_by (event.Poll c want) x h = in_closes x (closing t (before limits t now flaw s (event.Poll c want))) (lost flaw) (in_poll t now want c x flaw _ h) (lost_closes x flaw)
+  closed_by (event.Poll c want) x h = in_closes x (closing t (before limits t now flaw s (event.Poll c want))) (loss_acts flaw) (in_poll t now want c x flaw _ h) (lost_closes x flaw)
   closed_by (event.Head y response) x h = told (event.Head y response) x h
   closed_by (event.Piece y bytes) x h = told (event.Piece y bytes) x h
   closed_by (event.End y) x h = told (event.End y) x h
   closed_by (event.Fault y) x h = told (event.Fault y) x h
-  closed_by (event.Cancel c) x h = in_closes x (closing t (before limits t now flaw s (event.Cancel c))) (lost flaw) h (lost_closes x flaw)
+  closed_by (event.Cancel c) x h = in_closes x (closing t (before limits t now flaw s (event.Cancel c))) (loss_acts flaw) h (lost_closes x flaw)
   closed_by (event.Doom key) x h = told (event.Doom key) x h
 
   -- what is closed had to be
-  pub had_to : (ev : Event) (x : ℕ) (w : Exchange) → t.exchange x ≡ Some w → closes_in x (accepted limits t now ev flaw) ≡ true → must_close t (before limits t now flaw s ev) x w ≡ true
+  pub had_to : (ev : Event) (x : ℕ) (w : Exchange) → t.exchange x ≡ Some w → closes_in x (accepted_acts limits t now ev flaw) ≡ true → must_close t (before limits t now flaw s ev) x w ≡ true
   unfolding closing
   had_to ev x w row h =
       let test = among_test x (λ y. closes_row t (before limits t now flaw s ev) y (t.exchange y)) (reverse t.openings) (closed_by ev x h) in
@@ -105,7 +105,7 @@ module _ (limits : Limits) (t : Tables) (now : ℕ) (flaw : Flaw) (s : Sound t) 
   none_test ev x (Some w) h none = let never : Some w ≡ None = none in cc
 
   -- and there
-  pub had_row : (ev : Event) (x : ℕ) → closes_in x (accepted limits t now ev flaw) ≡ true → t.exchange x ≡ None → ⊥
+  pub had_row : (ev : Event) (x : ℕ) → closes_in x (accepted_acts limits t now ev flaw) ≡ true → t.exchange x ≡ None → ⊥
   unfolding closing
   had_row ev x h none = none_test ev x (t.exchange x) (among_test x (λ y. closes_row t (before limits t now flaw s ev) y (t.exchange y)) (reverse t.openings) (closed_by ev x h)) none
 
@@ -114,6 +114,6 @@ module _ (limits : Limits) (t : Tables) (now : ℕ) (flaw : Flaw) (s : Sound t) 
   row_test ev x w (Some z) is h = let same : z ≡ w = (let is_it : Some z ≡ Some w = is in cc) in ap (λ (q : Exchange). (exchange_heard t (before limits t now flaw s ev) x ev q).is_open) (sym same) ∙ and_right _ _ h
 
   -- and the event left it open
-  pub had_open : (ev : Event) (x : ℕ) (w : Exchange) → t.exchange x ≡ Some w → closes_in x (accepted limits t now ev flaw) ≡ true → (exchange_heard t (before limits t now flaw s ev) x ev w).is_open ≡ true
+  pub had_open : (ev : Event) (x : ℕ) (w : Exchange) → t.exchange x ≡ Some w → closes_in x (accepted_acts limits t now ev flaw) ≡ true → (exchange_heard t (before limits t now flaw s ev) x ev w).is_open ≡ true
   unfolding closing
   had_open ev x w row h = row_test ev x w (t.exchange x) row (among_test x (λ y. closes_row t (before limits t now flaw s ev) y (t.exchange y)) (reverse t.openings) (closed_by ev x h))

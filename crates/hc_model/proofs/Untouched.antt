@@ -15,14 +15,14 @@ use Rattle.hc_model.specs.ActFilters.{loses_in, fails_in, Showing, showing_in}
 use Rattle.hc_model.specs.Cases.{case_at, case_of, is_founding}
 use Rattle.hc_model.specs.ConsumerRows.{consumer_after, consumer_settled, consumer_acted, consumer_heard, consumer_made, by_head, by_fault, by_opening, waiting, waiting_place, shown_place, own_after, left_to, due_after, back_in_line}
 use Rattle.hc_model.specs.Dooms.{doomed, is_key}
-use Rattle.hc_model.specs.Effects.{gone}
+use Rattle.hc_model.specs.Effects.{as_gone}
 use Rattle.hc_model.specs.Entries.{Entry}
 use Rattle.hc_model.specs.ExchangeRows.{exchange_after, exchange_heard, exchange_acted, exchange_made}
 use Rattle.hc_model.specs.Exchanges.{family, exchange_in, exchange_at, is_for}
 use Rattle.hc_model.specs.Failures.{becomes_due, cause_of_stop, cause_of_loss, cause_by_loss, cause_of_head}
 use Rattle.hc_model.specs.Gone.{becomes_gone, goes_in}
 use Rattle.hc_model.specs.Reading.{reads, is_written}
-use Rattle.hc_model.specs.RepresentationRows.{representation_after, representation_heard, representation_acted, founded_at, updates, headed, pieced}
+use Rattle.hc_model.specs.RepresentationRows.{representation_after, representation_heard, representation_acted, founded_at, updates, representation_after_head, representation_after_piece}
 use Rattle.hc_model.specs.Rows.{Tables, Exchange, Representation, Consumer}
 use Rattle.hc_model.specs.StartingOver.{starts_over, sends_back, waits_at, loses_what_it_waits_for}
 use Rattle.hc_model.specs.Tables.{founds, binds, starts_after, opened_after, openings_after}
@@ -81,11 +81,11 @@ pub record IsOutside (t : Tables) (e : Entry) (r : ℕ) (v : Representation) (x 
   pub updates : updates t e r w v ≡ false
 
 module _ (t : Tables) (e : Entry) (r : ℕ) (v : Representation) (x : ℕ) (w : Exchange) (row : t.exchange x ≡ Some w) (out : IsOutside t e r v x w) where
-  head_outside : (y : ℕ) (response : Response) (o : Option Exchange) → o ≡ Some w → headed t e r y response o v ≡ v
+  head_outside : (y : ℕ) (response : Response) (o : Option Exchange) → o ≡ Some w → representation_after_head t e r y response o v ≡ v
   head_outside y response None is = refl
   head_outside y response (Some u) is = let off : updates t e r u v ≡ false = ap (λ (z : Exchange). updates t e r z v) (some_inj u w is) ∙ out.updates in rw off refl
 
-  piece_outside : (y : ℕ) (bytes : List ℕ) (o : Option Exchange) → Some y ≡ Some x → o ≡ Some w → pieced e r y bytes o v ≡ v
+  piece_outside : (y : ℕ) (bytes : List ℕ) (o : Option Exchange) → Some y ≡ Some x → o ≡ Some w → representation_after_piece e r y bytes o v ≡ v
   piece_outside y bytes None same is = refl
   piece_outside y bytes (Some u) same is = let off : nat_eq (family y u) r ≡ false = ap₂ (λ (z : ℕ) (q : Exchange). nat_eq (family z q) r) (some_inj y x same) (some_inj u w is) ∙ out.family_is in rw off refl
 
@@ -97,11 +97,11 @@ module _ (t : Tables) (e : Entry) (r : ℕ) (v : Representation) (x : ℕ) (w : 
 
 -- it stays, or becomes gone
 pub representation_frame : (t : Tables) (e : Entry) (r : ℕ) (v : Representation) → representation_heard t e r e.event v ≡ v → loses_in r e.acts ≡ false
-    → representation_after t e r (Some v) ≡ Some (if becomes_gone t e r v then gone v else v)
+    → representation_after t e r (Some v) ≡ Some (if becomes_gone t e r v then as_gone v else v)
 unfolding representation_after
 representation_frame t e r v heard lossless = ap (λ (u : Representation). Some (representation_acted t e r v u)) heard ∙ ap Some (rw lossless (by_test (becomes_gone t e r v)))
   where
-    by_test : (b : Bool) → record v { is_gone = b || v.is_gone } ≡ (if b then gone v else v)
+    by_test : (b : Bool) → record v { is_gone = b || v.is_gone } ≡ (if b then as_gone v else v)
     by_test true = refl
     by_test false = refl
 

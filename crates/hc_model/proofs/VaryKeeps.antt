@@ -12,17 +12,17 @@ use Rattle.http_header.specs.Token.{lowercase}
 use Rattle.hc_fields.specs.Agreement.{agree_on}
 use Rattle.hc_text.specs.Elements.{elements}
 use Rattle.hc_validate.specs.Heads.{FieldPairs}
-use Rattle.hc_validate.specs.Updates.{updated}
+use Rattle.hc_validate.specs.Updates.{updated_fields}
 use Rattle.hc_model.specs.Entries.{Entry}
 use Rattle.hc_model.specs.Exchanges.{family}
-use Rattle.hc_model.specs.RepresentationRows.{representation_heard, representation_acted, headed, renewed, updates, pieced, ended, length_in}
+use Rattle.hc_model.specs.RepresentationRows.{representation_heard, representation_acted, representation_after_head, with_renewed_head, updates, representation_after_piece, with_total_if_none, length_in}
 use Rattle.hc_model.specs.Rows.{Tables, Exchange, Representation}
 use Rattle.hc_model.proofs.FieldsKeep.{values_kept}
 
 abbrev vary : List ℕ
 vary = codes "vary"
 
-updated_vary : (fields new : FieldPairs) → values_of vary (updated fields new) ≡ values_of vary fields
+updated_vary : (fields new : FieldPairs) → values_of vary (updated_fields fields new) ≡ values_of vary fields
 updated_vary fields new = values_kept vary refl fields new
 
 -- REPRESENTATIONS
@@ -42,15 +42,15 @@ answers_if false v u h = itself v
 heard_answers : (t : Tables) (e : Entry) (r : ℕ) (ev : Event) (v : Representation) → AnswersAs v (representation_heard t e r ev v)
 heard_answers t e r (event.Head x response) v = by_row (t.exchange x)
   where
-    by_row : (o : Option Exchange) → AnswersAs v (headed t e r x response o v)
+    by_row : (o : Option Exchange) → AnswersAs v (representation_after_head t e r x response o v)
     by_row None = itself v
-    by_row (Some w) = answers_if (updates t e r w v) v (renewed t e x response w v) (record { names = ap (λ values. flat_map elements values) (updated_vary v.head.fields response.fields); of = refl })
+    by_row (Some w) = answers_if (updates t e r w v) v (with_renewed_head t e x response w v) (record { names = ap (λ values. flat_map elements values) (updated_vary v.head.fields response.fields); of = refl })
 heard_answers t e r (event.Piece x bytes) v = by_row (t.exchange x)
   where
-    by_row : (o : Option Exchange) → AnswersAs v (pieced e r x bytes o v)
+    by_row : (o : Option Exchange) → AnswersAs v (representation_after_piece e r x bytes o v)
     by_row None = itself v
     by_row (Some w) = answers_if (family x w == r) v _ (record { names = refl; of = refl })
-heard_answers t e r (event.End x) v = answers_if (x == r) v (ended (length_in (t.exchange x)) v) (record { names = refl; of = refl })
+heard_answers t e r (event.End x) v = answers_if (x == r) v (with_total_if_none (length_in (t.exchange x)) v) (record { names = refl; of = refl })
 heard_answers t e r _ v = itself v
 
 agrees_by : (request : Request) (v u : Representation) → AnswersAs v u → matches_vary u.head request ≡ matches_vary v.head request

@@ -22,7 +22,7 @@ use Rattle.hc_event.specs.declared.place.BoundBy.TheVariants as by_how
 use Rattle.hc_model.specs.Currents.{current}
 use Rattle.hc_model.specs.Moves as moves
 use Rattle.hc_model.specs.Moves.{Move, Nothing, Fails, Opens, gives, waits_for, opens_hole, shows_stored}
-use Rattle.hc_model.specs.Planning.{plan_view, plan_move, fetched, binds_current, current_row}
+use Rattle.hc_model.specs.Planning.{plan_view, plan_move, origin_request, binds_current, current_row}
 use Rattle.hc_model.specs.Polls.{shows_at, shows_bound, shows_direct, shows_answer, has_joined, move_of}
 use Rattle.hc_model.specs.Reading.{bound_to}
 use Rattle.hc_model.specs.Rows.{Tables, Exchange, Representation, Consumer}
@@ -118,7 +118,7 @@ module _ (t : Tables) (now c : ℕ) (k : Consumer) where
     by_plan _ (plans.busy d kept plain) is b at = sym (bypassing_is k.request) ∙ plain
     by_plan _ plans.misses is b at = absurd (let never : Fails cause.Miss ≡ wait_it = is in cc)
     by_plan _ (plans.passes_by m way) is b at = absurd (let never : moves.opens t m k.request ≡ wait_it = is in cc)
-    by_plan _ (plans.fetches m way plain bypass cached) is b at = absurd (let never : moves.opens t m (fetched t k m) ≡ wait_it = is in cc)
+    by_plan _ (plans.fetches m way plain bypass cached) is b at = absurd (let never : moves.opens t m (origin_request t k m) ≡ wait_it = is in cc)
     by_plan _ (plans.joins why cached j) is b at = absurd (binds_waits why None (current t k.request.key) is)
     by_plan _ (plans.reads why span cached j) is b at = absurd (binds_waits why (Some span) (current t k.request.key) is)
     by_plan _ (plans.fills span hole cached j nobody) is b at = absurd (hole_waits k.request (current_row t k) hole is)
@@ -128,7 +128,7 @@ module _ (t : Tables) (now c : ℕ) (k : Consumer) where
     busy_at _ (plans.busy d kept plain) is b at = let same : wait.Busy d ≡ wait.Busy b = wait_inj (wait.Busy d) is ∙ at in let number : d ≡ b = cc in (kept, ap (λ n. plan.Busy n kept) number)
     busy_at _ plans.misses is b at = absurd (let never : Fails cause.Miss ≡ wait_it = is in cc)
     busy_at _ (plans.passes_by m way) is b at = absurd (let never : moves.opens t m k.request ≡ wait_it = is in cc)
-    busy_at _ (plans.fetches m way plain bypass cached) is b at = absurd (let never : moves.opens t m (fetched t k m) ≡ wait_it = is in cc)
+    busy_at _ (plans.fetches m way plain bypass cached) is b at = absurd (let never : moves.opens t m (origin_request t k m) ≡ wait_it = is in cc)
     busy_at _ (plans.joins why cached j) is b at = absurd (binds_waits why None (current t k.request.key) is)
     busy_at _ (plans.reads why span cached j) is b at = absurd (binds_waits why (Some span) (current t k.request.key) is)
     busy_at _ (plans.fills span hole cached j nobody) is b at = absurd (hole_waits k.request (current_row t k) hole is)
@@ -141,7 +141,7 @@ module _ (t : Tables) (now c : ℕ) (k : Consumer) where
     turn_at (plan.Busy d kept) is b at = absurd (let same : wait.Busy d ≡ wait.Turn b = wait_inj (wait.Busy d) is ∙ at in cc)
     turn_at plan.Miss is b at = absurd (let never : Fails cause.Miss ≡ wait_it = is in cc)
     turn_at (plan.Direct m) is b at = absurd (let never : moves.opens t m k.request ≡ wait_it = is in cc)
-    turn_at (plan.Fetch m) is b at = absurd (let never : moves.opens t m (fetched t k m) ≡ wait_it = is in cc)
+    turn_at (plan.Fetch m) is b at = absurd (let never : moves.opens t m (origin_request t k m) ≡ wait_it = is in cc)
     turn_at (plan.Bind why span) is b at = absurd (binds_waits why span (current t k.request.key) is)
     turn_at (plan.FirstHole span hole) is b at = absurd (hole_waits k.request (current_row t k) hole is)
 

@@ -24,11 +24,11 @@ use Rattle.hc_model.specs.Flaws.{Flaw}
 use Rattle.hc_model.specs.Keys.{entry_of}
 use Rattle.hc_model.specs.Owners.{Owners, IsAwaiting, Awaits}
 use Rattle.hc_model.specs.Owners as owners
-use Rattle.hc_model.specs.Reading.{own_open, if_open, is_written, shared, writing_in}
+use Rattle.hc_model.specs.Reading.{own_open, if_open, is_written, shared_exchange, writing_in}
 use Rattle.hc_model.specs.Rows.{Tables, Exchange, Representation, Consumer}
-use Rattle.hc_model.specs.Sound.{Sound, IsAbout, HasPen}
+use Rattle.hc_model.specs.Sound.{Sound, IsAbout, IsExclusiveWriter}
 use Rattle.hc_model.specs.Sound as sound
-use Rattle.hc_model.specs.StartingOver.{starts_over, waits_at, awaited}
+use Rattle.hc_model.specs.StartingOver.{starts_over, waits_at, awaited_exchange}
 use Rattle.hc_model.specs.Writers.{loses_writing, survivor}
 use Rattle.hc_model.proofs.Basics.{false_true, and_left, and_right, and_both, not_so, or_cases, or_left, none_some, number_is}
 use Rattle.hc_model.proofs.BoundFrom.{place_inj}
@@ -39,7 +39,7 @@ use Rattle.hc_model.proofs.MoveBy.{IsHeard}
 use Rattle.hc_model.proofs.OpensFrom.{hole_is}
 use Rattle.hc_model.proofs.OwnersKeep.{is_opened}
 use Rattle.hc_model.proofs.PieceKeeps.{eq_cases, some_inj}
-use Rattle.hc_model.proofs.Pens.{same_row, row_of, writer_some}
+use Rattle.hc_model.proofs.ExclusiveWriters.{same_row, row_of, writer_some}
 use Rattle.hc_model.proofs.SaidActs.{loss_is, leaver_leaves}
 use Rattle.hc_model.proofs.Stops.{writer_about}
 use Rattle.hc_model.proofs.Unclosed.{had_to}
@@ -129,7 +129,7 @@ module _ (limits : Limits) (t : Tables) (now : ℕ) (flaw : Flaw) (s : Sound t) 
       | inl on ↦ o.apart r y c v k there on (rw on at h) row own
     ]
 
-    not_shared : (p : Place) → shared t p ≡ Some y → ⊥
+    not_shared : (p : Place) → shared_exchange t p ≡ Some y → ⊥
     not_shared place.Line h = none_some y h
     not_shared (place.Passed r kept) h = none_some y h
     not_shared (place.Turn x) h = none_some y h
@@ -142,7 +142,7 @@ module _ (limits : Limits) (t : Tables) (now : ℕ) (flaw : Flaw) (s : Sound t) 
     left_row d None its h = absurd (false_true h)
     left_row d (Some q) its h = elim (or_cases (is_number (own_open t q) y) _ h) [
       | inl mine ↦ left_number d q its (number_is (own_open t q) y mine)
-      | inr group ↦ absurd (not_shared q.place (number_is (shared t q.place) y (and_left _ (is_last_reader t d q.place) group)))
+      | inr group ↦ absurd (not_shared q.place (number_is (shared_exchange t q.place) y (and_left _ (is_last_reader t d q.place) group)))
     ]
 
     left_is : (z : Option ℕ) → is_left t y z ≡ true → z ≡ Some c
@@ -285,7 +285,7 @@ module _ (limits : Limits) (t : Tables) (now : ℕ) (flaw : Flaw) (s : Sound t) 
 
     -- NOT CLOSED
 
-    waits_place : (p : Place) → awaited p ≡ Some y → waits_at t p ≡ true
+    waits_place : (p : Place) → awaited_exchange p ≡ Some y → waits_at t p ≡ true
     waits_place place.Line waits = refl
     waits_place (place.Passed r kept) waits = refl
     waits_place (place.Turn x) waits = refl
@@ -301,8 +301,8 @@ module _ (limits : Limits) (t : Tables) (now : ℕ) (flaw : Flaw) (s : Sound t) 
     doomed_over h =
         let keyed : is_key (doomed t b) w.request.key ≡ true = and_left _ _ (and_left _ (awaits (t.consumer w.c) y) h) in
         let key : is_key (doomed t e) k.request.key ≡ true = ap (λ z. is_key z k.request.key) doomed_same ∙ (sym (ap (is_key (doomed t b)) is.key_is) ∙ keyed) in
-        let waits : is_number (awaited k.place) y ≡ true = sym (ap (λ z. awaits z y) (ap t.consumer is.for_it ∙ is.row)) ∙ and_right _ (awaits (t.consumer w.c) y) h in
-        or_left _ _ (or_left _ _ (and_both _ _ key (waits_place k.place (number_is (awaited k.place) y waits))))
+        let waits : is_number (awaited_exchange k.place) y ≡ true = sym (ap (λ z. awaits z y) (ap t.consumer is.for_it ∙ is.row)) ∙ and_right _ (awaits (t.consumer w.c) y) h in
+        or_left _ _ (or_left _ _ (and_both _ _ key (waits_place k.place (number_is (awaited_exchange k.place) y waits))))
 
     lost_by : (r : ℕ) (z : Option Representation) → z ≡ None → has_no_survivor t b y r z ≡ true → ⊥
     lost_by r None none h = false_true h
@@ -344,12 +344,12 @@ module _ (limits : Limits) (t : Tables) (now : ℕ) (flaw : Flaw) (s : Sound t) 
     unclosed other = unclosed_unless (λ refused. refused_by ev (and_right _ _ refused) other)
 
   -- who waits for a hole of r has nothing due, and is the exclusive writer
-  pub waits_undue : (r c x lo : ℕ) (hi : Option ℕ) (how : BoundBy) (v : Representation) (k : Consumer) (w : Exchange) → IsWaiter t c x k w → k.place ≡ place.Bound r lo hi how → t.representation r ≡ Some v → (k.due ≡ None) × HasPen t r v c
+  pub waits_undue : (r c x lo : ℕ) (hi : Option ℕ) (how : BoundBy) (v : Representation) (k : Consumer) (w : Exchange) → IsWaiter t c x k w → k.place ≡ place.Bound r lo hi how → t.representation r ≡ Some v → (k.due ≡ None) × IsExclusiveWriter t r v c
   waits_undue r c x lo hi how v k w is at there = by_had (s.writes.had r x v there (asks_about c x k w is r lo hi how at is.at))
     where
-      by_had : sound.IsHad t r v x → (k.due ≡ None) × HasPen t r v c
+      by_had : sound.IsHad t r v x → (k.due ≡ None) × IsExclusiveWriter t r v c
       by_had (sound.shared on writer) = absurd (unwritten c x k w is r lo hi how v v.writer at there on refl)
-      by_had (sound.own g z reader theirs none pen) =
+      by_had (sound.own g z reader theirs none exclusive_writer) =
           let mine : g ≡ c = left_number c x k is.row is.own g z (row_of t r g z reader) theirs in
           let one : z ≡ k = same_row (t.consumer c) z k (sym (ap t.consumer mine) ∙ row_of t r g z reader) is.row in
-          (sym (ap (λ (q : Consumer). q.due) one) ∙ none, subst (HasPen t r v) mine pen)
+          (sym (ap (λ (q : Consumer). q.due) one) ∙ none, subst (IsExclusiveWriter t r v) mine exclusive_writer)

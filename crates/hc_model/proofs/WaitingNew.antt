@@ -23,7 +23,7 @@ use Rattle.hc_model.specs.Cases.{case_at}
 use Rattle.hc_model.specs.ConsumerRows.{opened_place, unless_bound, by_opening, shown_place, own_after, left_to, waiting, consumer_acted, due_after, back_in_line}
 use Rattle.hc_model.specs.Currents.{current, is_current}
 use Rattle.hc_model.specs.Denials.{denial}
-use Rattle.hc_model.specs.Dooms.{doomed, bypassed, bypassed_by, bypassed_for, is_key}
+use Rattle.hc_model.specs.Dooms.{doomed, bypass_key, bypassed_by, bypassed_for, is_key}
 use Rattle.hc_model.specs.Entries.{Entry}
 use Rattle.hc_model.specs.ExchangeRows.{exchange_opened, aim_from, aim_of}
 use Rattle.hc_model.specs.Exchanges.{exchange_at, is_for}
@@ -33,7 +33,7 @@ use Rattle.hc_model.specs.Keys.{entry_of}
 use Rattle.hc_model.specs.Moves.{Opens}
 use Rattle.hc_model.specs.Owners.{Owners, IsAwaiting, Awaits}
 use Rattle.hc_model.specs.Owners as owners
-use Rattle.hc_model.specs.Polls.{polled}
+use Rattle.hc_model.specs.Polls.{poll_move}
 use Rattle.hc_model.specs.Reading.{bound_to}
 use Rattle.hc_model.specs.Rows.{Tables, Exchange, Representation, Consumer}
 use Rattle.hc_model.specs.Runs.{may_stand}
@@ -77,19 +77,19 @@ module _ (limits : Limits) (t : Tables) (now : ℕ) (flaw : Flaw) (s : Sound t) 
   abbrev now_on : Tables
   now_on = after_accepted t e
 
-  module _ (p : Opening) (k : Consumer) (here : p.c ≡ c) (opens : opening_in e.acts ≡ Some p) (row : t.consumer c ≡ Some k) (way : OpenedAs t now c k p.need p.request) (move_is : polled t now want c (t.consumer c) ≡ Opens p.x p.need p.request) (stand : may_stand limits t e ≡ true) where
+  module _ (p : Opening) (k : Consumer) (here : p.c ≡ c) (opens : opening_in e.acts ≡ Some p) (row : t.consumer c ≡ Some k) (way : OpenedAs t now c k p.need p.request) (move_is : poll_move t now want c (t.consumer c) ≡ Opens p.x p.need p.request) (stand : may_stand limits t e ≡ true) where
     -- WHAT IT WAITED FOR STAYS
 
     founding_not : (r : ℕ) (z : Option Exchange) → ends_founding e r z ≡ true → ⊥
     founding_not r None h = false_true h
     founding_not r (Some w) h = false_true (sym (closes_none limits t now flaw s c want p here opens move_is r) ∙ and_right w.is_open (closes_in r e.acts) h)
 
-    doom_not : (r : ℕ) (v : Representation) (kept : Option ℕ) → k.place ≡ place.Passed r kept → (is_key (doomed t e) v.key || is_key (bypassed e) v.key) ≡ true → ⊥
+    doom_not : (r : ℕ) (v : Representation) (kept : Option ℕ) → k.place ≡ place.Passed r kept → (is_key (doomed t e) v.key || is_key (bypass_key e) v.key) ≡ true → ⊥
     doom_not r v kept at h = elim (or_cases (is_key (doomed t e) v.key) _ h) [
       | inl doom ↦ false_true (sym (ap (λ z. is_key z v.key) (doomed_not limits t now flaw s c want p here opens move_is)) ∙ doom)
       | inr bypass ↦
           let plain : is_bypassing k.request ≡ false = o.passed c r kept k row at in
-          let none : bypassed e ≡ None = ap bypassed_by opens ∙ bypassed_not p.need p.request.key (λ is. false_true (sym plain ∙ way.bypasses is)) in
+          let none : bypass_key e ≡ None = ap bypassed_by opens ∙ bypassed_not p.need p.request.key (λ is. false_true (sym plain ∙ way.bypasses is)) in
           false_true (sym (ap (λ z. is_key z v.key) none) ∙ bypass)
     ]
 

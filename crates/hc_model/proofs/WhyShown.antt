@@ -185,7 +185,7 @@ module _ (t : Tables) (now c : ℕ) (k : Consumer) (r lo : ℕ) (hi : Option ℕ
   by_plan : (p : Plan) → IsWhy (plan_view t now c k) p → plan_move t k p ≡ show → ShownWhy
   by_plan (plan.Direct n) reason is = absurd (let no : moves.opens t n k.request ≡ show = is in cc)
   by_plan (plan.Turn d) reason is = absurd (let no : moves.Waits (wait.Turn d) ≡ show = is in cc)
-  by_plan (plan.Fetch n) reason is = absurd (let no : moves.opens t n (Rattle.hc_model.specs.Planning.fetched t k n) ≡ show = is in cc)
+  by_plan (plan.Fetch n) reason is = absurd (let no : moves.opens t n (Rattle.hc_model.specs.Planning.origin_request t k n) ≡ show = is in cc)
   by_plan (plan.Bind y span) reason is = bind_by y span (current t k.request.key) refl reason is
   by_plan (plan.FirstHole span hole) reason is = absurd (hole_shows k.request _ hole is)
   by_plan (plan.Busy d kept) reason is = absurd (let no : moves.Waits (wait.Busy d) ≡ show = is in cc)

@@ -8,7 +8,7 @@ use Rattle.hc_record.specs.declared.kind.Kind.{Kind}
 use Rattle.hc_record.specs.declared.kind.Kind.TheVariants as kind
 use Rattle.hc_rules.specs.declared.room.Limits.{Limits}
 use Rattle.hc_rules.specs.Rooms.{weight_of}
-use Rattle.hc_validate.specs.Updates.{is_modest}
+use Rattle.hc_validate.specs.Updates.{is_within_limits}
 use Rattle.hc_model.specs.Entries.{Content, Contents}
 use Rattle.hc_model.specs.Tables.{last_end, bytes_in}
 
@@ -78,7 +78,7 @@ has_right_head contents item =
     && nat_le item.head.requested item.head.answered && nat_le item.head.answered contents.now
     && not (has_field (codes "content-length") item.head.fields)
     && not (has_field (codes "content-range") item.head.fields)
-    && is_modest item.head.fields
+    && is_within_limits item.head.fields
 
 -- ALL OF IT
 

@@ -6,7 +6,7 @@ use Rattle.hc_model.specs.Rows.{Tables}
 use Rattle.hc_model.specs.Denials.{is_live}
 use Rattle.hc_model.specs.Exchanges.{is_wanted}
 use Rattle.hc_model.specs.Moves.{Move, Nothing, Waits}
-use Rattle.hc_model.specs.Polls.{polled}
+use Rattle.hc_model.specs.Polls.{poll_move}
 
 -- a wait for an exchange ends there, if that is open and has no head or was asked; from a wait for a
 -- consumer the chain goes on
@@ -25,7 +25,7 @@ MoveEnds GoesOn t _ = Unit {0}
 -- a live consumer, of which each poll at this moment ends it
 pub record PollsEnd (ends : Move → Type 0) (t : Tables) (now d : ℕ) : Type 0 where
   pub live : is_live (t.consumer d) ≡ true
-  pub polls : (want : ℕ) → 0 < want → ends (polled t now want d (t.consumer d))
+  pub polls : (want : ℕ) → 0 < want → ends (poll_move t now want d (t.consumer d))
 
 -- the chain ends behind so many more consumers at most
 abbrev pub ChainEnds : ℕ → Tables → ℕ → Move → Type 0
@@ -37,4 +37,4 @@ ChainEnds (suc n) t now move = MoveEnds (λ d. PollsEnd (ChainEnds n t now) t no
 abbrev pub ChainsEnd : Tables → Type 0
 ChainsEnd t =
     (now c want : ℕ) → is_live (t.consumer c) ≡ true → 0 < want →
-    ChainEnds 2 t now (polled t now want c (t.consumer c))
+    ChainEnds 2 t now (poll_move t now want c (t.consumer c))

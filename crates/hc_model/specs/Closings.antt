@@ -14,10 +14,10 @@ use Rattle.hc_model.specs.Rows.{Tables, Exchange, Representation, Consumer}
 use Rattle.hc_model.specs.Exchanges.{family, is_headless}
 use Rattle.hc_model.specs.Currents.{is_number}
 use Rattle.hc_model.specs.Cases.{case_at}
-use Rattle.hc_model.specs.Reading.{bound, own_open, shared}
+use Rattle.hc_model.specs.Reading.{bound, own_open, shared_exchange}
 use Rattle.hc_model.specs.Writers.{loses_writing, survivor}
 use Rattle.hc_model.specs.Dooms.{doomed, is_key}
-use Rattle.hc_model.specs.StartingOver.{awaited}
+use Rattle.hc_model.specs.StartingOver.{awaited_exchange}
 use Rattle.hc_model.specs.ExchangeRows.{exchange_heard}
 
 -- BY ITS HEAD
@@ -39,7 +39,7 @@ brings_head x _ = false
 
 abbrev pub awaits : Option Consumer → ℕ → Bool
 awaits None x = false
-awaits (Some k) x = is_number (awaited k.place) x
+awaits (Some k) x = is_number (awaited_exchange k.place) x
 
 -- of its key, while its consumer waits for its head, to found or to join by it
 abbrev pub is_doomed : Tables → Entry → ℕ → Exchange → Bool
@@ -72,7 +72,7 @@ is_last_reader t c _ = false
 abbrev pub is_left_by : Tables → ℕ → ℕ → Option Consumer → Bool
 is_left_by t x c None = false
 is_left_by t x c (Some k) =
-    is_number (own_open t k) x || (is_number (shared t k.place) x && is_last_reader t c k.place)
+    is_number (own_open t k) x || (is_number (shared_exchange t k.place) x && is_last_reader t c k.place)
 
 abbrev pub is_left : Tables → ℕ → Option ℕ → Bool
 is_left t x None = false

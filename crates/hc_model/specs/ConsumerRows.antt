@@ -204,8 +204,8 @@ abbrev pub consumer_settled : Tables → Entry → ℕ → Consumer → Consumer
 consumer_settled t e c k q =
     if starts_over t e c k then back_in_line e.now q else due_after t e c k q
 
-abbrev pub started : ℕ → Request → Consumer
-started now request = record {
+abbrev pub new_consumer : ℕ → Request → Consumer
+new_consumer now request = record {
   request = request;
   since = now;
   place = place.Line;
@@ -216,7 +216,7 @@ started now request = record {
 }
 
 abbrev pub consumer_made : ℕ → ℕ → Event → Option Consumer
-consumer_made c now (event.Start d request) = if d == c then Some (started now request) else None
+consumer_made c now (event.Start d request) = if d == c then Some (new_consumer now request) else None
 consumer_made c now _ = None
 
 unfoldable pub consumer_after : Tables → Entry → ℕ → Option Consumer → Option Consumer

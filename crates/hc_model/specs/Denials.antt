@@ -9,7 +9,7 @@ use Rattle.hc_rules.specs.Refusals as refusals
 use Rattle.hc_event.specs.declared.place.Place.{Place}
 use Rattle.hc_event.specs.declared.place.Place.TheVariants as place
 use Rattle.hc_model.specs.Rows.{Tables, Exchange, Consumer}
-use Rattle.hc_model.specs.Exchanges.{promised, exchange_at}
+use Rattle.hc_model.specs.Exchanges.{promised_bytes, exchange_at}
 
 abbrev pub is_live_place : Place → Bool
 is_live_place place.Over = false
@@ -35,7 +35,7 @@ open_exchange w = record {
   headed = is_some w.head;
   asked = w.asked;
   delivered = length w.body;
-  promised = promised w;
+  promised = promised_bytes w;
 }
 
 abbrev pub as_open : Option Exchange → Option OpenExchange

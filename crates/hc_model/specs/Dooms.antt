@@ -55,5 +55,5 @@ bypassed_by None = None
 bypassed_by (Some o) = bypassed_for o.need o.request.key
 
 -- the key for which an exchange is opened that goes past what is stored
-abbrev pub bypassed : Entry → Option (List ℕ)
-bypassed e = bypassed_by (opening_in e.acts)
+abbrev pub bypass_key : Entry → Option (List ℕ)
+bypass_key e = bypassed_by (opening_in e.acts)

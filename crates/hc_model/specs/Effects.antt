@@ -12,22 +12,22 @@ use Rattle.hc_event.specs.declared.act.Need.{Need}
 use Rattle.hc_rules.specs.declared.room.Limits.{Limits}
 use Rattle.hc_event.specs.declared.place.Place.{Place}
 use Rattle.hc_event.specs.declared.place.Place.TheVariants as place
-use Rattle.hc_model.specs.Answers.{accepted}
+use Rattle.hc_model.specs.Answers.{accepted_acts}
 use Rattle.hc_model.specs.Closings.{is_last_reader, awaits}
-use Rattle.hc_model.specs.ConsumerRows.{back_in_line, started}
+use Rattle.hc_model.specs.ConsumerRows.{back_in_line, new_consumer}
 use Rattle.hc_model.specs.Currents.{is_number}
-use Rattle.hc_model.specs.Entries.{unanswered}
+use Rattle.hc_model.specs.Entries.{entry_without_acts}
 use Rattle.hc_model.specs.ExchangeRows.{promise_in, with_piece}
 use Rattle.hc_model.specs.Exchanges.{is_reached, is_headless}
 use Rattle.hc_model.specs.Flaws.{Flaw}
 use Rattle.hc_model.specs.Gone.{is_keepable}
 use Rattle.hc_model.specs.Heads.{updated_head}
 use Rattle.hc_model.specs.Keys.{entry_of}
-use Rattle.hc_model.specs.Reading.{own_open, shared, is_bound_place}
-use Rattle.hc_model.specs.RepresentationRows.{represented, resumes, ended}
+use Rattle.hc_model.specs.Reading.{own_open, shared_exchange, is_bound_place}
+use Rattle.hc_model.specs.RepresentationRows.{new_representation, resumes, with_total_if_none}
 use Rattle.hc_model.specs.Rows.{Tables, Exchange, Representation, Consumer}
 use Rattle.hc_model.specs.StartingOver.{waits_at}
-use Rattle.hc_model.specs.Tables.{after_accepted, received_in, to_front, added}
+use Rattle.hc_model.specs.Tables.{after_accepted, received_in, to_front, with_item_first}
 
 -- ONE ROW IS ANOTHER
 
@@ -45,8 +45,8 @@ with_representation r row t = record t {
 -- COUNTS AND LISTS
 
 -- an event came
-abbrev pub counted : ℕ → Event → Tables → Tables
-counted now event t = record t {
+abbrev pub with_event : ℕ → Event → Tables → Tables
+with_event now event t = record t {
   moment = now;
   entries = t.entries + 1;
   received = t.received + received_in event;
@@ -58,7 +58,7 @@ used_last r t = record t { used = to_front (Some r) t.used }
 
 -- a consumer starts
 abbrev pub with_start : ℕ → ℕ → Request → Tables → Tables
-with_start now c request t = record (with_consumer c (Some (started now request)) t) {
+with_start now c request t = record (with_consumer c (Some (new_consumer now request)) t) {
   last_start = c;
   starts = c ∷ t.starts;
 }
@@ -98,8 +98,8 @@ with_ask x t = record t {
 -- A HEAD COMES
 
 -- its head came at this moment: it joined this, and is over where no byte is promised
-abbrev pub answered : ℕ → Response → Option ℕ → Exchange → Exchange
-answered now response joined w = record w {
+abbrev pub exchange_with_head : ℕ → Response → Option ℕ → Exchange → Exchange
+exchange_with_head now response joined w = record w {
   head = Some response;
   answered = now;
   joined = joined;
@@ -108,7 +108,7 @@ answered now response joined w = record w {
 
 abbrev pub with_answer : ℕ → ℕ → Response → Option ℕ → Exchange → Tables → Tables
 with_answer now x response joined w t =
-    with_exchange x (Some (answered now response joined w)) t
+    with_exchange x (Some (exchange_with_head now response joined w)) t
 
 -- the exchange, where its head leaves it open
 abbrev pub unless_ended : ℕ → Response → Exchange → List ℕ
@@ -117,18 +117,18 @@ unless_ended x response w = if is_reached (promise_in w response) 0 then [] else
 -- UPDATING AND FOUNDING
 
 -- with the head that a later one makes of its own (RFC 9111 section 3.2)
-abbrev pub refreshed : ℕ → Response → Exchange → Representation → Representation
-refreshed now response w v = record v { head = updated_head now response w v.head }
+abbrev pub with_refreshed_head : ℕ → Response → Exchange → Representation → Representation
+with_refreshed_head now response w v = record v { head = updated_head now response w v.head }
 
 -- where the exchange brings all that is missing, it is written for several from now on
-abbrev pub resumed : Tables → ℕ → Response → Exchange → Representation → Representation
-resumed t x response w v = record v {
+abbrev pub with_resumption : Tables → ℕ → Response → Exchange → Representation → Representation
+with_resumption t x response w v = record v {
   writer = if resumes t response w v then Some x else v.writer;
 }
 
 -- a representation as the head founds it at this moment
 abbrev pub just_founded : ℕ → ℕ → Response → Exchange → Representation
-just_founded now x response w = represented x (unanswered now (event.Head x response)) response w
+just_founded now x response w = new_representation x (entry_without_acts now (event.Head x response)) response w
 
 abbrev pub with_founding : ℕ → Representation → Tables → Tables
 with_founding x v t =
@@ -147,7 +147,7 @@ at_end w = record w { is_ended = true; is_open = false }
 abbrev pub with_length : ℕ → ℕ → Tables → Tables
 with_length x n t = record t {
   representation = λ q.
-      if x == q then option_map (ended n) (t.representation q) else t.representation q;
+      if x == q then option_map (with_total_if_none n) (t.representation q) else t.representation q;
 }
 
 -- A FAILURE BECOMES DUE
@@ -184,13 +184,13 @@ waits_for r _ = false
 abbrev pub back_from : ℕ → ℕ → Consumer → Consumer
 back_from now r k = if waits_for r k.place then back_in_line now k else k
 
-abbrev pub gone : Representation → Representation
-gone v = record v { is_gone = true }
+abbrev pub as_gone : Representation → Representation
+as_gone v = record v { is_gone = true }
 
 -- a representation isn't used for new consumers any more
 abbrev pub let_go : ℕ → ℕ → Tables → Tables
 let_go now r t = record t {
-  representation = λ q. if r == q then option_map gone (t.representation q) else t.representation q;
+  representation = λ q. if r == q then option_map as_gone (t.representation q) else t.representation q;
   consumer = λ d. option_map (back_from now r) (t.consumer d);
 }
 
@@ -209,15 +209,15 @@ let_some_go now (Some r) t = let_go now r t
 abbrev pub over : Exchange → Exchange
 over w = record w { is_open = false }
 
-abbrev pub closed : ℕ → Tables → Tables
-closed x t = record t {
+abbrev pub tables_after_close : ℕ → Tables → Tables
+tables_after_close x t = record t {
   exchange = λ y. if x == y then option_map over (t.exchange y) else t.exchange y;
 }
 
 -- each of these is closed
 abbrev pub all_closed : List ℕ → Tables → Tables
 all_closed [] t = t
-all_closed (x ∷ xs) t = all_closed xs (closed x t)
+all_closed (x ∷ xs) t = all_closed xs (tables_after_close x t)
 
 -- DOOMING
 
@@ -244,13 +244,13 @@ awaited_and t key also =
 -- LEAVING
 
 -- a consumer ended, failed or left
-abbrev pub finished : Consumer → Consumer
-finished k = record k { place = place.Over; due = None }
+abbrev pub as_over : Consumer → Consumer
+as_over k = record k { place = place.Over; due = None }
 
 -- the exchange that nobody reads any more once c leaves: its own, or that of the shared writing whose last member it is
 abbrev pub left_by : Tables → ℕ → Consumer → Option ℕ
 left_by t c k =
-    option_or (own_open t k) (if is_last_reader t c k.place then shared t k.place else None)
+    option_or (own_open t k) (if is_last_reader t c k.place then shared_exchange t k.place else None)
 
 -- a 200 founded it, and it can't be completed later
 abbrev pub is_unkeepable : Option Representation → Bool
@@ -265,7 +265,7 @@ going_with t (Some x) = if is_unkeepable (t.representation x) then Some x else N
 -- c leaves, and what nobody reads any more is closed
 abbrev pub with_leave : ℕ → Consumer → Tables → Tables
 with_leave c k t =
-    with_consumer c (Some (finished k)) (all_closed (added (left_by t c k) []) t)
+    with_consumer c (Some (as_over k)) (all_closed (with_item_first (left_by t c k) []) t)
 
 -- LOSING
 
@@ -287,7 +287,7 @@ writing_lost r alone writer t = record t {
 
 -- its exchange, where nobody goes on
 abbrev pub unless_survived : Option ℕ → Option ℕ → List ℕ
-unless_survived alone writer = added (if is_none alone then writer else None) []
+unless_survived alone writer = with_item_first (if is_none alone then writer else None) []
 
 abbrev pub with_loss : ℕ → Option ℕ → Tables → Tables
 with_loss r alone t = record t {
@@ -300,5 +300,5 @@ with_loss r alone t = record t {
 -- at this event these are the acts, and after it these the tables
 pub record Does (limits : Limits) (t : Tables) (now : ℕ) (event : Event) (flaw : Flaw)
     (acts : List Act) (s : Tables) : Type 0 where
-  pub acts_are : accepted limits t now event flaw ≡ acts
+  pub acts_are : accepted_acts limits t now event flaw ≡ acts
   pub tables_are : after_accepted t (entry_of limits t now event flaw) ≡ s

@@ -2,7 +2,7 @@
 use Rattle.std.specs.Prelude.{◌≡◌, ℕ, length, true, false, Some, None}
 use Rattle.hc_event.specs.declared.place.BoundBy.{BoundBy}
 use Rattle.hc_event.specs.declared.place.Place.TheVariants as place
-use Rattle.hc_model.specs.Exchanges.{front, promised, is_reached}
+use Rattle.hc_model.specs.Exchanges.{front, promised_bytes, is_reached}
 use Rattle.hc_model.specs.Reading.{hi_of, own_open}
 use Rattle.hc_model.specs.Rows.{Tables, Exchange, Representation, Consumer}
 
@@ -13,7 +13,7 @@ pub record Endings (t : Tables) : Type 0 where
       k.place ≡ place.Direct x → t.exchange x ≡ Some w → w.is_open ≡ false → k.due ≡ None →
       hi_of t k.place ≡ Some (front w)
   pub unreached : (x : ℕ) (w : Exchange) → t.exchange x ≡ Some w → w.is_open ≡ true →
-      is_reached (promised w) (length w.body) ≡ false
+      is_reached (promised_bytes w) (length w.body) ≡ false
 
 -- the detached reader of what has no known end reads, as long as no failure is due to it, from the exchange that founded that,
 -- which is still open

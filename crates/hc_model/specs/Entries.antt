@@ -15,8 +15,8 @@ abbrev pub History : Type 0
 History = List Entry
 
 -- an entry without any act
-abbrev pub unanswered : ℕ → Event → Entry
-unanswered now event = record { now = now; event = event; acts = [] }
+abbrev pub entry_without_acts : ℕ → Event → Entry
+entry_without_acts now event = record { now = now; event = event; acts = [] }
 
 -- a representation with which a store begins
 pub record Content : Type 0 where

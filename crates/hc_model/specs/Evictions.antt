@@ -8,12 +8,12 @@ use Rattle.hc_rules.specs.declared.room.Limits.{Limits}
 use Rattle.hc_rules.specs.declared.room.Room.TheVariants as room
 use Rattle.hc_rules.specs.declared.room.Write.{Write}
 use Rattle.hc_rules.specs.Rooms.{grown_by, is_too_large}
-use Rattle.hc_model.specs.Answers.{accepted, said, lost, closed, is_asked}
+use Rattle.hc_model.specs.Answers.{accepted_acts, answer_acts, loss_acts, close_acts, is_asked}
 use Rattle.hc_model.specs.Contents.{idle_now}
 use Rattle.hc_model.specs.Currents.{current}
 use Rattle.hc_model.specs.Denials.{denial, live}
 use Rattle.hc_model.specs.Effects.{let_go, let_all_go}
-use Rattle.hc_model.specs.Entries.{Entry, unanswered}
+use Rattle.hc_model.specs.Entries.{Entry, entry_without_acts}
 use Rattle.hc_model.specs.Flaws.{Flaw, flaw_in}
 use Rattle.hc_model.specs.Gone.{goes_itself}
 use Rattle.hc_model.specs.Keys.{entry_of}
@@ -58,8 +58,8 @@ AnyLeavesOneCurrent = (t : Tables) (e : Entry) → Sound t → OneCurrent (after
 -- the acts that are owed but for what makes room
 abbrev pub unevicting : Tables → ℕ → Event → Flaw → List Act
 unevicting t now event flaw =
-    if is_asked event then said t now event flaw ++ (closed t now event flaw ++ lost flaw)
-    else lost flaw ++ closed t now event flaw
+    if is_asked event then answer_acts t now event flaw ++ (close_acts t now event flaw ++ loss_acts flaw)
+    else loss_acts flaw ++ close_acts t now event flaw
 
 abbrev pub unevicting_entry : Tables → ℕ → Event → Flaw → Entry
 unevicting_entry t now event flaw =
@@ -68,9 +68,9 @@ unevicting_entry t now event flaw =
 -- What makes room is told first, is no matter to the flaw that is shown and those that may stand, and is done last.
 pub record EvictsLast (limits : Limits) (t : Tables) (now : ℕ) (event : Event) (flaw : Flaw) :
     Type 0 where
-  pub acts : accepted limits t now event flaw
+  pub acts : accepted_acts limits t now event flaw
       ≡ map act.Evicted (evicted limits t now event) ++ unevicting t now event flaw
-  pub shown : flaw_in (accepted limits t now event flaw) ≡ flaw_in (unevicting t now event flaw)
+  pub shown : flaw_in (accepted_acts limits t now event flaw) ≡ flaw_in (unevicting t now event flaw)
   pub may : (other : Flaw) → may_be limits t (entry_of limits t now event flaw) other
       ≡ may_be limits t (unevicting_entry t now event flaw) other
   pub tables : after_accepted t (entry_of limits t now event flaw)
@@ -96,7 +96,7 @@ outlasts t e r = outlasts_row t e r (t.representation r)
 abbrev pub IdleButGone : Type 0
 IdleButGone =
     (t : Tables) (now : ℕ) (event : Event) → Sound t → Owners t → denial t event ≡ None →
-    idle t (unanswered now event) ≡ filter (outlasts t (unanswered now event)) (idle_now t)
+    idle t (entry_without_acts now event) ≡ filter (outlasts t (entry_without_acts now event)) (idle_now t)
 
 -- Of these idle ones those give way: while the sum of all passes the most, the first one goes.
 pub data GivesWay (weight : ℕ → ℕ) (most : ℕ) : ℕ → List ℕ → List ℕ → Type 0 where
@@ -109,9 +109,9 @@ pub data GivesWay (weight : ℕ → ℕ) (most : ℕ) : ℕ → List ℕ → Lis
 abbrev pub MakesRoom : Type 0
 MakesRoom =
     (limits : Limits) (t : Tables) (now : ℕ) (event : Event) (w : Write) (gone : List ℕ) →
-    write_in t (unanswered now event) event ≡ Some w → is_too_large limits w ≡ false →
-    GivesWay (weight t (unanswered now event)) limits.max_total
-    (weights t (unanswered now event) + grown_by w) (idle t (unanswered now event)) gone →
+    write_in t (entry_without_acts now event) event ≡ Some w → is_too_large limits w ≡ false →
+    GivesWay (weight t (entry_without_acts now event)) limits.max_total
+    (weights t (entry_without_acts now event) + grown_by w) (idle t (entry_without_acts now event)) gone →
     (room_for limits t now event ≡ room.After (length gone)) × (evicted limits t now event ≡ gone)
 
 -- and some do, unless even all of them are too little
@@ -124,21 +124,21 @@ SomeGiveWay =
 abbrev pub HasNoRoom : Type 0
 HasNoRoom =
     (limits : Limits) (t : Tables) (now : ℕ) (event : Event) (w : Write) →
-    write_in t (unanswered now event) event ≡ Some w → is_too_large limits w ≡ false →
-    limits.max_total + sum_by (weight t (unanswered now event)) (idle t (unanswered now event))
-    < weights t (unanswered now event) + grown_by w →
+    write_in t (entry_without_acts now event) event ≡ Some w → is_too_large limits w ≡ false →
+    limits.max_total + sum_by (weight t (entry_without_acts now event)) (idle t (entry_without_acts now event))
+    < weights t (entry_without_acts now event) + grown_by w →
     (room_for limits t now event ≡ room.Full) × (evicted limits t now event ≡ [])
 
 -- nor where the write is too large
 abbrev pub HasTooLarge : Type 0
 HasTooLarge =
     (limits : Limits) (t : Tables) (now : ℕ) (event : Event) (w : Write) →
-    write_in t (unanswered now event) event ≡ Some w → is_too_large limits w ≡ true →
+    write_in t (entry_without_acts now event) event ≡ Some w → is_too_large limits w ≡ true →
     (room_for limits t now event ≡ room.TooLarge) × (evicted limits t now event ≡ [])
 
 -- nor where nothing is written
 abbrev pub WritesNothing : Type 0
 WritesNothing =
     (limits : Limits) (t : Tables) (now : ℕ) (event : Event) →
-    write_in t (unanswered now event) event ≡ None →
+    write_in t (entry_without_acts now event) event ≡ None →
     (room_for limits t now event ≡ room.After 0) × (evicted limits t now event ≡ [])

@@ -10,7 +10,7 @@ use Rattle.hc_event.specs.declared.place.Place.{Place}
 use Rattle.hc_event.specs.declared.place.Place.TheVariants as place
 use Rattle.hc_model.specs.Entries.{Entry}
 use Rattle.hc_model.specs.Rows.{Tables, Exchange, Consumer}
-use Rattle.hc_model.specs.Exchanges.{promised, is_reached}
+use Rattle.hc_model.specs.Exchanges.{promised_bytes, is_reached}
 use Rattle.hc_model.specs.Currents.{current}
 use Rattle.hc_model.specs.Cases.{case_at, is_joining}
 
@@ -67,7 +67,7 @@ abbrev pub with_piece : List ℕ → Exchange → Exchange
 with_piece bytes w = record w {
   body = w.body ++ bytes;
   asked = false;
-  is_open = not (is_reached (promised w) (length (w.body ++ bytes))) && w.is_open;
+  is_open = not (is_reached (promised_bytes w) (length (w.body ++ bytes))) && w.is_open;
 }
 
 -- what an accepted entry's event says of the exchange x; t is before it

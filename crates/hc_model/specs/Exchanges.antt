@@ -18,8 +18,8 @@ abbrev pub base : Exchange → ℕ
 base w = base_of (length_by w w.head)
 
 -- how many bytes it promised, once it has a good head
-abbrev pub promised : Exchange → Option ℕ
-promised w = promise_of (length_by w w.head)
+abbrev pub promised_bytes : Exchange → Option ℕ
+promised_bytes w = promise_of (length_by w w.head)
 
 -- where the next byte of an exchange belongs
 abbrev pub front : Exchange → ℕ

@@ -12,7 +12,7 @@ use Rattle.hc_event.specs.declared.place.Place.{Place}
 use Rattle.hc_event.specs.declared.place.Place.TheVariants as place
 use Rattle.hc_model.specs.Entries.{Entry}
 use Rattle.hc_model.specs.Rows.{Tables, Exchange, Representation, Consumer}
-use Rattle.hc_model.specs.Exchanges.{promised, exchange_in, is_for}
+use Rattle.hc_model.specs.Exchanges.{promised_bytes, exchange_in, is_for}
 use Rattle.hc_model.specs.Currents.{is_number}
 use Rattle.hc_model.specs.Cases.{case_at}
 use Rattle.hc_model.specs.Reading.{source}
@@ -25,7 +25,7 @@ short_of x w (Some p) =
 
 abbrev pub short_cause : ℕ → Option Exchange → Option Cause
 short_cause x None = None
-short_cause x (Some w) = short_of x w (promised w)
+short_cause x (Some w) = short_of x w (promised_bytes w)
 
 -- why an exchange that stops gives less than it should
 abbrev pub stop_cause : Tables → Event → Option Cause

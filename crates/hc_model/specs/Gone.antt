@@ -11,10 +11,10 @@ use Rattle.hc_rules.specs.declared.heads.HeadCase.TheVariants as case
 use Rattle.hc_model.specs.Entries.{Entry}
 use Rattle.hc_model.specs.ActFilters.{loses_in, has_loss, misreads_in}
 use Rattle.hc_model.specs.Rows.{Tables, Exchange, Representation}
-use Rattle.hc_model.specs.Exchanges.{promised, exchange_at}
+use Rattle.hc_model.specs.Exchanges.{promised_bytes, exchange_at}
 use Rattle.hc_model.specs.Currents.{is_current, is_number}
 use Rattle.hc_model.specs.Cases.{case_at}
-use Rattle.hc_model.specs.Dooms.{doomed, bypassed, is_key}
+use Rattle.hc_model.specs.Dooms.{doomed, bypass_key, is_key}
 
 -- BY A HEAD
 
@@ -55,7 +55,7 @@ is_below n (Some p) = nat_lt n p
 
 -- fewer bytes came than were promised
 abbrev pub is_short : Exchange → Bool
-is_short w = is_below (length w.body) (promised w)
+is_short w = is_below (length w.body) (promised_bytes w)
 
 abbrev pub stops_early : Exchange → ℕ → Event → Bool
 stops_early w r (event.Fault x) = x == r
@@ -86,7 +86,7 @@ is_keepable v =
 -- by a doom or a bypass while it is current, by a head, by a loss, a failed read or an early end
 abbrev pub goes_itself : Tables → Entry → ℕ → Representation → Bool
 goes_itself t e r v =
-    (is_current t v.key r && (is_key (doomed t e) v.key || is_key (bypassed e) v.key))
+    (is_current t v.key r && (is_key (doomed t e) v.key || is_key (bypass_key e) v.key))
     || goes_by_head t e r
     || loses_in r e.acts
     || misreads_in r e.acts

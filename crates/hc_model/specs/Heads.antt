@@ -11,7 +11,7 @@ use Rattle.hc_record.specs.Head.{Head, joining_of}
 use Rattle.hc_record.specs.declared.kind.Kind.TheVariants as kind
 use Rattle.hc_rules.specs.RangeTexts.{content_range_of}
 use Rattle.hc_validate.specs.Heads.{FieldPairs}
-use Rattle.hc_validate.specs.Updates.{updated}
+use Rattle.hc_validate.specs.Updates.{updated_fields}
 use Rattle.hc_model.specs.Rows.{Exchange}
 use Rattle.hc_model.specs.ExchangeRows.{promise_in}
 
@@ -56,5 +56,5 @@ abbrev pub updated_head : ℕ → Response → Exchange → Head → Head
 updated_head now response w head = record head {
   requested = w.opened;
   answered = now;
-  fields = updated head.fields response.fields;
+  fields = updated_fields head.fields response.fields;
 }

@@ -1,7 +1,7 @@
 -- What the list of entries says, entry by entry: filters, which the columns of the tables are.
 use Rattle.std.specs.Prelude.{◌≡◌, ℕ, List, [], ◌∷◌, ◌++◌, length, Option, Some, None, is_none, is_some, option_map, option_and_then, if◌then◌else◌, ◌==◌, ◌||◌, ◌&&◌, not, Bool, true, false}
 use Rattle.std.specs.Option.{option_map_or, option_or}
-use Rattle.hc_sparse.specs.Cells.{Cells, nothing, written}
+use Rattle.hc_sparse.specs.Cells.{Cells, nothing, cells_with}
 use Rattle.hc_sparse.specs.declared.run.Run.{Run}
 use Rattle.hc_event.specs.Filters.{Opening, opening_in, is_denied, given_in}
 use Rattle.hc_event.specs.declared.event.Event.{Event}
@@ -19,7 +19,7 @@ use Rattle.hc_model.specs.Rows.{Tables, Exchange, Representation, Consumer}
 use Rattle.hc_model.specs.Exchanges.{family, front}
 use Rattle.hc_model.specs.Cases.{case_at, is_joining}
 use Rattle.hc_model.specs.StartingOver.{starts_over}
-use Rattle.hc_model.specs.Tables.{begun, tables}
+use Rattle.hc_model.specs.Tables.{first_tables, tables}
 use Rattle.hc_model.specs.Runs.{IsRun}
 
 -- what each entry brings, the oldest first
@@ -173,7 +173,7 @@ stored_of contents r (e ∷ h) =
 -- pieces over what was there
 abbrev pub over : List Run → Cells → Cells
 over [] f = f
-over (run ∷ runs) f = over runs (written run.at run.x run.bytes f)
+over (run ∷ runs) f = over runs (cells_with run.at run.x run.bytes f)
 
 abbrev pub cells_in : Option Representation → Cells
 cells_in None = nothing
@@ -182,7 +182,7 @@ cells_in (Some v) = v.body
 -- what the store began with of a representation
 abbrev pub begun_with : Contents → ℕ → Cells
 begun_with contents r =
-    cells_in ((begun contents).representation r)
+    cells_in ((first_tables contents).representation r)
 
 abbrev pub start_in : ℕ → Event → Bool
 start_in c (event.Start d request) = d == c

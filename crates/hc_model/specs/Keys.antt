@@ -13,9 +13,9 @@ use Rattle.hc_model.specs.Entries.{Entry, Contents}
 use Rattle.hc_model.specs.Flaws.{Flaw}
 use Rattle.hc_model.specs.Rows.{Tables, Exchange, Representation, Consumer}
 use Rattle.hc_model.specs.Dooms.{is_key}
-use Rattle.hc_model.specs.Tables.{after_accepted, begun}
+use Rattle.hc_model.specs.Tables.{after_accepted, first_tables}
 use Rattle.hc_model.specs.Denials.{denial}
-use Rattle.hc_model.specs.Answers.{accepted}
+use Rattle.hc_model.specs.Answers.{accepted_acts}
 use Rattle.hc_model.specs.Reading.{reads}
 use Rattle.hc_model.specs.ConsumerRows.{back_in_line}
 use Rattle.hc_model.specs.Runs.{IsOwed}
@@ -91,7 +91,7 @@ pub record ConsumerKeys (t : Tables) : Type 0 where
 
 abbrev pub entry_of : Limits → Tables → ℕ → Event → Flaw → Entry
 entry_of limits t now event flaw =
-    record { now = now; event = event; acts = accepted limits t now event flaw }
+    record { now = now; event = event; acts = accepted_acts limits t now event flaw }
 
 -- what is evicted is gone; nothing else is said of it
 abbrev pub IsEvicted : Option Representation → Option Representation → Type 0
@@ -143,4 +143,4 @@ KeysAreKept =
     IsOfOneKey (after_accepted t (entry_of limits t now event flaw))
 
 abbrev pub KeysBegin : Type 0
-KeysBegin = (contents : Contents) → IsOfOneKey (begun contents)
+KeysBegin = (contents : Contents) → IsOfOneKey (first_tables contents)

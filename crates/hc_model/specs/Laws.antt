@@ -19,7 +19,7 @@ use Rattle.hc_event.specs.declared.place.BoundBy.{BoundBy}
 use Rattle.hc_event.specs.declared.place.BoundBy.TheVariants as by
 use Rattle.hc_event.specs.declared.place.Place.TheVariants as place
 use Rattle.hc_event.specs.declared.place.BoundBy.{BoundBy}
-use Rattle.hc_model.specs.Entries.{Entry, History, Content, Contents, unanswered}
+use Rattle.hc_model.specs.Entries.{Entry, History, Content, Contents, entry_without_acts}
 use Rattle.hc_model.specs.Flaws.{Flaw}
 use Rattle.hc_model.specs.Rows.{Tables, Exchange, Representation, Consumer}
 use Rattle.hc_model.specs.Exchanges.{front, family, is_headless}
@@ -29,13 +29,13 @@ use Rattle.hc_model.specs.Reading.{is_written, bound, own_open}
 use Rattle.hc_model.specs.Writers.{came_alone, loses_writing, survivor}
 use Rattle.hc_model.specs.Dooms.{doomed, is_key}
 use Rattle.hc_model.specs.Lines.{turn}
-use Rattle.hc_model.specs.Tables.{tables, begun, after_accepted, after_denied}
+use Rattle.hc_model.specs.Tables.{tables, first_tables, after_accepted, after_denied}
 use Rattle.hc_model.specs.Denials.{denial}
 use Rattle.hc_model.specs.Moves.{Move}
 use Rattle.hc_model.specs.Moves as move
 use Rattle.hc_model.specs.Polls.{move_of}
 use Rattle.hc_model.specs.Weights.{weights}
-use Rattle.hc_model.specs.Answers.{accepted}
+use Rattle.hc_model.specs.Answers.{accepted_acts}
 use Rattle.hc_model.specs.Kinds.{kind_for}
 use Rattle.hc_model.specs.Contents.{contents_of}
 use Rattle.hc_model.specs.Beginnings.{may_begin}
@@ -44,7 +44,7 @@ use Rattle.hc_model.specs.Reads.{Delivers}
 use Rattle.hc_model.specs.Sound.{Sound, IsBound, IsAbout, IsGrowing, IsServed, IsHad, IsAlone, IsToBeShown, Waits, OneAbout, OneCurrent, IsStored, IsListed, IsNamed}
 use Rattle.hc_model.specs.Owners.{Owners}
 use Rattle.hc_model.specs.Measures.{Measures}
-use Rattle.hc_model.specs.StoredHeads.{HeadsAreModest}
+use Rattle.hc_model.specs.StoredHeads.{HeadsAreWithinLimits}
 use Rattle.hc_model.specs.Keys.{entry_of, IsOfOneKey, KeepsOthers}
 
 -- a fact of the tables of every run from contents by which a store may begin
@@ -175,7 +175,7 @@ pub record IsInLimits (t : Tables) : Type 0 where
 abbrev pub LeavesGood : Limits → Contents → Type 0
 LeavesGood limits contents =
     may_begin limits contents ≡ true → (h : History) → IsRun limits contents h →
-    HeadsAreModest h → IsInLimits (tables contents h) →
+    HeadsAreWithinLimits h → IsInLimits (tables contents h) →
     may_begin limits (contents_of (tables contents h)) ≡ true
 
 abbrev pub LeavesInRuns : Type 0
@@ -317,7 +317,7 @@ pub record IsStart (contents : Contents) : Type 0 where
       a.key ≡ b.key → r ≡ q
 
 abbrev pub StartsAreSound : Type 0
-StartsAreSound = (contents : Contents) → IsStart contents → Sound (begun contents)
+StartsAreSound = (contents : Contents) → IsStart contents → Sound (first_tables contents)
 
 -- READERS
 
@@ -359,7 +359,7 @@ OwedAfterEach P =
     P (after_accepted t (entry_of limits t now event flaw))
 
 abbrev pub OwnersAreKnown : Type 0
-OwnersAreKnown = (contents : Contents) → Owners (begun contents)
+OwnersAreKnown = (contents : Contents) → Owners (first_tables contents)
 
 -- ONE TURN
 
@@ -370,7 +370,7 @@ TurnsAreKept =
     IsOwed limits t e → is_denied e.acts ≡ false → Turns (after_accepted t e)
 
 abbrev pub TurnsBegin : Type 0
-TurnsBegin = (contents : Contents) → Turns (begun contents)
+TurnsBegin = (contents : Contents) → Turns (first_tables contents)
 
 abbrev pub TurnsAreOne : Type 0
 TurnsAreOne = (t : Tables) → Sound t → IsOfOneKey t → Turns t → HasOneTurn t
@@ -448,8 +448,8 @@ ReadersGo =
 abbrev pub FewGiveWay : Type 0
 FewGiveWay =
     (limits : Limits) (t : Tables) (now : ℕ) (event : Event) (flaw : Flaw) →
-    weights t (unanswered now event) ≤ limits.max_total → IsSmallPiece event →
-    count_evicted (accepted limits t now event flaw) ≤ 2
+    weights t (entry_without_acts now event) ≤ limits.max_total → IsSmallPiece event →
+    count_evicted (accepted_acts limits t now event flaw) ≤ 2
 
 -- what is being written for several has a reader
 abbrev pub AreRead : Tables → Type 0
@@ -479,7 +479,7 @@ MeasuredAfterEach P =
 abbrev pub BeginningsAreMeasured : Type 0
 BeginningsAreMeasured =
     (limits : Limits) (contents : Contents) → may_begin limits contents ≡ true →
-    Measures (begun contents)
+    Measures (first_tables contents)
 
 -- while a writing is on, just what its exchange has brought is stored, and it promises all that is
 -- missing

@@ -41,7 +41,7 @@ pub mod Orders
 pub mod Origins
 pub mod Sizes
 pub mod StoredHeads
-pub mod Modest
+pub mod WithinLimits
 pub mod Places
 pub mod Endings
 pub mod Chains

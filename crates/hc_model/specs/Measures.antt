@@ -3,13 +3,13 @@ use Rattle.std.specs.Prelude.{◌≡◌, ℕ, ◌+◌, ◌≤◌, length, true, 
 use Rattle.hc_event.specs.declared.place.Place.TheVariants as place
 use Rattle.hc_event.specs.declared.place.BoundBy.{BoundBy}
 use Rattle.hc_model.specs.Rows.{Tables, Exchange, Representation, Consumer}
-use Rattle.hc_model.specs.Exchanges.{base, promised, family}
+use Rattle.hc_model.specs.Exchanges.{base, promised_bytes, family}
 
 -- what an open exchange brings of a body: no more than its length, or all of what has no known length
 pub data IsMeasured (w : Exchange) (v : Representation) : Type 0 where
-  told : (n total : ℕ) → promised w ≡ Some n → v.head.total ≡ Some total → base w + n ≤ total →
+  told : (n total : ℕ) → promised_bytes w ≡ Some n → v.head.total ≡ Some total → base w + n ≤ total →
       IsMeasured w v
-  untold : promised w ≡ None → v.head.total ≡ None → base w ≡ 0 → w.joined ≡ None →
+  untold : promised_bytes w ≡ None → v.head.total ≡ None → base w ≡ 0 → w.joined ≡ None →
       length w.body ≡ v.reach → IsMeasured w v
 
 -- a known end is within a known length

@@ -16,7 +16,7 @@ use Rattle.hc_event.specs.declared.act.Wait.TheVariants as wait
 use Rattle.hc_event.specs.declared.act.Why.{Why}
 use Rattle.hc_event.specs.declared.act.Cause.{Cause}
 use Rattle.hc_validate.specs.Heads.{with_one}
-use Rattle.hc_validate.specs.Showing.{shown}
+use Rattle.hc_validate.specs.Showing.{shown_response}
 use Rattle.hc_model.specs.Rows.{Tables, Exchange, Representation}
 
 pub data Move : Type 0 where
@@ -70,7 +70,7 @@ span_to lo (Some hi) = Some (record { lo = lo; hi = hi })
 abbrev pub shows_stored : ℕ → Why → Bool → ℕ → Option ℕ → Option Representation → Move
 shows_stored r why ranged lo hi None = Nothing
 shows_stored r why ranged lo hi (Some v) =
-    Shows r why (shown v.head why (span_to lo hi) ranged) lo hi
+    Shows r why (shown_response v.head why (span_to lo hi) ranged) lo hi
 
 -- GIVING AND ASKING
 

@@ -5,7 +5,7 @@ use Rattle.hc_event.specs.declared.place.Place.TheVariants as place
 use Rattle.hc_event.specs.declared.place.BoundBy.{BoundBy}
 use Rattle.hc_model.specs.Beginnings.{may_begin}
 use Rattle.hc_model.specs.Entries.{History, Content, Contents}
-use Rattle.hc_model.specs.Exchanges.{base, promised, front}
+use Rattle.hc_model.specs.Exchanges.{base, promised_bytes, front}
 use Rattle.hc_model.specs.Laws.{item_of}
 use Rattle.hc_model.specs.Rows.{Tables, Exchange, Representation, Consumer}
 use Rattle.hc_model.specs.Runs.{IsRun}
@@ -20,9 +20,9 @@ abbrev pub too_long : Tables → ℕ
 too_long t = max (2 ^ 62) (t.received + 1)
 
 pub record Numbers (t : Tables) : Type 0 where
-  pub promises : (x n : ℕ) (w : Exchange) → t.exchange x ≡ Some w → promised w ≡ Some n →
+  pub promises : (x n : ℕ) (w : Exchange) → t.exchange x ≡ Some w → promised_bytes w ≡ Some n →
       base w + n ≤ 2 ^ 62
-  pub unpromised : (x : ℕ) (w : Exchange) → t.exchange x ≡ Some w → promised w ≡ None → base w ≡ 0
+  pub unpromised : (x : ℕ) (w : Exchange) → t.exchange x ≡ Some w → promised_bytes w ≡ None → base w ≡ 0
   pub fronts : (x : ℕ) (w : Exchange) → t.exchange x ≡ Some w → front w ≤ most t
   pub totals : (r n : ℕ) (v : Representation) → t.representation r ≡ Some v →
       v.head.total ≡ Some n → n < too_long t

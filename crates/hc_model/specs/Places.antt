@@ -8,7 +8,7 @@ use Rattle.hc_rules.specs.Requests.{is_disabled, is_only}
 use Rattle.hc_event.specs.declared.place.Place.TheVariants as place
 use Rattle.hc_event.specs.declared.place.BoundBy.{BoundBy}
 use Rattle.hc_event.specs.declared.place.BoundBy.TheVariants as by
-use Rattle.hc_model.specs.Exchanges.{family, promised}
+use Rattle.hc_model.specs.Exchanges.{family, promised_bytes}
 use Rattle.hc_model.specs.Reading.{own_open}
 use Rattle.hc_model.specs.Rows.{Tables, Exchange, Consumer}
 
@@ -106,7 +106,7 @@ pub record Places (t : Tables) : Type 0 where
   pub read : (x : ℕ) (w : Exchange) → t.exchange x ≡ Some w → w.is_open ≡ true →
       is_some w.head ≡ true → t.representation (family x w) ≡ None → IsReadPast t x w
   pub received : (x : ℕ) (w : Exchange) → t.exchange x ≡ Some w → length w.body ≤ t.received
-  pub promised_most : (x n : ℕ) (w : Exchange) → t.exchange x ≡ Some w → promised w ≡ Some n →
+  pub promised_most : (x n : ℕ) (w : Exchange) → t.exchange x ≡ Some w → promised_bytes w ≡ Some n →
       length w.body ≤ n
   pub ended : (x : ℕ) (w : Exchange) → t.exchange x ≡ Some w → w.is_ended ≡ true →
       w.is_open ≡ false

@@ -81,9 +81,9 @@ conditional_on None request = request
 conditional_on (Some v) request = conditional v.head request
 
 -- what is asked of the origin: on conditions that are made of what is current, or as it is
-abbrev pub fetched : Tables → Consumer → Need → Request
-fetched t k need.Validate = conditional_on (current_row t k) k.request
-fetched t k _ = k.request
+abbrev pub origin_request : Tables → Consumer → Need → Request
+origin_request t k need.Validate = conditional_on (current_row t k) k.request
+origin_request t k _ = k.request
 
 abbrev pub is_ranged : Consumer → Bool
 is_ranged k = is_some (range_of k.request)
@@ -103,11 +103,11 @@ binds_current t k why span (Some r) = binds t k why r span
 abbrev pub plan_move : Tables → Consumer → Plan → Move
 plan_move t k (plan.Direct need) = opens t need k.request
 plan_move t k (plan.Turn d) = Waits (wait.Turn d)
-plan_move t k (plan.Fetch need) = opens t need (fetched t k need)
+plan_move t k (plan.Fetch need) = opens t need (origin_request t k need)
 plan_move t k (plan.Bind why span) = binds_current t k why span (current t k.request.key)
 plan_move t k (plan.FirstHole span hole) = opens_hole t k.request (current_row t k) hole
 plan_move t k (plan.Busy d kept) = Waits (wait.Busy d)
 plan_move t k plan.Miss = Fails cause.Miss
 
-abbrev pub planned : Tables → ℕ → ℕ → Consumer → Move
-planned t now c k = plan_move t k (plan_of (plan_view t now c k))
+abbrev pub planned_move : Tables → ℕ → ℕ → Consumer → Move
+planned_move t now c k = plan_move t k (plan_of (plan_view t now c k))

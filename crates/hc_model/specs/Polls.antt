@@ -13,7 +13,7 @@ use Rattle.hc_model.specs.Exchanges.{base, is_headless}
 use Rattle.hc_model.specs.Reading.{hi_of, own_open}
 use Rattle.hc_model.specs.Writers.{status_in}
 use Rattle.hc_model.specs.Moves.{Move, Nothing, Waits, Shows, Fails, shows_stored}
-use Rattle.hc_model.specs.Planning.{planned, is_ranged}
+use Rattle.hc_model.specs.Planning.{planned_move, is_ranged}
 use Rattle.hc_model.specs.Steps.{reading}
 
 -- A HEAD THAT IS THERE
@@ -69,7 +69,7 @@ or_else (Some move) other = move
 abbrev pub by_place : Tables → ℕ → ℕ → ℕ → Consumer → Place → Move
 by_place t now want c k (place.Down cause) = Fails cause
 by_place t now want c k place.Over = Nothing
-by_place t now want c k _ = if k.shown then reading t want c k else planned t now c k
+by_place t now want c k _ = if k.shown then reading t want c k else planned_move t now c k
 
 -- the first that applies: it is shown a head, it waits for one, it fails, it reads, or its plan is carried out
 abbrev pub move_of : Tables → ℕ → ℕ → ℕ → Consumer → Move
@@ -78,6 +78,6 @@ move_of t now want c k =
     (or_else (waits_for_head (option_and_then (if_headless t) (own_open t k)))
     (by_place t now want c k k.place))
 
-abbrev pub polled : Tables → ℕ → ℕ → ℕ → Option Consumer → Move
-polled t now want c None = Nothing
-polled t now want c (Some k) = move_of t now want c k
+abbrev pub poll_move : Tables → ℕ → ℕ → ℕ → Option Consumer → Move
+poll_move t now want c None = Nothing
+poll_move t now want c (Some k) = move_of t now want c k

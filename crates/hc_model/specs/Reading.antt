@@ -4,7 +4,7 @@ use Rattle.std.specs.Option.{option_or}
 use Rattle.hc_event.specs.declared.place.Place.{Place}
 use Rattle.hc_event.specs.declared.place.Place.TheVariants as place
 use Rattle.hc_model.specs.Rows.{Tables, Exchange, Representation, Consumer}
-use Rattle.hc_model.specs.Exchanges.{base, promised, is_open}
+use Rattle.hc_model.specs.Exchanges.{base, promised_bytes, is_open}
 use Rattle.hc_model.specs.Currents.{total_in}
 
 -- WHO IS BOUND
@@ -45,7 +45,7 @@ end_of_direct None w = if w.is_ended then Some (length w.body) else None
 
 abbrev pub end_in : Option Exchange → Option ℕ
 end_in None = None
-end_in (Some w) = end_of_direct (promised w) w
+end_in (Some w) = end_of_direct (promised_bytes w) w
 
 -- where what a consumer reads begins
 abbrev pub lo_of : Tables → Place → ℕ
@@ -85,10 +85,10 @@ writing_in t None = None
 writing_in t (Some v) = if is_written t v then v.writer else None
 
 -- the exchange of the shared writing of which a consumer is a member
-abbrev pub shared : Tables → Place → Option ℕ
-shared t (place.Bound r lo hi by) = writing_in t (t.representation r)
-shared t _ = None
+abbrev pub shared_exchange : Tables → Place → Option ℕ
+shared_exchange t (place.Bound r lo hi by) = writing_in t (t.representation r)
+shared_exchange t _ = None
 
 -- the open exchange that a consumer reads from: its own, or that of the shared writing
 abbrev pub source : Tables → Consumer → Option ℕ
-source t k = option_or (own_open t k) (shared t k.place)
+source t k = option_or (own_open t k) (shared_exchange t k.place)

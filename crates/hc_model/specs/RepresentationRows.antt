@@ -3,7 +3,7 @@ use Rattle.std.specs.Prelude.{ℕ, ◌+◌, List, length, Bool, false, Option, S
 use Rattle.std.specs.Option.{option_or}
 use Rattle.hc_range.specs.declared.range.ContentRange.{ContentRange}
 use Rattle.hc_range.specs.declared.range.ContentRange.TheVariants as range
-use Rattle.hc_sparse.specs.Cells.{nothing, written}
+use Rattle.hc_sparse.specs.Cells.{nothing, cells_with}
 use Rattle.hc_event.specs.declared.event.Event.{Event}
 use Rattle.hc_event.specs.declared.event.Event.TheVariants as event
 use Rattle.hc_event.specs.declared.event.Response.{Response}
@@ -28,8 +28,8 @@ use Rattle.hc_model.specs.Heads.{founded_head, updated_head}
 abbrev pub writer_at : ℕ → Response → Option ℕ
 writer_at x response = if response.status == 206 then None else Some x
 
-abbrev pub represented : ℕ → Entry → Response → Exchange → Representation
-represented r e response w = record {
+abbrev pub new_representation : ℕ → Entry → Response → Exchange → Representation
+new_representation r e response w = record {
   key = w.request.key;
   head = founded_head e.now response w;
   body = nothing;
@@ -45,7 +45,7 @@ represented r e response w = record {
 abbrev pub founded_at : Tables → Entry → ℕ → Event → Option Representation
 founded_at t e r (event.Head x response) =
     if is_founding (case_at t e) && x == r
-    then option_map (represented r e response) (t.exchange x) else None
+    then option_map (new_representation r e response) (t.exchange x) else None
 founded_at t e r _ = None
 
 -- UPDATED
@@ -75,33 +75,33 @@ abbrev pub updates : Tables → Entry → ℕ → Exchange → Representation �
 updates t e r w v =
     is_updating (case_at t e) && is_number w.aim r && not (v.is_lost || loses_in r e.acts)
 
-abbrev pub renewed : Tables → Entry → ℕ → Response → Exchange → Representation → Representation
-renewed t e x response w v = record v {
+abbrev pub with_renewed_head : Tables → Entry → ℕ → Response → Exchange → Representation → Representation
+with_renewed_head t e x response w v = record v {
   head = updated_head e.now response w v.head;
   writer = if is_joining (case_at t e) && resumes t response w v then Some x else v.writer;
 }
 
-abbrev pub headed :
+abbrev pub representation_after_head :
     Tables → Entry → ℕ → ℕ → Response → Option Exchange → Representation → Representation
-headed t e r x response None v = v
-headed t e r x response (Some w) v =
-    if updates t e r w v then renewed t e x response w v else v
+representation_after_head t e r x response None v = v
+representation_after_head t e r x response (Some w) v =
+    if updates t e r w v then with_renewed_head t e x response w v else v
 
 -- FILLED
 
 -- with a piece of its family, which is stored as long as nothing of it was lost
-abbrev pub filled : Bool → ℕ → ℕ → List ℕ → Representation → Representation
-filled is_kept at x bytes v = record v {
-  body = written at x bytes v.body;
-  stored = if is_kept then written at x bytes v.stored else v.stored;
+abbrev pub with_stored_bytes : Bool → ℕ → ℕ → List ℕ → Representation → Representation
+with_stored_bytes is_kept at x bytes v = record v {
+  body = cells_with at x bytes v.body;
+  stored = if is_kept then cells_with at x bytes v.stored else v.stored;
   reach = max v.reach (at + length bytes);
   size = if is_kept then v.size + length bytes else v.size;
 }
 
-abbrev pub pieced : Entry → ℕ → ℕ → List ℕ → Option Exchange → Representation → Representation
-pieced e r x bytes None v = v
-pieced e r x bytes (Some w) v =
-    if family x w == r then filled (not (v.is_lost || loses_in r e.acts)) (front w) x bytes v else v
+abbrev pub representation_after_piece : Entry → ℕ → ℕ → List ℕ → Option Exchange → Representation → Representation
+representation_after_piece e r x bytes None v = v
+representation_after_piece e r x bytes (Some w) v =
+    if family x w == r then with_stored_bytes (not (v.is_lost || loses_in r e.acts)) (front w) x bytes v else v
 
 -- ENDED
 
@@ -110,8 +110,8 @@ length_in None = 0
 length_in (Some w) = length w.body
 
 -- its length is what came, where nothing told it before
-abbrev pub ended : ℕ → Representation → Representation
-ended n v = record v { head = record v.head { total = option_or v.head.total (Some n) } }
+abbrev pub with_total_if_none : ℕ → Representation → Representation
+with_total_if_none n v = record v { head = record v.head { total = option_or v.head.total (Some n) } }
 
 -- AFTER AN ENTRY
 
@@ -119,10 +119,10 @@ ended n v = record v { head = record v.head { total = option_or v.head.total (So
 abbrev pub representation_heard : Tables → Entry → ℕ → Event → Representation → Representation
 representation_heard t e r (event.Start c request) v = v
 representation_heard t e r (event.Poll c want) v = v
-representation_heard t e r (event.Head x response) v = headed t e r x response (t.exchange x) v
-representation_heard t e r (event.Piece x bytes) v = pieced e r x bytes (t.exchange x) v
+representation_heard t e r (event.Head x response) v = representation_after_head t e r x response (t.exchange x) v
+representation_heard t e r (event.Piece x bytes) v = representation_after_piece e r x bytes (t.exchange x) v
 representation_heard t e r (event.End x) v =
-    if x == r then ended (length_in (t.exchange x)) v else v
+    if x == r then with_total_if_none (length_in (t.exchange x)) v else v
 representation_heard t e r (event.Fault x) v = v
 representation_heard t e r (event.Cancel c) v = v
 representation_heard t e r (event.Doom key) v = v

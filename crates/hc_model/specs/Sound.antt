@@ -9,7 +9,7 @@ use Rattle.hc_event.specs.declared.place.BoundBy.{BoundBy}
 use Rattle.hc_event.specs.declared.place.BoundBy.TheVariants as by
 use Rattle.hc_model.specs.Entries.{History, Contents}
 use Rattle.hc_model.specs.Rows.{Tables, Exchange, Representation, Consumer}
-use Rattle.hc_model.specs.Exchanges.{base, promised, front, family, is_headless}
+use Rattle.hc_model.specs.Exchanges.{base, promised_bytes, front, family, is_headless}
 use Rattle.hc_model.specs.Reading.{is_written, bound, offset, hi_of, own_open}
 use Rattle.hc_model.specs.Writers.{came_alone}
 use Rattle.hc_model.specs.Tables.{tables}
@@ -75,7 +75,7 @@ pub data IsAbout (t : Tables) (r x : ℕ) : Type 0 where
 pub record Waits (t : Tables) : Type 0 where
   pub fronts : (x : ℕ) (w : Exchange) (v : Representation) (p : ℕ) → t.exchange x ≡ Some w →
       w.is_open ≡ true → is_some w.head ≡ true → t.representation (family x w) ≡ Some v →
-      front w ≤ p → IsPromised (promised w) w p → v.body p ≡ None
+      front w ≤ p → IsPromised (promised_bytes w) w p → v.body p ≡ None
   pub holes : (x : ℕ) (w : Exchange) (r : ℕ) (v : Representation) (p : ℕ) → t.exchange x ≡ Some w →
       w.is_open ≡ true → w.head ≡ None → w.aim ≡ Some r → t.representation r ≡ Some v →
       InHole w.need p → v.body p ≡ None
@@ -98,14 +98,14 @@ abbrev pub OneFirst : Tables → Type 0
 OneFirst t = (r c d : ℕ) → IsFirst t r c → IsFirst t r d → c ≡ d
 
 -- the exclusive writer of r: the first one, until r is lost, and then the detached reader
-pub data HasPen (t : Tables) (r : ℕ) (v : Representation) (c : ℕ) : Type 0 where
-  first : v.is_lost ≡ false → IsFirst t r c → HasPen t r v c
-  alone : v.is_lost ≡ true → v.alone ≡ Some c → HasPen t r v c
+pub data IsExclusiveWriter (t : Tables) (r : ℕ) (v : Representation) (c : ℕ) : Type 0 where
+  first : v.is_lost ≡ false → IsFirst t r c → IsExclusiveWriter t r v c
+  alone : v.is_lost ≡ true → v.alone ≡ Some c → IsExclusiveWriter t r v c
 
 -- a bound consumer to which no failure is due reads with others from a writing that is on, is the exclusive writer, or needs nothing more
 pub data IsServed (t : Tables) (r : ℕ) (v : Representation) (c : ℕ) (k : Consumer) : Type 0 where
   shares : is_written t v ≡ true → IsServed t r v c k
-  writes : HasPen t r v c → IsServed t r v c k
+  writes : IsExclusiveWriter t r v c → IsServed t r v c k
   reads : (hi : ℕ) → hi_of t k.place ≡ Some hi → Covers v.stored (offset t k) hi →
       IsServed t r v c k
 
@@ -113,7 +113,7 @@ pub data IsServed (t : Tables) (r : ℕ) (v : Representation) (c : ℕ) (k : Con
 pub data IsHad (t : Tables) (r : ℕ) (v : Representation) (x : ℕ) : Type 0 where
   shared : is_written t v ≡ true → v.writer ≡ Some x → IsHad t r v x
   own : (c : ℕ) (k : Consumer) → IsBound t r c k → own_open t k ≡ Some x → k.due ≡ None →
-      HasPen t r v c → IsHad t r v x
+      IsExclusiveWriter t r v c → IsHad t r v x
 
 pub record Writes (t : Tables) : Type 0 where
   pub one_first : OneFirst t
@@ -139,7 +139,7 @@ end_from from (Some n) = Some (from + n)
 
 -- where the promise of an exchange ends
 abbrev pub promised_end : Exchange → Option ℕ
-promised_end w = end_from (base w) (promised w)
+promised_end w = end_from (base w) (promised_bytes w)
 
 -- while the writing is on, just what its exchange has brought up to its front is stored, and it promises all that is missing
 pub record IsGrowing (t : Tables) (r : ℕ) (v : Representation) (x : ℕ) (w : Exchange) : Type 0 where

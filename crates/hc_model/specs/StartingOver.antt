@@ -14,10 +14,10 @@ use Rattle.hc_model.specs.Dooms.{doomed, is_key}
 use Rattle.hc_model.specs.Gone.{goes_in}
 
 -- the exchange whose head a consumer waits for, to found or to join by it
-abbrev pub awaited : Place → Option ℕ
-awaited (place.Turn x) = Some x
-awaited (place.Bound r lo hi (by.FirstHole y)) = Some y
-awaited _ = None
+abbrev pub awaited_exchange : Place → Option ℕ
+awaited_exchange (place.Turn x) = Some x
+awaited_exchange (place.Bound r lo hi (by.FirstHole y)) = Some y
+awaited_exchange _ = None
 
 -- it waits, or is bound by a first hole whose exchange has no head yet
 abbrev pub waits_at : Tables → Place → Bool

@@ -56,8 +56,8 @@ held_at t c o n (place.Bound r lo hi by) = held_of_lost c o n (t.representation 
 held_at t c o n _ = None
 
 -- what came and isn't stored, for who reads an answer past the store or goes on alone with what was lost
-abbrev pub held : Tables → ℕ → Consumer → ℕ → Option Run
-held t c k n = held_at t c (offset t k) n k.place
+abbrev pub run_held_for : Tables → ℕ → Consumer → ℕ → Option Run
+run_held_for t c k n = held_at t c (offset t k) n k.place
 
 -- THE STEP
 
@@ -67,7 +67,7 @@ read_view t want c k = record {
   offset = offset t k;
   hi = hi_of t k.place;
   stored = option_map end_of (stored_ahead t k want);
-  held = is_some (held t c k want);
+  held = is_some (run_held_for t c k want);
   due = k.due;
   source = source t k;
   next_stored = next_stored t k;
@@ -86,7 +86,7 @@ later_hole t k hole (Some hi) = opens_hole t k.request (bound_row t k) hole
 abbrev pub step_move : Tables → ℕ → ℕ → Consumer → ReadStep → Move
 step_move t want c k step.Ended = Ends
 step_move t want c k (step.Stored upto) = gives (stored_ahead t k (upto - offset t k))
-step_move t want c k step.Held = gives (held t c k (most t want k))
+step_move t want c k step.Held = gives (run_held_for t c k (most t want k))
 step_move t want c k (step.Failed cause) = Fails cause
 step_move t want c k (step.Waits x) = waits_for x (t.exchange x)
 step_move t want c k (step.Hole hole) = later_hole t k hole (hi_of t k.place)

@@ -4,7 +4,7 @@ use Rattle.hc_fields.specs.FirstValues.{has_field}
 use Rattle.hc_event.specs.declared.event.Event.{Event}
 use Rattle.hc_event.specs.declared.event.Event.TheVariants as event
 use Rattle.hc_sparse.specs.Cells.{Covers}
-use Rattle.hc_validate.specs.Updates.{is_modest}
+use Rattle.hc_validate.specs.Updates.{is_within_limits}
 use Rattle.hc_model.specs.Entries.{History}
 use Rattle.hc_model.specs.Origins.{HasByte}
 use Rattle.hc_model.specs.Reading.{is_written}
@@ -24,18 +24,18 @@ pub record StoredHeads (t : Tables) : Type 0 where
       has_field (codes "content-range") v.head.fields ≡ false
 
 -- a head that comes has no more fields than one from outside may have
-abbrev pub IsModestHead : Event → Type 0
-IsModestHead (event.Head x response) = is_modest response.fields ≡ true
-IsModestHead _ = Unit {0}
+abbrev pub IsHeadWithinLimits : Event → Type 0
+IsHeadWithinLimits (event.Head x response) = is_within_limits response.fields ≡ true
+IsHeadWithinLimits _ = Unit {0}
 
-abbrev pub HeadsAreModest : History → Type 0
-HeadsAreModest [] = Unit {0}
-HeadsAreModest (e ∷ h) = HeadsAreModest h × IsModestHead e.event
+abbrev pub HeadsAreWithinLimits : History → Type 0
+HeadsAreWithinLimits [] = Unit {0}
+HeadsAreWithinLimits (e ∷ h) = HeadsAreWithinLimits h × IsHeadWithinLimits e.event
 
 -- and so has each that is stored
-abbrev pub AreModest : Tables → Type 0
-AreModest t =
-    (r : ℕ) (v : Representation) → t.representation r ≡ Some v → is_modest v.head.fields ≡ true
+abbrev pub AreWithinLimits : Tables → Type 0
+AreWithinLimits t =
+    (r : ℕ) (v : Representation) → t.representation r ≡ Some v → is_within_limits v.head.fields ≡ true
 
 -- TAGS
 

@@ -50,9 +50,9 @@ openings_after (Some o) xs = o.x ∷ xs
 abbrev pub founds : Tables → Entry → Option ℕ
 founds t e = if is_founding (case_at t e) then exchange_in e.event else None
 
-abbrev pub added : Option ℕ → List ℕ → List ℕ
-added None rs = rs
-added (Some r) rs = r ∷ rs
+abbrev pub with_item_first : Option ℕ → List ℕ → List ℕ
+with_item_first None rs = rs
+with_item_first (Some r) rs = r ∷ rs
 
 -- WHO WAS BOUND LAST
 
@@ -99,7 +99,7 @@ after_accepted t e = record {
   starts = starts_after e.event t.starts;
   opened = opened_after (opening_in e.acts) t.opened;
   openings = openings_after (opening_in e.acts) t.openings;
-  founded = added (founds t e) t.founded;
+  founded = with_item_first (founds t e) t.founded;
   used = to_front (binds t e) t.used;
   exchange = λ x. exchange_after t e x (t.exchange x);
   representation = λ r. representation_after t e r (t.representation r);
@@ -129,8 +129,8 @@ abbrev pub bytes_in : List Run → ℕ
 bytes_in runs = sum_by (λ (run : Run). length run.bytes) runs
 
 -- a representation as a store begins with it
-abbrev pub loaded : Content → Representation
-loaded item = record {
+abbrev pub representation_of_content : Content → Representation
+representation_of_content item = record {
   key = item.key;
   head = sealed_head kind.Growing item.head.total item.head;
   body = cells_of item.runs;
@@ -147,8 +147,8 @@ abbrev pub numbers : List Content → List ℕ
 numbers items = map (λ (item : Content). item.r) items
 
 -- the tables of a store that begins with these contents
-abbrev pub begun : Contents → Tables
-begun contents = record {
+abbrev pub first_tables : Contents → Tables
+first_tables contents = record {
   moment = contents.now;
   entries = 0;
   received = 0;
@@ -159,10 +159,10 @@ begun contents = record {
   founded = reverse (numbers contents.items);
   used = reverse (numbers contents.items);
   exchange = λ x. None;
-  representation = λ r. option_map loaded (find (λ (item : Content). item.r == r) contents.items);
+  representation = λ r. option_map representation_of_content (find (λ (item : Content). item.r == r) contents.items);
   consumer = λ c. None;
 }
 
 unfoldable pub tables : Contents → History → Tables
-tables contents [] = begun contents
+tables contents [] = first_tables contents
 tables contents (e ∷ h) = after (tables contents h) e

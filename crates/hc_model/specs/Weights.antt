@@ -12,7 +12,7 @@ use Rattle.hc_rules.specs.declared.room.Write.TheVariants as write
 use Rattle.hc_rules.specs.declared.room.Room.{Room}
 use Rattle.hc_rules.specs.declared.room.Room.TheVariants as room
 use Rattle.hc_rules.specs.Rooms.{weight_of, room_of}
-use Rattle.hc_model.specs.Entries.{Entry, unanswered}
+use Rattle.hc_model.specs.Entries.{Entry, entry_without_acts}
 use Rattle.hc_model.specs.Rows.{Tables, Exchange, Representation}
 use Rattle.hc_model.specs.Exchanges.{family, exchange_at, is_for}
 use Rattle.hc_model.specs.Currents.{is_current}
@@ -82,7 +82,7 @@ room_by limits t e (Some write) =
 -- whether there is room for what an event is to write
 unfoldable pub room_for : Limits → Tables → ℕ → Event → Room
 room_for limits t now event =
-    let e = unanswered now event in room_by limits t e (write_in t e event)
+    let e = entry_without_acts now event in room_by limits t e (write_in t e event)
 
 abbrev pub first_idle : Tables → Entry → Room → List ℕ
 first_idle t e (room.After count) = take count (idle t e)
@@ -91,4 +91,4 @@ first_idle t e room.Full = []
 
 -- which representations make room for it
 abbrev pub evicted : Limits → Tables → ℕ → Event → List ℕ
-evicted limits t now event = first_idle t (unanswered now event) (room_for limits t now event)
+evicted limits t now event = first_idle t (entry_without_acts now event) (room_for limits t now event)

@@ -66,8 +66,8 @@ first_found f [] = None
 first_found f (x ∷ xs) = option_or (f x) (first_found f xs)
 
 -- the representation whose kind and total are sealed, since an exchange of its family ends without a piece
-abbrev pub sealed : Tables → Entry → Option ℕ
-sealed t e = first_found (seals_at t e) t.openings
+abbrev pub sealed_representation : Tables → Entry → Option ℕ
+sealed_representation t e = first_found (seals_at t e) t.openings
 
 -- BY AN ENTRY
 
@@ -75,7 +75,7 @@ sealed t e = first_found (seals_at t e) t.openings
 abbrev pub written_in : Tables → Entry → Event → Option ℕ
 written_in t e (event.Head x response) = head_writes t e x response (t.exchange x)
 written_in t e (event.Piece x bytes) = piece_writes t x (t.exchange x)
-written_in t e _ = sealed t e
+written_in t e _ = sealed_representation t e
 
 abbrev pub lossless : Entry → Entry
 lossless e = record e { acts = without_losses e.acts }

@@ -63,7 +63,7 @@ end_of_head scan piece n h =
     ap (take n) (sym h.whole ∙ sym (append_assoc h.front (10 ∷ []) h.rest)) ∙ take_at (h.front ++ 10 ∷ []) h.rest n (simp length-append (omega (arith, h.len)))
 
 pub heading_ends : (kind : Kind) (scan : Scan) (text piece : List ℕ) (n : ℕ) (step : Step) → IsHeadEnd scan piece n → length text + n ≤ 32768
-    → HeadMakes kind (text ++ take n piece) step → Leads (Heading kind scan text) (take n piece) step.told step.next
+    → HeadMakes kind (text ++ take n piece) step → Leads (Heading kind scan text) (take n piece) step.tokens step.next
 heading_ends kind scan text piece n step h short makes =
     let last = end_of_head scan piece n h in
     let mid = Heading kind (scan_all scan h.front) (text ++ h.front) in
@@ -72,7 +72,7 @@ heading_ends kind scan text piece n step h short makes =
     let made : HeadMakes kind ((text ++ h.front) ++ 10 ∷ []) step = subst (λ (t : List ℕ). HeadMakes kind t step) whole makes in
     let on = heading_on kind h.front scan text h.open_before (omega (arith, h.len)) in
     let off = leads_byte mid 10 step (ends_head kind (scan_all scan h.front) (text ++ h.front) 10 step (simp length-append (omega (arith, h.len))) (ap is_open h.ends) made) in
-    rw last (leads_on (Heading kind scan text) h.front (10 ∷ []) [] step.told mid step.next on off)
+    rw last (leads_on (Heading kind scan text) h.front (10 ∷ []) [] step.tokens mid step.next on off)
 
 pub heading_long : (kind : Kind) (scan : Scan) (text piece : List ℕ) → IsLong (length text) scan piece → Leads (Heading kind scan text) piece [] (Failed error.HeadTooLong)
 heading_long kind scan text piece h = past h.rest h.some h.whole where
@@ -122,7 +122,7 @@ end_of_line piece at h =
     ap (take (at + 1)) (sym h.whole ∙ sym (append_assoc h.line (10 ∷ []) h.rest)) ∙ take_at (h.line ++ 10 ∷ []) h.rest (at + 1) (simp length-append (omega (arith, h.len)))
 
 pub line_ends : (text piece : List ℕ) (at : ℕ) (step : Step) → IsLineBefore piece at → length text + (at + 1) ≤ 1024
-    → LineMakes (text ++ take (at + 1) piece) step → Leads (Sizing text) (take (at + 1) piece) step.told step.next
+    → LineMakes (text ++ take (at + 1) piece) step → Leads (Sizing text) (take (at + 1) piece) step.tokens step.next
 line_ends text piece at step h short makes =
     let last = end_of_line piece at h in
     let whole : text ++ take (at + 1) piece ≡ (text ++ h.line) ++ 10 ∷ [] =
@@ -130,7 +130,7 @@ line_ends text piece at step h short makes =
     let made : LineMakes ((text ++ h.line) ++ 10 ∷ []) step = subst (λ (t : List ℕ). LineMakes t step) whole makes in
     let on = line_on h.line text h.is_line (omega (arith, h.len)) in
     let off = leads_byte (Sizing (text ++ h.line)) 10 step (ends_line (text ++ h.line) step (simp length-append (omega (arith, h.len))) made) in
-    rw last (leads_on (Sizing text) h.line (10 ∷ []) [] step.told (Sizing (text ++ h.line)) step.next on off)
+    rw last (leads_on (Sizing text) h.line (10 ∷ []) [] step.tokens (Sizing (text ++ h.line)) step.next on off)
 
 pub line_long : (text piece : List ℕ) → IsLongLine (length text) piece → Leads (Sizing text) piece [] (Failed error.BadChunk)
 line_long text piece h = past h.rest h.some h.whole where
@@ -160,7 +160,7 @@ counts_on (b ∷ bytes) left h =
     let rest = counts_on bytes (left - 1) (omega arith) in
     let same : (left - 1) - length bytes ≡ left - length (b ∷ bytes) = omega arith in
     subst (λ (s : Reading). Leads s (b ∷ bytes) (map Byte (b ∷ bytes)) (counts (left - length (b ∷ bytes)))) (sym (counts_some left (omega arith))) (
-      record { told = Byte b ∷ []; next = counts (left - 1) },
+      record { tokens = Byte b ∷ []; next = counts (left - 1) },
       map Byte bytes,
       refl,
       subst (λ (n : ℕ). Leads (counts (left - 1)) bytes (map Byte bytes) (counts n)) same rest,
@@ -170,12 +170,12 @@ counts_on (b ∷ bytes) left h =
 pub chunk_on : (bytes : List ℕ) (left : ℕ) → length bytes ≤ left → 0 < left → Leads (Chunk left) bytes (map Byte bytes) (chunk (left - length bytes))
 unfolding move_of
 chunk_on [] left h some = (refl, ap chunk (less_none left) ∙ chunk_some left some)
-chunk_on (b ∷ []) left h some = (record { told = Byte b ∷ []; next = chunk (left - 1) }, [], refl, (refl, refl), refl)
+chunk_on (b ∷ []) left h some = (record { tokens = Byte b ∷ []; next = chunk (left - 1) }, [], refl, (refl, refl), refl)
 chunk_on (b ∷ c ∷ bytes) left h some =
     let rest = chunk_on (c ∷ bytes) (left - 1) (omega arith) (omega arith) in
     let same : (left - 1) - length (c ∷ bytes) ≡ left - length (b ∷ c ∷ bytes) = omega arith in
     let moved = subst (λ (n : ℕ). Leads (Chunk (left - 1)) (c ∷ bytes) (map Byte (c ∷ bytes)) (chunk n)) same rest in (
-      record { told = Byte b ∷ []; next = chunk (left - 1) },
+      record { tokens = Byte b ∷ []; next = chunk (left - 1) },
       map Byte (c ∷ bytes),
       refl,
       subst (λ (s : Reading). Leads s (c ∷ bytes) (map Byte (c ∷ bytes)) (chunk (left - length (b ∷ c ∷ bytes)))) (sym (chunk_some (left - 1) (omega arith))) moved,
@@ -185,4 +185,4 @@ chunk_on (b ∷ c ∷ bytes) left h some =
 pub runs_on : (bytes : List ℕ) → Leads Runs bytes (map Byte bytes) Runs
 unfolding move_of
 runs_on [] = (refl, refl)
-runs_on (b ∷ bytes) = (record { told = Byte b ∷ []; next = Runs }, map Byte bytes, refl, runs_on bytes, refl)
+runs_on (b ∷ bytes) = (record { tokens = Byte b ∷ []; next = Runs }, map Byte bytes, refl, runs_on bytes, refl)

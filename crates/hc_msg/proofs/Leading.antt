@@ -7,17 +7,17 @@ use Rattle.hc_head.specs.declared.message.MsgError.{MsgError}
 use Rattle.hc_head.proofs.Calls.{asked_one}
 use Rattle.hc_head.proofs.Replies.{heard_one}
 use Rattle.hc_msg.specs.Chunks.{LineSays}
-use Rattle.hc_msg.specs.Reading.{Kind, Requests, Responses, Reading, Failed, Told, Step, Move, Goes, EndsHead, EndsLine, Stays, fails, after_asked, after_heard, after_line, move_of, AsksFor, AnswersWith, HeadMakes, Makes, Leads}
+use Rattle.hc_msg.specs.Reading.{Kind, Requests, Responses, Reading, Failed, Token, Step, Move, Goes, EndsHead, EndsLine, Stays, fails, after_asked, after_heard, after_line, move_of, AsksFor, AnswersWith, HeadMakes, Makes, Leads}
 
 asks_one : (text : List ℕ) (a b : Step) → AsksFor text a → AsksFor text b → a ≡ b
 asks_one text a b x y = x.2 ∙ ap after_asked (asked_one text x.0 y.0 x.1 y.1) ∙ sym y.2
 
-answers_one : (told : Bool) (text : List ℕ) (a b : Step) → AnswersWith told text a → AnswersWith told text b → a ≡ b
-answers_one told text a b x y = x.2 ∙ ap (after_heard told) (heard_one told text x.0 y.0 x.1 y.1) ∙ sym y.2
+answers_one : (tokens : Bool) (text : List ℕ) (a b : Step) → AnswersWith tokens text a → AnswersWith tokens text b → a ≡ b
+answers_one tokens text a b x y = x.2 ∙ ap (after_heard tokens) (heard_one tokens text x.0 y.0 x.1 y.1) ∙ sym y.2
 
 head_one : (kind : Kind) (text : List ℕ) (a b : Step) → HeadMakes kind text a → HeadMakes kind text b → a ≡ b
 head_one Requests text a b x y = asks_one text a b x y
-head_one (Responses told) text a b x y = answers_one told text a b x y
+head_one (Responses tokens) text a b x y = answers_one tokens text a b x y
 
 size_one : (text : List ℕ) (m n : Option ℕ) → LineSays text m → LineSays text n → m ≡ n
 size_one text None None x y = refl
@@ -34,58 +34,58 @@ makes_one (EndsLine text) a b x y = x.2 ∙ ap after_line (size_one text x.0 y.0
 makes_one Stays a b x y = absurd x
 
 -- one reading
-pub record IsOne (told more : List Told) (t u : Reading) : Type 0 where
-  pub tells : told ≡ more
+pub record IsOne (tokens more : List Token) (t u : Reading) : Type 0 where
+  pub tells : tokens ≡ more
   pub next : t ≡ u
 
-pub leads_one : (s : Reading) (text : List ℕ) (told more : List Told) (t u : Reading) → Leads s text told t → Leads s text more u → IsOne told more t u
-leads_one s [] told more t u x y = record { tells = x.0 ∙ sym y.0; next = x.1 ∙ sym y.1 }
-leads_one s (b ∷ text) told more t u x y =
+pub leads_one : (s : Reading) (text : List ℕ) (tokens more : List Token) (t u : Reading) → Leads s text tokens t → Leads s text more u → IsOne tokens more t u
+leads_one s [] tokens more t u x y = record { tells = x.0 ∙ sym y.0; next = x.1 ∙ sym y.1 }
+leads_one s (b ∷ text) tokens more t u x y =
     let same : x.0 ≡ y.0 = makes_one (move_of s b) x.0 y.0 x.2 y.2 in
     let moved : Leads x.0.next text y.1 u = subst (λ (step : Step). Leads step.next text y.1 u) (sym same) y.3 in
     let rest = leads_one x.0.next text x.1 y.1 t u x.3 moved in
     record {
-      tells = x.4 ∙ ap (λ (l : List Told). x.0.told ++ l) rest.tells ∙ ap (λ (step : Step). step.told ++ y.1) same ∙ sym y.4;
+      tells = x.4 ∙ ap (λ (l : List Token). x.0.tokens ++ l) rest.tells ∙ ap (λ (step : Step). step.tokens ++ y.1) same ∙ sym y.4;
       next = rest.next;
     }
 
 -- bytes that are put together
-pub leads_on : (s : Reading) (xs ys : List ℕ) (told more : List Told) (mid t : Reading) → Leads s xs told mid → Leads mid ys more t → Leads s (xs ++ ys) (told ++ more) t
-leads_on s [] ys told more mid t x y =
-    subst (λ (l : List Told). Leads s ys (l ++ more) t) (sym x.0) (subst (λ (m : Reading). Leads m ys more t) x.1 y)
-leads_on s (b ∷ xs) ys told more mid t x y = (
+pub leads_on : (s : Reading) (xs ys : List ℕ) (tokens more : List Token) (mid t : Reading) → Leads s xs tokens mid → Leads mid ys more t → Leads s (xs ++ ys) (tokens ++ more) t
+leads_on s [] ys tokens more mid t x y =
+    subst (λ (l : List Token). Leads s ys (l ++ more) t) (sym x.0) (subst (λ (m : Reading). Leads m ys more t) x.1 y)
+leads_on s (b ∷ xs) ys tokens more mid t x y = (
   x.0,
   x.1 ++ more,
   x.2,
   leads_on x.0.next xs ys x.1 more mid t x.3 y,
-  ap (λ (l : List Told). l ++ more) x.4 ∙ append_assoc x.0.told x.1 more,
+  ap (λ (l : List Token). l ++ more) x.4 ∙ append_assoc x.0.tokens x.1 more,
 )
 
 -- bytes that are taken apart
-pub record IsPartway (s : Reading) (xs ys : List ℕ) (told : List Told) (t : Reading) : Type 0 where
-  pub first : List Told
-  pub second : List Told
+pub record IsPartway (s : Reading) (xs ys : List ℕ) (tokens : List Token) (t : Reading) : Type 0 where
+  pub first : List Token
+  pub second : List Token
   pub mid : Reading
   pub before : Leads s xs first mid
   pub behind : Leads mid ys second t
-  pub whole : told ≡ first ++ second
+  pub whole : tokens ≡ first ++ second
 
-pub leads_apart : (s : Reading) (xs ys : List ℕ) (told : List Told) (t : Reading) → Leads s (xs ++ ys) told t → IsPartway s xs ys told t
-leads_apart s [] ys told t x = record { first = []; second = told; mid = s; before = (refl, refl); behind = x; whole = refl }
-leads_apart s (b ∷ xs) ys told t x =
+pub leads_apart : (s : Reading) (xs ys : List ℕ) (tokens : List Token) (t : Reading) → Leads s (xs ++ ys) tokens t → IsPartway s xs ys tokens t
+leads_apart s [] ys tokens t x = record { first = []; second = tokens; mid = s; before = (refl, refl); behind = x; whole = refl }
+leads_apart s (b ∷ xs) ys tokens t x =
     let rest = leads_apart x.0.next xs ys x.1 t x.3 in
     record {
-      first = x.0.told ++ rest.first;
+      first = x.0.tokens ++ rest.first;
       second = rest.second;
       mid = rest.mid;
       before = (x.0, rest.first, x.2, rest.before, refl);
       behind = rest.behind;
-      whole = x.4 ∙ ap (λ (l : List Told). x.0.told ++ l) rest.whole ∙ sym (append_assoc x.0.told rest.first rest.second);
+      whole = x.4 ∙ ap (λ (l : List Token). x.0.tokens ++ l) rest.whole ∙ sym (append_assoc x.0.tokens rest.first rest.second);
     }
 
 -- one byte
-pub leads_byte : (s : Reading) (b : ℕ) (step : Step) → Makes (move_of s b) step → Leads s (b ∷ []) step.told step.next
-leads_byte s b step h = (step, [], h, (refl, refl), sym (append-nil step.told))
+pub leads_byte : (s : Reading) (b : ℕ) (step : Step) → Makes (move_of s b) step → Leads s (b ∷ []) step.tokens step.next
+leads_byte s b step h = (step, [], h, (refl, refl), sym (append-nil step.tokens))
 
 -- an error stays
 pub stays_failed : (e : MsgError) (text : List ℕ) → Leads (Failed e) text [] (Failed e)

@@ -19,7 +19,7 @@ use Rattle.hc_msg.specs.declared.answer.State.TheVariants as state
 use Rattle.hc_msg.specs.declared.message.WirePart.{WirePart}
 use Rattle.hc_head.specs.Finding.{IsLong}
 use Rattle.hc_head.specs.Responses.{Heard, IsHeardIn}
-use Rattle.hc_msg.specs.Reading.{Reading, Responses, Heading, Failed, Counts, Runs, Sizing, Chunk, ChunkEnd, ChunkReturn, Trailing, Byte, counts, chunk, sized, after_line, Answers, after_heard, heading, body, quiet, fails, Makes, move_of, Leads}
+use Rattle.hc_msg.specs.Reading.{Reading, Responses, Heading, Failed, Counts, Runs, Sizing, Chunk, ChunkEnd, ChunkReturn, Trailing, Byte, counts, chunk, reading_of_chunk, after_line, Answers, after_heard, heading, body, quiet, fails, Makes, move_of, Leads}
 use Rattle.hc_head.specs.Replies.{Hears}
 use Rattle.hc_msg.specs.Taking.{reading_by, Moves, Takes, Completes, Replied, Enters, IsPieceOf, Expects, TrailMoves}
 use Rattle.hc_msg.proofs.Leading.{leads_on, leads_byte, stays_failed}
@@ -28,7 +28,7 @@ use Rattle.hc_msg.proofs.Bytes.{heading_on, heading_ends, heading_long, line_on,
 -- a whole head
 heard_leads : (nb : Bool) (scan : Scan) (held rest : List ℕ) (n : ℕ) (heard : Heard) → IsHeadEnd scan rest n → length held + n ≤ 32768
     → IsHeardIn nb (held ++ take n rest) heard
-    → Leads (Heading (Responses nb) scan held) (take n rest) (after_heard nb heard).told (after_heard nb heard).next
+    → Leads (Heading (Responses nb) scan held) (take n rest) (after_heard nb heard).tokens (after_heard nb heard).next
 heard_leads nb scan held rest n heard ends short comes = heading_ends (Responses nb) scan held rest n (after_heard nb heard) ends short (heard, comes, refl)
 
 no_error : {A : Type 0} (e : MsgError) (value : A) → Ok value ≡ Err e → ⊥
@@ -41,22 +41,22 @@ shown_moves nb scan held rest n most reply.Skips made t heard ends short within 
     let s = Heading (Responses nb) scan held in
     let leads = heard_leads nb scan held rest n heard ends short comes in
     let skipped : Leads s (take n rest) [] (heading (Responses nb)) =
-    subst (λ (h : Heard). Leads s (take n rest) (after_heard nb h).told (after_heard nb h).next) hears leads in
+    subst (λ (h : Heard). Leads s (take n rest) (after_heard nb h).tokens (after_heard nb h).next) hears leads in
     let there : Leads s (take n rest) [] t = subst (λ (r : Reading). Leads s (take n rest) [] r) (sym enters.1) skipped in
     subst (λ (m : Moved). Moves s rest most (Ok m) t) (sym enters.0) (omega (arith, ends.len), within, there)
 shown_moves nb scan held rest n most (reply.Shows response framing) made t heard ends short within hears comes enters =
     let s = Heading (Responses nb) scan held in
     let leads = heard_leads nb scan held rest n heard ends short comes in
     let shown : Leads s (take n rest) (Answers response ∷ []) (body framing) =
-    subst (λ (h : Heard). Leads s (take n rest) (after_heard nb h).told (after_heard nb h).next) hears leads in
+    subst (λ (h : Heard). Leads s (take n rest) (after_heard nb h).tokens (after_heard nb h).next) hears leads in
     let there : Leads s (take n rest) (Answers response ∷ []) t = subst (λ (r : Reading). Leads s (take n rest) (Answers response ∷ []) r) (sym enters.1) shown in
     subst (λ (m : Moved). Moves s rest most (Ok m) t) (sym enters.0) (within, there)
 
 pub head_moves : (nb : Bool) (scan : Scan) (held rest : List ℕ) (n most : ℕ) (rep : Reply) (result : Result Reply MsgError) (made : Moved) (t : Reading) → IsHeadEnd scan rest n → length held + n ≤ 32768 → n ≤ length rest
     → Replied nb (held ++ take n rest) result → result ≡ Ok rep → Enters nb rep n made t → Moves (Heading (Responses nb) scan held) rest most (Ok made) t
 head_moves nb scan held rest n most rep result made t ends short within (inl failed) is enters = absurd (no_error error.NoMemory rep (sym is ∙ failed))
-head_moves nb scan held rest n most rep result made t ends short within (inr told) is enters =
-    shown_moves nb scan held rest n most rep made t told.heard ends short within (subst (λ (r : Result Reply MsgError). Hears r told.heard) is told.hears) told.comes enters
+head_moves nb scan held rest n most rep result made t ends short within (inr tokens) is enters =
+    shown_moves nb scan held rest n most rep made t tokens.heard ends short within (subst (λ (r : Result Reply MsgError). Hears r tokens.heard) is tokens.hears) tokens.comes enters
 
 refused_fails : (nb : Bool) (scan : Scan) (held rest : List ℕ) (n most : ℕ) (e : MsgError) (t : Reading) (heard : Heard) → IsHeadEnd scan rest n → length held + n ≤ 32768
     → Hears (Err e) heard → IsHeardIn nb (held ++ take n rest) heard → Moves (Heading (Responses nb) scan held) rest most (Err e) t
@@ -64,7 +64,7 @@ refused_fails nb scan held rest n most e t heard ends short (inr memory) comes =
 refused_fails nb scan held rest n most e t heard ends short (inl refused) comes =
     let s = Heading (Responses nb) scan held in
     let leads = heard_leads nb scan held rest n heard ends short comes in
-    let failed : Leads s (take n rest) [] (Failed e) = subst (λ (h : Heard). Leads s (take n rest) (after_heard nb h).told (after_heard nb h).next) refused leads in
+    let failed : Leads s (take n rest) [] (Failed e) = subst (λ (h : Heard). Leads s (take n rest) (after_heard nb h).tokens (after_heard nb h).next) refused leads in
     inr (subst (λ (l : List ℕ). Leads s l [] (Failed e)) (take-append-drop n rest)
     (leads_on s (take n rest) (drop n rest) [] [] (Failed e) (Failed e) failed (stays_failed e (drop n rest))))
 
@@ -73,9 +73,9 @@ pub head_fails : (nb : Bool) (scan : Scan) (held rest : List ℕ) (n most : ℕ)
 head_fails nb scan held rest n most e f result t ends short (inl failed) is same =
     let memory : e ≡ error.NoMemory = cc in
     inl (same ∙ memory)
-head_fails nb scan held rest n most e f result t ends short (inr told) is same =
+head_fails nb scan held rest n most e f result t ends short (inr tokens) is same =
     subst (λ (x : MsgError). Moves (Heading (Responses nb) scan held) rest most (Err x) t) (sym same)
-    (refused_fails nb scan held rest n most e t told.heard ends short (subst (λ (r : Result Reply MsgError). Hears r told.heard) is told.hears) told.comes)
+    (refused_fails nb scan held rest n most e t tokens.heard ends short (subst (λ (r : Result Reply MsgError). Hears r tokens.heard) is tokens.hears) tokens.comes)
 
 pub head_long : (nb : Bool) (scan : Scan) (held rest : List ℕ) (most : ℕ) (e : MsgError) (t : Reading) → e ≡ error.HeadTooLong → IsLong (length held) scan rest
     → Moves (Heading (Responses nb) scan held) rest most (Err e) t
@@ -103,7 +103,7 @@ line_stays held rest grown most t line short grows there some =
     (some, omega arith, rw (all, there, grows) (line_on rest held line short))
 
 line_leads : (held rest : List ℕ) (at : ℕ) (size : Option ℕ) → IsLineBefore rest at → length held + (at + 1) ≤ 1024 → LineSays (held ++ take (at + 1) rest) size
-    → Leads (Sizing held) (take (at + 1) rest) (after_line size).told (after_line size).next
+    → Leads (Sizing held) (take (at + 1) rest) (after_line size).tokens (after_line size).next
 line_leads held rest at size line short says = line_ends held rest at (after_line size) line short (size, says, refl)
 
 pub line_bad : (held rest : List ℕ) (at most : ℕ) (t : Reading) → IsLineBefore rest at → length held + (at + 1) ≤ 1024 → LineSays (held ++ take (at + 1) rest) None
@@ -113,7 +113,7 @@ line_bad held rest at most t line short says =
     (leads_on (Sizing held) (take (at + 1) rest) (drop (at + 1) rest) [] [] (Failed error.BadChunk) (Failed error.BadChunk)
     (line_leads held rest at None line short says) (stays_failed error.BadChunk (drop (at + 1) rest))))
 
-pub line_moves : (held rest : List ℕ) (at most size : ℕ) (t : Reading) → IsLineBefore rest at → length held + (at + 1) ≤ 1024 → at < length rest → LineSays (held ++ take (at + 1) rest) (Some size) → t ≡ sized size
+pub line_moves : (held rest : List ℕ) (at most size : ℕ) (t : Reading) → IsLineBefore rest at → length held + (at + 1) ≤ 1024 → at < length rest → LineSays (held ++ take (at + 1) rest) (Some size) → t ≡ reading_of_chunk size
     → Moves (Sizing held) rest most (Ok (moved.Passes (at + 1))) t
 line_moves held rest at most size t line short within says there =
     (omega arith, omega arith, rw there (line_leads held rest at (Some size) line short says))
@@ -190,11 +190,11 @@ chunk_return_moves nb next held rest most (Err e) some expects there none =
 pub trail_moves : (place : Trailer) (count : ℕ) (rest : List ℕ) (most : ℕ) (result : Result Moved MsgError) (t : Reading) → 0 < length rest
     → TrailMoves (trail place count (get_or rest 0 0)) result t → Moves (Trailing place count) rest most result t
 unfolding move_of
-trail_moves place count rest most (Ok made) t some told =
-    subst (λ (m : Moved). Moves (Trailing place count) rest most (Ok m) t) (sym told.0)
-    (byte_passes (Trailing place count) t rest most some (sym told.1))
-trail_moves place count rest most (Err e) t some told =
-    byte_fails (Trailing place count) t rest most e some (sym told.1)
+trail_moves place count rest most (Ok made) t some tokens =
+    subst (λ (m : Moved). Moves (Trailing place count) rest most (Ok m) t) (sym tokens.0)
+    (byte_passes (Trailing place count) t rest most some (sym tokens.1))
+trail_moves place count rest most (Err e) t some tokens =
+    byte_fails (Trailing place count) t rest most e some (sym tokens.1)
 
 -- calls that follow one another
 further : (piece : List ℕ) (used n : ℕ) → take (used + n) piece ≡ take used piece ++ take n (drop used piece)

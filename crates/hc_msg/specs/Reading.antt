@@ -48,14 +48,14 @@ pub data Reading : Type 0 where
   Failed : (e : MsgError) → Reading
 
 -- What is told.
-pub data Told : Type 0 where
-  Asks : (request : WireRequest) → Told
-  Answers : (response : Response) → Told
-  Byte : (b : ℕ) → Told
+pub data Token : Type 0 where
+  Asks : (request : WireRequest) → Token
+  Answers : (response : Response) → Token
+  Byte : (b : ℕ) → Token
 
 -- What is told at a byte, and where the reading stands behind it.
 pub record Step : Type 0 where
-  pub told : List Told
+  pub tokens : List Token
   pub next : Reading
 
 -- What a byte makes of a reading: a step, or what a whole head or a whole chunk line says.
@@ -67,7 +67,7 @@ pub data Move : Type 0 where
   Stays : Move
 
 abbrev pub quiet : Reading → Step
-quiet next = record { told = []; next = next }
+quiet next = record { tokens = []; next = next }
 
 abbrev pub fails : MsgError → Step
 fails e = quiet (Failed e)
@@ -90,21 +90,21 @@ body (framing.Counted n) = counts n
 body framing.ToClose = Runs
 
 abbrev pub after_asked : Asked → Step
-after_asked (Grants request) = record { told = Asks request ∷ []; next = heading Requests }
+after_asked (Grants request) = record { tokens = Asks request ∷ []; next = heading Requests }
 after_asked (Denies e) = fails e
 
 abbrev pub after_heard : Bool → Heard → Step
 after_heard no_body Skips = quiet (heading (Responses no_body))
-after_heard no_body (Shows response f) = record { told = Answers response ∷ []; next = body f }
+after_heard no_body (Shows response f) = record { tokens = Answers response ∷ []; next = body f }
 after_heard no_body (Refuses e) = fails e
 
 -- behind a line that announces so many bytes
-abbrev pub sized : ℕ → Reading
-sized size = if size == 0 then Trailing trailer.Beginning 0 else Chunk size
+abbrev pub reading_of_chunk : ℕ → Reading
+reading_of_chunk size = if size == 0 then Trailing trailer.Beginning 0 else Chunk size
 
 abbrev pub after_line : Option ℕ → Step
 after_line None = fails error.BadChunk
-after_line (Some size) = quiet (sized size)
+after_line (Some size) = quiet (reading_of_chunk size)
 
 abbrev pub after_trail : Trails → Step
 after_trail (On place count) = quiet (Trailing place count)
@@ -124,11 +124,11 @@ unfoldable pub move_of : Reading → ℕ → Move
 move_of (Heading kind scan text) b =
     if nat_lt (length text) 32768 then head_move kind (scan_byte scan b) (text ++ b ∷ [])
     else Goes (fails error.HeadTooLong)
-move_of (Counts left) b = Goes (record { told = Byte b ∷ []; next = counts (left - 1) })
-move_of Runs b = Goes (record { told = Byte b ∷ []; next = Runs })
+move_of (Counts left) b = Goes (record { tokens = Byte b ∷ []; next = counts (left - 1) })
+move_of Runs b = Goes (record { tokens = Byte b ∷ []; next = Runs })
 move_of (Sizing text) b =
     if nat_lt (length text) 1024 then line_move b (text ++ b ∷ []) else Goes (fails error.BadChunk)
-move_of (Chunk left) b = Goes (record { told = Byte b ∷ []; next = chunk (left - 1) })
+move_of (Chunk left) b = Goes (record { tokens = Byte b ∷ []; next = chunk (left - 1) })
 move_of ChunkEnd b = Goes (if b == 13 then quiet ChunkReturn else fails error.BadChunk)
 move_of ChunkReturn b = Goes (if b == 10 then quiet (Sizing []) else fails error.BadChunk)
 move_of (Trailing place count) b = Goes (after_trail (trail place count b))
@@ -160,8 +160,8 @@ Makes (EndsLine text) step = LineMakes text step
 Makes Stays step = ⊥
 
 -- The bytes lead from one reading to another, and tell this.
-abbrev pub Leads : Reading → List ℕ → List Told → Reading → Type 0
-Leads s [] told t = (told ≡ []) × (t ≡ s)
-Leads s (b ∷ text) told t =
-    (step : Step) × (rest : List Told) × Makes (move_of s b) step × Leads step.next text rest t
-    × (told ≡ step.told ++ rest)
+abbrev pub Leads : Reading → List ℕ → List Token → Reading → Type 0
+Leads s [] tokens t = (tokens ≡ []) × (t ≡ s)
+Leads s (b ∷ text) tokens t =
+    (step : Step) × (rest : List Token) × Makes (move_of s b) step × Leads step.next text rest t
+    × (tokens ≡ step.tokens ++ rest)

@@ -17,7 +17,7 @@ use Rattle.hc_msg.specs.declared.trailer.Trails.{Trails}
 use Rattle.hc_msg.specs.Chunks.{LineSays}
 use Rattle.hc_head.specs.Replies.{RepliesTo}
 use Rattle.hc_head.specs.Scans.{is_open}
-use Rattle.hc_msg.specs.Reading.{Reading, Heading, Responses, Counts, Runs, Sizing, Chunk, ChunkEnd, ChunkReturn, Trailing, Whole, Done, Failed, Told, Answers, Byte, Leads, heading, body, quiet, fails, after_trail}
+use Rattle.hc_msg.specs.Reading.{Reading, Heading, Responses, Counts, Runs, Sizing, Chunk, ChunkEnd, ChunkReturn, Trailing, Whole, Done, Failed, Token, Answers, Byte, Leads, heading, body, quiet, fails, after_trail}
 
 -- where the reading of an answer stands, of which these bytes are held
 abbrev pub reading_by : Bool → State → List ℕ → Reading
@@ -108,15 +108,15 @@ goes_on (Failed e) = false
 goes_on _ = true
 
 -- bytes of a body
-abbrev pub bytes_told : List ℕ → List Told
-bytes_told bytes = map Byte bytes
+abbrev pub byte_tokens : List ℕ → List Token
+byte_tokens bytes = map Byte bytes
 
 -- the first n bytes give the part
 abbrev pub GivesPart : Reading → List ℕ → ℕ → ℕ → WirePart → Reading → Type 0
 GivesPart s piece most n (part.Head response) t = Leads s (take n piece) (Answers response ∷ []) t
 GivesPart s piece most n (part.Piece bytes) t =
     (bytes ≡ take n piece) × (0 < n) × (n ≡ min most (stretch s (length piece)))
-    × Leads s (take n piece) (bytes_told (take n piece)) t
+    × Leads s (take n piece) (byte_tokens (take n piece)) t
 GivesPart s piece most n part.End t = ⊥
 
 -- what is made of the first bytes of a piece that isn't empty
@@ -141,7 +141,7 @@ pub record GivesBytes (s : Reading) (piece : List ℕ) (most used : ℕ) (bytes 
   pub bytes_are : bytes ≡ take (length bytes) (drop before piece)
   pub some : 0 < length bytes
   pub longest : length bytes ≡ min most (stretch mid (length (drop before piece)))
-  pub gives : Leads mid bytes (bytes_told bytes) t
+  pub gives : Leads mid bytes (byte_tokens bytes) t
 
 -- what the first bytes of a piece complete
 abbrev pub Completes : Reading → List ℕ → ℕ → ℕ → Option WirePart → Reading → Type 0
@@ -177,10 +177,10 @@ ending Done = Ok part.End
 ending (Failed e) = Err e
 ending _ = Err error.CutOff
 
-abbrev pub ended : Reading → Reading
-ended (Counts left) = Done
-ended Runs = Done
-ended Whole = Done
-ended Done = Done
-ended (Failed e) = Failed e
-ended _ = Failed error.CutOff
+abbrev pub reading_at_end : Reading → Reading
+reading_at_end (Counts left) = Done
+reading_at_end Runs = Done
+reading_at_end Whole = Done
+reading_at_end Done = Done
+reading_at_end (Failed e) = Failed e
+reading_at_end _ = Failed error.CutOff

@@ -2,8 +2,8 @@
 ghost use Rattle.std.specs.Prelude.{◌≡◌, ◌<◌, ◌≤◌, ◌+◌, ◌++◌, ℕ, Bool, List, [], true, length, min, OnOk};
 ghost use Rattle.hc_head.specs.Scans.{is_open, IsLineBefore};
 ghost use Rattle.hc_msg.specs.Chunks.{trail};
-ghost use Rattle.hc_msg.specs.Reading.{Responses, Heading, Failed, Counts, Runs, Sizing, Chunk, counts, chunk, body, sized, heading};
-ghost use Rattle.hc_msg.specs.Taking.{reading_by, reading_of, IsSoundAt, IsSound, IsKept, goes_on, Moves, Replied, Takes, ending, ended, Replied, Enters, Sized, IsPieceOf, TrailMoves, Expects};
+ghost use Rattle.hc_msg.specs.Reading.{Responses, Heading, Failed, Counts, Runs, Sizing, Chunk, counts, chunk, body, reading_of_chunk, heading};
+ghost use Rattle.hc_msg.specs.Taking.{reading_by, reading_of, IsSoundAt, IsSound, IsKept, goes_on, Moves, Replied, Takes, ending, reading_at_end, Replied, Enters, Sized, IsPieceOf, TrailMoves, Expects};
 
 use crate::line::{find_line, size_of};
 use crate::message::{Taken, WirePart};
@@ -101,7 +101,7 @@ impl State {
     /// Behind a line that announces a chunk of so many bytes.
     fn after_size(size: u64) -> State
         ensures reading { (no_body : Bool) (held : List ℕ)
-            → reading_by no_body result held ≡ sized size }
+            → reading_by no_body result held ≡ reading_of_chunk size }
         ensures sound { (held : List ℕ) → held ≡ [] → IsSoundAt result held }
     {
         if size == 0 {
@@ -397,7 +397,7 @@ impl Answer {
     /// No further byte comes.
     pub(crate) fn finish(&mut self) -> Result<WirePart, MsgError>
         ensures value { result ≡ ending (reading_of self.old) }
-        ensures after { reading_of self.new ≡ ended (reading_of self.old) }
+        ensures after { reading_of self.new ≡ reading_at_end (reading_of self.old) }
         ensures kept { IsKept self.new }
     {
         match self.state {

@@ -29,7 +29,7 @@ impl Model for ResponseReader {
 
 impl ResponseReader {
     ghost use Rattle.hc_msg.specs.Reading.{Responses, heading};
-    ghost use Rattle.hc_msg.specs.Taking.{Takes, AnswersAgain, StandsAt, ending, ended};
+    ghost use Rattle.hc_msg.specs.Taking.{Takes, AnswersAgain, StandsAt, ending, reading_at_end};
 
     /// A reader at the beginning of an answer. `no_body` tells that the request was a HEAD, whose
     /// answer has no body (RFC 9110 section 9.3.2).
@@ -70,7 +70,7 @@ impl ResponseReader {
     /// whoever asked for it compares the lengths. An error is answered again.
     pub fn finish(&mut self) -> Result<WirePart, MsgError>
         ensures value { result ≡ ending self.old }
-        ensures after { self.new ≡ ended self.old }
+        ensures after { self.new ≡ reading_at_end self.old }
     {
         self.answer.finish()
     }

@@ -13,7 +13,7 @@ use Rattle.hc_event.specs.declared.place.Place.{Place}
 use Rattle.hc_event.specs.declared.place.Place.TheVariants as place
 use Rattle.hc_event.specs.declared.place.BoundBy.{BoundBy}
 use Rattle.hc_event.specs.declared.place.BoundBy.TheVariants as by
-use Rattle.hc_model.specs.Effects.{closed, over, with_consumer, with_exchange}
+use Rattle.hc_model.specs.Effects.{tables_after_close, over, with_consumer, with_exchange}
 use Rattle.hc_model.specs.Effects as effects
 use Rattle.hc_model.specs.Exchanges.{family, is_headless}
 use Rattle.hc_model.specs.Kinds.{brings_to}
@@ -49,7 +49,7 @@ over_rows t x w row = fun_ext (λ y. elim (same_or x y) [
   | inr ne ↦ rw (eqb-other x y ne) refl
 ])
 
-pub closed_is : (t : Tables) (x : ℕ) (w : Exchange) → t.exchange x ≡ Some w → closed x t ≡ with_exchange x (Some (over w)) t
+pub closed_is : (t : Tables) (x : ℕ) (w : Exchange) → t.exchange x ≡ Some w → tables_after_close x t ≡ with_exchange x (Some (over w)) t
 closed_is t x w row = ap (λ (f : ℕ → Option Exchange). record t { exchange = f }) (over_rows t x w row)
 
 -- BEFORE ITS HEAD
@@ -102,7 +102,7 @@ module _ (t : Tables) (law : Lawful t) (x c : ℕ) (w : Exchange) (k : rows.Cons
 
   pub stands_broken : {B : Type 0} {g : Ghosts B} (r mid down u : Rows B g) (q : Consumer) → RowsStand r t → get nat_eq r.consumers c ≡ Some q → LeavesPlace r mid c q
       → down.limits ≡ mid.limits → down.received ≡ mid.received → down.last_start ≡ mid.last_start → down.exchanges ≡ mid.exchanges → down.keys ≡ mid.keys → down.entries ≡ mid.entries → ChangesAt mid.consumers down.consumers c (put_down why)
-      → u.limits ≡ down.limits → u.received ≡ down.received → u.last_start ≡ down.last_start → u.consumers ≡ down.consumers → u.keys ≡ down.keys → u.entries ≡ down.entries → exch.Becomes known.closed x down.exchanges u.exchanges
+      → u.limits ≡ down.limits → u.received ≡ down.received → u.last_start ≡ down.last_start → u.consumers ≡ down.consumers → u.keys ≡ down.keys → u.entries ≡ down.entries → exch.Becomes known.without_exchange x down.exchanges u.exchanges
       → RowsStand u (with_consumer c (Some (effects.put_down why k)) (with_exchange x (Some (over w)) t))
   stands_broken r mid down u q stands at left limits received last exchanges keys entries changes limits_u received_u last_u consumers_u keys_u entries_u closes =
       subst (RowsStand u) (closed_is s x w waits.row)

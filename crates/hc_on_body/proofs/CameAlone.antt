@@ -6,7 +6,7 @@ use Rattle.hc_event.specs.declared.place.Place.{Place}
 use Rattle.hc_event.specs.declared.place.Place.TheVariants as place
 use Rattle.hc_event.specs.declared.place.BoundBy.{BoundBy}
 use Rattle.hc_model.specs.ConsumerRows.{back_in_line}
-use Rattle.hc_model.specs.Effects.{let_go, back_from, gone, waits_for}
+use Rattle.hc_model.specs.Effects.{let_go, back_from, as_gone, waits_for}
 use Rattle.hc_model.specs.Measures.{Measures}
 use Rattle.hc_model.specs.Reading.{is_bound_place}
 use Rattle.hc_model.specs.Rows as rows
@@ -51,7 +51,7 @@ nobody_first t x v s measures there unknown d = by_row (t.consumer d) refl
 
 -- letting go makes nobody one who came alone
 module _ (now q x : ℕ) (t : Tables) where
-  status_gone : (b : Bool) (o : Option Representation) → status_in (if b then option_map gone o else o) ≡ status_in o
+  status_gone : (b : Bool) (o : Option Representation) → status_in (if b then option_map as_gone o else o) ≡ status_in o
   status_gone true None = refl
   status_gone true (Some v) = refl
   status_gone false o = refl

@@ -23,13 +23,13 @@ use Rattle.hc_model.specs.Rows.{Tables, Exchange, Representation}
 use Rattle.hc_state.specs.declared.consumer.Consumer.{Consumer}
 use Rattle.hc_state.specs.declared.rows.Rows.{Rows}
 use Rattle.hc_state.specs.Changes.{ChangesAmong, with_due}
-use Rattle.hc_state.specs.Kept.{IsKept, KeepsConsumer, held_for, held_of, held_alone, unread, unstored}
+use Rattle.hc_state.specs.Kept.{IsKept, KeepsConsumer, held_for, held_of, held_alone, unread, unstored_bytes}
 use Rattle.hc_state.specs.Lines.{has_turn, is_passed, is_away, is_away_at}
 use Rattle.hc_state.specs.Stands.{RowsStand}
 use Rattle.hc_state.specs.Stopped.{with_consumers, NobodyAwaits, due_for}
 use Rattle.hc_state.specs.Stored.{is_first}
-use Rattle.hc_state.proofs.AsideSteps.{live_same}
-use Rattle.hc_state.proofs.Asides.{unstored_moved}
+use Rattle.hc_state.proofs.FallbackSteps.{live_same}
+use Rattle.hc_state.proofs.Fallbacks.{unstored_moved}
 use Rattle.hc_state.proofs.OneOfEach.{entries_same}
 use Rattle.hc_state.proofs.Ties.{consumer_same, exchange_same, key_same, kept_same}
 use Rattle.hc_state.proofs.Words.{none_some, some_is, as_received}
@@ -141,7 +141,7 @@ module _ (t : Tables) (among : ℕ → Bool) (why : Cause) where
     where
       alone_due : (v : Representation) (c : Option ℕ) → held_alone s y w v c ≡ held_alone t y w v c
       alone_due v None = refl
-      alone_due v (Some c) = told_same (unstored s y w v) (λ k. refl) c ∙ unstored_moved t s y w v (t.consumer c)
+      alone_due v (Some c) = told_same (unstored_bytes s y w v) (λ k. refl) c ∙ unstored_moved t s y w v (t.consumer c)
 
       by_row : (z : Option Representation) → held_of s y w z ≡ held_of t y w z
       by_row None = told_same (unread y w) (λ k. refl) w.c

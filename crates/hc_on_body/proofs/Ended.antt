@@ -15,7 +15,7 @@ use Rattle.hc_event.specs.declared.place.Place.TheVariants as place
 use Rattle.hc_event.specs.declared.place.BoundBy.TheVariants as by
 use Rattle.hc_model.specs.Currents.{current, is_number}
 use Rattle.hc_model.specs.Effects.{over, at_end}
-use Rattle.hc_model.specs.Exchanges.{base, front, family, promised, is_open, is_headless, length_by}
+use Rattle.hc_model.specs.Exchanges.{base, front, family, promised_bytes, is_open, is_headless, length_by}
 use Rattle.hc_model.specs.Holes.{absent_from}
 use Rattle.hc_model.specs.Kinds.{brings_to}
 use Rattle.hc_model.specs.Reading.{bound, offset, is_bound_place, base_in, end_in, end_of_direct}
@@ -23,10 +23,10 @@ use Rattle.hc_model.specs.Rows as rows
 use Rattle.hc_model.specs.Rows.{Tables, Exchange, Representation}
 use Rattle.hc_state.specs.Stored.{is_over}
 use Rattle.hc_state.specs.declared.rows.Rows.{Rows}
-use Rattle.hc_state.specs.Kept.{KeepsConsumer, KeepsExchange, KeepsRunning, head_in, held_for, held_of, held_alone, unread, unstored}
+use Rattle.hc_state.specs.Kept.{KeepsConsumer, KeepsExchange, KeepsRunning, head_in, held_for, held_of, held_alone, unread, unstored_bytes}
 use Rattle.hc_state.specs.Lines.{is_away, is_away_at}
 use Rattle.hc_state.specs.Stands.{RowsStand}
-use Rattle.hc_state.proofs.Asides.{same, held_alike}
+use Rattle.hc_state.proofs.Fallbacks.{same, held_alike}
 use Rattle.hc_state.proofs.Closing.{base_over, promise_over}
 use Rattle.hc_state.proofs.OneOfEach.{entries_same, growing_same}
 use Rattle.hc_state.proofs.PastRows.{consumer_alike}
@@ -40,7 +40,7 @@ base_end w = by_head w.head
     by_head None = refl
     by_head (Some response) = refl
 
-pub promise_end : (w : Exchange) → promised (at_end w) ≡ promised w
+pub promise_end : (w : Exchange) → promised_bytes (at_end w) ≡ promised_bytes w
 promise_end w = by_head w.head
   where
     by_head : (h : Option Response) → promise_of (length_by (at_end w) h) ≡ promise_of (length_by w h)
@@ -72,7 +72,7 @@ module _ (t : Tables) (f : ℕ → Option Exchange) (x : ℕ) (w : Exchange) whe
   base_alike : base (at_end w) ≡ base (over w)
   base_alike = base_end w ∙ sym (base_over w)
 
-  end_alike : (p : ℕ) → promised w ≡ Some p → end_in (Some (at_end w)) ≡ end_in (Some (over w))
+  end_alike : (p : ℕ) → promised_bytes w ≡ Some p → end_in (Some (at_end w)) ≡ end_in (Some (over w))
   end_alike p is =
       ap (λ o. end_of_direct o (at_end w)) (promise_end w ∙ is)
       ∙ (ap (λ n. Some (n + p)) base_alike
@@ -80,7 +80,7 @@ module _ (t : Tables) (f : ℕ → Option Exchange) (x : ℕ) (w : Exchange) whe
 
   -- WHAT IS HELD
 
-  unstored_end : (y : ℕ) (v : Representation) (o : Option rows.Consumer) → unstored a y (at_end w) v o ≡ unstored a y (over w) v o
+  unstored_end : (y : ℕ) (v : Representation) (o : Option rows.Consumer) → unstored_bytes a y (at_end w) v o ≡ unstored_bytes a y (over w) v o
   unstored_end y v None = refl
   unstored_end y v (Some k) =
       ap (λ (b : ℕ). if is_bound_place (family y w) k.place && is_number k.own y then drop (absent_from v.stored v.reach (offset a k) (b + length w.body) - b) w.body else []) base_alike
@@ -124,7 +124,7 @@ module _ (t : Tables) (f : ℕ → Option Exchange) (x : ℕ) (w : Exchange) whe
 
 -- ALL OF IT
 
-module _ {B : Type 0} {g : Ghosts B} (u : Rows B g) (t : Tables) (f : ℕ → Option Exchange) (x : ℕ) (w : Exchange) (p : ℕ) (promises : promised w ≡ Some p) (stands : RowsStand u (with_over x w f t)) where
+module _ {B : Type 0} {g : Ghosts B} (u : Rows B g) (t : Tables) (f : ℕ → Option Exchange) (x : ℕ) (w : Exchange) (p : ℕ) (promises : promised_bytes w ≡ Some p) (stands : RowsStand u (with_over x w f t)) where
   pub stands_ended : RowsStand u (with_end x w f t)
   unfolding current
   stands_ended =

@@ -16,7 +16,7 @@ use Rattle.hc_event.specs.declared.place.Place.TheVariants as place
 use Rattle.hc_event.specs.declared.place.BoundBy.{BoundBy}
 use Rattle.hc_model.specs.Currents.{is_number}
 use Rattle.hc_model.specs.Denials.{denial}
-use Rattle.hc_model.specs.Effects.{Does, all_closed, back_from, gone, if_bound, left_with, let_all_go, lost_to, unless_reached}
+use Rattle.hc_model.specs.Effects.{Does, all_closed, back_from, as_gone, if_bound, left_with, let_all_go, lost_to, unless_reached}
 use Rattle.hc_model.specs.ExchangeRows.{with_piece}
 use Rattle.hc_model.specs.Exchanges.{family, front}
 use Rattle.hc_model.specs.Flaws.{Flaw, Loses, flaw_in}
@@ -27,7 +27,7 @@ use Rattle.hc_model.specs.Rows as rows
 use Rattle.hc_model.specs.Rows.{Tables, Exchange, Representation}
 use Rattle.hc_model.specs.Runs.{may_lose}
 use Rattle.hc_model.specs.Sound as sound
-use Rattle.hc_model.specs.Sound.{HasPen, IsBound}
+use Rattle.hc_model.specs.Sound.{IsExclusiveWriter, IsBound}
 use Rattle.hc_model.specs.Weights.{evicted, room_for}
 use Rattle.hc_model.specs.Writers.{exclusive, has_more, offset_in, survivor}
 use Rattle.hc_model.specs.Writes.{written}
@@ -41,14 +41,14 @@ use Rattle.hc_laws.proofs.SharedLossEffects as shared_does
 use Rattle.hc_laws.proofs.Survives.{survivor_offset}
 use Rattle.hc_state.specs.declared.rows.Rows.{Rows}
 use Rattle.hc_state.specs.Facts.{Facts}
-use Rattle.hc_state.specs.Heirs.{MayLoseShared, shared_loss}
-use Rattle.hc_state.specs.Kept.{held_alone, unstored}
+use Rattle.hc_state.specs.DetachedReaders.{MayLoseShared, shared_loss}
+use Rattle.hc_state.specs.Kept.{held_alone, unstored_bytes}
 use Rattle.hc_state.specs.Leaving.{writing_of}
 use Rattle.hc_state.specs.Refused.{Brings, GoesOn, MayHold, MayLoseOwn, MayLosePiece, LosesPiece, Refuses, brought_lost, closes_with, own_loss}
 use Rattle.hc_state.specs.Stands.{Answered, RowsStand}
 use Rattle.hc_model.specs.Flaws.{is_fault}
 use Rattle.hc_state.specs.Stopped.{HoldsNothing}
-use Rattle.hc_state.proofs.Asides.{unstored_moved}
+use Rattle.hc_state.proofs.Fallbacks.{unstored_moved}
 use Rattle.hc_on_leave.proofs.FoundArm.{make_gone}
 use Rattle.hc_on_leave.proofs.LoseAlone.{holds_none}
 use Rattle.hc_on_leave.proofs.LoseTurn.{writes_it, grows, unwritten, survivor_same}
@@ -169,11 +169,11 @@ module _ {B : Type 0} {g : Ghosts B} (r put : Rows B g) (t : Tables) (facts : Fa
     more = (let opens = o.opens in rw opens refl)
 
     writes_alone : exclusive t q v ≡ Some o.c
-    writes_alone = by_pen o.c o.pen refl
+    writes_alone = by_exclusive_writer o.c o.exclusive_writer refl
       where
-        by_pen : (c : ℕ) → HasPen t (family x w) v c → c ≡ o.c → exclusive t q v ≡ Some o.c
-        by_pen c (sound.alone was is) same = false_true (sym it.fresh ∙ was)
-        by_pen c (sound.first fresh is) same =
+        by_exclusive_writer : (c : ℕ) → IsExclusiveWriter t (family x w) v c → c ≡ o.c → exclusive t q v ≡ Some o.c
+        by_exclusive_writer c (sound.alone was is) same = false_true (sym it.fresh ∙ was)
+        by_exclusive_writer c (sound.first fresh is) same =
             let is_first : sound.IsFirst t q o.c = subst (λ n. sound.IsFirst t n o.c) it.of_q (subst (sound.IsFirst t (family x w)) same is) in
             (facts.law.alone.writes q o.c v o.k there it.fresh off is_first o.row o.due).1 more
 
@@ -184,9 +184,9 @@ module _ {B : Type 0} {g : Ghosts B} (r put : Rows B g) (t : Tables) (facts : Fa
           at_first : t.exchange y ≡ Some z
           at_first = sym (ap (λ (s : Tables). s.exchange y) left_is) ∙ at
 
-          by_reader : (c : ℕ) (k : rows.Consumer) → IsBound t q c k → exclusive t q v ≡ Some c → unstored left y z v (left.consumer c) ≡ []
+          by_reader : (c : ℕ) (k : rows.Consumer) → IsBound t q c k → exclusive t q v ≡ Some c → unstored_bytes left y z v (left.consumer c) ≡ []
           by_reader c k (sound.is_bound lo hi how here stood) is =
-              ap (unstored left y z v) (bound_left c lo hi how k here stood ∙ sym here)
+              ap (unstored_bytes left y z v) (bound_left c lo hi how k here stood ∙ sym here)
               ∙ (unstored_moved t left y z v (t.consumer c)
               ∙ (sym (ap (held_alone t y z v) is) ∙ holds_none r.limits t facts q v there it.fresh y z at_first of_q))
 
@@ -226,12 +226,12 @@ module _ {B : Type 0} {g : Ghosts B} (r put : Rows B g) (t : Tables) (facts : Fa
           unmoved : (k : rows.Consumer) → k.place ≡ place.Bound q o.lo o.hi o.how → back_from now q k ≡ k
           unmoved k at = rw at refl
 
-      pub own_answered : (u : Rows B g) (out : List Act) → (MayLoseOwn left now q x w v alone → RowsStand put left → RowsStand u (brought_lost now q x w bytes (gone (lost_to alone v)) (own_loss now q v alone left)))
+      pub own_answered : (u : Rows B g) (out : List Act) → (MayLoseOwn left now q x w v alone → RowsStand put left → RowsStand u (brought_lost now q x w bytes (as_gone (lost_to alone v)) (own_loss now q v alone left)))
           → out ≡ mid ++ (act.Lost q kind ∷ []) → (shelf_of put.entries).faults ≤ (shelf_of u.entries).faults → Answered r.limits (shelf_of r.entries).faults u t before out now ev
       own_answered u out loses told failed =
           answered_lost u _ out [] (alone_does.loses_alone r.limits t facts.law now x bytes w it.row goes q v it.of_q there kind it.fresh off) told failed
           (subst (RowsStand u) (sym (own_tables now q x bytes w v es t apart (exclusive t q v)))
-          (subst (λ (a : Option ℕ). RowsStand u (brought_lost now q x w bytes (gone (lost_to a v)) (own_loss now q v a left))) alone_is (loses may_own refuses.gives.rows)))
+          (subst (λ (a : Option ℕ). RowsStand u (brought_lost now q x w bytes (as_gone (lost_to a v)) (own_loss now q v a left))) alone_is (loses may_own refuses.gives.rows)))
 
   -- IT IS WRITTEN FOR SEVERAL
 
@@ -276,12 +276,12 @@ module _ {B : Type 0} {g : Ghosts B} (r put : Rows B g) (t : Tables) (facts : Fa
         by_place (place.Down why) at = off (ap (is_bound_place q) at)
         by_place place.Over at = off (ap (is_bound_place q) at)
 
-    heir_same : survivor left q v ≡ survivor t q v
-    heir_same = survivor_same t left q v (may_let_go t facts.law) may_left (λ c. ap (λ (o : Option rows.Consumer). (offset_in left o == v.reach) && is_bound q o) (ap (λ (z : Tables). z.consumer c) left_is) ∙ stands_there (t.consumer c))
+    detached_reader_same : survivor left q v ≡ survivor t q v
+    detached_reader_same = survivor_same t left q v (may_let_go t facts.law) may_left (λ c. ap (λ (o : Option rows.Consumer). (offset_in left o == v.reach) && is_bound q o) (ap (λ (z : Tables). z.consumer c) left_is) ∙ stands_there (t.consumer c))
 
     -- who goes on has all that is stored
-    heir_holds : (d : ℕ) (k : rows.Consumer) → survivor t q v ≡ Some d → IsBound t q d k → MayHold (shared_loss now q x v (Some d) left) x w (gone (lost_to (Some d) v))
-    heir_holds d k is (sound.is_bound lo hi how here at) = record {
+    detached_reader_holds : (d : ℕ) (k : rows.Consumer) → survivor t q v ≡ Some d → IsBound t q d k → MayHold (shared_loss now q x v (Some d) left) x w (as_gone (lost_to (Some d) v))
+    detached_reader_holds d k is (sound.is_bound lo hi how here at) = record {
       on = record {
         c = d;
         k = record k { own = Some x };
@@ -313,14 +313,14 @@ module _ {B : Type 0} {g : Ghosts B} (r put : Rows B g) (t : Tables) (facts : Fa
       brings = brings;
       shared = shared;
       holds = λ d is. (
-          let one : survivor t q v ≡ Some d = sym heir_same ∙ is in
+          let one : survivor t q v ≡ Some d = sym detached_reader_same ∙ is in
           let reader = reader_of t q d (survivor_bound t q d v one) in
-          heir_holds d reader.0 one reader.1);
+          detached_reader_holds d reader.0 one reader.1);
     }
 
     pub shared_answered : (u : Rows B g) (out : List Act) → (MayLosePiece left now q x w v → RowsStand put left → LosesPiece u left mid out now q x bytes w v kind)
         → (shelf_of put.entries).faults ≤ (shelf_of u.entries).faults → Answered r.limits (shelf_of r.entries).faults u t before out now ev
-    shared_answered u out loses failed = by_heir (survivor t q v) refl
+    shared_answered u out loses failed = by_detached_reader (survivor t q v) refl
       where
         lost : LosesPiece u left mid out now q x bytes w v kind
         lost = loses may_piece refuses.gives.rows
@@ -328,13 +328,13 @@ module _ {B : Type 0} {g : Ghosts B} (r put : Rows B g) (t : Tables) (facts : Fa
         told_as : (o : Option ℕ) → survivor left q v ≡ o → out ≡ mid ++ (act.Lost q kind ∷ map act.Close (closes_with o x bytes w))
         told_as o is = lost.acts ∙ ap (λ (z : Option ℕ). mid ++ (act.Lost q kind ∷ map act.Close (closes_with z x bytes w))) is
 
-        rows_as : (o : Option ℕ) → survivor left q v ≡ o → RowsStand u (all_closed (closes_with o x bytes w) (brought_lost now q x w bytes (gone (lost_to o v)) (shared_loss now q x v o left)))
-        rows_as o is = subst (λ (z : Option ℕ). RowsStand u (all_closed (closes_with z x bytes w) (brought_lost now q x w bytes (gone (lost_to z v)) (shared_loss now q x v z left)))) is lost.rows
+        rows_as : (o : Option ℕ) → survivor left q v ≡ o → RowsStand u (all_closed (closes_with o x bytes w) (brought_lost now q x w bytes (as_gone (lost_to o v)) (shared_loss now q x v o left)))
+        rows_as o is = subst (λ (z : Option ℕ). RowsStand u (all_closed (closes_with z x bytes w) (brought_lost now q x w bytes (as_gone (lost_to z v)) (shared_loss now q x v z left)))) is lost.rows
 
-        by_heir : (o : Option ℕ) → survivor t q v ≡ o → Answered r.limits (shelf_of r.entries).faults u t before out now ev
-        by_heir (Some d) is =
-            answered_lost u _ out [] (shared_does.goes_on r.limits t facts.law now x bytes w it.row goes q v it.of_q there kind on d is) (told_as (Some d) (heir_same ∙ is)) failed
-            (subst (RowsStand u) (sym (open_tables now q x bytes w v es t apart (Some d))) (rows_as (Some d) (heir_same ∙ is)))
-        by_heir None is =
-            answered_lost u _ out (unless_reached x bytes w) (shared_does.all_fail r.limits t facts.law now x bytes w it.row goes q v it.of_q there kind on is) (told_as None (heir_same ∙ is)) failed
-            (subst (RowsStand u) (sym (fails_tables now q x bytes w v es t apart None (with_piece bytes w).is_open)) (rows_as None (heir_same ∙ is)))
+        by_detached_reader : (o : Option ℕ) → survivor t q v ≡ o → Answered r.limits (shelf_of r.entries).faults u t before out now ev
+        by_detached_reader (Some d) is =
+            answered_lost u _ out [] (shared_does.goes_on r.limits t facts.law now x bytes w it.row goes q v it.of_q there kind on d is) (told_as (Some d) (detached_reader_same ∙ is)) failed
+            (subst (RowsStand u) (sym (open_tables now q x bytes w v es t apart (Some d))) (rows_as (Some d) (detached_reader_same ∙ is)))
+        by_detached_reader None is =
+            answered_lost u _ out (unless_reached x bytes w) (shared_does.all_fail r.limits t facts.law now x bytes w it.row goes q v it.of_q there kind on is) (told_as None (detached_reader_same ∙ is)) failed
+            (subst (RowsStand u) (sym (fails_tables now q x bytes w v es t apart None (with_piece bytes w).is_open)) (rows_as None (detached_reader_same ∙ is)))

@@ -4,7 +4,7 @@ use Rattle.std.proofs.lemmas.Bool.Decides.{nat_tests}
 use Rattle.std.proofs.lemmas.List.{append-nil, drop-append-le, length-append}
 use Rattle.std.specs.Prelude.{is_some, is_none, nat_eq, ◌==◌, ◌&&◌, if◌then◌else◌}
 use Rattle.hc_store.specs.declared.backend.Backend.{Ghosts}
-use Rattle.hc_sparse.specs.Cells.{Cell, Cells, Covers, EndsBy, inside, written}
+use Rattle.hc_sparse.specs.Cells.{Cell, Cells, Covers, EndsBy, inside, cells_with}
 use Rattle.hc_event.specs.declared.act.Act.{Act}
 use Rattle.hc_event.specs.declared.event.Event.TheVariants as event
 use Rattle.hc_stored.specs.Entries.{shelf_of}
@@ -17,16 +17,16 @@ use Rattle.hc_event.specs.declared.place.Place.TheVariants as place
 use Rattle.hc_event.specs.declared.place.BoundBy.{BoundBy}
 use Rattle.hc_model.specs.Currents.{is_number}
 use Rattle.hc_model.specs.Denials.{denial}
-use Rattle.hc_model.specs.Entries.{unanswered}
+use Rattle.hc_model.specs.Entries.{entry_without_acts}
 use Rattle.hc_model.specs.ExchangeRows.{with_piece}
 use Rattle.hc_model.specs.Exchanges.{family, base, front}
 use Rattle.hc_model.specs.Holes.{first_place, absent_from}
 use Rattle.hc_model.specs.Reading.{bound, is_bound_place, is_written}
-use Rattle.hc_model.specs.RepresentationRows.{filled}
+use Rattle.hc_model.specs.RepresentationRows.{with_stored_bytes}
 use Rattle.hc_model.specs.Rows as rows
 use Rattle.hc_model.specs.Rows.{Tables, Exchange, Representation}
 use Rattle.hc_model.specs.Sound as sound
-use Rattle.hc_model.specs.Sound.{Sound, HasPen, IsHad}
+use Rattle.hc_model.specs.Sound.{Sound, IsExclusiveWriter, IsHad}
 use Rattle.hc_model.specs.Weights.{write_in}
 use Rattle.hc_laws.proofs.AboutKeeps.{own_open_of}
 use Rattle.hc_model.specs.Fronts.{goes_on_at}
@@ -37,14 +37,14 @@ use Rattle.hc_laws.proofs.PieceEffects as does
 use Rattle.hc_state.proofs.Ties.{overs_open, writer_then}
 use Rattle.hc_state.specs.declared.rows.Rows.{Rows}
 use Rattle.hc_state.specs.Facts.{Facts}
-use Rattle.hc_state.specs.Kept.{first_lacking, unstored, held_alone, held_of, held_for}
+use Rattle.hc_state.specs.Kept.{first_lacking, unstored_bytes, held_alone, held_of, held_for}
 use Rattle.hc_state.specs.Pieces.{unless_lost, stored_at, stored_by}
 use Rattle.hc_state.specs.Refused.{GoesOn, MayHold}
 use Rattle.hc_state.specs.Stands.{RowsStand}
 use Rattle.hc_state.specs.Stops.{brought_by}
 use Rattle.hc_state.specs.Stored.{IsEntry, TellsLength, told, untold, KeepsEntry}
 use Rattle.hc_state.proofs.Answering.{does_answered}
-use Rattle.hc_state.proofs.Asides.{unstored_moved}
+use Rattle.hc_state.proofs.Fallbacks.{unstored_moved}
 use Rattle.hc_on_leave.proofs.HeardExchange.{drop_none}
 use Rattle.hc_state.proofs.OneOfEach.{first_by}
 use Rattle.hc_on_leave.proofs.PieceArm.{Brought, brought_of, Runs, runs_of, open_unended, brings_it, past_answered}
@@ -134,7 +134,7 @@ unless xs false b off = refl
 module _ {B : Type 0} {g : Ghosts B} (r u : Rows B g) (t : Tables) (stands : RowsStand r t) (now x : ℕ) (bytes : List ℕ) (w : Exchange) (v : Representation) (row : t.exchange x ≡ Some w) (opened : w.is_open ≡ true) (headed : is_some w.head ≡ true) (there : t.representation (family x w) ≡ Some v) (lost : v.is_lost ≡ true) (is_gone : v.is_gone ≡ true) (unended : w.is_ended ≡ false)
     (limits : u.limits ≡ r.limits) (received : u.received ≡ r.received + length bytes) (last : u.last_start ≡ r.last_start) (same_map : u.consumers ≡ r.consumers) (same_keys : u.keys ≡ r.keys) (same_entries : u.entries ≡ r.entries) where
   abbrev v2 : Representation
-  v2 = filled false (front w) x bytes v
+  v2 = with_stored_bytes false (front w) x bytes v
 
   abbrev vs : ℕ → Option Representation
   vs q = if family x w == q then Some v2 else t.representation q
@@ -208,22 +208,22 @@ module _ {B : Type 0} {g : Ghosts B} (r u : Rows B g) (t : Tables) (stands : Row
   -- WHO GOES ON
 
   module _ (some : 0 < length bytes) (on : GoesOn t x w v) (within : on.lo + on.k.given ≤ front w) (absent : v.stored (front w) ≡ None) (reached : (p : ℕ) → v.reach ≤ p → v.stored p ≡ None) (brought_some : (p : ℕ) → v.reach ≤ p → p + 1 ≡ front w → length w.body ≡ 0) where
-    held_new : unstored after x (with_piece bytes w) v2 (Some on.k) ≡ drop (absent_from v.stored (max v.reach (front w + length bytes)) (on.lo + on.k.given) (base w + length (w.body ++ bytes)) - base w) (w.body ++ bytes)
+    held_new : unstored_bytes after x (with_piece bytes w) v2 (Some on.k) ≡ drop (absent_from v.stored (max v.reach (front w + length bytes)) (on.lo + on.k.given) (base w + length (w.body ++ bytes)) - base w) (w.body ++ bytes)
     held_new = (let at = on.at in let own = on.own in rw (at, own, eqb-same (family x w), eqb-same x) refl)
 
-    held_old : unstored t x w v (Some on.k) ≡ drop (absent_from v.stored v.reach (on.lo + on.k.given) (front w) - base w) w.body
+    held_old : unstored_bytes t x w v (Some on.k) ≡ drop (absent_from v.stored v.reach (on.lo + on.k.given) (front w) - base w) w.body
     held_old = (let at = on.at in let own = on.own in rw (at, own, eqb-same (family x w), eqb-same x) refl)
 
     held_then : held_for after x (Some (with_piece bytes w)) ≡ held_for t x (Some w) ++ bytes
     held_then =
         ap (held_of after x (with_piece bytes w)) vs_here
         ∙ (ap (held_alone after x (with_piece bytes w) v2) on.alone
-        ∙ (ap (unstored after x (with_piece bytes w) v2) on.row
+        ∙ (ap (unstored_bytes after x (with_piece bytes w) v2) on.row
         ∙ (held_new
         ∙ (more v.stored (on.lo + on.k.given) (base w) v.reach w.body bytes within absent some brought_some reached
-        ∙ ap (λ (ys : List ℕ). ys ++ bytes) (sym (ap (held_of t x w) there ∙ (ap (held_alone t x w v) on.alone ∙ (ap (unstored t x w v) on.row ∙ held_old))))))))
+        ∙ ap (λ (ys : List ℕ). ys ++ bytes) (sym (ap (held_of t x w) there ∙ (ap (held_alone t x w v) on.alone ∙ (ap (unstored_bytes t x w v) on.row ∙ held_old))))))))
 
-    none_for : (m : Tables) (y : ℕ) (e : Exchange) (p : Representation) → x ≢ y → unstored m y e p (Some on.k) ≡ []
+    none_for : (m : Tables) (y : ℕ) (e : Exchange) (p : Representation) → x ≢ y → unstored_bytes m y e p (Some on.k) ≡ []
     none_for m y e p ne = unless (drop (first_lacking m e p on.k - base e) e.body) (is_bound_place (family y e) on.k.place) (is_number on.k.own y) (ap (λ o. is_number o y) on.own ∙ eqb-other x y ne)
 
     held_else : (y : ℕ) (e : Exchange) → x ≢ y → t.exchange y ≡ Some e → held_for after y (Some e) ≡ held_for t y (Some e)
@@ -231,9 +231,9 @@ module _ {B : Type 0} {g : Ghosts B} (r u : Rows B g) (t : Tables) (stands : Row
       | inl one ↦
           ap (held_of after y e) (sym (ap vs one) ∙ vs_here)
           ∙ (ap (held_alone after y e v2) on.alone
-          ∙ (ap (unstored after y e v2) on.row
+          ∙ (ap (unstored_bytes after y e v2) on.row
           ∙ (none_for after y e v2 ne
-          ∙ sym (ap (held_of t y e) (sym (ap t.representation one) ∙ there) ∙ (ap (held_alone t y e v) on.alone ∙ (ap (unstored t y e v) on.row ∙ none_for t y e v ne))))))
+          ∙ sym (ap (held_of t y e) (sym (ap t.representation one) ∙ there) ∙ (ap (held_alone t y e v) on.alone ∙ (ap (unstored_bytes t y e v) on.row ∙ none_for t y e v ne))))))
       | inr other ↦ ap (held_of after y e) (vs_else (family y e) other) ∙ by_row (t.representation (family y e))
     ]
       where

@@ -12,15 +12,15 @@ use Rattle.hc_exch.specs.Exchanges as exch
 use Rattle.hc_exch.specs.Exchanges.{table_of}
 use Rattle.hc_exch.specs.Known as known
 use Rattle.hc_exch.specs.Known.{is_last_of}
-use Rattle.hc_model.specs.Effects.{all_closed, gone, lost_to}
+use Rattle.hc_model.specs.Effects.{all_closed, as_gone, lost_to}
 use Rattle.hc_model.specs.ExchangeRows.{with_piece}
-use Rattle.hc_model.specs.Exchanges.{family, front, promised, is_reached, is_headless}
+use Rattle.hc_model.specs.Exchanges.{family, front, promised_bytes, is_reached, is_headless}
 use Rattle.hc_model.specs.Kinds.{brings_to}
-use Rattle.hc_model.specs.RepresentationRows.{filled}
+use Rattle.hc_model.specs.RepresentationRows.{with_stored_bytes}
 use Rattle.hc_model.specs.Rows.{Tables, Exchange, Representation}
 use Rattle.hc_model.specs.Writers.{survivor}
 use Rattle.hc_state.specs.declared.rows.Rows.{Rows}
-use Rattle.hc_state.specs.Heirs.{shared_loss}
+use Rattle.hc_state.specs.DetachedReaders.{shared_loss}
 use Rattle.hc_state.specs.Refused.{Brings, MayHold, MayLoseOwn, MayLosePiece, LosesPiece, brought_lost, own_loss, closes_with}
 use Rattle.hc_state.specs.Stands.{KeepsRest, RowsStand}
 use Rattle.hc_state.specs.Stopped.{NobodyAwaits}
@@ -37,8 +37,8 @@ module _ {B : Type 0} {g : Ghosts B} (mid u : Rows B g) (t : Tables) (now r x : 
   there_too : t.representation (family x w) ≡ Some v
   there_too = ap t.representation of_r ∙ there
 
-  as_of : (n : ℕ) → RowsStand u (s t now x w bytes (λ q. if family x w == q then Some (filled false (front w) x bytes v) else t.representation q)) → RowsStand u (brought_lost now r x w bytes v t)
-  as_of n = subst (λ (m : ℕ). RowsStand u (s t now x w bytes (λ q. if m == q then Some (filled false (front w) x bytes v) else t.representation q))) of_r
+  as_of : (n : ℕ) → RowsStand u (s t now x w bytes (λ q. if family x w == q then Some (with_stored_bytes false (front w) x bytes v) else t.representation q)) → RowsStand u (brought_lost now r x w bytes v t)
+  as_of n = subst (λ (m : ℕ). RowsStand u (s t now x w bytes (λ q. if m == q then Some (with_stored_bytes false (front w) x bytes v) else t.representation q))) of_r
 
   pub held_lost : 0 < length bytes → MayHold t x w v → exch.Becomes (known.with_piece bytes true) x mid.exchanges u.exchanges → RowsStand u (brought_lost now r x w bytes v t)
   held_lost some may becomes = as_of r (held_stands mid u t stands now x bytes w v row opened headed there_too lost is_gone unended limits received last same_map same_keys same_entries some may becomes)
@@ -49,10 +49,10 @@ module _ {B : Type 0} {g : Ghosts B} (mid u : Rows B g) (t : Tables) (now r x : 
 -- who writes alone goes on
 pub own_stands : {B : Type 0} {g : Ghosts B} (mid u : Rows B g) (t : Tables) (now r x : ℕ) (bytes : List ℕ) (w : Exchange) (v : Representation) (alone : Option ℕ) → 0 < length bytes → MayLoseOwn t now r x w v alone → RowsStand mid (own_loss now r v alone t)
     → u.limits ≡ mid.limits → u.received ≡ mid.received + length bytes → u.last_start ≡ mid.last_start → u.consumers ≡ mid.consumers → u.keys ≡ mid.keys → u.entries ≡ mid.entries → exch.Becomes (known.with_piece bytes true) x mid.exchanges u.exchanges
-    → RowsStand u (brought_lost now r x w bytes (gone (lost_to alone v)) (own_loss now r v alone t))
+    → RowsStand u (brought_lost now r x w bytes (as_gone (lost_to alone v)) (own_loss now r v alone t))
 own_stands mid u t now r x bytes w v alone some may stands limits received last same_map same_keys same_entries becomes =
     let b = may.brings in
-    held_lost mid u (own_loss now r v alone t) now r x bytes w (gone (lost_to alone v)) stands b.row b.opened b.headed b.of_r (rw (eqb-same r) refl) refl refl b.unended limits received last same_map same_keys same_entries some may.holds becomes
+    held_lost mid u (own_loss now r v alone t) now r x bytes w (as_gone (lost_to alone v)) stands b.row b.opened b.headed b.of_r (rw (eqb-same r) refl) refl refl b.unended limits received last same_map same_keys same_entries some may.holds becomes
 
 -- WHAT IS WRITTEN FOR SEVERAL
 
@@ -61,8 +61,8 @@ is_over true true on = refl
 is_over false true on = refl
 is_over a false on = false_true on
 
-module _ {B : Type 0} {g : Ghosts B} (mid u : Rows B g) (t : Tables) (now r x : ℕ) (bytes : List ℕ) (w : Exchange) (v : Representation) (kind : LostKind) (some : 0 < length bytes) (may : MayLosePiece t now r x w v) (heir : Option ℕ) (heir_is : heir ≡ survivor t r v) (stands : RowsStand mid (shared_loss now r x v heir t))
-    (limits : u.limits ≡ mid.limits) (received : u.received ≡ mid.received + length bytes) (last : u.last_start ≡ mid.last_start) (same_map : u.consumers ≡ mid.consumers) (same_keys : u.keys ≡ mid.keys) (same_entries : u.entries ≡ mid.entries) (becomes : exch.Becomes (known.with_piece bytes (is_some heir)) x mid.exchanges u.exchanges) where
+module _ {B : Type 0} {g : Ghosts B} (mid u : Rows B g) (t : Tables) (now r x : ℕ) (bytes : List ℕ) (w : Exchange) (v : Representation) (kind : LostKind) (some : 0 < length bytes) (may : MayLosePiece t now r x w v) (detached_reader : Option ℕ) (detached_reader_is : detached_reader ≡ survivor t r v) (stands : RowsStand mid (shared_loss now r x v detached_reader t))
+    (limits : u.limits ≡ mid.limits) (received : u.received ≡ mid.received + length bytes) (last : u.last_start ≡ mid.last_start) (same_map : u.consumers ≡ mid.consumers) (same_keys : u.keys ≡ mid.keys) (same_entries : u.entries ≡ mid.entries) (becomes : exch.Becomes (known.with_piece bytes (is_some detached_reader)) x mid.exchanges u.exchanges) where
   b : Brings t r x w v
   b = may.brings
 
@@ -70,38 +70,38 @@ module _ {B : Type 0} {g : Ghosts B} (mid u : Rows B g) (t : Tables) (now r x : 
   lost_tables o = shared_loss now r x v o t
 
   abbrev then_tables : Option ℕ → Tables
-  then_tables o = brought_lost now r x w bytes (gone (lost_to o v)) (lost_tables o)
+  then_tables o = brought_lost now r x w bytes (as_gone (lost_to o v)) (lost_tables o)
 
-  by_heir : (o : Option ℕ) → o ≡ survivor t r v → RowsStand mid (lost_tables o) → exch.Becomes (known.with_piece bytes (is_some o)) x mid.exchanges u.exchanges → RowsStand u (then_tables o)
-  by_heir None is stood changed = dropped_lost mid u (lost_tables None) now r x bytes w (gone (lost_to None v)) stood b.row b.opened b.headed b.of_r (rw (eqb-same r) refl) refl refl b.unended limits received last same_map same_keys same_entries refl changed
-  by_heir (Some d) is stood changed = held_lost mid u (lost_tables (Some d)) now r x bytes w (gone (lost_to (Some d) v)) stood b.row b.opened b.headed b.of_r (rw (eqb-same r) refl) refl refl b.unended limits received last same_map same_keys same_entries some (may.holds d (sym is)) changed
+  by_detached_reader : (o : Option ℕ) → o ≡ survivor t r v → RowsStand mid (lost_tables o) → exch.Becomes (known.with_piece bytes (is_some o)) x mid.exchanges u.exchanges → RowsStand u (then_tables o)
+  by_detached_reader None is stood changed = dropped_lost mid u (lost_tables None) now r x bytes w (as_gone (lost_to None v)) stood b.row b.opened b.headed b.of_r (rw (eqb-same r) refl) refl refl b.unended limits received last same_map same_keys same_entries refl changed
+  by_detached_reader (Some d) is stood changed = held_lost mid u (lost_tables (Some d)) now r x bytes w (as_gone (lost_to (Some d) v)) stood b.row b.opened b.headed b.of_r (rw (eqb-same r) refl) refl refl b.unended limits received last same_map same_keys same_entries some (may.holds d (sym is)) changed
 
-  comes : RowsStand u (then_tables heir)
-  comes = by_heir heir heir_is stands becomes
+  comes : RowsStand u (then_tables detached_reader)
+  comes = by_detached_reader detached_reader detached_reader_is stands becomes
 
-  ran : Runs mid (lost_tables heir) x w
-  ran = runs_of mid (lost_tables heir) x w stands b.row b.opened
+  ran : Runs mid (lost_tables detached_reader) x w
+  ran = runs_of mid (lost_tables detached_reader) x w stands b.row b.opened
 
   -- the code is told whether it is over then
   open_is : is_last_of (table_of mid.exchanges x).running (length bytes) ≡ not (with_piece bytes w).is_open
   open_is =
       ap (λ (o : Option Open). is_last_of o (length bytes)) ran.running
-      ∙ (last_is (lost_tables heir) now x w bytes (lost_tables heir).representation b.row b.opened b.headed ran.o ran.is (like_same _ _ refl)
-      ∙ is_over (is_reached (promised w) (length (w.body ++ bytes))) w.is_open b.opened)
+      ∙ (last_is (lost_tables detached_reader) now x w bytes (lost_tables detached_reader).representation b.row b.opened b.headed ran.o ran.is (like_same _ _ refl)
+      ∙ is_over (is_reached (promised_bytes w) (length (w.body ++ bytes))) w.is_open b.opened)
 
   abbrev closes : Option ℕ → List ℕ
   closes o = closes_with o x bytes w
 
-  loses_by : (u2 : Rows B g) (before out : List Act) (ys : List ℕ) → closes heir ≡ ys → out ≡ before ++ (act.Lost r kind ∷ map act.Close ys) → RowsStand u2 (all_closed ys (then_tables heir)) → LosesPiece u2 t before out now r x bytes w v kind
+  loses_by : (u2 : Rows B g) (before out : List Act) (ys : List ℕ) → closes detached_reader ≡ ys → out ≡ before ++ (act.Lost r kind ∷ map act.Close ys) → RowsStand u2 (all_closed ys (then_tables detached_reader)) → LosesPiece u2 t before out now r x bytes w v kind
   loses_by u2 before out ys same told stood =
-      let is : closes (survivor t r v) ≡ ys = ap closes (sym heir_is) ∙ same in
+      let is : closes (survivor t r v) ≡ ys = ap closes (sym detached_reader_is) ∙ same in
       record {
         acts = told ∙ ap (λ (zs : List ℕ). before ++ (act.Lost r kind ∷ map act.Close zs)) (sym is);
-        rows = subst (λ (zs : List ℕ). RowsStand u2 (all_closed zs (then_tables (survivor t r v)))) (sym is) (subst (λ (o : Option ℕ). RowsStand u2 (all_closed ys (then_tables o))) heir_is stood);
+        rows = subst (λ (zs : List ℕ). RowsStand u2 (all_closed zs (then_tables (survivor t r v)))) (sym is) (subst (λ (o : Option ℕ). RowsStand u2 (all_closed ys (then_tables o))) detached_reader_is stood);
       }
 
   -- somebody goes on, or nothing more comes
-  pub stays_so : (before out : List Act) → (is_none heir ≡ false) ⊎ ((is_none heir ≡ true) × (is_last_of (table_of mid.exchanges x).running (length bytes) ≡ true)) → out ≡ before ++ (act.Lost r kind ∷ []) → LosesPiece u t before out now r x bytes w v kind
+  pub stays_so : (before out : List Act) → (is_none detached_reader ≡ false) ⊎ ((is_none detached_reader ≡ true) × (is_last_of (table_of mid.exchanges x).running (length bytes) ≡ true)) → out ≡ before ++ (act.Lost r kind ∷ []) → LosesPiece u t before out now r x bytes w v kind
   stays_so before out why told = loses_by u before out [] (elim why [
     | inl off ↦ rw off refl
     | inr both ↦ let shut : (with_piece bytes w).is_open ≡ false = by_not (with_piece bytes w).is_open (sym open_is ∙ both.1) in rw (both.0, shut) refl
@@ -112,27 +112,27 @@ module _ {B : Type 0} {g : Ghosts B} (mid u : Rows B g) (t : Tables) (now r x : 
       by_not false on = refl
 
   -- nobody does, and more would come
-  module _ (u2 : Rows B g) (none : is_none heir ≡ true) (more : is_last_of (table_of mid.exchanges x).running (length bytes) ≡ false) (rest : KeepsRest u u2) (same_too : u2.consumers ≡ u.consumers) (shut : exch.Becomes known.closed x u.exchanges u2.exchanges) where
-    here : (then_tables heir).exchange x ≡ Some (with_piece bytes w)
+  module _ (u2 : Rows B g) (none : is_none detached_reader ≡ true) (more : is_last_of (table_of mid.exchanges x).running (length bytes) ≡ false) (rest : KeepsRest u u2) (same_too : u2.consumers ≡ u.consumers) (shut : exch.Becomes known.without_exchange x u.exchanges u2.exchanges) where
+    here : (then_tables detached_reader).exchange x ≡ Some (with_piece bytes w)
     here = rw (eqb-same x) refl
 
-    unawaited : NobodyAwaits (then_tables heir) x
+    unawaited : NobodyAwaits (then_tables detached_reader) x
     unawaited d n lo hi k is at = ap is_headless here ∙ by_head w.head b.headed
       where
         by_head : (h : Option Response) → is_some h ≡ true → ((with_piece bytes w).is_open && is_none h) ≡ false
         by_head None on = false_true on
         by_head (Some response) on = then_false (with_piece bytes w).is_open false refl
 
-    apart : (q : ℕ) (p : Representation) → (then_tables heir).representation q ≡ Some p → p.is_gone ≡ false → brings_to q x ((then_tables heir).exchange x) ≡ false
+    apart : (q : ℕ) (p : Representation) → (then_tables detached_reader).representation q ≡ Some p → p.is_gone ≡ false → brings_to q x ((then_tables detached_reader).exchange x) ≡ false
     apart q p there stays = ap (brings_to q x) here ∙ elim (same_or r q) [
       | inl e ↦
-          let mine : (then_tables heir).representation q ≡ Some (filled false (front w) x bytes (gone (lost_to heir v))) = rw (e, eqb-same q) refl in
-          false_true (sym stays ∙ ap (λ (z : Representation). z.is_gone) (same_row ((then_tables heir).representation q) p (filled false (front w) x bytes (gone (lost_to heir v))) there mine))
+          let mine : (then_tables detached_reader).representation q ≡ Some (with_stored_bytes false (front w) x bytes (as_gone (lost_to detached_reader v))) = rw (e, eqb-same q) refl in
+          false_true (sym stays ∙ ap (λ (z : Representation). z.is_gone) (same_row ((then_tables detached_reader).representation q) p (with_stored_bytes false (front w) x bytes (as_gone (lost_to detached_reader v))) there mine))
       | inr ne ↦ then_false (with_piece bytes w).is_open (nat_eq (family x w) q) (ap (λ (n : ℕ). nat_eq n q) b.of_r ∙ eqb-other r q ne)
     ]
 
-    closed_too : RowsStand u2 (all_closed (x ∷ []) (then_tables heir))
-    closed_too = stands_unstored u u2 (then_tables heir) x comes unawaited apart rest.limits rest.received rest.last_start same_too rest.keys rest.entries shut
+    closed_too : RowsStand u2 (all_closed (x ∷ []) (then_tables detached_reader))
+    closed_too = stands_unstored u u2 (then_tables detached_reader) x comes unawaited apart rest.limits rest.received rest.last_start same_too rest.keys rest.entries shut
 
     pub closes_it : (before middle out : List Act) → middle ≡ before ++ (act.Lost r kind ∷ []) → out ≡ middle ++ (act.Close x ∷ []) → LosesPiece u2 t before out now r x bytes w v kind
     closes_it before middle out told closing =

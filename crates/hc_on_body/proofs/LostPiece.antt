@@ -4,7 +4,7 @@ use Rattle.std.proofs.lemmas.Bool.Decides.{nat_tests}
 use Rattle.std.proofs.lemmas.List.{append-nil, drop-append-le, length-append}
 use Rattle.std.specs.Prelude.{is_some, is_none, nat_eq, ◌==◌, ◌&&◌, if◌then◌else◌}
 use Rattle.hc_store.specs.declared.backend.Backend.{Ghosts}
-use Rattle.hc_sparse.specs.Cells.{Cell, Cells, Covers, EndsBy, inside, written}
+use Rattle.hc_sparse.specs.Cells.{Cell, Cells, Covers, EndsBy, inside, cells_with}
 use Rattle.hc_event.specs.declared.act.Act.{Act}
 use Rattle.hc_event.specs.declared.event.Event.TheVariants as event
 use Rattle.hc_stored.specs.Entries.{shelf_of}
@@ -17,16 +17,16 @@ use Rattle.hc_event.specs.declared.place.Place.TheVariants as place
 use Rattle.hc_event.specs.declared.place.BoundBy.{BoundBy}
 use Rattle.hc_model.specs.Currents.{is_number}
 use Rattle.hc_model.specs.Denials.{denial}
-use Rattle.hc_model.specs.Entries.{unanswered}
+use Rattle.hc_model.specs.Entries.{entry_without_acts}
 use Rattle.hc_model.specs.ExchangeRows.{with_piece}
 use Rattle.hc_model.specs.Exchanges.{family, base, front}
 use Rattle.hc_model.specs.Holes.{first_place, absent_from}
 use Rattle.hc_model.specs.Reading.{bound, is_bound_place, is_written, own_open}
-use Rattle.hc_model.specs.RepresentationRows.{filled}
+use Rattle.hc_model.specs.RepresentationRows.{with_stored_bytes}
 use Rattle.hc_model.specs.Rows as rows
 use Rattle.hc_model.specs.Rows.{Tables, Exchange, Representation}
 use Rattle.hc_model.specs.Sound as sound
-use Rattle.hc_model.specs.Sound.{Sound, HasPen, IsHad}
+use Rattle.hc_model.specs.Sound.{Sound, IsExclusiveWriter, IsHad}
 use Rattle.hc_model.specs.Weights.{write_in}
 use Rattle.hc_laws.proofs.AboutKeeps.{own_open_of}
 use Rattle.hc_model.specs.Fronts.{goes_on_at}
@@ -36,14 +36,14 @@ use Rattle.hc_model.proofs.Once.{delivers_once}
 use Rattle.hc_laws.proofs.PieceEffects as does
 use Rattle.hc_state.specs.declared.rows.Rows.{Rows}
 use Rattle.hc_state.specs.Facts.{Facts}
-use Rattle.hc_state.specs.Kept.{first_lacking, unstored, held_alone, held_of, held_for}
+use Rattle.hc_state.specs.Kept.{first_lacking, unstored_bytes, held_alone, held_of, held_for}
 use Rattle.hc_state.specs.Pieces.{unless_lost, stored_at, stored_by}
 use Rattle.hc_state.specs.Refused.{GoesOn, MayHold}
 use Rattle.hc_state.specs.Stands.{Answered, RowsStand}
 use Rattle.hc_state.specs.Stops.{brought_by}
 use Rattle.hc_state.specs.Stored.{IsEntry, TellsLength, told, untold, KeepsEntry}
 use Rattle.hc_state.proofs.Answering.{does_answered}
-use Rattle.hc_state.proofs.Asides.{unstored_moved}
+use Rattle.hc_state.proofs.Fallbacks.{unstored_moved}
 use Rattle.hc_on_leave.proofs.HeardExchange.{drop_none}
 use Rattle.hc_on_body.proofs.HeldPiece.{held_stands}
 use Rattle.hc_state.proofs.OneOfEach.{first_by}
@@ -63,14 +63,14 @@ pub record Owner (t : Tables) (x : ℕ) (w : Exchange) (v : Representation) : Ty
   pub own : k.own ≡ Some x
   pub opens : own_open t k ≡ Some x
   pub due : k.due ≡ None
-  pub pen : HasPen t (family x w) v c
+  pub exclusive_writer : IsExclusiveWriter t (family x w) v c
 
 pub owner : (t : Tables) (x : ℕ) (w : Exchange) (v : Representation) → Sound t → t.exchange x ≡ Some w → w.is_open ≡ true → is_some w.head ≡ true → t.representation (family x w) ≡ Some v → is_written t v ≡ false → Owner t x w v
 owner t x w v s row opened headed there unwritten = by_had (s.writes.had (family x w) x v there (sound.headed w row opened headed refl (ap (λ (o : Option Representation). is_some o) there)))
   where
     by_had : IsHad t (family x w) v x → Owner t x w v
     by_had (sound.shared on writes) = false_true (sym unwritten ∙ on)
-    by_had (sound.own c k (sound.is_bound lo hi how consumer at) owns due pen) = record {
+    by_had (sound.own c k (sound.is_bound lo hi how consumer at) owns due exclusive_writer) = record {
       c = c;
       k = k;
       lo = lo;
@@ -81,7 +81,7 @@ owner t x w v s row opened headed there unwritten = by_had (s.writes.had (family
       own = (own_open_of t k x owns).own;
       opens = owns;
       due = due;
-      pen = pen;
+      exclusive_writer = exclusive_writer;
     }
 
 -- what is lost isn't written for several
@@ -150,11 +150,11 @@ module _ {B : Type 0} {g : Ghosts B} (r u : Rows B g) (t : Tables) (facts : Fact
   is_gone = (facts.law.sound.rows (family x w) v there).store.lost_is_gone lost
 
   on : GoesOn t x w v
-  on = record { c = o.c; k = o.k; lo = o.lo; hi = o.hi; how = o.how; row = o.row; at = o.at; alone = by_pen o.c o.pen; own = o.own }
+  on = record { c = o.c; k = o.k; lo = o.lo; hi = o.hi; how = o.how; row = o.row; at = o.at; alone = by_exclusive_writer o.c o.exclusive_writer; own = o.own }
     where
-      by_pen : (c : ℕ) → HasPen t (family x w) v c → v.alone ≡ Some c
-      by_pen c (sound.first fresh is) = false_true (sym fresh ∙ lost)
-      by_pen c (sound.alone was is) = is
+      by_exclusive_writer : (c : ℕ) → IsExclusiveWriter t (family x w) v c → v.alone ≡ Some c
+      by_exclusive_writer c (sound.first fresh is) = false_true (sym fresh ∙ lost)
+      by_exclusive_writer c (sound.alone was is) = is
 
   may : MayHold t x w v
   unfolding on o
@@ -170,7 +170,7 @@ module _ {B : Type 0} {g : Ghosts B} (r u : Rows B g) (t : Tables) (facts : Fact
   }
 
   abbrev after : Tables
-  after = s t now x w bytes (λ q. if family x w == q then Some (filled false (front w) x bytes v) else t.representation q)
+  after = s t now x w bytes (λ q. if family x w == q then Some (with_stored_bytes false (front w) x bytes v) else t.representation q)
 
   lost_stands : RowsStand u after
   lost_stands = held_stands r u t stands now x bytes w v row opened headed there lost is_gone (open_unended t facts.law x w row opened) limits received last same_map same_keys same_entries some may becomes
@@ -179,7 +179,7 @@ module _ {B : Type 0} {g : Ghosts B} (r u : Rows B g) (t : Tables) (facts : Fact
   lost_answered before =
       does_answered r.limits (shelf_of r.entries).faults u t after before before [] now (event.Piece x bytes) (does.unstored r.limits t facts.law now x bytes w row goes (family x w) v refl there lost) unwritten refl (sym (append-nil before)) lost_stands
     where
-      unwritten : write_in t (unanswered now (event.Piece x bytes)) (event.Piece x bytes) ≡ None
+      unwritten : write_in t (entry_without_acts now (event.Piece x bytes)) (event.Piece x bytes) ≡ None
       unwritten = rw (row, there, lost) refl
 
 -- WHAT ISN'T STORED

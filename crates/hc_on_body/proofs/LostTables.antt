@@ -6,23 +6,23 @@ use Rattle.hc_event.specs.declared.event.Event.TheVariants as event
 use Rattle.hc_event.specs.declared.place.Place.{Place}
 use Rattle.hc_event.specs.declared.place.Place.TheVariants as place
 use Rattle.hc_model.specs.Currents.{is_number}
-use Rattle.hc_model.specs.Effects.{all_closed, back_from, counted, gone, if_bound, left_with, let_all_go, let_go, lost_to, over, with_exchange, with_representation, writing_lost}
+use Rattle.hc_model.specs.Effects.{all_closed, back_from, with_event, as_gone, if_bound, left_with, let_all_go, let_go, lost_to, over, with_exchange, with_representation, writing_lost}
 use Rattle.hc_model.specs.ExchangeRows.{with_piece}
 use Rattle.hc_model.specs.Exchanges.{front}
-use Rattle.hc_model.specs.RepresentationRows.{filled}
+use Rattle.hc_model.specs.RepresentationRows.{with_stored_bytes}
 use Rattle.hc_model.specs.Rows as rows
 use Rattle.hc_model.specs.Rows.{Tables, Exchange, Representation}
 use Rattle.hc_model.proofs.SameTables.{all_go_is, back_from_any, is_in, without}
-use Rattle.hc_state.specs.Heirs.{shared_loss}
+use Rattle.hc_state.specs.DetachedReaders.{shared_loss}
 use Rattle.hc_state.specs.Refused.{brought_lost, own_loss}
 use Rattle.hc_state.proofs.Words.{same_or, eqb-same, eqb-other}
 
 -- WHO WAITED, AND WHO READS
 
 -- who waited for one that gives way doesn't read what is lost
-module _ (now r : ℕ) (es : List ℕ) (heir own : Option ℕ) (d : ℕ) where
+module _ (now r : ℕ) (es : List ℕ) (detached_reader own : Option ℕ) (d : ℕ) where
   abbrev left : rows.Consumer → rows.Consumer
-  left k = if_bound r (left_with r heir own d) k
+  left k = if_bound r (left_with r detached_reader own d) k
 
   left_later : (k : rows.Consumer) → back_from_any now es (back_from now r (left k)) ≡ back_from now r (left (back_from_any now es k))
   left_later k = by_place k.place refl
@@ -35,9 +35,9 @@ module _ (now r : ℕ) (es : List ℕ) (heir own : Option ℕ) (d : ℕ) where
           by_tests true false a b = rw (at, a, b) (rw a refl)
           by_tests false true a b = rw (at, a, b) refl
           by_tests false false a b = rw (at, a, b) (rw a refl)
-      by_place (place.Bound q lo hi how) at = by_tests (q == r) (is_number heir d) refl refl
+      by_place (place.Bound q lo hi how) at = by_tests (q == r) (is_number detached_reader d) refl refl
         where
-          by_tests : (a b : Bool) → (q == r) ≡ a → is_number heir d ≡ b → back_from_any now es (back_from now r (left k)) ≡ back_from now r (left (back_from_any now es k))
+          by_tests : (a b : Bool) → (q == r) ≡ a → is_number detached_reader d ≡ b → back_from_any now es (back_from now r (left k)) ≡ back_from now r (left (back_from_any now es k))
           by_tests true true a b = rw (at, a, b) refl
           by_tests true false a b = rw (at, a, b) refl
           by_tests false true a b = rw (at, a) refl
@@ -77,9 +77,9 @@ module _ (now r : ℕ) (es : List ℕ) where
 
 -- THE TABLES
 
-module _ (now r x : ℕ) (bytes : List ℕ) (w : Exchange) (v : Representation) (es : List ℕ) (t : Tables) (apart : is_in es r ≡ false) (heir : Option ℕ) where
+module _ (now r x : ℕ) (bytes : List ℕ) (w : Exchange) (v : Representation) (es : List ℕ) (t : Tables) (apart : is_in es r ≡ false) (detached_reader : Option ℕ) where
   abbrev filled_lost : Representation
-  filled_lost = lost_to heir (filled false (front w) x bytes v)
+  filled_lost = lost_to detached_reader (with_stored_bytes false (front w) x bytes v)
 
   abbrev brought : Tables
   brought = with_exchange x (Some (with_piece bytes w)) t
@@ -89,47 +89,47 @@ module _ (now r x : ℕ) (bytes : List ℕ) (w : Exchange) (v : Representation) 
   lost_row q = if r == q then Some filled_lost else t.representation q
 
   abbrev gone_first : ℕ → Option Representation
-  gone_first q = if is_in es q then option_map gone (t.representation q) else t.representation q
+  gone_first q = if is_in es q then option_map as_gone (t.representation q) else t.representation q
 
-  rows_then : (q : ℕ) → (if is_in es q then option_map gone (if r == q then option_map gone (lost_row q) else lost_row q) else (if r == q then option_map gone (lost_row q) else lost_row q))
-      ≡ (if r == q then Some (filled false (front w) x bytes (gone (lost_to heir v))) else (if r == q then option_map gone (if r == q then Some (lost_to heir v) else gone_first q) else (if r == q then Some (lost_to heir v) else gone_first q)))
+  rows_then : (q : ℕ) → (if is_in es q then option_map as_gone (if r == q then option_map as_gone (lost_row q) else lost_row q) else (if r == q then option_map as_gone (lost_row q) else lost_row q))
+      ≡ (if r == q then Some (with_stored_bytes false (front w) x bytes (as_gone (lost_to detached_reader v))) else (if r == q then option_map as_gone (if r == q then Some (lost_to detached_reader v) else gone_first q) else (if r == q then Some (lost_to detached_reader v) else gone_first q)))
   rows_then q = elim (same_or r q) [
     | inl e ↦ let off : is_in es q ≡ false = ap (is_in es) (sym e) ∙ apart in rw (e, eqb-same q, off) refl
     | inr ne ↦ rw (eqb-other r q ne) refl
   ]
 
-  pub own_tables : counted now (event.Piece x bytes) (let_all_go now es (let_go now r (with_representation r (Some filled_lost) brought)))
-      ≡ brought_lost now r x w bytes (gone (lost_to heir v)) (own_loss now r v heir (let_all_go now es t))
+  pub own_tables : with_event now (event.Piece x bytes) (let_all_go now es (let_go now r (with_representation r (Some filled_lost) brought)))
+      ≡ brought_lost now r x w bytes (as_gone (lost_to detached_reader v)) (own_loss now r v detached_reader (let_all_go now es t))
   own_tables =
-      ap (counted now (event.Piece x bytes)) (all_go_is now es (let_go now r (with_representation r (Some filled_lost) brought)))
-      ∙ ap₂ (λ (f : ℕ → Option Representation) (h : ℕ → Option rows.Consumer). counted now (event.Piece x bytes) (record brought { representation = f; consumer = h }))
+      ap (with_event now (event.Piece x bytes)) (all_go_is now es (let_go now r (with_representation r (Some filled_lost) brought)))
+      ∙ ap₂ (λ (f : ℕ → Option Representation) (h : ℕ → Option rows.Consumer). with_event now (event.Piece x bytes) (record brought { representation = f; consumer = h }))
       (fun_ext rows_then) (fun_ext (λ d. back_then now r es (t.consumer d)))
-      ∙ sym (ap (λ (z : Tables). brought_lost now r x w bytes (gone (lost_to heir v)) (own_loss now r v heir z)) (all_go_is now es t))
+      ∙ sym (ap (λ (z : Tables). brought_lost now r x w bytes (as_gone (lost_to detached_reader v)) (own_loss now r v detached_reader z)) (all_go_is now es t))
 
-  consumers_then : (d : ℕ) → option_map (back_from_any now es) (option_map (back_from now r) (option_map (if_bound r (left_with r heir (Some x) d)) (t.consumer d)))
-      ≡ option_map (back_from now r) (option_map (if_bound r (left_with r heir (Some x) d)) (option_map (back_from_any now es) (t.consumer d)))
-  consumers_then d = left_then now r es heir (Some x) d (t.consumer d)
+  consumers_then : (d : ℕ) → option_map (back_from_any now es) (option_map (back_from now r) (option_map (if_bound r (left_with r detached_reader (Some x) d)) (t.consumer d)))
+      ≡ option_map (back_from now r) (option_map (if_bound r (left_with r detached_reader (Some x) d)) (option_map (back_from_any now es) (t.consumer d)))
+  consumers_then d = left_then now r es detached_reader (Some x) d (t.consumer d)
 
   -- the exchange stays open, or was closed before
-  pub open_tables : counted now (event.Piece x bytes) (let_all_go now es (let_go now r (with_representation r (Some filled_lost) (writing_lost r heir (Some x) brought))))
-      ≡ brought_lost now r x w bytes (gone (lost_to heir v)) (shared_loss now r x v heir (let_all_go now es t))
+  pub open_tables : with_event now (event.Piece x bytes) (let_all_go now es (let_go now r (with_representation r (Some filled_lost) (writing_lost r detached_reader (Some x) brought))))
+      ≡ brought_lost now r x w bytes (as_gone (lost_to detached_reader v)) (shared_loss now r x v detached_reader (let_all_go now es t))
   open_tables =
-      ap (counted now (event.Piece x bytes)) (all_go_is now es (let_go now r (with_representation r (Some filled_lost) (writing_lost r heir (Some x) brought))))
-      ∙ ap₂ (λ (f : ℕ → Option Representation) (h : ℕ → Option rows.Consumer). counted now (event.Piece x bytes) (record brought { representation = f; consumer = h }))
+      ap (with_event now (event.Piece x bytes)) (all_go_is now es (let_go now r (with_representation r (Some filled_lost) (writing_lost r detached_reader (Some x) brought))))
+      ∙ ap₂ (λ (f : ℕ → Option Representation) (h : ℕ → Option rows.Consumer). with_event now (event.Piece x bytes) (record brought { representation = f; consumer = h }))
       (fun_ext rows_then) (fun_ext consumers_then)
-      ∙ sym (ap (λ (z : Tables). brought_lost now r x w bytes (gone (lost_to heir v)) (shared_loss now r x v heir z)) (all_go_is now es t))
+      ∙ sym (ap (λ (z : Tables). brought_lost now r x w bytes (as_gone (lost_to detached_reader v)) (shared_loss now r x v detached_reader z)) (all_go_is now es t))
 
   -- it is closed
-  shut_tables : counted now (event.Piece x bytes) (let_all_go now es (let_go now r (with_representation r (Some filled_lost) (writing_lost r heir (Some x) (all_closed (x ∷ []) brought)))))
-      ≡ all_closed (x ∷ []) (brought_lost now r x w bytes (gone (lost_to heir v)) (shared_loss now r x v heir (let_all_go now es t)))
+  shut_tables : with_event now (event.Piece x bytes) (let_all_go now es (let_go now r (with_representation r (Some filled_lost) (writing_lost r detached_reader (Some x) (all_closed (x ∷ []) brought)))))
+      ≡ all_closed (x ∷ []) (brought_lost now r x w bytes (as_gone (lost_to detached_reader v)) (shared_loss now r x v detached_reader (let_all_go now es t)))
   shut_tables =
-      ap (counted now (event.Piece x bytes)) (all_go_is now es (let_go now r (with_representation r (Some filled_lost) (writing_lost r heir (Some x) (all_closed (x ∷ []) brought)))))
-      ∙ ap₂ (λ (f : ℕ → Option Representation) (h : ℕ → Option rows.Consumer). counted now (event.Piece x bytes) (record (all_closed (x ∷ []) brought) { representation = f; consumer = h }))
+      ap (with_event now (event.Piece x bytes)) (all_go_is now es (let_go now r (with_representation r (Some filled_lost) (writing_lost r detached_reader (Some x) (all_closed (x ∷ []) brought)))))
+      ∙ ap₂ (λ (f : ℕ → Option Representation) (h : ℕ → Option rows.Consumer). with_event now (event.Piece x bytes) (record (all_closed (x ∷ []) brought) { representation = f; consumer = h }))
       (fun_ext rows_then) (fun_ext consumers_then)
-      ∙ sym (ap (λ (z : Tables). all_closed (x ∷ []) (brought_lost now r x w bytes (gone (lost_to heir v)) (shared_loss now r x v heir z))) (all_go_is now es t))
+      ∙ sym (ap (λ (z : Tables). all_closed (x ∷ []) (brought_lost now r x w bytes (as_gone (lost_to detached_reader v)) (shared_loss now r x v detached_reader z))) (all_go_is now es t))
 
   -- it is, where the piece leaves it open
-  pub fails_tables : (b : Bool) → counted now (event.Piece x bytes) (let_all_go now es (let_go now r (with_representation r (Some filled_lost) (writing_lost r heir (Some x) (all_closed (if b then x ∷ [] else []) brought)))))
-      ≡ all_closed (if b then x ∷ [] else []) (brought_lost now r x w bytes (gone (lost_to heir v)) (shared_loss now r x v heir (let_all_go now es t)))
+  pub fails_tables : (b : Bool) → with_event now (event.Piece x bytes) (let_all_go now es (let_go now r (with_representation r (Some filled_lost) (writing_lost r detached_reader (Some x) (all_closed (if b then x ∷ [] else []) brought)))))
+      ≡ all_closed (if b then x ∷ [] else []) (brought_lost now r x w bytes (as_gone (lost_to detached_reader v)) (shared_loss now r x v detached_reader (let_all_go now es t)))
   fails_tables true = shut_tables
   fails_tables false = open_tables

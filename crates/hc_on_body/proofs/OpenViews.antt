@@ -10,7 +10,7 @@ use Rattle.hc_exch.specs.Exchanges.{table_of}
 use Rattle.hc_exch.specs.Known.{view_of}
 use Rattle.hc_event.specs.declared.place.Place.{Place}
 use Rattle.hc_model.specs.Denials.{is_live, is_live_place}
-use Rattle.hc_model.specs.Exchanges.{promised}
+use Rattle.hc_model.specs.Exchanges.{promised_bytes}
 use Rattle.hc_model.specs.Lawful.{Lawful}
 use Rattle.hc_model.specs.Owners.{Awaits, IsAwaiting}
 use Rattle.hc_model.specs.Owners as owners
@@ -31,7 +31,7 @@ pub record Viewed (t : Tables) (x : ℕ) (view : ExchangeView) : Type 0 where
   pub c_is : view.c ≡ w.c
   pub headed : view.headed ≡ is_some w.head
   pub delivered : view.delivered ≡ length w.body
-  pub promised_is : view.promised ≡ promised w
+  pub promised_is : view.promised ≡ promised_bytes w
 
 pub viewed : {B : Type 0} {g : Ghosts B} (r : Rows B g) (t : Tables) (x : ℕ) (o : Option ExchangeView) (view : ExchangeView) → RowsStand r t → o ≡ option_map (view_of x) (table_of r.exchanges x).running → o ≡ Some view → Viewed t x view
 viewed r t x o view stands is some = by_open (table_of r.exchanges x).running (t.exchange x) refl (sym is ∙ some) (stands.exchanges x).running

@@ -26,7 +26,7 @@ use Rattle.hc_model.specs.Reading.{own_open, is_bound, is_bound_place, is_writte
 use Rattle.hc_model.specs.Rows as rows
 use Rattle.hc_model.specs.Rows.{Tables, Exchange, Representation}
 use Rattle.hc_model.specs.Sound as sound
-use Rattle.hc_model.specs.Sound.{IsBound, IsAbout, IsHad, HasPen}
+use Rattle.hc_model.specs.Sound.{IsBound, IsAbout, IsHad, IsExclusiveWriter}
 use Rattle.hc_model.specs.Whose as whose
 use Rattle.hc_model.specs.Whose.{IsOwner}
 use Rattle.hc_model.specs.Writers.{exclusive, has_more}
@@ -40,14 +40,14 @@ use Rattle.hc_state.specs.declared.stop.Readers.{Readers}
 use Rattle.hc_state.specs.declared.stop.Readers.TheVariants as readers
 use Rattle.hc_state.specs.Changes.{Numbered, ChangesAmong, with_due}
 use Rattle.hc_state.specs.Facts.{Facts}
-use Rattle.hc_state.specs.Kept.{held_alone, unstored, first_lacking}
+use Rattle.hc_state.specs.Kept.{held_alone, unstored_bytes, first_lacking}
 use Rattle.hc_state.specs.Leaving.{writing_of}
 use Rattle.hc_state.specs.Stands.{RowsStand, KeepsRest}
 use Rattle.hc_state.specs.Stopped as stopped
 use Rattle.hc_state.specs.Stopped.{with_consumers, due_for, NobodyAwaits, MayStop, IsBroken, HasStopped, BrokeOff}
 use Rattle.hc_state.specs.Stops.{readers_of, readers_by, reads_from, goes_on, opener_of, alone_in, brought_by}
 use Rattle.hc_state.specs.Stored.{KeepsEntry}
-use Rattle.hc_state.proofs.Asides.{unstored_moved}
+use Rattle.hc_state.proofs.Fallbacks.{unstored_moved}
 use Rattle.hc_on_body.proofs.DueRows.{told_same, may_due, awaits_due, stands_due}
 use Rattle.hc_state.proofs.LeftAlone.{unwritten_none}
 use Rattle.hc_state.proofs.LeftRows.{writing_as}
@@ -66,7 +66,7 @@ among_as old new f h change alike changes = record {
 -- its consumer past the store; the one bound whose own it is; or all who are bound to what it writes for several
 pub data ReadBy (t : Tables) (x : ℕ) (w : Exchange) (by : Readers) : Type 0 where
   past : t.representation (family x w) ≡ None → by ≡ readers.One w.c → ReadBy t x w by
-  own : (c : ℕ) (k : rows.Consumer) (v : Representation) → t.representation (family x w) ≡ Some v → IsBound t (family x w) c k → own_open t k ≡ Some x → k.due ≡ None → HasPen t (family x w) v c → by ≡ readers.One c → ReadBy t x w by
+  own : (c : ℕ) (k : rows.Consumer) (v : Representation) → t.representation (family x w) ≡ Some v → IsBound t (family x w) c k → own_open t k ≡ Some x → k.due ≡ None → IsExclusiveWriter t (family x w) v c → by ≡ readers.One c → ReadBy t x w by
   shared : (v : Representation) → t.representation (family x w) ≡ Some v → is_written t v ≡ true → v.writer ≡ Some x → by ≡ readers.All (family x w) → ReadBy t x w by
 
 module _ {B : Type 0} {g : Ghosts B} (r : Rows B g) (t : Tables) (facts : Facts r.limits t) (stands : RowsStand r t) (small : r.received < 2 ^ 61) (x : ℕ) (w : Exchange) (row : t.exchange x ≡ Some w) (opened : w.is_open ≡ true) where
@@ -97,7 +97,7 @@ module _ {B : Type 0} {g : Ghosts B} (r : Rows B g) (t : Tables) (facts : Facts 
         by_kept (Some e) is = is.alone
 
     -- who goes on with what was lost, or else for whom it was opened
-    owner_is : (c : ℕ) (k : rows.Consumer) → t.consumer c ≡ Some k → k.own ≡ Some x → HasPen t q v c → unwrap_or v.alone w.c ≡ c
+    owner_is : (c : ℕ) (k : rows.Consumer) → t.consumer c ≡ Some k → k.own ≡ Some x → IsExclusiveWriter t q v c → unwrap_or v.alone w.c ≡ c
     owner_is c k at owns (sound.first fresh first) =
         let nobody : v.alone ≡ None = (law.sound.rows q v there).store.nobody_alone fresh in
         ap (λ o. unwrap_or o w.c) nobody ∙ by_owner nobody (law.whose.owner c x k w at owns row)
@@ -119,9 +119,9 @@ module _ {B : Type 0} {g : Ghosts B} (r : Rows B g) (t : Tables) (facts : Facts 
             number_some (Some n) h = ap Some (let same : n ≡ x = grind (arith, nat_tests, h) in same)
     by_had false off (sound.shared writes writer) =
         false_true (sym off ∙ (ap (λ o. is_number o x) (writing_is ∙ (ap (λ z. if z then v.writer else None) writes ∙ writer)) ∙ eqb-same x))
-    by_had false off (sound.own c k (sound.is_bound lo hi way at place_is) owns undue pen) =
-        own c k v there (sound.is_bound lo hi way at place_is) owns undue pen
-        (ap (λ n. readers.One n) (ap (λ o. unwrap_or o (opener_of (table_of r.exchanges x).running)) kept_alone ∙ (ap (unwrap_or v.alone) opener_is ∙ owner_is c k at (own_open_of t k x owns).own pen)))
+    by_had false off (sound.own c k (sound.is_bound lo hi way at place_is) owns undue exclusive_writer) =
+        own c k v there (sound.is_bound lo hi way at place_is) owns undue exclusive_writer
+        (ap (λ n. readers.One n) (ap (λ o. unwrap_or o (opener_of (table_of r.exchanges x).running)) kept_alone ∙ (ap (unwrap_or v.alone) opener_is ∙ owner_is c k at (own_open_of t k x owns).own exclusive_writer)))
 
   pub read_by : ReadBy t x w (readers_of x (table_of r.exchanges) (shelf_of r.entries))
   read_by = by_row (t.representation q) refl
@@ -192,7 +192,7 @@ module _ (limits : Limits) (t : Tables) (facts : Facts limits t) (x : ℕ) (w : 
     stored = λ u headed at kept. none_some u (sym none ∙ at);
   }
 
-  module _ (c : ℕ) (k : rows.Consumer) (v : Representation) (there : t.representation (family x w) ≡ Some v) (lo : ℕ) (hi : Option ℕ) (way : BoundBy) (at : t.consumer c ≡ Some k) (place_is : k.place ≡ place.Bound (family x w) lo hi way) (owns : own_open t k ≡ Some x) (undue : k.due ≡ None) (pen : HasPen t (family x w) v c) where
+  module _ (c : ℕ) (k : rows.Consumer) (v : Representation) (there : t.representation (family x w) ≡ Some v) (lo : ℕ) (hi : Option ℕ) (way : BoundBy) (at : t.consumer c ≡ Some k) (place_is : k.place ≡ place.Bound (family x w) lo hi way) (owns : own_open t k ≡ Some x) (undue : k.due ≡ None) (exclusive_writer : IsExclusiveWriter t (family x w) v c) where
     abbrev qr : ℕ
     qr = family x w
 
@@ -216,16 +216,16 @@ module _ (limits : Limits) (t : Tables) (facts : Facts limits t) (x : ℕ) (w : 
         by_test true is = absurd (writer_there v.writer refl is)
 
     writes_alone : v.is_lost ≡ false → Some c ≡ exclusive t qr v
-    writes_alone kept = by_pen pen
+    writes_alone kept = by_exclusive_writer exclusive_writer
       where
-        by_pen : HasPen t qr v c → Some c ≡ exclusive t qr v
-        by_pen (sound.first off came) =
+        by_exclusive_writer : IsExclusiveWriter t qr v c → Some c ≡ exclusive t qr v
+        by_exclusive_writer (sound.first off came) =
             let more : has_more t v k ≡ true = rw owns refl in
             sym ((the_law.alone.writes qr c v k there kept unwritten came at undue).1 more)
-        by_pen (sound.alone lost_is is) = false_true (sym kept ∙ lost_is)
+        by_exclusive_writer (sound.alone lost_is is) = false_true (sym kept ∙ lost_is)
 
     -- all that its own exchange brought is stored
-    all_stored : v.is_lost ≡ false → is_some w.head ≡ true → unstored t x w v (Some k) ≡ []
+    all_stored : v.is_lost ≡ false → is_some w.head ≡ true → unstored_bytes t x w v (Some k) ≡ []
     all_stored kept headed = by_test (is_bound_place (family x w) k.place && is_number k.own x)
       where
         stores : (p : ℕ) → v.stored p ≡ v.body p
@@ -235,7 +235,7 @@ module _ (limits : Limits) (t : Tables) (facts : Facts limits t) (x : ℕ) (w : 
         ends p le = stores p ∙ (the_law.sound.rows qr v there).store.ends p le
 
         covered : Covers v.stored (offset t k) (front w)
-        covered p from_it to_it = ap (λ (z : Option Cell). is_some z) (stores p) ∙ facts.come.covered qr c x v k w there pen (sound.is_bound lo hi way at place_is) undue mine broken.row headed p from_it to_it
+        covered p from_it to_it = ap (λ (z : Option Cell). is_some z) (stores p) ∙ facts.come.covered qr c x v k w there exclusive_writer (sound.is_bound lo hi way at place_is) undue mine broken.row headed p from_it to_it
 
         past_front : front w ≤ first_lacking t w v k
         past_front = (let yes : nat_le (front w) (first_lacking t w v k) ≡ true = covers_yes v.stored v.reach (offset t k) (front w) ends covered in grind (arith, nat_tests, yes))
@@ -251,11 +251,11 @@ module _ (limits : Limits) (t : Tables) (facts : Facts limits t) (x : ℕ) (w : 
       abbrev s : Tables
       s = with_consumers (due_for t among why) t
 
-      number_only : (y : ℕ) (b : Bool) → nat_eq x y ≡ b → (z : Exchange) → t.exchange y ≡ Some z → v.is_lost ≡ false → is_some w.head ≡ true → unstored t y z v (Some k) ≡ []
+      number_only : (y : ℕ) (b : Bool) → nat_eq x y ≡ b → (z : Exchange) → t.exchange y ≡ Some z → v.is_lost ≡ false → is_some w.head ≡ true → unstored_bytes t y z v (Some k) ≡ []
       number_only y true same z there_y kept headed =
           let one : x ≡ y = grind (arith, nat_tests, same) in
           let same_z : w ≡ z = same_row (t.exchange x) w z broken.row (ap t.exchange one ∙ there_y) in
-          subst (λ (n : ℕ). unstored t n z v (Some k) ≡ []) one (subst (λ (a : Exchange). unstored t x a v (Some k) ≡ []) same_z (all_stored kept headed))
+          subst (λ (n : ℕ). unstored_bytes t n z v (Some k) ≡ []) one (subst (λ (a : Exchange). unstored_bytes t x a v (Some k) ≡ []) same_z (all_stored kept headed))
       number_only y false off z there_y kept headed =
           let other : is_number k.own y ≡ false = ap (λ (o : Option ℕ). is_number o y) mine ∙ off in
           ap (λ b. if b then drop (first_lacking t z v k - base z) z.body else []) (then_false (is_bound_place (family y z) k.place) (is_number k.own y) other)
@@ -273,7 +273,7 @@ module _ (limits : Limits) (t : Tables) (facts : Facts limits t) (x : ℕ) (w : 
         stored = λ u headed rep kept y z there_y of_y.
             let same : u ≡ v = same_row (t.representation (family x w)) u v rep there in
             subst (λ (p : Representation). held_alone s y z p (Some c) ≡ []) (sym same)
-            (told_same t among why (unstored s y z v) (λ a. refl) c ∙ (unstored_moved t s y z v (t.consumer c) ∙ (ap (unstored t y z v) at ∙ number_only y (nat_eq x y) refl z there_y (ap (λ (p : Representation). p.is_lost) (sym same) ∙ kept) headed)));
+            (told_same t among why (unstored_bytes s y z v) (λ a. refl) c ∙ (unstored_moved t s y z v (t.consumer c) ∙ (ap (unstored_bytes t y z v) at ∙ number_only y (nat_eq x y) refl z there_y (ap (λ (p : Representation). p.is_lost) (sym same) ∙ kept) headed)));
       }
 
 -- IT BREAKS OFF
@@ -296,9 +296,9 @@ module _ {B : Type 0} {g : Ghosts B} (r mid u : Rows B g) (t : Tables) (facts : 
       by_readers : ReadBy t x w (readers_of x (table_of r.exchanges) (shelf_of r.entries)) → BrokeOff faults u t before out now x w why
       by_readers (past none one) =
           stopped.own w.c (stopped.past none refl) (one_stops w.c (is ∙ one) (may_stop_past r.limits t facts x w broken w.c (λ d. nat_eq w.c d) why none))
-      by_readers (own c k v there (sound.is_bound lo hi way at place_is) owns undue pen one) =
+      by_readers (own c k v there (sound.is_bound lo hi way at place_is) owns undue exclusive_writer one) =
           stopped.own c (stopped.brings k v there at (own_open_of t k x owns).own)
-          (one_stops c (is ∙ one) (may_stop_own r.limits t facts x w broken c k v there lo hi way at place_is owns undue pen (λ d. nat_eq c d) why))
+          (one_stops c (is ∙ one) (may_stop_own r.limits t facts x w broken c k v there lo hi way at place_is owns undue exclusive_writer (λ d. nat_eq c d) why))
       by_readers (shared v there written writer all) =
           let those = is ∙ all in
           stopped.shared v there written writer

@@ -26,9 +26,9 @@ use Rattle.hc_exch.specs.Exchanges.{table_of}
 use Rattle.hc_exch.specs.Known as known
 use Rattle.hc_event.specs.declared.place.Place.TheVariants as place
 use Rattle.hc_model.specs.Denials.{denial}
-use Rattle.hc_model.specs.Effects.{Does, counted, at_end, failing, if_bound, with_due, with_dues, with_exchange, with_length, with_loss, with_representation, let_go, let_some_go, gone, lost_to, going_with, back_from}
+use Rattle.hc_model.specs.Effects.{Does, with_event, at_end, failing, if_bound, with_due, with_dues, with_exchange, with_length, with_loss, with_representation, let_go, let_some_go, as_gone, lost_to, going_with, back_from}
 use Rattle.hc_model.specs.Entries.{Entry}
-use Rattle.hc_model.specs.Exchanges.{base, front, family, promised, is_headless}
+use Rattle.hc_model.specs.Exchanges.{base, front, family, promised_bytes, is_headless}
 use Rattle.hc_model.specs.Failures.{short_of}
 use Rattle.hc_model.specs.Flaws.{NoFlaw, Loses}
 use Rattle.hc_model.specs.Gone.{is_short, stops_early}
@@ -38,13 +38,13 @@ use Rattle.hc_model.specs.Lawful.{Lawful}
 use Rattle.hc_model.specs.LettingGo.{MayLetGo}
 use Rattle.hc_model.specs.Measures.{IsMeasured, told, untold}
 use Rattle.hc_model.specs.Reading.{bound, is_bound, is_bound_place, is_written}
-use Rattle.hc_model.specs.RepresentationRows.{ended}
+use Rattle.hc_model.specs.RepresentationRows.{with_total_if_none}
 use Rattle.hc_model.specs.Rows as rows
 use Rattle.hc_model.specs.Rows.{Tables, Exchange, Representation}
 use Rattle.hc_model.specs.Sound as sound
 use Rattle.hc_model.specs.Sound.{IsAbout, Among, OneCurrent}
 use Rattle.hc_model.specs.Whose as whose
-use Rattle.hc_model.specs.Writes.{written, sealed}
+use Rattle.hc_model.specs.Writes.{written, sealed_representation}
 use Rattle.hc_model.specs.Writers.{exclusive, status_in}
 use Rattle.hc_laws.proofs.LettingGo.{may_let_go, bound_let_go}
 use Rattle.hc_laws.proofs.StopEffects as past_effects
@@ -115,10 +115,10 @@ nothing_dues t r = ap (λ (f : ℕ → Option rows.Consumer). record t { consume
 -- THE LENGTH OF WHAT IS LOST
 
 abbrev length_last : Tables → ℕ → ℕ → Representation → ℕ → Option Representation
-length_last t x n v q = if x == q then option_map (ended n) (if x == q then option_map gone (if x == q then Some (lost_to None v) else t.representation q) else (if x == q then Some (lost_to None v) else t.representation q)) else (if x == q then option_map gone (if x == q then Some (lost_to None v) else t.representation q) else (if x == q then Some (lost_to None v) else t.representation q))
+length_last t x n v q = if x == q then option_map (with_total_if_none n) (if x == q then option_map as_gone (if x == q then Some (lost_to None v) else t.representation q) else (if x == q then Some (lost_to None v) else t.representation q)) else (if x == q then option_map as_gone (if x == q then Some (lost_to None v) else t.representation q) else (if x == q then Some (lost_to None v) else t.representation q))
 
 abbrev length_first : Tables → ℕ → ℕ → Option ℕ → ℕ → Option Representation
-length_first t x n alone q = if x == q then option_map gone (if x == q then option_map (lost_to alone) (if x == q then option_map (ended n) (t.representation q) else t.representation q) else (if x == q then option_map (ended n) (t.representation q) else t.representation q)) else (if x == q then option_map (lost_to alone) (if x == q then option_map (ended n) (t.representation q) else t.representation q) else (if x == q then option_map (ended n) (t.representation q) else t.representation q))
+length_first t x n alone q = if x == q then option_map as_gone (if x == q then option_map (lost_to alone) (if x == q then option_map (with_total_if_none n) (t.representation q) else t.representation q) else (if x == q then option_map (with_total_if_none n) (t.representation q) else t.representation q)) else (if x == q then option_map (lost_to alone) (if x == q then option_map (with_total_if_none n) (t.representation q) else t.representation q) else (if x == q then option_map (with_total_if_none n) (t.representation q) else t.representation q))
 
 length_either : (t : Tables) (x n : ℕ) (v : Representation) (alone : Option ℕ) → t.representation x ≡ Some v → None ≡ alone → length_last t x n v ≡ length_first t x n alone
 length_either t x n v alone there nobody = fun_ext (λ q. elim (same_or x q) [
@@ -136,7 +136,7 @@ lost_whole t now x n w v alone there nobody = ap (λ (f : ℕ → Option Represe
 -- THE ANSWER
 
 -- past the store
-module _ (limits : Limits) (t : Tables) (facts : Facts limits t) (now x : ℕ) (w : Exchange) (row : t.exchange x ≡ Some w) (tells_none : promised w ≡ None) (accepts : denial t (event.End x) ≡ None) where
+module _ (limits : Limits) (t : Tables) (facts : Facts limits t) (now x : ℕ) (w : Exchange) (row : t.exchange x ≡ Some w) (tells_none : promised_bytes w ≡ None) (accepts : denial t (event.End x) ≡ None) where
   abbrev law : Lawful t
   law = facts.law
 
@@ -146,7 +146,7 @@ module _ (limits : Limits) (t : Tables) (facts : Facts limits t) (now x : ℕ) (
   headed : is_some w.head ≡ true
   headed = (end_of t x w row accepts).headed
 
-  no_cause : short_of x w (promised w) ≡ None
+  no_cause : short_of x w (promised_bytes w) ≡ None
   no_cause = ap (short_of x w) tells_none
 
   not_short : is_short w ≡ false
@@ -160,12 +160,12 @@ module _ (limits : Limits) (t : Tables) (facts : Facts limits t) (now x : ℕ) (
       by_head (Some response) some is = rw is (then_false w.is_open false refl)
 
   pub past_answered : {B : Type 0} {g : Ghosts B} (faults : ℕ) (r u : Rows B g) (before : List Act) (c n : ℕ) → t.representation (family x w) ≡ None → n ≡ length w.body → c ≡ w.c → RowsStand r t
-      → u.limits ≡ r.limits → u.received ≡ r.received → u.last_start ≡ r.last_start → u.keys ≡ r.keys → u.entries ≡ r.entries → exch.Becomes known.closed x r.exchanges u.exchanges → ChangesAt r.consumers u.consumers c (changes.with_end n)
+      → u.limits ≡ r.limits → u.received ≡ r.received → u.last_start ≡ r.last_start → u.keys ≡ r.keys → u.entries ≡ r.entries → exch.Becomes known.without_exchange x r.exchanges u.exchanges → ChangesAt r.consumers u.consumers c (changes.with_end n)
       → Answered limits faults u t before before now (event.End x)
   past_answered faults r u before c n none all its stands same_limits received last keys entries becomes knows =
       let z : Tables = with_exchange x (Some (at_end w)) t in
-      does_answered limits faults u t (counted now (event.End x) z) before before [] now (event.End x)
-      (subst (λ (s : Tables). Does limits t now (event.End x) NoFlaw [] (counted now (event.End x) s)) (ap (λ o. with_due w.c o z) no_cause ∙ nothing_due z w.c) (past_effects.ends_past limits t law now x w row none accepts))
+      does_answered limits faults u t (with_event now (event.End x) z) before before [] now (event.End x)
+      (subst (λ (s : Tables). Does limits t now (event.End x) NoFlaw [] (with_event now (event.End x) s)) (ap (λ o. with_due w.c o z) no_cause ∙ nothing_due z w.c) (past_effects.ends_past limits t law now x w row none accepts))
       refl refl (sym (append-nil before))
       (stands_counted u z now (event.End x) refl (stands_past r u t law x w row opened headed none tells_none n all stands awaits_none same_limits received last keys entries becomes c its knows))
 
@@ -211,25 +211,25 @@ module _ (limits : Limits) (t : Tables) (facts : Facts limits t) (now x : ℕ) (
     going_none o = ap (λ b. if b then o else None) not_short
 
     -- what the end does, where all goes well
-    quiet : Does limits t now (event.End x) NoFlaw [] (counted now (event.End x) (with_length x (length w.body) (with_exchange x (Some (at_end w)) t)))
+    quiet : Does limits t now (event.End x) NoFlaw [] (with_event now (event.End x) (with_length x (length w.body) (with_exchange x (Some (at_end w)) t)))
     quiet = by_whose (law.whose.somebodys x w row opened)
       where
         z : Tables
         z = with_exchange x (Some (at_end w)) t
 
-        to_it : (s : Tables) → s ≡ z → Does limits t now (event.End x) NoFlaw [] (counted now (event.End x) (let_some_go now (if is_short w then going_with t (Some x) else None) (with_length x (length w.body) s))) → Does limits t now (event.End x) NoFlaw [] (counted now (event.End x) (with_length x (length w.body) (with_exchange x (Some (at_end w)) t)))
+        to_it : (s : Tables) → s ≡ z → Does limits t now (event.End x) NoFlaw [] (with_event now (event.End x) (let_some_go now (if is_short w then going_with t (Some x) else None) (with_length x (length w.body) s))) → Does limits t now (event.End x) NoFlaw [] (with_event now (event.End x) (with_length x (length w.body) (with_exchange x (Some (at_end w)) t)))
         to_it s same does =
-            subst (λ (a : Tables). Does limits t now (event.End x) NoFlaw [] (counted now (event.End x) (with_length x (length w.body) a))) same
-            (subst (λ o. Does limits t now (event.End x) NoFlaw [] (counted now (event.End x) (let_some_go now o (with_length x (length w.body) s)))) (going_none (going_with t (Some x))) does)
+            subst (λ (a : Tables). Does limits t now (event.End x) NoFlaw [] (with_event now (event.End x) (with_length x (length w.body) a))) same
+            (subst (λ o. Does limits t now (event.End x) NoFlaw [] (with_event now (event.End x) (let_some_go now o (with_length x (length w.body) s)))) (going_none (going_with t (Some x))) does)
 
-        by_whose : whose.IsSomebodys t x w → Does limits t now (event.End x) NoFlaw [] (counted now (event.End x) (with_length x (length w.body) (with_exchange x (Some (at_end w)) t)))
+        by_whose : whose.IsSomebodys t x w → Does limits t now (event.End x) NoFlaw [] (with_event now (event.End x) (with_length x (length w.body) (with_exchange x (Some (at_end w)) t)))
         by_whose (whose.own k none at owns stands) = none_some v (sym none ∙ there)
         by_whose (whose.shared p rep on writer) =
             let one : p ≡ v = same_row (t.representation (family x w)) p v rep there in
-            to_it (with_dues (family x w) (short_of x w (promised w)) z) (ap (λ o. with_dues (family x w) o z) no_cause ∙ nothing_dues z (family x w))
+            to_it (with_dues (family x w) (short_of x w (promised_bytes w)) z) (ap (λ o. with_dues (family x w) o z) no_cause ∙ nothing_dues z (family x w))
             (seal_effects.ends_shared limits t law now x w row (family x w) p refl rep on writer accepts)
         by_whose (whose.read c k p rep (sound.is_bound lo hi how at is) owns undue owner) =
-            to_it (with_due c (short_of x w (promised w)) z) (ap (λ o. with_due c o z) no_cause ∙ nothing_due z c)
+            to_it (with_due c (short_of x w (promised_bytes w)) z) (ap (λ o. with_due c o z) no_cause ∙ nothing_due z c)
             (seal_effects.ends_own limits t law now x w row (family x w) p refl rep c k at owns accepts)
 
     none_first : NobodyFirst t x
@@ -246,15 +246,15 @@ module _ (limits : Limits) (t : Tables) (facts : Facts limits t) (now x : ℕ) (
         by_test false is = refl
         by_test true is = false_true (sym stays ∙ (law.sound.rows x v here).store.lost_is_gone is)
 
-    loses : v.is_gone ≡ false → Does limits t now (event.End x) (Loses x kind.Fault) (act.Lost x kind.Fault ∷ []) (counted now (event.End x) (let_go now x (with_loss x (exclusive t x v) (with_length x (length w.body) (with_exchange x (Some (at_end w)) t)))))
+    loses : v.is_gone ≡ false → Does limits t now (event.End x) (Loses x kind.Fault) (act.Lost x kind.Fault ∷ []) (with_event now (event.End x) (let_go now x (with_loss x (exclusive t x v) (with_length x (length w.body) (with_exchange x (Some (at_end w)) t)))))
     loses stays =
         let is = coming stays in
         let z : Tables = with_exchange x (Some (at_end w)) t in
-        subst (λ (a : Tables). Does limits t now (event.End x) (Loses x kind.Fault) (act.Lost x kind.Fault ∷ []) (counted now (event.End x) (let_go now x (with_loss x (exclusive t x v) (with_length x (length w.body) a))))) (ap (λ o. with_dues x o z) no_cause ∙ nothing_dues z x)
+        subst (λ (a : Tables). Does limits t now (event.End x) (Loses x kind.Fault) (act.Lost x kind.Fault ∷ []) (with_event now (event.End x) (let_go now x (with_loss x (exclusive t x v) (with_length x (length w.body) a))))) (ap (λ o. with_dues x o z) no_cause ∙ nothing_dues z x)
         (seal_effects.ends_shared_lost limits t law now x w row x v measured.own here is.written is.writer accepts kind.Fault (kept stays))
 
     module _ {B : Type 0} {g : Ghosts B} (faults : ℕ) (r mid u : Rows B g) (stands : RowsStand r t) (before out : List Act)
-        (same_limits : u.limits ≡ mid.limits) (received : u.received ≡ mid.received) (last : u.last_start ≡ mid.last_start) (keys : u.keys ≡ mid.keys) (entries : u.entries ≡ mid.entries) (becomes : exch.Becomes known.closed x mid.exchanges u.exchanges)
+        (same_limits : u.limits ≡ mid.limits) (received : u.received ≡ mid.received) (last : u.last_start ≡ mid.last_start) (keys : u.keys ≡ mid.keys) (entries : u.entries ≡ mid.entries) (becomes : exch.Becomes known.without_exchange x mid.exchanges u.exchanges)
         (knows : ChangesAmong mid.consumers u.consumers (λ d. has itself d (bound_in ((shelf_of mid.entries).kept x))) (changes.with_end (length w.body))) where
       abbrev n : ℕ
       n = length w.body
@@ -269,7 +269,7 @@ module _ (limits : Limits) (t : Tables) (facts : Facts limits t) (now x : ℕ) (
       quietly_ends : out ≡ before → RowsStand u (with_length x n (with_exchange x (Some (at_end w)) t)) → Answered limits faults u t before out now (event.End x)
       quietly_ends same rows =
           let s : Tables = with_length x n (with_exchange x (Some (at_end w)) t) in
-          does_answered limits faults u t (counted now (event.End x) s) before out [] now (event.End x) quiet refl refl (same ∙ sym (append-nil before)) (stands_counted u s now (event.End x) refl rows)
+          does_answered limits faults u t (with_event now (event.End x) s) before out [] now (event.End x) quiet refl refl (same ∙ sym (append-nil before)) (stands_counted u s now (event.End x) refl rows)
 
       -- what is gone stays
       gone_stays : (s : Tables) (p : Representation) → RowsStand mid s → s.exchange x ≡ Some w → s.representation x ≡ Some p → p.head.total ≡ None → p.is_gone ≡ true → p.body ≡ v.body → (bound s x ≡ [] → ⊥) → ((d : ℕ) (k : rows.Consumer) → s.consumer d ≡ Some k → k.place ≡ place.Direct x → ⊥) → NobodyAwaits s x → NobodyFirst s x
@@ -278,7 +278,7 @@ module _ (limits : Limits) (t : Tables) (facts : Facts limits t) (now x : ℕ) (
           let each : KeepsEntry s x ((shelf_of mid.entries).kept x) (s.representation x) = rows.entries.each x in
           let users = users_by s ((shelf_of mid.entries).kept x) (s.representation x) some (ap (λ z. is_some z) s_rep) each in
           let after : Tables = with_length x n (with_exchange x (Some (at_end w)) s) in
-          let here_now : after.representation x ≡ Some (ended n p) = rw (eqb-same x, s_rep) refl in
+          let here_now : after.representation x ≡ Some (with_total_if_none n p) = rw (eqb-same x, s_rep) refl in
           let each_now : KeepsEntry after x ((shelf_of u.entries).kept x) (after.representation x) =
           rw (entries, here_now) (gone_longer s x n (Some (at_end w)) p s_rep unknown refl is_gone (subst (λ f. Covers f 0 n) (sym same_body) came) firsts ((shelf_of mid.entries).kept x) (subst (KeepsEntry s x ((shelf_of mid.entries).kept x)) s_rep each)) in
           stands_whole mid u s x w n p s_row s_rep measured.own unknown rows nobody awaits same_limits received last keys becomes (λ d. has itself d (bound_in ((shelf_of mid.entries).kept x))) users knows (ap (λ z. (shelf_of z).limits) entries)
@@ -315,24 +315,24 @@ module _ (limits : Limits) (t : Tables) (facts : Facts limits t) (now x : ℕ) (
           by_kept : (k : Option Kept) → (shelf_of r.entries).kept x ≡ k → KeepsEntry t x k (Some v) → RowsStand u after
           by_kept None at dropped = false_true (sym stays ∙ dropped.gone)
           by_kept (Some e) at is =
-              let seals_it : (shelf_of mid.entries).kept x ≡ Some (entry.sealed kinds.Whole (Some n) e) = seals.kept x ∙ rw (eqb-same x, at) refl in
+              let seals_it : (shelf_of mid.entries).kept x ≡ Some (entry.sealed_kept kinds.Whole (Some n) e) = seals.kept x ∙ rw (eqb-same x, at) refl in
               let users : ℕ → Bool = λ d. has itself d (bound_in ((shelf_of mid.entries).kept x)) in
               let users_so : (d : ℕ) → has itself d (bound_in ((shelf_of mid.entries).kept x)) ≡ is_bound x (t.consumer d) = λ d. ap (λ z. has itself d (bound_in z)) seals_it ∙ is.bound d in
-              let here_now : after.representation x ≡ Some (ended n v) = rw (eqb-same x, here) refl in
+              let here_now : after.representation x ≡ Some (with_total_if_none n v) = rw (eqb-same x, here) refl in
               let each_now : KeepsEntry after x ((shelf_of u.entries).kept x) (after.representation x) =
               rw (entries, seals_it, here_now) (sealed_longer t x n (Some (at_end w)) v here measured.untold refl stopped_growing all_stored ends e is) in
-              let becomes_r : exch.Becomes known.closed x r.exchanges u.exchanges = subst (λ z. exch.Becomes known.closed x z u.exchanges) rest.exchanges becomes in
+              let becomes_r : exch.Becomes known.without_exchange x r.exchanges u.exchanges = subst (λ z. exch.Becomes known.without_exchange x z u.exchanges) rest.exchanges becomes in
               let knows_r : ChangesAmong r.consumers u.consumers (λ d. has itself d (bound_in ((shelf_of mid.entries).kept x))) (changes.with_end n) = subst (λ z. ChangesAmong z u.consumers (λ d. has itself d (bound_in ((shelf_of mid.entries).kept x))) (changes.with_end n)) rest.consumers knows in
               let bounded : (shelf_of u.entries).limits ≡ (shelf_of r.entries).limits = ap (λ z. (shelf_of z).limits) entries ∙ seals.limits in
               stands_whole r u t x w n v row here measured.own measured.untold stands unread awaits_none (same_limits ∙ rest.limits) (received ∙ rest.received) (last ∙ rest.last_start) (keys ∙ rest.keys) becomes_r (λ d. has itself d (bound_in ((shelf_of mid.entries).kept x))) users_so knows_r bounded
               (entries_whole r u t x w n v row here measured.own measured.untold stands unread awaits_none (same_limits ∙ rest.limits) (received ∙ rest.received) (last ∙ rest.last_start) (keys ∙ rest.keys) becomes_r (λ d. has itself d (bound_in ((shelf_of mid.entries).kept x))) users_so knows_r bounded
               (shelf_of u.entries) (ap (λ z. (shelf_of z).order) entries ∙ seals.order) (λ q ne. ap (λ z. (shelf_of z).kept q) entries ∙ (seals.kept q ∙ rw (eqb-other x q ne) refl)) each_now)
       whole_answered (stopped.lost stays told_so failed rows) =
-          lossy_answered limits faults u t (counted now (event.End x) model) before out (act.Lost x kind.Fault ∷ []) now (event.End x) x (loses stays)
+          lossy_answered limits faults u t (with_event now (event.End x) model) before out (act.Lost x kind.Fault ∷ []) now (event.End x) x (loses stays)
           (ap (λ (acts : List Act). written t (record { now = now; event = event.End x; acts = acts })) (loses stays).acts_are ∙ written_is)
           (rw (here, kept stays) refl) refl (subst (λ z. faults < (shelf_of z).faults) (sym entries) failed) told_so
           (stands_counted u model now (event.End x) refl (subst (RowsStand u) (lost_whole t now x n w v (exclusive t x v) here (none_alone limits t facts x w broken x v (coming stays).written))
-          (gone_stays after (gone (lost_to None v)) rows row gone_here measured.untold refl refl used_then (unread_go now x before_it x unread) (unawaited_go now x before_it x awaits_none) (nobody_first_go now x x before_it none_first_before))))
+          (gone_stays after (as_gone (lost_to None v)) rows row gone_here measured.untold refl refl used_then (unread_go now x before_it x unread) (unawaited_go now x before_it x awaits_none) (nobody_first_go now x x before_it none_first_before))))
         where
           before_it : Tables
           before_it = with_representation x (Some (lost_to None v)) t
@@ -353,7 +353,7 @@ module _ (limits : Limits) (t : Tables) (facts : Facts limits t) (now x : ℕ) (
           broken : stopped.IsBroken t x w
           broken = record { row = row; is_open = opened; shown = λ bare k at. false_true (sym (ap (λ z. is_some z) bare) ∙ headed) }
 
-          gone_here : after.representation x ≡ Some (gone (lost_to None v))
+          gone_here : after.representation x ≡ Some (as_gone (lost_to None v))
           gone_here = rw (eqb-same x) refl
 
           used_then : bound after x ≡ [] → ⊥

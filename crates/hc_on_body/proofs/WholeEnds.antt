@@ -24,13 +24,13 @@ use Rattle.hc_event.specs.declared.place.Place.TheVariants as place
 use Rattle.hc_event.specs.declared.place.BoundBy.{BoundBy}
 use Rattle.hc_model.specs.Currents.{current, is_number, is_usable, total_in}
 use Rattle.hc_model.specs.Effects.{at_end, with_exchange, with_length}
-use Rattle.hc_model.specs.Exchanges.{base, front, family, promised}
+use Rattle.hc_model.specs.Exchanges.{base, front, family, promised_bytes}
 use Rattle.hc_model.specs.Growing.{Grows}
 use Rattle.hc_model.specs.Holes.{covers}
 use Rattle.hc_model.specs.Kinds.{kind_of, is_growing, is_complete, covers_all, brings_to}
 use Rattle.hc_model.specs.Lawful.{Lawful}
 use Rattle.hc_model.specs.Reading.{bound, is_bound, is_bound_place, base_in, end_in, end_of_direct, lo_of, hi_of}
-use Rattle.hc_model.specs.RepresentationRows.{ended}
+use Rattle.hc_model.specs.RepresentationRows.{with_total_if_none}
 use Rattle.hc_model.specs.Rows as rows
 use Rattle.hc_model.specs.Rows.{Tables, Exchange, Representation}
 use Rattle.hc_model.specs.Writers.{status_in}
@@ -39,12 +39,12 @@ use Rattle.hc_state.specs.declared.consumer.Consumer.{Consumer}
 use Rattle.hc_state.specs.declared.rows.Rows.{Rows}
 use Rattle.hc_state.specs.Changes.{ChangesAt, ChangesAmong}
 use Rattle.hc_state.specs.Changes as changes
-use Rattle.hc_state.specs.Kept.{IsKept, KeepsConsumer, KeepsExchange, head_in, answer_at, held_for, held_of, held_alone, unstored}
+use Rattle.hc_state.specs.Kept.{IsKept, KeepsConsumer, KeepsExchange, head_in, answer_at, held_for, held_of, held_alone, unstored_bytes}
 use Rattle.hc_state.specs.Lines.{KeepsKey}
 use Rattle.hc_state.specs.Stands.{RowsStand}
 use Rattle.hc_state.specs.Stopped.{NobodyAwaits}
 use Rattle.hc_state.specs.Stored.{IsEntry, TellsLength, told, untold, KeepsEntry, KeepsEntries, is_first, is_usable_row, is_over}
-use Rattle.hc_state.proofs.Asides.{unstored_moved}
+use Rattle.hc_state.proofs.Fallbacks.{unstored_moved}
 use Rattle.hc_on_body.proofs.BreakArm.{closed_is}
 use Rattle.hc_on_body.proofs.CameAlone.{NobodyFirst}
 use Rattle.hc_state.proofs.Closing.{exchange_closed, key_closed, entries_closed}
@@ -64,7 +64,7 @@ module _ (t : Tables) (x : ℕ) (w : Exchange) (row : t.exchange x ≡ Some w) w
   abbrev pub z : Tables
   z = with_exchange x (Some (at_end w)) t
 
-  pub exchange_ends : (y : ℕ) (before after : Known) → after ≡ (if nat_eq x y then known.closed before else before) → KeepsExchange t y before → KeepsExchange z y after
+  pub exchange_ends : (y : ℕ) (before after : Known) → after ≡ (if nat_eq x y then known.without_exchange before else before) → KeepsExchange t y before → KeepsExchange z y after
   exchange_ends y before after is kept =
       let closes : KeepsExchange (with_over x w t.exchange t) y after = subst (λ (s : Tables). KeepsExchange s y after) (closed_is t x w row) (exchange_closed t x y before after is kept) in
       record {
@@ -94,20 +94,20 @@ module _ (t : Tables) (x n : ℕ) (v : Representation) (there : t.representation
   abbrev pub f : Tables
   f = with_length x n t
 
-  here : f.representation x ≡ Some (ended n v)
+  here : f.representation x ≡ Some (with_total_if_none n v)
   here = rw (eqb-same x, there) refl
 
   others : (q : ℕ) → x ≢ q → f.representation q ≡ t.representation q
   others q ne = rw (eqb-other x q ne) refl
 
-  pub length_is : (ended n v).head.total ≡ Some n
+  pub length_is : (with_total_if_none n v).head.total ≡ Some n
   length_is = ap (λ o. option_or o (Some n)) untold_yet
 
   -- what doesn't look at the length is told as before
-  pub told_longer : {A : Type 0} (h : Option Representation → A) → ((u : Representation) → h (Some (ended n u)) ≡ h (Some u)) → (q : ℕ) → h (f.representation q) ≡ h (t.representation q)
+  pub told_longer : {A : Type 0} (h : Option Representation → A) → ((u : Representation) → h (Some (with_total_if_none n u)) ≡ h (Some u)) → (q : ℕ) → h (f.representation q) ≡ h (t.representation q)
   told_longer h alike q = by_test (nat_eq x q) (t.representation q)
     where
-      by_test : (b : Bool) (o : Option Representation) → h (if b then option_map (ended n) o else o) ≡ h o
+      by_test : (b : Bool) (o : Option Representation) → h (if b then option_map (with_total_if_none n) o else o) ≡ h o
       by_test true None = refl
       by_test true (Some u) = alike u
       by_test false o = refl
@@ -116,11 +116,11 @@ module _ (t : Tables) (x n : ℕ) (v : Representation) (there : t.representation
   held_longer y None = refl
   held_longer y (Some u) = by_test (nat_eq x (family y u)) (t.representation (family y u))
     where
-      unstored_longer : (p : Representation) (o : Option rows.Consumer) → unstored f y u (ended n p) o ≡ unstored t y u p o
+      unstored_longer : (p : Representation) (o : Option rows.Consumer) → unstored_bytes f y u (with_total_if_none n p) o ≡ unstored_bytes t y u p o
       unstored_longer p None = refl
       unstored_longer p (Some k) = unstored_moved t f y u p (Some k)
 
-      alone_longer : (p : Representation) (o : Option ℕ) → held_alone f y u (ended n p) o ≡ held_alone t y u p o
+      alone_longer : (p : Representation) (o : Option ℕ) → held_alone f y u (with_total_if_none n p) o ≡ held_alone t y u p o
       alone_longer p None = refl
       alone_longer p (Some c) = unstored_longer p (t.consumer c)
 
@@ -128,7 +128,7 @@ module _ (t : Tables) (x n : ℕ) (v : Representation) (there : t.representation
       alone_moved p None = refl
       alone_moved p (Some c) = unstored_moved t f y u p (t.consumer c)
 
-      by_test : (b : Bool) (o : Option Representation) → held_of f y u (if b then option_map (ended n) o else o) ≡ held_of t y u o
+      by_test : (b : Bool) (o : Option Representation) → held_of f y u (if b then option_map (with_total_if_none n) o else o) ≡ held_of t y u o
       by_test true None = refl
       by_test true (Some p) = alone_longer p p.alone
       by_test false None = refl
@@ -146,8 +146,8 @@ module _ (t : Tables) (x n : ℕ) (v : Representation) (there : t.representation
 
   -- REPRESENTATIONS
 
-  pub head_longer : (e : Kept) → sealed_head kinds.Growing v.head.total e.head ≡ v.head → sealed_head kinds.Growing (ended n v).head.total e.head ≡ (ended n v).head
-  head_longer e is = ap (λ (h : Head). record h { total = (ended n v).head.total }) is
+  pub head_longer : (e : Kept) → sealed_head kinds.Growing v.head.total e.head ≡ v.head → sealed_head kinds.Growing (with_total_if_none n v).head.total e.head ≡ (with_total_if_none n v).head
+  head_longer e is = ap (λ (h : Head). record h { total = (with_total_if_none n v).head.total }) is
 
   pub untold_kept : (e : Kept) → TellsLength e v → e.head.total ≡ None
   untold_kept e (told same) = same ∙ untold_yet
@@ -178,7 +178,7 @@ module _ (a : Tables) (x n : ℕ) (z : Option Exchange) (v : Representation) (th
       by_first (Some d) at = false_true (sym (nobody d) ∙ (sym (is.first d) ∙ (ap (λ (z : Option ℕ). is_number z d) at ∙ eqb-same d)))
 
   -- once it is gone its length isn't told
-  pub gone_longer : is_over z ≡ true → v.is_gone ≡ true → Covers v.body 0 n → NobodyFirst a x → (k : Option Kept) → KeepsEntry a x k (Some v) → KeepsEntry longer x k (Some (ended n v))
+  pub gone_longer : is_over z ≡ true → v.is_gone ≡ true → Covers v.body 0 n → NobodyFirst a x → (k : Option Kept) → KeepsEntry a x k (Some v) → KeepsEntry longer x k (Some (with_total_if_none n v))
   unfolding bound kind_of
   gone_longer done is_gone came nobody None kept = record { gone = kept.gone; unused = kept.unused }
   gone_longer done is_gone came nobody (Some e) is = record {
@@ -199,7 +199,7 @@ module _ (a : Tables) (x n : ℕ) (z : Option Exchange) (v : Representation) (th
   }
 
   -- what is sealed as whole and so long is
-  pub sealed_longer : is_over z ≡ true → is_growing t x ≡ false → Covers v.stored 0 n → EndsBy v.reach v.stored → (e : Kept) → IsEntry a x e v → IsEntry longer x (entry.sealed kinds.Whole (Some n) e) (ended n v)
+  pub sealed_longer : is_over z ≡ true → is_growing t x ≡ false → Covers v.stored 0 n → EndsBy v.reach v.stored → (e : Kept) → IsEntry a x e v → IsEntry longer x (entry.sealed_kept kinds.Whole (Some n) e) (with_total_if_none n v)
   unfolding bound kind_of
   sealed_longer done still all ends e is = record {
     used = is.used;
@@ -218,17 +218,17 @@ module _ (a : Tables) (x n : ℕ) (z : Option Exchange) (v : Representation) (th
     is_gone = is.is_gone;
   }
     where
-      complete : is_complete (ended n v) ≡ true
-      complete = ap (covers_all (ended n v)) (length_is t x n v there untold_yet) ∙ covers_yes v.stored v.reach 0 n ends all
+      complete : is_complete (with_total_if_none n v) ≡ true
+      complete = ap (covers_all (with_total_if_none n v)) (length_is t x n v there untold_yet) ∙ covers_yes v.stored v.reach 0 n ends all
 
-      kind_is : (if is_growing t x then kinds.Growing else if is_complete (ended n v) then kinds.Whole else if Rattle.hc_model.specs.Kinds.is_front (ended n v) then kinds.Truncated else kinds.Ranges) ≡ kinds.Whole
+      kind_is : (if is_growing t x then kinds.Growing else if is_complete (with_total_if_none n v) then kinds.Whole else if Rattle.hc_model.specs.Kinds.is_front (with_total_if_none n v) then kinds.Truncated else kinds.Ranges) ≡ kinds.Whole
       kind_is = rw (still, complete) refl
 
 -- ALL OF IT
 
 module _ {B : Type 0} {g : Ghosts B} (r u : Rows B g) (t : Tables) (x : ℕ) (w : Exchange) (n : ℕ) (v : Representation) (row : t.exchange x ≡ Some w) (there : t.representation x ≡ Some v) (own : family x w ≡ x) (untold_yet : v.head.total ≡ None) (stands : RowsStand r t)
     (unread : (d : ℕ) (k : rows.Consumer) → t.consumer d ≡ Some k → k.place ≡ place.Direct x → ⊥) (unawaited : NobodyAwaits t x)
-    (limits : u.limits ≡ r.limits) (received : u.received ≡ r.received) (last : u.last_start ≡ r.last_start) (keys : u.keys ≡ r.keys) (becomes : exch.Becomes known.closed x r.exchanges u.exchanges)
+    (limits : u.limits ≡ r.limits) (received : u.received ≡ r.received) (last : u.last_start ≡ r.last_start) (keys : u.keys ≡ r.keys) (becomes : exch.Becomes known.without_exchange x r.exchanges u.exchanges)
     (users : ℕ → Bool) (users_are : (d : ℕ) → users d ≡ is_bound x (t.consumer d)) (knows : ChangesAmong r.consumers u.consumers users (changes.with_end n)) (bounded : (shelf_of u.entries).limits ≡ (shelf_of r.entries).limits) where
   abbrev mid : Tables
   mid = with_exchange x (Some (at_end w)) t
@@ -257,10 +257,10 @@ module _ {B : Type 0} {g : Ghosts B} (r u : Rows B g) (t : Tables) (x : ℕ) (w 
     due = kept.due;
   }
     where
-      here_now : whole.representation x ≡ Some (ended n v)
+      here_now : whole.representation x ≡ Some (with_total_if_none n v)
       here_now = rw (eqb-same x, there) refl
 
-      by_hi : (o : Option ℕ) → option_or (option_or o v.head.total) (Some n) ≡ option_or o (ended n v).head.total
+      by_hi : (o : Option ℕ) → option_or (option_or o v.head.total) (Some n) ≡ option_or o (with_total_if_none n v).head.total
       by_hi None = refl
       by_hi (Some h) = refl
 
@@ -304,7 +304,7 @@ module _ {B : Type 0} {g : Ghosts B} (r u : Rows B g) (t : Tables) (x : ℕ) (w 
     entries = entries;
   }
     where
-      by_here : (y : ℕ) → table_of u.exchanges y ≡ (if nat_eq x y then known.closed (table_of r.exchanges y) else table_of r.exchanges y)
+      by_here : (y : ℕ) → table_of u.exchanges y ≡ (if nat_eq x y then known.without_exchange (table_of r.exchanges y) else table_of r.exchanges y)
       by_here y = becomes.table y ∙ elim (same_or x y) [
         | inl e ↦ rw (e, eqb-same y) refl
         | inr ne ↦ rw (eqb-other x y ne) refl
@@ -328,8 +328,8 @@ module _ {B : Type 0} {g : Ghosts B} (r u : Rows B g) (t : Tables) (x : ℕ) (w 
 
 -- PAST THE STORE
 
-module _ {B : Type 0} {g : Ghosts B} (r u : Rows B g) (t : Tables) (law : Lawful t) (x : ℕ) (w : Exchange) (row : t.exchange x ≡ Some w) (opened : w.is_open ≡ true) (headed : is_some w.head ≡ true) (none : t.representation (family x w) ≡ None) (tells_none : promised w ≡ None) (n : ℕ) (all : n ≡ length w.body) (stands : RowsStand r t) (unawaited : NobodyAwaits t x)
-    (limits : u.limits ≡ r.limits) (received : u.received ≡ r.received) (last : u.last_start ≡ r.last_start) (keys : u.keys ≡ r.keys) (entries : u.entries ≡ r.entries) (becomes : exch.Becomes known.closed x r.exchanges u.exchanges) (c : ℕ) (its : c ≡ w.c) (knows : ChangesAt r.consumers u.consumers c (changes.with_end n)) where
+module _ {B : Type 0} {g : Ghosts B} (r u : Rows B g) (t : Tables) (law : Lawful t) (x : ℕ) (w : Exchange) (row : t.exchange x ≡ Some w) (opened : w.is_open ≡ true) (headed : is_some w.head ≡ true) (none : t.representation (family x w) ≡ None) (tells_none : promised_bytes w ≡ None) (n : ℕ) (all : n ≡ length w.body) (stands : RowsStand r t) (unawaited : NobodyAwaits t x)
+    (limits : u.limits ≡ r.limits) (received : u.received ≡ r.received) (last : u.last_start ≡ r.last_start) (keys : u.keys ≡ r.keys) (entries : u.entries ≡ r.entries) (becomes : exch.Becomes known.without_exchange x r.exchanges u.exchanges) (c : ℕ) (its : c ≡ w.c) (knows : ChangesAt r.consumers u.consumers c (changes.with_end n)) where
   abbrev pub past : Tables
   past = with_exchange x (Some (at_end w)) t
 
@@ -407,7 +407,7 @@ module _ {B : Type 0} {g : Ghosts B} (r u : Rows B g) (t : Tables) (law : Lawful
     entries = rw entries (entries_end (subst (λ (s : Tables). KeepsEntries s (shelf_of r.entries)) (closed_is t x w row) (entries_closed t x (shelf_of r.entries) apart stands.entries)));
   }
     where
-      by_here : (y : ℕ) → table_of u.exchanges y ≡ (if nat_eq x y then known.closed (table_of r.exchanges y) else table_of r.exchanges y)
+      by_here : (y : ℕ) → table_of u.exchanges y ≡ (if nat_eq x y then known.without_exchange (table_of r.exchanges y) else table_of r.exchanges y)
       by_here y = becomes.table y ∙ elim (same_or x y) [
         | inl e ↦ rw (e, eqb-same y) refl
         | inr ne ↦ rw (eqb-other x y ne) refl

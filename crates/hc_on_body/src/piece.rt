@@ -1,8 +1,8 @@
 //! Pieces of exchanges.
 ghost use Rattle.std.specs.Prelude.{◌≡◌, ◌+◌, ◌≤◌, ◌<◌, ◌^◌, ◌++◌, ◌∷◌, ◌↔◌, [], IsTrue, ℕ, List, length, take, true, Ok, Some, None, OnOk, OnErr};
-ghost use Rattle.hc_sparse.specs.Cells.{AreAbsent, Covers, written};
+ghost use Rattle.hc_sparse.specs.Cells.{AreAbsent, Covers, cells_with};
 ghost use Rattle.hc_store.specs.Causes.{HasCause, IsWithin};
-ghost use Rattle.hc_event.specs.Acts.{listed, spare};
+ghost use Rattle.hc_event.specs.Acts.{act_list, spare};
 ghost use Rattle.hc_event.specs.declared.act.Act.{Act};
 ghost use Rattle.hc_event.specs.declared.act.Act.TheVariants as act;
 ghost use Rattle.hc_event.specs.declared.act.LostKind.{LostKind};
@@ -16,9 +16,9 @@ ghost use Rattle.hc_stored.specs.Views.{view_of};
 ghost use Rattle.hc_exch.specs.declared.row.Open.{Open};
 ghost use Rattle.hc_exch.specs.Exchanges.{table_of};
 ghost use Rattle.hc_exch.specs.Known.{is_open, is_all, EndsBelow};
-ghost use Rattle.hc_model.specs.Effects.{gone, lost_to};
+ghost use Rattle.hc_model.specs.Effects.{as_gone, lost_to};
 ghost use Rattle.hc_model.specs.Rows.{Tables, Exchange, Representation};
-ghost use Rattle.hc_state.specs.Pieces.{stored_by, grown, IsLastKind, PutsPiece};
+ghost use Rattle.hc_state.specs.Pieces.{stored_by, larger_view, IsLastKind, PutsPiece};
 ghost use Rattle.hc_state.specs.Refused.{brought_lost, own_loss, LosesPiece, MayLoseOwn, MayLosePiece, RefusesPiece};
 ghost use Rattle.hc_state.specs.Stands.{RowsStand, Stays, Answers, Stands, open_at};
 ghost use Rattle.hc_state.specs.Stops.{kind_left, IsTold};
@@ -50,12 +50,12 @@ pub fn take_piece<B: Backend>(
     requires short { length bytes.now ≤ 65536 }
     requires small { rows.old.received + length bytes.now < 2 ^ 61 }
     requires room { 4 ≤ spare out.old }
-    ensures answers { OnOk result (Answers rows.old rows.new (listed out.old) (listed out.new)
+    ensures answers { OnOk result (Answers rows.old rows.new (act_list out.old) (act_list out.new)
         now (Piece x bytes.now)) }
     ensures received { OnOk result (rows.new.received ≡ rows.old.received + length bytes.now) }
     ensures limits { OnOk result (rows.new.limits ≡ rows.old.limits) }
     ensures faults { (shelf_of rows.old.entries).faults ≤ (shelf_of rows.new.entries).faults }
-    ensures kept { OnErr result (listed out.new ≡ listed out.old) }
+    ensures kept { OnErr result (act_list out.new ≡ act_list out.old) }
 {
     let Some(r) = stored_by(rows, x) else {
         return hold_piece(rows, x, bytes);
@@ -83,12 +83,12 @@ fn grow<B: Backend>(
     requires short { length bytes.now ≤ 65536 }
     requires small { rows.old.received + length bytes.now < 2 ^ 61 }
     requires room { 4 ≤ spare out.old }
-    ensures answers { OnOk result (Answers rows.old rows.new (listed out.old) (listed out.new)
+    ensures answers { OnOk result (Answers rows.old rows.new (act_list out.old) (act_list out.new)
         now (Piece x bytes.now)) }
     ensures received { OnOk result (rows.new.received ≡ rows.old.received + length bytes.now) }
     ensures limits { rows.new.limits ≡ rows.old.limits }
     ensures faults { (shelf_of rows.old.entries).faults ≤ (shelf_of rows.new.entries).faults }
-    ensures front { take (length (listed out.old)) (listed out.new) ≡ listed out.old }
+    ensures front { take (length (act_list out.old)) (act_list out.new) ≡ act_list out.old }
 {
     let writing = writing(rows, r).is_some();
     let alone = exclusive(rows, r);
@@ -118,9 +118,9 @@ fn lose_own_piece<B: Backend>(
     requires room { 1 ≤ spare out.old }
     ensures lost { OnOk result ((t : Tables) (w : Exchange) (v : Representation)
         → MayLoseOwn t now r x w v alone → RowsStand rows.old t
-        → RowsStand rows.new (brought_lost now r x w bytes.now (gone (lost_to alone v))
+        → RowsStand rows.new (brought_lost now r x w bytes.now (as_gone (lost_to alone v))
         (own_loss now r v alone t))) }
-    ensures acts { listed out.new ≡ listed out.old ++ act.Lost r kind ∷ [] }
+    ensures acts { act_list out.new ≡ act_list out.old ++ act.Lost r kind ∷ [] }
     ensures received { OnOk result (rows.new.received ≡ rows.old.received + length bytes.now) }
     ensures limits { rows.new.limits ≡ rows.old.limits }
     ensures faults { (shelf_of rows.new.entries).faults ≡ (shelf_of rows.old.entries).faults }
@@ -149,16 +149,16 @@ fn lose_shared_piece<B: Backend>(
     requires room { 2 ≤ spare out.old }
     ensures lost { OnOk result ((t : Tables) (w : Exchange) (v : Representation)
         → MayLosePiece t now r x w v → RowsStand rows.old t → LosesPiece rows.new t
-        (listed out.old) (listed out.new) now r x bytes.now w v kind) }
-    ensures front { take (length (listed out.old)) (listed out.new) ≡ listed out.old }
+        (act_list out.old) (act_list out.new) now r x bytes.now w v kind) }
+    ensures front { take (length (act_list out.old)) (act_list out.new) ≡ act_list out.old }
     ensures received { OnOk result (rows.new.received ≡ rows.old.received + length bytes.now) }
     ensures limits { rows.new.limits ≡ rows.old.limits }
     ensures faults { (shelf_of rows.new.entries).faults ≡ (shelf_of rows.old.entries).faults }
 {
-    let heir = lose_shared(rows, now, r, x, kind, out);
-    let over = rows.exchanges.piece(x, bytes, heir.is_some())?;
+    let detached_reader = lose_shared(rows, now, r, x, kind, out);
+    let over = rows.exchanges.piece(x, bytes, detached_reader.is_some())?;
     rows.received += bytes.len() as u64;
-    if heir.is_some() {
+    if detached_reader.is_some() {
         return Ok(());
     }
     if !over {
@@ -220,14 +220,14 @@ pub(crate) fn store_piece<B: Backend>(
     requires small { rows.old.received + length bytes.now < 2 ^ 61 }
     requires short { length bytes.now ≤ 65536 }
     requires room { 4 ≤ spare out.old }
-    ensures answers { result ≡ Ok None → Answers rows.old rows.new (listed out.old)
-        (listed out.new) now (Piece x bytes.now) }
+    ensures answers { result ≡ Ok None → Answers rows.old rows.new (act_list out.old)
+        (act_list out.new) now (Piece x bytes.now) }
     ensures refused { (kind : LostKind) → result ≡ Ok (Some kind) → RefusesPiece rows.old
-        rows.new now x r bytes.now kind (listed out.old) (listed out.new) (spare out.new) }
+        rows.new now x r bytes.now kind (act_list out.old) (act_list out.new) (spare out.new) }
     ensures received { result ≡ Ok None → rows.new.received ≡ rows.old.received + length bytes.now }
     ensures limits { rows.new.limits ≡ rows.old.limits }
     ensures faults { (shelf_of rows.old.entries).faults ≤ (shelf_of rows.new.entries).faults }
-    ensures front { take (length (listed out.old)) (listed out.new) ≡ listed out.old }
+    ensures front { take (length (act_list out.old)) (act_list out.new) ≡ act_list out.old }
 {
     let entry = rows.entries.entry(r).unwrap();
     let count = bytes.len() as u64;
@@ -284,8 +284,8 @@ fn last_kind<B: Backend>(rows: &Rows<B>, r: u64, view: &ExchangeView, count: u64
     requires end { view.now.base + view.now.delivered + count ≤ 2 ^ 62 }
     ensures { (x : ℕ) (bytes : List ℕ) (v : Representation) (k : Kept)
         → length bytes ≡ count → (shelf_of rows.now.entries).kept r ≡ Some k
-        → IsTold v (written (view.now.base + view.now.delivered) x bytes k.cells)
-        (grown count (view_of k))
+        → IsTold v (cells_with (view.now.base + view.now.delivered) x bytes k.cells)
+        (larger_view count (view_of k))
         → IsLastKind (is_all view.now.promised (view.now.delivered + count)) v result }
 {
     let Some(promised) = view.promised else {
@@ -304,7 +304,7 @@ fn kind_with<B: Backend>(rows: &Rows<B>, r: u64, at: u64, count: u64) -> Kind
     requires end { at + count ≤ 2 ^ 62 }
     ensures { (x : ℕ) (bytes : List ℕ) (v : Representation) (k : Kept)
         → length bytes ≡ count → (shelf_of rows.now.entries).kept r ≡ Some k
-        → IsTold v (written at x bytes k.cells) (grown count (view_of k))
+        → IsTold v (cells_with at x bytes k.cells) (larger_view count (view_of k))
         → result ≡ kind_left v }
 {
     let entry = rows.entries.entry(r).unwrap();
@@ -325,7 +325,7 @@ fn covers_with<B: Backend>(rows: &Rows<B>, r: u64, at: u64, count: u64, end: u64
     requires there { is_kept (shelf_of rows.now.entries) r ≡ true }
     requires end { at + count ≤ 2 ^ 62 }
     ensures { (x : ℕ) (bytes : List ℕ) → length bytes ≡ count
-        → IsTrue result ↔ Covers (written at x bytes (cells_at (shelf_of rows.now.entries) r))
+        → IsTrue result ↔ Covers (cells_with at x bytes (cells_at (shelf_of rows.now.entries) r))
         0 end }
 {
     rows.entries.covers(r, 0, at.min(end)) && rows.entries.covers(r, at + count, end)

@@ -1,7 +1,7 @@
 //! Ends and faults of exchanges.
 ghost use Rattle.std.specs.Prelude.{◌≡◌, ◌≤◌, ◌<◌, ◌^◌, nat_eq, true, false, None, Some, is_some};
 ghost use Rattle.std.specs.HashMap.{get};
-ghost use Rattle.hc_event.specs.Acts.{listed, spare};
+ghost use Rattle.hc_event.specs.Acts.{act_list, spare};
 ghost use Rattle.hc_event.specs.declared.act.Cause.TheVariants as cause;
 ghost use Rattle.hc_event.specs.declared.event.Event.TheVariants.{End, Fault};
 ghost use Rattle.hc_rules.specs.Refusals.{end_refusal, fault_refusal};
@@ -34,7 +34,8 @@ pub fn fault<B: Backend>(rows: &mut Rows<B>, now: u64, x: u64, out: &mut Acts)
     requires accepted { fault_refusal (open_at rows.old x) ≡ None }
     requires small { rows.old.received < 2 ^ 61 }
     requires room { 1 ≤ spare out.old }
-    ensures answers { Answers rows.old rows.new (listed out.old) (listed out.new) now (Fault x) }
+    ensures answers { Answers rows.old rows.new (act_list out.old) (act_list out.new)
+        now (Fault x) }
     ensures received { rows.new.received ≡ rows.old.received }
     ensures limits { rows.new.limits ≡ rows.old.limits }
     ensures faults { (shelf_of rows.old.entries).faults ≤ (shelf_of rows.new.entries).faults }
@@ -53,7 +54,7 @@ pub fn end<B: Backend>(rows: &mut Rows<B>, now: u64, x: u64, out: &mut Acts)
     requires accepted { end_refusal (open_at rows.old x) ≡ None }
     requires small { rows.old.received < 2 ^ 61 }
     requires room { 1 ≤ spare out.old }
-    ensures answers { Answers rows.old rows.new (listed out.old) (listed out.new) now (End x) }
+    ensures answers { Answers rows.old rows.new (act_list out.old) (act_list out.new) now (End x) }
     ensures received { rows.new.received ≡ rows.old.received }
     ensures limits { rows.new.limits ≡ rows.old.limits }
     ensures faults { (shelf_of rows.old.entries).faults ≤ (shelf_of rows.new.entries).faults }
@@ -75,7 +76,7 @@ fn end_whole<B: Backend>(rows: &mut Rows<B>, now: u64, x: u64, out: &mut Acts)
     ensures answers { (t : Tables) → Facts rows.old.limits t → RowsStand rows.old t
         → denial t (End x) ≡ None → TellsNoLength t x
         → Answered rows.old.limits (shelf_of rows.old.entries).faults rows.new t
-        (listed out.old) (listed out.new) now (End x) }
+        (act_list out.old) (act_list out.new) now (End x) }
     ensures received { rows.new.received ≡ rows.old.received }
     ensures limits { rows.new.limits ≡ rows.old.limits }
     ensures faults { (shelf_of rows.old.entries).faults ≤ (shelf_of rows.new.entries).faults }
@@ -105,7 +106,7 @@ fn seal_whole<B: Backend>(rows: &mut Rows<B>, now: u64, r: u64, length: u64, out
         → t.representation r ≡ Some v → (v.is_gone ≡ false → v.alone ≡ None)
         → RowsStand rows.old t
         → SealedWhole (shelf_of rows.old.entries).faults rows.old rows.new t
-        (listed out.old) (listed out.new) now r v length }
+        (act_list out.old) (act_list out.new) now r v length }
     ensures exchanges { rows.new.exchanges ≡ rows.old.exchanges }
     ensures received { rows.new.received ≡ rows.old.received }
     ensures limits { rows.new.limits ≡ rows.old.limits }
@@ -156,7 +157,7 @@ fn break_off<B: Backend>(rows: &mut Rows<B>, now: u64, x: u64, cause: Cause, out
     ensures broken { (t : Tables) (w : Exchange) → Facts rows.old.limits t
         → RowsStand rows.old t → IsBroken t x w
         → BrokeOff (shelf_of rows.old.entries).faults rows.new t
-        (listed out.old) (listed out.new) now x w cause }
+        (act_list out.old) (act_list out.new) now x w cause }
     ensures received { rows.new.received ≡ rows.old.received }
     ensures limits { rows.new.limits ≡ rows.old.limits }
     ensures faults { (shelf_of rows.old.entries).faults ≤ (shelf_of rows.new.entries).faults }

@@ -41,7 +41,7 @@ use Rattle.hc_state.specs.Dooms.{Closes, IsUnheard, KeepsLine, IsDoomed}
 use Rattle.hc_state.specs.Lines.{KeepsKey, has_turn, is_passed, is_away, is_away_at}
 use Rattle.hc_state.specs.Stands.{RowsStand, KeepsRest}
 use Rattle.hc_state.specs.Stored.{KeepsEntry, KeepsEntries, is_over}
-use Rattle.hc_state.proofs.AsideSteps.{live_same}
+use Rattle.hc_state.proofs.FallbackSteps.{live_same}
 use Rattle.hc_on_head.proofs.DoomCloses.{IsBare, bare_among, closes_are}
 use Rattle.hc_on_head.proofs.DoomTies.{s, exchange_is, over_row, line_row, same_consumer, none_row, all_consumers, exchange_shut}
 use Rattle.hc_state.proofs.OneOfEach.{first_row, bound_same, growing_same, kind_same}
@@ -296,13 +296,13 @@ module _ {B : Type 0} {g : Ghosts B} (r u : Rows B g) (t : Tables) (law : Lawful
   bare = bare_among r t law key stands refused unheard
 
   are_all : closes.xs ≡ xs
-  are_all = closes_are r t law key stands refused unheard closes.xs closes.rising closes.each closes.all
+  are_all = closes_are r t law key stands refused unheard closes.xs closes.ascending closes.each closes.all
 
   pub acts : out ≡ before ++ map act.Close xs
   acts = closes.acts ∙ ap (λ zs. before ++ map act.Close zs) are_all
 
-  known_is : (x : ℕ) → table_of u.exchanges x ≡ (if is_among x xs then known.closed (table_of r.exchanges x) else table_of r.exchanges x)
-  known_is x = subst (λ zs. table_of u.exchanges x ≡ (if is_among x zs then known.closed (table_of r.exchanges x) else table_of r.exchanges x)) are_all (closes.known x)
+  known_is : (x : ℕ) → table_of u.exchanges x ≡ (if is_among x xs then known.without_exchange (table_of r.exchanges x) else table_of r.exchanges x)
+  known_is x = subst (λ zs. table_of u.exchanges x ≡ (if is_among x zs then known.without_exchange (table_of r.exchanges x) else table_of r.exchanges x)) are_all (closes.known x)
 
   stands_woken : RowsStand u (s t law now key xs)
   stands_woken = record {

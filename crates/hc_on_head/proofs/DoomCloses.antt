@@ -31,14 +31,14 @@ use Rattle.hc_model.specs.Owners.{IsAwaiting, Awaits}
 use Rattle.hc_model.specs.Owners as owners
 use Rattle.hc_model.specs.Rows as rows
 use Rattle.hc_model.specs.Rows.{Tables, Exchange}
-use Rattle.hc_model.specs.StartingOver.{awaited, waits_at}
-use Rattle.hc_model.specs.Tables.{added}
+use Rattle.hc_model.specs.StartingOver.{awaited_exchange, waits_at}
+use Rattle.hc_model.specs.Tables.{with_item_first}
 use Rattle.hc_state.specs.declared.consumer.Consumer.{Consumer}
 use Rattle.hc_state.specs.declared.rows.Rows.{Rows}
 use Rattle.hc_state.specs.Dooms.{IsAwaited, IsToClose, IsUnheard}
 use Rattle.hc_state.specs.Kept.{KeepsConsumer, KeepsRunning}
 use Rattle.hc_state.specs.Stands.{RowsStand}
-use Rattle.hc_on_head.proofs.RisingLists.{above_first, among_first, among_later, among_cases, is_first, is_later, among-reverse, reverse_rises}
+use Rattle.hc_on_head.proofs.AscendingLists.{above_first, among_first, among_later, among_cases, is_first, is_later, among-reverse, reverse_ascends}
 use Rattle.hc_state.proofs.Ties.{kept_row}
 use Rattle.hc_state.proofs.TurnTies.{among_in, filter_in}
 use Rattle.hc_on_head.proofs.Woken.{stands_for, Stood, nobody, back, beside, stays, stood, Waits, waits_of, waiting_lives}
@@ -112,9 +112,9 @@ fits_in (y ∷ ys) zs up all =
 -- what each of these has
 all_of : (ℕ → Option ℕ) → List ℕ → List ℕ
 all_of f [] = []
-all_of f (c ∷ cs) = added (f c) (all_of f cs)
+all_of f (c ∷ cs) = with_item_first (f c) (all_of f cs)
 
-added_one : (o : Option ℕ) (xs : List ℕ) → length (added o xs) ≤ length xs + 1
+added_one : (o : Option ℕ) (xs : List ℕ) → length (with_item_first o xs) ≤ length xs + 1
 added_one None xs = omega arith
 added_one (Some x) xs = omega arith
 
@@ -132,12 +132,12 @@ all_fewer f c (d ∷ cs) there none = elim (among_cases c d cs there) [
   | is_later later ↦ (let more = added_one (f d) (all_of f cs) in let rest = all_fewer f c cs later none in omega arith)
 ]
 
-added_keeps : (o : Option ℕ) (x : ℕ) (xs : List ℕ) → is_among x xs ≡ true → is_among x (added o xs) ≡ true
+added_keeps : (o : Option ℕ) (x : ℕ) (xs : List ℕ) → is_among x xs ≡ true → is_among x (with_item_first o xs) ≡ true
 added_keeps None x xs there = there
 added_keeps (Some y) x xs there = among_later y x xs there
 
-added_has : (o : Option ℕ) (x : ℕ) (xs : List ℕ) → o ≡ Some x → is_among x (added o xs) ≡ true
-added_has o x xs is = subst (λ z. is_among x (added z xs) ≡ true) (sym is) (among_first x xs)
+added_has : (o : Option ℕ) (x : ℕ) (xs : List ℕ) → o ≡ Some x → is_among x (with_item_first o xs) ≡ true
+added_has o x xs is = subst (λ z. is_among x (with_item_first z xs) ≡ true) (sym is) (among_first x xs)
 
 all_has : (f : ℕ → Option ℕ) (c x : ℕ) (cs : List ℕ) → is_among c cs ≡ true → f c ≡ Some x → is_among x (all_of f cs) ≡ true
 unfolding all_of
@@ -200,7 +200,7 @@ module _ {B : Type 0} {g : Ghosts B} (r : Rows B g) (t : Tables) (law : Lawful t
     bare : w.head ≡ None
     for_it : w.c ≡ c
 
-  waits_for : (c x : ℕ) (k : rows.Consumer) (p : Place) → t.consumer c ≡ Some k → k.place ≡ p → waits_at t p ≡ true → awaited p ≡ Some x → WaitsFor c x
+  waits_for : (c x : ℕ) (k : rows.Consumer) (p : Place) → t.consumer c ≡ Some k → k.place ≡ p → waits_at t p ≡ true → awaited_exchange p ≡ Some x → WaitsFor c x
   waits_for c x k (place.Turn y) row at waits is =
       let one : y ≡ x = some_is y x is in
       let a = law.places.turn c y k row at in
@@ -222,7 +222,7 @@ module _ {B : Type 0} {g : Ghosts B} (r : Rows B g) (t : Tables) (law : Lawful t
   record AwaitsAs (x : ℕ) : Type 0 where
     c : ℕ
     w : Waits t key (t.consumer c)
-    for_it : awaited w.k.place ≡ Some x
+    for_it : awaited_exchange w.k.place ≡ Some x
 
   awaits_as : (x : ℕ) → IsAwaited r key x → AwaitsAs x
   awaits_as x is = by_kept (get nat_eq r.consumers is.c) refl
@@ -231,12 +231,12 @@ module _ {B : Type 0} {g : Ghosts B} (r : Rows B g) (t : Tables) (law : Lawful t
       w = waits_of t key (t.consumer is.c) (stood t key law is.c) (sym (in_line_is is.c) ∙ is.waits)
 
       by_kept : (o : Option Consumer) → get nat_eq r.consumers is.c ≡ o → AwaitsAs x
-      by_kept None there = none_some x (sym (ap (option_and_then (λ (k : Consumer). awaited k.place)) there) ∙ is.for_it)
+      by_kept None there = none_some x (sym (ap (option_and_then (λ (k : Consumer). awaited_exchange k.place)) there) ∙ is.for_it)
       by_kept (Some k) there =
           let found = kept_row t k (t.consumer is.c) (subst (λ z. KeepsConsumer t z (t.consumer is.c)) there (stands.consumers is.c)) in
           let one : found.0 ≡ w.k = same_row (t.consumer is.c) found.0 w.k found.1 w.row in
           let same : k.place ≡ w.k.place = found.2.place ∙ ap (λ (z : rows.Consumer). z.place) one in
-          record { c = is.c; w = w; for_it = ap awaited (sym same) ∙ (sym (ap (option_and_then (λ (k : Consumer). awaited k.place)) there) ∙ is.for_it) }
+          record { c = is.c; w = w; for_it = ap awaited_exchange (sym same) ∙ (sym (ap (option_and_then (λ (k : Consumer). awaited_exchange k.place)) there) ∙ is.for_it) }
 
   pub awaited_then : (x : ℕ) → IsAwaited r key x → is_awaited t key x (t.exchange x) ≡ true
   awaited_then x is =
@@ -246,14 +246,14 @@ module _ {B : Type 0} {g : Ghosts B} (r : Rows B g) (t : Tables) (law : Lawful t
       let mine : t.consumer e.w.c ≡ Some a.w.k = ap t.consumer e.for_it ∙ a.w.row in
       let one : opener.k ≡ a.w.k = same_row (t.consumer e.w.c) opener.k a.w.k opener.row mine in
       let of_key : key ≡ e.w.request.key = same_bytes key a.w.k.request.key a.w.of_key ∙ (ap (λ (z : rows.Consumer). z.request.key) (sym one) ∙ sym opener.key_is) in
-      let waits : awaits (t.consumer e.w.c) x ≡ true = ap (λ z. awaits z x) mine ∙ is_the_number (awaited a.w.k.place) x a.for_it in
+      let waits : awaits (t.consumer e.w.c) x ≡ true = ap (λ z. awaits z x) mine ∙ is_the_number (awaited_exchange a.w.k.place) x a.for_it in
       let same = bytes_eq-same key e.w.request.key of_key in
       let on = e.is_open in
       let none = e.bare in
       ap (is_awaited t key x) e.row ∙ rw (same, on, none, waits) refl
 
   -- who awaits a head without one waits
-  awaiting : (p : Place) (x : ℕ) → awaited p ≡ Some x → is_headless (t.exchange x) ≡ true → waits_at t p ≡ true
+  awaiting : (p : Place) (x : ℕ) → awaited_exchange p ≡ Some x → is_headless (t.exchange x) ≡ true → waits_at t p ≡ true
   awaiting (place.Turn y) x is headless = refl
   awaiting (place.Bound q lo hi (by.FirstHole y)) x is headless = ap (λ n. is_headless (t.exchange n)) (some_is y x is) ∙ headless
   awaiting (place.Bound q lo hi by.Founding) x is headless = none_some x is
@@ -265,13 +265,13 @@ module _ {B : Type 0} {g : Ghosts B} (r : Rows B g) (t : Tables) (law : Lawful t
   awaiting place.Over x is headless = none_some x is
 
   -- in the line of its key
-  stands_in : (c x : ℕ) (k : rows.Consumer) → t.consumer c ≡ Some k → bytes_eq key k.request.key ≡ true → waits_at t k.place ≡ true → awaited k.place ≡ Some x → stands_for t key (t.consumer c) ≡ true
+  stands_in : (c x : ℕ) (k : rows.Consumer) → t.consumer c ≡ Some k → bytes_eq key k.request.key ≡ true → waits_at t k.place ≡ true → awaited_exchange k.place ≡ Some x → stands_for t key (t.consumer c) ≡ true
   stands_in c x k row same waits is = by_stood (stood t key law c)
     where
       by_stood : Stood t key (t.consumer c) → stands_for t key (t.consumer c) ≡ true
       by_stood (nobody none) = none_some k (sym none ∙ row)
       by_stood (back q q_row q_same q_waits on) = on
-      by_stood (beside q q_row q_same at off) = none_some x (sym (ap awaited at) ∙ (ap (λ (z : rows.Consumer). awaited z.place) (same_row (t.consumer c) q k q_row row) ∙ is))
+      by_stood (beside q q_row q_same at off) = none_some x (sym (ap awaited_exchange at) ∙ (ap (λ (z : rows.Consumer). awaited_exchange z.place) (same_row (t.consumer c) q k q_row row) ∙ is))
       by_stood (stays q q_row off stands_off) =
           let one : q ≡ k = same_row (t.consumer c) q k q_row row in
           false_true (sym off ∙ (ap (λ (z : rows.Consumer). bytes_eq key z.request.key && waits_at t z.place) one ∙ rw (same, waits) refl))
@@ -289,8 +289,8 @@ module _ {B : Type 0} {g : Ghosts B} (r : Rows B g) (t : Tables) (law : Lawful t
       by_consumer None its waits = false_true waits
       by_consumer (Some k) its waits = by_kept (get nat_eq r.consumers w.c) refl (subst (KeepsConsumer t (get nat_eq r.consumers w.c)) its (stands.consumers w.c))
         where
-          is : awaited k.place ≡ Some x
-          is = number_is (awaited k.place) x waits
+          is : awaited_exchange k.place ≡ Some x
+          is = number_is (awaited_exchange k.place) x waits
 
           waits_here : waits_at t k.place ≡ true
           waits_here = awaiting k.place x is (ap is_headless row ∙ firsts.1)
@@ -306,7 +306,7 @@ module _ {B : Type 0} {g : Ghosts B} (r : Rows B g) (t : Tables) (law : Lawful t
           by_kept (Some q) there kept = record {
             c = w.c;
             waits = in_line_is w.c ∙ stands_in w.c x k its of_key waits_here is;
-            for_it = ap (option_and_then (λ (z : Consumer). awaited z.place)) there ∙ (ap awaited kept.place ∙ is);
+            for_it = ap (option_and_then (λ (z : Consumer). awaited_exchange z.place)) there ∙ (ap awaited_exchange kept.place ∙ is);
           }
 
   -- ALL THAT ARE CLOSED
@@ -354,7 +354,7 @@ module _ {B : Type 0} {g : Ghosts B} (r : Rows B g) (t : Tables) (law : Lawful t
 
     pub closes_are : (zs : List ℕ) → is_sorted itself zs ≡ true → ((x : ℕ) → is_among x zs ≡ true → IsToClose r key refused x) → ((x : ℕ) → IsToClose r key refused x → is_among x zs ≡ true) → zs ≡ xs
     closes_are zs up each all =
-        same_members zs xs up (is_sorted-filter itself closes (reverse t.openings) (reverse_rises (t.opened + 1) t.openings law.order.openings))
+        same_members zs xs up (is_sorted-filter itself closes (reverse t.openings) (reverse_ascends (t.opened + 1) t.openings law.order.openings))
         (λ x. by_tests (is_among x zs) (closes x) (λ on. closes_so x (each x on)) (λ on. all x (to_close x on)) ∙ sym (among_is x))
       where
         by_tests : (a b : Bool) → (a ≡ true → b ≡ true) → (b ≡ true → a ≡ true) → a ≡ b
@@ -376,12 +376,12 @@ module _ {B : Type 0} {g : Ghosts B} (r : Rows B g) (t : Tables) (law : Lawful t
     -- HOW MANY
 
     of_one : ℕ → Option ℕ
-    of_one c = option_and_then (λ (k : rows.Consumer). awaited k.place) (t.consumer c)
+    of_one c = option_and_then (λ (k : rows.Consumer). awaited_exchange k.place) (t.consumer c)
 
     lives : List ℕ
     lives = filter (λ c. is_live (t.consumer c)) t.starts
 
-    there : (x : ℕ) → IsToClose r key refused x → is_among x (added refused (all_of of_one lives)) ≡ true
+    there : (x : ℕ) → IsToClose r key refused x → is_among x (with_item_first refused (all_of of_one lives)) ≡ true
     unfolding of_one lives
     there x (inl is) = added_has refused x (all_of of_one lives) is
     there x (inr is) =
@@ -389,9 +389,9 @@ module _ {B : Type 0} {g : Ghosts B} (r : Rows B g) (t : Tables) (law : Lawful t
         let on : is_live (t.consumer a.c) ≡ true = ap is_live a.w.row ∙ waiting_lives t key a.w.k.place a.w.waits in
         let started : is_among a.c t.starts ≡ true = among_in a.c t.starts (law.sound.numbered.lists.started a.c (ap (λ z. is_some z) a.w.row)) in
         let among : is_among a.c lives ≡ true = filter_in (λ c. is_live (t.consumer c)) a.c t.starts ∙ rw (on, started) refl in
-        added_keeps refused x (all_of of_one lives) (all_has of_one a.c x lives among (ap (option_and_then (λ (k : rows.Consumer). awaited k.place)) a.w.row ∙ a.for_it))
+        added_keeps refused x (all_of of_one lives) (all_has of_one a.c x lives among (ap (option_and_then (λ (k : rows.Consumer). awaited_exchange k.place)) a.w.row ∙ a.for_it))
 
-    one_more : (zs : List ℕ) (x : ℕ) → length (added (Some x) zs) ≡ length zs + 1
+    one_more : (zs : List ℕ) (x : ℕ) → length (with_item_first (Some x) zs) ≡ length zs + 1
     one_more zs x = omega arith
 
     -- whoever waits for the refused head waits to found or to join by none
@@ -423,7 +423,7 @@ module _ {B : Type 0} {g : Ghosts B} (r : Rows B g) (t : Tables) (law : Lawful t
               let on : is_live (t.consumer b.w.c) ≡ true = ap is_live a.row ∙ rw at refl in
               let started : is_among b.w.c t.starts ≡ true = among_in b.w.c t.starts (law.sound.numbered.lists.started b.w.c (ap (λ z. is_some z) a.row)) in
               filter_in (λ c. is_live (t.consumer c)) b.w.c t.starts ∙ rw (on, started) refl;
-          awaits_none = ap (option_and_then (λ (k : rows.Consumer). awaited k.place)) a.row ∙ rw at refl;
+          awaits_none = ap (option_and_then (λ (k : rows.Consumer). awaited_exchange k.place)) a.row ∙ rw at refl;
         }
         by_at (owners.turn way at) = absurd (let never : route.Turn ≡ route.Direct = sym way ∙ past in cc)
         by_at (owners.hole q lo hi how way aim at) = absurd (let never : route.Hole ≡ route.Direct = sym way ∙ past in cc)
@@ -432,19 +432,19 @@ module _ {B : Type 0} {g : Ghosts B} (r : Rows B g) (t : Tables) (law : Lawful t
     unfolding lives
     few_close ys up each = by_refused refused refl
       where
-        fits : length ys ≤ length (added refused (all_of of_one lives))
-        fits = fits_in ys (added refused (all_of of_one lives)) up (λ x on. there x (each x on))
+        fits : length ys ≤ length (with_item_first refused (all_of of_one lives))
+        fits = fits_in ys (with_item_first refused (all_of of_one lives)) up (λ x on. there x (each x on))
 
         count : hash_map_len r.consumers ≡ length lives
         count = stands.count
 
         by_refused : (o : Option ℕ) → refused ≡ o → length ys ≤ hash_map_len r.consumers
         by_refused None is =
-            let more : length (added refused (all_of of_one lives)) ≡ length (all_of of_one lives) = ap (λ o. length (added o (all_of of_one lives))) is in
+            let more : length (with_item_first refused (all_of of_one lives)) ≡ length (all_of of_one lives) = ap (λ o. length (with_item_first o (all_of of_one lives))) is in
             let few : length (all_of of_one lives) ≤ length lives = all_few of_one lives in
             omega (arith, fits, count, more, few)
         by_refused (Some x) is =
-            let more : length (added refused (all_of of_one lives)) ≡ length (all_of of_one lives) + 1 = ap (λ o. length (added o (all_of of_one lives))) is ∙ one_more (all_of of_one lives) x in
+            let more : length (with_item_first refused (all_of of_one lives)) ≡ length (all_of of_one lives) + 1 = ap (λ o. length (with_item_first o (all_of of_one lives))) is ∙ one_more (all_of of_one lives) x in
             let a = apart x is in
             let few : length (all_of of_one lives) + 1 ≤ length lives = all_fewer of_one a.c lives a.lives_on a.awaits_none in
             omega (arith, fits, count, more, few)

@@ -18,11 +18,11 @@ use Rattle.hc_exch.specs.Known as known
 use Rattle.hc_exch.specs.Known.{Known, is_open}
 use Rattle.hc_sorted.specs.Sorted.{is_sorted}
 use Rattle.hc_rules.specs.Least.{lesser}
-use Rattle.hc_model.specs.StartingOver.{awaited}
+use Rattle.hc_model.specs.StartingOver.{awaited_exchange}
 use Rattle.hc_state.specs.declared.consumer.Consumer.{Consumer}
 use Rattle.hc_state.specs.declared.rows.Rows.{Rows}
 use Rattle.hc_state.specs.Dooms.{awaited_by, IsAwaited, IsToClose, IsNext, AreAtMost, nearer, Closes}
-use Rattle.hc_on_head.proofs.RisingLists.{among-append, among_first, among_cases, is_first, is_later, rises_last}
+use Rattle.hc_on_head.proofs.AscendingLists.{among-append, among_first, among_cases, is_first, is_later, ascends_last}
 use Rattle.hc_state.proofs.Words.{same_or, eqb-same, eqb-other, none_some, some_is, false_true}
 
 -- THE NEXT ONE
@@ -137,19 +137,19 @@ module _ {B : Type 0} {g : Ghosts B} (r : Rows B g) (key : List ℕ) (refused : 
 -- Those below `from` are closed, with so many acts that still fit.
 pub record ClosesBelow {B : Type 0} {g : Ghosts B} (r : Rows B g) (after : Exchanges) (key : List ℕ) (refused : Option ℕ) (before out : List Act) (room spare from : ℕ) : Type 0 where
   pub xs : List ℕ
-  pub rising : is_sorted itself xs ≡ true
+  pub ascending : is_sorted itself xs ≡ true
   pub each : (x : ℕ) → is_among x xs ≡ true → IsToClose r key refused x
   pub below : (x : ℕ) → is_among x xs ≡ true → x < from
   pub all : (x : ℕ) → IsToClose r key refused x → x < from → is_among x xs ≡ true
   pub acts : out ≡ before ++ map act.Close xs
-  pub known : (x : ℕ) → table_of after x ≡ cond (is_among x xs) (known.closed (table_of r.exchanges x)) (table_of r.exchanges x)
+  pub known : (x : ℕ) → table_of after x ≡ cond (is_among x xs) (known.without_exchange (table_of r.exchanges x)) (table_of r.exchanges x)
   pub next : next_of after ≡ next_of r.exchanges
   pub fits : spare + length xs ≡ room
 
 pub none_closed : {B : Type 0} {g : Ghosts B} (r : Rows B g) (key : List ℕ) (refused : Option ℕ) (before : List Act) (room : ℕ) → ClosesBelow r r.exchanges key refused before before room room 0
 none_closed r key refused before room = record {
   xs = [];
-  rising = refl;
+  ascending = refl;
   each = λ x there. false_true there;
   below = λ x there. false_true there;
   all = λ x is lt. absurd (omega (arith, lt));
@@ -182,28 +182,28 @@ module _ {B : Type 0} {g : Ghosts B} (r : Rows B g) (mid : Exchanges) (key : Lis
       by_test true on either = inl on
       by_test false off last = elim (among_cases y x [] last) [ is_first same ↦ inr same | is_later never ↦ false_true never ]
 
-  rises_on : is_sorted itself (closed.xs ++ (x ∷ [])) ≡ true
-  rises_on = rises_last x closed.xs closed.rising (λ n there. let lt = closed.below n there in let le = is_next.0 in omega (arith, lt, le))
+  ascends_on : is_sorted itself (closed.xs ++ (x ∷ [])) ≡ true
+  ascends_on = ascends_last x closed.xs closed.ascending (λ n there. let lt = closed.below n there in let le = is_next.0 in omega (arith, lt, le))
 
   each_next : (y : ℕ) → is_among y (closed.xs ++ (x ∷ [])) ≡ true → IsToClose r key refused y
   each_next y there = elim (with_next y there) [ inl before_it ↦ closed.each y before_it | inr same ↦ subst (IsToClose r key refused) same is_next.1 ]
 
   pub fits_yet : (most : ℕ) → AreAtMost most (IsToClose r key refused) → most ≤ room → 1 ≤ spare
   fits_yet most few enough =
-      let le : length (closed.xs ++ (x ∷ [])) ≤ most = few (closed.xs ++ (x ∷ [])) rises_on each_next in
+      let le : length (closed.xs ++ (x ∷ [])) ≤ most = few (closed.xs ++ (x ∷ [])) ascends_on each_next in
       let more : length (closed.xs ++ (x ∷ [])) ≡ length closed.xs + 1 = length-append closed.xs (x ∷ []) in
       let fits = closed.fits in
       omega (arith, le, more, fits, enough)
 
-  pub one_closed : (after : Exchanges) (out_after : List Act) (spare_after : ℕ) → out_after ≡ out ++ (act.Close x ∷ []) → spare_after + 1 ≡ spare → exch.Becomes known.closed x mid after → ClosesBelow r after key refused before out_after room spare_after (x + 1)
+  pub one_closed : (after : Exchanges) (out_after : List Act) (spare_after : ℕ) → out_after ≡ out ++ (act.Close x ∷ []) → spare_after + 1 ≡ spare → exch.Becomes known.without_exchange x mid after → ClosesBelow r after key refused before out_after room spare_after (x + 1)
   one_closed after out_after spare_after acts less becomes = record {
     xs = closed.xs ++ (x ∷ []);
-    rising = rises_on;
+    ascending = ascends_on;
     each = each_next;
     below = λ y there. elim (with_next y there) [ inl on ↦ (let lt = closed.below y on in let le = is_next.0 in omega (arith, lt, le)) | inr same ↦ omega (arith, same) ];
     all = all_next;
     acts = acts ∙ (ap (λ zs. zs ++ (act.Close x ∷ [])) closed.acts ∙ (append_assoc before (map act.Close closed.xs) (act.Close x ∷ []) ∙ ap (λ zs. before ++ zs) (sym (map-append closed.xs (x ∷ [])))));
-    known = λ y. becomes.table y ∙ (known_next y ∙ sym (ap (λ b. cond b (known.closed (table_of r.exchanges y)) (table_of r.exchanges y)) (among-append y closed.xs (x ∷ []))));
+    known = λ y. becomes.table y ∙ (known_next y ∙ sym (ap (λ b. cond b (known.without_exchange (table_of r.exchanges y)) (table_of r.exchanges y)) (among-append y closed.xs (x ∷ []))));
     next = becomes.next ∙ closed.next;
     fits = (let fits = closed.fits in let more : length (closed.xs ++ (x ∷ [])) ≡ length closed.xs + 1 = length-append closed.xs (x ∷ []) in omega (arith, fits, more, less));
   }
@@ -222,20 +222,20 @@ module _ {B : Type 0} {g : Ghosts B} (r : Rows B g) (mid : Exchanges) (key : Lis
           by_test false off ne = grind (arith, nat_tests, off)
           by_test true on ne = absurd (let above : from ≤ y = grind (arith, nat_tests, on) in let le = is_next.2 y is above in omega (arith, le, lt, ne))
 
-      known_next : (y : ℕ) → cond (eqb x y) (known.closed (table_of mid x)) (table_of mid y) ≡ cond (is_among y closed.xs || is_among y (x ∷ [])) (known.closed (table_of r.exchanges y)) (table_of r.exchanges y)
+      known_next : (y : ℕ) → cond (eqb x y) (known.without_exchange (table_of mid x)) (table_of mid y) ≡ cond (is_among y closed.xs || is_among y (x ∷ [])) (known.without_exchange (table_of r.exchanges y)) (table_of r.exchanges y)
       known_next y = elim (same_or x y) [
-        | inl same ↦ subst (λ n. cond (eqb x n) (known.closed (table_of mid x)) (table_of mid n) ≡ cond (is_among n closed.xs || is_among n (x ∷ [])) (known.closed (table_of r.exchanges n)) (table_of r.exchanges n)) same (rw (eqb-same x, unclosed, known_yet) refl)
+        | inl same ↦ subst (λ n. cond (eqb x n) (known.without_exchange (table_of mid x)) (table_of mid n) ≡ cond (is_among n closed.xs || is_among n (x ∷ [])) (known.without_exchange (table_of r.exchanges n)) (table_of r.exchanges n)) same (rw (eqb-same x, unclosed, known_yet) refl)
         | inr ne ↦ (let off : eqb x y ≡ false = eqb-other x y ne in rw (off, closed.known y) (or_none (is_among y closed.xs)))
       ]
         where
-          or_none : (b : Bool) → cond b (known.closed (table_of r.exchanges y)) (table_of r.exchanges y) ≡ cond (b || (false || false)) (known.closed (table_of r.exchanges y)) (table_of r.exchanges y)
+          or_none : (b : Bool) → cond b (known.without_exchange (table_of r.exchanges y)) (table_of r.exchanges y) ≡ cond (b || (false || false)) (known.without_exchange (table_of r.exchanges y)) (table_of r.exchanges y)
           or_none true = refl
           or_none false = refl
 
 pub all_closed : {B : Type 0} {g : Ghosts B} (r : Rows B g) (after : Exchanges) (key : List ℕ) (refused : Option ℕ) (before out : List Act) (room spare from : ℕ) → ClosesBelow r after key refused before out room spare from → IsNext (IsToClose r key refused) from None → Closes r after key refused before out
 all_closed r after key refused before out room spare from closed none = record {
   xs = closed.xs;
-  rising = closed.rising;
+  ascending = closed.ascending;
   each = closed.each;
   all = λ x is. closed.all x is (none x is);
   acts = closed.acts;
@@ -249,7 +249,7 @@ same_to_close r mid key refused x same_consumers same_keys (inl is) = inl is
 same_to_close r mid key refused x same_consumers same_keys (inr is) = inr (record {
   c = is.c;
   waits = ap (λ (z : KeyTable). is_in is.c (line_of z key)) (sym same_keys) ∙ is.waits;
-  for_it = ap (λ z. option_and_then (λ (k : Consumer). awaited k.place) (get nat_eq z is.c)) (sym same_consumers) ∙ is.for_it;
+  for_it = ap (λ z. option_and_then (λ (k : Consumer). awaited_exchange k.place) (get nat_eq z is.c)) (sym same_consumers) ∙ is.for_it;
 })
 
 pub next_as : {B : Type 0} {g : Ghosts B} (r mid : Rows B g) (key : List ℕ) (refused : Option ℕ) (from : ℕ) (o : Option ℕ) → mid.consumers ≡ r.consumers → mid.keys ≡ r.keys → IsNext (IsToClose mid key refused) from o → IsNext (IsToClose r key refused) from o

@@ -16,7 +16,7 @@ use Rattle.hc_event.specs.declared.place.BoundBy.TheVariants as by
 use Rattle.hc_model.specs.ConsumerRows.{back_in_line}
 use Rattle.hc_model.specs.Currents.{is_number}
 use Rattle.hc_model.specs.Effects.{over, woken}
-use Rattle.hc_model.specs.Exchanges.{family, promised, is_open, length_by}
+use Rattle.hc_model.specs.Exchanges.{family, promised_bytes, is_open, length_by}
 use Rattle.hc_model.specs.Lawful.{Lawful}
 use Rattle.hc_model.specs.Reading.{lo_of, hi_of, base_in, end_in, end_of_direct, is_bound_place}
 use Rattle.hc_model.specs.Rows as rows
@@ -27,9 +27,9 @@ use Rattle.hc_model.proofs.SameTables.{shut}
 use Rattle.hc_state.specs.declared.consumer.Consumer.{Consumer}
 use Rattle.hc_state.specs.declared.rows.Rows.{Rows}
 use Rattle.hc_state.specs.Changes.{ChangesAmong, once_over}
-use Rattle.hc_state.specs.Kept.{IsKept, KeepsConsumer, KeepsExchange, KeepsRunning, head_in, answer_at, held_for, held_of, held_alone, unread, unstored}
+use Rattle.hc_state.specs.Kept.{IsKept, KeepsConsumer, KeepsExchange, KeepsRunning, head_in, answer_at, held_for, held_of, held_alone, unread, unstored_bytes}
 use Rattle.hc_state.specs.Stands.{RowsStand}
-use Rattle.hc_state.proofs.Asides.{unstored_moved}
+use Rattle.hc_state.proofs.Fallbacks.{unstored_moved}
 use Rattle.hc_state.proofs.Closing.{base_over, of_over}
 use Rattle.hc_on_head.proofs.DoomCloses.{headless_row, number_is}
 use Rattle.hc_state.proofs.Ties.{kept_none, exchange_same}
@@ -43,7 +43,7 @@ pub in_is : (xs : List ℕ) (y : ℕ) → tables.is_in xs y ≡ is_among y xs
 in_is [] y = refl
 in_is (x ∷ xs) y = ap (λ b. eqb x y || b) (in_is xs y)
 
-promised_over : (w : Exchange) → promised (over w) ≡ promised w
+promised_over : (w : Exchange) → promised_bytes (over w) ≡ promised_bytes w
 promised_over w = by_head w.head
   where
     by_head : (h : Option Response) → promise_of (length_by (over w) h) ≡ promise_of (length_by w h)
@@ -72,7 +72,7 @@ base_if true (Some w) = base_over w
 end_if : (b : Bool) (z : Option Exchange) → end_in (if_over b z) ≡ end_in z
 end_if false z = refl
 end_if true None = refl
-end_if true (Some w) = ap (λ o. end_of_direct o (over w)) (promised_over w) ∙ end_over (promised w) w
+end_if true (Some w) = ap (λ o. end_of_direct o (over w)) (promised_over w) ∙ end_over (promised_bytes w) w
 
 drop_none : (n : ℕ) → drop {A = ℕ} n [] ≡ []
 drop_none zero = refl
@@ -261,7 +261,7 @@ module _ (t : Tables) (law : Lawful t) (now : ℕ) (key xs : List ℕ) where
       by_stood (stays k row off stands_off) = ap (unread x w) (same_consumer d k row off)
 
   -- whoever waits for the head of a first hole was brought nothing by its own exchange
-  no_unstored : (x c : ℕ) (w : Exchange) (v : Representation) (k : rows.Consumer) (p : Place) → t.exchange x ≡ Some w → t.consumer c ≡ Some k → k.place ≡ p → waits_at t p ≡ true → unstored t x w v (Some k) ≡ []
+  no_unstored : (x c : ℕ) (w : Exchange) (v : Representation) (k : rows.Consumer) (p : Place) → t.exchange x ≡ Some w → t.consumer c ≡ Some k → k.place ≡ p → waits_at t p ≡ true → unstored_bytes t x w v (Some k) ≡ []
   no_unstored x c w v k (place.Bound q lo hi (by.FirstHole y)) there row at waits = by_test (is_bound_place (family x w) k.place && is_number k.own x) refl
     where
       both : (a b : Bool) → (a && b) ≡ true → b ≡ true
@@ -279,7 +279,7 @@ module _ (t : Tables) (law : Lawful t) (now : ℕ) (key xs : List ℕ) where
           let same : e ≡ w = same_row (t.exchange x) e w (sym (ap t.exchange one_number) ∙ e_row) there in
           ap (λ (z : Exchange). z.body) (sym same) ∙ (law.sound.waits.headless y e e_row bare).0
 
-      by_test : (b : Bool) → (is_bound_place (family x w) k.place && is_number k.own x) ≡ b → unstored t x w v (Some k) ≡ []
+      by_test : (b : Bool) → (is_bound_place (family x w) k.place && is_number k.own x) ≡ b → unstored_bytes t x w v (Some k) ≡ []
       by_test false off = rw off refl
       by_test true on = rw (on, empty (both (is_bound_place (family x w) k.place) (is_number k.own x) on)) (drop_none _)
   no_unstored x c w v k (place.Bound q lo hi by.Founding) there row at waits = false_true waits
@@ -291,14 +291,14 @@ module _ (t : Tables) (law : Lawful t) (now : ℕ) (key xs : List ℕ) where
   no_unstored x c w v k (place.Down why) there row at waits = false_true waits
   no_unstored x c w v k place.Over there row at waits = false_true waits
 
-  unstored_same : (x c : ℕ) (w : Exchange) (v : Representation) → t.exchange x ≡ Some w → unstored s x w v (s.consumer c) ≡ unstored t x w v (t.consumer c)
+  unstored_same : (x c : ℕ) (w : Exchange) (v : Representation) → t.exchange x ≡ Some w → unstored_bytes s x w v (s.consumer c) ≡ unstored_bytes t x w v (t.consumer c)
   unstored_same x c w v there = by_stood (stood t key law c)
     where
-      by_stood : Stood t key (t.consumer c) → unstored s x w v (s.consumer c) ≡ unstored t x w v (t.consumer c)
-      by_stood (nobody none) = ap (unstored s x w v) (none_row c none) ∙ sym (ap (unstored t x w v) none)
-      by_stood (back k row same waits on) = ap (unstored s x w v) (over_row c k row same waits) ∙ sym (ap (unstored t x w v) row ∙ no_unstored x c w v k k.place there row refl waits)
-      by_stood (beside k row same at off) = ap (unstored s x w v) (line_row c k row same at) ∙ sym (ap (unstored t x w v) row ∙ rw at refl)
-      by_stood (stays k row off stands_off) = ap (unstored s x w v) (same_consumer c k row off) ∙ unstored_moved t s x w v (t.consumer c)
+      by_stood : Stood t key (t.consumer c) → unstored_bytes s x w v (s.consumer c) ≡ unstored_bytes t x w v (t.consumer c)
+      by_stood (nobody none) = ap (unstored_bytes s x w v) (none_row c none) ∙ sym (ap (unstored_bytes t x w v) none)
+      by_stood (back k row same waits on) = ap (unstored_bytes s x w v) (over_row c k row same waits) ∙ sym (ap (unstored_bytes t x w v) row ∙ no_unstored x c w v k k.place there row refl waits)
+      by_stood (beside k row same at off) = ap (unstored_bytes s x w v) (line_row c k row same at) ∙ sym (ap (unstored_bytes t x w v) row ∙ rw at refl)
+      by_stood (stays k row off stands_off) = ap (unstored_bytes s x w v) (same_consumer c k row off) ∙ unstored_moved t s x w v (t.consumer c)
 
   alone_same : (x : ℕ) (w : Exchange) (v : Representation) (o : Option ℕ) → t.exchange x ≡ Some w → held_alone s x w v o ≡ held_alone t x w v o
   alone_same x w v None there = refl
@@ -322,12 +322,12 @@ module _ (t : Tables) (law : Lawful t) (now : ℕ) (key xs : List ℕ) where
   not_open None = refl
   not_open (Some w) = refl
 
-  pub exchange_shut : (x : ℕ) (before after : Known) → after ≡ (if is_among x xs then known.closed before else before) → KeepsExchange t x before → KeepsExchange s x after
+  pub exchange_shut : (x : ℕ) (before after : Known) → after ≡ (if is_among x xs then known.without_exchange before else before) → KeepsExchange t x before → KeepsExchange s x after
   exchange_shut x before after is kept = by_test (is_among x xs) refl
     where
       by_test : (b : Bool) → is_among x xs ≡ b → KeepsExchange s x after
       by_test true on =
-          let at : after ≡ known.closed before = is ∙ rw on refl in
+          let at : after ≡ known.without_exchange before = is ∙ rw on refl in
           let row : s.exchange x ≡ option_map over (t.exchange x) = exchange_is x ∙ rw on refl in
           record {
             running = rw at (subst (λ (o : Option Exchange). KeepsRunning s x None o) (sym row) (not_open (t.exchange x)));

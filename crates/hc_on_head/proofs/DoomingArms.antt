@@ -21,7 +21,7 @@ use Rattle.hc_rules.specs.Needs.{route_of}
 use Rattle.hc_rules.specs.Refusals.{head_refusal}
 use Rattle.hc_exch.specs.declared.row.Open.{Open}
 use Rattle.hc_exch.specs.Exchanges.{table_of}
-use Rattle.hc_exch.specs.Known.{Table, seen, begins_with, length_by}
+use Rattle.hc_exch.specs.Known.{Table, open_view, begins_with, length_by}
 use Rattle.hc_exch.specs.Openings.{opened_with}
 use Rattle.hc_exch.specs.declared.row.Opening.{Opening}
 use Rattle.hc_entry.specs.Keys.{kept_of}
@@ -33,7 +33,7 @@ use Rattle.hc_model.specs.ConsumerRows.{back_in_line}
 use Rattle.hc_model.specs.Currents.{current}
 use Rattle.hc_model.specs.Denials.{denial, is_live}
 use Rattle.hc_model.specs.Dooms.{changes}
-use Rattle.hc_model.specs.Effects.{counted, gone, over, answered, all_closed, let_some_go, with_answer, with_consumer, with_exchange, sent_back, woken, is_awaited, awaited_and}
+use Rattle.hc_model.specs.Effects.{with_event, as_gone, over, exchange_with_head, all_closed, let_some_go, with_answer, with_consumer, with_exchange, sent_back, woken, is_awaited, awaited_and}
 use Rattle.hc_model.specs.Exchanges.{is_headless}
 use Rattle.hc_model.specs.Kinds.{brings_to}
 use Rattle.hc_model.specs.Lawful.{Lawful}
@@ -44,7 +44,7 @@ use Rattle.hc_model.specs.Rows as rows
 use Rattle.hc_model.specs.Rows.{Tables, Exchange, Representation}
 use Rattle.hc_model.specs.Sound.{Among}
 use Rattle.hc_model.specs.StartingOver.{waits_at}
-use Rattle.hc_model.specs.Tables.{added}
+use Rattle.hc_model.specs.Tables.{with_item_first}
 use Rattle.hc_model.proofs.Basics.{same_functions}
 use Rattle.hc_model.proofs.SameTables as tables
 use Rattle.hc_model.proofs.SameTables.{without, shut, back_from_any, waits_for_any, some_go_is, all_closed_is}
@@ -61,8 +61,8 @@ use Rattle.hc_state.specs.Stands.{Answered, RowsStand, Stands}
 use Rattle.hc_state.specs.Stored.{KeepsEntries, is_over}
 use Rattle.hc_on_leave.proofs.AnswerArm.{reader_kept, opened_as}
 use Rattle.hc_state.proofs.Answering.{does_answered}
-use Rattle.hc_state.proofs.Asides.{same, held_alike}
-use Rattle.hc_state.proofs.AsideSteps.{live_same}
+use Rattle.hc_state.proofs.Fallbacks.{same, held_alike}
+use Rattle.hc_state.proofs.FallbackSteps.{live_same}
 use Rattle.hc_state.proofs.ConsumerSteps.{SaysOfIt, key_with, key_stays}
 use Rattle.hc_state.proofs.Counting.{stands_counted}
 use Rattle.hc_on_head.proofs.DoomCloses.{among_is}
@@ -263,7 +263,7 @@ module _ {B : Type 0} {g : Ghosts B} (r u : Rows B g) (m : Tables) (c x : ℕ) (
 -- ONCE ITS KEY IS DOOMED
 
 -- there is one, and it isn't among these
-none_gone : (b : Bool) (o : Option Representation) → o ≡ None → (if b then option_map gone o else o) ≡ None
+none_gone : (b : Bool) (o : Option Representation) → o ≡ None → (if b then option_map as_gone o else o) ≡ None
 none_gone true o none = rw none refl
 none_gone false o none = none
 
@@ -272,7 +272,7 @@ module _ {B : Type 0} {g : Ghosts B} (r : Rows B g) (t : Tables) (facts : Facts 
   key = w.request.key
 
   abbrev rs : List ℕ
-  rs = added (current t key) []
+  rs = with_item_first (current t key) []
 
   unshown : v.shown ≡ false
   unshown =
@@ -289,7 +289,7 @@ module _ {B : Type 0} {g : Ghosts B} (r : Rows B g) (t : Tables) (facts : Facts 
   founds_none = facts.law.sound.numbered.names.unfounded x w waits.row waits.headless
 
   abbrev z : Exchange
-  z = answered now response w.joined w
+  z = exchange_with_head now response w.joined w
 
   abbrev heard : Tables
   heard = with_answer now x response w.joined w (woken now key t)
@@ -426,7 +426,7 @@ module _ {B : Type 0} {g : Ghosts B} (r : Rows B g) (t : Tables) (facts : Facts 
     pub dooming_taken : (u : Rows B g) → head_case (head_view t false w response) ≡ case.DirectTaken → IsDoomed mid t before out now key None → ((m : Tables) → IsReadAlone m x w v → RowsStand mid m → RowsStand u (with_answer now x response w.joined w m))
         → Answered r.limits (shelf_of r.entries).faults u t before out now ev
     dooming_taken u is doomed answers =
-        does_answered r.limits (shelf_of r.entries).faults u t (counted now ev (let_some_go now (current t key) (all_closed (awaited_and t key None) heard))) before out (map act.Close (awaited_and t key None)) now ev
+        does_answered r.limits (shelf_of r.entries).faults u t (with_event now ev (let_some_go now (current t key) (all_closed (awaited_and t key None) heard))) before out (map act.Close (awaited_and t key None)) now ev
         (dooms_taken r.limits t facts.law now x response goes w waits.row v waits.asker unsafe is) (unwritten t now x response w case.DirectTaken waits.row is refl) (flawless (awaited_and t key None)) doomed.acts
         (stands_counted u _ now ev refl (subst (RowsStand u) (answer_is None out_of_none) (answers (after None) (alone_doomed None out_of_none) (subst (RowsStand mid) (after_is None) doomed.rows))))
 
@@ -438,7 +438,7 @@ module _ {B : Type 0} {g : Ghosts B} (r : Rows B g) (t : Tables) (facts : Facts 
         let d : rows.Consumer = down (Some x) in_it in
         let stood = subst (RowsStand mid) (after_is (Some x)) doomed.rows in
         let k = reader_kept mid (after (Some x)) w.c x v stood (here (Some x)) at in
-        does_answered r.limits (shelf_of r.entries).faults u t (counted now ev (let_some_go now (current t key) (with_consumer w.c (Some d) (all_closed (awaited_and t key (Some x)) heard)))) before out (map act.Close (awaited_and t key (Some x))) now ev
+        does_answered r.limits (shelf_of r.entries).faults u t (with_event now ev (let_some_go now (current t key) (with_consumer w.c (Some d) (all_closed (awaited_and t key (Some x)) heard)))) before out (map act.Close (awaited_and t key (Some x))) now ev
         (dooms_bad r.limits t facts.law now x response goes w waits.row v waits.asker unsafe is) (unwritten t now x response w case.DirectBad waits.row is refl) (flawless (awaited_and t key (Some x))) doomed.acts
         (stands_counted u _ now ev refl (subst (RowsStand u) (failure_is (Some x) in_it)
         (stands_down mid u (after (Some x)) w.c x (over w) (over z) v k.0 stood (shut_row (Some x) in_it) refl empty unjoined waits.headless (unfounded (Some x))
@@ -447,7 +447,7 @@ module _ {B : Type 0} {g : Ghosts B} (r : Rows B g) (t : Tables) (facts : Facts 
 
 -- FROM WHAT THE CODE LOOKED UP
 
-pub unheard_as : (table : Table) (x : ℕ) (op : Opening) (key : List ℕ) → head_refusal (option_map seen (table x).running) ≡ None → Some (opened_with op) ≡ option_map begins_with (table x).running → key ≡ op.request.now.key → IsPastStore (table x).running → IsUnheard table key x
+pub unheard_as : (table : Table) (x : ℕ) (op : Opening) (key : List ℕ) → head_refusal (option_map open_view (table x).running) ≡ None → Some (opened_with op) ≡ option_map begins_with (table x).running → key ≡ op.request.now.key → IsPastStore (table x).running → IsUnheard table key x
 unheard_as table x op key_is accepted opens copied past =
     let h = headless_of (table x).running accepted in
     record { o = h.o; running = h.there; headless = h.headless; of_key = ap (λ (q : Request). q.key) (sym (opened_as op (table x).running h.o opens h.there).1) ∙ sym copied; past = past h.o h.there }
@@ -464,17 +464,17 @@ past_place r t x w a key stands u =
     by_at (owners.hole q lo hi how way aim stood) past = absurd (let never : route.Hole ≡ route.Direct = sym way ∙ past in cc)
 
 -- its exchange is open still, and has no head
-merely_accepted : {P : Type 0} (o : Option Open) → ∥ P ∥₁ → (P → head_refusal (option_map seen o) ≡ None) → head_refusal (option_map seen o) ≡ None
-merely_accepted o some h = is_none_of (head_refusal (option_map seen o)) (merely_true (is_none (head_refusal (option_map seen o))) some (λ p. ap (λ z. is_none z) (h p)))
+merely_accepted : {P : Type 0} (o : Option Open) → ∥ P ∥₁ → (P → head_refusal (option_map open_view o) ≡ None) → head_refusal (option_map open_view o) ≡ None
+merely_accepted o some h = is_none_of (head_refusal (option_map open_view o)) (merely_true (is_none (head_refusal (option_map open_view o))) some (λ p. ap (λ z. is_none z) (h p)))
   where
     is_none_of : {A : Type 0} (z : Option A) → is_none z ≡ true → z ≡ None
     is_none_of None on = refl
     is_none_of (Some a) on = false_true on
 
-accepted_row : {B : Type 0} {g : Ghosts B} (r : Rows B g) (m : Tables) (x : ℕ) (w : Exchange) → RowsStand r m → m.exchange x ≡ Some w → w.is_open ≡ true → w.head ≡ None → head_refusal (option_map seen (table_of r.exchanges x).running) ≡ None
+accepted_row : {B : Type 0} {g : Ghosts B} (r : Rows B g) (m : Tables) (x : ℕ) (w : Exchange) → RowsStand r m → m.exchange x ≡ Some w → w.is_open ≡ true → w.head ≡ None → head_refusal (option_map open_view (table_of r.exchanges x).running) ≡ None
 accepted_row r m x w stands row opened bare = by_running (table_of r.exchanges x).running (subst (KeepsRunning m x (table_of r.exchanges x).running) row (stands.exchanges x).running)
   where
-    by_running : (o : Option Open) → KeepsRunning m x o (Some w) → head_refusal (option_map seen o) ≡ None
+    by_running : (o : Option Open) → KeepsRunning m x o (Some w) → head_refusal (option_map open_view o) ≡ None
     by_running None keeps = false_true (sym keeps ∙ opened)
     by_running (Some o) keeps = ap (λ (b : Bool). if b then Some refusal.HeadTwice else None) (keeps.headed ∙ ap (λ z. is_some z) bare)
 
@@ -507,7 +507,7 @@ module _ {B : Type 0} {g : Ghosts B} (r mid : Rows B g) (now x : ℕ) (key : Lis
         length = length_as r t x h.w response stands waits.row waits.is_open;
       }
 
-  pub accepted_then : head_refusal (option_map seen (table_of mid.exchanges x).running) ≡ None
+  pub accepted_then : head_refusal (option_map open_view (table_of mid.exchanges x).running) ≡ None
   accepted_then = merely_accepted (table_of mid.exchanges x).running some_past (λ p. (let h = heard_then p in accepted_row mid h.m x h.w h.rows h.row h.is_open h.headless))
 
   pub good_then : is_bad (length_by (table_of r.exchanges x).running response) ≡ false → is_bad (length_by (table_of mid.exchanges x).running response) ≡ false

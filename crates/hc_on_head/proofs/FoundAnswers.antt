@@ -28,7 +28,7 @@ use Rattle.hc_entry.specs.Keys.{kept_of}
 use Rattle.hc_exch.specs.declared.exchanges.Exchanges.{Exchanges}
 use Rattle.hc_exch.specs.declared.row.Open.{Open}
 use Rattle.hc_exch.specs.Exchanges.{table_of}
-use Rattle.hc_exch.specs.Known.{seen}
+use Rattle.hc_exch.specs.Known.{open_view}
 use Rattle.hc_event.specs.declared.place.Place.TheVariants as place
 use Rattle.hc_model.specs.Cases.{head_view, is_founding}
 use Rattle.hc_model.specs.Currents.{current}
@@ -54,7 +54,7 @@ use Rattle.hc_state.specs.Stands.{Answered, RowsStand, Stands}
 use Rattle.hc_model.specs.Flaws.{is_fault}
 use Rattle.hc_state.specs.Stored.{KeepsEntry}
 use Rattle.hc_on_leave.proofs.AnswerArm.{reader_kept}
-use Rattle.hc_on_leave.proofs.FoundArm.{aside, first, second, es, m, may_aside, may_first, make_second, one_way, m_unfounded, m_asker, read_alone, founds_answered, lost_answered, full_told}
+use Rattle.hc_on_leave.proofs.FoundArm.{fallback, first, second, es, m, may_fallback, may_first, make_second, one_way, m_unfounded, m_asker, read_alone, founds_answered, lost_answered, full_told}
 use Rattle.hc_on_head.proofs.HeadTold.{past_of_runs}
 use Rattle.hc_on_leave.proofs.HeardRows.{Asker, Headless, asker, head_none, headless_of, heard_row, runs_as}
 use Rattle.hc_state.proofs.Maps.{known_of, merely_below, merely_false}
@@ -78,9 +78,9 @@ key_told r now x c g response f = by_row (get nat_eq r.consumers c)
     by_row None founding o there = absurd founding
     by_row (Some k) founding o there = (founding o there).key
 
-module _ {B : Type 0} {b : Ghosts B} (r r1 r2 r3 : Rows B b) (now x c : ℕ) (gone told : Option ℕ) (key : List ℕ) (accepted : head_refusal (option_map seen (table_of r.exchanges x).running) ≡ None) (asks : IsAskedBy c (table_of r.exchanges x).running) (small : r.received < 2 ^ 61)
+module _ {B : Type 0} {b : Ghosts B} (r r1 r2 r3 : Rows B b) (now x c : ℕ) (gone told : Option ℕ) (key : List ℕ) (accepted : head_refusal (option_map open_view (table_of r.exchanges x).running) ≡ None) (asks : IsAskedBy c (table_of r.exchanges x).running) (small : r.received < 2 ^ 61)
     (key_is : (o : Open) → (table_of r.exchanges x).running ≡ Some o → key ≡ o.request.key) (told_is : told ≡ (kept_of r.keys key).current)
-    (stands_aside : (t : Tables) (y : ℕ) (w : Exchange) (k : rows.Consumer) → Facts r.limits t → AwaitsHead t y w k → w.c ≡ c → StandsApart y (place.Direct x) → RowsStand r t → RowsStand r1 (with_consumer c (Some (record k { place = place.Direct x })) t))
+    (falls_back : (t : Tables) (y : ℕ) (w : Exchange) (k : rows.Consumer) → Facts r.limits t → AwaitsHead t y w k → w.c ≡ c → StandsApart y (place.Direct x) → RowsStand r t → RowsStand r1 (with_consumer c (Some (record k { place = place.Direct x })) t))
     (goes_first : (t : Tables) → MayLetGo t → RowsStand r1 t → RowsStand r2 (let_some_go now gone t)) (goes_second : (t : Tables) → MayLetGo t → RowsStand r2 t → RowsStand r3 (let_some_go now told t)) (limits_is : r3.limits ≡ r.limits) where
   pub h : Headless (table_of r.exchanges x).running
   h = headless_of (table_of r.exchanges x).running accepted
@@ -108,8 +108,8 @@ module _ {B : Type 0} {b : Ghosts B} (r r1 r2 r3 : Rows B b) (now x c : ℕ) (go
     stood =
         subst (λ (o : Option ℕ). RowsStand r3 (let_some_go now o (first r.limits t facts few now x w a.v a.awaits gone))) told_now
         (goes_second (first r.limits t facts few now x w a.v a.awaits gone) (may_first r.limits t facts few now x w a.v a.awaits gone)
-        (goes_first (aside r.limits t facts few now x w a.v a.awaits gone) (may_aside r.limits t facts few now x w a.v a.awaits gone)
-        (subst (λ (d : ℕ). RowsStand r1 (with_consumer d (Some (record a.v { place = place.Direct x })) t)) (sym for_it) (stands_aside t x w a.v facts a.awaits for_it refl stands))))
+        (goes_first (fallback r.limits t facts few now x w a.v a.awaits gone) (may_fallback r.limits t facts few now x w a.v a.awaits gone)
+        (subst (λ (d : ℕ). RowsStand r1 (with_consumer d (Some (record a.v { place = place.Direct x })) t)) (sym for_it) (falls_back t x w a.v facts a.awaits for_it refl stands))))
 
     pub one_acts : (count : ℕ) → room_for_write r3 write.Slot ≡ room.After count → count ≤ 1
     one_acts count is =

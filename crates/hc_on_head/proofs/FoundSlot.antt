@@ -19,7 +19,7 @@ use Rattle.hc_exch.specs.declared.role.Role.TheVariants as role
 use Rattle.hc_exch.specs.declared.row.Open.{Open}
 use Rattle.hc_exch.specs.declared.row.Opening.{Opening}
 use Rattle.hc_exch.specs.Exchanges.{table_of, Becomes}
-use Rattle.hc_exch.specs.Known.{Known, headed, turned_into, length_by, begins_with}
+use Rattle.hc_exch.specs.Known.{Known, with_good_head, turned_into, length_by, begins_with}
 use Rattle.hc_exch.specs.Openings.{opened_with}
 use Rattle.hc_state.specs.Founding.{brings_body}
 use Rattle.hc_on_leave.proofs.AnswerArm.{known_here, known_other, opened_as}
@@ -32,11 +32,11 @@ length_turned kind (Some o) response = refl
 
 -- the exchange brings what it founds
 pub brings_founded : (x : ℕ) (response : Response) (r mid u : Exchanges) → Becomes (turned_into (role.Body x)) x r mid → is_bad (length_by (table_of r x).running response) ≡ false
-    → (is_bad (length_by (table_of mid x).running response) ≡ false → Becomes (headed (length_by (table_of mid x).running response)) x mid u) → Becomes (brings_body x (length_by (table_of r x).running response)) x r u
+    → (is_bad (length_by (table_of mid x).running response) ≡ false → Becomes (with_good_head (length_by (table_of mid x).running response)) x mid u) → Becomes (brings_body x (length_by (table_of r x).running response)) x r u
 brings_founded x response r mid u turned good heads = record {
   table = λ y. elim (same_or x y) [
     | inl e ↦ subst (λ (n : ℕ). table_of u n ≡ (if x == n then brings_body x its (table_of r x) else table_of r n)) e (here ∙ sym (rw (eqb-same x) refl))
-    | inr ne ↦ known_other (headed its) x y mid u goes (λ e. ne (sym e)) ∙ (known_other (turned_into (role.Body x)) x y r mid turned (λ e. ne (sym e)) ∙ sym (rw (eqb-other x y ne) refl))
+    | inr ne ↦ known_other (with_good_head its) x y mid u goes (λ e. ne (sym e)) ∙ (known_other (turned_into (role.Body x)) x y r mid turned (λ e. ne (sym e)) ∙ sym (rw (eqb-other x y ne) refl))
   ];
   next = goes.next ∙ turned.next;
 }
@@ -50,11 +50,11 @@ brings_founded x response r mid u turned good heads = record {
     same : length_by (table_of mid x).running response ≡ its
     same = ap (λ (k : Known). length_by k.running response) mid_is ∙ length_turned (role.Body x) (table_of r x).running response
 
-    goes : Becomes (headed its) x mid u
-    goes = subst (λ (l : Length). Becomes (headed l) x mid u) same (heads (ap is_bad same ∙ good))
+    goes : Becomes (with_good_head its) x mid u
+    goes = subst (λ (l : Length). Becomes (with_good_head l) x mid u) same (heads (ap is_bad same ∙ good))
 
     here : table_of u x ≡ brings_body x its (table_of r x)
-    here = known_here (headed its) x mid u goes ∙ ap (headed its) mid_is
+    here = known_here (with_good_head its) x mid u goes ∙ ap (with_good_head its) mid_is
 
 -- what is current is of the key that it was opened with
 pub current_of : (op : Opening) (running : Option Open) (x : ℕ) (a b : KeyTable) → Some (opened_with op) ≡ option_map begins_with running → keys.Becomes (with_current (Some x)) op.request.now.key a b → (o : Open) → running ≡ Some o → keys.Becomes (with_current (Some x)) o.request.key a b

@@ -5,7 +5,7 @@ use Rattle.std.specs.HashMap.{get, hash_map_len}
 use Rattle.hc_store.specs.declared.backend.Backend.{Ghosts}
 use Rattle.hc_event.specs.declared.event.Request.{Request}
 use Rattle.hc_event.specs.declared.event.Response.{Response}
-use Rattle.hc_fields.specs.FieldList.{IsModest}
+use Rattle.hc_fields.specs.FieldList.{IsWithinLimits}
 use Rattle.hc_rules.specs.declared.heads.HeadCase.{HeadCase}
 use Rattle.hc_rules.specs.declared.heads.HeadCase.TheVariants as case
 use Rattle.hc_rules.specs.declared.heads.HeadView.{HeadView}
@@ -22,7 +22,7 @@ use Rattle.hc_entry.specs.Lines.{is_among, is_in}
 use Rattle.hc_exch.specs.declared.row.ExchangeView.{ExchangeView}
 use Rattle.hc_exch.specs.declared.row.Open.{Open}
 use Rattle.hc_exch.specs.Exchanges.{table_of}
-use Rattle.hc_exch.specs.Known.{seen, view_of, length_by}
+use Rattle.hc_exch.specs.Known.{open_view, view_of, length_by}
 use Rattle.hc_event.specs.declared.place.Place.{Place}
 use Rattle.hc_event.specs.declared.place.Place.TheVariants as place
 use Rattle.hc_event.specs.declared.place.BoundBy.TheVariants as by
@@ -33,7 +33,7 @@ use Rattle.hc_model.specs.Exchanges.{is_headless}
 use Rattle.hc_model.specs.Lines.{is_in_line}
 use Rattle.hc_model.specs.Live.{most_live}
 use Rattle.hc_model.specs.Rows.{Tables, Exchange}
-use Rattle.hc_model.specs.StartingOver.{awaited}
+use Rattle.hc_model.specs.StartingOver.{awaited_exchange}
 use Rattle.hc_model.specs.Tables.{tables}
 use Rattle.hc_model.proofs.FoundBy.{CaseBy, case_by}
 use Rattle.hc_model.proofs.FoundBy as cases
@@ -115,7 +115,7 @@ module _ {B : Type 0} {g : Ghosts B} (r : Rows B g) (t : Tables) (facts : Facts 
   asker_lives c same = (let h = heard_as in ap (λ (z : Option Consumer). is_some z) (ap (get nat_eq r.consumers) (sym (h.for_it ∙ same)) ∙ h.asked.there))
 
 -- whoever waits to found or to join is kept by its key
-waits_in_key : {B : Type 0} {g : Ghosts B} (r : Rows B g) (t : Tables) (facts : Facts r.limits t) (stands : RowsStand r t) (x : ℕ) (w : Exchange) (a : Asker r t x w) → awaited a.v.place ≡ Some x → is_in w.c (line_of r.keys a.k.request.key) ≡ true
+waits_in_key : {B : Type 0} {g : Ghosts B} (r : Rows B g) (t : Tables) (facts : Facts r.limits t) (stands : RowsStand r t) (x : ℕ) (w : Exchange) (a : Asker r t x w) → awaited_exchange a.v.place ≡ Some x → is_in w.c (line_of r.keys a.k.request.key) ≡ true
 waits_in_key r t facts stands x w a waits = by_place a.v.place refl waits
   where
     key : List ℕ
@@ -139,7 +139,7 @@ waits_in_key r t facts stands x w a waits = by_place a.v.place refl waits
     away : is_away t key (Some a.v) ≡ true → is_in w.c (line_of r.keys key) ≡ true
     away on = last_on (is_among w.c (kept_of r.keys key).in_line) (is_among w.c (kept_of r.keys key).passed) (is_among w.c (kept_of r.keys key).away) ((stands.keys key).away w.c ∙ (ap (is_away t key) a.awaits.asker ∙ on))
 
-    by_place : (p : Place) → a.v.place ≡ p → awaited p ≡ Some x → is_in w.c (line_of r.keys key) ≡ true
+    by_place : (p : Place) → a.v.place ≡ p → awaited_exchange p ≡ Some x → is_in w.c (line_of r.keys key) ≡ true
     by_place (place.Turn y) at on =
         let queues = facts.law.places.turn_queues w.c y a.v a.awaits.asker at in
         in_line (ap (λ k. is_in_line k (Some a.v)) same_key ∙ lined a.v (ap Rattle.hc_model.specs.Lines.stands_in_line at) queues.cached queues.asks)
@@ -349,7 +349,7 @@ founds_status v _ (cases.later_changed way shown) on = false_true on
 
 -- BY WHAT THE CODE LOOKED UP
 
-module _ {B : Type 0} {g : Ghosts B} (r : Rows B g) (x : ℕ) (response : Response) (found : Option ExchangeView) (v : ExchangeView) (aim : Option ℕ) (k : HeadCase) (accepted : head_refusal (option_map seen (table_of r.exchanges x).running) ≡ None) (viewed : found ≡ option_map (view_of x) (table_of r.exchanges x).running) (some : found ≡ Some v) (about : aim ≡ aim_in v.role)
+module _ {B : Type 0} {g : Ghosts B} (r : Rows B g) (x : ℕ) (response : Response) (found : Option ExchangeView) (v : ExchangeView) (aim : Option ℕ) (k : HeadCase) (accepted : head_refusal (option_map open_view (table_of r.exchanges x).running) ≡ None) (viewed : found ≡ option_map (view_of x) (table_of r.exchanges x).running) (some : found ≡ Some v) (about : aim ≡ aim_in v.role)
     (tells : (q : Open) (u : Consumer) → (table_of r.exchanges x).running ≡ Some q → get nat_eq r.consumers v.c ≡ Some u → k ≡ head_case (heard_view q u (kept_at (shelf_of r.entries) aim) response)) where
   bare : Headless (table_of r.exchanges x).running
   bare = headless_of (table_of r.exchanges x).running accepted
@@ -369,13 +369,13 @@ module _ {B : Type 0} {g : Ghosts B} (r : Rows B g) (x : ℕ) (response : Respon
   pub good_as : is_some (get nat_eq r.consumers v.c) ≡ true → is_bad_case k ≡ false → is_bad (length_by (table_of r.exchanges x).running response) ≡ false
   good_as lives off = good_told (table_of r.exchanges x).running bare.o (get nat_eq r.consumers v.c) response k (kept_at (shelf_of r.entries) aim) bare.there lives tells off
 
-  pub founds_as : is_some (get nat_eq r.consumers v.c) ≡ true → IsModest response.fields → is_founding (Some k) ≡ true → MayFound response
-  founds_as lives modest on =
+  pub founds_as : is_some (get nat_eq r.consumers v.c) ≡ true → IsWithinLimits response.fields → is_founding (Some k) ≡ true → MayFound response
+  founds_as lives within_limits on =
       let u = is_there (get nat_eq r.consumers v.c) lives in
       let view : HeadView = heard_view bare.o u.0 (kept_at (shelf_of r.entries) aim) response in
       record {
         status = founds_status view k (subst (CaseBy view) (sym (tells bare.o u.0 bare.there u.1)) (case_by view)) on;
-        modest = modest;
+        within_limits = within_limits;
       }
 
   pub waits_as_told : {P : Type 0} → ∥ P ∥₁ → (P → (t : Tables) × Facts r.limits t × RowsStand r t) → is_some (get nat_eq r.consumers v.c) ≡ true → starts_anew k ≡ true → IsSomeAnd (get nat_eq r.consumers v.c) (IsInKey r.keys v.c)
@@ -479,7 +479,7 @@ pub past_of_runs : {B : Type 0} {g : Ghosts B} (r : Rows B g) → Stands r → (
 past_of_runs r s = (s.t, s.facts, s.rows)
 
 -- its consumer is kept
-pub live_now : {B : Type 0} {g : Ghosts B} (r : Rows B g) (x : ℕ) (found : Option ExchangeView) (v : ExchangeView) → head_refusal (option_map seen (table_of r.exchanges x).running) ≡ None → found ≡ option_map (view_of x) (table_of r.exchanges x).running → found ≡ Some v → ∥ Stands r ∥₁
+pub live_now : {B : Type 0} {g : Ghosts B} (r : Rows B g) (x : ℕ) (found : Option ExchangeView) (v : ExchangeView) → head_refusal (option_map open_view (table_of r.exchanges x).running) ≡ None → found ≡ option_map (view_of x) (table_of r.exchanges x).running → found ≡ Some v → ∥ Stands r ∥₁
     → is_some (get nat_eq r.consumers v.c) ≡ true
 live_now r x found v accepted viewed some some_past =
     let bare = headless_of (table_of r.exchanges x).running accepted in

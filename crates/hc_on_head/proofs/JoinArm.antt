@@ -14,13 +14,13 @@ use Rattle.hc_event.specs.declared.event.Event.TheVariants as event
 use Rattle.hc_event.specs.declared.event.Response.{Response}
 use Rattle.hc_record.specs.Head.{Head, sealed_head}
 use Rattle.hc_record.specs.declared.kind.Kind.TheVariants as kinds
-use Rattle.hc_validate.specs.Updates.{updated}
+use Rattle.hc_validate.specs.Updates.{updated_fields}
 use Rattle.hc_rules.specs.declared.heads.HeadCase.{HeadCase}
 use Rattle.hc_rules.specs.HeadCases.{head_case}
 use Rattle.hc_rules.specs.Refusals.{head_refusal}
 use Rattle.hc_stored.specs.Entries.{shelf_of}
 use Rattle.hc_stored.specs.Kept.{Kept, with_head, written_by}
-use Rattle.hc_stored.specs.Shelf.{unmoved}
+use Rattle.hc_stored.specs.Shelf.{same_order}
 use Rattle.hc_stored.specs.Shelf as shelf
 use Rattle.hc_exch.specs.declared.row.Open.{Open}
 use Rattle.hc_exch.specs.Exchanges as exch
@@ -29,7 +29,7 @@ use Rattle.hc_model.specs.ActFilters.{has_loss}
 use Rattle.hc_model.specs.Cases.{head_view, case_at, is_founding, is_joining}
 use Rattle.hc_model.specs.Currents.{is_number}
 use Rattle.hc_model.specs.Denials.{denial, is_live_place}
-use Rattle.hc_model.specs.Effects.{counted, let_go, lost_to, gone, with_answer, with_consumer, with_representation}
+use Rattle.hc_model.specs.Effects.{with_event, let_go, lost_to, as_gone, with_answer, with_consumer, with_representation}
 use Rattle.hc_model.specs.ExchangeRows.{promise_in}
 use Rattle.hc_model.specs.Exchanges.{is_reached}
 use Rattle.hc_model.specs.Flaws.{Loses}
@@ -45,7 +45,7 @@ use Rattle.hc_model.specs.Writers.{exclusive}
 use Rattle.hc_model.specs.Writes.{written, head_writes, may_validate, lossless}
 use Rattle.hc_model.proofs.FirstKeeps.{case_is}
 use Rattle.hc_model.proofs.FoundBy.{case_by}
-use Rattle.hc_model.proofs.Pens.{filter_some}
+use Rattle.hc_model.proofs.ExclusiveWriters.{filter_some}
 use Rattle.hc_model.proofs.LossStands.{joins_again, not_founding}
 use Rattle.hc_laws.proofs.UpdateEffects as does
 use Rattle.hc_state.specs.declared.consumer.Consumer.{Consumer}
@@ -53,10 +53,10 @@ use Rattle.hc_state.specs.declared.rows.Rows.{Rows}
 use Rattle.hc_state.specs.Changes.{BecomesAt, ChangesAt, Numbered}
 use Rattle.hc_state.specs.Facts.{Facts}
 use Rattle.hc_state.specs.Heads.{IsAskedBy}
-use Rattle.hc_state.specs.Joining.{Brings, bringing, IsAbout, IsGrowing, Shares, growing, joins_hole, shared}
+use Rattle.hc_state.specs.Joining.{Brings, bringing, IsAbout, IsGrowing, Shares, growing, joins_hole, without_own}
 use Rattle.hc_state.specs.Kept.{IsKept, KeepsConsumer}
 use Rattle.hc_state.specs.Leaving.{LeavesKey}
-use Rattle.hc_state.specs.Renewals.{renewed}
+use Rattle.hc_state.specs.Renewals.{renewed_head}
 use Rattle.hc_state.specs.Stands.{Answered, RowsStand, open_at}
 use Rattle.hc_state.specs.Stopped.{HoldsNothing}
 use Rattle.hc_state.specs.Stored.{IsEntry, KeepsEntry, as_written}
@@ -107,7 +107,7 @@ module _ {B : Type 0} {g : Ghosts B} (r u : Rows B g) (m : Tables) (now x q c : 
 
   -- what is gone brings no news
   pub gone_joined : p.is_gone ≡ true → Brings r u c x q response → RowsStand u (with_answer now x response (Some q) w m)
-  gone_joined gone brings =
+  gone_joined as_gone brings =
       subst (RowsStand u) (named_rows m now x w.c q response (Some q) w v p j.asker j.there)
       (stands_joined m now x q response w v p j p.head refl p.writer v.own own_apart r u k o stands there running on
       (ap (λ z. (shelf_of z).limits) brings.entries ∙ (stands.limits ∙ sym brings.limits)) brings.received brings.last_start
@@ -116,7 +116,7 @@ module _ {B : Type 0} {g : Ghosts B} (r u : Rows B g) (m : Tables) (now x q c : 
       brings.exchanges
       (entries_joined m now x q response w v p j p.head refl refl p.writer v.own own_apart (shelf_of r.entries) (shelf_of u.entries) e stands.entries
       (ap (λ z. (shelf_of z).order) brings.entries) (λ n ne. ap (λ z. (shelf_of z).kept n) brings.entries) (ap (λ z. (shelf_of z).kept q) brings.entries ∙ kept)
-      (entry_gone m now x q response w v p j p.head refl refl p.writer v.own own_apart e is gone refl refl)))
+      (entry_gone m now x q response w v p j p.head refl refl p.writer v.own own_apart e is as_gone refl refl)))
 
   -- THE STORED HEAD IS RENEWED
 
@@ -124,10 +124,10 @@ module _ {B : Type 0} {g : Ghosts B} (r u : Rows B g) (m : Tables) (now x q c : 
   h = updated_head now response w p.head
 
   abbrev news : Head
-  news = renewed w.opened now response.fields (growing e.head)
+  news = renewed_head w.opened now response.fields (growing e.head)
 
   told_so : sealed_head kinds.Growing h.total news ≡ h
-  told_so = ap (λ (n : Head). record n { requested = w.opened; answered = now; fields = updated n.fields response.fields }) is.head
+  told_so = ap (λ (n : Head). record n { requested = w.opened; answered = now; fields = updated_fields n.fields response.fields }) is.head
 
   moment_is : o.moment ≡ w.opened
   moment_is = (runs_as r m x o w stands running j.row).moment
@@ -144,10 +144,10 @@ module _ {B : Type 0} {g : Ghosts B} (r u : Rows B g) (m : Tables) (now x q c : 
     its_exchange : exch.Becomes (bringing q response) x r.exchanges brought.exchanges
     its_exchange = subst (λ z. exch.Becomes (bringing q response) x z brought.exchanges) grows.rest.exchanges brings.exchanges
 
-    its_shelf : shelf.Becomes (option_map (with_head news)) unmoved q (shelf_of r.entries) (shelf_of brought.entries)
+    its_shelf : shelf.Becomes (option_map (with_head news)) same_order q (shelf_of r.entries) (shelf_of brought.entries)
     its_shelf =
-        subst (λ z. shelf.Becomes (option_map (with_head news)) unmoved q (shelf_of r.entries) (shelf_of z)) (sym brings.entries)
-        (subst (λ (n : ℕ). shelf.Becomes (option_map (with_head (renewed n now response.fields (growing e.head)))) unmoved q (shelf_of r.entries) (shelf_of mid.entries)) moment_is (grows.head o e running kept))
+        subst (λ z. shelf.Becomes (option_map (with_head news)) same_order q (shelf_of r.entries) (shelf_of z)) (sym brings.entries)
+        (subst (λ (n : ℕ). shelf.Becomes (option_map (with_head (renewed_head n now response.fields (growing e.head)))) same_order q (shelf_of r.entries) (shelf_of mid.entries)) moment_is (grows.head o e running kept))
 
     kept_then : (shelf_of brought.entries).kept q ≡ Some (with_head news e)
     kept_then = its_shelf.kept q ∙ rw (eqb-same q, kept) refl
@@ -173,7 +173,7 @@ module _ {B : Type 0} {g : Ghosts B} (r u : Rows B g) (m : Tables) (now x q c : 
     stands_shared shares =
         stands_joined m now x q response w v p j h refl (Some x) None (λ y ne. refl) r u k o stands there running on
         (shares.entries.limits ∙ (its_shelf.limits ∙ (stands.limits ∙ sym (shares.limits ∙ limits_then)))) (shares.received ∙ (brings.received ∙ grows.rest.received)) (shares.last_start ∙ (brings.last_start ∙ grows.rest.last_start))
-        (becomes_by r.consumers u.consumers w.c k shared there (subst (λ (d : ℕ). ChangesAt r.consumers u.consumers d shared) (sym for_it) (subst (λ z. ChangesAt z u.consumers c shared) (brings.consumers ∙ grows.rest.consumers) shares.consumers)))
+        (becomes_by r.consumers u.consumers w.c k without_own there (subst (λ (d : ℕ). ChangesAt r.consumers u.consumers d without_own) (sym for_it) (subst (λ z. ChangesAt z u.consumers c without_own) (brings.consumers ∙ grows.rest.consumers) shares.consumers)))
         (subst (λ z. LeavesKey w.c k.request.key r.keys z) (sym shares.keys) its_line)
         (subst (λ z. exch.Becomes (bringing q response) x r.exchanges z) (sym shares.exchanges) its_exchange)
         (entries_joined m now x q response w v p j h refl refl (Some x) None (λ y ne. refl) (shelf_of r.entries) (shelf_of u.entries) (written_by x (with_head news e)) stands.entries (shares.entries.order ∙ its_shelf.order)
@@ -201,7 +201,7 @@ module _ {B : Type 0} {g : Ghosts B} (r u : Rows B g) (t : Tables) (facts : Fact
   -- as before, where it was lost
   pub past_answered : p.is_lost ≡ true → RowsStand u (with_answer now x response (Some q) w t) → Answered r.limits (shelf_of r.entries).faults u t before before now ev
   past_answered lost stood =
-      does_answered r.limits (shelf_of r.entries).faults u t (counted now ev (with_answer now x response (Some q) w t)) before before [] now ev
+      does_answered r.limits (shelf_of r.entries).faults u t (with_event now ev (with_answer now x response (Some q) w t)) before before [] now ev
       (does.joins_past r.limits t facts.law now x response goes w a.awaits.row a.v a.awaits.asker q p aim there case (as_model how) is lost) (unwritten t now x response w case a.awaits.row is founds_none) refl (sym (append-nil before))
       (stands_counted u _ now ev refl stood)
 
@@ -211,7 +211,7 @@ module _ {B : Type 0} {g : Ghosts B} (r u : Rows B g) (t : Tables) (facts : Fact
 
   pub joins_answered : p.is_lost ≡ false → (b : Bool) → b ≡ resumes t response w p → RowsStand u (after b) → (faults : ℕ) → Answered r.limits faults u t before before now ev
   joins_answered kept b same stood faults =
-      does_answered r.limits faults u t (counted now ev (after (resumes t response w p))) before before [] now ev
+      does_answered r.limits faults u t (with_event now ev (after (resumes t response w p))) before before [] now ev
       (does.joins r.limits t facts.law now x response goes w a.awaits.row a.v a.awaits.asker q p aim there case (as_model how) is kept) (unwritten t now x response w case a.awaits.row is founds_none) refl (sym (append-nil before))
       (stands_counted u _ now ev refl (subst (λ (n : Bool). RowsStand u (after n)) same stood))
 
@@ -240,7 +240,7 @@ module _ {B : Type 0} {g : Ghosts B} (r u : Rows B g) (t : Tables) (facts : Fact
 
   pub lost_answered : p.is_lost ≡ false → (c : ℕ) → w.c ≡ c → (faults : ℕ) (out : List Act) → out ≡ before ++ (act.Lost q kind.Fault ∷ []) → faults < (shelf_of u.entries).faults → RowsStand u (with_answer now x response (Some q) w (let_go now q (with_representation q (Some (lost_to (Some c) p)) t))) → Answered r.limits faults u t before out now ev
   lost_answered kept c for_it faults out told failed stood =
-      lossy_answered r.limits faults u t (counted now ev (let_go now q (with_answer now x response (Some q) w (with_representation q (Some (lost_to (exclusive t q p) p)) t)))) before out (act.Lost q kind.Fault ∷ []) now ev q
+      lossy_answered r.limits faults u t (with_event now ev (let_go now q (with_answer now x response (Some q) w (with_representation q (Some (lost_to (exclusive t q p) p)) t)))) before out (act.Lost q kind.Fault ∷ []) now ev q
       (does.joins_lost r.limits t facts.law now x response goes w a.awaits.row a.v a.awaits.asker q p aim there case (as_model how) kind.Fault kept (joins_lost_too (head_view t false w response) case how is)) writes_it (ap is_kept there ∙ ap not kept) refl failed told
       (stands_counted u _ now ev refl (subst (λ (o : Option ℕ). RowsStand u (let_go now q (with_answer now x response (Some q) w (with_representation q (Some (lost_to o p)) t)))) (sym (alone kept ∙ ap Some for_it)) stood))
 
@@ -301,7 +301,7 @@ pub kept_growing : {B : Type 0} {g : Ghosts B} (r mid brought : Rows B g) (now x
 kept_growing r mid brought now x q response accepted kept grows same =
     let h = headless_of (table_of r.exchanges x).running accepted in
     let e = is_there ((shelf_of r.entries).kept q) kept in
-    let f : Kept → Kept = with_head (renewed h.o.moment now response.fields (growing e.0.head)) in
+    let f : Kept → Kept = with_head (renewed_head h.o.moment now response.fields (growing e.0.head)) in
     ap (λ z. shelf.is_kept (shelf_of z) q) same
     ∙ some_still q ((shelf_of r.entries).kept q) ((shelf_of mid.entries).kept q) f e.0 ((grows.head h.o e.0 h.there e.1).kept q) e.1
 
@@ -312,7 +312,7 @@ module _ {B : Type 0} {g : Ghosts B} (l u : Rows B g) (t : Tables) (law : Lawful
   m = let_go now q (with_representation q (Some (lost_to alone p)) t)
 
   abbrev gone_p : Representation
-  gone_p = gone (lost_to alone p)
+  gone_p = as_gone (lost_to alone p)
 
   its_place : IsJoinable m x q w v gone_p
   its_place = joinable_lost t now x q w v p alone j

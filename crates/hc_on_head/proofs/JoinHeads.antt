@@ -17,7 +17,7 @@ use Rattle.hc_stored.specs.Shelf.{Shelf, is_kept}
 use Rattle.hc_exch.specs.declared.row.ExchangeView.{ExchangeView}
 use Rattle.hc_exch.specs.declared.row.Open.{Open}
 use Rattle.hc_exch.specs.Exchanges.{table_of}
-use Rattle.hc_exch.specs.Known.{seen, view_of}
+use Rattle.hc_exch.specs.Known.{open_view, view_of}
 use Rattle.hc_model.proofs.FoundBy.{CaseBy, case_by}
 use Rattle.hc_model.proofs.FoundBy as cases
 use Rattle.hc_state.specs.declared.consumer.Consumer.{Consumer}
@@ -78,7 +78,7 @@ good_join k (inr is) = ap is_bad_case is
 
 -- BY WHAT THE CODE LOOKED UP
 
-module _ {B : Type 0} {g : Ghosts B} (r : Rows B g) (x : ℕ) (found : Option ExchangeView) (v : ExchangeView) (aim : Option ℕ) (response : Response) (accepted : head_refusal (option_map seen (table_of r.exchanges x).running) ≡ None) (viewed : found ≡ option_map (view_of x) (table_of r.exchanges x).running) (some : found ≡ Some v) (about : aim ≡ aim_in v.role) where
+module _ {B : Type 0} {g : Ghosts B} (r : Rows B g) (x : ℕ) (found : Option ExchangeView) (v : ExchangeView) (aim : Option ℕ) (response : Response) (accepted : head_refusal (option_map open_view (table_of r.exchanges x).running) ≡ None) (viewed : found ≡ option_map (view_of x) (table_of r.exchanges x).running) (some : found ≡ Some v) (about : aim ≡ aim_in v.role) where
   bare : Headless (table_of r.exchanges x).running
   bare = headless_of (table_of r.exchanges x).running accepted
 

@@ -21,7 +21,7 @@ use Rattle.hc_event.specs.declared.place.BoundBy.{BoundBy}
 use Rattle.hc_event.specs.declared.place.BoundBy.TheVariants as by
 use Rattle.hc_model.specs.Currents.{current, is_usable, is_number, total_in}
 use Rattle.hc_model.specs.Denials.{is_live, is_live_place}
-use Rattle.hc_model.specs.Effects.{answered, with_answer, with_consumer, with_representation}
+use Rattle.hc_model.specs.Effects.{exchange_with_head, with_answer, with_consumer, with_representation}
 use Rattle.hc_model.specs.ExchangeRows.{promise_in}
 use Rattle.hc_model.specs.Exchanges.{base, family, is_headless, is_reached}
 use Rattle.hc_model.specs.Lines.{is_in_line, stands_in_line}
@@ -34,14 +34,14 @@ use Rattle.hc_state.specs.declared.consumer.Consumer.{Consumer}
 use Rattle.hc_state.specs.declared.rows.Rows.{Rows}
 use Rattle.hc_state.specs.Changes.{BecomesAt}
 use Rattle.hc_state.specs.Joining.{bringing}
-use Rattle.hc_state.specs.Kept.{IsKept, IsRunning, KeepsConsumer, KeepsExchange, KeepsRunning, first_lacking, held_for, held_of, held_alone, unread, unstored}
+use Rattle.hc_state.specs.Kept.{IsKept, IsRunning, KeepsConsumer, KeepsExchange, KeepsRunning, first_lacking, held_for, held_of, held_alone, unread, unstored_bytes}
 use Rattle.hc_state.specs.Leaving.{LeavesKey}
 use Rattle.hc_state.specs.Lines.{KeepsKey, has_turn, is_passed, is_away, is_away_at}
 use Rattle.hc_state.specs.Stands.{RowsStand}
 use Rattle.hc_state.specs.Stored.{KeepsEntries}
 use Rattle.hc_on_leave.proofs.AnswerArm.{all_reached, known_here, known_other}
-use Rattle.hc_state.proofs.AsideSteps.{live_same, length_same}
-use Rattle.hc_state.proofs.Asides.{unstored_moved}
+use Rattle.hc_state.proofs.FallbackSteps.{live_same, length_same}
+use Rattle.hc_state.proofs.Fallbacks.{unstored_moved}
 use Rattle.hc_on_leave.proofs.HeardExchange.{drop_none, held_empty}
 use Rattle.hc_on_leave.proofs.HeardRows.{kept_as, runs_as}
 use Rattle.hc_on_head.proofs.JoinKeys.{keys_left}
@@ -73,7 +73,7 @@ pub record IsJoinable (t : Tables) (x q : ℕ) (w : Exchange) (v : rows.Consumer
 -- what is stored has this head and this writer, and the exchange is its consumer's own or isn't
 module _ (t : Tables) (now x q : ℕ) (response : Response) (w : Exchange) (v : rows.Consumer) (p : Representation) (j : IsJoinable t x q w v p) (h : Head) (total : h.total ≡ p.head.total) (wr : Option ℕ) (own : Option ℕ) (apart : (y : ℕ) → x ≢ y → is_number own y ≡ false) where
   abbrev pub ans : Exchange
-  ans = answered now response (Some q) w
+  ans = exchange_with_head now response (Some q) w
 
   abbrev pub z : Representation
   z = record p { head = h; writer = wr }
@@ -158,7 +158,7 @@ module _ (t : Tables) (now x q : ℕ) (response : Response) (w : Exchange) (v : 
   nothing_of m a b None none = refl
   nothing_of m a b (Some d) none = by_row (m.consumer d)
     where
-      by_row : (o : Option rows.Consumer) → unstored m x a b o ≡ []
+      by_row : (o : Option rows.Consumer) → unstored_bytes m x a b o ≡ []
       by_row None = refl
       by_row (Some u) = by_test (is_bound_place (family x a) u.place && is_number u.own x)
         where
@@ -177,13 +177,13 @@ module _ (t : Tables) (now x q : ℕ) (response : Response) (w : Exchange) (v : 
   alone_else y a b ne None = refl
   alone_else y a b ne (Some d) = elim (same_or w.c d) [
     | inl e ↦
-        ap (unstored s y a b) (sym (ap s.consumer e) ∙ consumer_here)
+        ap (unstored_bytes s y a b) (sym (ap s.consumer e) ∙ consumer_here)
         ∙ (off s vn (apart y ne)
-        ∙ sym (ap (unstored t y a b) (sym (ap t.consumer e) ∙ j.asker) ∙ off t v (ap (λ (o : Option ℕ). is_number o y) j.mine ∙ eqb-other x y ne)))
-    | inr other ↦ ap (unstored s y a b) (consumer_other d other) ∙ unstored_moved t s y a b (t.consumer d)
+        ∙ sym (ap (unstored_bytes t y a b) (sym (ap t.consumer e) ∙ j.asker) ∙ off t v (ap (λ (o : Option ℕ). is_number o y) j.mine ∙ eqb-other x y ne)))
+    | inr other ↦ ap (unstored_bytes s y a b) (consumer_other d other) ∙ unstored_moved t s y a b (t.consumer d)
   ]
     where
-      off : (m : Tables) (u : rows.Consumer) → is_number u.own y ≡ false → unstored m y a b (Some u) ≡ []
+      off : (m : Tables) (u : rows.Consumer) → is_number u.own y ≡ false → unstored_bytes m y a b (Some u) ≡ []
       off m u other = (let none : (is_bound_place (family y a) u.place && is_number u.own y) ≡ false = then_false (is_bound_place (family y a) u.place) (is_number u.own y) other in rw none refl)
 
   held_else : (y : ℕ) → x ≢ y → (o : Option Exchange) → held_for s y o ≡ held_for t y o
@@ -201,7 +201,7 @@ module _ (t : Tables) (now x q : ℕ) (response : Response) (w : Exchange) (v : 
       like None = refl
       like (Some d) = by_consumer (t.consumer d)
         where
-          by_consumer : (o : Option rows.Consumer) → unstored t y a z o ≡ unstored t y a p o
+          by_consumer : (o : Option rows.Consumer) → unstored_bytes t y a z o ≡ unstored_bytes t y a p o
           by_consumer None = refl
           by_consumer (Some u) = refl
 

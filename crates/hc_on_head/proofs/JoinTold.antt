@@ -17,7 +17,7 @@ use Rattle.hc_rules.specs.declared.length.Length.{Length}
 use Rattle.hc_rules.specs.declared.length.Length.TheVariants as says
 use Rattle.hc_rules.specs.declared.need.Route.TheVariants as route
 use Rattle.hc_rules.specs.HeadCases.{head_case}
-use Rattle.hc_rules.specs.Lengths.{length_of, length_told, is_bad, is_head, has_no_body, promise_of, agrees}
+use Rattle.hc_rules.specs.Lengths.{length_of, content_length_of, is_bad, is_head, has_no_body, promise_of, agrees}
 use Rattle.hc_rules.specs.Needs.{route_of}
 use Rattle.hc_rules.specs.RangeTexts.{content_range_of}
 use Rattle.hc_rules.specs.Requests.{is_get, is_disabled}
@@ -27,7 +27,7 @@ use Rattle.hc_event.specs.declared.place.BoundBy.{BoundBy}
 use Rattle.hc_event.specs.declared.place.BoundBy.TheVariants as by
 use Rattle.hc_model.specs.Cases.{head_view, joins_row}
 use Rattle.hc_model.specs.Currents.{row_of}
-use Rattle.hc_model.specs.Effects.{gone, lost_to, let_go, with_representation, back_from, waits_for}
+use Rattle.hc_model.specs.Effects.{as_gone, lost_to, let_go, with_representation, back_from, waits_for}
 use Rattle.hc_model.specs.ExchangeRows.{promise_in}
 use Rattle.hc_model.specs.Exchanges.{is_headless, is_reached}
 use Rattle.hc_model.specs.Laws.{StandsFor}
@@ -112,7 +112,7 @@ part_promised from to last total request response get status part good order =
     ap (λ (l : Length). is_reached (promise_of l) 0) length_is ∙ by_test (agrees said (last + 1 - from)) (sym (ap is_bad length_is) ∙ good)
   where
     said : Length
-    said = length_told (elements_in (codes "content-length") response.fields)
+    said = content_length_of (elements_in (codes "content-length") response.fields)
 
     body : has_no_body request response.status ≡ false
     body = no_body_none (is_head request) response.status get status
@@ -275,7 +275,7 @@ stood_of t now q d u is = by_row (t.consumer d) refl is
     by_row None row h = none_some u h
     by_row (Some k) row h = record { k = k; row = row; place_is = by_test k (waits_for q k.place) refl h }
 
-pub joinable_lost : (t : Tables) (now x q : ℕ) (w : Exchange) (v : rows.Consumer) (p : Representation) (alone : Option ℕ) → IsJoinable t x q w v p → IsJoinable (let_go now q (with_representation q (Some (lost_to alone p)) t)) x q w v (gone (lost_to alone p))
+pub joinable_lost : (t : Tables) (now x q : ℕ) (w : Exchange) (v : rows.Consumer) (p : Representation) (alone : Option ℕ) → IsJoinable t x q w v p → IsJoinable (let_go now q (with_representation q (Some (lost_to alone p)) t)) x q w v (as_gone (lost_to alone p))
 joinable_lost t now x q w v p alone j = record {
   row = j.row;
   is_open = j.is_open;

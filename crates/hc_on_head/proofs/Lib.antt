@@ -2,7 +2,7 @@ pub mod HeadViews
 pub mod PassArm
 pub mod HeadTold
 pub mod LoseAsked
-pub mod RisingLists
+pub mod AscendingLists
 pub mod DoomLoops
 pub mod Woken
 pub mod WakeLoop

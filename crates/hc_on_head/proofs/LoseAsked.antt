@@ -25,7 +25,7 @@ use Rattle.hc_model.specs.Lines.{is_in_line, stands_in_line}
 use Rattle.hc_model.specs.Planning.{has_passed}
 use Rattle.hc_model.specs.Rows as rows
 use Rattle.hc_model.specs.Rows.{Tables, Exchange, Representation}
-use Rattle.hc_model.specs.StartingOver.{awaited}
+use Rattle.hc_model.specs.StartingOver.{awaited_exchange}
 use Rattle.hc_state.specs.declared.rows.Rows.{Rows}
 use Rattle.hc_state.specs.Arms.{IsInKey}
 use Rattle.hc_state.specs.Facts.{Facts}
@@ -65,13 +65,13 @@ module _ {B : Type 0} {g : Ghosts B} (r : Rows B g) (t : Tables) (facts : Facts 
       false_true (rw (line, passed, away) at in_key)
 
   -- it waits for the head of its exchange to found or to join by it
-  pub awaits_it : awaited a.v.place ≡ Some x
+  pub awaits_it : awaited_exchange a.v.place ≡ Some x
   awaits_it = by_stands (route_of w.need) a.stands
     where
-      by_stands : (way : _) → StandsFor x a.v way → awaited a.v.place ≡ Some x
+      by_stands : (way : _) → StandsFor x a.v way → awaited_exchange a.v.place ≡ Some x
       by_stands _ (laws.direct at) = absurd (never (ap stands_in_line at) (ap has_passed at) (ap (is_away_at t) at))
-      by_stands _ (laws.has_turn at unshown) = ap awaited at
-      by_stands _ (laws.first q lo hi at unshown) = ap awaited at
+      by_stands _ (laws.has_turn at unshown) = ap awaited_exchange at
+      by_stands _ (laws.first q lo hi at unshown) = ap awaited_exchange at
       by_stands _ (laws.later q lo hi how at shown) = absurd (never (ap stands_in_line at) (ap has_passed at) (ap (is_away_at t) at ∙ by_how how refl))
         where
           by_how : (b : BoundBy) → how ≡ b → is_away_at t (place.Bound q lo hi b) ≡ false
@@ -110,7 +110,7 @@ usable_there (Some e) on = (e, refl, by_test e.is_gone on)
     by_test true h = false_true h
 
 module _ {B : Type 0} {g : Ghosts B} (r first second : Rows B g) (now x c q : ℕ) (some : ∥ Stands r ∥₁) (accepted : head_refusal (open_at r x) ≡ None) (asks : IsAskedBy c (table_of r.exchanges x).running) (waits : IsSomeAnd (get nat_eq r.consumers c) (IsInKey r.keys c)) (usable : is_usable_kept ((shelf_of r.entries).kept q) ≡ true)
-    (sends : (t : Tables) (x : ℕ) (w : Exchange) (k : rows.Consumer) → Facts r.limits t → AwaitsHead t x w k → w.c ≡ c → awaited k.place ≡ Some x → RowsStand r t → RowsStand first (with_consumer c (Some (back_in_line now k)) t)) (same_entries : second.entries ≡ first.entries) (same_exchanges : first.exchanges ≡ r.exchanges) (becomes : exch.Becomes known.closed x first.exchanges second.exchanges) where
+    (sends : (t : Tables) (x : ℕ) (w : Exchange) (k : rows.Consumer) → Facts r.limits t → AwaitsHead t x w k → w.c ≡ c → awaited_exchange k.place ≡ Some x → RowsStand r t → RowsStand first (with_consumer c (Some (back_in_line now k)) t)) (same_entries : second.entries ≡ first.entries) (same_exchanges : first.exchanges ≡ r.exchanges) (becomes : exch.Becomes known.without_exchange x first.exchanges second.exchanges) where
   record Now (t : Tables) : Type 0 where
     w : Exchange
     row : t.exchange x ≡ Some w
@@ -147,5 +147,5 @@ module _ {B : Type 0} {g : Ghosts B} (r first second : Rows B g) (now x c q : �
       let e = entry_row r s.0 s.2 q u.0 u.1 in
       let z = grows r s.0 s.1 s.2 q e.0 e.1 y writing in
       let apart : y ≢ x = λ same. (let one : n.w ≡ z.0 = same_row (s.0.exchange x) n.w z.0 n.row (ap s.0.exchange (sym same) ∙ z.1.row) in false_true (sym (ap (λ (k : Exchange). is_some k.head) (sym one) ∙ ap (λ h. is_some h) n.a.awaits.headless) ∙ z.1.headed)) in
-      ap (λ (k : known.Known). is_some k.running) (known_other known.closed x y first.exchanges second.exchanges becomes apart)
+      ap (λ (k : known.Known). is_some k.running) (known_other known.without_exchange x y first.exchanges second.exchanges becomes apart)
       ∙ (ap (λ z. is_open y (table_of z)) same_exchanges ∙ writing_open (table_of r.exchanges) ((shelf_of r.entries).kept q) y writing))

@@ -71,13 +71,13 @@ module _ (t : Tables) (law : Lawful t) (x : ℕ) (w : Exchange) (v : rows.Consum
 
   pub stands_through : {B : Type 0} {g : Ghosts B} (r u : Rows B g) (k : Consumer) → get nat_eq r.consumers w.c ≡ Some k → RowsStand r m
       → u.limits ≡ r.limits → u.received ≡ r.received → u.last_start ≡ r.last_start → u.exchanges ≡ r.exchanges → u.entries ≡ r.entries → ChangesAt r.consumers u.consumers w.c (standing_at (place.Passed q (Some x)))
-      → keys.Becomes (on_line (lines.passed w.c)) k.request.key r.keys u.keys → RowsStand u (with_consumer w.c (Some z) m)
+      → keys.Becomes (on_line (lines.line_after_pass w.c)) k.request.key r.keys u.keys → RowsStand u (with_consumer w.c (Some z) m)
   stands_through r u k there stands limits received last exchanges entries changes line =
       let is = kept_as r m w.c v k stands awaits.asker there in
       stands_moved r u m w.c v z (standing_at (place.Passed q (Some x)) k) stands awaits.asker (rw at refl) refl limits received last exchanges
       (ap (λ e. (shelf_of e).limits) entries)
       (becomes_by r.consumers u.consumers w.c k (standing_at (place.Passed q (Some x))) there changes) (kept_then k is)
-      (keys_with m w.c (Some z) (on_line (lines.passed w.c)) v.request.key r.keys u.keys stands.keys (subst (λ (q : Request). keys.Becomes (on_line (lines.passed w.c)) q.key r.keys u.keys) is.request line)
+      (keys_with m w.c (Some z) (on_line (lines.line_after_pass w.c)) v.request.key r.keys u.keys stands.keys (subst (λ (q : Request). keys.Becomes (on_line (lines.line_after_pass w.c)) q.key r.keys u.keys) is.request line)
       (passes_key m w.c (Some z) v.request.key (kept_of r.keys v.request.key) (not_lined v.request.key z refl) (first (bytes_eq v.request.key v.request.key) (bytes_eq-same v.request.key v.request.key refl)) (then_false (bytes_eq v.request.key v.request.key) false refl) (then_false (is_in_line v.request.key (Some z)) false refl))
       (λ other off. says_elsewhere m w.c v z other awaits.asker refl off))
       (entries_unbound m law.sound.numbered.lists.started w.c v z awaits.asker (λ n. refl) (shelf_of r.entries) (shelf_of u.entries) stands.entries (subst (λ pl. UnbindsAt pl w.c (shelf_of r.entries) (shelf_of u.entries)) (sym at) (ap shelf_of entries)))
@@ -86,9 +86,9 @@ module _ (t : Tables) (law : Lawful t) (x : ℕ) (w : Exchange) (v : rows.Consum
 -- whoever it is called
 pub through_as : {B : Type 0} {g : Ghosts B} (r u : Rows B g) (t : Tables) (law : Lawful t) (x c q : ℕ) (w : Exchange) (v : rows.Consumer) (k : Consumer) (p : Representation) → AwaitsHead t x w v → w.c ≡ c → v.place ≡ place.Turn x → get nat_eq r.consumers c ≡ Some k → RowsStand r (with_representation q (Some p) t)
     → u.limits ≡ r.limits → u.received ≡ r.received → u.last_start ≡ r.last_start → u.exchanges ≡ r.exchanges → u.entries ≡ r.entries → ChangesAt r.consumers u.consumers c (standing_at (place.Passed q (Some x)))
-    → keys.Becomes (on_line (lines.passed c)) k.request.key r.keys u.keys → RowsStand u (with_consumer c (Some (record v { place = place.Passed q (Some x) })) (with_representation q (Some p) t))
+    → keys.Becomes (on_line (lines.line_after_pass c)) k.request.key r.keys u.keys → RowsStand u (with_consumer c (Some (record v { place = place.Passed q (Some x) })) (with_representation q (Some p) t))
 through_as r u t law x c q w v k p awaits for_it at there stands limits received last exchanges entries changes line =
     subst (λ (d : ℕ). RowsStand u (with_consumer d (Some (record v { place = place.Passed q (Some x) })) (with_representation q (Some p) t))) for_it
     (stands_through t law x w v awaits at q p r u k (ap (get nat_eq r.consumers) for_it ∙ there) stands limits received last exchanges entries
     (subst (λ (d : ℕ). ChangesAt r.consumers u.consumers d (standing_at (place.Passed q (Some x)))) (sym for_it) changes)
-    (subst (λ (d : ℕ). keys.Becomes (on_line (lines.passed d)) k.request.key r.keys u.keys) (sym for_it) line))
+    (subst (λ (d : ℕ). keys.Becomes (on_line (lines.line_after_pass d)) k.request.key r.keys u.keys) (sym for_it) line))

@@ -5,15 +5,15 @@ use Rattle.std.specs.HashMap.{get, hash_map_len}
 use Rattle.hc_store.specs.declared.backend.Backend.{Ghosts}
 use Rattle.hc_event.specs.declared.event.Response.{Response}
 use Rattle.hc_record.specs.Head.{Head}
-use Rattle.hc_validate.specs.Updates.{updated}
+use Rattle.hc_validate.specs.Updates.{updated_fields}
 use Rattle.hc_stored.specs.Entries.{shelf_of}
 use Rattle.hc_stored.specs.Kept.{Kept, with_head}
 use Rattle.hc_stored.specs.Shelf as shelf
-use Rattle.hc_stored.specs.Shelf.{Shelf, unmoved}
+use Rattle.hc_stored.specs.Shelf.{Shelf, same_order}
 use Rattle.hc_entry.specs.Keys.{kept_of}
 use Rattle.hc_exch.specs.Exchanges.{table_of, next_of}
 use Rattle.hc_model.specs.Currents.{current, is_usable, total_in}
-use Rattle.hc_model.specs.Effects.{with_representation, refreshed}
+use Rattle.hc_model.specs.Effects.{with_representation, with_refreshed_head}
 use Rattle.hc_model.specs.Exchanges.{family}
 use Rattle.hc_model.specs.Kinds.{kind_of}
 use Rattle.hc_model.specs.Reading.{bound}
@@ -21,11 +21,11 @@ use Rattle.hc_model.specs.Rows as rows
 use Rattle.hc_model.specs.Rows.{Tables, Exchange, Representation}
 use Rattle.hc_model.specs.Writers.{status_in}
 use Rattle.hc_state.specs.declared.rows.Rows.{Rows}
-use Rattle.hc_state.specs.Kept.{unstored, held_alone, held_of, held_for}
-use Rattle.hc_state.specs.Renewals.{KeepsBeside, renewed}
+use Rattle.hc_state.specs.Kept.{unstored_bytes, held_alone, held_of, held_for}
+use Rattle.hc_state.specs.Renewals.{KeepsBeside, renewed_head}
 use Rattle.hc_state.specs.Stands.{RowsStand}
 use Rattle.hc_state.specs.Stored.{IsEntry, TellsLength, told, untold, KeepsEntry, KeepsEntries, is_usable_row}
-use Rattle.hc_state.proofs.Asides.{unstored_moved}
+use Rattle.hc_state.proofs.Fallbacks.{unstored_moved}
 use Rattle.hc_state.proofs.OneOfEach.{first_by}
 use Rattle.hc_state.proofs.Ties.{consumer_same, exchange_same, entry_same, key_same}
 use Rattle.hc_state.proofs.Words.{same_or, eqb-same, eqb-other, as_received}
@@ -40,7 +40,7 @@ finds_same f h alike (q ∷ qs) = rw (alike q, finds_same f h alike qs) refl
 
 module _ (t : Tables) (now : ℕ) (response : Response) (w : Exchange) (r : ℕ) (v : Representation) (row : t.representation r ≡ Some v) where
   abbrev z : Representation
-  z = refreshed now response w v
+  z = with_refreshed_head now response w v
 
   abbrev pub s : Tables
   s = with_representation r (Some z) t
@@ -68,7 +68,7 @@ module _ (t : Tables) (now : ℕ) (response : Response) (w : Exchange) (r : ℕ)
   alone_renewed y e None = refl
   alone_renewed y e (Some c) = by_consumer (t.consumer c)
     where
-      by_consumer : (k : Option rows.Consumer) → unstored t y e z k ≡ unstored t y e v k
+      by_consumer : (k : Option rows.Consumer) → unstored_bytes t y e z k ≡ unstored_bytes t y e v k
       by_consumer None = refl
       by_consumer (Some k) = refl
 
@@ -94,12 +94,12 @@ module _ (t : Tables) (now : ℕ) (response : Response) (w : Exchange) (r : ℕ)
 
   -- REPRESENTATIONS
 
-  entry_renewed : (e : Kept) → IsEntry t r e v → IsEntry s r (with_head (renewed w.opened now response.fields e.head) e) z
+  entry_renewed : (e : Kept) → IsEntry t r e v → IsEntry s r (with_head (renewed_head w.opened now response.fields e.head) e) z
   unfolding bound kind_of
   entry_renewed e is = record {
     used = is.used;
     key = is.key;
-    head = ap (λ (h : Head). record h { requested = w.opened; answered = now; fields = updated h.fields response.fields }) is.head;
+    head = ap (λ (h : Head). record h { requested = w.opened; answered = now; fields = updated_fields h.fields response.fields }) is.head;
     length = by_length is.length;
     kind = is.kind;
     whole = is.whole;
@@ -113,11 +113,11 @@ module _ (t : Tables) (now : ℕ) (response : Response) (w : Exchange) (r : ℕ)
     is_gone = is.is_gone;
   }
     where
-      by_length : TellsLength e v → TellsLength (with_head (renewed w.opened now response.fields e.head) e) z
+      by_length : TellsLength e v → TellsLength (with_head (renewed_head w.opened now response.fields e.head) e) z
       by_length (told same) = told same
       by_length (untold u) = untold (record { gone = u.gone; untold = u.untold; total = u.total; known = u.known; came = u.came; first = u.first })
 
-  entries_renewed : (a b : Shelf) (e : Kept) → a.kept r ≡ Some e → KeepsEntries t a → shelf.Becomes (option_map (with_head (renewed w.opened now response.fields e.head))) unmoved r a b → KeepsEntries s b
+  entries_renewed : (a b : Shelf) (e : Kept) → a.kept r ≡ Some e → KeepsEntries t a → shelf.Becomes (option_map (with_head (renewed_head w.opened now response.fields e.head))) same_order r a b → KeepsEntries s b
   unfolding bound kind_of
   entries_renewed a b e at kept becomes = record {
     each = λ q. elim (same_or r q) [
@@ -130,15 +130,15 @@ module _ (t : Tables) (now : ℕ) (response : Response) (w : Exchange) (r : ℕ)
       its : KeepsEntry s r (b.kept r) (s.representation r)
       its =
           let is : IsEntry t r e v = subst (λ k. KeepsEntry t r k (Some v)) at (subst (KeepsEntry t r (a.kept r)) row (kept.each r)) in
-          let after : b.kept r ≡ Some (with_head (renewed w.opened now response.fields e.head) e) = becomes.kept r ∙ rw (eqb-same r, at) refl in
-          subst (λ k. KeepsEntry s r k (s.representation r)) (sym after) (subst (KeepsEntry s r (Some (with_head (renewed w.opened now response.fields e.head) e))) (sym here) (entry_renewed e is))
+          let after : b.kept r ≡ Some (with_head (renewed_head w.opened now response.fields e.head) e) = becomes.kept r ∙ rw (eqb-same r, at) refl in
+          subst (λ k. KeepsEntry s r k (s.representation r)) (sym after) (subst (KeepsEntry s r (Some (with_head (renewed_head w.opened now response.fields e.head) e))) (sym here) (entry_renewed e is))
 
 -- ALL OF IT
 
 pub stands_renewed : {B : Type 0} {g : Ghosts B} (r u : Rows B g) (t : Tables) (now : ℕ) (response : Response) (w : Exchange) (q : ℕ) (v : Representation) (e : Kept) → t.representation q ≡ Some v → RowsStand r t → KeepsBeside r u → (shelf_of r.entries).kept q ≡ Some e
-    → shelf.Becomes (option_map (with_head (renewed w.opened now response.fields e.head))) unmoved q (shelf_of r.entries) (shelf_of u.entries) → RowsStand u (with_representation q (Some (refreshed now response w v)) t)
+    → shelf.Becomes (option_map (with_head (renewed_head w.opened now response.fields e.head))) same_order q (shelf_of r.entries) (shelf_of u.entries) → RowsStand u (with_representation q (Some (with_refreshed_head now response w v)) t)
 stands_renewed r u t now response w q v e row stands rest at becomes =
-    let m : Tables = with_representation q (Some (refreshed now response w v)) t in
+    let m : Tables = with_representation q (Some (with_refreshed_head now response w v)) t in
     let consumers = rest.consumers in
     let exchanges = rest.exchanges in
     let same_keys = rest.keys in

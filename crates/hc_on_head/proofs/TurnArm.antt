@@ -27,13 +27,13 @@ use Rattle.hc_exch.specs.declared.row.Open.{Open}
 use Rattle.hc_exch.specs.Exchanges.{table_of}
 use Rattle.hc_exch.specs.Exchanges as exch
 use Rattle.hc_exch.specs.Known as known
-use Rattle.hc_exch.specs.Known.{seen, length_by}
+use Rattle.hc_exch.specs.Known.{open_view, length_by}
 use Rattle.hc_event.specs.declared.place.Place.TheVariants as place
 use Rattle.hc_event.specs.declared.place.BoundBy.TheVariants as by
 use Rattle.hc_model.specs.Cases.{head_view, validates, selects_row}
 use Rattle.hc_model.specs.Currents.{current, row_of}
 use Rattle.hc_model.specs.Denials.{denial}
-use Rattle.hc_model.specs.Effects.{counted, all_closed, with_answer, with_consumer, with_representation, refreshed, unless_ended}
+use Rattle.hc_model.specs.Effects.{with_event, all_closed, with_answer, with_consumer, with_representation, with_refreshed_head, unless_ended}
 use Rattle.hc_model.specs.ExchangeRows.{promise_in}
 use Rattle.hc_model.specs.Exchanges.{is_reached}
 use Rattle.hc_model.specs.Owners.{IsAwaiting}
@@ -47,7 +47,7 @@ use Rattle.hc_state.specs.declared.rows.Rows.{Rows}
 use Rattle.hc_state.specs.Arms.{IsInKey}
 use Rattle.hc_state.specs.Facts.{Facts}
 use Rattle.hc_state.specs.Heads.{AwaitsHead, IsAskedBy, IsUnread, unless_over}
-use Rattle.hc_state.specs.Renewals.{KeepsBeside, IsSelected, renewed}
+use Rattle.hc_state.specs.Renewals.{KeepsBeside, IsSelected, renewed_head}
 use Rattle.hc_state.specs.Stands.{Answered, KeepsRest, RowsStand, Stands}
 use Rattle.hc_state.specs.Stored.{KeepsEntry, IsEntry, is_usable_kept}
 use Rattle.hc_state.proofs.Answering.{does_answered}
@@ -71,7 +71,7 @@ pub past_unrenewed : {B : Type 0} {g : Ghosts B} (r u : Rows B g) → KeepsBesid
 past_unrenewed r u rest same p = record {
   t = p.t;
   facts = subst (λ (n : Limits). Facts n p.t) (sym rest.limits) p.facts;
-  modest = p.modest;
+  within_limits = p.within_limits;
   rows = stands_unrenewed r u _ rest same p.rows;
 }
 
@@ -134,7 +134,7 @@ module _ {B : Type 0} {g : Ghosts B} (r mid thr u : Rows B g) (t : Tables) (fact
   z = record a.v { place = place.Passed q (Some x) }
 
   abbrev m : Tables
-  m = with_representation q (Some (refreshed now response w v)) t
+  m = with_representation q (Some (with_refreshed_head now response w v)) t
 
   abbrev moved : Tables
   moved = with_consumer w.c (Some z) m
@@ -153,13 +153,13 @@ module _ {B : Type 0} {g : Ghosts B} (r mid thr u : Rows B g) (t : Tables) (fact
       unread_then t facts.law x w a.v aw moved z (rw (eqb-same w.c) refl) (λ d n is ne. inl (sym (beside m w.c d (Some z) ne) ∙ is)) aw.row unfounded
       (λ n lo hi h. (let never : place.Passed q (Some x) ≡ place.Bound n lo hi (by.FirstHole x) = h in absurd (cc))) (λ h. (let never : place.Passed q (Some x) ≡ place.Direct x = h in absurd (cc)))
 
-  pub validated_answered : selects v.head response ≡ true → RowsStand thr moved → out ≡ before ++ map act.Close (unless_over x (length_by (table_of thr.exchanges x).running response)) → KeepsRest thr u → u.consumers ≡ thr.consumers → exch.Becomes known.closed x thr.exchanges u.exchanges
+  pub validated_answered : selects v.head response ≡ true → RowsStand thr moved → out ≡ before ++ map act.Close (unless_over x (length_by (table_of thr.exchanges x).running response)) → KeepsRest thr u → u.consumers ≡ thr.consumers → exch.Becomes known.without_exchange x thr.exchanges u.exchanges
       → Answered r.limits (shelf_of r.entries).faults u t before out now ev
   validated_answered on stood told rest consumers becomes =
       let validates_now : validates t w response ≡ true = rw (cur, aim, eqb-same q, row) on in
       let is = case_selected (head_view t false w response) unselected validates_now refl in
       let tells = told ∙ (ap (λ (ys : List ℕ). before ++ map act.Close ys) (closes_as thr moved x w response stood aw.row aw.is_open ∙ ended)) in
-      does_answered r.limits (shelf_of r.entries).faults u t (counted now ev (with_consumer w.c (Some z) (with_answer now x response w.joined w m))) before out [] now ev
+      does_answered r.limits (shelf_of r.entries).faults u t (with_event now ev (with_consumer w.c (Some z) (with_answer now x response w.joined w m))) before out [] now ev
       (validated r.limits t facts.law now x response goes w aw.row a.v aw.asker q v aim row is) (unwritten t now x response w case.Validated aw.row is refl) refl tells
       (stands_counted u _ now ev refl (subst (λ (ys : List ℕ). RowsStand u (all_closed ys (with_answer now x response w.joined w moved))) ended (stands_refused thr u moved now x response w stood unread rest consumers becomes)))
 
@@ -213,7 +213,7 @@ usable_still r key q some_past is = merely_true (is_usable_kept ((shelf_of r.ent
     (λ p. (let s = past_of_runs r p in let k = still_kept r s.0 key q s.2 is in ap is_usable_kept k.kept ∙ ap not (k.is.is_gone ∙ current_stays s.0 key q k.v k.cur k.row)))
 
 -- the exchange's key, as the code has it
-pub key_heard : {B : Type 0} {g : Ghosts B} (r : Rows B g) (x : ℕ) (aim : Option ℕ) (found : Option ℕ) → head_refusal (option_map seen (table_of r.exchanges x).running) ≡ None
+pub key_heard : {B : Type 0} {g : Ghosts B} (r : Rows B g) (x : ℕ) (aim : Option ℕ) (found : Option ℕ) → head_refusal (option_map open_view (table_of r.exchanges x).running) ≡ None
     → ((o : Open) → (table_of r.exchanges x).running ≡ Some o → found ≡ (if is_same_number (kept_of r.keys o.request.key).current aim then aim else None)) → (o : Open) × ((table_of r.exchanges x).running ≡ Some o) × (found ≡ (if is_same_number (kept_of r.keys o.request.key).current aim then aim else None))
 key_heard r x aim found accepted tells = let h = headless_of (table_of r.exchanges x).running accepted in (h.o, h.there, tells h.o h.there)
 
@@ -231,7 +231,7 @@ module _ {B : Type 0} {g : Ghosts B} (r mid : Rows B g) (rest : KeepsBeside r mi
   pub waits_on : (c : ℕ) → IsSomeAnd (get nat_eq r.consumers c) (IsInKey r.keys c) → IsSomeAnd (get nat_eq mid.consumers c) (IsInKey mid.keys c)
   waits_on c waits = (let consumers = rest.consumers in let same_keys = rest.keys in rw (consumers, same_keys) waits)
 
-  pub accepted_on : (x : ℕ) → head_refusal (option_map seen (table_of r.exchanges x).running) ≡ None → head_refusal (option_map seen (table_of mid.exchanges x).running) ≡ None
+  pub accepted_on : (x : ℕ) → head_refusal (option_map open_view (table_of r.exchanges x).running) ≡ None → head_refusal (option_map open_view (table_of mid.exchanges x).running) ≡ None
   accepted_on x accepted = (let exchanges = rest.exchanges in rw exchanges accepted)
 
   pub asked_on : (c x : ℕ) → IsAskedBy c (table_of r.exchanges x).running → IsAskedBy c (table_of mid.exchanges x).running
@@ -273,8 +273,8 @@ module _ {B : Type 0} {g : Ghosts B} (r mid : Rows B g) (t : Tables) (x now : �
   pub tells_selected : (b : Bool) → IsSelected r mid x now q response b → b ≡ selects s.v.head response
   tells_selected b sel = sel.tells s.e s.kept ∙ selects_same t q s.e s.v response s.is
 
-  pub stands_selected : IsSelected r mid x now q response true → RowsStand mid (with_representation q (Some (refreshed now response w s.v)) t)
+  pub stands_selected : IsSelected r mid x now q response true → RowsStand mid (with_representation q (Some (with_refreshed_head now response w s.v)) t)
   stands_selected sel =
       let runs = runs_as r t x o w stands there row in
       stands_renewed r mid t now response w q s.v s.e s.row stands sel.rest s.kept
-      (subst (λ (n : ℕ). shelf.Becomes (option_map (with_head (renewed n now response.fields s.e.head))) shelf.unmoved q (shelf_of r.entries) (shelf_of mid.entries)) runs.moment (sel.head o there s.e s.kept))
+      (subst (λ (n : ℕ). shelf.Becomes (option_map (with_head (renewed_head n now response.fields s.e.head))) shelf.same_order q (shelf_of r.entries) (shelf_of mid.entries)) runs.moment (sel.head o there s.e s.kept))

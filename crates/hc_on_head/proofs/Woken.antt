@@ -77,7 +77,7 @@ module _ (t : Tables) (key : List ℕ) where
 
       by_test : (b : Bool) → (not (is_disabled k.request) && not (is_only k.request)) ≡ b → Stood z
       by_test true queues = back k row flipped (rw at refl) (is ∙ queues)
-      by_test false aside = beside k row flipped at (is ∙ aside)
+      by_test false fallback = beside k row flipped at (is ∙ fallback)
 
   at_turn : (k : rows.Consumer) (z : Option rows.Consumer) (x : ℕ) → z ≡ Some k → k.place ≡ place.Turn x → Queues k → bytes_eq k.request.key key ≡ true → Stood z
   at_turn k z x row at queues on = back k row (bytes-flip key k.request.key ∙ on) (rw at refl) (rw (row, on, at, queues.cached, queues.asks) refl)

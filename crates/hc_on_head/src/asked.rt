@@ -1,13 +1,13 @@
 //! What a 304 may be about, where it can't be read or updated.
 ghost use Rattle.std.specs.Prelude.{◌≡◌, ◌≤◌, ◌<◌, ◌^◌, ℕ, true, None, nat_eq, IsSomeAnd};
 ghost use Rattle.std.specs.HashMap.{get};
-ghost use Rattle.hc_event.specs.Acts.{listed, spare};
+ghost use Rattle.hc_event.specs.Acts.{act_list, spare};
 ghost use Rattle.hc_rules.specs.Refusals.{head_refusal};
 ghost use Rattle.hc_stored.specs.Entries.{shelf_of};
 ghost use Rattle.hc_exch.specs.Exchanges.{table_of};
 ghost use Rattle.hc_state.specs.Arms.{IsInKey};
 ghost use Rattle.hc_state.specs.Heads.{IsAskedBy};
-ghost use Rattle.hc_state.specs.Heirs.{AnswersLosing};
+ghost use Rattle.hc_state.specs.DetachedReaders.{AnswersLosing};
 ghost use Rattle.hc_state.specs.Stands.{Stands, open_at};
 ghost use Rattle.hc_state.specs.Stored.{is_usable_kept};
 
@@ -38,8 +38,8 @@ pub fn lose_asked<B: Backend>(
     requires asker { IsAskedBy heard.c (table_of rows.old.exchanges heard.x).running }
     requires small { rows.old.received < 2 ^ 61 }
     requires room { 3 ≤ spare out.old }
-    ensures answers { (faults : ℕ) → AnswersLosing rows.old rows.new (listed out.old)
-        (listed out.new) faults heard.now heard.x r response.now }
+    ensures answers { (faults : ℕ) → AnswersLosing rows.old rows.new (act_list out.old)
+        (act_list out.new) faults heard.now heard.x r response.now }
     ensures received { rows.new.received ≡ rows.old.received }
     ensures limits { rows.new.limits ≡ rows.old.limits }
     ensures faults { (shelf_of rows.new.entries).faults ≡ (shelf_of rows.old.entries).faults }

@@ -7,7 +7,7 @@ ghost use Rattle.hc_event.specs.declared.place.Place.TheVariants as place;
 ghost use Rattle.hc_model.specs.Effects.{with_consumer, with_representation};
 ghost use Rattle.hc_model.specs.Lawful.{Lawful};
 ghost use Rattle.hc_model.specs.Rows.{Tables, Exchange, Representation, Consumer};
-ghost use Rattle.hc_model.specs.StartingOver.{awaited};
+ghost use Rattle.hc_model.specs.StartingOver.{awaited_exchange};
 ghost use Rattle.hc_state.specs.Arms.{IsInKey};
 ghost use Rattle.hc_state.specs.Facts.{Facts};
 ghost use Rattle.hc_state.specs.Heads.{AwaitsHead, StandsApart};
@@ -20,7 +20,7 @@ use hc_store::Backend;
 
 /// A consumer that waits for the head of its exchange waits for its key no more, is bound to
 /// nothing, and stands there: it reads that exchange past the store, or is to fail.
-pub fn stand_aside<B: Backend>(rows: &mut Rows<B>, c: u64, place: Place)
+pub fn fall_back<B: Backend>(rows: &mut Rows<B>, c: u64, place: Place)
     requires stands { ∥ Stands rows.old ∥₁ }
     requires live { is_some (get nat_eq rows.old.consumers c) ≡ true }
     ensures stands { (t : Tables) (x : ℕ) (w : Exchange) (k : Consumer)
@@ -44,7 +44,7 @@ pub(crate) fn send_back<B: Backend>(rows: &mut Rows<B>, now: u64, c: u64)
     requires stands { ∥ Stands rows.old ∥₁ }
     requires waits { IsSomeAnd (get nat_eq rows.old.consumers c) (IsInKey rows.old.keys c) }
     ensures stands { (t : Tables) (x : ℕ) (w : Exchange) (k : Consumer)
-        → Facts rows.old.limits t → AwaitsHead t x w k → w.c ≡ c → awaited k.place ≡ Some x
+        → Facts rows.old.limits t → AwaitsHead t x w k → w.c ≡ c → awaited_exchange k.place ≡ Some x
         → RowsStand rows.old t
         → RowsStand rows.new (with_consumer c (Some (back_in_line now k)) t) }
     ensures exchanges { rows.new.exchanges ≡ rows.old.exchanges }

@@ -1,7 +1,7 @@
 //! What a doom does.
 ghost use Rattle.std.specs.Prelude.{◌≡◌, ◌≤◌, ℕ, true, nat_eq, nat_le, IfSome, option_and_then};
 ghost use Rattle.std.specs.HashMap.{get, hash_map_len};
-ghost use Rattle.hc_event.specs.Acts.{listed, spare};
+ghost use Rattle.hc_event.specs.Acts.{act_list, spare};
 ghost use Rattle.hc_event.specs.declared.event.Event.TheVariants.{Doom};
 ghost use Rattle.hc_stored.specs.Entries.{shelf_of};
 ghost use Rattle.hc_entry.specs.Keys.{line_of, seated_at, Becomes};
@@ -30,7 +30,7 @@ use hc_text::Key;
 pub fn take_doom<B: Backend>(rows: &mut Rows<B>, now: u64, key: &Key, out: &mut Acts)
     requires stands { ∥ Stands rows.old ∥₁ }
     requires room { hash_map_len rows.old.consumers ≤ spare out.old }
-    ensures answers { Answers rows.old rows.new (listed out.old) (listed out.new) now
+    ensures answers { Answers rows.old rows.new (act_list out.old) (act_list out.new) now
         (Doom key.now) }
     ensures limits { rows.new.limits ≡ rows.old.limits }
     ensures received { rows.new.received ≡ rows.old.received }
@@ -53,7 +53,7 @@ pub(crate) fn doom<B: Backend>(
     requires unheard { IfSome refused (IsUnheard (table_of rows.old.exchanges) key.now) }
     requires room { hash_map_len rows.old.consumers ≤ spare out.old }
     ensures doomed { (t : Tables) → Lawful t → RowsStand rows.old t
-        → IsDoomed rows.new t (listed out.old) (listed out.new) now key.now refused }
+        → IsDoomed rows.new t (act_list out.old) (act_list out.new) now key.now refused }
     ensures limits { rows.new.limits ≡ rows.old.limits }
     ensures last_start { rows.new.last_start ≡ rows.old.last_start }
     ensures received { rows.new.received ≡ rows.old.received }
@@ -114,7 +114,7 @@ fn close_awaited<B: Backend>(rows: &mut Rows<B>, key: &Key, refused: Option<u64>
         → is_open x (table_of rows.old.exchanges) ≡ true }
     requires few { AreAtMost (spare out.old) (IsToClose rows.old key.now refused) }
     ensures closes { Closes rows.old rows.new.exchanges key.now refused
-        (listed out.old) (listed out.new) }
+        (act_list out.old) (act_list out.new) }
     ensures consumers { rows.new.consumers ≡ rows.old.consumers }
     ensures rest { KeepsRest rows.old rows.new }
 {

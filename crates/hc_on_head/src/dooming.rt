@@ -1,7 +1,7 @@
 //! Heads past the store that doom what is stored for their key.
 ghost use Rattle.std.specs.Prelude.{◌≡◌, ◌≤◌, true, false, Some, None, OnOk, OnErr};
 ghost use Rattle.std.specs.HashMap.{hash_map_len};
-ghost use Rattle.hc_event.specs.Acts.{listed, spare};
+ghost use Rattle.hc_event.specs.Acts.{act_list, spare};
 ghost use Rattle.hc_rules.specs.declared.heads.HeadCase.TheVariants as case;
 ghost use Rattle.hc_rules.specs.Lengths.{is_bad};
 ghost use Rattle.hc_rules.specs.Refusals.{head_refusal};
@@ -38,12 +38,12 @@ pub(crate) fn take_dooming<B: Backend>(
     requires good { is_bad_case case ≡ false → is_bad
         (length_by (table_of rows.old.exchanges heard.x).running response.now) ≡ false }
     requires room { hash_map_len rows.old.consumers ≤ spare out.old }
-    ensures answers { OnOk result (AnswersDooming rows.old rows.new (listed out.old)
-        (listed out.new) heard.now heard.x response.now case) }
+    ensures answers { OnOk result (AnswersDooming rows.old rows.new (act_list out.old)
+        (act_list out.new) heard.now heard.x response.now case) }
     ensures received { OnOk result (rows.new.received ≡ rows.old.received) }
     ensures limits { OnOk result (rows.new.limits ≡ rows.old.limits) }
     ensures faults { (shelf_of rows.new.entries).faults ≡ (shelf_of rows.old.entries).faults }
-    ensures kept { OnErr result (listed out.new ≡ listed out.old) }
+    ensures kept { OnErr result (act_list out.new ≡ act_list out.old) }
 {
     let opening = rows.exchanges.opening(heard.x).unwrap();
     let key = opening.request.key.copy()?;
@@ -68,7 +68,7 @@ fn doom_badly<B: Backend>(
     requires asker { IsAskedBy heard.c (table_of rows.old.exchanges heard.x).running }
     requires unheard { IsUnheard (table_of rows.old.exchanges) key.now heard.x }
     requires room { hash_map_len rows.old.consumers ≤ spare out.old }
-    ensures answers { AnswersDooming rows.old rows.new (listed out.old) (listed out.new)
+    ensures answers { AnswersDooming rows.old rows.new (act_list out.old) (act_list out.new)
         heard.now heard.x response.now case.DirectBad }
     ensures received { rows.new.received ≡ rows.old.received }
     ensures limits { rows.new.limits ≡ rows.old.limits }
@@ -94,12 +94,12 @@ fn doom_taken<B: Backend>(
     requires good { is_bad (length_by (table_of rows.old.exchanges heard.x).running
         response.now) ≡ false }
     requires room { hash_map_len rows.old.consumers ≤ spare out.old }
-    ensures answers { OnOk result (AnswersDooming rows.old rows.new (listed out.old)
-        (listed out.new) heard.now heard.x response.now case.DirectTaken) }
+    ensures answers { OnOk result (AnswersDooming rows.old rows.new (act_list out.old)
+        (act_list out.new) heard.now heard.x response.now case.DirectTaken) }
     ensures received { OnOk result (rows.new.received ≡ rows.old.received) }
     ensures limits { OnOk result (rows.new.limits ≡ rows.old.limits) }
     ensures faults { (shelf_of rows.new.entries).faults ≡ (shelf_of rows.old.entries).faults }
-    ensures kept { OnErr result (listed out.new ≡ listed out.old) }
+    ensures kept { OnErr result (act_list out.new ≡ act_list out.old) }
 {
     let answer = response.copy()?;
     doom(rows, heard.now, key, None, out);

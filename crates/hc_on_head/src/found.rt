@@ -1,7 +1,7 @@
 //! Heads that found a representation.
 ghost use Rattle.std.specs.Prelude.{◌≡◌, ◌+◌, ◌≤◌, ◌<◌, ◌^◌, Some, None, Err, true, false, nat_eq, is_some, IfOk, IsSomeAnd, OnOk, OnErr};
 ghost use Rattle.std.specs.HashMap.{get};
-ghost use Rattle.hc_event.specs.Acts.{listed, spare};
+ghost use Rattle.hc_event.specs.Acts.{act_list, spare};
 ghost use Rattle.hc_record.specs.Plain.{plain};
 ghost use Rattle.hc_rules.specs.Lengths.{is_bad};
 ghost use Rattle.hc_rules.specs.Refusals.{head_refusal};
@@ -19,7 +19,7 @@ ghost use Rattle.hc_state.specs.Renewals.{IsUnrenewed};
 ghost use Rattle.hc_state.specs.Room.{Appends};
 ghost use Rattle.hc_state.specs.Stands.{AnswersCase, Stands, open_at};
 
-use crate::asker::stand_aside;
+use crate::asker::fall_back;
 use crate::heard::Heard;
 use crate::unstored::answer_past;
 use hc_event::{Act, Acts, Place, Response};
@@ -55,12 +55,12 @@ pub(crate) fn found<B: Backend>(
     requires may { MayFound response.now }
     requires small { rows.old.received < 2 ^ 61 }
     requires room { 2 ≤ spare out.old }
-    ensures answers { OnOk result (AnswersCase rows.old rows.new (listed out.old)
-        (listed out.new) heard.now heard.x response.now case goes) }
+    ensures answers { OnOk result (AnswersCase rows.old rows.new (act_list out.old)
+        (act_list out.new) heard.now heard.x response.now case goes) }
     ensures received { OnOk result (rows.new.received ≡ rows.old.received) }
     ensures limits { OnOk result (rows.new.limits ≡ rows.old.limits) }
     ensures faults { (shelf_of rows.old.entries).faults ≤ (shelf_of rows.new.entries).faults }
-    ensures kept { OnErr result (listed out.new ≡ listed out.old) }
+    ensures kept { OnErr result (act_list out.new ≡ act_list out.old) }
 {
     let told = out.list().len();
     let founded = found_in_room(rows, case, heard, response, goes, out);
@@ -90,16 +90,16 @@ fn found_in_room<B: Backend>(
     requires may { MayFound response.now }
     requires small { rows.old.received < 2 ^ 61 }
     requires room { 2 ≤ spare out.old }
-    ensures answers { OnOk result (AnswersCase rows.old rows.new (listed out.old)
-        (listed out.new) heard.now heard.x response.now case goes) }
+    ensures answers { OnOk result (AnswersCase rows.old rows.new (act_list out.old)
+        (act_list out.new) heard.now heard.x response.now case goes) }
     ensures received { OnOk result (rows.new.received ≡ rows.old.received) }
     ensures limits { OnOk result (rows.new.limits ≡ rows.old.limits) }
     ensures faults { (shelf_of rows.old.entries).faults ≤ (shelf_of rows.new.entries).faults }
-    ensures appends { Appends (listed out.old) (listed out.new) }
+    ensures appends { Appends (act_list out.old) (act_list out.new) }
 {
     let founding = founding(rows, case, heard, response)?;
     let current = rows.keys.current(&founding.key);
-    stand_aside(rows, heard.c, Place::Direct(heard.x));
+    fall_back(rows, heard.c, Place::Direct(heard.x));
     let_some_go(rows, heard.now, goes);
     let_some_go(rows, heard.now, current);
     make_room(rows, heard.now, Write::Slot, out);

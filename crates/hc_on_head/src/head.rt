@@ -1,7 +1,7 @@
 //! The head of an exchange, by its case.
 ghost use Rattle.std.specs.Prelude.{◌≡◌, ◌≤◌, ◌<◌, ◌^◌, ◌&&◌, Some, None, false, true, nat_eq, is_some, IsSomeAnd, OnOk, OnErr};
 ghost use Rattle.std.specs.HashMap.{get};
-ghost use Rattle.hc_event.specs.Acts.{listed, spare};
+ghost use Rattle.hc_event.specs.Acts.{act_list, spare};
 ghost use Rattle.hc_event.specs.declared.event.Event.TheVariants.{Head};
 ghost use Rattle.hc_rules.specs.declared.heads.HeadCase.TheVariants.{Validated, NotValidated};
 ghost use Rattle.hc_rules.specs.HeadCases.{head_case};
@@ -12,7 +12,7 @@ ghost use Rattle.hc_entry.specs.Keys.{kept_of};
 ghost use Rattle.hc_exch.specs.declared.row.Open.{Open};
 ghost use Rattle.hc_exch.specs.Exchanges.{table_of};
 ghost use Rattle.hc_exch.specs.Known.{is_open, length_by};
-ghost use Rattle.hc_fields.specs.FieldList.{IsModest};
+ghost use Rattle.hc_fields.specs.FieldList.{IsWithinLimits};
 ghost use Rattle.hc_model.specs.Cases.{is_founding};
 ghost use Rattle.hc_model.specs.Live.{most_live};
 ghost use Rattle.hc_state.specs.declared.consumer.Consumer.{Consumer};
@@ -50,15 +50,15 @@ pub fn take_head<B: Backend>(
     requires stands { ∥ Stands rows.old ∥₁ }
     requires accepted { head_refusal (open_at rows.old x) ≡ None }
     requires timely { IsTimely now (table_of rows.old.exchanges x).running }
-    requires modest { IsModest response.now.fields }
+    requires within_limits { IsWithinLimits response.now.fields }
     requires small { rows.old.received < 2 ^ 61 }
     requires room { most_live ≤ spare out.old }
-    ensures answers { OnOk result (Answers rows.old rows.new (listed out.old) (listed out.new)
+    ensures answers { OnOk result (Answers rows.old rows.new (act_list out.old) (act_list out.new)
         now (Head x response.now)) }
     ensures received { OnOk result (rows.new.received ≡ rows.old.received) }
     ensures limits { OnOk result (rows.new.limits ≡ rows.old.limits) }
     ensures faults { (shelf_of rows.old.entries).faults ≤ (shelf_of rows.new.entries).faults }
-    ensures kept { OnErr result (listed out.new ≡ listed out.old) }
+    ensures kept { OnErr result (act_list out.new ≡ act_list out.old) }
 {
     let view = rows.exchanges.view(x).unwrap();
     let heard = Heard { now, x, c: view.c };
@@ -100,12 +100,12 @@ fn take_case<B: Backend>(
         (table_of rows.old.exchanges heard.x).running }
     requires small { rows.old.received < 2 ^ 61 }
     requires room { 2 ≤ spare out.old }
-    ensures answers { OnOk result (AnswersCase rows.old rows.new (listed out.old)
-        (listed out.new) heard.now heard.x response.now case goes) }
+    ensures answers { OnOk result (AnswersCase rows.old rows.new (act_list out.old)
+        (act_list out.new) heard.now heard.x response.now case goes) }
     ensures received { OnOk result (rows.new.received ≡ rows.old.received) }
     ensures limits { OnOk result (rows.new.limits ≡ rows.old.limits) }
     ensures faults { (shelf_of rows.old.entries).faults ≤ (shelf_of rows.new.entries).faults }
-    ensures kept { OnErr result (listed out.new ≡ listed out.old) }
+    ensures kept { OnErr result (act_list out.new ≡ act_list out.old) }
 {
     match case {
         HeadCase::DirectBad | HeadCase::TurnBad | HeadCase::FirstBad => {

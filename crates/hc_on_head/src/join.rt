@@ -1,7 +1,7 @@
 //! Heads that bring bytes of holes of what is stored.
 ghost use Rattle.std.specs.Prelude.{◌≡◌, ◌≤◌, ◌<◌, ◌^◌, ◌↔◌, IsTrue, Some, true, false, is_some, nat_eq, OnOk, OnErr};
 ghost use Rattle.std.specs.HashMap.{get};
-ghost use Rattle.hc_event.specs.Acts.{listed, spare};
+ghost use Rattle.hc_event.specs.Acts.{act_list, spare};
 ghost use Rattle.hc_rules.specs.Lengths.{is_bad};
 ghost use Rattle.hc_rules.specs.Refusals.{head_refusal};
 ghost use Rattle.hc_store.specs.Causes.{HasCause, HasNoLimit};
@@ -51,11 +51,11 @@ pub(crate) fn join<B: Backend>(
     requires timely { IsTimely heard.now (table_of rows.old.exchanges heard.x).running }
     requires small { rows.old.received < 2 ^ 61 }
     requires room { 1 ≤ spare out.old }
-    ensures answers { OnOk result (AnswersJoins rows.old rows.new (listed out.old)
-        (listed out.new) heard.now heard.x response.now) }
+    ensures answers { OnOk result (AnswersJoins rows.old rows.new (act_list out.old)
+        (act_list out.new) heard.now heard.x response.now) }
     ensures received { OnOk result (rows.new.received ≡ rows.old.received) }
     ensures limits { OnOk result (rows.new.limits ≡ rows.old.limits) }
-    ensures kept { OnErr result (listed out.new ≡ listed out.old) }
+    ensures kept { OnErr result (act_list out.new ≡ act_list out.old) }
     ensures memory { OnErr result
         ((shelf_of rows.new.entries).faults ≡ (shelf_of rows.old.entries).faults) }
     ensures faults { (shelf_of rows.old.entries).faults ≤ (shelf_of rows.new.entries).faults }

@@ -1,7 +1,7 @@
 //! 304s that may be about what is stored.
 ghost use Rattle.std.specs.Prelude.{◌≡◌, ◌≤◌, ◌<◌, ◌^◌, true, Some, None, nat_eq, if◌then◌else◌, IfOk, IsSomeAnd, OnOk, OnErr};
 ghost use Rattle.std.specs.HashMap.{get};
-ghost use Rattle.hc_event.specs.Acts.{listed, spare};
+ghost use Rattle.hc_event.specs.Acts.{act_list, spare};
 ghost use Rattle.hc_rules.specs.Lengths.{is_same_number};
 ghost use Rattle.hc_rules.specs.Refusals.{head_refusal};
 ghost use Rattle.hc_record.specs.Plain.{plain};
@@ -46,12 +46,12 @@ pub(crate) fn validate<B: Backend>(
     requires timely { IsTimely heard.now (table_of rows.old.exchanges heard.x).running }
     requires small { rows.old.received < 2 ^ 61 }
     requires room { 3 ≤ spare out.old }
-    ensures answers { OnOk result (AnswersUnselected rows.old rows.new (listed out.old)
-        (listed out.new) heard.now heard.x response.now aim) }
+    ensures answers { OnOk result (AnswersUnselected rows.old rows.new (act_list out.old)
+        (act_list out.new) heard.now heard.x response.now aim) }
     ensures received { OnOk result (rows.new.received ≡ rows.old.received) }
     ensures limits { OnOk result (rows.new.limits ≡ rows.old.limits) }
     ensures faults { (shelf_of rows.old.entries).faults ≤ (shelf_of rows.new.entries).faults }
-    ensures kept { OnErr result (listed out.new ≡ listed out.old) }
+    ensures kept { OnErr result (act_list out.new ≡ act_list out.old) }
     ensures memory { OnErr result
         ((shelf_of rows.new.entries).faults ≡ (shelf_of rows.old.entries).faults) }
 {

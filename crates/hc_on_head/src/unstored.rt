@@ -1,7 +1,7 @@
 //! Heads of which nothing is stored.
 ghost use Rattle.std.specs.Prelude.{◌≡◌, ◌+◌, ◌≤◌, ◌<◌, ◌^◌, ◌++◌, List, Some, None, true, false, map, nat_eq, is_some, IsSomeAnd, OnOk, OnErr};
 ghost use Rattle.std.specs.HashMap.{get};
-ghost use Rattle.hc_event.specs.Acts.{listed, spare};
+ghost use Rattle.hc_event.specs.Acts.{act_list, spare};
 ghost use Rattle.hc_event.specs.declared.act.Act.{Act};
 ghost use Rattle.hc_event.specs.declared.act.Act.TheVariants as act;
 ghost use Rattle.hc_stored.specs.Entries.{shelf_of};
@@ -10,14 +10,14 @@ ghost use Rattle.hc_rules.specs.declared.heads.HeadCase.TheVariants as case;
 ghost use Rattle.hc_rules.specs.Lengths.{is_bad};
 ghost use Rattle.hc_rules.specs.Refusals.{head_refusal};
 ghost use Rattle.hc_exch.specs.Exchanges.{next_of, table_of, Becomes};
-ghost use Rattle.hc_exch.specs.Known.{is_open, closed, length_by};
+ghost use Rattle.hc_exch.specs.Known.{is_open, without_exchange, length_by};
 ghost use Rattle.hc_model.specs.Effects.{with_answer};
 ghost use Rattle.hc_model.specs.Rows.{Tables, Exchange, Consumer};
 ghost use Rattle.hc_state.specs.Arms.{IsInKey};
-ghost use Rattle.hc_state.specs.Heads.{IsAskedBy, IsReadAlone, EndsInRange, end_told, unless_over, puts_down, goes_past, starts_anew, breaks_off, broken_by};
+ghost use Rattle.hc_state.specs.Heads.{IsAskedBy, IsReadAlone, EndsInRange, end_of_answer, unless_over, puts_down, goes_past, starts_anew, breaks_off, broken_by};
 ghost use Rattle.hc_state.specs.Stands.{AnswersCase, KeepsRest, RowsStand, Stands, open_at};
 
-use crate::asker::{send_back, stand_aside};
+use crate::asker::{fall_back, send_back};
 use crate::heard::Heard;
 use hc_event::{Act, Acts, Cause, Place, Response};
 use hc_exch::Role;
@@ -36,12 +36,12 @@ pub fn put_down<B: Backend>(rows: &mut Rows<B>, heard: Heard, response: &Respons
     requires asker { IsAskedBy heard.c (table_of rows.old.exchanges heard.x).running }
     requires room { 1 ≤ spare out.old }
     ensures answers { (g : HeadCase) → puts_down g ≡ true → AnswersCase rows.old rows.new
-        (listed out.old) (listed out.new) heard.now heard.x response.now g None }
+        (act_list out.old) (act_list out.new) heard.now heard.x response.now g None }
     ensures received { rows.new.received ≡ rows.old.received }
     ensures limits { rows.new.limits ≡ rows.old.limits }
     ensures faults { (shelf_of rows.new.entries).faults ≡ (shelf_of rows.old.entries).faults }
 {
-    stand_aside(rows, heard.c, Place::Down(Cause::BadHead(heard.x)));
+    fall_back(rows, heard.c, Place::Down(Cause::BadHead(heard.x)));
     refuse(rows, heard.x, response, out);
 }
 
@@ -85,7 +85,7 @@ pub fn go_past<B: Backend>(
     ensures limits { OnOk result (rows.new.limits ≡ rows.old.limits) }
     ensures faults { (shelf_of rows.new.entries).faults ≡ (shelf_of rows.old.entries).faults }
 {
-    stand_aside(rows, heard.c, Place::Direct(heard.x));
+    fall_back(rows, heard.c, Place::Direct(heard.x));
     answer_past(rows, heard, response)?;
     let_some_go(rows, heard.now, goes);
     Ok(())
@@ -107,7 +107,7 @@ pub fn start_anew<B: Backend>(
     requires asker { IsAskedBy heard.c (table_of rows.old.exchanges heard.x).running }
     requires room { 1 ≤ spare out.old }
     ensures answers { (g : HeadCase) → starts_anew g ≡ true → AnswersCase rows.old rows.new
-        (listed out.old) (listed out.new) heard.now heard.x response.now g goes }
+        (act_list out.old) (act_list out.new) heard.now heard.x response.now g goes }
     ensures received { rows.new.received ≡ rows.old.received }
     ensures limits { rows.new.limits ≡ rows.old.limits }
     ensures faults { (shelf_of rows.new.entries).faults ≡ (shelf_of rows.old.entries).faults }
@@ -131,7 +131,7 @@ pub fn close_hole<B: Backend>(
     requires asker { IsAskedBy heard.c (table_of rows.old.exchanges heard.x).running }
     requires room { 1 ≤ spare out.old }
     ensures answers { (g : HeadCase) → breaks_off g ≡ true → cause ≡ broken_by heard.x g
-        → AnswersCase rows.old rows.new (listed out.old) (listed out.new) heard.now heard.x
+        → AnswersCase rows.old rows.new (act_list out.old) (act_list out.new) heard.now heard.x
         response.now g goes }
     ensures received { rows.new.received ≡ rows.old.received }
     ensures limits { rows.new.limits ≡ rows.old.limits }
@@ -196,10 +196,10 @@ pub fn have_answer<B: Backend>(
 pub fn refuse<B: Backend>(rows: &mut Rows<B>, x: u64, response: &Response, out: &mut Acts)
     requires running { is_open x (table_of rows.old.exchanges) ≡ true }
     requires room { 1 ≤ spare out.old }
-    ensures acts { listed out.new ≡ listed out.old ++ map act.Close (unless_over x
+    ensures acts { act_list out.new ≡ act_list out.old ++ map act.Close (unless_over x
         (length_by (table_of rows.old.exchanges x).running response.now)) }
     ensures room { spare out.old ≤ spare out.new + 1 }
-    ensures closed { Becomes closed x rows.old.exchanges rows.new.exchanges }
+    ensures closed { Becomes without_exchange x rows.old.exchanges rows.new.exchanges }
     ensures consumers { rows.new.consumers ≡ rows.old.consumers }
     ensures rest { KeepsRest rows.old rows.new }
     ensures faults { (shelf_of rows.new.entries).faults ≡ (shelf_of rows.old.entries).faults }
@@ -215,7 +215,7 @@ pub fn refuse<B: Backend>(rows: &mut Rows<B>, x: u64, response: &Response, out: 
 /// Where the body ends, where that is told.
 fn end_of(length: Length) -> Option<u64>
     requires { EndsInRange length }
-    ensures { result ≡ end_told length }
+    ensures { result ≡ end_of_answer length }
 {
     let promised = length.promise()?;
     Some(length.base() + promised)

@@ -16,12 +16,12 @@ use Rattle.hc_exch.specs.declared.exchanges.Exchanges.{Exchanges}
 use Rattle.hc_exch.specs.Exchanges.{table_of}
 use Rattle.hc_exch.specs.Exchanges as exch
 use Rattle.hc_exch.specs.Known as known
-use Rattle.hc_exch.specs.Known.{Known, is_all, seen, begins_with, length_by}
+use Rattle.hc_exch.specs.Known.{Known, is_all, open_view, begins_with, length_by}
 use Rattle.hc_exch.specs.Openings.{opened_with}
 use Rattle.hc_event.specs.declared.place.Place.TheVariants as place
 use Rattle.hc_model.specs.Effects as effects
-use Rattle.hc_model.specs.Effects.{answered}
-use Rattle.hc_model.specs.Exchanges.{is_reached, promised}
+use Rattle.hc_model.specs.Effects.{exchange_with_head}
+use Rattle.hc_model.specs.Exchanges.{is_reached, promised_bytes}
 use Rattle.hc_model.specs.Reading.{lo_of, hi_of}
 use Rattle.hc_model.specs.Rows as rows
 use Rattle.hc_model.specs.Rows.{Tables, Exchange}
@@ -29,7 +29,7 @@ use Rattle.hc_state.specs.declared.consumer.Consumer.{Consumer}
 use Rattle.hc_state.specs.declared.rows.Rows.{Rows}
 use Rattle.hc_state.specs.Changes.{Numbered, ChangesAt, with_answer}
 use Rattle.hc_model.proofs.ToldNumbers.{EndsEarly}
-use Rattle.hc_state.specs.Heads.{IsReadAlone, EndsInRange, answered_by, end_told, end_from}
+use Rattle.hc_state.specs.Heads.{IsReadAlone, EndsInRange, answered_by, end_of_answer, end_from}
 use Rattle.hc_state.specs.Kept.{IsKept, IsRunning, KeepsConsumer, KeepsExchange, KeepsRunning, answer_for, held_for}
 use Rattle.hc_state.specs.Stands.{RowsStand}
 use Rattle.hc_on_leave.proofs.HeardExchange.{held_empty, held_else, here, others, key_heard, entries_heard}
@@ -53,9 +53,9 @@ known_other f x y a b becomes ne = becomes.table y ∙ rw (eqb-other x y (λ e. 
 module _ {B : Type 0} {g : Ghosts B} (r u : Rows B g) (t : Tables) (now x : ℕ) (response copied : Response) (w : Exchange) (v : rows.Consumer) (k : Consumer) (o : Open) (l : Length) (mid : Exchanges) (stands : RowsStand r t) (alone : IsReadAlone t x w v)
     (there : get nat_eq r.consumers w.c ≡ Some k) (running : (table_of r.exchanges x).running ≡ Some o) (told : l ≡ length_of w.need w.request response) (copies : copied ≡ response)
     (limits : u.limits ≡ r.limits) (received : u.received ≡ r.received) (last : u.last_start ≡ r.last_start) (same_keys : u.keys ≡ r.keys) (same_entries : u.entries ≡ r.entries)
-    (turned : exch.Becomes (known.turned_into role.Direct) x r.exchanges mid) (headed : exch.Becomes (known.headed l) x mid u.exchanges) (changes : ChangesAt r.consumers u.consumers w.c (answered_by copied l)) where
+    (turned : exch.Becomes (known.turned_into role.Direct) x r.exchanges mid) (headed : exch.Becomes (known.with_good_head l) x mid u.exchanges) (changes : ChangesAt r.consumers u.consumers w.c (answered_by copied l)) where
   abbrev z : Exchange
-  z = answered now response w.joined w
+  z = exchange_with_head now response w.joined w
 
   abbrev s : Tables
   s = effects.with_answer now x response w.joined w t
@@ -77,10 +77,10 @@ module _ {B : Type 0} {g : Ghosts B} (r u : Rows B g) (t : Tables) (now x : ℕ)
   begins : lo_of s v.place ≡ base_of l
   begins = rw (alone.at, eqb-same x, told) refl
 
-  ends : hi_of s v.place ≡ end_told l
+  ends : hi_of s v.place ≡ end_of_answer l
   ends = rw (alone.at, eqb-same x, told) (by_promise (promise_of (length_of w.need w.request response)) refl)
     where
-      by_promise : (p : Option ℕ) → promise_of (length_of w.need w.request response) ≡ p → Rattle.hc_model.specs.Reading.end_of_direct (promised z) z ≡ end_from (base_of (length_of w.need w.request response)) (promise_of (length_of w.need w.request response))
+      by_promise : (p : Option ℕ) → promise_of (length_of w.need w.request response) ≡ p → Rattle.hc_model.specs.Reading.end_of_direct (promised_bytes z) z ≡ end_from (base_of (length_of w.need w.request response)) (promise_of (length_of w.need w.request response))
       by_promise None is = rw (is, alone.bare.unended) refl
       by_promise (Some n) is = rw is refl
 
@@ -102,17 +102,17 @@ module _ {B : Type 0} {g : Ghosts B} (r u : Rows B g) (t : Tables) (now x : ℕ)
 
   -- THE EXCHANGE
 
-  known_then : table_of u.exchanges x ≡ known.headed l (known.turned_into role.Direct (table_of r.exchanges x))
-  known_then = known_here (known.headed l) x mid u.exchanges headed ∙ ap (known.headed l) (known_here (known.turned_into role.Direct) x r.exchanges mid turned)
+  known_then : table_of u.exchanges x ≡ known.with_good_head l (known.turned_into role.Direct (table_of r.exchanges x))
+  known_then = known_here (known.with_good_head l) x mid u.exchanges headed ∙ ap (known.with_good_head l) (known_here (known.turned_into role.Direct) x r.exchanges mid turned)
 
   abbrev opened : Open
   opened = record o { role = role.Direct; headed = true; base = base_of l; promised = promise_of l }
 
-  running_is : (b : Bool) → is_all (promise_of l) 0 ≡ b → (known.headed l (known.turned_into role.Direct (table_of r.exchanges x))).running ≡ cond b None (Some opened)
+  running_is : (b : Bool) → is_all (promise_of l) 0 ≡ b → (known.with_good_head l (known.turned_into role.Direct (table_of r.exchanges x))).running ≡ cond b None (Some opened)
   running_is true over = rw over refl
   running_is false over = rw (over, running) refl
 
-  held_same : (b : Bool) → is_all (promise_of l) 0 ≡ b → (known.headed l (known.turned_into role.Direct (table_of r.exchanges x))).held ≡ (table_of r.exchanges x).held
+  held_same : (b : Bool) → is_all (promise_of l) 0 ≡ b → (known.with_good_head l (known.turned_into role.Direct (table_of r.exchanges x))).held ≡ (table_of r.exchanges x).held
   held_same true over = rw over refl
   held_same false over = rw over refl
 
@@ -152,7 +152,7 @@ module _ {B : Type 0} {g : Ghosts B} (r u : Rows B g) (t : Tables) (now x : ℕ)
   stands_answered =
       stands_then r u t s w.c x (Some (answered_by copied l k)) stands limits (as_received received stands.received) (last ∙ stands.last_start) (headed.next ∙ (turned.next ∙ stands.next))
       (changes.len ∙ stands.count) (becomes_by r.consumers u.consumers w.c k (answered_by copied l) there changes)
-      (λ y ne. known_other (known.headed l) x y mid u.exchanges headed ne ∙ known_other (known.turned_into role.Direct) x y r.exchanges mid turned ne)
+      (λ y ne. known_other (known.with_good_head l) x y mid u.exchanges headed ne ∙ known_other (known.turned_into role.Direct) x y r.exchanges mid turned ne)
       (λ d ne. refl) (λ y ne. others t x w z alone.bare alone.bare.unjoined y ne) (λ q. refl)
       (subst (KeepsConsumer s (Some (answered_by copied l k))) (sym alone.asker) consumer_kept) exchange_kept
       (λ key. rw same_keys (key_heard t x w z alone.bare alone.bare.unjoined key _ (stands.keys key)))
@@ -183,9 +183,9 @@ reader_kept r t c x v stands row at = by_kept (get nat_eq r.consumers c) refl (s
     by_kept (Some k) there kept = (k, there)
 
 pub stands_answered_as : {B : Type 0} {g : Ghosts B} (r u : Rows B g) (t : Tables) (now x c : ℕ) (response copied : Response) (w : Exchange) (v : rows.Consumer) (op : Opening) (l : Length) (mid : Exchanges) → RowsStand r t → IsReadAlone t x w v → w.c ≡ c
-    → head_refusal (option_map seen (table_of r.exchanges x).running) ≡ None → Some (opened_with op) ≡ option_map begins_with (table_of r.exchanges x).running → l ≡ length_of op.need.now op.request.now response
+    → head_refusal (option_map open_view (table_of r.exchanges x).running) ≡ None → Some (opened_with op) ≡ option_map begins_with (table_of r.exchanges x).running → l ≡ length_of op.need.now op.request.now response
     → is_bad (length_by (table_of r.exchanges x).running response) ≡ false → copied ≡ response → u.limits ≡ r.limits → u.received ≡ r.received → u.last_start ≡ r.last_start → u.keys ≡ r.keys → u.entries ≡ r.entries
-    → exch.Becomes (known.turned_into role.Direct) x r.exchanges mid → (is_bad (length_by (table_of mid x).running response) ≡ false → exch.Becomes (known.headed (length_by (table_of mid x).running response)) x mid u.exchanges)
+    → exch.Becomes (known.turned_into role.Direct) x r.exchanges mid → (is_bad (length_by (table_of mid x).running response) ≡ false → exch.Becomes (known.with_good_head (length_by (table_of mid x).running response)) x mid u.exchanges)
     → ChangesAt r.consumers u.consumers c (answered_by copied l) → RowsStand u (effects.with_answer now x response w.joined w t)
 stands_answered_as r u t now x c response copied w v op l mid stands alone for_it accepted opens told good copies limits received last same_keys same_entries turned headed changes =
     let h = headless_of (table_of r.exchanges x).running accepted in
@@ -201,9 +201,9 @@ stands_answered_as r u t now x c response copied w v op l mid stands alone for_i
     let here_is : length_by (table_of r.exchanges x).running response ≡ length_of o.need o.request response = ap (λ (z : Option Open). length_by z response) h.there in
     stands_answered r u t now x response copied w v k.0 o l mid stands alone k.1 h.there
     (told_by ∙ (ap (λ n. length_of n o.request response) runs.need ∙ ap (λ q. length_of w.need q response) runs.request)) copies limits received last same_keys same_entries turned
-    (subst (λ (q : Length). exch.Becomes (known.headed q) x mid u.exchanges) (mid_is ∙ (here_is ∙ sym told_by)) (headed (ap is_bad mid_is ∙ good)))
+    (subst (λ (q : Length). exch.Becomes (known.with_good_head q) x mid u.exchanges) (mid_is ∙ (here_is ∙ sym told_by)) (headed (ap is_bad mid_is ∙ good)))
     (subst (λ (d : ℕ). ChangesAt r.consumers u.consumers d (answered_by copied l)) (sym for_it) changes)
 
-pub changes_as_told : (m n : Numbered Consumer) (c : ℕ) (answer : Response) (l : Length) (lo : ℕ) (hi : Option ℕ) → lo ≡ base_of l → hi ≡ end_told l → ChangesAt m n c (with_answer answer lo hi) → ChangesAt m n c (answered_by answer l)
+pub changes_as_told : (m n : Numbered Consumer) (c : ℕ) (answer : Response) (l : Length) (lo : ℕ) (hi : Option ℕ) → lo ≡ base_of l → hi ≡ end_of_answer l → ChangesAt m n c (with_answer answer lo hi) → ChangesAt m n c (answered_by answer l)
 changes_as_told m n c answer l lo hi begins ends changes =
-    subst (λ (b : ℕ). ChangesAt m n c (with_answer answer b (end_told l))) begins (subst (λ (e : Option ℕ). ChangesAt m n c (with_answer answer lo e)) ends changes)
+    subst (λ (b : ℕ). ChangesAt m n c (with_answer answer b (end_of_answer l))) begins (subst (λ (e : Option ℕ). ChangesAt m n c (with_answer answer lo e)) ends changes)

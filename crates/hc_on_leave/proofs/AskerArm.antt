@@ -25,12 +25,12 @@ use Rattle.hc_model.specs.Planning.{has_passed}
 use Rattle.hc_model.specs.Reading.{is_bound_place, lo_of, hi_of}
 use Rattle.hc_model.specs.Rows as rows
 use Rattle.hc_model.specs.Rows.{Tables, Exchange, Representation}
-use Rattle.hc_model.specs.StartingOver.{awaited}
+use Rattle.hc_model.specs.StartingOver.{awaited_exchange}
 use Rattle.hc_state.specs.declared.consumer.Consumer.{Consumer}
 use Rattle.hc_state.specs.declared.rows.Rows.{Rows}
 use Rattle.hc_state.specs.Changes.{ChangesAt, standing_at, once_over}
 use Rattle.hc_state.specs.Heads.{AwaitsHead, StandsApart}
-use Rattle.hc_state.specs.Kept.{IsKept, answer_for, unread, unstored}
+use Rattle.hc_state.specs.Kept.{IsKept, answer_for, unread, unstored_bytes}
 use Rattle.hc_state.specs.Leaving.{LeavesKey, UnbindsAt}
 use Rattle.hc_state.specs.Lines.{is_away_at}
 use Rattle.hc_state.specs.Stands.{RowsStand}
@@ -109,7 +109,7 @@ module _ (t : Tables) (law : Lawful t) (x : ℕ) (w : Exchange) (row : t.exchang
     | inr ne ↦ then_false (is_bound_place (family y z) v.place) (nat_eq x y) (eqb-other x y ne)
   ]
 
-  asker_lost : (y : ℕ) (z : Exchange) (b : Representation) → t.exchange y ≡ Some z → t.representation (family y z) ≡ Some b → unstored t y z b (Some v) ≡ []
+  asker_lost : (y : ℕ) (z : Exchange) (b : Representation) → t.exchange y ≡ Some z → t.representation (family y z) ≡ Some b → unstored_bytes t y z b (Some v) ≡ []
   asker_lost y z b there founded = rw (own, not_its y z b there founded) refl
 
   -- it isn't shown anything past the store yet
@@ -203,7 +203,7 @@ module _ (t : Tables) (law : Lawful t) (x : ℕ) (w : Exchange) (row : t.exchang
         by_place (place.Bound q lo hi by) at same = absurd same
         by_place place.Over at same = absurd same
 
-    lost_then : (y : ℕ) (e : Exchange) (b : Representation) → unstored t y e b (Some z) ≡ []
+    lost_then : (y : ℕ) (e : Exchange) (b : Representation) → unstored_bytes t y e b (Some z) ≡ []
     lost_then y e b = rw (place_is.unbound (family y e)) refl
 
     much : HoldsAsMuch t w.c v z asker
@@ -226,14 +226,14 @@ module _ (t : Tables) (law : Lawful t) (x : ℕ) (w : Exchange) (row : t.exchang
 
   -- IT STANDS IN LINE AGAIN
 
-  module _ (now : ℕ) (waits : awaited v.place ≡ Some x) where
+  module _ (now : ℕ) (waits : awaited_exchange v.place ≡ Some x) where
     abbrev back : rows.Consumer
     back = back_in_line now v
 
     queues : Queues v
     queues = by_place v.place refl waits
       where
-        by_place : (p : Place) → v.place ≡ p → awaited p ≡ Some x → Queues v
+        by_place : (p : Place) → v.place ≡ p → awaited_exchange p ≡ Some x → Queues v
         by_place (place.Turn y) stood on = law.places.turn_queues w.c y v asker stood
         by_place (place.Bound q lo hi (by.FirstHole y)) stood on = record { cached = law.places.bound_cached w.c q lo hi (by.FirstHole y) v asker stood; asks = law.places.first_asks w.c q lo y hi v asker stood }
         by_place (place.Bound q lo hi by.Founding) stood on = none_some x on
@@ -288,10 +288,10 @@ module _ (t : Tables) (law : Lawful t) (x : ℕ) (w : Exchange) (row : t.exchang
         back_much
 
 -- whoever it is called
-pub stands_aside_as : {B : Type 0} {g : Ghosts B} (r u : Rows B g) (t : Tables) (law : Lawful t) (x c : ℕ) (w : Exchange) (v : rows.Consumer) (k : Consumer) (p : Place) → AwaitsHead t x w v → w.c ≡ c → StandsApart x p → get nat_eq r.consumers c ≡ Some k → RowsStand r t
+pub falls_back_as : {B : Type 0} {g : Ghosts B} (r u : Rows B g) (t : Tables) (law : Lawful t) (x c : ℕ) (w : Exchange) (v : rows.Consumer) (k : Consumer) (p : Place) → AwaitsHead t x w v → w.c ≡ c → StandsApart x p → get nat_eq r.consumers c ≡ Some k → RowsStand r t
     → u.limits ≡ r.limits → u.received ≡ r.received → u.last_start ≡ r.last_start → u.exchanges ≡ r.exchanges → ChangesAt r.consumers u.consumers c (standing_at p)
     → LeavesKey c k.request.key r.keys u.keys → UnbindsAt k.place c (shelf_of r.entries) (shelf_of u.entries) → RowsStand u (with_consumer c (Some (record v { place = p })) t)
-stands_aside_as r u t law x c w v k p awaits for_it apart there stands limits received last exchanges changes line unbinds =
+falls_back_as r u t law x c w v k p awaits for_it apart there stands limits received last exchanges changes line unbinds =
     let a = waits_as t law x w v awaits in
     let at : get nat_eq r.consumers w.c ≡ Some k = ap (get nat_eq r.consumers) for_it ∙ there in
     subst (λ (d : ℕ). RowsStand u (with_consumer d (Some (record v { place = p })) t)) for_it
@@ -300,7 +300,7 @@ stands_aside_as r u t law x c w v k p awaits for_it apart there stands limits re
     (subst (λ (d : ℕ). LeavesKey d k.request.key r.keys u.keys) (sym for_it) line)
     (subst (λ (d : ℕ). UnbindsAt k.place d (shelf_of r.entries) (shelf_of u.entries)) (sym for_it) unbinds))
 
-pub stands_back_as : {B : Type 0} {g : Ghosts B} (r u : Rows B g) (t : Tables) (law : Lawful t) (now x c : ℕ) (w : Exchange) (v : rows.Consumer) (k : Consumer) → AwaitsHead t x w v → w.c ≡ c → awaited v.place ≡ Some x → get nat_eq r.consumers c ≡ Some k → RowsStand r t
+pub stands_back_as : {B : Type 0} {g : Ghosts B} (r u : Rows B g) (t : Tables) (law : Lawful t) (now x c : ℕ) (w : Exchange) (v : rows.Consumer) (k : Consumer) → AwaitsHead t x w v → w.c ≡ c → awaited_exchange v.place ≡ Some x → get nat_eq r.consumers c ≡ Some k → RowsStand r t
     → u.limits ≡ r.limits → u.received ≡ r.received → u.last_start ≡ r.last_start → u.exchanges ≡ r.exchanges → ChangesAt r.consumers u.consumers c (once_over now)
     → keys.Becomes (on_line (come_back c)) k.request.key r.keys u.keys → UnbindsAt k.place c (shelf_of r.entries) (shelf_of u.entries) → RowsStand u (with_consumer c (Some (back_in_line now v)) t)
 stands_back_as r u t law now x c w v k awaits for_it waits there stands limits received last exchanges changes line unbinds =

@@ -41,8 +41,8 @@ use Rattle.hc_model.specs.Contents.{idle_now}
 use Rattle.hc_model.specs.Currents.{current}
 use Rattle.hc_model.specs.Denials.{denial}
 use Rattle.hc_model.specs.Dooms.{doomed_by_case}
-use Rattle.hc_model.specs.Effects.{counted, gone, let_all_go, let_some_go, with_consumer, with_answer, with_founding, just_founded}
-use Rattle.hc_model.specs.Entries.{unanswered}
+use Rattle.hc_model.specs.Effects.{with_event, as_gone, let_all_go, let_some_go, with_consumer, with_answer, with_founding, just_founded}
+use Rattle.hc_model.specs.Entries.{entry_without_acts}
 use Rattle.hc_model.specs.ExchangeRows.{promise_in}
 use Rattle.hc_model.specs.Exchanges.{family}
 use Rattle.hc_model.specs.Flaws.{NoFlaw, Loses, flaw_in}
@@ -55,7 +55,7 @@ use Rattle.hc_model.specs.Rows.{Tables, Exchange, Representation}
 use Rattle.hc_model.specs.Runs.{has_room, may_lose}
 use Rattle.hc_model.specs.Sound.{Among}
 use Rattle.hc_model.specs.Sound as sound
-use Rattle.hc_model.specs.Tables.{added}
+use Rattle.hc_model.specs.Tables.{with_item_first}
 use Rattle.hc_model.specs.Weights.{evicted, room_for}
 use Rattle.hc_model.proofs.FoundCases.{founding_writes}
 use Rattle.hc_laws.proofs.FoundDoes.{Founds, whole, part, replaced, founds_does, founds_goes, lost_does, replaces, founder, status_is, total_whole, empty_total, part_wanted, founder_unshown, is_part}
@@ -95,57 +95,57 @@ make_gone now rs s may = record {
   sized = λ q p there. by_row q (s.representation q) refl (is_in rs q) (sym (ap (λ (z : Tables). z.representation q) (all_go_is now rs s)) ∙ there);
 }
   where
-    by_row : (q : ℕ) (o : Option Representation) → s.representation q ≡ o → (b : Bool) {p : Representation} → (if b then option_map gone o else o) ≡ Some p → p.size ≡ Rattle.hc_sparse.specs.Cells.size p.stored
+    by_row : (q : ℕ) (o : Option Representation) → s.representation q ≡ o → (b : Bool) {p : Representation} → (if b then option_map as_gone o else o) ≡ Some p → p.size ≡ Rattle.hc_sparse.specs.Cells.size p.stored
     by_row q None at true {p} is = none_some p is
     by_row q None at false {p} is = none_some p is
-    by_row q (Some a) at true {p} is = (let one : gone a ≡ p = some_is (gone a) p is in subst (λ (z : Representation). z.size ≡ Rattle.hc_sparse.specs.Cells.size z.stored) one (may.sized q a at))
+    by_row q (Some a) at true {p} is = (let one : as_gone a ≡ p = some_is (as_gone a) p is in subst (λ (z : Representation). z.size ≡ Rattle.hc_sparse.specs.Cells.size z.stored) one (may.sized q a at))
     by_row q (Some a) at false {p} is = (let one : a ≡ p = some_is a p is in subst (λ (z : Representation). z.size ≡ Rattle.hc_sparse.specs.Cells.size z.stored) one (may.sized q a at))
 
 some_may : (now : ℕ) (o : Option ℕ) (s : Tables) → MayLetGo s → MayLetGo (let_some_go now o s)
 some_may now None s may = may
 some_may now (Some q) s may = keeps_may now q s may
 
-module _ (limits : Limits) (t : Tables) (facts : Facts limits t) (few : t.received < 2 ^ 62) (now x : ℕ) (w : Exchange) (v : rows.Consumer) (awaits : AwaitsHead t x w v) (gone : Option ℕ) where
+module _ (limits : Limits) (t : Tables) (facts : Facts limits t) (few : t.received < 2 ^ 62) (now x : ℕ) (w : Exchange) (v : rows.Consumer) (awaits : AwaitsHead t x w v) (as_gone : Option ℕ) where
   -- its consumer reads past the store
   abbrev pub past : rows.Consumer
   past = record v { place = place.Direct x }
 
-  abbrev pub aside : Tables
-  aside = with_consumer w.c (Some past) t
+  abbrev pub fallback : Tables
+  fallback = with_consumer w.c (Some past) t
 
   abbrev pub its_current : Option ℕ
   its_current = current t w.request.key
 
   abbrev pub first : Tables
-  first = let_some_go now gone aside
+  first = let_some_go now as_gone fallback
 
   abbrev pub second : Tables
   second = let_some_go now its_current first
 
   abbrev goes_first : List ℕ
-  goes_first = added gone (added its_current [])
+  goes_first = with_item_first as_gone (with_item_first its_current [])
 
-  second_is : second ≡ let_all_go now goes_first aside
-  second_is = sym (all_one now gone (added its_current []) aside ∙ all_one now its_current [] first)
+  second_is : second ≡ let_all_go now goes_first fallback
+  second_is = sym (all_one now as_gone (with_item_first its_current []) fallback ∙ all_one now its_current [] first)
 
-  pub may_aside : MayLetGo aside
-  may_aside = may_moved t w.c v past awaits.asker (λ q kept h. (let never : place.Direct x ≡ place.Passed q kept = h in absurd (cc))) (may_let_go t facts.law)
+  pub may_fallback : MayLetGo fallback
+  may_fallback = may_moved t w.c v past awaits.asker (λ q kept h. (let never : place.Direct x ≡ place.Passed q kept = h in absurd (cc))) (may_let_go t facts.law)
 
   pub may_first : MayLetGo first
-  may_first = some_may now gone aside may_aside
+  may_first = some_may now as_gone fallback may_fallback
 
-  make_aside : MayMakeRoom aside
-  make_aside = let may = may_make_room t facts few in record { may = may_aside; used = may.used; founded = may.founded; sized = may.sized }
+  make_fallback : MayMakeRoom fallback
+  make_fallback = let may = may_make_room t facts few in record { may = may_fallback; used = may.used; founded = may.founded; sized = may.sized }
 
   pub make_second : MayMakeRoom second
-  make_second = subst MayMakeRoom (sym second_is) (make_gone now goes_first aside make_aside)
+  make_second = subst MayMakeRoom (sym second_is) (make_gone now goes_first fallback make_fallback)
 
   fits_second : weights_now second ≤ limits.max_total
   fits_second =
-      let gone_less : weights_now (let_all_go now goes_first aside) ≤ weights_now aside = all_weigh_less now goes_first aside may_aside in
-      let aside_less : weights_now aside ≤ weights_now t = all_weigh_apart w.c past t (λ q. refl) in
+      let gone_less : weights_now (let_all_go now goes_first fallback) ≤ weights_now fallback = all_weigh_less now goes_first fallback may_fallback in
+      let fallback_less : weights_now fallback ≤ weights_now t = all_weigh_apart w.c past t (λ q. refl) in
       let all : weights_now t ≤ limits.max_total = facts.fits in
-      subst (λ (z : Tables). weights_now z ≤ limits.max_total) (sym second_is) (omega (arith, gone_less, aside_less, all))
+      subst (λ (z : Tables). weights_now z ≤ limits.max_total) (sym second_is) (omega (arith, gone_less, fallback_less, all))
 
   -- one gives way at most
   pub one_way : (count : ℕ) → room_now limits second write.Slot ≡ room.After count → count ≤ 1
@@ -160,16 +160,16 @@ module _ (limits : Limits) (t : Tables) (facts : Facts limits t) (few : t.receiv
   m = let_all_go now es second
 
   abbrev all_gone : List ℕ
-  all_gone = added gone (added its_current es)
+  all_gone = with_item_first as_gone (with_item_first its_current es)
 
-  m_is : m ≡ let_all_go now all_gone aside
-  m_is = sym (all_one now gone (added its_current es) aside ∙ all_one now its_current es first)
+  m_is : m ≡ let_all_go now all_gone fallback
+  m_is = sym (all_one now as_gone (with_item_first its_current es) fallback ∙ all_one now its_current es first)
 
   make_m : MayMakeRoom m
   make_m = make_gone now es second make_second
 
-  m_without : m ≡ without now all_gone aside
-  m_without = m_is ∙ all_go_is now all_gone aside
+  m_without : m ≡ without now all_gone fallback
+  m_without = m_is ∙ all_go_is now all_gone fallback
 
   m_row : m.exchange x ≡ Some w
   m_row = ap (λ (z : Tables). z.exchange x) m_without ∙ awaits.row
@@ -192,9 +192,9 @@ module _ (limits : Limits) (t : Tables) (facts : Facts limits t) (few : t.receiv
   unfounded = facts.law.sound.numbered.names.unfounded x w awaits.row awaits.headless
 
   pub m_unfounded : m.representation x ≡ None
-  m_unfounded = ap (λ (z : Tables). z.representation x) m_without ∙ (ap (λ (o : Option Representation). if is_in all_gone x then option_map Rattle.hc_model.specs.Effects.gone o else o) unfounded ∙ by_test (is_in all_gone x))
+  m_unfounded = ap (λ (z : Tables). z.representation x) m_without ∙ (ap (λ (o : Option Representation). if is_in all_gone x then option_map Rattle.hc_model.specs.Effects.as_gone o else o) unfounded ∙ by_test (is_in all_gone x))
     where
-      by_test : (b : Bool) → (if b then option_map Rattle.hc_model.specs.Effects.gone None else None) ≡ (let none : Option Representation = None in none)
+      by_test : (b : Bool) → (if b then option_map Rattle.hc_model.specs.Effects.as_gone None else None) ≡ (let none : Option Representation = None in none)
       by_test true = refl
       by_test false = refl
 
@@ -325,39 +325,39 @@ founder_ends response w v hi _ whole parts to = rw to (or_same (founded_total w 
 founder_ends response w v hi _ replaced parts to = rw to (or_same (founded_total w response))
 founder_ends response w v hi _ part parts to = (let span = parts refl in let wants = span.1 in rw (to, wants) refl)
 
-module _ (limits : Limits) (t : Tables) (facts : Facts limits t) (few : t.received < 2 ^ 62) (now x : ℕ) (response : Response) (goes : denial t (event.Head x response) ≡ None) (w : Exchange) (v : rows.Consumer) (awaits : AwaitsHead t x w v) (g : HeadCase) (founds : Founds g) (is : head_case (head_view t false w response) ≡ g) (gone : Option ℕ) (same : gone ≡ goes_with t w response g) where
+module _ (limits : Limits) (t : Tables) (facts : Facts limits t) (few : t.received < 2 ^ 62) (now x : ℕ) (response : Response) (goes : denial t (event.Head x response) ≡ None) (w : Exchange) (v : rows.Consumer) (awaits : AwaitsHead t x w v) (g : HeadCase) (founds : Founds g) (is : head_case (head_view t false w response) ≡ g) (as_gone : Option ℕ) (same : as_gone ≡ goes_with t w response g) where
   abbrev ev : Event
   ev = event.Head x response
 
-  gone_is : gone ≡ replaces w g
+  gone_is : as_gone ≡ replaces w g
   gone_is = same ∙ goes_founds t w response g founds
 
   unshown : v.shown ≡ false
   unshown = founder_unshown limits t facts.law now x response goes w awaits.row v awaits.asker g founds is
 
   abbrev left : Tables
-  left = second limits t facts few now x w v awaits gone
+  left = second limits t facts few now x w v awaits as_gone
 
   abbrev roomy : Tables
-  roomy = m limits t facts few now x w v awaits gone
+  roomy = m limits t facts few now x w v awaits as_gone
 
-  pub read_alone : IsReadAlone roomy x w (past limits t facts few now x w v awaits gone)
-  read_alone = m_alone limits t facts few now x w v awaits gone unshown
+  pub read_alone : IsReadAlone roomy x w (past limits t facts few now x w v awaits as_gone)
+  read_alone = m_alone limits t facts few now x w v awaits as_gone unshown
 
-  tests : (r : ℕ) (p : Representation) → t.representation r ≡ Some p → goes_by_case t (unanswered now ev) r (Some g) w ≡ is_in (added gone (added (current t w.request.key) [])) r
+  tests : (r : ℕ) (p : Representation) → t.representation r ≡ Some p → goes_by_case t (entry_without_acts now ev) r (Some g) w ≡ is_in (with_item_first as_gone (with_item_first (current t w.request.key) [])) r
   tests r p there =
       founds_goes limits t facts.law now x response goes w awaits.row v awaits.asker g founds r
-      ∙ ap (λ (o : Option ℕ). is_in (added o (added (current t w.request.key) [])) r) (sym gone_is)
+      ∙ ap (λ (o : Option ℕ). is_in (with_item_first o (with_item_first (current t w.request.key) [])) r) (sym gone_is)
 
   room_is_left : room_for limits t now ev ≡ room_now limits left write.Slot
   room_is_left =
-      room_same limits t facts.law now x response goes w awaits.row v awaits.asker g is (doomless w response g founds) (founds_founding g founds) (added gone (added (current t w.request.key) [])) tests (may_aside limits t facts few now x w v awaits gone)
-      ∙ ap (λ (s : Tables). room_now limits s write.Slot) (sym (second_is limits t facts few now x w v awaits gone))
+      room_same limits t facts.law now x response goes w awaits.row v awaits.asker g is (doomless w response g founds) (founds_founding g founds) (with_item_first as_gone (with_item_first (current t w.request.key) [])) tests (may_fallback limits t facts few now x w v awaits as_gone)
+      ∙ ap (λ (s : Tables). room_now limits s write.Slot) (sym (second_is limits t facts few now x w v awaits as_gone))
 
-  evicts_left : evicted limits t now ev ≡ es limits t facts few now x w v awaits gone
+  evicts_left : evicted limits t now ev ≡ es limits t facts few now x w v awaits as_gone
   evicts_left =
-      gives_same limits t facts.law now x response goes w awaits.row v awaits.asker g is (doomless w response g founds) (founds_founding g founds) (added gone (added (current t w.request.key) [])) tests (may_aside limits t facts few now x w v awaits gone)
-      ∙ ap (λ (s : Tables). giving_way limits s write.Slot) (sym (second_is limits t facts few now x w v awaits gone))
+      gives_same limits t facts.law now x response goes w awaits.row v awaits.asker g is (doomless w response g founds) (founds_founding g founds) (with_item_first as_gone (with_item_first (current t w.request.key) [])) tests (may_fallback limits t facts few now x w v awaits as_gone)
+      ∙ ap (λ (s : Tables). giving_way limits s write.Slot) (sym (second_is limits t facts few now x w v awaits as_gone))
 
   -- WHAT IS FOUNDED
 
@@ -371,33 +371,33 @@ module _ (limits : Limits) (t : Tables) (facts : Facts limits t) (few : t.receiv
       row_there (Some p) on = (p, refl)
 
   abbrev all_left : List ℕ
-  all_left = added gone (added (current t w.request.key) (es limits t facts few now x w v awaits gone))
+  all_left = with_item_first as_gone (with_item_first (current t w.request.key) (es limits t facts few now x w v awaits as_gone))
 
   apart : is_in all_left x ≡ false
   apart =
-      room_one limits t facts.law now x response goes w awaits.row v awaits.asker gone (added (current t w.request.key) (es limits t facts few now x w v awaits gone)) (λ q at. replaced_there g founds q (sym gone_is ∙ at))
-      (room_one limits t facts.law now x response goes w awaits.row v awaits.asker (current t w.request.key) (es limits t facts few now x w v awaits gone) (current_there limits t facts.law now x response goes w awaits.row v awaits.asker)
+      room_one limits t facts.law now x response goes w awaits.row v awaits.asker as_gone (with_item_first (current t w.request.key) (es limits t facts few now x w v awaits as_gone)) (λ q at. replaced_there g founds q (sym gone_is ∙ at))
+      (room_one limits t facts.law now x response goes w awaits.row v awaits.asker (current t w.request.key) (es limits t facts few now x w v awaits as_gone) (current_there limits t facts.law now x response goes w awaits.row v awaits.asker)
       (subst (λ (rs : List ℕ). is_in rs x ≡ false) evicts_left (room_apart limits t facts.law now x response goes w awaits.row v awaits.asker)))
 
   -- what is done last was done first
   last_first : (s : Tables) → let_all_go now (evicted limits t now ev) (let_some_go now (current t w.request.key) (let_some_go now (replaces w g) s)) ≡ let_all_go now all_left s
   last_first s =
       ap (λ (rs : List ℕ). let_all_go now rs (let_some_go now (current t w.request.key) (let_some_go now (replaces w g) s))) evicts_left
-      ∙ (ap (λ (o : Option ℕ). let_all_go now (es limits t facts few now x w v awaits gone) (let_some_go now (current t w.request.key) (let_some_go now o s))) (sym gone_is)
-      ∙ sym (all_one now gone (added (current t w.request.key) (es limits t facts few now x w v awaits gone)) s ∙ all_one now (current t w.request.key) (es limits t facts few now x w v awaits gone) (let_some_go now gone s)))
+      ∙ (ap (λ (o : Option ℕ). let_all_go now (es limits t facts few now x w v awaits as_gone) (let_some_go now (current t w.request.key) (let_some_go now o s))) (sym gone_is)
+      ∙ sym (all_one now as_gone (with_item_first (current t w.request.key) (es limits t facts few now x w v awaits as_gone)) s ∙ all_one now (current t w.request.key) (es limits t facts few now x w v awaits as_gone) (let_some_go now as_gone s)))
 
-  module _ {B : Type 0} {b : Ghosts B} (a : Rows B b) (faults : ℕ) (before mid : List Act) (gives : GivesWay a left now (es limits t facts few now x w v awaits gone) before mid) (limits_is : a.limits ≡ limits) where
-    abbrev aside_row : rows.Consumer
-    aside_row = past limits t facts few now x w v awaits gone
+  module _ {B : Type 0} {b : Ghosts B} (a : Rows B b) (faults : ℕ) (before mid : List Act) (gives : GivesWay a left now (es limits t facts few now x w v awaits as_gone) before mid) (limits_is : a.limits ≡ limits) where
+    abbrev fallback_row : rows.Consumer
+    fallback_row = past limits t facts few now x w v awaits as_gone
 
     used_left : (shelf_of a.entries).used ≡ weights_now roomy
-    used_left = used_is a roomy (make_m limits t facts few now x w v awaits gone) gives.rows
+    used_left = used_is a roomy (make_m limits t facts few now x w v awaits as_gone) gives.rows
 
     -- the store takes it
     module _ (u : Rows B b) (k asked : Consumer) (o : Open) (f : Founding) (there : get nat_eq a.consumers w.c ≡ Some k) (running : (table_of a.exchanges x).running ≡ Some o)
         (range_is : asked.class.range ≡ range_of v.request) (founding : IsFounding o asked g now response f) (begins : BeginsFounding a u x w.c f response) (le : (shelf_of a.entries).used + 32768 ≤ limits.max_total) where
       runs : IsRunning roomy x o w
-      runs = runs_as a roomy x o w gives.rows running (m_row limits t facts few now x w v awaits gone)
+      runs = runs_as a roomy x o w gives.rows running (m_row limits t facts few now x w v awaits as_gone)
 
       total_is : total_by o response ≡ founded_total w response
       total_is = ap₂ (λ (n : Need) (e : Request). if response.status == 206 then total_of_part (content_range_of response.fields) else promise_of (length_of n e response)) runs.need runs.request
@@ -417,7 +417,7 @@ module _ (limits : Limits) (t : Tables) (facts : Facts limits t) (few : t.receiv
           by_case _ part on same = same
 
       abbrev q : rows.Consumer
-      q = record aside_row { place = place.Bound x f.lo f.hi by.Founding; own = if f.shared then None else v.own }
+      q = record fallback_row { place = place.Bound x f.lo f.hi by.Founding; own = if f.shared then None else v.own }
 
       q_is : q ≡ founder x response w g v
       q_is =
@@ -429,7 +429,7 @@ module _ (limits : Limits) (t : Tables) (facts : Facts limits t) (few : t.receiv
 
       rows_then : RowsStand u (founded q roomy)
       rows_then =
-          founded_stands a u roomy now x response w aside_row k o f (length_of w.need w.request response) gives.rows read_alone (m_fresh limits t facts few now x w v awaits gone) there running refl
+          founded_stands a u roomy now x response w fallback_row k o f (length_of w.need w.request response) gives.rows read_alone (m_fresh limits t facts few now x w v awaits as_gone) there running refl
           founding.key founding.head (founding.shared ∙ (shared_is g founds ∙ ap not (sym (status_is limits t facts.law now x response goes w awaits.row v awaits.asker g founds is))))
           (founder_ends response w v f.hi g founds parts (ap (λ z. z.1) part_is)) (empty_total limits t facts.law now x response goes w awaits.row v awaits.asker g founds is) begins
           (ap (λ z. length_by z response) running ∙ ap₂ (λ (n : Need) (e : Request). length_of n e response) runs.need runs.request) gives.rows.limits
@@ -437,8 +437,8 @@ module _ (limits : Limits) (t : Tables) (facts : Facts limits t) (few : t.receiv
       tables_are : let_all_go now (evicted limits t now ev) (let_some_go now (current t w.request.key) (let_some_go now (replaces w g) (founded (founder x response w g v) t))) ≡ founded q roomy
       tables_are =
           last_first (founded (founder x response w g v) t)
-          ∙ (founded_last now x w.c response w.joined w (founder x response w g v) all_left t (just_founded now x response w) aside_row apart (founder_waits x response w v all_left g founds)
-          ∙ (ap (founded (founder x response w g v)) (sym (m_is limits t facts few now x w v awaits gone)) ∙ ap (λ (z : rows.Consumer). founded z roomy) (sym q_is)))
+          ∙ (founded_last now x w.c response w.joined w (founder x response w g v) all_left t (just_founded now x response w) fallback_row apart (founder_waits x response w v all_left g founds)
+          ∙ (ap (founded (founder x response w g v)) (sym (m_is limits t facts few now x w v awaits as_gone)) ∙ ap (λ (z : rows.Consumer). founded z roomy) (sym q_is)))
 
       pub founds_answered : Answered limits faults u t before mid now ev
       founds_answered =
@@ -449,15 +449,15 @@ module _ (limits : Limits) (t : Tables) (facts : Facts limits t) (few : t.receiv
             shown = ap flaw_in done.acts_are ∙ evicts_quietly (evicted limits t now ev);
             may = ap has_room room_is_left ∙ slot_room limits now left (subst (λ n. n + 32768 ≤ limits.max_total) used_left le);
             caused = λ is. false_true is;
-            rows = subst (RowsStand u) (sym (done.tables_are ∙ ap (counted now ev) tables_are)) (stands_counted u (founded q roomy) now ev refl rows_then);
+            rows = subst (RowsStand u) (sym (done.tables_are ∙ ap (with_event now ev) tables_are)) (stands_counted u (founded q roomy) now ev refl rows_then);
           }
 
     -- and the store refuses it
     module _ (u : Rows B b) (kind : LostKind) (out : List Act) (rows_then : RowsStand u (with_answer now x response w.joined w roomy)) (told : out ≡ mid ++ (act.Lost x kind ∷ [])) (may : may_lose (room_for limits t now ev) kind ≡ true) (caused : is_fault (Loses x kind) ≡ true → faults < (shelf_of u.entries).faults) where
-      lost_tables : let_all_go now (evicted limits t now ev) (let_some_go now (current t w.request.key) (let_some_go now (replaces w g) (with_consumer w.c (Some aside_row) (with_answer now x response w.joined w t)))) ≡ with_answer now x response w.joined w roomy
+      lost_tables : let_all_go now (evicted limits t now ev) (let_some_go now (current t w.request.key) (let_some_go now (replaces w g) (with_consumer w.c (Some fallback_row) (with_answer now x response w.joined w t)))) ≡ with_answer now x response w.joined w roomy
       lost_tables =
-          last_first (with_consumer w.c (Some aside_row) (with_answer now x response w.joined w t))
-          ∙ (past_last now x w.c response w.joined w aside_row all_left t ∙ ap (with_answer now x response w.joined w) (sym (m_is limits t facts few now x w v awaits gone)))
+          last_first (with_consumer w.c (Some fallback_row) (with_answer now x response w.joined w t))
+          ∙ (past_last now x w.c response w.joined w fallback_row all_left t ∙ ap (with_answer now x response w.joined w) (sym (m_is limits t facts few now x w v awaits as_gone)))
 
       may_fail : (a : Bool) → a ≡ true → (nat_eq x x && true && a) ≡ true
       may_fail a on = (let self = eqb-same x in rw (self, on) refl)
@@ -466,18 +466,18 @@ module _ (limits : Limits) (t : Tables) (facts : Facts limits t) (few : t.receiv
       lost_answered =
           let done = lost_does limits t facts.law now x response goes w awaits.row v awaits.asker kind g founds is in
           let writes = founding_writes limits t now x response w (Loses x kind) awaits.row (ap (λ h. is_founding (Some h)) is ∙ founds_founding g founds) in
-          let none = unfounded limits t facts few now x w v awaits gone in
+          let none = unfounded limits t facts few now x w v awaits as_gone in
           record {
             flaw = Loses x kind;
             acts = told ∙ (ap (λ ys. ys ++ (act.Lost x kind ∷ [])) gives.acts
-                ∙ (append_assoc before (map act.Evicted (es limits t facts few now x w v awaits gone)) (act.Lost x kind ∷ [])
+                ∙ (append_assoc before (map act.Evicted (es limits t facts few now x w v awaits as_gone)) (act.Lost x kind ∷ [])
                 ∙ ap (λ ys. before ++ ys) (ap (λ rs. map act.Evicted rs ++ (act.Lost x kind ∷ [])) (sym evicts_left) ∙ sym done.acts_are)));
             shown = ap flaw_in done.acts_are ∙ evicts_lossy (evicted limits t now ev) x kind;
             may = rw (writes, none) (may_fail (may_lose (room_for limits t now ev) kind) may);
             caused = caused;
-            rows = subst (RowsStand u) (sym (done.tables_are ∙ ap (counted now ev) lost_tables)) (stands_counted u (with_answer now x response w.joined w roomy) now ev refl rows_then);
+            rows = subst (RowsStand u) (sym (done.tables_are ∙ ap (with_event now ev) lost_tables)) (stands_counted u (with_answer now x response w.joined w roomy) now ev refl rows_then);
           }
 
     -- it is full where the store says so
     pub full_told : limits.max_total < (shelf_of a.entries).used + 32768 → may_lose (room_for limits t now ev) kinds.Full ≡ true
-    full_told past = ap (λ (e : Room). may_lose e kinds.Full) (room_is_left ∙ slot_none limits now left (make_second limits t facts few now x w v awaits gone) (subst (λ n. limits.max_total < n + 32768) used_left past))
+    full_told past = ap (λ (e : Room). may_lose e kinds.Full) (room_is_left ∙ slot_none limits now left (make_second limits t facts few now x w v awaits as_gone) (subst (λ n. limits.max_total < n + 32768) used_left past))

@@ -35,7 +35,7 @@ use Rattle.hc_event.specs.declared.place.BoundBy.TheVariants as by
 use Rattle.hc_model.specs.Currents.{current, is_number, is_usable, total_in}
 use Rattle.hc_model.specs.Denials.{is_live}
 use Rattle.hc_model.specs.Effects as effects
-use Rattle.hc_model.specs.Effects.{answered, just_founded, with_consumer, with_founding}
+use Rattle.hc_model.specs.Effects.{exchange_with_head, just_founded, with_consumer, with_founding}
 use Rattle.hc_model.specs.ExchangeRows.{promise_in}
 use Rattle.hc_model.specs.Exchanges.{family, is_reached}
 use Rattle.hc_model.specs.Heads.{founded_total, founded_head, total_of_part, varied_by}
@@ -51,14 +51,14 @@ use Rattle.hc_state.specs.declared.founded.Founding.{Founding}
 use Rattle.hc_state.specs.Changes.{BecomesAt}
 use Rattle.hc_state.specs.Founding.{BeginsFounding, founds_with, brings_body, head_by, total_by, kind_begun, writer_by}
 use Rattle.hc_state.specs.Heads.{IsReadAlone}
-use Rattle.hc_state.specs.Kept.{IsKept, IsRunning, KeepsConsumer, KeepsExchange, KeepsRunning, answer_for, held_alone, held_for, held_of, unread, unstored}
+use Rattle.hc_state.specs.Kept.{IsKept, IsRunning, KeepsConsumer, KeepsExchange, KeepsRunning, answer_for, held_alone, held_for, held_of, unread, unstored_bytes}
 use Rattle.hc_state.specs.Lines.{KeepsKey, has_turn, is_away, is_passed}
 use Rattle.hc_state.specs.Stands.{RowsStand}
 use Rattle.hc_state.specs.Stored.{IsEntry, KeepsEntry, KeepsEntries, is_first, is_usable_row, as_written}
 use Rattle.hc_state.specs.Stored as stored
 use Rattle.hc_on_leave.proofs.AnswerArm.{all_reached}
-use Rattle.hc_state.proofs.Asides.{unstored_moved}
-use Rattle.hc_state.proofs.AsideSteps.{live_same}
+use Rattle.hc_state.proofs.Fallbacks.{unstored_moved}
+use Rattle.hc_state.proofs.FallbackSteps.{live_same}
 use Rattle.hc_on_leave.proofs.HeardExchange.{entries_heard, key_heard, held_empty}
 use Rattle.hc_on_leave.proofs.HeardRows.{runs_as, kept_as}
 use Rattle.hc_state.proofs.KeySteps.{IsUnsaid, apart_unsaid}
@@ -104,7 +104,7 @@ module _ {B : Type 0} {g : Ghosts B} (a u : Rows B g) (m : Tables) (now x : ℕ)
     (key_is : f.key ≡ o.request.key) (head_is : plain f.head ≡ head_by o now response) (shares : f.shared ≡ not (response.status == 206)) (ends : option_or f.hi (founded_total w response) ≡ f.hi) (empties : promise_in w response ≡ Some 0 → founded_total w response ≡ Some 0)
     (begins : BeginsFounding a u x w.c f response) (length_is : length_by (table_of a.exchanges x).running response ≡ l) (limits_are : (shelf_of a.entries).limits ≡ a.limits) where
   abbrev z : Exchange
-  z = answered now response w.joined w
+  z = exchange_with_head now response w.joined w
 
   abbrev v : Representation
   v = just_founded now x response w
@@ -256,10 +256,10 @@ module _ {B : Type 0} {g : Ghosts B} (a u : Rows B g) (m : Tables) (now x : ℕ)
     | inr off ↦ ap (unread y e) (c_else d (λ one. off (sym one)))
   ]
 
-  unstored_else : (y d : ℕ) (e : Exchange) (p : Representation) → family y e ≢ x → unstored s y e p (s.consumer d) ≡ unstored m y e p (m.consumer d)
+  unstored_else : (y d : ℕ) (e : Exchange) (p : Representation) → family y e ≢ x → unstored_bytes s y e p (s.consumer d) ≡ unstored_bytes m y e p (m.consumer d)
   unstored_else y d e p ne = elim (same_or w.c d) [
     | inl one ↦ rw (← one, c_here, alone.asker, alone.at, eqb-other x (family y e) (λ same. ne (sym same))) refl
-    | inr off ↦ ap (unstored s y e p) (c_else d (λ one. off (sym one))) ∙ unstored_moved m s y e p (m.consumer d)
+    | inr off ↦ ap (unstored_bytes s y e p) (c_else d (λ one. off (sym one))) ∙ unstored_moved m s y e p (m.consumer d)
   ]
 
   alone_else : (y : ℕ) (e : Exchange) (p : Representation) (n : Option ℕ) → family y e ≢ x → held_alone s y e p n ≡ held_alone m y e p n
@@ -386,7 +386,7 @@ module _ {B : Type 0} {g : Ghosts B} (a u : Rows B g) (m : Tables) (now x : ℕ)
   -- ITSELF
 
   abbrev began : Kept
-  began = entry.founded f.key (plain f.head) w.c (not f.shared) (writer_by f.shared x)
+  began = entry.founded_kept f.key (plain f.head) w.c (not f.shared) (writer_by f.shared x)
 
   total_is : total_by o response ≡ founded_total w response
   total_is = ap₂ (λ (n : Need) (e : Request). if response.status == 206 then total_of_part (content_range_of response.fields) else promise_of (length_of n e response)) runs.need runs.request

@@ -9,7 +9,7 @@ use Rattle.hc_event.specs.declared.event.Event.TheVariants as event
 use Rattle.hc_rules.specs.declared.refusal.Gate.{Gate}
 use Rattle.hc_rules.specs.Refusals.{refusal_of}
 use Rattle.hc_exch.specs.Exchanges.{table_of}
-use Rattle.hc_exch.specs.Known.{seen}
+use Rattle.hc_exch.specs.Known.{open_view}
 use Rattle.hc_exch.specs.declared.row.Open.{Open}
 use Rattle.hc_model.specs.Denials.{denial, gate, as_open, names_live}
 use Rattle.hc_model.specs.Exchanges.{exchange_in, exchange_at}
@@ -20,14 +20,14 @@ use Rattle.hc_state.specs.Stands.{RowsStand, gate_of, open_at, names_kept}
 use Rattle.hc_state.proofs.Ties.{kept_lives}
 
 -- an open exchange is seen as the tables have it
-seen_as : (t : Tables) (x : ℕ) (o : Open) (w : Exchange) → IsRunning t x o w → Some (seen o) ≡ as_open (Some w)
+seen_as : (t : Tables) (x : ℕ) (o : Open) (w : Exchange) → IsRunning t x o w → Some (open_view o) ≡ as_open (Some w)
 seen_as t x o w is = rw is.is_open (ap Some (rw (is.headed, is.asked, is.delivered, is.promised_is) refl))
 
 closed_as : (row : Option Exchange) → Rattle.hc_model.specs.Exchanges.is_open row ≡ false → None ≡ as_open row
 closed_as None is = refl
 closed_as (Some w) is = rw is refl
 
-sees : (t : Tables) (x : ℕ) (o : Option Open) (row : Option Exchange) → KeepsRunning t x o row → option_map seen o ≡ as_open row
+sees : (t : Tables) (x : ℕ) (o : Option Open) (row : Option Exchange) → KeepsRunning t x o row → option_map open_view o ≡ as_open row
 sees t x None row keeps = closed_as row keeps
 sees t x (Some o) None keeps = absurd keeps
 sees t x (Some o) (Some w) keeps = seen_as t x o w keeps

@@ -16,7 +16,7 @@ use Rattle.hc_state.specs.Heads.{IsBare}
 use Rattle.hc_state.specs.Kept.{unread, held_for}
 use Rattle.hc_state.specs.Lines.{KeepsKey, is_away, is_away_at}
 use Rattle.hc_state.specs.Stored.{KeepsEntries}
-use Rattle.hc_state.proofs.Asides.{same, held_alike}
+use Rattle.hc_state.proofs.Fallbacks.{same, held_alike}
 use Rattle.hc_state.proofs.OneOfEach.{bound_same, first_row, growing_same, kind_same}
 use Rattle.hc_state.proofs.Ties.{key_same, entry_same, overs_open}
 use Rattle.hc_state.proofs.Words.{same_or, eqb-same, eqb-other, then_false, none_some}

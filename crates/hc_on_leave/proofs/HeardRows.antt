@@ -10,7 +10,7 @@ use Rattle.hc_rules.specs.Needs.{route_of}
 use Rattle.hc_rules.specs.Refusals.{head_refusal}
 use Rattle.hc_exch.specs.declared.row.Open.{Open}
 use Rattle.hc_exch.specs.Exchanges.{table_of}
-use Rattle.hc_exch.specs.Known.{seen}
+use Rattle.hc_exch.specs.Known.{open_view}
 use Rattle.hc_event.specs.declared.place.Place.{Place}
 use Rattle.hc_model.specs.Denials.{denial, is_live_place}
 use Rattle.hc_model.specs.Flaws.{NoFlaw}
@@ -37,7 +37,7 @@ pub record Headless (running : Option Open) : Type 0 where
   pub there : running ≡ Some o
   pub headless : o.headed ≡ false
 
-pub headless_of : (running : Option Open) → head_refusal (option_map seen running) ≡ None → Headless running
+pub headless_of : (running : Option Open) → head_refusal (option_map open_view running) ≡ None → Headless running
 headless_of None accepted = none_some _ (sym accepted)
 headless_of (Some o) accepted = record { o = o; there = refl; headless = by_test o.headed refl accepted }
   where
@@ -130,7 +130,7 @@ asker_of r t facts now x response w stands goes row =
     asker r t facts x w stands row new.is_open new.bare
 
 -- whom the code looked up
-pub asked_by : {B : Type 0} {g : Ghosts B} (r : Rows B g) (t : Tables) (x c : ℕ) (w : Exchange) → RowsStand r t → head_refusal (option_map seen (table_of r.exchanges x).running) ≡ None → IsAskedBy c (table_of r.exchanges x).running → t.exchange x ≡ Some w → w.c ≡ c
+pub asked_by : {B : Type 0} {g : Ghosts B} (r : Rows B g) (t : Tables) (x c : ℕ) (w : Exchange) → RowsStand r t → head_refusal (option_map open_view (table_of r.exchanges x).running) ≡ None → IsAskedBy c (table_of r.exchanges x).running → t.exchange x ≡ Some w → w.c ≡ c
 asked_by r t x c w stands accepted asks row =
     let h = headless_of (table_of r.exchanges x).running accepted in
     sym (runs_as r t x h.o w stands h.there row).c ∙ asks h.o h.there

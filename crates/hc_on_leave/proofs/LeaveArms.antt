@@ -12,8 +12,8 @@ use Rattle.hc_event.specs.declared.event.Event.{Event}
 use Rattle.hc_event.specs.declared.event.Event.TheVariants as event
 use Rattle.hc_rules.specs.declared.room.Limits.{Limits}
 use Rattle.hc_event.specs.declared.place.Place.TheVariants as place
-use Rattle.hc_model.specs.Answers.{accepted}
-use Rattle.hc_model.specs.Effects.{Does, counted, let_some_go, let_go, left_by, going_with, with_leave, with_representation, lost_to}
+use Rattle.hc_model.specs.Answers.{accepted_acts}
+use Rattle.hc_model.specs.Effects.{Does, with_event, let_some_go, let_go, left_by, going_with, with_leave, with_representation, lost_to}
 use Rattle.hc_model.specs.Entries.{Entry}
 use Rattle.hc_model.specs.Exchanges.{family}
 use Rattle.hc_model.specs.Flaws.{NoFlaw, Loses, flaw_in}
@@ -25,7 +25,7 @@ use Rattle.hc_model.specs.Polls.{move_of}
 use Rattle.hc_model.specs.Rows as rows
 use Rattle.hc_model.specs.Rows.{Tables, Representation}
 use Rattle.hc_model.specs.Runs.{is_kept}
-use Rattle.hc_model.specs.Tables.{added}
+use Rattle.hc_model.specs.Tables.{with_item_first}
 use Rattle.hc_model.specs.Writes.{written}
 use Rattle.hc_model.specs.Writers.{exclusive}
 use Rattle.hc_model.proofs.FailsTold.{fails_told}
@@ -87,13 +87,13 @@ module _ {B : Type 0} {g : Ghosts B} (limits : Limits) (faults : ℕ) (u : Rows 
   unfolding written
   cancel_answered before out (quietly acts rows) =
       let s : Tables = let_some_go now (going_with t (left_by t c k)) (with_leave c k t) in
-      does_answered limits faults u t (counted now (event.Cancel c) s) before out (map act.Close (added (left_by t c k) [])) now (event.Cancel c) (effects.cancels limits t law now c k row) refl
-      (flawless (added (left_by t c k) [])) acts (stands_counted u s now (event.Cancel c) refl rows)
+      does_answered limits faults u t (with_event now (event.Cancel c) s) before out (map act.Close (with_item_first (left_by t c k) [])) now (event.Cancel c) (effects.cancels limits t law now c k row) refl
+      (flawless (with_item_first (left_by t c k) [])) acts (stands_counted u s now (event.Cancel c) refl rows)
   cancel_answered before out (unsealed f) =
       let q = f.sealed in
       let s : Tables = let_go now q.r (with_representation q.r (Some (lost_to (exclusive t q.r q.v) q.v)) (with_leave c k t)) in
       let does = seal_effects.seal_cancels limits t law now c k row f.x q.w q.r q.v kind.Fault f.left q.row q.of_r q.there (not_lost q.r q.v q.there q.stays) in
-      lossy_answered limits faults u t (counted now (event.Cancel c) s) before out (act.Close f.x ∷ act.Lost q.r kind.Fault ∷ []) now (event.Cancel c) q.r does
+      lossy_answered limits faults u t (with_event now (event.Cancel c) s) before out (act.Close f.x ∷ act.Lost q.r kind.Fault ∷ []) now (event.Cancel c) q.r does
       (ap (λ acts. written t (record { now = now; event = event.Cancel c; acts = acts })) does.acts_are
       ∙ sealed_leaving t law (record { now = now; event = event.Cancel c; acts = act.Close f.x ∷ [] }) f.x q.w q.r q.v q.row q.of_r q.there q.stays q.kept (λ y. refl) (λ y z. refl) (λ y. or_off (nat_eq f.x y)))
       (kept_by q.r q.v q.there q.stays) refl f.failed f.acts (stands_counted u s now (event.Cancel c) refl f.rows)
@@ -121,19 +121,19 @@ module _ {B : Type 0} {g : Ghosts B} (limits : Limits) (faults : ℕ) (u : Rows 
     then_told : (before mid out acts : List Act) → mid ≡ before ++ front → out ≡ mid ++ acts → out ≡ before ++ (front ++ acts)
     then_told before mid out acts first second = second ∙ (ap (λ (z : List Act). z ++ acts) first ∙ append_assoc before front acts)
 
-    pub poll_answered : (before mid out : List Act) → mid ≡ before ++ front → Does limits t now (event.Poll c want) NoFlaw (front ++ map act.Close (added (left_by t c k) [])) (counted now (event.Poll c want) (let_some_go now (going_with t (left_by t c k)) (with_leave c k t)))
+    pub poll_answered : (before mid out : List Act) → mid ≡ before ++ front → Does limits t now (event.Poll c want) NoFlaw (front ++ map act.Close (with_item_first (left_by t c k) [])) (with_event now (event.Poll c want) (let_some_go now (going_with t (left_by t c k)) (with_leave c k t)))
         → ((x : ℕ) (w : rows.Exchange) (r : ℕ) (v : Representation) → left_by t c k ≡ Some x → t.exchange x ≡ Some w → family x w ≡ r → t.representation r ≡ Some v → v.is_lost ≡ false
-        → Does limits t now (event.Poll c want) (Loses r kind.Fault) (front ++ (act.Close x ∷ act.Lost r kind.Fault ∷ [])) (counted now (event.Poll c want) (let_go now r (with_representation r (Some (lost_to (exclusive t r v) v)) (with_leave c k t)))))
+        → Does limits t now (event.Poll c want) (Loses r kind.Fault) (front ++ (act.Close x ∷ act.Lost r kind.Fault ∷ [])) (with_event now (event.Poll c want) (let_go now r (with_representation r (Some (lost_to (exclusive t r v) v)) (with_leave c k t)))))
         → HasLeft faults u t mid out now c k → Answered limits faults u t before out now (event.Poll c want)
     poll_answered before mid out first quiet_does seal_does (quietly acts rows) =
         let s : Tables = let_some_go now (going_with t (left_by t c k)) (with_leave c k t) in
-        does_answered limits faults u t (counted now (event.Poll c want) s) before out (front ++ map act.Close (added (left_by t c k) [])) now (event.Poll c want) quiet_does refl
-        (shows front (map act.Close (added (left_by t c k) [])) tells ∙ flawless (added (left_by t c k) [])) (then_told before mid out (map act.Close (added (left_by t c k) [])) first acts) (stands_counted u s now (event.Poll c want) refl rows)
+        does_answered limits faults u t (with_event now (event.Poll c want) s) before out (front ++ map act.Close (with_item_first (left_by t c k) [])) now (event.Poll c want) quiet_does refl
+        (shows front (map act.Close (with_item_first (left_by t c k) [])) tells ∙ flawless (with_item_first (left_by t c k) [])) (then_told before mid out (map act.Close (with_item_first (left_by t c k) [])) first acts) (stands_counted u s now (event.Poll c want) refl rows)
     poll_answered before mid out first quiet_does seal_does (unsealed f) =
         let q = f.sealed in
         let s : Tables = let_go now q.r (with_representation q.r (Some (lost_to (exclusive t q.r q.v) q.v)) (with_leave c k t)) in
         let does = seal_does f.x q.w q.r q.v f.left q.row q.of_r q.there (not_lost q.r q.v q.there q.stays) in
-        lossy_answered limits faults u t (counted now (event.Poll c want) s) before out (front ++ (act.Close f.x ∷ act.Lost q.r kind.Fault ∷ [])) now (event.Poll c want) q.r does
+        lossy_answered limits faults u t (with_event now (event.Poll c want) s) before out (front ++ (act.Close f.x ∷ act.Lost q.r kind.Fault ∷ [])) now (event.Poll c want) q.r does
         (ap (λ acts. written t (record { now = now; event = event.Poll c want; acts = acts })) does.acts_are ∙ writes f.x q.w q.r q.v q.row q.of_r q.there q.stays q.kept)
         (kept_by q.r q.v q.there q.stays) (shows front (act.Close f.x ∷ act.Lost q.r kind.Fault ∷ []) tells) f.failed (then_told before mid out (act.Close f.x ∷ act.Lost q.r kind.Fault ∷ []) first f.acts) (stands_counted u s now (event.Poll c want) refl f.rows)
 

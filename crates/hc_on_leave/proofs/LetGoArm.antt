@@ -24,7 +24,7 @@ use Rattle.hc_event.specs.declared.place.Place.TheVariants as place
 use Rattle.hc_model.specs.ConsumerRows.{back_in_line}
 use Rattle.hc_model.specs.Currents.{current, is_usable, total_in}
 use Rattle.hc_model.specs.Denials.{is_live}
-use Rattle.hc_model.specs.Effects.{waits_for, gone, let_go}
+use Rattle.hc_model.specs.Effects.{waits_for, as_gone, let_go}
 use Rattle.hc_model.specs.Evictions.{unless_it}
 use Rattle.hc_model.specs.Exchanges.{family}
 use Rattle.hc_model.specs.LettingGo.{MayLetGo}
@@ -45,7 +45,7 @@ use Rattle.hc_state.specs.Kept.{IsKept, KeepsConsumer, KeepsExchange, held_for}
 use Rattle.hc_state.specs.Lines.{KeepsKey, has_turn, is_passed, is_away}
 use Rattle.hc_state.specs.Stands.{RowsStand}
 use Rattle.hc_state.specs.Stored.{IsEntry, TellsLength, told, untold, KeepsEntry, KeepsEntries, is_first, is_usable_row, is_usable_kept}
-use Rattle.hc_state.proofs.Asides.{IsAlike, same, aside, held_gone, users_alike}
+use Rattle.hc_state.proofs.Fallbacks.{IsAlike, same, fallback, held_gone, users_alike}
 use Rattle.hc_state.proofs.BoundLists.{bound_none, bound_some}
 use Rattle.hc_state.proofs.OneOfEach.{first_by, kind_same}
 use Rattle.hc_state.proofs.Ties.{consumer_same, key_same, entry_same, exchange_same, SaysSame, UsesSame}
@@ -57,18 +57,18 @@ mapped f (Some a) = refl
 
 -- ROWS THAT ARE GONE
 
-gone_total : (b : Bool) (z : Option Representation) → total_in (if b then option_map gone z else z) ≡ total_in z
+gone_total : (b : Bool) (z : Option Representation) → total_in (if b then option_map as_gone z else z) ≡ total_in z
 gone_total true None = refl
 gone_total true (Some v) = refl
 gone_total false z = refl
 
-gone_status : (b : Bool) (z : Option Representation) → status_in (if b then option_map gone z else z) ≡ status_in z
+gone_status : (b : Bool) (z : Option Representation) → status_in (if b then option_map as_gone z else z) ≡ status_in z
 gone_status true None = refl
 gone_status true (Some v) = refl
 gone_status false z = refl
 
-gone_there : (b : Bool) (z : Option Representation) → is_some (if b then option_map gone z else z) ≡ is_some z
-gone_there true z = mapped gone z
+gone_there : (b : Bool) (z : Option Representation) → is_some (if b then option_map as_gone z else z) ≡ is_some z
+gone_there true z = mapped as_gone z
 gone_there false z = refl
 
 -- WHAT IS LET GO
@@ -132,7 +132,7 @@ module _ {B : Type 0} {g : Ghosts B} (r u : Rows B g) (t : Tables) (may : MayLet
   alike : (d : ℕ) → IsAlike (t.consumer d) (s.consumer d)
   alike d = elim (stood d) [
     | nobody here later ↦ same (later ∙ sym here)
-    | back w held here later is key queues ↦ aside (rw (here, is) refl) (rw later refl)
+    | back w held here later is key queues ↦ fallback (rw (here, is) refl) (rw later refl)
     | stays w here later off ↦ same (later ∙ sym here)
   ]
 
@@ -338,11 +338,11 @@ module _ {B : Type 0} {g : Ghosts B} (r u : Rows B g) (t : Tables) (may : MayLet
   uses : (q : ℕ) → UsesSame t s q
   uses q = record { users = λ d. users_alike t s alike q d; first = firsts q; list = bound_let_go now n t may.one_current q; kind = λ w is. kind_same t s q w refl; overs = λ y on. on }
 
-  still_told : TellsLength k v → TellsLength (record k { is_gone = true }) (gone v)
+  still_told : TellsLength k v → TellsLength (record k { is_gone = true }) (as_gone v)
   still_told (told is) = told is
   still_told (untold is) = untold (record { gone = refl; untold = is.untold; total = is.total; known = is.known; came = is.came; first = is.first })
 
-  gone_here : (b : Bool) → is_nobody k.bound ≡ b → KeepsEntry s n (if b then None else Some (record k { is_gone = true })) (Some (gone v))
+  gone_here : (b : Bool) → is_nobody k.bound ≡ b → KeepsEntry s n (if b then None else Some (record k { is_gone = true })) (Some (as_gone v))
   gone_here true none = record { gone = refl; unused = bound_let_go now n t may.one_current n ∙ bound_none t n k v entry none }
   gone_here false some = record {
     used = λ is empty. bound_some t may.started n k v entry some (sym (bound_let_go now n t may.one_current n) ∙ empty);
@@ -364,7 +364,7 @@ module _ {B : Type 0} {g : Ghosts B} (r u : Rows B g) (t : Tables) (may : MayLet
   usable_is : (q : ℕ) → is_usable_row (s.representation q) ≡ (is_usable_row (t.representation q) && not (q == n))
   usable_is q = by_test (nat_eq n q) refl
     where
-      by_row : (z : Option Representation) → is_usable_row (option_map gone z) ≡ false
+      by_row : (z : Option Representation) → is_usable_row (option_map as_gone z) ≡ false
       by_row None = refl
       by_row (Some w) = refl
 
@@ -380,17 +380,17 @@ module _ {B : Type 0} {g : Ghosts B} (r u : Rows B g) (t : Tables) (may : MayLet
           let flipped : nat_eq q n ≡ false = grind (arith, nat_tests, off) in
           rw (off, flipped) (alone (is_usable_row (t.representation q)))
 
-  module _ (forgot : shelves.Becomes (option_and_then kept.gone) (taken_out n) n (shelf_of r.entries) (shelf_of u.entries)) where
+  module _ (forgot : shelves.Becomes (option_and_then kept.kept_as_gone) (taken_out n) n (shelf_of r.entries) (shelf_of u.entries)) where
     each_entry : (q : ℕ) → KeepsEntry s q ((shelf_of u.entries).kept q) (s.representation q)
     each_entry q = by_test (nat_eq n q) refl
       where
         by_test : (b : Bool) → nat_eq n q ≡ b → KeepsEntry s q ((shelf_of u.entries).kept q) (s.representation q)
         by_test true on =
             let one : n ≡ q = grind (arith, nat_tests, on) in
-            let here : (shelf_of u.entries).kept n ≡ kept.gone k = forgot.kept n ∙ rw (eqb-same n) (ap (option_and_then kept.gone) at) in
-            let there : s.representation n ≡ Some (gone v) = rw (eqb-same n) (ap (option_map gone) row) in
+            let here : (shelf_of u.entries).kept n ≡ kept.kept_as_gone k = forgot.kept n ∙ rw (eqb-same n) (ap (option_and_then kept.kept_as_gone) at) in
+            let there : s.representation n ≡ Some (as_gone v) = rw (eqb-same n) (ap (option_map as_gone) row) in
             subst (λ z. KeepsEntry s z ((shelf_of u.entries).kept z) (s.representation z)) one
-            (subst (λ o. KeepsEntry s n o (s.representation n)) (sym here) (subst (KeepsEntry s n (kept.gone k)) (sym there) (gone_here (is_nobody k.bound) refl)))
+            (subst (λ o. KeepsEntry s n o (s.representation n)) (sym here) (subst (KeepsEntry s n (kept.kept_as_gone k)) (sym there) (gone_here (is_nobody k.bound) refl)))
         by_test false off =
             let here : (shelf_of u.entries).kept q ≡ (shelf_of r.entries).kept q = forgot.kept q ∙ rw off refl in
             let there : s.representation q ≡ t.representation q = rw off refl in
@@ -408,7 +408,7 @@ module _ {B : Type 0} {g : Ghosts B} (r u : Rows B g) (t : Tables) (may : MayLet
   pub stands_without : (mid : KeyTable) → u.limits ≡ r.limits → u.last_start ≡ r.last_start → u.received ≡ r.received → u.exchanges ≡ r.exchanges
       → ChangesAmong r.consumers u.consumers (λ c. is_in c (line_of r.keys k.key)) (over_if_passed now)
       → keys.Becomes (on_line passed_back) k.key r.keys mid → keys.Becomes (with_current None) k.key mid u.keys
-      → shelves.Becomes (option_and_then kept.gone) (taken_out n) n (shelf_of r.entries) (shelf_of u.entries) → RowsStand u s
+      → shelves.Becomes (option_and_then kept.kept_as_gone) (taken_out n) n (shelf_of r.entries) (shelf_of u.entries) → RowsStand u s
   stands_without mid limits last received exchanges consumers line cleared forgot = record {
     limits = forgot.limits ∙ (stands.limits ∙ sym limits);
     received = as_received received stands.received;
@@ -439,7 +439,7 @@ pub lets_go : {B : Type 0} {g : Ghosts B} (r u : Rows B g) (now n : ℕ) (key : 
     → u.limits ≡ r.limits → u.last_start ≡ r.last_start → u.received ≡ r.received → u.exchanges ≡ r.exchanges
     → ChangesAmong r.consumers u.consumers (λ c. is_in c (line_of r.keys key)) (over_if_passed now)
     → keys.Becomes (on_line passed_back) key r.keys mid → keys.Becomes (with_current None) key mid u.keys
-    → shelves.Becomes (option_and_then kept.gone) (taken_out n) n (shelf_of r.entries) (shelf_of u.entries)
+    → shelves.Becomes (option_and_then kept.kept_as_gone) (taken_out n) n (shelf_of r.entries) (shelf_of u.entries)
     → (t : Tables) → MayLetGo t → RowsStand r t → RowsStand u (let_go now n t)
 lets_go r u now n key mid has_key usable limits last received exchanges consumers line cleared forgot t may stands =
     let (k, at, of_key, fresh) = kept_key ((shelf_of r.entries).kept n) key has_key usable in

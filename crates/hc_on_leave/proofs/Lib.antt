@@ -25,7 +25,7 @@ pub mod StoredPiece
 pub mod PieceKinds
 pub mod StoreArm
 pub mod LoseParts
-pub mod LoseHeirs
+pub mod LoseDetachedReaders
 pub mod LoseAlone
 pub mod LoseTurn
 pub mod RefusedPiece

@@ -12,12 +12,12 @@ use Rattle.hc_model.specs.Reading.{is_bound_place, offset}
 use Rattle.hc_model.specs.Rows as rows
 use Rattle.hc_model.specs.Rows.{Tables, Exchange, Representation}
 use Rattle.hc_model.specs.Sound as sound
-use Rattle.hc_model.specs.Sound.{IsBound, HasPen}
+use Rattle.hc_model.specs.Sound.{IsBound, IsExclusiveWriter}
 use Rattle.hc_model.specs.Writers.{exclusive}
 use Rattle.hc_laws.proofs.Exclusives.{exclusive_parts}
 use Rattle.hc_model.proofs.HoleLemmas.{covers_yes}
 use Rattle.hc_state.specs.Facts.{Facts}
-use Rattle.hc_state.specs.Kept.{held_alone, unstored, first_lacking}
+use Rattle.hc_state.specs.Kept.{held_alone, unstored_bytes, first_lacking}
 use Rattle.hc_state.specs.Stopped.{HoldsNothing}
 use Rattle.hc_on_leave.proofs.HeardExchange.{drop_none}
 use Rattle.hc_state.proofs.Words.{then_false}
@@ -29,11 +29,11 @@ module _ (limits : Limits) (t : Tables) (facts : Facts limits t) (q : ℕ) (v : 
   ends : EndsBy v.reach v.stored
   ends p le = stores p ∙ (facts.law.sound.rows q v there).store.ends p le
 
-  module _ (c : ℕ) (k : rows.Consumer) (reader : IsBound t q c k) (undue : k.due ≡ None) (pen : HasPen t q v c) (y : ℕ) (w : Exchange) (row : t.exchange y ≡ Some w) (owns : k.own ≡ Some y) where
+  module _ (c : ℕ) (k : rows.Consumer) (reader : IsBound t q c k) (undue : k.due ≡ None) (exclusive_writer : IsExclusiveWriter t q v c) (y : ℕ) (w : Exchange) (row : t.exchange y ≡ Some w) (owns : k.own ≡ Some y) where
     -- what came is stored up to the front
     past_front : is_some w.head ≡ true → front w ≤ first_lacking t w v k
     past_front headed =
-        let covered : Covers v.stored (offset t k) (front w) = λ p low high. ap (λ (z : Option Cell). is_some z) (stores p) ∙ facts.come.covered q c y v k w there pen reader undue owns row headed p low high in
+        let covered : Covers v.stored (offset t k) (front w) = λ p low high. ap (λ (z : Option Cell). is_some z) (stores p) ∙ facts.come.covered q c y v k w there exclusive_writer reader undue owns row headed p low high in
         let yes : nat_le (front w) (first_lacking t w v k) ≡ true = covers_yes v.stored v.reach (offset t k) (front w) ends covered in
         grind (arith, nat_tests, yes)
 
@@ -47,23 +47,23 @@ module _ (limits : Limits) (t : Tables) (facts : Facts limits t) (q : ℕ) (v : 
             let enough : length w.body ≤ first_lacking t w v k - base w = omega arith in
             drop_all (first_lacking t w v k - base w) w.body enough
 
-  unstored_none : (c : ℕ) (k : rows.Consumer) → IsBound t q c k → k.due ≡ None → HasPen t q v c → (y : ℕ) (w : Exchange) → t.exchange y ≡ Some w → unstored t y w v (Some k) ≡ []
-  unstored_none c k reader undue pen y w row = by_own k.own refl
+  unstored_none : (c : ℕ) (k : rows.Consumer) → IsBound t q c k → k.due ≡ None → IsExclusiveWriter t q v c → (y : ℕ) (w : Exchange) → t.exchange y ≡ Some w → unstored_bytes t y w v (Some k) ≡ []
+  unstored_none c k reader undue exclusive_writer y w row = by_own k.own refl
     where
-      off : is_number k.own y ≡ false → unstored t y w v (Some k) ≡ []
+      off : is_number k.own y ≡ false → unstored_bytes t y w v (Some k) ≡ []
       off other = ap (λ b. if b then drop (first_lacking t w v k - base w) w.body else []) (then_false (is_bound_place (family y w) k.place) (is_number k.own y) other)
 
-      its : (n : ℕ) → k.own ≡ Some n → (b : Bool) → nat_eq n y ≡ b → unstored t y w v (Some k) ≡ []
+      its : (n : ℕ) → k.own ≡ Some n → (b : Bool) → nat_eq n y ≡ b → unstored_bytes t y w v (Some k) ≡ []
       its n own false apart = off (ap (λ (o : Option ℕ). is_number o y) own ∙ apart)
       its n own true on =
           let same : n ≡ y = grind (arith, nat_tests, on) in
           by_test (is_bound_place (family y w) k.place && is_number k.own y) (own ∙ ap Some same)
         where
           by_test : (b : Bool) → k.own ≡ Some y → (if b then drop (first_lacking t w v k - base w) w.body else []) ≡ []
-          by_test true mine = none_left c k reader undue pen y w row mine
+          by_test true mine = none_left c k reader undue exclusive_writer y w row mine
           by_test false mine = refl
 
-      by_own : (o : Option ℕ) → k.own ≡ o → unstored t y w v (Some k) ≡ []
+      by_own : (o : Option ℕ) → k.own ≡ o → unstored_bytes t y w v (Some k) ≡ []
       by_own None own = off (ap (λ (o : Option ℕ). is_number o y) own)
       by_own (Some n) own = its n own (nat_eq n y) refl
 
@@ -71,8 +71,8 @@ module _ (limits : Limits) (t : Tables) (facts : Facts limits t) (q : ℕ) (v : 
   pub holds_none : HoldsNothing t q v (exclusive t q v)
   holds_none y w row of_q = by_writer (exclusive t q v) refl
     where
-      by_reader : (c : ℕ) (k : rows.Consumer) → IsBound t q c k → k.due ≡ None → HasPen t q v c → unstored t y w v (t.consumer c) ≡ []
-      by_reader c k (sound.is_bound lo hi how at stands) undue pen = ap (unstored t y w v) at ∙ unstored_none c k (sound.is_bound lo hi how at stands) undue pen y w row
+      by_reader : (c : ℕ) (k : rows.Consumer) → IsBound t q c k → k.due ≡ None → IsExclusiveWriter t q v c → unstored_bytes t y w v (t.consumer c) ≡ []
+      by_reader c k (sound.is_bound lo hi how at stands) undue exclusive_writer = ap (unstored_bytes t y w v) at ∙ unstored_none c k (sound.is_bound lo hi how at stands) undue exclusive_writer y w row
 
       by_writer : (o : Option ℕ) → exclusive t q v ≡ o → held_alone t y w v o ≡ []
       by_writer None is = refl

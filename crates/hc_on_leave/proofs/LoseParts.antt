@@ -26,28 +26,28 @@ use Rattle.hc_model.specs.Rows as rows
 use Rattle.hc_model.specs.Rows.{Tables, Exchange, Representation}
 use Rattle.hc_state.specs.declared.consumer.Consumer.{Consumer}
 use Rattle.hc_state.specs.declared.rows.Rows.{Rows}
-use Rattle.hc_state.specs.Heirs.{ChangesEach, parted}
-use Rattle.hc_state.specs.Kept.{IsKept, KeepsConsumer, held_for, held_of, held_alone, unread, unstored}
+use Rattle.hc_state.specs.DetachedReaders.{ChangesEach, after_parting}
+use Rattle.hc_state.specs.Kept.{IsKept, KeepsConsumer, held_for, held_of, held_alone, unread, unstored_bytes}
 use Rattle.hc_state.specs.Lines.{has_turn, is_passed, is_away, is_away_at}
 use Rattle.hc_state.specs.Stands.{RowsStand}
 use Rattle.hc_state.specs.Stored.{is_first}
-use Rattle.hc_state.proofs.AsideSteps.{live_same}
-use Rattle.hc_state.proofs.Asides.{unstored_moved}
+use Rattle.hc_state.proofs.FallbackSteps.{live_same}
+use Rattle.hc_state.proofs.Fallbacks.{unstored_moved}
 use Rattle.hc_state.proofs.OneOfEach.{entries_same}
 use Rattle.hc_state.proofs.Ties.{exchange_same, key_same, kept_same}
 use Rattle.hc_state.proofs.Words.{same_or, eqb-other, none_some, some_is, false_true, as_received}
 
-module _ (t : Tables) (q x : ℕ) (heir : Option ℕ) where
+module _ (t : Tables) (q x : ℕ) (detached_reader : Option ℕ) where
   abbrev pub s : Tables
-  s = writing_lost q heir (Some x) t
+  s = writing_lost q detached_reader (Some x) t
 
   -- whoever is bound has another exchange or another failure, and all else it had
   pub data IsPart (d : ℕ) (k u : rows.Consumer) : Type 0 where
     apart : is_bound_place q k.place ≡ false → u ≡ k → IsPart d k u
     bound : (own : Option ℕ) (due : Option Cause) → is_bound_place q k.place ≡ true → u ≡ record k { own = own; due = due } → IsPart d k u
 
-  pub part_of : (d : ℕ) (k : rows.Consumer) → IsPart d k (if_bound q (left_with q heir (Some x) d) k)
-  part_of d k = by_test (is_bound_place q k.place) refl (is_number heir d)
+  pub part_of : (d : ℕ) (k : rows.Consumer) → IsPart d k (if_bound q (left_with q detached_reader (Some x) d) k)
+  part_of d k = by_test (is_bound_place q k.place) refl (is_number detached_reader d)
     where
       by_test : (b : Bool) → is_bound_place q k.place ≡ b → (h : Bool) → IsPart d k (if b then (if h then record k { own = Some x } else record k { due = option_or k.due (Some (cause.StoreWrite q)) }) else k)
       by_test false off h = apart off refl
@@ -62,7 +62,7 @@ module _ (t : Tables) (q x : ℕ) (heir : Option ℕ) where
       by_part k u (apart off is) = ap (λ z. f (Some z)) is
       by_part k u (bound own due on is) = ap (λ z. f (Some z)) is ∙ same k own due
 
-      by_row : (o : Option rows.Consumer) → f (option_map (if_bound q (left_with q heir (Some x) d)) o) ≡ f o
+      by_row : (o : Option rows.Consumer) → f (option_map (if_bound q (left_with q detached_reader (Some x) d)) o) ≡ f o
       by_row None = refl
       by_row (Some k) = by_part k _ (part_of d k)
 
@@ -84,7 +84,7 @@ module _ (t : Tables) (q x : ℕ) (heir : Option ℕ) where
           let one : u ≡ record k { own = own; due = due } = sym (some_is z u h) ∙ at in
           record { k = k; row = row; place_is = ap (λ (n : rows.Consumer). n.place) one; request_is = ap (λ (n : rows.Consumer). n.request) one }
 
-      by_row : (o : Option rows.Consumer) → t.consumer d ≡ o → option_map (if_bound q (left_with q heir (Some x) d)) o ≡ Some u → Stood d u
+      by_row : (o : Option rows.Consumer) → t.consumer d ≡ o → option_map (if_bound q (left_with q detached_reader (Some x) d)) o ≡ Some u → Stood d u
       by_row None row h = none_some u h
       by_row (Some k) row h = by_part k _ row (part_of d k) h
 
@@ -109,14 +109,14 @@ module _ (t : Tables) (q x : ℕ) (heir : Option ℕ) where
 
   -- CONSUMERS
 
-  kept_part : (d : ℕ) (k : Consumer) (v : rows.Consumer) → IsKept t k v → IsKept s (parted heir x (cause.StoreWrite q) d k) (left_with q heir (Some x) d v)
-  kept_part d k v kp = by_heir (is_number heir d)
+  kept_part : (d : ℕ) (k : Consumer) (v : rows.Consumer) → IsKept t k v → IsKept s (after_parting detached_reader x (cause.StoreWrite q) d k) (left_with q detached_reader (Some x) d v)
+  kept_part d k v kp = by_detached_reader (is_number detached_reader d)
     where
       now : IsKept s k v
       now = kept_same t s k v (record { past = λ y at. refl; length = λ n lo hi how at. refl }) kp
 
-      by_heir : (h : Bool) → IsKept s (if h then record k { own = Some x } else record k { due = option_or k.due (Some (cause.StoreWrite q)) }) (if h then record v { own = Some x } else record v { due = option_or v.due (Some (cause.StoreWrite q)) })
-      by_heir true = record {
+      by_detached_reader : (h : Bool) → IsKept s (if h then record k { own = Some x } else record k { due = option_or k.due (Some (cause.StoreWrite q)) }) (if h then record v { own = Some x } else record v { due = option_or v.due (Some (cause.StoreWrite q)) })
+      by_detached_reader true = record {
         is_there = now.is_there;
         request = now.request;
         class_is = now.class_is;
@@ -130,7 +130,7 @@ module _ (t : Tables) (q x : ℕ) (heir : Option ℕ) where
         given = now.given;
         due = now.due;
       }
-      by_heir false = record {
+      by_detached_reader false = record {
         is_there = now.is_there;
         request = now.request;
         class_is = now.class_is;
@@ -145,7 +145,7 @@ module _ (t : Tables) (q x : ℕ) (heir : Option ℕ) where
         due = ap (λ (o : Option Cause). option_or o (Some (cause.StoreWrite q))) now.due;
       }
 
-  consumer_part : (d : ℕ) (b : Bool) (o : Option Consumer) (row : Option rows.Consumer) → (is_some row ≡ true → b ≡ is_bound q row) → KeepsConsumer t o row → KeepsConsumer s (if b then option_map (parted heir x (cause.StoreWrite q) d) o else o) (option_map (if_bound q (left_with q heir (Some x) d)) row)
+  consumer_part : (d : ℕ) (b : Bool) (o : Option Consumer) (row : Option rows.Consumer) → (is_some row ≡ true → b ≡ is_bound q row) → KeepsConsumer t o row → KeepsConsumer s (if b then option_map (after_parting detached_reader x (cause.StoreWrite q) d) o else o) (option_map (if_bound q (left_with q detached_reader (Some x) d)) row)
   consumer_part d true None None alike kept = kept
   consumer_part d false None None alike kept = kept
   consumer_part d b (Some k) None alike kept = absurd kept
@@ -202,14 +202,14 @@ module _ (t : Tables) (q x : ℕ) (heir : Option ℕ) where
   alone_part y w u ne None = refl
   alone_part y w u ne (Some d) = by_row (t.consumer d)
     where
-      off : (k : rows.Consumer) → is_bound_place q k.place ≡ true → (a : Tables) (own : Option ℕ) (due : Option Cause) → unstored a y w u (Some (record k { own = own; due = due })) ≡ []
+      off : (k : rows.Consumer) → is_bound_place q k.place ≡ true → (a : Tables) (own : Option ℕ) (due : Option Cause) → unstored_bytes a y w u (Some (record k { own = own; due = due })) ≡ []
       off k on a own due = (let unbound = off_other (family y w) k.place ne on in rw unbound refl)
 
-      by_part : (k z : rows.Consumer) → IsPart d k z → unstored s y w u (Some z) ≡ unstored t y w u (Some k)
-      by_part k z (apart unbound is) = ap (λ n. unstored s y w u (Some n)) is ∙ unstored_moved t s y w u (Some k)
-      by_part k z (bound own due on is) = ap (λ n. unstored s y w u (Some n)) is ∙ (off k on s own due ∙ sym (off k on t k.own k.due))
+      by_part : (k z : rows.Consumer) → IsPart d k z → unstored_bytes s y w u (Some z) ≡ unstored_bytes t y w u (Some k)
+      by_part k z (apart unbound is) = ap (λ n. unstored_bytes s y w u (Some n)) is ∙ unstored_moved t s y w u (Some k)
+      by_part k z (bound own due on is) = ap (λ n. unstored_bytes s y w u (Some n)) is ∙ (off k on s own due ∙ sym (off k on t k.own k.due))
 
-      by_row : (o : Option rows.Consumer) → unstored s y w u (option_map (if_bound q (left_with q heir (Some x) d)) o) ≡ unstored t y w u o
+      by_row : (o : Option rows.Consumer) → unstored_bytes s y w u (option_map (if_bound q (left_with q detached_reader (Some x) d)) o) ≡ unstored_bytes t y w u o
       by_row None = refl
       by_row (Some k) = by_part k _ (part_of d k)
 
@@ -229,20 +229,20 @@ module _ (t : Tables) (q x : ℕ) (heir : Option ℕ) where
 
 -- ALL OF IT
 
-pub stands_parted : {B : Type 0} {g : Ghosts B} (r u : Rows B g) (t : Tables) (q x : ℕ) (heir : Option ℕ) (v : Representation) (among : ℕ → Bool) → RowsStand r t → t.representation q ≡ Some v → v.alone ≡ None
+pub stands_parted : {B : Type 0} {g : Ghosts B} (r u : Rows B g) (t : Tables) (q x : ℕ) (detached_reader : Option ℕ) (v : Representation) (among : ℕ → Bool) → RowsStand r t → t.representation q ≡ Some v → v.alone ≡ None
     → u.limits ≡ r.limits → u.received ≡ r.received → u.last_start ≡ r.last_start → u.exchanges ≡ r.exchanges → u.keys ≡ r.keys → u.entries ≡ r.entries
-    → ((d : ℕ) → is_some (t.consumer d) ≡ true → among d ≡ is_bound q (t.consumer d)) → ChangesEach r.consumers u.consumers among (parted heir x (cause.StoreWrite q)) → RowsStand u (writing_lost q heir (Some x) t)
+    → ((d : ℕ) → is_some (t.consumer d) ≡ true → among d ≡ is_bound q (t.consumer d)) → ChangesEach r.consumers u.consumers among (after_parting detached_reader x (cause.StoreWrite q)) → RowsStand u (writing_lost q detached_reader (Some x) t)
 unfolding current
-stands_parted r u t q x heir v among stands there nobody limits received last exchanges same_keys same_entries alike changes =
-    let z : Tables = writing_lost q heir (Some x) t in
+stands_parted r u t q x detached_reader v among stands there nobody limits received last exchanges same_keys same_entries alike changes =
+    let z : Tables = writing_lost q detached_reader (Some x) t in
     record {
       limits = rw (same_entries, limits) stands.limits;
       received = as_received received stands.received;
       last_start = last ∙ stands.last_start;
       next = ap (λ e. next_of e) exchanges ∙ stands.next;
-      count = changes.len ∙ (stands.count ∙ sym (live_same t z refl (told_same t q x heir is_live (λ k own due. refl))));
-      consumers = λ d. subst (λ o. KeepsConsumer z o (z.consumer d)) (sym (changes.places d)) (consumer_part t q x heir d (among d) (get nat_eq r.consumers d) (t.consumer d) (alike d) (stands.consumers d));
-      exchanges = λ y. rw exchanges (exchange_same t z y (table_of r.exchanges y) (record { row = refl; brings = λ w at. refl; held = held_part t q x heir v there nobody y (t.exchange y) }) (stands.exchanges y));
-      keys = λ key. rw same_keys (key_same t z key (kept_of r.keys key) (record { current = refl; in_line = told_same t q x heir (is_in_line key) (λ k own due. refl); passed = told_same t q x heir (is_passed key) (λ k own due. refl); away = λ d. told_same t q x heir (is_away z key) (λ k own due. refl) d ∙ away_as t q x heir key (t.consumer d); turn = told_same t q x heir (has_turn key) (λ k own due. refl) }) (stands.keys key));
-      entries = rw same_entries (entries_same t z (shelf_of r.entries) (λ n. refl) refl refl (λ n. told_same t q x heir (is_bound n) (λ k own due. refl)) (λ n. told_same t q x heir (is_first t n) (λ k own due. refl)) (λ n. refl) (λ y on. on) stands.entries);
+      count = changes.len ∙ (stands.count ∙ sym (live_same t z refl (told_same t q x detached_reader is_live (λ k own due. refl))));
+      consumers = λ d. subst (λ o. KeepsConsumer z o (z.consumer d)) (sym (changes.places d)) (consumer_part t q x detached_reader d (among d) (get nat_eq r.consumers d) (t.consumer d) (alike d) (stands.consumers d));
+      exchanges = λ y. rw exchanges (exchange_same t z y (table_of r.exchanges y) (record { row = refl; brings = λ w at. refl; held = held_part t q x detached_reader v there nobody y (t.exchange y) }) (stands.exchanges y));
+      keys = λ key. rw same_keys (key_same t z key (kept_of r.keys key) (record { current = refl; in_line = told_same t q x detached_reader (is_in_line key) (λ k own due. refl); passed = told_same t q x detached_reader (is_passed key) (λ k own due. refl); away = λ d. told_same t q x detached_reader (is_away z key) (λ k own due. refl) d ∙ away_as t q x detached_reader key (t.consumer d); turn = told_same t q x detached_reader (has_turn key) (λ k own due. refl) }) (stands.keys key));
+      entries = rw same_entries (entries_same t z (shelf_of r.entries) (λ n. refl) refl refl (λ n. told_same t q x detached_reader (is_bound n) (λ k own due. refl)) (λ n. told_same t q x detached_reader (is_first t n) (λ k own due. refl)) (λ n. refl) (λ y on. on) stands.entries);
     }

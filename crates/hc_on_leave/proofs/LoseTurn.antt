@@ -28,7 +28,7 @@ use Rattle.hc_model.specs.Cases.{head_view, is_founding, is_joining, case_at}
 use Rattle.hc_model.specs.ConsumerRows.{back_in_line}
 use Rattle.hc_model.specs.Currents.{current}
 use Rattle.hc_model.specs.Denials.{denial}
-use Rattle.hc_model.specs.Effects.{counted, all_closed, with_answer, with_consumer, with_representation, writing_lost, let_go, lost_to, unless_ended, unless_survived, back_from}
+use Rattle.hc_model.specs.Effects.{with_event, all_closed, with_answer, with_consumer, with_representation, writing_lost, let_go, lost_to, unless_ended, unless_survived, back_from}
 use Rattle.hc_model.specs.ExchangeRows.{promise_in}
 use Rattle.hc_model.specs.Exchanges.{family, is_reached, is_headless}
 use Rattle.hc_model.specs.Flaws.{Loses}
@@ -48,20 +48,20 @@ use Rattle.hc_model.proofs.FirstKeeps.{case_is}
 use Rattle.hc_model.proofs.FoundBy.{unchanged_founds}
 use Rattle.hc_model.proofs.KeysKeep.{current_row}
 use Rattle.hc_laws.proofs.LettingGo.{may_let_go}
-use Rattle.hc_model.proofs.Pens.{writer_some}
+use Rattle.hc_model.proofs.ExclusiveWriters.{writer_some}
 use Rattle.hc_model.proofs.PollKeeps.{current_stays}
 use Rattle.hc_laws.proofs.UpdateEffects.{validated_lost}
 use Rattle.hc_laws.proofs.WrittenEffects.{validated_lost_written}
 use Rattle.hc_state.specs.declared.rows.Rows.{Rows}
 use Rattle.hc_state.specs.Facts.{Facts}
 use Rattle.hc_state.specs.Heads.{IsUnread, unless_over}
-use Rattle.hc_state.specs.Heirs.{MayLoseShared, LosesWriting, shared_loss}
-use Rattle.hc_state.specs.Kept.{unstored}
+use Rattle.hc_state.specs.DetachedReaders.{MayLoseShared, LosesWriting, shared_loss}
+use Rattle.hc_state.specs.Kept.{unstored_bytes}
 use Rattle.hc_state.specs.Leaving.{writing_of}
 use Rattle.hc_state.specs.Stands.{Answered, KeepsRest, RowsStand}
 use Rattle.hc_state.specs.Stopped.{HoldsNothing, NobodyAwaits}
 use Rattle.hc_state.proofs.Answering.{lossy_answered}
-use Rattle.hc_state.proofs.Asides.{unstored_moved}
+use Rattle.hc_state.proofs.Fallbacks.{unstored_moved}
 use Rattle.hc_state.proofs.Closing.{stands_unstored}
 use Rattle.hc_state.proofs.Counting.{stands_counted}
 use Rattle.hc_state.proofs.CurrentTies.{stays_stored}
@@ -69,7 +69,7 @@ use Rattle.hc_on_leave.proofs.HeadCases.{it_is, parts, case_lost_too}
 use Rattle.hc_on_leave.proofs.HeardRows.{Asker}
 use Rattle.hc_state.proofs.LeftRows.{writing_as}
 use Rattle.hc_on_leave.proofs.LoseAlone.{holds_none}
-use Rattle.hc_on_leave.proofs.LoseHeirs.{bound_among, members_in}
+use Rattle.hc_on_leave.proofs.LoseDetachedReaders.{bound_among, members_in}
 use Rattle.hc_state.proofs.Maps.{act_and}
 use Rattle.hc_on_leave.proofs.RefuseArm.{stands_refused, closes_as}
 use Rattle.hc_state.proofs.TurnTies.{least_alike}
@@ -79,34 +79,34 @@ use Rattle.hc_state.proofs.Words.{same_or, eqb-same, eqb-other, then_false, fals
 -- A WRITING IS LOST
 
 -- where nobody goes on, its exchange is closed
-pub closes_loss : {B : Type 0} {g : Ghosts B} (mid u : Rows B g) (t : Tables) (now r x : ℕ) (v : Representation) (heir : Option ℕ) → MayLoseShared t r x v → RowsStand mid (shared_loss now r x v heir t)
-    → u.limits ≡ mid.limits → u.received ≡ mid.received → u.last_start ≡ mid.last_start → u.consumers ≡ mid.consumers → u.keys ≡ mid.keys → u.entries ≡ mid.entries → exch.Becomes known.closed x mid.exchanges u.exchanges → RowsStand u (all_closed (x ∷ []) (shared_loss now r x v heir t))
-closes_loss mid u t now r x v heir may stands limits received last consumers same_keys same_entries becomes =
-    stands_unstored mid u (shared_loss now r x v heir t) x stands unawaited apart limits received last consumers same_keys same_entries becomes
+pub closes_loss : {B : Type 0} {g : Ghosts B} (mid u : Rows B g) (t : Tables) (now r x : ℕ) (v : Representation) (detached_reader : Option ℕ) → MayLoseShared t r x v → RowsStand mid (shared_loss now r x v detached_reader t)
+    → u.limits ≡ mid.limits → u.received ≡ mid.received → u.last_start ≡ mid.last_start → u.consumers ≡ mid.consumers → u.keys ≡ mid.keys → u.entries ≡ mid.entries → exch.Becomes known.without_exchange x mid.exchanges u.exchanges → RowsStand u (all_closed (x ∷ []) (shared_loss now r x v detached_reader t))
+closes_loss mid u t now r x v detached_reader may stands limits received last consumers same_keys same_entries becomes =
+    stands_unstored mid u (shared_loss now r x v detached_reader t) x stands unawaited apart limits received last consumers same_keys same_entries becomes
   where
-    unawaited : NobodyAwaits (shared_loss now r x v heir t) x
+    unawaited : NobodyAwaits (shared_loss now r x v detached_reader t) x
     unawaited d n lo hi k is at = ap is_headless may.row ∙ by_head may.w.head may.headed
       where
         by_head : (h : Option Response) → is_some h ≡ true → (may.w.is_open && is_none h) ≡ false
         by_head None on = false_true on
         by_head (Some response) on = then_false may.w.is_open false refl
 
-    apart : (q : ℕ) (p : Representation) → (shared_loss now r x v heir t).representation q ≡ Some p → p.is_gone ≡ false → brings_to q x (t.exchange x) ≡ false
+    apart : (q : ℕ) (p : Representation) → (shared_loss now r x v detached_reader t).representation q ≡ Some p → p.is_gone ≡ false → brings_to q x (t.exchange x) ≡ false
     apart q p there stays = ap (brings_to q x) may.row ∙ elim (same_or r q) [
       | inl e ↦
-          let mine : (shared_loss now r x v heir t).representation q ≡ Some (record (lost_to heir v) { is_gone = true }) = rw (e, eqb-same q) refl in
-          false_true (sym stays ∙ ap (λ (z : Representation). z.is_gone) (same_row ((shared_loss now r x v heir t).representation q) p (record (lost_to heir v) { is_gone = true }) there mine))
+          let mine : (shared_loss now r x v detached_reader t).representation q ≡ Some (record (lost_to detached_reader v) { is_gone = true }) = rw (e, eqb-same q) refl in
+          false_true (sym stays ∙ ap (λ (z : Representation). z.is_gone) (same_row ((shared_loss now r x v detached_reader t).representation q) p (record (lost_to detached_reader v) { is_gone = true }) there mine))
       | inr ne ↦ then_false may.w.is_open (nat_eq (family x may.w) q) (ap (λ (n : ℕ). nat_eq n q) may.of_r ∙ eqb-other r q ne)
     ]
 
-module _ {B : Type 0} {g : Ghosts B} (u : Rows B g) (t : Tables) (before mid out : List Act) (now r x : ℕ) (v : Representation) (why : LostKind) (heir : Option ℕ) (is : heir ≡ survivor t r v) (told : mid ≡ before ++ (act.Lost r why ∷ [])) where
+module _ {B : Type 0} {g : Ghosts B} (u : Rows B g) (t : Tables) (before mid out : List Act) (now r x : ℕ) (v : Representation) (why : LostKind) (detached_reader : Option ℕ) (is : detached_reader ≡ survivor t r v) (told : mid ≡ before ++ (act.Lost r why ∷ [])) where
   -- somebody goes on
-  pub loses_on : is_none heir ≡ false → out ≡ mid → RowsStand u (shared_loss now r x v heir t) → LosesWriting u t before out now r x v why
-  loses_on some same stood = by_heir heir some is
+  pub loses_on : is_none detached_reader ≡ false → out ≡ mid → RowsStand u (shared_loss now r x v detached_reader t) → LosesWriting u t before out now r x v why
+  loses_on some same stood = by_detached_reader detached_reader some is
     where
-      by_heir : (o : Option ℕ) → is_none o ≡ false → o ≡ survivor t r v → LosesWriting u t before out now r x v why
-      by_heir None off one = false_true (sym off)
-      by_heir (Some d) off one =
+      by_detached_reader : (o : Option ℕ) → is_none o ≡ false → o ≡ survivor t r v → LosesWriting u t before out now r x v why
+      by_detached_reader None off one = false_true (sym off)
+      by_detached_reader (Some d) off one =
           let closes : unless_survived (survivor t r v) (Some x) ≡ [] = ap (λ (o : Option ℕ). unless_survived o (Some x)) (sym one) in
           record {
             acts = same ∙ (told ∙ ap (λ (ys : List ℕ). before ++ (act.Lost r why ∷ map act.Close ys)) (sym closes));
@@ -114,12 +114,12 @@ module _ {B : Type 0} {g : Ghosts B} (u : Rows B g) (t : Tables) (before mid out
           }
 
   -- nobody does
-  pub loses_out : is_none heir ≡ true → out ≡ mid ++ (act.Close x ∷ []) → RowsStand u (all_closed (x ∷ []) (shared_loss now r x v heir t)) → LosesWriting u t before out now r x v why
-  loses_out none closed stood = by_heir heir none is
+  pub loses_out : is_none detached_reader ≡ true → out ≡ mid ++ (act.Close x ∷ []) → RowsStand u (all_closed (x ∷ []) (shared_loss now r x v detached_reader t)) → LosesWriting u t before out now r x v why
+  loses_out none closed stood = by_detached_reader detached_reader none is
     where
-      by_heir : (o : Option ℕ) → is_none o ≡ true → o ≡ survivor t r v → LosesWriting u t before out now r x v why
-      by_heir (Some d) on one = false_true on
-      by_heir None on one =
+      by_detached_reader : (o : Option ℕ) → is_none o ≡ true → o ≡ survivor t r v → LosesWriting u t before out now r x v why
+      by_detached_reader (Some d) on one = false_true on
+      by_detached_reader None on one =
           let closes : unless_survived (survivor t r v) (Some x) ≡ x ∷ [] = ap (λ (o : Option ℕ). unless_survived o (Some x)) (sym one) in
           record {
             acts = act_and before mid out (act.Lost r why) (act.Close x ∷ []) told closed ∙ ap (λ (ys : List ℕ). before ++ (act.Lost r why ∷ map act.Close ys)) (sym closes);
@@ -241,7 +241,7 @@ module _ {B : Type 0} {g : Ghosts B} (r second : Rows B g) (t : Tables) (facts :
       unread_then t facts.law x w a.v a.awaits moved back (rw (eqb-same w.c) refl) (λ d u is ne. inl (sym (beside t w.c d (Some back) ne) ∙ is)) row unfounded
       (λ n lo hi h. (let never : place.Line ≡ place.Bound n lo hi (by.FirstHole x) = h in absurd (cc))) (λ h. (let never : place.Line ≡ place.Direct x = h in absurd (cc)))
 
-  pub heard_stands : (first : Rows B g) → RowsStand first moved → KeepsRest first second → second.consumers ≡ first.consumers → exch.Becomes known.closed x first.exchanges second.exchanges → RowsStand second heard
+  pub heard_stands : (first : Rows B g) → RowsStand first moved → KeepsRest first second → second.consumers ≡ first.consumers → exch.Becomes known.without_exchange x first.exchanges second.exchanges → RowsStand second heard
   heard_stands first stood rest consumers becomes =
       subst (λ (ys : List ℕ). RowsStand second (all_closed ys heard)) ended (stands_refused first second moved now x response w stood unread rest consumers becomes)
 
@@ -266,8 +266,8 @@ module _ {B : Type 0} {g : Ghosts B} (r second : Rows B g) (t : Tables) (facts :
   pub holds_then : (o : Option ℕ) → HoldsNothing t q v o → HoldsNothing heard q v o
   holds_then None nothing y z at of_q = refl
   holds_then (Some c) nothing y z at of_q = elim (same_or w.c c) [
-    | inl e ↦ (let now_back : heard.consumer c ≡ Some back = rw (e, eqb-same c) refl in ap (unstored heard y z v) now_back)
-    | inr ne ↦ ap (unstored heard y z v) (beside t w.c c (Some back) ne) ∙ (unstored_moved t heard y z v (t.consumer c) ∙ nothing y z (its_row y z at of_q) of_q)
+    | inl e ↦ (let now_back : heard.consumer c ≡ Some back = rw (e, eqb-same c) refl in ap (unstored_bytes heard y z v) now_back)
+    | inr ne ↦ ap (unstored_bytes heard y z v) (beside t w.c c (Some back) ne) ∙ (unstored_moved t heard y z v (t.consumer c) ∙ nothing y z (its_row y z at of_q) of_q)
   ]
 
   -- IT ISN'T WRITTEN FOR SEVERAL
@@ -277,7 +277,7 @@ module _ {B : Type 0} {g : Ghosts B} (r second : Rows B g) (t : Tables) (facts :
       → faults < (shelf_of u.entries).faults → Answered r.limits faults u t before out now ev
   alone_answered u faults before out alone writer off stood told loses failed =
       let lost = loses heard v may_heard_now there nobody (holds_then alone (subst (λ (o : Option ℕ). HoldsNothing t q v o) (sym writer) (holds_none r.limits t facts q v there kept))) stood in
-      lossy_answered r.limits faults u t (counted now ev (let_go now q (with_consumer w.c (Some back) (with_answer now x response w.joined w (with_representation q (Some (lost_to (exclusive t q v) v)) t))))) before out (act.Lost q kind.Fault ∷ []) now ev q
+      lossy_answered r.limits faults u t (with_event now ev (let_go now q (with_consumer w.c (Some back) (with_answer now x response w.joined w (with_representation q (Some (lost_to (exclusive t q v) v)) t))))) before out (act.Lost q kind.Fault ∷ []) now ev q
       (validated_lost r.limits t facts.law now x response goes w row a.v a.awaits.asker q v aim there kind.Fault kept off is_lost_case) writes_there kept_now refl failed told
       (stands_counted u _ now ev refl (subst (λ (o : Option ℕ). RowsStand u (let_go now q (with_representation q (Some (lost_to o v)) heard))) writer lost))
 
@@ -340,8 +340,8 @@ module _ {B : Type 0} {g : Ghosts B} (r second : Rows B g) (t : Tables) (facts :
         by_place (place.Down why) at = off (ap (is_bound_place q) at)
         by_place place.Over at = off (ap (is_bound_place q) at)
 
-    heir_same : survivor heard q v ≡ survivor t q v
-    heir_same = survivor_same t heard q v (may_let_go t facts.law) may_heard_now (λ c. elim (same_or w.c c) [
+    detached_reader_same : survivor heard q v ≡ survivor t q v
+    detached_reader_same = survivor_same t heard q v (may_let_go t facts.law) may_heard_now (λ c. elim (same_or w.c c) [
       | inr ne ↦ ap (λ (o : Option rows.Consumer). (offset_in heard o == v.reach) && is_bound q o) (beside t w.c c (Some back) ne) ∙ stands_there (t.consumer c)
       | inl e ↦
           let now_back : heard.consumer c ≡ Some back = rw (e, eqb-same c) refl in
@@ -369,9 +369,9 @@ module _ {B : Type 0} {g : Ghosts B} (r second : Rows B g) (t : Tables) (facts :
     written_answered u faults before mid out same loses failed =
         let done = validated_lost_written r.limits t facts.law now x response goes w row a.v a.awaits.asker q v aim there kind.Fault on is_lost_case in
         let acts_are : out ≡ before ++ (act.Lost q kind.Fault ∷ map act.Close (unless_survived (survivor t q v) v.writer)) =
-        loses.acts ∙ ap₂ (λ (b : List Act) (ys : List ℕ). b ++ (act.Lost q kind.Fault ∷ map act.Close ys)) same (ap₂ unless_survived heir_same (sym writer)) in
+        loses.acts ∙ ap₂ (λ (b : List Act) (ys : List ℕ). b ++ (act.Lost q kind.Fault ∷ map act.Close ys)) same (ap₂ unless_survived detached_reader_same (sym writer)) in
         let stood : RowsStand u (lost_as (survivor t q v) (unless_survived (survivor t q v) (Some y))) =
-        subst (RowsStand u) (tables_as (survivor t q v)) (subst (λ (o : Option ℕ). RowsStand u (all_closed (unless_survived o (Some y)) (shared_loss now q y v o heard))) heir_same loses.rows) in
-        lossy_answered r.limits faults u t (counted now ev (let_go now q (with_consumer w.c (Some back) (all_closed (unless_survived (survivor t q v) v.writer) (with_answer now x response w.joined w (writing_lost q (survivor t q v) v.writer (with_representation q (Some (lost_to (survivor t q v) v)) t))))))) before out
+        subst (RowsStand u) (tables_as (survivor t q v)) (subst (λ (o : Option ℕ). RowsStand u (all_closed (unless_survived o (Some y)) (shared_loss now q y v o heard))) detached_reader_same loses.rows) in
+        lossy_answered r.limits faults u t (with_event now ev (let_go now q (with_consumer w.c (Some back) (all_closed (unless_survived (survivor t q v) v.writer) (with_answer now x response w.joined w (writing_lost q (survivor t q v) v.writer (with_representation q (Some (lost_to (survivor t q v) v)) t))))))) before out
         (act.Lost q kind.Fault ∷ map act.Close (unless_survived (survivor t q v) v.writer)) now ev q done writes_there kept_now refl failed acts_are
         (stands_counted u _ now ev refl (subst (λ (o : Option ℕ). RowsStand u (let_go now q (with_consumer w.c (Some back) (all_closed (unless_survived (survivor t q v) o) (with_answer now x response w.joined w (writing_lost q (survivor t q v) o (with_representation q (Some (lost_to (survivor t q v) v)) t))))))) (sym writer) stood))

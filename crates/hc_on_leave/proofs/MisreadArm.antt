@@ -12,13 +12,13 @@ use Rattle.hc_event.specs.declared.place.Place.{Place}
 use Rattle.hc_event.specs.declared.place.Place.TheVariants as place
 use Rattle.hc_model.specs.Closings.{is_last_reader}
 use Rattle.hc_model.specs.Currents.{current, is_number}
-use Rattle.hc_model.specs.Effects.{Does, counted, with_consumer, let_go, let_some_go, all_closed, finished, left_by, going_with}
+use Rattle.hc_model.specs.Effects.{Does, with_event, with_consumer, let_go, let_some_go, all_closed, as_over, left_by, going_with}
 use Rattle.hc_model.specs.Flaws.{Misreads, flaw_in}
 use Rattle.hc_model.specs.Lawful.{Lawful}
 use Rattle.hc_model.specs.Places.{IsAway}
 use Rattle.hc_model.specs.Reading.{is_bound}
 use Rattle.hc_model.specs.Rows.{Tables, Consumer}
-use Rattle.hc_model.specs.Tables.{added}
+use Rattle.hc_model.specs.Tables.{with_item_first}
 use Rattle.hc_laws.proofs.MisreadEffects.{misreads}
 use Rattle.hc_state.specs.declared.rows.Rows.{Rows}
 use Rattle.hc_state.specs.Plans.{is_idle_at}
@@ -48,19 +48,19 @@ or_last false b on = on
 
 module _ {B : Type 0} {g : Ghosts B} (limits : Limits) (faults : ℕ) (u : Rows B g) (t : Tables) (law : Lawful t) (now c want r : ℕ) (v : Consumer) (row : t.consumer c ≡ Some v) (idle : is_idle_at v.place ≡ true) (before out : List Act) where
   abbrev s : Tables
-  s = let_go now r (with_consumer c (Some (finished v)) t)
+  s = let_go now r (with_consumer c (Some (as_over v)) t)
 
   abbrev acts : List Act
   acts = act.Failed c (cause.StoreRead r) ∷ []
 
-  does_fail : Does limits t now (event.Poll c want) (Misreads r) acts (counted now (event.Poll c want) s)
+  does_fail : Does limits t now (event.Poll c want) (Misreads r) acts (with_event now (event.Poll c want) s)
   does_fail =
       let none = idle_leaves t law c v row idle in
       let does = misreads limits t law now c want v row r in
       record {
-        acts_are = does.acts_are ∙ ap (λ (o : Option ℕ). act.Failed c (cause.StoreRead r) ∷ map act.Close (added o [])) none;
+        acts_are = does.acts_are ∙ ap (λ (o : Option ℕ). act.Failed c (cause.StoreRead r) ∷ map act.Close (with_item_first o [])) none;
         tables_are = does.tables_are
-            ∙ ap (λ (o : Option ℕ). counted now (event.Poll c want) (let_go now r (let_some_go now (going_with t o) (with_consumer c (Some (finished v)) (all_closed (added o []) t))))) none;
+            ∙ ap (λ (o : Option ℕ). with_event now (event.Poll c want) (let_go now r (let_some_go now (going_with t o) (with_consumer c (Some (as_over v)) (all_closed (with_item_first o []) t))))) none;
       }
 
   pub fault_answered : current t v.request.key ≡ Some r → faults < (shelf_of u.entries).faults → out ≡ before ++ acts → RowsStand u s → Answered limits faults u t before out now (event.Poll c want)

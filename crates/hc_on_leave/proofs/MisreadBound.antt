@@ -16,7 +16,7 @@ use Rattle.hc_event.specs.declared.place.Place.{Place}
 use Rattle.hc_event.specs.declared.place.Place.TheVariants as place
 use Rattle.hc_event.specs.declared.place.BoundBy.{BoundBy}
 use Rattle.hc_model.specs.Currents.{current, is_current}
-use Rattle.hc_model.specs.Effects.{Does, counted, with_consumer, let_go, let_some_go, gone, closed, all_closed, finished, left_by, going_with, with_leave, is_unkeepable}
+use Rattle.hc_model.specs.Effects.{Does, with_event, with_consumer, let_go, let_some_go, as_gone, tables_after_close, all_closed, as_over, left_by, going_with, with_leave, is_unkeepable}
 use Rattle.hc_model.specs.Exchanges.{family}
 use Rattle.hc_model.specs.Flaws.{Misreads, flaw_in}
 use Rattle.hc_model.specs.Kinds.{brings_to}
@@ -26,7 +26,7 @@ use Rattle.hc_model.specs.Reading.{is_bound_place}
 use Rattle.hc_model.specs.Rows.{Tables, Exchange, Representation, Consumer}
 use Rattle.hc_model.specs.Sound as sound
 use Rattle.hc_model.specs.Sound.{IsAbout}
-use Rattle.hc_model.specs.Tables.{added}
+use Rattle.hc_model.specs.Tables.{with_item_first}
 use Rattle.hc_laws.proofs.LettingGo.{may_let_go, keeps_may, let_go_nothing}
 use Rattle.hc_laws.proofs.MisreadEffects.{misreads}
 use Rattle.hc_model.proofs.Stops.{writer_about}
@@ -107,14 +107,14 @@ module _ (t : Tables) (law : Lawful t) (c q : ℕ) (v : Consumer) (row : t.consu
   -- it is let go once
   module _ (now : ℕ) where
     abbrev s : Tables
-    s = with_consumer c (Some (finished v)) t
+    s = with_consumer c (Some (as_over v)) t
 
     may_then : MayLetGo s
-    may_then = may_with t c v (finished v) row refl (may_let_go t law)
+    may_then = may_with t c v (as_over v) row refl (may_let_go t law)
 
-    gone_row : (o : Option Representation) (p : Representation) → option_map gone o ≡ Some p → p.is_gone ≡ true
+    gone_row : (o : Option Representation) (p : Representation) → option_map as_gone o ≡ Some p → p.is_gone ≡ true
     gone_row None p h = none_some p h
-    gone_row (Some z) p h = sym (ap (λ (y : Representation). y.is_gone) (some_is (gone z) p h))
+    gone_row (Some z) p h = sym (ap (λ (y : Representation). y.is_gone) (some_is (as_gone z) p h))
 
     let_go_twice : let_go now q (let_go now q s) ≡ let_go now q s
     let_go_twice = let_go_nothing (let_go now q s) (keeps_may now q s may_then) now q (λ p is. gone_row (t.representation q) p (sym (rw (eqb-same q) refl) ∙ is))
@@ -133,7 +133,7 @@ module _ (limits : Limits) (t : Tables) (law : Lawful t) (now c want q : ℕ) (v
 
   -- it left, and that is let go
   abbrev quit : Tables
-  quit = with_consumer c (Some (finished v)) t
+  quit = with_consumer c (Some (as_over v)) t
 
   abbrev failed_act : Act
   failed_act = act.Failed c (cause.StoreRead q)
@@ -141,11 +141,11 @@ module _ (limits : Limits) (t : Tables) (law : Lawful t) (now c want q : ℕ) (v
   at : BoundAt q v.place
   at = bound_at q v.place bound
 
-  gone_there : (o : Option Representation) (p : Representation) → option_map gone o ≡ Some p → p.is_gone ≡ true
+  gone_there : (o : Option Representation) (p : Representation) → option_map as_gone o ≡ Some p → p.is_gone ≡ true
   gone_there None p h = none_some p h
-  gone_there (Some a) p h = sym (ap (λ (z : Representation). z.is_gone) (some_is (gone a) p h))
+  gone_there (Some a) p h = sym (ap (λ (z : Representation). z.is_gone) (some_is (as_gone a) p h))
 
-  row_gone : (n : ℕ) → q ≡ n → (let_go now q quit).representation n ≡ option_map gone (t.representation n)
+  row_gone : (n : ℕ) → q ≡ n → (let_go now q quit).representation n ≡ option_map as_gone (t.representation n)
   row_gone n e = rw (e, eqb-same n) refl
 
   row_stays : (n : ℕ) → q ≢ n → (let_go now q quit).representation n ≡ t.representation n
@@ -170,24 +170,24 @@ module _ (limits : Limits) (t : Tables) (law : Lawful t) (now c want q : ℕ) (v
       by_row (Some w) ex = by_family w ex (nat_eq (family x w) n) refl
 
   -- it doesn't matter whether it is closed before or after
-  same_closed : (x : ℕ) → HowLeft t c x v → (o : Option ℕ) → going_with t (Some x) ≡ o → let_go now q (let_some_go now o (with_consumer c (Some (finished v)) (closed x t))) ≡ closed x (let_go now q quit)
+  same_closed : (x : ℕ) → HowLeft t c x v → (o : Option ℕ) → going_with t (Some x) ≡ o → let_go now q (let_some_go now o (with_consumer c (Some (as_over v)) (tables_after_close x t))) ≡ tables_after_close x (let_go now q quit)
   same_closed x how None going = refl
-  same_closed x how (Some n) going = ap (closed x) (gone_with t law c q v row at now x how (Some n) going)
+  same_closed x how (Some n) going = ap (tables_after_close x) (gone_with t law c q v row at now x how (Some n) going)
 
   -- what is told and left by it
   abbrev left_tables : Option ℕ → Tables
-  left_tables o = let_go now q (let_some_go now (going_with t o) (with_consumer c (Some (finished v)) (all_closed (added o []) t)))
+  left_tables o = let_go now q (let_some_go now (going_with t o) (with_consumer c (Some (as_over v)) (all_closed (with_item_first o []) t)))
 
-  does_misread : (o : Option ℕ) → left_by t c v ≡ o → Does limits t now ev (Misreads q) (failed_act ∷ map act.Close (added o [])) (counted now ev (left_tables o))
+  does_misread : (o : Option ℕ) → left_by t c v ≡ o → Does limits t now ev (Misreads q) (failed_act ∷ map act.Close (with_item_first o [])) (with_event now ev (left_tables o))
   does_misread o is =
       let does = misreads limits t law now c want v row q in
       record {
-        acts_are = does.acts_are ∙ ap (λ (z : Option ℕ). failed_act ∷ map act.Close (added z [])) is;
-        tables_are = does.tables_are ∙ ap (λ (z : Option ℕ). counted now ev (left_tables z)) is;
+        acts_are = does.acts_are ∙ ap (λ (z : Option ℕ). failed_act ∷ map act.Close (with_item_first z [])) is;
+        tables_are = does.tables_are ∙ ap (λ (z : Option ℕ). with_event now ev (left_tables z)) is;
       }
 
   module _ {B : Type 0} {g : Ghosts B} (u : Rows B g) (faults : ℕ) (before out : List Act) (failed : faults < (shelf_of u.entries).faults) where
-    told : (z : Tables) (acts : List Act) → Does limits t now ev (Misreads q) (failed_act ∷ acts) (counted now ev z) → out ≡ before ++ (failed_act ∷ acts) → RowsStand u z → Answered limits faults u t before out now ev
+    told : (z : Tables) (acts : List Act) → Does limits t now ev (Misreads q) (failed_act ∷ acts) (with_event now ev z) → out ≡ before ++ (failed_act ∷ acts) → RowsStand u z → Answered limits faults u t before out now ev
     told z acts does out_is stands = record {
       flaw = Misreads q;
       acts = out_is ∙ ap (λ y. before ++ y) (sym does.acts_are);
@@ -203,10 +203,10 @@ module _ (limits : Limits) (t : Tables) (law : Lawful t) (now c want q : ℕ) (v
 
     -- it leaves an exchange
     pub misread_closing : (r : Rows B g) (x : ℕ) (mid : List Act) → left_by t c v ≡ Some x → mid ≡ before ++ (act.Failed c (cause.StoreRead q) ∷ []) → out ≡ mid ++ (act.Close x ∷ []) → KeepsRest r u → u.consumers ≡ r.consumers
-        → exch.Becomes known.closed x r.exchanges u.exchanges → RowsStand r (let_go now q quit) → Answered limits faults u t before out now (event.Poll c want)
+        → exch.Becomes known.without_exchange x r.exchanges u.exchanges → RowsStand r (let_go now q quit) → Answered limits faults u t before out now (event.Poll c want)
     misread_closing r x mid leaves first second rest consumers becomes stands =
         let how = how_left t c x v leaves in
-        told (closed x (let_go now q quit)) (act.Close x ∷ [])
-        (let does = does_misread (Some x) leaves in record { acts_are = does.acts_are; tables_are = does.tables_are ∙ ap (counted now ev) (same_closed x how (going_with t (Some x)) refl) })
+        told (tables_after_close x (let_go now q quit)) (act.Close x ∷ [])
+        (let does = does_misread (Some x) leaves in record { acts_are = does.acts_are; tables_are = does.tables_are ∙ ap (with_event now ev) (same_closed x how (going_with t (Some x)) refl) })
         (act_and before mid out failed_act (act.Close x ∷ []) first second)
         (stands_unstored r u (let_go now q quit) x stands (unawaited_go now q quit x (left_unawaited t law c v row x how)) (apart x how) rest.limits rest.received rest.last_start consumers rest.keys rest.entries becomes)

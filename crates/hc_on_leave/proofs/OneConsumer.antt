@@ -12,12 +12,12 @@ use Rattle.hc_model.specs.Rows.{Tables, Exchange, Representation}
 use Rattle.hc_state.specs.declared.consumer.Consumer.{Consumer}
 use Rattle.hc_state.specs.declared.rows.Rows.{Rows}
 use Rattle.hc_state.specs.Changes.{BecomesAt}
-use Rattle.hc_state.specs.Kept.{KeepsConsumer, unread, unstored, held_alone, held_of, held_for}
+use Rattle.hc_state.specs.Kept.{KeepsConsumer, unread, unstored_bytes, held_alone, held_of, held_for}
 use Rattle.hc_state.specs.Lines.{KeepsKey}
 use Rattle.hc_state.specs.Stands.{RowsStand}
 use Rattle.hc_state.specs.Stored.{KeepsEntries}
-use Rattle.hc_state.proofs.Asides.{unstored_moved}
-use Rattle.hc_state.proofs.AsideSteps.{length_same, live_same}
+use Rattle.hc_state.proofs.Fallbacks.{unstored_moved}
+use Rattle.hc_state.proofs.FallbackSteps.{length_same, live_same}
 use Rattle.hc_state.proofs.ConsumerSteps.{all_kept_with}
 use Rattle.hc_state.proofs.Ties.{exchange_same}
 use Rattle.hc_state.proofs.Words.{same_or, eqb-same, eqb-other, as_received}
@@ -29,7 +29,7 @@ module _ (t : Tables) (c : ℕ) (v z : rows.Consumer) (row : t.consumer c ≡ So
   -- as much of what it reads past the store is held for it, and of what was lost
   pub record HoldsAsMuch : Type 0 where
     pub past : (y : ℕ) (w : Exchange) → t.exchange y ≡ Some w → unread y w (Some z) ≡ unread y w (Some v)
-    pub lost : (y : ℕ) (w : Exchange) (b : Representation) → t.exchange y ≡ Some w → t.representation (family y w) ≡ Some b → unstored t y w b (Some z) ≡ unstored t y w b (Some v)
+    pub lost : (y : ℕ) (w : Exchange) (b : Representation) → t.exchange y ≡ Some w → t.representation (family y w) ≡ Some b → unstored_bytes t y w b (Some z) ≡ unstored_bytes t y w b (Some v)
 
   here : s.consumer c ≡ Some z
   here = rw (eqb-same c) refl
@@ -44,10 +44,10 @@ module _ (t : Tables) (c : ℕ) (v z : rows.Consumer) (row : t.consumer c ≡ So
       | inr ne ↦ ap (unread y w) (others d (λ e. ne (sym e)))
     ]
 
-    lost_same : (y d : ℕ) (w : Exchange) (b : Representation) → t.exchange y ≡ Some w → t.representation (family y w) ≡ Some b → unstored s y w b (s.consumer d) ≡ unstored t y w b (t.consumer d)
+    lost_same : (y d : ℕ) (w : Exchange) (b : Representation) → t.exchange y ≡ Some w → t.representation (family y w) ≡ Some b → unstored_bytes s y w b (s.consumer d) ≡ unstored_bytes t y w b (t.consumer d)
     lost_same y d w b at there = unstored_moved t s y w b (s.consumer d) ∙ elim (same_or c d) [
       | inl e ↦ rw (← e, here, row) (much.lost y w b at there)
-      | inr ne ↦ ap (unstored t y w b) (others d (λ e. ne (sym e)))
+      | inr ne ↦ ap (unstored_bytes t y w b) (others d (λ e. ne (sym e)))
     ]
 
     alone_same : (y : ℕ) (w : Exchange) (b : Representation) (o : Option ℕ) → t.exchange y ≡ Some w → t.representation (family y w) ≡ Some b → held_alone s y w b o ≡ held_alone t y w b o

@@ -15,12 +15,12 @@ use Rattle.hc_stored.specs.declared.entries.Entries.{Entries}
 use Rattle.hc_exch.specs.Exchanges as exch
 use Rattle.hc_exch.specs.Exchanges.{table_of}
 use Rattle.hc_exch.specs.Known as known
-use Rattle.hc_exch.specs.Known.{Known, seen, EndsBelow}
+use Rattle.hc_exch.specs.Known.{Known, open_view, EndsBelow}
 use Rattle.hc_exch.specs.declared.row.Open.{Open}
 use Rattle.hc_model.specs.Denials.{denial, as_open}
-use Rattle.hc_model.specs.Entries.{unanswered}
+use Rattle.hc_model.specs.Entries.{entry_without_acts}
 use Rattle.hc_model.specs.ExchangeRows.{with_piece}
-use Rattle.hc_model.specs.Exchanges.{family, promised, base}
+use Rattle.hc_model.specs.Exchanges.{family, promised_bytes, base}
 use Rattle.hc_model.specs.Lawful.{Lawful}
 use Rattle.hc_model.specs.Rows as rows
 use Rattle.hc_model.specs.Rows.{Tables, Exchange, Representation}
@@ -36,7 +36,7 @@ use Rattle.hc_state.specs.Stops.{body_of, brought_by}
 use Rattle.hc_state.specs.Stored.{KeepsEntry}
 use Rattle.hc_on_leave.proofs.AnswerArm.{known_here}
 use Rattle.hc_state.proofs.Answering.{does_answered}
-use Rattle.hc_state.proofs.Asides.{held_alike, same}
+use Rattle.hc_state.proofs.Fallbacks.{held_alike, same}
 use Rattle.hc_on_leave.proofs.HeardRows.{heard_row}
 use Rattle.hc_state.proofs.Maps.{merely_below}
 use Rattle.hc_on_leave.proofs.PieceRows.{s, z, IsLike, like_same, stands_pieced}
@@ -60,7 +60,7 @@ not_overlong None got p none is = none_some p is
 not_overlong (Some q) got p none is = let same_p : q ≡ p = some_is q p is in rw (← same_p) (within q got _ none)
 
 -- it has a head, and brings no more than that promised
-pub not_too_long : (o : Open) (n : ℕ) → piece_refusal (Some (seen o)) n ≡ None → (o.headed ≡ true) × (0 < n) × ((p : ℕ) → o.promised ≡ Some p → o.delivered + n ≤ p)
+pub not_too_long : (o : Open) (n : ℕ) → piece_refusal (Some (open_view o)) n ≡ None → (o.headed ≡ true) × (0 < n) × ((p : ℕ) → o.promised ≡ Some p → o.delivered + n ≤ p)
 not_too_long o n none =
     let first = test_off (not o.headed) _ _ none in
     let second = test_off (not o.asked) _ _ first.1 in
@@ -68,20 +68,20 @@ not_too_long o n none =
     let off = third.0 in
     (on_by o.headed first.0, grind (arith, nat_tests, off), λ p is. not_overlong o.promised (o.delivered + n) p third.1 is)
 
-pub piece_below : {B : Type 0} {g : Ghosts B} (r : Rows B g) (t : Tables) (facts : Facts r.limits t) (x n : ℕ) (o : Open) → RowsStand r t → (table_of r.exchanges x).running ≡ Some o → r.received + n < 2 ^ 61 → piece_refusal (Some (seen o)) n ≡ None → o.base + o.delivered + n < 2 ^ 62 + 1
+pub piece_below : {B : Type 0} {g : Ghosts B} (r : Rows B g) (t : Tables) (facts : Facts r.limits t) (x n : ℕ) (o : Open) → RowsStand r t → (table_of r.exchanges x).running ≡ Some o → r.received + n < 2 ^ 61 → piece_refusal (Some (open_view o)) n ≡ None → o.base + o.delivered + n < 2 ^ 62 + 1
 piece_below r t facts x n o stands running small none =
     let allowed = not_too_long o n none in
     let h = heard_row r t x o stands running in
     let w = h.w in
-    by_promise w (promised w) refl h.is.delivered h.is.base_is (facts.law.places.received x w h.row) (λ p is. allowed.2 p (h.is.promised_is ∙ is)) stands.received (λ none. facts.numbers.unpromised x w h.row none) (λ p is. facts.numbers.promises x p w h.row is)
+    by_promise w (promised_bytes w) refl h.is.delivered h.is.base_is (facts.law.places.received x w h.row) (λ p is. allowed.2 p (h.is.promised_is ∙ is)) stands.received (λ none. facts.numbers.unpromised x w h.row none) (λ p is. facts.numbers.promises x p w h.row is)
   where
-    by_promise : (w : Exchange) (p : Option ℕ) → promised w ≡ p → o.delivered ≡ length w.body → o.base ≡ base w → length w.body ≤ t.received → ((m : ℕ) → promised w ≡ Some m → o.delivered + n ≤ m) → t.received ≤ r.received + most_before
-        → (promised w ≡ None → base w ≡ 0) → ((m : ℕ) → promised w ≡ Some m → base w + m ≤ 2 ^ 62) → o.base + o.delivered + n < 2 ^ 62 + 1
+    by_promise : (w : Exchange) (p : Option ℕ) → promised_bytes w ≡ p → o.delivered ≡ length w.body → o.base ≡ base w → length w.body ≤ t.received → ((m : ℕ) → promised_bytes w ≡ Some m → o.delivered + n ≤ m) → t.received ≤ r.received + most_before
+        → (promised_bytes w ≡ None → base w ≡ 0) → ((m : ℕ) → promised_bytes w ≡ Some m → base w + m ≤ 2 ^ 62) → o.base + o.delivered + n < 2 ^ 62 + 1
     by_promise w None is came begins got fits all start most = let zero : base w ≡ 0 = start is in omega (arith, zero, came, begins, got, small, all)
     by_promise w (Some m) is came begins got fits all start most = let le = fits m is in let reach = most m is in omega (arith, le, reach, begins)
 
 -- what the counts of an exchange need
-pub ends_below : {B : Type 0} {g : Ghosts B} (r : Rows B g) (x n : ℕ) → ∥ Stands r ∥₁ → r.received + n < 2 ^ 61 → (running : Option Open) → (table_of r.exchanges x).running ≡ running → piece_refusal (option_map seen running) n ≡ None → EndsBelow n running
+pub ends_below : {B : Type 0} {g : Ghosts B} (r : Rows B g) (x n : ℕ) → ∥ Stands r ∥₁ → r.received + n < 2 ^ 61 → (running : Option Open) → (table_of r.exchanges x).running ≡ running → piece_refusal (option_map open_view running) n ≡ None → EndsBelow n running
 ends_below r x n some small None is none = tt
 ends_below r x n some small (Some o) is none =
     let below : o.base + o.delivered + n < 2 ^ 62 + 1 = merely_below (o.base + o.delivered + n) (2 ^ 62 + 1) some (λ p. piece_below r p.t p.facts x n o p.rows is small none) in
@@ -188,7 +188,7 @@ module _ {B : Type 0} {g : Ghosts B} (r u : Rows B g) (t : Tables) (facts : Fact
   past_answered before =
       does_answered r.limits (shelf_of r.entries).faults u t after before before [] now (event.Piece x bytes) (does.past r.limits t facts.law now x bytes b.w b.row goes none) unwritten refl (sym (append-nil before)) past_stands
     where
-      unwritten : write_in t (unanswered now (event.Piece x bytes)) (event.Piece x bytes) ≡ None
+      unwritten : write_in t (entry_without_acts now (event.Piece x bytes)) (event.Piece x bytes) ≡ None
       unwritten =
           let at = b.row in
           let gone = none in

@@ -3,7 +3,7 @@ use Rattle.std.proofs.Common.{◌≡◌, ℕ, ◌+◌, ◌<◌, ◌≤◌, ◌^�
 use Rattle.std.proofs.lemmas.Bool.Decides.{nat_tests}
 use Rattle.std.specs.Prelude.{nat_lt, nat_le, option_map, ◌&&◌, ◌↔◌, IsTrue, if◌then◌else◌}
 use Rattle.hc_record.specs.declared.kind.Kind.TheVariants as kind
-use Rattle.hc_sparse.specs.Cells.{Covers, inside, written}
+use Rattle.hc_sparse.specs.Cells.{Covers, inside, cells_with}
 use Rattle.hc_sparse.proofs.SizeLemmas.{size-le}
 use Rattle.hc_stored.specs.declared.view.EntryView.{EntryView}
 use Rattle.hc_stored.specs.Kept.{Kept}
@@ -11,7 +11,7 @@ use Rattle.hc_stored.specs.Shelf.{Shelf, cells_in, cells_at}
 use Rattle.hc_stored.specs.Views.{view_of}
 use Rattle.hc_model.specs.Kinds.{is_complete, is_front}
 use Rattle.hc_model.specs.Rows.{Representation}
-use Rattle.hc_state.specs.Pieces.{grown}
+use Rattle.hc_state.specs.Pieces.{larger_view}
 use Rattle.hc_state.specs.Stops.{IsTold, kind_left}
 use Rattle.hc_state.proofs.StoredKinds.{complete_as, incomplete_as, front_as}
 use Rattle.hc_state.proofs.Words.{none_some, some_is}
@@ -37,20 +37,20 @@ none_told (Some n) off = absurd (off n refl)
 
 -- ITS KIND
 
-module _ (s : Shelf) (r at x count : ℕ) (bytes : List ℕ) (v : Representation) (k : Kept) (same : length bytes ≡ count) (kept : s.kept r ≡ Some k) (is : IsTold v (written at x bytes k.cells) (grown count (view_of k))) where
-  covered : (b : Bool) (end : ℕ) → ((x : ℕ) (bytes : List ℕ) → length bytes ≡ count → IsTrue b ↔ Covers (written at x bytes (cells_at s r)) 0 end) → IsTrue b ↔ Covers (written at x bytes k.cells) 0 end
-  covered b end tells = subst (λ (o : Option Kept). IsTrue b ↔ Covers (written at x bytes (λ p. cells_in o p)) 0 end) kept (tells x bytes same)
+module _ (s : Shelf) (r at x count : ℕ) (bytes : List ℕ) (v : Representation) (k : Kept) (same : length bytes ≡ count) (kept : s.kept r ≡ Some k) (is : IsTold v (cells_with at x bytes k.cells) (larger_view count (view_of k))) where
+  covered : (b : Bool) (end : ℕ) → ((x : ℕ) (bytes : List ℕ) → length bytes ≡ count → IsTrue b ↔ Covers (cells_with at x bytes (cells_at s r)) 0 end) → IsTrue b ↔ Covers (cells_with at x bytes k.cells) 0 end
+  covered b end tells = subst (λ (o : Option Kept). IsTrue b ↔ Covers (cells_with at x bytes (λ p. cells_in o p)) 0 end) kept (tells x bytes same)
 
-  pub complete_with : (b : Bool) (total : ℕ) → k.head.total ≡ Some total → ((x : ℕ) (bytes : List ℕ) → length bytes ≡ count → IsTrue b ↔ Covers (written at x bytes (cells_at s r)) 0 total) → b ≡ is_complete v
-  complete_with b total known tells = complete_as v (written at x bytes k.cells) (grown count (view_of k)) is b total known (covered b total tells)
+  pub complete_with : (b : Bool) (total : ℕ) → k.head.total ≡ Some total → ((x : ℕ) (bytes : List ℕ) → length bytes ≡ count → IsTrue b ↔ Covers (cells_with at x bytes (cells_at s r)) 0 total) → b ≡ is_complete v
+  complete_with b total known tells = complete_as v (cells_with at x bytes k.cells) (larger_view count (view_of k)) is b total known (covered b total tells)
 
   pub incomplete_with : k.head.total ≡ None → false ≡ is_complete v
-  incomplete_with none = incomplete_as v (written at x bytes k.cells) (grown count (view_of k)) is none
+  incomplete_with none = incomplete_as v (cells_with at x bytes k.cells) (larger_view count (view_of k)) is none
 
-  pub front_with : (b : Bool) (end : ℕ) → 0 < end → end ≡ (view_of k).size + count → ((x : ℕ) (bytes : List ℕ) → length bytes ≡ count → IsTrue b ↔ Covers (written at x bytes (cells_at s r)) 0 end) → b ≡ is_front v
+  pub front_with : (b : Bool) (end : ℕ) → 0 < end → end ≡ (view_of k).size + count → ((x : ℕ) (bytes : List ℕ) → length bytes ≡ count → IsTrue b ↔ Covers (cells_with at x bytes (cells_at s r)) 0 end) → b ≡ is_front v
   front_with b end some grows tells =
-      front_as v (written at x bytes k.cells) (grown count (view_of k)) is b (subst (λ n. 0 < n) grows some)
-      (subst (λ (n : ℕ). IsTrue b ↔ Covers (written at x bytes k.cells) 0 n) grows (covered b end tells))
+      front_as v (cells_with at x bytes k.cells) (larger_view count (view_of k)) is b (subst (λ n. 0 < n) grows some)
+      (subst (λ (n : ℕ). IsTrue b ↔ Covers (cells_with at x bytes k.cells) 0 n) grows (covered b end tells))
 
 pub is_whole : (v : Representation) → is_complete v ≡ true → kind.Whole ≡ kind_left v
 is_whole v on = rw on refl

@@ -17,7 +17,7 @@ use Rattle.hc_model.specs.Contents as contents
 use Rattle.hc_model.specs.Contents.{idle_now}
 use Rattle.hc_model.specs.Currents.{is_current}
 use Rattle.hc_model.specs.Denials.{denial}
-use Rattle.hc_model.specs.Entries.{Entry, unanswered}
+use Rattle.hc_model.specs.Entries.{Entry, entry_without_acts}
 use Rattle.hc_model.specs.Evictions.{outlasts, outlasts_row}
 use Rattle.hc_model.specs.Exchanges.{family}
 use Rattle.hc_model.specs.Flaws.{NoFlaw}
@@ -104,7 +104,7 @@ may_make_room t facts small = record {
 
 module _ (limits : Limits) (t : Tables) (law : Lawful t) (now x : ℕ) (bytes : List ℕ) (goes : denial t (event.Piece x bytes) ≡ None) (w : Exchange) (row : t.exchange x ≡ Some w) where
   abbrev e : Entry
-  e = unanswered now (event.Piece x bytes)
+  e = entry_without_acts now (event.Piece x bytes)
 
   -- a piece lets nothing go by itself
   stays : (q : ℕ) (p : Representation) → goes_itself t e q p ≡ false

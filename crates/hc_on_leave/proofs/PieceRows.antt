@@ -21,9 +21,9 @@ use Rattle.hc_event.specs.declared.place.Place.{Place}
 use Rattle.hc_event.specs.declared.place.Place.TheVariants as place
 use Rattle.hc_event.specs.declared.place.BoundBy.TheVariants as by
 use Rattle.hc_model.specs.Currents.{current, is_usable, total_in}
-use Rattle.hc_model.specs.Effects.{counted, with_exchange}
+use Rattle.hc_model.specs.Effects.{with_event, with_exchange}
 use Rattle.hc_model.specs.ExchangeRows.{with_piece}
-use Rattle.hc_model.specs.Exchanges.{family, promised, is_reached, is_headless}
+use Rattle.hc_model.specs.Exchanges.{family, promised_bytes, is_reached, is_headless}
 use Rattle.hc_model.specs.Kinds.{is_growing, brings_to}
 use Rattle.hc_model.specs.Reading.{base_in, end_in, end_of_direct}
 use Rattle.hc_model.specs.Rows as rows
@@ -65,7 +65,7 @@ none_is (Some a) h = refl
 module _ (t : Tables) (now x : ℕ) (w : Exchange) (bytes : List ℕ) (vs : ℕ → Option Representation) where
   -- it brought these bytes, and of representations this is said
   abbrev pub s : Tables
-  s = counted now (event.Piece x bytes) (record (with_exchange x (Some (with_piece bytes w)) t) { representation = vs })
+  s = with_event now (event.Piece x bytes) (record (with_exchange x (Some (with_piece bytes w)) t) { representation = vs })
 
   abbrev pub z : Exchange
   z = with_piece bytes w
@@ -94,7 +94,7 @@ module _ (t : Tables) (now x : ℕ) (w : Exchange) (bytes : List ℕ) (vs : ℕ 
     sees unended like = record {
       head = told head_in refl;
       begins = told base_in refl;
-      ends = told end_in (ends_so unended (promised w));
+      ends = told end_in (ends_so unended (promised_bytes w));
       length = λ q. (like q).total;
     }
 
@@ -171,13 +171,13 @@ module _ (t : Tables) (now x : ℕ) (w : Exchange) (bytes : List ℕ) (vs : ℕ 
       count_is : o.delivered + length bytes ≡ length (w.body ++ bytes)
       count_is = ap (λ n. n + length bytes) is.delivered ∙ sym (length-append w.body bytes)
 
-      pub last_is : is_last_of (Some o) (length bytes) ≡ is_reached (promised w) (length (w.body ++ bytes))
-      last_is = ap₂ is_all is.promised_is count_is ∙ all_reached (promised w) (length (w.body ++ bytes))
+      pub last_is : is_last_of (Some o) (length bytes) ≡ is_reached (promised_bytes w) (length (w.body ++ bytes))
+      last_is = ap₂ is_all is.promised_is count_is ∙ all_reached (promised_bytes w) (length (w.body ++ bytes))
 
       abbrev role_with : Bool → Role
       role_with founded = if is_none w.head then role_awaited (route_of w.need) w.aim else if founded then role.Body (family x w) else role.Direct
 
-      running_after : (b : Bool) → is_reached (promised w) (length (w.body ++ bytes)) ≡ b → KeepsRunning s x (cond b None (Some (record o { delivered = o.delivered + length bytes; asked = false }))) (Some z)
+      running_after : (b : Bool) → is_reached (promised_bytes w) (length (w.body ++ bytes)) ≡ b → KeepsRunning s x (cond b None (Some (record o { delivered = o.delivered + length bytes; asked = false }))) (Some z)
       running_after true reached = rw reached refl
       running_after false reached = record {
         is_open = rw reached opened;
@@ -196,7 +196,7 @@ module _ (t : Tables) (now x : ℕ) (w : Exchange) (bytes : List ℕ) (vs : ℕ 
       -- what is known of it then
       pub known_pieced : (k : Known) (hold : Bool) → k.running ≡ Some o → (known.with_piece bytes hold k).held ≡ held_for s x (Some z) → KeepsExchange s x (known.with_piece bytes hold k)
       known_pieced k hold running held = record {
-        running = rw (running, last_is, eqb-same x) (running_after (is_reached (promised w) (length (w.body ++ bytes))) refl);
+        running = rw (running, last_is, eqb-same x) (running_after (is_reached (promised_bytes w) (length (w.body ++ bytes))) refl);
         held = held ∙ ap (held_for s x) (sym here);
       }
 

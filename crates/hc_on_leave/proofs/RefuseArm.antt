@@ -13,7 +13,7 @@ use Rattle.hc_exch.specs.Exchanges as exch
 use Rattle.hc_exch.specs.Known as known
 use Rattle.hc_exch.specs.Known.{Known, length_by}
 use Rattle.hc_event.specs.declared.place.Place.TheVariants as place
-use Rattle.hc_model.specs.Effects.{with_answer, with_exchange, answered, over, closed, all_closed, unless_ended}
+use Rattle.hc_model.specs.Effects.{with_answer, with_exchange, exchange_with_head, over, tables_after_close, all_closed, unless_ended}
 use Rattle.hc_model.specs.ExchangeRows.{promise_in}
 use Rattle.hc_model.specs.Exchanges.{is_reached}
 use Rattle.hc_model.specs.Rows as rows
@@ -31,7 +31,7 @@ use Rattle.hc_state.proofs.Ties.{consumer_same}
 use Rattle.hc_state.proofs.Words.{same_or, eqb-same, eqb-other, as_received}
 
 module _ {B : Type 0} {g : Ghosts B} (r u : Rows B g) (t : Tables) (x : ℕ) (w z : Exchange) (stands : RowsStand r t) (unused : IsUnread t x w) (shut : z.is_open ≡ false) (empty : z.body ≡ []) (unjoined : z.joined ≡ None)
-    (rest : KeepsRest r u) (consumers : u.consumers ≡ r.consumers) (becomes : exch.Becomes known.closed x r.exchanges u.exchanges) where
+    (rest : KeepsRest r u) (consumers : u.consumers ≡ r.consumers) (becomes : exch.Becomes known.without_exchange x r.exchanges u.exchanges) where
   abbrev s : Tables
   s = with_exchange x (Some z) t
 
@@ -61,7 +61,7 @@ module _ {B : Type 0} {g : Ghosts B} (r u : Rows B g) (t : Tables) (x : ℕ) (w 
 
   exchange_shut : KeepsExchange s x (table_of u.exchanges x)
   exchange_shut =
-      let known_then = known_here known.closed x r.exchanges u.exchanges becomes in
+      let known_then = known_here known.without_exchange x r.exchanges u.exchanges becomes in
       record {
         running = subst (λ (k : Known). KeepsRunning s x k.running (s.exchange x)) (sym known_then) (subst (KeepsRunning s x None) (sym s_here) shut);
         held = ap (λ (k : Known). k.held) known_then
@@ -74,7 +74,7 @@ module _ {B : Type 0} {g : Ghosts B} (r u : Rows B g) (t : Tables) (x : ℕ) (w 
   pub stands_shut : RowsStand u s
   stands_shut =
       stands_then r u t s w.c x (get nat_eq r.consumers w.c) stands rest.limits (as_received rest.received stands.received) (rest.last_start ∙ stands.last_start) (becomes.next ∙ stands.next)
-      (rw consumers stands.count) stays (λ y ne. known_other known.closed x y r.exchanges u.exchanges becomes ne) (λ d ne. refl) s_other (λ q. refl)
+      (rw consumers stands.count) stays (λ y ne. known_other known.without_exchange x y r.exchanges u.exchanges becomes ne) (λ d ne. refl) s_other (λ q. refl)
       (consumer_same t s (get nat_eq r.consumers w.c) (t.consumer w.c) (λ k row. record { past = λ y at. past_same w.c y k row at; length = λ q lo hi how at. refl }) (stands.consumers w.c))
       exchange_shut (let same_keys = rest.keys in λ key. rw same_keys (key_heard t x w z bare unjoined key _ (stands.keys key)))
       (λ d k ne row at. unused.unread d k row at) (λ y e ne row. held_else t x w z bare unjoined y e)
@@ -83,24 +83,24 @@ module _ {B : Type 0} {g : Ghosts B} (r u : Rows B g) (t : Tables) (x : ℕ) (w 
 
 -- IT IS OVER WITH ITS HEAD, OR CLOSED
 
-closed_twice : (t : Tables) (x : ℕ) (a : Exchange) → closed x (with_exchange x (Some a) t) ≡ with_exchange x (Some (over a)) t
+closed_twice : (t : Tables) (x : ℕ) (a : Exchange) → tables_after_close x (with_exchange x (Some a) t) ≡ with_exchange x (Some (over a)) t
 closed_twice t x a =
-    let rows : (closed x (with_exchange x (Some a) t)).exchange ≡ (with_exchange x (Some (over a)) t).exchange = same_functions _ _ by_number in
+    let rows : (tables_after_close x (with_exchange x (Some a) t)).exchange ≡ (with_exchange x (Some (over a)) t).exchange = same_functions _ _ by_number in
     λ i. record (with_exchange x (Some (over a)) t) { exchange = rows i }
   where
-    by_number : (y : ℕ) → (closed x (with_exchange x (Some a) t)).exchange y ≡ (with_exchange x (Some (over a)) t).exchange y
+    by_number : (y : ℕ) → (tables_after_close x (with_exchange x (Some a) t)).exchange y ≡ (with_exchange x (Some (over a)) t).exchange y
     by_number y = elim (same_or x y) [
       | inl e ↦ rw (e, eqb-same y) refl
       | inr ne ↦ rw (eqb-other x y ne) refl
     ]
 
 module _ {B : Type 0} {g : Ghosts B} (r u : Rows B g) (t : Tables) (now x : ℕ) (response : Response) (w : Exchange) (stands : RowsStand r t) (unused : IsUnread t x w)
-    (rest : KeepsRest r u) (consumers : u.consumers ≡ r.consumers) (becomes : exch.Becomes known.closed x r.exchanges u.exchanges) where
+    (rest : KeepsRest r u) (consumers : u.consumers ≡ r.consumers) (becomes : exch.Becomes known.without_exchange x r.exchanges u.exchanges) where
   by_test : (b : Bool) → is_reached (promise_in w response) 0 ≡ b → RowsStand u (all_closed (if b then [] else x ∷ []) (with_answer now x response w.joined w t))
-  by_test true reached = stands_shut r u t x w (answered now response w.joined w) stands unused (rw reached refl) unused.bare.empty unused.bare.unjoined rest consumers becomes
+  by_test true reached = stands_shut r u t x w (exchange_with_head now response w.joined w) stands unused (rw reached refl) unused.bare.empty unused.bare.unjoined rest consumers becomes
   by_test false reached =
-      subst (RowsStand u) (sym (closed_twice t x (answered now response w.joined w)))
-      (stands_shut r u t x w (over (answered now response w.joined w)) stands unused refl unused.bare.empty unused.bare.unjoined rest consumers becomes)
+      subst (RowsStand u) (sym (closed_twice t x (exchange_with_head now response w.joined w)))
+      (stands_shut r u t x w (over (exchange_with_head now response w.joined w)) stands unused refl unused.bare.empty unused.bare.unjoined rest consumers becomes)
 
   pub stands_refused : RowsStand u (all_closed (unless_ended x response w) (with_answer now x response w.joined w t))
   stands_refused = by_test (is_reached (promise_in w response) 0) refl

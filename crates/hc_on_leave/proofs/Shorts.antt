@@ -9,7 +9,7 @@ use Rattle.hc_stored.specs.Entries.{shelf_of}
 use Rattle.hc_stored.specs.Kept.{Kept}
 use Rattle.hc_stored.specs.Shelf.{Shelf}
 use Rattle.hc_stored.specs.Views.{view_of}
-use Rattle.hc_model.specs.Effects.{with_consumer, finished}
+use Rattle.hc_model.specs.Effects.{with_consumer, as_over}
 use Rattle.hc_model.specs.Lawful.{Lawful}
 use Rattle.hc_model.specs.Rows as rows
 use Rattle.hc_model.specs.Rows.{Tables, Representation}
@@ -48,12 +48,12 @@ shorts_here r some small q n k at known = merely_below n (2 ^ 62) some (λ s.
 
 -- once a consumer is gone
 pub shorts_left : {B : Type 0} {g : Ghosts B} (r u : Rows B g) (c : ℕ) → ∥ Stands r ∥₁ → is_some (get nat_eq r.consumers c) ≡ true → r.received < 2 ^ 61
-    → ((t : Tables) (k : rows.Consumer) → Lawful t → t.consumer c ≡ Some k → RowsStand r t → RowsStand u (with_consumer c (Some (finished k)) t)) → TellsShort (shelf_of u.entries)
+    → ((t : Tables) (k : rows.Consumer) → Lawful t → t.consumer c ≡ Some k → RowsStand r t → RowsStand u (with_consumer c (Some (as_over k)) t)) → TellsShort (shelf_of u.entries)
 shorts_left r u c some lives small leaves q n k at known = merely_below n (2 ^ 62) some (λ s.
     let t : Tables = s.t in
     let facts = s.facts in
     let v = live_row r t c lives s.rows in
-    shorts r u t (with_consumer c (Some (finished v.0)) t) facts s.rows small refl (leaves t v.0 facts.law v.1 s.rows) q n k at known)
+    shorts r u t (with_consumer c (Some (as_over v.0)) t) facts s.rows small refl (leaves t v.0 facts.law v.1 s.rows) q n k at known)
 
 -- what is told of what is kept
 pub view_short : (s : Shelf) (q : ℕ) (o : Option EntryView) (entry : EntryView) → TellsShort s → o ≡ option_map view_of (s.kept q) → o ≡ Some entry → IfSome entry.total (λ n. n < 2 ^ 62)

@@ -3,7 +3,7 @@ use Rattle.std.proofs.Common.{◌≡◌, ◌≢◌, inl, inr, ℕ, ◌+◌, ◌<
 use Rattle.std.proofs.lemmas.Bool.Decides.{nat_tests}
 use Rattle.std.specs.Prelude.{is_some, nat_eq, nat_lt, nat_le, not, map, option_map, ◌&&◌, if◌then◌else◌}
 use Rattle.hc_store.specs.declared.backend.Backend.{Ghosts}
-use Rattle.hc_sparse.specs.Cells.{Cell, Cells, AreAbsent, EndsBy, inside, written, size}
+use Rattle.hc_sparse.specs.Cells.{Cell, Cells, AreAbsent, EndsBy, inside, cells_with, size}
 use Rattle.hc_record.specs.declared.kind.Kind.{Kind}
 use Rattle.hc_event.specs.declared.act.Act.{Act}
 use Rattle.hc_event.specs.declared.event.Event.TheVariants as event
@@ -19,24 +19,24 @@ use Rattle.hc_stored.specs.Entries.{shelf_of}
 use Rattle.hc_stored.specs.Kept as entry
 use Rattle.hc_stored.specs.Kept.{Kept}
 use Rattle.hc_stored.specs.Shelf as shelf
-use Rattle.hc_stored.specs.Shelf.{is_kept, size_at, cells_in, cells_at, unmoved}
+use Rattle.hc_stored.specs.Shelf.{is_kept, size_at, cells_in, cells_at, same_order}
 use Rattle.hc_stored.specs.Views.{view_of}
 use Rattle.hc_exch.specs.Exchanges as exch
 use Rattle.hc_exch.specs.Exchanges.{table_of}
 use Rattle.hc_exch.specs.Known as known
-use Rattle.hc_exch.specs.Known.{is_open, is_last_of, seen}
+use Rattle.hc_exch.specs.Known.{is_open, is_last_of, open_view}
 use Rattle.hc_exch.specs.declared.row.Open.{Open}
 use Rattle.hc_model.specs.Denials.{denial}
 use Rattle.hc_model.specs.Effects.{let_all_go}
 use Rattle.hc_model.specs.ExchangeRows.{with_piece}
-use Rattle.hc_model.specs.Exchanges.{family, front, promised, is_reached}
+use Rattle.hc_model.specs.Exchanges.{family, front, promised_bytes, is_reached}
 use Rattle.hc_model.specs.LettingGo as going
 use Rattle.hc_model.specs.LettingGo.{MayMakeRoom, giving_way, room_now, weight_now, weights_now}
 use Rattle.hc_event.specs.declared.place.Place.{Place}
 use Rattle.hc_event.specs.declared.place.Place.TheVariants as place
 use Rattle.hc_model.specs.Contents.{idle_now}
 use Rattle.hc_model.specs.Reading.{bound, is_bound}
-use Rattle.hc_model.specs.RepresentationRows.{filled}
+use Rattle.hc_model.specs.RepresentationRows.{with_stored_bytes}
 use Rattle.hc_model.specs.Rows.{Tables, Exchange, Representation, Consumer}
 use Rattle.hc_model.specs.Runs.{has_room}
 use Rattle.hc_model.specs.Sound as sound
@@ -47,7 +47,7 @@ use Rattle.hc_model.proofs.SameTables.{is_in, back_from_any, without, all_go_is}
 use Rattle.hc_state.specs.declared.rows.Rows.{Rows}
 use Rattle.hc_state.specs.Facts.{Facts}
 use Rattle.hc_state.specs.Kept.{IsRunning}
-use Rattle.hc_state.specs.Pieces.{unless_lost, stored_at, stored_by, grown, IsLastKind, PutsPiece}
+use Rattle.hc_state.specs.Pieces.{unless_lost, stored_at, stored_by, larger_view, IsLastKind, PutsPiece}
 use Rattle.hc_state.specs.Room.{GivesWay}
 use Rattle.hc_state.specs.Stands.{Answered, Answers, RowsStand, Stands, open_at}
 use Rattle.hc_state.specs.Stops.{brought_by, IsTold}
@@ -129,7 +129,7 @@ none_by None body same none = refl
 none_by (Some cell) body same none = same refl ∙ none
 
 -- nothing stands past its end
-ends_then : (f : Cells) (reach at x : ℕ) (bytes : List ℕ) (p : ℕ) → EndsBy reach f → max reach (at + length bytes) ≤ p → written at x bytes f p ≡ None
+ends_then : (f : Cells) (reach at x : ℕ) (bytes : List ℕ) (p : ℕ) → EndsBy reach f → max reach (at + length bytes) ≤ p → cells_with at x bytes f p ≡ None
 ends_then f reach at x bytes p ends past =
     let behind : at + length bytes ≤ p = omega (arith, past) in
     let low : reach ≤ p = omega (arith, past) in
@@ -256,13 +256,13 @@ module _ {B : Type 0} {g : Ghosts B} (r mid put u : Rows B g) (t : Tables) (fact
   -- WHERE THE STORE TOOK IT
 
   abbrev v2 : Representation
-  v2 = filled true (front w) x bytes v
+  v2 = with_stored_bytes true (front w) x bytes v
 
-  told : IsTold v2 (written (runs.o.base + runs.o.delivered) x bytes second.k.cells) (grown (length bytes) (view_of second.k))
+  told : IsTold v2 (cells_with (runs.o.base + runs.o.delivered) x bytes second.k.cells) (larger_view (length bytes) (view_of second.k))
   told = record {
     total = tells mid u r.limits t facts now x bytes goes w v it.row it.taken.is_open it.taken.headed it.taken.some it.taken.fits it.there it.fresh es kept_apart second.k second.is.length;
     size = ap (λ n. n + length bytes) (stored_size r t facts (family x w) v second.k (without now es t) few it.there second.is);
-    stored = λ p. ap (λ n. written n x bytes second.k.cells p) at_front ∙ written_alike second.k.cells v.stored (front w) x bytes p (second.is.cells p);
+    stored = λ p. ap (λ n. cells_with n x bytes second.k.cells p) at_front ∙ written_alike second.k.cells v.stored (front w) x bytes p (second.is.cells p);
     ends = λ p past. ends_then v.stored v.reach (front w) x bytes p (λ n le. none_by (v.stored n) (v.body n) ((facts.law.sound.rows (family x w) v it.there).store.some_stored n) ((facts.law.sound.rows (family x w) v it.there).store.ends n le)) past;
   }
 
@@ -272,8 +272,8 @@ module _ {B : Type 0} {g : Ghosts B} (r mid put u : Rows B g) (t : Tables) (fact
       like_all : IsLike ((without now es t).representation (family x w)) ((without now es t).representation (family x w))
       like_all = like_same _ _ refl
 
-      over : is_reached (promised w) (length (w.body ++ bytes)) ≡ not (with_piece bytes w).is_open
-      over = (let opened = it.taken.is_open in rw opened (by_test (is_reached (promised w) (length (w.body ++ bytes)))))
+      over : is_reached (promised_bytes w) (length (w.body ++ bytes)) ≡ not (with_piece bytes w).is_open
+      over = (let opened = it.taken.is_open in rw opened (by_test (is_reached (promised_bytes w) (length (w.body ++ bytes)))))
         where
           by_test : (b : Bool) → b ≡ not (not b && true)
           by_test true = refl
@@ -287,9 +287,9 @@ module _ {B : Type 0} {g : Ghosts B} (r mid put u : Rows B g) (t : Tables) (fact
     kind_is : IsLastKind (not (with_piece bytes w).is_open) v2 puts_here.last
     kind_is = last_then puts_here.last (puts_here.kind second.k v2 second.kept told)
 
-    fills : shelf.Becomes (option_map (entry.filled (front w) x bytes puts_here.last)) unmoved (family x w) (shelf_of mid.entries) (shelf_of u.entries)
-    fills = subst (λ e. shelf.Becomes (option_map (entry.filled (front w) x bytes puts_here.last)) unmoved (family x w) (shelf_of mid.entries) (shelf_of e)) (sym u_entries)
-        (subst (λ n. shelf.Becomes (option_map (entry.filled n x bytes puts_here.last)) unmoved (family x w) (shelf_of mid.entries) (shelf_of put.entries)) at_front puts_here.fills)
+    fills : shelf.Becomes (option_map (entry.kept_with_bytes (front w) x bytes puts_here.last)) same_order (family x w) (shelf_of mid.entries) (shelf_of u.entries)
+    fills = subst (λ e. shelf.Becomes (option_map (entry.kept_with_bytes (front w) x bytes puts_here.last)) same_order (family x w) (shelf_of mid.entries) (shelf_of e)) (sym u_entries)
+        (subst (λ n. shelf.Becomes (option_map (entry.kept_with_bytes n x bytes puts_here.last)) same_order (family x w) (shelf_of mid.entries) (shelf_of put.entries)) at_front puts_here.fills)
 
     had_room : has_room (room_for r.limits t now (event.Piece x bytes)) ≡ true
     had_room =
@@ -368,7 +368,7 @@ module _ {B : Type 0} {g : Ghosts B} (r mid put u : Rows B g) (t : Tables) (fact
 
 -- BEFORE THE STORE IS ASKED
 
-pub accepted_open : (running : Option Open) (n : ℕ) → piece_refusal (option_map seen running) n ≡ None → (is_some running ≡ true) × (0 < n)
+pub accepted_open : (running : Option Open) (n : ℕ) → piece_refusal (option_map open_view running) n ≡ None → (is_some running ≡ true) × (0 < n)
 accepted_open None n none = none_some _ (sym none)
 accepted_open (Some o) n none = (refl, (not_too_long o n none).1)
 

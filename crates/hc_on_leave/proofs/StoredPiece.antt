@@ -5,7 +5,7 @@ use Rattle.std.specs.Prelude.{is_some, is_none, nat_eq, nat_lt, not, slice_index
 use Rattle.std.specs.List.{list_any}
 use Rattle.hc_store.specs.declared.backend.Backend.{Ghosts}
 use Rattle.hc_store.specs.Heads.{with_kind}
-use Rattle.hc_sparse.specs.Cells.{Cell, Cells, Covers, inside, written}
+use Rattle.hc_sparse.specs.Cells.{Cell, Cells, Covers, inside, cells_with}
 use Rattle.hc_record.specs.Head.{Head, sealed_head}
 use Rattle.hc_record.specs.declared.kind.Kind.{Kind}
 use Rattle.hc_record.specs.declared.kind.Kind.TheVariants as kinds
@@ -18,16 +18,16 @@ use Rattle.hc_stored.specs.Entries.{shelf_of}
 use Rattle.hc_stored.specs.Kept as entry
 use Rattle.hc_stored.specs.Kept.{Kept}
 use Rattle.hc_stored.specs.Shelf as shelf
-use Rattle.hc_stored.specs.Shelf.{unmoved}
+use Rattle.hc_stored.specs.Shelf.{same_order}
 use Rattle.hc_exch.specs.Exchanges as exch
 use Rattle.hc_exch.specs.Exchanges.{table_of}
 use Rattle.hc_exch.specs.Known as known
 use Rattle.hc_rules.specs.Refusals.{overlong}
 use Rattle.hc_rules.specs.declared.room.Limits.{Limits}
 use Rattle.hc_model.specs.Denials.{denial}
-use Rattle.hc_model.specs.Effects.{counted, let_all_go, with_exchange, with_representation, gone}
+use Rattle.hc_model.specs.Effects.{with_event, let_all_go, with_exchange, with_representation, as_gone}
 use Rattle.hc_model.specs.ExchangeRows.{with_piece}
-use Rattle.hc_model.specs.Exchanges.{family, front, base, promised}
+use Rattle.hc_model.specs.Exchanges.{family, front, base, promised_bytes}
 use Rattle.hc_model.specs.Flaws.{NoFlaw, flaw_in}
 use Rattle.hc_model.specs.Growing.{Grows}
 use Rattle.hc_model.specs.Measures.{IsMeasured}
@@ -35,7 +35,7 @@ use Rattle.hc_model.specs.Measures as measures
 use Rattle.hc_model.specs.Kinds as stored_kinds
 use Rattle.hc_model.specs.Kinds.{kind_of, is_growing, brings_to, is_complete, is_front}
 use Rattle.hc_model.specs.Reading.{bound}
-use Rattle.hc_model.specs.RepresentationRows.{filled}
+use Rattle.hc_model.specs.RepresentationRows.{with_stored_bytes}
 use Rattle.hc_model.specs.Rows as rows
 use Rattle.hc_model.specs.Rows.{Tables, Exchange, Representation}
 use Rattle.hc_model.specs.Runs.{has_room}
@@ -53,7 +53,7 @@ use Rattle.hc_state.specs.Pieces.{IsLastKind, more, ends}
 use Rattle.hc_state.specs.Stands.{Answered, RowsStand}
 use Rattle.hc_state.specs.Stops.{kind_left}
 use Rattle.hc_state.specs.Stored.{IsEntry, TellsLength, told, untold, KeepsEntry}
-use Rattle.hc_state.proofs.Asides.{unstored_moved}
+use Rattle.hc_state.proofs.Fallbacks.{unstored_moved}
 use Rattle.hc_state.proofs.OneOfEach.{first_by}
 use Rattle.hc_on_leave.proofs.PieceArm.{Runs, runs_of, open_unended, not_overlong}
 use Rattle.hc_on_leave.proofs.PieceRows.{s, z, IsLike, like_same, grows_on, stands_pieced}
@@ -67,7 +67,7 @@ still_there : (a : Bool) (cell : Cell) (o : Option Cell) → is_some o ≡ true 
 still_there true cell o on = refl
 still_there false cell o on = on
 
-pub written_alike : (f h : Cells) (at x : ℕ) (bytes : List ℕ) (p : ℕ) → f p ≡ h p → written at x bytes f p ≡ written at x bytes h p
+pub written_alike : (f h : Cells) (at x : ℕ) (bytes : List ℕ) (p : ℕ) → f p ≡ h p → cells_with at x bytes f p ≡ cells_with at x bytes h p
 written_alike f h at x bytes p same =
     let cell : Cell = record { byte = slice_index bytes (p - at); x = x } in
     ap (λ (o : Option Cell). if inside at (length bytes) p then Some cell else o) same
@@ -89,14 +89,14 @@ total_alike : (last : Option Kind) (h : Head) → (with_kind last h).total ≡ h
 total_alike None h = refl
 total_alike (Some kind) h = refl
 
-module _ {B : Type 0} {g : Ghosts B} (mid u : Rows B g) (limits : Limits) (t : Tables) (facts : Facts limits t) (now x : ℕ) (bytes : List ℕ) (goes : denial t (event.Piece x bytes) ≡ None) (w : Exchange) (v : Representation) (row : t.exchange x ≡ Some w) (opened : w.is_open ≡ true) (headed : is_some w.head ≡ true) (some : 0 < length bytes) (fits : overlong (promised w) (length w.body + length bytes) ≡ None) (there : t.representation (family x w) ≡ Some v) (fresh : v.is_lost ≡ false)
+module _ {B : Type 0} {g : Ghosts B} (mid u : Rows B g) (limits : Limits) (t : Tables) (facts : Facts limits t) (now x : ℕ) (bytes : List ℕ) (goes : denial t (event.Piece x bytes) ≡ None) (w : Exchange) (v : Representation) (row : t.exchange x ≡ Some w) (opened : w.is_open ≡ true) (headed : is_some w.head ≡ true) (some : 0 < length bytes) (fits : overlong (promised_bytes w) (length w.body + length bytes) ≡ None) (there : t.representation (family x w) ≡ Some v) (fresh : v.is_lost ≡ false)
     (es : List ℕ) (spared : is_in es (family x w) ≡ false) where
   -- what is idle made room
   abbrev m : Tables
   m = without now es t
 
   abbrev v2 : Representation
-  v2 = filled true (front w) x bytes v
+  v2 = with_stored_bytes true (front w) x bytes v
 
   abbrev vs : ℕ → Option Representation
   vs q = if family x w == q then Some v2 else m.representation q
@@ -182,7 +182,7 @@ module _ {B : Type 0} {g : Ghosts B} (mid u : Rows B g) (limits : Limits) (t : T
 
       by_measure : IsMeasured w v → k.head.total ≡ v.head.total
       by_measure (measures.told most total is known within) =
-          let less : length w.body + length bytes ≤ most = not_overlong (promised w) (length w.body + length bytes) most fits is in
+          let less : length w.body + length bytes ≤ most = not_overlong (promised_bytes w) (length w.body + length bytes) most fits is in
           let one : total ≡ n.total = some_is total n.total (sym known ∙ n.known) in
           let came = n.came (front w) (omega arith) (omega (arith, less, one, within, some)) in
           false_true (sym (ap (λ (o : Option Cell). is_some o) absent) ∙ came)
@@ -230,7 +230,7 @@ module _ {B : Type 0} {g : Ghosts B} (mid u : Rows B g) (limits : Limits) (t : T
             let complete : is_complete v2 ≡ true = whole_only v2 (sym (ap (λ l. (with_kind l k.head).kind) some_kind) ∙ whole) in
             covers_all v2.stored v2.reach 0 n (ap (λ o. stored_kinds.covers_all v2 o) (sym known) ∙ complete)
 
-    entry_then : (k : Kept) → IsEntry m (family x w) k v → IsEntry after (family x w) (entry.filled (front w) x bytes last k) v2
+    entry_then : (k : Kept) → IsEntry m (family x w) k v → IsEntry after (family x w) (entry.kept_with_bytes (front w) x bytes last k) v2
     unfolding bound
     entry_then k is = record {
       used = is.used;
@@ -252,8 +252,8 @@ module _ {B : Type 0} {g : Ghosts B} (mid u : Rows B g) (limits : Limits) (t : T
     -- THE ROWS
 
     module _ (stands : RowsStand mid m) (same_limits : u.limits ≡ mid.limits) (received : u.received ≡ mid.received + length bytes) (last_start : u.last_start ≡ mid.last_start) (same_map : u.consumers ≡ mid.consumers) (same_keys : u.keys ≡ mid.keys)
-        (fills : shelf.Becomes (option_map (entry.filled (front w) x bytes last)) unmoved (family x w) (shelf_of mid.entries) (shelf_of u.entries)) (becomes : exch.Becomes (known.with_piece bytes false) x mid.exchanges u.exchanges) where
-      kept_here : (shelf_of u.entries).kept (family x w) ≡ option_map (entry.filled (front w) x bytes last) ((shelf_of mid.entries).kept (family x w))
+        (fills : shelf.Becomes (option_map (entry.kept_with_bytes (front w) x bytes last)) same_order (family x w) (shelf_of mid.entries) (shelf_of u.entries)) (becomes : exch.Becomes (known.with_piece bytes false) x mid.exchanges u.exchanges) where
+      kept_here : (shelf_of u.entries).kept (family x w) ≡ option_map (entry.kept_with_bytes (front w) x bytes last) ((shelf_of mid.entries).kept (family x w))
       kept_here = fills.kept (family x w) ∙ rw (eqb-same (family x w)) refl
 
       kept_else : (q : ℕ) → family x w ≢ q → (shelf_of u.entries).kept q ≡ (shelf_of mid.entries).kept q
@@ -264,7 +264,7 @@ module _ {B : Type 0} {g : Ghosts B} (mid u : Rows B g) (limits : Limits) (t : T
       its = subst (λ k. KeepsEntry after (family x w) k (vs (family x w))) (sym kept_here) (subst (KeepsEntry after (family x w) _) (sym vs_here)
           (by_kept ((shelf_of mid.entries).kept (family x w)) (subst (KeepsEntry m (family x w) ((shelf_of mid.entries).kept (family x w))) m_there (stands.entries.each (family x w)))))
         where
-          by_kept : (k : Option Kept) → KeepsEntry m (family x w) k (Some v) → KeepsEntry after (family x w) (option_map (entry.filled (front w) x bytes last) k) (Some v2)
+          by_kept : (k : Option Kept) → KeepsEntry m (family x w) k (Some v) → KeepsEntry after (family x w) (option_map (entry.kept_with_bytes (front w) x bytes last) k) (Some v2)
           by_kept None kept = record { gone = kept.gone; unused = kept.unused }
           by_kept (Some k) kept = entry_then k kept
 
@@ -307,16 +307,16 @@ module _ {B : Type 0} {g : Ghosts B} (mid u : Rows B g) (limits : Limits) (t : T
   -- THE TABLES
 
   -- what is let go before or after
-  same_rows : (q : ℕ) → (if is_in es q then option_map gone (if family x w == q then Some v2 else t.representation q) else (if family x w == q then Some v2 else t.representation q)) ≡ vs q
+  same_rows : (q : ℕ) → (if is_in es q then option_map as_gone (if family x w == q then Some v2 else t.representation q) else (if family x w == q then Some v2 else t.representation q)) ≡ vs q
   same_rows q = elim (same_or (family x w) q) [
-    | inl e ↦ subst (λ (n : ℕ). (if is_in es n then option_map gone (if family x w == n then Some v2 else t.representation n) else (if family x w == n then Some v2 else t.representation n)) ≡ vs n) e (rw (spared, eqb-same (family x w)) refl)
+    | inl e ↦ subst (λ (n : ℕ). (if is_in es n then option_map as_gone (if family x w == n then Some v2 else t.representation n) else (if family x w == n then Some v2 else t.representation n)) ≡ vs n) e (rw (spared, eqb-same (family x w)) refl)
     | inr ne ↦ rw (eqb-other (family x w) q ne) refl
   ]
 
-  pub tables_are : counted now (event.Piece x bytes) (let_all_go now es (with_representation (family x w) (Some v2) (with_exchange x (Some (with_piece bytes w)) t))) ≡ after
+  pub tables_are : with_event now (event.Piece x bytes) (let_all_go now es (with_representation (family x w) (Some v2) (with_exchange x (Some (with_piece bytes w)) t))) ≡ after
   tables_are =
-      ap (counted now (event.Piece x bytes)) (all_go_is now es (with_representation (family x w) (Some v2) (with_exchange x (Some (with_piece bytes w)) t)))
-      ∙ ap (λ (f : ℕ → Option Representation). counted now (event.Piece x bytes) (record (with_exchange x (Some (with_piece bytes w)) m) { representation = f })) (fun_ext same_rows)
+      ap (with_event now (event.Piece x bytes)) (all_go_is now es (with_representation (family x w) (Some v2) (with_exchange x (Some (with_piece bytes w)) t)))
+      ∙ ap (λ (f : ℕ → Option Representation). with_event now (event.Piece x bytes) (record (with_exchange x (Some (with_piece bytes w)) m) { representation = f })) (fun_ext same_rows)
 
   evicts_quietly : (qs : List ℕ) → flaw_in (map act.Evicted qs) ≡ NoFlaw
   evicts_quietly [] = refl
@@ -331,5 +331,5 @@ module _ {B : Type 0} {g : Ghosts B} (mid u : Rows B g) (limits : Limits) (t : T
         shown = ap flaw_in done.acts_are ∙ evicts_quietly (evicted limits t now (event.Piece x bytes));
         may = room;
         caused = λ is. false_true is;
-        rows = subst (RowsStand u) (sym (done.tables_are ∙ (ap (λ rs. counted now (event.Piece x bytes) (let_all_go now rs (with_representation (family x w) (Some v2) (with_exchange x (Some (with_piece bytes w)) t)))) gives ∙ tables_are))) stands;
+        rows = subst (RowsStand u) (sym (done.tables_are ∙ (ap (λ rs. with_event now (event.Piece x bytes) (let_all_go now rs (with_representation (family x w) (Some v2) (with_exchange x (Some (with_piece bytes w)) t)))) gives ∙ tables_are))) stands;
       }

@@ -32,8 +32,8 @@ use Rattle.hc_model.specs.Cases.{head_view, was_shown, is_founding}
 use Rattle.hc_model.specs.ConsumerRows.{back_in_line}
 use Rattle.hc_model.specs.Denials.{denial}
 use Rattle.hc_model.specs.Dooms.{doomed_by_case, changes}
-use Rattle.hc_model.specs.Effects.{Does, counted, let_some_go, closed, all_closed, with_consumer, with_exchange, with_answer, unless_ended}
-use Rattle.hc_model.specs.Entries.{unanswered}
+use Rattle.hc_model.specs.Effects.{Does, with_event, let_some_go, tables_after_close, all_closed, with_consumer, with_exchange, with_answer, unless_ended}
+use Rattle.hc_model.specs.Entries.{entry_without_acts}
 use Rattle.hc_model.specs.Exchanges.{is_reached, is_headless}
 use Rattle.hc_model.specs.ExchangeRows.{promise_in}
 use Rattle.hc_model.specs.Flaws.{NoFlaw, flaw_in}
@@ -43,7 +43,7 @@ use Rattle.hc_model.specs.Laws.{StandsFor}
 use Rattle.hc_model.specs.LettingGo.{MayLetGo}
 use Rattle.hc_model.specs.Rows as rows
 use Rattle.hc_model.specs.Rows.{Tables, Exchange}
-use Rattle.hc_model.specs.StartingOver.{awaited}
+use Rattle.hc_model.specs.StartingOver.{awaited_exchange}
 use Rattle.hc_model.specs.Weights.{write_in}
 use Rattle.hc_model.proofs.FirstKeeps.{case_is}
 use Rattle.hc_model.proofs.FoundBy.{CaseBy, case_by}
@@ -147,7 +147,7 @@ may_heard t x row may = record {
   waits = λ d q kept k is at. (let w = may.waits d q kept k is at in record { v = w.v; row = w.row; key_is = w.key_is; not_gone = w.not_gone; queues = w.queues });
 }
 
-may_closed : (t : Tables) (x : ℕ) → MayLetGo t → MayLetGo (closed x t)
+may_closed : (t : Tables) (x : ℕ) → MayLetGo t → MayLetGo (tables_after_close x t)
 may_closed t x may = record {
   one_current = may.one_current;
   founded = may.founded;
@@ -162,8 +162,8 @@ may_refused t x false may = may_closed t x may
 -- WHAT IS WRITTEN
 
 -- what founds nothing writes nothing
-pub unwritten : (t : Tables) (now x : ℕ) (response : Response) (w : Exchange) (g : HeadCase) → t.exchange x ≡ Some w → head_case (head_view t false w response) ≡ g → is_founding (Some g) ≡ false → write_in t (unanswered now (event.Head x response)) (event.Head x response) ≡ None
-unwritten t now x response w g row is off = ap (λ (h : Option HeadCase). if is_founding h then Some write.Slot else None) (case_is t (unanswered now (event.Head x response)) x response w refl row ∙ ap Some is) ∙ rw off refl
+pub unwritten : (t : Tables) (now x : ℕ) (response : Response) (w : Exchange) (g : HeadCase) → t.exchange x ≡ Some w → head_case (head_view t false w response) ≡ g → is_founding (Some g) ≡ false → write_in t (entry_without_acts now (event.Head x response)) (event.Head x response) ≡ None
+unwritten t now x response w g row is off = ap (λ (h : Option HeadCase). if is_founding h then Some write.Slot else None) (case_is t (entry_without_acts now (event.Head x response)) x response w refl row ∙ ap Some is) ∙ rw off refl
 
 no_doom : (b : Bool) (w : Exchange) → (if b then Some w.request.key else None) ≡ None → b ≡ false
 no_doom false w none = refl
@@ -236,27 +236,27 @@ not_selected : {h : HeadView} → CaseBy h case.NotValidated → h.status ≡ 30
 not_selected (cases.not_validated way status) = status
 
 -- where it stands that waits to found or to join
-first_awaits : (x : ℕ) (v : rows.Consumer) (way : Route) → StandsFor x v way → way ≡ route.Hole → v.shown ≡ false → awaited v.place ≡ Some x
+first_awaits : (x : ℕ) (v : rows.Consumer) (way : Route) → StandsFor x v way → way ≡ route.Hole → v.shown ≡ false → awaited_exchange v.place ≡ Some x
 first_awaits x v _ (laws.direct at) is off = absurd (let never : route.Direct ≡ route.Hole = is in cc)
 first_awaits x v _ (laws.has_turn at unshown) is off = absurd (let never : route.Turn ≡ route.Hole = is in cc)
-first_awaits x v _ (laws.first q lo hi at unshown) is off = ap awaited at
+first_awaits x v _ (laws.first q lo hi at unshown) is off = ap awaited_exchange at
 first_awaits x v _ (laws.later q lo hi how at on) is off = false_true (sym off ∙ on)
 
-turn_awaits : (x : ℕ) (v : rows.Consumer) (way : Route) → StandsFor x v way → way ≡ route.Turn → awaited v.place ≡ Some x
+turn_awaits : (x : ℕ) (v : rows.Consumer) (way : Route) → StandsFor x v way → way ≡ route.Turn → awaited_exchange v.place ≡ Some x
 turn_awaits x v _ (laws.direct at) is = absurd (let never : route.Direct ≡ route.Turn = is in cc)
-turn_awaits x v _ (laws.has_turn at unshown) is = ap awaited at
+turn_awaits x v _ (laws.has_turn at unshown) is = ap awaited_exchange at
 turn_awaits x v _ (laws.first q lo hi at unshown) is = absurd (let never : route.Hole ≡ route.Turn = is in cc)
 turn_awaits x v _ (laws.later q lo hi how at on) is = absurd (let never : route.Hole ≡ route.Turn = is in cc)
 
-anew_awaits : (x : ℕ) (w : Exchange) (v : rows.Consumer) (h : HeadView) (k : HeadCase) → h.need ≡ w.need → h.shown ≡ v.shown → StandsFor x v (route_of w.need) → Anew k → CaseBy h k → awaited v.place ≡ Some x
+anew_awaits : (x : ℕ) (w : Exchange) (v : rows.Consumer) (h : HeadView) (k : HeadCase) → h.need ≡ w.need → h.shown ≡ v.shown → StandsFor x v (route_of w.need) → Anew k → CaseBy h k → awaited_exchange v.place ≡ Some x
 anew_awaits x w v h _ needs shows stands unselected (cases.not_validated way status) = turn_awaits x v (route_of w.need) stands (ap route_of (sym needs) ∙ way)
 anew_awaits x w v h _ needs shows stands changed (cases.first_changed way shown) = first_awaits x v (route_of w.need) stands (ap route_of (sym needs) ∙ way) (sym shows ∙ shown)
 
 -- whoever starts over waits in its key
-pub awaits_viewed : (x : ℕ) (w : Exchange) (v : rows.Consumer) (h : HeadView) (k : HeadCase) → h.need ≡ w.need → h.shown ≡ v.shown → StandsFor x v (route_of w.need) → starts_anew k ≡ true → k ≡ head_case h → awaited v.place ≡ Some x
+pub awaits_viewed : (x : ℕ) (w : Exchange) (v : rows.Consumer) (h : HeadView) (k : HeadCase) → h.need ≡ w.need → h.shown ≡ v.shown → StandsFor x v (route_of w.need) → starts_anew k ≡ true → k ≡ head_case h → awaited_exchange v.place ≡ Some x
 awaits_viewed x w v h k needs shows stands on is = anew_awaits x w v h k needs shows stands (anew_of k on) (subst (CaseBy h) (sym is) (case_by h))
 
-pub awaits_anew : (t : Tables) (x : ℕ) (w : Exchange) (v : rows.Consumer) (response : Response) (k : HeadCase) → t.consumer w.c ≡ Some v → StandsFor x v (route_of w.need) → starts_anew k ≡ true → head_case (head_view t false w response) ≡ k → awaited v.place ≡ Some x
+pub awaits_anew : (t : Tables) (x : ℕ) (w : Exchange) (v : rows.Consumer) (response : Response) (k : HeadCase) → t.consumer w.c ≡ Some v → StandsFor x v (route_of w.need) → starts_anew k ≡ true → head_case (head_view t false w response) ≡ k → awaited_exchange v.place ≡ Some x
 awaits_anew t x w v response k asker stands on is = awaits_viewed x w v (head_view t false w response) k refl (ap was_shown asker) stands on (sym is)
 
 -- WHOEVER WAS SHOWN A HEAD READS ON
@@ -322,7 +322,7 @@ first_over t facts x c q lo hi v w awaits shown at =
     false_true (sym (ap (λ (z : Exchange). is_headless (Some z)) one ∙ f.2) ∙ headless)
 
 module _ {B : Type 0} {g : Ghosts B} (r mid u : Rows B g) (t : Tables) (facts : Facts r.limits t) (now x : ℕ) (response : Response) (goes : denial t (event.Head x response) ≡ None) (w : Exchange) (v : rows.Consumer) (awaits : AwaitsHead t x w v) (before out : List Act)
-    (told : out ≡ before ++ map act.Close (unless_over x (length_by (table_of mid.exchanges x).running response))) (rest : KeepsRest mid u) (consumers : u.consumers ≡ mid.consumers) (becomes : exch.Becomes known.closed x mid.exchanges u.exchanges) where
+    (told : out ≡ before ++ map act.Close (unless_over x (length_by (table_of mid.exchanges x).running response))) (rest : KeepsRest mid u) (consumers : u.consumers ≡ mid.consumers) (becomes : exch.Becomes known.without_exchange x mid.exchanges u.exchanges) where
   abbrev ev : Event
   ev = event.Head x response
 
@@ -359,7 +359,7 @@ module _ {B : Type 0} {g : Ghosts B} (r mid u : Rows B g) (t : Tables) (facts : 
   bad_told _ turn (cases.turn_bad way bad) = bad
   bad_told _ first (cases.first_bad way shown bad) = bad
 
-  put_down_does : (k : HeadCase) → Bad k → Is k → doomed_by_case (Some k) w response ≡ None → Does r.limits t now ev NoFlaw (act.Close x ∷ []) (counted now ev (with_consumer w.c (Some down) (closed x (heard t))))
+  put_down_does : (k : HeadCase) → Bad k → Is k → doomed_by_case (Some k) w response ≡ None → Does r.limits t now ev NoFlaw (act.Close x ∷ []) (with_event now ev (with_consumer w.c (Some down) (tables_after_close x (heard t))))
   put_down_does _ direct is doomless = does.direct_bad r.limits t facts.law now x response goes w awaits.row v awaits.asker is (no_doom (changes w response) w doomless)
   put_down_does _ turn is doomless = does.turn_bad r.limits t facts.law now x response goes w awaits.row v awaits.asker is
   put_down_does _ first is doomless = does.first_bad r.limits t facts.law now x response goes w awaits.row v awaits.asker is
@@ -371,10 +371,10 @@ module _ {B : Type 0} {g : Ghosts B} (r mid u : Rows B g) (t : Tables) (facts : 
       let ended : unless_ended x response w ≡ x ∷ [] = rw open_still refl in
       let down_first : (q lo : ℕ) (hi : Option ℕ) → place.Down (cause.BadHead x) ≡ place.Bound q lo hi (by.FirstHole x) → ⊥ = λ q lo hi h. absurd (cc) in
       let down_apart : place.Down (cause.BadHead x) ≡ place.Direct x → ⊥ = λ h. absurd (cc) in
-      does_answered r.limits (shelf_of r.entries).faults u t (counted now ev (with_consumer w.c (Some down) (closed x (heard t)))) before out (act.Close x ∷ []) now ev (put_down_does k b is doomless)
+      does_answered r.limits (shelf_of r.entries).faults u t (with_event now ev (with_consumer w.c (Some down) (tables_after_close x (heard t)))) before out (act.Close x ∷ []) now ev (put_down_does k b is doomless)
       (unwritten t now x response w k awaits.row is (bad_founds k b)) refl
       (acts_are down stands down_first down_apart ∙ ap (λ (ys : List ℕ). before ++ map act.Close ys) ended)
-      (stands_counted u (with_consumer w.c (Some down) (closed x (heard t))) now ev refl
+      (stands_counted u (with_consumer w.c (Some down) (tables_after_close x (heard t))) now ev refl
       (subst (λ (ys : List ℕ). RowsStand u (all_closed ys (heard (moved down)))) ended (refused down stands down_first down_apart)))
 
   -- WHAT IS STORED ISN'T WHAT WAS ASKED ABOUT
@@ -399,11 +399,11 @@ module _ {B : Type 0} {g : Ghosts B} (r mid u : Rows B g) (t : Tables) (facts : 
         (lets (all_closed (unless_ended x response w) (heard (moved z))) may_shut (refused z stands unfirst apart))
 
     pub shut_answered : (k : HeadCase) → Is k → is_founding (Some k) ≡ false → gone ≡ goes_with t w response k
-        → Does r.limits t now ev NoFlaw (map act.Close (unless_ended x response w)) (counted now ev (let_some_go now (goes_with t w response k) (with_consumer w.c (Some z) (all_closed (unless_ended x response w) (heard t)))))
+        → Does r.limits t now ev NoFlaw (map act.Close (unless_ended x response w)) (with_event now ev (let_some_go now (goes_with t w response k) (with_consumer w.c (Some z) (all_closed (unless_ended x response w) (heard t)))))
         → Answered r.limits (shelf_of r.entries).faults f t before out now ev
     shut_answered k is unfounding same done =
         let m : Tables = with_consumer w.c (Some z) (all_closed (unless_ended x response w) (heard t)) in
-        does_answered r.limits (shelf_of r.entries).faults f t (counted now ev (let_some_go now (goes_with t w response k) m)) before out (map act.Close (unless_ended x response w)) now ev done
+        does_answered r.limits (shelf_of r.entries).faults f t (with_event now ev (let_some_go now (goes_with t w response k) m)) before out (map act.Close (unless_ended x response w)) now ev done
         (unwritten t now x response w k awaits.row is unfounding) (quiet (is_reached (promise_in w response) 0)) (acts_are z stands unfirst apart)
         (stands_counted f (let_some_go now (goes_with t w response k) m) now ev refl (subst (λ (o : Option ℕ). RowsStand f (let_some_go now o m)) same gone_then))
 
@@ -411,12 +411,12 @@ module _ {B : Type 0} {g : Ghosts B} (r mid u : Rows B g) (t : Tables) (facts : 
   back = back_in_line now v
 
   abbrev ShutDoes : HeadCase → rows.Consumer → Type 0
-  ShutDoes k z = Does r.limits t now ev NoFlaw (map act.Close (unless_ended x response w)) (counted now ev (let_some_go now (goes_with t w response k) (with_consumer w.c (Some z) (all_closed (unless_ended x response w) (heard t)))))
+  ShutDoes k z = Does r.limits t now ev NoFlaw (map act.Close (unless_ended x response w)) (with_event now ev (let_some_go now (goes_with t w response k) (with_consumer w.c (Some z) (all_closed (unless_ended x response w) (heard t)))))
 
   -- where it is over with its head, nothing is told
-  ended_does : (ys : List ℕ) (goes_on : Option ℕ) (z : rows.Consumer) → unless_ended x response w ≡ ys → Does r.limits t now ev NoFlaw (map act.Close ys) (counted now ev (let_some_go now goes_on (with_consumer w.c (Some z) (all_closed ys (heard t)))))
-      → Does r.limits t now ev NoFlaw (map act.Close (unless_ended x response w)) (counted now ev (let_some_go now goes_on (with_consumer w.c (Some z) (all_closed (unless_ended x response w) (heard t)))))
-  ended_does ys goes_on z is done = subst (λ (ys : List ℕ). Does r.limits t now ev NoFlaw (map act.Close ys) (counted now ev (let_some_go now goes_on (with_consumer w.c (Some z) (all_closed ys (heard t)))))) (sym is) done
+  ended_does : (ys : List ℕ) (goes_on : Option ℕ) (z : rows.Consumer) → unless_ended x response w ≡ ys → Does r.limits t now ev NoFlaw (map act.Close ys) (with_event now ev (let_some_go now goes_on (with_consumer w.c (Some z) (all_closed ys (heard t)))))
+      → Does r.limits t now ev NoFlaw (map act.Close (unless_ended x response w)) (with_event now ev (let_some_go now goes_on (with_consumer w.c (Some z) (all_closed (unless_ended x response w) (heard t)))))
+  ended_does ys goes_on z is done = subst (λ (ys : List ℕ). Does r.limits t now ev NoFlaw (map act.Close ys) (with_event now ev (let_some_go now goes_on (with_consumer w.c (Some z) (all_closed ys (heard t)))))) (sym is) done
 
   -- a 304 has no body
   bodiless : response.status ≡ 304 → unless_ended x response w ≡ []
@@ -516,7 +516,7 @@ module _ {B : Type 0} {g : Ghosts B} (r mid u : Rows B g) (t : Tables) (facts : 
   abbrev after : Tables
   after = with_answer now x response w.joined w reading
 
-  past_does : (k : HeadCase) → Past k → head_case (head_view t false w response) ≡ k → Does r.limits t now comes NoFlaw [] (counted now comes (let_some_go now (goes_with t w response k) after))
+  past_does : (k : HeadCase) → Past k → head_case (head_view t false w response) ≡ k → Does r.limits t now comes NoFlaw [] (with_event now comes (let_some_go now (goes_with t w response k) after))
   past_does _ turn_error is = does.server_error r.limits t facts.law now x response goes w awaits.row v awaits.asker is
   past_does _ passes is = does.passes_by r.limits t facts.law now x response goes w awaits.row v awaits.asker is
   past_does _ first_error is = does.first_server_error r.limits t facts.law now x response goes w awaits.row v awaits.asker is
@@ -536,7 +536,7 @@ module _ {B : Type 0} {g : Ghosts B} (r mid u : Rows B g) (t : Tables) (facts : 
 
   pub past_answered : (k : HeadCase) → goes_past k ≡ true → head_case (head_view t false w response) ≡ k → gone ≡ goes_with t w response k → RowsStand mid after → (MayLetGo after → RowsStand mid after → RowsStand u (let_some_go now gone after)) → Answered r.limits (shelf_of r.entries).faults u t before before now comes
   past_answered k on is same stands lets =
-      does_answered r.limits (shelf_of r.entries).faults u t (counted now comes (let_some_go now (goes_with t w response k) after)) before before [] now comes (past_does k (past_of k on) is)
+      does_answered r.limits (shelf_of r.entries).faults u t (with_event now comes (let_some_go now (goes_with t w response k) after)) before before [] now comes (past_does k (past_of k on) is)
       (unwritten t now x response w k awaits.row is (past_founds k (past_of k on))) refl (sym (append-nil before))
       (stands_counted u (let_some_go now (goes_with t w response k) after) now comes refl (subst (λ (o : Option ℕ). RowsStand u (let_some_go now o after)) same (lets may_after stands)))
 
@@ -575,7 +575,7 @@ module _ {B : Type 0} {g : Ghosts B} (r u : Rows B g) (t : Tables) (facts : Fact
 
   pub taken_answered : (before : List Act) → doomed_by_case (Some case.DirectTaken) w response ≡ None → RowsStand u (with_answer now x response w.joined w t) → Answered r.limits (shelf_of r.entries).faults u t before before now (event.Head x response)
   taken_answered before doomless stands =
-      does_answered r.limits (shelf_of r.entries).faults u t (counted now (event.Head x response) (with_answer now x response w.joined w t)) before before [] now (event.Head x response)
+      does_answered r.limits (shelf_of r.entries).faults u t (with_event now (event.Head x response) (with_answer now x response w.joined w t)) before before [] now (event.Head x response)
       (does.taken r.limits t facts.law now x response goes w awaits.row v awaits.asker is (no_doom (changes w response) w doomless))
       (unwritten t now x response w case.DirectTaken awaits.row is refl) refl (sym (append-nil before))
       (stands_counted u (with_answer now x response w.joined w t) now (event.Head x response) refl stands)

@@ -1,9 +1,9 @@
 //! What nobody reads any more is closed.
 ghost use Rattle.std.specs.Prelude.{◌≡◌, ◌+◌, ◌≤◌, ◌<◌, ◌++◌, ◌∷◌, [], true};
-ghost use Rattle.hc_event.specs.Acts.{listed, spare};
+ghost use Rattle.hc_event.specs.Acts.{act_list, spare};
 ghost use Rattle.hc_event.specs.declared.act.Act.TheVariants as act;
 ghost use Rattle.hc_exch.specs.Exchanges.{table_of, Becomes};
-ghost use Rattle.hc_exch.specs.Known.{is_open, closed};
+ghost use Rattle.hc_exch.specs.Known.{is_open, without_exchange};
 ghost use Rattle.hc_state.specs.Stands.{KeepsRest};
 
 use crate::acts::put;
@@ -15,9 +15,9 @@ use hc_store::Backend;
 pub fn close<B: Backend>(rows: &mut Rows<B>, x: u64, out: &mut Acts)
     requires running { is_open x (table_of rows.old.exchanges) ≡ true }
     requires room { 1 ≤ spare out.old }
-    ensures acts { listed out.new ≡ listed out.old ++ act.Close x ∷ [] }
+    ensures acts { act_list out.new ≡ act_list out.old ++ act.Close x ∷ [] }
     ensures room { spare out.new + 1 ≡ spare out.old }
-    ensures closed { Becomes closed x rows.old.exchanges rows.new.exchanges }
+    ensures closed { Becomes without_exchange x rows.old.exchanges rows.new.exchanges }
     ensures consumers { rows.new.consumers ≡ rows.old.consumers }
     ensures rest { KeepsRest rows.old rows.new }
 {

@@ -1,6 +1,6 @@
 //! What is let go, and what gives way.
 ghost use Rattle.std.specs.Prelude.{◌≡◌};
-ghost use Rattle.hc_event.specs.Acts.{listed, spare};
+ghost use Rattle.hc_event.specs.Acts.{act_list, spare};
 ghost use Rattle.hc_entry.specs.Keys.{line_of};
 ghost use Rattle.hc_entry.specs.Lines.{is_in};
 ghost use Rattle.hc_stored.specs.Entries.{shelf_of};
@@ -64,8 +64,8 @@ pub fn make_room<B: Backend>(rows: &mut Rows<B>, now: u64, write: Write, out: &m
     requires fits { HasActs (spare out.old) (room_for_write rows.old write) }
     ensures gives { (t : Tables) → MayMakeRoom t → RowsStand rows.old t
         → GivesWay rows.new t now (giving_way rows.old.limits t write)
-        (listed out.old) (listed out.new) }
-    ensures appends { Appends (listed out.old) (listed out.new) }
+        (act_list out.old) (act_list out.new) }
+    ensures appends { Appends (act_list out.old) (act_list out.new) }
     ensures room { LeavesActs (spare out.old) (spare out.new) (room_for_write rows.old write) }
     ensures limits { rows.new.limits ≡ rows.old.limits }
     ensures last_start { rows.new.last_start ≡ rows.old.last_start }

@@ -3,7 +3,7 @@ ghost use Rattle.std.specs.Prelude.{◌≡◌, true, Some, is_some, nat_eq, IsSo
 ghost use Rattle.std.specs.HashMap.{get};
 ghost use Rattle.hc_stored.specs.Entries.{shelf_of};
 ghost use Rattle.hc_exch.specs.Exchanges.{next_of};
-ghost use Rattle.hc_model.specs.Effects.{with_consumer, finished};
+ghost use Rattle.hc_model.specs.Effects.{with_consumer, as_over};
 ghost use Rattle.hc_model.specs.Lawful.{Lawful};
 ghost use Rattle.hc_model.specs.Rows.{Tables, Consumer};
 ghost use Rattle.hc_state.specs.Leaving.{LeavesKey, Forgets, IsUserAt, UnbindsAt, LeavesPlace};
@@ -22,7 +22,7 @@ pub(crate) fn remove_consumer<B: Backend>(rows: &mut Rows<B>, c: u64)
     requires stands { ∥ Stands rows.old ∥₁ }
     requires live { is_some (get nat_eq rows.old.consumers c) ≡ true }
     ensures stands { (t : Tables) (k : Consumer) → Lawful t → t.consumer c ≡ Some k
-        → RowsStand rows.old t → RowsStand rows.new (with_consumer c (Some (finished k)) t) }
+        → RowsStand rows.old t → RowsStand rows.new (with_consumer c (Some (as_over k)) t) }
     ensures limits { rows.new.limits ≡ rows.old.limits }
     ensures received { rows.new.received ≡ rows.old.received }
     ensures faults { (shelf_of rows.new.entries).faults ≡ (shelf_of rows.old.entries).faults }

@@ -1,7 +1,7 @@
 //! Who is cancelled, ends or fails, and who leaves the line.
 ghost use Rattle.std.specs.Prelude.{◌≡◌, ◌≤◌, ◌<◌, ◌^◌, ℕ, nat_eq, true, is_some, IsSomeAnd, Some, None, ◌==◌, if◌then◌else◌};
 ghost use Rattle.std.specs.HashMap.{get};
-ghost use Rattle.hc_event.specs.Acts.{listed, spare};
+ghost use Rattle.hc_event.specs.Acts.{act_list, spare};
 ghost use Rattle.hc_event.specs.declared.event.Event.TheVariants.{Cancel, Poll};
 ghost use Rattle.hc_stored.specs.Entries.{shelf_of};
 ghost use Rattle.hc_exch.specs.Exchanges.{table_of};
@@ -12,7 +12,7 @@ ghost use Rattle.hc_state.specs.Arms.{IsDown, IsQueued, LeavesLine};
 ghost use Rattle.std.specs.List.{list_all};
 ghost use Rattle.hc_stored.specs.Views.{bound_in};
 ghost use Rattle.hc_model.specs.Currents.{is_number};
-ghost use Rattle.hc_model.specs.Effects.{with_consumer, finished, left_by};
+ghost use Rattle.hc_model.specs.Effects.{with_consumer, as_over, left_by};
 ghost use Rattle.hc_model.specs.Rows.{Tables, Consumer};
 ghost use Rattle.hc_state.specs.Facts.{Facts};
 ghost use Rattle.hc_state.specs.Leaving.{if_running, last_read, left_of};
@@ -33,7 +33,8 @@ pub fn cancel<B: Backend>(rows: &mut Rows<B>, now: u64, c: u64, out: &mut Acts)
     requires live { is_some (get nat_eq rows.old.consumers c) ≡ true }
     requires small { rows.old.received < 2 ^ 61 }
     requires room { 2 ≤ spare out.old }
-    ensures answers { Answers rows.old rows.new (listed out.old) (listed out.new) now (Cancel c) }
+    ensures answers { Answers rows.old rows.new (act_list out.old) (act_list out.new)
+        now (Cancel c) }
     ensures received { rows.new.received ≡ rows.old.received }
     ensures limits { rows.new.limits ≡ rows.old.limits }
     ensures faults { (shelf_of rows.old.entries).faults ≤ (shelf_of rows.new.entries).faults }
@@ -48,7 +49,7 @@ pub fn fail<B: Backend>(rows: &mut Rows<B>, now: u64, c: u64, cause: Cause, out:
     requires small { rows.old.received < 2 ^ 61 }
     requires room { 3 ≤ spare out.old }
     ensures answers { (want : ℕ) → AnswersMove rows.old rows.new
-        (listed out.old) (listed out.new) now c want (Fails cause) }
+        (act_list out.old) (act_list out.new) now c want (Fails cause) }
     ensures received { rows.new.received ≡ rows.old.received }
     ensures limits { rows.new.limits ≡ rows.old.limits }
     ensures faults { (shelf_of rows.old.entries).faults ≤ (shelf_of rows.new.entries).faults }
@@ -64,7 +65,7 @@ pub fn end_reading<B: Backend>(rows: &mut Rows<B>, now: u64, c: u64, out: &mut A
     requires small { rows.old.received < 2 ^ 61 }
     requires room { 3 ≤ spare out.old }
     ensures answers { (want : ℕ) → AnswersMove rows.old rows.new
-        (listed out.old) (listed out.new) now c want Ends }
+        (act_list out.old) (act_list out.new) now c want Ends }
     ensures received { rows.new.received ≡ rows.old.received }
     ensures limits { rows.new.limits ≡ rows.old.limits }
     ensures faults { (shelf_of rows.old.entries).faults ≤ (shelf_of rows.new.entries).faults }
@@ -80,7 +81,7 @@ pub fn fail_down<B: Backend>(rows: &mut Rows<B>, now: u64, c: u64, cause: Cause,
     requires small { rows.old.received < 2 ^ 61 }
     requires room { 3 ≤ spare out.old }
     ensures answers { (want : ℕ)
-        → Answers rows.old rows.new (listed out.old) (listed out.new) now (Poll c want) }
+        → Answers rows.old rows.new (act_list out.old) (act_list out.new) now (Poll c want) }
     ensures received { rows.new.received ≡ rows.old.received }
     ensures limits { rows.new.limits ≡ rows.old.limits }
     ensures faults { (shelf_of rows.old.entries).faults ≤ (shelf_of rows.new.entries).faults }
@@ -108,7 +109,7 @@ fn leave<B: Backend>(rows: &mut Rows<B>, now: u64, c: u64, out: &mut Acts)
     ensures left { (t : Tables) (k : Consumer) → Facts rows.old.limits t
         → RowsStand rows.old t → t.consumer c ≡ Some k
         → HasLeft (shelf_of rows.old.entries).faults rows.new t
-        (listed out.old) (listed out.new) now c k }
+        (act_list out.old) (act_list out.new) now c k }
     ensures received { rows.new.received ≡ rows.old.received }
     ensures limits { rows.new.limits ≡ rows.old.limits }
     ensures faults { (shelf_of rows.old.entries).faults ≤ (shelf_of rows.new.entries).faults }
@@ -177,9 +178,9 @@ fn close_left<B: Backend>(rows: &mut Rows<B>, now: u64, x: u64, alone: Option<u6
     ensures left { (t : Tables) (c : ℕ) (k : Consumer) → Facts rows.old.limits t
         → t.consumer c ≡ Some k → left_by t c k ≡ Some x
         → alone ≡ (if is_number k.own x then Some c else None)
-        → RowsStand rows.old (with_consumer c (Some (finished k)) t)
+        → RowsStand rows.old (with_consumer c (Some (as_over k)) t)
         → HasLeft (shelf_of rows.old.entries).faults rows.new t
-        (listed out.old) (listed out.new) now c k }
+        (act_list out.old) (act_list out.new) now c k }
     ensures received { rows.new.received ≡ rows.old.received }
     ensures limits { rows.new.limits ≡ rows.old.limits }
     ensures faults { (shelf_of rows.old.entries).faults ≤ (shelf_of rows.new.entries).faults }

@@ -1,14 +1,14 @@
 //! What is lost while it is written for several.
 ghost use Rattle.std.specs.Prelude.{◌≡◌, ◌+◌, ◌≤◌, ◌<◌, ◌++◌, ◌∷◌, [], true, None, nat_eq, Ok, Some, IfOk, OnErr};
 ghost use Rattle.std.specs.HashMap.{get};
-ghost use Rattle.hc_event.specs.Acts.{listed, spare};
+ghost use Rattle.hc_event.specs.Acts.{act_list, spare};
 ghost use Rattle.hc_event.specs.declared.act.Act.TheVariants as act;
 ghost use Rattle.hc_stored.specs.Entries.{shelf_of};
 ghost use Rattle.hc_stored.specs.Shelf.{is_kept};
 ghost use Rattle.hc_exch.specs.Exchanges.{table_of};
 ghost use Rattle.hc_exch.specs.Known.{is_open};
 ghost use Rattle.hc_model.specs.Rows.{Tables, Representation};
-ghost use Rattle.hc_state.specs.Heirs.{heir_of, stands_at, MayLoseShared, LosesShared, LosesWriting};
+ghost use Rattle.hc_state.specs.DetachedReaders.{detached_reader_of, stands_at, MayLoseShared, LosesShared, LosesWriting};
 ghost use Rattle.hc_state.specs.Stands.{RowsStand};
 ghost use Rattle.hc_event.specs.declared.act.LostKind.{LostKind};
 ghost use Rattle.hc_store.specs.declared.error.StoreError.TheVariants as errors;
@@ -37,7 +37,7 @@ pub fn lose_shared<B: Backend>(
     requires room { 1 ≤ spare out.old }
     ensures lost { (t : Tables) (v : Representation) → MayLoseShared t r x v
         → RowsStand rows.old t → LosesShared rows.new t now r x v result }
-    ensures acts { listed out.new ≡ listed out.old ++ act.Lost r kind ∷ [] }
+    ensures acts { act_list out.new ≡ act_list out.old ++ act.Lost r kind ∷ [] }
     ensures room { spare out.new + 1 ≡ spare out.old }
     ensures exchanges { rows.new.exchanges ≡ rows.old.exchanges }
     ensures last_start { rows.new.last_start ≡ rows.old.last_start }
@@ -45,11 +45,17 @@ pub fn lose_shared<B: Backend>(
     ensures received { rows.new.received ≡ rows.old.received }
     ensures faults { (shelf_of rows.new.entries).faults ≡ (shelf_of rows.old.entries).faults }
 {
-    let heir = heir(rows, r);
+    let detached_reader = detached_reader(rows, r);
     let cause = Cause::StoreWrite(r);
-    part(&mut rows.consumers, rows.entries.bound(r), heir, x, cause);
-    lose_to(rows, now, r, heir, kind, out);
-    heir
+    part(
+        &mut rows.consumers,
+        rows.entries.bound(r),
+        detached_reader,
+        x,
+        cause,
+    );
+    lose_to(rows, now, r, detached_reader, kind, out);
+    detached_reader
 }
 
 /// The same, and the exchange is closed where nobody goes on with it.
@@ -66,7 +72,7 @@ pub fn lose_writing<B: Backend>(
     requires room { 2 ≤ spare out.old }
     ensures lost { (t : Tables) (v : Representation) → MayLoseShared t r x v
         → RowsStand rows.old t
-        → LosesWriting rows.new t (listed out.old) (listed out.new) now r x v kind }
+        → LosesWriting rows.new t (act_list out.old) (act_list out.new) now r x v kind }
     ensures limits { rows.new.limits ≡ rows.old.limits }
     ensures received { rows.new.received ≡ rows.old.received }
     ensures faults { (shelf_of rows.new.entries).faults ≡ (shelf_of rows.old.entries).faults }
@@ -77,17 +83,17 @@ pub fn lose_writing<B: Backend>(
 }
 
 /// The least of those who read the representation together that has read all that is stored.
-fn heir<B: Backend>(rows: &Rows<B>, r: u64) -> Option<u64>
-    ensures { result ≡ heir_of rows.now.consumers ((shelf_of rows.now.entries).kept r) }
+fn detached_reader<B: Backend>(rows: &Rows<B>, r: u64) -> Option<u64>
+    ensures { result ≡ detached_reader_of rows.now.consumers ((shelf_of rows.now.entries).kept r) }
 {
     let end = rows.entries.entry(r)?.reach;
-    let mut heir = None;
+    let mut detached_reader = None;
     for c in rows.entries.bound(r) {
         if stands_at(rows, *c, end) {
-            heir = lesser(heir, *c);
+            detached_reader = lesser(detached_reader, *c);
         }
     }
-    heir
+    detached_reader
 }
 
 /// Whether the consumer is live, and stands there.

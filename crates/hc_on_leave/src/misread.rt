@@ -1,7 +1,7 @@
 //! What can't be read.
 ghost use Rattle.std.specs.Prelude.{◌≡◌, ◌≢◌, ◌≤◌, true, is_some, nat_eq, OnOk, OnErr};
 ghost use Rattle.std.specs.HashMap.{get};
-ghost use Rattle.hc_event.specs.Acts.{listed, spare};
+ghost use Rattle.hc_event.specs.Acts.{act_list, spare};
 ghost use Rattle.hc_stored.specs.Entries.{shelf_of};
 ghost use Rattle.hc_store.specs.declared.error.StoreError.TheVariants as errors;
 ghost use Rattle.hc_state.specs.Reads.{AnswersMisread};
@@ -33,11 +33,11 @@ pub fn misread_by<B: Backend>(
     ensures failed { OnOk result (error ≢ errors.NoMemory) }
     ensures memory { OnErr result (error ≡ errors.NoMemory) }
     ensures answers { OnOk result (AnswersMisread rows.old rows.new
-        (listed out.old) (listed out.new) now c r) }
+        (act_list out.old) (act_list out.new) now c r) }
     ensures received { OnOk result (rows.new.received ≡ rows.old.received) }
     ensures limits { OnOk result (rows.new.limits ≡ rows.old.limits) }
     ensures faults { (shelf_of rows.new.entries).faults ≡ (shelf_of rows.old.entries).faults }
-    ensures kept { OnErr result (listed out.new ≡ listed out.old) }
+    ensures kept { OnErr result (act_list out.new ≡ act_list out.old) }
 {
     match error {
         StoreError::NoMemory => Err(NoMemory),
@@ -54,7 +54,8 @@ pub(crate) fn misread<B: Backend>(rows: &mut Rows<B>, now: u64, c: u64, r: u64, 
     requires stands { ∥ Stands rows.old ∥₁ }
     requires live { is_some (get nat_eq rows.old.consumers c) ≡ true }
     requires room { 2 ≤ spare out.old }
-    ensures answers { AnswersMisread rows.old rows.new (listed out.old) (listed out.new) now c r }
+    ensures answers { AnswersMisread rows.old rows.new (act_list out.old) (act_list out.new)
+        now c r }
     ensures received { rows.new.received ≡ rows.old.received }
     ensures limits { rows.new.limits ≡ rows.old.limits }
     ensures faults { (shelf_of rows.new.entries).faults ≡ (shelf_of rows.old.entries).faults }

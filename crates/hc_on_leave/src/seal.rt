@@ -1,6 +1,6 @@
 //! What becomes of what an exchange brought when that is closed.
 ghost use Rattle.std.specs.Prelude.{◌≡◌, ◌+◌, ◌≤◌, ◌<◌, ◌^◌, ◌++◌, ◌∷◌, [], ℕ, Option, true, false, Some, None, is_some, if◌then◌else◌};
-ghost use Rattle.hc_event.specs.Acts.{listed, spare};
+ghost use Rattle.hc_event.specs.Acts.{act_list, spare};
 ghost use Rattle.hc_stored.specs.Entries.{shelf_of};
 ghost use Rattle.hc_exch.specs.Exchanges.{next_of, table_of};
 ghost use Rattle.hc_exch.specs.Known.{is_open};
@@ -73,7 +73,7 @@ pub fn stop_bringing<B: Backend>(
     ensures stopped { (t : Tables) (f : ℕ → Option Consumer) → Facts rows.old.limits t
         → MayStop t f x alone → RowsStand rows.old (with_consumers f t)
         → HasStopped (shelf_of rows.old.entries).faults rows.new t f
-        (listed out.old) (listed out.new) now x }
+        (act_list out.old) (act_list out.new) now x }
     ensures received { rows.new.received ≡ rows.old.received }
     ensures limits { rows.new.limits ≡ rows.old.limits }
     ensures faults { (shelf_of rows.old.entries).faults ≤ (shelf_of rows.new.entries).faults }
@@ -107,7 +107,7 @@ fn seal_stopped<B: Backend>(
         → stop_of x (table_of rows.old.exchanges x).running (shelf_of rows.old.entries)
         ≡ stop.Seal r
         → HasStopped (shelf_of rows.old.entries).faults rows.new t f
-        (listed out.old) (listed out.new) now x }
+        (act_list out.old) (act_list out.new) now x }
     ensures received { rows.new.received ≡ rows.old.received }
     ensures limits { rows.new.limits ≡ rows.old.limits }
     ensures faults { (shelf_of rows.old.entries).faults ≤ (shelf_of rows.new.entries).faults }
@@ -182,7 +182,7 @@ pub fn lose_to<B: Backend>(
         → RowsStand rows.old t
         → RowsStand rows.new
         (let_go now r (with_representation r (Some (lost_to alone v)) t)) }
-    ensures acts { listed out.new ≡ listed out.old ++ act.Lost r kind ∷ [] }
+    ensures acts { act_list out.new ≡ act_list out.old ++ act.Lost r kind ∷ [] }
     ensures room { spare out.new + 1 ≡ spare out.old }
     ensures live { KeepsLive rows.old.consumers rows.new.consumers }
     ensures last_start { rows.new.last_start ≡ rows.old.last_start }

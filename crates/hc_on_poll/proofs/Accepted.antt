@@ -24,9 +24,9 @@ not_off : (b : Bool) → not b ≡ false → b ≡ true
 not_off true is = refl
 not_off false is = sym is
 
-pub start_rises : (g : Gate) (c : ℕ) (request : Request) → refusal_of g (event.Start c request) ≡ None → g.last_start < c
+pub start_ascends : (g : Gate) (c : ℕ) (request : Request) → refusal_of g (event.Start c request) ≡ None → g.last_start < c
 unfolding refusal_of
-start_rises g c request none = let off = first_off (nat_le c g.last_start) _ _ none in grind (arith, nat_tests, off)
+start_ascends g c request none = let off = first_off (nat_le c g.last_start) _ _ none in grind (arith, nat_tests, off)
 
 pub poll_lives : (g : Gate) (c want : ℕ) → refusal_of g (event.Poll c want) ≡ None → g.is_live ≡ true
 unfolding refusal_of

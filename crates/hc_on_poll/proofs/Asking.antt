@@ -18,7 +18,7 @@ use Rattle.hc_event.specs.declared.place.Place.TheVariants as place
 use Rattle.hc_event.specs.declared.place.BoundBy.TheVariants as by
 use Rattle.hc_model.specs.Currents.{current, is_number}
 use Rattle.hc_model.specs.Effects.{with_ask, to_bring}
-use Rattle.hc_model.specs.Exchanges.{base, promised, family, is_headless, length_by}
+use Rattle.hc_model.specs.Exchanges.{base, promised_bytes, family, is_headless, length_by}
 use Rattle.hc_model.specs.Kinds.{brings_to}
 use Rattle.hc_model.specs.Holes.{absent_from}
 use Rattle.hc_model.specs.Reading.{end_in, end_of_direct, base_in, lo_of, hi_of, offset, is_bound_place}
@@ -28,10 +28,10 @@ use Rattle.hc_state.specs.Stored.{is_over}
 use Rattle.hc_state.specs.declared.consumer.Consumer.{Consumer}
 use Rattle.hc_state.specs.declared.rows.Rows.{Rows}
 use Rattle.hc_state.specs.Arms.{asked_in}
-use Rattle.hc_state.specs.Kept.{IsKept, KeepsConsumer, KeepsExchange, KeepsRunning, head_in, answer_at, held_for, held_of, held_alone, unread, unstored}
+use Rattle.hc_state.specs.Kept.{IsKept, KeepsConsumer, KeepsExchange, KeepsRunning, head_in, answer_at, held_for, held_of, held_alone, unread, unstored_bytes}
 use Rattle.hc_state.specs.Lines.{KeepsKey, is_away, is_away_at}
 use Rattle.hc_state.specs.Stands.{RowsStand}
-use Rattle.hc_state.proofs.Asides.{same, held_alike}
+use Rattle.hc_state.proofs.Fallbacks.{same, held_alike}
 use Rattle.hc_state.proofs.OneOfEach.{entries_same, growing_same}
 use Rattle.hc_state.proofs.ReaderSteps.{entries_read}
 use Rattle.hc_state.proofs.Ties.{exchange_same, key_same}
@@ -47,7 +47,7 @@ base_bringing w = by_head w.head
     by_head None = refl
     by_head (Some response) = refl
 
-promised_bringing : (w : Exchange) → promised (to_bring w) ≡ promised w
+promised_bringing : (w : Exchange) → promised_bytes (to_bring w) ≡ promised_bytes w
 promised_bringing w = by_head w.head
   where
     by_head : (h : Option Response) → promise_of (length_by (to_bring w) h) ≡ promise_of (length_by w h)
@@ -77,7 +77,7 @@ module _ (t : Tables) (x : ℕ) where
 
   -- EXCHANGES
 
-  unstored_bringing : (y : ℕ) (w : Exchange) (v : Representation) (o : Option rows.Consumer) → unstored t y (to_bring w) v o ≡ unstored t y w v o
+  unstored_bringing : (y : ℕ) (w : Exchange) (v : Representation) (o : Option rows.Consumer) → unstored_bytes t y (to_bring w) v o ≡ unstored_bytes t y w v o
   unstored_bringing y w v None = refl
   unstored_bringing y w v (Some k) =
       ap (λ (b : ℕ). if is_bound_place (family y w) k.place && is_number k.own y then drop (absent_from v.stored v.reach (offset t k) (b + length w.body) - b) w.body else []) (base_bringing w)
@@ -115,12 +115,12 @@ module _ (t : Tables) (x : ℕ) where
     role = keeps.role;
   }
 
-  pub exchange_bringing : (y : ℕ) (before after : Known) → after ≡ (if nat_eq x y then known.asked before else before) → KeepsExchange t y before → KeepsExchange s y after
+  pub exchange_bringing : (y : ℕ) (before after : Known) → after ≡ (if nat_eq x y then known.with_asking before else before) → KeepsExchange t y before → KeepsExchange s y after
   exchange_bringing y before after is kept = elim (same_or x y) [
     | inl e ↦
-        let at : after ≡ known.asked before = is ∙ rw (e, eqb-same y) refl in
+        let at : after ≡ known.with_asking before = is ∙ rw (e, eqb-same y) refl in
         record {
-          running = rw at (subst (λ (n : ℕ). KeepsRunning s n (known.asked before).running (s.exchange n)) e (subst (KeepsRunning s x (known.asked before).running) (sym here) (runs_bringing before.running (t.exchange x) (subst (λ (n : ℕ). KeepsRunning t n before.running (t.exchange n)) (sym e) kept.running))));
+          running = rw at (subst (λ (n : ℕ). KeepsRunning s n (known.with_asking before).running (s.exchange n)) e (subst (KeepsRunning s x (known.with_asking before).running) (sym here) (runs_bringing before.running (t.exchange x) (subst (λ (n : ℕ). KeepsRunning t n before.running (t.exchange n)) (sym e) kept.running))));
           held = rw at (kept.held ∙ sym (held_bringing y));
         }
     | inr ne ↦
@@ -131,7 +131,7 @@ module _ (t : Tables) (x : ℕ) where
   -- CONSUMERS
 
   end_bringing : (w : Exchange) → end_in (Some (to_bring w)) ≡ end_in (Some w)
-  end_bringing w = ap (λ (o : Option ℕ). end_of_direct o (to_bring w)) (promised_bringing w) ∙ by_promise (promised w)
+  end_bringing w = ap (λ (o : Option ℕ). end_of_direct o (to_bring w)) (promised_bringing w) ∙ by_promise (promised_bytes w)
     where
       by_promise : (o : Option ℕ) → end_of_direct o (to_bring w) ≡ end_of_direct o w
       by_promise None = refl
@@ -205,7 +205,7 @@ module _ (t : Tables) (x : ℕ) where
 -- ALL OF IT
 
 pub stands_asked : {B : Type 0} {g : Ghosts B} (r u : Rows B g) (t : Tables) (x : ℕ) → RowsStand r t → u.limits ≡ r.limits → u.received ≡ r.received → u.last_start ≡ r.last_start → u.consumers ≡ r.consumers → u.keys ≡ r.keys
-    → exch.Becomes known.asked x r.exchanges u.exchanges → shelf.Stays (shelf_of r.entries) (shelf_of u.entries) → RowsStand u (with_ask x t)
+    → exch.Becomes known.with_asking x r.exchanges u.exchanges → shelf.Stays (shelf_of r.entries) (shelf_of u.entries) → RowsStand u (with_ask x t)
 stands_asked r u t x stands limits received last consumers keys becomes read = record {
   limits = read.limits ∙ (stands.limits ∙ sym limits);
   received = as_received received stands.received;
@@ -218,7 +218,7 @@ stands_asked r u t x stands limits received last consumers keys becomes read = r
   entries = entries_same t (with_ask x t) (shelf_of u.entries) (λ n. refl) refl refl (λ n d. refl) (λ n d. refl) (λ n. growing_same t (with_ask x t) n refl (looks t x (λ y o. brings_to n y o) (λ w. refl))) (λ y on. looks t x (λ z o. is_over o) (λ w. refl) y ∙ on) (entries_read t (shelf_of r.entries) (shelf_of u.entries) read stands.entries);
 }
   where
-    by_here : (y : ℕ) → table_of u.exchanges y ≡ (if nat_eq x y then known.asked (table_of r.exchanges y) else table_of r.exchanges y)
+    by_here : (y : ℕ) → table_of u.exchanges y ≡ (if nat_eq x y then known.with_asking (table_of r.exchanges y) else table_of r.exchanges y)
     by_here y = becomes.table y ∙ elim (same_or x y) [
       | inl e ↦ rw (e, eqb-same y) refl
       | inr ne ↦ rw (eqb-other x y ne) refl
@@ -226,16 +226,16 @@ stands_asked r u t x stands limits received last consumers keys becomes read = r
 
 -- WHERE THEY WERE ASKED FOR
 
-asked_is : (z : Known) → asked_in z.running ≡ true → known.asked z ≡ z
+asked_is : (z : Known) → asked_in z.running ≡ true → known.with_asking z ≡ z
 asked_is z on = by_running z.running refl
   where
-    by_running : (o : Option Open) → z.running ≡ o → known.asked z ≡ z
+    by_running : (o : Option Open) → z.running ≡ o → known.with_asking z ≡ z
     by_running None is = rw is refl
     by_running (Some o) is = let asked : o.asked ≡ true = rw is at on in rw (is, asked) refl
 
 -- they are asked for once
 pub stands_asked_already : {B : Type 0} {g : Ghosts B} (r u : Rows B g) (t : Tables) (x : ℕ) → RowsStand r t → asked_in (table_of r.exchanges x).running ≡ true → u.limits ≡ r.limits → u.received ≡ r.received → u.last_start ≡ r.last_start → u.consumers ≡ r.consumers → u.keys ≡ r.keys
-    → exch.Becomes known.asked x r.exchanges u.exchanges → shelf.Stays (shelf_of r.entries) (shelf_of u.entries) → RowsStand u t
+    → exch.Becomes known.with_asking x r.exchanges u.exchanges → shelf.Stays (shelf_of r.entries) (shelf_of u.entries) → RowsStand u t
 stands_asked_already r u t x stands on limits received last consumers keys becomes read = record {
   limits = read.limits ∙ (stands.limits ∙ sym limits);
   received = as_received received stands.received;
@@ -248,8 +248,8 @@ stands_asked_already r u t x stands on limits received last consumers keys becom
   entries = entries_read t (shelf_of r.entries) (shelf_of u.entries) read stands.entries;
 }
   where
-    stays : (y : ℕ) → (if nat_eq x y then known.asked (table_of r.exchanges x) else table_of r.exchanges y) ≡ table_of r.exchanges y
+    stays : (y : ℕ) → (if nat_eq x y then known.with_asking (table_of r.exchanges x) else table_of r.exchanges y) ≡ table_of r.exchanges y
     stays y = elim (same_or x y) [
-      | inl e ↦ subst (λ (n : ℕ). (if nat_eq x n then known.asked (table_of r.exchanges x) else table_of r.exchanges n) ≡ table_of r.exchanges n) e (rw (eqb-same x) (asked_is (table_of r.exchanges x) on))
+      | inl e ↦ subst (λ (n : ℕ). (if nat_eq x n then known.with_asking (table_of r.exchanges x) else table_of r.exchanges n) ≡ table_of r.exchanges n) e (rw (eqb-same x) (asked_is (table_of r.exchanges x) on))
       | inr ne ↦ rw (eqb-other x y ne) refl
     ]

@@ -18,13 +18,13 @@ use Rattle.hc_event.specs.declared.event.Response.{Response}
 use Rattle.hc_range.specs.declared.range.Span.{Span}
 use Rattle.hc_record.specs.Head.{Head}
 use Rattle.hc_rules.specs.declared.room.Limits.{Limits}
-use Rattle.hc_validate.specs.Showing.{shown}
+use Rattle.hc_validate.specs.Showing.{shown_response}
 use Rattle.hc_exch.specs.Exchanges.{table_of, next_of}
 use Rattle.hc_event.specs.declared.place.Place.TheVariants as place
 use Rattle.hc_event.specs.declared.place.BoundBy.TheVariants as by
 use Rattle.hc_model.specs.Currents.{current, total_in}
 use Rattle.hc_model.specs.Denials.{is_live}
-use Rattle.hc_model.specs.Effects.{counted, with_consumer, used_last}
+use Rattle.hc_model.specs.Effects.{with_event, with_consumer, used_last}
 use Rattle.hc_model.specs.Kinds.{kind_of}
 use Rattle.hc_model.specs.Lawful.{Lawful}
 use Rattle.hc_model.specs.Moves.{Shows, acts_of, span_to}
@@ -42,8 +42,8 @@ use Rattle.hc_state.specs.Plans.{is_idle_at, begin_of, end_of, shows_part, HasCu
 use Rattle.hc_state.specs.Stands.{Answered, RowsStand}
 use Rattle.hc_state.specs.Stored.{KeepsEntries}
 use Rattle.hc_state.proofs.Answering.{does_answered}
-use Rattle.hc_state.proofs.Asides.{answer_aside}
-use Rattle.hc_state.proofs.AsideSteps.{length_same, live_same}
+use Rattle.hc_state.proofs.Fallbacks.{answer_fallback}
+use Rattle.hc_state.proofs.FallbackSteps.{length_same, live_same}
 use Rattle.hc_on_poll.proofs.BoundArm.{held_bound, entry_with, entries_bound}
 use Rattle.hc_state.proofs.Counting.{stands_counted}
 use Rattle.hc_state.proofs.CurrentTies.{now_kept, total_told}
@@ -102,7 +102,7 @@ module _ {B : Type 0} {g : Ghosts B} (r mid : Rows B g) (a : Entries B g) (m : N
     place = refl;
     own = kept.own;
     shown = refl;
-    answer = kept.answer ∙ answer_aside t v (idle_reads v.place v_idle);
+    answer = kept.answer ∙ answer_fallback t v (idle_reads v.place v_idle);
     begins = refl;
     ends = ends;
     given = kept.given;
@@ -152,13 +152,13 @@ module _ {B : Type 0} {g : Ghosts B} (r mid : Rows B g) (a : Entries B g) (m : N
 
   pub bind_answered : (bounds : Limits) (faults now want : ℕ) (why : Why) (head : Response) (before out : List Act) → move_of t now want c v ≡ Shows q why head lo hi → out ≡ before ++ (act.Shown c q why head.status head.fields lo hi ∷ []) → Answered bounds faults u t before out now (event.Poll c want)
   bind_answered bounds faults now want why head before out is told =
-      does_answered bounds faults u t (counted now (event.Poll c want) s) before out (acts_of c (Shows q why head lo hi)) now (event.Poll c want)
+      does_answered bounds faults u t (with_event now (event.Poll c want) s) before out (acts_of c (Shows q why head lo hi)) now (event.Poll c want)
       (shows_new bounds t law now c want v row q why head lo hi is (idle_reads v.place v_idle)) refl refl told (stands_counted u s now (event.Poll c want) refl stands_bound)
 
 -- WHAT IS TOLD OF THE PART
 
 -- what is shown is the part that its plan says
-pub shows_told : (q : ℕ) (head : Head) (why : Why) (span : Option Span) (k : Consumer) (lo : ℕ) (hi : Option ℕ) (ranged : Bool) (response : Response) → lo ≡ begin_of span → hi ≡ end_of span head.total → ranged ≡ is_some k.class.range → response ≡ shown head why (span_to lo hi) ranged → shows_part q head why span k ≡ Shows q why response lo hi
+pub shows_told : (q : ℕ) (head : Head) (why : Why) (span : Option Span) (k : Consumer) (lo : ℕ) (hi : Option ℕ) (ranged : Bool) (response : Response) → lo ≡ begin_of span → hi ≡ end_of span head.total → ranged ≡ is_some k.class.range → response ≡ shown_response head why (span_to lo hi) ranged → shows_part q head why span k ≡ Shows q why response lo hi
 shows_told q head why span k lo hi ranged response from to range told = rw (told, range, from, to) refl
 
 -- it ends where the span does, or what is stored

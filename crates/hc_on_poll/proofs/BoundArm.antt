@@ -17,11 +17,11 @@ use Rattle.hc_model.specs.Reading.{reads, is_bound, is_bound_place}
 use Rattle.hc_model.specs.Rows as rows
 use Rattle.hc_model.specs.Rows.{Tables, Exchange, Representation}
 use Rattle.hc_model.specs.Writers.{came_alone}
-use Rattle.hc_state.specs.Kept.{held_for, held_of, held_alone, unread, unstored}
+use Rattle.hc_state.specs.Kept.{held_for, held_of, held_alone, unread, unstored_bytes}
 use Rattle.hc_state.specs.Stored.{IsEntry, KeepsEntry, KeepsEntries, TellsLength, is_first, is_usable_row}
 use Rattle.hc_state.specs.Stored as stored
-use Rattle.hc_state.proofs.Asides.{unread_aside, unstored_aside, unstored_moved}
-use Rattle.hc_state.proofs.AsideSteps.{first_aside}
+use Rattle.hc_state.proofs.Fallbacks.{unread_fallback, unstored_fallback, unstored_moved}
+use Rattle.hc_state.proofs.FallbackSteps.{first_fallback}
 use Rattle.hc_state.proofs.CurrentTies.{stays_stored, total_told}
 use Rattle.hc_state.proofs.OneOfEach.{first_row, bound_same}
 use Rattle.hc_state.proofs.Ties.{entry_same, OversStay, writer_then}
@@ -50,7 +50,7 @@ module _ (t s : Tables) (law : Lawful t) (c q lo : ℕ) (hi : Option ℕ) (how :
   bound_at : (n : ℕ) → is_bound_place n w.place ≡ (q == n)
   bound_at n = ap (is_bound_place n) at
 
-  unstored_here : (y : ℕ) (e : Exchange) (b : Representation) → t.representation (family y e) ≡ Some b → b.alone ≡ Some c → unstored s y e b (Some w) ≡ []
+  unstored_here : (y : ℕ) (e : Exchange) (b : Representation) → t.representation (family y e) ≡ Some b → b.alone ≡ Some c → unstored_bytes s y e b (Some w) ≡ []
   unstored_here y e b of_y alone = elim (same_or q (family y e)) [
     | inl one ↦ none_some c (sym alone_none ∙ (ap (λ (z : Representation). z.alone) (same_row (t.representation q) p b there (ap t.representation one ∙ of_y)) ∙ alone))
     | inr ne ↦ (let off : (is_bound_place (family y e) w.place && is_number w.own y) ≡ false = and_false (is_bound_place (family y e) w.place) (is_number w.own y) (bound_at (family y e) ∙ eqb-other q (family y e) ne) in rw off refl)
@@ -65,13 +65,13 @@ module _ (t s : Tables) (law : Lawful t) (c q lo : ℕ) (hi : Option ℕ) (how :
       by_alone : (b : Representation) (o : Option ℕ) → t.representation (family y e) ≡ Some b → b.alone ≡ o → held_alone s y e b o ≡ held_alone t y e b o
       by_alone b None of_y is = refl
       by_alone b (Some d) of_y is = elim (same_or c d) [
-        | inl one ↦ rw (← one, here, row) (unstored_here y e b of_y (is ∙ ap Some (sym one)) ∙ sym (unstored_aside t y e b (Some v) (ap not idle)))
-        | inr ne ↦ ap (unstored s y e b) (others d (λ is. ne (sym is))) ∙ unstored_moved t s y e b (t.consumer d)
+        | inl one ↦ rw (← one, here, row) (unstored_here y e b of_y (is ∙ ap Some (sym one)) ∙ sym (unstored_fallback t y e b (Some v) (ap not idle)))
+        | inr ne ↦ ap (unstored_bytes s y e b) (others d (λ is. ne (sym is))) ∙ unstored_moved t s y e b (t.consumer d)
       ]
 
       by_row : (o : Option Representation) → t.representation (family y e) ≡ o → held_of s y e o ≡ held_of t y e o
       by_row None of_y = elim (same_or c e.c) [
-        | inl one ↦ rw (← one, here, row) (unread_here y e ∙ sym (unread_aside y e (Some v) (ap not idle)))
+        | inl one ↦ rw (← one, here, row) (unread_here y e ∙ sym (unread_fallback y e (Some v) (ap not idle)))
         | inr ne ↦ ap (unread y e) (others e.c (λ is. ne (sym is)))
       ]
       by_row (Some b) of_y = by_alone b b.alone of_y refl
@@ -98,7 +98,7 @@ module _ (t s : Tables) (law : Lawful t) (c q lo : ℕ) (hi : Option ℕ) (how :
 
   first_other : (n : ℕ) → n ≢ q → (d : ℕ) → is_first s n (s.consumer d) ≡ is_first t n (t.consumer d)
   first_other n ne d = elim (same_or c d) [
-    | inl one ↦ rw (← one, here, row) (and_false (is_bound_place n w.place) (came_alone s w.place) (bound_at n ∙ eqb-other q n (λ is. ne (sym is))) ∙ sym (first_aside t n (Some v) (ap not idle)))
+    | inl one ↦ rw (← one, here, row) (and_false (is_bound_place n w.place) (came_alone s w.place) (bound_at n ∙ eqb-other q n (λ is. ne (sym is))) ∙ sym (first_fallback t n (Some v) (ap not idle)))
     | inr off ↦ ap (is_first s n) (others d (λ is. off (sym is))) ∙ first_row t s same n (t.consumer d)
   ]
 
@@ -117,7 +117,7 @@ module _ (t s : Tables) (law : Lawful t) (c q lo : ℕ) (hi : Option ℕ) (how :
     first_else d ne = is.first d ∙ sym (ap (is_first s q) (others d ne) ∙ first_row t s same q (t.consumer d))
 
     not_first : is_number e.first c ≡ false
-    not_first = is.first c ∙ (ap (is_first t q) row ∙ first_aside t q (Some v) (ap not idle))
+    not_first = is.first c ∙ (ap (is_first t q) row ∙ first_fallback t q (Some v) (ap not idle))
 
     -- one more is bound, by its plan
     pub entry_with : OversStay t.exchange s.exchange → how ≡ by.Plan → IsEntry s q (with_user c e) p

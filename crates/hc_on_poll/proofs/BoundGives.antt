@@ -22,7 +22,7 @@ use Rattle.hc_exch.specs.Known.{Known}
 use Rattle.hc_event.specs.declared.place.BoundBy.{BoundBy}
 use Rattle.hc_event.specs.declared.place.Place.TheVariants as place
 use Rattle.hc_model.specs.Currents.{is_number}
-use Rattle.hc_model.specs.Effects.{Does, with_consumer, with_ask, counted}
+use Rattle.hc_model.specs.Effects.{Does, with_consumer, with_ask, with_event}
 use Rattle.hc_model.specs.Exchanges.{base, front, family}
 use Rattle.hc_model.specs.Flaws.{NoFlaw}
 use Rattle.hc_model.specs.Holes.{first_place, absent_from}
@@ -37,10 +37,10 @@ use Rattle.hc_laws.proofs.GiveEffects.{gives_bytes}
 use Rattle.hc_laws.proofs.WaitEffects.{waits_on}
 use Rattle.hc_state.specs.declared.consumer.Consumer.{Consumer}
 use Rattle.hc_state.specs.declared.rows.Rows.{Rows}
-use Rattle.hc_state.specs.Arms.{asks_or_waits, asked_in, given}
+use Rattle.hc_state.specs.Arms.{asks_or_waits, asked_in, given_acts}
 use Rattle.hc_state.specs.Changes.{ChangesAt, once_given}
 use Rattle.hc_state.specs.Facts.{Facts}
-use Rattle.hc_state.specs.Kept.{KeepsExchange, KeepsRunning, held_for, held_of, held_alone, unread, unstored, first_lacking}
+use Rattle.hc_state.specs.Kept.{KeepsExchange, KeepsRunning, held_for, held_of, held_alone, unread, unstored_bytes, first_lacking}
 use Rattle.hc_state.specs.Stands.{RowsStand, Answered}
 use Rattle.hc_state.proofs.Answering.{does_answered}
 use Rattle.hc_on_poll.proofs.Asking.{stands_asked, stands_asked_already}
@@ -166,8 +166,8 @@ module _ {B : Type 0} {g : Ghosts B} (r u : Rows B g) (t : Tables) (facts : Fact
 
       gives_answered : (run : Run) → length run.bytes ≡ l → move_of t now want c rd.v ≡ Gives run → out ≡ before ++ acts_of c (Gives run) → Answered r.limits (shelf_of r.entries).faults u t before out now ev
       gives_answered run long move acts =
-          does_answered r.limits (shelf_of r.entries).faults u t (counted now ev s) before out (acts_of c (Gives run)) now ev
-          (subst (λ (n : ℕ). Does r.limits t now ev NoFlaw (acts_of c (Gives run)) (counted now ev (with_consumer c (Some (record rd.v { given = rd.v.given + n })) t))) long (gives_bytes r.limits t facts.law now c want rd.v rd.row run move)) refl refl acts
+          does_answered r.limits (shelf_of r.entries).faults u t (with_event now ev s) before out (acts_of c (Gives run)) now ev
+          (subst (λ (n : ℕ). Does r.limits t now ev NoFlaw (acts_of c (Gives run)) (with_event now ev (with_consumer c (Some (record rd.v { given = rd.v.given + n })) t))) long (gives_bytes r.limits t facts.law now c want rd.v rd.row run move)) refl refl acts
           (stands_counted u s now ev refl stands_given)
 
   -- OF WHAT IS STORED
@@ -181,7 +181,7 @@ module _ {B : Type 0} {g : Ghosts B} (r u : Rows B g) (t : Tables) (facts : Fact
     held_on y None = refl
     held_on y (Some e) = held_same t c rd.v rd.v.shown (rd.v.given + l) rd.row y e (λ mine. unread_same l y e) by_lost
       where
-        by_lost : (p : Representation) → t.representation (family y e) ≡ Some p → p.alone ≡ Some c → unstored t y e p (Some (record rd.v { given = rd.v.given + l })) ≡ unstored t y e p (Some rd.v)
+        by_lost : (p : Representation) → t.representation (family y e) ≡ Some p → p.alone ≡ Some c → unstored_bytes t y e p (Some (record rd.v { given = rd.v.given + l })) ≡ unstored_bytes t y e p (Some rd.v)
         by_lost p founded alone = if_same (is_bound_place (family y e) rd.v.place && is_number rd.v.own y) _ _ (λ on.
             let bound : is_bound_place (family y e) (place.Bound q rd.lo rd.hi how) ≡ true = sym (ap (is_bound_place (family y e)) rd.at) ∙ (both_true (is_bound_place (family y e) rd.v.place) (is_number rd.v.own y) on).0 in
             let of_q : q ≡ family y e = grind (arith, nat_tests, bound) in
@@ -192,7 +192,7 @@ module _ {B : Type 0} {g : Ghosts B} (r u : Rows B g) (t : Tables) (facts : Fact
             ap (λ (n : ℕ). drop (absent_from p.stored p.reach n (front e) - base e) e.body) (offset_then l t)
             ∙ (lacks ∙ ap (λ (n : ℕ). drop (absent_from p.stored p.reach n (front e) - base e) e.body) (offset_is r t facts stands c q how k rd)))
 
-    pub stored_answered : move_of t now want c rd.v ≡ Gives z → out ≡ before ++ given c z.x z.at z.bytes → u.exchanges ≡ r.exchanges → ChangesAt r.consumers u.consumers c (once_given l) → Answered r.limits (shelf_of r.entries).faults u t before out now ev
+    pub stored_answered : move_of t now want c rd.v ≡ Gives z → out ≡ before ++ given_acts c z.x z.at z.bytes → u.exchanges ≡ r.exchanges → ChangesAt r.consumers u.consumers c (once_given l) → Answered r.limits (shelf_of r.entries).faults u t before out now ev
     stored_answered move acts exchanges changes =
         gives_answered l changes (ap (λ (x : _). next_of x) exchanges)
         (λ y. subst (λ x. KeepsExchange (with_consumer c (Some (record rd.v { given = rd.v.given + l })) t) y (table_of x y)) (sym exchanges) (exchange_reading t c rd.v rd.v.shown (rd.v.given + l) rd.row y (table_of r.exchanges y) (held_on y (t.exchange y)) (stands.exchanges y)))
@@ -200,7 +200,7 @@ module _ {B : Type 0} {g : Ghosts B} (r u : Rows B g) (t : Tables) (facts : Fact
 
   -- OF WHAT IS HELD
 
-  module _ (h : Holds r t c q k rd.v rd.p) (n : ℕ) (becomes : exch.Becomes (known.given n) h.x r.exchanges u.exchanges) where
+  module _ (h : Holds r t c q k rd.v rd.p) (n : ℕ) (becomes : exch.Becomes (known.without_first n) h.x r.exchanges u.exchanges) where
     abbrev bytes : List ℕ
     bytes = take n (table_of r.exchanges h.x).held
 
@@ -210,7 +210,7 @@ module _ {B : Type 0} {g : Ghosts B} (r u : Rows B g) (t : Tables) (facts : Fact
     abbrev then_on : Tables
     then_on = with_consumer c (Some (record rd.v { given = rd.v.given + more })) t
 
-    here : table_of u.exchanges h.x ≡ known.given n (table_of r.exchanges h.x)
+    here : table_of u.exchanges h.x ≡ known.without_first n (table_of r.exchanges h.x)
     here = becomes.table h.x ∙ rw (eqb-same h.x) refl
 
     left : (table_of u.exchanges h.x).held ≡ drop (o - base h.w + more) h.w.body
@@ -233,7 +233,7 @@ module _ {B : Type 0} {g : Ghosts B} (r u : Rows B g) (t : Tables) (facts : Fact
         ap (held_for then_on h.x) h.row
         ∙ (ap (held_of then_on h.x h.w) founded
         ∙ (ap (held_alone then_on h.x h.w rd.p) h.alone
-        ∙ (ap (unstored then_on h.x h.w rd.p) (itself t c (Some (record rd.v { given = rd.v.given + more })))
+        ∙ (ap (unstored_bytes then_on h.x h.w rd.p) (itself t c (Some (record rd.v { given = rd.v.given + more })))
         ∙ (unstored_own then_on h.x h.w rd.p (record rd.v { given = rd.v.given + more }) q rd.lo rd.hi how rd.at own h.of_q
         ∙ ap (λ (m : ℕ). drop m h.w.body) (let far : first_lacking then_on h.w rd.p (record rd.v { given = rd.v.given + more }) ≡ o + more = lacking in let sum : first_lacking then_on h.w rd.p (record rd.v { given = rd.v.given + more }) - base h.w ≡ o - base h.w + more = omega (arith, far, low) in sum)))))
 
@@ -255,19 +255,19 @@ module _ {B : Type 0} {g : Ghosts B} (r u : Rows B g) (t : Tables) (facts : Fact
           (exchange_reading t c rd.v rd.v.shown (rd.v.given + more) rd.row y (table_of r.exchanges y) (elsewhere y (t.exchange y) ne) (stands.exchanges y))
     ]
 
-    pub held_answered : move_of t now want c rd.v ≡ Gives (record { x = h.x; at = o; bytes = bytes }) → out ≡ before ++ given c h.x o bytes → ChangesAt r.consumers u.consumers c (once_given more) → Answered r.limits (shelf_of r.entries).faults u t before out now ev
+    pub held_answered : move_of t now want c rd.v ≡ Gives (record { x = h.x; at = o; bytes = bytes }) → out ≡ before ++ given_acts c h.x o bytes → ChangesAt r.consumers u.consumers c (once_given more) → Answered r.limits (shelf_of r.entries).faults u t before out now ev
     held_answered move acts changes = gives_answered more changes becomes.next each_exchange (record { x = h.x; at = o; bytes = bytes }) refl move acts
 
   -- IT ASKS FOR MORE, OR WAITS FOR THAT
 
-  module _ (x : ℕ) (consumers : u.consumers ≡ r.consumers) (becomes : exch.Becomes known.asked x r.exchanges u.exchanges) where
+  module _ (x : ℕ) (consumers : u.consumers ≡ r.consumers) (becomes : exch.Becomes known.with_asking x r.exchanges u.exchanges) where
     waits_by : (b : Bool) → asked_in (table_of r.exchanges x).running ≡ b → move_of t now want c rd.v ≡ asks_or_waits b x → out ≡ before ++ acts_of c (asks_or_waits b x) → Answered r.limits (shelf_of r.entries).faults u t before out now ev
     waits_by false is move acts =
-        does_answered r.limits (shelf_of r.entries).faults u t (counted now ev (with_ask x t)) before out (acts_of c (Asks x)) now ev
+        does_answered r.limits (shelf_of r.entries).faults u t (with_event now ev (with_ask x t)) before out (acts_of c (Asks x)) now ev
         (asks r.limits t facts.law now c want rd.v rd.row x move) refl refl acts
         (stands_counted u (with_ask x t) now ev refl (stands_asked r u t x stands limits received last consumers same_keys becomes unread_store))
     waits_by true is move acts =
-        does_answered r.limits (shelf_of r.entries).faults u t (counted now ev t) before out (acts_of c (moves.Waits (wait.Body x))) now ev
+        does_answered r.limits (shelf_of r.entries).faults u t (with_event now ev t) before out (acts_of c (moves.Waits (wait.Body x))) now ev
         (waits_on r.limits t facts.law now c want rd.v rd.row (wait.Body x) move refl) refl refl acts
         (stands_counted u t now ev refl (stands_asked_already r u t x stands is limits received last consumers same_keys becomes unread_store))
 

@@ -36,17 +36,17 @@ use Rattle.hc_model.specs.Exchanges.{base, is_headless, is_open}
 use Rattle.hc_model.specs.Holes.{stretch_to}
 use Rattle.hc_model.specs.Moves as moves
 use Rattle.hc_model.specs.Moves.{Move, Opens, Gives, Ends, Fails, gives, waits_for, opens_hole, hole_request}
-use Rattle.hc_model.specs.Planning.{planned}
+use Rattle.hc_model.specs.Planning.{planned_move}
 use Rattle.hc_model.specs.Polls.{move_of, shows_head, shows_at, if_headless, waits_for_head, by_place, or_else}
-use Rattle.hc_model.specs.Reading.{own_open, shared, source, offset, hi_of, lo_of, if_open, is_written, writing_in}
+use Rattle.hc_model.specs.Reading.{own_open, shared_exchange, source, offset, hi_of, lo_of, if_open, is_written, writing_in}
 use Rattle.hc_model.specs.Rows as rows
 use Rattle.hc_model.specs.Rows.{Tables, Exchange, Representation}
-use Rattle.hc_model.specs.Sound.{IsBound, IsFirst, HasPen, IsServed, IsAlone}
+use Rattle.hc_model.specs.Sound.{IsBound, IsFirst, IsExclusiveWriter, IsServed, IsAlone}
 use Rattle.hc_model.specs.Sound as sound
 use Rattle.hc_model.specs.Writers.{came_alone}
-use Rattle.hc_model.proofs.Pens.{writer_some}
+use Rattle.hc_model.proofs.ExclusiveWriters.{writer_some}
 use Rattle.hc_model.specs.Steps as steps
-use Rattle.hc_model.specs.Steps.{bound_row, reading, step_move, later_hole, held, stored_ahead, next_stored, run_of}
+use Rattle.hc_model.specs.Steps.{bound_row, reading, step_move, later_hole, run_held_for, stored_ahead, next_stored, run_of}
 use Rattle.hc_state.specs.declared.consumer.Consumer.{Consumer}
 use Rattle.hc_state.specs.declared.rows.Rows.{Rows}
 use Rattle.hc_state.specs.Arms.{most, asks_or_waits, asked_in}
@@ -227,7 +227,7 @@ module _ {B : Type 0} {g : Ghosts B} (r : Rows B g) (t : Tables) (facts : Facts 
     by_reading : by_place t now want c rd.v rd.v.place ≡ reading t want c rd.v
     by_reading = ap (by_place t now want c rd.v) rd.at ∙ by_shown rd.v.shown (sym rd.kept.shown ∙ shown)
       where
-        by_shown : (b : Bool) → b ≡ true → (if b then reading t want c rd.v else planned t now c rd.v) ≡ reading t want c rd.v
+        by_shown : (b : Bool) → b ≡ true → (if b then reading t want c rd.v else planned_move t now c rd.v) ≡ reading t want c rd.v
         by_shown true is = refl
         by_shown false is = false_true is
 
@@ -261,8 +261,8 @@ module _ {B : Type 0} {g : Ghosts B} (r : Rows B g) (t : Tables) (facts : Facts 
       code_step : read_step view ≡ by_parts (is_at_end k.hi o) k.hi (option_map end_of run) is_held k.due from hole
       code_step = ap read_step view_is.is ∙ step_parts (bound_view table ((shelf_of r.entries).kept q) c (option_map end_of run) next k)
 
-      model_step : read_step (steps.read_view t want c rd.v) ≡ by_parts (is_at_end k.hi o) k.hi (option_map end_of (stored_ahead t rd.v want)) (is_some (held t c rd.v want)) k.due from hole
-      model_step = step_parts (steps.read_view t want c rd.v) ∙ view_same _ _ _ _ (option_map end_of (stored_ahead t rd.v want)) (is_some (held t c rd.v want)) _ _ _ _ _ _ (sym (offset_is r t facts stands c q how k rd)) (sym rd.kept.ends) (sym rd.kept.due) (source_is r t facts stands c q how k rd) (sym next_same)
+      model_step : read_step (steps.read_view t want c rd.v) ≡ by_parts (is_at_end k.hi o) k.hi (option_map end_of (stored_ahead t rd.v want)) (is_some (run_held_for t c rd.v want)) k.due from hole
+      model_step = step_parts (steps.read_view t want c rd.v) ∙ view_same _ _ _ _ (option_map end_of (stored_ahead t rd.v want)) (is_some (run_held_for t c rd.v want)) _ _ _ _ _ _ (sym (offset_is r t facts stands c q how k rd)) (sym rd.kept.ends) (sym rd.kept.due) (source_is r t facts stands c q how k rd) (sym next_same)
 
       -- what was read of the store, where it isn't at the end
       read_run : is_at_end k.hi o ≡ false → run ≡ stretch f o count
@@ -272,34 +272,34 @@ module _ {B : Type 0} {g : Ghosts B} (r : Rows B g) (t : Tables) (facts : Facts 
           by_count false is = refl
           by_count true is = absurd (let more : 0 < count = some_more want wants k.hi o off in let none : count ≡ 0 = grind (arith, nat_tests, is) in omega (arith, more, none))
 
-      sees : SeesAhead k.hi (is_at_end k.hi o) (option_map end_of (stored_ahead t rd.v want)) (option_map end_of run) (is_some (held t c rd.v want)) is_held
+      sees : SeesAhead k.hi (is_at_end k.hi o) (option_map end_of (stored_ahead t rd.v want)) (option_map end_of run) (is_some (run_held_for t c rd.v want)) is_held
       sees = by_end (is_at_end k.hi o) refl
         where
-          by_cell : is_at_end k.hi o ≡ false → (z : Option Cell) → f o ≡ z → SeesAhead k.hi false (option_map end_of (stored_ahead t rd.v want)) (option_map end_of run) (is_some (held t c rd.v want)) is_held
+          by_cell : is_at_end k.hi o ≡ false → (z : Option Cell) → f o ≡ z → SeesAhead k.hi false (option_map end_of (stored_ahead t rd.v want)) (option_map end_of run) (is_some (run_held_for t c rd.v want)) is_held
           by_cell off None none =
               let both = none_ahead f rd.p.reach o want k.hi (ends_by r t facts stands c q how k rd) wants off none in
               let seen : stored_ahead t rd.v want ≡ None = ahead_is r t facts stands c q how k rd want ∙ both.1 in
               let was_read : run ≡ None = read_run off ∙ both.0 in
-              sees_missing k.hi (stored_ahead t rd.v want) run (is_some (held t c rd.v want)) is_held seen was_read (held_same r t facts stands c q how k rd none want wants)
+              sees_missing k.hi (stored_ahead t rd.v want) run (is_some (run_held_for t c rd.v want)) is_held seen was_read (held_same r t facts stands c q how k rd none want wants)
           by_cell off (Some cell) some =
               let on : is_some (f o) ≡ true = ap (λ (z : Option Cell). is_some z) some in
               by_run run refl on
             where
-              by_run : (z : Option Run) → run ≡ z → is_some (f o) ≡ true → SeesAhead k.hi false (option_map end_of (stored_ahead t rd.v want)) (option_map end_of run) (is_some (held t c rd.v want)) is_held
+              by_run : (z : Option Run) → run ≡ z → is_some (f o) ≡ true → SeesAhead k.hi false (option_map end_of (stored_ahead t rd.v want)) (option_map end_of run) (is_some (run_held_for t c rd.v want)) is_held
               by_run None none on = absurd (let absent : f o ≡ None = (stretch-absent f o count).0 (sym (read_run off) ∙ none) in false_true (sym (ap (λ (z : Option Cell). is_some z) absent) ∙ on))
               by_run (Some z) is on =
                   let a = ahead f rd.p.reach o want k.hi (ends_by r t facts stands c q how k rd) wants off on z (sym (read_run off) ∙ is) in
                   let seen : stored_ahead t rd.v want ≡ Some a.m = ahead_is r t facts stands c q how k rd want ∙ a.told in
-                  sees_stored k.hi (stored_ahead t rd.v want) run a.m z (is_some (held t c rd.v want)) is_held seen is (a.upto ∙ sym a.cut)
+                  sees_stored k.hi (stored_ahead t rd.v want) run a.m z (is_some (run_held_for t c rd.v want)) is_held seen is (a.upto ∙ sym a.cut)
 
-          by_end : (b : Bool) → is_at_end k.hi o ≡ b → SeesAhead k.hi b (option_map end_of (stored_ahead t rd.v want)) (option_map end_of run) (is_some (held t c rd.v want)) is_held
-          by_end true is = ended (option_map end_of (stored_ahead t rd.v want)) (option_map end_of run) (is_some (held t c rd.v want)) is_held
+          by_end : (b : Bool) → is_at_end k.hi o ≡ b → SeesAhead k.hi b (option_map end_of (stored_ahead t rd.v want)) (option_map end_of run) (is_some (run_held_for t c rd.v want)) is_held
+          by_end true is = ended (option_map end_of (stored_ahead t rd.v want)) (option_map end_of run) (is_some (run_held_for t c rd.v want)) is_held
           by_end false is = by_cell is (f o) refl
 
       -- what it does is the step of what it looks at
       pub reads_as : move_of t now want c rd.v ≡ step_move t want c rd.v (read_step view)
       reads_as =
-          reads_on ∙ ap (step_move t want c rd.v) (model_step ∙ (same_step k.hi (is_at_end k.hi o) (option_map end_of (stored_ahead t rd.v want)) (option_map end_of run) (is_some (held t c rd.v want)) is_held k.due from hole sees ∙ sym code_step))
+          reads_on ∙ ap (step_move t want c rd.v) (model_step ∙ (same_step k.hi (is_at_end k.hi o) (option_map end_of (stored_ahead t rd.v want)) (option_map end_of run) (is_some (run_held_for t c rd.v want)) is_held k.due from hole sees ∙ sym code_step))
 
       -- EACH STEP
 
@@ -353,8 +353,8 @@ module _ {B : Type 0} {g : Ghosts B} (r : Rows B g) (t : Tables) (facts : Facts 
           let more : 0 < count = some_more want wants k.hi o all.0 in
           let long = some_held h in
           let there = some_taken count (table h.x).held more long in
-          let given : held t c rd.v (steps.most t want rd.v) ≡ Some (record { x = h.x; at = o; bytes = take count (table h.x).held }) =
-          ap (held t c rd.v) most_is ∙ (h.runs count more ∙ (ap (λ (xs : List ℕ). run_of h.x o (take count xs)) (sym h.known) ∙ run_is_one h.x (take count (table h.x).held) there)) in
+          let given : run_held_for t c rd.v (steps.most t want rd.v) ≡ Some (record { x = h.x; at = o; bytes = take count (table h.x).held }) =
+          ap (run_held_for t c rd.v) most_is ∙ (h.runs count more ∙ (ap (λ (xs : List ℕ). run_of h.x o (take count xs)) (sym h.known) ∙ run_is_one h.x (take count (table h.x).held) there)) in
           (h, record { some = more; there = there; move_is = (reads_as ∙ ap (step_move t want c rd.v) is) ∙ ap gives given })
         where
           run_is_one : (x : ℕ) (bytes : List ℕ) → 0 < length bytes → run_of x o bytes ≡ Some (record { x = x; at = o; bytes = bytes })
@@ -439,12 +439,12 @@ module _ {B : Type 0} {g : Ghosts B} (r : Rows B g) (t : Tables) (facts : Facts 
         parts_none (Some a) b none = none_some a (sym none)
 
         none_own : own_open t rd.v ≡ None
-        none_own = (parts_none (own_open t rd.v) (shared t rd.v.place) no_source).0
+        none_own = (parts_none (own_open t rd.v) (shared_exchange t rd.v.place) no_source).0
 
         not_written : is_written t rd.p ≡ true → ⊥
         not_written on =
-            let none : shared t rd.v.place ≡ None = (parts_none (own_open t rd.v) (shared t rd.v.place) no_source).1 in
-            let writer : rd.p.writer ≡ None = sym (ap (λ (b : Bool). if b then rd.p.writer else None) on) ∙ (sym (ap (writing_in t) rd.there) ∙ (sym (ap (shared t) rd.at) ∙ none)) in
+            let none : shared_exchange t rd.v.place ≡ None = (parts_none (own_open t rd.v) (shared_exchange t rd.v.place) no_source).1 in
+            let writer : rd.p.writer ≡ None = sym (ap (λ (b : Bool). if b then rd.p.writer else None) on) ∙ (sym (ap (writing_in t) rd.there) ∙ (sym (ap (shared_exchange t) rd.at) ∙ none)) in
             writer_some t rd.p on writer
 
         not_covered : (n : ℕ) → hi_of t rd.v.place ≡ Some n → Covers f (offset t rd.v) n → ⊥
@@ -468,13 +468,13 @@ module _ {B : Type 0} {g : Ghosts B} (r : Rows B g) (t : Tables) (facts : Facts 
         along : IsAlong
         along = by_served (facts.law.sound.writes.served q c rd.p rd.v rd.there reader undue)
           where
-            by_pen : HasPen t q rd.p c → IsAlong
-            by_pen (sound.first fresh is_first) = first fresh is_first
-            by_pen (sound.alone lost is_alone) = alone lost is_alone
+            by_exclusive_writer : IsExclusiveWriter t q rd.p c → IsAlong
+            by_exclusive_writer (sound.first fresh is_first) = first fresh is_first
+            by_exclusive_writer (sound.alone lost is_alone) = alone lost is_alone
 
             by_served : IsServed t q rd.p c rd.v → IsAlong
             by_served (sound.shares on) = absurd (not_written on)
-            by_served (sound.writes pen) = by_pen pen
+            by_served (sound.writes exclusive_writer) = by_exclusive_writer exclusive_writer
             by_served (sound.reads n end covered) = absurd (not_covered n end covered)
 
         end_at : hi_of t rd.v.place ≡ option_or rd.hi rd.p.head.total
@@ -532,7 +532,7 @@ module _ {B : Type 0} {g : Ghosts B} (r : Rows B g) (t : Tables) (facts : Facts 
 
         none_held : rd.p.is_lost ≡ true → rd.p.alone ≡ Some c → rd.p.body o ≡ None
         none_held lost is_alone =
-            let model : is_some (held t c rd.v want) ≡ false = held_same r t facts stands c q how k rd bare want wants ∙ all.not_held in
+            let model : is_some (run_held_for t c rd.v want) ≡ false = held_same r t facts stands c q how k rd bare want wants ∙ all.not_held in
             let mine : is_number rd.p.alone c ≡ true = ap (λ (z : Option ℕ). is_number z c) is_alone ∙ eqb-same c in
             let run_is_none : stretch_to rd.p.body rd.p.reach o want ≡ None = none_of _ (sym (ap (λ (z : Option Run). is_some z) (held_is r t facts stands c q how k rd want ∙ lost_run c o want rd.p lost mine)) ∙ model) in
             (stretch-absent rd.p.body o (min want (rd.p.reach - o))).0 run_is_none

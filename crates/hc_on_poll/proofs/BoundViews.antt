@@ -20,18 +20,18 @@ use Rattle.hc_model.specs.Holes.{stretch_to, next_from, first_place, absent_from
 use Rattle.hc_model.specs.Losses.{HoldsOwn}
 use Rattle.hc_model.specs.Origins.{MayDeliver}
 use Rattle.hc_model.specs.Origins as origins
-use Rattle.hc_model.specs.Reading.{offset, if_open, source, shared, bound_to, is_bound_place}
+use Rattle.hc_model.specs.Reading.{offset, if_open, source, shared_exchange, bound_to, is_bound_place}
 use Rattle.hc_model.specs.Rows as rows
 use Rattle.hc_model.specs.Rows.{Tables, Exchange, Representation}
 use Rattle.hc_model.specs.Sound.{IsBound}
 use Rattle.hc_model.specs.Sound as sound
-use Rattle.hc_model.specs.Steps.{held, held_at, stored_ahead, stored_from, next_stored, bound_row, run_of, held_of_lost}
+use Rattle.hc_model.specs.Steps.{run_held_for, held_at, stored_ahead, stored_from, next_stored, bound_row, run_of, held_of_lost}
 use Rattle.hc_model.proofs.Basics.{same_functions}
 use Rattle.hc_model.proofs.HoleLemmas.{first_from, first_before, first_passes}
 use Rattle.hc_state.specs.declared.consumer.Consumer.{Consumer}
 use Rattle.hc_state.specs.declared.rows.Rows.{Rows}
 use Rattle.hc_state.specs.Facts.{Facts}
-use Rattle.hc_state.specs.Kept.{held_for, held_of, held_alone, unread, unstored, first_lacking}
+use Rattle.hc_state.specs.Kept.{held_for, held_of, held_alone, unread, unstored_bytes, first_lacking}
 use Rattle.hc_state.specs.Leaving.{if_running, writing_of}
 use Rattle.hc_state.specs.Reads.{goes_alone, held_own}
 use Rattle.hc_state.specs.Stands.{RowsStand}
@@ -144,11 +144,11 @@ module _ {B : Type 0} {g : Ghosts B} (r : Rows B g) (t : Tables) (facts : Facts 
           let at : is_bound_place (family x w) (place.Bound q rd.lo rd.hi how) ≡ true = sym (ap (λ (z : rows.Consumer). is_bound_place (family x w) z.place) same ∙ ap (is_bound_place (family x w)) rd.at) ∙ on in
           grind (arith, nat_tests, at)
 
-      by_owner : (p : Representation) (d : ℕ) (o : Option rows.Consumer) → t.consumer d ≡ o → unstored t x w p o ≡ []
+      by_owner : (p : Representation) (d : ℕ) (o : Option rows.Consumer) → t.consumer d ≡ o → unstored_bytes t x w p o ≡ []
       by_owner p d None row = refl
       by_owner p d (Some u) row = by_test (is_bound_place (family x w) u.place && is_number u.own x) refl
         where
-          by_test : (b : Bool) → (is_bound_place (family x w) u.place && is_number u.own x) ≡ b → unstored t x w p (Some u) ≡ []
+          by_test : (b : Bool) → (is_bound_place (family x w) u.place && is_number u.own x) ≡ b → unstored_bytes t x w p (Some u) ≡ []
           by_test false off = rw off refl
           by_test true on =
               let parts = and_parts (is_bound_place (family x w) u.place) (is_number u.own x) on in
@@ -165,7 +165,7 @@ module _ {B : Type 0} {g : Ghosts B} (r : Rows B g) (t : Tables) (facts : Facts 
       by_row (Some p) at = by_alone p p.alone
 
 -- what it holds is of its own exchange
-pub unstored_own : (t : Tables) (x : ℕ) (w : Exchange) (p : Representation) (v : rows.Consumer) (q lo : ℕ) (hi : Option ℕ) (how : BoundBy) → v.place ≡ place.Bound q lo hi how → v.own ≡ Some x → family x w ≡ q → unstored t x w p (Some v) ≡ drop (first_lacking t w p v - base w) w.body
+pub unstored_own : (t : Tables) (x : ℕ) (w : Exchange) (p : Representation) (v : rows.Consumer) (q lo : ℕ) (hi : Option ℕ) (how : BoundBy) → v.place ≡ place.Bound q lo hi how → v.own ≡ Some x → family x w ≡ q → unstored_bytes t x w p (Some v) ≡ drop (first_lacking t w p v - base w) w.body
 unstored_own t x w p v q lo hi how at own of_q =
     let bound : is_bound_place (family x w) v.place ≡ true = ap (is_bound_place (family x w)) at ∙ (ap (nat_eq q) of_q ∙ eqb-same q) in
     let mine : is_number v.own x ≡ true = ap (λ (o : Option ℕ). is_number o x) own ∙ eqb-same x in
@@ -218,7 +218,7 @@ pub record Holds {B : Type 0} {g : Ghosts B} (r : Rows B g) (t : Tables) (c q : 
   pub lost : p.is_lost ≡ true
   pub alone : p.alone ≡ Some c
   pub known : (table_of r.exchanges x).held ≡ drop (k.lo + k.given - base w) w.body
-  pub runs : (n : ℕ) → 0 < n → held t c v n ≡ run_of x (k.lo + k.given) (take n (drop (k.lo + k.given - base w) w.body))
+  pub runs : (n : ℕ) → 0 < n → run_held_for t c v n ≡ run_of x (k.lo + k.given) (take n (drop (k.lo + k.given - base w) w.body))
   pub after_base : base w ≤ k.lo + k.given
   pub before_front : k.lo + k.given < front w
   pub lacks : (n : ℕ) → k.lo + k.given ≤ n → n < front w → p.stored n ≡ None
@@ -253,11 +253,11 @@ module _ {B : Type 0} {g : Ghosts B} (r : Rows B g) (t : Tables) (facts : Facts 
   pub next_ahead : next_stored t rd.v ≡ next_from rd.p.stored rd.p.reach o
   next_ahead = ap (option_and_then (λ (z : Representation). next_from z.stored z.reach (offset t rd.v))) bound_at ∙ ap (λ (m : ℕ). next_from rd.p.stored rd.p.reach m) (sym offset_is)
 
-  pub held_is : (n : ℕ) → held t c rd.v n ≡ held_of_lost c o n (Some rd.p)
+  pub held_is : (n : ℕ) → run_held_for t c rd.v n ≡ held_of_lost c o n (Some rd.p)
   held_is n = ap (held_at t c (offset t rd.v) n) rd.at ∙ (ap (held_of_lost c (offset t rd.v) n) rd.there ∙ ap (λ (m : ℕ). held_of_lost c m n (Some rd.p)) (sym offset_is))
 
   pub source_is : source t rd.v ≡ option_or (if_running (table_of r.exchanges) k.own) (writing_of (table_of r.exchanges) ((shelf_of r.entries).kept q))
-  source_is = ap₂ option_or (sym (running_as r t stands k.own ∙ ap (option_and_then (if_open t)) rd.kept.own)) (ap (shared t) rd.at ∙ sym (writing_as r t stands facts.law q))
+  source_is = ap₂ option_or (sym (running_as r t stands k.own ∙ ap (option_and_then (if_open t)) rd.kept.own)) (ap (shared_exchange t) rd.at ∙ sym (writing_as r t stands facts.law q))
 
   -- WHO HOLDS SOMETHING
 
@@ -286,7 +286,7 @@ module _ {B : Type 0} {g : Ghosts B} (r : Rows B g) (t : Tables) (facts : Facts 
     abbrev left : List ℕ
     left = drop (o - base h.w) h.w.body
 
-    own_runs : (n : ℕ) → 0 < n → held t c rd.v n ≡ run_of h.x o (take n left)
+    own_runs : (n : ℕ) → 0 < n → run_held_for t c rd.v n ≡ run_of h.x o (take n left)
     own_runs n pos = h.next here n pos ∙ ap (λ (m : ℕ). run_of h.x m (take n (drop (m - base h.w) h.w.body))) (sym offset_is)
 
     held_row : (table_of r.exchanges h.x).held ≡ held_for t h.x (Some h.w)
@@ -295,18 +295,18 @@ module _ {B : Type 0} {g : Ghosts B} (r : Rows B g) (t : Tables) (facts : Facts 
     own_held : family h.x h.w ≡ q → (table_of r.exchanges h.x).held ≡ left
     own_held of_q =
         let there : t.representation (family h.x h.w) ≡ Some rd.p = ap t.representation of_q ∙ rd.there in
-        let all : unstored t h.x h.w rd.p (Some rd.v) ≡ drop (first_lacking t h.w rd.p rd.v - base h.w) h.w.body = unstored_own t h.x h.w rd.p rd.v q rd.lo rd.hi how rd.at h.own of_q in
+        let all : unstored_bytes t h.x h.w rd.p (Some rd.v) ≡ drop (first_lacking t h.w rd.p rd.v - base h.w) h.w.body = unstored_own t h.x h.w rd.p rd.v q rd.lo rd.hi how rd.at h.own of_q in
         let first : first_lacking t h.w rd.p rd.v ≡ o = absent_here rd.p.stored rd.p.reach (offset t rd.v) (front h.w) here ∙ sym offset_is in
-        held_row ∙ (ap (held_of t h.x h.w) there ∙ (ap (held_alone t h.x h.w rd.p) alone_is ∙ (ap (unstored t h.x h.w rd.p) rd.row ∙ (all ∙ ap (λ (m : ℕ). drop (m - base h.w) h.w.body) first))))
+        held_row ∙ (ap (held_of t h.x h.w) there ∙ (ap (held_alone t h.x h.w rd.p) alone_is ∙ (ap (unstored_bytes t h.x h.w rd.p) rd.row ∙ (all ∙ ap (λ (m : ℕ). drop (m - base h.w) h.w.body) first))))
 
     other_held : (family h.x h.w ≡ q → ⊥) → (table_of r.exchanges h.x).held ≡ []
     other_held apart = held_row ∙ held_else r t facts stands c q how k rd h.x h.w h.own h.row apart
 
-    came_run : (n : ℕ) → held t c rd.v n ≡ stretch_to rd.p.body rd.p.reach o n
+    came_run : (n : ℕ) → run_held_for t c rd.v n ≡ stretch_to rd.p.body rd.p.reach o n
     came_run n = held_is n ∙ lost_run c o n rd.p parts.0 parts.1
 
     -- what is held came in the body, and of its own exchange
-    module _ (n : ℕ) (pos : 0 < n) (run : Run) (is : held t c rd.v n ≡ Some run) where
+    module _ (n : ℕ) (pos : 0 < n) (run : Run) (is : run_held_for t c rd.v n ≡ Some run) where
       byte_there : (cell : Cell) × (rd.p.body o ≡ Some cell) × (cell.x ≡ h.x)
       byte_there =
           let found = begins_with rd.p.body o (min n (rd.p.reach - o)) run (sym (came_run n) ∙ is) in
@@ -349,35 +349,35 @@ module _ {B : Type 0} {g : Ghosts B} (r : Rows B g) (t : Tables) (facts : Facts 
 
     -- as many bytes are held as the tables say
     module _ (want : ℕ) (wants : 0 < want) where
-      held_bytes : is_some (held t c rd.v want) ≡ nat_lt 0 (length (table_of r.exchanges h.x).held)
+      held_bytes : is_some (run_held_for t c rd.v want) ≡ nat_lt 0 (length (table_of r.exchanges h.x).held)
       held_bytes = elim (same_or (family h.x h.w) q) [
         | inl of_q ↦ ap (λ (z : Option Run). is_some z) (own_runs want wants) ∙ (run_some h.x o want left wants ∙ ap (λ (xs : List ℕ). nat_lt 0 (length xs)) (sym (own_held of_q)))
-        | inr apart ↦ by_run (held t c rd.v want) refl apart
+        | inr apart ↦ by_run (run_held_for t c rd.v want) refl apart
       ]
         where
-          by_run : (z : Option Run) → held t c rd.v want ≡ z → (family h.x h.w ≡ q → ⊥) → is_some (held t c rd.v want) ≡ nat_lt 0 (length (table_of r.exchanges h.x).held)
+          by_run : (z : Option Run) → run_held_for t c rd.v want ≡ z → (family h.x h.w ≡ q → ⊥) → is_some (run_held_for t c rd.v want) ≡ nat_lt 0 (length (table_of r.exchanges h.x).held)
           by_run None is apart = ap (λ (z : Option Run). is_some z) is ∙ ap (λ (xs : List ℕ). nat_lt 0 (length xs)) (sym (other_held apart))
           by_run (Some run) is apart = absurd (apart (own_family want wants run is))
 
       held_known : nat_lt 0 (held_own (table_of r.exchanges) k.own) ≡ nat_lt 0 (length (table_of r.exchanges h.x).held)
       held_known = ap (λ (z : Option ℕ). nat_lt 0 (held_own (table_of r.exchanges) z)) (rd.kept.own ∙ h.own)
 
-      pub lone_same : is_some (held t c rd.v want) ≡ nat_lt 0 (held_own (table_of r.exchanges) k.own)
+      pub lone_same : is_some (run_held_for t c rd.v want) ≡ nat_lt 0 (held_own (table_of r.exchanges) k.own)
       lone_same = held_bytes ∙ sym held_known
 
       pub lone_holds : nat_lt 0 (held_own (table_of r.exchanges) k.own) ≡ true → Holds r t c q k rd.v rd.p
-      lone_holds some = by_run (held t c rd.v want) refl
+      lone_holds some = by_run (run_held_for t c rd.v want) refl
         where
-          by_run : (z : Option Run) → held t c rd.v want ≡ z → Holds r t c q k rd.v rd.p
+          by_run : (z : Option Run) → run_held_for t c rd.v want ≡ z → Holds r t c q k rd.v rd.p
           by_run None is = false_true (sym (ap (λ (z : Option Run). is_some z) is) ∙ (lone_same ∙ some))
           by_run (Some run) is = holds want wants run is
 
   -- of who stands where nothing is stored
   module _ (missing : rd.p.stored o ≡ None) (want : ℕ) (wants : 0 < want) where
-    pub held_same : is_some (held t c rd.v want) ≡ (goes_alone c ((shelf_of r.entries).kept q) && nat_lt 0 (held_own (table_of r.exchanges) k.own))
+    pub held_same : is_some (run_held_for t c rd.v want) ≡ (goes_alone c ((shelf_of r.entries).kept q) && nat_lt 0 (held_own (table_of r.exchanges) k.own))
     held_same = by_lone lone refl ∙ ap (λ (b : Bool). b && nat_lt 0 (held_own (table_of r.exchanges) k.own)) (sym lone_is)
       where
-        by_lone : (b : Bool) → lone ≡ b → is_some (held t c rd.v want) ≡ (lone && nat_lt 0 (held_own (table_of r.exchanges) k.own))
+        by_lone : (b : Bool) → lone ≡ b → is_some (run_held_for t c rd.v want) ≡ (lone && nat_lt 0 (held_own (table_of r.exchanges) k.own))
         by_lone false off = ap (λ (z : Option Run). is_some z) (held_is want ∙ ap (λ (b : Bool). if b then stretch_to rd.p.body rd.p.reach o want else None) off) ∙ ap (λ (b : Bool). b && nat_lt 0 (held_own (table_of r.exchanges) k.own)) (sym off)
         by_lone true on = lone_same on missing want wants ∙ ap (λ (b : Bool). b && nat_lt 0 (held_own (table_of r.exchanges) k.own)) (sym on)
 

@@ -110,26 +110,26 @@ in_order t k v kept asked is = range_order v.request asked (sym (ap (λ (z : Req
 
 -- WHO IS BOUND FIRST
 
-rises_least : (x : ℕ) (xs : List ℕ) → above itself x xs ≡ true → least (x ∷ xs) ≡ Some x
-rises_least x [] up = refl
-rises_least x (y ∷ ys) up =
+ascends_least : (x : ℕ) (xs : List ℕ) → above itself x xs ≡ true → least (x ∷ xs) ≡ Some x
+ascends_least x [] up = refl
+ascends_least x (y ∷ ys) up =
     let both = and_parts (nat_lt x y) (above itself y ys) up in
     let lt : x < y = (let on = both.0 in grind (arith, nat_tests, on)) in
-    let rest = rises_least y ys both.1 in
+    let rest = ascends_least y ys both.1 in
     ap (λ (o : Option ℕ). lesser o x) rest ∙ ap Some (let less : min y x ≡ x = omega arith in less)
 
 -- the first of those that rise is the least
 first_least : (xs : List ℕ) → is_sorted itself xs ≡ true → slice_get xs 0 ≡ least xs
 first_least [] up = refl
-first_least (x ∷ xs) up = sym (rises_least x xs up)
+first_least (x ∷ xs) up = sym (ascends_least x xs up)
 
 -- who is bound, by what is kept, is_sorted
-pub bound_rises : {B : Type 0} {g : Ghosts B} (a : Entries B g) (q : ℕ) (e : Kept) → (shelf_of a).kept q ≡ Some e → is_sorted itself e.bound ≡ true
-bound_rises {B} {g} a q e at = by_row (rows_of a.rows q) refl at
+pub bound_ascends : {B : Type 0} {g : Ghosts B} (a : Entries B g) (q : ℕ) (e : Kept) → (shelf_of a).kept q ≡ Some e → is_sorted itself e.bound ≡ true
+bound_ascends {B} {g} a q e at = by_row (rows_of a.rows q) refl at
   where
     by_held : (row : Row) (o : Option Held) → rows_of a.rows q ≡ Some row → option_map (kept_of row) o ≡ Some e → is_sorted itself e.bound ≡ true
     by_held row None is at = none_some e at
-    by_held row (Some held) is at = ap (λ (z : Kept). is_sorted itself z.bound) (sym (some_is (kept_of row held) e at)) ∙ (a.shelved.each q row is).rising
+    by_held row (Some held) is at = ap (λ (z : Kept). is_sorted itself z.bound) (sym (some_is (kept_of row held) e at)) ∙ (a.shelved.each q row is).ascending
 
     by_row : (o : Option Row) → rows_of a.rows q ≡ o → kept_by (g.slots a.store) o ≡ Some e → is_sorted itself e.bound ≡ true
     by_row None is at = none_some e at
@@ -215,5 +215,5 @@ module _ {B : Type 0} {g : Ghosts B} (r : Rows B g) (t : Tables) (facts : Facts 
       let writing : seen.writing ≡ is_written t p =
       writes ∙ (ap (λ (o : Option ℕ). is_some o) (writing_as r t stands facts.law q ∙ ap (writing_in t) here) ∙ written_as t p) in
       let least : seen.least_bound ≡ least (bound t q) =
-      least_is ∙ (ap (λ (o : Option Kept). slice_get (bound_in o) 0) kept ∙ least_bound_as t facts.law q e p is (bound_rises r.entries q e kept)) in
+      least_is ∙ (ap (λ (o : Option Kept). slice_get (bound_in o) 0) kept ∙ least_bound_as t facts.law q e p is (bound_ascends r.entries q e kept)) in
       λ i. record { allowed = allowed_is i; vary = vary_is i; span = span i; hole = hole i; writing = writing i; exclusive = alone i; least_bound = least i }

@@ -22,11 +22,11 @@ use Rattle.hc_rules.specs.Requests.{is_disabled, is_only}
 use Rattle.hc_exch.specs.declared.role.Role.TheVariants as role
 use Rattle.hc_exch.specs.declared.exchanges.Exchanges.{Exchanges}
 use Rattle.hc_exch.specs.Exchanges.{table_of, next_of}
-use Rattle.hc_exch.specs.Known.{launched, Changes}
+use Rattle.hc_exch.specs.Known.{with_new_exchange, Changes}
 use Rattle.hc_event.specs.declared.place.Place.{Place}
 use Rattle.hc_event.specs.declared.place.Place.TheVariants as place
 use Rattle.hc_model.specs.Currents.{current}
-use Rattle.hc_model.specs.Effects.{counted, with_consumer, with_opening, just_opened, let_some_go}
+use Rattle.hc_model.specs.Effects.{with_event, with_consumer, with_opening, just_opened, let_some_go}
 use Rattle.hc_model.specs.Lawful.{Lawful}
 use Rattle.hc_model.specs.LettingGo.{MayLetGo}
 use Rattle.hc_model.specs.Lines.{is_in_line, holds_place}
@@ -42,7 +42,7 @@ use Rattle.hc_state.specs.Changes.{Numbered, ChangesAt, lined_up, with_turn}
 use Rattle.hc_state.specs.Facts.{Facts}
 use Rattle.hc_state.specs.Kept.{IsKept, KeepsConsumer}
 use Rattle.hc_state.specs.Lines.{KeepsKey, has_turn, is_passed, is_away}
-use Rattle.hc_state.specs.Plans.{is_idle_at, in_line, turned, IsNext, StandsInLine, BeginsTurn}
+use Rattle.hc_state.specs.Plans.{is_idle_at, in_line, tables_in_turn, IsNext, StandsInLine, BeginsTurn}
 use Rattle.hc_state.specs.Stands.{Answered, RowsStand}
 use Rattle.hc_state.proofs.Answering.{does_answered}
 use Rattle.hc_state.proofs.ConsumerSteps.{keys_with}
@@ -194,7 +194,7 @@ module _ {B : Type 0} {g : Ghosts B} (r mid : Rows B g) (t : Tables) (law : Lawf
 module _ {B : Type 0} {g : Ghosts B} (r mid : Rows B g) (e : Exchanges) (b : KeyTable) (m : Numbered Consumer) (t : Tables) (law : Lawful t) (now c x : ℕ) (n : Need) (request : Request) (aim : Option ℕ) (k : Consumer) (v : rows.Consumer) (stands : RowsStand r t) (there : get nat_eq r.consumers c ≡ Some k) (row : t.consumer c ≡ Some v) (idle : is_idle_at k.place ≡ true)
     (next : IsNext r.keys c k) (turns : route_of n ≡ route.Turn) (key_is : request.key ≡ k.request.key) (x_is : x ≡ next_of r.exchanges) (aim_is : aim ≡ (kept_of r.keys request.key).current)
     (lines_up : StandsInLine r mid c) (first : ChangesAt r.consumers mid.consumers c lined_up) (limits : mid.limits ≡ r.limits) (received : mid.received ≡ r.received) (last : mid.last_start ≡ r.last_start) (same_entries : mid.entries ≡ r.entries) (same_exchanges : mid.exchanges ≡ r.exchanges)
-    (next_is : next_of e ≡ next_of mid.exchanges + 1) (launches : Changes (launched c (role.Turn aim) n request now) (next_of mid.exchanges) (table_of mid.exchanges) (table_of e))
+    (next_is : next_of e ≡ next_of mid.exchanges + 1) (launches : Changes (with_new_exchange c (role.Turn aim) n request now) (next_of mid.exchanges) (table_of mid.exchanges) (table_of e))
     (held : keys.Becomes (on_line (held_by c)) request.key mid.keys b) (second : ChangesAt mid.consumers m c (with_turn x)) where
   abbrev u : Rows B g
   u = record mid { exchanges = e; keys = b; consumers = m }
@@ -217,12 +217,12 @@ module _ {B : Type 0} {g : Ghosts B} (r mid : Rows B g) (e : Exchanges) (b : Key
   aimed : aim ≡ current t v.request.key
   aimed = aim_is ∙ (ap (λ (key : List ℕ). (kept_of r.keys key).current) asked_key ∙ (stands.keys v.request.key).current)
 
-  launched_then : Changes (launched c (role.Turn aim) n request now) x (table_of r.exchanges) (table_of e)
+  launched_then : Changes (with_new_exchange c (role.Turn aim) n request now) x (table_of r.exchanges) (table_of e)
   launched_then =
-      subst (λ (y : ℕ). Changes (launched c (role.Turn aim) n request now) y (table_of r.exchanges) (table_of e)) (sym x_is)
-      (subst (λ (a : Exchanges). Changes (launched c (role.Turn aim) n request now) (next_of a) (table_of a) (table_of e)) same_exchanges launches)
+      subst (λ (y : ℕ). Changes (with_new_exchange c (role.Turn aim) n request now) y (table_of r.exchanges) (table_of e)) (sym x_is)
+      (subst (λ (a : Exchanges). Changes (with_new_exchange c (role.Turn aim) n request now) (next_of a) (table_of a) (table_of e)) same_exchanges launches)
 
-  pub stands_turned : RowsStand u (turned now c x n request v t)
+  pub stands_turned : RowsStand u (tables_in_turn now c x n request v t)
   stands_turned =
       stands_opened r u t law now c x n request request (current t v.request.key) (role.Turn aim) k v (place.Turn x) stands there row (idle_reads v.place idle_it) (idle_lives v.place idle_it) waiting.turned is_next
       limits received last same_entries (next_is ∙ ap (λ (a : Exchanges). next_of a + 1) same_exchanges) launched_then (becomes_then r.consumers mid.consumers m c k lined_up (with_turn x) there first second) refl (rw turns (ap role.Turn aimed))
@@ -232,21 +232,21 @@ module _ {B : Type 0} {g : Ghosts B} (r mid : Rows B g) (e : Exchanges) (b : Key
 -- THE ANSWERS
 
 module _ {B : Type 0} {g : Ghosts B} (limits : Limits) (faults : ℕ) (u : Rows B g) (t : Tables) (law : Lawful t) (now c want x : ℕ) (v : rows.Consumer) (row : t.consumer c ≡ Some v) (request : Request) (before out : List Act) where
-  pub fetch_answered : (n : Need) → route_of n ≡ route.Turn → n ≢ need.Bypass → move_of t now want c v ≡ Opens x n request → out ≡ before ++ acts_of c (Opens x n request) → RowsStand u (turned now c x n request v t) → Answered limits faults u t before out now (event.Poll c want)
+  pub fetch_answered : (n : Need) → route_of n ≡ route.Turn → n ≢ need.Bypass → move_of t now want c v ≡ Opens x n request → out ≡ before ++ acts_of c (Opens x n request) → RowsStand u (tables_in_turn now c x n request v t) → Answered limits faults u t before out now (event.Poll c want)
   fetch_answered n turns other is told stands =
-      does_answered limits faults u t (counted now (event.Poll c want) (turned now c x n request v t)) before out (acts_of c (Opens x n request)) now (event.Poll c want)
-      (fetches limits t law now c want v row x n request is turns other) refl refl told (stands_counted u (turned now c x n request v t) now (event.Poll c want) refl stands)
+      does_answered limits faults u t (with_event now (event.Poll c want) (tables_in_turn now c x n request v t)) before out (acts_of c (Opens x n request)) now (event.Poll c want)
+      (fetches limits t law now c want v row x n request is turns other) refl refl told (stands_counted u (tables_in_turn now c x n request v t) now (event.Poll c want) refl stands)
 
   -- then what is current may go
-  pub may_go : (n : Need) → MayLetGo (turned now c x n request v t)
+  pub may_go : (n : Need) → MayLetGo (tables_in_turn now c x n request v t)
   may_go n =
       let z : Exchange = just_opened now c n request (current t v.request.key) in
       may_with (with_opening x z t) c v (record v { own = Some x; place = place.Turn x }) row refl (may_opened t x z (may_let_go t law))
 
-  pub bypass_answered : move_of t now want c v ≡ Opens x need.Bypass request → out ≡ before ++ acts_of c (Opens x need.Bypass request) → RowsStand u (let_some_go now (current t v.request.key) (turned now c x need.Bypass request v t)) → Answered limits faults u t before out now (event.Poll c want)
+  pub bypass_answered : move_of t now want c v ≡ Opens x need.Bypass request → out ≡ before ++ acts_of c (Opens x need.Bypass request) → RowsStand u (let_some_go now (current t v.request.key) (tables_in_turn now c x need.Bypass request v t)) → Answered limits faults u t before out now (event.Poll c want)
   bypass_answered is told stands =
-      let s : Tables = let_some_go now (current t v.request.key) (turned now c x need.Bypass request v t) in
-      does_answered limits faults u t (counted now (event.Poll c want) s) before out (acts_of c (Opens x need.Bypass request)) now (event.Poll c want)
+      let s : Tables = let_some_go now (current t v.request.key) (tables_in_turn now c x need.Bypass request v t) in
+      does_answered limits faults u t (with_event now (event.Poll c want) s) before out (acts_of c (Opens x need.Bypass request)) now (event.Poll c want)
       (bypasses limits t law now c want v row x request is) refl refl told (stands_counted u s now (event.Poll c want) refl stands)
 
 -- a consumer bypasses what is stored with its own request, and what was current is let go
@@ -259,5 +259,5 @@ bypassed r mid u t facts now c want x k v stands there row copied copies now_is 
     let same : now_is ≡ current t v.request.key = at ∙ (ap (λ (key : List ℕ). (kept_of r.keys key).current) key_is ∙ (stands.keys v.request.key).current) in
     let is : move_of t now want c v ≡ Opens x need.Bypass copied = moves ∙ (ap (λ (y : ℕ). Opens y need.Bypass k.request) (sym x_is) ∙ ap (λ (z : Request). Opens x need.Bypass z) (sym copies)) in
     bypass_answered r.limits (shelf_of r.entries).faults u t facts.law now c want x v row copied before out is told
-    (subst (λ (o : Option ℕ). RowsStand u (let_some_go now o (turned now c x need.Bypass copied v t))) same
-    (goes (turned now c x need.Bypass copied v t) (may_go r.limits 0 u t facts.law now c want x v row copied before out need.Bypass) (begun t v facts stands row)))
+    (subst (λ (o : Option ℕ). RowsStand u (let_some_go now o (tables_in_turn now c x need.Bypass copied v t))) same
+    (goes (tables_in_turn now c x need.Bypass copied v t) (may_go r.limits 0 u t facts.law now c want x v row copied before out need.Bypass) (begun t v facts stands row)))

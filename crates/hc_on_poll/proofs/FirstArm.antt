@@ -32,13 +32,13 @@ use Rattle.hc_stored.specs.Views.{admits_first}
 use Rattle.hc_exch.specs.declared.exchanges.Exchanges.{Exchanges}
 use Rattle.hc_exch.specs.declared.role.Role.TheVariants as role
 use Rattle.hc_exch.specs.Exchanges.{table_of, next_of}
-use Rattle.hc_exch.specs.Known.{launched, opened, Changes}
+use Rattle.hc_exch.specs.Known.{with_new_exchange, exchange_at_opening, Changes}
 use Rattle.hc_event.specs.declared.place.Place.{Place}
 use Rattle.hc_event.specs.declared.place.Place.TheVariants as place
 use Rattle.hc_event.specs.declared.place.BoundBy.TheVariants as by
 use Rattle.hc_model.specs.Currents.{current, total_in}
 use Rattle.hc_model.specs.Denials.{is_live}
-use Rattle.hc_model.specs.Effects.{counted, used_last, with_consumer, with_opening, just_opened}
+use Rattle.hc_model.specs.Effects.{with_event, used_last, with_consumer, with_opening, just_opened}
 use Rattle.hc_model.specs.Kinds.{kind_of}
 use Rattle.hc_model.specs.Lawful.{Lawful}
 use Rattle.hc_model.specs.Lines.{is_in_line}
@@ -56,8 +56,8 @@ use Rattle.hc_state.specs.Lines.{KeepsKey, is_away}
 use Rattle.hc_state.specs.Plans.{is_idle_at, HasCurrent}
 use Rattle.hc_state.specs.Stands.{Answered, RowsStand}
 use Rattle.hc_state.proofs.Answering.{does_answered}
-use Rattle.hc_state.proofs.Asides.{answer_aside}
-use Rattle.hc_state.proofs.AsideSteps.{length_same, live_same}
+use Rattle.hc_state.proofs.Fallbacks.{answer_fallback}
+use Rattle.hc_state.proofs.FallbackSteps.{length_same, live_same}
 use Rattle.hc_on_poll.proofs.BoundArm.{held_bound, entry_first, entries_bound}
 use Rattle.hc_on_poll.proofs.CandidateTies.{range_of_class}
 use Rattle.hc_state.proofs.ConsumerSteps.{keys_with}
@@ -95,7 +95,7 @@ idle_unbound place.Over on = false_true on
 
 module _ {B : Type 0} {g : Ghosts B} (r : Rows B g) (e : Exchanges) (a : Entries B g) (b : KeyTable) (m : Numbered Consumer) (t : Tables) (law : Lawful t) (now c x q : ℕ) (span : Span) (n : Need) (request : Request) (k : Consumer) (v : rows.Consumer)
     (stands : RowsStand r t) (there : get nat_eq r.consumers c ≡ Some k) (row : t.consumer c ≡ Some v) (idle : is_idle_at k.place ≡ true) (now_is : HasCurrent r.keys q k) (admits : admits_first c ((shelf_of r.entries).kept q) ≡ true) (by_hole : route_of n ≡ route.Hole) (x_is : x ≡ next_of r.exchanges)
-    (next : next_of e ≡ next_of r.exchanges + 1) (launches : Changes (launched c (role.Hole q) n request now) (next_of r.exchanges) (table_of r.exchanges) (table_of e)) (binds : shelf.Becomes (option_map (with_first c)) (moved_first q) q (shelf_of r.entries) (shelf_of a))
+    (next : next_of e ≡ next_of r.exchanges + 1) (launches : Changes (with_new_exchange c (role.Hole q) n request now) (next_of r.exchanges) (table_of r.exchanges) (table_of e)) (binds : shelf.Becomes (option_map (with_first c)) (moved_first q) q (shelf_of r.entries) (shelf_of a))
     (goes : keys.Becomes (on_line (gone_away c)) k.request.key r.keys b) (changes : ChangesAt r.consumers m c (bound_first q span x)) where
   abbrev u : Rows B g
   u = record r { exchanges = e; entries = a; keys = b; consumers = m }
@@ -175,7 +175,7 @@ module _ {B : Type 0} {g : Ghosts B} (r : Rows B g) (e : Exchanges) (a : Entries
     place = refl;
     own = refl;
     shown = kept.shown;
-    answer = kept.answer ∙ (answer_aside t v (idle_reads v.place v_idle) ∙ sym unanswered);
+    answer = kept.answer ∙ (answer_fallback t v (idle_reads v.place v_idle) ∙ sym unanswered);
     begins = refl;
     ends = refl;
     given = kept.given;
@@ -187,7 +187,7 @@ module _ {B : Type 0} {g : Ghosts B} (r : Rows B g) (e : Exchanges) (a : Entries
 
   -- ITS EXCHANGE
 
-  runs : IsRunning s x (opened c (role.Hole q) n request now) z
+  runs : IsRunning s x (exchange_at_opening c (role.Hole q) n request now) z
   runs = record {
     is_open = refl;
     c = refl;
@@ -206,16 +206,16 @@ module _ {B : Type 0} {g : Ghosts B} (r : Rows B g) (e : Exchanges) (a : Entries
   none_held : held_for s x (Some z) ≡ []
   none_held = rw (unfounded, here) refl
 
-  known_then : KeepsExchange s x (launched c (role.Hole q) n request now (table_of r.exchanges x))
+  known_then : KeepsExchange s x (with_new_exchange c (role.Hole q) n request now (table_of r.exchanges x))
   known_then = record {
-    running = subst (KeepsRunning s x (Some (opened c (role.Hole q) n request now))) (sym opened_is) runs;
+    running = subst (KeepsRunning s x (Some (exchange_at_opening c (role.Hole q) n request now))) (sym opened_is) runs;
     held = sym (ap (held_for s x) opened_is ∙ none_held);
   }
 
-  launches_at : Changes (launched c (role.Hole q) n request now) x (table_of r.exchanges) (table_of e)
-  launches_at = subst (λ (y : ℕ). Changes (launched c (role.Hole q) n request now) y (table_of r.exchanges) (table_of e)) (sym x_is) launches
+  launches_at : Changes (with_new_exchange c (role.Hole q) n request now) x (table_of r.exchanges) (table_of e)
+  launches_at = subst (λ (y : ℕ). Changes (with_new_exchange c (role.Hole q) n request now) y (table_of r.exchanges) (table_of e)) (sym x_is) launches
 
-  known_is : table_of e x ≡ launched c (role.Hole q) n request now (table_of r.exchanges x)
+  known_is : table_of e x ≡ with_new_exchange c (role.Hole q) n request now (table_of r.exchanges x)
   known_is = launches_at x ∙ rw (eqb-same x) refl
 
   -- ITS KEY
@@ -259,5 +259,5 @@ module _ {B : Type 0} {g : Ghosts B} (r : Rows B g) (e : Exchanges) (a : Entries
       let range : k.class.range ≡ range_of v.request = ap (λ (y : RequestClass). y.range) kept.class_is ∙ range_of_class v.request in
       let wanted_is : wanted_of (range_of v.request) at.p.head.total ≡ wanted.Interval span =
       ap (λ (y : Option Asked). wanted_of y at.p.head.total) (sym range) ∙ (ap (wanted_of k.class.range) (sym (same_total ∙ ap total_in at.row)) ∙ wants) in
-      does_answered bounds faults u t (counted now (event.Poll c want) s) before out (acts_of c (Opens x n request)) now (event.Poll c want)
+      does_answered bounds faults u t (with_event now (event.Poll c want) s) before out (acts_of c (Opens x n request)) now (event.Poll c want)
       (rw hole (fills_first bounds t law now c want v row x from to request (is ∙ same) (idle_unbound v.place v_idle) q at.p span at_q at.row wanted_is)) refl refl told (stands_counted u s now (event.Poll c want) refl stands_filling)

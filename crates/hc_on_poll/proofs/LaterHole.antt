@@ -17,14 +17,14 @@ use Rattle.hc_stored.specs.Entries.{shelf_of}
 use Rattle.hc_entry.specs.Keys.{kept_of}
 use Rattle.hc_exch.specs.declared.role.Role.TheVariants as role
 use Rattle.hc_exch.specs.Exchanges.{table_of, next_of}
-use Rattle.hc_exch.specs.Known.{launched, opened, Changes}
+use Rattle.hc_exch.specs.Known.{with_new_exchange, exchange_at_opening, Changes}
 use Rattle.hc_event.specs.declared.place.BoundBy.{BoundBy}
 use Rattle.hc_event.specs.declared.place.BoundBy.TheVariants as by
 use Rattle.hc_event.specs.declared.place.Place.{Place}
 use Rattle.hc_event.specs.declared.place.Place.TheVariants as place
 use Rattle.hc_model.specs.Currents.{current, is_number}
 use Rattle.hc_model.specs.Denials.{is_live}
-use Rattle.hc_model.specs.Effects.{with_consumer, with_opening, just_opened, counted}
+use Rattle.hc_model.specs.Effects.{with_consumer, with_opening, just_opened, with_event}
 use Rattle.hc_model.specs.ExchangeRows.{aim_from}
 use Rattle.hc_model.specs.Exchanges.{base, front, family}
 use Rattle.hc_model.specs.Holes.{stretch_to}
@@ -39,7 +39,7 @@ use Rattle.hc_model.specs.Sound as sound
 use Rattle.hc_model.specs.Steps.{held_of_lost}
 use Rattle.hc_laws.proofs.HoleEffects.{fills_later}
 use Rattle.hc_model.proofs.OpensFrom.{opens_hole}
-use Rattle.hc_model.proofs.Pens.{bound_some}
+use Rattle.hc_model.proofs.ExclusiveWriters.{bound_some}
 use Rattle.hc_model.proofs.PollTree.{OpensHole}
 use Rattle.hc_model.proofs.PollTree as tree
 use Rattle.hc_model.proofs.Said.{IsOpening}
@@ -48,13 +48,13 @@ use Rattle.hc_state.specs.declared.consumer.Consumer.{Consumer}
 use Rattle.hc_state.specs.declared.rows.Rows.{Rows}
 use Rattle.hc_state.specs.Changes.{ChangesAt, BecomesAt, with_own}
 use Rattle.hc_state.specs.Facts.{Facts}
-use Rattle.hc_state.specs.Kept.{IsKept, KeepsConsumer, KeepsExchange, answer_at, KeepsRunning, first_lacking, held_for, held_of, held_alone, unread, unstored}
+use Rattle.hc_state.specs.Kept.{IsKept, KeepsConsumer, KeepsExchange, answer_at, KeepsRunning, first_lacking, held_for, held_of, held_alone, unread, unstored_bytes}
 use Rattle.hc_state.specs.Lines.{KeepsKey, has_turn, is_passed, is_away, is_away_at}
 use Rattle.hc_state.specs.Stands.{RowsStand, Answered}
 use Rattle.hc_state.specs.Stored.{KeepsEntries, is_first}
 use Rattle.hc_state.proofs.Answering.{does_answered}
-use Rattle.hc_state.proofs.AsideSteps.{length_same, live_same}
-use Rattle.hc_state.proofs.Asides.{unstored_moved}
+use Rattle.hc_state.proofs.FallbackSteps.{length_same, live_same}
+use Rattle.hc_state.proofs.Fallbacks.{unstored_moved}
 use Rattle.hc_on_poll.proofs.BoundViews.{both_true, unstored_own, absent_here, lost_run, unread_bound}
 use Rattle.hc_state.proofs.Counting.{stands_counted}
 use Rattle.hc_state.proofs.OneOfEach.{stands_then, bound_same, first_row}
@@ -75,7 +75,7 @@ record IsAtHole (t : Tables) (c q : ℕ) (v : rows.Consumer) (p : Representation
 module _ {B : Type 0} {g : Ghosts B} (r u : Rows B g) (t : Tables) (facts : Facts r.limits t) (stands : RowsStand r t) (now want c q x from to : ℕ) (how : BoundBy) (k : Consumer) (rd : IsBoundRow t c q how k) (there : get nat_eq r.consumers c ≡ Some k) (shown : k.shown ≡ true) (request copied : Request)
     (moves : move_of t now want c rd.v ≡ Opens (next_of r.exchanges) (need.Hole from to) request) (is_next : x ≡ next_of r.exchanges) (copies : copied ≡ request)
     (limits : u.limits ≡ r.limits) (received : u.received ≡ r.received) (last : u.last_start ≡ r.last_start) (same_keys : u.keys ≡ r.keys) (same_entries : u.entries ≡ r.entries) (next : next_of u.exchanges ≡ next_of r.exchanges + 1)
-    (launches : Changes (launched c (role.Hole q) (need.Hole from to) copied now) (next_of r.exchanges) (table_of r.exchanges) (table_of u.exchanges)) (changes : ChangesAt r.consumers u.consumers c (with_own x)) where
+    (launches : Changes (with_new_exchange c (role.Hole q) (need.Hole from to) copied now) (next_of r.exchanges) (table_of r.exchanges) (table_of u.exchanges)) (changes : ChangesAt r.consumers u.consumers c (with_own x)) where
   abbrev v : rows.Consumer
   v = rd.v
 
@@ -142,7 +142,7 @@ module _ {B : Type 0} {g : Ghosts B} (r u : Rows B g) (t : Tables) (facts : Fact
               same_row (t.representation q) b rd.p (sym (ap t.representation one) ∙ a_row) rd.there
 
   -- nothing is held for it
-  nothing : (y : ℕ) (e : Exchange) (b : Representation) → t.exchange y ≡ Some e → t.representation (family y e) ≡ Some b → b.alone ≡ Some c → unstored t y e b (Some v) ≡ []
+  nothing : (y : ℕ) (e : Exchange) (b : Representation) → t.exchange y ≡ Some e → t.representation (family y e) ≡ Some b → b.alone ≡ Some c → unstored_bytes t y e b (Some v) ≡ []
   nothing y e b y_row founded alone = by_test (is_bound_place (family y e) v.place && is_number v.own y) refl
     where
       is_it : (o : Option ℕ) → is_number o y ≡ true → o ≡ Some y
@@ -178,7 +178,7 @@ module _ {B : Type 0} {g : Ghosts B} (r u : Rows B g) (t : Tables) (facts : Fact
               le_or : (a b : ℕ) → (a ≤ b) ⊎ (b < a)
               le_or a b = grind (arith, nat_tests)
 
-      by_test : (d : Bool) → (is_bound_place (family y e) v.place && is_number v.own y) ≡ d → unstored t y e b (Some v) ≡ []
+      by_test : (d : Bool) → (is_bound_place (family y e) v.place && is_number v.own y) ≡ d → unstored_bytes t y e b (Some v) ≡ []
       by_test false off = rw off refl
       by_test true on =
           let parts = both_true (is_bound_place (family y e) v.place) (is_number v.own y) on in
@@ -187,11 +187,11 @@ module _ {B : Type 0} {g : Ghosts B} (r u : Rows B g) (t : Tables) (facts : Fact
           let own : v.own ≡ Some y = is_it v.own parts.1 in
           let one : rd.p ≡ b = same_row (t.representation (family y e)) rd.p b (sym (ap t.representation of_q) ∙ rd.there) founded in
           let alone_p : rd.p.alone ≡ Some c = ap (λ (a : Representation). a.alone) one ∙ alone in
-          ap (λ (a : Representation). unstored t y e a (Some v)) (sym one) ∙ (unstored_own t y e rd.p v q rd.lo rd.hi how rd.at own (sym of_q) ∙ by_alone alone_p (sym of_q) own)
+          ap (λ (a : Representation). unstored_bytes t y e a (Some v)) (sym one) ∙ (unstored_own t y e rd.p v q rd.lo rd.hi how rd.at own (sym of_q) ∙ by_alone alone_p (sym of_q) own)
 
   -- WHAT IS HELD
 
-  unstored_then : (y : ℕ) (e : Exchange) (b : Representation) → y ≢ x → unstored s y e b (Some w) ≡ []
+  unstored_then : (y : ℕ) (e : Exchange) (b : Representation) → y ≢ x → unstored_bytes s y e b (Some w) ≡ []
   unstored_then y e b ne =
       let off : (is_bound_place (family y e) v.place && is_number (Some x) y) ≡ false = by_other (is_bound_place (family y e) v.place) (nat_eq x y) (eqb-other x y (λ e. ne (sym e))) in
       rw off refl
@@ -213,7 +213,7 @@ module _ {B : Type 0} {g : Ghosts B} (r u : Rows B g) (t : Tables) (facts : Fact
       by_alone b None founded alone = refl
       by_alone b (Some d) founded alone = elim (same_or c d) [
         | inl is ↦ rw (← is, here, rd.row) (unstored_then y e b ne ∙ sym (nothing y e b row founded (alone ∙ ap Some (sym is))))
-        | inr off ↦ ap (unstored s y e b) (others d (λ is. off (sym is))) ∙ unstored_moved t s y e b (t.consumer d)
+        | inr off ↦ ap (unstored_bytes s y e b) (others d (λ is. off (sym is))) ∙ unstored_moved t s y e b (t.consumer d)
       ]
 
       by_row : (o : Option Representation) → t.representation (family y e) ≡ o → held_of s y e o ≡ held_of t y e o
@@ -302,12 +302,12 @@ module _ {B : Type 0} {g : Ghosts B} (r u : Rows B g) (t : Tables) (facts : Fact
       no_answer true is = refl
       no_answer false is = false_true is
 
-  launched_is : table_of u.exchanges x ≡ launched c (role.Hole q) n copied now (table_of r.exchanges x)
-  launched_is = subst (λ (y : ℕ). Changes (launched c (role.Hole q) n copied now) y (table_of r.exchanges) (table_of u.exchanges)) (sym is_next) launches x ∙ rw (eqb-same x) refl
+  launched_is : table_of u.exchanges x ≡ with_new_exchange c (role.Hole q) n copied now (table_of r.exchanges x)
+  launched_is = subst (λ (y : ℕ). Changes (with_new_exchange c (role.Hole q) n copied now) y (table_of r.exchanges) (table_of u.exchanges)) (sym is_next) launches x ∙ rw (eqb-same x) refl
 
-  known_then : KeepsExchange s x (launched c (role.Hole q) n copied now (table_of r.exchanges x))
+  known_then : KeepsExchange s x (with_new_exchange c (role.Hole q) n copied now (table_of r.exchanges x))
   known_then = record {
-    running = subst (KeepsRunning s x (Some (opened c (role.Hole q) n copied now))) (sym opened_is) (record {
+    running = subst (KeepsRunning s x (Some (exchange_at_opening c (role.Hole q) n copied now))) (sym opened_is) (record {
       is_open = refl;
       c = refl;
       need = refl;
@@ -342,5 +342,5 @@ module _ {B : Type 0} {g : Ghosts B} (r u : Rows B g) (t : Tables) (facts : Fact
   filled_answered before out told =
       let is : move_of t now want c v ≡ Opens x n request = moves ∙ ap (λ (y : ℕ). Opens y n request) (sym is_next) in
       let v_shown : v.shown ≡ true = sym rd.kept.shown ∙ shown in
-      does_answered r.limits (shelf_of r.entries).faults u t (counted now (event.Poll c want) s) before out (acts_of c (Opens x n request)) now (event.Poll c want)
+      does_answered r.limits (shelf_of r.entries).faults u t (with_event now (event.Poll c want) s) before out (acts_of c (Opens x n request)) now (event.Poll c want)
       (fills_later r.limits t facts.law now c want v rd.row x from to request is q rd.lo rd.hi how rd.at v_shown) refl refl (told ∙ ap (λ (a : Request). before ++ acts_of c (Opens x n a)) copies) (stands_counted u s now (event.Poll c want) refl stands_filled)

@@ -9,10 +9,10 @@ use Rattle.hc_model.specs.Lawful.{Lawful}
 use Rattle.hc_model.specs.Reading.{reads, is_bound}
 use Rattle.hc_model.specs.Rows as rows
 use Rattle.hc_model.specs.Rows.{Tables, Exchange, Representation}
-use Rattle.hc_state.specs.Kept.{held_for, held_of, held_alone, unread, unstored}
+use Rattle.hc_state.specs.Kept.{held_for, held_of, held_alone, unread, unstored_bytes}
 use Rattle.hc_state.specs.Stored.{KeepsEntry, KeepsEntries, is_first, is_usable_row}
-use Rattle.hc_state.proofs.Asides.{unread_aside, unstored_aside}
-use Rattle.hc_state.proofs.AsideSteps.{first_aside}
+use Rattle.hc_state.proofs.Fallbacks.{unread_fallback, unstored_fallback}
+use Rattle.hc_state.proofs.FallbackSteps.{first_fallback}
 use Rattle.hc_state.proofs.OneOfEach.{bound_same, first_row}
 use Rattle.hc_on_poll.proofs.OpenKinds.{kinds_opened}
 use Rattle.hc_state.proofs.Ties.{entry_same, overs_opened}
@@ -43,18 +43,18 @@ module _ (t s : Tables) (law : Lawful t) (c x : ℕ) (v w : rows.Consumer) (z : 
       by_place _ is past = rw (is, eqb-other x y (λ e. ne (sym e))) refl
       by_place _ is turned = rw is refl
 
-  unstored_then : (y : ℕ) (e : Exchange) (b : Representation) → unstored s y e b (Some w) ≡ []
+  unstored_then : (y : ℕ) (e : Exchange) (b : Representation) → unstored_bytes s y e b (Some w) ≡ []
   unstored_then y e b = by_place w.place refl at
     where
-      by_place : (p : Place) → w.place ≡ p → WaitsFor x p → unstored s y e b (Some w) ≡ []
+      by_place : (p : Place) → w.place ≡ p → WaitsFor x p → unstored_bytes s y e b (Some w) ≡ []
       by_place _ is past = rw is refl
       by_place _ is turned = rw is refl
 
-  unstored_moved : (y : ℕ) (e : Exchange) (b : Representation) (o : Option rows.Consumer) → unstored s y e b o ≡ unstored t y e b o
+  unstored_moved : (y : ℕ) (e : Exchange) (b : Representation) (o : Option rows.Consumer) → unstored_bytes s y e b o ≡ unstored_bytes t y e b o
   unstored_moved y e b None = refl
   unstored_moved y e b (Some k) = by_place k.place refl
     where
-      by_place : (p : Place) → k.place ≡ p → unstored s y e b (Some k) ≡ unstored t y e b (Some k)
+      by_place : (p : Place) → k.place ≡ p → unstored_bytes s y e b (Some k) ≡ unstored_bytes t y e b (Some k)
       by_place (place.Bound q lo hi by) is = rw is refl
       by_place place.Line is = rw is refl
       by_place (place.Passed q kept) is = rw is refl
@@ -65,14 +65,14 @@ module _ (t s : Tables) (law : Lawful t) (c x : ℕ) (v w : rows.Consumer) (z : 
 
   unread_by : (y d : ℕ) (e : Exchange) → y ≢ x → unread y e (s.consumer d) ≡ unread y e (t.consumer d)
   unread_by y d e ne = elim (same_or c d) [
-    | inl is ↦ rw (← is, here, row) (unread_elsewhere y e ne ∙ sym (unread_aside y e (Some v) (ap not idle)))
+    | inl is ↦ rw (← is, here, row) (unread_elsewhere y e ne ∙ sym (unread_fallback y e (Some v) (ap not idle)))
     | inr off ↦ ap (unread y e) (others d (λ is. off (sym is)))
   ]
 
-  unstored_by : (y d : ℕ) (e : Exchange) (b : Representation) → unstored s y e b (s.consumer d) ≡ unstored t y e b (t.consumer d)
+  unstored_by : (y d : ℕ) (e : Exchange) (b : Representation) → unstored_bytes s y e b (s.consumer d) ≡ unstored_bytes t y e b (t.consumer d)
   unstored_by y d e b = elim (same_or c d) [
-    | inl is ↦ rw (← is, here, row) (unstored_then y e b ∙ sym (unstored_aside t y e b (Some v) (ap not idle)))
-    | inr off ↦ ap (unstored s y e b) (others d (λ is. off (sym is))) ∙ unstored_moved y e b (t.consumer d)
+    | inl is ↦ rw (← is, here, row) (unstored_then y e b ∙ sym (unstored_fallback t y e b (Some v) (ap not idle)))
+    | inr off ↦ ap (unstored_bytes s y e b) (others d (λ is. off (sym is))) ∙ unstored_moved y e b (t.consumer d)
   ]
 
   pub held_else : (y : ℕ) (e : Exchange) → y ≢ x → held_for s y (Some e) ≡ held_for t y (Some e)
@@ -140,7 +140,7 @@ module _ (t s : Tables) (law : Lawful t) (c x : ℕ) (v w : rows.Consumer) (z : 
 
   firsts : (q d : ℕ) → is_first t q (s.consumer d) ≡ is_first t q (t.consumer d)
   firsts q d = elim (same_or c d) [
-    | inl is ↦ rw (← is, here, row) (not_first q ∙ sym (first_aside t q (Some v) (ap not idle)))
+    | inl is ↦ rw (← is, here, row) (not_first q ∙ sym (first_fallback t q (Some v) (ap not idle)))
     | inr off ↦ ap (is_first t q) (others d (λ is. off (sym is)))
   ]
 

@@ -4,7 +4,7 @@ use Rattle.hc_event.specs.declared.act.Need.{Need}
 use Rattle.hc_event.specs.declared.event.Request.{Request}
 use Rattle.hc_rules.specs.Needs.{route_of}
 use Rattle.hc_exch.specs.declared.role.Role.{Role}
-use Rattle.hc_exch.specs.Known.{opened}
+use Rattle.hc_exch.specs.Known.{exchange_at_opening}
 use Rattle.hc_event.specs.declared.place.Place.{Place}
 use Rattle.hc_event.specs.declared.place.Place.TheVariants as place
 use Rattle.hc_model.specs.Denials.{is_live_place}
@@ -14,7 +14,7 @@ use Rattle.hc_model.specs.Rows as rows
 use Rattle.hc_model.specs.Rows.{Tables}
 use Rattle.hc_state.specs.declared.consumer.Consumer.{Consumer}
 use Rattle.hc_state.specs.Kept.{IsKept, IsRunning, answer_for, role_awaited}
-use Rattle.hc_state.proofs.Asides.{answer_aside}
+use Rattle.hc_state.proofs.Fallbacks.{answer_fallback}
 use Rattle.hc_on_poll.proofs.OpenArm.{WaitsFor, past, turned}
 use Rattle.hc_state.proofs.Words.{eqb-same, false_true}
 
@@ -25,7 +25,7 @@ module _ (t : Tables) (now c x : ℕ) (n : Need) (request : Request) (aim : Opti
   abbrev pub s : Tables
   s = with_consumer c (Some w) (with_opening x (just_opened now c n request aim) t)
 
-  pub runs : (role : Role) (copied : Request) → copied ≡ request → role ≡ role_awaited (route_of n) aim → IsRunning s x (opened c role n copied now) (just_opened now c n request aim)
+  pub runs : (role : Role) (copied : Request) → copied ≡ request → role ≡ role_awaited (route_of n) aim → IsRunning s x (exchange_at_opening c role n copied now) (just_opened now c n request aim)
   runs role copied copies is = record {
     is_open = refl;
     c = refl;
@@ -84,7 +84,7 @@ module _ (t : Tables) (now c x : ℕ) (n : Need) (request : Request) (aim : Opti
     place = refl;
     own = refl;
     shown = kept.shown;
-    answer = kept.answer ∙ (answer_aside t v idle ∙ sym (answer_none v.shown refl at refl));
+    answer = kept.answer ∙ (answer_fallback t v idle ∙ sym (answer_none v.shown refl at refl));
     begins = kept.begins ∙ (lo_idle v.place refl ∙ sym (lo_then at));
     ends = kept.ends ∙ (hi_idle v.place refl ∙ sym (hi_then at));
     given = kept.given;

@@ -10,7 +10,7 @@ use Rattle.hc_stored.specs.Entries.{shelf_of}
 use Rattle.hc_entry.specs.Keys.{kept_of}
 use Rattle.hc_exch.specs.declared.role.Role.{Role}
 use Rattle.hc_exch.specs.Exchanges.{table_of, next_of}
-use Rattle.hc_exch.specs.Known.{launched, opened, Changes}
+use Rattle.hc_exch.specs.Known.{with_new_exchange, exchange_at_opening, Changes}
 use Rattle.hc_event.specs.declared.place.Place.{Place}
 use Rattle.hc_model.specs.Denials.{is_live, is_live_place}
 use Rattle.hc_model.specs.Effects.{with_consumer, with_opening, just_opened}
@@ -24,7 +24,7 @@ use Rattle.hc_state.specs.Changes.{BecomesAt}
 use Rattle.hc_state.specs.Kept.{KeepsConsumer, KeepsExchange, KeepsRunning, held_for, role_awaited}
 use Rattle.hc_state.specs.Lines.{KeepsKey}
 use Rattle.hc_state.specs.Stands.{RowsStand}
-use Rattle.hc_state.proofs.AsideSteps.{length_same, live_same}
+use Rattle.hc_state.proofs.FallbackSteps.{length_same, live_same}
 use Rattle.hc_state.proofs.OneOfEach.{stands_then}
 use Rattle.hc_on_poll.proofs.OpenArm.{WaitsFor, unread_yet, held_else, none_held, entries_opened}
 use Rattle.hc_on_poll.proofs.OpenRows.{runs, opener_kept, live_then}
@@ -33,7 +33,7 @@ use Rattle.hc_state.proofs.Words.{same_or, eqb-same, eqb-other, as_received}
 module _ {B : Type 0} {g : Ghosts B} (r u : Rows B g) (t : Tables) (law : Lawful t) (now c x : ℕ) (n : Need) (request copied : Request) (aim : Option ℕ) (role : Role) (k : Consumer) (v : rows.Consumer) (p : Place) (stands : RowsStand r t)
     (there : get nat_eq r.consumers c ≡ Some k) (row : t.consumer c ≡ Some v) (idle : reads v.place ≡ false) (lived : is_live_place v.place ≡ true) (at : WaitsFor x p) (is_next : x ≡ t.opened + 1)
     (limits : u.limits ≡ r.limits) (received : u.received ≡ r.received) (last : u.last_start ≡ r.last_start) (same_entries : u.entries ≡ r.entries) (next : next_of u.exchanges ≡ next_of r.exchanges + 1)
-    (launches : Changes (launched c role n copied now) x (table_of r.exchanges) (table_of u.exchanges)) (becomes : BecomesAt r.consumers u.consumers c (Some (record k { place = p; own = Some x }))) (copies : copied ≡ request) (role_is : role ≡ role_awaited (route_of n) aim) where
+    (launches : Changes (with_new_exchange c role n copied now) x (table_of r.exchanges) (table_of u.exchanges)) (becomes : BecomesAt r.consumers u.consumers c (Some (record k { place = p; own = Some x }))) (copies : copied ≡ request) (role_is : role ≡ role_awaited (route_of n) aim) where
   abbrev w : rows.Consumer
   w = record v { own = Some x; place = p }
 
@@ -67,13 +67,13 @@ module _ {B : Type 0} {g : Ghosts B} (r u : Rows B g) (t : Tables) (law : Lawful
     | inr off ↦ ap is_live (others d (λ e. off (sym e)))
   ]
 
-  known_then : KeepsExchange s x (launched c role n copied now (table_of r.exchanges x))
+  known_then : KeepsExchange s x (with_new_exchange c role n copied now (table_of r.exchanges x))
   known_then = record {
-    running = subst (KeepsRunning s x (Some (opened c role n copied now))) (sym opened_is) (runs t now c x n request aim v p idle at role copied copies role_is);
+    running = subst (KeepsRunning s x (Some (exchange_at_opening c role n copied now))) (sym opened_is) (runs t now c x n request aim v p idle at role copied copies role_is);
     held = sym (ap (held_for s x) opened_is ∙ none_held t s law c x v w z free unfounded row here others opened_is exchanges refl (λ q. refl) refl refl idle at refl refl refl refl);
   }
 
-  launched_is : table_of u.exchanges x ≡ launched c role n copied now (table_of r.exchanges x)
+  launched_is : table_of u.exchanges x ≡ with_new_exchange c role n copied now (table_of r.exchanges x)
   launched_is = launches x ∙ rw (eqb-same x) refl
 
   kept_then : KeepsConsumer s (Some (record k { place = p; own = Some x })) (s.consumer c)

@@ -6,7 +6,7 @@ use Rattle.hc_store.specs.declared.backend.Backend.{Ghosts}
 use Rattle.hc_entry.specs.Keys as keys
 use Rattle.hc_entry.specs.Keys.{kept_of}
 use Rattle.hc_entry.specs.Kept.{on_line}
-use Rattle.hc_entry.specs.Lines.{passed}
+use Rattle.hc_entry.specs.Lines.{line_after_pass}
 use Rattle.hc_event.specs.declared.act.Act.{Act}
 use Rattle.hc_event.specs.declared.act.Act.TheVariants as act
 use Rattle.hc_event.specs.declared.act.Wait.TheVariants as wait
@@ -19,7 +19,7 @@ use Rattle.hc_event.specs.declared.place.Place.TheVariants as place
 use Rattle.hc_model.specs.ConsumerRows.{kept_by, passed_by}
 use Rattle.hc_model.specs.Currents.{current}
 use Rattle.hc_model.specs.Denials.{is_live_place}
-use Rattle.hc_model.specs.Effects.{counted, with_consumer}
+use Rattle.hc_model.specs.Effects.{with_event, with_consumer}
 use Rattle.hc_model.specs.Lawful.{Lawful}
 use Rattle.hc_model.specs.Lines.{is_in_line}
 use Rattle.hc_model.specs.Moves as moves
@@ -38,7 +38,7 @@ use Rattle.hc_state.specs.Lines.{KeepsKey}
 use Rattle.hc_state.specs.Plans.{is_idle_at, let_through, HasCurrent}
 use Rattle.hc_state.specs.Stands.{Answered, RowsStand}
 use Rattle.hc_state.proofs.Answering.{does_answered}
-use Rattle.hc_state.proofs.AsideSteps.{stands_aside}
+use Rattle.hc_state.proofs.FallbackSteps.{falls_back}
 use Rattle.hc_state.proofs.ConsumerSteps.{keys_with}
 use Rattle.hc_state.proofs.Counting.{stands_counted}
 use Rattle.hc_state.proofs.KeySteps.{says_elsewhere, not_lined, passes_key}
@@ -86,7 +86,7 @@ module _ {B : Type 0} {g : Ghosts B} (r u : Rows B g) (t : Tables) (law : Lawful
       by_place place.Over at = false_true (sym (ap is_idle_at at) ∙ idle)
 
   -- who stands in line passes
-  module _ (at : k.place ≡ place.Line) (changes : ChangesAt r.consumers u.consumers c (passed_for q)) (passes : keys.Becomes (on_line (passed c)) k.request.key r.keys u.keys) where
+  module _ (at : k.place ≡ place.Line) (changes : ChangesAt r.consumers u.consumers c (passed_for q)) (passes : keys.Becomes (on_line (line_after_pass c)) k.request.key r.keys u.keys) where
     v_at : v.place ≡ place.Line
     v_at = sym kept.place ∙ at
 
@@ -119,13 +119,13 @@ module _ {B : Type 0} {g : Ghosts B} (r u : Rows B g) (t : Tables) (law : Lawful
     keys_then : (key : List ℕ) → KeepsKey (with_consumer c (Some w) t) key (kept_of u.keys key)
     keys_then =
         let line_off : is_in_line its (Some w) ≡ false = not_lined its w refl in
-        keys_with t c (Some w) (on_line (passed c)) its r.keys u.keys stands.keys (subst (λ (key : List ℕ). keys.Becomes (on_line (passed c)) key r.keys u.keys) (ap (λ (z : Request). z.key) kept.request) passes)
+        keys_with t c (Some w) (on_line (line_after_pass c)) its r.keys u.keys stands.keys (subst (λ (key : List ℕ). keys.Becomes (on_line (line_after_pass c)) key r.keys u.keys) (ap (λ (z : Request). z.key) kept.request) passes)
         (passes_key t c (Some w) its (kept_of r.keys its) line_off (rw (bytes_eq-same its its refl) refl) (then_false (bytes_eq its its) false refl) (and_false (is_in_line its (Some w)) false line_off))
         (λ other off. says_elsewhere t c v w other row refl off)
 
     pub stands_let : RowsStand u (with_consumer c (Some w) t)
     stands_let =
-        stands_aside r u t c v w (passed_for q k) stands row (ap reads v_at) refl (ap is_live_place v_at) refl limits received last exchanges entries
+        falls_back r u t c v w (passed_for q k) stands row (ap reads v_at) refl (ap is_live_place v_at) refl limits received last exchanges entries
         (becomes_by r.consumers u.consumers c k (passed_for q) there changes) passed_kept keys_then
 
 module _ {B : Type 0} {g : Ghosts B} (limits : Limits) (faults : ℕ) (u : Rows B g) (t : Tables) (law : Lawful t) (now c want q d : ℕ) (v : rows.Consumer) (row : t.consumer c ≡ Some v) (before out : List Act) where
@@ -133,7 +133,7 @@ module _ {B : Type 0} {g : Ghosts B} (limits : Limits) (faults : ℕ) (u : Rows 
   use_waits now_is is told stands =
       let s : Tables = with_consumer c (Some (record v { place = passed_by (kept_by v.place) (current t v.request.key) })) t in
       let same : with_consumer c (Some (let_through q v)) t ≡ s = ap (λ (o : Option ℕ). with_consumer c (Some (record v { place = passed_by (kept_by v.place) o })) t) (sym now_is) in
-      does_answered limits faults u t (counted now (event.Poll c want) s) before out (acts_of c (moves.Waits (wait.Busy d))) now (event.Poll c want)
+      does_answered limits faults u t (with_event now (event.Poll c want) s) before out (acts_of c (moves.Waits (wait.Busy d))) now (event.Poll c want)
       (waits limits t law now c want v row (wait.Busy d) is) refl refl told (stands_counted u s now (event.Poll c want) refl (subst (RowsStand u) same stands))
 
 -- what is kept as current is

@@ -20,12 +20,12 @@ use Rattle.hc_rules.specs.Requests.{class_of, is_disabled, is_only}
 use Rattle.hc_exch.specs.declared.role.Role.TheVariants as role
 use Rattle.hc_exch.specs.declared.exchanges.Exchanges.{Exchanges}
 use Rattle.hc_exch.specs.Exchanges.{table_of, next_of}
-use Rattle.hc_exch.specs.Known.{launched, Changes}
+use Rattle.hc_exch.specs.Known.{with_new_exchange, Changes}
 use Rattle.hc_event.specs.declared.place.Place.{Place}
 use Rattle.hc_event.specs.declared.place.Place.TheVariants as place
 use Rattle.hc_model.specs.Currents.{current}
 use Rattle.hc_model.specs.Denials.{is_live_place}
-use Rattle.hc_model.specs.Effects.{counted, with_consumer, with_opening, just_opened}
+use Rattle.hc_model.specs.Effects.{with_event, with_consumer, with_opening, just_opened}
 use Rattle.hc_model.specs.Lawful.{Lawful}
 use Rattle.hc_model.specs.Moves.{Opens, acts_of}
 use Rattle.hc_model.specs.Polls.{move_of}
@@ -120,7 +120,7 @@ module _ (t : Tables) (law : Lawful t) (c : ℕ) (k : Consumer) (v w : rows.Cons
 
 module _ {B : Type 0} {g : Ghosts B} (r mid : Rows B g) (e : Exchanges) (m : Numbered Consumer) (t : Tables) (law : Lawful t) (now c want : ℕ) (n : Need) (k : Consumer) (v : rows.Consumer) (stands : RowsStand r t) (there : get nat_eq r.consumers c ≡ Some k) (row : t.consumer c ≡ Some v) (idle : is_idle_at k.place ≡ true)
     (x : ℕ) (copied : Request) (copies : copied ≡ k.request) (way : route_of n ≡ route.Direct) (moves : move_of t now want c v ≡ Opens (next_of r.exchanges) n k.request) (is_next : x ≡ next_of r.exchanges) (next : next_of e ≡ next_of r.exchanges + 1)
-    (launches : Changes (launched c role.Direct n copied now) (next_of r.exchanges) (table_of r.exchanges) (table_of e)) (leaves : LeavesLine (record r { exchanges = e }) mid c) (changes : ChangesAt mid.consumers m c (reading_past x)) where
+    (launches : Changes (with_new_exchange c role.Direct n copied now) (next_of r.exchanges) (table_of r.exchanges) (table_of e)) (leaves : LeavesLine (record r { exchanges = e }) mid c) (changes : ChangesAt mid.consumers m c (reading_past x)) where
   abbrev u : Rows B g
   u = record mid { consumers = m }
 
@@ -142,8 +142,8 @@ module _ {B : Type 0} {g : Ghosts B} (r mid : Rows B g) (e : Exchanges) (m : Num
   x_is : x ≡ t.opened + 1
   x_is = let same = stands.next in is_next ∙ same
 
-  launched_then : Changes (launched c role.Direct n copied now) x (table_of r.exchanges) (table_of mid.exchanges)
-  launched_then = subst (λ (b : Exchanges). Changes (launched c role.Direct n copied now) x (table_of r.exchanges) (table_of b)) (sym leaves.exchanges) (subst (λ (y : ℕ). Changes (launched c role.Direct n copied now) y (table_of r.exchanges) (table_of e)) (sym is_next) launches)
+  launched_then : Changes (with_new_exchange c role.Direct n copied now) x (table_of r.exchanges) (table_of mid.exchanges)
+  launched_then = subst (λ (b : Exchanges). Changes (with_new_exchange c role.Direct n copied now) x (table_of r.exchanges) (table_of b)) (sym leaves.exchanges) (subst (λ (y : ℕ). Changes (with_new_exchange c role.Direct n copied now) y (table_of r.exchanges) (table_of e)) (sym is_next) launches)
 
   changed : ChangesAt r.consumers m c (reading_past x)
   changed = subst (λ (b : Numbered Consumer). ChangesAt b m c (reading_past x)) leaves.consumers changes
@@ -160,5 +160,5 @@ module _ {B : Type 0} {g : Ghosts B} (r mid : Rows B g) (e : Exchanges) (m : Num
   pub past_answered : (bounds : Limits) (faults : ℕ) (before out : List Act) → out ≡ before ++ acts_of c (Opens x n copied) → Answered bounds faults u t before out now (event.Poll c want)
   past_answered bounds faults before out told =
       let is : move_of t now want c v ≡ Opens x n k.request = moves ∙ ap (λ (y : ℕ). Opens y n k.request) (sym is_next) in
-      does_answered bounds faults u t (counted now (event.Poll c want) s) before out (acts_of c (Opens x n k.request)) now (event.Poll c want)
+      does_answered bounds faults u t (with_event now (event.Poll c want) s) before out (acts_of c (Opens x n k.request)) now (event.Poll c want)
       (passes_by bounds t law now c want v row x n k.request is way) refl refl (told ∙ ap (λ (q : Request). before ++ acts_of c (Opens x n q)) copies) (stands_counted u s now (event.Poll c want) refl stands_past)

@@ -23,7 +23,7 @@ use Rattle.hc_event.specs.declared.act.Need.TheVariants as need
 use Rattle.hc_event.specs.declared.act.Why.{Why}
 use Rattle.hc_event.specs.declared.event.Response.{Response}
 use Rattle.hc_range.specs.declared.range.Span.{Span}
-use Rattle.hc_validate.specs.Showing.{shown}
+use Rattle.hc_validate.specs.Showing.{shown_response}
 use Rattle.hc_event.specs.declared.event.Event.TheVariants as event
 use Rattle.hc_event.specs.declared.event.Request.{Request}
 use Rattle.hc_rules.specs.declared.need.Route.{Route}
@@ -183,7 +183,7 @@ module _ {B : Type 0} {g : Ghosts B} (r : Rows B g) (t : Tables) (facts : Facts 
 
       opened_need : {x2 : ℕ} {n3 : Need} {a : Request} → Opens x2 n3 a ≡ Opens x n request → n3 ≡ n
       opened_need h = cc
-  by_does now x n request _ is turns (does.later n2 asked q lo hi how way shown at) = absurd (hole_turn (sym way ∙ (ap route_of (opened_need is) ∙ turns)))
+  by_does now x n request _ is turns (does.later n2 asked q lo hi how way shown_response at) = absurd (hole_turn (sym way ∙ (ap route_of (opened_need is) ∙ turns)))
     where
       hole_turn : route.Hole ≡ route.Turn → ⊥
       hole_turn h = cc
@@ -218,7 +218,7 @@ module _ {B : Type 0} {g : Ghosts B} (r : Rows B g) (t : Tables) (facts : Facts 
   pub next_by : (now : ℕ) (n : Need) → route_of n ≡ route.Turn → plan_of (planning.plan_view t now c v) ≡ plan.Fetch n → IsNext r.keys c k
   next_by now n turns is =
       let move = planned now 0 (plan.Fetch n) is in
-      let both = by_does now (t.opened + 1) n (planning.fetched t v n) (move_of t now 0 c v) move turns (does_polled t c v facts.law.sound facts.turns row now 0) in
+      let both = by_does now (t.opened + 1) n (planning.origin_request t v n) (move_of t now 0 c v) move turns (does_polled t c v facts.law.sound facts.turns row now 0) in
       let lists = facts.law.sound.numbered.lists in
       let told = turn_with_is t its (kept_of r.keys its) lists (stands.keys its) c ∙ both.0 in (
         queues_as t k v kept ∙ rw (both.1.cached, both.1.asks) refl,
@@ -236,7 +236,7 @@ module _ {B : Type 0} {g : Ghosts B} (r : Rows B g) (t : Tables) (facts : Facts 
   busy_does now d _ is (does.past n asked way new) = absurd (cc)
   busy_does now d _ is (does.fetches n asked way new queued turn validates bypasses) = absurd (cc)
   busy_does now d _ is (does.first n asked q lo hi way new at) = absurd (cc)
-  busy_does now d _ is (does.later n asked q lo hi how way shown at) = absurd (cc)
+  busy_does now d _ is (does.later n asked q lo hi how way shown_response at) = absurd (cc)
   busy_does now d _ is (does.shows q why head lo hi joined) = absurd (cc)
   busy_does now d _ is (does.given run) = absurd (cc)
   busy_does now d _ is does.ends = absurd (cc)
@@ -347,7 +347,7 @@ fetch_route view n is = by_plan (plan_of view) (plan_by view) is
     by_plan _ (plans.fills span hole cached a none) same = absurd (cc)
 
 -- what is told of a head depends on its length and fields
-shown_alike : (a b : Head) (why : Why) (span : Option Span) (ranged : Bool) → a.total ≡ b.total → a.fields ≡ b.fields → shown a why span ranged ≡ shown b why span ranged
+shown_alike : (a b : Head) (why : Why) (span : Option Span) (ranged : Bool) → a.total ≡ b.total → a.fields ≡ b.fields → shown_response a why span ranged ≡ shown_response b why span ranged
 shown_alike a b why span ranged total fields = rw (total, fields) refl
 
 ranged_as : (k : Consumer) (v : rows.Consumer) (t : Tables) → IsKept t k v → planning.is_ranged v ≡ is_some k.class.range
@@ -357,7 +357,7 @@ ranged_as k v t kept = sym (ap (λ (z : RequestClass). is_some z.range) kept.cla
 binds_shows : (t : Tables) (v : rows.Consumer) (q : ℕ) (p : Representation) (why : Why) (head : Head) (span : Option Span) (k : Consumer) → t.representation q ≡ Some p → p.head.total ≡ head.total → p.head.fields ≡ head.fields → planning.is_ranged v ≡ is_some k.class.range → planning.binds t v why q span ≡ shows_part q head why span k
 binds_shows t v q p why head None k here total fields range =
     rw (here, range) (ap (λ (h : Response). Shows q why h 0 p.head.total) (shown_alike p.head head why (span_to 0 p.head.total) (is_some k.class.range) total fields)
-    ∙ ap (λ (n : Option ℕ). Shows q why (shown head why (span_to 0 n) (is_some k.class.range)) 0 n) total)
+    ∙ ap (λ (n : Option ℕ). Shows q why (shown_response head why (span_to 0 n) (is_some k.class.range)) 0 n) total)
 binds_shows t v q p why head (Some span) k here total fields range =
     rw (here, range) (ap (λ (h : Response). Shows q why h span.lo (Some span.hi)) (shown_alike p.head head why (span_to span.lo (Some span.hi)) (is_some k.class.range) total fields))
 
@@ -455,7 +455,7 @@ module _ {B : Type 0} {g : Ghosts B} (r : Rows B g) (some : ∥ Stands r ∥₁)
     pub miss_answers : IsPlanOf r now c plan.Miss → ((want : ℕ) → AnswersMove r u before out now c want (Fails cause.Miss)) → AnswersPoll r u before out now c
     miss_answers is answers = plan_answers r u before out now c found.0 plan.Miss found.1 found.2 is (λ want t v facts stands row kept move. answers want t v facts stands row move)
 
-    fetched_plain : (t : Tables) (v : rows.Consumer) (n : Need) → n ≢ need.Validate → planning.fetched t v n ≡ v.request
+    fetched_plain : (t : Tables) (v : rows.Consumer) (n : Need) → n ≢ need.Validate → planning.origin_request t v n ≡ v.request
     fetched_plain t v need.Validate other = absurd (other refl)
     fetched_plain t v need.Disabled other = refl
     fetched_plain t v need.TimedOut other = refl
@@ -482,7 +482,7 @@ module _ {B : Type 0} {g : Ghosts B} (r : Rows B g) (some : ∥ Stands r ∥₁)
         head_is : (m : ℕ) (h : StoredHead) → head_at (shelf_of r.entries) m ≡ Some (plain h) → (e : Kept) → (shelf_of r.entries).kept m ≡ Some e → e.head ≡ plain h
         head_is m h there e at = head_at_is ((shelf_of r.entries).kept m) e h at there
 
-        fetched_as : (t : Tables) (v : rows.Consumer) (m : Need) (p : Representation) → planning.current_row t v ≡ Some p → (h : Head) (e : Kept) → e.head ≡ h → IsEntry t q e p → planning.fetched t v m ≡ asked_by h m v.request
+        fetched_as : (t : Tables) (v : rows.Consumer) (m : Need) (p : Representation) → planning.current_row t v ≡ Some p → (h : Head) (e : Kept) → e.head ≡ h → IsEntry t q e p → planning.origin_request t v m ≡ asked_by h m v.request
         fetched_as t v need.Validate p at h e same is = ap (λ (o : Option Representation). planning.conditional_on o v.request) at ∙ (ap (λ (z : Head). conditional z v.request) (sym is.head) ∙ ap (λ (z : Head). conditional z v.request) same)
         fetched_as t v need.Disabled p at h e same is = refl
         fetched_as t v need.TimedOut p at h e same is = refl
@@ -591,7 +591,7 @@ module _ {B : Type 0} {g : Ghosts B} (r : Rows B g) (a : Entries B g) (stays : S
 
   pub read_until : (now : ℕ) → ∥ StandsBy r now ∥₁ → ∥ StandsBy read now ∥₁
   read_until now some = ∥∥₁_map some (λ u.
-      let s = u.0 in (record { t = s.t; facts = s.facts; modest = s.modest; rows = read_stands s.t s.rows }, u.1))
+      let s = u.0 in (record { t = s.t; facts = s.facts; within_limits = s.within_limits; rows = read_stands s.t s.rows }, u.1))
 
   pub read_some : (now : ℕ) → ∥ StandsBy r now ∥₁ → ∥ Stands read ∥₁
   read_some now some = ∥∥₁_map (read_until now some) (λ u. u.0)

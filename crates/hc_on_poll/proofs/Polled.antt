@@ -4,14 +4,14 @@ use Rattle.std.specs.Prelude.{nat_eq}
 use Rattle.std.specs.HashMap.{get}
 use Rattle.hc_store.specs.declared.backend.Backend.{Ghosts}
 use Rattle.hc_event.specs.declared.event.Request.{Request}
-use Rattle.hc_fields.specs.FieldList.{IsModest, size_of}
+use Rattle.hc_fields.specs.FieldList.{IsWithinLimits, size_of}
 use Rattle.hc_event.specs.declared.place.Place.{Place}
 use Rattle.hc_model.specs.Denials.{is_live_place}
 use Rattle.hc_model.specs.Rows as rows
 use Rattle.hc_state.specs.declared.consumer.Consumer.{Consumer}
 use Rattle.hc_state.specs.declared.rows.Rows.{Rows}
 use Rattle.hc_state.specs.Kept.{IsKept, KeepsConsumer}
-use Rattle.hc_state.specs.Plans.{IsModestRequest}
+use Rattle.hc_state.specs.Plans.{IsRequestWithinLimits}
 use Rattle.hc_state.specs.Stands.{Stands}
 use Rattle.hc_state.proofs.Maps.{merely_true, merely_below}
 use Rattle.hc_state.proofs.Ties.{kept_row}
@@ -25,11 +25,11 @@ module _ {B : Type 0} {g : Ghosts B} (r : Rows B g) (some : ∥ Stands r ∥₁)
   pub lives_there : is_live_place k.place ≡ true
   lives_there = merely_true (is_live_place k.place) some (λ s. (let (v, row, kept) = its_row s in ap (λ (p : Place). is_live_place p) kept.place ∙ kept.is_there))
 
-  modest_in : (s : Stands r) → IsModest k.request.fields
-  modest_in s = (let (v, row, kept) = its_row s in subst (λ (z : Request). IsModest z.fields) (sym kept.request) (s.modest c v row))
+  within_limits_in : (s : Stands r) → IsWithinLimits k.request.fields
+  within_limits_in s = (let (v, row, kept) = its_row s in subst (λ (z : Request). IsWithinLimits z.fields) (sym kept.request) (s.within_limits c v row))
 
-  pub modest_there : IsModestRequest k
-  modest_there =
-      let few = merely_below (length k.request.fields) 65 some (λ s. (let le = (modest_in s).few in omega (arith, le))) in
-      let small = merely_below (size_of k.request.fields) 32769 some (λ s. (let le = (modest_in s).small in omega (arith, le))) in
+  pub within_limits_there : IsRequestWithinLimits k
+  within_limits_there =
+      let few = merely_below (length k.request.fields) 65 some (λ s. (let le = (within_limits_in s).few in omega (arith, le))) in
+      let small = merely_below (size_of k.request.fields) 32769 some (λ s. (let le = (within_limits_in s).small in omega (arith, le))) in
       record { few = omega (arith, few); small = omega (arith, small) }

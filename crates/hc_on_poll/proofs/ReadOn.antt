@@ -23,7 +23,7 @@ use Rattle.hc_model.specs.Moves.{acts_of}
 use Rattle.hc_model.specs.Rows.{Tables}
 use Rattle.hc_state.specs.declared.consumer.Consumer.{Consumer}
 use Rattle.hc_state.specs.declared.rows.Rows.{Rows}
-use Rattle.hc_state.specs.Arms.{most, given, asks_or_waits, asked_in}
+use Rattle.hc_state.specs.Arms.{most, given_acts, asks_or_waits, asked_in}
 use Rattle.hc_state.specs.Changes.{ChangesAt, once_given}
 use Rattle.hc_state.specs.Facts.{Facts}
 use Rattle.hc_state.specs.Reads.{IsShownAt, IsHeard, IsRunAhead, IsInLength, ReadViewIs}
@@ -130,7 +130,7 @@ module _ {B : Type 0} {g : Ghosts B} (r : Rows B g) (c q : ℕ) (k : Consumer) (
     its = row_of t facts stands
 
     -- what is stored is given
-    pub gives_stored : (n : ℕ) → read_step view ≡ step.Stored n → (z : Run) → run ≡ Some z → out ≡ before ++ given c z.x z.at z.bytes → u.exchanges ≡ r.exchanges → ChangesAt r.consumers u.consumers c (once_given (length z.bytes)) → Answered r.limits (shelf_of r.entries).faults u t before out now (event.Poll c want)
+    pub gives_stored : (n : ℕ) → read_step view ≡ step.Stored n → (z : Run) → run ≡ Some z → out ≡ before ++ given_acts c z.x z.at z.bytes → u.exchanges ≡ r.exchanges → ChangesAt r.consumers u.consumers c (once_given (length z.bytes)) → Answered r.limits (shelf_of r.entries).faults u t before out now (event.Poll c want)
     gives_stored n is z read acts exchanges changes =
         let found = bound.stored_move r t facts stands c q reads.0.2 k its now want reads.1 heard wants run run_is view view_is n is in
         let same : found.0 ≡ z = some_is found.0 z (sym found.1.read_is ∙ read) in
@@ -139,7 +139,7 @@ module _ {B : Type 0} {g : Ghosts B} (r : Rows B g) (c q : ℕ) (k : Consumer) (
         gives.stored_answered r u t facts stands now want c q reads.0.2 k its at before out received limits last same_keys same_entries z a.at a.within a.each m.move_is acts exchanges changes
 
     -- what is held is given
-    pub gives_held : read_step view ≡ step.Held → (x o n : ℕ) (bytes : List ℕ) → k.own ≡ Some x → o ≡ view.offset → n ≡ most view.hi view.offset want → bytes ≡ take n (table_of r.exchanges x).held → out ≡ before ++ given c x o bytes → exch.Becomes (known.given n) x r.exchanges u.exchanges → ChangesAt r.consumers u.consumers c (once_given (length bytes))
+    pub gives_held : read_step view ≡ step.Held → (x o n : ℕ) (bytes : List ℕ) → k.own ≡ Some x → o ≡ view.offset → n ≡ most view.hi view.offset want → bytes ≡ take n (table_of r.exchanges x).held → out ≡ before ++ given_acts c x o bytes → exch.Becomes (known.without_first n) x r.exchanges u.exchanges → ChangesAt r.consumers u.consumers c (once_given (length bytes))
         → Answered r.limits (shelf_of r.entries).faults u t before out now (event.Poll c want)
     gives_held is x o n bytes own o_is n_is bytes_are acts becomes changes =
         let found = bound.held_move r t facts stands c q reads.0.2 k its now want reads.1 heard wants run run_is view view_is is in
@@ -148,14 +148,14 @@ module _ {B : Type 0} {g : Ghosts B} (r : Rows B g) (c q : ℕ) (k : Consumer) (
         let at_offset : o ≡ k.lo + k.given = o_is ∙ ap (λ (y : ReadView). y.offset) view_is.is in
         let as_many : n ≡ most k.hi (k.lo + k.given) want = n_is ∙ ap (λ (y : ReadView). most y.hi y.offset want) view_is.is in
         let taken : bytes ≡ take (most k.hi (k.lo + k.given) want) (table_of r.exchanges h.x).held = bytes_are ∙ ap₂ (λ (m y : ℕ). take m (table_of r.exchanges y).held) as_many same in
-        let told : out ≡ before ++ given c h.x (k.lo + k.given) (take (most k.hi (k.lo + k.given) want) (table_of r.exchanges h.x).held) =
-        acts ∙ (ap (λ (y : ℕ). before ++ given c y o bytes) same ∙ (ap (λ (y : ℕ). before ++ given c h.x y bytes) at_offset ∙ ap (λ (ys : List ℕ). before ++ given c h.x (k.lo + k.given) ys) taken)) in
+        let told : out ≡ before ++ given_acts c h.x (k.lo + k.given) (take (most k.hi (k.lo + k.given) want) (table_of r.exchanges h.x).held) =
+        acts ∙ (ap (λ (y : ℕ). before ++ given_acts c y o bytes) same ∙ (ap (λ (y : ℕ). before ++ given_acts c h.x y bytes) at_offset ∙ ap (λ (ys : List ℕ). before ++ given_acts c h.x (k.lo + k.given) ys) taken)) in
         gives.held_answered r u t facts stands now want c q reads.0.2 k its at before out received limits last same_keys same_entries h (most k.hi (k.lo + k.given) want)
-        (subst (λ (y : ℕ). exch.Becomes (known.given (most k.hi (k.lo + k.given) want)) y r.exchanges u.exchanges) same (subst (λ (m : ℕ). exch.Becomes (known.given m) x r.exchanges u.exchanges) as_many becomes))
+        (subst (λ (y : ℕ). exch.Becomes (known.without_first (most k.hi (k.lo + k.given) want)) y r.exchanges u.exchanges) same (subst (λ (m : ℕ). exch.Becomes (known.without_first m) x r.exchanges u.exchanges) as_many becomes))
         found.1.move_is told (subst (λ (ys : List ℕ). ChangesAt r.consumers u.consumers c (once_given (length ys))) taken changes)
 
     -- it asks, or waits
-    pub asks_for : (x : ℕ) → read_step view ≡ step.Waits x → u.consumers ≡ r.consumers → exch.Becomes known.asked x r.exchanges u.exchanges → out ≡ before ++ acts_of c (asks_or_waits (asked_in (table_of r.exchanges x).running) x) → Answered r.limits (shelf_of r.entries).faults u t before out now (event.Poll c want)
+    pub asks_for : (x : ℕ) → read_step view ≡ step.Waits x → u.consumers ≡ r.consumers → exch.Becomes known.with_asking x r.exchanges u.exchanges → out ≡ before ++ acts_of c (asks_or_waits (asked_in (table_of r.exchanges x).running) x) → Answered r.limits (shelf_of r.entries).faults u t before out now (event.Poll c want)
     asks_for x is consumers becomes acts =
         let m = bound.waits_move r t facts stands c q reads.0.2 k its now want reads.1 heard wants run run_is view view_is x is in
         gives.asks_answered r u t facts stands now want c q reads.0.2 k its at before out received limits last same_keys same_entries x consumers becomes m.move_is acts

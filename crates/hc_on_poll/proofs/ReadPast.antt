@@ -28,29 +28,29 @@ use Rattle.hc_exch.specs.Known as known
 use Rattle.hc_exch.specs.Known.{Known}
 use Rattle.hc_exch.specs.declared.row.Open.{Open}
 use Rattle.hc_event.specs.declared.place.Place.TheVariants as place
-use Rattle.hc_model.specs.Effects.{with_consumer, with_ask, counted}
+use Rattle.hc_model.specs.Effects.{with_consumer, with_ask, with_event}
 use Rattle.hc_model.specs.Exchanges.{base, front}
 use Rattle.hc_model.specs.Lawful.{Lawful}
 use Rattle.hc_model.specs.Moves as moves
 use Rattle.hc_model.specs.Moves.{Move, Gives, Ends, Fails, Asks, Shows, acts_of, gives, waits_for}
 use Rattle.hc_model.specs.Places.{ReadsPast}
-use Rattle.hc_model.specs.Planning.{planned}
+use Rattle.hc_model.specs.Planning.{planned_move}
 use Rattle.hc_model.specs.Polls.{move_of, shows_head, shows_answer, shows_direct, if_headless, waits_for_head, by_place, or_else}
 use Rattle.hc_model.specs.Reading.{own_open, source, offset, hi_of, lo_of, base_in, end_in, reads}
 use Rattle.hc_model.specs.Rows as rows
 use Rattle.hc_model.specs.Rows.{Tables, Exchange, Representation}
 use Rattle.hc_model.specs.Steps as steps
-use Rattle.hc_model.specs.Steps.{reading, step_move, held, run_of}
+use Rattle.hc_model.specs.Steps.{reading, step_move, run_held_for, run_of}
 use Rattle.hc_laws.proofs.AskEffects.{asks}
 use Rattle.hc_laws.proofs.GiveEffects.{gives_bytes}
 use Rattle.hc_laws.proofs.ShowEffects.{shows_reader}
 use Rattle.hc_laws.proofs.WaitEffects.{waits_on}
 use Rattle.hc_state.specs.declared.consumer.Consumer.{Consumer}
 use Rattle.hc_state.specs.declared.rows.Rows.{Rows}
-use Rattle.hc_state.specs.Arms.{IsShown, IsUnshown, past_view, source_in, most, asks_or_waits, asked_in, given}
+use Rattle.hc_state.specs.Arms.{IsShown, IsUnshown, past_view, source_in, most, asks_or_waits, asked_in, given_acts}
 use Rattle.hc_state.specs.Changes.{BecomesAt, ChangesAt, once_answered, once_given}
 use Rattle.hc_state.specs.Facts.{Facts}
-use Rattle.hc_state.specs.Kept.{IsKept, KeepsConsumer, KeepsExchange, KeepsRunning, answer_for, held_for, unread, unstored}
+use Rattle.hc_state.specs.Kept.{IsKept, KeepsConsumer, KeepsExchange, KeepsRunning, answer_for, held_for, unread, unstored_bytes}
 use Rattle.hc_state.specs.Stands.{RowsStand, Answered}
 use Rattle.hc_state.proofs.Answering.{does_answered}
 use Rattle.hc_on_poll.proofs.Asking.{stands_asked, stands_asked_already}
@@ -99,7 +99,7 @@ module _ (t : Tables) (now want c x : ℕ) (v : rows.Consumer) (w : Exchange) (a
   by_shown : v.shown ≡ true → by_place t now want c v v.place ≡ reading t want c v
   by_shown shown = ap (by_place t now want c v) at ∙ by_test v.shown shown
     where
-      by_test : (b : Bool) → b ≡ true → (if b then reading t want c v else planned t now c v) ≡ reading t want c v
+      by_test : (b : Bool) → b ≡ true → (if b then reading t want c v else planned_move t now c v) ≡ reading t want c v
       by_test true is = refl
       by_test false is = false_true is
 
@@ -158,7 +158,7 @@ module _ {B : Type 0} {g : Ghosts B} (r u : Rows B g) (t : Tables) (facts : Fact
       let m : Move = moves.Waits (wait.Head x) in
       let same : once_answered k ≡ k = rw none refl in
       let becomes = becomes_by r.consumers u.consumers c k once_answered there changes in
-      does_answered r.limits (shelf_of r.entries).faults u t (counted now ev t) before out (acts_of c m) now ev
+      does_answered r.limits (shelf_of r.entries).faults u t (with_event now ev t) before out (acts_of c m) now ev
       (waits_on r.limits t facts.law now c want rd.v rd.row (wait.Head x) (let bare = sym answer_is ∙ none in waits_move t now want c x rd.v rd.reads.w rd.at rd.reads.own rd.reads.row unshown bare (rd.reads.unheard bare).is_open) refl) refl refl acts
       (stands_counted u t now ev refl (record {
         limits = rw (same_entries, limits) stands.limits;
@@ -189,7 +189,7 @@ module _ {B : Type 0} {g : Ghosts B} (r u : Rows B g) (t : Tables) (facts : Fact
       let q : Consumer = record k { shown = true; answer = None } in
       let change : once_answered k ≡ q = rw some refl in
       let kp = rd.kept in
-      does_answered r.limits (shelf_of r.entries).faults u t (counted now ev s) before out (acts_of c m) now ev
+      does_answered r.limits (shelf_of r.entries).faults u t (with_event now ev s) before out (acts_of c m) now ev
       (shows_reader r.limits t facts.law now c want v rd.row x (why.Fetched x) head k.lo k.hi (shows_move t now want c x v rd.reads.w rd.at rd.reads.own rd.reads.row head k.lo k.hi unshown (sym answer_is ∙ some) from to) (ap reads rd.at)) refl refl acts
       (stands_counted u s now ev refl
       (stands_reading t c v true v.given rd.row r u stands kp.is_there limits received last same_keys (ap (λ z. next_of z) exchanges) (subst (λ z. shelf.Stays (shelf_of r.entries) (shelf_of z)) (sym same_entries) (record { kept = λ n. refl; order = refl; used = refl; limits = refl }))
@@ -265,13 +265,13 @@ abbrev the_view : ℕ → Option ℕ → Bool → Option Cause → Option ℕ �
 the_view o hi h d s = record { offset = o; hi = hi; stored = None; held = h; due = d; source = s; next_stored = None }
 
 -- nothing is stored of an answer past the store
-view_at : (t : Tables) (want c x : ℕ) (v : rows.Consumer) → v.place ≡ place.Direct x → steps.read_view t want c v ≡ the_view (offset t v) (hi_of t v.place) (is_some (held t c v want)) v.due (source t v)
+view_at : (t : Tables) (want c x : ℕ) (v : rows.Consumer) → v.place ≡ place.Direct x → steps.read_view t want c v ≡ the_view (offset t v) (hi_of t v.place) (is_some (run_held_for t c v want)) v.due (source t v)
 view_at t want c x v at = rw at refl
 
 view_is : (o p : ℕ) (hi z : Option ℕ) (h g : Bool) (d e : Option Cause) (s q : Option ℕ) → o ≡ p → hi ≡ z → h ≡ g → d ≡ e → s ≡ q → the_view o hi h d s ≡ the_view p z g e q
 view_is o p hi z h g d e s q a b c f i = rw (a, b, c, f, i) refl
 
-held_place : (t : Tables) (c x n : ℕ) (v : rows.Consumer) (w : Exchange) → v.place ≡ place.Direct x → t.exchange x ≡ Some w → held t c v n ≡ run_of x (offset t v) (take n (drop (offset t v - base w) w.body))
+held_place : (t : Tables) (c x n : ℕ) (v : rows.Consumer) (w : Exchange) → v.place ≡ place.Direct x → t.exchange x ≡ Some w → run_held_for t c v n ≡ run_of x (offset t v) (take n (drop (offset t v - base w) w.body))
 held_place t c x n v w at row = rw (at, row) refl
 
 sources_are : (t : Tables) (x : ℕ) (on : Option Open) (w : Exchange) (v : rows.Consumer) → KeepsRunning t x on (Some w) → v.own ≡ Some x → v.place ≡ place.Direct x → t.exchange x ≡ Some w → source t v ≡ (if is_some on then Some x else None)
@@ -319,7 +319,7 @@ module _ {B : Type 0} {g : Ghosts B} (r : Rows B g) (t : Tables) (facts : Facts 
   running = subst (KeepsRunning t x known_here.running) rd.reads.row (stands.exchanges x).running
 
   -- what is held of an exchange from the offset on
-  held_run : (n : ℕ) → held t c v n ≡ run_of x (offset t v) (take n (drop v.given w.body))
+  held_run : (n : ℕ) → run_held_for t c v n ≡ run_of x (offset t v) (take n (drop v.given w.body))
   held_run n =
       let skips : offset t v - base w ≡ v.given = omega (arith, begins_at) in
       held_place t c x n v w rd.at rd.reads.row ∙ ap (λ (m : ℕ). run_of x (offset t v) (take n (drop m w.body))) skips
@@ -381,8 +381,8 @@ module _ {B : Type 0} {g : Ghosts B} (r : Rows B g) (t : Tables) (facts : Facts 
     pub gives_move : (bytes : List ℕ) → read_step (past_view known_here x at_offset k) ≡ step.Held → bytes ≡ take (most k.hi at_offset want) known_here.held
         → move_of t now want c v ≡ Gives (record { x = x; at = at_offset; bytes = bytes })
     gives_move bytes is bytes_are =
-        let run : held t c v (steps.most t want v) ≡ run_of x at_offset bytes =
-        ap (held t c v) most_is
+        let run : run_held_for t c v (steps.most t want v) ≡ run_of x at_offset bytes =
+        ap (run_held_for t c v) most_is
         ∙ (held_run (most k.hi at_offset want)
         ∙ ap₂ (λ (o : ℕ) (zs : List ℕ). run_of x o zs) (sym offset_is) (ap (take (most k.hi at_offset want)) (sym held_before) ∙ sym bytes_are)) in
         (reads_as now ∙ ap (step_move t want c v) is) ∙ (ap gives run ∙ ap gives (run_is x at_offset bytes (some_given bytes is bytes_are)))
@@ -443,7 +443,7 @@ unread_else : (x y : ℕ) (z : Exchange) (v : rows.Consumer) (n : ℕ) → v.pla
 unread_else x y z v n at ne = rw (at, eqb-other x y ne) refl
 
 -- who reads past the store is bound to nothing
-unstored_past : (t : Tables) (x y : ℕ) (z : Exchange) (p : Representation) (v : rows.Consumer) (n : ℕ) → v.place ≡ place.Direct x → unstored t y z p (Some (record v { given = n })) ≡ unstored t y z p (Some v)
+unstored_past : (t : Tables) (x y : ℕ) (z : Exchange) (p : Representation) (v : rows.Consumer) (n : ℕ) → v.place ≡ place.Direct x → unstored_bytes t y z p (Some (record v { given = n })) ≡ unstored_bytes t y z p (Some v)
 unstored_past t x y z p v n at = rw at refl
 
 itself : (t : Tables) (c : ℕ) (row : Option rows.Consumer) → (with_consumer c row t).consumer c ≡ row
@@ -468,8 +468,8 @@ module _ {B : Type 0} {g : Ghosts B} (r u : Rows B g) (t : Tables) (facts : Fact
       taken : (n m : ℕ) (xs : List ℕ) → drop n (drop m xs) ≡ drop (m + length (take n (drop m xs))) xs
       taken n m xs = grind (arith, common_steps)
 
-  pub given_answered : (n : ℕ) (bytes : List ℕ) → read_step (past_view (table_of r.exchanges x) x (k.lo + k.given) k) ≡ step.Held → n ≡ most k.hi (k.lo + k.given) want → bytes ≡ take n (table_of r.exchanges x).held → out ≡ before ++ given c x (k.lo + k.given) bytes
-      → exch.Becomes (known.given n) x r.exchanges u.exchanges → ChangesAt r.consumers u.consumers c (once_given (length bytes)) → Answered r.limits (shelf_of r.entries).faults u t before out now ev
+  pub given_answered : (n : ℕ) (bytes : List ℕ) → read_step (past_view (table_of r.exchanges x) x (k.lo + k.given) k) ≡ step.Held → n ≡ most k.hi (k.lo + k.given) want → bytes ≡ take n (table_of r.exchanges x).held → out ≡ before ++ given_acts c x (k.lo + k.given) bytes
+      → exch.Becomes (known.without_first n) x r.exchanges u.exchanges → ChangesAt r.consumers u.consumers c (once_given (length bytes)) → Answered r.limits (shelf_of r.entries).faults u t before out now ev
   given_answered n bytes is n_is bytes_are acts becomes changes =
       let run : Run = record { x = x; at = k.lo + k.given; bytes = bytes } in
       let most_are = bytes_are ∙ ap (λ (z : ℕ). take z (table_of r.exchanges x).held) n_is in
@@ -477,7 +477,7 @@ module _ {B : Type 0} {g : Ghosts B} (r u : Rows B g) (t : Tables) (facts : Fact
       let kp = shown_rd.kept in
       let more : ℕ = v.given + length bytes in
       let s : Tables = with_consumer c (Some (record v { given = more })) t in
-      does_answered r.limits (shelf_of r.entries).faults u t (counted now ev s) before out (acts_of c (Gives run)) now ev
+      does_answered r.limits (shelf_of r.entries).faults u t (with_event now ev s) before out (acts_of c (Gives run)) now ev
       (gives_bytes r.limits t facts.law now c want v shown_rd.row run (gives_move r t facts want c x k stands shown_rd at.1 wants now bytes is most_are)) refl refl acts
       (stands_counted u s now ev refl
       (stands_reading t c v v.shown more shown_rd.row r u stands kp.is_there limits received last same_keys becomes.next unread_store
@@ -498,7 +498,7 @@ module _ {B : Type 0} {g : Ghosts B} (r u : Rows B g) (t : Tables) (facts : Fact
       })
       each_exchange))
     where
-      here : table_of u.exchanges x ≡ known.given n (table_of r.exchanges x)
+      here : table_of u.exchanges x ≡ known.without_first n (table_of r.exchanges x)
       here = becomes.table x ∙ rw (eqb-same x) refl
 
       left : (table_of u.exchanges x).held ≡ drop (shown_rd.v.given + length bytes) shown_rd.reads.w.body
@@ -529,14 +529,14 @@ module _ {B : Type 0} {g : Ghosts B} (r u : Rows B g) (t : Tables) (facts : Fact
 
   -- it asks for more, or waits for that
 
-  module _ (consumers : u.consumers ≡ r.consumers) (becomes : exch.Becomes known.asked x r.exchanges u.exchanges) where
+  module _ (consumers : u.consumers ≡ r.consumers) (becomes : exch.Becomes known.with_asking x r.exchanges u.exchanges) where
     waits_by : (b : Bool) → asked_in (table_of r.exchanges x).running ≡ b → move_of t now want c shown_rd.v ≡ asks_or_waits b x → out ≡ before ++ acts_of c (asks_or_waits b x) → Answered r.limits (shelf_of r.entries).faults u t before out now ev
     waits_by false is move acts =
-        does_answered r.limits (shelf_of r.entries).faults u t (counted now ev (with_ask x t)) before out (acts_of c (Asks x)) now ev
+        does_answered r.limits (shelf_of r.entries).faults u t (with_event now ev (with_ask x t)) before out (acts_of c (Asks x)) now ev
         (asks r.limits t facts.law now c want shown_rd.v shown_rd.row x move) refl refl acts
         (stands_counted u (with_ask x t) now ev refl (stands_asked r u t x stands limits received last consumers same_keys becomes unread_store))
     waits_by true is move acts =
-        does_answered r.limits (shelf_of r.entries).faults u t (counted now ev t) before out (acts_of c (moves.Waits (wait.Body x))) now ev
+        does_answered r.limits (shelf_of r.entries).faults u t (with_event now ev t) before out (acts_of c (moves.Waits (wait.Body x))) now ev
         (waits_on r.limits t facts.law now c want shown_rd.v shown_rd.row (wait.Body x) move refl) refl refl acts
         (stands_counted u t now ev refl (stands_asked_already r u t x stands is limits received last consumers same_keys becomes unread_store))
 

@@ -18,7 +18,7 @@ use Rattle.hc_record.specs.Head.{Head, sealed_head}
 use Rattle.hc_record.specs.declared.kind.Kind.TheVariants as kinds
 use Rattle.hc_rules.specs.Requests.{class_of}
 use Rattle.hc_rules.specs.declared.request.RequestClass.{RequestClass}
-use Rattle.hc_validate.specs.Showing.{shown}
+use Rattle.hc_validate.specs.Showing.{shown_response}
 use Rattle.hc_stored.specs.Entries.{shelf_of}
 use Rattle.hc_stored.specs.Kept as entry
 use Rattle.hc_stored.specs.Shelf as shelf
@@ -30,7 +30,7 @@ use Rattle.hc_event.specs.declared.place.BoundBy.{BoundBy}
 use Rattle.hc_event.specs.declared.place.BoundBy.TheVariants as by
 use Rattle.hc_event.specs.declared.place.Place.TheVariants as place
 use Rattle.hc_model.specs.Currents.{is_number, total_in}
-use Rattle.hc_model.specs.Effects.{with_consumer, counted}
+use Rattle.hc_model.specs.Effects.{with_consumer, with_event}
 use Rattle.hc_model.specs.Exchanges.{is_headless}
 use Rattle.hc_model.specs.Lawful.{Lawful}
 use Rattle.hc_model.specs.Moves as moves
@@ -125,13 +125,13 @@ same_status : (head other : Head) (n : Option ℕ) → sealed_head kinds.Growing
 same_status head other n is = ap (λ (h : Head). h.status) is
 
 -- only its length and its fields are shown
-shown_as_told : (head other : Head) (n : Option ℕ) (reason : Why) (span : Option Span) (ranged : Bool) → sealed_head kinds.Growing other.total head ≡ other → n ≡ other.total → shown (record head { total = n }) reason span ranged ≡ shown other reason span ranged
+shown_as_told : (head other : Head) (n : Option ℕ) (reason : Why) (span : Option Span) (ranged : Bool) → sealed_head kinds.Growing other.total head ≡ other → n ≡ other.total → shown_response (record head { total = n }) reason span ranged ≡ shown_response other reason span ranged
 shown_as_told head other n reason span ranged is same =
-    ap (λ (m : Option ℕ). shown (record head { total = m }) reason span ranged) same ∙ ap (λ (h : Head). shown h reason span ranged) is
+    ap (λ (m : Option ℕ). shown_response (record head { total = m }) reason span ranged) same ∙ ap (λ (h : Head). shown_response h reason span ranged) is
 
 -- whatever they come from
-pub same_shown : (head : Head) (a b : Why) (x y : Option Span) (p q : Bool) → a ≡ b → x ≡ y → p ≡ q → shown head a x p ≡ shown head b y q
-same_shown head a b x y p q one two three = ap (λ (z : Why). shown head z x p) one ∙ (ap (λ (z : Option Span). shown head b z p) two ∙ ap (shown head b y) three)
+pub same_shown : (head : Head) (a b : Why) (x y : Option Span) (p q : Bool) → a ≡ b → x ≡ y → p ≡ q → shown_response head a x p ≡ shown_response head b y q
+same_shown head a b x y p q one two three = ap (λ (z : Why). shown_response head z x p) one ∙ (ap (λ (z : Option Span). shown_response head b z p) two ∙ ap (shown_response head b y) three)
 
 module _ (t : Tables) {limits : _} (facts : Facts limits t) (c q : ℕ) (how : BoundBy) (k : Consumer) (rd : IsBoundRow t c q how k) (e : entry.Kept) (is : IsEntry t q e rd.p) where
   -- where it stops reading
@@ -395,15 +395,15 @@ module _ {B : Type 0} {g : Ghosts B} (r : Rows B g) (t : Tables) (facts : Facts 
     and_true false = refl
 
     -- as the tables have it
-    shows_it : (b : BoundBy) → how ≡ b → shows_bound t rd.v q rd.lo (hi_of t rd.v.place) b ≡ Some (Shows q (why_shown q b) (shown rd.p.head (why_shown q b) (span_to rd.lo (hi_of t rd.v.place)) (is_part k.class b e.head.status)) rd.lo (hi_of t rd.v.place))
+    shows_it : (b : BoundBy) → how ≡ b → shows_bound t rd.v q rd.lo (hi_of t rd.v.place) b ≡ Some (Shows q (why_shown q b) (shown_response rd.p.head (why_shown q b) (span_to rd.lo (hi_of t rd.v.place)) (is_part k.class b e.head.status)) rd.lo (hi_of t rd.v.place))
     shows_it by.Founding same =
         let status : nat_eq (status_in (t.representation q)) 206 ≡ nat_eq e.head.status 206 = ap (λ (z : Option Representation). nat_eq (status_in z) 206) rd.there ∙ ap (λ (n : ℕ). nat_eq n 206) (sym (same_status e.head rd.p.head rd.p.head.total is.head)) in
         ap (λ (z : Option Representation). Some (shows_stored q (why.Fetched q) (is_ranged rd.v && nat_eq (status_in (t.representation q)) 206) rd.lo (hi_of t rd.v.place) z)) rd.there
-        ∙ ap (λ (b : Bool). Some (Shows q (why.Fetched q) (shown rd.p.head (why.Fetched q) (span_to rd.lo (hi_of t rd.v.place)) b) rd.lo (hi_of t rd.v.place))) (ap₂ (λ (a b : Bool). a && b) (sym ranged_is) status)
+        ∙ ap (λ (b : Bool). Some (Shows q (why.Fetched q) (shown_response rd.p.head (why.Fetched q) (span_to rd.lo (hi_of t rd.v.place)) b) rd.lo (hi_of t rd.v.place))) (ap₂ (λ (a b : Bool). a && b) (sym ranged_is) status)
     shows_it (by.FirstHole y) same =
         ap (λ (b : Bool). if b then Some (shows_stored q (why.Validated y) (is_ranged rd.v) rd.lo (hi_of t rd.v.place) (t.representation q)) else None) (joined_is to_be_shown)
         ∙ (ap (λ (z : Option Representation). Some (shows_stored q (why.Validated y) (is_ranged rd.v) rd.lo (hi_of t rd.v.place) z)) rd.there
-        ∙ ap (λ (b : Bool). Some (Shows q (why.Validated y) (shown rd.p.head (why.Validated y) (span_to rd.lo (hi_of t rd.v.place)) b) rd.lo (hi_of t rd.v.place))) (sym ranged_is ∙ sym (and_true (is_some k.class.range))))
+        ∙ ap (λ (b : Bool). Some (Shows q (why.Validated y) (shown_response rd.p.head (why.Validated y) (span_to rd.lo (hi_of t rd.v.place)) b) rd.lo (hi_of t rd.v.place))) (sym ranged_is ∙ sym (and_true (is_some k.class.range))))
       where
         not_bare : is_headless (t.exchange y) ≡ true → ⊥
         not_bare bare = false_true (sym ready ∙ (ap (waits_for_first (table_of r.exchanges)) same ∙ (headless_is y ∙ bare)))
@@ -417,13 +417,13 @@ module _ {B : Type 0} {g : Ghosts B} (r : Rows B g) (t : Tables) (facts : Facts 
             by_way _ is (sound.waits z own headless) = let one : z ≡ y = cc in absurd (not_bare (subst (λ (n : ℕ). is_headless (t.exchange n) ≡ true) one headless))
     shows_it by.Plan same = shown_by_plan t facts c q how k rd e is same unshown
 
-    pub stored_shows : (total : Option ℕ) → total ≡ option_or e.head.total k.hi → move_of t now want c rd.v ≡ Shows q (why_shown q how) (shown (record e.head { total = total }) (why_shown q how) (span_to k.lo k.hi) (is_part k.class how e.head.status)) k.lo k.hi
+    pub stored_shows : (total : Option ℕ) → total ≡ option_or e.head.total k.hi → move_of t now want c rd.v ≡ Shows q (why_shown q how) (shown_response (record e.head { total = total }) (why_shown q how) (span_to k.lo k.hi) (is_part k.class how e.head.status)) k.lo k.hi
     stored_shows total total_at =
         let ends : k.hi ≡ hi_of t rd.v.place = rd.kept.ends in
         let head = shown_as_told e.head rd.p.head total (why_shown q how) (span_to k.lo k.hi) (is_part k.class how e.head.status) is.head (total_at ∙ total_is t facts c q how k rd e is unshown) in
         first_is (shows_head t rd.v) (or_else (waits_for_head (option_and_then (if_headless t) (own_open t rd.v))) (by_place t now want c rd.v rd.v.place)) _
         (shows_as ∙ (shows_it how refl
-        ∙ (ap₂ (λ (n : ℕ) (o : Option ℕ). Some (Shows q (why_shown q how) (shown rd.p.head (why_shown q how) (span_to n o) (is_part k.class how e.head.status)) n o)) (sym begins_at) (sym ends)
+        ∙ (ap₂ (λ (n : ℕ) (o : Option ℕ). Some (Shows q (why_shown q how) (shown_response rd.p.head (why_shown q how) (span_to n o) (is_part k.class how e.head.status)) n o)) (sym begins_at) (sym ends)
         ∙ ap (λ (h : Response). Some (Shows q (why_shown q how) h k.lo k.hi)) (sym head))))
 
 -- THE ARM
@@ -440,7 +440,7 @@ module _ {B : Type 0} {g : Ghosts B} (r u : Rows B g) (t : Tables) (facts : Fact
       head_waits r.limits (shelf_of r.entries).faults r t facts.law now c want mine.v mine.row before out y (first_waits r t facts stands now want c q how k mine unshown_v y same on) acts stands
 
   pub stored_answered : waits_for_first (table_of r.exchanges) how ≡ false → (head : Head) → head_at (shelf_of r.entries) q ≡ Some head → (total : Option ℕ) → total ≡ option_or head.total k.hi → (answer : Response)
-      → answer ≡ shown (record head { total = total }) (why_shown q how) (span_to k.lo k.hi) (is_part k.class how head.status) → out ≡ before ++ (act.Shown c q (why_shown q how) answer.status answer.fields k.lo k.hi ∷ [])
+      → answer ≡ shown_response (record head { total = total }) (why_shown q how) (span_to k.lo k.hi) (is_part k.class how head.status) → out ≡ before ++ (act.Shown c q (why_shown q how) answer.status answer.fields k.lo k.hi ∷ [])
       → u.received ≡ r.received → u.limits ≡ r.limits → u.last_start ≡ r.last_start → u.keys ≡ r.keys → u.entries ≡ r.entries → u.exchanges ≡ r.exchanges → ChangesAt r.consumers u.consumers c once_shown
       → Answered r.limits (shelf_of r.entries).faults u t before out now (event.Poll c want)
   stored_answered ready head stored total total_at answer answer_is acts received limits last same_keys same_entries exchanges changes =
@@ -451,9 +451,9 @@ module _ {B : Type 0} {g : Ghosts B} (r u : Rows B g) (t : Tables) (facts : Fact
       let kp = mine.kept in
       let s : Tables = with_consumer c (Some (record v { shown = true })) t in
       let move = stored_shows r t facts stands now want c q how k mine unshown_v ready e is total (total_at ∙ ap (λ (h : Head). option_or h.total k.hi) (sym head_is)) in
-      let same_answer = ap (λ (h : Head). shown (record h { total = total }) (why_shown q how) (span_to k.lo k.hi) (is_part k.class how h.status)) head_is ∙ sym answer_is in
+      let same_answer = ap (λ (h : Head). shown_response (record h { total = total }) (why_shown q how) (span_to k.lo k.hi) (is_part k.class how h.status)) head_is ∙ sym answer_is in
       let m : Move = Shows q (why_shown q how) answer k.lo k.hi in
-      does_answered r.limits (shelf_of r.entries).faults u t (counted now ev s) before out (acts_of c m) now ev
+      does_answered r.limits (shelf_of r.entries).faults u t (with_event now ev s) before out (acts_of c m) now ev
       (shows_reader r.limits t facts.law now c want v mine.row q (why_shown q how) answer k.lo k.hi (move ∙ ap (λ (h : Response). Shows q (why_shown q how) h k.lo k.hi) same_answer) (ap reads mine.at)) refl refl acts
       (stands_counted u s now ev refl
       (stands_reading t c v true v.given mine.row r u stands kp.is_there limits received last same_keys (ap (λ z. next_of z) exchanges) (subst (λ z. shelf.Stays (shelf_of r.entries) (shelf_of z)) (sym same_entries) (record { kept = λ n. refl; order = refl; used = refl; limits = refl }))

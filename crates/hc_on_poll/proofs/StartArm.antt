@@ -11,7 +11,7 @@ use Rattle.hc_rules.specs.Requests.{class_of, is_disabled, is_only}
 use Rattle.hc_entry.specs.Keys.{kept_of, line_of}
 use Rattle.hc_entry.specs.Kept as keyed
 use Rattle.hc_entry.specs.Kept.{on_line}
-use Rattle.hc_entry.specs.Lines.{is_among, is_held_by, is_in, queued}
+use Rattle.hc_entry.specs.Lines.{is_among, is_held_by, is_in, line_with}
 use Rattle.hc_entry.specs.Users.{itself}
 use Rattle.hc_sorted.proofs.SortedLemmas.{has-with}
 use Rattle.hc_rules.proofs.RangeReads.{bytes_eq-same}
@@ -21,10 +21,10 @@ use Rattle.hc_event.specs.declared.place.Place.{Place}
 use Rattle.hc_event.specs.declared.place.Place.TheVariants as place
 use Rattle.hc_event.specs.declared.place.BoundBy.TheVariants as by
 use Rattle.hc_model.specs.Lines.{is_in_line}
-use Rattle.hc_model.specs.ConsumerRows.{started}
+use Rattle.hc_model.specs.ConsumerRows.{new_consumer}
 use Rattle.hc_model.specs.Currents.{current}
 use Rattle.hc_model.specs.Denials.{denial, is_live, live}
-use Rattle.hc_model.specs.Effects.{with_consumer, with_start, counted}
+use Rattle.hc_model.specs.Effects.{with_consumer, with_start, with_event}
 use Rattle.hc_model.specs.Kinds.{kind_of}
 use Rattle.hc_model.specs.Lawful.{Lawful}
 use Rattle.hc_model.specs.Reading.{bound, is_bound}
@@ -38,7 +38,7 @@ use Rattle.hc_state.specs.Kept.{KeepsConsumer, KeepsExchange, held_for}
 use Rattle.hc_state.specs.Lines.{KeepsKey, has_turn, is_passed, is_away}
 use Rattle.hc_state.specs.Stands.{RowsStand}
 use Rattle.hc_state.specs.Stored.{KeepsEntry, is_first}
-use Rattle.hc_state.proofs.Asides.{IsAlike, same, aside, held_alike, users_alike}
+use Rattle.hc_state.proofs.Fallbacks.{IsAlike, same, fallback, held_alike, users_alike}
 use Rattle.hc_state.proofs.LiveCounts as counts
 use Rattle.hc_state.proofs.ConsumerSteps.{KeyAfter, SaysOfIt, key_with, key_stays, keys_with, at_it}
 use Rattle.hc_state.proofs.Ties.{kept_none, consumer_same, exchange_same, entry_same, key_same}
@@ -47,28 +47,28 @@ use Rattle.hc_state.proofs.Words.{same_or, eqb-same, eqb-other, then_false, same
 plus_none : (n : ℕ) → n + 0 ≡ n
 plus_none n = omega arith
 
-module _ {B : Type 0} {g : Ghosts B} (r u : Rows B g) (t : Tables) (law : Lawful t) (now c : ℕ) (request copied : Request) (k : Consumer) (stands : RowsStand r t) (rising : r.last_start < c) (copies : copied ≡ request)
+module _ {B : Type 0} {g : Ghosts B} (r u : Rows B g) (t : Tables) (law : Lawful t) (now c : ℕ) (request copied : Request) (k : Consumer) (stands : RowsStand r t) (ascending : r.last_start < c) (copies : copied ≡ request)
     (limits : u.limits ≡ r.limits) (received : u.received ≡ r.received) (last : u.last_start ≡ c) (exchanges : u.exchanges ≡ r.exchanges) (same_entries : u.entries ≡ r.entries) (becomes : BecomesAt r.consumers u.consumers c (Some k))
     (is : k ≡ record { request = copied; class = class_of request; since = now; place = place.Line; own = None; shown = false; answer = None; lo = 0; hi = None; given = 0; due = None }) where
   abbrev s : Tables
-  s = counted now (event.Start c request) (with_start now c request t)
+  s = with_event now (event.Start c request) (with_start now c request t)
 
   fresh : t.consumer c ≡ None
-  fresh = law.sound.numbered.lists.new_consumers c (let same = stands.last_start in rw same at rising)
+  fresh = law.sound.numbered.lists.new_consumers c (let same = stands.last_start in rw same at ascending)
 
   others : (d : ℕ) → d ≢ c → s.consumer d ≡ t.consumer d
   others d ne = rw (eqb-other c d (λ e. ne (sym e))) refl
 
-  here : s.consumer c ≡ Some (started now request)
+  here : s.consumer c ≡ Some (new_consumer now request)
   here = rw (eqb-same c) refl
 
   alike : (d : ℕ) → IsAlike (t.consumer d) (s.consumer d)
   alike d = elim (same_or c d) [
-    | inl e ↦ aside (rw (← e, fresh) refl) (rw (← e, here) refl)
+    | inl e ↦ fallback (rw (← e, fresh) refl) (rw (← e, here) refl)
     | inr ne ↦ same (others d (λ e. ne (sym e)))
   ]
 
-  kept_here : KeepsConsumer s (Some k) (Some (started now request))
+  kept_here : KeepsConsumer s (Some k) (Some (new_consumer now request))
   kept_here = rw is (record {
     is_there = refl;
     request = copies;
@@ -102,7 +102,7 @@ module _ {B : Type 0} {g : Ghosts B} (r u : Rows B g) (t : Tables) (law : Lawful
   -- KEYS
 
   abbrev v : rows.Consumer
-  v = started now request
+  v = new_consumer now request
 
   -- it waits with others
   abbrev queues : Bool
@@ -132,7 +132,7 @@ module _ {B : Type 0} {g : Ghosts B} (r u : Rows B g) (t : Tables) (law : Lawful
     turn = turn_here key ∙ sym (ap (has_turn key) fresh);
   }
 
-  enters : (a : keyed.Kept) → KeepsKey t request.key a → is_in_line request.key (Some v) ≡ true → KeyAfter t c (Some v) request.key a (on_line (queued c) a)
+  enters : (a : keyed.Kept) → KeepsKey t request.key a → is_in_line request.key (Some v) ≡ true → KeyAfter t c (Some v) request.key a (on_line (line_with c) a)
   enters a kept line = record {
     current = refl;
     in_line = λ d. has-with itself d c a.in_line ∙ (by_test (eqb c d) (is_among d a.in_line) ∙ rw line refl);
@@ -149,7 +149,7 @@ module _ {B : Type 0} {g : Ghosts B} (r u : Rows B g) (t : Tables) (law : Lawful
   keys_by false is entered = λ key. rw (entered key) (key_with t c (Some v) key (kept_of r.keys key) (kept_of r.keys key) (stands.keys key)
       (key_stays t c (Some v) key (kept_of r.keys key) (stands.keys key) (stays_out key (line_here key ∙ (rw is (then_false (bytes_eq request.key key) false refl))))))
   keys_by true is entered =
-      keys_with t c (Some v) (on_line (queued c)) request.key r.keys u.keys stands.keys entered
+      keys_with t c (Some v) (on_line (line_with c)) request.key r.keys u.keys stands.keys entered
       (enters (kept_of r.keys request.key) (stands.keys request.key) (line_here request.key ∙ rw (bytes_eq-same request.key request.key refl, is) refl))
       (λ other off. stays_out other (line_here other ∙ rw off refl))
 
@@ -200,7 +200,7 @@ module _ {B : Type 0} {g : Ghosts B} (r u : Rows B g) (t : Tables) (law : Lawful
   count =
       let f : ℕ → Bool = λ d. is_live (t.consumer d) in
       let h : ℕ → Bool = λ d. is_live (s.consumer d) in
-      let above : t.last_start < c = (let same = stands.last_start in rw same at rising) in
+      let above : t.last_start < c = (let same = stands.last_start in rw same at ascending) in
       let alike : counts.counted h t.starts ≡ counts.counted f t.starts = counts.counted_same f h c t.starts (λ among. counts.not_among (t.last_start + 1) c t.starts law.order.starts (omega (arith, above)) among) (λ d ne. ap is_live (others d ne)) in
       let more : counts.counted h (c ∷ t.starts) ≡ counts.counted h t.starts + counts.one (h c) = counts.counted-cons h c t.starts in
       let lives : counts.one (h c) ≡ 1 = rw here refl in
@@ -227,9 +227,9 @@ module _ {B : Type 0} {g : Ghosts B} (r u : Rows B g) (t : Tables) (law : Lawful
 
 -- who hasn't started stands in no line
 pub not_in_yet : {B : Type 0} {g : Ghosts B} (r : Rows B g) (t : Tables) (law : Lawful t) (c : ℕ) (key : List ℕ) → RowsStand r t → r.last_start < c → is_in c (line_of r.keys key) ≡ false
-not_in_yet r t law c key stands rising =
+not_in_yet r t law c key stands ascending =
     let same = stands.last_start in
-    let fresh : t.consumer c ≡ None = law.sound.numbered.lists.new_consumers c (rw same at rising) in
+    let fresh : t.consumer c ≡ None = law.sound.numbered.lists.new_consumers c (rw same at ascending) in
     let kept = stands.keys key in
     let in_line : is_among c (kept_of r.keys key).in_line ≡ false = kept.in_line c ∙ rw fresh refl in
     let passed : is_among c (kept_of r.keys key).passed ≡ false = kept.passed c ∙ rw fresh refl in

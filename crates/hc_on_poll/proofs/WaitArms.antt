@@ -8,12 +8,12 @@ use Rattle.hc_event.specs.declared.act.Wait.TheVariants as wait
 use Rattle.hc_rules.specs.declared.room.Limits.{Limits}
 use Rattle.hc_event.specs.declared.place.Place.{Place}
 use Rattle.hc_event.specs.declared.place.Place.TheVariants as place
-use Rattle.hc_model.specs.Effects.{with_consumer, counted}
+use Rattle.hc_model.specs.Effects.{with_consumer, with_event}
 use Rattle.hc_model.specs.Lawful.{Lawful}
 use Rattle.hc_model.specs.Moves as moves
 use Rattle.hc_model.specs.Moves.{acts_of}
 use Rattle.hc_model.specs.Places.{IsAway}
-use Rattle.hc_model.specs.Planning.{planned}
+use Rattle.hc_model.specs.Planning.{planned_move}
 use Rattle.hc_model.specs.Polls.{move_of}
 use Rattle.hc_model.specs.Rows.{Tables, Consumer}
 use Rattle.hc_laws.proofs.WaitEffects.{waits, waits_on}
@@ -25,10 +25,10 @@ use Rattle.hc_state.proofs.Counting.{stands_counted}
 use Rattle.hc_state.proofs.Words.{false_true}
 
 -- whoever waits in line, or has passed, does what its plan says
-pub plans_move : (t : Tables) (law : Lawful t) (now want c : ℕ) (v : Consumer) → t.consumer c ≡ Some v → is_idle_at v.place ≡ true → move_of t now want c v ≡ planned t now c v
+pub plans_move : (t : Tables) (law : Lawful t) (now want c : ℕ) (v : Consumer) → t.consumer c ≡ Some v → is_idle_at v.place ≡ true → move_of t now want c v ≡ planned_move t now c v
 plans_move t law now want c v row idle = by_where v.place refl
   where
-    by_away : IsAway t v → (p : Place) → v.place ≡ p → is_idle_at p ≡ true → move_of t now want c v ≡ planned t now c v
+    by_away : IsAway t v → (p : Place) → v.place ≡ p → is_idle_at p ≡ true → move_of t now want c v ≡ planned_move t now c v
     by_away away place.Line at on = rw (away.idle.unshown, away.unowned, at) refl
     by_away away (place.Passed r kept) at on = rw (away.idle.unshown, away.unowned, at) refl
     by_away away (place.Turn x) at on = false_true on
@@ -37,7 +37,7 @@ plans_move t law now want c v row idle = by_where v.place refl
     by_away away (place.Down why) at on = false_true on
     by_away away place.Over at on = false_true on
 
-    by_where : (p : Place) → v.place ≡ p → move_of t now want c v ≡ planned t now c v
+    by_where : (p : Place) → v.place ≡ p → move_of t now want c v ≡ planned_move t now c v
     by_where place.Line at = by_away (law.places.line c v row at) place.Line at refl
     by_where (place.Passed r kept) at = by_away (law.places.passed c r kept v row at) (place.Passed r kept) at refl
     by_where (place.Turn x) at = false_true (sym (ap is_idle_at at) ∙ idle)
@@ -55,11 +55,11 @@ turn_move t law now want c x v row at =
 module _ {B : Type 0} {g : Ghosts B} (limits : Limits) (faults : ℕ) (u : Rows B g) (t : Tables) (law : Lawful t) (now c want : ℕ) (v : Consumer) (row : t.consumer c ≡ Some v) (before out : List Act) where
   pub turn_waits : (d : ℕ) → move_of t now want c v ≡ moves.Waits (wait.Turn d) → out ≡ before ++ (act.Pending c (wait.Turn d) ∷ []) → RowsStand u (with_consumer c (Some (in_line v)) t) → Answered limits faults u t before out now (event.Poll c want)
   turn_waits d is told stands =
-      does_answered limits faults u t (counted now (event.Poll c want) (with_consumer c (Some (in_line v)) t)) before out (acts_of c (moves.Waits (wait.Turn d))) now (event.Poll c want)
+      does_answered limits faults u t (with_event now (event.Poll c want) (with_consumer c (Some (in_line v)) t)) before out (acts_of c (moves.Waits (wait.Turn d))) now (event.Poll c want)
       (waits limits t law now c want v row (wait.Turn d) is) refl refl told (stands_counted u (with_consumer c (Some (in_line v)) t) now (event.Poll c want) refl stands)
 
   -- nothing changes
   pub head_waits : (x : ℕ) → move_of t now want c v ≡ moves.Waits (wait.Head x) → out ≡ before ++ (act.Pending c (wait.Head x) ∷ []) → RowsStand u t → Answered limits faults u t before out now (event.Poll c want)
   head_waits x is told stands =
-      does_answered limits faults u t (counted now (event.Poll c want) t) before out (acts_of c (moves.Waits (wait.Head x))) now (event.Poll c want)
+      does_answered limits faults u t (with_event now (event.Poll c want) t) before out (acts_of c (moves.Waits (wait.Head x))) now (event.Poll c want)
       (waits_on limits t law now c want v row (wait.Head x) is refl) refl refl told (stands_counted u t now (event.Poll c want) refl stands)

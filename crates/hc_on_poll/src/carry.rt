@@ -1,14 +1,14 @@
 //! What is done for a consumer that reads nothing yet: its plan.
 ghost use Rattle.std.specs.Prelude.{◌≡◌, ◌+◌, ◌≤◌, ◌<◌, ◌^◌, Some, None, nat_eq, true, is_some, IsSomeAnd, OnOk, OnErr};
 ghost use Rattle.std.specs.HashMap.{get};
-ghost use Rattle.hc_event.specs.Acts.{listed, spare};
+ghost use Rattle.hc_event.specs.Acts.{act_list, spare};
 ghost use Rattle.hc_record.specs.Plain.{plain};
 ghost use Rattle.hc_rules.specs.Plans.{plan_of};
 ghost use Rattle.hc_stored.specs.Entries.{shelf_of};
 ghost use Rattle.hc_stored.specs.Shelf.{head_at};
 ghost use Rattle.hc_exch.specs.Exchanges.{next_of};
 ghost use Rattle.hc_state.specs.Good.{StandsBy};
-ghost use Rattle.hc_state.specs.Plans.{PlanViewIs, IsLookedAt, looks_at_stored, IsIdle, IsModestRequest, HasCurrent, IsPlanOf, AnswersPoll};
+ghost use Rattle.hc_state.specs.Plans.{PlanViewIs, IsLookedAt, looks_at_stored, IsIdle, IsRequestWithinLimits, HasCurrent, IsPlanOf, AnswersPoll};
 ghost use Rattle.hc_state.specs.Stands.{Stands};
 
 use crate::candidate::candidate;
@@ -34,16 +34,16 @@ pub(crate) fn carry_out<B: Backend>(
     requires stands { ∥ StandsBy rows.old now ∥₁ }
     requires early { now < 2 ^ 62 }
     requires idle { IsSomeAnd (get nat_eq rows.old.consumers c) IsIdle }
-    requires modest { IsSomeAnd (get nat_eq rows.old.consumers c) IsModestRequest }
+    requires within_limits { IsSomeAnd (get nat_eq rows.old.consumers c) IsRequestWithinLimits }
     requires small { rows.old.received < 2 ^ 61 }
     requires few { next_of rows.old.exchanges < 2 ^ 62 }
     requires room { 3 ≤ spare out.old }
     ensures answers { OnOk result
-        (AnswersPoll rows.old rows.new (listed out.old) (listed out.new) now c) }
+        (AnswersPoll rows.old rows.new (act_list out.old) (act_list out.new) now c) }
     ensures received { OnOk result (rows.new.received ≡ rows.old.received) }
     ensures limits { OnOk result (rows.new.limits ≡ rows.old.limits) }
     ensures faults { (shelf_of rows.old.entries).faults ≤ (shelf_of rows.new.entries).faults }
-    ensures kept { OnErr result (listed out.new ≡ listed out.old) }
+    ensures kept { OnErr result (act_list out.new ≡ act_list out.old) }
 {
     let view = plan_view(rows, now, c);
     match looked_at(rows, c, &view) {
@@ -100,7 +100,7 @@ fn carry_out_with<B: Backend>(
     requires stands { ∥ StandsBy rows.old now ∥₁ }
     requires early { now < 2 ^ 62 }
     requires idle { IsSomeAnd (get nat_eq rows.old.consumers c) IsIdle }
-    requires modest { IsSomeAnd (get nat_eq rows.old.consumers c) IsModestRequest }
+    requires within_limits { IsSomeAnd (get nat_eq rows.old.consumers c) IsRequestWithinLimits }
     requires current { IsSomeAnd (get nat_eq rows.old.consumers c) (HasCurrent rows.old.keys r) }
     requires view { IsSomeAnd (get nat_eq rows.old.consumers c)
         (PlanViewIs rows.old now c view.now) }
@@ -108,11 +108,11 @@ fn carry_out_with<B: Backend>(
     requires few { next_of rows.old.exchanges < 2 ^ 62 }
     requires room { 3 ≤ spare out.old }
     ensures answers { OnOk result
-        (AnswersPoll rows.old rows.new (listed out.old) (listed out.new) now c) }
+        (AnswersPoll rows.old rows.new (act_list out.old) (act_list out.new) now c) }
     ensures received { OnOk result (rows.new.received ≡ rows.old.received) }
     ensures limits { OnOk result (rows.new.limits ≡ rows.old.limits) }
     ensures faults { (shelf_of rows.old.entries).faults ≤ (shelf_of rows.new.entries).faults }
-    ensures kept { OnErr result (listed out.new ≡ listed out.old) }
+    ensures kept { OnErr result (act_list out.new ≡ act_list out.old) }
 {
     match rows.entries.head(r) {
         Ok(head) => carry_out_on(rows, now, c, r, &head, view, out),
@@ -133,7 +133,7 @@ fn carry_out_on<B: Backend>(
     requires stands { ∥ StandsBy rows.old now ∥₁ }
     requires early { now < 2 ^ 62 }
     requires idle { IsSomeAnd (get nat_eq rows.old.consumers c) IsIdle }
-    requires modest { IsSomeAnd (get nat_eq rows.old.consumers c) IsModestRequest }
+    requires within_limits { IsSomeAnd (get nat_eq rows.old.consumers c) IsRequestWithinLimits }
     requires current { IsSomeAnd (get nat_eq rows.old.consumers c) (HasCurrent rows.old.keys r) }
     requires view { IsSomeAnd (get nat_eq rows.old.consumers c)
         (PlanViewIs rows.old now c view.now) }
@@ -142,11 +142,11 @@ fn carry_out_on<B: Backend>(
     requires few { next_of rows.old.exchanges < 2 ^ 62 }
     requires room { 3 ≤ spare out.old }
     ensures answers { OnOk result
-        (AnswersPoll rows.old rows.new (listed out.old) (listed out.new) now c) }
+        (AnswersPoll rows.old rows.new (act_list out.old) (act_list out.new) now c) }
     ensures received { OnOk result (rows.new.received ≡ rows.old.received) }
     ensures limits { OnOk result (rows.new.limits ≡ rows.old.limits) }
     ensures faults { (shelf_of rows.old.entries).faults ≤ (shelf_of rows.new.entries).faults }
-    ensures kept { OnErr result (listed out.new ≡ listed out.old) }
+    ensures kept { OnErr result (act_list out.new ≡ act_list out.old) }
 {
     let current = Some(candidate(rows, now, c, r, head));
     let plan = plan_of(&PlanView { current, ..*view });
@@ -165,7 +165,7 @@ fn carry_out_plan<B: Backend>(
 ) -> Result<(), NoMemory>
     requires stands { ∥ Stands rows.old ∥₁ }
     requires idle { IsSomeAnd (get nat_eq rows.old.consumers c) IsIdle }
-    requires modest { IsSomeAnd (get nat_eq rows.old.consumers c) IsModestRequest }
+    requires within_limits { IsSomeAnd (get nat_eq rows.old.consumers c) IsRequestWithinLimits }
     requires current { IsSomeAnd (get nat_eq rows.old.consumers c) (HasCurrent rows.old.keys r) }
     requires head { head_at (shelf_of rows.old.entries) r ≡ Some (plain head.now) }
     requires plan { IsPlanOf rows.old now c plan }
@@ -173,11 +173,11 @@ fn carry_out_plan<B: Backend>(
     requires few { next_of rows.old.exchanges < 2 ^ 62 }
     requires room { 3 ≤ spare out.old }
     ensures answers { OnOk result
-        (AnswersPoll rows.old rows.new (listed out.old) (listed out.new) now c) }
+        (AnswersPoll rows.old rows.new (act_list out.old) (act_list out.new) now c) }
     ensures received { OnOk result (rows.new.received ≡ rows.old.received) }
     ensures limits { OnOk result (rows.new.limits ≡ rows.old.limits) }
     ensures faults { (shelf_of rows.old.entries).faults ≤ (shelf_of rows.new.entries).faults }
-    ensures kept { OnErr result (listed out.new ≡ listed out.old) }
+    ensures kept { OnErr result (act_list out.new ≡ act_list out.old) }
 {
     match plan {
         Plan::Direct(need) => open_past(rows, now, c, need, out),
@@ -217,11 +217,11 @@ fn carry_out_bare<B: Backend>(
     requires few { next_of rows.old.exchanges < 2 ^ 62 }
     requires room { 3 ≤ spare out.old }
     ensures answers { OnOk result
-        (AnswersPoll rows.old rows.new (listed out.old) (listed out.new) now c) }
+        (AnswersPoll rows.old rows.new (act_list out.old) (act_list out.new) now c) }
     ensures received { OnOk result (rows.new.received ≡ rows.old.received) }
     ensures limits { OnOk result (rows.new.limits ≡ rows.old.limits) }
     ensures faults { (shelf_of rows.old.entries).faults ≤ (shelf_of rows.new.entries).faults }
-    ensures kept { OnErr result (listed out.new ≡ listed out.old) }
+    ensures kept { OnErr result (act_list out.new ≡ act_list out.old) }
 {
     match plan_of(view) {
         Plan::Direct(need) => open_past(rows, now, c, need, out),

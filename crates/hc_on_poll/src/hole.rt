@@ -1,8 +1,8 @@
 //! Exchanges for holes of what is stored.
 ghost use Rattle.std.specs.Prelude.{◌≡◌, ◌+◌, ◌≤◌, ◌<◌, ◌^◌, Some, None, nat_eq, true, length, unwrap_or, is_some, IsSomeAnd, IfOk, OnOk, OnErr};
 ghost use Rattle.std.specs.HashMap.{get};
-ghost use Rattle.hc_event.specs.Acts.{listed, spare};
-ghost use Rattle.hc_fields.specs.FieldList.{IsModest};
+ghost use Rattle.hc_event.specs.Acts.{act_list, spare};
+ghost use Rattle.hc_fields.specs.FieldList.{IsWithinLimits};
 ghost use Rattle.hc_range.specs.Spans.{IsWithin};
 ghost use Rattle.hc_record.specs.Plain.{plain};
 ghost use Rattle.hc_stored.specs.Entries.{shelf_of};
@@ -10,7 +10,7 @@ ghost use Rattle.hc_stored.specs.Shelf.{head_at};
 ghost use Rattle.hc_stored.specs.Views.{admits_first};
 ghost use Rattle.hc_exch.specs.Exchanges.{next_of};
 ghost use Rattle.hc_model.specs.Moves.{hole_request};
-ghost use Rattle.hc_state.specs.Plans.{IsIdle, IsModestRequest, IsWaiting, HasCurrent, AnswersFirst, AnswersFilling};
+ghost use Rattle.hc_state.specs.Plans.{IsIdle, IsRequestWithinLimits, IsWaiting, HasCurrent, AnswersFirst, AnswersFilling};
 ghost use Rattle.hc_state.specs.Reads.{AnswersHole, IsInLength, IsShownAt};
 ghost use Rattle.hc_state.specs.Stands.{Stands};
 
@@ -38,7 +38,7 @@ pub(crate) fn open_first_hole<B: Backend>(
     out: &mut Acts,
 ) -> Result<(), NoMemory>
     requires idle { IsSomeAnd (get nat_eq rows.old.consumers c) IsIdle }
-    requires modest { IsSomeAnd (get nat_eq rows.old.consumers c) IsModestRequest }
+    requires within_limits { IsSomeAnd (get nat_eq rows.old.consumers c) IsRequestWithinLimits }
     requires waits { IsSomeAnd (get nat_eq rows.old.consumers c) (IsWaiting rows.old.keys c) }
     requires current { IsSomeAnd (get nat_eq rows.old.consumers c) (HasCurrent rows.old.keys r) }
     requires head { head_at (shelf_of rows.old.entries) r ≡ Some (plain head.now) }
@@ -47,12 +47,12 @@ pub(crate) fn open_first_hole<B: Backend>(
     requires few { next_of rows.old.exchanges < 2 ^ 62 }
     requires room { 2 ≤ spare out.old }
     ensures answers { OnOk result (IsSomeAnd (get nat_eq rows.old.consumers c)
-        (AnswersFirst rows.old rows.new (listed out.old) (listed out.new)
+        (AnswersFirst rows.old rows.new (act_list out.old) (act_list out.new)
         now c (plain head.now) span hole)) }
     ensures received { OnOk result (rows.new.received ≡ rows.old.received) }
     ensures limits { OnOk result (rows.new.limits ≡ rows.old.limits) }
     ensures faults { (shelf_of rows.new.entries).faults ≡ (shelf_of rows.old.entries).faults }
-    ensures kept { OnErr result (listed out.new ≡ listed out.old) }
+    ensures kept { OnErr result (act_list out.new ≡ act_list out.old) }
 {
     let consumer = rows.consumers.get(&c).unwrap();
     let request = hole_request(head, &consumer.request, hole)?;
@@ -81,16 +81,16 @@ pub(crate) fn open_later_hole<B: Backend>(
 ) -> Result<(), NoMemory>
     requires stands { ∥ Stands rows.old ∥₁ }
     requires shown { IsSomeAnd (get nat_eq rows.old.consumers c) (IsShownAt r) }
-    requires modest { IsSomeAnd (get nat_eq rows.old.consumers c) IsModestRequest }
+    requires within_limits { IsSomeAnd (get nat_eq rows.old.consumers c) IsRequestWithinLimits }
     requires hole { IsSomeAnd (head_at (shelf_of rows.old.entries) r) (IsInLength hole) }
     requires few { next_of rows.old.exchanges < 2 ^ 62 }
     requires room { 2 ≤ spare out.old }
     ensures answers { OnOk result (IsSomeAnd (get nat_eq rows.old.consumers c)
-        (AnswersHole rows.old rows.new (listed out.old) (listed out.new) now c r hole)) }
+        (AnswersHole rows.old rows.new (act_list out.old) (act_list out.new) now c r hole)) }
     ensures received { OnOk result (rows.new.received ≡ rows.old.received) }
     ensures limits { OnOk result (rows.new.limits ≡ rows.old.limits) }
     ensures faults { (shelf_of rows.old.entries).faults ≤ (shelf_of rows.new.entries).faults }
-    ensures kept { OnErr result (listed out.new ≡ listed out.old) }
+    ensures kept { OnErr result (act_list out.new ≡ act_list out.old) }
 {
     match rows.entries.head(r) {
         Ok(head) => fill_later_hole(rows, now, c, r, &head, hole, out),
@@ -109,17 +109,17 @@ fn fill_later_hole<B: Backend>(
     out: &mut Acts,
 ) -> Result<(), NoMemory>
     requires shown { IsSomeAnd (get nat_eq rows.old.consumers c) (IsShownAt r) }
-    requires modest { IsSomeAnd (get nat_eq rows.old.consumers c) IsModestRequest }
+    requires within_limits { IsSomeAnd (get nat_eq rows.old.consumers c) IsRequestWithinLimits }
     requires within { IsSomeAnd head.now.total (IsWithin hole) }
     requires few { next_of rows.old.exchanges < 2 ^ 62 }
     requires room { 2 ≤ spare out.old }
     ensures answers { OnOk result (IsSomeAnd (get nat_eq rows.old.consumers c)
-        (AnswersFilling rows.old rows.new (listed out.old) (listed out.new)
+        (AnswersFilling rows.old rows.new (act_list out.old) (act_list out.new)
         now c (plain head.now) hole)) }
     ensures received { OnOk result (rows.new.received ≡ rows.old.received) }
     ensures limits { OnOk result (rows.new.limits ≡ rows.old.limits) }
     ensures faults { (shelf_of rows.new.entries).faults ≡ (shelf_of rows.old.entries).faults }
-    ensures kept { OnErr result (listed out.new ≡ listed out.old) }
+    ensures kept { OnErr result (act_list out.new ≡ act_list out.old) }
 {
     let consumer = rows.consumers.get(&c).unwrap();
     let request = hole_request(head, &consumer.request, hole)?;
@@ -138,7 +138,7 @@ fn fill_later_hole<B: Backend>(
 /// The request for a hole, as long as the tag is that of what is stored (RFC 9110 sections 13.1.5
 /// and 14.2).
 fn hole_request(head: &StoredHead, asked: &Request, hole: Span) -> Result<Request, NoMemory>
-    requires modest { IsModest asked.now.fields }
+    requires within_limits { IsWithinLimits asked.now.fields }
     requires within { IsSomeAnd head.now.total (IsWithin hole) }
     ensures { IfOk result (λ made. made
         ≡ hole_request (plain head.now) asked.now hole (unwrap_or head.now.total 0)) }

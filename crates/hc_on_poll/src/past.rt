@@ -1,7 +1,7 @@
 //! What a poll does for a consumer that goes past the store.
 ghost use Rattle.std.specs.Prelude.{◌≡◌, ◌+◌, ◌≤◌, ◌<◌, ◌^◌, ℕ, nat_eq, IsSomeAnd, OnOk, OnErr};
 ghost use Rattle.std.specs.HashMap.{get};
-ghost use Rattle.hc_event.specs.Acts.{listed, spare};
+ghost use Rattle.hc_event.specs.Acts.{act_list, spare};
 ghost use Rattle.hc_event.specs.declared.event.Event.TheVariants.{Poll};
 ghost use Rattle.hc_stored.specs.Entries.{shelf_of};
 ghost use Rattle.hc_exch.specs.Exchanges.{table_of};
@@ -24,7 +24,7 @@ pub(crate) fn await_answer<B: Backend>(rows: &mut Rows<B>, c: u64, x: u64, out: 
     requires unshown { IsSomeAnd (get nat_eq rows.old.consumers c) (IsUnshown x) }
     requires room { 1 ≤ spare out.old }
     ensures answers { (now want : ℕ)
-        → Answers rows.old rows.new (listed out.old) (listed out.new) now (Poll c want) }
+        → Answers rows.old rows.new (act_list out.old) (act_list out.new) now (Poll c want) }
     ensures exchanges { rows.new.exchanges ≡ rows.old.exchanges }
     ensures received { rows.new.received ≡ rows.old.received }
     ensures limits { rows.new.limits ≡ rows.old.limits }
@@ -54,11 +54,11 @@ pub(crate) fn read_past<B: Backend>(
     requires small { rows.old.received < 2 ^ 61 }
     requires room { 3 ≤ spare out.old }
     ensures answers { OnOk result
-        (Answers rows.old rows.new (listed out.old) (listed out.new) now (Poll c want)) }
+        (Answers rows.old rows.new (act_list out.old) (act_list out.new) now (Poll c want)) }
     ensures received { OnOk result (rows.new.received ≡ rows.old.received) }
     ensures limits { OnOk result (rows.new.limits ≡ rows.old.limits) }
     ensures faults { (shelf_of rows.old.entries).faults ≤ (shelf_of rows.new.entries).faults }
-    ensures kept { OnErr result (listed out.new ≡ listed out.old) }
+    ensures kept { OnErr result (act_list out.new ≡ act_list out.old) }
 {
     let consumer = rows.consumers.get(&c).unwrap();
     let offset = consumer.lo + consumer.given;

@@ -1,7 +1,7 @@
 //! What a consumer does that reads nothing yet: it waits, fails, or opens an exchange.
 ghost use Rattle.std.specs.Prelude.{◌≡◌, ◌≢◌, ◌+◌, ◌≤◌, ◌<◌, ◌^◌, ◌++◌, ◌∷◌, [], ℕ, nat_eq, IsSomeAnd, IfOk, OnOk, OnErr};
 ghost use Rattle.std.specs.HashMap.{get};
-ghost use Rattle.hc_event.specs.Acts.{listed, spare};
+ghost use Rattle.hc_event.specs.Acts.{act_list, spare};
 ghost use Rattle.hc_event.specs.declared.act.Act.TheVariants as act;
 ghost use Rattle.hc_event.specs.declared.act.Need.TheVariants as needs;
 ghost use Rattle.hc_event.specs.declared.act.Wait.TheVariants as waits;
@@ -11,7 +11,7 @@ ghost use Rattle.hc_exch.specs.Exchanges.{next_of};
 ghost use Rattle.hc_model.specs.Moves.{Opens, Waits};
 ghost use Rattle.hc_state.specs.Changes.{ChangesAt, lined_up};
 ghost use Rattle.hc_state.specs.Stands.{AnswersMove, Stands};
-ghost use Rattle.hc_state.specs.Plans.{IsIdle, IsKeptPassed, IsNext, IsOfItsKey, IsWaiting, HasCurrent, StandsInLine, StandsPassed, BeginsTurn, IsModestRequest, AnswersOpening, AnswersValidating, AnswersAsking};
+ghost use Rattle.hc_state.specs.Plans.{IsIdle, IsKeptPassed, IsNext, IsOfItsKey, IsWaiting, HasCurrent, StandsInLine, StandsPassed, BeginsTurn, IsRequestWithinLimits, AnswersOpening, AnswersValidating, AnswersAsking};
 ghost use Rattle.hc_state.specs.Arms.{IsQueued};
 ghost use Rattle.hc_rules.specs.declared.need.Route.TheVariants as route;
 ghost use Rattle.hc_rules.specs.Needs.{route_of};
@@ -33,8 +33,8 @@ pub(crate) fn wait_for_turn<B: Backend>(rows: &mut Rows<B>, c: u64, d: u64, out:
     requires idle { IsSomeAnd (get nat_eq rows.old.consumers c) IsIdle }
     requires kept { IsSomeAnd (get nat_eq rows.old.consumers c) (IsKeptPassed rows.old.keys c) }
     requires room { 1 ≤ spare out.old }
-    ensures answers { (now want : ℕ) → AnswersMove rows.old rows.new (listed out.old)
-        (listed out.new) now c want (Waits (waits.Turn d)) }
+    ensures answers { (now want : ℕ) → AnswersMove rows.old rows.new (act_list out.old)
+        (act_list out.new) now c want (Waits (waits.Turn d)) }
     ensures exchanges { rows.new.exchanges ≡ rows.old.exchanges }
     ensures received { rows.new.received ≡ rows.old.received }
     ensures limits { rows.new.limits ≡ rows.old.limits }
@@ -69,8 +69,8 @@ pub(crate) fn wait_for_use<B: Backend>(rows: &mut Rows<B>, c: u64, r: u64, d: u6
     requires waits { IsSomeAnd (get nat_eq rows.old.consumers c) (IsWaiting rows.old.keys c) }
     requires current { IsSomeAnd (get nat_eq rows.old.consumers c) (HasCurrent rows.old.keys r) }
     requires room { 1 ≤ spare out.old }
-    ensures answers { (now want : ℕ) → AnswersMove rows.old rows.new (listed out.old)
-        (listed out.new) now c want (Waits (waits.Busy d)) }
+    ensures answers { (now want : ℕ) → AnswersMove rows.old rows.new (act_list out.old)
+        (act_list out.new) now c want (Waits (waits.Busy d)) }
     ensures exchanges { rows.new.exchanges ≡ rows.old.exchanges }
     ensures received { rows.new.received ≡ rows.old.received }
     ensures limits { rows.new.limits ≡ rows.old.limits }
@@ -111,11 +111,11 @@ pub(crate) fn open_past<B: Backend>(
     requires few { next_of rows.old.exchanges < 2 ^ 62 }
     requires room { 2 ≤ spare out.old }
     ensures answers { OnOk result (IsSomeAnd (get nat_eq rows.old.consumers c)
-        (AnswersOpening rows.old rows.new (listed out.old) (listed out.new) now c need)) }
+        (AnswersOpening rows.old rows.new (act_list out.old) (act_list out.new) now c need)) }
     ensures received { OnOk result (rows.new.received ≡ rows.old.received) }
     ensures limits { OnOk result (rows.new.limits ≡ rows.old.limits) }
     ensures faults { (shelf_of rows.new.entries).faults ≡ (shelf_of rows.old.entries).faults }
-    ensures kept { OnErr result (listed out.new ≡ listed out.old) }
+    ensures kept { OnErr result (act_list out.new ≡ act_list out.old) }
 {
     let consumer = rows.consumers.get(&c).unwrap();
     let request = consumer.request.copy()?;
@@ -145,12 +145,12 @@ fn fetch<B: Backend>(
     requires few { next_of rows.old.exchanges < 2 ^ 62 }
     requires room { 2 ≤ spare out.old }
     ensures answers { OnOk result ((want : ℕ) → AnswersMove rows.old rows.new
-        (listed out.old) (listed out.new) now c want
+        (act_list out.old) (act_list out.new) now c want
         (Opens (next_of rows.old.exchanges) need request)) }
     ensures received { OnOk result (rows.new.received ≡ rows.old.received) }
     ensures limits { OnOk result (rows.new.limits ≡ rows.old.limits) }
     ensures faults { (shelf_of rows.new.entries).faults ≡ (shelf_of rows.old.entries).faults }
-    ensures kept { OnErr result (listed out.new ≡ listed out.old) }
+    ensures kept { OnErr result (act_list out.new ≡ act_list out.old) }
 {
     let x = begin_turn(rows, now, c, need, &request)?;
     open(x, c, need, request, out);
@@ -173,11 +173,11 @@ pub(crate) fn fetch_bare<B: Backend>(
     requires few { next_of rows.old.exchanges < 2 ^ 62 }
     requires room { 2 ≤ spare out.old }
     ensures answers { OnOk result (IsSomeAnd (get nat_eq rows.old.consumers c)
-        (AnswersOpening rows.old rows.new (listed out.old) (listed out.new) now c need)) }
+        (AnswersOpening rows.old rows.new (act_list out.old) (act_list out.new) now c need)) }
     ensures received { OnOk result (rows.new.received ≡ rows.old.received) }
     ensures limits { OnOk result (rows.new.limits ≡ rows.old.limits) }
     ensures faults { (shelf_of rows.new.entries).faults ≡ (shelf_of rows.old.entries).faults }
-    ensures kept { OnErr result (listed out.new ≡ listed out.old) }
+    ensures kept { OnErr result (act_list out.new ≡ act_list out.old) }
 {
     match need {
         Need::Bypass => bypass(rows, now, c, out),
@@ -196,19 +196,19 @@ pub(crate) fn fetch_with<B: Backend>(
 ) -> Result<(), NoMemory>
     requires stands { ∥ Stands rows.old ∥₁ }
     requires idle { IsSomeAnd (get nat_eq rows.old.consumers c) IsIdle }
-    requires modest { IsSomeAnd (get nat_eq rows.old.consumers c) IsModestRequest }
+    requires within_limits { IsSomeAnd (get nat_eq rows.old.consumers c) IsRequestWithinLimits }
     requires kept { IsSomeAnd (get nat_eq rows.old.consumers c) (IsKeptPassed rows.old.keys c) }
     requires turn { IsSomeAnd (get nat_eq rows.old.consumers c) (IsNext rows.old.keys c) }
     requires turns { route_of need ≡ route.Turn }
     requires few { next_of rows.old.exchanges < 2 ^ 62 }
     requires room { 2 ≤ spare out.old }
     ensures answers { OnOk result (IsSomeAnd (get nat_eq rows.old.consumers c)
-        (AnswersAsking rows.old rows.new (listed out.old) (listed out.new)
+        (AnswersAsking rows.old rows.new (act_list out.old) (act_list out.new)
         now c need (plain head.now))) }
     ensures received { OnOk result (rows.new.received ≡ rows.old.received) }
     ensures limits { OnOk result (rows.new.limits ≡ rows.old.limits) }
     ensures faults { (shelf_of rows.new.entries).faults ≡ (shelf_of rows.old.entries).faults }
-    ensures kept { OnErr result (listed out.new ≡ listed out.old) }
+    ensures kept { OnErr result (act_list out.new ≡ act_list out.old) }
 {
     match need {
         Need::Validate => revalidate(rows, now, c, head, out),
@@ -233,11 +233,11 @@ fn fetch_as_it_is<B: Backend>(
     requires few { next_of rows.old.exchanges < 2 ^ 62 }
     requires room { 2 ≤ spare out.old }
     ensures answers { OnOk result (IsSomeAnd (get nat_eq rows.old.consumers c)
-        (AnswersOpening rows.old rows.new (listed out.old) (listed out.new) now c need)) }
+        (AnswersOpening rows.old rows.new (act_list out.old) (act_list out.new) now c need)) }
     ensures received { OnOk result (rows.new.received ≡ rows.old.received) }
     ensures limits { OnOk result (rows.new.limits ≡ rows.old.limits) }
     ensures faults { (shelf_of rows.new.entries).faults ≡ (shelf_of rows.old.entries).faults }
-    ensures kept { OnErr result (listed out.new ≡ listed out.old) }
+    ensures kept { OnErr result (act_list out.new ≡ act_list out.old) }
 {
     let consumer = rows.consumers.get(&c).unwrap();
     let request = consumer.request.copy()?;
@@ -254,18 +254,18 @@ fn revalidate<B: Backend>(
 ) -> Result<(), NoMemory>
     requires stands { ∥ Stands rows.old ∥₁ }
     requires idle { IsSomeAnd (get nat_eq rows.old.consumers c) IsIdle }
-    requires modest { IsSomeAnd (get nat_eq rows.old.consumers c) IsModestRequest }
+    requires within_limits { IsSomeAnd (get nat_eq rows.old.consumers c) IsRequestWithinLimits }
     requires kept { IsSomeAnd (get nat_eq rows.old.consumers c) (IsKeptPassed rows.old.keys c) }
     requires turn { IsSomeAnd (get nat_eq rows.old.consumers c) (IsNext rows.old.keys c) }
     requires few { next_of rows.old.exchanges < 2 ^ 62 }
     requires room { 2 ≤ spare out.old }
     ensures answers { OnOk result (IsSomeAnd (get nat_eq rows.old.consumers c)
-        (AnswersValidating rows.old rows.new (listed out.old) (listed out.new)
+        (AnswersValidating rows.old rows.new (act_list out.old) (act_list out.new)
         now c (plain head.now))) }
     ensures received { OnOk result (rows.new.received ≡ rows.old.received) }
     ensures limits { OnOk result (rows.new.limits ≡ rows.old.limits) }
     ensures faults { (shelf_of rows.new.entries).faults ≡ (shelf_of rows.old.entries).faults }
-    ensures kept { OnErr result (listed out.new ≡ listed out.old) }
+    ensures kept { OnErr result (act_list out.new ≡ act_list out.old) }
 {
     let consumer = rows.consumers.get(&c).unwrap();
     let request = conditional(head, &consumer.request)?;
@@ -281,12 +281,12 @@ fn bypass<B: Backend>(rows: &mut Rows<B>, now: u64, c: u64, out: &mut Acts) -> R
     requires few { next_of rows.old.exchanges < 2 ^ 62 }
     requires room { 2 ≤ spare out.old }
     ensures answers { OnOk result (IsSomeAnd (get nat_eq rows.old.consumers c)
-        (AnswersOpening rows.old rows.new (listed out.old) (listed out.new) now c
+        (AnswersOpening rows.old rows.new (act_list out.old) (act_list out.new) now c
         needs.Bypass)) }
     ensures received { OnOk result (rows.new.received ≡ rows.old.received) }
     ensures limits { OnOk result (rows.new.limits ≡ rows.old.limits) }
     ensures faults { (shelf_of rows.new.entries).faults ≡ (shelf_of rows.old.entries).faults }
-    ensures kept { OnErr result (listed out.new ≡ listed out.old) }
+    ensures kept { OnErr result (act_list out.new ≡ act_list out.old) }
 {
     let consumer = rows.consumers.get(&c).unwrap();
     let request = consumer.request.copy()?;
@@ -332,7 +332,7 @@ fn begin_turn<B: Backend>(
 /// An exchange is opened, for whose head its consumer waits.
 pub(crate) fn open(x: u64, c: u64, need: Need, request: Request, out: &mut Acts)
     requires { 2 ≤ spare out.old }
-    ensures { listed out.new ≡ listed out.old
+    ensures { act_list out.new ≡ act_list out.old
         ++ act.Opened x c need request ∷ act.Pending c (waits.Head x) ∷ [] }
 {
     put(

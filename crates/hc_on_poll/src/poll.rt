@@ -1,7 +1,7 @@
 //! A poll: what is done for a consumer by where it stands.
 ghost use Rattle.std.specs.Prelude.{◌≡◌, ◌≤◌, ◌<◌, ◌^◌, ℕ, nat_eq, true, is_some, IsSomeAnd, OnOk, OnErr};
 ghost use Rattle.std.specs.HashMap.{get};
-ghost use Rattle.hc_event.specs.Acts.{listed, spare};
+ghost use Rattle.hc_event.specs.Acts.{act_list, spare};
 ghost use Rattle.hc_event.specs.declared.event.Event.TheVariants.{Poll};
 ghost use Rattle.hc_stored.specs.Entries.{shelf_of};
 ghost use Rattle.hc_exch.specs.Exchanges.{next_of};
@@ -36,11 +36,11 @@ pub fn poll<B: Backend>(
     requires few { next_of rows.old.exchanges < 2 ^ 62 }
     requires room { 3 ≤ spare out.old }
     ensures answers { OnOk result
-        (Answers rows.old rows.new (listed out.old) (listed out.new) now (Poll c want)) }
+        (Answers rows.old rows.new (act_list out.old) (act_list out.new) now (Poll c want)) }
     ensures received { OnOk result (rows.new.received ≡ rows.old.received) }
     ensures limits { OnOk result (rows.new.limits ≡ rows.old.limits) }
     ensures faults { (shelf_of rows.old.entries).faults ≤ (shelf_of rows.new.entries).faults }
-    ensures kept { OnErr result (listed out.new ≡ listed out.old) }
+    ensures kept { OnErr result (act_list out.new ≡ act_list out.old) }
 {
     let consumer = rows.consumers.get(&c).unwrap();
     match consumer.place {
@@ -69,7 +69,7 @@ fn await_head<B: Backend>(rows: &Rows<B>, c: u64, x: u64, out: &mut Acts)
     requires turn { IsSomeAnd (get nat_eq rows.now.consumers c) (HasTurn x) }
     requires room { 1 ≤ spare out.old }
     ensures answers { (now want : ℕ)
-        → Answers rows.now rows.now (listed out.old) (listed out.new) now (Poll c want) }
+        → Answers rows.now rows.now (act_list out.old) (act_list out.new) now (Poll c want) }
 {
     wait(c, Wait::Head(x), out);
 }

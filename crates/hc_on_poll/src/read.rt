@@ -2,20 +2,20 @@
 ghost use Rattle.std.specs.Prelude.{◌≡◌, ◌+◌, ◌≤◌, ◌<◌, ◌^◌, ◌++◌, nat_eq, length, true, option_map, is_some, IfOk, IfSome, IsSomeAnd, OnOk, OnErr};
 ghost use Rattle.std.specs.Option.{option_or};
 ghost use Rattle.std.specs.HashMap.{get};
-ghost use Rattle.hc_event.specs.Acts.{listed, spare};
+ghost use Rattle.hc_event.specs.Acts.{act_list, spare};
 ghost use Rattle.hc_event.specs.declared.event.Event.TheVariants.{Poll};
 ghost use Rattle.hc_stored.specs.Entries.{shelf_of};
 ghost use Rattle.hc_stored.specs.Shelf.{is_kept};
 ghost use Rattle.hc_exch.specs.Exchanges.{next_of, table_of, Becomes};
-ghost use Rattle.hc_exch.specs.Known.{is_open, asked};
+ghost use Rattle.hc_exch.specs.Known.{is_open, with_asking};
 ghost use Rattle.hc_model.specs.Moves.{acts_of};
 ghost use Rattle.hc_sparse.specs.Runs.{end_of};
 ghost use Rattle.hc_store.specs.Causes.{HasCause, HasNoLimit};
 ghost use Rattle.hc_state.specs.Changes.{ChangesAt, once_given};
 ghost use Rattle.hc_state.specs.Leaving.{if_running, writing_of};
-ghost use Rattle.hc_state.specs.Plans.{IsModestRequest};
+ghost use Rattle.hc_state.specs.Plans.{IsRequestWithinLimits};
 ghost use Rattle.hc_state.specs.Stands.{Answers, KeepsRest, Stands};
-ghost use Rattle.hc_state.specs.Arms.{most, given, asks_or_waits, asked_in};
+ghost use Rattle.hc_state.specs.Arms.{most, given_acts, asks_or_waits, asked_in};
 ghost use Rattle.hc_state.specs.Reads.{goes_alone, headless_own, held_own, IsHeard, IsRunAhead, IsShownAt, ReadViewIs, ReadsStore, run_ahead};
 
 use crate::hole::open_later_hole;
@@ -43,17 +43,17 @@ pub(crate) fn read_bound<B: Backend>(
 ) -> Result<(), NoMemory>
     requires stands { ∥ Stands rows.old ∥₁ }
     requires shown { IsSomeAnd (get nat_eq rows.old.consumers c) (IsShownAt r) }
-    requires modest { IsSomeAnd (get nat_eq rows.old.consumers c) IsModestRequest }
+    requires within_limits { IsSomeAnd (get nat_eq rows.old.consumers c) IsRequestWithinLimits }
     requires wants { 0 < want }
     requires small { rows.old.received < 2 ^ 61 }
     requires few { next_of rows.old.exchanges < 2 ^ 62 }
     requires room { 3 ≤ spare out.old }
     ensures answers { OnOk result
-        (Answers rows.old rows.new (listed out.old) (listed out.new) now (Poll c want)) }
+        (Answers rows.old rows.new (act_list out.old) (act_list out.new) now (Poll c want)) }
     ensures received { OnOk result (rows.new.received ≡ rows.old.received) }
     ensures limits { OnOk result (rows.new.limits ≡ rows.old.limits) }
     ensures faults { (shelf_of rows.old.entries).faults ≤ (shelf_of rows.new.entries).faults }
-    ensures kept { OnErr result (listed out.new ≡ listed out.old) }
+    ensures kept { OnErr result (act_list out.new ≡ act_list out.old) }
 {
     let consumer = rows.consumers.get(&c).unwrap();
     if let Some(x) = headless_own(rows, consumer) {
@@ -80,7 +80,7 @@ fn read_on<B: Backend>(
 ) -> Result<(), NoMemory>
     requires stands { ∥ Stands rows.old ∥₁ }
     requires shown { IsSomeAnd (get nat_eq rows.old.consumers c) (IsShownAt r) }
-    requires modest { IsSomeAnd (get nat_eq rows.old.consumers c) IsModestRequest }
+    requires within_limits { IsSomeAnd (get nat_eq rows.old.consumers c) IsRequestWithinLimits }
     requires heard { IsSomeAnd (get nat_eq rows.old.consumers c)
         (IsHeard (table_of rows.old.exchanges)) }
     requires run { IsSomeAnd (get nat_eq rows.old.consumers c)
@@ -90,11 +90,11 @@ fn read_on<B: Backend>(
     requires few { next_of rows.old.exchanges < 2 ^ 62 }
     requires room { 3 ≤ spare out.old }
     ensures answers { OnOk result
-        (Answers rows.old rows.new (listed out.old) (listed out.new) now (Poll c want)) }
+        (Answers rows.old rows.new (act_list out.old) (act_list out.new) now (Poll c want)) }
     ensures received { OnOk result (rows.new.received ≡ rows.old.received) }
     ensures limits { OnOk result (rows.new.limits ≡ rows.old.limits) }
     ensures faults { (shelf_of rows.old.entries).faults ≤ (shelf_of rows.new.entries).faults }
-    ensures kept { OnErr result (listed out.new ≡ listed out.old) }
+    ensures kept { OnErr result (act_list out.new ≡ act_list out.old) }
 {
     let own = rows.consumers.get(&c).unwrap().own;
     let view = read_view(rows, c, r, end_of(&run));
@@ -220,7 +220,7 @@ pub(crate) fn give<B: Backend>(
     requires fits { IsSomeAnd (get nat_eq rows.old.consumers c)
         (λ k. k.given + length bytes ≤ 2 ^ 62) }
     requires room { 1 ≤ spare out.old }
-    ensures acts { listed out.new ≡ listed out.old ++ given c x at bytes }
+    ensures acts { act_list out.new ≡ act_list out.old ++ given_acts c x at bytes }
     ensures consumers { ChangesAt rows.old.consumers rows.new.consumers c
         (once_given (length bytes)) }
     ensures rest { KeepsRest rows.old rows.new }
@@ -235,9 +235,9 @@ pub(crate) fn give<B: Backend>(
 pub(crate) fn ask<B: Backend>(rows: &mut Rows<B>, c: u64, x: u64, out: &mut Acts)
     requires running { is_open x (table_of rows.old.exchanges) ≡ true }
     requires room { 2 ≤ spare out.old }
-    ensures acts { listed out.new ≡ listed out.old
+    ensures acts { act_list out.new ≡ act_list out.old
         ++ acts_of c (asks_or_waits (asked_in (table_of rows.old.exchanges x).running) x) }
-    ensures asked { Becomes asked x rows.old.exchanges rows.new.exchanges }
+    ensures asked { Becomes with_asking x rows.old.exchanges rows.new.exchanges }
     ensures consumers { rows.new.consumers ≡ rows.old.consumers }
     ensures rest { KeepsRest rows.old rows.new }
 {

@@ -1,7 +1,7 @@
 //! A head that is stored is shown.
 ghost use Rattle.std.specs.Prelude.{◌≡◌, ◌≤◌, ◌<◌, ◌^◌, ◌++◌, ◌∷◌, [], Some, None, nat_eq, true, IsSomeAnd, OnOk, OnErr};
 ghost use Rattle.std.specs.HashMap.{get};
-ghost use Rattle.hc_event.specs.Acts.{listed, spare};
+ghost use Rattle.hc_event.specs.Acts.{act_list, spare};
 ghost use Rattle.hc_event.specs.declared.act.Act.TheVariants as act;
 ghost use Rattle.hc_record.specs.Plain.{plain};
 ghost use Rattle.hc_stored.specs.Entries.{shelf_of};
@@ -40,13 +40,13 @@ pub(crate) fn bind<B: Backend>(
     requires admits { admits c ((shelf_of rows.old.entries).kept r) ≡ true }
     requires room { 1 ≤ spare out.old }
     ensures answers { OnOk result (IsSomeAnd (get nat_eq rows.old.consumers c)
-        (AnswersShowing rows.old rows.new (listed out.old) (listed out.new)
+        (AnswersShowing rows.old rows.new (act_list out.old) (act_list out.new)
         c r (plain head.now) why span)) }
     ensures exchanges { OnOk result (rows.new.exchanges ≡ rows.old.exchanges) }
     ensures received { OnOk result (rows.new.received ≡ rows.old.received) }
     ensures limits { OnOk result (rows.new.limits ≡ rows.old.limits) }
     ensures faults { (shelf_of rows.new.entries).faults ≡ (shelf_of rows.old.entries).faults }
-    ensures kept { OnErr result (listed out.new ≡ listed out.old) }
+    ensures kept { OnErr result (act_list out.new ≡ act_list out.old) }
 {
     let consumer = rows.consumers.get(&c).unwrap();
     let (lo, hi) = bounds_of(span, head.total);
@@ -88,7 +88,7 @@ pub(crate) fn put_shown(
     out: &mut Acts,
 )
     requires { 1 ≤ spare out.old }
-    ensures { listed out.new ≡ listed out.old
+    ensures { act_list out.new ≡ act_list out.old
         ++ act.Shown c r why head.status head.fields lo hi ∷ [] }
 {
     put(

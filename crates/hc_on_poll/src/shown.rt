@@ -1,7 +1,7 @@
 //! A head that is stored is shown to who is bound.
 ghost use Rattle.std.specs.Prelude.{◌≡◌, ◌≤◌, ◌<◌, ◌^◌, ℕ, Some, true, false, nat_eq, IsSomeAnd, OnOk, OnErr};
 ghost use Rattle.std.specs.HashMap.{get};
-ghost use Rattle.hc_event.specs.Acts.{listed, spare};
+ghost use Rattle.hc_event.specs.Acts.{act_list, spare};
 ghost use Rattle.hc_event.specs.declared.event.Event.TheVariants.{Poll};
 ghost use Rattle.hc_record.specs.Plain.{plain};
 ghost use Rattle.hc_stored.specs.Entries.{shelf_of};
@@ -36,11 +36,11 @@ pub(crate) fn await_stored<B: Backend>(
     requires small { rows.old.received < 2 ^ 61 }
     requires room { 2 ≤ spare out.old }
     ensures answers { OnOk result ((want : ℕ) → Answers rows.old rows.new
-        (listed out.old) (listed out.new) now (Poll c want)) }
+        (act_list out.old) (act_list out.new) now (Poll c want)) }
     ensures received { OnOk result (rows.new.received ≡ rows.old.received) }
     ensures limits { OnOk result (rows.new.limits ≡ rows.old.limits) }
     ensures faults { (shelf_of rows.old.entries).faults ≤ (shelf_of rows.new.entries).faults }
-    ensures kept { OnErr result (listed out.new ≡ listed out.old) }
+    ensures kept { OnErr result (act_list out.new ≡ act_list out.old) }
 {
     if let BoundBy::FirstHole(x) = by {
         if is_headless(rows, x) {
@@ -70,12 +70,12 @@ fn show_stored<B: Backend>(
     requires small { rows.old.received < 2 ^ 61 }
     requires room { 1 ≤ spare out.old }
     ensures answers { OnOk result
-        (AnswersPolls rows.old rows.new (listed out.old) (listed out.new) c) }
+        (AnswersPolls rows.old rows.new (act_list out.old) (act_list out.new) c) }
     ensures exchanges { OnOk result (rows.new.exchanges ≡ rows.old.exchanges) }
     ensures received { OnOk result (rows.new.received ≡ rows.old.received) }
     ensures limits { OnOk result (rows.new.limits ≡ rows.old.limits) }
     ensures faults { (shelf_of rows.new.entries).faults ≡ (shelf_of rows.old.entries).faults }
-    ensures kept { OnErr result (listed out.new ≡ listed out.old) }
+    ensures kept { OnErr result (act_list out.new ≡ act_list out.old) }
 {
     let consumer = rows.consumers.get(&c).unwrap();
     let (lo, hi) = (consumer.lo, consumer.hi);

@@ -22,7 +22,7 @@ pub fn start<B: Backend>(
     request: &Request,
 ) -> Result<(), NoMemory>
     requires stands { ∥ Stands rows.old ∥₁ }
-    requires rising { rows.old.last_start < c }
+    requires ascending { rows.old.last_start < c }
     ensures answers { OnOk result ((before : List Act)
         → Answers rows.old rows.new before before now (Start c request.now)) }
     ensures exchanges { rows.new.exchanges ≡ rows.old.exchanges }

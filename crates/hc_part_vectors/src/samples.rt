@@ -16,7 +16,7 @@ pub(crate) fn head(alloc: Global) -> Result<StoredHead, Fault>
     let mut fields = Fields::new(alloc)?;
     fields.append(b"etag", b"\"a\"")?;
     fields.append(b"accept-ranges", b"none")?;
-    if vary_fields.len() > 0 || !fields.modest() {
+    if vary_fields.len() > 0 || !fields.within_limits() {
         return Err(Fault::NoSuchCall);
     }
     let joining = joining_tag(alloc, &fields)?;

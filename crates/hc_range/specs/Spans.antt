@@ -22,10 +22,10 @@ abbrev pub Holds : Span → ℕ → Type 0
 Holds span p = (span.lo ≤ p) × (p < span.hi)
 
 -- what is asked for, cut at the length
-abbrev pub resolved : Asked → ℕ → Option Span
-resolved (From first) total = if nat_lt first total then Some (record { lo = first; hi = total }) else None
-resolved (FromTo first last) total = if nat_lt first total then Some (record { lo = first; hi = min (last + 1) total }) else None
-resolved (Last n) total = if nat_lt 0 n && nat_lt 0 total then Some (record { lo = total - n; hi = total }) else None
+abbrev pub resolved_span : Asked → ℕ → Option Span
+resolved_span (From first) total = if nat_lt first total then Some (record { lo = first; hi = total }) else None
+resolved_span (FromTo first last) total = if nat_lt first total then Some (record { lo = first; hi = min (last + 1) total }) else None
+resolved_span (Last n) total = if nat_lt 0 n && nat_lt 0 total then Some (record { lo = total - n; hi = total }) else None
 
 -- a span that isn't empty, of a representation of this length
 pub record IsWithin (span : Span) (total : ℕ) : Type 0 where

@@ -1,6 +1,6 @@
 //! The span that a range asks for.
 ghost use Rattle.std.specs.Prelude.{◌≡◌, ℕ, ◌<◌, ◌≤◌, ◌↔◌, IfSome, IfNone};
-ghost use Rattle.hc_range.specs.Spans.{Asks, IsInOrder, Holds, resolved};
+ghost use Rattle.hc_range.specs.Spans.{Asks, IsInOrder, Holds, resolved_span};
 
 use crate::range::{Asked, Span};
 
@@ -8,7 +8,7 @@ use crate::range::{Asked, Span};
 /// there is none: a suffix of an empty representation too is refused.
 pub fn resolve(asked: Asked, total: u64) -> Option<Span>
     requires { IsInOrder asked }
-    ensures value { result ≡ resolved asked total }
+    ensures value { result ≡ resolved_span asked total }
     ensures bounds { IfSome result (λ span. (span.lo < span.hi) × (span.hi ≤ total)) }
     ensures positions { IfSome result (λ span.
         (p : ℕ) → Holds span p ↔ (Asks asked total p × (p < total))) }

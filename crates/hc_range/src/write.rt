@@ -2,7 +2,7 @@
 ghost use Rattle.std.specs.Prelude.{◌≡◌, ◌++◌, ◌-◌, Some, OnOk, OnErr};
 ghost use Rattle.hc_range.specs.Ranges.{SpellsRange, SpellsContentRange};
 ghost use Rattle.hc_range.specs.declared.range.ContentRange.TheVariants.{Part};
-ghost use Rattle.hc_range.specs.Spans.{IsWithin, range_text, content_range_text, asked_by, resolved};
+ghost use Rattle.hc_range.specs.Spans.{IsWithin, range_text, content_range_text, asked_by, resolved_span};
 
 use crate::range::Span;
 use hc_text::{NoMemory, write_number};
@@ -15,7 +15,7 @@ pub fn write_range(span: Span, total: u64, to: &mut Vec<u8>) -> Result<(), NoMem
     ensures ok { OnOk result (to.new.items ≡ to.old.items ++ range_text span total) }
     ensures err { OnErr result (to.new.items ≡ to.old.items) }
     ensures read_back { SpellsRange (range_text span total) (asked_by span total) }
-    ensures resolved_back { resolved (asked_by span total) total ≡ Some span }
+    ensures resolved_back { resolved_span (asked_by span total) total ≡ Some span }
 {
     to.reserve(47)?;
     to.extend_from_slice(b"bytes=")?;

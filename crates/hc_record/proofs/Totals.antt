@@ -15,7 +15,7 @@ use Rattle.hc_record.specs.declared.kind.Kind.{Kind}
 use Rattle.hc_record.specs.declared.version.Version.{Version}
 use Rattle.hc_record.specs.declared.version.Version.TheVariants.{First, Second}
 use Rattle.hc_record.specs.Head.{Head, sealed_head}
-use Rattle.hc_record.specs.Lines.{IsSmall, IsSmallTotal, total_text, sealed}
+use Rattle.hc_record.specs.Lines.{IsSmall, IsSmallTotal, total_text, sealed_record}
 use Rattle.hc_record.specs.Record.{later_lines, spelling}
 
 pub length-decimal : (n : ℕ) → IsSmall n → length (decimal n) ≤ 20
@@ -29,7 +29,7 @@ length-total_text (Some n) small =
     ∙ omega (arith, le, length-replicate {A = ℕ} (20 - length (decimal n)) 48)
 
 -- kind and total stand at their places
-pub sealed-spelling : (kind : Kind) (total : Option ℕ) (version : Version) (head : Head) → IsSmallTotal head.total → sealed kind total (spelling version head) ≡ spelling version (sealed_head kind total head)
+pub sealed-spelling : (kind : Kind) (total : Option ℕ) (version : Version) (head : Head) → IsSmallTotal head.total → sealed_record kind total (spelling version head) ≡ spelling version (sealed_head kind total head)
 sealed-spelling kind total First head small =
     let later = later_lines First head in
     let rest : drop 20 ((total_text head.total ++ 10 ∷ []) ++ later) ≡ 10 ∷ later =

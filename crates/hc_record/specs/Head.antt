@@ -5,7 +5,7 @@ use Rattle.std.specs.List.{list_all}
 use Rattle.hc_text.specs.Texts.{IsSmall}
 use Rattle.hc_etag.specs.declared.tag.Tag.{Tag}
 use Rattle.hc_etag.specs.Etags.{is_etagc, quote}
-use Rattle.hc_fields.specs.FieldList.{values_of, IsFieldList, IsModest}
+use Rattle.hc_fields.specs.FieldList.{values_of, IsFieldList, IsWithinLimits}
 use Rattle.hc_record.specs.declared.kind.Kind.{Kind}
 
 pub record Head : Type 0 where
@@ -54,7 +54,7 @@ pub record IsHead (head : Head) : Type 0 where
   pub own_joining : head.joining ≡ joining_of head.fields
   pub vary_list : IsFieldList head.vary_fields
   pub list : IsFieldList head.fields
-  pub modest : IsModest head.fields
+  pub within_limits : IsWithinLimits head.fields
 
 -- the head with another kind and another total
 abbrev pub sealed_head : Kind → Option ℕ → Head → Head

@@ -32,17 +32,17 @@ abbrev pub seal_line : Kind → Option ℕ → List ℕ
 seal_line kind total = kind_byte kind ∷ 32 ∷ total_text total ++ 10 ∷ []
 
 -- a text with another kind at byte 9 and another total at bytes 11 to 30
-abbrev pub sealed : Kind → Option ℕ → List ℕ → List ℕ
-sealed kind total text = replace_range (slice_set text 9 (kind_byte kind)) 11 31 (total_text total)
+abbrev pub sealed_record : Kind → Option ℕ → List ℕ → List ℕ
+sealed_record kind total text = replace_range (slice_set text 9 (kind_byte kind)) 11 31 (total_text total)
 
 -- a plain number and the byte behind it
-abbrev pub ended : ℕ → ℕ → List ℕ
-ended end n = decimal n ++ end ∷ []
+abbrev pub number_and_end : ℕ → ℕ → List ℕ
+number_and_end end n = decimal n ++ end ∷ []
 
 -- the line of status, moments and counts of fields
 abbrev pub numbers_line : ℕ → ℕ → ℕ → ℕ → ℕ → List ℕ
 numbers_line status requested answered vary_count count =
-    ended 32 status ++ (ended 32 requested ++ (ended 32 answered ++ (ended 32 vary_count ++ ended 10 count)))
+    number_and_end 32 status ++ (number_and_end 32 requested ++ (number_and_end 32 answered ++ (number_and_end 32 vary_count ++ number_and_end 10 count)))
 
 -- the tag in its spelling, or a hyphen
 abbrev pub joining_text : Option (List ℕ) → List ℕ

@@ -5,7 +5,7 @@ ghost use Rattle.std.specs.Fmt.{decimal};
 ghost use Rattle.std.specs.List.{list_all};
 ghost use Rattle.std.specs.Str.Parse.{digits_value};
 ghost use Rattle.hc_text.specs.Numbers.{IsPlain};
-ghost use Rattle.hc_record.specs.Lines.{ended, IsSmall, kind_byte, total_text, IsSmallTotal, version_line};
+ghost use Rattle.hc_record.specs.Lines.{number_and_end, IsSmall, kind_byte, total_text, IsSmallTotal, version_line};
 ghost use Rattle.hc_fields.specs.Lines.{fields_text};
 ghost use Rattle.hc_record.specs.Parts.{IsListOf};
 ghost use Rattle.hc_record.specs.Reading.{Takes, lacks};
@@ -75,7 +75,7 @@ impl<'a> Cursor<'a> {
     /// Takes a plain number and the byte behind it, which is no digit.
     pub(crate) fn take_number(&mut self, end: u8) -> Option<u64>
         requires { end < 48 }
-        ensures { Takes (ended end) IsSmall self.old self.new result }
+        ensures { Takes (number_and_end end) IsSmall self.old self.new result }
     {
         let rest = self.rest;
         let (n, len) = number_before(rest, end)?;

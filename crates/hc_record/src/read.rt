@@ -35,7 +35,7 @@ pub fn read_record(alloc: Global, text: &[u8]) -> Result<Option<StoredHead>, NoM
     let Some(fields) = rest.take_fields(alloc, first.numbers.count)? else {
         return Ok(None);
     };
-    if !rest.is_at_end() || !fields.modest() {
+    if !rest.is_at_end() || !fields.within_limits() {
         return Ok(None);
     }
     let joining = joining_tag(alloc, &fields)?;

@@ -1,6 +1,6 @@
 //! Kind and total at their places in a record.
 ghost use Rattle.std.specs.Prelude.{◌≡◌, ◌≤◌, length};
-ghost use Rattle.hc_record.specs.Lines.{total_text, sealed};
+ghost use Rattle.hc_record.specs.Lines.{total_text, sealed_record};
 ghost use Rattle.hc_record.specs.declared.version.Version.{Version};
 ghost use Rattle.hc_record.specs.Head.{Head, IsHead, IsSmallTotal, sealed_head};
 ghost use Rattle.hc_record.specs.Record.{spelling};
@@ -27,7 +27,7 @@ pub(crate) fn total_text(total: Option<u64>) -> [u8; 20]
 pub fn seal_record(text: &mut [u8], kind: Kind, total: Option<u64>)
     requires long { 31 ≤ length text.old }
     requires small { IsSmallTotal total }
-    ensures bytes { text.new ≡ sealed kind total text.old }
+    ensures bytes { text.new ≡ sealed_record kind total text.old }
 
     // The record of a head, of either version, becomes that of the head with this kind and total.
     ensures head { (version : Version) (head : Head)

@@ -1,6 +1,6 @@
 //! Writing records.
 ghost use Rattle.std.specs.Prelude.{◌≡◌, ◌++◌, take, vec_len, OnOk, OnErr};
-ghost use Rattle.hc_record.specs.Lines.{ended, seal_line, joining_text, tag_line};
+ghost use Rattle.hc_record.specs.Lines.{number_and_end, seal_line, joining_text, tag_line};
 ghost use Rattle.hc_record.specs.declared.version.Version.TheVariants.{Second};
 ghost use Rattle.hc_record.specs.Plain.{plain};
 ghost use Rattle.hc_record.specs.Record.{head_numbers, spelling};
@@ -77,7 +77,7 @@ fn write_tag_line(head: &StoredHead, to: &mut Vec<u8>) -> Result<(), NoMemory>
 
 /// Appends the plain number and the byte behind it, or a part of that.
 fn write_ended(n: u64, end: u8, to: &mut Vec<u8>) -> Result<(), NoMemory>
-    ensures ok { OnOk result (to.new.items ≡ to.old.items ++ ended end n) }
+    ensures ok { OnOk result (to.new.items ≡ to.old.items ++ number_and_end end n) }
     ensures err { OnErr result (take (vec_len to.old) to.new.items ≡ to.old.items) }
 {
     write_number(n, to)?;

@@ -12,7 +12,7 @@ use Rattle.hc_sched.specs.declared.schedule.Timed.{Timed}
 use Rattle.hc_sched.specs.Laws.{refusal_of}
 use Rattle.hc_sched.proofs.OneReading.{is_read, is_spelled}
 use Rattle.hc_driver.specs.Endings as endings
-use Rattle.hc_driver.specs.Endings.{Ends, IsRefused, brought}
+use Rattle.hc_driver.specs.Endings.{Ends, IsRefused, events_from}
 use Rattle.hc_driver.specs.Stepping as steps
 use Rattle.hc_driver.specs.Stepping.{Leads, nothing, more, Steps, StepsSome}
 use Rattle.hc_model.specs.Entries.{no_contents}
@@ -88,12 +88,12 @@ module _ {B : Type 0} {g : Ghosts B} where
   replays_all s u left left' out out' _ new (endings.done text gives none steps) =
       let spelled = is_spelled 0 text none in
       let same = (is_read 0 text spelled.0 spelled.1).1 in
-      replays.done text spelled.0 gives spelled.1 (subst (λ (l : List Timed). ReportsAll s u l out out') same (reports_all s u (brought 0 text) out out' new steps))
-  replays_all s u left left' out out' _ new (endings.refused text r gives is steps) = replays.refused text r gives is (reports_all s u (brought 0 text) out out' new steps)
-  replays_all s u left left' out out' _ new (endings.cut_short text r gives is steps) = replays.cut_short text r gives is (reports_all s u (brought 0 text) out out' new steps)
-  replays_all s u left left' out out' _ new (endings.unreadable text gives steps) = replays.unreadable text gives (reports_all s u (brought 0 text) out out' new steps)
-  replays_all s u left left' out out' _ new (endings.unwritten text gives steps) = replays.unwritten text gives (reports_some s (brought 0 text) out out' new steps)
-  replays_all s u left left' out out' _ new (endings.wanting text gives steps) = replays.wanting text gives (reports_some s (brought 0 text) out out' new steps)
+      replays.done text spelled.0 gives spelled.1 (subst (λ (l : List Timed). ReportsAll s u l out out') same (reports_all s u (events_from 0 text) out out' new steps))
+  replays_all s u left left' out out' _ new (endings.refused text r gives is steps) = replays.refused text r gives is (reports_all s u (events_from 0 text) out out' new steps)
+  replays_all s u left left' out out' _ new (endings.cut_short text r gives is steps) = replays.cut_short text r gives is (reports_all s u (events_from 0 text) out out' new steps)
+  replays_all s u left left' out out' _ new (endings.unreadable text gives steps) = replays.unreadable text gives (reports_all s u (events_from 0 text) out out' new steps)
+  replays_all s u left left' out out' _ new (endings.unwritten text gives steps) = replays.unwritten text gives (reports_some s (events_from 0 text) out out' new steps)
+  replays_all s u left left' out out' _ new (endings.wanting text gives steps) = replays.wanting text gives (reports_some s (events_from 0 text) out out' new steps)
 
 -- COMPLETENESS
 

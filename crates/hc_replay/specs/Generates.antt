@@ -5,7 +5,7 @@ use Rattle.hc_rules.specs.declared.room.Limits.{Limits}
 use Rattle.hc_sched.specs.declared.schedule.Ended.{Ended}
 use Rattle.hc_sched.specs.declared.schedule.Ended.TheVariants as ended
 use Rattle.hc_model.specs.Entries.{History, no_contents}
-use Rattle.hc_core.specs.Steps.{StandsFor, last_moment, steps, received, limits_in}
+use Rattle.hc_core.specs.Steps.{StandsFor, last_moment, steps, bytes_received, limits_in}
 use Rattle.hc_replay.specs.Summaries.{HasGone, IsSummary}
 use Rattle.hc_replay.specs.declared.rounds.Rounds.{Rounds}
 
@@ -17,7 +17,7 @@ pub record MayGoOn (r : Rounds) : Type 0 where
   pub last : r.generator.last < 2 ^ 61
   pub later : last_moment r.cache ≤ r.generator.moment
   pub few : steps r.cache < 2 ^ 60
-  pub small : received r.cache < 2 ^ 60
+  pub small : bytes_received r.cache < 2 ^ 60
 
 -- the generator has gone so many rounds, the cache stands for what happened, and numbers are small
 pub record Stands (limits : Limits) (seed n : ℕ) (r : Rounds) : Type 0 where
@@ -29,7 +29,7 @@ pub record Stands (limits : Limits) (seed n : ℕ) (r : Rounds) : Type 0 where
   pub last : r.generator.last ≤ n
   pub later : last_moment r.cache ≤ r.generator.moment
   pub few : steps r.cache ≤ n
-  pub small : received r.cache ≤ 512 * n
+  pub small : bytes_received r.cache ≤ 512 * n
 
 -- HOW IT ENDS
 

@@ -9,7 +9,7 @@ use Rattle.hc_sched.specs.declared.schedule.Refused.{Refused}
 use Rattle.hc_sched.specs.declared.schedule.Timed.{Timed}
 use Rattle.hc_sched.specs.Schedule.{Item, Spells, events_of}
 use Rattle.hc_sched.specs.Laws.{refusal_of}
-use Rattle.hc_driver.specs.Endings.{IsRefused, brought}
+use Rattle.hc_driver.specs.Endings.{IsRefused, events_from}
 use Rattle.hc_driver.specs.Stepping as steps
 use Rattle.hc_driver.specs.Stepping.{events_in, report_after}
 use Rattle.hc_model.specs.Entries.{no_contents}
@@ -58,18 +58,18 @@ pub data Replays {B : Type 0} {g : Ghosts B} (s u : Cache B g) (left left' out o
       ReportsAll s u (events_of 0 items) out out' → Replays s u left left' out out' ended.Done
   -- the text is refused where it was read to, and the report of what came before was taken
   refused : (text : List ℕ) (refused : Refused) → Gives left left' text → IsRefused 0 text refused →
-      ReportsAll s u (brought 0 text) out out' → Replays s u left left' out out' (ended.Refused refused)
+      ReportsAll s u (events_from 0 text) out out' → Replays s u left left' out out' (ended.Refused refused)
   -- the whole text is cut short
   cut_short : (text : List ℕ) (refused : Refused) → GivesAll left left' text →
-      refusal_of 0 text ≡ Some refused → ReportsAll s u (brought 0 text) out out' →
+      refusal_of 0 text ≡ Some refused → ReportsAll s u (events_from 0 text) out out' →
       Replays s u left left' out out' (ended.Refused refused)
   -- the report of the whole items was taken of what could be read
-  unreadable : (text : List ℕ) → Gives left left' text → ReportsAll s u (brought 0 text) out out' →
+  unreadable : (text : List ℕ) → Gives left left' text → ReportsAll s u (events_from 0 text) out out' →
       Replays s u left left' out out' ended.SourceFailed
   -- some first part of a report was taken, of some first events of what was read
-  unwritten : (text : List ℕ) → Gives left left' text → ReportsSome s (brought 0 text) out out' →
+  unwritten : (text : List ℕ) → Gives left left' text → ReportsSome s (events_from 0 text) out out' →
       Replays s u left left' out out' ended.SinkFailed
-  wanting : (text : List ℕ) → Gives left left' text → ReportsSome s (brought 0 text) out out' →
+  wanting : (text : List ℕ) → Gives left left' text → ReportsSome s (events_from 0 text) out out' →
       Replays s u left left' out out' ended.NoMemory
 
 -- A text that spells items, all of which was left, isn't refused.

@@ -7,7 +7,7 @@ use Rattle.hc_sorted.specs.Sorted.{is_sorted}
 use Rattle.hc_exch.specs.Wishes.{is_among, itself}
 use Rattle.hc_generate.specs.States.{State, beginning}
 use Rattle.hc_generate.specs.Rounds.{IsRound}
-use Rattle.hc_generate.specs.Hearing.{heard}
+use Rattle.hc_generate.specs.Hearing.{state_after}
 use Rattle.hc_generate.specs.Summary.{summary_text}
 use Rattle.hc_model.specs.Entries.{Entry, History, no_contents}
 use Rattle.hc_model.specs.Exchanges.{is_wanted}
@@ -18,7 +18,7 @@ use Rattle.hc_model.specs.Tables.{tables}
 
 -- the exchanges that are wanted, in ascending order of their numbers
 pub record AreWanted (t : Tables) (wanted : List ℕ) : Type 0 where
-  pub rising : is_sorted itself wanted ≡ true
+  pub ascending : is_sorted itself wanted ≡ true
   pub are : (x : ℕ) → is_among x wanted ≡ is_wanted (t.exchange x)
 
 -- the entry of an event that the generator made last
@@ -37,7 +37,7 @@ pub data HasGone (limits : Limits) (seed : ℕ) : ℕ → State → History → 
       HasGone limits seed n s h → AreWanted (tables no_contents h) wanted →
       IsRound wanted s (Some event) u →
       IsOwed limits (tables no_contents h) (entry_at u event acts) → failures_in acts ≡ 0 →
-      HasGone limits seed (n + 1) (heard acts u) (entry_at u event acts ∷ h)
+      HasGone limits seed (n + 1) (state_after acts u) (entry_at u event acts ∷ h)
 
 -- this is the summary of so many rounds
 pub record IsSummary (limits : Limits) (seed n : ℕ) (text : List ℕ) : Type 0 where

@@ -3,7 +3,7 @@ ghost use Rattle.std.specs.Prelude.{◌≡◌, ◌≢◌, ◌+◌, []};
 ghost use Rattle.hc_io.specs.Faults.{HasRisen};
 ghost use Rattle.hc_sched.specs.declared.schedule.Ended.TheVariants as ended;
 ghost use Rattle.hc_model.specs.Entries.{no_contents};
-ghost use Rattle.hc_core.specs.Steps.{StandsFor, steps, received};
+ghost use Rattle.hc_core.specs.Steps.{StandsFor, steps, bytes_received};
 ghost use Rattle.hc_replay.specs.Replays.{Replays, Completes};
 
 use hc_core::Cache;
@@ -27,7 +27,7 @@ pub fn replay<B: Backend, S: Source, K: Sink>(
     sink: &mut K,
 ) -> Ended
     requires new { StandsFor cache.old no_contents [] }
-    requires unused { steps cache.old + received cache.old ≡ 0 }
+    requires unused { steps cache.old + bytes_received cache.old ≡ 0 }
     ensures ends { Replays cache.old cache.new (S.left source.old) (S.left source.new)
         (K.taken sink.old) (K.taken sink.new) result }
     ensures complete { Completes (S.left source.old) result }

@@ -89,7 +89,7 @@ pub(crate) fn head_of(
         None => Fields::new(v.alloc())?,
     };
     let is_list = vary_fields.len() <= 80;
-    if !fields.modest() || !is_list || requested > answered || answered >= 1 << 62 {
+    if !fields.within_limits() || !is_list || requested > answered || answered >= 1 << 62 {
         return Err(Fault::NoSuchCall);
     }
     let joining = joining_tag(v.alloc(), &fields)?;

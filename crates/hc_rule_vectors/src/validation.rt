@@ -25,7 +25,7 @@ pub(crate) fn call(v: &Vector, to: &mut String) -> Result<bool, Fault> {
 fn tell_conditional(v: &Vector, to: &mut String) -> Result<(), Fault> {
     let head = head_at(v, 0)?;
     let request = request_at(v, 1)?;
-    if !request.fields.modest() {
+    if !request.fields.within_limits() {
         return Err(Fault::NoSuchCall);
     }
     let asked = conditional(&head, &request)?;

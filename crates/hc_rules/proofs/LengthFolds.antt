@@ -8,7 +8,7 @@ use Rattle.std.proofs.lemmas.Option.{slice_get_within, get_or_from_slice_get}
 use Rattle.hc_text.specs.Elements.{elements}
 use Rattle.hc_rules.specs.declared.length.Length.{Length}
 use Rattle.hc_rules.specs.declared.length.Length.TheVariants.{Unknown, Promised, Bad}
-use Rattle.hc_rules.specs.Lengths.{is_same_number, told, all_tell, length_told}
+use Rattle.hc_rules.specs.Lengths.{is_same_number, promised_or_bad, all_tell, content_length_of}
 use Rattle.hc_rules.specs.RangeTexts.{number_of}
 use Rattle.hc_rules.specs.LengthSoFar.{with_element, with_elements}
 use Rattle.hc_rules.proofs.Numbers.{eqb-same}
@@ -36,10 +36,10 @@ promise_stays n (e ∷ es) = elim (cases_Bool (is_same_number (Some n) (number_o
   | inr other ↦ rw other (bad_stays es)
 ]
 
-first_tells : (number : Option ℕ) (es : List (List ℕ)) → with_elements (told number) es ≡ cond (is_same_number number number && all_tell number es) (told number) Bad
+first_tells : (number : Option ℕ) (es : List (List ℕ)) → with_elements (promised_or_bad number) es ≡ cond (is_same_number number number && all_tell number es) (promised_or_bad number) Bad
 first_tells None es = bad_stays es
 first_tells (Some n) es = rw (eqb-same n) (promise_stays n es)
 
-pub told_is : (es : List (List ℕ)) → with_elements Unknown es ≡ length_told es
+pub told_is : (es : List (List ℕ)) → with_elements Unknown es ≡ content_length_of es
 told_is [] = refl
 told_is (e ∷ es) = first_tells (number_of e) es

@@ -14,7 +14,7 @@ use Rattle.hc_rules.specs.declared.need.Route.TheVariants as route
 use Rattle.hc_rules.specs.declared.length.Length.{Length}
 use Rattle.hc_rules.specs.declared.length.Length.TheVariants.{Unknown, Promised, Part, Bad}
 use Rattle.hc_rules.specs.Needs.{route_of}
-use Rattle.hc_rules.specs.Lengths.{is_same_number, told, all_tell, length_told, has_no_body, agrees, part_length, tells_part, length_of}
+use Rattle.hc_rules.specs.Lengths.{is_same_number, promised_or_bad, all_tell, content_length_of, has_no_body, agrees, part_length, tells_part, length_of}
 use Rattle.hc_rules.specs.RangeTexts.{number_of, content_range_of}
 use Rattle.hc_rules.specs.Laws.{declared_in, AllSay, IsRightLength, LengthsAreRight}
 use Rattle.hc_rules.proofs.Cond.{either}
@@ -39,11 +39,11 @@ Told es (Promised n) = AllSay n es
 Told es (Part base n) = ⊥
 Told es Bad = es ≢ []
 
-by_number : (e : List ℕ) (es : List (List ℕ)) (o : Option ℕ) → all_tell o (e ∷ es) ≡ true → Told (e ∷ es) (told o)
+by_number : (e : List ℕ) (es : List (List ℕ)) (o : Option ℕ) → all_tell o (e ∷ es) ≡ true → Told (e ∷ es) (promised_or_bad o)
 by_number e es None h = some e es
 by_number e es (Some n) h = (some e es, all_say n (e ∷ es) h)
 
-told_right : (es : List (List ℕ)) → Told es (length_told es)
+told_right : (es : List (List ℕ)) → Told es (content_length_of es)
 told_right [] = refl
 told_right (e ∷ es) =
     either (Told (e ∷ es)) (all_tell (number_of e) (e ∷ es)) _ _ (by_number e es (number_of e)) (λ _. some e es)

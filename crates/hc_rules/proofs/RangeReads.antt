@@ -16,7 +16,7 @@ use Rattle.hc_range.specs.declared.range.ContentRange.{ContentRange}
 use Rattle.hc_range.specs.declared.range.ContentRange.TheVariants.{Part, Unsatisfied}
 use Rattle.hc_range.specs.Ranges.{SpellsPositions, SpellsSpec, SpellsRange, SpellsTotal, SpellsResponse, SpellsContentRange}
 use Rattle.hc_range.proofs.ReadLemmas.{range_at, content_range_at, number_some}
-use Rattle.hc_rules.specs.RangeTexts.{number_of, with_byte, split_at, from_to, positions_by, positions_from, spec_in, asked_in, with_total, without_part, told_by, response_from, response_in, content_range_in}
+use Rattle.hc_rules.specs.RangeTexts.{number_of, with_byte, split_at, from_to, positions_by, positions_from, spec_in, asked_in, with_total, without_part, content_range_from, response_from, response_in, content_range_in}
 use Rattle.hc_rules.proofs.Numbers.{eqb-same, number_of-number, IsNumber-told}
 
 -- an option is None or Some
@@ -191,7 +191,7 @@ with_total-spelled text first last None h = rw h refl
 with_total-spelled text first last (Some total) h =
     rw (number_of-number text total h.0, lt-ltb last total h.1) refl
 
-response_in-cut : (positions text : List ℕ) (range : ContentRange) → LacksByte 47 positions → told_by positions text (spec_in positions) ≡ Some range → response_in (positions ++ 47 ∷ text) ≡ Some range
+response_in-cut : (positions text : List ℕ) (range : ContentRange) → LacksByte 47 positions → content_range_from positions text (spec_in positions) ≡ Some range → response_in (positions ++ 47 ∷ text) ≡ Some range
 response_in-cut positions text range lacks h = ap response_from (split_at-cut 47 positions text lacks) ∙ h
 
 response_in-spelled : (text : List ℕ) (range : ContentRange) → SpellsResponse text range → response_in text ≡ Some range
@@ -200,7 +200,7 @@ response_in-spelled text (Part first last total) h =
     let spec = spec_in-spelled positions (FromTo first last) spelled in
     ap response_in (is ∙ append_assoc positions (47 ∷ []) whole)
     ∙ response_in-cut positions whole (Part first last total) (lacks_slash positions first last spelled)
-    (ap (told_by positions whole) spec ∙ with_total-spelled whole first last total told)
+    (ap (content_range_from positions whole) spec ∙ with_total-spelled whole first last total told)
 response_in-spelled text (Unsatisfied total) h =
     let (whole, number, is) = h in
     ap response_in is ∙ response_in-cut (42 ∷ []) whole (Unsatisfied total) refl (rw (number_of-number whole total number) refl)
@@ -225,7 +225,7 @@ without_part-some positions text range h = elim (cases_Bool (bytes_eq positions 
   | inr isnt ↦ let e : None ≡ Some range = rw isnt at h in absurd (cc)
 ]
 
-spells-response : (text positions whole : List ℕ) (o : Option Asked) (range : ContentRange) → text ≡ positions ++ 47 ∷ whole → o ≡ spec_in positions → told_by positions whole o ≡ Some range → SpellsResponse text range
+spells-response : (text positions whole : List ℕ) (o : Option Asked) (range : ContentRange) → text ≡ positions ++ 47 ∷ whole → o ≡ spec_in positions → content_range_from positions whole o ≡ Some range → SpellsResponse text range
 spells-response text positions whole None range is spec h =
     let (total, (star, (told, same))) = without_part-some positions whole range h in
     subst (SpellsResponse text) same (whole, IsNumber-told whole total told, is ∙ ap (λ (p : List ℕ). p ++ 47 ∷ whole) star)

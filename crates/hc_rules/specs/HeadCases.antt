@@ -4,7 +4,7 @@ use Rattle.hc_range.specs.declared.range.Asked.{Asked}
 use Rattle.hc_range.specs.declared.range.Span.{Span}
 use Rattle.hc_range.specs.declared.range.ContentRange.{ContentRange}
 use Rattle.hc_range.specs.declared.range.ContentRange.TheVariants as range
-use Rattle.hc_range.specs.Spans.{resolved}
+use Rattle.hc_range.specs.Spans.{resolved_span}
 use Rattle.hc_cachectl.specs.Directives.{of_request, of_response}
 use Rattle.hc_event.specs.declared.event.Request.{Request}
 use Rattle.hc_event.specs.declared.event.Response.{Response}
@@ -85,7 +85,7 @@ abbrev pub fits_part : Asked → Option ContentRange → Bool
 fits_part asked None = false
 fits_part asked (Some (range.Unsatisfied total)) = false
 fits_part asked (Some (range.Part first last None)) = false
-fits_part asked (Some (range.Part first last (Some total))) = begins_at (resolved asked total) first last
+fits_part asked (Some (range.Part first last (Some total))) = begins_at (resolved_span asked total) first last
 
 -- A part from which a representation may be founded for a consumer with this range: others could join it by its strong tag.
 abbrev pub fits_to_found : Option Asked → Response → Bool

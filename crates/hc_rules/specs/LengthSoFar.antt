@@ -2,12 +2,12 @@
 use Rattle.std.specs.Prelude.{ℕ, List, [], ◌∷◌, if◌then◌else◌, Option, Some}
 use Rattle.hc_rules.specs.declared.length.Length.{Length}
 use Rattle.hc_rules.specs.declared.length.Length.TheVariants.{Unknown, Promised, Part, Bad}
-use Rattle.hc_rules.specs.Lengths.{is_same_number, told}
+use Rattle.hc_rules.specs.Lengths.{is_same_number, promised_or_bad}
 use Rattle.hc_rules.specs.RangeTexts.{number_of}
 
 -- with one more number: the first is promised, and each later one is to be the same
 abbrev pub with_number : Length → Option ℕ → Length
-with_number Unknown number = told number
+with_number Unknown number = promised_or_bad number
 with_number (Promised n) number = if is_same_number (Some n) number then Promised n else Bad
 with_number (Part base n) number = Bad
 with_number Bad number = Bad

@@ -18,18 +18,18 @@ abbrev pub is_same_number : Option ℕ → Option ℕ → Bool
 is_same_number (Some m) (Some n) = m == n
 is_same_number _ _ = false
 
-abbrev pub told : Option ℕ → Length
-told None = Bad
-told (Some n) = Promised n
+abbrev pub promised_or_bad : Option ℕ → Length
+promised_or_bad None = Bad
+promised_or_bad (Some n) = Promised n
 
 -- all elements spell this number
 abbrev pub all_tell : Option ℕ → List (List ℕ) → Bool
 all_tell n elements = list_all (λ element. is_same_number n (number_of element)) elements
 
 -- the elements are to spell one number
-abbrev pub length_told : List (List ℕ) → Length
-length_told [] = Unknown
-length_told (element ∷ elements) = if all_tell (number_of element) (element ∷ elements) then told (number_of element) else Bad
+abbrev pub content_length_of : List (List ℕ) → Length
+content_length_of [] = Unknown
+content_length_of (element ∷ elements) = if all_tell (number_of element) (element ∷ elements) then promised_or_bad (number_of element) else Bad
 
 abbrev pub is_head : Request → Bool
 is_head request = bytes_eq request.method (codes "HEAD")
@@ -67,8 +67,8 @@ unfoldable pub length_of : Need → Request → Response → Length
 length_of need request response =
     if has_no_body request response.status then Promised 0
     else if tells_part (route_of need) response.status
-    then part_length (length_told (elements_in (codes "content-length") response.fields)) (content_range_of response.fields)
-    else length_told (elements_in (codes "content-length") response.fields)
+    then part_length (content_length_of (elements_in (codes "content-length") response.fields)) (content_range_of response.fields)
+    else content_length_of (elements_in (codes "content-length") response.fields)
 
 -- the position at which the body begins
 abbrev pub base_of : Length → ℕ

@@ -70,15 +70,15 @@ without_part positions text =
     if bytes_eq positions (codes "*") then option_map Unsatisfied (number_of text) else None
 
 -- what stands before the slash, and the positions that it tells; the length stands behind it
-abbrev pub told_by : List ℕ → List ℕ → Option Asked → Option ContentRange
-told_by positions text (Some (FromTo first last)) = with_total first last (number_of text) text
-told_by positions text (Some (From first)) = None
-told_by positions text (Some (Last n)) = None
-told_by positions text None = without_part positions text
+abbrev pub content_range_from : List ℕ → List ℕ → Option Asked → Option ContentRange
+content_range_from positions text (Some (FromTo first last)) = with_total first last (number_of text) text
+content_range_from positions text (Some (From first)) = None
+content_range_from positions text (Some (Last n)) = None
+content_range_from positions text None = without_part positions text
 
 abbrev pub response_from : Option (List ℕ × List ℕ) → Option ContentRange
 response_from None = None
-response_from (Some (positions, text)) = told_by positions text (spec_in positions)
+response_from (Some (positions, text)) = content_range_from positions text (spec_in positions)
 
 -- range-resp or unsatisfied-range
 abbrev pub response_in : List ℕ → Option ContentRange

@@ -5,7 +5,7 @@ use Rattle.hc_fields.specs.FieldList.{values_of}
 use Rattle.hc_fields.specs.FirstValues.{has_field}
 use Rattle.hc_range.specs.declared.range.Asked.{Asked}
 use Rattle.hc_range.specs.declared.range.Span.{Span}
-use Rattle.hc_range.specs.Spans.{resolved}
+use Rattle.hc_range.specs.Spans.{resolved_span}
 use Rattle.hc_cachectl.specs.Directives.{of_request}
 use Rattle.hc_event.specs.declared.event.Request.{Request}
 use Rattle.hc_event.specs.declared.event.Load.{Load}
@@ -82,4 +82,4 @@ wanted_part (Some span) = wants.Interval span
 abbrev pub wanted_of : Option Asked → Option ℕ → Wanted
 wanted_of range None = wants.TotalUnknown
 wanted_of None (Some total) = wants.Interval (record { lo = 0; hi = total })
-wanted_of (Some asked) (Some total) = wanted_part (resolved asked total)
+wanted_of (Some asked) (Some total) = wanted_part (resolved_span asked total)

@@ -2,7 +2,7 @@
 ghost use Rattle.std.specs.Prelude.{◌≡◌, codes, IfSome};
 ghost use Rattle.hc_text.specs.Elements.{elements};
 ghost use Rattle.hc_fields.specs.FieldElements.{elements_in};
-ghost use Rattle.hc_rules.specs.Lengths.{length_of, length_told, part_length, has_no_body, base_of, promise_of, is_bad, IsPartInOrder};
+ghost use Rattle.hc_rules.specs.Lengths.{length_of, content_length_of, part_length, has_no_body, base_of, promise_of, is_bad, IsPartInOrder};
 ghost use Rattle.hc_rules.specs.RangeTexts.{number_of};
 ghost use Rattle.hc_rules.specs.LengthSoFar.{with_element, with_elements};
 
@@ -38,7 +38,7 @@ pub fn length_of(need: Need, request: &Request, response: &Response) -> Length
     if has_no_body(request, response.status) {
         return Length::Promised(0);
     }
-    let said = length_told(&response.fields);
+    let said = content_length_of(&response.fields);
     if response.status != 206 || route_of(need) == Route::Direct {
         return said;
     }
@@ -53,8 +53,8 @@ fn has_no_body(request: &Request, status: u16) -> bool
 }
 
 /// The number that all elements of all values of Content-Length are.
-fn length_told(fields: &Fields) -> Length
-    ensures { result ≡ length_told (elements_in (codes "content-length") fields.now) }
+fn content_length_of(fields: &Fields) -> Length
+    ensures { result ≡ content_length_of (elements_in (codes "content-length") fields.now) }
 {
     let mut length = Length::Unknown;
     for i in 0..fields.count(CONTENT_LENGTH) {

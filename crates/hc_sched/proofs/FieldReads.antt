@@ -6,7 +6,7 @@ use Rattle.std.proofs.lemmas.Bool.{and_parts, cases_eq, both_ways, and_from, not
 use Rattle.std.proofs.lemmas.List.Sums.{sum_by-append}
 use Rattle.http_header.specs.Token.{is_token_byte}
 use Rattle.hc_text.specs.Texts.{lacks}
-use Rattle.hc_fields.specs.FieldList.{IsField, size_of, put}
+use Rattle.hc_fields.specs.FieldList.{IsField, size_of, field_list_with}
 use Rattle.hc_fields.specs.Lines.{field_text, is_lower_byte}
 use Rattle.hc_fields.proofs.Ends.{IsField-last, IsFieldList-prefix, sorted-last, put-last}
 use Rattle.hc_fields.proofs.FieldTexts.{IsLine-field}
@@ -58,7 +58,7 @@ may_follow-last fs f h =
     let bytes = size-push fs f in
     let some = le-leb 1 (length f.0) (omega (arith, field.is_name.0)) in
     let short = le-leb (length f.1) 8192 field.is_short in
-    let small = le-leb (size_of fs + length f.0 + length f.1) 32768 (omega (arith, h.modest.small, bytes)) in
+    let small = le-leb (size_of fs + length f.0 + length f.1) 32768 (omega (arith, h.within_limits.small, bytes)) in
     rw (some, cut.0, field.is_value, short, small) (sorted-last fs f h.list.sorted)
 
 -- the line of a further field is read
@@ -66,7 +66,7 @@ pub field_of-line : (fs : List Pair) (f : Pair) → IsHead (fs ++ f ∷ []) → 
 unfolding field_of
 field_of-line fs f h = rw (named-line f (IsField-last fs f h.list), may_follow-last fs f h) refl
 
-pub put-head : (fs : List Pair) (f : Pair) → IsHead (fs ++ f ∷ []) → put f.0 f.1 fs ≡ fs ++ f ∷ []
+pub put-head : (fs : List Pair) (f : Pair) → IsHead (fs ++ f ∷ []) → field_list_with f.0 f.1 fs ≡ fs ++ f ∷ []
 put-head fs f h = put-last f.0 f.1 fs (sorted-last fs f h.list.sorted)
 
 pub IsHead-prefix : (fs gs : List Pair) → IsHead (fs ++ gs) → IsHead fs
@@ -74,12 +74,12 @@ IsHead-prefix fs gs h =
     let sizes = sum_by-append (λ (f : Pair). length f.0 + length f.1) fs gs in
     record {
       list = IsFieldList-prefix fs gs h.list;
-      modest = record {
-        few = omega (arith, h.modest.few, length-append fs gs);
-        small = omega (arith, h.modest.small, sizes);
+      within_limits = record {
+        few = omega (arith, h.within_limits.few, length-append fs gs);
+        small = omega (arith, h.within_limits.small, sizes);
       };
     }
 
 -- the line of a field of a head is short
 pub field-short : (fs : List Pair) (f : Pair) → IsHead (fs ++ f ∷ []) → length (line_of f) ≤ 140000
-field-short fs f h = omega (arith, h.modest.small, size-push fs f, length-append f.0 (58 ∷ 32 ∷ f.1))
+field-short fs f h = omega (arith, h.within_limits.small, size-push fs f, length-append f.0 (58 ∷ 32 ∷ f.1))

@@ -192,10 +192,10 @@ number-first f n h = ap (option_map f) (plain_of-decimal (decimal n) n (h, refl)
 pub first_of-line : (item : Item) → IsItem item → first_of (item_line item) ≡ Some (first_for item)
 first_of-line (Moment now) h = first_of-at (decimal now) ∙ number-first Sets now h
 first_of-line (Happens (event.Start c request)) h =
-    first_of-start _ ∙ start_of-is c request.method request.load request.key (length request.fields) h.0 h.1 (target-short request.key h.2) h.3.modest.few
+    first_of-start _ ∙ start_of-is c request.method request.load request.key (length request.fields) h.0 h.1 (target-short request.key h.2) h.3.within_limits.few
 first_of-line (Happens (event.Poll c want)) h = first_of-poll _ ∙ poll_of-is c want h.0 h.1
 first_of-line (Happens (event.Head x response)) h =
-    first_of-head _ ∙ head_of-is x response.status (length response.fields) h.0 h.1 h.2 h.3.modest.few
+    first_of-head _ ∙ head_of-is x response.status (length response.fields) h.0 h.1 h.2 h.3.within_limits.few
 first_of-line (Happens (event.Piece x bytes)) h = first_of-piece _ ∙ piece_of-is x bytes h.0 (record { short = h.1; small = h.2 })
 first_of-line (Happens (event.End x)) h = first_of-end (decimal x) ∙ number-first (λ n. Tells (event.End n)) x h
 first_of-line (Happens (event.Fault x)) h = first_of-fault (decimal x) ∙ number-first (λ n. Tells (event.Fault n)) x h
@@ -221,7 +221,7 @@ line-short (Happens (event.Start c request)) h =
     let method = method-short request.method h.1 in
     let kind = load-brief request.load in
     let target = target-short request.key h.2 in
-    let few : length request.fields ≤ 64 = h.3.modest.few in
+    let few : length request.fields ≤ 64 = h.3.within_limits.few in
     let count = decimal-line (length request.fields) (omega arith) in
     let rest2 = request.key ++ 32 ∷ decimal (length request.fields) in
     let rest1 = load_word request.load ++ 32 ∷ rest2 in
@@ -238,7 +238,7 @@ line-short (Happens (event.Poll c want)) h =
 line-short (Happens (event.Head x response)) h =
     let n = decimal-line x h.0 in
     let high : response.status ≤ 599 = h.2 in
-    let few : length response.fields ≤ 64 = h.3.modest.few in
+    let few : length response.fields ≤ 64 = h.3.within_limits.few in
     let status = decimal-line response.status (omega arith) in
     let count = decimal-line (length response.fields) (omega arith) in
     let rest = decimal response.status ++ 32 ∷ decimal (length response.fields) in

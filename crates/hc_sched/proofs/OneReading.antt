@@ -130,7 +130,7 @@ count_is (Happens (event.Cancel c)) = refl
 count_is (Happens (event.Doom key)) = refl
 
 no_fields : IsHead []
-no_fields = record { list = record { fields = λ k d lt. absurd (omega arith); sorted = refl; few = omega arith; small = omega arith }; modest = record { few = omega arith; small = omega arith } }
+no_fields = record { list = record { fields = λ k d lt. absurd (omega arith); sorted = refl; few = omega arith; small = omega arith }; within_limits = record { few = omega arith; small = omega arith } }
 
 fields_are : (item : Item) → IsItem item → IsHead (item_fields item)
 fields_are (Moment now) h = no_fields

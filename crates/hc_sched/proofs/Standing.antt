@@ -6,7 +6,7 @@ use Rattle.std.proofs.lemmas.Bool.{cases_Bool, cases_lt, cases_eq, eq-eqb, ne_eq
 use Rattle.std.proofs.lemmas.List.{append-nil}
 use Rattle.hc_text.specs.Texts.{IsSmall}
 use Rattle.hc_event.specs.declared.event.Event.TheVariants as event
-use Rattle.hc_fields.specs.FieldList.{put}
+use Rattle.hc_fields.specs.FieldList.{field_list_with}
 use Rattle.hc_fields.specs.Lines.{fields_text}
 use Rattle.hc_fields.proofs.Edits.{IsFieldList-put, length-put, size_of-put}
 use Rattle.hc_fields.proofs.Ends.{put-last}
@@ -151,11 +151,11 @@ module _ (start : ℕ) where
       elim (cases_eq count 0) [
         | inl zero ↦
             let event = event_of o [] in
-            let none : IsHead [] = record { list = record { fields = λ k d lt. absurd (omega arith); sorted = refl; few = omega arith; small = omega arith }; modest = record { few = omega arith; small = omega arith } } in
+            let none : IsHead [] = record { list = record { fields = λ k d lt. absurd (omega arith); sorted = refl; few = omega arith; small = omega arith }; within_limits = record { few = omega arith; small = omega arith } } in
             let line_is : item_line (Happens event) ≡ line = event_line-opening o [] ∙ (ap (opening_line o) (sym zero) ∙ same) in
             rw (eq-eqb count 0 zero) (one_item text line es p.moment (Happens event) h (IsEvent-opening o [] is none) (omega arith) line_is (fields_in-opening o []))
         | inr some ↦
-            let none : IsHead [] = record { list = record { fields = λ k d lt. absurd (omega arith); sorted = refl; few = omega arith; small = omega arith }; modest = record { few = omega arith; small = omega arith } } in
+            let none : IsHead [] = record { list = record { fields = λ k d lt. absurd (omega arith); sorted = refl; few = omega arith; small = omega arith }; within_limits = record { few = omega arith; small = omega arith } } in
             let stands : Stands start (text ++ 10 ∷ []) (es ++ []) p.moment (Some (record { opening = o; fields = []; missing = count; bytes = bytes + 1 })) [] = record {
               items = h.items;
               schedule = h.schedule;
@@ -204,8 +204,8 @@ module _ (start : ℕ) where
 -- a field line
 record IsNext (fields : List Pair) (line : List ℕ) (f : Pair) : Type 0 where
   line_is : line_of f ≡ line
-  put_is : put f.0 f.1 fields ≡ fields ++ f ∷ []
-  head : IsHead (put f.0 f.1 fields)
+  put_is : field_list_with f.0 f.1 fields ≡ fields ++ f ∷ []
+  head : IsHead (field_list_with f.0 f.1 fields)
 
 named-parts : (line : List ℕ) (f : Pair) → named line ≡ Some f → line_of f ≡ line
 unfolding named
@@ -229,7 +229,7 @@ field_of-parts fields line f head few h =
       put_is = put-last name value fields follows.order;
       head = record {
         list = IsFieldList-put name value fields head.list follows.is (omega arith) (omega (arith, follows.fits));
-        modest = record {
+        within_limits = record {
           few = omega (arith, length-put name value fields);
           small = omega (arith, follows.fits, size_of-put name value fields);
         };
@@ -247,7 +247,7 @@ module _ (start : ℕ) where
   next_step : (text line : List ℕ) (es : List Timed) (p : Place) (b : Begun) (bytes : ℕ) (f : Pair) → Stands start text es p.moment (Some b) line → IsNext b.fields line f
       → StepsTo start (text ++ 10 ∷ []) es (take_field p b bytes (Some f))
   next_step text line es p b bytes f h next =
-      let fields = put f.0 f.1 b.fields in
+      let fields = field_list_with f.0 f.1 b.fields in
       let more = length-put f.0 f.1 b.fields in
       elim (cases_eq b.missing 1) [
         | inl one ↦

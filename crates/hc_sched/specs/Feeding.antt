@@ -97,9 +97,9 @@ ending (Stopped refused) = Err (error.Refused refused)
 ending Spent = Err error.NoMemory
 
 -- where the reading stands then
-abbrev pub ended : Progress → Progress
-ended (Reads place line) =
+abbrev pub progress_at_end : Progress → Progress
+progress_at_end (Reads place line) =
     if is_between place line then Reads place line
     else Stopped (record { line = place.lines + 1; why = why.CutShort })
-ended (Stopped refused) = Stopped refused
-ended Spent = Spent
+progress_at_end (Stopped refused) = Stopped refused
+progress_at_end Spent = Spent

@@ -2,7 +2,7 @@
 use Rattle.std.specs.Prelude.{ℕ, ◌+◌, ◌-◌, ◌==◌, nat_lt, List, [], ◌∷◌, ◌++◌, length, Option, Some, None, if◌then◌else◌}
 use Rattle.hc_event.specs.declared.event.Event.{Event}
 use Rattle.hc_event.specs.declared.event.Event.TheVariants as event
-use Rattle.hc_fields.specs.FieldList.{put}
+use Rattle.hc_fields.specs.FieldList.{field_list_with}
 use Rattle.hc_sched.specs.declared.schedule.Refused.{Refused}
 use Rattle.hc_sched.specs.declared.schedule.SchedRefusal.{SchedRefusal}
 use Rattle.hc_sched.specs.declared.schedule.SchedRefusal.TheVariants as why
@@ -86,7 +86,7 @@ take_first p bytes (Some (Tells event)) = happen p event
 abbrev pub take_field : Place → Begun → ℕ → Option (List ℕ × List ℕ) → Step
 take_field p begun bytes None = refuse p why.BadLine
 take_field p begun bytes (Some field) =
-    let fields = put field.0 field.1 begun.fields in
+    let fields = field_list_with field.0 field.1 begun.fields in
     if begun.missing == 1 then happen p (event_of begun.opening fields)
     else pass p p.moment (Some (record {
       opening = begun.opening;

@@ -5,7 +5,7 @@ use Rattle.hc_event.specs.declared.event.Event.{Event}
 use Rattle.hc_event.specs.declared.event.Event.TheVariants as event
 use Rattle.hc_event.specs.declared.event.Load.{Load}
 use Rattle.hc_event.specs.declared.event.Load.TheVariants as load
-use Rattle.hc_fields.specs.FieldList.{IsFieldList, IsModest}
+use Rattle.hc_fields.specs.FieldList.{IsFieldList, IsWithinLimits}
 use Rattle.hc_sched.specs.declared.schedule.Timed.{Timed}
 use Rattle.hc_sched.specs.FirstLines.{is_method}
 use Rattle.hc_sched.specs.Pieces.{piece_text}
@@ -67,7 +67,7 @@ text_of (item ∷ items) = item_text item ++ text_of items
 -- fields as they may come from outside
 pub record IsHead (fields : List (List ℕ × List ℕ)) : Type 0 where
   pub list : IsFieldList fields
-  pub modest : IsModest fields
+  pub within_limits : IsWithinLimits fields
 
 -- the events that have a spelling
 abbrev pub IsEvent : Event → Type 0

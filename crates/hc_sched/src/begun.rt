@@ -1,6 +1,6 @@
 //! An item whose field lines are still to come.
 ghost use Rattle.std.specs.Prelude.{◌≡◌, ◌+◌, ◌<◌, ◌≤◌, length, OnOk, true};
-ghost use Rattle.hc_fields.specs.FieldList.{put, size_of};
+ghost use Rattle.hc_fields.specs.FieldList.{field_list_with, size_of};
 ghost use Rattle.hc_sched.specs.FieldLines.{may_follow};
 
 use hc_event::{Event, Load, Request, Response};
@@ -69,7 +69,7 @@ pub(crate) struct Begun {
 pub(crate) fn add_field(fields: &mut Fields, name: &[u8], value: &[u8]) -> Result<(), NoMemory>
     requires follows { may_follow fields.old (name.now, value.now) ≡ true }
     requires few { length fields.old < 64 }
-    ensures ok { OnOk result (fields.new ≡ put name.now value.now fields.old) }
+    ensures ok { OnOk result (fields.new ≡ field_list_with name.now value.now fields.old) }
     ensures count { OnOk result (length fields.new ≡ length fields.old + 1) }
     ensures size { OnOk result (size_of fields.new
         ≡ size_of fields.old + (length name.now + length value.now)) }

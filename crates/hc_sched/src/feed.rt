@@ -28,7 +28,7 @@ impl Model for Feed {
 }
 
 impl Feed {
-    ghost use Rattle.hc_sched.specs.Feeding.{beginning, lines_in, held_in, Feeds, StandsAt, AnswersAgain, ending, ended, stopped_by};
+    ghost use Rattle.hc_sched.specs.Feeding.{beginning, lines_in, held_in, Feeds, StandsAt, AnswersAgain, ending, progress_at_end, stopped_by};
 
     /// A feed at the beginning of a text, at moment 0.
     pub fn new(alloc: Global) -> Feed
@@ -74,7 +74,7 @@ impl Feed {
     pub fn finish(&mut self) -> Result<(), FeedError>
         requires { lines_in self.old ≤ 2 ^ 60 }
         ensures value { result ≡ ending self.old }
-        ensures stands { self.new ≡ ended self.old }
+        ensures stands { self.new ≡ progress_at_end self.old }
     {
         if let Some(e) = self.error {
             return Err(e);

@@ -43,9 +43,9 @@ abbrev pub IsBelow : {S : Type 0} → ℕ → HashMap ℕ Socket S → Type 0
 IsBelow next sockets = (k : ℕ) → life sockets k ≡ Open → k < next
 
 -- no event is a quiet one
-abbrev pub answered : Option WireEvent → WireEvent
-answered None = event.Quiet
-answered (Some e) = e
+abbrev pub event_or_quiet : Option WireEvent → WireEvent
+event_or_quiet None = event.Quiet
+event_or_quiet (Some e) = e
 
 -- who is accepted is open
 abbrev pub accepts : Accept → ℕ → (ℕ → Stage) → ℕ → Stage

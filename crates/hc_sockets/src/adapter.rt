@@ -2,7 +2,7 @@
 ghost use Rattle.std.specs.Prelude.{◌≡◌, ◌+◌, ◌<◌, ◌≤◌, ◌^◌, ℕ, Some, None, length, IfOk, IfSome, OnErr};
 ghost use Rattle.hc_wire.specs.Events.{Open, IsOfOpen, FitsIn, stages_after, with_stage};
 ghost use Rattle.hc_wire.specs.Wires.{HasRisen};
-ghost use Rattle.hc_sockets.specs.Sockets.{stage_at, life, answered, IsBelow, accepts};
+ghost use Rattle.hc_sockets.specs.Sockets.{stage_at, life, event_or_quiet, IsBelow, accepts};
 
 use crate::socket::Socket;
 use crate::table::Table;
@@ -104,7 +104,7 @@ impl<R: Net + Clock + AllocGlobal + Drop> MioWire<R> {
             (λ e. IsOfOpen e (stage_at self.old.next self.old.table.sockets))) }
         ensures fits { IfOk result (λ o. IfSome o (λ e. FitsIn e (length into.old))) }
         ensures stages { IfOk result (λ o. (k : ℕ) → stage_at self.new.next self.new.table.sockets k
-            ≡ stages_after (answered o) (stage_at self.old.next self.old.table.sockets) k) }
+            ≡ stages_after (event_or_quiet o) (stage_at self.old.next self.old.table.sockets) k) }
         ensures err { OnErr result ((k : ℕ) → stage_at self.new.next self.new.table.sockets k
             ≡ stage_at self.old.next self.old.table.sockets k) }
         ensures handed { self.new.handed ≡ self.old.handed }

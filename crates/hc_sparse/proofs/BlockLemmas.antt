@@ -8,8 +8,8 @@ use Rattle.std.specs.Prelude.{slice_range, Result, Ok, Err, OnOk, OnErr}
 use Rattle.hc_sparse.proofs.SizeLemmas.{size-put, size-same}
 use Rattle.std.specs.Ordering.{nat_cmp}
 use Rattle.std.specs.BTreeMap.{BTreeMap, get}
-use Rattle.hc_sparse.specs.Cells.{written, AreAbsent, size}
-use Rattle.hc_sparse.specs.Extents.{Mark, Marks, mark, claimed, end_of, AreFree, IsExtentFrom}
+use Rattle.hc_sparse.specs.Cells.{cells_with, AreAbsent, size}
+use Rattle.hc_sparse.specs.Extents.{Mark, Marks, mark, claimed_marks, end_of, AreFree, IsExtentFrom}
 use Rattle.hc_sparse.specs.Stretch.{IsPart}
 use Rattle.hc_sparse.specs.declared.extents.Extent.{Extent}
 use Rattle.hc_sparse.specs.Blocks.{marks_in}
@@ -54,8 +54,8 @@ kept-cell bytes piece None within = refl
 kept-cell bytes piece (Some mark) within = let lt : mark.place < length bytes = ltb-true mark.place (length bytes) within in rw (get_or_append_left bytes piece 0 mark.place lt) refl
 
 -- Positions are given to an exchange, whose bytes come behind all others: they are put.
-pub put-cells : (f g : Marks) (bytes piece : List ℕ) (at x : ℕ) → AreWithin f (length bytes) → ((q : ℕ) → g q ≡ claimed at (length piece) x (length bytes) f q)
-    → (q : ℕ) → cells_by g (bytes ++ piece) q ≡ written at x piece (cells_by f bytes) q
+pub put-cells : (f g : Marks) (bytes piece : List ℕ) (at x : ℕ) → AreWithin f (length bytes) → ((q : ℕ) → g q ≡ claimed_marks at (length piece) x (length bytes) f q)
+    → (q : ℕ) → cells_by g (bytes ++ piece) q ≡ cells_with at x piece (cells_by f bytes) q
 put-cells f g bytes piece at x within own q =
     let mine = own q in
     elim (inside-cases at (length piece) q) [
@@ -67,7 +67,7 @@ more-within : (n k : ℕ) (o : Option Mark) → n ≤ k → is_within n o ≡ tr
 more-within n k None le within = refl
 more-within n k (Some mark) le within = let lt : mark.place < n = ltb-true mark.place n within in lt-ltb mark.place k (omega arith)
 
-pub put-within : (f g : Marks) (at len x count : ℕ) → AreWithin f count → ((q : ℕ) → g q ≡ claimed at len x count f q) → AreWithin g (count + len)
+pub put-within : (f g : Marks) (at len x count : ℕ) → AreWithin f count → ((q : ℕ) → g q ≡ claimed_marks at len x count f q) → AreWithin g (count + len)
 put-within f g at len x count within own q =
     let mine = own q in
     elim (inside-cases at len q) [
@@ -131,7 +131,7 @@ pub record IsKept (f : Marks) (bytes : List ℕ) : Type 0 where
   pub counts : length bytes ≡ size (cells_by f bytes)
 
 pub put-kept : {T E : Type 0} (r : Result T E) (f g : Marks) (bytes more piece : List ℕ) (at x : ℕ) → IsKept f bytes → AreAbsent (cells_by f bytes) at (at + length piece) → at + length piece ≤ 2 ^ 62
-    → OnOk r ((q : ℕ) → g q ≡ claimed at (length piece) x (length bytes) f q) → OnOk r (more ≡ bytes ++ piece) → OnErr r ((q : ℕ) → g q ≡ f q) → OnErr r (more ≡ bytes) → IsKept g more
+    → OnOk r ((q : ℕ) → g q ≡ claimed_marks at (length piece) x (length bytes) f q) → OnOk r (more ≡ bytes ++ piece) → OnErr r ((q : ℕ) → g q ≡ f q) → OnErr r (more ≡ bytes) → IsKept g more
 put-kept (Ok v) f g bytes more piece at x kept absent end own longer same unchanged =
     let len : length more ≡ length bytes + length piece = ap length longer ∙ length-append bytes piece in
     record {

@@ -2,7 +2,7 @@
 use Rattle.std.proofs.Common.{◌≡◌, ◌⊎◌, ℕ, ◌+◌, ◌<◌, ◌≤◌, true, false, arith, List, ◌++◌, length, inl, inr, refl, ◌-◌, length-append}
 use Rattle.std.proofs.lemmas.List.{get_or_append_left, get_or-append-add}
 use Rattle.std.proofs.lemmas.Bool.Decides.{nat_tests}
-use Rattle.hc_sparse.specs.Cells.{Cells, written, inside}
+use Rattle.hc_sparse.specs.Cells.{Cells, cells_with, inside}
 
 pub inside-yes : (at n p : ℕ) → at ≤ p → p < at + n → inside at n p ≡ true
 inside-yes at n p a b = grind (arith, nat_tests)
@@ -17,7 +17,7 @@ pub inside-cases : (at n p : ℕ) → ((inside at n p ≡ true) × (at ≤ p) ×
 inside-cases at n p = grind (arith, nat_tests)
 
 -- Bytes written one after another are written at once.
-pub written-append : (at x : ℕ) (bytes more : List ℕ) (f : Cells) (p : ℕ) → written at x (bytes ++ more) f p ≡ written (at + length bytes) x more (written at x bytes f) p
+pub written-append : (at x : ℕ) (bytes more : List ℕ) (f : Cells) (p : ℕ) → cells_with at x (bytes ++ more) f p ≡ cells_with (at + length bytes) x more (cells_with at x bytes f) p
 written-append at x bytes more f p =
     let len = length-append bytes more in
     elim (inside-cases at (length bytes) p) [

@@ -4,7 +4,7 @@ use Rattle.std.specs.Prelude.{Result, Ok, Err, IsOk, is_ok}
 use Rattle.std.proofs.lemmas.Bool.Decides.{nat_tests}
 use Rattle.std.specs.List.{insert}
 use Rattle.hc_sparse.specs.Cells.{inside}
-use Rattle.hc_sparse.specs.Extents.{Mark, Marks, mark, marks_of, ascend, place_of, end_of, lengthened, claimed, AreFree}
+use Rattle.hc_sparse.specs.Extents.{Mark, Marks, mark, marks_of, ascend, place_of, end_of, longer_extent, claimed_marks, AreFree}
 use Rattle.hc_sparse.specs.declared.extents.Extent.{Extent}
 use Rattle.hc_sparse.proofs.CellLemmas.{inside-yes, inside-before, inside-past, inside-cases}
 use Rattle.hc_sparse.proofs.RunLemmas.{le_cases}
@@ -27,7 +27,7 @@ two-claims false true v w o same = refl
 two-claims false false v w o same = refl
 
 -- Claims of offsets of which none are the same may change places.
-claimed-claimed : (e : Extent) (at len x from : ℕ) (f : Marks) → end_of e ≤ at → (p : ℕ) → claimed e.at e.len e.x e.from (claimed at len x from f) p ≡ claimed at len x from (claimed e.at e.len e.x e.from f) p
+claimed-claimed : (e : Extent) (at len x from : ℕ) (f : Marks) → end_of e ≤ at → (p : ℕ) → claimed_marks e.at e.len e.x e.from (claimed_marks at len x from f) p ≡ claimed_marks at len x from (claimed_marks e.at e.len e.x e.from f) p
 claimed-claimed e at len x from f past p =
     two-claims (inside e.at e.len p) (inside at len p) (Some (mark e.x e.from e.at p)) (Some (mark x from at p)) (f p)
     (λ a b. elim (inside-cases e.at e.len p) [
@@ -36,7 +36,7 @@ claimed-claimed e at len x from f past p =
     ])
 
 -- Claims of offsets one after another, whose bytes stand one after another, are one claim.
-pub claimed-append : (at len more x from : ℕ) (f : Marks) (p : ℕ) → claimed at (len + more) x from f p ≡ claimed (at + len) more x (from + len) (claimed at len x from f) p
+pub claimed-append : (at len more x from : ℕ) (f : Marks) (p : ℕ) → claimed_marks at (len + more) x from f p ≡ claimed_marks (at + len) more x (from + len) (claimed_marks at len x from f) p
 claimed-append at len more x from f p =
     elim (inside-cases at len p) [
       | inl here ↦ rw (here.0, inside-yes at (len + more) p (omega arith) (omega arith), inside-before (at + len) more p (omega arith)) refl
@@ -60,7 +60,7 @@ insert-more new e es k = rw (add-one k) refl
 absent-behind : (e : Extent) (es : List Extent) (lo hi : ℕ) → end_of e ≤ lo → AreFree (marks_of (e ∷ es)) lo hi → AreFree (marks_of es) lo hi
 absent-behind e es lo hi past absent p le lt = rw (inside-past e.at (e.len) p (omega arith)) at (absent p le lt)
 
-marks-inserted : (n : ℕ) (new : Extent) (es : List Extent) → ascend n es ≡ true → AreFree (marks_of es) new.at (end_of new) → (p : ℕ) → marks_of (insert es (place_of new.at es) new) p ≡ claimed new.at new.len new.x new.from (marks_of es) p
+marks-inserted : (n : ℕ) (new : Extent) (es : List Extent) → ascend n es ≡ true → AreFree (marks_of es) new.at (end_of new) → (p : ℕ) → marks_of (insert es (place_of new.at es) new) p ≡ claimed_marks new.at new.len new.x new.from (marks_of es) p
 marks-inserted n new [] asc absent p = refl
 marks-inserted n new (e ∷ es) asc absent p =
     let parts = ascend-cons n e es asc in
@@ -87,7 +87,7 @@ ascend-inserted n new (e ∷ es) asc absent some from end =
           (ascend-with n e (insert es (place_of new.at es) new) parts.0 parts.1 (ascend-inserted (end_of e) new es parts.2 (absent-behind e es new.at (end_of new) by.1 absent) some by.1 end))
     ]
 
-marks-lengthened : (n i : ℕ) (es : List Extent) (d : Extent) (more : ℕ) → ascend n es ≡ true → i < length es → AreFree (marks_of es) (end_of (get_or es i d)) (end_of (get_or es i d) + more) → (p : ℕ) → marks_of (set es i (lengthened (get_or es i d) more)) p ≡ claimed (end_of (get_or es i d)) more (get_or es i d).x ((get_or es i d).from + (get_or es i d).len) (marks_of es) p
+marks-lengthened : (n i : ℕ) (es : List Extent) (d : Extent) (more : ℕ) → ascend n es ≡ true → i < length es → AreFree (marks_of es) (end_of (get_or es i d)) (end_of (get_or es i d) + more) → (p : ℕ) → marks_of (set es i (longer_extent (get_or es i d) more)) p ≡ claimed_marks (end_of (get_or es i d)) more (get_or es i d).x ((get_or es i d).from + (get_or es i d).len) (marks_of es) p
 marks-lengthened n i [] d more asc lt absent p = absurd (omega arith)
 marks-lengthened n zero (e ∷ es) d more asc lt absent p = claimed-append e.at e.len more e.x e.from (marks_of es) p
 marks-lengthened n (suc i) (e ∷ es) d more asc lt absent p =
@@ -97,16 +97,16 @@ marks-lengthened n (suc i) (e ∷ es) d more asc lt absent p =
     let rest = marks-lengthened (end_of e) i es d more parts.2 (omega arith) (absent-behind e es (end_of (get_or es i d)) (end_of (get_or es i d) + more) past absent) p in
     rw rest (claimed-claimed e (end_of (get_or es i d)) more (get_or es i d).x ((get_or es i d).from + (get_or es i d).len) (marks_of es) past p)
 
-ascend-lengthened : (n i : ℕ) (es : List Extent) (d : Extent) (more : ℕ) → ascend n es ≡ true → i < length es → AreFree (marks_of es) (end_of (get_or es i d)) (end_of (get_or es i d) + more) → end_of (get_or es i d) + more ≤ 4096 → ascend n (set es i (lengthened (get_or es i d) more)) ≡ true
+ascend-lengthened : (n i : ℕ) (es : List Extent) (d : Extent) (more : ℕ) → ascend n es ≡ true → i < length es → AreFree (marks_of es) (end_of (get_or es i d)) (end_of (get_or es i d) + more) → end_of (get_or es i d) + more ≤ 4096 → ascend n (set es i (longer_extent (get_or es i d) more)) ≡ true
 ascend-lengthened n i [] d more asc lt absent end = absurd (omega arith)
 ascend-lengthened n zero (e ∷ es) d more asc lt absent end =
     let parts = ascend-cons n e es asc in
-    let ends : end_of (lengthened e more) ≡ end_of e + more = omega arith in
-    ascend-with n (lengthened e more) es parts.0 (omega arith) (rw ends (ascend-past (end_of e) (end_of e + more) es parts.2 (absent-behind e es (end_of e) (end_of e + more) (omega arith) absent) end))
+    let ends : end_of (longer_extent e more) ≡ end_of e + more = omega arith in
+    ascend-with n (longer_extent e more) es parts.0 (omega arith) (rw ends (ascend-past (end_of e) (end_of e + more) es parts.2 (absent-behind e es (end_of e) (end_of e + more) (omega arith) absent) end))
 ascend-lengthened n (suc i) (e ∷ es) d more asc lt absent end =
     let parts = ascend-cons n e es asc in
     let from = at-from (end_of e) es i d parts.2 (omega arith) in
-    ascend-with n e (set es i (lengthened (get_or es i d) more)) parts.0 parts.1 (ascend-lengthened (end_of e) i es d more parts.2 (omega arith) (absent-behind e es (end_of (get_or es i d)) (end_of (get_or es i d) + more) (omega arith) absent) end)
+    ascend-with n e (set es i (longer_extent (get_or es i d) more)) parts.0 parts.1 (ascend-lengthened (end_of e) i es d more parts.2 (omega arith) (absent-behind e es (end_of (get_or es i d)) (end_of (get_or es i d) + more) (omega arith) absent) end)
 
 same-at : (es : List Extent) (i : ℕ) (e s : Extent) → i < length es → e ≡ get_or es i e → s ≡ get_or es i s → e ≡ s
 same-at [] i e s lt a b = absurd (omega arith)
@@ -116,7 +116,7 @@ same-at (t ∷ es) (suc i) e s lt a b = same-at es i e s (omega arith) a b
 -- What a claim leaves: the extents ascend, and have the offsets.
 pub record IsClaimed (es ss : List Extent) (at len x from : ℕ) : Type 0 where
   pub ascends : ascend 0 ss ≡ true
-  pub marks : (p : ℕ) → marks_of ss p ≡ claimed at len x from (marks_of es) p
+  pub marks : (p : ℕ) → marks_of ss p ≡ claimed_marks at len x from (marks_of es) p
 
 pub claim-inserted : (es ss : List Extent) (new : Extent) (place : ℕ) → ascend 0 es ≡ true → AreFree (marks_of es) new.at (end_of new) → 0 < new.len → end_of new ≤ 4096 → place ≡ place_of new.at es → ss ≡ insert es place new → IsClaimed es ss new.at new.len new.x new.from
 claim-inserted es ss new place asc absent some end there is =
@@ -126,10 +126,10 @@ claim-inserted es ss new place asc absent some end there is =
       marks = λ p. ap (λ ts. marks_of ts p) at-place ∙ marks-inserted 0 new es asc absent p;
     }
 
-pub claim-lengthened : (es ss : List Extent) (i : ℕ) (e s : Extent) (at x from : ℕ) (more : ℕ) → ascend 0 es ≡ true → i < length es → e ≡ get_or es i e → s ≡ get_or es i s → s.x ≡ x → end_of s ≡ at → s.from + s.len ≡ from → AreFree (marks_of es) at (at + more) → at + more ≤ 4096 → ss ≡ set es i (lengthened e more) → IsClaimed es ss at more x from
+pub claim-lengthened : (es ss : List Extent) (i : ℕ) (e s : Extent) (at x from : ℕ) (more : ℕ) → ascend 0 es ≡ true → i < length es → e ≡ get_or es i e → s ≡ get_or es i s → s.x ≡ x → end_of s ≡ at → s.from + s.len ≡ from → AreFree (marks_of es) at (at + more) → at + more ≤ 4096 → ss ≡ set es i (longer_extent e more) → IsClaimed es ss at more x from
 claim-lengthened es ss i e s at x from more asc lt e-is s-is of_x ends behind absent end is =
     let same : get_or es i e ≡ s = sym e-is ∙ same-at es i e s lt e-is s-is in
-    let longer : ss ≡ set es i (lengthened (get_or es i e) more) = is ∙ ap (λ t. set es i (lengthened t more)) e-is in
+    let longer : ss ≡ set es i (longer_extent (get_or es i e) more) = is ∙ ap (λ t. set es i (longer_extent t more)) e-is in
     let at-end : end_of (get_or es i e) ≡ at = ap end_of same ∙ ends in
     let with-x : (get_or es i e).x ≡ x = ap (λ (t : Extent). t.x) same ∙ of_x in
     let stands : (get_or es i e).from + (get_or es i e).len ≡ from = ap (λ (t : Extent). t.from + t.len) same ∙ behind in

@@ -3,7 +3,7 @@ use Rattle.std.proofs.Common.{◌≡◌, inl, inr, ℕ, zero, suc, ◌+◌, ◌<
 use Rattle.std.proofs.Math.Seq.{take-suc}
 use Rattle.std.specs.Prelude.{is_some, not, ◌&&◌, nat_le, Result, Ok, Err, OnErr}
 use Rattle.hc_sparse.specs.Cells.{Cells, Cell, AreAbsent, IsNext}
-use Rattle.hc_sparse.specs.Ops.{are_absent, after, made, IsAnswer, AreAnswers, HasAnswered}
+use Rattle.hc_sparse.specs.Ops.{are_absent, after, cells_after, IsAnswer, AreAnswers, HasAnswered}
 use Rattle.hc_sparse.specs.declared.ops.SparseOp.{SparseOp}
 use Rattle.hc_sparse.specs.declared.ops.SparseAnswer.{SparseAnswer}
 use Rattle.hc_sparse.proofs.CellLemmas.{split}
@@ -49,11 +49,11 @@ pub on_err : {T E : Type 0} {P : Type 0} (r : Result T E) → P → OnErr r P
 on_err (Ok v) p = tt
 on_err (Err e) p = p
 
-made-append : (f : Cells) (os more : List SparseOp) → made f (os ++ more) ≡ made (made f os) more
+made-append : (f : Cells) (os more : List SparseOp) → cells_after f (os ++ more) ≡ cells_after (cells_after f os) more
 made-append f [] more = refl
 made-append f (o ∷ os) more = made-append (after o f) os more
 
-answers-append : (f : Cells) (os : List SparseOp) (rest : List SparseAnswer) (o : SparseOp) (a : SparseAnswer) → AreAnswers f os rest → IsAnswer (made f os) o a → AreAnswers f (os ++ o ∷ []) (rest ++ a ∷ [])
+answers-append : (f : Cells) (os : List SparseOp) (rest : List SparseAnswer) (o : SparseOp) (a : SparseAnswer) → AreAnswers f os rest → IsAnswer (cells_after f os) o a → AreAnswers f (os ++ o ∷ []) (rest ++ a ∷ [])
 answers-append f [] [] o a are is = (is, tt)
 answers-append f [] (b ∷ rest) o a are is = absurd are
 answers-append f (p ∷ os) [] o a are is = absurd are
@@ -62,7 +62,7 @@ answers-append f (p ∷ os) (b ∷ rest) o a are is = (are.0, answers-append (af
 pub one-more : (os : List SparseOp) (i : ℕ) (o : SparseOp) → i < length os → o ≡ get_or os i o → take (i + 1) os ≡ take i os ++ o ∷ []
 one-more os i o lt is = rw (add-one i) (take-suc os i o lt ∙ ap (λ p. take i os ++ p ∷ []) (sym is))
 
-pub made-more : (f g h : Cells) (os : List SparseOp) (o : SparseOp) → g ≡ made f os → h ≡ after o g → h ≡ made f (os ++ o ∷ [])
+pub made-more : (f g h : Cells) (os : List SparseOp) (o : SparseOp) → g ≡ cells_after f os → h ≡ after o g → h ≡ cells_after f (os ++ o ∷ [])
 made-more f g h os o has makes = makes ∙ (ap (after o) has ∙ sym (made-append f os (o ∷ [])))
 
 -- One operation more.

@@ -2,8 +2,8 @@
 use Rattle.std.proofs.Common.{◌≡◌, inl, inr, ℕ, zero, suc, ◌+◌, ◌-◌, ◌<◌, ◌≤◌, ◌^◌, List, [], ◌∷◌, length, Bool, true, false, cond, Option, Some, None, refl, sym, ap, ◌∙◌, arith, add-one, get_or, length-append, set}
 use Rattle.std.proofs.lemmas.Bool.Decides.{nat_tests}
 use Rattle.std.specs.List.{insert}
-use Rattle.hc_sparse.specs.Cells.{Cells, Cell, written, inside, AreAbsent}
-use Rattle.hc_sparse.specs.Runs.{cells_of, cell_in, ascend, place_of, end_of, lengthened}
+use Rattle.hc_sparse.specs.Cells.{Cells, Cell, cells_with, inside, AreAbsent}
+use Rattle.hc_sparse.specs.Runs.{cells_of, cell_in, ascend, place_of, end_of, longer_run}
 use Rattle.hc_sparse.specs.declared.run.Run.{Run}
 use Rattle.hc_sparse.proofs.CellLemmas.{inside-yes, inside-past, inside-cases, written-append}
 use Rattle.hc_sparse.proofs.RunLemmas.{ascend-cons, ascend-with, at-from, le_cases}
@@ -25,7 +25,7 @@ two-writes false true v w o same = refl
 two-writes false false v w o same = refl
 
 -- Writes at positions of which none are the same may change places.
-written-written : (r : Run) (at x : ℕ) (bytes : List ℕ) (f : Cells) → end_of r ≤ at → (p : ℕ) → written r.at r.x r.bytes (written at x bytes f) p ≡ written at x bytes (written r.at r.x r.bytes f) p
+written-written : (r : Run) (at x : ℕ) (bytes : List ℕ) (f : Cells) → end_of r ≤ at → (p : ℕ) → cells_with r.at r.x r.bytes (cells_with at x bytes f) p ≡ cells_with at x bytes (cells_with r.at r.x r.bytes f) p
 written-written r at x bytes f past p =
     two-writes (inside r.at (length r.bytes) p) (inside at (length bytes) p) (cell_in r p) (Some (record { byte = get_or bytes (p - at) 0; x = x })) (f p)
     (λ a b. elim (inside-cases r.at (length r.bytes) p) [
@@ -40,7 +40,7 @@ insert-more new r rs k = rw (add-one k) refl
 absent-behind : (r : Run) (rs : List Run) (lo hi : ℕ) → end_of r ≤ lo → AreAbsent (cells_of (r ∷ rs)) lo hi → AreAbsent (cells_of rs) lo hi
 absent-behind r rs lo hi past absent p le lt = rw (inside-past r.at (length r.bytes) p (omega arith)) at (absent p le lt)
 
-cells-inserted : (n : ℕ) (new : Run) (rs : List Run) → ascend n rs ≡ true → AreAbsent (cells_of rs) new.at (end_of new) → (p : ℕ) → cells_of (insert rs (place_of new.at rs) new) p ≡ written new.at new.x new.bytes (cells_of rs) p
+cells-inserted : (n : ℕ) (new : Run) (rs : List Run) → ascend n rs ≡ true → AreAbsent (cells_of rs) new.at (end_of new) → (p : ℕ) → cells_of (insert rs (place_of new.at rs) new) p ≡ cells_with new.at new.x new.bytes (cells_of rs) p
 cells-inserted n new [] asc absent p = refl
 cells-inserted n new (r ∷ rs) asc absent p =
     let parts = ascend-cons n r rs asc in
@@ -67,7 +67,7 @@ ascend-inserted n new (r ∷ rs) asc absent some from end =
           (ascend-with n r (insert rs (place_of new.at rs) new) parts.0 parts.1 (ascend-inserted (end_of r) new rs parts.2 (absent-behind r rs new.at (end_of new) by.1 absent) some by.1 end))
     ]
 
-cells-lengthened : (n i : ℕ) (rs : List Run) (d : Run) (more : List ℕ) → ascend n rs ≡ true → i < length rs → AreAbsent (cells_of rs) (end_of (get_or rs i d)) (end_of (get_or rs i d) + length more) → (p : ℕ) → cells_of (set rs i (lengthened (get_or rs i d) more)) p ≡ written (end_of (get_or rs i d)) (get_or rs i d).x more (cells_of rs) p
+cells-lengthened : (n i : ℕ) (rs : List Run) (d : Run) (more : List ℕ) → ascend n rs ≡ true → i < length rs → AreAbsent (cells_of rs) (end_of (get_or rs i d)) (end_of (get_or rs i d) + length more) → (p : ℕ) → cells_of (set rs i (longer_run (get_or rs i d) more)) p ≡ cells_with (end_of (get_or rs i d)) (get_or rs i d).x more (cells_of rs) p
 cells-lengthened n i [] d more asc lt absent p = absurd (omega arith)
 cells-lengthened n zero (r ∷ rs) d more asc lt absent p = written-append r.at r.x r.bytes more (cells_of rs) p
 cells-lengthened n (suc i) (r ∷ rs) d more asc lt absent p =
@@ -77,17 +77,17 @@ cells-lengthened n (suc i) (r ∷ rs) d more asc lt absent p =
     let rest = cells-lengthened (end_of r) i rs d more parts.2 (omega arith) (absent-behind r rs (end_of (get_or rs i d)) (end_of (get_or rs i d) + length more) past absent) p in
     rw rest (written-written r (end_of (get_or rs i d)) (get_or rs i d).x more (cells_of rs) past p)
 
-ascend-lengthened : (n i : ℕ) (rs : List Run) (d : Run) (more : List ℕ) → ascend n rs ≡ true → i < length rs → AreAbsent (cells_of rs) (end_of (get_or rs i d)) (end_of (get_or rs i d) + length more) → end_of (get_or rs i d) + length more ≤ 2 ^ 62 → ascend n (set rs i (lengthened (get_or rs i d) more)) ≡ true
+ascend-lengthened : (n i : ℕ) (rs : List Run) (d : Run) (more : List ℕ) → ascend n rs ≡ true → i < length rs → AreAbsent (cells_of rs) (end_of (get_or rs i d)) (end_of (get_or rs i d) + length more) → end_of (get_or rs i d) + length more ≤ 2 ^ 62 → ascend n (set rs i (longer_run (get_or rs i d) more)) ≡ true
 ascend-lengthened n i [] d more asc lt absent end = absurd (omega arith)
 ascend-lengthened n zero (r ∷ rs) d more asc lt absent end =
     let parts = ascend-cons n r rs asc in
     let len = length-append r.bytes more in
-    let ends : end_of (lengthened r more) ≡ end_of r + length more = omega arith in
-    ascend-with n (lengthened r more) rs parts.0 (omega arith) (rw ends (ascend-past (end_of r) (end_of r + length more) rs parts.2 (absent-behind r rs (end_of r) (end_of r + length more) (omega arith) absent) end))
+    let ends : end_of (longer_run r more) ≡ end_of r + length more = omega arith in
+    ascend-with n (longer_run r more) rs parts.0 (omega arith) (rw ends (ascend-past (end_of r) (end_of r + length more) rs parts.2 (absent-behind r rs (end_of r) (end_of r + length more) (omega arith) absent) end))
 ascend-lengthened n (suc i) (r ∷ rs) d more asc lt absent end =
     let parts = ascend-cons n r rs asc in
     let from = at-from (end_of r) rs i d parts.2 (omega arith) in
-    ascend-with n r (set rs i (lengthened (get_or rs i d) more)) parts.0 parts.1 (ascend-lengthened (end_of r) i rs d more parts.2 (omega arith) (absent-behind r rs (end_of (get_or rs i d)) (end_of (get_or rs i d) + length more) (omega arith) absent) end)
+    ascend-with n r (set rs i (longer_run (get_or rs i d) more)) parts.0 parts.1 (ascend-lengthened (end_of r) i rs d more parts.2 (omega arith) (absent-behind r rs (end_of (get_or rs i d)) (end_of (get_or rs i d) + length more) (omega arith) absent) end)
 
 same-at : (rs : List Run) (i : ℕ) (r s : Run) → i < length rs → r ≡ get_or rs i r → s ≡ get_or rs i s → r ≡ s
 same-at [] i r s lt a b = absurd (omega arith)
@@ -97,7 +97,7 @@ same-at (t ∷ rs) (suc i) r s lt a b = same-at rs i r s (omega arith) a b
 -- What a put leaves: the runs ascend, and have the bytes.
 pub record IsPut (rs ss : List Run) (at x : ℕ) (bytes : List ℕ) : Type 0 where
   pub ascends : ascend 0 ss ≡ true
-  pub cells : (p : ℕ) → cells_of ss p ≡ written at x bytes (cells_of rs) p
+  pub cells : (p : ℕ) → cells_of ss p ≡ cells_with at x bytes (cells_of rs) p
 
 pub put-inserted : (rs ss : List Run) (new : Run) (place : ℕ) → ascend 0 rs ≡ true → AreAbsent (cells_of rs) new.at (end_of new) → 0 < length new.bytes → end_of new ≤ 2 ^ 62 → place ≡ place_of new.at rs → ss ≡ insert rs place new → IsPut rs ss new.at new.x new.bytes
 put-inserted rs ss new place asc absent some end there is =
@@ -107,10 +107,10 @@ put-inserted rs ss new place asc absent some end there is =
       cells = λ p. ap (λ ts. cells_of ts p) at-place ∙ cells-inserted 0 new rs asc absent p;
     }
 
-pub put-lengthened : (rs ss : List Run) (i : ℕ) (r s : Run) (at x : ℕ) (more : List ℕ) → ascend 0 rs ≡ true → i < length rs → r ≡ get_or rs i r → s ≡ get_or rs i s → s.x ≡ x → end_of s ≡ at → AreAbsent (cells_of rs) at (at + length more) → at + length more ≤ 2 ^ 62 → ss ≡ set rs i (lengthened r more) → IsPut rs ss at x more
+pub put-lengthened : (rs ss : List Run) (i : ℕ) (r s : Run) (at x : ℕ) (more : List ℕ) → ascend 0 rs ≡ true → i < length rs → r ≡ get_or rs i r → s ≡ get_or rs i s → s.x ≡ x → end_of s ≡ at → AreAbsent (cells_of rs) at (at + length more) → at + length more ≤ 2 ^ 62 → ss ≡ set rs i (longer_run r more) → IsPut rs ss at x more
 put-lengthened rs ss i r s at x more asc lt r-is s-is of_x ends absent end is =
     let same : get_or rs i r ≡ s = sym r-is ∙ same-at rs i r s lt r-is s-is in
-    let longer : ss ≡ set rs i (lengthened (get_or rs i r) more) = is ∙ ap (λ t. set rs i (lengthened t more)) r-is in
+    let longer : ss ≡ set rs i (longer_run (get_or rs i r) more) = is ∙ ap (λ t. set rs i (longer_run t more)) r-is in
     let at-end : end_of (get_or rs i r) ≡ at = ap end_of same ∙ ends in
     let with-x : (get_or rs i r).x ≡ x = ap (λ (t : Run). t.x) same ∙ of_x in
     let fresh : AreAbsent (cells_of rs) (end_of (get_or rs i r)) (end_of (get_or rs i r) + length more) = rw at-end absent in

@@ -4,7 +4,7 @@ use Rattle.std.proofs.lemmas.Bool.{cases_eq}
 use Rattle.std.proofs.lemmas.Grind.{common_steps}
 use Rattle.std.specs.Ordering.{nat_cmp}
 use Rattle.std.specs.BTreeMap.{BTreeMap, get, Updates}
-use Rattle.hc_sparse.specs.Extents.{Marks, HaveAll, claimed}
+use Rattle.hc_sparse.specs.Extents.{Marks, HaveAll, claimed_marks}
 use Rattle.hc_sparse.specs.SpanMaps.{IsSpan, AllHad}
 use Rattle.hc_sparse.proofs.CellLemmas.{split, inside-yes, inside-cases}
 
@@ -46,17 +46,17 @@ pub had-same : (m n : BTreeMap ℕ ℕ) (f : Marks) → n.entries ≡ m.entries 
 had-same m n f same had lo hi there = had lo hi (rw same at there)
 
 -- What somebody has is had after more is given to an exchange.
-pub all-claimed : (f : Marks) (at len x from lo hi : ℕ) → HaveAll f lo hi → HaveAll (claimed at len x from f) lo hi
+pub all-claimed : (f : Marks) (at len x from lo hi : ℕ) → HaveAll f lo hi → HaveAll (claimed_marks at len x from f) lo hi
 all-claimed f at len x from lo hi all o ge lt = elim (inside-cases at len o) [ inl here ↦ rw here.0 refl | inr off ↦ rw off.0 (all o ge lt) ]
 
 pub all-same : (f g : Marks) (lo hi : ℕ) → ((q : ℕ) → g q ≡ f q) → HaveAll f lo hi → HaveAll g lo hi
 all-same f g lo hi same all o ge lt = rw (same o) (all o ge lt)
 
-pub own-had : (f g : Marks) (at len x from : ℕ) → ((q : ℕ) → g q ≡ claimed at len x from f q) → HaveAll g at (at + len)
+pub own-had : (f g : Marks) (at len x from : ℕ) → ((q : ℕ) → g q ≡ claimed_marks at len x from f q) → HaveAll g at (at + len)
 own-had f g at len x from own o ge lt = rw (own o, inside-yes at len o ge lt) refl
 
-pub had-more : (m : BTreeMap ℕ ℕ) (f g : Marks) (at len x from : ℕ) → ((q : ℕ) → g q ≡ claimed at len x from f q) → AllHad m f → AllHad m g
-had-more m f g at len x from own had lo hi there = all-same (claimed at len x from f) g lo hi own (all-claimed f at len x from lo hi (had lo hi there))
+pub had-more : (m : BTreeMap ℕ ℕ) (f g : Marks) (at len x from : ℕ) → ((q : ℕ) → g q ≡ claimed_marks at len x from f q) → AllHad m f → AllHad m g
+had-more m f g at len x from own had lo hi there = all-same (claimed_marks at len x from f) g lo hi own (all-claimed f at len x from lo hi (had lo hi there))
 
 pub had-still : (m : BTreeMap ℕ ℕ) (f g : Marks) → ((q : ℕ) → g q ≡ f q) → AllHad m f → AllHad m g
 had-still m f g same had lo hi there = all-same f g lo hi same (had lo hi there)

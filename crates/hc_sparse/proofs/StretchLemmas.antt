@@ -2,7 +2,7 @@
 use Rattle.std.proofs.Common.{◌≡◌, ◌≢◌, inl, inr, ℕ, zero, suc, ◌+◌, ◌-◌, ◌<◌, ◌≤◌, List, [], ◌∷◌, ◌++◌, length, true, false, eqb, Option, Some, None, refl, sym, ap, ◌∙◌, arith, get_or, take, zero-add, append_assoc}
 use Rattle.std.proofs.lemmas.Bool.Decides.{nat_tests, eqb_tells}
 use Rattle.std.specs.Prelude.{◌↔◌, IfSome}
-use Rattle.hc_sparse.specs.Cells.{Cells, Cell, AreOf, AreAbsent, written}
+use Rattle.hc_sparse.specs.Cells.{Cells, Cell, AreOf, AreAbsent, cells_with}
 use Rattle.hc_sparse.specs.Stretch.{bytes_from, goes_on, stretch, stretch_of, IsLongest}
 use Rattle.hc_sparse.specs.declared.run.Run.{Run}
 use Rattle.hc_sparse.proofs.CellLemmas.{inside-yes, inside-before, inside-past, inside-cases, split}
@@ -135,20 +135,20 @@ same-of : (f g : Cells) (p want : ℕ) (o : Option Cell) → ((cell : Cell) → 
 same-of f g p want None same = refl
 same-of f g p want (Some cell) same = rw (same cell refl) refl
 
-pub stretch-behind : (f : Cells) (at x : ℕ) (bytes : List ℕ) (p want : ℕ) → at + length bytes ≤ p → stretch (written at x bytes f) p want ≡ stretch f p want
+pub stretch-behind : (f : Cells) (at x : ℕ) (bytes : List ℕ) (p want : ℕ) → at + length bytes ≤ p → stretch (cells_with at x bytes f) p want ≡ stretch f p want
 unfolding stretch
 stretch-behind f at x bytes p want past =
     let kept = λ (q : ℕ) (le : p ≤ q). inside-past at (length bytes) q (omega arith) in
-    rw (inside-past at (length bytes) p past) (same-of f (written at x bytes f) p want (f p) (λ cell _. bytes-same (written at x bytes f) f cell.x p want (λ q le. rw (kept q le) refl)))
+    rw (inside-past at (length bytes) p past) (same-of f (cells_with at x bytes f) p want (f p) (λ cell _. bytes-same (cells_with at x bytes f) f cell.x p want (λ q le. rw (kept q le) refl)))
 
-bytes-of_other : (f : Cells) (at x y : ℕ) (bytes : List ℕ) (p n : ℕ) → AreAbsent f at (at + length bytes) → y ≢ x → bytes_from (written at x bytes f) y p n ≡ bytes_from f y p n
+bytes-of_other : (f : Cells) (at x y : ℕ) (bytes : List ℕ) (p n : ℕ) → AreAbsent f at (at + length bytes) → y ≢ x → bytes_from (cells_with at x bytes f) y p n ≡ bytes_from f y p n
 bytes-of_other f at x y bytes p zero absent other = refl
 bytes-of_other f at x y bytes p (suc n) absent other = elim (inside-cases at (length bytes) p) [
   | inl here ↦ let off : eqb x y ≡ false = grind (arith, nat_tests) in rw (here.0, absent p here.1 here.2, off) refl
   | inr out ↦ rw (out.0, bytes-of_other f at x y bytes (p + 1) n absent other) refl
 ]
 
-pub stretch-of_other : (f : Cells) (at x : ℕ) (bytes : List ℕ) (p want : ℕ) (cell : Cell) → AreAbsent f at (at + length bytes) → f p ≡ Some cell → cell.x ≢ x → stretch (written at x bytes f) p want ≡ stretch f p want
+pub stretch-of_other : (f : Cells) (at x : ℕ) (bytes : List ℕ) (p want : ℕ) (cell : Cell) → AreAbsent f at (at + length bytes) → f p ≡ Some cell → cell.x ≢ x → stretch (cells_with at x bytes f) p want ≡ stretch f p want
 unfolding stretch
 stretch-of_other f at x bytes p want cell absent here other = elim (inside-cases at (length bytes) p) [
   | inl in-put ↦ absurd (let gone = absent p in-put.1 in-put.2 in cc)
@@ -164,9 +164,9 @@ reached-length f x p at le of_x =
       | inl less ↦ absurd (let there = of_x (p + length (bytes_from f x p (at - p))) (omega arith) (omega arith) in is.ends less there.0 there.1)
     ]
 
-pub bytes-reaching : (f : Cells) (at x : ℕ) (bytes : List ℕ) (p want : ℕ) → p ≤ at → AreOf x f p at → bytes_from (written at x bytes f) x p want ≡ take want (bytes_from f x p (at - p) ++ bytes ++ bytes_from f x (at + length bytes) want)
+pub bytes-reaching : (f : Cells) (at x : ℕ) (bytes : List ℕ) (p want : ℕ) → p ≤ at → AreOf x f p at → bytes_from (cells_with at x bytes f) x p want ≡ take want (bytes_from f x p (at - p) ++ bytes ++ bytes_from f x (at + length bytes) want)
 bytes-reaching f at x bytes p want le of_x =
-    let g : Cells = written at x bytes f in
+    let g : Cells = cells_with at x bytes f in
     let up-to : List ℕ = bytes_from f x p (at - p) in
     let len : length up-to ≡ at - p = reached-length f x p at le of_x in
     let before : bytes_from g x p (length up-to + (length bytes + want)) ≡ up-to ++ bytes_from g x (p + length up-to) (length bytes + want) = bytes-append g x up-to p (length bytes + want) (λ i lt.
@@ -178,14 +178,14 @@ bytes-reaching f at x bytes p want le of_x =
     let joint : p + length up-to ≡ at = omega arith in
     sym (bytes-take g x p want (length up-to + (length bytes + want)) (omega arith)) ∙ ap (take want) (before ∙ rw (joint, put, behind) (simp append_assoc))
 
-here-of : (f : Cells) (at x : ℕ) (bytes : List ℕ) (p : ℕ) → 0 < length bytes → p ≤ at → AreOf x f p at → (byte : ℕ) × (written at x bytes f p ≡ Some (record { byte = byte; x = x }))
+here-of : (f : Cells) (at x : ℕ) (bytes : List ℕ) (p : ℕ) → 0 < length bytes → p ≤ at → AreOf x f p at → (byte : ℕ) × (cells_with at x bytes f p ≡ Some (record { byte = byte; x = x }))
 here-of f at x bytes p some le of_x = elim (split p at) [
   | inl before ↦ let there = of_x p (omega arith) before in (there.0, rw (inside-before at (length bytes) p before) there.1)
   | inr is ↦ (get_or bytes (p - at) 0, rw (inside-yes at (length bytes) p is (omega arith)) refl)
 ]
 
-pub stretch-reaching : (f : Cells) (at x : ℕ) (bytes : List ℕ) (p want : ℕ) → 0 < length bytes → p ≤ at → AreOf x f p at → stretch (written at x bytes f) p want ≡ Some (record { x = x; at = p; bytes = take want (bytes_from f x p (at - p) ++ bytes ++ bytes_from f x (at + length bytes) want) })
+pub stretch-reaching : (f : Cells) (at x : ℕ) (bytes : List ℕ) (p want : ℕ) → 0 < length bytes → p ≤ at → AreOf x f p at → stretch (cells_with at x bytes f) p want ≡ Some (record { x = x; at = p; bytes = take want (bytes_from f x p (at - p) ++ bytes ++ bytes_from f x (at + length bytes) want) })
 unfolding stretch
 stretch-reaching f at x bytes p want some le of_x =
     let here = here-of f at x bytes p some le of_x in
-    ap (stretch_of (written at x bytes f) p want) here.1 ∙ rw (bytes-reaching f at x bytes p want le of_x) refl
+    ap (stretch_of (cells_with at x bytes f) p want) here.1 ∙ rw (bytes-reaching f at x bytes p want le of_x) refl

@@ -18,8 +18,8 @@ abbrev pub inside : ℕ → ℕ → ℕ → Bool
 inside at n p = nat_le at p && nat_lt p (at + n)
 
 -- Bytes of x from a position on, over what was there.
-abbrev pub written : ℕ → ℕ → List ℕ → Cells → Cells
-written at x bytes f p = if inside at (length bytes) p then Some (record { byte = slice_index bytes (p - at); x = x }) else f p
+abbrev pub cells_with : ℕ → ℕ → List ℕ → Cells → Cells
+cells_with at x bytes f p = if inside at (length bytes) p then Some (record { byte = slice_index bytes (p - at); x = x }) else f p
 
 -- Nothing is there from one position to below another.
 abbrev pub AreAbsent : Cells → ℕ → ℕ → Type 0

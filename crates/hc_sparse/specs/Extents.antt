@@ -21,13 +21,13 @@ abbrev pub end_of : Extent → ℕ
 end_of e = e.at + e.len
 
 -- So many offsets from one on are an exchange's, whose bytes stand from a place on, over whose they were.
-abbrev pub claimed : ℕ → ℕ → ℕ → ℕ → Marks → Marks
-claimed at len x from f o = if inside at len o then Some (mark x from at o) else f o
+abbrev pub claimed_marks : ℕ → ℕ → ℕ → ℕ → Marks → Marks
+claimed_marks at len x from f o = if inside at len o then Some (mark x from at o) else f o
 
 -- The mark of each offset.
 abbrev pub marks_of : List Extent → Marks
 marks_of [] o = None
-marks_of (e ∷ es) o = claimed e.at e.len e.x e.from (marks_of es) o
+marks_of (e ∷ es) o = claimed_marks e.at e.len e.x e.from (marks_of es) o
 
 -- Nobody has an offset from one to below another.
 abbrev pub AreFree : Marks → ℕ → ℕ → Type 0
@@ -58,8 +58,8 @@ place_of o [] = 0
 place_of o (e ∷ es) = if nat_le (end_of e) o then place_of o es + 1 else 0
 
 -- An extent that ends so much later.
-abbrev pub lengthened : Extent → ℕ → Extent
-lengthened e more = record e { len = e.len + more }
+abbrev pub longer_extent : Extent → ℕ → Extent
+longer_extent e more = record e { len = e.len + more }
 
 -- An extent goes on just where another ends, with bytes of its exchange that stand behind its own.
 abbrev pub Follows : Extent → Extent → Type 0
@@ -75,4 +75,4 @@ pub record IsExtentFrom (es : List Extent) (o : ℕ) (e : Extent) : Type 0 where
 
 -- The offsets of an extent are its exchange's, and every other is as it was.
 abbrev pub ClaimsExtent : List Extent → List Extent → Extent → Type 0
-ClaimsExtent es fs e = (o : ℕ) → marks_of fs o ≡ claimed e.at e.len e.x e.from (marks_of es) o
+ClaimsExtent es fs e = (o : ℕ) → marks_of fs o ≡ claimed_marks e.at e.len e.x e.from (marks_of es) o

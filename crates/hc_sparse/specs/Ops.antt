@@ -1,6 +1,6 @@
 -- What a list of operations makes of sparse bytes, and what it is answered.
 use Rattle.std.specs.Prelude.{◌≡◌, ℕ, zero, suc, ◌+◌, ◌<◌, ◌≤◌, ◌^◌, List, [], ◌∷◌, length, Bool, true, false, not, is_some, if◌then◌else◌, ◌&&◌}
-use Rattle.hc_sparse.specs.Cells.{Cells, written, IsNext}
+use Rattle.hc_sparse.specs.Cells.{Cells, cells_with, IsNext}
 use Rattle.hc_sparse.specs.Stretch.{stretch}
 use Rattle.hc_sparse.specs.declared.ops.SparseOp.{SparseOp}
 use Rattle.hc_sparse.specs.declared.ops.SparseOp.TheVariants as op
@@ -20,13 +20,13 @@ IsAllowed (op.Next p) = Unit {0}
 
 -- What an operation makes: a put at absent positions writes, and nothing else changes anything.
 abbrev pub after : SparseOp → Cells → Cells
-after (op.Put from x bytes) f = if are_absent f from (length bytes) then written from x bytes f else f
+after (op.Put from x bytes) f = if are_absent f from (length bytes) then cells_with from x bytes f else f
 after _ f = f
 
 -- What operations make, one after another.
-abbrev pub made : Cells → List SparseOp → Cells
-made f [] = f
-made f (o ∷ os) = made (after o f) os
+abbrev pub cells_after : Cells → List SparseOp → Cells
+cells_after f [] = f
+cells_after f (o ∷ os) = cells_after (after o f) os
 
 -- What an operation is answered.
 abbrev pub IsAnswer : Cells → SparseOp → SparseAnswer → Type 0
@@ -45,4 +45,4 @@ AreAnswers f _ _ = ⊥
 -- The answers are those of the operations, which have made all that they make.
 pub record HasAnswered (before after_all : Cells) (ops : List SparseOp) (answers : List SparseAnswer) : Type 0 where
   pub answers_are : AreAnswers before ops answers
-  pub makes : after_all ≡ made before ops
+  pub makes : after_all ≡ cells_after before ops

@@ -1,6 +1,6 @@
 -- A list of runs, one after another.
 use Rattle.std.specs.Prelude.{◌≡◌, ℕ, ◌+◌, ◌-◌, ◌<◌, ◌≤◌, ◌^◌, List, [], ◌∷◌, ◌++◌, length, slice_index, Bool, Option, Some, None, if◌then◌else◌, ◌&&◌, nat_lt, nat_le}
-use Rattle.hc_sparse.specs.Cells.{Cells, Cell, AreAbsent, written}
+use Rattle.hc_sparse.specs.Cells.{Cells, Cell, AreAbsent, cells_with}
 use Rattle.hc_sparse.specs.declared.run.Run.{Run}
 
 -- The position past the last of a run.
@@ -12,13 +12,13 @@ abbrev pub cell_in : Run → ℕ → Option Cell
 cell_in r p = Some (record { byte = slice_index r.bytes (p - r.at); x = r.x })
 
 -- A run with more bytes at its end.
-abbrev pub lengthened : Run → List ℕ → Run
-lengthened r more = record r { bytes = r.bytes ++ more }
+abbrev pub longer_run : Run → List ℕ → Run
+longer_run r more = record r { bytes = r.bytes ++ more }
 
 -- What the runs have at each position.
 abbrev pub cells_of : List Run → Cells
 cells_of [] p = None
-cells_of (r ∷ rs) p = written r.at r.x r.bytes (cells_of rs) p
+cells_of (r ∷ rs) p = cells_with r.at r.x r.bytes (cells_of rs) p
 
 -- Each begins where the one before it ends, or later, and has a byte. The last ends by 2^62.
 abbrev pub ascend : ℕ → List Run → Bool

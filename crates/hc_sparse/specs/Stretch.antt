@@ -35,8 +35,8 @@ pub record IsLongest (f : Cells) (p want : ℕ) (run : Run) : Type 0 where
   pub ends : length run.bytes < want → (byte : ℕ) → f (p + length run.bytes) ≢ Some (record { byte = byte; x = run.x })
 
 -- The stretch of x from p on after a put of its bytes that it reaches: what stood before them, these bytes, and what stood behind them.
-abbrev pub reached : Cells → ℕ → ℕ → List ℕ → ℕ → ℕ → Run
-reached f from x bytes p want = record {
+abbrev pub joined_stretch : Cells → ℕ → ℕ → List ℕ → ℕ → ℕ → Run
+joined_stretch f from x bytes p want = record {
   x = x;
   at = p;
   bytes = take want (bytes_from f x p (from - p) ++ bytes ++ bytes_from f x (from + length bytes) want);

@@ -17,7 +17,7 @@ pub(crate) struct Block {
 }
 
 impl Block {
-    ghost use Rattle.hc_sparse.specs.Extents.{claimed, AreFree, end_of, IsExtentFrom, IsNextMark};
+    ghost use Rattle.hc_sparse.specs.Extents.{claimed_marks, AreFree, end_of, IsExtentFrom, IsNextMark};
     ghost use Rattle.hc_sparse.specs.Blocks.{marks_in, has_spare};
 
     /// Nobody has anything, and there is room for an extent.
@@ -64,7 +64,7 @@ impl Block {
         requires within { end_of extent ≤ 4096 }
         requires spare { has_spare self.old ≡ true }
         ensures { (q : ℕ) → marks_in self.new q
-            ≡ claimed extent.at extent.len extent.x extent.from (marks_in self.old) q }
+            ≡ claimed_marks extent.at extent.len extent.x extent.from (marks_in self.old) q }
     {
         claim(&mut self.extents, extent);
     }

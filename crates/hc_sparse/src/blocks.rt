@@ -3,7 +3,7 @@ ghost use Rattle.std.specs.Prelude.{◌≡◌, ◌+◌, ◌≤◌, ◌<◌, ◌%
 ghost use Rattle.std.specs.Ordering.{nat_cmp};
 ghost use Rattle.std.specs.BTreeMap.{get};
 ghost use Rattle.hc_sparse.specs.Stretch.{IsPart};
-ghost use Rattle.hc_sparse.specs.Extents.{claimed, end_of, AreFree, Reaches, IsNextMark};
+ghost use Rattle.hc_sparse.specs.Extents.{claimed_marks, end_of, AreFree, Reaches, IsNextMark};
 ghost use Rattle.hc_sparse.specs.BlockMaps.{cells_by, marks, AreBelow, AreWithin, HaveSame, IsFirstFrom};
 
 use crate::block::{Block, LEN};
@@ -57,7 +57,7 @@ pub(crate) fn put_part(
     requires below { AreBelow blocks.old }
     ensures below { AreBelow blocks.new }
     ensures ok { OnOk result ((q : ℕ) → marks blocks.new q
-        ≡ claimed new.at new.len new.x new.from (marks blocks.old) q) }
+        ≡ claimed_marks new.at new.len new.x new.from (marks blocks.old) q) }
     ensures err { OnErr result (HaveSame blocks.old blocks.new) }
 {
     let n = (new.at / LEN) as u64;

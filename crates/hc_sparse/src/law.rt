@@ -1,7 +1,7 @@
 //! Laws of stretches: each is the contract of a function that does nothing.
 ghost use Rattle.std.specs.Prelude.{◌≡◌, ◌≢◌, ◌↔◌, ◌<◌, ◌≤◌, ◌+◌, ℕ, List, length, IfSome, Some, None};
-ghost use Rattle.hc_sparse.specs.Cells.{Cells, Cell, AreAbsent, AreOf, written};
-ghost use Rattle.hc_sparse.specs.Stretch.{stretch, reached, IsLongest};
+ghost use Rattle.hc_sparse.specs.Cells.{Cells, Cell, AreAbsent, AreOf, cells_with};
+ghost use Rattle.hc_sparse.specs.Stretch.{stretch, joined_stretch, IsLongest};
 ghost use Rattle.hc_sparse.specs.declared.run.Run.{Run};
 
 /// What a stretch is: bytes of one exchange without a gap, as many as stand there and are wanted.
@@ -18,11 +18,11 @@ pub fn a_stretch_is_the_longest()
 pub fn a_put_lengthens_what_reaches_it()
     ensures behind { (f : Cells) (at x : ℕ) (bytes : List ℕ) (p want : ℕ) →
         at + length bytes ≤ p →
-        stretch (written at x bytes f) p want ≡ stretch f p want }
+        stretch (cells_with at x bytes f) p want ≡ stretch f p want }
     ensures other { (f : Cells) (at x : ℕ) (bytes : List ℕ) (p want : ℕ) (cell : Cell) →
         AreAbsent f at (at + length bytes) → f p ≡ Some cell → cell.x ≢ x →
-        stretch (written at x bytes f) p want ≡ stretch f p want }
+        stretch (cells_with at x bytes f) p want ≡ stretch f p want }
     ensures reaches { (f : Cells) (at x : ℕ) (bytes : List ℕ) (p want : ℕ) →
         0 < length bytes → p ≤ at → AreOf x f p at →
-        stretch (written at x bytes f) p want ≡ Some (reached f at x bytes p want) }
+        stretch (cells_with at x bytes f) p want ≡ Some (joined_stretch f at x bytes p want) }
 {}

@@ -1,7 +1,7 @@
 //! Operations on sparse bytes, given as data.
 ghost use Rattle.std.specs.Prelude.{◌≡◌, ◌≤◌, ◌<◌, ◌+◌, ◌^◌, ℕ, length, take, IfOk, OnOk, OnErr, IsTrue, ◌↔◌, true};
 ghost use Rattle.std.specs.List.{All};
-ghost use Rattle.hc_sparse.specs.Ops.{IsAllowed, IsAnswer, HasAnswered, after, made, are_absent};
+ghost use Rattle.hc_sparse.specs.Ops.{IsAllowed, IsAnswer, HasAnswered, after, cells_after, are_absent};
 
 use crate::presence::SparseBytes;
 use crate::run::Run;
@@ -60,7 +60,7 @@ pub fn run_ops<M: SparseBytes>(
     ensures ok { IfOk result
         (λ answers. HasAnswered (M.cells map.old) (M.cells map.new) ops.now answers) }
     ensures err { OnErr result
-        ((done : ℕ) × (M.cells map.new ≡ made (M.cells map.old) (take done ops.now))) }
+        ((done : ℕ) × (M.cells map.new ≡ cells_after (M.cells map.old) (take done ops.now))) }
 {
     let mut items = Vec::with_capacity(alloc, ops.len())?;
     for op in ops {

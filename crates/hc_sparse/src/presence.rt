@@ -1,6 +1,6 @@
 //! What sparse bytes are, however they are kept.
 ghost use Rattle.std.specs.Prelude.{◌≡◌, ◌+◌, ◌≤◌, ◌<◌, ◌^◌, ◌↔◌, IsTrue, ℕ, length, is_some, true, IfOk, IfSome, OnOk, OnErr};
-ghost use Rattle.hc_sparse.specs.Cells.{Cells, AreAbsent, Covers, IsNext, written, size};
+ghost use Rattle.hc_sparse.specs.Cells.{Cells, AreAbsent, Covers, IsNext, cells_with, size};
 ghost use Rattle.hc_sparse.specs.Stretch.{stretch};
 
 use crate::run::Run;
@@ -38,7 +38,7 @@ pub trait SparseBytes: Presence {
         requires absent { AreAbsent (Self.cells self.old) at (at + length bytes.now) }
         requires end { at + length bytes.now ≤ 2 ^ 62 }
         ensures ok { OnOk result
-            (Self.cells self.new ≡ written at x bytes.now (Self.cells self.old)) }
+            (Self.cells self.new ≡ cells_with at x bytes.now (Self.cells self.old)) }
         ensures err { OnErr result (Self.cells self.new ≡ Self.cells self.old) }
 
         // No bytes need no memory.

@@ -1,8 +1,8 @@
 //! Runs in the order of their positions, none of which overlap.
 ghost use Rattle.std.specs.Prelude.{◌≡◌, ◌↔◌, ◌++◌, ◌+◌, ◌-◌, ◌≤◌, ◌<◌, ◌^◌, IsTrue, ℕ, List, [], length, take, drop, true, is_ok, if◌then◌else◌, IfOk, IfSome, IsNone, OnOk, OnErr};
-ghost use Rattle.hc_sparse.specs.Cells.{AreAbsent, EndsBy, Covers, written};
+ghost use Rattle.hc_sparse.specs.Cells.{AreAbsent, EndsBy, Covers, cells_with};
 ghost use Rattle.hc_sparse.specs.Stretch.{bytes_from};
-ghost use Rattle.hc_sparse.specs.Runs.{cells_of, ascend, place_of, end_of, lengthened, IsRunFrom};
+ghost use Rattle.hc_sparse.specs.Runs.{cells_of, ascend, place_of, end_of, longer_run, IsRunFrom};
 
 use crate::run::Run;
 use hc_text::{Bytes, NoMemory};
@@ -63,7 +63,8 @@ pub(crate) fn put_run(runs: &mut Vec<Run>, at: u64, x: u64, bytes: &[u8]) -> Res
     requires some { 0 < length bytes.now }
     ensures ascend { ascend 0 runs.new.items ≡ true }
     ensures ok { OnOk result
-        ((p : ℕ) → cells_of runs.new.items p ≡ written at x bytes.now (cells_of runs.old.items) p) }
+        ((p : ℕ) → cells_of runs.new.items p
+        ≡ cells_with at x bytes.now (cells_of runs.old.items) p) }
     ensures err { OnErr result (runs.new.items ≡ runs.old.items) }
 {
     let place = place_of(runs.as_slice(), at);
@@ -85,7 +86,7 @@ fn is_followed(run: &Run, at: u64, x: u64) -> bool
 
 /// Puts more bytes at the end of a run.
 fn lengthen(run: &mut Run, more: &[u8]) -> Result<(), NoMemory>
-    ensures { run.new ≡ (if is_ok result then lengthened run.old more.now else run.old) }
+    ensures { run.new ≡ (if is_ok result then longer_run run.old more.now else run.old) }
 {
     run.bytes.bytes.extend_from_slice(more)?;
     Ok(())

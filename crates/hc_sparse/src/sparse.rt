@@ -3,7 +3,7 @@
 
 ghost use Rattle.std.specs.Prelude.{◌≡◌, ◌+◌, ◌≤◌, ◌<◌, ◌^◌, ◌++◌, ℕ, length, OnOk, OnErr};
 ghost use Rattle.hc_sparse.specs.Cells.{nothing, size};
-ghost use Rattle.hc_sparse.specs.Extents.{claimed, AreFree};
+ghost use Rattle.hc_sparse.specs.Extents.{claimed_marks, AreFree};
 ghost use Rattle.hc_sparse.specs.BlockMaps.{cells_by, AreWithin};
 ghost use Rattle.hc_sparse.specs.Places.{marks_at, KeepsMarks};
 ghost use Rattle.std.proofs.Props.{props};
@@ -106,7 +106,7 @@ fn put_in(
     requires end { at + length piece.now ≤ 2 ^ 62 }
     requires some { 0 < length piece.now }
     ensures marks { OnOk result ((q : ℕ) → marks_at places.new q
-        ≡ claimed at (length piece.now) x (length bytes.old.items) (marks_at places.old) q) }
+        ≡ claimed_marks at (length piece.now) x (length bytes.old.items) (marks_at places.old) q) }
     ensures bytes { OnOk result (bytes.new.items ≡ bytes.old.items ++ piece.now) }
     ensures same { OnErr result (KeepsMarks places.old places.new) }
     ensures kept { OnErr result (bytes.new.items ≡ bytes.old.items) }

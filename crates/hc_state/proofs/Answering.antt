@@ -7,7 +7,7 @@ use Rattle.hc_event.specs.declared.act.Act.{Act}
 use Rattle.hc_event.specs.declared.act.LostKind.TheVariants as kind
 use Rattle.hc_stored.specs.Entries.{shelf_of}
 use Rattle.hc_rules.specs.declared.room.Limits.{Limits}
-use Rattle.hc_model.specs.Answers.{accepted}
+use Rattle.hc_model.specs.Answers.{accepted_acts}
 use Rattle.hc_model.specs.Effects.{Does}
 use Rattle.hc_model.specs.Flaws.{Flaw, NoFlaw, Loses, flaw_in}
 use Rattle.hc_model.specs.Keys.{entry_of}
@@ -15,19 +15,19 @@ use Rattle.hc_model.specs.Rows.{Tables}
 use Rattle.hc_model.specs.Runs.{may_be, is_kept, has_room}
 use Rattle.hc_model.specs.Writes.{written}
 use Rattle.hc_model.specs.Weights.{room_for, write_in}
-use Rattle.hc_model.specs.Entries.{unanswered}
+use Rattle.hc_model.specs.Entries.{entry_without_acts}
 use Rattle.hc_state.specs.declared.rows.Rows.{Rows}
 use Rattle.hc_state.specs.Stands.{Answered, RowsStand}
 use Rattle.hc_state.proofs.Words.{eqb-same, false_true}
 
 -- what writes nothing has room
-unwritten : (limits : Limits) (t : Tables) (now : ℕ) (event : Event) → write_in t (unanswered now event) event ≡ None → has_room (room_for limits t now event) ≡ true
+unwritten : (limits : Limits) (t : Tables) (now : ℕ) (event : Event) → write_in t (entry_without_acts now event) event ≡ None → has_room (room_for limits t now event) ≡ true
 unfolding room_for
 unwritten limits t now event none = rw none refl
 
 -- an event that writes nothing, and at which the store doesn't fail
 pub does_answered : {B : Type 0} {g : Ghosts B} (limits : Limits) (faults : ℕ) (u : Rows B g) (t s : Tables) (before out acts : List Act) (now : ℕ) (event : Event) → Does limits t now event NoFlaw acts s
-    → write_in t (unanswered now event) event ≡ None → flaw_in acts ≡ NoFlaw → out ≡ before ++ acts → RowsStand u s → Answered limits faults u t before out now event
+    → write_in t (entry_without_acts now event) event ≡ None → flaw_in acts ≡ NoFlaw → out ≡ before ++ acts → RowsStand u s → Answered limits faults u t before out now event
 does_answered limits faults u t s before out acts now event does none flawless told stands = record {
   flaw = NoFlaw;
   acts = told ∙ ap (λ z. before ++ z) (sym does.acts_are);

@@ -16,12 +16,12 @@ use Rattle.hc_event.specs.declared.place.Place.TheVariants as place
 use Rattle.hc_event.specs.declared.place.BoundBy.{BoundBy}
 use Rattle.hc_event.specs.declared.place.BoundBy.TheVariants as by
 use Rattle.hc_model.specs.ConsumerRows.{back_in_line}
-use Rattle.hc_model.specs.Effects.{with_consumer, finished, with_representation, closed, all_closed, let_go, let_some_go, gone, lost_to, back_from, waits_for, left_by, going_with, is_unkeepable}
+use Rattle.hc_model.specs.Effects.{with_consumer, as_over, with_representation, tables_after_close, all_closed, let_go, let_some_go, as_gone, lost_to, back_from, waits_for, left_by, going_with, is_unkeepable}
 use Rattle.hc_model.specs.Exchanges.{family, is_headless}
 use Rattle.hc_model.specs.Kinds.{brings_to}
 use Rattle.hc_model.specs.Rows as rows
 use Rattle.hc_model.specs.Rows.{Tables, Exchange, Representation}
-use Rattle.hc_model.specs.Tables.{added}
+use Rattle.hc_model.specs.Tables.{with_item_first}
 use Rattle.hc_model.specs.Writers.{exclusive}
 use Rattle.hc_model.proofs.SameTables.{same_tables}
 use Rattle.hc_state.specs.declared.rows.Rows.{Rows}
@@ -59,15 +59,15 @@ let_gone_is now t q p row is_gone nobody = same_tables (let_go now q t) t (recor
   consumer = λ d. by_row d (t.consumer d) refl;
 })
   where
-    gone_same : gone p ≡ p
+    gone_same : as_gone p ≡ p
     gone_same = ap (λ (b : Bool). record p { is_gone = b }) (sym is_gone)
 
     rep_same : (n : ℕ) → (let_go now q t).representation n ≡ t.representation n
     rep_same n = elim (same_or q n) [
       | inl e ↦
           let here : t.representation n ≡ Some p = ap t.representation (sym e) ∙ row in
-          let goes : (let_go now q t).representation n ≡ option_map gone (t.representation n) = rw (e, eqb-same n) refl in
-          goes ∙ (ap (option_map gone) here ∙ (ap Some gone_same ∙ sym here))
+          let goes : (let_go now q t).representation n ≡ option_map as_gone (t.representation n) = rw (e, eqb-same n) refl in
+          goes ∙ (ap (option_map as_gone) here ∙ (ap Some gone_same ∙ sym here))
       | inr ne ↦ rw (eqb-other q n ne) refl
     ]
 
@@ -135,21 +135,21 @@ module _ {B : Type 0} {g : Ghosts B} (limits : Limits) (u : Rows B g) (t : Table
   abbrev s : Tables
   s = with_consumers f t
 
-  pub quiet : (o : Option ℕ) → going_with t (Some x) ≡ o → out ≡ before → RowsStand u (let_some_go now o (closed x s)) → HasStopped faults u t f before out now x
-  quiet o going acts rows = quietly acts (subst (λ (z : Option ℕ). RowsStand u (let_some_go now z (closed x s))) (sym going) rows)
+  pub quiet : (o : Option ℕ) → going_with t (Some x) ≡ o → out ≡ before → RowsStand u (let_some_go now o (tables_after_close x s)) → HasStopped faults u t f before out now x
+  quiet o going acts rows = quietly acts (subst (λ (z : Option ℕ). RowsStand u (let_some_go now z (tables_after_close x s))) (sym going) rows)
 
   -- nothing that isn't gone is stored by it
-  pub stopped_nothing : (r : Rows B g) → RowsStand r s → KeepsRest r u → u.consumers ≡ r.consumers → exch.Becomes known.closed x r.exchanges u.exchanges → IsApartNow t x → out ≡ before → HasStopped faults u t f before out now x
+  pub stopped_nothing : (r : Rows B g) → RowsStand r s → KeepsRest r u → u.consumers ≡ r.consumers → exch.Becomes known.without_exchange x r.exchanges u.exchanges → IsApartNow t x → out ≡ before → HasStopped faults u t f before out now x
   stopped_nothing r stands rest consumers becomes apart acts = by_test (is_unkeepable (t.representation x)) refl
     where
-      rows : RowsStand u (closed x s)
+      rows : RowsStand u (tables_after_close x s)
       rows = stands_unstored r u s x stands stop.unawaited apart.apart rest.limits rest.received rest.last_start consumers rest.keys rest.entries becomes
 
-      by_row : (z : Option Representation) → t.representation x ≡ z → is_unkeepable z ≡ true → let_go now x (closed x s) ≡ closed x s
+      by_row : (z : Option Representation) → t.representation x ≡ z → is_unkeepable z ≡ true → let_go now x (tables_after_close x s) ≡ tables_after_close x s
       by_row None at on = false_true on
       by_row (Some p) at on =
           let went = apart.went p at on in
-          let_gone_is now (closed x s) x p at went (λ d kept k is place_is.
+          let_gone_is now (tables_after_close x s) x p at went (λ d kept k is place_is.
           let w = stop.may.waits d x kept k is place_is in
           let gone_too : w.v.is_gone ≡ true = ap (λ (z : Representation). z.is_gone) (same_row (t.representation x) w.v p w.row at) ∙ went in
           let never : true ≡ false = sym gone_too ∙ w.not_gone in absurd (cc))
@@ -159,25 +159,25 @@ module _ {B : Type 0} {g : Ghosts B} (limits : Limits) (u : Rows B g) (t : Table
       by_test true on = quiet (Some x) (rw on refl) acts (subst (RowsStand u) (sym (by_row (t.representation x) refl on)) rows)
 
   -- a 200 that can't be completed later goes
-  stopped_gone : (r : Rows B g) → RowsStand r (let_go now x s) → KeepsRest r u → u.consumers ≡ r.consumers → exch.Becomes known.closed x r.exchanges u.exchanges → GoesWith t x x stop.w → out ≡ before → HasStopped faults u t f before out now x
+  stopped_gone : (r : Rows B g) → RowsStand r (let_go now x s) → KeepsRest r u → u.consumers ≡ r.consumers → exch.Becomes known.without_exchange x r.exchanges u.exchanges → GoesWith t x x stop.w → out ≡ before → HasStopped faults u t f before out now x
   stopped_gone r stands rest consumers becomes goes acts =
       quiet (Some x) (rw (goes.row, goes.unkept) refl) acts
       (stands_unstored r u (let_go now x s) x stands (unawaited_go now x s x stop.unawaited) apart rest.limits rest.received rest.last_start consumers rest.keys rest.entries becomes)
     where
-      gone_there : (o : Option Representation) (p : Representation) → option_map gone o ≡ Some p → p.is_gone ≡ true
+      gone_there : (o : Option Representation) (p : Representation) → option_map as_gone o ≡ Some p → p.is_gone ≡ true
       gone_there None p h = none_some p h
-      gone_there (Some a) p h = sym (ap (λ (z : Representation). z.is_gone) (some_is (gone a) p h))
+      gone_there (Some a) p h = sym (ap (λ (z : Representation). z.is_gone) (some_is (as_gone a) p h))
 
       apart : (q : ℕ) (p : Representation) → (let_go now x s).representation q ≡ Some p → p.is_gone ≡ false → brings_to q x (t.exchange x) ≡ false
       apart q p there stays = elim (same_or x q) [
         | inl e ↦
-            let goes_there : (let_go now x s).representation q ≡ option_map gone (t.representation q) = rw (e, eqb-same q) refl in
+            let goes_there : (let_go now x s).representation q ≡ option_map as_gone (t.representation q) = rw (e, eqb-same q) refl in
             false_true (sym stays ∙ gone_there (t.representation q) p (sym goes_there ∙ there))
         | inr ne ↦ ap (brings_to q x) stop.row ∙ then_false stop.w.is_open (nat_eq (family x stop.w) q) (rw goes.founded (eqb-other x q ne))
       ]
 
   -- whatever it is called
-  pub stopped_going : (q : ℕ) (r : Rows B g) → RowsStand r (let_go now q s) → KeepsRest r u → u.consumers ≡ r.consumers → exch.Becomes known.closed x r.exchanges u.exchanges → GoesWith t x q stop.w → out ≡ before → HasStopped faults u t f before out now x
+  pub stopped_going : (q : ℕ) (r : Rows B g) → RowsStand r (let_go now q s) → KeepsRest r u → u.consumers ≡ r.consumers → exch.Becomes known.without_exchange x r.exchanges u.exchanges → GoesWith t x q stop.w → out ≡ before → HasStopped faults u t f before out now x
   stopped_going q r stands rest consumers becomes goes acts =
       stopped_gone r (subst (λ (n : ℕ). RowsStand r (let_go now n s)) goes.here stands) rest consumers becomes (subst (λ (n : ℕ). GoesWith t x n stop.w) goes.here goes) acts
 
@@ -186,19 +186,19 @@ module _ {B : Type 0} {g : Ghosts B} (limits : Limits) (u : Rows B g) (t : Table
 -- it told that it is closed
 pub has_left : {B : Type 0} {g : Ghosts B} (u : Rows B g) (t : Tables) (c : ℕ) (v : rows.Consumer) (x now faults : ℕ) (before mid out : List Act) → left_by t c v ≡ Some x → mid ≡ before ++ (act.Close x ∷ []) → HasStopped faults u t (once_left t c v) mid out now x → HasLeft faults u t before out now c v
 has_left u t c v x now faults before mid out left first (quietly same rows) =
-    leaving.quietly (same ∙ (first ∙ ap (λ (z : Option ℕ). before ++ map act.Close (added z [])) (sym left)))
-    (subst (λ (z : Option ℕ). RowsStand u (let_some_go now (going_with t z) (with_consumer c (Some (finished v)) (all_closed (added z []) t)))) (sym left) rows)
+    leaving.quietly (same ∙ (first ∙ ap (λ (z : Option ℕ). before ++ map act.Close (with_item_first z [])) (sym left)))
+    (subst (λ (z : Option ℕ). RowsStand u (let_some_go now (going_with t z) (with_consumer c (Some (as_over v)) (all_closed (with_item_first z []) t)))) (sym left) rows)
 has_left u t c v x now faults before mid out left first (unsealed f) = leaving.unsealed (record {
   x = x;
   left = left;
   sealed = f.sealed;
   acts = act_and before mid out (act.Close x) (act.Lost f.sealed.r kind.Fault ∷ []) first f.acts;
   failed = f.failed;
-  rows = subst (λ (z : Option ℕ). RowsStand u (let_go now f.sealed.r (with_representation f.sealed.r (Some (lost_to (exclusive t f.sealed.r f.sealed.v) f.sealed.v)) (with_consumer c (Some (finished v)) (all_closed (added z []) t))))) (sym left) f.rows;
+  rows = subst (λ (z : Option ℕ). RowsStand u (let_go now f.sealed.r (with_representation f.sealed.r (Some (lost_to (exclusive t f.sealed.r f.sealed.v) f.sealed.v)) (with_consumer c (Some (as_over v)) (all_closed (with_item_first z []) t))))) (sym left) f.rows;
 })
 
 -- where it leaves nothing
-pub leaves_nothing : {B : Type 0} {g : Ghosts B} (u : Rows B g) (t : Tables) (c : ℕ) (v : rows.Consumer) (now faults : ℕ) (before : List Act) → left_by t c v ≡ None → RowsStand u (with_consumer c (Some (finished v)) t) → HasLeft faults u t before before now c v
+pub leaves_nothing : {B : Type 0} {g : Ghosts B} (u : Rows B g) (t : Tables) (c : ℕ) (v : rows.Consumer) (now faults : ℕ) (before : List Act) → left_by t c v ≡ None → RowsStand u (with_consumer c (Some (as_over v)) t) → HasLeft faults u t before before now c v
 leaves_nothing u t c v now faults before none rows =
-    leaving.quietly (sym (append-nil before) ∙ ap (λ (z : Option ℕ). before ++ map act.Close (added z [])) (sym none))
-    (subst (λ (z : Option ℕ). RowsStand u (let_some_go now (going_with t z) (with_consumer c (Some (finished v)) (all_closed (added z []) t)))) (sym none) rows)
+    leaving.quietly (sym (append-nil before) ∙ ap (λ (z : Option ℕ). before ++ map act.Close (with_item_first z [])) (sym none))
+    (subst (λ (z : Option ℕ). RowsStand u (let_some_go now (going_with t z) (with_consumer c (Some (as_over v)) (all_closed (with_item_first z []) t)))) (sym none) rows)

@@ -19,8 +19,8 @@ use Rattle.hc_event.specs.declared.place.Place.TheVariants as place
 use Rattle.hc_event.specs.declared.place.BoundBy.{BoundBy}
 use Rattle.hc_event.specs.declared.place.BoundBy.TheVariants as by
 use Rattle.hc_model.specs.Currents.{current, is_number}
-use Rattle.hc_model.specs.Effects.{closed, over}
-use Rattle.hc_model.specs.Exchanges.{base, promised, front, family, is_open, is_headless, length_by}
+use Rattle.hc_model.specs.Effects.{tables_after_close, over}
+use Rattle.hc_model.specs.Exchanges.{base, promised_bytes, front, family, is_open, is_headless, length_by}
 use Rattle.hc_model.specs.Holes.{absent_from}
 use Rattle.hc_model.specs.Kinds.{kind_of, is_growing, brings_to}
 use Rattle.hc_model.specs.Reading.{bound, offset, is_bound_place, base_in, end_in, end_of_direct}
@@ -28,12 +28,12 @@ use Rattle.hc_model.specs.Rows as rows
 use Rattle.hc_model.specs.Rows.{Tables, Exchange, Representation}
 use Rattle.hc_state.specs.declared.consumer.Consumer.{Consumer}
 use Rattle.hc_state.specs.declared.rows.Rows.{Rows}
-use Rattle.hc_state.specs.Kept.{KeepsConsumer, head_in, KeepsExchange, KeepsRunning, held_for, held_of, held_alone, unread, unstored}
+use Rattle.hc_state.specs.Kept.{KeepsConsumer, head_in, KeepsExchange, KeepsRunning, held_for, held_of, held_alone, unread, unstored_bytes}
 use Rattle.hc_state.specs.Lines.{KeepsKey, is_away, is_away_at}
 use Rattle.hc_state.specs.Stands.{RowsStand}
 use Rattle.hc_state.specs.Stopped.{NobodyAwaits}
 use Rattle.hc_state.specs.Stored.{IsEntry, IsDropped, KeepsEntry, KeepsEntries, is_first}
-use Rattle.hc_state.proofs.Asides.{same, held_alike}
+use Rattle.hc_state.proofs.Fallbacks.{same, held_alike}
 use Rattle.hc_state.proofs.OneOfEach.{first_row, growing_same, kind_same}
 use Rattle.hc_state.proofs.PastRows.{consumer_alike}
 use Rattle.hc_state.proofs.Ties.{exchange_same, key_same, overs_closed, writer_then}
@@ -48,7 +48,7 @@ base_over w = by_head w.head
     by_head None = refl
     by_head (Some response) = refl
 
-pub promise_over : (w : Exchange) → promised (over w) ≡ promised w
+pub promise_over : (w : Exchange) → promised_bytes (over w) ≡ promised_bytes w
 promise_over w = by_head w.head
   where
     by_head : (h : Option Response) → promise_of (length_by (over w) h) ≡ promise_of (length_by w h)
@@ -57,9 +57,9 @@ promise_over w = by_head w.head
 
 module _ (t : Tables) (x : ℕ) where
   abbrev pub s : Tables
-  s = closed x t
+  s = tables_after_close x t
 
-  unstored_over : (w : Exchange) (v : Representation) (o : Option rows.Consumer) → unstored t x (over w) v o ≡ unstored t x w v o
+  unstored_over : (w : Exchange) (v : Representation) (o : Option rows.Consumer) → unstored_bytes t x (over w) v o ≡ unstored_bytes t x w v o
   unstored_over w v None = refl
   unstored_over w v (Some k) =
       ap (λ (b : ℕ). if is_bound_place (family x w) k.place && is_number k.own x then drop (absent_from v.stored v.reach (offset t k) (b + length w.body) - b) w.body else []) (base_over w)
@@ -90,10 +90,10 @@ module _ (t : Tables) (x : ℕ) where
   others : (y : ℕ) → x ≢ y → s.exchange y ≡ t.exchange y
   others y ne = rw (eqb-other x y ne) refl
 
-  pub exchange_closed : (y : ℕ) (before after : Known) → after ≡ (if nat_eq x y then known.closed before else before) → KeepsExchange t y before → KeepsExchange s y after
+  pub exchange_closed : (y : ℕ) (before after : Known) → after ≡ (if nat_eq x y then known.without_exchange before else before) → KeepsExchange t y before → KeepsExchange s y after
   exchange_closed y before after is kept = elim (same_or x y) [
     | inl e ↦
-        let at : after ≡ known.closed before = is ∙ rw (e, eqb-same y) refl in
+        let at : after ≡ known.without_exchange before = is ∙ rw (e, eqb-same y) refl in
         let row : s.exchange y ≡ option_map over (t.exchange y) = rw (e, eqb-same y) refl in
         record {
           running = rw at (subst (λ (o : Option Exchange). KeepsRunning s y None o) (sym row) (not_open (t.exchange y)));
@@ -191,7 +191,7 @@ module _ (t : Tables) (x : ℕ) where
 
   end_over : (b : Bool) (o : Option Exchange) → end_in (if b then option_map over o else o) ≡ end_in o
   end_over true None = refl
-  end_over true (Some w) = ap (λ p. end_of_direct p (over w)) (promise_over w) ∙ by_promise (promised w)
+  end_over true (Some w) = ap (λ p. end_of_direct p (over w)) (promise_over w) ∙ by_promise (promised_bytes w)
     where
       by_promise : (p : Option ℕ) → end_of_direct p (over w) ≡ end_of_direct p w
       by_promise None = refl
@@ -211,8 +211,8 @@ module _ (t : Tables) (x : ℕ) where
 
 module _ {B : Type 0} {g : Ghosts B} (r u : Rows B g) (t : Tables) (x : ℕ) (stands : RowsStand r t) (unawaited : NobodyAwaits t x)
     (limits : u.limits ≡ r.limits) (received : u.received ≡ r.received) (last : u.last_start ≡ r.last_start) (consumers : u.consumers ≡ r.consumers) (keys : u.keys ≡ r.keys)
-    (becomes : exch.Becomes known.closed x r.exchanges u.exchanges) (bounded : (shelf_of u.entries).limits ≡ (shelf_of r.entries).limits) where
-  pub stands_closed : KeepsEntries (closed x t) (shelf_of u.entries) → RowsStand u (closed x t)
+    (becomes : exch.Becomes known.without_exchange x r.exchanges u.exchanges) (bounded : (shelf_of u.entries).limits ≡ (shelf_of r.entries).limits) where
+  pub stands_closed : KeepsEntries (tables_after_close x t) (shelf_of u.entries) → RowsStand u (tables_after_close x t)
   stands_closed entries = record {
     limits = bounded ∙ (stands.limits ∙ sym limits);
     received = as_received received stands.received;
@@ -225,7 +225,7 @@ module _ {B : Type 0} {g : Ghosts B} (r u : Rows B g) (t : Tables) (x : ℕ) (st
     entries = entries;
   }
     where
-      by_here : (y : ℕ) → table_of u.exchanges y ≡ (if nat_eq x y then known.closed (table_of r.exchanges y) else table_of r.exchanges y)
+      by_here : (y : ℕ) → table_of u.exchanges y ≡ (if nat_eq x y then known.without_exchange (table_of r.exchanges y) else table_of r.exchanges y)
       by_here y = becomes.table y ∙ elim (same_or x y) [
         | inl e ↦ rw (e, eqb-same y) refl
         | inr ne ↦ rw (eqb-other x y ne) refl
@@ -233,7 +233,7 @@ module _ {B : Type 0} {g : Ghosts B} (r u : Rows B g) (t : Tables) (x : ℕ) (st
 
 -- it brings nothing of what isn't gone
 pub stands_unstored : {B : Type 0} {g : Ghosts B} (r u : Rows B g) (t : Tables) (x : ℕ) → RowsStand r t → NobodyAwaits t x → ((q : ℕ) (v : Representation) → t.representation q ≡ Some v → v.is_gone ≡ false → IsApart t x q)
-    → u.limits ≡ r.limits → u.received ≡ r.received → u.last_start ≡ r.last_start → u.consumers ≡ r.consumers → u.keys ≡ r.keys → u.entries ≡ r.entries → exch.Becomes known.closed x r.exchanges u.exchanges → RowsStand u (closed x t)
+    → u.limits ≡ r.limits → u.received ≡ r.received → u.last_start ≡ r.last_start → u.consumers ≡ r.consumers → u.keys ≡ r.keys → u.entries ≡ r.entries → exch.Becomes known.without_exchange x r.exchanges u.exchanges → RowsStand u (tables_after_close x t)
 stands_unstored r u t x stands unawaited apart limits received last consumers keys same_entries becomes =
     stands_closed r u t x stands unawaited limits received last consumers keys becomes (ap (λ z. (shelf_of z).limits) same_entries)
-    (subst (λ z. KeepsEntries (closed x t) (shelf_of z)) (sym same_entries) (entries_closed t x (shelf_of r.entries) apart stands.entries))
+    (subst (λ z. KeepsEntries (tables_after_close x t) (shelf_of z)) (sym same_entries) (entries_closed t x (shelf_of r.entries) apart stands.entries))

@@ -10,7 +10,7 @@ use Rattle.hc_model.specs.Currents.{current}
 use Rattle.hc_model.specs.Kinds.{kind_of}
 use Rattle.hc_model.specs.Reading.{bound}
 use Rattle.hc_event.specs.declared.event.Event.{Event}
-use Rattle.hc_model.specs.Effects.{counted}
+use Rattle.hc_model.specs.Effects.{with_event}
 use Rattle.hc_model.specs.Rows.{Tables}
 use Rattle.hc_model.specs.Tables.{received_in}
 use Rattle.hc_state.specs.declared.rows.Rows.{Rows}
@@ -43,7 +43,7 @@ stands_recounted r u t moment entries received limits counts last consumers exch
     }
 
 -- an event that brings no bytes is counted
-pub stands_counted : {B : Type 0} {g : Ghosts B} (u : Rows B g) (t : Tables) (now : ℕ) (event : Event) → received_in event ≡ 0 → RowsStand u t → RowsStand u (counted now event t)
+pub stands_counted : {B : Type 0} {g : Ghosts B} (u : Rows B g) (t : Tables) (now : ℕ) (event : Event) → received_in event ≡ 0 → RowsStand u t → RowsStand u (with_event now event t)
 stands_counted u t now event none stands =
     stands_recounted u u t now (t.entries + 1) (t.received + received_in event) refl (same_received refl (ap (λ (n : ℕ). t.received + n) none ∙ sym (plus_none t.received)) stands.received) refl refl refl refl refl stands
   where

@@ -18,7 +18,7 @@ use Rattle.hc_event.specs.declared.place.Place.{Place}
 use Rattle.hc_event.specs.declared.place.Place.TheVariants as place
 use Rattle.hc_model.specs.Currents.{is_number}
 use Rattle.hc_model.specs.Denials.{is_live, live}
-use Rattle.hc_model.specs.Effects.{with_consumer, finished}
+use Rattle.hc_model.specs.Effects.{with_consumer, as_over}
 use Rattle.hc_model.specs.Exchanges.{family}
 use Rattle.hc_model.specs.Lawful.{Lawful}
 use Rattle.hc_model.specs.Lines.{is_in_line, stands_in_line}
@@ -31,7 +31,7 @@ use Rattle.hc_model.specs.Writers.{came_alone}
 use Rattle.hc_state.specs.declared.consumer.Consumer.{Consumer}
 use Rattle.hc_state.specs.declared.rows.Rows.{Rows}
 use Rattle.hc_state.specs.Changes.{ChangesAt, BecomesAt, one, put_down}
-use Rattle.hc_state.specs.Kept.{IsKept, KeepsConsumer, KeepsExchange, answer_for, is_direct, held_for, held_of, held_alone, unread, unstored}
+use Rattle.hc_state.specs.Kept.{IsKept, KeepsConsumer, KeepsExchange, answer_for, is_direct, held_for, held_of, held_alone, unread, unstored_bytes}
 use Rattle.hc_state.specs.Leaving.{LeavesKey, Forgets, IsUserAt, UnbindsAt}
 use Rattle.hc_state.specs.Lines.{KeepsKey, is_passed, is_away, is_away_at}
 use Rattle.hc_state.specs.Stands.{RowsStand}
@@ -40,7 +40,7 @@ use Rattle.hc_state.proofs.Apart.{keys_apart, entries_apart, user_at}
 use Rattle.hc_state.proofs.ConsumerSteps.{all_kept_with}
 use Rattle.hc_state.proofs.LiveCounts as counts
 use Rattle.hc_state.proofs.Maps.{merely_true}
-use Rattle.hc_state.proofs.AsideSteps.{live_same}
+use Rattle.hc_state.proofs.FallbackSteps.{live_same}
 use Rattle.hc_state.proofs.QueueArm.{becomes_by}
 use Rattle.hc_state.proofs.Ties.{exchange_same, kept_row, runs_same}
 use Rattle.hc_state.proofs.Words.{same_or, eqb-same, eqb-other, false_true, then_false, and_false, as_received}
@@ -106,7 +106,7 @@ module _ (v : rows.Consumer) (p : Place) (nowhere : IsNowhere p) where
   moved_unread : (y : ℕ) (w : Exchange) → unread y w (Some (moved_to p v)) ≡ []
   moved_unread y w = ap (λ b. if b then drop v.given w.body else []) (by_nowhere (λ z. is_direct z y) false refl (λ why. refl))
 
-  moved_unstored : (z : Tables) (y : ℕ) (w : Exchange) (u : Representation) → unstored z y w u (Some (moved_to p v)) ≡ []
+  moved_unstored : (z : Tables) (y : ℕ) (w : Exchange) (u : Representation) → unstored_bytes z y w u (Some (moved_to p v)) ≡ []
   moved_unstored z y w u = rw (moved_bound (family y w)) refl
 
   moved_first : (z : Tables) (q : ℕ) → is_first z q (Some (moved_to p v)) ≡ false
@@ -161,18 +161,18 @@ module _ (t : Tables) (law : Lawful t) (c : ℕ) (v : rows.Consumer) (row : t.co
       by_place (place.Down why) at = rw at refl
       by_place place.Over at = rw at refl
 
-  unstored_off : (z : Tables) (y : ℕ) (w : Exchange) (p : Representation) (u : rows.Consumer) → is_number u.own y ≡ false → unstored z y w p (Some u) ≡ []
+  unstored_off : (z : Tables) (y : ℕ) (w : Exchange) (p : Representation) (u : rows.Consumer) → is_number u.own y ≡ false → unstored_bytes z y w p (Some u) ≡ []
   unstored_off z y w p u off = rw (then_false (is_bound_place (family y w) u.place) (is_number u.own y) off) refl
 
-  unstored_other : (y d : ℕ) (w : Exchange) (p : Representation) (o : Option rows.Consumer) → d ≢ c → t.consumer d ≡ o → is_number v.own y ≡ true → unstored s y w p o ≡ []
+  unstored_other : (y d : ℕ) (w : Exchange) (p : Representation) (o : Option rows.Consumer) → d ≢ c → t.consumer d ≡ o → is_number v.own y ≡ true → unstored_bytes s y w p o ≡ []
   unstored_other y d w p None ne is on = refl
   unstored_other y d w p (Some u) ne is on = unstored_off s y w p u (not_its d y u ne is on)
 
   alone_gone : (y : ℕ) (w : Exchange) (p : Representation) (o : Option ℕ) → is_number v.own y ≡ true → held_alone s y w p o ≡ []
   alone_gone y w p None on = refl
   alone_gone y w p (Some d) on = elim (same_or c d) [
-    | inl e ↦ ap (unstored s y w p) (sym (ap s.consumer e) ∙ here) ∙ moved_unstored v at_now nowhere s y w p
-    | inr ne ↦ let off : d ≢ c = λ e. ne (sym e) in ap (unstored s y w p) (others d off) ∙ unstored_other y d w p (t.consumer d) off refl on
+    | inl e ↦ ap (unstored_bytes s y w p) (sym (ap s.consumer e) ∙ here) ∙ moved_unstored v at_now nowhere s y w p
+    | inr ne ↦ let off : d ≢ c = λ e. ne (sym e) in ap (unstored_bytes s y w p) (others d off) ∙ unstored_other y d w p (t.consumer d) off refl on
   ]
 
   of_gone : (y : ℕ) (w : Exchange) (o : Option Representation) → is_number v.own y ≡ true → held_of s y w o ≡ []
@@ -208,8 +208,8 @@ module _ (t : Tables) (law : Lawful t) (c : ℕ) (v : rows.Consumer) (row : t.co
   alone_stays : (y : ℕ) (w : Exchange) (p : Representation) (o : Option ℕ) → is_number v.own y ≡ false → held_alone s y w p o ≡ held_alone t y w p o
   alone_stays y w p None off = refl
   alone_stays y w p (Some d) off = elim (same_or c d) [
-    | inl e ↦ ap (unstored s y w p) (sym (ap s.consumer e) ∙ here) ∙ (moved_unstored v at_now nowhere s y w p ∙ sym (ap (unstored t y w p) (sym (ap t.consumer e) ∙ row) ∙ unstored_off t y w p v off))
-    | inr ne ↦ ap (unstored s y w p) (others d (λ e. ne (sym e)))
+    | inl e ↦ ap (unstored_bytes s y w p) (sym (ap s.consumer e) ∙ here) ∙ (moved_unstored v at_now nowhere s y w p ∙ sym (ap (unstored_bytes t y w p) (sym (ap t.consumer e) ∙ row) ∙ unstored_off t y w p v off))
+    | inr ne ↦ ap (unstored_bytes s y w p) (others d (λ e. ne (sym e)))
   ]
 
   of_stays : (y : ℕ) (w : Exchange) (o : Option Representation) → is_number v.own y ≡ false → held_of s y w o ≡ held_of t y w o
@@ -289,10 +289,10 @@ module _ {B : Type 0} {g : Ghosts B} (r u : Rows B g) (t : Tables) (law : Lawful
   }
 
   -- it is gone
-  pub stands_left : BecomesAt r.consumers u.consumers c None → RowsStand u (with_consumer c (Some (finished v)) t)
+  pub stands_left : BecomesAt r.consumers u.consumers c None → RowsStand u (with_consumer c (Some (as_over v)) t)
   stands_left becomes =
       stands_moved place.Over (over refl) None becomes
-      (live_without t law c (hash_map_len u.consumers) (hash_map_len r.consumers) v (finished v) row kept.is_there refl (ap (λ (o : Option Consumer). hash_map_len u.consumers + one o) (sym at) ∙ becomes.len) stands.count) refl
+      (live_without t law c (hash_map_len u.consumers) (hash_map_len r.consumers) v (as_over v) row kept.is_there refl (ap (λ (o : Option Consumer). hash_map_len u.consumers + one o) (sym at) ∙ becomes.len) stands.count) refl
 
   -- it is to fail, and was shown nothing
   pub stands_down : (why : Cause) → answer_for t v ≡ None → ChangesAt r.consumers u.consumers c (put_down why) → RowsStand u (with_consumer c (Some (moved_to (place.Down why) v)) t)

@@ -4,7 +4,7 @@ use Rattle.std.specs.Prelude.{bytes_eq, ◌&&◌, ◌||◌, not}
 use Rattle.hc_entry.specs.Kept as keyed
 use Rattle.hc_entry.specs.Kept.{on_line}
 use Rattle.hc_entry.specs.Lines as lines
-use Rattle.hc_entry.specs.Lines.{is_among, is_held_by, released, come_back, held_by, left_by}
+use Rattle.hc_entry.specs.Lines.{is_among, is_held_by, holder_without, come_back, held_by, left_by}
 use Rattle.hc_entry.specs.Users.{itself}
 use Rattle.hc_sorted.specs.Sorted.{with_item, without}
 use Rattle.hc_sorted.proofs.SortedLemmas.{has-with, has-without}
@@ -125,7 +125,7 @@ with_is c cs d = has-with itself d c (without itself c cs) ∙ (ap (λ b. eqb c 
     by_test true = refl
     by_test false = refl
 
-released_is : (c : ℕ) (h : Option ℕ) (d : ℕ) → is_held_by d (released c h) ≡ cond (eqb c d) false (is_held_by d h)
+released_is : (c : ℕ) (h : Option ℕ) (d : ℕ) → is_held_by d (holder_without c h) ≡ cond (eqb c d) false (is_held_by d h)
 released_is c None d = by_test (eqb c d)
   where
     by_test : (b : Bool) → false ≡ cond b false false
@@ -154,7 +154,7 @@ module _ (t : Tables) (c : ℕ) (row : Option rows.Consumer) (key : List ℕ) (a
   }
 
   -- it has passed
-  pub passes_key : is_in_line key row ≡ false → is_passed key row ≡ true → is_away t key row ≡ false → has_turn key row ≡ false → KeyAfter t c row key a (on_line (lines.passed c) a)
+  pub passes_key : is_in_line key row ≡ false → is_passed key row ≡ true → is_away t key row ≡ false → has_turn key row ≡ false → KeyAfter t c row key a (on_line (lines.line_after_pass c) a)
   passes_key line passed away turn = record {
     current = refl;
     in_line = λ d. without_is c a.in_line d ∙ ap (λ b. cond (eqb c d) b (is_among d a.in_line)) (sym line);

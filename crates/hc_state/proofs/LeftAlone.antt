@@ -8,15 +8,15 @@ use Rattle.hc_event.specs.declared.place.BoundBy.{BoundBy}
 use Rattle.hc_event.specs.declared.place.BoundBy.TheVariants as by
 use Rattle.hc_model.specs.Closings.{is_last_reader}
 use Rattle.hc_model.specs.Currents.{is_number}
-use Rattle.hc_model.specs.Effects.{with_consumer, finished, left_by}
+use Rattle.hc_model.specs.Effects.{with_consumer, as_over, left_by}
 use Rattle.hc_model.specs.Exchanges.{family, is_open, is_headless}
 use Rattle.hc_model.specs.Kinds.{brings_to}
 use Rattle.hc_model.specs.Lawful.{Lawful}
 use Rattle.hc_model.specs.LettingGo.{MayLetGo}
-use Rattle.hc_model.specs.Reading.{own_open, shared, writing_in, is_written}
+use Rattle.hc_model.specs.Reading.{own_open, shared_exchange, writing_in, is_written}
 use Rattle.hc_model.specs.Rows.{Tables, Exchange, Representation, Consumer}
 use Rattle.hc_model.specs.Sound as sound
-use Rattle.hc_model.specs.Sound.{IsBound, IsAbout, IsHad, HasPen}
+use Rattle.hc_model.specs.Sound.{IsBound, IsAbout, IsHad, IsExclusiveWriter}
 use Rattle.hc_model.specs.Writers.{exclusive, has_more}
 use Rattle.hc_laws.proofs.AboutKeeps.{own_open_of}
 use Rattle.hc_model.proofs.Basics.{number_is}
@@ -45,7 +45,7 @@ how_left t c x k left = by_own (own_open t k) refl left
     by_row r lo hi how at None row h = none_some x h
     by_row r lo hi how at (Some v) row h = let both = test_some (is_written t v) v.writer x h in shared_by r lo hi how v at row both.0 both.1
 
-    by_place : (p : Place) → k.place ≡ p → shared t p ≡ Some x → HowLeft t c x k
+    by_place : (p : Place) → k.place ≡ p → shared_exchange t p ≡ Some x → HowLeft t c x k
     by_place (place.Bound r lo hi how) at is = by_row r lo hi how at (t.representation r) refl is
     by_place place.Line at is = none_some x is
     by_place (place.Passed r kept) at is = none_some x is
@@ -54,19 +54,19 @@ how_left t c x k left = by_own (own_open t k) refl left
     by_place (place.Down why) at is = none_some x is
     by_place place.Over at is = none_some x is
 
-    by_own : (z : Option ℕ) → own_open t k ≡ z → option_or z (if is_last_reader t c k.place then shared t k.place else None) ≡ Some x → HowLeft t c x k
+    by_own : (z : Option ℕ) → own_open t k ≡ z → option_or z (if is_last_reader t c k.place then shared_exchange t k.place else None) ≡ Some x → HowLeft t c x k
     by_own (Some y) is h = let both : own_open t k ≡ Some x = is ∙ h in own (own_open_of t k x both).own both
-    by_own None is h = by_place k.place refl (test_some (is_last_reader t c k.place) (shared t k.place) x h).1
+    by_own None is h = by_place k.place refl (test_some (is_last_reader t c k.place) (shared_exchange t k.place) x h).1
 
 module _ (t : Tables) (law : Lawful t) (c : ℕ) (k : Consumer) (row : t.consumer c ≡ Some k) (x : ℕ) (how : HowLeft t c x k) where
   abbrev s : Tables
-  s = with_consumer c (Some (finished k)) t
+  s = with_consumer c (Some (as_over k)) t
 
   other_row : (d : ℕ) (u : Consumer) → d ≢ c → s.consumer d ≡ Some u → t.consumer d ≡ Some u
   other_row d u ne is = (let same : s.consumer d ≡ t.consumer d = rw (eqb-other c d (λ e. ne (sym e))) refl in sym same ∙ is)
 
-  finished_is : (u : Consumer) → s.consumer c ≡ Some u → u ≡ finished k
-  finished_is u is = (let here : s.consumer c ≡ Some (finished k) = rw (eqb-same c) refl in some_is u (finished k) (sym is ∙ here))
+  finished_is : (u : Consumer) → s.consumer c ≡ Some u → u ≡ as_over k
+  finished_is u is = (let here : s.consumer c ≡ Some (as_over k) = rw (eqb-same c) refl in some_is u (as_over k) (sym is ∙ here))
 
   over_not_bound : (r lo : ℕ) (hi : Option ℕ) (by : BoundBy) → place.Over ≡ place.Bound r lo hi by → ⊥
   over_not_bound r lo hi by h = cc
@@ -85,7 +85,7 @@ module _ (t : Tables) (law : Lawful t) (c : ℕ) (k : Consumer) (row : t.consume
   pub left_unawaited : NobodyAwaits s x
   left_unawaited d r lo hi u is at = elim (same_or d c) [
     | inl e ↦
-        let mine : u ≡ finished k = finished_is u (subst (λ (n : ℕ). s.consumer n ≡ Some u) e is) in
+        let mine : u ≡ as_over k = finished_is u (subst (λ (n : ℕ). s.consumer n ≡ Some u) e is) in
         absurd (over_not_bound r lo hi (by.FirstHole x) (sym (ap (λ (z : Consumer). z.place) mine) ∙ at))
     | inr ne ↦ by_way ne (other_row d u ne is) how
   ]
@@ -130,21 +130,21 @@ module _ (t : Tables) (law : Lawful t) (c : ℕ) (k : Consumer) (row : t.consume
 
       by_had : k.own ≡ Some x → own_open t k ≡ Some x → IsHad t r v x → exclusive t r v ≡ Some c
       by_had mine opened_own (sound.shared written writer) = absurd (law.owned.apart r x c v k there written writer row mine)
-      by_had mine opened_own (sound.own d u reader owns undue pen) =
+      by_had mine opened_own (sound.own d u reader owns undue exclusive_writer) =
           let its : u.own ≡ Some x = (own_open_of t u x owns).own in
-          by_reader mine opened_own d u reader its undue pen
+          by_reader mine opened_own d u reader its undue exclusive_writer
         where
-          by_reader : k.own ≡ Some x → own_open t k ≡ Some x → (d : ℕ) (u : Consumer) → IsBound t r d u → u.own ≡ Some x → u.due ≡ None → HasPen t r v d → exclusive t r v ≡ Some c
-          by_reader mine opened_own d u (sound.is_bound lo hi way is at) its undue pen =
+          by_reader : k.own ≡ Some x → own_open t k ≡ Some x → (d : ℕ) (u : Consumer) → IsBound t r d u → u.own ≡ Some x → u.due ≡ None → IsExclusiveWriter t r v d → exclusive t r v ≡ Some c
+          by_reader mine opened_own d u (sound.is_bound lo hi way is at) its undue exclusive_writer =
               let one : d ≡ c = law.owned.one d c x u k is row its mine in
               let same_k : u ≡ k = same_row (t.consumer c) u k (subst (λ (n : ℕ). t.consumer n ≡ Some u) one is) row in
-              by_pen (subst (λ (n : ℕ). HasPen t r v n) one pen) (sym (ap (λ (z : Consumer). z.due) same_k) ∙ undue)
+              by_exclusive_writer (subst (λ (n : ℕ). IsExclusiveWriter t r v n) one exclusive_writer) (sym (ap (λ (z : Consumer). z.due) same_k) ∙ undue)
             where
-              by_pen : HasPen t r v c → k.due ≡ None → exclusive t r v ≡ Some c
-              by_pen (sound.first off came) none_due =
+              by_exclusive_writer : IsExclusiveWriter t r v c → k.due ≡ None → exclusive t r v ≡ Some c
+              by_exclusive_writer (sound.first off came) none_due =
                   let more : has_more t v k ≡ true = rw opened_own refl in
                   (law.alone.writes r c v k there kept (unwritten mine (is_written t v) refl) came row none_due).1 more
-              by_pen (sound.alone lost_is is_alone) none_due = false_true (sym kept ∙ lost_is)
+              by_exclusive_writer (sound.alone lost_is is_alone) none_due = false_true (sym kept ∙ lost_is)
 
       none_exclusive : is_written t v ≡ true → (z : Option ℕ) → exclusive t r v ≡ z → z ≡ None
       none_exclusive written None is = refl
@@ -171,17 +171,17 @@ module _ (t : Tables) (law : Lawful t) (c : ℕ) (k : Consumer) (row : t.consume
 -- WHAT IS HELD
 
 -- nothing is held for it, since it has left
-pub nothing_left : (t : Tables) (c r : ℕ) (k : Consumer) (v : Representation) (b : Bool) (alone : Option ℕ) → alone ≡ (if b then Some c else None) → HoldsNothing (with_consumer c (Some (finished k)) t) r v alone
-nothing_left t c r k v b alone is y z there of_r = ap (held_alone (with_consumer c (Some (finished k)) t) y z v) is ∙ by_test b
+pub nothing_left : (t : Tables) (c r : ℕ) (k : Consumer) (v : Representation) (b : Bool) (alone : Option ℕ) → alone ≡ (if b then Some c else None) → HoldsNothing (with_consumer c (Some (as_over k)) t) r v alone
+nothing_left t c r k v b alone is y z there of_r = ap (held_alone (with_consumer c (Some (as_over k)) t) y z v) is ∙ by_test b
   where
-    by_test : (b : Bool) → held_alone (with_consumer c (Some (finished k)) t) y z v (if b then Some c else None) ≡ []
+    by_test : (b : Bool) → held_alone (with_consumer c (Some (as_over k)) t) y z v (if b then Some c else None) ≡ []
     by_test true = rw (eqb-same c) refl
     by_test false = refl
 
 -- WHAT MAY BE LET GO
 
 -- whoever waited for a body still does, and the rest is as it was
-pub may_without : (t : Tables) (c : ℕ) (k : Consumer) → t.consumer c ≡ Some k → MayLetGo t → MayLetGo (with_consumer c (Some (finished k)) t)
+pub may_without : (t : Tables) (c : ℕ) (k : Consumer) → t.consumer c ≡ Some k → MayLetGo t → MayLetGo (with_consumer c (Some (as_over k)) t)
 may_without t c k row may = record {
   one_current = may.one_current;
   founded = may.founded;
@@ -195,23 +195,23 @@ may_without t c k row may = record {
   ];
 }
   where
-    other_same : (d : ℕ) → d ≢ c → (with_consumer c (Some (finished k)) t).consumer d ≡ t.consumer d
+    other_same : (d : ℕ) → d ≢ c → (with_consumer c (Some (as_over k)) t).consumer d ≡ t.consumer d
     other_same d ne = rw (eqb-other c d (λ e. ne (sym e))) refl
 
     never : (r : ℕ) (kept : Option ℕ) → place.Over ≡ place.Passed r kept → ⊥
     never r kept h = cc
 
-    over_not_passed : (d r : ℕ) (kept : Option ℕ) (u : Consumer) → d ≡ c → (with_consumer c (Some (finished k)) t).consumer d ≡ Some u → u.place ≡ place.Passed r kept → ⊥
+    over_not_passed : (d r : ℕ) (kept : Option ℕ) (u : Consumer) → d ≡ c → (with_consumer c (Some (as_over k)) t).consumer d ≡ Some u → u.place ≡ place.Passed r kept → ⊥
     over_not_passed d r kept u e is at =
-        let here : (with_consumer c (Some (finished k)) t).consumer c ≡ Some (finished k) = rw (eqb-same c) refl in
-        let mine : u ≡ finished k = some_is u (finished k) (sym (subst (λ (n : ℕ). (with_consumer c (Some (finished k)) t).consumer n ≡ Some u) e is) ∙ here) in
+        let here : (with_consumer c (Some (as_over k)) t).consumer c ≡ Some (as_over k) = rw (eqb-same c) refl in
+        let mine : u ≡ as_over k = some_is u (as_over k) (sym (subst (λ (n : ℕ). (with_consumer c (Some (as_over k)) t).consumer n ≡ Some u) e is) ∙ here) in
         never r kept (sym (ap (λ (z : Consumer). z.place) mine) ∙ at)
 
 -- WHAT IT LEFT MAY BE CLOSED
 
 -- the consumers once it is gone
 abbrev pub once_left : Tables → ℕ → Consumer → ℕ → Option Consumer
-once_left t c k d = if c == d then Some (finished k) else t.consumer d
+once_left t c k d = if c == d then Some (as_over k) else t.consumer d
 
 pub leave_stops : (t : Tables) (law : Lawful t) (c : ℕ) (k : Consumer) → t.consumer c ≡ Some k → (x : ℕ) → left_by t c k ≡ Some x → (w : Exchange) → t.exchange x ≡ Some w → w.is_open ≡ true → (alone : Option ℕ) → alone ≡ (if is_number k.own x then Some c else None) → MayStop t (once_left t c k) x alone
 leave_stops t law c k row x left w ex opened alone is = record {

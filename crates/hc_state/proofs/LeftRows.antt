@@ -17,16 +17,16 @@ use Rattle.hc_event.specs.declared.place.Place.{Place}
 use Rattle.hc_event.specs.declared.place.Place.TheVariants as place
 use Rattle.hc_model.specs.Closings.{is_last_reader}
 use Rattle.hc_model.specs.Currents.{is_number}
-use Rattle.hc_model.specs.Effects.{left_by, with_consumer, finished}
+use Rattle.hc_model.specs.Effects.{left_by, with_consumer, as_over}
 use Rattle.hc_model.specs.Exchanges.{is_open}
 use Rattle.hc_model.specs.Lawful.{Lawful}
-use Rattle.hc_model.specs.Reading.{bound, is_bound, own_open, if_open, shared, writing_in, is_written, is_open_writer}
+use Rattle.hc_model.specs.Reading.{bound, is_bound, own_open, if_open, shared_exchange, writing_in, is_written, is_open_writer}
 use Rattle.hc_model.specs.Rows as rows
 use Rattle.hc_model.specs.Rows.{Tables, Exchange, Representation}
 use Rattle.hc_model.specs.Sound as sound
 use Rattle.hc_model.specs.Sound.{Among}
 use Rattle.hc_laws.proofs.OfConsumers.{left_open}
-use Rattle.hc_model.proofs.Pens.{filter_some}
+use Rattle.hc_model.proofs.ExclusiveWriters.{filter_some}
 use Rattle.hc_state.specs.declared.consumer.Consumer.{Consumer}
 use Rattle.hc_state.specs.declared.rows.Rows.{Rows}
 use Rattle.hc_state.specs.Kept.{IsKept, KeepsConsumer, KeepsRunning}
@@ -155,10 +155,10 @@ module _ {B : Type 0} {g : Ghosts B} (r : Rows B g) (t : Tables) (stands : RowsS
         (λ all. all_passing test (λ d. is_bound q (t.consumer d)) t.starts (λ d passes. has_all test e.bound all d (kept.bound d ∙ passes)))
         (λ all. all_has test e.bound (λ d has_it. let passes : is_bound q (t.consumer d) ≡ true = sym (kept.bound d) ∙ has_it in passing_all test (λ n. is_bound q (t.consumer n)) t.starts all d (law.sound.numbered.lists.started d (bound_there q (t.consumer d) passes)) passes))
 
-    last_as : last_read (table_of r.exchanges) (shelf_of r.entries) c v.place ≡ (if is_last_reader t c v.place then shared t v.place else None)
+    last_as : last_read (table_of r.exchanges) (shelf_of r.entries) c v.place ≡ (if is_last_reader t c v.place then shared_exchange t v.place else None)
     last_as = by_place v.place refl
       where
-        by_place : (p : Place) → v.place ≡ p → last_read (table_of r.exchanges) (shelf_of r.entries) c p ≡ (if is_last_reader t c p then shared t p else None)
+        by_place : (p : Place) → v.place ≡ p → last_read (table_of r.exchanges) (shelf_of r.entries) c p ≡ (if is_last_reader t c p then shared_exchange t p else None)
         by_place (place.Bound q lo hi how) at =
             ap₂ (λ (b : Bool) (o : Option ℕ). if b then o else None)
             (all_as q (λ d. d == c) (rw at (eqb-same q)) (law.sound.numbered.bound_to q c v (sound.is_bound lo hi how row at)) ((shelf_of r.entries).kept q) (t.representation q) refl (stands.entries.each q))
@@ -197,12 +197,12 @@ module _ {B : Type 0} {g : Ghosts B} (r : Rows B g) (t : Tables) (law : Lawful t
 
 -- what it leaves is still open once it is gone
 pub left_runs : {B : Type 0} {g : Ghosts B} (r mid : Rows B g) (t : Tables) (law : Lawful t) (c x : ℕ) (left : Option ℕ) → is_some (get nat_eq r.consumers c) ≡ true → IsSomeAnd (get nat_eq r.consumers c) (λ k. left ≡ left_of r c k) → left ≡ Some x → RowsStand r t
-    → ((v : rows.Consumer) → t.consumer c ≡ Some v → RowsStand mid (with_consumer c (Some (finished v)) t)) → is_some (table_of mid.exchanges x).running ≡ true
+    → ((v : rows.Consumer) → t.consumer c ≡ Some v → RowsStand mid (with_consumer c (Some (as_over v)) t)) → is_some (table_of mid.exchanges x).running ≡ true
 left_runs r mid t law c x left lives known is stands after =
     let found = is_there (get nat_eq r.consumers c) lives in
     let kept = kept_row t found.0 (t.consumer c) (subst (λ o. KeepsConsumer t o (t.consumer c)) found.1 (stands.consumers c)) in
     let leaves : left_by t c kept.0 ≡ Some x = sym (left_is r t law c kept.0 kept.1 stands left known) ∙ is in
-    is_open_as mid (with_consumer c (Some (finished kept.0)) t) (after kept.0 kept.1) x ∙ left_open t law.sound law.owned c kept.0 kept.1 x leaves
+    is_open_as mid (with_consumer c (Some (as_over kept.0)) t) (after kept.0 kept.1) x ∙ left_open t law.sound law.owned c kept.0 kept.1 x leaves
 
 -- the row of who is kept
 pub live_row : {B : Type 0} {g : Ghosts B} (r : Rows B g) (t : Tables) (c : ℕ) → is_some (get nat_eq r.consumers c) ≡ true → RowsStand r t → (v : rows.Consumer) × (t.consumer c ≡ Some v)

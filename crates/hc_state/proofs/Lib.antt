@@ -3,7 +3,7 @@ pub mod Beside
 pub mod Ties
 pub mod ConsumerSteps
 pub mod Counting
-pub mod Asides
+pub mod Fallbacks
 pub mod OneOfEach
 pub mod Unbinding
 pub mod Apart
@@ -22,7 +22,7 @@ pub mod SealWritten
 pub mod Answering
 pub mod BoundLists
 pub mod Rooms
-pub mod AsideSteps
+pub mod FallbackSteps
 pub mod ReaderSteps
 pub mod KeySteps
 pub mod QueueArm

@@ -7,7 +7,7 @@ use Rattle.hc_stored.specs.Entries.{shelf_of}
 use Rattle.hc_stored.specs.Kept as entry
 use Rattle.hc_stored.specs.Kept.{Kept}
 use Rattle.hc_stored.specs.Shelf as shelf
-use Rattle.hc_stored.specs.Shelf.{Shelf, unmoved}
+use Rattle.hc_stored.specs.Shelf.{Shelf, same_order}
 use Rattle.hc_entry.specs.Keys.{kept_of}
 use Rattle.hc_exch.specs.Exchanges.{table_of, next_of}
 use Rattle.hc_event.specs.declared.place.Place.{Place}
@@ -23,11 +23,11 @@ use Rattle.hc_model.specs.Rows as rows
 use Rattle.hc_model.specs.Rows.{Tables, Exchange, Representation}
 use Rattle.hc_model.specs.Writers.{status_in}
 use Rattle.hc_state.specs.declared.rows.Rows.{Rows}
-use Rattle.hc_state.specs.Kept.{KeepsConsumer, KeepsExchange, held_for, held_of, held_alone, unstored}
+use Rattle.hc_state.specs.Kept.{KeepsConsumer, KeepsExchange, held_for, held_of, held_alone, unstored_bytes}
 use Rattle.hc_state.specs.Stands.{RowsStand}
 use Rattle.hc_state.specs.Stopped.{HoldsNothing}
 use Rattle.hc_state.specs.Stored.{IsEntry, TellsLength, told, untold, KeepsEntry, KeepsEntries, is_first, is_usable_row}
-use Rattle.hc_state.proofs.Asides.{unstored_moved}
+use Rattle.hc_state.proofs.Fallbacks.{unstored_moved}
 use Rattle.hc_state.proofs.Ties.{consumer_same, exchange_same, key_same, entry_same}
 use Rattle.hc_state.proofs.Words.{same_or, eqb-same, eqb-other, false_true, same_row, as_received}
 
@@ -102,7 +102,7 @@ module _ (t : Tables) (r : ℕ) (v : Representation) (alone : Option ℕ) (row :
       by_alone None = refl
       by_alone (Some c) = by_consumer (t.consumer c)
         where
-          by_consumer : (z : Option rows.Consumer) → unstored t y w (lost_to alone v) z ≡ unstored t y w v z
+          by_consumer : (z : Option rows.Consumer) → unstored_bytes t y w (lost_to alone v) z ≡ unstored_bytes t y w v z
           by_consumer None = refl
           by_consumer (Some k) = refl
 
@@ -148,7 +148,7 @@ module _ (t : Tables) (r : ℕ) (v : Representation) (alone : Option ℕ) (row :
 
   -- REPRESENTATIONS
 
-  entry_lost : (e : Kept) → IsEntry t r e v → IsEntry s r (entry.lost alone e) (lost_to alone v)
+  entry_lost : (e : Kept) → IsEntry t r e v → IsEntry s r (entry.kept_as_lost alone e) (lost_to alone v)
   unfolding bound kind_of
   entry_lost e is = record {
     used = is.used;
@@ -167,11 +167,11 @@ module _ (t : Tables) (r : ℕ) (v : Representation) (alone : Option ℕ) (row :
     is_gone = is.is_gone;
   }
     where
-      by_length : TellsLength e v → TellsLength (entry.lost alone e) (lost_to alone v)
+      by_length : TellsLength e v → TellsLength (entry.kept_as_lost alone e) (lost_to alone v)
       by_length (told same) = told same
       by_length (untold u) = untold (record { gone = u.gone; untold = u.untold; total = u.total; known = u.known; came = u.came; first = u.first })
 
-  entries_lost : (a b : Shelf) → KeepsEntries t a → shelf.Becomes (option_map (entry.lost alone)) unmoved r a b → shelf.is_kept a r ≡ true → KeepsEntries s b
+  entries_lost : (a b : Shelf) → KeepsEntries t a → shelf.Becomes (option_map (entry.kept_as_lost alone)) same_order r a b → shelf.is_kept a r ≡ true → KeepsEntries s b
   unfolding bound kind_of
   entries_lost a b kept becomes there = record {
     each = λ q. elim (same_or r q) [
@@ -185,14 +185,14 @@ module _ (t : Tables) (r : ℕ) (v : Representation) (alone : Option ℕ) (row :
       by_kept None at = false_true (sym (ap (λ z. is_some z) at) ∙ there)
       by_kept (Some e) at =
           let is : IsEntry t r e v = subst (λ k. KeepsEntry t r k (Some v)) at (subst (KeepsEntry t r (a.kept r)) row (kept.each r)) in
-          let after : b.kept r ≡ Some (entry.lost alone e) = becomes.kept r ∙ rw (eqb-same r, at) refl in
-          subst (λ k. KeepsEntry s r k (s.representation r)) (sym after) (subst (KeepsEntry s r (Some (entry.lost alone e))) (sym here) (entry_lost e is))
+          let after : b.kept r ≡ Some (entry.kept_as_lost alone e) = becomes.kept r ∙ rw (eqb-same r, at) refl in
+          subst (λ k. KeepsEntry s r k (s.representation r)) (sym after) (subst (KeepsEntry s r (Some (entry.kept_as_lost alone e))) (sym here) (entry_lost e is))
 
 -- ALL OF IT
 
 pub stands_lost : {B : Type 0} {g : Ghosts B} (r u : Rows B g) (t : Tables) (q : ℕ) (v : Representation) (alone : Option ℕ) (row : t.representation q ≡ Some v) → RowsStand r t → v.alone ≡ None → HoldsNothing t q v alone
     → u.limits ≡ r.limits → u.received ≡ r.received → u.last_start ≡ r.last_start → u.consumers ≡ r.consumers → u.keys ≡ r.keys → u.exchanges ≡ r.exchanges
-    → shelf.Becomes (option_map (entry.lost alone)) unmoved q (shelf_of r.entries) (shelf_of u.entries) → shelf.is_kept (shelf_of r.entries) q ≡ true → RowsStand u (with_representation q (Some (lost_to alone v)) t)
+    → shelf.Becomes (option_map (entry.kept_as_lost alone)) same_order q (shelf_of r.entries) (shelf_of u.entries) → shelf.is_kept (shelf_of r.entries) q ≡ true → RowsStand u (with_representation q (Some (lost_to alone v)) t)
 stands_lost r u t q v alone row stands nobody nothing limits received last consumers keys exchanges becomes there =
     let z : Tables = with_representation q (Some (lost_to alone v)) t in
     record {

@@ -25,7 +25,7 @@ use Rattle.hc_state.specs.Kept.{IsKept, KeepsConsumer, answer_for}
 use Rattle.hc_state.specs.Lines.{KeepsKey}
 use Rattle.hc_state.specs.Plans.{is_idle_at, in_line}
 use Rattle.hc_state.specs.Stands.{RowsStand}
-use Rattle.hc_state.proofs.AsideSteps.{stands_aside}
+use Rattle.hc_state.proofs.FallbackSteps.{falls_back}
 use Rattle.hc_state.proofs.ConsumerSteps.{keys_with}
 use Rattle.hc_state.proofs.KeySteps.{says_elsewhere, lined, comes_back}
 use Rattle.hc_state.proofs.Words.{same_or, eqb-same, eqb-other, then_false, false_true, as_received}
@@ -123,5 +123,5 @@ module _ {B : Type 0} {g : Ghosts B} (r u : Rows B g) (t : Tables) (law : Lawful
 
     pub stands_back : RowsStand u (with_consumer c (Some (in_line v)) t)
     stands_back =
-        stands_aside r u t c v (in_line v) (lined_up k) stands row (ap reads v_at) refl (ap is_live_place v_at) refl limits received last exchanges entries
+        falls_back r u t c v (in_line v) (lined_up k) stands row (ap reads v_at) refl (ap is_live_place v_at) refl limits received last exchanges entries
         (becomes_by r.consumers u.consumers c k lined_up there changes) (in_line_kept t k v q how v_at kept) keys_then

@@ -21,12 +21,12 @@ use Rattle.hc_model.specs.Rows.{Tables, Exchange, Representation}
 use Rattle.hc_state.specs.declared.consumer.Consumer.{Consumer}
 use Rattle.hc_state.specs.declared.rows.Rows.{Rows}
 use Rattle.hc_state.specs.Changes.{BecomesAt}
-use Rattle.hc_state.specs.Kept.{IsKept, KeepsExchange, held_for, held_of, held_alone, unread, unstored}
+use Rattle.hc_state.specs.Kept.{IsKept, KeepsExchange, held_for, held_of, held_alone, unread, unstored_bytes}
 use Rattle.hc_state.specs.Lines.{has_turn, is_passed, is_away}
 use Rattle.hc_state.specs.Stands.{RowsStand, Stands, Answered}
 use Rattle.hc_state.specs.Stored.{KeepsEntries, is_first}
-use Rattle.hc_state.proofs.AsideSteps.{length_same, live_same}
-use Rattle.hc_state.proofs.Asides.{unstored_moved}
+use Rattle.hc_state.proofs.FallbackSteps.{length_same, live_same}
+use Rattle.hc_state.proofs.Fallbacks.{unstored_moved}
 use Rattle.hc_state.proofs.ConsumerSteps.{SaysOfIt, all_kept_with, key_stays, key_with}
 use Rattle.hc_state.proofs.OneOfEach.{entries_same}
 use Rattle.hc_state.proofs.Ties.{exchange_same}
@@ -54,7 +54,7 @@ pub some_read : {B : Type 0} {g : Ghosts B} (r u : Rows B g) → u.limits ≡ r.
 some_read r u limits received last consumers exchanges same_keys read s = record {
   t = s.t;
   facts = rw limits s.facts;
-  modest = s.modest;
+  within_limits = s.within_limits;
   rows = stands_read r u s.t limits received last consumers exchanges same_keys read s.rows;
 }
 
@@ -85,17 +85,17 @@ module _ (t : Tables) (c : ℕ) (v : rows.Consumer) (shown : Bool) (given : ℕ)
   -- WHAT IS HELD
 
   module _ (y : ℕ) (z : Exchange) (past : z.c ≡ c → unread y z (Some w) ≡ unread y z (Some v))
-      (lost : (p : Representation) → t.representation (family y z) ≡ Some p → p.alone ≡ Some c → unstored t y z p (Some w) ≡ unstored t y z p (Some v)) where
+      (lost : (p : Representation) → t.representation (family y z) ≡ Some p → p.alone ≡ Some c → unstored_bytes t y z p (Some w) ≡ unstored_bytes t y z p (Some v)) where
     past_same : (d : ℕ) → z.c ≡ d → unread y z (s.consumer d) ≡ unread y z (t.consumer d)
     past_same d opener = elim (same_or c d) [
       | inl e ↦ rw (← e, here, row) (past (opener ∙ sym e))
       | inr ne ↦ ap (unread y z) (others d (λ e. ne (sym e)))
     ]
 
-    lost_same : (p : Representation) → t.representation (family y z) ≡ Some p → (d : ℕ) → p.alone ≡ Some d → unstored s y z p (s.consumer d) ≡ unstored t y z p (t.consumer d)
+    lost_same : (p : Representation) → t.representation (family y z) ≡ Some p → (d : ℕ) → p.alone ≡ Some d → unstored_bytes s y z p (s.consumer d) ≡ unstored_bytes t y z p (t.consumer d)
     lost_same p there d alone = unstored_moved t s y z p (s.consumer d) ∙ elim (same_or c d) [
       | inl e ↦ rw (← e, here, row) (lost p there (alone ∙ ap Some (sym e)))
-      | inr ne ↦ ap (unstored t y z p) (others d (λ e. ne (sym e)))
+      | inr ne ↦ ap (unstored_bytes t y z p) (others d (λ e. ne (sym e)))
     ]
 
     alone_same : (p : Representation) → t.representation (family y z) ≡ Some p → (o : Option ℕ) → p.alone ≡ o → held_alone s y z p o ≡ held_alone t y z p o

@@ -2,36 +2,36 @@
 use Rattle.std.proofs.Common.{◌≡◌, ℕ, ◌<◌, ◌≤◌, ◌^◌, length, true, Option, Some, refl, ap, ap₂, sym, ◌∙◌, subst, arith}
 use Rattle.std.specs.Prelude.{codes, nat_eq, nat_le, option_map, if◌then◌else◌}
 use Rattle.std.proofs.lemmas.Bool.Decides.{nat_tests}
-use Rattle.hc_fields.specs.FieldList.{IsFieldList, IsModest, size_of}
+use Rattle.hc_fields.specs.FieldList.{IsFieldList, IsWithinLimits, size_of}
 use Rattle.hc_record.specs.Head.{Head, IsHead, one_strong_opaque}
 use Rattle.hc_validate.specs.Heads.{FieldPairs}
-use Rattle.hc_validate.specs.Updates.{is_modest, updated}
+use Rattle.hc_validate.specs.Updates.{is_within_limits, updated_fields}
 use Rattle.hc_model.proofs.Basics.{and_left, and_right}
-use Rattle.hc_model.proofs.FieldsKeep.{values_kept, modest_kept}
+use Rattle.hc_model.proofs.FieldsKeep.{values_kept, within_limits_kept}
 use Rattle.hc_stored.specs.Kept.{Kept, with_head}
-use Rattle.hc_stored.specs.Shelf.{Shelf, Becomes, Stays, head_at, unmoved}
+use Rattle.hc_stored.specs.Shelf.{Shelf, Becomes, Stays, head_at, same_order}
 use Rattle.hc_exch.specs.declared.row.Open.{Open}
 use Rattle.hc_exch.specs.declared.row.Opening.{Opening}
 use Rattle.hc_exch.specs.Known.{begins_with}
 use Rattle.hc_exch.specs.Openings.{opened_with}
-use Rattle.hc_state.specs.Renewals.{renewed, Renews}
+use Rattle.hc_state.specs.Renewals.{renewed_head, Renews}
 use Rattle.hc_state.proofs.Words.{some_is}
 
-modest_test : (fields : FieldPairs) → IsModest fields → is_modest fields ≡ true
-modest_test fields is =
+within_limits_test : (fields : FieldPairs) → IsWithinLimits fields → is_within_limits fields ≡ true
+within_limits_test fields is =
     let few : length fields ≤ 64 = is.few in
     let small : size_of fields ≤ 32768 = is.small in
     let first : nat_le (length fields) 64 ≡ true = grind (arith, nat_tests, few) in
     let second : nat_le (size_of fields) 32768 ≡ true = grind (arith, nat_tests, small) in
     rw (first, second) refl
 
-modest_told : (fields : FieldPairs) → is_modest fields ≡ true → IsModest fields
-modest_told fields on =
+within_limits_told : (fields : FieldPairs) → is_within_limits fields ≡ true → IsWithinLimits fields
+within_limits_told fields on =
     let first : nat_le (length fields) 64 ≡ true = and_left _ _ on in
     let second : nat_le (size_of fields) 32768 ≡ true = and_right (nat_le (length fields) 64) _ on in
     record { few = grind (arith, nat_tests, first); small = grind (arith, nat_tests, second) }
 
-pub renewed_is : (head : Head) (requested answered : ℕ) (from : FieldPairs) → IsHead head → requested < 2 ^ 62 → answered < 2 ^ 62 → IsFieldList (updated head.fields from) → IsHead (renewed requested answered from head)
+pub renewed_is : (head : Head) (requested answered : ℕ) (from : FieldPairs) → IsHead head → requested < 2 ^ 62 → answered < 2 ^ 62 → IsFieldList (updated_fields head.fields from) → IsHead (renewed_head requested answered from head)
 renewed_is head requested answered from is asked came list = record {
   known_status = is.known_status;
   small_total = is.small_total;
@@ -40,7 +40,7 @@ renewed_is head requested answered from is asked came list = record {
   own_joining = is.own_joining ∙ ap one_strong_opaque (sym (values_kept (codes "etag") refl head.fields from));
   vary_list = is.vary_list;
   list = list;
-  modest = modest_told (updated head.fields from) (modest_kept head.fields from (modest_test head.fields is.modest));
+  within_limits = within_limits_told (updated_fields head.fields from) (within_limits_kept head.fields from (within_limits_test head.fields is.within_limits));
 }
 
 -- when it was opened
@@ -50,16 +50,16 @@ opened_moment op running o is at =
     ap (λ z. z.2) same
 
 -- a renewed head is what is kept then
-pub renewed_by : (a b : Shelf) (r requested moment now : ℕ) (from : FieldPairs) (old new : Head) → new ≡ renewed requested now from old → requested ≡ moment → Becomes (option_map (with_head new)) unmoved r a b → Becomes (option_map (with_head (renewed moment now from old))) unmoved r a b
+pub renewed_by : (a b : Shelf) (r requested moment now : ℕ) (from : FieldPairs) (old new : Head) → new ≡ renewed_head requested now from old → requested ≡ moment → Becomes (option_map (with_head new)) same_order r a b → Becomes (option_map (with_head (renewed_head moment now from old))) same_order r a b
 renewed_by a b r requested moment now from old new is opened becomes =
-    subst (λ (h : Head). Becomes (option_map (with_head h)) unmoved r a b) (is ∙ ap (λ (m : ℕ). renewed m now from old) opened) becomes
+    subst (λ (h : Head). Becomes (option_map (with_head h)) same_order r a b) (is ∙ ap (λ (m : ℕ). renewed_head m now from old) opened) becomes
 
 -- the head that is kept
 pub head_is : (a : Shelf) (r : ℕ) (old : Head) (k : Kept) → head_at a r ≡ Some old → a.kept r ≡ Some k → old ≡ k.head
 head_is a r old k its at = some_is old k.head (sym its ∙ ap (option_map (λ (e : Kept). e.head)) at)
 
 -- where all stayed before
-pub after_stays : (f : Option Kept → Option Kept) (a b c : Shelf) (r : ℕ) → Stays a b → Becomes f unmoved r b c → Becomes f unmoved r a c
+pub after_stays : (f : Option Kept → Option Kept) (a b c : Shelf) (r : ℕ) → Stays a b → Becomes f same_order r b c → Becomes f same_order r a c
 after_stays f a b c r stays becomes = record {
   kept = λ q. becomes.kept q ∙ ap₂ (λ (x y : Option Kept). if nat_eq r q then f x else y) (stays.kept r) (stays.kept q);
   order = becomes.order ∙ stays.order;
@@ -67,7 +67,7 @@ after_stays f a b c r stays becomes = record {
 }
 
 -- the head that was read is renewed
-pub renews_read : (a b c : Shelf) (r moment now : ℕ) (from : FieldPairs) (old : Head) → head_at a r ≡ Some old → Stays a b → Becomes (option_map (with_head (renewed moment now from old))) unmoved r b c → Renews moment now from r a c
+pub renews_read : (a b c : Shelf) (r moment now : ℕ) (from : FieldPairs) (old : Head) → head_at a r ≡ Some old → Stays a b → Becomes (option_map (with_head (renewed_head moment now from old))) same_order r b c → Renews moment now from r a c
 renews_read a b c r moment now from old its stays becomes = λ k at.
-    subst (λ (h : Head). Becomes (option_map (with_head (renewed moment now from h))) unmoved r a c) (head_is a r old k its at)
-    (after_stays (option_map (with_head (renewed moment now from old))) a b c r stays becomes)
+    subst (λ (h : Head). Becomes (option_map (with_head (renewed_head moment now from h))) same_order r a c) (head_is a r old k its at)
+    (after_stays (option_map (with_head (renewed_head moment now from old))) a b c r stays becomes)

@@ -15,11 +15,11 @@ use Rattle.hc_stored.specs.Entries.{shelf_of}
 use Rattle.hc_stored.specs.Kept as entry
 use Rattle.hc_stored.specs.Kept.{Kept}
 use Rattle.hc_stored.specs.Shelf as shelf
-use Rattle.hc_stored.specs.Shelf.{Shelf, unmoved}
+use Rattle.hc_stored.specs.Shelf.{Shelf, same_order}
 use Rattle.hc_stored.specs.Views.{view_of}
 use Rattle.hc_exch.specs.Exchanges as exch
 use Rattle.hc_exch.specs.Known as known
-use Rattle.hc_model.specs.Effects.{with_representation, closed, over, let_go, gone, lost_to}
+use Rattle.hc_model.specs.Effects.{with_representation, tables_after_close, over, let_go, as_gone, lost_to}
 use Rattle.hc_model.specs.Exchanges.{family}
 use Rattle.hc_model.specs.Growing.{Grows}
 use Rattle.hc_model.specs.Holes.{covers}
@@ -99,21 +99,21 @@ module _ (limits : Limits) (t : Tables) (facts : Facts limits t) (f : ℕ → Op
     grows_here = record { w = w; row = ex; is_open = opened; headed = stays.headed; of_r = stays.of_q }
 
     -- nothing else brings it
-    only_grower : (y : ℕ) → brings_to q y ((closed x s).exchange y) ≡ false
+    only_grower : (y : ℕ) → brings_to q y ((tables_after_close x s).exchange y) ≡ false
     only_grower y = elim (same_or x y) [
-      | inl e ↦ (let after : (closed x s).exchange y ≡ option_map over (t.exchange y) = rw (e, eqb-same y) refl in ap (brings_to q y) after ∙ not_over (t.exchange y))
-      | inr ne ↦ (let after : (closed x s).exchange y ≡ t.exchange y = rw (eqb-other x y ne) refl in ap (brings_to q y) after ∙ nothing_else t facts.law x q stays.p stays.row grows_here y ne)
+      | inl e ↦ (let after : (tables_after_close x s).exchange y ≡ option_map over (t.exchange y) = rw (e, eqb-same y) refl in ap (brings_to q y) after ∙ not_over (t.exchange y))
+      | inr ne ↦ (let after : (tables_after_close x s).exchange y ≡ t.exchange y = rw (eqb-other x y ne) refl in ap (brings_to q y) after ∙ nothing_else t facts.law x q stays.p stays.row grows_here y ne)
     ]
       where
         not_over : (o : Option Exchange) → brings_to q y (option_map over o) ≡ false
         not_over None = refl
         not_over (Some z) = refl
 
-    kind_is : kind_of (closed x s) q stays.p ≡ kind_left stays.p
+    kind_is : kind_of (tables_after_close x s) q stays.p ≡ kind_left stays.p
     unfolding kind_of
-    kind_is = (let still : is_growing (closed x s) q ≡ false = any_none (λ y. brings_to q y ((closed x s).exchange y)) t.openings only_grower in rw still refl)
+    kind_is = (let still : is_growing (tables_after_close x s) q ≡ false = any_none (λ y. brings_to q y ((tables_after_close x s).exchange y)) t.openings only_grower in rw still refl)
 
-    sealed_entry : (sort : Kind) (total : Option ℕ) → sort ≡ kind_left stays.p → total ≡ stays.e.head.total → IsEntry (closed x s) q (entry.sealed sort total stays.e) stays.p
+    sealed_entry : (sort : Kind) (total : Option ℕ) → sort ≡ kind_left stays.p → total ≡ stays.e.head.total → IsEntry (tables_after_close x s) q (entry.sealed_kept sort total stays.e) stays.p
     unfolding bound
     sealed_entry sort total sort_is total_is =
         let is = stays.is in
@@ -128,7 +128,7 @@ module _ (limits : Limits) (t : Tables) (facts : Facts limits t) (f : ℕ → Op
           cells = is.cells;
           reach = is.reach;
           bound = is.bound;
-          first = λ d. is.first d ∙ sym (first_row s (closed x s) (λ n. refl) q (s.consumer d));
+          first = λ d. is.first d ∙ sym (first_row s (tables_after_close x s) (λ n. refl) q (s.consumer d));
           writer = writer_then (λ y on. overs_closed (nat_eq x y) (t.exchange y) on) is.writer;
           is_lost = is.is_lost;
           alone = is.alone;
@@ -139,19 +139,19 @@ module _ (limits : Limits) (t : Tables) (facts : Facts limits t) (f : ℕ → Op
         by_length (told same) = same
         by_length (untold u) = false_true (sym stays.stays ∙ u.gone)
 
-    entries_sealed : (b : Shelf) (sort : Kind) (total : Option ℕ) → sort ≡ kind_left stays.p → total ≡ stays.e.head.total → KeepsEntries s shelf_before → shelf.Becomes (option_map (entry.sealed sort total)) unmoved q shelf_before b → KeepsEntries (closed x s) b
+    entries_sealed : (b : Shelf) (sort : Kind) (total : Option ℕ) → sort ≡ kind_left stays.p → total ≡ stays.e.head.total → KeepsEntries s shelf_before → shelf.Becomes (option_map (entry.sealed_kept sort total)) same_order q shelf_before b → KeepsEntries (tables_after_close x s) b
     entries_sealed b sort total sort_is total_is kept becomes = record {
       each = λ n. elim (same_or q n) [
-        | inl e ↦ subst (λ m. KeepsEntry (closed x s) m (b.kept m) ((closed x s).representation m)) e by_seal
+        | inl e ↦ subst (λ m. KeepsEntry (tables_after_close x s) m (b.kept m) ((tables_after_close x s).representation m)) e by_seal
         | inr ne ↦ rw (becomes.kept n, eqb-other q n ne) (entry_closed s x n (shelf_before.kept n) (t.representation n) (λ p there here. ap (brings_to n x) ex ∙ then_false w.is_open (nat_eq (family x w) n) (rw stays.of_q (eqb-other q n ne))) (kept.each n))
       ];
       order = becomes.order ∙ kept.order;
     }
       where
-        by_seal : KeepsEntry (closed x s) q (b.kept q) (t.representation q)
+        by_seal : KeepsEntry (tables_after_close x s) q (b.kept q) (t.representation q)
         by_seal =
-            let after : b.kept q ≡ Some (entry.sealed sort total stays.e) = becomes.kept q ∙ rw (eqb-same q, stays.kept) refl in
-            subst (λ k. KeepsEntry (closed x s) q k (t.representation q)) (sym after) (subst (KeepsEntry (closed x s) q (Some (entry.sealed sort total stays.e))) (sym stays.row) (sealed_entry sort total sort_is total_is))
+            let after : b.kept q ≡ Some (entry.sealed_kept sort total stays.e) = becomes.kept q ∙ rw (eqb-same q, stays.kept) refl in
+            subst (λ k. KeepsEntry (tables_after_close x s) q k (t.representation q)) (sym after) (subst (KeepsEntry (tables_after_close x s) q (Some (entry.sealed_kept sort total stays.e))) (sym stays.row) (sealed_entry sort total sort_is total_is))
 
 -- WHERE IT STOPS
 
@@ -160,8 +160,8 @@ module _ {B : Type 0} {g : Ghosts B} (limits : Limits) (r u : Rows B g) (t : Tab
   after = with_consumers f t
 
   -- it is sealed
-  pub stopped_sealed : RowsStand r after → u.limits ≡ r.limits → u.received ≡ r.received → u.last_start ≡ r.last_start → u.consumers ≡ r.consumers → u.keys ≡ r.keys → exch.Becomes known.closed x r.exchanges u.exchanges
-      → (sort : Kind) (total : Option ℕ) → sort ≡ kind_left stays.p → total ≡ stays.e.head.total → shelf.Becomes (option_map (entry.sealed sort total)) unmoved q (shelf_of r.entries) (shelf_of u.entries) → out ≡ before → HasStopped faults u t f before out now x
+  pub stopped_sealed : RowsStand r after → u.limits ≡ r.limits → u.received ≡ r.received → u.last_start ≡ r.last_start → u.consumers ≡ r.consumers → u.keys ≡ r.keys → exch.Becomes known.without_exchange x r.exchanges u.exchanges
+      → (sort : Kind) (total : Option ℕ) → sort ≡ kind_left stays.p → total ≡ stays.e.head.total → shelf.Becomes (option_map (entry.sealed_kept sort total)) same_order q (shelf_of r.entries) (shelf_of u.entries) → out ≡ before → HasStopped faults u t f before out now x
   stopped_sealed stands same_limits received last consumers keys becomes sort total sort_is total_is seals acts =
       quiet limits u t facts f x alone stop now faults before out None stays.keeps acts
       (stands_closed r u after x stands stop.unawaited same_limits received last consumers keys becomes seals.limits
@@ -191,24 +191,24 @@ module _ {B : Type 0} {g : Ghosts B} (limits : Limits) (r u : Rows B g) (t : Tab
   lost_now = with_representation q (Some (lost_to alone stays.p)) after
 
   -- its seal failed
-  pub stopped_lost : (mid : Rows B g) → RowsStand mid (let_go now q lost_now) → KeepsRest mid u → u.consumers ≡ mid.consumers → exch.Becomes known.closed x mid.exchanges u.exchanges → faults < (shelf_of u.entries).faults → out ≡ before ++ (act.Lost q kind.Fault ∷ []) → HasStopped faults u t f before out now x
+  pub stopped_lost : (mid : Rows B g) → RowsStand mid (let_go now q lost_now) → KeepsRest mid u → u.consumers ≡ mid.consumers → exch.Becomes known.without_exchange x mid.exchanges u.exchanges → faults < (shelf_of u.entries).faults → out ≡ before ++ (act.Lost q kind.Fault ∷ []) → HasStopped faults u t f before out now x
   stopped_lost mid stands rest consumers becomes failed acts = unsealed (record {
     sealed = record { w = stop.w; r = q; v = stays.p; row = stop.row; of_r = stays.of_q; there = stays.row; stays = stays.stays; kept = stays.keeps };
     acts = acts;
     failed = failed;
     rows =
-        subst (λ (z : Option ℕ). RowsStand u (let_go now q (with_representation q (Some (lost_to z stays.p)) (closed x after)))) who_is
+        subst (λ (z : Option ℕ). RowsStand u (let_go now q (with_representation q (Some (lost_to z stays.p)) (tables_after_close x after)))) who_is
         (stands_unstored mid u (let_go now q lost_now) x stands (unawaited_go now q lost_now x stop.unawaited) apart rest.limits rest.received rest.last_start consumers rest.keys rest.entries becomes);
   })
     where
-      gone_there : (o : Option Representation) (p : Representation) → option_map gone o ≡ Some p → p.is_gone ≡ true
+      gone_there : (o : Option Representation) (p : Representation) → option_map as_gone o ≡ Some p → p.is_gone ≡ true
       gone_there None p h = none_some p h
-      gone_there (Some a) p h = sym (ap (λ (z : Representation). z.is_gone) (some_is (gone a) p h))
+      gone_there (Some a) p h = sym (ap (λ (z : Representation). z.is_gone) (some_is (as_gone a) p h))
 
       apart : (n : ℕ) (p : Representation) → (let_go now q lost_now).representation n ≡ Some p → p.is_gone ≡ false → brings_to n x (t.exchange x) ≡ false
       apart n p there kept = elim (same_or q n) [
         | inl e ↦
-            let goes_there : (let_go now q lost_now).representation n ≡ option_map gone (lost_now.representation n) = rw (e, eqb-same n) refl in
+            let goes_there : (let_go now q lost_now).representation n ≡ option_map as_gone (lost_now.representation n) = rw (e, eqb-same n) refl in
             false_true (sym kept ∙ gone_there (lost_now.representation n) p (sym goes_there ∙ there))
         | inr ne ↦ ap (brings_to n x) stop.row ∙ then_false stop.w.is_open (nat_eq (family x stop.w) n) (rw stays.of_q (eqb-other q n ne))
       ]

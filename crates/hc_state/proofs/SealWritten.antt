@@ -12,7 +12,7 @@ use Rattle.hc_model.specs.Gone.{ends_early, ends_founding, is_keepable, stops_ea
 use Rattle.hc_model.specs.Lawful.{Lawful}
 use Rattle.hc_model.specs.Rows.{Tables, Exchange, Representation}
 use Rattle.hc_model.specs.Sound.{Among}
-use Rattle.hc_model.specs.Writes.{sealed, seals_at, sealed_by, is_sealed, stops, first_found}
+use Rattle.hc_model.specs.Writes.{sealed_representation, seals_at, sealed_by, is_sealed, stops, first_found}
 use Rattle.hc_state.proofs.Words.{same_or, eqb-same, eqb-other, none_some, false_true, same_row}
 
 eq_tells : (a b : ℕ) → nat_eq a b ≡ true → a ≡ b
@@ -60,12 +60,12 @@ module _ (t : Tables) (law : Lawful t) (e : Entry) (x : ℕ) (w : Exchange) (r :
   seals_no_other : (y : ℕ) → x ≢ y → seals_at t e y ≡ None
   seals_no_other y ne = rw (stops_at y, eqb-other x y ne) refl
 
-  pub sealed_lasting : sealed t e ≡ Some r
+  pub sealed_lasting : sealed_representation t e ≡ Some r
   sealed_lasting = found_only (seals_at t e) x r t.openings (law.sound.numbered.lists.opened x (ap (λ z. is_some z) ex)) seals_here seals_no_other
 
 -- where it doesn't go with the exchange that founded it
 pub sealed_stopping : (t : Tables) → Lawful t → (e : Entry) (x : ℕ) (w : Exchange) (r : ℕ) (v : Representation) → t.exchange x ≡ Some w → family x w ≡ r → t.representation r ≡ Some v → v.is_gone ≡ false → going_with t (Some x) ≡ None
-    → ((y : ℕ) → (stops y e.event || closes_in y e.acts) ≡ nat_eq x y) → ((y : ℕ) (z : Exchange) → (stops_early z y e.event || closes_in y e.acts) ≡ true → nat_eq x y ≡ true) → sealed t e ≡ Some r
+    → ((y : ℕ) → (stops y e.event || closes_in y e.acts) ≡ nat_eq x y) → ((y : ℕ) (z : Exchange) → (stops_early z y e.event || closes_in y e.acts) ≡ true → nat_eq x y ≡ true) → sealed_representation t e ≡ Some r
 sealed_stopping t law e x w r v ex of_r there stays kept stops_at early_at = sealed_lasting t law e x w r v ex of_r there stays stops_at (λ z row on. keepable (sym (eq_tells x r (early_at r z on))))
   where
     keepable : r ≡ x → is_unkeepable (Some v) ≡ false
@@ -77,6 +77,6 @@ sealed_stopping t law e x w r v ex of_r there stays kept stops_at early_at = sea
 
 -- where it is closed for a leaver
 pub sealed_leaving : (t : Tables) → Lawful t → (e : Entry) (x : ℕ) (w : Exchange) (r : ℕ) (v : Representation) → t.exchange x ≡ Some w → family x w ≡ r → t.representation r ≡ Some v → v.is_gone ≡ false → going_with t (Some x) ≡ None
-    → ((y : ℕ) → stops y e.event ≡ false) → ((y : ℕ) (z : Exchange) → stops_early z y e.event ≡ false) → ((y : ℕ) → closes_in y e.acts ≡ nat_eq x y) → sealed t e ≡ Some r
+    → ((y : ℕ) → stops y e.event ≡ false) → ((y : ℕ) (z : Exchange) → stops_early z y e.event ≡ false) → ((y : ℕ) → closes_in y e.acts ≡ nat_eq x y) → sealed_representation t e ≡ Some r
 sealed_leaving t law e x w r v ex of_r there stays kept goes_on whole closes =
     sealed_stopping t law e x w r v ex of_r there stays kept (λ y. rw (goes_on y) (closes y)) (λ y z on. sym (closes y) ∙ (sym (ap (λ b. b || closes_in y e.acts) (whole y z)) ∙ on))

@@ -7,7 +7,7 @@ use Rattle.hc_sorted.proofs.SortedLemmas.{has-without}
 use Rattle.hc_stored.specs.Kept as entry
 use Rattle.hc_stored.specs.Kept.{Kept, itself, is_nobody, unless_it, without_user}
 use Rattle.hc_stored.specs.Shelf as shelf
-use Rattle.hc_stored.specs.Shelf.{Shelf, unmoved}
+use Rattle.hc_stored.specs.Shelf.{Shelf, same_order}
 use Rattle.hc_stored.specs.Views.{bound_in}
 use Rattle.hc_entry.specs.Lines.{is_among}
 use Rattle.hc_event.specs.declared.place.Place.{Place}
@@ -21,7 +21,7 @@ use Rattle.hc_model.specs.Rows as rows
 use Rattle.hc_model.specs.Rows.{Tables, Representation}
 use Rattle.hc_model.specs.Sound.{Among}
 use Rattle.hc_model.specs.Writers.{came_alone}
-use Rattle.hc_model.proofs.Pens.{filter_some}
+use Rattle.hc_model.proofs.ExclusiveWriters.{filter_some}
 use Rattle.hc_state.specs.Leaving.{IsUserAt, UnbindsAt}
 use Rattle.hc_state.specs.Stored.{IsEntry, TellsLength, told, untold, KeepsEntry, KeepsEntries, is_first}
 use Rattle.hc_state.proofs.LiveCounts as counts
@@ -184,7 +184,7 @@ module _ (t : Tables) (started : (d : ℕ) → is_some (t.consumer d) ≡ true �
 
       by_place : (p : Place) → v.place ≡ p → KeepsEntries s b
       by_place (place.Bound q0 lo hi how) at =
-          let left : shelf.Becomes (option_and_then (entry.left_by c)) unmoved q0 a b = subst (λ p. UnbindsAt p c a b) at unbinds in
+          let left : shelf.Becomes (option_and_then (entry.left_by c)) same_order q0 a b = subst (λ p. UnbindsAt p c a b) at unbinds in
           record {
             each = λ q. elim (same_or q0 q) [
               | inl e ↦ subst (λ n. KeepsEntry s n (b.kept n) (s.representation n)) e (rw (left.kept q0, eqb-same q0) (entry_left q0 (rw at (eqb-same q0)) (a.kept q0) (t.representation q0) (kept.each q0)))

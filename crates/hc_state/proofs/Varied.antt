@@ -6,7 +6,7 @@ use Rattle.std.proofs.lemmas.List.{append_assoc, drop_more}
 use Rattle.std.proofs.lemmas.Option.{slice_get_within, get_or_from_slice_get}
 use Rattle.http_header.specs.Token.{lowercase}
 use Rattle.hc_fields.specs.FieldElements.{elements_in}
-use Rattle.hc_fields.specs.FieldList.{IsFieldList, IsModest, has_name, without}
+use Rattle.hc_fields.specs.FieldList.{IsFieldList, IsWithinLimits, has_name, without}
 use Rattle.hc_fields.proofs.Edits.{length-parts, size_of-parts}
 use Rattle.hc_rules.proofs.RangeReads.{bytes_eq-same, same_bytes}
 use Rattle.hc_validate.specs.Heads.{FieldPairs}
@@ -93,11 +93,11 @@ module _ (told asked fields : FieldPairs) (i : ℕ) (g : Pair) (list : IsFieldLi
 
 -- WHAT IS STORED
 
-less_modest : (name : List ℕ) (fs : FieldPairs) → IsModest fs → IsModest (without name fs)
-less_modest name fs modest = record {
-  few = (let few = modest.few in let parts = length-parts name fs in omega (arith, few, parts));
-  small = (let small = modest.small in let parts = size_of-parts name fs in omega (arith, small, parts));
+less_within_limits : (name : List ℕ) (fs : FieldPairs) → IsWithinLimits fs → IsWithinLimits (without name fs)
+less_within_limits name fs within_limits = record {
+  few = (let few = within_limits.few in let parts = length-parts name fs in omega (arith, few, parts));
+  small = (let small = within_limits.small in let parts = size_of-parts name fs in omega (arith, small, parts));
 }
 
-pub kept_modest : (fs : FieldPairs) → IsModest fs → IsModest (kept_fields fs)
-kept_modest fs modest = less_modest (codes "content-length") _ (less_modest (codes "content-range") fs modest)
+pub kept_within_limits : (fs : FieldPairs) → IsWithinLimits fs → IsWithinLimits (kept_fields fs)
+kept_within_limits fs within_limits = less_within_limits (codes "content-length") _ (less_within_limits (codes "content-range") fs within_limits)

@@ -13,7 +13,7 @@ use Rattle.hc_entry.specs.declared.keys.KeyTable.{KeyTable}
 use Rattle.hc_entry.specs.Keys as keys
 use Rattle.hc_entry.specs.Keys.{line_of}
 use Rattle.hc_entry.specs.Kept.{on_line}
-use Rattle.hc_entry.specs.Lines.{is_in, queued, left_by, turn_with}
+use Rattle.hc_entry.specs.Lines.{is_in, line_with, left_by, turn_with}
 use Rattle.hc_exch.specs.Exchanges.{table_of, next_of}
 use Rattle.hc_exch.specs.Known.{Known, unknown}
 use Rattle.hc_exch.specs.declared.row.Open.{Open}
@@ -64,7 +64,7 @@ LeftIf true c key before after = keys.Becomes (on_line (left_by c)) key before a
 -- it is in line, if it waits with others
 abbrev pub IsEntered : Bool → ℕ → List ℕ → KeyTable → KeyTable → Type 0
 IsEntered false c key before after = keys.Stays before after
-IsEntered true c key before after = keys.Becomes (on_line (queued c)) key before after
+IsEntered true c key before after = keys.Becomes (on_line (line_with c)) key before after
 
 -- all but what is kept by key stays
 pub record KeepsRows {B : Type 0} {g : Ghosts B} (r u : Rows B g) : Type 0 where
@@ -111,8 +111,8 @@ most hi offset want = cut_at hi (offset + want) - offset
 
 -- THE ARMS OF A POLL
 
-abbrev pub given : ℕ → ℕ → ℕ → List ℕ → List Act
-given c x at bytes = act.Given c x at bytes ∷ []
+abbrev pub given_acts : ℕ → ℕ → ℕ → List ℕ → List Act
+given_acts c x at bytes = act.Given c x at bytes ∷ []
 
 -- the next bytes are asked for, or were
 abbrev pub asks_or_waits : Bool → ℕ → Move

@@ -16,12 +16,12 @@ use Rattle.hc_entry.specs.Users.{itself}
 use Rattle.hc_exch.specs.declared.exchanges.Exchanges.{Exchanges}
 use Rattle.hc_exch.specs.declared.row.Open.{Open}
 use Rattle.hc_exch.specs.Exchanges.{table_of, next_of}
-use Rattle.hc_exch.specs.Known.{Table, closed}
+use Rattle.hc_exch.specs.Known.{Table, without_exchange}
 use Rattle.hc_model.specs.Currents.{current}
 use Rattle.hc_model.specs.Effects.{let_some_go, all_closed, woken, awaited_and}
 use Rattle.hc_model.specs.Lawful.{Lawful}
 use Rattle.hc_model.specs.Rows.{Tables}
-use Rattle.hc_model.specs.StartingOver.{awaited}
+use Rattle.hc_model.specs.StartingOver.{awaited_exchange}
 use Rattle.hc_state.specs.declared.consumer.Consumer.{Consumer}
 use Rattle.hc_state.specs.declared.rows.Rows.{Rows}
 use Rattle.hc_state.specs.Kept.{KeepsConsumer}
@@ -34,7 +34,7 @@ use Rattle.hc_state.specs.Stored.{KeepsEntries}
 
 -- for whose head the consumer waits, to found or to join by it
 abbrev pub awaited_by : {B : Type 0} {g : Ghosts B} → Rows B g → ℕ → Option ℕ
-awaited_by r c = option_and_then (λ (k : Consumer). awaited k.place) (get nat_eq r.consumers c)
+awaited_by r c = option_and_then (λ (k : Consumer). awaited_exchange k.place) (get nat_eq r.consumers c)
 
 -- who waits for the key waits for the head of x
 pub record IsAwaited {B : Type 0} {g : Ghosts B} (r : Rows B g) (key : List ℕ) (x : ℕ) : Type 0 where
@@ -70,13 +70,13 @@ AreAtMost n P =
 -- The ones to close are closed, in ascending order of their numbers.
 pub record Closes {B : Type 0} {g : Ghosts B} (r : Rows B g) (after : Exchanges) (key : List ℕ) (refused : Option ℕ) (before out : List Act) : Type 0 where
   pub xs : List ℕ
-  pub rising : is_sorted itself xs ≡ true
+  pub ascending : is_sorted itself xs ≡ true
   pub each : (x : ℕ) → is_among x xs ≡ true → IsToClose r key refused x
   pub all : (x : ℕ) → IsToClose r key refused x → is_among x xs ≡ true
   pub acts : out ≡ before ++ map act.Close xs
   pub known : (x : ℕ) →
       table_of after x
-      ≡ (if is_among x xs then closed (table_of r.exchanges x) else table_of r.exchanges x)
+      ≡ (if is_among x xs then without_exchange (table_of r.exchanges x) else table_of r.exchanges x)
   pub next : next_of after ≡ next_of r.exchanges
 
 -- it is open past the store, has no head yet, and is of the key

@@ -14,7 +14,7 @@ use Rattle.hc_model.specs.Numbers.{Numbers}
 use Rattle.hc_model.specs.Exchanges.{front}
 use Rattle.hc_model.specs.Reading.{offset}
 use Rattle.hc_model.specs.Rows.{Tables, Exchange, Representation, Consumer}
-use Rattle.hc_model.specs.Sound.{IsBound, HasPen}
+use Rattle.hc_model.specs.Sound.{IsBound, IsExclusiveWriter}
 use Rattle.hc_model.specs.Origins.{Origins}
 use Rattle.hc_model.specs.Parts.{Parts}
 use Rattle.hc_model.specs.Sizes.{Sizes}
@@ -24,7 +24,7 @@ use Rattle.hc_model.specs.StoredHeads.{StoredHeads, Tags}
 -- up to where its exchange goes on
 pub record HasCome (t : Tables) : Type 0 where
   pub covered : (r c x : ℕ) (v : Representation) (k : Consumer) (w : Exchange) →
-      t.representation r ≡ Some v → HasPen t r v c → IsBound t r c k → k.due ≡ None →
+      t.representation r ≡ Some v → IsExclusiveWriter t r v c → IsBound t r c k → k.due ≡ None →
       k.own ≡ Some x → t.exchange x ≡ Some w → is_some w.head ≡ true →
       Covers v.body (offset t k) (front w)
 

@@ -1,7 +1,7 @@
 -- What a head founds, and who reads it.
 use Rattle.std.specs.Prelude.{◌≡◌, ℕ, ◌==◌, ◌||◌, not, IsTrue, List, bytes_eq, Bool, true, false, Option, Some, None, if◌then◌else◌}
 use Rattle.http_header.specs.Token.{lowercase}
-use Rattle.hc_fields.specs.FieldList.{IsModest}
+use Rattle.hc_fields.specs.FieldList.{IsWithinLimits}
 use Rattle.hc_range.specs.declared.range.Asked.{Asked}
 use Rattle.hc_record.specs.Head.{Head, joining_of}
 use Rattle.hc_record.specs.Plain.{plain}
@@ -28,7 +28,7 @@ use Rattle.hc_exch.specs.declared.role.Role.TheVariants as role
 use Rattle.hc_exch.specs.declared.row.Open.{Open}
 use Rattle.hc_exch.specs.Exchanges.{table_of}
 use Rattle.hc_exch.specs.Exchanges as exch
-use Rattle.hc_exch.specs.Known.{Known, headed, turned_into, is_all, length_by}
+use Rattle.hc_exch.specs.Known.{Known, with_good_head, turned_into, is_all, length_by}
 use Rattle.hc_event.specs.declared.place.Place.TheVariants as place
 use Rattle.hc_event.specs.declared.place.BoundBy.TheVariants as by
 use Rattle.hc_model.specs.Heads.{kept_fields, varied_by, total_of_part}
@@ -42,7 +42,7 @@ use Rattle.hc_state.specs.Changes.{ChangesAt}
 -- a 200 or 206 with no more fields than a head from outside has
 pub record MayFound (response : Response) : Type 0 where
   pub status : IsTrue (response.status == 200 || response.status == 206)
-  pub modest : IsModest response.fields
+  pub within_limits : IsWithinLimits response.fields
 
 -- ITS HEAD
 
@@ -109,7 +109,7 @@ founds_with x shared lo hi k = record k {
 
 -- an exchange brings what it founds, whose head tells this length
 abbrev pub brings_body : ℕ → Length → Known → Known
-brings_body x length k = headed length (turned_into (role.Body x) k)
+brings_body x length k = with_good_head length (turned_into (role.Body x) k)
 
 -- the exchange whose writing it is, where others read it too
 abbrev pub writer_by : Bool → ℕ → Option ℕ
@@ -138,5 +138,5 @@ pub record BeginsFounding {B : Type 0} {g : Ghosts B} (r u : Rows B g) (x c : �
   pub keys : (o : Open) → (table_of r.exchanges x).running ≡ Some o →
       keys.Becomes (with_current (Some x)) o.request.key r.keys u.keys
   pub entries : shelf.Becomes
-      (λ _. Some (entry.founded f.key (plain f.head) c (not f.shared) (writer_by f.shared x)))
+      (λ _. Some (entry.founded_kept f.key (plain f.head) c (not f.shared) (writer_by f.shared x)))
       (first_in x) x (shelf_of r.entries) (shelf_of u.entries)

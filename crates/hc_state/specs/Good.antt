@@ -26,8 +26,8 @@ abbrev pub is_refused : {B : Type 0} {g : Ghosts B} → Rows B g → Event → B
 is_refused r event = is_some (refusal_of (gate_of r event) event)
 
 -- a denied event is counted
-abbrev pub counted : {B : Type 0} {g : Ghosts B} → Event → Rows B g → Rows B g
-counted event r = record r { received = r.received + received_in event }
+abbrev pub rows_with_event : {B : Type 0} {g : Ghosts B} → Event → Rows B g → Rows B g
+rows_with_event event r = record r { received = r.received + received_in event }
 
 -- whoever leaves, and what ends, breaks or is doomed, is told without memory
 abbrev pub takes_no_memory : Event → Bool

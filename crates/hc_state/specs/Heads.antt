@@ -129,15 +129,15 @@ end_from from None = None
 end_from from (Some n) = Some (from + n)
 
 -- where the body ends, where that is told
-abbrev pub end_told : Length → Option ℕ
-end_told length = end_from (base_of length) (promise_of length)
+abbrev pub end_of_answer : Length → Option ℕ
+end_of_answer length = end_from (base_of length) (promise_of length)
 
 abbrev pub EndsInRange : Length → Type 0
 EndsInRange length = (n : ℕ) → promise_of length ≡ Some n → base_of length + n ≤ 2 ^ 62
 
 -- it reads the answer of its exchange past the store, whose head tells this length
 abbrev pub answered_by : Response → Length → Consumer → Consumer
-answered_by response length k = with_answer response (base_of length) (end_told length) k
+answered_by response length k = with_answer response (base_of length) (end_of_answer length) k
 
 -- the exchange, unless it is over with its head
 abbrev pub unless_over : ℕ → Length → List ℕ

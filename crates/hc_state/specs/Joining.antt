@@ -13,12 +13,12 @@ use Rattle.hc_rules.specs.declared.heads.HeadCase.{HeadCase}
 use Rattle.hc_rules.specs.declared.heads.HeadCase.TheVariants as case
 use Rattle.hc_stored.specs.Entries.{shelf_of}
 use Rattle.hc_stored.specs.Kept.{Kept, with_head, written_by}
-use Rattle.hc_stored.specs.Shelf.{Becomes, Shelf, is_kept, unmoved}
+use Rattle.hc_stored.specs.Shelf.{Becomes, Shelf, is_kept, same_order}
 use Rattle.hc_exch.specs.declared.role.Role.TheVariants as role
 use Rattle.hc_exch.specs.declared.row.Open.{Open}
 use Rattle.hc_exch.specs.Exchanges as exch
 use Rattle.hc_exch.specs.Exchanges.{table_of}
-use Rattle.hc_exch.specs.Known.{Known, headed, turned_into, length_by}
+use Rattle.hc_exch.specs.Known.{Known, with_good_head, turned_into, length_by}
 use Rattle.hc_model.specs.RepresentationRows.{is_last_part, resumes}
 use Rattle.hc_model.specs.Rows.{Tables, Exchange, Representation}
 use Rattle.hc_state.specs.declared.consumer.Consumer.{Consumer}
@@ -27,7 +27,7 @@ use Rattle.hc_state.specs.Changes.{ChangesAt}
 use Rattle.hc_state.specs.Facts.{Facts}
 use Rattle.hc_state.specs.Heads.{aim_in}
 use Rattle.hc_state.specs.Leaving.{LeavesKey}
-use Rattle.hc_state.specs.Renewals.{KeepsBeside, renewed}
+use Rattle.hc_state.specs.Renewals.{KeepsBeside, renewed_head}
 use Rattle.hc_state.specs.Stands.{AnswersCase, RowsStand}
 
 -- the head brings bytes of the hole
@@ -57,15 +57,15 @@ pub record IsGrowing {B : Type 0} {g : Ghosts B} (a u : Rows B g) (x now r : ℕ
   pub rest : KeepsBeside a u
   pub head : (o : Open) (k : Kept) → (table_of a.exchanges x).running ≡ Some o →
       (shelf_of a.entries).kept r ≡ Some k →
-      Becomes (option_map (with_head (renewed o.moment now response.fields (growing k.head))))
-      unmoved r (shelf_of a.entries) (shelf_of u.entries)
+      Becomes (option_map (with_head (renewed_head o.moment now response.fields (growing k.head))))
+      same_order r (shelf_of a.entries) (shelf_of u.entries)
 
 -- THE EXCHANGE
 
 -- its head came, and it brings r
 abbrev pub bringing : ℕ → Response → Known → Known
 bringing r response known =
-    headed (length_by known.running response) (turned_into (role.Body r) known)
+    with_good_head (length_by known.running response) (turned_into (role.Body r) known)
 
 -- x brings r, and c, which waited for its head, waits for its key no more
 pub record Brings {B : Type 0} {g : Ghosts B} (a u : Rows B g) (c x r : ℕ)
@@ -81,8 +81,8 @@ pub record Brings {B : Type 0} {g : Ghosts B} (a u : Rows B g) (c x r : ℕ)
 -- THE CONSUMER
 
 -- its exchange isn't its own any more
-abbrev pub shared : Consumer → Consumer
-shared k = record k { own = None }
+abbrev pub without_own : Consumer → Consumer
+without_own k = record k { own = None }
 
 -- x writes r for several, and isn't c's own any more
 pub record Shares {B : Type 0} {g : Ghosts B} (a u : Rows B g) (c x r : ℕ) : Type 0 where
@@ -91,8 +91,8 @@ pub record Shares {B : Type 0} {g : Ghosts B} (a u : Rows B g) (c x r : ℕ) : T
   pub received : u.received ≡ a.received
   pub exchanges : u.exchanges ≡ a.exchanges
   pub keys : u.keys ≡ a.keys
-  pub consumers : ChangesAt a.consumers u.consumers c shared
-  pub entries : Becomes (option_map (written_by x)) unmoved r (shelf_of a.entries)
+  pub consumers : ChangesAt a.consumers u.consumers c without_own
+  pub entries : Becomes (option_map (written_by x)) same_order r (shelf_of a.entries)
       (shelf_of u.entries)
   pub faults : (shelf_of u.entries).faults ≡ (shelf_of a.entries).faults
 

@@ -7,7 +7,7 @@ use Rattle.hc_event.specs.declared.place.Place.TheVariants as place
 use Rattle.hc_model.specs.Rows as rows
 use Rattle.hc_model.specs.Rows.{Tables, Exchange, Representation}
 use Rattle.hc_model.specs.Currents.{is_number}
-use Rattle.hc_model.specs.Exchanges.{base, front, family, promised, is_open}
+use Rattle.hc_model.specs.Exchanges.{base, front, family, promised_bytes, is_open}
 use Rattle.hc_model.specs.Holes.{absent_from}
 use Rattle.hc_model.specs.Reading.{lo_of, hi_of, offset, is_bound_place}
 use Rattle.hc_model.specs.Denials.{is_live, is_live_place}
@@ -81,7 +81,7 @@ pub record IsRunning (t : Tables) (x : ℕ) (o : Open) (w : Exchange) : Type 0 w
   pub asked : o.asked ≡ w.asked
   pub base_is : o.base ≡ base w
   pub delivered : o.delivered ≡ length w.body
-  pub promised_is : o.promised ≡ promised w
+  pub promised_is : o.promised ≡ promised_bytes w
   pub role : o.role ≡ role_of t x w
 
 -- what isn't kept isn't open
@@ -106,16 +106,16 @@ abbrev pub first_lacking : Tables → Exchange → Representation → rows.Consu
 first_lacking t w v k = absent_from v.stored v.reach (offset t k) (front w)
 
 -- what came of its own exchange, and isn't stored
-abbrev pub unstored : Tables → ℕ → Exchange → Representation → Option rows.Consumer → List ℕ
-unstored t x w v None = []
-unstored t x w v (Some k) =
+abbrev pub unstored_bytes : Tables → ℕ → Exchange → Representation → Option rows.Consumer → List ℕ
+unstored_bytes t x w v None = []
+unstored_bytes t x w v (Some k) =
     if is_bound_place (family x w) k.place && is_number k.own x
     then drop (first_lacking t w v k - base w) w.body else []
 
 -- for the detached reader
 abbrev pub held_alone : Tables → ℕ → Exchange → Representation → Option ℕ → List ℕ
 held_alone t x w v None = []
-held_alone t x w v (Some c) = unstored t x w v (t.consumer c)
+held_alone t x w v (Some c) = unstored_bytes t x w v (t.consumer c)
 
 abbrev pub held_of : Tables → ℕ → Exchange → Option Representation → List ℕ
 held_of t x w None = unread x w (t.consumer w.c)

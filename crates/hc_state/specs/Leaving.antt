@@ -7,7 +7,7 @@ use Rattle.hc_stored.specs.Entries.{shelf_of}
 use Rattle.hc_stored.specs.Kept as entry
 use Rattle.hc_stored.specs.Kept.{Kept}
 use Rattle.hc_stored.specs.Shelf as shelf
-use Rattle.hc_stored.specs.Shelf.{Shelf, unmoved}
+use Rattle.hc_stored.specs.Shelf.{Shelf, same_order}
 use Rattle.hc_stored.specs.Views.{has_user, bound_in}
 use Rattle.hc_entry.specs.declared.keys.KeyTable.{KeyTable}
 use Rattle.hc_entry.specs.Keys.{line_of}
@@ -65,7 +65,7 @@ IsUserAt _ c s = Unit {0}
 -- it isn't bound any more, if it was
 abbrev pub UnbindsAt : Place → ℕ → Shelf → Shelf → Type 0
 UnbindsAt (place.Bound r lo hi by) c before after =
-    shelf.Becomes (option_and_then (entry.left_by c)) unmoved r before after
+    shelf.Becomes (option_and_then (entry.left_by c)) same_order r before after
 UnbindsAt _ c before after = after ≡ before
 
 -- A consumer stands nowhere any more.

@@ -7,7 +7,7 @@ use Rattle.hc_event.specs.declared.act.LostKind.TheVariants as kind
 use Rattle.hc_stored.specs.Entries.{shelf_of}
 use Rattle.hc_model.specs.Effects.{left_by, going_with, with_leave, with_representation, let_go, let_some_go, lost_to}
 use Rattle.hc_model.specs.Rows.{Tables, Consumer}
-use Rattle.hc_model.specs.Tables.{added}
+use Rattle.hc_model.specs.Tables.{with_item_first}
 use Rattle.hc_model.specs.Writers.{exclusive}
 use Rattle.hc_state.specs.declared.rows.Rows.{Rows}
 use Rattle.hc_state.specs.Stands.{RowsStand}
@@ -28,7 +28,7 @@ pub record LeftUnsealed {B : Type 0} {g : Ghosts B} (faults : ℕ) (u : Rows B g
 -- c left: what only it read is closed, and sealed or let go
 pub data HasLeft {B : Type 0} {g : Ghosts B} (faults : ℕ) (u : Rows B g) (t : Tables)
     (before out : List Act) (now c : ℕ) (k : Consumer) : Type 0 where
-  quietly : out ≡ before ++ map act.Close (added (left_by t c k) []) →
+  quietly : out ≡ before ++ map act.Close (with_item_first (left_by t c k) []) →
       RowsStand u (let_some_go now (going_with t (left_by t c k)) (with_leave c k t)) →
       HasLeft faults u t before out now c k
   unsealed : LeftUnsealed faults u t before out now c k → HasLeft faults u t before out now c k

@@ -19,7 +19,7 @@ pub mod Stops
 pub mod Good
 pub mod Pieces
 pub mod Refused
-pub mod Heirs
+pub mod DetachedReaders
 pub mod Joining
 pub mod Founding
 pub mod Remains

@@ -1,13 +1,13 @@
 -- What of an exchange's bytes is stored.
 use Rattle.std.specs.Prelude.{◌≡◌, ℕ, ◌+◌, List, length, Bool, true, false, Option, Some, None, option_map, if◌then◌else◌}
 use Rattle.hc_record.specs.declared.kind.Kind.{Kind}
-use Rattle.hc_sparse.specs.Cells.{written}
+use Rattle.hc_sparse.specs.Cells.{cells_with}
 use Rattle.hc_store.specs.declared.backend.Backend.{Ghosts}
 use Rattle.hc_stored.specs.Entries.{shelf_of}
 use Rattle.hc_stored.specs.declared.view.EntryView.{EntryView}
 use Rattle.hc_stored.specs.Kept as entry
 use Rattle.hc_stored.specs.Kept.{Kept}
-use Rattle.hc_stored.specs.Shelf.{Shelf, Becomes, unmoved}
+use Rattle.hc_stored.specs.Shelf.{Shelf, Becomes, same_order}
 use Rattle.hc_stored.specs.Views.{view_of}
 use Rattle.hc_exch.specs.declared.row.Open.{Open}
 use Rattle.hc_exch.specs.Exchanges.{table_of}
@@ -32,8 +32,8 @@ stored_by r x = stored_at (shelf_of r.entries) (brought_by (table_of r.exchanges
 -- WHAT IS STORED MORE
 
 -- so many bytes more are stored of it
-abbrev pub grown : ℕ → EntryView → EntryView
-grown n view = record view { size = view.size + n }
+abbrev pub larger_view : ℕ → EntryView → EntryView
+larger_view n view = record view { size = view.size + n }
 
 -- what the last byte makes of what is stored, or nothing where more is to come
 pub data IsLastKind (over : Bool) (v : Representation) (last : Option Kind) : Type 0 where
@@ -44,8 +44,8 @@ pub data IsLastKind (over : Bool) (v : Representation) (last : Option Kind) : Ty
 pub record PutsPiece {B : Type 0} {g : Ghosts B} (r u : Rows B g) (x q : ℕ) (o : Open)
     (bytes : List ℕ) : Type 0 where
   pub last : Option Kind
-  pub fills : Becomes (option_map (entry.filled (o.base + o.delivered) x bytes last)) unmoved q
+  pub fills : Becomes (option_map (entry.kept_with_bytes (o.base + o.delivered) x bytes last)) same_order q
       (shelf_of r.entries) (shelf_of u.entries)
   pub kind : (k : Kept) (v : Representation) → (shelf_of r.entries).kept q ≡ Some k →
-      IsTold v (written (o.base + o.delivered) x bytes k.cells) (grown (length bytes) (view_of k)) →
+      IsTold v (cells_with (o.base + o.delivered) x bytes k.cells) (larger_view (length bytes) (view_of k)) →
       IsLastKind (is_last_of (Some o) (length bytes)) v last

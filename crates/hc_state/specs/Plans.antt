@@ -10,7 +10,7 @@ use Rattle.hc_event.specs.declared.act.Need.{Need}
 use Rattle.hc_event.specs.declared.act.Need.TheVariants as need
 use Rattle.hc_event.specs.declared.event.Event.TheVariants as event
 use Rattle.hc_event.specs.declared.event.Request.{Request}
-use Rattle.hc_fields.specs.FieldList.{IsModest}
+use Rattle.hc_fields.specs.FieldList.{IsWithinLimits}
 use Rattle.hc_rules.specs.declared.plan.Plan.{Plan}
 use Rattle.hc_rules.specs.declared.plan.PlanView.{PlanView}
 use Rattle.hc_rules.specs.declared.request.Wanted.TheVariants as wanted
@@ -22,7 +22,7 @@ use Rattle.hc_entry.specs.Lines.{is_in, turn_with}
 use Rattle.hc_exch.specs.Exchanges.{next_of}
 use Rattle.hc_record.specs.Head.{Head}
 use Rattle.hc_validate.specs.Conditions.{conditional}
-use Rattle.hc_validate.specs.Showing.{shown}
+use Rattle.hc_validate.specs.Showing.{shown_response}
 use Rattle.hc_event.specs.declared.place.Place.{Place}
 use Rattle.hc_event.specs.declared.place.Place.TheVariants as place
 use Rattle.hc_model.specs.ConsumerRows.{kept_by}
@@ -107,8 +107,8 @@ abbrev pub IsOfItsKey : Request → Consumer → Type 0
 IsOfItsKey request k = request.key ≡ k.request.key
 
 -- it waits with the turn for the head of x, which is about what is current
-abbrev pub turned : ℕ → ℕ → ℕ → Need → Request → rows.Consumer → Tables → Tables
-turned now c x need request v t =
+abbrev pub tables_in_turn : ℕ → ℕ → ℕ → Need → Request → rows.Consumer → Tables → Tables
+tables_in_turn now c x need request v t =
     with_consumer c (Some (record v { own = Some x; place = place.Turn x }))
     (with_opening x (just_opened now c need request (current t v.request.key)) t)
 
@@ -116,7 +116,7 @@ turned now c x need request v t =
 abbrev pub BeginsTurn : {B : Type 0} {g : Ghosts B} → Rows B g → Rows B g → ℕ → ℕ → Need → Request → ℕ → Type 0
 BeginsTurn r u now c need request x =
     (t : Tables) (v : rows.Consumer) → Facts r.limits t → RowsStand r t → t.consumer c ≡ Some v →
-    RowsStand u (turned now c x need request v t)
+    RowsStand u (tables_in_turn now c x need request v t)
 
 -- the poll is answered where c asks whether this stored head still holds
 abbrev pub AnswersValidating : {B : Type 0} {g : Ghosts B} → Rows B g → Rows B g → List Act → List Act → ℕ → ℕ → Head → Consumer → Type 0
@@ -161,8 +161,8 @@ StandsPassed r u c q =
 -- WHICH PLAN IS CARRIED OUT
 
 -- the fields of its request are no more than those of a request from outside
-abbrev pub IsModestRequest : Consumer → Type 0
-IsModestRequest k = IsModest k.request.fields
+abbrev pub IsRequestWithinLimits : Consumer → Type 0
+IsRequestWithinLimits k = IsWithinLimits k.request.fields
 
 -- what is current for its key, where the plan looks at that
 abbrev pub IsLookedAt : KeyTable → PlanView → Option ℕ → Consumer → Type 0
@@ -201,7 +201,7 @@ abbrev pub shows_part : ℕ → Head → Why → Option Span → Consumer → Mo
 shows_part r head why span k =
     let lo = begin_of span in
     let hi = end_of span head.total in
-    Shows r why (shown head why (span_to lo hi) (is_some k.class.range)) lo hi
+    Shows r why (shown_response head why (span_to lo hi) (is_some k.class.range)) lo hi
 
 -- the poll is answered where c is shown that
 abbrev pub AnswersShowing : {B : Type 0} {g : Ghosts B} → Rows B g → Rows B g → List Act → List Act → ℕ → ℕ → Head → Why → Option Span → Consumer → Type 0

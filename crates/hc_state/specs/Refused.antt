@@ -11,11 +11,11 @@ use Rattle.hc_stored.specs.Shelf.{is_kept}
 use Rattle.hc_event.specs.declared.place.Place.TheVariants as place
 use Rattle.hc_event.specs.declared.place.BoundBy.{BoundBy}
 use Rattle.hc_model.specs.Denials.{denial}
-use Rattle.hc_model.specs.Effects.{all_closed, counted, gone, let_go, lost_to, unless_reached, with_exchange, with_representation}
+use Rattle.hc_model.specs.Effects.{all_closed, with_event, as_gone, let_go, lost_to, unless_reached, with_exchange, with_representation}
 use Rattle.hc_model.specs.ExchangeRows.{with_piece}
 use Rattle.hc_model.specs.Exchanges.{base, family, front}
 use Rattle.hc_model.specs.LettingGo.{MayLetGo}
-use Rattle.hc_model.specs.RepresentationRows.{filled}
+use Rattle.hc_model.specs.RepresentationRows.{with_stored_bytes}
 use Rattle.hc_model.specs.Rows as rows
 use Rattle.hc_model.specs.Rows.{Tables, Exchange, Representation}
 use Rattle.hc_model.specs.Runs.{may_lose}
@@ -23,7 +23,7 @@ use Rattle.hc_model.specs.Weights.{evicted, room_for}
 use Rattle.hc_model.specs.Writers.{survivor}
 use Rattle.hc_state.specs.declared.rows.Rows.{Rows}
 use Rattle.hc_state.specs.Facts.{Facts}
-use Rattle.hc_state.specs.Heirs.{MayLoseShared, shared_loss}
+use Rattle.hc_state.specs.DetachedReaders.{MayLoseShared, shared_loss}
 use Rattle.hc_state.specs.Room.{GivesWay}
 use Rattle.hc_state.specs.Stands.{RowsStand}
 use Rattle.hc_state.specs.Stopped.{HoldsNothing}
@@ -77,8 +77,8 @@ pub record MayHold (t : Tables) (x : ℕ) (w : Exchange) (v : Representation) : 
 -- the piece comes, once the loss of r was told: nothing of it is stored
 abbrev pub brought_lost : ℕ → ℕ → ℕ → Exchange → List ℕ → Representation → Tables → Tables
 brought_lost now r x w bytes v t =
-    counted now (event.Piece x bytes) (record (with_exchange x (Some (with_piece bytes w)) t) {
-      representation = λ q. if r == q then Some (filled false (front w) x bytes v) else t.representation q;
+    with_event now (event.Piece x bytes) (record (with_exchange x (Some (with_piece bytes w)) t) {
+      representation = λ q. if r == q then Some (with_stored_bytes false (front w) x bytes v) else t.representation q;
     })
 
 -- the tables once r is lost and let go
@@ -102,23 +102,23 @@ pub record MayLoseOwn (t : Tables) (now r x : ℕ) (w : Exchange) (v : Represent
     Type 0 where
   pub brings : Brings t r x w v
   pub none : HoldsNothing t r v alone
-  pub holds : MayHold (own_loss now r v alone t) x w (gone (lost_to alone v))
+  pub holds : MayHold (own_loss now r v alone t) x w (as_gone (lost_to alone v))
 
 -- and one of what is written for several
 pub record MayLosePiece (t : Tables) (now r x : ℕ) (w : Exchange) (v : Representation) : Type 0 where
   pub brings : Brings t r x w v
   pub shared : MayLoseShared t r x v
   pub holds : (d : ℕ) → survivor t r v ≡ Some d →
-      MayHold (shared_loss now r x v (Some d) t) x w (gone (lost_to (Some d) v))
+      MayHold (shared_loss now r x v (Some d) t) x w (as_gone (lost_to (Some d) v))
 
 -- the exchange is closed that the piece leaves open, where nobody goes on
 abbrev pub closes_with : Option ℕ → ℕ → List ℕ → Exchange → List ℕ
-closes_with heir x bytes w = if is_none heir then unless_reached x bytes w else []
+closes_with detached_reader x bytes w = if is_none detached_reader then unless_reached x bytes w else []
 
 pub record LosesPiece {B : Type 0} {g : Ghosts B} (u : Rows B g) (t : Tables) (before out : List Act)
     (now r x : ℕ) (bytes : List ℕ) (w : Exchange) (v : Representation) (kind : LostKind) : Type 0 where
   pub acts : out ≡ before
       ++ (act.Lost r kind ∷ map act.Close (closes_with (survivor t r v) x bytes w))
   pub rows : RowsStand u (all_closed (closes_with (survivor t r v) x bytes w)
-      (brought_lost now r x w bytes (gone (lost_to (survivor t r v) v))
+      (brought_lost now r x w bytes (as_gone (lost_to (survivor t r v) v))
       (shared_loss now r x v (survivor t r v) t)))

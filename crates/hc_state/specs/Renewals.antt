@@ -4,28 +4,28 @@ use Rattle.hc_event.specs.declared.event.Response.{Response}
 use Rattle.hc_record.specs.Head.{Head}
 use Rattle.hc_validate.specs.Heads.{FieldPairs}
 use Rattle.hc_validate.specs.Selection.{selects}
-use Rattle.hc_validate.specs.Updates.{updated}
+use Rattle.hc_validate.specs.Updates.{updated_fields}
 use Rattle.hc_store.specs.declared.backend.Backend.{Ghosts}
 use Rattle.hc_stored.specs.Entries.{shelf_of}
 use Rattle.hc_stored.specs.Kept.{Kept, with_head}
-use Rattle.hc_stored.specs.Shelf.{Shelf, Becomes, Stays, unmoved}
+use Rattle.hc_stored.specs.Shelf.{Shelf, Becomes, Stays, same_order}
 use Rattle.hc_exch.specs.Exchanges.{table_of}
 use Rattle.hc_exch.specs.declared.row.Open.{Open}
 use Rattle.hc_state.specs.declared.rows.Rows.{Rows}
 
 -- the head that a later one, asked for and come at these moments, makes of a stored one (RFC 9111 section 3.2)
-abbrev pub renewed : ℕ → ℕ → FieldPairs → Head → Head
-renewed requested answered from head = record head {
+abbrev pub renewed_head : ℕ → ℕ → FieldPairs → Head → Head
+renewed_head requested answered from head = record head {
   requested = requested;
   answered = answered;
-  fields = updated head.fields from;
+  fields = updated_fields head.fields from;
 }
 
 -- what is kept of r has its head renewed
 abbrev pub Renews : ℕ → ℕ → FieldPairs → ℕ → Shelf → Shelf → Type 0
 Renews requested answered from r before after =
     (k : Kept) → before.kept r ≡ Some k →
-    Becomes (option_map (with_head (renewed requested answered from k.head))) unmoved r before after
+    Becomes (option_map (with_head (renewed_head requested answered from k.head))) same_order r before after
 
 -- where the 304 selects it, and else nothing changes
 abbrev pub RenewsIf : Bool → ℕ → ℕ → FieldPairs → ℕ → Shelf → Shelf → Type 0
@@ -45,7 +45,7 @@ pub record KeepsBeside {B : Type 0} {g : Ghosts B} (r u : Rows B g) : Type 0 whe
 pub record IsRenewed {B : Type 0} {g : Ghosts B} (a u : Rows B g) (x now r : ℕ) (head : Head) (response : Response) : Type 0 where
   pub rest : KeepsBeside a u
   pub renews : (o : Open) → (table_of a.exchanges x).running ≡ Some o →
-      Becomes (option_map (with_head (renewed o.moment now response.fields head))) unmoved r
+      Becomes (option_map (with_head (renewed_head o.moment now response.fields head))) same_order r
       (shelf_of a.entries) (shelf_of u.entries)
 
 -- a 304 of x selects r, or doesn't

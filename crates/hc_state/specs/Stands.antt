@@ -18,7 +18,7 @@ use Rattle.hc_entry.specs.Keys as keys
 use Rattle.hc_entry.specs.Keys.{kept_of}
 use Rattle.hc_exch.specs.Exchanges as exch
 use Rattle.hc_exch.specs.Exchanges.{table_of, next_of}
-use Rattle.hc_exch.specs.Known.{seen}
+use Rattle.hc_exch.specs.Known.{open_view}
 use Rattle.hc_model.specs.Cases.{head_view}
 use Rattle.hc_model.specs.Dooms.{doomed_by_case, changes}
 use Rattle.hc_model.specs.Entries.{Contents, History}
@@ -30,10 +30,10 @@ use Rattle.hc_model.specs.Tables.{tables, after_accepted}
 use Rattle.hc_model.specs.Exchanges.{exchange_in}
 use Rattle.hc_model.specs.Flaws.{Flaw, flaw_in, is_fault}
 use Rattle.hc_model.specs.Denials.{live, denial}
-use Rattle.hc_model.specs.Answers.{accepted}
+use Rattle.hc_model.specs.Answers.{accepted_acts}
 use Rattle.hc_model.specs.Runs.{IsRun, may_be}
 use Rattle.hc_model.specs.Keys.{entry_of}
-use Rattle.hc_model.specs.Modest.{FieldsAreModest, RequestsAreModest}
+use Rattle.hc_model.specs.WithinLimits.{FieldsAreWithinLimits, RequestsAreWithinLimits}
 use Rattle.hc_model.specs.Numbers.{AreShort}
 use Rattle.hc_state.specs.declared.rows.Rows.{Rows}
 use Rattle.hc_state.specs.Changes.{StaysAll}
@@ -64,7 +64,7 @@ pub record StandsForSome {B : Type 0} {g : Ghosts B} (r : Rows B g) : Type 0 whe
   pub h : History
   pub begins : may_begin r.limits contents ≡ true
   pub short : AreShort contents
-  pub modest : FieldsAreModest h
+  pub within_limits : FieldsAreWithinLimits h
   pub run : IsRun r.limits contents h
   pub rows : RowsStand r (tables contents h)
 
@@ -72,7 +72,7 @@ pub record StandsForSome {B : Type 0} {g : Ghosts B} (r : Rows B g) : Type 0 whe
 pub record Stands {B : Type 0} {g : Ghosts B} (r : Rows B g) : Type 0 where
   pub t : Tables
   pub facts : Facts r.limits t
-  pub modest : RequestsAreModest t
+  pub within_limits : RequestsAreWithinLimits t
   pub rows : RowsStand r t
 
 -- WHAT THE REFUSALS LOOK AT
@@ -83,7 +83,7 @@ names_kept r (event.Cancel c) = is_some (get nat_eq r.consumers c)
 names_kept r _ = false
 
 abbrev pub open_at : {B : Type 0} {g : Ghosts B} → Rows B g → ℕ → Option OpenExchange
-open_at r x = option_map seen (table_of r.exchanges x).running
+open_at r x = option_map open_view (table_of r.exchanges x).running
 
 abbrev pub gate_of : {B : Type 0} {g : Ghosts B} → Rows B g → Event → Gate
 gate_of r event = record {
@@ -117,8 +117,8 @@ pub record KeepsRest {B : Type 0} {g : Ghosts B} (r u : Rows B g) : Type 0 where
 -- after it.
 pub record Answered {B : Type 0} {g : Ghosts B} (limits : Limits) (faults : ℕ) (u : Rows B g) (t : Tables) (before out : List Act) (now : ℕ) (event : Event) : Type 0 where
   pub flaw : Flaw
-  pub acts : out ≡ before ++ accepted limits t now event flaw
-  pub shown : flaw_in (accepted limits t now event flaw) ≡ flaw
+  pub acts : out ≡ before ++ accepted_acts limits t now event flaw
+  pub shown : flaw_in (accepted_acts limits t now event flaw) ≡ flaw
   pub may : may_be limits t (entry_of limits t now event flaw) flaw ≡ true
   pub caused : is_fault flaw ≡ true → faults < (shelf_of u.entries).faults
   pub rows : RowsStand u (after_accepted t (entry_of limits t now event flaw))

@@ -8,11 +8,11 @@ use Rattle.hc_event.specs.declared.act.LostKind.TheVariants as kind
 use Rattle.hc_record.specs.declared.kind.Kind.TheVariants as kinds
 use Rattle.hc_stored.specs.Entries.{shelf_of}
 use Rattle.hc_stored.specs.Kept as entry
-use Rattle.hc_stored.specs.Shelf.{Becomes, unmoved}
+use Rattle.hc_stored.specs.Shelf.{Becomes, same_order}
 use Rattle.hc_event.specs.declared.place.Place.TheVariants as place
 use Rattle.hc_event.specs.declared.place.BoundBy.TheVariants as by
-use Rattle.hc_model.specs.Effects.{closed, failing, going_with, let_go, let_some_go, lost_to, with_representation}
-use Rattle.hc_model.specs.Exchanges.{family, promised, is_headless}
+use Rattle.hc_model.specs.Effects.{tables_after_close, failing, going_with, let_go, let_some_go, lost_to, with_representation}
+use Rattle.hc_model.specs.Exchanges.{family, promised_bytes, is_headless}
 use Rattle.hc_model.specs.LettingGo.{MayLetGo}
 use Rattle.hc_model.specs.Reading.{is_bound, is_written}
 use Rattle.hc_model.specs.Rows.{Tables, Exchange, Representation, Consumer}
@@ -82,13 +82,13 @@ pub record SealFailed {B : Type 0} {g : Ghosts B} (faults : ℕ) (u : Rows B g)
   pub rows : RowsStand u (let_go now sealed.r
       (with_representation sealed.r
       (Some (lost_to (exclusive t sealed.r sealed.v) sealed.v))
-      (closed x (with_consumers f t))))
+      (tables_after_close x (with_consumers f t))))
 
 -- x is closed, and what it brought is sealed or let go
 pub data HasStopped {B : Type 0} {g : Ghosts B} (faults : ℕ) (u : Rows B g)
     (t : Tables) (f : ℕ → Option Consumer) (before out : List Act) (now x : ℕ) : Type 0 where
   quietly : out ≡ before →
-      RowsStand u (let_some_go now (going_with t (Some x)) (closed x (with_consumers f t))) →
+      RowsStand u (let_some_go now (going_with t (Some x)) (tables_after_close x (with_consumers f t))) →
       HasStopped faults u t f before out now x
   unsealed : SealFailed faults u t f before out now x → HasStopped faults u t f before out now x
 
@@ -133,7 +133,7 @@ pub record Waited (t : Tables) (x c : ℕ) (w : Exchange) (k : Consumer) : Type 
 pub record TellsNoLength (t : Tables) (x : ℕ) : Type 0 where
   pub w : Exchange
   pub row : t.exchange x ≡ Some w
-  pub untold : promised w ≡ None
+  pub untold : promised_bytes w ≡ None
 
 -- all but representations stays
 pub record KeepsBesideEntries {B : Type 0} {g : Ghosts B} (r u : Rows B g) : Type 0 where
@@ -150,7 +150,7 @@ pub data SealedWhole {B : Type 0} {g : Ghosts B} (faults : ℕ) (r u : Rows B g)
   gone : v.is_gone ≡ true → out ≡ before → u ≡ r →
       SealedWhole faults r u t before out now q v n
   sealed : v.is_gone ≡ false → out ≡ before → KeepsBesideEntries r u →
-      Becomes (option_map (entry.sealed kinds.Whole (Some n))) unmoved q
+      Becomes (option_map (entry.sealed_kept kinds.Whole (Some n))) same_order q
       (shelf_of r.entries) (shelf_of u.entries) →
       SealedWhole faults r u t before out now q v n
   lost : v.is_gone ≡ false → out ≡ before ++ (act.Lost q kind.Fault ∷ []) →

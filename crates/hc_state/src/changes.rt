@@ -4,8 +4,8 @@ ghost use Rattle.std.specs.Option.{option_and_then};
 ghost use Rattle.std.specs.HashMap.{get};
 ghost use Rattle.hc_sorted.specs.Sorted.{has};
 ghost use Rattle.hc_stored.specs.Kept.{itself};
-ghost use Rattle.hc_state.specs.Heirs.{ChangesEach, parted};
-ghost use Rattle.hc_state.specs.Joining.{shared};
+ghost use Rattle.hc_state.specs.DetachedReaders.{ChangesEach, after_parting};
+ghost use Rattle.hc_state.specs.Joining.{without_own};
 ghost use Rattle.hc_state.specs.Founding.{founds_with};
 ghost use Rattle.hc_state.specs.Changes.{ChangesAt, ChangesAmong, lined_up, passed_for, bound_shown, bound_first, with_own, reading_past, answer_of, once_answered, once_shown, once_given, with_answer, standing_at, with_turn, once_over, put_down, with_due, with_end, over_if_passed};
 
@@ -79,7 +79,7 @@ pub fn read_founded(
     lo: u64,
     hi: Option<u64>,
 )
-    ensures { ChangesAt consumers.old consumers.new c (founds_with r shared lo hi) }
+    ensures { ChangesAt consumers.old consumers.new c (founds_with r without_own lo hi) }
 {
     if let Some(consumer) = consumers.get_mut(&c) {
         let by = BoundBy::Founding;
@@ -200,7 +200,7 @@ pub fn make_all_due(consumers: &mut HashMap<u64, Consumer>, cs: &[u64], cause: C
 
 /// Its exchange isn't its own any more.
 pub fn disown(consumers: &mut HashMap<u64, Consumer>, c: u64)
-    ensures { ChangesAt consumers.old consumers.new c shared }
+    ensures { ChangesAt consumers.old consumers.new c without_own }
 {
     if let Some(consumer) = consumers.get_mut(&c) {
         consumer.own = None;
@@ -212,15 +212,15 @@ pub fn disown(consumers: &mut HashMap<u64, Consumer>, c: u64)
 pub fn part(
     consumers: &mut HashMap<u64, Consumer>,
     cs: &[u64],
-    heir: Option<u64>,
+    detached_reader: Option<u64>,
     x: u64,
     cause: Cause,
 )
     ensures { ChangesEach consumers.old consumers.new (λ c. has itself c cs.now)
-        (parted heir x cause) }
+        (after_parting detached_reader x cause) }
 {
     for c in cs {
-        if heir == Some(*c) {
+        if detached_reader == Some(*c) {
             own(consumers, *c, x);
         } else {
             make_due(consumers, *c, cause);

@@ -2,10 +2,10 @@
 ghost use Rattle.std.specs.Prelude.{◌≡◌, ◌+◌, ◌<◌, ◌^◌, Some, None, false};
 ghost use Rattle.hc_event.specs.declared.place.Place.TheVariants as place;
 ghost use Rattle.hc_model.specs.Planning.{has_passed};
-ghost use Rattle.hc_model.specs.StartingOver.{awaited};
+ghost use Rattle.hc_model.specs.StartingOver.{awaited_exchange};
 ghost use Rattle.hc_state.specs.Arms.{queues};
 ghost use Rattle.hc_state.specs.Changes.{once_over};
-ghost use Rattle.hc_state.specs.Heirs.{stands_at};
+ghost use Rattle.hc_state.specs.DetachedReaders.{stands_at};
 
 use hc_event::{BoundBy, Cause, Place, Request, Response};
 use hc_rules::RequestClass;
@@ -113,7 +113,7 @@ impl Consumer {
 
 /// The exchange for whose head one waits there, to found or to join by it.
 pub fn awaited(place: Place) -> Option<u64>
-    ensures { result ≡ awaited place }
+    ensures { result ≡ awaited_exchange place }
 {
     match place {
         Place::Turn(x)

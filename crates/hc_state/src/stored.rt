@@ -1,7 +1,7 @@
 //! Heads as they are stored.
 ghost use Rattle.std.specs.Prelude.{◌≡◌, ◌<◌, ◌^◌, IfOk};
 ghost use Rattle.hc_record.specs.Plain.{plain};
-ghost use Rattle.hc_state.specs.Renewals.{renewed};
+ghost use Rattle.hc_state.specs.Renewals.{renewed_head};
 
 use hc_fields::Fields;
 use hc_record::StoredHead;
@@ -19,7 +19,7 @@ pub fn renewed(
     requires requested { requested < 2 ^ 62 }
     requires answered { answered < 2 ^ 62 }
     ensures { IfOk result
-        (λ new. plain new ≡ renewed requested answered from.now (plain head)) }
+        (λ new. plain new ≡ renewed_head requested answered from.now (plain head)) }
 {
     let fields = update(&head.fields, from)?;
     Ok(StoredHead {

@@ -11,33 +11,33 @@ use Rattle.hc_sparse.proofs.SizeLemmas.{size-written, size-none, size-le}
 use Rattle.hc_record.specs.declared.kind.Kind.{Kind}
 use Rattle.hc_store.specs.declared.entry.Entry.{Entry}
 use Rattle.hc_record.specs.Head.{Head}
-use Rattle.hc_store.specs.Slots.{Held, Slots, with_slot, changed, puts, weigh, weight, weight_below, cells_held, cells_in, size_in, bare}
-use Rattle.hc_store.specs.Entries.{held, held_at, slots_of}
+use Rattle.hc_store.specs.Slots.{Held, Slots, with_slot, slots_after, puts, weigh, weight, weight_below, cells_held, cells_in, size_in, bare}
+use Rattle.hc_store.specs.Entries.{entry_contents, held_at, slots_of}
 
 -- A sum in which one slot changes.
-module _ (n : ℕ) (held : Option Held) (slots : Slots) where
-  at-other : (m : ℕ) → n ≢ m → with_slot n held slots m ≡ slots m
+module _ (n : ℕ) (entry_contents : Option Held) (slots : Slots) where
+  at-other : (m : ℕ) → n ≢ m → with_slot n entry_contents slots m ≡ slots m
   at-other m ne = let off : eqb n m ≡ false = grind (arith, nat_tests) in rw off refl
 
-  at-same : with_slot n held slots n ≡ held
+  at-same : with_slot n entry_contents slots n ≡ entry_contents
   at-same = let on : eqb n n ≡ true = grind (arith, nat_tests) in rw on refl
 
-  below-other : (k : ℕ) → k ≤ n → weight_below (with_slot n held slots) k ≡ weight_below slots k
+  below-other : (k : ℕ) → k ≤ n → weight_below (with_slot n entry_contents slots) k ≡ weight_below slots k
   unfolding weight_below
   below-other zero le = refl
   below-other (suc k) le = let ne : n ≢ k = omega arith in rw (at-other k ne, below-other k (omega arith)) refl
 
-  below-with : (k : ℕ) → n < k → weight_below (with_slot n held slots) k + weigh (slots n) ≡ weight_below slots k + weigh held
+  below-with : (k : ℕ) → n < k → weight_below (with_slot n entry_contents slots) k + weigh (slots n) ≡ weight_below slots k + weigh entry_contents
   unfolding weight_below
   below-with zero lt = absurd (omega arith)
   below-with (suc k) lt =
       elim (eqb_tells n k) [
-        | inl same ↦ subst (λ (j : ℕ). weight_below (with_slot n held slots) (suc j) + weigh (slots n) ≡ weight_below slots (suc j) + weigh held) same.1
+        | inl same ↦ subst (λ (j : ℕ). weight_below (with_slot n entry_contents slots) (suc j) + weigh (slots n) ≡ weight_below slots (suc j) + weigh entry_contents) same.1
             (rw at-same (let rest = below-other n (omega arith) in omega arith))
         | inr off ↦ rw off.0 (let rest = below-with k (let ne = off.1 in omega arith) in omega arith)
       ]
 
-  weight-with : n < 2 ^ 64 → weight (with_slot n held slots) + weigh (slots n) ≡ weight slots + weigh held
+  weight-with : n < 2 ^ 64 → weight (with_slot n entry_contents slots) + weigh (slots n) ≡ weight slots + weigh entry_contents
   unfolding weight
   weight-with lt = below-with (2 ^ 64) lt
 
@@ -63,7 +63,7 @@ weigh-puts from x bytes last (Some h) is absent end = let more = size-written h.
 
 -- Bytes that are put weigh what they are.
 pub weight-put : (a b : Slots) (n from x : ℕ) (bytes : List ℕ) (last : Option Kind) → n < 2 ^ 64 → is_some (a n) ≡ true → AreAbsent (cells_in a n) from (from + length bytes) → from + length bytes ≤ 2 ^ 62
-    → ((m : ℕ) → b m ≡ changed (puts from x bytes last) n a m) → weight b ≡ weight a + length bytes
+    → ((m : ℕ) → b m ≡ slots_after (puts from x bytes last) n a m) → weight b ≡ weight a + length bytes
 weight-put a b n from x bytes last lt live absent end is =
     let one = weight-slot a b n (option_map (puts from x bytes last) (a n)) lt is in
     let here = weigh-puts from x bytes last (a n) live absent end in
@@ -74,7 +74,7 @@ weigh-kept f None same = refl
 weigh-kept f (Some h) same = rw (same h) refl
 
 -- What keeps the bytes of one slot keeps the sum.
-pub weight-kept : (a b : Slots) (n : ℕ) (f : Held → Held) → n < 2 ^ 64 → ((h : Held) → (f h).cells ≡ h.cells) → ((m : ℕ) → b m ≡ changed f n a m) → weight b ≡ weight a
+pub weight-kept : (a b : Slots) (n : ℕ) (f : Held → Held) → n < 2 ^ 64 → ((h : Held) → (f h).cells ≡ h.cells) → ((m : ℕ) → b m ≡ slots_after f n a m) → weight b ≡ weight a
 weight-kept a b n f lt same is =
     let one = weight-slot a b n (option_map f (a n)) lt is in
     let here = weigh-kept f (a n) same in
@@ -82,7 +82,7 @@ weight-kept a b n f lt same is =
 
 -- It keeps it after a refusal too.
 pub weight-tried : {T E : Type 0} (r : Result T E) (a b : Slots) (n : ℕ) (f : Held → Held) → n < 2 ^ 64 → ((h : Held) → (f h).cells ≡ h.cells)
-    → OnOk r ((m : ℕ) → b m ≡ changed f n a m) → OnErr r ((m : ℕ) → b m ≡ a m) → weight b ≡ weight a
+    → OnOk r ((m : ℕ) → b m ≡ slots_after f n a m) → OnErr r ((m : ℕ) → b m ≡ a m) → weight b ≡ weight a
 weight-tried (Ok x) a b n f lt same ok err = weight-kept a b n f lt same ok
 weight-tried (Err e) a b n f lt same ok err = weight-same a b err
 
@@ -120,13 +120,13 @@ written entries n old new there = Updates-with_value entries n new (rw there ref
 now-at : (entries : Slab Entry) (n m : ℕ) (old new : Entry) → get entries n ≡ Some old → n ≡ m → get (with_value entries n new) m ≡ Some new
 now-at entries n m old new there same = ap (get (with_value entries n new)) (sym same) ∙ (written entries n old new there).changed
 
-pub changed-entry : (entries : Slab Entry) (n : ℕ) (old new : Entry) (f : Held → Held) → get entries n ≡ Some old → held new ≡ f (held old) → (m : ℕ) → slots_of (with_value entries n new) m ≡ changed f n (slots_of entries) m
+pub changed-entry : (entries : Slab Entry) (n : ℕ) (old new : Entry) (f : Held → Held) → get entries n ≡ Some old → entry_contents new ≡ f (entry_contents old) → (m : ℕ) → slots_of (with_value entries n new) m ≡ slots_after f n (slots_of entries) m
 changed-entry entries n old new f there is m = elim (eqb_tells n m) [
   | inl same ↦ rw same.0 (ap held_at (now-at entries n m old new there same.1) ∙ (ap Some is ∙ ap (λ o. option_map f (held_at o)) (sym there)))
   | inr off ↦ rw off.0 (ap held_at ((written entries n old new there).others m (λ e. off.1 (sym e))))
 ]
 
-pub same-entry : (entries : Slab Entry) (n : ℕ) (old new : Entry) → get entries n ≡ Some old → held new ≡ held old → (m : ℕ) → slots_of (with_value entries n new) m ≡ slots_of entries m
+pub same-entry : (entries : Slab Entry) (n : ℕ) (old new : Entry) → get entries n ≡ Some old → entry_contents new ≡ entry_contents old → (m : ℕ) → slots_of (with_value entries n new) m ≡ slots_of entries m
 same-entry entries n old new there is m = elim (eqb_tells n m) [
   | inl same ↦ ap held_at (now-at entries n m old new there same.1) ∙ (ap Some is ∙ ap held_at (sym (ap (get entries) (sym same.1) ∙ there)))
   | inr off ↦ ap held_at ((written entries n old new there).others m (λ e. off.1 (sym e)))

@@ -2,7 +2,7 @@
 use Rattle.std.specs.Prelude.{◌≡◌, ℕ, zero, suc, ◌+◌, ◌^◌, List, Bool, Option, Some, None, is_some, option_map, if◌then◌else◌, ◌==◌}
 use Rattle.hc_record.specs.declared.kind.Kind.{Kind}
 use Rattle.hc_rules.specs.Rooms.{weight_of}
-use Rattle.hc_sparse.specs.Cells.{Cells, written, nothing, size}
+use Rattle.hc_sparse.specs.Cells.{Cells, cells_with, nothing, size}
 use Rattle.hc_record.specs.Head.{Head, sealed_head}
 use Rattle.hc_store.specs.Heads.{with_kind}
 
@@ -24,8 +24,8 @@ abbrev pub with_slot : ℕ → Option Held → Slots → Slots
 with_slot n held slots m = if n == m then held else slots m
 
 -- What one slot holds changes, and every other is as it was.
-abbrev pub changed : (Held → Held) → ℕ → Slots → Slots
-changed f n slots = with_slot n (option_map f (slots n)) slots
+abbrev pub slots_after : (Held → Held) → ℕ → Slots → Slots
+slots_after f n slots = with_slot n (option_map f (slots n)) slots
 
 -- A head, and no bytes.
 abbrev pub bare : Head → Held
@@ -37,7 +37,7 @@ with_bare n head slots = with_slot n (Some (bare head)) slots
 
 -- What one slot holds changes, and every other is as it was, slot by slot.
 abbrev pub Changes : (Held → Held) → ℕ → Slots → Slots → Type 0
-Changes f n slots after = (m : ℕ) → after m ≡ changed f n slots m
+Changes f n slots after = (m : ℕ) → after m ≡ slots_after f n slots m
 
 -- Another head, and the same bytes.
 abbrev pub rewrites : Head → Held → Held
@@ -45,7 +45,7 @@ rewrites head h = record h { head = head }
 
 -- Bytes of x more, and where there is one another kind.
 abbrev pub puts : ℕ → ℕ → List ℕ → Option Kind → Held → Held
-puts from x bytes last h = record { head = with_kind last h.head; cells = written from x bytes h.cells }
+puts from x bytes last h = record { head = with_kind last h.head; cells = cells_with from x bytes h.cells }
 
 -- Another kind and total, and the same bytes.
 abbrev pub seals : Kind → Option ℕ → Held → Held

@@ -22,7 +22,7 @@ pub trait Backend {
     ghost use Rattle.hc_store.specs.declared.error.StoreError.{StoreError};
     ghost use Rattle.hc_store.specs.declared.error.StoreError.TheVariants.{Fault};
     ghost use Rattle.hc_record.specs.Plain.{plain};
-    ghost use Rattle.hc_store.specs.Slots.{Slots, with_slot, with_bare, changed, rewrites, puts, seals, head_in, kind_in, cells_in, size_in, is_live, weigh, weight};
+    ghost use Rattle.hc_store.specs.Slots.{Slots, with_slot, with_bare, slots_after, rewrites, puts, seals, head_in, kind_in, cells_in, size_in, is_live, weigh, weight};
     ghost use Rattle.hc_store.specs.Causes.{HasCause, IsWithin, HasNoLimit};
     ghost use Rattle.hc_sparse.specs.Cells.{AreAbsent, Covers, IsNext};
     ghost use Rattle.hc_sparse.specs.Stretch.{stretch};
@@ -51,7 +51,7 @@ pub trait Backend {
     fn write_record(&mut self, slot: Slot, head: &StoredHead) -> Result<(), StoreError>
         requires { is_live (slots self.old) slot.n ≡ true }
         ensures ok { OnOk result
-            (slots self.new ≡ changed (rewrites (plain head.now)) slot.n (slots self.old)) }
+            (slots self.new ≡ slots_after (rewrites (plain head.now)) slot.n (slots self.old)) }
         ensures err { OnErr result (slots self.new ≡ slots self.old) }
         ensures no_limit { HasNoLimit result }
         ensures limits { limits self.new ≡ limits self.old }
@@ -82,7 +82,7 @@ pub trait Backend {
         requires absent { AreAbsent (cells_in (slots self.old) slot.n) at (at + length bytes.now) }
         requires end { at + length bytes.now ≤ 2 ^ 62 }
         ensures ok { OnOk result
-            (slots self.new ≡ changed (puts at x bytes.now last) slot.n (slots self.old)) }
+            (slots self.new ≡ slots_after (puts at x bytes.now last) slot.n (slots self.old)) }
         ensures err { OnErr result (slots self.new ≡ slots self.old) }
         ensures within { IsWithin (limits self.old)
             (size_in (slots self.old) slot.n + length bytes.now)
@@ -95,7 +95,7 @@ pub trait Backend {
         requires live { is_live (slots self.old) slot.n ≡ true }
         requires total { IfSome total (λ n. n < 2 ^ 62) }
         ensures ok { OnOk result
-            (slots self.new ≡ changed (seals kind total) slot.n (slots self.old)) }
+            (slots self.new ≡ slots_after (seals kind total) slot.n (slots self.old)) }
         ensures err { OnErr result (slots self.new ≡ slots self.old) }
         ensures only { (error : StoreError) → IsErrOf result error → error ≡ Fault }
         ensures limits { limits self.new ≡ limits self.old }

@@ -24,11 +24,11 @@ pub(crate) struct Entry {
 
 impl Entry {
     ghost use Rattle.hc_store.specs.Slots.{bare, rewrites, puts, seals};
-    ghost use Rattle.hc_store.specs.Entries.{held};
+    ghost use Rattle.hc_store.specs.Entries.{entry_contents};
 
     /// A head, and no bytes.
     pub(crate) fn new(alloc: Global, head: &StoredHead) -> Result<Entry, NoMemory>
-        ensures { IfOk result (λ entry. held entry ≡ bare (plain head.now)) }
+        ensures { IfOk result (λ entry. entry_contents entry ≡ bare (plain head.now)) }
     {
         let text = record_of(alloc, head)?;
         let head = head.copy()?;
@@ -41,8 +41,9 @@ impl Entry {
 
     /// Another head, and the same bytes.
     pub(crate) fn rewrite(&mut self, head: &StoredHead) -> Result<(), NoMemory>
-        ensures ok { OnOk result (held self.new ≡ rewrites (plain head.now) (held self.old)) }
-        ensures err { OnErr result (held self.new ≡ held self.old) }
+        ensures ok { OnOk result
+            (entry_contents self.new ≡ rewrites (plain head.now) (entry_contents self.old)) }
+        ensures err { OnErr result (entry_contents self.new ≡ entry_contents self.old) }
     {
         let text = record_of(*self.text.allocator(), head)?;
         let head = head.copy()?;
@@ -61,8 +62,9 @@ impl Entry {
     ) -> Result<(), NoMemory>
         requires absent { AreAbsent (sparse_cells self.old.bytes) at (at + length bytes.now) }
         requires end { at + length bytes.now ≤ 2 ^ 62 }
-        ensures ok { OnOk result (held self.new ≡ puts at x bytes.now last (held self.old)) }
-        ensures err { OnErr result (held self.new ≡ held self.old) }
+        ensures ok { OnOk result
+            (entry_contents self.new ≡ puts at x bytes.now last (entry_contents self.old)) }
+        ensures err { OnErr result (entry_contents self.new ≡ entry_contents self.old) }
     {
         self.bytes.put(at, x, bytes)?;
         if let Some(kind) = last {
@@ -74,7 +76,7 @@ impl Entry {
     /// Another kind and total, written over the record's.
     pub(crate) fn seal(&mut self, kind: Kind, total: Option<u64>)
         requires { IfSome total (λ n. n < 2 ^ 62) }
-        ensures { held self.new ≡ seals kind total (held self.old) }
+        ensures { entry_contents self.new ≡ seals kind total (entry_contents self.old) }
     {
         seal_record(&mut self.text, kind, total);
         self.head.kind = kind;

@@ -118,10 +118,10 @@ user-slot slots c (Some row) has = (row.slot, refl)
 
 users-rise : (slots : Slots) (o : Option Row) → ((row : Row) → o ≡ Some row → IsShelved (slots row.slot) row) → is_sorted itself (users_at o) ≡ true
 users-rise slots None each = refl
-users-rise slots (Some row) each = (each row refl).rising
+users-rise slots (Some row) each = (each row refl).ascending
 
-pub rising-users : {rows : Rows} {order : List ℕ} {slots : Slots} → AreShelved rows order slots → (r : ℕ) → is_sorted itself (users_at (rows r)) ≡ true
-rising-users {rows} {order} {slots} good r = users-rise slots (rows r) (good.each r)
+pub ascending-users : {rows : Rows} {order : List ℕ} {slots : Slots} → AreShelved rows order slots → (r : ℕ) → is_sorted itself (users_at (rows r)) ≡ true
+ascending-users {rows} {order} {slots} good r = users-rise slots (rows r) (good.each r)
 
 pub absent-user : (c : ℕ) (o : Option Row) (a : Row) → o ≡ Some a → has itself c (users_at o) ≡ false → has itself c a.bound ≡ false
 absent-user c None a is absent = cc

@@ -14,29 +14,29 @@ use Rattle.hc_cachectl.specs.Directives.{of_response}
 use Rattle.hc_store.specs.Heads.{with_kind}
 use Rattle.hc_store.specs.Slots.{Held, bare, rewrites, puts, seals}
 use Rattle.hc_stored.specs.Begun.{begun_row}
-use Rattle.hc_stored.specs.Heads.{Told, told_of}
+use Rattle.hc_stored.specs.Heads.{Summary, summary_of}
 use Rattle.hc_stored.specs.Kept.{itself, unless_it, is_nobody}
-use Rattle.hc_stored.specs.Rows.{Row, with_told, with_last, reaching, sealed_as, used_by, used_first_by, unused_by, going, losing, written_in, founded_row}
+use Rattle.hc_stored.specs.Rows.{Row, with_summary, with_last, reaching, sealed_as, used_by, used_first_by, unused_by, going, losing, written_in, founded_row}
 use Rattle.hc_stored.specs.Shelved.{is_among, IsShelved}
 use Rattle.hc_stored.proofs.ReachLemmas.{reaches-nothing, reaches-written}
 
-told-is : (b : Held) (told : Told) → option_map (λ (h : Held). told_of h.head) (Some b) ≡ Some told → told_of b.head ≡ told
-told-is b told is = let e = is in cc
+summary-is : (b : Held) (summary : Summary) → option_map (λ (h : Held). summary_of h.head) (Some b) ≡ Some summary → summary_of b.head ≡ summary
+summary-is b summary is = let e = is in cc
 
 -- neither kind nor total tells how fresh a head is
 lifetime-sealed : (kind : Kind) (total : Option ℕ) (head : Head) (age : Option ℕ) → lifetime_by age (sealed_head kind total head) ≡ lifetime_by age head
 lifetime-sealed kind total head None = refl
 lifetime-sealed kind total head (Some seconds) = refl
 
-told-sealed : (kind : Kind) (total : Option ℕ) (head : Head) → told_of (sealed_head kind total head) ≡ record (told_of head) { kind = kind; total = total }
+summary-sealed : (kind : Kind) (total : Option ℕ) (head : Head) → summary_of (sealed_head kind total head) ≡ record (summary_of head) { kind = kind; total = total }
 unfolding corrected_initial_age lifetime
-told-sealed kind total head =
-    ap (λ (n : ℕ). record (told_of head) { facts = record (head_facts head) { lifetime = n }; kind = kind; total = total })
+summary-sealed kind total head =
+    ap (λ (n : ℕ). record (summary_of head) { facts = record (head_facts head) { lifetime = n }; kind = kind; total = total })
     (lifetime-sealed kind total head (of_response head.fields).max_age)
 
-told-with : (last : Option Kind) (head : Head) → told_of (with_kind last head) ≡ with_last last (told_of head)
-told-with None head = refl
-told-with (Some kind) head = told-sealed kind head.total head
+summary-with : (last : Option Kind) (head : Head) → summary_of (with_kind last head) ≡ with_last last (summary_of head)
+summary-with None head = refl
+summary-with (Some kind) head = summary-sealed kind head.total head
 
 -- HEAD AND BYTES
 
@@ -45,9 +45,9 @@ pub shelved-filled : (at x : ℕ) (bytes : List ℕ) (last : Option Kind) (a : R
 shelved-filled at x bytes last a b some h = record {
   number = h.number;
   live = refl;
-  told = ap Some (told-with last b.head ∙ ap (with_last last) (told-is b a.told h.told));
+  summary = ap Some (summary-with last b.head ∙ ap (with_last last) (summary-is b a.summary h.summary));
   reach = reaches-written at x bytes b.cells a.reach some h.reach;
-  rising = h.rising;
+  ascending = h.ascending;
   first = h.first;
   used = h.used;
 }
@@ -56,20 +56,20 @@ pub shelved-sealed : (kind : Kind) (total : Option ℕ) (a : Row) (b : Held) →
 shelved-sealed kind total a b h = record {
   number = h.number;
   live = refl;
-  told = ap Some (told-sealed kind total b.head ∙ ap (λ (t : Told). record t { kind = kind; total = total }) (told-is b a.told h.told));
+  summary = ap Some (summary-sealed kind total b.head ∙ ap (λ (t : Summary). record t { kind = kind; total = total }) (summary-is b a.summary h.summary));
   reach = h.reach;
-  rising = h.rising;
+  ascending = h.ascending;
   first = h.first;
   used = h.used;
 }
 
-pub shelved-rewritten : (head : Head) (told : Told) (a : Row) (b : Held) → told ≡ told_of head → IsShelved (Some b) a → IsShelved (Some (rewrites head b)) (with_told told a)
-shelved-rewritten head told a b is h = record {
+pub shelved-rewritten : (head : Head) (summary : Summary) (a : Row) (b : Held) → summary ≡ summary_of head → IsShelved (Some b) a → IsShelved (Some (rewrites head b)) (with_summary summary a)
+shelved-rewritten head summary a b is h = record {
   number = h.number;
   live = refl;
-  told = ap Some (sym is);
+  summary = ap Some (sym is);
   reach = h.reach;
-  rising = h.rising;
+  ascending = h.ascending;
   first = h.first;
   used = h.used;
 }
@@ -101,9 +101,9 @@ pub shelved-bound : (c : ℕ) (a : Row) (b : Held) → has itself c a.bound ≡ 
 shelved-bound c a b absent h = record {
   number = h.number;
   live = refl;
-  told = h.told;
+  summary = h.summary;
   reach = h.reach;
-  rising = is_sorted-with itself c a.bound h.rising absent;
+  ascending = is_sorted-with itself c a.bound h.ascending absent;
   first = among-with c a.first a.bound h.first;
   used = λ gone. somebody c a.bound;
 }
@@ -112,9 +112,9 @@ pub shelved-first : (c : ℕ) (a : Row) (b : Held) → has itself c a.bound ≡ 
 shelved-first c a b absent h = record {
   number = h.number;
   live = refl;
-  told = h.told;
+  summary = h.summary;
   reach = h.reach;
-  rising = is_sorted-with itself c a.bound h.rising absent;
+  ascending = is_sorted-with itself c a.bound h.ascending absent;
   first = has-itself c a.bound;
   used = λ gone. somebody c a.bound;
 }
@@ -135,9 +135,9 @@ pub shelved-left : (c : ℕ) (a : Row) (b : Held) → a.is_gone && is_nobody (wi
 shelved-left c a b kept h = record {
   number = h.number;
   live = refl;
-  told = h.told;
+  summary = h.summary;
   reach = h.reach;
-  rising = is_sorted-filter itself (λ x. not (eqb x c)) a.bound h.rising;
+  ascending = is_sorted-filter itself (λ x. not (eqb x c)) a.bound h.ascending;
   first = among-without c a.first a.bound h.first;
   used = used-still a.is_gone (is_nobody (without itself c a.bound)) kept;
 }
@@ -148,9 +148,9 @@ pub shelved-going : (a : Row) (b : Held) → is_nobody a.bound ≡ false → IsS
 shelved-going a b somebody h = record {
   number = h.number;
   live = refl;
-  told = h.told;
+  summary = h.summary;
   reach = h.reach;
-  rising = h.rising;
+  ascending = h.ascending;
   first = h.first;
   used = λ gone. somebody;
 }
@@ -159,9 +159,9 @@ pub shelved-lost : (alone : Option ℕ) (a : Row) (b : Held) → IsShelved (Some
 shelved-lost alone a b h = record {
   number = h.number;
   live = refl;
-  told = h.told;
+  summary = h.summary;
   reach = h.reach;
-  rising = h.rising;
+  ascending = h.ascending;
   first = h.first;
   used = h.used;
 }
@@ -170,9 +170,9 @@ pub shelved-written : (x : ℕ) (a : Row) (b : Held) → IsShelved (Some b) a �
 shelved-written x a b h = record {
   number = h.number;
   live = refl;
-  told = h.told;
+  summary = h.summary;
   reach = h.reach;
-  rising = h.rising;
+  ascending = h.ascending;
   first = h.first;
   used = h.used;
 }
@@ -184,24 +184,24 @@ among-first c true = let e : eqb c c ≡ true = grind (arith, nat_tests) in rw e
 among-first c false = refl
 
 pub shelved-founded : (key : List ℕ) (n : ℕ) (head : Head) (c : ℕ) (is_first : Bool) (writer : Option ℕ) → n < 2 ^ 64
-    → IsShelved (Some (bare head)) (founded_row key n (told_of head) c is_first writer)
+    → IsShelved (Some (bare head)) (founded_row key n (summary_of head) c is_first writer)
 shelved-founded key n head c is_first writer number = record {
   number = number;
   live = refl;
-  told = refl;
+  summary = refl;
   reach = reaches-nothing;
-  rising = refl;
+  ascending = refl;
   first = among-first c is_first;
   used = λ gone. refl;
 }
 
-pub shelved-begun : (key : List ℕ) (n : ℕ) (head : Head) → n < 2 ^ 64 → IsShelved (Some (bare head)) (begun_row key n (told_of head))
+pub shelved-begun : (key : List ℕ) (n : ℕ) (head : Head) → n < 2 ^ 64 → IsShelved (Some (bare head)) (begun_row key n (summary_of head))
 shelved-begun key n head number = record {
   number = number;
   live = refl;
-  told = refl;
+  summary = refl;
   reach = reaches-nothing;
-  rising = refl;
+  ascending = refl;
   first = refl;
   used = λ gone. let never : false ≡ true = gone in cc;
 }

@@ -8,8 +8,8 @@ use Rattle.std.proofs.lemmas.Bool.Decides.{nat_tests}
 use Rattle.std.proofs.lemmas.Grind.{merely}
 use Rattle.std.proofs.lemmas.Iterator.Adapters.{option_map_id}
 use Rattle.hc_sorted.specs.Sorted.{has}
-use Rattle.hc_store.specs.Slots.{Held, Slots, with_slot, changed, is_live, cells_held}
-use Rattle.hc_stored.specs.Heads.{told_of}
+use Rattle.hc_store.specs.Slots.{Held, Slots, with_slot, slots_after, is_live, cells_held}
+use Rattle.hc_stored.specs.Heads.{summary_of}
 use Rattle.hc_stored.specs.Kept.{Kept, itself}
 use Rattle.hc_stored.specs.Rows.{Row, Rows, with_row, Changes, kept_by, kept_of, slot_at, is_current}
 use Rattle.hc_stored.specs.Shelf.{cells_in}
@@ -21,11 +21,11 @@ use Rattle.hc_stored.specs.Shelved.{IsShelved, Owner, AreShelved}
 pub record Standing (slots : Slots) (row : Row) : Type 0 where
   pub held : Held
   pub there : slots row.slot ≡ Some held
-  pub told : told_of held.head ≡ row.told
+  pub summary : summary_of held.head ≡ row.summary
 
 standing_by : (slots : Slots) (row : Row) (o : Option Held) → slots row.slot ≡ o → IsShelved o row → Standing slots row
 standing_by slots row None is shelved = absurd (let never : false ≡ true = shelved.live in cc)
-standing_by slots row (Some held) is shelved = record { held = held; there = is; told = let e = shelved.told in cc }
+standing_by slots row (Some held) is shelved = record { held = held; there = is; summary = let e = shelved.summary in cc }
 
 module _ {rows : Rows} {order : List ℕ} {slots : Slots} (good : AreShelved rows order slots) where
   pub standing : (r : ℕ) (row : Row) → rows r ≡ Some row → Standing slots row
@@ -118,7 +118,7 @@ row-at (Some row) n is = (row, refl, let e = is in cc)
 
 module _ {rows : Rows} {order : List ℕ} {slots : Slots} (good : AreShelved rows order slots) (r n : ℕ) (slot : slot_at (rows r) ≡ Some n)
     {new_rows : Rows} {new_slots : Slots} (f : Row → Row) (h : Held → Held) (keeps : (a : Row) → (f a).slot ≡ a.slot)
-    (changes : Changes f r rows new_rows) (puts : (m : ℕ) → new_slots m ≡ changed h n slots m) where
+    (changes : Changes f r rows new_rows) (puts : (m : ℕ) → new_slots m ≡ slots_after h n slots m) where
   abbrev found-row : (row : Row) × (rows r ≡ Some row) × (row.slot ≡ n)
   found-row = row-at (rows r) n slot
 
@@ -150,7 +150,7 @@ module _ {rows : Rows} {order : List ℕ} {slots : Slots} (good : AreShelved row
       (option_map k) (ap Some (is row-before held-before.held))
 
 -- the slots stay
-pub kept-slots : (slots : Slots) (n m : ℕ) → slots m ≡ changed (λ (h : Held). h) n slots m
+pub kept-slots : (slots : Slots) (n m : ℕ) → slots m ≡ slots_after (λ (h : Held). h) n slots m
 kept-slots slots n m = elim (cases_Bool (eqb n m)) [
   | inl same ↦ ap slots (sym (eqb-true n m same)) ∙ (sym (option_map_id (slots n)) ∙ (rw same refl))
   | inr off ↦ rw off refl

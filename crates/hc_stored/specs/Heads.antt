@@ -15,7 +15,7 @@ is_none_element element = bytes_eq (lowercase element) (codes "none")
 abbrev pub refuses_ranges : Head → Bool
 refuses_ranges head = list_any is_none_element (elements_in (codes "accept-ranges") head.fields)
 
-pub record Told : Type 0 where
+pub record Summary : Type 0 where
   pub facts : HeadFacts
   pub status : ℕ
   pub kind : Kind
@@ -23,8 +23,8 @@ pub record Told : Type 0 where
   pub tag : Option (List ℕ)  -- the one by which other parts join
   pub refuses_ranges : Bool
 
-abbrev pub told_of : Head → Told
-told_of head = record {
+abbrev pub summary_of : Head → Summary
+summary_of head = record {
   facts = head_facts head;
   status = head.status;
   kind = head.kind;

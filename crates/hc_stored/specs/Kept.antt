@@ -1,7 +1,7 @@
 -- What is kept of a representation, and how it changes.
 use Rattle.std.specs.Prelude.{ℕ, ◌+◌, ◌==◌, ◌&&◌, max, length, List, [], ◌∷◌, Bool, true, false, Option, Some, None, if◌then◌else◌}
 use Rattle.hc_sorted.specs.Sorted.{with_item, without}
-use Rattle.hc_sparse.specs.Cells.{Cells, nothing, written}
+use Rattle.hc_sparse.specs.Cells.{Cells, nothing, cells_with}
 use Rattle.hc_record.specs.declared.kind.Kind.{Kind}
 use Rattle.hc_record.specs.Head.{Head, sealed_head}
 use Rattle.hc_store.specs.Heads.{with_kind}
@@ -28,8 +28,8 @@ abbrev pub alone_if : Bool → ℕ → Option ℕ
 alone_if is_first c = if is_first then Some c else None
 
 -- no byte is there, and one consumer is bound
-abbrev pub founded : List ℕ → Head → ℕ → Bool → Option ℕ → Kept
-founded key head c is_first writer = record {
+abbrev pub founded_kept : List ℕ → Head → ℕ → Bool → Option ℕ → Kept
+founded_kept key head c is_first writer = record {
   key = key;
   head = head;
   cells = nothing;
@@ -48,16 +48,16 @@ abbrev pub with_head : Head → Kept → Kept
 with_head head k = record k { head = head }
 
 -- bytes of x from a position on, and with the last of them another kind
-abbrev pub filled : ℕ → ℕ → List ℕ → Option Kind → Kept → Kept
-filled at x bytes last k = record k {
+abbrev pub kept_with_bytes : ℕ → ℕ → List ℕ → Option Kind → Kept → Kept
+kept_with_bytes at x bytes last k = record k {
   head = with_kind last k.head;
-  cells = written at x bytes k.cells;
+  cells = cells_with at x bytes k.cells;
   reach = max k.reach (at + length bytes);
 }
 
 -- another kind and total
-abbrev pub sealed : Kind → Option ℕ → Kept → Kept
-sealed kind total k = record k { head = sealed_head kind total k.head }
+abbrev pub sealed_kept : Kind → Option ℕ → Kept → Kept
+sealed_kept kind total k = record k { head = sealed_head kind total k.head }
 
 -- CONSUMERS
 
@@ -88,11 +88,11 @@ while_used k = if k.is_gone && is_nobody k.bound then None else Some k
 abbrev pub left_by : ℕ → Kept → Option Kept
 left_by c k = while_used (without_user c k)
 
-abbrev pub gone : Kept → Option Kept
-gone k = while_used (record k { is_gone = true })
+abbrev pub kept_as_gone : Kept → Option Kept
+kept_as_gone k = while_used (record k { is_gone = true })
 
-abbrev pub lost : Option ℕ → Kept → Kept
-lost alone k = record k { is_lost = true; alone = alone }
+abbrev pub kept_as_lost : Option ℕ → Kept → Kept
+kept_as_lost alone k = record k { is_lost = true; alone = alone }
 
 abbrev pub written_by : ℕ → Kept → Kept
 written_by x k = record k { writer = Some x }

@@ -7,15 +7,15 @@ use Rattle.hc_sorted.specs.Sorted.{with_item, without}
 use Rattle.hc_record.specs.declared.kind.Kind.{Kind}
 use Rattle.hc_record.specs.Head.{opaque_of}
 use Rattle.hc_store.specs.Slots.{Held, Slots}
-use Rattle.hc_stored.specs.declared.told.HeadTold.{HeadTold}
+use Rattle.hc_stored.specs.declared.summary.HeadSummary.{HeadSummary}
 use Rattle.hc_stored.specs.declared.entry.Entry.{Entry}
-use Rattle.hc_stored.specs.Heads.{Told}
+use Rattle.hc_stored.specs.Heads.{Summary}
 use Rattle.hc_stored.specs.Kept.{Kept, itself, alone_if, unless_it, is_nobody}
 
 pub record Row : Type 0 where
   pub key : List ℕ
   pub slot : ℕ
-  pub told : Told
+  pub summary : Summary
   pub reach : ℕ
   pub bound : List ℕ
   pub first : Option ℕ
@@ -26,21 +26,21 @@ pub record Row : Type 0 where
 
 -- IN THE CODE
 
-abbrev pub told_in : HeadTold → Told
-told_in told = record {
-  facts = told.facts;
-  status = told.status;
-  kind = told.kind;
-  total = told.total;
-  tag = opaque_of told.tag;
-  refuses_ranges = told.refuses_ranges;
+abbrev pub summary_in : HeadSummary → Summary
+summary_in summary = record {
+  facts = summary.facts;
+  status = summary.status;
+  kind = summary.kind;
+  total = summary.total;
+  tag = opaque_of summary.tag;
+  refuses_ranges = summary.refuses_ranges;
 }
 
 abbrev pub row_of : Entry → Row
 row_of e = record {
   key = e.key;
   slot = e.slot.n;
-  told = told_in e.told;
+  summary = summary_in e.summary;
   reach = e.reach;
   bound = e.bound.items;
   first = e.first;
@@ -88,18 +88,18 @@ with_row r row rows q = if r == q then row else rows q
 abbrev pub Changes : (Row → Row) → ℕ → Rows → Rows → Type 0
 Changes f r before after = (q : ℕ) → after q ≡ with_row r (option_map f (before r)) before q
 
-abbrev pub with_told : Told → Row → Row
-with_told told row = record row { told = told }
+abbrev pub with_summary : Summary → Row → Row
+with_summary summary row = record row { summary = summary }
 
-abbrev pub with_last : Option Kind → Told → Told
-with_last None told = told
-with_last (Some kind) told = record told { kind = kind }
+abbrev pub with_last : Option Kind → Summary → Summary
+with_last None summary = summary
+with_last (Some kind) summary = record summary { kind = kind }
 
 abbrev pub reaching : ℕ → Option Kind → Row → Row
-reaching end last row = record row { told = with_last last row.told; reach = max row.reach end }
+reaching end last row = record row { summary = with_last last row.summary; reach = max row.reach end }
 
 abbrev pub sealed_as : Kind → Option ℕ → Row → Row
-sealed_as kind total row = record row { told = record row.told { kind = kind; total = total } }
+sealed_as kind total row = record row { summary = record row.summary { kind = kind; total = total } }
 
 abbrev pub used_by : ℕ → Row → Row
 used_by c row = record row { bound = with_item itself c row.bound }
@@ -128,11 +128,11 @@ is_current (Some row) = not row.is_gone
 -- OF ONE ROW
 
 -- as it is founded, without bytes
-abbrev pub founded_row : List ℕ → ℕ → Told → ℕ → Bool → Option ℕ → Row
-founded_row key slot told c is_first writer = record {
+abbrev pub founded_row : List ℕ → ℕ → Summary → ℕ → Bool → Option ℕ → Row
+founded_row key slot summary c is_first writer = record {
   key = key;
   slot = slot;
-  told = told;
+  summary = summary;
   reach = 0;
   bound = c ∷ [];
   first = alone_if is_first c;

@@ -30,8 +30,8 @@ pub record Stays (old new : Shelf) : Type 0 where
   pub used : new.used ≡ old.used
   pub limits : new.limits ≡ old.limits
 
-abbrev pub unmoved : List ℕ → List ℕ
-unmoved order = order
+abbrev pub same_order : List ℕ → List ℕ
+same_order order = order
 
 abbrev pub first_in : ℕ → List ℕ → List ℕ
 first_in r order = r ∷ order

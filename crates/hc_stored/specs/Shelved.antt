@@ -3,7 +3,7 @@ use Rattle.std.specs.Prelude.{◌≡◌, ℕ, ◌-◌, ◌<◌, ◌^◌, ◌==�
 use Rattle.hc_sorted.specs.Sorted.{is_sorted, has}
 use Rattle.hc_sparse.specs.Cells.{Cells, EndsBy}
 use Rattle.hc_store.specs.Slots.{Held, Slots, is_live, cells_held}
-use Rattle.hc_stored.specs.Heads.{told_of}
+use Rattle.hc_stored.specs.Heads.{summary_of}
 use Rattle.hc_stored.specs.Kept.{itself, is_nobody}
 use Rattle.hc_stored.specs.Rows.{Row, Rows, is_current}
 
@@ -21,9 +21,9 @@ is_among (Some c) bound = has itself c bound
 pub record IsShelved (held : Option Held) (row : Row) : Type 0 where
   pub number : row.slot < 2 ^ 64
   pub live : is_some held ≡ true
-  pub told : option_map (λ (h : Held). told_of h.head) held ≡ Some row.told
+  pub summary : option_map (λ (h : Held). summary_of h.head) held ≡ Some row.summary
   pub reach : Reaches (cells_held held) row.reach
-  pub rising : is_sorted itself row.bound ≡ true
+  pub ascending : is_sorted itself row.bound ≡ true
   pub first : is_among row.first row.bound ≡ true
   pub used : row.is_gone ≡ true → is_nobody row.bound ≡ false
 

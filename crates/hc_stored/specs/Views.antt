@@ -56,11 +56,11 @@ has_user c kept = has itself c (bound_in kept)
 -- of a row of which so many bytes are stored
 abbrev pub view_of_row : Row → ℕ → EntryView
 view_of_row row stored = record {
-  status = row.told.status;
-  kind = row.told.kind;
-  total = row.told.total;
-  has_tag = is_some row.told.tag;
-  refuses_ranges = row.told.refuses_ranges;
+  status = row.summary.status;
+  kind = row.summary.kind;
+  total = row.summary.total;
+  has_tag = is_some row.summary.tag;
+  refuses_ranges = row.summary.refuses_ranges;
   reach = row.reach;
   size = stored;
   users = length row.bound;

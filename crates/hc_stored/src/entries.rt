@@ -4,7 +4,7 @@ ghost use Rattle.hc_record.specs.Plain.{plain};
 ghost use Rattle.hc_rules.specs.declared.room.Limits.{Limits};
 ghost use Rattle.hc_store.specs.Slots.{no_slots};
 ghost use Rattle.hc_store.specs.Causes.{HasCause, IsWithin};
-ghost use Rattle.hc_stored.specs.Kept.{founded};
+ghost use Rattle.hc_stored.specs.Kept.{founded_kept};
 ghost use Rattle.hc_stored.specs.Rows.{rows_of};
 ghost use Rattle.hc_stored.specs.Shelved.{AreShelved};
 
@@ -83,7 +83,7 @@ impl<B: Backend> Entries<B> {
         requires new { (shelf_of self.old).kept r ≡ None }
         requires moments { head.now.requested ≤ head.now.answered }
         ensures ok { OnOk result (Becomes
-            (λ _. Some (founded key (plain head.now) c first writer))
+            (λ _. Some (founded_kept key (plain head.now) c first writer))
             (first_in r) r (shelf_of self.old) (shelf_of self.new)) }
         ensures err { OnErr result (Stays (shelf_of self.old) (shelf_of self.new)) }
         ensures within { IsWithin (shelf_of self.old).limits 0

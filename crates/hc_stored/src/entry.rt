@@ -4,11 +4,11 @@ ghost use Rattle.hc_record.specs.Plain.{plain};
 ghost use Rattle.hc_sparse.specs.Cells.{size};
 ghost use Rattle.hc_sorted.specs.Sorted.{is_sorted, has};
 ghost use Rattle.hc_store.specs.Slots.{Held};
-ghost use Rattle.hc_stored.specs.Heads.{told_of};
+ghost use Rattle.hc_stored.specs.Heads.{summary_of};
 ghost use Rattle.hc_stored.specs.Begun.{begun_row};
-ghost use Rattle.hc_stored.specs.Kept.{itself, founded};
+ghost use Rattle.hc_stored.specs.Kept.{itself, founded_kept};
 
-use crate::told::HeadTold;
+use crate::summary::HeadSummary;
 use crate::view::EntryView;
 use hc_record::{Kind, StoredHead};
 use hc_sorted::{leave_out, put_in};
@@ -22,7 +22,7 @@ use std::alloc::Global;
 pub(crate) struct Entry {
     pub(crate) key: Key,
     pub(crate) slot: Slot,
-    pub(crate) told: HeadTold,
+    pub(crate) summary: HeadSummary,
     /// Where the last of its bytes ends.
     pub(crate) reach: u64,
     /// Who is bound to it.
@@ -55,7 +55,7 @@ impl Entry {
     ) -> Result<Entry, NoMemory>
         requires { head.now.requested ≤ head.now.answered }
         ensures { IfOk result (λ entry. row_of entry
-            ≡ founded_row key slot.n (told_of (plain head.now)) c first writer) }
+            ≡ founded_row key slot.n (summary_of (plain head.now)) c first writer) }
     {
         let mut entry = Entry::begun(alloc, key, slot, head)?;
         entry.bound.push(c)?;
@@ -73,13 +73,13 @@ impl Entry {
     ) -> Result<Entry, NoMemory>
         requires { head.now.requested ≤ head.now.answered }
         ensures { IfOk result (λ entry. row_of entry
-            ≡ begun_row key slot.n (told_of (plain head.now))) }
+            ≡ begun_row key slot.n (summary_of (plain head.now))) }
     {
-        let told = HeadTold::of(head)?;
+        let summary = HeadSummary::of(head)?;
         Ok(Entry {
             key,
             slot,
-            told,
+            summary,
             reach: 0,
             bound: Vec::new(alloc),
             first: None,
@@ -92,7 +92,7 @@ impl Entry {
 
     /// One more is bound.
     pub(crate) fn bind(&mut self, c: u64) -> Result<(), NoMemory>
-        requires rising { is_sorted itself self.old.bound.items ≡ true }
+        requires ascending { is_sorted itself self.old.bound.items ≡ true }
         requires absent { has itself c self.old.bound.items ≡ false }
         ensures ok { OnOk result (row_of self.new ≡ used_by c (row_of self.old)) }
         ensures err { OnErr result (row_of self.new ≡ row_of self.old) }
@@ -117,7 +117,7 @@ impl Entry {
     {
         self.reach = self.reach.max(end);
         if let Some(kind) = last {
-            self.told.kind = kind;
+            self.summary.kind = kind;
         }
     }
 
@@ -126,11 +126,11 @@ impl Entry {
         ensures { result ≡ view_of_row (row_of self.now) size }
     {
         EntryView {
-            status: self.told.status,
-            kind: self.told.kind,
-            total: self.told.total,
-            has_tag: self.told.tag.is_some(),
-            refuses_ranges: self.told.refuses_ranges,
+            status: self.summary.status,
+            kind: self.summary.kind,
+            total: self.summary.total,
+            has_tag: self.summary.tag.is_some(),
+            refuses_ranges: self.summary.refuses_ranges,
             reach: self.reach,
             size,
             users: self.bound.len(),

@@ -6,7 +6,7 @@ mod entry;
 mod order;
 mod ranges;
 mod rows;
-mod told;
+mod summary;
 mod view;
 
 pub use entries::Entries;

@@ -2,11 +2,11 @@
 ghost use Rattle.std.specs.Prelude.{◌≡◌, ℕ, ◌∷◌, Some, None, is_some, option_map, true, false, OnOk, OnErr};
 ghost use Rattle.hc_sorted.specs.Sorted.{is_sorted, has};
 ghost use Rattle.hc_stored.specs.Kept.{itself};
-ghost use Rattle.hc_stored.specs.Rows.{row_of, rows_of, told_in, with_row, Changes, with_told, reaching, sealed_as, used_by, used_first_by, unused_by, going, losing, written_in, slot_at, users_at, is_over, is_unused_row};
+ghost use Rattle.hc_stored.specs.Rows.{row_of, rows_of, summary_in, with_row, Changes, with_summary, reaching, sealed_as, used_by, used_first_by, unused_by, going, losing, written_in, slot_at, users_at, is_over, is_unused_row};
 
 use crate::entry::Entry;
 use crate::order::Order;
-use crate::told::HeadTold;
+use crate::summary::HeadSummary;
 use hc_record::Kind;
 use hc_store::Slot;
 use hc_text::NoMemory;
@@ -73,11 +73,11 @@ pub(crate) fn drop_in(rows: &mut HashMap<u64, Entry>, r: u64) -> Slot
 }
 
 /// Its head tells this.
-pub(crate) fn tell_in(rows: &mut HashMap<u64, Entry>, r: u64, told: HeadTold)
-    ensures { Changes (with_told (told_in told)) r (rows_of rows.old) (rows_of rows.new) }
+pub(crate) fn tell_in(rows: &mut HashMap<u64, Entry>, r: u64, summary: HeadSummary)
+    ensures { Changes (with_summary (summary_in summary)) r (rows_of rows.old) (rows_of rows.new) }
 {
     if let Some(entry) = rows.get_mut(&r) {
-        entry.told = told;
+        entry.summary = summary;
     }
 }
 
@@ -95,14 +95,14 @@ pub(crate) fn seal_in(rows: &mut HashMap<u64, Entry>, r: u64, kind: Kind, total:
     ensures { Changes (sealed_as kind total) r (rows_of rows.old) (rows_of rows.new) }
 {
     if let Some(entry) = rows.get_mut(&r) {
-        entry.told.kind = kind;
-        entry.told.total = total;
+        entry.summary.kind = kind;
+        entry.summary.total = total;
     }
 }
 
 /// One more is bound to it.
 pub(crate) fn bind_in(rows: &mut HashMap<u64, Entry>, r: u64, c: u64) -> Result<(), NoMemory>
-    requires rising { is_sorted itself (users_at (rows_of rows.old r)) ≡ true }
+    requires ascending { is_sorted itself (users_at (rows_of rows.old r)) ≡ true }
     requires absent { has itself c (users_at (rows_of rows.old r)) ≡ false }
     ensures ok { OnOk result (Changes (used_by c) r (rows_of rows.old) (rows_of rows.new)) }
     ensures err { OnErr result ((q : ℕ) → rows_of rows.new q ≡ rows_of rows.old q) }
@@ -115,7 +115,7 @@ pub(crate) fn bind_in(rows: &mut HashMap<u64, Entry>, r: u64, c: u64) -> Result<
 
 /// One more is bound to it, which comes alone.
 pub(crate) fn bind_first_in(rows: &mut HashMap<u64, Entry>, r: u64, c: u64) -> Result<(), NoMemory>
-    requires rising { is_sorted itself (users_at (rows_of rows.old r)) ≡ true }
+    requires ascending { is_sorted itself (users_at (rows_of rows.old r)) ≡ true }
     requires absent { has itself c (users_at (rows_of rows.old r)) ≡ false }
     ensures ok { OnOk result (Changes (used_first_by c) r (rows_of rows.old) (rows_of rows.new)) }
     ensures err { OnErr result ((q : ℕ) → rows_of rows.new q ≡ rows_of rows.old q) }

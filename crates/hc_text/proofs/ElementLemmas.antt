@@ -5,7 +5,7 @@ use Rattle.std.proofs.Math.Seq.{take-add}
 use Rattle.std.proofs.lemmas.Bool.{cases_lt, or_cases, eqb-true, cond-false, cond-true, not_from_false, ne_eqb, both_ways, true≢false, false≢true}
 use Rattle.std.proofs.lemmas.List.{append_assoc, append-nil, at_drop_more, at_drop_all, drop-drop, reverse-append, reverse-reverse}
 use Rattle.std.proofs.lemmas.List.Edits.{between_none, between_more, length-between, get_or-between}
-use Rattle.hc_text.specs.Elements.{comma, is_blank, Place, Outside, Within, Taken, after, separates, begin_with, cut, skip_blanks, trim_end, trimmed, elements_of, elements}
+use Rattle.hc_text.specs.Elements.{comma, is_blank, Place, Outside, Within, Taken, after, separates, begin_with, cut_pieces, skip_blanks, trim_end, trimmed_text, elements_of, elements}
 
 pub begin_with-begin_with : (xs ys : List ℕ) (pieces : List (List ℕ)) → begin_with xs (begin_with ys pieces) ≡ begin_with (xs ++ ys) pieces
 begin_with-begin_with xs ys [] = refl
@@ -16,25 +16,25 @@ begin_with-cut_cond : (b : Bool) (bytes : List ℕ) (xs : List (List ℕ)) (ys :
 begin_with-cut_cond true bytes xs ys = refl
 begin_with-cut_cond false bytes xs ys = begin_with-begin_with [] bytes ys
 
-pub begin_with-cut : (place : Place) (text : List ℕ) → begin_with [] (cut place text) ≡ cut place text
+pub begin_with-cut : (place : Place) (text : List ℕ) → begin_with [] (cut_pieces place text) ≡ cut_pieces place text
 begin_with-cut place [] = refl
-begin_with-cut place (b ∷ text) = begin_with-cut_cond (separates place b) (b ∷ []) (cut Outside text) (cut (after place b) text)
+begin_with-cut place (b ∷ text) = begin_with-cut_cond (separates place b) (b ∷ []) (cut_pieces Outside text) (cut_pieces (after place b) text)
 
 -- nothing is read yet
-pub cut_start : (text : List ℕ) (start : ℕ) (place : Place) → cut place (drop start text) ≡ begin_with (slice_range text start start) (cut place (drop start text))
+pub cut_start : (text : List ℕ) (start : ℕ) (place : Place) → cut_pieces place (drop start text) ≡ begin_with (slice_range text start start) (cut_pieces place (drop start text))
 cut_start text start place = rw between_none (sym (begin_with-cut place (drop start text)))
 
 cut_byte : (text : List ℕ) (at : ℕ) (place : Place) → at < length text → separates place (get_or text at 0) ≡ false
-    → cut place (drop at text) ≡ begin_with (get_or text at 0 ∷ []) (cut (after place (get_or text at 0)) (drop (at + 1) text))
-cut_byte text at place inside joins = at_drop_more (cut place) text at 0 inside ∙ cond-false (separates place (get_or text at 0)) ([] ∷ cut Outside (drop (at + 1) text)) (begin_with (get_or text at 0 ∷ []) (cut (after place (get_or text at 0)) (drop (at + 1) text))) joins
+    → cut_pieces place (drop at text) ≡ begin_with (get_or text at 0 ∷ []) (cut_pieces (after place (get_or text at 0)) (drop (at + 1) text))
+cut_byte text at place inside joins = at_drop_more (cut_pieces place) text at 0 inside ∙ cond-false (separates place (get_or text at 0)) ([] ∷ cut_pieces Outside (drop (at + 1) text)) (begin_with (get_or text at 0 ∷ []) (cut_pieces (after place (get_or text at 0)) (drop (at + 1) text))) joins
 
 -- one byte more is read
 pub cut_more : (text : List ℕ) (start at : ℕ) (first place : Place) → start ≤ at → at < length text → separates place (get_or text at 0) ≡ false
-    → cut first (drop start text) ≡ begin_with (slice_range text start at) (cut place (drop at text))
-    → cut first (drop start text) ≡ begin_with (slice_range text start (at + 1)) (cut (after place (get_or text at 0)) (drop (at + 1) text))
+    → cut_pieces first (drop start text) ≡ begin_with (slice_range text start at) (cut_pieces place (drop at text))
+    → cut_pieces first (drop start text) ≡ begin_with (slice_range text start (at + 1)) (cut_pieces (after place (get_or text at 0)) (drop (at + 1) text))
 cut_more text start at first place from inside joins so_far =
     let b = get_or text at 0 in
-    let rest = cut (after place b) (drop (at + 1) text) in
+    let rest = cut_pieces (after place b) (drop (at + 1) text) in
     so_far ∙ ap (begin_with (slice_range text start at)) (cut_byte text at place inside joins)
     ∙ begin_with-begin_with (slice_range text start at) (b ∷ []) rest
     ∙ ap (λ (p : List ℕ). begin_with p rest) (sym (between_more text start at 0 from inside))
@@ -48,20 +48,20 @@ slices_join text i j k ij jk =
 
 -- a whole stretch more is read
 pub cut_on : (text : List ℕ) (start at to : ℕ) (first place next : Place) → start ≤ at → at ≤ to
-    → cut first (drop start text) ≡ begin_with (slice_range text start at) (cut place (drop at text))
-    → cut place (drop at text) ≡ begin_with (slice_range text at to) (cut next (drop to text))
-    → cut first (drop start text) ≡ begin_with (slice_range text start to) (cut next (drop to text))
+    → cut_pieces first (drop start text) ≡ begin_with (slice_range text start at) (cut_pieces place (drop at text))
+    → cut_pieces place (drop at text) ≡ begin_with (slice_range text at to) (cut_pieces next (drop to text))
+    → cut_pieces first (drop start text) ≡ begin_with (slice_range text start to) (cut_pieces next (drop to text))
 cut_on text start at to first place next from on so_far more =
     so_far ∙ ap (begin_with (slice_range text start at)) more
-    ∙ begin_with-begin_with (slice_range text start at) (slice_range text at to) (cut next (drop to text))
-    ∙ ap (λ (p : List ℕ). begin_with p (cut next (drop to text))) (slices_join text start at to from on)
+    ∙ begin_with-begin_with (slice_range text start at) (slice_range text at to) (cut_pieces next (drop to text))
+    ∙ ap (λ (p : List ℕ). begin_with p (cut_pieces next (drop to text))) (slices_join text start at to from on)
 
 -- at the end of the text nothing is left in any place
-pub cut_end : (text : List ℕ) (at : ℕ) (place next : Place) → length text ≤ at → cut place (drop at text) ≡ cut next (drop at text)
-cut_end text at place next past = at_drop_all (cut place) text at past ∙ sym (at_drop_all (cut next) text at past)
+pub cut_end : (text : List ℕ) (at : ℕ) (place next : Place) → length text ≤ at → cut_pieces place (drop at text) ≡ cut_pieces next (drop at text)
+cut_end text at place next past = at_drop_all (cut_pieces place) text at past ∙ sym (at_drop_all (cut_pieces next) text at past)
 
 -- a blank or a comma in front is no part of an element
-trimmed-blank : (b : ℕ) (bytes : List ℕ) → is_blank b ≡ true → trimmed (b ∷ bytes) ≡ trimmed bytes
+trimmed-blank : (b : ℕ) (bytes : List ℕ) → is_blank b ≡ true → trimmed_text (b ∷ bytes) ≡ trimmed_text bytes
 trimmed-blank b bytes blank = ap trim_end (cond-true (is_blank b) (skip_blanks bytes) (b ∷ bytes) blank)
 
 abbrev keeps : List ℕ → Bool
@@ -71,9 +71,9 @@ elements_of-begin_blank : (b : ℕ) → is_blank b ≡ true → (pieces : List (
 elements_of-begin_blank b blank [] = rw (trimmed-blank b [] blank) refl
 elements_of-begin_blank b blank (piece ∷ pieces) = rw (trimmed-blank b piece blank) refl
 
-cut-blank : (b : ℕ) (text : List ℕ) → is_blank b ≡ true → cut Outside (b ∷ text) ≡ begin_with (b ∷ []) (cut Outside text)
+cut-blank : (b : ℕ) (text : List ℕ) → is_blank b ≡ true → cut_pieces Outside (b ∷ text) ≡ begin_with (b ∷ []) (cut_pieces Outside text)
 cut-blank b text blank =
-    let P : ℕ → Type 0 = λ c. cut Outside (c ∷ text) ≡ begin_with (c ∷ []) (cut Outside text) in
+    let P : ℕ → Type 0 = λ c. cut_pieces Outside (c ∷ text) ≡ begin_with (c ∷ []) (cut_pieces Outside text) in
     elim (or_cases (eqb b 32) (eqb b 9) blank) [
       | inl space ↦ subst P (sym (eqb-true b 32 space)) refl
       | inr tab ↦ subst P (sym (eqb-true b 9 tab)) refl
@@ -81,7 +81,7 @@ cut-blank b text blank =
 
 elements-blank : (b : ℕ) (text : List ℕ) → is_blank b ≡ true → elements (b ∷ text) ≡ elements text
 unfolding elements
-elements-blank b text blank = ap elements_of (cut-blank b text blank) ∙ elements_of-begin_blank b blank (cut Outside text)
+elements-blank b text blank = ap elements_of (cut-blank b text blank) ∙ elements_of-begin_blank b blank (cut_pieces Outside text)
 
 elements-comma : (b : ℕ) (text : List ℕ) → b ≡ comma → elements (b ∷ text) ≡ elements text
 unfolding elements
@@ -121,10 +121,10 @@ skip_blanks-kept : (bytes : List ℕ) → is_blank (get_or bytes 0 0) ≡ false 
 skip_blanks-kept [] kept = refl
 skip_blanks-kept (b ∷ bytes) kept = cond-false (is_blank b) (skip_blanks bytes) (b ∷ bytes) kept
 
-pub trimmed-kept : (bytes : List ℕ) → is_blank (get_or bytes 0 0) ≡ false → trimmed bytes ≡ trim_end bytes
+pub trimmed-kept : (bytes : List ℕ) → is_blank (get_or bytes 0 0) ≡ false → trimmed_text bytes ≡ trim_end bytes
 trimmed-kept bytes kept = ap trim_end (skip_blanks-kept bytes kept)
 
-pub elements_of-element : (piece element : List ℕ) (pieces : List (List ℕ)) → trimmed piece ≡ element → 0 < length element → elements_of (piece ∷ pieces) ≡ element ∷ elements_of pieces
+pub elements_of-element : (piece element : List ℕ) (pieces : List (List ℕ)) → trimmed_text piece ≡ element → 0 < length element → elements_of (piece ∷ pieces) ≡ element ∷ elements_of pieces
 elements_of-element piece element pieces is_element some =
     let kept : keeps element ≡ true = not_from_false (eqb (length element) 0) (ne_eqb (length element) 0 (λ e. absurd (omega arith))) in
     ap (λ (e : List ℕ). cond (keeps e) (e ∷ elements_of pieces) (elements_of pieces)) is_element
@@ -140,12 +140,12 @@ piece_element text start end stop rest from on inside kept trims =
     let some : 0 < length element = omega (arith, length-between text start end (omega arith)) in
     let start_is : start + 0 ≡ start = omega arith in
     let first : is_blank (get_or piece 0 0) ≡ false = ap is_blank (get_or-between text start stop 0 0 (omega arith) ∙ ap (λ (n : ℕ). get_or text n 0) start_is) ∙ kept in
-    let is_element : trimmed (piece ++ []) ≡ element = ap trimmed (append-nil piece) ∙ trimmed-kept piece first ∙ trims in
+    let is_element : trimmed_text (piece ++ []) ≡ element = ap trimmed_text (append-nil piece) ∙ trimmed-kept piece first ∙ trims in
     elements_of-element (piece ++ []) element rest is_element some
 
 pub first_element : (text : List ℕ) (start end stop next : ℕ) → start < end → end ≤ stop → stop ≤ length text → next ≡ min (length text) (stop + 1)
     → is_blank (get_or text start 0) ≡ false
-    → cut Outside (drop start text) ≡ begin_with (slice_range text start stop) (cut Outside (drop stop text))
+    → cut_pieces Outside (drop start text) ≡ begin_with (slice_range text start stop) (cut_pieces Outside (drop stop text))
     → (stop < length text → get_or text stop 0 ≡ comma)
     → trim_end (slice_range text start stop) ≡ slice_range text start end
     → elements (drop start text) ≡ slice_range text start end ∷ elements (drop next text)
@@ -155,61 +155,61 @@ first_element text start end stop next from on inside next_is kept piece ends tr
     let element = slice_range text start end in
     elim (cases_lt stop (length text)) [
       | inl more ↦
-          let rest = cut Outside (drop (stop + 1) text) in
-          let parted : cut Outside (drop stop text) ≡ [] ∷ rest = at_drop_more (cut Outside) text stop 0 more ∙ ap (λ (c : ℕ). cut Outside (c ∷ drop (stop + 1) text)) (ends more) in
+          let rest = cut_pieces Outside (drop (stop + 1) text) in
+          let parted : cut_pieces Outside (drop stop text) ≡ [] ∷ rest = at_drop_more (cut_pieces Outside) text stop 0 more ∙ ap (λ (c : ℕ). cut_pieces Outside (c ∷ drop (stop + 1) text)) (ends more) in
           let goes_on : stop + 1 ≡ next = omega arith in
           ap elements_of (piece ∙ ap front parted) ∙ piece_element text start end stop rest from on inside kept trims
           ∙ ap (λ (n : ℕ). element ∷ elements (drop n text)) goes_on
       | inr past ↦
-          let parted : cut Outside (drop stop text) ≡ [] ∷ [] = at_drop_all (cut Outside) text stop past in
+          let parted : cut_pieces Outside (drop stop text) ≡ [] ∷ [] = at_drop_all (cut_pieces Outside) text stop past in
           ap elements_of (piece ∙ ap front parted) ∙ piece_element text start end stop [] from on inside kept trims
           ∙ ap (λ (es : List (List ℕ)). element ∷ es) (sym (elements_past text next (omega arith)))
     ]
 
 -- a byte that is neither comma nor quote outside quoted strings, and a quote that opens one
 pub cut_plain : (text : List ℕ) (start at : ℕ) → start ≤ at → at < length text → get_or text at 0 ≢ 44 → get_or text at 0 ≢ 34
-    → cut Outside (drop start text) ≡ begin_with (slice_range text start at) (cut Outside (drop at text))
-    → cut Outside (drop start text) ≡ begin_with (slice_range text start (at + 1)) (cut Outside (drop (at + 1) text))
+    → cut_pieces Outside (drop start text) ≡ begin_with (slice_range text start at) (cut_pieces Outside (drop at text))
+    → cut_pieces Outside (drop start text) ≡ begin_with (slice_range text start (at + 1)) (cut_pieces Outside (drop (at + 1) text))
 cut_plain text start at from inside no_comma no_quote so_far =
     let b = get_or text at 0 in
     let place : after Outside b ≡ Outside = cond-false (eqb b 34) Within Outside (ne_eqb b 34 no_quote) in
-    cut_more text start at Outside Outside from inside (ne_eqb b 44 no_comma) so_far ∙ ap (λ (p : Place). begin_with (slice_range text start (at + 1)) (cut p (drop (at + 1) text))) place
+    cut_more text start at Outside Outside from inside (ne_eqb b 44 no_comma) so_far ∙ ap (λ (p : Place). begin_with (slice_range text start (at + 1)) (cut_pieces p (drop (at + 1) text))) place
 
 pub cut_quote : (text : List ℕ) (start at : ℕ) → start ≤ at → at < length text → get_or text at 0 ≡ 34
-    → cut Outside (drop start text) ≡ begin_with (slice_range text start at) (cut Outside (drop at text))
-    → cut Outside (drop start text) ≡ begin_with (slice_range text start (at + 1)) (cut Within (drop (at + 1) text))
+    → cut_pieces Outside (drop start text) ≡ begin_with (slice_range text start at) (cut_pieces Outside (drop at text))
+    → cut_pieces Outside (drop start text) ≡ begin_with (slice_range text start (at + 1)) (cut_pieces Within (drop (at + 1) text))
 cut_quote text start at from inside is_quote so_far =
     let b = get_or text at 0 in
     let place : after Outside b ≡ Within = ap (after Outside) is_quote in
     let joins : separates Outside b ≡ false = ap (separates Outside) is_quote in
-    cut_more text start at Outside Outside from inside joins so_far ∙ ap (λ (p : Place). begin_with (slice_range text start (at + 1)) (cut p (drop (at + 1) text))) place
+    cut_more text start at Outside Outside from inside joins so_far ∙ ap (λ (p : Place). begin_with (slice_range text start (at + 1)) (cut_pieces p (drop (at + 1) text))) place
 
 -- within a quoted string: its closing quote, and a byte of it
 abbrev pub within : Bool → Place
 within taken = cond taken Taken Within
 
 pub cut_close : (text : List ℕ) (start at : ℕ) (taken : Bool) → start ≤ at → at < length text → taken ≡ false → get_or text at 0 ≡ 34
-    → cut Within (drop start text) ≡ begin_with (slice_range text start at) (cut (within taken) (drop at text))
-    → cut Within (drop start text) ≡ begin_with (slice_range text start (at + 1)) (cut Outside (drop (at + 1) text))
+    → cut_pieces Within (drop start text) ≡ begin_with (slice_range text start at) (cut_pieces (within taken) (drop at text))
+    → cut_pieces Within (drop start text) ≡ begin_with (slice_range text start (at + 1)) (cut_pieces Outside (drop (at + 1) text))
 cut_close text start at true from inside free is_quote so_far = absurd (true≢false free)
 cut_close text start at false from inside free is_quote so_far =
-    cut_more text start at Within Within from inside refl so_far ∙ ap (λ (c : ℕ). begin_with (slice_range text start (at + 1)) (cut (after Within c) (drop (at + 1) text))) is_quote
+    cut_more text start at Within Within from inside refl so_far ∙ ap (λ (c : ℕ). begin_with (slice_range text start (at + 1)) (cut_pieces (after Within c) (drop (at + 1) text))) is_quote
 
 pub cut_taken : (text : List ℕ) (start at : ℕ) (taken next : Bool) → start ≤ at → at < length text → taken ≡ true → next ≡ false
-    → cut Within (drop start text) ≡ begin_with (slice_range text start at) (cut (within taken) (drop at text))
-    → cut Within (drop start text) ≡ begin_with (slice_range text start (at + 1)) (cut (within next) (drop (at + 1) text))
+    → cut_pieces Within (drop start text) ≡ begin_with (slice_range text start at) (cut_pieces (within taken) (drop at text))
+    → cut_pieces Within (drop start text) ≡ begin_with (slice_range text start (at + 1)) (cut_pieces (within next) (drop (at + 1) text))
 cut_taken text start at false next from inside is_taken next_is so_far = absurd (false≢true is_taken)
 cut_taken text start at true next from inside is_taken next_is so_far =
-    cut_more text start at Within Taken from inside refl so_far ∙ ap (λ (t : Bool). begin_with (slice_range text start (at + 1)) (cut (within t) (drop (at + 1) text))) (sym next_is)
+    cut_more text start at Within Taken from inside refl so_far ∙ ap (λ (t : Bool). begin_with (slice_range text start (at + 1)) (cut_pieces (within t) (drop (at + 1) text))) (sym next_is)
 
 pub cut_within : (text : List ℕ) (start at : ℕ) (taken next : Bool) → start ≤ at → at < length text → taken ≡ false → get_or text at 0 ≢ 34 → next ≡ eqb (get_or text at 0) 92
-    → cut Within (drop start text) ≡ begin_with (slice_range text start at) (cut (within taken) (drop at text))
-    → cut Within (drop start text) ≡ begin_with (slice_range text start (at + 1)) (cut (within next) (drop (at + 1) text))
+    → cut_pieces Within (drop start text) ≡ begin_with (slice_range text start at) (cut_pieces (within taken) (drop at text))
+    → cut_pieces Within (drop start text) ≡ begin_with (slice_range text start (at + 1)) (cut_pieces (within next) (drop (at + 1) text))
 cut_within text start at true next from inside free no_quote next_is so_far = absurd (true≢false free)
 cut_within text start at false next from inside free no_quote next_is so_far =
     let b = get_or text at 0 in
     let place : after Within b ≡ within next = cond-false (eqb b 34) Outside (within (eqb b 92)) (ne_eqb b 34 no_quote) ∙ ap within (sym next_is) in
-    cut_more text start at Within Within from inside refl so_far ∙ ap (λ (p : Place). begin_with (slice_range text start (at + 1)) (cut p (drop (at + 1) text))) place
+    cut_more text start at Within Within from inside refl so_far ∙ ap (λ (p : Place). begin_with (slice_range text start (at + 1)) (cut_pieces p (drop (at + 1) text))) place
 
 -- the blanks before an end stop after the first byte that is none
 pub before_blank : (text : List ℕ) (start end : ℕ) → start < end → is_blank (get_or text start 0) ≡ false → is_blank (get_or text (end - 1) 0) ≡ true → start < end - 1

@@ -38,10 +38,10 @@ begin_with bytes [] = bytes ∷ []
 begin_with bytes (piece ∷ pieces) = (bytes ++ piece) ∷ pieces
 
 -- the pieces of a text that is cut at each comma outside quoted strings; a quote that is never closed runs to the end
-abbrev pub cut : Place → List ℕ → List (List ℕ)
-cut place [] = [] ∷ []
-cut place (b ∷ text) =
-    if separates place b then [] ∷ cut Outside text else begin_with (b ∷ []) (cut (after place b) text)
+abbrev pub cut_pieces : Place → List ℕ → List (List ℕ)
+cut_pieces place [] = [] ∷ []
+cut_pieces place (b ∷ text) =
+    if separates place b then [] ∷ cut_pieces Outside text else begin_with (b ∷ []) (cut_pieces (after place b) text)
 
 -- where a text ends that begins in this place
 abbrev pub place_after : Place → List ℕ → Place
@@ -70,13 +70,13 @@ abbrev pub trim_end : List ℕ → List ℕ
 trim_end text = reverse (skip_blanks (reverse text))
 
 -- the text without the blanks at both ends
-abbrev pub trimmed : List ℕ → List ℕ
-trimmed text = trim_end (skip_blanks text)
+abbrev pub trimmed_text : List ℕ → List ℕ
+trimmed_text text = trim_end (skip_blanks text)
 
 -- the pieces, trimmed, without the empty ones
 abbrev pub elements_of : List (List ℕ) → List (List ℕ)
-elements_of pieces = filter (λ piece. not (length piece == 0)) (map trimmed pieces)
+elements_of pieces = filter (λ piece. not (length piece == 0)) (map trimmed_text pieces)
 
 -- the elements of a text
 unfoldable pub elements : List ℕ → List (List ℕ)
-elements text = elements_of (cut Outside text)
+elements text = elements_of (cut_pieces Outside text)

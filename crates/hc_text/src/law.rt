@@ -2,15 +2,15 @@
 ghost use Rattle.std.specs.Prelude.{◌≡◌, ℕ, List, map};
 ghost use Rattle.std.specs.List.{join_with_byte};
 ghost use Rattle.hc_text.specs.declared.list.Item.{Item};
-ghost use Rattle.hc_text.specs.Elements.{elements, cut, ArePieces, Outside, comma};
+ghost use Rattle.hc_text.specs.Elements.{elements, cut_pieces, ArePieces, Outside, comma};
 ghost use Rattle.hc_text.specs.Items.{AreItemsFrom, item_bytes};
 
 /// How a text is cut: its pieces, joined by commas again, are the text, and no other pieces are.
 pub fn a_text_has_one_cut(_text: &[u8])
-    ensures joined { join_with_byte comma (cut Outside _text.now) ≡ _text.now }
-    ensures pieces { ArePieces Outside (cut Outside _text.now) }
+    ensures joined { join_with_byte comma (cut_pieces Outside _text.now) ≡ _text.now }
+    ensures pieces { ArePieces Outside (cut_pieces Outside _text.now) }
     ensures only { (pieces : List (List ℕ)) → ArePieces Outside pieces
-        → join_with_byte comma pieces ≡ _text.now → pieces ≡ cut Outside _text.now }
+        → join_with_byte comma pieces ≡ _text.now → pieces ≡ cut_pieces Outside _text.now }
 {}
 
 /// What repeated calls of `next_item` give, the first from 0 and each from the `next` of the one

@@ -1,6 +1,6 @@
 //! Lists of elements between commas.
 ghost use Rattle.std.specs.Prelude.{◌≡◌, ◌≢◌, ℕ, ◌<◌, ◌≤◌, Bool, true, false, [], length, drop, slice_range, slice_index, IfSome, IfNone};
-ghost use Rattle.hc_text.specs.Elements.{elements, is_blank, cut, begin_with, trim_end, comma, Outside, Within};
+ghost use Rattle.hc_text.specs.Elements.{elements, is_blank, cut_pieces, begin_with, trim_end, comma, Outside, Within};
 ghost use Rattle.hc_text.specs.Items.{IsNextItem};
 
 use crate::blank::is_blank;
@@ -52,8 +52,9 @@ fn first_start(text: &[u8], from: usize) -> Option<usize>
 fn piece_end(text: &[u8], start: usize) -> usize
     requires { start ≤ length text.now }
     ensures bounds { (start ≤ result) × (result ≤ length text.now) }
-    ensures piece { cut Outside (drop start text.now)
-        ≡ begin_with (slice_range text.now start result) (cut Outside (drop result text.now)) }
+    ensures piece { cut_pieces Outside (drop start text.now)
+        ≡ begin_with (slice_range text.now start result)
+        (cut_pieces Outside (drop result text.now)) }
     ensures ends { result < length text.now → slice_index text.now result ≡ comma }
 {
     let mut at = start;
@@ -72,8 +73,9 @@ fn piece_end(text: &[u8], start: usize) -> usize
 fn string_end(text: &[u8], start: usize) -> usize
     requires { start ≤ length text.now }
     ensures bounds { (start ≤ result) × (result ≤ length text.now) }
-    ensures string { cut Within (drop start text.now)
-        ≡ begin_with (slice_range text.now start result) (cut Outside (drop result text.now)) }
+    ensures string { cut_pieces Within (drop start text.now)
+        ≡ begin_with (slice_range text.now start result)
+        (cut_pieces Outside (drop result text.now)) }
 {
     let mut taken = false;
     for at in start..text.len() {

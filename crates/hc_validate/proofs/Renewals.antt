@@ -7,10 +7,10 @@ use Rattle.std.proofs.lemmas.List.{drop_more}
 use Rattle.std.proofs.lemmas.Option.{slice_get_within, get_or_from_slice_get}
 use Rattle.hc_fields.specs.declared.error.FieldError.{FieldError}
 use Rattle.hc_fields.specs.declared.error.FieldError.TheVariants.{BadName, BadValue, TooMany, TooLong, NoMemory}
-use Rattle.hc_fields.specs.FieldList.{IsField, IsFieldList, Refuses, has_name, is_own_value, put, size_of, without}
+use Rattle.hc_fields.specs.FieldList.{IsField, IsFieldList, Refuses, has_name, is_own_value, field_list_with, size_of, without}
 use Rattle.hc_fields.proofs.Edits.{length-put, size_of-put}
 use Rattle.hc_validate.specs.Heads.{FieldPairs}
-use Rattle.hc_validate.specs.Updates.{is_fixed, is_modest, is_renewed, left_by, taken, with_all}
+use Rattle.hc_validate.specs.Updates.{is_fixed, is_within_limits, is_renewed, left_by, changeable_fields, with_all}
 
 -- each field of a list is one
 pub field_at : (fields : FieldPairs) (i : ℕ) (g : List ℕ × List ℕ) → IsFieldList fields → slice_get fields i ≡ Some g → IsField g
@@ -32,22 +32,22 @@ pub left_by-nil : (fields : FieldPairs) → left_by [] fields ≡ fields
 left_by-nil [] = refl
 left_by-nil (f ∷ fs) = ap (λ (l : FieldPairs). f ∷ l) (left_by-nil fs)
 
-pub taken-more : (from : FieldPairs) (i : ℕ) (g : List ℕ × List ℕ) → slice_get from i ≡ Some g → is_fixed g ≡ false → taken (drop i from) ≡ g ∷ taken (drop (i + 1) from)
+pub taken-more : (from : FieldPairs) (i : ℕ) (g : List ℕ × List ℕ) → slice_get from i ≡ Some g → is_fixed g ≡ false → changeable_fields (drop i from) ≡ g ∷ changeable_fields (drop (i + 1) from)
 taken-more from i g is other = rw (drop_more from i g (slice_get_within from i g is), get_or_from_slice_get from i g g is, other) refl
 
-pub taken-fixed : (from : FieldPairs) (i : ℕ) (g : List ℕ × List ℕ) → slice_get from i ≡ Some g → is_fixed g ≡ true → taken (drop i from) ≡ taken (drop (i + 1) from)
+pub taken-fixed : (from : FieldPairs) (i : ℕ) (g : List ℕ × List ℕ) → slice_get from i ≡ Some g → is_fixed g ≡ true → changeable_fields (drop i from) ≡ changeable_fields (drop (i + 1) from)
 taken-fixed from i g is fixed = rw (drop_more from i g (slice_get_within from i g is), get_or_from_slice_get from i g g is, fixed) refl
 
 pub length-with_all : (new fields : FieldPairs) → length (with_all new fields) ≡ length fields + length new
 length-with_all [] fields = omega arith
-length-with_all (f ∷ new) fields = omega (arith, length-with_all new (put f.0 f.1 fields), length-put f.0 f.1 fields)
+length-with_all (f ∷ new) fields = omega (arith, length-with_all new (field_list_with f.0 f.1 fields), length-put f.0 f.1 fields)
 
 pub size_of-with_all : (new fields : FieldPairs) → size_of fields ≤ size_of (with_all new fields)
 size_of-with_all [] fields = omega arith
-size_of-with_all (f ∷ new) fields = omega (arith, size_of-with_all new (put f.0 f.1 fields), size_of-put f.0 f.1 fields)
+size_of-with_all (f ∷ new) fields = omega (arith, size_of-with_all new (field_list_with f.0 f.1 fields), size_of-put f.0 f.1 fields)
 
 -- where a field is refused, the list would be too large
-pub refused_large : (e : FieldError) (g : List ℕ × List ℕ) (new fields : FieldPairs) → IsField g → Refuses e fields g.0 g.1 → is_modest (with_all (g ∷ new) fields) ≡ false
+pub refused_large : (e : FieldError) (g : List ℕ × List ℕ) (new fields : FieldPairs) → IsField g → Refuses e fields g.0 g.1 → is_within_limits (with_all (g ∷ new) fields) ≡ false
 refused_large BadName g new fields field refused = absurd (refused field.is_name)
 refused_large BadValue g new fields field refused = absurd (both_ways (is_own_value g.1) refused.1 field.is_value)
 refused_large TooMany g new fields field refused =
@@ -55,7 +55,7 @@ refused_large TooMany g new fields field refused =
 refused_large TooLong g new fields field refused = elim refused.3 [
   | inl long ↦ absurd (omega (arith, long, field.is_short))
   | inr large ↦
-      rw (lt-leb (size_of (with_all (g ∷ new) fields)) 32768 (omega (arith, large, size_of-with_all new (put g.0 g.1 fields), size_of-put g.0 g.1 fields)))
+      rw (lt-leb (size_of (with_all (g ∷ new) fields)) 32768 (omega (arith, large, size_of-with_all new (field_list_with g.0 g.1 fields), size_of-put g.0 g.1 fields)))
       (and-false (nat_le (length (with_all (g ∷ new) fields)) 64))
 ]
 refused_large NoMemory g new fields field refused = absurd refused

@@ -14,7 +14,7 @@ use Rattle.hc_fields.specs.FirstValues.{has_field, only_of}
 use Rattle.hc_range.specs.declared.range.Asked.{Asked}
 use Rattle.hc_range.specs.declared.range.Span.{Span}
 use Rattle.hc_range.specs.Ranges.{SpellsRange}
-use Rattle.hc_range.specs.Spans.{resolved}
+use Rattle.hc_range.specs.Spans.{resolved_span}
 use Rattle.hc_validate.specs.Heads.{FieldPairs, with_one}
 use Rattle.hc_validate.specs.Showing.{with_length, with_range}
 use Rattle.hc_validate.specs.declared.origin.Answer.{Answer}
@@ -108,8 +108,8 @@ abbrev pub missing : Answer
 missing = answer_of 404 (with_length (Some 0) []) 0 0
 
 -- the tag is one of those that are had
-abbrev pub unchanged : ℕ → Answer
-unchanged n = answer_of 304 (common n) 0 0
+abbrev pub not_modified_answer : ℕ → Answer
+not_modified_answer n = answer_of 304 (common n) 0 0
 
 abbrev pub whole : ℕ → Answer
 whole n = answer_of 200 (with_length (Some n) (common n)) 0 n
@@ -123,21 +123,21 @@ with_unsatisfied n fields =
     with_one (codes "content-range") (codes "bytes */" ++ decimal n) (with_length (Some 0) fields)
 
 -- no byte of the range is there (RFC 9110 section 15.5.17)
-abbrev pub unsatisfied : ℕ → Answer
-unsatisfied n = answer_of 416 (with_unsatisfied n (common n)) 0 0
+abbrev pub unsatisfied_answer : ℕ → Answer
+unsatisfied_answer n = answer_of 416 (with_unsatisfied n (common n)) 0 0
 
 abbrev pub cut_by : ℕ → Option Span → Answer
-cut_by n None = unsatisfied n
+cut_by n None = unsatisfied_answer n
 cut_by n (Some span) = part n span
 
 -- by the range that is asked for, where a part may be answered
 abbrev pub ranged_by : ℕ → Bool → Option Asked → Answer
-ranged_by n true (Some asked) = cut_by n (resolved asked n)
+ranged_by n true (Some asked) = cut_by n (resolved_span asked n)
 ranged_by n _ _ = whole n
 
 -- the first case that applies
 abbrev pub answer_by : ℕ → Bool → Bool → Option Asked → Answer
-answer_by n listed may_cut asked = if listed then unchanged n else ranged_by n may_cut asked
+answer_by n listed may_cut asked = if listed then not_modified_answer n else ranged_by n may_cut asked
 
 -- what is read of a request's fields: whether If-None-Match lists the tag, and what Range asks for
 pub record IsRead (n : ℕ) (fields : FieldPairs) (listed : Bool) (asked : Option Asked) : Type 0 where

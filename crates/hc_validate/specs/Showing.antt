@@ -35,5 +35,5 @@ shown_as None total fields = record { status = 200; fields = with_length total f
 shown_as (Some (span, whole)) total fields = record { status = 206; fields = with_range span whole fields }
 
 -- a 206 for a consumer with a range that was resolved, and else a 200
-abbrev pub shown : Head → Why → Option Span → Bool → Response
-shown head why span ranged = shown_as (part_of ranged span head.total) head.total (with_age why head.fields)
+abbrev pub shown_response : Head → Why → Option Span → Bool → Response
+shown_response head why span ranged = shown_as (part_of ranged span head.total) head.total (with_age why head.fields)

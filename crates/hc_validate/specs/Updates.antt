@@ -1,7 +1,7 @@
 -- The stored fields after a new head of the same representation (RFC 9111 section 3.2).
 use Rattle.std.specs.Prelude.{ℕ, ◌∷◌, [], ◌&&◌, not, nat_le, Bool, List, codes, bytes_eq, filter, length, if◌then◌else◌}
 use Rattle.std.specs.List.{list_any}
-use Rattle.hc_fields.specs.FieldList.{has_name, put, size_of}
+use Rattle.hc_fields.specs.FieldList.{has_name, field_list_with, size_of}
 use Rattle.hc_validate.specs.Heads.{FieldPairs}
 
 -- names that no update changes
@@ -14,8 +14,8 @@ abbrev pub is_fixed : List ℕ × List ℕ → Bool
 is_fixed field = list_any (bytes_eq field.0) fixed_names
 
 -- what a new head may change
-abbrev pub taken : FieldPairs → FieldPairs
-taken fields = filter (λ (f : List ℕ × List ℕ). not (is_fixed f)) fields
+abbrev pub changeable_fields : FieldPairs → FieldPairs
+changeable_fields fields = filter (λ (f : List ℕ × List ℕ). not (is_fixed f)) fields
 
 -- a field of the same name is among these
 abbrev pub is_renewed : FieldPairs → List ℕ × List ℕ → Bool
@@ -24,22 +24,22 @@ is_renewed new field = list_any (λ (f : List ℕ × List ℕ). has_name f.0 fie
 -- the fields with all of these, each behind those of its name
 abbrev pub with_all : FieldPairs → FieldPairs → FieldPairs
 with_all [] fields = fields
-with_all (f ∷ new) fields = with_all new (put f.0 f.1 fields)
+with_all (f ∷ new) fields = with_all new (field_list_with f.0 f.1 fields)
 
 -- the fields of names that the new ones don't have
 abbrev pub left_by : FieldPairs → FieldPairs → FieldPairs
 left_by new fields = filter (λ (f : List ℕ × List ℕ). not (is_renewed new f)) fields
 
 -- each name of the new fields has their values alone
-abbrev pub replaced : FieldPairs → FieldPairs → FieldPairs
-replaced fields new = with_all new (left_by new fields)
+abbrev pub fields_with : FieldPairs → FieldPairs → FieldPairs
+fields_with fields new = with_all new (left_by new fields)
 
-abbrev pub is_modest : FieldPairs → Bool
-is_modest fields = nat_le (length fields) 64 && nat_le (size_of fields) 32768
+abbrev pub is_within_limits : FieldPairs → Bool
+is_within_limits fields = nat_le (length fields) 64 && nat_le (size_of fields) 32768
 
-abbrev pub modest_or : FieldPairs → FieldPairs → FieldPairs
-modest_or new old = if is_modest new then new else old
+abbrev pub within_limits_or : FieldPairs → FieldPairs → FieldPairs
+within_limits_or new old = if is_within_limits new then new else old
 
 -- the stored fields stay as they are where the result would be too large
-abbrev pub updated : FieldPairs → FieldPairs → FieldPairs
-updated fields new = modest_or (replaced fields (taken new)) fields
+abbrev pub updated_fields : FieldPairs → FieldPairs → FieldPairs
+updated_fields fields new = within_limits_or (fields_with fields (changeable_fields new)) fields

@@ -2,7 +2,7 @@
 ghost use Rattle.std.specs.Option.{ForSome};
 ghost use Rattle.std.specs.Prelude.{◌≡◌, ◌≤◌, ◌<◌, ◌+◌, true, length, IfOk, OnOk, OnErr, option_copied};
 ghost use Rattle.http_header.specs.Token.{IsToken, lowercase};
-ghost use Rattle.hc_fields.specs.FieldList.{IsModest, is_own_value, size_of};
+ghost use Rattle.hc_fields.specs.FieldList.{IsWithinLimits, is_own_value, size_of};
 ghost use Rattle.hc_range.specs.Spans.{IsWithin};
 ghost use Rattle.hc_record.specs.Plain.{plain};
 ghost use Rattle.hc_validate.specs.Conditions.{conditional, with_condition};
@@ -19,7 +19,7 @@ use hc_text::NoMemory;
 /// `if-none-match` where the stored ETag is one readable tag, and with `if-modified-since` where the
 /// stored Last-Modified is a readable date, each as it is stored.
 pub fn conditional(head: &StoredHead, request: &Request) -> Result<Request, NoMemory>
-    requires { IsModest request.now.fields }
+    requires { IsWithinLimits request.now.fields }
     ensures { IfOk result (λ made. made ≡ conditional (plain head.now) request.now) }
 {
     let mut fields = request.fields.copy()?;

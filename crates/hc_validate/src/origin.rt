@@ -1,7 +1,7 @@
 //! The test origin: representations of known bytes.
 ghost use Rattle.std.specs.Prelude.{◌≡◌, ◌≤◌, IfOk};
-ghost use Rattle.hc_range.specs.Spans.{IsInOrder, IsWithin, resolved};
-ghost use Rattle.hc_validate.specs.Origin.{IsOriginAnswer, common, cut_by, missing, origin_byte, part, unchanged, unsatisfied, whole};
+ghost use Rattle.hc_range.specs.Spans.{IsInOrder, IsWithin, resolved_span};
+ghost use Rattle.hc_validate.specs.Origin.{IsOriginAnswer, common, cut_by, missing, origin_byte, part, not_modified_answer, unsatisfied_answer, whole};
 
 use crate::asking::{asked_in, is_listed, may_cut, size_asked};
 use crate::setting::set_field;
@@ -91,7 +91,7 @@ fn common(alloc: Global, size: u64) -> Result<Fields, NoMemory>
 /// The answer that what the request has is what there is.
 fn unchanged(size: u64, fields: Fields) -> Answer
     requires { fields ≡ common size }
-    ensures { result ≡ unchanged size }
+    ensures { result ≡ not_modified_answer size }
 {
     Answer {
         response: Response {
@@ -124,7 +124,7 @@ fn cut(size: u64, fields: Fields, asked: Asked) -> Result<Answer, NoMemory>
     requires is { fields ≡ common size }
     requires order { IsInOrder asked }
     requires small { size ≤ 1048576 }
-    ensures { IfOk result (λ answer. answer ≡ cut_by size (resolved asked size)) }
+    ensures { IfOk result (λ answer. answer ≡ cut_by size (resolved_span asked size)) }
 {
     match resolve(asked, size) {
         Some(span) => part(size, fields, span),
@@ -152,7 +152,7 @@ fn part(size: u64, mut fields: Fields, span: Span) -> Result<Answer, NoMemory>
 /// The answer to a range without bytes.
 fn unsatisfied(size: u64, mut fields: Fields) -> Result<Answer, NoMemory>
     requires { fields ≡ common size }
-    ensures { IfOk result (λ answer. answer ≡ unsatisfied size) }
+    ensures { IfOk result (λ answer. answer ≡ unsatisfied_answer size) }
 {
     set_number(&mut fields, b"content-length", 0)?;
     let mut text = Vec::new(fields.allocator());

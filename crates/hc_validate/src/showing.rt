@@ -7,7 +7,7 @@ ghost use Rattle.hc_fields.specs.FieldList.{size_of};
 ghost use Rattle.hc_range.specs.Spans.{IsWithin};
 ghost use Rattle.hc_record.specs.Plain.{plain};
 ghost use Rattle.hc_validate.specs.Heads.{with_one};
-ghost use Rattle.hc_validate.specs.Showing.{part_of, shown, with_age, with_length, with_range};
+ghost use Rattle.hc_validate.specs.Showing.{part_of, shown_response, with_age, with_length, with_range};
 
 use crate::setting::set_field;
 use hc_event::{Response, Why};
@@ -26,7 +26,7 @@ pub fn shown(
     ranged: bool,
 ) -> Result<Response, NoMemory>
     requires { ranged ≡ true → ForSome span (λ s. IsSomeAnd head.now.total (IsWithin s)) }
-    ensures { IfOk result (λ response. response ≡ shown (plain head.now) why span ranged) }
+    ensures { IfOk result (λ response. response ≡ shown_response (plain head.now) why span ranged) }
 {
     let mut fields = head.fields.copy()?;
     add_age(&mut fields, why)?;

@@ -1,7 +1,7 @@
 //! A stored head that is updated.
 ghost use Rattle.std.specs.Prelude.{◌≡◌, true, bytes_eq, Ok, IfOk};
 ghost use Rattle.std.specs.List.{list_any};
-ghost use Rattle.hc_validate.specs.Updates.{fixed_names, is_modest, left_by, taken, updated, with_all};
+ghost use Rattle.hc_validate.specs.Updates.{fixed_names, is_within_limits, left_by, changeable_fields, updated_fields, with_all};
 
 use hc_fields::{FieldError, Fields};
 use hc_text::NoMemory;
@@ -10,7 +10,7 @@ use hc_text::NoMemory;
 /// `from` has replaces all stored values of that name, but for those that no update changes. Where more
 /// than 64 fields or 32,768 bytes would come of it, the stored fields stay.
 pub fn update(fields: &Fields, from: &Fields) -> Result<Fields, NoMemory>
-    ensures { IfOk result (λ new. new ≡ updated fields.now from.now) }
+    ensures { IfOk result (λ new. new ≡ updated_fields fields.now from.now) }
 {
     let mut kept = fields.copy()?;
     drop_renewed(&mut kept, from);
@@ -23,7 +23,7 @@ pub fn update(fields: &Fields, from: &Fields) -> Result<Fields, NoMemory>
 
 /// Drops each stored field of whose name `from` has one that may be taken.
 fn drop_renewed(kept: &mut Fields, from: &Fields)
-    ensures { kept.new ≡ left_by (taken from.now) kept.old }
+    ensures { kept.new ≡ left_by (changeable_fields from.now) kept.old }
 {
     for i in 0..from.len() {
         let (name, _) = from.at(i);
@@ -37,8 +37,9 @@ fn drop_renewed(kept: &mut Fields, from: &Fields)
 /// Adds the fields of `from` that may be taken. False exactly where the list would be too large, which is
 /// then of no use.
 fn append_taken(kept: &mut Fields, from: &Fields) -> Result<bool, NoMemory>
-    ensures fits { IfOk result (λ fits. fits ≡ is_modest (with_all (taken from.now) kept.old)) }
-    ensures all { result ≡ Ok true → kept.new ≡ with_all (taken from.now) kept.old }
+    ensures fits { IfOk result
+        (λ fits. fits ≡ is_within_limits (with_all (changeable_fields from.now) kept.old)) }
+    ensures all { result ≡ Ok true → kept.new ≡ with_all (changeable_fields from.now) kept.old }
 {
     for i in 0..from.len() {
         let (name, value) = from.at(i);
@@ -52,7 +53,7 @@ fn append_taken(kept: &mut Fields, from: &Fields) -> Result<bool, NoMemory>
             };
         }
     }
-    Ok(kept.modest())
+    Ok(kept.within_limits())
 }
 
 /// Whether no update changes this name: it tells of one message, or names the representation.

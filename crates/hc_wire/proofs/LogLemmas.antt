@@ -7,7 +7,7 @@ use Rattle.std.proofs.lemmas.Bool.{cases_Bool, eqb-true, eqb-false, eq-eqb, ne_e
 use Rattle.hc_wire.specs.declared.event.WireEvent.{WireEvent}
 use Rattle.hc_wire.specs.declared.event.WireEvent.TheVariants as event
 use Rattle.hc_wire.specs.Events.{Unseen, Open, Closed, with_stage, closed_of, stages_after, IsOfOpen}
-use Rattle.hc_wire.specs.Logs.{Taker, is_numbered, stage_of, stage_in, changed_at, fresh, shut, joined}
+use Rattle.hc_wire.specs.Logs.{Taker, is_numbered, stage_of, stage_in, changed_at, fresh, shut, takers_with}
 
 -- a change that keeps number and life keeps each stage
 module _ (k : ℕ) (change : Taker → Taker) (number : (c : Taker) → (change c).k ≡ c.k) where
@@ -69,7 +69,7 @@ stages-fresh k (c ∷ cs) j new = elim (cases_Bool (eqb c.k k)) [
   seen false is = cc
 
 -- what an event says of connections
-pub stages-joined : (what : WireEvent) (cs : List Taker) → IsOfOpen what (stage_in cs) → (j : ℕ) → stage_in (joined what cs) j ≡ stages_after what (stage_in cs) j
+pub stages-joined : (what : WireEvent) (cs : List Taker) → IsOfOpen what (stage_in cs) → (j : ℕ) → stage_in (takers_with what cs) j ≡ stages_after what (stage_in cs) j
 stages-joined (event.Accepted k) cs new j = stages-fresh k cs j new
 stages-joined (event.Got k n) cs is j = refl
 stages-joined (event.Ended k) cs is j = refl

@@ -46,10 +46,10 @@ FitsIn (event.Room k) room = ⊤
 FitsIn event.Quiet room = ⊤
 
 -- the bytes that were got
-abbrev pub got : WireEvent → List ℕ → List ℕ
-got (event.Accepted k) into = []
-got (event.Got k n) into = take n into
-got (event.Ended k) into = []
-got (event.Broke k) into = []
-got (event.Room k) into = []
-got event.Quiet into = []
+abbrev pub got_bytes : WireEvent → List ℕ → List ℕ
+got_bytes (event.Accepted k) into = []
+got_bytes (event.Got k n) into = take n into
+got_bytes (event.Ended k) into = []
+got_bytes (event.Broke k) into = []
+got_bytes (event.Room k) into = []
+got_bytes event.Quiet into = []

@@ -32,8 +32,8 @@ pub record Log : Type 0 where
   pub dialled : List ℕ
   pub takers : List Taker
 
-abbrev pub unused : Log
-unused = record { bound = []; calls = []; dialled = []; takers = [] }
+abbrev pub empty_log : Log
+empty_log = record { bound = []; calls = []; dialled = []; takers = [] }
 
 -- a new connection
 abbrev pub fresh : ℕ → Taker
@@ -79,13 +79,13 @@ is_taking c = c.live
 abbrev pub standings_in : Log → List Standing
 standings_in log = map (standing_of (length log.calls)) (filter is_taking log.takers)
 
-abbrev pub joined : WireEvent → List Taker → List Taker
-joined (event.Accepted k) cs = cs ++ fresh k ∷ []
-joined (event.Got k n) cs = cs
-joined (event.Ended k) cs = cs
-joined (event.Broke k) cs = cs
-joined (event.Room k) cs = cs
-joined event.Quiet cs = cs
+abbrev pub takers_with : WireEvent → List Taker → List Taker
+takers_with (event.Accepted k) cs = cs ++ fresh k ∷ []
+takers_with (event.Got k n) cs = cs
+takers_with (event.Ended k) cs = cs
+takers_with (event.Broke k) cs = cs
+takers_with (event.Room k) cs = cs
+takers_with event.Quiet cs = cs
 
 abbrev pub with_binding : Option Address → Option Address → Log → Log
 with_binding listen origin log = record log { bound = log.bound ++ record { listen = listen; origin = origin } ∷ [] }
@@ -93,7 +93,7 @@ with_binding listen origin log = record log { bound = log.bound ++ record { list
 abbrev pub with_call : Bool → ℕ → WireEvent → List ℕ → Log → Log
 with_call wait moment what bytes log = record log {
   calls = log.calls ++ record { wait = wait; moment = moment; event = what; bytes = bytes; standings = standings_in log } ∷ [];
-  takers = joined what log.takers;
+  takers = takers_with what log.takers;
 }
 
 abbrev pub with_dialled : ℕ → Log → Log

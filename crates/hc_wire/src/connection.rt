@@ -3,7 +3,7 @@ ghost use Rattle.std.specs.Prelude.{◌≡◌, ◌+◌, ◌<◌, ◌≤◌, ℕ,
 ghost use Rattle.std.specs.Option.{option_copied};
 ghost use Rattle.hc_wire.specs.Events.{Unseen, Open};
 ghost use Rattle.hc_wire.specs.Following.{is_seen, is_live, is_reading};
-ghost use Rattle.hc_wire.specs.Logs.{is_numbered, fresh, stage_in, changed_at, reading, shut, taking, joined, standing_of, is_taking};
+ghost use Rattle.hc_wire.specs.Logs.{is_numbered, fresh, stage_in, changed_at, reading, shut, taking, takers_with, standing_of, is_taking};
 
 use crate::event::{Address, WireEvent};
 use std::alloc::{AllocError, Global};
@@ -197,7 +197,7 @@ pub(crate) fn greatest_in(connections: &[Connection]) -> u64
 /// A connection that is accepted is one more.
 pub(crate) fn join_in(alloc: Global, connections: &mut Vec<Connection>, event: WireEvent)
     requires { vec_len connections.old < vec_capacity connections.old }
-    ensures { connections.new.items ≡ joined event connections.old.items }
+    ensures { connections.new.items ≡ takers_with event connections.old.items }
 {
     if let WireEvent::Accepted(k) = event {
         connections.push_reserved(Connection::new(alloc, k));

@@ -1,8 +1,8 @@
 //! A wire that follows a script.
 ghost use Rattle.std.specs.Prelude.{◌≡◌, ◌+◌, ◌-◌, ◌<◌, ◌≤◌, ◌^◌, ℕ, List, Some, true, All, length, take, drop, find, min, IfSome, OnOk, OnErr, ◌==◌, vec_len, vec_capacity, if◌then◌else◌};
 ghost use Rattle.std.specs.Option.{option_copied};
-ghost use Rattle.hc_wire.specs.Events.{IsOfOpen, FitsIn, got};
-ghost use Rattle.hc_wire.specs.Logs.{stage_in, sent_in, unused};
+ghost use Rattle.hc_wire.specs.Events.{IsOfOpen, FitsIn, got_bytes};
+ghost use Rattle.hc_wire.specs.Logs.{stage_in, sent_in, empty_log};
 ghost use Rattle.hc_wire.specs.Scripts.{IsScript};
 ghost use Rattle.hc_wire.specs.Following.{behind_past, behind_event, behind_first, begins_quiet, left_at, coming, coming_of, bytes_left, is_listed, is_stall_of, room_in};
 ghost use Rattle.hc_wire.specs.Wires.{HasRisen};
@@ -55,7 +55,7 @@ impl ScriptWire {
     /// `send` together.
     pub fn new(alloc: Global, script: Vec<Scripted>, fails: Vec<u64>) -> ScriptWire
         requires { IsScript script.items }
-        ensures { ⟦<ScriptWire as Wire>⟧.log result ≡ Some unused }
+        ensures { ⟦<ScriptWire as Wire>⟧.log result ≡ Some empty_log }
     {
         ScriptWire {
             alloc,
@@ -124,7 +124,7 @@ impl ScriptWire {
         requires { 0 < length into.old }
         ensures value { result ≡ coming self.old.connections.items self.old.moment
             (length into.old) (left_at self.new.script.items self.new.at self.new.off) }
-        ensures bytes { got result.1 into.new ≡ got result.1
+        ensures bytes { got_bytes result.1 into.new ≡ got_bytes result.1
             (bytes_left (left_at self.new.script.items self.new.at self.new.off)) }
         ensures left { left_at self.new.script.items self.new.at self.new.off
             ≡ behind_past self.old.connections.items
@@ -151,7 +151,7 @@ impl ScriptWire {
         ensures value { result ≡ coming_of self.now.connections.items self.now.moment
             (length into.old) self.now.off item.now }
         ensures bytes { IfSome result
-            (λ p. got p.1 into.new ≡ got p.1 (drop self.now.off item.now.bytes)) }
+            (λ p. got_bytes p.1 into.new ≡ got_bytes p.1 (drop self.now.off item.now.bytes)) }
         ensures moment { IfSome result (λ p. p.0 < 2 ^ 62) }
         ensures of_open { IfSome result
             (λ p. IsOfOpen p.1 (stage_in self.now.connections.items)) }
@@ -294,7 +294,7 @@ impl Wire for ScriptWire {
 
 /// How many bytes were got.
 fn got_len(event: WireEvent) -> usize
-    ensures bytes { (bytes : List ℕ) → got event bytes ≡ take result bytes }
+    ensures bytes { (bytes : List ℕ) → got_bytes event bytes ≡ take result bytes }
     ensures within { (room : ℕ) → FitsIn event room → result ≤ room }
 {
     match event {

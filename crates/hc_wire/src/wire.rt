@@ -12,7 +12,7 @@ pub const MOST_EVENTS: u64 = 1 << 45;
 /// WireFailed comes only where the count of faults rose in that call, and then nothing else changed.
 /// Want of memory changes nothing and is no fault. At most 2^45 events are handed out, Quiet among them.
 pub trait Wire {
-    ghost use Rattle.hc_wire.specs.Events.{Stage, Unseen, Open, with_stage, closed_of, stages_after, IsOfOpen, FitsIn, got};
+    ghost use Rattle.hc_wire.specs.Events.{Stage, Unseen, Open, with_stage, closed_of, stages_after, IsOfOpen, FitsIn, got_bytes};
     ghost use Rattle.hc_wire.specs.Logs.{Log, Tells, with_binding, with_call, with_dialled, with_sent, with_reading, with_closed};
     ghost use Rattle.hc_wire.specs.Wires.{HasWireCause};
 
@@ -49,7 +49,7 @@ pub trait Wire {
         ensures stages { IfOk result (λ p. (k : ℕ) → stages self.new k
             ≡ stages_after p.1 (stages self.old) k) }
         ensures ok { IfOk result (λ p. Tells (log self.old) (log self.new)
-            (with_call wait p.0 p.1 (got p.1 into.new))) }
+            (with_call wait p.0 p.1 (got_bytes p.1 into.new))) }
         ensures err { OnErr result (log self.new ≡ log self.old) }
         ensures err_stages { OnErr result ((k : ℕ) → stages self.new k ≡ stages self.old k) }
         ensures events { events self.new

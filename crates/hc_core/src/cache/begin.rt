@@ -1,9 +1,9 @@
 //! A cache that begins with contents.
 ghost use Rattle.std.specs.Prelude.{◌≡◌, ◌+◌, [], IfOk, IfErr};
 ghost use Rattle.hc_store.specs.Slots.{no_slots};
-ghost use Rattle.hc_contents.specs.Told.{told};
+ghost use Rattle.hc_contents.specs.PlainContents.{plain_contents};
 ghost use Rattle.hc_core.specs.Begins.{IsRefusal};
-ghost use Rattle.hc_core.specs.Steps.{StandsFor, ServesAll, faults_in, limits_in, steps, received};
+ghost use Rattle.hc_core.specs.Steps.{StandsFor, ServesAll, faults_in, limits_in, steps, bytes_received};
 
 use crate::begin::{ContentsError, ContentsRefused, failure_of, refusal_of};
 use crate::cache::Cache;
@@ -26,13 +26,15 @@ impl<B: Backend> Cache<B> {
     ) -> Result<Cache<B>, ContentsRefused<B>>
         requires empty { B.slots backend ≡ no_slots }
         requires limits { B.limits backend ≡ limits }
-        ensures stands { IfOk result (λ cache. StandsFor cache (told contents.entry.now) []) }
-        ensures serves { IfOk result (λ cache. ServesAll cache (told contents.entry.now)) }
-        ensures unused { IfOk result (λ cache. steps cache + received cache ≡ 0) }
+        ensures stands { IfOk result
+            (λ cache. StandsFor cache (plain_contents contents.entry.now) []) }
+        ensures serves { IfOk result
+            (λ cache. ServesAll cache (plain_contents contents.entry.now)) }
+        ensures unused { IfOk result (λ cache. steps cache + bytes_received cache ≡ 0) }
         ensures limits { IfOk result (λ cache. limits_in cache ≡ limits) }
         ensures calm { IfOk result (λ cache. faults_in cache ≡ B.faults backend) }
         ensures refused { IfErr result
-            (λ refused. IsRefusal B.faults B.limits limits (told contents.entry.now)
+            (λ refused. IsRefusal B.faults B.limits limits (plain_contents contents.entry.now)
             backend refused) }
     {
         if let Some(why) = refusal_of(contents, limits, alloc) {

@@ -2,11 +2,11 @@
 ghost use Rattle.std.specs.Prelude.{◌≡◌, ◌↔◌, true, IfOk, IsErrOf};
 ghost use Rattle.hc_store.specs.declared.error.StoreError.TheVariants.{NoMemory};
 ghost use Rattle.hc_store.specs.Causes.{HasCause, HasNoLimit};
-ghost use Rattle.hc_contents.specs.Told.{told};
+ghost use Rattle.hc_contents.specs.PlainContents.{plain_contents};
 ghost use Rattle.hc_model.specs.Entries as model;
 ghost use Rattle.hc_model.specs.Contents.{contents_of};
 ghost use Rattle.hc_model.specs.Tables.{tables};
-ghost use Rattle.hc_core.specs.Steps.{StandsFor, faults_in, has_failed, live_in, last_moment, steps, received};
+ghost use Rattle.hc_core.specs.Steps.{StandsFor, faults_in, has_failed, live_in, last_moment, steps, bytes_received};
 
 use crate::cache::Cache;
 use crate::rows::contents::items_of;
@@ -20,12 +20,13 @@ impl<B: Backend> Cache<B> {
     pub fn contents(&mut self) -> Result<Contents, StoreError>
         requires idle { live_in self.old ≡ 0 }
         ensures told { IfOk result (λ found. (contents : model.Contents) (h : model.History)
-            → StandsFor self.old contents h → told found ≡ contents_of (tables contents h)) }
+            → StandsFor self.old contents h
+            → plain_contents found ≡ contents_of (tables contents h)) }
         ensures same { (contents : model.Contents) (h : model.History)
             → StandsFor self.old contents h ↔ StandsFor self.new contents h }
         ensures moment { last_moment self.new ≡ last_moment self.old }
         ensures steps { steps self.new ≡ steps self.old }
-        ensures received { received self.new ≡ received self.old }
+        ensures received { bytes_received self.new ≡ bytes_received self.old }
         ensures failed { has_failed self.new ≡ has_failed self.old }
         ensures again { has_failed self.old ≡ true → IsErrOf result NoMemory }
         ensures no_limit { HasNoLimit result }

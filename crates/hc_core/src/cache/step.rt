@@ -1,12 +1,12 @@
 //! The step of the cache.
 ghost use Rattle.std.specs.Prelude.{◌≡◌, ◌+◌, ◌≤◌, ◌<◌, ◌^◌, [], true, false, IsErr, IsOk, IfOk, OnOk, OnErr};
-ghost use Rattle.hc_event.specs.Acts.{listed, spare};
-ghost use Rattle.hc_event.specs.Modest.{IsModestEvent};
+ghost use Rattle.hc_event.specs.Acts.{act_list, spare};
+ghost use Rattle.hc_event.specs.WithinLimits.{IsEventWithinLimits};
 ghost use Rattle.hc_store.specs.Slots.{no_slots};
 ghost use Rattle.hc_model.specs.Entries.{no_contents};
 ghost use Rattle.hc_model.specs.Tables.{received_in};
-ghost use Rattle.hc_state.specs.Good.{is_refused, takes_no_memory, counted};
-ghost use Rattle.hc_core.specs.Steps.{StandsFor, Steps, KeepsPromises, has_failed, last_moment, steps, received, store_in, limits_in};
+ghost use Rattle.hc_state.specs.Good.{is_refused, takes_no_memory, rows_with_event};
+ghost use Rattle.hc_core.specs.Steps.{StandsFor, Steps, KeepsPromises, has_failed, last_moment, steps, bytes_received, store_in, limits_in};
 
 use crate::acts::MOST_ACTS;
 use crate::cache::Cache;
@@ -30,7 +30,7 @@ impl<B: Backend> Cache<B> {
         requires empty { B.slots store ≡ no_slots }
         requires limits { B.limits store ≡ limits }
         ensures stands { IfOk result (λ cache. StandsFor cache no_contents []) }
-        ensures unused { IfOk result (λ cache. steps cache + received cache ≡ 0) }
+        ensures unused { IfOk result (λ cache. steps cache + bytes_received cache ≡ 0) }
         ensures store { IfOk result (λ cache. store_in cache ≡ store) }
         ensures limits { IfOk result (λ cache. limits_in cache ≡ limits) }
     {
@@ -57,20 +57,20 @@ impl<B: Backend> Cache<B> {
     pub fn step(&mut self, now: u64, event: &Event, out: &mut Acts) -> Result<(), NoMemory>
         requires later { last_moment self.old ≤ now }
         requires early { now < 2 ^ 62 }
-        requires modest { IsModestEvent event.now }
+        requires within_limits { IsEventWithinLimits event.now }
         requires few { steps self.old < 2 ^ 60 }
-        requires small { received self.old + received_in event.now < 2 ^ 61 }
+        requires small { bytes_received self.old + received_in event.now < 2 ^ 61 }
         ensures answered { OnOk result
-            (Steps self.old self.new (listed out.old) (listed out.new) now event.now) }
+            (Steps self.old self.new (act_list out.old) (act_list out.new) now event.now) }
         ensures denied { OnOk result (is_refused self.old.rows event.now ≡ true
-            → self.new.rows ≡ counted event.now self.old.rows) }
+            → self.new.rows ≡ rows_with_event event.now self.old.rows) }
         ensures promised { KeepsPromises self.new }
         ensures moment { OnOk result (last_moment self.new ≡ now) }
         ensures steps { OnOk result (steps self.new ≡ steps self.old + 1) }
         ensures received { OnOk result
-            (received self.new ≡ received self.old + received_in event.now) }
+            (bytes_received self.new ≡ bytes_received self.old + received_in event.now) }
         ensures err { OnErr result (has_failed self.new ≡ true) }
-        ensures kept { OnErr result (listed out.new ≡ listed out.old) }
+        ensures kept { OnErr result (act_list out.new ≡ act_list out.old) }
         ensures again { has_failed self.old ≡ true → IsErr result }
         ensures frees { has_failed self.old ≡ false → takes_no_memory event.now ≡ true
             → MOST_ACTS ≤ spare out.old → IsOk result }

@@ -12,7 +12,7 @@ impl<B: Backend> Stepper for Cache<B> {
 
     ghost steps = { λ s. core.steps s };
 
-    ghost received = { λ s. core.received s };
+    ghost received = { λ s. core.bytes_received s };
 
     ghost answers = { λ s now event acts u. Answers s u now event acts };
 

@@ -8,7 +8,7 @@ ghost use Rattle.hc_model.specs.Denials.{live};
 ghost use Rattle.hc_model.specs.Kinds.{kind_for};
 ghost use Rattle.hc_model.specs.Lines.{turn};
 ghost use Rattle.hc_model.specs.Tables.{tables};
-ghost use Rattle.hc_core.specs.Steps.{StandsFor, last_moment, steps, received, live_in, store_in};
+ghost use Rattle.hc_core.specs.Steps.{StandsFor, last_moment, steps, bytes_received, live_in, store_in};
 
 use crate::cache::Cache;
 use hc_record::Kind;
@@ -32,7 +32,7 @@ impl<B: Backend> Cache<B> {
 
     /// How many bytes the pieces had that were handed in.
     pub fn received(&self) -> u64
-        ensures { result ≡ received self.now }
+        ensures { result ≡ bytes_received self.now }
     {
         self.rows.received
     }
@@ -67,7 +67,7 @@ impl<B: Backend> Cache<B> {
 
     /// The exchanges that are wanted, in ascending order of their numbers.
     pub fn wanted(&self) -> &[u64]
-        ensures rising { is_sorted itself result.now ≡ true }
+        ensures ascending { is_sorted itself result.now ≡ true }
         ensures wanted { (contents : Contents) (h : History) → StandsFor self.now contents h
             → (x : ℕ) → is_among x result.now ≡ is_wanted ((tables contents h).exchange x) }
     {

@@ -1,15 +1,15 @@
 //! An event, denied or accepted.
 ghost use Rattle.std.specs.Prelude.{◌≡◌, ◌+◌, ◌≤◌, ◌<◌, ◌^◌, ◌++◌, ◌∷◌, [], true, None, Some, IsOk, OnOk, OnErr};
-ghost use Rattle.hc_event.specs.Acts.{listed, spare};
+ghost use Rattle.hc_event.specs.Acts.{act_list, spare};
 ghost use Rattle.hc_event.specs.declared.act.Act.TheVariants as act;
 ghost use Rattle.hc_event.specs.declared.act.Refusal.{Refusal};
-ghost use Rattle.hc_event.specs.Modest.{IsModestEvent};
+ghost use Rattle.hc_event.specs.WithinLimits.{IsEventWithinLimits};
 ghost use Rattle.hc_rules.specs.Refusals.{refusal_of};
 ghost use Rattle.hc_stored.specs.Entries.{shelf_of};
 ghost use Rattle.hc_exch.specs.Exchanges.{next_of};
 ghost use Rattle.hc_model.specs.Tables.{received_in};
 ghost use Rattle.hc_state.specs.Stands.{gate_of, Answers};
-ghost use Rattle.hc_state.specs.Good.{StandsUntil, takes_no_memory, counted};
+ghost use Rattle.hc_state.specs.Good.{StandsUntil, takes_no_memory, rows_with_event};
 
 use crate::acts::MOST_ACTS;
 use crate::rows::gate::refuses;
@@ -36,20 +36,20 @@ pub(crate) fn answer<B: Backend>(
 ) -> Result<(), NoMemory>
     requires stands { ∥ StandsUntil rows.old now ∥₁ }
     requires early { now < 2 ^ 62 }
-    requires modest { IsModestEvent event.now }
+    requires within_limits { IsEventWithinLimits event.now }
     requires few { next_of rows.old.exchanges < 2 ^ 62 }
     requires small { rows.old.received + received_in event.now < 2 ^ 61 }
     ensures denied { OnOk result ((why : Refusal)
         → refusal_of (gate_of rows.old event.now) event.now ≡ Some why
-        → (rows.new ≡ counted event.now rows.old)
-        × (listed out.new ≡ listed out.old ++ act.Denied why ∷ [])) }
+        → (rows.new ≡ rows_with_event event.now rows.old)
+        × (act_list out.new ≡ act_list out.old ++ act.Denied why ∷ [])) }
     ensures accepted { OnOk result (refusal_of (gate_of rows.old event.now) event.now ≡ None
-        → Answers rows.old rows.new (listed out.old) (listed out.new) now event.now) }
+        → Answers rows.old rows.new (act_list out.old) (act_list out.new) now event.now) }
     ensures received { OnOk result (rows.new.received ≡ rows.old.received + received_in event.now) }
     ensures limits { OnOk result (rows.new.limits ≡ rows.old.limits) }
     ensures faults { OnOk result
         ((shelf_of rows.old.entries).faults ≤ (shelf_of rows.new.entries).faults) }
-    ensures kept { OnErr result (listed out.new ≡ listed out.old) }
+    ensures kept { OnErr result (act_list out.new ≡ act_list out.old) }
     ensures frees { takes_no_memory event.now ≡ true → MOST_ACTS ≤ spare out.old → IsOk result }
 {
     if out.spare() < MOST_ACTS {
@@ -72,18 +72,18 @@ fn accept<B: Backend>(
 ) -> Result<(), NoMemory>
     requires stands { ∥ StandsUntil rows.old now ∥₁ }
     requires early { now < 2 ^ 62 }
-    requires modest { IsModestEvent event.now }
+    requires within_limits { IsEventWithinLimits event.now }
     requires accepted { refusal_of (gate_of rows.old event.now) event.now ≡ None }
     requires few { next_of rows.old.exchanges < 2 ^ 62 }
     requires small { rows.old.received + received_in event.now < 2 ^ 61 }
     requires room { MOST_ACTS ≤ spare out.old }
     ensures answers { OnOk result
-        (Answers rows.old rows.new (listed out.old) (listed out.new) now event.now) }
+        (Answers rows.old rows.new (act_list out.old) (act_list out.new) now event.now) }
     ensures received { OnOk result (rows.new.received ≡ rows.old.received + received_in event.now) }
     ensures limits { OnOk result (rows.new.limits ≡ rows.old.limits) }
     ensures faults { OnOk result
         ((shelf_of rows.old.entries).faults ≤ (shelf_of rows.new.entries).faults) }
-    ensures kept { OnErr result (listed out.new ≡ listed out.old) }
+    ensures kept { OnErr result (act_list out.new ≡ act_list out.old) }
     ensures frees { takes_no_memory event.now ≡ true → IsOk result }
 {
     match event {

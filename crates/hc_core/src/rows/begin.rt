@@ -4,11 +4,11 @@ ghost use Rattle.hc_store.specs.Slots.{no_slots};
 ghost use Rattle.hc_store.specs.Causes.{HasCause, HasNoLimit};
 ghost use Rattle.hc_stored.specs.Begun.{with_runs};
 ghost use Rattle.hc_stored.specs.Entries.{shelf_of, store_of};
-ghost use Rattle.hc_stored.specs.Shelf.{Becomes, is_kept, cells_at, unmoved};
+ghost use Rattle.hc_stored.specs.Shelf.{Becomes, is_kept, cells_at, same_order};
 ghost use Rattle.hc_rules.specs.Rooms.{weight_of};
-ghost use Rattle.hc_contents.specs.Told.{told, told_item};
+ghost use Rattle.hc_contents.specs.PlainContents.{plain_contents, plain_item};
 ghost use Rattle.hc_model.specs.Beginnings.{may_begin, ascend_from};
-ghost use Rattle.hc_model.specs.Tables.{begun, bytes_in, last_end};
+ghost use Rattle.hc_model.specs.Tables.{first_tables, bytes_in, last_end};
 ghost use Rattle.hc_state.specs.Stands.{RowsStand};
 ghost use Rattle.hc_core.specs.Begins.{with_items, KeepsItem};
 
@@ -36,7 +36,8 @@ pub(crate) fn before<B: Backend>(
     requires first { 0 < contents.now.next_exchange }
     requires below { contents.now.next_exchange < 2 ^ 62 }
     ensures stands { IfOk result
-        (λ rows. RowsStand rows (begun (with_items [] (told contents.entry.now)))) }
+        (λ rows. RowsStand rows
+        (first_tables (with_items [] (plain_contents contents.entry.now)))) }
     ensures limits { IfOk result (λ rows. rows.limits ≡ limits) }
     ensures received { IfOk result (λ rows. rows.received ≡ 0) }
     ensures used { IfOk result (λ rows. (shelf_of rows.entries).used ≡ 0) }
@@ -63,10 +64,12 @@ pub(crate) fn begin_with<B: Backend>(
     rows: &mut Rows<B>,
     contents: &Contents,
 ) -> Result<(), StoreError>
-    requires fit { may_begin rows.old.limits (told contents.now) ≡ true }
-    requires start { RowsStand rows.old (begun (with_items [] (told contents.now))) }
+    requires fit { may_begin rows.old.limits (plain_contents contents.now) ≡ true }
+    requires start { RowsStand rows.old
+        (first_tables (with_items [] (plain_contents contents.now))) }
     requires none { (shelf_of rows.old.entries).used ≡ 0 }
-    ensures ok { OnOk result (RowsStand rows.new (begun (told contents.entry.now))) }
+    ensures ok { OnOk result
+        (RowsStand rows.new (first_tables (plain_contents contents.entry.now))) }
     ensures limits { rows.new.limits ≡ rows.old.limits }
     ensures received { rows.new.received ≡ rows.old.received }
     ensures bounds { (shelf_of rows.new.entries).limits ≡ (shelf_of rows.old.entries).limits }
@@ -84,12 +87,12 @@ pub(crate) fn begin_with<B: Backend>(
 fn begin_item<B: Backend>(rows: &mut Rows<B>, item: &Content) -> Result<(), StoreError>
     requires new { (shelf_of rows.old.entries).kept item.now.r ≡ None }
     requires moments { item.now.head.requested ≤ item.now.head.answered }
-    requires rising { ascend_from 0 0 item.now.runs ≡ true }
+    requires ascending { ascend_from 0 0 item.now.runs ≡ true }
     requires ends { last_end item.now.runs ≤ 2 ^ 62 }
     requires small { bytes_in item.now.runs ≤ (shelf_of rows.old.entries).limits.max_entry }
     requires light { (shelf_of rows.old.entries).used + weight_of (bytes_in item.now.runs)
         ≤ (shelf_of rows.old.entries).limits.max_total }
-    ensures ok { OnOk result (KeepsItem rows.old rows.new (told_item item.now)) }
+    ensures ok { OnOk result (KeepsItem rows.old rows.new (plain_item item.now)) }
     ensures used { OnOk result ((shelf_of rows.new.entries).used
         ≡ (shelf_of rows.old.entries).used + weight_of (bytes_in item.now.runs)) }
     ensures limits { rows.new.limits ≡ rows.old.limits }
@@ -111,12 +114,12 @@ fn begin_item<B: Backend>(rows: &mut Rows<B>, item: &Content) -> Result<(), Stor
 fn put_runs<B: Backend>(entries: &mut Entries<B>, r: u64, runs: &[Run]) -> Result<(), StoreError>
     requires there { is_kept (shelf_of entries.old) r ≡ true }
     requires bare { (p : ℕ) → cells_at (shelf_of entries.old) r p ≡ None }
-    requires rising { ascend_from 0 0 runs.now ≡ true }
+    requires ascending { ascend_from 0 0 runs.now ≡ true }
     requires ends { last_end runs.now ≤ 2 ^ 62 }
     requires small { bytes_in runs.now ≤ (shelf_of entries.old).limits.max_entry }
     requires light { (shelf_of entries.old).used + bytes_in runs.now
         ≤ (shelf_of entries.old).limits.max_total }
-    ensures ok { OnOk result (Becomes (option_map (with_runs runs.now)) unmoved r
+    ensures ok { OnOk result (Becomes (option_map (with_runs runs.now)) same_order r
         (shelf_of entries.old) (shelf_of entries.new)) }
     ensures used { OnOk result ((shelf_of entries.new).used
         ≡ (shelf_of entries.old).used + bytes_in runs.now) }

@@ -16,7 +16,7 @@ const MOST_LIVE: usize = 64;
 const WANT: u32 = 4096;
 
 impl Generator {
-    ghost use Rattle.hc_generate.specs.Rounds.{IsMade, IsRound, answered, cancelled, doomed, faulted, polled, started, waited, IsBesidesDraws};
+    ghost use Rattle.hc_generate.specs.Rounds.{IsMade, IsRound, answer_move, cancel_move, doom_move, fault_move, poll_of_round, start_move, wait_move, IsBesidesDraws};
 
     /// A round. Where memory is refused the draws alone went on.
     pub(crate) fn round(&mut self, wanted: &[u64]) -> Result<Option<Event>, NoMemory>
@@ -45,7 +45,7 @@ impl Generator {
     /// A consumer starts, where there is room for one more.
     fn start(&mut self) -> Result<Option<Event>, NoMemory>
         requires { self.old.last + 1 < 2 ^ 62 }
-        ensures ok { IfOk result (λ made. IsMade (started self.old) made self.new) }
+        ensures ok { IfOk result (λ made. IsMade (start_move self.old) made self.new) }
         ensures err { OnErr result (IsBesidesDraws self.old self.new) }
     {
         if self.live.len() >= MOST_LIVE {
@@ -60,7 +60,7 @@ impl Generator {
 
     /// One that is live asks for bytes.
     fn poll(&mut self) -> Option<Event>
-        ensures { IsMade (polled self.old) result self.new }
+        ensures { IsMade (poll_of_round self.old) result self.new }
     {
         let c = self.draws.pick(self.live.as_slice())?;
         Some(Event::Poll { c, want: WANT })
@@ -68,7 +68,7 @@ impl Generator {
 
     /// One that is wanted gets its head, or its next bytes.
     fn bring(&mut self, wanted: &[u64]) -> Result<Option<Event>, NoMemory>
-        ensures ok { IfOk result (λ made. IsMade (answered wanted.now self.old) made self.new) }
+        ensures ok { IfOk result (λ made. IsMade (answer_move wanted.now self.old) made self.new) }
         ensures err { OnErr result (IsBesidesDraws self.old self.new) }
     {
         let Some(x) = self.draws.pick(wanted) else {
@@ -84,7 +84,7 @@ impl Generator {
 
     /// One that is live leaves.
     fn cancel(&mut self) -> Option<Event>
-        ensures { IsMade (cancelled self.old) result self.new }
+        ensures { IsMade (cancel_move self.old) result self.new }
     {
         let c = self.draws.pick(self.live.as_slice())?;
         leave_out(&mut self.live, c);
@@ -94,7 +94,7 @@ impl Generator {
     /// From one to thirty seconds pass.
     fn wait(&mut self)
         requires { self.old.moment + 30 < 2 ^ 62 }
-        ensures after { IsMade (waited self.old) None self.new }
+        ensures after { IsMade (wait_move self.old) None self.new }
         ensures grows { self.new.moment ≤ self.old.moment + 30 }
     {
         self.moment += self.draws.below(30) + 1;
@@ -102,7 +102,7 @@ impl Generator {
 
     /// One that is wanted breaks.
     fn fault(&mut self, wanted: &[u64]) -> Option<Event>
-        ensures { IsMade (faulted wanted.now self.old) result self.new }
+        ensures { IsMade (fault_move wanted.now self.old) result self.new }
     {
         let x = self.draws.pick(wanted)?;
         leave_out(&mut self.exchanges, x);
@@ -111,7 +111,7 @@ impl Generator {
 
     /// What is stored for a key is not to be used any more.
     fn doom(&mut self) -> Result<Option<Event>, NoMemory>
-        ensures ok { IfOk result (λ made. IsMade (doomed self.old) made self.new) }
+        ensures ok { IfOk result (λ made. IsMade (doom_move self.old) made self.new) }
         ensures err { OnErr result (IsBesidesDraws self.old self.new) }
     {
         let key = key_of(self.alloc, self.draws.below(KEYS))?;

@@ -4,7 +4,7 @@ ghost use Rattle.hc_rules.specs.declared.room.Limits.{Limits};
 ghost use Rattle.hc_store.specs.Slots.{no_slots};
 ghost use Rattle.hc_record.specs.Plain.{plain};
 ghost use Rattle.hc_store.specs.Causes.{HasCause, IsWithin};
-ghost use Rattle.hc_stored.specs.Begun.{begun};
+ghost use Rattle.hc_stored.specs.Begun.{kept_at_beginning};
 
 use super::Entries;
 use crate::entry::Entry;
@@ -47,7 +47,7 @@ impl<B: Backend> Entries<B> {
     pub fn begin_with(&mut self, r: u64, key: Key, head: &StoredHead) -> Result<(), StoreError>
         requires new { (shelf_of self.old).kept r ≡ None }
         requires moments { head.now.requested ≤ head.now.answered }
-        ensures ok { OnOk result (Becomes (λ _. Some (begun key (plain head.now)))
+        ensures ok { OnOk result (Becomes (λ _. Some (kept_at_beginning key (plain head.now)))
             (first_in r) r (shelf_of self.old) (shelf_of self.new)) }
         ensures used { OnOk result
             ((shelf_of self.new).used ≡ (shelf_of self.old).used + 32768) }

@@ -4,7 +4,7 @@ ghost use Rattle.hc_sparse.specs.Cells.{AreAbsent, Covers, IsNext};
 ghost use Rattle.hc_sparse.specs.Stretch.{stretch};
 ghost use Rattle.hc_store.specs.Causes.{HasCause, IsWithin, HasNoLimit};
 ghost use Rattle.hc_store.specs.Slots.{cells_in};
-ghost use Rattle.hc_stored.specs.Kept.{filled};
+ghost use Rattle.hc_stored.specs.Kept.{kept_with_bytes};
 
 use super::Entries;
 use crate::rows::{fill_in, slot_in};
@@ -14,7 +14,7 @@ use hc_store::{Backend, SlotView, StoreError};
 
 impl<B: Backend> Entries<B> {
     ghost use Rattle.hc_stored.specs.Entries.{shelf_of};
-    ghost use Rattle.hc_stored.specs.Shelf.{is_kept, cells_at, size_at, unmoved, Becomes, Stays};
+    ghost use Rattle.hc_stored.specs.Shelf.{is_kept, cells_at, size_at, same_order, Becomes, Stays};
 
     /// Puts bytes of the exchange `x` at absent positions, all of them or none, with the kind where `last`
     /// has one. TooLarge exactly where the representation would have more bytes than it may, and else Full
@@ -31,7 +31,8 @@ impl<B: Backend> Entries<B> {
         requires some { 0 < length bytes.now }
         requires absent { AreAbsent (cells_at (shelf_of self.old) r) at (at + length bytes.now) }
         requires end { at + length bytes.now ≤ 2 ^ 62 }
-        ensures ok { OnOk result (Becomes (option_map (filled at x bytes.now last)) unmoved
+        ensures ok { OnOk result (Becomes
+            (option_map (kept_with_bytes at x bytes.now last)) same_order
             r (shelf_of self.old) (shelf_of self.new)) }
         ensures used { OnOk result
             ((shelf_of self.new).used ≡ (shelf_of self.old).used + length bytes.now) }

@@ -1,7 +1,7 @@
 //! Who is bound to representations, and what becomes of them.
 ghost use Rattle.std.specs.Prelude.{◌≡◌, ℕ, true, option_map, OnOk, OnErr};
 ghost use Rattle.std.specs.Option.{option_and_then};
-ghost use Rattle.hc_stored.specs.Kept.{with_user, with_first, left_by, gone, lost, written_by};
+ghost use Rattle.hc_stored.specs.Kept.{with_user, with_first, left_by, kept_as_gone, kept_as_lost, written_by};
 ghost use Rattle.hc_stored.specs.Views.{admits, admits_first, has_user};
 
 use super::Entries;
@@ -11,7 +11,7 @@ use hc_text::NoMemory;
 
 impl<B: Backend> Entries<B> {
     ghost use Rattle.hc_stored.specs.Entries.{shelf_of};
-    ghost use Rattle.hc_stored.specs.Shelf.{is_kept, unmoved, moved_first, taken_out, Becomes, Stays};
+    ghost use Rattle.hc_stored.specs.Shelf.{is_kept, same_order, moved_first, taken_out, Becomes, Stays};
 
     /// One more consumer is bound, and the representation stands first in the order.
     pub fn bind(&mut self, r: u64, c: u64) -> Result<(), NoMemory>
@@ -42,7 +42,7 @@ impl<B: Backend> Entries<B> {
     /// A consumer isn't bound any more. What is gone and has nobody now is dropped with its slot.
     pub fn unbind(&mut self, r: u64, c: u64)
         requires { has_user c ((shelf_of self.old).kept r) ≡ true }
-        ensures changed { Becomes (option_and_then (left_by c)) unmoved r
+        ensures changed { Becomes (option_and_then (left_by c)) same_order r
             (shelf_of self.old) (shelf_of self.new) }
         ensures faults { (shelf_of self.new).faults ≡ (shelf_of self.old).faults }
     {
@@ -56,7 +56,7 @@ impl<B: Backend> Entries<B> {
     /// The representation is gone, and where nobody is bound to it, it is dropped with its slot.
     pub fn forget(&mut self, r: u64)
         requires { is_kept (shelf_of self.old) r ≡ true }
-        ensures changed { Becomes (option_and_then gone) (taken_out r) r
+        ensures changed { Becomes (option_and_then kept_as_gone) (taken_out r) r
             (shelf_of self.old) (shelf_of self.new) }
         ensures faults { (shelf_of self.new).faults ≡ (shelf_of self.old).faults }
     {
@@ -71,7 +71,7 @@ impl<B: Backend> Entries<B> {
     /// A write of the representation was refused, and this one, if any, goes on with it.
     pub fn lose(&mut self, r: u64, alone: Option<u64>)
         requires { is_kept (shelf_of self.old) r ≡ true }
-        ensures changed { Becomes (option_map (lost alone)) unmoved r
+        ensures changed { Becomes (option_map (kept_as_lost alone)) same_order r
             (shelf_of self.old) (shelf_of self.new) }
         ensures faults { (shelf_of self.new).faults ≡ (shelf_of self.old).faults }
     {
@@ -81,7 +81,7 @@ impl<B: Backend> Entries<B> {
     /// This exchange writes the representation for all.
     pub fn set_writer(&mut self, r: u64, x: u64)
         requires { is_kept (shelf_of self.old) r ≡ true }
-        ensures changed { Becomes (option_map (written_by x)) unmoved r
+        ensures changed { Becomes (option_map (written_by x)) same_order r
             (shelf_of self.old) (shelf_of self.new) }
         ensures faults { (shelf_of self.new).faults ≡ (shelf_of self.old).faults }
     {

@@ -35,7 +35,7 @@ impl<B: Backend> Entries<B> {
     pub fn facts(&self, r: u64) -> Option<&HeadFacts>
         ensures { option_copied result ≡ option_map facts_in ((shelf_of self.now).kept r) }
     {
-        Some(&self.rows.get(&r)?.told.facts)
+        Some(&self.rows.get(&r)?.summary.facts)
     }
 
     /// The tag by which other parts join it, where it has one. It is strong.
@@ -43,7 +43,7 @@ impl<B: Backend> Entries<B> {
         ensures value { opaque_of (option_copied result) ≡ tag_in ((shelf_of self.now).kept r) }
         ensures strong { IfSome (option_copied result) (λ tag. tag.weak ≡ false) }
     {
-        self.rows.get(&r)?.told.tag.as_ref()
+        self.rows.get(&r)?.summary.tag.as_ref()
     }
 
     /// The consumers that are bound to it, by number. Nobody where it isn't kept.

@@ -1,8 +1,8 @@
 use Rattle.std.proofs.Common.{map, take, nat_eq}
 use Rattle.std.specs.HashMap.{get}
 use Rattle.hc_contents.specs.Known.{TellsLast}
-use Rattle.hc_contents.specs.Told.{told_item}
+use Rattle.hc_contents.specs.PlainContents.{plain_item}
 use Rattle.hc_contents.proofs.seen.last_places.Given as goal
 
 abbrev pub invariant-loop-i : goal.invariant-loop-i
-invariant-loop-i l = TellsLast (get nat_eq l.last) (take l.i (map told_item l.items))
+invariant-loop-i l = TellsLast (get nat_eq l.last) (take l.i (map plain_item l.items))

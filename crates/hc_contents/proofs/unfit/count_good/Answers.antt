@@ -4,7 +4,7 @@ use Rattle.hc_model.specs.Entries.{Content}
 use Rattle.hc_contents.specs.declared.contents.Content as coded
 use Rattle.hc_contents.specs.Fit.{count_good}
 use Rattle.hc_contents.specs.Known.{Knows}
-use Rattle.hc_contents.specs.Told.{told, told_item}
+use Rattle.hc_contents.specs.PlainContents.{plain_contents, plain_item}
 use Rattle.hc_contents.proofs.Counting.{stopped, goes_on, more_before, longer}
 use Rattle.hc_contents.proofs.unfit.count_good.Goals as goal
 
@@ -12,23 +12,23 @@ pub returns-then-not-is_good : goal.returns-then-not-is_good
 returns-then-not-is_good c =
     let items = c.as_slice-items.result.now in
     let i = c.loop-i.i in
-    let tells = c.is_good.ensures (reverse (take i (map told_item items))) (map told_item items) c.loop-i.invariant.knows (longer items i c.loop-i-test.true) in
+    let tells = c.is_good.ensures (reverse (take i (map plain_item items))) (map plain_item items) c.loop-i.invariant.knows (longer items i c.loop-i-test.true) in
     let off : c.is_good.result ≡ false = first_of (search (rules, c.if-not-is_good.true), grind (arith, c.if-not-is_good.true)) in
-    stopped c.args.limits (told c.args.contents.now) items i c.index-items-i.result c.loop-i.invariant.counted c.loop-i-test.true c.index-items-i.is c.is_good.result off tells
-    ∙ ap (λ (zs : List coded.Content). count_good c.args.limits (told c.args.contents.now) [] (map told_item zs)) c.as_slice-items.ensures
+    stopped c.args.limits (plain_contents c.args.contents.now) items i c.index-items-i.result c.loop-i.invariant.counted c.loop-i-test.true c.index-items-i.is c.is_good.result off tells
+    ∙ ap (λ (zs : List coded.Content). count_good c.args.limits (plain_contents c.args.contents.now) [] (map plain_item zs)) c.as_slice-items.ensures
 
 pub loop-i-preserved : goal.loop-i-preserved
 loop-i-preserved c =
     let items = c.as_slice-items.result.now in
     let i = c.loop-i.i in
     let item = c.index-items-i.result in
-    let earlier = reverse (take i (map told_item items)) in
-    let tells = c.is_good.ensures earlier (map told_item items) c.loop-i.invariant.knows (longer items i c.loop-i-test.true) in
+    let earlier = reverse (take i (map plain_item items)) in
+    let tells = c.is_good.ensures earlier (map plain_item items) c.loop-i.invariant.knows (longer items i c.loop-i-test.true) in
     let on : c.is_good.result ≡ true = first_of (search (rules, c.if-not-is_good.false), grind (arith, c.if-not-is_good.false)) in
     let counted = c.loop-i.invariant.counted in
     record {
       knows =
-          subst (λ (zs : List Content). Knows c.add.new.self zs (map told_item items)) (more_before c.args.limits (told c.args.contents.now) items i item counted c.loop-i-test.true c.index-items-i.is)
-          (c.in_ok-add.ensures earlier (map told_item items) c.loop-i.invariant.knows);
-      counted = goes_on c.args.limits (told c.args.contents.now) items i item counted c.loop-i-test.true c.index-items-i.is (sym tells ∙ on);
+          subst (λ (zs : List Content). Knows c.add.new.self zs (map plain_item items)) (more_before c.args.limits (plain_contents c.args.contents.now) items i item counted c.loop-i-test.true c.index-items-i.is)
+          (c.in_ok-add.ensures earlier (map plain_item items) c.loop-i.invariant.knows);
+      counted = goes_on c.args.limits (plain_contents c.args.contents.now) items i item counted c.loop-i-test.true c.index-items-i.is (sym tells ∙ on);
     }

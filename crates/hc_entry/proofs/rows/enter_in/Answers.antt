@@ -1,6 +1,6 @@
 use Rattle.std.proofs.Common.{Option, Some, refl, sym, ap, ◌∙◌, rules}
 use Rattle.hc_entry.specs.declared.rows.KeyRow.{KeyRow}
-use Rattle.hc_entry.specs.Lines.{Line, is_in, queued}
+use Rattle.hc_entry.specs.Lines.{Line, is_in, line_with}
 use Rattle.hc_entry.specs.Kept.{line_in}
 use Rattle.hc_entry.specs.KeyRows.{kept_by, RowsStay}
 use Rattle.hc_entry.proofs.KeyLemmas.{row-there, row-stays, line-changes, on-err}
@@ -23,5 +23,5 @@ pub returns-in-Some-clause-ok : goal.returns-in-Some-clause-ok
 returns-in-Some-clause-ok c =
     let same = c.as_slice.ensures.value ∙ c.key.view_is in
     line-changes c.as_slice.result.now c.args.key.now c.args.rows.now _ c.in-Some.row.now c.enter.new.self
-    (λ (l : Line). let more = queued c.args.c l in record more { places = c.enter.new.self.places }) same
+    (λ (l : Line). let more = line_with c.args.c l in record more { places = c.enter.new.self.places }) same
     c.in-Some.ensures.value c.in_ok-enter.ensures.ok.line refl ((c.get_mut.follows.holds _).3 (search rules))

@@ -1,5 +1,5 @@
 use Rattle.std.proofs.Common.{length, take, ap, arith, length-append}
-use Rattle.hc_fields.specs.Marks.{separated}
+use Rattle.hc_fields.specs.Marks.{separated_text}
 use Rattle.hc_fields.proofs.Joins.{separated-within, separated-le}
 use Rattle.hc_fields.proofs.Places.{no_mark}
 use Rattle.hc_fields.proofs.joining.join.Goals as goal
@@ -11,7 +11,7 @@ overflow_add-first c =
 pub unwrap-requires-in-loop-mark : goal.unwrap-requires-in-loop-mark
 unwrap-requires-in-loop-mark c =
     let within = separated-within c.args.text.now c.args.others.now c.loop-mark.mark-index no_mark c.loop-mark-test.true in
-    let so_far = length-append c.args.first.now (separated c.args.text.now (take c.loop-mark.mark-index c.args.others.now)) in
+    let so_far = length-append c.args.first.now (separated_text c.args.text.now (take c.loop-mark.mark-index c.args.others.now)) in
     let bytes = ap length c.loop-mark.invariant.bytes in
     let room = c.loop-mark.invariant.room in
     c.extend_from_slice-in-loop-mark.ensures.succeeds
@@ -20,7 +20,7 @@ unwrap-requires-in-loop-mark c =
 pub unwrap-requires-in-loop-mark-2 : goal.unwrap-requires-in-loop-mark-2
 unwrap-requires-in-loop-mark-2 c =
     let within = separated-within c.args.text.now c.args.others.now c.loop-mark.mark-index no_mark c.loop-mark-test.true in
-    let so_far = length-append c.args.first.now (separated c.args.text.now (take c.loop-mark.mark-index c.args.others.now)) in
+    let so_far = length-append c.args.first.now (separated_text c.args.text.now (take c.loop-mark.mark-index c.args.others.now)) in
     let bytes = ap length c.loop-mark.invariant.bytes in
     let room = c.loop-mark.invariant.room in
     let len = rw c.unwrap-in-loop-mark.ensures at c.extend_from_slice-in-loop-mark.ensures.len in

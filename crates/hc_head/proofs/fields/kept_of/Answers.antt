@@ -1,11 +1,11 @@
 use Rattle.std.proofs.Common.{arith}
 use Rattle.hc_head.specs.Held.{fields_in}
-use Rattle.hc_head.proofs.Heads.{modest_at, kept_next, kept_small}
+use Rattle.hc_head.proofs.Heads.{within_limits_at, kept_next, kept_small}
 use Rattle.hc_head.proofs.Options.{there_at}
 use Rattle.hc_head.proofs.fields.kept_of.Goals as goal
 
 pub pass_on-requires-clause-short : goal.pass_on-requires-clause-short
-pass_on-requires-clause-short c = modest_at c.args.headers.now c.loop-header.header-index _ c.loop-header-test.true c.requires.modest
+pass_on-requires-clause-short c = within_limits_at c.args.headers.now c.loop-header.header-index _ c.loop-header-test.true c.requires.within_limits
 
 pub pass_on-requires-clause-present : goal.pass_on-requires-clause-present
 pass_on-requires-clause-present c = there_at c.args.headers.now c.loop-header.header-index _ c.loop-header-test.true

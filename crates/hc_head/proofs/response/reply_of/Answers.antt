@@ -1,6 +1,6 @@
 use Rattle.std.proofs.Common.{◌≡◌, length, ap, arith, rules}
 use Rattle.std.specs.Prelude.{map}
-use Rattle.hc_head.specs.Rules.{lowered, fields_of}
+use Rattle.hc_head.specs.Rules.{lowercase_field, fields_of}
 use Rattle.hc_head.specs.Held.{fields_in}
 use Rattle.hc_head.proofs.HeadFacts.{good_at, same_count, small_headers}
 use Rattle.hc_head.proofs.Replies.{short_reply, full_reply, no_reply, over_reply, whole_reply, same_some}
@@ -31,7 +31,7 @@ pub returns-else-head-gt-MOST_FIELDS : goal.returns-else-head-gt-MOST_FIELDS
 returns-else-head-gt-MOST_FIELDS c =
     let at = rw c.in-Ok-Complete.field-0-is at c.in-Ok-Complete.ensures.complete in
     let count = same_count _ at.0.fields at.1.fields in
-    let same : fields_in c.parse.new.self.headers.now ≡ fields_of at.0.fields = ap (map lowered) at.1.fields in
+    let same : fields_in c.parse.new.self.headers.now ≡ fields_of at.0.fields = ap (map lowercase_field) at.1.fields in
     whole_reply c.args.no_body c.args.text.now _ c.unwrap-status.result _ at.0 c.heard_of.result at.1.reads c.if-len-text.false (omega (arith, count)) (same_some _ _ _ c.unwrap-status.ensures at.1.code) same c.heard_of.ensures
 
 pub returns-in-Ok-Partial : goal.returns-in-Ok-Partial

@@ -1,6 +1,6 @@
 use Rattle.std.proofs.Common.{◌≡◌, ℕ, ◌+◌, ◌<◌, ◌^◌, arith, length, Bool, true, false, Option, Some, None, refl, ap, sym, ◌∙◌, subst}
 use Rattle.std.specs.Prelude.{◌≤◌, Result, Ok, is_some}
-use Rattle.hc_event.specs.Acts.{listed}
+use Rattle.hc_event.specs.Acts.{act_list}
 use Rattle.hc_event.specs.declared.event.Event.TheVariants as event
 use Rattle.hc_model.specs.Effects.{let_all_go}
 use Rattle.hc_model.specs.Weights.{evicted}
@@ -55,8 +55,8 @@ returns-in-Some-clause-answers g c = on_ok_by c.lose_shared_piece.result c.lose_
     let there = sym (ap t.representation it.of_q) ∙ it.there in
     let writes = some_one c.writing.result (sym c.is_some-writing.ensures ∙ c.if-writing.true) in
     let on = (writes_it r t facts stands c.args.r it.v there writes.0 (sym c.writing.ensures ∙ writes.1)).0 in
-    shared_answered r put t facts stands small c.args.now c.args.x c.args.r c.args.bytes.now goes it c.in-Some.kind (listed c.args.out.now) (listed c.store_piece.new.out) (refused.refuses t facts stands goes) on
-    c.lose_shared_piece.new.rows (listed c.lose_shared_piece.new.out) (λ may stood. lost (let_all_go c.args.now (evicted r.limits t c.args.now (event.Piece c.args.x c.args.bytes.now)) t) it.w it.v may stood) (from_same c.lose_shared_piece.ensures.faults))
+    shared_answered r put t facts stands small c.args.now c.args.x c.args.r c.args.bytes.now goes it c.in-Some.kind (act_list c.args.out.now) (act_list c.store_piece.new.out) (refused.refuses t facts stands goes) on
+    c.lose_shared_piece.new.rows (act_list c.lose_shared_piece.new.out) (λ may stood. lost (let_all_go c.args.now (evicted r.limits t c.args.now (event.Piece c.args.x c.args.bytes.now)) t) it.w it.v may stood) (from_same c.lose_shared_piece.ensures.faults))
 
 pub returns-in-Some-2-clause-answers : goal.returns-in-Some-2-clause-answers
 returns-in-Some-2-clause-answers g c = on_ok_by c.lose_own_piece.result c.lose_own_piece.ensures.lost (λ lost t facts stands goes.
@@ -67,6 +67,6 @@ returns-in-Some-2-clause-answers g c = on_ok_by c.lose_own_piece.result c.lose_o
     let it = stores_of r t facts c.args.x c.args.r c.args.bytes.now stands goes c.requires.stored in
     let there = sym (ap t.representation it.of_q) ∙ it.there in
     let off = unwritten r t facts stands c.args.r it.v there (sym c.writing.ensures ∙ none_at c.writing.result (sym c.is_some-writing.ensures ∙ c.if-writing.false)) in
-    own_answered r put t facts stands small c.args.now c.args.x c.args.r c.args.bytes.now goes it c.in-Some.kind (listed c.args.out.now) (listed c.store_piece.new.out) (refused.refuses t facts stands goes) off
+    own_answered r put t facts stands small c.args.now c.args.x c.args.r c.args.bytes.now goes it c.in-Some.kind (act_list c.args.out.now) (act_list c.store_piece.new.out) (refused.refuses t facts stands goes) off
     c.exclusive-alone.result (c.exclusive-alone.ensures t it.v facts stands there it.fresh)
-    c.lose_own_piece.new.rows (listed c.lose_own_piece.new.out) (λ may stood. lost (let_all_go c.args.now (evicted r.limits t c.args.now (event.Piece c.args.x c.args.bytes.now)) t) it.w it.v may stood) c.lose_own_piece.ensures.acts (from_same c.lose_own_piece.ensures.faults))
+    c.lose_own_piece.new.rows (act_list c.lose_own_piece.new.out) (λ may stood. lost (let_all_go c.args.now (evicted r.limits t c.args.now (event.Piece c.args.x c.args.bytes.now)) t) it.w it.v may stood) c.lose_own_piece.ensures.acts (from_same c.lose_own_piece.ensures.faults))

@@ -2,7 +2,7 @@ use Rattle.std.proofs.Common.{ap, sym, ◌∙◌, subst}
 use Rattle.hc_stored.specs.Entries.{shelf_of}
 use Rattle.hc_exch.specs.Known.{is_open}
 use Rattle.hc_exch.specs.Exchanges.{table_of}
-use Rattle.hc_event.specs.Acts.{listed}
+use Rattle.hc_event.specs.Acts.{act_list}
 use Rattle.hc_state.specs.Facts.{Facts}
 use Rattle.hc_state.specs.Stopped.{HasStopped, MayStop}
 use Rattle.hc_state.specs.Stored.{TellsShort}
@@ -19,7 +19,7 @@ returns-clause-broken g c = λ t w facts stands broken.
     let mid = c.make_due_to.new.rows in
     let due = c.make_due_to.ensures in
     breaks_off r mid _ t facts stands c.requires.small c.args.x w broken c.readers-readers.result c.readers-readers.ensures c.args.cause due.rest due.exchanges due.consumers
-    (shelf_of r.entries).faults c.args.now (listed c.args.out.now) _
+    (shelf_of r.entries).faults c.args.now (act_list c.args.out.now) _
     (λ f may rows.
-    subst (λ n. HasStopped n c.stop_bringing.new.rows t f (listed c.args.out.now) (listed c.stop_bringing.new.out) c.args.now c.args.x) (ap (λ z. (shelf_of z).faults) due.rest.entries)
+    subst (λ n. HasStopped n c.stop_bringing.new.rows t f (act_list c.args.out.now) (act_list c.stop_bringing.new.out) c.args.now c.args.x) (ap (λ z. (shelf_of z).faults) due.rest.entries)
     (c.stop_bringing.ensures.stopped t f (subst (λ l. Facts l t) (sym due.rest.limits) facts) (subst (λ o. MayStop t f c.args.x o) (sym c.alone.ensures) may) rows))

@@ -1,9 +1,9 @@
 use Rattle.std.proofs.Common.{◌≡◌, ◌⊎◌, inl, inr, nat_eq, length, true, Some, refl, ap, sym, ◌∙◌, subst}
-use Rattle.hc_event.specs.Acts.{listed}
+use Rattle.hc_event.specs.Acts.{act_list}
 use Rattle.hc_event.specs.declared.act.Cause.{Cause}
 use Rattle.hc_event.specs.declared.act.Cause.TheVariants as cause
 use Rattle.hc_stored.specs.Entries.{shelf_of}
-use Rattle.hc_model.specs.Exchanges.{promised}
+use Rattle.hc_model.specs.Exchanges.{promised_bytes}
 use Rattle.hc_laws.proofs.StopFrames.{end_of}
 use Rattle.hc_state.specs.Stopped.{BrokeOff}
 use Rattle.hc_on_body.proofs.OpenViews.{viewed, is_broken}
@@ -17,10 +17,10 @@ returns-in-Some-clause-answers g c = λ t facts stands accepts.
     let view = c.unwrap-view.result in
     let p = c.in-Some.promised in
     let seen = viewed r t x c.view.result view stands c.view.ensures c.unwrap-view.ensures in
-    let promises : promised seen.w ≡ Some p = sym seen.promised_is ∙ c.in-Some.is in
+    let promises : promised_bytes seen.w ≡ Some p = sym seen.promised_is ∙ c.in-Some.is in
     let broken = is_broken r t stands facts.law x view seen (inl (seen.headed ∙ (end_of t x seen.w seen.row accepts).headed)) in
-    short_answered r.limits (shelf_of r.entries).faults _ t facts c.args.now x seen.w broken p promises accepts (listed c.args.out.now) (listed c.break_off.new.out)
-    (subst (λ n. BrokeOff (shelf_of r.entries).faults c.break_off.new.rows t (listed c.args.out.now) (listed c.break_off.new.out) c.args.now x seen.w (cause.Short x n p)) seen.delivered (c.break_off.ensures.broken t seen.w facts stands broken))
+    short_answered r.limits (shelf_of r.entries).faults _ t facts c.args.now x seen.w broken p promises accepts (act_list c.args.out.now) (act_list c.break_off.new.out)
+    (subst (λ n. BrokeOff (shelf_of r.entries).faults c.break_off.new.rows t (act_list c.args.out.now) (act_list c.break_off.new.out) c.args.now x seen.w (cause.Short x n p)) seen.delivered (c.break_off.ensures.broken t seen.w facts stands broken))
 
 pub returns-in-None-clause-answers : goal.returns-in-None-clause-answers
 returns-in-None-clause-answers g c = λ t facts stands accepts.

@@ -1,11 +1,11 @@
 use Rattle.std.proofs.Common.{◌≡◌, ℕ, ◌<◌, ◌^◌, length, None, Some, true, refl, ap, sym, ◌∙◌, subst}
 use Rattle.std.specs.Prelude.{is_some}
-use Rattle.hc_event.specs.Acts.{listed}
+use Rattle.hc_event.specs.Acts.{act_list}
 use Rattle.hc_stored.specs.Entries.{shelf_of}
 use Rattle.hc_stored.specs.Kept.{itself}
 use Rattle.hc_stored.specs.Views.{bound_in}
 use Rattle.hc_sorted.specs.Sorted.{has}
-use Rattle.hc_model.specs.Exchanges.{family, promised}
+use Rattle.hc_model.specs.Exchanges.{family, promised_bytes}
 use Rattle.hc_laws.proofs.LettingGo.{may_let_go}
 use Rattle.hc_state.specs.Changes.{ChangesAmong, with_end}
 use Rattle.hc_state.specs.Stopped.{SealedWhole}
@@ -40,8 +40,8 @@ returns-in-None-clause-answers g c = λ t facts stands accepts tells.
     let x = c.args.x in
     let view = c.unwrap-view.result in
     let seen = viewed r t x c.view.result view stands c.view.ensures c.unwrap-view.ensures in
-    let untold : promised seen.w ≡ None = ap (λ z. promised z) (same_row (t.exchange x) seen.w tells.w seen.row tells.row) ∙ tells.untold in
-    past_answered r.limits t facts c.args.now x seen.w seen.row untold accepts (shelf_of r.entries).faults r _ (listed c.args.out.now) view.c view.delivered
+    let untold : promised_bytes seen.w ≡ None = ap (λ z. promised_bytes z) (same_row (t.exchange x) seen.w tells.w seen.row tells.row) ∙ tells.untold in
+    past_answered r.limits t facts c.args.now x seen.w seen.row untold accepts (shelf_of r.entries).faults r _ (act_list c.args.out.now) view.c view.delivered
     (unbrought r t facts stands c.requires.small x seen.w seen.row seen.is_open c.brought.result c.brought.ensures c.in-None.is) seen.delivered seen.c_is stands
     refl refl refl refl refl c.close.ensures c.know_end.ensures
 
@@ -53,15 +53,15 @@ returns-in-Some-clause-answers g c = λ t facts stands accepts tells.
     let view = c.unwrap-view.result in
     let mid = c.seal_whole.new.rows in
     let seen = viewed r t x c.view.result view stands c.view.ensures c.unwrap-view.ensures in
-    let untold : promised seen.w ≡ None = ap (λ z. promised z) (same_row (t.exchange x) seen.w tells.w seen.row tells.row) ∙ tells.untold in
+    let untold : promised_bytes seen.w ≡ None = ap (λ z. promised_bytes z) (same_row (t.exchange x) seen.w tells.w seen.row tells.row) ∙ tells.untold in
     let b = brought_row r t facts stands c.requires.small x seen.w seen.row seen.is_open q c.brought.result c.brought.ensures c.in-Some.is in
     let one : q ≡ x = b.2 ∙ own_family r.limits t facts c.args.now x seen.w seen.row untold accepts b.0 b.1 in
     let there_q = ap t.representation b.2 ∙ b.1 in
     let sealed = c.seal_whole.ensures.sealed t b.0 (may_let_go t facts.law) there_q (λ stays. nobody_alone t facts.law q b.0 there_q stays) stands in
-    whole_answered r.limits t facts c.args.now x seen.w seen.row untold accepts b.0 b.1 (shelf_of r.entries).faults r mid _ stands (listed c.args.out.now) (listed c.seal_whole.new.out)
+    whole_answered r.limits t facts c.args.now x seen.w seen.row untold accepts b.0 b.1 (shelf_of r.entries).faults r mid _ stands (act_list c.args.out.now) (act_list c.seal_whole.new.out)
     refl refl refl refl refl c.close-in-Some.ensures
     (subst (λ (n : ℕ). ChangesAmong mid.consumers c.know_ends.new.consumers (λ d. has itself d (bound_in ((shelf_of mid.entries).kept x))) (with_end n)) seen.delivered
     (subst (λ (n : ℕ). ChangesAmong mid.consumers c.know_ends.new.consumers (λ d. has itself d (bound_in ((shelf_of mid.entries).kept n))) (with_end view.delivered)) one
     (subst (λ xs. ChangesAmong mid.consumers c.know_ends.new.consumers (λ d. has itself d xs) (with_end view.delivered)) c.bound.ensures c.know_ends.ensures)))
-    (subst (λ (n : ℕ). SealedWhole (shelf_of r.entries).faults r mid t (listed c.args.out.now) (listed c.seal_whole.new.out) c.args.now x b.0 n) seen.delivered
-    (subst (λ (n : ℕ). SealedWhole (shelf_of r.entries).faults r mid t (listed c.args.out.now) (listed c.seal_whole.new.out) c.args.now n b.0 view.delivered) one sealed))
+    (subst (λ (n : ℕ). SealedWhole (shelf_of r.entries).faults r mid t (act_list c.args.out.now) (act_list c.seal_whole.new.out) c.args.now x b.0 n) seen.delivered
+    (subst (λ (n : ℕ). SealedWhole (shelf_of r.entries).faults r mid t (act_list c.args.out.now) (act_list c.seal_whole.new.out) c.args.now n b.0 view.delivered) one sealed))

@@ -1,7 +1,7 @@
 use Rattle.std.proofs.Common.{◌≡◌, ◌⊎◌, inl, inr, nat_eq, true, false, refl, ap, sym, ◌∙◌}
 use Rattle.std.specs.Prelude.{is_some}
 use Rattle.std.specs.HashMap.{get}
-use Rattle.hc_event.specs.Acts.{listed}
+use Rattle.hc_event.specs.Acts.{act_list}
 use Rattle.hc_stored.specs.Entries.{shelf_of}
 use Rattle.hc_state.specs.Stops.{is_shown}
 use Rattle.hc_state.proofs.Maps.{merely_true}
@@ -34,7 +34,7 @@ returns-then-was_shown-clause-answers g c = λ t facts stands accepts.
     ] in
     let seen = viewed r t x c.view.result view stands c.view.ensures c.unwrap-view.ensures in
     let broken = is_broken r t stands facts.law x view seen why in
-    fault_answered r.limits (shelf_of r.entries).faults _ t facts.law c.args.now x seen.w broken accepts (listed c.args.out.now) _
+    fault_answered r.limits (shelf_of r.entries).faults _ t facts.law c.args.now x seen.w broken accepts (act_list c.args.out.now) _
     (c.break_off.ensures.broken t seen.w facts stands broken)
 
 pub returns-else-was_shown-clause-answers : goal.returns-else-was_shown-clause-answers
@@ -52,5 +52,5 @@ returns-else-was_shown-clause-answers g c = λ t facts stands accepts.
     ] in
     let seen = viewed r t x c.view.result view stands c.view.ensures c.unwrap-view.ensures in
     let waits = waited r t stands facts.law x view seen headless unshown in
-    wait_answered r.limits (shelf_of r.entries).faults _ t facts.law c.args.now x view.c seen.w waits.0 (listed c.args.out.now) waits.1 accepts
+    wait_answered r.limits (shelf_of r.entries).faults _ t facts.law c.args.now x view.c seen.w waits.0 (act_list c.args.out.now) waits.1 accepts
     (c.break_wait.ensures.broken t seen.w waits.0 facts stands waits.1)

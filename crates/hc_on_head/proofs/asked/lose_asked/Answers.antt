@@ -1,7 +1,7 @@
 use Rattle.std.proofs.Common.{◌<◌, ℕ, [], ◌∷◌, ◌++◌, Some, nat_eq, ap, sym, ◌∙◌, subst}
 use Rattle.std.specs.Prelude.{IsSomeAnd}
 use Rattle.std.specs.HashMap.{get}
-use Rattle.hc_event.specs.Acts.{listed}
+use Rattle.hc_event.specs.Acts.{act_list}
 use Rattle.hc_event.specs.declared.act.Act.TheVariants as act
 use Rattle.hc_event.specs.declared.act.LostKind.TheVariants as kind
 use Rattle.hc_stored.specs.Entries.{shelf_of}
@@ -37,7 +37,7 @@ returns-in-Some-clause-answers g c = λ faults t w facts stands goes row aim cur
     let q = c.args.r in
     let y = c.in-Some.x in
     let response = c.args.response.now in
-    let before = listed c.args.out.now in
+    let before = act_list c.args.out.now in
     let a = asker_of r t facts now x response w stands goes row in
     let for_it = asked_by r t x c.args.heard.c w stands c.requires.accepted c.requires.asker row in
     let writing = sym c.writing-writing.ensures ∙ c.in-Some.is in
@@ -45,8 +45,8 @@ returns-in-Some-clause-answers g c = λ faults t w facts stands goes row aim cur
     let stood = subst (λ (d : ℕ). RowsStand first (with_consumer d (Some (back_in_line now a.v)) t)) (sym for_it) (c.send_back.ensures.stands t x w a.v facts a.awaits for_it (awaits_it r t facts stands x w a waits) stands) in
     let stood_too = heard_stands r second t facts stands now x response goes w row a q aim cur is first stood c.refuse.ensures.rest c.refuse.ensures.consumers c.refuse.ensures.closed in
     let lost = c.lose_writing.ensures.lost (heard r second t facts stands now x response goes w row a q aim cur is) (v r second t facts stands now x response goes w row a q aim cur is) (may_lose r second t facts stands now x response goes w row a q aim cur is y writing) stood_too in
-    written_answered r second t facts stands now x response goes w row a q aim cur is y writing c.lose_writing.new.rows faults before (listed c.refuse.new.out) (listed c.lose_writing.new.out)
-    (quiet r second t facts stands now x response goes w row a q aim cur is first before (listed c.refuse.new.out) stood c.refuse.ensures.acts) lost
+    written_answered r second t facts stands now x response goes w row a q aim cur is y writing c.lose_writing.new.rows faults before (act_list c.refuse.new.out) (act_list c.lose_writing.new.out)
+    (quiet r second t facts stands now x response goes w row a q aim cur is first before (act_list c.refuse.new.out) stood c.refuse.ensures.acts) lost
     (subst (λ (n : ℕ). faults < n) (sym (c.lose_writing.ensures.faults ∙ (ap (λ z. (shelf_of z).faults) c.refuse.ensures.rest.entries ∙ c.send_back.ensures.faults))) failed)
 
 pub returns-in-None-clause-answers : goal.returns-in-None-clause-answers
@@ -58,7 +58,7 @@ returns-in-None-clause-answers g c = λ faults t w facts stands goes row aim cur
     let x = c.args.heard.x in
     let q = c.args.r in
     let response = c.args.response.now in
-    let before = listed c.args.out.now in
+    let before = act_list c.args.out.now in
     let a = asker_of r t facts now x response w stands goes row in
     let for_it = asked_by r t x c.args.heard.c w stands c.requires.accepted c.requires.asker row in
     let waits = subst (λ (d : ℕ). IsSomeAnd (get nat_eq r.consumers d) (IsInKey r.keys d)) (sym for_it) c.requires.waits in
@@ -67,8 +67,8 @@ returns-in-None-clause-answers g c = λ faults t w facts stands goes row aim cur
     let its = v r second t facts stands now x response goes w row a q aim cur is in
     let here = there r second t facts stands now x response goes w row a q aim cur is in
     let stays = kept r second t facts stands now x response goes w row a q aim cur is in
-    let same = quiet r second t facts stands now x response goes w row a q aim cur is first before (listed c.refuse.new.out) stood c.refuse.ensures.acts in
-    alone_answered r second t facts stands now x response goes w row a q aim cur is c.lose_to.new.rows faults before (listed c.lose_to.new.out) c.exclusive-alone.result
+    let same = quiet r second t facts stands now x response goes w row a q aim cur is first before (act_list c.refuse.new.out) stood c.refuse.ensures.acts in
+    alone_answered r second t facts stands now x response goes w row a q aim cur is c.lose_to.new.rows faults before (act_list c.lose_to.new.out) c.exclusive-alone.result
     (c.exclusive-alone.ensures t its facts stands here stays) (unwritten r t facts stands q its here (sym c.writing-writing.ensures ∙ c.in-None.is)) stood_too
     (c.lose_to.ensures.acts ∙ ap (λ z. z ++ (act.Lost q kind.Fault ∷ [])) same) c.lose_to.ensures.lost
     (subst (λ (n : ℕ). faults < n) (sym (c.lose_to.ensures.faults ∙ (ap (λ z. (shelf_of z).faults) c.refuse.ensures.rest.entries ∙ c.send_back.ensures.faults))) failed)

@@ -1,14 +1,14 @@
 use Rattle.std.proofs.Common.{Some, None, refl, ap, ◌∙◌, arith}
 use Rattle.hc_exch.specs.Known.{Known}
 use Rattle.std.specs.Prelude.{is_some}
-use Rattle.hc_event.specs.Acts.{listed, spare}
+use Rattle.hc_event.specs.Acts.{act_list, spare}
 use Rattle.hc_state.specs.Dooms.{behind}
 use Rattle.hc_on_head.proofs.DoomLoops.{none_closed, known_yet, fits_yet, one_closed, all_closed, next_as}
 use Rattle.hc_on_head.proofs.doom.close_awaited.Goals as goal
 
 pub loop-x-init : goal.loop-x-init
 loop-x-init g c = record {
-  closed = none_closed c.args.rows.now c.args.key.now c.args.refused (listed c.args.out.now) (spare c.args.out.now);
+  closed = none_closed c.args.rows.now c.args.key.now c.args.refused (act_list c.args.out.now) (spare c.args.out.now);
   consumers = refl;
   rest = record { limits = refl; last_start = refl; received = refl; keys = refl; entries = refl };
 }
@@ -18,7 +18,7 @@ close-requires-clause-running g c =
     let r = c.args.rows.now in
     let i = c.loop-x.invariant in
     let next = next_as r c.loop-x.rows c.args.key.now c.args.refused (behind c.loop-x.last) (Some c.in-Some.x) i.consumers i.rest.keys c.in-Some.ensures in
-    ap (λ (k : Known). is_some k.running) (known_yet r c.loop-x.rows.exchanges c.args.key.now c.args.refused (listed c.args.out.now) (listed c.loop-x.out) (spare c.args.out.now) (spare c.loop-x.out) (behind c.loop-x.last) c.in-Some.x i.closed next)
+    ap (λ (k : Known). is_some k.running) (known_yet r c.loop-x.rows.exchanges c.args.key.now c.args.refused (act_list c.args.out.now) (act_list c.loop-x.out) (spare c.args.out.now) (spare c.loop-x.out) (behind c.loop-x.last) c.in-Some.x i.closed next)
     ∙ c.requires.running c.in-Some.x next.1
 
 pub close-requires-clause-room : goal.close-requires-clause-room
@@ -26,7 +26,7 @@ close-requires-clause-room g c =
     let r = c.args.rows.now in
     let i = c.loop-x.invariant in
     let next = next_as r c.loop-x.rows c.args.key.now c.args.refused (behind c.loop-x.last) (Some c.in-Some.x) i.consumers i.rest.keys c.in-Some.ensures in
-    fits_yet r c.loop-x.rows.exchanges c.args.key.now c.args.refused (listed c.args.out.now) (listed c.loop-x.out) (spare c.args.out.now) (spare c.loop-x.out) (behind c.loop-x.last) c.in-Some.x i.closed next (spare c.args.out.now) c.requires.few (omega arith)
+    fits_yet r c.loop-x.rows.exchanges c.args.key.now c.args.refused (act_list c.args.out.now) (act_list c.loop-x.out) (spare c.args.out.now) (spare c.loop-x.out) (behind c.loop-x.last) c.in-Some.x i.closed next (spare c.args.out.now) c.requires.few (omega arith)
 
 pub loop-x-preserved : goal.loop-x-preserved
 loop-x-preserved g c =
@@ -35,8 +35,8 @@ loop-x-preserved g c =
     let next = next_as r c.loop-x.rows c.args.key.now c.args.refused (behind c.loop-x.last) (Some c.in-Some.x) i.consumers i.rest.keys c.in-Some.ensures in
     let step = c.close.ensures in
     record {
-      closed = one_closed r c.loop-x.rows.exchanges c.args.key.now c.args.refused (listed c.args.out.now) (listed c.loop-x.out) (spare c.args.out.now) (spare c.loop-x.out) (behind c.loop-x.last) c.in-Some.x i.closed next
-          c.close.new.rows.exchanges (listed c.close.new.out) (spare c.close.new.out) step.acts step.room step.closed;
+      closed = one_closed r c.loop-x.rows.exchanges c.args.key.now c.args.refused (act_list c.args.out.now) (act_list c.loop-x.out) (spare c.args.out.now) (spare c.loop-x.out) (behind c.loop-x.last) c.in-Some.x i.closed next
+          c.close.new.rows.exchanges (act_list c.close.new.out) (spare c.close.new.out) step.acts step.room step.closed;
       consumers = step.consumers ∙ i.consumers;
       rest = record {
         limits = step.rest.limits ∙ i.rest.limits;
@@ -51,5 +51,5 @@ pub returns-clause-closes : goal.returns-clause-closes
 returns-clause-closes g c =
     let r = c.args.rows.now in
     let i = c.loop-x.invariant in
-    all_closed r c.loop-x.rows.exchanges c.args.key.now c.args.refused (listed c.args.out.now) (listed c.loop-x.out) (spare c.args.out.now) (spare c.loop-x.out) (behind c.loop-x.last) i.closed
+    all_closed r c.loop-x.rows.exchanges c.args.key.now c.args.refused (act_list c.args.out.now) (act_list c.loop-x.out) (spare c.args.out.now) (spare c.loop-x.out) (behind c.loop-x.last) i.closed
     (next_as r c.loop-x.rows c.args.key.now c.args.refused (behind c.loop-x.last) None i.consumers i.rest.keys c.in_default.ensures)

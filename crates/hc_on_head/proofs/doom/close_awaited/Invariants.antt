@@ -1,5 +1,5 @@
 use Rattle.std.proofs.Common.{◌≡◌, ◌-◌, ◌^◌}
-use Rattle.hc_event.specs.Acts.{listed, spare}
+use Rattle.hc_event.specs.Acts.{act_list, spare}
 use Rattle.hc_state.specs.Dooms.{behind}
 use Rattle.hc_state.specs.Stands.{KeepsRest}
 use Rattle.hc_on_head.proofs.DoomLoops.{ClosesBelow}
@@ -7,7 +7,7 @@ use Rattle.hc_on_head.proofs.doom.close_awaited.Given as goal
 
 abbrev pub invariant-loop-x : goal.invariant-loop-x
 invariant-loop-x g l = record {
-  closed : ClosesBelow l.fn.rows l.rows.exchanges l.key l.refused (listed l.fn.out) (listed l.out) (spare l.fn.out) (spare l.out) (behind l.last);
+  closed : ClosesBelow l.fn.rows l.rows.exchanges l.key l.refused (act_list l.fn.out) (act_list l.out) (spare l.fn.out) (spare l.out) (behind l.last);
   consumers : l.rows.consumers ≡ l.fn.rows.consumers;
   rest : KeepsRest l.fn.rows l.rows;
 }

@@ -1,7 +1,7 @@
 use Rattle.std.proofs.Common.{◌+◌, ◌<◌, length, arith}
 use Rattle.std.proofs.Math.Logic.{∥∥₁_map}
 use Rattle.std.specs.HashMap.{hash_map_len}
-use Rattle.hc_event.specs.Acts.{listed}
+use Rattle.hc_event.specs.Acts.{act_list}
 use Rattle.hc_exch.specs.Exchanges.{table_of}
 use Rattle.hc_exch.specs.Known.{is_open}
 use Rattle.hc_state.specs.Dooms.{IsUnheard}
@@ -46,6 +46,6 @@ pub returns-clause-doomed : goal.returns-clause-doomed
 returns-clause-doomed g c =
     let step = c.close_awaited.ensures in
     let wakes = c.wake.ensures in
-    dooms c.args.rows.now c.close_awaited.new.rows c.wake.new.rows c.args.now c.args.key.now c.args.refused (listed c.args.out.now) (listed c.close_awaited.new.out) c.requires.unheard
+    dooms c.args.rows.now c.close_awaited.new.rows c.wake.new.rows c.args.now c.args.key.now c.args.refused (act_list c.args.out.now) (act_list c.close_awaited.new.out) c.requires.unheard
     step.closes step.consumers step.rest wakes.consumers wakes.keys wakes.entries wakes.bounded wakes.limits wakes.received wakes.last_start wakes.exchanges
     c.current-current.result c.let_some_go.new.rows c.current-current.ensures c.let_some_go.ensures.stands

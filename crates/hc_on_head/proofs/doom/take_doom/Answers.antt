@@ -1,5 +1,5 @@
 use Rattle.std.proofs.Common.{None, refl}
-use Rattle.hc_event.specs.Acts.{listed}
+use Rattle.hc_event.specs.Acts.{act_list}
 use Rattle.hc_event.specs.declared.event.Event.TheVariants as event
 use Rattle.hc_stored.specs.Entries.{shelf_of}
 use Rattle.hc_model.specs.Effects.{awaited_and}
@@ -14,5 +14,5 @@ returns-clause-answers g c = λ t facts rows accepted.
     let r = c.args.rows.now in
     let key = c.args.key.now in
     let doomed = c.doom.ensures.doomed t facts.law rows in
-    does_answered r.limits (shelf_of r.entries).faults _ t _ (listed c.args.out.now) _ _ c.args.now (event.Doom key) (doom_does r.limits t facts.law c.args.now key)
+    does_answered r.limits (shelf_of r.entries).faults _ t _ (act_list c.args.out.now) _ _ c.args.now (event.Doom key) (doom_does r.limits t facts.law c.args.now key)
     refl (flawless (awaited_and t key None)) doomed.acts (stands_counted _ _ c.args.now (event.Doom key) refl doomed.rows)

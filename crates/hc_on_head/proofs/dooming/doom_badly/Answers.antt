@@ -1,5 +1,5 @@
 use Rattle.std.proofs.Common.{Some, refl, subst}
-use Rattle.hc_event.specs.Acts.{listed}
+use Rattle.hc_event.specs.Acts.{act_list}
 use Rattle.hc_exch.specs.Exchanges.{table_of}
 use Rattle.hc_state.specs.Dooms.{IsDoomed, IsUnheard}
 use Rattle.hc_on_head.proofs.DoomingArms.{past_place, dooming_bad}
@@ -16,7 +16,7 @@ returns-clause-answers g c = λ t w facts stands goes row is unsafe.
     let a = asker_of r t facts now x response w stands goes row in
     let for_it = asked_by r t x c.args.heard.c w stands c.requires.accepted c.requires.asker row in
     let past = past_place r t x w a c.args.key.now stands c.requires.unheard in
-    dooming_bad r t facts stands now x response w a.v a.awaits past.0 mid (listed c.args.out.now) _ goes unsafe _ c.args.heard.c for_it
+    dooming_bad r t facts stands now x response w a.v a.awaits past.0 mid (act_list c.args.out.now) _ goes unsafe _ c.args.heard.c for_it
     (subst (λ k. IsUnheard (table_of r.exchanges) k x) past.1 c.requires.unheard) is
-    (subst (λ k. IsDoomed mid t (listed c.args.out.now) (listed c.doom.new.out) now k (Some x)) past.1 (c.doom.ensures.doomed t facts.law stands))
+    (subst (λ k. IsDoomed mid t (act_list c.args.out.now) (act_list c.doom.new.out) now k (Some x)) past.1 (c.doom.ensures.doomed t facts.law stands))
     refl refl refl refl refl refl c.stand.ensures

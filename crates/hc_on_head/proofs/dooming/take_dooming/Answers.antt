@@ -1,6 +1,6 @@
 use Rattle.std.proofs.Common.{ap, sym, ◌∙◌, subst}
 use Rattle.std.specs.Prelude.{option_map}
-use Rattle.hc_event.specs.Acts.{listed}
+use Rattle.hc_event.specs.Acts.{act_list}
 use Rattle.hc_exch.specs.Exchanges.{table_of}
 use Rattle.hc_exch.specs.Openings.{opened_with}
 use Rattle.hc_state.specs.Heads.{is_bad_case}
@@ -25,8 +25,8 @@ doom_taken-requires-clause-good g c = c.requires.good (ap is_bad_case (taken_cas
 
 pub returns-in-DirectBad-clause-answers : goal.returns-in-DirectBad-clause-answers
 returns-in-DirectBad-clause-answers g c =
-    subst (λ k. AnswersDooming c.args.rows.now c.doom_badly.new.rows (listed c.args.out.now) (listed c.doom_badly.new.out) c.args.heard.now c.args.heard.x c.args.response.now k) (sym c.in-DirectBad.is) c.doom_badly.ensures.answers
+    subst (λ k. AnswersDooming c.args.rows.now c.doom_badly.new.rows (act_list c.args.out.now) (act_list c.doom_badly.new.out) c.args.heard.now c.args.heard.x c.args.response.now k) (sym c.in-DirectBad.is) c.doom_badly.ensures.answers
 
 pub returns-clause-answers : goal.returns-clause-answers
 returns-clause-answers g c = ok_then c.doom_taken.result c.doom_taken.ensures.answers (λ answers.
-    subst (λ k. AnswersDooming c.args.rows.now c.doom_taken.new.rows (listed c.args.out.now) (listed c.doom_taken.new.out) c.args.heard.now c.args.heard.x c.args.response.now k) (sym (taken_case c.args.case c.requires.dooms c.in_default.not-DirectBad)) answers)
+    subst (λ k. AnswersDooming c.args.rows.now c.doom_taken.new.rows (act_list c.args.out.now) (act_list c.doom_taken.new.out) c.args.heard.now c.args.heard.x c.args.response.now k) (sym (taken_case c.args.case c.requires.dooms c.in_default.not-DirectBad)) answers)

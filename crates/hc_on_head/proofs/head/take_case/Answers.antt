@@ -1,5 +1,5 @@
 use Rattle.std.proofs.Common.{Some, refl, ap, sym, ◌∙◌}
-use Rattle.hc_event.specs.Acts.{listed}
+use Rattle.hc_event.specs.Acts.{act_list}
 use Rattle.hc_rules.specs.declared.heads.HeadCase.{HeadCase}
 use Rattle.hc_model.specs.Dooms.{doomed_by_case}
 use Rattle.hc_state.specs.Heads.{is_bad_case, breaks_off, broken_by}
@@ -24,10 +24,10 @@ returns-in-DirectBad-clause-answers g c = λ t w facts stands goes row is doomle
 
 pub returns-in-DirectTaken-clause-answers : goal.returns-in-DirectTaken-clause-answers
 returns-in-DirectTaken-clause-answers g c = ok_then c.take_past.result c.take_past.ensures.answers (λ answers t w facts stands goes row is doomless same.
-    answers (listed c.args.out.now) t w facts stands goes row (is ∙ c.in-DirectTaken.is) (ap (λ (q : HeadCase). doomed_by_case (Some q) w c.args.response.now) (sym c.in-DirectTaken.is) ∙ doomless) refl)
+    answers (act_list c.args.out.now) t w facts stands goes row (is ∙ c.in-DirectTaken.is) (ap (λ (q : HeadCase). doomed_by_case (Some q) w c.args.response.now) (sym c.in-DirectTaken.is) ∙ doomless) refl)
 
 pub returns-in-TurnServerError-clause-answers : goal.returns-in-TurnServerError-clause-answers
-returns-in-TurnServerError-clause-answers g c = ok_then c.go_past.result c.go_past.ensures.answers (λ answers. answers c.args.case (listed c.args.out.now) (past_case c.args.case c.in-TurnServerError.is))
+returns-in-TurnServerError-clause-answers g c = ok_then c.go_past.result c.go_past.ensures.answers (λ answers. answers c.args.case (act_list c.args.out.now) (past_case c.args.case c.in-TurnServerError.is))
 
 pub returns-in-FirstChanged-clause-answers : goal.returns-in-FirstChanged-clause-answers
 returns-in-FirstChanged-clause-answers g c = c.start_anew.ensures.answers c.args.case (anew_case c.args.case c.in-FirstChanged.is)

@@ -19,7 +19,7 @@ take_case-requires-clause-good g c = λ off.
 pub take_case-requires-clause-founds : goal.take_case-requires-clause-founds
 take_case-requires-clause-founds g c = λ on.
     let lives = live_now c.args.rows.now c.args.x c.view.result c.unwrap-view.result c.requires.accepted c.view.ensures c.unwrap-view.ensures c.requires.stands in
-    founds_as c.args.rows.now c.args.x c.args.response.now c.view.result c.unwrap-view.result c.aim_of-aim.result c.case_of-case.result c.requires.accepted c.view.ensures c.unwrap-view.ensures c.aim_of-aim.ensures c.case_of-case.ensures lives c.requires.modest on
+    founds_as c.args.rows.now c.args.x c.args.response.now c.view.result c.unwrap-view.result c.aim_of-aim.result c.case_of-case.result c.requires.accepted c.view.ensures c.unwrap-view.ensures c.aim_of-aim.ensures c.case_of-case.ensures lives c.requires.within_limits on
 
 pub take_case-requires-clause-selected : goal.take_case-requires-clause-selected
 take_case-requires-clause-selected g c =

@@ -1,7 +1,7 @@
 use Rattle.std.proofs.Common.{◌<◌, ℕ, Some, true, false, Err, ap, sym, ◌∙◌, subst, arith}
 use Rattle.std.specs.Prelude.{is_some, nat_eq}
 use Rattle.std.specs.HashMap.{get}
-use Rattle.hc_event.specs.Acts.{listed}
+use Rattle.hc_event.specs.Acts.{act_list}
 use Rattle.hc_stored.specs.Entries.{shelf_of}
 use Rattle.hc_exch.specs.Exchanges.{table_of}
 use Rattle.hc_laws.proofs.LettingGo.{may_let_go}
@@ -20,7 +20,7 @@ returns-then-is_lost-clause-answers g c = λ k any joins t w facts stands goes r
     let j = join_of r t facts stands now x c.args.heard.c q response w row k joins goes is c.requires.accepted c.requires.asker c.requires.about c.requires.there in
     let lost = sym j.is.is_lost ∙ (sym (c.is_lost.ensures j.e j.kept) ∙ c.if-is_lost.true) in
     let gone = (facts.law.sound.rows q j.p j.row).store.lost_is_gone lost in
-    past_answered r c.bring.new.rows t facts now x response goes w j.a k (joins_of k joins) is q j.aim j.p j.row (listed c.args.out.now) lost
+    past_answered r c.bring.new.rows t facts now x response goes w j.a k (joins_of k joins) is q j.aim j.p j.row (act_list c.args.out.now) lost
     (gone_joined r c.bring.new.rows t now x q c.args.heard.c response w j.a.v j.p j.can j.a.k j.o j.e stands j.for_it j.a.there j.running j.on j.kept gone c.bring.ensures)
 
 pub share-requires : goal.share-requires
@@ -42,7 +42,7 @@ returns-then-resumes-clause-answers g c = λ k any joins t w facts stands goes r
     let j = join_of r t facts stands now x c.args.heard.c q response w row k joins goes is c.requires.accepted c.requires.asker c.requires.about c.requires.there in
     let kept = sym j.is.is_lost ∙ (sym (c.is_lost.ensures j.e j.kept) ∙ c.if-is_lost.false) in
     let resumed = sym c.if-resumes.true ∙ c.resumes-resumes.ensures t w j.p j.e j.hole.0 j.hole.1 facts stands row j.a.awaits.is_open j.hole.2 j.for_it j.row kept j.kept j.told in
-    joins_answered r c.share.new.rows t facts now x response goes w j.a k (joins_of k joins) is q j.aim j.p j.row (listed c.args.out.now) kept true resumed
+    joins_answered r c.share.new.rows t facts now x response goes w j.a k (joins_of k joins) is q j.aim j.p j.row (act_list c.args.out.now) kept true resumed
     (stands_shared r c.share.new.rows t now x q c.args.heard.c response w j.a.v j.p j.can j.a.k j.o j.e stands j.for_it j.a.there j.running j.on j.kept c.renew_growing.new.rows c.bring-in-Ok.new.rows c.in-Ok.ensures.ok c.bring-in-Ok.ensures c.share.ensures)
     (shelf_of r.entries).faults
 
@@ -56,7 +56,7 @@ returns-else-resumes-clause-answers g c = λ k any joins t w facts stands goes r
     let j = join_of r t facts stands now x c.args.heard.c q response w row k joins goes is c.requires.accepted c.requires.asker c.requires.about c.requires.there in
     let kept = sym j.is.is_lost ∙ (sym (c.is_lost.ensures j.e j.kept) ∙ c.if-is_lost.false) in
     let resumed = sym c.if-resumes.false ∙ c.resumes-resumes.ensures t w j.p j.e j.hole.0 j.hole.1 facts stands row j.a.awaits.is_open j.hole.2 j.for_it j.row kept j.kept j.told in
-    joins_answered r c.bring-in-Ok.new.rows t facts now x response goes w j.a k (joins_of k joins) is q j.aim j.p j.row (listed c.args.out.now) kept false resumed
+    joins_answered r c.bring-in-Ok.new.rows t facts now x response goes w j.a k (joins_of k joins) is q j.aim j.p j.row (act_list c.args.out.now) kept false resumed
     (stands_alone r c.bring-in-Ok.new.rows t now x q c.args.heard.c response w j.a.v j.p j.can j.a.k j.o j.e stands j.for_it j.a.there j.running j.on j.kept c.renew_growing.new.rows c.bring-in-Ok.new.rows c.in-Ok.ensures.ok c.bring-in-Ok.ensures)
     (shelf_of r.entries).faults
 
@@ -78,9 +78,9 @@ returns-in-Err-Fault-clause-answers g c = λ k any joins t w facts stands goes r
     let stayed = c.in-Err-Fault.ensures.err in
     let j = join_of r t facts stands now x d q response w row k joins goes is c.requires.accepted c.requires.asker c.requires.about c.requires.there in
     let kept = sym j.is.is_lost ∙ (sym (c.is_lost.ensures j.e j.kept) ∙ c.if-is_lost.false) in
-    let holds = holds_alone r u t facts now x response goes w j.a k (joins_of k joins) is q j.aim j.p j.row (listed c.args.out.now) kept d j.for_it in
+    let holds = holds_alone r u t facts now x response goes w j.a k (joins_of k joins) is q j.aim j.p j.row (act_list c.args.out.now) kept d j.for_it in
     let lost = c.lose_to.ensures.lost t j.p (may_let_go t facts.law) j.row ((facts.law.sound.rows q j.p j.row).store.nobody_alone kept) holds (stands_unrenewed r mid t stayed.rest stayed.same stands) in
     let running = ap (λ z. (table_of z x).running) (c.lose_to.ensures.exchanges ∙ stayed.rest.exchanges) ∙ j.running in
     let failed = subst (λ (n : ℕ). (shelf_of r.entries).faults < n) (sym (ap (λ z. (shelf_of z).faults) c.bring-in-Err-Fault.ensures.entries ∙ c.lose_to.ensures.faults)) (c.renew_growing.ensures.cause.fault (c.in-Err-Fault.is ∙ ap Err c.in-Err-Fault.field-0-is)) in
-    lost_answered r u t facts now x response goes w j.a k (joins_of k joins) is q j.aim j.p j.row (listed c.args.out.now) kept d j.for_it (shelf_of r.entries).faults (listed c.lose_to.new.out) c.lose_to.ensures.acts failed
+    lost_answered r u t facts now x response goes w j.a k (joins_of k joins) is q j.aim j.p j.row (act_list c.args.out.now) kept d j.for_it (shelf_of r.entries).faults (act_list c.lose_to.new.out) c.lose_to.ensures.acts failed
     (brings_lost l u t facts.law now x q d response w j.a.v j.p j.can (Some d) j.for_it j.o running j.on lost c.bring-in-Err-Fault.ensures)

@@ -1,6 +1,6 @@
 use Rattle.std.proofs.Common.{◌≡◌, ◌<◌, ◌^◌, ℕ, true, false, Some, Ok, Err, refl, ap, sym, ◌∙◌, subst}
 use Rattle.std.proofs.Math.Logic.{∥∥₁_map}
-use Rattle.hc_event.specs.Acts.{listed}
+use Rattle.hc_event.specs.Acts.{act_list}
 use Rattle.hc_event.specs.declared.event.Event.TheVariants as event
 use Rattle.hc_rules.specs.declared.heads.HeadCase.TheVariants as case
 use Rattle.hc_rules.specs.declared.room.Limits.{Limits}
@@ -9,7 +9,7 @@ use Rattle.hc_exch.specs.Exchanges.{next_of}
 use Rattle.hc_entry.specs.Keys.{kept_of}
 use Rattle.hc_event.specs.declared.place.Place.TheVariants as place
 use Rattle.hc_model.specs.Cases.{head_view}
-use Rattle.hc_model.specs.Effects.{with_consumer, with_representation, refreshed}
+use Rattle.hc_model.specs.Effects.{with_consumer, with_representation, with_refreshed_head}
 use Rattle.hc_state.specs.Stands.{Answered, RowsStand}
 use Rattle.hc_state.specs.Stored.{is_usable_kept}
 use Rattle.hc_on_leave.proofs.HeadCases.{case_unselected}
@@ -54,16 +54,16 @@ returns-in-Ok-true-clause-answers g c = λ t w facts stands goes row about is.
     let x = c.args.heard.x in
     let q = c.in-Some.r in
     let response = c.args.response.now in
-    let before = listed c.args.out.now in
+    let before = act_list c.args.out.now in
     let h = key_heard r x c.args.aim c.still_current.result c.requires.accepted c.still_current.ensures in
     let s = current_still r t x h.0 w c.args.aim q stands h.1 row about (sym c.in-Some.is ∙ h.2) in
     let a = asker_of r t facts now x response w stands goes row in
     let for_it = asked_by r t x c.args.heard.c w stands c.requires.accepted c.requires.asker row in
     let found : c.select.result ≡ Ok true = cc in
     let sel = selected_of r mid x now q response c.select.result true found c.select.ensures.ok in
-    let stood = subst (λ (d : ℕ). RowsStand thr (with_consumer d (Some (record a.v { place = place.Passed q (Some x) })) (with_representation q (Some (refreshed now response w s.v)) t))) (sym for_it)
-    (c.let_through.ensures.stands t w a.v (refreshed now response w s.v) facts.law a.awaits for_it (at_turn r mid thr u t facts stands now x response goes w a is q s.v s.named s.cur s.row before before) (stands_selected r mid t x now h.0 w q response stands h.1 row s sel)) in
-    validated_answered r mid thr u t facts stands now x response goes w a is q s.v s.named s.cur s.row before (listed c.refuse.new.out)
+    let stood = subst (λ (d : ℕ). RowsStand thr (with_consumer d (Some (record a.v { place = place.Passed q (Some x) })) (with_representation q (Some (with_refreshed_head now response w s.v)) t))) (sym for_it)
+    (c.let_through.ensures.stands t w a.v (with_refreshed_head now response w s.v) facts.law a.awaits for_it (at_turn r mid thr u t facts stands now x response goes w a is q s.v s.named s.cur s.row before before) (stands_selected r mid t x now h.0 w q response stands h.1 row s sel)) in
+    validated_answered r mid thr u t facts stands now x response goes w a is q s.v s.named s.cur s.row before (act_list c.refuse.new.out)
     (sym (tells_selected r mid t x now h.0 w q response stands h.1 row s true sel)) stood c.refuse.ensures.acts c.refuse.ensures.rest c.refuse.ensures.consumers c.refuse.ensures.closed
 
 pub returns-in-Ok-false-clause-answers : goal.returns-in-Ok-false-clause-answers
@@ -75,14 +75,14 @@ returns-in-Ok-false-clause-answers g c = λ t w facts stands goes row about is.
     let x = c.args.heard.x in
     let q = c.in-Some.r in
     let response = c.args.response.now in
-    let before = listed c.args.out.now in
+    let before = act_list c.args.out.now in
     let h = key_heard r x c.args.aim c.still_current.result c.requires.accepted c.still_current.ensures in
     let s = current_still r t x h.0 w c.args.aim q stands h.1 row about (sym c.in-Some.is ∙ h.2) in
     let a = asker_of r t facts now x response w stands goes row in
     let found : c.select.result ≡ Ok false = cc in
     let sel = selected_of r mid x now q response c.select.result false found c.select.ensures.ok in
     let off = sym (tells_selected r mid t x now h.0 w q response stands h.1 row s false sel) in
-    answered_on r mid sel.rest u t before (listed c.start_anew-in-Ok-false.new.out) now (event.Head x response) c.select.ensures.cause.later
+    answered_on r mid sel.rest u t before (act_list c.start_anew-in-Ok-false.new.out) now (event.Head x response) c.select.ensures.cause.later
     (c.start_anew-in-Ok-false.ensures.answers case.NotValidated refl t w (facts_on r mid sel.rest t facts) (stands_unrenewed r mid t sel.rest (sel.head h.0 h.1) stands) goes row
     (unselected_case r mid mid u t facts stands now x response goes w a is q s.v s.named s.cur s.row before before off) refl about)
 
@@ -121,7 +121,7 @@ returns-in-Err-Fault-clause-answers g c = λ t w facts stands goes row about is.
     let h = key_heard r x c.args.aim c.still_current.result c.requires.accepted c.still_current.ensures in
     let s = current_still r t x h.0 w c.args.aim q stands h.1 row about (sym c.in-Some.is ∙ h.2) in
     let answered = c.lose_asked.ensures.answers (shelf_of r.entries).faults t w (facts_on r mid kept.rest t facts) (stands_unrenewed r mid t kept.rest kept.same stands) goes row s.named s.cur is (c.select.ensures.cause.fault (c.in-Err-Fault.is ∙ ap Err c.in-Err-Fault.field-0-is)) in
-    subst (λ (n : Limits). Answered n (shelf_of r.entries).faults u t (listed c.args.out.now) (listed c.lose_asked.new.out) now (event.Head x response)) kept.rest.limits answered
+    subst (λ (n : Limits). Answered n (shelf_of r.entries).faults u t (act_list c.args.out.now) (act_list c.lose_asked.new.out) now (event.Head x response)) kept.rest.limits answered
 
 pub returns-in-Err-Fault-clause-received : goal.returns-in-Err-Fault-clause-received
 returns-in-Err-Fault-clause-received g c = c.lose_asked.ensures.received ∙ c.in-Err-Fault.ensures.err.rest.received

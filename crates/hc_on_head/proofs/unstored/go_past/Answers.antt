@@ -12,12 +12,12 @@ returns-clause-answers g c = λ k before on t w facts stands goes row is doomles
     let now = c.args.heard.now in
     let x = c.args.heard.x in
     let response = c.args.response.now in
-    let first = c.stand_aside.new.rows in
+    let first = c.fall_back.new.rows in
     let mid = c.answer_past.new.rows in
     let a = asker_of r t facts now x response w stands goes row in
     let for_it = asked_by r t x c.args.heard.c w stands c.requires.accepted c.requires.asker row in
     let alone = alone_past r mid mid t facts now x response goes w a.v a.awaits a.stands c.args.goes before k on is in
-    let aside = subst (λ (d : ℕ). RowsStand first (with_consumer d (Some (record a.v { place = place.Direct x })) t)) (sym for_it) (c.stand_aside.ensures.stands t x w a.v facts a.awaits for_it refl stands) in
+    let fallback = subst (λ (d : ℕ). RowsStand first (with_consumer d (Some (record a.v { place = place.Direct x })) t)) (sym for_it) (c.fall_back.ensures.stands t x w a.v facts a.awaits for_it refl stands) in
     past_answered r mid _ t facts now x response goes w a.v a.awaits a.stands c.args.goes before k on is same
-    (c.in_ok-answer_past.ensures.stands _ w _ alone for_it aside)
+    (c.in_ok-answer_past.ensures.stands _ w _ alone for_it fallback)
     (λ may after. c.let_some_go.ensures.stands _ may after)

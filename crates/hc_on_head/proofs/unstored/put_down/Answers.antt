@@ -1,5 +1,5 @@
 use Rattle.std.proofs.Common.{ℕ, Some, sym, subst}
-use Rattle.hc_event.specs.Acts.{listed}
+use Rattle.hc_event.specs.Acts.{act_list}
 use Rattle.hc_event.specs.declared.act.Cause.TheVariants as cause
 use Rattle.hc_event.specs.declared.place.Place.TheVariants as place
 use Rattle.hc_model.specs.Effects.{with_consumer}
@@ -12,10 +12,10 @@ pub returns-clause-answers : goal.returns-clause-answers
 returns-clause-answers g c = λ k on t w facts stands goes row is doomless none.
     let r = c.args.rows.now in
     let x = c.args.heard.x in
-    let mid = c.stand_aside.new.rows in
+    let mid = c.fall_back.new.rows in
     let a = asker_of r t facts c.args.heard.now x c.args.response.now w stands goes row in
     let for_it = asked_by r t x c.args.heard.c w stands c.requires.accepted c.requires.asker row in
-    put_down_answered r mid _ t facts c.args.heard.now x c.args.response.now goes w a.v a.awaits (listed c.args.out.now) _ c.refuse.ensures.acts c.refuse.ensures.rest c.refuse.ensures.consumers c.refuse.ensures.closed
+    put_down_answered r mid _ t facts c.args.heard.now x c.args.response.now goes w a.v a.awaits (act_list c.args.out.now) _ c.refuse.ensures.acts c.refuse.ensures.rest c.refuse.ensures.consumers c.refuse.ensures.closed
     k on is doomless
     (subst (λ (d : ℕ). RowsStand mid (with_consumer d (Some (record a.v { place = place.Down (cause.BadHead x) })) t)) (sym for_it)
-    (c.stand_aside.ensures.stands t x w a.v facts a.awaits for_it tt stands))
+    (c.fall_back.ensures.stands t x w a.v facts a.awaits for_it tt stands))

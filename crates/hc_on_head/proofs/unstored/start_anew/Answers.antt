@@ -1,5 +1,5 @@
 use Rattle.std.proofs.Common.{ℕ, Some, sym, subst}
-use Rattle.hc_event.specs.Acts.{listed}
+use Rattle.hc_event.specs.Acts.{act_list}
 use Rattle.hc_model.specs.ConsumerRows.{back_in_line}
 use Rattle.hc_model.specs.Effects.{with_consumer}
 use Rattle.hc_state.specs.Stands.{RowsStand}
@@ -17,7 +17,7 @@ returns-clause-answers g c = λ k on t w facts stands goes row is doomless same.
     let mid = c.refuse.new.rows in
     let a = asker_of r t facts now x response w stands goes row in
     let for_it = asked_by r t x c.args.heard.c w stands c.requires.accepted c.requires.asker row in
-    anew_answered r first mid t facts now x response goes w a.v a.awaits (listed c.args.out.now) _ c.refuse.ensures.acts c.refuse.ensures.rest c.refuse.ensures.consumers c.refuse.ensures.closed
+    anew_answered r first mid t facts now x response goes w a.v a.awaits (act_list c.args.out.now) _ c.refuse.ensures.acts c.refuse.ensures.rest c.refuse.ensures.consumers c.refuse.ensures.closed
     _ c.args.goes k on is same
     (subst (λ (d : ℕ). RowsStand first (with_consumer d (Some (back_in_line now a.v)) t)) (sym for_it)
     (c.send_back.ensures.stands t x w a.v facts a.awaits for_it (awaits_anew t x w a.v response k a.awaits.asker a.stands on is) stands))

@@ -1,7 +1,7 @@
 use Rattle.std.proofs.Common.{◌≡◌, ℕ, List, [], ◌∷◌, ◌++◌, true, Option, Some, None, refl, ap, sym, ◌∙◌, subst}
 use Rattle.std.specs.Prelude.{is_some, nat_eq}
 use Rattle.std.specs.HashMap.{get}
-use Rattle.hc_event.specs.Acts.{listed}
+use Rattle.hc_event.specs.Acts.{act_list}
 use Rattle.hc_stored.specs.Entries.{shelf_of}
 use Rattle.hc_exch.specs.Exchanges.{table_of}
 use Rattle.hc_state.proofs.LeftRows.{live_row}
@@ -12,4 +12,4 @@ pub returns-clause-answers : goal.returns-clause-answers
 returns-clause-answers g c = λ t facts stands accepted.
     let r = c.args.rows.now in
     let v = live_row r t c.args.c c.requires.live stands in
-    cancel_answered r.limits (shelf_of r.entries).faults _ t facts.law c.args.now c.args.c v.0 v.1 (listed c.args.out.now) _ (c.leave.ensures.left t v.0 facts stands v.1)
+    cancel_answered r.limits (shelf_of r.entries).faults _ t facts.law c.args.now c.args.c v.0 v.1 (act_list c.args.out.now) _ (c.leave.ensures.left t v.0 facts stands v.1)

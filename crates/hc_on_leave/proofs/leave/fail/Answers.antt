@@ -1,7 +1,7 @@
 use Rattle.std.proofs.Common.{◌≡◌, ℕ, List, [], ◌∷◌, ◌++◌, true, Option, Some, None, refl, ap, sym, ◌∙◌, subst}
 use Rattle.std.specs.Prelude.{is_some, nat_eq}
 use Rattle.std.specs.HashMap.{get}
-use Rattle.hc_event.specs.Acts.{listed}
+use Rattle.hc_event.specs.Acts.{act_list}
 use Rattle.hc_stored.specs.Entries.{shelf_of}
 use Rattle.hc_exch.specs.Exchanges.{table_of}
 use Rattle.hc_on_leave.proofs.LeaveArms.{fail_answered}
@@ -10,4 +10,4 @@ use Rattle.hc_on_leave.proofs.leave.fail.Goals as goal
 pub returns-clause-answers : goal.returns-clause-answers
 returns-clause-answers g c = λ want t v facts stands row moves.
     let r = c.args.rows.now in
-    fail_answered r.limits (shelf_of r.entries).faults _ t facts.law c.args.now c.args.c v row want c.args.cause (listed c.args.out.now) (listed c.put.new.out) _ moves c.put.ensures.acts (c.leave.ensures.left t v facts stands row)
+    fail_answered r.limits (shelf_of r.entries).faults _ t facts.law c.args.now c.args.c v row want c.args.cause (act_list c.args.out.now) (act_list c.put.new.out) _ moves c.put.ensures.acts (c.leave.ensures.left t v facts stands row)

@@ -1,7 +1,7 @@
 use Rattle.std.proofs.Common.{◌≡◌, ℕ, List, [], ◌∷◌, ◌++◌, true, Option, Some, None, refl, ap, sym, ◌∙◌, subst}
 use Rattle.std.specs.Prelude.{is_some, nat_eq}
 use Rattle.std.specs.HashMap.{get}
-use Rattle.hc_event.specs.Acts.{listed}
+use Rattle.hc_event.specs.Acts.{act_list}
 use Rattle.hc_stored.specs.Entries.{shelf_of}
 use Rattle.hc_exch.specs.Exchanges.{table_of}
 use Rattle.hc_state.specs.Facts.{Facts}
@@ -36,5 +36,5 @@ returns-in-Some-clause-left g c = λ t v facts stands row.
     let x = c.in-Some.x in
     let removed = c.remove_consumer-in-Some.ensures in
     let left = sym (left_is r t facts.law c.args.c v row stands c.left_by.result c.left_by.ensures) ∙ c.in-Some.is in
-    subst (λ (n : ℕ). HasLeft n c.close_left.new.rows t (listed c.args.out.now) (listed c.close_left.new.out) c.args.now c.args.c v) removed.faults
+    subst (λ (n : ℕ). HasLeft n c.close_left.new.rows t (act_list c.args.out.now) (act_list c.close_left.new.out) c.args.now c.args.c v) removed.faults
     (c.close_left.ensures.left t c.args.c v (subst (λ l. Facts l t) (sym removed.limits) facts) row left (own_is r t facts.law c.args.c v row stands x c.if_own-alone.result c.if_own-alone.ensures) (removed.stands t v facts.law row stands))

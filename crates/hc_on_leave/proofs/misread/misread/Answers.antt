@@ -1,9 +1,9 @@
 use Rattle.std.proofs.Common.{◌≡◌, ◌<◌, ℕ, refl, ap, sym, ◌∙◌, subst, true}
 use Rattle.std.specs.Prelude.{is_some}
-use Rattle.hc_event.specs.Acts.{listed}
+use Rattle.hc_event.specs.Acts.{act_list}
 use Rattle.hc_stored.specs.Entries.{shelf_of}
 use Rattle.hc_exch.specs.Exchanges.{table_of}
-use Rattle.hc_model.specs.Effects.{finished}
+use Rattle.hc_model.specs.Effects.{as_over}
 use Rattle.hc_laws.proofs.LettingGo.{may_let_go}
 use Rattle.hc_state.specs.Reads.{bound, planned}
 use Rattle.hc_state.proofs.LeftRows.{left_is, left_runs}
@@ -31,10 +31,10 @@ returns-in_default-clause-answers g c = λ want faults t v failed facts stands r
     let gone = c.let_go.ensures in
     let still = subst (λ (n : ℕ). faults < n) (sym (gone.faults ∙ removed.faults)) failed in
     let leaves = sym (left_is r t facts.law c.args.c v row stands c.left_by-left.result c.left_by-left.ensures) ∙ c.in_default.is in
-    let then = gone.stands _ (may_with t c.args.c v (finished v) row refl (may_let_go t facts.law)) (removed.stands t v facts.law row stands) in
+    let then = gone.stands _ (may_with t c.args.c v (as_over v) row refl (may_let_go t facts.law)) (removed.stands t v facts.law row stands) in
     elim may [
-      | bound at ↦ misread_alone r.limits t facts.law c.args.now c.args.c want c.args.r v row at c.let_go.new.rows faults (listed c.args.out.now) (listed c.put.new.out) still leaves c.put.ensures.acts then
-      | planned idle now_is ↦ fault_answered r.limits faults c.let_go.new.rows t facts.law c.args.now c.args.c want c.args.r v row idle (listed c.args.out.now) (listed c.put.new.out) now_is still c.put.ensures.acts then
+      | bound at ↦ misread_alone r.limits t facts.law c.args.now c.args.c want c.args.r v row at c.let_go.new.rows faults (act_list c.args.out.now) (act_list c.put.new.out) still leaves c.put.ensures.acts then
+      | planned idle now_is ↦ fault_answered r.limits faults c.let_go.new.rows t facts.law c.args.now c.args.c want c.args.r v row idle (act_list c.args.out.now) (act_list c.put.new.out) now_is still c.put.ensures.acts then
     ]
 
 pub returns-in-Some-clause-answers : goal.returns-in-Some-clause-answers
@@ -45,9 +45,9 @@ returns-in-Some-clause-answers g c = λ want faults t v failed facts stands row 
     let shut = c.close.ensures in
     let leaves = sym (left_is r t facts.law c.args.c v row stands c.left_by-left.result c.left_by-left.ensures) ∙ c.in-Some.is in
     elim may [
-      | bound at ↦ misread_closing r.limits t facts.law c.args.now c.args.c want c.args.r v row at c.close.new.rows faults (listed c.args.out.now) (listed c.close.new.out)
+      | bound at ↦ misread_closing r.limits t facts.law c.args.now c.args.c want c.args.r v row at c.close.new.rows faults (act_list c.args.out.now) (act_list c.close.new.out)
           (subst (λ (n : ℕ). faults < n) (sym (ap (λ z. (shelf_of z).faults) shut.rest.entries ∙ (gone.faults ∙ removed.faults))) failed)
-          c.let_go.new.rows c.in-Some.x (listed c.put.new.out) leaves c.put.ensures.acts shut.acts shut.rest shut.consumers shut.closed
-          (gone.stands _ (may_with t c.args.c v (finished v) row refl (may_let_go t facts.law)) (removed.stands t v facts.law row stands))
+          c.let_go.new.rows c.in-Some.x (act_list c.put.new.out) leaves c.put.ensures.acts shut.acts shut.rest shut.consumers shut.closed
+          (gone.stands _ (may_with t c.args.c v (as_over v) row refl (may_let_go t facts.law)) (removed.stands t v facts.law row stands))
       | planned idle now_is ↦ none_some c.in-Some.x (sym (idle_leaves t facts.law c.args.c v row idle) ∙ leaves)
     ]

@@ -1,5 +1,5 @@
 use Rattle.std.proofs.Common.{inl, inr, ap, sym, ◌∙◌}
-use Rattle.hc_event.specs.Acts.{listed}
+use Rattle.hc_event.specs.Acts.{act_list}
 use Rattle.hc_rules.specs.declared.plan.Plan.TheVariants as plan
 use Rattle.hc_on_poll.proofs.PlanArms.{past_route, fetch_route, queued_there, passed_there, next_there, plan_same, direct_answers, turn_answers, fetch_answers, miss_answers, bare_validates, is_bare, bare_uses}
 use Rattle.hc_state.proofs.Words.{false_true, on_ok_by}
@@ -18,19 +18,19 @@ pub returns-in-Direct-clause-answers : goal.returns-in-Direct-clause-answers
 returns-in-Direct-clause-answers g c =
     let r = c.args.rows.now in
     let is = plan_same r c.args.now c.args.c _ (plan.Direct c.in-Direct.need) c.requires.plan (sym c.plan_of.ensures ∙ c.in-Direct.is) in
-    on_ok_by c.open_past.result c.open_past.ensures.answers (direct_answers r c.requires.stands c.args.now c.args.c c.requires.idle c.open_past.new.rows (listed c.args.out.now) (listed c.open_past.new.out) c.in-Direct.need is)
+    on_ok_by c.open_past.result c.open_past.ensures.answers (direct_answers r c.requires.stands c.args.now c.args.c c.requires.idle c.open_past.new.rows (act_list c.args.out.now) (act_list c.open_past.new.out) c.in-Direct.need is)
 
 pub returns-in-Turn-clause-answers : goal.returns-in-Turn-clause-answers
 returns-in-Turn-clause-answers g c =
     let r = c.args.rows.now in
     let is = plan_same r c.args.now c.args.c _ (plan.Turn c.in-Turn.d) c.requires.plan (sym c.plan_of.ensures ∙ c.in-Turn.is) in
-    turn_answers r c.requires.stands c.args.now c.args.c c.requires.idle c.wait_for_turn.new.rows (listed c.args.out.now) (listed c.wait_for_turn.new.out) c.in-Turn.d is c.wait_for_turn.ensures.answers
+    turn_answers r c.requires.stands c.args.now c.args.c c.requires.idle c.wait_for_turn.new.rows (act_list c.args.out.now) (act_list c.wait_for_turn.new.out) c.in-Turn.d is c.wait_for_turn.ensures.answers
 
 pub returns-in-Miss-clause-answers : goal.returns-in-Miss-clause-answers
 returns-in-Miss-clause-answers g c =
     let r = c.args.rows.now in
     let is = plan_same r c.args.now c.args.c _ plan.Miss c.requires.plan (sym c.plan_of.ensures ∙ c.in-Miss.is) in
-    miss_answers r c.requires.stands c.args.now c.args.c c.requires.idle c.fail.new.rows (listed c.args.out.now) (listed c.fail.new.out) is c.fail.ensures.answers
+    miss_answers r c.requires.stands c.args.now c.args.c c.requires.idle c.fail.new.rows (act_list c.args.out.now) (act_list c.fail.new.out) is c.fail.ensures.answers
 
 pub fetch_bare-requires-clause-kept : goal.fetch_bare-requires-clause-kept
 fetch_bare-requires-clause-kept g c = passed_there c.args.rows.now c.requires.stands c.args.now c.args.c c.requires.idle
@@ -50,7 +50,7 @@ returns-in-Fetch-clause-answers g c =
     let at = sym c.plan_of.ensures ∙ c.in-Fetch.is in
     let is = plan_same r c.args.now c.args.c _ (plan.Fetch c.in-Fetch.need) c.requires.plan at in
     on_ok_by c.fetch_bare.result c.fetch_bare.ensures.answers
-    (fetch_answers r c.requires.stands c.args.now c.args.c c.requires.idle c.fetch_bare.new.rows (listed c.args.out.now) (listed c.fetch_bare.new.out) c.in-Fetch.need (bare_validates c.args.view.now c.in-Fetch.need c.requires.bare at) is)
+    (fetch_answers r c.requires.stands c.args.now c.args.c c.requires.idle c.fetch_bare.new.rows (act_list c.args.out.now) (act_list c.fetch_bare.new.out) c.in-Fetch.need (bare_validates c.args.view.now c.in-Fetch.need c.requires.bare at) is)
 
 pub unreachable-requires : goal.unreachable-requires
 unreachable-requires g c =

@@ -1,5 +1,5 @@
 use Rattle.std.proofs.Math.Logic.{∥∥₁_map}
-use Rattle.hc_event.specs.Acts.{listed}
+use Rattle.hc_event.specs.Acts.{act_list}
 use Rattle.hc_on_poll.proofs.PlanArms.{current_kept, fault_only, read_until, read_some, read_answers, read_fault}
 use Rattle.hc_state.proofs.Words.{on_ok_by, on_ok_two}
 use Rattle.hc_on_poll.proofs.carry.carry_out_with.Goals as goal
@@ -16,10 +16,10 @@ misread_by-requires-clause-stands g c = read_some c.args.rows.now c.head.new.sel
 pub returns-in-Ok-clause-answers : goal.returns-in-Ok-clause-answers
 returns-in-Ok-clause-answers g c =
     on_ok_by c.carry_out_on.result c.carry_out_on.ensures.answers
-    (read_answers c.args.rows.now c.head.new.self c.head.ensures.same c.head.ensures.cause.later c.carry_out_on.new.rows (listed c.args.out.now) (listed c.carry_out_on.new.out) c.args.now c.args.c)
+    (read_answers c.args.rows.now c.head.new.self c.head.ensures.same c.head.ensures.cause.later c.carry_out_on.new.rows (act_list c.args.out.now) (act_list c.carry_out_on.new.out) c.args.now c.args.c)
 
 pub returns-in-Err-clause-answers : goal.returns-in-Err-clause-answers
 returns-in-Err-clause-answers g c =
     on_ok_two c.misread_by.result c.misread_by.ensures.failed c.misread_by.ensures.answers (λ other.
     read_fault c.args.rows.now c.head.new.self c.head.ensures.same (c.head.ensures.cause.fault (fault_only c.head.result c.in-Err.error c.in-Err.is c.head.ensures.no_limit other))
-    c.misread_by.new.rows (listed c.args.out.now) (listed c.misread_by.new.out) c.args.now c.args.c c.args.r c.requires.idle c.requires.current)
+    c.misread_by.new.rows (act_list c.args.out.now) (act_list c.misread_by.new.out) c.args.now c.args.c c.args.r c.requires.idle c.requires.current)

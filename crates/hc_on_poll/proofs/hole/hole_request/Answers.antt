@@ -23,8 +23,8 @@ pub set_field-requires-clause-small : goal.set_field-requires-clause-small
 set_field-requires-clause-small c =
     let most = (range c).short in
     let same = ap (λ (z : Request). size_of z.fields) c.in_ok-request.ensures in
-    let modest = c.requires.modest.small in
-    omega (arith, most, same, modest)
+    let within_limits = c.requires.within_limits.small in
+    omega (arith, most, same, within_limits)
 
 tag : (c : goal.After-set_field-arg-6-1) → IsFit c.unwrap_or-tag.result.now
 tag c =
@@ -47,6 +47,6 @@ set_field-requires-2-clause-small c =
     let most = fits.short in
     let tagged = (tag c).short in
     let same = ap (λ (z : Request). size_of z.fields) c.in_ok-request.ensures in
-    let modest = c.requires.modest.small in
+    let within_limits = c.requires.within_limits.small in
     let set = c.in_ok-set_field.ensures.size in
-    omega (arith, most, tagged, same, modest, set)
+    omega (arith, most, tagged, same, within_limits, set)

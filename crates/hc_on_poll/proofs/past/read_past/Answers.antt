@@ -1,7 +1,7 @@
 use Rattle.std.proofs.Common.{◌+◌, ◌<◌, ◌≤◌, ◌^◌, ap, sym, ◌∙◌, refl, arith, nat_eq, length, inl, inr, subst}
 use Rattle.std.proofs.lemmas.Grind.{not_there}
 use Rattle.std.specs.HashMap.{get}
-use Rattle.hc_event.specs.Acts.{listed}
+use Rattle.hc_event.specs.Acts.{act_list}
 use Rattle.hc_exch.specs.Exchanges.{table_of}
 use Rattle.hc_exch.specs.Known.{is_open}
 use Rattle.hc_rules.specs.Readings.{read_step}
@@ -101,7 +101,7 @@ returns-in_ok-bytes-in-Held-clause-answers g c = λ t facts rows accepted.
     let at = lent c.get.result (get nat_eq r.consumers c.args.c) c.unwrap-consumer.result c.get.ensures.value c.unwrap-consumer.ensures in
     let shown = known_of (get nat_eq r.consumers c.args.c) k (IsShown c.args.x) at c.requires.shown in
     let rest = c.give.ensures.rest in
-    given_answered r c.give.new.rows t facts c.args.now c.args.want c.args.c c.args.x k (listed c.args.out.now) (listed c.give.new.out) rows at shown c.requires.wants rest.received rest.limits rest.last_start rest.keys rest.entries
+    given_answered r c.give.new.rows t facts c.args.now c.args.want c.args.c c.args.x k (act_list c.args.out.now) (act_list c.give.new.out) rows at shown c.requires.wants rest.received rest.limits rest.last_start rest.keys rest.entries
     c.most.result c.in_ok-bytes-in-Held.bytes (sym (ap read_step c.past_view.ensures) ∙ (sym c.read_step.ensures ∙ c.in-Held.is)) c.most.ensures c.in_ok-bytes-in-Held.ensures.bytes c.give.ensures.acts (rw c.give.ensures.exchanges c.in_ok-bytes-in-Held.ensures.ok) c.give.ensures.consumers
 
 pub returns-in-Waits-clause-answers : goal.returns-in-Waits-clause-answers
@@ -111,5 +111,5 @@ returns-in-Waits-clause-answers g c = λ t facts rows accepted.
     let at = lent c.get.result (get nat_eq r.consumers c.args.c) c.unwrap-consumer.result c.get.ensures.value c.unwrap-consumer.ensures in
     let shown = known_of (get nat_eq r.consumers c.args.c) k (IsShown c.args.x) at c.requires.shown in
     let rest = c.ask.ensures.rest in
-    asks_answered r c.ask.new.rows t facts c.args.now c.args.want c.args.c c.args.x k (listed c.args.out.now) (listed c.ask.new.out) rows at shown c.requires.wants rest.received rest.limits rest.last_start rest.keys rest.entries
+    asks_answered r c.ask.new.rows t facts c.args.now c.args.want c.args.c c.args.x k (act_list c.args.out.now) (act_list c.ask.new.out) rows at shown c.requires.wants rest.received rest.limits rest.last_start rest.keys rest.entries
     c.ask.ensures.consumers c.ask.ensures.asked c.in-Waits.field-0 (sym (ap read_step c.past_view.ensures) ∙ (sym c.read_step.ensures ∙ c.in-Waits.is)) c.ask.ensures.acts

@@ -1,4 +1,4 @@
-use Rattle.hc_event.specs.Acts.{listed}
+use Rattle.hc_event.specs.Acts.{act_list}
 use Rattle.hc_stored.specs.Entries.{shelf_of}
 use Rattle.hc_on_poll.proofs.WaitArms.{turn_waits}
 use Rattle.hc_on_poll.proofs.plan.wait_for_turn.Goals as goal
@@ -6,4 +6,4 @@ use Rattle.hc_on_poll.proofs.plan.wait_for_turn.Goals as goal
 pub returns-clause-answers : goal.returns-clause-answers
 returns-clause-answers g c = λ now want t v facts rows row is.
     let r = c.args.rows.now in
-    turn_waits r.limits (shelf_of r.entries).faults _ t facts.law now c.args.c want v row (listed c.args.out.now) (listed c.wait.new.out) c.args.d is c.wait.ensures.acts (c.queue_again.ensures.stands t v facts.law rows row)
+    turn_waits r.limits (shelf_of r.entries).faults _ t facts.law now c.args.c want v row (act_list c.args.out.now) (act_list c.wait.new.out) c.args.d is c.wait.ensures.acts (c.queue_again.ensures.stands t v facts.law rows row)

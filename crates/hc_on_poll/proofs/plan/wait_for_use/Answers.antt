@@ -1,6 +1,6 @@
 use Rattle.std.proofs.Common.{Some, nat_eq, subst}
 use Rattle.std.specs.HashMap.{get}
-use Rattle.hc_event.specs.Acts.{listed}
+use Rattle.hc_event.specs.Acts.{act_list}
 use Rattle.hc_stored.specs.Entries.{shelf_of}
 use Rattle.hc_state.specs.Kept.{KeepsConsumer}
 use Rattle.hc_state.specs.Plans.{HasCurrent}
@@ -14,4 +14,4 @@ returns-clause-answers g c = λ now want t v facts rows row is.
     let (k, at, held) = there (get nat_eq r.consumers c.args.c) (HasCurrent r.keys c.args.r) c.requires.current in
     let kept = subst (KeepsConsumer t (Some k)) row (subst (λ o. KeepsConsumer t o (t.consumer c.args.c)) at (rows.consumers c.args.c)) in
     let now_is = current_as r t k v c.args.r rows kept held in
-    use_waits r.limits (shelf_of r.entries).faults _ t facts.law now c.args.c want c.args.r c.args.d v row (listed c.args.out.now) (listed c.wait.new.out) now_is is c.wait.ensures.acts (c.pass.ensures.stands t v facts.law rows row now_is)
+    use_waits r.limits (shelf_of r.entries).faults _ t facts.law now c.args.c want c.args.r c.args.d v row (act_list c.args.out.now) (act_list c.wait.new.out) now_is is c.wait.ensures.acts (c.pass.ensures.stands t v facts.law rows row now_is)

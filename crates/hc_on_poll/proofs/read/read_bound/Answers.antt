@@ -1,7 +1,7 @@
 use Rattle.std.proofs.Common.{sym, ◌∙◌, arith, nat_eq}
 use Rattle.std.proofs.Math.Logic.{∥∥₁_map}
 use Rattle.std.specs.HashMap.{get}
-use Rattle.hc_event.specs.Acts.{listed}
+use Rattle.hc_event.specs.Acts.{act_list}
 use Rattle.hc_event.specs.declared.event.Event.TheVariants as event
 use Rattle.hc_stored.specs.Entries.{shelf_of}
 use Rattle.hc_state.specs.Reads.{IsShownAt}
@@ -23,7 +23,7 @@ returns-in-Some-clause-answers g c =
     let reads = known_of (get nat_eq r.consumers c.args.c) k (IsShownAt c.args.r) at c.requires.shown in
     λ t facts rows accepted.
     let rd = row_of r c.args.c c.args.r k at reads t facts rows in
-    head_waits r.limits (shelf_of r.entries).faults r t facts.law c.args.now c.args.c c.args.want rd.v rd.row (listed c.args.out.now) (listed c.wait.new.out) c.in-Some.x (head_move r t facts rows c.args.c c.args.r reads.0.2 k rd c.args.now c.args.want reads.1 c.in-Some.x (sym c.headless_own.ensures ∙ c.in-Some.is)) c.wait.ensures.acts rows
+    head_waits r.limits (shelf_of r.entries).faults r t facts.law c.args.now c.args.c c.args.want rd.v rd.row (act_list c.args.out.now) (act_list c.wait.new.out) c.in-Some.x (head_move r t facts rows c.args.c c.args.r reads.0.2 k rd c.args.now c.args.want reads.1 c.in-Some.x (sym c.headless_own.ensures ∙ c.in-Some.is)) c.wait.ensures.acts rows
 
 pub offset-offset-requires : goal.offset-offset-requires
 offset-offset-requires g c =
@@ -64,7 +64,7 @@ misread_by-requires-clause-stands g c =
 
 pub returns-in-Ok-clause-answers : goal.returns-in-Ok-clause-answers
 returns-in-Ok-clause-answers g c =
-    on_ok_by c.read_on.result c.read_on.ensures.answers (answers_after c.args.rows.now c.stored_ahead.new.rows c.read_on.new.rows c.stored_ahead.ensures.same (listed c.args.out.now) (listed c.read_on.new.out) c.args.now c.args.c c.args.r (event.Poll c.args.c c.args.want) c.stored_ahead.ensures.cause.later)
+    on_ok_by c.read_on.result c.read_on.ensures.answers (answers_after c.args.rows.now c.stored_ahead.new.rows c.read_on.new.rows c.stored_ahead.ensures.same (act_list c.args.out.now) (act_list c.read_on.new.out) c.args.now c.args.c c.args.r (event.Poll c.args.c c.args.want) c.stored_ahead.ensures.cause.later)
 
 pub returns-in-Err-clause-answers : goal.returns-in-Err-clause-answers
 returns-in-Err-clause-answers g c =
@@ -73,5 +73,5 @@ returns-in-Err-clause-answers g c =
     let at = lent c.get.result (get nat_eq r.consumers c.args.c) c.unwrap-consumer.result c.get.ensures.value c.unwrap-consumer.ensures in
     let reads = known_of (get nat_eq r.consumers c.args.c) k (IsShownAt c.args.r) at c.requires.shown in
     on_ok_two c.misread_by.result c.misread_by.ensures.failed c.misread_by.ensures.answers (λ other answers.
-    λ t facts rows accepted. misread_after r c.stored_ahead.new.rows c.misread_by.new.rows c.stored_ahead.ensures.same (listed c.args.out.now) (listed c.misread_by.new.out) c.args.now c.args.c c.args.r k at reads.0.2 (reads.0.0, reads.0.1, reads.0.3)
+    λ t facts rows accepted. misread_after r c.stored_ahead.new.rows c.misread_by.new.rows c.stored_ahead.ensures.same (act_list c.args.out.now) (act_list c.misread_by.new.out) c.args.now c.args.c c.args.r k at reads.0.2 (reads.0.0, reads.0.1, reads.0.3)
     (c.stored_ahead.ensures.cause.fault (fault_only c.stored_ahead.result c.in-Err.error c.in-Err.is c.stored_ahead.ensures.no_limit other)) answers c.args.want t facts rows)

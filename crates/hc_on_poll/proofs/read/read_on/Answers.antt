@@ -1,6 +1,6 @@
 use Rattle.std.proofs.Common.{◌≡◌, ◌+◌, ◌≤◌, ◌^◌, ap, sym, ◌∙◌, refl, length, take, subst, arith, nat_eq}
 use Rattle.std.specs.HashMap.{get}
-use Rattle.hc_event.specs.Acts.{listed}
+use Rattle.hc_event.specs.Acts.{act_list}
 use Rattle.hc_stored.specs.Entries.{shelf_of}
 use Rattle.hc_stored.specs.Shelf.{head_at}
 use Rattle.hc_exch.specs.Exchanges.{table_of}
@@ -174,7 +174,7 @@ returns-in-Stored-clause-answers g c =
     let ahead = known_of (get nat_eq r.consumers c.args.c) k _ at c.requires.run in
     let view_is = subst (λ z. ReadViewIs r c.args.r c.args.c z view k) c.end_of.ensures (known_of (get nat_eq r.consumers c.args.c) k _ at c.read_view-view.ensures) in
     let rest = c.give.ensures.rest in
-    λ t facts rows accepted. gives_stored r c.args.c c.args.r k at reads c.give.new.rows (listed c.args.out.now) (listed c.give.new.out) c.args.now c.args.want c.requires.wants run ahead heard view view_is rest.received rest.limits rest.last_start rest.keys rest.entries t facts rows
+    λ t facts rows accepted. gives_stored r c.args.c c.args.r k at reads c.give.new.rows (act_list c.args.out.now) (act_list c.give.new.out) c.args.now c.args.want c.requires.wants run ahead heard view view_is rest.received rest.limits rest.last_start rest.keys rest.entries t facts rows
     c.in-Stored.upto (sym c.read_step.ensures ∙ c.in-Stored.is) c.unwrap-run.result c.unwrap-run.ensures c.give.ensures.acts c.give.ensures.exchanges c.give.ensures.consumers
 
 pub returns-in_ok-bytes-in-Held-clause-answers : goal.returns-in_ok-bytes-in-Held-clause-answers
@@ -190,7 +190,7 @@ returns-in_ok-bytes-in-Held-clause-answers g c =
     let view_is = subst (λ z. ReadViewIs r c.args.r c.args.c z view k) c.end_of.ensures (known_of (get nat_eq r.consumers c.args.c) k _ at c.read_view-view.ensures) in
     let give = c.give-in-Held.ensures in
     let rest = give.rest in
-    λ t facts rows accepted. gives_held r c.args.c c.args.r k at reads c.give-in-Held.new.rows (listed c.args.out.now) (listed c.give-in-Held.new.out) c.args.now c.args.want c.requires.wants run ahead heard view view_is rest.received rest.limits rest.last_start rest.keys rest.entries t facts rows
+    λ t facts rows accepted. gives_held r c.args.c c.args.r k at reads c.give-in-Held.new.rows (act_list c.args.out.now) (act_list c.give-in-Held.new.out) c.args.now c.args.want c.requires.wants run ahead heard view view_is rest.received rest.limits rest.last_start rest.keys rest.entries t facts rows
     (sym c.read_step.ensures ∙ c.in-Held.is) c.unwrap-x.result view.offset c.most-count.result c.in_ok-bytes-in-Held.bytes c.unwrap-x.ensures refl c.most-count.ensures c.in_ok-bytes-in-Held.ensures.bytes give.acts (rw give.exchanges c.in_ok-bytes-in-Held.ensures.ok) give.consumers
 
 pub returns-in-Waits-clause-answers : goal.returns-in-Waits-clause-answers
@@ -205,7 +205,7 @@ returns-in-Waits-clause-answers g c =
     let ahead = known_of (get nat_eq r.consumers c.args.c) k _ at c.requires.run in
     let view_is = subst (λ z. ReadViewIs r c.args.r c.args.c z view k) c.end_of.ensures (known_of (get nat_eq r.consumers c.args.c) k _ at c.read_view-view.ensures) in
     let rest = c.ask.ensures.rest in
-    λ t facts rows accepted. asks_for r c.args.c c.args.r k at reads c.ask.new.rows (listed c.args.out.now) (listed c.ask.new.out) c.args.now c.args.want c.requires.wants run ahead heard view view_is rest.received rest.limits rest.last_start rest.keys rest.entries t facts rows
+    λ t facts rows accepted. asks_for r c.args.c c.args.r k at reads c.ask.new.rows (act_list c.args.out.now) (act_list c.ask.new.out) c.args.now c.args.want c.requires.wants run ahead heard view view_is rest.received rest.limits rest.last_start rest.keys rest.entries t facts rows
     c.in-Waits.x (sym c.read_step.ensures ∙ c.in-Waits.is) c.ask.ensures.consumers c.ask.ensures.asked c.ask.ensures.acts
 
 pub returns-in-Hole-clause-answers : goal.returns-in-Hole-clause-answers

@@ -1,9 +1,9 @@
 use Rattle.std.proofs.Common.{Some, nat_eq, ap, ◌∙◌, subst}
 use Rattle.std.specs.HashMap.{get}
-use Rattle.hc_event.specs.Acts.{listed}
+use Rattle.hc_event.specs.Acts.{act_list}
 use Rattle.hc_event.specs.declared.event.Response.{Response}
 use Rattle.hc_record.specs.Plain.{plain}
-use Rattle.hc_validate.specs.Showing.{shown}
+use Rattle.hc_validate.specs.Showing.{shown_response}
 use Rattle.hc_state.specs.Kept.{KeepsConsumer}
 use Rattle.hc_state.specs.Plans.{IsIdle, HasCurrent}
 use Rattle.hc_on_poll.proofs.BindArm.{bind_answered, shows_told, part_ends, current_total}
@@ -30,5 +30,5 @@ returns-clause-answers g c =
     let to = c.bounds_of-lo.ensures.to in
     bind_answered r c.leave_line.new.rows c.bind.new.self c.bind_shown.new.consumers t facts.law c.args.c c.args.r lo hi k v stands at row idle now_is
     (part_ends (t.representation c.args.r) head c.args.span hi to same)
-    c.leave_line.ensures c.in_ok-bind.ensures.ok c.bind_shown.ensures r.limits _ now want c.args.why response (listed c.args.out.now) (listed c.put_shown.new.out)
-    (is ∙ shows_told c.args.r head c.args.why c.args.span k lo hi _ response from to c.is_some-ranged.ensures (c.in_ok-shown.ensures ∙ ap (λ s. shown head c.args.why s c.is_some-ranged.result) c.span_to.ensures)) c.put_shown.ensures)
+    c.leave_line.ensures c.in_ok-bind.ensures.ok c.bind_shown.ensures r.limits _ now want c.args.why response (act_list c.args.out.now) (act_list c.put_shown.new.out)
+    (is ∙ shows_told c.args.r head c.args.why c.args.span k lo hi _ response from to c.is_some-ranged.ensures (c.in_ok-shown.ensures ∙ ap (λ s. shown_response head c.args.why s c.is_some-ranged.result) c.span_to.ensures)) c.put_shown.ensures)

@@ -3,7 +3,7 @@ use Rattle.std.proofs.lemmas.Grind.{not_there}
 use Rattle.std.specs.Prelude.{IsSomeAnd}
 use Rattle.std.specs.Option.{option_or}
 use Rattle.std.specs.HashMap.{get}
-use Rattle.hc_event.specs.Acts.{listed}
+use Rattle.hc_event.specs.Acts.{act_list}
 use Rattle.hc_event.specs.declared.act.Act.TheVariants as act
 use Rattle.hc_event.specs.declared.act.Why.{Why}
 use Rattle.hc_range.specs.declared.range.Span.{Span}
@@ -31,7 +31,7 @@ invariant_of-head g c =
         own_joining = own.own_joining;
         vary_list = own.vary_list;
         list = own.list;
-        modest = own.modest;
+        within_limits = own.within_limits;
       };
     }
   where
@@ -67,7 +67,7 @@ returns-clause-answers g c = λ now want t facts rows accepted.
     let answer = c.in_ok-shown.shown in
     let at = lent c.get.result (get nat_eq r.consumers c.args.c) c.unwrap-consumer.result c.get.ensures.value c.unwrap-consumer.ensures in
     let unshown = known_of (get nat_eq r.consumers c.args.c) k (IsUnshownBy c.args.r c.args.by) at c.requires.unshown in
-    stored_answered r _ t facts rows now want c.args.c c.args.r c.args.by k at unshown (listed c.args.out.now) (listed c.put_shown.new.out) c.requires.headed (plain c.args.head) c.requires.head c.or-head.result c.or-head.ensures answer
+    stored_answered r _ t facts rows now want c.args.c c.args.r c.args.by k at unshown (act_list c.args.out.now) (act_list c.put_shown.new.out) c.requires.headed (plain c.args.head) c.requires.head c.or-head.result c.or-head.ensures answer
     (c.in_ok-shown.ensures ∙ same_shown (record (plain c.args.head) { total = c.or-head.result }) _ _ _ _ _ _ c.why_shown-why.ensures c.span_to.ensures c.is_part-ranged.ensures)
-    (c.put_shown.ensures ∙ ap (λ (z : Why). listed c.args.out.now ++ (act.Shown c.args.c c.args.r z answer.status answer.fields k.lo k.hi ∷ [])) c.why_shown-why.ensures)
+    (c.put_shown.ensures ∙ ap (λ (z : Why). act_list c.args.out.now ++ (act.Shown c.args.c c.args.r z answer.status answer.fields k.lo k.hi ∷ [])) c.why_shown-why.ensures)
     refl refl refl refl refl refl c.show.ensures

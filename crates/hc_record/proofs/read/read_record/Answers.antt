@@ -7,7 +7,7 @@ use Rattle.hc_record.specs.Lines.{joining_text, tag_line}
 use Rattle.hc_record.specs.Record.{field_lines}
 use Rattle.hc_record.proofs.Stages.{first_of, AreFirst-of, rest_lines, whole, lacks-own, tag_first, vary_of, fields_of, after_tag, after_vary, after_fields, assembled}
 use Rattle.hc_record.proofs.read.read_record.Goals as goal
-use Rattle.hc_record.proofs.read.read_record.Goals.{then-not-is_at_end-via-then-not-is_at_end, then-not-is_at_end-via-else-not-is_at_end+then-not-modest}
+use Rattle.hc_record.proofs.read.read_record.Goals.{then-not-is_at_end-via-then-not-is_at_end, then-not-is_at_end-via-else-not-is_at_end+then-not-within_limits}
 
 pub returns-in_default-clause-none : goal.returns-in_default-clause-none
 returns-in_default-clause-none c = λ head own r.
@@ -45,7 +45,7 @@ returns-then-not-is_at_end-clause-none c = λ head own r.
     let behind = after_fields head own r.0 c.args.text.now r.1 c.in-Some.first c.take_first_lines.new.text c.in-Some.ensures.0 is c.in-Some-take_tag_text.tag.now c.take_tag_text.new.text tag.0 tag.1 c.in-Some-2.vary_fields c.in-Some-3.fields c.take_fields.new.self c.take_fields-2.new.self vary.0 vary.1 fields.0 fields.1 in
     elim c.then-not-is_at_end.branch [
       | then-not-is_at_end-via-then-not-is_at_end w ↦ false≢true (w.if-not-is_at_end.ensures.1 behind.1)
-      | then-not-is_at_end-via-else-not-is_at_end+then-not-modest w ↦ false≢true (w.if-not-modest.ensures.value.1 (rw behind.0 own.modest))
+      | then-not-is_at_end-via-else-not-is_at_end+then-not-within_limits w ↦ false≢true (w.if-not-within_limits.ensures.value.1 (rw behind.0 own.within_limits))
     ]
 
 pub returns-then-not-is_own_tag-clause-none : goal.returns-then-not-is_own_tag-clause-none

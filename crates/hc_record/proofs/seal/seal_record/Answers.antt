@@ -1,5 +1,5 @@
 use Rattle.std.proofs.Common.{slice_set, sym, ap, ◌∙◌}
-use Rattle.hc_record.specs.Lines.{sealed, kind_byte, total_text}
+use Rattle.hc_record.specs.Lines.{sealed_record, kind_byte, total_text}
 use Rattle.hc_record.proofs.Totals.{sealed-spelling, put_mid-replace_range}
 use Rattle.hc_record.proofs.seal.seal_record.Goals as goal
 
@@ -17,8 +17,8 @@ returns-clause-head c = λ version head own is. (
     own_joining = own.own_joining;
     vary_list = own.vary_list;
     list = own.list;
-    modest = own.modest;
+    within_limits = own.within_limits;
   },
   sym (sealed-spelling c.args.kind c.args.total version head own.small_total)
-      ∙ (ap (sealed c.args.kind c.args.total) is ∙ sym (returns-clause-bytes c)),
+      ∙ (ap (sealed_record c.args.kind c.args.total) is ∙ sym (returns-clause-bytes c)),
 )

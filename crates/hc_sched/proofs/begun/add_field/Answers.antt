@@ -1,6 +1,6 @@
 use Rattle.std.proofs.Common.{◌≡◌, ℕ, List, length, inl, inr, ap, ◌∙◌, arith}
 use Rattle.http_header.specs.Token.{lowercase}
-use Rattle.hc_fields.specs.FieldList.{put, size_of}
+use Rattle.hc_fields.specs.FieldList.{field_list_with, size_of}
 use Rattle.hc_fields.proofs.Edits.{length-put, size_of-put}
 use Rattle.hc_sched.proofs.FieldLemmas.{Follows-from_test, never_refused}
 use Rattle.hc_sched.proofs.begun.add_field.Goals as goal
@@ -24,7 +24,7 @@ unreachable-requires c =
           never_refused c.in-Err.e c.args.fields.now (c.args.name.now, c.args.value.now) follows c.requires.few c.in_default.not-NoMemory refused
     ]
 
-put_is : (name value : List ℕ) (old new : List (List ℕ × List ℕ)) → lowercase name ≡ name → new ≡ put (lowercase name) value old → new ≡ put name value old
+put_is : (name value : List ℕ) (old new : List (List ℕ × List ℕ)) → lowercase name ≡ name → new ≡ field_list_with (lowercase name) value old → new ≡ field_list_with name value old
 put_is name value old new low is = rw low at is
 
 pub returns-in-Ok : goal.returns-in-Ok

@@ -1,9 +1,9 @@
 use Rattle.std.proofs.Common.{◌-◌, length, refl, ap, ◌∙◌, arith, set}
-use Rattle.hc_sparse.specs.Extents.{place_of, lengthened}
+use Rattle.hc_sparse.specs.Extents.{place_of, longer_extent}
 use Rattle.hc_sparse.proofs.ClaimLemmas.{IsClaimed, claim-inserted, claim-lengthened, ok-is}
 use Rattle.hc_sparse.proofs.extents.claim.Goals as goal
 
-longer : (c : goal.After-extents-1) → IsClaimed c.args.extents.now.items (set c.args.extents.now.items (c.place_of-place.result - 1) (lengthened c.index_mut-before.result.now c.args.new.len)) c.args.new.at c.args.new.len c.args.new.x c.args.new.from
+longer : (c : goal.After-extents-1) → IsClaimed c.args.extents.now.items (set c.args.extents.now.items (c.place_of-place.result - 1) (longer_extent c.index_mut-before.result.now c.args.new.len)) c.args.new.at c.args.new.len c.args.new.x c.args.new.from
 longer c =
     let place = c.place_of-place.ensures.within in
     let len = ap length c.as_slice.ensures.value in

@@ -1,7 +1,7 @@
 use Rattle.std.proofs.Common.{sym, subst, ◌∙◌, ap}
 use Rattle.std.specs.Prelude.{codes}
-use Rattle.hc_fields.specs.FieldList.{IsModest, without}
-use Rattle.hc_state.proofs.Varied.{kept_modest}
+use Rattle.hc_fields.specs.FieldList.{IsWithinLimits, without}
+use Rattle.hc_state.proofs.Varied.{kept_within_limits}
 use Rattle.hc_state.proofs.founded.founded_head.Goals as goal
 
 pub invariant_of-result : goal.invariant_of-result
@@ -17,6 +17,6 @@ invariant_of-result c =
         own_joining = c.in_ok-joining.ensures.value;
         vary_list = c.len-varied.ensures.list;
         list = c.len-count.ensures.list;
-        modest = subst IsModest (sym kept) (kept_modest c.args.response.now.fields c.requires.may.modest);
+        within_limits = subst IsWithinLimits (sym kept) (kept_within_limits c.args.response.now.fields c.requires.may.within_limits);
       };
     }

@@ -1,6 +1,6 @@
 use Rattle.std.proofs.Common.{refl, arith}
 use Rattle.std.proofs.Math.Logic.{∥∥₁_map}
-use Rattle.hc_event.specs.Acts.{listed}
+use Rattle.hc_event.specs.Acts.{act_list}
 use Rattle.hc_rules.specs.Refusals.{refusal_of}
 use Rattle.hc_state.specs.Stands.{gate_of}
 use Rattle.hc_state.proofs.Words.{is_there}
@@ -19,10 +19,10 @@ invariant_of-self-2 g c =
     let good = c.args.self.now.good c.if-self.false in
     let few = good.1 in
     let done = c.in_ok-answer.ensures in
-    let next = next_after c.args.self.now.rows c.answer.new.rows (listed c.args.out.now) (listed c.answer.new.out) c.args.now c.args.event.now done.denied done.accepted c.args.self.now.last_moment good.0 in
+    let next = next_after c.args.self.now.rows c.answer.new.rows (act_list c.args.out.now) (act_list c.answer.new.out) c.args.now c.args.event.now done.denied done.accepted c.args.self.now.last_moment good.0 in
     record {
       good = λ _. (
-        ∥∥₁_map good.0 (λ until. some_after c.args.self.now.rows c.answer.new.rows c.args.now c.args.event.now (listed c.args.out.now) (listed c.answer.new.out) done.denied done.accepted done.limits done.faults c.requires.modest c.args.self.now.last_moment c.requires.later until),
+        ∥∥₁_map good.0 (λ until. some_after c.args.self.now.rows c.answer.new.rows c.args.now c.args.event.now (act_list c.args.out.now) (act_list c.answer.new.out) done.denied done.accepted done.limits done.faults c.requires.within_limits c.args.self.now.last_moment c.requires.later until),
         omega (arith, few, next),
       );
     }
@@ -31,7 +31,7 @@ pub returns-clause-answered : goal.returns-clause-answered
 returns-clause-answered g c =
     let good = c.args.self.now.good c.if-self.false in
     let done = c.in_ok-answer.ensures in
-    steps_on c.args.self.now _ c.args.now c.args.event.now (listed c.args.out.now) (listed c.answer.new.out) done.denied done.accepted c.requires.later refl done.limits done.faults good.0
+    steps_on c.args.self.now _ c.args.now c.args.event.now (act_list c.args.out.now) (act_list c.answer.new.out) done.denied done.accepted c.requires.later refl done.limits done.faults good.0
 
 pub returns-clause-denied : goal.returns-clause-denied
 returns-clause-denied g c = λ some.

@@ -3,14 +3,14 @@ use Rattle.std.proofs.Math.Logic.{∥∥₁_map}
 use Rattle.hc_event.specs.declared.event.Event.TheVariants as event
 use Rattle.hc_rules.specs.Refusals.{piece_refusal}
 use Rattle.hc_state.specs.Stands.{gate_of, open_at}
-use Rattle.hc_on_poll.proofs.Accepted.{start_rises, poll_lives, poll_wants, cancel_lives, head_free, piece_free, end_free, fault_free}
+use Rattle.hc_on_poll.proofs.Accepted.{start_ascends, poll_lives, poll_wants, cancel_lives, head_free, piece_free, end_free, fault_free}
 use Rattle.hc_state.proofs.Kept.{few_kept}
 use Rattle.hc_core.proofs.Standing.{stands_of_runs, stands_by}
 use Rattle.hc_core.proofs.Timely.{timely}
 use Rattle.hc_core.proofs.rows.answer.accept.Goals as goal
 
-pub start-requires-clause-rising : goal.start-requires-clause-rising
-start-requires-clause-rising g c = start_rises (gate_of c.args.rows.now (event.Start c.in-Start.c c.in-Start.request)) c.in-Start.c c.in-Start.request (rw c.in-Start.is at c.requires.accepted)
+pub start-requires-clause-ascending : goal.start-requires-clause-ascending
+start-requires-clause-ascending g c = start_ascends (gate_of c.args.rows.now (event.Start c.in-Start.c c.in-Start.request)) c.in-Start.c c.in-Start.request (rw c.in-Start.is at c.requires.accepted)
 
 pub poll-requires-clause-live : goal.poll-requires-clause-live
 poll-requires-clause-live g c = poll_lives (gate_of c.args.rows.now (event.Poll c.in-Poll.c c.in-Poll.want)) c.in-Poll.c c.in-Poll.want (rw c.in-Poll.is at c.requires.accepted)
@@ -65,7 +65,7 @@ take_head-requires-clause-timely g c = timely c.args.rows.now c.in-Head.x c.args
 pub take_piece-requires-clause-short : goal.take_piece-requires-clause-short
 take_piece-requires-clause-short g c =
     let count : length c.as_slice.result.now ≡ length c.in-Piece.bytes = ap length (c.as_slice.ensures.value ∙ c.bytes.view_is) in
-    let small : length c.in-Piece.bytes ≤ 65536 = rw c.in-Piece.is at c.requires.modest in
+    let small : length c.in-Piece.bytes ≤ 65536 = rw c.in-Piece.is at c.requires.within_limits in
     omega (arith, count, small)
 
 pub poll-requires-clause-stands : goal.poll-requires-clause-stands

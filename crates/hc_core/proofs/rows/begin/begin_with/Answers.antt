@@ -1,11 +1,11 @@
 use Rattle.std.proofs.Common.{◌≡◌, ℕ, ◌<◌, List, length, get_or, ap, sym, ◌∙◌, subst, arith}
 use Rattle.hc_contents.specs.declared.contents.Content as coded
-use Rattle.hc_contents.specs.Told.{told, told_item}
+use Rattle.hc_contents.specs.PlainContents.{plain_contents, plain_item}
 use Rattle.hc_core.proofs.BegunItems.{item_fits, item_new, item_ends, item_small, item_light, one_more_kept, none_kept, all_kept, calm_ok}
 use Rattle.hc_core.proofs.rows.begin.begin_with.Goals as goal
 
 pub loop-item-init : goal.loop-item-init
-loop-item-init g c = none_kept c.args.rows.now (told c.args.contents.now) c.requires.start c.requires.none
+loop-item-init g c = none_kept c.args.rows.now (plain_contents c.args.contents.now) c.requires.start c.requires.none
 
 pub begin_item-requires-clause-new : goal.begin_item-requires-clause-new
 begin_item-requires-clause-new g c =
@@ -19,11 +19,11 @@ begin_item-requires-clause-moments g c =
     let is = subst (λ (zs : List coded.Content). c.item-item.result ≡ get_or zs c.loop-item.item-index c.item-item.result) c.as_slice-item-items.ensures c.item-item.is in
     (item_fits c.args.rows.now c.loop-item.rows c.args.contents.now c.loop-item.item-index c.item-item.result lt is c.requires.fit c.loop-item.invariant).moments
 
-pub begin_item-requires-clause-rising : goal.begin_item-requires-clause-rising
-begin_item-requires-clause-rising g c =
+pub begin_item-requires-clause-ascending : goal.begin_item-requires-clause-ascending
+begin_item-requires-clause-ascending g c =
     let lt : c.loop-item.item-index < length c.args.contents.now.items = subst (λ (zs : List coded.Content). c.loop-item.item-index < length zs) c.as_slice-item-items.ensures c.loop-item-test.true in
     let is = subst (λ (zs : List coded.Content). c.item-item.result ≡ get_or zs c.loop-item.item-index c.item-item.result) c.as_slice-item-items.ensures c.item-item.is in
-    (item_fits c.args.rows.now c.loop-item.rows c.args.contents.now c.loop-item.item-index c.item-item.result lt is c.requires.fit c.loop-item.invariant).rising
+    (item_fits c.args.rows.now c.loop-item.rows c.args.contents.now c.loop-item.item-index c.item-item.result lt is c.requires.fit c.loop-item.invariant).ascending
 
 pub begin_item-requires-clause-ends : goal.begin_item-requires-clause-ends
 begin_item-requires-clause-ends g c =

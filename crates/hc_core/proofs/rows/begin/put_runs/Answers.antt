@@ -2,8 +2,8 @@ use Rattle.std.proofs.Common.{◌≡◌, ℕ, ◌+◌, ◌≤◌, ◌<◌, ◌^�
 use Rattle.std.specs.Prelude.{option_map}
 use Rattle.hc_sparse.proofs.SizeLemmas.{size-none}
 use Rattle.hc_stored.specs.Entries.{shelf_of}
-use Rattle.hc_stored.specs.Kept.{filled}
-use Rattle.hc_stored.specs.Shelf.{Becomes, unmoved}
+use Rattle.hc_stored.specs.Kept.{kept_with_bytes}
+use Rattle.hc_stored.specs.Shelf.{Becomes, same_order}
 use Rattle.hc_core.proofs.BegunItems.{none_put, still_kept, is_placed, more_put, calm_ok}
 use Rattle.hc_core.proofs.rows.begin.put_runs.Goals as goal
 
@@ -15,17 +15,17 @@ put-requires-clause-there g c = still_kept (shelf_of c.args.entries.now) (shelf_
 
 pub put-requires-clause-some : goal.put-requires-clause-some
 put-requires-clause-some g c =
-    let placed = is_placed 0 0 c.args.runs.now c.loop-run.run-index c.run-item.result c.requires.rising c.loop-run-test.true c.run-item.is in
+    let placed = is_placed 0 0 c.args.runs.now c.loop-run.run-index c.run-item.result c.requires.ascending c.loop-run-test.true c.run-item.is in
     let same = ap length c.bytes_of.ensures in let some = placed.some in omega (arith, same, some)
 
 pub put-requires-clause-absent : goal.put-requires-clause-absent
 put-requires-clause-absent g c = λ p le lt.
-    let placed = is_placed 0 0 c.args.runs.now c.loop-run.run-index c.run-item.result c.requires.rising c.loop-run-test.true c.run-item.is in
+    let placed = is_placed 0 0 c.args.runs.now c.loop-run.run-index c.run-item.result c.requires.ascending c.loop-run-test.true c.run-item.is in
     c.loop-run.invariant.ends p (let behind = placed.behind in omega (arith, behind, le))
 
 pub put-requires-clause-end : goal.put-requires-clause-end
 put-requires-clause-end g c =
-    let placed = is_placed 0 0 c.args.runs.now c.loop-run.run-index c.run-item.result c.requires.rising c.loop-run-test.true c.run-item.is in
+    let placed = is_placed 0 0 c.args.runs.now c.loop-run.run-index c.run-item.result c.requires.ascending c.loop-run-test.true c.run-item.is in
     let same = ap length c.bytes_of.ensures in let within = placed.within in let ends = c.requires.ends in omega (arith, same, within, ends)
 
 pub loop-run-preserved : goal.loop-run-preserved
@@ -33,8 +33,8 @@ loop-run-preserved g c =
     let run = c.run-item.result in
     let m = shelf_of c.loop-run.entries in
     let u = shelf_of c.put.new.self in
-    let placed = is_placed 0 0 c.args.runs.now c.loop-run.run-index run c.requires.rising c.loop-run-test.true c.run-item.is in
+    let placed = is_placed 0 0 c.args.runs.now c.loop-run.run-index run c.requires.ascending c.loop-run-test.true c.run-item.is in
     let done = c.in_ok-put.ensures in
-    let puts : Becomes (option_map (filled run.at run.x run.bytes None)) unmoved c.args.r m u = subst (λ (bs : List ℕ). Becomes (option_map (filled run.at run.x bs None)) unmoved c.args.r m u) c.bytes_of.ensures done.ok in
+    let puts : Becomes (option_map (kept_with_bytes run.at run.x run.bytes None)) same_order c.args.r m u = subst (λ (bs : List ℕ). Becomes (option_map (kept_with_bytes run.at run.x bs None)) same_order c.args.r m u) c.bytes_of.ensures done.ok in
     more_put (shelf_of c.args.entries.now) m u c.args.r c.loop-run.run-index c.args.runs.now run c.requires.there c.loop-run-test.true c.run-item.is placed c.loop-run.invariant puts
     (done.used ∙ ap (λ (bs : List ℕ). m.used + length bs) c.bytes_of.ensures) (calm_ok _ _ c.in_ok-put.field-0 done.cause) c.requires.ends

@@ -4,7 +4,7 @@ use Rattle.std.proofs.lemmas.List.{map-append}
 use Rattle.hc_stored.specs.Entries.{shelf_of}
 use Rattle.hc_model.specs.Entries.{Content}
 use Rattle.hc_contents.specs.declared.contents.Content as coded
-use Rattle.hc_contents.specs.Told.{told_item}
+use Rattle.hc_contents.specs.PlainContents.{plain_item}
 use Rattle.hc_state.specs.Remains.{TellsAll}
 use Rattle.hc_core.proofs.BegunItems.{calm_ok, take_next}
 use Rattle.hc_core.proofs.ContentsTold.{stays_then, idle_at, one_back, tells_more, any_default}
@@ -24,13 +24,13 @@ loop-r-preserved g c =
     let r = get_or rs i 0 in
     let inv = c.loop-r.invariant in
     let item = c.in_ok-content_of.field-0 in
-    let one = one_back a m r (told_item item) inv.same c.in_ok-content_of.ensures.item in
+    let one = one_back a m r (plain_item item) inv.same c.in_ok-content_of.ensures.item in
     let more : take (i + 1) rs ≡ take i rs ++ r ∷ [] = take_next rs i r c.loop-r-test.true (any_default rs i 0 r c.loop-r-test.true) in
-    let all : map told_item c.push.new.self ≡ map told_item c.loop-r.items ++ told_item item ∷ [] = ap (λ (zs : List coded.Content). map told_item zs) c.in_ok-push.ensures.ok ∙ map-append told_item c.loop-r.items (item ∷ []) in
+    let all : map plain_item c.push.new.self ≡ map plain_item c.loop-r.items ++ plain_item item ∷ [] = ap (λ (zs : List coded.Content). map plain_item zs) c.in_ok-push.ensures.ok ∙ map-append plain_item c.loop-r.items (item ∷ []) in
     record {
       same = stays_then a m (shelf_of c.content_of.new.entries) inv.same c.content_of.ensures.same;
       told =
-          subst (λ (qs : List ℕ). TellsAll a qs (map told_item c.push.new.self)) (sym more)
-          (subst (λ (zs : List Content). TellsAll a (take i rs ++ r ∷ []) zs) (sym all) (tells_more a (take i rs) (map told_item c.loop-r.items) r (told_item item) inv.told one));
+          subst (λ (qs : List ℕ). TellsAll a qs (map plain_item c.push.new.self)) (sym more)
+          (subst (λ (zs : List Content). TellsAll a (take i rs ++ r ∷ []) zs) (sym all) (tells_more a (take i rs) (map plain_item c.loop-r.items) r (plain_item item) inv.told one));
       faults = calm_ok _ _ item c.in_ok-content_of.ensures.cause ∙ inv.faults;
     }

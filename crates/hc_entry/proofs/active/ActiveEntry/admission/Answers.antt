@@ -7,5 +7,5 @@ use Rattle.hc_entry.proofs.active.ActiveEntry.admission.Goals as goal
 pub returns : goal.returns
 returns c =
     c.admission_by.ensures ∙ rw (c.first_of.ensures, c.as_slice.ensures.value)
-    (admission-map c.self.inside.kind c.self.inside.consumers.items c.args.ranged c.args.holes c.self.invariant.rising
+    (admission-map c.self.inside.kind c.self.inside.consumers.items c.args.ranged c.args.holes c.self.invariant.ascending
     ∙ ap (λ (u : Users). admission_of u.bound c.args.ranged c.args.holes) c.self.view_is)

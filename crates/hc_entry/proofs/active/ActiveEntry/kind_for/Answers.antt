@@ -11,7 +11,7 @@ by c = c.kind_by.ensures ∙ ap kind_by (c.admission_by.ensures ∙ ap (λ o. ad
 
 pub returns-clause-kind : goal.returns-clause-kind
 returns-clause-kind c =
-    by c ∙ ap kind_by (admission-map c.self.inside.kind c.self.inside.consumers.items c.args.ranged c.args.holes c.self.invariant.rising
+    by c ∙ ap kind_by (admission-map c.self.inside.kind c.self.inside.consumers.items c.args.ranged c.args.holes c.self.invariant.ascending
     ∙ ap (λ (u : Users). admission_of u.bound c.args.ranged c.args.holes) c.self.view_is)
 
 pub returns-clause-same : goal.returns-clause-same

@@ -7,4 +7,4 @@ use Rattle.hc_entry.proofs.active.ActiveEntry.least_bound.Goals as goal
 pub returns : goal.returns
 returns c =
     c.first_of.ensures ∙ rw c.as_slice.ensures.value
-    (sym (least_bound-map c.self.inside.kind c.self.inside.consumers.items c.self.invariant.rising) ∙ ap (λ (u : Users). least_bound u.bound) c.self.view_is)
+    (sym (least_bound-map c.self.inside.kind c.self.inside.consumers.items c.self.invariant.ascending) ∙ ap (λ (u : Users). least_bound u.bound) c.self.view_is)

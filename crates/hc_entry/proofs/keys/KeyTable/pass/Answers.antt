@@ -1,4 +1,4 @@
-use Rattle.hc_entry.specs.Lines.{passed}
+use Rattle.hc_entry.specs.Lines.{line_after_pass}
 use Rattle.hc_entry.specs.Kept.{line_in, on_line}
 use Rattle.hc_entry.specs.KeyRows.{rows_of}
 use Rattle.hc_entry.proofs.OrderLemmas.{in-passed, orderly-passed}
@@ -12,8 +12,8 @@ invariant_of-self c =
     let d = c.args.c in
     let k = rows_of t.rows key in
     record {
-      tidy = tidy-some (on_line (passed d)) key t.rows c.reseat_in.new.rows c.reseat_in.ensures t.tidy
-          (awaited-some d (on_line (passed d) k) (in-passed d (line_in k)));
-      orderly = orderly-changes (on_line (passed d)) key t.rows c.reseat_in.new.rows c.reseat_in.ensures t.orderly
+      tidy = tidy-some (on_line (line_after_pass d)) key t.rows c.reseat_in.new.rows c.reseat_in.ensures t.tidy
+          (awaited-some d (on_line (line_after_pass d) k) (in-passed d (line_in k)));
+      orderly = orderly-changes (on_line (line_after_pass d)) key t.rows c.reseat_in.new.rows c.reseat_in.ensures t.orderly
           (orderly-passed d (line_in k) (t.orderly key));
     }

@@ -1,7 +1,7 @@
 use Rattle.std.proofs.Common.{◌≡◌, ◌+◌, refl, sym, ◌∙◌}
 use Rattle.std.proofs.lemmas.Bool.{eqb-true, both_ways}
 use Rattle.http_header.specs.Token.{lowercase}
-use Rattle.hc_fields.specs.FieldList.{put, without}
+use Rattle.hc_fields.specs.FieldList.{field_list_with, without}
 use Rattle.hc_fields.specs.Marks.{fields_at}
 use Rattle.hc_fields.proofs.Edits.{sorted-without, values_of-put_same, values_of-put_other, values_of-without_same, values_of-without_other}
 use Rattle.hc_fields.proofs.Kept.{IsPut, length-lowercase, set_is, IsKept-set}
@@ -11,7 +11,7 @@ use Rattle.hc_fields.proofs.fields.Fields.set.Goals.{then-self, else-self}
 set : (c : goal.After-self-2-1) → IsPut c.self.inside.text.items c.self.inside.marks.items (lowercase c.args.name.now) c.args.value.now c.place_of-place.result.start (c.place_of-place.result.start + c.place_of-place.result.count) c.put_line.new.text.items c.put_line.new.marks.items
 set c = record { text_is = c.in_ok-put_line.ensures.text; marks_are = c.in_ok-put_line.ensures.marks ∙ rw (length-lowercase c.args.name.now, c.self.inside.text.ok.0) refl }
 
-fields-set : (c : goal.After-self-2-1) → fields_at c.put_line.new.text.items c.put_line.new.marks.items ≡ put (lowercase c.args.name.now) c.args.value.now (without (lowercase c.args.name.now) (fields_at c.self.inside.text.items c.self.inside.marks.items))
+fields-set : (c : goal.After-self-2-1) → fields_at c.put_line.new.text.items c.put_line.new.marks.items ≡ field_list_with (lowercase c.args.name.now) c.args.value.now (without (lowercase c.args.name.now) (fields_at c.self.inside.text.items c.self.inside.marks.items))
 fields-set c =
     let place = rw (c.deref.ensures.value, c.deref-2.ensures.value) at c.place_of-place.ensures in
     set_is c.self.inside.text.items c.self.inside.marks.items (lowercase c.args.name.now) c.args.value.now c.place_of-place.result c.put_line.new.text.items c.put_line.new.marks.items c.self.invariant.marked.lines c.self.invariant.marked.list.sorted place (set c)

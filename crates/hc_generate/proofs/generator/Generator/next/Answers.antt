@@ -1,5 +1,5 @@
 use Rattle.std.proofs.Common.{sym, ◌∙◌}
-use Rattle.hc_generate.proofs.Going.{short_made, modest_made, later_made}
+use Rattle.hc_generate.proofs.Going.{short_made, within_limits_made, later_made}
 use Rattle.hc_generate.proofs.generator.Generator.next.Goals as goal
 
 pub returns-else-is_err-clause-short : goal.returns-else-is_err-clause-short
@@ -8,5 +8,5 @@ returns-else-is_err-clause-short c = short_made _ _ _ c.round-made.result c.roun
 pub returns-else-is_err-clause-later : goal.returns-else-is_err-clause-later
 returns-else-is_err-clause-later c = later_made _ _ _ c.round-made.result (sym c.is_err.ensures.value ∙ c.if-is_err.false) c.round-made.ensures.ok
 
-pub returns-else-is_err-clause-modest : goal.returns-else-is_err-clause-modest
-returns-else-is_err-clause-modest c = modest_made _ _ _ c.round-made.result c.round-made.ensures.ok
+pub returns-else-is_err-clause-within_limits : goal.returns-else-is_err-clause-within_limits
+returns-else-is_err-clause-within_limits c = within_limits_made _ _ _ c.round-made.result c.round-made.ensures.ok

@@ -11,10 +11,10 @@ returns-in-ChunkEnd-clause-moves c =
 pub returns-in-ChunkReturn-clause-moves : goal.returns-in-ChunkReturn-clause-moves
 returns-in-ChunkReturn-clause-moves c =
     let self = c.expect-in-ChunkReturn.new.self in
-    let told = c.expect-in-ChunkReturn.ensures in
+    let tokens = c.expect-in-ChunkReturn.ensures in
     let none = rw c.in-ChunkReturn.is at c.requires.sound in
     rw c.in-ChunkReturn.is
-    (chunk_return_moves self.no_body self.state self.held.items c.args.rest.now c.args.most c.expect-in-ChunkReturn.result c.requires.some told.expects told.state (told.held ∙ none))
+    (chunk_return_moves self.no_body self.state self.held.items c.args.rest.now c.args.most c.expect-in-ChunkReturn.result c.requires.some tokens.expects tokens.state (tokens.held ∙ none))
 
 pub returns-in-Trailing-clause-moves : goal.returns-in-Trailing-clause-moves
 returns-in-Trailing-clause-moves c =

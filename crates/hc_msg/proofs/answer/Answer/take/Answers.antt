@@ -19,8 +19,8 @@ loop-used-preserved c =
     let piece = c.args.piece.now in
     let used = c.loop-used.used in
     let all : take (length piece - used) (drop used piece) ≡ drop used piece = take_all (length piece - used) (drop used piece) (omega (arith, length-drop used piece)) in
-    let told = rw c.in-Passes.is at c.in_ok-n.ensures.moves in
-    let moves = rw all at told in
+    let tokens = rw c.in-Passes.is at c.in_ok-n.ensures.moves in
+    let moves = rw all at tokens in
     record {
       leads = passes_on (reading_of c.args.self.now) (reading_of c.loop-used.self) (reading_of c.step.new.self) piece used c.in-Passes.n c.loop-used.invariant.leads moves.2;
       sound = c.in_ok-n.ensures.sound;
@@ -32,6 +32,6 @@ returns-in-Gives-clause-takes c =
     let piece = c.args.piece.now in
     let used = c.loop-used.used in
     let all : take (length piece - used) (drop used piece) ≡ drop used piece = take_all (length piece - used) (drop used piece) (omega (arith, length-drop used piece)) in
-    let told = rw c.in-Gives.is at c.in_ok-n.ensures.moves in
-    let moves = rw all at told in
+    let tokens = rw c.in-Gives.is at c.in_ok-n.ensures.moves in
+    let moves = rw all at tokens in
     gives_on (reading_of c.args.self.now) (reading_of c.loop-used.self) (reading_of c.step.new.self) piece used c.in-Gives.n c.args.most c.in-Gives.part c.loop-used.invariant.within c.loop-used.invariant.leads moves

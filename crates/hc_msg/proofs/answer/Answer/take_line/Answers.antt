@@ -9,11 +9,11 @@ pub returns-in_err-at-clause-moves : goal.returns-in_err-at-clause-moves
 returns-in_err-at-clause-moves c = λ most.
     let e = c.in_err-at.field-0.0 in
     let same : c.from_residual.result ≡ Err e = search rules in
-    let told = rw c.as_slice.ensures.value at c.in_err-at.ensures in
-    rw same (line_too_long c.args.self.now.held.items c.args.rest.now most e Done told.0 told.1)
+    let tokens = rw c.as_slice.ensures.value at c.in_err-at.ensures in
+    rw same (line_too_long c.args.self.now.held.items c.args.rest.now most e Done tokens.0 tokens.1)
 
 pub returns-in_ok-extend_from_slice-in-None-clause-moves : goal.returns-in_ok-extend_from_slice-in-None-clause-moves
 returns-in_ok-extend_from_slice-in-None-clause-moves c = λ most.
     let found = rw c.in-None.is at c.in_ok-at.ensures in
-    let told = rw c.as_slice.ensures.value at found in
-    line_stays c.args.self.now.held.items c.args.rest.now c.extend_from_slice.new.self.items most _ told.0 told.1 (search rules) (ap (λ (s : State). reading_by c.args.self.now.no_body s c.extend_from_slice.new.self.items) c.requires.sizing) c.requires.some
+    let tokens = rw c.as_slice.ensures.value at found in
+    line_stays c.args.self.now.held.items c.args.rest.now c.extend_from_slice.new.self.items most _ tokens.0 tokens.1 (search rules) (ap (λ (s : State). reading_by c.args.self.now.no_body s c.extend_from_slice.new.self.items) c.requires.sizing) c.requires.some

@@ -27,4 +27,4 @@ returns g c =
     let held = standing c.args.self.now.shelved c.args.r row there in
     let is : c.used_by-size.result ≡ 32768 + size held.held.cells = c.used_by-size.ensures ∙ ap weigh held.there in
     let stored : c.used_by-size.result - 32768 ≡ size held.held.cells = omega arith in
-    rw (kept-there c.args.self.now.shelved c.args.r row there, c.view.ensures) (ap Some (ap (view_of_row row) stored ∙ view-is row held.held held.told))
+    rw (kept-there c.args.self.now.shelved c.args.r row there, c.view.ensures) (ap Some (ap (view_of_row row) stored ∙ view-is row held.held held.summary))

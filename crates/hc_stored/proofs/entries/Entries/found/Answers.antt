@@ -1,7 +1,7 @@
 use Rattle.std.proofs.Common.{◌≡◌, ℕ, ◌<◌, ◌^◌, Some, refl, ap, ◌∙◌, rules}
 use Rattle.hc_record.specs.Plain.{plain}
 use Rattle.hc_store.specs.Slots.{Slots, bare}
-use Rattle.hc_stored.specs.Heads.{told_of}
+use Rattle.hc_stored.specs.Heads.{summary_of}
 use Rattle.hc_stored.specs.Rows.{Row, rows_of, founded_row, with_row}
 use Rattle.hc_stored.proofs.ShelfLemmas.{added-shelved, added-kept, same-shelved, same-slots, slots-back}
 use Rattle.hc_stored.proofs.RowLemmas.{shelved-founded}
@@ -23,7 +23,7 @@ invariant_of-self-in_default-keep_in g c =
     let e = a.self.now in
     let n = c.in_ok-slot.slot.n in
     let number : n < 2 ^ 64 = search rules in
-    let new = founded_row a.key n (told_of (plain a.head.now)) a.c a.first a.writer in
+    let new = founded_row a.key n (summary_of (plain a.head.now)) a.c a.first a.writer in
     let adds : (q : ℕ) → rows_of c.keep_in.new.rows q ≡ with_row a.r (Some new) (rows_of e.rows) q = λ q. c.in_default-keep_in.ensures.ok q ∙ ap (λ (row : Row). with_row a.r (Some row) (rows_of e.rows) q) c.in-Ok.ensures in
     record {
       limited = c.in_ok-slot.ensures.limits ∙ e.limited;
@@ -39,7 +39,7 @@ returns-clause-ok g c =
     let a = c.args in
     let e = a.self.now in
     let n = c.in_ok-slot.slot.n in
-    let new = founded_row a.key n (told_of (plain a.head.now)) a.c a.first a.writer in
+    let new = founded_row a.key n (summary_of (plain a.head.now)) a.c a.first a.writer in
     let adds : (q : ℕ) → rows_of c.keep_in.new.rows q ≡ with_row a.r (Some new) (rows_of e.rows) q = λ q. c.in_default-keep_in.ensures.ok q ∙ ap (λ (row : Row). with_row a.r (Some row) (rows_of e.rows) q) c.in-Ok.ensures in
     record {
       kept = added-kept e.shelved a.r new (bare (plain a.head.now)) c.in_ok-slot.ensures.new adds (λ m. ap (λ (s : Slots). s m) c.in_ok-slot.ensures.ok);

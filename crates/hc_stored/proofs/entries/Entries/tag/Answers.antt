@@ -1,6 +1,6 @@
 use Rattle.std.proofs.Common.{sym, ap}
 use Rattle.std.specs.Prelude.{option_map}
-use Rattle.hc_stored.specs.Heads.{Told}
+use Rattle.hc_stored.specs.Heads.{Summary}
 use Rattle.hc_stored.specs.Rows.{row_of}
 use Rattle.hc_stored.proofs.ShelfLemmas.{standing, kept-there}
 use Rattle.hc_stored.proofs.entries.Entries.tag.Goals as goal
@@ -10,4 +10,4 @@ returns-clause-value g c =
     let there = ap (option_map row_of) (sym c.in_ok-get.ensures.value) in
     let row = row_of c.in_ok-get.field-0.now in
     let held = standing c.args.self.now.shelved c.args.r row there in
-    rw (kept-there c.args.self.now.shelved c.args.r row there, c.as_ref.ensures.value) (ap (λ (t : Told). t.tag) (sym held.told))
+    rw (kept-there c.args.self.now.shelved c.args.r row there, c.as_ref.ensures.value) (ap (λ (t : Summary). t.tag) (sym held.summary))

@@ -3,11 +3,11 @@ use Rattle.hc_store.specs.Slots.{Slots}
 use Rattle.hc_stored.specs.Rows.{rows_of, unused_by}
 use Rattle.hc_stored.proofs.ShelfLemmas.{updated-shelved, dropped-shelved, kept-slots}
 use Rattle.hc_stored.proofs.RowLemmas.{shelved-left}
-use Rattle.hc_stored.proofs.CurrentLemmas.{user-slot, rising-users, slot-before, row-after, gone-after, kept-left, gone-left, ordered-same, ordered-left}
+use Rattle.hc_stored.proofs.CurrentLemmas.{user-slot, ascending-users, slot-before, row-after, gone-after, kept-left, gone-left, ordered-same, ordered-left}
 use Rattle.hc_stored.proofs.entries.Entries.unbind.Goals as goal
 
 pub unbind_in-requires : goal.unbind_in-requires
-unbind_in-requires g c = rising-users c.args.self.now.shelved c.args.r
+unbind_in-requires g c = ascending-users c.args.self.now.shelved c.args.r
 
 pub invariant_of-self : goal.invariant_of-self
 invariant_of-self g c =

@@ -60,9 +60,9 @@ above_first n x xs up there = elim (bool_cases (nat_lt x n)) [
 
 -- ONE MORE AT THE END
 
-pub rises_last : (x : ℕ) (xs : List ℕ) → is_sorted itself xs ≡ true → ((n : ℕ) → is_among n xs ≡ true → n < x) → is_sorted itself (xs ++ (x ∷ [])) ≡ true
-rises_last x [] up low = refl
-rises_last x (y ∷ ys) up low = above_last y ys up (low y (among_first y ys)) (λ n there. low n (among_later y n ys there))
+pub ascends_last : (x : ℕ) (xs : List ℕ) → is_sorted itself xs ≡ true → ((n : ℕ) → is_among n xs ≡ true → n < x) → is_sorted itself (xs ++ (x ∷ [])) ≡ true
+ascends_last x [] up low = refl
+ascends_last x (y ∷ ys) up low = above_last y ys up (low y (among_first y ys)) (λ n there. low n (among_later y n ys there))
   where
     above_last : (m : ℕ) (zs : List ℕ) → above itself m zs ≡ true → m < x → ((n : ℕ) → is_among n zs ≡ true → n < x) → above itself m (zs ++ (x ∷ [])) ≡ true
     above_last m [] high lt below = let test : nat_lt m x ≡ true = grind (arith, nat_tests, lt) in rw test refl
@@ -91,7 +91,7 @@ among_below n m (x ∷ xs) down there = elim (among_cases n x xs there) [
   | is_later later ↦ (let lt : x < m = down.0 in let low = among_below n x xs down.1 later in omega arith)
 ]
 
-pub reverse_rises : (m : ℕ) (xs : List ℕ) → Descends m xs → is_sorted itself (reverse xs) ≡ true
-reverse_rises m [] down = refl
-reverse_rises m (x ∷ xs) down =
-    ap (is_sorted itself) (reverse-append (x ∷ []) xs) ∙ rises_last x (reverse xs) (reverse_rises x xs down.1) (λ n there. among_below n x xs down.1 (sym (among-reverse n xs) ∙ there))
+pub reverse_ascends : (m : ℕ) (xs : List ℕ) → Descends m xs → is_sorted itself (reverse xs) ≡ true
+reverse_ascends m [] down = refl
+reverse_ascends m (x ∷ xs) down =
+    ap (is_sorted itself) (reverse-append (x ∷ []) xs) ∙ ascends_last x (reverse xs) (reverse_ascends x xs down.1) (λ n there. among_below n x xs down.1 (sym (among-reverse n xs) ∙ there))

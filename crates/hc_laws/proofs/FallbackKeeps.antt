@@ -29,7 +29,7 @@ use Rattle.hc_model.specs.Reading.{reads, own_open}
 use Rattle.hc_model.specs.Rows.{Tables, Exchange, Consumer}
 use Rattle.hc_model.specs.Runs.{may_stand}
 use Rattle.hc_model.specs.Sound.{Sound}
-use Rattle.hc_model.specs.Tables.{after_accepted, after_denied, begun}
+use Rattle.hc_model.specs.Tables.{after_accepted, after_denied, first_tables}
 use Rattle.hc_model.specs.Entries.{Contents}
 use Rattle.hc_model.proofs.Basics.{false_true, none_some}
 use Rattle.hc_model.proofs.ExchangeFrom.{IsHeaded}
@@ -38,10 +38,10 @@ use Rattle.hc_model.proofs.MoveBy.{MoveBy, IsHeard, move_by}
 use Rattle.hc_model.proofs.MoveBy as by_move
 use Rattle.hc_laws.proofs.PastApart.{IsHeadedRow, unfounded_kept}
 use Rattle.hc_model.proofs.PieceKeeps.{eq_cases, some_inj}
-use Rattle.hc_model.proofs.Pens.{same_row}
+use Rattle.hc_model.proofs.ExclusiveWriters.{same_row}
 use Rattle.hc_model.proofs.PollActs.{ToOne, to_one}
 use Rattle.hc_model.proofs.PollActs as acts_to
-use Rattle.hc_laws.proofs.ShownStays.{IsIdle, StaysOrIdle, IsAside, Lands, shown_stays, shown_at}
+use Rattle.hc_laws.proofs.ShownStays.{IsIdle, StaysOrIdle, IsFallback, Lands, shown_stays, shown_at}
 use Rattle.hc_laws.proofs.ShownStays as stands
 use Rattle.hc_model.proofs.TurnPlaces.{is_after}
 
@@ -203,7 +203,7 @@ module _ (limits : Limits) (t : Tables) (now : ℕ) (flaw : Flaw) (s : Sound t) 
     pub shown_headed : IsHeadedRow t y
     shown_headed = past_headed (o.past c y k row at off)
 
-  module _ (stand : may_stand limits t (entry_of limits t now ev flaw) ≡ true) (a : IsAside t) where
+  module _ (stand : may_stand limits t (entry_of limits t now ev flaw) ≡ true) (a : IsFallback t) where
     headed_by : (c y : ℕ) (u : Consumer) (b : Bool) (k : Consumer) → t.consumer c ≡ Some k → k.shown ≡ b → now_on.consumer c ≡ Some u → u.place ≡ place.Direct y → u.shown ≡ true → IsHeadedRow now_on y
     headed_by c y u true k row shown after at on = by_place (shown_stays limits t now flaw s o ev goes a c k row shown u after)
       where
@@ -240,8 +240,8 @@ module _ (limits : Limits) (t : Tables) (now : ℕ) (flaw : Flaw) (s : Sound t) 
     unturned_row c x u None none after at on = false_true (sym (new_unshown t e c (t.consumer c) u none after) ∙ on)
     unturned_row c x u (Some k) row after at on = unturned_by c x u k.shown k row refl after at on
 
-    pub aside_kept : IsAside now_on
-    aside_kept = record {
+    pub fallback_kept : IsFallback now_on
+    fallback_kept = record {
       apart = record {
         unfounded = unfounded_kept limits t now flaw s o ev goes stand a.apart;
         headed = λ c y u after at on. headed_row c y u (t.consumer c) refl after at on;
@@ -250,8 +250,8 @@ module _ (limits : Limits) (t : Tables) (now : ℕ) (flaw : Flaw) (s : Sound t) 
       ended = λ x u after over. shut_after t e x (t.exchange x) u (a.ended x) after over;
     }
 
-pub aside_begun : (contents : Contents) → IsAside (begun contents)
-aside_begun contents = record {
+pub fallback_begun : (contents : Contents) → IsFallback (first_tables contents)
+fallback_begun contents = record {
   apart = record {
     unfounded = λ c x k row at. absurd (none_some k row);
     headed = λ c x k row at shown. absurd (none_some k row);
@@ -260,8 +260,8 @@ aside_begun contents = record {
   ended = λ x w row over. absurd (none_some w row);
 }
 
-pub aside_denied : (t : Tables) (e : Entry) → IsAside t → IsAside (after_denied t e)
-aside_denied t e a = record {
+pub fallback_denied : (t : Tables) (e : Entry) → IsFallback t → IsFallback (after_denied t e)
+fallback_denied t e a = record {
   apart = record {
     unfounded = a.apart.unfounded;
     headed = λ c x k row at shown. let h = a.apart.headed c x k row at shown in record { w = h.w; row = h.row; headed = h.headed };

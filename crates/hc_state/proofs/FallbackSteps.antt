@@ -20,7 +20,7 @@ use Rattle.hc_state.specs.Kept.{KeepsConsumer, KeepsExchange, held_for}
 use Rattle.hc_state.specs.Lines.{KeepsKey}
 use Rattle.hc_state.specs.Stands.{RowsStand}
 use Rattle.hc_state.specs.Stored.{is_first}
-use Rattle.hc_state.proofs.Asides.{IsAlike, same, aside, is_aside, held_alike, users_alike}
+use Rattle.hc_state.proofs.Fallbacks.{IsAlike, same, fallback, is_fallback, held_alike, users_alike}
 use Rattle.hc_state.proofs.ConsumerSteps.{all_kept_with}
 use Rattle.hc_state.proofs.OneOfEach.{entries_same}
 use Rattle.hc_state.proofs.Ties.{exchange_same, kept_row}
@@ -29,9 +29,9 @@ use Rattle.hc_state.proofs.Words.{same_or, eqb-same, eqb-other, false_true, is_t
 -- WHO CAME ALONE
 
 -- whoever reads nothing is bound to nothing
-pub first_aside : (t : Tables) (q : ℕ) (row : Option rows.Consumer) → is_aside row ≡ true → is_first t q row ≡ false
-first_aside t q None is = refl
-first_aside t q (Some k) is = by_place k.place refl
+pub first_fallback : (t : Tables) (q : ℕ) (row : Option rows.Consumer) → is_fallback row ≡ true → is_first t q row ≡ false
+first_fallback t q None is = refl
+first_fallback t q (Some k) is = by_place k.place refl
   where
     by_place : (p : Place) → k.place ≡ p → is_first t q (Some k) ≡ false
     by_place (place.Bound a lo hi by) at = false_true (sym (ap (λ z. not (reads z)) at) ∙ is)
@@ -44,7 +44,7 @@ first_aside t q (Some k) is = by_place k.place refl
 
 pub first_alike : (t : Tables) (q : ℕ) (o p : Option rows.Consumer) → IsAlike o p → is_first t q p ≡ is_first t q o
 first_alike t q o p (same is) = ap (is_first t q) is
-first_alike t q o p (aside was is) = first_aside t q p is ∙ sym (first_aside t q o was)
+first_alike t q o p (fallback was is) = first_fallback t q p is ∙ sym (first_fallback t q o was)
 
 -- HOW MANY ARE LIVE
 
@@ -89,7 +89,7 @@ module _ {B : Type 0} {g : Ghosts B} (r u : Rows B g) (t : Tables) (c : ℕ) (v 
 
   pub alike : (d : ℕ) → IsAlike (t.consumer d) (s.consumer d)
   alike d = elim (same_or c d) [
-    | inl e ↦ aside (rw (← e, row) (ap not was)) (rw (← e, here) (ap not is_now))
+    | inl e ↦ fallback (rw (← e, row) (ap not was)) (rw (← e, here) (ap not is_now))
     | inr ne ↦ same (others d (λ e. ne (sym e)))
   ]
 
@@ -103,8 +103,8 @@ module _ {B : Type 0} {g : Ghosts B} (r u : Rows B g) (t : Tables) (c : ℕ) (v 
   held x None = refl
   held x (Some z) = held_alike t s alike x z refl
 
-  pub stands_aside : RowsStand u s
-  stands_aside = record {
+  pub falls_back : RowsStand u s
+  falls_back = record {
     limits = rw (entries, limits) stands.limits;
     received = as_received received stands.received;
     last_start = last ∙ stands.last_start;

@@ -3,7 +3,7 @@ use Rattle.std.specs.Prelude.{codes}
 use Rattle.hc_fields.specs.FieldList.{values_of}
 use Rattle.hc_fields.specs.FieldElements.{elements_in}
 use Rattle.hc_rules.proofs.LengthFolds.{one_more, told_is}
-use Rattle.hc_rules.proofs.length.length_told.Goals as goal
+use Rattle.hc_rules.proofs.length.content_length_of.Goals as goal
 
 pub loop-i-init : goal.loop-i-init
 loop-i-init c = told_is (elements_in (codes "content-length") c.args.fields.now)

@@ -11,7 +11,7 @@ use hc_text::NoMemory;
 
 /// What a stored head tells that is asked often, so that its record isn't read for it.
 #[derive(Drop)]
-pub(crate) struct HeadTold {
+pub(crate) struct HeadSummary {
     pub(crate) facts: HeadFacts,
     pub(crate) status: u16,
     pub(crate) kind: Kind,
@@ -23,20 +23,20 @@ pub(crate) struct HeadTold {
     ghost strong: { ForSome tag (λ tag. tag.weak ≡ false) },
 }
 
-impl HeadTold {
-    ghost use Rattle.hc_stored.specs.Heads.{told_of};
-    ghost use Rattle.hc_stored.specs.Rows.{told_in};
+impl HeadSummary {
+    ghost use Rattle.hc_stored.specs.Heads.{summary_of};
+    ghost use Rattle.hc_stored.specs.Rows.{summary_in};
 
     /// What the head tells.
-    pub(crate) fn of(head: &StoredHead) -> Result<HeadTold, NoMemory>
+    pub(crate) fn of(head: &StoredHead) -> Result<HeadSummary, NoMemory>
         requires { head.now.requested ≤ head.now.answered }
-        ensures { IfOk result (λ told. told_in told ≡ told_of (plain head.now)) }
+        ensures { IfOk result (λ summary. summary_in summary ≡ summary_of (plain head.now)) }
     {
         let tag = match &head.joining {
             Some(tag) => Some(tag.copy()?),
             None => None,
         };
-        Ok(HeadTold {
+        Ok(HeadSummary {
             facts: HeadFacts::of(head),
             status: head.status,
             kind: head.kind,

@@ -5,14 +5,14 @@ use Rattle.hc_model.specs.Entries as model
 use Rattle.hc_contents.specs.declared.contents.Content.{Content}
 use Rattle.hc_contents.specs.declared.contents.Contents.{Contents}
 
-abbrev pub told_item : Content → model.Content
-told_item item = record { key = item.key; r = item.r; head = plain item.head; runs = item.runs }
+abbrev pub plain_item : Content → model.Content
+plain_item item = record { key = item.key; r = item.r; head = plain item.head; runs = item.runs }
 
 -- as plain data
-abbrev pub told : Contents → model.Contents
-told contents = record {
+abbrev pub plain_contents : Contents → model.Contents
+plain_contents contents = record {
   now = contents.now;
   last_consumer = contents.last_consumer;
   next_exchange = contents.next_exchange;
-  items = map told_item contents.items;
+  items = map plain_item contents.items;
 }

@@ -3,7 +3,7 @@ use Rattle.hc_fields.specs.FieldElements.{elements_in}
 use Rattle.hc_rules.proofs.LengthFolds.{told_is}
 use Rattle.hc_head.specs.Held.{fields_in}
 use Rattle.hc_head.proofs.CodingFolds.{length_next}
-use Rattle.hc_head.proofs.lengths.length_told.Goals as goal
+use Rattle.hc_head.proofs.lengths.content_length_of.Goals as goal
 
 pub loop-header-init : goal.loop-header-init
 loop-header-init c = told_is (elements_in (codes "content-length") (fields_in c.args.headers.now))

@@ -35,16 +35,16 @@ stands_at end None = false
 stands_at end (Some k) = k.lo + k.given == end
 
 -- the least of those who are bound that stands where the last byte ends
-abbrev pub heir_of : Numbered Consumer → Option Kept → Option ℕ
-heir_of consumers None = None
-heir_of consumers (Some k) =
+abbrev pub detached_reader_of : Numbered Consumer → Option Kept → Option ℕ
+detached_reader_of consumers None = None
+detached_reader_of consumers (Some k) =
     least (filter (λ c. stands_at k.reach (get nat_eq consumers c)) k.bound)
 
 -- WHAT BECOMES OF THEM
 
 -- the detached reader has the exchange for its own, and to each other this failure is due
-abbrev pub parted : Option ℕ → ℕ → Cause → ℕ → Consumer → Consumer
-parted heir x why c k = if is_number heir c then with_own x k else with_due why k
+abbrev pub after_parting : Option ℕ → ℕ → Cause → ℕ → Consumer → Consumer
+after_parting detached_reader x why c k = if is_number detached_reader c then with_own x k else with_due why k
 
 -- each of these changes by its number, every other is as it was, and the count stays
 pub record ChangesEach {A : Type 0} (old new : Numbered A) (among : ℕ → Bool)
@@ -72,13 +72,13 @@ pub record MayLoseShared (t : Tables) (r x : ℕ) (v : Representation) : Type 0 
 
 -- the tables once that is lost and let go: the survivor goes on with x, the others fail
 abbrev pub shared_loss : ℕ → ℕ → ℕ → Representation → Option ℕ → Tables → Tables
-shared_loss now r x v heir t =
-    let_go now r (with_representation r (Some (lost_to heir v)) (writing_lost r heir (Some x) t))
+shared_loss now r x v detached_reader t =
+    let_go now r (with_representation r (Some (lost_to detached_reader v)) (writing_lost r detached_reader (Some x) t))
 
 pub record LosesShared {B : Type 0} {g : Ghosts B} (u : Rows B g) (t : Tables) (now r x : ℕ)
-    (v : Representation) (heir : Option ℕ) : Type 0 where
-  pub heir_is : heir ≡ survivor t r v
-  pub rows : RowsStand u (shared_loss now r x v heir t)
+    (v : Representation) (detached_reader : Option ℕ) : Type 0 where
+  pub detached_reader_is : detached_reader ≡ survivor t r v
+  pub rows : RowsStand u (shared_loss now r x v detached_reader t)
 
 -- and x is closed, where nobody goes on with it
 pub record LosesWriting {B : Type 0} {g : Ghosts B} (u : Rows B g) (t : Tables)

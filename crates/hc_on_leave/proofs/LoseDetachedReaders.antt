@@ -33,8 +33,8 @@ use Rattle.hc_model.specs.Writers.{survivor, member, offset_in}
 use Rattle.hc_model.proofs.HoleLemmas.{first_from}
 use Rattle.hc_state.specs.declared.consumer.Consumer.{Consumer}
 use Rattle.hc_state.specs.declared.rows.Rows.{Rows}
-use Rattle.hc_state.specs.Heirs.{ChangesEach, MayLoseShared, LosesShared, heir_of, parted, stands_at}
-use Rattle.hc_state.specs.Kept.{KeepsConsumer, unstored, held_alone, first_lacking}
+use Rattle.hc_state.specs.DetachedReaders.{ChangesEach, MayLoseShared, LosesShared, detached_reader_of, after_parting, stands_at}
+use Rattle.hc_state.specs.Kept.{KeepsConsumer, unstored_bytes, held_alone, first_lacking}
 use Rattle.hc_state.specs.Stands.{RowsStand}
 use Rattle.hc_state.specs.Stopped.{HoldsNothing}
 use Rattle.hc_state.specs.Stored.{IsEntry, KeepsEntry}
@@ -143,8 +143,8 @@ module _ {B : Type 0} {g : Ghosts B} (r : Rows B g) (t : Tables) (stands : RowsS
       ap (λ (n : ℕ). (n == v.reach) && is_bound q (Some u)) from
 
   -- whom the code finds is the survivor
-  pub heir_is : heir_of r.consumers (Some e) ≡ survivor t q v
-  heir_is = least_alike (filter (λ c. stands_at e.reach (get nat_eq r.consumers c)) e.bound) (map (λ (m : Member). m.c) (filter (members.stands_at v.reach) (map (member t) (bound t q)))) (λ c.
+  pub detached_reader_is : detached_reader_of r.consumers (Some e) ≡ survivor t q v
+  detached_reader_is = least_alike (filter (λ c. stands_at e.reach (get nat_eq r.consumers c)) e.bound) (map (λ (m : Member). m.c) (filter (members.stands_at v.reach) (map (member t) (bound t q)))) (λ c.
       filter_in (λ d. stands_at e.reach (get nat_eq r.consumers d)) c e.bound
       ∙ (ap₂ (λ (n : ℕ) (b : Bool). stands_at n (get nat_eq r.consumers c) && b) (is.reach kept) (is.bound c)
       ∙ (stood_as c (get nat_eq r.consumers c) (t.consumer c) (stands.consumers c)
@@ -179,7 +179,7 @@ module _ (t : Tables) (q x : ℕ) (v : Representation) (loses : MayLoseShared t 
       ap (λ (n : ℕ). n + k.given) (lo_same k.place)
       ∙ eq_true (offset t k) v.reach (sym (ap (λ (o : Option rows.Consumer). offset_in t o == v.reach) row) ∙ and_first _ _ (survivor_among t q c v is))
 
-  nothing_by : (y : ℕ) (w : Exchange) (u : rows.Consumer) → t.exchange y ≡ Some w → offset z u ≡ v.reach → u.own ≡ Some x → unstored z y w v (Some u) ≡ []
+  nothing_by : (y : ℕ) (w : Exchange) (u : rows.Consumer) → t.exchange y ≡ Some w → offset z u ≡ v.reach → u.own ≡ Some x → unstored_bytes z y w v (Some u) ≡ []
   nothing_by y w u at stands_there mine = by_test (nat_eq x y) refl
     where
       all : x ≡ y → drop (first_lacking z w v u - base w) w.body ≡ []
@@ -190,7 +190,7 @@ module _ (t : Tables) (q x : ℕ) (v : Representation) (loses : MayLoseShared t 
           let enough : length w.body ≤ first_lacking z w v u - base w = omega (arith, ends, from, stands_there) in
           drop_all (first_lacking z w v u - base w) w.body enough
 
-      by_test : (b : Bool) → nat_eq x y ≡ b → unstored z y w v (Some u) ≡ []
+      by_test : (b : Bool) → nat_eq x y ≡ b → unstored_bytes z y w v (Some u) ≡ []
       by_test true on = by_bound (is_bound_place (family y w) u.place && is_number u.own y)
         where
           by_bound : (b : Bool) → (if b then drop (first_lacking z w v u - base w) w.body else []) ≡ []
@@ -201,43 +201,43 @@ module _ (t : Tables) (q x : ℕ) (v : Representation) (loses : MayLoseShared t 
           ap (λ b. if b then drop (first_lacking z w v u - base w) w.body else []) (then_false (is_bound_place (family y w) u.place) (is_number u.own y) other)
 
   pub nothing_held : HoldsNothing z q v (survivor t q v)
-  nothing_held y w at of_q = by_heir (survivor t q v) refl
+  nothing_held y w at of_q = by_detached_reader (survivor t q v) refl
     where
-      by_row : (c : ℕ) → survivor t q v ≡ Some c → (o : Option rows.Consumer) → t.consumer c ≡ o → unstored z y w v (option_map (if_bound q (left_with q (survivor t q v) (Some x) c)) o) ≡ []
+      by_row : (c : ℕ) → survivor t q v ≡ Some c → (o : Option rows.Consumer) → t.consumer c ≡ o → unstored_bytes z y w v (option_map (if_bound q (left_with q (survivor t q v) (Some x) c)) o) ≡ []
       by_row c is None row = refl
       by_row c is (Some k) row = by_bound (is_bound_place q k.place) refl
         where
-          heir_so : is_number (survivor t q v) c ≡ true
-          heir_so = ap (λ (o : Option ℕ). is_number o c) is ∙ eqb-same c
+          detached_reader_so : is_number (survivor t q v) c ≡ true
+          detached_reader_so = ap (λ (o : Option ℕ). is_number o c) is ∙ eqb-same c
 
-          by_bound : (b : Bool) → is_bound_place q k.place ≡ b → unstored z y w v (Some (if b then left_with q (survivor t q v) (Some x) c k else k)) ≡ []
-          by_bound true on = rw heir_so (nothing_by y w (record k { own = Some x }) at (at_end c k is row) refl)
+          by_bound : (b : Bool) → is_bound_place q k.place ≡ b → unstored_bytes z y w v (Some (if b then left_with q (survivor t q v) (Some x) c k else k)) ≡ []
+          by_bound true on = rw detached_reader_so (nothing_by y w (record k { own = Some x }) at (at_end c k is row) refl)
           by_bound false off =
               let apart_here : is_bound_place (family y w) k.place ≡ false = ap (λ (n : ℕ). is_bound_place n k.place) of_q ∙ off in
               rw apart_here refl
 
-      by_heir : (o : Option ℕ) → survivor t q v ≡ o → held_alone z y w v o ≡ []
-      by_heir None is = refl
-      by_heir (Some c) is = by_row c is (t.consumer c) refl
+      by_detached_reader : (o : Option ℕ) → survivor t q v ≡ o → held_alone z y w v o ≡ []
+      by_detached_reader None is = refl
+      by_detached_reader (Some c) is = by_row c is (t.consumer c) refl
 
 -- ALL OF IT
 
-pub loses_shared : {B : Type 0} {g : Ghosts B} (r mid u : Rows B g) (t : Tables) (now q x : ℕ) (v : Representation) (heir : Option ℕ) → MayLoseShared t q x v → RowsStand r t → is_kept (shelf_of r.entries) q ≡ true → heir ≡ heir_of r.consumers ((shelf_of r.entries).kept q)
+pub loses_shared : {B : Type 0} {g : Ghosts B} (r mid u : Rows B g) (t : Tables) (now q x : ℕ) (v : Representation) (detached_reader : Option ℕ) → MayLoseShared t q x v → RowsStand r t → is_kept (shelf_of r.entries) q ≡ true → detached_reader ≡ detached_reader_of r.consumers ((shelf_of r.entries).kept q)
     → mid.limits ≡ r.limits → mid.received ≡ r.received → mid.last_start ≡ r.last_start → mid.exchanges ≡ r.exchanges → mid.keys ≡ r.keys → mid.entries ≡ r.entries
-    → ChangesEach r.consumers mid.consumers (λ d. has itself d (bound_in ((shelf_of r.entries).kept q))) (parted heir x (cause.StoreWrite q))
-    → ((s : Tables) (p : Representation) → MayLetGo s → s.representation q ≡ Some p → p.alone ≡ None → HoldsNothing s q p heir → RowsStand mid s → RowsStand u (let_go now q (with_representation q (Some (lost_to heir p)) s)))
-    → LosesShared u t now q x v heir
-loses_shared r mid u t now q x v heir may stands there found limits received last exchanges same_keys same_entries changes loses = by_kept ((shelf_of r.entries).kept q) refl there
+    → ChangesEach r.consumers mid.consumers (λ d. has itself d (bound_in ((shelf_of r.entries).kept q))) (after_parting detached_reader x (cause.StoreWrite q))
+    → ((s : Tables) (p : Representation) → MayLetGo s → s.representation q ≡ Some p → p.alone ≡ None → HoldsNothing s q p detached_reader → RowsStand mid s → RowsStand u (let_go now q (with_representation q (Some (lost_to detached_reader p)) s)))
+    → LosesShared u t now q x v detached_reader
+loses_shared r mid u t now q x v detached_reader may stands there found limits received last exchanges same_keys same_entries changes loses = by_kept ((shelf_of r.entries).kept q) refl there
   where
-    by_kept : (o : Option Kept) → (shelf_of r.entries).kept q ≡ o → is_some o ≡ true → LosesShared u t now q x v heir
+    by_kept : (o : Option Kept) → (shelf_of r.entries).kept q ≡ o → is_some o ≡ true → LosesShared u t now q x v detached_reader
     by_kept None at on = false_true on
     by_kept (Some e) at on =
         let entry : IsEntry t q e v = subst (λ k. KeepsEntry t q k (Some v)) at (subst (KeepsEntry t q ((shelf_of r.entries).kept q)) may.there (stands.entries.each q)) in
-        let same : heir ≡ survivor t q v = found ∙ (ap (heir_of r.consumers) at ∙ heir_is r t stands may.may q v may.there may.kept e at) in
+        let same : detached_reader ≡ survivor t q v = found ∙ (ap (detached_reader_of r.consumers) at ∙ detached_reader_is r t stands may.may q v may.there may.kept e at) in
         let alike : (d : ℕ) → has itself d (bound_in ((shelf_of r.entries).kept q)) ≡ is_bound q (t.consumer d) = λ d. ap (λ (k : Option Kept). has itself d (bound_in k)) at ∙ entry.bound d in
         record {
-          heir_is = same;
-          rows = loses (writing_lost q heir (Some x) t) v (parts.may_part t q x heir may.may) may.there may.nobody
+          detached_reader_is = same;
+          rows = loses (writing_lost q detached_reader (Some x) t) v (parts.may_part t q x detached_reader may.may) may.there may.nobody
               (subst (λ (o : Option ℕ). HoldsNothing (writing_lost q o (Some x) t) q v o) (sym same) (nothing_held t q x v may))
-              (parts.stands_parted r mid t q x heir v (λ d. has itself d (bound_in ((shelf_of r.entries).kept q))) stands may.there may.nobody limits received last exchanges same_keys same_entries (λ d some. alike d) changes);
+              (parts.stands_parted r mid t q x detached_reader v (λ d. has itself d (bound_in ((shelf_of r.entries).kept q))) stands may.there may.nobody limits received last exchanges same_keys same_entries (λ d some. alike d) changes);
         }

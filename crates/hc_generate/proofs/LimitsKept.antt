@@ -6,15 +6,15 @@ use Rattle.std.specs.Prelude.{codes, bytes_eq, nat_le, nat_lt, ◌==◌, ◌&&�
 use Rattle.std.specs.Fmt.{decimal}
 use Rattle.std.specs.Str.Parse.{digits_value}
 use Rattle.hc_event.specs.declared.event.Request.{Request}
-use Rattle.hc_fields.specs.FieldList.{IsModest, size_of}
+use Rattle.hc_fields.specs.FieldList.{IsWithinLimits, size_of}
 use Rattle.hc_range.specs.declared.range.Asked.{Asked}
 use Rattle.hc_range.specs.declared.range.Asked.TheVariants as asked
 use Rattle.hc_range.specs.declared.range.Span.{Span}
-use Rattle.hc_range.specs.Spans.{resolved, content_range_text}
+use Rattle.hc_range.specs.Spans.{resolved_span, content_range_text}
 use Rattle.hc_validate.specs.Heads.{FieldPairs, with_one}
 use Rattle.hc_validate.specs.Showing.{with_length}
 use Rattle.hc_validate.specs.declared.origin.Answer.{Answer}
-use Rattle.hc_validate.specs.Origin.{IsOriginAnswer, IsAnswerOf, answer_by, cut_by, common, size_asked, size_at, size_in, path_of, part, whole, unsatisfied, may_cut}
+use Rattle.hc_validate.specs.Origin.{IsOriginAnswer, IsAnswerOf, answer_by, cut_by, common, size_asked, size_at, size_in, path_of, part, whole, unsatisfied_answer, may_cut}
 use Rattle.hc_validate.proofs.Common.{size-common}
 use Rattle.hc_validate.proofs.Numbers.{short-decimal}
 use Rattle.hc_validate.proofs.Settings.{length-with_one, size_of-with_one}
@@ -58,15 +58,15 @@ one_more name value fields count size more few small short =
     let larger = size_of-with_one name value fields in
     (omega (arith, few, longer), omega (arith, small, short, larger))
 
-modest : (fields : FieldPairs) (count size : ℕ) → (length fields ≤ count) × (size_of fields ≤ size) → count ≤ 64 → size ≤ 32768 → IsModest fields
-modest fields count size (fewer, smaller) few small = record { few = omega (arith, fewer, few); small = omega (arith, smaller, small) }
+within_limits : (fields : FieldPairs) (count size : ℕ) → (length fields ≤ count) × (size_of fields ≤ size) → count ≤ 64 → size ≤ 32768 → IsWithinLimits fields
+within_limits fields count size (fewer, smaller) few small = record { few = omega (arith, fewer, few); small = omega (arith, smaller, small) }
 
 module _ (n : ℕ) (fits : n ≤ 1048576) where
   n_fits : n < 2 ^ 64
   n_fits = omega (arith, fits)
 
-  modest_common : IsModest (common n)
-  modest_common = let size = size-common n n_fits in record { few = omega arith; small = omega (arith, size) }
+  within_limits_common : IsWithinLimits (common n)
+  within_limits_common = let size = size-common n n_fits in record { few = omega arith; small = omega (arith, size) }
 
   with_length_small : (m : ℕ) → m < 2 ^ 64 → (length (with_length (Some m) (common n)) ≤ 4) × (size_of (with_length (Some m) (common n)) ≤ 140)
   with_length_small m small = let short = short-decimal m small in one_more (codes "content-length") (decimal m) (common n) 3 100 40 (omega arith) (size-common n n_fits) (omega (arith, short))
@@ -77,50 +77,50 @@ module _ (n : ℕ) (fits : n ≤ 1048576) where
       let first_fits : span.lo < 2 ^ 64 = omega (arith, lo, fits) in
       simp length-append (omega (arith, short-decimal span.lo first_fits, short-decimal (span.hi - 1) last_fits, short-decimal n n_fits))
 
-  modest_part : (span : Span) → span.lo ≤ n → span.hi ≤ n → IsModest (part n span).response.fields
-  modest_part span lo hi =
+  within_limits_part : (span : Span) → span.lo ≤ n → span.hi ≤ n → IsWithinLimits (part n span).response.fields
+  within_limits_part span lo hi =
       let length_fits : span.hi - span.lo < 2 ^ 64 = omega (arith, hi, fits) in
       let (few, small) = with_length_small (span.hi - span.lo) length_fits in
       let short = range_short span lo hi in
-      modest (part n span).response.fields 5 240 (one_more (codes "content-range") (content_range_text span n) (with_length (Some (span.hi - span.lo)) (common n)) 4 140 100 few small (omega (arith, short))) (omega arith) (omega arith)
+      within_limits (part n span).response.fields 5 240 (one_more (codes "content-range") (content_range_text span n) (with_length (Some (span.hi - span.lo)) (common n)) 4 140 100 few small (omega (arith, short))) (omega arith) (omega arith)
 
-  modest_unsatisfied : IsModest (unsatisfied n).response.fields
-  modest_unsatisfied =
+  within_limits_unsatisfied : IsWithinLimits (unsatisfied_answer n).response.fields
+  within_limits_unsatisfied =
       let (few, small) = with_length_small 0 (omega arith) in
       let digits = short-decimal n n_fits in
       let short : length (codes "bytes */" ++ decimal n) ≤ 60 = simp length-append (omega (arith, digits)) in
-      modest (unsatisfied n).response.fields 5 240 (one_more (codes "content-range") (codes "bytes */" ++ decimal n) (with_length (Some 0) (common n)) 4 140 100 few small (omega (arith, short))) (omega arith) (omega arith)
+      within_limits (unsatisfied_answer n).response.fields 5 240 (one_more (codes "content-range") (codes "bytes */" ++ decimal n) (with_length (Some 0) (common n)) 4 140 100 few small (omega (arith, short))) (omega arith) (omega arith)
 
   -- what is resolved ends within the length
-  first_in : (lo hi : ℕ) (b : Bool) → nat_lt lo n ≡ b → hi ≤ n → IsModest (cut_by n (if b then Some (record { lo = lo; hi = hi }) else None)).response.fields
-  first_in lo hi true below within = modest_part (record { lo = lo; hi = hi }) (grind (arith, nat_tests, below)) within
-  first_in lo hi false off within = modest_unsatisfied
+  first_in : (lo hi : ℕ) (b : Bool) → nat_lt lo n ≡ b → hi ≤ n → IsWithinLimits (cut_by n (if b then Some (record { lo = lo; hi = hi }) else None)).response.fields
+  first_in lo hi true below within = within_limits_part (record { lo = lo; hi = hi }) (grind (arith, nat_tests, below)) within
+  first_in lo hi false off within = within_limits_unsatisfied
 
-  last_in : (m : ℕ) (b : Bool) → IsModest (cut_by n (if b then Some (record { lo = n - m; hi = n }) else None)).response.fields
-  last_in m true = modest_part (record { lo = n - m; hi = n }) (omega arith) (omega arith)
-  last_in m false = modest_unsatisfied
+  last_in : (m : ℕ) (b : Bool) → IsWithinLimits (cut_by n (if b then Some (record { lo = n - m; hi = n }) else None)).response.fields
+  last_in m true = within_limits_part (record { lo = n - m; hi = n }) (omega arith) (omega arith)
+  last_in m false = within_limits_unsatisfied
 
-  modest_cut : (asked : Asked) → IsModest (cut_by n (resolved asked n)).response.fields
-  modest_cut (asked.From first) = first_in first n (nat_lt first n) refl (omega arith)
-  modest_cut (asked.FromTo first last) = first_in first (min (last + 1) n) (nat_lt first n) refl (omega arith)
-  modest_cut (asked.Last m) = last_in m (nat_lt 0 m && nat_lt 0 n)
+  within_limits_cut : (asked : Asked) → IsWithinLimits (cut_by n (resolved_span asked n)).response.fields
+  within_limits_cut (asked.From first) = first_in first n (nat_lt first n) refl (omega arith)
+  within_limits_cut (asked.FromTo first last) = first_in first (min (last + 1) n) (nat_lt first n) refl (omega arith)
+  within_limits_cut (asked.Last m) = last_in m (nat_lt 0 m && nat_lt 0 n)
 
-  modest_whole : IsModest (whole n).response.fields
-  modest_whole = modest (whole n).response.fields 4 140 (with_length_small n n_fits) (omega arith) (omega arith)
+  within_limits_whole : IsWithinLimits (whole n).response.fields
+  within_limits_whole = within_limits (whole n).response.fields 4 140 (with_length_small n n_fits) (omega arith) (omega arith)
 
-  modest_by : (listed cut : Bool) (o : Option Asked) → IsModest (answer_by n listed cut o).response.fields
-  modest_by true cut o = modest_common
-  modest_by false true (Some asked) = modest_cut asked
-  modest_by false true None = modest_whole
-  modest_by false false o = modest_whole
+  within_limits_by : (listed cut : Bool) (o : Option Asked) → IsWithinLimits (answer_by n listed cut o).response.fields
+  within_limits_by true cut o = within_limits_common
+  within_limits_by false true (Some asked) = within_limits_cut asked
+  within_limits_by false true None = within_limits_whole
+  within_limits_by false false o = within_limits_whole
 
-pub modest_answer : (request : Request) (answer : Answer) → IsOriginAnswer request answer → IsModest answer.response.fields
-modest_answer request answer is = by_size (size_asked request) refl is
+pub within_limits_answer : (request : Request) (answer : Answer) → IsOriginAnswer request answer → IsWithinLimits answer.response.fields
+within_limits_answer request answer is = by_size (size_asked request) refl is
   where
-    by_size : (o : Option ℕ) → size_asked request ≡ o → IsAnswerOf o request.fields answer → IsModest answer.response.fields
-    by_size None at same = subst (λ (z : Answer). IsModest z.response.fields) (sym same) (record { few = omega arith; small = omega (arith, short-decimal 0 (omega arith)) })
+    by_size : (o : Option ℕ) → size_asked request ≡ o → IsAnswerOf o request.fields answer → IsWithinLimits answer.response.fields
+    by_size None at same = subst (λ (z : Answer). IsWithinLimits z.response.fields) (sym same) (record { few = omega arith; small = omega (arith, short-decimal 0 (omega arith)) })
     by_size (Some n) at (listed, o, read, same) =
-        subst (λ (z : Answer). IsModest z.response.fields) (sym same) (modest_by n (asked_small request n at) listed (may_cut (decimal n) request.fields) o)
+        subst (λ (z : Answer). IsWithinLimits z.response.fields) (sym same) (within_limits_by n (asked_small request n at) listed (may_cut (decimal n) request.fields) o)
 
 -- THE REQUESTS
 
@@ -128,10 +128,10 @@ drawn_below : (n s : ℕ) → 0 < n → drawn n s < n
 unfolding drawn
 drawn_below n s some = mod-lt (stepped s / 2 ^ 33) some
 
-pub modest_request : (s : ℕ) → IsModest (drawn_request s).fields
-modest_request s = by_draw (made.size_of (drawn 8 s)) (stepped s) (let below = drawn_below 8 s (omega arith) in (omega arith, omega (arith, below))) (drawn 4 (stepped s) == 0)
+pub within_limits_request : (s : ℕ) → IsWithinLimits (drawn_request s).fields
+within_limits_request s = by_draw (made.size_of (drawn 8 s)) (stepped s) (let below = drawn_below 8 s (omega arith) in (omega arith, omega (arith, below))) (drawn 4 (stepped s) == 0)
   where
-    by_draw : (size d : ℕ) → (0 < size) × (size ≤ 8000) → (b : Bool) → IsModest (if b then range_from (drawn size (stepped d)) else [])
+    by_draw : (size d : ℕ) → (0 < size) × (size ≤ 8000) → (b : Bool) → IsWithinLimits (if b then range_from (drawn size (stepped d)) else [])
     by_draw size d (some, small) true =
         let below = drawn_below size (stepped d) some in
         let short = short-range (drawn size (stepped d)) (omega (arith, below, small)) in

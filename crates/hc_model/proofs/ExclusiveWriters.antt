@@ -3,9 +3,9 @@ use Rattle.std.proofs.Common.{◌≡◌, ◌≢◌, inl, inr, ℕ, ◌<◌, List
 use Rattle.std.specs.Prelude.{is_some, nat_lt, filter, ◌&&◌, not}
 use Rattle.std.specs.Option.{option_or}
 use Rattle.std.proofs.lemmas.Bool.Decides.{nat_tests}
-use Rattle.hc_model.specs.Reading.{is_written, bound, offset, hi_of, own_open, source, is_bound, shared}
+use Rattle.hc_model.specs.Reading.{is_written, bound, offset, hi_of, own_open, source, is_bound, shared_exchange}
 use Rattle.hc_model.specs.Rows.{Tables, Representation, Consumer}
-use Rattle.hc_model.specs.Sound.{Sound, Numbered, Among, IsAbout, IsBound, IsFirst, HasPen, IsServed, IsHad, Writes}
+use Rattle.hc_model.specs.Sound.{Sound, Numbered, Among, IsAbout, IsBound, IsFirst, IsExclusiveWriter, IsServed, IsHad, Writes}
 use Rattle.hc_model.specs.Sound as sound
 use Rattle.hc_model.proofs.HoleLemmas.{bool_cases}
 
@@ -35,7 +35,7 @@ bound_some t r c k numbered (sound.is_bound lo hi how is place) =
 pub about_read : (t : Tables) (r x : ℕ) (v : Representation) → Sound t → t.representation r ≡ Some v → IsAbout t r x → bound t r ≢ []
 about_read t r x v s row about = elim (s.writes.had r x v row about) [
   | sound.shared on writer ↦ s.writes.has_bound r v row on
-  | sound.own c k reader own none pen ↦ bound_some t r c k s.numbered reader
+  | sound.own c k reader own none exclusive_writer ↦ bound_some t r c k s.numbered reader
 ]
 
 -- where nobody is bound, no open exchange is about it: a first hole is opened there alone
@@ -43,11 +43,11 @@ pub none_about : (t : Tables) (r x : ℕ) (v : Representation) → Sound t → t
 none_about t r x v s row nobody about = about_read t r x v s row about nobody
 
 -- the exclusive writer is one
-pub one_pen : (t : Tables) (r : ℕ) (v : Representation) (c d : ℕ) → Sound t → HasPen t r v c → HasPen t r v d → c ≡ d
-one_pen t r v c d s (sound.first kept a) (sound.first also b) = s.writes.one_first r c d a b
-one_pen t r v c d s (sound.first kept a) (sound.alone lost b) = absurd (let never : false ≡ true = sym kept ∙ lost in cc)
-one_pen t r v c d s (sound.alone lost a) (sound.first kept b) = absurd (let never : false ≡ true = sym kept ∙ lost in cc)
-one_pen t r v c d s (sound.alone lost a) (sound.alone also b) = same_row v.alone c d a b
+pub one_exclusive_writer : (t : Tables) (r : ℕ) (v : Representation) (c d : ℕ) → Sound t → IsExclusiveWriter t r v c → IsExclusiveWriter t r v d → c ≡ d
+one_exclusive_writer t r v c d s (sound.first kept a) (sound.first also b) = s.writes.one_first r c d a b
+one_exclusive_writer t r v c d s (sound.first kept a) (sound.alone lost b) = absurd (let never : false ≡ true = sym kept ∙ lost in cc)
+one_exclusive_writer t r v c d s (sound.alone lost a) (sound.first kept b) = absurd (let never : false ≡ true = sym kept ∙ lost in cc)
+one_exclusive_writer t r v c d s (sound.alone lost a) (sound.alone also b) = same_row v.alone c d a b
 
 or_some : (o : Option ℕ) (x : ℕ) → option_or o (Some x) ≢ None
 or_some None x = λ e. cc
@@ -66,7 +66,7 @@ writer_some t v on none = and_false (not v.is_lost) (rw none at on)
 pub shares_source : (t : Tables) (r c : ℕ) (v : Representation) (k : Consumer) (o : Option ℕ) → t.representation r ≡ Some v → IsBound t r c k → is_written t v ≡ true → v.writer ≡ o → source t k ≢ None
 shares_source t r c v k None row is_reader on writer = absurd (writer_some t v on writer)
 shares_source t r c v k (Some x) row (sound.is_bound lo hi how is place) on writer =
-    let from : shared t k.place ≡ Some x = rw (place, row, on) writer in
+    let from : shared_exchange t k.place ≡ Some x = rw (place, row, on) writer in
     λ e. or_some (own_open t k) x (rw from at e)
 
 own_source : (t : Tables) (x : ℕ) (k : Consumer) → own_open t k ≡ Some x → source t k ≢ None
@@ -86,10 +86,10 @@ pub record IsAtHole (t : Tables) (r c hi : ℕ) (v : Representation) (k : Consum
   pub missing : v.stored (offset t k) ≡ None
 
 -- it is the exclusive writer
-pub has_pen : (t : Tables) (r c hi : ℕ) (v : Representation) (k : Consumer) → Sound t → IsAtHole t r c hi v k → HasPen t r v c
-has_pen t r c hi v k s at = elim (s.writes.served r c v k at.row at.is_reader at.none_due) [
+pub has_exclusive_writer : (t : Tables) (r c hi : ℕ) (v : Representation) (k : Consumer) → Sound t → IsAtHole t r c hi v k → IsExclusiveWriter t r v c
+has_exclusive_writer t r c hi v k s at = elim (s.writes.served r c v k at.row at.is_reader at.none_due) [
   | sound.shares on ↦ absurd (shares_source t r c v k v.writer at.row at.is_reader on refl at.no_source)
-  | sound.writes pen ↦ pen
+  | sound.writes exclusive_writer ↦ exclusive_writer
   | sound.reads end is covered ↦ absurd (
       let same : end ≡ hi = same_row (hi_of t k.place) end hi is at.end in
       let below : offset t k < end = let b : offset t k < hi = at.before in omega arith in
@@ -101,8 +101,8 @@ has_pen t r c hi v k s at = elim (s.writes.served r c v k at.row at.is_reader at
 pub none_about_hole : (t : Tables) (r c hi x : ℕ) (v : Representation) (k : Consumer) → Sound t → IsAtHole t r c hi v k → IsAbout t r x → ⊥
 none_about_hole t r c hi x v k s at about = elim (s.writes.had r x v at.row about) [
   | sound.shared on writer ↦ shares_source t r c v k v.writer at.row at.is_reader on refl at.no_source
-  | sound.own d u other own none pen ↦
-      let same : c ≡ d = one_pen t r v c d s (has_pen t r c hi v k s at) pen in
+  | sound.own d u other own none exclusive_writer ↦
+      let same : c ≡ d = one_exclusive_writer t r v c d s (has_exclusive_writer t r c hi v k s at) exclusive_writer in
       let also : t.consumer c ≡ Some u = rw same (row_of t r d u other) in
       let one : k ≡ u = same_row (t.consumer c) k u (row_of t r c k at.is_reader) also in
       own_source t x k (rw one own) at.no_source

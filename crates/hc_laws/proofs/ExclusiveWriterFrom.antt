@@ -13,7 +13,7 @@ use Rattle.hc_model.specs.Keys.{entry_of}
 use Rattle.hc_model.specs.Measures.{Measures}
 use Rattle.hc_model.specs.Owners.{Owners}
 use Rattle.hc_model.specs.Rows.{Tables, Representation, Consumer}
-use Rattle.hc_model.specs.Sound.{Sound, IsFirst, HasPen}
+use Rattle.hc_model.specs.Sound.{Sound, IsFirst, IsExclusiveWriter}
 use Rattle.hc_model.specs.Sound as sound
 use Rattle.hc_model.specs.Tables.{after_accepted}
 use Rattle.hc_model.specs.Writers.{came_alone, loses_writing, survivor, goes_on_with}
@@ -22,7 +22,7 @@ use Rattle.hc_laws.proofs.Exclusives.{IsExclusive, exclusive_parts}
 use Rattle.hc_model.proofs.FirstKeeps.{came_kept}
 use Rattle.hc_model.proofs.HoleLemmas.{bool_cases}
 use Rattle.hc_laws.proofs.LossBy.{IsReal, fresh}
-use Rattle.hc_model.proofs.Pens.{same_row}
+use Rattle.hc_model.proofs.ExclusiveWriters.{same_row}
 use Rattle.hc_model.proofs.RepFrom.{IsKept}
 use Rattle.hc_laws.proofs.ServedKeeps.{lost_alone, kept_alone}
 
@@ -33,14 +33,14 @@ module _ (limits : Limits) (t : Tables) (now : ℕ) (flaw : Flaw) (s : Sound t) 
   abbrev now_on : Tables
   now_on = after_accepted t e
 
-  pub data PenFrom (r c : ℕ) (v : Representation) : Type 0 where
-    first : v.is_lost ≡ false → loses_in r e.acts ≡ false → IsFirst t r c → PenFrom r c v
-    alone : v.is_lost ≡ true → loses_in r e.acts ≡ false → v.alone ≡ Some c → PenFrom r c v
-    wrote : v.is_lost ≡ false → loses_in r e.acts ≡ true → IsExclusive t r c v → PenFrom r c v
-    survives : loses_writing t e r v ≡ true → survivor t r v ≡ Some c → PenFrom r c v
+  pub data ExclusiveWriterFrom (r c : ℕ) (v : Representation) : Type 0 where
+    first : v.is_lost ≡ false → loses_in r e.acts ≡ false → IsFirst t r c → ExclusiveWriterFrom r c v
+    alone : v.is_lost ≡ true → loses_in r e.acts ≡ false → v.alone ≡ Some c → ExclusiveWriterFrom r c v
+    wrote : v.is_lost ≡ false → loses_in r e.acts ≡ true → IsExclusive t r c v → ExclusiveWriterFrom r c v
+    survives : loses_writing t e r v ≡ true → survivor t r v ≡ Some c → ExclusiveWriterFrom r c v
 
   -- who goes on with what is lost now
-  pub loss_from : (r c : ℕ) (v p : Representation) → t.representation r ≡ Some v → IsKept t e r v p → loses_in r e.acts ≡ true → p.alone ≡ Some c → PenFrom r c v
+  pub loss_from : (r c : ℕ) (v p : Representation) → t.representation r ≡ Some v → IsKept t e r v p → loses_in r e.acts ≡ true → p.alone ≡ Some c → ExclusiveWriterFrom r c v
   loss_from r c v p there kept loses is =
       let all = lost_alone limits t now flaw s o m ev goes real r v p there kept loses in
       let goes_on : goes_on_with t e r v ≡ Some c = sym all.1 ∙ is in
@@ -49,23 +49,23 @@ module _ (limits : Limits) (t : Tables) (now : ℕ) (flaw : Flaw) (s : Sound t) 
         | inr off ↦ wrote (fresh limits t now flaw s o m ev goes real r v there loses) loses (exclusive_parts t r c v (rw off at goes_on))
       ]
 
-  pub alone_from : (r c : ℕ) (v p : Representation) → t.representation r ≡ Some v → IsKept t e r v p → p.is_lost ≡ true → p.alone ≡ Some c → PenFrom r c v
+  pub alone_from : (r c : ℕ) (v p : Representation) → t.representation r ≡ Some v → IsKept t e r v p → p.is_lost ≡ true → p.alone ≡ Some c → ExclusiveWriterFrom r c v
   alone_from r c v p there kept lost is = elim (bool_cases (loses_in r e.acts)) [
     | inl loses ↦ loss_from r c v p there kept loses is
     | inr quiet ↦ let all = kept_alone limits t now flaw s o m ev goes real r v p kept quiet in alone (sym all.0 ∙ lost) quiet (sym all.1 ∙ is)
   ]
 
-  pub pen_from : (r c lo : ℕ) (hi : Option ℕ) (how : BoundBy) (k u : Consumer) (v p : Representation) → t.consumer c ≡ Some k → k.place ≡ place.Bound r lo hi how → t.representation r ≡ Some v → IsKept t e r v p → now_on.consumer c ≡ Some u → u.place ≡ place.Bound r lo hi how → HasPen now_on r p c → PenFrom r c v
-  pen_from r c lo hi how k u v p row at there kept after_row stands (sound.alone lost is) = alone_from r c v p there kept lost is
-  pen_from r c lo hi how k u v p row at there kept after_row stands (sound.first fresh_now (sound.first q a d g q_row q_at came)) =
+  pub exclusive_writer_from : (r c lo : ℕ) (hi : Option ℕ) (how : BoundBy) (k u : Consumer) (v p : Representation) → t.consumer c ≡ Some k → k.place ≡ place.Bound r lo hi how → t.representation r ≡ Some v → IsKept t e r v p → now_on.consumer c ≡ Some u → u.place ≡ place.Bound r lo hi how → IsExclusiveWriter now_on r p c → ExclusiveWriterFrom r c v
+  exclusive_writer_from r c lo hi how k u v p row at there kept after_row stands (sound.alone lost is) = alone_from r c v p there kept lost is
+  exclusive_writer_from r c lo hi how k u v p row at there kept after_row stands (sound.first fresh_now (sound.first q a d g q_row q_at came)) =
       let one : q ≡ u = same_row (now_on.consumer c) q u q_row after_row in
       let came_now : came_alone now_on (place.Bound r lo hi how) ≡ true = subst (λ z. came_alone now_on z ≡ true) (sym q_at ∙ (ap (λ (z : Consumer). z.place) one ∙ stands)) came in
       let parts = or_false (loses_in r e.acts) v.is_lost (sym kept.lost_is ∙ fresh_now) in
       first parts.1 parts.0 (sound.first k lo hi how row at (sym (came_kept limits t now flaw s ev goes r lo hi how (ap is_some there)) ∙ came_now))
 
   -- but for who survives, it was the exclusive writer
-  pub had_pen : (r c : ℕ) (v : Representation) → PenFrom r c v → HasPen t r v c ⊎ ((loses_writing t e r v ≡ true) × (survivor t r v ≡ Some c))
-  had_pen r c v (first fresh_was quiet is) = inl (sound.first fresh_was is)
-  had_pen r c v (alone lost quiet is) = inl (sound.alone lost is)
-  had_pen r c v (wrote fresh_was loses x) = inl (sound.first fresh_was x.first)
-  had_pen r c v (survives losing is) = inr (losing, is)
+  pub had_exclusive_writer : (r c : ℕ) (v : Representation) → ExclusiveWriterFrom r c v → IsExclusiveWriter t r v c ⊎ ((loses_writing t e r v ≡ true) × (survivor t r v ≡ Some c))
+  had_exclusive_writer r c v (first fresh_was quiet is) = inl (sound.first fresh_was is)
+  had_exclusive_writer r c v (alone lost quiet is) = inl (sound.alone lost is)
+  had_exclusive_writer r c v (wrote fresh_was loses x) = inl (sound.first fresh_was x.first)
+  had_exclusive_writer r c v (survives losing is) = inr (losing, is)

@@ -1,10 +1,10 @@
 use Rattle.std.proofs.Common.{nat_eq, refl}
 use Rattle.std.specs.HashMap.{get}
 use Rattle.hc_stored.specs.Entries.{shelf_of}
-use Rattle.hc_on_leave.proofs.AskerArm.{stands_aside_as}
+use Rattle.hc_on_leave.proofs.AskerArm.{falls_back_as}
 use Rattle.hc_state.proofs.Dropping.{merely_user, user_of}
 use Rattle.hc_state.proofs.Maps.{lent}
-use Rattle.hc_on_head.proofs.asker.stand_aside.Goals as goal
+use Rattle.hc_on_head.proofs.asker.fall_back.Goals as goal
 
 pub unbind_from-requires : goal.unbind_from-requires
 unbind_from-requires g c =
@@ -19,5 +19,5 @@ returns-clause-stands g c = λ t x w v facts awaits for_it apart stands.
     let r = c.args.rows.now in
     let k = c.unwrap-consumer.result.now in
     let at = lent c.get.result (get nat_eq r.consumers c.args.c) c.unwrap-consumer.result c.get.ensures.value c.unwrap-consumer.ensures in
-    stands_aside_as r _ t facts.law x c.args.c w v k c.args.place awaits for_it apart at stands refl refl refl refl
+    falls_back_as r _ t facts.law x c.args.c w v k c.args.place awaits for_it apart at stands refl refl refl refl
     c.stand.ensures c.leave_key.ensures c.unbind_from.ensures.unbound

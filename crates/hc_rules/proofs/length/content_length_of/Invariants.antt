@@ -4,10 +4,10 @@ use Rattle.std.specs.List.{flat_map}
 use Rattle.hc_text.specs.Elements.{elements}
 use Rattle.hc_fields.specs.FieldList.{values_of}
 use Rattle.hc_fields.specs.FieldElements.{elements_in}
-use Rattle.hc_rules.specs.Lengths.{length_told}
+use Rattle.hc_rules.specs.Lengths.{content_length_of}
 use Rattle.hc_rules.specs.LengthSoFar.{with_elements}
-use Rattle.hc_rules.proofs.length.length_told.Given as goal
+use Rattle.hc_rules.proofs.length.content_length_of.Given as goal
 
 abbrev pub invariant-loop-i : goal.invariant-loop-i
 invariant-loop-i l =
-    with_elements l.length (flat_map elements (drop l.i (values_of (codes "content-length") l.fields))) ≡ length_told (elements_in (codes "content-length") l.fields)
+    with_elements l.length (flat_map elements (drop l.i (values_of (codes "content-length") l.fields))) ≡ content_length_of (elements_in (codes "content-length") l.fields)

@@ -3,27 +3,27 @@ use Rattle.std.proofs.Common.{◌≡◌, ℕ, [], Bool, true, false, Option, Som
 use Rattle.std.specs.Prelude.{not, option_map, if◌then◌else◌}
 use Rattle.hc_event.specs.declared.place.Place.{Place}
 use Rattle.hc_event.specs.declared.place.Place.TheVariants as place
-use Rattle.hc_model.specs.Effects.{gone}
+use Rattle.hc_model.specs.Effects.{as_gone}
 use Rattle.hc_model.specs.Exchanges.{family}
 use Rattle.hc_model.specs.Reading.{reads, is_bound}
 use Rattle.hc_model.specs.Rows.{Tables, Exchange, Representation, Consumer}
-use Rattle.hc_state.specs.Kept.{answer_for, unread, unstored, held_alone, held_of, held_for}
+use Rattle.hc_state.specs.Kept.{answer_for, unread, unstored_bytes, held_alone, held_of, held_for}
 use Rattle.hc_state.proofs.Words.{false_true}
 
 -- it isn't there, or reads nothing
-abbrev pub is_aside : Option Consumer → Bool
-is_aside None = true
-is_aside (Some k) = not (reads k.place)
+abbrev pub is_fallback : Option Consumer → Bool
+is_fallback None = true
+is_fallback (Some k) = not (reads k.place)
 
 -- a row stays, or reads nothing before and after
 pub data IsAlike (o p : Option Consumer) : Type 0 where
   same : p ≡ o → IsAlike o p
-  aside : is_aside o ≡ true → is_aside p ≡ true → IsAlike o p
+  fallback : is_fallback o ≡ true → is_fallback p ≡ true → IsAlike o p
 
 -- NO HEAD IS KEPT FOR THEM
 
-pub answer_aside : (t : Tables) (k : Consumer) → reads k.place ≡ false → answer_for t k ≡ None
-answer_aside t k idle = by_shown k.shown refl
+pub answer_fallback : (t : Tables) (k : Consumer) → reads k.place ≡ false → answer_for t k ≡ None
+answer_fallback t k idle = by_shown k.shown refl
   where
     by_place : (p : Place) → k.shown ≡ false → k.place ≡ p → answer_for t k ≡ None
     by_place (place.Direct y) is at = false_true (sym idle ∙ ap reads at)
@@ -40,9 +40,9 @@ answer_aside t k idle = by_shown k.shown refl
 
 -- NOTHING IS HELD FOR THEM
 
-pub unread_aside : (x : ℕ) (w : Exchange) (row : Option Consumer) → is_aside row ≡ true → unread x w row ≡ []
-unread_aside x w None is = refl
-unread_aside x w (Some k) is = by_place k.place refl
+pub unread_fallback : (x : ℕ) (w : Exchange) (row : Option Consumer) → is_fallback row ≡ true → unread x w row ≡ []
+unread_fallback x w None is = refl
+unread_fallback x w (Some k) is = by_place k.place refl
   where
     by_place : (p : Place) → k.place ≡ p → unread x w (Some k) ≡ []
     by_place (place.Direct y) at = false_true (sym (ap (λ q. not (reads q)) at) ∙ is)
@@ -53,11 +53,11 @@ unread_aside x w (Some k) is = by_place k.place refl
     by_place (place.Down why) at = rw at refl
     by_place place.Over at = rw at refl
 
-pub unstored_aside : (t : Tables) (x : ℕ) (w : Exchange) (v : Representation) (row : Option Consumer) → is_aside row ≡ true → unstored t x w v row ≡ []
-unstored_aside t x w v None is = refl
-unstored_aside t x w v (Some k) is = by_place k.place refl
+pub unstored_fallback : (t : Tables) (x : ℕ) (w : Exchange) (v : Representation) (row : Option Consumer) → is_fallback row ≡ true → unstored_bytes t x w v row ≡ []
+unstored_fallback t x w v None is = refl
+unstored_fallback t x w v (Some k) is = by_place k.place refl
   where
-    by_place : (p : Place) → k.place ≡ p → unstored t x w v (Some k) ≡ []
+    by_place : (p : Place) → k.place ≡ p → unstored_bytes t x w v (Some k) ≡ []
     by_place (place.Bound q lo hi by) at = false_true (sym (ap (λ q. not (reads q)) at) ∙ is)
     by_place place.Line at = rw at refl
     by_place (place.Passed q kept) at = rw at refl
@@ -67,11 +67,11 @@ unstored_aside t x w v (Some k) is = by_place k.place refl
     by_place place.Over at = rw at refl
 
 -- what isn't stored is the same for other tables, since it stands where it is bound
-pub unstored_moved : (t s : Tables) (x : ℕ) (w : Exchange) (v : Representation) (row : Option Consumer) → unstored s x w v row ≡ unstored t x w v row
+pub unstored_moved : (t s : Tables) (x : ℕ) (w : Exchange) (v : Representation) (row : Option Consumer) → unstored_bytes s x w v row ≡ unstored_bytes t x w v row
 unstored_moved t s x w v None = refl
 unstored_moved t s x w v (Some k) = by_place k.place refl
   where
-    by_place : (p : Place) → k.place ≡ p → unstored s x w v (Some k) ≡ unstored t x w v (Some k)
+    by_place : (p : Place) → k.place ≡ p → unstored_bytes s x w v (Some k) ≡ unstored_bytes t x w v (Some k)
     by_place (place.Bound q lo hi by) at = rw at refl
     by_place place.Line at = rw at refl
     by_place (place.Passed q kept) at = rw at refl
@@ -83,11 +83,11 @@ unstored_moved t s x w v (Some k) = by_place k.place refl
 module _ (t s : Tables) (alike : (d : ℕ) → IsAlike (t.consumer d) (s.consumer d)) where
   unread_alike : (x : ℕ) (w : Exchange) (o p : Option Consumer) → IsAlike o p → unread x w p ≡ unread x w o
   unread_alike x w o p (same is) = ap (unread x w) is
-  unread_alike x w o p (aside was is) = unread_aside x w p is ∙ sym (unread_aside x w o was)
+  unread_alike x w o p (fallback was is) = unread_fallback x w p is ∙ sym (unread_fallback x w o was)
 
-  unstored_alike : (x : ℕ) (w : Exchange) (v : Representation) (o p : Option Consumer) → IsAlike o p → unstored s x w v p ≡ unstored t x w v o
-  unstored_alike x w v o p (same is) = ap (unstored s x w v) is ∙ unstored_moved t s x w v o
-  unstored_alike x w v o p (aside was is) = unstored_aside s x w v p is ∙ sym (unstored_aside t x w v o was)
+  unstored_alike : (x : ℕ) (w : Exchange) (v : Representation) (o p : Option Consumer) → IsAlike o p → unstored_bytes s x w v p ≡ unstored_bytes t x w v o
+  unstored_alike x w v o p (same is) = ap (unstored_bytes s x w v) is ∙ unstored_moved t s x w v o
+  unstored_alike x w v o p (fallback was is) = unstored_fallback s x w v p is ∙ sym (unstored_fallback t x w v o was)
 
   alone_alike : (x : ℕ) (w : Exchange) (v : Representation) (c : Option ℕ) → held_alone s x w v c ≡ held_alone t x w v c
   alone_alike x w v None = refl
@@ -102,11 +102,11 @@ module _ (t s : Tables) (alike : (d : ℕ) → IsAlike (t.consumer d) (s.consume
   held_alike x w same_row = ap (held_of s x w) same_row ∙ of_alike x w (t.representation (family x w))
 
   -- also where a representation goes, whose bytes stay
-  pub held_gone : (b : Bool) (x : ℕ) (w : Exchange) → s.representation (family x w) ≡ (if b then option_map gone (t.representation (family x w)) else t.representation (family x w))
+  pub held_gone : (b : Bool) (x : ℕ) (w : Exchange) → s.representation (family x w) ≡ (if b then option_map as_gone (t.representation (family x w)) else t.representation (family x w))
       → held_for s x (Some w) ≡ held_for t x (Some w)
   held_gone b x w is = ap (held_of s x w) is ∙ (by_row b (t.representation (family x w)) ∙ of_alike x w (t.representation (family x w)))
     where
-      by_row : (b : Bool) (row : Option Representation) → held_of s x w (if b then option_map gone row else row) ≡ held_of s x w row
+      by_row : (b : Bool) (row : Option Representation) → held_of s x w (if b then option_map as_gone row else row) ≡ held_of s x w row
       by_row false row = refl
       by_row true None = refl
       by_row true (Some v) = refl
@@ -115,11 +115,11 @@ module _ (t s : Tables) (alike : (d : ℕ) → IsAlike (t.consumer d) (s.consume
 
   bound_alike : (r : ℕ) (o p : Option Consumer) → IsAlike o p → is_bound r p ≡ is_bound r o
   bound_alike r o p (same is) = ap (is_bound r) is
-  bound_alike r o p (aside was is) = unbound_aside r p is ∙ sym (unbound_aside r o was)
+  bound_alike r o p (fallback was is) = unbound_fallback r p is ∙ sym (unbound_fallback r o was)
     where
-      unbound_aside : (r : ℕ) (row : Option Consumer) → is_aside row ≡ true → is_bound r row ≡ false
-      unbound_aside r None is = refl
-      unbound_aside r (Some k) is = by_place k.place refl
+      unbound_fallback : (r : ℕ) (row : Option Consumer) → is_fallback row ≡ true → is_bound r row ≡ false
+      unbound_fallback r None is = refl
+      unbound_fallback r (Some k) is = by_place k.place refl
         where
           by_place : (p : Place) → k.place ≡ p → is_bound r (Some k) ≡ false
           by_place (place.Bound q lo hi by) at = false_true (sym (ap (λ q. not (reads q)) at) ∙ is)

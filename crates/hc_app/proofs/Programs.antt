@@ -18,16 +18,15 @@ use Rattle.hc_replay.specs.Replays as replays
 use Rattle.hc_replay.specs.Replays.{IsWholeRun}
 use Rattle.hc_replay.specs.Histories.{failures, run_of}
 use Rattle.hc_replay.specs.Generates as generates
-use Rattle.hc_replay.specs.declared.generating.TheConstants.{PROGRAM_LIMITS}
 use Rattle.hc_app.specs.declared.status.Status.TheVariants as status
 use Rattle.hc_app.specs.Commands.{IsNoCommand}
 use Rattle.hc_app.specs.Program as program
-use Rattle.hc_app.specs.Program.{Streams, IsWhole, ReportsAll, ReportsSome, Replays, IsRefusedIn, Generates, Keeps, IsUntouched}
+use Rattle.hc_app.specs.Program.{Streams, store_limits, IsWhole, ReportsAll, ReportsSome, Replays, IsRefusedIn, Generates, Keeps, IsUntouched}
 use Rattle.hc_app.specs.Statuses.{stopped_as}
 use Rattle.hc_app.specs.Texts.{refusal_text, usage_text}
 
 -- a cache in memory, whose store counts no failure
-module _ {B : Type 0} {g : Rattle.hc_store.specs.declared.backend.Backend.Ghosts B} (s : Cache B g) (limits : limits_in s ≡ PROGRAM_LIMITS) (calm : (u : Cache B g) → faults_in u ≡ 0) where
+module _ {B : Type 0} {g : Rattle.hc_store.specs.declared.backend.Backend.Ghosts B} (s : Cache B g) (limits : limits_in s ≡ store_limits) (calm : (u : Cache B g) → faults_in u ≡ 0) where
   whole : (u : Cache B g) (h : History) → IsWholeRun s h → faults_in s + failures h ≤ faults_in u → IsWhole h
   whole u h run counted =
       let none = calm u in
@@ -124,7 +123,7 @@ module _ {B : Type 0} {g : Rattle.hc_store.specs.declared.backend.Backend.Ghosts
 
 module _ (seed n : ℕ) (out out' : Option (List ℕ)) where
   abbrev Made : Ended → Type 0
-  Made e = generates.Generates PROGRAM_LIMITS seed n out out' e
+  Made e = generates.Generates store_limits seed n out out' e
 
   pub made_done : (e : Ended) → Made e → e ≡ ended.Done → Generates seed n out out' status.Done
   made_done _ (generates.done text is takes) at = program.done text is takes

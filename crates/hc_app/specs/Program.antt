@@ -8,12 +8,12 @@ use Rattle.hc_sched.specs.Laws.{refusal_of}
 use Rattle.hc_sched.specs.Schedule.{Item, Spells, events_of}
 use Rattle.hc_driver.specs.Endings.{IsRefused, events_from}
 use Rattle.hc_driver.specs.Stepping.{History, events_in, report_after}
+use Rattle.hc_rules.specs.declared.room.Limits.{Limits}
 use Rattle.hc_model.specs.Entries.{no_contents}
 use Rattle.hc_model.specs.Reads.{ReadsWhole}
 use Rattle.hc_model.specs.Runs.{IsRun}
 use Rattle.hc_replay.specs.Histories.{run_of, failures}
 use Rattle.hc_replay.specs.Summaries.{IsSummary}
-use Rattle.hc_replay.specs.declared.generating.TheConstants.{PROGRAM_LIMITS}
 use Rattle.hc_app.specs.declared.command.Command.TheVariants as command
 use Rattle.hc_app.specs.declared.status.Status.{Status}
 use Rattle.hc_app.specs.declared.status.Status.TheVariants as status
@@ -27,12 +27,16 @@ pub record Streams : Type 0 where
   pub out : Option (List ℕ)
   pub diag : Option (List ℕ)
 
+-- What the store may hold, in bytes: of one body, and of all representations together.
+abbrev pub store_limits : Limits
+store_limits = record { max_entry = 16777216; max_total = 268435456 }
+
 -- A REPORT
 
 -- It is a run of the consumer table, from an empty store that never fails, in which each consumer reads
 -- one interval of one body, whole where it is told its end.
 pub record IsWhole (history : History) : Type 0 where
-  pub run : IsRun PROGRAM_LIMITS no_contents (run_of history)
+  pub run : IsRun store_limits no_contents (run_of history)
   pub reads : ReadsWhole no_contents (run_of history)
   pub sound : failures history ≡ 0
 
@@ -95,11 +99,11 @@ pub data Replays (before after : Streams) : Status → Type 0 where
 
 -- What was taken of the summary of so many rounds, by the status.
 pub data Generates (seed count : ℕ) (out out' : Option (List ℕ)) : Status → Type 0 where
-  done : (text : List ℕ) → IsSummary PROGRAM_LIMITS seed count text → Takes out out' text →
+  done : (text : List ℕ) → IsSummary store_limits seed count text → Takes out out' text →
       Generates seed count out out' status.Done
-  unwritten : (text : List ℕ) → IsSummary PROGRAM_LIMITS seed count text → TakesFront out out' text →
+  unwritten : (text : List ℕ) → IsSummary store_limits seed count text → TakesFront out out' text →
       Generates seed count out out' status.SinkFailed
-  wanting : (text : List ℕ) → IsSummary PROGRAM_LIMITS seed count text → TakesFront out out' text →
+  wanting : (text : List ℕ) → IsSummary store_limits seed count text → TakesFront out out' text →
       Generates seed count out out' status.NoMemory
   unfinished : out' ≡ out → Generates seed count out out' status.NoMemory
 

@@ -1,9 +1,9 @@
 //! A cache that begins with contents.
-ghost use Rattle.std.specs.Prelude.{◌≡◌, ◌+◌, [], IfOk, IfErr};
+ghost use Rattle.std.specs.Prelude.{◌≡◌, ◌+◌, [], false, IfOk, IfErr};
 ghost use Rattle.hc_store.specs.Slots.{no_slots};
 ghost use Rattle.hc_contents.specs.PlainContents.{plain_contents};
 ghost use Rattle.hc_core.specs.Begins.{IsRefusal};
-ghost use Rattle.hc_core.specs.Steps.{StandsFor, ServesAll, faults_in, limits_in, steps, bytes_received};
+ghost use Rattle.hc_core.specs.Steps.{StandsFor, ServesAll, faults_in, has_failed, limits_in, steps, bytes_received};
 
 use crate::begin::{ContentsError, ContentsRefused, failure_of, refusal_of};
 use crate::cache::Cache;
@@ -33,6 +33,7 @@ impl<B: Backend> Cache<B> {
         ensures unused { IfOk result (λ cache. steps cache + bytes_received cache ≡ 0) }
         ensures limits { IfOk result (λ cache. limits_in cache ≡ limits) }
         ensures calm { IfOk result (λ cache. faults_in cache ≡ B.faults backend) }
+        ensures ready { IfOk result (λ cache. has_failed cache ≡ false) }
         ensures refused { IfErr result
             (λ refused. IsRefusal B.faults B.limits limits (plain_contents contents.entry.now)
             backend refused) }

@@ -8,7 +8,6 @@ ghost use Rattle.hc_model.specs.Tables.{received_in};
 ghost use Rattle.hc_state.specs.Good.{is_refused, takes_no_memory, rows_with_event};
 ghost use Rattle.hc_core.specs.Steps.{StandsFor, Steps, KeepsPromises, has_failed, last_moment, steps, bytes_received, store_in, limits_in};
 
-use crate::acts::MOST_ACTS;
 use crate::cache::Cache;
 use crate::rows::answer::answer;
 use hc_entry::KeyTable;
@@ -33,6 +32,7 @@ impl<B: Backend> Cache<B> {
         ensures unused { IfOk result (λ cache. steps cache + bytes_received cache ≡ 0) }
         ensures store { IfOk result (λ cache. store_in cache ≡ store) }
         ensures limits { IfOk result (λ cache. limits_in cache ≡ limits) }
+        ensures ready { IfOk result (λ cache. has_failed cache ≡ false) }
     {
         Ok(Cache {
             failed: false,
@@ -69,11 +69,12 @@ impl<B: Backend> Cache<B> {
         ensures steps { OnOk result (steps self.new ≡ steps self.old + 1) }
         ensures received { OnOk result
             (bytes_received self.new ≡ bytes_received self.old + received_in event.now) }
+        ensures ready { OnOk result (has_failed self.new ≡ false) }
         ensures err { OnErr result (has_failed self.new ≡ true) }
         ensures kept { OnErr result (act_list out.new ≡ act_list out.old) }
         ensures again { has_failed self.old ≡ true → IsErr result }
         ensures frees { has_failed self.old ≡ false → takes_no_memory event.now ≡ true
-            → MOST_ACTS ≤ spare out.old → IsOk result }
+            → 1024 ≤ spare out.old → IsOk result }
     {
         if self.failed {
             return Err(NoMemory);

@@ -50,7 +50,7 @@ pub(crate) fn answer<B: Backend>(
     ensures faults { OnOk result
         ((shelf_of rows.old.entries).faults ≤ (shelf_of rows.new.entries).faults) }
     ensures kept { OnErr result (act_list out.new ≡ act_list out.old) }
-    ensures frees { takes_no_memory event.now ≡ true → MOST_ACTS ≤ spare out.old → IsOk result }
+    ensures frees { takes_no_memory event.now ≡ true → 1024 ≤ spare out.old → IsOk result }
 {
     if out.spare() < MOST_ACTS {
         out.reserve(MOST_ACTS)?;

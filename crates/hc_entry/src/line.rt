@@ -188,6 +188,8 @@ impl KeyLine {
     pub fn passed_back(&mut self)
         ensures { self.new ≡ passed_back self.old }
     {
+        // What the type keeps is known once a field is read.
+        let _ = &self.seats;
         for place in 0..self.seats() {
             if let Some(c) = self.seated(place) {
                 if self.has_passed(c) {

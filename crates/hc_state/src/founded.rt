@@ -46,8 +46,11 @@ pub fn founded_head(
     let mut fields = response.fields.copy()?;
     fields.remove(b"content-range");
     fields.remove(b"content-length");
+    // That their count is a `usize` is known once it is asked for.
+    let _count = fields.len();
     let joining = joining_tag(fields.allocator(), &fields)?;
     let vary_fields = varied(&request.fields, &response.fields)?;
+    let _varied = vary_fields.len();
     Ok(StoredHead {
         kind,
         total,

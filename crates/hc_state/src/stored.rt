@@ -22,6 +22,8 @@ pub fn renewed(
         (λ new. plain new ≡ renewed_head requested answered from.now (plain head)) }
 {
     let fields = update(&head.fields, from)?;
+    // That their count is a `usize` is known once it is asked for.
+    let _count = fields.len();
     Ok(StoredHead {
         requested,
         answered,

@@ -89,7 +89,7 @@ stands_turn x k _ (laws.later r lo hi how at shown) is = absurd (let no_one : ro
 record Bars (u : Tables) (bar : List ℕ → ℕ) : Type 0 where
   within : (key : List ℕ) → bar key ≤ u.opened
   founded : (r : ℕ) (v : Representation) → u.representation r ≡ Some v → v.is_gone ≡ false → bar v.key < r
-  awaited_exchange : (x : ℕ) (w : Exchange) → u.exchange x ≡ Some w → is_headless (Some w) ≡ true → route_of w.need ≢ route.Direct → was_shown (u.consumer w.c) ≡ false → bar w.request.key < x
+  awaited : (x : ℕ) (w : Exchange) → u.exchange x ≡ Some w → is_headless (Some w) ≡ true → route_of w.need ≢ route.Direct → was_shown (u.consumer w.c) ≡ false → bar w.request.key < x
 
 of_bars : (contents : Contents) (h : History) → Bars (tables contents h) (λ key. barrier contents key h) → IsBarred contents h
 of_bars contents h bars = record { within = bars.within; founded = bars.founded; awaited = bars.awaited }

@@ -5,6 +5,15 @@ use Rattle.std.proofs.lemmas.List.{drop_all, length-take, length-map}
 use Rattle.std.proofs.lemmas.List.Folds.{list_any-append}
 use Rattle.std.specs.Prelude.{nat_eq, nat_le, ◌==◌, ◌||◌}
 use Rattle.std.specs.List.{list_any}
+use Rattle.std.specs.Prelude.{Vec, bytes_eq, not}
+use Rattle.std.specs.Global.{Global}
+use Rattle.std.specs.Cmp.Lexicographic.{pointwise}
+use Rattle.std.specs.HashSet.{HashSet, contains, contains_by, PutsKey}
+use Rattle.std.proofs.lemmas.Cmp.{nat_list_eq_equiv}
+use Rattle.std.proofs.lemmas.List.Sorted.{list_any-IsPermutation}
+use Rattle.std.proofs.lemmas.Slice.Eq.{bytes_eq-Decides}
+use Rattle.hc_sparse.specs.declared.run.Run.{Run}
+use Rattle.hc_model.specs.Beginnings.{says}
 use Rattle.hc_model.specs.Entries.{Content}
 use Rattle.hc_contents.specs.declared.contents.Content as coded
 use Rattle.hc_contents.specs.Known.{TellsLast, is_from}
@@ -81,3 +90,47 @@ tells_next last now items i item lt is tells updates =
 
 pub tells_all : (last : ℕ → Option ℕ) (items : List coded.Content) (i : ℕ) → length items ≤ i → TellsLast last (take i (map plain_item items)) → TellsLast last (map plain_item items)
 tells_all last items i le tells = subst (TellsLast last) (take_all i (map plain_item items) (let all : length (map plain_item items) ≡ length items = length-map items plain_item in omega arith)) tells
+
+-- ITS KEY
+
+abbrev is_same : Vec ℕ Global → Vec ℕ Global → Bool
+is_same x y = pointwise nat_eq x.items y.items
+
+-- the set has the key that was put, and those that it had
+pub key_added : {S : Type 0} (old new : HashSet (Vec ℕ Global) S) (put : Vec ℕ Global) (added : Bool) → added ≡ not (contains is_same old put) → PutsKey old new put added
+    → (key : List ℕ) → contains_by (λ (stored : Vec ℕ Global). bytes_eq key stored.items) new ≡ (bytes_eq put.items key || contains_by (λ (stored : Vec ℕ Global). bytes_eq key stored.items) old)
+key_added old new put true is puts key =
+    sym (list_any-IsPermutation (λ (stored : Vec ℕ Global). bytes_eq key stored.items) (put ∷ old.keys) new.keys puts)
+    ∙ ap (λ b. b || list_any (λ (stored : Vec ℕ Global). bytes_eq key stored.items) old.keys) (nat_list_eq_equiv.symm key put.items)
+key_added old new put false is puts key = by_test (bytes_eq put.items key) refl
+  where
+    has : List ℕ → Bool
+    has k = list_any (λ (stored : Vec ℕ Global). bytes_eq k stored.items) old.keys
+
+    there : has put.items ≡ true
+    there = not_false (has put.items) (sym is)
+      where
+        not_false : (b : Bool) → not b ≡ false → b ≡ true
+        not_false true e = refl
+        not_false false e = sym e
+
+    by_test : (b : Bool) → bytes_eq put.items key ≡ b → list_any (λ (stored : Vec ℕ Global). bytes_eq key stored.items) new.keys ≡ (b || has key)
+    by_test false at = ap (list_any (λ (stored : Vec ℕ Global). bytes_eq key stored.items)) puts
+    by_test true at =
+        ap (list_any (λ (stored : Vec ℕ Global). bytes_eq key stored.items)) puts
+        ∙ subst (λ (k : List ℕ). has k ≡ true) ((bytes_eq-Decides put.items key).0 at) there
+
+-- ITS NUMBERS
+
+-- a number is said by the item, or by an earlier one
+pub said_more : (item : Content) (earlier : List Content) (x : ℕ) (was mid now : Bool) → was ≡ list_any (says x) earlier → mid ≡ cond (nat_eq item.r x) true was
+    → now ≡ (list_any (λ (run : Run). run.x == x) item.runs || mid) → now ≡ (says x item || list_any (says x) earlier)
+said_more item earlier x was mid now before here runs =
+    runs ∙ ap (λ b. list_any (λ (run : Run). run.x == x) item.runs || b) (here ∙ ap (cond (nat_eq item.r x) true) before)
+    ∙ by_bools (nat_eq item.r x) (list_any (λ (run : Run). run.x == x) item.runs) (list_any (says x) earlier)
+  where
+    by_bools : (r a w : Bool) → (a || cond r true w) ≡ ((r || a) || w)
+    by_bools true true w = refl
+    by_bools true false w = refl
+    by_bools false true w = refl
+    by_bools false false w = refl

@@ -1,5 +1,5 @@
 -- What is known of the items before one, and behind it.
-use Rattle.std.specs.Prelude.{◌≡◌, ℕ, ◌+◌, ◌≤◌, List, length, drop, bytes_eq, nat_eq, nat_le, nat_lt, Bool, false, not, ◌&&◌, Option, Some, None, is_some, ◌==◌}
+use Rattle.std.specs.Prelude.{◌≡◌, ℕ, ◌+◌, ◌≤◌, List, length, drop, bytes_eq, nat_eq, nat_le, nat_lt, Bool, false, not, ◌&&◌, Option, Some, None, ◌==◌}
 use Rattle.std.specs.List.{list_any}
 use Rattle.std.specs.HashMap.{get}
 use Rattle.std.specs.HashSet.{contains, contains_by}

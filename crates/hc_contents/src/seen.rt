@@ -1,9 +1,10 @@
 //! What the items before one say, and those behind it.
-ghost use Rattle.std.specs.Prelude.{◌≡◌, ◌+◌, ◌<◌, ◌&&◌, ◌||◌, ◌==◌, ◌∷◌, [], ℕ, map, drop, length, List, nat_eq, nat_lt, IfOk, OnOk};
+ghost use Rattle.std.specs.Prelude.{◌≡◌, ◌+◌, ◌<◌, ◌&&◌, ◌||◌, ◌==◌, ◌∷◌, [], ℕ, map, drop, length, List, nat_eq, nat_lt, bytes_eq, IfOk, OnOk};
 ghost use Rattle.std.specs.HashMap.{get};
 ghost use Rattle.std.specs.HashSet.{contains};
 ghost use Rattle.std.specs.List.{list_any, list_all};
 ghost use Rattle.hc_sparse.specs.declared.run.Run.{Run};
+ghost use Rattle.hc_model.specs.Beginnings.{has_own_numbers};
 ghost use Rattle.hc_model.specs.Entries as model;
 ghost use Rattle.hc_contents.specs.Fit.{is_apart};
 ghost use Rattle.hc_contents.specs.Known.{TellsLast, is_from};
@@ -11,7 +12,7 @@ ghost use Rattle.hc_contents.specs.PlainContents.{plain_item};
 
 use crate::contents::Content;
 use hc_sparse::Run;
-use hc_text::NoMemory;
+use hc_text::{Key, NoMemory};
 use std::alloc::Global;
 use std::collections::{HashMap, HashSet};
 
@@ -45,8 +46,25 @@ impl Seen {
             → Knows self.now earlier items → i < length items → contents.next_exchange ≡ end
             → result ≡ is_apart contents earlier (plain_item item.now) (drop (i + 1) items) }
     {
-        !self.keys.contains(item.key.bytes.as_slice())
-            && is_given_out(item.r, end)
+        !self.has_key(&item.key) && self.has_own_numbers(i, item, end)
+    }
+
+    /// An earlier item has this key.
+    fn has_key(&self, key: &Key) -> bool
+        ensures { (earlier items : List model.Content) → Knows self.now earlier items
+            → result ≡ list_any (λ (other : model.Content). bytes_eq other.key key.now) earlier }
+    {
+        self.keys.contains(key.bytes.as_slice())
+    }
+
+    /// The item at this place has numbers of its own, and these are below `end`.
+    fn has_own_numbers(&self, i: usize, item: &Content, end: u64) -> bool
+        ensures { (contents : model.Contents) (earlier items : List model.Content)
+            → Knows self.now earlier items → i < length items → contents.next_exchange ≡ end
+            → result ≡ has_own_numbers contents earlier (plain_item item.now)
+            (drop (i + 1) items) }
+    {
+        is_given_out(item.r, end)
             && !self.said.contains(&item.r)
             && self.has_own_runs(i, item.runs.as_slice(), end)
     }
@@ -80,9 +98,11 @@ impl Seen {
         ensures { OnOk result ((earlier items : List model.Content) → Knows self.old earlier items
             → Knows self.new (plain_item item.now ∷ earlier) items) }
     {
-        self.keys.insert(item.key.bytes.clone()?)?;
+        let key = item.key.copy()?;
+        self.keys.insert(key.bytes)?;
         self.said.insert(item.r)?;
-        say_runs(&mut self.said, item.runs.as_slice())
+        say_runs(&mut self.said, item.runs.as_slice())?;
+        Ok(())
     }
 }
 

@@ -79,7 +79,7 @@ pub fn read_founded(
     lo: u64,
     hi: Option<u64>,
 )
-    ensures { ChangesAt consumers.old consumers.new c (founds_with r without_own lo hi) }
+    ensures { ChangesAt consumers.old consumers.new c (founds_with r shared lo hi) }
 {
     if let Some(consumer) = consumers.get_mut(&c) {
         let by = BoundBy::Founding;

@@ -1,5 +1,4 @@
-use Rattle.std.proofs.Common.{rules, arith, ◌≡◌, ◌+◌, ℕ, List, [], map, reverse, take, drop, Bool, true, false, ap, sym, ◌∙◌, subst}
-use Rattle.std.specs.Prelude.{not}
+use Rattle.std.proofs.Common.{rules, arith, ◌≡◌, List, [], map, reverse, take, true, false, ap, sym, ◌∙◌, subst}
 use Rattle.hc_model.specs.Entries.{Content}
 use Rattle.hc_contents.specs.declared.contents.Content as coded
 use Rattle.hc_contents.specs.Fit.{count_good}

@@ -1,10 +1,8 @@
-use Rattle.std.proofs.Common.{rules, arith, ◌≡◌, ◌<◌, ◌≤◌, ℕ, List, length, map, Bool, true, false, None, Some, ap, sym, ◌∙◌}
+use Rattle.std.proofs.Common.{rules, arith, ◌≡◌, ◌<◌, ◌≤◌, List, length, map, true, false, ap, sym, ◌∙◌}
 use Rattle.std.specs.Prelude.{nat_le}
 use Rattle.std.proofs.lemmas.List.{length-map}
 use Rattle.hc_model.specs.Beginnings.{weights_of}
 use Rattle.hc_contents.specs.declared.contents.Content as coded
-use Rattle.hc_contents.specs.declared.unfit.Unfit.TheVariants as unfit
-use Rattle.hc_contents.specs.Fit.{has_good_numbers, unfit_of}
 use Rattle.hc_contents.specs.PlainContents.{plain_contents, plain_item}
 use Rattle.hc_contents.proofs.Counting.{bad_item, bad_number, too_heavy, all_fit, begins_by}
 use Rattle.hc_contents.proofs.unfit.why_unfit.Goals as goal

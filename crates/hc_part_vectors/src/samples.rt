@@ -1,21 +1,20 @@
-//! What stores are given.
+//! What stores and exchanges are given.
 ghost use Rattle.std.specs.Prelude.{◌≤◌, IfOk};
 
+use hc_event::Response;
 use hc_fields::Fields;
 use hc_record::{Kind, StoredHead, joining_tag};
 use hc_store::{Limits, Op};
 use hc_text::{Key, NoMemory};
-use hc_vector::{Fault, Vector};
+use hc_vector::{Fault, Vector, fields_of};
 use std::alloc::Global;
 
 /// The head of a body of six bytes.
 pub(crate) fn head(alloc: Global) -> Result<StoredHead, Fault>
     ensures { IfOk result (λ head. head.requested ≤ head.answered) }
 {
+    let fields = fields_of(alloc, b"etag: \"a\"\naccept-ranges: none")?;
     let vary_fields = Fields::new(alloc)?;
-    let mut fields = Fields::new(alloc)?;
-    fields.append(b"etag", b"\"a\"")?;
-    fields.append(b"accept-ranges", b"none")?;
     if vary_fields.len() > 0 || !fields.modest() {
         return Err(Fault::NoSuchCall);
     }
@@ -35,6 +34,13 @@ pub(crate) fn head(alloc: Global) -> Result<StoredHead, Fault>
 pub(crate) fn key(alloc: Global) -> Result<Key, NoMemory> {
     let bytes = b"http://a.test/x".to_vec(alloc)?;
     Ok(Key { bytes })
+}
+
+/// The head of an answer with this status, and with the fields that the text at this place lists.
+pub(crate) fn response_of(status: u64, v: &Vector, at: usize) -> Result<Response, Fault> {
+    let status = u16::try_from(status).map_err(|_| Fault::NoSuchCall)?;
+    let fields = fields_of(v.alloc(), v.text(at))?;
+    Ok(Response { status, fields })
 }
 
 /// The limits that the first two arguments are.

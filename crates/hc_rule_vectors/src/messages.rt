@@ -5,8 +5,8 @@ use crate::given::{fields_at, is_yes, request_at};
 use crate::told::{tell_bytes, tell_request, tell_response};
 use hc_event::Response;
 use hc_msg::{
-    MsgError, RequestReader, ResponseReader, Taken, WirePart, write_chunk, write_request,
-    write_response_head,
+    MsgError, RequestReader, ResponseReader, Taken, WirePart, WireRequest, write_chunk,
+    write_request, write_response_head,
 };
 use hc_target::is_target;
 use hc_vector::{Fault, Vector, quote, show};
@@ -15,13 +15,13 @@ use std::alloc::Global;
 /// Writes the value of the call, if it is one of these.
 pub(crate) fn call(v: &Vector, to: &mut String) -> Result<bool, Fault> {
     match v.call() {
-        ("read_requests", "t") => tell_requests(v, to)?,
-        ("read_answer", "wt") => tell_answers(v, to)?,
-        ("write_chunk", "t") => tell_chunk(v, to)?,
-        ("write_response_head", "nwt") => tell_sent_head(v, to)?,
-        ("write_request", "t") => tell_sent_request(v, to)?,
+        ("read_requests", "t") => tell_requests(v, to),
+        ("read_answer", "wt") => tell_answers(v, to),
+        ("write_chunk", "t") => tell_chunk(v, to),
+        ("write_response_head", "nwt") => tell_sent_head(v, to),
+        ("write_request", "t") => tell_sent_request(v, to),
         _ => return Ok(false),
-    }
+    }?;
     Ok(true)
 }
 
@@ -81,14 +81,10 @@ fn requests_in(alloc: Global, text: &[u8], size: usize) -> Result<String, Fault>
         match reader.take(piece) {
             Ok(Taken { used, got }) => {
                 rest = &rest[used..];
-                match got {
-                    Some(asked) => {
-                        tell_request(&asked.request, &mut told)?;
-                        told.push_str(if asked.old { " of HTTP/1.0 | " } else { " | " })?;
-                    }
-                    None if rest.is_empty() => break,
-                    None => {}
+                if got.is_none() && rest.is_empty() {
+                    break;
                 }
+                tell_asked(&got, &mut told)?;
             }
             Err(e) => {
                 show(&e, &mut told)?;
@@ -98,6 +94,16 @@ fn requests_in(alloc: Global, text: &[u8], size: usize) -> Result<String, Fault>
     }
     told.push_str("ok")?;
     Ok(told)
+}
+
+/// Writes the request that a piece completed, if it did.
+fn tell_asked(got: &Option<WireRequest>, to: &mut String) -> Result<(), Fault> {
+    let Some(asked) = got else {
+        return Ok(());
+    };
+    tell_request(&asked.request, to)?;
+    to.push_str(if asked.old { " of HTTP/1.0 | " } else { " | " })?;
+    Ok(())
 }
 
 /// Writes what is told of an answer to a GET or a HEAD, and also what is told where it is cut
@@ -124,22 +130,31 @@ struct Heard {
 
 impl Heard {
     /// Takes one more part, and tells whether it is the end.
-    fn take(&mut self, part: WirePart) -> Result<bool, Fault> {
+    fn take(&mut self, part: &WirePart) -> Result<bool, Fault> {
         match part {
-            WirePart::Head(response) => tell_response(&response, &mut self.head)?,
+            WirePart::Head(response) => tell_response(response, &mut self.head)?,
             WirePart::Piece(bytes) => self.body.extend_from_slice(&bytes.bytes)?,
             WirePart::End => return Ok(true),
         }
         Ok(false)
     }
 
-    /// All that was told.
-    fn told(self) -> Result<String, Fault> {
+    /// Takes the part that a piece brought, if it did, and tells whether it is the end.
+    fn take_got(&mut self, got: &Option<WirePart>) -> Result<bool, Fault> {
+        match got {
+            Some(part) => self.take(part),
+            None => Ok(false),
+        }
+    }
+
+    /// All that was told, and then these words.
+    fn told(self, how: &str) -> Result<String, Fault> {
         let Heard { mut head, body } = self;
         if !body.is_empty() {
             head.push(' ')?;
             tell_bytes(&body, &mut head)?;
         }
+        head.push_str(how)?;
         Ok(head)
     }
 }
@@ -166,34 +181,25 @@ fn answer_in(
         match reader.take(piece, most) {
             Ok(Taken { used, got }) => {
                 rest = &rest[used..];
-                match got {
-                    Some(part) => {
-                        if heard.take(part)? {
-                            return tell_end(heard, rest);
-                        }
-                    }
-                    None if rest.is_empty() => break,
-                    None => {}
+                if heard.take_got(&got)? {
+                    return tell_end(heard, rest);
+                }
+                if got.is_none() && rest.is_empty() {
+                    break;
                 }
             }
             Err(e) => return tell_error(heard, " ", e),
         }
     }
     match reader.finish() {
-        Ok(part) => {
-            let is_end = heard.take(part)?;
-            let mut told = heard.told()?;
-            told.push_str(if is_end { " closed end" } else { " closed" })?;
-            Ok(told)
-        }
+        Ok(part) => tell_closed(heard, &part),
         Err(e) => tell_error(heard, " closed ", e),
     }
 }
 
 /// All that was told up to the end, and the bytes behind that.
 fn tell_end(heard: Heard, rest: &[u8]) -> Result<String, Fault> {
-    let mut told = heard.told()?;
-    told.push_str(" end")?;
+    let mut told = heard.told(" end")?;
     if !rest.is_empty() {
         told.push_str(" behind ")?;
         quote(rest, &mut told)?;
@@ -201,10 +207,15 @@ fn tell_end(heard: Heard, rest: &[u8]) -> Result<String, Fault> {
     Ok(told)
 }
 
+/// All that was told, with the part that the close of the connection brings.
+fn tell_closed(mut heard: Heard, part: &WirePart) -> Result<String, Fault> {
+    let is_end = heard.take(part)?;
+    heard.told(if is_end { " closed end" } else { " closed" })
+}
+
 /// All that was told up to the error.
 fn tell_error(heard: Heard, how: &str, e: MsgError) -> Result<String, Fault> {
-    let mut told = heard.told()?;
-    told.push_str(how)?;
+    let mut told = heard.told(how)?;
     show(&e, &mut told)?;
     Ok(told)
 }

@@ -2,15 +2,9 @@
 use hc_event::{Event, Request, Response};
 use hc_fields::Fields;
 use hc_vector::{Fault, quote, show};
-use std::fmt::Debug;
 
 /// Of more bytes only their number and the first three are written.
 const MOST_SHOWN: usize = 400;
-
-/// Writes the value as Rust writes it.
-pub(crate) fn tell<T: Debug>(value: &T, to: &mut String) -> Result<(), Fault> {
-    Ok(show(value, to)?)
-}
 
 /// Writes bytes in quotes.
 pub(crate) fn tell_bytes(bytes: &[u8], to: &mut String) -> Result<(), Fault> {

@@ -71,13 +71,11 @@ impl Table {
     /// Makes a call that only an open exchange takes.
     fn change_open(&mut self, v: &Vector) -> Result<(), Fault> {
         let x = v.number(0);
-        if self.exchanges.view(x).is_none() {
-            return Err(Fault::NoSuchCall);
-        }
+        let is_open = self.exchanges.view(x).is_some();
         match v.call() {
-            ("exchange_ask", "n") => self.exchanges.ask(x),
-            ("exchange_close", "n") => self.exchanges.close(x),
-            ("exchange_turn_into_body", "nn") => {
+            ("exchange_ask", "n") if is_open => self.exchanges.ask(x),
+            ("exchange_close", "n") if is_open => self.exchanges.close(x),
+            ("exchange_turn_into_body", "nn") if is_open => {
                 self.exchanges.turn_into(x, Role::Body { r: v.number(1) });
             }
             _ => return Err(Fault::NoSuchCall),

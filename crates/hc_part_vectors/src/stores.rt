@@ -7,6 +7,7 @@ use crate::values::{tell_read, tell_some};
 use hc_record::{Kind, StoredHead};
 use hc_sparse::{Presence, Run, Span2};
 use hc_store::{Backend, Failing, Memory, Slot, SlotView, StoreError};
+use hc_text::{Key, NoMemory};
 use hc_vector::{Fault, Vector, tell};
 
 /// Past the last position that there may be.
@@ -22,16 +23,14 @@ struct Kept<B: Backend> {
 
 impl<B: Backend> Kept<B> {
     /// A slot is made.
-    fn begun(mut store: B, v: &Vector) -> Result<Result<Kept<B>, StoreError>, Fault>
+    fn begun(mut store: B, key: &Key, head: &StoredHead) -> Result<Kept<B>, StoreError>
     where
         B: Drop,
     {
-        let key = key(v.alloc())?;
-        let head = head(v.alloc())?;
-        Ok(match store.create(&key, &head) {
+        match store.create(key, head) {
             Ok(slot) => Ok(Kept { store, slot }),
             Err(error) => Err(error),
-        })
+        }
     }
 
     /// One more slot is made.
@@ -155,10 +154,18 @@ impl Cupboard {
     }
 
     fn begin(&mut self, v: &Vector, to: &mut String) -> Result<(), Fault> {
-        let memory = Memory::new(v.alloc(), limits_of(v));
-        let begun = Kept::begun(Failing::new(memory, fails_of(v)?), v)?;
+        let store = failing_store(v)?;
+        let key = key(v.alloc())?;
+        let head = head(v.alloc())?;
+        let begun = Kept::begun(store, &key, &head);
         tell(&begun.as_ref().err(), to)?;
         self.kept = begun.ok();
         Ok(())
     }
+}
+
+/// A store with the limits that the call tells, which fails where it says.
+fn failing_store(v: &Vector) -> Result<Failing<Memory>, NoMemory> {
+    let fails = fails_of(v)?;
+    Ok(Failing::new(Memory::new(v.alloc(), limits_of(v)), fails))
 }

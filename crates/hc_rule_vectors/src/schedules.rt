@@ -139,19 +139,19 @@ fn tell_cuts(v: &Vector, to: &mut String) -> Result<(), Fault> {
     for len in 0..=text.len() {
         match ending(v.alloc(), &text[..len]) {
             Ok(()) => whole = whole.saturating_add(1),
-            Err(
-                FeedError::Refused(
-                    Refused {
-                        why: SchedRefusal::CutShort,
-                        ..
-                    },
-                ),
-            ) => cut = cut.saturating_add(1),
+            Err(error) if is_cut_short(error) => cut = cut.saturating_add(1),
             Err(_) => other = other.saturating_add(1),
         }
     }
     write!(to, "{whole} whole, {cut} cut short, {other} other")?;
     Ok(())
+}
+
+fn is_cut_short(error: FeedError) -> bool {
+    match error {
+        FeedError::Refused(Refused { why, .. }) => why == SchedRefusal::CutShort,
+        FeedError::NoMemory => false,
+    }
 }
 
 /// What the end of the text answers.

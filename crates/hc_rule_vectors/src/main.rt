@@ -3,6 +3,7 @@
 #![tactic(auto)]
 
 mod acts;
+mod answers;
 mod drawing;
 mod echo;
 mod freshness;

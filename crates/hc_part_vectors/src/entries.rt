@@ -34,7 +34,7 @@ impl Shelf {
 
     fn tell_of_entries(&mut self, v: &Vector, to: &mut String) -> Result<(), Fault> {
         match &mut self.entries {
-            Some(entries) => ask(entries, v, to),
+            Some(entries) => call_of_all(entries, v, to),
             None => Err(Fault::NoSuchCall),
         }
     }
@@ -48,8 +48,12 @@ impl Shelf {
     }
 }
 
-/// Makes a call that tells of all, or one of a single representation.
-fn ask<B: Backend>(entries: &mut Entries<B>, v: &Vector, to: &mut String) -> Result<(), Fault> {
+/// Makes a call of all, which tells of them or founds one more, or else a call of one.
+fn call_of_all<B: Backend>(
+    entries: &mut Entries<B>,
+    v: &Vector,
+    to: &mut String,
+) -> Result<(), Fault> {
     match v.call() {
         ("entries_used", "") => tell(&(entries.used(), entries.store().used()), to),
         ("entries_first_idle", "") => tell(&entries.first_idle(), to),
@@ -60,12 +64,16 @@ fn ask<B: Backend>(entries: &mut Entries<B>, v: &Vector, to: &mut String) -> Res
             tell(&entries.room(Write::Piece { stored, count }), to)
         }
         ("entries_found", "nn") => tell_some(&found(entries, v)?, to),
-        _ => ask_of(entries, v, to),
+        _ => call_of_one(entries, v, to),
     }
 }
 
-/// Makes a call that tells of one, or one that reads or changes what is kept.
-fn ask_of<B: Backend>(entries: &mut Entries<B>, v: &Vector, to: &mut String) -> Result<(), Fault> {
+/// Makes a call that tells of one, or else one that needs what is kept of it.
+fn call_of_one<B: Backend>(
+    entries: &mut Entries<B>,
+    v: &Vector,
+    to: &mut String,
+) -> Result<(), Fault> {
     let r = v.number(0);
     match v.call() {
         ("entries_entry", "n") => tell(&entries.entry(r), to),
@@ -91,7 +99,7 @@ fn tell_key(key: Option<&Key>, to: &mut String) -> Result<(), Fault> {
     Ok(())
 }
 
-/// Makes a call that reads the head or the bytes of one or changes them, or one of its users.
+/// Makes a call that reads or changes the head or the bytes of one, or else one of its users.
 fn change<B: Backend>(entries: &mut Entries<B>, v: &Vector, to: &mut String) -> Result<(), Fault> {
     let r = v.number(0);
     if entries.entry(r).is_none() {
@@ -107,7 +115,7 @@ fn change<B: Backend>(entries: &mut Entries<B>, v: &Vector, to: &mut String) -> 
     }
 }
 
-/// Makes a call that changes who uses one.
+/// Makes a call that changes who uses one, and writes what it answers.
 fn change_users<B: Backend>(
     entries: &mut Entries<B>,
     v: &Vector,
@@ -127,7 +135,7 @@ fn change_users<B: Backend>(
     }
 }
 
-/// Makes a call that changes who uses one, and answers nothing.
+/// Makes a call that changes who uses one, and that answers nothing.
 fn lose<B: Backend>(entries: &mut Entries<B>, r: u64, v: &Vector) -> Result<(), Fault> {
     if entries.entry(r).is_none() {
         return Err(Fault::NoSuchCall);

@@ -75,7 +75,7 @@ impl<B: Backend> Kept<B> {
         }
     }
 
-    /// Makes a call that changes nothing, or another.
+    /// Makes a call that changes nothing, or else one that may.
     fn tell(&mut self, v: &Vector, to: &mut String) -> Result<(), Fault> {
         let lo = v.number(0);
         let hi = v.number(1);

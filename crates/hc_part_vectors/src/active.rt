@@ -22,12 +22,12 @@ impl Binding {
     pub(crate) fn tell(&mut self, v: &Vector, to: &mut String) -> Result<(), Fault> {
         let entry = &self.entry;
         match v.call() {
-            ("active_admission", "nww") => {
+            "active_admission nww" => {
                 let admission = entry.admission(v.number(0), is_ranged(v), has_holes(v));
                 tell(&admission, to)
             }
-            ("active_is_gone", "") => tell(&entry.is_gone(), to),
-            ("active_representation", "") => tell(&entry.representation(), to),
+            "active_is_gone" => tell(&entry.is_gone(), to),
+            "active_representation" => tell(&entry.representation(), to),
             _ => {
                 self.change(v, to)?;
                 self.look(to)
@@ -37,12 +37,12 @@ impl Binding {
 
     fn change(&mut self, v: &Vector, to: &mut String) -> Result<(), Fault> {
         match v.call() {
-            ("active_new", "n") => self.entry = ActiveEntry::new(v.alloc(), v.number(0)),
-            ("active_founded", "nn") => self.entry = founded(v.alloc(), v.number(0), v.number(1))?,
-            ("active_resumed", "nn") => self.entry = resumed(v.alloc(), v.number(0), v.number(1))?,
-            ("active_end_shared", "") => self.entry.end_shared(),
-            ("active_doom", "") => self.entry.doom(),
-            ("active_admit", "nww") => return self.admit(v, to),
+            "active_new n" => self.entry = ActiveEntry::new(v.alloc(), v.number(0)),
+            "active_founded nn" => self.entry = founded(v.alloc(), v.number(0), v.number(1))?,
+            "active_resumed nn" => self.entry = resumed(v.alloc(), v.number(0), v.number(1))?,
+            "active_end_shared" => self.entry.end_shared(),
+            "active_doom" => self.entry.doom(),
+            "active_admit nww" => return self.admit(v, to),
             _ => return self.settle_or_leave(v),
         }
         Ok(())
@@ -67,8 +67,8 @@ impl Binding {
             return Err(Fault::NoSuchCall);
         }
         match v.call() {
-            ("active_settle", "n") => self.entry.settle(c),
-            ("active_leave", "n") => self.entry.leave(c),
+            "active_settle n" => self.entry.settle(c),
+            "active_leave n" => self.entry.leave(c),
             _ => return Err(Fault::NoSuchCall),
         }
         Ok(())

@@ -15,9 +15,6 @@ use std::alloc::Global;
 /// Past the last position that there may be.
 const END: u64 = 1 << 62;
 
-/// The arguments of five puts.
-const FIVE_PUTS: &str = "nntnntnntnntnnt";
-
 /// The same bytes as blocks and as a list of runs.
 #[derive(Drop)]
 struct Both {
@@ -82,9 +79,9 @@ impl ManyBytes {
     /// Makes the call on all, and writes what came of the first, and what differs from it.
     pub(crate) fn tell(&mut self, v: &Vector, to: &mut String) -> Result<(), Fault> {
         match v.call() {
-            ("bytes_new", "") => self.begin(v.alloc(), to),
-            ("bytes_in_every_order", FIVE_PUTS) => self.put_in_every_order(v, to),
-            ("bytes_in_steps", "n") => tell(&steps_are_alike(v.alloc(), v.number(0))?, to),
+            "bytes_new" => self.begin(v.alloc(), to),
+            "bytes_in_every_order nntnntnntnntnnt" => self.put_in_every_order(v, to),
+            "bytes_in_steps n" => tell(&steps_are_alike(v.alloc(), v.number(0))?, to),
             _ => self.tell_of_all(v, to),
         }
     }
@@ -137,16 +134,16 @@ fn tell_of<M: SparseBytes>(map: &mut M, v: &Vector, to: &mut String) -> Result<(
     let a = v.number(0);
     let b = v.number(1);
     match v.call() {
-        ("bytes_put", "nnt") => tell_op(map, v.alloc(), put_of(v, 0)?, to),
-        ("bytes_run", "nn") => {
+        "bytes_put nnt" => tell_op(map, v.alloc(), put_of(v, 0)?, to),
+        "bytes_run nn" => {
             let want = b as usize;
             tell_op(map, v.alloc(), SparseOp::RunAt { p: a, want }, to)
         }
-        ("bytes_next", "n") => tell_op(map, v.alloc(), SparseOp::Next { p: a }, to),
-        ("bytes_next_present", "n") => tell(&map.next_present(a), to),
-        ("bytes_covers", "nn") => tell(&map.covers(Span2 { lo: a, hi: b }), to),
-        ("bytes_size", "") => tell(&map.size(), to),
-        ("bytes_copy", "nn") if b > 0 => tell_run(&copy_at(map, a, b as usize)?, to),
+        "bytes_next n" => tell_op(map, v.alloc(), SparseOp::Next { p: a }, to),
+        "bytes_next_present n" => tell(&map.next_present(a), to),
+        "bytes_covers nn" => tell(&map.covers(Span2 { lo: a, hi: b }), to),
+        "bytes_size" => tell(&map.size(), to),
+        "bytes_copy nn" if b > 0 => tell_run(&copy_at(map, a, b as usize)?, to),
         _ => stitching::call(map, v, to),
     }
 }

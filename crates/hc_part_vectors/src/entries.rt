@@ -27,7 +27,7 @@ impl Shelf {
     /// Makes the call, and writes what it answers.
     pub(crate) fn tell(&mut self, v: &Vector, to: &mut String) -> Result<(), Fault> {
         match v.call() {
-            ("entries_new", shape) if shape.starts_with("nn") => self.begin(v, to),
+            call if call.starts_with("entries_new nn") => self.begin(v, to),
             _ => self.tell_of_entries(v, to),
         }
     }
@@ -55,15 +55,15 @@ fn call_of_all<B: Backend>(
     to: &mut String,
 ) -> Result<(), Fault> {
     match v.call() {
-        ("entries_used", "") => tell(&(entries.used(), entries.store().used()), to),
-        ("entries_first_idle", "") => tell(&entries.first_idle(), to),
-        ("entries_room_for_slot", "") => tell(&entries.room(Write::Slot), to),
-        ("entries_room_for_piece", "nn") => {
+        "entries_used" => tell(&(entries.used(), entries.store().used()), to),
+        "entries_first_idle" => tell(&entries.first_idle(), to),
+        "entries_room_for_slot" => tell(&entries.room(Write::Slot), to),
+        "entries_room_for_piece nn" => {
             let stored = v.number(0);
             let count = v.number(1);
             tell(&entries.room(Write::Piece { stored, count }), to)
         }
-        ("entries_found", "nn") => tell_some(&found(entries, v)?, to),
+        "entries_found nn" => tell_some(&found(entries, v)?, to),
         _ => call_of_one(entries, v, to),
     }
 }
@@ -76,17 +76,15 @@ fn call_of_one<B: Backend>(
 ) -> Result<(), Fault> {
     let r = v.number(0);
     match v.call() {
-        ("entries_entry", "n") => tell(&entries.entry(r), to),
-        ("entries_total_and_kind", "n") => {
+        "entries_entry n" => tell(&entries.entry(r), to),
+        "entries_total_and_kind n" => {
             tell(&entries.entry(r).map(|view| (view.total, view.kind)), to)
         }
-        ("entries_bound", "n") => tell(&entries.bound(r), to),
-        ("entries_key", "n") => tell_key(entries.key(r), to),
-        ("entries_tag_is_weak", "n") => tell(&entries.tag(r).map(|tag| tag.weak), to),
-        ("entries_answered", "n") => tell(&entries.facts(r).map(|facts| facts.answered), to),
-        ("entries_covers", "nnn") => {
-            tell_some(&covers(entries, r, v.number(1), v.number(2)), to)
-        }
+        "entries_bound n" => tell(&entries.bound(r), to),
+        "entries_key n" => tell_key(entries.key(r), to),
+        "entries_tag_is_weak n" => tell(&entries.tag(r).map(|tag| tag.weak), to),
+        "entries_answered n" => tell(&entries.facts(r).map(|facts| facts.answered), to),
+        "entries_covers nnn" => { tell_some(&covers(entries, r, v.number(1), v.number(2)), to) }
         _ => change(entries, v, to),
     }
 }
@@ -106,11 +104,11 @@ fn change<B: Backend>(entries: &mut Entries<B>, v: &Vector, to: &mut String) -> 
         return Err(Fault::NoSuchCall);
     }
     match v.call() {
-        ("entries_put", "nnt") => tell_some(&put(entries, r, v.number(1), v.text(2)), to),
-        ("entries_update", "n") => tell(&entries.update(r, &head(v.alloc())?), to),
-        ("entries_seal", "n") => tell(&entries.seal(r, Kind::Truncated, Some(7)), to),
-        ("entries_head", "n") => tell(&entries.head(r).map(|head| head.status), to),
-        ("entries_run", "nn") => tell_read(&entries.run_at(r, v.number(1), 9), to),
+        "entries_put nnt" => tell_some(&put(entries, r, v.number(1), v.text(2)), to),
+        "entries_update n" => tell(&entries.update(r, &head(v.alloc())?), to),
+        "entries_seal n" => tell(&entries.seal(r, Kind::Truncated, Some(7)), to),
+        "entries_head n" => tell(&entries.head(r).map(|head| head.status), to),
+        "entries_run nn" => tell_read(&entries.run_at(r, v.number(1), 9), to),
         _ => change_users(entries, v, to),
     }
 }
@@ -124,9 +122,9 @@ fn change_users<B: Backend>(
     let r = v.number(0);
     let n = v.number(1);
     match v.call() {
-        ("entries_bind", "nn") => tell_some(&bind(entries, r, n), to),
-        ("entries_bind_first", "nn") => tell_some(&bind_first(entries, r, n), to),
-        ("entries_unbind", "n") => tell_some(&unbind(entries, r), to),
+        "entries_bind nn" => tell_some(&bind(entries, r, n), to),
+        "entries_bind_first nn" => tell_some(&bind_first(entries, r, n), to),
+        "entries_unbind n" => tell_some(&unbind(entries, r), to),
         _ => {
             lose(entries, r, v)?;
             to.push_str("done")?;
@@ -141,9 +139,9 @@ fn lose<B: Backend>(entries: &mut Entries<B>, r: u64, v: &Vector) -> Result<(), 
         return Err(Fault::NoSuchCall);
     }
     match v.call() {
-        ("entries_forget", "n") => entries.forget(r),
-        ("entries_lose", "nn") => entries.lose(r, v.option(1)),
-        ("entries_set_writer", "nn") => entries.set_writer(r, v.number(1)),
+        "entries_forget n" => entries.forget(r),
+        "entries_lose nn" => entries.lose(r, v.option(1)),
+        "entries_set_writer nn" => entries.set_writer(r, v.number(1)),
         _ => return Err(Fault::NoSuchCall),
     }
     Ok(())

@@ -30,8 +30,8 @@ impl Table {
     pub(crate) fn tell(&mut self, v: &Vector, to: &mut String) -> Result<(), Fault> {
         let x = v.number(0);
         match v.call() {
-            ("exchange_view", "n") => tell(&self.exchanges.view(x), to),
-            ("exchange_opening", "n") => self.tell_opening(x, to),
+            "exchange_view n" => tell(&self.exchanges.view(x), to),
+            "exchange_opening n" => self.tell_opening(x, to),
             _ => {
                 self.change(v, to)?;
                 self.look(to)
@@ -52,15 +52,15 @@ impl Table {
 
     fn change(&mut self, v: &Vector, to: &mut String) -> Result<(), Fault> {
         match v.call() {
-            ("exchange_launch", _) => self.launch(v, to),
-            ("exchange_head", "nnt") => self.head(v, to),
-            ("exchange_piece", "ntw") => self.piece(v, to),
-            ("exchange_take", "nn") => self.take(v, to),
-            ("exchanges_new", "") => {
+            "exchange_launch w" | "exchange_launch wnn" => self.launch(v, to),
+            "exchange_head nnt" => self.head(v, to),
+            "exchange_piece ntw" => self.piece(v, to),
+            "exchange_take nn" => self.take(v, to),
+            "exchanges_new" => {
                 *self = Table::new(v.alloc());
                 Ok(())
             }
-            ("exchange_forget", "n") => {
+            "exchange_forget n" => {
                 self.exchanges.forget(v.number(0));
                 Ok(())
             }
@@ -73,9 +73,9 @@ impl Table {
         let x = v.number(0);
         let is_open = self.exchanges.view(x).is_some();
         match v.call() {
-            ("exchange_ask", "n") if is_open => self.exchanges.ask(x),
-            ("exchange_close", "n") if is_open => self.exchanges.close(x),
-            ("exchange_turn_into_body", "nn") if is_open => {
+            "exchange_ask n" if is_open => self.exchanges.ask(x),
+            "exchange_close n" if is_open => self.exchanges.close(x),
+            "exchange_turn_into_body nn" if is_open => {
                 self.exchanges.turn_into(x, Role::Body { r: v.number(1) });
             }
             _ => return Err(Fault::NoSuchCall),
@@ -161,10 +161,10 @@ fn is_small(exchanges: &Exchanges, x: u64) -> bool
 
 /// Why an exchange is launched.
 fn need_of(v: &Vector) -> Option<Need> {
-    match (v.word(0), v.call().1) {
-        ("Disabled", "w") => Some(Need::Disabled),
-        ("Miss", "w") => Some(Need::Miss),
-        ("Hole", "wnn") => Some(Need::Hole {
+    match (v.word(0), v.argument_count()) {
+        ("Disabled", 1) => Some(Need::Disabled),
+        ("Miss", 1) => Some(Need::Miss),
+        ("Hole", 3) => Some(Need::Hole {
             from: v.number(1),
             to: v.number(2),
         }),

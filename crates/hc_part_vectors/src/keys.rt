@@ -29,9 +29,9 @@ impl TwoKeys {
     fn tell_of(&mut self, key: &Key, v: &Vector, to: &mut String) -> Result<(), Fault> {
         let c = v.number(1);
         match v.call() {
-            ("key_stand", "wn") => tell(&self.table.stand(key, c), to),
-            ("key_turn_with", "wn") => tell(&self.table.turn_with(key, c), to),
-            ("key_met", "w") => self.tell_met(key, to),
+            "key_stand wn" => tell(&self.table.stand(key, c), to),
+            "key_turn_with wn" => tell(&self.table.turn_with(key, c), to),
+            "key_met w" => self.tell_met(key, to),
             _ => {
                 self.change(key, v)?;
                 self.look(v.alloc(), to)
@@ -54,12 +54,12 @@ impl TwoKeys {
     fn change(&mut self, key: &Key, v: &Vector) -> Result<(), Fault> {
         let c = v.number(1);
         match v.call() {
-            ("keys_new", "") => *self = TwoKeys::new(v.alloc()),
-            ("key_enter", "wn") if !self.table.is_in(key, c) => self.table.enter(key, c)?,
-            ("key_make", "wn") => self.table.make_current(key, c)?,
-            ("key_clear", "w") => self.table.clear_current(key),
-            ("key_all_back", "w") => self.table.all_back(key),
-            ("key_passed_back", "w") => self.table.passed_back(key),
+            "keys_new" => *self = TwoKeys::new(v.alloc()),
+            "key_enter wn" if !self.table.is_in(key, c) => self.table.enter(key, c)?,
+            "key_make wn" => self.table.make_current(key, c)?,
+            "key_clear w" => self.table.clear_current(key),
+            "key_all_back w" => self.table.all_back(key),
+            "key_passed_back w" => self.table.passed_back(key),
             _ => return self.step(key, c, v),
         }
         Ok(())
@@ -72,12 +72,12 @@ impl TwoKeys {
             return Err(Fault::NoSuchCall);
         }
         match v.call() {
-            ("key_hold", "wn") if table.turn(key) == Some(c) => table.hold(key, c),
-            ("key_pass", "wn") => table.pass(key, c),
-            ("key_away", "wn") => table.away(key, c),
-            ("key_back", "wn") => table.back(key, c),
-            ("key_leave", "wn") => table.leave(key, c),
-            ("key_set", "wnn") => table.set_current(key, v.number(2)),
+            "key_hold wn" if table.turn(key) == Some(c) => table.hold(key, c),
+            "key_pass wn" => table.pass(key, c),
+            "key_away wn" => table.away(key, c),
+            "key_back wn" => table.back(key, c),
+            "key_leave wn" => table.leave(key, c),
+            "key_set wnn" => table.set_current(key, v.number(2)),
             _ => return Err(Fault::NoSuchCall),
         }
         Ok(())

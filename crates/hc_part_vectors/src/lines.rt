@@ -23,7 +23,7 @@ impl Line {
     /// with 5 in line.
     pub(crate) fn tell(&mut self, v: &Vector, to: &mut String) -> Result<(), Fault> {
         match v.call() {
-            ("line_is_in", "n") => tell(&self.line.is_in(v.number(0)), to),
+            "line_is_in n" => tell(&self.line.is_in(v.number(0)), to),
             _ => {
                 self.change(v)?;
                 self.look(to)
@@ -34,9 +34,9 @@ impl Line {
     fn change(&mut self, v: &Vector) -> Result<(), Fault> {
         let c = v.number(0);
         match v.call() {
-            ("line_new", "") => *self = Line::new(v.alloc()),
-            ("line_enter", "n") if !self.line.is_in(c) => self.last = self.line.enter(c)?,
-            ("line_leave_at_last", "") if self.line.seated(self.last.key).is_some() => {
+            "line_new" => *self = Line::new(v.alloc()),
+            "line_enter n" if !self.line.is_in(c) => self.last = self.line.enter(c)?,
+            "line_leave_at_last" if self.line.seated(self.last.key).is_some() => {
                 self.line.leave_at(self.last);
             }
             _ => return self.step(c, v),
@@ -51,11 +51,11 @@ impl Line {
             return Err(Fault::NoSuchCall);
         }
         match v.call() {
-            ("line_hold", "n") if line.turn() == Some(c) => line.hold(c),
-            ("line_pass", "n") => line.pass(c),
-            ("line_away", "n") => line.away(c),
-            ("line_back", "n") => line.back(c),
-            ("line_leave", "n") => line.leave(c),
+            "line_hold n" if line.turn() == Some(c) => line.hold(c),
+            "line_pass n" => line.pass(c),
+            "line_away n" => line.away(c),
+            "line_back n" => line.back(c),
+            "line_leave n" => line.leave(c),
             _ => return Err(Fault::NoSuchCall),
         }
         Ok(())

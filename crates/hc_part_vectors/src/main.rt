@@ -68,7 +68,7 @@ impl Calls for Parts {
     /// The first word of a call's name says of which object it is. Calls of stitching are of sparse bytes
     /// too, and have names of their own.
     fn tell(&mut self, vector: &Vector, value: &mut String) -> Result<(), Fault> {
-        let (name, _) = vector.call();
+        let name = vector.name();
         let (object, _) = name.split_once('_').unwrap_or((name, ""));
         match object {
             "numbers" => self.numbers.tell(vector, value),

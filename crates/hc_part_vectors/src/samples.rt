@@ -54,7 +54,7 @@ pub(crate) fn limits_of(v: &Vector) -> Limits {
 /// The calls that the words behind the limits name: the first of each is to fail.
 pub(crate) fn fails_of(v: &Vector) -> Result<Vec<(Op, u64)>, NoMemory> {
     let mut fails = Vec::new(v.alloc());
-    for at in 2..v.call().1.len() {
+    for at in 2..v.argument_count() {
         if let Some(op) = op_of(v.word(at)) {
             fails.push((op, 1))?;
         }

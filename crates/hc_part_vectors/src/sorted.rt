@@ -28,8 +28,8 @@ impl Numbers {
     pub(crate) fn tell(&mut self, v: &Vector, to: &mut String) -> Result<(), Fault> {
         let n = v.number(0);
         match v.call() {
-            ("numbers_has", "n") => tell(&has_item(self.items.as_slice(), n), to),
-            ("numbers_item", "n") => tell(&item_at(self.items.as_slice(), n), to),
+            "numbers_has n" => tell(&has_item(self.items.as_slice(), n), to),
+            "numbers_item n" => tell(&item_at(self.items.as_slice(), n), to),
             _ => {
                 self.change(n, v, to)?;
                 tell(&self.items.as_slice(), to)
@@ -39,14 +39,14 @@ impl Numbers {
 
     fn change(&mut self, n: u64, v: &Vector, to: &mut String) -> Result<(), Fault> {
         match v.call() {
-            ("numbers_new", "") => {
+            "numbers_new" => {
                 *self = Numbers::new(v.alloc());
                 Ok(())
             }
-            ("numbers_put", "n") => self.put(n),
-            ("numbers_put_reserved", "n") => self.put_with_room(n),
-            ("numbers_take", "n") => self.take(n, to),
-            ("numbers_leave", "n") => {
+            "numbers_put n" => self.put(n),
+            "numbers_put_reserved n" => self.put_with_room(n),
+            "numbers_take n" => self.take(n, to),
+            "numbers_leave n" => {
                 leave_out(&mut self.items, n);
                 Ok(())
             }
@@ -117,10 +117,10 @@ impl Members {
         let c = v.number(0);
         let offset = v.number(1);
         match v.call() {
-            ("members_new", "") => *self = Members::new(v.alloc()),
-            ("members_put", "nn") => self.put(Member { c, offset })?,
-            ("members_replace", "nn") => self.replace(Member { c, offset })?,
-            ("members_item", "n") => {}
+            "members_new" => *self = Members::new(v.alloc()),
+            "members_put nn" => self.put(Member { c, offset })?,
+            "members_replace nn" => self.replace(Member { c, offset })?,
+            "members_item n" => {}
             _ => return Err(Fault::NoSuchCall),
         }
         let offset = item_at(self.items.as_slice(), c).map(|member| member.offset);

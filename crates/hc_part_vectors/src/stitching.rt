@@ -11,7 +11,7 @@ pub(crate) fn call<P: Presence>(store: &P, v: &Vector, to: &mut String) -> Resul
     let lo = v.number(0);
     let hi = v.number(1);
     match v.call() {
-        ("next_part", "nn") => {
+        "next_part nn" => {
             let stitch = Stitch {
                 span: Span { lo: 0, hi },
                 offset: lo,
@@ -19,8 +19,8 @@ pub(crate) fn call<P: Presence>(store: &P, v: &Vector, to: &mut String) -> Resul
             };
             tell(&next(&stitch, store), to)
         }
-        ("first_hole", "nn") => tell(&first_hole(store, Span { lo, hi }), to),
-        ("accepts", "nnntnt") => tell_answer(v, to),
+        "first_hole nn" => tell(&first_hole(store, Span { lo, hi }), to),
+        "accepts nnntnt" => tell_answer(v, to),
         _ => Err(Fault::NoSuchCall),
     }
 }

@@ -80,23 +80,23 @@ impl<B: Backend> Kept<B> {
         let lo = v.number(0);
         let hi = v.number(1);
         match v.call() {
-            ("store_covers", "nn") => tell(&self.view().covers(Span2 { lo, hi }), to),
-            ("store_next", "n") => tell(&self.view().next_present(lo), to),
-            ("store_kind", "") => tell(&self.store.kind(self.slot), to),
-            ("store_used", "") => tell(&self.store.used(), to),
-            ("store_used_by", "") => tell(&self.store.used_by(self.slot), to),
+            "store_covers nn" => tell(&self.view().covers(Span2 { lo, hi }), to),
+            "store_next n" => tell(&self.view().next_present(lo), to),
+            "store_kind" => tell(&self.store.kind(self.slot), to),
+            "store_used" => tell(&self.store.used(), to),
+            "store_used_by" => tell(&self.store.used_by(self.slot), to),
             _ => self.change(v, to),
         }
     }
 
     fn change(&mut self, v: &Vector, to: &mut String) -> Result<(), Fault> {
         match v.call() {
-            ("store_create", "") => tell(&self.create(v)?, to),
-            ("store_put", "nt") => tell_some(&self.put(v.number(0), v.text(1)), to),
-            ("store_run", "n") => tell_read(&self.run_at(v.number(0)), to),
-            ("store_seal", "") => tell(&self.seal(), to),
-            ("store_write_record", "") => tell(&self.write_record(&head(v.alloc())?), to),
-            ("store_read_record", "") => tell_record(&self.read_record(), to),
+            "store_create" => tell(&self.create(v)?, to),
+            "store_put nt" => tell_some(&self.put(v.number(0), v.text(1)), to),
+            "store_run n" => tell_read(&self.run_at(v.number(0)), to),
+            "store_seal" => tell(&self.seal(), to),
+            "store_write_record" => tell(&self.write_record(&head(v.alloc())?), to),
+            "store_read_record" => tell_record(&self.read_record(), to),
             _ => Err(Fault::NoSuchCall),
         }
     }
@@ -135,8 +135,8 @@ impl Cupboard {
     /// Makes the call, and writes what it answers.
     pub(crate) fn tell(&mut self, v: &Vector, to: &mut String) -> Result<(), Fault> {
         match v.call() {
-            ("store_new", shape) if shape.starts_with("nn") => self.begin(v, to),
-            ("store_drop", "") => tell_some(&self.drop_slot(), to),
+            call if call.starts_with("store_new nn") => self.begin(v, to),
+            "store_drop" => tell_some(&self.drop_slot(), to),
             _ => self.tell_of_slot(v, to),
         }
     }

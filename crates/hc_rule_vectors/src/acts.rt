@@ -25,8 +25,8 @@ impl Report {
     /// Writes the value of the call.
     pub(crate) fn call(&mut self, v: &Vector, to: &mut String) -> Result<(), Fault> {
         match v.call() {
-            ("report", "n") => self.tell(v, to),
-            ("keeps_room", "n") => tell_room(v, to),
+            "report n" => self.tell(v, to),
+            "keeps_room n" => tell_room(v, to),
             _ => self.keep(v, to),
         }
     }
@@ -66,9 +66,9 @@ fn tell_entry(alloc: Global, number: u64, acts: &[Act], to: &mut String) -> Resu
 /// The act that the line is.
 fn act_of(v: &Vector) -> Result<Act, Fault> {
     match v.call() {
-        ("open", "nnwt") => opened(v),
-        ("shown", "nnwnnnt") => shown(v),
-        ("data", "nnnt") => given(v),
+        "open nnwt" => opened(v),
+        "shown nnwnnnt" => shown(v),
+        "data nnnt" => given(v),
         _ => plain_act_of(v),
     }
 }
@@ -77,23 +77,23 @@ fn act_of(v: &Vector) -> Result<Act, Fault> {
 fn plain_act_of(v: &Vector) -> Result<Act, Fault> {
     let n = v.number(0);
     Ok(match v.call() {
-        ("ask", "n") => Act::Ask { x: n },
-        ("close", "n") => Act::Close { x: n },
-        ("ended", "n") => Act::Ended { c: n },
-        ("evicted", "n") => Act::Evicted { r: n },
-        ("failed", "nw") => {
+        "ask n" => Act::Ask { x: n },
+        "close n" => Act::Close { x: n },
+        "ended n" => Act::Ended { c: n },
+        "evicted n" => Act::Evicted { r: n },
+        "failed nw" => {
             let cause = cause_at(v, 1)?;
             Act::Failed { c: n, cause }
         }
-        ("pending", "nw") => {
+        "pending nw" => {
             let wait = wait_at(v, 1)?;
             Act::Pending { c: n, wait }
         }
-        ("lost", "nw") => {
+        "lost nw" => {
             let kind = kind_at(v, 1)?;
             Act::Lost { r: n, kind }
         }
-        ("denied", "n" | "nn") => {
+        "denied n" | "denied nn" => {
             let refusal = refusal_of(n, v.number(1))?;
             Act::Denied { refusal }
         }

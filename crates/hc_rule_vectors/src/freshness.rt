@@ -10,12 +10,12 @@ use hc_vector::{Fault, Vector, tell};
 /// Writes the value of the call, if it is one of these.
 pub(crate) fn call(v: &Vector, to: &mut String) -> Result<bool, Fault> {
     match v.call() {
-        ("is_safe", "t") => tell_safe(v, to),
-        ("date_in", "t") => tell_date(v, to),
-        ("lifetime", "t") => tell_lifetime(v, to),
-        ("age", "nnnt") => tell_age(v, to),
-        ("allowed", "ntt") => tell_allowed(v, to),
-        ("vary_matches", "ttt") => tell_matches(v, to),
+        "is_safe t" => tell_safe(v, to),
+        "date_in t" => tell_date(v, to),
+        "lifetime t" => tell_lifetime(v, to),
+        "age nnnt" => tell_age(v, to),
+        "allowed ntt" => tell_allowed(v, to),
+        "vary_matches ttt" => tell_matches(v, to),
         _ => return Ok(false),
     }?;
     Ok(true)

@@ -9,10 +9,10 @@ const MOST: usize = 32_768;
 /// Writes the value of the call, if it is one of these.
 pub(crate) fn call(v: &Vector, to: &mut String) -> Result<bool, Fault> {
     match v.call() {
-        ("call_of", "t") => tell_call(v, to),
-        ("reply_of", "wt") => tell_reply(v, to),
-        ("find_end", "t") => tell_end(v, to),
-        ("line_end", "t") => tell(&line_end(v.text(0)), to),
+        "call_of t" => tell_call(v, to),
+        "reply_of wt" => tell_reply(v, to),
+        "find_end t" => tell_end(v, to),
+        "line_end t" => tell(&line_end(v.text(0)), to),
         _ => return Ok(false),
     }?;
     Ok(true)

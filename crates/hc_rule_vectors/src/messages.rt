@@ -11,11 +11,11 @@ use std::alloc::Global;
 /// Writes the value of the call, if it is one of these.
 pub(crate) fn call(v: &Vector, to: &mut String) -> Result<bool, Fault> {
     match v.call() {
-        ("read_requests", "t") => tell_requests(v, to),
-        ("read_answer", "wt") => tell_answers(v, to),
-        ("write_chunk", "t") => tell_chunk(v, to),
-        ("write_response_head", "nwt") => tell_sent_head(v, to),
-        ("write_request", "t") => tell_sent_request(v, to),
+        "read_requests t" => tell_requests(v, to),
+        "read_answer wt" => tell_answers(v, to),
+        "write_chunk t" => tell_chunk(v, to),
+        "write_response_head nwt" => tell_sent_head(v, to),
+        "write_request t" => tell_sent_request(v, to),
         _ => return Ok(false),
     }?;
     Ok(true)

@@ -12,24 +12,32 @@ use std::alloc::Global;
 /// Writes the value of the call, if it is one of these.
 pub(crate) fn call(v: &Vector, to: &mut String) -> Result<bool, Fault> {
     match v.call() {
-        ("plan_of", _) => tell_plan(v, to),
-        ("read_step", "nnnwnnn" | "nnnwwnn") => tell_step(v, to),
-        ("admission_of", _) => tell_admission(v, to),
-        ("least_bound", _) => tell_least(v, to),
-        ("lesser", "nn") => tell(&lesser(v.option(0), v.number(1)), to),
-        ("weight_of", "n") => tell_weight(v, to),
-        ("room_of", _) => tell_room(v, to),
-        ("survivor_at", _) => tell_survivor(v, to),
+        "read_step nnnwnnn" | "read_step nnnwwnn" => tell_step(v, to),
+        "lesser nn" => tell(&lesser(v.option(0), v.number(1)), to),
+        "weight_of n" => tell_weight(v, to),
+        _ => return call_of_any_count(v, to),
+    }?;
+    Ok(true)
+}
+
+/// Writes the value of the call, if it is one of these, which take more arguments or fewer.
+fn call_of_any_count(v: &Vector, to: &mut String) -> Result<bool, Fault> {
+    match v.name() {
+        "plan_of" => tell_plan(v, to),
+        "admission_of" => tell_admission(v, to),
+        "least_bound" => tell_least(v, to),
+        "room_of" => tell_room(v, to),
+        "survivor_at" => tell_survivor(v, to),
         _ => return Ok(false),
     }?;
     Ok(true)
 }
 
 fn tell_plan(v: &Vector, to: &mut String) -> Result<(), Fault> {
-    let (_, shape) = v.call();
-    let current = match (shape.starts_with("nnnwtwnn"), shape.len()) {
-        (true, 8) => None,
-        (true, 15) => Some(candidate_of(v)?),
+    let is_plan = v.call().starts_with("plan_of nnnwtwnn");
+    let current = match v.argument_count() {
+        8 if is_plan => None,
+        15 if is_plan => Some(candidate_of(v)?),
         _ => return Err(Fault::NoSuchCall),
     };
     tell(&plan_of(&plan_view_of(v, current)?), to)
@@ -117,8 +125,7 @@ fn tell_least(v: &Vector, to: &mut String) -> Result<(), Fault> {
 /// Those who are bound, from this place on.
 fn bound_from(v: &Vector, from: usize) -> Result<Vec<Bound>, Fault> {
     let mut bound = Vec::new(v.alloc());
-    let (_, shape) = v.call();
-    for at in from..shape.len() {
+    for at in from..v.argument_count() {
         bound.push(bound_at(v, at)?)?;
     }
     Ok(bound)
@@ -157,8 +164,7 @@ fn tell_room(v: &Vector, to: &mut String) -> Result<(), Fault> {
 /// The numbers from this place on.
 fn numbers_from(v: &Vector, from: usize) -> Result<Vec<u64>, Fault> {
     let mut numbers = Vec::new(v.alloc());
-    let (_, shape) = v.call();
-    for at in from..shape.len() {
+    for at in from..v.argument_count() {
         numbers.push(v.number(at))?;
     }
     Ok(numbers)

@@ -12,18 +12,18 @@ use hc_vector::{Fault, Vector, tell};
 /// Writes the value of the call, if it is one of these.
 pub(crate) fn call(v: &Vector, to: &mut String) -> Result<bool, Fault> {
     match v.call() {
-        ("class_of", "t") => tell_class(v, to),
-        ("wanted_of", "tn") => tell_wanted(v, to),
-        ("refusal_of", "nnwt") => tell_refusal(v, None, 3, to),
-        ("refusal_of", "nnwwwnnt") => tell_refusal_of_exchange(v, to),
-        ("length_of", "wtt") => tell_length(v, to),
-        ("content_range_of", "t") => tell_content_range(v, to),
-        ("is_storable", "tt") => tell_storable(v, to),
-        ("fits_to_found", "tt") => tell_fit(v, to),
-        ("is_conditional", "wt") => tell_conditional(v, to),
-        ("hole_answer", "tnnnt") => tell_hole_answer(v, to),
-        ("route_of", "w") => tell_route(v, to),
-        ("head_case", "wwnwwwwwww") => tell_head_case(v, to),
+        "class_of t" => tell_class(v, to),
+        "wanted_of tn" => tell_wanted(v, to),
+        "refusal_of nnwt" => tell_refusal(v, None, 3, to),
+        "refusal_of nnwwwnnt" => tell_refusal_of_exchange(v, to),
+        "length_of wtt" => tell_length(v, to),
+        "content_range_of t" => tell_content_range(v, to),
+        "is_storable tt" => tell_storable(v, to),
+        "fits_to_found tt" => tell_fit(v, to),
+        "is_conditional wt" => tell_conditional(v, to),
+        "hole_answer tnnnt" => tell_hole_answer(v, to),
+        "route_of w" => tell_route(v, to),
+        "head_case wwnwwwwwww" => tell_head_case(v, to),
         _ => return Ok(false),
     }?;
     Ok(true)

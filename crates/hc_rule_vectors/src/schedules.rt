@@ -13,12 +13,12 @@ use std::alloc::Global;
 /// Writes the value of the call, if it is one of these.
 pub(crate) fn call(v: &Vector, to: &mut String) -> Result<bool, Fault> {
     match v.call() {
-        ("is_target", "t") => tell_target(v, to),
-        ("copy", "t") => tell_copy(v, to),
-        ("read_schedule", "nt") => tell_alike(v, to),
-        ("read_schedule", "nnt") => tell_read(v, to),
-        ("cut_schedule", "t") => tell_cuts(v, to),
-        ("write_end", "nnn") => tell_end(v, to),
+        "is_target t" => tell_target(v, to),
+        "copy t" => tell_copy(v, to),
+        "read_schedule nt" => tell_alike(v, to),
+        "read_schedule nnt" => tell_read(v, to),
+        "cut_schedule t" => tell_cuts(v, to),
+        "write_end nnn" => tell_end(v, to),
         _ => return Ok(false),
     }?;
     Ok(true)

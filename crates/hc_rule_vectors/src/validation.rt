@@ -9,13 +9,13 @@ use hc_vector::{Fault, Vector, tell};
 /// Writes the value of the call, if it is one of these.
 pub(crate) fn call(v: &Vector, to: &mut String) -> Result<bool, Fault> {
     match v.call() {
-        ("conditional", "tt") => tell_conditional(v, to),
-        ("selects", "tt") => tell_selects(v, to),
-        ("update", "tt") => tell_update(v, to),
-        ("update_by_many", "tn") => tell_update_by_many(v, to),
-        ("shown", "twnw" | "twww") => tell_shown(v, to),
-        ("origin_answer", "t") => tell_origin(v, to),
-        ("origin_byte", "n") => tell(&char::from(origin_byte(v.number(0))), to),
+        "conditional tt" => tell_conditional(v, to),
+        "selects tt" => tell_selects(v, to),
+        "update tt" => tell_update(v, to),
+        "update_by_many tn" => tell_update_by_many(v, to),
+        "shown twnw" | "shown twww" => tell_shown(v, to),
+        "origin_answer t" => tell_origin(v, to),
+        "origin_byte n" => tell(&char::from(origin_byte(v.number(0))), to),
         _ => return Ok(false),
     }?;
     Ok(true)

@@ -34,11 +34,16 @@ fn main(rt: HostRuntime) -> ExitCode {
 /// Does what the words after the program's name ask for.
 fn bench(rt: &HostRuntime) -> Result<(), BenchError> {
     let words = arguments(rt)?;
-    let [subject, words @ ..] = words.as_slice() else {
-        return Ok(());
-    };
+    match words.as_slice() {
+        [subject, words @ ..] => run(rt, subject.as_str(), words),
+        [] => Ok(()),
+    }
+}
+
+/// Does what the words ask for of this subject.
+fn run(rt: &HostRuntime, subject: &str, words: &[String]) -> Result<(), BenchError> {
     let alloc = rt.alloc();
-    match subject.as_str() {
+    match subject {
         "fields" => fields::run(alloc, words),
         "map" => maps::run(alloc, words),
         "sparse" => sparse::run(alloc, words),

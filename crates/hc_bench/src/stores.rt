@@ -20,6 +20,12 @@ const EXCHANGE: u64 = 1;
 /// The most slots.
 const MOST: u64 = 1 << 16;
 
+/// Nothing is too large.
+const NO_LIMITS: Limits = Limits {
+    max_entry: u64::MAX,
+    max_total: u64::MAX,
+};
+
 /// `CALL SLOTS COUNT`: the slots are made, and then the calls.
 pub(crate) fn run(alloc: Global, words: &[String]) -> Result<(), BenchError> {
     let [call, slots, times] = words else {
@@ -27,19 +33,24 @@ pub(crate) fn run(alloc: Global, words: &[String]) -> Result<(), BenchError> {
     };
     let slots = number_of(slots.as_str(), 1, MOST)?;
     let times = times_of(times.as_str())?;
-    let limits = Limits {
-        max_entry: u64::MAX,
-        max_total: u64::MAX,
-    };
     let heads = TwoHeads::new(alloc)?;
-    let head = heads.at(0);
-    let mut store = Memory::new(alloc, limits);
-    for _k in 1..slots {
-        make(&mut store, alloc, head)?;
-    }
-    let slot = make(&mut store, alloc, head)?;
+    run_on(alloc, heads.at(0), call.as_str(), slots, times)
+}
+
+/// Makes so many slots with this head, and then the calls.
+fn run_on(
+    alloc: Global,
+    head: &StoredHead,
+    call: &str,
+    slots: u64,
+    times: u64,
+) -> Result<(), BenchError>
+    requires { times ≤ 2 ^ 32 }
+{
+    let mut store = Memory::new(alloc, NO_LIMITS);
+    let slot = fill(&mut store, alloc, head, slots)?;
     let bytes = [b'x'; LEN as usize];
-    match call.as_str() {
+    match call {
         "create" => create_rounds(&mut store, alloc, head, times),
         "put" => put_rounds(&mut store, slot, &bytes, times),
         "read" => read_rounds(&mut store, slot, times),
@@ -47,6 +58,22 @@ pub(crate) fn run(alloc: Global, words: &[String]) -> Result<(), BenchError> {
         "seal" => seal_rounds(&mut store, slot, times),
         _ => Err(BenchError::Usage),
     }
+}
+
+/// Makes so many slots, of which the last one is answered.
+fn fill(
+    store: &mut Memory,
+    alloc: Global,
+    head: &StoredHead,
+    slots: u64,
+) -> Result<Slot, BenchError>
+    ensures live { IfOk result (λ slot. is_live (slots_in store.new) slot.n ≡ true) }
+    ensures empty { IfOk result (λ slot. (p : ℕ) → cells_in (slots_in store.new) slot.n p ≡ None) }
+{
+    for _k in 1..slots {
+        make(store, alloc, head)?;
+    }
+    make(store, alloc, head)
 }
 
 /// A new slot, which is live and empty.

@@ -7,9 +7,9 @@ use hc_vector::{Vector, fields_of, show};
 /// Writes the value of the call, if it is one of these.
 pub(crate) fn call(v: &Vector, to: &mut String) -> Result<bool, FieldError> {
     match v.call() {
-        ("read_delta_seconds", "t") => show(&read_delta_seconds(v.text(0)), to)?,
-        ("read_response", "t") => tell_response(v, to)?,
-        ("read_request", "t") => tell_request(v, to)?,
+        "read_delta_seconds t" => show(&read_delta_seconds(v.text(0)), to)?,
+        "read_response t" => tell_response(v, to)?,
+        "read_request t" => tell_request(v, to)?,
         _ => return Ok(false),
     }
     Ok(true)

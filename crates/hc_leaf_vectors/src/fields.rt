@@ -8,20 +8,20 @@ use hc_vector::{Fault, Vector, fields_of, quote, show};
 pub(crate) fn ask(fields: &Fields, v: &Vector, to: &mut String) -> Result<bool, Fault> {
     let name = v.text(0);
     match v.call() {
-        ("list", "") => tell_list(fields, to),
-        ("lines", "t") => tell_lines(fields, name, to),
-        ("len", "") => show(&fields.len(), to),
-        ("size", "") => show(&fields.size(), to),
-        ("within_limits", "") => show(&fields.within_limits(), to),
-        ("count", "t") => show(&fields.count(name), to),
-        ("get", "t") => tell_value(fields.get(name), to),
-        ("value", "tn") => tell_value(fields.value(name, v.number(1) as usize), to),
-        ("joined", "t") => tell_joined(fields, name, to),
-        ("has_field", "t") => show(&has_field(fields, name), to),
-        ("only_value", "t") => tell_value(only_value(fields, name), to),
-        ("agree_on", "ttt") => return tell_agreement(v, to),
-        ("read_lines", "tn") => tell_read(v, name, v.number(1), to),
-        ("read_lines", "tnn") => tell_read_of_many(v, to),
+        "list" => tell_list(fields, to),
+        "lines t" => tell_lines(fields, name, to),
+        "len" => show(&fields.len(), to),
+        "size" => show(&fields.size(), to),
+        "within_limits" => show(&fields.within_limits(), to),
+        "count t" => show(&fields.count(name), to),
+        "get t" => tell_value(fields.get(name), to),
+        "value tn" => tell_value(fields.value(name, v.number(1) as usize), to),
+        "joined t" => tell_joined(fields, name, to),
+        "has_field t" => show(&has_field(fields, name), to),
+        "only_value t" => tell_value(only_value(fields, name), to),
+        "agree_on ttt" => return tell_agreement(v, to),
+        "read_lines tn" => tell_read(v, name, v.number(1), to),
+        "read_lines tnn" => tell_read_of_many(v, to),
         _ => return Ok(false),
     }?;
     Ok(true)
@@ -31,10 +31,10 @@ pub(crate) fn ask(fields: &Fields, v: &Vector, to: &mut String) -> Result<bool, 
 pub(crate) fn change(fields: &mut Fields, v: &Vector, to: &mut String) -> Result<bool, Fault> {
     let (name, value) = (v.text(0), v.text(1));
     match v.call() {
-        ("append", "tt") => show(&fields.append(name, value), to),
-        ("append", "ttn") => append_often(fields, v, to),
-        ("set", "tt") => show(&fields.set(name, value), to),
-        ("remove", "t") => {
+        "append tt" => show(&fields.append(name, value), to),
+        "append ttn" => append_often(fields, v, to),
+        "set tt" => show(&fields.set(name, value), to),
+        "remove t" => {
             fields.remove(name);
             show(&fields.len(), to)
         }
@@ -47,10 +47,10 @@ pub(crate) fn change(fields: &mut Fields, v: &Vector, to: &mut String) -> Result
 fn begin(fields: &mut Fields, v: &Vector, to: &mut String) -> Result<bool, Fault> {
     let (count, bytes) = (v.number(0) as usize, v.number(1) as usize);
     *fields = match v.call() {
-        ("new", "") => Fields::new(v.alloc())?,
-        ("with_room", "nn") => Fields::with_room(v.alloc(), count, bytes)?,
-        ("fields", "t") => fields_of(v.alloc(), v.text(0))?,
-        ("copy", "") => fields.copy()?,
+        "new" => Fields::new(v.alloc())?,
+        "with_room nn" => Fields::with_room(v.alloc(), count, bytes)?,
+        "fields t" => fields_of(v.alloc(), v.text(0))?,
+        "copy" => fields.copy()?,
         _ => return Ok(false),
     };
     show(&fields.len(), to)?;

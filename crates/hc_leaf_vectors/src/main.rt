@@ -27,7 +27,7 @@ struct Leaf {
 }
 
 impl Calls for Leaf {
-    fn tell(&mut self, vector: &Vector, to: &mut String) -> Result<bool, Fault> {
+    fn tell(&mut self, vector: &Vector, to: &mut String) -> Result<(), Fault> {
         let is_told = texts::call(vector, to)?
             || tags::call(vector, to)?
             || ranges::call(vector, to)?
@@ -36,7 +36,11 @@ impl Calls for Leaf {
             || fields::change(&mut self.fields, vector, to)?
             || records::call(vector, to)?
             || methods::call(vector, to)?;
-        Ok(is_told)
+        if is_told {
+            Ok(())
+        } else {
+            Err(Fault::NoSuchCall)
+        }
     }
 }
 

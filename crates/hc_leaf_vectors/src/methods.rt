@@ -6,7 +6,7 @@ use hc_vector::{Vector, show};
 /// Writes the value of the call, if it is one of these.
 pub(crate) fn call(v: &Vector, to: &mut String) -> Result<bool, NoMemory> {
     match v.call() {
-        ("is_safe", "t") => {
+        "is_safe t" => {
             let bytes = v.text(0).to_vec(v.alloc())?;
             show(&is_safe(&MethodName { bytes }), to)?;
             Ok(true)

@@ -10,12 +10,12 @@ pub(crate) fn call(v: &Vector, to: &mut String) -> Result<bool, NoMemory> {
     let text = v.text(0);
     let (a, b, c) = (v.number(0), v.number(1), v.number(2));
     match v.call() {
-        ("read_range", "t") => show(&read_range(text), to),
-        ("read_content_range", "t") => show(&read_content_range(text), to),
-        ("resolve_from", "nn") => show(&resolve(Asked::From(a), b), to),
-        ("resolve_from_to", "nnn") if a <= b => show(&resolve(Asked::FromTo(a, b), c), to),
-        ("resolve_last", "nn") => show(&resolve(Asked::Last(a), b), to),
-        ("write_range" | "write_content_range", "nnn") => return tell_span(v, to),
+        "read_range t" => show(&read_range(text), to),
+        "read_content_range t" => show(&read_content_range(text), to),
+        "resolve_from nn" => show(&resolve(Asked::From(a), b), to),
+        "resolve_from_to nnn" if a <= b => show(&resolve(Asked::FromTo(a, b), c), to),
+        "resolve_last nn" => show(&resolve(Asked::Last(a), b), to),
+        "write_range nnn" | "write_content_range nnn" => return tell_span(v, to),
         _ => return Ok(false),
     }?;
     Ok(true)
@@ -28,7 +28,7 @@ fn tell_span(v: &Vector, to: &mut String) -> Result<bool, NoMemory> {
         return Ok(false);
     }
     let mut text = Vec::new(v.alloc());
-    if v.call().0 == "write_range" {
+    if v.name() == "write_range" {
         write_range(Span { lo, hi }, total, &mut text)?;
     } else {
         write_content_range(Span { lo, hi }, total, &mut text)?;

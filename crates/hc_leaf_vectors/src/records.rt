@@ -8,12 +8,12 @@ use hc_vector::{Fault, Vector, fields_of, quote};
 /// Writes the value of the call, if it is one of these.
 pub(crate) fn call(v: &Vector, to: &mut String) -> Result<bool, Fault> {
     match v.call() {
-        ("read_record", "t") => tell_read(v, to),
-        ("rewrite_record", "t") => tell_rewritten(v, to),
-        ("write_record", "wnnnntt") => return tell_written(v, to),
-        ("joining_tag", "t") => return tell_joining(v, to),
-        ("seal_record", "twn") => return tell_sealed(v, to),
-        ("changes_of_record", "t") => tell_changes(v.alloc(), v.text(0), to),
+        "read_record t" => tell_read(v, to),
+        "rewrite_record t" => tell_rewritten(v, to),
+        "write_record wnnnntt" => return tell_written(v, to),
+        "joining_tag t" => return tell_joining(v, to),
+        "seal_record twn" => return tell_sealed(v, to),
+        "changes_of_record t" => tell_changes(v.alloc(), v.text(0), to),
         _ => return Ok(false),
     }?;
     Ok(true)

@@ -8,13 +8,13 @@ use hc_vector::{Vector, quote, show};
 /// Writes the value of the call, if it is one of these.
 pub(crate) fn call(v: &Vector, to: &mut String) -> Result<bool, NoMemory> {
     match v.call() {
-        ("read_tag", "t") => tell_tag(v, to),
-        ("tag_in", "t") => tell_tag_in(v.text(0), to),
-        ("strong_in", "t") => tell_strong_in(v.text(0), to),
-        ("write_tag", "t") => return tell_written(v, to),
-        ("equal_tags", "tt") => return compare(v, to),
-        ("read_tag_list", "t") => tell_list(v, to),
-        ("tags_are", "tt") => tell_same(v, to),
+        "read_tag t" => tell_tag(v, to),
+        "tag_in t" => tell_tag_in(v.text(0), to),
+        "strong_in t" => tell_strong_in(v.text(0), to),
+        "write_tag t" => return tell_written(v, to),
+        "equal_tags tt" => return compare(v, to),
+        "read_tag_list t" => tell_list(v, to),
+        "tags_are tt" => tell_same(v, to),
         _ => return Ok(false),
     }?;
     Ok(true)

@@ -6,13 +6,13 @@ use hc_vector::{Vector, quote, show};
 pub(crate) fn call(v: &Vector, to: &mut String) -> Result<bool, NoMemory> {
     let text = v.text(0);
     match v.call() {
-        ("is_token", "t") => show(&is_token(text), to),
-        ("read_number", "t") => show(&read_number(text), to),
-        ("read_plain", "t") => show(&read_plain(text), to),
-        ("next_item", "tn") => show(&next_item(text, v.number(1) as usize), to),
-        ("elements", "t") => write_elements(text, to),
-        ("write_number", "n") => write_numbers(v, &[v.number(0)], to),
-        ("write_numbers", "nn") => write_numbers(v, &[v.number(0), v.number(1)], to),
+        "is_token t" => show(&is_token(text), to),
+        "read_number t" => show(&read_number(text), to),
+        "read_plain t" => show(&read_plain(text), to),
+        "next_item tn" => show(&next_item(text, v.number(1) as usize), to),
+        "elements t" => write_elements(text, to),
+        "write_number n" => write_numbers(v, &[v.number(0)], to),
+        "write_numbers nn" => write_numbers(v, &[v.number(0), v.number(1)], to),
         _ => return Ok(false),
     }?;
     Ok(true)

@@ -1,6 +1,6 @@
 //! Calls of who is bound to a representation.
 use hc_entry::{ActiveEntry, Admission};
-use hc_vector::{Fault, Vector, show};
+use hc_vector::{Fault, Vector, tell};
 use std::alloc::Global;
 
 /// A representation, and who is bound to it.
@@ -19,49 +19,59 @@ impl Binding {
 
     /// Makes the call. One that may change something writes then who is bound with the least number,
     /// whether a shared writing is on, and who writes alone.
-    pub(crate) fn tell(&mut self, v: &Vector, to: &mut String) -> Result<bool, Fault> {
-        if self.ask(v, to)? {
-            return Ok(true);
-        }
-        let c = v.number(0);
-        let entry = &mut self.entry;
-        match v.call() {
-            ("active_new", "n") => *entry = ActiveEntry::new(v.alloc(), c),
-            ("active_founded", "nn") => *entry = founded(v.alloc(), c, v.number(1))?,
-            ("active_resumed", "nn") => *entry = resumed(v.alloc(), c, v.number(1))?,
-            ("active_admit", "nww") => {
-                entry.reserve()?;
-                if entry.spare() == 0 || entry.is_bound(c) {
-                    return Ok(false);
-                }
-                let admission = entry.admit(c, is_ranged(v), has_holes(v));
-                write!(to, "{admission:?}: ")?;
-            }
-            ("active_settle", "n") if entry.is_bound(c) => entry.settle(c),
-            ("active_leave", "n") if entry.is_bound(c) => entry.leave(c),
-            ("active_end_shared", "") => entry.end_shared(),
-            ("active_doom", "") => entry.doom(),
-            _ => return Ok(false),
-        }
-        self.look(to)?;
-        Ok(true)
-    }
-
-    /// Makes a call that changes nothing, if this is one.
-    fn ask(&self, v: &Vector, to: &mut String) -> Result<bool, Fault> {
+    pub(crate) fn tell(&mut self, v: &Vector, to: &mut String) -> Result<(), Fault> {
         let entry = &self.entry;
         match v.call() {
-            ("active_admission", "nww") => {
-                show(
-                    &entry.admission(v.number(0), is_ranged(v), has_holes(v)),
-                    to,
-                )?;
+            "active_admission nww" => {
+                let admission = entry.admission(v.number(0), is_ranged(v), has_holes(v));
+                tell(&admission, to)
             }
-            ("active_is_gone", "") => show(&entry.is_gone(), to)?,
-            ("active_representation", "") => show(&entry.representation(), to)?,
-            _ => return Ok(false),
+            "active_is_gone" => tell(&entry.is_gone(), to),
+            "active_representation" => tell(&entry.representation(), to),
+            _ => {
+                self.change(v, to)?;
+                self.look(to)
+            }
         }
-        Ok(true)
+    }
+
+    fn change(&mut self, v: &Vector, to: &mut String) -> Result<(), Fault> {
+        match v.call() {
+            "active_new n" => self.entry = ActiveEntry::new(v.alloc(), v.number(0)),
+            "active_founded nn" => self.entry = founded(v.alloc(), v.number(0), v.number(1))?,
+            "active_resumed nn" => self.entry = resumed(v.alloc(), v.number(0), v.number(1))?,
+            "active_end_shared" => self.entry.end_shared(),
+            "active_doom" => self.entry.doom(),
+            "active_admit nww" => return self.admit(v, to),
+            _ => return self.settle_or_leave(v),
+        }
+        Ok(())
+    }
+
+    /// Binds one more, and writes how.
+    fn admit(&mut self, v: &Vector, to: &mut String) -> Result<(), Fault> {
+        let c = v.number(0);
+        self.entry.reserve()?;
+        if self.entry.spare() == 0 || self.entry.is_bound(c) {
+            return Err(Fault::NoSuchCall);
+        }
+        let admission = self.entry.admit(c, is_ranged(v), has_holes(v));
+        write!(to, "{admission:?}: ")?;
+        Ok(())
+    }
+
+    /// One that is bound reads from now on, or leaves.
+    fn settle_or_leave(&mut self, v: &Vector) -> Result<(), Fault> {
+        let c = v.number(0);
+        if !self.entry.is_bound(c) {
+            return Err(Fault::NoSuchCall);
+        }
+        match v.call() {
+            "active_settle n" => self.entry.settle(c),
+            "active_leave n" => self.entry.leave(c),
+            _ => return Err(Fault::NoSuchCall),
+        }
+        Ok(())
     }
 
     fn look(&self, to: &mut String) -> Result<(), Fault> {

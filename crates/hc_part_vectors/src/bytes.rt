@@ -1,22 +1,19 @@
 //! Calls of sparse bytes. Each is made on blocks and on a list of runs, however many orders of puts are
 //! kept, and what differs is told.
-ghost use Rattle.std.specs.Prelude.{IsTrue, ◌↔◌};
+ghost use Rattle.std.specs.Prelude.{IsTrue, ◌↔◌, ◌<◌};
 ghost use Rattle.hc_sparse.specs.Ops.{IsAllowed};
 
 use crate::alike::steps_are_alike;
 use crate::order::{CODES, order_of};
 use crate::stitching;
-use crate::values::show_run;
-use hc_sparse::{PlainSparse, Span2, Sparse, SparseAnswer, SparseBytes, SparseOp, run_ops};
+use crate::values::tell_run;
+use hc_sparse::{PlainSparse, Run, Span2, Sparse, SparseAnswer, SparseBytes, SparseOp, run_ops};
 use hc_text::{Bytes, NoMemory};
-use hc_vector::{Fault, Vector, show};
+use hc_vector::{Fault, Vector, tell};
 use std::alloc::Global;
 
 /// Past the last position that there may be.
 const END: u64 = 1 << 62;
-
-/// The arguments of five puts.
-const FIVE_PUTS: &str = "nntnntnntnntnnt";
 
 /// The same bytes as blocks and as a list of runs.
 #[derive(Drop)]
@@ -34,13 +31,24 @@ impl Both {
     }
 
     /// Makes the call on both, and writes what differs.
-    fn tell(&mut self, v: &Vector, to: &mut String) -> Result<bool, Fault> {
+    fn tell(&mut self, v: &Vector, to: &mut String) -> Result<(), Fault> {
+        tell_of(&mut self.blocks, v, to)?;
         let mut other = String::new(v.alloc());
-        let is_told = tell_of(&mut self.blocks, v, to)? && tell_of(&mut self.runs, v, &mut other)?;
-        if to.as_str() != other.as_str() {
+        tell_of(&mut self.runs, v, &mut other)?;
+        if other.as_str() != to.as_str() {
             write!(to, ", in runs {other}")?;
         }
-        Ok(is_told)
+        Ok(())
+    }
+
+    /// Makes the call on both, and writes what comes where it differs from what was told.
+    fn tell_other(&mut self, v: &Vector, to: &mut String) -> Result<(), Fault> {
+        let mut value = String::new(v.alloc());
+        self.tell(v, &mut value)?;
+        if value.as_str() != to.as_str() {
+            write!(to, ", in another order {value}")?;
+        }
+        Ok(())
     }
 
     /// Puts five pieces in this order. Whether all puts are done.
@@ -69,82 +77,85 @@ impl ManyBytes {
     }
 
     /// Makes the call on all, and writes what came of the first, and what differs from it.
-    pub(crate) fn tell(&mut self, v: &Vector, to: &mut String) -> Result<bool, Fault> {
+    pub(crate) fn tell(&mut self, v: &Vector, to: &mut String) -> Result<(), Fault> {
         match v.call() {
-            ("bytes_new", "") => {
-                self.orders.clear();
-                self.orders.push(Both::new(v.alloc()))?;
-                show(&self.orders.len(), to)?;
-                return Ok(true);
-            }
-            ("bytes_in_every_order", FIVE_PUTS) => {
-                self.put_in_every_order(v)?;
-                show(&self.orders.len(), to)?;
-                return Ok(true);
-            }
-            ("bytes_in_steps", "n") => {
-                show(&steps_are_alike(v.alloc(), v.number(0))?, to)?;
-                return Ok(true);
-            }
+            "bytes_new" => self.begin(v.alloc(), to),
+            "bytes_in_every_order nntnntnntnntnnt" => self.put_in_every_order(v, to),
+            "bytes_in_steps n" => tell(&steps_are_alike(v.alloc(), v.number(0))?, to),
             _ => self.tell_of_all(v, to),
         }
     }
 
-    fn tell_of_all(&mut self, v: &Vector, to: &mut String) -> Result<bool, Fault> {
+    /// Keeps bytes in one order, which holds none yet.
+    fn begin(&mut self, alloc: Global, to: &mut String) -> Result<(), Fault> {
+        self.orders.clear();
+        self.orders.push(Both::new(alloc))?;
+        tell(&self.orders.len(), to)
+    }
+
+    fn tell_of_all(&mut self, v: &Vector, to: &mut String) -> Result<(), Fault> {
         let mut is_first = true;
         for both in self.orders.iter_mut() {
-            let mut value = String::new(v.alloc());
-            if !both.tell(v, &mut value)? {
-                return Ok(false);
-            }
             if is_first {
-                to.push_str(value.as_str())?;
-            } else if to.as_str() != value.as_str() {
-                write!(to, ", in another order {value}")?;
+                both.tell(v, to)?;
+            } else {
+                both.tell_other(v, to)?;
             }
             is_first = false;
         }
-        Ok(!is_first)
+        if is_first {
+            return Err(Fault::NoSuchCall);
+        }
+        Ok(())
     }
 
-    /// Keeps what comes of five puts in each order in which all are done.
-    fn put_in_every_order(&mut self, v: &Vector) -> Result<(), NoMemory> {
+    /// Keeps what comes of five puts in each order in which all are done, and writes in how many.
+    fn put_in_every_order(&mut self, v: &Vector, to: &mut String) -> Result<(), Fault> {
         self.orders.clear();
         for code in 0..CODES {
             if let Some(order) = order_of(code) {
-                let mut both = Both::new(v.alloc());
-                if both.put_in_order(v, order)? {
-                    self.orders.push(both)?;
-                }
+                self.put_in_order(v, order)?;
             }
+        }
+        tell(&self.orders.len(), to)
+    }
+
+    fn put_in_order(&mut self, v: &Vector, order: [usize; 5]) -> Result<(), NoMemory> {
+        let mut both = Both::new(v.alloc());
+        if both.put_in_order(v, order)? {
+            self.orders.push(both)?;
         }
         Ok(())
     }
 }
 
-fn tell_of<M: SparseBytes>(map: &mut M, v: &Vector, to: &mut String) -> Result<bool, Fault> {
+/// Makes the call on the bytes as they are kept in one of the two ways.
+fn tell_of<M: SparseBytes>(map: &mut M, v: &Vector, to: &mut String) -> Result<(), Fault> {
     let a = v.number(0);
     let b = v.number(1);
     match v.call() {
-        ("bytes_put", "nnt") => return tell_op(map, v.alloc(), put_of(v, 0)?, to),
-        ("bytes_run", "nn") => {
+        "bytes_put nnt" => tell_op(map, v.alloc(), put_of(v, 0)?, to),
+        "bytes_run nn" => {
             let want = b as usize;
-            return tell_op(map, v.alloc(), SparseOp::RunAt { p: a, want }, to);
+            tell_op(map, v.alloc(), SparseOp::RunAt { p: a, want }, to)
         }
-        ("bytes_next", "n") => return tell_op(map, v.alloc(), SparseOp::Next { p: a }, to),
-        ("bytes_next_present", "n") => show(&map.next_present(a), to)?,
-        ("bytes_covers", "nn") => show(&map.covers(Span2 { lo: a, hi: b }), to)?,
-        ("bytes_size", "") => show(&map.size(), to)?,
-        ("bytes_copy", "nn") if b > 0 => {
-            let copy = match map.run_at(a, b as usize)? {
-                Some(run) => Some(run.copy()?),
-                None => None,
-            };
-            show_run(&copy, to)?;
-        }
-        _ => return stitching::tell(map, v, to),
+        "bytes_next n" => tell_op(map, v.alloc(), SparseOp::Next { p: a }, to),
+        "bytes_next_present n" => tell(&map.next_present(a), to),
+        "bytes_covers nn" => tell(&map.covers(Span2 { lo: a, hi: b }), to),
+        "bytes_size" => tell(&map.size(), to),
+        "bytes_copy nn" if b > 0 => tell_run(&copy_at(map, a, b as usize)?, to),
+        _ => stitching::call(map, v, to),
     }
-    Ok(true)
+}
+
+/// A copy of the run at this place.
+fn copy_at<M: SparseBytes>(map: &M, p: u64, want: usize) -> Result<Option<Run>, NoMemory>
+    requires { 0 < want }
+{
+    match map.run_at(p, want)? {
+        Some(run) => Ok(Some(run.copy()?)),
+        None => Ok(None),
+    }
 }
 
 /// The put whose arguments begin at this place.
@@ -163,21 +174,27 @@ fn put_at<M: SparseBytes>(map: &mut M, v: &Vector, place: usize) -> Result<bool,
     Ok(matches!(answer(v.alloc(), map, op)?, Some(SparseAnswer::Done)))
 }
 
-/// Does the operation, and writes its answer. False where it isn't allowed.
+/// Does the operation, and writes its answer, where it is allowed.
 fn tell_op<M: SparseBytes>(
     map: &mut M,
     alloc: Global,
     op: SparseOp,
     to: &mut String,
-) -> Result<bool, Fault> {
+) -> Result<(), Fault> {
     match answer(alloc, map, op)? {
-        Some(SparseAnswer::Run(run)) => show_run(&run, to)?,
-        Some(SparseAnswer::Next(next)) => show(&next, to)?,
-        Some(SparseAnswer::Done) => to.push_str("Done")?,
-        Some(SparseAnswer::Taken) => to.push_str("Taken")?,
-        None => return Ok(false),
+        Some(answer) => tell_answer(&answer, to),
+        None => Err(Fault::NoSuchCall),
     }
-    Ok(true)
+}
+
+fn tell_answer(answer: &SparseAnswer, to: &mut String) -> Result<(), Fault> {
+    match answer {
+        SparseAnswer::Run(run) => return tell_run(run, to),
+        SparseAnswer::Next(next) => return tell(next, to),
+        SparseAnswer::Done => to.push_str("Done")?,
+        SparseAnswer::Taken => to.push_str("Taken")?,
+    }
+    Ok(())
 }
 
 /// The only answer to an operation, or none where it isn't allowed.

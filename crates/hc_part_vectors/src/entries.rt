@@ -1,13 +1,13 @@
 //! Calls of what is kept of representations, over a store.
 use crate::samples::{fails_of, head, key, limits_of};
-use crate::values::{show_run, show_some};
+use crate::values::{tell_read, tell_some};
 use hc_record::Kind;
 use hc_rules::Write;
 use hc_sparse::{Presence, Span2};
 use hc_store::{Backend, Failing, Memory, StoreError};
 use hc_stored::Entries;
-use hc_text::NoMemory;
-use hc_vector::{Fault, Vector, quote, show};
+use hc_text::{Key, NoMemory};
+use hc_vector::{Fault, Vector, quote, tell};
 
 /// Past the last position that there may be.
 const END: u64 = 1 << 62;
@@ -25,140 +25,140 @@ impl Shelf {
     }
 
     /// Makes the call, and writes what it answers.
-    pub(crate) fn tell(&mut self, v: &Vector, to: &mut String) -> Result<bool, Fault> {
+    pub(crate) fn tell(&mut self, v: &Vector, to: &mut String) -> Result<(), Fault> {
         match v.call() {
-            ("entries_new", shape) if shape.starts_with("nn") => {
-                self.begin(v)?;
-                to.push_str("nothing")?;
-                return Ok(true);
-            }
-            _ => {}
+            call if call.starts_with("entries_new nn") => self.begin(v, to),
+            _ => self.tell_of_entries(v, to),
         }
-        let Some(entries) = &mut self.entries else {
-            return Ok(false);
-        };
-        Ok(
-            ask(entries, v, to)?
-                || ask_of(entries, v, to)?
-                || change(entries, v, to)?
-                || change_users(entries, v, to)?,
-        )
     }
 
-    fn begin(&mut self, v: &Vector) -> Result<(), NoMemory> {
+    fn tell_of_entries(&mut self, v: &Vector, to: &mut String) -> Result<(), Fault> {
+        match &mut self.entries {
+            Some(entries) => call_of_all(entries, v, to),
+            None => Err(Fault::NoSuchCall),
+        }
+    }
+
+    fn begin(&mut self, v: &Vector, to: &mut String) -> Result<(), Fault> {
         let limits = limits_of(v);
-        let memory = Memory::new(v.alloc(), limits);
-        let store = Failing::new(memory, fails_of(v)?);
+        let store = Failing::new(Memory::new(v.alloc(), limits), fails_of(v)?);
         self.entries = Some(Entries::new(store, limits, v.alloc())?);
+        to.push_str("nothing")?;
         Ok(())
     }
 }
 
-/// Makes a call that tells of all, if this is one.
-fn ask<B: Backend>(entries: &Entries<B>, v: &Vector, to: &mut String) -> Result<bool, Fault> {
-    match v.call() {
-        ("entries_used", "") => show(&(entries.used(), entries.store().used()), to)?,
-        ("entries_first_idle", "") => show(&entries.first_idle(), to)?,
-        ("entries_room_for_slot", "") => show(&entries.room(Write::Slot), to)?,
-        ("entries_room_for_piece", "nn") => {
-            let stored = v.number(0);
-            let count = v.number(1);
-            show(&entries.room(Write::Piece { stored, count }), to)?;
-        }
-        _ => return Ok(false),
-    }
-    Ok(true)
-}
-
-/// Makes a call that tells of one, if this is one.
-fn ask_of<B: Backend>(entries: &Entries<B>, v: &Vector, to: &mut String) -> Result<bool, Fault> {
-    let r = v.number(0);
-    match v.call() {
-        ("entries_entry", "n") => show(&entries.entry(r), to)?,
-        ("entries_total_and_kind", "n") => {
-            show(&entries.entry(r).map(|view| (view.total, view.kind)), to)?;
-        }
-        ("entries_bound", "n") => show(&entries.bound(r), to)?,
-        ("entries_key", "n") => match entries.key(r) {
-            Some(key) => quote(key.bytes.as_slice(), to)?,
-            None => to.push_str("None")?,
-        },
-        ("entries_tag_is_weak", "n") => show(&entries.tag(r).map(|tag| tag.weak), to)?,
-        ("entries_answered", "n") => show(&entries.facts(r).map(|facts| facts.answered), to)?,
-        ("entries_covers", "nnn") => {
-            return Ok(show_some(covers(entries, r, v.number(1), v.number(2)), to)?);
-        }
-        _ => return Ok(false),
-    }
-    Ok(true)
-}
-
-/// Makes a call that founds one, or looks at its head or its bytes or changes them, if this is one.
-fn change<B: Backend>(
+/// Makes a call of all, which tells of them or founds one more, or else a call of one.
+fn call_of_all<B: Backend>(
     entries: &mut Entries<B>,
     v: &Vector,
     to: &mut String,
-) -> Result<bool, Fault> {
-    let r = v.number(0);
-    if let ("entries_found", "nn") = v.call() {
-        return Ok(show_some(found(entries, v, r, v.number(1))?, to)?);
-    }
-    if entries.entry(r).is_none() {
-        return Ok(false);
-    }
+) -> Result<(), Fault> {
     match v.call() {
-        ("entries_put", "nnt") => {
-            return Ok(show_some(put(entries, r, v.number(1), v.text(2)), to)?);
+        "entries_used" => tell(&(entries.used(), entries.store().used()), to),
+        "entries_first_idle" => tell(&entries.first_idle(), to),
+        "entries_room_for_slot" => tell(&entries.room(Write::Slot), to),
+        "entries_room_for_piece nn" => {
+            let stored = v.number(0);
+            let count = v.number(1);
+            tell(&entries.room(Write::Piece { stored, count }), to)
         }
-        ("entries_update", "n") => show(&entries.update(r, &head(v.alloc())?), to)?,
-        ("entries_seal", "n") => show(&entries.seal(r, Kind::Truncated, Some(7)), to)?,
-        ("entries_head", "n") => show(&entries.head(r).map(|head| head.status), to)?,
-        ("entries_run", "nn") => match entries.run_at(r, v.number(1), 9) {
-            Ok(run) => show_run(&run, to)?,
-            Err(error) => write!(to, "Err({error:?})")?,
-        },
-        _ => return Ok(false),
+        "entries_found nn" => tell_some(&found(entries, v)?, to),
+        _ => call_of_one(entries, v, to),
     }
-    Ok(true)
 }
 
-/// Makes a call that changes who uses one, if this is one.
+/// Makes a call that tells of one, or else one that needs what is kept of it.
+fn call_of_one<B: Backend>(
+    entries: &mut Entries<B>,
+    v: &Vector,
+    to: &mut String,
+) -> Result<(), Fault> {
+    let r = v.number(0);
+    match v.call() {
+        "entries_entry n" => tell(&entries.entry(r), to),
+        "entries_total_and_kind n" => {
+            tell(&entries.entry(r).map(|view| (view.total, view.kind)), to)
+        }
+        "entries_bound n" => tell(&entries.bound(r), to),
+        "entries_key n" => tell_key(entries.key(r), to),
+        "entries_tag_is_weak n" => tell(&entries.tag(r).map(|tag| tag.weak), to),
+        "entries_answered n" => tell(&entries.facts(r).map(|facts| facts.answered), to),
+        "entries_covers nnn" => { tell_some(&covers(entries, r, v.number(1), v.number(2)), to) }
+        _ => change(entries, v, to),
+    }
+}
+
+fn tell_key(key: Option<&Key>, to: &mut String) -> Result<(), Fault> {
+    match key {
+        Some(key) => quote(key.bytes.as_slice(), to)?,
+        None => to.push_str("None")?,
+    }
+    Ok(())
+}
+
+/// Makes a call that reads or changes the head or the bytes of one, or else one of its users.
+fn change<B: Backend>(entries: &mut Entries<B>, v: &Vector, to: &mut String) -> Result<(), Fault> {
+    let r = v.number(0);
+    if entries.entry(r).is_none() {
+        return Err(Fault::NoSuchCall);
+    }
+    match v.call() {
+        "entries_put nnt" => tell_some(&put(entries, r, v.number(1), v.text(2)), to),
+        "entries_update n" => tell(&entries.update(r, &head(v.alloc())?), to),
+        "entries_seal n" => tell(&entries.seal(r, Kind::Truncated, Some(7)), to),
+        "entries_head n" => tell(&entries.head(r).map(|head| head.status), to),
+        "entries_run nn" => tell_read(&entries.run_at(r, v.number(1), 9), to),
+        _ => change_users(entries, v, to),
+    }
+}
+
+/// Makes a call that changes who uses one, and writes what it answers.
 fn change_users<B: Backend>(
     entries: &mut Entries<B>,
     v: &Vector,
     to: &mut String,
-) -> Result<bool, Fault> {
+) -> Result<(), Fault> {
     let r = v.number(0);
     let n = v.number(1);
-    if entries.entry(r).is_none() {
-        return Ok(false);
-    }
     match v.call() {
-        ("entries_bind", "nn") => return Ok(show_some(bind(entries, r, n), to)?),
-        ("entries_bind_first", "nn") => return Ok(show_some(bind_first(entries, r, n), to)?),
-        ("entries_unbind", "n") => return Ok(show_some(unbind(entries, r), to)?),
-        ("entries_forget", "n") => entries.forget(r),
-        ("entries_lose", "nn") => entries.lose(r, v.option(1)),
-        ("entries_set_writer", "nn") => entries.set_writer(r, n),
-        _ => return Ok(false),
+        "entries_bind nn" => tell_some(&bind(entries, r, n), to),
+        "entries_bind_first nn" => tell_some(&bind_first(entries, r, n), to),
+        "entries_unbind n" => tell_some(&unbind(entries, r), to),
+        _ => {
+            lose(entries, r, v)?;
+            to.push_str("done")?;
+            Ok(())
+        }
     }
-    to.push_str("done")?;
-    Ok(true)
 }
 
-/// Founds one to which `c` is bound, alone, or says that it is kept already.
+/// Makes a call that changes who uses one, and that answers nothing.
+fn lose<B: Backend>(entries: &mut Entries<B>, r: u64, v: &Vector) -> Result<(), Fault> {
+    if entries.entry(r).is_none() {
+        return Err(Fault::NoSuchCall);
+    }
+    match v.call() {
+        "entries_forget n" => entries.forget(r),
+        "entries_lose nn" => entries.lose(r, v.option(1)),
+        "entries_set_writer nn" => entries.set_writer(r, v.number(1)),
+        _ => return Err(Fault::NoSuchCall),
+    }
+    Ok(())
+}
+
+/// Founds one to which a consumer is bound, alone, or says that it is kept already.
 fn found<B: Backend>(
     entries: &mut Entries<B>,
     v: &Vector,
-    r: u64,
-    c: u64,
 ) -> Result<Option<Result<(), StoreError>>, Fault> {
+    let r = v.number(0);
     let head = head(v.alloc())?;
     let key = key(v.alloc())?;
     if entries.entry(r).is_some() {
         return Ok(None);
     }
-    Ok(Some(entries.found(r, key, &head, c, true, Some(9))))
+    Ok(Some(entries.found(r, key, &head, v.number(1), true, Some(9))))
 }
 
 /// Puts bytes at positions that are absent, or says that they aren't.

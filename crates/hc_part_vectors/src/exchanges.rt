@@ -3,11 +3,12 @@ ghost use Rattle.std.specs.Prelude.{IsTrue};
 ghost use Rattle.hc_exch.specs.Known.{EndsBelow};
 ghost use Rattle.hc_exch.specs.Exchanges.{table_of};
 
-use hc_event::{Event, Load, Need, Request, Response};
+use crate::samples::response_of;
+use hc_event::{Event, Load, Need, Request};
 use hc_exch::{Exchanges, Role};
 use hc_fields::Fields;
 use hc_text::{Bytes, Key, MethodName};
-use hc_vector::{Fault, Vector, fields_of, quote, show};
+use hc_vector::{Fault, Vector, quote, tell};
 use std::alloc::Global;
 
 /// Exchanges.
@@ -26,82 +27,93 @@ impl Table {
 
     /// Makes the call. One that may change something writes then which exchanges are wanted, and how
     /// many bytes are held for the first.
-    pub(crate) fn tell(&mut self, v: &Vector, to: &mut String) -> Result<bool, Fault> {
-        if self.ask(v, to)? {
-            return Ok(true);
-        }
-        let is_made = self.come(v, to)? || self.change(v, to)?;
-        if is_made {
-            let wanted = self.exchanges.wanted();
-            let held = self.exchanges.held(1);
-            write!(to, "wanted {wanted:?}, held {held}")?;
-        }
-        Ok(is_made)
-    }
-
-    /// Makes a call that changes nothing, if this is one.
-    fn ask(&self, v: &Vector, to: &mut String) -> Result<bool, Fault> {
+    pub(crate) fn tell(&mut self, v: &Vector, to: &mut String) -> Result<(), Fault> {
         let x = v.number(0);
         match v.call() {
-            ("exchange_view", "n") => show(&self.exchanges.view(x), to)?,
-            ("exchange_opening", "n") => match self.exchanges.opening(x) {
-                Some(opening) => {
-                    let need = opening.need;
-                    let moment = opening.moment;
-                    write!(to, "{need:?} at {moment}")?;
-                }
-                None => to.push_str("None")?,
-            },
-            _ => return Ok(false),
+            "exchange_view n" => tell(&self.exchanges.view(x), to),
+            "exchange_opening n" => self.tell_opening(x, to),
+            _ => {
+                self.change(v, to)?;
+                self.look(to)
+            }
         }
-        Ok(true)
     }
 
-    /// Launches an exchange, or has something come of one, if the call is such a one. An event that is
-    /// denied changes nothing.
-    fn come(&mut self, v: &Vector, to: &mut String) -> Result<bool, Fault> {
-        let x = v.number(0);
+    fn tell_opening(&self, x: u64, to: &mut String) -> Result<(), Fault> {
+        let Some(opening) = self.exchanges.opening(x) else {
+            to.push_str("None")?;
+            return Ok(());
+        };
+        let need = opening.need;
+        let moment = opening.moment;
+        write!(to, "{need:?} at {moment}")?;
+        Ok(())
+    }
+
+    fn change(&mut self, v: &Vector, to: &mut String) -> Result<(), Fault> {
         match v.call() {
-            ("exchange_launch", _) => {
-                let Some(need) = need_of(v) else {
-                    return Ok(false);
-                };
-                self.launch(v.alloc(), need, to)
+            "exchange_launch w" | "exchange_launch wnn" => self.launch(v, to),
+            "exchange_head nnt" => self.head(v, to),
+            "exchange_piece ntw" => self.piece(v, to),
+            "exchange_take nn" => self.take(v, to),
+            "exchanges_new" => {
+                *self = Table::new(v.alloc());
+                Ok(())
             }
-            ("exchange_head", "nnt") => {
-                let Ok(status) = u16::try_from(v.number(1)) else {
-                    return Ok(false);
-                };
-                let fields = fields_of(v.alloc(), v.text(2))?;
-                let response = Response { status, fields };
-                self.give(&Event::Head { x, response }, false, to)
+            "exchange_forget n" => {
+                self.exchanges.forget(v.number(0));
+                Ok(())
             }
-            ("exchange_piece", "ntw") => {
-                let bytes = v.text(1).to_vec(v.alloc())?;
-                let bytes = Bytes { bytes };
-                self.give(&Event::Piece { x, bytes }, v.word(2) == "held", to)
-            }
-            _ => Ok(false),
+            _ => self.change_open(v),
         }
     }
 
-    fn launch(&mut self, alloc: Global, need: Need, to: &mut String) -> Result<bool, Fault> {
+    /// Makes a call that only an open exchange takes.
+    fn change_open(&mut self, v: &Vector) -> Result<(), Fault> {
+        let x = v.number(0);
+        let is_open = self.exchanges.view(x).is_some();
+        match v.call() {
+            "exchange_ask n" if is_open => self.exchanges.ask(x),
+            "exchange_close n" if is_open => self.exchanges.close(x),
+            "exchange_turn_into_body nn" if is_open => {
+                self.exchanges.turn_into(x, Role::Body { r: v.number(1) });
+            }
+            _ => return Err(Fault::NoSuchCall),
+        }
+        Ok(())
+    }
+
+    fn launch(&mut self, v: &Vector, to: &mut String) -> Result<(), Fault> {
+        let need = need_of(v).ok_or(Fault::NoSuchCall)?;
+        let request = request(v.alloc())?;
         if self.exchanges.next_number() >= 1 << 62 {
-            return Ok(false);
+            return Err(Fault::NoSuchCall);
         }
-        let request = request(alloc)?;
         let x = self
             .exchanges
             .launch(5, Role::Direct, need, &request, 1000)?;
         write!(to, "{x}: ")?;
-        Ok(true)
+        Ok(())
     }
 
-    /// A head or a piece comes.
-    fn give(&mut self, event: &Event, hold: bool, to: &mut String) -> Result<bool, Fault> {
+    fn head(&mut self, v: &Vector, to: &mut String) -> Result<(), Fault> {
+        let x = v.number(0);
+        let response = response_of(v.number(1), v, 2)?;
+        self.give(&Event::Head { x, response }, false, to)
+    }
+
+    fn piece(&mut self, v: &Vector, to: &mut String) -> Result<(), Fault> {
+        let x = v.number(0);
+        let bytes = v.text(1).to_vec(v.alloc())?;
+        let bytes = Bytes { bytes };
+        self.give(&Event::Piece { x, bytes }, v.word(2) == "held", to)
+    }
+
+    /// A head or a piece comes. One that is denied changes nothing.
+    fn give(&mut self, event: &Event, hold: bool, to: &mut String) -> Result<(), Fault> {
         if let Some(refusal) = self.exchanges.refuses(event) {
             write!(to, "Denied({refusal:?}): ")?;
-            return Ok(true);
+            return Ok(());
         }
         match event {
             Event::Head { x, response } => {
@@ -111,36 +123,29 @@ impl Table {
             Event::Piece { x, bytes } => {
                 let bytes = bytes.bytes.as_slice();
                 if !is_small(&self.exchanges, *x) || bytes.len() >= 1000 {
-                    return Ok(false);
+                    return Err(Fault::NoSuchCall);
                 }
                 let is_last = self.exchanges.piece(*x, bytes, hold)?;
                 write!(to, "last {is_last}: ")?;
             }
-            _ => return Ok(false),
+            _ => return Err(Fault::NoSuchCall),
         }
-        Ok(true)
+        Ok(())
     }
 
-    /// Makes another call, if this is one.
-    fn change(&mut self, v: &Vector, to: &mut String) -> Result<bool, Fault> {
-        let x = v.number(0);
-        let is_open = self.exchanges.view(x).is_some();
-        match v.call() {
-            ("exchanges_new", "") => *self = Table::new(v.alloc()),
-            ("exchange_ask", "n") if is_open => self.exchanges.ask(x),
-            ("exchange_close", "n") if is_open => self.exchanges.close(x),
-            ("exchange_turn_into_body", "nn") if is_open => {
-                self.exchanges.turn_into(x, Role::Body { r: v.number(1) });
-            }
-            ("exchange_take", "nn") => {
-                let bytes = self.exchanges.take_held(x, v.number(1) as usize)?;
-                quote(bytes.bytes.as_slice(), to)?;
-                to.push_str(": ")?;
-            }
-            ("exchange_forget", "n") => self.exchanges.forget(x),
-            _ => return Ok(false),
-        }
-        Ok(true)
+    /// Takes bytes that are held, and writes them.
+    fn take(&mut self, v: &Vector, to: &mut String) -> Result<(), Fault> {
+        let held = self.exchanges.take_held(v.number(0), v.number(1) as usize)?;
+        quote(held.bytes.as_slice(), to)?;
+        to.push_str(": ")?;
+        Ok(())
+    }
+
+    fn look(&self, to: &mut String) -> Result<(), Fault> {
+        let wanted = self.exchanges.wanted();
+        let held = self.exchanges.held(1);
+        write!(to, "wanted {wanted:?}, held {held}")?;
+        Ok(())
     }
 }
 
@@ -156,10 +161,10 @@ fn is_small(exchanges: &Exchanges, x: u64) -> bool
 
 /// Why an exchange is launched.
 fn need_of(v: &Vector) -> Option<Need> {
-    match (v.word(0), v.call().1) {
-        ("Disabled", "w") => Some(Need::Disabled),
-        ("Miss", "w") => Some(Need::Miss),
-        ("Hole", "wnn") => Some(Need::Hole {
+    match (v.word(0), v.argument_count()) {
+        ("Disabled", 1) => Some(Need::Disabled),
+        ("Miss", 1) => Some(Need::Miss),
+        ("Hole", 3) => Some(Need::Hole {
             from: v.number(1),
             to: v.number(2),
         }),

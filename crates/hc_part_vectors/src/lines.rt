@@ -1,6 +1,6 @@
 //! Calls of the line of a key.
 use hc_entry::{KeyLine, Place};
-use hc_vector::{Fault, Vector, show};
+use hc_vector::{Fault, Vector, tell};
 use std::alloc::Global;
 
 /// A line, and the place of who entered last.
@@ -19,29 +19,46 @@ impl Line {
         }
     }
 
-    /// Makes the call, and writes whose turn it is then, and whose it would be with 5 in line.
-    pub(crate) fn tell(&mut self, v: &Vector, to: &mut String) -> Result<bool, Fault> {
-        let c = v.number(0);
-        let line = &mut self.line;
+    /// Makes the call. One that may change something writes whose turn it is then, and whose it would be
+    /// with 5 in line.
+    pub(crate) fn tell(&mut self, v: &Vector, to: &mut String) -> Result<(), Fault> {
         match v.call() {
-            ("line_new", "") => *self = Line::new(v.alloc()),
-            ("line_enter", "n") if !line.is_in(c) => self.last = line.enter(c)?,
-            ("line_hold", "n") if line.is_in(c) && line.turn() == Some(c) => line.hold(c),
-            ("line_pass", "n") if line.is_in(c) => line.pass(c),
-            ("line_away", "n") if line.is_in(c) => line.away(c),
-            ("line_back", "n") if line.is_in(c) => line.back(c),
-            ("line_leave", "n") if line.is_in(c) => line.leave(c),
-            ("line_leave_at_last", "") if line.seated(self.last.key).is_some() => {
-                line.leave_at(self.last);
+            "line_is_in n" => tell(&self.line.is_in(v.number(0)), to),
+            _ => {
+                self.change(v)?;
+                self.look(to)
             }
-            ("line_is_in", "n") => {
-                show(&line.is_in(c), to)?;
-                return Ok(true);
-            }
-            _ => return Ok(false),
         }
-        self.look(to)?;
-        Ok(true)
+    }
+
+    fn change(&mut self, v: &Vector) -> Result<(), Fault> {
+        let c = v.number(0);
+        match v.call() {
+            "line_new" => *self = Line::new(v.alloc()),
+            "line_enter n" if !self.line.is_in(c) => self.last = self.line.enter(c)?,
+            "line_leave_at_last" if self.line.seated(self.last.key).is_some() => {
+                self.line.leave_at(self.last);
+            }
+            _ => return self.step(c, v),
+        }
+        Ok(())
+    }
+
+    /// One that stands in the line takes a step.
+    fn step(&mut self, c: u64, v: &Vector) -> Result<(), Fault> {
+        let line = &mut self.line;
+        if !line.is_in(c) {
+            return Err(Fault::NoSuchCall);
+        }
+        match v.call() {
+            "line_hold n" if line.turn() == Some(c) => line.hold(c),
+            "line_pass n" => line.pass(c),
+            "line_away n" => line.away(c),
+            "line_back n" => line.back(c),
+            "line_leave n" => line.leave(c),
+            _ => return Err(Fault::NoSuchCall),
+        }
+        Ok(())
     }
 
     fn look(&self, to: &mut String) -> Result<(), Fault> {

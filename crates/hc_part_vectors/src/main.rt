@@ -65,16 +65,21 @@ impl Parts {
 }
 
 impl Calls for Parts {
-    fn tell(&mut self, vector: &Vector, value: &mut String) -> Result<bool, Fault> {
-        let is_told = self.bytes.tell(vector, value)?
-            || self.numbers.tell(vector, value)?
-            || self.members.tell(vector, value)?
-            || self.line.tell(vector, value)?
-            || self.keys.tell(vector, value)?
-            || self.binding.tell(vector, value)?
-            || self.table.tell(vector, value)?
-            || self.cupboard.tell(vector, value)?
-            || self.shelf.tell(vector, value)?;
-        Ok(is_told)
+    /// The first word of a call's name says of which object it is. Calls of stitching are of sparse bytes
+    /// too, and have names of their own.
+    fn tell(&mut self, vector: &Vector, value: &mut String) -> Result<(), Fault> {
+        let name = vector.name();
+        let (object, _) = name.split_once('_').unwrap_or((name, ""));
+        match object {
+            "numbers" => self.numbers.tell(vector, value),
+            "members" => self.members.tell(vector, value),
+            "line" => self.line.tell(vector, value),
+            "key" | "keys" => self.keys.tell(vector, value),
+            "active" => self.binding.tell(vector, value),
+            "exchange" | "exchanges" => self.table.tell(vector, value),
+            "store" => self.cupboard.tell(vector, value),
+            "entries" => self.shelf.tell(vector, value),
+            _ => self.bytes.tell(vector, value),
+        }
     }
 }

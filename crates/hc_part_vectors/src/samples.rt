@@ -1,21 +1,20 @@
-//! What stores are given.
+//! What stores and exchanges are given.
 ghost use Rattle.std.specs.Prelude.{◌≤◌, IfOk};
 
+use hc_event::Response;
 use hc_fields::Fields;
 use hc_record::{Kind, StoredHead, joining_tag};
 use hc_store::{Limits, Op};
 use hc_text::{Key, NoMemory};
-use hc_vector::{Fault, Vector};
+use hc_vector::{Fault, Vector, fields_of};
 use std::alloc::Global;
 
 /// The head of a body of six bytes.
 pub(crate) fn head(alloc: Global) -> Result<StoredHead, Fault>
     ensures { IfOk result (λ head. head.requested ≤ head.answered) }
 {
+    let fields = fields_of(alloc, b"etag: \"a\"\naccept-ranges: none")?;
     let vary_fields = Fields::new(alloc)?;
-    let mut fields = Fields::new(alloc)?;
-    fields.append(b"etag", b"\"a\"")?;
-    fields.append(b"accept-ranges", b"none")?;
     if vary_fields.len() > 0 || !fields.within_limits() {
         return Err(Fault::NoSuchCall);
     }
@@ -37,6 +36,13 @@ pub(crate) fn key(alloc: Global) -> Result<Key, NoMemory> {
     Ok(Key { bytes })
 }
 
+/// The head of an answer with this status, and with the fields that the text at this place lists.
+pub(crate) fn response_of(status: u64, v: &Vector, at: usize) -> Result<Response, Fault> {
+    let status = u16::try_from(status).map_err(|_| Fault::NoSuchCall)?;
+    let fields = fields_of(v.alloc(), v.text(at))?;
+    Ok(Response { status, fields })
+}
+
 /// The limits that the first two arguments are.
 pub(crate) fn limits_of(v: &Vector) -> Limits {
     Limits {
@@ -48,7 +54,7 @@ pub(crate) fn limits_of(v: &Vector) -> Limits {
 /// The calls that the words behind the limits name: the first of each is to fail.
 pub(crate) fn fails_of(v: &Vector) -> Result<Vec<(Op, u64)>, NoMemory> {
     let mut fails = Vec::new(v.alloc());
-    for at in 2..v.call().1.len() {
+    for at in 2..v.argument_count() {
         if let Some(op) = op_of(v.word(at)) {
             fails.push((op, 1))?;
         }

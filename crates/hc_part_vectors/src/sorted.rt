@@ -6,7 +6,7 @@ ghost use Rattle.hc_exch.specs.Wishes.{itself};
 use hc_sorted::{
     Numbered, has_item, item_at, leave_out, put_in, put_reserved, replace_in, take_out,
 };
-use hc_vector::{Fault, Vector, show};
+use hc_vector::{Fault, Vector, tell};
 use std::alloc::Global;
 
 /// Numbers in order.
@@ -25,36 +25,60 @@ impl Numbers {
     }
 
     /// Makes the call. One that may change something writes then all numbers.
-    pub(crate) fn tell(&mut self, v: &Vector, to: &mut String) -> Result<bool, Fault> {
+    pub(crate) fn tell(&mut self, v: &Vector, to: &mut String) -> Result<(), Fault> {
         let n = v.number(0);
-        let has = has_item(self.items.as_slice(), n);
         match v.call() {
-            ("numbers_new", "") => *self = Numbers::new(v.alloc()),
-            ("numbers_put", "n") if !has => put_in(&mut self.items, n)?,
-            ("numbers_put_reserved", "n") if !has => {
-                self.items.reserve(1)?;
-                if self.items.capacity() <= self.items.len() {
-                    return Ok(false);
-                }
-                put_reserved(&mut self.items, n);
+            "numbers_has n" => tell(&has_item(self.items.as_slice(), n), to),
+            "numbers_item n" => tell(&item_at(self.items.as_slice(), n), to),
+            _ => {
+                self.change(n, v, to)?;
+                tell(&self.items.as_slice(), to)
             }
-            ("numbers_take", "n") if has => {
-                let taken = take_out(&mut self.items, n);
-                write!(to, "{taken}: ")?;
-            }
-            ("numbers_leave", "n") => leave_out(&mut self.items, n),
-            ("numbers_has", "n") => {
-                show(&has, to)?;
-                return Ok(true);
-            }
-            ("numbers_item", "n") => {
-                show(&item_at(self.items.as_slice(), n), to)?;
-                return Ok(true);
-            }
-            _ => return Ok(false),
         }
-        show(&self.items.as_slice(), to)?;
-        Ok(true)
+    }
+
+    fn change(&mut self, n: u64, v: &Vector, to: &mut String) -> Result<(), Fault> {
+        match v.call() {
+            "numbers_new" => {
+                *self = Numbers::new(v.alloc());
+                Ok(())
+            }
+            "numbers_put n" => self.put(n),
+            "numbers_put_reserved n" => self.put_with_room(n),
+            "numbers_take n" => self.take(n, to),
+            "numbers_leave n" => {
+                leave_out(&mut self.items, n);
+                Ok(())
+            }
+            _ => Err(Fault::NoSuchCall),
+        }
+    }
+
+    fn put(&mut self, n: u64) -> Result<(), Fault> {
+        if has_item(self.items.as_slice(), n) {
+            return Err(Fault::NoSuchCall);
+        }
+        Ok(put_in(&mut self.items, n)?)
+    }
+
+    /// Puts a number once there is room for it.
+    fn put_with_room(&mut self, n: u64) -> Result<(), Fault> {
+        self.items.reserve(1)?;
+        if has_item(self.items.as_slice(), n) || self.items.capacity() <= self.items.len() {
+            return Err(Fault::NoSuchCall);
+        }
+        put_reserved(&mut self.items, n);
+        Ok(())
+    }
+
+    /// Takes a number out, and writes which.
+    fn take(&mut self, n: u64, to: &mut String) -> Result<(), Fault> {
+        if !has_item(self.items.as_slice(), n) {
+            return Err(Fault::NoSuchCall);
+        }
+        let taken = take_out(&mut self.items, n);
+        write!(to, "{taken}: ")?;
+        Ok(())
     }
 }
 
@@ -89,19 +113,32 @@ impl Members {
     }
 
     /// Makes the call, and writes where a member reads next, if it is one.
-    pub(crate) fn tell(&mut self, v: &Vector, to: &mut String) -> Result<bool, Fault> {
+    pub(crate) fn tell(&mut self, v: &Vector, to: &mut String) -> Result<(), Fault> {
         let c = v.number(0);
         let offset = v.number(1);
-        let has = has_item(self.items.as_slice(), c);
         match v.call() {
-            ("members_new", "") => *self = Members::new(v.alloc()),
-            ("members_put", "nn") if !has => put_in(&mut self.items, Member { c, offset })?,
-            ("members_replace", "nn") if has => replace_in(&mut self.items, Member { c, offset }),
-            ("members_item", "n") => {}
-            _ => return Ok(false),
+            "members_new" => *self = Members::new(v.alloc()),
+            "members_put nn" => self.put(Member { c, offset })?,
+            "members_replace nn" => self.replace(Member { c, offset })?,
+            "members_item n" => {}
+            _ => return Err(Fault::NoSuchCall),
         }
         let offset = item_at(self.items.as_slice(), c).map(|member| member.offset);
-        show(&offset, to)?;
-        Ok(true)
+        tell(&offset, to)
+    }
+
+    fn put(&mut self, member: Member) -> Result<(), Fault> {
+        if has_item(self.items.as_slice(), member.c) {
+            return Err(Fault::NoSuchCall);
+        }
+        Ok(put_in(&mut self.items, member)?)
+    }
+
+    fn replace(&mut self, member: Member) -> Result<(), Fault> {
+        if !has_item(self.items.as_slice(), member.c) {
+            return Err(Fault::NoSuchCall);
+        }
+        replace_in(&mut self.items, member);
+        Ok(())
     }
 }

@@ -3,11 +3,12 @@ ghost use Rattle.std.specs.Prelude.{◌≡◌, true};
 ghost use Rattle.hc_store.specs.Slots.{is_live};
 
 use crate::samples::{fails_of, head, key, limits_of};
-use crate::values::{show_run, show_some};
+use crate::values::{tell_read, tell_some};
 use hc_record::{Kind, StoredHead};
 use hc_sparse::{Presence, Run, Span2};
 use hc_store::{Backend, Failing, Memory, Slot, SlotView, StoreError};
-use hc_vector::{Fault, Vector, show};
+use hc_text::{Key, NoMemory};
+use hc_vector::{Fault, Vector, tell};
 
 /// Past the last position that there may be.
 const END: u64 = 1 << 62;
@@ -22,16 +23,14 @@ struct Kept<B: Backend> {
 
 impl<B: Backend> Kept<B> {
     /// A slot is made.
-    fn begun(mut store: B, v: &Vector) -> Result<Result<Kept<B>, StoreError>, Fault>
+    fn begun(mut store: B, key: &Key, head: &StoredHead) -> Result<Kept<B>, StoreError>
     where
         B: Drop,
     {
-        let key = key(v.alloc())?;
-        let head = head(v.alloc())?;
-        Ok(match store.create(&key, &head) {
+        match store.create(key, head) {
             Ok(slot) => Ok(Kept { store, slot }),
             Err(error) => Err(error),
-        })
+        }
     }
 
     /// One more slot is made.
@@ -76,44 +75,30 @@ impl<B: Backend> Kept<B> {
         }
     }
 
-    /// Makes a call that changes nothing, if this is one.
-    fn ask(&self, v: &Vector, to: &mut String) -> Result<bool, Fault> {
-        let a = v.number(0);
-        let span = Span2 {
-            lo: a,
-            hi: v.number(1),
-        };
+    /// Makes a call that changes nothing, or else one that may.
+    fn tell(&mut self, v: &Vector, to: &mut String) -> Result<(), Fault> {
+        let lo = v.number(0);
+        let hi = v.number(1);
         match v.call() {
-            ("store_covers", "nn") => show(&self.view().covers(span), to)?,
-            ("store_next", "n") => show(&self.view().next_present(a), to)?,
-            ("store_kind", "") => show(&self.store.kind(self.slot), to)?,
-            ("store_used", "") => show(&self.store.used(), to)?,
-            ("store_used_by", "") => show(&self.store.used_by(self.slot), to)?,
-            _ => return Ok(false),
+            "store_covers nn" => tell(&self.view().covers(Span2 { lo, hi }), to),
+            "store_next n" => tell(&self.view().next_present(lo), to),
+            "store_kind" => tell(&self.store.kind(self.slot), to),
+            "store_used" => tell(&self.store.used(), to),
+            "store_used_by" => tell(&self.store.used_by(self.slot), to),
+            _ => self.change(v, to),
         }
-        Ok(true)
     }
 
-    /// Makes another call, if this is one.
-    fn change(&mut self, v: &Vector, to: &mut String) -> Result<bool, Fault> {
+    fn change(&mut self, v: &Vector, to: &mut String) -> Result<(), Fault> {
         match v.call() {
-            ("store_create", "") => show(&self.create(v)?, to)?,
-            ("store_put", "nt") => return Ok(show_some(self.put(v.number(0), v.text(1)), to)?),
-            ("store_run", "n") => match self.run_at(v.number(0)) {
-                Ok(run) => show_run(&run, to)?,
-                Err(error) => write!(to, "Err({error:?})")?,
-            },
-            ("store_seal", "") => show(&self.seal(), to)?,
-            ("store_write_record", "") => show(&self.write_record(&head(v.alloc())?), to)?,
-            ("store_read_record", "") => {
-                let told = self
-                    .read_record()
-                    .map(|head| (head.total, head.status, head.requested));
-                show(&told, to)?;
-            }
-            _ => return Ok(false),
+            "store_create" => tell(&self.create(v)?, to),
+            "store_put nt" => tell_some(&self.put(v.number(0), v.text(1)), to),
+            "store_run n" => tell_read(&self.run_at(v.number(0)), to),
+            "store_seal" => tell(&self.seal(), to),
+            "store_write_record" => tell(&self.write_record(&head(v.alloc())?), to),
+            "store_read_record" => tell_record(&self.read_record(), to),
+            _ => Err(Fault::NoSuchCall),
         }
-        Ok(true)
     }
 
     /// What the store holds once the slot is dropped.
@@ -125,6 +110,14 @@ impl<B: Backend> Kept<B> {
         store.drop_slot(self.slot);
         store.used()
     }
+}
+
+/// Writes of a record that was read the length of the body, the status and when it was asked for.
+fn tell_record(read: &Result<StoredHead, StoreError>, to: &mut String) -> Result<(), Fault> {
+    let told = read
+        .as_ref()
+        .map(|head| (head.total, head.status, head.requested));
+    tell(&told, to)
 }
 
 /// A store in memory that fails where it is told to, with a slot, if that was made.
@@ -140,29 +133,39 @@ impl Cupboard {
     }
 
     /// Makes the call, and writes what it answers.
-    pub(crate) fn tell(&mut self, v: &Vector, to: &mut String) -> Result<bool, Fault> {
+    pub(crate) fn tell(&mut self, v: &Vector, to: &mut String) -> Result<(), Fault> {
         match v.call() {
-            ("store_new", shape) if shape.starts_with("nn") => {
-                self.begin(v, to)?;
-                return Ok(true);
-            }
-            ("store_drop", "") => {
-                let used = self.kept.take().map(|kept| kept.dropped());
-                return Ok(show_some(used, to)?);
-            }
-            _ => {}
+            call if call.starts_with("store_new nn") => self.begin(v, to),
+            "store_drop" => tell_some(&self.drop_slot(), to),
+            _ => self.tell_of_slot(v, to),
         }
-        let Some(kept) = &mut self.kept else {
-            return Ok(false);
-        };
-        Ok(kept.ask(v, to)? || kept.change(v, to)?)
+    }
+
+    /// What the store holds once the slot is dropped, if there is one.
+    fn drop_slot(&mut self) -> Option<u64> {
+        self.kept.take().map(|kept| kept.dropped())
+    }
+
+    fn tell_of_slot(&mut self, v: &Vector, to: &mut String) -> Result<(), Fault> {
+        match &mut self.kept {
+            Some(kept) => kept.tell(v, to),
+            None => Err(Fault::NoSuchCall),
+        }
     }
 
     fn begin(&mut self, v: &Vector, to: &mut String) -> Result<(), Fault> {
-        let memory = Memory::new(v.alloc(), limits_of(v));
-        let begun = Kept::begun(Failing::new(memory, fails_of(v)?), v)?;
-        show(&begun.as_ref().err(), to)?;
+        let store = failing_store(v)?;
+        let key = key(v.alloc())?;
+        let head = head(v.alloc())?;
+        let begun = Kept::begun(store, &key, &head);
+        tell(&begun.as_ref().err(), to)?;
         self.kept = begun.ok();
         Ok(())
     }
+}
+
+/// A store with the limits that the call tells, which fails where it says.
+fn failing_store(v: &Vector) -> Result<Failing<Memory>, NoMemory> {
+    let fails = fails_of(v)?;
+    Ok(Failing::new(Memory::new(v.alloc(), limits_of(v)), fails))
 }

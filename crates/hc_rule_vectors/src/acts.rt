@@ -1,11 +1,11 @@
 //! Acts and reports: each line that is an act is kept, and its value is its text in a report.
 use crate::given::{fields_at, request_at};
-use crate::told::{tell, tell_bytes};
+use crate::told::tell_bytes;
 use crate::words::{cause_at, kind_at, need_at, refusal_of, wait_at, why_at};
 use hc_event::{Act, Acts};
 use hc_sched::write_acts;
 use hc_text::{Bytes, NoMemory};
-use hc_vector::{Fault, Vector};
+use hc_vector::{Fault, Vector, tell};
 use std::alloc::Global;
 
 /// The acts that were told since the last report.
@@ -22,70 +22,83 @@ impl Report {
         }
     }
 
-    /// Writes the value of the call, if it is one of these.
-    pub(crate) fn call(&mut self, v: &Vector, to: &mut String) -> Result<bool, Fault> {
+    /// Writes the value of the call.
+    pub(crate) fn call(&mut self, v: &Vector, to: &mut String) -> Result<(), Fault> {
         match v.call() {
-            ("report", "n") => self.tell(v, to)?,
-            ("keeps_room", "n") => tell_room(v, to)?,
-            _ => match act_of(v)? {
-                Some(act) => self.keep(v.alloc(), act, to)?,
-                None => return Ok(false),
-            },
+            "report n" => self.tell(v, to),
+            "keeps_room n" => tell_room(v, to),
+            _ => self.keep(v, to),
         }
-        Ok(true)
     }
 
-    /// Keeps the act, and writes the text of a copy as an entry of its number.
-    fn keep(&mut self, alloc: Global, act: Act, to: &mut String) -> Result<(), Fault> {
+    /// Keeps the act that the line is, and writes the text of a copy as an entry of its number.
+    fn keep(&mut self, v: &Vector, to: &mut String) -> Result<(), Fault> {
+        let act = act_of(v)?;
         let copy = act.copy()?;
         self.acts.push(act)?;
-        let mut text = Vec::new(alloc);
-        write_acts(self.acts.list().len() as u64, &[copy], &mut text)?;
-        tell_bytes(&text, to)
+        tell_entry(v.alloc(), self.acts.list().len() as u64, &[copy], to)
     }
 
     /// Writes the entry of this number with all acts, which are handed out.
     fn tell(&mut self, v: &Vector, to: &mut String) -> Result<(), Fault> {
-        let mut acts = Vec::new(v.alloc());
-        for act in self.acts.drain() {
-            acts.push(act)?;
-        }
-        let mut text = Vec::new(v.alloc());
-        write_acts(v.number(0), &acts, &mut text)?;
-        tell_bytes(&text, to)?;
+        let acts = self.drain(v.alloc())?;
+        tell_entry(v.alloc(), v.number(0), &acts, to)?;
         write!(to, " {} left", self.acts.list().len())?;
         Ok(())
     }
+
+    fn drain(&mut self, alloc: Global) -> Result<Vec<Act>, NoMemory> {
+        let mut acts = Vec::new(alloc);
+        for act in self.acts.drain() {
+            acts.push(act)?;
+        }
+        Ok(acts)
+    }
+}
+
+/// Writes the entry of this number, with these acts.
+fn tell_entry(alloc: Global, number: u64, acts: &[Act], to: &mut String) -> Result<(), Fault> {
+    let mut text = Vec::new(alloc);
+    write_acts(number, acts, &mut text)?;
+    tell_bytes(&text, to)
 }
 
 /// The act that the line is.
-fn act_of(v: &Vector) -> Result<Option<Act>, Fault> {
+fn act_of(v: &Vector) -> Result<Act, Fault> {
+    match v.call() {
+        "open nnwt" => opened(v),
+        "shown nnwnnnt" => shown(v),
+        "data nnnt" => given(v),
+        _ => plain_act_of(v),
+    }
+}
+
+/// The act that the line is, where that has only numbers.
+fn plain_act_of(v: &Vector) -> Result<Act, Fault> {
     let n = v.number(0);
-    Ok(Some(match v.call() {
-        ("open", "nnwt") => opened(v)?,
-        ("ask", "n") => Act::Ask { x: n },
-        ("close", "n") => Act::Close { x: n },
-        ("shown", "nnwnnnt") => shown(v)?,
-        ("data", "nnnt") => given(v)?,
-        ("ended", "n") => Act::Ended { c: n },
-        ("failed", "nw") => Act::Failed {
-            c: n,
-            cause: cause_at(v, 1)?,
-        },
-        ("pending", "nw") => Act::Pending {
-            c: n,
-            wait: wait_at(v, 1)?,
-        },
-        ("lost", "nw") => Act::Lost {
-            r: n,
-            kind: kind_at(v, 1)?,
-        },
-        ("evicted", "n") => Act::Evicted { r: n },
-        ("denied", "n" | "nn") => Act::Denied {
-            refusal: refusal_of(n, v.number(1))?,
-        },
-        _ => return Ok(None),
-    }))
+    Ok(match v.call() {
+        "ask n" => Act::Ask { x: n },
+        "close n" => Act::Close { x: n },
+        "ended n" => Act::Ended { c: n },
+        "evicted n" => Act::Evicted { r: n },
+        "failed nw" => {
+            let cause = cause_at(v, 1)?;
+            Act::Failed { c: n, cause }
+        }
+        "pending nw" => {
+            let wait = wait_at(v, 1)?;
+            Act::Pending { c: n, wait }
+        }
+        "lost nw" => {
+            let kind = kind_at(v, 1)?;
+            Act::Lost { r: n, kind }
+        }
+        "denied n" | "denied nn" => {
+            let refusal = refusal_of(n, v.number(1))?;
+            Act::Denied { refusal }
+        }
+        _ => return Err(Fault::NoSuchCall),
+    })
 }
 
 /// The exchange, its consumer, its need, and the request.

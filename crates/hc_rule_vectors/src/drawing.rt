@@ -15,10 +15,10 @@ const MOST: u64 = 10_000;
 /// Writes the value of the call, if it is one of these.
 pub(crate) fn call(v: &Vector, to: &mut String) -> Result<bool, Fault> {
     match v.call() {
-        ("event_of_seed", "nn") => tell_drawn(v, to)?,
-        ("summary_of_seed", "nn") => tell_summary(v, to)?,
+        "event_of_seed nn" => tell_drawn(v, to),
+        "summary_of_seed nn" => tell_summary(v, to),
         _ => return Ok(false),
-    }
+    }?;
     Ok(true)
 }
 

@@ -1,24 +1,23 @@
 //! Calls of `hc_event` on methods, and of `hc_fresh`.
 use crate::given::{CAME, fields_at, head_at, head_of, request_at};
-use crate::told::tell;
 use hc_event::is_safe;
 use hc_fresh::{
     HeadFacts, RequestFacts, age, allowed, allowed_to, date_in, lifetime, vary_matches,
 };
 use hc_text::MethodName;
-use hc_vector::{Fault, Vector};
+use hc_vector::{Fault, Vector, tell};
 
 /// Writes the value of the call, if it is one of these.
 pub(crate) fn call(v: &Vector, to: &mut String) -> Result<bool, Fault> {
     match v.call() {
-        ("is_safe", "t") => tell_safe(v, to)?,
-        ("date_in", "t") => tell_date(v, to)?,
-        ("lifetime", "t") => tell_lifetime(v, to)?,
-        ("age", "nnnt") => tell_age(v, to)?,
-        ("allowed", "ntt") => tell_allowed(v, to)?,
-        ("vary_matches", "ttt") => tell_matches(v, to)?,
+        "is_safe t" => tell_safe(v, to),
+        "date_in t" => tell_date(v, to),
+        "lifetime t" => tell_lifetime(v, to),
+        "age nnnt" => tell_age(v, to),
+        "allowed ntt" => tell_allowed(v, to),
+        "vary_matches ttt" => tell_matches(v, to),
         _ => return Ok(false),
-    }
+    }?;
     Ok(true)
 }
 

@@ -17,6 +17,15 @@ pub(crate) const MOST: usize = 1 << 40;
 
 /// The event that the text at this place spells, as an item of a schedule.
 pub(crate) fn event_at(v: &Vector, at: usize) -> Result<Event, Fault> {
+    let last = events_in(v, at)?.pop();
+    match last {
+        Some(timed) => Ok(timed.event),
+        None => Err(Fault::NoSuchCall),
+    }
+}
+
+/// The events of the schedule that the text at this place is.
+fn events_in(v: &Vector, at: usize) -> Result<Vec<Timed>, Fault> {
     let text = v.text(at);
     if text.len() > MOST {
         return Err(Fault::NoSuchCall);
@@ -24,10 +33,10 @@ pub(crate) fn event_at(v: &Vector, at: usize) -> Result<Event, Fault> {
     let mut feed = Feed::new(v.alloc());
     let mut events = Vec::new(v.alloc());
     let fed = feed.feed(text, &mut events);
-    match events.pop() {
-        Some(Timed { event, .. }) if fed.is_ok() && feed.finish().is_ok() => Ok(event),
-        _ => Err(Fault::NoSuchCall),
+    if fed.is_err() || feed.finish().is_err() {
+        return Err(Fault::NoSuchCall);
     }
+    Ok(events)
 }
 
 /// The request that the text at this place starts with.
@@ -83,11 +92,8 @@ pub(crate) fn head_of(
     ensures came { IfOk result (λ head. head.requested ≤ head.answered) }
     ensures length { IfOk result (λ head. head.total ≡ Some 6) }
 {
+    let vary_fields = vary_fields_at(v, vary_at)?;
     let fields = fields_at(v, at)?;
-    let vary_fields = match vary_at {
-        Some(at) => fields_at(v, at)?,
-        None => Fields::new(v.alloc())?,
-    };
     let is_list = vary_fields.len() <= 80;
     if !fields.within_limits() || !is_list || requested > answered || answered >= 1 << 62 {
         return Err(Fault::NoSuchCall);
@@ -103,6 +109,14 @@ pub(crate) fn head_of(
         vary_fields,
         fields,
     })
+}
+
+/// The fields that the text at this place lists, none where there is no place.
+fn vary_fields_at(v: &Vector, at: Option<usize>) -> Result<Fields, Fault> {
+    match at {
+        Some(at) => fields_at(v, at),
+        None => Ok(Fields::new(v.alloc())?),
+    }
 }
 
 /// A stored head that came at the moment 1000, whose body has six bytes, with the fields at this place.

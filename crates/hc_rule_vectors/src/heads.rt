@@ -1,7 +1,7 @@
 //! Calls of `hc_head`.
-use crate::told::{tell, tell_request, tell_response};
+use crate::told::{tell_request, tell_response};
 use hc_head::{Reply, Scan, Sought, call_of, find_end, line_end, reply_of};
-use hc_vector::{Fault, Vector};
+use hc_vector::{Fault, Vector, tell};
 
 /// Whole heads have no more bytes.
 const MOST: usize = 32_768;
@@ -9,12 +9,12 @@ const MOST: usize = 32_768;
 /// Writes the value of the call, if it is one of these.
 pub(crate) fn call(v: &Vector, to: &mut String) -> Result<bool, Fault> {
     match v.call() {
-        ("call_of", "t") => tell_call(v, to)?,
-        ("reply_of", "wt") => tell_reply(v, to)?,
-        ("find_end", "t") => tell_end(v, to)?,
-        ("line_end", "t") => tell(&line_end(v.text(0)), to)?,
+        "call_of t" => tell_call(v, to),
+        "reply_of wt" => tell_reply(v, to),
+        "find_end t" => tell_end(v, to),
+        "line_end t" => tell(&line_end(v.text(0)), to),
         _ => return Ok(false),
-    }
+    }?;
     Ok(true)
 }
 
@@ -37,12 +37,18 @@ fn tell_reply(v: &Vector, to: &mut String) -> Result<(), Fault> {
         return Err(Fault::NoSuchCall);
     }
     match reply_of(v.alloc(), v.word(0) == "head", text) {
-        Ok(Reply::Skips) => Ok(to.push_str("skips")?),
-        Ok(Reply::Shows(response, framing)) => {
-            write!(to, "{framing:?} ")?;
-            tell_response(&response, to)
-        }
+        Ok(reply) => tell_read(&reply, to),
         Err(e) => tell(&e, to),
+    }
+}
+
+fn tell_read(reply: &Reply, to: &mut String) -> Result<(), Fault> {
+    match reply {
+        Reply::Skips => Ok(to.push_str("skips")?),
+        Reply::Shows(response, framing) => {
+            write!(to, "{framing:?} ")?;
+            tell_response(response, to)
+        }
     }
 }
 

@@ -3,6 +3,7 @@
 #![tactic(auto)]
 
 mod acts;
+mod answers;
 mod drawing;
 mod echo;
 mod freshness;
@@ -28,18 +29,20 @@ struct Libraries {
 }
 
 impl Calls for Libraries {
-    fn tell(&mut self, vector: &Vector, value: &mut String) -> Result<bool, Fault> {
-        Ok(
-            freshness::call(vector, value)?
-                || validation::call(vector, value)?
-                || requests::call(vector, value)?
-                || plans::call(vector, value)?
-                || schedules::call(vector, value)?
-                || heads::call(vector, value)?
-                || messages::call(vector, value)?
-                || drawing::call(vector, value)?
-                || self.report.call(vector, value)?,
-        )
+    fn tell(&mut self, vector: &Vector, value: &mut String) -> Result<(), Fault> {
+        let is_told = freshness::call(vector, value)?
+            || validation::call(vector, value)?
+            || requests::call(vector, value)?
+            || plans::call(vector, value)?
+            || schedules::call(vector, value)?
+            || heads::call(vector, value)?
+            || messages::call(vector, value)?
+            || drawing::call(vector, value)?;
+        if is_told {
+            Ok(())
+        } else {
+            self.report.call(vector, value)
+        }
     }
 }
 

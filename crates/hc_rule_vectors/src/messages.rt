@@ -1,13 +1,9 @@
-//! Calls of `hc_msg`: messages that come in pieces, however they are cut, and what is sent.
-ghost use Rattle.std.specs.Prelude.{◌<◌};
-
+//! Calls of `hc_msg`: what is sent, and requests that come in pieces, however they are cut.
+use crate::answers::tell_answers;
 use crate::given::{fields_at, is_yes, request_at};
-use crate::told::{tell_bytes, tell_request, tell_response};
+use crate::told::tell_request;
 use hc_event::Response;
-use hc_msg::{
-    MsgError, RequestReader, ResponseReader, Taken, WirePart, write_chunk, write_request,
-    write_response_head,
-};
+use hc_msg::{RequestReader, Taken, WireRequest, write_chunk, write_request, write_response_head};
 use hc_target::is_target;
 use hc_vector::{Fault, Vector, quote, show};
 use std::alloc::Global;
@@ -15,13 +11,13 @@ use std::alloc::Global;
 /// Writes the value of the call, if it is one of these.
 pub(crate) fn call(v: &Vector, to: &mut String) -> Result<bool, Fault> {
     match v.call() {
-        ("read_requests", "t") => tell_requests(v, to)?,
-        ("read_answer", "wt") => tell_answers(v, to)?,
-        ("write_chunk", "t") => tell_chunk(v, to)?,
-        ("write_response_head", "nwt") => tell_sent_head(v, to)?,
-        ("write_request", "t") => tell_sent_request(v, to)?,
+        "read_requests t" => tell_requests(v, to),
+        "read_answer wt" => tell_answers(v, to),
+        "write_chunk t" => tell_chunk(v, to),
+        "write_response_head nwt" => tell_sent_head(v, to),
+        "write_request t" => tell_sent_request(v, to),
         _ => return Ok(false),
-    }
+    }?;
     Ok(true)
 }
 
@@ -60,151 +56,63 @@ fn tell_sent_request(v: &Vector, to: &mut String) -> Result<(), Fault> {
 
 /// Writes the requests of the text, and also what pieces of another size tell, where that is another.
 fn tell_requests(v: &Vector, to: &mut String) -> Result<(), Fault> {
-    let told = requests_in(v.alloc(), v.text(0), 1)?;
-    to.push_str(told.as_str())?;
+    requests_in(v.alloc(), v.text(0), 1, to)?;
     for size in [2, 3, 7, 16, 64, 999, 1 << 30] {
-        let other = requests_in(v.alloc(), v.text(0), size)?;
-        if other != told {
+        let mut other = String::new(v.alloc());
+        requests_in(v.alloc(), v.text(0), size, &mut other)?;
+        if other.as_str() != to.as_str() {
             write!(to, " but by {size} {other}")?;
+            break;
         }
     }
     Ok(())
 }
 
-/// The requests of the text, which comes in pieces of `size` bytes, and its error.
-fn requests_in(alloc: Global, text: &[u8], size: usize) -> Result<String, Fault> {
+/// Writes the requests of the text, which comes in pieces of `size` bytes, and its error or `ok`.
+fn requests_in(alloc: Global, text: &[u8], size: usize, to: &mut String) -> Result<(), Fault> {
     let mut reader = RequestReader::new(alloc);
-    let mut told = String::new(alloc);
     let mut rest = text;
     for _ in 0..100_000_u32 {
         let piece = &rest[..size.min(rest.len())];
-        match reader.take(piece) {
-            Ok(Taken { used, got }) => {
-                rest = &rest[used..];
-                match got {
-                    Some(asked) => {
-                        tell_request(&asked.request, &mut told)?;
-                        told.push_str(if asked.old { " of HTTP/1.0 | " } else { " | " })?;
-                    }
-                    None if rest.is_empty() => break,
-                    None => {}
-                }
-            }
-            Err(e) => {
-                show(&e, &mut told)?;
-                return Ok(told);
-            }
-        }
-    }
-    told.push_str("ok")?;
-    Ok(told)
-}
-
-/// Writes what is told of an answer to a GET or a HEAD, and also what is told where it is cut
-/// otherwise, where that is another.
-fn tell_answers(v: &Vector, to: &mut String) -> Result<(), Fault> {
-    let no_body = v.word(0) == "head";
-    let told = answer_in(v.alloc(), no_body, v.text(1), 1, 9)?;
-    to.push_str(told.as_str())?;
-    for size in [2, 3, 7, 16, 64, 999, 1 << 30] {
-        let other = answer_in(v.alloc(), no_body, v.text(1), size, size.min(9))?;
-        if other != told {
-            write!(to, " but by {size} {other}")?;
-        }
+        let Some(used) = take_request(&mut reader, piece, to)? else {
+            break;
+        };
+        rest = rest.get(used..).unwrap_or(&[]);
     }
     Ok(())
 }
 
-/// What was told of an answer: its head, and the bytes of its body.
-#[derive(Drop)]
-struct Heard {
-    head: String,
-    body: Vec<u8>,
-}
-
-impl Heard {
-    /// Takes one more part, and tells whether it is the end.
-    fn take(&mut self, part: WirePart) -> Result<bool, Fault> {
-        match part {
-            WirePart::Head(response) => tell_response(&response, &mut self.head)?,
-            WirePart::Piece(bytes) => self.body.extend_from_slice(&bytes.bytes)?,
-            WirePart::End => return Ok(true),
+/// Writes what the piece completes, and tells how much of it was used. None at the end of the text, and
+/// after an error.
+fn take_request(
+    reader: &mut RequestReader,
+    piece: &[u8],
+    to: &mut String,
+) -> Result<Option<usize>, Fault> {
+    match reader.take(piece) {
+        Ok(taken) => tell_taken(&taken, piece.is_empty(), to),
+        Err(e) => {
+            show(&e, to)?;
+            Ok(None)
         }
-        Ok(false)
-    }
-
-    /// All that was told.
-    fn told(self) -> Result<String, Fault> {
-        let Heard { mut head, body } = self;
-        if !body.is_empty() {
-            head.push(' ')?;
-            tell_bytes(&body, &mut head)?;
-        }
-        Ok(head)
     }
 }
 
-/// What is told of the answer, which comes in pieces of `size` bytes, of which `most` are taken at once,
-/// and the bytes behind its end.
-fn answer_in(
-    alloc: Global,
-    no_body: bool,
-    text: &[u8],
-    size: usize,
-    most: usize,
-) -> Result<String, Fault>
-    requires { 0 < most }
-{
-    let mut reader = ResponseReader::new(alloc, no_body);
-    let mut heard = Heard {
-        head: String::new(alloc),
-        body: Vec::new(alloc),
-    };
-    let mut rest = text;
-    for _ in 0..100_000_u32 {
-        let piece = &rest[..size.min(rest.len())];
-        match reader.take(piece, most) {
-            Ok(Taken { used, got }) => {
-                rest = &rest[used..];
-                match got {
-                    Some(part) => {
-                        if heard.take(part)? {
-                            return tell_end(heard, rest);
-                        }
-                    }
-                    None if rest.is_empty() => break,
-                    None => {}
-                }
-            }
-            Err(e) => return tell_error(heard, " ", e),
+fn tell_taken(
+    taken: &Taken<WireRequest>,
+    is_over: bool,
+    to: &mut String,
+) -> Result<Option<usize>, Fault> {
+    match &taken.got {
+        Some(asked) => {
+            tell_request(&asked.request, to)?;
+            to.push_str(if asked.old { " of HTTP/1.0 | " } else { " | " })?;
         }
-    }
-    match reader.finish() {
-        Ok(part) => {
-            let is_end = heard.take(part)?;
-            let mut told = heard.told()?;
-            told.push_str(if is_end { " closed end" } else { " closed" })?;
-            Ok(told)
+        None if is_over => {
+            to.push_str("ok")?;
+            return Ok(None);
         }
-        Err(e) => tell_error(heard, " closed ", e),
+        None => {}
     }
-}
-
-/// All that was told up to the end, and the bytes behind that.
-fn tell_end(heard: Heard, rest: &[u8]) -> Result<String, Fault> {
-    let mut told = heard.told()?;
-    told.push_str(" end")?;
-    if !rest.is_empty() {
-        told.push_str(" behind ")?;
-        quote(rest, &mut told)?;
-    }
-    Ok(told)
-}
-
-/// All that was told up to the error.
-fn tell_error(heard: Heard, how: &str, e: MsgError) -> Result<String, Fault> {
-    let mut told = heard.told()?;
-    told.push_str(how)?;
-    show(&e, &mut told)?;
-    Ok(told)
+    Ok(Some(taken.used))
 }

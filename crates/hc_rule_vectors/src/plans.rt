@@ -1,34 +1,43 @@
 //! Calls of `hc_rules` on views.
 use crate::given::{is_yes, range_at};
-use crate::told::tell;
 use crate::words::{bound_at, cause_at, parts_at, span_at, wanted_at, why_at};
 use hc_rules::{
     Bound, Candidate, Limits, Member, PlanView, ReadView, RequestClass, Write, admission_of,
     least_bound, lesser, plan_of, read_step, room_of, survivor_at, weight_of,
 };
-use hc_vector::{Fault, Vector};
+use hc_text::NoMemory;
+use hc_vector::{Fault, Vector, tell};
+use std::alloc::Global;
 
 /// Writes the value of the call, if it is one of these.
 pub(crate) fn call(v: &Vector, to: &mut String) -> Result<bool, Fault> {
     match v.call() {
-        ("plan_of", _) => tell_plan(v, to)?,
-        ("read_step", "nnnwnnn" | "nnnwwnn") => tell_step(v, to)?,
-        ("admission_of", _) => tell_admission(v, to)?,
-        ("least_bound", _) => tell_least(v, to)?,
-        ("lesser", "nn") => tell(&lesser(v.option(0), v.number(1)), to)?,
-        ("weight_of", "n") => tell_weight(v, to)?,
-        ("room_of", _) => tell_room(v, to)?,
-        ("survivor_at", _) => tell_survivor(v, to)?,
+        "read_step nnnwnnn" | "read_step nnnwwnn" => tell_step(v, to),
+        "lesser nn" => tell(&lesser(v.option(0), v.number(1)), to),
+        "weight_of n" => tell_weight(v, to),
+        _ => return call_of_any_count(v, to),
+    }?;
+    Ok(true)
+}
+
+/// Writes the value of the call, if it is one of these, which take more arguments or fewer.
+fn call_of_any_count(v: &Vector, to: &mut String) -> Result<bool, Fault> {
+    match v.name() {
+        "plan_of" => tell_plan(v, to),
+        "admission_of" => tell_admission(v, to),
+        "least_bound" => tell_least(v, to),
+        "room_of" => tell_room(v, to),
+        "survivor_at" => tell_survivor(v, to),
         _ => return Ok(false),
-    }
+    }?;
     Ok(true)
 }
 
 fn tell_plan(v: &Vector, to: &mut String) -> Result<(), Fault> {
-    let (_, shape) = v.call();
-    let current = match (shape.starts_with("nnnwtwnn"), shape.len()) {
-        (true, 8) => None,
-        (true, 15) => Some(candidate_of(v)?),
+    let is_plan = v.call().starts_with("plan_of nnnwtwnn");
+    let current = match v.argument_count() {
+        8 if is_plan => None,
+        15 if is_plan => Some(candidate_of(v)?),
         _ => return Err(Fault::NoSuchCall),
     };
     tell(&plan_of(&plan_view_of(v, current)?), to)
@@ -116,8 +125,7 @@ fn tell_least(v: &Vector, to: &mut String) -> Result<(), Fault> {
 /// Those who are bound, from this place on.
 fn bound_from(v: &Vector, from: usize) -> Result<Vec<Bound>, Fault> {
     let mut bound = Vec::new(v.alloc());
-    let (_, shape) = v.call();
-    for at in from..shape.len() {
+    for at in from..v.argument_count() {
         bound.push(bound_at(v, at)?)?;
     }
     Ok(bound)
@@ -156,8 +164,7 @@ fn tell_room(v: &Vector, to: &mut String) -> Result<(), Fault> {
 /// The numbers from this place on.
 fn numbers_from(v: &Vector, from: usize) -> Result<Vec<u64>, Fault> {
     let mut numbers = Vec::new(v.alloc());
-    let (_, shape) = v.call();
-    for at in from..shape.len() {
+    for at in from..v.argument_count() {
         numbers.push(v.number(at))?;
     }
     Ok(numbers)
@@ -165,16 +172,22 @@ fn numbers_from(v: &Vector, from: usize) -> Result<Vec<u64>, Fault> {
 
 /// Writes who stands at the end of what is stored: each member, with where it stands.
 fn tell_survivor(v: &Vector, to: &mut String) -> Result<(), Fault> {
-    let mut members = Vec::new(v.alloc());
     let numbers = numbers_from(v, 1)?;
     if numbers.len() % 2 != 0 {
         return Err(Fault::NoSuchCall);
     }
+    let members = members_of(v.alloc(), &numbers)?;
+    tell(&survivor_at(v.number(0), &members), to)
+}
+
+/// The members that stand in a row, the number and the offset of each.
+fn members_of(alloc: Global, numbers: &[u64]) -> Result<Vec<Member>, NoMemory> {
+    let mut members = Vec::new(alloc);
     for member in numbers.chunks_exact(2) {
         members.push(Member {
             c: member[0],
             offset: member[1],
         })?;
     }
-    tell(&survivor_at(v.number(0), &members), to)
+    Ok(members)
 }

@@ -1,6 +1,5 @@
 //! Calls of `hc_rules` on requests and on the heads of answers.
 use crate::given::{event_at, fields_at, is_yes, range_at, request_at, response_at};
-use crate::told::tell;
 use crate::words::need_at;
 use hc_etag::read_tag;
 use hc_range::Span;
@@ -8,25 +7,25 @@ use hc_rules::{
     Gate, HeadView, OpenExchange, class_of, content_range_of, fits_to_found, head_case,
     hole_answer, is_conditional, is_storable, length_of, refusal_of, route_of, wanted_of,
 };
-use hc_vector::{Fault, Vector};
+use hc_vector::{Fault, Vector, tell};
 
 /// Writes the value of the call, if it is one of these.
 pub(crate) fn call(v: &Vector, to: &mut String) -> Result<bool, Fault> {
     match v.call() {
-        ("class_of", "t") => tell_class(v, to)?,
-        ("wanted_of", "tn") => tell_wanted(v, to)?,
-        ("refusal_of", "nnwt") => tell_refusal(v, None, 3, to)?,
-        ("refusal_of", "nnwwwnnt") => tell_refusal_of_exchange(v, to)?,
-        ("length_of", "wtt") => tell_length(v, to)?,
-        ("content_range_of", "t") => tell_content_range(v, to)?,
-        ("is_storable", "tt") => tell_storable(v, to)?,
-        ("fits_to_found", "tt") => tell_fit(v, to)?,
-        ("is_conditional", "wt") => tell_conditional(v, to)?,
-        ("hole_answer", "tnnnt") => tell_hole_answer(v, to)?,
-        ("route_of", "w") => tell_route(v, to)?,
-        ("head_case", "wwnwwwwwww") => tell_head_case(v, to)?,
+        "class_of t" => tell_class(v, to),
+        "wanted_of tn" => tell_wanted(v, to),
+        "refusal_of nnwt" => tell_refusal(v, None, 3, to),
+        "refusal_of nnwwwnnt" => tell_refusal_of_exchange(v, to),
+        "length_of wtt" => tell_length(v, to),
+        "content_range_of t" => tell_content_range(v, to),
+        "is_storable tt" => tell_storable(v, to),
+        "fits_to_found tt" => tell_fit(v, to),
+        "is_conditional wt" => tell_conditional(v, to),
+        "hole_answer tnnnt" => tell_hole_answer(v, to),
+        "route_of w" => tell_route(v, to),
+        "head_case wwnwwwwwww" => tell_head_case(v, to),
         _ => return Ok(false),
-    }
+    }?;
     Ok(true)
 }
 

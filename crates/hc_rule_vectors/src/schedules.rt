@@ -3,24 +3,24 @@ ghost use Rattle.std.specs.Prelude.{◌+◌, ◌<◌, ◌≤◌, ◌^◌, length
 ghost use Rattle.hc_sched.specs.Feeding.{lines_in};
 
 use crate::given::{MOST, event_at};
-use crate::told::{tell, tell_event};
+use crate::told::tell_event;
 use hc_event::Event;
 use hc_sched::{Feed, FeedError, Refused, SchedRefusal, Timed, write_event};
 use hc_target::is_target;
-use hc_vector::{Fault, Vector, quote};
+use hc_vector::{Fault, Vector, quote, tell};
 use std::alloc::Global;
 
 /// Writes the value of the call, if it is one of these.
 pub(crate) fn call(v: &Vector, to: &mut String) -> Result<bool, Fault> {
     match v.call() {
-        ("is_target", "t") => tell_target(v, to)?,
-        ("copy", "t") => tell_copy(v, to)?,
-        ("read_schedule", "nt") => tell_alike(v, to)?,
-        ("read_schedule", "nnt") => tell_read(v, to)?,
-        ("cut_schedule", "t") => tell_cuts(v, to)?,
-        ("write_end", "nnn") => tell_end(v, to)?,
+        "is_target t" => tell_target(v, to),
+        "copy t" => tell_copy(v, to),
+        "read_schedule nt" => tell_alike(v, to),
+        "read_schedule nnt" => tell_read(v, to),
+        "cut_schedule t" => tell_cuts(v, to),
+        "write_end nnn" => tell_end(v, to),
         _ => return Ok(false),
-    }
+    }?;
     Ok(true)
 }
 
@@ -48,18 +48,17 @@ fn tell_end(v: &Vector, to: &mut String) -> Result<(), Fault> {
 
 /// Writes what is told of a text in pieces of so many bytes.
 fn tell_read(v: &Vector, to: &mut String) -> Result<(), Fault> {
-    let told = read(v.alloc(), v.number(0), v.text(2), v.number(1) as usize)?;
-    Ok(to.push_str(told.as_str())?)
+    read(v.alloc(), v.number(0), v.text(2), v.number(1) as usize, to)
 }
 
 /// Writes what is told of a text in pieces of 1 to 300 bytes, and also of the first size that tells
 /// another.
 fn tell_alike(v: &Vector, to: &mut String) -> Result<(), Fault> {
-    let told = read(v.alloc(), v.number(0), v.text(1), 1)?;
-    to.push_str(told.as_str())?;
+    read(v.alloc(), v.number(0), v.text(1), 1, to)?;
     for size in 2..301 {
-        let other = read(v.alloc(), v.number(0), v.text(1), size)?;
-        if other != told {
+        let mut other = String::new(v.alloc());
+        read(v.alloc(), v.number(0), v.text(1), size, &mut other)?;
+        if other.as_str() != to.as_str() {
             write!(to, " but by {size} {other}")?;
             break;
         }
@@ -67,26 +66,35 @@ fn tell_alike(v: &Vector, to: &mut String) -> Result<(), Fault> {
     Ok(())
 }
 
-/// What is told of the text, which comes in pieces of `size` bytes: its events, what the last piece
-/// answered and what is held then, and the same of the end.
-fn read(alloc: Global, moment: u64, text: &[u8], size: usize) -> Result<String, Fault> {
+/// Writes what is told of the text, which comes in pieces of `size` bytes: its events, what the last
+/// piece answered and what is held then, and the same of the end.
+fn read(
+    alloc: Global,
+    moment: u64,
+    text: &[u8],
+    size: usize,
+    to: &mut String,
+) -> Result<(), Fault> {
     if moment >= 1 << 62 || size == 0 || text.len() > MOST {
         return Err(Fault::NoSuchCall);
     }
     let mut feed = Feed::after(alloc, moment);
     let mut events = Vec::new(alloc);
-    let mut told = String::new(alloc);
     let fed = feed_pieces(&mut feed, text, size, &mut events);
-    for timed in &events {
-        write!(told, "{} ", timed.now)?;
-        tell_event(&timed.event, &mut told)?;
-        told.push_str(" | ")?;
-    }
-    tell_answer(fed, feed.held(), &mut told)?;
-    told.push_str(", ")?;
+    tell_events(&events, to)?;
+    tell_answer(fed, feed.held(), to)?;
+    to.push_str(", ")?;
     let ended = feed.finish();
-    tell_answer(ended, feed.held(), &mut told)?;
-    Ok(told)
+    tell_answer(ended, feed.held(), to)
+}
+
+fn tell_events(events: &[Timed], to: &mut String) -> Result<(), Fault> {
+    for timed in events {
+        write!(to, "{} ", timed.now)?;
+        tell_event(&timed.event, to)?;
+        to.push_str(" | ")?;
+    }
+    Ok(())
 }
 
 /// Feeds the text in pieces of `size` bytes, those behind an error too, and answers as the last one.
@@ -131,19 +139,19 @@ fn tell_cuts(v: &Vector, to: &mut String) -> Result<(), Fault> {
     for len in 0..=text.len() {
         match ending(v.alloc(), &text[..len]) {
             Ok(()) => whole = whole.saturating_add(1),
-            Err(
-                FeedError::Refused(
-                    Refused {
-                        why: SchedRefusal::CutShort,
-                        ..
-                    },
-                ),
-            ) => cut = cut.saturating_add(1),
+            Err(error) if is_cut_short(error) => cut = cut.saturating_add(1),
             Err(_) => other = other.saturating_add(1),
         }
     }
     write!(to, "{whole} whole, {cut} cut short, {other} other")?;
     Ok(())
+}
+
+fn is_cut_short(error: FeedError) -> bool {
+    match error {
+        FeedError::Refused(Refused { why, .. }) => why == SchedRefusal::CutShort,
+        FeedError::NoMemory => false,
+    }
 }
 
 /// What the end of the text answers.

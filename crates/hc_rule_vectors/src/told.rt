@@ -2,15 +2,9 @@
 use hc_event::{Event, Request, Response};
 use hc_fields::Fields;
 use hc_vector::{Fault, quote, show};
-use std::fmt::Debug;
 
 /// Of more bytes only their number and the first three are written.
 const MOST_SHOWN: usize = 400;
-
-/// Writes the value as Rust writes it.
-pub(crate) fn tell<T: Debug>(value: &T, to: &mut String) -> Result<(), Fault> {
-    Ok(show(value, to)?)
-}
 
 /// Writes bytes in quotes.
 pub(crate) fn tell_bytes(bytes: &[u8], to: &mut String) -> Result<(), Fault> {
@@ -52,23 +46,23 @@ pub(crate) fn tell_event(event: &Event, to: &mut String) -> Result<(), Fault> {
     match event {
         Event::Start { c, request } => {
             write!(to, "start {c} ")?;
-            tell_request(request, to)?;
+            return tell_request(request, to);
         }
         Event::Poll { c, want } => write!(to, "poll {c} {want}")?,
         Event::Head { x, response } => {
             write!(to, "head {x} ")?;
-            tell_response(response, to)?;
+            return tell_response(response, to);
         }
         Event::Piece { x, bytes } => {
             write!(to, "piece {x} ")?;
-            tell_bytes(&bytes.bytes, to)?;
+            return tell_bytes(&bytes.bytes, to);
         }
         Event::End { x } => write!(to, "end {x}")?,
         Event::Fault { x } => write!(to, "fault {x}")?,
         Event::Cancel { c } => write!(to, "cancel {c}")?,
         Event::Doom { key } => {
             to.push_str("doom ")?;
-            tell_bytes(&key.bytes, to)?;
+            return tell_bytes(&key.bytes, to);
         }
     }
     Ok(())

@@ -1,23 +1,23 @@
 //! Calls of `hc_validate`.
 use crate::given::{fields_at, head_at, is_yes, request_at, response_at};
-use crate::told::{tell, tell_fields, tell_response};
+use crate::told::{tell_fields, tell_response};
 use crate::words::{span_at, why_at};
 use hc_fields::Fields;
 use hc_validate::{conditional, origin_answer, origin_byte, selects, shown, update};
-use hc_vector::{Fault, Vector};
+use hc_vector::{Fault, Vector, tell};
 
 /// Writes the value of the call, if it is one of these.
 pub(crate) fn call(v: &Vector, to: &mut String) -> Result<bool, Fault> {
     match v.call() {
-        ("conditional", "tt") => tell_conditional(v, to)?,
-        ("selects", "tt") => tell_selects(v, to)?,
-        ("update", "tt") => tell_update(v, to)?,
-        ("update_by_many", "tn") => tell_update_by_many(v, to)?,
-        ("shown", "twnw" | "twww") => tell_shown(v, to)?,
-        ("origin_answer", "t") => tell_origin(v, to)?,
-        ("origin_byte", "n") => tell(&char::from(origin_byte(v.number(0))), to)?,
+        "conditional tt" => tell_conditional(v, to),
+        "selects tt" => tell_selects(v, to),
+        "update tt" => tell_update(v, to),
+        "update_by_many tn" => tell_update_by_many(v, to),
+        "shown twnw" | "shown twww" => tell_shown(v, to),
+        "origin_answer t" => tell_origin(v, to),
+        "origin_byte n" => tell(&char::from(origin_byte(v.number(0))), to),
         _ => return Ok(false),
-    }
+    }?;
     Ok(true)
 }
 

@@ -1,13 +1,15 @@
 //! A program of vectors, over the calls that it knows.
 use crate::fault::Fault;
 use crate::vector::{Vector, read_vector};
+use std::alloc::Global;
 use std::io;
 use std::process::ExitCode;
 
 /// The calls that a program knows. It may keep what earlier lines made.
 pub trait Calls {
-    /// Writes the value of the call to `value`. False where no call has this name and such arguments.
-    fn tell(&mut self, vector: &Vector, value: &mut String) -> Result<bool, Fault>;
+    /// Writes the value of the call to `value`. `NoSuchCall` where no call has this name and such
+    /// arguments.
+    fn tell(&mut self, vector: &Vector, value: &mut String) -> Result<(), Fault>;
 }
 
 /// Writes each line of standard input again, with its value where it is a vector. Empty lines and
@@ -40,11 +42,15 @@ fn tell_line<R: Print + AllocGlobal, C: Calls>(
         println!(rt; "{line}")?;
         return Ok(());
     }
-    let vector = read_vector(rt.alloc(), line.as_str())?;
-    let mut value = String::new(rt.alloc());
-    if !calls.tell(&vector, &mut value)? {
-        return Err(Fault::NoSuchCall);
-    }
+    let value = value_of(rt.alloc(), calls, line.as_str())?;
     println!(rt; "{line} => {value}")?;
     Ok(())
+}
+
+/// The value of the call that the line spells.
+fn value_of<C: Calls>(alloc: Global, calls: &mut C, line: &str) -> Result<String, Fault> {
+    let vector = read_vector(alloc, line)?;
+    let mut value = String::new(alloc);
+    calls.tell(&vector, &mut value)?;
+    Ok(value)
 }

@@ -11,5 +11,5 @@ mod vector;
 pub use calls::{Calls, tell_all};
 pub use fault::Fault;
 pub use lines::fields_of;
-pub use values::{quote, show};
+pub use values::{quote, show, tell};
 pub use vector::{Vector, read_vector};

@@ -1,4 +1,5 @@
 //! How values are written.
+use crate::fault::Fault;
 use hc_text::NoMemory;
 use std::fmt::Debug;
 
@@ -6,6 +7,11 @@ use std::fmt::Debug;
 pub fn show<T: Debug>(value: &T, to: &mut String) -> Result<(), NoMemory> {
     write!(to, "{value:?}")?;
     Ok(())
+}
+
+/// Writes the value in the same way, where that is all that a call does.
+pub fn tell<T: Debug>(value: &T, to: &mut String) -> Result<(), Fault> {
+    Ok(show(value, to)?)
 }
 
 /// Writes the bytes as they stand in quotes in a vector.

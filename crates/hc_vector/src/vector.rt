@@ -16,7 +16,7 @@ const MOST_COPIES: u64 = 1 << 20;
 pub struct Vector {
     alloc: Global,
     name: String,
-    shape: String,
+    call: String,
     arguments: Vec<Argument>,
 }
 
@@ -29,10 +29,20 @@ enum Argument {
 }
 
 impl Vector {
-    /// The call's name, and a letter for each argument: `t` for a text, `n` for a number or for none,
-    /// `w` for another word.
-    pub fn call(&self) -> (&str, &str) {
-        (self.name.as_str(), self.shape.as_str())
+    /// The call's name, and behind a space a letter for each argument: `t` for a text, `n` for a number or
+    /// for none, `w` for another word. So one comparison tells a call.
+    pub fn call(&self) -> &str {
+        self.call.as_str()
+    }
+
+    /// The call's name alone.
+    pub fn name(&self) -> &str {
+        self.name.as_str()
+    }
+
+    /// How many arguments there are.
+    pub fn argument_count(&self) -> usize {
+        self.arguments.len()
     }
 
     /// Where the arguments were made, for what a call makes.
@@ -70,7 +80,10 @@ impl Vector {
     }
 
     fn push(&mut self, letter: char, argument: Argument) -> Result<(), Fault> {
-        self.shape.push(letter)?;
+        if self.arguments.is_empty() {
+            self.call.push(' ')?;
+        }
+        self.call.push(letter)?;
         self.arguments.push(argument)?;
         Ok(())
     }
@@ -100,6 +113,7 @@ impl Vector {
         for word in piece.split(' ') {
             if self.name.is_empty() {
                 self.name.push_str(word)?;
+                self.call.push_str(word)?;
             } else if let Some(count) = word.strip_prefix('*') {
                 self.repeat(number(count)?)?;
             } else if !word.is_empty() {
@@ -138,7 +152,7 @@ pub fn read_vector(alloc: Global, line: &str) -> Result<Vector, Fault> {
     let mut vector = Vector {
         alloc,
         name: String::new(alloc),
-        shape: String::new(alloc),
+        call: String::new(alloc),
         arguments: Vec::new(alloc),
     };
     let mut in_quotes = false;

@@ -39,9 +39,9 @@ pub(super) fn write_records(alloc: Global, heads: &TwoHeads, times: u64) -> Resu
 /// `read_record` of a record.
 pub(super) fn read_records(alloc: Global, times: u64) -> Result<(), BenchError> {
     for round in 0..times {
-        match read_record(alloc, record_text(round))? {
-            Some(head) if head.fields.len() == FIELD_COUNT => {}
-            _ => return Err(BenchError::Wrong),
+        let head = read_record(alloc, record_text(round))?.ok_or(BenchError::Wrong)?;
+        if head.fields.len() != FIELD_COUNT {
+            return Err(BenchError::Wrong);
         }
     }
     Ok(())

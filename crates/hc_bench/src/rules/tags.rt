@@ -9,9 +9,9 @@ use std::alloc::Global;
 pub(super) fn read_tags(alloc: Global, times: u64) -> Result<(), BenchError> {
     for round in 0..times {
         let (text, opaque) = tag_case(round);
-        match read_tag(alloc, text)? {
-            Some(tag) if tag.opaque.bytes.as_slice() == opaque => {}
-            _ => return Err(BenchError::Wrong),
+        let tag = read_tag(alloc, text)?.ok_or(BenchError::Wrong)?;
+        if tag.opaque.bytes.as_slice() != opaque {
+            return Err(BenchError::Wrong);
         }
     }
     Ok(())
@@ -34,12 +34,20 @@ fn tag_case(round: u64) -> (&'static [u8], &'static [u8]) {
 pub(super) fn read_tag_lists(alloc: Global, times: u64) -> Result<(), BenchError> {
     for round in 0..times {
         let (text, count) = tag_list_case(round);
-        match read_tag_list(alloc, text)? {
-            Some(TagList::Tags(tags)) if tags.items.len() == count => {}
-            _ => return Err(BenchError::Wrong),
+        let list = read_tag_list(alloc, text)?.ok_or(BenchError::Wrong)?;
+        if count_of(&list) != Some(count) {
+            return Err(BenchError::Wrong);
         }
     }
     Ok(())
+}
+
+/// How many tags the list has, unless it is `*`.
+fn count_of(list: &TagList) -> Option<usize> {
+    match list {
+        TagList::Tags(tags) => Some(tags.items.len()),
+        TagList::Any => None,
+    }
 }
 
 /// A list of tags, and how many there are.

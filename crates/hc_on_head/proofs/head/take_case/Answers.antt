@@ -1,4 +1,4 @@
-use Rattle.std.proofs.Common.{Some, refl, ap, sym, ◌∙◌}
+use Rattle.std.proofs.Common.{Some, inr, refl, ap, sym, ◌∙◌}
 use Rattle.hc_event.specs.Acts.{act_list}
 use Rattle.hc_rules.specs.declared.heads.HeadCase.{HeadCase}
 use Rattle.hc_model.specs.Dooms.{doomed_by_case}
@@ -15,7 +15,7 @@ pub go_past-requires-clause-good : goal.go_past-requires-clause-good
 go_past-requires-clause-good g c = c.requires.good (good_past c.args.case c.in-TurnServerError.is)
 
 pub start_anew-requires-clause-waits : goal.start_anew-requires-clause-waits
-start_anew-requires-clause-waits g c = c.requires.waits (anew_case c.args.case c.in-FirstChanged.is)
+start_anew-requires-clause-waits g c = c.requires.waits (anew_case c.args.case (inr c.in-FirstChanged.is))
 
 pub returns-in-DirectBad-clause-answers : goal.returns-in-DirectBad-clause-answers
 returns-in-DirectBad-clause-answers g c = λ t w facts stands goes row is doomless same.
@@ -30,7 +30,7 @@ pub returns-in-TurnServerError-clause-answers : goal.returns-in-TurnServerError-
 returns-in-TurnServerError-clause-answers g c = ok_then c.go_past.result c.go_past.ensures.answers (λ answers. answers c.args.case (act_list c.args.out.now) (past_case c.args.case c.in-TurnServerError.is))
 
 pub returns-in-FirstChanged-clause-answers : goal.returns-in-FirstChanged-clause-answers
-returns-in-FirstChanged-clause-answers g c = c.start_anew.ensures.answers c.args.case (anew_case c.args.case c.in-FirstChanged.is)
+returns-in-FirstChanged-clause-answers g c = c.start_anew.ensures.answers c.args.case (anew_case c.args.case (inr c.in-FirstChanged.is))
 
 pub returns-in-LaterBad-clause-answers : goal.returns-in-LaterBad-clause-answers
 returns-in-LaterBad-clause-answers g c = c.close_hole.ensures.answers c.args.case (ap breaks_off c.in-LaterBad.is) (ap (broken_by c.args.heard.x) (sym c.in-LaterBad.is))

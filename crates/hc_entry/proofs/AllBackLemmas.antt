@@ -142,7 +142,7 @@ passed-back-none old o = record {
   back = λ k d below is. absurd (omega arith);
 }
 
--- one that isn't among them is taken out of the list, which is_sorted
+-- one that isn't among them is taken out of the list, which is sorted
 without-absent : (c : ℕ) (cs : List ℕ) → is_sorted itself cs ≡ true → is_among c cs ≡ false → without itself c cs ≡ cs
 without-absent c cs rise out =
     same_members (without itself c cs) cs (is_sorted-filter itself (λ (x : ℕ). not (numbered itself c x)) cs rise) rise (λ d. elim (cases_Bool (eqb c d)) [

@@ -16,7 +16,7 @@ use Rattle.hc_laws.proofs.FitsRuns.{fits}
 use Rattle.hc_model.proofs.NumbersKeep.{opens_next, starts_later}
 use Rattle.hc_laws.proofs.RunFacts.{in_runs}
 
--- what is_sorted along a run
+-- what only rises along a run
 record Ascends (limits : Limits) (t : Tables) : Type 0 where
   starts : Descends (t.last_start + 1) t.starts
   openings : Descends (t.opened + 1) t.openings

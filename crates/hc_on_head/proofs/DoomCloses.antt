@@ -100,7 +100,7 @@ drop_keeps x y (z ∷ zs) ne there = elim (same_or z y) [
   ]))
 ]
 
--- a list that is_sorted is no longer than one that has all of it
+-- a sorted list is no longer than one that has all of it
 fits_in : (ys zs : List ℕ) → is_sorted itself ys ≡ true → ((x : ℕ) → is_among x ys ≡ true → is_among x zs ≡ true) → length ys ≤ length zs
 fits_in [] zs up all = omega arith
 fits_in (y ∷ ys) zs up all =

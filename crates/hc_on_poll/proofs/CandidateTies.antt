@@ -123,7 +123,7 @@ first_least : (xs : List ℕ) → is_sorted itself xs ≡ true → slice_get xs 
 first_least [] up = refl
 first_least (x ∷ xs) up = sym (ascends_least x xs up)
 
--- who is bound, by what is kept, is_sorted
+-- who is bound, by what is kept, stands sorted
 pub bound_ascends : {B : Type 0} {g : Ghosts B} (a : Entries B g) (q : ℕ) (e : Kept) → (shelf_of a).kept q ≡ Some e → is_sorted itself e.bound ≡ true
 bound_ascends {B} {g} a q e at = by_row (rows_of a.rows q) refl at
   where

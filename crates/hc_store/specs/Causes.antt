@@ -4,7 +4,7 @@ use Rattle.hc_rules.specs.declared.room.Limits.{Limits}
 use Rattle.hc_store.specs.declared.error.StoreError.{StoreError}
 use Rattle.hc_store.specs.declared.error.StoreError.TheVariants.{Fault, TooLarge, Full, NoMemory}
 
--- The count of faults never falls. It is_sorted where a fault is answered, and stays where none is.
+-- The count of faults never falls. It rises where a fault is answered, and stays where none is.
 pub record HasCause {T : Type 0} (before now : ℕ) (result : Result T StoreError) : Type 0 where
   pub later : before ≤ now
   pub fault : IsErrOf result Fault → before < now

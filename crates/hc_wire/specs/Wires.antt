@@ -7,7 +7,7 @@ use Rattle.hc_wire.specs.declared.event.WireError.TheVariants as error
 abbrev pub HasRisen : ℕ → ℕ → Type 0
 HasRisen before now = (before < now) ⊎ (now ≡ 2 ^ 64 - 1)
 
--- The count of faults never falls, and is_sorted exactly where the call answers WireFailed; at its end it stands still.
+-- The count of faults never falls, and rises exactly where the call answers WireFailed; at its end it stands still.
 pub record HasWireCause {T : Type 0} (before now : ℕ) (result : Result T WireError) : Type 0 where
   pub later : before ≤ now
   pub failed : IsErrOf result error.WireFailed → HasRisen before now

@@ -3,7 +3,7 @@ use Rattle.std.proofs.Common.{◌≡◌, ◌⊎◌, ℕ, ◌≤◌, List, [], �
 use Rattle.std.specs.Prelude.{◌&&◌, ◌||◌, filter, min, IfSome}
 use Rattle.std.specs.List.{list_any}
 use Rattle.std.proofs.lemmas.Bool.{cases_Bool, and_parts, ltb-true, eqb-true}
-use Rattle.hc_sorted.specs.Sorted.{above, is_sorted, has, with_item, without, replaced}
+use Rattle.hc_sorted.specs.Sorted.{above, is_sorted, has, with_item, without, with_replacement}
 use Rattle.hc_rules.specs.declared.admission.Bound.{Bound}
 use Rattle.hc_rules.specs.declared.admission.BoundKind.{BoundKind}
 use Rattle.hc_rules.specs.declared.admission.BoundKind.TheVariants as kind
@@ -68,7 +68,7 @@ module _ (way : BoundKind) where
 
   -- one that is alone is bound in another way
   pub rebound-one : (other : BoundKind) (c : ℕ) (cs : List ℕ) → length cs ≤ 1 → has itself c cs ≡ true
-      → map (bound_as other) cs ≡ replaced consumer_of (bound_as other c) (map (bound_as way) cs)
+      → map (bound_as other) cs ≡ with_replacement consumer_of (bound_as other c) (map (bound_as way) cs)
   rebound-one other c [] few there = refl
   rebound-one other c (d ∷ []) few there = elim (cases_Bool (eqb d c)) [
     | inl same ↦ rw same (ap (λ (k : ℕ). bound_as other k ∷ []) (eqb-true d c same))

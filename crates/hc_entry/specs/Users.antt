@@ -1,7 +1,7 @@
 -- Who is bound to a representation, and how.
 use Rattle.std.specs.Prelude.{◌≡◌, ℕ, ◌+◌, ◌-◌, ◌≤◌, ◌==◌, ◌&&◌, Bool, true, false, List, [], ◌∷◌, map, Option, Some, None, if◌then◌else◌}
 use Rattle.std.specs.List.{list_any, list_all}
-use Rattle.hc_sorted.specs.Sorted.{is_sorted, has, with_item, without, replaced}
+use Rattle.hc_sorted.specs.Sorted.{is_sorted, has, with_item, without, with_replacement}
 use Rattle.hc_rules.specs.declared.admission.Bound.{Bound}
 use Rattle.hc_rules.specs.declared.admission.BoundKind.{BoundKind}
 use Rattle.hc_rules.specs.declared.admission.BoundKind.TheVariants as kind
@@ -68,7 +68,7 @@ admission_by kind.Reader (Some d) ranged holes = if holes then admission.Behind 
 
 -- it is bound in another way
 abbrev pub rebound : BoundKind → ℕ → Users → Users
-rebound way c u = record u { bound = replaced consumer_of (bound_as way c) u.bound }
+rebound way c u = record u { bound = with_replacement consumer_of (bound_as way c) u.bound }
 
 -- an exclusive writer becomes a reader
 abbrev pub users_without_writer : ℕ → Users → Users

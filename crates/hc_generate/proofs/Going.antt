@@ -3,7 +3,7 @@ use Rattle.std.proofs.Common.{◌≡◌, ℕ, zero, suc, ◌+◌, ◌≤◌, Lis
 use Rattle.std.specs.Prelude.{nat_lt, Result, Ok, Err, IfOk, is_err}
 use Rattle.hc_event.specs.declared.event.Event.{Event}
 use Rattle.hc_event.specs.WithinLimits.{IsEventWithinLimits}
-use Rattle.hc_sorted.specs.Sorted.{found}
+use Rattle.hc_sorted.specs.Sorted.{item_with}
 use Rattle.hc_generate.specs.declared.action.Action.{Action}
 use Rattle.hc_generate.specs.declared.action.Action.TheVariants as action
 use Rattle.hc_generate.specs.declared.exchange.Exchange.{Exchange}
@@ -11,7 +11,7 @@ use Rattle.hc_generate.specs.declared.exchange.Brought.{Brought}
 use Rattle.hc_generate.specs.declared.exchange.Owed.{Owed}
 use Rattle.hc_generate.specs.declared.exchange.Owed.TheVariants as owes
 use Rattle.hc_generate.specs.Actions.{action_of}
-use Rattle.hc_generate.specs.Draws.{drawn, choice_of}
+use Rattle.hc_generate.specs.Draws.{draw_below, choice_of}
 use Rattle.hc_generate.specs.Rounds.{IsShort, IsShortIfMade, IsWithinLimitsIfMade, Move, Nothing, Makes, Answers, onward, start_move, polled_by, answered_by, answered_to, cancelled_by, faulted_by, by_action, round, IsMade, IsRound}
 use Rattle.hc_generate.specs.Sending.{Brings, number_of, origin_bytes, next_length}
 use Rattle.hc_generate.specs.States.{State}
@@ -83,7 +83,7 @@ to_fine s x (Some e) = omega arith
 
 answered_fine : (s : State) (o : Option ℕ) → Fine s (answered_by o s)
 answered_fine s None = omega arith
-answered_fine s (Some x) = to_fine s x (found number_of x s.exchanges)
+answered_fine s (Some x) = to_fine s x (item_with number_of x s.exchanges)
 
 cancelled_fine : (s : State) (o : Option ℕ) → Fine s (cancelled_by o s)
 cancelled_fine s None = omega arith
@@ -104,7 +104,7 @@ action_fine wanted s action.Doom = (omega arith, tt, tt)
 
 pub goes_on : (wanted : List ℕ) (s u : State) (made : Option Event) → IsRound wanted s made u → GoesOn s u made
 goes_on wanted s u made is =
-    let after = made_fine (onward s) u (round wanted s) made (action_fine wanted (onward s) (action_of (drawn 100 s.draws))) is in
+    let after = made_fine (onward s) u (round wanted s) made (action_fine wanted (onward s) (action_of (draw_below 100 s.draws))) is in
     record { later = after.later; short = after.short; within_limits = after.within_limits }
 
 pub short_made : {E : Type 0} (wanted : List ℕ) (s u : State) (r : Result (Option Event) E) → IfOk r (λ made. IsRound wanted s made u) → IfOk r IsShortIfMade

@@ -18,7 +18,7 @@ use Rattle.hc_validate.specs.Origin.{IsOriginAnswer, IsAnswerOf, answer_by, cut_
 use Rattle.hc_validate.proofs.Common.{size-common}
 use Rattle.hc_validate.proofs.Numbers.{short-decimal}
 use Rattle.hc_validate.proofs.Settings.{length-with_one, size_of-with_one}
-use Rattle.hc_generate.specs.Draws.{drawn, stepped}
+use Rattle.hc_generate.specs.Draws.{draw_below, state_after_draw}
 use Rattle.hc_generate.specs.Requests as made
 use Rattle.hc_generate.specs.Requests.{drawn_request, drawn_fields, range_from, range_text}
 use Rattle.hc_generate.proofs.RangeTexts.{short-range}
@@ -124,16 +124,16 @@ within_limits_answer request answer is = by_size (size_asked request) refl is
 
 -- THE REQUESTS
 
-drawn_below : (n s : ℕ) → 0 < n → drawn n s < n
-unfolding drawn
-drawn_below n s some = mod-lt (stepped s / 2 ^ 33) some
+drawn_below : (n s : ℕ) → 0 < n → draw_below n s < n
+unfolding draw_below
+drawn_below n s some = mod-lt (state_after_draw s / 2 ^ 33) some
 
 pub within_limits_request : (s : ℕ) → IsWithinLimits (drawn_request s).fields
-within_limits_request s = by_draw (made.size_of (drawn 8 s)) (stepped s) (let below = drawn_below 8 s (omega arith) in (omega arith, omega (arith, below))) (drawn 4 (stepped s) == 0)
+within_limits_request s = by_draw (made.size_of (draw_below 8 s)) (state_after_draw s) (let below = drawn_below 8 s (omega arith) in (omega arith, omega (arith, below))) (draw_below 4 (state_after_draw s) == 0)
   where
-    by_draw : (size d : ℕ) → (0 < size) × (size ≤ 8000) → (b : Bool) → IsWithinLimits (if b then range_from (drawn size (stepped d)) else [])
+    by_draw : (size d : ℕ) → (0 < size) × (size ≤ 8000) → (b : Bool) → IsWithinLimits (if b then range_from (draw_below size (state_after_draw d)) else [])
     by_draw size d (some, small) true =
-        let below = drawn_below size (stepped d) some in
-        let short = short-range (drawn size (stepped d)) (omega (arith, below, small)) in
+        let below = drawn_below size (state_after_draw d) some in
+        let short = short-range (draw_below size (state_after_draw d)) (omega (arith, below, small)) in
         record { few = omega arith; small = omega (arith, short) }
     by_draw size d some false = record { few = omega arith; small = omega arith }

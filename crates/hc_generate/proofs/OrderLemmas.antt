@@ -2,7 +2,7 @@
 use Rattle.std.proofs.Common.{◌≡◌, ℕ, ◌+◌, ◌≤◌, List, [], ◌∷◌, Bool, true, false, eqb, refl, ap, ◌∙◌, sym, inl, inr, arith, ◌||◌, ◌⊎◌}
 use Rattle.std.specs.Prelude.{filter, Some, is_some}
 use Rattle.std.proofs.lemmas.Bool.{cases_Bool, eqb-true, eq-eqb, or_right}
-use Rattle.hc_sorted.specs.Sorted.{has, is_at, found, with_item, without}
+use Rattle.hc_sorted.specs.Sorted.{has, is_at, item_with, with_item, without}
 use Rattle.hc_sorted.proofs.SortedLemmas.{has-with, has-without, has-found}
 use Rattle.hc_generate.specs.declared.exchange.Exchange.{Exchange}
 use Rattle.hc_generate.specs.Sending.{number_of}
@@ -40,5 +40,5 @@ pub has-left_out : (x : ℕ) (exchanges : List Exchange) → has number_of x (wi
 has-left_out x exchanges = has-without number_of x x exchanges ∙ rw (eq-eqb x x refl) refl
 
 -- what is found is there
-pub has-is_found : (x : ℕ) (e : Exchange) (exchanges : List Exchange) → found number_of x exchanges ≡ Some e → has number_of x exchanges ≡ true
+pub has-is_found : (x : ℕ) (e : Exchange) (exchanges : List Exchange) → item_with number_of x exchanges ≡ Some e → has number_of x exchanges ≡ true
 has-is_found x e exchanges is = has-found number_of x exchanges ∙ ap is_some is

@@ -4,7 +4,7 @@ use Rattle.std.specs.Fmt.{decimal}
 use Rattle.hc_event.specs.declared.event.Load.TheVariants.{Normal}
 use Rattle.hc_event.specs.declared.event.Request.{Request}
 use Rattle.hc_validate.specs.Heads.{FieldPairs}
-use Rattle.hc_generate.specs.Draws.{stepped, drawn}
+use Rattle.hc_generate.specs.Draws.{state_after_draw, draw_below}
 
 -- how many bytes the representation of key i has
 abbrev pub size_of : ℕ → ℕ
@@ -23,20 +23,20 @@ range_from l = (codes "range", range_text l) ∷ []
 
 -- one in four is for a range of the size bytes
 abbrev pub drawn_fields : ℕ → ℕ → FieldPairs
-drawn_fields size s = if drawn 4 s == 0 then range_from (drawn size (stepped s)) else []
+drawn_fields size s = if draw_below 4 s == 0 then range_from (draw_below size (state_after_draw s)) else []
 
 -- the draws after that
 abbrev pub past_fields : ℕ → ℕ
-past_fields s = if drawn 4 s == 0 then stepped (stepped s) else stepped s
+past_fields s = if draw_below 4 s == 0 then state_after_draw (state_after_draw s) else state_after_draw s
 
 -- a GET of the key that is drawn
 abbrev pub drawn_request : ℕ → Request
 drawn_request s = record {
   method = codes "GET";
-  key = key_of (drawn 8 s);
+  key = key_of (draw_below 8 s);
   load = Normal;
-  fields = drawn_fields (size_of (drawn 8 s)) (stepped s);
+  fields = drawn_fields (size_of (draw_below 8 s)) (state_after_draw s);
 }
 
 abbrev pub past_request : ℕ → ℕ
-past_request s = past_fields (stepped s)
+past_request s = past_fields (state_after_draw s)

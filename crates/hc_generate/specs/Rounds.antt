@@ -3,14 +3,14 @@ use Rattle.std.specs.Prelude.{◌≡◌, ℕ, ◌+◌, ◌≤◌, nat_lt, List, 
 use Rattle.hc_event.specs.declared.event.Event.{Event}
 use Rattle.hc_event.specs.declared.event.Event.TheVariants as event
 use Rattle.hc_event.specs.WithinLimits.{IsEventWithinLimits}
-use Rattle.hc_sorted.specs.Sorted.{with_item, without, found}
+use Rattle.hc_sorted.specs.Sorted.{with_item, without, item_with}
 use Rattle.hc_generate.specs.declared.action.Action.{Action}
 use Rattle.hc_generate.specs.declared.action.Action.TheVariants as action
 use Rattle.hc_generate.specs.declared.exchange.Brought.{Brought}
 use Rattle.hc_generate.specs.declared.exchange.Exchange.{Exchange}
 use Rattle.hc_generate.specs.declared.exchange.Owed.{Owed}
 use Rattle.hc_generate.specs.Actions.{action_of}
-use Rattle.hc_generate.specs.Draws.{stepped, drawn, choice_of}
+use Rattle.hc_generate.specs.Draws.{state_after_draw, draw_below, choice_of}
 use Rattle.hc_generate.specs.Requests.{drawn_request, past_request, key_of}
 use Rattle.hc_generate.specs.Sending.{Brings, number_of, owed_then}
 use Rattle.hc_generate.specs.States.{State, itself}
@@ -24,7 +24,7 @@ pub data Move : Type 0 where
 
 -- the state after a draw
 abbrev pub onward : State → State
-onward s = record s { draws = stepped s.draws }
+onward s = record s { draws = state_after_draw s.draws }
 
 -- THE ACTIONS
 
@@ -50,7 +50,7 @@ answered_to x (Some e) s = Answers x e.owed s
 
 abbrev pub answered_by : Option ℕ → State → Move
 answered_by None s = Nothing s
-answered_by (Some x) s = answered_to x (found number_of x s.exchanges) (onward s)
+answered_by (Some x) s = answered_to x (item_with number_of x s.exchanges) (onward s)
 
 -- one that is wanted gets its head, or its next bytes. Nothing is owed to one that isn't known
 abbrev pub answer_move : List ℕ → State → Move
@@ -66,7 +66,7 @@ cancel_move s = cancelled_by (choice_of s.live s.draws) s
 
 -- from one to thirty seconds pass
 abbrev pub wait_move : State → Move
-wait_move s = Nothing (record (onward s) { moment = s.moment + (drawn 30 s.draws + 1) })
+wait_move s = Nothing (record (onward s) { moment = s.moment + (draw_below 30 s.draws + 1) })
 
 abbrev pub faulted_by : Option ℕ → State → Move
 faulted_by None s = Nothing s
@@ -78,7 +78,7 @@ fault_move wanted s = faulted_by (choice_of wanted s.draws) s
 
 -- what is stored for a key is not to be used any more
 abbrev pub doom_move : State → Move
-doom_move s = Makes (event.Doom (key_of (drawn 8 s.draws))) (onward s)
+doom_move s = Makes (event.Doom (key_of (draw_below 8 s.draws))) (onward s)
 
 -- THE ROUND
 
@@ -93,7 +93,7 @@ by_action action.Doom wanted s = doom_move s
 
 -- a round, where the cache wants these exchanges
 abbrev pub round : List ℕ → State → Move
-round wanted s = by_action (action_of (drawn 100 s.draws)) wanted (onward s)
+round wanted s = by_action (action_of (draw_below 100 s.draws)) wanted (onward s)
 
 -- the move makes this event or none, and leaves this state
 abbrev pub IsMade : Move → Option Event → State → Type 0

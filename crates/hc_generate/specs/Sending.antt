@@ -1,7 +1,7 @@
 -- What the origin brings to an exchange: its answer, then the bytes of that, in pieces.
 use Rattle.std.specs.Prelude.{◌≡◌, ℕ, zero, suc, ◌+◌, ◌-◌, min, nat_lt, List, [], ◌∷◌, if◌then◌else◌}
 use Rattle.hc_event.specs.declared.event.Event.TheVariants.{Head, Piece}
-use Rattle.hc_sorted.specs.Sorted.{replaced, without}
+use Rattle.hc_sorted.specs.Sorted.{with_replacement, without}
 use Rattle.hc_validate.specs.declared.origin.Answer.{Answer}
 use Rattle.hc_validate.specs.Origin.{IsOriginAnswer, origin_byte}
 use Rattle.hc_generate.specs.declared.exchange.Brought.{Brought}
@@ -41,5 +41,5 @@ Brings x (Bytes at hi) b = b ≡ next_piece x at hi
 -- the exchange x is owed the bytes from `at` up to `hi`. Where these are none it is forgotten
 abbrev pub owed_then : ℕ → ℕ → ℕ → List Exchange → List Exchange
 owed_then x at hi exchanges =
-    if nat_lt at hi then replaced number_of (record { x = x; owed = Bytes at hi }) exchanges
+    if nat_lt at hi then with_replacement number_of (record { x = x; owed = Bytes at hi }) exchanges
     else without number_of x exchanges

@@ -1,6 +1,6 @@
 //! Draws: numbers that follow one another by a linear step, from a seed.
 ghost use Rattle.std.specs.Prelude.{◌≡◌, ◌<◌};
-ghost use Rattle.hc_generate.specs.Draws.{drawn, past_pick, choice_of, stepped};
+ghost use Rattle.hc_generate.specs.Draws.{draw_below, past_pick, choice_of, state_after_draw};
 
 /// The state of the draws.
 #[derive(Clone, Copy)]
@@ -19,8 +19,8 @@ impl Draws {
     /// A number below `n`.
     pub(crate) fn below(&mut self, n: u64) -> u64
         requires { 0 < n }
-        ensures number { result ≡ drawn n self.old.state }
-        ensures state { self.new.state ≡ stepped self.old.state }
+        ensures number { result ≡ draw_below n self.old.state }
+        ensures state { self.new.state ≡ state_after_draw self.old.state }
         ensures below { result < n }
     {
         self.state = self

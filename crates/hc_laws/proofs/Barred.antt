@@ -20,7 +20,7 @@ use Rattle.hc_model.specs.ActFilters.{has_loss}
 use Rattle.hc_model.specs.Cases.{case_at, case_of, head_view, is_founding, was_shown}
 use Rattle.hc_model.specs.Currents.{is_current, is_number}
 use Rattle.hc_model.specs.Denials.{denial, as_open}
-use Rattle.hc_model.specs.Dooms.{doomed, doomed_in, doomed_by_head, doomed_by_case, is_key}
+use Rattle.hc_model.specs.Dooms.{doomed_key_of, doomed_in, doomed_by_head, doomed_by_case, is_key}
 use Rattle.hc_model.specs.Entries.{Entry, History, Content, Contents}
 use Rattle.hc_model.specs.ExchangeRows.{exchange_heard}
 use Rattle.hc_model.specs.Exchanges.{is_headless}
@@ -101,14 +101,14 @@ module _ (limits : Limits) (t : Tables) (e : Entry) (taken : IsTaken limits t e)
   abbrev bar : List ℕ → ℕ
   bar key = barrier_at t e (old key) key
 
-  bar_doomed : (key : List ℕ) → is_key (doomed t e) key ≡ true → bar key ≡ t.opened
+  bar_doomed : (key : List ℕ) → is_key (doomed_key_of t e) key ≡ true → bar key ≡ t.opened
   bar_doomed key doom = rw (taken.not_denied, doom) refl
 
-  bar_same : (key : List ℕ) → is_key (doomed t e) key ≡ false → bar key ≡ old key
+  bar_same : (key : List ℕ) → is_key (doomed_key_of t e) key ≡ false → bar key ≡ old key
   bar_same key free = rw (taken.not_denied, free) refl
 
   bar_within : (key : List ℕ) → bar key ≤ t.opened
-  bar_within key = elim (bool_cases (is_key (doomed t e) key)) [
+  bar_within key = elim (bool_cases (is_key (doomed_key_of t e) key)) [
     | inl doom ↦ let is : bar key ≡ t.opened = bar_doomed key doom in omega arith
     | inr free ↦ let is : bar key ≡ old key = bar_same key free in let less : old key ≤ t.opened = bars.within key in omega arith
   ]
@@ -125,7 +125,7 @@ module _ (limits : Limits) (t : Tables) (e : Entry) (taken : IsTaken limits t e)
 
   -- WHAT ISN'T GONE
 
-  goes_by_doom : (r : ℕ) (v : Representation) → is_current t v.key r ≡ true → is_key (doomed t e) v.key ≡ true → becomes_gone t e r v ≡ true
+  goes_by_doom : (r : ℕ) (v : Representation) → is_current t v.key r ≡ true → is_key (doomed_key_of t e) v.key ≡ true → becomes_gone t e r v ≡ true
   unfolding becomes_gone
   goes_by_doom r v now doom = rw (now, doom) refl
 
@@ -141,7 +141,7 @@ module _ (limits : Limits) (t : Tables) (e : Entry) (taken : IsTaken limits t e)
   was_there r v z row key_is gone_is fresh =
       let both = or_both (becomes_gone t e r v) v.is_gone (sym gone_is ∙ fresh) in
       let now : is_current t v.key r ≡ true = ap (λ o. is_number o r) (current_is t v.key r v s row refl both.1) ∙ eq-refl r in
-      let free : is_key (doomed t e) v.key ≡ false = not_true _ (λ doom. let no_one : true ≡ false = sym (goes_by_doom r v now doom) ∙ both.0 in cc) in
+      let free : is_key (doomed_key_of t e) v.key ≡ false = not_true _ (λ doom. let no_one : true ≡ false = sym (goes_by_doom r v now doom) ∙ both.0 in cc) in
       let is : bar z.key ≡ old v.key = ap bar key_is ∙ bar_same v.key free in
       let less : old v.key < r = bars.founded r v row both.1 in
       omega arith
@@ -173,15 +173,15 @@ module _ (limits : Limits) (t : Tables) (e : Entry) (taken : IsTaken limits t e)
       by_route (inr both) =
           bars.awaited x w row (head_bare x response w at row) (λ direct. let no_one : route.Hole ≡ route.Direct = sym both.0 ∙ direct in cc) both.1
 
-  doom_free : (x : ℕ) (response : Response) (w : Exchange) → e.event ≡ event.Head x response → t.exchange x ≡ Some w → is_founding (case_at t e) ≡ true → doomed t e ≡ None
-  unfolding doomed
+  doom_free : (x : ℕ) (response : Response) (w : Exchange) → e.event ≡ event.Head x response → t.exchange x ≡ Some w → is_founding (case_at t e) ≡ true → doomed_key_of t e ≡ None
+  unfolding doomed_key_of
   doom_free x response w at row founding =
       ap (doomed_in t e) at ∙ (ap (doomed_by_head t e response) row ∙ no_doom (case_at t e) w response founding)
 
   behind : (r : ℕ) (z : Representation) → WasOrFounded t e r z → z.is_gone ≡ false → bar z.key < r
   behind r z (current.was v row key_is gone_is) fresh = was_there r v z row key_is gone_is fresh
   behind r z (current.founded x response w at here founding row key none) fresh =
-      let free : is_key (doomed t e) z.key ≡ false = ap (λ o. is_key o z.key) (doom_free x response w at row founding) in
+      let free : is_key (doomed_key_of t e) z.key ≡ false = ap (λ o. is_key o z.key) (doom_free x response w at row founding) in
       let is : bar z.key ≡ old w.request.key = bar_same z.key free ∙ ap old key in
       let less : old w.request.key < x = new_behind x response w at row founding in
       omega arith
@@ -193,14 +193,14 @@ module _ (limits : Limits) (t : Tables) (e : Entry) (taken : IsTaken limits t e)
       let a = after_same limits t e taken s one turns x w row bare stays in
       sym a.2.shown ∙ (sym (ap was_shown a.1) ∙ unshown)
 
-  not_closed : (x : ℕ) (w : Exchange) (row : t.exchange x ≡ Some w) (bare : is_headless (Some w) ≡ true) → keeps.Stays t e x w (exchange_heard t e x e.event w) → route_of w.need ≢ route.Direct → (turns.awaited x w row bare).k.shown ≡ false → is_key (doomed t e) w.request.key ≡ true → ⊥
+  not_closed : (x : ℕ) (w : Exchange) (row : t.exchange x ≡ Some w) (bare : is_headless (Some w) ≡ true) → keeps.Stays t e x w (exchange_heard t e x e.event w) → route_of w.need ≢ route.Direct → (turns.awaited x w row bare).k.shown ≡ false → is_key (doomed_key_of t e) w.request.key ≡ true → ⊥
   not_closed x w row bare stays way unshown doom = by_stand (route_of w.need) it.stands way
     where
       it : laws.IsAwaited t x w
       it = turns.awaited x w row bare
 
-      doom_k : is_key (doomed t e) it.k.request.key ≡ true
-      doom_k = ap (is_key (doomed t e)) (sym (opener_key t x w it.k one.exchanges row it.row)) ∙ doom
+      doom_k : is_key (doomed_key_of t e) it.k.request.key ≡ true
+      doom_k = ap (is_key (doomed_key_of t e)) (sym (opener_key t x w it.k one.exchanges row it.row)) ∙ doom
 
       waits : is_number (awaited_exchange it.k.place) x ≡ true → ⊥
       waits h = dooms limits t e taken s one turns x w row bare stays doom_k h
@@ -219,7 +219,7 @@ module _ (limits : Limits) (t : Tables) (e : Entry) (taken : IsTaken limits t e)
       let request_is : z.request ≡ w.request = ap (λ (y : Exchange). y.request) is ∙ same.request_is in
       let hidden = unshown_stand x w row bare stays (ap (λ d. was_shown (u.consumer d)) (sym c_is) ∙ unshown) in
       let apart : route_of w.need ≢ route.Direct = λ h. way (ap route_of need_is ∙ h) in
-      let free : is_key (doomed t e) w.request.key ≡ false = not_true _ (not_closed x w row bare stays apart hidden) in
+      let free : is_key (doomed_key_of t e) w.request.key ≡ false = not_true _ (not_closed x w row bare stays apart hidden) in
       let it = turns.awaited x w row bare in
       let less : old w.request.key < x = bars.awaited x w row bare apart (ap was_shown it.row ∙ hidden) in
       let here : bar z.request.key ≡ old w.request.key = ap (λ (q : Request). bar q.key) request_is ∙ bar_same w.request.key free in

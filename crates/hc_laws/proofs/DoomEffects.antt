@@ -13,7 +13,7 @@ use Rattle.hc_model.specs.Closings.{closing, closes_row, awaits}
 use Rattle.hc_model.specs.ConsumerRows.{consumer_after, back_in_line}
 use Rattle.hc_model.specs.Currents.{current, is_current, is_number}
 use Rattle.hc_model.specs.Denials.{denial}
-use Rattle.hc_model.specs.Dooms.{doomed}
+use Rattle.hc_model.specs.Dooms.{doomed_key_of}
 use Rattle.hc_model.specs.Effects.{Does, with_event, let_some_go, let_all_go, as_gone, over, all_closed, sent_back, woken, is_awaited, awaited_and}
 use Rattle.hc_model.specs.Entries.{Entry}
 use Rattle.hc_model.specs.Exchanges.{family}
@@ -54,7 +54,7 @@ module _ (limits : Limits) (t : Tables) (law : Lawful t) (now : ℕ) (key : Key)
   -- WHAT IS CLOSED
 
   closes_as_awaited : (y : ℕ) (z : Option Exchange) → closes_row t b y z ≡ is_awaited t key y z
-  unfolding doomed
+  unfolding doomed_key_of
   closes_as_awaited y None = refl
   closes_as_awaited y (Some w) =
       rw ((says_little t now ev (dooms key)).caseless [], nothing_lost t b (λ r v there. refl) y (family y w))
@@ -96,7 +96,7 @@ module _ (limits : Limits) (t : Tables) (law : Lawful t) (now : ℕ) (key : Key)
   rs = with_item_first (current t key) []
 
   goes : (r : ℕ) (v : Representation) → t.representation r ≡ Some v → becomes_gone t it r v ≡ is_in rs r
-  unfolding doomed
+  unfolding doomed_key_of
   goes r v there =
       goes_as t now ev (dooms key) NoFlaw xs r v
       ∙ (rw ends_none (drop (is_current t v.key r && bytes_eq key v.key)) ∙ (current_is r v there ∙ sym (in_one (current t key) r)))
@@ -127,7 +127,7 @@ module _ (limits : Limits) (t : Tables) (law : Lawful t) (now : ℕ) (key : Key)
       beside_same t now ev (dooms key) NoFlaw xs c k (undue_of t it c k (record { stop = stop_none t it k refl; loss = loss_spared t it c k.place spared; head = refl })) spared (law.owned.idle_due c k row)
 
   consumers : (c : ℕ) → consumer_after t it c (t.consumer c) ≡ option_map (back_from_any now rs) (option_map (sent_back t now key) (t.consumer c))
-  unfolding doomed
+  unfolding doomed_key_of
   consumers c = by_row (t.consumer c) refl
     where
       by_row : (z : Option Consumer) → t.consumer c ≡ z → consumer_after t it c z ≡ option_map (back_from_any now rs) (option_map (sent_back t now key) z)

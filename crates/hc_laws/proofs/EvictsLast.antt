@@ -37,7 +37,7 @@ use Rattle.hc_model.specs.Sound.{Sound}
 use Rattle.hc_model.specs.StartingOver.{starts_over}
 use Rattle.hc_model.specs.Tables.{after_accepted}
 use Rattle.hc_model.specs.Weights.{is_idle, idle, evicted, first_idle, room_for, write_in}
-use Rattle.hc_model.specs.Writes.{written, written_in}
+use Rattle.hc_model.specs.Writes.{written_representation, written_in}
 use Rattle.hc_model.proofs.ActParts.{evicts_closes, evicts_lost, far_loss, far_closed}
 use Rattle.hc_model.proofs.Alike.{alike_evicted, written_same}
 use Rattle.hc_model.proofs.Basics.{false_true}
@@ -200,8 +200,8 @@ module _ (limits : Limits) (t : Tables) (now : ℕ) (ev : Event) (flaw : Flaw) w
 
   -- WHAT THE STORE MAY FAIL
 
-  written_last : written t (record { now = now; event = ev; acts = a }) ≡ written t f
-  unfolding written
+  written_last : written_representation t (record { now = now; event = ev; acts = a }) ≡ written_representation t f
+  unfolding written_representation
   written_last =
       ap (λ (acts : List Act). written_in t (record { now = now; event = ev; acts = acts }) ev) (without_same rs b)
       ∙ written_same t now ev (map act.Evicted rs ++ without_losses b) (without_losses b) (alike_evicted rs (without_losses b)) ev

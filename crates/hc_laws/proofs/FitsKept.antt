@@ -477,7 +477,7 @@ module _ (limits : Limits) (t : Tables) (now : ℕ) (flaw : Flaw) (s : Sound t) 
 
   -- a stored piece is of no lost write
   stored_lossless : (x : ℕ) (bytes : List ℕ) (w : Exchange) (q : ℕ) → ev ≡ event.Piece x bytes → t.exchange x ≡ Some w → family x w ≡ q → loses_in q e.acts ≡ false → has_loss e.acts ≡ false
-  unfolding Rattle.hc_model.specs.Writes.written
+  unfolding Rattle.hc_model.specs.Writes.written_representation
   stored_lossless x bytes w q here row of_q quiet = by_test (has_loss e.acts) refl
     where
       unless_is : (n r : ℕ) (z : Option Representation) → Rattle.hc_model.specs.Writes.unless_lost n z ≡ Some r → n ≡ r

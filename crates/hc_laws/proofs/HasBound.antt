@@ -19,7 +19,7 @@ use Rattle.hc_model.specs.Closings.{must_close, is_left, is_left_by, is_last_rea
 use Rattle.hc_model.specs.ConsumerRows.{consumer_heard, consumer_acted, becomes_shared, by_head, place_by_case, due_after, back_in_line}
 use Rattle.hc_model.specs.Currents.{is_number}
 use Rattle.hc_model.specs.Denials.{denial}
-use Rattle.hc_model.specs.Dooms.{doomed, doomed_in, doomed_by_head, doomed_by_case, is_key}
+use Rattle.hc_model.specs.Dooms.{doomed_key_of, doomed_in, doomed_by_head, doomed_by_case, is_key}
 use Rattle.hc_model.specs.Entries.{Entry}
 use Rattle.hc_model.specs.ExchangeRows.{exchange_heard, exchange_acted, promise_in}
 use Rattle.hc_model.specs.Exchanges.{exchange_at, is_for, is_open}
@@ -233,8 +233,8 @@ module _ (limits : Limits) (t : Tables) (now : ℕ) (flaw : Flaw) (s : Sound t) 
   binding (Some case.LaterChanged) h w response = absurd (false_true h)
 
   module _ (c x : ℕ) (response : Response) (w : Exchange) (k : Consumer) (is : IsWaiter t c x k w) (here : ev ≡ event.Head x response) (binds : (is_founding (case_at t e) || is_joining (case_at t e)) ≡ true) where
-    doomed_none : doomed t e ≡ None
-    unfolding doomed
+    doomed_none : doomed_key_of t e ≡ None
+    unfolding doomed_key_of
     doomed_none = ap (doomed_in t e) here ∙ (ap (doomed_by_head t e response) is.exchange_row ∙ (binding (case_at t e) binds w response).0)
 
     passed_not : (r : ℕ) (kept : Option ℕ) → k.place ≡ place.Passed r kept → IsAwaiting x w k.place → ⊥
@@ -255,7 +255,7 @@ module _ (limits : Limits) (t : Tables) (now : ℕ) (flaw : Flaw) (s : Sound t) 
     unfolding starts_over
     stays_on = not_so _ (λ over. elim (or_cases _ (loses_what_it_waits_for t e c k.place) over) [
       | inr lost ↦ unpassed k.place refl lost
-      | inl more ↦ elim (or_cases (is_key (doomed t e) k.request.key && waits_at t k.place) (sends_back (case_at t e) && is_for (exchange_at t ev) c) more) [
+      | inl more ↦ elim (or_cases (is_key (doomed_key_of t e) k.request.key && waits_at t k.place) (sends_back (case_at t e) && is_for (exchange_at t ev) c) more) [
         | inl doom ↦ false_true (sym (ap (λ z. is_key z k.request.key) doomed_none) ∙ and_left _ _ doom)
         | inr back ↦ false_true (sym (binding (case_at t e) binds w response).1 ∙ and_left _ _ back)
       ]

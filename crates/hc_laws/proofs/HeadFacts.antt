@@ -20,7 +20,7 @@ use Rattle.hc_model.specs.Cases.{case_at, head_view, is_founding, is_updating, i
 use Rattle.hc_model.specs.Closings.{closing, closes_row, is_refused, has_no_survivor}
 use Rattle.hc_model.specs.Currents.{is_number}
 use Rattle.hc_model.specs.Denials.{denial}
-use Rattle.hc_model.specs.Dooms.{doomed, doomed_by_case}
+use Rattle.hc_model.specs.Dooms.{doomed_key_of, doomed_by_case}
 use Rattle.hc_model.specs.Effects.{Does, with_event, let_all_go, all_closed, with_consumer, with_answer, as_gone}
 use Rattle.hc_model.specs.Entries.{Entry, entry_without_acts}
 use Rattle.hc_model.specs.ExchangeRows.{promise_in}
@@ -131,7 +131,7 @@ module _ (limits : Limits) (t : Tables) (law : Lawful t) (now x : ℕ) (response
           drop true = refl
           drop false = refl
 
-      module _ (doomless : doomed t b ≡ None) where
+      module _ (doomless : doomed_key_of t b ≡ None) where
         closes_as : (y : ℕ) → closes_row t b y (t.exchange y) ≡ is_number (if refuses then Some x else None) y
         closes_as y = elim (eq_cases x y) [
           | inl here ↦ subst (λ z. closes_row t b z (t.exchange z) ≡ is_number (if refuses then Some x else None) z) here.1
@@ -180,11 +180,11 @@ module _ (limits : Limits) (t : Tables) (law : Lawful t) (now x : ℕ) (response
     pub is_it : case_at t it ≡ Some g
     is_it = case_on es xs flaw g is
 
-    doomless_it : doomed t it ≡ None
+    doomless_it : doomed_key_of t it ≡ None
     doomless_it = doomed_is t now x response es flaw xs w row g is_it ∙ doomless
 
-    doomless_before : doomed t (b flaw g is) ≡ None
-    unfolding doomed
+    doomless_before : doomed_key_of t (b flaw g is) ≡ None
+    unfolding doomed_key_of
     doomless_before = rw (row, case_before flaw g is) doomless
 
     closes_it : closing t (b flaw g is) ≡ xs

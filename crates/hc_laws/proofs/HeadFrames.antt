@@ -15,7 +15,7 @@ use Rattle.hc_model.specs.Answers.{loss_acts}
 use Rattle.hc_model.specs.Cases.{case_at, is_founding, is_joining, is_updating}
 use Rattle.hc_model.specs.ConsumerRows.{consumer_after, consumer_heard, consumer_settled, consumer_acted, place_by_case, becomes_shared, back_in_line}
 use Rattle.hc_model.specs.Currents.{is_current, is_number}
-use Rattle.hc_model.specs.Dooms.{doomed, doomed_by_case, is_key}
+use Rattle.hc_model.specs.Dooms.{doomed_key_of, doomed_by_case, is_key}
 use Rattle.hc_model.specs.Effects.{with_event, as_gone, let_all_go, over, all_closed, with_consumer, with_answer, exchange_with_head, with_refreshed_head, just_founded, lost_to}
 use Rattle.hc_model.specs.Entries.{Entry}
 use Rattle.hc_model.specs.ExchangeRows.{exchange_after, joined_at}
@@ -126,8 +126,8 @@ module _ (t : Tables) (now x : ℕ) (response : Response) (es : List ℕ) (flaw 
 
     -- WHAT GOES
 
-    pub doomed_is : doomed t e ≡ doomed_by_case (Some g) w response
-    unfolding doomed
+    pub doomed_is : doomed_key_of t e ≡ doomed_by_case (Some g) w response
+    unfolding doomed_key_of
     doomed_is = rw (row, is) refl
 
     module _ (r : ℕ) (v : Representation) (unclosed : is_in xs r ≡ false) where
@@ -139,15 +139,15 @@ module _ (t : Tables) (now x : ℕ) (response : Response) (es : List ℕ) (flaw 
           by_row (Some u) = then_false u.is_open (closes_in r acts) (closes_as r ∙ unclosed)
 
       -- by a doom, by the case of the head, by a loss, or to make room
-      pub goes_as : becomes_gone t e r v ≡ ((is_current t v.key r && is_key (doomed t e) v.key) || goes_by_case t e r (Some g) w || loses_in r (loss_acts flaw) || is_in es r)
+      pub goes_as : becomes_gone t e r v ≡ ((is_current t v.key r && is_key (doomed_key_of t e) v.key) || goes_by_case t e r (Some g) w || loses_in r (loss_acts flaw) || is_in es r)
       unfolding becomes_gone
       goes_as =
-          rw (opens_none, row, is, loses_as r, misreads_none r, ends_none, evicts_as r) (drop (is_current t v.key r) (is_key (doomed t e) v.key) (goes_by_case t e r (Some g) w) (loses_in r (loss_acts flaw)) (is_in es r))
+          rw (opens_none, row, is, loses_as r, misreads_none r, ends_none, evicts_as r) (drop (is_current t v.key r) (is_key (doomed_key_of t e) v.key) (goes_by_case t e r (Some g) w) (loses_in r (loss_acts flaw)) (is_in es r))
         where
           drop : (a b d f h : Bool) → ((a && (b || false)) || d || f || false || false || h) ≡ ((a && b) || d || f || h)
           drop a b d f h = ap (λ z. (a && z) || d || f || false || false || h) (or_off b) ∙ two_off ((a && b) || d || f) h
 
-      pub goes_by : doomed t e ≡ None → becomes_gone t e r v ≡ (goes_by_case t e r (Some g) w || loses_in r (loss_acts flaw) || is_in es r)
+      pub goes_by : doomed_key_of t e ≡ None → becomes_gone t e r v ≡ (goes_by_case t e r (Some g) w || loses_in r (loss_acts flaw) || is_in es r)
       goes_by doomless = goes_as ∙ rw doomless (drop (is_current t v.key r) (goes_by_case t e r (Some g) w) (loses_in r (loss_acts flaw)) (is_in es r))
         where
           drop : (a d f h : Bool) → ((a && false) || d || f || h) ≡ (d || f || h)
@@ -223,10 +223,10 @@ module _ (t : Tables) (now x : ℕ) (response : Response) (es : List ℕ) (flaw 
 
     -- whoever isn't its consumer, and reads no writing that is lost, stays, or starts over by a doom or since what it waits for goes
     pub other_by : (law : Lawful t) (d : ℕ) (k : Consumer) → IsSpared t e k.place → nat_eq w.c d ≡ false → t.consumer d ≡ Some k
-        → consumer_after t e d (Some k) ≡ Some (if (is_key (doomed t e) k.request.key && waits_at t k.place) || goes_from t e k.place then back_in_line now k else k)
+        → consumer_after t e d (Some k) ≡ Some (if (is_key (doomed_key_of t e) k.request.key && waits_at t k.place) || goes_from t e k.place then back_in_line now k else k)
     other_by law d k spared other there = consumer_apart t e d k (far d) spared (apart d k other) (law.owned.idle_due d k there)
 
-    module _ (law : Lawful t) (rs : List ℕ) (doomless : doomed t e ≡ None) (goes : (r : ℕ) (v : Representation) → t.representation r ≡ Some v → becomes_gone t e r v ≡ is_in rs r) where
+    module _ (law : Lawful t) (rs : List ℕ) (doomless : doomed_key_of t e ≡ None) (goes : (r : ℕ) (v : Representation) → t.representation r ≡ Some v → becomes_gone t e r v ≡ is_in rs r) where
       pub other_row : (d : ℕ) (k : Consumer) → IsSpared t e k.place → nat_eq w.c d ≡ false → t.consumer d ≡ Some k → consumer_after t e d (Some k) ≡ Some (back_from_any now rs k)
       other_row d k spared other there =
           other_by law d k spared other there
@@ -241,7 +241,7 @@ module _ (t : Tables) (now x : ℕ) (response : Response) (es : List ℕ) (flaw 
 
     -- ITS CONSUMER
 
-    module _ (k : Consumer) (asker : t.consumer w.c ≡ Some k) (at : IsAwaiting x w k.place) (undue : k.due ≡ None) (undoomed : (is_key (doomed t e) k.request.key && waits_at t k.place) ≡ false) (spared : IsSpared t e k.place) (spared_then : IsSpared t e (heard w g k).place) where
+    module _ (k : Consumer) (asker : t.consumer w.c ≡ Some k) (at : IsAwaiting x w k.place) (undue : k.due ≡ None) (undoomed : (is_key (doomed_key_of t e) k.request.key && waits_at t k.place) ≡ false) (spared : IsSpared t e k.place) (spared_then : IsSpared t e (heard w g k).place) where
       heard_is : consumer_heard t e w.c e.event k ≡ (heard w g k)
       heard_is = rw (row, eqb-same w.c, is) refl
 

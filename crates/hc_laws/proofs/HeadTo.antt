@@ -22,7 +22,7 @@ use Rattle.hc_model.specs.ActFilters.{has_loss}
 use Rattle.hc_model.specs.Cases.{case_at, head_view, is_joining}
 use Rattle.hc_model.specs.ConsumerRows.{consumer_heard, consumer_acted, by_head, place_by_case}
 use Rattle.hc_model.specs.Denials.{denial}
-use Rattle.hc_model.specs.Dooms.{doomed, is_key}
+use Rattle.hc_model.specs.Dooms.{doomed_key_of, is_key}
 use Rattle.hc_model.specs.Entries.{Entry}
 use Rattle.hc_model.specs.ExchangeRows.{promise_in}
 use Rattle.hc_model.specs.Exchanges.{base, front, exchange_at, is_for, length_by}
@@ -104,8 +104,8 @@ module _ (limits : Limits) (t : Tables) (now : ℕ) (flaw : Flaw) (s : Sound t) 
     unfolding starts_over
     stays_back =
         let for_c : is_for (exchange_at t ev) c ≡ true = ap (λ v. is_for (exchange_at t v) c) got.at ∙ (ap (λ q. is_for q c) exchange_row ∙ test) in
-        let off : ((is_key (doomed t e) k.request.key && waits_at t k.place) || (sends_back (case_at t e) && is_for (exchange_at t ev) c) || loses_what_it_waits_for t e c k.place) ≡ false = row.stays in
-        by_parts (is_key (doomed t e) k.request.key && waits_at t k.place) (sends_back (case_at t e)) (is_for (exchange_at t ev) c) (loses_what_it_waits_for t e c k.place) for_c off
+        let off : ((is_key (doomed_key_of t e) k.request.key && waits_at t k.place) || (sends_back (case_at t e) && is_for (exchange_at t ev) c) || loses_what_it_waits_for t e c k.place) ≡ false = row.stays in
+        by_parts (is_key (doomed_key_of t e) k.request.key && waits_at t k.place) (sends_back (case_at t e)) (is_for (exchange_at t ev) c) (loses_what_it_waits_for t e c k.place) for_c off
       where
         by_parts : (a b d f : Bool) → d ≡ true → (a || (b && d) || f) ≡ false → b ≡ false
         by_parts true b d f on h = absurd (let no : true ≡ false = h in cc)

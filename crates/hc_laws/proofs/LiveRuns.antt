@@ -15,7 +15,7 @@ use Rattle.hc_model.specs.ActFilters.{has_loss}
 use Rattle.hc_model.specs.Cases.{case_at, case_of}
 use Rattle.hc_model.specs.ConsumerRows.{consumer_heard, consumer_made, consumer_after, by_fault, back_in_line}
 use Rattle.hc_model.specs.Denials.{denial, is_live, is_live_place, live}
-use Rattle.hc_model.specs.Dooms.{doomed, is_key}
+use Rattle.hc_model.specs.Dooms.{doomed_key_of, is_key}
 use Rattle.hc_model.specs.Entries.{Entry}
 use Rattle.hc_model.specs.Exchanges.{is_for}
 use Rattle.hc_model.specs.Flaws.{Flaw}
@@ -132,7 +132,7 @@ module _ (limits : Limits) (t : Tables) (now : ℕ) (flaw : Flaw) (s : Sound t) 
     unfolding starts_over case_of
     unsent x here =
         let none : sends_back (case_at t e) ≡ false = ap (λ (z : Event). sends_back (case_of t (has_loss e.acts) z)) here in
-        three_off _ _ _ (right_off (is_key (doomed t e) k.request.key) _ (ap (waits_at t) over)) (rw none refl) (ap (loses_what_it_waits_for t e c) over)
+        three_off _ _ _ (right_off (is_key (doomed_key_of t e) k.request.key) _ (ap (waits_at t) over)) (rw none refl) (ap (loses_what_it_waits_for t e c) over)
 
     quiet : (x : ℕ) (z : Option Exchange) → t.exchange x ≡ z → ev ≡ event.Fault x → is_for z c ≡ true → by_fault c x z k ≡ k
     quiet x None w_row here mine = refl

@@ -25,7 +25,7 @@ use Rattle.hc_model.specs.Sound.{Sound, IsAbout}
 use Rattle.hc_model.specs.Sound as sound
 use Rattle.hc_model.specs.Weights.{evicted}
 use Rattle.hc_model.specs.Writers.{brings_body}
-use Rattle.hc_model.specs.Writes.{written, written_in, lossless, seals_at, sealed_by, is_sealed, stops}
+use Rattle.hc_model.specs.Writes.{written_representation, written_in, lossless, seals_at, sealed_by, is_sealed, stops}
 use Rattle.hc_model.proofs.ActParts.{said_is, said_closes, loses_evicted, loses_closed, loses_before}
 use Rattle.hc_model.proofs.Basics.{false_true, and_left, and_right, or_cases, not_true, none_some, number_is}
 use Rattle.hc_model.proofs.Closed.{before}
@@ -74,7 +74,7 @@ module _ (limits : Limits) (t : Tables) (now : ℕ) (flaw : Flaw) (s : Sound t) 
 
   -- what is lost is what is written, and wasn't lost
   pub record IsWritten (r : ℕ) : Type 0 where
-    pub is : written t e ≡ Some r
+    pub is : written_representation t e ≡ Some r
     pub kept : is_kept (t.representation r) ≡ true
 
   pub lost_is : (r : ℕ) → loses_in r e.acts ≡ true → IsWritten r
@@ -85,7 +85,7 @@ module _ (limits : Limits) (t : Tables) (now : ℕ) (flaw : Flaw) (s : Sound t) 
         | inl denied ↦ absurd (false_true (sym real.taken ∙ denied))
         | inr may ↦
             let all : may_be limits t e (Loses r f.kind) ≡ true = sym (ap (may_be limits t e) (real.shown ∙ f.is)) ∙ may in
-            record { is = number_is (written t e) r (and_left _ _ (and_left _ _ all)); kept = and_right (is_number (written t e) r) _ (and_left _ _ all) }
+            record { is = number_is (written_representation t e) r (and_left _ _ (and_left _ _ all)); kept = and_right (is_number (written_representation t e) r) _ (and_left _ _ all) }
       ]
 
   pub fresh : (r : ℕ) (v : Representation) → t.representation r ≡ Some v → loses_in r e.acts ≡ true → v.is_lost ≡ false
@@ -174,7 +174,7 @@ module _ (limits : Limits) (t : Tables) (now : ℕ) (flaw : Flaw) (s : Sound t) 
 
   -- What is lost by another event than a head or a piece is sealed by it.
   pub sealed_loss : (r : ℕ) (v : Representation) → t.representation r ≡ Some v → loses_in r e.acts ≡ true → brings_body ev ≡ false → IsSealing r
-  unfolding written
+  unfolding written_representation
   sealed_loss r v there loses off = written_by r v ev there off (lost_is r loses).is
 
   -- and the exchange that seals it is the one about it

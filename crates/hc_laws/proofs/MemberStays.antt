@@ -17,7 +17,7 @@ use Rattle.hc_model.specs.ActFilters.{Showing, showing_in, wait_in}
 use Rattle.hc_model.specs.Cases.{case_at, case_of}
 use Rattle.hc_model.specs.ConsumerRows.{consumer_heard, consumer_acted, by_head, by_fault, by_opening, shown_place, waiting, waiting_place, due_after, back_in_line}
 use Rattle.hc_model.specs.Denials.{denial}
-use Rattle.hc_model.specs.Dooms.{doomed, is_key}
+use Rattle.hc_model.specs.Dooms.{doomed_key_of, is_key}
 use Rattle.hc_model.specs.Entries.{Entry}
 use Rattle.hc_model.specs.Exchanges.{exchange_at, is_for, is_headless}
 use Rattle.hc_model.specs.Flaws.{Flaw}
@@ -137,7 +137,7 @@ module _ (limits : Limits) (t : Tables) (now : ℕ) (flaw : Flaw) (s : Sound t) 
     unfolding starts_over
     stays_on = not_so _ (λ over. elim (or_cases _ (loses_what_it_waits_for t e c k.place) over) [
       | inr lost ↦ unpassed lost
-      | inl more ↦ elim (or_cases (is_key (doomed t e) k.request.key && waits_at t k.place) (sends_back (case_at t e) && is_for (exchange_at t ev) c) more) [
+      | inl more ↦ elim (or_cases (is_key (doomed_key_of t e) k.request.key && waits_at t k.place) (sends_back (case_at t e) && is_for (exchange_at t ev) c) more) [
         | inl doom ↦ waits_not how refl (sym (ap (waits_at t) at) ∙ and_right _ _ doom)
         | inr back ↦ unheaded ev _ refl (and_left _ _ back) (and_right _ _ back)
       ]

@@ -17,7 +17,7 @@ use Rattle.hc_model.specs.Cases.{case_at, case_of, is_founding}
 use Rattle.hc_model.specs.Closings.{closing, closes_row, is_left, is_left_by, leaver, is_last_reader}
 use Rattle.hc_model.specs.ConsumerRows.{consumer_after, consumer_heard, consumer_made, consumer_acted, consumer_settled, back_in_line}
 use Rattle.hc_model.specs.Currents.{is_current, is_number}
-use Rattle.hc_model.specs.Dooms.{doomed, bypass_key, is_key}
+use Rattle.hc_model.specs.Dooms.{doomed_key_of, bypass_key, is_key}
 use Rattle.hc_model.specs.Effects.{left_by}
 use Rattle.hc_model.specs.Entries.{Entry}
 use Rattle.hc_model.specs.ExchangeRows.{exchange_after, exchange_heard, exchange_acted}
@@ -57,7 +57,7 @@ pub record BringsNothing (t : Tables) (e : Entry) (c : ℕ) : Type 0 where
   pub names : exchange_in e.event ≡ None
   pub bodiless : brings_body e.event ≡ false
   pub caseless : case_at t e ≡ None
-  pub doomless : doomed t e ≡ None
+  pub doomless : doomed_key_of t e ≡ None
   pub nowhere : exchange_at t e.event ≡ None
   pub exchange : (x : ℕ) (w : Exchange) → exchange_heard t e x e.event w ≡ w
   pub representation : (r : ℕ) (v : Representation) → representation_heard t e r e.event v ≡ v
@@ -68,7 +68,7 @@ pub record BringsNothing (t : Tables) (e : Entry) (c : ℕ) : Type 0 where
   pub made : (d : ℕ) → nat_eq c d ≡ false → consumer_made d e.now e.event ≡ None
 
 pub brings_nothing : (t : Tables) (now c : ℕ) (ev : Event) (acts : List Act) → IsOf c ev → BringsNothing t (record { now = now; event = ev; acts = acts }) c
-unfolding case_of doomed
+unfolding case_of doomed_key_of
 brings_nothing t now c _ acts (starts request) = record { names = refl; bodiless = refl; caseless = refl; doomless = refl; nowhere = refl; exchange = λ x w. refl; representation = λ r v. refl; founds_none = λ r. refl; goes_on = λ r w. refl; headless = λ d. refl; heard = λ d k other. refl; made = λ d other. rw other refl }
 brings_nothing t now c _ acts (polls want) = record { names = refl; bodiless = refl; caseless = refl; doomless = refl; nowhere = refl; exchange = λ x w. refl; representation = λ r v. refl; founds_none = λ r. refl; goes_on = λ r w. refl; headless = λ d. refl; heard = λ d k other. refl; made = λ d other. refl }
 brings_nothing t now c _ acts cancels = record { names = refl; bodiless = refl; caseless = refl; doomless = refl; nowhere = refl; exchange = λ x w. refl; representation = λ r v. refl; founds_none = λ r. refl; goes_on = λ r w. refl; headless = λ d. refl; heard = λ d k other. rw other refl; made = λ d other. refl }

@@ -15,7 +15,7 @@ use Rattle.hc_model.specs.ActFilters.{has_loss}
 use Rattle.hc_model.specs.Cases.{case_at, case_of, head_view}
 use Rattle.hc_model.specs.ConsumerRows.{consumer_heard, by_head, by_fault, waiting, own_after}
 use Rattle.hc_model.specs.Denials.{denial}
-use Rattle.hc_model.specs.Dooms.{doomed, doomed_in, doomed_by_head, doomed_by_case, is_key}
+use Rattle.hc_model.specs.Dooms.{doomed_key_of, doomed_in, doomed_by_head, doomed_by_case, is_key}
 use Rattle.hc_model.specs.Entries.{Entry}
 use Rattle.hc_model.specs.Exchanges.{exchange_at, is_for, family}
 use Rattle.hc_model.specs.Flaws.{Flaw}
@@ -105,7 +105,7 @@ module _ (limits : Limits) (t : Tables) (now : ℕ) (flaw : Flaw) (s : Sound t) 
     stays : starts_over t e c k ≡ false
     unfolding starts_over
     stays = all_false _ _ _
-        (and_off (is_key (doomed t e) k.request.key) (waits_at t k.place) (ap (waits_at t) at))
+        (and_off (is_key (doomed_key_of t e) k.request.key) (waits_at t k.place) (ap (waits_at t) at))
         (not_so _ (λ h. sent_by ev refl (and_left _ _ h) (and_right _ _ h)))
         (ap (loses_what_it_waits_for t e c) at)
 
@@ -190,8 +190,8 @@ module _ (limits : Limits) (t : Tables) (now : ℕ) (flaw : Flaw) (s : Sound t) 
     dooms_by _ (cases.later_joins way on h f) = inr refl
     dooms_by _ (cases.later_changed way on) = inr refl
 
-    doomed_none : doomed_by_case (Some (head_case view)) w response ≡ None → doomed t e ≡ None
-    unfolding doomed
+    doomed_none : doomed_by_case (Some (head_case view)) w response ≡ None → doomed_key_of t e ≡ None
+    unfolding doomed_key_of
     doomed_none none = ap (doomed_in t e) here ∙ (ap (doomed_by_head t e response) is_row ∙ (ap (λ q. doomed_by_case q w response) case_here ∙ none))
 
     waits_past : route_of w.need ≡ route.Direct → IsAwaiting x w k.place → waits_at t k.place ≡ false
@@ -199,9 +199,9 @@ module _ (limits : Limits) (t : Tables) (now : ℕ) (flaw : Flaw) (s : Sound t) 
     waits_past way (owners.turn it stands) = absurd (let no : route.Turn ≡ route.Direct = sym it ∙ way in cc)
     waits_past way (owners.hole r lo hi how it aim stands) = absurd (let no : route.Hole ≡ route.Direct = sym it ∙ way in cc)
 
-    undoomed : (is_key (doomed t e) k.request.key && waits_at t k.place) ≡ false
+    undoomed : (is_key (doomed_key_of t e) k.request.key && waits_at t k.place) ≡ false
     undoomed = elim (dooms_by (head_case view) (case_by view)) [
-      | inl way ↦ and_off (is_key (doomed t e) k.request.key) (waits_at t k.place) (waits_past way got.1.at)
+      | inl way ↦ and_off (is_key (doomed_key_of t e) k.request.key) (waits_at t k.place) (waits_past way got.1.at)
       | inr none ↦ ap (λ q. is_key q k.request.key && waits_at t k.place) (doomed_none none)
     ]
 

@@ -21,7 +21,7 @@ use Rattle.hc_model.specs.Answers.{loss_acts}
 use Rattle.hc_model.specs.Cases.{case_at, case_of, head_view, was_shown}
 use Rattle.hc_model.specs.ConsumerRows.{consumer_heard, by_head, by_fault, by_opening, shown_place, waiting, waiting_place, place_by_case}
 use Rattle.hc_model.specs.Denials.{denial}
-use Rattle.hc_model.specs.Dooms.{doomed, bypassed_by, is_key}
+use Rattle.hc_model.specs.Dooms.{doomed_key_of, bypassed_by, is_key}
 use Rattle.hc_model.specs.Entries.{Entry}
 use Rattle.hc_model.specs.Exchanges.{exchange_at, is_for, is_headless}
 use Rattle.hc_model.specs.Flaws.{Flaw, flaw_in}
@@ -202,7 +202,7 @@ module _ (limits : Limits) (t : Tables) (now : ℕ) (flaw : Flaw) (s : Sound t) 
     not_over : starts_over t e c k ≡ false
     unfolding starts_over
     not_over = all_false _ _ _
-        (and_off (is_key (doomed t e) k.request.key) (waits_at t k.place) (waits_not k.place refl reader))
+        (and_off (is_key (doomed_key_of t e) k.request.key) (waits_at t k.place) (waits_not k.place refl reader))
         (not_so _ (λ h. sent_by ev refl (and_left _ _ h) (and_right _ _ h) (and_left _ _ h)))
         (loses_not k.place reader)
 

@@ -22,7 +22,7 @@ use Rattle.hc_model.specs.Closings.{must_close, is_refused, brings_head, is_doom
 use Rattle.hc_model.specs.ConsumerRows.{consumer_heard, consumer_acted, by_opening, waiting}
 use Rattle.hc_model.specs.Currents.{is_number, current}
 use Rattle.hc_model.specs.Denials.{denial}
-use Rattle.hc_model.specs.Dooms.{doomed, doomed_in, doomed_by_head, doomed_by_case, is_key}
+use Rattle.hc_model.specs.Dooms.{doomed_key_of, doomed_in, doomed_by_head, doomed_by_case, is_key}
 use Rattle.hc_model.specs.Entries.{Entry}
 use Rattle.hc_model.specs.ExchangeRows.{exchange_heard, promise_in}
 use Rattle.hc_model.specs.Exchanges.{is_open, is_reached, family}
@@ -461,7 +461,7 @@ module _ (limits : Limits) (t : Tables) (now : ℕ) (flaw : Flaw) (s : Sound t) 
     module _ (x : ℕ) (response : Response) (w : Exchange) (here : ev ≡ event.Head x response) (exchange_row : t.exchange x ≡ Some w) where
       -- a head that founds leaves its exchange unclosed
       head_unclosed : is_refused (case_at t e) ≡ false → doomed_by_case (case_at t e) w response ≡ None → closes_in x e.acts ≡ true → ⊥
-      unfolding doomed
+      unfolding doomed_key_of
       head_unclosed unrefused undoomed shut = by_cause (had_to limits t now flaw s ev x w exchange_row shut)
         where
           or_cases : (a d : Bool) → (a || d) ≡ true → (a ≡ true) ⊎ (d ≡ true)
@@ -479,7 +479,7 @@ module _ (limits : Limits) (t : Tables) (now : ℕ) (flaw : Flaw) (s : Sound t) 
               let got = leaving_by limits t now flaw s ev goes l leaves in
               let no : event.Head x response ≡ event.Poll l got.want = sym here ∙ got.poll.at in cc
 
-          doomed_none : doomed t b ≡ None
+          doomed_none : doomed_key_of t b ≡ None
           doomed_none = sym (doomed_same limits t now flaw s o ev goes) ∙ (ap (doomed_in t e) here ∙ (ap (doomed_by_head t e response) exchange_row ∙ undoomed))
 
           new : IsNew limits t now flaw s ev goes x w

@@ -19,7 +19,7 @@ use Rattle.hc_model.specs.Closings.{closing, leaver, leaver_by}
 use Rattle.hc_model.specs.ConsumerRows.{consumer_after, consumer_heard, own_after}
 use Rattle.hc_model.specs.Currents.{is_current, is_number}
 use Rattle.hc_model.specs.Denials.{denial}
-use Rattle.hc_model.specs.Dooms.{doomed}
+use Rattle.hc_model.specs.Dooms.{doomed_key_of}
 use Rattle.hc_model.specs.Effects.{Does, with_event, with_exchange, failing, let_all_go, as_gone, over, at_end, is_unkeepable, going_with}
 use Rattle.hc_model.specs.Entries.{Entry, entry_without_acts}
 use Rattle.hc_model.specs.ExchangeRows.{exchange_heard}
@@ -248,7 +248,7 @@ module _ (limits : Limits) (t : Tables) (law : Lawful t) (now x : ℕ) (w : Exch
   abbrev b : Entry
   b = record { now = now; event = ev; acts = loss_acts flaw }
 
-  doomless : (acts : List Act) → doomed t (record { now = now; event = ev; acts = acts }) ≡ None
+  doomless : (acts : List Act) → doomed_key_of t (record { now = now; event = ev; acts = acts }) ≡ None
   doomless acts = undoomed t (record { now = now; event = ev; acts = acts }) s.calm
 
   leaves_none : leaver b ≡ None

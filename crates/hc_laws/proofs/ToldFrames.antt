@@ -15,7 +15,7 @@ use Rattle.hc_model.specs.Closings.{closing}
 use Rattle.hc_model.specs.ConsumerRows.{consumer_after, consumer_heard, consumer_made, due_after, back_in_line}
 use Rattle.hc_model.specs.Currents.{is_current}
 use Rattle.hc_model.specs.Denials.{denial}
-use Rattle.hc_model.specs.Dooms.{doomed, is_key}
+use Rattle.hc_model.specs.Dooms.{doomed_key_of, is_key}
 use Rattle.hc_model.specs.Effects.{Does, with_event, as_gone, let_all_go, over, lost_to}
 use Rattle.hc_model.specs.Entries.{Entry, entry_without_acts}
 use Rattle.hc_model.specs.Evictions.{evict_all, unevicting}
@@ -139,11 +139,11 @@ module _ (t : Tables) (now : ℕ) (ev : Event) (told : IsTold ev) (flaw : Flaw) 
   no_case r (Some w) = rw (n.caseless e.acts) refl
 
   -- by a doom, a loss or an early end
-  pub goes_as : (r : ℕ) (v : Representation) → becomes_gone t e r v ≡ ((is_current t v.key r && is_key (doomed t e) v.key) || loses_in r (loss_acts flaw) || (ends_early t e r v && not (is_keepable v)))
+  pub goes_as : (r : ℕ) (v : Representation) → becomes_gone t e r v ≡ ((is_current t v.key r && is_key (doomed_key_of t e) v.key) || loses_in r (loss_acts flaw) || (ends_early t e r v && not (is_keepable v)))
   unfolding becomes_gone
   goes_as r v =
       rw (no_case r (exchange_at t ev), opens_none, loses_as r, misreads_none r, evicts_none r)
-      (drop (is_current t v.key r) (is_key (doomed t e) v.key) (loses_in r (loss_acts flaw)) (ends_early t e r v && not (is_keepable v)))
+      (drop (is_current t v.key r) (is_key (doomed_key_of t e) v.key) (loses_in r (loss_acts flaw)) (ends_early t e r v && not (is_keepable v)))
     where
       drop : (a b c d : Bool) → (((a && (b || false)) || false || c || false || d) || false) ≡ ((a && b) || c || d)
       drop true true c d = refl
@@ -185,17 +185,17 @@ module _ (t : Tables) (now : ℕ) (ev : Event) (told : IsTold ev) (flaw : Flaw) 
 
   module _ (law : Lawful t) (rs : List ℕ) (goes : (r : ℕ) (v : Representation) → t.representation r ≡ Some v → becomes_gone t e r v ≡ is_in rs r) where
     -- it starts over at a doom where it waits, or where that is let go for which it waits
-    pub starts_is : (c : ℕ) (k : Consumer) → t.consumer c ≡ Some k → starts_over t e c k ≡ ((is_key (doomed t e) k.request.key && waits_at t k.place) || waits_for_any rs k.place)
+    pub starts_is : (c : ℕ) (k : Consumer) → t.consumer c ≡ Some k → starts_over t e c k ≡ ((is_key (doomed_key_of t e) k.request.key && waits_at t k.place) || waits_for_any rs k.place)
     starts_is c k row =
         starts_as t e c k (far c).fails (rw (n.caseless e.acts) refl)
-        ∙ ap (λ b. (is_key (doomed t e) k.request.key && waits_at t k.place) || b) (waits_as t e law rs goes c k row k.place refl)
+        ∙ ap (λ b. (is_key (doomed_key_of t e) k.request.key && waits_at t k.place) || b) (waits_as t e law rs goes c k row k.place refl)
 
     back_at : (c : ℕ) (k : Consumer) (b : Bool) → (if b then back_in_line now k else beside t e c k) ≡ (if b then back_in_line now (beside t e c k) else beside t e c k)
     back_at c k true = refl
     back_at c k false = refl
 
     -- who hears nothing, where nothing is doomed
-    pub consumer_by : doomed t e ≡ None → (c : ℕ) → ((k : Consumer) → t.consumer c ≡ Some k → consumer_heard t e c ev k ≡ k) → consumer_after t e c (t.consumer c) ≡ option_map (back_from_any now rs) (option_map (beside t e c) (t.consumer c))
+    pub consumer_by : doomed_key_of t e ≡ None → (c : ℕ) → ((k : Consumer) → t.consumer c ≡ Some k → consumer_heard t e c ev k ≡ k) → consumer_after t e c (t.consumer c) ≡ option_map (back_from_any now rs) (option_map (beside t e c) (t.consumer c))
     consumer_by doomless c quiet = by_row (t.consumer c) refl
       where
         by_row : (z : Option Consumer) → t.consumer c ≡ z → consumer_after t e c z ≡ option_map (back_from_any now rs) (option_map (beside t e c) z)

@@ -22,7 +22,7 @@ use Rattle.hc_model.specs.Closings.{closing, closes_row, is_refused, awaits, has
 use Rattle.hc_model.specs.ConsumerRows.{consumer_after, back_in_line}
 use Rattle.hc_model.specs.Currents.{current, is_number, is_current}
 use Rattle.hc_model.specs.Denials.{denial}
-use Rattle.hc_model.specs.Dooms.{doomed, doomed_by_case, changes, is_key}
+use Rattle.hc_model.specs.Dooms.{doomed_key_of, doomed_by_case, changes, is_key}
 use Rattle.hc_model.specs.Effects.{Does, with_event, let_some_go, all_closed, with_consumer, with_answer, sent_back, woken, is_awaited, awaited_and}
 use Rattle.hc_model.specs.Entries.{Entry}
 use Rattle.hc_model.specs.ExchangeRows.{promise_in}
@@ -87,14 +87,14 @@ module _ (limits : Limits) (t : Tables) (law : Lawful t) (now x : ℕ) (response
     is_it : case_at t it ≡ Some g
     is_it = case_on limits t law now x response goes w row [] xs NoFlaw g is
 
-    doomed_it : doomed t it ≡ Some key
+    doomed_it : doomed_key_of t it ≡ Some key
     doomed_it = doomed_is t now x response [] NoFlaw xs w row g is_it ∙ dooms
 
     is_b : case_at t b ≡ Some g
     is_b = case_before limits t law now x response goes w row NoFlaw g is
 
-    doomed_b : doomed t b ≡ Some key
-    unfolding doomed
+    doomed_b : doomed_key_of t b ≡ Some key
+    unfolding doomed_key_of
     doomed_b = rw (row, is_b) dooms
 
     spares : (r : ℕ) (v : Representation) → t.representation r ≡ Some v → (false && is_written t v) ≡ false
@@ -187,7 +187,7 @@ module _ (limits : Limits) (t : Tables) (law : Lawful t) (now x : ℕ) (response
       asks : (q : Consumer) → heard t now x response [] NoFlaw xs w g k ≡ q → consumer_after t it w.c (t.consumer w.c) ≡ Some q
       asks q same =
           asker_goes_on t now x response [] NoFlaw xs w row g is_it k asker (waiter limits t law now x response goes w row k asker).at (undue limits t law now x response goes w row k asker)
-          (rw past (then_false (is_key (doomed t it) k.request.key) false refl)) (spared_it k.place) (spared_it (heard t now x response [] NoFlaw xs w g k).place) stays fine
+          (rw past (then_false (is_key (doomed_key_of t it) k.request.key) false refl)) (spared_it k.place) (spared_it (heard t now x response [] NoFlaw xs w g k).place) stays fine
           ∙ ap Some same
 
       -- who waits for the key starts over, what is awaited is closed, and what is current is let go

@@ -21,7 +21,7 @@ use Rattle.hc_model.specs.Cases.{case_at, case_of}
 use Rattle.hc_model.specs.Closings.{must_close, is_doomed, awaits, is_left, is_left_by, leaver, leaver_by}
 use Rattle.hc_model.specs.ConsumerRows.{consumer_heard, consumer_acted, by_opening, shown_place, waiting, waiting_place, due_after, back_in_line}
 use Rattle.hc_model.specs.Denials.{denial, as_open}
-use Rattle.hc_model.specs.Dooms.{doomed, is_key}
+use Rattle.hc_model.specs.Dooms.{doomed_key_of, is_key}
 use Rattle.hc_model.specs.Entries.{Entry}
 use Rattle.hc_model.specs.ExchangeRows.{exchange_heard, exchange_opened}
 use Rattle.hc_model.specs.Exchanges.{exchange_in, exchange_at, is_for, is_headless}
@@ -113,10 +113,10 @@ module _ (limits : Limits) (t : Tables) (now : ℕ) (flaw : Flaw) (s : Sound t) 
             sym a.own ∙ (ap (λ (q : Consumer). q.own) one ∙ is.own)
         by_how by.Plan at h = absurd (false_true h)
 
-    doomed_must : is_key (doomed t e) k.request.key ≡ true → waits_at t k.place ≡ true → ⊥
+    doomed_must : is_key (doomed_key_of t e) k.request.key ≡ true → waits_at t k.place ≡ true → ⊥
     doomed_must key waits =
         let at_it : awaited_exchange k.place ≡ Some y = awaited_at k.place refl is.at waits in
-        let keyed : is_key (doomed t b) w.request.key ≡ true = ap (is_key (doomed t b)) is.key_is ∙ (ap (λ z. is_key z k.request.key) (sym (doomed_same limits t now flaw s o ev goes)) ∙ key) in
+        let keyed : is_key (doomed_key_of t b) w.request.key ≡ true = ap (is_key (doomed_key_of t b)) is.key_is ∙ (ap (λ z. is_key z k.request.key) (sym (doomed_same limits t now flaw s o ev goes)) ∙ key) in
         let bare : is_headless (Some w) ≡ true = sym (ap is_headless is.exchange_row) ∙ headless_is limits t now flaw s o ev goes c y k w is in
         let awaiting : awaits (t.consumer w.c) y ≡ true = ap (λ z. awaits z y) (ap t.consumer is.for_it ∙ is.row) ∙ number_yes (awaited_exchange k.place) y at_it in
         let doomed_it : is_doomed t b y w ≡ true = and_both _ _ (and_both _ _ keyed bare) awaiting in
@@ -162,8 +162,8 @@ module _ (limits : Limits) (t : Tables) (now : ℕ) (flaw : Flaw) (s : Sound t) 
     unfolding starts_over
     stays_on = not_so _ (λ over. elim (or_cases _ (loses_what_it_waits_for t e c k.place) over) [
       | inr lost ↦ unpassed k.place refl lost
-      | inl more ↦ elim (or_cases (is_key (doomed t e) k.request.key && waits_at t k.place) (sends_back (case_at t e) && is_for (exchange_at t ev) c) more) [
-        | inl doomed ↦ doomed_must (and_left _ _ doomed) (and_right _ _ doomed)
+      | inl more ↦ elim (or_cases (is_key (doomed_key_of t e) k.request.key && waits_at t k.place) (sends_back (case_at t e) && is_for (exchange_at t ev) c) more) [
+        | inl doomed_key_of ↦ doomed_must (and_left _ _ doomed_key_of) (and_right _ _ doomed_key_of)
         | inr back ↦ unheaded ev _ refl (and_left _ _ back) (and_right _ _ back)
       ]
     ])

@@ -11,7 +11,7 @@ use Rattle.hc_rules.specs.Rooms.{weight_of}
 use Rattle.hc_model.specs.ActFilters.{loses_in, has_loss}
 use Rattle.hc_model.specs.Cases.{case_at}
 use Rattle.hc_model.specs.Currents.{current, is_current, is_number}
-use Rattle.hc_model.specs.Dooms.{doomed, doomed_in, doomed_by_head, is_key}
+use Rattle.hc_model.specs.Dooms.{doomed_key_of, doomed_in, doomed_by_head, is_key}
 use Rattle.hc_model.specs.Entries.{Entry, entry_without_acts}
 use Rattle.hc_model.specs.Exchanges.{front, family, exchange_at}
 use Rattle.hc_model.specs.Gone.{goes_by_case, goes_by_exchange, goes_by_head, goes_itself, ends_early, ends_founding, stops_early, is_keepable}
@@ -223,8 +223,8 @@ module _ (t : Tables) (e : Entry) (r : ℕ) (lossless : has_loss e.acts ≡ fals
   doomed_by_same (event.Cancel c) = refl
   doomed_by_same (event.Doom key) = refl
 
-  doomed_same : doomed t e0 ≡ doomed t e
-  unfolding doomed
+  doomed_same : doomed_key_of t e0 ≡ doomed_key_of t e
+  unfolding doomed_key_of
   doomed_same = doomed_by_same e.event
 
   ends_more : (w : Exchange) → ends_founding e0 r (Some w) ≡ true → ends_founding e r (Some w) ≡ true
@@ -256,7 +256,7 @@ module _ (t : Tables) (e : Entry) (r : ℕ) (lossless : has_loss e.acts ≡ fals
         | inr never ↦ absurd (false_true never)
         | inl d ↦ elim (or_cases _ (goes_by_head t e0 r) d) [
           | inr by_head ↦ or_left _ _ (or_left _ _ (or_left _ _ (or_right _ _ (sym by_head_same ∙ by_head))))
-          | inl doom ↦ or_left _ _ (or_left _ _ (or_left _ _ (or_left _ _ (by_doom (is_current t v.key r) (is_key (doomed t e0) v.key) (ap (λ q. is_key q v.key) (sym doomed_same)) doom))))
+          | inl doom ↦ or_left _ _ (or_left _ _ (or_left _ _ (or_left _ _ (by_doom (is_current t v.key r) (is_key (doomed_key_of t e0) v.key) (ap (λ q. is_key q v.key) (sym doomed_same)) doom))))
         ]
       ]
     ]
@@ -266,7 +266,7 @@ module _ (t : Tables) (e : Entry) (r : ℕ) (lossless : has_loss e.acts ≡ fals
       both true k f h = rw (f refl) h
       both false k f h = absurd (false_true h)
 
-      by_doom : (a b : Bool) → is_key (doomed t e) v.key ≡ b → (a && (b || false)) ≡ true → (a && (is_key (doomed t e) v.key || is_key (Rattle.hc_model.specs.Dooms.bypass_key e) v.key)) ≡ true
+      by_doom : (a b : Bool) → is_key (doomed_key_of t e) v.key ≡ b → (a && (b || false)) ≡ true → (a && (is_key (doomed_key_of t e) v.key || is_key (Rattle.hc_model.specs.Dooms.bypass_key e) v.key)) ≡ true
       by_doom true true is h = rw is refl
       by_doom true false is h = absurd (false_true h)
       by_doom false b is h = absurd (false_true h)

@@ -24,7 +24,7 @@ use Rattle.hc_model.specs.Closings.{closing, closes_row, must_close}
 use Rattle.hc_model.specs.ConsumerRows.{consumer_after, back_in_line}
 use Rattle.hc_model.specs.Currents.{is_number}
 use Rattle.hc_model.specs.Denials.{denial}
-use Rattle.hc_model.specs.Dooms.{doomed}
+use Rattle.hc_model.specs.Dooms.{doomed_key_of}
 use Rattle.hc_model.specs.Effects.{Does, with_event, as_gone, let_go, all_closed, with_consumer, with_representation, with_answer, lost_to, left_with, if_bound, writing_lost, unless_survived}
 use Rattle.hc_model.specs.Entries.{Entry}
 use Rattle.hc_model.specs.ExchangeRows.{exchange_heard}
@@ -86,11 +86,11 @@ module _ (limits : Limits) (t : Tables) (law : Lawful t) (now x : ℕ) (response
   is_b : case_at t b ≡ Some case.NotValidated
   is_b = case_before limits t law now x response goes w row flaw case.NotValidated is
 
-  doomless_it : doomed t it ≡ None
+  doomless_it : doomed_key_of t it ≡ None
   doomless_it = doomed_is t now x response [] flaw xs w row case.NotValidated is_it
 
-  doomless_b : doomed t b ≡ None
-  unfolding doomed
+  doomless_b : doomed_key_of t b ≡ None
+  unfolding doomed_key_of
   doomless_b = rw (row, is_b) refl
 
   kept : v.is_lost ≡ false

@@ -15,7 +15,7 @@ use Rattle.hc_model.specs.ActFilters.{loses_in, has_loss, misreads_in, fails_in,
 use Rattle.hc_model.specs.Cases.{case_at, case_of}
 use Rattle.hc_model.specs.ConsumerRows.{consumer_heard, by_head, becomes_shared, is_resumed, waiting, by_opening, own_after, left_to, consumer_acted}
 use Rattle.hc_model.specs.Currents.{row_of, is_current}
-use Rattle.hc_model.specs.Dooms.{doomed, doomed_in, doomed_by_head, doomed_by_case, bypass_key, bypassed_by, is_key}
+use Rattle.hc_model.specs.Dooms.{doomed_key_of, doomed_in, doomed_by_head, doomed_by_case, bypass_key, bypassed_by, is_key}
 use Rattle.hc_model.specs.Entries.{Entry}
 use Rattle.hc_model.specs.ExchangeRows.{exchange_after, exchange_heard, exchange_acted, exchange_made}
 use Rattle.hc_model.specs.Exchanges.{exchange_at, family}
@@ -72,8 +72,8 @@ module _ (t : Tables) (now : ℕ) (ev : Event) (a b : List Act) (k : AreAlike a 
   doomed_by (event.Doom key) = refl
   doomed_by _ = refl
 
-  pub doomed_same : doomed t e ≡ doomed t f
-  unfolding doomed
+  pub doomed_same : doomed_key_of t e ≡ doomed_key_of t f
+  unfolding doomed_key_of
   doomed_same = doomed_by ev
 
   bypassed_same : bypass_key e ≡ bypass_key f
@@ -94,7 +94,7 @@ module _ (t : Tables) (now : ℕ) (ev : Event) (a b : List Act) (k : AreAlike a 
   pub itself_same : (r : ℕ) (v : Representation) → goes_itself t e r v ≡ goes_itself t f r v
   itself_same r v =
       any_of_five _ _ _ _ _ _ _ _ _ _
-      (ap (λ z. is_current t v.key r && (is_key z v.key || is_key (bypass_key e) v.key)) doomed_same ∙ ap (λ z. is_current t v.key r && (is_key (doomed t f) v.key || is_key z v.key)) bypassed_same)
+      (ap (λ z. is_current t v.key r && (is_key z v.key || is_key (bypass_key e) v.key)) doomed_same ∙ ap (λ z. is_current t v.key r && (is_key (doomed_key_of t f) v.key || is_key z v.key)) bypassed_same)
       (by_exchange_same r (exchange_at t ev)) (k.loses r) (k.misreads r)
       (ap (λ z. (v.head.status == 200 && z) && not (is_keepable v)) (ends_same r (t.exchange r)))
 

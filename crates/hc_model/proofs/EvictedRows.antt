@@ -11,7 +11,7 @@ use Rattle.hc_event.specs.declared.place.Place.TheVariants as place
 use Rattle.hc_model.specs.ActFilters.{fails_in}
 use Rattle.hc_model.specs.Cases.{case_at}
 use Rattle.hc_model.specs.ConsumerRows.{consumer_heard, consumer_acted, consumer_settled, consumer_made, consumer_after, new_consumer}
-use Rattle.hc_model.specs.Dooms.{doomed, is_key}
+use Rattle.hc_model.specs.Dooms.{doomed_key_of, is_key}
 use Rattle.hc_model.specs.Effects.{as_gone}
 use Rattle.hc_model.specs.Entries.{Entry}
 use Rattle.hc_model.specs.Evictions.{evict_all}
@@ -117,7 +117,7 @@ module _ (t : Tables) (now : ℕ) (ev : Event) (rs : List ℕ) (b : List Act) (n
   unfolding starts_over
   starts_before c k =
       rw (doomed_same t now ev a b like, case_same t now ev a b like, losing c k.place)
-      (starting_shift (is_key (doomed t f) k.request.key && waits_at t k.place) (sends_back (case_at t f) && is_for (exchange_at t ev) c) (loses_what_it_waits_for t f c k.place) (waits_for_any rs k.place))
+      (starting_shift (is_key (doomed_key_of t f) k.request.key && waits_at t k.place) (sends_back (case_at t f) && is_for (exchange_at t ev) c) (loses_what_it_waits_for t f c k.place) (waits_for_any rs k.place))
 
   settled_row : (c : ℕ) (k q : Consumer) → (starts_over t f c k ≡ false → waits_for_any rs q.place ≡ waits_for_any rs k.place) → consumer_settled t e c k q ≡ back_from_any now rs (consumer_settled t f c k q)
   settled_row c k q stays = elim (bool_cases (starts_over t f c k)) [

@@ -9,7 +9,7 @@ use Rattle.hc_rules.specs.declared.room.Write.{Write}
 use Rattle.hc_model.specs.Cases.{case_at}
 use Rattle.hc_model.specs.Closings.{closing, closes_row, must_close, is_refused, is_doomed, has_no_survivor, is_left, leaver, brings_head}
 use Rattle.hc_model.specs.Currents.{is_number}
-use Rattle.hc_model.specs.Dooms.{doomed}
+use Rattle.hc_model.specs.Dooms.{doomed_key_of}
 use Rattle.hc_model.specs.Entries.{Entry, entry_without_acts}
 use Rattle.hc_model.specs.ExchangeRows.{exchange_heard}
 use Rattle.hc_model.specs.Exchanges.{family}
@@ -32,7 +32,7 @@ nothing_lost t e unlost x r = by_row (t.representation r) refl
     by_row (Some v) row = and_false (is_number v.writer x && loses_writing t e r v) _ (then_false (is_number v.writer x) (loses_writing t e r v) (unlost r v row))
 
 -- so at an event that brings neither a head nor a piece, and dooms nothing
-pub quiet_closes : (t : Tables) (e : Entry) → case_at t e ≡ None → doomed t e ≡ None → brings_body e.event ≡ false → ClosesLittle t e
+pub quiet_closes : (t : Tables) (e : Entry) → case_at t e ≡ None → doomed_key_of t e ≡ None → brings_body e.event ≡ false → ClosesLittle t e
 quiet_closes t e caseless doomless bodiless = record {
   unrefused = λ x. rw caseless refl;
   undoomed = λ x w. rw doomless refl;

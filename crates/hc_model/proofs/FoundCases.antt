@@ -16,7 +16,7 @@ use Rattle.hc_model.specs.Cases.{head_view, is_founding}
 use Rattle.hc_model.specs.Flaws.{Flaw}
 use Rattle.hc_model.specs.Keys.{entry_of}
 use Rattle.hc_model.specs.Rows.{Tables, Exchange}
-use Rattle.hc_model.specs.Writes.{written, lossless}
+use Rattle.hc_model.specs.Writes.{written_representation, lossless}
 use Rattle.hc_model.proofs.FirstKeeps as FirstKeeps
 use Rattle.hc_model.proofs.FoundBy.{CaseBy, case_by}
 use Rattle.hc_model.proofs.FoundBy as cases
@@ -95,8 +95,8 @@ no_loss (act.Lost r kind ∷ acts) = no_loss acts
 no_loss (_ ∷ acts) = no_loss acts
 
 -- itself, also where that is lost
-pub founding_writes : (limits : Limits) (t : Tables) (now x : ℕ) (response : Response) (w : Exchange) (flaw : Flaw) → t.exchange x ≡ Some w → is_founding (Some (head_case (head_view t false w response))) ≡ true → written t (entry_of limits t now (event.Head x response) flaw) ≡ Some x
-unfolding written
+pub founding_writes : (limits : Limits) (t : Tables) (now x : ℕ) (response : Response) (w : Exchange) (flaw : Flaw) → t.exchange x ≡ Some w → is_founding (Some (head_case (head_view t false w response))) ≡ true → written_representation t (entry_of limits t now (event.Head x response) flaw) ≡ Some x
+unfolding written_representation
 founding_writes limits t now x response w flaw row founds =
     let e = entry_of limits t now (event.Head x response) flaw in
     let case_now = FirstKeeps.case_is t (lossless e) x response w refl row ∙ ap (λ l. Some (head_case (head_view t l w response))) (no_loss e.acts) in

@@ -11,7 +11,7 @@ use Rattle.hc_rules.specs.declared.heads.HeadCase.TheVariants as case
 use Rattle.hc_model.specs.ActFilters.{loses_in, misreads_in, has_loss}
 use Rattle.hc_model.specs.Cases.{case_at, case_of, is_founding, is_updating}
 use Rattle.hc_model.specs.Currents.{current, is_current, is_number}
-use Rattle.hc_model.specs.Dooms.{doomed, doomed_in, bypass_key, is_key}
+use Rattle.hc_model.specs.Dooms.{doomed_key_of, doomed_in, bypass_key, is_key}
 use Rattle.hc_model.specs.Entries.{Entry, entry_without_acts}
 use Rattle.hc_model.specs.ExchangeRows.{exchange_after, exchange_heard, exchange_acted, exchange_made}
 use Rattle.hc_model.specs.Exchanges.{family, exchange_at, exchange_in}
@@ -145,11 +145,11 @@ status_is : (n : ℕ) → (n == 200) ≡ true → n ≡ 200
 status_is n h = let test : nat_eq n 200 ≡ true = h in grind (arith, nat_tests)
 
 module _ (t : Tables) (e : Entry) (r : ℕ) (v : Representation) where
-  caused_key : (is_current t v.key r && (is_key (doomed t e) v.key || is_key (bypass_key e) v.key)) ≡ true → GoesBy t e r v
+  caused_key : (is_current t v.key r && (is_key (doomed_key_of t e) v.key || is_key (bypass_key e) v.key)) ≡ true → GoesBy t e r v
   caused_key h =
       let now : current t v.key ≡ Some r = number_is (current t v.key) r (and_left (is_current t v.key r) _ h) in
       elim (or_cases _ _ (and_right (is_current t v.key r) _ h)) [
-        | inl doom ↦ frames.by_doom now (key_is (doomed t e) v.key doom)
+        | inl doom ↦ frames.by_doom now (key_is (doomed_key_of t e) v.key doom)
         | inr past ↦ frames.by_bypass now (key_is (bypass_key e) v.key past)
       ]
 
@@ -212,7 +212,7 @@ module _ (t : Tables) (now x : ℕ) (bytes : List ℕ) (r : ℕ) (v : Representa
   brings = entry_without_acts now (event.Piece x bytes)
 
   spared : GoesBy t brings r v → ⊥
-  unfolding doomed
+  unfolding doomed_key_of
   spared (frames.by_doom now_is is) = none_some v.key is
   spared (frames.by_bypass now_is is) = none_some v.key is
   spared (frames.by_head y response w at row h) = let no : event.Piece x bytes ≡ event.Head y response = at in cc
@@ -230,11 +230,11 @@ number_of : (o : Option ℕ) (n : ℕ) → is_number o n ≡ false → o ≡ Som
 number_of o n off is = false_true (sym off ∙ number_yes o n is)
 
 module _ (t : Tables) (e : Entry) (r : ℕ) (silent : speaks_of t e r ≡ false) where
-  parts_of : (is_event_of t e r e.event ≡ false) × (is_current_for t (doomed t e) r ≡ false) × (is_current_for t (bypass_key e) r ≡ false) × (are_acts_of r e ≡ false)
+  parts_of : (is_event_of t e r e.event ≡ false) × (is_current_for t (doomed_key_of t e) r ≡ false) × (is_current_for t (bypass_key e) r ≡ false) × (are_acts_of r e ≡ false)
   parts_of =
       let a = or_false _ (are_acts_of r e) silent in
       let b = or_false _ (is_current_for t (bypass_key e) r) a.0 in
-      let c = or_false (is_event_of t e r e.event) (is_current_for t (doomed t e) r) b.0 in
+      let c = or_false (is_event_of t e r e.event) (is_current_for t (doomed_key_of t e) r) b.0 in
       (c.0, c.1, b.1, a.1)
 
   acts_parts : (loses_in r e.acts ≡ false) × (misreads_in r e.acts ≡ false) × (evicts_in r e.acts ≡ false) × (closes_in r e.acts ≡ false)
@@ -307,7 +307,7 @@ module _ (t : Tables) (e : Entry) (r : ℕ) (silent : speaks_of t e r ≡ false)
   stop_of w (event.Doom key) off = refl
 
   not_gone : (v : Representation) → GoesBy t e r v → ⊥
-  not_gone v (frames.by_doom now is) = current_off (doomed t e) v.key parts_of.1 is now
+  not_gone v (frames.by_doom now is) = current_off (doomed_key_of t e) v.key parts_of.1 is now
   not_gone v (frames.by_bypass now is) = current_off (bypass_key e) v.key parts_of.2 is now
   not_gone v (frames.by_head x response w at row h) = false_true (sym (about_row x response w at row) ∙ about_gone (case_at t e) w h)
   not_gone v (frames.by_loss h) = false_true (sym acts_parts.0 ∙ h)
@@ -345,8 +345,8 @@ may_doom (event.Head x response) = true
 may_doom (event.Doom key) = true
 may_doom _ = false
 
-pub undoomed : (t : Tables) (e : Entry) → may_doom e.event ≡ false → doomed t e ≡ None
-unfolding doomed
+pub undoomed : (t : Tables) (e : Entry) → may_doom e.event ≡ false → doomed_key_of t e ≡ None
+unfolding doomed_key_of
 undoomed t e off = by_event e.event off
   where
     by_event : (z : Event) → may_doom z ≡ false → doomed_in t e z ≡ None
@@ -355,7 +355,7 @@ undoomed t e off = by_event e.event off
     by_event _ h = refl
 
 -- an entry that dooms nothing and opens nothing speaks of what its event and its acts do
-pub unspoken : (t : Tables) (e : Entry) (r : ℕ) → doomed t e ≡ None → opening_in e.acts ≡ None → is_event_of t e r e.event ≡ false → are_acts_of r e ≡ false → speaks_of t e r ≡ false
+pub unspoken : (t : Tables) (e : Entry) (r : ℕ) → doomed_key_of t e ≡ None → opening_in e.acts ≡ None → is_event_of t e r e.event ≡ false → are_acts_of r e ≡ false → speaks_of t e r ≡ false
 unspoken t e r undoomed unopened event_off acts_off = rw (undoomed, unopened, event_off, acts_off) refl
 
 pub others_stay : OthersStay

@@ -32,7 +32,7 @@ use Rattle.hc_model.specs.Rows.{Tables, Exchange, Representation, Consumer}
 use Rattle.hc_model.specs.Runs.{may_be, is_near, may_misread}
 use Rattle.hc_model.specs.Weights.{evicted, first_idle, idle, is_idle, room_for}
 use Rattle.hc_model.specs.Writers.{brings_body, loses_writing}
-use Rattle.hc_model.specs.Writes.{written, written_in, head_writes, may_validate, piece_writes, unless_lost, sealed_representation, seals_at, sealed_by, stops, first_found, lossless}
+use Rattle.hc_model.specs.Writes.{written_representation, written_in, head_writes, may_validate, piece_writes, unless_lost, sealed_representation, seals_at, sealed_by, stops, first_found, lossless}
 use Rattle.hc_model.proofs.ActParts.{IsAnswer, IsSaid, IsFarFrom, AllPass, answer_is, said_is, asks_evicted, asks_closed, asks_closes, asks_lost, asks_loss, closes_evicted, closes_lost, closes_before, closes_filter, loses_evicted, loses_closed, loses_before, evicts_closes, evicts_lost, evicts_closed, evicts_all, said_closes, far_loss, far_lost_only, far_closing, far_closed, far_evicted, far_said, leaver_lost}
 use Rattle.hc_model.proofs.ActParts as parts
 use Rattle.hc_model.proofs.Basics.{and_left, or_cases, none_some, number_is}
@@ -210,11 +210,11 @@ module _ (limits : Limits) (t : Tables) (e : Entry) (flaw : Flaw) (exchanges : E
 
   -- WRITTEN BY A HEAD OR A PIECE
 
-  lost_written : (r : ℕ) (f : Flaw) → may_be limits t e f ≡ true → loses_in r (loss_acts f) ≡ true → written t e ≡ Some r
+  lost_written : (r : ℕ) (f : Flaw) → may_be limits t e f ≡ true → loses_in r (loss_acts f) ≡ true → written_representation t e ≡ Some r
   lost_written r NoFlaw may_so h = absurd (let never : false ≡ true = h in cc)
   lost_written r (Misreads q) may_so h = absurd (let never : false ≡ true = h in cc)
   lost_written r (Loses q kind) may_so h = elim (or_cases (q == r) false h) [
-    | inl here ↦ number_is (written t e) q (and_left _ _ (and_left _ _ may_so)) ∙ ap Some (eq_is q r here)
+    | inl here ↦ number_is (written_representation t e) q (and_left _ _ (and_left _ _ may_so)) ∙ ap Some (eq_is q r here)
     | inr never ↦ absurd (let no : false ≡ true = never in cc)
   ]
 
@@ -250,7 +250,7 @@ module _ (limits : Limits) (t : Tables) (e : Entry) (flaw : Flaw) (exchanges : E
     body_written _ body h = absurd (let never : false ≡ true = body in cc)
 
     body_lost : brings_body e.event ≡ true → loses_in r (loss_acts flaw) ≡ true → key_of t e.event ≡ Some v.key
-    unfolding written
+    unfolding written_representation
     body_lost body h = body_written e.event body (lost_written r flaw may h)
 
   -- CLOSED
@@ -364,8 +364,8 @@ module _ (limits : Limits) (t : Tables) (e : Entry) (flaw : Flaw) (exchanges : E
     written_by (event.Piece x bytes) at h = ap (key_of t) at ∙ body_written r v there (event.Piece x bytes) refl h
     written_by _ at h = sealed_key h
 
-    written_key : written t e ≡ Some r → key_of t e.event ≡ Some v.key
-    unfolding written
+    written_key : written_representation t e ≡ Some r → key_of t e.event ≡ Some v.key
+    unfolding written_representation
     written_key h = written_by e.event refl h
 
     loses_by : (acts : List Act) → answered acts → loses_in r acts ≡ loses_in r (loss_acts flaw)

@@ -15,7 +15,7 @@ use Rattle.hc_event.specs.declared.place.Place.TheVariants as place
 use Rattle.hc_event.specs.declared.place.BoundBy.{BoundBy}
 use Rattle.hc_model.specs.Cases.{case_at}
 use Rattle.hc_model.specs.Currents.{current, is_usable, is_current, is_number}
-use Rattle.hc_model.specs.Dooms.{doomed, doomed_in, doomed_by_head, doomed_by_case, doomed_if, changes, is_key}
+use Rattle.hc_model.specs.Dooms.{doomed_key_of, doomed_in, doomed_by_head, doomed_by_case, doomed_if, changes, is_key}
 use Rattle.hc_model.specs.Entries.{Entry}
 use Rattle.hc_model.specs.Exchanges.{family, is_open}
 use Rattle.hc_model.specs.Keys.{HasRow, key_of, is_of_key, key_of_exchange, ExchangeKeys, ConsumerKeys}
@@ -74,8 +74,8 @@ doomed_case (Some case.DirectTaken) w response key is = by_test (changes w respo
 doomed_case _ w response key is = absurd (let never : None ≡ Some key = is in cc)
 
 -- what is doomed is the key of the event
-pub doomed_key : (t : Tables) (e : Entry) (key : List ℕ) → doomed t e ≡ Some key → key_of t e.event ≡ Some key
-unfolding doomed
+pub doomed_key : (t : Tables) (e : Entry) (key : List ℕ) → doomed_key_of t e ≡ Some key → key_of t e.event ≡ Some key
+unfolding doomed_key_of
 doomed_key t e key is = by_event e.event is
   where
     by_row : (x : ℕ) (response : Response) (o : Option Exchange) → t.exchange x ≡ o → doomed_by_head t e response o ≡ Some key → key_of_exchange t x ≡ Some key

@@ -16,7 +16,7 @@ use Rattle.hc_model.specs.ActFilters.{loses_in, misreads_in, Showing, showing_in
 use Rattle.hc_model.specs.Cases.{case_at}
 use Rattle.hc_model.specs.ConsumerRows.{consumer_after, consumer_settled, consumer_acted, consumer_heard, by_head, by_fault, by_opening, waiting, waiting_place, shown_place, own_after, left_to, due_after, back_in_line}
 use Rattle.hc_model.specs.Currents.{is_current}
-use Rattle.hc_model.specs.Dooms.{doomed, bypass_key, is_key}
+use Rattle.hc_model.specs.Dooms.{doomed_key_of, bypass_key, is_key}
 use Rattle.hc_model.specs.Entries.{Entry}
 use Rattle.hc_model.specs.ExchangeRows.{exchange_after, exchange_heard, exchange_acted}
 use Rattle.hc_model.specs.Exchanges.{family, exchange_in, exchange_at, is_for}
@@ -139,7 +139,7 @@ module _ (t : Tables) (e : Entry) (exchanges : ExchangeKeys t) (consumers : Cons
     heard_representation _ at = refl
 
     -- nor does it become gone by itself
-    not_doomed : (is_current t v.key r && (is_key (doomed t e) v.key || is_key (bypass_key e) v.key)) ≡ true → ⊥
+    not_doomed : (is_current t v.key r && (is_key (doomed_key_of t e) v.key || is_key (bypass_key e) v.key)) ≡ true → ⊥
     not_doomed h = elim (or_cases _ _ (and_then _ _ h)) [
       | inl doom ↦ not_other t e.event v.key (doomed_key t e v.key (key_is _ v.key doom)) other
       | inr past ↦ not_other t e.event v.key (far.bypassed v.key (key_is _ v.key past)) other
@@ -184,7 +184,7 @@ module _ (t : Tables) (e : Entry) (exchanges : ExchangeKeys t) (consumers : Cons
 
     pub not_going : goes_itself t e r v ≡ false
     not_going =
-        all_none (is_current t v.key r && (is_key (doomed t e) v.key || is_key (bypass_key e) v.key)) (goes_by_head t e r) (loses_in r e.acts) (misreads_in r e.acts) (ends_early t e r v && not (is_keepable v))
+        all_none (is_current t v.key r && (is_key (doomed_key_of t e) v.key || is_key (bypass_key e) v.key)) (goes_by_head t e r) (loses_in r e.acts) (misreads_in r e.acts) (ends_early t e r v && not (is_keepable v))
         (not_true _ not_doomed) (not_true _ (not_by_head e.event refl)) (far.loses r v there other) (far.misreads r v there other)
         (not_true _ (λ h. not_ended (t.exchange r) refl (and_then _ _ (and_left _ _ h))))
 
@@ -324,9 +324,9 @@ module _ (t : Tables) (e : Entry) (exchanges : ExchangeKeys t) (consumers : Cons
 
     -- STARTING OVER
 
-    not_sent : ((is_key (doomed t e) k.request.key && waits_at t k.place) || (sends_back (case_at t e) && is_for (exchange_at t e.event) c)) ≡ false
+    not_sent : ((is_key (doomed_key_of t e) k.request.key && waits_at t k.place) || (sends_back (case_at t e) && is_for (exchange_at t e.event) c)) ≡ false
     not_sent =
-        or_none (is_key (doomed t e) k.request.key && waits_at t k.place) (sends_back (case_at t e) && is_for (exchange_at t e.event) c)
+        or_none (is_key (doomed_key_of t e) k.request.key && waits_at t k.place) (sends_back (case_at t e) && is_for (exchange_at t e.event) c)
         (not_true _ (λ doom. not_other t e.event k.request.key (doomed_key t e k.request.key (key_is _ k.request.key (and_left _ _ doom))) other))
         (not_true _ (λ sent. not_for e.event refl (and_then _ _ sent)))
 

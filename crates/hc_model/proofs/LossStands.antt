@@ -27,7 +27,7 @@ use Rattle.hc_model.specs.Rows.{Tables, Exchange}
 use Rattle.hc_model.specs.Runs.{may_stand, may_be}
 use Rattle.hc_model.specs.Sound.{Sound}
 use Rattle.hc_model.specs.Weights.{evicted}
-use Rattle.hc_model.specs.Writes.{written, head_writes, may_validate, lossless}
+use Rattle.hc_model.specs.Writes.{written_representation, head_writes, may_validate, lossless}
 use Rattle.hc_model.proofs.Basics.{false_true, and_left, or_cases}
 use Rattle.hc_model.proofs.Closed.{before}
 use Rattle.hc_model.proofs.FirstKeeps.{case_is}
@@ -126,8 +126,8 @@ module _ (limits : Limits) (t : Tables) (now : ℕ) (flaw : Flaw) (s : Sound t) 
         let is : case_at t (lossless e) ≡ Some g = case_is t (lossless e) x response w refl row in
         ap is_founding is ∙ not_founding g (sym (ap is_joining is) ∙ joins_lossless)
 
-    written_is : written t e ≡ Some r
-    unfolding written
+    written_is : written_representation t e ≡ Some r
+    unfolding written_representation
     written_is =
         ap (head_writes t (lossless e) x response) row
         ∙ (is_joined (is_founding (case_at t (lossless e))) (is_joining (case_at t (lossless e))) (may_validate t w response) (Some x) w.aim founds_not joins_lossless ∙ aim)
@@ -145,7 +145,7 @@ module _ (limits : Limits) (t : Tables) (now : ℕ) (flaw : Flaw) (s : Sound t) 
           | inl denied ↦ absurd (false_true (sym (ap is_denied acts_are ∙ undenied q kind xs rs) ∙ denied))
           | inr may ↦
               let all : may_be limits t e (Loses q kind) ≡ true = sym (ap (may_be limits t e) flaw_is) ∙ may in
-              let number : is_number (written t e) q ≡ true = and_left _ _ (and_left _ _ all) in
+              let number : is_number (written_representation t e) q ≡ true = and_left _ _ (and_left _ _ all) in
               let test : nat_eq r q ≡ true = sym (ap (λ z. is_number z q) written_is) ∙ number in
               let same : q ≡ r = grind (arith, nat_tests) in
               let loses : loses_in r e.acts ≡ true = sym (ap (λ n. loses_in n e.acts) same) ∙ (ap (loses_in q) acts_are ∙ loses_it q kind xs rs) in

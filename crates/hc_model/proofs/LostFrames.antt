@@ -11,7 +11,7 @@ use Rattle.hc_model.specs.ActFilters.{fails_in}
 use Rattle.hc_model.specs.Closings.{has_no_survivor}
 use Rattle.hc_model.specs.ConsumerRows.{consumer_after, consumer_acted, consumer_settled, own_after}
 use Rattle.hc_model.specs.Currents.{is_number}
-use Rattle.hc_model.specs.Dooms.{doomed}
+use Rattle.hc_model.specs.Dooms.{doomed_key_of}
 use Rattle.hc_model.specs.Effects.{left_with}
 use Rattle.hc_model.specs.Entries.{Entry}
 use Rattle.hc_model.specs.Exchanges.{family, is_open}
@@ -60,7 +60,7 @@ module _ (t : Tables) (e : Entry) (law : Lawful t) (r : ℕ) (v : Representation
 
   -- WHO READS IT
 
-  module _ (d lo : ℕ) (hi : Option ℕ) (how : BoundBy) (k : Consumer) (at : k.place ≡ place.Bound r lo hi how) (quiet : IsQuietActs e.acts) (apart : IsApart t e d k) (fails : fails_in d e.acts ≡ false) (doomless : doomed t e ≡ None) where
+  module _ (d lo : ℕ) (hi : Option ℕ) (how : BoundBy) (k : Consumer) (at : k.place ≡ place.Bound r lo hi how) (quiet : IsQuietActs e.acts) (apart : IsApart t e d k) (fails : fails_in d e.acts ≡ false) (doomless : doomed_key_of t e ≡ None) where
     own_as : own_after t e d k.place k.own ≡ (if is_number (survivor t r v) d then v.writer else k.own)
     own_as = rw (at, there, losing) refl
 

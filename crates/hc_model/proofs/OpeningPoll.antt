@@ -14,7 +14,7 @@ use Rattle.hc_model.specs.Answers.{poll_acts, loss_acts}
 use Rattle.hc_model.specs.Cases.{case_at, case_of}
 use Rattle.hc_model.specs.Closings.{closing, must_close, is_refused, is_doomed, brings_head, has_no_survivor, is_left, leaver}
 use Rattle.hc_model.specs.Currents.{is_number}
-use Rattle.hc_model.specs.Dooms.{doomed, is_key}
+use Rattle.hc_model.specs.Dooms.{doomed_key_of, is_key}
 use Rattle.hc_model.specs.Entries.{Entry}
 use Rattle.hc_model.specs.Exchanges.{family}
 use Rattle.hc_model.specs.Flaws.{Flaw, NoFlaw, Loses, Misreads, flaw_in}
@@ -25,7 +25,7 @@ use Rattle.hc_model.specs.Rows.{Tables, Exchange, Representation}
 use Rattle.hc_model.specs.Runs.{may_stand, may_be}
 use Rattle.hc_model.specs.Sound.{Sound}
 use Rattle.hc_model.specs.Writers.{loses_writing}
-use Rattle.hc_model.specs.Writes.{written, seals_at, first_found, lossless, sealed_by}
+use Rattle.hc_model.specs.Writes.{written_representation, seals_at, first_found, lossless, sealed_by}
 use Rattle.hc_model.proofs.Basics.{false_true, and_left, and_right, or_cases, not_so, none_some}
 use Rattle.hc_model.proofs.Closed.{before}
 use Rattle.hc_model.proofs.PollKeeps.{closes_open_none}
@@ -131,12 +131,12 @@ module _ (limits : Limits) (t : Tables) (now : ℕ) (flaw : Flaw) (s : Sound t) 
     unfolding case_of
     case_none = refl
 
-    doomed_none : doomed t b ≡ None
-    unfolding doomed
+    doomed_none : doomed_key_of t b ≡ None
+    unfolding doomed_key_of
     doomed_none = refl
 
-    pub doomed_not : doomed t e ≡ None
-    unfolding doomed
+    pub doomed_not : doomed_key_of t e ≡ None
+    unfolding doomed_key_of
     doomed_not = refl
 
     pub case_not : case_at t e ≡ None
@@ -177,8 +177,8 @@ module _ (limits : Limits) (t : Tables) (now : ℕ) (flaw : Flaw) (s : Sound t) 
     found_none [] = refl
     found_none (x ∷ ys) = ap (λ (z : Option ℕ). option_or z (first_found (seals_at t (lossless e)) ys)) (seals_none x) ∙ found_none ys
 
-    pub written_none : written t e ≡ None
-    unfolding written
+    pub written_none : written_representation t e ≡ None
+    unfolding written_representation
     written_none = found_none t.openings
 
     loses_not : (q : ℕ) (kind : LostKind) → may_stand limits t e ≡ true → flaw ≡ Loses q kind → ⊥
@@ -190,7 +190,7 @@ module _ (limits : Limits) (t : Tables) (now : ℕ) (flaw : Flaw) (s : Sound t) 
           | inl denied ↦ false_true (sym undenied ∙ denied)
           | inr may ↦
               let all : may_be limits t e (Loses q kind) ≡ true = sym (ap (may_be limits t e) flaw_is) ∙ may in
-              let number : is_number (written t e) q ≡ true = and_left _ _ (and_left _ _ all) in
+              let number : is_number (written_representation t e) q ≡ true = and_left _ _ (and_left _ _ all) in
               false_true (sym (ap (λ z. is_number z q) written_none) ∙ number)
         ]
 

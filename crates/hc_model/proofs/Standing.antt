@@ -22,7 +22,7 @@ use Rattle.hc_model.specs.ConsumerRows.{consumer_heard, by_head, by_fault, by_op
 use Rattle.hc_model.specs.Currents.{current, is_usable}
 use Rattle.hc_model.specs.Denials.{denial}
 use Rattle.hc_model.specs.Entries.{Entry}
-use Rattle.hc_model.specs.Dooms.{doomed, is_key}
+use Rattle.hc_model.specs.Dooms.{doomed_key_of, is_key}
 use Rattle.hc_model.specs.Exchanges.{exchange_in, exchange_at, is_for}
 use Rattle.hc_model.specs.Flaws.{Flaw}
 use Rattle.hc_model.specs.Frames.{is_event_for, beside, IsEntry, StandersStay, StartsOverBy, StartingOverIsCaused, loses_row, loses_reading, is_hit, ReadersStay, goes_back, has_passed_in, OthersStandStill, BoundStay, FoundsOther, unless_gone, CurrentStays, FoundedIsCurrent}
@@ -171,7 +171,7 @@ module _ (t : Tables) (e : Entry) (c : ℕ) (k : Consumer) (off : is_event_for t
   over_by h = elim (or_cases _ (loses_what_it_waits_for t e c k.place) h) [
     | inr loses ↦ lost_by k.place refl loses
     | inl first ↦ elim (or_cases _ (sends_back (case_at t e) && is_for (exchange_at t e.event) c) first) [
-      | inl doom ↦ frames.by_doom (key_is (doomed t e) k.request.key (and_left (is_key (doomed t e) k.request.key) _ doom)) (and_right (is_key (doomed t e) k.request.key) _ doom)
+      | inl doom ↦ frames.by_doom (key_is (doomed_key_of t e) k.request.key (and_left (is_key (doomed_key_of t e) k.request.key) _ doom)) (and_right (is_key (doomed_key_of t e) k.request.key) _ doom)
       | inr sent ↦ absurd (not_sent e.event refl (and_right (sends_back (case_at t e)) _ sent) (and_left (sends_back (case_at t e)) _ sent))
     ]
   ]

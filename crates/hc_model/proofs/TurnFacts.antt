@@ -15,7 +15,7 @@ use Rattle.hc_model.specs.ActFilters.{loses_in, has_loss, misreads_in, fails_in,
 use Rattle.hc_model.specs.Answers.{accepted_acts, answer_acts, loss_acts, close_acts}
 use Rattle.hc_model.specs.Cases.{case_at, case_of}
 use Rattle.hc_model.specs.Closings.{closing, closes_row, must_close}
-use Rattle.hc_model.specs.Dooms.{doomed, doomed_in, doomed_by_head, doomed_by_case}
+use Rattle.hc_model.specs.Dooms.{doomed_key_of, doomed_in, doomed_by_head, doomed_by_case}
 use Rattle.hc_model.specs.Entries.{Entry}
 use Rattle.hc_model.specs.ExchangeRows.{exchange_heard}
 use Rattle.hc_model.specs.Flaws.{Flaw, NoFlaw, Loses, Misreads, flaw_in}
@@ -192,8 +192,8 @@ module _ (limits : Limits) (t : Tables) (e : Entry) (taken : IsTaken limits t e)
   pub same_case : case_at t e ≡ case_at t seen
   same_case = ap (λ b. case_of t b e.event) (loss_as ∙ sym (loss_said t e.now e.event flaw asked_of (loss_acts flaw) said_here))
 
-  pub same_doom : doomed t e ≡ doomed t seen
-  unfolding doomed
+  pub same_doom : doomed_key_of t e ≡ doomed_key_of t seen
+  unfolding doomed_key_of
   same_doom = by_event e.event
     where
       by_row : (response : Response) (o : Option Exchange) → doomed_by_head t e response o ≡ doomed_by_head t seen response o

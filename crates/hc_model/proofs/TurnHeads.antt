@@ -26,7 +26,7 @@ use Rattle.hc_model.specs.Answers.{answer_acts, loss_acts}
 use Rattle.hc_model.specs.Cases.{case_at, case_of, head_view, validates, is_founding}
 use Rattle.hc_model.specs.Closings.{must_close, is_doomed, is_left, leaver, leaver_by, is_refused, brings_head, has_no_survivor, awaits}
 use Rattle.hc_model.specs.Currents.{current, is_current, is_number}
-use Rattle.hc_model.specs.Dooms.{doomed, doomed_in, doomed_by_head, doomed_by_case, bypass_key, bypassed_by, is_key}
+use Rattle.hc_model.specs.Dooms.{doomed_key_of, doomed_in, doomed_by_head, doomed_by_case, bypass_key, bypassed_by, is_key}
 use Rattle.hc_model.specs.Entries.{Entry, entry_without_acts}
 use Rattle.hc_model.specs.Exchanges.{exchange_at, is_headless, family}
 use Rattle.hc_model.specs.Flaws.{flaw_in}
@@ -157,8 +157,8 @@ module _ (limits : Limits) (t : Tables) (e : Entry) (taken : IsTaken limits t e)
   saw_case : case_at t saw ≡ Some case.Validated
   saw_case = sym (same_case limits t e taken) ∙ found
 
-  doom_at : doomed t e ≡ None
-  unfolding doomed
+  doom_at : doomed_key_of t e ≡ None
+  unfolding doomed_key_of
   doom_at = ap (doomed_in t e) at ∙ (ap (doomed_by_head t e response) row ∙ ap (λ c. doomed_by_case c w response) found)
 
   saw_lossless : has_loss saw.acts ≡ false

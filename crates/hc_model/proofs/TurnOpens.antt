@@ -24,7 +24,7 @@ use Rattle.hc_model.specs.Cases.{case_at, case_of}
 use Rattle.hc_model.specs.Closings.{must_close, is_doomed, is_left, leaver, leaver_by, is_refused, brings_head, has_no_survivor, awaits}
 use Rattle.hc_model.specs.ConsumerRows.{consumer_after, consumer_settled, consumer_acted, consumer_heard, by_opening, waiting, waiting_place, shown_place, own_after, left_to, due_after, back_in_line, with_opening, unless_bound, opened_place}
 use Rattle.hc_model.specs.Currents.{is_number, is_current}
-use Rattle.hc_model.specs.Dooms.{doomed, doomed_in, bypass_key, bypassed_by, bypassed_for, is_key}
+use Rattle.hc_model.specs.Dooms.{doomed_key_of, doomed_in, bypass_key, bypassed_by, bypassed_for, is_key}
 use Rattle.hc_model.specs.Entries.{Entry}
 use Rattle.hc_model.specs.Exchanges.{exchange_at, is_headless, family}
 use Rattle.hc_model.specs.Flaws.{Flaw, NoFlaw, Loses, Misreads, flaw_in}
@@ -40,7 +40,7 @@ use Rattle.hc_model.specs.Runs.{may_be}
 use Rattle.hc_model.specs.Sound.{Sound}
 use Rattle.hc_model.specs.StartingOver.{starts_over, sends_back, loses_what_it_waits_for}
 use Rattle.hc_model.specs.Writers.{brings_body, loses_writing, survivor}
-use Rattle.hc_model.specs.Writes.{written, written_in, seals_at, stops, first_found, lossless}
+use Rattle.hc_model.specs.Writes.{written_representation, written_in, seals_at, stops, first_found, lossless}
 use Rattle.hc_model.proofs.ActParts as parts
 use Rattle.hc_model.proofs.Basics.{and_left, none_some, number_is}
 use Rattle.hc_model.proofs.KeysKeep.{IsOpening, opened_is}
@@ -78,8 +78,8 @@ module _ (limits : Limits) (t : Tables) (e : Entry) (taken : IsTaken limits t e)
       let none : loses_writing t saw r v ≡ false = ap (λ b. b && loses_in r saw.acts && is_written t v) (ap brings_body at) in
       ap (λ b. is_number v.writer x && b && is_none (survivor t r v)) none ∙ ap (λ b. b && is_none (survivor t r v)) (and_none (is_number v.writer x))
 
-  doom_seen : doomed t saw ≡ None
-  unfolding doomed
+  doom_seen : doomed_key_of t saw ≡ None
+  unfolding doomed_key_of
   doom_seen = ap (doomed_in t saw) at
 
   not_doomed : (x : ℕ) (w : Exchange) → is_doomed t saw x w ≡ false
@@ -108,22 +108,22 @@ module _ (limits : Limits) (t : Tables) (e : Entry) (taken : IsTaken limits t e)
   found_none f [] all = refl
   found_none f (x ∷ xs) all = rw (all x) (found_none f xs all)
 
-  writes_none : written t e ≡ None
-  unfolding written
+  writes_none : written_representation t e ≡ None
+  unfolding written_representation
   writes_none = ap (written_in t (lossless e)) at ∙ found_none (seals_at t (lossless e)) t.openings seals_none
 
   lost_none : (r : ℕ) (f : Flaw) → may_be limits t e f ≡ true → loses_in r (loss_acts f) ≡ false
   lost_none r NoFlaw may = refl
   lost_none r (Misreads q) may = refl
   lost_none r (Loses q kind) may =
-      absurd (none_some q (sym writes_none ∙ number_is (written t e) q (and_left _ _ (and_left _ _ may))))
+      absurd (none_some q (sym writes_none ∙ number_is (written_representation t e) q (and_left _ _ (and_left _ _ may))))
 
   -- nothing is lost
   pub loses_none : (r : ℕ) → loses_in r e.acts ≡ false
   loses_none r = loses_as limits t e taken r ∙ lost_none r (flaw_in e.acts) (may_be_so limits t e taken)
 
-  pub doom_none : doomed t e ≡ None
-  unfolding doomed
+  pub doom_none : doomed_key_of t e ≡ None
+  unfolding doomed_key_of
   doom_none = ap (doomed_in t e) at
 
   head_none : (r : ℕ) → goes_by_head t e r ≡ false
@@ -137,7 +137,7 @@ module _ (limits : Limits) (t : Tables) (e : Entry) (taken : IsTaken limits t e)
   pub goes_none : (r : ℕ) (v : Representation) → bypass_key e ≡ None → misreads_in r e.acts ≡ false → becomes_gone t e r v ≡ false
   unfolding becomes_gone
   goes_none r v past reads =
-      let none : doomed t e ≡ None = doom_none in
+      let none : doomed_key_of t e ≡ None = doom_none in
       let early : ends_early t e r v ≡ false = ap (λ b. v.head.status == 200 && b) (ends_none r (t.exchange r)) ∙ and_none (v.head.status == 200) in
       rw (none, past, head_none r, loses_none r, reads, early, evicts_asked limits t e taken r (ap facts.is_asking at)) (by_current (is_current t v.key r))
     where

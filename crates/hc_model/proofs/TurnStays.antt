@@ -25,7 +25,7 @@ use Rattle.hc_model.specs.Closings.{must_close, is_doomed, is_left, is_left_by, 
 use Rattle.hc_model.specs.ConsumerRows.{consumer_after, consumer_settled, consumer_acted, consumer_heard, by_head, by_fault, by_opening, waiting, waiting_place, shown_place, own_after, left_to, due_after, back_in_line}
 use Rattle.hc_model.specs.Currents.{is_number}
 use Rattle.hc_model.specs.Denials.{denial, as_open}
-use Rattle.hc_model.specs.Dooms.{doomed, is_key}
+use Rattle.hc_model.specs.Dooms.{doomed_key_of, is_key}
 use Rattle.hc_model.specs.Entries.{Entry}
 use Rattle.hc_model.specs.ExchangeRows.{exchange_heard, exchange_acted}
 use Rattle.hc_model.specs.Exchanges.{promised_bytes, exchange_at, is_for, is_headless, is_open}
@@ -321,10 +321,10 @@ module _ (limits : Limits) (t : Tables) (e : Entry) (taken : IsTaken limits t e)
 
   -- IT DOESN'T START OVER
 
-  pub dooms : is_key (doomed t e) k.request.key ≡ true → is_number (awaited_exchange k.place) x ≡ true → ⊥
+  pub dooms : is_key (doomed_key_of t e) k.request.key ≡ true → is_number (awaited_exchange k.place) x ≡ true → ⊥
   dooms doom waits =
       let key_of = opener_key t x w k one.exchanges row it.row in
-      let for_it : is_key (doomed t (seen limits t e taken)) w.request.key ≡ true = ap (λ o. is_key o w.request.key) (sym (same_doom limits t e taken)) ∙ (ap (is_key (doomed t e)) key_of ∙ doom) in
+      let for_it : is_key (doomed_key_of t (seen limits t e taken)) w.request.key ≡ true = ap (λ o. is_key o w.request.key) (sym (same_doom limits t e taken)) ∙ (ap (is_key (doomed_key_of t e)) key_of ∙ doom) in
       let waiting_it : awaits (t.consumer w.c) x ≡ true = ap (λ o. awaits o x) it.row ∙ waits in
       let closes : is_doomed t (seen limits t e taken) x w ≡ true = rw (for_it, headless, waiting_it) refl in
       not_must (or_first _ _ (or_first _ _ (or_yes (is_refused (case_at t (seen limits t e taken)) && brings_head x e.event) (is_doomed t (seen limits t e taken) x w) closes)))
@@ -340,7 +340,7 @@ module _ (limits : Limits) (t : Tables) (e : Entry) (taken : IsTaken limits t e)
   not_waiting r lo hi by.Founding at shown waits = let no_one : false ≡ true = waits in cc
   not_waiting r lo hi by.Plan at shown waits = let no_one : false ≡ true = waits in cc
 
-  not_doomed : (way : Route) → StandsFor x k way → is_key (doomed t e) k.request.key ≡ true → waits_at t k.place ≡ true → ⊥
+  not_doomed : (way : Route) → StandsFor x k way → is_key (doomed_key_of t e) k.request.key ≡ true → waits_at t k.place ≡ true → ⊥
   not_doomed _ (laws.direct at) doom waits = let no_one : false ≡ true = sym (ap (waits_at t) at) ∙ waits in cc
   not_doomed _ (laws.has_turn at unshown) doom waits = dooms doom (ap (λ p. is_number (awaited_exchange p) x) at ∙ eq-refl x)
   not_doomed _ (laws.first r lo hi at unshown) doom waits = dooms doom (ap (λ p. is_number (awaited_exchange p) x) at ∙ eq-refl x)
@@ -390,7 +390,7 @@ module _ (limits : Limits) (t : Tables) (e : Entry) (taken : IsTaken limits t e)
   not_over : starts_over t e c k ≡ false
   unfolding starts_over
   not_over =
-      all_false (is_key (doomed t e) k.request.key && waits_at t k.place) (sends_back (case_at t e) && is_for (exchange_at t e.event) c) (loses_what_it_waits_for t e c k.place)
+      all_false (is_key (doomed_key_of t e) k.request.key && waits_at t k.place) (sends_back (case_at t e) && is_for (exchange_at t e.event) c) (loses_what_it_waits_for t e c k.place)
       (not_true _ (λ h. not_doomed (route_of w.need) it.stands (and_left _ _ h) (and_then _ _ h)))
       (not_true _ (λ h. not_sent e.event refl h))
       (loses_none (route_of w.need) it.stands)

@@ -33,7 +33,7 @@ use Rattle.hc_model.specs.Cases.{case_at}
 use Rattle.hc_model.specs.ConsumerRows.{consumer_after, consumer_made, new_consumer, unless_bound, opened_place}
 use Rattle.hc_model.specs.Currents.{current, is_usable}
 use Rattle.hc_model.specs.Denials.{denial, as_open}
-use Rattle.hc_model.specs.Dooms.{bypassed_by, doomed, is_key}
+use Rattle.hc_model.specs.Dooms.{bypassed_by, doomed_key_of, is_key}
 use Rattle.hc_model.specs.Entries.{Entry}
 use Rattle.hc_model.specs.ExchangeRows.{exchange_after, exchange_heard, exchange_acted, exchange_opened, aim_of, aim_from, promise_in}
 use Rattle.hc_model.specs.ExchangeRows as exchanges
@@ -445,7 +445,7 @@ module _ (limits : Limits) (t : Tables) (e : Entry) (taken : IsTaken limits t e)
   unfolding starts_over
   not_lost c r keep k at over leaves =
       let fails : fails_in c e.acts ≡ false = not_true (fails_in c e.acts) (λ h. let no_one : true ≡ false = sym (fails_leaves c e.acts h) ∙ leaves in cc) in
-      let waits : loses_what_it_waits_for t e c k.place ≡ false = or_last ((is_key (doomed t e) k.request.key && waits_at t k.place) || (sends_back (case_at t e) && is_for (exchange_at t e.event) c)) (loses_what_it_waits_for t e c k.place) over in
+      let waits : loses_what_it_waits_for t e c k.place ≡ false = or_last ((is_key (doomed_key_of t e) k.request.key && waits_at t k.place) || (sends_back (case_at t e) && is_for (exchange_at t e.event) c)) (loses_what_it_waits_for t e c k.place) over in
       and_first (goes_in t e r (t.representation r)) (fails_in c e.acts) fails (sym (ap (loses_what_it_waits_for t e c) at) ∙ waits)
 
   stays_passed : (c r : ℕ) (keep : Option ℕ) (k : Consumer) → t.consumer c ≡ Some k → k.place ≡ place.Passed r keep → StaysOrPlain t e c k k.place → MayPass r k

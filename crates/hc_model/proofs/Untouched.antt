@@ -14,7 +14,7 @@ use Rattle.hc_event.specs.declared.place.BoundBy.{BoundBy}
 use Rattle.hc_model.specs.ActFilters.{loses_in, fails_in, Showing, showing_in}
 use Rattle.hc_model.specs.Cases.{case_at, case_of, is_founding}
 use Rattle.hc_model.specs.ConsumerRows.{consumer_after, consumer_settled, consumer_acted, consumer_heard, consumer_made, by_head, by_fault, by_opening, waiting, waiting_place, shown_place, own_after, left_to, due_after, back_in_line}
-use Rattle.hc_model.specs.Dooms.{doomed, is_key}
+use Rattle.hc_model.specs.Dooms.{doomed_key_of, is_key}
 use Rattle.hc_model.specs.Effects.{as_gone}
 use Rattle.hc_model.specs.Entries.{Entry}
 use Rattle.hc_model.specs.ExchangeRows.{exchange_after, exchange_heard, exchange_acted, exchange_made}
@@ -154,9 +154,9 @@ goes_from t e _ = false
 
 -- who doesn't fail, and whose head doesn't send it back, starts over where its key is doomed while it waits, or what it waits for becomes gone
 pub starts_as : (t : Tables) (e : Entry) (c : ℕ) (k : Consumer) → fails_in c e.acts ≡ false → (sends_back (case_at t e) && is_for (exchange_at t e.event) c) ≡ false
-    → starts_over t e c k ≡ ((is_key (doomed t e) k.request.key && waits_at t k.place) || goes_from t e k.place)
+    → starts_over t e c k ≡ ((is_key (doomed_key_of t e) k.request.key && waits_at t k.place) || goes_from t e k.place)
 unfolding starts_over
-starts_as t e c k fails sends = three (is_key (doomed t e) k.request.key && waits_at t k.place) (sends_back (case_at t e) && is_for (exchange_at t e.event) c) (loses_what_it_waits_for t e c k.place) (goes_from t e k.place) sends (by_place k.place)
+starts_as t e c k fails sends = three (is_key (doomed_key_of t e) k.request.key && waits_at t k.place) (sends_back (case_at t e) && is_for (exchange_at t e.event) c) (loses_what_it_waits_for t e c k.place) (goes_from t e k.place) sends (by_place k.place)
   where
     three : (a b d f : Bool) → b ≡ false → d ≡ f → (a || b || d) ≡ (a || f)
     three true b d f off same = refl
@@ -284,7 +284,7 @@ module _ (t : Tables) (e : Entry) (c : ℕ) (k : Consumer) (said : IsFarFrom c e
 
 -- whom nothing is said of stays, or starts over exactly where its key is doomed while it waits, or what it waits for becomes gone
 pub consumer_apart : (t : Tables) (e : Entry) (c : ℕ) (k : Consumer) → IsFarFrom c e.acts → IsSpared t e k.place → IsApart t e c k → (reads k.place ≡ false → k.due ≡ None)
-    → consumer_after t e c (Some k) ≡ Some (if (is_key (doomed t e) k.request.key && waits_at t k.place) || goes_from t e k.place then back_in_line e.now k else k)
+    → consumer_after t e c (Some k) ≡ Some (if (is_key (doomed_key_of t e) k.request.key && waits_at t k.place) || goes_from t e k.place then back_in_line e.now k else k)
 consumer_apart t e c k said spared apart idle =
     consumer_frame t e c k said spared apart.heard (undue_apart t e c k apart spared) idle
     ∙ ap (λ (b : Bool). Some (if b then back_in_line e.now k else k)) (starts_as t e c k said.fails apart.sends)

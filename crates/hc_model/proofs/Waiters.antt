@@ -17,7 +17,7 @@ use Rattle.hc_model.specs.Closings.{must_close, is_refused, brings_head, is_doom
 use Rattle.hc_model.specs.ConsumerRows.{consumer_heard, by_head, by_fault, by_opening, own_after, left_to, waiting}
 use Rattle.hc_model.specs.Currents.{is_number}
 use Rattle.hc_model.specs.Denials.{denial}
-use Rattle.hc_model.specs.Dooms.{doomed, doomed_in, doomed_by_head, doomed_by_case, is_key}
+use Rattle.hc_model.specs.Dooms.{doomed_key_of, doomed_in, doomed_by_head, doomed_by_case, is_key}
 use Rattle.hc_model.specs.Entries.{Entry}
 use Rattle.hc_model.specs.Exchanges.{family, exchange_in, is_headless, is_open}
 use Rattle.hc_model.specs.Flaws.{Flaw}
@@ -95,8 +95,8 @@ module _ (limits : Limits) (t : Tables) (now : ℕ) (flaw : Flaw) (s : Sound t) 
   doomed_by (event.Cancel c) = refl
   doomed_by (event.Doom key) = refl
 
-  pub doomed_same : doomed t e ≡ doomed t b
-  unfolding doomed
+  pub doomed_same : doomed_key_of t e ≡ doomed_key_of t b
+  unfolding doomed_key_of
   doomed_same = doomed_by ev
 
   -- an accepted fault is one of an open exchange
@@ -299,8 +299,8 @@ module _ (limits : Limits) (t : Tables) (now : ℕ) (flaw : Flaw) (s : Sound t) 
     doomed_over : is_doomed t b y w ≡ true → starts_over t e c k ≡ true
     unfolding starts_over
     doomed_over h =
-        let keyed : is_key (doomed t b) w.request.key ≡ true = and_left _ _ (and_left _ (awaits (t.consumer w.c) y) h) in
-        let key : is_key (doomed t e) k.request.key ≡ true = ap (λ z. is_key z k.request.key) doomed_same ∙ (sym (ap (is_key (doomed t b)) is.key_is) ∙ keyed) in
+        let keyed : is_key (doomed_key_of t b) w.request.key ≡ true = and_left _ _ (and_left _ (awaits (t.consumer w.c) y) h) in
+        let key : is_key (doomed_key_of t e) k.request.key ≡ true = ap (λ z. is_key z k.request.key) doomed_same ∙ (sym (ap (is_key (doomed_key_of t b)) is.key_is) ∙ keyed) in
         let waits : is_number (awaited_exchange k.place) y ≡ true = sym (ap (λ z. awaits z y) (ap t.consumer is.for_it ∙ is.row)) ∙ and_right _ (awaits (t.consumer w.c) y) h in
         or_left _ _ (or_left _ _ (and_both _ _ key (waits_place k.place (number_is (awaited_exchange k.place) y waits))))
 
@@ -334,7 +334,7 @@ module _ (limits : Limits) (t : Tables) (now : ℕ) (flaw : Flaw) (s : Sound t) 
             | inr lost ↦ unlost lost
             | inl less ↦ elim (or_cases (is_refused (case_at t b) && brings_head y ev) (is_doomed t b y w) less) [
               | inl refused ↦ unrefused refused
-              | inr doomed ↦ false_true (sym over ∙ doomed_over doomed)
+              | inr doomed_key_of ↦ false_true (sym over ∙ doomed_over doomed_key_of)
             ]
           ]
         ]

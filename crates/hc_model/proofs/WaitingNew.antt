@@ -23,7 +23,7 @@ use Rattle.hc_model.specs.Cases.{case_at}
 use Rattle.hc_model.specs.ConsumerRows.{opened_place, unless_bound, by_opening, shown_place, own_after, left_to, waiting, consumer_acted, due_after, back_in_line}
 use Rattle.hc_model.specs.Currents.{current, is_current}
 use Rattle.hc_model.specs.Denials.{denial}
-use Rattle.hc_model.specs.Dooms.{doomed, bypass_key, bypassed_by, bypassed_for, is_key}
+use Rattle.hc_model.specs.Dooms.{doomed_key_of, bypass_key, bypassed_by, bypassed_for, is_key}
 use Rattle.hc_model.specs.Entries.{Entry}
 use Rattle.hc_model.specs.ExchangeRows.{exchange_opened, aim_from, aim_of}
 use Rattle.hc_model.specs.Exchanges.{exchange_at, is_for}
@@ -84,8 +84,8 @@ module _ (limits : Limits) (t : Tables) (now : ℕ) (flaw : Flaw) (s : Sound t) 
     founding_not r None h = false_true h
     founding_not r (Some w) h = false_true (sym (closes_none limits t now flaw s c want p here opens move_is r) ∙ and_right w.is_open (closes_in r e.acts) h)
 
-    doom_not : (r : ℕ) (v : Representation) (kept : Option ℕ) → k.place ≡ place.Passed r kept → (is_key (doomed t e) v.key || is_key (bypass_key e) v.key) ≡ true → ⊥
-    doom_not r v kept at h = elim (or_cases (is_key (doomed t e) v.key) _ h) [
+    doom_not : (r : ℕ) (v : Representation) (kept : Option ℕ) → k.place ≡ place.Passed r kept → (is_key (doomed_key_of t e) v.key || is_key (bypass_key e) v.key) ≡ true → ⊥
+    doom_not r v kept at h = elim (or_cases (is_key (doomed_key_of t e) v.key) _ h) [
       | inl doom ↦ false_true (sym (ap (λ z. is_key z v.key) (doomed_not limits t now flaw s c want p here opens move_is)) ∙ doom)
       | inr bypass ↦
           let plain : is_bypassing k.request ≡ false = o.passed c r kept k row at in
@@ -132,7 +132,7 @@ module _ (limits : Limits) (t : Tables) (now : ℕ) (flaw : Flaw) (s : Sound t) 
     unfolding starts_over
     stays_on = not_so _ (λ over. elim (or_cases _ (loses_what_it_waits_for t e c k.place) over) [
       | inr lost ↦ lost_not k.place refl lost
-      | inl more ↦ elim (or_cases (is_key (doomed t e) k.request.key && waits_at t k.place) (sends_back (case_at t e) && is_for (exchange_at t ev) c) more) [
+      | inl more ↦ elim (or_cases (is_key (doomed_key_of t e) k.request.key && waits_at t k.place) (sends_back (case_at t e) && is_for (exchange_at t ev) c) more) [
         | inl doom ↦ false_true (sym (ap (λ z. is_key z k.request.key) (doomed_not limits t now flaw s c want p here opens move_is)) ∙ and_left _ _ doom)
         | inr back ↦ false_true (sym (ap sends_back (case_not limits t now flaw s c want p here opens move_is)) ∙ and_left _ _ back)
       ]

@@ -16,7 +16,7 @@ use Rattle.hc_model.specs.Currents.{is_number}
 use Rattle.hc_model.specs.Cases.{case_at}
 use Rattle.hc_model.specs.Reading.{bound, own_open, shared_exchange}
 use Rattle.hc_model.specs.Writers.{loses_writing, survivor}
-use Rattle.hc_model.specs.Dooms.{doomed, is_key}
+use Rattle.hc_model.specs.Dooms.{doomed_key_of, is_key}
 use Rattle.hc_model.specs.StartingOver.{awaited_exchange}
 use Rattle.hc_model.specs.ExchangeRows.{exchange_heard}
 
@@ -44,7 +44,7 @@ awaits (Some k) x = is_number (awaited_exchange k.place) x
 -- of its key, while its consumer waits for its head, to found or to join by it
 abbrev pub is_doomed : Tables → Entry → ℕ → Exchange → Bool
 is_doomed t e x w =
-    is_key (doomed t e) w.request.key && is_headless (Some w) && awaits (t.consumer w.c) x
+    is_key (doomed_key_of t e) w.request.key && is_headless (Some w) && awaits (t.consumer w.c) x
 
 -- BY A LOSS
 

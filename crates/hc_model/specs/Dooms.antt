@@ -38,8 +38,8 @@ doomed_in t e (event.Head x response) = doomed_by_head t e response (t.exchange 
 doomed_in t e _ = None
 
 -- the key that is doomed: by a doom, or by an unsafe request that may have changed something
-unfoldable pub doomed : Tables → Entry → Option (List ℕ)
-doomed t e = doomed_in t e e.event
+unfoldable pub doomed_key_of : Tables → Entry → Option (List ℕ)
+doomed_key_of t e = doomed_in t e e.event
 
 -- there is a key, and it is this one
 abbrev pub is_key : Option (List ℕ) → List ℕ → Bool

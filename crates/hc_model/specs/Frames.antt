@@ -15,7 +15,7 @@ use Rattle.hc_model.specs.Cases.{case_at, is_founding}
 use Rattle.hc_model.specs.ConsumerRows.{own_after, due_after, back_in_line}
 use Rattle.hc_model.specs.Currents.{current, is_current, is_number}
 use Rattle.hc_model.specs.Denials.{denial}
-use Rattle.hc_model.specs.Dooms.{doomed, bypass_key}
+use Rattle.hc_model.specs.Dooms.{doomed_key_of, bypass_key}
 use Rattle.hc_model.specs.Effects.{waits_for}
 use Rattle.hc_model.specs.Entries.{Entry}
 use Rattle.hc_model.specs.Evictions.{unevicting_entry}
@@ -121,7 +121,7 @@ are_acts_of r e =
 -- the entry speaks of r
 abbrev pub speaks_of : Tables → Entry → ℕ → Bool
 speaks_of t e r =
-    is_event_of t e r e.event || is_current_for t (doomed t e) r || is_current_for t (bypass_key e) r
+    is_event_of t e r e.event || is_current_for t (doomed_key_of t e) r || is_current_for t (bypass_key e) r
     || are_acts_of r e
 
 abbrev pub OthersStay : Type 0
@@ -137,7 +137,7 @@ OthersDontGo =
 
 -- why r goes
 pub data GoesBy (t : Tables) (e : Entry) (r : ℕ) (v : Representation) : Type 0 where
-  by_doom : current t v.key ≡ Some r → doomed t e ≡ Some v.key → GoesBy t e r v
+  by_doom : current t v.key ≡ Some r → doomed_key_of t e ≡ Some v.key → GoesBy t e r v
   by_bypass : current t v.key ≡ Some r → bypass_key e ≡ Some v.key → GoesBy t e r v
   by_head : (x : ℕ) (response : Response) (w : Exchange) → e.event ≡ event.Head x response →
       t.exchange x ≡ Some w → goes_by_case t e r (case_at t e) w ≡ true → GoesBy t e r v
@@ -202,7 +202,7 @@ StandersStay =
 
 -- why it starts over at another's event
 pub data StartsOverBy (t : Tables) (e : Entry) (k : Consumer) : Type 0 where
-  by_doom : doomed t e ≡ Some k.request.key → waits_at t k.place ≡ true → StartsOverBy t e k
+  by_doom : doomed_key_of t e ≡ Some k.request.key → waits_at t k.place ≡ true → StartsOverBy t e k
   by_going : (r : ℕ) (kept : Option ℕ) → k.place ≡ place.Passed r kept →
       goes_in t e r (t.representation r) ≡ true → StartsOverBy t e k
 

@@ -14,7 +14,7 @@ use Rattle.hc_model.specs.Rows.{Tables, Exchange, Representation}
 use Rattle.hc_model.specs.Exchanges.{promised_bytes, exchange_at}
 use Rattle.hc_model.specs.Currents.{is_current, is_number}
 use Rattle.hc_model.specs.Cases.{case_at}
-use Rattle.hc_model.specs.Dooms.{doomed, bypass_key, is_key}
+use Rattle.hc_model.specs.Dooms.{doomed_key_of, bypass_key, is_key}
 
 -- BY A HEAD
 
@@ -86,7 +86,7 @@ is_keepable v =
 -- by a doom or a bypass while it is current, by a head, by a loss, a failed read or an early end
 abbrev pub goes_itself : Tables → Entry → ℕ → Representation → Bool
 goes_itself t e r v =
-    (is_current t v.key r && (is_key (doomed t e) v.key || is_key (bypass_key e) v.key))
+    (is_current t v.key r && (is_key (doomed_key_of t e) v.key || is_key (bypass_key e) v.key))
     || goes_by_head t e r
     || loses_in r e.acts
     || misreads_in r e.acts

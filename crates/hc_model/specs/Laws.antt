@@ -27,7 +27,7 @@ use Rattle.hc_model.specs.Currents.{current}
 use Rattle.hc_model.specs.Cases.{was_shown}
 use Rattle.hc_model.specs.Reading.{is_written, bound, own_open}
 use Rattle.hc_model.specs.Writers.{came_alone, loses_writing, survivor}
-use Rattle.hc_model.specs.Dooms.{doomed, is_key}
+use Rattle.hc_model.specs.Dooms.{doomed_key_of, is_key}
 use Rattle.hc_model.specs.Lines.{turn}
 use Rattle.hc_model.specs.Tables.{tables, first_tables, after_accepted, after_denied}
 use Rattle.hc_model.specs.Denials.{denial}
@@ -106,7 +106,7 @@ pub record WaitsEnd (t : Tables) : Type 0 where
 
 abbrev pub barrier_at : Tables → Entry → ℕ → List ℕ → ℕ
 barrier_at t e before key =
-    if not (is_denied e.acts) && is_key (doomed t e) key then t.opened else before
+    if not (is_denied e.acts) && is_key (doomed_key_of t e) key then t.opened else before
 
 -- the last exchange that was opened before the last doom of a key; none of what a store begins
 -- with is behind a doom

@@ -16,7 +16,7 @@ use Rattle.hc_model.specs.Reading.{is_bound}
 use Rattle.hc_model.specs.Tables.{tables}
 use Rattle.hc_model.specs.Weights.{room_for}
 use Rattle.hc_model.specs.Answers.{answer}
-use Rattle.hc_model.specs.Writes.{written}
+use Rattle.hc_model.specs.Writes.{written_representation}
 
 -- WHAT MAY FAIL
 
@@ -48,7 +48,7 @@ may_misread t r _ = false
 abbrev pub may_be : Limits → Tables → Entry → Flaw → Bool
 may_be limits t e NoFlaw = has_room (room_for limits t e.now e.event)
 may_be limits t e (Loses r kind) =
-    is_number (written t e) r && is_kept (t.representation r)
+    is_number (written_representation t e) r && is_kept (t.representation r)
     && may_lose (room_for limits t e.now e.event) kind
 may_be limits t e (Misreads r) = may_misread t r e.event
 

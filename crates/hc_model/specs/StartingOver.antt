@@ -10,7 +10,7 @@ use Rattle.hc_model.specs.ActFilters.{fails_in}
 use Rattle.hc_model.specs.Rows.{Tables, Consumer}
 use Rattle.hc_model.specs.Exchanges.{is_headless, exchange_at, is_for}
 use Rattle.hc_model.specs.Cases.{case_at}
-use Rattle.hc_model.specs.Dooms.{doomed, is_key}
+use Rattle.hc_model.specs.Dooms.{doomed_key_of, is_key}
 use Rattle.hc_model.specs.Gone.{goes_in}
 
 -- the exchange whose head a consumer waits for, to found or to join by it
@@ -40,6 +40,6 @@ loses_what_it_waits_for t e c _ = false
 -- at a doom where it waits, where its own head says so, and where what it waits for becomes gone
 unfoldable pub starts_over : Tables → Entry → ℕ → Consumer → Bool
 starts_over t e c k =
-    (is_key (doomed t e) k.request.key && waits_at t k.place)
+    (is_key (doomed_key_of t e) k.request.key && waits_at t k.place)
     || (sends_back (case_at t e) && is_for (exchange_at t e.event) c)
     || loses_what_it_waits_for t e c k.place

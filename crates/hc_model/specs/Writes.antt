@@ -81,5 +81,5 @@ abbrev pub lossless : Entry → Entry
 lossless e = record e { acts = without_losses e.acts }
 
 -- the representation that an entry writes, as it would without a loss
-unfoldable pub written : Tables → Entry → Option ℕ
-written t e = written_in t (lossless e) e.event
+unfoldable pub written_representation : Tables → Entry → Option ℕ
+written_representation t e = written_in t (lossless e) e.event

@@ -30,7 +30,7 @@ use Rattle.hc_model.specs.Sound as sound
 use Rattle.hc_model.specs.Sound.{IsExclusiveWriter, IsBound}
 use Rattle.hc_model.specs.Weights.{evicted, room_for}
 use Rattle.hc_model.specs.Writers.{exclusive, has_more, offset_in, survivor}
-use Rattle.hc_model.specs.Writes.{written}
+use Rattle.hc_model.specs.Writes.{written_representation}
 use Rattle.hc_laws.proofs.Exclusives.{exclusive_parts}
 use Rattle.hc_laws.proofs.HadKeeps.{survivor_bound}
 use Rattle.hc_laws.proofs.HasBound.{reader_of}
@@ -136,8 +136,8 @@ module _ {B : Type 0} {g : Ghosts B} (r put : Rows B g) (t : Tables) (facts : Fa
   kept_now : Rattle.hc_model.specs.Runs.is_kept (t.representation q) ≡ true
   kept_now = ap Rattle.hc_model.specs.Runs.is_kept there ∙ (let fresh = it.fresh in rw fresh refl)
 
-  writes_it_now : (e : Rattle.hc_model.specs.Entries.Entry) → e.event ≡ ev → written t e ≡ Some q
-  unfolding written
+  writes_it_now : (e : Rattle.hc_model.specs.Entries.Entry) → e.event ≡ ev → written_representation t e ≡ Some q
+  unfolding written_representation
   writes_it_now e is = rw is (let row = it.row in let here = it.there in let fresh = it.fresh in let same = it.of_q in rw (row, here, fresh) (ap Some same))
 
   fault_of : (k : LostKind) → is_fault (Loses q k) ≡ true → k ≡ kinds.Fault

@@ -24,7 +24,7 @@ use Rattle.hc_model.specs.Reading.{is_bound}
 use Rattle.hc_model.specs.RepresentationRows.{with_total_if_none}
 use Rattle.hc_model.specs.Rows as rows
 use Rattle.hc_model.specs.Rows.{Tables, Exchange, Representation}
-use Rattle.hc_model.specs.Writes.{written}
+use Rattle.hc_model.specs.Writes.{written_representation}
 use Rattle.hc_model.specs.Writers.{exclusive}
 use Rattle.hc_laws.proofs.StopEffects as past_effects
 use Rattle.hc_laws.proofs.StopFrames.{end_of}
@@ -106,7 +106,7 @@ module _ {B : Type 0} {g : Ghosts B} (limits : Limits) (faults : ℕ) (u : Rows 
   by_end : (s z : Tables) → z ≡ s → Does limits t now (event.End x) NoFlaw [] (with_event now (event.End x) (let_some_go now (if is_short w then going_with t (Some x) else None) z))
       → ((r : ℕ) (v : Representation) → family x w ≡ r → t.representation r ≡ Some v → v.is_lost ≡ false → Does limits t now (event.End x) (Loses r kind.Fault) (act.Lost r kind.Fault ∷ []) (with_event now (event.End x) (let_go now r (with_loss r (exclusive t r v) z))))
       → StopsBy limits t now x w (event.End x) s
-  unfolding written
+  unfolding written_representation
   by_end s z same quiet loses = record {
     quiet =
         subst (λ (a : Tables). Does limits t now (event.End x) NoFlaw [] (with_event now (event.End x) (let_some_go now (going_with t (Some x)) a))) same

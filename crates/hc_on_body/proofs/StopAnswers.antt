@@ -28,7 +28,7 @@ use Rattle.hc_model.specs.Rows.{Tables, Exchange, Representation}
 use Rattle.hc_model.specs.Runs.{is_kept}
 use Rattle.hc_model.specs.Tables.{received_in}
 use Rattle.hc_model.specs.Weights.{write_in}
-use Rattle.hc_model.specs.Writes.{written, sealed_representation, lossless, stops}
+use Rattle.hc_model.specs.Writes.{written_representation, sealed_representation, lossless, stops}
 use Rattle.hc_model.specs.Writers.{exclusive}
 use Rattle.hc_laws.proofs.StopEffects as past_effects
 use Rattle.hc_laws.proofs.StopSeals as seal_effects
@@ -96,7 +96,7 @@ pub record StopsBy (limits : Limits) (t : Tables) (now x : ℕ) (w : Exchange) (
   pub bodiless : received_in ev ≡ 0
   pub stops_at : (y : ℕ) → stops y ev ≡ nat_eq x y
   pub early_at : (y : ℕ) (z : Exchange) → stops_early z y ev ≡ true → nat_eq x y ≡ true
-  pub seals : (acts : List Act) → written t (record { now = now; event = ev; acts = acts }) ≡ sealed_representation t (lossless (record { now = now; event = ev; acts = acts }))
+  pub seals : (acts : List Act) → written_representation t (record { now = now; event = ev; acts = acts }) ≡ sealed_representation t (lossless (record { now = now; event = ev; acts = acts }))
 
 or_none : (b : Bool) → (b || false) ≡ b
 or_none true = refl
@@ -125,7 +125,7 @@ module _ {B : Type 0} {g : Ghosts B} (limits : Limits) (faults : ℕ) (u : Rows 
       let does = by.loses q.r q.v of_r q.there kept in
       let e : Entry = record { now = now; event = ev; acts = [] } in
       lossy_answered limits faults u t (with_event now ev z) before out (act.Lost q.r kind.Fault ∷ []) now ev q.r does
-      (ap (λ (acts : List Act). written t (record { now = now; event = ev; acts = acts })) does.acts_are
+      (ap (λ (acts : List Act). written_representation t (record { now = now; event = ev; acts = acts })) does.acts_are
       ∙ (by.seals (act.Lost q.r kind.Fault ∷ [])
       ∙ sealed_stopping t law e x w q.r q.v row of_r q.there q.stays q.kept (λ y. or_none (stops y ev) ∙ by.stops_at y) (λ y a on. by.early_at y a (sym (or_none (stops_early a y ev)) ∙ on))))
       (rw (q.there, kept) refl) refl l.failed l.acts
@@ -167,7 +167,7 @@ module _ {B : Type 0} {g : Ghosts B} (limits : Limits) (faults : ℕ) (u : Rows 
   by_fault : (s : Tables) → Does limits t now (event.Fault x) NoFlaw [] (with_event now (event.Fault x) (let_some_go now (going_with t (Some x)) s))
       → ((r : ℕ) (v : Representation) → family x w ≡ r → t.representation r ≡ Some v → v.is_lost ≡ false → Does limits t now (event.Fault x) (Loses r kind.Fault) (act.Lost r kind.Fault ∷ []) (with_event now (event.Fault x) (let_go now r (with_loss r (exclusive t r v) s))))
       → StopsBy limits t now x w (event.Fault x) s
-  unfolding written
+  unfolding written_representation
   by_fault s quiet loses = record {
     quiet = quiet;
     loses = loses;

@@ -44,7 +44,7 @@ use Rattle.hc_model.specs.Rows.{Tables, Exchange, Representation}
 use Rattle.hc_model.specs.Sound as sound
 use Rattle.hc_model.specs.Sound.{IsAbout, Among, OneCurrent}
 use Rattle.hc_model.specs.Whose as whose
-use Rattle.hc_model.specs.Writes.{written, sealed_representation}
+use Rattle.hc_model.specs.Writes.{written_representation, sealed_representation}
 use Rattle.hc_model.specs.Writers.{exclusive, status_in}
 use Rattle.hc_laws.proofs.LettingGo.{may_let_go, bound_let_go}
 use Rattle.hc_laws.proofs.StopEffects as past_effects
@@ -286,7 +286,7 @@ module _ (limits : Limits) (t : Tables) (facts : Facts limits t) (now x : ℕ) (
           (shelf_of u.entries) (ap (λ z. (shelf_of z).order) entries) (λ q ne. ap (λ z. (shelf_of z).kept q) entries) each_now)
 
       pub whole_answered : SealedWhole faults r mid t before out now x v n → Answered limits faults u t before out now (event.End x)
-      unfolding bound written
+      unfolding bound written_representation
       whole_answered (stopped.gone is_gone same unchanged) =
           quietly_ends same (gone_stays t v (subst (λ z. RowsStand z t) (sym unchanged) stands) row here measured.untold is_gone refl used unread awaits_none none_first)
       whole_answered (stopped.sealed stays same rest seals) = quietly_ends same (by_kept ((shelf_of r.entries).kept x) refl (subst (KeepsEntry t x ((shelf_of r.entries).kept x)) here (stands.entries.each x)))
@@ -329,7 +329,7 @@ module _ (limits : Limits) (t : Tables) (facts : Facts limits t) (now x : ℕ) (
               (shelf_of u.entries) (ap (λ z. (shelf_of z).order) entries ∙ seals.order) (λ q ne. ap (λ z. (shelf_of z).kept q) entries ∙ (seals.kept q ∙ rw (eqb-other x q ne) refl)) each_now)
       whole_answered (stopped.lost stays told_so failed rows) =
           lossy_answered limits faults u t (with_event now (event.End x) model) before out (act.Lost x kind.Fault ∷ []) now (event.End x) x (loses stays)
-          (ap (λ (acts : List Act). written t (record { now = now; event = event.End x; acts = acts })) (loses stays).acts_are ∙ written_is)
+          (ap (λ (acts : List Act). written_representation t (record { now = now; event = event.End x; acts = acts })) (loses stays).acts_are ∙ written_is)
           (rw (here, kept stays) refl) refl (subst (λ z. faults < (shelf_of z).faults) (sym entries) failed) told_so
           (stands_counted u model now (event.End x) refl (subst (RowsStand u) (lost_whole t now x n w v (exclusive t x v) here (none_alone limits t facts x w broken x v (coming stays).written))
           (gone_stays after (as_gone (lost_to None v)) rows row gone_here measured.untold refl refl used_then (unread_go now x before_it x unread) (unawaited_go now x before_it x awaits_none) (nobody_first_go now x x before_it none_first_before))))
@@ -372,7 +372,7 @@ module _ (limits : Limits) (t : Tables) (facts : Facts limits t) (now x : ℕ) (
               let off : stops_early z x (event.End x) ≡ false = ap (λ (q : Exchange). nat_eq x x && is_short q) same ∙ then_false (nat_eq x x) (is_short w) not_short in
               false_true (sym off ∙ (sym (or_none (stops_early z x (event.End x))) ∙ on))
 
-          written_is : written t (record { now = now; event = event.End x; acts = act.Lost x kind.Fault ∷ [] }) ≡ Some x
+          written_is : written_representation t (record { now = now; event = event.End x; acts = act.Lost x kind.Fault ∷ [] }) ≡ Some x
           written_is = sealed_lasting t law e x w x v row measured.own here stays (λ y. or_none (nat_eq x y)) never_early
 
 -- WHAT THE CODE LOOKS AT

@@ -21,7 +21,7 @@ ghost use Rattle.hc_model.specs.Rows.{Tables, Exchange, Representation};
 ghost use Rattle.hc_state.specs.Pieces.{stored_by, larger_view, IsLastKind, PutsPiece};
 ghost use Rattle.hc_state.specs.Refused.{brought_lost, own_loss, LosesPiece, MayLoseOwn, MayLosePiece, RefusesPiece};
 ghost use Rattle.hc_state.specs.Stands.{RowsStand, Stays, Answers, Stands, open_at};
-ghost use Rattle.hc_state.specs.Stops.{kind_left, IsTold};
+ghost use Rattle.hc_state.specs.Stops.{kind_left, IsViewOf};
 
 use hc_event::{Acts, LostKind};
 use hc_exch::{ExchangeView, Role};
@@ -284,7 +284,7 @@ fn last_kind<B: Backend>(rows: &Rows<B>, r: u64, view: &ExchangeView, count: u64
     requires end { view.now.base + view.now.delivered + count ≤ 2 ^ 62 }
     ensures { (x : ℕ) (bytes : List ℕ) (v : Representation) (k : Kept)
         → length bytes ≡ count → (shelf_of rows.now.entries).kept r ≡ Some k
-        → IsTold v (cells_with (view.now.base + view.now.delivered) x bytes k.cells)
+        → IsViewOf v (cells_with (view.now.base + view.now.delivered) x bytes k.cells)
         (larger_view count (view_of k))
         → IsLastKind (is_all view.now.promised (view.now.delivered + count)) v result }
 {
@@ -304,7 +304,7 @@ fn kind_with<B: Backend>(rows: &Rows<B>, r: u64, at: u64, count: u64) -> Kind
     requires end { at + count ≤ 2 ^ 62 }
     ensures { (x : ℕ) (bytes : List ℕ) (v : Representation) (k : Kept)
         → length bytes ≡ count → (shelf_of rows.now.entries).kept r ≡ Some k
-        → IsTold v (cells_with at x bytes k.cells) (larger_view count (view_of k))
+        → IsViewOf v (cells_with at x bytes k.cells) (larger_view count (view_of k))
         → result ≡ kind_left v }
 {
     let entry = rows.entries.entry(r).unwrap();

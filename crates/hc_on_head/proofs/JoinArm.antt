@@ -42,7 +42,7 @@ use Rattle.hc_model.specs.Rows as rows
 use Rattle.hc_model.specs.Rows.{Tables, Exchange, Representation}
 use Rattle.hc_model.specs.Runs.{is_kept}
 use Rattle.hc_model.specs.Writers.{exclusive}
-use Rattle.hc_model.specs.Writes.{written, head_writes, may_validate, lossless}
+use Rattle.hc_model.specs.Writes.{written_representation, head_writes, may_validate, lossless}
 use Rattle.hc_model.proofs.FirstKeeps.{case_is}
 use Rattle.hc_model.proofs.FoundBy.{case_by}
 use Rattle.hc_model.proofs.ExclusiveWriters.{filter_some}
@@ -216,8 +216,8 @@ module _ {B : Type 0} {g : Ghosts B} (r u : Rows B g) (t : Tables) (facts : Fact
       (stands_counted u _ now ev refl (subst (λ (n : Bool). RowsStand u (after n)) same stood))
 
   -- lost
-  writes_it : written t (entry_of r.limits t now ev (Loses q kind.Fault)) ≡ Some q
-  unfolding written
+  writes_it : written_representation t (entry_of r.limits t now ev (Loses q kind.Fault)) ≡ Some q
+  unfolding written_representation
   writes_it =
       let e = entry_of r.limits t now ev (Loses q kind.Fault) in
       let k = head_case (head_view t (has_loss (lossless e).acts) w response) in

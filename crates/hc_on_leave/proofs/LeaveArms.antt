@@ -26,7 +26,7 @@ use Rattle.hc_model.specs.Rows as rows
 use Rattle.hc_model.specs.Rows.{Tables, Representation}
 use Rattle.hc_model.specs.Runs.{is_kept}
 use Rattle.hc_model.specs.Tables.{with_item_first}
-use Rattle.hc_model.specs.Writes.{written}
+use Rattle.hc_model.specs.Writes.{written_representation}
 use Rattle.hc_model.specs.Writers.{exclusive}
 use Rattle.hc_model.proofs.FailsTold.{fails_told}
 use Rattle.hc_laws.proofs.LeaveEffects as effects
@@ -84,7 +84,7 @@ module _ {B : Type 0} {g : Ghosts B} (limits : Limits) (faults : ℕ) (u : Rows 
   kept_by r v there stays = rw (there, not_lost r v there stays) refl
 
   pub cancel_answered : (before out : List Act) → HasLeft faults u t before out now c k → Answered limits faults u t before out now (event.Cancel c)
-  unfolding written
+  unfolding written_representation
   cancel_answered before out (quietly acts rows) =
       let s : Tables = let_some_go now (going_with t (left_by t c k)) (with_leave c k t) in
       does_answered limits faults u t (with_event now (event.Cancel c) s) before out (map act.Close (with_item_first (left_by t c k) [])) now (event.Cancel c) (effects.cancels limits t law now c k row) refl
@@ -94,7 +94,7 @@ module _ {B : Type 0} {g : Ghosts B} (limits : Limits) (faults : ℕ) (u : Rows 
       let s : Tables = let_go now q.r (with_representation q.r (Some (lost_to (exclusive t q.r q.v) q.v)) (with_leave c k t)) in
       let does = seal_effects.seal_cancels limits t law now c k row f.x q.w q.r q.v kind.Fault f.left q.row q.of_r q.there (not_lost q.r q.v q.there q.stays) in
       lossy_answered limits faults u t (with_event now (event.Cancel c) s) before out (act.Close f.x ∷ act.Lost q.r kind.Fault ∷ []) now (event.Cancel c) q.r does
-      (ap (λ acts. written t (record { now = now; event = event.Cancel c; acts = acts })) does.acts_are
+      (ap (λ acts. written_representation t (record { now = now; event = event.Cancel c; acts = acts })) does.acts_are
       ∙ sealed_leaving t law (record { now = now; event = event.Cancel c; acts = act.Close f.x ∷ [] }) f.x q.w q.r q.v q.row q.of_r q.there q.stays q.kept (λ y. refl) (λ y z. refl) (λ y. or_off (nat_eq f.x y)))
       (kept_by q.r q.v q.there q.stays) refl f.failed f.acts (stands_counted u s now (event.Cancel c) refl f.rows)
     where
@@ -109,11 +109,11 @@ module _ {B : Type 0} {g : Ghosts B} (limits : Limits) (faults : ℕ) (u : Rows 
 
     -- what is sealed is what the poll writes
     writes : (x : ℕ) (w : rows.Exchange) (r : ℕ) (v : Representation) → t.exchange x ≡ Some w → family x w ≡ r → t.representation r ≡ Some v → v.is_gone ≡ false → going_with t (Some x) ≡ None
-        → written t (record { now = now; event = event.Poll c want; acts = front ++ (act.Close x ∷ act.Lost r kind.Fault ∷ []) }) ≡ Some r
-    unfolding written
+        → written_representation t (record { now = now; event = event.Poll c want; acts = front ++ (act.Close x ∷ act.Lost r kind.Fault ∷ []) }) ≡ Some r
+    unfolding written_representation
     writes x w r v ex of_r there stays kept = by_front tells
       where
-        by_front : TellsOf front → written t (record { now = now; event = event.Poll c want; acts = front ++ (act.Close x ∷ act.Lost r kind.Fault ∷ []) }) ≡ Some r
+        by_front : TellsOf front → written_representation t (record { now = now; event = event.Poll c want; acts = front ++ (act.Close x ∷ act.Lost r kind.Fault ∷ []) }) ≡ Some r
         by_front (nothing is) = rw is (sealed_leaving t law (record { now = now; event = event.Poll c want; acts = act.Close x ∷ [] }) x w r v ex of_r there stays kept (λ y. refl) (λ y z. refl) (λ y. or_off (nat_eq x y)))
         by_front (ended d is) = rw is (sealed_leaving t law (record { now = now; event = event.Poll c want; acts = act.Ended d ∷ act.Close x ∷ [] }) x w r v ex of_r there stays kept (λ y. refl) (λ y z. refl) (λ y. or_off (nat_eq x y)))
         by_front (failed d why told is) = rw is (sealed_leaving t law (record { now = now; event = event.Poll c want; acts = act.Failed d why ∷ act.Close x ∷ [] }) x w r v ex of_r there stays kept (λ y. refl) (λ y z. refl) (λ y. or_off (nat_eq x y)))
@@ -134,7 +134,7 @@ module _ {B : Type 0} {g : Ghosts B} (limits : Limits) (faults : ℕ) (u : Rows 
         let s : Tables = let_go now q.r (with_representation q.r (Some (lost_to (exclusive t q.r q.v) q.v)) (with_leave c k t)) in
         let does = seal_does f.x q.w q.r q.v f.left q.row q.of_r q.there (not_lost q.r q.v q.there q.stays) in
         lossy_answered limits faults u t (with_event now (event.Poll c want) s) before out (front ++ (act.Close f.x ∷ act.Lost q.r kind.Fault ∷ [])) now (event.Poll c want) q.r does
-        (ap (λ acts. written t (record { now = now; event = event.Poll c want; acts = acts })) does.acts_are ∙ writes f.x q.w q.r q.v q.row q.of_r q.there q.stays q.kept)
+        (ap (λ acts. written_representation t (record { now = now; event = event.Poll c want; acts = acts })) does.acts_are ∙ writes f.x q.w q.r q.v q.row q.of_r q.there q.stays q.kept)
         (kept_by q.r q.v q.there q.stays) (shows front (act.Close f.x ∷ act.Lost q.r kind.Fault ∷ []) tells) f.failed (then_told before mid out (act.Close f.x ∷ act.Lost q.r kind.Fault ∷ []) first f.acts) (stands_counted u s now (event.Poll c want) refl f.rows)
 
   pub end_answered : (want : ℕ) (before mid out : List Act) → move_of t now want c k ≡ Ends → mid ≡ before ++ (act.Ended c ∷ []) → HasLeft faults u t mid out now c k → Answered limits faults u t before out now (event.Poll c want)

@@ -43,7 +43,7 @@ use Rattle.hc_model.specs.Rows.{Tables, Exchange, Representation}
 use Rattle.hc_model.specs.Runs.{is_kept}
 use Rattle.hc_model.specs.Sound.{IsGrowing}
 use Rattle.hc_model.specs.Writers.{exclusive, survivor, offset_in}
-use Rattle.hc_model.specs.Writes.{written, head_writes, may_validate, lossless}
+use Rattle.hc_model.specs.Writes.{written_representation, head_writes, may_validate, lossless}
 use Rattle.hc_model.proofs.FirstKeeps.{case_is}
 use Rattle.hc_model.proofs.FoundBy.{unchanged_founds}
 use Rattle.hc_model.proofs.KeysKeep.{current_row}
@@ -219,8 +219,8 @@ module _ {B : Type 0} {g : Ghosts B} (r second : Rows B g) (t : Tables) (facts :
   may_now : may_validate t w response ≡ true
   may_now = ap (λ b. b && is_same_number (current t w.request.key) w.aim) (parts (head_view t false w response) unselected).1 ∙ rw (cur, aim) (eqb-same q)
 
-  writes_there : written t (entry_of r.limits t now ev (Loses q kind.Fault)) ≡ Some q
-  unfolding written
+  writes_there : written_representation t (entry_of r.limits t now ev (Loses q kind.Fault)) ≡ Some q
+  unfolding written_representation
   writes_there =
       let e = entry_of r.limits t now ev (Loses q kind.Fault) in
       let off : is_founding (case_at t (lossless e)) ≡ false = ap is_founding (case_is t (lossless e) x response w refl row) ∙ unchanged_founds (head_view t (has_loss (lossless e).acts) w response) status_is in

@@ -12,7 +12,7 @@ use Rattle.hc_stored.specs.Views.{view_of}
 use Rattle.hc_model.specs.Kinds.{is_complete, is_front}
 use Rattle.hc_model.specs.Rows.{Representation}
 use Rattle.hc_state.specs.Pieces.{larger_view}
-use Rattle.hc_state.specs.Stops.{IsTold, kind_left}
+use Rattle.hc_state.specs.Stops.{IsViewOf, kind_left}
 use Rattle.hc_state.proofs.StoredKinds.{complete_as, incomplete_as, front_as}
 use Rattle.hc_state.proofs.Words.{none_some, some_is}
 
@@ -37,7 +37,7 @@ none_told (Some n) off = absurd (off n refl)
 
 -- ITS KIND
 
-module _ (s : Shelf) (r at x count : ℕ) (bytes : List ℕ) (v : Representation) (k : Kept) (same : length bytes ≡ count) (kept : s.kept r ≡ Some k) (is : IsTold v (cells_with at x bytes k.cells) (larger_view count (view_of k))) where
+module _ (s : Shelf) (r at x count : ℕ) (bytes : List ℕ) (v : Representation) (k : Kept) (same : length bytes ≡ count) (kept : s.kept r ≡ Some k) (is : IsViewOf v (cells_with at x bytes k.cells) (larger_view count (view_of k))) where
   covered : (b : Bool) (end : ℕ) → ((x : ℕ) (bytes : List ℕ) → length bytes ≡ count → IsTrue b ↔ Covers (cells_with at x bytes (cells_at s r)) 0 end) → IsTrue b ↔ Covers (cells_with at x bytes k.cells) 0 end
   covered b end tells = subst (λ (o : Option Kept). IsTrue b ↔ Covers (cells_with at x bytes (λ p. cells_in o p)) 0 end) kept (tells x bytes same)
 

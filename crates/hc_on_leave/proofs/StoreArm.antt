@@ -50,7 +50,7 @@ use Rattle.hc_state.specs.Kept.{IsRunning}
 use Rattle.hc_state.specs.Pieces.{unless_lost, stored_at, stored_by, larger_view, IsLastKind, PutsPiece}
 use Rattle.hc_state.specs.Room.{GivesWay}
 use Rattle.hc_state.specs.Stands.{Answered, Answers, RowsStand, Stands, open_at}
-use Rattle.hc_state.specs.Stops.{brought_by, IsTold}
+use Rattle.hc_state.specs.Stops.{brought_by, IsViewOf}
 use Rattle.hc_state.specs.Stored.{IsEntry, KeepsEntry}
 use Rattle.hc_on_leave.proofs.PieceArm.{Brought, brought_of, Runs, runs_of, brings_it, not_too_long}
 use Rattle.hc_on_leave.proofs.PieceRoom.{may_make_room, room_same, gives_same, spared, room_there}
@@ -258,7 +258,7 @@ module _ {B : Type 0} {g : Ghosts B} (r mid put u : Rows B g) (t : Tables) (fact
   abbrev v2 : Representation
   v2 = with_stored_bytes true (front w) x bytes v
 
-  told : IsTold v2 (cells_with (runs.o.base + runs.o.delivered) x bytes second.k.cells) (larger_view (length bytes) (view_of second.k))
+  told : IsViewOf v2 (cells_with (runs.o.base + runs.o.delivered) x bytes second.k.cells) (larger_view (length bytes) (view_of second.k))
   told = record {
     total = tells mid u r.limits t facts now x bytes goes w v it.row it.taken.is_open it.taken.headed it.taken.some it.taken.fits it.there it.fresh es kept_apart second.k second.is.length;
     size = ap (λ n. n + length bytes) (stored_size r t facts (family x w) v second.k (without now es t) few it.there second.is);

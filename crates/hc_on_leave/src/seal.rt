@@ -14,7 +14,7 @@ ghost use Rattle.hc_state.specs.Changes.{KeepsLive};
 ghost use Rattle.hc_state.specs.Facts.{Facts};
 ghost use Rattle.hc_state.specs.declared.stop.Stop.TheVariants as stop;
 ghost use Rattle.hc_state.specs.Stopped.{with_consumers, HoldsNothing, MayStop, HasStopped};
-ghost use Rattle.hc_state.specs.Stops.{stop_of, brought_by, may_complete, IsTold, kind_left};
+ghost use Rattle.hc_state.specs.Stops.{stop_of, brought_by, may_complete, IsViewOf, kind_left};
 ghost use Rattle.hc_state.specs.Stands.{RowsStand};
 ghost use Rattle.hc_state.specs.Stored.{TellsShort};
 
@@ -126,7 +126,7 @@ fn seal_stopped<B: Backend>(
 /// What is stored of a representation of which nothing more comes.
 fn kind_without<B: Backend>(rows: &Rows<B>, r: u64, entry: &EntryView) -> Kind
     requires there { is_kept (shelf_of rows.now.entries) r ≡ true }
-    ensures { (v : Representation) → IsTold v (cells_at (shelf_of rows.now.entries) r) entry.now
+    ensures { (v : Representation) → IsViewOf v (cells_at (shelf_of rows.now.entries) r) entry.now
         → result ≡ kind_left v }
 {
     if is_complete(rows, r, entry) {
@@ -142,7 +142,7 @@ fn kind_without<B: Backend>(rows: &Rows<B>, r: u64, entry: &EntryView) -> Kind
 #[tactic(auto, using(hc_state::proofs::StoredKinds::complete_as, hc_state::proofs::StoredKinds::incomplete_as))]
 fn is_complete<B: Backend>(rows: &Rows<B>, r: u64, entry: &EntryView) -> bool
     requires there { is_kept (shelf_of rows.now.entries) r ≡ true }
-    ensures { (v : Representation) → IsTold v (cells_at (shelf_of rows.now.entries) r) entry.now
+    ensures { (v : Representation) → IsViewOf v (cells_at (shelf_of rows.now.entries) r) entry.now
         → result ≡ is_complete v }
 {
     match entry.total {
@@ -155,7 +155,7 @@ fn is_complete<B: Backend>(rows: &Rows<B>, r: u64, entry: &EntryView) -> bool
 #[tactic(auto, using(hc_state::proofs::StoredKinds::front_as, hc_state::proofs::StoredKinds::no_front_as))]
 fn is_front<B: Backend>(rows: &Rows<B>, r: u64, entry: &EntryView) -> bool
     requires there { is_kept (shelf_of rows.now.entries) r ≡ true }
-    ensures { (v : Representation) → IsTold v (cells_at (shelf_of rows.now.entries) r) entry.now
+    ensures { (v : Representation) → IsViewOf v (cells_at (shelf_of rows.now.entries) r) entry.now
         → result ≡ is_front v }
 {
     if entry.size > 0 {

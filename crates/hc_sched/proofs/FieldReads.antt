@@ -11,7 +11,7 @@ use Rattle.hc_fields.specs.Lines.{field_text, is_lower_byte}
 use Rattle.hc_fields.proofs.Ends.{IsField-last, IsFieldList-prefix, sorted-last, put-last}
 use Rattle.hc_fields.proofs.FieldTexts.{IsLine-field}
 use Rattle.hc_fields.proofs.ReadLemmas.{IsCut-field}
-use Rattle.hc_sched.specs.FieldLines.{named, is_lower_token, has_room, may_follow, field_of}
+use Rattle.hc_sched.specs.FieldLines.{field_parts, is_lower_token, has_room, may_follow, field_of}
 use Rattle.hc_sched.specs.Schedule.{IsHead}
 use Rattle.hc_text.proofs.Cutting.{cut-first, behind-append, lacks-append}
 
@@ -43,8 +43,8 @@ pub lacks-field : (f : Pair) → IsField f → lacks 10 (line_of f) ≡ true
 lacks-field f h =
     lacks-append 10 f.0 (58 ∷ 32 ∷ f.1) (lacks-failing is_lower_byte 10 f.0 feed_ends (IsCut-field f h).0) (IsLine-field f h).1
 
-named-line : (f : Pair) → IsField f → named (line_of f) ≡ Some f
-unfolding named
+named-line : (f : Pair) → IsField f → field_parts (line_of f) ≡ Some f
+unfolding field_parts
 named-line f h = rw (cut-first 58 f.0 (32 ∷ f.1) (IsLine-field f h).0, behind-append (codes " ") f.1) refl
 
 size-push : (fs : List Pair) (f : Pair) → size_of (fs ++ f ∷ []) ≡ size_of fs + (length f.0 + length f.1)

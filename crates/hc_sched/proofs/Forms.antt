@@ -8,7 +8,7 @@ use Rattle.hc_text.specs.Texts.{lacks, IsSmall}
 use Rattle.hc_event.specs.declared.event.Event.TheVariants as event
 use Rattle.hc_event.specs.declared.event.Load.{Load}
 use Rattle.hc_event.specs.declared.event.Load.TheVariants as load
-use Rattle.hc_sched.specs.Words.{plain_of, plain_within, numbered}
+use Rattle.hc_sched.specs.Words.{plain_of, plain_within, number_and_rest}
 use Rattle.hc_text.specs.Cuts.{behind}
 use Rattle.hc_sched.specs.Pieces.{piece_text}
 use Rattle.hc_target.specs.Targets.{is_target, is_short_word}
@@ -19,8 +19,8 @@ use Rattle.hc_sched.proofs.Plain.{plain_of-decimal, lacks-decimal, plain-short}
 use Rattle.hc_sched.proofs.Hex.{IsPiece, is_piece_text-of, lacks-piece_text, length-piece_text}
 use Rattle.hc_sched.proofs.FieldReads.{lacks-failing}
 
-numbered-is : (n : ℕ) (rest : List ℕ) → IsSmall n → numbered (decimal n ++ 32 ∷ rest) ≡ Some (n, rest)
-unfolding numbered
+numbered-is : (n : ℕ) (rest : List ℕ) → IsSmall n → number_and_rest (decimal n ++ 32 ∷ rest) ≡ Some (n, rest)
+unfolding number_and_rest
 numbered-is n rest h =
     rw (cut-first 32 (decimal n) rest (lacks-decimal 32 n (omega arith) h), plain_of-decimal (decimal n) n (h, refl)) refl
 

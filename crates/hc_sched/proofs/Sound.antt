@@ -8,7 +8,7 @@ use Rattle.hc_text.specs.Texts.{IsSmall}
 use Rattle.hc_event.specs.declared.event.Event.TheVariants as event
 use Rattle.hc_event.specs.declared.event.Load.{Load}
 use Rattle.hc_event.specs.declared.event.Load.TheVariants as load
-use Rattle.hc_sched.specs.Words.{◌>>=◌, or_else, plain_of, plain_within, numbered}
+use Rattle.hc_sched.specs.Words.{◌>>=◌, or_else, plain_of, plain_within, number_and_rest}
 use Rattle.hc_text.specs.Cuts.{cut, behind}
 use Rattle.hc_sched.specs.Pieces.{piece_text, bytes_of, is_piece_text}
 use Rattle.hc_sched.specs.FirstLines.{First, Sets, Starts, Heads, Brings, Dooms, Tells, is_method, is_word, load_of, how_of, start_of, poll_of, head_of, piece_of, doom_of, first_of}
@@ -37,8 +37,8 @@ record BeginsWith (words : List ℕ) (parts : ℕ × List ℕ) : Type 0 where
   small : IsSmall parts.0
   text : decimal parts.0 ++ 32 ∷ parts.1 ≡ words
 
-numbered-parts : (words : List ℕ) (parts : ℕ × List ℕ) → numbered words ≡ Some parts → BeginsWith words parts
-unfolding numbered
+numbered-parts : (words : List ℕ) (parts : ℕ × List ℕ) → number_and_rest words ≡ Some parts → BeginsWith words parts
+unfolding number_and_rest
 numbered-parts words parts h =
     let first = bind-Some (cut 32 words) (λ p. plain_of p.0 >>= (λ n. Some (n, p.1))) parts h in
     let second = bind-Some (plain_of first.0.0) (λ n. Some (n, first.0.1)) parts first.2 in
@@ -127,7 +127,7 @@ load_of-parts word kind h =
 start_of-parts : (line words : List ℕ) (f : First) → codes "start " ++ words ≡ line → start_of words ≡ Some f → Says line f
 unfolding start_of how_of
 start_of-parts line words f is h =
-    let first = bind-Some (numbered words) _ f h in
+    let first = bind-Some (number_and_rest words) _ f h in
     let begins = numbered-parts words first.0 first.1 in
     let second = bind-Some (cut 32 first.0.1) _ f first.2 in
     let named = append-cut 32 first.0.1 second.0 second.1 in
@@ -155,7 +155,7 @@ start_of-parts line words f is h =
 poll_of-parts : (line words : List ℕ) (f : First) → codes "poll " ++ words ≡ line → poll_of words ≡ Some f → Says line f
 unfolding poll_of
 poll_of-parts line words f is h =
-    let first = bind-Some (numbered words) _ f h in
+    let first = bind-Some (number_and_rest words) _ f h in
     let begins = numbered-parts words first.0 first.1 in
     let second = bind-Some (plain_within 0 65536 first.0.1) _ f first.2 in
     let want = plain_within-parts 0 65536 first.0.1 second.0 second.1 in
@@ -168,7 +168,7 @@ poll_of-parts line words f is h =
 head_of-parts : (line words : List ℕ) (f : First) → codes "head " ++ words ≡ line → head_of words ≡ Some f → Says line f
 unfolding head_of
 head_of-parts line words f is h =
-    let first = bind-Some (numbered words) _ f h in
+    let first = bind-Some (number_and_rest words) _ f h in
     let begins = numbered-parts words first.0 first.1 in
     let second = bind-Some (cut 32 first.0.1) _ f first.2 in
     let named = append-cut 32 first.0.1 second.0 second.1 in
@@ -187,7 +187,7 @@ head_of-parts line words f is h =
 piece_of-parts : (line words : List ℕ) (f : First) → codes "piece " ++ words ≡ line → piece_of words ≡ Some f → Says line f
 unfolding piece_of
 piece_of-parts line words f is h =
-    let first = bind-Some (numbered words) _ f h in
+    let first = bind-Some (number_and_rest words) _ f h in
     let begins = numbered-parts words first.0 first.1 in
     let passes = test_passes (is_piece_text first.0.1) (Brings first.0.0 first.0.1) f first.2 in
     let piece = IsPiece-text first.0.1 passes.0 in

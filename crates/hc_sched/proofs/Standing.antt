@@ -20,7 +20,7 @@ use Rattle.hc_text.specs.Cuts.{cut, behind}
 use Rattle.hc_sched.specs.Pieces.{bytes_of}
 use Rattle.hc_target.specs.Targets.{is_target}
 use Rattle.hc_sched.specs.FirstLines.{First, Sets, Starts, Heads, Brings, Dooms, Tells, is_method, first_of}
-use Rattle.hc_sched.specs.FieldLines.{named, may_follow, field_of}
+use Rattle.hc_sched.specs.FieldLines.{field_parts, may_follow, field_of}
 use Rattle.hc_sched.specs.Reading.{Progress, Reads, Stopped, Spent, Step, begin, event_of, take_first, take_field, take_next, take_line, take_byte, after, events_in}
 use Rattle.hc_sched.specs.Schedule.{Item, Moment, Happens, load_word, event_line, item_line, item_fields, item_text, fields_in, text_of, IsHead, IsEvent, IsItem, IsSchedule, moment_after, moment_end, event_at, events_of}
 use Rattle.hc_sched.specs.Laws.{HasRead}
@@ -207,8 +207,8 @@ record IsNext (fields : List Pair) (line : List ℕ) (f : Pair) : Type 0 where
   put_is : field_list_with f.0 f.1 fields ≡ fields ++ f ∷ []
   head : IsHead (field_list_with f.0 f.1 fields)
 
-named-parts : (line : List ℕ) (f : Pair) → named line ≡ Some f → line_of f ≡ line
-unfolding named
+named-parts : (line : List ℕ) (f : Pair) → field_parts line ≡ Some f → line_of f ≡ line
+unfolding field_parts
 named-parts line f h =
     let first = bind-Some (cut 58 line) _ f h in
     let second = bind-Some (behind (codes " ") first.0.1) _ f first.2 in
@@ -219,7 +219,7 @@ named-parts line f h =
 field_of-parts : (fields : List Pair) (line : List ℕ) (f : Pair) → IsHead fields → length fields < 64 → field_of fields line ≡ Some f → IsNext fields line f
 unfolding field_of
 field_of-parts fields line f head few h =
-    let first = bind-Some (named line) _ f h in
+    let first = bind-Some (field_parts line) _ f h in
     let passes = test_passes (may_follow fields first.0) first.0 f first.2 in
     let follows = Follows-from_test fields first.0 passes.0 in
     let name = first.0.0 in

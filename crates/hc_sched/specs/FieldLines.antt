@@ -7,8 +7,8 @@ use Rattle.hc_sched.specs.Words.{◌>>=◌}
 use Rattle.hc_text.specs.Cuts.{cut, behind}
 
 -- the name and the value of a line `NAME: VALUE`
-unfoldable pub named : List ℕ → Option (List ℕ × List ℕ)
-named line = do
+unfoldable pub field_parts : List ℕ → Option (List ℕ × List ℕ)
+field_parts line = do
   parts ← cut 58 line
   value ← behind (codes " ") parts.1
   Some (parts.0, value)
@@ -35,5 +35,5 @@ may_follow fields field =
 -- the field of a line behind these
 unfoldable pub field_of : List (List ℕ × List ℕ) → List ℕ → Option (List ℕ × List ℕ)
 field_of fields line = do
-  field ← named line
+  field ← field_parts line
   if may_follow fields field then Some field else None

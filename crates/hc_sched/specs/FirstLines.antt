@@ -7,7 +7,7 @@ use Rattle.hc_event.specs.declared.event.Event.{Event}
 use Rattle.hc_event.specs.declared.event.Event.TheVariants as event
 use Rattle.hc_event.specs.declared.event.Load.{Load}
 use Rattle.hc_event.specs.declared.event.Load.TheVariants as load
-use Rattle.hc_sched.specs.Words.{◌>>=◌, or_else, plain_of, plain_within, numbered}
+use Rattle.hc_sched.specs.Words.{◌>>=◌, or_else, plain_of, plain_within, number_and_rest}
 use Rattle.hc_text.specs.Cuts.{cut, behind}
 use Rattle.hc_sched.specs.Pieces.{is_piece_text}
 
@@ -58,7 +58,7 @@ how_of words = do
 -- `C METHOD LOAD TARGET K`
 unfoldable pub start_of : List ℕ → Option First
 start_of words = do
-  first ← numbered words
+  first ← number_and_rest words
   second ← cut 32 first.1
   how ← how_of second.1
   if is_method second.0 then Some (Starts first.0 second.0 how.0 how.1 how.2) else None
@@ -66,14 +66,14 @@ start_of words = do
 -- `C WANT`
 unfoldable pub poll_of : List ℕ → Option First
 poll_of words = do
-  first ← numbered words
+  first ← number_and_rest words
   want ← plain_within 0 65536 first.1
   Some (Tells (event.Poll first.0 want))
 
 -- `X STATUS K`
 unfoldable pub head_of : List ℕ → Option First
 head_of words = do
-  first ← numbered words
+  first ← number_and_rest words
   second ← cut 32 first.1
   status ← plain_within 200 599 second.0
   count ← plain_within 0 64 second.1
@@ -82,7 +82,7 @@ head_of words = do
 -- `X HEX`
 unfoldable pub piece_of : List ℕ → Option First
 piece_of words = do
-  first ← numbered words
+  first ← number_and_rest words
   if is_piece_text first.1 then Some (Brings first.0 first.1) else None
 
 unfoldable pub doom_of : List ℕ → Option First

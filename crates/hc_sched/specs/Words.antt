@@ -28,8 +28,8 @@ plain_within low high text = do
   if nat_le low n && nat_le n high then Some n else None
 
 -- the number that the words begin with, and what stands behind its space
-unfoldable pub numbered : List ℕ → Option (ℕ × List ℕ)
-numbered words = do
+unfoldable pub number_and_rest : List ℕ → Option (ℕ × List ℕ)
+number_and_rest words = do
   parts ← cut 32 words
   n ← plain_of parts.0
   Some (n, parts.1)

@@ -4,7 +4,7 @@ ghost use Rattle.std.specs.List.{list_all};
 ghost use Rattle.http_header.specs.Token.{is_value_byte};
 ghost use Rattle.hc_fields.specs.FieldList.{is_own_value, has_own_ends};
 ghost use Rattle.hc_fields.specs.Lines.{is_lower_byte};
-ghost use Rattle.hc_sched.specs.FieldLines.{named, is_lower_token, keeps_order, has_room, may_follow, field_of};
+ghost use Rattle.hc_sched.specs.FieldLines.{field_parts, is_lower_token, keeps_order, has_room, may_follow, field_of};
 
 use hc_fields::Fields;
 use hc_text::{cut, is_blank};
@@ -17,9 +17,9 @@ const MOST_VALUE: usize = 8192;
 const MOST_SIZE: usize = 32_768;
 
 /// The name and the value of a line `NAME: VALUE`.
-#[tactic(auto, unfolding(hc_text::specs::Cuts::behind, crate::specs::FieldLines::named))]
+#[tactic(auto, unfolding(hc_text::specs::Cuts::behind, crate::specs::FieldLines::field_parts))]
 fn named(line: &[u8]) -> Option<(&[u8], &[u8])>
-    ensures value { option_map (λ field. (field.0.now, field.1.now)) result ≡ named line.now }
+    ensures value { option_map (λ field. (field.0.now, field.1.now)) result ≡ field_parts line.now }
     ensures len { IfSome result
         (λ field. length field.0.now + length field.1.now + 2 ≡ length line.now) }
 {

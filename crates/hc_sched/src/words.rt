@@ -1,6 +1,6 @@
 //! Words of a line.
 ghost use Rattle.std.specs.Prelude.{◌≡◌, ◌+◌, ◌≤◌, length, IfSome, OnSome, option_map};
-ghost use Rattle.hc_sched.specs.Words.{numbered, plain_of, plain_within};
+ghost use Rattle.hc_sched.specs.Words.{number_and_rest, plain_of, plain_within};
 
 use hc_text::{cut, read_plain};
 
@@ -25,9 +25,10 @@ pub(crate) fn plain_within(text: &[u8], low: u64, high: u64) -> Option<u64>
 }
 
 /// The number that the words begin with, and what stands behind its space.
-#[tactic(auto, unfolding(crate::specs::Words::numbered))]
+#[tactic(auto, unfolding(crate::specs::Words::number_and_rest))]
 pub(crate) fn numbered(words: &[u8]) -> Option<(u64, &[u8])>
-    ensures value { option_map (λ parts. (parts.0, parts.1.now)) result ≡ numbered words.now }
+    ensures value { option_map (λ parts. (parts.0, parts.1.now)) result
+        ≡ number_and_rest words.now }
     ensures short { IfSome result (λ parts. length words.now ≤ length parts.1.now + 20) }
 {
     let (number, rest) = cut(words, b' ')?;

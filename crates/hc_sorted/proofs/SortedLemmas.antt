@@ -5,7 +5,7 @@ use Rattle.std.specs.List.{list_any, insert, remove}
 use Rattle.std.specs.List.Sorted.{IsNonDecreasingBy, IsPartitionPoint}
 use Rattle.std.proofs.lemmas.Bool.{cases_Bool, and_parts, le-leb, lt-leb, ltb-true, ltb-false, leb-true, leb-false, eqb-true, eqb-false, eq-eqb, ne_eqb}
 use Rattle.std.proofs.lemmas.List.Sums.{position_or_len_is, prefix_len-le-length}
-use Rattle.hc_sorted.specs.Sorted.{above, is_sorted, is_at, has, found, with_item, without, replaced, place}
+use Rattle.hc_sorted.specs.Sorted.{above, is_sorted, is_at, has, item_with, with_item, without, with_replacement, place}
 
 or_swap : (a b c : Bool) → a || (b || c) ≡ b || (a || c)
 or_swap true true c = refl
@@ -63,7 +63,7 @@ module _ {X : Type 0} (number : X → ℕ) where
       IsNonDecreasingBy-is_sorted xs (is_sorted-above (number x) xs up) i j d (omega arith) (omega arith)
 
   -- a list none of whose numbers is n or below
-  pub found-above : (m n : ℕ) (xs : List X) → n ≤ m → above number m xs ≡ true → found number n xs ≡ None
+  pub found-above : (m n : ℕ) (xs : List X) → n ≤ m → above number m xs ≡ true → item_with number n xs ≡ None
   found-above m n [] le up = refl
   found-above m n (x ∷ xs) le up =
       let (first, rest) = and_parts (ltb m (number x)) (above number (number x) xs) up in
@@ -84,7 +84,7 @@ module _ {X : Type 0} (number : X → ℕ) where
       let h = ltb-true m (number x) first in
       rw (ne_eqb (number x) n (λ e. omega arith)) (ap (λ (l : List X). x ∷ l) (without-above (number x) n xs (omega arith) rest))
 
-  replaced-above : (m : ℕ) (y : X) (xs : List X) → number y ≤ m → above number m xs ≡ true → replaced number y xs ≡ xs
+  replaced-above : (m : ℕ) (y : X) (xs : List X) → number y ≤ m → above number m xs ≡ true → with_replacement number y xs ≡ xs
   replaced-above m y [] le up = refl
   replaced-above m y (x ∷ xs) le up =
       let (first, rest) = and_parts (ltb m (number x)) (above number (number x) xs) up in
@@ -122,7 +122,7 @@ module _ {X : Type 0} (number : X → ℕ) where
 
   -- what stands at the place is it, or there is none
   pub found-place : (n : ℕ) (xs : List X) (d : X) → is_sorted number xs ≡ true → place number n xs < length xs
-      → found number n xs ≡ cond (eqb (number (get_or xs (place number n xs) d)) n) (Some (get_or xs (place number n xs) d)) None
+      → item_with number n xs ≡ cond (eqb (number (get_or xs (place number n xs) d)) n) (Some (get_or xs (place number n xs) d)) None
   found-place n [] d up lt = absurd (omega arith)
   found-place n (x ∷ xs) d up lt = elim (cases_Bool (leb n (number x))) [
     | inl reached ↦ rw reached (elim (cases_Bool (eqb (number x) n)) [
@@ -137,7 +137,7 @@ module _ {X : Type 0} (number : X → ℕ) where
         rw (off, low, more) (found-place n xs d (is_sorted-above (number x) xs up) (omega arith))
   ]
 
-  pub found-past : (n : ℕ) (xs : List X) → length xs ≤ place number n xs → found number n xs ≡ None
+  pub found-past : (n : ℕ) (xs : List X) → length xs ≤ place number n xs → item_with number n xs ≡ None
   found-past n [] le = refl
   found-past n (x ∷ xs) le = elim (cases_Bool (leb n (number x))) [
     | inl reached ↦ absurd (let h : suc (length xs) ≤ 0 = rw reached at le in omega arith)
@@ -149,7 +149,7 @@ module _ {X : Type 0} (number : X → ℕ) where
   ]
 
   -- one has a number exactly where one is found
-  pub has-found : (n : ℕ) (xs : List X) → has number n xs ≡ is_some (found number n xs)
+  pub has-found : (n : ℕ) (xs : List X) → has number n xs ≡ is_some (item_with number n xs)
   has-found n [] = refl
   has-found n (x ∷ xs) = elim (cases_Bool (eqb (number x) n)) [
     | inl same ↦ rw same refl
@@ -158,12 +158,12 @@ module _ {X : Type 0} (number : X → ℕ) where
 
   -- what stands at the place has the number, where one has
   pub found-has : (n : ℕ) (xs : List X) (d : X) → is_sorted number xs ≡ true → has number n xs ≡ true
-      → found number n xs ≡ Some (get_or xs (place number n xs) d)
+      → item_with number n xs ≡ Some (get_or xs (place number n xs) d)
   found-has n xs d up there =
       let here = found-place n xs d up (place-has n xs up there) in
       elim (cases_Bool (eqb (number (get_or xs (place number n xs) d)) n)) [
         | inl same ↦ here ∙ rw same refl
-        | inr off ↦ absurd (let none : found number n xs ≡ None = here ∙ rw off refl in let some : is_some (found number n xs) ≡ true = sym (has-found n xs) ∙ there in let never : false ≡ true = rw none at some in cc)
+        | inr off ↦ absurd (let none : item_with number n xs ≡ None = here ∙ rw off refl in let some : is_some (item_with number n xs) ≡ true = sym (has-found n xs) ∙ there in let never : false ≡ true = rw none at some in cc)
       ]
 
   -- what an insertion at the place leaves
@@ -246,7 +246,7 @@ module _ {X : Type 0} (number : X → ℕ) where
   ]
 
   -- what a write at the place leaves, where one is there
-  pub set-place : (y : X) (xs : List X) → is_sorted number xs ≡ true → has number (number y) xs ≡ true → set xs (place number (number y) xs) y ≡ replaced number y xs
+  pub set-place : (y : X) (xs : List X) → is_sorted number xs ≡ true → has number (number y) xs ≡ true → set xs (place number (number y) xs) y ≡ with_replacement number y xs
   set-place y [] up there = refl
   set-place y (x ∷ xs) up there = elim (cases_Bool (leb (number y) (number x))) [
     | inl reached ↦
@@ -263,7 +263,7 @@ module _ {X : Type 0} (number : X → ℕ) where
         rw (low, more, off) (ap (λ (l : List X). x ∷ l) (set-place y xs (is_sorted-above (number x) xs up) later))
   ]
 
-  above-replaced : (m : ℕ) (y : X) (xs : List X) → above number m xs ≡ true → above number m (replaced number y xs) ≡ true
+  above-replaced : (m : ℕ) (y : X) (xs : List X) → above number m xs ≡ true → above number m (with_replacement number y xs) ≡ true
   above-replaced m y [] up = refl
   above-replaced m y (x ∷ xs) up =
       let (first, rest) = and_parts (ltb m (number x)) (above number (number x) xs) up in
@@ -274,7 +274,7 @@ module _ {X : Type 0} (number : X → ℕ) where
         | inr off ↦ rw (off, first) (above-replaced (number x) y xs rest)
       ]
 
-  pub is_sorted-replaced : (y : X) (xs : List X) → is_sorted number xs ≡ true → is_sorted number (replaced number y xs) ≡ true
+  pub is_sorted-replaced : (y : X) (xs : List X) → is_sorted number xs ≡ true → is_sorted number (with_replacement number y xs) ≡ true
   is_sorted-replaced y [] up = refl
   is_sorted-replaced y (x ∷ xs) up = elim (cases_Bool (eqb (number x) (number y))) [
     | inl same ↦ let e = eqb-true (number x) (number y) same in rw (same, ← e) (above-replaced (number x) y xs up)
@@ -283,7 +283,7 @@ module _ {X : Type 0} (number : X → ℕ) where
 
   -- what stands at the place is found where it has the number
   pub found_here : (n : ℕ) (xs : List X) (i : ℕ) (y : X) → is_sorted number xs ≡ true → i ≡ place number n xs → i < length xs → y ≡ get_or xs i y
-      → number y ≡ n → Some y ≡ found number n xs
+      → number y ≡ n → Some y ≡ item_with number n xs
   found_here n xs i y up at within is same =
       let here : y ≡ get_or xs (place number n xs) y = is ∙ ap (λ k. get_or xs k y) at in
       let test : eqb (number (get_or xs (place number n xs) y)) n ≡ true = ap (λ z. eqb (number z) n) (sym here) ∙ eq-eqb (number y) n same in
@@ -292,14 +292,14 @@ module _ {X : Type 0} (number : X → ℕ) where
 
   -- and else nothing is
   pub found_other : (n : ℕ) (xs : List X) (i : ℕ) (y : X) → is_sorted number xs ≡ true → i ≡ place number n xs → i < length xs → y ≡ get_or xs i y
-      → (number y ≡ n → ⊥) → None ≡ found number n xs
+      → (number y ≡ n → ⊥) → None ≡ item_with number n xs
   found_other n xs i y up at within is other =
       let here : y ≡ get_or xs (place number n xs) y = is ∙ ap (λ k. get_or xs k y) at in
       let test : eqb (number (get_or xs (place number n xs) y)) n ≡ false = ap (λ z. eqb (number z) n) (sym here) ∙ ne_eqb (number y) n other in
       let within' : place number n xs < length xs = omega arith in
       sym (found-place n xs y up within' ∙ rw test refl)
 
-  pub found_past : (n : ℕ) (xs : List X) (i : ℕ) → i ≡ place number n xs → length xs ≤ i → None ≡ found number n xs
+  pub found_past : (n : ℕ) (xs : List X) (i : ℕ) → i ≡ place number n xs → length xs ≤ i → None ≡ item_with number n xs
   found_past n xs i at past = sym (found-past n xs (omega arith))
 
   -- nothing goes where none has the number

@@ -21,8 +21,8 @@ module _ {X : Type 0} (number : X → ℕ) where
   has n xs = list_any (is_at n) xs
 
   -- the one with this number
-  abbrev pub found : ℕ → List X → Option X
-  found n xs = find (is_at n) xs
+  abbrev pub item_with : ℕ → List X → Option X
+  item_with n xs = find (is_at n) xs
 
   -- one more, before those with higher numbers
   abbrev pub with_item : X → List X → List X
@@ -34,8 +34,8 @@ module _ {X : Type 0} (number : X → ℕ) where
   without n xs = filter (λ x. not (is_at n x)) xs
 
   -- another in place of that with its number
-  abbrev pub replaced : X → List X → List X
-  replaced x xs = map (λ y. if is_at (number x) y then x else y) xs
+  abbrev pub with_replacement : X → List X → List X
+  with_replacement x xs = map (λ y. if is_at (number x) y then x else y) xs
 
   -- the first whose number isn't below n
   abbrev pub place : ℕ → List X → ℕ

@@ -3,7 +3,7 @@
 
 ghost use Rattle.std.specs.Prelude.{◌≡◌, ℕ, ◌+◌, ◌<◌, ◌≤◌, true, false, Some, if◌then◌else◌, length, vec_len, vec_capacity, IsOk, OnOk, OnErr};
 ghost use Rattle.std.specs.Option.{option_copied};
-ghost use Rattle.hc_sorted.specs.Sorted.{is_sorted, has, found, with_item, without, replaced, place};
+ghost use Rattle.hc_sorted.specs.Sorted.{is_sorted, has, item_with, with_item, without, with_replacement, place};
 
 use hc_text::NoMemory;
 
@@ -36,7 +36,7 @@ fn place_of<T: Numbered>(items: &[T], n: u64) -> usize
 /// That with this number.
 pub fn item_at<T: Numbered>(items: &[T], n: u64) -> Option<&T>
     requires { is_sorted T.number items.now ≡ true }
-    ensures { option_copied result ≡ found T.number n items.now }
+    ensures { option_copied result ≡ item_with T.number n items.now }
 {
     let item = items.get(place_of(items, n))?;
     if item.number() == n { Some(item) } else { None }
@@ -83,7 +83,7 @@ pub fn put_reserved<T: Numbered + Drop>(items: &mut Vec<T>, item: T)
 pub fn take_out<T: Numbered>(items: &mut Vec<T>, n: u64) -> T
     requires ordered { is_sorted T.number items.old.items ≡ true }
     requires there { has T.number n items.old.items ≡ true }
-    ensures value { found T.number n items.old.items ≡ Some result }
+    ensures value { item_with T.number n items.old.items ≡ Some result }
     ensures items { items.new.items ≡ without T.number n items.old.items }
     ensures ordered { is_sorted T.number items.new.items ≡ true }
     ensures len { vec_len items.new + 1 ≡ vec_len items.old }
@@ -111,7 +111,7 @@ pub fn leave_out<T: Numbered + Drop>(items: &mut Vec<T>, n: u64)
 pub fn replace_in<T: Numbered + Drop>(items: &mut Vec<T>, item: T)
     requires ordered { is_sorted T.number items.old.items ≡ true }
     requires there { has T.number (T.number item) items.old.items ≡ true }
-    ensures items { items.new.items ≡ replaced T.number item items.old.items }
+    ensures items { items.new.items ≡ with_replacement T.number item items.old.items }
     ensures ordered { is_sorted T.number items.new.items ≡ true }
     ensures capacity { vec_capacity items.new ≡ vec_capacity items.old }
 {

@@ -13,7 +13,7 @@ use Rattle.hc_model.specs.Flaws.{Flaw, NoFlaw, Loses, flaw_in}
 use Rattle.hc_model.specs.Keys.{entry_of}
 use Rattle.hc_model.specs.Rows.{Tables}
 use Rattle.hc_model.specs.Runs.{may_be, is_kept, has_room}
-use Rattle.hc_model.specs.Writes.{written}
+use Rattle.hc_model.specs.Writes.{written_representation}
 use Rattle.hc_model.specs.Weights.{room_for, write_in}
 use Rattle.hc_model.specs.Entries.{entry_without_acts}
 use Rattle.hc_state.specs.declared.rows.Rows.{Rows}
@@ -39,7 +39,7 @@ does_answered limits faults u t s before out acts now event does none flawless t
 
 -- an event at which the store fails, where it writes what is lost
 pub lossy_answered : {B : Type 0} {g : Ghosts B} (limits : Limits) (faults : ℕ) (u : Rows B g) (t s : Tables) (before out acts : List Act) (now : ℕ) (event : Event) (r : ℕ) → Does limits t now event (Loses r kind.Fault) acts s
-    → written t (entry_of limits t now event (Loses r kind.Fault)) ≡ Some r → is_kept (t.representation r) ≡ true → flaw_in acts ≡ Loses r kind.Fault → faults < (shelf_of u.entries).faults → out ≡ before ++ acts → RowsStand u s → Answered limits faults u t before out now event
+    → written_representation t (entry_of limits t now event (Loses r kind.Fault)) ≡ Some r → is_kept (t.representation r) ≡ true → flaw_in acts ≡ Loses r kind.Fault → faults < (shelf_of u.entries).faults → out ≡ before ++ acts → RowsStand u s → Answered limits faults u t before out now event
 lossy_answered limits faults u t s before out acts now event r does writes kept flawed failed told stands = record {
   flaw = Loses r kind.Fault;
   acts = told ∙ ap (λ z. before ++ z) (sym does.acts_are);

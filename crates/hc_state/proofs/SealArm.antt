@@ -37,7 +37,7 @@ use Rattle.hc_state.specs.Facts.{Facts}
 use Rattle.hc_state.specs.Stopped.{with_consumers, HoldsNothing, MayStop, HasStopped, unsealed}
 use Rattle.hc_state.specs.Stands.{RowsStand, KeepsRest}
 use Rattle.hc_state.specs.declared.stop.Stop.TheVariants as stop
-use Rattle.hc_state.specs.Stops.{brought_by, goes_with, stop_by, stop_at, stop_of, IsTold, kind_left}
+use Rattle.hc_state.specs.Stops.{brought_by, goes_with, stop_by, stop_at, stop_of, IsViewOf, kind_left}
 use Rattle.hc_stored.specs.declared.view.EntryView.{EntryView}
 use Rattle.hc_exch.specs.declared.row.Open.{Open}
 use Rattle.hc_exch.specs.Exchanges.{next_of}
@@ -266,7 +266,7 @@ seal_kept x q running s is = by_brought (brought_by running) is
 pub viewed : (s : Shelf) (q : ℕ) (e : Kept) (o : Option EntryView) (entry : EntryView) → s.kept q ≡ Some e → o ≡ option_map view_of (s.kept q) → o ≡ Some entry → entry ≡ view_of e
 viewed s q e o entry at is some = some_is entry (view_of e) (sym some ∙ (is ∙ ap (option_map view_of) at))
 
-pub told_kept : (s : Shelf) (q : ℕ) (e : Kept) (p : Representation) (entry : EntryView) → s.kept q ≡ Some e → entry ≡ view_of e → IsTold p e.cells (view_of e) → IsTold p (shelf.cells_at s q) entry
+pub told_kept : (s : Shelf) (q : ℕ) (e : Kept) (p : Representation) (entry : EntryView) → s.kept q ≡ Some e → entry ≡ view_of e → IsViewOf p e.cells (view_of e) → IsViewOf p (shelf.cells_at s q) entry
 told_kept s q e p entry at is is_told = record {
   total = ap (λ (z : EntryView). z.total) is ∙ is_told.total;
   size = ap (λ (z : EntryView). z.size) is ∙ is_told.size;

@@ -31,7 +31,7 @@ use Rattle.hc_state.specs.Facts.{Facts}
 use Rattle.hc_state.specs.Kept.{IsRunning, KeepsRunning, role_of, role_awaited}
 use Rattle.hc_state.specs.Stands.{RowsStand}
 use Rattle.hc_state.specs.Stopped.{with_consumers}
-use Rattle.hc_state.specs.Stops.{body_of, brought_by, may_complete, goes_with, stop_by, stop_at, stop_of, IsTold}
+use Rattle.hc_state.specs.Stops.{body_of, brought_by, may_complete, goes_with, stop_by, stop_at, stop_of, IsViewOf}
 use Rattle.hc_state.specs.Stored.{IsEntry, KeepsEntry, TellsLength, told, untold}
 use Rattle.hc_state.proofs.Words.{eqb-same, eqb-other, then_false, none_some, false_true, same_row, few_received}
 
@@ -58,7 +58,7 @@ pub record Stays (t s : Tables) (shelf : Shelf) (x q : ℕ) (w : Exchange) : Typ
   pub kept : shelf.kept q ≡ Some e
   pub is : IsEntry s q e p
   pub stays : p.is_gone ≡ false
-  pub is_told : IsTold p e.cells (view_of e)
+  pub is_told : IsViewOf p e.cells (view_of e)
   pub keeps : going_with t (Some x) ≡ None
 
 -- what the tables say of each
@@ -171,7 +171,7 @@ module _ {B : Type 0} {g : Ghosts B} (r : Rows B g) (t : Tables) (facts : Facts 
         let rep = facts.law.sound.rows q p here in
         rep.store.all_stored (not_lost p.is_lost refl) n ∙ rep.store.ends n le
 
-    told_is : IsTold p e.cells (view_of e)
+    told_is : IsViewOf p e.cells (view_of e)
     told_is = record {
       total = total_as;
       size = size_kept e.cells p.stored p.size p.reach is.cells stored_ends (most_small p.reach t.received (facts.numbers.reaches q p here) (few_received stands.received small)) (facts.sizes.counted q p here);

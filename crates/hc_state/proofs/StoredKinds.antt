@@ -8,14 +8,14 @@ use Rattle.hc_model.specs.Holes.{covers}
 use Rattle.hc_model.specs.Kinds.{is_complete, is_front, covers_all}
 use Rattle.hc_model.specs.Rows.{Representation}
 use Rattle.hc_model.proofs.HoleLemmas as holes
-use Rattle.hc_state.specs.Stops.{IsTold}
+use Rattle.hc_state.specs.Stops.{IsViewOf}
 
 same_test : (a b : Bool) → (a ≡ true → b ≡ true) → (b ≡ true → a ≡ true) → a ≡ b
 same_test true b to back = sym (to refl)
 same_test false true to back = back refl
 same_test false false to back = refl
 
-module _ (v : Representation) (cells : Cells) (entry : EntryView) (is : IsTold v cells entry) where
+module _ (v : Representation) (cells : Cells) (entry : EntryView) (is : IsViewOf v cells entry) where
   -- what the store covers is covered
   covers_as : (b : Bool) (hi : ℕ) → (IsTrue b ↔ Covers cells 0 hi) → b ≡ covers v.stored v.reach 0 hi
   covers_as b hi tells = same_test b (covers v.stored v.reach 0 hi)

@@ -14,7 +14,7 @@ use Rattle.hc_exch.specs.Exchanges.{table_of}
 use Rattle.hc_exch.specs.Known.{is_last_of}
 use Rattle.hc_model.specs.Rows.{Representation}
 use Rattle.hc_state.specs.declared.rows.Rows.{Rows}
-use Rattle.hc_state.specs.Stops.{brought_by, kind_left, IsTold}
+use Rattle.hc_state.specs.Stops.{brought_by, kind_left, IsViewOf}
 
 -- as long as nothing of it was lost
 abbrev pub unless_lost : ℕ → Option Kept → Option ℕ
@@ -47,5 +47,5 @@ pub record PutsPiece {B : Type 0} {g : Ghosts B} (r u : Rows B g) (x q : ℕ) (o
   pub fills : Becomes (option_map (entry.kept_with_bytes (o.base + o.delivered) x bytes last)) same_order q
       (shelf_of r.entries) (shelf_of u.entries)
   pub kind : (k : Kept) (v : Representation) → (shelf_of r.entries).kept q ≡ Some k →
-      IsTold v (cells_with (o.base + o.delivered) x bytes k.cells) (larger_view (length bytes) (view_of k)) →
+      IsViewOf v (cells_with (o.base + o.delivered) x bytes k.cells) (larger_view (length bytes) (view_of k)) →
       IsLastKind (is_last_of (Some o) (length bytes)) v last

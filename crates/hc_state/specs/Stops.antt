@@ -96,7 +96,7 @@ kind_left v =
     if is_complete v then kind.Whole else if is_front v then kind.Truncated else kind.Ranges
 
 -- what is told of it is what the tables say: its length, how many bytes are stored, and which
-pub record IsTold (v : Representation) (cells : Cells) (entry : EntryView) : Type 0 where
+pub record IsViewOf (v : Representation) (cells : Cells) (entry : EntryView) : Type 0 where
   pub total : entry.total ≡ v.head.total
   pub size : entry.size ≡ v.size
   pub stored : (p : ℕ) → cells p ≡ v.stored p

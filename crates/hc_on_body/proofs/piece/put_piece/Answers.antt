@@ -9,7 +9,7 @@ use Rattle.hc_stored.specs.Views as views
 use Rattle.hc_exch.specs.declared.row.ExchangeView.{ExchangeView}
 use Rattle.hc_exch.specs.Known.{view_of, is_all}
 use Rattle.hc_state.specs.Pieces.{larger_view, IsLastKind}
-use Rattle.hc_state.specs.Stops.{IsTold}
+use Rattle.hc_state.specs.Stops.{IsViewOf}
 use Rattle.hc_state.proofs.Words.{some_is, ok_then}
 use Rattle.hc_on_body.proofs.piece.put_piece.Goals as goal
 
@@ -23,5 +23,5 @@ returns-clause-ok g c = ok_then c.put.result c.put.ensures.ok (λ fills o runnin
       last = last;
       fills = subst (λ (e : ExchangeView). shelf.Becomes (option_map (kept_with_bytes (e.base + e.delivered) x bytes last)) same_order c.args.r (shelf_of c.args.rows.now.entries) (shelf_of c.put.new.self)) view_is fills;
       kind = λ k v kept told. subst (λ (e : ExchangeView). IsLastKind (is_all e.promised (e.delivered + length bytes)) v last) view_is
-          (c.last_kind-last.ensures x bytes v k refl kept (subst (λ (e : ExchangeView). IsTold v (cells_with (e.base + e.delivered) x bytes k.cells) (larger_view (length bytes) (views.view_of k))) (sym view_is) told));
+          (c.last_kind-last.ensures x bytes v k refl kept (subst (λ (e : ExchangeView). IsViewOf v (cells_with (e.base + e.delivered) x bytes k.cells) (larger_view (length bytes) (views.view_of k))) (sym view_is) told));
     })

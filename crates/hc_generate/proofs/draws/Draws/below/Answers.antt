@@ -1,12 +1,12 @@
 use Rattle.std.proofs.Common.{ℕ, ◌*◌, ◌/◌, ◌%◌, ◌^◌, ap}
 use Rattle.std.proofs.Math.Nat.{mod-add-mod}
-use Rattle.hc_generate.specs.Draws.{drawn, stepped}
+use Rattle.hc_generate.specs.Draws.{draw_below, state_after_draw}
 use Rattle.hc_generate.proofs.draws.Draws.below.Goals as goal
 
 pub returns-clause-number : goal.returns-clause-number
-unfolding drawn stepped
+unfolding draw_below state_after_draw
 returns-clause-number c = ap (λ (s : ℕ). s / 2 ^ 33 % c.args.n) (mod-add-mod (c.args.self.now.state * 6364136223846793005) (2 ^ 64) 1442695040888963407)
 
 pub returns-clause-state : goal.returns-clause-state
-unfolding stepped
+unfolding state_after_draw
 returns-clause-state c = mod-add-mod (c.args.self.now.state * 6364136223846793005) (2 ^ 64) 1442695040888963407

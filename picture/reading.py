@@ -1,0 +1,54 @@
+"""A schedule and its report, read side by side: each event with its acts."""
+import itertools
+
+import grammar
+import report
+import schedule
+
+MOST_EVENTS = 250_000
+
+
+class Reading:
+    """The events that are drawn, one by one, and afterwards what has to be said of the two texts."""
+
+    def __init__(self, events, entries):
+        """Of streams of bytes, a schedule and a report."""
+        self.schedule, self.report = grammar.Lines(events, "the schedule"), grammar.Lines(entries, "the report")
+        self.notes = []
+        self.refused = None  # why the schedule can't be read further
+        self.is_limited = False
+
+    def __iter__(self):
+        events, n = self.events(), 0
+        for entry in report.entries(self.report):
+            event = next(events, None)
+            if event is None:
+                raise self.report.refused(f"event {entry.n} is answered, and the schedule has only {n}", entry.line)
+            event.acts, event.said = entry.acts, "\n".join(entry.said)
+            yield event
+            n = event.n
+            if n == MOST_EVENTS:
+                self.is_limited = True
+                self.notes.append(f"Only the first {n:,} events are drawn and counted.")
+                return
+        self.finish(n, sum(1 for _ in events))
+
+    def events(self):
+        try:
+            yield from schedule.events(self.schedule)
+        except grammar.Unreadable as error:
+            self.refused = error
+
+    def finish(self, n, left):
+        if self.report.is_cut:
+            self.notes.append("The report is cut short: its last line is not whole, and is left out.")
+        if left:
+            self.notes.append(f"The report ends with event {n:,}; the schedule has {left:,} more, which are not drawn.")
+        if self.refused:
+            self.notes.append(f"The schedule can't be read further. Line {self.refused.number}: {self.refused.why}.")
+
+
+def first(items, most):
+    """Some first items, and how many there are beside them."""
+    taken = list(itertools.islice(items, most))
+    return taken, len(items) - len(taken)

@@ -67,8 +67,9 @@ class Highlights:
         if waits:
             from_, to, state, whom, _ = max(waits, key=lambda span: (span[1] or events) - span[0])
             what = "behind C{}, which has the turn," if state == TURN else "for C{}, which writes what it wants,"
-            long = (to or events) - from_
-            words = f"C{consumer.c} waits {what.format(whom)} over {long:,} event{'' if long == 1 else 's'}"
+            long, seconds = (to or events) - from_, self.seconds(from_, to)
+            time = f" and {seconds:,} s" if seconds else ""
+            words = f"C{consumer.c} waits {what.format(whom)} over {long:,} event{'' if long == 1 else 's'}{time}"
             self.add("waited", long, words, row, from_)
         heads = [span for span in consumer.spans if span[2] == HEAD]
         slow = max(heads, key=lambda span: self.seconds(*span[:2]), default=None)

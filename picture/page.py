@@ -87,7 +87,7 @@ def block_of(data):
     """The element that carries the data: plain where that is short. No text of it can end the element."""
     text = json.dumps(data, ensure_ascii=False, separators=(",", ":"))
     if len(text) > PLAIN:
-        packed = base64.b64encode(zlib.compress(text.encode(), 9)).decode()
+        packed = base64.b64encode(zlib.compress(text.encode())).decode()
         return f'<script type="text/plain" id="data">{packed}</script>'
     text = text.replace("<", "\\u003c").replace("\u2028", "\\u2028").replace("\u2029", "\\u2029")
     return f'<script type="application/json" id="data">{text}</script>'

@@ -50,6 +50,6 @@ def stories(run):
 
 
 def worth_a_look(run):
-    lines = [f"    {kind:<16} event {n:<7,} {words}" for kind, words, _, n in run.highlights[:MOST_HIGHLIGHTS]]
+    lines = [f"    {kind:<18} event {n:<7,} {words}" for kind, words, _, n in run.highlights[:MOST_HIGHLIGHTS]]
     left = len(run.highlights) - len(lines)
     return (["  worth a look"] if lines else []) + lines + ([f"    and {left} more kinds on the page"] if left else [])

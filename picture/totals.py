@@ -3,9 +3,9 @@ from fates import TAGS
 from things import BODY, HEAD, TURN, WRITER
 
 WAIT_NAMES = {TURN: "turn", WRITER: "busy", HEAD: "head", BODY: "body"}
-MODES = ("own", "shared", "stored")
-COLUMNS = ("consumers", "exchanges", "network", "given", *MODES, "waits", "hit", "validated", "failed", "cancelled",
-           "denied", "lost", "evicted")
+MODES = ("own", "shared", "stored")  # bytes
+FATES = ("hit", "validated", "failed", "cancelled")  # consumers
+COLUMNS = ("consumers", "exchanges", "network", "given", *MODES, "waits", *FATES, "denied", "lost", "evicted")
 
 
 def by_key(model):
@@ -27,9 +27,8 @@ def by_key(model):
 
 def add_consumer(row, consumer):
     row["consumers"] += 1
-    for tag in consumer.tags:
-        if tag in row:
-            row[tag] += 1
+    for tag in set(FATES) & set(consumer.tags):
+        row[tag] += 1
     for _, _, _, size, mode in consumer.data:
         row["given"] += size
         row[MODES[mode]] += size

@@ -5,12 +5,23 @@ const MANY_CELLS = 400;
 function drawBodies(p, g, row, y) {
   const reps = row.reps || [row.thing];
   for (const rep of reps) if (p.sees(rep.founded, rep.till && rep.till + 1)) drawBody(p, g, rep, row, y);
-  row.marks = row.marks || reps.flatMap(rep => rep.marks).sort((a, b) => a[0] - b[0]);
+  row.marks = row.marks || reps.flatMap(markedOf).sort((a, b) => a[0] - b[0]);
   drawMarks(p, g, row.marks, y + 8);
 }
 
+// as far as it is known: what was lost is read on behind what is stored
+function lengthOf(rep) {
+  return rep.total || [...rep.cells, ...rep.reads].reduce((most, [, , to]) => Math.max(most, to), 1);
+}
+
+// [event, kind, words] of each mark
+function markedOf(rep) {
+  const readOn = kind => kind === "lost" && rep.detached !== null ? `lost, C${rep.detached} reads on` : kind;
+  return rep.marks.map(([n, kind]) => [n, kind, readOn(kind)]);
+}
+
 function drawBody(p, g, rep, row, y) {
-  const top = y + 15, tall = row.h - 20, total = rep.total || rep.cells.reduce((most, cell) => Math.max(most, cell[2]), 1);
+  const top = y + 15, tall = row.h - 20, total = lengthOf(rep);
   const box = { top, tall, a: Math.max(-4, p.x(rep.founded)), b: Math.min(p.room + 4, p.end(rep.till)) };
   box.place = at => top + tall - at / total * tall;
   g.fillStyle = p.css.body;
@@ -51,13 +62,13 @@ function drawReads(p, g, rep, { place }) {
 
 function drawMarks(p, g, marks, y) {
   let last = -Infinity;
-  marks.forEach(([n, kind], i) => {
+  marks.forEach(([n, kind, words], i) => {
     const beside = i > 0 && marks[i - 1][0] === n && p.unit > 8;
     const x = beside ? last + 12 : p.middle(n), next = marks[i + 1];
     if (!p.sees(n, n + 1) || x - last < 9 && !RARE_MARKS.includes(kind)) return;
     last = x;
     markAt(p, g, x, y, kind);
     const until = next ? p.middle(next[0]) + (next[0] === n ? 12 : 0) : Infinity;
-    textAt(g, kind, x + 7, y + 0.5, markColor(p, kind), Math.min(until - x - 14, Math.max(p.unit * 40, 110)));
+    textAt(g, words, x + 7, y + 0.5, markColor(p, kind), Math.min(until - x - 14, Math.max(p.unit * 40, 110)));
   });
 }

@@ -83,12 +83,12 @@ function drawGiven(p, g, it, { y, h, middle, labels }) {
   }
 }
 
+// from where on it reads alone
 function drawDetached(p, g, it, { y }) {
   if (!p.sees(it.detached, it.detached + 1)) return;
   const x = p.middle(it.detached);
   g.fillStyle = p.css.warn;
   fillPoints(g, [[x - 5, y + 1], [x + 5, y + 1], [x, y + 7]]);
-  textAt(g, "detached reader", x + 8, y + 5, p.css.warn);
 }
 
 function drawFinish(p, g, it, { middle, labels }) {

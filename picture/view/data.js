@@ -61,7 +61,7 @@ class Run {
     for (const key of this.keys) origins.set(originOf(key), (origins.get(originOf(key)) || 0) + 1);
     this.origin = [...origins].sort((a, b) => b[1] - a[1]).map(first)[0] || "";
     for (const key of this.keys) {
-      key.name = originOf(key) === this.origin ? key.target.slice(this.origin.length) : key.target;
+      key.name = originOf(key) === this.origin ? key.target.slice(this.origin.length) : key.target.replace(/^https?:../, "");
     }
   }
   placeRep(rep) {

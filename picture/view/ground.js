@@ -95,12 +95,14 @@ function drawMoments(p, g, from, to, width) {
   }
 }
 
+// where time isn't drawn to scale, as far as there is room to say so
 function drawGaps(p, g, width) {
   g.strokeStyle = p.css.warn;
   g.lineWidth = 1;
   for (const [from, to] of p.scale.gaps) {
     const x = ((from + to) / 2 - p.scale.lo) * p.unit;
-    if (x >= 0 && x <= width) strokeLines(g, [[x - 4, 34], [x - 1, 22]], [[x + 1, 34], [x + 4, 22]]);
+    if (x < 0 || x > width || (to - from) * p.unit < 24) continue;
+    strokeLines(g, [[x - 4, 34], [x - 1, 22]], [[x + 1, 34], [x + 4, 22]]);
   }
 }
 
@@ -112,8 +114,9 @@ function drawEventNumbers(p, g, from, to, width) {
   let last = -Infinity;
   for (let n = Math.max(1, named ? from : Math.ceil(from / step) * step); n <= to; n += named ? 1 : step) {
     const x = p.middle(n);
-    if (n % step && n !== 1 || x - last < 20 || x > width - 12) continue;
-    last = x;
+    const room = g.measureText(String(n)).width / 2 + 4;
+    if (n % step && n !== 1 || x - room < last || x > width - 12) continue;
+    last = x + room;
     textAt(g, String(n), x, 24, p.css.soft);
     g.fillStyle = p.css.line;
     if (!named) g.fillRect(x, 32, 1, 10);

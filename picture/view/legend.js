@@ -25,7 +25,11 @@ const SIGNS = {
   ready: lineSign("wait", 2), own: blockSign(OWN), shared: blockSign(SHARED), stored: blockSign(STORED),
   ended: finishSign("ended"), failed: finishSign("failed"), cancelled: finishSign("cancelled"),
   denied: (p, g, w, h) => denialAt(p, g, w / 2, h / 2),
-  shown: (p, g, w, h) => { g.fillStyle = p.css.ink; g.fillRect(8, 3, 26, h - 6); textAt(g, "200", 11, h / 2 + 0.5, p.css.paper); },
+  shown: (p, g, w, h) => {
+    g.fillStyle = p.css.ink;
+    g.fillRect(8, 3, 26, h - 6);
+    textAt(g, "200", 11, h / 2 + 0.5, p.css.paper);
+  },
   detached: (p, g, w, h) => { g.fillStyle = p.css.warn; fillPoints(g, [[w / 2 - 5, 7], [w / 2 + 5, 7], [w / 2, 13]]); },
   open: (p, g, w, h) => {
     g.fillStyle = BLUE;
@@ -100,13 +104,13 @@ const HELP_WORDS = ["A colour is an exchange, wherever its bytes went: who shows
 "Bytes LO–HI are those from LO up to before HI. What a head founded, joined or replaced isn't in the report: " +
   "it is worked out by the rules of the cache."];
 
-function fillLegend(painter) {
+function fillLegend(painter, box = byId("legend")) {
   const signs = LEGEND.flatMap(([title, items]) => [element("b", "", title), ...items.map(([name, words]) => {
     const sign = element("span");
     sign.append(signOf(painter, name, 24, 16), words);
     return sign;
   })]);
-  byId("legend").replaceChildren(...signs, element("span", "", "colour = exchange"));
+  box.replaceChildren(...signs, element("span", "", "colour = exchange"));
 }
 
 function fillHelp(painter) {

@@ -1,6 +1,6 @@
 // The names of the rows, at the left, as elements of the page.
 
-const MOST_LETTERS = 32;
+const MOST_LETTERS = 30;
 
 function nameOf(run, row, index) {
   const made = element("div", "row " + row.type);
@@ -19,7 +19,7 @@ function nameOf(run, row, index) {
 }
 
 function shortened(text) {
-  return text.length > MOST_LETTERS ? text.slice(0, 9) + "…" + text.slice(-22) : text;
+  return text.length > MOST_LETTERS ? text.slice(0, 9) + "…" + text.slice(-20) : text;
 }
 
 function nameOfKey(row, cell, made) {

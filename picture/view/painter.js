@@ -2,11 +2,13 @@
 
 const FEW_ROWS = 40, FEW_EVENTS = 400;  // up to which who waits for whom is drawn of all rows
 
+const WIDE = 1100;  // the width of a window from which the columns are wide
+
 // the widths of the two columns before the picture
 const layout = { names: 320, strip: 140 };
 
 function layOut(width) {
-  const [names, strip] = width > 1100 ? [320, 140] : width > 640 ? [200, 140] : [128, 56];
+  const [names, strip] = width > WIDE ? [320, 140] : width > 640 ? [200, 140] : [128, 56];
   Object.assign(layout, { names, strip });
   document.documentElement.style.setProperty("--names", names + "px");
   document.documentElement.style.setProperty("--strip", strip + "px");

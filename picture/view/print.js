@@ -1,6 +1,6 @@
 // On paper: in light colours, all rows one below another, in parts that fit a sheet; then what is worth a look.
 
-const SHEET = 900, MOST_SHEETS = 40;
+const WIDTH = 1000, SHEET = 620, MOST_SHEETS = 40;
 
 // the rows in parts, each of rows that fit one sheet
 function sheetsOf(rows) {
@@ -29,18 +29,25 @@ function sheetOf(view, rows, width) {
   return sheet;
 }
 
+function fillPaper(view) {
+  const paper = byId("paper"), legend = element("div", "legend"), sheets = sheetsOf(view.rows.list);
+  fillLegend(view.painter, legend);
+  paper.append(legend);
+  for (const rows of sheets.slice(0, MOST_SHEETS)) sheetOf(view, rows, WIDTH - layout.names);
+  const left = sheets.length - MOST_SHEETS;
+  if (left > 0) paper.append(element("p", "", `${counted(left, "more sheet")} of rows are left out: fold keys, or filter.`));
+  paper.append(...view.stories(), ...view.worthALook());
+}
+
 function bindPrint(view) {
   const paper = byId("paper");
   let dark = false;
   window.addEventListener("beforeprint", () => {
     dark = document.documentElement.classList.contains("dark");
     useTheme(view, false);
-    layOut(1200);
+    layOut(WIDE + 1);
     paper.hidden = false;
-    const sheets = sheetsOf(view.rows.list), shown = sheets.slice(0, MOST_SHEETS);
-    for (const rows of shown) sheetOf(view, rows, 1000 - layout.names);
-    if (sheets.length > MOST_SHEETS) paper.append(element("p", "", `${number(sheets.length - MOST_SHEETS)} more sheets of rows are left out: fold keys, or filter.`));
-    paper.append(...view.stories(), ...view.worthALook());
+    fillPaper(view);
   });
   window.addEventListener("afterprint", () => {
     paper.replaceChildren();

@@ -1,8 +1,10 @@
 // Colours, patterns and signs.
 
 // the hues of exchanges; red is kept for what fails, grey and brown for who waits for a consumer
-const PALETTE = ["#2f7ed8", "#e69f00", "#009e73", "#a55fd0", "#35b3d6", "#d4679f", "#8f8f1f", "#5b5bd6", "#c9793a", "#4c9a2a"];
-const KIND_COLORS = { s: "#2f7ed8", p: "#8792a0", h: "#8a63c9", b: "#009e73", e: "#4c9a2a", f: "#c62828", c: "#e08a00", d: "#d0478c" };
+const PALETTE = ["#2f7ed8", "#e69f00", "#009e73", "#a55fd0", "#35b3d6", "#d4679f", "#8f8f1f", "#5b5bd6", "#c9793a",
+  "#4c9a2a"];
+const KIND_COLORS = { s: "#2f7ed8", p: "#8792a0", h: "#8a63c9", b: "#009e73", e: "#4c9a2a", f: "#c62828", c: "#e08a00",
+  d: "#d0478c" };
 const THEME = ["paper", "sheet", "line", "faint", "ink", "soft", "bad", "good", "warn", "pick", "pickbg", "wait", "writer", "band",
   "body"];
 
@@ -160,7 +162,7 @@ const MARKS = {
   evicted: (g, x, y) => { fillPoints(g, [[x - 5, y + 1], [x, y - 5], [x + 5, y + 1]]); g.fillRect(x - 5, y + 2.5, 10, 2); },
   doomed: (g, x, y) => fillPoints(g, [[x + 1, y - 6], [x - 4, y + 1], [x, y + 1], [x - 1, y + 6], [x + 4, y - 1], [x, y - 1]]),
   lost: (g, x, y) => cross(g, x, y, 4),
-  gone: (g, x, y) => strokeLines(g, [[x - 4, y - 3], [x + 4, y - 3], [x + 4, y + 3], [x - 4, y + 3], [x - 4, y - 3]], [[x - 4, y + 3], [x + 4, y - 3]]),
+  gone: (g, x, y) => { g.strokeRect(x - 4, y - 3, 8, 6); strokeLines(g, [[x - 4, y + 3], [x + 4, y - 3]]); },
 };
 const BAD_MARKS = ["lost", "evicted", "doomed"], RARE_MARKS = ["lost", "evicted", "truncated"];
 

@@ -2,6 +2,7 @@
 
 const MOST_KEYS = 500;
 
+const savingName = saved => saved >= 0 ? "saved" : "in excess";
 const savingSaid = (given, network) => given ? `${(100 * (given - network) / given).toFixed(0)} %` : "–";
 
 function fillTiles(run) {
@@ -13,7 +14,7 @@ function fillTiles(run) {
   };
   const bad = n => n ? "bad" : "", failed = counts.failed || 0, denied = counts.denied || 0;
   byId("tiles").replaceChildren(barsOf(totals),
-    tile(savingSaid(given, network), `${saved >= 0 ? "saved" : "in excess"} (${bytesSaid(Math.abs(saved))})`, saved > 0 ? "good" : ""),
+    tile(savingSaid(given, network), `${savingName(saved)} (${bytesSaid(Math.abs(saved))})`, saved > 0 ? "good" : ""),
     tile(number(tags.hit), tags.hit === 1 ? "hit" : "hits"), tile(number(tags.shared), "shared"),
     tile(number(tags.resumed + tags.stitched), "resumed, stitched"), tile(number(tags.validated), "validated"),
     tile(number(spans.turn + spans.busy), "waits for others"), tile(number(failed), "failed", bad(failed)),
@@ -55,7 +56,7 @@ function bytesTable(totals) {
   const saved = totals.given - totals.network;
   const rows = [["came over the network", totals.network], ["given to consumers", totals.given],
     ["… own", totals["given own"]], ["… shared", totals["given shared"]], ["… stored before", totals["given stored"]],
-    [saved >= 0 ? "saved" : "in excess", Math.abs(saved)], ["stored", totals.stored]];
+    [savingName(saved), Math.abs(saved)], ["stored", totals.stored]];
   return tableOf(["bytes", ""], rows.map(([name, n]) => [name, number(n) + " B"]));
 }
 

@@ -18,7 +18,7 @@ class View {
     this.sayRow(null);
     const quiet = run.quiet.split("1").length - 1;
     if (quiet > run.n / 2) this.useScale("change");
-    const sizes = new ResizeObserver(() => { layOut(window.innerWidth); this.draw(); });
+    const sizes = new ResizeObserver(() => { layOut(window.innerWidth); this.paint(); });
     for (const id of ["chart", "scroll", "legend"]) sizes.observe(byId(id));
     this.fitRows();
   }
@@ -59,7 +59,8 @@ class View {
     rows.sight = sight;
     clearTimeout(this.looking);
     this.looking = setTimeout(() => {
-      const scroll = byId("scroll"), anchor = this.picked && rows.place.has(this.picked) ? rows.rowOf(this.picked) : rows.at(scroll.scrollTop);
+      const scroll = byId("scroll"), shows = this.picked && rows.place.has(this.picked);
+      const anchor = shows ? rows.rowOf(this.picked) : rows.at(scroll.scrollTop);
       const above = anchor ? anchor.y - scroll.scrollTop : 0;
       rows.make();
       this.fitRows();
@@ -81,7 +82,7 @@ class View {
     this.named = rows.list;
     this.namedAt = sign;
     const made = this.painter.rowsIn(top, height).map(row => {
-      const name = nameOf(run, row, rows.place.get(row.id)), picked = row.id === this.picked || rows.place.get(this.picked) === rows.place.get(row.id);
+      const at = rows.place.get(row.id), name = nameOf(run, row, at), picked = at === rows.place.get(this.picked);
       name.classList.toggle("pick", picked);
       name.classList.toggle("hover", row.id === this.painter.hover);
       name.setAttribute("aria-selected", picked);
@@ -99,8 +100,9 @@ class View {
     this.picked = this.painter.pick = id;
     const row = id && this.rows.rowOf(id), scroll = byId("scroll");
     if (row && reveals) {
+      const below = row.y + row.h - scroll.clientHeight;
       if (row.y < scroll.scrollTop) scroll.scrollTop = row.y - 30;
-      else if (row.y + row.h > scroll.scrollTop + scroll.clientHeight) scroll.scrollTop = row.y + row.h - scroll.clientHeight + 60;
+      else if (below > scroll.scrollTop) scroll.scrollTop = below + 60;
     }
     const subject = this.rows.subjectOf(id);
     this.sayRow(subject);

@@ -7,6 +7,7 @@ usage: vosdrieng picture SCHEDULE [PAGE]
 Without a report the schedule is replayed. PAGE is the name of the schedule with the ending .html, in this folder, where
 it isn't told.
 """
+import os
 import pathlib
 import subprocess
 import sys
@@ -16,7 +17,7 @@ import highlights
 import page
 import summary
 import totals
-from grammar import Unreadable
+from grammar import Unreadable, shown
 from model import Model
 from reading import Reading
 
@@ -59,10 +60,9 @@ def options(words):
 def replayed(schedule):
     """The run of a schedule that is replayed, and the status of that."""
     with schedule.open("rb") as events, schedule.open("rb") as given:
-        program = subprocess.Popen([LAUNCHER, "replay"], stdin=given, stdout=subprocess.PIPE)
-        with program.stdout as entries:
-            run = Run(events, entries)
-    return run, 0 if program.wait() and run.is_limited else program.returncode
+        with subprocess.Popen([LAUNCHER, "replay"], stdin=given, stdout=subprocess.PIPE) as program:
+            run = Run(events, program.stdout)
+    return run, 0 if run.is_limited else program.returncode
 
 
 def recorded(schedule, report):
@@ -83,13 +83,14 @@ def draw(report, schedule, out):
     if status and not run.model.events and not run.refused:
         print("picture: there is no report, so nothing is drawn", file=sys.stderr)
         return status
-    text = page.page(schedule.stem, page.data_of(schedule.stem, run))
+    name = shown(os.fsencode(schedule.stem))
+    text = page.page(name, page.data_of(name, run))
     try:
         out.write_text(text, encoding="utf-8")
     except OSError as error:
         print(f"picture: {out}: {error.strerror}", file=sys.stderr)
         return NOT_WRITTEN
-    print(summary.text(schedule.stem, run))
+    print(summary.text(name, run))
     print(f"  page     {out} ({fates.size(out.stat().st_size)})")
     if run.refused:
         print(f"picture: {run.refused}", file=sys.stderr)
@@ -108,4 +109,6 @@ def main(words):
 
 
 if __name__ == "__main__":
+    for stream in (sys.stdout, sys.stderr):
+        stream.reconfigure(errors="backslashreplace")
     sys.exit(main(sys.argv[1:]))

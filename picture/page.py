@@ -17,7 +17,6 @@ SCRIPTS = ("data.js", "words.js", "elements.js", "scale.js", "rows.js", "signs.j
            "pointer.js", "keyboard.js", "tools.js", "print.js", "main.js")
 PLAIN = 400_000  # a longer text of data is deflated
 LETTERS = {"start": "s", "poll": "p", "head": "h", "piece": "b", "end": "e", "fault": "f", "cancel": "c", "doom": "d"}
-MOST_STORIES = 2_000
 
 
 def moments(events):

@@ -1,6 +1,4 @@
 """A schedule and its report, read side by side: each event with its acts."""
-import itertools
-
 import grammar
 import report
 import schedule
@@ -21,16 +19,16 @@ class Reading:
     def __iter__(self):
         events, n = self.events(), 0
         for entry in report.entries(self.report):
+            if entry.n > MOST_EVENTS:
+                self.is_limited = True
+                self.notes.append(f"Only the first {MOST_EVENTS:,} events are drawn and counted.")
+                return
             event = next(events, None)
             if event is None:
                 raise self.report.refused(f"event {entry.n} is answered, and the schedule has only {n}", entry.line)
             event.acts, event.said = entry.acts, "\n".join(entry.said)
             yield event
             n = event.n
-            if n == MOST_EVENTS:
-                self.is_limited = True
-                self.notes.append(f"Only the first {n:,} events are drawn and counted.")
-                return
         self.finish(n, sum(1 for _ in events))
 
     def events(self):
@@ -46,9 +44,3 @@ class Reading:
             self.notes.append(f"The report ends with event {n:,}; the schedule has {left:,} more, which are not drawn.")
         if self.refused:
             self.notes.append(f"The schedule can't be read further. Line {self.refused.number}: {self.refused.why}.")
-
-
-def first(items, most):
-    """Some first items, and how many there are beside them."""
-    taken = list(itertools.islice(items, most))
-    return taken, len(items) - len(taken)

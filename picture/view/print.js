@@ -1,13 +1,13 @@
 // On paper: in light colours, all rows one below another, in parts that fit a sheet; then what is worth a look.
 
-const WIDTH = 1000, SHEET = 620, MOST_SHEETS = 40;
+const WIDTH = 1000, FIRST_SHEET = 460, SHEET = 600, MOST_SHEETS = 40;
 
-// the rows in parts, each of rows that fit one sheet
+// the rows in parts, each of rows that fit one sheet; above the first stands the head
 function sheetsOf(rows) {
   const sheets = [];
   for (const row of rows) {
-    const last = sheets[sheets.length - 1];
-    if (last && row.y + row.h - last[0].y <= SHEET) last.push(row); else sheets.push([row]);
+    const last = sheets[sheets.length - 1], room = sheets.length === 1 ? FIRST_SHEET : SHEET;
+    if (last && row.y + row.h - last[0].y <= room) last.push(row); else sheets.push([row]);
   }
   return sheets;
 }

@@ -5,7 +5,8 @@ LONGEST = 140_000
 MOST = 2**62 - 1
 LONGEST_VALUE = 8192
 MOST_FIELD_BYTES = 32_768  # of an event; what is told of an exchange or a consumer may have some more
-SHOWN_BYTES = 24  # of longer bytes so many are kept, to be looked at
+SHOWN_BYTES = 24  # of longer bodies so many bytes are kept, to be looked at
+SHOWN_TEXT = 300  # and of longer lines, values and targets so many
 
 NUMBER = re.compile(rb"(?:0|[1-9][0-9]{0,18})\Z")
 FIELD = re.compile(rb"([!#$%&'*+.^_`|~0-9a-z-]+): ([^\x00-\x08\x0a-\x1f\x7f]*)\Z")
@@ -47,11 +48,11 @@ class Lines:
 
 
 def shown(raw):
-    """Bytes as text to be looked at: what can't be seen is written as an escape."""
-    text = raw.decode("utf-8", "backslashreplace")
-    if text.isprintable():
-        return text
-    return "".join(it if it.isprintable() else it.encode("unicode_escape").decode() for it in text)
+    """Bytes as text to be looked at: cut where it is long, and what can't be seen is written as an escape."""
+    text = raw[:SHOWN_TEXT].decode("utf-8", "backslashreplace")
+    if not text.isprintable():
+        text = "".join(it if it.isprintable() else it.encode("unicode_escape").decode() for it in text)
+    return text if len(raw) <= SHOWN_TEXT else f"{text}… ({len(raw):,} bytes)"
 
 
 def number(word, least=0, most=MOST):

@@ -1,9 +1,12 @@
 """A schedule and its report, read side by side: each event with its acts."""
+import re
+
 import grammar
 import report
 import schedule
 
 MOST_EVENTS = 250_000
+MOST_TEXT = 12_000_000  # letters: what comes behind is kept without field lines
 
 
 class Reading:
@@ -12,7 +15,7 @@ class Reading:
     def __init__(self, events, entries):
         """Of streams of bytes, a schedule and a report."""
         self.schedule, self.report = grammar.Lines(events, "the schedule"), grammar.Lines(entries, "the report")
-        self.notes = []
+        self.notes, self.letters = [], 0
         self.refused = None  # why the schedule can't be read further
         self.is_limited = False
 
@@ -27,9 +30,19 @@ class Reading:
             if event is None:
                 raise self.report.refused(f"event {entry.n} is answered, and the schedule has only {n}", entry.line)
             event.acts, event.said = entry.acts, "\n".join(entry.said)
+            self.keep_short(event)
             yield event
             n = event.n
         self.finish(n, sum(1 for _ in events))
+
+    def keep_short(self, event):
+        """Past a sum of letters the texts of events are kept without their field lines."""
+        was_short = self.letters > MOST_TEXT
+        self.letters += len(event.text) + len(event.said)
+        if self.letters > MOST_TEXT:
+            event.text, event.said = (re.sub(r"\n  .*", "", text) for text in (event.text, event.said))
+            if not was_short:
+                self.notes.append(f"From event {event.n:,} on, field lines are not shown.")
 
     def events(self):
         try:

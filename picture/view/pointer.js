@@ -159,7 +159,7 @@ function showTip(view, e, row, n) {
 
 function tipOfRow(run, row, n) {
   const title = element("b", "", titleOf(row) + " ");
-  if (row.type !== "c" || !n) return [title, element("span", "", rowSaid(run, row)[row.type === "k" ? 0 : 1])];
+  if (row.type !== "c" || !n) return [title, element("span", "", rowSaid(run, row)[row.type === "x" ? 1 : 0])];
   const it = row.thing, span = it.spans[lastAtMost(it.spans, n, first)];
   if (n < it.started) return [title, element("span", "", "hasn't started")];
   return [title, element("span", "", it.over && n > it.over ? "is over: " + (it.words || it.how) : stateSaid(span))];

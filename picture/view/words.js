@@ -37,8 +37,8 @@ const MODES = ["its own", "shared", "stored before"];
 
 function consumerSaid(run, it) {
   const till = it.over ? `to ${it.over}` : "to the end";
-  const words = [`${it.method} ${rangeSaid(it.range)} with load ${it.load}, events ${it.started} ${till}.`.replace("  ", " "),
-    it.story];
+  const request = [it.method, rangeSaid(it.range)].filter(Boolean).join(" ");
+  const words = [it.story, `${request} with load ${it.load}, events ${it.started} ${till}.`];
   if (it.shown) {
     const [n, r, why, status, lo, hi] = it.shown;
     words.push(`It is shown R${r} at event ${n}: ${status}, ${why}, bytes ${lo} to ${hi ?? "?"}.`);

@@ -2,7 +2,6 @@
 from fates import cause_said, size
 from things import HEAD, SHARED, TURN, WRITER
 
-MOST = 24
 REASONS = {
     "1": "its number doesn't rise", "2": "1,024 consumers are live", "3": "no such consumer has started",
     "4": "the consumer is over", "5": "no byte is wanted", "6": "the exchange isn't open", "7": "it has its head",
@@ -134,4 +133,4 @@ def highlights(model):
         _, words, row, n = min(items, key=lambda item: (-item[0], item[3]))
         more = f" (and {len(items) - 1:,} more)" if items[1:] else ""
         found.append((kind, words[0].upper() + words[1:] + more, row, n))
-    return found[:MOST]
+    return found

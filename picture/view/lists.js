@@ -53,8 +53,8 @@ class EventList {
     line.setAttribute("aria-selected", picked);
     line.setAttribute("aria-setsize", this.count);
     line.setAttribute("aria-posinset", i + 1);
-    const acts = actLines(this.run, n).map(act => brief(act).slice(0, LONGEST_TEXT)).join("; ");
-    line.append(element("span", "", n), textLine(this.run, n).slice(0, LONGEST_TEXT), element("em", "", acts && "  → " + acts));
+    const acts = actLines(this.run, n).map(act => cut(brief(act), LONGEST_TEXT)).join("; ");
+    line.append(element("span", "", n), cut(textLine(this.run, n), LONGEST_TEXT), element("em", "", acts && "  → " + acts));
     line.onclick = () => this.pick(n);
     return line;
   }

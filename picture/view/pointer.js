@@ -169,7 +169,7 @@ function tipOfEvent(view, row, n) {
   const { run } = view, acts = run.said[n - 1].split("\n");
   const other = row && row.type !== "k" && !run.rows[n - 1].split(" ").includes(row.id) ? " (of another row)" : "";
   return [element("pre", "where", `event ${n}${other} · line ${run.lines[n]} · moment ${run.momentOf(n)}`),
-    element("pre", "", textLine(run, n).slice(0, 160)),
+    element("pre", "", cut(textLine(run, n), 160)),
     element("pre", run.denied.has(n) ? "acts denied" : "acts",
       acts.slice(0, MOST_ACTS).map(brief).join("\n") + (acts.length > MOST_ACTS ? "\n…" : "") || "(nothing is done)")];
 }

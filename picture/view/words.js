@@ -113,6 +113,7 @@ function brief(line) {
     (all, words, digits, cut, count) => `${words} (${count || digits.length / 2} B)`);
 }
 
+const cut = (text, most) => text.length > most ? text.slice(0, most) + "…" : text;
 const textLine = (run, n) => brief(run.texts[n - 1].split("\n")[0]);
 const actLines = (run, n) => run.said[n - 1].split("\n").filter(line => line && !line.startsWith("  "));
 const denialSaid = (run, n) => run.reasons[run.said[n - 1].split(" ")[1]];

@@ -3,7 +3,7 @@
 
 usage: launch/build.py [AT_ONCE]
 
-A line tells each crate that is done, and about how much time is left, reckoned by the lines of what is to be proved. What
+A line tells each crate that is done, and about how much time is left, reckoned by the lines of code that are to be proved. What
 was built before and hasn't changed is done at once. Where a crate is not proved, what the toolchain says is shown.
 """
 import concurrent.futures
@@ -37,9 +37,12 @@ def needed(crates):
 
 
 def size(crate):
-    """How many lines a check of the crate reads."""
-    paths = [it for part in ("src", "specs", "proofs") for it in (CRATES / crate / part).rglob("*") if it.is_file()]
-    return sum(len(path.read_bytes().splitlines()) for path in paths)
+    """How much work a crate is: its lines of code, with which the time of its check goes, and a line for 127 of proofs."""
+    lines = {part: 0 for part in ("src", "specs", "proofs")}
+    for part in lines:
+        paths = [it for it in (CRATES / crate / part).rglob("*") if it.is_file()]
+        lines[part] = sum(len(path.read_bytes().splitlines()) for path in paths)
+    return lines["src"] + (lines["specs"] + lines["proofs"]) / 127
 
 
 def at_once():

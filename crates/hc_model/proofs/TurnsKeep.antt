@@ -41,7 +41,7 @@ use Rattle.hc_model.specs.Exchanges.{is_headless, exchange_at, is_for, promised_
 use Rattle.hc_model.specs.Flaws.{flaw_in}
 use Rattle.hc_model.specs.Gone.{becomes_gone, goes_in}
 use Rattle.hc_model.specs.Keys.{IsOfOneKey, entry_of}
-use Rattle.hc_model.specs.Laws.{Turns, IsAwaited, StandsFor, HasPassed, HasOneTurn, TurnsAreKept, TurnsBegin, TurnsAreOne, NumbersAreKept}
+use Rattle.hc_model.specs.Laws.{Turns, IsAwaited, StandsFor, HasPassed, IsInTurn, HasOneTurn, TurnsAreKept, TurnsBegin, TurnsAreOne, NumbersAreKept}
 use Rattle.hc_model.specs.Laws as laws
 use Rattle.hc_model.specs.Lines.{turn, turn_with, holder, holds_turn, holds_place, line, is_in_line, stands_in_line}
 use Rattle.hc_model.specs.Moves as moves
@@ -133,19 +133,41 @@ module _ (t : Tables) (s : Sound t) (turns : Turns t) where
       (λ n inside holds. let h = holds_row key n (t.consumer n) refl inside holds in
       turns.one_holder n d h.y y h.k k h.row row h.at at (h.of_key ∙ sym same))
 
-  pub has_one : IsOfOneKey t → HasOneTurn t
-  unfolding turn
-  has_one one x w row headless way =
-      let it = turns.awaited x w row headless in
-      let at = turn_place x it.k (route_of w.need) it.stands way in
-      let same = opener_key t x w it.k one.exchanges row it.row in
-      ap (λ o. option_or o (least (line t w.request.key))) (holder_is w.request.key w.c x it.k it.row at (sym same))
+  -- where the consumer stands for whom it waits
+  record IsHeld (x : ℕ) (w : Exchange) : Type 0 where
+    k : Consumer
+    row : t.consumer w.c ≡ Some k
+    at : k.place ≡ place.Turn x
+    of_key : k.request.key ≡ w.request.key
+
+  held_by : IsOfOneKey t → (x : ℕ) (w : Exchange) → IsInTurn t x w → IsHeld x w
+  held_by one x w waits =
+      let it = turns.awaited x w waits.row waits.headless in
+      record { k = it.k; row = it.row; at = turn_place x it.k (route_of w.need) it.stands waits.by_turn; of_key = sym (opener_key t x w it.k one.exchanges waits.row it.row) }
     where
       turn_place : (x : ℕ) (k : Consumer) (way : Route) → StandsFor x k way → way ≡ route.Turn → k.place ≡ place.Turn x
       turn_place x k _ (laws.has_turn at unshown) is = at
       turn_place x k _ (laws.direct at) is = absurd (let no_one : route.Direct ≡ route.Turn = is in cc)
       turn_place x k _ (laws.first r lo hi at unshown) is = absurd (let no_one : route.Hole ≡ route.Turn = is in cc)
       turn_place x k _ (laws.later r lo hi how at shown) is = absurd (let no_one : route.Hole ≡ route.Turn = is in cc)
+
+  abbrev turn_in : Place → ℕ
+  turn_in (place.Turn x) = x
+  turn_in _ = 0
+
+  -- two of one key have one consumer, which waits for one of them alone
+  one_held : (x y : ℕ) (w z : Exchange) → IsHeld x w → IsHeld y z → w.request.key ≡ z.request.key → x ≡ y
+  one_held x y w z a b same =
+      let c_is : w.c ≡ z.c = turns.one_holder w.c z.c x y a.k b.k a.row b.row a.at b.at (a.of_key ∙ (same ∙ sym b.of_key)) in
+      let one : a.k ≡ b.k = same_row (t.consumer z.c) a.k b.k (sym (ap t.consumer c_is) ∙ a.row) b.row in
+      ap turn_in (sym a.at ∙ (ap (λ (k : Consumer). k.place) one ∙ b.at))
+
+  pub has_one : IsOfOneKey t → HasOneTurn t
+  unfolding turn
+  has_one one = record {
+    holder = λ x w waits. let h = held_by one x w waits in ap (λ o. option_or o (least (line t w.request.key))) (holder_is w.request.key w.c x h.k h.row h.at h.of_key);
+    one = λ x y w z waits also same. one_held x y w z (held_by one x w waits) (held_by one y z also) same;
+  }
 
 pub turns_are_one : TurnsAreOne
 turns_are_one t s one turns = has_one t s turns one

@@ -74,11 +74,17 @@ BodiesGrow limits contents =
 
 -- ONE TURN
 
+-- an exchange of the turn waits for its head
+pub record IsInTurn (t : Tables) (x : ℕ) (w : Exchange) : Type 0 where
+  pub row : t.exchange x ≡ Some w
+  pub headless : is_headless (Some w) ≡ true
+  pub by_turn : route_of w.need ≡ route.Turn
+
 -- Of a key at most one exchange of the turn waits for its head, and its consumer has the turn.
-abbrev pub HasOneTurn : Tables → Type 0
-HasOneTurn t =
-    (x : ℕ) (w : Exchange) → t.exchange x ≡ Some w → is_headless (Some w) ≡ true →
-    route_of w.need ≡ route.Turn → turn t w.request.key ≡ Some w.c
+pub record HasOneTurn (t : Tables) : Type 0 where
+  pub holder : (x : ℕ) (w : Exchange) → IsInTurn t x w → turn t w.request.key ≡ Some w.c
+  pub one : (x y : ℕ) (w z : Exchange) → IsInTurn t x w → IsInTurn t y z →
+      w.request.key ≡ z.request.key → x ≡ y
 
 -- NO CIRCULAR WAIT
 

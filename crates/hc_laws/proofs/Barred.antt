@@ -16,32 +16,46 @@ use Rattle.hc_rules.specs.declared.heads.HeadView.{HeadView}
 use Rattle.hc_rules.specs.declared.need.Route.{Route}
 use Rattle.hc_rules.specs.declared.need.Route.TheVariants as route
 use Rattle.hc_rules.specs.declared.room.Limits.{Limits}
-use Rattle.hc_model.specs.ActFilters.{has_loss}
+use Rattle.hc_event.specs.declared.place.BoundBy.{BoundBy}
+use Rattle.hc_model.specs.ActFilters.{has_loss, Showing, showing_in}
 use Rattle.hc_model.specs.Cases.{case_at, case_of, head_view, is_founding, was_shown}
+use Rattle.hc_model.specs.ConsumerRows.{consumer_heard, by_opening, waiting}
 use Rattle.hc_model.specs.Currents.{is_current, is_number}
+use Rattle.hc_model.specs.Currents.{current as current_of}
 use Rattle.hc_model.specs.Denials.{denial, as_open}
 use Rattle.hc_model.specs.Dooms.{doomed_key_of, doomed_in, doomed_by_head, doomed_by_case, is_key}
 use Rattle.hc_model.specs.Entries.{Entry, History, Content, Contents}
 use Rattle.hc_model.specs.ExchangeRows.{exchange_heard}
 use Rattle.hc_model.specs.Exchanges.{is_headless}
+use Rattle.hc_model.specs.Flaws.{Flaw, flaw_in}
 use Rattle.hc_model.specs.Gone.{becomes_gone}
 use Rattle.hc_model.specs.Keys.{IsOfOneKey}
-use Rattle.hc_model.specs.Laws.{Turns, StandsFor, IsBarred, IsBehindDooms, BarrierIsKept, BarrierBegins, AreNumbered, barrier, barrier_at, item_of}
+use Rattle.hc_model.specs.Laws.{Turns, StandsFor, IsBarred, IsBehindDooms, BarrierIsKept, BarrierBegins, AreNumbered, IsNewlyBound, IsBoundBehindDooms, barrier, barrier_at, item_of}
 use Rattle.hc_model.specs.Laws as laws
+use Rattle.hc_model.specs.Reading.{reads}
 use Rattle.hc_model.specs.Rows.{Tables, Exchange, Representation, Consumer}
 use Rattle.hc_model.specs.Runs.{IsOwed}
-use Rattle.hc_model.specs.Sound.{Sound}
+use Rattle.hc_model.specs.Sound.{Sound, IsBound}
+use Rattle.hc_model.specs.Sound as sound
 use Rattle.hc_model.specs.Tables.{tables, after, after_accepted, after_denied, representation_of_content, opened_after}
 use Rattle.hc_model.proofs.Basics.{none_some}
+use Rattle.hc_model.proofs.BoundFrom.{BoundFrom, bound_from}
+use Rattle.hc_model.proofs.BoundFrom as from
+use Rattle.hc_model.proofs.BoundKeeps.{founding_is, planned_at}
 use Rattle.hc_model.proofs.CurrentKeeps.{current_is, WasOrFounded, was_or_founded}
 use Rattle.hc_model.proofs.CurrentKeeps as current
 use Rattle.hc_model.proofs.KeysKeep.{same_exchange}
 use Rattle.hc_model.specs.StartingOver.{awaited_exchange}
+use Rattle.hc_model.proofs.ExclusiveWriters.{same_row}
 use Rattle.hc_model.proofs.HoleLemmas.{bool_cases}
 use Rattle.hc_model.proofs.Joining.{mix}
 use Rattle.hc_model.proofs.KeyNames.{not_true, key_is, opener_key}
 use Rattle.hc_model.proofs.Owed.{goes}
 use Rattle.hc_model.proofs.PieceKeeps.{eq_cases}
+use Rattle.hc_model.proofs.PollKeeps.{current_stays}
+use Rattle.hc_model.proofs.Said.{ShowsBy, showing_by}
+use Rattle.hc_model.proofs.ShownFrom.{IsPlanned, ShownAs}
+use Rattle.hc_model.proofs.ShownFrom as shown
 use Rattle.hc_model.proofs.TurnFacts.{IsTaken}
 use Rattle.hc_model.proofs.TurnOpens.{opened_at}
 use Rattle.hc_model.proofs.TurnStays.{head_opens, dooms, after_same}
@@ -186,6 +200,64 @@ module _ (limits : Limits) (t : Tables) (e : Entry) (taken : IsTaken limits t e)
       let less : old w.request.key < x = new_behind x response w at row founding in
       omega arith
 
+  -- WHAT A CONSUMER BECOMES BOUND TO
+
+  -- a founding head dooms nothing of the key of what it founds
+  founded_behind : (x r : ℕ) (response : Response) (w : Exchange) (z : Representation) → e.event ≡ event.Head x response → t.exchange x ≡ Some w → is_founding (case_at t e) ≡ true → x ≡ r → z.key ≡ w.request.key → bar z.key < r
+  founded_behind x r response w z at row founding here key =
+      let free : is_key (doomed_key_of t e) z.key ≡ false = ap (λ o. is_key o z.key) (doom_free x response w at row founding) in
+      let is : bar z.key ≡ old w.request.key = bar_same z.key free ∙ ap old key in
+      let less : old w.request.key < x = new_behind x response w at row founding in
+      omega arith
+
+  founded_key : (x r : ℕ) (response : Response) (w : Exchange) (z : Representation) → e.event ≡ event.Head x response → t.exchange x ≡ Some w → x ≡ r → WasOrFounded t e r z → z.key ≡ w.request.key
+  founded_key x r response w z at row here (current.was v there key_is gone_is) =
+      key_is ∙ one.exchanges.founded r w v (sym (ap t.exchange here) ∙ row) there
+  founded_key x r response w z at row here (current.founded y answer a at_y of_r founding row_y key none) =
+      key ∙ ap (λ (q : Exchange). q.request.key) (same_row (t.exchange x) a w (ap t.exchange (here ∙ sym of_r) ∙ row_y) row)
+
+  -- a poll dooms nothing, and what is current isn't gone
+  polled_behind : (c want r : ℕ) (key : List ℕ) (v z : Representation) → e.event ≡ event.Poll c want → current_of t key ≡ Some r → t.representation r ≡ Some v → WasOrFounded t e r z → bar z.key < r
+  unfolding doomed_key_of
+  polled_behind c want r key v z at now there (current.was y row key_is gone_is) =
+      let free : is_key (doomed_key_of t e) z.key ≡ false = ap (λ o. is_key o z.key) (ap (doomed_in t e) at) in
+      let same : y ≡ v = same_row (t.representation r) y v row there in
+      let is : bar z.key ≡ old v.key = bar_same z.key free ∙ ap old (key_is ∙ ap (λ (q : Representation). q.key) same) in
+      let less : old v.key < r = bars.founded r v there (current_stays t key r v now there) in
+      omega arith
+  polled_behind c want r key v z at now there (current.founded x response w at_x here founding row key_is none) = absurd (none_some v (sym none ∙ there))
+
+  -- the real entry is this one
+  shown_here : (a : Showing) (k : Consumer) → t.consumer a.c ≡ Some k → showing_in e.acts ≡ Some a → reads (by_opening t a.c (opening_in e.acts) (waiting t e a.c (consumer_heard t e a.c e.event k))).place ≡ false → IsPlanned t e.now a.c k a × ShowsBy t e.now e.event a
+  shown_here a k row is free =
+      subst (λ (z : Entry). showing_in z.acts ≡ Some a → reads (by_opening t a.c (opening_in z.acts) (waiting t z a.c (consumer_heard t z a.c z.event k))).place ≡ false → IsPlanned t z.now a.c k a × ShowsBy t z.now z.event a) (keeps.same_entry limits t e taken s one turns)
+      (λ is free. (planned_at limits t e.now flaw s e.event goes_on a k row is free, showing_by limits t e.now flaw s e.event goes_on a is)) is free
+    where
+      flaw : Flaw
+      flaw = flaw_in e.acts
+
+  planned_behind : (c want r lo : ℕ) (hi : Option ℕ) (k : Consumer) (z : Representation) → e.event ≡ event.Poll c want → ShownAs t e.now c k r lo hi → WasOrFounded t e r z → bar z.key < r
+  planned_behind c want r lo hi k z at (shown.joins v now row on from to) was = polled_behind c want r k.request.key v z at now row was
+  planned_behind c want r lo hi k z at (shown.stored v span now row off wants hole from to) was = polled_behind c want r k.request.key v z at now row was
+
+  bound_behind : (r c lo : ℕ) (hi : Option ℕ) (how : BoundBy) (q : Consumer) (z : Representation) → ((k : Consumer) → IsBound t r c k → ⊥) → WasOrFounded t e r z → BoundFrom t e c r lo hi how q → bar z.key < r
+  bound_behind r c lo hi how q z unbound was (from.stays k row at) = absurd (unbound k (sound.is_bound lo hi how row.row at))
+  bound_behind r c lo hi how q z unbound was (from.founds k x response w row at its_row mine here by_is all) =
+      founded_behind x r response w z at its_row (founding_is t e c r lo hi how x response w k (case_at t e) all) here (founded_key x r response w z at its_row here was)
+  bound_behind r c lo hi how q z unbound was (from.opens k o row is mine free way hole) =
+      let opened = opened_at limits t e taken s turns o is in
+      polled_behind o.c opened.want r _ hole.v z opened.at hole.current_is hole.row was
+  bound_behind r c lo hi how q z unbound was (from.shows k a row is all) =
+      let both = shown_here a k (ap t.consumer all.at ∙ row.row) is (subst (λ d. reads (by_opening t d (opening_in e.acts) (waiting t e d (consumer_heard t e d e.event k))).place ≡ false) (sym all.at) all.free) in
+      planned_behind a.c both.1.want r a.lo a.hi k z both.1.poll.at (subst (λ n. ShownAs t e.now a.c k n a.lo a.hi) all.of_r both.0.shown_as) was
+
+  becomes_behind : (r c : ℕ) (z : Representation) → IsNewlyBound t u r c → u.representation r ≡ Some z → bar z.key < r
+  becomes_behind r c z becomes after = by_bound becomes.k becomes.bound
+    where
+      by_bound : (k : Consumer) → IsBound u r c k → bar z.key < r
+      by_bound k (sound.is_bound lo hi how row at) =
+          bound_behind r c lo hi how k z becomes.unbound (was_or_founded t e r (t.representation r) z refl after) (bound_from t e c r lo hi how (t.consumer c) k refl row at)
+
   -- WHAT MAY STILL FOUND
 
   unshown_stand : (x : ℕ) (w : Exchange) (row : t.exchange x ≡ Some w) (bare : is_headless (Some w) ≡ true) → keeps.Stays t e x w (exchange_heard t e x e.event w) → was_shown (u.consumer w.c) ≡ false → (turns.awaited x w row bare).k.shown ≡ false
@@ -262,6 +334,27 @@ barred_by limits contents h e true denied s one turns barred owed =
 
 pub barrier_is_kept : BarrierIsKept
 barrier_is_kept limits contents h e s one turns barred owed = barred_by limits contents h e (is_denied e.acts) refl s one turns barred owed
+
+-- a denied entry binds nobody
+binds_by : (limits : Limits) (contents : Contents) (h : History) (e : Entry) (b : Bool) → is_denied e.acts ≡ b → Sound (tables contents h) → IsOfOneKey (tables contents h) → Turns (tables contents h) → IsBarred contents h → IsOwed limits (tables contents h) e → IsBoundBehindDooms contents (e ∷ h)
+binds_by limits contents h e false accepted s one turns barred owed =
+    let t = tables contents h in
+    let bars : Bars t (λ key. barrier contents key h) = record { within = barred.within; founded = barred.founded; awaited = barred.awaited } in
+    subst (λ (u : Tables). (r c : ℕ) (v : Representation) → IsNewlyBound t u r c → u.representation r ≡ Some v → barrier contents v.key (e ∷ h) < r) (next_tables contents h e accepted)
+    (λ r c v becomes after. becomes_behind limits t e (record { owed = owed; not_denied = accepted }) s one turns (λ key. barrier contents key h) bars r c v becomes after)
+binds_by limits contents h e true denied s one turns barred owed =
+    let t = tables contents h in
+    subst (λ (u : Tables). (r c : ℕ) (v : Representation) → IsNewlyBound t u r c → u.representation r ≡ Some v → barrier contents v.key (e ∷ h) < r) (denied_tables contents h e denied)
+    (λ r c v becomes after. absurd (was_bound t r c becomes))
+  where
+    was_bound : (t : Tables) (r c : ℕ) → IsNewlyBound t (after_denied t e) r c → ⊥
+    was_bound t r c becomes = by_bound becomes.k becomes.bound
+      where
+        by_bound : (k : Consumer) → IsBound (after_denied t e) r c k → ⊥
+        by_bound k (sound.is_bound lo hi how row at) = becomes.unbound k (sound.is_bound lo hi how row at)
+
+pub binds_behind : (limits : Limits) (contents : Contents) (h : History) (e : Entry) → Sound (tables contents h) → IsOfOneKey (tables contents h) → Turns (tables contents h) → IsBarred contents h → IsOwed limits (tables contents h) e → IsBoundBehindDooms contents (e ∷ h)
+binds_behind limits contents h e s one turns barred owed = binds_by limits contents h e (is_denied e.acts) refl s one turns barred owed
 
 item_row : (contents : Contents) (r : ℕ) (o : Option Content) (v : Representation) → AreNumbered contents → item_of contents r ≡ o → option_map representation_of_content o ≡ Some v → 0 < r
 item_row contents r None v numbered is row = absurd (none_some v row)

@@ -7,13 +7,13 @@ use Rattle.hc_model.specs.Entries.{Entry, History, Contents}
 use Rattle.hc_model.specs.Flaws.{flaw_in}
 use Rattle.hc_model.specs.Keys.{IsOfOneKey, KeepsOthers}
 use Rattle.hc_model.specs.Beginnings.{may_begin}
-use Rattle.hc_model.specs.Laws.{OfRuns, DeliversOnce, HasOneTurn, Turns, HasPassed, IsBarred, DoomsInRuns, KeysInRuns}
+use Rattle.hc_model.specs.Laws.{OfRuns, DeliversOnce, HasOneTurn, Turns, HasPassed, IsBarred, DoomsInRuns, KeysInRuns, OfHistories, IsBoundBehindDooms}
 use Rattle.hc_model.specs.Rows.{Tables, Consumer}
 use Rattle.hc_model.specs.Runs.{IsRun, IsOwed}
 use Rattle.hc_model.specs.Sound.{Sound, IsBound}
 use Rattle.hc_model.specs.Sound as sound
 use Rattle.hc_model.specs.Tables.{tables, after_accepted, after_denied}
-use Rattle.hc_laws.proofs.Barred.{next_tables, denied_tables, barrier_is_kept, barrier_begins}
+use Rattle.hc_laws.proofs.Barred.{next_tables, denied_tables, barrier_is_kept, barrier_begins, binds_behind}
 use Rattle.hc_model.proofs.KeysPlaces.{keys_are_kept, keys_begin}
 use Rattle.hc_model.proofs.OneKey.{law_of_one_key}
 use Rattle.hc_model.proofs.Once.{delivers_once}
@@ -118,6 +118,12 @@ turns_in_runs limits contents h may run = let held = holds limits contents may h
 
 pub dooms_in_runs : DoomsInRuns
 dooms_in_runs limits contents h may run = (barred limits contents may h run).founded
+
+pub binds_in_runs : OfHistories IsBoundBehindDooms
+binds_in_runs limits contents [] may run = tt
+binds_in_runs limits contents (e ∷ h) may run =
+    let held = holds limits contents may h run.0 in
+    binds_behind limits contents h e (sound_run limits contents may h run.0) held.one held.turns (barred limits contents may h run.0) run.1
 
 pub keys_in_runs : KeysInRuns
 keys_in_runs limits contents h e may run accepted = others_stay limits contents may h e run accepted

@@ -120,12 +120,25 @@ abbrev pub barrier : Contents → List ℕ → History → ℕ
 barrier contents key [] = 0
 barrier contents key (e ∷ h) = barrier_at (tables contents h) e (barrier contents key h) key
 
--- What isn't gone was opened after the last doom of its key, and so was what a consumer becomes
--- bound to.
+-- What isn't gone was opened after the last doom of its key.
 abbrev pub IsBehindDooms : Contents → History → Type 0
 IsBehindDooms contents h =
     (r : ℕ) (v : Representation) → (tables contents h).representation r ≡ Some v →
     v.is_gone ≡ false → barrier contents v.key h < r
+
+-- c is bound to r now, and wasn't before
+pub record IsNewlyBound (before now : Tables) (r c : ℕ) : Type 0 where
+  pub k : Consumer
+  pub bound : IsBound now r c k
+  pub unbound : (old : Consumer) → IsBound before r c old → ⊥
+
+-- What a consumer became bound to by the last entry was opened after the last doom of its key.
+abbrev pub IsBoundBehindDooms : Contents → History → Type 0
+IsBoundBehindDooms contents [] = Unit {0}
+IsBoundBehindDooms contents (e ∷ h) =
+    (r c : ℕ) (v : Representation) →
+    IsNewlyBound (tables contents h) (tables contents (e ∷ h)) r c →
+    (tables contents (e ∷ h)).representation r ≡ Some v → barrier contents v.key (e ∷ h) < r
 
 -- TRUTHFUL RECORDS
 
@@ -399,6 +412,12 @@ abbrev pub BarrierBegins : Type 0
 BarrierBegins = (contents : Contents) → AreNumbered contents → IsBarred contents []
 
 -- IN RUNS
+
+-- a fact of every run from contents by which a store may begin
+abbrev pub OfHistories : (Contents → History → Type 0) → Type 0
+OfHistories P =
+    (limits : Limits) (contents : Contents) (h : History) → may_begin limits contents ≡ true →
+    IsRun limits contents h → P contents h
 
 -- what isn't gone is behind the last doom of its key, in each run from contents by which a store may begin
 abbrev pub DoomsInRuns : Type 0

@@ -37,6 +37,7 @@ pub mod GoAlone
 pub mod BesideKeeps
 pub mod SoundRuns
 pub mod GrowsInRuns
+pub mod StoresGrow
 pub mod Lasting
 pub mod FoundedAs
 pub mod Unknowns

@@ -27,7 +27,7 @@ use Rattle.hc_model.proofs.HeadKeeps.{RepRow, rep_row, of_head}
 use Rattle.hc_model.proofs.HeadKeeps as head
 
 -- a cell that was there stays, where what is written was absent
-stays_written : (at x p : ℕ) (bytes : List ℕ) (f : Cells) (cell : Cell) → AreAbsent f at (at + length bytes) → f p ≡ Some cell → cells_with at x bytes f p ≡ Some cell
+pub stays_written : (at x p : ℕ) (bytes : List ℕ) (f : Cells) (cell : Cell) → AreAbsent f at (at + length bytes) → f p ≡ Some cell → cells_with at x bytes f p ≡ Some cell
 stays_written at x p bytes f cell absent there = elim (inside-cases at (length bytes) p) [
   | inl here ↦ absurd (let gone = absent p here.1 here.2 in let never : None ≡ Some cell = sym gone ∙ there in cc)
   | inr off ↦ rw off.0 there

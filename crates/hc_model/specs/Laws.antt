@@ -72,6 +72,21 @@ BodiesGrow limits contents =
     may_begin limits contents ≡ true → (h : History) (e : Entry) → IsRun limits contents (e ∷ h) →
     Grows (tables contents h) (tables contents (e ∷ h))
 
+-- the store has this byte of r at p
+pub record HasStored (t : Tables) (r p : ℕ) (cell : Cell) : Type 0 where
+  pub v : Representation
+  pub row : t.representation r ≡ Some v
+  pub stored : v.stored p ≡ Some cell
+
+-- what is stored stays
+abbrev pub GrowsStored : Tables → Tables → Type 0
+GrowsStored old new = (r p : ℕ) (cell : Cell) → HasStored old r p cell → HasStored new r p cell
+
+-- at the last entry
+abbrev pub StoresGrow : Contents → History → Type 0
+StoresGrow contents [] = Unit {0}
+StoresGrow contents (e ∷ h) = GrowsStored (tables contents h) (tables contents (e ∷ h))
+
 -- ONE TURN
 
 -- an exchange of the turn waits for its head

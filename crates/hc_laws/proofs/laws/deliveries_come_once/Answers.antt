@@ -1,6 +1,7 @@
 -- What is sound delivers once, and what shows this is kept.
 use Rattle.hc_laws.proofs.GrowsInRuns.{bodies_grow_in_runs}
 use Rattle.hc_laws.proofs.InRuns.{delivers_in_runs}
+use Rattle.hc_laws.proofs.StoresGrow.{stores_grow_in_runs}
 use Rattle.hc_model.proofs.Once.{delivers_once}
 use Rattle.hc_model.proofs.Stays.{bodies_are_kept}
 use Rattle.hc_model.proofs.EventsKeep.{deliveries_are_kept}
@@ -20,3 +21,6 @@ returns-clause-runs c = delivers_in_runs
 
 pub returns-clause-grow : goal.returns-clause-grow
 returns-clause-grow c = bodies_grow_in_runs
+
+pub returns-clause-stored : goal.returns-clause-stored
+returns-clause-stored c = stores_grow_in_runs

@@ -38,6 +38,8 @@ pub mod BesideKeeps
 pub mod SoundRuns
 pub mod GrowsInRuns
 pub mod StoresGrow
+pub mod AtHoles
+pub mod GivesStored
 pub mod Lasting
 pub mod FoundedAs
 pub mod Unknowns

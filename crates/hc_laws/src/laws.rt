@@ -1,6 +1,6 @@
 //! What holds of all runs, each as the contract of a function that does nothing.
 ghost use Rattle.hc_model.specs.Histories.{RunsAreFiltered};
-ghost use Rattle.hc_model.specs.Reads.{OneHeadIsShown, BodiesAreRead, GivesNext, EndsWell, RunsReadWhole};
+ghost use Rattle.hc_model.specs.Reads.{OneHeadIsShown, BodiesAreRead, GivesNext, EndsWell, GivesStored, RunsReadWhole};
 ghost use Rattle.hc_model.specs.Keys.{IsOfOneKey, LawOfOneKey, KeysAreKept, KeysBegin};
 ghost use Rattle.hc_model.specs.Laws.{SoundDeliversOnce, DeliveriesAreKept, BodiesAreKept, NumbersAreKept, NamesAreKept, OneCurrentIsKept, StoresAreKept, StartsAreSound, WholeIsWhole, AfterEach, AreBound, KnowEnds, OwnedAfterEach, AreToBeShown, OwedAfterEach, OwnersAreKnown, TurnsAreOne, TurnsAreKept, TurnsBegin, HasOneTurn, KeysInRuns, BarrierIsKept, BarrierBegins, DoomsInRuns, OfHistories, IsBoundBehindDooms, TruncatedIsFront, IsTruthful, TurnsGo, ReadersGo, FewGiveWay, AreRead, AreUndue, ReadAbout, MeasuredAfterEach, BeginningsAreMeasured, AreGrowing, KeptByEntries, AreServed, AreHad, SurvivorsGoOn, BeginningsAreStarts, AfterDenials, OfRuns, OfRunsIn, LeavesInRuns, DeliversOnce, BodiesGrowInRuns, StoresGrow, WaitsEnd, FitsInRuns, FewInRuns};
 ghost use Rattle.hc_model.specs.Owners.{Owners};
@@ -88,11 +88,13 @@ pub fn runs_read_whole()
 /// Over a whole run the bytes that a consumer was given, joined, are those of the body that it was shown,
 /// from the position on from which it was shown it, as its exchanges delivered them. Each piece that it is
 /// given is next, and within the end that it was shown. Who is told the end was given all up to it: to the
-/// end that it was shown, and else to that of the body.
+/// end that it was shown, and else to that of the body. Who was shown a head, and whose next byte is stored, is
+/// given some by each accepted poll, unless the store fails.
 pub fn one_body_is_read()
     ensures joined { BodiesAreRead }
     ensures next { GivesNext }
     ensures ended { EndsWell }
+    ensures stored { OfHistories GivesStored }
 {}
 
 /// What is called Whole has every position below its total.

@@ -1,8 +1,8 @@
 -- Who opens an exchange waits for its head; and a poll after which nobody leaves closes and loses nothing.
-use Rattle.std.proofs.Common.{◌≡◌, ◌⊎◌, inl, inr, ℕ, ◌+◌, List, [], ◌∷◌, ◌++◌, Bool, true, false, Option, Some, None, refl, ap, sym, ◌∙◌, subst, arith}
+use Rattle.std.proofs.Common.{◌≡◌, ◌⊎◌, inl, inr, ℕ, ◌+◌, List, [], ◌∷◌, ◌++◌, length, Bool, true, false, Option, Some, None, refl, ap, sym, ◌∙◌, subst, arith}
 use Rattle.std.specs.Prelude.{◌&&◌, ◌||◌, ◌==◌, nat_eq, not, is_none, if◌then◌else◌}
 use Rattle.std.proofs.lemmas.Bool.Decides.{nat_tests}
-use Rattle.hc_event.specs.Filters.{Opening, opening_in, closes_in, leaves_in, shows_in}
+use Rattle.hc_event.specs.Filters.{Opening, opening_in, closes_in, leaves_in, shows_in, given_in}
 use Rattle.hc_event.specs.declared.act.Act.{Act}
 use Rattle.hc_event.specs.declared.act.Need.{Need}
 use Rattle.hc_event.specs.declared.act.Need.TheVariants as need
@@ -50,6 +50,7 @@ use Rattle.hc_model.proofs.TurnFacts.{IsTaken, AtPoll, acts_is, seen, behind, fa
 use Rattle.hc_model.proofs.TurnFacts as facts
 use Rattle.hc_model.proofs.TurnMoves.{Does}
 use Rattle.hc_model.proofs.TurnMoves as does
+use Rattle.hc_model.proofs.Untouched.{plus_none}
 
 eq-refl : (r : ℕ) → nat_eq r r ≡ true
 eq-refl r = grind (arith, nat_tests)
@@ -311,6 +312,7 @@ module _ (limits : Limits) (t : Tables) (e : Entry) (taken : IsTaken limits t e)
     pub place : z.place ≡ place_after
     pub own : z.own ≡ Some o.x
     pub shown : z.shown ≡ k.shown
+    pub given : z.given ≡ k.given
     pub request : z.request ≡ k.request
 
   left_same : (r : ℕ) (own : Option ℕ) (v : Option Representation) → left_to t e c r v own ≡ own
@@ -336,6 +338,7 @@ module _ (limits : Limits) (t : Tables) (e : Entry) (taken : IsTaken limits t e)
         place = rw leaves (showing_none (showing_in e.acts) q.place (λ z h. far.showing z (sym (ap showing_in opened.acts) ∙ h)) ∙ ap (λ (z : Consumer). z.place) opening_same);
         own = own_same k.place q.own ∙ ap (λ (z : Consumer). z.own) opening_same;
         shown = ap (λ b. b || q.shown) shows ∙ ap (λ (z : Consumer). z.shown) opening_same;
+        given = ap (λ (bytes : List ℕ). q.given + length bytes) (ap (given_in c) opened.acts ∙ far.given) ∙ (plus_none q.given ∙ ap (λ (z : Consumer). z.given) opening_same);
         request = ap (λ (z : Consumer). z.request) opening_same;
       }
     where
@@ -345,7 +348,7 @@ module _ (limits : Limits) (t : Tables) (e : Entry) (taken : IsTaken limits t e)
 
   settled_is : (b : Bool) (q : Consumer) → b ≡ false → IsOpener q → IsOpener (if b then back_in_line e.now q else due_after t e c k q)
   settled_is true q h same = absurd (let no_one : true ≡ false = h in cc)
-  settled_is false q h same = record { place = same.place; own = same.own; shown = same.shown; request = same.request }
+  settled_is false q h same = record { place = same.place; own = same.own; shown = same.shown; given = same.given; request = same.request }
 
   pub opener_after : (z : Consumer) × (consumer_after t e c (t.consumer c) ≡ Some z) × IsOpener z
   unfolding consumer_after

@@ -1,9 +1,9 @@
 -- Who waits for a head goes on waiting, as long as no head comes.
-use Rattle.std.proofs.Common.{◌≡◌, inl, inr, ℕ, List, ◌∷◌, ◌++◌, Bool, true, false, cond, Option, Some, None, refl, ap, sym, ◌∙◌, subst, arith}
+use Rattle.std.proofs.Common.{◌≡◌, inl, inr, ℕ, ◌+◌, List, [], ◌∷◌, ◌++◌, Bool, true, false, cond, Option, Some, None, refl, ap, sym, ◌∙◌, subst, arith}
 use Rattle.std.specs.Prelude.{length, ◌&&◌, ◌||◌, ◌==◌, nat_eq, not, is_none, is_some, if◌then◌else◌}
 use Rattle.std.specs.Option.{option_and_then}
 use Rattle.std.proofs.lemmas.Bool.Decides.{nat_tests}
-use Rattle.hc_event.specs.Filters.{Opening, opening_in, closes_in, leaves_in, shows_in}
+use Rattle.hc_event.specs.Filters.{Opening, opening_in, closes_in, leaves_in, shows_in, given_in}
 use Rattle.hc_event.specs.declared.act.Act.{Act}
 use Rattle.hc_event.specs.declared.act.Act.TheVariants as act
 use Rattle.hc_event.specs.declared.act.Wait.TheVariants as wait
@@ -51,6 +51,7 @@ use Rattle.hc_model.proofs.ExclusiveWriters.{same_row}
 use Rattle.hc_model.proofs.PieceKeeps.{some_inj}
 use Rattle.hc_model.proofs.TurnFacts.{IsTaken, AtPoll, seen, behind, far_behind, at_poll, far_from, is_closed, same_case, same_doom}
 use Rattle.hc_model.proofs.TurnFacts as facts
+use Rattle.hc_model.proofs.Untouched.{plus_none}
 
 eq-refl : (r : ℕ) → nat_eq r r ≡ true
 eq-refl r = grind (arith, nat_tests)
@@ -110,6 +111,39 @@ head_none w h = bare_head w.head (and_then w.is_open (is_none w.head) h)
 
 headed_not : (w : Exchange) → is_headless (Some w) ≡ true → is_some w.head ≡ true → ⊥
 headed_not w h headed = let no_one : false ≡ true = ap is_some (sym (head_none w h)) ∙ headed in cc
+
+-- WHAT ITS POLL SAYS
+
+-- who waits for the head of its exchange is told so
+module _ (t : Tables) (s : Sound t) (turns : Turns t) (x : ℕ) (w : Exchange) (row : t.exchange x ≡ Some w) (headless : is_headless (Some w) ≡ true) where
+  abbrev who : IsAwaited t x w
+  who = turns.awaited x w row headless
+
+  pub awaited_open : own_open t who.k ≡ Some x
+  awaited_open = ap (option_and_then (if_open t)) who.own ∙ rw (row, is_open_headless w headless) refl
+
+  shown_none : (b : Bool) (m : Option Move) → m ≡ None → cond b None m ≡ None
+  shown_none true m h = refl
+  shown_none false m h = h
+
+  shown_yes : (b : Bool) (m : Option Move) → b ≡ true → cond b None m ≡ None
+  shown_yes true m h = refl
+  shown_yes false m h = absurd (let no_one : false ≡ true = h in cc)
+
+  nothing_joined : has_joined (t.exchange x) ≡ false
+  nothing_joined = ap has_joined row ∙ ap is_some (s.waits.headless x w row (head_none w headless)).1
+
+  shows_nothing : (way : Route) → StandsFor x who.k way → shows_head t who.k ≡ None
+  shows_nothing _ (laws.direct at) = shown_none who.k.shown _ (ap (shows_at t who.k) at ∙ (ap (shows_direct t x) row ∙ ap (shows_answer t x w) (head_none w headless)))
+  shows_nothing _ (laws.has_turn at unshown) = shown_none who.k.shown _ (ap (shows_at t who.k) at)
+  shows_nothing _ (laws.first r lo hi at unshown) = shown_none who.k.shown _ (ap (shows_at t who.k) at ∙ rw nothing_joined refl)
+  shows_nothing _ (laws.later r lo hi how at shown) = shown_yes who.k.shown _ shown
+
+  pub polls_head : (now want : ℕ) → poll_move t now want w.c (Some who.k) ≡ moves.Waits (wait.Head x)
+  polls_head now want =
+      let waits : option_and_then (if_headless t) (own_open t who.k) ≡ Some x = ap (option_and_then (if_headless t)) awaited_open ∙ rw (row, headless) refl in
+      ap (λ o. or_else o (or_else (waits_for_head (option_and_then (if_headless t) (own_open t who.k))) (by_place t now want w.c who.k who.k.place))) (shows_nothing (route_of w.need) who.stands)
+      ∙ ap (λ o. or_else (waits_for_head o) (by_place t now want w.c who.k who.k.place)) waits
 
 -- ONE CONSUMER THAT WAITS
 
@@ -174,7 +208,7 @@ module _ (limits : Limits) (t : Tables) (e : Entry) (taken : IsTaken limits t e)
   not_must must = not_closed (is_closed limits t e taken x w (s.numbered.lists.opened x (ap is_some row)) row must (stays_open_at e.event refl))
 
   own_is_open : own_open t k ≡ Some x
-  own_is_open = ap (option_and_then (if_open t)) it.own ∙ rw (row, is_open_headless w headless) refl
+  own_is_open = awaited_open t s turns x w row headless
 
   pub not_leaving : leaver (seen limits t e taken) ≡ Some c → ⊥
   not_leaving leaves =
@@ -219,52 +253,31 @@ module _ (limits : Limits) (t : Tables) (e : Entry) (taken : IsTaken limits t e)
 
   -- WHAT IS SAID TO IT
 
-  shown_none : (b : Bool) (m : Option Move) → m ≡ None → cond b None m ≡ None
-  shown_none true m h = refl
-  shown_none false m h = h
-
-  shown_yes : (b : Bool) (m : Option Move) → b ≡ true → cond b None m ≡ None
-  shown_yes true m h = refl
-  shown_yes false m h = absurd (let no_one : false ≡ true = h in cc)
-
-  nothing_joined : has_joined (t.exchange x) ≡ false
-  nothing_joined = ap has_joined row ∙ ap is_some (s.waits.headless x w row (head_none w headless)).1
-
-  shows_nothing : (way : Route) → StandsFor x k way → shows_head t k ≡ None
-  shows_nothing _ (laws.direct at) = shown_none k.shown _ (ap (shows_at t k) at ∙ (ap (shows_direct t x) row ∙ ap (shows_answer t x w) (head_none w headless)))
-  shows_nothing _ (laws.has_turn at unshown) = shown_none k.shown _ (ap (shows_at t k) at)
-  shows_nothing _ (laws.first r lo hi at unshown) = shown_none k.shown _ (ap (shows_at t k) at ∙ rw nothing_joined refl)
-  shows_nothing _ (laws.later r lo hi how at shown) = shown_yes k.shown _ shown
-
-  polls_head : (now want : ℕ) → poll_move t now want c (Some k) ≡ moves.Waits (wait.Head x)
-  polls_head now want =
-      let waits : option_and_then (if_headless t) (own_open t k) ≡ Some x = ap (option_and_then (if_headless t)) own_is_open ∙ rw (row, headless) refl in
-      ap (λ o. or_else o (or_else (waits_for_head (option_and_then (if_headless t) (own_open t k))) (by_place t now want c k k.place))) (shows_nothing (route_of w.need) it.stands)
-      ∙ ap (λ o. or_else (waits_for_head o) (by_place t now want c k k.place)) waits
-
   -- nothing of the acts moves it
   record IsPut : Type 0 where
     waits : waiting_place t k (wait_in c e.acts) ≡ k.place
     leaves : leaves_in c e.acts ≡ false
     shows : shows_in c e.acts ≡ false
+    given : given_in c e.acts ≡ []
     opens : (o : Opening) → opening_in e.acts ≡ Some o → nat_eq o.c c ≡ false
     showing : (z : Showing) → showing_in e.acts ≡ Some z → nat_eq z.c c ≡ false
 
   put_far : IsFarFrom c e.acts → IsPut
-  put_far far = record { waits = ap (waiting_place t k) far.waits; leaves = far.leaves; shows = far.shows; opens = far.opens; showing = far.showing }
+  put_far far = record { waits = ap (waiting_place t k) far.waits; leaves = far.leaves; shows = far.shows; given = far.given; opens = far.opens; showing = far.showing }
 
   put_head : (rest : List Act) → e.acts ≡ act.Pending c (wait.Head x) ∷ rest → IsFarFrom c rest → IsPut
   put_head rest is far = record {
     waits = ap (λ acts. waiting_place t k (wait_in c acts)) is ∙ rw (eq-refl c) refl;
     leaves = ap (leaves_in c) is ∙ far.leaves;
     shows = ap (shows_in c) is ∙ far.shows;
+    given = ap (given_in c) is ∙ far.given;
     opens = λ o h. far.opens o (sym (ap opening_in is) ∙ h);
     showing = λ z h. far.showing z (sym (ap showing_in is) ∙ h);
   }
 
   put_poll : AtPoll limits t e taken c k → IsPut
   put_poll (facts.moves_on want m at is does all saw) =
-      put_head (behind limits t e taken) (all ∙ ap (λ z. acts_of c z ++ behind limits t e taken) (is ∙ polls_head e.now want)) (far_behind limits t e taken c)
+      put_head (behind limits t e taken) (all ∙ ap (λ z. acts_of c z ++ behind limits t e taken) (is ∙ polls_head t s turns x w row headless e.now want)) (far_behind limits t e taken c)
   put_poll (facts.misreads want r at all saw) =
       absurd (not_leaving (leaver_at (event.Poll c want) at ∙ ap leaver_in saw))
 
@@ -402,6 +415,7 @@ module _ (limits : Limits) (t : Tables) (e : Entry) (taken : IsTaken limits t e)
     pub place : z.place ≡ k.place
     pub own : z.own ≡ k.own
     pub shown : z.shown ≡ k.shown
+    pub given : z.given ≡ k.given
     pub request : z.request ≡ k.request
 
   opening_far : (o : Option Opening) (q : Consumer) → opening_in e.acts ≡ o → IsPut → by_opening t c o q ≡ q
@@ -421,12 +435,13 @@ module _ (limits : Limits) (t : Tables) (e : Entry) (taken : IsTaken limits t e)
         place = rw put.leaves (showing_far (showing_in e.acts) _ refl put ∙ at);
         own = own_same k.place _ refl ∙ ap (λ (z : Consumer). z.own) q;
         shown = ap (λ b. b || (by_opening t c (opening_in e.acts) (waiting t e c k)).shown) put.shows ∙ ap (λ (z : Consumer). z.shown) q;
+        given = ap (λ (bytes : List ℕ). (by_opening t c (opening_in e.acts) (waiting t e c k)).given + length bytes) put.given ∙ (plus_none _ ∙ ap (λ (z : Consumer). z.given) q);
         request = ap (λ (z : Consumer). z.request) q;
       }
 
   settled_same : (b : Bool) (q : Consumer) → b ≡ false → IsSameStand q → IsSameStand (if b then back_in_line e.now q else due_after t e c k q)
   settled_same true q h same = absurd (let no_one : true ≡ false = h in cc)
-  settled_same false q h same = record { place = same.place; own = same.own; shown = same.shown; request = same.request }
+  settled_same false q h same = record { place = same.place; own = same.own; shown = same.shown; given = same.given; request = same.request }
 
   pub after_same : (z : Consumer) × (consumer_after t e c (t.consumer c) ≡ Some z) × IsSameStand z
   unfolding consumer_after

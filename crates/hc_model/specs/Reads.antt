@@ -1,7 +1,8 @@
 -- What a consumer reads: one interval of the body of one representation, as its exchanges delivered it.
-use Rattle.std.specs.Prelude.{◌≡◌, ◌≢◌, ◌⊎◌, ℕ, ◌+◌, ◌-◌, ◌≤◌, ◌<◌, List, [], ◌∷◌, ◌++◌, length, slice_index, Option, Some, None, IfSome, Bool, true, false, IsTrue, option_map, if◌then◌else◌, nat_le, nat_lt, ◌&&◌, ◌||◌, not}
+use Rattle.std.specs.Prelude.{◌≡◌, ◌≢◌, ◌⊎◌, ℕ, ◌+◌, ◌-◌, ◌≤◌, ◌<◌, List, [], ◌∷◌, ◌++◌, length, slice_index, Option, Some, None, is_some, IfSome, Bool, true, false, IsTrue, option_map, if◌then◌else◌, nat_le, nat_lt, ◌&&◌, ◌||◌, not}
 use Rattle.hc_sparse.specs.Cells.{Cell}
 use Rattle.hc_event.specs.Filters.{is_denied, given_in}
+use Rattle.hc_event.specs.declared.event.Event.TheVariants as event
 use Rattle.hc_event.specs.declared.event.Request.{Request}
 use Rattle.hc_event.specs.declared.act.Act.{Act}
 use Rattle.hc_event.specs.declared.act.Act.TheVariants as act
@@ -12,11 +13,13 @@ use Rattle.hc_rules.specs.declared.heads.HeadCase.TheVariants as case
 use Rattle.hc_rules.specs.declared.room.Limits.{Limits}
 use Rattle.hc_fresh.specs.Facts.{allowed}
 use Rattle.hc_model.specs.Entries.{Entry, History, Contents}
-use Rattle.hc_model.specs.Rows.{Tables, Exchange, Representation}
+use Rattle.hc_model.specs.Flaws.{failures_in}
+use Rattle.hc_model.specs.Rows.{Tables, Exchange, Representation, Consumer}
 use Rattle.hc_model.specs.Exchanges.{base, front, exchange_in}
 use Rattle.hc_model.specs.Currents.{is_number}
 use Rattle.hc_model.specs.Cases.{case_at}
-use Rattle.hc_model.specs.Reading.{end_in}
+use Rattle.hc_model.specs.Reading.{end_in, offset, hi_of}
+use Rattle.hc_model.specs.Steps.{bound_row}
 use Rattle.hc_model.specs.Tables.{tables}
 use Rattle.hc_model.specs.Beginnings.{may_begin}
 use Rattle.hc_model.specs.Runs.{IsRun}
@@ -196,3 +199,22 @@ abbrev pub RunsReadWhole : Type 0
 RunsReadWhole =
     (limits : Limits) (contents : Contents) (h : History) → may_begin limits contents ≡ true →
     IsRun limits contents h → ReadsWhole contents h
+
+-- WHAT IS STORED IS GIVEN
+
+-- c was shown a head, and the next byte of what it reads is stored, before the end of that
+pub record HasNextStored (t : Tables) (c : ℕ) : Type 0 where
+  pub k : Consumer
+  pub row : t.consumer c ≡ Some k
+  pub shown : k.shown ≡ true
+  pub v : Representation
+  pub reads : bound_row t k ≡ Some v
+  pub stored : is_some (v.stored (offset t k)) ≡ true
+  pub before : IfSome (hi_of t k.place) (λ hi. offset t k < hi)
+
+-- By an accepted poll it is given something, where the store doesn't fail: so of the last entry.
+abbrev pub GivesStored : Contents → History → Type 0
+GivesStored contents [] = Unit {0}
+GivesStored contents (e ∷ h) =
+    (c want : ℕ) → e.event ≡ event.Poll c want → is_denied e.acts ≡ false →
+    failures_in e.acts ≡ 0 → HasNextStored (tables contents h) c → 0 < length (given_in c e.acts)

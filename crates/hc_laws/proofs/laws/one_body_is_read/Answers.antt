@@ -1,3 +1,4 @@
+use Rattle.hc_laws.proofs.GivesStored.{gives_stored_in_runs}
 use Rattle.hc_laws.proofs.ReadEnds.{ends_well}
 use Rattle.hc_laws.proofs.ReadJoined.{bodies_are_read}
 use Rattle.hc_laws.proofs.ReadNext.{gives_next}
@@ -11,3 +12,6 @@ returns-clause-next c = gives_next
 
 pub returns-clause-ended : goal.returns-clause-ended
 returns-clause-ended c = ends_well
+
+pub returns-clause-stored : goal.returns-clause-stored
+returns-clause-stored c = gives_stored_in_runs

@@ -1,0 +1,155 @@
+-- Who was shown a head, and waits for that of an exchange for a hole, stands in that hole, in every run.
+--
+-- Such an exchange was opened where its consumer stood, which is where the hole begins, and isn't empty. Until its head comes
+-- the consumer is given nothing, and the exchange asks for the same hole.
+use Rattle.std.proofs.Common.{◌≡◌, ℕ, ◌+◌, ◌<◌, ◌≤◌, [], ◌∷◌, Bool, true, false, Option, Some, None, refl, ap, sym, ◌∙◌, subst, arith}
+use Rattle.hc_event.specs.Filters.{Opening, opening_in, is_denied}
+use Rattle.hc_event.specs.declared.act.Need.{Need}
+use Rattle.hc_event.specs.declared.act.Need.TheVariants as need
+use Rattle.hc_rules.specs.declared.need.Route.TheVariants as route
+use Rattle.hc_rules.specs.declared.room.Limits.{Limits}
+use Rattle.hc_rules.specs.Needs.{route_of}
+use Rattle.hc_event.specs.declared.place.Place.TheVariants as place
+use Rattle.hc_event.specs.declared.place.BoundBy.{BoundBy}
+use Rattle.hc_model.specs.Beginnings.{may_begin}
+use Rattle.hc_model.specs.ConsumerRows.{opened_place, unless_bound}
+use Rattle.hc_model.specs.Denials.{denial}
+use Rattle.hc_model.specs.Entries.{Entry, History, Contents}
+use Rattle.hc_model.specs.ExchangeRows.{aim_from, exchange_opened, exchange_acted, exchange_heard}
+use Rattle.hc_model.specs.Exchanges.{is_headless}
+use Rattle.hc_model.specs.Flaws.{flaw_in}
+use Rattle.hc_model.specs.Holes.{hole_at}
+use Rattle.hc_model.specs.Keys.{IsOfOneKey}
+use Rattle.hc_model.specs.Laws.{OfRuns, Turns}
+use Rattle.hc_model.specs.Reading.{bound, bound_to, lo_of, offset}
+use Rattle.hc_model.specs.Rows.{Tables, Exchange, Consumer}
+use Rattle.hc_model.specs.Runs.{IsRun, IsOwed}
+use Rattle.hc_model.specs.Sound.{Sound, IsBound, InHole}
+use Rattle.hc_model.specs.Sound as sound
+use Rattle.hc_model.specs.Tables.{tables, after_accepted, after_denied}
+use Rattle.hc_laws.proofs.Barred.{next_tables, denied_tables}
+use Rattle.hc_model.proofs.Basics.{none_some, true_false}
+use Rattle.hc_model.proofs.ExclusiveWriters.{bound_some, same_row}
+use Rattle.hc_model.proofs.HoleLemmas.{hole_some}
+use Rattle.hc_laws.proofs.InRuns.{turned_in_runs}
+use Rattle.hc_model.proofs.KeysKeep.{same_exchange}
+use Rattle.hc_model.proofs.OpensFrom.{IsHole, hole_is, opens_hole}
+use Rattle.hc_model.proofs.Owed.{goes}
+use Rattle.hc_model.proofs.PieceKeeps.{some_inj}
+use Rattle.hc_model.proofs.PollTree.{OpensHole}
+use Rattle.hc_model.proofs.PollTree as tree
+use Rattle.hc_model.proofs.Said.{OpensBy, opening_by}
+use Rattle.hc_laws.proofs.SoundRuns.{runs_are_sound}
+use Rattle.hc_model.proofs.TurnFacts.{IsTaken}
+use Rattle.hc_model.proofs.TurnOpens.{OpensFor, opened_at, opener_after}
+use Rattle.hc_model.proofs.TurnOpens as opens
+use Rattle.hc_model.proofs.TurnStays.{after_same}
+use Rattle.hc_model.proofs.TurnsKeep.{WasHeadless, was_headless, same_entry}
+use Rattle.hc_model.proofs.TurnsKeep as keeps
+
+-- c waits so with this exchange
+pub record WaitsShown (t : Tables) (x r lo : ℕ) (w : Exchange) (k : Consumer) : Type 0 where
+  pub row : t.exchange x ≡ Some w
+  pub headless : is_headless (Some w) ≡ true
+  pub its : t.consumer w.c ≡ Some k
+  pub shown : k.shown ≡ true
+  pub hi : Option ℕ
+  pub how : BoundBy
+  pub at : k.place ≡ place.Bound r lo hi how
+
+pub record AreAtHoles (t : Tables) : Type 0 where
+  pub stand : (x r lo : ℕ) (w : Exchange) (k : Consumer) → WaitsShown t x r lo w k → InHole w.need (lo + k.given)
+
+module _ (limits : Limits) (t : Tables) (e : Entry) (taken : IsTaken limits t e) (s : Sound t) (one : IsOfOneKey t) (turns : Turns t) (are : AreAtHoles t) where
+  abbrev u : Tables
+  u = after_accepted t e
+
+  goes_on : denial t e.event ≡ None
+  goes_on = goes limits t e taken.owed taken.not_denied
+
+  -- IT WAITED
+
+  waited : (x r lo : ℕ) (z w : Exchange) (q : Consumer) → WaitsShown u x r lo z q → (row : t.exchange x ≡ Some w) (bare : is_headless (Some w) ≡ true) → z ≡ exchange_acted x e.acts (exchange_heard t e x e.event w) → keeps.Stays t e x w (exchange_heard t e x e.event w) → InHole z.need (lo + q.given)
+  waited x r lo z w q waits row bare is stays =
+      let same = same_exchange t e x e.event w in
+      let c_is : z.c ≡ w.c = ap (λ (a : Exchange). a.c) is ∙ same.c_is in
+      let need_is : z.need ≡ w.need = ap (λ (a : Exchange). a.need) is ∙ same.need_is in
+      let it = turns.awaited x w row bare in
+      let a = after_same limits t e taken s one turns x w row bare stays in
+      let mine : a.0 ≡ q = same_row (u.consumer w.c) a.0 q a.1 (sym (ap u.consumer c_is) ∙ waits.its) in
+      let before : InHole w.need (lo + it.k.given) = are.stand x r lo w it.k (record {
+        row = row;
+        headless = bare;
+        its = it.row;
+        shown = sym a.2.shown ∙ (ap (λ (k : Consumer). k.shown) mine ∙ waits.shown);
+        hi = waits.hi;
+        how = waits.how;
+        at = sym a.2.place ∙ (ap (λ (k : Consumer). k.place) mine ∙ waits.at);
+      }) in
+      let given : it.k.given ≡ q.given = sym a.2.given ∙ ap (λ (k : Consumer). k.given) mine in
+      subst (λ n. InHole z.need (lo + n)) given (subst (λ n. InHole n (lo + it.k.given)) (sym need_is) before)
+
+  -- IT IS OPENED
+
+  opens_here : (o : Opening) → opening_in e.acts ≡ Some o → OpensBy t e.now e.event o
+  opens_here o is =
+      subst (λ (z : Entry). opening_in z.acts ≡ Some o → OpensBy t z.now z.event o) (same_entry limits t e taken s one turns)
+      (λ also. opening_by limits t e.now (flaw_in e.acts) s e.event goes_on o also) is
+
+  in_hole : (n : Need) (from to p : ℕ) → n ≡ need.Hole from to → from ≤ p → p < to → InHole n p
+  in_hole n from to p is le lt = subst (λ (z : Need). InHole z p) (sym is) (le, lt)
+
+  -- it begins where its consumer stands, and isn't empty
+  ahead : (c r lo : ℕ) (hi : Option ℕ) (how : BoundBy) (k : Consumer) (n : Need) (hole : IsHole n) → t.consumer c ≡ Some k → k.place ≡ place.Bound r lo hi how → OpensHole t c k hole.from hole.to → InHole n (offset t k)
+  ahead c r lo hi how k n hole row at (tree.first q v span gap is aims there nobody found from_is to_is) =
+      let number : r ≡ q = some_inj r q (sym (ap (aim_from t k.request.key) at) ∙ aims) in
+      absurd (bound_some t r c k s.numbered (sound.is_bound lo hi how row at) (ap (bound t) number ∙ nobody))
+  ahead c r lo hi how k n hole row at (tree.later q end most v stands none from_is to_is) =
+      let some : offset t k < (hole_at v.stored v.reach (offset t k) end).hi = hole_some v.stored v.reach (offset t k) end stands.missing stands.before in
+      in_hole n hole.from hole.to (offset t k) hole.is (omega arith) (omega arith)
+
+  later_bound : (c r lo x : ℕ) (hi : Option ℕ) (how : BoundBy) (k : Consumer) (n : Need) → k.shown ≡ true → unless_bound (bound_to k.place) k.place (opened_place t x k (route_of n)) ≡ place.Bound r lo hi how → OpensFor t c k x n → (route_of n ≡ route.Hole) × (k.place ≡ place.Bound r lo hi how)
+  later_bound c r lo x hi how k n shown at (opens.past way is_new) = absurd (true_false (sym shown ∙ is_new.shown))
+  later_bound c r lo x hi how k n shown at (opens.fetches way is_new queues turn_is varied bypass) = absurd (true_false (sym shown ∙ is_new.shown))
+  later_bound c r lo x hi how k n shown at (opens.first q a b way is_new bound) = absurd (true_false (sym shown ∙ is_new.shown))
+  later_bound c r lo x hi how k n shown at (opens.later q a b by way also was) =
+      (way, was ∙ (sym (ap (λ p. unless_bound (bound_to p) p (opened_place t x k (route_of n))) was) ∙ at))
+
+  opened : (x r lo : ℕ) (z : Exchange) (q : Consumer) (o : Opening) → WaitsShown u x r lo z q → opening_in e.acts ≡ Some o → z ≡ exchange_opened t e o → InHole z.need (lo + q.given)
+  opened x r lo z q o waits is made =
+      let it = opened_at limits t e taken s turns o is in
+      let a = opener_after limits t e taken s turns o is in
+      let c_is : z.c ≡ o.c = ap (λ (w : Exchange). w.c) made in
+      let mine : a.0 ≡ q = same_row (u.consumer o.c) a.0 q a.1 (sym (ap u.consumer c_is) ∙ waits.its) in
+      let shown : it.k.shown ≡ true = sym a.2.shown ∙ (ap (λ (k : Consumer). k.shown) mine ∙ waits.shown) in
+      let both = later_bound o.c r lo o.x waits.hi waits.how it.k o.need shown (sym a.2.place ∙ (ap (λ (k : Consumer). k.place) mine ∙ waits.at)) it.why in
+      let by = opens_here o is in
+      let same : by.k ≡ it.k = same_row (t.consumer o.c) by.k it.k by.poll.row it.row in
+      let hole = hole_is o.need both.0 in
+      let why : OpensHole t o.c it.k hole.from hole.to = subst (λ (k : Consumer). OpensHole t o.c k hole.from hole.to) same (opens_hole t o.c by.k o e.now by.want s by.poll.row by.move hole.from hole.to hole.is) in
+      let stands : offset t it.k ≡ lo + q.given = ap (λ p. lo_of t p + it.k.given) both.1 ∙ ap (λ n. lo + n) (sym a.2.given ∙ ap (λ (k : Consumer). k.given) mine) in
+      subst (λ n. InHole n (lo + q.given)) (sym (ap (λ (w : Exchange). w.need) made)) (subst (InHole o.need) stands (ahead o.c r lo waits.hi waits.how it.k o.need hole it.row both.1 why))
+
+  by_headless : (x r lo : ℕ) (z : Exchange) (q : Consumer) → WaitsShown u x r lo z q → WasHeadless limits t e taken s one turns x z → InHole z.need (lo + q.given)
+  by_headless x r lo z q waits (keeps.was w row bare is stays) = waited x r lo z w q waits row bare is stays
+  by_headless x r lo z q waits (keeps.new o is here made) = opened x r lo z q o waits is made
+
+  at_holes_kept : AreAtHoles u
+  at_holes_kept = record { stand = λ x r lo z q waits. by_headless x r lo z q waits (was_headless limits t e taken s one turns x (t.exchange x) z refl waits.row waits.headless) }
+
+-- IN RUNS
+
+at_holes_denied : (t : Tables) (e : Entry) → AreAtHoles t → AreAtHoles (after_denied t e)
+at_holes_denied t e are = record { stand = λ x r lo w k waits. are.stand x r lo w k (record { row = waits.row; headless = waits.headless; its = waits.its; shown = waits.shown; hi = waits.hi; how = waits.how; at = waits.at }) }
+
+by_denial : (limits : Limits) (contents : Contents) (h : History) (e : Entry) (b : Bool) → is_denied e.acts ≡ b → may_begin limits contents ≡ true → IsRun limits contents h → IsOwed limits (tables contents h) e → AreAtHoles (tables contents h) → AreAtHoles (tables contents (e ∷ h))
+by_denial limits contents h e true denied may run owed are = subst AreAtHoles (denied_tables contents h e denied) (at_holes_denied (tables contents h) e are)
+by_denial limits contents h e false accepted may run owed are =
+    let turned = turned_in_runs limits contents h may run in
+    subst AreAtHoles (next_tables contents h e accepted)
+    (at_holes_kept limits (tables contents h) e (record { owed = owed; not_denied = accepted }) (runs_are_sound limits contents h may run) turned.one turned.turns are)
+
+pub at_holes_in_runs : OfRuns AreAtHoles
+unfolding tables
+at_holes_in_runs limits contents [] may run = record { stand = λ x r lo w k waits. absurd (none_some w waits.row) }
+at_holes_in_runs limits contents (e ∷ h) may run = by_denial limits contents h e (is_denied e.acts) refl may run.0 run.1 (at_holes_in_runs limits contents h may run.0)

@@ -1,6 +1,5 @@
 pub mod Standing
 pub mod Opened
-pub mod Undenied
 pub mod Denying
 pub mod Timely
 pub mod BegunRuns

@@ -44,7 +44,7 @@ use Rattle.hc_on_leave.proofs.Gates.{denies_as}
 use Rattle.hc_on_leave.proofs.Sets.{acts_set}
 use Rattle.hc_core.proofs.Standing.{facts_of_runs}
 use Rattle.hc_state.proofs.Words.{none_some}
-use Rattle.hc_core.proofs.Undenied.{undenied}
+use Rattle.hc_model.proofs.Undenied.{undenied}
 use Rattle.hc_core.proofs.Denying.{stands_denied, stands_begun}
 use Rattle.hc_core.specs.declared.cache.Cache.{Cache}
 use Rattle.hc_core.specs.Steps.{StandsFor, Steps, KeepsPromises}

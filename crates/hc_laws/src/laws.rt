@@ -23,6 +23,7 @@ ghost use Rattle.hc_model.specs.Origins.{Origins};
 ghost use Rattle.hc_model.specs.Sizes.{Sizes};
 ghost use Rattle.hc_model.specs.StoredHeads.{StoredHeads, Tags};
 ghost use Rattle.hc_model.specs.Parts.{Parts};
+ghost use Rattle.hc_model.specs.Runs.{FaultlessAreOwed};
 ghost use Rattle.hc_model.specs.Passed.{Passed};
 ghost use Rattle.hc_model.specs.Places.{Places};
 ghost use Rattle.hc_model.specs.Whose.{Whose};
@@ -341,6 +342,12 @@ pub fn numbers_stay_small()
 /// No more consumers are live than the refusals let start, in every run.
 pub fn few_are_live()
     ensures { OfRuns FewLive }
+{}
+
+/// What is owed of a store that didn't fail is told by the tables and the event alone: what it refuses, it refuses
+/// for its size.
+pub fn faultless_entries_are_owed()
+    ensures { FaultlessAreOwed }
 {}
 
 /// Where each request and each head that comes has no more fields than one from outside may have, each

@@ -89,7 +89,7 @@ range_storable v is = by_case (case_is v case.FoundsRange is)
 
 -- WHAT IT WRITES
 
-no_loss : (acts : List Act) → has_loss (without_losses acts) ≡ false
+pub no_loss : (acts : List Act) → has_loss (without_losses acts) ≡ false
 no_loss [] = refl
 no_loss (act.Lost r kind ∷ acts) = no_loss acts
 no_loss (_ ∷ acts) = no_loss acts

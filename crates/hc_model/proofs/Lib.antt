@@ -122,3 +122,4 @@ pub mod EvictedRows
 pub mod Evicting
 pub mod Frames
 pub mod Standing
+pub mod Undenied

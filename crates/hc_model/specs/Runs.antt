@@ -8,8 +8,8 @@ use Rattle.hc_event.specs.declared.act.LostKind.TheVariants as kind
 use Rattle.hc_rules.specs.declared.room.Limits.{Limits}
 use Rattle.hc_rules.specs.declared.room.Room.{Room}
 use Rattle.hc_rules.specs.declared.room.Room.TheVariants as room
-use Rattle.hc_model.specs.Entries.{Entry, History, Contents}
-use Rattle.hc_model.specs.Flaws.{Flaw, NoFlaw, Loses, Misreads, flaw_in}
+use Rattle.hc_model.specs.Entries.{Entry, History, Contents, entry_without_acts}
+use Rattle.hc_model.specs.Flaws.{Flaw, NoFlaw, Loses, Misreads, flaw_in, failures_in}
 use Rattle.hc_model.specs.Rows.{Tables, Representation, Consumer}
 use Rattle.hc_model.specs.Currents.{is_current, is_number}
 use Rattle.hc_model.specs.Reading.{is_bound}
@@ -68,3 +68,30 @@ pub record IsOwed (limits : Limits) (t : Tables) (e : Entry) : Type 0 where
 abbrev pub IsRun : Limits → Contents → History → Type 0
 IsRun limits contents [] = Unit {0}
 IsRun limits contents (e ∷ h) = IsRun limits contents h × IsOwed limits (tables contents h) e
+
+-- A STORE THAT DOESN'T FAIL
+
+abbrev pub flaw_by_room : Room → Option ℕ → Flaw
+flaw_by_room room.TooLarge (Some r) = Loses r kind.TooLarge
+flaw_by_room room.Full (Some r) = Loses r kind.Full
+flaw_by_room _ r = NoFlaw
+
+-- what the sizes refuse
+abbrev pub size_flaw : Limits → Tables → ℕ → Event → Flaw
+size_flaw limits t now event =
+    flaw_by_room (room_for limits t now event)
+    (written_representation t (entry_without_acts now event))
+
+-- the entry that is owed to an event, where the store fails in nothing else
+unfoldable pub owed : Limits → Tables → ℕ → Event → Entry
+owed limits t now event = record {
+  now = now;
+  event = event;
+  acts = answer limits t now event (size_flaw limits t now event);
+}
+
+-- An entry that tells no failure of the store is that one.
+abbrev pub FaultlessAreOwed : Type 0
+FaultlessAreOwed =
+    (limits : Limits) (t : Tables) (e : Entry) → IsOwed limits t e → failures_in e.acts ≡ 0 →
+    e ≡ owed limits t e.now e.event

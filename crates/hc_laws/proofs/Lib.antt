@@ -40,6 +40,7 @@ pub mod GrowsInRuns
 pub mod StoresGrow
 pub mod AtHoles
 pub mod GivesStored
+pub mod OpenKeys
 pub mod Faultless
 pub mod Lasting
 pub mod FoundedAs

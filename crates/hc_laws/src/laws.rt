@@ -1,7 +1,7 @@
 //! What holds of all runs, each as the contract of a function that does nothing.
 ghost use Rattle.hc_model.specs.Histories.{RunsAreFiltered};
 ghost use Rattle.hc_model.specs.Reads.{OneHeadIsShown, BodiesAreRead, GivesNext, EndsWell, GivesStored, RunsReadWhole};
-ghost use Rattle.hc_model.specs.Keys.{IsOfOneKey, LawOfOneKey, KeysAreKept, KeysBegin};
+ghost use Rattle.hc_model.specs.Keys.{IsOfOneKey, LawOfOneKey, KeysAreKept, KeysBegin, OpensForKey};
 ghost use Rattle.hc_model.specs.Laws.{SoundDeliversOnce, DeliveriesAreKept, BodiesAreKept, NumbersAreKept, NamesAreKept, OneCurrentIsKept, StoresAreKept, StartsAreSound, WholeIsWhole, AfterEach, AreBound, KnowEnds, OwnedAfterEach, AreToBeShown, OwedAfterEach, OwnersAreKnown, TurnsAreOne, TurnsAreKept, TurnsBegin, HasOneTurn, KeysInRuns, BarrierIsKept, BarrierBegins, DoomsInRuns, OfHistories, IsBoundBehindDooms, TruncatedIsFront, IsTruthful, TurnsGo, ReadersGo, FewGiveWay, AreRead, AreUndue, ReadAbout, MeasuredAfterEach, BeginningsAreMeasured, AreGrowing, KeptByEntries, AreServed, AreHad, SurvivorsGoOn, BeginningsAreStarts, AfterDenials, OfRuns, OfRunsIn, LeavesInRuns, DeliversOnce, BodiesGrowInRuns, StoresGrow, WaitsEnd, FitsInRuns, FewInRuns};
 ghost use Rattle.hc_model.specs.Owners.{Owners};
 ghost use Rattle.hc_model.specs.Aims.{Aims, CaseWithoutAim};
@@ -114,13 +114,14 @@ pub fn columns_are_filters()
 /// The law of one key: an entry of a run changes nothing of exchanges, representations and
 /// consumers of other keys than that of its event, and what is new is of that key; but what makes
 /// room is gone, and who waits for that starts over. What is of one key is so from the beginning,
-/// and stays so.
+/// and stays so. An exchange is opened with a request of the key of its consumer's start.
 pub fn other_keys_stay()
     ensures law { LawOfOneKey }
     ensures kept { KeysAreKept }
     ensures begin { KeysBegin }
     ensures runs { KeysInRuns }
     ensures one { OfRuns IsOfOneKey }
+    ensures opened { OfHistories OpensForKey }
 {}
 
 /// Whoever is bound to a representation is bound to one that is there; one at most became bound to it as

@@ -1,18 +1,20 @@
 -- The law of one key: an accepted event changes what is said of its own key, and else only how much
 -- is idle.
-use Rattle.std.specs.Prelude.{◌≡◌, ℕ, List, Bool, false, true, Option, Some, None}
+use Rattle.std.specs.Prelude.{◌≡◌, ℕ, List, [], ◌∷◌, Bool, false, true, Option, Some, None}
 use Rattle.std.specs.Option.{option_map}
-use Rattle.hc_event.specs.Filters.{evicts_in, is_denied}
+use Rattle.hc_event.specs.Filters.{Opening, opening_in, evicts_in, is_denied}
 use Rattle.hc_event.specs.declared.event.Event.{Event}
 use Rattle.hc_event.specs.declared.event.Event.TheVariants as event
+use Rattle.hc_event.specs.declared.event.Request.{Request}
 use Rattle.hc_event.specs.declared.act.Act.{Act}
 use Rattle.hc_rules.specs.declared.room.Limits.{Limits}
 use Rattle.hc_event.specs.declared.place.Place.{Place}
 use Rattle.hc_event.specs.declared.place.Place.TheVariants as place
-use Rattle.hc_model.specs.Entries.{Entry, Contents}
+use Rattle.hc_model.specs.Entries.{Entry, History, Contents}
 use Rattle.hc_model.specs.Flaws.{Flaw}
 use Rattle.hc_model.specs.Rows.{Tables, Exchange, Representation, Consumer}
 use Rattle.hc_model.specs.Dooms.{is_key}
+use Rattle.hc_model.specs.Histories.{request_of}
 use Rattle.hc_model.specs.Tables.{after_accepted, first_tables}
 use Rattle.hc_model.specs.Denials.{denial}
 use Rattle.hc_model.specs.Answers.{accepted_acts}
@@ -144,3 +146,14 @@ KeysAreKept =
 
 abbrev pub KeysBegin : Type 0
 KeysBegin = (contents : Contents) → IsOfOneKey (first_tables contents)
+
+-- what is opened is asked for by the key of its consumer's start
+pub record IsOfItsStart (h : History) (o : Opening) : Type 0 where
+  pub request : Request
+  pub started : request_of o.c h ≡ Some request
+  pub key_is : o.request.key ≡ request.key
+
+-- so is what the last entry opens
+abbrev pub OpensForKey : Contents → History → Type 0
+OpensForKey contents [] = Unit {0}
+OpensForKey contents (e ∷ h) = (o : Opening) → opening_in e.acts ≡ Some o → IsOfItsStart h o

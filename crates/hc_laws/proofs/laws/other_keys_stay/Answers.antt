@@ -1,5 +1,6 @@
 -- An entry leaves what is of other keys, and keeps what is of one key so.
 use Rattle.hc_laws.proofs.InRuns.{keys_in_runs, one_key_in_runs}
+use Rattle.hc_laws.proofs.OpenKeys.{open_keys_in_runs}
 use Rattle.hc_model.proofs.KeysPlaces.{keys_are_kept, keys_begin}
 use Rattle.hc_model.proofs.OneKey.{law_of_one_key}
 use Rattle.hc_laws.proofs.laws.other_keys_stay.Goals as goal
@@ -18,3 +19,6 @@ returns-clause-runs c = keys_in_runs
 
 pub returns-clause-one : goal.returns-clause-one
 returns-clause-one c = one_key_in_runs
+
+pub returns-clause-opened : goal.returns-clause-opened
+returns-clause-opened c = open_keys_in_runs

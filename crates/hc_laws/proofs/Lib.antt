@@ -42,6 +42,7 @@ pub mod AtHoles
 pub mod GivesStored
 pub mod OpenKeys
 pub mod Faultless
+pub mod Told
 pub mod Lasting
 pub mod FoundedAs
 pub mod Unknowns

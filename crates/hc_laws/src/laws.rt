@@ -24,6 +24,7 @@ ghost use Rattle.hc_model.specs.Sizes.{Sizes};
 ghost use Rattle.hc_model.specs.StoredHeads.{StoredHeads, Tags};
 ghost use Rattle.hc_model.specs.Parts.{Parts};
 ghost use Rattle.hc_model.specs.Runs.{FaultlessAreOwed};
+ghost use Rattle.hc_model.specs.Tellings.{TellsWhoPolls};
 ghost use Rattle.hc_model.specs.Passed.{Passed};
 ghost use Rattle.hc_model.specs.Places.{Places};
 ghost use Rattle.hc_model.specs.Whose.{Whose};
@@ -349,6 +350,12 @@ pub fn few_are_live()
 /// for its size.
 pub fn faultless_entries_are_owed()
     ensures { FaultlessAreOwed }
+{}
+
+/// A poll tells its consumer one thing at most: a head, bytes, its end, a failure, or what it is to wait for, and
+/// behind that comes nothing. No other event tells a consumer anything. So in every run.
+pub fn who_polls_is_told()
+    ensures { OfHistories TellsWhoPolls }
 {}
 
 /// Where each request and each head that comes has no more fields than one from outside may have, each

@@ -13,5 +13,5 @@ pub use laws::{
     passed_wait_for_current, places_are_known, readers_are_bound, readers_are_served,
     runs_are_sound, runs_read_whole, some_go_on, stores_begin_again, stores_begin_sound,
     stores_keep_what_came, survivors_go_on, truncated_is_a_front, what_is_not_spoken_of_stays,
-    whole_is_whole, writers_are_alone, writings_grow,
+    who_polls_is_told, whole_is_whole, writers_are_alone, writings_grow,
 };

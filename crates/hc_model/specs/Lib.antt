@@ -62,3 +62,4 @@ pub mod Lawful
 pub mod Effects
 pub mod LettingGo
 pub mod Numbers
+pub mod Tellings

@@ -1,0 +1,211 @@
+-- A poll tells its consumer one thing at most, and last what it is to wait for; another event tells nobody anything.
+--
+-- The acts of an accepted poll are those of its move, then what is closed and what is lost, which tell nobody. Where the move
+-- is to wait, nobody leaves: so nothing is closed, nothing is written, and nothing is lost.
+use Rattle.std.proofs.Common.{◌≡◌, ℕ, List, [], ◌∷◌, ◌++◌, Bool, true, false, Option, Some, None, refl, ap, sym, ◌∙◌, subst, arith}
+use Rattle.std.specs.Prelude.{map, nat_eq, ◌||◌}
+use Rattle.std.proofs.lemmas.Bool.Decides.{nat_tests}
+use Rattle.hc_event.specs.Filters.{is_denied, closes_in}
+use Rattle.hc_event.specs.declared.act.Act.{Act}
+use Rattle.hc_event.specs.declared.act.Act.TheVariants as act
+use Rattle.hc_event.specs.declared.act.Cause.TheVariants as cause
+use Rattle.hc_event.specs.declared.act.Wait.TheVariants as wait
+use Rattle.hc_event.specs.declared.event.Event.{Event}
+use Rattle.hc_event.specs.declared.event.Event.TheVariants as event
+use Rattle.hc_rules.specs.Refusals as refusals
+use Rattle.hc_rules.specs.declared.room.Limits.{Limits}
+use Rattle.hc_model.specs.ActFilters.{leaver_in, loses_in}
+use Rattle.hc_model.specs.Answers.{answer_acts, loss_acts, close_acts}
+use Rattle.hc_model.specs.Closings.{closing}
+use Rattle.hc_model.specs.Denials.{denial, is_live}
+use Rattle.hc_model.specs.Entries.{Entry}
+use Rattle.hc_model.specs.Flaws.{Flaw, NoFlaw, Loses, Misreads, flaw_in}
+use Rattle.hc_model.specs.Laws.{OfHistories, Turns}
+use Rattle.hc_model.specs.Moves as moves
+use Rattle.hc_model.specs.Moves.{Move, Nothing, Asks, Opens, Shows, Gives, Ends, Fails, acts_of}
+use Rattle.hc_model.specs.Rows.{Tables, Consumer}
+use Rattle.hc_model.specs.Runs.{IsOwed}
+use Rattle.hc_model.specs.Sound.{Sound}
+use Rattle.hc_model.specs.Tables.{tables}
+use Rattle.hc_model.specs.Tellings.{told_to, tellings, IsOneTo, WaitsLast, TellsOne, TellsBy, TellsWhoPolls}
+use Rattle.hc_model.specs.Tellings as tells
+use Rattle.hc_model.specs.Weights.{evicted}
+use Rattle.hc_model.proofs.ActParts.{leaver_lost, IsAnswer, answer_is}
+use Rattle.hc_model.proofs.ActParts as parts
+use Rattle.hc_model.proofs.Basics.{false_true, true_false}
+use Rattle.hc_model.proofs.EventsKeep.{poll_live}
+use Rattle.hc_laws.proofs.InRuns.{turned_in_runs}
+use Rattle.hc_model.proofs.Owed.{IsDenied, is_denial, goes}
+use Rattle.hc_model.proofs.Owed as owed_by
+use Rattle.hc_laws.proofs.SoundRuns.{runs_are_sound}
+use Rattle.hc_model.proofs.TurnFacts.{IsTaken, AtPoll, at_poll, acts_is, behind, seen}
+use Rattle.hc_model.proofs.TurnFacts as facts
+use Rattle.hc_model.proofs.TurnOpens.{closes_none, loses_none}
+
+-- WHAT TELLS NOBODY
+
+loss_tells : (f : Flaw) → tellings (loss_acts f) ≡ []
+loss_tells NoFlaw = refl
+loss_tells (Loses r kind) = refl
+loss_tells (Misreads r) = refl
+
+closes_tell : (ys : List ℕ) (rest : List Act) → tellings rest ≡ [] → tellings (map act.Close ys ++ rest) ≡ []
+closes_tell [] rest none = none
+closes_tell (y ∷ ys) rest none = closes_tell ys rest none
+
+closed_tell : (ys : List ℕ) → tellings (map act.Close ys) ≡ []
+closed_tell [] = refl
+closed_tell (y ∷ ys) = closed_tell ys
+
+lost_tell : (f : Flaw) (ys : List ℕ) → tellings (loss_acts f ++ map act.Close ys) ≡ []
+lost_tell NoFlaw ys = closed_tell ys
+lost_tell (Loses r kind) ys = closed_tell ys
+lost_tell (Misreads r) ys = closed_tell ys
+
+evicted_tell : (rs : List ℕ) (rest : List Act) → tellings rest ≡ [] → tellings (map act.Evicted rs ++ rest) ≡ []
+evicted_tell [] rest none = none
+evicted_tell (r ∷ rs) rest none = evicted_tell rs rest none
+
+-- nothing is waited for there
+lost_waits : (f : Flaw) → WaitsLast (loss_acts f)
+lost_waits NoFlaw = tt
+lost_waits (Loses r kind) = tt
+lost_waits (Misreads r) = tt
+
+closed_waits : (ys : List ℕ) (rest : List Act) → WaitsLast rest → WaitsLast (map act.Close ys ++ rest)
+closed_waits [] rest last = last
+closed_waits (y ∷ ys) rest last = closed_waits ys rest last
+
+-- A POLL
+
+one_by : (c : ℕ) (m : Move) (rest : List Act) → tellings rest ≡ [] → IsOneTo c (tellings (acts_of c m ++ rest))
+one_by c Nothing rest none = subst (IsOneTo c) (sym none) tells.nothing
+one_by c (moves.Waits w) rest none = subst (λ z. IsOneTo c (act.Pending c w ∷ z)) (sym none) (tells.one _ refl)
+one_by c (Asks x) rest none = subst (λ z. IsOneTo c (act.Pending c (wait.Body x) ∷ z)) (sym none) (tells.one _ refl)
+one_by c (Opens x need request) rest none = subst (λ z. IsOneTo c (act.Pending c (wait.Head x) ∷ z)) (sym none) (tells.one _ refl)
+one_by c (Shows r why head lo hi) rest none = subst (λ z. IsOneTo c (act.Shown c r why head.status head.fields lo hi ∷ z)) (sym none) (tells.one _ refl)
+one_by c (Gives run) rest none = subst (λ z. IsOneTo c (act.Given c run.x run.at run.bytes ∷ z)) (sym none) (tells.one _ refl)
+one_by c Ends rest none = subst (λ z. IsOneTo c (act.Ended c ∷ z)) (sym none) (tells.one _ refl)
+one_by c (Fails why) rest none = subst (λ z. IsOneTo c (act.Failed c why ∷ z)) (sym none) (tells.one _ refl)
+
+-- a move is to wait, or isn't
+last_by : (c : ℕ) (m : Move) (f : Flaw) (rest : List Act) → WaitsLast rest → (leaver_in (acts_of c m ++ loss_acts f) ≡ None → rest ≡ []) → WaitsLast (acts_of c m ++ rest)
+last_by c Nothing f rest last calm = last
+last_by c (moves.Waits w) f rest last calm = calm (leaver_lost f)
+last_by c (Asks x) f rest last calm = calm (leaver_lost f)
+last_by c (Opens x need request) f rest last calm = calm (leaver_lost f)
+last_by c (Shows r why head lo hi) f rest last calm = last
+last_by c (Gives run) f rest last calm = last
+last_by c Ends f rest last calm = last
+last_by c (Fails why) f rest last calm = last
+
+module _ (limits : Limits) (t : Tables) (e : Entry) (taken : IsTaken limits t e) where
+  abbrev flaw : Flaw
+  flaw = flaw_in e.acts
+
+  -- OTHER EVENTS
+
+  abbrev closings : List ℕ
+  closings = closing t (record { now = e.now; event = e.event; acts = answer_acts t e.now e.event flaw ++ loss_acts flaw })
+
+  quiet_by : (acts : List Act) → IsAnswer limits t e.now e.event flaw acts → answer_acts t e.now e.event flaw ≡ [] → tellings acts ≡ []
+  quiet_by _ (parts.told silent) none = evicted_tell (evicted limits t e.now e.event) (loss_acts flaw ++ map act.Close closings) (lost_tell flaw closings)
+  quiet_by _ parts.asked none = ap (λ z. tellings (z ++ (close_acts t e.now e.event flaw ++ loss_acts flaw))) none ∙ closes_tell closings (loss_acts flaw) (loss_tells flaw)
+
+  quiet : answer_acts t e.now e.event flaw ≡ [] → tellings e.acts ≡ []
+  quiet none = ap tellings (acts_is limits t e taken) ∙ quiet_by _ (answer_is limits t e.now e.event flaw) none
+
+  -- WHAT IS SAID LAST
+
+  behind_tells : tellings (behind limits t e taken) ≡ []
+  behind_tells = closes_tell (closing t (seen limits t e taken)) (loss_acts flaw) (loss_tells flaw)
+
+  behind_waits : WaitsLast (behind limits t e taken)
+  behind_waits = closed_waits (closing t (seen limits t e taken)) (loss_acts flaw) (lost_waits flaw)
+
+  eq-refl : (n : ℕ) → nat_eq n n ≡ true
+  eq-refl n = grind (arith, nat_tests)
+
+  none_lost : (acts : List Act) (f : Flaw) → ((r : ℕ) → loses_in r (acts ++ loss_acts f) ≡ loses_in r (loss_acts f)) → ((r : ℕ) → loses_in r (acts ++ loss_acts f) ≡ false) → loss_acts f ≡ []
+  none_lost acts NoFlaw same none = refl
+  none_lost acts (Misreads r) same none = refl
+  none_lost acts (Loses r kind) same none = absurd (true_false (sym (ap (λ b. b || false) (eq-refl r)) ∙ (sym (same r) ∙ none r)))
+
+  -- after which nobody leaves
+  module _ (c want : ℕ) (m : Move) (at : e.event ≡ event.Poll c want) (all : e.acts ≡ acts_of c m ++ behind limits t e taken) (saw : (seen limits t e taken).acts ≡ acts_of c m ++ loss_acts (flaw_in e.acts)) where
+    module _ (nobody : leaver_in (acts_of c m ++ loss_acts (flaw_in e.acts)) ≡ None) where
+      stay : leaver_in (seen limits t e taken).acts ≡ None
+      stay = ap leaver_in saw ∙ nobody
+
+      unclosed : (x : ℕ) → closes_in x (acts_of c m ++ behind limits t e taken) ≡ false
+      unclosed x = sym (ap (closes_in x) all) ∙ closes_none limits t e taken c want at stay x
+
+      closed_past : (x : ℕ) (n : Move) (rest : List Act) → closes_in x (acts_of c n ++ rest) ≡ closes_in x rest
+      closed_past x n rest = (parts.move_closes x 0 c n rest).closes
+
+      no_closing : (ys : List ℕ) → ((x : ℕ) → closes_in x (map act.Close ys ++ loss_acts flaw) ≡ false) → ys ≡ []
+      no_closing [] none = refl
+      no_closing (y ∷ ys) none = absurd (true_false (sym (ap (λ b. b || closes_in y (map act.Close ys ++ loss_acts flaw)) (eq-refl y)) ∙ none y))
+
+      none_closed : closing t (seen limits t e taken) ≡ []
+      none_closed = no_closing (closing t (seen limits t e taken)) (λ x. sym (closed_past x m (behind limits t e taken)) ∙ unclosed x)
+
+      behind_is : behind limits t e taken ≡ loss_acts flaw
+      behind_is = ap (λ ys. map act.Close ys ++ loss_acts flaw) none_closed
+
+      unlost : (r : ℕ) → loses_in r (acts_of c m ++ loss_acts flaw) ≡ false
+      unlost r = sym (ap (loses_in r) (all ∙ ap (λ z. acts_of c m ++ z) behind_is)) ∙ loses_none limits t e taken c want at stay r
+
+      none_behind : behind limits t e taken ≡ []
+      none_behind = behind_is ∙ none_lost (acts_of c m) flaw (λ r. (parts.move_closes 0 r c m (loss_acts flaw)).loses) unlost
+
+    tells_one : TellsOne c e.acts
+    tells_one = record {
+      one = subst (λ z. IsOneTo c (tellings z)) (sym all) (one_by c m (behind limits t e taken) behind_tells);
+      last = subst WaitsLast (sym all) (last_by c m flaw (behind limits t e taken) behind_waits none_behind);
+    }
+
+  by_poll : (c want : ℕ) (k : Consumer) → e.event ≡ event.Poll c want → AtPoll limits t e taken c k → TellsOne c e.acts
+  by_poll c want k at (facts.moves_on more m also m_is does all saw) = tells_one c more m also all saw
+  by_poll c want k at (facts.misreads more r also all saw) = record {
+    one = subst (λ z. IsOneTo c (tellings z)) (sym all) (one_by c (Fails (cause.StoreRead r)) (behind limits t e taken) behind_tells);
+    last = subst WaitsLast (sym all) behind_waits;
+  }
+
+  module _ (s : Sound t) (turns : Turns t) where
+    polled : (c want : ℕ) (q : Option Consumer) → e.event ≡ event.Poll c want → t.consumer c ≡ q → is_live q ≡ true → TellsOne c e.acts
+    polled c want None at row live = absurd (false_true live)
+    polled c want (Some k) at row live = by_poll c want k at (at_poll limits t e taken c want k s turns row at)
+
+    by_event : (ev : Event) → e.event ≡ ev → TellsBy ev e.acts
+    unfolding refusals.refusal_of
+    by_event (event.Poll c want) at = polled c want (t.consumer c) at refl (poll_live limits t e.now flaw s c want (sym (ap (denial t) at) ∙ goes limits t e taken.owed taken.not_denied))
+    by_event (event.Start c request) at = quiet (ap (λ z. answer_acts t e.now z flaw) at)
+    by_event (event.Head x response) at = quiet (ap (λ z. answer_acts t e.now z flaw) at)
+    by_event (event.Piece x bytes) at = quiet (ap (λ z. answer_acts t e.now z flaw) at)
+    by_event (event.End x) at = quiet (ap (λ z. answer_acts t e.now z flaw) at)
+    by_event (event.Fault x) at = quiet (ap (λ z. answer_acts t e.now z flaw) at)
+    by_event (event.Cancel c) at = quiet (ap (λ z. answer_acts t e.now z flaw) at)
+    by_event (event.Doom key) at = quiet (ap (λ z. answer_acts t e.now z flaw) at)
+
+-- IN RUNS
+
+denied_by : (ev : Event) (acts : List Act) → IsDenied acts → TellsBy ev acts
+denied_by (event.Poll c want) _ (owed_by.denied refusal) = record { one = tells.nothing; last = tt }
+denied_by (event.Start c request) _ (owed_by.denied refusal) = refl
+denied_by (event.Head x response) _ (owed_by.denied refusal) = refl
+denied_by (event.Piece x bytes) _ (owed_by.denied refusal) = refl
+denied_by (event.End x) _ (owed_by.denied refusal) = refl
+denied_by (event.Fault x) _ (owed_by.denied refusal) = refl
+denied_by (event.Cancel c) _ (owed_by.denied refusal) = refl
+denied_by (event.Doom key) _ (owed_by.denied refusal) = refl
+
+by_denial : (limits : Limits) (t : Tables) (e : Entry) (b : Bool) → is_denied e.acts ≡ b → Sound t → Turns t → IsOwed limits t e → TellsBy e.event e.acts
+by_denial limits t e true denied s turns owed = denied_by e.event e.acts (is_denial e.acts denied)
+by_denial limits t e false accepted s turns owed = by_event limits t e (record { owed = owed; not_denied = accepted }) s turns e.event refl
+
+-- Who polls is told one thing at most, in every run.
+pub told_in_runs : OfHistories TellsWhoPolls
+told_in_runs limits contents [] may run = tt
+told_in_runs limits contents (e ∷ h) may run =
+    by_denial limits (tables contents h) e (is_denied e.acts) refl (runs_are_sound limits contents h may run.0) (turned_in_runs limits contents h may run.0).turns run.1

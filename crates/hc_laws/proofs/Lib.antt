@@ -43,6 +43,7 @@ pub mod GivesStored
 pub mod OpenKeys
 pub mod Faultless
 pub mod Told
+pub mod AskedRuns
 pub mod Lasting
 pub mod FoundedAs
 pub mod Unknowns

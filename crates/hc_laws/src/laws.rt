@@ -6,6 +6,7 @@ ghost use Rattle.hc_model.specs.Laws.{SoundDeliversOnce, DeliveriesAreKept, Bodi
 ghost use Rattle.hc_model.specs.Owners.{Owners};
 ghost use Rattle.hc_model.specs.Aims.{Aims, CaseWithoutAim};
 ghost use Rattle.hc_model.specs.Alone.{Alone};
+ghost use Rattle.hc_model.specs.Asking.{AsksAnew};
 ghost use Rattle.hc_model.specs.Chains.{ChainsEnd};
 ghost use Rattle.hc_model.specs.Endings.{Endings, Unended};
 ghost use Rattle.hc_model.specs.Evictions.{EvictsOne, AnyLeavesOneCurrent, EvictionsComeLast, IdleButGone, MakesRoom, SomeGiveWay, HasNoRoom, HasTooLarge, WritesNothing};
@@ -356,6 +357,11 @@ pub fn faultless_entries_are_owed()
 /// behind that comes nothing. No other event tells a consumer anything. So in every run.
 pub fn who_polls_is_told()
     ensures { OfHistories TellsWhoPolls }
+{}
+
+/// An exchange isn't asked for bytes behind its head, nor behind a piece of it, before a poll does, in every run.
+pub fn exchanges_are_asked_anew()
+    ensures { OfHistories AsksAnew }
 {}
 
 /// Where each request and each head that comes has no more fields than one from outside may have, each

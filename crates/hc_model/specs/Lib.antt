@@ -63,3 +63,4 @@ pub mod Effects
 pub mod LettingGo
 pub mod Numbers
 pub mod Tellings
+pub mod Asking

@@ -1,0 +1,282 @@
+-- An exchange isn't asked before its head has come, and not yet behind that or a piece of it, in every run.
+--
+-- Only a poll asks, and for the exchange from which its consumer reads. Where that has no head it isn't written for several,
+-- so it is the consumer's own. But who waits for the head of its own is told so, and asks nothing. So what has no head wasn't
+-- asked, at the beginning and after each entry. A piece takes the asking away, and the acts of a head or a piece ask nothing.
+use Rattle.std.proofs.Common.{◌≡◌, inl, inr, ℕ, [], ◌∷◌, ◌++◌, Bool, true, false, Option, Some, None, refl, ap, sym, ◌∙◌, subst}
+use Rattle.std.specs.Prelude.{is_some, if◌then◌else◌, ◌==◌, ◌||◌}
+use Rattle.std.specs.Option.{option_or}
+use Rattle.hc_event.specs.Filters.{Opening, opening_in, asks_in, is_denied}
+use Rattle.hc_event.specs.declared.act.Wait.TheVariants as wait
+use Rattle.hc_event.specs.declared.event.Event.{Event}
+use Rattle.hc_event.specs.declared.event.Event.TheVariants as event
+use Rattle.hc_event.specs.declared.event.Response.{Response}
+use Rattle.hc_rules.specs.Refusals as refusals
+use Rattle.hc_rules.specs.Refusals.{head_refusal}
+use Rattle.hc_rules.specs.declared.room.Limits.{Limits}
+use Rattle.hc_event.specs.declared.place.Place.{Place}
+use Rattle.hc_event.specs.declared.place.Place.TheVariants as place
+use Rattle.hc_model.specs.Answers.{accepted_acts, answer_acts, loss_acts}
+use Rattle.hc_model.specs.Asking.{AsksAnew}
+use Rattle.hc_model.specs.Beginnings.{may_begin}
+use Rattle.hc_model.specs.Closings.{closing}
+use Rattle.hc_model.specs.Denials.{denial, as_open, is_live}
+use Rattle.hc_model.specs.Entries.{Entry, History, Contents}
+use Rattle.hc_model.specs.ExchangeRows.{exchange_after, exchange_acted, exchange_heard, exchange_made, exchange_opened, with_head, with_piece}
+use Rattle.hc_model.specs.Exchanges.{exchange_in, is_headless}
+use Rattle.hc_model.specs.Flaws.{flaw_in}
+use Rattle.hc_model.specs.Laws.{OfRuns, OfHistories, Turns}
+use Rattle.hc_model.specs.Moves as moves
+use Rattle.hc_model.specs.Moves.{Move, Nothing, Asks, Opens, Shows, Gives, Ends, Fails, acts_of}
+use Rattle.hc_model.specs.Owners.{Owners}
+use Rattle.hc_model.specs.Polls.{poll_move}
+use Rattle.hc_model.specs.Reading.{is_written, own_open, shared_exchange, writing_in, source}
+use Rattle.hc_model.specs.Rows.{Tables, Exchange, Representation, Consumer}
+use Rattle.hc_model.specs.Runs.{IsRun, IsOwed}
+use Rattle.hc_model.specs.Sound.{Sound}
+use Rattle.hc_model.specs.Tables.{tables, after_accepted, after_denied}
+use Rattle.hc_model.specs.Writers.{brings_body}
+use Rattle.hc_laws.proofs.AboutKeeps.{own_open_of}
+use Rattle.hc_laws.proofs.Barred.{next_tables, denied_tables}
+use Rattle.hc_model.proofs.ActParts.{asks_closed, asks_loss}
+use Rattle.hc_model.proofs.Basics.{false_true, none_some, some_none}
+use Rattle.hc_model.proofs.EventsKeep.{poll_live}
+use Rattle.hc_model.proofs.ExclusiveWriters.{same_row}
+use Rattle.hc_model.proofs.HoleLemmas.{bool_cases}
+use Rattle.hc_laws.proofs.InRuns.{turned_in_runs}
+use Rattle.hc_model.proofs.Owed.{goes}
+use Rattle.hc_model.proofs.PieceKeeps.{eq_cases, some_inj}
+use Rattle.hc_model.proofs.PollKeys.{IsNear, near_polled}
+use Rattle.hc_model.proofs.PollKeys as near
+use Rattle.hc_laws.proofs.SoundRuns.{carried}
+use Rattle.hc_model.proofs.TurnFacts.{IsTaken, AtPoll, at_poll, told_quiet, is_asking, behind, seen}
+use Rattle.hc_model.proofs.TurnFacts as facts
+use Rattle.hc_model.proofs.TurnStays.{head_opens, head_none, polls_head}
+
+-- what has no head wasn't asked
+pub record AreUnasked (t : Tables) : Type 0 where
+  pub bare : (x : ℕ) (w : Exchange) → t.exchange x ≡ Some w → w.head ≡ None → w.asked ≡ false
+
+no_head : {A : Type 0} (response : Response) → Some response ≡ None → A
+no_head response is = absurd (some_none response is)
+
+-- what an event says of an exchange that stays without a head
+module _ (t : Tables) (e : Entry) (x : ℕ) (w : Exchange) where
+  abbrev IsBare : Exchange → Type 0
+  IsBare z = z.head ≡ None → (w.head ≡ None) × (z.asked ≡ false)
+
+  heard_bare : (ev : Event) → (w.head ≡ None → w.asked ≡ false) → IsBare (exchange_heard t e x ev w)
+  heard_bare (event.Start c request) was bare = (bare, was bare)
+  heard_bare (event.Poll c want) was bare = (bare, was bare)
+  heard_bare (event.Head y response) was bare = by_test (y == x) bare
+    where
+      by_test : (b : Bool) → IsBare (if b then with_head t e response w else w)
+      by_test true bare = no_head response bare
+      by_test false bare = (bare, was bare)
+  heard_bare (event.Piece y bytes) was bare = by_test (y == x) bare
+    where
+      by_test : (b : Bool) → IsBare (if b then with_piece bytes w else w)
+      by_test true bare = (bare, refl)
+      by_test false bare = (bare, was bare)
+  heard_bare (event.End y) was bare = by_test (y == x) bare
+    where
+      by_test : (b : Bool) → IsBare (if b then record w { is_ended = true; is_open = false } else w)
+      by_test true bare = (bare, was bare)
+      by_test false bare = (bare, was bare)
+  heard_bare (event.Fault y) was bare = by_test (y == x) bare
+    where
+      by_test : (b : Bool) → IsBare (if b then record w { is_open = false } else w)
+      by_test true bare = (bare, was bare)
+      by_test false bare = (bare, was bare)
+  heard_bare (event.Cancel c) was bare = (bare, was bare)
+  heard_bare (event.Doom key) was bare = (bare, was bare)
+
+-- WHO ASKS
+
+asks_from : (t : Tables) (k : Consumer) (x : ℕ) (m : Move) → IsNear t k m → m ≡ Asks x → source t k ≡ Some x
+asks_from t k x _ (near.asks y from) is = from ∙ ap Some (let same : y ≡ x = cc in same)
+asks_from t k x _ near.nothing is = absurd (let no : Nothing ≡ Asks x = is in cc)
+asks_from t k x _ (near.waits w) is = absurd (let no : moves.Waits w ≡ Asks x = is in cc)
+asks_from t k x _ (near.opens y n request same) is = absurd (let no : Opens y n request ≡ Asks x = is in cc)
+asks_from t k x _ (near.shows r why head lo hi now) is = absurd (let no : Shows r why head lo hi ≡ Asks x = is in cc)
+asks_from t k x _ (near.given run) is = absurd (let no : Gives run ≡ Asks x = is in cc)
+asks_from t k x _ near.ends is = absurd (let no : Ends ≡ Asks x = is in cc)
+asks_from t k x _ (near.fails why) is = absurd (let no : Fails why ≡ Asks x = is in cc)
+
+module _ (t : Tables) (s : Sound t) (o : Owners t) (turns : Turns t) (now c want x : ℕ) (k : Consumer) (w : Exchange) (row : t.consumer c ≡ Some k) (w_row : t.exchange x ≡ Some w) (bare : w.head ≡ None) where
+  -- a writing for several has its head
+  shared_not : (v : Representation) (r : ℕ) → t.representation r ≡ Some v → is_written t v ≡ true → v.writer ≡ Some x → ⊥
+  shared_not v r there on writer =
+      let g = (s.rows r v there).growing x on writer in
+      false_true (sym (ap (λ (z : Option Response). is_some z) bare) ∙ (ap (λ (z : Exchange). is_some z.head) (same_row (t.exchange x) w g.0 w_row g.1.row) ∙ g.1.headed))
+
+  writing_not : (r : ℕ) (q : Option Representation) → t.representation r ≡ q → writing_in t q ≡ Some x → ⊥
+  writing_not r None there is = none_some x is
+  writing_not r (Some v) there is = elim (bool_cases (is_written t v)) [
+    | inl on ↦ shared_not v r there on (rw on at is)
+    | inr off ↦ none_some x (rw off at is)
+  ]
+
+  member_not : (p : Place) → shared_exchange t p ≡ Some x → ⊥
+  member_not (place.Bound r lo hi how) is = writing_not r (t.representation r) refl is
+  member_not place.Line is = none_some x is
+  member_not (place.Passed r kept) is = none_some x is
+  member_not (place.Turn y) is = none_some x is
+  member_not (place.Direct y) is = none_some x is
+  member_not (place.Down why) is = none_some x is
+  member_not place.Over is = none_some x is
+
+  -- its own consumer is told to wait for the head
+  own_not : own_open t k ≡ Some x → poll_move t now want c (Some k) ≡ Asks x → ⊥
+  own_not own asks =
+      let is = own_open_of t k x own in
+      let opened : w.is_open ≡ true = ap (λ (z : Exchange). z.is_open) (same_row (t.exchange x) w is.w w_row is.row) ∙ is.opened in
+      let headless : is_headless (Some w) ≡ true = rw (opened, bare) refl in
+      let it = turns.awaited x w w_row headless in
+      let c_is : w.c ≡ c = o.one w.c c x it.k k it.row row it.own is.own in
+      let one : it.k ≡ k = same_row (t.consumer c) it.k k (sym (ap t.consumer c_is) ∙ it.row) row in
+      let waits : poll_move t now want c (Some k) ≡ moves.Waits (wait.Head x) = subst (λ n. poll_move t now want n (Some k) ≡ moves.Waits (wait.Head x)) c_is (subst (λ (q : Consumer). poll_move t now want w.c (Some q) ≡ moves.Waits (wait.Head x)) one (polls_head t s turns x w w_row headless now want)) in
+      let no : moves.Waits (wait.Head x) ≡ Asks x = sym waits ∙ asks in
+      cc
+
+  asks_not : poll_move t now want c (Some k) ≡ Asks x → ⊥
+  asks_not asks = by_own (own_open t k) refl (asks_from t k x (poll_move t now want c (Some k)) (near_polled t c k now want) asks)
+    where
+      by_own : (q : Option ℕ) → own_open t k ≡ q → option_or q (shared_exchange t k.place) ≡ Some x → ⊥
+      by_own None own from = member_not k.place from
+      by_own (Some y) own from = own_not (own ∙ from) asks
+
+-- AN ENTRY
+
+module _ (limits : Limits) (t : Tables) (e : Entry) (taken : IsTaken limits t e) (s : Sound t) (o : Owners t) (turns : Turns t) (are : AreUnasked t) where
+  abbrev u : Tables
+  u = after_accepted t e
+
+  behind_asks : (x : ℕ) → asks_in x (behind limits t e taken) ≡ false
+  behind_asks x = (asks_closed x 0 (closing t (seen limits t e taken)) _).asks ∙ (asks_loss x 0 (flaw_in e.acts)).asks
+
+  move_asks : (x c : ℕ) (m : Move) → (m ≡ Asks x → ⊥) → asks_in x (acts_of c m ++ behind limits t e taken) ≡ false
+  move_asks x c (Asks y) other = elim (eq_cases y x) [
+    | inl here ↦ absurd (other (ap Asks here.1))
+    | inr off ↦ rw off.0 (behind_asks x)
+  ]
+  move_asks x c Nothing other = behind_asks x
+  move_asks x c (moves.Waits w) other = behind_asks x
+  move_asks x c (Opens y n request) other = behind_asks x
+  move_asks x c (Shows r why head lo hi) other = behind_asks x
+  move_asks x c (Gives run) other = behind_asks x
+  move_asks x c Ends other = behind_asks x
+  move_asks x c (Fails why) other = behind_asks x
+
+  module _ (x : ℕ) (w : Exchange) (row : t.exchange x ≡ Some w) (bare : w.head ≡ None) where
+    by_poll : (c : ℕ) (k : Consumer) → t.consumer c ≡ Some k → AtPoll limits t e taken c k → asks_in x e.acts ≡ false
+    by_poll c k its (facts.moves_on want m at m_is does all saw) =
+        ap (asks_in x) all ∙ move_asks x c m (λ asks. asks_not t s o turns e.now c want x k w its row bare (sym m_is ∙ asks))
+    by_poll c k its (facts.misreads want r at all saw) = ap (asks_in x) all ∙ behind_asks x
+
+    polled : (c want : ℕ) (q : Option Consumer) → e.event ≡ event.Poll c want → t.consumer c ≡ q → is_live q ≡ true → asks_in x e.acts ≡ false
+    polled c want None at its live = absurd (false_true live)
+    polled c want (Some k) at its live = by_poll c k its (at_poll limits t e taken c want k s turns its at)
+
+    quiet : (ev : Event) → e.event ≡ ev → answer_acts t e.now ev (flaw_in e.acts) ≡ [] → is_asking ev ≡ false → asks_in x e.acts ≡ false
+    quiet ev at none off = (told_quiet limits t e taken x 0 (ap (λ z. answer_acts t e.now z (flaw_in e.acts)) at ∙ none) (ap is_asking at ∙ off)).asks
+
+    unasked : (ev : Event) → e.event ≡ ev → asks_in x e.acts ≡ false
+    unfolding refusals.refusal_of
+    unasked (event.Poll c want) at = polled c want (t.consumer c) at refl (poll_live limits t e.now (flaw_in e.acts) s c want (sym (ap (denial t) at) ∙ goes limits t e taken.owed taken.not_denied))
+    unasked (event.Start c request) at = quiet (event.Start c request) at refl refl
+    unasked (event.Head y response) at = quiet (event.Head y response) at refl refl
+    unasked (event.Piece y bytes) at = quiet (event.Piece y bytes) at refl refl
+    unasked (event.End y) at = quiet (event.End y) at refl refl
+    unasked (event.Fault y) at = quiet (event.Fault y) at refl refl
+    unasked (event.Cancel c) at =
+        ap (asks_in x) (facts.acts_is limits t e taken ∙ ap (λ z. accepted_acts limits t e.now z (flaw_in e.acts)) at)
+        ∙ ((asks_closed x 0 (closing t (record { now = e.now; event = event.Cancel c; acts = loss_acts (flaw_in e.acts) })) _).asks ∙ (asks_loss x 0 (flaw_in e.acts)).asks)
+    unasked (event.Doom key) at = quiet (event.Doom key) at refl refl
+
+  made_unasked : (x : ℕ) (q : Option Opening) (z : Exchange) → exchange_made t e x q ≡ Some z → z.asked ≡ false
+  made_unasked x None z is = absurd (none_some z is)
+  made_unasked x (Some p) z is = elim (eq_cases p.x x) [
+    | inl here ↦ sym (ap (λ (a : Exchange). a.asked) (some_inj (exchange_opened t e p) z (rw here.0 at is)))
+    | inr off ↦ absurd (none_some z (rw off.0 at is))
+  ]
+
+  bare_by : (x : ℕ) (q : Option Exchange) (z : Exchange) → t.exchange x ≡ q → exchange_after t e x q ≡ Some z → z.head ≡ None → z.asked ≡ false
+  unfolding exchange_after
+  bare_by x None z row is bare = made_unasked x (opening_in e.acts) z is
+  bare_by x (Some w) z row is bare =
+      let same = some_inj (exchange_acted x e.acts (exchange_heard t e x e.event w)) z is in
+      let heard = heard_bare t e x w e.event (are.bare x w row) (ap (λ (a : Exchange). a.head) same ∙ bare) in
+      sym (ap (λ (a : Exchange). a.asked) same) ∙ (ap (λ b. b || (exchange_heard t e x e.event w).asked) (unasked x w row heard.0 e.event refl) ∙ heard.1)
+
+  unasked_kept : AreUnasked u
+  unasked_kept = record { bare = λ x z row bare. bare_by x (t.exchange x) z refl row bare }
+
+  -- BEHIND A HEAD, AND BEHIND A PIECE
+
+  head_bare : (x : ℕ) (response : Response) (w : Exchange) → e.event ≡ event.Head x response → t.exchange x ≡ Some w → is_headless (Some w) ≡ true
+  unfolding refusals.refusal_of
+  head_bare x response w at row =
+      let here : denial t (event.Head x response) ≡ None = sym (ap (denial t) at) ∙ goes limits t e taken.owed taken.not_denied in
+      head_opens w (sym (ap (λ z. head_refusal (as_open z)) row) ∙ here)
+
+  heard_anew : (x : ℕ) (w : Exchange) (ev : Event) → e.event ≡ ev → t.exchange x ≡ Some w → brings_body ev ≡ true → exchange_in ev ≡ Some x → (exchange_heard t e x ev w).asked ≡ false
+  heard_anew x w (event.Head y response) at row brings is = elim (eq_cases y x) [
+    | inr off ↦ absurd (off.1 (some_inj y x is))
+    | inl here ↦ rw here.0 (are.bare x w row (head_none w (head_bare x response w (at ∙ ap (λ n. event.Head n response) here.1) row)))
+  ]
+  heard_anew x w (event.Piece y bytes) at row brings is = elim (eq_cases y x) [
+    | inr off ↦ absurd (off.1 (some_inj y x is))
+    | inl here ↦ rw here.0 refl
+  ]
+  heard_anew x w (event.Start c request) at row brings is = absurd (false_true brings)
+  heard_anew x w (event.Poll c want) at row brings is = absurd (false_true brings)
+  heard_anew x w (event.End y) at row brings is = absurd (false_true brings)
+  heard_anew x w (event.Fault y) at row brings is = absurd (false_true brings)
+  heard_anew x w (event.Cancel c) at row brings is = absurd (false_true brings)
+  heard_anew x w (event.Doom key) at row brings is = absurd (false_true brings)
+
+  quiet_at : (x : ℕ) (ev : Event) → e.event ≡ ev → brings_body ev ≡ true → asks_in x e.acts ≡ false
+  quiet_at x (event.Head y response) at brings = (told_quiet limits t e taken x 0 (ap (λ z. answer_acts t e.now z (flaw_in e.acts)) at) (ap is_asking at)).asks
+  quiet_at x (event.Piece y bytes) at brings = (told_quiet limits t e taken x 0 (ap (λ z. answer_acts t e.now z (flaw_in e.acts)) at) (ap is_asking at)).asks
+  quiet_at x (event.Start c request) at brings = absurd (false_true brings)
+  quiet_at x (event.Poll c want) at brings = absurd (false_true brings)
+  quiet_at x (event.End y) at brings = absurd (false_true brings)
+  quiet_at x (event.Fault y) at brings = absurd (false_true brings)
+  quiet_at x (event.Cancel c) at brings = absurd (false_true brings)
+  quiet_at x (event.Doom key) at brings = absurd (false_true brings)
+
+  anew_by : (x : ℕ) (q : Option Exchange) (z : Exchange) → brings_body e.event ≡ true → exchange_in e.event ≡ Some x → t.exchange x ≡ q → exchange_after t e x q ≡ Some z → z.asked ≡ false
+  unfolding exchange_after
+  anew_by x None z brings is row after = made_unasked x (opening_in e.acts) z after
+  anew_by x (Some w) z brings is row after =
+      let same = some_inj (exchange_acted x e.acts (exchange_heard t e x e.event w)) z after in
+      sym (ap (λ (a : Exchange). a.asked) same) ∙ (ap (λ b. b || (exchange_heard t e x e.event w).asked) (quiet_at x e.event refl brings) ∙ heard_anew x w e.event refl row brings is)
+
+  asks_anew : (x : ℕ) (z : Exchange) → brings_body e.event ≡ true → exchange_in e.event ≡ Some x → u.exchange x ≡ Some z → z.asked ≡ false
+  asks_anew x z brings is after = anew_by x (t.exchange x) z brings is refl after
+
+-- IN RUNS
+
+unasked_denied : (t : Tables) (e : Entry) → AreUnasked t → AreUnasked (after_denied t e)
+unasked_denied t e are = record { bare = are.bare }
+
+by_denial : (limits : Limits) (contents : Contents) (h : History) (e : Entry) (b : Bool) → is_denied e.acts ≡ b → may_begin limits contents ≡ true → IsRun limits contents h → IsOwed limits (tables contents h) e → AreUnasked (tables contents h) → AreUnasked (tables contents (e ∷ h))
+by_denial limits contents h e true denied may run owed are = subst AreUnasked (denied_tables contents h e denied) (unasked_denied (tables contents h) e are)
+by_denial limits contents h e false accepted may run owed are =
+    let c = carried limits contents h may run in
+    subst AreUnasked (next_tables contents h e accepted)
+    (unasked_kept limits (tables contents h) e (record { owed = owed; not_denied = accepted }) c.is_sound c.is_owned (turned_in_runs limits contents h may run).turns are)
+
+pub unasked_in_runs : OfRuns AreUnasked
+unfolding tables
+unasked_in_runs limits contents [] may run = record { bare = λ x w row bare. absurd (none_some w row) }
+unasked_in_runs limits contents (e ∷ h) may run = by_denial limits contents h e (is_denied e.acts) refl may run.0 run.1 (unasked_in_runs limits contents h may run.0)
+
+pub asks_anew_in_runs : OfHistories AsksAnew
+asks_anew_in_runs limits contents [] may run = tt
+asks_anew_in_runs limits contents (e ∷ h) may run = λ x w accepted brings is after.
+    let t = tables contents h in
+    let c = carried limits contents h may run.0 in
+    asks_anew limits t e (record { owed = run.1; not_denied = accepted }) c.is_sound c.is_owned (turned_in_runs limits contents h may run.0).turns (unasked_in_runs limits contents h may run.0) x w brings is
+    (ap (λ (u : Tables). u.exchange x) (next_tables contents h e accepted) ∙ after)

@@ -62,7 +62,7 @@ use Rattle.hc_model.proofs.Waiters.{IsWaiter, waiter_of}
 
 -- LISTS OF READERS
 
-among_passes : (test : ℕ → Bool) (d : ℕ) (ds : List ℕ) → Among d (filter test ds) → test d ≡ true
+pub among_passes : (test : ℕ → Bool) (d : ℕ) (ds : List ℕ) → Among d (filter test ds) → test d ≡ true
 among_passes test d [] there = absurd there
 among_passes test d (z ∷ ds) there = elim (bool_cases (test z)) [
   | inr off ↦ among_passes test d ds (rw off at there)
@@ -74,7 +74,7 @@ among_passes test d (z ∷ ds) there = elim (bool_cases (test z)) [
       ]
 ]
 
-some_among : (ds : List ℕ) → ds ≢ [] → (d : ℕ) × Among d ds
+pub some_among : (ds : List ℕ) → ds ≢ [] → (d : ℕ) × Among d ds
 some_among [] some = absurd (some refl)
 some_among (d ∷ ds) some = (d, inl refl)
 

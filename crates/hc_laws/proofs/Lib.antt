@@ -122,6 +122,7 @@ pub mod WrittenEffects
 pub mod LawfulRuns
 pub mod LettingGo
 pub mod LiveRuns
+pub mod OpenRuns
 pub mod PartRuns
 pub mod AimRuns
 pub mod EvictsLast

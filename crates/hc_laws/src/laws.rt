@@ -14,7 +14,7 @@ ghost use Rattle.hc_model.specs.Frames.{PartsAreKept, OthersStay, OthersDontGo, 
 ghost use Rattle.hc_model.specs.Fronts.{Fronts};
 ghost use Rattle.hc_model.specs.Given.{Given};
 ghost use Rattle.hc_model.specs.Growing.{Growing, StopsInRuns};
-ghost use Rattle.hc_model.specs.Live.{FewLive};
+ghost use Rattle.hc_model.specs.Live.{FewLive, FewOpen};
 ghost use Rattle.hc_model.specs.Losses.{Brings, Losses};
 ghost use Rattle.hc_model.specs.Measures.{Measures};
 ghost use Rattle.hc_model.specs.WithinLimits.{RequestsStayWithinLimits, HeadsComeWithinLimits};
@@ -345,6 +345,12 @@ pub fn numbers_stay_small()
 /// No more consumers are live than the refusals let start, in every run.
 pub fn few_are_live()
     ensures { OfRuns FewLive }
+{}
+
+/// No more exchanges are open than consumers are live, in every run: each open one is that from which a live
+/// consumer reads, as its own or as a member of the writing for several, and nobody reads from two.
+pub fn few_are_open()
+    ensures { OfRuns FewOpen }
 {}
 
 /// What is owed of a store that didn't fail is told by the tables and the event alone: what it refuses, it refuses

@@ -7,7 +7,7 @@ pub use laws::{
     aims_are_named, bodies_stay_measured, chains_of_waits_end, columns_are_filters,
     deliveries_come_once, denials_keep_soundness, dooms_are_a_barrier, endings_are_known,
     evictions_come_last, exchanges_are_asked_anew, exchanges_are_somebodys,
-    faultless_entries_are_owed, few_are_live, few_give_way, given_bytes_are_there,
+    faultless_entries_are_owed, few_are_live, few_are_open, few_give_way, given_bytes_are_there,
     lists_are_in_order, losses_are_held, numbers_are_given_out, numbers_stay_small,
     one_body_is_read, one_exchange_brings_it, one_has_the_turn, one_head_is_shown, one_is_current,
     other_keys_stay, owners_stay_known, passed_wait_for_current, places_are_known,

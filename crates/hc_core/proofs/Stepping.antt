@@ -32,7 +32,9 @@ use Rattle.hc_model.specs.Runs.{IsRun, IsOwed, may_stand, may_be}
 use Rattle.hc_model.specs.Tables.{tables, after_accepted, after_denied}
 use Rattle.hc_laws.proofs.Barred.{next_tables, denied_tables}
 use Rattle.hc_laws.proofs.ChainRuns.{chains_in_runs}
-use Rattle.hc_laws.proofs.InRuns.{delivers_in_runs, turns_in_runs, dooms_in_runs}
+use Rattle.hc_laws.proofs.GivesStored.{gives_stored_in_runs}
+use Rattle.hc_laws.proofs.InRuns.{delivers_in_runs, turns_in_runs, dooms_in_runs, binds_in_runs}
+use Rattle.hc_laws.proofs.StoresGrow.{stores_grow_in_runs}
 use Rattle.hc_laws.proofs.TruthRuns.{truth_in_runs}
 use Rattle.hc_event.specs.WithinLimits.{IsEventWithinLimits}
 use Rattle.hc_state.specs.declared.rows.Rows.{Rows}
@@ -237,4 +239,7 @@ keeps_promises s contents h stands = record {
   waits = chains_in_runs s.rows.limits contents h stands.begins stands.run;
   barrier = dooms_in_runs s.rows.limits contents h stands.begins stands.run;
   truthful = truth_in_runs s.rows.limits contents h stands.begins stands.run;
+  binds = binds_in_runs s.rows.limits contents h stands.begins stands.run;
+  stored = stores_grow_in_runs s.rows.limits contents h stands.begins stands.run;
+  gives = gives_stored_in_runs s.rows.limits contents h stands.begins stands.run;
 }

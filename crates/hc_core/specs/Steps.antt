@@ -12,8 +12,9 @@ use Rattle.hc_model.specs.Entries.{History, Contents}
 use Rattle.hc_rules.specs.declared.room.Limits.{Limits}
 use Rattle.hc_model.specs.Flaws.{failures_in}
 use Rattle.hc_model.specs.Chains.{ChainsEnd}
-use Rattle.hc_model.specs.Laws.{DeliversOnce, HasOneTurn, IsBehindDooms, IsTruthful}
+use Rattle.hc_model.specs.Laws.{DeliversOnce, HasOneTurn, IsBehindDooms, IsBoundBehindDooms, IsTruthful, StoresGrow}
 use Rattle.hc_model.specs.Numbers.{AreShort}
+use Rattle.hc_model.specs.Reads.{GivesStored}
 use Rattle.hc_model.specs.Runs.{IsRun}
 use Rattle.hc_model.specs.Tables.{tables}
 use Rattle.hc_state.specs.Stands.{RowsStand, most_before}
@@ -83,13 +84,17 @@ pub record Steps {B : Type 0} {g : Ghosts B} (s u : Cache B g) (before out : Lis
 
 -- of every history that the cache stands for: each position is delivered once, of each key one exchange at most has
 -- the turn, a chain of waits ends after three links, what is used came after the last doom of its key, and what is
--- stored is what it is called
+-- stored is what it is called. What a consumer became bound to by the last entry came after that doom too. By that
+-- entry nothing that was stored went, and who polled with its next byte stored was given some.
 pub record Keeps (contents : Contents) (h : History) : Type 0 where
   pub once : DeliversOnce (tables contents h)
   pub turn : HasOneTurn (tables contents h)
   pub waits : ChainsEnd (tables contents h)
   pub barrier : IsBehindDooms contents h
   pub truthful : IsTruthful (tables contents h)
+  pub binds : IsBoundBehindDooms contents h
+  pub stored : StoresGrow contents h
+  pub gives : GivesStored contents h
 
 abbrev pub KeepsPromises : {B : Type 0} {g : Ghosts B} → Cache B g → Type 0
 KeepsPromises s = (contents : Contents) (h : History) → StandsFor s contents h → Keeps contents h

@@ -3,6 +3,7 @@ use Rattle.std.proofs.Common.{◌≡◌, ℕ, zero, suc, ◌+◌, ◌<◌, ◌�
 use Rattle.std.proofs.lemmas.Bool.Decides.{nat_tests}
 use Rattle.std.proofs.lemmas.List.{drop_all, length-map, reverse-append}
 use Rattle.std.specs.Prelude.{◌^◌, nat_le, nat_lt, not, is_none, ◌&&◌, if◌then◌else◌}
+use Rattle.hc_target.specs.Targets.{is_target}
 use Rattle.hc_rules.specs.declared.room.Limits.{Limits}
 use Rattle.hc_model.specs.Beginnings.{ascend_from, is_kind_right, has_right_head, has_own_numbers, is_good, are_good, weights_of, may_begin}
 use Rattle.hc_model.specs.Entries.{Content, Contents}
@@ -10,21 +11,39 @@ use Rattle.hc_model.specs.Tables.{bytes_in}
 use Rattle.hc_contents.specs.declared.contents.Content as coded
 use Rattle.hc_contents.specs.declared.unfit.Unfit.{Unfit}
 use Rattle.hc_contents.specs.declared.unfit.Unfit.TheVariants as unfit
-use Rattle.hc_contents.specs.Fit.{is_apart, is_right, count_good, has_good_numbers, unfit_of}
+use Rattle.hc_contents.specs.Fit.{is_fit, count_good, has_good_numbers, unfit_of}
 use Rattle.hc_contents.specs.PlainContents.{plain_item}
 use Rattle.hc_contents.proofs.Knowing.{take_told}
 
 -- ONE
 
--- an item is good where it is apart from the others, and right in itself
-pub good_is : (limits : Limits) (contents : Contents) (earlier : List Content) (item : Content) (later : List Content) → is_good limits contents earlier item later ≡ (is_apart contents earlier item later && is_right contents.now limits.max_entry item)
+-- an item is good where its key is a target, it is apart from the others, and it is right in itself
+pub good_is : (limits : Limits) (contents : Contents) (earlier : List Content) (item : Content) (later : List Content) → is_good limits contents earlier item later ≡ (is_target item.key && is_fit limits contents earlier item later)
 good_is limits contents earlier item later =
-    by_parts (not (Rattle.std.specs.List.list_any (λ (other : Content). Rattle.std.specs.Prelude.bytes_eq other.key item.key) earlier)) (has_own_numbers contents earlier item later) (ascend_from 0 0 item.runs) (is_kind_right item item.head.total) (nat_le (bytes_in item.runs) limits.max_entry) (has_right_head contents item)
+    by_parts (is_target item.key) (not (Rattle.std.specs.List.list_any (λ (other : Content). Rattle.std.specs.Prelude.bytes_eq other.key item.key) earlier)) (has_own_numbers contents earlier item later) (ascend_from 0 0 item.runs) (is_kind_right item item.head.total) (nat_le (bytes_in item.runs) limits.max_entry) (has_right_head contents item)
   where
-    by_parts : (a b c d e f : Bool) → (a && b && c && d && e && f) ≡ (a && b && (c && d && e && f))
-    by_parts true true c d e f = refl
-    by_parts true false c d e f = refl
-    by_parts false b c d e f = refl
+    by_parts : (t a b c d e f : Bool) → (t && a && b && c && d && e && f) ≡ (t && (a && b && (c && d && e && f)))
+    by_parts true true true c d e f = refl
+    by_parts true true false c d e f = refl
+    by_parts true false b c d e f = refl
+    by_parts false a b c d e f = refl
+
+-- what a test of the rest told, and one of its key
+pub good_by : (limits : Limits) (contents : Contents) (earlier : List Content) (item : Content) (later : List Content) (fit target : Bool) → fit ≡ is_fit limits contents earlier item later → fit ≡ true → target ≡ is_target item.key → target ≡ is_good limits contents earlier item later
+good_by limits contents earlier item later fit target tells on key =
+    key ∙ (and_true (is_target item.key) ∙ ap (λ b. is_target item.key && b) (sym on ∙ tells)) ∙ sym (good_is limits contents earlier item later)
+  where
+    and_true : (b : Bool) → b ≡ (b && true)
+    and_true true = refl
+    and_true false = refl
+
+pub bad_by : (limits : Limits) (contents : Contents) (earlier : List Content) (item : Content) (later : List Content) (fit : Bool) → fit ≡ is_fit limits contents earlier item later → fit ≡ false → false ≡ is_good limits contents earlier item later
+bad_by limits contents earlier item later fit tells off =
+    and_false (is_target item.key) ∙ ap (λ b. is_target item.key && b) (sym off ∙ tells) ∙ sym (good_is limits contents earlier item later)
+  where
+    and_false : (b : Bool) → false ≡ (b && false)
+    and_false true = refl
+    and_false false = refl
 
 -- COUNTING
 
@@ -82,10 +101,10 @@ module _ (limits : Limits) (contents : Contents) (items : List coded.Content) wh
 -- ALL
 
 -- all are good where none stops the count
-good_by : (limits : Limits) (contents : Contents) (earlier items : List Content) → are_good limits contents earlier items ≡ nat_le (length items) (count_good limits contents earlier items)
-good_by limits contents earlier [] = refl
-good_by limits contents earlier (item ∷ later) =
-    by_test (is_good limits contents earlier item later) (good_by limits contents (item ∷ earlier) later)
+good_to_end : (limits : Limits) (contents : Contents) (earlier items : List Content) → are_good limits contents earlier items ≡ nat_le (length items) (count_good limits contents earlier items)
+good_to_end limits contents earlier [] = refl
+good_to_end limits contents earlier (item ∷ later) =
+    by_test (is_good limits contents earlier item later) (good_to_end limits contents (item ∷ earlier) later)
   where
     one_up : (n m : ℕ) → nat_le n m ≡ nat_le (suc n) (1 + m)
     one_up n m = grind (arith, nat_tests)
@@ -100,7 +119,7 @@ good_by limits contents earlier (item ∷ later) =
 
 module _ (limits : Limits) (contents : Contents) (good : ℕ) (is : good ≡ count_good limits contents [] contents.items) where
   are_by : are_good limits contents [] contents.items ≡ nat_le (length contents.items) good
-  are_by = good_by limits contents [] contents.items ∙ ap (nat_le (length contents.items)) (sym is)
+  are_by = good_to_end limits contents [] contents.items ∙ ap (nat_le (length contents.items)) (sym is)
 
   -- an item isn't good
   pub bad_item : good < length contents.items → Some (unfit.BadContent good) ≡ unfit_of limits contents

@@ -35,6 +35,11 @@ is_right now most item =
     ascend_from 0 0 item.runs && is_kind_right item item.head.total
     && nat_le (bytes_in item.runs) most && could_come now item
 
+-- it is good, but for that its key is to be a target
+abbrev pub is_fit : Limits → Contents → List Content → Content → List Content → Bool
+is_fit limits contents earlier item later =
+    is_apart contents earlier item later && is_right contents.now limits.max_entry item
+
 -- where runs end and how many bytes they have, if they rise and end by the length
 abbrev pub extent_of : List Run → ℕ → Option Extent
 extent_of runs total =

@@ -6,6 +6,7 @@ use hc_text::Key;
 /// A representation with which a cache begins.
 #[derive(Drop)]
 pub struct Content {
+    /// A target.
     pub key: Key,
     /// Its number, that of the exchange that founded it.
     pub r: u64,

@@ -4,7 +4,7 @@ ghost use Rattle.hc_rules.specs.Rooms.{weight_of};
 ghost use Rattle.hc_model.specs.Beginnings.{is_good, may_begin, weights_of};
 ghost use Rattle.hc_model.specs.Entries as model;
 ghost use Rattle.hc_model.specs.Tables.{bytes_in};
-ghost use Rattle.hc_contents.specs.Fit.{count_good, has_good_numbers, unfit_of};
+ghost use Rattle.hc_contents.specs.Fit.{is_fit, count_good, has_good_numbers, unfit_of};
 ghost use Rattle.hc_contents.specs.Known.{Knows};
 ghost use Rattle.hc_contents.specs.PlainContents.{plain_contents, plain_item};
 
@@ -12,6 +12,7 @@ use crate::contents::{Content, Contents};
 use crate::item::{count_of, is_right};
 use crate::seen::Seen;
 use hc_rules::{Limits, SLOT_WEIGHT};
+use hc_target::is_target;
 use hc_text::NoMemory;
 use std::alloc::Global;
 
@@ -64,7 +65,8 @@ fn count_good(contents: &Contents, limits: Limits, alloc: Global) -> Result<usiz
     let items = contents.items.as_slice();
     let mut seen = Seen::new(items, alloc)?;
     for (i, item) in items.iter().enumerate() {
-        if !is_good(contents, limits, &seen, i, item) {
+        let good = is_good(contents, limits, &seen, i, item)?;
+        if !good {
             return Ok(i);
         }
         seen.add(item)?;
@@ -72,10 +74,30 @@ fn count_good(contents: &Contents, limits: Limits, alloc: Global) -> Result<usiz
     Ok(items.len())
 }
 
-/// Whether the item at this place is good, where those before it were seen.
-fn is_good(contents: &Contents, limits: Limits, seen: &Seen, i: usize, item: &Content) -> bool
+/// Whether the item at this place is good, where those before it were seen. Its key is read last.
+fn is_good(
+    contents: &Contents,
+    limits: Limits,
+    seen: &Seen,
+    i: usize,
+    item: &Content,
+) -> Result<bool, NoMemory>
+    ensures { IfOk result (λ good. (earlier items : List model.Content)
+        → Knows seen.now earlier items → i < length items
+        → good ≡ is_good limits (plain_contents contents.entry.now) earlier
+        (plain_item item.now) (drop (i + 1) items)) }
+{
+    if !is_fit(contents, limits, seen, i, item) {
+        return Ok(false);
+    }
+    let has_target = is_target(*item.key.bytes.allocator(), item.key.bytes.as_slice())?;
+    Ok(has_target)
+}
+
+/// Whether it is good, but for that its key is to be a target.
+fn is_fit(contents: &Contents, limits: Limits, seen: &Seen, i: usize, item: &Content) -> bool
     ensures { (earlier items : List model.Content) → Knows seen.now earlier items
-        → i < length items → result ≡ is_good limits (plain_contents contents.entry.now) earlier
+        → i < length items → result ≡ is_fit limits (plain_contents contents.entry.now) earlier
         (plain_item item.now) (drop (i + 1) items) }
 {
     seen.is_apart(i, item, contents.next_exchange) && is_right(item, contents.now, limits.max_entry)

@@ -28,7 +28,7 @@ pub trait Stepper {
 
     /// Answers an event at a moment, in seconds since 1970: its acts are appended. Where memory is
     /// refused the acts are as before. No moment and no event is larger than those that a schedule
-    /// can spell.
+    /// can spell, and who starts has a number below 2^62 and asks for a target.
     fn step(&mut self, now: u64, event: &Event, out: &mut Acts) -> Result<(), NoMemory>
         requires later { moment self.old ≤ now }
         requires early { now < 2 ^ 62 }

@@ -29,6 +29,7 @@ use Rattle.hc_model.specs.Sound as sound
 use Rattle.hc_model.specs.StoredHeads.{StoredHeads, AreWithinLimits, IsOfOne, Tags}
 use Rattle.hc_model.specs.StoredHeads as heads
 use Rattle.hc_model.specs.Tables.{tables, bytes_in, last_end}
+use Rattle.hc_model.specs.WithinLimits.{KeysAreTargets}
 use Rattle.hc_model.proofs.Basics.{false_true, and_left, and_right, and_both, none_some}
 use Rattle.hc_laws.proofs.FitsKept.{Fits}
 use Rattle.hc_model.proofs.HoleLemmas.{bool_cases, covers_yes}
@@ -41,6 +42,7 @@ use Rattle.hc_model.proofs.RunsFrom.{HasCell, is_of, of_cell, all_of, ascends}
 use Rattle.hc_laws.proofs.SizesKeep.{sized_runs}
 use Rattle.hc_laws.proofs.SoundRuns.{IsCarried, carried}
 use Rattle.hc_laws.proofs.StoredHeadsKeep.{heads_in_runs, within_limits_in_runs}
+use Rattle.hc_laws.proofs.TargetRuns.{keys_stay_targets}
 use Rattle.hc_model.proofs.Sums.{sum_le, sum_some, is_in, among_of, filter_among, filter_once, reverse_among, reverse_once}
 use Rattle.hc_laws.proofs.TagRuns.{tags_in_runs}
 use Rattle.hc_laws.proofs.Unknowns.{Unknown}
@@ -71,6 +73,7 @@ pub record IsSettled (limits : Limits) (t : Tables) : Type 0 where
   pub sizes : Sizes limits t
   pub heads : StoredHeads t
   pub within_limits : AreWithinLimits t
+  pub targets : KeysAreTargets t
   pub tags : Tags t
 
 module _ (limits : Limits) (t : Tables) (g : IsSettled limits t) where
@@ -345,8 +348,9 @@ module _ (limits : Limits) (t : Tables) (g : IsSettled limits t) where
 
     good_item : (earlier later : List Content) → AllOther r earlier → AllOther r later → is_good limits left earlier (item r i) later ≡ true
     good_item earlier later before after =
-        and_both _ _ (and_both _ _ (and_both _ _ (and_both _ _ (and_both _ _
-        (not_by _ (none_of r (λ (other : Content). bytes_eq other.key i.v.key) earlier before other_key))
+        and_both _ _ (and_both _ _ (and_both _ _ (and_both _ _ (and_both _ _ (and_both _ _
+        (g.targets r i.v i.row)
+        (not_by _ (none_of r (λ (other : Content). bytes_eq other.key i.v.key) earlier before other_key)))
         (own_numbers earlier later before after))
         (ascending r i))
         (kind_ok r i))
@@ -435,7 +439,7 @@ module _ (limits : Limits) (t : Tables) (g : IsSettled limits t) where
 
 -- A store may begin with what a run leaves.
 pub leaves_good : LeavesInRuns
-leaves_good limits contents may h run within_limits in_limits =
+leaves_good limits contents may h run within_limits starts in_limits =
     let sized = sized_runs limits contents h may run in
     may_begin_again limits (tables contents h) (record {
       carried = carried limits contents h may run;
@@ -445,5 +449,6 @@ leaves_good limits contents may h run within_limits in_limits =
       sizes = sized.sizes;
       heads = heads_in_runs limits contents h may run;
       within_limits = within_limits_in_runs limits contents h may within_limits;
+      targets = keys_stay_targets limits contents h may run starts;
       tags = tags_in_runs limits contents h may run;
     }) in_limits

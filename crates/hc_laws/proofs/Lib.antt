@@ -71,6 +71,7 @@ pub mod SizesKeep
 pub mod StoredHeadsKeep
 pub mod TagsKeep
 pub mod TagRuns
+pub mod TargetRuns
 pub mod LeavesGood
 pub mod OrderRuns
 pub mod PlacesKept

@@ -17,7 +17,7 @@ ghost use Rattle.hc_model.specs.Growing.{Growing, StopsInRuns};
 ghost use Rattle.hc_model.specs.Live.{FewLive, FewOpen};
 ghost use Rattle.hc_model.specs.Losses.{Brings, Losses};
 ghost use Rattle.hc_model.specs.Measures.{Measures};
-ghost use Rattle.hc_model.specs.WithinLimits.{RequestsStayWithinLimits, HeadsComeWithinLimits};
+ghost use Rattle.hc_model.specs.WithinLimits.{RequestsStayWithinLimits, HeadsComeWithinLimits, RequestsStayForTargets, KeysStayTargets};
 ghost use Rattle.hc_model.specs.Numbers.{NumbersInRuns};
 ghost use Rattle.hc_model.specs.Orders.{InOrder};
 ghost use Rattle.hc_model.specs.Origins.{Origins};
@@ -269,13 +269,15 @@ pub fn what_is_not_spoken_of_stays()
 {}
 
 /// A store may begin with what a run leaves, but for the limits of numbers, where no head that came had more
-/// fields than one from outside may have. What shows this holds in every run: each byte of a body is from an
+/// fields than one from outside may have, and who started asked for a target. What shows this holds in every
+/// run: where who started asked for a target, each body has one as its key; each byte of a body is from an
 /// exchange that founded or joined it, or was there at the beginning, and a number is said by no other body;
 /// as many bytes are stored as positions, and no more than an entry may have; a stored head was asked for
 /// before it came, and tells no length among its fields; and what has no tag by which others could join it
 /// comes from its one exchange, or is all there.
 pub fn stores_begin_again()
     ensures again { LeavesInRuns }
+    ensures keys { KeysStayTargets }
     ensures origins { OfRuns Origins }
     ensures sizes { OfRunsIn Sizes }
     ensures heads { OfRuns StoredHeads }
@@ -371,9 +373,11 @@ pub fn exchanges_are_asked_anew()
 {}
 
 /// Where each request and each head that comes has no more fields than one from outside may have, each
-/// request that is kept has no more either.
+/// request that is kept has no more either. Where who starts asks for a target, so does each request that
+/// is kept.
 pub fn requests_stay_within_limits()
     ensures requests { RequestsStayWithinLimits }
+    ensures targets { RequestsStayForTargets }
     ensures heads { HeadsComeWithinLimits }
 {}
 

@@ -1,4 +1,4 @@
--- Where what comes from outside has few and short fields, so has each request that is kept.
+-- What each start brings, each request that is kept has: few and short fields, and a target as its key.
 use Rattle.std.proofs.Common.{◌≡◌, ℕ, List, [], ◌∷◌, ◌++◌, Bool, true, false, Some, ap, sym, ◌∙◌, subst, arith}
 use Rattle.std.specs.Prelude.{option_map, ◌==◌, if◌then◌else◌}
 use Rattle.std.proofs.lemmas.Bool.Decides.{nat_tests}
@@ -7,58 +7,71 @@ use Rattle.hc_event.specs.declared.event.Event.{Event}
 use Rattle.hc_event.specs.declared.event.Event.TheVariants as event
 use Rattle.hc_event.specs.declared.event.Request.{Request}
 use Rattle.hc_fields.specs.FieldList.{IsWithinLimits}
-use Rattle.hc_model.specs.Entries.{History}
+use Rattle.hc_target.specs.Targets.{is_target}
+use Rattle.hc_model.specs.Entries.{Entry, Contents, History}
 use Rattle.hc_model.specs.Histories.{each, first, if_accepted, request_in}
-use Rattle.hc_model.specs.WithinLimits.{HasFieldsWithinLimits, FieldsAreWithinLimits, RequestsStayWithinLimits, HeadsComeWithinLimits}
+use Rattle.hc_model.specs.WithinLimits.{HasFieldsWithinLimits, FieldsAreWithinLimits, RequestsStayWithinLimits, HeadsComeWithinLimits, HasTarget, StartsHaveTargets, RequestsStayForTargets}
 use Rattle.hc_model.specs.Rows.{Consumer}
 use Rattle.hc_model.specs.StoredHeads.{IsHeadWithinLimits}
+use Rattle.hc_model.specs.Tables.{tables}
 use Rattle.hc_model.proofs.Basics.{none_some}
 use Rattle.hc_model.proofs.ConsumerFilters.{requests_are}
 use Rattle.hc_model.proofs.PieceKeeps.{some_inj}
 
 -- REQUESTS
 
--- each of them is within limits
-abbrev EachWithinLimits : List Request → Type 0
-EachWithinLimits [] = Unit {0}
-EachWithinLimits (request ∷ rest) = IsWithinLimits request.fields × EachWithinLimits rest
+-- P of a request, where each event of a history is Q, and so a start has a request of which P holds
+module _ (P : Request → Type 0) (Q : Event → Type 0) (R : History → Type 0) (of_start : (c : ℕ) (request : Request) → Q (event.Start c request) → P request) (of_entry : (e : Entry) (h : History) → R (e ∷ h) → R h × Q e.event) where
+  -- of each of them
+  abbrev Each : List Request → Type 0
+  Each [] = Unit {0}
+  Each (request ∷ rest) = P request × Each rest
 
-both_within_limits : (xs ys : List Request) → EachWithinLimits xs → EachWithinLimits ys → EachWithinLimits (xs ++ ys)
-both_within_limits [] ys first rest = rest
-both_within_limits (x ∷ xs) ys first rest = (first.0, both_within_limits xs ys first.1 rest)
+  of_both : (xs ys : List Request) → Each xs → Each ys → Each (xs ++ ys)
+  of_both [] ys first rest = rest
+  of_both (x ∷ xs) ys first rest = (first.0, of_both xs ys first.1 rest)
 
-one_within_limits : (b : Bool) (request : Request) → IsWithinLimits request.fields → EachWithinLimits (if b then request ∷ [] else [])
-one_within_limits true request within_limits = (within_limits, tt)
-one_within_limits false request within_limits = tt
+  of_one : (b : Bool) (request : Request) → P request → Each (if b then request ∷ [] else [])
+  of_one true request holds = (holds, tt)
+  of_one false request holds = tt
 
-heard_within_limits : (c : ℕ) (ev : Event) → HasFieldsWithinLimits ev → EachWithinLimits (request_in c ev)
-heard_within_limits c (event.Start d request) within_limits = one_within_limits (d == c) request within_limits
-heard_within_limits c (event.Poll d want) within_limits = tt
-heard_within_limits c (event.Head x response) within_limits = tt
-heard_within_limits c (event.Piece x bytes) within_limits = tt
-heard_within_limits c (event.End x) within_limits = tt
-heard_within_limits c (event.Fault x) within_limits = tt
-heard_within_limits c (event.Cancel d) within_limits = tt
-heard_within_limits c (event.Doom key) within_limits = tt
+  of_heard : (c : ℕ) (ev : Event) → Q ev → Each (request_in c ev)
+  of_heard c (event.Start d request) holds = of_one (d == c) request (of_start d request holds)
+  of_heard c (event.Poll d want) holds = tt
+  of_heard c (event.Head x response) holds = tt
+  of_heard c (event.Piece x bytes) holds = tt
+  of_heard c (event.End x) holds = tt
+  of_heard c (event.Fault x) holds = tt
+  of_heard c (event.Cancel d) holds = tt
+  of_heard c (event.Doom key) holds = tt
 
-accepted_within_limits : (b : Bool) (xs : List Request) → EachWithinLimits xs → EachWithinLimits (if b then [] else xs)
-accepted_within_limits true xs within_limits = tt
-accepted_within_limits false xs within_limits = within_limits
+  of_accepted : (b : Bool) (xs : List Request) → Each xs → Each (if b then [] else xs)
+  of_accepted true xs holds = tt
+  of_accepted false xs holds = holds
 
-brought_within_limits : (c : ℕ) (h : History) → FieldsAreWithinLimits h → EachWithinLimits (each (λ e. if_accepted e (request_in c e.event)) h)
-brought_within_limits c [] within_limits = tt
-brought_within_limits c (e ∷ h) within_limits =
-    both_within_limits (each (λ e. if_accepted e (request_in c e.event)) h) (if_accepted e (request_in c e.event))
-    (brought_within_limits c h within_limits.0) (accepted_within_limits (is_denied e.acts) (request_in c e.event) (heard_within_limits c e.event within_limits.1))
+  of_brought : (c : ℕ) (h : History) → R h → Each (each (λ e. if_accepted e (request_in c e.event)) h)
+  of_brought c [] holds = tt
+  of_brought c (e ∷ h) holds =
+      let both = of_entry e h holds in
+      of_both (each (λ e. if_accepted e (request_in c e.event)) h) (if_accepted e (request_in c e.event))
+      (of_brought c h both.0) (of_accepted (is_denied e.acts) (request_in c e.event) (of_heard c e.event both.1))
 
-first_within_limits : (xs : List Request) (request : Request) → EachWithinLimits xs → first xs ≡ Some request → IsWithinLimits request.fields
-first_within_limits [] request within_limits is = absurd (none_some request is)
-first_within_limits (x ∷ xs) request within_limits is = subst (λ (z : Request). IsWithinLimits z.fields) (some_inj x request is) within_limits.0
+  of_first : (xs : List Request) (request : Request) → Each xs → first xs ≡ Some request → P request
+  of_first [] request holds is = absurd (none_some request is)
+  of_first (x ∷ xs) request holds is = subst P (some_inj x request is) holds.0
+
+  of_consumers : (contents : Contents) (h : History) → R h → (c : ℕ) (k : Consumer) → (tables contents h).consumer c ≡ Some k → P k.request
+  of_consumers contents h holds c k row =
+      of_first (each (λ e. if_accepted e (request_in c e.event)) h) k.request (of_brought c h holds)
+      (sym (requests_are contents h c) ∙ ap (option_map (λ (q : Consumer). q.request)) row)
 
 pub requests_are_within_limits : RequestsStayWithinLimits
-requests_are_within_limits contents h within_limits c k row =
-    first_within_limits (each (λ e. if_accepted e (request_in c e.event)) h) k.request (brought_within_limits c h within_limits)
-    (sym (requests_are contents h c) ∙ ap (option_map (λ (q : Consumer). q.request)) row)
+requests_are_within_limits contents h within_limits =
+    of_consumers (λ request. IsWithinLimits request.fields) HasFieldsWithinLimits FieldsAreWithinLimits (λ c request few. few) (λ e h all. all) contents h within_limits
+
+pub requests_are_for_targets : RequestsStayForTargets
+requests_are_for_targets contents h starts =
+    of_consumers (λ request. is_target request.key ≡ true) HasTarget StartsHaveTargets (λ c request target. target) (λ e h all. all) contents h starts
 
 -- HEADS
 

@@ -26,7 +26,7 @@ module _ (limits : Limits) (contents : Contents) where
       let three = and_left _ _ four in
       let two = and_left _ _ three in
       let numbers : has_own_numbers contents earlier item later ≡ true = and_right _ _ two in
-      (and_left _ _ (and_left _ _ numbers), not_true (list_any (has_key item.key) earlier) (and_left _ _ two))
+      (and_left _ _ (and_left _ _ numbers), not_true (list_any (has_key item.key) earlier) (and_right _ _ (and_left _ _ two)))
 
   numbered : (r : ℕ) (a : Content) (earlier items : List Content) → are_good limits contents earlier items ≡ true → find (of_number r) items ≡ Some a → (is_given_out contents a.r ≡ true) × (a.r ≡ r)
   numbered r a earlier [] good is = absurd (none_some a is)

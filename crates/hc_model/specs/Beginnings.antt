@@ -2,6 +2,7 @@
 use Rattle.std.specs.Prelude.{ℕ, ◌^◌, List, [], ◌∷◌, length, codes, bytes_eq, Bool, true, false, Option, Some, None, is_some, if◌then◌else◌, ◌==◌, ◌||◌, ◌&&◌, not, nat_lt, nat_le}
 use Rattle.std.specs.List.{list_any, list_all, sum_by}
 use Rattle.hc_fields.specs.FirstValues.{has_field}
+use Rattle.hc_target.specs.Targets.{is_target}
 use Rattle.hc_sparse.specs.Runs.{end_of}
 use Rattle.hc_sparse.specs.declared.run.Run.{Run}
 use Rattle.hc_record.specs.declared.kind.Kind.{Kind}
@@ -82,10 +83,11 @@ has_right_head contents item =
 
 -- ALL OF IT
 
--- a good item, but for that its key is to be a target
+-- a good item: its key is a target and no earlier one's, and its numbers, its runs and its head are right
 abbrev pub is_good : Limits → Contents → List Content → Content → List Content → Bool
 is_good limits contents earlier item later =
-    not (list_any (λ (other : Content). bytes_eq other.key item.key) earlier)
+    is_target item.key
+    && not (list_any (λ (other : Content). bytes_eq other.key item.key) earlier)
     && has_own_numbers contents earlier item later
     && ascend_from 0 0 item.runs
     && is_kind_right item item.head.total

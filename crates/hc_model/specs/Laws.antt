@@ -45,6 +45,7 @@ use Rattle.hc_model.specs.Sound.{Sound, IsBound, IsAbout, IsGrowing, IsServed, I
 use Rattle.hc_model.specs.Owners.{Owners}
 use Rattle.hc_model.specs.Measures.{Measures}
 use Rattle.hc_model.specs.StoredHeads.{HeadsAreWithinLimits}
+use Rattle.hc_model.specs.WithinLimits.{StartsHaveTargets}
 use Rattle.hc_model.specs.Keys.{entry_of, IsOfOneKey, KeepsOthers}
 
 -- a fact of the tables of every run from contents by which a store may begin
@@ -205,11 +206,11 @@ pub record IsInLimits (t : Tables) : Type 0 where
   pub exchanges : t.opened < 2 ^ 60
 
 -- A store may begin with what a run leaves, whoever is live, but for the limits of numbers, and where
--- no head that came had more fields than one from outside may have.
+-- no head that came had more fields than one from outside may have, and who started asked for a target.
 abbrev pub LeavesGood : Limits → Contents → Type 0
 LeavesGood limits contents =
     may_begin limits contents ≡ true → (h : History) → IsRun limits contents h →
-    HeadsAreWithinLimits h → IsInLimits (tables contents h) →
+    HeadsAreWithinLimits h → StartsHaveTargets h → IsInLimits (tables contents h) →
     may_begin limits (contents_of (tables contents h)) ≡ true
 
 abbrev pub LeavesInRuns : Type 0

@@ -7,13 +7,13 @@ use Rattle.hc_contents.specs.PlainContents.{plain_contents, plain_item}
 use Rattle.hc_contents.proofs.Counting.{stopped, goes_on, more_before, longer}
 use Rattle.hc_contents.proofs.unfit.count_good.Goals as goal
 
-pub returns-then-not-is_good : goal.returns-then-not-is_good
-returns-then-not-is_good c =
+pub returns-then-not-good : goal.returns-then-not-good
+returns-then-not-good c =
     let items = c.as_slice-items.result.now in
     let i = c.loop-i.i in
-    let tells = c.is_good.ensures (reverse (take i (map plain_item items))) (map plain_item items) c.loop-i.invariant.knows (longer items i c.loop-i-test.true) in
-    let off : c.is_good.result ≡ false = first_of (search (rules, c.if-not-is_good.true), grind (arith, c.if-not-is_good.true)) in
-    stopped c.args.limits (plain_contents c.args.contents.now) items i c.index-items-i.result c.loop-i.invariant.counted c.loop-i-test.true c.index-items-i.is c.is_good.result off tells
+    let tells = c.in_ok-good.ensures (reverse (take i (map plain_item items))) (map plain_item items) c.loop-i.invariant.knows (longer items i c.loop-i-test.true) in
+    let off : c.in_ok-good.good ≡ false = first_of (search (rules, c.if-not-good.true), grind (arith, c.if-not-good.true)) in
+    stopped c.args.limits (plain_contents c.args.contents.now) items i c.index-items-i.result c.loop-i.invariant.counted c.loop-i-test.true c.index-items-i.is c.in_ok-good.good off tells
     ∙ ap (λ (zs : List coded.Content). count_good c.args.limits (plain_contents c.args.contents.now) [] (map plain_item zs)) c.as_slice-items.ensures
 
 pub loop-i-preserved : goal.loop-i-preserved
@@ -22,8 +22,8 @@ loop-i-preserved c =
     let i = c.loop-i.i in
     let item = c.index-items-i.result in
     let earlier = reverse (take i (map plain_item items)) in
-    let tells = c.is_good.ensures earlier (map plain_item items) c.loop-i.invariant.knows (longer items i c.loop-i-test.true) in
-    let on : c.is_good.result ≡ true = first_of (search (rules, c.if-not-is_good.false), grind (arith, c.if-not-is_good.false)) in
+    let tells = c.in_ok-good.ensures earlier (map plain_item items) c.loop-i.invariant.knows (longer items i c.loop-i-test.true) in
+    let on : c.in_ok-good.good ≡ true = first_of (search (rules, c.if-not-good.false), grind (arith, c.if-not-good.false)) in
     let counted = c.loop-i.invariant.counted in
     record {
       knows =

@@ -4,10 +4,14 @@ use Rattle.hc_laws.proofs.OriginRuns.{origins_in_runs}
 use Rattle.hc_laws.proofs.SizesKeep.{sizes_in_runs}
 use Rattle.hc_laws.proofs.StoredHeadsKeep.{heads_in_runs}
 use Rattle.hc_laws.proofs.TagRuns.{tags_in_runs}
+use Rattle.hc_laws.proofs.TargetRuns.{keys_stay_targets}
 use Rattle.hc_laws.proofs.laws.stores_begin_again.Goals as goal
 
 pub returns-clause-again : goal.returns-clause-again
 returns-clause-again c = leaves_good
+
+pub returns-clause-keys : goal.returns-clause-keys
+returns-clause-keys c = keys_stay_targets
 
 pub returns-clause-origins : goal.returns-clause-origins
 returns-clause-origins c = origins_in_runs

@@ -1,0 +1,67 @@
+-- Where each start asks for a target, each representation has one as its key.
+use Rattle.std.proofs.Common.{◌≡◌, inl, inr, ℕ, List, [], ◌∷◌, Bool, true, false, None, Option, Some, refl, ap, sym, ◌∙◌}
+use Rattle.std.specs.Prelude.{◌==◌, find, option_map}
+use Rattle.hc_event.specs.Filters.{is_denied}
+use Rattle.hc_target.specs.Targets.{is_target}
+use Rattle.hc_rules.specs.declared.room.Limits.{Limits}
+use Rattle.hc_model.specs.Beginnings.{may_begin, is_good, are_good}
+use Rattle.hc_model.specs.Entries.{Entry, Content, Contents}
+use Rattle.hc_model.specs.Keys.{ExchangeKeys}
+use Rattle.hc_model.specs.Rows.{Tables, Representation}
+use Rattle.hc_model.specs.Tables.{tables, first_tables, representation_of_content, after}
+use Rattle.hc_model.specs.WithinLimits.{RequestsAreForTargets, KeysAreTargets, KeysStayTargets}
+use Rattle.hc_model.proofs.Basics.{and_left, and_right, none_some}
+use Rattle.hc_model.proofs.PieceKeeps.{eq_cases, some_inj}
+use Rattle.hc_model.proofs.RepFrom.{RepFrom, rep_from}
+use Rattle.hc_model.proofs.RepFrom as rep
+use Rattle.hc_model.proofs.RunsWithinLimits.{requests_are_for_targets}
+use Rattle.hc_laws.proofs.InRuns.{one_key_in_runs}
+
+-- the key of what is founded is that of its exchange, and so of a consumer
+target_by : (t : Tables) (e : Entry) (r : ℕ) (u : Representation) → ExchangeKeys t → RequestsAreForTargets t → KeysAreTargets t → RepFrom t e r u → is_target u.key ≡ true
+target_by t e r u keys asked old (rep.was v kept) = ap is_target kept.key_is ∙ old r v kept.row
+target_by t e r u keys asked old (rep.founded response w none here row on is) =
+    let opener = keys.opener r w row in
+    ap is_target (sym (ap (λ (z : Representation). z.key) is) ∙ opener.2) ∙ asked w.c opener.0 opener.1
+
+targets_step : (t : Tables) (e : Entry) (b : Bool) → is_denied e.acts ≡ b → ExchangeKeys t → RequestsAreForTargets t → KeysAreTargets t → KeysAreTargets (after t e)
+unfolding after
+targets_step t e true denied keys asked old = rw denied old
+targets_step t e false accepted keys asked old = rw accepted (λ r u row. target_by t e r u keys asked old (rep_from t e r (t.representation r) u refl row))
+
+-- AT THE BEGINNING
+
+abbrev of_number : ℕ → Content → Bool
+of_number r item = item.r == r
+
+module _ (limits : Limits) (contents : Contents) where
+  good_target : (earlier : List Content) (item : Content) (later : List Content) → is_good limits contents earlier item later ≡ true → is_target item.key ≡ true
+  good_target earlier item later good = and_left _ _ (and_left _ _ (and_left _ _ (and_left _ _ (and_left _ _ (and_left _ _ good)))))
+
+  target_of : (r : ℕ) (a : Content) (earlier items : List Content) → are_good limits contents earlier items ≡ true → find (of_number r) items ≡ Some a → is_target a.key ≡ true
+  target_of r a earlier [] good is = absurd (none_some a is)
+  target_of r a earlier (item ∷ later) good is = elim (eq_cases item.r r) [
+    | inl here ↦ ap (λ (z : Content). is_target z.key) (sym (some_inj item a (rw here.0 at is))) ∙ good_target earlier item later (and_left _ _ good)
+    | inr off ↦ target_of r a (item ∷ earlier) later (and_right _ _ good) (rw off.0 at is)
+  ]
+
+  module _ (may : may_begin limits contents ≡ true) where
+    good : are_good limits contents [] contents.items ≡ true
+    unfolding may_begin
+    good = and_left _ _ (and_left _ _ (and_left _ _ (and_left _ _ (and_left _ _ may))))
+
+    by_item : (r : ℕ) (v : Representation) (z : Option Content) → find (of_number r) contents.items ≡ z → option_map representation_of_content z ≡ Some v → is_target v.key ≡ true
+    by_item r v None found row = absurd (none_some v row)
+    by_item r v (Some item) found row = sym (ap (λ (z : Representation). is_target z.key) (some_inj (representation_of_content item) v row)) ∙ target_of r item [] contents.items good found
+
+    targets_begin : KeysAreTargets (first_tables contents)
+    targets_begin r v row = by_item r v (find (of_number r) contents.items) refl row
+
+-- IN RUNS
+
+pub keys_stay_targets : KeysStayTargets
+unfolding tables
+keys_stay_targets limits contents [] may run starts = targets_begin limits contents may
+keys_stay_targets limits contents (e ∷ h) may run starts =
+    targets_step (tables contents h) e (is_denied e.acts) refl (one_key_in_runs limits contents h may run.0).exchanges
+    (requests_are_for_targets contents h starts.0) (keys_stay_targets limits contents h may run.0 starts.0)

@@ -1,7 +1,8 @@
 -- A cache that begins with contents stands for the history that has no entry yet.
-use Rattle.std.proofs.Common.{◌≡◌, inl, inr, ℕ, ◌+◌, ◌≤◌, ◌<◌, ◌^◌, List, [], ◌∷◌, map, true, None, Some, refl, ap, sym, ◌∙◌, arith}
-use Rattle.std.specs.Prelude.{find, ◌==◌}
+use Rattle.std.proofs.Common.{◌≡◌, inl, inr, ℕ, ◌+◌, ◌≤◌, ◌<◌, ◌^◌, List, [], ◌∷◌, map, true, None, Some, refl, ap, sym, ◌∙◌, subst, arith}
+use Rattle.std.specs.Prelude.{find, nat_lt, ◌==◌}
 use Rattle.std.proofs.lemmas.Bool.{cases_Bool}
+use Rattle.std.proofs.lemmas.Bool.Decides.{nat_tests}
 use Rattle.hc_store.specs.declared.backend.Backend.{Ghosts}
 use Rattle.hc_rules.specs.declared.room.Limits.{Limits}
 use Rattle.hc_exch.specs.Exchanges.{next_of}
@@ -14,8 +15,9 @@ use Rattle.hc_contents.specs.declared.contents.Contents as coded_all
 use Rattle.hc_contents.specs.Fit.{unfit_of}
 use Rattle.hc_contents.specs.PlainContents.{plain_contents, plain_item}
 use Rattle.hc_contents.proofs.Counting.{begins_by}
+use Rattle.hc_model.proofs.Basics.{and_left, and_right}
 use Rattle.hc_state.specs.declared.rows.Rows.{Rows}
-use Rattle.hc_state.specs.Good.{StandsUntil}
+use Rattle.hc_state.specs.Good.{StandsAt}
 use Rattle.hc_state.specs.Stands.{RowsStand}
 use Rattle.hc_state.proofs.Words.{none_some, some_is}
 use Rattle.hc_core.specs.declared.cache.Cache.{Cache}
@@ -47,9 +49,21 @@ stands_begun_with s contents moment may rows = record {
   rows = rows;
 }
 
-pub good_begun_with : {B : Type 0} {g : Ghosts B} (r : Rows B g) (contents : coded_all.Contents) → may_begin r.limits (plain_contents contents) ≡ true → RowsStand r (first_tables (plain_contents contents)) → StandsUntil r contents.now
+pub good_begun_with : {B : Type 0} {g : Ghosts B} (r : Rows B g) (contents : coded_all.Contents) → may_begin r.limits (plain_contents contents) ≡ true → RowsStand r (first_tables (plain_contents contents)) → StandsAt r contents.now
 unfolding tables
-good_begun_with r contents may rows = (record { contents = plain_contents contents; h = []; begins = may; short = short_told contents; within_limits = tt; run = tt; rows = rows }, omega arith)
+good_begun_with r contents may rows = (record { contents = plain_contents contents; h = []; begins = may; short = short_told contents; within_limits = tt; starts = tt; run = tt; rows = rows }, refl)
 
 pub next_begun_with : {B : Type 0} {g : Ghosts B} (r : Rows B g) (contents : coded_all.Contents) → may_begin r.limits (plain_contents contents) ≡ true → RowsStand r (first_tables (plain_contents contents)) → next_of r.exchanges ≤ 2 ^ 60 + 0
 next_begun_with r contents may rows = let fits = next_fits r.limits (plain_contents contents) may in let next = rows.next in omega (arith, fits, next)
+
+-- the moment and the number of who started last are below 2 ^ 62
+pub numbers_fit : (limits : Limits) (contents : Contents) → may_begin limits contents ≡ true → (contents.now < 2 ^ 62) × (contents.last_consumer < 2 ^ 62)
+unfolding may_begin
+numbers_fit limits contents may =
+    let upto_consumer = and_left _ _ (and_left _ _ (and_left _ _ may)) in
+    let consumer : nat_lt contents.last_consumer (2 ^ 62) ≡ true = and_right _ _ upto_consumer in
+    let now : nat_lt contents.now (2 ^ 62) ≡ true = and_right _ _ (and_left _ _ upto_consumer) in
+    (grind (arith, nat_tests, now), grind (arith, nat_tests, consumer))
+
+pub small_begun_with : {B : Type 0} {g : Ghosts B} (r : Rows B g) (contents : coded_all.Contents) → may_begin r.limits (plain_contents contents) ≡ true → RowsStand r (first_tables (plain_contents contents)) → r.last_start < 2 ^ 62
+small_begun_with r contents may rows = subst (λ n. n < 2 ^ 62) (sym rows.last_start) (numbers_fit r.limits (plain_contents contents) may).1

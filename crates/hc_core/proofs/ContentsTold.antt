@@ -1,4 +1,4 @@
--- What is told of all idle ones is the contents of each run that the cache stands for.
+-- What is told of all idle ones is the contents of each run that the cache stands for, and a cache may begin with it.
 use Rattle.std.proofs.Common.{◌≡◌, inl, inr, ℕ, zero, suc, get_or, ◌+◌, ◌-◌, ◌<◌, ◌≤◌, ◌^◌, List, [], ◌∷◌, ◌++◌, take, map, Bool, true, false, Option, Some, None, refl, ap, sym, ◌∙◌, subst, arith}
 use Rattle.std.specs.Prelude.{is_some, option_map, filter, filter_map, reverse, ◌==◌, ◌&&◌, length}
 use Rattle.std.proofs.lemmas.Bool.{cases_Bool}
@@ -12,16 +12,20 @@ use Rattle.hc_stored.specs.Kept.{Kept}
 use Rattle.hc_stored.specs.Shelf as shelves
 use Rattle.hc_stored.specs.Shelf.{Shelf, Stays, idle, cells_at, cells_in}
 use Rattle.hc_stored.specs.Views.{key_in}
+use Rattle.hc_model.specs.Beginnings.{may_begin}
 use Rattle.hc_model.specs.Contents.{content_of, content_at, contents_of, idle_now, is_idle, runs_from}
 use Rattle.hc_model.specs.Currents.{current, is_current}
 use Rattle.hc_model.specs.Entries.{Content, Contents, History}
 use Rattle.hc_model.specs.Kinds.{kind_of}
+use Rattle.hc_model.specs.Laws.{IsInLimits}
 use Rattle.hc_model.specs.LettingGo.{MayLetGo}
 use Rattle.hc_model.specs.Reading.{bound}
 use Rattle.hc_model.specs.Rows.{Tables, Representation}
 use Rattle.hc_model.specs.Sound.{IsStored}
 use Rattle.hc_model.specs.Tables.{tables}
 use Rattle.hc_model.proofs.Basics.{and_left, number_is, same_functions}
+use Rattle.hc_model.proofs.RunsWithinLimits.{heads_come_within_limits}
+use Rattle.hc_laws.proofs.LeavesGood.{leaves_good}
 use Rattle.hc_laws.proofs.LettingGo.{may_let_go}
 use Rattle.hc_model.proofs.PollKeeps.{current_stays}
 use Rattle.hc_exch.specs.Exchanges.{next_of}
@@ -29,11 +33,12 @@ use Rattle.hc_contents.specs.declared.contents.Contents as coded_all
 use Rattle.hc_contents.specs.PlainContents.{plain_contents, plain_item}
 use Rattle.hc_state.specs.declared.rows.Rows.{Rows}
 use Rattle.hc_state.specs.Facts.{Facts}
-use Rattle.hc_state.specs.Good.{StandsUntil}
+use Rattle.hc_state.specs.Good.{StandsAt, IsGood}
 use Rattle.hc_state.specs.Remains.{TellsOne, TellsAll}
 use Rattle.hc_state.specs.Stands.{RowsStand}
 use Rattle.hc_state.specs.Stored.{IsEntry, KeepsEntry, TellsLength}
 use Rattle.hc_state.specs.Stored as stored
+use Rattle.hc_state.proofs.Maps.{merely_true}
 use Rattle.hc_state.proofs.ReaderSteps.{stands_read}
 use Rattle.hc_state.proofs.Rooms.{idle_is}
 use Rattle.hc_core.proofs.Standing.{facts_of_runs}
@@ -148,6 +153,23 @@ contents_told s found moment last next tells contents h stands =
       items = (sym (items_are s.rows t s.rows.limits facts stands.rows (map plain_item found.items) tells)) i;
     }
 
+-- a cache may begin with what a good one tells
+pub may_again : {B : Type 0} {g : Ghosts B} (s : Cache B g) (found : coded_all.Contents) → found.now ≡ s.last_moment → found.last_consumer ≡ s.rows.last_start → found.next_exchange ≡ next_of s.rows.exchanges
+    → TellsAll (shelf_of s.rows.entries) (idle (shelf_of s.rows.entries)) (map plain_item found.items) → IsGood s.rows s.last_moment s.steps → found.next_exchange ≤ 2 ^ 60 → may_begin s.rows.limits (plain_contents found) ≡ true
+may_again s found moment last next tells good few =
+    merely_true (may_begin s.rows.limits (plain_contents found)) good.0 (λ at.
+    let some = at.0 in
+    let t = tables some.contents some.h in
+    let stands : StandsFor s some.contents some.h = record { begins = some.begins; short = some.short; run = some.run; moment = sym at.1; rows = some.rows } in
+    let opened = some.rows.next in
+    let in_limits : IsInLimits t = record {
+      moment = subst (λ n. n < 2 ^ 62) (sym at.1) good.2;
+      consumers = subst (λ n. n < 2 ^ 62) some.rows.last_start good.3;
+      exchanges = omega (arith, few, next, opened);
+    } in
+    ap (may_begin s.rows.limits) (contents_told s found moment last next tells some.contents some.h stands)
+    ∙ leaves_good s.rows.limits some.contents some.begins some.h some.run (heads_come_within_limits some.h some.within_limits) some.starts in_limits)
+
 -- the cache stands for the same where what is kept stays
 pub stands_still : {B : Type 0} {g : Ghosts B} (s u : Cache B g) → u.last_moment ≡ s.last_moment → u.rows.limits ≡ s.rows.limits → u.rows.received ≡ s.rows.received → u.rows.last_start ≡ s.rows.last_start → u.rows.consumers ≡ s.rows.consumers → u.rows.exchanges ≡ s.rows.exchanges → u.rows.keys ≡ s.rows.keys
     → Stays (shelf_of s.rows.entries) (shelf_of u.rows.entries) → (contents : Contents) (h : History) → StandsFor s contents h → StandsFor u contents h
@@ -203,16 +225,17 @@ tells_more s (q ∷ qs) [] r item all one = absurd all
 tells_more s (q ∷ qs) (x ∷ xs) r item all one = (all.0, tells_more s qs xs r item all.1 one)
 
 -- a cache is as good where what is kept stays
-pub good_still : {B : Type 0} {g : Ghosts B} (r u : Rows B g) (moment : ℕ) → u.limits ≡ r.limits → u.received ≡ r.received → u.last_start ≡ r.last_start → u.consumers ≡ r.consumers → u.exchanges ≡ r.exchanges → u.keys ≡ r.keys → Stays (shelf_of r.entries) (shelf_of u.entries) → StandsUntil r moment → StandsUntil u moment
-good_still r u moment limits received last consumers exchanges same_keys stays until = (
+pub good_still : {B : Type 0} {g : Ghosts B} (r u : Rows B g) (moment : ℕ) → u.limits ≡ r.limits → u.received ≡ r.received → u.last_start ≡ r.last_start → u.consumers ≡ r.consumers → u.exchanges ≡ r.exchanges → u.keys ≡ r.keys → Stays (shelf_of r.entries) (shelf_of u.entries) → StandsAt r moment → StandsAt u moment
+good_still r u moment limits received last consumers exchanges same_keys stays at = (
   record {
-    contents = until.0.contents;
-    h = until.0.h;
-    begins = rw limits until.0.begins;
-    short = until.0.short;
-    within_limits = until.0.within_limits;
-    run = rw limits until.0.run;
-    rows = stands_read r u (tables until.0.contents until.0.h) limits received last consumers exchanges same_keys stays until.0.rows;
+    contents = at.0.contents;
+    h = at.0.h;
+    begins = rw limits at.0.begins;
+    short = at.0.short;
+    within_limits = at.0.within_limits;
+    starts = at.0.starts;
+    run = rw limits at.0.run;
+    rows = stands_read r u (tables at.0.contents at.0.h) limits received last consumers exchanges same_keys stays at.0.rows;
   },
-  until.1,
+  at.1,
 )

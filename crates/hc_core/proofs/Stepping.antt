@@ -1,5 +1,5 @@
 -- The step of a cache: one entry more, denied or accepted.
-use Rattle.std.proofs.Common.{◌≡◌, ℕ, ◌+◌, ◌≤◌, ◌<◌, List, [], ◌∷◌, ◌++◌, length, Bool, true, false, Option, Some, None, refl, ap, sym, ◌∙◌, subst, arith}
+use Rattle.std.proofs.Common.{◌≡◌, ℕ, ◌+◌, ◌≤◌, ◌<◌, ◌^◌, List, [], ◌∷◌, ◌++◌, length, Bool, true, false, Option, Some, None, refl, ap, sym, ◌∙◌, subst, arith}
 use Rattle.std.proofs.lemmas.Bool.Decides.{nat_tests}
 use Rattle.std.proofs.Math.Bridge.{le_prop}
 use Rattle.std.proofs.Math.Logic.{∥∥₁_elim}
@@ -25,11 +25,11 @@ use Rattle.hc_model.specs.Beginnings.{may_begin}
 use Rattle.hc_model.specs.Denials.{denial}
 use Rattle.hc_model.specs.Entries.{Entry, History, Contents, no_contents}
 use Rattle.hc_model.specs.Flaws.{Flaw, NoFlaw, flaw_in}
-use Rattle.hc_model.specs.WithinLimits.{HasFieldsWithinLimits}
+use Rattle.hc_model.specs.WithinLimits.{HasFieldsWithinLimits, HasTarget}
 use Rattle.hc_model.specs.Numbers.{AreShort}
 use Rattle.hc_model.specs.Rows.{Tables}
 use Rattle.hc_model.specs.Runs.{IsRun, IsOwed, may_stand, may_be}
-use Rattle.hc_model.specs.Tables.{tables, after_accepted, after_denied}
+use Rattle.hc_model.specs.Tables.{tables, last_start_after, after, after_accepted, after_denied}
 use Rattle.hc_laws.proofs.Barred.{next_tables, denied_tables}
 use Rattle.hc_laws.proofs.ChainRuns.{chains_in_runs}
 use Rattle.hc_laws.proofs.GivesStored.{gives_stored_in_runs}
@@ -41,10 +41,11 @@ use Rattle.hc_state.specs.declared.rows.Rows.{Rows}
 use Rattle.hc_state.specs.Stands.{RowsStand, Answers, gate_of}
 use Rattle.hc_model.specs.Flaws.{is_fault}
 use Rattle.hc_state.specs.Facts.{Facts}
-use Rattle.hc_state.specs.Good.{StandsUntil, rows_with_event}
+use Rattle.hc_state.specs.Good.{StandsUntil, StandsAt, rows_with_event}
 use Rattle.hc_on_leave.proofs.Gates.{denies_as}
 use Rattle.hc_on_leave.proofs.Sets.{acts_set}
 use Rattle.hc_core.proofs.Standing.{facts_of_runs}
+use Rattle.hc_state.proofs.Maps.{merely_below}
 use Rattle.hc_state.proofs.Words.{none_some}
 use Rattle.hc_model.proofs.Undenied.{undenied}
 use Rattle.hc_core.proofs.Denying.{stands_denied, stands_begun}
@@ -72,14 +73,14 @@ stands_beginning s moment last next count none unopened unawaited unkept order l
   rows = stands_begun s.rows last next count none unopened unawaited unkept order limits;
 }
 
-pub begins_good : {B : Type 0} {g : Ghosts B} (r : Rows B g) → r.last_start ≡ 0 → next_of r.exchanges ≡ 1 → hash_map_len r.consumers ≡ 0 → ((c : ℕ) → get nat_eq r.consumers c ≡ None) → ((x : ℕ) → table_of r.exchanges x ≡ unknown) → ((key : List ℕ) → kept_of r.keys key ≡ nothing) → ((q : ℕ) → (shelf_of r.entries).kept q ≡ None) → (shelf_of r.entries).order ≡ [] → (shelf_of r.entries).limits ≡ r.limits → StandsUntil r 0
+pub begins_good : {B : Type 0} {g : Ghosts B} (r : Rows B g) → r.last_start ≡ 0 → next_of r.exchanges ≡ 1 → hash_map_len r.consumers ≡ 0 → ((c : ℕ) → get nat_eq r.consumers c ≡ None) → ((x : ℕ) → table_of r.exchanges x ≡ unknown) → ((key : List ℕ) → kept_of r.keys key ≡ nothing) → ((q : ℕ) → (shelf_of r.entries).kept q ≡ None) → (shelf_of r.entries).order ≡ [] → (shelf_of r.entries).limits ≡ r.limits → StandsAt r 0
 unfolding tables
-begins_good r last next count none unopened unawaited unkept order limits = (record { contents = no_contents; h = []; begins = begins r.limits; short = none_long; within_limits = tt; run = tt; rows = stands_begun r last next count none unopened unawaited unkept order limits }, omega arith)
+begins_good r last next count none unopened unawaited unkept order limits = (record { contents = no_contents; h = []; begins = begins r.limits; short = none_long; within_limits = tt; starts = tt; run = tt; rows = stands_begun r last next count none unopened unawaited unkept order limits }, refl)
 
 -- WHAT COMES
 
 within_limits_fields : (ev : Event) → IsEventWithinLimits ev → HasFieldsWithinLimits ev
-within_limits_fields (event.Start c request) within_limits = within_limits
+within_limits_fields (event.Start c request) within_limits = within_limits.2
 within_limits_fields (event.Poll c want) within_limits = tt
 within_limits_fields (event.Head x response) within_limits = within_limits
 within_limits_fields (event.Piece x bytes) within_limits = tt
@@ -87,6 +88,43 @@ within_limits_fields (event.End x) within_limits = tt
 within_limits_fields (event.Fault x) within_limits = tt
 within_limits_fields (event.Cancel c) within_limits = tt
 within_limits_fields (event.Doom key) within_limits = tt
+
+has_target : (ev : Event) → IsEventWithinLimits ev → HasTarget ev
+has_target (event.Start c request) within_limits = within_limits.1
+has_target (event.Poll c want) within_limits = tt
+has_target (event.Head x response) within_limits = tt
+has_target (event.Piece x bytes) within_limits = tt
+has_target (event.End x) within_limits = tt
+has_target (event.Fault x) within_limits = tt
+has_target (event.Cancel c) within_limits = tt
+has_target (event.Doom key) within_limits = tt
+
+-- the number of who started last stays below 2 ^ 62
+small_by : (ev : Event) (n : ℕ) → IsEventWithinLimits ev → n < 2 ^ 62 → last_start_after ev n < 2 ^ 62
+small_by (event.Start c request) n within_limits small = within_limits.0
+small_by (event.Poll c want) n within_limits small = small
+small_by (event.Head x response) n within_limits small = small
+small_by (event.Piece x bytes) n within_limits small = small
+small_by (event.End x) n within_limits small = small
+small_by (event.Fault x) n within_limits small = small
+small_by (event.Cancel c) n within_limits small = small
+small_by (event.Doom key) n within_limits small = small
+
+small_after : (t : Tables) (e : Entry) → IsEventWithinLimits e.event → t.last_start < 2 ^ 62 → (after t e).last_start < 2 ^ 62
+unfolding after
+small_after t e within_limits small = by_test (is_denied e.acts)
+  where
+    by_test : (b : Bool) → (if b then after_denied t e else after_accepted t e).last_start < 2 ^ 62
+    by_test true = small
+    by_test false = small_by e.event t.last_start within_limits small
+
+small_next : (contents : Contents) (h : History) (e : Entry) → IsEventWithinLimits e.event → (tables contents h).last_start < 2 ^ 62 → (tables contents (e ∷ h)).last_start < 2 ^ 62
+unfolding tables
+small_next contents h e within_limits small = small_after (tables contents h) e within_limits small
+
+-- until its last moment
+pub until_at : {B : Type 0} {g : Ghosts B} (r : Rows B g) (moment : ℕ) → StandsAt r moment → StandsUntil r moment
+until_at r moment at = (at.0, (let is = at.1 in omega (arith, is)))
 
 -- WHAT IS OWED
 
@@ -193,10 +231,28 @@ module _ {B : Type 0} {g : Ghosts B} (r u : Rows B g) (now : ℕ) (ev : Event) (
   abbrev some_more : (last : ℕ) → last ≤ now → (some : StandsUntil r last) → Told r u some.0.contents some.0.h before out now ev
   some_more last later (s, until) = one_more s.contents s.h s.begins s.short s.run s.rows (omega (arith, later, until))
 
-  pub some_after : IsEventWithinLimits ev → (last : ℕ) → last ≤ now → StandsUntil r last → StandsUntil u now
+  pub some_after : IsEventWithinLimits ev → (last : ℕ) → last ≤ now → StandsUntil r last → StandsAt u now
   some_after within_limits last later (s, until) =
-      let more = (some_more last later (s, until)).more in
-      (record { contents = s.contents; h = record { now = now; event = ev; acts = acts_in before out } ∷ s.h; begins = more.begins; short = s.short; within_limits = (s.within_limits, within_limits_fields ev within_limits); run = more.run; rows = more.rows }, subst (λ n. n ≤ now) (sym more.moment) (omega arith))
+      let more = (some_more last later (s, until)).more in (
+        record {
+          contents = s.contents;
+          h = record { now = now; event = ev; acts = acts_in before out } ∷ s.h;
+          begins = more.begins;
+          short = s.short;
+          within_limits = (s.within_limits, within_limits_fields ev within_limits);
+          starts = (s.starts, has_target ev within_limits);
+          run = more.run;
+          rows = more.rows;
+        },
+        more.moment,
+      )
+
+  pub small_starts : IsEventWithinLimits ev → (last : ℕ) → last ≤ now → ∥ StandsUntil r last ∥₁ → r.last_start < 2 ^ 62 → u.last_start < 2 ^ 62
+  small_starts within_limits last later some small =
+      merely_below u.last_start (2 ^ 62) some (λ until.
+      let more = (some_more last later until).more in
+      let was : (tables until.0.contents until.0.h).last_start < 2 ^ 62 = subst (λ n. n < 2 ^ 62) until.0.rows.last_start small in
+      subst (λ n. n < 2 ^ 62) (sym more.rows.last_start) (small_next until.0.contents until.0.h (record { now = now; event = ev; acts = acts_in before out }) within_limits was))
 
   pub told_after : (last : ℕ) → last ≤ now → ∥ StandsUntil r last ∥₁ → out ≡ before ++ acts_in before out
   told_after last later some = ∥∥₁_elim some (acts_set out (before ++ acts_in before out)) (λ s. (some_more last later s).told)

@@ -1,5 +1,5 @@
 -- What a cache is that may step, and what a step needs.
-use Rattle.std.specs.Prelude.{ℕ, ◌+◌, ◌≤◌, ◌^◌, Bool, true, false, is_some}
+use Rattle.std.specs.Prelude.{◌≡◌, ℕ, ◌+◌, ◌<◌, ◌≤◌, ◌^◌, Bool, true, false, is_some}
 use Rattle.hc_store.specs.declared.backend.Backend.{Ghosts}
 use Rattle.hc_event.specs.declared.event.Event.{Event}
 use Rattle.hc_event.specs.declared.event.Event.TheVariants as event
@@ -13,13 +13,20 @@ use Rattle.hc_state.specs.Stands.{StandsForSome, Stands, gate_of}
 abbrev pub StandsUntil : {B : Type 0} {g : Ghosts B} → Rows B g → ℕ → Type 0
 StandsUntil r moment = (s : StandsForSome r) × ((tables s.contents s.h).moment ≤ moment)
 
+-- the same, and its last moment is this one
+abbrev pub StandsAt : {B : Type 0} {g : Ghosts B} → Rows B g → ℕ → Type 0
+StandsAt r moment = (s : StandsForSome r) × ((tables s.contents s.h).moment ≡ moment)
+
 -- the rows stand for tables that are no later
 abbrev pub StandsBy : {B : Type 0} {g : Ghosts B} → Rows B g → ℕ → Type 0
 StandsBy r moment = (s : Stands r) × (s.t.moment ≤ moment)
 
--- its rows stand for some run until its last moment, and each step opened one exchange at most
+-- its rows stand for some run whose last moment is its own, each step opened one exchange at most, and that moment and the
+-- number of who started last are those with which a cache may begin
 abbrev pub IsGood : {B : Type 0} {g : Ghosts B} → Rows B g → ℕ → ℕ → Type 0
-IsGood r moment n = ∥ StandsUntil r moment ∥₁ × (next_of r.exchanges ≤ 2 ^ 60 + n)
+IsGood r moment n =
+    ∥ StandsAt r moment ∥₁ × (next_of r.exchanges ≤ 2 ^ 60 + n) × (moment < 2 ^ 62)
+    × (r.last_start < 2 ^ 62)
 
 -- the event is denied
 abbrev pub is_refused : {B : Type 0} {g : Ghosts B} → Rows B g → Event → Bool

@@ -33,7 +33,7 @@ use Rattle.hc_model.specs.Denials.{live, denial}
 use Rattle.hc_model.specs.Answers.{accepted_acts}
 use Rattle.hc_model.specs.Runs.{IsRun, may_be}
 use Rattle.hc_model.specs.Keys.{entry_of}
-use Rattle.hc_model.specs.WithinLimits.{FieldsAreWithinLimits, RequestsAreWithinLimits}
+use Rattle.hc_model.specs.WithinLimits.{FieldsAreWithinLimits, RequestsAreWithinLimits, StartsHaveTargets}
 use Rattle.hc_model.specs.Numbers.{AreShort}
 use Rattle.hc_state.specs.declared.rows.Rows.{Rows}
 use Rattle.hc_state.specs.Changes.{StaysAll}
@@ -58,13 +58,14 @@ pub record RowsStand {B : Type 0} {g : Ghosts B} (r : Rows B g) (t : Tables) : T
   pub keys : (key : List ℕ) → KeepsKey t key (kept_of r.keys key)
   pub entries : KeepsEntries t (shelf_of r.entries)
 
--- the rows stand for the tables of some run
+-- the rows stand for the tables of some run, in which what comes is within limits
 pub record StandsForSome {B : Type 0} {g : Ghosts B} (r : Rows B g) : Type 0 where
   pub contents : Contents
   pub h : History
   pub begins : may_begin r.limits contents ≡ true
   pub short : AreShort contents
   pub within_limits : FieldsAreWithinLimits h
+  pub starts : StartsHaveTargets h
   pub run : IsRun r.limits contents h
   pub rows : RowsStand r (tables contents h)
 

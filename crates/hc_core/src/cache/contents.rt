@@ -1,12 +1,13 @@
 //! What a cache has, told as contents.
-ghost use Rattle.std.specs.Prelude.{◌≡◌, ◌↔◌, true, IfOk, IsErrOf};
+ghost use Rattle.std.specs.Prelude.{◌≡◌, ◌≤◌, ◌^◌, ◌↔◌, true, IfOk, IsErrOf};
 ghost use Rattle.hc_store.specs.declared.error.StoreError.TheVariants.{NoMemory};
 ghost use Rattle.hc_store.specs.Causes.{HasCause, HasNoLimit};
 ghost use Rattle.hc_contents.specs.PlainContents.{plain_contents};
 ghost use Rattle.hc_model.specs.Entries as model;
+ghost use Rattle.hc_model.specs.Beginnings.{may_begin};
 ghost use Rattle.hc_model.specs.Contents.{contents_of};
 ghost use Rattle.hc_model.specs.Tables.{tables};
-ghost use Rattle.hc_core.specs.Steps.{StandsFor, faults_in, has_failed, live_in, last_moment, steps, bytes_received};
+ghost use Rattle.hc_core.specs.Steps.{StandsFor, faults_in, has_failed, limits_in, live_in, last_moment, steps, bytes_received};
 
 use crate::cache::Cache;
 use crate::rows::contents::items_of;
@@ -14,14 +15,17 @@ use hc_contents::Contents;
 use hc_store::{Backend, StoreError};
 
 impl<B: Backend> Cache<B> {
-    /// What every history that the cache stands for leaves, while nobody is live. The cache stands for
-    /// the same histories afterwards, whatever the answer. After a step that answered NoMemory it
+    /// What every history that the cache stands for leaves, while nobody is live. A cache that may hold
+    /// as much may begin with it, unless the number of the next exchange is above 2^60. The cache stands
+    /// for the same histories afterwards, whatever the answer. After a step that answered NoMemory it
     /// stands for none, and NoMemory comes.
     pub fn contents(&mut self) -> Result<Contents, StoreError>
         requires idle { live_in self.old ≡ 0 }
         ensures told { IfOk result (λ found. (contents : model.Contents) (h : model.History)
             → StandsFor self.old contents h
             → plain_contents found ≡ contents_of (tables contents h)) }
+        ensures fits { IfOk result (λ found. found.next_exchange ≤ 2 ^ 60
+            → may_begin (limits_in self.old) (plain_contents found) ≡ true) }
         ensures same { (contents : model.Contents) (h : model.History)
             → StandsFor self.old contents h ↔ StandsFor self.new contents h }
         ensures moment { last_moment self.new ≡ last_moment self.old }

@@ -53,7 +53,7 @@ impl<B: Backend> Cache<B> {
     /// Answers an event at a moment, in seconds since 1970: its acts are appended. A denied event
     /// changes the moment and the counts alone. Where memory is refused the acts are as before, and
     /// each later step is refused too. No moment and no event is larger than those that a schedule
-    /// can spell.
+    /// can spell, and who starts has a number below 2^62 and asks for a target.
     pub fn step(&mut self, now: u64, event: &Event, out: &mut Acts) -> Result<(), NoMemory>
         requires later { last_moment self.old ≤ now }
         requires early { now < 2 ^ 62 }

@@ -9,7 +9,7 @@ invariant_of-result g c =
     let first = c.new-2.ensures.next in
     let entries = c.in_ok-new.ensures in
     let limits = ap (λ z. g.B.Backend.limits z) entries.store ∙ c.requires.limits in
-    record { good = λ _. (∣ begins_good _ refl first c.new.ensures.len none c.new-2.ensures.none c.new-3.ensures entries.nothing entries.order limits ∣₁, omega (arith, first)) }
+    record { good = λ _. (∣ begins_good _ refl first c.new.ensures.len none c.new-2.ensures.none c.new-3.ensures entries.nothing entries.order limits ∣₁, omega (arith, first), omega arith, omega arith) }
 
 pub returns-clause-stands : goal.returns-clause-stands
 returns-clause-stands g c =

@@ -2,7 +2,7 @@ use Rattle.std.proofs.Common.{◌≡◌, ◌<◌, ◌≤◌, ◌^◌, true, refl
 use Rattle.hc_rules.specs.declared.room.Limits.{Limits}
 use Rattle.hc_model.specs.Beginnings.{may_begin}
 use Rattle.hc_contents.specs.PlainContents.{plain_contents}
-use Rattle.hc_core.proofs.BegunCache.{may_by, stands_begun_with, good_begun_with, next_begun_with}
+use Rattle.hc_core.proofs.BegunCache.{may_by, stands_begun_with, good_begun_with, next_begun_with, numbers_fit, small_begun_with}
 use Rattle.hc_core.proofs.BegunItems.{next_fits}
 use Rattle.hc_core.proofs.Likewise.{serves_all}
 use Rattle.hc_core.proofs.cache.Cache.with_contents.Goals as goal
@@ -25,7 +25,14 @@ pub invariant_of-result : goal.invariant_of-result
 invariant_of-result g c =
     let may = subst (λ (l : Limits). may_begin l (plain_contents c.args.contents.now) ≡ true) (sym (c.begin_with.ensures.limits ∙ c.in-Ok.ensures.limits)) (may_by _ _ c.in_default.ensures.none) in
     let rows = c.in_default-begin_with.ensures.ok in
-    record { good = λ _. (∣ good_begun_with c.begin_with.new.rows c.args.contents.now may rows ∣₁, next_begun_with c.begin_with.new.rows c.args.contents.now may rows) }
+    record {
+      good = λ _. (
+        ∣ good_begun_with c.begin_with.new.rows c.args.contents.now may rows ∣₁,
+        next_begun_with c.begin_with.new.rows c.args.contents.now may rows,
+        (numbers_fit _ _ may).0,
+        small_begun_with c.begin_with.new.rows c.args.contents.now may rows,
+      );
+    }
 
 pub returns-clause-stands : goal.returns-clause-stands
 returns-clause-stands g c =

@@ -1,5 +1,5 @@
 -- A round more of the generator.
-use Rattle.std.proofs.Common.{◌≡◌, ℕ, zero, suc, ◌+◌, ◌≤◌, List, length, Bool, true, false, Option, Some, None, refl, ap, sym, ◌∙◌, subst, arith}
+use Rattle.std.proofs.Common.{◌≡◌, ℕ, zero, suc, ◌+◌, ◌^◌, ◌<◌, ◌≤◌, List, length, Bool, true, false, Option, Some, None, refl, ap, sym, ◌∙◌, subst, arith}
 use Rattle.std.specs.Prelude.{nat_lt, Result, Ok, Err, IfOk, is_err}
 use Rattle.hc_event.specs.declared.event.Event.{Event}
 use Rattle.hc_event.specs.WithinLimits.{IsEventWithinLimits}
@@ -16,6 +16,7 @@ use Rattle.hc_generate.specs.Rounds.{IsShort, IsShortIfMade, IsWithinLimitsIfMad
 use Rattle.hc_generate.specs.Sending.{Brings, number_of, origin_bytes, next_length}
 use Rattle.hc_generate.specs.States.{State}
 use Rattle.hc_generate.proofs.LimitsKept.{within_limits_answer, within_limits_request}
+use Rattle.hc_generate.proofs.Targets.{request_is_for_target}
 
 -- time doesn't go back, and what is made is small
 abbrev Fine : State → Move → Type 0
@@ -69,9 +70,9 @@ made_fine s u (Answers x owed v) made fine is = record {
   within_limits = λ e some. subst (λ (z : Event). IsEventWithinLimits z) (some_event is.0.event e (sym is.2 ∙ some)) (brought_within_limits x owed is.0 is.1);
 }
 
-started_fine : (s : State) (b : Bool) → nat_lt (length s.live) 64 ≡ b → Fine s (start_move s)
-started_fine s true on = rw on (omega arith, tt, within_limits_request s.draws)
-started_fine s false on = rw on (omega arith)
+started_fine : (s : State) (b : Bool) → s.last + 1 < 2 ^ 62 → nat_lt (length s.live) 64 ≡ b → Fine s (start_move s)
+started_fine s true small on = rw on (omega arith, tt, (small, request_is_for_target s.draws, within_limits_request s.draws))
+started_fine s false small on = rw on (omega arith)
 
 polled_fine : (s : State) (o : Option ℕ) → Fine s (polled_by o s)
 polled_fine s None = omega arith
@@ -93,30 +94,30 @@ faulted_fine : (s : State) (o : Option ℕ) → Fine s (faulted_by o s)
 faulted_fine s None = omega arith
 faulted_fine s (Some x) = (omega arith, tt, tt)
 
-action_fine : (wanted : List ℕ) (s : State) (a : Action) → Fine s (by_action a wanted s)
-action_fine wanted s action.Start = started_fine s (nat_lt (length s.live) 64) refl
-action_fine wanted s action.Poll = polled_fine s (choice_of s.live s.draws)
-action_fine wanted s action.Bring = answered_fine s (choice_of wanted s.draws)
-action_fine wanted s action.Cancel = cancelled_fine s (choice_of s.live s.draws)
-action_fine wanted s action.Wait = omega arith
-action_fine wanted s action.Fault = faulted_fine s (choice_of wanted s.draws)
-action_fine wanted s action.Doom = (omega arith, tt, tt)
+action_fine : (wanted : List ℕ) (s : State) (a : Action) → s.last + 1 < 2 ^ 62 → Fine s (by_action a wanted s)
+action_fine wanted s action.Start small = started_fine s (nat_lt (length s.live) 64) small refl
+action_fine wanted s action.Poll small = polled_fine s (choice_of s.live s.draws)
+action_fine wanted s action.Bring small = answered_fine s (choice_of wanted s.draws)
+action_fine wanted s action.Cancel small = cancelled_fine s (choice_of s.live s.draws)
+action_fine wanted s action.Wait small = omega arith
+action_fine wanted s action.Fault small = faulted_fine s (choice_of wanted s.draws)
+action_fine wanted s action.Doom small = (omega arith, tt, tt)
 
-pub goes_on : (wanted : List ℕ) (s u : State) (made : Option Event) → IsRound wanted s made u → GoesOn s u made
-goes_on wanted s u made is =
-    let after = made_fine (onward s) u (round wanted s) made (action_fine wanted (onward s) (action_of (draw_below 100 s.draws))) is in
+pub goes_on : (wanted : List ℕ) (s u : State) (made : Option Event) → s.last + 1 < 2 ^ 62 → IsRound wanted s made u → GoesOn s u made
+goes_on wanted s u made small is =
+    let after = made_fine (onward s) u (round wanted s) made (action_fine wanted (onward s) (action_of (draw_below 100 s.draws)) small) is in
     record { later = after.later; short = after.short; within_limits = after.within_limits }
 
-pub short_made : {E : Type 0} (wanted : List ℕ) (s u : State) (r : Result (Option Event) E) → IfOk r (λ made. IsRound wanted s made u) → IfOk r IsShortIfMade
-short_made wanted s u (Err e) is = tt
-short_made wanted s u (Ok None) is = tt
-short_made wanted s u (Ok (Some e)) is = (goes_on wanted s u (Some e) is).short e refl
+pub short_made : {E : Type 0} (wanted : List ℕ) (s u : State) (r : Result (Option Event) E) → s.last + 1 < 2 ^ 62 → IfOk r (λ made. IsRound wanted s made u) → IfOk r IsShortIfMade
+short_made wanted s u (Err e) small is = tt
+short_made wanted s u (Ok None) small is = tt
+short_made wanted s u (Ok (Some e)) small is = (goes_on wanted s u (Some e) small is).short e refl
 
-pub within_limits_made : {E : Type 0} (wanted : List ℕ) (s u : State) (r : Result (Option Event) E) → IfOk r (λ made. IsRound wanted s made u) → IfOk r IsWithinLimitsIfMade
-within_limits_made wanted s u (Err e) is = tt
-within_limits_made wanted s u (Ok None) is = tt
-within_limits_made wanted s u (Ok (Some e)) is = (goes_on wanted s u (Some e) is).within_limits e refl
+pub within_limits_made : {E : Type 0} (wanted : List ℕ) (s u : State) (r : Result (Option Event) E) → s.last + 1 < 2 ^ 62 → IfOk r (λ made. IsRound wanted s made u) → IfOk r IsWithinLimitsIfMade
+within_limits_made wanted s u (Err e) small is = tt
+within_limits_made wanted s u (Ok None) small is = tt
+within_limits_made wanted s u (Ok (Some e)) small is = (goes_on wanted s u (Some e) small is).within_limits e refl
 
-pub later_made : {E : Type 0} (wanted : List ℕ) (s u : State) (r : Result (Option Event) E) → is_err r ≡ false → IfOk r (λ made. IsRound wanted s made u) → s.moment ≤ u.moment
-later_made wanted s u (Err e) ok is = absurd (let never : true ≡ false = ok in cc)
-later_made wanted s u (Ok made) ok is = (goes_on wanted s u made is).later
+pub later_made : {E : Type 0} (wanted : List ℕ) (s u : State) (r : Result (Option Event) E) → s.last + 1 < 2 ^ 62 → is_err r ≡ false → IfOk r (λ made. IsRound wanted s made u) → s.moment ≤ u.moment
+later_made wanted s u (Err e) small ok is = absurd (let never : true ≡ false = ok in cc)
+later_made wanted s u (Ok made) small ok is = (goes_on wanted s u made small is).later

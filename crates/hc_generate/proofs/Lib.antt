@@ -5,3 +5,4 @@ pub mod OrderLemmas
 pub mod RangeTexts
 pub mod Going
 pub mod LimitsKept
+pub mod Targets

@@ -124,7 +124,7 @@ within_limits_answer request answer is = by_size (size_asked request) refl is
 
 -- THE REQUESTS
 
-drawn_below : (n s : ℕ) → 0 < n → draw_below n s < n
+pub drawn_below : (n s : ℕ) → 0 < n → draw_below n s < n
 unfolding draw_below
 drawn_below n s some = mod-lt (state_after_draw s / 2 ^ 33) some
 

@@ -5,7 +5,7 @@ use Rattle.hc_event.specs.WithinLimits.{IsEventWithinLimits}
 use Rattle.hc_sched.specs.Schedule.{IsEvent}
 
 pub within_limits_spelled : (e : Event) → IsEvent e → IsEventWithinLimits e
-within_limits_spelled (event.Start c request) is = is.3.within_limits
+within_limits_spelled (event.Start c request) is = (is.0, is.2, is.3.within_limits)
 within_limits_spelled (event.Poll c want) is = tt
 within_limits_spelled (event.Head x response) is = is.3.within_limits
 within_limits_spelled (event.Piece x bytes) is = is.1

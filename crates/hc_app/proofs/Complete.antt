@@ -43,13 +43,13 @@ module _ (left : List ℕ) (out diag : Option (List ℕ)) (after : Streams) wher
     where
       by_left : (o : Option (List ℕ)) → Gives (Some left) o text → refusal_of 0 left ≡ Some r
       by_left None gives = absurd gives
-      by_left (Some rest) gives = ap (refusal_of 0) gives ∙ refuses rest
-  refusal_is text r (program.at_end gives refuses) = ap (refusal_of 0) (sym gives.0) ∙ refuses
+      by_left (Some rest) gives = ap (refusal_of 0) gives ∙ refuses.refuses rest
+  refusal_is text r (program.at_end gives unrefused refuses) = ap (refusal_of 0) (sym gives.0) ∙ refuses
 
   spelled_replays : (items : List Item) (s : Status) → Spells 0 left items → Replays start after s → IsFaultless s → EndsWith (code_of s) 0
   spelled_replays items _ spells (program.done text read gives is report quiet) sound = inl refl
   spelled_replays items _ spells (program.refused text r refuses report said) sound = absurd (some_none r (sym (refusal_is text r refuses) ∙ (is_read 0 left items spells).0))
-  spelled_replays items _ spells (program.unreadable text gives report quiet) sound = absurd sound
+  spelled_replays items _ spells (program.unreadable text gives unrefused report quiet) sound = absurd sound
   spelled_replays items _ spells (program.unwritten text gives report quiet) sound = absurd sound
   spelled_replays items _ spells (program.wanting text gives report quiet) sound = inr refl
   spelled_replays items _ spells (program.unsaid text r refuses report said) sound = absurd sound
@@ -60,7 +60,7 @@ module _ (left : List ℕ) (out diag : Option (List ℕ)) (after : Streams) wher
   refused_replays r _ refused (program.done text read gives is report quiet) sound =
       absurd (some_none r (sym refused ∙ (ap (refusal_of 0) (sym gives.0) ∙ (is_read 0 text read is).0)))
   refused_replays r _ refused (program.refused text q refuses report said) sound = inl refl
-  refused_replays r _ refused (program.unreadable text gives report quiet) sound = absurd sound
+  refused_replays r _ refused (program.unreadable text gives unrefused report quiet) sound = absurd sound
   refused_replays r _ refused (program.unwritten text gives report quiet) sound = absurd sound
   refused_replays r _ refused (program.wanting text gives report quiet) sound = inr refl
   refused_replays r _ refused (program.unsaid text q refuses report said) sound = absurd sound

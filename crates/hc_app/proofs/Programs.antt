@@ -39,8 +39,8 @@ module _ {B : Type 0} {g : Rattle.hc_store.specs.declared.backend.Backend.Ghosts
   all : (u : Cache B g) (events : List Timed) (out out' : Option (List ℕ)) → replays.ReportsAll s u events out out' → ReportsAll events out out'
   all u events out out' r = record { history = r.history; whole = whole u r.history r.run r.counted; events_are = r.events_are; report = r.report }
 
-  some : (events : List Timed) (out out' : Option (List ℕ)) → replays.ReportsSome s events out out' → ReportsSome events out out'
-  some events out out' r = record { history = r.history; rest = r.rest; whole = whole r.last r.history r.run r.counted; events_are = r.events_are; report = r.report }
+  some : (u : Cache B g) (events : List Timed) (out out' : Option (List ℕ)) → replays.ReportsSome s u events out out' → ReportsSome events out out'
+  some u events out out' r = record { history = r.history; rest = r.rest; whole = whole u r.history r.run r.counted; events_are = r.events_are; report = r.report }
 
   module _ (u : Cache B g) (left left' out out' diag diag' : Option (List ℕ)) where
     abbrev before : Streams
@@ -55,33 +55,33 @@ module _ {B : Type 0} {g : Rattle.hc_store.specs.declared.backend.Backend.Ghosts
     pub is_done : (e : Ended) → Ran e → e ≡ ended.Done → diag' ≡ diag → Replays before after status.Done
     is_done _ (replays.done text items gives spells report) is quiet = program.done text items gives spells (all u _ out out' report) quiet
     is_done _ (replays.refused text r gives refuses report) is quiet = cc
-    is_done _ (replays.cut_short text r gives refuses report) is quiet = cc
-    is_done _ (replays.unreadable text gives report) is quiet = cc
+    is_done _ (replays.cut_short text r gives unrefused refuses report) is quiet = cc
+    is_done _ (replays.unreadable text gives unrefused report) is quiet = cc
     is_done _ (replays.unwritten text gives report) is quiet = cc
-    is_done _ (replays.wanting text gives report) is quiet = cc
+    is_done _ (replays.wanting text last gives report) is quiet = cc
 
     pub is_unreadable : (e : Ended) → Ran e → e ≡ ended.SourceFailed → diag' ≡ diag → Replays before after status.SourceFailed
-    is_unreadable _ (replays.unreadable text gives report) is quiet = program.unreadable text gives (all u _ out out' report) quiet
+    is_unreadable _ (replays.unreadable text gives unrefused report) is quiet = program.unreadable text gives unrefused (all u _ out out' report) quiet
     is_unreadable _ (replays.done text items gives spells report) is quiet = cc
     is_unreadable _ (replays.refused text r gives refuses report) is quiet = cc
-    is_unreadable _ (replays.cut_short text r gives refuses report) is quiet = cc
+    is_unreadable _ (replays.cut_short text r gives unrefused refuses report) is quiet = cc
     is_unreadable _ (replays.unwritten text gives report) is quiet = cc
-    is_unreadable _ (replays.wanting text gives report) is quiet = cc
+    is_unreadable _ (replays.wanting text last gives report) is quiet = cc
 
     pub is_unwritten : (e : Ended) → Ran e → e ≡ ended.SinkFailed → diag' ≡ diag → Replays before after status.SinkFailed
-    is_unwritten _ (replays.unwritten text gives report) is quiet = program.unwritten text gives (some _ out out' report) quiet
+    is_unwritten _ (replays.unwritten text gives report) is quiet = program.unwritten text gives (some u _ out out' report) quiet
     is_unwritten _ (replays.done text items gives spells report) is quiet = cc
     is_unwritten _ (replays.refused text r gives refuses report) is quiet = cc
-    is_unwritten _ (replays.cut_short text r gives refuses report) is quiet = cc
-    is_unwritten _ (replays.unreadable text gives report) is quiet = cc
-    is_unwritten _ (replays.wanting text gives report) is quiet = cc
+    is_unwritten _ (replays.cut_short text r gives unrefused refuses report) is quiet = cc
+    is_unwritten _ (replays.unreadable text gives unrefused report) is quiet = cc
+    is_unwritten _ (replays.wanting text last gives report) is quiet = cc
 
     pub is_wanting : (e : Ended) → Ran e → e ≡ ended.NoMemory → diag' ≡ diag → Replays before after status.NoMemory
-    is_wanting _ (replays.wanting text gives report) is quiet = program.wanting text gives (some _ out out' report) quiet
+    is_wanting _ (replays.wanting text last gives report) is quiet = program.wanting text gives (some last _ out out' report) quiet
     is_wanting _ (replays.done text items gives spells report) is quiet = cc
     is_wanting _ (replays.refused text r gives refuses report) is quiet = cc
-    is_wanting _ (replays.cut_short text r gives refuses report) is quiet = cc
-    is_wanting _ (replays.unreadable text gives report) is quiet = cc
+    is_wanting _ (replays.cut_short text r gives unrefused refuses report) is quiet = cc
+    is_wanting _ (replays.unreadable text gives unrefused report) is quiet = cc
     is_wanting _ (replays.unwritten text gives report) is quiet = cc
 
     -- where the text is refused, and what was reported before
@@ -96,12 +96,12 @@ module _ {B : Type 0} {g : Rattle.hc_store.specs.declared.backend.Backend.Ghosts
     stops : (e : Ended) (r : Refused) → Ran e → e ≡ ended.Refused r → Stops r
     stops _ r (replays.refused text q gives refuses report) is =
         record { text = text; refused = subst (λ (z : Refused). IsRefusedIn left left' text z) (same_refusal q r is) (program.within gives refuses); report = all u _ out out' report }
-    stops _ r (replays.cut_short text q gives refuses report) is =
-        record { text = text; refused = subst (λ (z : Refused). IsRefusedIn left left' text z) (same_refusal q r is) (program.at_end gives refuses); report = all u _ out out' report }
+    stops _ r (replays.cut_short text q gives unrefused refuses report) is =
+        record { text = text; refused = subst (λ (z : Refused). IsRefusedIn left left' text z) (same_refusal q r is) (program.at_end gives unrefused refuses); report = all u _ out out' report }
     stops _ r (replays.done text items gives spells report) is = cc
-    stops _ r (replays.unreadable text gives report) is = cc
+    stops _ r (replays.unreadable text gives unrefused report) is = cc
     stops _ r (replays.unwritten text gives report) is = cc
-    stops _ r (replays.wanting text gives report) is = cc
+    stops _ r (replays.wanting text last gives report) is = cc
 
     pub is_refused : (e : Ended) (r : Refused) → Ran e → e ≡ ended.Refused r → Takes diag diag' (refusal_text r) → Replays before after status.Refused
     is_refused e r ran is said = let at = stops e r ran is in program.refused at.text r at.refused at.report said
@@ -112,11 +112,11 @@ module _ {B : Type 0} {g : Rattle.hc_store.specs.declared.backend.Backend.Ghosts
 
     -- no wire is used
     pub never_wire : (e : Ended) → Ran e → e ≡ ended.WireFailed → ⊥
-    never_wire _ (replays.wanting text gives report) is = cc
+    never_wire _ (replays.wanting text last gives report) is = cc
     never_wire _ (replays.done text items gives spells report) is = cc
     never_wire _ (replays.refused text r gives refuses report) is = cc
-    never_wire _ (replays.cut_short text r gives refuses report) is = cc
-    never_wire _ (replays.unreadable text gives report) is = cc
+    never_wire _ (replays.cut_short text r gives unrefused refuses report) is = cc
+    never_wire _ (replays.unreadable text gives unrefused report) is = cc
     never_wire _ (replays.unwritten text gives report) is = cc
 
 -- GENERATING

@@ -6,8 +6,8 @@ use Rattle.hc_sched.specs.declared.schedule.Refused.{Refused}
 use Rattle.hc_sched.specs.declared.schedule.Timed.{Timed}
 use Rattle.hc_sched.specs.Laws.{refusal_of}
 use Rattle.hc_sched.specs.Schedule.{Item, Spells, events_of}
-use Rattle.hc_driver.specs.Endings.{IsRefused, events_from}
-use Rattle.hc_driver.specs.Stepping.{History, events_in, report_after}
+use Rattle.hc_driver.specs.Endings.{IsUnrefused, IsRefusedAtOnce, events_from}
+use Rattle.hc_driver.specs.Stepping.{History, events_in, report_after, TakesUpToLast}
 use Rattle.hc_rules.specs.declared.room.Limits.{Limits}
 use Rattle.hc_model.specs.Entries.{no_contents}
 use Rattle.hc_model.specs.Reads.{ReadsWhole}
@@ -47,20 +47,21 @@ pub record ReportsAll (events : List Timed) (out out' : Option (List ℕ)) : Typ
   pub events_are : events_in history ≡ events
   pub report : Takes out out' (report_after 0 history)
 
--- Some first of these events are such a run, and some first part of its report was taken.
+-- Some first of these events are such a run, and the report of all but the last was taken, and a part of the last one's.
 pub record ReportsSome (events : List Timed) (out out' : Option (List ℕ)) : Type 0 where
   pub history : History
   pub rest : List Timed
   pub whole : IsWhole history
   pub events_are : events_in history ++ rest ≡ events
-  pub report : TakesFront out out' (report_after 0 history)
+  pub report : TakesUpToLast 0 history out out'
 
 -- REPLAY
 
--- the text is refused where it was read to, or is cut short where it ends
+-- the text is refused in the last piece that was read, or is cut short where it ends
 pub data IsRefusedIn (left left' : Option (List ℕ)) (text : List ℕ) (refused : Refused) : Type 0 where
-  within : Gives left left' text → IsRefused 0 text refused → IsRefusedIn left left' text refused
-  at_end : GivesAll left left' text → refusal_of 0 text ≡ Some refused →
+  within : Gives left left' text → IsRefusedAtOnce 0 text refused →
+      IsRefusedIn left left' text refused
+  at_end : GivesAll left left' text → IsUnrefused 0 text → refusal_of 0 text ≡ Some refused →
       IsRefusedIn left left' text refused
 
 -- What a replay of the input did, by its status.
@@ -73,11 +74,11 @@ pub data Replays (before after : Streams) : Status → Type 0 where
   refused : (text : List ℕ) (refused : Refused) → IsRefusedIn before.left after.left text refused →
       ReportsAll (events_from 0 text) before.out after.out →
       Takes before.diag after.diag (refusal_text refused) → Replays before after status.Refused
-  -- the report of the whole items was taken of what could be read
-  unreadable : (text : List ℕ) → Gives before.left after.left text →
+  -- the report of the whole items was taken of what could be read, none of whose lines is refused
+  unreadable : (text : List ℕ) → Gives before.left after.left text → IsUnrefused 0 text →
       ReportsAll (events_from 0 text) before.out after.out → after.diag ≡ before.diag →
       Replays before after status.SourceFailed
-  -- some first part of the report was taken
+  -- the report of some first events was taken, and a part of the next one's
   unwritten : (text : List ℕ) → Gives before.left after.left text →
       ReportsSome (events_from 0 text) before.out after.out → after.diag ≡ before.diag →
       Replays before after status.SinkFailed

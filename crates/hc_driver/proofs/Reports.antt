@@ -11,7 +11,7 @@ use Rattle.hc_sched.specs.Laws.{AreTimed}
 use Rattle.hc_sched.specs.Report.{entry_text}
 use Rattle.hc_event.specs.Counting.{received_in}
 use Rattle.hc_driver.specs.Counting.{size_of}
-use Rattle.hc_driver.specs.Stepping.{Entry, History, events_in, report_after, Leads, nothing, more, Steps, StepsSome, last_moment}
+use Rattle.hc_driver.specs.Stepping.{Entry, History, events_in, report_after, Leads, nothing, more, TakesUpToLast, Steps, StepsSome, last_moment}
 use Rattle.hc_driver.specs.Reported.{Tells}
 use Rattle.hc_driver.proofs.Sizes.{size_of-append}
 use Rattle.hc_driver.proofs.Timings.{last-append}
@@ -90,42 +90,59 @@ module _ {A : Type 0} (answers : A → ℕ → Event → List Act → A → Type
         report = rw (report-append n f.history g.history) (takes_more a b c (report_after n f.history) (report_after (n + length f.history) g.history) f.report (rw len at g.report));
       }
 
+  -- what was all taken was taken up to the last
+  all_but_last : (n : ℕ) (h : History) (a b : Option (List ℕ)) → Takes a b (report_after n h) → TakesUpToLast n h a b
+  all_but_last n [] a b taken = taken
+  all_but_last n (e ∷ h) a b taken = record {
+    part = entry_text (n + length h + 1) e.acts;
+    rest = [];
+    whole = append-nil (entry_text (n + length h + 1) e.acts);
+    takes = taken;
+  }
+
+  -- all that was reported before goes in front
+  ahead : (n m : ℕ) (f g : History) (a b c : Option (List ℕ)) → Takes a b (report_after n f) → m ≡ n + length f → TakesUpToLast m g b c → TakesUpToLast n (g ++ f) a c
+  ahead n m f [] a b c taken is up = all_but_last n f a c (subst (λ (l : List ℕ). Takes a c l) (append-nil (report_after n f)) (takes_more a b c (report_after n f) [] taken up))
+  ahead n m f (e ∷ g) a b c taken is up =
+      let len = length-append g f in
+      let number : m + length g + 1 ≡ n + length (g ++ f) + 1 = omega arith in
+      let front : report_after n f ++ (report_after m g ++ up.part) ≡ report_after n (g ++ f) ++ up.part =
+      sym (append_assoc (report_after n f) (report_after m g) up.part)
+      ∙ ap (λ (l : List ℕ). l ++ up.part) (ap (λ (k : ℕ). report_after n f ++ report_after k g) is ∙ sym (report-append n f g)) in
+      record {
+        part = up.part;
+        rest = up.rest;
+        whole = up.whole ∙ ap (λ (k : ℕ). entry_text k e.acts) number;
+        takes = subst (λ (l : List ℕ). Takes a c l) front (takes_more a b c (report_after n f) (report_after m g ++ up.part) taken up.takes);
+      }
+
   -- all of some events, and then some first of some more
-  pub some_more : (s t u : A) (n m : ℕ) (xs ys : List Timed) (a b c : Option (List ℕ)) → Steps answers s t n xs a b → m ≡ n + length xs → StepsSome answers t m ys b c
-      → StepsSome answers s n (xs ++ ys) a c
+  pub some_more : (s t u : A) (n m : ℕ) (xs ys : List Timed) (a b c : Option (List ℕ)) → Steps answers s t n xs a b → m ≡ n + length xs → StepsSome answers t u m ys b c
+      → StepsSome answers s u n (xs ++ ys) a c
   some_more s t u n m xs ys a b c f is g =
       let len : m ≡ n + length f.history = is ∙ ap (λ (k : ℕ). n + k) (sym (ap length f.events_are) ∙ length-events_in f.history) in
       record {
-        last = g.last;
         history = g.history ++ f.history;
         rest = g.rest;
-        leads = leads-append s t g.last f.history g.history f.leads g.leads;
+        leads = leads-append s t u f.history g.history f.leads g.leads;
         events_are = ap (λ (l : List Timed). l ++ g.rest) (events_in-append f.history g.history)
             ∙ (append_assoc (events_in f.history) (events_in g.history) g.rest
             ∙ (ap (λ (l : List Timed). l ++ (events_in g.history ++ g.rest)) f.events_are ∙ ap (λ (l : List Timed). xs ++ l) g.events_are));
-        report = record {
-          front = report_after n f.history ++ g.report.front;
-          rest = g.report.rest;
-          whole = append_assoc (report_after n f.history) g.report.front g.report.rest
-              ∙ (ap (λ (l : List ℕ). report_after n f.history ++ l) (g.report.whole ∙ ap (λ (k : ℕ). report_after k g.history) len) ∙ sym (report-append n f.history g.history));
-          takes = takes_more a b c (report_after n f.history) g.report.front f.report g.report.takes;
-        };
+        report = ahead n m f.history g.history a b c f.report len g.report;
       }
 
   -- all of some first events
-  pub all_first : (s u : A) (n : ℕ) (xs ys : List Timed) (a b : Option (List ℕ)) → Steps answers s u n xs a b → StepsSome answers s n (xs ++ ys) a b
+  pub all_first : (s u : A) (n : ℕ) (xs ys : List Timed) (a b : Option (List ℕ)) → Steps answers s u n xs a b → StepsSome answers s u n (xs ++ ys) a b
   all_first s u n xs ys a b f = record {
-    last = u;
     history = f.history;
     rest = ys;
     leads = f.leads;
     events_are = ap (λ (l : List Timed). l ++ ys) f.events_are;
-    report = record { front = report_after n f.history; rest = []; whole = append-nil (report_after n f.history); takes = f.report };
+    report = all_but_last n f.history a b f.report;
   }
 
-  pub some_first : (s : A) (n : ℕ) (xs ys : List Timed) (a b : Option (List ℕ)) → StepsSome answers s n xs a b → StepsSome answers s n (xs ++ ys) a b
-  some_first s n xs ys a b f = record {
-    last = f.last;
+  pub some_first : (s u : A) (n : ℕ) (xs ys : List Timed) (a b : Option (List ℕ)) → StepsSome answers s u n xs a b → StepsSome answers s u n (xs ++ ys) a b
+  some_first s u n xs ys a b f = record {
     history = f.history;
     rest = f.rest ++ ys;
     leads = f.leads;
@@ -147,17 +164,21 @@ module _ {A : Type 0} (answers : A → ℕ → Event → List Act → A → Type
       }
 
   pub one_some : (s u : A) (n number : ℕ) (timed : Timed) (text : List ℕ) (a b : Option (List ℕ)) → Tells answers s u timed number text → number ≡ n + 1 → TakesFront a b text
-      → StepsSome answers s n (timed ∷ []) a b
+      → StepsSome answers s u n (timed ∷ []) a b
   one_some s u n number timed text a b told is takes =
       let e : Entry = record { timed = timed; acts = told.acts } in
       let at : number ≡ n + 0 + 1 = omega (arith, is) in
       record {
-        last = u;
         history = e ∷ [];
         rest = [];
         leads = more [] e s u nothing told.answered;
         events_are = refl;
-        report = rw (told.text_is, at) at takes;
+        report = record {
+          part = takes.front;
+          rest = takes.rest;
+          whole = takes.whole ∙ (told.text_is ∙ ap (λ (k : ℕ). entry_text k told.acts) at);
+          takes = takes.takes;
+        };
       }
 
   pub written_none : (s : A) (now : Counts) (events : List Timed) (out : Option (List ℕ)) → AreTimed now.moment events → IsWritten answers s s now now events 0 out out
@@ -207,16 +228,16 @@ module _ {A : Type 0} (answers : A → ℕ → Event → List Act → A → Type
       }
 
   -- the first of them are
-  pub written_some : (s u : A) (before now : Counts) (events : List Timed) (i : ℕ) (a b : Option (List ℕ)) → IsWritten answers s u before now events i a b → StepsSome answers s before.number events a b
+  pub written_some : (s u : A) (before now : Counts) (events : List Timed) (i : ℕ) (a b : Option (List ℕ)) → IsWritten answers s u before now events i a b → StepsSome answers s u before.number events a b
   written_some s u before now events i a b w =
-      subst (λ (l : List Timed). StepsSome answers s before.number l a b) (take-append-drop i events) (all_first s u before.number (take i events) (drop i events) a b w.steps)
+      subst (λ (l : List Timed). StepsSome answers s u before.number l a b) (take-append-drop i events) (all_first s u before.number (take i events) (drop i events) a b w.steps)
 
   pub written_part : (s t u : A) (before now : Counts) (number : ℕ) (events : List Timed) (i : ℕ) (a b c : Option (List ℕ)) (timed : Timed) (text : List ℕ)
       → IsWritten answers s t before now events i a b → i < length events → timed ≡ get_or events i timed
-      → Tells answers t u timed number text → TakesFront b c text → number ≡ now.number + 1 → StepsSome answers s before.number events a c
+      → Tells answers t u timed number text → TakesFront b c text → number ≡ now.number + 1 → StepsSome answers s u before.number events a c
   written_part s t u before now number events i a b c timed text w lt is told takes numbered =
       let one = one_some t u now.number number timed text b c told numbered takes in
       let len : now.number ≡ before.number + length (take i events) = let l = length-take i events in omega (arith, w.numbered, lt) in
       let part = some_more s t u before.number now.number (take i events) (timed ∷ []) a b c w.steps len one in
       let whole : (take i events ++ timed ∷ []) ++ drop (i + 1) events ≡ events = append_assoc (take i events) (timed ∷ []) (drop (i + 1) events) ∙ around events i timed lt is in
-      subst (λ (l : List Timed). StepsSome answers s before.number l a c) whole (some_first s before.number (take i events ++ timed ∷ []) (drop (i + 1) events) a c part)
+      subst (λ (l : List Timed). StepsSome answers s u before.number l a c) whole (some_first s u before.number (take i events ++ timed ∷ []) (drop (i + 1) events) a c part)

@@ -7,7 +7,7 @@ use Rattle.hc_event.specs.declared.act.Act.{Act}
 use Rattle.hc_io.specs.Source.{Gives, GivesAll, IsAtEnd}
 use Rattle.hc_io.specs.declared.sink.SinkError.{SinkError}
 use Rattle.hc_io.specs.declared.sink.SinkError.TheVariants as sink
-use Rattle.std.specs.Result.{IsErrAnd}
+use Rattle.std.specs.Result.{IsErrAnd, IsErrOf}
 use Rattle.hc_io.proofs.Givings.{gives_none, gives_more}
 use Rattle.hc_sched.specs.declared.place.Place.{Place}
 use Rattle.hc_sched.specs.declared.schedule.Refused.{Refused}
@@ -25,9 +25,9 @@ use Rattle.hc_sched.proofs.OneReading.{brings_timed}
 use Rattle.hc_driver.specs.declared.stop.Stop.{Stop}
 use Rattle.hc_driver.specs.declared.stop.Stop.TheVariants as stop
 use Rattle.hc_driver.specs.Counting.{size_of}
-use Rattle.hc_driver.specs.Stepping.{Steps, StepsSome, last_moment}
+use Rattle.hc_driver.specs.Stepping.{Steps, StepsSome, StepsSomewhere, last_moment}
 use Rattle.hc_driver.specs.Endings as endings
-use Rattle.hc_driver.specs.Endings.{IsReading, Goes, events_from, IsRefused, Ends}
+use Rattle.hc_driver.specs.Endings.{IsReading, Goes, events_from, IsUnrefused, IsRefused, IsRefusedAtOnce, Ends}
 use Rattle.hc_driver.specs.Stops.{of_feed, of_sink, ended_by, ended_as}
 use Rattle.hc_driver.proofs.Sizes.{size_of-append, brought_small}
 use Rattle.hc_driver.proofs.Timings.{timed_from, timed_back, last-append, last_later}
@@ -114,12 +114,15 @@ module _ {A : Type 0} (answers : A → ℕ → Event → List Act → A → Type
 
   -- the sink gave up
   pub goes_sink : (s u : A) (n : ℕ) (before : Progress) (piece : List ℕ) (now : Progress) (out out' : Option (List ℕ)) (xs ys : List Timed) (e : SinkError) (result : Result (Unit {0}) Stop)
-      → IsErrAnd result (λ (st : Stop). st ≡ of_sink e) → xs ++ ys ≡ events_in before piece → StepsSome answers s n xs out out' → Goes answers s u n before piece now out out' result
-  goes_sink s u n before piece now out out' xs ys e (Ok x) is whole some = absurd is
-  goes_sink s u n before piece now out out' xs ys sink.SinkFailed (Err st) is whole some =
-      subst (λ (l : Stop). Goes answers s u n before piece now out out' (Err l)) (sym is) (subst (λ (l : List Timed). StepsSome answers s n l out out') whole (some_first answers s n xs ys out out' some))
-  goes_sink s u n before piece now out out' xs ys sink.NoMemory (Err st) is whole some =
-      subst (λ (l : Stop). Goes answers s u n before piece now out out' (Err l)) (sym is) (subst (λ (l : List Timed). StepsSome answers s n l out out') whole (some_first answers s n xs ys out out' some))
+      → IsErrAnd result (λ (st : Stop). st ≡ of_sink e) → xs ++ ys ≡ events_in before piece
+      → (IsErrOf {T = Unit {0}} (Err e) sink.SinkFailed → StepsSome answers s u n xs out out') → (IsErrOf {T = Unit {0}} (Err e) sink.NoMemory → StepsSomewhere answers s n xs out out')
+      → Goes answers s u n before piece now out out' result
+  goes_sink s u n before piece now out out' xs ys e (Ok x) is whole failed wanting = absurd is
+  goes_sink s u n before piece now out out' xs ys sink.SinkFailed (Err st) is whole failed wanting =
+      subst (λ (l : Stop). Goes answers s u n before piece now out out' (Err l)) (sym is) (subst (λ (l : List Timed). StepsSome answers s u n l out out') whole (some_first answers s u n xs ys out out' (failed refl)))
+  goes_sink s u n before piece now out out' xs ys sink.NoMemory (Err st) is whole failed wanting =
+      let some = wanting refl in
+      subst (λ (l : Stop). Goes answers s u n before piece now out out' (Err l)) (sym is) (some.0, subst (λ (l : List Timed). StepsSome answers s some.0 n l out out') whole (some_first answers s some.0 n xs ys out out' some.1))
 
   -- the text is refused, or there was not enough memory
   pub goes_feed : (s u : A) (n : ℕ) (before : Progress) (piece : List ℕ) (now : Progress) (out out' : Option (List ℕ)) (xs : List Timed) (e : FeedError) (fed : Result (Unit {0}) FeedError) (result : Result (Unit {0}) Stop)
@@ -131,7 +134,7 @@ module _ {A : Type 0} (answers : A → ℕ → Event → List Act → A → Type
   goes_feed s u n before piece now out out' xs error.NoMemory fed (Err st) is was h steps =
       let f = subst (λ (l : Result (Unit {0}) FeedError). Feeds before piece l now [] xs) was h in
       let whole : xs ++ f.rest ≡ events_in before piece = ap (λ (l : List Timed). l ++ f.rest) f.adds ∙ f.whole in
-      subst (λ (l : Stop). Goes answers s u n before piece now out out' (Err l)) (sym is) (subst (λ (l : List Timed). StepsSome answers s n l out out') whole (all_first answers s u n xs f.rest out out' steps))
+      subst (λ (l : Stop). Goes answers s u n before piece now out out' (Err l)) (sym is) (u, subst (λ (l : List Timed). StepsSome answers s u n l out out') whole (all_first answers s u n xs f.rest out out' steps))
 
   -- the next piece
   pub on_more : (s t u : A) (moment given : ℕ) (now next : Extent) (feed feed' : Progress) (piece : List ℕ) (left mid new a b c : Option (List ℕ))
@@ -175,9 +178,14 @@ module _ {A : Type 0} (answers : A → ℕ → Event → List Act → A → Type
   rests : (left mid new : Option (List ℕ)) (text : List ℕ) → Gives left mid text → Gives mid new [] → Gives left new text
   rests left mid new text f g = subst (λ (l : List ℕ). Gives left new l) (append-nil text) (gives_more left mid new text [] f g)
 
+  -- no line of what was read so far is refused
+  unrefused : (s u : A) (moment given : ℕ) (now : Extent) (feed : Progress) (left mid a b : Option (List ℕ)) → (on : IsOn answers s u moment given now feed left mid a b) → IsUnrefused moment on.text
+  unrefused s u moment given now feed left mid a b on = subst IsReading (sym on.leads) on.reading
+
   pub ends_unreadable : (s u : A) (moment given : ℕ) (now : Extent) (feed : Progress) (left mid new a b : Option (List ℕ))
       → IsOn answers s u moment given now feed left mid a b → new ≡ mid → Ends answers s u moment left new a b ended.SourceFailed
-  ends_unreadable s u moment given now feed left mid new a b on same = endings.unreadable on.text (rw same on.gives) on.steps
+  ends_unreadable s u moment given now feed left mid new a b on same =
+      endings.unreadable on.text (rw same on.gives) (unrefused s u moment given now feed left mid a b on) on.steps
 
   refusal_here : (feed : Progress) → IsReading feed → (result : Result (Unit {0}) FeedError) → result ≡ ending feed → IsAs feed result
   refusal_here feed reading result is = subst (λ (l : Result (Unit {0}) FeedError). IsAs feed l) (sym is) (subst (λ (p : Progress). IsAs p (ending p)) (sym reading.2) (here reading.0 reading.1))
@@ -204,7 +212,8 @@ module _ {A : Type 0} (answers : A → ℕ → Event → List Act → A → Type
   ends_cut_short s u moment given now feed left mid new a b result (error.Refused r) (Err st) on gives end is err stops =
       let some : refusal_at feed ≡ Some r = subst (λ (l : Result (Unit {0}) FeedError). IsAs feed l) err (refusal_here feed on.reading result is) in
       subst (λ (l : Stop). Ends answers s u moment left new a b (ended_by l)) (sym stops)
-      (endings.cut_short on.text r (gives_all left new on.text (rests left mid new on.text on.gives gives) end) (refusal-is moment on.text feed on.leads ∙ some) on.steps)
+      (endings.cut_short on.text r (gives_all left new on.text (rests left mid new on.text on.gives gives) end)
+      (unrefused s u moment given now feed left mid a b on) (refusal-is moment on.text feed on.leads ∙ some) on.steps)
   ends_cut_short s u moment given now feed left mid new a b result error.NoMemory (Err st) on gives end is err stops =
       absurd (subst (λ (l : Result (Unit {0}) FeedError). IsAs feed l) err (refusal_here feed on.reading result is))
 
@@ -213,9 +222,9 @@ module _ {A : Type 0} (answers : A → ℕ → Event → List Act → A → Type
 
   -- a piece stops it
   pub ends_stopped : (s t u : A) (moment given : ℕ) (now : Extent) (feed feed' : Progress) (piece : List ℕ) (left mid new a b c : Option (List ℕ)) (st : Stop)
-      → IsOn answers s t moment given now feed left mid a b → Gives mid new piece → Goes answers t u now.number feed piece feed' b c (Err st)
+      → IsOn answers s t moment given now feed left mid a b → Gives mid new piece → length piece ≤ 16384 → Goes answers t u now.number feed piece feed' b c (Err st)
       → Ends answers s u moment left new a c (ended_by st)
-  ends_stopped s t u moment given now feed feed' piece left mid new a b c st on gives goes =
+  ends_stopped s t u moment given now feed feed' piece left mid new a b c st on gives short goes =
       let parts : events_from moment (on.text ++ piece) ≡ events_from moment on.text ++ events_in feed piece = brought-append moment on.text piece ∙ ap (λ (p : Progress). events_from moment on.text ++ events_in p piece) on.leads in
       let all = gives_more left mid new on.text piece on.gives gives in
       by_stop st goes parts all
@@ -225,12 +234,22 @@ module _ {A : Type 0} (answers : A → ℕ → Event → List Act → A → Type
       by_stop (stop.Refused r) goes parts all =
           let leads = after-append (beginning moment) on.text piece ∙ (ap (λ (p : Progress). after p piece) on.leads ∙ goes.0) in
           let steps = subst (λ (l : List Timed). Steps answers s u 0 l a c) (sym parts) (steps_more answers s t u 0 now.number (events_from moment on.text) (events_in feed piece) a b c on.steps on.number_is goes.1) in
-          endings.refused (on.text ++ piece) r all (stays moment (on.text ++ piece) r leads) steps
+          let at_once : IsRefusedAtOnce moment (on.text ++ piece) r =
+          record {
+            before = on.text;
+            piece = piece;
+            whole = refl;
+            short = short;
+            unrefused = unrefused s t moment given now feed left mid a b on;
+            refuses = stays moment (on.text ++ piece) r leads;
+          } in
+          endings.refused (on.text ++ piece) r all at_once steps
       by_stop stop.SourceFailed goes parts all = absurd goes
       by_stop stop.SinkFailed goes parts all =
-          endings.unwritten (on.text ++ piece) all (subst (λ (l : List Timed). StepsSome answers s 0 l a c) (sym parts) (some_more answers s t u 0 now.number (events_from moment on.text) (events_in feed piece) a b c on.steps on.number_is goes))
+          endings.unwritten (on.text ++ piece) all (subst (λ (l : List Timed). StepsSome answers s u 0 l a c) (sym parts) (some_more answers s t u 0 now.number (events_from moment on.text) (events_in feed piece) a b c on.steps on.number_is goes))
       by_stop stop.NoMemory goes parts all =
-          endings.wanting (on.text ++ piece) all (subst (λ (l : List Timed). StepsSome answers s 0 l a c) (sym parts) (some_more answers s t u 0 now.number (events_from moment on.text) (events_in feed piece) a b c on.steps on.number_is goes))
+          endings.wanting (on.text ++ piece) all
+          (goes.0, subst (λ (l : List Timed). StepsSome answers s goes.0 0 l a c) (sym parts) (some_more answers s t goes.0 0 now.number (events_from moment on.text) (events_in feed piece) a b c on.steps on.number_is goes.1))
 
   -- as what was read stopped it, so it ends
   pub ends_source : (s u : A) (moment given : ℕ) (now : Extent) (feed : Progress) (left mid new a b : Option (List ℕ)) (stopped : Result (Unit {0}) Stop)
@@ -240,9 +259,10 @@ module _ {A : Type 0} (answers : A → ℕ → Event → List Act → A → Type
       subst (λ (l : Stop). Ends answers s u moment left new a b (ended_by l)) (sym stops) (ends_unreadable s u moment given now feed left mid new a b on same)
 
   pub ends_as : (s t u : A) (moment given : ℕ) (now : Extent) (feed feed' : Progress) (piece : List ℕ) (left mid new a b c : Option (List ℕ)) (st : Stop) (result stopped : Result (Unit {0}) Stop)
-      → IsOn answers s t moment given now feed left mid a b → Gives mid new piece → Goes answers t u now.number feed piece feed' b c result → result ≡ Err st → IsErrAnd stopped (λ (e : Stop). e ≡ st)
+      → IsOn answers s t moment given now feed left mid a b → Gives mid new piece → length piece ≤ 16384
+      → Goes answers t u now.number feed piece feed' b c result → result ≡ Err st → IsErrAnd stopped (λ (e : Stop). e ≡ st)
       → Ends answers s u moment left new a c (ended_as stopped)
-  ends_as s t u moment given now feed feed' piece left mid new a b c st result (Ok x) on gives goes was stops = absurd stops
-  ends_as s t u moment given now feed feed' piece left mid new a b c st result (Err e) on gives goes was stops =
+  ends_as s t u moment given now feed feed' piece left mid new a b c st result (Ok x) on gives short goes was stops = absurd stops
+  ends_as s t u moment given now feed feed' piece left mid new a b c st result (Err e) on gives short goes was stops =
       subst (λ (l : Stop). Ends answers s u moment left new a c (ended_by l)) (sym stops)
-      (ends_stopped s t u moment given now feed feed' piece left mid new a b c st on gives (subst (λ (l : Result (Unit {0}) Stop). Goes answers t u now.number feed piece feed' b c l) was goes))
+      (ends_stopped s t u moment given now feed feed' piece left mid new a b c st on gives short (subst (λ (l : Result (Unit {0}) Stop). Goes answers t u now.number feed piece feed' b c l) was goes))

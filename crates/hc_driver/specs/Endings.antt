@@ -1,5 +1,5 @@
 -- What came of a schedule that was read, stepped and reported.
-use Rattle.std.specs.Prelude.{◌≡◌, ℕ, List, ◌++◌, Option, Some, None, Result, Ok, Err}
+use Rattle.std.specs.Prelude.{◌≡◌, ℕ, ◌≤◌, List, ◌++◌, length, Option, Some, None, Result, Ok, Err}
 use Rattle.hc_event.specs.declared.event.Event.{Event}
 use Rattle.hc_event.specs.declared.act.Act.{Act}
 use Rattle.hc_io.specs.Source.{Gives, GivesAll}
@@ -13,7 +13,7 @@ use Rattle.hc_sched.specs.Feeding.{beginning}
 use Rattle.hc_sched.specs.Laws.{refusal_of}
 use Rattle.hc_driver.specs.declared.stop.Stop.{Stop}
 use Rattle.hc_driver.specs.declared.stop.Stop.TheVariants as stop
-use Rattle.hc_driver.specs.Stepping.{Steps, StepsSome}
+use Rattle.hc_driver.specs.Stepping.{Steps, StepsSome, StepsSomewhere}
 
 -- the reading wasn't stopped
 abbrev pub IsReading : Progress → Type 0
@@ -26,16 +26,31 @@ Goes answers s u n before piece now out out' (Ok done) =
 Goes answers s u n before piece now out out' (Err (stop.Refused refused)) =
     (after before piece ≡ Stopped refused) × Steps answers s u n (events_in before piece) out out'
 Goes answers s u n before piece now out out' (Err stop.SourceFailed) = ⊥
-Goes answers s u n before piece now out out' (Err _) =
-    StepsSome answers s n (events_in before piece) out out'
+Goes answers s u n before piece now out out' (Err stop.SinkFailed) =
+    StepsSome answers s u n (events_in before piece) out out'
+Goes answers s u n before piece now out out' (Err stop.NoMemory) =
+    StepsSomewhere answers s n (events_in before piece) out out'
 
 -- what a text brings that begins at this moment
 abbrev pub events_from : ℕ → List ℕ → List Timed
 events_from moment text = events_in (beginning moment) text
 
+-- no line of a text is refused
+abbrev pub IsUnrefused : ℕ → List ℕ → Type 0
+IsUnrefused moment text = IsReading (after (beginning moment) text)
+
 -- a text is refused so, whatever follows it
 abbrev pub IsRefused : ℕ → List ℕ → Refused → Type 0
 IsRefused moment text refused = (more : List ℕ) → refusal_of moment (text ++ more) ≡ Some refused
+
+-- A text is refused so, and none of its lines was before its last piece came, of at most 16,384 bytes.
+pub record IsRefusedAtOnce (moment : ℕ) (text : List ℕ) (refused : Refused) : Type 0 where
+  pub before : List ℕ
+  pub piece : List ℕ
+  pub whole : before ++ piece ≡ text
+  pub short : length piece ≤ 16384
+  pub unrefused : IsUnrefused moment before
+  pub refuses : IsRefused moment text refused
 
 -- What came of a schedule from this moment on, by how it ended: what its source had left before and
 -- after, and what its sink had taken.
@@ -43,19 +58,20 @@ pub data Ends {A : Type 0} (answers : A → ℕ → Event → List Act → A →
   -- the whole text is a schedule, and its report was taken
   done : (text : List ℕ) → GivesAll left left' text → refusal_of moment text ≡ None →
       Steps answers s u 0 (events_from moment text) out out' → Ends answers s u moment left left' out out' ended.Done
-  -- the text is refused where it was read to, and the report of what came before was taken
-  refused : (text : List ℕ) (refused : Refused) → Gives left left' text → IsRefused moment text refused →
+  -- the text is refused in the last piece that was read, and the report of what came before was taken
+  refused : (text : List ℕ) (refused : Refused) → Gives left left' text → IsRefusedAtOnce moment text refused →
       Steps answers s u 0 (events_from moment text) out out' →
       Ends answers s u moment left left' out out' (ended.Refused refused)
   -- the whole text is cut short
-  cut_short : (text : List ℕ) (refused : Refused) → GivesAll left left' text →
+  cut_short : (text : List ℕ) (refused : Refused) → GivesAll left left' text → IsUnrefused moment text →
       refusal_of moment text ≡ Some refused → Steps answers s u 0 (events_from moment text) out out' →
       Ends answers s u moment left left' out out' (ended.Refused refused)
-  -- the report of the whole items was taken of what could be read
-  unreadable : (text : List ℕ) → Gives left left' text → Steps answers s u 0 (events_from moment text) out out' →
+  -- the report of the whole items was taken of what could be read, none of whose lines is refused
+  unreadable : (text : List ℕ) → Gives left left' text → IsUnrefused moment text →
+      Steps answers s u 0 (events_from moment text) out out' →
       Ends answers s u moment left left' out out' ended.SourceFailed
-  -- some first part of a report was taken, of some first events of what was read
-  unwritten : (text : List ℕ) → Gives left left' text → StepsSome answers s 0 (events_from moment text) out out' →
+  -- some first events of what was read were stepped; the report of all but the last was taken, and a part of the last one's
+  unwritten : (text : List ℕ) → Gives left left' text → StepsSome answers s u 0 (events_from moment text) out out' →
       Ends answers s u moment left left' out out' ended.SinkFailed
-  wanting : (text : List ℕ) → Gives left left' text → StepsSome answers s 0 (events_from moment text) out out' →
+  wanting : (text : List ℕ) → Gives left left' text → StepsSomewhere answers s 0 (events_from moment text) out out' →
       Ends answers s u moment left left' out out' ended.NoMemory

@@ -2,7 +2,7 @@
 use Rattle.std.specs.Prelude.{◌≡◌, ℕ, ◌+◌, List, [], ◌∷◌, ◌++◌, length, Option}
 use Rattle.hc_event.specs.declared.event.Event.{Event}
 use Rattle.hc_event.specs.declared.act.Act.{Act}
-use Rattle.hc_io.specs.Sink.{Takes, TakesFront}
+use Rattle.hc_io.specs.Sink.{Takes}
 use Rattle.hc_sched.specs.declared.schedule.Timed.{Timed}
 use Rattle.hc_sched.specs.Report.{entry_text}
 
@@ -38,14 +38,30 @@ pub record Steps {A : Type 0} (answers : A → ℕ → Event → List Act → A 
   pub events_are : events_in history ≡ events
   pub report : Takes out out' (report_after n history)
 
--- Some first of these events were stepped, and some first part of their report was taken.
-pub record StepsSome {A : Type 0} (answers : A → ℕ → Event → List Act → A → Type 0) (s : A) (n : ℕ) (events : List Timed) (out out' : Option (List ℕ)) : Type 0 where
-  pub last : A
+-- The first bytes went in, and then some first part of the text.
+pub record TakesThenFront (out out' : Option (List ℕ)) (first text : List ℕ) : Type 0 where
+  pub part : List ℕ
+  pub rest : List ℕ
+  pub whole : part ++ rest ≡ text
+  pub takes : Takes out out' (first ++ part)
+
+-- the report of all entries but the last was taken, and some first part of the last one's text
+abbrev pub TakesUpToLast : ℕ → History → Option (List ℕ) → Option (List ℕ) → Type 0
+TakesUpToLast n [] out out' = Takes out out' []
+TakesUpToLast n (e ∷ h) out out' =
+    TakesThenFront out out' (report_after n h) (entry_text (n + length h + 1) e.acts)
+
+-- Some first of these events were stepped, each but the first behind the whole report of those before it.
+pub record StepsSome {A : Type 0} (answers : A → ℕ → Event → List Act → A → Type 0) (s u : A) (n : ℕ) (events : List Timed) (out out' : Option (List ℕ)) : Type 0 where
   pub history : History
   pub rest : List Timed
-  pub leads : Leads answers s history last
+  pub leads : Leads answers s history u
   pub events_are : events_in history ++ rest ≡ events
-  pub report : TakesFront out out' (report_after n history)
+  pub report : TakesUpToLast n history out out'
+
+-- the same, wherever the last one led
+abbrev pub StepsSomewhere : {A : Type 0} → (A → ℕ → Event → List Act → A → Type 0) → A → ℕ → List Timed → Option (List ℕ) → Option (List ℕ) → Type 0
+StepsSomewhere {A} answers s n events out out' = (last : A) × StepsSome answers s last n events out out'
 
 -- the moment of the last event, or this one where there is none
 abbrev pub last_moment : ℕ → List Timed → ℕ

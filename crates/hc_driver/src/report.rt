@@ -8,7 +8,7 @@ ghost use Rattle.hc_sched.specs.Schedule.{IsEvent, IsSmall};
 ghost use Rattle.hc_event.specs.Counting.{received_in};
 ghost use Rattle.hc_driver.specs.Counting.{size_of};
 ghost use Rattle.hc_driver.specs.Endings.{Goes, IsReading};
-ghost use Rattle.hc_driver.specs.Stepping.{Steps, StepsSome, last_moment};
+ghost use Rattle.hc_driver.specs.Stepping.{Steps, StepsSome, StepsSomewhere, last_moment};
 ghost use Rattle.hc_driver.specs.Reported.{Tells};
 ghost use Rattle.hc_driver.specs.Stops.{HasStopCause};
 
@@ -94,7 +94,11 @@ impl Report {
             ≡ T.steps on.old + T.received on.old + size_of events.now) }
         ensures moment { OnOk result
             (T.moment on.new ≡ last_moment (T.moment on.old) events.now) }
-        ensures some { StepsSome T.answers on.old self.old.number events.now
+        ensures failed { IsErrOf result SinkError.SinkFailed
+            → StepsSome T.answers on.old on.new self.old.number events.now
+            (K.taken sink.old) (K.taken sink.new) }
+        ensures wanting { IsErrOf result SinkError.NoMemory
+            → StepsSomewhere T.answers on.old self.old.number events.now
             (K.taken sink.old) (K.taken sink.new) }
         ensures cause { HasSinkCause (K.faults sink.old) (K.faults sink.new) result }
         ensures calm { OnOk result (K.faults sink.new ≡ K.faults sink.old) }

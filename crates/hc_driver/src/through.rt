@@ -19,9 +19,11 @@ const PIECE: usize = 16_384;
 /// items are whole, and writes the report of each before the next one is stepped.
 ///
 /// At Done the whole text is a schedule. At Refused the text is refused by the grammar at that line,
-/// and the report is that of the events before it; at SourceFailed it is that of the events whose
-/// items are whole in what was read. At SinkFailed and NoMemory some first part of a report is
-/// written. WireFailed never comes.
+/// which ends in the last 16,384 bytes that were read, and the report is that of the events before it.
+/// At SourceFailed no line of what was read is refused, and the report is that of the events whose
+/// items are whole in it. At SinkFailed the report of all events that were stepped but the last is
+/// written, and some first part of the last one's; at NoMemory that of some first events. WireFailed
+/// never comes.
 pub fn step_through<T: Stepper, S: Source, K: Sink>(
     alloc: Global,
     moment: u64,

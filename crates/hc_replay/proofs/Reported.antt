@@ -70,18 +70,17 @@ module _ {B : Type 0} {g : Ghosts B} where
         counted = leads_counted s u f.history f.leads;
       }
 
-  reports_some : (s : Cache B g) (events : List Timed) (out out' : Option (List ℕ)) → StandsFor s no_contents [] → StepsSome answers s 0 events out out' → ReportsSome s events out out'
-  reports_some s events out out' new f =
-      let stands = leads_stand s f.last f.history new f.leads in
+  reports_some : (s u : Cache B g) (events : List Timed) (out out' : Option (List ℕ)) → StandsFor s no_contents [] → StepsSome answers s u 0 events out out' → ReportsSome s u events out out'
+  reports_some s u events out out' new f =
+      let stands = leads_stand s u f.history new f.leads in
       record {
-        last = f.last;
         history = f.history;
         rest = f.rest;
         events_are = f.events_are;
-        run = whole_run s f.last f.history stands (leads_limits s f.last f.history f.leads);
+        run = whole_run s u f.history stands (leads_limits s u f.history f.leads);
         report = f.report;
         stands = stands;
-        counted = leads_counted s f.last f.history f.leads;
+        counted = leads_counted s u f.history f.leads;
       }
 
   pub replays_all : (s u : Cache B g) (left left' out out' : Option (List ℕ)) (ended : Ended) → StandsFor s no_contents [] → Ends answers s u 0 left left' out out' ended → Replays s u left left' out out' ended
@@ -90,10 +89,10 @@ module _ {B : Type 0} {g : Ghosts B} where
       let same = (is_read 0 text spelled.0 spelled.1).1 in
       replays.done text spelled.0 gives spelled.1 (subst (λ (l : List Timed). ReportsAll s u l out out') same (reports_all s u (events_from 0 text) out out' new steps))
   replays_all s u left left' out out' _ new (endings.refused text r gives is steps) = replays.refused text r gives is (reports_all s u (events_from 0 text) out out' new steps)
-  replays_all s u left left' out out' _ new (endings.cut_short text r gives is steps) = replays.cut_short text r gives is (reports_all s u (events_from 0 text) out out' new steps)
-  replays_all s u left left' out out' _ new (endings.unreadable text gives steps) = replays.unreadable text gives (reports_all s u (events_from 0 text) out out' new steps)
-  replays_all s u left left' out out' _ new (endings.unwritten text gives steps) = replays.unwritten text gives (reports_some s (events_from 0 text) out out' new steps)
-  replays_all s u left left' out out' _ new (endings.wanting text gives steps) = replays.wanting text gives (reports_some s (events_from 0 text) out out' new steps)
+  replays_all s u left left' out out' _ new (endings.cut_short text r gives unrefused is steps) = replays.cut_short text r gives unrefused is (reports_all s u (events_from 0 text) out out' new steps)
+  replays_all s u left left' out out' _ new (endings.unreadable text gives unrefused steps) = replays.unreadable text gives unrefused (reports_all s u (events_from 0 text) out out' new steps)
+  replays_all s u left left' out out' _ new (endings.unwritten text gives steps) = replays.unwritten text gives (reports_some s u (events_from 0 text) out out' new steps)
+  replays_all s u left left' out out' _ new (endings.wanting text gives steps) = replays.wanting text steps.0 gives (reports_some s steps.0 (events_from 0 text) out out' new steps.1)
 
 -- COMPLETENESS
 
@@ -120,9 +119,9 @@ none_complete None ended.NoMemory off = tt
 none_complete (Some text) ended.NoMemory off = tt
 
 pub completes_all : {A : Type 0} (answers : A → ℕ → Event → List Act → A → Type 0) (s u : A) (left left' out out' : Option (List ℕ)) (e : Ended) → Ends answers s u 0 left left' out out' e → Completes left e
-completes_all answers s u left left' out out' _ (endings.refused text r gives is steps) = completes left left' text r gives is
-completes_all answers s u left left' out out' _ (endings.cut_short text r gives is steps) = completes_short left left' text r gives is
+completes_all answers s u left left' out out' _ (endings.refused text r gives is steps) = completes left left' text r gives is.refuses
+completes_all answers s u left left' out out' _ (endings.cut_short text r gives unrefused is steps) = completes_short left left' text r gives is
 completes_all answers s u left left' out out' _ (endings.done text gives none steps) = none_complete left ended.Done (λ r h. cc)
-completes_all answers s u left left' out out' _ (endings.unreadable text gives steps) = none_complete left ended.SourceFailed (λ r h. cc)
+completes_all answers s u left left' out out' _ (endings.unreadable text gives unrefused steps) = none_complete left ended.SourceFailed (λ r h. cc)
 completes_all answers s u left left' out out' _ (endings.unwritten text gives steps) = none_complete left ended.SinkFailed (λ r h. cc)
 completes_all answers s u left left' out out' _ (endings.wanting text gives steps) = none_complete left ended.NoMemory (λ r h. cc)

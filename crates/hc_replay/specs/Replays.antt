@@ -1,7 +1,7 @@
 -- What came of a schedule that was replayed: its events are a run, and the report of that was taken.
 use Rattle.std.specs.Prelude.{◌≡◌, ℕ, ◌+◌, ◌≤◌, List, ◌++◌, Option, Some}
 use Rattle.hc_store.specs.declared.backend.Backend.{Ghosts}
-use Rattle.hc_io.specs.Sink.{Takes, TakesFront}
+use Rattle.hc_io.specs.Sink.{Takes}
 use Rattle.hc_io.specs.Source.{Gives, GivesAll}
 use Rattle.hc_sched.specs.declared.schedule.Ended.{Ended}
 use Rattle.hc_sched.specs.declared.schedule.Ended.TheVariants as ended
@@ -9,9 +9,9 @@ use Rattle.hc_sched.specs.declared.schedule.Refused.{Refused}
 use Rattle.hc_sched.specs.declared.schedule.Timed.{Timed}
 use Rattle.hc_sched.specs.Schedule.{Item, Spells, events_of}
 use Rattle.hc_sched.specs.Laws.{refusal_of}
-use Rattle.hc_driver.specs.Endings.{IsRefused, events_from}
+use Rattle.hc_driver.specs.Endings.{IsUnrefused, IsRefusedAtOnce, events_from}
 use Rattle.hc_driver.specs.Stepping as steps
-use Rattle.hc_driver.specs.Stepping.{events_in, report_after}
+use Rattle.hc_driver.specs.Stepping.{events_in, report_after, TakesUpToLast}
 use Rattle.hc_model.specs.Entries.{no_contents}
 use Rattle.hc_model.specs.Reads.{ReadsWhole}
 use Rattle.hc_model.specs.Runs.{IsRun}
@@ -36,17 +36,16 @@ pub record ReportsAll {B : Type 0} {g : Ghosts B} (s u : Cache B g) (events : Li
   pub stands : StandsFor u no_contents (run_of history)
   pub counted : faults_in s + failures history ≤ faults_in u
 
--- Some first of these events are such a run, for which the cache stood behind the last of them, and some first
--- part of its report was taken.
-pub record ReportsSome {B : Type 0} {g : Ghosts B} (s : Cache B g) (events : List Timed) (out out' : Option (List ℕ)) : Type 0 where
-  pub last : Cache B g
+-- Some first of these events are such a run, which the cache stands for then, and each but the first was stepped behind the
+-- whole report of those before it.
+pub record ReportsSome {B : Type 0} {g : Ghosts B} (s u : Cache B g) (events : List Timed) (out out' : Option (List ℕ)) : Type 0 where
   pub history : steps.History
   pub rest : List Timed
   pub events_are : events_in history ++ rest ≡ events
   pub run : IsWholeRun s history
-  pub report : TakesFront out out' (report_after 0 history)
-  pub stands : StandsFor last no_contents (run_of history)
-  pub counted : faults_in s + failures history ≤ faults_in last
+  pub report : TakesUpToLast 0 history out out'
+  pub stands : StandsFor u no_contents (run_of history)
+  pub counted : faults_in s + failures history ≤ faults_in u
 
 -- HOW IT ENDS
 
@@ -56,20 +55,20 @@ pub data Replays {B : Type 0} {g : Ghosts B} (s u : Cache B g) (left left' out o
   -- the whole text spells items, and the report of their events was taken
   done : (text : List ℕ) (items : List Item) → GivesAll left left' text → Spells 0 text items →
       ReportsAll s u (events_of 0 items) out out' → Replays s u left left' out out' ended.Done
-  -- the text is refused where it was read to, and the report of what came before was taken
-  refused : (text : List ℕ) (refused : Refused) → Gives left left' text → IsRefused 0 text refused →
+  -- the text is refused in the last piece that was read, and the report of what came before was taken
+  refused : (text : List ℕ) (refused : Refused) → Gives left left' text → IsRefusedAtOnce 0 text refused →
       ReportsAll s u (events_from 0 text) out out' → Replays s u left left' out out' (ended.Refused refused)
   -- the whole text is cut short
-  cut_short : (text : List ℕ) (refused : Refused) → GivesAll left left' text →
+  cut_short : (text : List ℕ) (refused : Refused) → GivesAll left left' text → IsUnrefused 0 text →
       refusal_of 0 text ≡ Some refused → ReportsAll s u (events_from 0 text) out out' →
       Replays s u left left' out out' (ended.Refused refused)
-  -- the report of the whole items was taken of what could be read
-  unreadable : (text : List ℕ) → Gives left left' text → ReportsAll s u (events_from 0 text) out out' →
+  -- the report of the whole items was taken of what could be read, none of whose lines is refused
+  unreadable : (text : List ℕ) → Gives left left' text → IsUnrefused 0 text → ReportsAll s u (events_from 0 text) out out' →
       Replays s u left left' out out' ended.SourceFailed
-  -- some first part of a report was taken, of some first events of what was read
-  unwritten : (text : List ℕ) → Gives left left' text → ReportsSome s (events_from 0 text) out out' →
+  -- some first events of what was read were stepped; the report of all but the last was taken, and a part of the last one's
+  unwritten : (text : List ℕ) → Gives left left' text → ReportsSome s u (events_from 0 text) out out' →
       Replays s u left left' out out' ended.SinkFailed
-  wanting : (text : List ℕ) → Gives left left' text → ReportsSome s (events_from 0 text) out out' →
+  wanting : (text : List ℕ) (last : Cache B g) → Gives left left' text → ReportsSome s last (events_from 0 text) out out' →
       Replays s u left left' out out' ended.NoMemory
 
 -- A text that spells items, all of which was left, isn't refused.

@@ -44,7 +44,7 @@ pub returns-in_err-step_piece-clause-ends : goal.returns-in_err-step_piece-claus
 returns-in_err-step_piece-clause-ends g c =
     let piece = take c.in_ok-n.n c.read.new.into in
     ends_as g.T.Stepper.answers _ c.loop-events.on c.step_piece.new.on _ _ _ c.loop-events.feed c.step_piece.new.feed piece _ _ _ _ _ _ c.in_err-step_piece.field-0.0 c.step_piece.result c.from_residual-in_err-step_piece.result
-    c.loop-events.invariant.0 c.in_ok-n.ensures.bytes c.step_piece.ensures.goes c.in_err-step_piece.was c.from_residual-in_err-step_piece.ensures.1
+    c.loop-events.invariant.0 c.in_ok-n.ensures.bytes (omega (arith, c.in_ok-n.ensures.at_most, length-take c.in_ok-n.n c.read.new.into)) c.step_piece.ensures.goes c.in_err-step_piece.was c.from_residual-in_err-step_piece.ensures.1
 
 pub returns-in_err-finish-clause-ends : goal.returns-in_err-finish-clause-ends
 returns-in_err-finish-clause-ends g c =

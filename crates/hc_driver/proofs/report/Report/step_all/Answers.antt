@@ -19,19 +19,23 @@ step-requires-clause-little g c =
     let size = c.loop-timed.invariant.size in
     omega arith
 
-pub returns-in_err-step-clause-some : goal.returns-in_err-step-clause-some
-returns-in_err-step-clause-some g c = written_some g.T.Stepper.answers _ c.loop-timed.on _ _ c.args.events.now c.loop-timed.timed-index _ _ c.loop-timed.invariant
+pub returns-in_err-step-clause-wanting : goal.returns-in_err-step-clause-wanting
+returns-in_err-step-clause-wanting g c = λ is. (c.loop-timed.on, written_some g.T.Stepper.answers _ c.loop-timed.on _ _ c.args.events.now c.loop-timed.timed-index _ _ c.loop-timed.invariant)
 
-pub returns-in_err-write_all-clause-some : goal.returns-in_err-write_all-clause-some
-returns-in_err-write_all-clause-some g c =
+pub returns-in_err-write_all-clause-failed : goal.returns-in_err-write_all-clause-failed
+returns-in_err-write_all-clause-failed g c = λ is.
     written_part g.T.Stepper.answers _ c.loop-timed.on c.step.new.on _ _ c.step.new.self.number c.args.events.now c.loop-timed.timed-index _ _ _ c.timed-item.result c.step.new.self.text.items
     c.loop-timed.invariant c.loop-timed-test.true c.timed-item.is c.in_ok-step.ensures.told (rw c.as_slice.ensures.value at c.in_err-write_all.ensures.front) c.in_ok-step.ensures.number
+
+pub returns-in_err-write_all-clause-wanting : goal.returns-in_err-write_all-clause-wanting
+returns-in_err-write_all-clause-wanting g c = λ is. (
+  c.step.new.on,
+  written_part g.T.Stepper.answers _ c.loop-timed.on c.step.new.on _ _ c.step.new.self.number c.args.events.now c.loop-timed.timed-index _ _ _ c.timed-item.result c.step.new.self.text.items
+      c.loop-timed.invariant c.loop-timed-test.true c.timed-item.is c.in_ok-step.ensures.told (rw c.as_slice.ensures.value at c.in_err-write_all.ensures.front) c.in_ok-step.ensures.number,
+)
 
 pub loop-timed-preserved : goal.loop-timed-preserved
 loop-timed-preserved g c =
     written_more g.T.Stepper.answers _ c.loop-timed.on c.step.new.on _ _ _ c.args.events.now c.loop-timed.timed-index _ _ _ c.timed-item.result c.step.new.self.text.items
     c.loop-timed.invariant c.loop-timed-test.true c.timed-item.is c.in_ok-step.ensures.told (rw c.as_slice.ensures.value at c.in_ok-write_all.ensures.ok)
     c.in_ok-step.ensures.number c.in_ok-step.ensures.steps c.in_ok-step.ensures.received c.in_ok-step.ensures.moment c.in_ok-write_all.ensures.calm
-
-pub returns-clause-some : goal.returns-clause-some
-returns-clause-some g c = written_some g.T.Stepper.answers _ c.loop-timed.on _ _ c.args.events.now c.loop-timed.timed-index _ _ c.loop-timed.invariant

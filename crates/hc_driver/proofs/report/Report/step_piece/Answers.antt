@@ -21,7 +21,7 @@ pub returns-in_err-step_all-clause-goes : goal.returns-in_err-step_all-clause-go
 returns-in_err-step_all-clause-goes g c =
     let fed = fed_front g.T.Stepper.answers c.args.feed.now c.args.piece.now c.feed-fed.result c.feed-fed.new.self c.feed-fed.new.out.items (rw c.clear.ensures.items at c.feed-fed.ensures.feeds) in
     goes_sink g.T.Stepper.answers c.args.on.now c.step_all.new.on c.args.self.now.number c.args.feed.now c.args.piece.now c.feed-fed.new.self _ _ c.feed-fed.new.out.items fed.0 c.in_err-step_all.field-0.0 c.from_residual.result
-    c.from_residual.ensures.1 fed.1 (rw c.as_slice.ensures.value at c.in_err-step_all.ensures.some)
+    c.from_residual.ensures.1 fed.1 (rw c.as_slice.ensures.value at c.in_err-step_all.ensures.failed) (rw c.as_slice.ensures.value at c.in_err-step_all.ensures.wanting)
 
 pub returns-in_err-fed-clause-goes : goal.returns-in_err-fed-clause-goes
 returns-in_err-fed-clause-goes g c =

@@ -33,9 +33,9 @@ faultless status.NoMemory source sink = tt
 not_both : (words : List (List ℕ)) (seed count : ℕ) → IsCommand words command.Replay → IsCommand words (command.Generate seed count) → ⊥
 not_both words seed count (replay one) (generate a b _ _ three a_is b_is few) = absurd (let never : 1 ≡ 3 = sym (ap length one) ∙ ap length three in cc)
 
-module _ (left : List ℕ) (out diag : Option (List ℕ)) (after : Streams) where
+module _ (left : List ℕ) (out diag : Option (List ℕ)) (o d : ℕ) (after : Streams) where
   abbrev start : Streams
-  start = record { left = Some left; out = out; diag = diag }
+  start = record { left = Some left; out = out; diag = diag; out_faults = o; diag_faults = d }
 
   -- what was refused is the text that was left
   refusal_is : (text : List ℕ) (r : Refused) → IsRefusedIn (Some left) after.left text r → refusal_of 0 left ≡ Some r
@@ -50,9 +50,9 @@ module _ (left : List ℕ) (out diag : Option (List ℕ)) (after : Streams) wher
   spelled_replays items _ spells (program.done text read gives is report quiet) sound = inl refl
   spelled_replays items _ spells (program.refused text r refuses report said) sound = absurd (some_none r (sym (refusal_is text r refuses) ∙ (is_read 0 left items spells).0))
   spelled_replays items _ spells (program.unreadable text gives unrefused report quiet) sound = absurd sound
-  spelled_replays items _ spells (program.unwritten text gives report quiet) sound = absurd sound
+  spelled_replays items _ spells (program.unwritten text gives report failed) sound = absurd sound
   spelled_replays items _ spells (program.wanting text gives report quiet) sound = inr refl
-  spelled_replays items _ spells (program.unsaid text r refuses report said) sound = absurd sound
+  spelled_replays items _ spells (program.unsaid text r refuses report said failed) sound = absurd sound
   spelled_replays items _ spells (program.wanting_word text r refuses report said) sound = inr refl
   spelled_replays items _ spells (program.wanting_all same) sound = inr refl
 
@@ -61,9 +61,9 @@ module _ (left : List ℕ) (out diag : Option (List ℕ)) (after : Streams) wher
       absurd (some_none r (sym refused ∙ (ap (refusal_of 0) (sym gives.0) ∙ (is_read 0 text read is).0)))
   refused_replays r _ refused (program.refused text q refuses report said) sound = inl refl
   refused_replays r _ refused (program.unreadable text gives unrefused report quiet) sound = absurd sound
-  refused_replays r _ refused (program.unwritten text gives report quiet) sound = absurd sound
+  refused_replays r _ refused (program.unwritten text gives report failed) sound = absurd sound
   refused_replays r _ refused (program.wanting text gives report quiet) sound = inr refl
-  refused_replays r _ refused (program.unsaid text q refuses report said) sound = absurd sound
+  refused_replays r _ refused (program.unsaid text q refuses report said failed) sound = absurd sound
   refused_replays r _ refused (program.wanting_word text q refuses report said) sound = inr refl
   refused_replays r _ refused (program.wanting_all same) sound = inr refl
 
@@ -76,30 +76,30 @@ module _ (left : List ℕ) (out diag : Option (List ℕ)) (after : Streams) wher
   module _ (words : List (List ℕ)) where
     spelled_keeps : (items : List Item) (s : Status) → IsCommand words command.Replay → Spells 0 left items → Keeps words start after s → IsFaultless s → EndsWith (code_of s) 0
     spelled_keeps items s is spells (program.replayed word did) sound = spelled_replays items s spells did sound
-    spelled_keeps items s is spells (program.generated seed count word did fallback) sound = absurd (not_both words seed count is word)
+    spelled_keeps items s is spells (program.generated seed count word did fallback failed) sound = absurd (not_both words seed count is word)
     spelled_keeps items _ is spells (program.told none same said) sound = absurd (none command.Replay is)
-    spelled_keeps items _ is spells (program.untold none same said) sound = absurd (none command.Replay is)
+    spelled_keeps items _ is spells (program.untold none same said failed) sound = absurd (none command.Replay is)
     spelled_keeps items _ is spells (program.wanting_usage none same said) sound = absurd (none command.Replay is)
 
     refused_keeps : (r : Refused) (s : Status) → IsCommand words command.Replay → refusal_of 0 left ≡ Some r → Keeps words start after s → IsFaultless s → EndsWith (code_of s) 1
     refused_keeps r s is refused (program.replayed word did) sound = refused_replays r s refused did sound
-    refused_keeps r s is refused (program.generated seed count word did fallback) sound = absurd (not_both words seed count is word)
+    refused_keeps r s is refused (program.generated seed count word did fallback failed) sound = absurd (not_both words seed count is word)
     refused_keeps r _ is refused (program.told none same said) sound = absurd (none command.Replay is)
-    refused_keeps r _ is refused (program.untold none same said) sound = absurd (none command.Replay is)
+    refused_keeps r _ is refused (program.untold none same said failed) sound = absurd (none command.Replay is)
     refused_keeps r _ is refused (program.wanting_usage none same said) sound = absurd (none command.Replay is)
 
     generated_keeps : (seed count : ℕ) (s : Status) → IsCommand words (command.Generate seed count) → Keeps words start after s → IsFaultless s → EndsWith (code_of s) 0
     generated_keeps seed count s is (program.replayed word did) sound = absurd (not_both words seed count word is)
-    generated_keeps seed count s is (program.generated a b word did fallback) sound = made a b s did sound
+    generated_keeps seed count s is (program.generated a b word did fallback failed) sound = made a b s did sound
     generated_keeps seed count _ is (program.told none same said) sound = absurd (none (command.Generate seed count) is)
-    generated_keeps seed count _ is (program.untold none same said) sound = absurd (none (command.Generate seed count) is)
+    generated_keeps seed count _ is (program.untold none same said failed) sound = absurd (none (command.Generate seed count) is)
     generated_keeps seed count _ is (program.wanting_usage none same said) sound = absurd (none (command.Generate seed count) is)
 
     usage_keeps : (s : Status) → IsNoCommand words → Keeps words start after s → IsFaultless s → EndsWith (code_of s) 2
     usage_keeps s none (program.replayed word did) sound = absurd (none command.Replay word)
-    usage_keeps s none (program.generated a b word did fallback) sound = absurd (none (command.Generate a b) word)
+    usage_keeps s none (program.generated a b word did fallback failed) sound = absurd (none (command.Generate a b) word)
     usage_keeps _ none (program.told other same said) sound = inl refl
-    usage_keeps _ none (program.untold other same said) sound = absurd sound
+    usage_keeps _ none (program.untold other same said failed) sound = absurd sound
     usage_keeps _ none (program.wanting_usage other same said) sound = inr refl
 
     pub completes : (code : ℕ) → Ends code words start after → (code ≡ 3 → HasRisen 0 0) → (code ≡ 4 → HasRisen 0 0 ⊎ HasRisen 0 0) → Completes code words left

@@ -1,5 +1,7 @@
 -- What the program did, by how a replay or a generation ended.
-use Rattle.std.proofs.Common.{◌≡◌, ℕ, ◌+◌, ◌≤◌, List, Option, refl, subst, arith}
+use Rattle.std.proofs.Common.{◌≡◌, ℕ, ◌+◌, ◌≤◌, List, Option, Err, refl, sym, ◌∙◌, subst, arith}
+use Rattle.std.specs.Result.{IsErrOf}
+use Rattle.hc_io.specs.Faults.{HasRisen}
 use Rattle.hc_io.specs.declared.sink.SinkError.{SinkError}
 use Rattle.hc_io.specs.declared.sink.SinkError.TheVariants as sink
 use Rattle.hc_io.specs.Sink.{Takes, TakesFront}
@@ -42,12 +44,12 @@ module _ {B : Type 0} {g : Rattle.hc_store.specs.declared.backend.Backend.Ghosts
   some : (u : Cache B g) (events : List Timed) (out out' : Option (List ℕ)) → replays.ReportsSome s u events out out' → ReportsSome events out out'
   some u events out out' r = record { history = r.history; rest = r.rest; whole = whole u r.history r.run r.counted; events_are = r.events_are; report = r.report }
 
-  module _ (u : Cache B g) (left left' out out' diag diag' : Option (List ℕ)) where
+  module _ (u : Cache B g) (left left' out out' diag diag' : Option (List ℕ)) (o o' d d' : ℕ) where
     abbrev before : Streams
-    before = record { left = left; out = out; diag = diag }
+    before = record { left = left; out = out; diag = diag; out_faults = o; diag_faults = d }
 
     abbrev after : Streams
-    after = record { left = left'; out = out'; diag = diag' }
+    after = record { left = left'; out = out'; diag = diag'; out_faults = o'; diag_faults = d' }
 
     abbrev Ran : Ended → Type 0
     Ran e = replays.Replays s u left left' out out' e
@@ -68,13 +70,13 @@ module _ {B : Type 0} {g : Rattle.hc_store.specs.declared.backend.Backend.Ghosts
     is_unreadable _ (replays.unwritten text gives report) is quiet = cc
     is_unreadable _ (replays.wanting text last gives report) is quiet = cc
 
-    pub is_unwritten : (e : Ended) → Ran e → e ≡ ended.SinkFailed → diag' ≡ diag → Replays before after status.SinkFailed
-    is_unwritten _ (replays.unwritten text gives report) is quiet = program.unwritten text gives (some u _ out out' report) quiet
-    is_unwritten _ (replays.done text items gives spells report) is quiet = cc
-    is_unwritten _ (replays.refused text r gives refuses report) is quiet = cc
-    is_unwritten _ (replays.cut_short text r gives unrefused refuses report) is quiet = cc
-    is_unwritten _ (replays.unreadable text gives unrefused report) is quiet = cc
-    is_unwritten _ (replays.wanting text last gives report) is quiet = cc
+    pub is_unwritten : (e : Ended) → Ran e → e ≡ ended.SinkFailed → diag' ≡ diag → HasRisen o o' → d' ≡ d → Replays before after status.SinkFailed
+    is_unwritten _ (replays.unwritten text gives report) is quiet failed sound = program.unwritten text gives (some u _ out out' report) (record { failed = failed; unsaid = quiet; sound = sound })
+    is_unwritten _ (replays.done text items gives spells report) is quiet failed sound = cc
+    is_unwritten _ (replays.refused text r gives refuses report) is quiet failed sound = cc
+    is_unwritten _ (replays.cut_short text r gives unrefused refuses report) is quiet failed sound = cc
+    is_unwritten _ (replays.unreadable text gives unrefused report) is quiet failed sound = cc
+    is_unwritten _ (replays.wanting text last gives report) is quiet failed sound = cc
 
     pub is_wanting : (e : Ended) → Ran e → e ≡ ended.NoMemory → diag' ≡ diag → Replays before after status.NoMemory
     is_wanting _ (replays.wanting text last gives report) is quiet = program.wanting text gives (some last _ out out' report) quiet
@@ -106,9 +108,12 @@ module _ {B : Type 0} {g : Rattle.hc_store.specs.declared.backend.Backend.Ghosts
     pub is_refused : (e : Ended) (r : Refused) → Ran e → e ≡ ended.Refused r → Takes diag diag' (refusal_text r) → Replays before after status.Refused
     is_refused e r ran is said = let at = stops e r ran is in program.refused at.text r at.refused at.report said
 
-    pub is_unsaid : (e : Ended) (r : Refused) (error : SinkError) → Ran e → e ≡ ended.Refused r → TakesFront diag diag' (refusal_text r) → Replays before after (stopped_as error)
-    is_unsaid e r sink.SinkFailed ran is said = let at = stops e r ran is in program.unsaid at.text r at.refused at.report said
-    is_unsaid e r sink.NoMemory ran is said = let at = stops e r ran is in program.wanting_word at.text r at.refused at.report said
+    pub is_unsaid : (e : Ended) (r : Refused) (error : SinkError) → Ran e → e ≡ ended.Refused r → TakesFront diag diag' (refusal_text r)
+        → (IsErrOf {T = Unit {0}} (Err error) sink.SinkFailed → HasRisen d d') → ((e ≡ ended.SinkFailed → ⊥) → o' ≡ o) → Replays before after (stopped_as error)
+    is_unsaid e r sink.SinkFailed ran is said failed sound =
+        let at = stops e r ran is in
+        program.unsaid at.text r at.refused at.report said (record { failed = failed refl; sound = sound (λ other. let never : ended.Refused r ≡ ended.SinkFailed = sym is ∙ other in cc) })
+    is_unsaid e r sink.NoMemory ran is said failed sound = let at = stops e r ran is in program.wanting_word at.text r at.refused at.report said
 
     -- no wire is used
     pub never_wire : (e : Ended) → Ran e → e ≡ ended.WireFailed → ⊥
@@ -151,6 +156,7 @@ module _ (seed n : ℕ) (out out' : Option (List ℕ)) where
 
 -- THE USAGE
 
-pub usage_unsaid : (e : SinkError) (words : List (List ℕ)) (before after : Streams) → IsNoCommand words → IsUntouched before after → TakesFront before.diag after.diag usage_text → Keeps words before after (stopped_as e)
-usage_unsaid sink.SinkFailed _ _ _ none same said = program.untold none same said
-usage_unsaid sink.NoMemory _ _ _ none same said = program.wanting_usage none same said
+pub usage_unsaid : (e : SinkError) (words : List (List ℕ)) (before after : Streams) → IsNoCommand words → IsUntouched before after → TakesFront before.diag after.diag usage_text
+    → (IsErrOf {T = Unit {0}} (Err e) sink.SinkFailed → HasRisen before.diag_faults after.diag_faults) → after.out_faults ≡ before.out_faults → Keeps words before after (stopped_as e)
+usage_unsaid sink.SinkFailed _ _ _ none same said failed sound = program.untold none same said (record { failed = failed refl; sound = sound })
+usage_unsaid sink.NoMemory _ _ _ none same said failed sound = program.wanting_usage none same said

@@ -1,5 +1,6 @@
 -- What the program does: the promise of each status.
 use Rattle.std.specs.Prelude.{◌≡◌, ◌⊎◌, ℕ, List, ◌++◌, Option, Some}
+use Rattle.hc_io.specs.Faults.{HasRisen}
 use Rattle.hc_io.specs.Sink.{Takes, TakesFront}
 use Rattle.hc_io.specs.Source.{Gives, GivesAll}
 use Rattle.hc_sched.specs.declared.schedule.Refused.{Refused}
@@ -21,11 +22,13 @@ use Rattle.hc_app.specs.Commands.{IsCommand, IsNoCommand}
 use Rattle.hc_app.specs.Statuses.{code_of}
 use Rattle.hc_app.specs.Texts.{refusal_text, usage_text}
 
--- What the streams tell: the bytes left of the input, and those that the others took.
+-- What the streams tell: the bytes left of the input, those that the others took, and how often these failed.
 pub record Streams : Type 0 where
   pub left : Option (List ℕ)
   pub out : Option (List ℕ)
   pub diag : Option (List ℕ)
+  pub out_faults : ℕ
+  pub diag_faults : ℕ
 
 -- What the store may hold, in bytes: of one body, and of all representations together.
 abbrev pub store_limits : Limits
@@ -55,6 +58,19 @@ pub record ReportsSome (events : List Timed) (out out' : Option (List ℕ)) : Ty
   pub events_are : events_in history ++ rest ≡ events
   pub report : TakesUpToLast 0 history out out'
 
+-- WHICH STREAM FAILED
+
+-- the output failed and the diagnostics didn't, which took nothing
+pub record IsOutFailure (before after : Streams) : Type 0 where
+  pub failed : HasRisen before.out_faults after.out_faults
+  pub unsaid : after.diag ≡ before.diag
+  pub sound : after.diag_faults ≡ before.diag_faults
+
+-- the diagnostics failed and the output didn't
+pub record IsDiagFailure (before after : Streams) : Type 0 where
+  pub failed : HasRisen before.diag_faults after.diag_faults
+  pub sound : after.out_faults ≡ before.out_faults
+
 -- REPLAY
 
 -- the text is refused in the last piece that was read, or is cut short where it ends
@@ -78,17 +94,18 @@ pub data Replays (before after : Streams) : Status → Type 0 where
   unreadable : (text : List ℕ) → Gives before.left after.left text → IsUnrefused 0 text →
       ReportsAll (events_from 0 text) before.out after.out → after.diag ≡ before.diag →
       Replays before after status.SourceFailed
-  -- the report of some first events was taken, and a part of the next one's
+  -- the report of some first events was taken, and a part of the next one's; the output failed
   unwritten : (text : List ℕ) → Gives before.left after.left text →
-      ReportsSome (events_from 0 text) before.out after.out → after.diag ≡ before.diag →
+      ReportsSome (events_from 0 text) before.out after.out → IsOutFailure before after →
       Replays before after status.SinkFailed
   wanting : (text : List ℕ) → Gives before.left after.left text →
       ReportsSome (events_from 0 text) before.out after.out → after.diag ≡ before.diag →
       Replays before after status.NoMemory
-  -- the report was taken, and some first part of what is to be said of the refused line
+  -- the report was taken, and some first part of what is to be said of the refused line; the diagnostics failed
   unsaid : (text : List ℕ) (refused : Refused) → IsRefusedIn before.left after.left text refused →
       ReportsAll (events_from 0 text) before.out after.out →
-      TakesFront before.diag after.diag (refusal_text refused) → Replays before after status.SinkFailed
+      TakesFront before.diag after.diag (refusal_text refused) → IsDiagFailure before after →
+      Replays before after status.SinkFailed
   wanting_word : (text : List ℕ) (refused : Refused) →
       IsRefusedIn before.left after.left text refused →
       ReportsAll (events_from 0 text) before.out after.out →
@@ -126,11 +143,12 @@ pub data Keeps (words : List (List ℕ)) (before after : Streams) : Status → T
       Keeps words before after s
   generated : {s : Status} (seed count : ℕ) → IsCommand words (command.Generate seed count) →
       Generates seed count before.out after.out s → IsFallback before after →
-      Keeps words before after s
+      (s ≡ status.SinkFailed → IsOutFailure before after) → Keeps words before after s
   told : IsNoCommand words → IsUntouched before after →
       Takes before.diag after.diag usage_text → Keeps words before after status.Usage
   untold : IsNoCommand words → IsUntouched before after →
-      TakesFront before.diag after.diag usage_text → Keeps words before after status.SinkFailed
+      TakesFront before.diag after.diag usage_text → IsDiagFailure before after →
+      Keeps words before after status.SinkFailed
   wanting_usage : IsNoCommand words → IsUntouched before after →
       TakesFront before.diag after.diag usage_text → Keeps words before after status.NoMemory
 

@@ -21,11 +21,13 @@ use std::alloc::Global;
 ///
 /// - 0: all that is due is written: the input is a schedule and `out` has its report, which is that of
 ///   a run, or the summary of the rounds.
-/// - 1: the input is refused at a line. `out` has the report of all events before it, and `diag`
-///   the line and why.
+/// - 1: the input is refused at a line, which ends in the last 16,384 bytes that were read. `out`
+///   has the report of all events before it, and `diag` the line and why.
 /// - 2: the words are no command. `diag` has the usage, and nothing is read.
-/// - 3: `input` failed. `out` has the report of the events whose items are whole in what was read.
-/// - 4: `out` or `diag` failed. Each has some first part of what was due.
+/// - 3: `input` failed, and no line of what was read is refused. `out` has the report of the events
+///   whose items are whole in it.
+/// - 4: `out` failed: it has the report of all events that were stepped but the last, and some
+///   first part of the last one's, or of the summary. Or `diag` failed: `out` has all that was due.
 /// - 6: there was not enough memory. Each has some first part of what was due.
 ///
 /// What `ends` says of bytes it says of streams that tell them, as those in memory do. Streams over
@@ -38,8 +40,20 @@ pub fn run<S: Source, K: Sink, D: Sink>(
     diag: &mut D,
 ) -> u8
     ensures ends { Ends result (map string_bytes words.now)
-        (record { left = S.left input.old; out = K.taken out.old; diag = D.taken diag.old })
-        (record { left = S.left input.new; out = K.taken out.new; diag = D.taken diag.new }) }
+        (record {
+          left = S.left input.old;
+          out = K.taken out.old;
+          diag = D.taken diag.old;
+          out_faults = K.faults out.old;
+          diag_faults = D.faults diag.old;
+        })
+        (record {
+          left = S.left input.new;
+          out = K.taken out.new;
+          diag = D.taken diag.new;
+          out_faults = K.faults out.new;
+          diag_faults = D.faults diag.new;
+        }) }
 
     // 3 comes only where the count of the input's faults rose, and 4 only where one of the others
     // did; with any other status they are as before.
@@ -64,8 +78,20 @@ pub fn run_plain(
     diag: &mut PlainSink,
 ) -> u8
     ensures ends { Ends result (map string_bytes words.now)
-        (record { left = Some input.old.left; out = Some out.old; diag = Some diag.old })
-        (record { left = Some input.new.left; out = Some out.new; diag = Some diag.new }) }
+        (record {
+          left = Some input.old.left;
+          out = Some out.old;
+          diag = Some diag.old;
+          out_faults = 0;
+          diag_faults = 0;
+        })
+        (record {
+          left = Some input.new.left;
+          out = Some out.new;
+          diag = Some diag.new;
+          out_faults = 0;
+          diag_faults = 0;
+        }) }
     ensures complete { Completes result (map string_bytes words.now) input.old.left }
 {
     run(alloc, words, input, out, diag)
@@ -80,8 +106,20 @@ fn obey<S: Source, K: Sink, D: Sink>(
     diag: &mut D,
 ) -> Status
     ensures keeps { Keeps (map string_bytes words.now)
-        (record { left = S.left input.old; out = K.taken out.old; diag = D.taken diag.old })
-        (record { left = S.left input.new; out = K.taken out.new; diag = D.taken diag.new })
+        (record {
+          left = S.left input.old;
+          out = K.taken out.old;
+          diag = D.taken diag.old;
+          out_faults = K.faults out.old;
+          diag_faults = D.faults diag.old;
+        })
+        (record {
+          left = S.left input.new;
+          out = K.taken out.new;
+          diag = D.taken diag.new;
+          out_faults = K.faults out.new;
+          diag_faults = D.faults diag.new;
+        })
         result }
     ensures source_failed { result ≡ Status.SourceFailed
         → HasRisen (S.faults input.old) (S.faults input.new) }
@@ -111,8 +149,20 @@ fn replay_input<S: Source, K: Sink, D: Sink>(
     diag: &mut D,
 ) -> Status
     ensures replays { Replays
-        (record { left = S.left input.old; out = K.taken out.old; diag = D.taken diag.old })
-        (record { left = S.left input.new; out = K.taken out.new; diag = D.taken diag.new })
+        (record {
+          left = S.left input.old;
+          out = K.taken out.old;
+          diag = D.taken diag.old;
+          out_faults = K.faults out.old;
+          diag_faults = D.faults diag.old;
+        })
+        (record {
+          left = S.left input.new;
+          out = K.taken out.new;
+          diag = D.taken diag.new;
+          out_faults = K.faults out.new;
+          diag_faults = D.faults diag.new;
+        })
         result }
     ensures source_failed { result ≡ Status.SourceFailed
         → HasRisen (S.faults input.old) (S.faults input.new) }

@@ -1,4 +1,9 @@
 -- How a run ends over streams that never fail, by its words and its input.
+--
+-- Streams that never fail count no fault, so status 3 and 4 don't come (`faultless`). Words ask for one
+-- thing at most (`not_both`). What was refused is the text that was left (`refusal_is`), and a text that
+-- spells items isn't refused. So at each ending that is left the status is the one that is wanted, or that
+-- of want of memory, and the other cases contradict the words or the input.
 use Rattle.std.proofs.Common.{◌≡◌, ◌⊎◌, ℕ, List, Option, Some, None, length, refl, ap, sym, ◌∙◌, inl, inr, arith}
 use Rattle.hc_io.specs.Faults.{HasRisen}
 use Rattle.hc_io.specs.Source.{Gives}

@@ -1,5 +1,10 @@
 -- What the program did, by how a replay or a generation ended.
-use Rattle.std.proofs.Common.{◌≡◌, ℕ, ◌+◌, ◌≤◌, List, Option, Err, refl, sym, ◌∙◌, subst, arith}
+--
+-- What a call did has its ending as an index, so at each ending one or two of the cases are left, and the
+-- others can't be (`cc`). A store in memory counts no failure, so a run over it tells none (`whole`).
+-- The endings of a replay that refuse a line come to one (`stops`), which is then said or not
+-- (`is_refused`, `is_unsaid`). What the streams counted is handed on as the calls below told it.
+use Rattle.std.proofs.Common.{◌≡◌, ℕ, ◌+◌, ◌≤◌, List, ◌∷◌, ◌++◌, Option, Err, refl, sym, ap, ◌∙◌, subst, arith}
 use Rattle.std.specs.Result.{IsErrOf}
 use Rattle.hc_io.specs.Faults.{HasRisen}
 use Rattle.hc_io.specs.declared.sink.SinkError.{SinkError}
@@ -12,6 +17,7 @@ use Rattle.hc_sched.specs.declared.schedule.Refused.{Refused}
 use Rattle.hc_sched.specs.declared.schedule.Timed.{Timed}
 use Rattle.hc_driver.specs.Stepping.{History}
 use Rattle.hc_driver.specs.Endings.{events_from}
+use Rattle.hc_driver.proofs.Reports.{all_but_last}
 use Rattle.hc_model.specs.Entries.{no_contents}
 use Rattle.hc_model.specs.Runs.{IsRun}
 use Rattle.hc_core.specs.declared.cache.Cache.{Cache}
@@ -44,6 +50,16 @@ module _ {B : Type 0} {g : Rattle.hc_store.specs.declared.backend.Backend.Ghosts
   some : (u : Cache B g) (events : List Timed) (out out' : Option (List ℕ)) → replays.ReportsSome s u events out out' → ReportsSome events out out'
   some u events out out' r = record { history = r.history; rest = r.rest; whole = whole u r.history r.run r.counted; events_are = r.events_are; report = r.report }
 
+  -- the whole report of some first events
+  first_all : (u : Cache B g) (first rest : List Timed) (next : Timed) (events : List Timed) (out out' : Option (List ℕ)) → first ++ next ∷ rest ≡ events → replays.ReportsAll s u first out out' → ReportsSome events out out'
+  first_all u first rest next events out out' split r = record {
+    history = r.history;
+    rest = next ∷ rest;
+    whole = whole u r.history r.run r.counted;
+    events_are = ap (λ (l : List Timed). l ++ next ∷ rest) r.events_are ∙ split;
+    report = all_but_last 0 r.history out out' r.report;
+  }
+
   module _ (u : Cache B g) (left left' out out' diag diag' : Option (List ℕ)) (o o' d d' : ℕ) where
     abbrev before : Streams
     before = record { left = left; out = out; diag = diag; out_faults = o; diag_faults = d }
@@ -60,7 +76,8 @@ module _ {B : Type 0} {g : Rattle.hc_store.specs.declared.backend.Backend.Ghosts
     is_done _ (replays.cut_short text r gives unrefused refuses report) is quiet = cc
     is_done _ (replays.unreadable text gives unrefused report) is quiet = cc
     is_done _ (replays.unwritten text gives report) is quiet = cc
-    is_done _ (replays.wanting text last gives report) is quiet = cc
+    is_done _ (replays.wanting text gives report) is quiet = cc
+    is_done _ (replays.spent text first rest next last gives split report failed) is quiet = cc
 
     pub is_unreadable : (e : Ended) → Ran e → e ≡ ended.SourceFailed → diag' ≡ diag → Replays before after status.SourceFailed
     is_unreadable _ (replays.unreadable text gives unrefused report) is quiet = program.unreadable text gives unrefused (all u _ out out' report) quiet
@@ -68,7 +85,8 @@ module _ {B : Type 0} {g : Rattle.hc_store.specs.declared.backend.Backend.Ghosts
     is_unreadable _ (replays.refused text r gives refuses report) is quiet = cc
     is_unreadable _ (replays.cut_short text r gives unrefused refuses report) is quiet = cc
     is_unreadable _ (replays.unwritten text gives report) is quiet = cc
-    is_unreadable _ (replays.wanting text last gives report) is quiet = cc
+    is_unreadable _ (replays.wanting text gives report) is quiet = cc
+    is_unreadable _ (replays.spent text first rest next last gives split report failed) is quiet = cc
 
     pub is_unwritten : (e : Ended) → Ran e → e ≡ ended.SinkFailed → diag' ≡ diag → HasRisen o o' → d' ≡ d → Replays before after status.SinkFailed
     is_unwritten _ (replays.unwritten text gives report) is quiet failed sound = program.unwritten text gives (some u _ out out' report) (record { failed = failed; unsaid = quiet; sound = sound })
@@ -76,10 +94,12 @@ module _ {B : Type 0} {g : Rattle.hc_store.specs.declared.backend.Backend.Ghosts
     is_unwritten _ (replays.refused text r gives refuses report) is quiet failed sound = cc
     is_unwritten _ (replays.cut_short text r gives unrefused refuses report) is quiet failed sound = cc
     is_unwritten _ (replays.unreadable text gives unrefused report) is quiet failed sound = cc
-    is_unwritten _ (replays.wanting text last gives report) is quiet failed sound = cc
+    is_unwritten _ (replays.wanting text gives report) is quiet failed sound = cc
+    is_unwritten _ (replays.spent text first rest next last gives split report spent) is quiet failed sound = cc
 
     pub is_wanting : (e : Ended) → Ran e → e ≡ ended.NoMemory → diag' ≡ diag → Replays before after status.NoMemory
-    is_wanting _ (replays.wanting text last gives report) is quiet = program.wanting text gives (some last _ out out' report) quiet
+    is_wanting _ (replays.wanting text gives report) is quiet = program.wanting text gives (some u _ out out' report) quiet
+    is_wanting _ (replays.spent text first rest next last gives split report failed) is quiet = program.wanting text gives (first_all last first rest next _ out out' split report) quiet
     is_wanting _ (replays.done text items gives spells report) is quiet = cc
     is_wanting _ (replays.refused text r gives refuses report) is quiet = cc
     is_wanting _ (replays.cut_short text r gives unrefused refuses report) is quiet = cc
@@ -103,7 +123,8 @@ module _ {B : Type 0} {g : Rattle.hc_store.specs.declared.backend.Backend.Ghosts
     stops _ r (replays.done text items gives spells report) is = cc
     stops _ r (replays.unreadable text gives unrefused report) is = cc
     stops _ r (replays.unwritten text gives report) is = cc
-    stops _ r (replays.wanting text last gives report) is = cc
+    stops _ r (replays.wanting text gives report) is = cc
+    stops _ r (replays.spent text first rest next last gives split report failed) is = cc
 
     pub is_refused : (e : Ended) (r : Refused) → Ran e → e ≡ ended.Refused r → Takes diag diag' (refusal_text r) → Replays before after status.Refused
     is_refused e r ran is said = let at = stops e r ran is in program.refused at.text r at.refused at.report said
@@ -117,7 +138,8 @@ module _ {B : Type 0} {g : Rattle.hc_store.specs.declared.backend.Backend.Ghosts
 
     -- no wire is used
     pub never_wire : (e : Ended) → Ran e → e ≡ ended.WireFailed → ⊥
-    never_wire _ (replays.wanting text last gives report) is = cc
+    never_wire _ (replays.wanting text gives report) is = cc
+    never_wire _ (replays.spent text first rest next last gives split report failed) is = cc
     never_wire _ (replays.done text items gives spells report) is = cc
     never_wire _ (replays.refused text r gives refuses report) is = cc
     never_wire _ (replays.cut_short text r gives unrefused refuses report) is = cc

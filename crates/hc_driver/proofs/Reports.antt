@@ -1,4 +1,10 @@
 -- A report goes on.
+--
+-- The loop keeps that the first i events were stepped and their report was taken (`IsWritten`).
+-- Two such parts join: their histories do, their events, and their texts, numbered on (`steps_more`).
+-- One event more is a part of one entry (`one_step`). Where the loop stops, its part is joined with what
+-- the next event came to: some first part of its text was taken (`written_part`), or its step was refused
+-- memory (`written_spent`).
 use Rattle.std.proofs.Common.{◌≡◌, ℕ, suc, ◌+◌, ◌<◌, ◌≤◌, List, [], ◌∷◌, ◌++◌, length, take, drop, get_or, Option, refl, sym, ap, subst, ◌∙◌, arith, append_assoc, length-append}
 use Rattle.std.proofs.lemmas.List.{append-nil, take-append-drop, take_more, length-take}
 use Rattle.std.proofs.Math.Seq.{drop-cons}
@@ -11,8 +17,7 @@ use Rattle.hc_sched.specs.Laws.{AreTimed}
 use Rattle.hc_sched.specs.Report.{entry_text}
 use Rattle.hc_event.specs.Counting.{received_in}
 use Rattle.hc_driver.specs.Counting.{size_of}
-use Rattle.hc_driver.specs.Stepping.{Entry, History, events_in, report_after, Leads, nothing, more, TakesUpToLast, Steps, StepsSome, last_moment}
-use Rattle.hc_driver.specs.Reported.{Tells}
+use Rattle.hc_driver.specs.Stepping.{Entry, History, events_in, report_after, Leads, nothing, more, TakesUpToLast, Steps, StepsSome, StepsUntilWant, between, within, last_moment}
 use Rattle.hc_driver.proofs.Sizes.{size_of-append}
 use Rattle.hc_driver.proofs.Timings.{last-append}
 
@@ -57,6 +62,16 @@ pub record IsWritten {A : Type 0} (answers : A → ℕ → Event → List Act �
 
 -- JOINING
 
+-- what was all taken was taken up to the last
+pub all_but_last : (n : ℕ) (h : History) (a b : Option (List ℕ)) → Takes a b (report_after n h) → TakesUpToLast n h a b
+all_but_last n [] a b taken = taken
+all_but_last n (e ∷ h) a b taken = record {
+  part = entry_text (n + length h + 1) e.acts;
+  rest = [];
+  whole = append-nil (entry_text (n + length h + 1) e.acts);
+  takes = taken;
+}
+
 module _ {A : Type 0} (answers : A → ℕ → Event → List Act → A → Type 0) where
   leads-append : (s t u : A) (h g : History) → Leads answers s h t → Leads answers t g u → Leads answers s (g ++ h) u
   leads-append s t u h _ first nothing = first
@@ -89,16 +104,6 @@ module _ {A : Type 0} (answers : A → ℕ → Event → List Act → A → Type
         events_are = events_in-append f.history g.history ∙ (ap (λ (l : List Timed). l ++ events_in g.history) f.events_are ∙ ap (λ (l : List Timed). xs ++ l) g.events_are);
         report = rw (report-append n f.history g.history) (takes_more a b c (report_after n f.history) (report_after (n + length f.history) g.history) f.report (rw len at g.report));
       }
-
-  -- what was all taken was taken up to the last
-  all_but_last : (n : ℕ) (h : History) (a b : Option (List ℕ)) → Takes a b (report_after n h) → TakesUpToLast n h a b
-  all_but_last n [] a b taken = taken
-  all_but_last n (e ∷ h) a b taken = record {
-    part = entry_text (n + length h + 1) e.acts;
-    rest = [];
-    whole = append-nil (entry_text (n + length h + 1) e.acts);
-    takes = taken;
-  }
 
   -- all that was reported before goes in front
   ahead : (n m : ℕ) (f g : History) (a b c : Option (List ℕ)) → Takes a b (report_after n f) → m ≡ n + length f → TakesUpToLast m g b c → TakesUpToLast n (g ++ f) a c
@@ -151,32 +156,32 @@ module _ {A : Type 0} (answers : A → ℕ → Event → List Act → A → Type
   }
 
   -- one event
-  pub one_step : (s u : A) (n number : ℕ) (timed : Timed) (text : List ℕ) (a b : Option (List ℕ)) → Tells answers s u timed number text → number ≡ n + 1 → Takes a b text
+  pub one_step : (s u : A) (n number : ℕ) (timed : Timed) (acts : List Act) (a b : Option (List ℕ)) → answers s timed.now timed.event acts u → number ≡ n + 1 → Takes a b (entry_text number acts)
       → Steps answers s u n (timed ∷ []) a b
-  one_step s u n number timed text a b told is takes =
-      let e : Entry = record { timed = timed; acts = told.acts } in
-      let at : number ≡ n + 0 + 1 = omega (arith, is) in
+  one_step s u n number timed acts a b answered is takes =
+      let e : Entry = record { timed = timed; acts = acts } in
+      let here : number ≡ n + 0 + 1 = omega (arith, is) in
       record {
         history = e ∷ [];
-        leads = more [] e s u nothing told.answered;
+        leads = more [] e s u nothing answered;
         events_are = refl;
-        report = rw (told.text_is, at) at takes;
+        report = subst (λ (k : ℕ). Takes a b (entry_text k acts)) here takes;
       }
 
-  pub one_some : (s u : A) (n number : ℕ) (timed : Timed) (text : List ℕ) (a b : Option (List ℕ)) → Tells answers s u timed number text → number ≡ n + 1 → TakesFront a b text
+  pub one_some : (s u : A) (n number : ℕ) (timed : Timed) (acts : List Act) (a b : Option (List ℕ)) → answers s timed.now timed.event acts u → number ≡ n + 1 → TakesFront a b (entry_text number acts)
       → StepsSome answers s u n (timed ∷ []) a b
-  one_some s u n number timed text a b told is takes =
-      let e : Entry = record { timed = timed; acts = told.acts } in
-      let at : number ≡ n + 0 + 1 = omega (arith, is) in
+  one_some s u n number timed acts a b answered is takes =
+      let e : Entry = record { timed = timed; acts = acts } in
+      let here : number ≡ n + 0 + 1 = omega (arith, is) in
       record {
         history = e ∷ [];
         rest = [];
-        leads = more [] e s u nothing told.answered;
+        leads = more [] e s u nothing answered;
         events_are = refl;
         report = record {
           part = takes.front;
           rest = takes.rest;
-          whole = takes.whole ∙ (told.text_is ∙ ap (λ (k : ℕ). entry_text k told.acts) at);
+          whole = takes.whole ∙ ap (λ (k : ℕ). entry_text k acts) here;
           takes = takes.takes;
         };
       }
@@ -205,13 +210,13 @@ module _ {A : Type 0} (answers : A → ℕ → Event → List Act → A → Type
   may_step s u before now events i out out' timed w lt is = subst (λ (l : List Timed). AreTimed now.moment l) (from events i timed lt is) w.timed
 
   -- one event more is reported
-  pub written_more : (s t u : A) (before now next : Counts) (events : List Timed) (i : ℕ) (a b c : Option (List ℕ)) (timed : Timed) (text : List ℕ)
+  pub written_more : (s t u : A) (before now next : Counts) (events : List Timed) (i : ℕ) (a b c : Option (List ℕ)) (timed : Timed) (number : ℕ) (acts : List Act)
       → IsWritten answers s t before now events i a b → i < length events → timed ≡ get_or events i timed
-      → Tells answers t u timed next.number text → Takes b c text
-      → next.number ≡ now.number + 1 → next.steps ≡ now.steps + 1 → next.received ≡ now.received + received_in timed.event → next.moment ≡ timed.now → next.faults ≡ now.faults
+      → answers t timed.now timed.event acts u → Takes b c (entry_text number acts)
+      → number ≡ now.number + 1 → next.number ≡ number → next.steps ≡ now.steps + 1 → next.received ≡ now.received + received_in timed.event → next.moment ≡ timed.now → next.faults ≡ now.faults
       → IsWritten answers s u before next events (i + 1) a c
-  written_more s t u before now next events i a b c timed text w lt is told takes number steps received moment faults =
-      let one = one_step t u now.number next.number timed text b c told number takes in
+  written_more s t u before now next events i a b c timed number acts w lt is answered takes one_more kept steps received moment faults =
+      let one = one_step t u now.number number timed acts b c answered one_more takes in
       let len : now.number ≡ before.number + length (take i events) = let l = length-take i events in omega (arith, w.numbered, lt) in
       let is_front = front events i timed lt is in
       let size = size_of-append (take i events) (timed ∷ []) in
@@ -232,12 +237,33 @@ module _ {A : Type 0} (answers : A → ℕ → Event → List Act → A → Type
   written_some s u before now events i a b w =
       subst (λ (l : List Timed). StepsSome answers s u before.number l a b) (take-append-drop i events) (all_first s u before.number (take i events) (drop i events) a b w.steps)
 
-  pub written_part : (s t u : A) (before now : Counts) (number : ℕ) (events : List Timed) (i : ℕ) (a b c : Option (List ℕ)) (timed : Timed) (text : List ℕ)
+  -- and a part of the next one
+  pub written_part : (s t u : A) (before now : Counts) (number : ℕ) (events : List Timed) (i : ℕ) (a b c : Option (List ℕ)) (timed : Timed) (acts : List Act)
       → IsWritten answers s t before now events i a b → i < length events → timed ≡ get_or events i timed
-      → Tells answers t u timed number text → TakesFront b c text → number ≡ now.number + 1 → StepsSome answers s u before.number events a c
-  written_part s t u before now number events i a b c timed text w lt is told takes numbered =
-      let one = one_some t u now.number number timed text b c told numbered takes in
+      → answers t timed.now timed.event acts u → TakesFront b c (entry_text number acts) → number ≡ now.number + 1 → StepsSome answers s u before.number events a c
+  written_part s t u before now number events i a b c timed acts w lt is answered takes numbered =
+      let one = one_some t u now.number number timed acts b c answered numbered takes in
       let len : now.number ≡ before.number + length (take i events) = let l = length-take i events in omega (arith, w.numbered, lt) in
       let part = some_more s t u before.number now.number (take i events) (timed ∷ []) a b c w.steps len one in
       let whole : (take i events ++ timed ∷ []) ++ drop (i + 1) events ≡ events = append_assoc (take i events) (timed ∷ []) (drop (i + 1) events) ∙ around events i timed lt is in
       subst (λ (l : List Timed). StepsSome answers s u before.number l a c) whole (some_first s u before.number (take i events ++ timed ∷ []) (drop (i + 1) events) a c part)
+
+  -- WHERE MEMORY IS REFUSED
+
+  module _ (spent : A → A → Type 0) where
+    -- all of some events, and then some more until that
+    pub want_more : (s t u : A) (n m : ℕ) (xs ys : List Timed) (a b c : Option (List ℕ)) → Steps answers s t n xs a b → m ≡ n + length xs → StepsUntilWant answers spent t u m ys b c
+        → StepsUntilWant answers spent s u n (xs ++ ys) a c
+    want_more s t u n m xs ys a b c f is (between some) = between (some_more s t u n m xs ys a b c f is some)
+    want_more s t u n m xs ys a b c f is (within first rest next last whole steps led) =
+        within (xs ++ first) rest next last (append_assoc xs first (next ∷ rest) ∙ ap (λ (l : List Timed). xs ++ l) whole) (steps_more s t last n m xs first a b c f is steps) led
+
+    pub want_first : (s u : A) (n : ℕ) (xs ys : List Timed) (a b : Option (List ℕ)) → StepsUntilWant answers spent s u n xs a b → StepsUntilWant answers spent s u n (xs ++ ys) a b
+    want_first s u n xs ys a b (between some) = between (some_first s u n xs ys a b some)
+    want_first s u n xs ys a b (within first rest next last whole steps led) =
+        within first (rest ++ ys) next last (sym (append_assoc first (next ∷ rest) ys) ∙ ap (λ (l : List Timed). l ++ ys) whole) steps led
+
+    -- the step of the next event is refused memory
+    pub written_spent : (s t u : A) (before now : Counts) (events : List Timed) (i : ℕ) (a b : Option (List ℕ)) (timed : Timed)
+        → IsWritten answers s t before now events i a b → i < length events → timed ≡ get_or events i timed → spent t u → StepsUntilWant answers spent s u before.number events a b
+    written_spent s t u before now events i a b timed w lt is led = within (take i events) (drop (i + 1) events) timed t (around events i timed lt is) w.steps led

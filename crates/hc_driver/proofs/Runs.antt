@@ -1,4 +1,10 @@
 -- A schedule goes on.
+--
+-- The loop keeps that what was read isn't refused, and that its events were stepped and reported (`IsOn`).
+-- A text is read piece by piece, so the next piece brings the events that come next (`brought-append`).
+-- What came of the piece is a case of `Goes`. The loop goes on with the longer text (`on_more`), or ends as
+-- the piece did (`ends_stopped`). At the end of the source the feed answers the refusal of the text
+-- (`ends_done`, `ends_cut_short`).
 use Rattle.std.proofs.Common.{◌≡◌, ℕ, ◌+◌, ◌≤◌, List, [], ◌++◌, length, Option, Some, None, Result, Ok, Err, refl, sym, ap, subst, ◌∙◌, inl, inr, arith, length-append}
 use Rattle.std.proofs.lemmas.List.{append-nil}
 use Rattle.std.proofs.lemmas.Bool.{cases_Bool}
@@ -25,13 +31,13 @@ use Rattle.hc_sched.proofs.OneReading.{brings_timed}
 use Rattle.hc_driver.specs.declared.stop.Stop.{Stop}
 use Rattle.hc_driver.specs.declared.stop.Stop.TheVariants as stop
 use Rattle.hc_driver.specs.Counting.{size_of}
-use Rattle.hc_driver.specs.Stepping.{Steps, StepsSome, StepsSomewhere, last_moment}
+use Rattle.hc_driver.specs.Stepping.{Steps, StepsSome, StepsUntilWant, between, last_moment}
 use Rattle.hc_driver.specs.Endings as endings
 use Rattle.hc_driver.specs.Endings.{IsReading, Goes, events_from, IsUnrefused, IsRefused, IsRefusedAtOnce, Ends}
 use Rattle.hc_driver.specs.Stops.{of_feed, of_sink, ended_by, ended_as}
 use Rattle.hc_driver.proofs.Sizes.{size_of-append, brought_small}
 use Rattle.hc_driver.proofs.Timings.{timed_from, timed_back, last-append, last_later}
-use Rattle.hc_driver.proofs.Reports.{steps_none, steps_more, some_more, some_first, all_first}
+use Rattle.hc_driver.proofs.Reports.{steps_none, steps_more, some_more, some_first, all_first, want_more, want_first}
 
 -- how far a stepper, a report and the streams are
 pub record Extent : Type 0 where
@@ -61,7 +67,7 @@ IsAs feed (Ok done) = refusal_at feed ≡ None
 IsAs feed (Err (error.Refused r)) = refusal_at feed ≡ Some r
 IsAs feed (Err error.NoMemory) = ⊥
 
-module _ {A : Type 0} (answers : A → ℕ → Event → List Act → A → Type 0) where
+module _ {A : Type 0} (answers : A → ℕ → Event → List Act → A → Type 0) (spent : A → A → Type 0) where
   pub on_start : (s : A) (moment : ℕ) (now : Extent) (left out : Option (List ℕ)) → now.number ≡ 0 → now.steps + now.received ≡ 0 → now.moment ≤ moment
       → IsOn answers s s moment now.given now (beginning moment) left left out out
   on_start s moment now left out number none le = record {
@@ -115,31 +121,30 @@ module _ {A : Type 0} (answers : A → ℕ → Event → List Act → A → Type
   -- the sink gave up
   pub goes_sink : (s u : A) (n : ℕ) (before : Progress) (piece : List ℕ) (now : Progress) (out out' : Option (List ℕ)) (xs ys : List Timed) (e : SinkError) (result : Result (Unit {0}) Stop)
       → IsErrAnd result (λ (st : Stop). st ≡ of_sink e) → xs ++ ys ≡ events_in before piece
-      → (IsErrOf {T = Unit {0}} (Err e) sink.SinkFailed → StepsSome answers s u n xs out out') → (IsErrOf {T = Unit {0}} (Err e) sink.NoMemory → StepsSomewhere answers s n xs out out')
-      → Goes answers s u n before piece now out out' result
+      → (IsErrOf {T = Unit {0}} (Err e) sink.SinkFailed → StepsSome answers s u n xs out out') → (IsErrOf {T = Unit {0}} (Err e) sink.NoMemory → StepsUntilWant answers spent s u n xs out out')
+      → Goes answers spent s u n before piece now out out' result
   goes_sink s u n before piece now out out' xs ys e (Ok x) is whole failed wanting = absurd is
   goes_sink s u n before piece now out out' xs ys sink.SinkFailed (Err st) is whole failed wanting =
-      subst (λ (l : Stop). Goes answers s u n before piece now out out' (Err l)) (sym is) (subst (λ (l : List Timed). StepsSome answers s u n l out out') whole (some_first answers s u n xs ys out out' (failed refl)))
+      subst (λ (l : Stop). Goes answers spent s u n before piece now out out' (Err l)) (sym is) (subst (λ (l : List Timed). StepsSome answers s u n l out out') whole (some_first answers s u n xs ys out out' (failed refl)))
   goes_sink s u n before piece now out out' xs ys sink.NoMemory (Err st) is whole failed wanting =
-      let some = wanting refl in
-      subst (λ (l : Stop). Goes answers s u n before piece now out out' (Err l)) (sym is) (some.0, subst (λ (l : List Timed). StepsSome answers s some.0 n l out out') whole (some_first answers s some.0 n xs ys out out' some.1))
+      subst (λ (l : Stop). Goes answers spent s u n before piece now out out' (Err l)) (sym is) (subst (λ (l : List Timed). StepsUntilWant answers spent s u n l out out') whole (want_first answers spent s u n xs ys out out' (wanting refl)))
 
   -- the text is refused, or there was not enough memory
   pub goes_feed : (s u : A) (n : ℕ) (before : Progress) (piece : List ℕ) (now : Progress) (out out' : Option (List ℕ)) (xs : List Timed) (e : FeedError) (fed : Result (Unit {0}) FeedError) (result : Result (Unit {0}) Stop)
-      → IsErrAnd result (λ (st : Stop). st ≡ of_feed e) → fed ≡ Err e → Feeds before piece fed now [] xs → Steps answers s u n xs out out' → Goes answers s u n before piece now out out' result
+      → IsErrAnd result (λ (st : Stop). st ≡ of_feed e) → fed ≡ Err e → Feeds before piece fed now [] xs → Steps answers s u n xs out out' → Goes answers spent s u n before piece now out out' result
   goes_feed s u n before piece now out out' xs e fed (Ok x) is was h steps = absurd is
   goes_feed s u n before piece now out out' xs (error.Refused r) fed (Err st) is was h steps =
       let f = subst (λ (l : Result (Unit {0}) FeedError). Feeds before piece l now [] xs) was h in
-      subst (λ (l : Stop). Goes answers s u n before piece now out out' (Err l)) (sym is) (f.leads, subst (λ (l : List Timed). Steps answers s u n l out out') f.adds steps)
+      subst (λ (l : Stop). Goes answers spent s u n before piece now out out' (Err l)) (sym is) (f.leads, subst (λ (l : List Timed). Steps answers s u n l out out') f.adds steps)
   goes_feed s u n before piece now out out' xs error.NoMemory fed (Err st) is was h steps =
       let f = subst (λ (l : Result (Unit {0}) FeedError). Feeds before piece l now [] xs) was h in
       let whole : xs ++ f.rest ≡ events_in before piece = ap (λ (l : List Timed). l ++ f.rest) f.adds ∙ f.whole in
-      subst (λ (l : Stop). Goes answers s u n before piece now out out' (Err l)) (sym is) (u, subst (λ (l : List Timed). StepsSome answers s u n l out out') whole (all_first answers s u n xs f.rest out out' steps))
+      subst (λ (l : Stop). Goes answers spent s u n before piece now out out' (Err l)) (sym is) (between (subst (λ (l : List Timed). StepsSome answers s u n l out out') whole (all_first answers s u n xs f.rest out out' steps)))
 
   -- the next piece
   pub on_more : (s t u : A) (moment given : ℕ) (now next : Extent) (feed feed' : Progress) (piece : List ℕ) (left mid new a b c : Option (List ℕ))
       → IsOn answers s t moment given now feed left mid a b → Gives mid new piece
-      → Goes answers t u now.number feed piece feed' b c (Ok tt) → IsReading feed'
+      → Goes answers spent t u now.number feed piece feed' b c (Ok tt) → IsReading feed'
       → next.given ≡ now.given + length piece → lines_in feed' ≤ lines_in feed + length piece
       → next.number ≡ now.number + length (events_in feed piece) → next.steps ≡ now.steps + length (events_in feed piece)
       → next.steps + next.received ≡ now.steps + now.received + size_of (events_in feed piece) → next.moment ≡ last_moment now.moment (events_in feed piece)
@@ -183,7 +188,7 @@ module _ {A : Type 0} (answers : A → ℕ → Event → List Act → A → Type
   unrefused s u moment given now feed left mid a b on = subst IsReading (sym on.leads) on.reading
 
   pub ends_unreadable : (s u : A) (moment given : ℕ) (now : Extent) (feed : Progress) (left mid new a b : Option (List ℕ))
-      → IsOn answers s u moment given now feed left mid a b → new ≡ mid → Ends answers s u moment left new a b ended.SourceFailed
+      → IsOn answers s u moment given now feed left mid a b → new ≡ mid → Ends answers spent s u moment left new a b ended.SourceFailed
   ends_unreadable s u moment given now feed left mid new a b on same =
       endings.unreadable on.text (rw same on.gives) (unrefused s u moment given now feed left mid a b on) on.steps
 
@@ -200,18 +205,18 @@ module _ {A : Type 0} (answers : A → ℕ → Event → List Act → A → Type
   refusal-is moment text feed leads = ap refusal_at leads
 
   pub ends_done : (s u : A) (moment given : ℕ) (now : Extent) (feed : Progress) (left mid new a b : Option (List ℕ)) (result : Result (Unit {0}) FeedError)
-      → IsOn answers s u moment given now feed left mid a b → Gives mid new [] → IsAtEnd new → result ≡ ending feed → result ≡ Ok tt → Ends answers s u moment left new a b ended.Done
+      → IsOn answers s u moment given now feed left mid a b → Gives mid new [] → IsAtEnd new → result ≡ ending feed → result ≡ Ok tt → Ends answers spent s u moment left new a b ended.Done
   ends_done s u moment given now feed left mid new a b result on gives end is ok =
       let none : refusal_at feed ≡ None = subst (λ (l : Result (Unit {0}) FeedError). IsAs feed l) ok (refusal_here feed on.reading result is) in
       endings.done on.text (gives_all left new on.text (rests left mid new on.text on.gives gives) end) (refusal-is moment on.text feed on.leads ∙ none) on.steps
 
   pub ends_cut_short : (s u : A) (moment given : ℕ) (now : Extent) (feed : Progress) (left mid new a b : Option (List ℕ)) (result : Result (Unit {0}) FeedError) (e : FeedError) (stopped : Result (Unit {0}) Stop)
       → IsOn answers s u moment given now feed left mid a b → Gives mid new [] → IsAtEnd new → result ≡ ending feed → result ≡ Err e → IsErrAnd stopped (λ (st : Stop). st ≡ of_feed e)
-      → Ends answers s u moment left new a b (ended_as stopped)
+      → Ends answers spent s u moment left new a b (ended_as stopped)
   ends_cut_short s u moment given now feed left mid new a b result e (Ok x) on gives end is err stops = absurd stops
   ends_cut_short s u moment given now feed left mid new a b result (error.Refused r) (Err st) on gives end is err stops =
       let some : refusal_at feed ≡ Some r = subst (λ (l : Result (Unit {0}) FeedError). IsAs feed l) err (refusal_here feed on.reading result is) in
-      subst (λ (l : Stop). Ends answers s u moment left new a b (ended_by l)) (sym stops)
+      subst (λ (l : Stop). Ends answers spent s u moment left new a b (ended_by l)) (sym stops)
       (endings.cut_short on.text r (gives_all left new on.text (rests left mid new on.text on.gives gives) end)
       (unrefused s u moment given now feed left mid a b on) (refusal-is moment on.text feed on.leads ∙ some) on.steps)
   ends_cut_short s u moment given now feed left mid new a b result error.NoMemory (Err st) on gives end is err stops =
@@ -222,15 +227,15 @@ module _ {A : Type 0} (answers : A → ℕ → Event → List Act → A → Type
 
   -- a piece stops it
   pub ends_stopped : (s t u : A) (moment given : ℕ) (now : Extent) (feed feed' : Progress) (piece : List ℕ) (left mid new a b c : Option (List ℕ)) (st : Stop)
-      → IsOn answers s t moment given now feed left mid a b → Gives mid new piece → length piece ≤ 16384 → Goes answers t u now.number feed piece feed' b c (Err st)
-      → Ends answers s u moment left new a c (ended_by st)
+      → IsOn answers s t moment given now feed left mid a b → Gives mid new piece → length piece ≤ 16384 → Goes answers spent t u now.number feed piece feed' b c (Err st)
+      → Ends answers spent s u moment left new a c (ended_by st)
   ends_stopped s t u moment given now feed feed' piece left mid new a b c st on gives short goes =
       let parts : events_from moment (on.text ++ piece) ≡ events_from moment on.text ++ events_in feed piece = brought-append moment on.text piece ∙ ap (λ (p : Progress). events_from moment on.text ++ events_in p piece) on.leads in
       let all = gives_more left mid new on.text piece on.gives gives in
       by_stop st goes parts all
     where
-      by_stop : (st : Stop) → Goes answers t u now.number feed piece feed' b c (Err st) → events_from moment (on.text ++ piece) ≡ events_from moment on.text ++ events_in feed piece
-          → Gives left new (on.text ++ piece) → Ends answers s u moment left new a c (ended_by st)
+      by_stop : (st : Stop) → Goes answers spent t u now.number feed piece feed' b c (Err st) → events_from moment (on.text ++ piece) ≡ events_from moment on.text ++ events_in feed piece
+          → Gives left new (on.text ++ piece) → Ends answers spent s u moment left new a c (ended_by st)
       by_stop (stop.Refused r) goes parts all =
           let leads = after-append (beginning moment) on.text piece ∙ (ap (λ (p : Progress). after p piece) on.leads ∙ goes.0) in
           let steps = subst (λ (l : List Timed). Steps answers s u 0 l a c) (sym parts) (steps_more answers s t u 0 now.number (events_from moment on.text) (events_in feed piece) a b c on.steps on.number_is goes.1) in
@@ -249,20 +254,20 @@ module _ {A : Type 0} (answers : A → ℕ → Event → List Act → A → Type
           endings.unwritten (on.text ++ piece) all (subst (λ (l : List Timed). StepsSome answers s u 0 l a c) (sym parts) (some_more answers s t u 0 now.number (events_from moment on.text) (events_in feed piece) a b c on.steps on.number_is goes))
       by_stop stop.NoMemory goes parts all =
           endings.wanting (on.text ++ piece) all
-          (goes.0, subst (λ (l : List Timed). StepsSome answers s goes.0 0 l a c) (sym parts) (some_more answers s t goes.0 0 now.number (events_from moment on.text) (events_in feed piece) a b c on.steps on.number_is goes.1))
+          (subst (λ (l : List Timed). StepsUntilWant answers spent s u 0 l a c) (sym parts) (want_more answers spent s t u 0 now.number (events_from moment on.text) (events_in feed piece) a b c on.steps on.number_is goes))
 
   -- as what was read stopped it, so it ends
   pub ends_source : (s u : A) (moment given : ℕ) (now : Extent) (feed : Progress) (left mid new a b : Option (List ℕ)) (stopped : Result (Unit {0}) Stop)
-      → IsOn answers s u moment given now feed left mid a b → new ≡ mid → IsErrAnd stopped (λ (st : Stop). st ≡ stop.SourceFailed) → Ends answers s u moment left new a b (ended_as stopped)
+      → IsOn answers s u moment given now feed left mid a b → new ≡ mid → IsErrAnd stopped (λ (st : Stop). st ≡ stop.SourceFailed) → Ends answers spent s u moment left new a b (ended_as stopped)
   ends_source s u moment given now feed left mid new a b (Ok x) on same stops = absurd stops
   ends_source s u moment given now feed left mid new a b (Err st) on same stops =
-      subst (λ (l : Stop). Ends answers s u moment left new a b (ended_by l)) (sym stops) (ends_unreadable s u moment given now feed left mid new a b on same)
+      subst (λ (l : Stop). Ends answers spent s u moment left new a b (ended_by l)) (sym stops) (ends_unreadable s u moment given now feed left mid new a b on same)
 
   pub ends_as : (s t u : A) (moment given : ℕ) (now : Extent) (feed feed' : Progress) (piece : List ℕ) (left mid new a b c : Option (List ℕ)) (st : Stop) (result stopped : Result (Unit {0}) Stop)
       → IsOn answers s t moment given now feed left mid a b → Gives mid new piece → length piece ≤ 16384
-      → Goes answers t u now.number feed piece feed' b c result → result ≡ Err st → IsErrAnd stopped (λ (e : Stop). e ≡ st)
-      → Ends answers s u moment left new a c (ended_as stopped)
+      → Goes answers spent t u now.number feed piece feed' b c result → result ≡ Err st → IsErrAnd stopped (λ (e : Stop). e ≡ st)
+      → Ends answers spent s u moment left new a c (ended_as stopped)
   ends_as s t u moment given now feed feed' piece left mid new a b c st result (Ok x) on gives short goes was stops = absurd stops
   ends_as s t u moment given now feed feed' piece left mid new a b c st result (Err e) on gives short goes was stops =
-      subst (λ (l : Stop). Ends answers s u moment left new a c (ended_by l)) (sym stops)
-      (ends_stopped s t u moment given now feed feed' piece left mid new a b c st on gives short (subst (λ (l : Result (Unit {0}) Stop). Goes answers t u now.number feed piece feed' b c l) was goes))
+      subst (λ (l : Stop). Ends answers spent s u moment left new a c (ended_by l)) (sym stops)
+      (ends_stopped s t u moment given now feed feed' piece left mid new a b c st on gives short (subst (λ (l : Result (Unit {0}) Stop). Goes answers spent t u now.number feed piece feed' b c l) was goes))

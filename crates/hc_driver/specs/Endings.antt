@@ -13,23 +13,23 @@ use Rattle.hc_sched.specs.Feeding.{beginning}
 use Rattle.hc_sched.specs.Laws.{refusal_of}
 use Rattle.hc_driver.specs.declared.stop.Stop.{Stop}
 use Rattle.hc_driver.specs.declared.stop.Stop.TheVariants as stop
-use Rattle.hc_driver.specs.Stepping.{Steps, StepsSome, StepsSomewhere}
+use Rattle.hc_driver.specs.Stepping.{Steps, StepsSome, StepsUntilWant}
 
 -- the reading wasn't stopped
 abbrev pub IsReading : Progress → Type 0
 IsReading progress = (place : Place) × (line : List ℕ) × (progress ≡ Reads place line)
 
 -- What came of one piece of a text: the reading went on and all of its events were reported, or up to a refusal, or some first of them were.
-abbrev pub Goes : {A : Type 0} → (A → ℕ → Event → List Act → A → Type 0) → A → A → ℕ → Progress → List ℕ → Progress → Option (List ℕ) → Option (List ℕ) → Result (Unit {0}) Stop → Type 0
-Goes answers s u n before piece now out out' (Ok done) =
+abbrev pub Goes : {A : Type 0} → (A → ℕ → Event → List Act → A → Type 0) → (A → A → Type 0) → A → A → ℕ → Progress → List ℕ → Progress → Option (List ℕ) → Option (List ℕ) → Result (Unit {0}) Stop → Type 0
+Goes answers spent s u n before piece now out out' (Ok done) =
     (after before piece ≡ now) × Steps answers s u n (events_in before piece) out out'
-Goes answers s u n before piece now out out' (Err (stop.Refused refused)) =
+Goes answers spent s u n before piece now out out' (Err (stop.Refused refused)) =
     (after before piece ≡ Stopped refused) × Steps answers s u n (events_in before piece) out out'
-Goes answers s u n before piece now out out' (Err stop.SourceFailed) = ⊥
-Goes answers s u n before piece now out out' (Err stop.SinkFailed) =
+Goes answers spent s u n before piece now out out' (Err stop.SourceFailed) = ⊥
+Goes answers spent s u n before piece now out out' (Err stop.SinkFailed) =
     StepsSome answers s u n (events_in before piece) out out'
-Goes answers s u n before piece now out out' (Err stop.NoMemory) =
-    StepsSomewhere answers s n (events_in before piece) out out'
+Goes answers spent s u n before piece now out out' (Err stop.NoMemory) =
+    StepsUntilWant answers spent s u n (events_in before piece) out out'
 
 -- what a text brings that begins at this moment
 abbrev pub events_from : ℕ → List ℕ → List Timed
@@ -54,24 +54,25 @@ pub record IsRefusedAtOnce (moment : ℕ) (text : List ℕ) (refused : Refused) 
 
 -- What came of a schedule from this moment on, by how it ended: what its source had left before and
 -- after, and what its sink had taken.
-pub data Ends {A : Type 0} (answers : A → ℕ → Event → List Act → A → Type 0) (s u : A) (moment : ℕ) (left left' out out' : Option (List ℕ)) : Ended → Type 0 where
+pub data Ends {A : Type 0} (answers : A → ℕ → Event → List Act → A → Type 0) (spent : A → A → Type 0) (s u : A) (moment : ℕ) (left left' out out' : Option (List ℕ)) : Ended → Type 0 where
   -- the whole text is a schedule, and its report was taken
   done : (text : List ℕ) → GivesAll left left' text → refusal_of moment text ≡ None →
-      Steps answers s u 0 (events_from moment text) out out' → Ends answers s u moment left left' out out' ended.Done
+      Steps answers s u 0 (events_from moment text) out out' → Ends answers spent s u moment left left' out out' ended.Done
   -- the text is refused in the last piece that was read, and the report of what came before was taken
   refused : (text : List ℕ) (refused : Refused) → Gives left left' text → IsRefusedAtOnce moment text refused →
       Steps answers s u 0 (events_from moment text) out out' →
-      Ends answers s u moment left left' out out' (ended.Refused refused)
+      Ends answers spent s u moment left left' out out' (ended.Refused refused)
   -- the whole text is cut short
   cut_short : (text : List ℕ) (refused : Refused) → GivesAll left left' text → IsUnrefused moment text →
       refusal_of moment text ≡ Some refused → Steps answers s u 0 (events_from moment text) out out' →
-      Ends answers s u moment left left' out out' (ended.Refused refused)
+      Ends answers spent s u moment left left' out out' (ended.Refused refused)
   -- the report of the whole items was taken of what could be read, none of whose lines is refused
   unreadable : (text : List ℕ) → Gives left left' text → IsUnrefused moment text →
       Steps answers s u 0 (events_from moment text) out out' →
-      Ends answers s u moment left left' out out' ended.SourceFailed
+      Ends answers spent s u moment left left' out out' ended.SourceFailed
   -- some first events of what was read were stepped; the report of all but the last was taken, and a part of the last one's
   unwritten : (text : List ℕ) → Gives left left' text → StepsSome answers s u 0 (events_from moment text) out out' →
-      Ends answers s u moment left left' out out' ended.SinkFailed
-  wanting : (text : List ℕ) → Gives left left' text → StepsSomewhere answers s 0 (events_from moment text) out out' →
-      Ends answers s u moment left left' out out' ended.NoMemory
+      Ends answers spent s u moment left left' out out' ended.SinkFailed
+  -- memory was refused, within a step or outside of the steps
+  wanting : (text : List ℕ) → Gives left left' text → StepsUntilWant answers spent s u 0 (events_from moment text) out out' →
+      Ends answers spent s u moment left left' out out' ended.NoMemory

@@ -1,4 +1,3 @@
-pub mod Reported
 pub mod Stops
 pub mod Stepping
 pub mod Counting

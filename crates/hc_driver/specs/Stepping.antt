@@ -59,9 +59,13 @@ pub record StepsSome {A : Type 0} (answers : A → ℕ → Event → List Act �
   pub events_are : events_in history ++ rest ≡ events
   pub report : TakesUpToLast n history out out'
 
--- the same, wherever the last one led
-abbrev pub StepsSomewhere : {A : Type 0} → (A → ℕ → Event → List Act → A → Type 0) → A → ℕ → List Timed → Option (List ℕ) → Option (List ℕ) → Type 0
-StepsSomewhere {A} answers s n events out out' = (last : A) × StepsSome answers s last n events out out'
+-- How far these events were stepped and reported where memory was refused.
+pub data StepsUntilWant {A : Type 0} (answers : A → ℕ → Event → List Act → A → Type 0) (spent : A → A → Type 0) (s u : A) (n : ℕ) (events : List Timed) (out out' : Option (List ℕ)) : Type 0 where
+  -- it was refused outside of the steps
+  between : StepsSome answers s u n events out out' → StepsUntilWant answers spent s u n events out out'
+  -- a step was refused it, behind the whole report of those before
+  within : (first rest : List Timed) (next : Timed) (last : A) → first ++ next ∷ rest ≡ events →
+      Steps answers s last n first out out' → spent last u → StepsUntilWant answers spent s u n events out out'
 
 -- the moment of the last event, or this one where there is none
 abbrev pub last_moment : ℕ → List Timed → ℕ

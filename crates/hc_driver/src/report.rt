@@ -1,15 +1,16 @@
 //! What is reported of each event.
 ghost use Rattle.std.specs.Prelude.{◌≡◌, ◌≢◌, ◌+◌, ◌<◌, ◌≤◌, ◌^◌, length, OnOk, OnErr, IsErrOf};
-ghost use Rattle.hc_io.specs.Sink.{HasSinkCause};
+ghost use Rattle.hc_io.specs.Sink.{Takes, TakesFront, HasSinkCause};
 ghost use Rattle.hc_sched.specs.Feeding.{lines_in, StandsAt};
 ghost use Rattle.hc_sched.specs.Reading.{events_in};
 ghost use Rattle.hc_sched.specs.Laws.{AreTimed};
 ghost use Rattle.hc_sched.specs.Schedule.{IsEvent, IsSmall};
+ghost use Rattle.hc_sched.specs.Report.{entry_text};
+ghost use Rattle.hc_event.specs.Acts.{act_list};
 ghost use Rattle.hc_event.specs.Counting.{received_in};
 ghost use Rattle.hc_driver.specs.Counting.{size_of};
 ghost use Rattle.hc_driver.specs.Endings.{Goes, IsReading};
-ghost use Rattle.hc_driver.specs.Stepping.{Steps, StepsSome, StepsSomewhere, last_moment};
-ghost use Rattle.hc_driver.specs.Reported.{Tells};
+ghost use Rattle.hc_driver.specs.Stepping.{Steps, StepsSome, StepsUntilWant, last_moment};
 ghost use Rattle.hc_driver.specs.Stops.{HasStopCause};
 
 use crate::stop::Stop;
@@ -19,7 +20,7 @@ use hc_sched::{Feed, Timed, write_acts};
 use hc_text::NoMemory;
 use std::alloc::Global;
 
-/// How many events were reported, and the acts and the text of the last one.
+/// How many events were stepped, and the acts and the text of the last one.
 #[derive(Drop)]
 pub(crate) struct Report {
     number: u64,
@@ -55,8 +56,8 @@ impl Report {
             ≤ 2 ^ 60 }
         requires numbered { self.old.number ≤ T.steps on.old }
         requires reading { IsReading feed.old }
-        ensures goes { Goes T.answers on.old on.new self.old.number feed.old piece.now feed.new
-            (K.taken sink.old) (K.taken sink.new) result }
+        ensures goes { Goes T.answers T.spent on.old on.new self.old.number feed.old piece.now
+            feed.new (K.taken sink.old) (K.taken sink.new) result }
         ensures reads { OnOk result (IsReading feed.new) }
         ensures lines { lines_in feed.new ≤ lines_in feed.old + length piece.now }
         ensures number { OnOk result (self.new.number
@@ -98,7 +99,7 @@ impl Report {
             → StepsSome T.answers on.old on.new self.old.number events.now
             (K.taken sink.old) (K.taken sink.new) }
         ensures wanting { IsErrOf result SinkError.NoMemory
-            → StepsSomewhere T.answers on.old self.old.number events.now
+            → StepsUntilWant T.answers T.spent on.old on.new self.old.number events.now
             (K.taken sink.old) (K.taken sink.new) }
         ensures cause { HasSinkCause (K.faults sink.old) (K.faults sink.new) result }
         ensures calm { OnOk result (K.faults sink.new ≡ K.faults sink.old) }
@@ -107,12 +108,12 @@ impl Report {
     {
         for timed in events {
             self.step(on, timed.now, &timed.event)?;
-            write_all(sink, self.text.as_slice())?;
+            self.write(sink)?;
         }
         Ok(())
     }
 
-    /// Steps an event, and makes the text of its entry.
+    /// Steps an event, and has its acts.
     fn step<T: Stepper>(&mut self, on: &mut T, now: u64, event: &Event) -> Result<(), NoMemory>
         requires later { T.moment on.old ≤ now }
         requires small { IsSmall now }
@@ -120,18 +121,35 @@ impl Report {
         requires few { T.steps on.old < 2 ^ 60 }
         requires little { T.received on.old < 2 ^ 60 }
         requires numbered { self.old.number ≤ T.steps on.old }
-        ensures told { OnOk result (Tells T.answers on.old on.new
-            (record { now = now; event = event.now }) self.new.number self.new.text.items) }
+        ensures told { OnOk result
+            (T.answers on.old now event.now (act_list self.new.acts) on.new) }
         ensures number { OnOk result (self.new.number ≡ self.old.number + 1) }
         ensures moment { OnOk result (T.moment on.new ≡ now) }
         ensures steps { OnOk result (T.steps on.new ≡ T.steps on.old + 1) }
         ensures received { OnOk result
             (T.received on.new ≡ T.received on.old + received_in event.now) }
+        ensures spent { OnErr result (T.spent on.old on.new) }
     {
         self.acts.clear();
-        self.text.clear();
         on.step(now, event, &mut self.acts)?;
         self.number += 1;
-        write_acts(self.number, self.acts.list(), &mut self.text)
+        Ok(())
+    }
+
+    /// Writes the entry of the last event.
+    fn write<K: Sink>(&mut self, sink: &mut K) -> Result<(), SinkError>
+        ensures ok { OnOk result (Takes (K.taken sink.old) (K.taken sink.new)
+            (entry_text self.old.number (act_list self.old.acts))) }
+        ensures front { TakesFront (K.taken sink.old) (K.taken sink.new)
+            (entry_text self.old.number (act_list self.old.acts)) }
+        ensures number { self.new.number ≡ self.old.number }
+        ensures cause { HasSinkCause (K.faults sink.old) (K.faults sink.new) result }
+        ensures calm { OnOk result (K.faults sink.new ≡ K.faults sink.old) }
+        ensures no_fault { IsErrOf result SinkError.NoMemory
+            → K.faults sink.new ≡ K.faults sink.old }
+    {
+        self.text.clear();
+        write_acts(self.number, self.acts.list(), &mut self.text)?;
+        write_all(sink, self.text.as_slice())
     }
 }

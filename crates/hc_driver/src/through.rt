@@ -18,12 +18,12 @@ const PIECE: usize = 16_384;
 /// Reads a schedule from this moment on, in seconds since 1970, steps its events as soon as their
 /// items are whole, and writes the report of each before the next one is stepped.
 ///
-/// At Done the whole text is a schedule. At Refused the text is refused by the grammar at that line,
-/// which ends in the last 16,384 bytes that were read, and the report is that of the events before it.
-/// At SourceFailed no line of what was read is refused, and the report is that of the events whose
-/// items are whole in it. At SinkFailed the report of all events that were stepped but the last is
-/// written, and some first part of the last one's; at NoMemory that of some first events. WireFailed
-/// never comes.
+/// At Done the whole text is a schedule. At Refused the text is refused by the grammar at that
+/// line, which ends in the last 16,384 bytes that were read, and the report is that of the events
+/// before it. At SourceFailed no line of what was read is refused, and the report is that of the
+/// events whose items are whole in it. At SinkFailed the report of all events that were stepped but
+/// the last is written, and some first part of the last one's. At NoMemory it is so too, or a step
+/// was refused memory and the report of all events before it is written. WireFailed never comes.
 pub fn step_through<T: Stepper, S: Source, K: Sink>(
     alloc: Global,
     moment: u64,
@@ -34,8 +34,8 @@ pub fn step_through<T: Stepper, S: Source, K: Sink>(
     requires small { moment < 2 ^ 62 }
     requires later { T.moment on.old ≤ moment }
     requires new { T.steps on.old + T.received on.old ≡ 0 }
-    ensures ends { Ends T.answers on.old on.new moment (S.left source.old) (S.left source.new)
-        (K.taken sink.old) (K.taken sink.new) result }
+    ensures ends { Ends T.answers T.spent on.old on.new moment
+        (S.left source.old) (S.left source.new) (K.taken sink.old) (K.taken sink.new) result }
 
     // A fault comes only where one was counted, and none is counted where none comes.
     ensures source { result ≡ ended.SourceFailed
@@ -62,8 +62,9 @@ fn run<T: Stepper, S: Source, K: Sink>(
     requires small { moment < 2 ^ 62 }
     requires later { T.moment on.old ≤ moment }
     requires new { T.steps on.old + T.received on.old ≡ 0 }
-    ensures ends { Ends T.answers on.old on.new moment (S.left source.old) (S.left source.new)
-        (K.taken sink.old) (K.taken sink.new) (ended_as result) }
+    ensures ends { Ends T.answers T.spent on.old on.new moment
+        (S.left source.old) (S.left source.new) (K.taken sink.old) (K.taken sink.new)
+        (ended_as result) }
     ensures source { IsErrOf result Stop.SourceFailed
         → HasRisen (S.faults source.old) (S.faults source.new) }
     ensures source_calm { ended_as result ≢ ended.SourceFailed

@@ -26,6 +26,9 @@ pub trait Stepper {
     /// The event was answered at a moment by these acts, and led from the one to the other.
     ghost answers: { Self → ℕ → Event → List Act → Self → Type 0 };
 
+    /// A step for which memory was refused led from the one to the other.
+    ghost spent: { Self → Self → Type 0 };
+
     /// Answers an event at a moment, in seconds since 1970: its acts are appended. Where memory is
     /// refused the acts are as before. No moment and no event is larger than those that a schedule
     /// can spell, and who starts has a number below 2^62 and asks for a target.
@@ -41,5 +44,6 @@ pub trait Stepper {
         ensures steps { OnOk result (steps self.new ≡ steps self.old + 1) }
         ensures received { OnOk result
             (received self.new ≡ received self.old + received_in event.now) }
-        ensures kept { OnErr result (act_list out.new ≡ act_list out.old) };
+        ensures kept { OnErr result (act_list out.new ≡ act_list out.old) }
+        ensures spent { OnErr result (spent self.old self.new) };
 }

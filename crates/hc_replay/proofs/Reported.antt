@@ -1,5 +1,10 @@
 -- What was stepped and reported is a run, and its report.
-use Rattle.std.proofs.Common.{◌≡◌, ℕ, ◌+◌, ◌≤◌, List, [], Option, Some, None, refl, ap, sym, ◌∙◌, subst, arith}
+--
+-- A step takes each history that the cache stands for to that history with one entry more. So a new cache
+-- comes to stand for all that was stepped (`leads_stand`), over the same limits, and that is a run
+-- (`whole_run`). In each run consumers read whole, by a law. The endings are those of the loop, one by one
+-- (`replays_all`). A text that spells items is read as it is spelled, so it isn't refused (`completes`).
+use Rattle.std.proofs.Common.{◌≡◌, ℕ, ◌+◌, ◌≤◌, List, [], true, Option, Some, None, refl, ap, sym, ◌∙◌, subst, arith}
 use Rattle.hc_io.specs.Source.{Gives, GivesAll}
 use Rattle.hc_store.specs.declared.backend.Backend.{Ghosts}
 use Rattle.hc_event.specs.declared.act.Act.{Act}
@@ -14,14 +19,14 @@ use Rattle.hc_sched.proofs.OneReading.{is_read, is_spelled}
 use Rattle.hc_driver.specs.Endings as endings
 use Rattle.hc_driver.specs.Endings.{Ends, IsRefused, events_from}
 use Rattle.hc_driver.specs.Stepping as steps
-use Rattle.hc_driver.specs.Stepping.{Leads, nothing, more, Steps, StepsSome}
+use Rattle.hc_driver.specs.Stepping.{Leads, nothing, more, Steps, StepsSome, between, within}
 use Rattle.hc_model.specs.Entries.{no_contents}
 use Rattle.hc_model.specs.Runs.{IsRun}
 use Rattle.hc_model.specs.Tables.{tables}
 use Rattle.hc_model.proofs.Basics.{some_none}
 use Rattle.hc_laws.proofs.ReadWhole.{runs_read_whole}
 use Rattle.hc_core.specs.declared.cache.Cache.{Cache}
-use Rattle.hc_core.specs.Steps.{StandsFor, Answers, limits_in, faults_in, last_moment}
+use Rattle.hc_core.specs.Steps.{StandsFor, Answers, has_failed, limits_in, faults_in, last_moment}
 use Rattle.hc_model.specs.Flaws.{failures_in}
 use Rattle.hc_replay.specs.Replays as replays
 use Rattle.hc_replay.specs.Replays.{IsWholeRun, ReportsAll, ReportsSome, Replays, Completes}
@@ -36,6 +41,10 @@ module _ {B : Type 0} {g : Ghosts B} where
   -- how a cache answers
   abbrev answers : Cache B g → ℕ → Event → List Act → Cache B g → Type 0
   answers s now event acts u = Answers s u now event acts
+
+  -- what a step leaves that is refused memory
+  abbrev spent : Cache B g → Cache B g → Type 0
+  spent s u = has_failed u ≡ true
 
   leads_stand : (s u : Cache B g) (h : steps.History) → StandsFor s no_contents [] → Leads answers s h u → StandsFor u no_contents (run_of h)
   leads_stand s _ _ new nothing = new
@@ -83,7 +92,7 @@ module _ {B : Type 0} {g : Ghosts B} where
         counted = leads_counted s u f.history f.leads;
       }
 
-  pub replays_all : (s u : Cache B g) (left left' out out' : Option (List ℕ)) (ended : Ended) → StandsFor s no_contents [] → Ends answers s u 0 left left' out out' ended → Replays s u left left' out out' ended
+  pub replays_all : (s u : Cache B g) (left left' out out' : Option (List ℕ)) (ended : Ended) → StandsFor s no_contents [] → Ends answers spent s u 0 left left' out out' ended → Replays s u left left' out out' ended
   replays_all s u left left' out out' _ new (endings.done text gives none steps) =
       let spelled = is_spelled 0 text none in
       let same = (is_read 0 text spelled.0 spelled.1).1 in
@@ -92,7 +101,9 @@ module _ {B : Type 0} {g : Ghosts B} where
   replays_all s u left left' out out' _ new (endings.cut_short text r gives unrefused is steps) = replays.cut_short text r gives unrefused is (reports_all s u (events_from 0 text) out out' new steps)
   replays_all s u left left' out out' _ new (endings.unreadable text gives unrefused steps) = replays.unreadable text gives unrefused (reports_all s u (events_from 0 text) out out' new steps)
   replays_all s u left left' out out' _ new (endings.unwritten text gives steps) = replays.unwritten text gives (reports_some s u (events_from 0 text) out out' new steps)
-  replays_all s u left left' out out' _ new (endings.wanting text gives steps) = replays.wanting text steps.0 gives (reports_some s steps.0 (events_from 0 text) out out' new steps.1)
+  replays_all s u left left' out out' _ new (endings.wanting text gives (between steps)) = replays.wanting text gives (reports_some s u (events_from 0 text) out out' new steps)
+  replays_all s u left left' out out' _ new (endings.wanting text gives (within first rest next last whole steps led)) =
+      replays.spent text first rest next last gives whole (reports_all s last first out out' new steps) led
 
 -- COMPLETENESS
 
@@ -118,10 +129,10 @@ none_complete (Some text) ended.WireFailed off = tt
 none_complete None ended.NoMemory off = tt
 none_complete (Some text) ended.NoMemory off = tt
 
-pub completes_all : {A : Type 0} (answers : A → ℕ → Event → List Act → A → Type 0) (s u : A) (left left' out out' : Option (List ℕ)) (e : Ended) → Ends answers s u 0 left left' out out' e → Completes left e
-completes_all answers s u left left' out out' _ (endings.refused text r gives is steps) = completes left left' text r gives is.refuses
-completes_all answers s u left left' out out' _ (endings.cut_short text r gives unrefused is steps) = completes_short left left' text r gives is
-completes_all answers s u left left' out out' _ (endings.done text gives none steps) = none_complete left ended.Done (λ r h. cc)
-completes_all answers s u left left' out out' _ (endings.unreadable text gives unrefused steps) = none_complete left ended.SourceFailed (λ r h. cc)
-completes_all answers s u left left' out out' _ (endings.unwritten text gives steps) = none_complete left ended.SinkFailed (λ r h. cc)
-completes_all answers s u left left' out out' _ (endings.wanting text gives steps) = none_complete left ended.NoMemory (λ r h. cc)
+pub completes_all : {A : Type 0} (answers : A → ℕ → Event → List Act → A → Type 0) (spent : A → A → Type 0) (s u : A) (left left' out out' : Option (List ℕ)) (e : Ended) → Ends answers spent s u 0 left left' out out' e → Completes left e
+completes_all answers spent s u left left' out out' _ (endings.refused text r gives is steps) = completes left left' text r gives is.refuses
+completes_all answers spent s u left left' out out' _ (endings.cut_short text r gives unrefused is steps) = completes_short left left' text r gives is
+completes_all answers spent s u left left' out out' _ (endings.done text gives none steps) = none_complete left ended.Done (λ r h. cc)
+completes_all answers spent s u left left' out out' _ (endings.unreadable text gives unrefused steps) = none_complete left ended.SourceFailed (λ r h. cc)
+completes_all answers spent s u left left' out out' _ (endings.unwritten text gives steps) = none_complete left ended.SinkFailed (λ r h. cc)
+completes_all answers spent s u left left' out out' _ (endings.wanting text gives steps) = none_complete left ended.NoMemory (λ r h. cc)

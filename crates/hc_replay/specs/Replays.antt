@@ -1,5 +1,5 @@
 -- What came of a schedule that was replayed: its events are a run, and the report of that was taken.
-use Rattle.std.specs.Prelude.{◌≡◌, ℕ, ◌+◌, ◌≤◌, List, ◌++◌, Option, Some}
+use Rattle.std.specs.Prelude.{◌≡◌, ℕ, ◌+◌, ◌≤◌, List, ◌∷◌, ◌++◌, true, Option, Some}
 use Rattle.hc_store.specs.declared.backend.Backend.{Ghosts}
 use Rattle.hc_io.specs.Sink.{Takes}
 use Rattle.hc_io.specs.Source.{Gives, GivesAll}
@@ -16,7 +16,7 @@ use Rattle.hc_model.specs.Entries.{no_contents}
 use Rattle.hc_model.specs.Reads.{ReadsWhole}
 use Rattle.hc_model.specs.Runs.{IsRun}
 use Rattle.hc_core.specs.declared.cache.Cache.{Cache}
-use Rattle.hc_core.specs.Steps.{StandsFor, limits_in, faults_in}
+use Rattle.hc_core.specs.Steps.{StandsFor, has_failed, limits_in, faults_in}
 use Rattle.hc_replay.specs.Histories.{run_of, failures}
 
 -- THE RUN
@@ -68,7 +68,12 @@ pub data Replays {B : Type 0} {g : Ghosts B} (s u : Cache B g) (left left' out o
   -- some first events of what was read were stepped; the report of all but the last was taken, and a part of the last one's
   unwritten : (text : List ℕ) → Gives left left' text → ReportsSome s u (events_from 0 text) out out' →
       Replays s u left left' out out' ended.SinkFailed
-  wanting : (text : List ℕ) (last : Cache B g) → Gives left left' text → ReportsSome s last (events_from 0 text) out out' →
+  -- memory was refused outside of the steps, and the same holds
+  wanting : (text : List ℕ) → Gives left left' text → ReportsSome s u (events_from 0 text) out out' →
+      Replays s u left left' out out' ended.NoMemory
+  -- a step was refused memory, behind the whole report of those before, and each later one will be
+  spent : (text : List ℕ) (first rest : List Timed) (next : Timed) (last : Cache B g) → Gives left left' text →
+      first ++ next ∷ rest ≡ events_from 0 text → ReportsAll s last first out out' → has_failed u ≡ true →
       Replays s u left left' out out' ended.NoMemory
 
 -- A text that spells items, all of which was left, isn't refused.

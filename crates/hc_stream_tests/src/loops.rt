@@ -26,6 +26,8 @@ impl Stepper for Echo {
 
     ghost answers = { λ _ _ _ _ _. ⊤ };
 
+    ghost spent = { λ _ _. ⊤ };
+
     fn step(&mut self, now: u64, event: &Event, out: &mut Acts) -> Result<(), NoMemory> {
         if let Event::Poll { c, .. } = event {
             out.push(Act::Ended { c: *c })?;

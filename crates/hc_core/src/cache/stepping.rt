@@ -1,4 +1,6 @@
 //! A cache answers events, one after another.
+ghost use Rattle.std.specs.Prelude.{◌≡◌, true};
+
 use crate::cache::Cache;
 use hc_event::{Acts, Event, Stepper};
 use hc_store::Backend;
@@ -15,6 +17,9 @@ impl<B: Backend> Stepper for Cache<B> {
     ghost received = { λ s. core.bytes_received s };
 
     ghost answers = { λ s now event acts u. Answers s u now event acts };
+
+    // Each later step is refused too.
+    ghost spent = { λ _ u. core.has_failed u ≡ true };
 
     fn step(&mut self, now: u64, event: &Event, out: &mut Acts) -> Result<(), NoMemory> {
         self.step(now, event, out)

@@ -1,3 +1,4 @@
 pub mod LogLemmas
 pub mod FollowLemmas
 pub mod StallLemmas
+pub mod PlayLemmas

@@ -1,13 +1,18 @@
 -- Connections by number, and what an event says of them.
-use Rattle.std.specs.Prelude.{◌≡◌, ℕ, ◌==◌, ◌<◌, ◌≤◌, ⊤, List, [], take, if◌then◌else◌}
+use Rattle.std.specs.Prelude.{◌≡◌, ℕ, ◌==◌, ◌<◌, ◌≤◌, ⊤, Bool, true, false, List, [], take, if◌then◌else◌}
 use Rattle.hc_wire.specs.declared.event.WireEvent.{WireEvent}
 use Rattle.hc_wire.specs.declared.event.WireEvent.TheVariants as event
 
--- a number wasn't handed out yet, is that of an open connection, or of one that is closed
+-- A number wasn't handed out yet, is that of an open connection, or of one that is closed. Of an open one: whether its
+-- reading is on, and whether its end was handed out.
 pub data Stage : Type 0 where
   Unseen : Stage
-  Open : Stage
+  Open : (reads ended : Bool) → Stage
   Closed : Stage
+
+-- a new connection
+abbrev pub Fresh : Stage
+Fresh = Open true false
 
 -- one connection is so now
 abbrev pub with_stage : ℕ → Stage → (ℕ → Stage) → ℕ → Stage
@@ -15,25 +20,48 @@ with_stage k stage stages j = if j == k then stage else stages j
 
 abbrev pub closed_of : Stage → Stage
 closed_of Unseen = Unseen
-closed_of Open = Closed
+closed_of (Open reads ended) = Closed
 closed_of Closed = Closed
 
--- a new connection is open
+abbrev pub reading_of : Bool → Stage → Stage
+reading_of on Unseen = Unseen
+reading_of on (Open reads ended) = Open on ended
+reading_of on Closed = Closed
+
+abbrev pub ended_of : Stage → Stage
+ended_of Unseen = Unseen
+ended_of (Open reads ended) = Open reads true
+ended_of Closed = Closed
+
+-- a new connection is open, and one that ended is so
 abbrev pub stages_after : WireEvent → (ℕ → Stage) → ℕ → Stage
-stages_after (event.Accepted k) stages j = with_stage k Open stages j
+stages_after (event.Accepted k) stages j = with_stage k Fresh stages j
 stages_after (event.Got k n) stages j = stages j
-stages_after (event.Ended k) stages j = stages j
+stages_after (event.Ended k) stages j = with_stage k (ended_of (stages k)) stages j
 stages_after (event.Broke k) stages j = stages j
 stages_after (event.Room k) stages j = stages j
 stages_after event.Quiet stages j = stages j
 
--- An accepted connection is a new one, and every other event but Quiet is of one that is open.
+-- it is open
+abbrev pub IsOpen : Stage → Type 0
+IsOpen Unseen = ⊥
+IsOpen (Open reads ended) = ⊤
+IsOpen Closed = ⊥
+
+-- it is open, and its end wasn't handed out
+abbrev pub IsUnended : Stage → Type 0
+IsUnended Unseen = ⊥
+IsUnended (Open reads ended) = ended ≡ false
+IsUnended Closed = ⊥
+
+-- An accepted connection is a new one, and every other event but Quiet is of one that is open. Bytes are got of one whose
+-- reading is on, and nothing behind its end, which comes once.
 abbrev pub IsOfOpen : WireEvent → (ℕ → Stage) → Type 0
 IsOfOpen (event.Accepted k) stages = stages k ≡ Unseen
-IsOfOpen (event.Got k n) stages = stages k ≡ Open
-IsOfOpen (event.Ended k) stages = stages k ≡ Open
-IsOfOpen (event.Broke k) stages = stages k ≡ Open
-IsOfOpen (event.Room k) stages = stages k ≡ Open
+IsOfOpen (event.Got k n) stages = stages k ≡ Open true false
+IsOfOpen (event.Ended k) stages = IsUnended (stages k)
+IsOfOpen (event.Broke k) stages = IsOpen (stages k)
+IsOfOpen (event.Room k) stages = IsOpen (stages k)
 IsOfOpen event.Quiet stages = ⊤
 
 -- what is got is some bytes, and fits

@@ -15,26 +15,33 @@ abbrev pub live_from : Option Taker → Bool
 live_from None = false
 live_from (Some c) = c.live
 
+abbrev pub unended_from : Option Taker → Bool
+unended_from None = false
+unended_from (Some c) = c.live && not c.ended
+
 abbrev pub reads_from : Option Taker → Bool
 reads_from None = false
 reads_from (Some c) = c.reads
 
--- a number was handed out; its connection is open; its reading is on
+-- a number was handed out; its connection is open; that, and its end wasn't handed out; its reading is on
 abbrev pub is_seen : List Taker → ℕ → Bool
 is_seen cs k = seen_from (find (is_numbered k) cs)
 
 abbrev pub is_live : List Taker → ℕ → Bool
 is_live cs k = live_from (find (is_numbered k) cs)
 
+abbrev pub is_unended : List Taker → ℕ → Bool
+is_unended cs k = unended_from (find (is_numbered k) cs)
+
 abbrev pub is_reading : List Taker → ℕ → Bool
 is_reading cs k = reads_from (find (is_numbered k) cs)
 
--- An event is passed over that is of a connection which isn't open, an `Accepted` of a number that was handed out before,
--- and a `Got` whose bytes were all handed out.
+-- An event is passed over that is of a connection which isn't open, a `Got` and an `Ended` behind its end, an `Accepted` of a
+-- number that was handed out before, and a `Got` whose bytes were all handed out.
 abbrev pub is_past : List Taker → ℕ → WireEvent → ℕ → Bool
 is_past cs off (event.Accepted k) len = is_seen cs k
-is_past cs off (event.Got k n) len = not (is_live cs k && nat_lt off len)
-is_past cs off (event.Ended k) len = not (is_live cs k)
+is_past cs off (event.Got k n) len = not (is_unended cs k && nat_lt off len)
+is_past cs off (event.Ended k) len = not (is_unended cs k)
 is_past cs off (event.Broke k) len = not (is_live cs k)
 is_past cs off (event.Room k) len = not (is_live cs k)
 is_past cs off event.Quiet len = false
@@ -98,6 +105,14 @@ is_stall_of k stall = stall.k == k
 abbrev pub room_in : List Stall → ℕ → ℕ → ℕ
 room_in stalls k len = room_from (find (is_stall_of k) stalls) len
 
+-- so many bytes of a stall are used up, and those of the first of a connection
+abbrev pub used : ℕ → Stall → Stall
+used n stall = record stall { left = stall.left - n }
+
+abbrev pub used_at : ℕ → ℕ → List Stall → List Stall
+used_at k n [] = []
+used_at k n (stall ∷ stalls) = if stall.k == k then used n stall ∷ stalls else stall ∷ used_at k n stalls
+
 -- the call with this number is to fail
 abbrev pub is_listed : ℕ → List ℕ → Bool
 is_listed n fails = list_any (λ (m : ℕ). m == n) fails
@@ -127,3 +142,12 @@ behind_event (event.Ended k) left = behind_first left.items left.off
 behind_event (event.Broke k) left = behind_first left.items left.off
 behind_event (event.Room k) left = behind_first left.items left.off
 behind_event event.Quiet left = if begins_quiet left.items then behind_first left.items left.off else left
+
+-- this is the room of a connection
+abbrev pub is_room : ℕ → WireEvent → Bool
+is_room k (event.Accepted j) = false
+is_room k (event.Got j n) = false
+is_room k (event.Ended j) = false
+is_room k (event.Broke j) = false
+is_room k (event.Room j) = j == k
+is_room k event.Quiet = false

@@ -4,3 +4,4 @@ pub mod Scripts
 pub mod Following
 pub mod Wires
 pub mod Stalls
+pub mod Plays

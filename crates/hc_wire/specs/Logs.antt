@@ -7,12 +7,13 @@ use Rattle.hc_wire.specs.declared.connection.Binding.{Binding}
 use Rattle.hc_wire.specs.declared.connection.Standing.{Standing}
 use Rattle.hc_wire.specs.Events.{Stage, Unseen, Open, Closed}
 
--- A connection: its number, the bytes that it has taken, whether its reading is on, after how many events it last took less
--- than it was offered, and whether it is open.
+-- A connection: its number, the bytes that it has taken, whether its reading is on, whether its end was handed out, after how
+-- many events it last took less than it was offered, and whether it is open.
 pub record Taker : Type 0 where
   pub k : ℕ
   pub sent : List ℕ
   pub reads : Bool
+  pub ended : Bool
   pub short : Option ℕ
   pub live : Bool
 
@@ -37,10 +38,10 @@ empty_log = record { bound = []; calls = []; dialled = []; takers = [] }
 
 -- a new connection
 abbrev pub fresh : ℕ → Taker
-fresh k = record { k = k; sent = []; reads = true; short = None; live = true }
+fresh k = record { k = k; sent = []; reads = true; ended = false; short = None; live = true }
 
 abbrev pub stage_of : Taker → Stage
-stage_of c = if c.live then Open else Closed
+stage_of c = if c.live then Open c.reads c.ended else Closed
 
 abbrev pub is_numbered : ℕ → Taker → Bool
 is_numbered k c = c.k == k
@@ -79,10 +80,13 @@ is_taking c = c.live
 abbrev pub standings_in : Log → List Standing
 standings_in log = map (standing_of (length log.calls)) (filter is_taking log.takers)
 
+abbrev pub over : Taker → Taker
+over c = record c { ended = true }
+
 abbrev pub takers_with : WireEvent → List Taker → List Taker
 takers_with (event.Accepted k) cs = cs ++ fresh k ∷ []
 takers_with (event.Got k n) cs = cs
-takers_with (event.Ended k) cs = cs
+takers_with (event.Ended k) cs = changed_at k over cs
 takers_with (event.Broke k) cs = cs
 takers_with (event.Room k) cs = cs
 takers_with event.Quiet cs = cs

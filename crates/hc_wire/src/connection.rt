@@ -1,9 +1,9 @@
 //! What a wire in memory keeps of its connections and its calls.
 ghost use Rattle.std.specs.Prelude.{◌≡◌, ◌+◌, ◌<◌, ◌≤◌, ℕ, true, false, map, filter, position, find, ◌==◌, vec_len, vec_capacity, IfOk, OnOk, OnErr};
 ghost use Rattle.std.specs.Option.{option_copied};
-ghost use Rattle.hc_wire.specs.Events.{Unseen, Open};
-ghost use Rattle.hc_wire.specs.Following.{is_seen, is_live, is_reading};
-ghost use Rattle.hc_wire.specs.Logs.{is_numbered, fresh, stage_in, changed_at, reading, shut, taking, takers_with, standing_of, is_taking};
+ghost use Rattle.hc_wire.specs.Events.{Unseen, Open, IsOpen, IsUnended};
+ghost use Rattle.hc_wire.specs.Following.{is_seen, is_live, is_unended, is_reading};
+ghost use Rattle.hc_wire.specs.Logs.{is_numbered, fresh, stage_in, changed_at, reading, shut, over, taking, takers_with, standing_of, is_taking};
 
 use crate::event::{Address, WireEvent};
 use std::alloc::{AllocError, Global};
@@ -24,6 +24,8 @@ pub(crate) struct Connection {
     pub(crate) sent: Vec<u8>,
     /// Whether its reading is on.
     pub(crate) reads: bool,
+    /// Whether its end was handed out.
+    pub(crate) ended: bool,
     /// After how many events it last took less than it was offered.
     pub(crate) short: Option<usize>,
     /// It isn't closed.
@@ -39,6 +41,7 @@ impl Model for Connection {
       k = c.k;
       sent = c.sent.items;
       reads = c.reads;
+      ended = c.ended;
       short = c.short;
       live = c.live;
     } };
@@ -89,6 +92,7 @@ impl Connection {
             k,
             sent: Vec::new(alloc),
             reads: true,
+            ended: false,
             short: None,
             live: true,
         }
@@ -110,6 +114,12 @@ impl Connection {
         ensures { self.new ≡ reading on self.old }
     {
         self.reads = on;
+    }
+
+    fn end(&mut self)
+        ensures { self.new ≡ over self.old }
+    {
+        self.ended = true;
     }
 
     fn shut(&mut self)
@@ -149,7 +159,7 @@ pub(crate) fn is_seen(connections: &[Connection], k: u64) -> bool
 /// Whether the connection is open.
 pub(crate) fn is_open(connections: &[Connection], k: u64) -> bool
     ensures value { result ≡ is_live connections.now k }
-    ensures open { result ≡ true → stage_in connections.now k ≡ Open }
+    ensures open { result ≡ true → IsOpen (stage_in connections.now k) }
 {
     match found(connections, k) {
         Some(c) => c.live,
@@ -157,9 +167,22 @@ pub(crate) fn is_open(connections: &[Connection], k: u64) -> bool
     }
 }
 
+/// Whether the connection is open, and its end wasn't handed out.
+pub(crate) fn is_unended(connections: &[Connection], k: u64) -> bool
+    ensures value { result ≡ is_unended connections.now k }
+    ensures unended { result ≡ true → IsUnended (stage_in connections.now k) }
+{
+    match found(connections, k) {
+        Some(c) => c.live && !c.ended,
+        None => false,
+    }
+}
+
 /// Whether the connection's reading is on.
 pub(crate) fn is_read(connections: &[Connection], k: u64) -> bool
-    ensures { result ≡ is_reading connections.now k }
+    ensures value { result ≡ is_reading connections.now k }
+    ensures read { result ≡ true → is_unended connections.now k ≡ true
+        → stage_in connections.now k ≡ Open true false }
 {
     match found(connections, k) {
         Some(c) => c.reads,
@@ -185,7 +208,8 @@ pub(crate) fn standings(
 
 /// The greatest number that was handed out, or 0.
 pub(crate) fn greatest_in(connections: &[Connection]) -> u64
-    ensures { (k : ℕ) → result < k → stage_in connections.now k ≡ Unseen }
+    ensures above { (k : ℕ) → result < k → stage_in connections.now k ≡ Unseen }
+    ensures least { stage_in connections.now result ≡ Unseen → result ≡ 0 }
 {
     let mut greatest = 0;
     for c in connections {
@@ -194,13 +218,15 @@ pub(crate) fn greatest_in(connections: &[Connection]) -> u64
     greatest
 }
 
-/// A connection that is accepted is one more.
+/// A connection that is accepted is one more, and one whose end comes has ended.
 pub(crate) fn join_in(alloc: Global, connections: &mut Vec<Connection>, event: WireEvent)
     requires { vec_len connections.old < vec_capacity connections.old }
     ensures { connections.new.items ≡ takers_with event connections.old.items }
 {
-    if let WireEvent::Accepted(k) = event {
-        connections.push_reserved(Connection::new(alloc, k));
+    match event {
+        WireEvent::Accepted(k) => connections.push_reserved(Connection::new(alloc, k)),
+        WireEvent::Ended(k) => end_in(connections, k),
+        _ => {}
     }
 }
 
@@ -236,6 +262,15 @@ pub(crate) fn read_in(connections: &mut Vec<Connection>, k: u64, on: bool)
 {
     if let Some(at) = place_of(connections.as_slice(), k) {
         connections[at].read(on);
+    }
+}
+
+/// The connection's end was handed out.
+fn end_in(connections: &mut Vec<Connection>, k: u64)
+    ensures { connections.new.items ≡ changed_at k over connections.old.items }
+{
+    if let Some(at) = place_of(connections.as_slice(), k) {
+        connections[at].end();
     }
 }
 

@@ -1,15 +1,17 @@
 //! A wire that follows a script.
-ghost use Rattle.std.specs.Prelude.{◌≡◌, ◌+◌, ◌-◌, ◌<◌, ◌≤◌, ◌^◌, ℕ, List, Some, true, All, length, take, drop, find, min, IfSome, OnOk, OnErr, ◌==◌, vec_len, vec_capacity, if◌then◌else◌};
+ghost use Rattle.std.specs.Prelude.{◌≡◌, ◌+◌, ◌-◌, ◌<◌, ◌≤◌, ◌^◌, ℕ, List, Some, [], true, false, All, length, take, drop, find, position, nat_lt, min, IfOk, IfSome, OnOk, OnErr, IsErrOf, ◌==◌, vec_len, vec_capacity, if◌then◌else◌};
 ghost use Rattle.std.specs.Option.{option_copied};
-ghost use Rattle.hc_wire.specs.Events.{IsOfOpen, FitsIn, got_bytes};
-ghost use Rattle.hc_wire.specs.Logs.{stage_in, sent_in, empty_log};
+ghost use Rattle.std.specs.Result.{is_ok};
+ghost use Rattle.hc_wire.specs.declared.event.WireEvent.TheVariants.{Quiet};
+ghost use Rattle.hc_wire.specs.Events.{Unseen, Fresh, IsOpen, IsOfOpen, FitsIn, got_bytes, with_stage, closed_of, reading_of, stages_after};
+ghost use Rattle.hc_wire.specs.Logs.{Tells, stage_in, sent_in, empty_log, with_binding, with_call, with_dialled, with_sent, with_reading, with_closed};
 ghost use Rattle.hc_wire.specs.Scripts.{IsScript};
-ghost use Rattle.hc_wire.specs.Following.{behind_past, behind_event, behind_first, begins_quiet, left_at, coming, coming_of, bytes_left, is_listed, is_stall_of, room_in};
-ghost use Rattle.hc_wire.specs.Wires.{HasRisen};
+ghost use Rattle.hc_wire.specs.Following.{behind_past, behind_event, behind_first, begins_quiet, left_at, coming, coming_of, bytes_left, is_listed, is_room, is_stall_of, room_in, used, used_at};
+ghost use Rattle.hc_wire.specs.Wires.{HasRisen, HasWireCause};
 
 use crate::connection::{
-    Binding, Call, Connection, found, greatest_in, is_open, is_read, is_seen, join_in, read_in,
-    shut_in, standings, take_in,
+    Binding, Call, Connection, found, greatest_in, is_open, is_read, is_seen, is_unended, join_in,
+    read_in, shut_in, standings, take_in,
 };
 use crate::event::{Address, WireError, WireEvent};
 use crate::scripted::Scripted;
@@ -22,6 +24,24 @@ use std::alloc::Global;
 struct Stall {
     k: u64,
     left: usize,
+}
+
+impl Stall {
+    /// It takes so many bytes less.
+    fn use_up(&mut self, n: usize)
+        ensures { self.new ≡ used n self.old }
+    {
+        self.left = self.left.saturating_sub(n);
+    }
+}
+
+/// What is due, and where the script stands then.
+#[derive(Clone, Copy)]
+struct Due {
+    moment: u64,
+    event: WireEvent,
+    at: usize,
+    off: usize,
 }
 
 /// Hands out the events of a script, fails at listed calls, and keeps what it was sent.
@@ -49,13 +69,23 @@ pub struct ScriptWire {
 }
 
 impl ScriptWire {
+    ghost use Rattle.hc_wire.specs.Plays.{script_left, script_due, script_next};
     ghost use Rattle.hc_wire.specs.Stalls.{room_of};
 
     /// Follows the script, and fails at the listed calls, counted from 1 over `bind`, `next`, `dial` and
     /// `send` together.
     pub fn new(alloc: Global, script: Vec<Scripted>, fails: Vec<u64>) -> ScriptWire
         requires { IsScript script.items }
-        ensures { ⟦<ScriptWire as Wire>⟧.log result ≡ Some empty_log }
+        ensures log { ⟦<ScriptWire as Wire>⟧.log result ≡ Some empty_log }
+        ensures shut { (k : ℕ) → IsOpen (⟦<ScriptWire as Wire>⟧.stages result k) → ⊥ }
+
+        // It begins with the script's first event and the first call, at the moment 0.
+        ensures script { result.script ≡ script }
+        ensures left { script_left result ≡ record { items = script.items; off = 0 } }
+        ensures moment { result.moment ≡ 0 }
+        ensures fails { result.fails ≡ fails }
+        ensures count { result.count ≡ 0 }
+        ensures unstalled { result.stalls.items ≡ [] }
     {
         ScriptWire {
             alloc,
@@ -91,6 +121,7 @@ impl ScriptWire {
         ensures ok { OnOk result ((j len : ℕ) → room_of self.new j len
             ≡ (if k == j then min after len else room_of self.old j len)) }
         ensures err { OnErr result ((j len : ℕ) → room_of self.new j len ≡ room_of self.old j len) }
+        ensures kept { self.new ≡ record self.old { stalls = self.new.stalls } }
     {
         self.stalls.reserve(1)?;
         stall_in(&mut self.stalls, Stall { k, left: after });
@@ -118,40 +149,50 @@ impl ScriptWire {
         WireError::WireFailed
     }
 
-    /// What is due: the moment and the event. The bytes of a `Got` are copied into the slice. Events of
+    /// What is due, and where in the script. The bytes of a `Got` are copied into the slice. Events of
     /// connections that aren't open are passed over.
-    fn due(&mut self, into: &mut [u8]) -> (u64, WireEvent)
+    fn due(&self, into: &mut [u8]) -> Due
         requires { 0 < length into.old }
-        ensures value { result ≡ coming self.old.connections.items self.old.moment
-            (length into.old) (left_at self.new.script.items self.new.at self.new.off) }
-        ensures bytes { got_bytes result.1 into.new ≡ got_bytes result.1
-            (bytes_left (left_at self.new.script.items self.new.at self.new.off)) }
-        ensures left { left_at self.new.script.items self.new.at self.new.off
-            ≡ behind_past self.old.connections.items
-            (drop self.old.at self.old.script.items) self.old.off }
-        ensures moment { result.0 < 2 ^ 62 }
-        ensures of_open { IsOfOpen result.1 (stage_in self.old.connections.items) }
-        ensures fits { FitsIn result.1 (length into.old) }
-        ensures kept { self.new ≡ record self.old { at = self.new.at; off = self.new.off } }
+        ensures place { left_at self.now.script.items result.at result.off ≡ script_due self.now }
+        ensures moment_is { result.moment ≡ (script_next self.now (length into.old)).0 }
+        ensures event { result.event ≡ (script_next self.now (length into.old)).1 }
+        ensures bytes { got_bytes result.event into.new
+            ≡ got_bytes result.event (bytes_left (script_due self.now)) }
+        ensures moment { result.moment < 2 ^ 62 }
+        ensures of_open { IsOfOpen result.event (stage_in self.now.connections.items) }
+        ensures fits { FitsIn result.event (length into.old) }
     {
-        while self.at < self.script.len() {
-            if let Some(due) = self.due_of(&self.script[self.at], into) {
-                return due;
+        let mut at = self.at;
+        let mut off = self.off;
+        while at < self.script.len() {
+            if let Some((moment, event)) = self.due_of(&self.script[at], off, into) {
+                return Due {
+                    moment,
+                    event,
+                    at,
+                    off,
+                };
             }
-            self.at += 1;
-            self.off = 0;
+            at += 1;
+            off = 0;
         }
-        (self.moment, WireEvent::Quiet)
+        Due {
+            moment: self.moment,
+            event: WireEvent::Quiet,
+            at,
+            off,
+        }
     }
 
-    /// The same of one event of the script; None where it is passed over.
-    fn due_of(&self, item: &Scripted, into: &mut [u8]) -> Option<(u64, WireEvent)>
+    /// The same of one event of the script, of whose bytes so many were handed out; None where it is
+    /// passed over.
+    fn due_of(&self, item: &Scripted, off: usize, into: &mut [u8]) -> Option<(u64, WireEvent)>
         requires some { 0 < length into.old }
         requires early { item.now.moment < 2 ^ 62 }
         ensures value { result ≡ coming_of self.now.connections.items self.now.moment
-            (length into.old) self.now.off item.now }
+            (length into.old) off item.now }
         ensures bytes { IfSome result
-            (λ p. got_bytes p.1 into.new ≡ got_bytes p.1 (drop self.now.off item.now.bytes)) }
+            (λ p. got_bytes p.1 into.new ≡ got_bytes p.1 (drop off item.now.bytes)) }
         ensures moment { IfSome result (λ p. p.0 < 2 ^ 62) }
         ensures of_open { IfSome result
             (λ p. IsOfOpen p.1 (stage_in self.now.connections.items)) }
@@ -160,17 +201,19 @@ impl ScriptWire {
         let event = match item.event {
             WireEvent::Quiet => WireEvent::Quiet,
             WireEvent::Accepted(k) if !is_seen(self.connections.as_slice(), k) => item.event,
-            WireEvent::Got(k, _) if is_open(self.connections.as_slice(), k) => {
-                if self.off >= item.bytes.bytes.len() {
+            WireEvent::Got(k, _) if is_unended(self.connections.as_slice(), k) => {
+                if off >= item.bytes.bytes.len() {
                     return None;
                 }
                 if !is_read(self.connections.as_slice(), k) {
                     return Some((self.moment, WireEvent::Quiet));
                 }
-                WireEvent::Got(k, copy_rest(item.bytes.bytes.as_slice(), self.off, into))
+                WireEvent::Got(k, copy_rest(item.bytes.bytes.as_slice(), off, into))
             }
-            WireEvent::Ended(k) | WireEvent::Broke(k) | WireEvent::Room(k)
-                if is_open(self.connections.as_slice(), k) => { item.event }
+            WireEvent::Ended(k) if is_unended(self.connections.as_slice(), k) => item.event,
+            WireEvent::Broke(k) | WireEvent::Room(k) if is_open(self.connections.as_slice(), k) => {
+                item.event
+            }
             _ => return None,
         };
         Some((item.moment, event))
@@ -213,20 +256,33 @@ impl ScriptWire {
 }
 
 impl Wire for ScriptWire {
+    ghost use Rattle.hc_wire.specs.Plays.{IsIdle, HandsOut, UsesUp, FailsAsListed, IsNextNumber, KeepsScript, told};
+    ghost use Rattle.hc_wire.specs.Stalls.{room_of};
+
     ghost faults = { λ w. w.failed };
 
     ghost events = { λ w. length w.calls.items };
 
     ghost stages = { λ w. stage_in w.connections.items };
 
-    ghost log = { λ w. Some (record {
-      bound = w.bound.items;
-      calls = w.calls.items;
-      dialled = w.dialled.items;
-      takers = w.connections.items;
-    }) };
+    ghost log = { told };
 
-    fn bind(&mut self, listen: Option<Address>, origin: Option<Address>) -> Result<(), WireError> {
+    ghost idle = { IsIdle };
+
+    fn bind(&mut self, listen: Option<Address>, origin: Option<Address>) -> Result<(), WireError>
+        ensures stages { (k : ℕ) → stage_in self.new.connections.items k
+            ≡ stage_in self.old.connections.items k }
+        ensures events { length self.new.calls.items ≡ length self.old.calls.items }
+        ensures ok { OnOk result
+            (Tells (told self.old) (told self.new) (with_binding listen origin)) }
+        ensures err { OnErr result (told self.new ≡ told self.old) }
+        ensures cause { HasWireCause self.old.failed self.new.failed result }
+
+        // It fails exactly where it is listed, and the script stays.
+        ensures as_listed { FailsAsListed self.old self.new ⊥ result }
+        ensures keeps { KeepsScript self.old self.new }
+        ensures stalls { self.new.stalls ≡ self.old.stalls }
+    {
         if self.is_failing() {
             return Err(self.fail());
         }
@@ -234,11 +290,38 @@ impl Wire for ScriptWire {
         Ok(())
     }
 
-    fn next(&mut self, wait: bool, into: &mut [u8]) -> Result<(u64, WireEvent), WireError> {
+    fn next(&mut self, wait: bool, into: &mut [u8]) -> Result<(u64, WireEvent), WireError>
+        requires { 0 < length into.old }
+        ensures moment { IfOk result (λ p. p.0 < 2 ^ 62) }
+        ensures of_open { IfOk result (λ p. IsOfOpen p.1 (stage_in self.old.connections.items)) }
+        ensures quiet { IfOk result (λ p. p.1 ≡ Quiet → IsIdle self.old) }
+        ensures fits { IfOk result (λ p. FitsIn p.1 (length into.old)) }
+        ensures stages { IfOk result (λ p. (k : ℕ) → stage_in self.new.connections.items k
+            ≡ stages_after p.1 (stage_in self.old.connections.items) k) }
+        ensures ok { IfOk result (λ p. Tells (told self.old) (told self.new)
+            (with_call wait p.0 p.1 (got_bytes p.1 into.new))) }
+        ensures err { OnErr result (told self.new ≡ told self.old) }
+        ensures err_stages { OnErr result ((k : ℕ) → stage_in self.new.connections.items k
+            ≡ stage_in self.old.connections.items k) }
+        ensures events { length self.new.calls.items ≡ (if is_ok result
+            then length self.old.calls.items + 1 else length self.old.calls.items) }
+        ensures in_all { length self.new.calls.items ≤ 2 ^ 45 }
+        ensures cause { HasWireCause self.old.failed self.new.failed result }
+
+        // What comes next in the script is handed out. It fails exactly where it is listed, and past
+        // the most events.
+        ensures hands_out { IfOk result
+            (λ p. HandsOut self.old self.new (length into.old) p into.new) }
+        ensures as_listed { FailsAsListed self.old self.new
+            (2 ^ 45 ≤ length self.old.calls.items) result }
+        ensures err_keeps { OnErr result (KeepsScript self.old self.new) }
+        ensures err_stalls { OnErr result (self.new.stalls ≡ self.old.stalls) }
+    {
         if self.is_failing() || self.calls.len() as u64 >= MOST_EVENTS {
             return Err(self.fail());
         }
-        let (moment, event) = self.due(into);
+        let due = self.due(into);
+        let (moment, event) = (due.moment, due.event);
         let bytes = into[..got_len(event)].to_vec(self.alloc)?;
         let standings = standings(self.alloc, self.connections.as_slice(), self.calls.len())?;
         self.connections.reserve(1)?;
@@ -252,11 +335,31 @@ impl Wire for ScriptWire {
         join_in(self.alloc, &mut self.connections, event);
         end_stall(&mut self.stalls, event);
         self.moment = moment;
+        self.at = due.at;
+        self.off = due.off;
         self.advance(event);
         Ok((moment, event))
     }
 
-    fn dial(&mut self) -> Result<u64, WireError> {
+    fn dial(&mut self) -> Result<u64, WireError>
+        ensures fresh { IfOk result (λ k. stage_in self.old.connections.items k ≡ Unseen) }
+        ensures stages { IfOk result (λ k. (j : ℕ) → stage_in self.new.connections.items j
+            ≡ with_stage k Fresh (stage_in self.old.connections.items) j) }
+        ensures ok { IfOk result (λ k. Tells (told self.old) (told self.new) (with_dialled k)) }
+        ensures err { OnErr result (told self.new ≡ told self.old) }
+        ensures err_stages { OnErr result ((k : ℕ) → stage_in self.new.connections.items k
+            ≡ stage_in self.old.connections.items k) }
+        ensures events { length self.new.calls.items ≡ length self.old.calls.items }
+        ensures cause { HasWireCause self.old.failed self.new.failed result }
+
+        // It is one more than the greatest number that was handed out. It fails exactly where it is
+        // listed, and where that is the greatest of all. The script stays.
+        ensures next_number { IfOk result (IsNextNumber (stage_in self.old.connections.items)) }
+        ensures as_listed { FailsAsListed self.old self.new
+            (stage_in self.old.connections.items (2 ^ 64 - 1) ≡ Unseen → ⊥) result }
+        ensures keeps { KeepsScript self.old self.new }
+        ensures stalls { self.new.stalls ≡ self.old.stalls }
+    {
         if self.is_failing() {
             return Err(self.fail());
         }
@@ -272,22 +375,63 @@ impl Wire for ScriptWire {
         Ok(k)
     }
 
-    fn send(&mut self, k: u64, from: &[u8]) -> Result<usize, WireError> {
+    fn send(&mut self, k: u64, from: &[u8]) -> Result<usize, WireError>
+        ensures within { IfOk result (λ n. n ≤ length from.now) }
+        ensures stages { (j : ℕ) → stage_in self.new.connections.items j
+            ≡ stage_in self.old.connections.items j }
+        ensures ok { IfOk result (λ n. Tells (told self.old) (told self.new)
+            (with_sent k (take n from.now) (nat_lt n (length from.now)))) }
+        ensures err { OnErr result (told self.new ≡ told self.old) }
+        ensures events { length self.new.calls.items ≡ length self.old.calls.items }
+        ensures cause { HasWireCause self.old.failed self.new.failed result }
+
+        // It takes what there is room for, and the stall is used up by as much. It fails exactly where
+        // it is listed, and the script stays.
+        ensures room { IfOk result (λ n. n ≡ room_of self.old k (length from.now)) }
+        ensures uses_up { IfOk result (UsesUp self.old self.new k) }
+        ensures as_listed { FailsAsListed self.old self.new ⊥ result }
+        ensures keeps { KeepsScript self.old self.new }
+        ensures err_stalls { OnErr result (self.new.stalls ≡ self.old.stalls) }
+    {
         if self.is_failing() {
             return Err(self.fail());
         }
         let n = room_in(self.stalls.as_slice(), k, from.len());
         let events = self.calls.len();
         take_in(&mut self.connections, k, &from[..n], n < from.len(), events)?;
-        use_up(self.stalls.as_mut_slice(), k, n);
+        use_up(&mut self.stalls, k, n);
         Ok(n)
     }
 
-    fn reads(&mut self, k: u64, on: bool) {
+    fn reads(&mut self, k: u64, on: bool)
+        ensures stages { (j : ℕ) → stage_in self.new.connections.items j ≡ with_stage k
+            (reading_of on (stage_in self.old.connections.items k))
+            (stage_in self.old.connections.items) j }
+        ensures log { Tells (told self.old) (told self.new) (with_reading k on) }
+        ensures events { length self.new.calls.items ≡ length self.old.calls.items }
+        ensures faults { self.new.failed ≡ self.old.failed }
+
+        // The script stays.
+        ensures uncounted { self.new.count ≡ self.old.count }
+        ensures keeps { KeepsScript self.old self.new }
+        ensures stalls { self.new.stalls ≡ self.old.stalls }
+    {
         read_in(&mut self.connections, k, on);
     }
 
-    fn close(&mut self, k: u64) {
+    fn close(&mut self, k: u64)
+        ensures stages { (j : ℕ) → stage_in self.new.connections.items j ≡ with_stage k
+            (closed_of (stage_in self.old.connections.items k))
+            (stage_in self.old.connections.items) j }
+        ensures log { Tells (told self.old) (told self.new) (with_closed k) }
+        ensures events { length self.new.calls.items ≡ length self.old.calls.items }
+        ensures faults { self.new.failed ≡ self.old.failed }
+
+        // The script stays.
+        ensures uncounted { self.new.count ≡ self.old.count }
+        ensures keeps { KeepsScript self.old self.new }
+        ensures stalls { self.new.stalls ≡ self.old.stalls }
+    {
         shut_in(&mut self.connections, k);
     }
 }
@@ -344,17 +488,27 @@ fn stall_of(stalls: &[Stall], k: u64) -> Option<&Stall>
 }
 
 /// A connection that takes bytes again isn't stalled any more.
-fn end_stall(stalls: &mut Vec<Stall>, event: WireEvent) {
+fn end_stall(stalls: &mut Vec<Stall>, event: WireEvent)
+    ensures { (j len : ℕ) → room_in stalls.new.items j len
+        ≡ (if is_room j event then len else room_in stalls.old.items j len) }
+{
     if let WireEvent::Room(k) = event {
         stalls.retain(|stall| stall.k != k);
     }
 }
 
 /// The connection has taken so many bytes.
-fn use_up(stalls: &mut [Stall], k: u64, n: usize) {
-    for stall in stalls.iter_mut() {
-        if stall.k == k {
-            stall.left = stall.left.saturating_sub(n);
-        }
+fn use_up(stalls: &mut Vec<Stall>, k: u64, n: usize)
+    ensures { stalls.new.items ≡ used_at k n stalls.old.items }
+{
+    if let Some(at) = place_of(stalls.as_slice(), k) {
+        stalls[at].use_up(n);
     }
+}
+
+/// Where the first stall of the connection stands.
+fn place_of(stalls: &[Stall], k: u64) -> Option<usize>
+    ensures { result ≡ position (is_stall_of k) stalls.now }
+{
+    stalls.iter().position(|stall| stall.k == k)
 }

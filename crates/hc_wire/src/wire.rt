@@ -1,5 +1,5 @@
 //! What a wire is.
-ghost use Rattle.std.specs.Prelude.{◌≡◌, ◌+◌, ◌<◌, ◌≤◌, ◌^◌, ℕ, Option, None, nat_lt, length, take, IfOk, OnOk, OnErr, if◌then◌else◌};
+ghost use Rattle.std.specs.Prelude.{◌≡◌, ◌+◌, ◌<◌, ◌≤◌, ◌^◌, ⊤, ℕ, Option, None, nat_lt, length, take, IfOk, OnOk, OnErr, if◌then◌else◌};
 ghost use Rattle.std.specs.Result.{is_ok};
 
 use crate::event::{Address, WireError, WireEvent};
@@ -12,7 +12,8 @@ pub const MOST_EVENTS: u64 = 1 << 45;
 /// WireFailed comes only where the count of faults rose in that call, and then nothing else changed.
 /// Want of memory changes nothing and is no fault. At most 2^45 events are handed out, Quiet among them.
 pub trait Wire {
-    ghost use Rattle.hc_wire.specs.Events.{Stage, Unseen, Open, with_stage, closed_of, stages_after, IsOfOpen, FitsIn, got_bytes};
+    ghost use Rattle.hc_wire.specs.declared.event.WireEvent.TheVariants.{Quiet};
+    ghost use Rattle.hc_wire.specs.Events.{Stage, Unseen, Fresh, with_stage, closed_of, reading_of, stages_after, IsOfOpen, FitsIn, got_bytes};
     ghost use Rattle.hc_wire.specs.Logs.{Log, Tells, with_binding, with_call, with_dialled, with_sent, with_reading, with_closed};
     ghost use Rattle.hc_wire.specs.Wires.{HasWireCause};
 
@@ -22,11 +23,14 @@ pub trait Wire {
     /// How many events were handed out.
     ghost events: { Self → ℕ };
 
-    /// Which numbers were handed out, and which of these connections are open.
+    /// Which numbers were handed out, which of these connections are open, and of which bytes may come.
     ghost stages: { Self → ℕ → Stage };
 
     /// What was called and answered, if the wire tells it.
     ghost log: { Self → Option Log } = { λ _. None };
+
+    /// No event is due, if the wire tells that.
+    ghost idle: { Self → Type 0 } = { λ _. ⊤ };
 
     /// Listens at one address for clients, and dials the other, each where it is given.
     fn bind(&mut self, listen: Option<Address>, origin: Option<Address>) -> Result<(), WireError>
@@ -38,13 +42,14 @@ pub trait Wire {
         ensures cause { HasWireCause (faults self.old) (faults self.new) result };
 
     /// The moment, in seconds since 1970, and what happened. Bytes that came stand first in `into`.
-    /// Where nothing is due it may wait for that a while, if `wait` says so.
+    /// Where nothing is due it may wait for that a while, if `wait` says so, and then it is Quiet.
     ///
-    /// The end of a connection comes after all of its bytes.
+    /// Bytes come only of a connection whose reading is on, and its end comes once, after all of them.
     fn next(&mut self, wait: bool, into: &mut [u8]) -> Result<(u64, WireEvent), WireError>
         requires { 0 < length into.old }
         ensures moment { IfOk result (λ p. p.0 < 2 ^ 62) }
         ensures of_open { IfOk result (λ p. IsOfOpen p.1 (stages self.old)) }
+        ensures quiet { IfOk result (λ p. p.1 ≡ Quiet → idle self.old) }
         ensures fits { IfOk result (λ p. FitsIn p.1 (length into.old)) }
         ensures stages { IfOk result (λ p. (k : ℕ) → stages self.new k
             ≡ stages_after p.1 (stages self.old) k) }
@@ -61,7 +66,7 @@ pub trait Wire {
     fn dial(&mut self) -> Result<u64, WireError>
         ensures fresh { IfOk result (λ k. stages self.old k ≡ Unseen) }
         ensures stages { IfOk result (λ k. (j : ℕ) → stages self.new j
-            ≡ with_stage k Open (stages self.old) j) }
+            ≡ with_stage k Fresh (stages self.old) j) }
         ensures ok { IfOk result (λ k. Tells (log self.old) (log self.new) (with_dialled k)) }
         ensures err { OnErr result (log self.new ≡ log self.old) }
         ensures err_stages { OnErr result ((k : ℕ) → stages self.new k ≡ stages self.old k) }
@@ -81,7 +86,8 @@ pub trait Wire {
 
     /// Whether bytes of the connection may be handed out. At first they may.
     fn reads(&mut self, k: u64, on: bool)
-        ensures stages { (j : ℕ) → stages self.new j ≡ stages self.old j }
+        ensures stages { (j : ℕ) → stages self.new j
+            ≡ with_stage k (reading_of on (stages self.old k)) (stages self.old) j }
         ensures log { Tells (log self.old) (log self.new) (with_reading k on) }
         ensures events { events self.new ≡ events self.old }
         ensures faults { faults self.new ≡ faults self.old };

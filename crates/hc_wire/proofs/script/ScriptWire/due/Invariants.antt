@@ -2,13 +2,12 @@ use Rattle.std.proofs.Common.{◌≡◌, ◌-◌, length, drop}
 use Rattle.hc_wire.specs.Following.{behind_past}
 use Rattle.hc_wire.proofs.script.ScriptWire.due.Given as goal
 
-abbrev pub invariant-loop-self : goal.invariant-loop-self
-invariant-loop-self l = record {
+abbrev pub invariant-loop-at : goal.invariant-loop-at
+invariant-loop-at l = record {
   room : length l.into ≡ length l.fn.into;
-  kept : l.self ≡ record l.fn.self { at = l.self.at; off = l.self.off };
-  left : behind_past l.fn.self.connections.items (drop l.self.at l.fn.self.script.items) l.self.off
-      ≡ behind_past l.fn.self.connections.items (drop l.fn.self.at l.fn.self.script.items) l.fn.self.off;
+  left : behind_past l.self.connections.items (drop l.at l.self.script.items) l.off
+      ≡ behind_past l.self.connections.items (drop l.self.at l.self.script.items) l.self.off;
 }
 
-abbrev pub decreases-loop-self : goal.decreases-loop-self
-decreases-loop-self l = length l.self.script.items - l.self.at
+abbrev pub decreases-loop-at : goal.decreases-loop-at
+decreases-loop-at l = length l.self.script.items - l.at

@@ -1,9 +1,10 @@
 use Rattle.std.proofs.Common.{List, refl, ap, ◌∙◌}
+use Rattle.hc_wire.specs.Events.{reading_of}
 use Rattle.hc_wire.specs.Logs.{Taker, stage_in, reading}
-use Rattle.hc_wire.proofs.LogLemmas.{stages-same}
+use Rattle.hc_wire.proofs.LogLemmas.{stages-changed, stage_read}
 use Rattle.hc_wire.proofs.script.ScriptWireWire.reads.Goals as goal
 
 pub returns-clause-stages : goal.returns-clause-stages
 returns-clause-stages c = λ j.
     ap (λ (cs : List Taker). stage_in cs j) c.read_in.ensures
-    ∙ stages-same c.args.k (reading c.args.on) (λ d. refl) (λ d. refl) c.args.self.now.connections.items j
+    ∙ stages-changed c.args.k (reading c.args.on) (λ d. refl) (reading_of c.args.on) refl (stage_read c.args.on) c.args.self.now.connections.items j

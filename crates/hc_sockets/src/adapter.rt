@@ -1,6 +1,6 @@
 //! A wire over sockets.
 ghost use Rattle.std.specs.Prelude.{◌≡◌, ◌+◌, ◌<◌, ◌≤◌, ◌^◌, ℕ, Some, None, length, IfOk, IfSome, OnErr};
-ghost use Rattle.hc_wire.specs.Events.{Open, IsOfOpen, FitsIn, stages_after, with_stage};
+ghost use Rattle.hc_wire.specs.Events.{IsOpen, IsOfOpen, FitsIn, stages_after};
 ghost use Rattle.hc_wire.specs.Wires.{HasRisen};
 ghost use Rattle.hc_sockets.specs.Sockets.{stage_at, life, event_or_quiet, IsBelow, accepts};
 
@@ -69,7 +69,8 @@ pub struct MioWire<R: Net + Clock + AllocGlobal + Drop> {
 impl<R: Net + Clock + AllocGlobal + Drop> MioWire<R> {
     /// Opens nothing: `bind` does.
     pub fn new(rt: R) -> MioWire<R>
-        ensures { ⟦<MioWire<R> as Wire>⟧.faults result ≡ 0 }
+        ensures faults { ⟦<MioWire<R> as Wire>⟧.faults result ≡ 0 }
+        ensures shut { (k : ℕ) → IsOpen (⟦<MioWire<R> as Wire>⟧.stages result k) → ⊥ }
     {
         let table = Table::new(rt.alloc());
         MioWire {

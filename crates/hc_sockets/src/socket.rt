@@ -1,7 +1,7 @@
 //! A connection over a socket.
-ghost use Rattle.std.specs.Prelude.{◌≡◌, ◌<◌, ◌≤◌, false, length, IfOk, IfSome};
+ghost use Rattle.std.specs.Prelude.{◌≡◌, ◌<◌, ◌≤◌, true, false, length, IfOk, IfSome};
 ghost use Rattle.hc_wire.specs.Events.{FitsIn};
-ghost use Rattle.hc_sockets.specs.Sockets.{IsOf};
+ghost use Rattle.hc_sockets.specs.Sockets.{IsOf, KeepsStage, ends_by};
 
 use hc_wire::WireEvent;
 use mio::event::Event;
@@ -28,10 +28,10 @@ pub(crate) struct Socket {
     blocked: bool,
     /// A send took less than it was offered.
     short: bool,
-    reads: bool,
+    pub(crate) reads: bool,
     broken: bool,
     /// That it ended was handed out.
-    ended: bool,
+    pub(crate) ended: bool,
     /// That it is broken was handed out.
     told: bool,
     /// It stands among those that are due.
@@ -44,7 +44,9 @@ pub(crate) struct Socket {
 impl Socket {
     /// A connection that isn't closed. Without a stream it is broken.
     pub(crate) fn new(alloc: Global, stream: Option<TcpStream>) -> Socket
-        ensures { result.closed ≡ false }
+        ensures closed { result.closed ≡ false }
+        ensures reads { result.reads ≡ true }
+        ensures ended { result.ended ≡ false }
     {
         let broken = stream.is_none();
         Socket {
@@ -67,7 +69,7 @@ impl Socket {
 
     /// What the system tells of it.
     pub(crate) fn mark(&mut self, event: &Event)
-        ensures { self.new.closed ≡ self.old.closed }
+        ensures { KeepsStage self.old self.new }
     {
         if event.is_readable() || event.is_read_closed() || event.is_error() {
             self.readable = true;
@@ -83,7 +85,7 @@ impl Socket {
 
     /// Whether an event of it is due that isn't noted yet. Then it is noted.
     pub(crate) fn note_due(&mut self) -> bool
-        ensures { self.new.closed ≡ self.old.closed }
+        ensures { KeepsStage self.old self.new }
     {
         let more = self.is_due() && !self.queued;
         self.queued = self.queued || more;
@@ -92,14 +94,14 @@ impl Socket {
 
     /// It isn't noted any more that an event of it is due.
     pub(crate) fn forget_due(&mut self)
-        ensures { self.new.closed ≡ self.old.closed }
+        ensures { KeepsStage self.old self.new }
     {
         self.queued = false;
     }
 
     /// Whether it holds bytes, and that isn't noted yet. Then it is noted.
     pub(crate) fn note_held(&mut self) -> bool
-        ensures { self.new.closed ≡ self.old.closed }
+        ensures { KeepsStage self.old self.new }
     {
         let more = !self.is_sent() && !self.unsent;
         self.unsent = self.unsent || more;
@@ -108,7 +110,7 @@ impl Socket {
 
     /// It isn't noted any more that it holds bytes.
     pub(crate) fn forget_held(&mut self)
-        ensures { self.new.closed ≡ self.old.closed }
+        ensures { KeepsStage self.old self.new }
     {
         self.unsent = false;
     }
@@ -134,9 +136,11 @@ impl Socket {
     /// The event that is due of it, if one is. The bytes of a `Got` are copied into the slice.
     pub(crate) fn event(&mut self, k: u64, into: &mut [u8]) -> Option<WireEvent>
         requires { 0 < length into.old }
-        ensures of { IfSome result (IsOf k) }
+        ensures of { IfSome result (IsOf k self.old) }
         ensures fits { IfSome result (λ e. FitsIn e (length into.old)) }
         ensures closed { self.new.closed ≡ self.old.closed }
+        ensures reads { self.new.reads ≡ self.old.reads }
+        ensures ended { self.new.ended ≡ ends_by result self.old.ended }
     {
         if self.has_room() {
             self.short = false;
@@ -163,7 +167,7 @@ impl Socket {
     fn read(&mut self, into: &mut [u8]) -> Option<usize>
         requires { 0 < length into.old }
         ensures within { IfSome result (λ n. n ≤ length into.old) }
-        ensures closed { self.new.closed ≡ self.old.closed }
+        ensures kept { KeepsStage self.old self.new }
     {
         let mut stream = self.stream.as_ref()?;
         match stream.read(into) {
@@ -189,7 +193,7 @@ impl Socket {
     /// How many bytes of the slice it takes. One that is broken takes all.
     pub(crate) fn take(&mut self, from: &[u8]) -> Result<usize, AllocError>
         ensures within { IfOk result (λ n. n ≤ length from.now) }
-        ensures closed { self.new.closed ≡ self.old.closed }
+        ensures kept { KeepsStage self.old self.new }
     {
         if self.broken || self.closed {
             return Ok(from.len());
@@ -208,14 +212,16 @@ impl Socket {
 
     /// Reading is on or off.
     pub(crate) fn set_reading(&mut self, on: bool)
-        ensures { self.new.closed ≡ self.old.closed }
+        ensures closed { self.new.closed ≡ self.old.closed }
+        ensures reads { self.new.reads ≡ on }
+        ensures ended { self.new.ended ≡ self.old.ended }
     {
         self.reads = on;
     }
 
     /// Sends what is held, as far as the system takes it.
     pub(crate) fn flush(&mut self)
-        ensures { self.new.closed ≡ self.old.closed }
+        ensures { KeepsStage self.old self.new }
     {
         for _ in 0..u64::MAX {
             if self.blocked || self.is_sent() {
@@ -231,7 +237,7 @@ impl Socket {
 
     /// One write of what is held.
     fn write(&mut self)
-        ensures { self.new.closed ≡ self.old.closed }
+        ensures { KeepsStage self.old self.new }
     {
         let Some(mut stream) = self.stream.as_ref() else {
             return;

@@ -1,7 +1,7 @@
 //! The sockets of a wire, by number.
-ghost use Rattle.std.specs.Prelude.{◌≡◌, ◌<◌, ◌≤◌, ℕ, false, length, OnOk, OnErr, IfOk, IfSome};
-ghost use Rattle.hc_wire.specs.Events.{Open, Closed, FitsIn, with_stage, closed_of};
-ghost use Rattle.hc_sockets.specs.Sockets.{life, IsOfLive};
+ghost use Rattle.std.specs.Prelude.{◌≡◌, ◌<◌, ◌≤◌, ℕ, Some, length, OnOk, OnErr, IfOk, IfSome};
+ghost use Rattle.hc_wire.specs.Events.{Closed, Fresh, FitsIn, with_stage, closed_of, reading_of};
+ghost use Rattle.hc_sockets.specs.Sockets.{life, life_of, lives_after, IsOfLive};
 
 use crate::socket::Socket;
 use hc_wire::WireEvent;
@@ -36,9 +36,9 @@ impl Table {
 
     /// One more, that is open.
     pub(crate) fn insert(&mut self, k: u64, socket: Socket) -> Result<(), AllocError>
-        requires { socket.closed ≡ false }
+        requires { life_of (Some socket) ≡ Fresh }
         ensures ok { OnOk result ((j : ℕ) → life self.new.sockets j
-            ≡ with_stage k Open (life self.old.sockets) j) }
+            ≡ with_stage k Fresh (life self.old.sockets) j) }
         ensures err { OnErr result ((j : ℕ) → life self.new.sockets j
             ≡ life self.old.sockets j) }
     {
@@ -70,7 +70,8 @@ impl Table {
         requires { 0 < length into.old }
         ensures of_live { IfSome result (IsOfLive (life self.old.sockets)) }
         ensures fits { IfSome result (λ e. FitsIn e (length into.old)) }
-        ensures kept { (j : ℕ) → life self.new.sockets j ≡ life self.old.sockets j }
+        ensures after { (j : ℕ) → life self.new.sockets j
+            ≡ lives_after result (life self.old.sockets) j }
     {
         if self.missed {
             return self.missed_event(into);
@@ -93,7 +94,8 @@ impl Table {
         requires { 0 < length into.old }
         ensures of_live { IfSome result (IsOfLive (life self.old.sockets)) }
         ensures fits { IfSome result (λ e. FitsIn e (length into.old)) }
-        ensures kept { (j : ℕ) → life self.new.sockets j ≡ life self.old.sockets j }
+        ensures after { (j : ℕ) → life self.new.sockets j
+            ≡ lives_after result (life self.old.sockets) j }
     {
         let k = match self.sockets.iter().find(|entry| entry.1.is_due()) {
             Some((k, _)) => *k,
@@ -135,7 +137,8 @@ impl Table {
 
     /// Reading of the connection is on or off.
     pub(crate) fn read(&mut self, k: u64, on: bool)
-        ensures { (j : ℕ) → life self.new.sockets j ≡ life self.old.sockets j }
+        ensures { (j : ℕ) → life self.new.sockets j
+            ≡ with_stage k (reading_of on (life self.old.sockets k)) (life self.old.sockets) j }
     {
         read_in(&mut self.sockets, k, on);
         self.queue(k);
@@ -176,7 +179,7 @@ fn event_in(sockets: &mut HashMap<u64, Socket>, k: u64, into: &mut [u8]) -> Opti
     requires { 0 < length into.old }
     ensures of_live { IfSome result (IsOfLive (life sockets.old)) }
     ensures fits { IfSome result (λ e. FitsIn e (length into.old)) }
-    ensures kept { (j : ℕ) → life sockets.new j ≡ life sockets.old j }
+    ensures after { (j : ℕ) → life sockets.new j ≡ lives_after result (life sockets.old) j }
 {
     let socket = sockets.get_mut(&k)?;
     socket.forget_due();
@@ -219,7 +222,8 @@ fn flush_in(sockets: &mut HashMap<u64, Socket>, k: u64)
 
 /// Reading of the connection is on or off.
 fn read_in(sockets: &mut HashMap<u64, Socket>, k: u64, on: bool)
-    ensures { (j : ℕ) → life sockets.new j ≡ life sockets.old j }
+    ensures { (j : ℕ) → life sockets.new j
+        ≡ with_stage k (reading_of on (life sockets.old k)) (life sockets.old) j }
 {
     if let Some(socket) = sockets.get_mut(&k) {
         socket.set_reading(on);

@@ -2,7 +2,7 @@ use Rattle.std.proofs.Common.{Option, None, Some, ◌∙◌}
 use Rattle.std.specs.Prelude.{IfSome}
 use Rattle.hc_wire.specs.declared.event.WireEvent.{WireEvent}
 use Rattle.hc_sockets.specs.Sockets.{life, IsOfLive}
-use Rattle.hc_sockets.proofs.SocketLemmas.{live-same}
+use Rattle.hc_sockets.proofs.SocketLemmas.{live-same, after-same}
 use Rattle.hc_sockets.proofs.table.Table.event.Goals as goal
 
 pub returns-then-is_some-clause-of_live : goal.returns-then-is_some-clause-of_live
@@ -11,5 +11,7 @@ returns-then-is_some-clause-of_live c = of c.event_in-event.result c.event_in-ev
   of None is = is
   of (Some e) is = live-same (life c.args.self.now.sockets) (life c.loop.self.sockets) c.loop.invariant.1 e is
 
-pub returns-then-is_some-clause-kept : goal.returns-then-is_some-clause-kept
-returns-then-is_some-clause-kept c = λ j. c.queue.ensures j ∙ (c.event_in-event.ensures.kept j ∙ c.loop.invariant.1 j)
+pub returns-then-is_some-clause-after : goal.returns-then-is_some-clause-after
+returns-then-is_some-clause-after c = λ j.
+    c.queue.ensures j ∙ (c.event_in-event.ensures.after j
+    ∙ after-same (life c.args.self.now.sockets) (life c.loop.self.sockets) c.loop.invariant.1 c.event_in-event.result j)

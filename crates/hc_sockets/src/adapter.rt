@@ -25,8 +25,12 @@ const READY: usize = 1_024;
 /// How long a wait is, in milliseconds.
 const WAIT: u64 = 50;
 
-/// After how many calls of `next` what is held is sent, at the latest.
+/// At which call of `next` after it was taken what is held is sent, at the latest.
 const CALLS: u64 = 4;
+
+/// After how many calls of `next` the system is asked, at the latest. So a connection on which bytes come
+/// without end hides no other, and not that it takes bytes again.
+const ASKED: u64 = 64;
 
 /// What `bind` has opened.
 #[derive(Drop)]
@@ -58,8 +62,8 @@ pub struct MioWire<R: Net + Clock + AllocGlobal + Drop> {
     table: Table,
     /// The number of the next connection.
     next: u64,
-    /// How many calls of `next` there were since what is held was sent.
-    calls: u64,
+    /// How many calls of `next` there were since the system was asked.
+    unasked: u64,
     handed: u64,
     failed: u64,
     ghost few: { handed ≤ 2 ^ 45 },
@@ -79,7 +83,7 @@ impl<R: Net + Clock + AllocGlobal + Drop> MioWire<R> {
             acceptable: false,
             table,
             next: 1,
-            calls: 0,
+            unasked: 0,
             handed: 0,
             failed: 0,
         }
@@ -135,6 +139,7 @@ impl<R: Net + Clock + AllocGlobal + Drop> MioWire<R> {
         ensures handed { self.new.handed ≡ self.old.handed }
         ensures failed { self.new.failed ≡ self.old.failed }
     {
+        self.unasked = 0;
         let Some(bound) = &mut self.bound else {
             return true;
         };
@@ -187,16 +192,18 @@ impl<R: Net + Clock + AllocGlobal + Drop> Wire for MioWire<R> {
         let Some(moment) = seconds(&self.rt) else {
             return Err(self.fail());
         };
-        self.calls = self.calls.saturating_add(1);
-        if self.calls >= CALLS {
-            self.calls = 0;
-            self.table.flush();
+        self.table.age(CALLS);
+        self.unasked = self.unasked.saturating_add(1);
+        if self.unasked >= ASKED && !self.ask(false) {
+            return Err(self.fail());
         }
         if let Some(event) = self.due(into)? {
             self.handed += 1;
             return Ok((moment, event));
         }
-        self.table.flush();
+        if wait {
+            self.table.flush();
+        }
         if !self.ask(wait) {
             return Err(self.fail());
         }

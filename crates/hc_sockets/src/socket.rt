@@ -9,7 +9,7 @@ use mio::net::TcpStream;
 use std::alloc::{AllocError, Global};
 use std::io::{ErrorKind, Read, Write};
 
-/// How many bytes that aren't sent yet are held, at most.
+/// From how many bytes on what is held is sent at once. Then no more are taken until all are sent.
 const HOLD: usize = 65_536;
 
 /// A connection: its socket, and what is known of it.
@@ -24,6 +24,8 @@ pub(crate) struct Socket {
     readable: bool,
     /// The other side has told its end.
     ending: bool,
+    /// The system has told that it is broken.
+    cut: bool,
     /// The system takes none of its bytes now.
     blocked: bool,
     /// A send took less than it was offered.
@@ -55,6 +57,7 @@ impl Socket {
             sent: 0,
             readable: false,
             ending: false,
+            cut: false,
             blocked: false,
             short: false,
             reads: true,
@@ -77,6 +80,7 @@ impl Socket {
         if event.is_read_closed() || event.is_error() {
             self.ending = true;
         }
+        self.cut = self.cut || event.is_error();
         if event.is_writable() || event.is_error() {
             self.blocked = false;
             self.flush();
@@ -119,8 +123,14 @@ impl Socket {
     pub(crate) fn is_due(&self) -> bool {
         !self.closed
             && (self.broken && !self.told
+                || self.is_cut_unread()
                 || self.has_room()
                 || self.reads && self.readable && !self.ended && !self.broken)
+    }
+
+    /// Whether it is broken, and no read will tell that.
+    fn is_cut_unread(&self) -> bool {
+        self.cut && !self.broken && (!self.reads || self.ended)
     }
 
     /// Whether it takes bytes again, after it took less than it was offered.
@@ -142,6 +152,7 @@ impl Socket {
         ensures reads { self.new.reads ≡ self.old.reads }
         ensures ended { self.new.ended ≡ ends_by result self.old.ended }
     {
+        self.broken = self.broken || self.is_cut_unread();
         if self.has_room() {
             self.short = false;
             return Some(WireEvent::Room(k));
@@ -190,7 +201,8 @@ impl Socket {
         }
     }
 
-    /// How many bytes of the slice it takes. One that is broken takes all.
+    /// How many bytes of the slice it takes: all, or none while enough are held. One that is broken takes
+    /// all.
     pub(crate) fn take(&mut self, from: &[u8]) -> Result<usize, AllocError>
         ensures within { IfOk result (λ n. n ≤ length from.now) }
         ensures kept { KeepsStage self.old self.new }
@@ -201,9 +213,15 @@ impl Socket {
         if self.held.len() >= HOLD {
             self.flush();
         }
-        let n = from.len().min(HOLD.saturating_sub(self.held.len()));
+        let n = if self.held.len() < HOLD {
+            from.len()
+        } else {
+            0
+        };
         self.held.extend_from_slice(&from[..n])?;
-        self.short = n < from.len();
+        if !from.is_empty() {
+            self.short = n < from.len();
+        }
         if self.held.len() >= HOLD {
             self.flush();
         }

@@ -9,6 +9,13 @@ use mio::event::Event;
 use std::alloc::{AllocError, Global};
 use std::collections::{HashMap, VecDeque};
 
+/// A connection that holds bytes, and after how many calls of `next` it took the first of them.
+#[derive(Clone, Copy)]
+struct Unsent {
+    k: u64,
+    since: u64,
+}
+
 /// Connections by number, and of which something may be due or unsent.
 #[derive(Drop)]
 pub(crate) struct Table {
@@ -17,8 +24,10 @@ pub(crate) struct Table {
     due: VecDeque<u64>,
     /// There was no memory to note one of them.
     missed: bool,
-    /// Which hold bytes, each once.
-    unsent: VecDeque<u64>,
+    /// Which hold bytes, each once, the oldest first.
+    unsent: VecDeque<Unsent>,
+    /// How many calls of `next` there were.
+    calls: u64,
 }
 
 impl Table {
@@ -31,6 +40,7 @@ impl Table {
             due: VecDeque::new(alloc),
             missed: false,
             unsent: VecDeque::new(alloc),
+            calls: 0,
         }
     }
 
@@ -115,7 +125,8 @@ impl Table {
         self.unsent.reserve(1)?;
         let n = take_in(&mut self.sockets, k, from)?;
         if hold_in(&mut self.sockets, k) {
-            self.unsent.push_back_reserved(k);
+            let since = self.calls;
+            self.unsent.push_back_reserved(Unsent { k, since });
         }
         self.queue(k);
         Ok(n)
@@ -125,13 +136,39 @@ impl Table {
     pub(crate) fn flush(&mut self)
         ensures { (j : ℕ) → life self.new.sockets j ≡ life self.old.sockets j }
     {
+        self.flush_held(0);
+    }
+
+    /// There was one call of `next` more: what is held for so many calls is sent.
+    pub(crate) fn age(&mut self, calls: u64)
+        ensures { (j : ℕ) → life self.new.sockets j ≡ life self.old.sockets j }
+    {
+        self.calls = self.calls.saturating_add(1);
+        self.flush_held(calls);
+    }
+
+    /// Sends what is held for so many calls of `next`.
+    fn flush_held(&mut self, calls: u64)
+        ensures { (j : ℕ) → life self.new.sockets j ≡ life self.old.sockets j }
+    {
         for _ in 0..u64::MAX {
-            let Some(k) = self.unsent.pop_front() else {
+            let Some(k) = self.oldest_held(calls) else {
                 break;
             };
+            self.unsent.pop_front();
             flush_in(&mut self.sockets, k);
             forget_in(&mut self.sockets, k);
             self.queue(k);
+        }
+    }
+
+    /// Which connection holds bytes longest, if that is for so many calls of `next`.
+    fn oldest_held(&self, calls: u64) -> Option<u64> {
+        let unsent = self.unsent.front()?;
+        if self.calls.saturating_sub(unsent.since) >= calls {
+            Some(unsent.k)
+        } else {
+            None
         }
     }
 

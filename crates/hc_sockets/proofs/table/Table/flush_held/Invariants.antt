@@ -1,6 +1,6 @@
 use Rattle.std.proofs.Common.{◌≡◌, ℕ}
 use Rattle.hc_sockets.specs.Sockets.{life}
-use Rattle.hc_sockets.proofs.table.Table.flush.Given as goal
+use Rattle.hc_sockets.proofs.table.Table.flush_held.Given as goal
 
 abbrev pub invariant-loop : goal.invariant-loop
 invariant-loop l = ((j : ℕ) → life l.self.sockets j ≡ life l.fn.self.sockets j)

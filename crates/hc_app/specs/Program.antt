@@ -30,6 +30,16 @@ pub record Streams : Type 0 where
   pub out_faults : ℕ
   pub diag_faults : ℕ
 
+-- they tell this, in the same order
+abbrev pub streams : Option (List ℕ) → Option (List ℕ) → Option (List ℕ) → ℕ → ℕ → Streams
+streams left out diag out_faults diag_faults = record {
+  left = left;
+  out = out;
+  diag = diag;
+  out_faults = out_faults;
+  diag_faults = diag_faults;
+}
+
 -- What the store may hold, in bytes: of one body, and of all representations together.
 abbrev pub store_limits : Limits
 store_limits = record { max_entry = 16777216; max_total = 268435456 }

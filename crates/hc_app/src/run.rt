@@ -2,7 +2,7 @@
 ghost use Rattle.std.specs.Prelude.{◌≡◌, ◌≢◌, ◌⊎◌, ◌≤◌, map, Some};
 ghost use Rattle.std.specs.String.{string_bytes};
 ghost use Rattle.hc_io.specs.Faults.{HasRisen};
-ghost use Rattle.hc_app.specs.Program.{Ends, Keeps, Replays, Generates, Completes};
+ghost use Rattle.hc_app.specs.Program.{streams, Ends, Keeps, Replays, Generates, Completes};
 
 use crate::command::{Command, command_of};
 use crate::say::{say_refusal, say_usage};
@@ -40,20 +40,10 @@ pub fn run<S: Source, K: Sink, D: Sink>(
     diag: &mut D,
 ) -> u8
     ensures ends { Ends result (map string_bytes words.now)
-        (record {
-          left = S.left input.old;
-          out = K.taken out.old;
-          diag = D.taken diag.old;
-          out_faults = K.faults out.old;
-          diag_faults = D.faults diag.old;
-        })
-        (record {
-          left = S.left input.new;
-          out = K.taken out.new;
-          diag = D.taken diag.new;
-          out_faults = K.faults out.new;
-          diag_faults = D.faults diag.new;
-        }) }
+        (streams (S.left input.old) (K.taken out.old) (D.taken diag.old)
+        (K.faults out.old) (D.faults diag.old))
+        (streams (S.left input.new) (K.taken out.new) (D.taken diag.new)
+        (K.faults out.new) (D.faults diag.new)) }
 
     // 3 comes only where the count of the input's faults rose, and 4 only where one of the others
     // did; with any other status they are as before.
@@ -78,20 +68,8 @@ pub fn run_plain(
     diag: &mut PlainSink,
 ) -> u8
     ensures ends { Ends result (map string_bytes words.now)
-        (record {
-          left = Some input.old.left;
-          out = Some out.old;
-          diag = Some diag.old;
-          out_faults = 0;
-          diag_faults = 0;
-        })
-        (record {
-          left = Some input.new.left;
-          out = Some out.new;
-          diag = Some diag.new;
-          out_faults = 0;
-          diag_faults = 0;
-        }) }
+        (streams (Some input.old.left) (Some out.old) (Some diag.old) 0 0)
+        (streams (Some input.new.left) (Some out.new) (Some diag.new) 0 0) }
     ensures complete { Completes result (map string_bytes words.now) input.old.left }
 {
     run(alloc, words, input, out, diag)
@@ -106,20 +84,10 @@ fn obey<S: Source, K: Sink, D: Sink>(
     diag: &mut D,
 ) -> Status
     ensures keeps { Keeps (map string_bytes words.now)
-        (record {
-          left = S.left input.old;
-          out = K.taken out.old;
-          diag = D.taken diag.old;
-          out_faults = K.faults out.old;
-          diag_faults = D.faults diag.old;
-        })
-        (record {
-          left = S.left input.new;
-          out = K.taken out.new;
-          diag = D.taken diag.new;
-          out_faults = K.faults out.new;
-          diag_faults = D.faults diag.new;
-        })
+        (streams (S.left input.old) (K.taken out.old) (D.taken diag.old)
+        (K.faults out.old) (D.faults diag.old))
+        (streams (S.left input.new) (K.taken out.new) (D.taken diag.new)
+        (K.faults out.new) (D.faults diag.new))
         result }
     ensures source_failed { result ≡ Status.SourceFailed
         → HasRisen (S.faults input.old) (S.faults input.new) }
@@ -149,20 +117,10 @@ fn replay_input<S: Source, K: Sink, D: Sink>(
     diag: &mut D,
 ) -> Status
     ensures replays { Replays
-        (record {
-          left = S.left input.old;
-          out = K.taken out.old;
-          diag = D.taken diag.old;
-          out_faults = K.faults out.old;
-          diag_faults = D.faults diag.old;
-        })
-        (record {
-          left = S.left input.new;
-          out = K.taken out.new;
-          diag = D.taken diag.new;
-          out_faults = K.faults out.new;
-          diag_faults = D.faults diag.new;
-        })
+        (streams (S.left input.old) (K.taken out.old) (D.taken diag.old)
+        (K.faults out.old) (D.faults diag.old))
+        (streams (S.left input.new) (K.taken out.new) (D.taken diag.new)
+        (K.faults out.new) (D.faults diag.new))
         result }
     ensures source_failed { result ≡ Status.SourceFailed
         → HasRisen (S.faults input.old) (S.faults input.new) }

@@ -10,19 +10,21 @@ pub(crate) enum Fault {
     WireFailed,
     /// No port could be bound.
     NotBound,
-    /// A connection has another number than its wire is to give it.
-    OtherNumber,
     /// A connection broke.
     Broke,
     /// Behind so many bytes others came than were sent.
     OtherBytes(usize),
-    /// The end came when only so many bytes had been got and sent.
+    /// The end came behind so many bytes, where so many were sent.
     EndedEarly(usize, usize),
     /// After more turns than are needed the end hasn't come.
     NeverEnded,
-    /// No send took only some of the bytes, or none took nothing.
+    /// Each send of a side took bytes.
     NeverFull,
-    /// A connection that nobody accepts isn't told as broken.
+    /// Something else came than a few bytes and what is behind them.
+    OtherTalk,
+    /// A client that connects while bytes of another come isn't told.
+    Hidden,
+    /// A connection that is broken isn't told so.
     NeverBroke,
     /// A connection that is broken didn't take all bytes.
     TookLess,

@@ -4,14 +4,23 @@
 #![tactic(auto)]
 
 mod fault;
+mod held;
+mod hidden;
 mod pattern;
 mod refused;
+mod reset;
+mod short;
 mod side;
 mod transfer;
+mod wires;
 
 use fault::Fault;
 
 fn main(rt: HostRuntime) -> Result<(), Fault> {
     transfer::move_bytes(&rt)?;
+    short::talk_shortly(&rt)?;
+    held::hold(&rt)?;
+    hidden::flood(&rt)?;
+    reset::cut_unread(&rt)?;
     refused::dial_in_vain(&rt)
 }

@@ -1,6 +1,6 @@
 //! A connection that nobody accepts.
 use crate::fault::Fault;
-use crate::transfer::listen;
+use crate::wires::listen;
 use hc_sockets::MioWire;
 use hc_wire::{Wire, WireEvent};
 use std::net::Net;

@@ -18,19 +18,28 @@ pub(crate) const PIECE: usize = 16_384;
 /// the system become full.
 pub(crate) const OFFER: usize = 40_000;
 
+/// How a side sends.
+#[derive(Clone, Copy, Debug, PartialEq, Eq)]
+pub(crate) enum Manner {
+    /// All bytes and no more. After a send that took less than it was offered it waits until there is
+    /// room.
+    Patient,
+    /// On and on, whether there is room or not.
+    Pressing,
+}
+
 /// One end of a connection, and what was moved through it.
 #[derive(Drop)]
 pub(crate) struct Side<R: Net + Clock + AllocGlobal + Drop> {
-    pub(crate) wire: MioWire<R>,
+    wire: MioWire<R>,
     /// The connection's number, while it is open here.
-    pub(crate) k: Option<u64>,
-    /// After a send that took less than it was offered it waits until there is room.
-    patient: bool,
+    k: Option<u64>,
+    manner: Manner,
     has_room: bool,
+    /// The last send took none.
+    is_stuck: bool,
     pub(crate) sent: usize,
     pub(crate) got: usize,
-    /// How many sends took some of the bytes and not all.
-    pub(crate) partial: u64,
     /// How many sends took none.
     pub(crate) full: u64,
     pub(crate) ended: bool,
@@ -38,15 +47,15 @@ pub(crate) struct Side<R: Net + Clock + AllocGlobal + Drop> {
 
 impl<R: Net + Clock + AllocGlobal + Drop> Side<R> {
     /// Nothing is moved yet.
-    pub(crate) fn new(wire: MioWire<R>, k: Option<u64>, patient: bool) -> Side<R> {
+    pub(crate) fn new(wire: MioWire<R>, k: Option<u64>, manner: Manner) -> Side<R> {
         Side {
             wire,
             k,
-            patient,
+            manner,
             has_room: true,
+            is_stuck: false,
             sent: 0,
             got: 0,
-            partial: 0,
             full: 0,
             ended: false,
         }
@@ -89,30 +98,36 @@ impl<R: Net + Clock + AllocGlobal + Drop> Side<R> {
             return Ok(false);
         };
         let bytes = pattern.behind(self.sent);
-        let len = OFFER.min(TOTAL.saturating_sub(self.sent)).min(bytes.len());
-        if len == 0 || self.patient && !self.has_room {
+        let len = self.to_offer().min(bytes.len());
+        if len == 0 {
             return Ok(false);
         }
         let n = self.wire.send(k, &bytes[..len])?;
         self.sent = self.sent.saturating_add(n);
         self.has_room = n == len;
-        if n == 0 {
+        self.is_stuck = n == 0;
+        if self.is_stuck {
             self.full = self.full.saturating_add(1);
-        } else if n < len {
-            self.partial = self.partial.saturating_add(1);
         }
         Ok(n > 0)
     }
 
-    /// Whether all bytes were moved both ways.
-    pub(crate) fn is_done(&self) -> bool {
-        self.sent == TOTAL && self.got == TOTAL
+    /// How many bytes are offered next.
+    fn to_offer(&self) -> usize {
+        match self.manner {
+            Manner::Pressing => OFFER,
+            Manner::Patient if self.has_room => OFFER.min(TOTAL.saturating_sub(self.sent)),
+            Manner::Patient => 0,
+        }
     }
 
-    /// Closes the connection.
-    pub(crate) fn close(&mut self) {
-        if let Some(k) = self.k.take() {
-            self.wire.close(k);
+    /// Closes the connection once all bytes came, and as many were sent, of which the wire still holds
+    /// some since the system takes no more.
+    pub(crate) fn close_where_stuck(&mut self) {
+        if self.got == TOTAL && self.sent >= TOTAL && self.is_stuck {
+            if let Some(k) = self.k.take() {
+                self.wire.close(k);
+            }
         }
     }
 }

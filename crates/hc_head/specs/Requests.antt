@@ -1,13 +1,14 @@
 -- What the head of a request says (RFC 9112 sections 3 and 6.3).
-use Rattle.std.specs.Prelude.{◌≡◌, ℕ, ◌≤◌, ◌⊎◌, ◌==◌, ◌||◌, not, nat_lt, Bool, List, [], ◌++◌, take, length, codes, bytes_eq, Option, Some, None, Ok, Err, if◌then◌else◌}
-use Rattle.std.specs.Option.{option_map, option_and_then}
-use Rattle.std.specs.List.{list_all}
+use Rattle.std.specs.Prelude.{◌≡◌, ℕ, ◌≤◌, ◌⊎◌, ◌==◌, ◌||◌, ◌&&◌, not, nat_lt, Bool, List, [], ◌++◌, take, length, codes, bytes_eq, Option, Some, None, Ok, Err, if◌then◌else◌}
+use Rattle.std.specs.Option.{option_and_then}
+use Rattle.std.specs.List.{list_all, list_any}
 use Rattle.std.specs.Str.{is_utf8}
 use Rattle.httparse.specs.Grammar.{RequestHead, ReadsRequest}
 use Rattle.url.specs.Parts.{Parts, serialize}
 use Rattle.url.specs.Parser.{Parsed, parse_url}
 use Rattle.url.specs.Setters.{set_fragment}
 use Rattle.hc_event.specs.declared.event.Load.TheVariants.{Normal}
+use Rattle.hc_text.specs.Elements.{is_blank}
 use Rattle.hc_fields.specs.FieldList.{has_name, values_of}
 use Rattle.hc_fields.specs.FirstValues.{only_of}
 use Rattle.hc_target.specs.Targets.{is_target}
@@ -20,11 +21,24 @@ use Rattle.hc_head.specs.Rules.{fields_of, is_there, is_within_limits, kept_of}
 abbrev pub begins_with : List ℕ → List ℕ → Bool
 begins_with prefix text = bytes_eq (take (length prefix) text) prefix
 
+-- A byte of a host. It is no blank, and it ends no authority and no user's name (RFC 3986 section 3.2). The URL
+-- Standard reads `\` as `/`.
+abbrev pub is_host_byte : ℕ → Bool
+is_host_byte b = not (is_blank b || list_any (λ c. c == b) (codes "/?#@\\"))
+
+-- the value of Host names a host (RFC 9112 section 3.2)
+abbrev pub is_host : List ℕ → Bool
+is_host host = nat_lt 0 (length host) && list_all is_host_byte host
+
+-- the target behind this host, where it is one
+abbrev pub behind_host : List ℕ → List ℕ → Option (List ℕ)
+behind_host target host = if is_host host then Some (codes "http://" ++ (host ++ target)) else None
+
 -- the text of the URL that is asked for (RFC 9112 section 3.3): in the origin form behind the one Host
 abbrev pub asked_text : List ℕ → List (List ℕ × List ℕ) → Option (List ℕ)
 asked_text target fields =
     if begins_with (codes "/") target
-    then option_map (λ host. codes "http://" ++ (host ++ target)) (only_of (values_of (codes "host") fields))
+    then option_and_then (behind_host target) (only_of (values_of (codes "host") fields))
     else if begins_with (codes "http://") target then Some target else None
 
 -- the text of the URL, where that is a target

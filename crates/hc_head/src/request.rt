@@ -4,7 +4,7 @@ ghost use Rattle.std.specs.List.{list_all};
 ghost use Rattle.std.specs.Option.{option_copied, option_and_then};
 ghost use Rattle.hc_fields.specs.FieldList.{size_of, values_of};
 ghost use Rattle.hc_fields.specs.FirstValues.{only_of};
-ghost use Rattle.hc_head.specs.Requests.{asked_of, asked_text, key_of, own_key, may_have_body, says_zero, request_of};
+ghost use Rattle.hc_head.specs.Requests.{asked_of, asked_text, is_host_byte, is_host, key_of, own_key, may_have_body, says_zero, request_of};
 ghost use Rattle.hc_head.specs.Held.{fields_in, field_in, AreGood};
 ghost use Rattle.hc_head.specs.Rules.{is_within_limits};
 ghost use Rattle.hc_head.specs.Calls.{Gives, CallsFor};
@@ -109,6 +109,27 @@ fn key_of(alloc: Global, text: Vec<u8>) -> Result<Option<Key>, NoMemory>
     read_key(alloc, &text)
 }
 
+/// Whether the byte may stand in a host: it is no blank, and ends no authority and no user's name.
+fn is_host_byte(b: u8) -> bool
+    ensures { result ≡ is_host_byte b }
+{
+    !matches!(b, b' ' | b'\t' | b'/' | b'?' | b'#' | b'@' | b'\\')
+}
+
+/// Whether each byte may.
+fn are_host_bytes(text: &[u8]) -> bool
+    ensures { result ≡ list_all is_host_byte text.now }
+{
+    text.iter().all(|b| is_host_byte(*b))
+}
+
+/// Whether the value of Host names a host (RFC 9112 section 3.2).
+fn is_host(host: &[u8]) -> bool
+    ensures { result ≡ is_host host.now }
+{
+    !host.is_empty() && are_host_bytes(host)
+}
+
 /// The host and the target behind `http://`.
 fn join(alloc: Global, host: &[u8], target: &[u8]) -> Result<Vec<u8>, NoMemory>
     ensures { IfOk result (λ text. text.items ≡ codes "http://" ++ (host.now ++ target.now)) }
@@ -123,7 +144,8 @@ fn join(alloc: Global, host: &[u8], target: &[u8]) -> Result<Vec<u8>, NoMemory>
     Ok(text)
 }
 
-/// The text of the URL that is asked for (RFC 9112 section 3.3), None where there is none.
+/// The text of the URL that is asked for (RFC 9112 section 3.3), None where there is none: a target
+/// that begins with `/` stands behind the one Host.
 fn asked_text(
     alloc: Global,
     target: &[u8],
@@ -136,6 +158,9 @@ fn asked_text(
         let Some(host) = host_of(headers) else {
             return Ok(None);
         };
+        if !is_host(host) {
+            return Ok(None);
+        }
         return Ok(Some(join(alloc, host, target)?));
     }
     if !target.starts_with(b"http://") {

@@ -9,3 +9,4 @@ pub mod Replies
 pub mod Calls
 pub mod Hosts
 pub mod Keys
+pub mod Starts

@@ -1,4 +1,5 @@
 pub mod Scans
+pub mod Starts
 pub mod Rules
 pub mod Options
 pub mod Held

@@ -10,6 +10,7 @@ mod message;
 mod request;
 mod response;
 mod scan;
+mod start;
 
 pub use framing::Framing;
 pub use head::find_end;
@@ -17,3 +18,4 @@ pub use message::{MsgError, WireRequest};
 pub use request::call_of;
 pub use response::{Reply, reply_of};
 pub use scan::{Scan, Sought, line_end};
+pub use start::Start;

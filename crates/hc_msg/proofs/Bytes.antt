@@ -1,20 +1,21 @@
 -- Where bytes lead within heads, chunk lines and bodies.
-use Rattle.std.proofs.Common.{◌≡◌, ℕ, ◌+◌, ◌-◌, ◌<◌, ◌≤◌, ◌==◌, true, false, List, [], ◌∷◌, ◌++◌, length, take, refl, sym, ap, subst, ◌∙◌, arith, append_assoc, length-append, lt-ltb}
+use Rattle.std.proofs.Common.{◌≡◌, ℕ, suc, ◌+◌, ◌-◌, ◌<◌, ◌≤◌, ◌==◌, true, false, true≢false, inl, inr, List, [], ◌∷◌, ◌++◌, length, take, refl, sym, ap, subst, ◌∙◌, arith, append_assoc, length-append, lt-ltb}
 use Rattle.std.specs.Prelude.{not, nat_lt, map}
-use Rattle.std.proofs.lemmas.Bool.{and_parts, ne_eqb, le-ltb}
+use Rattle.std.proofs.lemmas.Bool.{cases_Bool, and_parts, ne_eqb, le-ltb}
 use Rattle.std.proofs.lemmas.List.{append-nil, take_at}
 use Rattle.hc_text.specs.Texts.{lacks}
 use Rattle.hc_head.specs.declared.message.MsgError.TheVariants as error
 use Rattle.hc_head.specs.declared.scan.Scan.{Scan}
 use Rattle.hc_head.specs.declared.scan.Scan.TheVariants.{Before, BeforeReturn, Within, Beginning, BeginningReturn, Ended}
 use Rattle.hc_head.specs.Scans.{scan_byte, scan_all, is_open, IsHeadEnd, IsLineBefore}
-use Rattle.hc_msg.specs.Reading.{Kind, Reading, Heading, Counts, Runs, Sizing, Chunk, Failed, Byte, Step, quiet, fails, counts, chunk, move_of, HeadMakes, LineMakes, Makes, Leads}
+use Rattle.hc_msg.specs.Reading.{Kind, Requests, Responses, Reading, Heading, Counts, Runs, Sizing, Chunk, Failed, Byte, Step, quiet, fails, counts, chunk, begins_head, move_of, HeadMakes, LineMakes, Makes, Leads}
 use Rattle.hc_head.specs.Finding.{IsLong}
 use Rattle.hc_msg.specs.Chunks.{IsLongLine}
 use Rattle.hc_head.proofs.ScanLemmas.{not_equal}
+use Rattle.hc_head.proofs.Starts.{begins_front}
 use Rattle.hc_msg.proofs.Leading.{leads_on, leads_byte, stays_failed}
 
-open_before : (scan : Scan) (bytes : List ℕ) → is_open (scan_all scan bytes) ≡ true → is_open scan ≡ true
+pub open_before : (scan : Scan) (bytes : List ℕ) → is_open (scan_all scan bytes) ≡ true → is_open scan ≡ true
 open_before Before bytes h = refl
 open_before BeforeReturn bytes h = refl
 open_before Within bytes h = refl
@@ -23,19 +24,31 @@ open_before BeginningReturn bytes h = refl
 open_before Ended [] h = h
 open_before Ended (b ∷ bytes) h = open_before Ended bytes h
 
-goes_in_head : (kind : Kind) (scan : Scan) (text : List ℕ) (b : ℕ) → length text < 32768 → is_open (scan_byte scan b) ≡ true
+-- what begins a head begins as it does
+head_front : (kind : Kind) (xs ys : List ℕ) → begins_head kind (xs ++ ys) ≡ true → begins_head kind xs ≡ true
+head_front Requests xs ys h = begins_front xs ys h
+head_front (Responses no_body) xs ys h = refl
+
+goes_in_head : (kind : Kind) (scan : Scan) (text : List ℕ) (b : ℕ) → length text < 32768 → is_open (scan_byte scan b) ≡ true → begins_head kind (text ++ b ∷ []) ≡ true
     → Makes (move_of (Heading kind scan text) b) (quiet (Heading kind (scan_byte scan b) (text ++ b ∷ [])))
 unfolding move_of
-goes_in_head kind scan text b short still =
+goes_in_head kind scan text b short still begins =
     let small : nat_lt (length text) 32768 ≡ true = lt-ltb (length text) 32768 short in
-    rw (small, still) refl
+    rw (small, begins, still) refl
 
-ends_head : (kind : Kind) (scan : Scan) (text : List ℕ) (b : ℕ) (step : Step) → length text < 32768 → is_open (scan_byte scan b) ≡ false → HeadMakes kind (text ++ b ∷ []) step
-    → Makes (move_of (Heading kind scan text) b) step
+ends_head : (kind : Kind) (scan : Scan) (text : List ℕ) (b : ℕ) (step : Step) → length text < 32768 → is_open (scan_byte scan b) ≡ false → begins_head kind (text ++ b ∷ []) ≡ true
+    → HeadMakes kind (text ++ b ∷ []) step → Makes (move_of (Heading kind scan text) b) step
 unfolding move_of
-ends_head kind scan text b step short over h =
+ends_head kind scan text b step short over begins h =
     let small : nat_lt (length text) 32768 ≡ true = lt-ltb (length text) 32768 short in
-    rw (small, over) h
+    rw (small, begins, over) h
+
+refuses_head : (kind : Kind) (scan : Scan) (text : List ℕ) (b : ℕ) → length text < 32768 → begins_head kind (text ++ b ∷ []) ≡ false
+    → Makes (move_of (Heading kind scan text) b) (fails error.BadHead)
+unfolding move_of
+refuses_head kind scan text b short never =
+    let small : nat_lt (length text) 32768 ≡ true = lt-ltb (length text) 32768 short in
+    rw (small, never) refl
 
 passes_head : (kind : Kind) (scan : Scan) (text : List ℕ) (b : ℕ) → 32768 ≤ length text → Makes (move_of (Heading kind scan text) b) (fails error.HeadTooLong)
 unfolding move_of
@@ -43,16 +56,17 @@ passes_head kind scan text b long =
     let large : nat_lt (length text) 32768 ≡ false = le-ltb (length text) 32768 long in
     rw large refl
 
-pub heading_on : (kind : Kind) (bytes : List ℕ) (scan : Scan) (text : List ℕ) → is_open (scan_all scan bytes) ≡ true → length text + length bytes ≤ 32768
+pub heading_on : (kind : Kind) (bytes : List ℕ) (scan : Scan) (text : List ℕ) → is_open (scan_all scan bytes) ≡ true → length text + length bytes ≤ 32768 → begins_head kind (text ++ bytes) ≡ true
     → Leads (Heading kind scan text) bytes [] (Heading kind (scan_all scan bytes) (text ++ bytes))
-heading_on kind [] scan text still short = (refl, ap (Heading kind scan) (append-nil text))
-heading_on kind (b ∷ bytes) scan text still short =
+heading_on kind [] scan text still short begins = (refl, ap (Heading kind scan) (append-nil text))
+heading_on kind (b ∷ bytes) scan text still short begins =
     let next = scan_byte scan b in
-    let rest = heading_on kind bytes next (text ++ b ∷ []) still (simp length-append (omega arith)) in
-    let same : (text ++ b ∷ []) ++ bytes ≡ text ++ (b ∷ bytes) = append_assoc text (b ∷ []) bytes in (
+    let same : (text ++ b ∷ []) ++ bytes ≡ text ++ (b ∷ bytes) = append_assoc text (b ∷ []) bytes in
+    let all : begins_head kind ((text ++ b ∷ []) ++ bytes) ≡ true = ap (begins_head kind) same ∙ begins in
+    let rest = heading_on kind bytes next (text ++ b ∷ []) still (simp length-append (omega arith)) all in (
       quiet (Heading kind next (text ++ b ∷ [])),
       [],
-      goes_in_head kind scan text b (omega arith) (open_before next bytes still),
+      goes_in_head kind scan text b (omega arith) (open_before next bytes still) (head_front kind (text ++ b ∷ []) bytes all),
       subst (λ (t : List ℕ). Leads (Heading kind next (text ++ b ∷ [])) bytes [] (Heading kind (scan_all next bytes) t)) same rest,
       refl,
     )
@@ -63,28 +77,48 @@ end_of_head scan piece n h =
     ap (take n) (sym h.whole ∙ sym (append_assoc h.front (10 ∷ []) h.rest)) ∙ take_at (h.front ++ 10 ∷ []) h.rest n (simp length-append (omega (arith, h.len)))
 
 pub heading_ends : (kind : Kind) (scan : Scan) (text piece : List ℕ) (n : ℕ) (step : Step) → IsHeadEnd scan piece n → length text + n ≤ 32768
-    → HeadMakes kind (text ++ take n piece) step → Leads (Heading kind scan text) (take n piece) step.tokens step.next
-heading_ends kind scan text piece n step h short makes =
+    → begins_head kind (text ++ take n piece) ≡ true → HeadMakes kind (text ++ take n piece) step → Leads (Heading kind scan text) (take n piece) step.tokens step.next
+heading_ends kind scan text piece n step h short begins makes =
     let last = end_of_head scan piece n h in
     let mid = Heading kind (scan_all scan h.front) (text ++ h.front) in
     let whole : text ++ take n piece ≡ (text ++ h.front) ++ 10 ∷ [] =
     ap (λ (t : List ℕ). text ++ t) last ∙ sym (append_assoc text h.front (10 ∷ [])) in
     let made : HeadMakes kind ((text ++ h.front) ++ 10 ∷ []) step = subst (λ (t : List ℕ). HeadMakes kind t step) whole makes in
-    let on = heading_on kind h.front scan text h.open_before (omega (arith, h.len)) in
-    let off = leads_byte mid 10 step (ends_head kind (scan_all scan h.front) (text ++ h.front) 10 step (simp length-append (omega (arith, h.len))) (ap is_open h.ends) made) in
+    let all : begins_head kind ((text ++ h.front) ++ 10 ∷ []) ≡ true = ap (begins_head kind) (sym whole) ∙ begins in
+    let on = heading_on kind h.front scan text h.open_before (omega (arith, h.len)) (head_front kind (text ++ h.front) (10 ∷ []) all) in
+    let off = leads_byte mid 10 step (ends_head kind (scan_all scan h.front) (text ++ h.front) 10 step (simp length-append (omega (arith, h.len))) (ap is_open h.ends) all made) in
     rw last (leads_on (Heading kind scan text) h.front (10 ∷ []) [] step.tokens mid step.next on off)
 
-pub heading_long : (kind : Kind) (scan : Scan) (text piece : List ℕ) → IsLong (length text) scan piece → Leads (Heading kind scan text) piece [] (Failed error.HeadTooLong)
-heading_long kind scan text piece h = past h.rest h.some h.whole where
+pub heading_long : (kind : Kind) (scan : Scan) (text piece : List ℕ) (h : IsLong (length text) scan piece) → begins_head kind (text ++ h.front) ≡ true
+    → Leads (Heading kind scan text) piece [] (Failed error.HeadTooLong)
+heading_long kind scan text piece h begins = past h.rest h.some h.whole where
   past : (rest : List ℕ) → 0 < length rest → h.front ++ rest ≡ piece → Leads (Heading kind scan text) piece [] (Failed error.HeadTooLong)
   past [] some whole = absurd (omega arith)
   past (b ∷ rest) some whole =
       let mid = Heading kind (scan_all scan h.front) (text ++ h.front) in
-      let on = heading_on kind h.front scan text h.still_open (omega (arith, h.len)) in
+      let on = heading_on kind h.front scan text h.still_open (omega (arith, h.len)) begins in
       let over : Makes (move_of mid b) (fails error.HeadTooLong) = passes_head kind (scan_all scan h.front) (text ++ h.front) b (simp length-append (omega (arith, h.len))) in
       subst (λ (t : List ℕ). Leads (Heading kind scan text) t [] (Failed error.HeadTooLong)) whole
       (leads_on (Heading kind scan text) h.front (b ∷ rest) [] [] mid (Failed error.HeadTooLong) on
       (fails error.HeadTooLong, [], over, stays_failed error.HeadTooLong rest, refl))
+
+-- bytes with which no head begins, of which all but the last don't end it
+pub heading_refused : (kind : Kind) (bytes : List ℕ) (scan : Scan) (text : List ℕ) → begins_head kind text ≡ true → begins_head kind (text ++ bytes) ≡ false
+    → length text + length bytes ≤ 32768 → ((k : ℕ) → k < length bytes → is_open (scan_all scan (take k bytes)) ≡ true)
+    → Leads (Heading kind scan text) bytes [] (Failed error.BadHead)
+heading_refused kind [] scan text before never short opens =
+    let same : begins_head kind (text ++ []) ≡ begins_head kind text = ap (begins_head kind) (append-nil text) in
+    absurd (true≢false (sym before ∙ sym same ∙ never))
+heading_refused kind (b ∷ []) scan text before never short opens =
+    (fails error.BadHead, [], refuses_head kind scan text b (omega arith) never, stays_failed error.BadHead [], refl)
+heading_refused kind (b ∷ c ∷ bytes) scan text before never short opens =
+    let next = scan_byte scan b in
+    let same : (text ++ b ∷ []) ++ (c ∷ bytes) ≡ text ++ (b ∷ c ∷ bytes) = append_assoc text (b ∷ []) (c ∷ bytes) in
+    elim (cases_Bool (begins_head kind (text ++ b ∷ []))) [
+      | inl on ↦ (let rest = heading_refused kind (c ∷ bytes) next (text ++ b ∷ []) on (ap (begins_head kind) same ∙ never) (simp length-append (omega arith)) (λ k lt. opens (suc k) (omega arith)) in
+          (quiet (Heading kind next (text ++ b ∷ [])), [], goes_in_head kind scan text b (omega arith) (opens 1 (omega arith)) on, rest, refl))
+      | inr off ↦ (fails error.BadHead, [], refuses_head kind scan text b (omega arith) off, stays_failed error.BadHead (c ∷ bytes), refl)
+    ]
 
 -- chunk lines
 goes_in_line : (text : List ℕ) (b : ℕ) → length text < 1024 → (b == 10) ≡ false → Makes (move_of (Sizing text) b) (quiet (Sizing (text ++ b ∷ [])))

@@ -29,7 +29,7 @@ use Rattle.hc_msg.proofs.Bytes.{heading_on, heading_ends, heading_long, line_on,
 heard_leads : (nb : Bool) (scan : Scan) (held rest : List ℕ) (n : ℕ) (heard : Heard) → IsHeadEnd scan rest n → length held + n ≤ 32768
     → IsHeardIn nb (held ++ take n rest) heard
     → Leads (Heading (Responses nb) scan held) (take n rest) (after_heard nb heard).tokens (after_heard nb heard).next
-heard_leads nb scan held rest n heard ends short comes = heading_ends (Responses nb) scan held rest n (after_heard nb heard) ends short (heard, comes, refl)
+heard_leads nb scan held rest n heard ends short comes = heading_ends (Responses nb) scan held rest n (after_heard nb heard) ends short refl (heard, comes, refl)
 
 no_error : {A : Type 0} (e : MsgError) (value : A) → Ok value ≡ Err e → ⊥
 no_error e value same = cc
@@ -80,14 +80,14 @@ head_fails nb scan held rest n most e f result t ends short (inr tokens) is same
 pub head_long : (nb : Bool) (scan : Scan) (held rest : List ℕ) (most : ℕ) (e : MsgError) (t : Reading) → e ≡ error.HeadTooLong → IsLong (length held) scan rest
     → Moves (Heading (Responses nb) scan held) rest most (Err e) t
 head_long nb scan held rest most e t same long =
-    inr (subst (λ (x : MsgError). Leads (Heading (Responses nb) scan held) rest [] (Failed x)) (sym same) (heading_long (Responses nb) scan held rest long))
+    inr (subst (λ (x : MsgError). Leads (Heading (Responses nb) scan held) rest [] (Failed x)) (sym same) (heading_long (Responses nb) scan held rest long refl))
 
 pub head_open : (nb : Bool) (scan next : Scan) (held rest grown : List ℕ) (most : ℕ) → StaysOpen scan rest next → length held + length rest ≤ 32768 → grown ≡ held ++ rest → 0 < length rest
     → Moves (Heading (Responses nb) scan held) rest most (Ok (moved.Passes (length rest))) (Heading (Responses nb) next grown)
 head_open nb scan next held rest grown most stays short grows some =
     let s = Heading (Responses nb) scan held in
     let still : is_open (scan_all scan rest) ≡ true = ap is_open (sym stays.leads) ∙ stays.still_open in
-    let leads = heading_on (Responses nb) rest scan held still short in
+    let leads = heading_on (Responses nb) rest scan held still short refl in
     let all : take (length rest) rest ≡ rest = take_all (length rest) rest (omega arith) in
     (some, omega arith, rw (all, grows, stays.leads) leads)
 

@@ -1,5 +1,5 @@
 -- How messages are read, byte by byte: where the reading stands behind a byte, and what the byte brings.
-use Rattle.std.specs.Prelude.{◌≡◌, ℕ, ◌-◌, ◌==◌, nat_lt, Bool, List, [], ◌∷◌, ◌++◌, length, Option, Some, None, if◌then◌else◌}
+use Rattle.std.specs.Prelude.{◌≡◌, ℕ, ◌-◌, ◌==◌, not, nat_lt, Bool, true, List, [], ◌∷◌, ◌++◌, length, Option, Some, None, if◌then◌else◌}
 use Rattle.hc_event.specs.declared.event.Response.{Response}
 use Rattle.hc_head.specs.declared.message.MsgError.{MsgError}
 use Rattle.hc_head.specs.declared.message.MsgError.TheVariants as error
@@ -11,6 +11,7 @@ use Rattle.hc_head.specs.declared.scan.Scan.TheVariants as scan
 use Rattle.hc_msg.specs.declared.trailer.Trailer.{Trailer}
 use Rattle.hc_msg.specs.declared.trailer.Trailer.TheVariants as trailer
 use Rattle.hc_head.specs.Scans.{scan_byte, is_open}
+use Rattle.hc_head.specs.Starts.{begins_request}
 use Rattle.hc_head.specs.Requests.{Asked, Grants, Denies, IsAskedBy}
 use Rattle.hc_head.specs.Responses.{Heard, Skips, Shows, Refuses, IsHeardIn}
 use Rattle.hc_msg.specs.declared.trailer.Trails.{Trails}
@@ -111,10 +112,16 @@ after_trail (On place count) = quiet (Trailing place count)
 after_trail Ends = quiet Whole
 after_trail TooLong = fails error.BadChunk
 
+-- a message may begin with these bytes: of a request it is looked at whether a method and a space can stand there
+abbrev pub begins_head : Kind → List ℕ → Bool
+begins_head Requests text = begins_request text
+begins_head (Responses no_body) text = true
+
 -- one more byte of a head of at most 32,768 bytes
 abbrev pub head_move : Kind → Scan → List ℕ → Move
 head_move kind scan text =
-    if is_open scan then Goes (quiet (Heading kind scan text)) else EndsHead kind text
+    if not (begins_head kind text) then Goes (fails error.BadHead)
+    else if is_open scan then Goes (quiet (Heading kind scan text)) else EndsHead kind text
 
 -- one more byte of a chunk line of at most 1,024 bytes
 abbrev pub line_move : ℕ → List ℕ → Move

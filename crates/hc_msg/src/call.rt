@@ -1,18 +1,35 @@
 //! The reading of requests that was not refused so far.
 ghost use Rattle.std.specs.Prelude.{◌≡◌, ◌≤◌, ◌+◌, ◌++◌, [], length, OnOk};
 ghost use Rattle.hc_msg.specs.Reading.{Requests, heading};
-ghost use Rattle.hc_msg.specs.Asking.{asking, IsAsking, Called, TakesRequest};
+ghost use Rattle.hc_msg.specs.Asking.{asking, IsAsking, head_count, Called, TakesRequest};
 
 use crate::message::Taken;
-use hc_head::{MsgError, Scan, Sought, WireRequest, call_of, find_end};
+use hc_head::{MsgError, Scan, Sought, Start, WireRequest, call_of, find_end};
 use std::alloc::Global;
+
+/// A head has at most this many bytes.
+const MOST_HEAD: usize = 32768;
 
 /// The reading of a request.
 #[derive(Drop)]
 pub(crate) struct Call {
     scan: Scan,
+    /// How its first line begins.
+    start: Start,
     /// The bytes so far of its head.
     held: Vec<u8>,
+}
+
+/// How many of the bytes are of the head, by the search behind `held` bytes of it.
+fn head_count(held: usize, piece: &[u8], found: &Result<Sought, MsgError>) -> usize
+    requires { held ≤ 32768 }
+    ensures { result ≡ head_count held piece.now found.now }
+{
+    match found {
+        Ok(Sought::Ends(n)) => *n,
+        Ok(Sought::Open(_)) => piece.len(),
+        Err(_) => MOST_HEAD - held,
+    }
 }
 
 impl Call {
@@ -23,6 +40,7 @@ impl Call {
     {
         Call {
             scan: Scan::Before,
+            start: Start::Before,
             held: Vec::new(alloc),
         }
     }
@@ -49,23 +67,32 @@ impl Call {
         ensures takes { TakesRequest (asking self.old) piece.now result (asking self.new) }
         ensures sound { OnOk result (IsAsking self.new) }
     {
-        match find_end(self.held.as_slice().len(), self.scan, piece)? {
-            Sought::Ends(n) => {
+        let held = self.held.as_slice().len();
+        let found = find_end(held, self.scan, piece);
+        let count = head_count(held, piece, &found);
+        let Some(start) = self.start.behind(&piece[..count]) else {
+            return Err(MsgError::BadHead);
+        };
+        match found {
+            Ok(Sought::Ends(n)) => {
                 let request = self.whole_head(&piece[..n])?;
                 self.scan = Scan::Before;
+                self.start = Start::Before;
                 Ok(Taken {
                     used: n,
                     got: Some(request),
                 })
             }
-            Sought::Open(next) => {
+            Ok(Sought::Open(next)) => {
                 self.held.extend_from_slice(piece)?;
                 self.scan = next;
+                self.start = start;
                 Ok(Taken {
                     used: piece.len(),
                     got: None,
                 })
             }
+            Err(e) => Err(e),
         }
     }
 
@@ -75,5 +102,6 @@ impl Call {
     {
         self.held = Vec::new(*self.held.allocator());
         self.scan = Scan::Before;
+        self.start = Start::Before;
     }
 }

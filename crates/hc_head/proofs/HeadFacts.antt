@@ -113,7 +113,7 @@ own_ends y (b ∷ rest) p same (inr last) first = bounded first where
       let high : is_blank (get_or (reverse (b ∷ rest)) (length (reverse (b ∷ rest)) - 1) 0) ≡ false = ap is_blank last_is ∙ last in
       rw (low, high) (cond_either (length (reverse (b ∷ rest)) == 0))
 
-own_value : (raw : List ℕ) → AllPass grammar.is_value_byte raw → is_own_value (trim_ows raw) ≡ true
+pub own_value : (raw : List ℕ) → AllPass grammar.is_value_byte raw → is_own_value (trim_ows raw) ≡ true
 unfolding trim_ows
 own_value raw h =
     let y = skip_ows raw in

@@ -10,3 +10,4 @@ pub mod Calls
 pub mod Hosts
 pub mod Keys
 pub mod Starts
+pub mod Spellings

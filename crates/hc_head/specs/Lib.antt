@@ -9,3 +9,4 @@ pub mod Codings
 pub mod Replies
 pub mod Finding
 pub mod Calls
+pub mod Spellings

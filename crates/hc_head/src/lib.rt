@@ -5,6 +5,7 @@
 mod fields;
 mod framing;
 mod head;
+mod laws;
 mod lengths;
 mod message;
 mod request;
@@ -14,6 +15,7 @@ mod start;
 
 pub use framing::Framing;
 pub use head::find_end;
+pub use laws::what_is_told_has_a_spelling;
 pub use message::{MsgError, WireRequest};
 pub use request::call_of;
 pub use response::{Reply, reply_of};

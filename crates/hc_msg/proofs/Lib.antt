@@ -5,3 +5,4 @@ pub mod Lines
 pub mod Moves
 pub mod Calls
 pub mod Chains
+pub mod Spelled

@@ -4,3 +4,4 @@ pub mod Taking
 pub mod Laws
 pub mod Asking
 pub mod Writing
+pub mod Spelled

@@ -1,5 +1,6 @@
 //! The laws of messages.
 ghost use Rattle.hc_msg.specs.Laws.{IsReadOneWay, IsReadPiecewise, StaysFailed};
+ghost use Rattle.hc_msg.specs.Spelled.{TokensAreSpelled};
 
 /// Bytes are read one way, however they are cut.
 ///
@@ -10,4 +11,9 @@ pub fn bytes_are_read_one_way()
     ensures one { IsReadOneWay }
     ensures pieces { IsReadPiecewise }
     ensures stays { StaysFailed }
+{}
+
+/// The requests and the heads of answers that bytes tell have a spelling in a schedule.
+pub fn what_bytes_tell_has_a_spelling()
+    ensures { TokensAreSpelled }
 {}

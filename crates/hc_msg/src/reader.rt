@@ -29,6 +29,7 @@ impl Model for ResponseReader {
 
 impl ResponseReader {
     ghost use Rattle.hc_msg.specs.Reading.{Responses, heading};
+    ghost use Rattle.hc_msg.specs.Spelled.{IsSpelledPart, GivesSpelled};
     ghost use Rattle.hc_msg.specs.Taking.{Takes, AnswersAgain, StandsAt, ending, reading_at_end};
 
     /// A reader at the beginning of an answer. `no_body` tells that the request was a HEAD, whose
@@ -50,6 +51,7 @@ impl ResponseReader {
         ensures takes { Takes self.old piece.now most result self.new }
         ensures again { AnswersAgain self.old result }
         ensures stands { StandsAt result self.new }
+        ensures spelled { GivesSpelled (IsSpelledPart most) result }
     {
         match self.answer.state {
             State::Failed(e) => return Err(e),

@@ -31,6 +31,8 @@ impl Model for RequestReader {
 
 impl RequestReader {
     ghost use Rattle.hc_msg.specs.Reading.{Requests, heading};
+    ghost use Rattle.hc_head.specs.Spellings.{IsSpelledRequest};
+    ghost use Rattle.hc_msg.specs.Spelled.{GivesSpelled};
     ghost use Rattle.hc_msg.specs.Taking.{AnswersAgain, StandsAt};
     ghost use Rattle.hc_msg.specs.Asking.{TakesRequest};
 
@@ -50,6 +52,7 @@ impl RequestReader {
         ensures takes { TakesRequest self.old piece.now result self.new }
         ensures again { AnswersAgain self.old result }
         ensures stands { StandsAt result self.new }
+        ensures spelled { GivesSpelled (λ r. IsSpelledRequest r.request) result }
     {
         if let Some(e) = self.error {
             return Err(e);

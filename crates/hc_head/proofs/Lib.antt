@@ -11,3 +11,6 @@ pub mod Hosts
 pub mod Keys
 pub mod Starts
 pub mod Spellings
+pub mod LineTexts
+pub mod HeadTexts
+pub mod Decoding

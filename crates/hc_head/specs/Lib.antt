@@ -10,3 +10,5 @@ pub mod Replies
 pub mod Finding
 pub mod Calls
 pub mod Spellings
+pub mod HeadLines
+pub mod Decoding

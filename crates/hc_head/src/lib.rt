@@ -15,7 +15,7 @@ mod start;
 
 pub use framing::Framing;
 pub use head::find_end;
-pub use laws::what_is_told_has_a_spelling;
+pub use laws::{heads_are_read_by_equations, what_is_told_has_a_spelling};
 pub use message::{MsgError, WireRequest};
 pub use request::call_of;
 pub use response::{Reply, reply_of};

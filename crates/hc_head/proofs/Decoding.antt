@@ -1,0 +1,334 @@
+-- What a text comes to is what the equations say. A head that is printed is read as that head (`request_reads`,
+-- `response_reads`), and a head that is read prints as the text (`request_prints`, `response_prints`). Since the grammar
+-- reads one head at most, the head that the equations find is the one that counts; and where they find none, there is
+-- none.
+use Rattle.std.proofs.Common.{◌≡◌, ℕ, zero, suc, ◌<◌, ◌≤◌, ◌==◌, Bool, true, false, List, [], ◌∷◌, ◌++◌, length, take, drop, refl, sym, ap, subst, ◌∙◌, inl, inr, arith, append_assoc, length-append}
+use Rattle.std.specs.Prelude.{◌&&◌, nat_lt, map, All, bytes_eq, codes, Option, Some, None, option_map, option_and_then, if◌then◌else◌}
+use Rattle.std.specs.List.{list_all, flat_map}
+use Rattle.std.specs.Char.{is_ascii_digit}
+use Rattle.std.specs.Str.{is_utf8}
+use Rattle.std.proofs.lemmas.Bool.{cases_Bool, and_parts, eqb-true, ne_eqb, ltb-true, ltb-false, lt-ltb}
+use Rattle.std.proofs.lemmas.Str.{IsUtf8-from_is_utf8, is_utf8-from_IsUtf8}
+use Rattle.std.proofs.lemmas.List.{append-nil, take-append-drop, drop-drop}
+use Rattle.std.proofs.lemmas.List.Sums.{AllPass-from_list_all, list_all-from_AllPass}
+use Rattle.std.proofs.lemmas.Slice.Eq.{bytes_eq-Decides}
+use Rattle.httparse.specs.Grammar.{LineEnd, print_end, print_blank, print_version, Field, IsField, print_section, RequestHead, IsRequestHead, print_request, ReadsRequest, ResponseHead, IsResponseHead, print_response, print_reason, reason_phrase, AllPass, ReadsResponse, is_token, is_token_byte, is_uri_byte, is_value_byte}
+use Rattle.httparse.proofs.GrammarLemmas.{cons-append, print_request-append, print_response-append, request_unique, response_unique}
+use Rattle.hc_head.specs.Requests.{IsAskedBy}
+use Rattle.hc_head.specs.Responses.{IsHeardIn}
+use Rattle.hc_head.specs.HeadLines.{Line, lines_behind, is_empty, blank_in, behind_blank, before, behind, minor_of, Section, section_of, is_request, request_with, request_by, request_of_lines, request_head, reason_of, has_status, response_with, response_by, response_of_lines, response_head}
+use Rattle.hc_head.specs.Decoding.{asked_by_head, asked_in, heard_by_head, heard_in}
+use Rattle.hc_head.proofs.LineTexts.{is_plain, all_not, all_plain, plain_append, print_line, line_printed, not_some, some_same, mapped_from, lines_make, cut_before, cut_behind, cut_makes, cut_within}
+use Rattle.hc_head.proofs.HeadTexts.{bound_from, token_true, token_plain, no_space, field_line, section_read, section_lines, section_make, empty_line, blank_lines, blank_read, behind_read, blank_make, minor_read, minor_make}
+
+-- lines that are printed are read
+version_plain : (minor : ℕ) → minor ≤ 1 → list_all is_plain (print_version minor) ≡ true
+version_plain zero h = refl
+version_plain (suc zero) h = refl
+version_plain (suc (suc n)) h = absurd (omega arith)
+
+some_line : (b : ℕ) (text : List ℕ) (end : LineEnd) → is_empty (record { text = b ∷ text; end = end }) ≡ false
+some_line b text end = ne_eqb (length (b ∷ text)) 0 (omega arith)
+
+word_line : (word rest : List ℕ) (end : LineEnd) → 0 < length word → is_empty (record { text = word ++ rest; end = end }) ≡ false
+word_line word rest end some = ne_eqb (length (word ++ rest)) 0 (λ e. omega (arith, e, length-append word rest))
+
+-- the lines of a head whose first line is this
+pub head_lines : (ends : List LineEnd) (text : List ℕ) (end : LineEnd) (fs : List Field) (last : LineEnd) → list_all is_plain text ≡ true → All IsField fs
+    → lines_behind [] (print_blank ends ++ (text ++ (print_end end ++ print_section fs last)))
+    ≡ Some (map empty_line ends ++ record { text = text; end = end } ∷ (map field_line fs ++ record { text = []; end = last } ∷ []))
+head_lines ends text end fs last plain fields =
+    blank_lines ends (text ++ (print_end end ++ print_section fs last)) (record { text = text; end = end } ∷ (map field_line fs ++ record { text = []; end = last } ∷ []))
+    (line_printed text end (print_section fs last) (map field_line fs ++ record { text = []; end = last } ∷ []) plain (section_lines fs last fields))
+
+-- REQUESTS
+
+abbrev pub request_text : RequestHead → List ℕ
+request_text h = h.method ++ 32 ∷ (h.target ++ 32 ∷ print_version h.minor)
+
+request_read : (h : RequestHead) → IsRequestHead h → request_with h.blank (record { text = request_text h; end = h.line_end }) (record { fields = h.fields; last = h.last }) (minor_of (behind 32 (behind 32 (request_text h)))) ≡ Some h
+request_read h is =
+    let methods = list_all-from_AllPass is_token_byte h.method is.method.1 in
+    let targets = list_all-from_AllPass is_uri_byte h.target is.target.1 in
+    let first = no_space h.method methods in
+    let second = all_not is_uri_byte 32 refl h.target targets in
+    let method = cut_before 32 h.method (h.target ++ 32 ∷ print_version h.minor) first in
+    let rest = cut_behind 32 h.method (h.target ++ 32 ∷ print_version h.minor) first in
+    let target = cut_before 32 h.target (print_version h.minor) second in
+    let version = cut_behind 32 h.target (print_version h.minor) second in
+    let minor = minor_read h.minor is.minor in
+    let token = token_true h.method is.method.0 methods in
+    let some : nat_lt 0 (length h.target) ≡ true = lt-ltb 0 (length h.target) is.target.0 in
+    let utf8 = is_utf8-from_IsUtf8 h.target is.target_text in
+    let behind_both : minor_of (behind 32 (behind 32 (request_text h))) ≡ Some h.minor = ap (λ (t : List ℕ). minor_of (behind 32 t)) rest ∙ ap minor_of version ∙ minor in
+    let own : before 32 (behind 32 (request_text h)) ≡ h.target = ap (before 32) rest ∙ target in
+    let holds : is_request h.method h.target ≡ true = rw (token, some, targets, utf8) refl in
+    ap (request_with h.blank (record { text = request_text h; end = h.line_end }) (record { fields = h.fields; last = h.last })) behind_both
+    ∙ made (before 32 (request_text h)) (before 32 (behind 32 (request_text h))) method own holds where
+      made : (m t : List ℕ) → m ≡ h.method → t ≡ h.target → is_request h.method h.target ≡ true
+          → (if is_request m t then Some (record { blank = h.blank; method = m; target = t; minor = h.minor; line_end = h.line_end; fields = h.fields; last = h.last }) else None) ≡ Some h
+      made m t same own holds = rw (same, own, holds) refl
+
+request_plain : (h : RequestHead) → IsRequestHead h → list_all is_plain (request_text h) ≡ true
+request_plain h is =
+    let targets = all_plain is_uri_byte refl refl h.target (list_all-from_AllPass is_uri_byte h.target is.target.1) in
+    let tail = plain_append h.target (32 ∷ print_version h.minor) targets (version_plain h.minor is.minor) in
+    plain_append h.method (32 ∷ (h.target ++ 32 ∷ print_version h.minor)) (token_plain h.method (list_all-from_AllPass is_token_byte h.method is.method.1)) tail
+
+request_layout : (h : RequestHead) → print_request h ≡ print_blank h.blank ++ (request_text h ++ (print_end h.line_end ++ print_section h.fields h.last))
+request_layout h =
+    sym (append-nil (print_request h)) ∙ print_request-append h []
+    ∙ ap (λ (t : List ℕ). print_blank h.blank ++ (h.method ++ 32 ∷ (h.target ++ 32 ∷ (print_version h.minor ++ (print_end h.line_end ++ t))))) (append-nil (print_section h.fields h.last))
+    ∙ simp (append_assoc, cons-append)
+
+pub request_reads : (text : List ℕ) (h : RequestHead) → ReadsRequest text h [] → request_head text ≡ Some h
+request_reads text h reads =
+    let is = reads.0 in
+    let layout : text ≡ print_blank h.blank ++ (request_text h ++ (print_end h.line_end ++ print_section h.fields h.last)) = reads.1 ∙ append-nil (print_request h) ∙ request_layout h in
+    let lines = head_lines h.blank (request_text h) h.line_end h.fields h.last (request_plain h is) is.fields in
+    let first : Line = record { text = request_text h; end = h.line_end } in
+    let more = map field_line h.fields ++ record { text = []; end = h.last } ∷ [] in
+    let some = word_line h.method (32 ∷ (h.target ++ 32 ∷ print_version h.minor)) h.line_end is.method.0 in
+    let blank = blank_read h.blank first more some in
+    let rest = behind_read h.blank first more some in
+    ap (λ (t : List ℕ). option_and_then request_of_lines (lines_behind [] t)) layout ∙ ap (option_and_then request_of_lines) lines
+    ∙ ap (λ (b : List LineEnd). request_by b (behind_blank (map empty_line h.blank ++ first ∷ more))) blank ∙ ap (request_by h.blank) rest
+    ∙ ap (option_and_then (λ section. request_with h.blank first section (minor_of (behind 32 (behind 32 first.text))))) (section_read h.fields h.last is.fields)
+    ∙ request_read h is
+
+-- the other way
+pub record IsRequestLine (blank : List LineEnd) (line : Line) (section : Section) (h : RequestHead) : Type 0 where
+  pub is : IsRequestHead h
+  pub blank_is : blank ≡ h.blank
+  pub text_is : line.text ≡ request_text h
+  pub end_is : line.end ≡ h.line_end
+  pub fields_are : section.fields ≡ h.fields
+  pub last_is : section.last ≡ h.last
+
+some_version : (text : List ℕ) (minor : ℕ) → text ≡ print_version minor → 0 < length text
+some_version text minor is = omega (arith, ap length is)
+
+request_make : (blank : List LineEnd) (line : Line) (section : Section) (h : RequestHead) → All IsField section.fields
+    → request_with blank line section (minor_of (behind 32 (behind 32 line.text))) ≡ Some h → IsRequestLine blank line section h
+request_make blank line section h fields found = by (minor_of (behind 32 (behind 32 line.text))) refl found where
+  by : (minor : Option ℕ) → minor_of (behind 32 (behind 32 line.text)) ≡ minor → request_with blank line section minor ≡ Some h → IsRequestLine blank line section h
+  by None is found = absurd (not_some h found)
+  by (Some minor) is found = elim (cases_Bool (is_request (before 32 line.text) (before 32 (behind 32 line.text)))) [
+    | inr miss ↦ absurd (not_some h (rw miss at found))
+    | inl holds ↦ (let method = before 32 line.text in
+        let rest = behind 32 line.text in
+        let target = before 32 rest in
+        let version = minor_make (behind 32 rest) minor is in
+        let second : rest ≡ target ++ 32 ∷ behind 32 rest = cut_makes 32 rest (cut_within 32 rest (some_version (behind 32 rest) minor version.1)) in
+        let first : line.text ≡ method ++ 32 ∷ rest = cut_makes 32 line.text (cut_within 32 line.text (omega (arith, ap length second, length-append target (32 ∷ behind 32 rest)))) in
+        let outer = and_parts ((is_token method && nat_lt 0 (length target)) && list_all is_uri_byte target) (is_utf8 target) holds in
+        let inner = and_parts (is_token method && nat_lt 0 (length target)) (list_all is_uri_byte target) outer.0 in
+        let parts = and_parts (is_token method) (nat_lt 0 (length target)) inner.0 in
+        let token = and_parts (nat_lt 0 (length method)) (list_all is_token_byte method) parts.0 in
+        let made : RequestHead = record { blank = blank; method = method; target = target; minor = minor; line_end = line.end; fields = section.fields; last = section.last } in
+        let same : made ≡ h = some_same made h (rw holds at found) in
+        subst (IsRequestLine blank line section) same (record {
+          is = record {
+            method = (ltb-true 0 (length method) token.0, AllPass-from_list_all is_token_byte method token.1);
+            target = (ltb-true 0 (length target) parts.1, AllPass-from_list_all is_uri_byte target inner.1);
+            target_text = IsUtf8-from_is_utf8 target outer.1;
+            minor = version.0;
+            fields = fields;
+          };
+          blank_is = refl;
+          text_is = first ∙ ap (λ (t : List ℕ). method ++ 32 ∷ t) second ∙ ap (λ (t : List ℕ). method ++ 32 ∷ (target ++ 32 ∷ t)) version.1;
+          end_is = refl;
+          fields_are = refl;
+          last_is = refl;
+        }))
+  ]
+
+made_request : (text : List ℕ) (blank : List LineEnd) (lines : List Line) (h : RequestHead) → text ≡ print_blank blank ++ flat_map print_line lines → request_by blank lines ≡ Some h → ReadsRequest text h []
+made_request text blank [] h is found = absurd (not_some h found)
+made_request text blank (line ∷ lines) h is found =
+    let section = bound_from (λ s. request_with blank line s (minor_of (behind 32 (behind 32 line.text)))) (section_of lines) h found in
+    let behind_it = section_make lines section.0 section.1 in
+    let made = request_make blank line section.0 h behind_it.fields section.2 in (
+      made.is,
+      is ∙ ap (λ (t : List ℕ). print_blank blank ++ (print_line line ++ t)) behind_it.printed
+          ∙ ap (λ (b : List LineEnd). print_blank b ++ (print_line line ++ print_section section.0.fields section.0.last)) made.blank_is
+          ∙ ap (λ (t : List ℕ). print_blank h.blank ++ ((t ++ print_end line.end) ++ print_section section.0.fields section.0.last)) made.text_is
+          ∙ ap (λ (e : LineEnd). print_blank h.blank ++ ((request_text h ++ print_end e) ++ print_section section.0.fields section.0.last)) made.end_is
+          ∙ ap (λ (fs : List Field). print_blank h.blank ++ ((request_text h ++ print_end h.line_end) ++ print_section fs section.0.last)) made.fields_are
+          ∙ ap (λ (e : LineEnd). print_blank h.blank ++ ((request_text h ++ print_end h.line_end) ++ print_section h.fields e)) made.last_is
+          ∙ ap (λ (t : List ℕ). print_blank h.blank ++ t) (append_assoc (request_text h) (print_end h.line_end) (print_section h.fields h.last))
+          ∙ sym (request_layout h) ∙ sym (append-nil (print_request h)),
+    )
+
+pub request_prints : (text : List ℕ) (h : RequestHead) → request_head text ≡ Some h → ReadsRequest text h []
+request_prints text h found =
+    let lines = bound_from request_of_lines (lines_behind [] text) h found in
+    made_request text (blank_in lines.0) (behind_blank lines.0) h (lines_make [] text lines.0 lines.1 ∙ blank_make lines.0) lines.2
+
+asked_by : (text : List ℕ) (found : Option RequestHead) → request_head text ≡ found → IsAskedBy text (asked_by_head found)
+asked_by text None is = inr (λ head x. not_some head (sym is ∙ request_reads text head x.reads), refl)
+asked_by text (Some h) is =
+    let reads = request_prints text h is in
+    elim (cases_Bool (nat_lt 64 (length h.fields))) [
+      | inl many ↦ (let over = ltb-true 64 (length h.fields) many in
+          rw many (inr (λ head x. let same = request_unique text head h [] [] x.reads reads in omega (arith, over, ap (λ (k : RequestHead). length k.fields) same.0, x.few), refl)))
+      | inr few ↦ rw few (inl (h, record { reads = reads; few = ltb-false 64 (length h.fields) few }, refl))
+    ]
+
+pub asked_in_is : (text : List ℕ) → IsAskedBy text (asked_in text)
+unfolding asked_in
+asked_in_is text = asked_by text (request_head text) refl
+
+-- ANSWERS
+
+abbrev pub response_line : ResponseHead → List ℕ
+response_line h = print_version h.minor ++ 32 ∷ (h.digits ++ print_reason h.reason)
+
+reason_read : (reason : Option (List ℕ)) → AllPass is_value_byte (reason_phrase reason) → reason_of (print_reason reason) ≡ Some reason
+reason_read None all = refl
+reason_read (Some phrase) all = let values = list_all-from_AllPass is_value_byte phrase all in rw values refl
+
+reason_make : (text : List ℕ) (reason : Option (List ℕ)) → reason_of text ≡ Some reason → AllPass is_value_byte (reason_phrase reason) × (text ≡ print_reason reason)
+reason_make [] reason h =
+    let same : None ≡ reason = some_same None reason h in
+    subst (λ (r : Option (List ℕ)). AllPass is_value_byte (reason_phrase r) × ([] ≡ print_reason r)) same (λ k d lt. absurd (omega arith), refl)
+reason_make (b ∷ phrase) reason h = elim (cases_Bool (b == 32 && list_all is_value_byte phrase)) [
+  | inr miss ↦ absurd (not_some reason (rw miss at h))
+  | inl hit ↦ (let parts = and_parts (b == 32) (list_all is_value_byte phrase) hit in
+      let same : Some phrase ≡ reason = some_same (Some phrase) reason (rw hit at h) in
+      subst (λ (r : Option (List ℕ)). AllPass is_value_byte (reason_phrase r) × (b ∷ phrase ≡ print_reason r)) same
+      (AllPass-from_list_all is_value_byte phrase parts.1, ap (λ (c : ℕ). c ∷ phrase) (eqb-true b 32 parts.0)))
+]
+
+response_read : (h : ResponseHead) (lines : List Line) → IsResponseHead h → section_of lines ≡ Some (record { fields = h.fields; last = h.last })
+    → response_by h.blank (record { text = response_line h; end = h.line_end } ∷ lines) ≡ Some h
+response_read h lines is sections = go h.minor h.digits is.minor is.digits.0 (list_all-from_AllPass is_ascii_digit h.digits is.digits.1) where
+  reasons : reason_of (print_reason h.reason) ≡ Some h.reason
+  reasons = reason_read h.reason is.reason
+
+  go : (minor : ℕ) (digits : List ℕ) → minor ≤ 1 → length digits ≡ 3 → list_all is_ascii_digit digits ≡ true
+      → response_by h.blank (record { text = print_version minor ++ 32 ∷ (digits ++ print_reason h.reason); end = h.line_end } ∷ lines)
+      ≡ Some (record { blank = h.blank; minor = minor; digits = digits; reason = h.reason; line_end = h.line_end; fields = h.fields; last = h.last })
+  go minor [] low three all = absurd (omega (arith, three))
+  go minor (a ∷ []) low three all = absurd (omega (arith, three))
+  go minor (a ∷ b ∷ []) low three all = absurd (omega (arith, three))
+  go zero (a ∷ b ∷ c ∷ []) low three all = rw (all, sections, reasons) refl
+  go (suc zero) (a ∷ b ∷ c ∷ []) low three all = rw (all, sections, reasons) refl
+  go (suc (suc n)) (a ∷ b ∷ c ∷ []) low three all = absurd (omega arith)
+  go minor (a ∷ b ∷ c ∷ d ∷ digits) low three all = absurd (omega (arith, three))
+
+digits_plain : (digits : List ℕ) → list_all is_ascii_digit digits ≡ true → list_all is_plain digits ≡ true
+digits_plain digits all = all_plain is_ascii_digit refl refl digits all
+
+reason_plain : (reason : Option (List ℕ)) → AllPass is_value_byte (reason_phrase reason) → list_all is_plain (print_reason reason) ≡ true
+reason_plain None all = refl
+reason_plain (Some phrase) all = all_plain is_value_byte refl refl phrase (list_all-from_AllPass is_value_byte phrase all)
+
+response_plain : (h : ResponseHead) → IsResponseHead h → list_all is_plain (response_line h) ≡ true
+response_plain h is =
+    let tail = plain_append h.digits (print_reason h.reason) (digits_plain h.digits (list_all-from_AllPass is_ascii_digit h.digits is.digits.1)) (reason_plain h.reason is.reason) in
+    plain_append (print_version h.minor) (32 ∷ (h.digits ++ print_reason h.reason)) (version_plain h.minor is.minor) tail
+
+response_layout : (h : ResponseHead) → print_response h ≡ print_blank h.blank ++ (response_line h ++ (print_end h.line_end ++ print_section h.fields h.last))
+response_layout h =
+    sym (append-nil (print_response h)) ∙ print_response-append h []
+    ∙ ap (λ (t : List ℕ). print_blank h.blank ++ (print_version h.minor ++ 32 ∷ (h.digits ++ (print_reason h.reason ++ (print_end h.line_end ++ t))))) (append-nil (print_section h.fields h.last))
+    ∙ ap (λ (t : List ℕ). print_blank h.blank ++ t) (regroup (print_version h.minor) h.digits (print_reason h.reason) (print_end h.line_end ++ print_section h.fields h.last)) where
+      regroup : (v d r t : List ℕ) → v ++ 32 ∷ (d ++ (r ++ t)) ≡ (v ++ 32 ∷ (d ++ r)) ++ t
+      regroup v d r t = simp (append_assoc, cons-append)
+
+pub response_reads : (text : List ℕ) (h : ResponseHead) → ReadsResponse text h [] → response_head text ≡ Some h
+response_reads text h reads =
+    let is = reads.0 in
+    let layout : text ≡ print_blank h.blank ++ (response_line h ++ (print_end h.line_end ++ print_section h.fields h.last)) = reads.1 ∙ append-nil (print_response h) ∙ response_layout h in
+    let lines = head_lines h.blank (response_line h) h.line_end h.fields h.last (response_plain h is) is.fields in
+    let first : Line = record { text = response_line h; end = h.line_end } in
+    let more = map field_line h.fields ++ record { text = []; end = h.last } ∷ [] in
+    let some = word_line (print_version h.minor) (32 ∷ (h.digits ++ print_reason h.reason)) h.line_end (omega arith) in
+    let blank = blank_read h.blank first more some in
+    let rest = behind_read h.blank first more some in
+    ap (λ (t : List ℕ). option_and_then response_of_lines (lines_behind [] t)) layout ∙ ap (option_and_then response_of_lines) lines
+    ∙ ap (λ (b : List LineEnd). response_by b (behind_blank (map empty_line h.blank ++ first ∷ more))) blank ∙ ap (response_by h.blank) rest
+    ∙ response_read h more is (section_read h.fields h.last is.fields)
+
+-- the other way
+split_at : (n : ℕ) (text : List ℕ) → text ≡ take n text ++ drop n text
+split_at n text = sym (take-append-drop n text)
+
+line_parts : (text version digits tail : List ℕ) → take 8 text ≡ version → take 1 (drop 8 text) ≡ 32 ∷ [] → take 3 (drop 9 text) ≡ digits → drop 12 text ≡ tail → text ≡ version ++ 32 ∷ (digits ++ tail)
+line_parts text version digits tail v s d t =
+    let one : drop 1 (drop 8 text) ≡ drop 9 text = drop-drop 1 8 text in
+    let three : drop 3 (drop 9 text) ≡ drop 12 text = drop-drop 3 9 text in
+    let nine : drop 9 text ≡ digits ++ tail = split_at 3 (drop 9 text) ∙ ap (λ (l : List ℕ). l ++ drop 3 (drop 9 text)) d ∙ ap (λ (l : List ℕ). digits ++ l) (three ∙ t) in
+    let eight : drop 8 text ≡ 32 ∷ (digits ++ tail) = split_at 1 (drop 8 text) ∙ ap (λ (l : List ℕ). l ++ drop 1 (drop 8 text)) s ∙ ap (λ (l : List ℕ). 32 ∷ l) (one ∙ nine) in
+    split_at 8 text ∙ ap (λ (l : List ℕ). l ++ drop 8 text) v ∙ ap (λ (l : List ℕ). version ++ l) eight
+
+pub record IsResponseLine (blank : List LineEnd) (line : Line) (section : Section) (h : ResponseHead) : Type 0 where
+  pub is : IsResponseHead h
+  pub blank_is : blank ≡ h.blank
+  pub text_is : line.text ≡ response_line h
+  pub end_is : line.end ≡ h.line_end
+  pub fields_are : section.fields ≡ h.fields
+  pub last_is : section.last ≡ h.last
+
+response_make : (blank : List LineEnd) (line : Line) (section : Section) (h : ResponseHead) (minor : ℕ) → All IsField section.fields → has_status line.text ≡ true
+    → minor_of (take 8 line.text) ≡ Some minor → option_map (response_with blank line section minor) (reason_of (drop 12 line.text)) ≡ Some h → IsResponseLine blank line section h
+response_make blank line section h minor fields status minors found =
+    let reason = mapped_from (response_with blank line section minor) (reason_of (drop 12 line.text)) h found in
+    let version = minor_make (take 8 line.text) minor minors in
+    let phrase = reason_make (drop 12 line.text) reason.0 reason.1 in
+    let digits = take 3 (drop 9 line.text) in
+    let outer = and_parts (bytes_eq (take 1 (drop 8 line.text)) (codes " ") && length digits == 3) (list_all is_ascii_digit digits) status in
+    let parts = and_parts (bytes_eq (take 1 (drop 8 line.text)) (codes " ")) (length digits == 3) outer.0 in
+    subst (IsResponseLine blank line section) reason.2 (record {
+      is = record {
+        minor = version.0;
+        digits = (eqb-true (length digits) 3 parts.1, AllPass-from_list_all is_ascii_digit digits outer.1);
+        reason = phrase.0;
+        fields = fields;
+      };
+      blank_is = refl;
+      text_is = line_parts line.text (print_version minor) digits (print_reason reason.0) version.1 ((bytes_eq-Decides (take 1 (drop 8 line.text)) (codes " ")).0 parts.0) refl phrase.1;
+      end_is = refl;
+      fields_are = refl;
+      last_is = refl;
+    })
+
+made_response : (text : List ℕ) (blank : List LineEnd) (lines : List Line) (h : ResponseHead) → text ≡ print_blank blank ++ flat_map print_line lines → response_by blank lines ≡ Some h → ReadsResponse text h []
+made_response text blank [] h is found = absurd (not_some h found)
+made_response text blank (line ∷ lines) h is found = elim (cases_Bool (has_status line.text)) [
+  | inr miss ↦ absurd (not_some h (rw miss at found))
+  | inl status ↦ (let section = bound_from (λ s. option_and_then (λ minor. option_map (response_with blank line s minor) (reason_of (drop 12 line.text))) (minor_of (take 8 line.text))) (section_of lines) h (rw status at found) in
+      let minor = bound_from (λ n. option_map (response_with blank line section.0 n) (reason_of (drop 12 line.text))) (minor_of (take 8 line.text)) h section.2 in
+      let behind_it = section_make lines section.0 section.1 in
+      let made = response_make blank line section.0 h minor.0 behind_it.fields status minor.1 minor.2 in (
+        made.is,
+        is ∙ ap (λ (t : List ℕ). print_blank blank ++ (print_line line ++ t)) behind_it.printed
+            ∙ ap (λ (b : List LineEnd). print_blank b ++ (print_line line ++ print_section section.0.fields section.0.last)) made.blank_is
+            ∙ ap (λ (t : List ℕ). print_blank h.blank ++ ((t ++ print_end line.end) ++ print_section section.0.fields section.0.last)) made.text_is
+            ∙ ap (λ (e : LineEnd). print_blank h.blank ++ ((response_line h ++ print_end e) ++ print_section section.0.fields section.0.last)) made.end_is
+            ∙ ap (λ (fs : List Field). print_blank h.blank ++ ((response_line h ++ print_end h.line_end) ++ print_section fs section.0.last)) made.fields_are
+            ∙ ap (λ (e : LineEnd). print_blank h.blank ++ ((response_line h ++ print_end h.line_end) ++ print_section h.fields e)) made.last_is
+            ∙ ap (λ (t : List ℕ). print_blank h.blank ++ t) (append_assoc (response_line h) (print_end h.line_end) (print_section h.fields h.last))
+            ∙ sym (response_layout h) ∙ sym (append-nil (print_response h)),
+      ))
+]
+
+pub response_prints : (text : List ℕ) (h : ResponseHead) → response_head text ≡ Some h → ReadsResponse text h []
+response_prints text h found =
+    let lines = bound_from response_of_lines (lines_behind [] text) h found in
+    made_response text (blank_in lines.0) (behind_blank lines.0) h (lines_make [] text lines.0 lines.1 ∙ blank_make lines.0) lines.2
+
+heard_by : (no_body : Bool) (text : List ℕ) (found : Option ResponseHead) → response_head text ≡ found → IsHeardIn no_body text (heard_by_head no_body found)
+heard_by no_body text None is = inr (λ head x. not_some head (sym is ∙ response_reads text head x.reads), refl)
+heard_by no_body text (Some h) is =
+    let reads = response_prints text h is in
+    elim (cases_Bool (nat_lt 64 (length h.fields))) [
+      | inl many ↦ (let over = ltb-true 64 (length h.fields) many in
+          rw many (inr (λ head x. let same = response_unique text head h [] [] x.reads reads in omega (arith, over, ap (λ (k : ResponseHead). length k.fields) same.0, x.few), refl)))
+      | inr few ↦ rw few (inl (h, record { reads = reads; few = ltb-false 64 (length h.fields) few }, refl))
+    ]
+
+pub heard_in_is : (no_body : Bool) (text : List ℕ) → IsHeardIn no_body text (heard_in no_body text)
+unfolding heard_in
+heard_in_is no_body text = heard_by no_body text (response_head text) refl

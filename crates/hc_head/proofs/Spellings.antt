@@ -1,6 +1,6 @@
 -- What is granted or shown has a spelling. The grammar gives tokens as names and values with their own ends, so each
 -- field that is passed on is one of a list (`own_fields`). Put one behind another they stay a list, as few and as small
--- as the head (`put_modest`), and leaving some out keeps that. The tests that come before a head is granted or shown
+-- as the head (`put_spelled`), and leaving some out keeps that. The tests that come before a head is granted or shown
 -- say the rest: each is met by the cases of the definition.
 use Rattle.std.proofs.Common.{◌≡◌, ℕ, suc, ◌+◌, ◌≤◌, Bool, true, false, List, [], ◌∷◌, length, refl, sym, ap, subst, ◌∙◌, inl, inr, arith, length-append}
 use Rattle.std.specs.Prelude.{◌||◌, not, nat_le, nat_lt, filter, All, codes, bytes_eq, Option, Some, None, Ok, Err}
@@ -33,7 +33,7 @@ use Rattle.hc_head.specs.declared.message.MsgError.TheVariants.{BadHead, BadLeng
 use Rattle.hc_head.specs.declared.message.WireRequest.{WireRequest}
 use Rattle.hc_head.specs.Requests.{Grants, Denies, asked_text, asked_of, own_key, key_in, key_of, may_have_body, request_of, with_key, IsAskedBy}
 use Rattle.hc_head.specs.Responses.{Skips, Shows, Refuses, framing_of, left_out, with_framing, is_interim, heard_of, IsHeardIn}
-use Rattle.hc_head.specs.Spellings.{AreModest, IsSpelledRequest, IsSpelledResponse}
+use Rattle.hc_head.specs.Spellings.{AreSpelledFields, IsSpelledRequest, IsSpelledResponse}
 use Rattle.hc_head.proofs.HeadFacts.{is_token, own_value, small_request, small_response}
 
 -- the fields of a head, one by one
@@ -54,13 +54,13 @@ own_fields (f ∷ fs) h short small =
     All-cons IsField (lowercase_field (name_and_value f)) (fields_of fs) here (own_fields fs (All-tail grammar.IsField f fs h) parts.1 (omega (arith, size)))
 
 -- put one behind another
-put_modest : (fields sorted : List (List ℕ × List ℕ)) → IsFieldList sorted → All IsField fields → length sorted + length fields ≤ 64 → size_of sorted + size_of fields ≤ 32768 → AreModest (put_all sorted fields)
-put_modest [] sorted list all few small = record { list = list; within_limits = record { few = omega arith; small = omega arith } }
-put_modest (f ∷ fields) sorted list all few small =
+put_spelled : (fields sorted : List (List ℕ × List ℕ)) → IsFieldList sorted → All IsField fields → length sorted + length fields ≤ 64 → size_of sorted + size_of fields ≤ 32768 → AreSpelledFields (put_all sorted fields)
+put_spelled [] sorted list all few small = record { list = list; within_limits = record { few = omega arith; small = omega arith } }
+put_spelled (f ∷ fields) sorted list all few small =
     let count = length-put f.0 f.1 sorted in
     let bytes = size_of-put f.0 f.1 sorted in
     let size = one_size f fields in
-    put_modest fields (field_list_with f.0 f.1 sorted)
+    put_spelled fields (field_list_with f.0 f.1 sorted)
     (IsFieldList-put f.0 f.1 sorted list (All-head IsField f fields all) (omega arith) (omega (arith, size)))
     (All-tail IsField f fields all) (omega (arith, count)) (omega (arith, bytes, size))
 
@@ -74,11 +74,11 @@ fields_count : (fs : List Field) → length (fields_of fs) ≡ length fs
 fields_count [] = refl
 fields_count (f ∷ fs) = ap suc (fields_count fs)
 
-pub kept_modest : (leaving : Leaving) (fs : List Field) → All grammar.IsField fs → is_within_limits (fields_of fs) ≡ true → length fs ≤ 64 → size_of (fields_of fs) ≤ 32768 → AreModest (kept_of leaving (fields_of fs))
-kept_modest leaving fs h short few small =
+pub kept_spelled : (leaving : Leaving) (fs : List Field) → All grammar.IsField fs → is_within_limits (fields_of fs) ≡ true → length fs ≤ 64 → size_of (fields_of fs) ≤ 32768 → AreSpelledFields (kept_of leaving (fields_of fs))
+kept_spelled leaving fs h short few small =
     let fields = fields_of fs in
     let p = is_kept leaving fields in
-    put_modest (filter p fields) [] IsFieldList-nil (All-filter p IsField fields (own_fields fs h short (omega arith))) (omega (arith, filter_few p fields, fields_count fs)) (omega (arith, filter_small p fields))
+    put_spelled (filter p fields) [] IsFieldList-nil (All-filter p IsField fields (own_fields fs h short (omega arith))) (omega (arith, filter_few p fields, fields_count fs)) (omega (arith, filter_small p fields))
 
 -- what is granted
 none_some : (found : Option (List ℕ)) (key : List ℕ) → found ≡ None → found ≡ Some key → ⊥
@@ -154,7 +154,7 @@ granted_spelled text request long (inl x) =
     subst (λ (r : WireRequest). IsSpelledRequest r.request) (sym granted.is) (record {
       method = record { token = list_all-from_AllPass header.is_token_byte head.method token.1; some = omega (arith, token.0); short = granted.short; other = granted.other };
       key = granted.key_is;
-      fields = kept_modest Address head.fields x.1.reads.0.fields granted.short_values x.1.few (omega (arith, len, small));
+      fields = kept_spelled Address head.fields x.1.reads.0.fields granted.short_values x.1.few (omega (arith, len, small));
     })
 
 -- what is shown
@@ -204,5 +204,5 @@ shown_spelled no_body text response framing long (inl x) =
     subst (λ (r : Response). IsSpelledResponse r) (sym shown.is) (record {
       low = shown.low;
       high = shown.high;
-      fields = kept_modest (left_out framing) head.fields x.1.reads.0.fields shown.short_values x.1.few (omega (arith, len, small));
+      fields = kept_spelled (left_out framing) head.fields x.1.reads.0.fields shown.short_values x.1.few (omega (arith, len, small));
     })

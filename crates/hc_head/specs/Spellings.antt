@@ -12,7 +12,7 @@ use Rattle.hc_head.specs.Requests.{Grants, IsAskedBy}
 use Rattle.hc_head.specs.Responses.{Shows, IsHeardIn}
 
 -- sorted fields, as few and as small as those of a head from outside
-pub record AreModest (fields : List (List ℕ × List ℕ)) : Type 0 where
+pub record AreSpelledFields (fields : List (List ℕ × List ℕ)) : Type 0 where
   pub list : IsFieldList fields
   pub within_limits : IsWithinLimits fields
 
@@ -26,12 +26,12 @@ pub record IsMethod (method : List ℕ) : Type 0 where
 pub record IsSpelledRequest (request : Request) : Type 0 where
   pub method : IsMethod request.method
   pub key : is_target request.key ≡ true
-  pub fields : AreModest request.fields
+  pub fields : AreSpelledFields request.fields
 
 pub record IsSpelledResponse (response : Response) : Type 0 where
   pub low : 200 ≤ response.status
   pub high : response.status ≤ 599
-  pub fields : AreModest response.fields
+  pub fields : AreSpelledFields response.fields
 
 -- each request that the text of a whole head asks for
 abbrev pub GrantsAreSpelled : Type 0

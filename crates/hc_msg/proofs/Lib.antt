@@ -6,3 +6,4 @@ pub mod Moves
 pub mod Calls
 pub mod Chains
 pub mod Spelled
+pub mod Sizes

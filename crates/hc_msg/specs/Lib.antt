@@ -5,3 +5,4 @@ pub mod Laws
 pub mod Asking
 pub mod Writing
 pub mod Spelled
+pub mod Sizes

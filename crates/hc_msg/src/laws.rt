@@ -1,5 +1,6 @@
 //! The laws of messages.
 ghost use Rattle.hc_msg.specs.Laws.{IsReadOneWay, IsReadPiecewise, StaysFailed};
+ghost use Rattle.hc_msg.specs.Sizes.{IsSaidByEquations};
 ghost use Rattle.hc_msg.specs.Spelled.{TokensAreSpelled};
 
 /// Bytes are read one way, however they are cut.
@@ -16,4 +17,10 @@ pub fn bytes_are_read_one_way()
 /// The requests and the heads of answers that bytes tell have a spelling in a schedule.
 pub fn what_bytes_tell_has_a_spelling()
     ensures { TokensAreSpelled }
+{}
+
+/// The size that a chunk line announces is told by equations: what the grammar reads they read alike,
+/// and they read nothing else.
+pub fn chunk_lines_are_read_by_equations()
+    ensures { IsSaidByEquations }
 {}

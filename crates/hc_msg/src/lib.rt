@@ -13,7 +13,9 @@ mod trailer;
 mod write;
 
 pub use hc_head::{MsgError, WireRequest};
-pub use laws::{bytes_are_read_one_way, what_bytes_tell_has_a_spelling};
+pub use laws::{
+    bytes_are_read_one_way, chunk_lines_are_read_by_equations, what_bytes_tell_has_a_spelling,
+};
 pub use message::{Taken, WirePart};
 pub use reader::ResponseReader;
 pub use requests::RequestReader;

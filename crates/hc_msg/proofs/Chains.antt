@@ -1,7 +1,9 @@
 -- Texts that are appended one behind another.
-use Rattle.std.proofs.Common.{◌≡◌, ℕ, List, ◌++◌, length, take, drop, refl, sym, ap, ◌∙◌, append_assoc}
-use Rattle.std.proofs.lemmas.List.{take_at, take-append-drop}
-use Rattle.hc_msg.specs.Writing.{Keeps}
+use Rattle.std.proofs.Common.{◌≡◌, ℕ, false, List, [], ◌∷◌, ◌++◌, length, take, drop, refl, sym, ap, ◌∙◌, append_assoc}
+use Rattle.std.specs.Prelude.{codes}
+use Rattle.std.proofs.lemmas.List.{append-nil, take_at, take-append-drop}
+use Rattle.hc_event.specs.declared.event.Response.{Response}
+use Rattle.hc_msg.specs.Writing.{Keeps, crlf, line_of, lines_of, status_line, response_text, closing_of}
 
 pub four : (x y z u v a b c d : List ℕ) → y ≡ x ++ a → z ≡ y ++ b → u ≡ z ++ c → v ≡ u ++ d → v ≡ x ++ (a ++ (b ++ (c ++ d)))
 four x y z u v a b c d p q r s = rw (s, r, q, p) (simp append_assoc)
@@ -12,3 +14,18 @@ keeps_more x y z a grows keeps =
     let rest = drop (length y) z in
     let whole : x ++ (a ++ rest) ≡ z = sym (append_assoc x a rest) ∙ ap (λ (t : List ℕ). t ++ rest) (sym grows ∙ sym keeps) ∙ take-append-drop (length y) z in
     ap (take (length x)) (sym whole) ∙ take_at x (a ++ rest) (length x) refl
+
+-- the lines of fields with one more
+lines_push : (fields : List (List ℕ × List ℕ)) (f : List ℕ × List ℕ) → lines_of (fields ++ f ∷ []) ≡ lines_of fields ++ line_of f
+lines_push [] f = append-nil (line_of f)
+lines_push (g ∷ fields) f = ap (λ (t : List ℕ). line_of g ++ t) (lines_push fields f) ∙ sym (append_assoc (line_of g) (lines_of fields) (line_of f))
+
+pub closing : (response : Response) (x y z u : List ℕ) → y ≡ x ++ status_line response.status → z ≡ y ++ lines_of response.fields → u ≡ z ++ (codes "connection: close" ++ (crlf ++ crlf))
+    → u ≡ x ++ response_text (closing_of response) false
+closing response x y z u p q r =
+    let tail = codes "connection: close" ++ (crlf ++ crlf) in
+    let lines : lines_of (response.fields ++ (codes "connection", codes "close") ∷ []) ++ crlf ≡ lines_of response.fields ++ tail =
+    ap (λ (t : List ℕ). t ++ crlf) (lines_push response.fields (codes "connection", codes "close")) ∙ append_assoc (lines_of response.fields) (line_of (codes "connection", codes "close")) crlf in
+    r ∙ ap (λ (t : List ℕ). t ++ tail) (q ∙ ap (λ (t : List ℕ). t ++ lines_of response.fields) p)
+    ∙ append_assoc (x ++ status_line response.status) (lines_of response.fields) tail ∙ append_assoc x (status_line response.status) (lines_of response.fields ++ tail)
+    ∙ ap (λ (t : List ℕ). x ++ (status_line response.status ++ t)) (sym lines)

@@ -51,6 +51,14 @@ abbrev pub response_text : Response → Bool → List ℕ
 response_text response chunked =
     status_line response.status ++ (lines_of response.fields ++ head_end chunked)
 
+-- the answer, and behind its other fields that the connection is closed (RFC 9112 section 9.6)
+abbrev pub closing_of : Response → Response
+closing_of response = record response { fields = response.fields ++ (codes "connection", codes "close") ∷ [] }
+
+-- the line before so many bytes of a chunk
+abbrev pub size_line : ℕ → List ℕ
+size_line n = digits 16 false n ++ crlf
+
 -- a chunk; that of no bytes is the last
 abbrev pub chunk_text : List ℕ → List ℕ
 chunk_text bytes = digits 16 false (length bytes) ++ (crlf ++ (bytes ++ crlf))

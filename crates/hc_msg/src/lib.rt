@@ -19,4 +19,6 @@ pub use laws::{
 pub use message::{Taken, WirePart};
 pub use reader::ResponseReader;
 pub use requests::RequestReader;
-pub use write::{write_chunk, write_request, write_response_head};
+pub use write::{
+    write_chunk, write_chunk_size, write_closing_head, write_request, write_response_head,
+};

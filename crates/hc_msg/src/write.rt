@@ -5,7 +5,7 @@ ghost use Rattle.std.specs.Option.{option_copied};
 ghost use Rattle.url.specs.Parts.{Parts};
 ghost use Rattle.url.specs.Parser.{parse_url};
 ghost use Rattle.hc_target.specs.Targets.{is_target};
-ghost use Rattle.hc_msg.specs.Writing.{Keeps, line_of, lines_of, crlf, status_line, head_end, query_text, request_line, host_line, request_text, response_text, chunk_text};
+ghost use Rattle.hc_msg.specs.Writing.{Keeps, line_of, lines_of, crlf, status_line, head_end, query_text, request_line, host_line, request_text, response_text, closing_of, size_line, chunk_text};
 
 use hc_event::{Request, Response};
 use hc_fields::Fields;
@@ -47,6 +47,31 @@ pub fn write_chunk(bytes: &[u8], to: &mut Vec<u8>) -> Result<(), NoMemory>
     let size = size_text(*to.allocator(), bytes.len())?;
     let start = to.as_slice().len();
     let written = put_chunk(size.as_bytes(), bytes, to);
+    if written.is_err() {
+        to.truncate(start);
+    }
+    written
+}
+
+/// Appends the line with the size, or what of it there is memory for.
+fn put_size(size: &[u8], to: &mut Vec<u8>) -> Result<(), NoMemory>
+    ensures ok { OnOk result (to.new.items ≡ to.old.items ++ (size.now ++ crlf)) }
+    ensures kept { OnErr result (Keeps to.old.items to.new.items) }
+{
+    to.extend_from_slice(size)?;
+    to.extend_from_slice(b"\r\n")?;
+    Ok(())
+}
+
+/// Appends the line before a chunk of so many bytes (RFC 9112 section 7.1), so that they needn't be
+/// copied: they and the end of a line follow it. On an error nothing is appended.
+pub fn write_chunk_size(n: usize, to: &mut Vec<u8>) -> Result<(), NoMemory>
+    ensures ok { OnOk result (to.new.items ≡ to.old.items ++ size_line n) }
+    ensures err { OnErr result (to.new.items ≡ to.old.items) }
+{
+    let size = size_text(*to.allocator(), n)?;
+    let start = to.as_slice().len();
+    let written = put_size(size.as_bytes(), to);
     if written.is_err() {
         to.truncate(start);
     }
@@ -129,6 +154,34 @@ pub fn write_response_head(
 {
     let start = to.as_slice().len();
     let written = put_response(response, chunked, to);
+    if written.is_err() {
+        to.truncate(start);
+    }
+    written
+}
+
+/// Appends the head of an answer whose connection is closed, or a part of it.
+#[tactic(auto, using(crate::proofs::Chains::keeps_more))]
+fn put_closing(response: &Response, to: &mut Vec<u8>) -> Result<(), NoMemory>
+    ensures ok { OnOk result (to.new.items
+        ≡ to.old.items ++ response_text (closing_of response.now) false) }
+    ensures kept { OnErr result (Keeps to.old.items to.new.items) }
+{
+    put_status(response.status, to)?;
+    put_lines(&response.fields, to)?;
+    to.extend_from_slice(b"connection: close\r\n\r\n")?;
+    Ok(())
+}
+
+/// Appends the head of an answer behind which the connection is closed (RFC 9112 section 9.6): the
+/// last field says so. On an error nothing is appended.
+pub fn write_closing_head(response: &Response, to: &mut Vec<u8>) -> Result<(), NoMemory>
+    ensures ok { OnOk result (to.new.items
+        ≡ to.old.items ++ response_text (closing_of response.now) false) }
+    ensures err { OnErr result (to.new.items ≡ to.old.items) }
+{
+    let start = to.as_slice().len();
+    let written = put_closing(response, to);
     if written.is_err() {
         to.truncate(start);
     }

@@ -8,7 +8,7 @@ use Rattle.hc_head.specs.declared.message.MsgError.TheVariants as error
 use Rattle.hc_head.specs.declared.scan.Scan.{Scan}
 use Rattle.hc_head.specs.declared.scan.Scan.TheVariants.{Before, BeforeReturn, Within, Beginning, BeginningReturn, Ended}
 use Rattle.hc_head.specs.Scans.{scan_byte, scan_all, is_open, IsHeadEnd, IsLineBefore}
-use Rattle.hc_msg.specs.Reading.{Kind, Requests, Responses, Reading, Heading, Counts, Runs, Sizing, Chunk, Failed, Byte, Step, quiet, fails, counts, chunk, begins_head, move_of, HeadMakes, LineMakes, Makes, Leads}
+use Rattle.hc_msg.specs.Reading.{Kind, Requests, Responses, Reading, Heading, Counts, Runs, Sizing, Chunk, Failed, Byte, Step, quiet, fails, counts, chunk, begins_head, move_of, HeadMakes, LineMakes, Makes, Leads, TellsAtLast, Token}
 use Rattle.hc_head.specs.Finding.{IsLong}
 use Rattle.hc_msg.specs.Chunks.{IsLongLine}
 use Rattle.hc_head.proofs.ScanLemmas.{not_equal}
@@ -76,18 +76,44 @@ pub end_of_head : (scan : Scan) (piece : List ℕ) (n : ℕ) (h : IsHeadEnd scan
 end_of_head scan piece n h =
     ap (take n) (sym h.whole ∙ sym (append_assoc h.front (10 ∷ []) h.rest)) ∙ take_at (h.front ++ 10 ∷ []) h.rest n (simp length-append (omega (arith, h.len)))
 
-pub heading_ends : (kind : Kind) (scan : Scan) (text piece : List ℕ) (n : ℕ) (step : Step) → IsHeadEnd scan piece n → length text + n ≤ 32768
-    → begins_head kind (text ++ take n piece) ≡ true → HeadMakes kind (text ++ take n piece) step → Leads (Heading kind scan text) (take n piece) step.tokens step.next
-heading_ends kind scan text piece n step h short begins makes =
+-- the last byte of a head, and those before it
+record IsHeadCut (kind : Kind) (scan : Scan) (text : List ℕ) (head : List ℕ) (step : Step) : Type 0 where
+  front : List ℕ
+  mid : Reading
+  cut : head ≡ front ++ 10 ∷ []
+  passes : Leads (Heading kind scan text) front [] mid
+  ends : Leads mid (10 ∷ []) step.tokens step.next
+
+heading_cut : (kind : Kind) (scan : Scan) (text piece : List ℕ) (n : ℕ) (step : Step) → IsHeadEnd scan piece n → length text + n ≤ 32768
+    → begins_head kind (text ++ take n piece) ≡ true → HeadMakes kind (text ++ take n piece) step → IsHeadCut kind scan text (take n piece) step
+heading_cut kind scan text piece n step h short begins makes =
     let last = end_of_head scan piece n h in
     let mid = Heading kind (scan_all scan h.front) (text ++ h.front) in
     let whole : text ++ take n piece ≡ (text ++ h.front) ++ 10 ∷ [] =
     ap (λ (t : List ℕ). text ++ t) last ∙ sym (append_assoc text h.front (10 ∷ [])) in
     let made : HeadMakes kind ((text ++ h.front) ++ 10 ∷ []) step = subst (λ (t : List ℕ). HeadMakes kind t step) whole makes in
     let all : begins_head kind ((text ++ h.front) ++ 10 ∷ []) ≡ true = ap (begins_head kind) (sym whole) ∙ begins in
-    let on = heading_on kind h.front scan text h.open_before (omega (arith, h.len)) (head_front kind (text ++ h.front) (10 ∷ []) all) in
-    let off = leads_byte mid 10 step (ends_head kind (scan_all scan h.front) (text ++ h.front) 10 step (simp length-append (omega (arith, h.len))) (ap is_open h.ends) all made) in
-    rw last (leads_on (Heading kind scan text) h.front (10 ∷ []) [] step.tokens mid step.next on off)
+    record {
+      front = h.front;
+      mid = mid;
+      cut = last;
+      passes = heading_on kind h.front scan text h.open_before (omega (arith, h.len)) (head_front kind (text ++ h.front) (10 ∷ []) all);
+      ends = leads_byte mid 10 step (ends_head kind (scan_all scan h.front) (text ++ h.front) 10 step (simp length-append (omega (arith, h.len))) (ap is_open h.ends) all made);
+    }
+
+pub heading_ends : (kind : Kind) (scan : Scan) (text piece : List ℕ) (n : ℕ) (step : Step) → IsHeadEnd scan piece n → length text + n ≤ 32768
+    → begins_head kind (text ++ take n piece) ≡ true → HeadMakes kind (text ++ take n piece) step → Leads (Heading kind scan text) (take n piece) step.tokens step.next
+heading_ends kind scan text piece n step h short begins makes =
+    let c = heading_cut kind scan text piece n step h short begins makes in
+    rw c.cut (leads_on (Heading kind scan text) c.front (10 ∷ []) [] step.tokens c.mid step.next c.passes c.ends)
+
+-- a head that is told is told at its last byte
+pub heading_tells : (kind : Kind) (scan : Scan) (text piece : List ℕ) (n : ℕ) (token : Token) (t : Reading) → IsHeadEnd scan piece n → length text + n ≤ 32768
+    → begins_head kind (text ++ take n piece) ≡ true → HeadMakes kind (text ++ take n piece) (record { tokens = token ∷ []; next = t })
+    → TellsAtLast (Heading kind scan text) (take n piece) token t
+heading_tells kind scan text piece n token t h short begins makes =
+    let c = heading_cut kind scan text piece n (record { tokens = token ∷ []; next = t }) h short begins makes in
+    record { before = c.front; last = 10; mid = c.mid; whole = sym c.cut; passes = c.passes; tells = c.ends }
 
 pub heading_long : (kind : Kind) (scan : Scan) (text piece : List ℕ) (h : IsLong (length text) scan piece) → begins_head kind (text ++ h.front) ≡ true
     → Leads (Heading kind scan text) piece [] (Failed error.HeadTooLong)

@@ -7,7 +7,7 @@ use Rattle.hc_head.specs.declared.message.MsgError.{MsgError}
 use Rattle.hc_head.proofs.Calls.{asked_one}
 use Rattle.hc_head.proofs.Replies.{heard_one}
 use Rattle.hc_msg.specs.Chunks.{LineSays}
-use Rattle.hc_msg.specs.Reading.{Kind, Requests, Responses, Reading, Failed, Token, Step, Move, Goes, EndsHead, EndsLine, Stays, fails, after_asked, after_heard, after_line, move_of, AsksFor, AnswersWith, HeadMakes, Makes, Leads}
+use Rattle.hc_msg.specs.Reading.{Kind, Requests, Responses, Reading, Failed, Token, Step, Move, Goes, EndsHead, EndsLine, Stays, fails, after_asked, after_heard, after_line, move_of, AsksFor, AnswersWith, HeadMakes, Makes, Leads, TellsAtLast}
 
 asks_one : (text : List ℕ) (a b : Step) → AsksFor text a → AsksFor text b → a ≡ b
 asks_one text a b x y = x.2 ∙ ap after_asked (asked_one text x.0 y.0 x.1 y.1) ∙ sym y.2
@@ -92,3 +92,18 @@ pub stays_failed : (e : MsgError) (text : List ℕ) → Leads (Failed e) text []
 unfolding move_of
 stays_failed e [] = (refl, refl)
 stays_failed e (b ∷ text) = (fails e, [], refl, stays_failed e text, refl)
+
+-- what is told at the last byte
+pub tells_leads : (s : Reading) (text : List ℕ) (token : Token) (t : Reading) → TellsAtLast s text token t → Leads s text (token ∷ []) t
+tells_leads s text token t h =
+    subst (λ (l : List ℕ). Leads s l (token ∷ []) t) h.whole (leads_on s h.before (h.last ∷ []) [] (token ∷ []) h.mid t h.passes h.tells)
+
+pub tells_on : (s mid t : Reading) (xs ys : List ℕ) (token : Token) → Leads s xs [] mid → TellsAtLast mid ys token t → TellsAtLast s (xs ++ ys) token t
+tells_on s mid t xs ys token on h = record {
+  before = xs ++ h.before;
+  last = h.last;
+  mid = h.mid;
+  whole = append_assoc xs h.before (h.last ∷ []) ∙ ap (λ (l : List ℕ). xs ++ l) h.whole;
+  passes = leads_on s xs h.before [] [] mid h.mid on h.passes;
+  tells = h.tells;
+}

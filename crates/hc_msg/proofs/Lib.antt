@@ -7,3 +7,4 @@ pub mod Calls
 pub mod Chains
 pub mod Spelled
 pub mod Sizes
+pub mod Inputs

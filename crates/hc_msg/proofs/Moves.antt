@@ -18,12 +18,12 @@ use Rattle.hc_msg.specs.declared.answer.State.{State}
 use Rattle.hc_msg.specs.declared.answer.State.TheVariants as state
 use Rattle.hc_msg.specs.declared.message.WirePart.{WirePart}
 use Rattle.hc_head.specs.Finding.{IsLong}
-use Rattle.hc_head.specs.Responses.{Heard, IsHeardIn}
-use Rattle.hc_msg.specs.Reading.{Reading, Responses, Heading, Failed, Counts, Runs, Sizing, Chunk, ChunkEnd, ChunkReturn, Trailing, Byte, counts, chunk, reading_of_chunk, after_line, Answers, after_heard, heading, body, quiet, fails, Makes, move_of, Leads}
+use Rattle.hc_head.specs.Responses.{Heard, Shows, IsHeardIn}
+use Rattle.hc_msg.specs.Reading.{Reading, Responses, Heading, Failed, Counts, Runs, Sizing, Chunk, ChunkEnd, ChunkReturn, Trailing, Byte, counts, chunk, reading_of_chunk, after_line, Answers, after_heard, heading, body, quiet, fails, Makes, move_of, Leads, TellsAtLast}
 use Rattle.hc_head.specs.Replies.{Hears}
 use Rattle.hc_msg.specs.Taking.{reading_by, Moves, Takes, Completes, Replied, Enters, IsPieceOf, Expects, TrailMoves}
-use Rattle.hc_msg.proofs.Leading.{leads_on, leads_byte, stays_failed}
-use Rattle.hc_msg.proofs.Bytes.{heading_on, heading_ends, heading_long, line_on, line_ends, line_long, counts_on, counts_some, chunk_on, runs_on}
+use Rattle.hc_msg.proofs.Leading.{leads_on, leads_byte, stays_failed, tells_on}
+use Rattle.hc_msg.proofs.Bytes.{heading_on, heading_ends, heading_tells, heading_long, line_on, line_ends, line_long, counts_on, counts_some, chunk_on, runs_on}
 
 -- a whole head
 heard_leads : (nb : Bool) (scan : Scan) (held rest : List ℕ) (n : ℕ) (heard : Heard) → IsHeadEnd scan rest n → length held + n ≤ 32768
@@ -46,10 +46,9 @@ shown_moves nb scan held rest n most reply.Skips made t heard ends short within 
     subst (λ (m : Moved). Moves s rest most (Ok m) t) (sym enters.0) (omega (arith, ends.len), within, there)
 shown_moves nb scan held rest n most (reply.Shows response framing) made t heard ends short within hears comes enters =
     let s = Heading (Responses nb) scan held in
-    let leads = heard_leads nb scan held rest n heard ends short comes in
-    let shown : Leads s (take n rest) (Answers response ∷ []) (body framing) =
-    subst (λ (h : Heard). Leads s (take n rest) (after_heard nb h).tokens (after_heard nb h).next) hears leads in
-    let there : Leads s (take n rest) (Answers response ∷ []) t = subst (λ (r : Reading). Leads s (take n rest) (Answers response ∷ []) r) (sym enters.1) shown in
+    let shows : IsHeardIn nb (held ++ take n rest) (Shows response framing) = subst (IsHeardIn nb (held ++ take n rest)) hears comes in
+    let shown = heading_tells (Responses nb) scan held rest n (Answers response) (body framing) ends short refl (Shows response framing, shows, refl) in
+    let there : TellsAtLast s (take n rest) (Answers response) t = subst (TellsAtLast s (take n rest) (Answers response)) (sym enters.1) shown in
     subst (λ (m : Moved). Moves s rest most (Ok m) t) (sym enters.0) (within, there)
 
 pub head_moves : (nb : Bool) (scan : Scan) (held rest : List ℕ) (n most : ℕ) (rep : Reply) (result : Result Reply MsgError) (made : Moved) (t : Reading) → IsHeadEnd scan rest n → length held + n ≤ 32768 → n ≤ length rest
@@ -208,7 +207,7 @@ pub gives_on : (s mid t : Reading) (piece : List ℕ) (used n most : ℕ) (p : W
     → Moves mid (drop used piece) most (Ok (moved.Gives n p)) t → (used + n ≤ length piece) × Completes s piece most (used + n) (Some p) t
 gives_on s mid t piece used n most (part.Head response) within before moves = (
   omega (arith, moves.0, length-drop used piece),
-  rw (further piece used n) (leads_on s (take used piece) (take n (drop used piece)) [] (Answers response ∷ []) mid t before moves.1),
+  rw (further piece used n) (tells_on s mid t (take used piece) (take n (drop used piece)) (Answers response) before moves.1),
 )
 gives_on s mid t piece used n most (part.Piece bytes) within before moves =
     let len : length (take n (drop used piece)) ≡ n = length-take n (drop used piece) ∙ omega (arith, moves.0) in

@@ -1,8 +1,8 @@
 -- A chunk line says what the equations say. A printed line is cut into its digits, its blanks and its extension again,
 -- since what follows each of these begins with another byte (`run_cut`). The other way, what was cut is a line that
 -- prints as the text (`size_makes`).
-use Rattle.std.proofs.Common.{◌≡◌, ℕ, suc, ◌+◌, ◌-◌, ◌^◌, ◌<◌, ◌≤◌, ◌==◌, Bool, true, false, true≢false, List, [], ◌∷◌, ◌++◌, length, take, drop, refl, sym, ap, subst, ◌∙◌, inl, inr, arith, append_assoc, length-append}
-use Rattle.std.specs.Prelude.{◌&&◌, ◌||◌, nat_lt, nat_le, bytes_eq, Option, Some, None, if◌then◌else◌}
+use Rattle.std.proofs.Common.{◌≡◌, ℕ, suc, ◌+◌, ◌-◌, ◌^◌, ◌<◌, ◌==◌, Bool, true, false, List, [], ◌∷◌, ◌++◌, length, take, drop, refl, sym, ap, subst, ◌∙◌, inl, inr, arith, append_assoc, length-append}
+use Rattle.std.specs.Prelude.{◌&&◌, nat_lt, nat_le, bytes_eq, Option, Some, None, if◌then◌else◌}
 use Rattle.std.specs.List.{list_all, prefix_len}
 use Rattle.std.specs.Char.{is_ascii_hexdigit}
 use Rattle.std.specs.Str.Parse.{digits_value}
@@ -10,8 +10,7 @@ use Rattle.std.proofs.lemmas.Bool.{cases_Bool, and_parts, eqb-true, ltb-true, lt
 use Rattle.std.proofs.lemmas.List.{append-nil, take_at, drop_at, take-append-drop}
 use Rattle.std.proofs.lemmas.List.Sums.{AllPass-from_list_all, list_all-from_AllPass}
 use Rattle.std.proofs.lemmas.Slice.Eq.{bytes_eq-Decides}
-use Rattle.httparse.specs.Grammar.{ChunkLine, IsChunkLine, ReadsChunkLine, print_chunk_line, print_extension, IsExtension, chunk_size, is_ows, is_extension_byte}
-use Rattle.httparse.proofs.GrammarLemmas.{cons-append}
+use Rattle.httparse.specs.Grammar.{ChunkLine, IsChunkLine, print_chunk_line, print_extension, IsExtension, chunk_size, is_ows, is_extension_byte}
 use Rattle.hc_head.proofs.LineTexts.{not_some, some_same}
 use Rattle.hc_msg.specs.Chunks.{IsLineOf, LineSays}
 use Rattle.hc_msg.specs.Sizes.{digits_in, behind_digits, behind_pad, is_extension, is_chunk_line, size_by, size_in}

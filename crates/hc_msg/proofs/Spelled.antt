@@ -19,6 +19,7 @@ use Rattle.hc_msg.specs.Chunks.{trail}
 use Rattle.hc_msg.specs.Reading.{Kind, Requests, Responses, Reading, Heading, Counts, Runs, Sizing, Chunk, ChunkEnd, ChunkReturn, Trailing, Whole, Done, Failed, Token, Asks, Answers, Byte, Step, Goes, after_asked, after_heard, after_line, after_trail, begins_head, move_of, HeadMakes, Makes, Leads}
 use Rattle.hc_msg.specs.Asking.{TakesRequest, CompletesRequest}
 use Rattle.hc_msg.specs.Taking.{Takes, Completes}
+use Rattle.hc_msg.proofs.Leading.{tells_leads}
 use Rattle.hc_msg.specs.Spelled.{IsSpelled, IsSpelledPart, GivesSpelled}
 
 none_spelled : All IsSpelled []
@@ -110,13 +111,13 @@ request_spelled s piece (Err e) t h = tt
 request_spelled s piece (Ok taken) t h = given taken.got h.1 where
   given : (got : Option WireRequest) → CompletesRequest s piece taken.used got t → IfSome got (λ request. IsSpelled (Asks request))
   given None h = tt
-  given (Some request) h = All-head IsSpelled (Asks request) [] (tokens_spelled s _ (Asks request ∷ []) t h)
+  given (Some request) h = All-head IsSpelled (Asks request) [] (tokens_spelled s _ (Asks request ∷ []) t (tells_leads s _ (Asks request) t h))
 
 pub part_spelled : (s : Reading) (piece : List ℕ) (most : ℕ) (result : Result (Taken WirePart) MsgError) (t : Reading) → Takes s piece most result t → GivesSpelled (IsSpelledPart most) result
 part_spelled s piece most (Err e) t h = tt
 part_spelled s piece most (Ok taken) t h = given taken.got h.1 where
   given : (got : Option WirePart) → Completes s piece most taken.used got t → IfSome got (IsSpelledPart most)
   given None h = tt
-  given (Some (part.Head response)) h = All-head IsSpelled (Answers response) [] (tokens_spelled s _ (Answers response ∷ []) t h)
+  given (Some (part.Head response)) h = All-head IsSpelled (Answers response) [] (tokens_spelled s _ (Answers response ∷ []) t (tells_leads s _ (Answers response) t h))
   given (Some (part.Piece bytes)) h = (h.some, omega (arith, h.longest))
   given (Some part.End) h = tt

@@ -1,5 +1,5 @@
 -- What a reader of requests stands for, and what it makes of the pieces that it is given.
-use Rattle.std.specs.Prelude.{◌≡◌, ℕ, ◌-◌, ◌≤◌, ◌⊎◌, true, List, [], ◌∷◌, ◌++◌, length, take, Option, Some, None, Result, Ok, Err}
+use Rattle.std.specs.Prelude.{◌≡◌, ℕ, ◌-◌, ◌≤◌, ◌⊎◌, true, List, [], ◌++◌, length, take, Option, Some, None, Result, Ok, Err}
 use Rattle.hc_msg.specs.declared.call.Call.{Call}
 use Rattle.hc_head.specs.declared.message.MsgError.{MsgError}
 use Rattle.hc_head.specs.declared.message.MsgError.TheVariants as error
@@ -10,7 +10,7 @@ use Rattle.hc_head.specs.declared.scan.Sought.TheVariants as sought
 use Rattle.hc_head.specs.declared.start.Start.{Start}
 use Rattle.hc_head.specs.Scans.{is_open}
 use Rattle.hc_head.specs.Starts.{begins_request, goes_on_from}
-use Rattle.hc_msg.specs.Reading.{Reading, Heading, Requests, Failed, Asks, Leads}
+use Rattle.hc_msg.specs.Reading.{Reading, Heading, Requests, Failed, Asks, Leads, TellsAtLast}
 use Rattle.hc_head.specs.Calls.{CallsFor}
 
 abbrev pub asking : Call → Reading
@@ -43,7 +43,7 @@ Called text result = (result ≡ Err error.NoMemory) ⊎ CallsFor text result
 -- the first bytes of a piece end a request, or all of them were used
 abbrev pub CompletesRequest : Reading → List ℕ → ℕ → Option WireRequest → Reading → Type 0
 CompletesRequest s piece used None t = (used ≡ length piece) × Leads s piece [] t
-CompletesRequest s piece used (Some request) t = Leads s (take used piece) (Asks request ∷ []) t
+CompletesRequest s piece used (Some request) t = TellsAtLast s (take used piece) (Asks request) t
 
 -- what a piece comes to
 abbrev pub TakesRequest

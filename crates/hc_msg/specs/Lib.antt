@@ -6,3 +6,4 @@ pub mod Asking
 pub mod Writing
 pub mod Spelled
 pub mod Sizes
+pub mod Inputs

@@ -172,3 +172,12 @@ Leads s [] tokens t = (tokens ≡ []) × (t ≡ s)
 Leads s (b ∷ text) tokens t =
     (step : Step) × (rest : List Token) × Makes (move_of s b) step × Leads step.next text rest t
     × (tokens ≡ step.tokens ++ rest)
+
+-- the last of the bytes tells this, and none before it tells anything
+pub record TellsAtLast (s : Reading) (text : List ℕ) (token : Token) (t : Reading) : Type 0 where
+  pub before : List ℕ
+  pub last : ℕ
+  pub mid : Reading
+  pub whole : before ++ last ∷ [] ≡ text
+  pub passes : Leads s before [] mid
+  pub tells : Leads mid (last ∷ []) (token ∷ []) t

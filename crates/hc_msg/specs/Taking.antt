@@ -1,5 +1,5 @@
 -- What a reader stands for, and what it makes of the pieces that it is given.
-use Rattle.std.specs.Prelude.{◌≡◌, ℕ, ◌+◌, ◌<◌, ◌≤◌, ◌⊎◌, Bool, true, false, List, [], ◌∷◌, length, take, drop, map, min, Option, Some, None, Result, Ok, Err}
+use Rattle.std.specs.Prelude.{◌≡◌, ℕ, ◌+◌, ◌<◌, ◌≤◌, ◌⊎◌, Bool, true, false, List, [], length, take, drop, map, min, Option, Some, None, Result, Ok, Err}
 use Rattle.hc_msg.specs.declared.answer.Answer.{Answer}
 use Rattle.hc_msg.specs.declared.answer.Moved.{Moved}
 use Rattle.hc_msg.specs.declared.answer.Moved.TheVariants as moved
@@ -17,7 +17,7 @@ use Rattle.hc_msg.specs.declared.trailer.Trails.{Trails}
 use Rattle.hc_msg.specs.Chunks.{LineSays}
 use Rattle.hc_head.specs.Replies.{RepliesTo}
 use Rattle.hc_head.specs.Scans.{is_open}
-use Rattle.hc_msg.specs.Reading.{Reading, Heading, Responses, Counts, Runs, Sizing, Chunk, ChunkEnd, ChunkReturn, Trailing, Whole, Done, Failed, Token, Answers, Byte, Leads, heading, body, quiet, fails, after_trail}
+use Rattle.hc_msg.specs.Reading.{Reading, Heading, Responses, Counts, Runs, Sizing, Chunk, ChunkEnd, ChunkReturn, Trailing, Whole, Done, Failed, Token, Answers, Byte, Leads, TellsAtLast, heading, body, quiet, fails, after_trail}
 
 -- where the reading of an answer stands, of which these bytes are held
 abbrev pub reading_by : Bool → State → List ℕ → Reading
@@ -113,7 +113,8 @@ byte_tokens bytes = map Byte bytes
 
 -- the first n bytes give the part
 abbrev pub GivesPart : Reading → List ℕ → ℕ → ℕ → WirePart → Reading → Type 0
-GivesPart s piece most n (part.Head response) t = Leads s (take n piece) (Answers response ∷ []) t
+GivesPart s piece most n (part.Head response) t =
+    TellsAtLast s (take n piece) (Answers response) t
 GivesPart s piece most n (part.Piece bytes) t =
     (bytes ≡ take n piece) × (0 < n) × (n ≡ min most (stretch s (length piece)))
     × Leads s (take n piece) (byte_tokens (take n piece)) t
@@ -147,7 +148,7 @@ pub record GivesBytes (s : Reading) (piece : List ℕ) (most used : ℕ) (bytes 
 abbrev pub Completes : Reading → List ℕ → ℕ → ℕ → Option WirePart → Reading → Type 0
 Completes s piece most used None t = Leads s (take used piece) [] t × IsSpent s (length piece) used t
 Completes s piece most used (Some (part.Head response)) t =
-    Leads s (take used piece) (Answers response ∷ []) t
+    TellsAtLast s (take used piece) (Answers response) t
 Completes s piece most used (Some (part.Piece bytes)) t = GivesBytes s piece most used bytes t
 Completes s piece most used (Some part.End) t = Leads s (take used piece) [] Whole × (t ≡ Done)
 

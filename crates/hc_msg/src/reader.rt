@@ -31,6 +31,7 @@ impl ResponseReader {
     ghost use Rattle.hc_msg.specs.Reading.{Responses, heading};
     ghost use Rattle.hc_msg.specs.Spelled.{IsSpelledPart, GivesSpelled};
     ghost use Rattle.hc_msg.specs.Taking.{Takes, AnswersAgain, StandsAt, ending, reading_at_end};
+    ghost use Rattle.hc_msg.specs.Inputs.{TakesNext};
 
     /// A reader at the beginning of an answer. `no_body` tells that the request was a HEAD, whose
     /// answer has no body (RFC 9110 section 9.3.2).
@@ -49,6 +50,7 @@ impl ResponseReader {
     pub fn take(&mut self, piece: &[u8], most: usize) -> Result<Taken<WirePart>, MsgError>
         requires { 0 < most }
         ensures takes { Takes self.old piece.now most result self.new }
+        ensures next { TakesNext most self.old piece.now result self.new }
         ensures again { AnswersAgain self.old result }
         ensures stands { StandsAt result self.new }
         ensures spelled { GivesSpelled (IsSpelledPart most) result }

@@ -35,6 +35,7 @@ impl RequestReader {
     ghost use Rattle.hc_msg.specs.Spelled.{GivesSpelled};
     ghost use Rattle.hc_msg.specs.Taking.{AnswersAgain, StandsAt};
     ghost use Rattle.hc_msg.specs.Asking.{TakesRequest};
+    ghost use Rattle.hc_msg.specs.Inputs.{TakesNextRequest};
 
     /// A reader at the beginning of a request.
     pub fn new(alloc: Global) -> RequestReader
@@ -50,6 +51,7 @@ impl RequestReader {
     /// was used. No byte past the request is used. After an error it is answered again at every call.
     pub fn take(&mut self, piece: &[u8]) -> Result<Taken<WireRequest>, MsgError>
         ensures takes { TakesRequest self.old piece.now result self.new }
+        ensures next { TakesNextRequest 1 self.old piece.now result self.new }
         ensures again { AnswersAgain self.old result }
         ensures stands { StandsAt result self.new }
         ensures spelled { GivesSpelled (λ r. IsSpelledRequest r.request) result }

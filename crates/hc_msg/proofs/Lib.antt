@@ -8,3 +8,4 @@ pub mod Chains
 pub mod Spelled
 pub mod Sizes
 pub mod Inputs
+pub mod Looks

@@ -3,6 +3,8 @@ use Rattle.std.specs.Prelude.{◌≡◌, ◌⊎◌, ℕ, ◌+◌, ◌-◌, nat_l
 use Rattle.hc_head.specs.declared.message.MsgError.{MsgError}
 use Rattle.hc_head.specs.declared.message.MsgError.TheVariants as error
 use Rattle.hc_head.specs.declared.message.WireRequest.{WireRequest}
+use Rattle.hc_msg.specs.declared.message.Look.{Look}
+use Rattle.hc_msg.specs.declared.message.Look.TheVariants as look
 use Rattle.hc_msg.specs.declared.message.Taken.{Taken}
 use Rattle.hc_msg.specs.declared.message.WirePart.{WirePart}
 use Rattle.hc_msg.specs.declared.message.WirePart.TheVariants as part
@@ -96,3 +98,12 @@ abbrev pub TakesNextRequest
 TakesNextRequest most s piece (Ok taken) t =
     IsNextRequest (next_in most s piece) piece taken.used taken.got t
 TakesNextRequest most s piece (Err e) t = IsNextError (next_in most s piece) e
+
+-- A LOOK WITHOUT TAKING
+
+abbrev pub look_of : Next → Look
+look_of (Waits reading) = look.Waits
+look_of (Tells token reading rest) = look.Part
+look_of (Brings bytes reading rest) = look.Part
+look_of Ends = look.Part
+look_of (Fails e) = look.Fails

@@ -115,7 +115,7 @@ impl State {
     }
 
     /// Whether further bytes are read.
-    fn goes_on(self) -> bool
+    pub(crate) fn goes_on(self) -> bool
         ensures { (no_body : Bool) (held : List ℕ)
             → result ≡ goes_on (reading_by no_body self held) }
     {

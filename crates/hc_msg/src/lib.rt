@@ -6,6 +6,7 @@ mod answer;
 mod call;
 mod laws;
 mod line;
+mod look;
 mod message;
 mod reader;
 mod requests;
@@ -16,7 +17,7 @@ pub use hc_head::{MsgError, WireRequest};
 pub use laws::{
     bytes_are_read_one_way, chunk_lines_are_read_by_equations, what_bytes_tell_has_a_spelling,
 };
-pub use message::{Taken, WirePart};
+pub use message::{Look, Taken, WirePart};
 pub use reader::ResponseReader;
 pub use requests::RequestReader;
 pub use write::{

@@ -19,3 +19,14 @@ pub enum WirePart {
     /// The answer is whole.
     End,
 }
+
+/// What the next bytes of an answer would come to.
+#[derive(Clone, Copy, Debug, PartialEq, Eq)]
+pub enum Look {
+    /// No part.
+    Waits,
+    /// A part.
+    Part,
+    /// An error.
+    Fails,
+}

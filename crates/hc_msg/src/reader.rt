@@ -1,9 +1,10 @@
 //! Answers that come in pieces, however they are cut.
-ghost use Rattle.std.specs.Prelude.{◌≡◌, ◌<◌};
+ghost use Rattle.std.specs.Prelude.{◌≡◌, ◌<◌, IfOk};
 
 use crate::answer::{Answer, State};
-use crate::message::{Taken, WirePart};
+use crate::message::{Look, Taken, WirePart};
 use hc_head::MsgError;
+use hc_text::NoMemory;
 use std::alloc::Global;
 use std::marker::Model;
 
@@ -31,7 +32,7 @@ impl ResponseReader {
     ghost use Rattle.hc_msg.specs.Reading.{Responses, heading};
     ghost use Rattle.hc_msg.specs.Spelled.{IsSpelledPart, GivesSpelled};
     ghost use Rattle.hc_msg.specs.Taking.{Takes, AnswersAgain, StandsAt, ending, reading_at_end};
-    ghost use Rattle.hc_msg.specs.Inputs.{TakesNext};
+    ghost use Rattle.hc_msg.specs.Inputs.{next_in, TakesNext, look_of};
 
     /// A reader at the beginning of an answer. `no_body` tells that the request was a HEAD, whose
     /// answer has no body (RFC 9110 section 9.3.2).
@@ -67,6 +68,14 @@ impl ResponseReader {
                 Err(e)
             }
         }
+    }
+
+    /// What `take` would come to with these bytes: no part, a part, or an error. Nothing is taken. Only
+    /// what is held of a head or of a chunk line is copied, and no bytes of a body.
+    pub fn look(&self, piece: &[u8]) -> Result<Look, NoMemory>
+        ensures { IfOk result (λ look. look ≡ look_of (next_in 1 self.now piece.now)) }
+    {
+        self.answer.look(piece)
     }
 
     /// The connection is closed, and no further byte comes. The answer is cut off where its head or

@@ -107,6 +107,11 @@ goes_on Done = false
 goes_on (Failed e) = false
 goes_on _ = true
 
+-- the message is whole, and its end isn't told yet
+abbrev pub is_whole : Reading → Bool
+is_whole Whole = true
+is_whole _ = false
+
 -- bytes of a body
 abbrev pub byte_tokens : List ℕ → List Token
 byte_tokens bytes = map Byte bytes

@@ -31,7 +31,7 @@ impl Model for ResponseReader {
 impl ResponseReader {
     ghost use Rattle.hc_msg.specs.Reading.{Responses, heading};
     ghost use Rattle.hc_msg.specs.Spelled.{IsSpelledPart, GivesSpelled};
-    ghost use Rattle.hc_msg.specs.Taking.{Takes, AnswersAgain, StandsAt, ending, reading_at_end};
+    ghost use Rattle.hc_msg.specs.Taking.{Takes, AnswersAgain, StandsAt, is_whole, ending, reading_at_end};
     ghost use Rattle.hc_msg.specs.Inputs.{next_in, TakesNext, look_of};
 
     /// A reader at the beginning of an answer. `no_body` tells that the request was a HEAD, whose
@@ -76,6 +76,13 @@ impl ResponseReader {
         ensures { IfOk result (λ look. look ≡ look_of (next_in 1 self.now piece.now)) }
     {
         self.answer.look(piece)
+    }
+
+    /// Whether the answer is whole, and its end isn't told yet.
+    pub fn is_whole(&self) -> bool
+        ensures { result ≡ is_whole self.now }
+    {
+        matches!(self.answer.state, State::Whole)
     }
 
     /// The connection is closed, and no further byte comes. The answer is cut off where its head or

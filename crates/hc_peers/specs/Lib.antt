@@ -1,0 +1,2 @@
+pub mod Renderings
+pub mod Peers

@@ -1,6 +1,7 @@
 -- The connections of clients and to the origin: how one begins, and when a client's next request is read.
-use Rattle.std.specs.Prelude.{ℕ, [], length, Bool, true, false, None, is_none, ◌==◌, ◌&&◌, not}
+use Rattle.std.specs.Prelude.{ℕ, [], length, Bool, true, false, None, is_none, ◌==◌, ◌&&◌, ◌||◌, not}
 use Rattle.hc_msg.specs.Reading.{Requests, Responses, heading}
+use Rattle.hc_msg.specs.Taking.{is_whole}
 use Rattle.hc_peers.specs.declared.client.Client.{Client}
 use Rattle.hc_peers.specs.declared.reply.Form.TheVariants.{Headless}
 use Rattle.hc_peers.specs.declared.reply.Reply.{Reply}
@@ -34,6 +35,11 @@ new_upstream k no_body = record {
   reading = true;
   touched = false;
 }
+
+-- bytes came of it, or its end, or its message is whole: a part may stand there
+abbrev pub has_news : Upstream → Bool
+has_news upstream =
+    not (length upstream.input == 0) || upstream.ended || is_whole upstream.reader
 
 -- nobody lives, and it has taken what it is owed
 abbrev pub is_idle : Client → Bool

@@ -1,6 +1,6 @@
 //! Connections to the origin.
 ghost use Rattle.std.specs.Prelude.{◌≡◌};
-ghost use Rattle.hc_peers.specs.Peers.{new_upstream};
+ghost use Rattle.hc_peers.specs.Peers.{new_upstream, has_news};
 
 use crate::queue::Queue;
 use hc_msg::ResponseReader;
@@ -38,5 +38,12 @@ impl Upstream {
             reading: true,
             touched: false,
         }
+    }
+
+    /// Whether a part may stand next: bytes came of it, or its end, or its message is whole.
+    pub fn has_news(&self) -> bool
+        ensures { result ≡ has_news self.now }
+    {
+        !self.input.is_empty() || self.ended || self.reader.is_whole()
     }
 }

@@ -1,0 +1,45 @@
+-- Whose a connection is, and how it stood at a call.
+use Rattle.std.specs.Prelude.{ℕ, ◌+◌, ◌-◌, ◌==◌, nat_lt, List, [], ◌∷◌, length, drop, find, Bool, Option, Some, None, if◌then◌else◌}
+use Rattle.std.specs.List.{list_any}
+use Rattle.hc_wire.specs.declared.connection.Standing.{Standing}
+use Rattle.hc_wire.specs.Logs.{Called}
+use Rattle.hc_proxy.specs.Rows.{Client}
+
+-- WHOSE
+
+abbrev pub place_from : ℕ → ℕ → List ℕ → Option ℕ
+place_from n k [] = None
+place_from n k (j ∷ ks) = if j == k then Some n else place_from (n + 1) k ks
+
+-- the exchange of a connection: exchange x has the one that was dialled as the x-th
+abbrev pub exchange_of : List ℕ → ℕ → Option ℕ
+exchange_of dialled k = place_from 1 k dialled
+
+abbrev pub first_of : List ℕ → Option ℕ
+first_of [] = None
+first_of (k ∷ ks) = Some k
+
+-- the connection of an exchange
+abbrev pub connection_of : List ℕ → ℕ → Option ℕ
+connection_of dialled x = first_of (drop (x - 1) dialled)
+
+-- AT A CALL
+
+abbrev pub is_of : ℕ → Standing → Bool
+is_of k standing = standing.k == k
+
+-- the connection was open
+abbrev pub stands : Called → ℕ → Bool
+stands call k = list_any (is_of k) call.standings
+
+abbrev pub taken_by : Option Standing → ℕ
+taken_by None = 0
+taken_by (Some standing) = standing.taken
+
+-- how many bytes it had taken
+abbrev pub taken_at : Called → ℕ → ℕ
+taken_at call k = taken_by (find (is_of k) call.standings)
+
+-- the client was to be sent more than it had taken
+abbrev pub has_unsent : Called → ℕ → Client → Bool
+has_unsent call k client = nat_lt (taken_at call k) (length client.owed)

@@ -1,0 +1,15 @@
+pub mod Rows
+pub mod Connections
+pub mod Steps
+pub mod Handling
+pub mod Network
+pub mod Starts
+pub mod Polls
+pub mod Carrying
+pub mod Turns
+pub mod Waiting
+pub mod Standings
+pub mod Listening
+pub mod Sending
+pub mod Loops
+pub mod Endings

@@ -1,0 +1,2 @@
+//! The proxy: the cache between clients and an origin.
+#![tactic(auto)]

@@ -1,3 +1,4 @@
 pub mod Folds
 pub mod Turning
 pub mod Later
+pub mod OwedEntries

@@ -2,3 +2,4 @@ pub mod Folds
 pub mod Turning
 pub mod Later
 pub mod OwedEntries
+pub mod Stands

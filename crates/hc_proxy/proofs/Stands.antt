@@ -1,0 +1,172 @@
+-- The tables are those of the history, the history is a run, and exchanges are only added.
+--
+-- Each event is stepped with the entry that is owed by a store which never fails, at the moment of the turn, and no
+-- moment is before that of the tables. All other changes leave tables, history and moment as they are, but for
+-- the beginning of a turn, which takes the greater moment. So what holds of the empty run holds of each turn.
+-- An entry opens the next exchange or none, so the number of the last one only grows.
+use Rattle.std.proofs.Common.{◌≡◌, ◌≤◌, ℕ, ◌+◌, Bool, true, false, List, [], ◌∷◌, Option, Some, None, refl, ap, sym, ◌∙◌, subst, arith}
+use Rattle.std.proofs.lemmas.Bool.Decides.{nat_tests}
+use Rattle.std.specs.Prelude.{max, nat_le}
+use Rattle.hc_event.specs.Filters.{Opening, opening_in, is_denied}
+use Rattle.hc_event.specs.declared.event.Event.{Event}
+use Rattle.hc_event.specs.declared.event.Request.{Request}
+use Rattle.hc_rules.specs.declared.room.Limits.{Limits}
+use Rattle.hc_model.specs.Beginnings.{may_begin}
+use Rattle.hc_model.specs.Entries.{Entry, History, no_contents}
+use Rattle.hc_model.specs.Places.{Places}
+use Rattle.hc_model.specs.Reads.{ReadsWhole}
+use Rattle.hc_model.specs.Rows.{Tables}
+use Rattle.hc_model.specs.Runs.{IsRun, IsOwed, owed}
+use Rattle.hc_model.specs.Sound.{Sound}
+use Rattle.hc_model.specs.Tables.{tables, after, opened_after}
+use Rattle.hc_model.proofs.NumbersKeep.{opens_next}
+use Rattle.hc_model.proofs.Owed.{goes, acts_are}
+use Rattle.hc_model.specs.Flaws.{flaw_in}
+use Rattle.hc_laws.proofs.PlaceRuns.{places_in_runs}
+use Rattle.hc_laws.proofs.ReadWhole.{runs_read_whole}
+use Rattle.hc_laws.proofs.SoundRuns.{runs_are_sound}
+use Rattle.hc_wire.specs.Logs.{Called, Log}
+use Rattle.hc_proxy.specs.Carrying.{acts_in}
+use Rattle.hc_proxy.specs.Handling.{begun}
+use Rattle.hc_proxy.specs.Rows.{Proxy, unused}
+use Rattle.hc_proxy.specs.Steps.{with_entry, stepped}
+use Rattle.hc_proxy.specs.Turns.{so_far, happened, turned, turned_by, behind_all}
+use Rattle.hc_proxy.proofs.OwedEntries.{owed_is_owed}
+use Rattle.hc_proxy.proofs.Turning.{IsKept, IsCarried, carried_keeps, open_any, turned_keeps}
+
+pub record Stands (limits : Limits) (p : Proxy) : Type 0 where
+  pub run : IsRun limits no_contents p.history
+  pub same : p.tables ≡ tables no_contents p.history
+  pub later : p.tables.moment ≤ p.moment
+
+-- what a change keeps: that, and the exchanges that were opened
+pub record Goes (limits : Limits) (p q : Proxy) : Type 0 where
+  pub stands : Stands limits q
+  pub opened : p.tables.opened ≤ q.tables.opened
+
+abbrev pub StandsOn : Limits → Proxy → Proxy → Type 0
+StandsOn limits p q = Stands limits p → Goes limits p q
+
+-- A RUN FROM NOTHING
+
+no_weight : (n : ℕ) → nat_le 0 n ≡ true
+no_weight n = grind (arith, nat_tests)
+
+begins_well : (limits : Limits) → may_begin limits no_contents ≡ true
+unfolding may_begin
+begins_well limits = no_weight limits.max_total
+
+module _ (limits : Limits) (p : Proxy) (s : Stands limits p) where
+  pub is_sound : Sound p.tables
+  is_sound = subst Sound (sym s.same) (runs_are_sound limits no_contents p.history (begins_well limits) s.run)
+
+  pub has_places : Places p.tables
+  has_places = subst Places (sym s.same) (places_in_runs limits no_contents p.history (begins_well limits) s.run)
+
+-- AN ENTRY
+
+moment_by : (t : Tables) (e : Entry) → (b : Bool) → is_denied e.acts ≡ b → (after t e).moment ≡ e.now
+unfolding after
+moment_by t e true denied = rw denied refl
+moment_by t e false accepted = rw accepted refl
+
+opened_by : (n : ℕ) (o : Option Opening) → ((q : Opening) → o ≡ Some q → q.x ≡ n + 1) → n ≤ opened_after o n
+opened_by n None next = omega arith
+opened_by n (Some q) next = let is : q.x ≡ n + 1 = next q refl in omega arith
+
+grows_by : (limits : Limits) (t : Tables) (e : Entry) → Sound t → IsOwed limits t e → (b : Bool) → is_denied e.acts ≡ b → t.opened ≤ (after t e).opened
+unfolding after
+grows_by limits t e s is true denied = rw denied (omega arith)
+grows_by limits t e s is false accepted =
+    rw accepted
+    (opened_by t.opened (opening_in e.acts) (λ q opens.
+      opens_next limits t e.now (flaw_in e.acts) s e.event q (goes limits t e is accepted)
+      (ap opening_in (sym (acts_are limits t e is accepted)) ∙ opens)))
+
+module _ (limits : Limits) (ev : Event) (p : Proxy) (s : Stands limits p) where
+  abbrev e : Entry
+  e = owed limits p.tables p.moment ev
+
+  owed_here : IsOwed limits p.tables e
+  owed_here = owed_is_owed limits p.tables p.moment (is_sound limits p s) (has_places limits p s) s.later ev
+
+  now_is : e.now ≡ p.moment
+  unfolding owed
+  now_is = refl
+
+  goes_on : Goes limits p (stepped limits ev p)
+  unfolding with_entry tables
+  goes_on = record {
+    stands = record {
+      run = (s.run, subst (λ t. IsOwed limits t e) s.same owed_here);
+      same = ap (λ t. after t e) s.same;
+      later = let at : (after p.tables e).moment ≡ p.moment = moment_by p.tables e (is_denied e.acts) refl ∙ now_is in omega arith;
+    };
+    opened = grows_by limits p.tables e (is_sound limits p s) owed_here (is_denied e.acts) refl;
+  }
+
+-- ALL CHANGES
+
+still : (limits : Limits) (p : Proxy) → StandsOn limits p p
+still limits p s = record { stands = s; opened = omega arith }
+
+both_go : (limits : Limits) (p q r : Proxy) → StandsOn limits p q → StandsOn limits q r → StandsOn limits p r
+both_go limits p q r a b s =
+    let first = a s in
+    let second = b first.stands in
+    let one : p.tables.opened ≤ q.tables.opened = first.opened in
+    let two : q.tables.opened ≤ r.tables.opened = second.opened in
+    record { stands = second.stands; opened = omega arith }
+
+begins_turn : (limits : Limits) (call : Called) (p : Proxy) → StandsOn limits p (begun call p)
+begins_turn limits call p s = record {
+  stands = record { run = s.run; same = s.same; later = let le : p.tables.moment ≤ p.moment = s.later in omega arith };
+  opened = omega arith;
+}
+
+pub stands_on : (limits : Limits) → IsKept limits (λ k. Unit {0}) (StandsOn limits)
+stands_on limits = record {
+  none = still limits;
+  both = both_go limits;
+  begins = begins_turn limits;
+  comes = λ k p may s. record { stands = record { run = s.run; same = s.same; later = s.later }; opened = omega arith };
+  client = λ k change p is s. record { stands = record { run = s.run; same = s.same; later = s.later }; opened = omega arith };
+  origin = λ x change p is s. record { stands = record { run = s.run; same = s.same; later = s.later }; opened = omega arith };
+  holder = λ c k p s. record { stands = record { run = s.run; same = s.same; later = s.later }; opened = omega arith };
+  steps = λ ev p s. goes_on limits ev p s;
+}
+
+pub stands_out : (limits : Limits) → IsCarried (λ x. Unit {0}) (StandsOn limits)
+stands_out limits = record {
+  none = still limits;
+  both = both_go limits;
+  answers = λ k a p s. record { stands = record { run = s.run; same = s.same; later = s.later }; opened = omega arith };
+  opens = λ x request p may s. record { stands = record { run = s.run; same = s.same; later = s.later }; opened = omega arith };
+}
+
+-- TURNS
+
+-- A turn, and turns one behind another.
+pub turn_goes : (limits : Limits) (dialled : List ℕ) (call : Called) (p : Proxy) → StandsOn limits p (turned limits dialled call p)
+turn_goes limits dialled call p =
+    turned_keeps limits (λ k. Unit {0}) (λ x. Unit {0}) (StandsOn limits) (stands_on limits) (stands_out limits) dialled call p (λ k at. tt)
+    (open_any (acts_in (happened limits (so_far p dialled) call p).part))
+
+pub turns_go : (limits : Limits) (dialled : List ℕ) (calls : List Called) (p : Proxy) → StandsOn limits p (turned_by limits dialled calls p)
+turns_go limits dialled [] p = still limits p
+turns_go limits dialled (call ∷ calls) p =
+    both_go limits p (turned limits dialled call p) (turned_by limits dialled calls (turned limits dialled call p))
+    (turn_goes limits dialled call p) (turns_go limits dialled calls (turned limits dialled call p))
+
+-- BEFORE THE FIRST CALL, AND BEHIND ALL
+
+pub unused_stands : (limits : Limits) → Stands limits unused
+unfolding tables
+unused_stands limits = record { run = tt; same = refl; later = omega arith }
+
+-- Whatever a log says, the tables behind it are those of a run, and each consumer reads one answer whole.
+pub loops_stand : (limits : Limits) (log : Log) → Stands limits (behind_all limits log)
+loops_stand limits log = (turns_go limits log.dialled log.calls unused (unused_stands limits)).stands
+
+pub loops_read_whole : (limits : Limits) (log : Log) → ReadsWhole no_contents (behind_all limits log).history
+loops_read_whole limits log = runs_read_whole limits no_contents (behind_all limits log).history (begins_well limits) (loops_stand limits log).run

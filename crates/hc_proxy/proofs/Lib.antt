@@ -3,3 +3,4 @@ pub mod Turning
 pub mod Later
 pub mod OwedEntries
 pub mod Stands
+pub mod MoreDials

@@ -63,16 +63,18 @@ module _ (limits : Limits) (dialled more : List ℕ) where
   pub all_fit : (calls : List Called) (p : Proxy) → Stands limits p → (turned_by limits dialled calls p).tables.opened ≤ length dialled → AllFit limits dialled p calls → AllFit limits (dialled ++ more) p calls
   all_fit [] p s enough fit = tt
   all_fit (call ∷ calls) p s enough fit =
-      let before = enough_before (call ∷ calls) p s enough in
-      (fits_same call p before fit.0,
-       subst (λ q. AllFit limits (dialled ++ more) q calls) (sym (turn_same call p before))
-       (all_fit calls (turned limits dialled call p) (turn_goes limits dialled call p s).stands enough fit.1))
+      let before = enough_before (call ∷ calls) p s enough in (
+        fits_same call p before fit.0,
+        subst (λ q. AllFit limits (dialled ++ more) q calls) (sym (turn_same call p before))
+            (all_fit calls (turned limits dialled call p) (turn_goes limits dialled call p s).stands enough fit.1),
+      )
 
   -- And calls that fit with more do without them.
   pub all_fit_back : (calls : List Called) (p : Proxy) → Stands limits p → (turned_by limits dialled calls p).tables.opened ≤ length dialled → AllFit limits (dialled ++ more) p calls → AllFit limits dialled p calls
   all_fit_back [] p s enough fit = tt
   all_fit_back (call ∷ calls) p s enough fit =
-      let before = enough_before (call ∷ calls) p s enough in
-      (fits_back call p before fit.0,
-       all_fit_back calls (turned limits dialled call p) (turn_goes limits dialled call p s).stands enough
-       (subst (λ q. AllFit limits (dialled ++ more) q calls) (turn_same call p before) fit.1))
+      let before = enough_before (call ∷ calls) p s enough in (
+        fits_back call p before fit.0,
+        all_fit_back calls (turned limits dialled call p) (turn_goes limits dialled call p s).stands enough
+            (subst (λ q. AllFit limits (dialled ++ more) q calls) (turn_same call p before) fit.1),
+      )

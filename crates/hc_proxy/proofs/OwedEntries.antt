@@ -191,7 +191,7 @@ module _ (limits : Limits) (t : Tables) (now : ℕ) (acts : List Act) (s : Sound
   by_lost x bytes w v row there true lost lacking = absurd (false_true lacking)
   by_lost x bytes w v row there false lost lacking =
       let writes : piece_writes t x (t.exchange x) ≡ Some (family x w) =
-        ap (piece_writes t x) row ∙ (ap (unless_lost (family x w)) there ∙ ap (λ b. if b then None else Some (family x w)) lost) in
+      ap (piece_writes t x) row ∙ (ap (unless_lost (family x w)) there ∙ ap (λ b. if b then None else Some (family x w)) lost) in
       record { r = family x w; without = writes; beside = writes; kept = ap is_kept there ∙ ap not lost }
 
   by_stored : (x : ℕ) (bytes : List ℕ) (w : Exchange) (p : Option Representation) → t.exchange x ≡ Some w → t.representation (family x w) ≡ p → lacks (room_by limits t (bare (event.Piece x bytes)) (option_and_then (piece_write (length bytes)) p)) ≡ true → IsLosable limits t now acts (event.Piece x bytes)
@@ -227,18 +227,18 @@ module _ (limits : Limits) (t : Tables) (now : ℕ) (s : Sound t) (places : Plac
   by_denial (Some refusal) denied = record {
     later = later;
     acts =
-      ap (λ z. denied_or z (accepted_acts limits t now ev of_sizes)) denied
-      ∙ sym (ap (λ z. denied_or z (accepted_acts limits t now ev (flaw_in (answer limits t now ev of_sizes)))) denied);
+        ap (λ z. denied_or z (accepted_acts limits t now ev of_sizes)) denied
+        ∙ sym (ap (λ z. denied_or z (accepted_acts limits t now ev (flaw_in (answer limits t now ev of_sizes)))) denied);
     flaw = or_left _ _ (ap (λ z. is_denied (denied_or z (accepted_acts limits t now ev of_sizes))) denied);
   }
   by_denial None goes =
       let flaw : flaw_in (answer limits t now ev of_sizes) ≡ of_sizes =
-        ap (λ z. flaw_in (denied_or z (accepted_acts limits t now ev of_sizes))) goes ∙ shows_flaw limits t now s places ev in
+      ap (λ z. flaw_in (denied_or z (accepted_acts limits t now ev of_sizes))) goes ∙ shows_flaw limits t now s places ev in
       record {
         later = later;
         acts = ap (answer limits t now ev) (sym flaw);
         flaw = or_right (is_denied (answer limits t now ev of_sizes)) _
-          (subst (λ f. may_be limits t (entry limits t now (answer limits t now ev of_sizes) ev) f ≡ true) (sym flaw) (may_be_so limits t now (answer limits t now ev of_sizes) s ev goes));
+            (subst (λ f. may_be limits t (entry limits t now (answer limits t now ev of_sizes) ev) f ≡ true) (sym flaw) (may_be_so limits t now (answer limits t now ev of_sizes) s ev goes));
       }
 
   -- A run may go on with the entry that is owed.

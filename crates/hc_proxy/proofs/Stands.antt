@@ -14,7 +14,6 @@ use Rattle.hc_rules.specs.declared.room.Limits.{Limits}
 use Rattle.hc_model.specs.Beginnings.{may_begin}
 use Rattle.hc_model.specs.Entries.{Entry, History, no_contents}
 use Rattle.hc_model.specs.Places.{Places}
-use Rattle.hc_model.specs.Reads.{ReadsWhole}
 use Rattle.hc_model.specs.Rows.{Tables}
 use Rattle.hc_model.specs.Runs.{IsRun, IsOwed, owed}
 use Rattle.hc_model.specs.Sound.{Sound}
@@ -28,6 +27,7 @@ use Rattle.hc_laws.proofs.SoundRuns.{runs_are_sound}
 use Rattle.hc_wire.specs.Logs.{Called, Log}
 use Rattle.hc_proxy.specs.Carrying.{acts_in}
 use Rattle.hc_proxy.specs.Handling.{begun}
+use Rattle.hc_proxy.specs.Laws.{LoopsAreRuns}
 use Rattle.hc_proxy.specs.Rows.{Proxy, unused}
 use Rattle.hc_proxy.specs.Steps.{with_entry, stepped}
 use Rattle.hc_proxy.specs.Turns.{so_far, happened, turned, turned_by, behind_all}
@@ -80,8 +80,8 @@ grows_by limits t e s is true denied = rw denied (omega arith)
 grows_by limits t e s is false accepted =
     rw accepted
     (opened_by t.opened (opening_in e.acts) (λ q opens.
-      opens_next limits t e.now (flaw_in e.acts) s e.event q (goes limits t e is accepted)
-      (ap opening_in (sym (acts_are limits t e is accepted)) ∙ opens)))
+    opens_next limits t e.now (flaw_in e.acts) s e.event q (goes limits t e is accepted)
+    (ap opening_in (sym (acts_are limits t e is accepted)) ∙ opens)))
 
 module _ (limits : Limits) (ev : Event) (p : Proxy) (s : Stands limits p) where
   abbrev e : Entry
@@ -164,9 +164,11 @@ pub unused_stands : (limits : Limits) → Stands limits unused
 unfolding tables
 unused_stands limits = record { run = tt; same = refl; later = omega arith }
 
--- Whatever a log says, the tables behind it are those of a run, and each consumer reads one answer whole.
+-- Whatever a log says.
 pub loops_stand : (limits : Limits) (log : Log) → Stands limits (behind_all limits log)
 loops_stand limits log = (turns_go limits log.dialled log.calls unused (unused_stands limits)).stands
 
-pub loops_read_whole : (limits : Limits) (log : Log) → ReadsWhole no_contents (behind_all limits log).history
-loops_read_whole limits log = runs_read_whole limits no_contents (behind_all limits log).history (begins_well limits) (loops_stand limits log).run
+pub loops_are_runs : LoopsAreRuns
+loops_are_runs limits log =
+    let s = loops_stand limits log in
+    record { run = s.run; behind = s.same; whole = runs_read_whole limits no_contents (behind_all limits log).history (begins_well limits) s.run }

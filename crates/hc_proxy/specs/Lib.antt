@@ -13,3 +13,4 @@ pub mod Listening
 pub mod Sending
 pub mod Loops
 pub mod Endings
+pub mod Laws

@@ -94,7 +94,7 @@ kept_row : (b : Bool) (new o : Option Client) (old : Client) → b ≡ false →
 kept_row true new o old off row = absurd (let never : true ≡ false = off in cc)
 kept_row false new o old off row = record { new = old; row = row; later = later_same old }
 
-abbrev OtherThan : ℕ → ℕ → Type 0
+abbrev pub OtherThan : ℕ → ℕ → Type 0
 OtherThan k j = j ≡ k → ⊥
 
 module _ (limits : Limits) (k : ℕ) where

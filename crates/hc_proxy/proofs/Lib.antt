@@ -4,3 +4,4 @@ pub mod Later
 pub mod OwedEntries
 pub mod Stands
 pub mod MoreDials
+pub mod Openings

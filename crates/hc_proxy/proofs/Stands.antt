@@ -87,14 +87,14 @@ module _ (limits : Limits) (ev : Event) (p : Proxy) (s : Stands limits p) where
   abbrev e : Entry
   e = owed limits p.tables p.moment ev
 
-  owed_here : IsOwed limits p.tables e
+  pub owed_here : IsOwed limits p.tables e
   owed_here = owed_is_owed limits p.tables p.moment (is_sound limits p s) (has_places limits p s) s.later ev
 
   now_is : e.now ≡ p.moment
   unfolding owed
   now_is = refl
 
-  goes_on : Goes limits p (stepped limits ev p)
+  pub goes_on : Goes limits p (stepped limits ev p)
   unfolding with_entry tables
   goes_on = record {
     stands = record {

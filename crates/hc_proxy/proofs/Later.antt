@@ -8,19 +8,16 @@ use Rattle.std.proofs.Common.{◌≡◌, ℕ, Bool, true, false, List, [], ◌�
 use Rattle.std.proofs.lemmas.Bool.Decides.{nat_tests}
 use Rattle.std.specs.Prelude.{nat_eq, ◌||◌, if◌then◌else◌, option_map}
 use Rattle.hc_event.specs.declared.act.Act.{Act}
-use Rattle.hc_event.specs.declared.event.Event.{Event}
-use Rattle.hc_event.specs.declared.event.Request.{Request}
-use Rattle.hc_model.specs.Entries.{Entry, History}
-use Rattle.hc_model.specs.Rows.{Tables}
+use Rattle.hc_model.specs.Entries.{Entry}
 use Rattle.hc_peers.specs.Renderings.{rendering, empty_answer, error_status, form_behind, is_last, closes}
 use Rattle.hc_rules.specs.declared.room.Limits.{Limits}
 use Rattle.hc_wire.specs.Logs.{Called}
 use Rattle.hc_wire.specs.declared.event.WireEvent.TheVariants as wire
-use Rattle.hc_proxy.specs.Carrying.{answered, opened, carried, acts_in}
+use Rattle.hc_proxy.specs.Carrying.{answered, carried, acts_in}
 use Rattle.hc_proxy.specs.Connections.{stands}
-use Rattle.hc_proxy.specs.Handling.{begun, seen_at}
-use Rattle.hc_proxy.specs.Rows.{Client, Upstream, Proxy, with_client, with_upstream}
-use Rattle.hc_proxy.specs.Steps.{with_entry, stepped}
+use Rattle.hc_proxy.specs.Handling.{seen_at}
+use Rattle.hc_proxy.specs.Rows.{Client, Upstream, Proxy}
+use Rattle.hc_proxy.specs.Steps.{with_entry}
 use Rattle.hc_proxy.specs.Turns.{so_far, happened, turned, turned_by}
 use Rattle.hc_proxy.proofs.Turning.{IsChange, IsOriginChange, IsKept, IsCarried, OpenOnly, with_new, with_opened, carried_keeps, open_any, turned_keeps}
 use Rattle.hc_proxy.proofs.Turning as kinds
@@ -208,7 +205,7 @@ module _ (limits : Limits) (x : ℕ) where
   unfolding with_entry
   origin_step e p old row = record { new = old; row = row; owed = refl }
 
-  both_origins : (p q r : Proxy) → OriginStays x p q → OriginStays x q r → OriginStays x p r
+  pub both_origins : (p q r : Proxy) → OriginStays x p q → OriginStays x q r → OriginStays x p r
   both_origins p q r a b old row =
       let first = a old row in
       let second = b first.new first.row in

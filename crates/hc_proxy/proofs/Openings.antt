@@ -10,14 +10,12 @@ use Rattle.hc_event.specs.Filters.{Opening, opening_in, is_denied}
 use Rattle.hc_event.specs.declared.act.Act.{Act}
 use Rattle.hc_event.specs.declared.act.Act.TheVariants as act
 use Rattle.hc_event.specs.declared.act.Need.{Need}
-use Rattle.hc_event.specs.declared.act.Refusal.{Refusal}
 use Rattle.hc_event.specs.declared.event.Event.{Event}
 use Rattle.hc_event.specs.declared.event.Event.TheVariants as event
 use Rattle.hc_event.specs.declared.event.Request.{Request}
 use Rattle.hc_rules.specs.declared.room.Limits.{Limits}
-use Rattle.hc_model.specs.Answers.{answer, accepted_acts, answer_acts, poll_acts, loss_acts, close_acts, denied_or}
+use Rattle.hc_model.specs.Answers.{accepted_acts, answer_acts, poll_acts, loss_acts, close_acts}
 use Rattle.hc_model.specs.Closings.{closing}
-use Rattle.hc_model.specs.Denials.{denial}
 use Rattle.hc_model.specs.Entries.{Entry}
 use Rattle.hc_model.specs.Flaws.{Flaw, NoFlaw, Loses, Misreads, flaw_in}
 use Rattle.hc_model.specs.Moves as moves
@@ -31,14 +29,14 @@ use Rattle.hc_model.specs.Weights.{evicted}
 use Rattle.hc_model.proofs.NumbersKeep.{opens_next}
 use Rattle.hc_model.proofs.Owed.{goes, acts_are, is_denial, IsDenied, denied}
 use Rattle.hc_wire.specs.Logs.{Called}
-use Rattle.hc_proxy.specs.Carrying.{answered, acts_in, carried}
-use Rattle.hc_proxy.specs.Handling.{begun, handled}
+use Rattle.hc_proxy.specs.Carrying.{acts_in, carried}
+use Rattle.hc_proxy.specs.Handling.{handled}
 use Rattle.hc_proxy.specs.Rows.{Upstream, Proxy, unused}
 use Rattle.hc_proxy.specs.Steps.{with_entry, stepped}
 use Rattle.hc_proxy.specs.Turns.{so_far, happened, turned, turned_by}
-use Rattle.hc_proxy.proofs.Later.{IsSame, OtherThan, OriginStays, carried_is_same, origin_stays}
-use Rattle.hc_proxy.proofs.Stands.{Stands, Goes, StandsOn, stands_on, is_sound, owed_here, goes_on, turn_goes, unused_stands}
-use Rattle.hc_proxy.proofs.Turning.{IsKept, IsCarried, IsOriginChange, OpenOnly, happened_keeps, carried_keeps}
+use Rattle.hc_proxy.proofs.Later.{OriginStays, carried_is_same, both_origins, origin_stays}
+use Rattle.hc_proxy.proofs.Stands.{Stands, stands_on, is_sound, owed_here, goes_on, turn_goes, unused_stands}
+use Rattle.hc_proxy.proofs.Turning.{IsKept, IsCarried, OpenOnly, happened_keeps, carried_keeps}
 
 -- LISTS OF ACTS
 
@@ -187,10 +185,10 @@ module _ (limits : Limits) (n : ℕ) where
         stands = goes_there.stands;
         from = omega arith;
         opens =
-          open_both _ (acts_in p.part) (owed limits p.tables p.moment ev).acts
-          (open_more _ _ (λ x h. let low : n < x = h.0 in let high : x ≤ p.tables.opened = h.1 in (low, omega arith)) (acts_in p.part) s.opens)
-          (open_more (IsNext p.tables (owed limits p.tables p.moment ev)) _ (λ x h. let is : x ≡ p.tables.opened + 1 = h.0 in (omega arith, h.1)) (owed limits p.tables p.moment ev).acts
-          (entry_opens limits p.tables (owed limits p.tables p.moment ev) (is_sound limits p s.stands) (owed_here limits ev p s.stands) (is_denied (owed limits p.tables p.moment ev).acts) refl));
+            open_both _ (acts_in p.part) (owed limits p.tables p.moment ev).acts
+            (open_more _ _ (λ x h. let low : n < x = h.0 in let high : x ≤ p.tables.opened = h.1 in (low, omega arith)) (acts_in p.part) s.opens)
+            (open_more (IsNext p.tables (owed limits p.tables p.moment ev)) _ (λ x h. let is : x ≡ p.tables.opened + 1 = h.0 in (omega arith, h.1)) (owed limits p.tables p.moment ev).acts
+            (entry_opens limits p.tables (owed limits p.tables p.moment ev) (is_sound limits p s.stands) (owed_here limits ev p s.stands) (is_denied (owed limits p.tables p.moment ev).acts) refl));
       }
 
   opens_behind : IsKept limits (λ k. Unit {0}) (OpensBehind limits n)
@@ -215,8 +213,8 @@ pub turn_opens : (limits : Limits) (dialled : List ℕ) (call : Called) (p : Pro
 turn_opens limits dialled call p s =
     let at_first : OpensOn limits p.tables.opened (record p { part = [] }) = record { stands = record { run = s.run; same = s.same; later = s.later }; from = omega arith; opens = tt } in
     let there : OpensOn limits p.tables.opened (happened limits dialled call p) =
-      subst (OpensOn limits p.tables.opened) (without_part limits dialled call p)
-      (happened_keeps limits (λ k. Unit {0}) (OpensBehind limits p.tables.opened) (opens_behind limits p.tables.opened) dialled call (record p { part = [] }) (λ k at. tt) at_first) in
+    subst (OpensOn limits p.tables.opened) (without_part limits dialled call p)
+    (happened_keeps limits (λ k. Unit {0}) (OpensBehind limits p.tables.opened) (opens_behind limits p.tables.opened) dialled call (record p { part = [] }) (λ k at. tt) at_first) in
     (there.from, there.opens)
 
 -- ROWS OF CONNECTIONS TO THE ORIGIN
@@ -298,3 +296,15 @@ module _ (limits : Limits) (dialled : List ℕ) (call : Called) (p : Proxy) (s :
 
 pub unused_known : (limits : Limits) → StandsKnown limits unused
 unused_known limits = record { stands = unused_stands limits; known = λ x u row. absurd (let never : None ≡ Some u = row in cc) }
+
+-- Behind all turns.
+pub turns_know : (limits : Limits) (dialled : List ℕ) (calls : List Called) (p : Proxy) → StandsKnown limits p → StandsKnown limits (turned_by limits dialled calls p)
+turns_know limits dialled [] p s = s
+turns_know limits dialled (call ∷ calls) p s = turns_know limits dialled calls (turned limits dialled call p) (turn_knows limits dialled call p s)
+
+pub origin_grows_on : (limits : Limits) (dialled : List ℕ) (calls : List Called) (p : Proxy) → StandsKnown limits p → (x : ℕ) → OriginStays x p (turned_by limits dialled calls p)
+origin_grows_on limits dialled [] p s x = λ old row. record { new = old; row = row; owed = refl }
+origin_grows_on limits dialled (call ∷ calls) p s x =
+    both_origins limits x p (turned limits dialled call p) (turned_by limits dialled calls (turned limits dialled call p))
+    (origin_grows limits dialled call p s x)
+    (origin_grows_on limits dialled calls (turned limits dialled call p) (turn_knows limits dialled call p s) x)

@@ -5,8 +5,8 @@
 -- the flaw may be: where a head or a piece lacks room, what it writes is there to be lost. What a head founds wasn't
 -- there before, and what a piece is written to isn't lost.
 use Rattle.std.proofs.Common.{◌≡◌, ◌≤◌, ℕ, List, [], ◌∷◌, ◌++◌, length, Bool, true, false, Option, Some, None, refl, ap, sym, ◌∙◌, subst}
-use Rattle.std.specs.Prelude.{if◌then◌else◌, ◌||◌, ◌&&◌, not, map}
-use Rattle.std.specs.Option.{option_and_then, option_map}
+use Rattle.std.specs.Prelude.{if◌then◌else◌, ◌||◌, not, map}
+use Rattle.std.specs.Option.{option_and_then}
 use Rattle.hc_event.specs.Filters.{is_denied}
 use Rattle.hc_event.specs.declared.act.Act.{Act}
 use Rattle.hc_event.specs.declared.act.Act.TheVariants as act
@@ -21,11 +21,9 @@ use Rattle.hc_event.specs.declared.event.Event.TheVariants as event
 use Rattle.hc_event.specs.declared.event.Response.{Response}
 use Rattle.hc_rules.specs.Refusals as refusals
 use Rattle.hc_rules.specs.Refusals.{head_refusal}
-use Rattle.hc_rules.specs.Rooms.{room_of}
 use Rattle.hc_rules.specs.declared.room.Limits.{Limits}
 use Rattle.hc_rules.specs.declared.room.Room.{Room}
 use Rattle.hc_rules.specs.declared.room.Room.TheVariants as room
-use Rattle.hc_rules.specs.declared.room.Write.{Write}
 use Rattle.hc_rules.specs.declared.room.Write.TheVariants as write
 use Rattle.hc_model.specs.ActFilters.{has_loss, without_losses}
 use Rattle.hc_model.specs.Answers.{answer, accepted_acts, answer_acts, loss_acts, close_acts, denied_or}
@@ -37,13 +35,13 @@ use Rattle.hc_model.specs.Exchanges.{family}
 use Rattle.hc_model.specs.Flaws.{Flaw, NoFlaw, Loses, Misreads, flaw_in}
 use Rattle.hc_model.specs.Moves as moves
 use Rattle.hc_model.specs.Moves.{Move, Nothing, Asks, Opens, Shows, Gives, Ends, Fails, acts_of}
-use Rattle.hc_model.specs.Places.{Places, is_failed_read}
-use Rattle.hc_model.specs.Polls.{poll_move, move_of}
+use Rattle.hc_model.specs.Places.{Places}
+use Rattle.hc_model.specs.Polls.{poll_move}
 use Rattle.hc_model.specs.Rows.{Tables, Exchange, Representation, Consumer}
 use Rattle.hc_model.specs.Runs.{IsOwed, may_stand, may_be, may_lose, is_kept, flaw_by_room, size_flaw, owed, has_room}
 use Rattle.hc_model.specs.Sound.{Sound}
-use Rattle.hc_model.specs.Weights.{room_for, room_by, write_in, write_of_piece, piece_write, evicted}
-use Rattle.hc_model.specs.Writes.{written_representation, written_in, head_writes, may_validate, piece_writes, unless_lost, lossless}
+use Rattle.hc_model.specs.Weights.{room_for, room_by, write_of_piece, piece_write, evicted}
+use Rattle.hc_model.specs.Writes.{written_representation, head_writes, may_validate, piece_writes, unless_lost, lossless}
 use Rattle.hc_model.proofs.Basics.{false_true, and_both, or_left, or_right, number_yes}
 use Rattle.hc_model.proofs.ExchangeFilters.{headless}
 use Rattle.hc_model.proofs.FailsTold.{fails_told}

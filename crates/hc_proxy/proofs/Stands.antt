@@ -6,13 +6,12 @@
 -- An entry opens the next exchange or none, so the number of the last one only grows.
 use Rattle.std.proofs.Common.{◌≡◌, ◌≤◌, ℕ, ◌+◌, Bool, true, false, List, [], ◌∷◌, Option, Some, None, refl, ap, sym, ◌∙◌, subst, arith}
 use Rattle.std.proofs.lemmas.Bool.Decides.{nat_tests}
-use Rattle.std.specs.Prelude.{max, nat_le}
+use Rattle.std.specs.Prelude.{nat_le}
 use Rattle.hc_event.specs.Filters.{Opening, opening_in, is_denied}
 use Rattle.hc_event.specs.declared.event.Event.{Event}
-use Rattle.hc_event.specs.declared.event.Request.{Request}
 use Rattle.hc_rules.specs.declared.room.Limits.{Limits}
 use Rattle.hc_model.specs.Beginnings.{may_begin}
-use Rattle.hc_model.specs.Entries.{Entry, History, no_contents}
+use Rattle.hc_model.specs.Entries.{Entry, no_contents}
 use Rattle.hc_model.specs.Places.{Places}
 use Rattle.hc_model.specs.Rows.{Tables}
 use Rattle.hc_model.specs.Runs.{IsRun, IsOwed, owed}
@@ -32,7 +31,7 @@ use Rattle.hc_proxy.specs.Rows.{Proxy, unused}
 use Rattle.hc_proxy.specs.Steps.{with_entry, stepped}
 use Rattle.hc_proxy.specs.Turns.{so_far, happened, turned, turned_by, behind_all}
 use Rattle.hc_proxy.proofs.OwedEntries.{owed_is_owed}
-use Rattle.hc_proxy.proofs.Turning.{IsKept, IsCarried, carried_keeps, open_any, turned_keeps}
+use Rattle.hc_proxy.proofs.Turning.{IsKept, IsCarried, open_any, turned_keeps}
 
 pub record Stands (limits : Limits) (p : Proxy) : Type 0 where
   pub run : IsRun limits no_contents p.history

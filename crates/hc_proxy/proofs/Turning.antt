@@ -4,8 +4,8 @@
 -- client, the holder of a consumer, an event that is stepped, an exchange that is opened, and what a turn begins with.
 -- A relation between the tables before and behind that holds of each, of none and of two in a row holds of a
 -- turn. So the definitions are walked through once, here, and each law names what it is of each kind.
-use Rattle.std.proofs.Common.{◌≡◌, ℕ, ◌+◌, Bool, true, false, List, [], ◌∷◌, ◌++◌, Option, Some, None, refl}
-use Rattle.std.specs.Prelude.{◌&&◌, if◌then◌else◌}
+use Rattle.std.proofs.Common.{◌≡◌, ℕ, ◌+◌, Bool, true, false, List, [], ◌∷◌, Option, Some, None, refl}
+use Rattle.std.specs.Prelude.{if◌then◌else◌}
 use Rattle.hc_event.specs.declared.act.Act.{Act}
 use Rattle.hc_event.specs.declared.act.Act.TheVariants as act
 use Rattle.hc_event.specs.declared.event.Event.{Event}
@@ -13,7 +13,7 @@ use Rattle.hc_event.specs.declared.event.Event.TheVariants as event
 use Rattle.hc_event.specs.declared.event.Request.{Request}
 use Rattle.hc_head.specs.declared.message.MsgError.{MsgError}
 use Rattle.hc_head.specs.declared.message.WireRequest.{WireRequest}
-use Rattle.hc_model.specs.Exchanges.{is_open, is_wanted}
+use Rattle.hc_model.specs.Exchanges.{is_open}
 use Rattle.hc_msg.specs.Inputs.{Next, Waits, Tells, Brings, Ends, Fails, next_in}
 use Rattle.hc_msg.specs.Reading.{Reading, Done, Failed, Token, Asks, Answers, Byte}
 use Rattle.hc_msg.specs.Taking.{ending}
@@ -23,7 +23,7 @@ use Rattle.hc_wire.specs.declared.event.WireEvent.{WireEvent}
 use Rattle.hc_wire.specs.declared.event.WireEvent.TheVariants as wire
 use Rattle.hc_proxy.specs.Carrying.{answered, answers, opened, all_carried_out, carried, acts_in}
 use Rattle.hc_proxy.specs.Connections.{exchange_of}
-use Rattle.hc_proxy.specs.Handling.{begun, inserted, clients_here, client_comes, left, cancelled, leaves, client_leaves, client_sends, origin_sends, origin_ends, breaks, sends, ends, broke, handled_by, handled}
+use Rattle.hc_proxy.specs.Handling.{begun, inserted, clients_here, left, cancelled, leaves, client_sends, origin_sends, origin_ends, breaks, sends, ends, broke, handled_by, handled}
 use Rattle.hc_proxy.specs.Network.{open_exchanges, is_last_denied, unless_denied, has_news, next_of, hands_head, hands, hands_if, event_at_close, closes, closes_if, handed, closed, heard}
 use Rattle.hc_proxy.specs.Network as network
 use Rattle.hc_proxy.specs.Polls.{live_consumers, may_be_polled, polled, each_polled, polled_all}

@@ -109,7 +109,6 @@ module _ (limits : Limits) (k : ℕ) where
   clients_grow = record {
     none = λ p old row. record { new = old; row = row; later = later_same old };
     both = both_rows;
-    begins = λ call p old row. record { new = seen_at call k old; row = ap (option_map (seen_at call k)) row; later = seen_later call k old };
     comes = λ j p other old row. kept_row (nat_eq k j) _ (p.client k) old (other_test k j other) row;
     client = λ j change p is old row. changed_row change (change_later change is) (nat_eq k j) (p.client k) old row;
     origin = λ x change p is old row. record { new = old; row = row; later = later_same old };
@@ -131,6 +130,7 @@ module _ (limits : Limits) (k : ℕ) where
       turned_keeps limits (OtherThan k) (λ x. Unit {0}) (ClientGrows k) clients_grow clients_grow_out dialled call p
       (λ j at same. other (at ∙ ap wire.Accepted same))
       (open_any (acts_in (happened limits (so_far p dialled) call p).part))
+      (λ old row. record { new = seen_at call k old; row = ap (option_map (seen_at call k)) row; later = seen_later call k old })
 
   -- And in all turns.
   abbrev pub NeverComes : List Called → Type 0
@@ -215,7 +215,6 @@ module _ (limits : Limits) (x : ℕ) where
   origins_stay = record {
     none = λ p old row. record { new = old; row = row; owed = refl };
     both = both_origins;
-    begins = λ call p old row. record { new = old; row = row; owed = refl };
     comes = λ k p may old row. record { new = old; row = row; owed = refl };
     client = λ k change p is old row. record { new = old; row = row; owed = refl };
     origin = λ y change p is old row. origin_row change is (nat_eq x y) (p.upstream x) old row;
@@ -235,3 +234,4 @@ module _ (limits : Limits) (x : ℕ) where
   pub origin_stays : (dialled : List ℕ) (call : Called) (p : Proxy) → OpenOnly (OtherThan x) (acts_in (happened limits (so_far p dialled) call p).part) → OriginStays x p (turned limits dialled call p)
   origin_stays dialled call p only =
       turned_keeps limits (λ k. Unit {0}) (OtherThan x) (OriginStays x) origins_stay origins_stay_out dialled call p (λ k at. tt) only
+      (λ old row. record { new = old; row = row; owed = refl })

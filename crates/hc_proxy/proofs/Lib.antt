@@ -5,3 +5,4 @@ pub mod OwedEntries
 pub mod Stands
 pub mod MoreDials
 pub mod Openings
+pub mod Parts

@@ -30,13 +30,13 @@ use Rattle.hc_model.proofs.NumbersKeep.{opens_next}
 use Rattle.hc_model.proofs.Owed.{goes, acts_are, is_denial, IsDenied, denied}
 use Rattle.hc_wire.specs.Logs.{Called}
 use Rattle.hc_proxy.specs.Carrying.{acts_in, carried}
-use Rattle.hc_proxy.specs.Handling.{handled}
+use Rattle.hc_proxy.specs.Handling.{begun}
 use Rattle.hc_proxy.specs.Rows.{Upstream, Proxy, unused}
 use Rattle.hc_proxy.specs.Steps.{with_entry, stepped}
 use Rattle.hc_proxy.specs.Turns.{so_far, happened, turned, turned_by}
 use Rattle.hc_proxy.proofs.Later.{OriginStays, carried_is_same, both_origins, origin_stays}
-use Rattle.hc_proxy.proofs.Stands.{Stands, stands_on, is_sound, owed_here, goes_on, turn_goes, unused_stands}
-use Rattle.hc_proxy.proofs.Turning.{IsKept, IsCarried, OpenOnly, happened_keeps, carried_keeps}
+use Rattle.hc_proxy.proofs.Stands.{Stands, stands_on, begins_turn, is_sound, owed_here, goes_on, turn_goes, unused_stands}
+use Rattle.hc_proxy.proofs.Turning.{IsKept, IsCarried, OpenOnly, behind_begun, happened_keeps, carried_keeps}
 
 -- LISTS OF ACTS
 
@@ -195,7 +195,6 @@ module _ (limits : Limits) (n : ℕ) where
   opens_behind = record {
     none = λ p s. s;
     both = λ p q r a b s. b (a s);
-    begins = λ call p s. record { stands = ((stands_on limits).begins call p s.stands).stands; from = s.from; opens = tt };
     comes = λ k p may s. record { stands = ((stands_on limits).comes k p may s.stands).stands; from = s.from; opens = s.opens };
     client = λ k change p is s. record { stands = ((stands_on limits).client k change p is s.stands).stands; from = s.from; opens = s.opens };
     origin = λ x change p is s. record { stands = ((stands_on limits).origin x change p is s.stands).stands; from = s.from; opens = s.opens };
@@ -203,18 +202,12 @@ module _ (limits : Limits) (n : ℕ) where
     steps = λ ev p s. step_opens ev p s;
   }
 
--- a turn begins without acts
-without_part : (limits : Limits) (dialled : List ℕ) (call : Called) (p : Proxy) → happened limits dialled call (record p { part = [] }) ≡ happened limits dialled call p
-unfolding handled
-without_part limits dialled call p = refl
-
 -- The acts of a turn open exchanges behind those before it, and these are counted behind it.
 pub turn_opens : (limits : Limits) (dialled : List ℕ) (call : Called) (p : Proxy) → Stands limits p → (let h = happened limits dialled call p in (p.tables.opened ≤ h.tables.opened) × OpenOnly (λ x. (p.tables.opened < x) × (x ≤ h.tables.opened)) (acts_in h.part))
 turn_opens limits dialled call p s =
-    let at_first : OpensOn limits p.tables.opened (record p { part = [] }) = record { stands = record { run = s.run; same = s.same; later = s.later }; from = omega arith; opens = tt } in
+    let at_first : OpensOn limits p.tables.opened (begun call p) = record { stands = (begins_turn limits call p s).stands; from = omega arith; opens = tt } in
     let there : OpensOn limits p.tables.opened (happened limits dialled call p) =
-    subst (OpensOn limits p.tables.opened) (without_part limits dialled call p)
-    (happened_keeps limits (λ k. Unit {0}) (OpensBehind limits p.tables.opened) (opens_behind limits p.tables.opened) dialled call (record p { part = [] }) (λ k at. tt) at_first) in
+    behind_begun limits (λ k. Unit {0}) (OpensBehind limits p.tables.opened) (opens_behind limits p.tables.opened) dialled call p (λ k at. tt) at_first in
     (there.from, there.opens)
 
 -- ROWS OF CONNECTIONS TO THE ORIGIN
@@ -244,7 +237,6 @@ module _ (limits : Limits) (n : ℕ) where
   known_on = record {
     none = λ p known. known;
     both = λ p q r a b known. b (a known);
-    begins = λ call p known. known;
     comes = λ k p may known. known;
     client = λ k change p is known. known;
     origin = λ y change p is known x u row. changed_known n x change (nat_eq x y) (p.upstream x) (known x) u row;
@@ -277,7 +269,7 @@ module _ (limits : Limits) (dialled : List ℕ) (call : Called) (p : Proxy) (s :
   known_here =
       carried_keeps (λ x. x ≤ h.tables.opened) (KnownOn h.tables.opened) (known_out limits h.tables.opened) h
       (open_more _ _ (λ x f. f.1) (acts_in h.part) opens_new.1)
-      (happened_keeps limits (λ k. Unit {0}) (KnownOn h.tables.opened) (known_on limits h.tables.opened) (so_far p dialled) call p (λ k at. tt)
+      (happened_keeps limits (λ k. Unit {0}) (KnownOn h.tables.opened) (known_on limits h.tables.opened) (so_far p dialled) call p (λ k at. tt) (λ known. known)
       (λ x u row. let low : x ≤ p.tables.opened = s.known x u row in let grows : p.tables.opened ≤ h.tables.opened = opens_new.0 in omega arith))
 
   pub turn_knows : StandsKnown limits (turned limits dialled call p)

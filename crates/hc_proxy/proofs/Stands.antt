@@ -117,7 +117,7 @@ both_go limits p q r a b s =
     let two : q.tables.opened ≤ r.tables.opened = second.opened in
     record { stands = second.stands; opened = omega arith }
 
-begins_turn : (limits : Limits) (call : Called) (p : Proxy) → StandsOn limits p (begun call p)
+pub begins_turn : (limits : Limits) (call : Called) (p : Proxy) → StandsOn limits p (begun call p)
 begins_turn limits call p s = record {
   stands = record { run = s.run; same = s.same; later = let le : p.tables.moment ≤ p.moment = s.later in omega arith };
   opened = omega arith;
@@ -127,7 +127,6 @@ pub stands_on : (limits : Limits) → IsKept limits (λ k. Unit {0}) (StandsOn l
 stands_on limits = record {
   none = still limits;
   both = both_go limits;
-  begins = begins_turn limits;
   comes = λ k p may s. record { stands = record { run = s.run; same = s.same; later = s.later }; opened = omega arith };
   client = λ k change p is s. record { stands = record { run = s.run; same = s.same; later = s.later }; opened = omega arith };
   origin = λ x change p is s. record { stands = record { run = s.run; same = s.same; later = s.later }; opened = omega arith };
@@ -150,6 +149,7 @@ pub turn_goes : (limits : Limits) (dialled : List ℕ) (call : Called) (p : Prox
 turn_goes limits dialled call p =
     turned_keeps limits (λ k. Unit {0}) (λ x. Unit {0}) (StandsOn limits) (stands_on limits) (stands_out limits) dialled call p (λ k at. tt)
     (open_any (acts_in (happened limits (so_far p dialled) call p).part))
+    (begins_turn limits call p)
 
 pub turns_go : (limits : Limits) (dialled : List ℕ) (calls : List Called) (p : Proxy) → StandsOn limits p (turned_by limits dialled calls p)
 turns_go limits dialled [] p = still limits p

@@ -1,9 +1,9 @@
 -- What each change of the tables keeps, a turn keeps.
 --
 -- A turn is made of few kinds of changes: one row of a client or of a connection to the origin, a new
--- client, the holder of a consumer, an event that is stepped, an exchange that is opened, and what a turn begins with.
--- A relation between the tables before and behind that holds of each, of none and of two in a row holds of a
--- turn. So the definitions are walked through once, here, and each law names what it is of each kind.
+-- client, the holder of a consumer, an event that is stepped, and an exchange that is opened. A relation
+-- between the tables before and behind that holds of each, of none and of two in a row holds of a turn, where it
+-- holds of its beginning. So the definitions are walked through once, here, and each law names what it is of each kind.
 use Rattle.std.proofs.Common.{◌≡◌, ℕ, ◌+◌, Bool, true, false, List, [], ◌∷◌, Option, Some, None, refl}
 use Rattle.std.specs.Prelude.{if◌then◌else◌}
 use Rattle.hc_event.specs.declared.act.Act.{Act}
@@ -61,7 +61,6 @@ with_opened x request p = record p { upstream = with x (opened request) p.upstre
 pub record IsKept (limits : Limits) (MayCome : ℕ → Type 0) (R : Proxy → Proxy → Type 0) : Type 0 where
   pub none : (p : Proxy) → R p p
   pub both : (p q r : Proxy) → R p q → R q r → R p r
-  pub begins : (call : Called) (p : Proxy) → R p (begun call p)
   pub comes : (k : ℕ) (p : Proxy) → MayCome k → R p (with_new k p)
   pub client : (k : ℕ) (change : Client → Client) (p : Proxy) → IsChange change → R p (with_client k change p)
   pub origin : (x : ℕ) (change : Upstream → Upstream) (p : Proxy) → IsOriginChange change → R p (with_upstream x change p)
@@ -126,9 +125,9 @@ module _ (limits : Limits) (MayCome : ℕ → Type 0) (R : Proxy → Proxy → T
   by_event dialled bytes (wire.Room k) p may = kept.none p
   by_event dialled bytes wire.Quiet p may = kept.none p
 
-  pub handled_keeps : (dialled : List ℕ) (call : Called) (p : Proxy) → ((k : ℕ) → call.event ≡ wire.Accepted k → MayCome k) → R p (handled limits dialled call p)
+  pub handled_keeps : (dialled : List ℕ) (call : Called) (p : Proxy) → ((k : ℕ) → call.event ≡ wire.Accepted k → MayCome k) → R (begun call p) (handled limits dialled call p)
   unfolding handled
-  handled_keeps dialled call p may = kept.both p (begun call p) _ (kept.begins call p) (by_event dialled call.bytes call.event (begun call p) may)
+  handled_keeps dialled call p may = by_event dialled call.bytes call.event (begun call p) may
 
   -- NETWORK
 
@@ -229,12 +228,15 @@ module _ (limits : Limits) (MayCome : ℕ → Type 0) (R : Proxy → Proxy → T
 
   -- A TURN, before its acts are carried out
 
-  pub happened_keeps : (dialled : List ℕ) (call : Called) (p : Proxy) → ((k : ℕ) → call.event ≡ wire.Accepted k → MayCome k) → R p (happened limits dialled call p)
-  happened_keeps dialled call p may =
-      kept.both p _ _ (handled_keeps dialled call p may)
+  pub behind_begun : (dialled : List ℕ) (call : Called) (p : Proxy) → ((k : ℕ) → call.event ≡ wire.Accepted k → MayCome k) → R (begun call p) (happened limits dialled call p)
+  behind_begun dialled call p may =
+      kept.both (begun call p) _ _ (handled_keeps dialled call p may)
       (kept.both (handled limits dialled call p) _ _ (heard_keeps (handled limits dialled call p))
       (kept.both (heard limits (handled limits dialled call p)) _ _ (started_keeps call (heard limits (handled limits dialled call p)))
       (polled_keeps call (started_all limits call (heard limits (handled limits dialled call p))))))
+
+  pub happened_keeps : (dialled : List ℕ) (call : Called) (p : Proxy) → ((k : ℕ) → call.event ≡ wire.Accepted k → MayCome k) → R p (begun call p) → R p (happened limits dialled call p)
+  happened_keeps dialled call p may begins = kept.both p (begun call p) _ begins (behind_begun dialled call p may)
 
 -- CARRYING OUT
 
@@ -279,7 +281,7 @@ open_any (act.Evicted r ∷ acts) = open_any acts
 -- A TURN
 
 module _ (limits : Limits) (MayCome MayOpen : ℕ → Type 0) (R : Proxy → Proxy → Type 0) (kept : IsKept limits MayCome R) (out : IsCarried MayOpen R) where
-  pub turned_keeps : (dialled : List ℕ) (call : Called) (p : Proxy) → ((k : ℕ) → call.event ≡ wire.Accepted k → MayCome k) → OpenOnly MayOpen (acts_in (happened limits (so_far p dialled) call p).part) → R p (turned limits dialled call p)
+  pub turned_keeps : (dialled : List ℕ) (call : Called) (p : Proxy) → ((k : ℕ) → call.event ≡ wire.Accepted k → MayCome k) → OpenOnly MayOpen (acts_in (happened limits (so_far p dialled) call p).part) → R p (begun call p) → R p (turned limits dialled call p)
   unfolding turned
-  turned_keeps dialled call p may only =
-      kept.both p _ _ (happened_keeps limits MayCome R kept (so_far p dialled) call p may) (carried_keeps MayOpen R out (happened limits (so_far p dialled) call p) only)
+  turned_keeps dialled call p may only begins =
+      kept.both p _ _ (happened_keeps limits MayCome R kept (so_far p dialled) call p may begins) (carried_keeps MayOpen R out (happened limits (so_far p dialled) call p) only)

@@ -7,7 +7,6 @@ use Rattle.hc_model.specs.Entries.{Entry, History}
 use Rattle.hc_model.specs.Runs.{owed}
 use Rattle.hc_wire.specs.Logs.{Called}
 use Rattle.hc_proxy.specs.Carrying.{carried}
-use Rattle.hc_proxy.specs.Handling.{begun}
 use Rattle.hc_proxy.specs.Rows.{Proxy}
 use Rattle.hc_proxy.specs.Steps.{with_entry, stepped}
 use Rattle.hc_proxy.specs.Turns.{so_far, happened, turned}

@@ -1,9 +1,8 @@
 -- What a client is owed only grows, by appending, and one that is gone stays so; and what carrying out keeps.
 --
--- Each change of a client's row appends, or leaves what is owed as it is. Only a new client replaces a row: so
--- it is asked that the number of its connection isn't the one that is spoken of. The rows of connections to the
--- origin are owed their request from the first on, and only an exchange that is opened replaces a row. So for
--- those it is asked which exchanges the acts open.
+-- Each change of a client's row appends, or leaves what is owed as it is. A new client replaces no row, since
+-- its number is new. The rows of connections to the origin are owed their request from the first on, and only an
+-- exchange that is opened replaces a row. So for those it is asked which exchanges the acts open.
 use Rattle.std.proofs.Common.{◌≡◌, ℕ, Bool, true, false, List, [], ◌∷◌, ◌++◌, Option, Some, None, refl, ap, sym, ◌∙◌, arith, length, append_assoc, append-nil}
 use Rattle.std.proofs.lemmas.Bool.Decides.{nat_tests}
 use Rattle.std.specs.Prelude.{nat_eq, ◌||◌, if◌then◌else◌, option_map}
@@ -12,10 +11,9 @@ use Rattle.hc_model.specs.Entries.{Entry}
 use Rattle.hc_peers.specs.Renderings.{rendering, empty_answer, error_status, form_behind, is_last, closes}
 use Rattle.hc_rules.specs.declared.room.Limits.{Limits}
 use Rattle.hc_wire.specs.Logs.{Called}
-use Rattle.hc_wire.specs.declared.event.WireEvent.TheVariants as wire
 use Rattle.hc_proxy.specs.Carrying.{answered, carried, acts_in}
 use Rattle.hc_proxy.specs.Connections.{stands}
-use Rattle.hc_proxy.specs.Handling.{seen_at}
+use Rattle.hc_proxy.specs.Handling.{begun, seen_at}
 use Rattle.hc_proxy.specs.Rows.{Client, Upstream, Proxy}
 use Rattle.hc_proxy.specs.Steps.{with_entry}
 use Rattle.hc_proxy.specs.Turns.{so_far, happened, turned, turned_by}
@@ -87,9 +85,13 @@ changed_row change later false o old row = record { new = old; row = row; later 
 other_test : (k j : ℕ) → (j ≡ k → ⊥) → nat_eq k j ≡ false
 other_test k j other = grind (arith, nat_tests)
 
-kept_row : (b : Bool) (new o : Option Client) (old : Client) → b ≡ false → o ≡ Some old → HasLater old (if b then new else o)
-kept_row true new o old off row = absurd (let never : true ≡ false = off in cc)
-kept_row false new o old off row = record { new = old; row = row; later = later_same old }
+-- a new client stands where none stood
+new_row : (p : Proxy) (k j : ℕ) (new : Option Client) (old : Client) → p.client j ≡ None → (b : Bool) → nat_eq k j ≡ b → p.client k ≡ Some old → HasLater old (if b then new else p.client k)
+new_row p k j new old none true same row =
+    let at : k ≡ j = grind (arith, nat_tests) in
+    let never : Some old ≡ None = sym row ∙ (ap p.client at ∙ none) in
+    absurd cc
+new_row p k j new old none false same row = record { new = old; row = row; later = later_same old }
 
 abbrev pub OtherThan : ℕ → ℕ → Type 0
 OtherThan k j = j ≡ k → ⊥
@@ -105,11 +107,11 @@ module _ (limits : Limits) (k : ℕ) where
       let second = b first.new first.row in
       record { new = second.new; row = second.row; later = later_both old first.new second.new first.later second.later }
 
-  pub clients_grow : IsKept limits (OtherThan k) (ClientGrows k)
+  pub clients_grow : IsKept limits (ClientGrows k)
   clients_grow = record {
     none = λ p old row. record { new = old; row = row; later = later_same old };
     both = both_rows;
-    comes = λ j p other old row. kept_row (nat_eq k j) _ (p.client k) old (other_test k j other) row;
+    comes = λ j p none old row. new_row p k j _ old none (nat_eq k j) refl row;
     client = λ j change p is old row. changed_row change (change_later change is) (nat_eq k j) (p.client k) old row;
     origin = λ x change p is old row. record { new = old; row = row; later = later_same old };
     holder = λ c j p old row. record { new = old; row = row; later = later_same old };
@@ -124,23 +126,17 @@ module _ (limits : Limits) (k : ℕ) where
     opens = λ x request p may old row. record { new = old; row = row; later = later_same old };
   }
 
-  -- In a turn at which no client comes at it.
-  pub client_grows : (dialled : List ℕ) (call : Called) (p : Proxy) → (call.event ≡ wire.Accepted k → ⊥) → ClientGrows k p (turned limits dialled call p)
-  client_grows dialled call p other =
-      turned_keeps limits (OtherThan k) (λ x. Unit {0}) (ClientGrows k) clients_grow clients_grow_out dialled call p
-      (λ j at same. other (at ∙ ap wire.Accepted same))
-      (open_any (acts_in (happened limits (so_far p dialled) call p).part))
+  -- In a turn, and in all turns.
+  pub client_grows : (dialled : List ℕ) (call : Called) (p : Proxy) → ClientGrows k p (turned limits dialled call p)
+  client_grows dialled call p =
+      turned_keeps limits (λ x. Unit {0}) (ClientGrows k) clients_grow clients_grow_out dialled call p
+      (open_any (acts_in (happened limits (so_far p dialled) call (begun call p)).part))
       (λ old row. record { new = seen_at call k old; row = ap (option_map (seen_at call k)) row; later = seen_later call k old })
 
-  -- And in all turns.
-  abbrev pub NeverComes : List Called → Type 0
-  NeverComes [] = Unit {0}
-  NeverComes (call ∷ calls) = (call.event ≡ wire.Accepted k → ⊥) × NeverComes calls
-
-  pub client_grows_on : (dialled : List ℕ) (calls : List Called) (p : Proxy) → NeverComes calls → ClientGrows k p (turned_by limits dialled calls p)
-  client_grows_on dialled [] p never = λ old row. record { new = old; row = row; later = later_same old }
-  client_grows_on dialled (call ∷ calls) p never =
-      both_rows p (turned limits dialled call p) (turned_by limits dialled calls (turned limits dialled call p)) (client_grows dialled call p never.0) (client_grows_on dialled calls (turned limits dialled call p) never.1)
+  pub client_grows_on : (dialled : List ℕ) (calls : List Called) (p : Proxy) → ClientGrows k p (turned_by limits dialled calls p)
+  client_grows_on dialled [] p = λ old row. record { new = old; row = row; later = later_same old }
+  client_grows_on dialled (call ∷ calls) p =
+      both_rows p (turned limits dialled call p) (turned_by limits dialled calls (turned limits dialled call p)) (client_grows dialled call p) (client_grows_on dialled calls (turned limits dialled call p))
 
 -- WHAT CARRYING OUT KEEPS
 
@@ -211,7 +207,7 @@ module _ (limits : Limits) (x : ℕ) where
       let second = b first.new first.row in
       record { new = second.new; row = second.row; owed = second.owed ∙ first.owed }
 
-  pub origins_stay : IsKept limits (λ k. Unit {0}) (OriginStays x)
+  pub origins_stay : IsKept limits (OriginStays x)
   origins_stay = record {
     none = λ p old row. record { new = old; row = row; owed = refl };
     both = both_origins;
@@ -231,7 +227,7 @@ module _ (limits : Limits) (x : ℕ) where
   }
 
   -- In a turn whose acts don't open x.
-  pub origin_stays : (dialled : List ℕ) (call : Called) (p : Proxy) → OpenOnly (OtherThan x) (acts_in (happened limits (so_far p dialled) call p).part) → OriginStays x p (turned limits dialled call p)
+  pub origin_stays : (dialled : List ℕ) (call : Called) (p : Proxy) → OpenOnly (OtherThan x) (acts_in (happened limits (so_far p dialled) call (begun call p)).part) → OriginStays x p (turned limits dialled call p)
   origin_stays dialled call p only =
-      turned_keeps limits (λ k. Unit {0}) (OtherThan x) (OriginStays x) origins_stay origins_stay_out dialled call p (λ k at. tt) only
+      turned_keeps limits (OtherThan x) (OriginStays x) origins_stay origins_stay_out dialled call p only
       (λ old row. record { new = old; row = row; owed = refl })

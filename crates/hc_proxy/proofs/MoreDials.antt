@@ -8,6 +8,7 @@ use Rattle.std.proofs.lemmas.List.{take-append-le}
 use Rattle.hc_rules.specs.declared.room.Limits.{Limits}
 use Rattle.hc_wire.specs.Logs.{Called}
 use Rattle.hc_proxy.specs.Carrying.{carried}
+use Rattle.hc_proxy.specs.Handling.{begun}
 use Rattle.hc_proxy.specs.Listening.{reads_right}
 use Rattle.hc_proxy.specs.Loops.{Fits, AllFit}
 use Rattle.hc_proxy.specs.Rows.{Proxy}
@@ -22,7 +23,7 @@ module _ (limits : Limits) (dialled more : List ℕ) where
 
   turn_same : (call : Called) (p : Proxy) → p.tables.opened ≤ length dialled → turned limits (dialled ++ more) call p ≡ turned limits dialled call p
   unfolding turned
-  turn_same call p enough = ap (λ xs. carried (happened limits xs call p)) (dials_same p enough)
+  turn_same call p enough = ap (λ xs. carried (happened limits xs call (begun call p))) (dials_same p enough)
 
   -- there are enough before, where there are behind
   enough_before : (calls : List Called) (p : Proxy) → Stands limits p → (turned_by limits dialled calls p).tables.opened ≤ length dialled → p.tables.opened ≤ length dialled

@@ -36,7 +36,7 @@ use Rattle.hc_proxy.specs.Steps.{with_entry, stepped}
 use Rattle.hc_proxy.specs.Turns.{so_far, happened, turned, turned_by}
 use Rattle.hc_proxy.proofs.Later.{OriginStays, carried_is_same, both_origins, origin_stays}
 use Rattle.hc_proxy.proofs.Stands.{Stands, stands_on, begins_turn, is_sound, owed_here, goes_on, turn_goes, unused_stands}
-use Rattle.hc_proxy.proofs.Turning.{IsKept, IsCarried, OpenOnly, behind_begun, happened_keeps, carried_keeps}
+use Rattle.hc_proxy.proofs.Turning.{IsKept, IsCarried, OpenOnly, happened_keeps, carried_keeps}
 
 -- LISTS OF ACTS
 
@@ -191,7 +191,7 @@ module _ (limits : Limits) (n : ℕ) where
             (entry_opens limits p.tables (owed limits p.tables p.moment ev) (is_sound limits p s.stands) (owed_here limits ev p s.stands) (is_denied (owed limits p.tables p.moment ev).acts) refl));
       }
 
-  opens_behind : IsKept limits (λ k. Unit {0}) (OpensBehind limits n)
+  opens_behind : IsKept limits (OpensBehind limits n)
   opens_behind = record {
     none = λ p s. s;
     both = λ p q r a b s. b (a s);
@@ -203,11 +203,11 @@ module _ (limits : Limits) (n : ℕ) where
   }
 
 -- The acts of a turn open exchanges behind those before it, and these are counted behind it.
-pub turn_opens : (limits : Limits) (dialled : List ℕ) (call : Called) (p : Proxy) → Stands limits p → (let h = happened limits dialled call p in (p.tables.opened ≤ h.tables.opened) × OpenOnly (λ x. (p.tables.opened < x) × (x ≤ h.tables.opened)) (acts_in h.part))
+pub turn_opens : (limits : Limits) (dialled : List ℕ) (call : Called) (p : Proxy) → Stands limits p → (let h = happened limits dialled call (begun call p) in (p.tables.opened ≤ h.tables.opened) × OpenOnly (λ x. (p.tables.opened < x) × (x ≤ h.tables.opened)) (acts_in h.part))
 turn_opens limits dialled call p s =
     let at_first : OpensOn limits p.tables.opened (begun call p) = record { stands = (begins_turn limits call p s).stands; from = omega arith; opens = tt } in
-    let there : OpensOn limits p.tables.opened (happened limits dialled call p) =
-    behind_begun limits (λ k. Unit {0}) (OpensBehind limits p.tables.opened) (opens_behind limits p.tables.opened) dialled call p (λ k at. tt) at_first in
+    let there : OpensOn limits p.tables.opened (happened limits dialled call (begun call p)) =
+    happened_keeps limits (OpensBehind limits p.tables.opened) (opens_behind limits p.tables.opened) dialled call (begun call p) at_first in
     (there.from, there.opens)
 
 -- ROWS OF CONNECTIONS TO THE ORIGIN
@@ -233,7 +233,7 @@ module _ (limits : Limits) (n : ℕ) where
   unfolding with_entry
   step_known e p known = known
 
-  known_on : IsKept limits (λ k. Unit {0}) (KnownOn n)
+  known_on : IsKept limits (KnownOn n)
   known_on = record {
     none = λ p known. known;
     both = λ p q r a b known. b (a known);
@@ -260,7 +260,7 @@ pub record StandsKnown (limits : Limits) (p : Proxy) : Type 0 where
 -- So it is behind each turn, and what a connection to the origin is owed stays as it was.
 module _ (limits : Limits) (dialled : List ℕ) (call : Called) (p : Proxy) (s : StandsKnown limits p) where
   abbrev h : Proxy
-  h = happened limits (so_far p dialled) call p
+  h = happened limits (so_far p dialled) call (begun call p)
 
   opens_new : (p.tables.opened ≤ h.tables.opened) × OpenOnly (λ x. (p.tables.opened < x) × (x ≤ h.tables.opened)) (acts_in h.part)
   opens_new = turn_opens limits (so_far p dialled) call p s.stands
@@ -269,7 +269,7 @@ module _ (limits : Limits) (dialled : List ℕ) (call : Called) (p : Proxy) (s :
   known_here =
       carried_keeps (λ x. x ≤ h.tables.opened) (KnownOn h.tables.opened) (known_out limits h.tables.opened) h
       (open_more _ _ (λ x f. f.1) (acts_in h.part) opens_new.1)
-      (happened_keeps limits (λ k. Unit {0}) (KnownOn h.tables.opened) (known_on limits h.tables.opened) (so_far p dialled) call p (λ k at. tt) (λ known. known)
+      (happened_keeps limits (KnownOn h.tables.opened) (known_on limits h.tables.opened) (so_far p dialled) call (begun call p)
       (λ x u row. let low : x ≤ p.tables.opened = s.known x u row in let grows : p.tables.opened ≤ h.tables.opened = opens_new.0 in omega arith))
 
   pub turn_knows : StandsKnown limits (turned limits dialled call p)

@@ -6,12 +6,12 @@ use Rattle.hc_rules.specs.declared.room.Limits.{Limits}
 use Rattle.hc_model.specs.Entries.{Entry, History}
 use Rattle.hc_model.specs.Runs.{owed}
 use Rattle.hc_wire.specs.Logs.{Called}
-use Rattle.hc_proxy.specs.Carrying.{carried}
+use Rattle.hc_proxy.specs.Handling.{begun}
 use Rattle.hc_proxy.specs.Rows.{Proxy}
 use Rattle.hc_proxy.specs.Steps.{with_entry, stepped}
 use Rattle.hc_proxy.specs.Turns.{so_far, happened, turned}
 use Rattle.hc_proxy.proofs.Later.{carried_is_same}
-use Rattle.hc_proxy.proofs.Turning.{IsKept, behind_begun}
+use Rattle.hc_proxy.proofs.Turning.{IsKept, happened_keeps}
 
 abbrev pub AllAt : ℕ → List Entry → Type 0
 AllAt now [] = Unit {0}
@@ -31,7 +31,7 @@ module _ (limits : Limits) (base : History) (now : ℕ) where
   unfolding with_entry owed
   step_part ev p s = record { first = ap (λ es. owed limits p.tables p.moment ev ∷ es) s.first; moment = s.moment; at = (s.moment, s.at) }
 
-  parts_on : IsKept limits (λ k. Unit {0}) (PartOn base now)
+  parts_on : IsKept limits (PartOn base now)
   parts_on = record {
     none = λ p s. s;
     both = λ p q r a b s. b (a s);
@@ -46,9 +46,9 @@ module _ (limits : Limits) (base : History) (now : ℕ) where
 pub turn_part : (limits : Limits) (dialled : List ℕ) (call : Called) (p : Proxy) → IsPart p.history (max p.moment call.moment) (turned limits dialled call p)
 unfolding turned
 turn_part limits dialled call p =
-    let h = happened limits (so_far p dialled) call p in
+    let h = happened limits (so_far p dialled) call (begun call p) in
     let s : IsPart p.history (max p.moment call.moment) h =
-    behind_begun limits (λ k. Unit {0}) (PartOn p.history (max p.moment call.moment)) (parts_on limits p.history (max p.moment call.moment)) (so_far p dialled) call p (λ k at. tt)
+    happened_keeps limits (PartOn p.history (max p.moment call.moment)) (parts_on limits p.history (max p.moment call.moment)) (so_far p dialled) call (begun call p)
     (record { first = refl; moment = refl; at = tt }) in
     let same = carried_is_same h in
     record {

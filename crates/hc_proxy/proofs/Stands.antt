@@ -123,7 +123,7 @@ begins_turn limits call p s = record {
   opened = omega arith;
 }
 
-pub stands_on : (limits : Limits) → IsKept limits (λ k. Unit {0}) (StandsOn limits)
+pub stands_on : (limits : Limits) → IsKept limits (StandsOn limits)
 stands_on limits = record {
   none = still limits;
   both = both_go limits;
@@ -147,8 +147,8 @@ stands_out limits = record {
 -- A turn, and turns one behind another.
 pub turn_goes : (limits : Limits) (dialled : List ℕ) (call : Called) (p : Proxy) → StandsOn limits p (turned limits dialled call p)
 turn_goes limits dialled call p =
-    turned_keeps limits (λ k. Unit {0}) (λ x. Unit {0}) (StandsOn limits) (stands_on limits) (stands_out limits) dialled call p (λ k at. tt)
-    (open_any (acts_in (happened limits (so_far p dialled) call p).part))
+    turned_keeps limits (λ x. Unit {0}) (StandsOn limits) (stands_on limits) (stands_out limits) dialled call p
+    (open_any (acts_in (happened limits (so_far p dialled) call (begun call p)).part))
     (begins_turn limits call p)
 
 pub turns_go : (limits : Limits) (dialled : List ℕ) (calls : List Called) (p : Proxy) → StandsOn limits p (turned_by limits dialled calls p)

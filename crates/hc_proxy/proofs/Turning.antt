@@ -5,7 +5,7 @@
 -- between the tables before and behind that holds of each, of none and of two in a row holds of a turn, where it
 -- holds of its beginning. So the definitions are walked through once, here, and each law names what it is of each kind.
 use Rattle.std.proofs.Common.{◌≡◌, ℕ, ◌+◌, Bool, true, false, List, [], ◌∷◌, Option, Some, None, refl}
-use Rattle.std.specs.Prelude.{if◌then◌else◌}
+use Rattle.std.specs.Prelude.{◌&&◌, is_none, nat_lt, length, if◌then◌else◌}
 use Rattle.hc_event.specs.declared.act.Act.{Act}
 use Rattle.hc_event.specs.declared.act.Act.TheVariants as act
 use Rattle.hc_event.specs.declared.event.Event.{Event}
@@ -57,11 +57,11 @@ with_new k p = record p { accepted = inserted k p.accepted; client = with k new_
 abbrev pub with_opened : ℕ → Request → Proxy → Proxy
 with_opened x request p = record p { upstream = with x (opened request) p.upstream }
 
--- A relation holds of each kind, where clients come of which this holds.
-pub record IsKept (limits : Limits) (MayCome : ℕ → Type 0) (R : Proxy → Proxy → Type 0) : Type 0 where
+-- A relation holds of each kind. A client comes only with a number that no client had.
+pub record IsKept (limits : Limits) (R : Proxy → Proxy → Type 0) : Type 0 where
   pub none : (p : Proxy) → R p p
   pub both : (p q r : Proxy) → R p q → R q r → R p r
-  pub comes : (k : ℕ) (p : Proxy) → MayCome k → R p (with_new k p)
+  pub comes : (k : ℕ) (p : Proxy) → p.client k ≡ None → R p (with_new k p)
   pub client : (k : ℕ) (change : Client → Client) (p : Proxy) → IsChange change → R p (with_client k change p)
   pub origin : (x : ℕ) (change : Upstream → Upstream) (p : Proxy) → IsOriginChange change → R p (with_upstream x change p)
   pub holder : (c k : ℕ) (p : Proxy) → R p (with_holder c k p)
@@ -80,12 +80,17 @@ OpenOnly MayOpen [] = Unit {0}
 OpenOnly MayOpen (act.Opened x c need request ∷ acts) = MayOpen x × OpenOnly MayOpen acts
 OpenOnly MayOpen (_ ∷ acts) = OpenOnly MayOpen acts
 
-module _ (limits : Limits) (MayCome : ℕ → Type 0) (R : Proxy → Proxy → Type 0) (kept : IsKept limits MayCome R) where
+module _ (limits : Limits) (R : Proxy → Proxy → Type 0) (kept : IsKept limits R) where
   either : (b : Bool) (p q : Proxy) → R p q → R p (if b then q else p)
   either true p q r = r
   either false p q r = kept.none p
 
   -- HANDLE
+
+  comes_by : (k : ℕ) (o : Option Client) (p : Proxy) → p.client k ≡ o → (b : Bool) → R p (if is_none o && b then with_new k p else p)
+  comes_by k None p row true = kept.comes k p row
+  comes_by k None p row false = kept.none p
+  comes_by k (Some client) p row b = kept.none p
 
   cancels : (o : Option ℕ) (p : Proxy) → R p (cancelled limits o p)
   cancels None p = kept.none p
@@ -117,17 +122,17 @@ module _ (limits : Limits) (MayCome : ℕ → Type 0) (R : Proxy → Proxy → T
   broke_by None k p = leaves_by k (p.client k) p
   broke_by (Some x) k p = breaks_by x p
 
-  by_event : (dialled bytes : List ℕ) (w : WireEvent) (p : Proxy) → ((k : ℕ) → w ≡ wire.Accepted k → MayCome k) → R p (handled_by limits dialled bytes w p)
-  by_event dialled bytes (wire.Accepted k) p may = either _ p (with_new k p) (kept.comes k p (may k refl))
-  by_event dialled bytes (wire.Got k n) p may = sends_by (exchange_of dialled k) k bytes p
-  by_event dialled bytes (wire.Ended k) p may = ends_by (exchange_of dialled k) k p
-  by_event dialled bytes (wire.Broke k) p may = broke_by (exchange_of dialled k) k p
-  by_event dialled bytes (wire.Room k) p may = kept.none p
-  by_event dialled bytes wire.Quiet p may = kept.none p
+  by_event : (dialled bytes : List ℕ) (w : WireEvent) (p : Proxy) → R p (handled_by limits dialled bytes w p)
+  by_event dialled bytes (wire.Accepted k) p = comes_by k (p.client k) p refl (nat_lt (length (clients_here p)) 512)
+  by_event dialled bytes (wire.Got k n) p = sends_by (exchange_of dialled k) k bytes p
+  by_event dialled bytes (wire.Ended k) p = ends_by (exchange_of dialled k) k p
+  by_event dialled bytes (wire.Broke k) p = broke_by (exchange_of dialled k) k p
+  by_event dialled bytes (wire.Room k) p = kept.none p
+  by_event dialled bytes wire.Quiet p = kept.none p
 
-  pub handled_keeps : (dialled : List ℕ) (call : Called) (p : Proxy) → ((k : ℕ) → call.event ≡ wire.Accepted k → MayCome k) → R (begun call p) (handled limits dialled call p)
+  pub handled_keeps : (dialled : List ℕ) (call : Called) (p : Proxy) → R p (handled limits dialled call p)
   unfolding handled
-  handled_keeps dialled call p may = by_event dialled call.bytes call.event (begun call p) may
+  handled_keeps dialled call p = by_event dialled call.bytes call.event p
 
   -- NETWORK
 
@@ -226,17 +231,14 @@ module _ (limits : Limits) (MayCome : ℕ → Type 0) (R : Proxy → Proxy → T
   unfolding polled_all
   polled_keeps call p = each_polled_by call (live_consumers p.tables) p
 
-  -- A TURN, before its acts are carried out
+  -- A TURN that has begun, before its acts are carried out
 
-  pub behind_begun : (dialled : List ℕ) (call : Called) (p : Proxy) → ((k : ℕ) → call.event ≡ wire.Accepted k → MayCome k) → R (begun call p) (happened limits dialled call p)
-  behind_begun dialled call p may =
-      kept.both (begun call p) _ _ (handled_keeps dialled call p may)
+  pub happened_keeps : (dialled : List ℕ) (call : Called) (p : Proxy) → R p (happened limits dialled call p)
+  happened_keeps dialled call p =
+      kept.both p _ _ (handled_keeps dialled call p)
       (kept.both (handled limits dialled call p) _ _ (heard_keeps (handled limits dialled call p))
       (kept.both (heard limits (handled limits dialled call p)) _ _ (started_keeps call (heard limits (handled limits dialled call p)))
       (polled_keeps call (started_all limits call (heard limits (handled limits dialled call p))))))
-
-  pub happened_keeps : (dialled : List ℕ) (call : Called) (p : Proxy) → ((k : ℕ) → call.event ≡ wire.Accepted k → MayCome k) → R p (begun call p) → R p (happened limits dialled call p)
-  happened_keeps dialled call p may begins = kept.both p (begun call p) _ begins (behind_begun dialled call p may)
 
 -- CARRYING OUT
 
@@ -280,8 +282,10 @@ open_any (act.Evicted r ∷ acts) = open_any acts
 
 -- A TURN
 
-module _ (limits : Limits) (MayCome MayOpen : ℕ → Type 0) (R : Proxy → Proxy → Type 0) (kept : IsKept limits MayCome R) (out : IsCarried MayOpen R) where
-  pub turned_keeps : (dialled : List ℕ) (call : Called) (p : Proxy) → ((k : ℕ) → call.event ≡ wire.Accepted k → MayCome k) → OpenOnly MayOpen (acts_in (happened limits (so_far p dialled) call p).part) → R p (begun call p) → R p (turned limits dialled call p)
+module _ (limits : Limits) (MayOpen : ℕ → Type 0) (R : Proxy → Proxy → Type 0) (kept : IsKept limits R) (out : IsCarried MayOpen R) where
+  pub turned_keeps : (dialled : List ℕ) (call : Called) (p : Proxy) → OpenOnly MayOpen (acts_in (happened limits (so_far p dialled) call (begun call p)).part) → R p (begun call p) → R p (turned limits dialled call p)
   unfolding turned
-  turned_keeps dialled call p may only begins =
-      kept.both p _ _ (happened_keeps limits MayCome R kept (so_far p dialled) call p may begins) (carried_keeps MayOpen R out (happened limits (so_far p dialled) call p) only)
+  turned_keeps dialled call p only begins =
+      kept.both p (begun call p) _ begins
+      (kept.both (begun call p) _ _ (happened_keeps limits R kept (so_far p dialled) call (begun call p))
+      (carried_keeps MayOpen R out (happened limits (so_far p dialled) call (begun call p)) only))

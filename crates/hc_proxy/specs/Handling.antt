@@ -1,5 +1,5 @@
 -- The step *handle*: what an event of the wire makes of the tables.
-use Rattle.std.specs.Prelude.{ℕ, ◌++◌, ◌||◌, ◌∷◌, not, nat_lt, max, List, [], length, filter, Bool, true, false, Option, Some, None, option_map, if◌then◌else◌}
+use Rattle.std.specs.Prelude.{ℕ, ◌++◌, ◌&&◌, ◌||◌, ◌∷◌, not, nat_lt, max, List, [], length, filter, Bool, true, false, Option, Some, None, is_none, option_map, if◌then◌else◌}
 use Rattle.hc_event.specs.declared.event.Event.TheVariants as event
 use Rattle.hc_wire.specs.declared.event.WireEvent.{WireEvent}
 use Rattle.hc_wire.specs.declared.event.WireEvent.TheVariants as wire
@@ -38,10 +38,10 @@ abbrev pub inserted : ℕ → List ℕ → List ℕ
 inserted k [] = k ∷ []
 inserted k (j ∷ ks) = if nat_lt k j then k ∷ j ∷ ks else j ∷ inserted k ks
 
--- one more, where there are fewer than 512; a further one is closed at once
+-- one more, where its number is new and there are fewer than 512; a further one is closed at once
 abbrev pub client_comes : ℕ → Proxy → Proxy
 client_comes k p =
-    if nat_lt (length (clients_here p)) 512
+    if is_none (p.client k) && nat_lt (length (clients_here p)) 512
     then record p { accepted = inserted k p.accepted; client = with k new_client p.client } else p
 
 abbrev pub left : Client → Client
@@ -99,4 +99,4 @@ handled_by limits dialled bytes (wire.Room k) p = p
 handled_by limits dialled bytes wire.Quiet p = p
 
 unfoldable pub handled : Limits → List ℕ → Called → Proxy → Proxy
-handled limits dialled call p = handled_by limits dialled call.bytes call.event (begun call p)
+handled limits dialled call p = handled_by limits dialled call.bytes call.event p

@@ -6,7 +6,7 @@ use Rattle.hc_wire.specs.Logs.{Called, Log}
 use Rattle.hc_rules.specs.declared.room.Limits.{Limits}
 use Rattle.hc_model.specs.Entries.{Entry}
 use Rattle.hc_proxy.specs.Carrying.{carried}
-use Rattle.hc_proxy.specs.Handling.{handled}
+use Rattle.hc_proxy.specs.Handling.{begun, handled}
 use Rattle.hc_proxy.specs.Network.{heard}
 use Rattle.hc_proxy.specs.Polls.{polled_all}
 use Rattle.hc_proxy.specs.Rows.{Proxy, unused}
@@ -16,14 +16,14 @@ use Rattle.hc_proxy.specs.Starts.{started_all}
 abbrev pub so_far : Proxy → List ℕ → List ℕ
 so_far p dialled = take p.tables.opened dialled
 
--- what happens in a turn
+-- what happens in a turn that has begun
 abbrev pub happened : Limits → List ℕ → Called → Proxy → Proxy
 happened limits dialled call p =
     polled_all limits call (started_all limits call (heard limits (handled limits dialled call p)))
 
 -- what a call of `next` makes of the tables
 unfoldable pub turned : Limits → List ℕ → Called → Proxy → Proxy
-turned limits dialled call p = carried (happened limits (so_far p dialled) call p)
+turned limits dialled call p = carried (happened limits (so_far p dialled) call (begun call p))
 
 abbrev pub turned_by : Limits → List ℕ → List Called → Proxy → Proxy
 turned_by limits dialled [] p = p

@@ -1,13 +1,13 @@
 -- The step *network*: what the origin sent is handed to the cache, one part a turn of each exchange that is wanted.
-use Rattle.std.specs.Prelude.{ℕ, nat_lt, List, [], ◌∷◌, length, filter, reverse, Bool, true, false, Option, Some, None, Result, Ok, Err, ◌&&◌, ◌||◌, if◌then◌else◌}
+use Rattle.std.specs.Prelude.{ℕ, nat_lt, List, [], ◌∷◌, length, filter, reverse, Bool, false, Option, Some, None, Result, Ok, Err, ◌&&◌, ◌||◌, if◌then◌else◌}
 use Rattle.hc_event.specs.declared.event.Event.{Event}
 use Rattle.hc_event.specs.declared.event.Event.TheVariants as event
 use Rattle.hc_event.specs.Filters.{is_denied}
 use Rattle.hc_head.specs.declared.message.MsgError.{MsgError}
 use Rattle.hc_msg.specs.declared.message.WirePart.{WirePart}
 use Rattle.hc_msg.specs.Inputs.{Next, Waits, Tells, Brings, Ends, Fails, next_in}
-use Rattle.hc_msg.specs.Reading.{Reading, Whole, Done, Failed, Token, Answers}
-use Rattle.hc_msg.specs.Taking.{ending}
+use Rattle.hc_msg.specs.Reading.{Reading, Done, Failed, Token, Answers}
+use Rattle.hc_msg.specs.Taking.{is_whole, ending}
 use Rattle.hc_rules.specs.declared.room.Limits.{Limits}
 use Rattle.hc_model.specs.Entries.{Entry}
 use Rattle.hc_model.specs.Exchanges.{is_open, is_wanted}
@@ -31,10 +31,6 @@ abbrev pub unless_denied : Limits → ℕ → Proxy → Proxy
 unless_denied limits x p = if is_last_denied p.part then stepped limits (event.Fault x) p else p
 
 -- THE NEXT PART
-
-abbrev pub is_whole : Reading → Bool
-is_whole Whole = true
-is_whole _ = false
 
 -- bytes came of it, or its end, or its message is whole: a part may stand there
 abbrev pub has_news : Upstream → Bool

@@ -9,3 +9,4 @@ pub mod Spelled
 pub mod Sizes
 pub mod Inputs
 pub mod Looks
+pub mod NextParts

@@ -7,3 +7,4 @@ pub mod Writing
 pub mod Spelled
 pub mod Sizes
 pub mod Inputs
+pub mod NextParts

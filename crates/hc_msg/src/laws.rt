@@ -1,5 +1,6 @@
 //! The laws of messages.
 ghost use Rattle.hc_msg.specs.Laws.{IsReadOneWay, IsReadPiecewise, StaysFailed};
+ghost use Rattle.hc_msg.specs.NextParts.{IsWhatStandsNext};
 ghost use Rattle.hc_msg.specs.Sizes.{IsSaidByEquations};
 ghost use Rattle.hc_msg.specs.Spelled.{TokensAreSpelled};
 
@@ -23,4 +24,10 @@ pub fn what_bytes_tell_has_a_spelling()
 /// and they read nothing else.
 pub fn chunk_lines_are_read_by_equations()
     ensures { IsSaidByEquations }
+{}
+
+/// What stands next in an input is what its bytes lead to first: a head at its last byte, the longest run
+/// of bytes of a body, the end of the message or an error. Where it waits all was read.
+pub fn what_stands_next_is_read()
+    ensures { IsWhatStandsNext }
 {}

@@ -50,7 +50,8 @@ opened request = record {
 -- ALL ACTS, in order
 
 abbrev pub carried_out : Act → Proxy → Proxy
-carried_out (act.Opened x c need request) p = record p { upstream = with x (opened request) p.upstream }
+carried_out (act.Opened x c need request) p =
+    record p { upstream = with x (opened request) p.upstream }
 carried_out (act.Shown c r why status fields lo hi) p =
     answers (p.holder c) (act.Shown c r why status fields lo hi) p
 carried_out (act.Given c x at bytes) p = answers (p.holder c) (act.Given c x at bytes) p

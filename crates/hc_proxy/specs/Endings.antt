@@ -39,8 +39,8 @@ was_sent dialled p taker = sent_by p taker (exchange_of dialled taker.k)
 
 -- A LOG OF THE LOOP
 
--- Each call fits those before it, each connection has taken a first part of what it is owed, and at most as many were dialled
--- as exchanges were opened. The last turn may have been cut short.
+-- Each call fits those before it, and each connection has taken a first part of what it is owed. At most as
+-- many were dialled as exchanges were opened. The last turn may have been cut short.
 pub record IsLog (limits : Limits) (log : Log) : Type 0 where
   pub fit : AllFit limits log.dialled unused log.calls
   pub sent : list_all (was_sent log.dialled (behind_all limits log)) log.takers ≡ true
@@ -54,7 +54,8 @@ pub record IsFinished (log : Log) (p : Proxy) : Type 0 where
 
 -- HOW IT ENDS
 
-pub data Serves (limits : Limits) (turns : ℕ) (log : Log) (out out' : Option (List ℕ)) : Ended → Type 0 where
+pub data Serves (limits : Limits) (turns : ℕ) (log : Log) (out out' : Option (List ℕ))
+    : Ended → Type 0 where
   -- so many turns were made, and their record was taken
   done : IsLog limits log → length log.calls ≡ turns → IsFinished log (behind_all limits log) →
       Takes out out' (record_of (behind_all limits log)) →

@@ -56,7 +56,8 @@ hands limits x (Brings bytes reading rest) p =
     unless_denied limits x
     (stepped limits (event.Piece x bytes) (with_upstream x (read_to reading rest) p))
 hands limits x Ends p = stepped limits (event.End x) (with_upstream x (read_to Done []) p)
-hands limits x (Fails e) p = stepped limits (event.Fault x) (with_upstream x (read_to (Failed e) []) p)
+hands limits x (Fails e) p =
+    stepped limits (event.Fault x) (with_upstream x (read_to (Failed e) []) p)
 
 abbrev pub hands_if : Limits → ℕ → Option Upstream → Proxy → Proxy
 hands_if limits x None p = p

@@ -44,7 +44,8 @@ taker_of log (Some k) = find (is_numbered k) log.takers
 
 abbrev pub exchange_is_sent : Log → Proxy → ℕ → Bool
 exchange_is_sent log p x =
-    is_taken (length log.calls) (owed_by (p.upstream x)) (taker_of log (connection_of log.dialled x))
+    is_taken (length log.calls) (owed_by (p.upstream x))
+    (taker_of log (connection_of log.dialled x))
 
 abbrev pub all_is_sent : Log → Proxy → Bool
 all_is_sent log p =

@@ -32,7 +32,8 @@ with_holder c k p = record p { starts = c; holder = with c k p.holder }
 abbrev pub started : Limits → ℕ → WireRequest → Proxy → Proxy
 started limits k request p =
     let c = p.starts + 1 in
-    stepped limits (event.Start c request.request) (with_holder c k (with_client k (asks c request) p))
+    stepped limits (event.Start c request.request)
+    (with_holder c k (with_client k (asks c request) p))
 
 -- ONE THAT IS REFUSED
 

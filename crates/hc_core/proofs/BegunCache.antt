@@ -1,5 +1,5 @@
 -- A cache that begins with contents stands for the history that has no entry yet.
-use Rattle.std.proofs.Common.{◌≡◌, inl, inr, ℕ, ◌+◌, ◌≤◌, ◌<◌, ◌^◌, List, [], ◌∷◌, map, true, None, Some, refl, ap, sym, ◌∙◌, subst, arith}
+use Rattle.std.proofs.Common.{◌≡◌, inl, inr, ◌+◌, ◌≤◌, ◌<◌, ◌^◌, List, [], ◌∷◌, map, true, None, Some, refl, ap, sym, ◌∙◌, subst, arith}
 use Rattle.std.specs.Prelude.{find, nat_lt, ◌==◌}
 use Rattle.std.proofs.lemmas.Bool.{cases_Bool}
 use Rattle.std.proofs.lemmas.Bool.Decides.{nat_tests}
@@ -19,7 +19,7 @@ use Rattle.hc_model.proofs.Basics.{and_left, and_right}
 use Rattle.hc_state.specs.declared.rows.Rows.{Rows}
 use Rattle.hc_state.specs.Good.{StandsAt}
 use Rattle.hc_state.specs.Stands.{RowsStand}
-use Rattle.hc_state.proofs.Words.{none_some, some_is}
+use Rattle.hc_state.proofs.Words.{none_received, none_some, some_is}
 use Rattle.hc_core.specs.declared.cache.Cache.{Cache}
 use Rattle.hc_core.specs.Steps.{StandsFor}
 use Rattle.hc_core.proofs.BegunItems.{next_fits}
@@ -51,7 +51,7 @@ stands_begun_with s contents moment may rows = record {
 
 pub good_begun_with : {B : Type 0} {g : Ghosts B} (r : Rows B g) (contents : coded_all.Contents) → may_begin r.limits (plain_contents contents) ≡ true → RowsStand r (first_tables (plain_contents contents)) → StandsAt r contents.now
 unfolding tables
-good_begun_with r contents may rows = (record { contents = plain_contents contents; h = []; begins = may; short = short_told contents; within_limits = tt; starts = tt; run = tt; rows = rows }, refl)
+good_begun_with r contents may rows = (record { contents = plain_contents contents; h = []; begins = may; short = short_told contents; within_limits = tt; starts = tt; run = tt; received = none_received r.received; rows = rows }, refl)
 
 pub next_begun_with : {B : Type 0} {g : Ghosts B} (r : Rows B g) (contents : coded_all.Contents) → may_begin r.limits (plain_contents contents) ≡ true → RowsStand r (first_tables (plain_contents contents)) → next_of r.exchanges ≤ 2 ^ 60 + 0
 next_begun_with r contents may rows = let fits = next_fits r.limits (plain_contents contents) may in let next = rows.next in omega (arith, fits, next)

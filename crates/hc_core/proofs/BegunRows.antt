@@ -1,6 +1,6 @@
 -- The rows stand for what a store begins with, item by item.
-use Rattle.std.proofs.Common.{◌≡◌, ◌⊎◌, inl, inr, ℕ, ◌+◌, ◌-◌, ◌<◌, ◌≤◌, max, List, [], ◌∷◌, ◌++◌, length, Bool, true, false, cond, eqb, Option, Some, None, refl, ap, sym, ◌∙◌, subst, arith}
-use Rattle.std.specs.Prelude.{is_some, nat_eq, filter, find, map, reverse, bytes_eq, option_map, ◌==◌, ◌&&◌, not, if◌then◌else◌}
+use Rattle.std.proofs.Common.{◌≡◌, inl, inr, ℕ, ◌<◌, max, List, [], ◌∷◌, ◌++◌, Bool, true, false, cond, eqb, Option, Some, None, refl, ap, sym, ◌∙◌, subst, arith}
+use Rattle.std.specs.Prelude.{nat_eq, filter, find, reverse, bytes_eq, option_map, ◌==◌, ◌&&◌, if◌then◌else◌}
 use Rattle.std.specs.Option.{option_or}
 use Rattle.std.specs.HashMap.{get, hash_map_len}
 use Rattle.std.proofs.lemmas.Bool.{cases_Bool, eqb-true}
@@ -14,9 +14,7 @@ use Rattle.hc_stored.specs.Begun as entries
 use Rattle.hc_stored.specs.Begun.{with_runs}
 use Rattle.hc_stored.specs.Entries.{shelf_of}
 use Rattle.hc_stored.specs.Kept.{Kept}
-use Rattle.hc_stored.specs.Shelf.{Shelf}
 use Rattle.hc_entry.specs.Kept.{with_current, nothing}
-use Rattle.hc_entry.specs.Kept as lines
 use Rattle.hc_entry.specs.Keys.{kept_of}
 use Rattle.hc_exch.specs.Exchanges.{table_of, next_of}
 use Rattle.hc_exch.specs.Known.{unknown}
@@ -36,7 +34,7 @@ use Rattle.hc_state.specs.Stands.{RowsStand}
 use Rattle.hc_state.specs.Stored.{IsEntry, KeepsEntry, KeepsEntries, TellsLength, is_usable_row}
 use Rattle.hc_state.specs.Stored as stored
 use Rattle.hc_core.proofs.BegunRuns.{runs_cells, runs_reach, runs_rest, kind_begun, whole_begun}
-use Rattle.hc_state.proofs.Words.{eqb-same, false_true, none_some, as_received, none_received}
+use Rattle.hc_state.proofs.Words.{eqb-same, false_true, none_some}
 use Rattle.hc_core.specs.Begins.{with_items, kept_item, KeepsItem}
 
 -- BEFORE THE FIRST
@@ -48,7 +46,6 @@ unfolding current
 stands_before r contents last next some count none unopened unawaited unkept order limits = record {
   limits = limits;
   entries = record { each = λ q. rw (unkept q) tt; order = order };
-  received = none_received r.received;
   last_start = last;
   next = omega (arith, next);
   count = count;
@@ -227,7 +224,6 @@ module _ {B : Type 0} {g : Ghosts B} (r u : Rows B g) (contents : Contents) (ite
   pub stands_more : RowsStand u (first_tables (with_items (items ++ item ∷ []) contents))
   stands_more = record {
     limits = keeps.entries.limits ∙ (stands.limits ∙ sym keeps.limits);
-    received = as_received keeps.received stands.received;
     last_start = keeps.last_start ∙ stands.last_start;
     next = ap next_of keeps.exchanges ∙ stands.next;
     count = ap hash_map_len keeps.consumers ∙ stands.count;

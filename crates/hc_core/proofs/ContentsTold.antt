@@ -1,12 +1,10 @@
 -- What is told of all idle ones is the contents of each run that the cache stands for, and a cache may begin with it.
-use Rattle.std.proofs.Common.{◌≡◌, inl, inr, ℕ, zero, suc, get_or, ◌+◌, ◌-◌, ◌<◌, ◌≤◌, ◌^◌, List, [], ◌∷◌, ◌++◌, take, map, Bool, true, false, Option, Some, None, refl, ap, sym, ◌∙◌, subst, arith}
-use Rattle.std.specs.Prelude.{is_some, option_map, filter, filter_map, reverse, ◌==◌, ◌&&◌, length}
+use Rattle.std.proofs.Common.{◌≡◌, inl, inr, ℕ, zero, suc, get_or, ◌<◌, ◌≤◌, ◌^◌, List, [], ◌∷◌, ◌++◌, map, Bool, true, false, Option, Some, None, refl, ap, sym, ◌∙◌, subst, arith}
+use Rattle.std.specs.Prelude.{is_some, option_map, filter, filter_map, reverse, ◌==◌, length}
 use Rattle.std.proofs.lemmas.Bool.{cases_Bool}
 use Rattle.hc_store.specs.declared.backend.Backend.{Ghosts}
 use Rattle.hc_sparse.specs.Cells.{Cells, EndsBy}
-use Rattle.hc_record.specs.declared.kind.Kind.TheVariants as kind
 use Rattle.hc_record.specs.Head.{Head, sealed_head}
-use Rattle.hc_rules.specs.declared.room.Limits.{Limits}
 use Rattle.hc_stored.specs.Entries.{shelf_of}
 use Rattle.hc_stored.specs.Kept.{Kept}
 use Rattle.hc_stored.specs.Shelf as shelves
@@ -18,8 +16,8 @@ use Rattle.hc_model.specs.Currents.{current, is_current}
 use Rattle.hc_model.specs.Entries.{Content, Contents, History}
 use Rattle.hc_model.specs.Kinds.{kind_of}
 use Rattle.hc_model.specs.Laws.{IsInLimits}
-use Rattle.hc_model.specs.LettingGo.{MayLetGo}
 use Rattle.hc_model.specs.Reading.{bound}
+use Rattle.hc_model.specs.Lawful.{Lawful}
 use Rattle.hc_model.specs.Rows.{Tables, Representation}
 use Rattle.hc_model.specs.Sound.{IsStored}
 use Rattle.hc_model.specs.Tables.{tables}
@@ -32,7 +30,6 @@ use Rattle.hc_exch.specs.Exchanges.{next_of}
 use Rattle.hc_contents.specs.declared.contents.Contents as coded_all
 use Rattle.hc_contents.specs.PlainContents.{plain_contents, plain_item}
 use Rattle.hc_state.specs.declared.rows.Rows.{Rows}
-use Rattle.hc_state.specs.Facts.{Facts}
 use Rattle.hc_state.specs.Good.{StandsAt, IsGood}
 use Rattle.hc_state.specs.Remains.{TellsOne, TellsAll}
 use Rattle.hc_state.specs.Stands.{RowsStand}
@@ -41,8 +38,8 @@ use Rattle.hc_state.specs.Stored as stored
 use Rattle.hc_state.proofs.Maps.{merely_true}
 use Rattle.hc_state.proofs.ReaderSteps.{stands_read}
 use Rattle.hc_state.proofs.Rooms.{idle_is}
-use Rattle.hc_core.proofs.Standing.{facts_of_runs}
-use Rattle.hc_state.proofs.Words.{false_true, none_some, some_is}
+use Rattle.hc_core.proofs.Standing.{law_of_runs}
+use Rattle.hc_state.proofs.Words.{as_received, false_true, some_is}
 use Rattle.hc_core.specs.declared.cache.Cache.{Cache}
 use Rattle.hc_core.specs.Steps.{StandsFor}
 
@@ -104,7 +101,7 @@ module _ (t : Tables) (s : Shelf) (q : ℕ) (k : Kept) (v : Representation) (ite
 
 -- ALL
 
-module _ {B : Type 0} {g : Ghosts B} (r : Rows B g) (t : Tables) (limits : Limits) (facts : Facts limits t) (stands : RowsStand r t) where
+module _ {B : Type 0} {g : Ghosts B} (r : Rows B g) (t : Tables) (law : Lawful t) (stands : RowsStand r t) where
   abbrev shelf : Shelf
   shelf = shelf_of r.entries
 
@@ -117,7 +114,7 @@ module _ {B : Type 0} {g : Ghosts B} (r : Rows B g) (t : Tables) (limits : Limit
 
       by_kept : (o : Option Kept) → shelf.kept q ≡ o → KeepsEntry t q o (Some v) → Some (content_of t q v) ≡ Some item
       by_kept None kept e = false_true (sym fresh ∙ e.gone)
-      by_kept (Some k) kept e = ap Some (content_is t shelf q k v item kept e fresh (stored_ends v fresh (facts.law.sound.rows q v row).store) one)
+      by_kept (Some k) kept e = ap Some (content_is t shelf q k v item kept e fresh (stored_ends v fresh (law.sound.rows q v row).store) one)
 
   all_are : (qs : List ℕ) (items : List Content) → TellsAll shelf (filter (λ q. is_idle t q (t.representation q)) qs) items → filter_map (content_at t) (filter (λ q. is_idle t q (t.representation q)) qs) ≡ items
   all_are [] [] tells = refl
@@ -136,7 +133,7 @@ module _ {B : Type 0} {g : Ghosts B} (r : Rows B g) (t : Tables) (limits : Limit
           rw (first, again rest tells.1) refl
 
   pub items_are : (items : List Content) → TellsAll shelf (idle shelf) items → filter_map (content_at t) (idle_now t) ≡ items
-  items_are items tells = all_are (reverse t.used) items (subst (λ (qs : List ℕ). TellsAll shelf qs items) (idle_is r t (may_let_go t facts.law) stands) tells)
+  items_are items tells = all_are (reverse t.used) items (subst (λ (qs : List ℕ). TellsAll shelf qs items) (idle_is r t (may_let_go t law) stands) tells)
 
 -- THE CACHE
 
@@ -145,12 +142,12 @@ pub contents_told : {B : Type 0} {g : Ghosts B} (s : Cache B g) (found : coded_a
 unfolding contents_of
 contents_told s found moment last next tells contents h stands =
     let t = tables contents h in
-    let facts = facts_of_runs s.rows.limits contents h stands.begins stands.short stands.run in
+    let law = law_of_runs s.rows.limits contents h stands.begins stands.run in
     λ i. record {
       now = (moment ∙ stands.moment) i;
       last_consumer = (last ∙ stands.rows.last_start) i;
       next_exchange = (next ∙ stands.rows.next) i;
-      items = (sym (items_are s.rows t s.rows.limits facts stands.rows (map plain_item found.items) tells)) i;
+      items = (sym (items_are s.rows t law stands.rows (map plain_item found.items) tells)) i;
     }
 
 -- a cache may begin with what a good one tells
@@ -235,6 +232,7 @@ good_still r u moment limits received last consumers exchanges same_keys stays a
     within_limits = at.0.within_limits;
     starts = at.0.starts;
     run = rw limits at.0.run;
+    received = as_received received at.0.received;
     rows = stands_read r u (tables at.0.contents at.0.h) limits received last consumers exchanges same_keys stays at.0.rows;
   },
   at.1,

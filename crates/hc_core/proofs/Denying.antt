@@ -1,5 +1,5 @@
 -- What is kept stands for the tables after a denied event, and at the beginning.
-use Rattle.std.proofs.Common.{◌≡◌, ℕ, ◌+◌, List, [], Option, None, refl, ap}
+use Rattle.std.proofs.Common.{◌≡◌, ℕ, ◌+◌, List, [], None, refl, ap}
 use Rattle.std.specs.Prelude.{nat_eq}
 use Rattle.std.specs.HashMap.{get, hash_map_len}
 use Rattle.hc_store.specs.declared.backend.Backend.{Ghosts}
@@ -16,11 +16,10 @@ use Rattle.hc_state.specs.declared.rows.Rows.{Rows}
 use Rattle.hc_state.specs.Good.{rows_with_event}
 use Rattle.hc_state.specs.Stands.{RowsStand}
 use Rattle.hc_state.proofs.Counting.{stands_recounted}
-use Rattle.hc_state.proofs.Words.{more_received, none_received}
 
 pub stands_denied : {B : Type 0} {g : Ghosts B} (r : Rows B g) (t : Tables) (e : Entry) → RowsStand r t → RowsStand (rows_with_event e.event r) (after_denied t e)
 stands_denied r t e stands =
-    stands_recounted r (rows_with_event e.event r) t e.now (t.entries + 1) (t.received + received_in e.event) refl (more_received r.received (received_in e.event) stands.received) refl refl refl refl refl stands
+    stands_recounted r (rows_with_event e.event r) t e.now (t.entries + 1) (t.received + received_in e.event) refl refl refl refl refl refl stands
 
 -- AT THE BEGINNING
 
@@ -29,7 +28,6 @@ unfolding current
 stands_begun r last next count none unopened unawaited unkept order limits = record {
   limits = limits;
   entries = record { each = λ q. rw (unkept q) tt; order = order };
-  received = none_received r.received;
   last_start = last;
   next = next;
   count = count;

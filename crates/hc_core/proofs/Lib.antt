@@ -1,3 +1,4 @@
+pub mod SizedAlike
 pub mod Standing
 pub mod Opened
 pub mod Denying

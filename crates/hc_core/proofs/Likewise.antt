@@ -1,5 +1,5 @@
 -- Rows that keep contents, and nothing else, stand for the tables of each run that leaves those, with nobody live.
-use Rattle.std.proofs.Common.{◌≡◌, ◌≢◌, inl, inr, ℕ, ◌+◌, ◌-◌, ◌≤◌, List, [], ◌∷◌, ◌++◌, Bool, true, false, Option, Some, None, refl, ap, sym, ◌∙◌, subst, arith}
+use Rattle.std.proofs.Common.{◌≡◌, ◌≢◌, inl, inr, ℕ, ◌+◌, ◌-◌, List, [], ◌∷◌, ◌++◌, Bool, true, false, Option, Some, None, refl, ap, sym, ◌∙◌, subst, arith}
 use Rattle.std.specs.Prelude.{bytes_eq, is_some, nat_eq, filter, filter_map, find, reverse, length, option_map, not, ◌==◌, ◌&&◌}
 use Rattle.std.specs.HashMap.{get}
 use Rattle.std.proofs.lemmas.Bool.{cases_Bool}
@@ -28,6 +28,8 @@ use Rattle.hc_model.specs.Exchanges.{is_open}
 use Rattle.hc_model.specs.Lines.{is_in_line, holds_turn}
 use Rattle.hc_model.specs.Reading.{bound}
 use Rattle.hc_model.specs.Rows as rows
+use Rattle.hc_model.specs.Lawful.{Lawful}
+use Rattle.hc_model.specs.Measures.{Measures}
 use Rattle.hc_model.specs.Rows.{Tables, Exchange, Representation}
 use Rattle.hc_model.specs.Sound.{Among, Sound}
 use Rattle.hc_model.specs.Tables.{first_tables, representation_of_content, numbers, last_end, tables}
@@ -37,14 +39,13 @@ use Rattle.hc_model.proofs.CurrentKeeps.{current_is}
 use Rattle.hc_model.proofs.KeysKeep.{current_row}
 use Rattle.hc_model.proofs.PollKeeps.{current_stays}
 use Rattle.hc_model.proofs.RunsFrom.{end_is}
-use Rattle.hc_laws.proofs.SoundRuns.{carried}
+use Rattle.hc_laws.proofs.SoundRuns.{carried, measures_in_runs}
 use Rattle.hc_model.proofs.Sums.{filter_among}
 use Rattle.hc_state.specs.declared.consumer.Consumer.{Consumer}
 use Rattle.hc_state.specs.declared.rows.Rows.{Rows}
-use Rattle.hc_state.specs.Facts.{Facts}
 use Rattle.hc_state.specs.Kept.{KeepsConsumer, KeepsExchange, KeepsRunning}
 use Rattle.hc_state.specs.Lines.{KeepsKey, has_turn, is_away, is_passed}
-use Rattle.hc_state.specs.Stands.{RowsStand, most_before}
+use Rattle.hc_state.specs.Stands.{RowsStand}
 use Rattle.hc_state.specs.Stored.{IsEntry, KeepsEntry, TellsLength, TellsWriter, is_first, is_over, is_usable_row}
 use Rattle.hc_state.specs.Stored as stored
 use Rattle.hc_core.proofs.BegunRuns.{kind_begun}
@@ -53,7 +54,7 @@ use Rattle.hc_core.proofs.HeadsGrow.{HeadsGrow, heads_grow}
 use Rattle.hc_state.proofs.LiveCounts.{filter-reverse}
 use Rattle.hc_core.proofs.NobodyLive.{nobody, nobody_says, unbound, none_bound, shut, none_held}
 use Rattle.hc_core.proofs.RunsBack.{cells_back}
-use Rattle.hc_core.proofs.Standing.{facts_of_runs}
+use Rattle.hc_core.proofs.Standing.{law_of_runs}
 use Rattle.hc_state.proofs.Words.{same_or, eqb-same, eqb-other, false_true, none_some, not_true, same_row, some_is, then_false}
 use Rattle.hc_core.specs.declared.cache.Cache.{Cache}
 use Rattle.hc_core.specs.Steps.{ServesAll}
@@ -156,7 +157,7 @@ module _ (t : Tables) where
 
 -- THE ROWS
 
-module _ {B : Type 0} {g : Ghosts B} (r : Rows B g) (limits : Limits) (t : Tables) (facts : Facts limits t) (grow : HeadsGrow t) (none : live t ≡ 0) (may : may_begin limits (contents_of t) ≡ true) (small : t.received ≤ most_before) (stands : RowsStand r (first_tables (contents_of t))) where
+module _ {B : Type 0} {g : Ghosts B} (r : Rows B g) (limits : Limits) (t : Tables) (law : Lawful t) (measures : Measures t) (grow : HeadsGrow t) (none : live t ≡ 0) (may : may_begin limits (contents_of t) ≡ true) (stands : RowsStand r (first_tables (contents_of t))) where
   abbrev s : Tables
   s = first_tables (contents_of t)
 
@@ -169,11 +170,11 @@ module _ {B : Type 0} {g : Ghosts B} (r : Rows B g) (limits : Limits) (t : Table
   idle_is q = by_row (t.representation q) refl
     where
       nobody_reads : length (bound t q) ≡ 0
-      nobody_reads = ap length (none_bound t facts.law none q)
+      nobody_reads = ap length (none_bound t law none q)
 
       by_gone : (v : Representation) → t.representation q ≡ Some v → (b : Bool) → v.is_gone ≡ b → is_idle t q (Some v) ≡ not v.is_gone
       by_gone v row false fresh =
-          let here : is_current t v.key q ≡ true = ap (λ o. is_number o q) (current_is t v.key q v facts.law.sound row refl fresh) ∙ eqb-same q in
+          let here : is_current t v.key q ≡ true = ap (λ o. is_number o q) (current_is t v.key q v law.sound row refl fresh) ∙ eqb-same q in
           let none_reads = nobody_reads in
           rw (here, none_reads, fresh) refl
       by_gone v row true gone = rw (not_true (is_current t v.key q) (λ on. false_true (sym (current_stays t v.key q v (number_is (current t v.key) q on) row) ∙ gone)), gone) refl
@@ -198,7 +199,7 @@ module _ {B : Type 0} {g : Ghosts B} (r : Rows B g) (limits : Limits) (t : Table
       listed : (v : Representation) → t.representation q ≡ Some v → v.is_gone ≡ false → Among q (idle_now t)
       listed v row fresh =
           among_filter q (λ n. is_idle t n (t.representation n)) (reverse t.used) (idle_is q ∙ (ap is_usable_row row ∙ ap not fresh))
-          (among_reverse q t.used (facts.law.order.founded_used q (facts.law.sound.numbered.lists.founded q (ap (λ (o : Option Representation). is_some o) row))))
+          (among_reverse q t.used (law.order.founded_used q (law.sound.numbered.lists.founded q (ap (λ (o : Option Representation). is_some o) row))))
 
       by_gone : (v : Representation) → t.representation q ≡ Some v → (b : Bool) → v.is_gone ≡ b → Remains q
       by_gone v row false fresh = has_item v row fresh (found_listed t q v row (idle_now t) (listed v row fresh))
@@ -218,13 +219,13 @@ module _ {B : Type 0} {g : Ghosts B} (r : Rows B g) (limits : Limits) (t : Table
     item = content_of t q v
 
     held : v.is_lost ≡ false
-    held = stays_stored t facts.law q v row fresh
+    held = stays_stored t law q v row fresh
 
     all_ends : EndsBy v.reach v.stored
-    all_ends p le = let rep = facts.law.sound.rows q v row in rep.store.all_stored held p ∙ rep.store.ends p le
+    all_ends p le = let rep = law.sound.rows q v row in rep.store.all_stored held p ∙ rep.store.ends p le
 
     reach_is : last_end item.runs ≡ v.reach
-    reach_is = end_is v.stored v.reach (λ m is. ap (λ z. is_some z) ((facts.law.sound.rows q v row).store.all_stored held m) ∙ facts.measures.tight q m v row is)
+    reach_is = end_is v.stored v.reach (λ m is. ap (λ z. is_some z) ((law.sound.rows q v row).store.all_stored held m) ∙ measures.tight q m v row is)
 
     cells_are : (p : ℕ) → cells_of item.runs p ≡ v.stored p
     cells_are p = cells_back v.stored v.reach p all_ends
@@ -234,7 +235,7 @@ module _ {B : Type 0} {g : Ghosts B} (r : Rows B g) (limits : Limits) (t : Table
 
     writer_is : (o : Option ℕ) → v.writer ≡ o → (k : Option ℕ) → k ≡ None → TellsWriter t.exchange k v.writer
     writer_is None is k off = stored.as_written (off ∙ sym is)
-    writer_is (Some x) is k off = stored.forgotten x off is (over_by (t.exchange x) (facts.law.owned.writers q x v row is) (shut t facts.law none x))
+    writer_is (Some x) is k off = stored.forgotten x off is (over_by (t.exchange x) (law.owned.writers q x v row is) (shut t law none x))
       where
         over_by : (o : Option Exchange) → is_some o ≡ true → is_open o ≡ false → is_over o ≡ true
         over_by None on off = false_true on
@@ -256,11 +257,11 @@ module _ {B : Type 0} {g : Ghosts B} (r : Rows B g) (limits : Limits) (t : Table
           whole = λ n whole total p low high. ap (λ z. is_some z) (sym (cells_are p)) ∙ e.whole n whole total p low high;
           cells = λ p. e.cells p ∙ cells_are p;
           reach = λ _. e.reach refl ∙ reach_is;
-          bound = λ c. e.bound c ∙ sym (unbound t facts.law none q c);
-          first = λ c. e.first c ∙ sym (nobody_says t facts.law none (is_first t q) refl (λ z at. rw at refl) c);
+          bound = λ c. e.bound c ∙ sym (unbound t law none q c);
+          first = λ c. e.first c ∙ sym (nobody_says t law none (is_first t q) refl (λ z at. rw at refl) c);
           writer = writer_is v.writer refl k.writer (forgets k.writer e.writer);
           is_lost = e.is_lost ∙ sym held;
-          alone = e.alone ∙ sym ((facts.law.sound.rows q v row).store.nobody_alone held);
+          alone = e.alone ∙ sym ((law.sound.rows q v row).store.nobody_alone held);
           is_gone = e.is_gone ∙ sym fresh;
         }
       where
@@ -283,7 +284,7 @@ module _ {B : Type 0} {g : Ghosts B} (r : Rows B g) (limits : Limits) (t : Table
     where
       by_case : Remains q → KeepsEntry t q (kept_at q) (t.representation q)
       by_case (has_none row off) = rw (row, unkept q off) tt
-      by_case (has_gone v row is off) = rw (row, unkept q off) (record { gone = is; unused = none_bound t facts.law none q })
+      by_case (has_gone v row is off) = rw (row, unkept q off) (record { gone = is; unused = none_bound t law none q })
       by_case (has_item v row fresh found) = subst (KeepsEntry t q (kept_at q)) (sym row) (by_kept (kept_at q) (subst (KeepsEntry s q (kept_at q)) (loaded_row q v found) (stands.entries.each q)))
         where
           by_kept : (o : Option Kept) → KeepsEntry s q o (Some (representation_of_content (content_of t q v))) → KeepsEntry t q o (Some v)
@@ -334,7 +335,7 @@ module _ {B : Type 0} {g : Ghosts B} (r : Rows B g) (limits : Limits) (t : Table
       by_none q at is (has_item v row fresh found) =
           let its = current_row s q key is in
           let same = same_row (s.representation q) (representation_of_content (content_of t q v)) its.0 (loaded_row q v found) its.1 in
-          none_some q (sym at ∙ current_is t key q v facts.law.sound row (ap (λ (z : Representation). z.key) same ∙ its.2) fresh)
+          none_some q (sym at ∙ current_is t key q v law.sound row (ap (λ (z : Representation). z.key) same ∙ its.2) fresh)
 
       none_by : (o : Option ℕ) → current t key ≡ None → current s key ≡ o → o ≡ None
       none_by None at is = refl
@@ -354,30 +355,29 @@ module _ {B : Type 0} {g : Ghosts B} (r : Rows B g) (limits : Limits) (t : Table
   key_as : (key : List ℕ) (k : keyed.Kept) → KeepsKey s key k → KeepsKey t key k
   key_as key k kept = record {
     current = kept.current ∙ current_as key;
-    in_line = λ c. kept.in_line c ∙ sym (nobody_says t facts.law none (is_in_line key) refl (no_line key) c);
-    passed = λ c. kept.passed c ∙ sym (nobody_says t facts.law none (is_passed key) refl (λ z at. rw at (then_false (bytes_eq z.request.key key) false refl)) c);
-    away = λ c. kept.away c ∙ sym (nobody_says t facts.law none (is_away t key) refl (λ z at. rw at (then_false (bytes_eq z.request.key key) false refl)) c);
-    holder = λ c. kept.holder c ∙ sym (nobody_says t facts.law none (has_turn key) refl (λ z at. ap (λ (b : Bool). b && holds_turn (Some z)) (no_line key z at)) c);
+    in_line = λ c. kept.in_line c ∙ sym (nobody_says t law none (is_in_line key) refl (no_line key) c);
+    passed = λ c. kept.passed c ∙ sym (nobody_says t law none (is_passed key) refl (λ z at. rw at (then_false (bytes_eq z.request.key key) false refl)) c);
+    away = λ c. kept.away c ∙ sym (nobody_says t law none (is_away t key) refl (λ z at. rw at (then_false (bytes_eq z.request.key key) false refl)) c);
+    holder = λ c. kept.holder c ∙ sym (nobody_says t law none (has_turn key) refl (λ z at. ap (λ (b : Bool). b && holds_turn (Some z)) (no_line key z at)) c);
   }
 
   -- ALL OF IT
 
   consumer_as : (c : ℕ) (o : Option Consumer) → KeepsConsumer s o None → KeepsConsumer t o (t.consumer c)
-  consumer_as c None kept = nobody t facts.law none c
+  consumer_as c None kept = nobody t law none c
   consumer_as c (Some k) kept = absurd kept
 
   running_as : (x : ℕ) (o : Option Open) → KeepsRunning s x o None → KeepsRunning t x o (t.exchange x)
-  running_as x None kept = shut t facts.law none x
+  running_as x None kept = shut t law none x
   running_as x (Some o) kept = absurd kept
 
   exchange_as : (x : ℕ) (k : Known) → KeepsExchange s x k → KeepsExchange t x k
-  exchange_as x k kept = record { running = running_as x k.running kept.running; held = kept.held ∙ sym (none_held t facts.law none x) }
+  exchange_as x k kept = record { running = running_as x k.running kept.running; held = kept.held ∙ sym (none_held t law none x) }
 
   pub rows_likewise : RowsStand r t
   unfolding contents_of
   rows_likewise = record {
     limits = stands.limits;
-    received = omega (arith, small);
     last_start = stands.last_start;
     next = (let next : next_of r.exchanges ≡ t.opened + 1 - 1 + 1 = stands.next in omega (arith, next));
     count = stands.count ∙ sym none;
@@ -391,14 +391,14 @@ module _ {B : Type 0} {g : Ghosts B} (r : Rows B g) (limits : Limits) (t : Table
 
 pub serves_all : {B : Type 0} {g : Ghosts B} (s : Cache B g) (contents : Contents) → s.last_moment ≡ contents.now → may_begin s.rows.limits contents ≡ true → RowsStand s.rows (first_tables contents) → ServesAll s contents
 unfolding contents_of
-serves_all s contents moment may stands before h begins short run none leaves small =
+serves_all s contents moment may stands before h begins short run none leaves =
     record {
       begins = begins;
       short = short;
       run = run;
       moment = moment ∙ sym (ap (λ (c : Contents). c.now) leaves);
       rows =
-          rows_likewise s.rows s.rows.limits (tables before h) (facts_of_runs s.rows.limits before h begins short run) (heads_grow s.rows.limits before h begins run) none
-          (subst (λ (c : Contents). may_begin s.rows.limits c ≡ true) (sym leaves) may) small
+          rows_likewise s.rows s.rows.limits (tables before h) (law_of_runs s.rows.limits before h begins run) (measures_in_runs s.rows.limits before h begins run) (heads_grow s.rows.limits before h begins run) none
+          (subst (λ (c : Contents). may_begin s.rows.limits c ≡ true) (sym leaves) may)
           (subst (λ (c : Contents). RowsStand s.rows (first_tables c)) (sym leaves) stands);
     }

@@ -1,5 +1,5 @@
 -- An event that is answered opens one exchange at most.
-use Rattle.std.proofs.Common.{◌≡◌, ℕ, ◌+◌, ◌<◌, ◌≤◌, List, [], ◌∷◌, ◌++◌, Option, Some, None, refl, ap, sym, ◌∙◌, arith}
+use Rattle.std.proofs.Common.{◌≡◌, ℕ, ◌+◌, ◌<◌, ◌≤◌, ◌^◌, List, [], ◌∷◌, ◌++◌, Option, Some, None, refl, ap, sym, ◌∙◌, arith}
 use Rattle.hc_store.specs.declared.backend.Backend.{Ghosts}
 use Rattle.hc_event.specs.declared.act.Act.{Act}
 use Rattle.hc_event.specs.declared.act.Act.TheVariants as act
@@ -15,7 +15,7 @@ use Rattle.hc_model.specs.Flaws.{Flaw}
 use Rattle.hc_model.specs.Keys.{entry_of}
 use Rattle.hc_model.specs.Rows.{Tables}
 use Rattle.hc_model.specs.Sound.{Sound}
-use Rattle.hc_model.specs.Tables.{after_accepted, opened_after, tables}
+use Rattle.hc_model.specs.Tables.{after_accepted, opened_after}
 use Rattle.hc_model.proofs.NumbersKeep.{opens_next}
 use Rattle.hc_state.specs.declared.rows.Rows.{Rows}
 use Rattle.hc_state.specs.Good.{StandsUntil, rows_with_event}
@@ -44,7 +44,7 @@ module _ {B : Type 0} {g : Ghosts B} (r u : Rows B g) (before out : List Act) (n
       omega (arith, one, was, after)
   by_gate s (Some why) is = let same : next_of u.exchanges ≡ next_of r.exchanges = ap (λ (z : Rows B g). next_of z.exchanges) (denied why is).0 in omega (arith, same)
 
-  pub next_after : (last : ℕ) → ∥ StandsUntil r last ∥₁ → next_of u.exchanges ≤ next_of r.exchanges + 1
-  next_after last some =
-      let lt = merely_below (next_of u.exchanges) (next_of r.exchanges + 2) some (λ s. (let le = by_gate (stands_of_runs r s.0) (refusal_of (gate_of r ev) ev) refl in omega (arith, le))) in
+  pub next_after : r.received < 2 ^ 61 → (last : ℕ) → ∥ StandsUntil r last ∥₁ → next_of u.exchanges ≤ next_of r.exchanges + 1
+  next_after small last some =
+      let lt = merely_below (next_of u.exchanges) (next_of r.exchanges + 2) some (λ s. (let le = by_gate (stands_of_runs r small s.0) (refusal_of (gate_of r ev) ev) refl in omega (arith, le))) in
       omega (arith, lt)

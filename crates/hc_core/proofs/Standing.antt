@@ -1,14 +1,15 @@
 -- The facts that hold of the tables of every run.
-use Rattle.std.proofs.Common.{◌≡◌, ℕ, ◌≤◌, true, Option, Some, None, sym, subst}
+use Rattle.std.proofs.Common.{◌≡◌, ℕ, ◌<◌, ◌≤◌, ◌^◌, true, Option, Some, None, sym, subst}
 use Rattle.std.specs.Prelude.{is_some}
 use Rattle.hc_store.specs.declared.backend.Backend.{Ghosts}
 use Rattle.hc_event.specs.declared.event.Response.{Response}
-use Rattle.hc_sparse.specs.Cells.{Cells, Covers}
+use Rattle.hc_sparse.specs.Cells.{Cells, Covers, size}
 use Rattle.hc_rules.specs.declared.room.Limits.{Limits}
 use Rattle.hc_model.specs.Beginnings.{may_begin}
 use Rattle.hc_model.specs.Entries.{Contents, History}
 use Rattle.hc_model.specs.Exchanges.{front}
-use Rattle.hc_model.specs.Numbers.{AreShort}
+use Rattle.hc_model.specs.Lawful.{Lawful}
+use Rattle.hc_model.specs.LettingGo.{AreSized}
 use Rattle.hc_model.specs.Rows.{Exchange}
 use Rattle.hc_model.specs.Runs.{IsRun}
 use Rattle.hc_model.specs.Tables.{tables}
@@ -38,9 +39,10 @@ use Rattle.hc_laws.proofs.UnendedRuns.{unended_in_runs}
 use Rattle.hc_laws.proofs.WhoseRuns.{whose_in_runs}
 use Rattle.hc_state.specs.declared.rows.Rows.{Rows}
 use Rattle.hc_state.specs.Facts.{Facts}
-use Rattle.hc_state.specs.Stands.{StandsForSome, Stands}
+use Rattle.hc_state.specs.Stands.{RowsStand, StandsForSome, Stands}
 use Rattle.hc_state.specs.Good.{StandsUntil, StandsBy}
-use Rattle.hc_state.proofs.Words.{false_true}
+use Rattle.hc_state.proofs.Words.{false_true, few_received}
+use Rattle.hc_core.proofs.SizedAlike.{merely_same, sized_alike, sized_here}
 
 -- with its head it goes on at its front
 come_up : (v : Cells) (n : ℕ) (w : Exchange) → Covers v n (goes_on_at w w.head) → is_some w.head ≡ true → Covers v n (front w)
@@ -50,30 +52,36 @@ come_up v n w all headed = by_head w.head headed all
     by_head None some up = false_true some
     by_head (Some response) some up = up
 
-pub facts_of_runs : (limits : Limits) (contents : Contents) (h : History) → may_begin limits contents ≡ true → AreShort contents → IsRun limits contents h → Facts limits (tables contents h)
-facts_of_runs limits contents h may short run =
+pub law_of_runs : (limits : Limits) (contents : Contents) (h : History) → may_begin limits contents ≡ true → IsRun limits contents h → Lawful (tables contents h)
+law_of_runs limits contents h may run =
     let here = carried limits contents h may run in
     record {
-      law = record {
-        sound = here.is_sound;
-        owned = here.is_owned;
-        places = places_in_runs limits contents h may run;
-        passed = passed_in_runs limits contents h may run;
-        order = order_in_runs limits contents h may run;
-        whose = whose_in_runs limits contents h may run;
-        endings = endings_in_runs limits contents h may run;
-        given = given_in_runs limits contents h may run;
-        growing = growing_in_runs limits contents h may run;
-        alone = alone_in_runs limits contents h may run;
-        keyed = (turned_in_runs limits contents h may run).one;
-      };
+      sound = here.is_sound;
+      owned = here.is_owned;
+      places = places_in_runs limits contents h may run;
+      passed = passed_in_runs limits contents h may run;
+      order = order_in_runs limits contents h may run;
+      whose = whose_in_runs limits contents h may run;
+      endings = endings_in_runs limits contents h may run;
+      given = given_in_runs limits contents h may run;
+      growing = growing_in_runs limits contents h may run;
+      alone = alone_in_runs limits contents h may run;
+      keyed = (turned_in_runs limits contents h may run).one;
+    }
+
+-- where as many bytes are stored as is said
+pub facts_of_runs : (limits : Limits) (contents : Contents) (h : History) → may_begin limits contents ≡ true → IsRun limits contents h → AreSized (tables contents h) → Facts limits (tables contents h)
+facts_of_runs limits contents h may run sized =
+    let here = carried limits contents h may run in
+    record {
+      law = law_of_runs limits contents h may run;
       measures = measures_in_runs limits contents h may run;
-      numbers = numbers_in_runs limits contents h may short run;
       brings = brings_in_runs limits contents h may run;
       losses = losses_in_runs limits contents h may run;
       heads = heads_in_runs limits contents h may run;
       tags = tags_in_runs limits contents h may run;
       sizes = sizes_in_runs limits contents h may run;
+      sized = sized;
       fits = subst (λ n. n ≤ limits.max_total) (sym (weights_total (tables contents h))) (fits limits contents h may run).within;
       live = few_in_runs limits contents h may run;
       turns = (turned_in_runs limits contents h may run).turns;
@@ -84,14 +92,29 @@ facts_of_runs limits contents h may short run =
       unended = unended_in_runs limits contents h may run;
     }
 
-pub stands_of_runs : {B : Type 0} {g : Ghosts B} (r : Rows B g) → StandsForSome r → Stands r
-stands_of_runs r s = record {
+-- of what is in use in a run that the rows count, which is few
+pub sized_of_some : {B : Type 0} {g : Ghosts B} (r : Rows B g) → r.received < 2 ^ 61 → (s : StandsForSome r) → AreSized (tables s.contents s.h)
+sized_of_some r small s =
+    sized_here r.limits (tables s.contents s.h) (law_of_runs r.limits s.contents s.h s.begins s.run) (sizes_in_runs r.limits s.contents s.h s.begins s.run)
+    (numbers_in_runs r.limits s.contents s.h s.begins s.short s.run) (few_received s.received small)
+
+-- and so in any other run for which they stand
+pub sized_of_any : {B : Type 0} {g : Ghosts B} (r : Rows B g) (contents : Contents) (h : History) → r.received < 2 ^ 61 → ∥ StandsForSome r ∥₁ → may_begin r.limits contents ≡ true → IsRun r.limits contents h → RowsStand r (tables contents h) → AreSized (tables contents h)
+sized_of_any r contents h small some may run rows q v row used =
+    merely_same v.size (size v.stored) some (λ s.
+    sized_alike r (tables contents h) (tables s.contents s.h) (law_of_runs r.limits contents h may run) (sizes_in_runs r.limits contents h may run) rows
+    (law_of_runs r.limits s.contents s.h s.begins s.run) (numbers_in_runs r.limits s.contents s.h s.begins s.short s.run) (few_received s.received small) s.rows q v row used)
+
+pub stands_of_runs : {B : Type 0} {g : Ghosts B} (r : Rows B g) → r.received < 2 ^ 61 → StandsForSome r → Stands r
+stands_of_runs r small s = record {
   t = tables s.contents s.h;
-  facts = facts_of_runs r.limits s.contents s.h s.begins s.short s.run;
+  facts = facts_of_runs r.limits s.contents s.h s.begins s.run (sized_of_some r small s);
+  numbers = numbers_in_runs r.limits s.contents s.h s.begins s.short s.run;
   within_limits = requests_are_within_limits s.contents s.h s.within_limits;
+  received = s.received;
   rows = s.rows;
 }
 
-pub stands_by : {B : Type 0} {g : Ghosts B} (r : Rows B g) (moment : ℕ) → StandsUntil r moment → StandsBy r moment
+pub stands_by : {B : Type 0} {g : Ghosts B} (r : Rows B g) (moment : ℕ) → r.received < 2 ^ 61 → StandsUntil r moment → StandsBy r moment
 unfolding stands_of_runs
-stands_by r moment (s, until) = (stands_of_runs r s, until)
+stands_by r moment small (s, until) = (stands_of_runs r small s, until)

@@ -2,7 +2,7 @@
 use Rattle.std.proofs.Common.{◌≡◌, ℕ, ◌+◌, ◌≤◌, ◌<◌, ◌^◌, List, [], ◌∷◌, ◌++◌, length, Bool, true, false, Option, Some, None, refl, ap, sym, ◌∙◌, subst, arith}
 use Rattle.std.proofs.lemmas.Bool.Decides.{nat_tests}
 use Rattle.std.proofs.Math.Bridge.{le_prop}
-use Rattle.std.proofs.Math.Logic.{∥∥₁_elim}
+use Rattle.std.proofs.Math.Logic.{∥∥₁_elim, ∥∥₁_map}
 use Rattle.std.proofs.Math.Seq.{drop-append_seam}
 use Rattle.std.specs.Prelude.{nat_eq, nat_le, ◌||◌, drop, if◌then◌else◌}
 use Rattle.std.specs.HashMap.{get, hash_map_len}
@@ -25,11 +25,12 @@ use Rattle.hc_model.specs.Beginnings.{may_begin}
 use Rattle.hc_model.specs.Denials.{denial}
 use Rattle.hc_model.specs.Entries.{Entry, History, Contents, no_contents}
 use Rattle.hc_model.specs.Flaws.{Flaw, NoFlaw, flaw_in}
+use Rattle.hc_model.specs.LettingGo.{AreSized}
 use Rattle.hc_model.specs.WithinLimits.{HasFieldsWithinLimits, HasTarget}
 use Rattle.hc_model.specs.Numbers.{AreShort}
 use Rattle.hc_model.specs.Rows.{Tables}
 use Rattle.hc_model.specs.Runs.{IsRun, IsOwed, may_stand, may_be}
-use Rattle.hc_model.specs.Tables.{tables, last_start_after, after, after_accepted, after_denied}
+use Rattle.hc_model.specs.Tables.{tables, last_start_after, received_in, after, after_accepted, after_denied}
 use Rattle.hc_laws.proofs.Barred.{next_tables, denied_tables}
 use Rattle.hc_laws.proofs.ChainRuns.{chains_in_runs}
 use Rattle.hc_laws.proofs.GivesStored.{gives_stored_in_runs}
@@ -44,9 +45,9 @@ use Rattle.hc_state.specs.Facts.{Facts}
 use Rattle.hc_state.specs.Good.{StandsUntil, StandsAt, rows_with_event}
 use Rattle.hc_on_leave.proofs.Gates.{denies_as}
 use Rattle.hc_on_leave.proofs.Sets.{acts_set}
-use Rattle.hc_core.proofs.Standing.{facts_of_runs}
+use Rattle.hc_core.proofs.Standing.{facts_of_runs, sized_of_any, sized_of_some}
 use Rattle.hc_state.proofs.Maps.{merely_below}
-use Rattle.hc_state.proofs.Words.{none_some}
+use Rattle.hc_state.proofs.Words.{more_received, none_received, none_some}
 use Rattle.hc_model.proofs.Undenied.{undenied}
 use Rattle.hc_core.proofs.Denying.{stands_denied, stands_begun}
 use Rattle.hc_core.specs.declared.cache.Cache.{Cache}
@@ -75,7 +76,7 @@ stands_beginning s moment last next count none unopened unawaited unkept order l
 
 pub begins_good : {B : Type 0} {g : Ghosts B} (r : Rows B g) → r.last_start ≡ 0 → next_of r.exchanges ≡ 1 → hash_map_len r.consumers ≡ 0 → ((c : ℕ) → get nat_eq r.consumers c ≡ None) → ((x : ℕ) → table_of r.exchanges x ≡ unknown) → ((key : List ℕ) → kept_of r.keys key ≡ nothing) → ((q : ℕ) → (shelf_of r.entries).kept q ≡ None) → (shelf_of r.entries).order ≡ [] → (shelf_of r.entries).limits ≡ r.limits → StandsAt r 0
 unfolding tables
-begins_good r last next count none unopened unawaited unkept order limits = (record { contents = no_contents; h = []; begins = begins r.limits; short = none_long; within_limits = tt; starts = tt; run = tt; rows = stands_begun r last next count none unopened unawaited unkept order limits }, refl)
+begins_good r last next count none unopened unawaited unkept order limits = (record { contents = no_contents; h = []; begins = begins r.limits; short = none_long; within_limits = tt; starts = tt; run = tt; received = none_received r.received; rows = stands_begun r last next count none unopened unawaited unkept order limits }, refl)
 
 -- WHAT COMES
 
@@ -121,6 +122,23 @@ small_after t e within_limits small = by_test (is_denied e.acts)
 small_next : (contents : Contents) (h : History) (e : Entry) → IsEventWithinLimits e.event → (tables contents h).last_start < 2 ^ 62 → (tables contents (e ∷ h)).last_start < 2 ^ 62
 unfolding tables
 small_next contents h e within_limits small = small_after (tables contents h) e within_limits small
+
+-- what a piece has is received
+received_after : (t : Tables) (e : Entry) → (after t e).received ≡ t.received + received_in e.event
+unfolding after
+received_after t e = by_test (is_denied e.acts)
+  where
+    by_test : (b : Bool) → (if b then after_denied t e else after_accepted t e).received ≡ t.received + received_in e.event
+    by_test true = refl
+    by_test false = refl
+
+received_next : (contents : Contents) (h : History) (e : Entry) → (tables contents (e ∷ h)).received ≡ (tables contents h).received + received_in e.event
+unfolding tables
+received_next contents h e = received_after (tables contents h) e
+
+-- a sum that is small has small parts
+pub small_part : {n : ℕ} (m : ℕ) → n + m < 2 ^ 61 → n < 2 ^ 61
+small_part m fits = omega (arith, fits)
 
 -- until its last moment
 pub until_at : {B : Type 0} {g : Ghosts B} (r : Rows B g) (moment : ℕ) → StandsAt r moment → StandsUntil r moment
@@ -179,8 +197,9 @@ one_counted faults after flaw false is caused never = omega (arith, never)
 
 module _ {B : Type 0} {g : Ghosts B} (r u : Rows B g) (now : ℕ) (ev : Event) (before out : List Act)
     (denied : (why : Refusal) → refusal_of (gate_of r ev) ev ≡ Some why → (u ≡ rows_with_event ev r) × (out ≡ before ++ act.Denied why ∷ []))
-    (answered : refusal_of (gate_of r ev) ev ≡ None → Answers r u before out now ev) (limits : u.limits ≡ r.limits) (never : (shelf_of r.entries).faults ≤ (shelf_of u.entries).faults) where
-  module _ (contents : Contents) (h : History) (begun : may_begin r.limits contents ≡ true) (short : AreShort contents) (run : IsRun r.limits contents h) (rows : RowsStand r (tables contents h)) (in_time : (tables contents h).moment ≤ now) where
+    (answered : refusal_of (gate_of r ev) ev ≡ None → Answers r u before out now ev) (limits : u.limits ≡ r.limits) (never : (shelf_of r.entries).faults ≤ (shelf_of u.entries).faults)
+    (small : r.received < 2 ^ 61) (counts : u.received ≡ r.received + received_in ev) where
+  module _ (contents : Contents) (h : History) (begun : may_begin r.limits contents ≡ true) (run : IsRun r.limits contents h) (sized : AreSized (tables contents h)) (rows : RowsStand r (tables contents h)) (in_time : (tables contents h).moment ≤ now) where
     abbrev t : Tables
     t = tables contents h
 
@@ -188,7 +207,7 @@ module _ {B : Type 0} {g : Ghosts B} (r u : Rows B g) (now : ℕ) (ev : Event) (
     with_acts acts = record { now = now; event = ev; acts = acts }
 
     facts : Facts r.limits t
-    facts = facts_of_runs r.limits contents h begun short run
+    facts = facts_of_runs r.limits contents h begun run sized
 
     -- whatever was owed, the rows stand for it
     stands_with : (acts : List Act) (after : Tables) → after ≡ tables contents (with_acts acts ∷ h) → after.moment ≡ now
@@ -229,7 +248,7 @@ module _ {B : Type 0} {g : Ghosts B} (r u : Rows B g) (now : ℕ) (ev : Event) (
     one_more = by_refusal (refusal_of (gate_of r ev) ev) refl
 
   abbrev some_more : (last : ℕ) → last ≤ now → (some : StandsUntil r last) → Told r u some.0.contents some.0.h before out now ev
-  some_more last later (s, until) = one_more s.contents s.h s.begins s.short s.run s.rows (omega (arith, later, until))
+  some_more last later (s, until) = one_more s.contents s.h s.begins s.run (sized_of_some r small s) s.rows (omega (arith, later, until))
 
   pub some_after : IsEventWithinLimits ev → (last : ℕ) → last ≤ now → StandsUntil r last → StandsAt u now
   some_after within_limits last later (s, until) =
@@ -242,6 +261,7 @@ module _ {B : Type 0} {g : Ghosts B} (r u : Rows B g) (now : ℕ) (ev : Event) (
           within_limits = (s.within_limits, within_limits_fields ev within_limits);
           starts = (s.starts, has_target ev within_limits);
           run = more.run;
+          received = more_received (received_in ev) counts (received_next s.contents s.h (record { now = now; event = ev; acts = acts_in before out })) s.received;
           rows = more.rows;
         },
         more.moment,
@@ -263,10 +283,12 @@ module _ {B : Type 0} {g : Ghosts B} (r u : Rows B g) (now : ℕ) (ev : Event) (
 module _ {B : Type 0} {g : Ghosts B} (s u : Cache B g) (now : ℕ) (ev : Event) (before out : List Act)
     (denied : (why : Refusal) → refusal_of (gate_of s.rows ev) ev ≡ Some why → (u.rows ≡ rows_with_event ev s.rows) × (out ≡ before ++ act.Denied why ∷ []))
     (answered : refusal_of (gate_of s.rows ev) ev ≡ None → Answers s.rows u.rows before out now ev)
-    (later : s.last_moment ≤ now) (moment : u.last_moment ≡ now) (limits : u.rows.limits ≡ s.rows.limits) (never : (shelf_of s.rows.entries).faults ≤ (shelf_of u.rows.entries).faults) where
-  stands_on : (contents : Contents) (h : History) → StandsFor s contents h → StandsFor u contents (record { now = now; event = ev; acts = acts_in before out } ∷ h)
-  stands_on contents h stands =
-      let more = (one_more s.rows u.rows now ev before out denied answered limits never contents h stands.begins stands.short stands.run stands.rows (subst (λ m. m ≤ now) stands.moment later)).more in
+    (later : s.last_moment ≤ now) (moment : u.last_moment ≡ now) (limits : u.rows.limits ≡ s.rows.limits) (never : (shelf_of s.rows.entries).faults ≤ (shelf_of u.rows.entries).faults)
+    (small : s.rows.received < 2 ^ 61) (counts : u.rows.received ≡ s.rows.received + received_in ev) where
+  stands_on : ∥ StandsUntil s.rows s.last_moment ∥₁ → (contents : Contents) (h : History) → StandsFor s contents h → StandsFor u contents (record { now = now; event = ev; acts = acts_in before out } ∷ h)
+  stands_on some contents h stands =
+      let sized = sized_of_any s.rows contents h small (∥∥₁_map some (λ until. until.0)) stands.begins stands.run stands.rows in
+      let more = (one_more s.rows u.rows now ev before out denied answered limits never small counts contents h stands.begins stands.run sized stands.rows (subst (λ m. m ≤ now) stands.moment later)).more in
       record {
         begins = more.begins;
         short = stands.short;
@@ -278,11 +300,11 @@ module _ {B : Type 0} {g : Ghosts B} (s u : Cache B g) (now : ℕ) (ev : Event) 
   pub steps_on : ∥ StandsUntil s.rows s.last_moment ∥₁ → Steps s u before out now ev
   steps_on some = record {
     acts = acts_in before out;
-    told = told_after s.rows u.rows now ev before out denied answered limits never s.last_moment later some;
+    told = told_after s.rows u.rows now ev before out denied answered limits never small counts s.last_moment later some;
     answered = record {
       limits = limits;
-      stands = stands_on;
-      counted = counted_after s.rows u.rows now ev before out denied answered limits never s.last_moment later some;
+      stands = stands_on some;
+      counted = counted_after s.rows u.rows now ev before out denied answered limits never small counts s.last_moment later some;
     };
   }
 

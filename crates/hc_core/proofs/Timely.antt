@@ -6,25 +6,25 @@ use Rattle.hc_store.specs.declared.backend.Backend.{Ghosts}
 use Rattle.hc_exch.specs.declared.row.Open.{Open}
 use Rattle.hc_exch.specs.Exchanges.{table_of}
 use Rattle.hc_model.specs.Rows.{Tables}
+use Rattle.hc_model.specs.StoredHeads.{StoredHeads}
 use Rattle.hc_model.specs.Tables.{tables}
 use Rattle.hc_state.specs.declared.rows.Rows.{Rows}
-use Rattle.hc_state.specs.Facts.{Facts}
 use Rattle.hc_state.specs.Good.{StandsUntil}
 use Rattle.hc_state.specs.Heads.{IsTimely}
 use Rattle.hc_state.specs.Stands.{RowsStand}
 use Rattle.hc_on_leave.proofs.HeardRows.{heard_row}
-use Rattle.hc_core.proofs.Standing.{facts_of_runs}
+use Rattle.hc_laws.proofs.StoredHeadsKeep.{heads_in_runs}
 
 module _ {B : Type 0} {g : Ghosts B} (r : Rows B g) (x : ℕ) (o : Open) (running : (table_of r.exchanges x).running ≡ Some o) where
-  opened_by : (t : Tables) (now : ℕ) → Facts r.limits t → RowsStand r t → t.moment ≤ now → o.moment ≤ now
-  opened_by t now facts stands until =
+  opened_by : (t : Tables) (now : ℕ) → StoredHeads t → RowsStand r t → t.moment ≤ now → o.moment ≤ now
+  opened_by t now heads stands until =
       let row = heard_row r t x o stands running in
-      let opened = facts.heads.opened x row.w row.row in
+      let opened = heads.opened x row.w row.row in
       let same = row.is.moment in
       omega (arith, opened, same, until)
 
   pub since : (now : ℕ) → StandsUntil r now → o.moment ≤ now
-  since now (s, until) = opened_by (tables s.contents s.h) now (facts_of_runs r.limits s.contents s.h s.begins s.short s.run) s.rows until
+  since now (s, until) = opened_by (tables s.contents s.h) now (heads_in_runs r.limits s.contents s.h s.begins s.run) s.rows until
 
 pub timely : {B : Type 0} {g : Ghosts B} (r : Rows B g) (x now : ℕ) → now < 2 ^ 62 → ∥ StandsUntil r now ∥₁ → IsTimely now (table_of r.exchanges x).running
 timely r x now early some o running = record { later = ∥∥₁_elim some le_prop (λ until. since r x o running now until); small = early }

@@ -1,5 +1,5 @@
 -- A cache stands for a history, and its step for one entry more.
-use Rattle.std.specs.Prelude.{◌≡◌, ℕ, ◌+◌, ◌≤◌, List, ◌∷◌, ◌++◌, Bool, true, if◌then◌else◌}
+use Rattle.std.specs.Prelude.{◌≡◌, ℕ, ◌+◌, ◌≤◌, List, ◌∷◌, ◌++◌, Bool, true}
 use Rattle.std.specs.HashMap.{hash_map_len}
 use Rattle.hc_store.specs.declared.backend.Backend.{Ghosts}
 use Rattle.hc_event.specs.declared.event.Event.{Event}
@@ -17,7 +17,7 @@ use Rattle.hc_model.specs.Numbers.{AreShort}
 use Rattle.hc_model.specs.Reads.{GivesStored}
 use Rattle.hc_model.specs.Runs.{IsRun}
 use Rattle.hc_model.specs.Tables.{tables}
-use Rattle.hc_state.specs.Stands.{RowsStand, most_before}
+use Rattle.hc_state.specs.Stands.{RowsStand}
 use Rattle.hc_core.specs.declared.cache.Cache.{Cache}
 
 -- WHAT A CACHE HAS
@@ -57,14 +57,13 @@ pub record StandsFor {B : Type 0} {g : Ghosts B} (s : Cache B g) (contents : Con
   pub moment : s.last_moment ≡ (tables contents h).moment
   pub rows : RowsStand s.rows (tables contents h)
 
--- The cache stands for each run that leaves these contents, with nobody live, and in which pieces had no more bytes than may
--- have come before: whatever such a cache began with, and whatever happened to it.
+-- The cache stands for each run that leaves these contents, with nobody live: whatever such a cache began with, whatever
+-- happened to it, and however many bytes came.
 abbrev pub ServesAll : {B : Type 0} {g : Ghosts B} → Cache B g → Contents → Type 0
 ServesAll s contents =
     (before : Contents) (h : History) → may_begin s.rows.limits before ≡ true → AreShort before →
     IsRun s.rows.limits before h → live (tables before h) ≡ 0 →
-    contents_of (tables before h) ≡ contents → (tables before h).received ≤ most_before →
-    StandsFor s before h
+    contents_of (tables before h) ≡ contents → StandsFor s before h
 
 -- The acts are those of one entry more, and the cache stands for that. They tell no failure of the
 -- store but one that it counted.

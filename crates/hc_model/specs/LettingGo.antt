@@ -1,5 +1,5 @@
 -- What it takes to let representations go, one after another, and which give way to a write.
-use Rattle.std.specs.Prelude.{◌≡◌, ℕ, List, [], length, take, map, true, false, Option, Some, None, is_some, ◌==◌, ◌||◌, not, if◌then◌else◌}
+use Rattle.std.specs.Prelude.{◌≡◌, ◌≢◌, ℕ, List, [], length, take, map, true, false, Option, Some, None, is_some, ◌==◌, ◌||◌, not, if◌then◌else◌}
 use Rattle.std.specs.List.{sum_by}
 use Rattle.hc_sparse.specs.Cells.{size}
 use Rattle.hc_rules.specs.declared.room.Limits.{Limits}
@@ -61,10 +61,20 @@ first_idle t _ = []
 abbrev pub giving_way : Limits → Tables → Write → List ℕ
 giving_way limits t write = first_idle t (room_now limits t write)
 
--- And what is used or founded stands once in its list, and of each as many bytes are stored as
--- it says.
+-- it isn't gone, or somebody is bound to it
+abbrev pub IsInUse : Tables → ℕ → Representation → Type 0
+IsInUse t r v = v.is_gone ≡ true → bound t r ≢ []
+
+-- of each that is in use as many bytes are stored as it says
+abbrev pub AreSized : Tables → Type 0
+AreSized t =
+    (r : ℕ) (v : Representation) → t.representation r ≡ Some v → IsInUse t r v →
+    v.size ≡ size v.stored
+
+-- And what is used or founded stands once in its list, and of what is in use as many bytes are stored
+-- as it says.
 pub record MayMakeRoom (t : Tables) : Type 0 where
   pub may : MayLetGo t
   pub used : AreOnce t.used
   pub founded : AreOnce t.founded
-  pub sized : (r : ℕ) (v : Representation) → t.representation r ≡ Some v → v.size ≡ size v.stored
+  pub sized : AreSized t

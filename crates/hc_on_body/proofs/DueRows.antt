@@ -1,8 +1,8 @@
 -- A failure becomes due to some consumers: what is kept stands for the tables in which it is.
-use Rattle.std.proofs.Common.{◌≡◌, ℕ, List, [], Bool, true, false, Option, Some, None, refl, ap, sym, ◌∙◌, subst}
-use Rattle.std.specs.Prelude.{is_some, nat_eq, bytes_eq, drop, option_map, ◌&&◌, ◌==◌, if◌then◌else◌}
+use Rattle.std.proofs.Common.{◌≡◌, ℕ, List, Bool, true, false, Option, Some, None, refl, ap, sym, ◌∙◌, subst}
+use Rattle.std.specs.Prelude.{is_some, nat_eq, bytes_eq, option_map, ◌&&◌, if◌then◌else◌}
 use Rattle.std.specs.Option.{option_or}
-use Rattle.std.specs.HashMap.{get, hash_map_len}
+use Rattle.std.specs.HashMap.{get}
 use Rattle.hc_store.specs.declared.backend.Backend.{Ghosts}
 use Rattle.hc_event.specs.declared.act.Cause.{Cause}
 use Rattle.hc_stored.specs.Entries.{shelf_of}
@@ -12,7 +12,7 @@ use Rattle.hc_event.specs.declared.place.Place.{Place}
 use Rattle.hc_event.specs.declared.place.Place.TheVariants as place
 use Rattle.hc_event.specs.declared.place.BoundBy.TheVariants as by
 use Rattle.hc_model.specs.Currents.{current}
-use Rattle.hc_model.specs.Denials.{is_live, live}
+use Rattle.hc_model.specs.Denials.{is_live}
 use Rattle.hc_model.specs.Effects.{failing}
 use Rattle.hc_model.specs.Exchanges.{family}
 use Rattle.hc_model.specs.LettingGo.{MayLetGo}
@@ -32,7 +32,7 @@ use Rattle.hc_state.proofs.FallbackSteps.{live_same}
 use Rattle.hc_state.proofs.Fallbacks.{unstored_moved}
 use Rattle.hc_state.proofs.OneOfEach.{entries_same}
 use Rattle.hc_state.proofs.Ties.{consumer_same, exchange_same, key_same, kept_same}
-use Rattle.hc_state.proofs.Words.{none_some, some_is, as_received}
+use Rattle.hc_state.proofs.Words.{none_some, some_is}
 
 module _ (t : Tables) (among : ℕ → Bool) (why : Cause) where
   abbrev pub s : Tables
@@ -156,7 +156,6 @@ stands_due r u t among why stands limits received last exchanges same_keys same_
     let z : Tables = with_consumers (due_for t among why) t in
     record {
       limits = rw (same_entries, limits) stands.limits;
-      received = as_received received stands.received;
       last_start = last ∙ stands.last_start;
       next = ap (λ e. next_of e) exchanges ∙ stands.next;
       count = changes.len ∙ (stands.count ∙ sym (live_same t z refl (told_same t among why is_live (λ k. refl))));

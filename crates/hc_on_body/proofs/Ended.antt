@@ -1,6 +1,6 @@
 -- An exchange ended cleanly, where it promised a length: what is kept stands for that as for one that is closed.
-use Rattle.std.proofs.Common.{◌≡◌, ℕ, ◌+◌, ◌-◌, List, [], length, Bool, true, false, Option, Some, None, refl, ap, sym, ◌∙◌, subst}
-use Rattle.std.specs.Prelude.{is_some, nat_eq, bytes_eq, drop, option_map, ◌==◌, ◌&&◌, if◌then◌else◌}
+use Rattle.std.proofs.Common.{◌≡◌, ℕ, ◌+◌, ◌-◌, List, [], length, Bool, true, false, Option, Some, None, refl, ap, sym, ◌∙◌}
+use Rattle.std.specs.Prelude.{nat_eq, bytes_eq, drop, ◌==◌, ◌&&◌, if◌then◌else◌}
 use Rattle.std.specs.HashMap.{get}
 use Rattle.hc_store.specs.declared.backend.Backend.{Ghosts}
 use Rattle.hc_event.specs.declared.event.Response.{Response}
@@ -9,21 +9,20 @@ use Rattle.hc_stored.specs.Entries.{shelf_of}
 use Rattle.hc_entry.specs.Keys.{kept_of}
 use Rattle.hc_exch.specs.declared.row.Open.{Open}
 use Rattle.hc_exch.specs.Exchanges.{table_of}
-use Rattle.hc_exch.specs.Known.{Known}
 use Rattle.hc_event.specs.declared.place.Place.{Place}
 use Rattle.hc_event.specs.declared.place.Place.TheVariants as place
 use Rattle.hc_event.specs.declared.place.BoundBy.TheVariants as by
 use Rattle.hc_model.specs.Currents.{current, is_number}
 use Rattle.hc_model.specs.Effects.{over, at_end}
-use Rattle.hc_model.specs.Exchanges.{base, front, family, promised_bytes, is_open, is_headless, length_by}
+use Rattle.hc_model.specs.Exchanges.{base, family, promised_bytes, is_headless, length_by}
 use Rattle.hc_model.specs.Holes.{absent_from}
 use Rattle.hc_model.specs.Kinds.{brings_to}
-use Rattle.hc_model.specs.Reading.{bound, offset, is_bound_place, base_in, end_in, end_of_direct}
+use Rattle.hc_model.specs.Reading.{offset, is_bound_place, base_in, end_in, end_of_direct}
 use Rattle.hc_model.specs.Rows as rows
 use Rattle.hc_model.specs.Rows.{Tables, Exchange, Representation}
 use Rattle.hc_state.specs.Stored.{is_over}
 use Rattle.hc_state.specs.declared.rows.Rows.{Rows}
-use Rattle.hc_state.specs.Kept.{KeepsConsumer, KeepsExchange, KeepsRunning, head_in, held_for, held_of, held_alone, unread, unstored_bytes}
+use Rattle.hc_state.specs.Kept.{KeepsRunning, head_in, held_for, held_of, held_alone, unstored_bytes}
 use Rattle.hc_state.specs.Lines.{is_away, is_away_at}
 use Rattle.hc_state.specs.Stands.{RowsStand}
 use Rattle.hc_state.proofs.Fallbacks.{same, held_alike}
@@ -132,7 +131,6 @@ module _ {B : Type 0} {g : Ghosts B} (u : Rows B g) (t : Tables) (f : ℕ → Op
       let after : Tables = with_end x w f t in
       record {
         limits = stands.limits;
-        received = stands.received;
         last_start = stands.last_start;
         next = stands.next;
         count = stands.count;

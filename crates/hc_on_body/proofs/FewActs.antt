@@ -1,5 +1,5 @@
 -- The acts of what gives way to a piece fit: two at most give way to a small one.
-use Rattle.std.proofs.Common.{◌≡◌, ℕ, ◌+◌, ◌<◌, ◌≤◌, ◌^◌, refl, sym, ◌∙◌, arith}
+use Rattle.std.proofs.Common.{◌≡◌, ℕ, ◌<◌, ◌≤◌, ◌^◌, refl, sym, ◌∙◌, arith}
 use Rattle.std.proofs.Math.Bridge.{le_prop}
 use Rattle.std.proofs.Math.Logic.{∥∥₁_elim}
 use Rattle.hc_store.specs.declared.backend.Backend.{Ghosts}
@@ -13,14 +13,13 @@ use Rattle.hc_state.specs.Room.{HasActs, LeavesActs, room_for_write}
 use Rattle.hc_state.specs.Stands.{Stands}
 use Rattle.hc_on_leave.proofs.PieceRoom.{may_make_room}
 use Rattle.hc_state.proofs.Rooms.{room_is}
-use Rattle.hc_state.proofs.Words.{few_received}
 
 module _ {B : Type 0} {g : Ghosts B} (r : Rows B g) (w : Write) (small : grown_by w ≤ 65536) where
   few_for : (count : ℕ) → room_for_write r w ≡ room.After count → r.received < 2 ^ 61 → Stands r → count ≤ 2
   few_for count is short s =
       let t = s.t in
       let facts = s.facts in
-      let may = may_make_room t facts (few_received s.rows.received short) in
+      let may = may_make_room t facts in
       two_give_way r.limits t w count facts.fits small (sym (room_is r t may s.rows w) ∙ is)
 
   pub few_acts : r.received < 2 ^ 61 → ∥ Stands r ∥₁ → (count : ℕ) → room_for_write r w ≡ room.After count → count ≤ 2

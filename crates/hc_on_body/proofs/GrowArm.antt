@@ -1,7 +1,7 @@
 -- The store refuses a piece: it is lost, who can goes on with it, and that is answered.
-use Rattle.std.proofs.Common.{◌≡◌, ℕ, ◌+◌, ◌<◌, ◌≤◌, ◌^◌, List, [], ◌∷◌, ◌++◌, length, Bool, true, false, Option, Some, None, refl, ap, sym, ◌∙◌, subst, arith}
+use Rattle.std.proofs.Common.{◌≡◌, ℕ, ◌+◌, ◌≤◌, List, [], ◌∷◌, ◌++◌, length, Bool, true, false, Option, Some, None, refl, ap, sym, ◌∙◌, subst, arith}
 use Rattle.std.proofs.lemmas.List.{append_assoc}
-use Rattle.std.specs.Prelude.{is_some, is_none, map, nat_eq, option_map, ◌&&◌, ◌==◌, if◌then◌else◌}
+use Rattle.std.specs.Prelude.{is_some, map, option_map, ◌&&◌, ◌==◌}
 use Rattle.hc_store.specs.declared.backend.Backend.{Ghosts}
 use Rattle.hc_event.specs.declared.act.Act.{Act}
 use Rattle.hc_event.specs.declared.act.Act.TheVariants as act
@@ -10,16 +10,14 @@ use Rattle.hc_event.specs.declared.act.LostKind.TheVariants as kinds
 use Rattle.hc_event.specs.declared.event.Event.{Event}
 use Rattle.hc_event.specs.declared.event.Event.TheVariants as event
 use Rattle.hc_stored.specs.Entries.{shelf_of}
-use Rattle.hc_exch.specs.Exchanges.{table_of}
 use Rattle.hc_event.specs.declared.place.Place.{Place}
 use Rattle.hc_event.specs.declared.place.Place.TheVariants as place
 use Rattle.hc_event.specs.declared.place.BoundBy.{BoundBy}
-use Rattle.hc_model.specs.Currents.{is_number}
 use Rattle.hc_model.specs.Denials.{denial}
 use Rattle.hc_model.specs.Effects.{Does, all_closed, back_from, as_gone, if_bound, left_with, let_all_go, lost_to, unless_reached}
 use Rattle.hc_model.specs.ExchangeRows.{with_piece}
 use Rattle.hc_model.specs.Exchanges.{family, front}
-use Rattle.hc_model.specs.Flaws.{Flaw, Loses, flaw_in}
+use Rattle.hc_model.specs.Flaws.{Loses, flaw_in}
 use Rattle.hc_model.specs.Keys.{entry_of}
 use Rattle.hc_model.specs.LettingGo.{MayLetGo}
 use Rattle.hc_model.specs.Reading.{is_bound, is_bound_place, is_written, offset}
@@ -28,7 +26,7 @@ use Rattle.hc_model.specs.Rows.{Tables, Exchange, Representation}
 use Rattle.hc_model.specs.Runs.{may_lose}
 use Rattle.hc_model.specs.Sound as sound
 use Rattle.hc_model.specs.Sound.{IsExclusiveWriter, IsBound}
-use Rattle.hc_model.specs.Weights.{evicted, room_for}
+use Rattle.hc_model.specs.Weights.{evicted}
 use Rattle.hc_model.specs.Writers.{exclusive, has_more, offset_in, survivor}
 use Rattle.hc_model.specs.Writes.{written_representation}
 use Rattle.hc_laws.proofs.Exclusives.{exclusive_parts}
@@ -43,20 +41,19 @@ use Rattle.hc_state.specs.declared.rows.Rows.{Rows}
 use Rattle.hc_state.specs.Facts.{Facts}
 use Rattle.hc_state.specs.DetachedReaders.{MayLoseShared, shared_loss}
 use Rattle.hc_state.specs.Kept.{held_alone, unstored_bytes}
-use Rattle.hc_state.specs.Leaving.{writing_of}
-use Rattle.hc_state.specs.Refused.{Brings, GoesOn, MayHold, MayLoseOwn, MayLosePiece, LosesPiece, Refuses, brought_lost, closes_with, own_loss}
+use Rattle.hc_state.specs.Refused.{Brings, MayHold, MayLoseOwn, MayLosePiece, LosesPiece, Refuses, brought_lost, closes_with, own_loss}
 use Rattle.hc_state.specs.Stands.{Answered, RowsStand}
 use Rattle.hc_model.specs.Flaws.{is_fault}
 use Rattle.hc_state.specs.Stopped.{HoldsNothing}
 use Rattle.hc_state.proofs.Fallbacks.{unstored_moved}
-use Rattle.hc_on_leave.proofs.FoundArm.{make_gone}
+use Rattle.hc_on_leave.proofs.FoundArm.{bound_back, make_gone}
 use Rattle.hc_on_leave.proofs.LoseAlone.{holds_none}
-use Rattle.hc_on_leave.proofs.LoseTurn.{writes_it, grows, unwritten, survivor_same}
+use Rattle.hc_on_leave.proofs.LoseTurn.{survivor_same}
 use Rattle.hc_on_body.proofs.LostPiece.{Owner, owner, owner_within, absent, reached, brought_some}
 use Rattle.hc_on_body.proofs.LostTables.{own_tables, open_tables, fails_tables}
 use Rattle.hc_on_leave.proofs.PieceArm.{open_unended}
 use Rattle.hc_on_leave.proofs.PieceRoom.{may_make_room, gives_same, spared}
-use Rattle.hc_on_leave.proofs.StoreArm.{Stores, bound_back}
+use Rattle.hc_on_leave.proofs.StoreArm.{Stores}
 use Rattle.hc_state.proofs.Words.{eqb-same, false_true, some_is, then_false}
 
 -- the acts show what is lost
@@ -68,7 +65,7 @@ flaw_closes q kind xs (r ∷ rs) = flaw_closes q kind xs rs
 still : (now : ℕ) (es : List ℕ) (k : rows.Consumer) (q lo : ℕ) (hi : Option ℕ) (how : BoundBy) → k.place ≡ place.Bound q lo hi how → back_from_any now es k ≡ k
 still now es k q lo hi how at = rw at refl
 
-module _ {B : Type 0} {g : Ghosts B} (r put : Rows B g) (t : Tables) (facts : Facts r.limits t) (stands : RowsStand r t) (small : t.received < 2 ^ 62) (now x q : ℕ) (bytes : List ℕ) (goes : denial t (event.Piece x bytes) ≡ None) (it : Stores t x q (length bytes)) (kind : LostKind) (before mid : List Act) (refuses : Refuses r put t now x bytes kind before mid) where
+module _ {B : Type 0} {g : Ghosts B} (r put : Rows B g) (t : Tables) (facts : Facts r.limits t) (stands : RowsStand r t) (now x q : ℕ) (bytes : List ℕ) (goes : denial t (event.Piece x bytes) ≡ None) (it : Stores t x q (length bytes)) (kind : LostKind) (before mid : List Act) (refuses : Refuses r put t now x bytes kind before mid) where
   abbrev ev : Event
   ev = event.Piece x bytes
 
@@ -109,7 +106,7 @@ module _ {B : Type 0} {g : Ghosts B} (r put : Rows B g) (t : Tables) (facts : Fa
   row_left = ap (λ (z : Tables). z.exchange x) left_is ∙ it.row
 
   may_left : MayLetGo left
-  may_left = (make_gone now es t (may_make_room t facts small)).may
+  may_left = (make_gone now es t (may_make_room t facts)).may
 
   nobody : v.alone ≡ None
   nobody = (facts.law.sound.rows q v there).store.nobody_alone it.fresh

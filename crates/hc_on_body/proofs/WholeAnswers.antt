@@ -1,9 +1,9 @@
 -- An exchange that ends, whose head told no length, is answered.
-use Rattle.std.proofs.Common.{◌≡◌, ◌≢◌, inl, inr, ℕ, ◌+◌, ◌<◌, ◌≤◌, ◌^◌, List, [], ◌∷◌, ◌++◌, length, Bool, true, false, Option, Some, None, refl, ap, sym, ◌∙◌, subst, arith}
+use Rattle.std.proofs.Common.{◌≡◌, ◌≢◌, inl, inr, ℕ, ◌<◌, ◌≤◌, ◌^◌, List, [], ◌∷◌, length, Bool, true, false, Option, Some, None, refl, ap, sym, ◌∙◌, subst, arith}
 use mathlib.Core.Path.{fun_ext}
 use Rattle.std.proofs.lemmas.Bool.Decides.{nat_tests}
 use Rattle.std.proofs.lemmas.List.{append-nil}
-use Rattle.std.specs.Prelude.{is_some, nat_eq, filter, option_map, ◌==◌, ◌||◌, ◌&&◌, if◌then◌else◌}
+use Rattle.std.specs.Prelude.{is_some, nat_eq, option_map, ◌==◌, ◌||◌, ◌&&◌, if◌then◌else◌}
 use Rattle.std.specs.Option.{option_or}
 use Rattle.hc_store.specs.declared.backend.Backend.{Ghosts}
 use Rattle.hc_event.specs.declared.act.Act.{Act}
@@ -19,7 +19,6 @@ use Rattle.hc_sparse.specs.Cells.{Cell, Covers, EndsBy}
 use Rattle.hc_stored.specs.Entries.{shelf_of}
 use Rattle.hc_stored.specs.Kept as entry
 use Rattle.hc_stored.specs.Kept.{Kept, itself}
-use Rattle.hc_stored.specs.Shelf.{Shelf}
 use Rattle.hc_stored.specs.Views.{bound_in}
 use Rattle.hc_exch.specs.Exchanges as exch
 use Rattle.hc_exch.specs.Exchanges.{table_of}
@@ -35,16 +34,15 @@ use Rattle.hc_model.specs.Gone.{is_short, stops_early}
 use Rattle.hc_model.specs.Growing.{Grows, IsComing}
 use Rattle.hc_model.specs.Kinds.{is_growing, brings_to}
 use Rattle.hc_model.specs.Lawful.{Lawful}
-use Rattle.hc_model.specs.LettingGo.{MayLetGo}
 use Rattle.hc_model.specs.Measures.{IsMeasured, told, untold}
-use Rattle.hc_model.specs.Reading.{bound, is_bound, is_bound_place, is_written}
+use Rattle.hc_model.specs.Reading.{bound, is_bound, is_bound_place}
 use Rattle.hc_model.specs.RepresentationRows.{with_total_if_none}
 use Rattle.hc_model.specs.Rows as rows
 use Rattle.hc_model.specs.Rows.{Tables, Exchange, Representation}
 use Rattle.hc_model.specs.Sound as sound
 use Rattle.hc_model.specs.Sound.{IsAbout, Among, OneCurrent}
 use Rattle.hc_model.specs.Whose as whose
-use Rattle.hc_model.specs.Writes.{written_representation, sealed_representation}
+use Rattle.hc_model.specs.Writes.{written_representation}
 use Rattle.hc_model.specs.Writers.{exclusive, status_in}
 use Rattle.hc_laws.proofs.LettingGo.{may_let_go, bound_let_go}
 use Rattle.hc_laws.proofs.StopEffects as past_effects
@@ -58,7 +56,7 @@ use Rattle.hc_state.specs.Stands.{Answered, RowsStand}
 use Rattle.hc_state.specs.Stopped as stopped
 use Rattle.hc_state.specs.Stopped.{SealedWhole, NobodyAwaits}
 use Rattle.hc_state.specs.Stops.{brought_by}
-use Rattle.hc_state.specs.Stored.{KeepsEntry, KeepsEntries, IsEntry}
+use Rattle.hc_state.specs.Stored.{KeepsEntry}
 use Rattle.hc_state.proofs.Answering.{does_answered, lossy_answered}
 use Rattle.hc_on_body.proofs.CameAlone.{NobodyFirst, nobody_first, nobody_first_go}
 use Rattle.hc_state.proofs.CloseArm.{unread_go, unawaited_go}
@@ -70,7 +68,7 @@ use Rattle.hc_state.proofs.SealWritten.{sealed_lasting}
 use Rattle.hc_on_body.proofs.StopArm.{none_alone}
 use Rattle.hc_state.proofs.Stopping.{head_there, brought_some, brought_none}
 use Rattle.hc_on_body.proofs.WholeEnds.{stands_whole, entries_whole, gone_longer, sealed_longer, stands_past}
-use Rattle.hc_state.proofs.Words.{same_or, eqb-same, eqb-other, then_false, none_some, false_true, some_is, same_row, few_received}
+use Rattle.hc_state.proofs.Words.{same_or, eqb-same, eqb-other, then_false, none_some, false_true, some_is, same_row}
 
 -- A FAILURE THAT NONE IS
 
@@ -413,8 +411,7 @@ module _ {B : Type 0} {g : Ghosts B} (r : Rows B g) (t : Tables) (facts : Facts 
       by_kept v there about_it None dropped = absurd (facts.law.whose.unread q x v there dropped.unused about_it)
       by_kept v there about_it (Some e) is_it = refl
 
-  pub delivered_short : (n : ℕ) → n ≡ length w.body → n < 2 ^ 62
-  delivered_short n is =
+  pub delivered_short : t.received < 2 ^ 62 → (n : ℕ) → n ≡ length w.body → n < 2 ^ 62
+  delivered_short counts n is =
       let le : length w.body ≤ t.received = facts.law.places.received x w row in
-      let counts = few_received stands.received small in
       omega arith

@@ -1,14 +1,14 @@
 -- An exchange ends whose head told no length: what came is all. What is kept stands for that.
-use Rattle.std.proofs.Common.{◌≡◌, ◌≢◌, inl, inr, ℕ, ◌+◌, ◌-◌, ◌<◌, ◌≤◌, List, [], length, Bool, true, false, Option, Some, None, refl, ap, sym, ◌∙◌, subst, arith}
+use Rattle.std.proofs.Common.{◌≡◌, ◌≢◌, inl, inr, ℕ, List, length, Bool, true, false, Option, Some, None, refl, ap, sym, ◌∙◌, subst, arith}
 use Rattle.std.proofs.lemmas.Bool.Decides.{nat_tests}
-use Rattle.std.specs.Prelude.{is_some, nat_eq, filter, option_map, not, ◌&&◌, ◌==◌, if◌then◌else◌}
+use Rattle.std.specs.Prelude.{is_some, nat_eq, filter, option_map, if◌then◌else◌}
 use Rattle.std.specs.Option.{option_or}
-use Rattle.std.specs.HashMap.{get, hash_map_len}
+use Rattle.std.specs.HashMap.{get}
 use Rattle.hc_store.specs.declared.backend.Backend.{Ghosts}
 use Rattle.hc_event.specs.declared.event.Response.{Response}
 use Rattle.hc_record.specs.declared.kind.Kind.TheVariants as kinds
 use Rattle.hc_record.specs.Head.{Head, sealed_head}
-use Rattle.hc_sparse.specs.Cells.{Cell, Covers, EndsBy}
+use Rattle.hc_sparse.specs.Cells.{Covers, EndsBy}
 use Rattle.hc_stored.specs.Entries.{shelf_of}
 use Rattle.hc_stored.specs.Kept as entry
 use Rattle.hc_stored.specs.Kept.{Kept}
@@ -24,9 +24,7 @@ use Rattle.hc_event.specs.declared.place.Place.TheVariants as place
 use Rattle.hc_event.specs.declared.place.BoundBy.{BoundBy}
 use Rattle.hc_model.specs.Currents.{current, is_number, is_usable, total_in}
 use Rattle.hc_model.specs.Effects.{at_end, with_exchange, with_length}
-use Rattle.hc_model.specs.Exchanges.{base, front, family, promised_bytes}
-use Rattle.hc_model.specs.Growing.{Grows}
-use Rattle.hc_model.specs.Holes.{covers}
+use Rattle.hc_model.specs.Exchanges.{family, promised_bytes}
 use Rattle.hc_model.specs.Kinds.{kind_of, is_growing, is_complete, covers_all, brings_to}
 use Rattle.hc_model.specs.Lawful.{Lawful}
 use Rattle.hc_model.specs.Reading.{bound, is_bound, is_bound_place, base_in, end_in, end_of_direct, lo_of, hi_of}
@@ -48,12 +46,11 @@ use Rattle.hc_state.proofs.Fallbacks.{unstored_moved}
 use Rattle.hc_on_body.proofs.BreakArm.{closed_is}
 use Rattle.hc_on_body.proofs.CameAlone.{NobodyFirst}
 use Rattle.hc_state.proofs.Closing.{exchange_closed, key_closed, entries_closed}
-use Rattle.hc_on_body.proofs.Ended.{with_over, with_end, told_alike, runs_end, held_end, away_end, base_end, promise_end}
+use Rattle.hc_on_body.proofs.Ended.{with_over, told_alike, runs_end, held_end, away_end, base_end, promise_end}
 use Rattle.hc_state.proofs.Losing.{finds_same, filters_same}
 use Rattle.hc_state.proofs.OneOfEach.{first_by, growing_same, kind_same, entries_same}
-use Rattle.hc_state.proofs.SealArm.{any_none, nothing_else}
 use Rattle.hc_state.proofs.Ties.{entry_same, exchange_same, key_same, kept_same, put_over, writer_then}
-use Rattle.hc_state.proofs.Words.{same_or, eqb-same, eqb-other, then_false, none_some, false_true, same_row, as_received}
+use Rattle.hc_state.proofs.Words.{same_or, eqb-same, eqb-other, then_false, none_some, false_true, same_row}
 
 eq_tells : (a b : ℕ) → nat_eq a b ≡ true → a ≡ b
 eq_tells a b is = grind (arith, nat_tests, is)
@@ -294,7 +291,6 @@ module _ {B : Type 0} {g : Ghosts B} (r u : Rows B g) (t : Tables) (x : ℕ) (w 
   pub stands_whole : KeepsEntries whole (shelf_of u.entries) → RowsStand u whole
   stands_whole entries = record {
     limits = bounded ∙ (stands.limits ∙ sym limits);
-    received = as_received received stands.received;
     last_start = last ∙ stands.last_start;
     next = becomes.next ∙ stands.next;
     count = knows.len ∙ stands.count;
@@ -397,7 +393,6 @@ module _ {B : Type 0} {g : Ghosts B} (r u : Rows B g) (t : Tables) (law : Lawful
   pub stands_past : RowsStand u past
   stands_past = record {
     limits = ap (λ e. (shelf_of e).limits) entries ∙ (stands.limits ∙ sym limits);
-    received = as_received received stands.received;
     last_start = last ∙ stands.last_start;
     next = becomes.next ∙ stands.next;
     count = knows.len ∙ stands.count;

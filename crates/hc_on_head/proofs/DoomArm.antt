@@ -1,8 +1,7 @@
 -- A key is doomed: what is kept stands for the tables in which whoever waits has started over, what that waited for is over, and what
 -- was current is let go.
 use Rattle.std.proofs.Common.{◌≡◌, inl, inr, ℕ, List, ◌++◌, Bool, true, false, Option, Some, None, refl, ap, sym, ◌∙◌, subst}
-use Rattle.std.specs.Prelude.{IfSome, is_some, nat_eq, bytes_eq, not, map, option_map, unwrap_or, ◌==◌, ◌&&◌, ◌||◌, if◌then◌else◌}
-use Rattle.std.specs.HashMap.{get, hash_map_len}
+use Rattle.std.specs.Prelude.{IfSome, is_some, nat_eq, bytes_eq, map, option_map, unwrap_or, ◌&&◌, ◌||◌, if◌then◌else◌}
 use Rattle.hc_store.specs.declared.backend.Backend.{Ghosts}
 use Rattle.hc_event.specs.declared.act.Act.{Act}
 use Rattle.hc_event.specs.declared.act.Act.TheVariants as act
@@ -47,7 +46,7 @@ use Rattle.hc_on_head.proofs.DoomTies.{s, exchange_is, over_row, line_row, same_
 use Rattle.hc_state.proofs.OneOfEach.{first_row, bound_same, growing_same, kind_same}
 use Rattle.hc_state.proofs.Ties.{entry_same, key_same, overs_closed}
 use Rattle.hc_on_head.proofs.Woken.{stands_for, Stood, nobody, back, beside, stays, stood, waiting_lives, bytes-flip}
-use Rattle.hc_state.proofs.Words.{same_or, eqb-other, none_some, some_is, same_row, false_true, then_false, and_false, as_received}
+use Rattle.hc_state.proofs.Words.{same_or, eqb-other, none_some, some_is, same_row, false_true, then_false, and_false}
 
 or_offs : (a b d : Bool) → (a || b || d) ≡ false → (a ≡ false) × ((b ≡ false) × (d ≡ false))
 or_offs false false d off = (refl, (refl, off))
@@ -307,7 +306,6 @@ module _ {B : Type 0} {g : Ghosts B} (r u : Rows B g) (t : Tables) (law : Lawful
   stands_woken : RowsStand u (s t law now key xs)
   stands_woken = record {
     limits = bounded ∙ (stands.limits ∙ sym limits);
-    received = as_received received stands.received;
     last_start = last ∙ stands.last_start;
     next = closes.next ∙ stands.next;
     count = consumers.len ∙ (stands.count ∙ sym (live_same t (s t law now key xs) refl (lives t law now key xs bare)));

@@ -80,7 +80,7 @@ use Rattle.hc_on_leave.proofs.RefuseArm.{length_as}
 use Rattle.hc_state.proofs.Ties.{key_same, overs_but}
 use Rattle.hc_state.proofs.Unbinding.{entries_unbound}
 use Rattle.hc_on_leave.proofs.UnstoredArms.{read_then, unwritten}
-use Rattle.hc_state.proofs.Words.{same_or, eqb-same, eqb-other, and_false, then_false, false_true, none_some, some_is, same_row, as_received}
+use Rattle.hc_state.proofs.Words.{same_or, eqb-same, eqb-other, and_false, then_false, false_true, none_some, some_is, same_row}
 
 -- WHOEVER READS A CLOSED EXCHANGE PAST THE STORE IS TO FAIL
 
@@ -251,7 +251,7 @@ module _ {B : Type 0} {g : Ghosts B} (r u : Rows B g) (m : Tables) (c x : ℕ) (
 
   pub stands_down : u.limits ≡ r.limits → u.received ≡ r.received → u.last_start ≡ r.last_start → u.exchanges ≡ r.exchanges → u.keys ≡ r.keys → u.entries ≡ r.entries → ChangesAt r.consumers u.consumers c (standing_at (place.Down why)) → RowsStand u s
   stands_down limits received last exchanges same_keys same_entries alters =
-      stands_then r u m s c x (Some (standing_at (place.Down why) k)) stands limits (as_received received stands.received) (last ∙ stands.last_start) (rw exchanges stands.next)
+      stands_then r u m s c x (Some (standing_at (place.Down why) k)) stands limits (last ∙ stands.last_start) (rw exchanges stands.next)
       (alters.len ∙ (stands.count ∙ sym (live_same m s refl lives)))
       (becomes_by r.consumers u.consumers c k (standing_at (place.Down why)) there alters)
       (λ y ne. rw exchanges refl) c_other s_other (λ q. refl)

@@ -35,7 +35,7 @@ use Rattle.hc_model.specs.Currents.{current}
 use Rattle.hc_model.specs.Denials.{denial}
 use Rattle.hc_model.specs.Effects.{let_some_go, with_consumer, with_answer}
 use Rattle.hc_model.specs.Flaws.{Loses}
-use Rattle.hc_model.specs.LettingGo.{MayLetGo, MayMakeRoom, giving_way, room_now}
+use Rattle.hc_model.specs.LettingGo.{MayMakeRoom, MayLetGo, giving_way, room_now}
 use Rattle.hc_model.specs.Rows as rows
 use Rattle.hc_model.specs.Rows.{Tables, Exchange}
 use Rattle.hc_model.specs.Runs.{may_lose}
@@ -60,7 +60,7 @@ use Rattle.hc_on_leave.proofs.HeardRows.{Asker, Headless, asker, head_none, head
 use Rattle.hc_state.proofs.Maps.{known_of, merely_below, merely_false}
 use Rattle.hc_state.proofs.ReaderSteps.{stands_read}
 use Rattle.hc_state.proofs.Rooms.{room_is}
-use Rattle.hc_state.proofs.Words.{none_of, none_some, some_is, few_received}
+use Rattle.hc_state.proofs.Words.{none_of, none_some, some_is}
 
 class_range : (request : Request) → (class_of request).range ≡ range_of request
 unfolding class_of
@@ -86,9 +86,6 @@ module _ {B : Type 0} {b : Ghosts B} (r r1 r2 r3 : Rows B b) (now x c : ℕ) (go
   h = headless_of (table_of r.exchanges x).running accepted
 
   module _ (t : Tables) (facts : Facts r.limits t) (stands : RowsStand r t) (w : Exchange) (row : t.exchange x ≡ Some w) where
-    pub few : t.received < 2 ^ 62
-    few = few_received stands.received small
-
     pub runs : IsRunning t x h.o w
     runs = runs_as r t x h.o w stands h.there row
 
@@ -102,19 +99,19 @@ module _ {B : Type 0} {b : Ghosts B} (r r1 r2 r3 : Rows B b) (now x c : ℕ) (go
     told_now = told_is ∙ ((stands.keys key).current ∙ ap (current t) (key_is h.o h.there ∙ ap (λ (q : Request). q.key) runs.request))
 
     abbrev pub left : Tables
-    left = second r.limits t facts few now x w a.v a.awaits gone
+    left = second r.limits t facts now x w a.v a.awaits gone
 
     pub stood : RowsStand r3 left
     stood =
-        subst (λ (o : Option ℕ). RowsStand r3 (let_some_go now o (first r.limits t facts few now x w a.v a.awaits gone))) told_now
-        (goes_second (first r.limits t facts few now x w a.v a.awaits gone) (may_first r.limits t facts few now x w a.v a.awaits gone)
-        (goes_first (fallback r.limits t facts few now x w a.v a.awaits gone) (may_fallback r.limits t facts few now x w a.v a.awaits gone)
+        subst (λ (o : Option ℕ). RowsStand r3 (let_some_go now o (first r.limits t facts now x w a.v a.awaits gone))) told_now
+        (goes_second (first r.limits t facts now x w a.v a.awaits gone) (may_first r.limits t facts now x w a.v a.awaits gone)
+        (goes_first (fallback r.limits t facts now x w a.v a.awaits gone) (may_fallback r.limits t facts now x w a.v a.awaits gone)
         (subst (λ (d : ℕ). RowsStand r1 (with_consumer d (Some (record a.v { place = place.Direct x })) t)) (sym for_it) (falls_back t x w a.v facts a.awaits for_it refl stands))))
 
     pub one_acts : (count : ℕ) → room_for_write r3 write.Slot ≡ room.After count → count ≤ 1
     one_acts count is =
-        one_way r.limits t facts few now x w a.v a.awaits gone count
-        (ap (λ (l : Limits). room_now l left write.Slot) (sym limits_is) ∙ (sym (room_is r3 left (make_second r.limits t facts few now x w a.v a.awaits gone) stood write.Slot) ∙ is))
+        one_way r.limits t facts now x w a.v a.awaits gone count
+        (ap (λ (l : Limits). room_now l left write.Slot) (sym limits_is) ∙ (sym (room_is r3 left (make_second r.limits t facts now x w a.v a.awaits gone) stood write.Slot) ∙ is))
 
   module _ (some : ∥ Stands r ∥₁) where
     few_acts : (count : ℕ) → room_for_write r3 write.Slot ≡ room.After count → count < 2
@@ -142,19 +139,19 @@ module _ {B : Type 0} {b : Ghosts B} (r r1 r2 r3 : Rows B b) (now x c : ℕ) (go
 
   module _ (u : Rows B b) (before mid : List Act) (made : (t : Tables) → MayMakeRoom t → RowsStand r3 t → GivesWay u t now (giving_way r3.limits t write.Slot) before mid) where
     module _ (t : Tables) (facts : Facts r.limits t) (stands : RowsStand r t) (w : Exchange) (row : t.exchange x ≡ Some w) where
-      pub gives : GivesWay u (left t facts stands w row) now (es r.limits t facts (few t facts stands w row) now x w (a t facts stands w row).v (a t facts stands w row).awaits gone) before mid
+      pub gives : GivesWay u (left t facts stands w row) now (es r.limits t facts now x w (a t facts stands w row).v (a t facts stands w row).awaits gone) before mid
       gives =
           subst (λ (l : Limits). GivesWay u (left t facts stands w row) now (giving_way l (left t facts stands w row) write.Slot) before mid) limits_is
-          (made (left t facts stands w row) (make_second r.limits t facts (few t facts stands w row) now x w (a t facts stands w row).v (a t facts stands w row).awaits gone) (stood t facts stands w row))
+          (made (left t facts stands w row) (make_second r.limits t facts now x w (a t facts stands w row).v (a t facts stands w row).awaits gone) (stood t facts stands w row))
 
     pub new_kept : ∥ Stands r ∥₁ → (shelf_of u.entries).kept x ≡ None
     new_kept some = none_of ((shelf_of u.entries).kept x) (merely_false (is_some ((shelf_of u.entries).kept x)) some (λ s.
         let past = past_of_runs r s in
         let row = heard_row r past.0 x h.o past.2 h.there in
         let asker_is = a past.0 past.1 past.2 row.w row.row in
-        let none = m_unfounded r.limits past.0 past.1 (few past.0 past.1 past.2 row.w row.row) now x row.w asker_is.v asker_is.awaits gone in
-        by_kept (m r.limits past.0 past.1 (few past.0 past.1 past.2 row.w row.row) now x row.w asker_is.v asker_is.awaits gone) ((shelf_of u.entries).kept x)
-        (subst (KeepsEntry (m r.limits past.0 past.1 (few past.0 past.1 past.2 row.w row.row) now x row.w asker_is.v asker_is.awaits gone) x ((shelf_of u.entries).kept x)) none ((gives past.0 past.1 past.2 row.w row.row).rows.entries.each x))))
+        let none = m_unfounded r.limits past.0 past.1 now x row.w asker_is.v asker_is.awaits gone in
+        by_kept (m r.limits past.0 past.1 now x row.w asker_is.v asker_is.awaits gone) ((shelf_of u.entries).kept x)
+        (subst (KeepsEntry (m r.limits past.0 past.1 now x row.w asker_is.v asker_is.awaits gone) x ((shelf_of u.entries).kept x)) none ((gives past.0 past.1 past.2 row.w row.row).rows.entries.each x))))
       where
         by_kept : (s : Tables) (o : Option Kept) → KeepsEntry s x o None → is_some o ≡ false
         by_kept s None keeps = refl
@@ -170,7 +167,7 @@ module _ {B : Type 0} {b : Ghosts B} (r r1 r2 r3 : Rows B b) (now x c : ℕ) (go
       its = a t facts stands w row
 
       abbrev roomy : Tables
-      roomy = m r.limits t facts (few t facts stands w row) now x w its.v its.awaits gone
+      roomy = m r.limits t facts now x w its.v its.awaits gone
 
       -- where the store took it
       pub taken : (z : Rows B b) (n : ℕ) → IsSomeAnd (get nat_eq r.consumers c) (λ k. (o : Open) → (table_of r.exchanges x).running ≡ Some o → IsFounding o k g now response f) → BeginsFounding u z x c f response
@@ -179,9 +176,9 @@ module _ {B : Type 0} {b : Ghosts B} (r r1 r2 r3 : Rows B b) (now x c : ℕ) (go
           let within : IsWithin {T = Unit {0}} (shelf_of u.entries).limits 0 ((shelf_of u.entries).used + 32768) (Ok v) = subst (IsWithin (shelf_of u.entries).limits 0 ((shelf_of u.entries).used + 32768)) is_ok told in
           let asked_at : get nat_eq r.consumers c ≡ Some its.k = ap (get nat_eq r.consumers) (sym (for_it t facts stands w row)) ∙ its.there in
           let made_it = known_of (get nat_eq r.consumers c) its.k (λ k. (o : Open) → (table_of r.exchanges x).running ≡ Some o → IsFounding o k g now response f) asked_at founding h.o h.there in
-          let reader = reader_kept u roomy w.c x (record its.v { place = place.Direct x }) (gives t facts stands w row).rows (m_asker r.limits t facts (few t facts stands w row) now x w its.v its.awaits gone) refl in
+          let reader = reader_kept u roomy w.c x (record its.v { place = place.Direct x }) (gives t facts stands w row).rows (m_asker r.limits t facts now x w its.v its.awaits gone) refl in
           let fits = (within.ok refl).1 in
-          founds_answered r.limits t facts (few t facts stands w row) now x response goes w its.v its.awaits g founds is gone same u n before mid (gives t facts stands w row) u_limits z reader.0 its.k h.o f reader.1
+          founds_answered r.limits t facts now x response goes w its.v its.awaits g founds is gone same u n before mid (gives t facts stands w row) u_limits z reader.0 its.k h.o f reader.1
           (ap (λ (e : Exchanges). (table_of e x).running) u_exchanges ∙ h.there) (ap (λ (e : RequestClass). e.range) its.is.class_is ∙ class_range its.v.request) made_it
           (subst (λ (d : ℕ). BeginsFounding u z x d f response) (sym (for_it t facts stands w row)) begins)
           (subst (λ (l : Limits). (shelf_of u.entries).used + 32768 ≤ l.max_total) ((gives t facts stands w row).rows.limits ∙ u_limits) fits)
@@ -194,7 +191,7 @@ module _ {B : Type 0} {b : Ghosts B} (r r1 r2 r3 : Rows B b) (now x c : ℕ) (go
           let one : kinds.Full ≡ kind = some_is kinds.Full kind lost in
           let past = (within.full refl).1 in
           subst (λ (e : LostKind). may_lose (room_for r.limits t now (event.Head x response)) e ≡ true) one
-          (full_told r.limits t facts (few t facts stands w row) now x response goes w its.v its.awaits g founds is gone same u 0 before mid (gives t facts stands w row) u_limits
+          (full_told r.limits t facts now x response goes w its.v its.awaits g founds is gone same u 0 before mid (gives t facts stands w row) u_limits
           (subst (λ (l : Limits). l.max_total < (shelf_of u.entries).used + 32768) ((gives t facts stands w row).rows.limits ∙ u_limits) past))
       may_by errors.NoMemory kind lost within = none_some kind lost
 
@@ -222,8 +219,8 @@ module _ {B : Type 0} {b : Ghosts B} (r r1 r2 r3 : Rows B b) (now x c : ℕ) (go
           let cause : HasCause {T = Unit {0}} (shelf_of u.entries).faults (shelf_of y.entries).faults (Err error) = subst (HasCause (shelf_of u.entries).faults (shelf_of y.entries).faults) is_err caused in
           let stays = unless (λ same. lost_apart error kind lost same) in
           let rest = stays.rest in
-          let alone = read_alone r.limits t facts (few t facts stands w row) now x response goes w its.v its.awaits g founds is gone same in
+          let alone = read_alone r.limits t facts now x response goes w its.v its.awaits g founds is gone same in
           let rows_y = stands_read u y roomy rest.limits rest.received rest.last_start rest.consumers rest.exchanges rest.keys stays.same (gives t facts stands w row).rows in
-          lost_answered r.limits t facts (few t facts stands w row) now x response goes w its.v its.awaits g founds is gone same u (shelf_of r.entries).faults before mid (gives t facts stands w row) u_limits z kind out
+          lost_answered r.limits t facts now x response goes w its.v its.awaits g founds is gone same u (shelf_of r.entries).faults before mid (gives t facts stands w row) u_limits z kind out
           (past roomy w (record its.v { place = place.Direct x }) alone (for_it t facts stands w row) rows_y) acts (may_by error kind lost within)
           (λ fault. (let more = fault_by error kind (shelf_of u.entries).faults (shelf_of y.entries).faults lost cause fault in subst (λ n. n < (shelf_of z.entries).faults) was (subst (λ n. (shelf_of u.entries).faults < n) (sym after) more)))

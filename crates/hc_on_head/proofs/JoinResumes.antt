@@ -37,7 +37,7 @@ use Rattle.hc_on_leave.proofs.AnswerArm.{opened_as}
 use Rattle.hc_state.proofs.CurrentTies.{covers_as, entry_at, stored_ends}
 use Rattle.hc_on_leave.proofs.StoreArm.{stored_size}
 use Rattle.hc_state.proofs.Ties.{kept_row}
-use Rattle.hc_state.proofs.Words.{eqb-same, false_true, none_some, some_is, few_received}
+use Rattle.hc_state.proofs.Words.{eqb-same, false_true, none_some, some_is}
 
 -- a request for the whole has no range
 whole_as : (k : Consumer) (v : rows.Consumer) → k.class ≡ class_of v.request → is_none k.class.range ≡ asks_whole (Some v)
@@ -74,16 +74,13 @@ module _ {B : Type 0} {g : Ghosts B} (r : Rows B g) (t : Tables) (facts : Facts 
   is : IsEntry t q e p
   is = entry_at r t stands q e kept p row
 
-  few : t.received < 2 ^ 62
-  few = few_received stands.received small
-
   asks : asks_whole (t.consumer w.c) ≡ is_none k.class.range
   asks =
       let found = kept_row t k (t.consumer c) (subst (λ o. KeepsConsumer t o (t.consumer c)) there (stands.consumers c)) in
       ap asks_whole (ap t.consumer for_it ∙ found.1) ∙ sym (whole_as k found.0 found.2.class_is)
 
   size_is : size e.cells ≡ p.size
-  size_is = stored_size r t facts q p e t few row is
+  size_is = stored_size r t facts q p e t row is.used is
 
   start_is : hole_start w.need ≡ from
   start_is = ap hole_start hole

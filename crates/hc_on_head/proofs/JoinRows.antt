@@ -48,7 +48,7 @@ use Rattle.hc_on_head.proofs.JoinKeys.{keys_left}
 use Rattle.hc_state.proofs.KeySteps.{not_lined}
 use Rattle.hc_state.proofs.Losing.{finds_same}
 use Rattle.hc_state.proofs.Ties.{consumer_same, exchange_same, key_same, kept_same}
-use Rattle.hc_state.proofs.Words.{same_or, eqb-same, eqb-other, and_false, then_false, as_received}
+use Rattle.hc_state.proofs.Words.{same_or, eqb-same, eqb-other, and_false, then_false}
 
 -- x, of which nothing came yet, waits for its head for a consumer that is bound to q and reads on from it
 pub record IsJoinable (t : Tables) (x q : ℕ) (w : Exchange) (v : rows.Consumer) (p : Representation) : Type 0 where
@@ -358,7 +358,6 @@ module _ (t : Tables) (now x q : ℕ) (response : Response) (w : Exchange) (v : 
     pub stands_joined : RowsStand u s
     stands_joined = record {
       limits = limits;
-      received = as_received received stands.received;
       last_start = last ∙ stands.last_start;
       next = brings.next ∙ stands.next;
       count = length_same r u t w.c v (record k { own = own }) stands j.asker lives becomes ∙ (stands.count ∙ sym (live_same t s refl (told_consumer is_live refl)));

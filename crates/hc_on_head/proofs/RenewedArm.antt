@@ -28,7 +28,7 @@ use Rattle.hc_state.specs.Stored.{IsEntry, TellsLength, told, untold, KeepsEntry
 use Rattle.hc_state.proofs.Fallbacks.{unstored_moved}
 use Rattle.hc_state.proofs.OneOfEach.{first_by}
 use Rattle.hc_state.proofs.Ties.{consumer_same, exchange_same, entry_same, key_same}
-use Rattle.hc_state.proofs.Words.{same_or, eqb-same, eqb-other, as_received}
+use Rattle.hc_state.proofs.Words.{same_or, eqb-same, eqb-other}
 
 filters_same : (f h : ℕ → Bool) → ((q : ℕ) → h q ≡ f q) → (qs : List ℕ) → filter h qs ≡ filter f qs
 filters_same f h alike [] = refl
@@ -144,7 +144,6 @@ stands_renewed r u t now response w q v e row stands rest at becomes =
     let same_keys = rest.keys in
     record {
       limits = becomes.limits ∙ (stands.limits ∙ sym rest.limits);
-      received = as_received rest.received stands.received;
       last_start = rest.last_start ∙ stands.last_start;
       next = ap (λ z. next_of z) exchanges ∙ stands.next;
       count = ap (λ z. hash_map_len z) consumers ∙ stands.count;

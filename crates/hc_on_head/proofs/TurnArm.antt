@@ -1,5 +1,5 @@
 -- A 304 that may be about what is stored: it is answered.
-use Rattle.std.proofs.Common.{◌≡◌, inl, inr, ℕ, ◌+◌, ◌≤◌, List, [], ◌∷◌, ◌++◌, Bool, true, false, Option, Some, None, Result, Ok, refl, ap, ap₂, sym, ◌∙◌, subst, arith}
+use Rattle.std.proofs.Common.{◌≡◌, inl, inr, ℕ, ◌≤◌, List, [], ◌∷◌, ◌++◌, Bool, true, false, Option, Some, None, Result, Ok, refl, ap, ap₂, sym, ◌∙◌, subst, arith}
 use Rattle.std.proofs.lemmas.Bool.Decides.{nat_tests}
 use Rattle.std.specs.Prelude.{is_some, IfOk, IsSomeAnd, nat_eq, map, option_map, not, ◌||◌, if◌then◌else◌}
 use Rattle.std.specs.HashMap.{get}
@@ -60,7 +60,7 @@ use Rattle.hc_on_leave.proofs.RefuseArm.{stands_refused, closes_as}
 use Rattle.hc_on_head.proofs.RenewedArm.{stands_renewed}
 use Rattle.hc_state.proofs.SealArm.{stands_stayed}
 use Rattle.hc_on_leave.proofs.UnstoredArms.{beside, unread_then, unwritten}
-use Rattle.hc_state.proofs.Words.{same_or, eqb-same, eqb-other, and_false, false_true, none_some}
+use Rattle.hc_state.proofs.Words.{same_or, eqb-same, eqb-other, and_false, as_received, false_true, none_some}
 
 -- WHERE WHAT IS STORED STAYS
 
@@ -71,7 +71,9 @@ pub past_unrenewed : {B : Type 0} {g : Ghosts B} (r u : Rows B g) → KeepsBesid
 past_unrenewed r u rest same p = record {
   t = p.t;
   facts = subst (λ (n : Limits). Facts n p.t) (sym rest.limits) p.facts;
+  numbers = p.numbers;
   within_limits = p.within_limits;
+  received = as_received rest.received p.received;
   rows = stands_unrenewed r u _ rest same p.rows;
 }
 

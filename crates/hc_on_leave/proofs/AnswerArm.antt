@@ -36,7 +36,7 @@ use Rattle.hc_on_leave.proofs.HeardExchange.{held_empty, held_else, here, others
 use Rattle.hc_on_leave.proofs.HeardRows.{headless_of, runs_as, kept_as}
 use Rattle.hc_state.proofs.OneOfEach.{stands_then}
 use Rattle.hc_state.proofs.QueueArm.{becomes_by}
-use Rattle.hc_state.proofs.Words.{eqb-same, eqb-other, false_true, none_some, some_is, as_received}
+use Rattle.hc_state.proofs.Words.{eqb-same, eqb-other, false_true, none_some, some_is}
 
 -- all that is promised has come
 pub all_reached : (o : Option ℕ) (n : ℕ) → is_all o n ≡ is_reached o n
@@ -150,7 +150,7 @@ module _ {B : Type 0} {g : Ghosts B} (r u : Rows B g) (t : Tables) (now x : ℕ)
 
   pub stands_answered : RowsStand u s
   stands_answered =
-      stands_then r u t s w.c x (Some (answered_by copied l k)) stands limits (as_received received stands.received) (last ∙ stands.last_start) (headed.next ∙ (turned.next ∙ stands.next))
+      stands_then r u t s w.c x (Some (answered_by copied l k)) stands limits (last ∙ stands.last_start) (headed.next ∙ (turned.next ∙ stands.next))
       (changes.len ∙ stands.count) (becomes_by r.consumers u.consumers w.c k (answered_by copied l) there changes)
       (λ y ne. known_other (known.with_good_head l) x y mid u.exchanges headed ne ∙ known_other (known.turned_into role.Direct) x y r.exchanges mid turned ne)
       (λ d ne. refl) (λ y ne. others t x w z alone.bare alone.bare.unjoined y ne) (λ q. refl)

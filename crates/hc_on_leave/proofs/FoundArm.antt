@@ -1,8 +1,9 @@
 -- A head that founds is answered, where the store takes what it founds, and where it refuses that.
-use Rattle.std.proofs.Common.{◌≡◌, ◌≢◌, ◌⊎◌, inl, inr, ℕ, ◌+◌, ◌<◌, ◌≤◌, ◌^◌, List, [], ◌∷◌, ◌++◌, Bool, true, false, Option, Some, None, refl, ap, ap₂, sym, ◌∙◌, subst, arith}
+use Rattle.std.proofs.Common.{◌≡◌, ◌≢◌, ◌⊎◌, inl, inr, ℕ, ◌+◌, ◌<◌, ◌≤◌, List, [], ◌∷◌, ◌++◌, Bool, true, false, Option, Some, None, refl, ap, ap₂, sym, ◌∙◌, subst, arith}
+use Rattle.std.proofs.lemmas.Bool.{cases_Bool}
 use Rattle.std.proofs.lemmas.Bool.Decides.{nat_tests}
 use Rattle.std.proofs.lemmas.List.{append_assoc}
-use Rattle.std.specs.Prelude.{◌==◌, ◌&&◌, not, is_some, nat_eq, nat_le, map, option_map, unwrap_or, if◌then◌else◌}
+use Rattle.std.specs.Prelude.{◌==◌, ◌&&◌, not, is_some, nat_eq, nat_le, filter, map, option_map, unwrap_or, if◌then◌else◌}
 use Rattle.std.specs.HashMap.{get}
 use Rattle.std.specs.Option.{option_or}
 use Rattle.hc_store.specs.declared.backend.Backend.{Ghosts}
@@ -33,6 +34,7 @@ use Rattle.hc_stored.specs.Entries.{shelf_of}
 use Rattle.hc_exch.specs.Exchanges.{table_of}
 use Rattle.hc_exch.specs.Known.{length_by}
 use Rattle.hc_exch.specs.declared.row.Open.{Open}
+use Rattle.hc_event.specs.declared.place.Place.{Place}
 use Rattle.hc_event.specs.declared.place.Place.TheVariants as place
 use Rattle.hc_event.specs.declared.place.BoundBy.TheVariants as by
 use Rattle.hc_model.specs.Cases.{head_view, is_founding}
@@ -48,8 +50,9 @@ use Rattle.hc_model.specs.Exchanges.{family}
 use Rattle.hc_model.specs.Flaws.{NoFlaw, Loses, flaw_in}
 use Rattle.hc_model.specs.Gone.{goes_by_case}
 use Rattle.hc_model.specs.Heads.{founded_total, total_of_part}
-use Rattle.hc_model.specs.LettingGo.{MayLetGo, MayMakeRoom, weight_now, weights_now, room_now, first_idle, giving_way}
+use Rattle.hc_model.specs.LettingGo.{IsInUse, MayMakeRoom, MayLetGo, weight_now, weights_now, room_now, first_idle, giving_way}
 use Rattle.hc_model.specs.Orders.{AreOnce}
+use Rattle.hc_model.specs.Reading.{bound, is_bound}
 use Rattle.hc_model.specs.Rows as rows
 use Rattle.hc_model.specs.Rows.{Tables, Exchange, Representation}
 use Rattle.hc_model.specs.Runs.{has_room, may_lose}
@@ -80,11 +83,41 @@ use Rattle.hc_state.proofs.Counting.{stands_counted}
 use Rattle.hc_on_leave.proofs.FoundRows.{IsUnfounded, founded_stands}
 use Rattle.hc_on_leave.proofs.HeardRows.{runs_as}
 use Rattle.hc_on_leave.proofs.PieceRoom.{may_make_room}
+use Rattle.hc_state.proofs.OneOfEach.{bound_same}
 use Rattle.hc_state.proofs.Rooms.{used_is}
 use Rattle.hc_on_leave.proofs.UnstoredArms.{may_moved, read_then}
 use Rattle.hc_state.proofs.Words.{same_or, eqb-same, eqb-other, false_true, none_some, some_is}
 
 -- WHAT WAS LET GO
+
+-- whoever waited and starts over wasn't bound
+pub bound_back : (now : ℕ) (es : List ℕ) (q : ℕ) (o : Option rows.Consumer) → is_bound q (option_map (back_from_any now es) o) ≡ is_bound q o
+bound_back now es q None = refl
+bound_back now es q (Some k) = by_place k.place refl
+  where
+    by_place : (p : Place) → k.place ≡ p → is_bound q (option_map (back_from_any now es) (Some k)) ≡ is_bound q (Some k)
+    by_place (place.Passed a kept) at = by_test (is_in es a) refl
+      where
+        by_test : (b : Bool) → is_in es a ≡ b → is_bound q (option_map (back_from_any now es) (Some k)) ≡ is_bound q (Some k)
+        by_test true on = rw (at, on) refl
+        by_test false off = rw (at, off) refl
+    by_place place.Line at = rw at refl
+    by_place (place.Turn x) at = rw at refl
+    by_place (place.Bound r lo hi how) at = rw at refl
+    by_place (place.Direct x) at = rw at refl
+    by_place (place.Down why) at = rw at refl
+    by_place place.Over at = rw at refl
+
+pub bound_without : (now : ℕ) (es : List ℕ) (t : Tables) (q : ℕ) → bound (without now es t) q ≡ bound t q
+bound_without now es t q = bound_same t (without now es t) q refl (λ d. bound_back now es q (t.consumer d))
+
+-- who is bound where others were before
+none_left : (f g : ℕ → Bool) → ((d : ℕ) → g d ≡ false → f d ≡ false) → (ds : List ℕ) → filter g ds ≡ [] → filter f ds ≡ []
+none_left f g fewer [] none = refl
+none_left f g fewer (d ∷ ds) none = elim (cases_Bool (g d)) [
+  | inl on ↦ absurd (let never : d ∷ filter g ds ≡ [] = rw on at none in cc)
+  | inr off ↦ let too = fewer d off in rw too (none_left f g fewer ds (rw off at none))
+]
 
 -- room may be made where some were let go
 pub make_gone : (now : ℕ) (rs : List ℕ) (s : Tables) → MayMakeRoom s → MayMakeRoom (let_all_go now rs s)
@@ -92,20 +125,21 @@ make_gone now rs s may = record {
   may = keeps_may_all now rs s may.may;
   used = subst (λ (z : Tables). AreOnce z.used) (sym (all_go_is now rs s)) may.used;
   founded = subst (λ (z : Tables). AreOnce z.founded) (sym (all_go_is now rs s)) may.founded;
-  sized = λ q p there. by_row q (s.representation q) refl (is_in rs q) (sym (ap (λ (z : Tables). z.representation q) (all_go_is now rs s)) ∙ there);
+  sized = λ q p there used. by_row q (s.representation q) refl (is_in rs q) (sym (ap (λ (z : Tables). z.representation q) (all_go_is now rs s)) ∙ there)
+      (λ gone none. used gone (ap (λ (z : Tables). bound z q) (all_go_is now rs s) ∙ (bound_without now rs s q ∙ none)));
 }
   where
-    by_row : (q : ℕ) (o : Option Representation) → s.representation q ≡ o → (b : Bool) {p : Representation} → (if b then option_map as_gone o else o) ≡ Some p → p.size ≡ Rattle.hc_sparse.specs.Cells.size p.stored
-    by_row q None at true {p} is = none_some p is
-    by_row q None at false {p} is = none_some p is
-    by_row q (Some a) at true {p} is = (let one : as_gone a ≡ p = some_is (as_gone a) p is in subst (λ (z : Representation). z.size ≡ Rattle.hc_sparse.specs.Cells.size z.stored) one (may.sized q a at))
-    by_row q (Some a) at false {p} is = (let one : a ≡ p = some_is a p is in subst (λ (z : Representation). z.size ≡ Rattle.hc_sparse.specs.Cells.size z.stored) one (may.sized q a at))
+    by_row : (q : ℕ) (o : Option Representation) → s.representation q ≡ o → (b : Bool) {p : Representation} → (if b then option_map as_gone o else o) ≡ Some p → IsInUse s q p → p.size ≡ Rattle.hc_sparse.specs.Cells.size p.stored
+    by_row q None at true {p} is used = none_some p is
+    by_row q None at false {p} is used = none_some p is
+    by_row q (Some a) at true {p} is used = (let one : as_gone a ≡ p = some_is (as_gone a) p is in subst (λ (z : Representation). z.size ≡ Rattle.hc_sparse.specs.Cells.size z.stored) one (may.sized q a at (λ gone. used (ap (λ (z : Representation). z.is_gone) (sym one)))))
+    by_row q (Some a) at false {p} is used = (let one : a ≡ p = some_is a p is in subst (λ (z : Representation). z.size ≡ Rattle.hc_sparse.specs.Cells.size z.stored) one (may.sized q a at (λ gone. used (ap (λ (z : Representation). z.is_gone) (sym one) ∙ gone))))
 
 some_may : (now : ℕ) (o : Option ℕ) (s : Tables) → MayLetGo s → MayLetGo (let_some_go now o s)
 some_may now None s may = may
 some_may now (Some q) s may = keeps_may now q s may
 
-module _ (limits : Limits) (t : Tables) (facts : Facts limits t) (few : t.received < 2 ^ 62) (now x : ℕ) (w : Exchange) (v : rows.Consumer) (awaits : AwaitsHead t x w v) (as_gone : Option ℕ) where
+module _ (limits : Limits) (t : Tables) (facts : Facts limits t) (now x : ℕ) (w : Exchange) (v : rows.Consumer) (awaits : AwaitsHead t x w v) (as_gone : Option ℕ) where
   -- its consumer reads past the store
   abbrev pub past : rows.Consumer
   past = record v { place = place.Direct x }
@@ -134,8 +168,16 @@ module _ (limits : Limits) (t : Tables) (facts : Facts limits t) (few : t.receiv
   pub may_first : MayLetGo first
   may_first = some_may now as_gone fallback may_fallback
 
+  -- what nobody was bound to nobody is bound to
+  still : (q : ℕ) → bound t q ≡ [] → bound fallback q ≡ []
+  unfolding bound
+  still q none = none_left (λ d. is_bound q (fallback.consumer d)) (λ d. is_bound q (t.consumer d)) fewer t.starts none
+    where
+      fewer : (d : ℕ) → is_bound q (t.consumer d) ≡ false → is_bound q (fallback.consumer d) ≡ false
+      fewer d off = elim (cases_Bool (w.c == d)) [ inl it ↦ rw it refl | inr other ↦ rw other off ]
+
   make_fallback : MayMakeRoom fallback
-  make_fallback = let may = may_make_room t facts few in record { may = may_fallback; used = may.used; founded = may.founded; sized = may.sized }
+  make_fallback = let may = may_make_room t facts in record { may = may_fallback; used = may.used; founded = may.founded; sized = λ q p there used. may.sized q p there (λ gone none. used gone (still q none)) }
 
   pub make_second : MayMakeRoom second
   make_second = subst MayMakeRoom (sym second_is) (make_gone now goes_first fallback make_fallback)
@@ -325,7 +367,7 @@ founder_ends response w v hi _ whole parts to = rw to (or_same (founded_total w 
 founder_ends response w v hi _ replaced parts to = rw to (or_same (founded_total w response))
 founder_ends response w v hi _ part parts to = (let span = parts refl in let wants = span.1 in rw (to, wants) refl)
 
-module _ (limits : Limits) (t : Tables) (facts : Facts limits t) (few : t.received < 2 ^ 62) (now x : ℕ) (response : Response) (goes : denial t (event.Head x response) ≡ None) (w : Exchange) (v : rows.Consumer) (awaits : AwaitsHead t x w v) (g : HeadCase) (founds : Founds g) (is : head_case (head_view t false w response) ≡ g) (as_gone : Option ℕ) (same : as_gone ≡ goes_with t w response g) where
+module _ (limits : Limits) (t : Tables) (facts : Facts limits t) (now x : ℕ) (response : Response) (goes : denial t (event.Head x response) ≡ None) (w : Exchange) (v : rows.Consumer) (awaits : AwaitsHead t x w v) (g : HeadCase) (founds : Founds g) (is : head_case (head_view t false w response) ≡ g) (as_gone : Option ℕ) (same : as_gone ≡ goes_with t w response g) where
   abbrev ev : Event
   ev = event.Head x response
 
@@ -336,13 +378,13 @@ module _ (limits : Limits) (t : Tables) (facts : Facts limits t) (few : t.receiv
   unshown = founder_unshown limits t facts.law now x response goes w awaits.row v awaits.asker g founds is
 
   abbrev left : Tables
-  left = second limits t facts few now x w v awaits as_gone
+  left = second limits t facts now x w v awaits as_gone
 
   abbrev roomy : Tables
-  roomy = m limits t facts few now x w v awaits as_gone
+  roomy = m limits t facts now x w v awaits as_gone
 
-  pub read_alone : IsReadAlone roomy x w (past limits t facts few now x w v awaits as_gone)
-  read_alone = m_alone limits t facts few now x w v awaits as_gone unshown
+  pub read_alone : IsReadAlone roomy x w (past limits t facts now x w v awaits as_gone)
+  read_alone = m_alone limits t facts now x w v awaits as_gone unshown
 
   tests : (r : ℕ) (p : Representation) → t.representation r ≡ Some p → goes_by_case t (entry_without_acts now ev) r (Some g) w ≡ is_in (with_item_first as_gone (with_item_first (current t w.request.key) [])) r
   tests r p there =
@@ -351,13 +393,13 @@ module _ (limits : Limits) (t : Tables) (facts : Facts limits t) (few : t.receiv
 
   room_is_left : room_for limits t now ev ≡ room_now limits left write.Slot
   room_is_left =
-      room_same limits t facts.law now x response goes w awaits.row v awaits.asker g is (doomless w response g founds) (founds_founding g founds) (with_item_first as_gone (with_item_first (current t w.request.key) [])) tests (may_fallback limits t facts few now x w v awaits as_gone)
-      ∙ ap (λ (s : Tables). room_now limits s write.Slot) (sym (second_is limits t facts few now x w v awaits as_gone))
+      room_same limits t facts.law now x response goes w awaits.row v awaits.asker g is (doomless w response g founds) (founds_founding g founds) (with_item_first as_gone (with_item_first (current t w.request.key) [])) tests (may_fallback limits t facts now x w v awaits as_gone)
+      ∙ ap (λ (s : Tables). room_now limits s write.Slot) (sym (second_is limits t facts now x w v awaits as_gone))
 
-  evicts_left : evicted limits t now ev ≡ es limits t facts few now x w v awaits as_gone
+  evicts_left : evicted limits t now ev ≡ es limits t facts now x w v awaits as_gone
   evicts_left =
-      gives_same limits t facts.law now x response goes w awaits.row v awaits.asker g is (doomless w response g founds) (founds_founding g founds) (with_item_first as_gone (with_item_first (current t w.request.key) [])) tests (may_fallback limits t facts few now x w v awaits as_gone)
-      ∙ ap (λ (s : Tables). giving_way limits s write.Slot) (sym (second_is limits t facts few now x w v awaits as_gone))
+      gives_same limits t facts.law now x response goes w awaits.row v awaits.asker g is (doomless w response g founds) (founds_founding g founds) (with_item_first as_gone (with_item_first (current t w.request.key) [])) tests (may_fallback limits t facts now x w v awaits as_gone)
+      ∙ ap (λ (s : Tables). giving_way limits s write.Slot) (sym (second_is limits t facts now x w v awaits as_gone))
 
   -- WHAT IS FOUNDED
 
@@ -371,33 +413,33 @@ module _ (limits : Limits) (t : Tables) (facts : Facts limits t) (few : t.receiv
       row_there (Some p) on = (p, refl)
 
   abbrev all_left : List ℕ
-  all_left = with_item_first as_gone (with_item_first (current t w.request.key) (es limits t facts few now x w v awaits as_gone))
+  all_left = with_item_first as_gone (with_item_first (current t w.request.key) (es limits t facts now x w v awaits as_gone))
 
   apart : is_in all_left x ≡ false
   apart =
-      room_one limits t facts.law now x response goes w awaits.row v awaits.asker as_gone (with_item_first (current t w.request.key) (es limits t facts few now x w v awaits as_gone)) (λ q at. replaced_there g founds q (sym gone_is ∙ at))
-      (room_one limits t facts.law now x response goes w awaits.row v awaits.asker (current t w.request.key) (es limits t facts few now x w v awaits as_gone) (current_there limits t facts.law now x response goes w awaits.row v awaits.asker)
+      room_one limits t facts.law now x response goes w awaits.row v awaits.asker as_gone (with_item_first (current t w.request.key) (es limits t facts now x w v awaits as_gone)) (λ q at. replaced_there g founds q (sym gone_is ∙ at))
+      (room_one limits t facts.law now x response goes w awaits.row v awaits.asker (current t w.request.key) (es limits t facts now x w v awaits as_gone) (current_there limits t facts.law now x response goes w awaits.row v awaits.asker)
       (subst (λ (rs : List ℕ). is_in rs x ≡ false) evicts_left (room_apart limits t facts.law now x response goes w awaits.row v awaits.asker)))
 
   -- what is done last was done first
   last_first : (s : Tables) → let_all_go now (evicted limits t now ev) (let_some_go now (current t w.request.key) (let_some_go now (replaces w g) s)) ≡ let_all_go now all_left s
   last_first s =
       ap (λ (rs : List ℕ). let_all_go now rs (let_some_go now (current t w.request.key) (let_some_go now (replaces w g) s))) evicts_left
-      ∙ (ap (λ (o : Option ℕ). let_all_go now (es limits t facts few now x w v awaits as_gone) (let_some_go now (current t w.request.key) (let_some_go now o s))) (sym gone_is)
-      ∙ sym (all_one now as_gone (with_item_first (current t w.request.key) (es limits t facts few now x w v awaits as_gone)) s ∙ all_one now (current t w.request.key) (es limits t facts few now x w v awaits as_gone) (let_some_go now as_gone s)))
+      ∙ (ap (λ (o : Option ℕ). let_all_go now (es limits t facts now x w v awaits as_gone) (let_some_go now (current t w.request.key) (let_some_go now o s))) (sym gone_is)
+      ∙ sym (all_one now as_gone (with_item_first (current t w.request.key) (es limits t facts now x w v awaits as_gone)) s ∙ all_one now (current t w.request.key) (es limits t facts now x w v awaits as_gone) (let_some_go now as_gone s)))
 
-  module _ {B : Type 0} {b : Ghosts B} (a : Rows B b) (faults : ℕ) (before mid : List Act) (gives : GivesWay a left now (es limits t facts few now x w v awaits as_gone) before mid) (limits_is : a.limits ≡ limits) where
+  module _ {B : Type 0} {b : Ghosts B} (a : Rows B b) (faults : ℕ) (before mid : List Act) (gives : GivesWay a left now (es limits t facts now x w v awaits as_gone) before mid) (limits_is : a.limits ≡ limits) where
     abbrev fallback_row : rows.Consumer
-    fallback_row = past limits t facts few now x w v awaits as_gone
+    fallback_row = past limits t facts now x w v awaits as_gone
 
     used_left : (shelf_of a.entries).used ≡ weights_now roomy
-    used_left = used_is a roomy (make_m limits t facts few now x w v awaits as_gone) gives.rows
+    used_left = used_is a roomy (make_m limits t facts now x w v awaits as_gone) gives.rows
 
     -- the store takes it
     module _ (u : Rows B b) (k asked : Consumer) (o : Open) (f : Founding) (there : get nat_eq a.consumers w.c ≡ Some k) (running : (table_of a.exchanges x).running ≡ Some o)
         (range_is : asked.class.range ≡ range_of v.request) (founding : IsFounding o asked g now response f) (begins : BeginsFounding a u x w.c f response) (le : (shelf_of a.entries).used + 32768 ≤ limits.max_total) where
       runs : IsRunning roomy x o w
-      runs = runs_as a roomy x o w gives.rows running (m_row limits t facts few now x w v awaits as_gone)
+      runs = runs_as a roomy x o w gives.rows running (m_row limits t facts now x w v awaits as_gone)
 
       total_is : total_by o response ≡ founded_total w response
       total_is = ap₂ (λ (n : Need) (e : Request). if response.status == 206 then total_of_part (content_range_of response.fields) else promise_of (length_of n e response)) runs.need runs.request
@@ -429,7 +471,7 @@ module _ (limits : Limits) (t : Tables) (facts : Facts limits t) (few : t.receiv
 
       rows_then : RowsStand u (founded q roomy)
       rows_then =
-          founded_stands a u roomy now x response w fallback_row k o f (length_of w.need w.request response) gives.rows read_alone (m_fresh limits t facts few now x w v awaits as_gone) there running refl
+          founded_stands a u roomy now x response w fallback_row k o f (length_of w.need w.request response) gives.rows read_alone (m_fresh limits t facts now x w v awaits as_gone) there running refl
           founding.key founding.head (founding.shared ∙ (shared_is g founds ∙ ap not (sym (status_is limits t facts.law now x response goes w awaits.row v awaits.asker g founds is))))
           (founder_ends response w v f.hi g founds parts (ap (λ z. z.1) part_is)) (empty_total limits t facts.law now x response goes w awaits.row v awaits.asker g founds is) begins
           (ap (λ z. length_by z response) running ∙ ap₂ (λ (n : Need) (e : Request). length_of n e response) runs.need runs.request) gives.rows.limits
@@ -438,7 +480,7 @@ module _ (limits : Limits) (t : Tables) (facts : Facts limits t) (few : t.receiv
       tables_are =
           last_first (founded (founder x response w g v) t)
           ∙ (founded_last now x w.c response w.joined w (founder x response w g v) all_left t (just_founded now x response w) fallback_row apart (founder_waits x response w v all_left g founds)
-          ∙ (ap (founded (founder x response w g v)) (sym (m_is limits t facts few now x w v awaits as_gone)) ∙ ap (λ (z : rows.Consumer). founded z roomy) (sym q_is)))
+          ∙ (ap (founded (founder x response w g v)) (sym (m_is limits t facts now x w v awaits as_gone)) ∙ ap (λ (z : rows.Consumer). founded z roomy) (sym q_is)))
 
       pub founds_answered : Answered limits faults u t before mid now ev
       founds_answered =
@@ -457,7 +499,7 @@ module _ (limits : Limits) (t : Tables) (facts : Facts limits t) (few : t.receiv
       lost_tables : let_all_go now (evicted limits t now ev) (let_some_go now (current t w.request.key) (let_some_go now (replaces w g) (with_consumer w.c (Some fallback_row) (with_answer now x response w.joined w t)))) ≡ with_answer now x response w.joined w roomy
       lost_tables =
           last_first (with_consumer w.c (Some fallback_row) (with_answer now x response w.joined w t))
-          ∙ (past_last now x w.c response w.joined w fallback_row all_left t ∙ ap (with_answer now x response w.joined w) (sym (m_is limits t facts few now x w v awaits as_gone)))
+          ∙ (past_last now x w.c response w.joined w fallback_row all_left t ∙ ap (with_answer now x response w.joined w) (sym (m_is limits t facts now x w v awaits as_gone)))
 
       may_fail : (a : Bool) → a ≡ true → (nat_eq x x && true && a) ≡ true
       may_fail a on = (let self = eqb-same x in rw (self, on) refl)
@@ -466,11 +508,11 @@ module _ (limits : Limits) (t : Tables) (facts : Facts limits t) (few : t.receiv
       lost_answered =
           let done = lost_does limits t facts.law now x response goes w awaits.row v awaits.asker kind g founds is in
           let writes = founding_writes limits t now x response w (Loses x kind) awaits.row (ap (λ h. is_founding (Some h)) is ∙ founds_founding g founds) in
-          let none = unfounded limits t facts few now x w v awaits as_gone in
+          let none = unfounded limits t facts now x w v awaits as_gone in
           record {
             flaw = Loses x kind;
             acts = told ∙ (ap (λ ys. ys ++ (act.Lost x kind ∷ [])) gives.acts
-                ∙ (append_assoc before (map act.Evicted (es limits t facts few now x w v awaits as_gone)) (act.Lost x kind ∷ [])
+                ∙ (append_assoc before (map act.Evicted (es limits t facts now x w v awaits as_gone)) (act.Lost x kind ∷ [])
                 ∙ ap (λ ys. before ++ ys) (ap (λ rs. map act.Evicted rs ++ (act.Lost x kind ∷ [])) (sym evicts_left) ∙ sym done.acts_are)));
             shown = ap flaw_in done.acts_are ∙ evicts_lossy (evicted limits t now ev) x kind;
             may = rw (writes, none) (may_fail (may_lose (room_for limits t now ev) kind) may);
@@ -480,4 +522,4 @@ module _ (limits : Limits) (t : Tables) (facts : Facts limits t) (few : t.receiv
 
     -- it is full where the store says so
     pub full_told : limits.max_total < (shelf_of a.entries).used + 32768 → may_lose (room_for limits t now ev) kinds.Full ≡ true
-    full_told past = ap (λ (e : Room). may_lose e kinds.Full) (room_is_left ∙ slot_none limits now left (make_second limits t facts few now x w v awaits as_gone) (subst (λ n. limits.max_total < n + 32768) used_left past))
+    full_told past = ap (λ (e : Room). may_lose e kinds.Full) (room_is_left ∙ slot_none limits now left (make_second limits t facts now x w v awaits as_gone) (subst (λ n. limits.max_total < n + 32768) used_left past))

@@ -40,7 +40,7 @@ use Rattle.hc_model.specs.ExchangeRows.{promise_in}
 use Rattle.hc_model.specs.Exchanges.{family, is_reached}
 use Rattle.hc_model.specs.Heads.{founded_total, founded_head, total_of_part, varied_by}
 use Rattle.hc_model.specs.Kinds.{kind_of, is_growing, brings_to}
-use Rattle.hc_model.specs.Reading.{bound, is_bound, is_bound_place}
+use Rattle.hc_model.specs.Reading.{is_bound, is_bound_place}
 use Rattle.hc_model.specs.Rows as rows
 use Rattle.hc_model.specs.Rows.{Tables, Exchange, Representation}
 use Rattle.hc_model.specs.Sound.{Among}
@@ -65,7 +65,7 @@ use Rattle.hc_state.proofs.KeySteps.{IsUnsaid, apart_unsaid}
 use Rattle.hc_state.proofs.OneOfEach.{bound_same, kind_same}
 use Rattle.hc_state.proofs.QueueArm.{becomes_by}
 use Rattle.hc_state.proofs.Ties.{consumer_same, entry_same, exchange_same}
-use Rattle.hc_state.proofs.Words.{same_or, eqb-same, eqb-other, false_true, not_true, some_is, and_false, as_received}
+use Rattle.hc_state.proofs.Words.{same_or, eqb-same, eqb-other, false_true, not_true, some_is, and_false}
 use Rattle.hc_model.specs.Lines.{is_in_line}
 
 -- It is listed, nobody is bound to what has its number, and no other exchange brings that.
@@ -558,7 +558,6 @@ module _ {B : Type 0} {g : Ghosts B} (a u : Rows B g) (m : Tables) (now x : ℕ)
   pub founded_stands : RowsStand u s
   founded_stands = record {
     limits = begins.entries.limits ∙ (limits_are ∙ sym begins.limits);
-    received = as_received begins.received stands.received;
     last_start = begins.last_start ∙ stands.last_start;
     next = begins.exchanges.next ∙ stands.next;
     count = begins.consumers.len ∙ (stands.count ∙ sym (live_same m s refl live_each));

@@ -49,7 +49,7 @@ use Rattle.hc_state.proofs.Fallbacks.{IsAlike, same, fallback, held_gone, users_
 use Rattle.hc_state.proofs.BoundLists.{bound_none, bound_some}
 use Rattle.hc_state.proofs.OneOfEach.{first_by, kind_same}
 use Rattle.hc_state.proofs.Ties.{consumer_same, key_same, entry_same, exchange_same, SaysSame, UsesSame}
-use Rattle.hc_state.proofs.Words.{eqb-same, some_is, false_true, then_false, as_received}
+use Rattle.hc_state.proofs.Words.{eqb-same, some_is, false_true, then_false}
 
 mapped : {A : Type 0} (f : A → A) (o : Option A) → is_some (option_map f o) ≡ is_some o
 mapped f None = refl
@@ -411,7 +411,6 @@ module _ {B : Type 0} {g : Ghosts B} (r u : Rows B g) (t : Tables) (may : MayLet
       → shelves.Becomes (option_and_then kept.kept_as_gone) (taken_out n) n (shelf_of r.entries) (shelf_of u.entries) → RowsStand u s
   stands_without mid limits last received exchanges consumers line cleared forgot = record {
     limits = forgot.limits ∙ (stands.limits ∙ sym limits);
-    received = as_received received stands.received;
     last_start = last ∙ stands.last_start;
     next = ap next_of exchanges ∙ stands.next;
     count = consumers.len ∙ (stands.count ∙ sym (live_let_go now n t may.one_current));

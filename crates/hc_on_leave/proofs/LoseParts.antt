@@ -35,7 +35,7 @@ use Rattle.hc_state.proofs.FallbackSteps.{live_same}
 use Rattle.hc_state.proofs.Fallbacks.{unstored_moved}
 use Rattle.hc_state.proofs.OneOfEach.{entries_same}
 use Rattle.hc_state.proofs.Ties.{exchange_same, key_same, kept_same}
-use Rattle.hc_state.proofs.Words.{same_or, eqb-other, none_some, some_is, false_true, as_received}
+use Rattle.hc_state.proofs.Words.{same_or, eqb-other, none_some, some_is, false_true}
 
 module _ (t : Tables) (q x : ℕ) (detached_reader : Option ℕ) where
   abbrev pub s : Tables
@@ -237,7 +237,6 @@ stands_parted r u t q x detached_reader v among stands there nobody limits recei
     let z : Tables = writing_lost q detached_reader (Some x) t in
     record {
       limits = rw (same_entries, limits) stands.limits;
-      received = as_received received stands.received;
       last_start = last ∙ stands.last_start;
       next = ap (λ e. next_of e) exchanges ∙ stands.next;
       count = changes.len ∙ (stands.count ∙ sym (live_same t z refl (told_same t q x detached_reader is_live (λ k own due. refl))));

@@ -20,7 +20,7 @@ use Rattle.hc_state.proofs.Fallbacks.{unstored_moved}
 use Rattle.hc_state.proofs.FallbackSteps.{length_same, live_same}
 use Rattle.hc_state.proofs.ConsumerSteps.{all_kept_with}
 use Rattle.hc_state.proofs.Ties.{exchange_same}
-use Rattle.hc_state.proofs.Words.{same_or, eqb-same, eqb-other, as_received}
+use Rattle.hc_state.proofs.Words.{same_or, eqb-same, eqb-other}
 
 module _ (t : Tables) (c : ℕ) (v z : rows.Consumer) (row : t.consumer c ≡ Some v) where
   abbrev pub s : Tables
@@ -77,7 +77,6 @@ module _ {B : Type 0} {g : Ghosts B} (r u : Rows B g) (t : Tables) (c : ℕ) (v 
   pub stands_moved : RowsStand u (with_consumer c (Some z) t)
   stands_moved = record {
     limits = bounded ∙ (stands.limits ∙ sym limits);
-    received = as_received received stands.received;
     last_start = last ∙ stands.last_start;
     next = rw exchanges stands.next;
     count = length_same r u t c v k stands row lived becomes ∙ (stands.count ∙ sym (live_same t (with_consumer c (Some z) t) refl live_each));

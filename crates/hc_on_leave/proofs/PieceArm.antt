@@ -1,8 +1,8 @@
 -- A piece is answered that isn't stored: what is kept stands for the tables then.
-use Rattle.std.proofs.Common.{◌≡◌, ◌≢◌, inl, inr, ℕ, ◌+◌, ◌<◌, ◌≤◌, ◌^◌, List, [], ◌∷◌, ◌++◌, length, drop, Bool, true, false, cond, Option, Some, None, refl, ap, sym, ◌∙◌, subst, arith}
+use Rattle.std.proofs.Common.{◌≡◌, ℕ, ◌+◌, ◌<◌, ◌≤◌, ◌^◌, List, [], ◌++◌, length, drop, Bool, true, false, cond, Option, Some, None, refl, ap, sym, ◌∙◌, subst, arith}
 use Rattle.std.proofs.lemmas.Bool.Decides.{nat_tests}
 use Rattle.std.proofs.lemmas.List.{append-nil, drop-append-le}
-use Rattle.std.specs.Prelude.{is_some, is_none, nat_eq, nat_lt, not, option_map, ◌==◌, if◌then◌else◌}
+use Rattle.std.specs.Prelude.{is_some, is_none, nat_lt, not, option_map, ◌==◌}
 use Rattle.hc_store.specs.declared.backend.Backend.{Ghosts}
 use Rattle.hc_event.specs.declared.act.Act.{Act}
 use Rattle.hc_event.specs.declared.act.Refusal.{Refusal}
@@ -22,24 +22,22 @@ use Rattle.hc_model.specs.Entries.{entry_without_acts}
 use Rattle.hc_model.specs.ExchangeRows.{with_piece}
 use Rattle.hc_model.specs.Exchanges.{family, promised_bytes, base}
 use Rattle.hc_model.specs.Lawful.{Lawful}
-use Rattle.hc_model.specs.Rows as rows
+use Rattle.hc_model.specs.Numbers.{Numbers}
 use Rattle.hc_model.specs.Rows.{Tables, Exchange, Representation}
-use Rattle.hc_model.specs.Tables.{tables}
 use Rattle.hc_model.specs.Weights.{write_in}
 use Rattle.hc_model.proofs.Once.{IsTaken, taken}
 use Rattle.hc_laws.proofs.PieceEffects as does
 use Rattle.hc_state.specs.declared.rows.Rows.{Rows}
 use Rattle.hc_state.specs.Facts.{Facts}
 use Rattle.hc_state.specs.Kept.{IsRunning, KeepsRunning, unread, held_of, held_for}
-use Rattle.hc_state.specs.Stands.{Answered, RowsStand, Stands, most_before}
+use Rattle.hc_state.specs.Stands.{Answered, RowsStand, Stands}
 use Rattle.hc_state.specs.Stops.{body_of, brought_by}
 use Rattle.hc_state.specs.Stored.{KeepsEntry}
-use Rattle.hc_on_leave.proofs.AnswerArm.{known_here}
 use Rattle.hc_state.proofs.Answering.{does_answered}
 use Rattle.hc_state.proofs.Fallbacks.{held_alike, same}
 use Rattle.hc_on_leave.proofs.HeardRows.{heard_row}
 use Rattle.hc_state.proofs.Maps.{merely_below}
-use Rattle.hc_on_leave.proofs.PieceRows.{s, z, IsLike, like_same, stands_pieced}
+use Rattle.hc_on_leave.proofs.PieceRows.{s, like_same, stands_pieced}
 use Rattle.hc_state.proofs.Words.{eqb-same, false_true, none_some, some_is, same_row, not_true}
 
 -- HOW FAR IT REACHES
@@ -68,14 +66,14 @@ not_too_long o n none =
     let off = third.0 in
     (on_by o.headed first.0, grind (arith, nat_tests, off), λ p is. not_overlong o.promised (o.delivered + n) p third.1 is)
 
-pub piece_below : {B : Type 0} {g : Ghosts B} (r : Rows B g) (t : Tables) (facts : Facts r.limits t) (x n : ℕ) (o : Open) → RowsStand r t → (table_of r.exchanges x).running ≡ Some o → r.received + n < 2 ^ 61 → piece_refusal (Some (open_view o)) n ≡ None → o.base + o.delivered + n < 2 ^ 62 + 1
-piece_below r t facts x n o stands running small none =
+pub piece_below : {B : Type 0} {g : Ghosts B} (r : Rows B g) (t : Tables) (facts : Facts r.limits t) (x n : ℕ) (o : Open) → Numbers t → t.received ≤ r.received → RowsStand r t → (table_of r.exchanges x).running ≡ Some o → r.received + n < 2 ^ 61 → piece_refusal (Some (open_view o)) n ≡ None → o.base + o.delivered + n < 2 ^ 62 + 1
+piece_below r t facts x n o numbers counted stands running small none =
     let allowed = not_too_long o n none in
     let h = heard_row r t x o stands running in
     let w = h.w in
-    by_promise w (promised_bytes w) refl h.is.delivered h.is.base_is (facts.law.places.received x w h.row) (λ p is. allowed.2 p (h.is.promised_is ∙ is)) stands.received (λ none. facts.numbers.unpromised x w h.row none) (λ p is. facts.numbers.promises x p w h.row is)
+    by_promise w (promised_bytes w) refl h.is.delivered h.is.base_is (facts.law.places.received x w h.row) (λ p is. allowed.2 p (h.is.promised_is ∙ is)) counted (λ none. numbers.unpromised x w h.row none) (λ p is. numbers.promises x p w h.row is)
   where
-    by_promise : (w : Exchange) (p : Option ℕ) → promised_bytes w ≡ p → o.delivered ≡ length w.body → o.base ≡ base w → length w.body ≤ t.received → ((m : ℕ) → promised_bytes w ≡ Some m → o.delivered + n ≤ m) → t.received ≤ r.received + most_before
+    by_promise : (w : Exchange) (p : Option ℕ) → promised_bytes w ≡ p → o.delivered ≡ length w.body → o.base ≡ base w → length w.body ≤ t.received → ((m : ℕ) → promised_bytes w ≡ Some m → o.delivered + n ≤ m) → t.received ≤ r.received
         → (promised_bytes w ≡ None → base w ≡ 0) → ((m : ℕ) → promised_bytes w ≡ Some m → base w + m ≤ 2 ^ 62) → o.base + o.delivered + n < 2 ^ 62 + 1
     by_promise w None is came begins got fits all start most = let zero : base w ≡ 0 = start is in omega (arith, zero, came, begins, got, small, all)
     by_promise w (Some m) is came begins got fits all start most = let le = fits m is in let reach = most m is in omega (arith, le, reach, begins)
@@ -84,7 +82,7 @@ piece_below r t facts x n o stands running small none =
 pub ends_below : {B : Type 0} {g : Ghosts B} (r : Rows B g) (x n : ℕ) → ∥ Stands r ∥₁ → r.received + n < 2 ^ 61 → (running : Option Open) → (table_of r.exchanges x).running ≡ running → piece_refusal (option_map open_view running) n ≡ None → EndsBelow n running
 ends_below r x n some small None is none = tt
 ends_below r x n some small (Some o) is none =
-    let below : o.base + o.delivered + n < 2 ^ 62 + 1 = merely_below (o.base + o.delivered + n) (2 ^ 62 + 1) some (λ p. piece_below r p.t p.facts x n o p.rows is small none) in
+    let below : o.base + o.delivered + n < 2 ^ 62 + 1 = merely_below (o.base + o.delivered + n) (2 ^ 62 + 1) some (λ p. piece_below r p.t p.facts x n o p.numbers p.received p.rows is small none) in
     omega (arith, below)
 
 -- ITS EXCHANGE

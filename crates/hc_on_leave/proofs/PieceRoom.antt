@@ -1,11 +1,9 @@
 -- What gives way to a piece is what is idle before it, and what the piece is of isn't among that.
-use Rattle.std.proofs.Common.{◌≡◌, ◌≢◌, inl, inr, ℕ, zero, suc, ◌+◌, ◌<◌, ◌≤◌, ◌^◌, List, [], ◌∷◌, length, take, max, Bool, true, false, Option, Some, None, refl, ap, sym, ◌∙◌, subst, arith}
+use Rattle.std.proofs.Common.{◌≡◌, ◌≢◌, inl, inr, ℕ, zero, suc, ◌+◌, ◌≤◌, List, [], ◌∷◌, length, take, Bool, true, false, Option, Some, None, refl, ap, sym, ◌∙◌, arith}
 use mathlib.Core.Path.{fun_ext}
 use Rattle.std.proofs.lemmas.Bool.Decides.{nat_tests}
 use Rattle.std.specs.Prelude.{is_some, nat_eq, nat_le, nat_lt, filter, map, reverse, not, ◌==◌, ◌&&◌, ◌||◌, if◌then◌else◌}
 use Rattle.std.specs.List.{sum_by}
-use Rattle.hc_sparse.specs.Cells.{Cells, Cell, EndsBy}
-use Rattle.hc_event.specs.declared.event.Event.{Event}
 use Rattle.hc_event.specs.declared.event.Event.TheVariants as event
 use Rattle.hc_rules.specs.declared.room.Limits.{Limits}
 use Rattle.hc_rules.specs.declared.room.Room.{Room}
@@ -36,8 +34,7 @@ use Rattle.hc_laws.proofs.LettingGo.{may_let_go}
 use Rattle.hc_laws.proofs.PieceEffects as does
 use Rattle.hc_model.proofs.SameTables.{is_in}
 use Rattle.hc_state.specs.Facts.{Facts}
-use Rattle.hc_state.proofs.Stopping.{size_kept}
-use Rattle.hc_state.proofs.Words.{same_or, eqb-same, eqb-other, false_true, none_some, then_false}
+use Rattle.hc_state.proofs.Words.{same_or, eqb-other, false_true, none_some, then_false}
 
 -- LISTS
 
@@ -84,20 +81,12 @@ and_true false = refl
 
 -- WHAT THE RUN ALLOWS
 
-reaches_small : (n m : ℕ) → n ≤ max (2 ^ 62) m → m < 2 ^ 62 → n ≤ 2 ^ 62
-reaches_small n m le small = grind (arith, nat_tests)
-
-none_by : (stored body : Option Cell) → (is_some stored ≡ true → stored ≡ body) → body ≡ None → stored ≡ None
-none_by None body same none = refl
-none_by (Some cell) body same none = same refl ∙ none
-
-pub may_make_room : {limits : Limits} (t : Tables) → Facts limits t → t.received < 2 ^ 62 → MayMakeRoom t
-may_make_room t facts small = record {
+pub may_make_room : {limits : Limits} (t : Tables) → Facts limits t → MayMakeRoom t
+may_make_room t facts = record {
   may = may_let_go t facts.law;
   used = facts.law.order.used;
   founded = facts.law.order.founded;
-  sized = λ q v there. (let store = (facts.law.sound.rows q v there).store in
-      sym (size_kept v.stored v.stored v.size v.reach (λ p. refl) (λ p past. none_by (v.stored p) (v.body p) (store.some_stored p) (store.ends p past)) (reaches_small v.reach t.received (facts.numbers.reaches q v there) small) (facts.sizes.counted q v there)));
+  sized = facts.sized;
 }
 
 -- WHAT GIVES WAY

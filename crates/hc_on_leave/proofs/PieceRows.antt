@@ -1,7 +1,7 @@
 -- An exchange brings bytes: what is kept stands for the tables then.
-use Rattle.std.proofs.Common.{◌≡◌, ◌≢◌, inl, inr, ℕ, ◌+◌, List, [], ◌∷◌, ◌++◌, length, Bool, true, false, cond, Option, Some, None, refl, ap, ap₂, sym, ◌∙◌, subst}
+use Rattle.std.proofs.Common.{◌≡◌, ◌≢◌, inl, inr, ℕ, ◌+◌, List, ◌++◌, length, Bool, true, false, cond, Option, Some, None, refl, ap, ap₂, sym, ◌∙◌, subst}
 use Rattle.std.proofs.lemmas.List.{length-append}
-use Rattle.std.specs.Prelude.{is_some, is_none, nat_eq, bytes_eq, filter, find, not, ◌&&◌, if◌then◌else◌}
+use Rattle.std.specs.Prelude.{is_some, is_none, nat_eq, bytes_eq, ◌&&◌, if◌then◌else◌}
 use Rattle.std.specs.HashMap.{get}
 use Rattle.hc_store.specs.declared.backend.Backend.{Ghosts}
 use Rattle.hc_event.specs.declared.event.Event.TheVariants as event
@@ -39,7 +39,7 @@ use Rattle.hc_state.proofs.Losing.{finds_same, filters_same}
 use Rattle.hc_state.proofs.OneOfEach.{first_by, bound_same, growing_same, kind_same}
 use Rattle.hc_state.proofs.PastRows.{SeesAlike, consumer_alike}
 use Rattle.hc_state.proofs.Ties.{key_same, entry_same, exchange_same, overs_open}
-use Rattle.hc_state.proofs.Words.{same_or, eqb-same, eqb-other, then_false, false_true, same_row, as_received, more_received}
+use Rattle.hc_state.proofs.Words.{same_or, eqb-same, eqb-other, then_false, false_true}
 
 -- what bytes don't change of a representation
 pub record IsLike (o p : Option Representation) : Type 0 where
@@ -225,7 +225,6 @@ module _ (t : Tables) (now x : ℕ) (w : Exchange) (bytes : List ℕ) (vs : ℕ 
       pub stands_pieced : RowsStand u s
       stands_pieced = record {
         limits = bounded;
-        received = as_received received (more_received r.received (length bytes) stands.received);
         last_start = last ∙ stands.last_start;
         next = becomes.next ∙ stands.next;
         count = rw same_map stands.count;

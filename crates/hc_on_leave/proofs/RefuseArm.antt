@@ -28,7 +28,7 @@ use Rattle.hc_on_leave.proofs.AnswerArm.{all_reached, known_here, known_other}
 use Rattle.hc_on_leave.proofs.HeardExchange.{held_empty, held_else, here, others, key_heard, entries_heard}
 use Rattle.hc_state.proofs.OneOfEach.{stands_then}
 use Rattle.hc_state.proofs.Ties.{consumer_same}
-use Rattle.hc_state.proofs.Words.{same_or, eqb-same, eqb-other, as_received}
+use Rattle.hc_state.proofs.Words.{same_or, eqb-same, eqb-other}
 
 module _ {B : Type 0} {g : Ghosts B} (r u : Rows B g) (t : Tables) (x : ℕ) (w z : Exchange) (stands : RowsStand r t) (unused : IsUnread t x w) (shut : z.is_open ≡ false) (empty : z.body ≡ []) (unjoined : z.joined ≡ None)
     (rest : KeepsRest r u) (consumers : u.consumers ≡ r.consumers) (becomes : exch.Becomes known.without_exchange x r.exchanges u.exchanges) where
@@ -73,7 +73,7 @@ module _ {B : Type 0} {g : Ghosts B} (r u : Rows B g) (t : Tables) (x : ℕ) (w 
 
   pub stands_shut : RowsStand u s
   stands_shut =
-      stands_then r u t s w.c x (get nat_eq r.consumers w.c) stands rest.limits (as_received rest.received stands.received) (rest.last_start ∙ stands.last_start) (becomes.next ∙ stands.next)
+      stands_then r u t s w.c x (get nat_eq r.consumers w.c) stands rest.limits (rest.last_start ∙ stands.last_start) (becomes.next ∙ stands.next)
       (rw consumers stands.count) stays (λ y ne. known_other known.without_exchange x y r.exchanges u.exchanges becomes ne) (λ d ne. refl) s_other (λ q. refl)
       (consumer_same t s (get nat_eq r.consumers w.c) (t.consumer w.c) (λ k row. record { past = λ y at. past_same w.c y k row at; length = λ q lo hi how at. refl }) (stands.consumers w.c))
       exchange_shut (let same_keys = rest.keys in λ key. rw same_keys (key_heard t x w z bare unjoined key _ (stands.keys key)))

@@ -11,11 +11,10 @@ use Rattle.hc_stored.specs.Shelf.{Shelf}
 use Rattle.hc_stored.specs.Views.{view_of}
 use Rattle.hc_model.specs.Effects.{with_consumer, as_over}
 use Rattle.hc_model.specs.Lawful.{Lawful}
+use Rattle.hc_model.specs.Numbers.{Numbers}
 use Rattle.hc_model.specs.Rows as rows
 use Rattle.hc_model.specs.Rows.{Tables, Representation}
-use Rattle.hc_model.specs.Tables.{tables}
 use Rattle.hc_state.specs.declared.rows.Rows.{Rows}
-use Rattle.hc_state.specs.Facts.{Facts}
 use Rattle.hc_state.specs.Stands.{RowsStand, Stands}
 use Rattle.hc_state.specs.Stored.{KeepsEntry, TellsLength, told, untold, TellsShort}
 use Rattle.hc_state.proofs.LeftRows.{live_row}
@@ -35,16 +34,16 @@ entry_short t q n k (Some v) rows kept known = by_length kept.length
     by_length (untold u) = none_some n (sym u.untold ∙ known)
 
 -- where they stand for tables with the representations of a run
-pub shorts : {B : Type 0} {g : Ghosts B} (r u : Rows B g) (t s : Tables) → Facts r.limits t → RowsStand r t → r.received < 2 ^ 61 → s.representation ≡ t.representation → RowsStand u s → TellsShort (shelf_of u.entries)
-shorts r u t s facts before small same stands q n k at known =
-    entry_short s q n k (s.representation q) (λ v row is. below_room n t.received (facts.numbers.totals q n v (sym (ap (λ f. f q) same) ∙ row) is) (few_received before.received small))
+pub shorts : {B : Type 0} {g : Ghosts B} (u : Rows B g) (t s : Tables) → Numbers t → t.received < 2 ^ 62 → s.representation ≡ t.representation → RowsStand u s → TellsShort (shelf_of u.entries)
+shorts u t s numbers few same stands q n k at known =
+    entry_short s q n k (s.representation q) (λ v row is. below_room n t.received (numbers.totals q n v (sym (ap (λ f. f q) same) ∙ row) is) few)
     (subst (λ o. KeepsEntry s q o (s.representation q)) at (stands.entries.each q)) known
 
 -- before an event
 pub shorts_here : {B : Type 0} {g : Ghosts B} (r : Rows B g) → ∥ Stands r ∥₁ → r.received < 2 ^ 61 → TellsShort (shelf_of r.entries)
 shorts_here r some small q n k at known = merely_below n (2 ^ 62) some (λ s.
     let t : Tables = s.t in
-    shorts r r t t s.facts s.rows small refl s.rows q n k at known)
+    shorts r t t s.numbers (few_received s.received small) refl s.rows q n k at known)
 
 -- once a consumer is gone
 pub shorts_left : {B : Type 0} {g : Ghosts B} (r u : Rows B g) (c : ℕ) → ∥ Stands r ∥₁ → is_some (get nat_eq r.consumers c) ≡ true → r.received < 2 ^ 61
@@ -53,7 +52,7 @@ shorts_left r u c some lives small leaves q n k at known = merely_below n (2 ^ 6
     let t : Tables = s.t in
     let facts = s.facts in
     let v = live_row r t c lives s.rows in
-    shorts r u t (with_consumer c (Some (as_over v.0)) t) facts s.rows small refl (leaves t v.0 facts.law v.1 s.rows) q n k at known)
+    shorts u t (with_consumer c (Some (as_over v.0)) t) s.numbers (few_received s.received small) refl (leaves t v.0 facts.law v.1 s.rows) q n k at known)
 
 -- what is told of what is kept
 pub view_short : (s : Shelf) (q : ℕ) (o : Option EntryView) (entry : EntryView) → TellsShort s → o ≡ option_map view_of (s.kept q) → o ≡ Some entry → IfSome entry.total (λ n. n < 2 ^ 62)

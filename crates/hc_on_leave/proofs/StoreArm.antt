@@ -1,9 +1,9 @@
 -- A piece is stored, by what the code did: it is answered.
-use Rattle.std.proofs.Common.{◌≡◌, ◌≢◌, inl, inr, ℕ, ◌+◌, ◌<◌, ◌≤◌, ◌^◌, List, [], ◌∷◌, ◌++◌, length, max, Bool, true, false, Option, Some, None, refl, ap, sym, ◌∙◌, subst, arith}
-use Rattle.std.proofs.lemmas.Bool.Decides.{nat_tests}
-use Rattle.std.specs.Prelude.{is_some, nat_eq, nat_lt, nat_le, not, map, option_map, ◌&&◌, if◌then◌else◌}
+use Rattle.std.proofs.Common.{◌≡◌, ◌≢◌, ℕ, ◌+◌, ◌<◌, ◌≤◌, ◌^◌, List, [], ◌++◌, length, max, Bool, true, false, Option, Some, None, refl, ap, sym, ◌∙◌, subst, arith}
+use Rattle.std.specs.Prelude.{is_some, not, map, option_map, ◌&&◌, if◌then◌else◌}
 use Rattle.hc_store.specs.declared.backend.Backend.{Ghosts}
-use Rattle.hc_sparse.specs.Cells.{Cell, Cells, AreAbsent, EndsBy, inside, cells_with, size}
+use Rattle.hc_sparse.specs.Cells.{Cell, Cells, AreAbsent, EndsBy, cells_with, size}
+use Rattle.hc_sparse.proofs.SizeLemmas.{size-same}
 use Rattle.hc_record.specs.declared.kind.Kind.{Kind}
 use Rattle.hc_event.specs.declared.act.Act.{Act}
 use Rattle.hc_event.specs.declared.event.Event.TheVariants as event
@@ -31,22 +31,19 @@ use Rattle.hc_model.specs.Effects.{let_all_go}
 use Rattle.hc_model.specs.ExchangeRows.{with_piece}
 use Rattle.hc_model.specs.Exchanges.{family, front, promised_bytes, is_reached}
 use Rattle.hc_model.specs.LettingGo as going
-use Rattle.hc_model.specs.LettingGo.{MayMakeRoom, giving_way, room_now, weight_now, weights_now}
-use Rattle.hc_event.specs.declared.place.Place.{Place}
-use Rattle.hc_event.specs.declared.place.Place.TheVariants as place
+use Rattle.hc_model.specs.LettingGo.{IsInUse, MayMakeRoom, giving_way, room_now, weight_now, weights_now}
 use Rattle.hc_model.specs.Contents.{idle_now}
-use Rattle.hc_model.specs.Reading.{bound, is_bound}
+use Rattle.hc_model.specs.Reading.{bound}
 use Rattle.hc_model.specs.RepresentationRows.{with_stored_bytes}
-use Rattle.hc_model.specs.Rows.{Tables, Exchange, Representation, Consumer}
+use Rattle.hc_model.specs.Rows.{Tables, Exchange, Representation}
 use Rattle.hc_model.specs.Runs.{has_room}
 use Rattle.hc_model.specs.Sound as sound
-use Rattle.hc_model.specs.Weights.{room_for, evicted}
+use Rattle.hc_model.specs.Weights.{room_for}
 use Rattle.hc_model.proofs.HoleLemmas.{none_of}
 use Rattle.hc_model.proofs.Once.{IsTaken, delivers_once}
-use Rattle.hc_model.proofs.SameTables.{is_in, back_from_any, without, all_go_is}
+use Rattle.hc_model.proofs.SameTables.{is_in, without, all_go_is}
 use Rattle.hc_state.specs.declared.rows.Rows.{Rows}
 use Rattle.hc_state.specs.Facts.{Facts}
-use Rattle.hc_state.specs.Kept.{IsRunning}
 use Rattle.hc_state.specs.Pieces.{unless_lost, stored_at, stored_by, larger_view, IsLastKind, PutsPiece}
 use Rattle.hc_state.specs.Room.{GivesWay}
 use Rattle.hc_state.specs.Stands.{Answered, Answers, RowsStand, Stands, open_at}
@@ -56,13 +53,11 @@ use Rattle.hc_on_leave.proofs.PieceArm.{Brought, brought_of, Runs, runs_of, brin
 use Rattle.hc_on_leave.proofs.PieceRoom.{may_make_room, room_same, gives_same, spared, room_there}
 use Rattle.hc_on_leave.proofs.Gates.{denies_as}
 use Rattle.hc_state.proofs.Maps.{merely_true, merely_false}
-use Rattle.hc_state.proofs.OneOfEach.{bound_same}
 use Rattle.hc_on_leave.proofs.PieceKinds.{outside_behind}
 use Rattle.hc_on_leave.proofs.PieceRows.{IsLike, like_same, last_is}
 use Rattle.hc_state.proofs.Rooms.{used_is}
 use Rattle.hc_on_leave.proofs.StoredPiece.{written_alike, tells, stored_stands, stored_answered}
-use Rattle.hc_state.proofs.Stopping.{size_kept}
-use Rattle.hc_state.proofs.Words.{same_or, eqb-same, false_true, none_some, some_is, few_received}
+use Rattle.hc_state.proofs.Words.{none_some, some_is}
 use Rattle.std.proofs.Math.Logic.{∥∥₁_elim}
 use Rattle.std.proofs.Math.Seq.{take-append_seam}
 use Rattle.std.specs.Prelude.{take}
@@ -73,7 +68,7 @@ use Rattle.hc_rules.specs.declared.room.Write.{Write}
 use Rattle.hc_model.specs.Runs.{may_lose}
 use Rattle.hc_laws.proofs.WeightsLeft.{fits_after}
 use Rattle.hc_state.specs.Refused.{Refuses}
-use Rattle.hc_on_leave.proofs.FoundArm.{make_gone}
+use Rattle.hc_on_leave.proofs.FoundArm.{bound_without, make_gone}
 use Rattle.hc_state.proofs.ReaderSteps.{stands_read}
 use Rattle.hc_on_leave.proofs.RefusedPiece.{Refused, too_large, not_large}
 use Rattle.hc_on_leave.proofs.RefusedPiece as refusals_of
@@ -94,9 +89,6 @@ pub record Stores (t : Tables) (x q n : ℕ) : Type 0 where
 pub undenied_piece : {B : Type 0} {g : Ghosts B} (r : Rows B g) (t : Tables) (x : ℕ) (bytes : List ℕ) → RowsStand r t → piece_refusal (open_at r x) (length bytes) ≡ None → denial t (event.Piece x bytes) ≡ None
 unfolding refusals.refusal_of
 undenied_piece r t x bytes stands none = sym (denies_as r t (event.Piece x bytes) stands) ∙ none
-
-reaches_small : (n m : ℕ) → n ≤ max (2 ^ 62) m → m < 2 ^ 62 → n ≤ 2 ^ 62
-reaches_small n m le small = grind (arith, nat_tests)
 
 pub stores_of : {B : Type 0} {g : Ghosts B} (r : Rows B g) (t : Tables) (facts : Facts r.limits t) (x q : ℕ) (bytes : List ℕ) → RowsStand r t → denial t (event.Piece x bytes) ≡ None → stored_by r x ≡ Some q → Stores t x q (length bytes)
 stores_of r t facts x q bytes stands goes grows = by_brought (brought_by (table_of r.exchanges x).running) refl (ap (λ o. o) grows)
@@ -137,32 +129,9 @@ ends_then f reach at x bytes p ends past =
     let none = ends p low in
     rw (off, none) refl
 
--- whoever waited and starts over wasn't bound
-pub bound_back : (now : ℕ) (es : List ℕ) (q : ℕ) (o : Option Consumer) → is_bound q (option_map (back_from_any now es) o) ≡ is_bound q o
-bound_back now es q None = refl
-bound_back now es q (Some k) = by_place k.place refl
-  where
-    by_place : (p : Place) → k.place ≡ p → is_bound q (option_map (back_from_any now es) (Some k)) ≡ is_bound q (Some k)
-    by_place (place.Passed a kept) at = by_test (is_in es a) refl
-      where
-        by_test : (b : Bool) → is_in es a ≡ b → is_bound q (option_map (back_from_any now es) (Some k)) ≡ is_bound q (Some k)
-        by_test true on = rw (at, on) refl
-        by_test false off = rw (at, off) refl
-    by_place place.Line at = rw at refl
-    by_place (place.Turn x) at = rw at refl
-    by_place (place.Bound r lo hi how) at = rw at refl
-    by_place (place.Direct x) at = rw at refl
-    by_place (place.Down why) at = rw at refl
-    by_place place.Over at = rw at refl
-
-bound_without : (now : ℕ) (es : List ℕ) (t : Tables) (q : ℕ) → bound (without now es t) q ≡ bound t q
-bound_without now es t q = bound_same t (without now es t) q refl (λ d. bound_back now es q (t.consumer d))
-
 -- as many bytes are kept as are stored
-pub stored_size : {B : Type 0} {g : Ghosts B} (r : Rows B g) (t : Tables) (facts : Facts r.limits t) (q : ℕ) (v : Representation) (k : Kept) (m : Tables) → t.received < 2 ^ 62 → t.representation q ≡ Some v → IsEntry m q k v → size k.cells ≡ v.size
-stored_size r t facts q v k m small there is =
-    let store = (facts.law.sound.rows q v there).store in
-    size_kept k.cells v.stored v.size v.reach is.cells (λ p past. none_by (v.stored p) (v.body p) (store.some_stored p) (store.ends p past)) (reaches_small v.reach t.received (facts.numbers.reaches q v there) small) (facts.sizes.counted q v there)
+pub stored_size : {B : Type 0} {g : Ghosts B} (r : Rows B g) (t : Tables) (facts : Facts r.limits t) (q : ℕ) (v : Representation) (k : Kept) (m : Tables) → t.representation q ≡ Some v → IsInUse t q v → IsEntry m q k v → size k.cells ≡ v.size
+stored_size r t facts q v k m there used is = size-same k.cells v.stored is.cells ∙ sym (facts.sized q v there used)
 
 -- THE ROWS AFTER ROOM WAS MADE
 
@@ -177,9 +146,6 @@ module _ {B : Type 0} {g : Ghosts B} (r mid put u : Rows B g) (t : Tables) (fact
 
   abbrev pub v : Representation
   v = it.v
-
-  few : t.received < 2 ^ 62
-  few = few_received stands.received small
 
   record Has (rows : Rows B g) (m : Tables) : Type 0 where
     k : Kept
@@ -197,7 +163,7 @@ module _ {B : Type 0} {g : Ghosts B} (r mid put u : Rows B g) (t : Tables) (fact
       by_kept (Some k) at kept = record { k = k; kept = at; is = kept }
 
   stored_is : stored ≡ v.size
-  stored_is = had first.k (ap (shelf_of r.entries).kept (sym it.of_q) ∙ first.kept) ∙ stored_size r t facts (family x w) v first.k t few it.there first.is
+  stored_is = had first.k (ap (shelf_of r.entries).kept (sym it.of_q) ∙ first.kept) ∙ stored_size r t facts (family x w) v first.k t it.there (λ gone. some_bound) first.is
 
   abbrev pub es : List ℕ
   es = giving_way r.limits t (write.Piece v.size (length bytes))
@@ -251,7 +217,7 @@ module _ {B : Type 0} {g : Ghosts B} (r mid put u : Rows B g) (t : Tables) (fact
   size_here : size_at (shelf_of mid.entries) q ≡ v.size
   size_here =
       ap (λ n. size_at (shelf_of mid.entries) n) (sym it.of_q)
-      ∙ (ap (λ (o : Option Kept). size (λ p. cells_in o p)) second.kept ∙ stored_size r t facts (family x w) v second.k (without now es t) few it.there second.is)
+      ∙ (ap (λ (o : Option Kept). size (λ p. cells_in o p)) second.kept ∙ stored_size r t facts (family x w) v second.k (without now es t) it.there (λ gone. some_bound) second.is)
 
   -- WHERE THE STORE TOOK IT
 
@@ -261,7 +227,7 @@ module _ {B : Type 0} {g : Ghosts B} (r mid put u : Rows B g) (t : Tables) (fact
   told : IsViewOf v2 (cells_with (runs.o.base + runs.o.delivered) x bytes second.k.cells) (larger_view (length bytes) (view_of second.k))
   told = record {
     total = tells mid u r.limits t facts now x bytes goes w v it.row it.taken.is_open it.taken.headed it.taken.some it.taken.fits it.there it.fresh es kept_apart second.k second.is.length;
-    size = ap (λ n. n + length bytes) (stored_size r t facts (family x w) v second.k (without now es t) few it.there second.is);
+    size = ap (λ n. n + length bytes) (stored_size r t facts (family x w) v second.k (without now es t) it.there (λ gone. some_bound) second.is);
     stored = λ p. ap (λ n. cells_with n x bytes second.k.cells p) at_front ∙ written_alike second.k.cells v.stored (front w) x bytes p (second.is.cells p);
     ends = λ p past. ends_then v.stored v.reach (front w) x bytes p (λ n le. none_by (v.stored n) (v.body n) ((facts.law.sound.rows (family x w) v it.there).store.some_stored n) ((facts.law.sound.rows (family x w) v it.there).store.ends n le)) past;
   }
@@ -303,7 +269,7 @@ module _ {B : Type 0} {g : Ghosts B} (r mid put u : Rows B g) (t : Tables) (fact
         sum_fits full =
             let none : es ≡ [] = ap (going.first_idle t) full in
             let as_before : RowsStand mid t = subst (λ rs. RowsStand mid (let_all_go now rs t)) none gives_es.rows in
-            let used : (shelf_of mid.entries).used ≡ weights_now t = used_is mid t (may_make_room t facts few) as_before in
+            let used : (shelf_of mid.entries).used ≡ weights_now t = used_is mid t (may_make_room t facts) as_before in
             subst (λ (l : Limits). weights_now t + length bytes ≤ l.max_total) limits_are (subst (λ n. n + length bytes ≤ (shelf_of mid.entries).limits.max_total) used within.1)
 
     pub store_answered : Answered r.limits (shelf_of r.entries).faults u t before out now (event.Piece x bytes)
@@ -327,10 +293,10 @@ module _ {B : Type 0} {g : Ghosts B} (r mid put u : Rows B g) (t : Tables) (fact
     left = let_all_go now es t
 
     sum_here : (shelf_of mid.entries).used ≡ weights_now left
-    sum_here = used_is mid left (make_gone now es t (may_make_room t facts few)) gives_es.rows
+    sum_here = used_is mid left (make_gone now es t (may_make_room t facts)) gives_es.rows
 
     full_by : (entry : v.size + length bytes ≤ r.limits.max_entry) → r.limits.max_total < weights_now left + length bytes → (a : Room) → room_now r.limits t wrote ≡ a → may_lose a kinds.Full ≡ true
-    full_by entry more (room.After count) is = (let fits = fits_after r.limits now t wrote count (may_make_room t facts few) is in absurd (omega (arith, fits, more)))
+    full_by entry more (room.After count) is = (let fits = fits_after r.limits now t wrote count (may_make_room t facts) is in absurd (omega (arith, fits, more)))
     full_by entry more room.TooLarge is = absurd (not_large r.limits (weights_now t) v.size (length bytes) (map (weight_now t) (idle_now t)) entry is)
     full_by entry more room.Full is = refl
 
@@ -387,24 +353,21 @@ module _ {B : Type 0} {g : Ghosts B} (r mid : Rows B g) (now x q : ℕ) (bytes :
       let t = p.t in
       let facts = p.facts in
       let stands = p.rows in
-      let few : t.received < 2 ^ 62 = few_received stands.received under in
-      mid_kept r mid mid mid t facts stands under now x q bytes (undenied_piece r t x bytes stands accepted) grows before out stored had (gives t (may_make_room t facts few) stands) mid_limits mid_received mid_last mid_exchanges)
+      mid_kept r mid mid mid t facts stands under now x q bytes (undenied_piece r t x bytes stands accepted) grows before out stored had (gives t (may_make_room t facts) stands) mid_limits mid_received mid_last mid_exchanges)
 
   pub absent_mid : (o : Open) → (table_of mid.exchanges x).running ≡ Some o → AreAbsent (cells_at (shelf_of mid.entries) q) (o.base + o.delivered) (o.base + o.delivered + length bytes)
   absent_mid o running n low high = none_of (cells_at (shelf_of mid.entries) q n) (merely_false (is_some (cells_at (shelf_of mid.entries) q n)) some (λ p.
       let t = p.t in
       let facts = p.facts in
       let stands = p.rows in
-      let few : t.received < 2 ^ 62 = few_received stands.received under in
-      ap (λ (e : Option Cell). is_some e) (mid_absent r mid mid mid t facts stands under now x q bytes (undenied_piece r t x bytes stands accepted) grows before out stored had (gives t (may_make_room t facts few) stands) mid_limits mid_received mid_last mid_exchanges o running n low high)))
+      ap (λ (e : Option Cell). is_some e) (mid_absent r mid mid mid t facts stands under now x q bytes (undenied_piece r t x bytes stands accepted) grows before out stored had (gives t (may_make_room t facts) stands) mid_limits mid_received mid_last mid_exchanges o running n low high)))
 
   pub answered_mid : (put u : Rows B g) → ((o : Open) → (table_of mid.exchanges x).running ≡ Some o → PutsPiece mid put x q o bytes)
       → (size_at (shelf_of mid.entries) q + length bytes ≤ (shelf_of mid.entries).limits.max_entry) × ((shelf_of mid.entries).used + length bytes ≤ (shelf_of mid.entries).limits.max_total)
       → u.entries ≡ put.entries → u.limits ≡ mid.limits → u.received ≡ mid.received + length bytes → u.last_start ≡ mid.last_start → u.consumers ≡ mid.consumers → u.keys ≡ mid.keys → exch.Becomes (known.with_piece bytes false) x mid.exchanges u.exchanges
       → Answers r u before out now (event.Piece x bytes)
   answered_mid put u puts within entries limits received last same_map same_keys becomes t facts stands goes =
-      let few : t.received < 2 ^ 62 = few_received stands.received under in
-      let made = gives t (may_make_room t facts few) stands in
+      let made = gives t (may_make_room t facts) stands in
       let ran = runs r mid put u t facts stands under now x q bytes goes grows before out stored had made mid_limits mid_received mid_last mid_exchanges in
       store_answered r mid put u t facts stands under now x q bytes goes grows before out stored had made mid_limits mid_received mid_last mid_exchanges (puts ran.o ran.running) within entries limits received last same_map same_keys becomes
 
@@ -413,8 +376,7 @@ module _ {B : Type 0} {g : Ghosts B} (r mid : Rows B g) (now x q : ℕ) (bytes :
       → put.limits ≡ mid.limits → put.received ≡ mid.received → put.last_start ≡ mid.last_start → put.consumers ≡ mid.consumers → put.exchanges ≡ mid.exchanges → put.keys ≡ mid.keys
       → (t : Tables) → Facts r.limits t → RowsStand r t → denial t (event.Piece x bytes) ≡ None → Refuses r put t now x bytes kind before out
   refused_mid put kind stays faulty why limits received last same_map exchanges same_keys t facts stands goes =
-      let few : t.received < 2 ^ 62 = few_received stands.received under in
-      refuses_it r mid put put t facts stands under now x q bytes goes grows before out stored had (gives t (may_make_room t facts few) stands) mid_limits mid_received mid_last mid_exchanges
+      refuses_it r mid put put t facts stands under now x q bytes goes grows before out stored had (gives t (may_make_room t facts) stands) mid_limits mid_received mid_last mid_exchanges
       kind stays faulty why limits received last same_map exchanges same_keys
 
   -- what stood there stands there, and what gives way behind it
@@ -422,6 +384,5 @@ module _ {B : Type 0} {g : Ghosts B} (r mid : Rows B g) (now x q : ℕ) (bytes :
   front_mid = ∥∥₁_elim some (acts_set (take (length before) out) before) (λ p.
       let t = p.t in
       let facts = p.facts in
-      let few : t.received < 2 ^ 62 = few_received p.rows.received under in
-      let made = gives t (may_make_room t facts few) p.rows in
+      let made = gives t (may_make_room t facts) p.rows in
       ap (take (length before)) made.acts ∙ take-append_seam before (map act.Evicted (giving_way r.limits t (write.Piece stored (length bytes)))))

@@ -15,6 +15,7 @@ use Rattle.hc_event.specs.declared.place.Place.TheVariants as place
 use Rattle.hc_event.specs.declared.place.BoundBy.{BoundBy}
 use Rattle.hc_model.specs.Currents.{is_number}
 use Rattle.hc_model.specs.Reading.{own_open, if_open, is_written, is_bound_place, offset, lo_of}
+use Rattle.hc_model.specs.Numbers.{Numbers}
 use Rattle.hc_model.specs.Rows as rows
 use Rattle.hc_model.specs.Rows.{Tables, Representation}
 use Rattle.hc_model.specs.Sound as sound
@@ -30,7 +31,7 @@ use Rattle.hc_state.specs.Stands.{RowsStand}
 use Rattle.hc_state.specs.Stored.{IsEntry, is_first}
 use Rattle.hc_state.proofs.CurrentTies.{stored_ends, covers_as, kept_entry}
 use Rattle.hc_state.proofs.LeftRows.{running_as, writing_as}
-use Rattle.hc_state.proofs.Words.{eqb-same, false_true, some_is, few_received}
+use Rattle.hc_state.proofs.Words.{eqb-same, false_true, some_is}
 
 -- HAS MORE
 
@@ -158,14 +159,13 @@ module _ {B : Type 0} {g : Ghosts B} (r : Rows B g) (t : Tables) (facts : Facts 
         by_reader d j (sound.is_bound lo hi by row at) one = some_is j a.v (sym row ∙ (ap t.consumer one ∙ a.row))
 
     -- where it stands is in range
-    pub alone_below : (c : ℕ) (a : IsAlone c) (k : Consumer) → get nat_eq r.consumers c ≡ Some k → r.received < 2 ^ 61 → k.lo + k.given < 2 ^ 63
-    alone_below c a k there small =
+    pub alone_below : (c : ℕ) (a : IsAlone c) (k : Consumer) → get nat_eq r.consumers c ≡ Some k → Numbers t → t.received < 2 ^ 62 → k.lo + k.given < 2 ^ 63
+    alone_below c a k there numbers few =
         let kept : IsKept t k a.v = subst (KeepsConsumer t (Some k)) a.row (subst (λ o. KeepsConsumer t o (t.consumer c)) there (stands.consumers c)) in
         let begins : k.lo ≡ a.lo = kept.begins ∙ ap (lo_of t) a.at in
         let given = kept.given in
-        let starts : a.lo ≤ max (2 ^ 62) t.received = facts.numbers.starts c q a.lo a.hi a.by a.v a.row a.at in
-        let reaches : p.reach ≤ max (2 ^ 62) t.received = facts.numbers.reaches q p here in
-        let few : t.received < 2 ^ 62 = few_received stands.received small in
+        let starts : a.lo ≤ max (2 ^ 62) t.received = numbers.starts c q a.lo a.hi a.by a.v a.row a.at in
+        let reaches : p.reach ≤ max (2 ^ 62) t.received = numbers.reaches q p here in
         below k.lo k.given a.lo a.v.given p.reach t.received begins given starts reaches few (facts.law.given.reaches c q a.lo a.hi a.by a.v p a.row a.at here)
       where
         below : (lo given from n reach received : ℕ) → lo ≡ from → given ≡ n → from ≤ max (2 ^ 62) received → reach ≤ max (2 ^ 62) received → received < 2 ^ 62 → (n ≡ 0) ⊎ (from + n ≤ reach) → lo + given < 2 ^ 63

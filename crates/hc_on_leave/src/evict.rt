@@ -5,7 +5,7 @@ ghost use Rattle.hc_entry.specs.Keys.{line_of};
 ghost use Rattle.hc_entry.specs.Lines.{is_in};
 ghost use Rattle.hc_stored.specs.Entries.{shelf_of};
 ghost use Rattle.hc_model.specs.Effects.{let_go, let_some_go};
-ghost use Rattle.hc_model.specs.LettingGo.{MayLetGo, MayMakeRoom, giving_way};
+ghost use Rattle.hc_model.specs.LettingGo.{MayMakeRoom, MayLetGo, giving_way};
 ghost use Rattle.hc_model.specs.Rows.{Tables};
 ghost use Rattle.hc_state.specs.Changes.{ChangesAmong, KeepsLive, over_if_passed};
 ghost use Rattle.hc_state.specs.Room.{HasActs, LeavesActs, room_for_write, GivesWay, Appends};

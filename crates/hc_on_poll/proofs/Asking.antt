@@ -1,6 +1,6 @@
 -- The next bytes of an exchange are asked for: what is kept stands for the tables then.
-use Rattle.std.proofs.Common.{◌≡◌, ◌≢◌, inl, inr, ℕ, ◌+◌, ◌-◌, [], length, Bool, true, false, eqb, Option, Some, None, refl, ap, sym, ◌∙◌, subst}
-use Rattle.std.specs.Prelude.{is_some, nat_eq, bytes_eq, drop, option_map, ◌&&◌, if◌then◌else◌}
+use Rattle.std.proofs.Common.{◌≡◌, ◌≢◌, inl, inr, ℕ, ◌+◌, ◌-◌, [], length, Bool, true, false, Option, Some, None, refl, ap, sym, ◌∙◌, subst}
+use Rattle.std.specs.Prelude.{nat_eq, bytes_eq, drop, option_map, ◌&&◌, if◌then◌else◌}
 use Rattle.std.specs.HashMap.{get, hash_map_len}
 use Rattle.hc_store.specs.declared.backend.Backend.{Ghosts}
 use Rattle.hc_event.specs.declared.event.Response.{Response}
@@ -28,14 +28,14 @@ use Rattle.hc_state.specs.Stored.{is_over}
 use Rattle.hc_state.specs.declared.consumer.Consumer.{Consumer}
 use Rattle.hc_state.specs.declared.rows.Rows.{Rows}
 use Rattle.hc_state.specs.Arms.{asked_in}
-use Rattle.hc_state.specs.Kept.{IsKept, KeepsConsumer, KeepsExchange, KeepsRunning, head_in, answer_at, held_for, held_of, held_alone, unread, unstored_bytes}
+use Rattle.hc_state.specs.Kept.{IsKept, KeepsConsumer, KeepsExchange, KeepsRunning, head_in, answer_at, held_for, held_of, held_alone, unstored_bytes}
 use Rattle.hc_state.specs.Lines.{KeepsKey, is_away, is_away_at}
 use Rattle.hc_state.specs.Stands.{RowsStand}
 use Rattle.hc_state.proofs.Fallbacks.{same, held_alike}
 use Rattle.hc_state.proofs.OneOfEach.{entries_same, growing_same}
 use Rattle.hc_state.proofs.ReaderSteps.{entries_read}
 use Rattle.hc_state.proofs.Ties.{exchange_same, key_same}
-use Rattle.hc_state.proofs.Words.{same_or, eqb-same, eqb-other, as_received}
+use Rattle.hc_state.proofs.Words.{same_or, eqb-same, eqb-other}
 
 -- WHAT IS ASKED FOR BRINGS AS MUCH
 
@@ -208,7 +208,6 @@ pub stands_asked : {B : Type 0} {g : Ghosts B} (r u : Rows B g) (t : Tables) (x 
     → exch.Becomes known.with_asking x r.exchanges u.exchanges → shelf.Stays (shelf_of r.entries) (shelf_of u.entries) → RowsStand u (with_ask x t)
 stands_asked r u t x stands limits received last consumers keys becomes read = record {
   limits = read.limits ∙ (stands.limits ∙ sym limits);
-  received = as_received received stands.received;
   last_start = last ∙ stands.last_start;
   next = becomes.next ∙ stands.next;
   count = ap (λ z. hash_map_len z) consumers ∙ stands.count;
@@ -238,7 +237,6 @@ pub stands_asked_already : {B : Type 0} {g : Ghosts B} (r u : Rows B g) (t : Tab
     → exch.Becomes known.with_asking x r.exchanges u.exchanges → shelf.Stays (shelf_of r.entries) (shelf_of u.entries) → RowsStand u t
 stands_asked_already r u t x stands on limits received last consumers keys becomes read = record {
   limits = read.limits ∙ (stands.limits ∙ sym limits);
-  received = as_received received stands.received;
   last_start = last ∙ stands.last_start;
   next = becomes.next ∙ stands.next;
   count = ap (λ z. hash_map_len z) consumers ∙ stands.count;

@@ -55,7 +55,7 @@ use Rattle.hc_on_poll.proofs.PassesArm.{current_as}
 use Rattle.hc_on_poll.proofs.PastArm.{idle_reads, idle_lives, keys_past}
 use Rattle.hc_state.proofs.QueueArm.{becomes_by}
 use Rattle.hc_state.proofs.Ties.{exchange_same, key_same}
-use Rattle.hc_state.proofs.Words.{same_or, eqb-same, eqb-other, some_is, as_received}
+use Rattle.hc_state.proofs.Words.{same_or, eqb-same, eqb-other, some_is}
 use Rattle.std.proofs.Common.{inl, inr}
 
 module _ {B : Type 0} {g : Ghosts B} (r mid : Rows B g) (a : Entries B g) (m : Numbered Consumer) (t : Tables) (law : Lawful t) (c q lo : ℕ) (hi : Option ℕ) (k : Consumer) (v : rows.Consumer) (stands : RowsStand r t) (there : get nat_eq r.consumers c ≡ Some k) (row : t.consumer c ≡ Some v) (idle : is_idle_at k.place ≡ true)
@@ -132,7 +132,7 @@ module _ {B : Type 0} {g : Ghosts B} (r mid : Rows B g) (a : Entries B g) (m : N
   stands_bound =
       let now = now_kept r t stands v.request.key q at_q in
       let reads_none = idle_reads v.place v_idle in
-      stands_then r u t s c x (Some (bound_shown q lo hi k)) stands (leaves.limits) (as_received leaves.received stands.received) (leaves.last_start ∙ stands.last_start) (ap next_of leaves.exchanges ∙ stands.next)
+      stands_then r u t s c x (Some (bound_shown q lo hi k)) stands (leaves.limits) (leaves.last_start ∙ stands.last_start) (ap next_of leaves.exchanges ∙ stands.next)
       (length_same r u t c v (bound_shown q lo hi k) stands row (idle_lives v.place v_idle) (becomes_by r.consumers m c k (bound_shown q lo hi) there changed) ∙ (stands.count ∙ sym (live_same t s refl live_each)))
       (becomes_by r.consumers m c k (bound_shown q lo hi) there changed) (λ y ne. ap (λ e. table_of e y) leaves.exchanges) others (λ y ne. refl) (λ n. refl) (subst (KeepsConsumer s (Some (bound_shown q lo hi k))) (sym here) bound_kept)
       (subst (λ e. KeepsExchange s x (table_of e x)) (sym leaves.exchanges) (exchange_same t s x (table_of r.exchanges x) (record { row = refl; brings = λ z at. refl; held = held_row x (t.exchange x) }) (stands.exchanges x)))

@@ -39,6 +39,7 @@ use Rattle.hc_model.specs.Moves.{Move, Opens, Gives, Ends, Fails, gives, waits_f
 use Rattle.hc_model.specs.Planning.{planned_move}
 use Rattle.hc_model.specs.Polls.{move_of, shows_head, shows_at, if_headless, waits_for_head, by_place, or_else}
 use Rattle.hc_model.specs.Reading.{own_open, shared_exchange, source, offset, hi_of, lo_of, if_open, is_written, writing_in}
+use Rattle.hc_model.specs.Numbers.{Numbers}
 use Rattle.hc_model.specs.Rows as rows
 use Rattle.hc_model.specs.Rows.{Tables, Exchange, Representation}
 use Rattle.hc_model.specs.Sound.{IsBound, IsFirst, IsExclusiveWriter, IsServed, IsAlone}
@@ -61,7 +62,7 @@ use Rattle.hc_on_poll.proofs.BoundViews.{Holds, next_as, offset_is, entry_there,
 use Rattle.hc_on_poll.proofs.ReadLemmas as lemmas
 use Rattle.hc_on_poll.proofs.ReadLemmas.{third_is, some_more}
 use Rattle.hc_on_poll.proofs.ShowStored.{IsBoundRow, headless_as}
-use Rattle.hc_state.proofs.Words.{same_or, eqb-same, none_some, false_true, some_is, same_row, none_of, few_received}
+use Rattle.hc_state.proofs.Words.{same_or, eqb-same, none_some, false_true, some_is, same_row, none_of}
 
 -- THE STEP, BY ITS PARTS
 
@@ -418,7 +419,7 @@ module _ {B : Type 0} {g : Ghosts B} (r : Rows B g) (t : Tables) (facts : Facts 
         pub head_is : head_at (shelf_of r.entries) q ≡ Some head
         pub total : ℕ
         pub known : head.total ≡ Some total
-        pub within : IsWithin other total
+        pub within : Numbers t → t.received < 2 ^ 62 → IsWithin other total
         pub move_is : move_of t now want c rd.v ≡ Opens (next_of r.exchanges) (need.Hole other.lo other.hi) (hole_request head k.request other (unwrap_or head.total 0))
 
       module _ (other : Span) (is : read_step view ≡ step.Hole other) where
@@ -572,17 +573,16 @@ module _ {B : Type 0} {g : Ghosts B} (r : Rows B g) (t : Tables) (facts : Facts 
             ] in
             (omega (arith, lt, far), omega arith)
 
-        hole_fits : r.received < 2 ^ 61 → IsWithin other length_is.0
-        hole_fits small =
-            let total = facts.numbers.totals q length_is.0 rd.p rd.there length_is.1 in
-            let received = few_received stands.received small in
+        hole_fits : Numbers t → t.received < 2 ^ 62 → IsWithin other length_is.0
+        hole_fits numbers few =
+            let total = numbers.totals q length_is.0 rd.p rd.there length_is.1 in
             let ends = more_ahead next view_is.next_is in
             let le = length_is.2 in
             let to : hole_end k.hi o next ≡ hole_end (Some h) o next = ap (λ (z : Option ℕ). hole_end z o next) code_end in
             subst (λ (z : Span). IsWithin z length_is.0) all.same (record {
               not_empty = (let more = ends.0 in omega (arith, more, to));
               within = (let less = ends.1 in omega (arith, less, to, le));
-              small = omega (arith, total, received, small);
+              small = omega (arith, total, few);
             })
 
         opens_as : move_of t now want c rd.v ≡ Opens (next_of r.exchanges) (need.Hole other.lo other.hi) (hole_request e.head k.request other (unwrap_or e.head.total 0))
@@ -599,27 +599,26 @@ module _ {B : Type 0} {g : Ghosts B} (r : Rows B g) (t : Tables) (facts : Facts 
                 ∙ (ap (λ (z : Request). hole_request e.head z other (unwrap_or rd.p.head.total 0)) (sym rd.kept.request)
                 ∙ ap (λ (z : Option ℕ). hole_request e.head k.request other (unwrap_or z 0)) (sym told_length))
 
-        pub hole_move : r.received < 2 ^ 61 → FillsHole other
-        hole_move small = record {
+        pub hole_move : FillsHole other
+        hole_move = record {
           head = e.head;
           head_is = ap (λ (z : Option entry.Kept). option_map (λ (y : entry.Kept). y.head) z) (entry_there r t facts stands c q how k rd).1;
           total = length_is.0;
           known = total_known;
-          within = hole_fits small;
+          within = hole_fits;
           move_is = opens_as;
         }
 
 -- WHAT FITS
 
-module _ {B : Type 0} {g : Ghosts B} (r : Rows B g) (t : Tables) (facts : Facts r.limits t) (stands : RowsStand r t) (c q : ℕ) (how : BoundBy) (k : Consumer) (rd : IsBoundRow t c q how k) (small : r.received < 2 ^ 61) where
+module _ {B : Type 0} {g : Ghosts B} (r : Rows B g) (t : Tables) (facts : Facts r.limits t) (stands : RowsStand r t) (c q : ℕ) (how : BoundBy) (k : Consumer) (rd : IsBoundRow t c q how k) (numbers : Numbers t) (few : t.received < 2 ^ 62) where
   begins : k.lo ≡ rd.lo
   begins = rd.kept.begins ∙ ap (lo_of t) rd.at
 
   reach_small : rd.p.reach ≤ 2 ^ 62
   reach_small =
-      let most = facts.numbers.reaches q rd.p rd.there in
-      let received = few_received stands.received small in
-      omega (arith, most, received, small)
+      let most = numbers.reaches q rd.p rd.there in
+      omega (arith, most, few)
 
   -- where it stands
   pub offset_small : k.lo + k.given < 2 ^ 62 + 1
@@ -627,11 +626,10 @@ module _ {B : Type 0} {g : Ghosts B} (r : Rows B g) (t : Tables) (facts : Facts 
     where
       by_given : (rd.v.given ≡ 0) ⊎ (rd.lo + rd.v.given ≤ rd.p.reach) → k.lo + k.given < 2 ^ 62 + 1
       by_given (inl none) =
-          let from = facts.numbers.starts c q rd.lo rd.hi how rd.v rd.row rd.at in
-          let received = few_received stands.received small in
+          let from = numbers.starts c q rd.lo rd.hi how rd.v rd.row rd.at in
           let given = rd.kept.given in
           let at = begins in
-          omega (arith, none, from, received, small, given, at)
+          omega (arith, none, from, few, given, at)
       by_given (inr within) =
           let given = rd.kept.given in
           let at = begins in
@@ -682,10 +680,9 @@ module _ {B : Type 0} {g : Ghosts B} (r : Rows B g) (t : Tables) (facts : Facts 
   -- what is held
   pub held_small : (h : Holds r t c q k rd.v rd.p) (n : ℕ) → k.given + length (take n (table_of r.exchanges h.x).held) < 2 ^ 62 + 1
   held_small h n =
-      let most = facts.numbers.fronts h.x h.w h.row in
-      let received = few_received stands.received small in
+      let most = numbers.fronts h.x h.w h.row in
       let low = h.after_base in
       let high = h.before_front in
       let len : length (table_of r.exchanges h.x).held ≡ length h.w.body - (k.lo + k.given - base h.w) = ap length h.known ∙ length-drop (k.lo + k.given - base h.w) h.w.body in
       let less = length-take n (table_of r.exchanges h.x).held in
-      omega (arith, most, received, small, low, high, len, less)
+      omega (arith, most, few, low, high, len, less)

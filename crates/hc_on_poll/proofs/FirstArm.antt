@@ -242,7 +242,7 @@ module _ {B : Type 0} {g : Ghosts B} (r : Rows B g) (e : Exchanges) (a : Entries
   pub stands_filling : RowsStand u s
   stands_filling =
       let reads_none = idle_reads v.place v_idle in
-      stands_then r u t s c x (Some (bound_first q span x k)) stands refl stands.received stands.last_start
+      stands_then r u t s c x (Some (bound_first q span x k)) stands refl stands.last_start
       (let before = stands.next in omega (arith, next, before, is_next))
       (length_same r u t c v (bound_first q span x k) stands row (idle_lives v.place v_idle) becomes ∙ (stands.count ∙ sym (live_same t s refl live_each)))
       becomes (λ y ne. launches_at y ∙ rw (eqb-other x y (λ e. ne (sym e))) refl) others exchanges (λ d. refl) (subst (KeepsConsumer s (Some (bound_first q span x k))) (sym here) kept_then) (subst (KeepsExchange s x) (sym known_is) known_then) keys_then

@@ -63,7 +63,7 @@ use Rattle.hc_on_poll.proofs.OpenKinds.{kinds_opened}
 use Rattle.hc_state.proofs.QueueArm.{becomes_by}
 use Rattle.hc_on_poll.proofs.ShowStored.{IsBoundRow}
 use Rattle.hc_state.proofs.Ties.{entry_same, key_same, overs_opened}
-use Rattle.hc_state.proofs.Words.{same_or, eqb-same, eqb-other, none_some, false_true, some_is, same_row, as_received}
+use Rattle.hc_state.proofs.Words.{same_or, eqb-same, eqb-other, none_some, false_true, some_is, same_row}
 
 -- where it stands before a hole
 record IsAtHole (t : Tables) (c q : ℕ) (v : rows.Consumer) (p : Representation) : Type 0 where
@@ -328,7 +328,7 @@ module _ {B : Type 0} {g : Ghosts B} (r u : Rows B g) (t : Tables) (facts : Fact
 
   stands_filled : RowsStand u s
   stands_filled =
-      stands_then r u t s c x (Some (with_own x k)) stands limits (as_received received stands.received) (last ∙ stands.last_start)
+      stands_then r u t s c x (Some (with_own x k)) stands limits (last ∙ stands.last_start)
       (let before = stands.next in let above = x_is in omega (arith, next, before, above))
       (length_same r u t c v (with_own x k) stands rd.row rd.kept.is_there becomes ∙ (stands.count ∙ sym (live_same t s refl (same_of is_live refl))))
       becomes (λ y ne. launches y ∙ rw (eqb-other (next_of r.exchanges) y (λ e. ne (sym e ∙ sym is_next))) refl) others exchanges (λ a. refl)

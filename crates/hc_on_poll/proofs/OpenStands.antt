@@ -28,7 +28,7 @@ use Rattle.hc_state.proofs.FallbackSteps.{length_same, live_same}
 use Rattle.hc_state.proofs.OneOfEach.{stands_then}
 use Rattle.hc_on_poll.proofs.OpenArm.{WaitsFor, unread_yet, held_else, none_held, entries_opened}
 use Rattle.hc_on_poll.proofs.OpenRows.{runs, opener_kept, live_then}
-use Rattle.hc_state.proofs.Words.{same_or, eqb-same, eqb-other, as_received}
+use Rattle.hc_state.proofs.Words.{same_or, eqb-same, eqb-other}
 
 module _ {B : Type 0} {g : Ghosts B} (r u : Rows B g) (t : Tables) (law : Lawful t) (now c x : ℕ) (n : Need) (request copied : Request) (aim : Option ℕ) (role : Role) (k : Consumer) (v : rows.Consumer) (p : Place) (stands : RowsStand r t)
     (there : get nat_eq r.consumers c ≡ Some k) (row : t.consumer c ≡ Some v) (idle : reads v.place ≡ false) (lived : is_live_place v.place ≡ true) (at : WaitsFor x p) (is_next : x ≡ t.opened + 1)
@@ -82,7 +82,7 @@ module _ {B : Type 0} {g : Ghosts B} (r u : Rows B g) (t : Tables) (law : Lawful
 
   pub stands_opened : ((key : List ℕ) → KeepsKey s key (kept_of u.keys key)) → RowsStand u s
   stands_opened keys =
-      stands_then r u t s c x (Some (record k { place = p; own = Some x })) stands limits (as_received received stands.received) (last ∙ stands.last_start)
+      stands_then r u t s c x (Some (record k { place = p; own = Some x })) stands limits (last ∙ stands.last_start)
       (let before = stands.next in omega (arith, next, before, is_next))
       (length_same r u t c v (record k { place = p; own = Some x }) stands row lived becomes ∙ (stands.count ∙ sym (live_same t s refl live_each)))
       becomes (λ y ne. launches y ∙ rw (eqb-other x y (λ e. ne (sym e))) refl) others exchanges (λ q. refl) kept_then (subst (KeepsExchange s x) (sym launched_is) known_then) keys

@@ -35,6 +35,7 @@ use Rattle.hc_model.specs.Moves.{Opens, opens_hole, span_to, hole_request}
 use Rattle.hc_model.specs.Planning as planning
 use Rattle.hc_model.specs.Planning.{candidate, candidate_at, hole_of}
 use Rattle.hc_model.specs.Reading.{bound, is_bound, is_bound_place}
+use Rattle.hc_model.specs.Numbers.{Numbers}
 use Rattle.hc_model.specs.Rows as rows
 use Rattle.hc_model.specs.Rows.{Tables, Representation}
 use Rattle.hc_model.specs.Writers.{came_alone}
@@ -109,13 +110,12 @@ module _ {B : Type 0} {g : Ghosts B} (r : Rows B g) (t : Tables) (facts : Facts 
   range_is = ap (λ (z : RequestClass). z.range) kept.class_is ∙ range_of_class v.request
 
   -- a part of it that begins before it ends, by where what is wanted ends
-  within : r.received < 2 ^ 61 → (span part : Span) → wanted_of (range_of v.request) at.p.head.total ≡ wanted.Interval span → part.lo < part.hi → part.hi ≤ span.hi → IsSomeAnd head.total (IsWithin part)
-  within small span part wants some inside =
+  within : Numbers t → t.received < 2 ^ 62 → (span part : Span) → wanted_of (range_of v.request) at.p.head.total ≡ wanted.Interval span → part.lo < part.hi → part.hi ≤ span.hi → IsSomeAnd head.total (IsWithin part)
+  within numbers few span part wants some inside =
       let w = wanted_within (range_of v.request) at.p.head.total span wants in
       let ends : span.hi ≤ w.total = w.ends in
-      let early : w.total < max (2 ^ 62) (t.received + 1) = facts.numbers.totals q w.total at.p at.row w.known in
-      let count : t.received < 2 ^ 62 = few_received stands.received small in
-      some_that head.total w.total (IsWithin part) (total_is ∙ w.known) (record { not_empty = some; within = omega (arith, ends, inside); small = omega (arith, early, count, small) })
+      let early : w.total < max (2 ^ 62) (t.received + 1) = numbers.totals q w.total at.p at.row w.known in
+      some_that head.total w.total (IsWithin part) (total_is ∙ w.known) (record { not_empty = some; within = omega (arith, ends, inside); small = omega (arith, early, few) })
 
   -- WHO FILLS A HOLE
 
@@ -156,10 +156,10 @@ module _ {B : Type 0} {g : Ghosts B} (r : Rows B g) (t : Tables) (facts : Facts 
     pub filling_queues : queues k ≡ true
     filling_queues = ap (λ (z : RequestClass). not z.disabled && not z.only) kept.class_is ∙ rw (f.cached, f.asks) refl
 
-    pub filling_within : r.received < 2 ^ 61 → IsSomeAnd head.total (IsWithin hole)
-    filling_within small =
+    pub filling_within : Numbers t → t.received < 2 ^ 62 → IsSomeAnd head.total (IsWithin hole)
+    filling_within numbers few =
         let inside = hole_inside at.p.stored at.p.reach span (stored_ends t facts.law q at.p at.row (stays_stored t facts.law q at.p at.row at.stays)) hole f.lacks in
-        within small span hole f.wants inside.0 inside.1
+        within numbers few span hole f.wants inside.0 inside.1
 
     -- nobody is bound yet
     nobody_bound : (d : ℕ) → is_bound q (t.consumer d) ≡ false
@@ -195,8 +195,8 @@ module _ {B : Type 0} {g : Ghosts B} (r : Rows B g) (t : Tables) (facts : Facts 
 
   -- WHO IS SHOWN A PART
 
-  pub part_within : r.received < 2 ^ 61 → (why : Why) (span : Option Span) → plan_of view ≡ plan.Bind why span → is_some k.class.range ≡ true → (part : Span) → span_to (begin_of span) (end_of span head.total) ≡ Some part → IsSomeAnd head.total (IsWithin part)
-  part_within small why span is ranged part told = by_plan (plan_of view) (plan_by view) is
+  pub part_within : Numbers t → t.received < 2 ^ 62 → (why : Why) (span : Option Span) → plan_of view ≡ plan.Bind why span → is_some k.class.range ≡ true → (part : Span) → span_to (begin_of span) (end_of span head.total) ≡ Some part → IsSomeAnd head.total (IsWithin part)
+  part_within numbers few why span is ranged part told = by_plan (plan_of view) (plan_by view) is
     where
       ranged_too : is_some (range_of v.request) ≡ true
       ranged_too = ap (λ (z : Option Asked). is_some z) (sym range_is) ∙ ranged
@@ -205,7 +205,7 @@ module _ {B : Type 0} {g : Ghosts B} (r : Rows B g) (t : Tables) (facts : Facts 
       in_part a wants one =
           let some : a.lo < a.hi = wanted_some (range_of v.request) at.p.head.total a ranged_too (λ asked found. in_order t k v kept asked (range_is ∙ found)) wants in
           let same : (record { lo = a.lo; hi = a.hi }) ≡ part = some_is _ part (ap (λ (z : Option Span). span_to (begin_of z) (end_of z head.total)) one ∙ told) in
-          subst (λ (z : Span). IsSomeAnd head.total (IsWithin z)) same (within small a a wants some (omega arith))
+          subst (λ (z : Span). IsSomeAnd head.total (IsWithin z)) same (within numbers few a a wants some (omega arith))
 
       unranged : is_none (range_of v.request) ≡ true → IsSomeAnd head.total (IsWithin part)
       unranged none = by_range (range_of v.request) none ranged_too
@@ -255,7 +255,7 @@ module _ {B : Type 0} {g : Ghosts B} (r : Rows B g) (some : ∥ Stands r ∥₁)
         let t = s.t in
         let facts = s.facts in
         let (v, row, kept) = its_row t s.rows in
-        filling_within r t facts s.rows c it v row kept q held_by_it head read now span hole (filling r t facts s.rows c it v row kept q held_by_it head read now span hole (is t v facts s.rows row)) small)
+        filling_within r t facts s.rows c it v row kept q held_by_it head read now span hole (filling r t facts s.rows c it v row kept q held_by_it head read now span hole (is t v facts s.rows row)) s.numbers (few_received s.received small))
 
     pub filling_alone : admits_first c ((shelf_of r.entries).kept q) ≡ true
     filling_alone = merely_true (admits_first c ((shelf_of r.entries).kept q)) some (λ s.
@@ -289,4 +289,4 @@ module _ {B : Type 0} {g : Ghosts B} (r : Rows B g) (some : ∥ Stands r ∥₁)
       let t = s.t in
       let facts = s.facts in
       let (v, row, kept) = its_row t s.rows in
-      part_within r t facts s.rows c it v row kept q held_by_it head read now small why span (is t v facts s.rows row) ranged part told))
+      part_within r t facts s.rows c it v row kept q held_by_it head read now s.numbers (few_received s.received small) why span (is t v facts s.rows row) ranged part told))

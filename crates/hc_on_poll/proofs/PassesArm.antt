@@ -43,7 +43,7 @@ use Rattle.hc_state.proofs.ConsumerSteps.{keys_with}
 use Rattle.hc_state.proofs.Counting.{stands_counted}
 use Rattle.hc_state.proofs.KeySteps.{says_elsewhere, not_lined, passes_key}
 use Rattle.hc_state.proofs.QueueArm.{becomes_by}
-use Rattle.hc_state.proofs.Words.{and_false, then_false, false_true, some_is, as_received}
+use Rattle.hc_state.proofs.Words.{and_false, then_false, false_true, some_is}
 
 module _ {B : Type 0} {g : Ghosts B} (r u : Rows B g) (t : Tables) (law : Lawful t) (c q : ℕ) (k : Consumer) (v : rows.Consumer) (stands : RowsStand r t) (there : get nat_eq r.consumers c ≡ Some k) (row : t.consumer c ≡ Some v) (now_is : current t v.request.key ≡ Some q)
     (limits : u.limits ≡ r.limits) (received : u.received ≡ r.received) (last : u.last_start ≡ r.last_start) (exchanges : u.exchanges ≡ r.exchanges) (entries : u.entries ≡ r.entries) where
@@ -66,7 +66,6 @@ module _ {B : Type 0} {g : Ghosts B} (r u : Rows B g) (t : Tables) (law : Lawful
       stands_still : with_consumer c (Some w) t ≡ t → RowsStand u (with_consumer c (Some w) t)
       stands_still same = subst (RowsStand u) (sym same) (record {
         limits = rw (entries, limits) stands.limits;
-        received = as_received received stands.received;
         last_start = last ∙ stands.last_start;
         next = rw exchanges stands.next;
         count = rw consumers stands.count;

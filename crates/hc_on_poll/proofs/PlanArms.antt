@@ -52,7 +52,6 @@ use Rattle.hc_model.specs.Lines.{is_in_line}
 use Rattle.hc_event.specs.declared.act.Cause.TheVariants as cause
 use Rattle.hc_event.specs.declared.act.Wait.TheVariants as wait
 use Rattle.hc_model.specs.Moves.{Move, Opens, Waits, Fails, Shows, opens, span_to}
-use Rattle.hc_model.specs.Tables.{tables}
 use Rattle.hc_model.specs.Planning as planning
 use Rattle.hc_model.specs.Planning.{plan_move, has_passed, candidate, candidate_at}
 use Rattle.hc_model.specs.Polls.{move_of}
@@ -591,7 +590,7 @@ module _ {B : Type 0} {g : Ghosts B} (r : Rows B g) (a : Entries B g) (stays : S
 
   pub read_until : (now : ℕ) → ∥ StandsBy r now ∥₁ → ∥ StandsBy read now ∥₁
   read_until now some = ∥∥₁_map some (λ u.
-      let s = u.0 in (record { t = s.t; facts = s.facts; within_limits = s.within_limits; rows = read_stands s.t s.rows }, u.1))
+      let s = u.0 in (record { t = s.t; facts = s.facts; numbers = s.numbers; within_limits = s.within_limits; received = s.received; rows = read_stands s.t s.rows }, u.1))
 
   pub read_some : (now : ℕ) → ∥ StandsBy r now ∥₁ → ∥ Stands read ∥₁
   read_some now some = ∥∥₁_map (read_until now some) (λ u. u.0)

@@ -33,7 +33,7 @@ use Rattle.hc_on_poll.proofs.BoundReads as bound
 use Rattle.hc_on_poll.proofs.BoundReads.{FillsHole}
 use Rattle.hc_state.proofs.Maps.{merely_true, merely_below}
 use Rattle.hc_on_poll.proofs.ShowStored.{IsBoundRow, bound_row_of, bound_kept}
-use Rattle.hc_state.proofs.Words.{none_some, some_is}
+use Rattle.hc_state.proofs.Words.{few_received, none_some, some_is}
 
 -- WHEREVER THERE IS SOME PAST
 
@@ -84,18 +84,18 @@ module _ {B : Type 0} {g : Ghosts B} (r : Rows B g) (c q : ℕ) (k : Consumer) (
 
     module _ (small : r.received < 2 ^ 61) where
       pub offset_fits : k.lo + k.given ≤ 2 ^ 62
-      offset_fits = merely_most (k.lo + k.given) (2 ^ 62) some (λ s. bound.offset_small r (t s) (facts s) s.rows c q reads.0.2 k (rd s) small)
+      offset_fits = merely_most (k.lo + k.given) (2 ^ 62) some (λ s. bound.offset_small r (t s) (facts s) s.rows c q reads.0.2 k (rd s) s.numbers (few_received s.received small))
 
       module _ (want : ℕ) (wants : 0 < want) (run : Option Run) (run_is : IsRunAhead (shelf_of r.entries) q want run k) where
         end_fits_of : (z : Option Run) → run ≡ z → IfSome z (λ y. end_of y ≤ 2 ^ 62)
         end_fits_of None is = tt
-        end_fits_of (Some z) is = merely_most (end_of z) (2 ^ 62) some (λ s. (bound.run_small r (t s) (facts s) s.rows c q reads.0.2 k (rd s) small want wants run run_is z is).0)
+        end_fits_of (Some z) is = merely_most (end_of z) (2 ^ 62) some (λ s. (bound.run_small r (t s) (facts s) s.rows c q reads.0.2 k (rd s) s.numbers (few_received s.received small) want wants run run_is z is).0)
 
         pub end_fits : IfSome run (λ y. end_of y ≤ 2 ^ 62)
         end_fits = end_fits_of run refl
 
         pub run_fits : (z : Run) → run ≡ Some z → k.given + length z.bytes ≤ 2 ^ 62
-        run_fits z is = merely_most (k.given + length z.bytes) (2 ^ 62) some (λ s. (bound.run_small r (t s) (facts s) s.rows c q reads.0.2 k (rd s) small want wants run run_is z is).1)
+        run_fits z is = merely_most (k.given + length z.bytes) (2 ^ 62) some (λ s. (bound.run_small r (t s) (facts s) s.rows c q reads.0.2 k (rd s) s.numbers (few_received s.received small) want wants run run_is z is).1)
 
         module _ (heard : IsHeard (table_of r.exchanges) k) (view : ReadView) (view_is : ReadViewIs r q c (option_map end_of run) view k) where
           -- where a step reads what is stored there is some
@@ -110,7 +110,7 @@ module _ {B : Type 0} {g : Ghosts B} (r : Rows B g) (c q : ℕ) (k : Consumer) (
           held_fits is x n own = merely_most (k.given + length (take n (table_of r.exchanges x).held)) (2 ^ 62) some (λ s.
               let h = (bound.held_move r (t s) (facts s) s.rows c q reads.0.2 k (rd s) 0 want reads.1 heard wants run run_is view view_is is).0 in
               let same : h.x ≡ x = some_is h.x x (sym h.own ∙ own) in
-              subst (λ (y : ℕ). k.given + length (take n (table_of r.exchanges y).held) < 2 ^ 62 + 1) same (bound.held_small r (t s) (facts s) s.rows c q reads.0.2 k (rd s) small h n))
+              subst (λ (y : ℕ). k.given + length (take n (table_of r.exchanges y).held) < 2 ^ 62 + 1) same (bound.held_small r (t s) (facts s) s.rows c q reads.0.2 k (rd s) s.numbers (few_received s.received small) h n))
 
           -- what it waits for is open
           pub source_runs : (x : ℕ) → read_step view ≡ step.Waits x → known.is_open x (table_of r.exchanges) ≡ true
@@ -119,8 +119,8 @@ module _ {B : Type 0} {g : Ghosts B} (r : Rows B g) (c q : ℕ) (k : Consumer) (
           -- a hole is within the length
           pub hole_within : (hole : Span) → read_step view ≡ step.Hole hole → IsSomeAnd (head_at (shelf_of r.entries) q) (IsInLength hole)
           hole_within hole is = merely_in_length (head_at (shelf_of r.entries) q) hole some (λ s.
-              let f = bound.hole_move r (t s) (facts s) s.rows c q reads.0.2 k (rd s) 0 want reads.1 heard wants run run_is view view_is hole is small in
-              (f.head, f.head_is, (f.total, f.known, f.within)))
+              let f = bound.hole_move r (t s) (facts s) s.rows c q reads.0.2 k (rd s) 0 want reads.1 heard wants run run_is view view_is hole is in
+              (f.head, f.head_is, (f.total, f.known, f.within s.numbers (few_received s.received small))))
 
   -- WHAT IT DOES
 

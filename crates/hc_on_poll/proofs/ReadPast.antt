@@ -37,6 +37,7 @@ use Rattle.hc_model.specs.Places.{ReadsPast}
 use Rattle.hc_model.specs.Planning.{planned_move}
 use Rattle.hc_model.specs.Polls.{move_of, shows_head, shows_answer, shows_direct, if_headless, waits_for_head, by_place, or_else}
 use Rattle.hc_model.specs.Reading.{own_open, source, offset, hi_of, lo_of, base_in, end_in, reads}
+use Rattle.hc_model.specs.Numbers.{Numbers}
 use Rattle.hc_model.specs.Rows as rows
 use Rattle.hc_model.specs.Rows.{Tables, Exchange, Representation}
 use Rattle.hc_model.specs.Steps as steps
@@ -59,7 +60,7 @@ use Rattle.hc_state.proofs.QueueArm.{becomes_by}
 use Rattle.hc_on_poll.proofs.ReadLemmas.{first_is, second_is, third_is, run_some, run_is, some_more}
 use Rattle.hc_state.proofs.ReaderSteps.{held_same, exchange_reading, stands_reading}
 use Rattle.hc_state.proofs.Ties.{kept_row, runs_same}
-use Rattle.hc_state.proofs.Words.{same_or, eqb-same, eqb-other, none_some, false_true, some_is, as_received, few_received}
+use Rattle.hc_state.proofs.Words.{same_or, eqb-same, eqb-other, none_some, false_true, some_is}
 
 -- WHO READS PAST THE STORE
 
@@ -162,7 +163,6 @@ module _ {B : Type 0} {g : Ghosts B} (r u : Rows B g) (t : Tables) (facts : Fact
       (waits_on r.limits t facts.law now c want rd.v rd.row (wait.Head x) (let bare = sym answer_is ∙ none in waits_move t now want c x rd.v rd.reads.w rd.at rd.reads.own rd.reads.row unshown bare (rd.reads.unheard bare).is_open) refl) refl refl acts
       (stands_counted u t now ev refl (record {
         limits = rw (same_entries, limits) stands.limits;
-        received = as_received received stands.received;
         last_start = last ∙ stands.last_start;
         next = rw exchanges stands.next;
         count = changes.len ∙ stands.count;
@@ -389,12 +389,11 @@ module _ {B : Type 0} {g : Ghosts B} (r : Rows B g) (t : Tables) (facts : Facts 
 
   -- WHAT FITS
 
-  module _ (small : r.received < 2 ^ 61) where
+  module _ (numbers : Numbers t) (few : t.received < 2 ^ 62) where
     fits : front w ≤ 2 ^ 62
     fits =
-        let most = facts.numbers.fronts x w rd.reads.row in
-        let received = few_received stands.received small in
-        omega (arith, most, received, small)
+        let most = numbers.fronts x w rd.reads.row in
+        omega (arith, most, few)
 
     pub offset_small : k.lo + k.given < 2 ^ 62 + 1
     offset_small =

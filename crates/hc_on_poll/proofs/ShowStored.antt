@@ -38,11 +38,11 @@ use Rattle.hc_model.specs.Moves.{Move, Shows, acts_of, span_to, shows_stored}
 use Rattle.hc_model.specs.Planning.{is_ranged}
 use Rattle.hc_model.specs.Polls.{move_of, shows_head, shows_at, shows_bound, has_joined, if_headless, waits_for_head, by_place, or_else}
 use Rattle.hc_model.specs.Reading.{own_open, hi_of, lo_of, reads}
+use Rattle.hc_model.specs.Numbers.{Numbers}
 use Rattle.hc_model.specs.Rows as rows
 use Rattle.hc_model.specs.Rows.{Tables, Exchange, Representation}
 use Rattle.hc_model.specs.Sound as sound
 use Rattle.hc_model.specs.Sound.{IsToBeShown}
-use Rattle.hc_model.specs.Tables.{tables}
 use Rattle.hc_model.specs.Writers.{status_in, came_alone}
 use Rattle.hc_laws.proofs.ShowEffects.{shows_reader}
 use Rattle.hc_state.specs.declared.consumer.Consumer.{Consumer}
@@ -203,9 +203,9 @@ module _ (t : Tables) {limits : _} (facts : Facts limits t) (c q : ℕ) (how : B
 
   -- WHAT FITS
 
-  module _ (small : t.received < 2 ^ 62) where
+  module _ (numbers : Numbers t) (small : t.received < 2 ^ 62) where
     total_small : (n : ℕ) → rd.p.head.total ≡ Some n → n < 2 ^ 62
-    total_small n known = let below = facts.numbers.totals q n rd.p rd.there known in omega (arith, below, small)
+    total_small n known = let below = numbers.totals q n rd.p rd.there known in omega (arith, below, small)
 
     pub end_small : (n : ℕ) → k.hi ≡ Some n → n < 2 ^ 62
     end_small n to = by_end rd.hi refl (sym end_is ∙ to)
@@ -298,7 +298,7 @@ module _ {B : Type 0} {g : Ghosts B} (r : Rows B g) (c q : ℕ) (how : BoundBy) 
   rd = bound_row_of r t facts.law c q at.0.0 at.0.1 how k s.rows there at.0.2
 
   few : t.received < 2 ^ 62
-  few = few_received s.rows.received small
+  few = few_received s.received small
 
   unshown : rd.v.shown ≡ false
   unshown = sym rd.kept.shown ∙ at.1
@@ -312,16 +312,16 @@ module _ {B : Type 0} {g : Ghosts B} (r : Rows B g) (c q : ℕ) (how : BoundBy) 
   as_stored = let (e, kept_e, same) = entry_of_head ((shelf_of r.entries).kept q) head stored in record { e = e; is = bound_entry r t q e rd.p s.rows kept_e rd.there; head_is = same }
 
   pub run_end_small : (n : ℕ) → k.hi ≡ Some n → n < 2 ^ 62
-  run_end_small n to = end_small t facts c q how k rd as_stored.e as_stored.is few n to
+  run_end_small n to = end_small t facts c q how k rd as_stored.e as_stored.is s.numbers few n to
 
   part_on : is_part k.class how head.status ≡ true → is_part k.class how as_stored.e.head.status ≡ true
   part_on on = ap (λ (h : Head). is_part k.class how h.status) as_stored.head_is ∙ on
 
   pub run_part_fits : (x : Span) (n : ℕ) → is_part k.class how head.status ≡ true → span_to k.lo k.hi ≡ Some x → option_or head.total k.hi ≡ Some n → IsWithin x n
-  run_part_fits x n on span total = part_fits t facts c q how k rd as_stored.e as_stored.is few x n unshown (part_on on) span (ap (λ (h : Head). option_or h.total k.hi) as_stored.head_is ∙ total)
+  run_part_fits x n on span total = part_fits t facts c q how k rd as_stored.e as_stored.is s.numbers few x n unshown (part_on on) span (ap (λ (h : Head). option_or h.total k.hi) as_stored.head_is ∙ total)
 
   pub run_part_known : (x : Span) → is_part k.class how head.status ≡ true → span_to k.lo k.hi ≡ Some x → option_or head.total k.hi ≡ None → ⊥
-  run_part_known x on span none = part_known t facts c q how k rd as_stored.e as_stored.is few unshown (part_on on) x span (ap (λ (h : Head). option_or h.total k.hi) as_stored.head_is ∙ none)
+  run_part_known x on span none = part_known t facts c q how k rd as_stored.e as_stored.is s.numbers few unshown (part_on on) x span (ap (λ (h : Head). option_or h.total k.hi) as_stored.head_is ∙ none)
 
 -- MOVES
 

@@ -1,12 +1,10 @@
 -- A start: what is kept stands for the tables after it.
-use Rattle.std.proofs.Common.{◌≡◌, ◌≢◌, inl, inr, ℕ, ◌+◌, ◌<◌, List, [], ◌∷◌, ◌++◌, Bool, true, false, cond, eqb, Option, Some, None, refl, ap, sym, ◌∙◌, subst, arith}
-use Rattle.std.specs.Prelude.{is_some, nat_eq, bytes_eq, filter, not, ◌&&◌, ◌||◌}
+use Rattle.std.proofs.Common.{◌≡◌, ◌≢◌, inl, inr, ℕ, ◌+◌, ◌<◌, List, [], ◌∷◌, Bool, true, false, cond, eqb, Option, Some, None, refl, ap, sym, ◌∙◌, subst, arith}
+use Rattle.std.specs.Prelude.{nat_eq, bytes_eq, filter, not, ◌&&◌, ◌||◌}
 use Rattle.std.specs.HashMap.{get, hash_map_len}
 use Rattle.hc_store.specs.declared.backend.Backend.{Ghosts}
-use Rattle.hc_event.specs.declared.act.Act.{Act}
 use Rattle.hc_event.specs.declared.event.Event.TheVariants as event
 use Rattle.hc_event.specs.declared.event.Request.{Request}
-use Rattle.hc_rules.specs.declared.room.Limits.{Limits}
 use Rattle.hc_rules.specs.Requests.{class_of, is_disabled, is_only}
 use Rattle.hc_entry.specs.Keys.{kept_of, line_of}
 use Rattle.hc_entry.specs.Kept as keyed
@@ -23,7 +21,7 @@ use Rattle.hc_event.specs.declared.place.BoundBy.TheVariants as by
 use Rattle.hc_model.specs.Lines.{is_in_line}
 use Rattle.hc_model.specs.ConsumerRows.{new_consumer}
 use Rattle.hc_model.specs.Currents.{current}
-use Rattle.hc_model.specs.Denials.{denial, is_live, live}
+use Rattle.hc_model.specs.Denials.{is_live, live}
 use Rattle.hc_model.specs.Effects.{with_consumer, with_start, with_event}
 use Rattle.hc_model.specs.Kinds.{kind_of}
 use Rattle.hc_model.specs.Lawful.{Lawful}
@@ -42,10 +40,7 @@ use Rattle.hc_state.proofs.Fallbacks.{IsAlike, same, fallback, held_alike, users
 use Rattle.hc_state.proofs.LiveCounts as counts
 use Rattle.hc_state.proofs.ConsumerSteps.{KeyAfter, SaysOfIt, key_with, key_stays, keys_with, at_it}
 use Rattle.hc_state.proofs.Ties.{kept_none, consumer_same, exchange_same, entry_same, key_same}
-use Rattle.hc_state.proofs.Words.{same_or, eqb-same, eqb-other, then_false, same_received}
-
-plus_none : (n : ℕ) → n + 0 ≡ n
-plus_none n = omega arith
+use Rattle.hc_state.proofs.Words.{same_or, eqb-same, eqb-other, then_false}
 
 module _ {B : Type 0} {g : Ghosts B} (r u : Rows B g) (t : Tables) (law : Lawful t) (now c : ℕ) (request copied : Request) (k : Consumer) (stands : RowsStand r t) (ascending : r.last_start < c) (copies : copied ≡ request)
     (limits : u.limits ≡ r.limits) (received : u.received ≡ r.received) (last : u.last_start ≡ c) (exchanges : u.exchanges ≡ r.exchanges) (same_entries : u.entries ≡ r.entries) (becomes : BecomesAt r.consumers u.consumers c (Some k))
@@ -213,7 +208,6 @@ module _ {B : Type 0} {g : Ghosts B} (r u : Rows B g) (t : Tables) (law : Lawful
   pub stands_started : IsEntered queues c request.key r.keys u.keys → RowsStand u s
   stands_started entered = record {
     limits = rw (same_entries, limits) stands.limits;
-    received = same_received received (plus_none t.received) stands.received;
     last_start = last;
     next = rw exchanges stands.next;
     count = count;

@@ -1,5 +1,5 @@
 -- An exchange is closed: what is kept stands for the tables in which it is over.
-use Rattle.std.proofs.Common.{◌≡◌, ◌≢◌, inl, inr, ℕ, ◌+◌, ◌-◌, List, [], ◌∷◌, length, Bool, true, false, Option, Some, None, refl, ap, sym, ◌∙◌, subst}
+use Rattle.std.proofs.Common.{◌≡◌, ◌≢◌, inl, inr, ℕ, ◌+◌, ◌-◌, List, [], length, Bool, true, false, Option, Some, None, refl, ap, sym, ◌∙◌, subst}
 use Rattle.std.specs.Prelude.{nat_eq, bytes_eq, drop, option_map, ◌&&◌, if◌then◌else◌}
 use Rattle.std.specs.HashMap.{get, hash_map_len}
 use Rattle.hc_store.specs.declared.backend.Backend.{Ghosts}
@@ -16,28 +16,27 @@ use Rattle.hc_exch.specs.Known.{Known}
 use Rattle.hc_rules.specs.Lengths.{base_of, promise_of}
 use Rattle.hc_event.specs.declared.place.Place.{Place}
 use Rattle.hc_event.specs.declared.place.Place.TheVariants as place
-use Rattle.hc_event.specs.declared.place.BoundBy.{BoundBy}
 use Rattle.hc_event.specs.declared.place.BoundBy.TheVariants as by
 use Rattle.hc_model.specs.Currents.{current, is_number}
 use Rattle.hc_model.specs.Effects.{tables_after_close, over}
-use Rattle.hc_model.specs.Exchanges.{base, promised_bytes, front, family, is_open, is_headless, length_by}
+use Rattle.hc_model.specs.Exchanges.{base, promised_bytes, family, is_open, is_headless, length_by}
 use Rattle.hc_model.specs.Holes.{absent_from}
-use Rattle.hc_model.specs.Kinds.{kind_of, is_growing, brings_to}
+use Rattle.hc_model.specs.Kinds.{is_growing, brings_to}
 use Rattle.hc_model.specs.Reading.{bound, offset, is_bound_place, base_in, end_in, end_of_direct}
 use Rattle.hc_model.specs.Rows as rows
 use Rattle.hc_model.specs.Rows.{Tables, Exchange, Representation}
 use Rattle.hc_state.specs.declared.consumer.Consumer.{Consumer}
 use Rattle.hc_state.specs.declared.rows.Rows.{Rows}
-use Rattle.hc_state.specs.Kept.{KeepsConsumer, head_in, KeepsExchange, KeepsRunning, held_for, held_of, held_alone, unread, unstored_bytes}
+use Rattle.hc_state.specs.Kept.{KeepsConsumer, head_in, KeepsExchange, KeepsRunning, held_for, held_of, held_alone, unstored_bytes}
 use Rattle.hc_state.specs.Lines.{KeepsKey, is_away, is_away_at}
 use Rattle.hc_state.specs.Stands.{RowsStand}
 use Rattle.hc_state.specs.Stopped.{NobodyAwaits}
-use Rattle.hc_state.specs.Stored.{IsEntry, IsDropped, KeepsEntry, KeepsEntries, is_first}
+use Rattle.hc_state.specs.Stored.{KeepsEntry, KeepsEntries}
 use Rattle.hc_state.proofs.Fallbacks.{same, held_alike}
 use Rattle.hc_state.proofs.OneOfEach.{first_row, growing_same, kind_same}
 use Rattle.hc_state.proofs.PastRows.{consumer_alike}
 use Rattle.hc_state.proofs.Ties.{exchange_same, key_same, overs_closed, writer_then}
-use Rattle.hc_state.proofs.Words.{same_or, eqb-same, eqb-other, then_false, as_received}
+use Rattle.hc_state.proofs.Words.{same_or, eqb-same, eqb-other}
 
 -- WHAT IS OVER BROUGHT AS MUCH
 
@@ -215,7 +214,6 @@ module _ {B : Type 0} {g : Ghosts B} (r u : Rows B g) (t : Tables) (x : ℕ) (st
   pub stands_closed : KeepsEntries (tables_after_close x t) (shelf_of u.entries) → RowsStand u (tables_after_close x t)
   stands_closed entries = record {
     limits = bounded ∙ (stands.limits ∙ sym limits);
-    received = as_received received stands.received;
     last_start = last ∙ stands.last_start;
     next = becomes.next ∙ stands.next;
     count = ap (λ z. hash_map_len z) consumers ∙ stands.count;

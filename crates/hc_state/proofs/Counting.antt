@@ -1,11 +1,11 @@
 -- Where only the counts of the tables change, what is kept stands for them as before.
-use Rattle.std.proofs.Common.{◌≡◌, ℕ, ◌+◌, ◌≤◌, List, refl, ap, sym, ◌∙◌, arith}
+use Rattle.std.proofs.Common.{◌≡◌, ℕ, ◌+◌, refl, ◌∙◌}
 use Rattle.std.specs.Prelude.{nat_eq}
-use Rattle.std.specs.HashMap.{get, hash_map_len}
+use Rattle.std.specs.HashMap.{get}
 use Rattle.hc_store.specs.declared.backend.Backend.{Ghosts}
 use Rattle.hc_stored.specs.Entries.{shelf_of}
 use Rattle.hc_entry.specs.Keys.{kept_of}
-use Rattle.hc_exch.specs.Exchanges.{table_of, next_of}
+use Rattle.hc_exch.specs.Exchanges.{table_of}
 use Rattle.hc_model.specs.Currents.{current}
 use Rattle.hc_model.specs.Kinds.{kind_of}
 use Rattle.hc_model.specs.Reading.{bound}
@@ -14,22 +14,20 @@ use Rattle.hc_model.specs.Effects.{with_event}
 use Rattle.hc_model.specs.Rows.{Tables}
 use Rattle.hc_model.specs.Tables.{received_in}
 use Rattle.hc_state.specs.declared.rows.Rows.{Rows}
-use Rattle.hc_state.specs.Stands.{RowsStand, most_before}
+use Rattle.hc_state.specs.Stands.{RowsStand}
 use Rattle.hc_state.proofs.Ties.{consumer_same, key_same, entry_same, exchange_same}
-use Rattle.hc_state.proofs.Words.{same_received}
 
 -- the same tables, with other counts
 abbrev pub recounted : ℕ → ℕ → ℕ → Tables → Tables
 recounted moment entries received t = record t { moment = moment; entries = entries; received = received }
 
-pub stands_recounted : {B : Type 0} {g : Ghosts B} (r u : Rows B g) (t : Tables) (moment entries received : ℕ) → u.limits ≡ r.limits → received ≤ u.received + most_before → u.last_start ≡ r.last_start
+pub stands_recounted : {B : Type 0} {g : Ghosts B} (r u : Rows B g) (t : Tables) (moment entries received : ℕ) → u.limits ≡ r.limits → u.last_start ≡ r.last_start
     → u.consumers ≡ r.consumers → u.exchanges ≡ r.exchanges → u.keys ≡ r.keys → u.entries ≡ r.entries → RowsStand r t → RowsStand u (recounted moment entries received t)
 unfolding current bound kind_of
-stands_recounted r u t moment entries received limits counts last consumers exchanges same_keys same_entries stands =
+stands_recounted r u t moment entries received limits last consumers exchanges same_keys same_entries stands =
     let s : Tables = recounted moment entries received t in
     record {
       limits = rw (same_entries, limits) stands.limits;
-      received = counts;
       last_start = last ∙ stands.last_start;
       next = rw exchanges stands.next;
       count = rw consumers stands.count;
@@ -45,7 +43,4 @@ stands_recounted r u t moment entries received limits counts last consumers exch
 -- an event that brings no bytes is counted
 pub stands_counted : {B : Type 0} {g : Ghosts B} (u : Rows B g) (t : Tables) (now : ℕ) (event : Event) → received_in event ≡ 0 → RowsStand u t → RowsStand u (with_event now event t)
 stands_counted u t now event none stands =
-    stands_recounted u u t now (t.entries + 1) (t.received + received_in event) refl (same_received refl (ap (λ (n : ℕ). t.received + n) none ∙ sym (plus_none t.received)) stands.received) refl refl refl refl refl stands
-  where
-    plus_none : (n : ℕ) → n ≡ n + 0
-    plus_none n = omega arith
+    stands_recounted u u t now (t.entries + 1) (t.received + received_in event) refl refl refl refl refl refl stands

@@ -43,7 +43,7 @@ use Rattle.hc_state.proofs.Maps.{merely_true}
 use Rattle.hc_state.proofs.FallbackSteps.{live_same}
 use Rattle.hc_state.proofs.QueueArm.{becomes_by}
 use Rattle.hc_state.proofs.Ties.{exchange_same, kept_row, runs_same}
-use Rattle.hc_state.proofs.Words.{same_or, eqb-same, eqb-other, false_true, then_false, and_false, as_received}
+use Rattle.hc_state.proofs.Words.{same_or, eqb-same, eqb-other, false_true, then_false, and_false}
 
 -- TESTS
 
@@ -278,7 +278,6 @@ module _ {B : Type 0} {g : Ghosts B} (r u : Rows B g) (t : Tables) (law : Lawful
   stands_moved : (p : Place) → IsNowhere p → (o : Option Consumer) → BecomesAt r.consumers u.consumers c o → hash_map_len u.consumers ≡ live (with_consumer c (Some (moved_to p v)) t) → KeepsConsumer t o (Some (moved_to p v)) → RowsStand u (with_consumer c (Some (moved_to p v)) t)
   stands_moved p nowhere o becomes count now = record {
     limits = unbinds_limits k.place c (shelf_of r.entries) (shelf_of u.entries) unbinds ∙ (stands.limits ∙ sym limits);
-    received = as_received received stands.received;
     last_start = last ∙ stands.last_start;
     next = forgets.next ∙ stands.next;
     count = count;

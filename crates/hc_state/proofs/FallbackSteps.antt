@@ -1,11 +1,11 @@
 -- A consumer that reads nothing, before and after, stands elsewhere: what is kept stands for the tables then.
-use Rattle.std.proofs.Common.{◌≡◌, ◌≢◌, inl, inr, ℕ, ◌+◌, List, [], ◌∷◌, length, Bool, true, false, eqb, Option, Some, None, refl, ap, sym, ◌∙◌, subst, arith}
+use Rattle.std.proofs.Common.{◌≡◌, ◌≢◌, inl, inr, ℕ, List, [], ◌∷◌, length, Bool, true, false, Option, Some, None, refl, ap, sym, ◌∙◌, subst, arith}
 use Rattle.std.specs.Prelude.{is_some, nat_eq, filter, not}
 use Rattle.std.specs.HashMap.{get, hash_map_len}
 use Rattle.hc_store.specs.declared.backend.Backend.{Ghosts}
 use Rattle.hc_stored.specs.Entries.{shelf_of}
 use Rattle.hc_entry.specs.Keys.{kept_of}
-use Rattle.hc_exch.specs.Exchanges.{table_of, next_of}
+use Rattle.hc_exch.specs.Exchanges.{table_of}
 use Rattle.hc_event.specs.declared.place.Place.{Place}
 use Rattle.hc_event.specs.declared.place.Place.TheVariants as place
 use Rattle.hc_model.specs.Denials.{is_live, is_live_place, live}
@@ -16,15 +16,15 @@ use Rattle.hc_model.specs.Rows.{Tables, Exchange}
 use Rattle.hc_state.specs.declared.consumer.Consumer.{Consumer}
 use Rattle.hc_state.specs.declared.rows.Rows.{Rows}
 use Rattle.hc_state.specs.Changes.{BecomesAt, one}
-use Rattle.hc_state.specs.Kept.{KeepsConsumer, KeepsExchange, held_for}
+use Rattle.hc_state.specs.Kept.{KeepsConsumer, held_for}
 use Rattle.hc_state.specs.Lines.{KeepsKey}
 use Rattle.hc_state.specs.Stands.{RowsStand}
 use Rattle.hc_state.specs.Stored.{is_first}
 use Rattle.hc_state.proofs.Fallbacks.{IsAlike, same, fallback, is_fallback, held_alike, users_alike}
 use Rattle.hc_state.proofs.ConsumerSteps.{all_kept_with}
 use Rattle.hc_state.proofs.OneOfEach.{entries_same}
-use Rattle.hc_state.proofs.Ties.{exchange_same, kept_row}
-use Rattle.hc_state.proofs.Words.{same_or, eqb-same, eqb-other, false_true, is_there, as_received}
+use Rattle.hc_state.proofs.Ties.{exchange_same}
+use Rattle.hc_state.proofs.Words.{same_or, eqb-same, eqb-other, false_true}
 
 -- WHO CAME ALONE
 
@@ -106,7 +106,6 @@ module _ {B : Type 0} {g : Ghosts B} (r u : Rows B g) (t : Tables) (c : ℕ) (v 
   pub falls_back : RowsStand u s
   falls_back = record {
     limits = rw (entries, limits) stands.limits;
-    received = as_received received stands.received;
     last_start = last ∙ stands.last_start;
     next = rw exchanges stands.next;
     count = length_same r u t c v q stands row lived becomes ∙ (stands.count ∙ sym (live_same t s refl live_each));

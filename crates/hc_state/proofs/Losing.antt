@@ -1,6 +1,6 @@
 -- A representation is lost: what is kept stands for the tables in which it is.
-use Rattle.std.proofs.Common.{◌≡◌, ◌≢◌, inl, inr, ℕ, List, [], ◌∷◌, Bool, true, false, Option, Some, None, refl, ap, sym, ◌∙◌, subst}
-use Rattle.std.specs.Prelude.{is_some, nat_eq, bytes_eq, find, filter, not, ◌&&◌, option_map, if◌then◌else◌}
+use Rattle.std.proofs.Common.{◌≡◌, ◌≢◌, inl, inr, ℕ, List, [], ◌∷◌, Bool, true, Option, Some, None, refl, ap, sym, ◌∙◌, subst}
+use Rattle.std.specs.Prelude.{is_some, nat_eq, find, filter, option_map}
 use Rattle.std.specs.HashMap.{get, hash_map_len}
 use Rattle.hc_store.specs.declared.backend.Backend.{Ghosts}
 use Rattle.hc_stored.specs.Entries.{shelf_of}
@@ -23,13 +23,13 @@ use Rattle.hc_model.specs.Rows as rows
 use Rattle.hc_model.specs.Rows.{Tables, Exchange, Representation}
 use Rattle.hc_model.specs.Writers.{status_in}
 use Rattle.hc_state.specs.declared.rows.Rows.{Rows}
-use Rattle.hc_state.specs.Kept.{KeepsConsumer, KeepsExchange, held_for, held_of, held_alone, unstored_bytes}
+use Rattle.hc_state.specs.Kept.{held_for, held_of, held_alone, unstored_bytes}
 use Rattle.hc_state.specs.Stands.{RowsStand}
 use Rattle.hc_state.specs.Stopped.{HoldsNothing}
 use Rattle.hc_state.specs.Stored.{IsEntry, TellsLength, told, untold, KeepsEntry, KeepsEntries, is_first, is_usable_row}
 use Rattle.hc_state.proofs.Fallbacks.{unstored_moved}
 use Rattle.hc_state.proofs.Ties.{consumer_same, exchange_same, key_same, entry_same}
-use Rattle.hc_state.proofs.Words.{same_or, eqb-same, eqb-other, false_true, same_row, as_received}
+use Rattle.hc_state.proofs.Words.{same_or, eqb-same, eqb-other, false_true, same_row}
 
 pub finds_same : (f h : ℕ → Bool) → ((q : ℕ) → h q ≡ f q) → (qs : List ℕ) → find h qs ≡ find f qs
 finds_same f h alike [] = refl
@@ -197,7 +197,6 @@ stands_lost r u t q v alone row stands nobody nothing limits received last consu
     let z : Tables = with_representation q (Some (lost_to alone v)) t in
     record {
       limits = becomes.limits ∙ (stands.limits ∙ sym limits);
-      received = as_received received stands.received;
       last_start = last ∙ stands.last_start;
       next = ap (λ z. next_of z) exchanges ∙ stands.next;
       count = ap (λ z. hash_map_len z) consumers ∙ stands.count;

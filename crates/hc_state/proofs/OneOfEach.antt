@@ -1,5 +1,5 @@
 -- One consumer and one exchange change, and no representation: what is kept stands for the tables then.
-use Rattle.std.proofs.Common.{◌≡◌, ◌≢◌, inl, inr, ℕ, ◌+◌, ◌≤◌, List, [], ◌∷◌, Bool, Option, Some, None, refl, ap, sym, ◌∙◌, subst}
+use Rattle.std.proofs.Common.{◌≡◌, ◌≢◌, inl, inr, ℕ, ◌+◌, List, [], ◌∷◌, Bool, Option, Some, None, refl, ap, sym, ◌∙◌, subst}
 use Rattle.std.specs.Prelude.{is_some, nat_eq, filter}
 use Rattle.std.specs.List.{list_any}
 use Rattle.std.specs.HashMap.{get, hash_map_len}
@@ -24,7 +24,7 @@ use Rattle.hc_state.specs.declared.rows.Rows.{Rows}
 use Rattle.hc_state.specs.Changes.{BecomesAt}
 use Rattle.hc_state.specs.Kept.{KeepsConsumer, KeepsExchange, held_for}
 use Rattle.hc_state.specs.Lines.{KeepsKey}
-use Rattle.hc_state.specs.Stands.{RowsStand, most_before}
+use Rattle.hc_state.specs.Stands.{RowsStand}
 use Rattle.hc_state.specs.Stored.{KeepsEntry, KeepsEntries, is_first, is_usable_row}
 use Rattle.hc_state.proofs.Ties.{consumer_same, exchange_same, entry_same, OversStay}
 use Rattle.hc_state.proofs.Words.{same_or, eqb-same, eqb-other}
@@ -85,7 +85,7 @@ entries_same t s shelf same used starts users firsts growing overs kept = record
 -- ALL OF IT
 
 module _ {B : Type 0} {g : Ghosts B} (r u : Rows B g) (t s : Tables) (c x : ℕ) (o : Option Consumer) (stands : RowsStand r t)
-    (limits : u.limits ≡ r.limits) (received : s.received ≤ u.received + most_before) (last : u.last_start ≡ s.last_start) (next : next_of u.exchanges ≡ s.opened + 1) (count : hash_map_len u.consumers ≡ live s)
+    (limits : u.limits ≡ r.limits) (last : u.last_start ≡ s.last_start) (next : next_of u.exchanges ≡ s.opened + 1) (count : hash_map_len u.consumers ≡ live s)
     (becomes : BecomesAt r.consumers u.consumers c o) (tables : (y : ℕ) → y ≢ x → table_of u.exchanges y ≡ table_of r.exchanges y)
     (others : (d : ℕ) → d ≢ c → s.consumer d ≡ t.consumer d) (exchanges : (y : ℕ) → y ≢ x → s.exchange y ≡ t.exchange y) (same : (q : ℕ) → s.representation q ≡ t.representation q)
     (kept : KeepsConsumer s o (s.consumer c)) (known : KeepsExchange s x (table_of u.exchanges x)) (keys : (key : List ℕ) → KeepsKey s key (kept_of u.keys key))
@@ -123,7 +123,6 @@ module _ {B : Type 0} {g : Ghosts B} (r u : Rows B g) (t s : Tables) (c x : ℕ)
   pub stands_then : RowsStand u s
   stands_then = record {
     limits = bounded;
-    received = received;
     last_start = last;
     next = next;
     count = count;

@@ -28,7 +28,7 @@ use Rattle.hc_state.specs.Stands.{RowsStand}
 use Rattle.hc_state.proofs.FallbackSteps.{falls_back}
 use Rattle.hc_state.proofs.ConsumerSteps.{keys_with}
 use Rattle.hc_state.proofs.KeySteps.{says_elsewhere, lined, comes_back}
-use Rattle.hc_state.proofs.Words.{same_or, eqb-same, eqb-other, then_false, false_true, as_received}
+use Rattle.hc_state.proofs.Words.{same_or, eqb-same, eqb-other, then_false, false_true}
 
 -- a consumer that is there is another
 pub becomes_by : (r u : Numbered Consumer) (c : ℕ) (k : Consumer) (f : Consumer → Consumer) → get nat_eq r c ≡ Some k → ChangesAt r u c f → BecomesAt r u c (Some (f k))
@@ -94,7 +94,6 @@ module _ {B : Type 0} {g : Ghosts B} (r u : Rows B g) (t : Tables) (law : Lawful
       let same : with_consumer c (Some (in_line v)) t ≡ t = ap (λ (w : rows.Consumer). with_consumer c (Some w) t) still ∙ same_consumer t t c v row in
       subst (RowsStand u) (sym same) (record {
         limits = rw (entries, limits) stands.limits;
-        received = as_received received stands.received;
         last_start = last ∙ stands.last_start;
         next = rw exchanges stands.next;
         count = rw consumers stands.count;

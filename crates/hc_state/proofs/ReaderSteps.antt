@@ -40,7 +40,6 @@ entries_read t a b stays kept = record { each = λ q. rw (stays.kept q) (kept.ea
 pub stands_read : {B : Type 0} {g : Ghosts B} (r u : Rows B g) (t : Tables) → u.limits ≡ r.limits → u.received ≡ r.received → u.last_start ≡ r.last_start → u.consumers ≡ r.consumers → u.exchanges ≡ r.exchanges → u.keys ≡ r.keys → shelf.Stays (shelf_of r.entries) (shelf_of u.entries) → RowsStand r t → RowsStand u t
 stands_read r u t limits received last consumers exchanges same_keys read stands = record {
   limits = read.limits ∙ (stands.limits ∙ sym limits);
-  received = as_received received stands.received;
   last_start = last ∙ stands.last_start;
   next = ap (λ z. next_of z) exchanges ∙ stands.next;
   count = ap (λ z. hash_map_len z) consumers ∙ stands.count;
@@ -54,7 +53,9 @@ pub some_read : {B : Type 0} {g : Ghosts B} (r u : Rows B g) → u.limits ≡ r.
 some_read r u limits received last consumers exchanges same_keys read s = record {
   t = s.t;
   facts = rw limits s.facts;
+  numbers = s.numbers;
   within_limits = s.within_limits;
+  received = as_received received s.received;
   rows = stands_read r u s.t limits received last consumers exchanges same_keys read s.rows;
 }
 
@@ -148,7 +149,6 @@ module _ (t : Tables) (c : ℕ) (v : rows.Consumer) (shown : Bool) (given : ℕ)
     pub stands_reading : RowsStand u s
     stands_reading = record {
       limits = read.limits ∙ (stands.limits ∙ sym limits);
-      received = as_received received stands.received;
       last_start = last ∙ stands.last_start;
       next = next ∙ stands.next;
       count = length_same r u t c v q stands row lived becomes ∙ (stands.count ∙ sym (live_same t s refl live_each));

@@ -21,7 +21,7 @@ use Rattle.hc_sparse.proofs.SizeLemmas.{size-same}
 use Rattle.hc_model.specs.Contents.{idle_now, is_idle}
 use Rattle.hc_model.specs.Currents.{current, is_current, is_number}
 use Rattle.hc_model.specs.Effects.{let_go, let_all_go}
-use Rattle.hc_model.specs.LettingGo.{MayLetGo, MayMakeRoom, weight_in, weight_now, weights_now, room_now, first_idle, giving_way}
+use Rattle.hc_model.specs.LettingGo.{MayMakeRoom, MayLetGo, weight_in, weight_now, weights_now, room_now, first_idle, giving_way}
 use Rattle.hc_model.specs.Orders.{AreOnce}
 use Rattle.hc_model.specs.Reading.{bound}
 use Rattle.hc_model.specs.Rows.{Tables, Representation}
@@ -104,7 +104,7 @@ module _ {B : Type 0} {g : Ghosts B} (r : Rows B g) (t : Tables) (law : MayMakeR
   row_weight q (Some k) None row entry = absurd entry
   row_weight q None (Some v) row entry = rw (not_current r t law.may stands q v row entry.gone, entry.unused) refl
   row_weight q (Some k) (Some v) row entry =
-      ap weight_of (size-same k.cells v.stored entry.cells ∙ sym (law.sized q v row)) ∙ sym (rw (held v.is_gone refl) refl)
+      ap weight_of (size-same k.cells v.stored entry.cells ∙ sym (law.sized q v row entry.used)) ∙ sym (rw (held v.is_gone refl) refl)
     where
       some_length : (cs : List ℕ) → cs ≢ [] → not (length cs == 0) ≡ true
       some_length [] some = absurd (some refl)

@@ -1,7 +1,7 @@
 -- An exchange that stops is closed, and what it brought is sealed, or lost where its seal fails.
 use Rattle.std.proofs.Common.{◌≡◌, ◌≢◌, inl, inr, ℕ, ◌<◌, List, [], ◌∷◌, ◌++◌, Bool, true, false, Option, Some, None, refl, ap, sym, ◌∙◌, subst, arith}
 use Rattle.std.proofs.lemmas.Bool.Decides.{nat_tests}
-use Rattle.std.specs.Prelude.{is_some, nat_eq, map, option_map, not, ◌&&◌, ◌||◌, if◌then◌else◌}
+use Rattle.std.specs.Prelude.{is_some, nat_eq, option_map, ◌&&◌, if◌then◌else◌}
 use Rattle.std.specs.List.{list_any}
 use Rattle.hc_store.specs.declared.backend.Backend.{Ghosts}
 use Rattle.hc_event.specs.declared.act.Act.{Act}
@@ -22,7 +22,6 @@ use Rattle.hc_exch.specs.Known as known
 use Rattle.hc_model.specs.Effects.{with_representation, tables_after_close, over, let_go, as_gone, lost_to}
 use Rattle.hc_model.specs.Exchanges.{family}
 use Rattle.hc_model.specs.Growing.{Grows}
-use Rattle.hc_model.specs.Holes.{covers}
 use Rattle.hc_model.specs.Lawful.{Lawful}
 use Rattle.hc_model.specs.Kinds.{kind_of, is_growing, is_complete, is_front, covers_all, brings_to}
 use Rattle.hc_model.specs.Rows as rows
@@ -47,7 +46,7 @@ use Rattle.hc_state.proofs.CloseArm.{quiet, unawaited_go}
 use Rattle.hc_state.proofs.Closing.{entry_closed, stands_closed, stands_unstored}
 use Rattle.hc_state.proofs.OneOfEach.{first_row}
 use Rattle.hc_state.proofs.Stopping.{Stays}
-use Rattle.hc_state.proofs.Words.{same_or, eqb-same, eqb-other, then_false, none_some, false_true, some_is, same_row, as_received}
+use Rattle.hc_state.proofs.Words.{same_or, eqb-same, eqb-other, then_false, none_some, false_true, some_is}
 
 eq_tells : (a b : ℕ) → nat_eq a b ≡ true → a ≡ b
 eq_tells a b is = grind (arith, nat_tests, is)
@@ -220,7 +219,6 @@ pub stands_stayed : {B : Type 0} {g : Ghosts B} (r u : Rows B g) (t : Tables) �
     → shelf.Stays (shelf_of r.entries) (shelf_of u.entries) → RowsStand r t → RowsStand u t
 stands_stayed r u t limits received last consumers exchanges same_keys stays stands = record {
   limits = stays.limits ∙ (stands.limits ∙ sym limits);
-  received = as_received received stands.received;
   last_start = last ∙ stands.last_start;
   next = ap (λ z. next_of z) exchanges ∙ stands.next;
   count = ap (λ z. hash_map_len z) consumers ∙ stands.count;

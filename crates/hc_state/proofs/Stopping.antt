@@ -1,11 +1,12 @@
 -- What becomes of what an exchange brought, by what is kept of it, where that stops.
-use Rattle.std.proofs.Common.{◌≡◌, ◌≢◌, ℕ, zero, suc, ◌+◌, ◌<◌, ◌≤◌, ◌^◌, max, Bool, true, false, Option, Some, None, refl, ap, sym, ◌∙◌, subst, arith}
+use Rattle.std.proofs.Common.{◌≡◌, ◌≢◌, ℕ, ◌<◌, ◌^◌, Bool, true, false, Option, Some, None, refl, ap, sym, ◌∙◌, subst, arith}
 use Rattle.std.proofs.lemmas.Bool.Decides.{nat_tests}
-use Rattle.std.specs.Prelude.{is_some, is_none, nat_eq, nat_lt, not, ◌&&◌, ◌==◌, if◌then◌else◌}
+use Rattle.std.specs.Prelude.{is_some, is_none, nat_eq, not, ◌&&◌, if◌then◌else◌}
 use Rattle.hc_store.specs.declared.backend.Backend.{Ghosts}
 use Rattle.hc_event.specs.declared.event.Response.{Response}
 use Rattle.hc_record.specs.Head.{Head}
-use Rattle.hc_sparse.specs.Cells.{Cells, EndsBy, size, size_below}
+use Rattle.hc_sparse.specs.Cells.{EndsBy}
+use Rattle.hc_sparse.proofs.SizeLemmas.{size-same}
 use Rattle.hc_rules.specs.declared.need.Route.{Route}
 use Rattle.hc_rules.specs.declared.need.Route.TheVariants as route
 use Rattle.hc_rules.specs.Needs.{route_of}
@@ -14,7 +15,6 @@ use Rattle.hc_stored.specs.Kept.{Kept}
 use Rattle.hc_stored.specs.Shelf.{Shelf}
 use Rattle.hc_stored.specs.Views.{view_of}
 use Rattle.hc_exch.specs.Exchanges.{table_of}
-use Rattle.hc_exch.specs.declared.role.Role.{Role}
 use Rattle.hc_exch.specs.declared.role.Role.TheVariants as role
 use Rattle.hc_exch.specs.declared.row.Open.{Open}
 use Rattle.hc_model.specs.Effects.{is_unkeepable, going_with}
@@ -23,7 +23,6 @@ use Rattle.hc_model.specs.Gone.{is_keepable}
 use Rattle.hc_model.specs.Kinds.{brings_to}
 use Rattle.hc_model.specs.Rows as rows
 use Rattle.hc_model.specs.Rows.{Tables, Exchange, Representation}
-use Rattle.hc_model.proofs.Positions.{below_past}
 use Rattle.hc_state.specs.declared.rows.Rows.{Rows}
 use Rattle.hc_state.specs.declared.stop.Stop.{Stop}
 use Rattle.hc_state.specs.declared.stop.Stop.TheVariants as stop
@@ -33,7 +32,7 @@ use Rattle.hc_state.specs.Stands.{RowsStand}
 use Rattle.hc_state.specs.Stopped.{with_consumers}
 use Rattle.hc_state.specs.Stops.{body_of, brought_by, may_complete, goes_with, stop_by, stop_at, stop_of, IsViewOf}
 use Rattle.hc_state.specs.Stored.{IsEntry, KeepsEntry, TellsLength, told, untold}
-use Rattle.hc_state.proofs.Words.{eqb-same, eqb-other, then_false, none_some, false_true, same_row, few_received}
+use Rattle.hc_state.proofs.Words.{eqb-same, eqb-other, then_false, none_some, false_true, same_row}
 
 -- nothing is stored by it that isn't gone
 pub record IsApartNow (t : Tables) (x : ℕ) : Type 0 where
@@ -66,19 +65,6 @@ abbrev pub Means : Tables → Tables → Shelf → ℕ → Exchange → Stop →
 Means t s shelf x w stop.Nothing = IsApartNow t x
 Means t s shelf x w (stop.LetGo q) = GoesWith t x q w
 Means t s shelf x w (stop.Seal q) = Stays t s shelf x q w
-
-most_small : (m n : ℕ) → m ≤ max (2 ^ 62) n → n < 2 ^ 62 → m ≤ 2 ^ 62
-most_small m n le small = grind (arith, nat_tests)
-
-size_same : (f h : Cells) (n : ℕ) → ((p : ℕ) → h p ≡ f p) → size_below h n ≡ size_below f n
-unfolding size_below
-size_same f h zero same = refl
-size_same f h (suc n) same = rw (same n, size_same f h n same) refl
-
--- as many bytes are kept as are stored
-pub size_kept : (cells stored : Cells) (n reach : ℕ) → ((p : ℕ) → cells p ≡ stored p) → EndsBy reach stored → reach ≤ 2 ^ 62 → n ≡ size_below stored reach → size cells ≡ n
-unfolding size
-size_kept cells stored n reach same ends small is = size_same stored cells (2 ^ 62) same ∙ (below_past stored reach (2 ^ 62) ends small ∙ sym is)
 
 module _ {B : Type 0} {g : Ghosts B} (r : Rows B g) (t : Tables) (facts : Facts r.limits t) (f : ℕ → Option rows.Consumer) (stands : RowsStand r (with_consumers f t)) (small : r.received < 2 ^ 61)
     (x : ℕ) (w : Exchange) (row : t.exchange x ≡ Some w) (opened : w.is_open ≡ true) where
@@ -174,7 +160,7 @@ module _ {B : Type 0} {g : Ghosts B} (r : Rows B g) (t : Tables) (facts : Facts 
     told_is : IsViewOf p e.cells (view_of e)
     told_is = record {
       total = total_as;
-      size = size_kept e.cells p.stored p.size p.reach is.cells stored_ends (most_small p.reach t.received (facts.numbers.reaches q p here) (few_received stands.received small)) (facts.sizes.counted q p here);
+      size = size-same e.cells p.stored is.cells ∙ sym (facts.sized q p here (λ gone. false_true (sym stays ∙ gone)));
       stored = is.cells;
       ends = stored_ends;
     }

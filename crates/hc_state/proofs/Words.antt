@@ -2,7 +2,6 @@
 use Rattle.std.proofs.Common.{◌≡◌, ◌≢◌, ◌⊎◌, inl, inr, ℕ, ◌+◌, ◌<◌, ◌≤◌, ◌^◌, Bool, true, false, cond, eqb, Option, Some, None, Result, Ok, Err, refl, sym, ◌∙◌, arith}
 use Rattle.std.proofs.lemmas.Bool.Decides.{nat_tests, eqb_tells}
 use Rattle.std.specs.Prelude.{is_some, IsSomeAnd, OnOk, OnErr, ◌||◌, ◌&&◌}
-use Rattle.hc_state.specs.Stands.{most_before}
 
 pub same_or : (c d : ℕ) → (c ≡ d) ⊎ (c ≢ d)
 same_or c d = elim (eqb_tells c d) [ inl e ↦ inl e.1 | inr e ↦ inr e.1 ]
@@ -88,20 +87,17 @@ on_ok_two (Err e) p q f = tt
 
 -- HOW MANY BYTES CAME
 
--- pieces had no more bytes than were counted, and as many as may have come before: so it stays where both counts stay,
-pub same_received : {a b m n : ℕ} → a ≡ b → n ≡ m → m ≤ b + most_before → n ≤ a + most_before
-same_received count told most = omega (arith, count, told, most)
-
-pub as_received : {a b n : ℕ} → a ≡ b → n ≤ b + most_before → n ≤ a + most_before
+-- no more came than were counted: so it stays where the count stays
+pub as_received : {a b n : ℕ} → a ≡ b → n ≤ b → n ≤ a
 as_received count most = omega (arith, count, most)
 
 -- and where both grow by as many
-pub more_received : {n : ℕ} (a more : ℕ) → n ≤ a + most_before → n + more ≤ a + more + most_before
-more_received a more most = omega (arith, most)
+pub more_received : {a b m n : ℕ} (more : ℕ) → a ≡ b + more → n ≡ m + more → m ≤ b → n ≤ a
+more_received more count told most = omega (arith, count, told, most)
 
-pub none_received : (a : ℕ) → 0 ≤ a + most_before
-none_received a = omega arith
+pub none_received : (n : ℕ) → 0 ≤ n
+none_received n = omega arith
 
--- while few are counted, few came in all
-pub few_received : {a n : ℕ} → n ≤ a + most_before → a < 2 ^ 61 → n < 2 ^ 62
+-- while few are counted, few came
+pub few_received : {a n : ℕ} → n ≤ a → a < 2 ^ 61 → n < 2 ^ 62
 few_received most small = omega (arith, most, small)

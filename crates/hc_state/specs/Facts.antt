@@ -5,12 +5,11 @@ use Rattle.hc_rules.specs.declared.room.Limits.{Limits}
 use Rattle.hc_model.specs.Endings.{Unended}
 use Rattle.hc_model.specs.Lawful.{Lawful}
 use Rattle.hc_model.specs.Fronts.{Fronts}
-use Rattle.hc_model.specs.LettingGo.{weights_now}
+use Rattle.hc_model.specs.LettingGo.{AreSized, weights_now}
 use Rattle.hc_model.specs.Laws.{Turns}
 use Rattle.hc_model.specs.Live.{FewLive}
 use Rattle.hc_model.specs.Losses.{Brings, Losses}
 use Rattle.hc_model.specs.Measures.{Measures}
-use Rattle.hc_model.specs.Numbers.{Numbers}
 use Rattle.hc_model.specs.Exchanges.{front}
 use Rattle.hc_model.specs.Reading.{offset}
 use Rattle.hc_model.specs.Rows.{Tables, Exchange, Representation, Consumer}
@@ -32,12 +31,12 @@ pub record HasCome (t : Tables) : Type 0 where
 pub record Facts (limits : Limits) (t : Tables) : Type 0 where
   pub law : Lawful t
   pub measures : Measures t
-  pub numbers : Numbers t
   pub brings : Brings t
   pub losses : Losses t
   pub heads : StoredHeads t
   pub tags : Tags t
   pub sizes : Sizes limits t
+  pub sized : AreSized t
   pub fits : weights_now t ≤ limits.max_total
   pub live : FewLive t
   pub turns : Turns t

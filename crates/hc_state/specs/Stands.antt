@@ -1,5 +1,5 @@
 -- The rows stand for what the tables say.
-use Rattle.std.specs.Prelude.{◌≡◌, ℕ, ◌+◌, ◌<◌, ◌≤◌, ◌^◌, List, ◌++◌, Bool, true, false, Option, Some, None, is_some, option_map, nat_eq}
+use Rattle.std.specs.Prelude.{◌≡◌, ℕ, ◌+◌, ◌<◌, ◌≤◌, List, ◌++◌, Bool, true, false, Option, Some, None, is_some, option_map, nat_eq}
 use Rattle.std.specs.Option.{option_and_then}
 use Rattle.std.specs.HashMap.{get, hash_map_len}
 use Rattle.hc_store.specs.declared.backend.Backend.{Ghosts}
@@ -34,7 +34,7 @@ use Rattle.hc_model.specs.Answers.{accepted_acts}
 use Rattle.hc_model.specs.Runs.{IsRun, may_be}
 use Rattle.hc_model.specs.Keys.{entry_of}
 use Rattle.hc_model.specs.WithinLimits.{FieldsAreWithinLimits, RequestsAreWithinLimits, StartsHaveTargets}
-use Rattle.hc_model.specs.Numbers.{AreShort}
+use Rattle.hc_model.specs.Numbers.{AreShort, Numbers}
 use Rattle.hc_state.specs.declared.rows.Rows.{Rows}
 use Rattle.hc_state.specs.Changes.{StaysAll}
 use Rattle.hc_state.specs.Facts.{Facts}
@@ -43,13 +43,8 @@ use Rattle.hc_state.specs.Kept.{KeepsConsumer, KeepsExchange}
 use Rattle.hc_state.specs.Lines.{KeepsKey}
 use Rattle.hc_state.specs.Stored.{KeepsEntries}
 
--- how many bytes pieces may have had before the rows began to count
-abbrev pub most_before : ℕ
-most_before = 2 ^ 61
-
 pub record RowsStand {B : Type 0} {g : Ghosts B} (r : Rows B g) (t : Tables) : Type 0 where
   pub limits : (shelf_of r.entries).limits ≡ r.limits
-  pub received : t.received ≤ r.received + most_before
   pub last_start : r.last_start ≡ t.last_start
   pub next : next_of r.exchanges ≡ t.opened + 1
   pub count : hash_map_len r.consumers ≡ live t
@@ -58,7 +53,7 @@ pub record RowsStand {B : Type 0} {g : Ghosts B} (r : Rows B g) (t : Tables) : T
   pub keys : (key : List ℕ) → KeepsKey t key (kept_of r.keys key)
   pub entries : KeepsEntries t (shelf_of r.entries)
 
--- the rows stand for the tables of some run, in which what comes is within limits
+-- the rows stand for the tables of some run in which what comes is within limits, and counted all its bytes
 pub record StandsForSome {B : Type 0} {g : Ghosts B} (r : Rows B g) : Type 0 where
   pub contents : Contents
   pub h : History
@@ -67,13 +62,16 @@ pub record StandsForSome {B : Type 0} {g : Ghosts B} (r : Rows B g) : Type 0 whe
   pub within_limits : FieldsAreWithinLimits h
   pub starts : StartsHaveTargets h
   pub run : IsRun r.limits contents h
+  pub received : (tables contents h).received ≤ r.received
   pub rows : RowsStand r (tables contents h)
 
--- the rows stand for tables that have what those of every run have
+-- the rows stand for tables that have what those of every run have, and counted all their bytes
 pub record Stands {B : Type 0} {g : Ghosts B} (r : Rows B g) : Type 0 where
   pub t : Tables
   pub facts : Facts r.limits t
+  pub numbers : Numbers t
   pub within_limits : RequestsAreWithinLimits t
+  pub received : t.received ≤ r.received
   pub rows : RowsStand r t
 
 -- WHAT THE REFUSALS LOOK AT

@@ -1,4 +1,4 @@
-use Rattle.std.proofs.Common.{◌≡◌, ℕ, ◌+◌, ◌<◌, ◌^◌, arith, length, Bool, true, false, Option, Some, None, refl, ap, sym, ◌∙◌, subst}
+use Rattle.std.proofs.Common.{◌≡◌, ℕ, arith, length, true, false, Option, Some, None, refl, ap, sym, ◌∙◌, subst}
 use Rattle.std.specs.Prelude.{◌≤◌, Result, Ok, is_some}
 use Rattle.hc_event.specs.Acts.{act_list}
 use Rattle.hc_event.specs.declared.event.Event.TheVariants as event
@@ -14,7 +14,7 @@ use Rattle.hc_on_body.proofs.GrowArm.{own_answered, shared_answered}
 use Rattle.hc_on_leave.proofs.LoseTurn.{writes_it, unwritten}
 use Rattle.hc_on_leave.proofs.PieceArm.{ends_below}
 use Rattle.hc_on_leave.proofs.StoreArm.{stores_of}
-use Rattle.hc_state.proofs.Words.{on_ok_by, few_received}
+use Rattle.hc_state.proofs.Words.{on_ok_by}
 use Rattle.hc_on_body.proofs.piece.grow.Goals as goal
 
 told : (o p : Option LostKind) → o ≡ p → (let one : Result (Option LostKind) NoMemory = Ok o in one) ≡ Ok p
@@ -50,12 +50,11 @@ returns-in-Some-clause-answers g c = on_ok_by c.lose_shared_piece.result c.lose_
     let r = c.args.rows.now in
     let put = c.store_piece.new.rows in
     let refused = c.in_ok-store_piece.ensures.refused c.in-Some.kind (told c.in_ok-store_piece.field-0 (Some c.in-Some.kind) c.in-Some.is) in
-    let small : t.received < 2 ^ 62 = few_received stands.received (let few = c.requires.small in omega (arith, few)) in
     let it = stores_of r t facts c.args.x c.args.r c.args.bytes.now stands goes c.requires.stored in
     let there = sym (ap t.representation it.of_q) ∙ it.there in
     let writes = some_one c.writing.result (sym c.is_some-writing.ensures ∙ c.if-writing.true) in
     let on = (writes_it r t facts stands c.args.r it.v there writes.0 (sym c.writing.ensures ∙ writes.1)).0 in
-    shared_answered r put t facts stands small c.args.now c.args.x c.args.r c.args.bytes.now goes it c.in-Some.kind (act_list c.args.out.now) (act_list c.store_piece.new.out) (refused.refuses t facts stands goes) on
+    shared_answered r put t facts stands c.args.now c.args.x c.args.r c.args.bytes.now goes it c.in-Some.kind (act_list c.args.out.now) (act_list c.store_piece.new.out) (refused.refuses t facts stands goes) on
     c.lose_shared_piece.new.rows (act_list c.lose_shared_piece.new.out) (λ may stood. lost (let_all_go c.args.now (evicted r.limits t c.args.now (event.Piece c.args.x c.args.bytes.now)) t) it.w it.v may stood) (from_same c.lose_shared_piece.ensures.faults))
 
 pub returns-in-Some-2-clause-answers : goal.returns-in-Some-2-clause-answers
@@ -63,10 +62,9 @@ returns-in-Some-2-clause-answers g c = on_ok_by c.lose_own_piece.result c.lose_o
     let r = c.args.rows.now in
     let put = c.store_piece.new.rows in
     let refused = c.in_ok-store_piece.ensures.refused c.in-Some.kind (told c.in_ok-store_piece.field-0 (Some c.in-Some.kind) c.in-Some.is) in
-    let small : t.received < 2 ^ 62 = few_received stands.received (let few = c.requires.small in omega (arith, few)) in
     let it = stores_of r t facts c.args.x c.args.r c.args.bytes.now stands goes c.requires.stored in
     let there = sym (ap t.representation it.of_q) ∙ it.there in
     let off = unwritten r t facts stands c.args.r it.v there (sym c.writing.ensures ∙ none_at c.writing.result (sym c.is_some-writing.ensures ∙ c.if-writing.false)) in
-    own_answered r put t facts stands small c.args.now c.args.x c.args.r c.args.bytes.now goes it c.in-Some.kind (act_list c.args.out.now) (act_list c.store_piece.new.out) (refused.refuses t facts stands goes) off
+    own_answered r put t facts stands c.args.now c.args.x c.args.r c.args.bytes.now goes it c.in-Some.kind (act_list c.args.out.now) (act_list c.store_piece.new.out) (refused.refuses t facts stands goes) off
     c.exclusive-alone.result (c.exclusive-alone.ensures t it.v facts stands there it.fresh)
     c.lose_own_piece.new.rows (act_list c.lose_own_piece.new.out) (λ may stood. lost (let_all_go c.args.now (evicted r.limits t c.args.now (event.Piece c.args.x c.args.bytes.now)) t) it.w it.v may stood) c.lose_own_piece.ensures.acts (from_same c.lose_own_piece.ensures.faults))

@@ -1,18 +1,18 @@
-use Rattle.std.proofs.Common.{◌≡◌, ℕ, ◌<◌, ◌^◌, length, None, Some, true, refl, ap, sym, ◌∙◌, subst}
+use Rattle.std.proofs.Common.{◌≡◌, ℕ, ◌^◌, None, refl, ap, ◌∙◌, subst}
 use Rattle.std.specs.Prelude.{is_some}
 use Rattle.hc_event.specs.Acts.{act_list}
 use Rattle.hc_stored.specs.Entries.{shelf_of}
 use Rattle.hc_stored.specs.Kept.{itself}
 use Rattle.hc_stored.specs.Views.{bound_in}
 use Rattle.hc_sorted.specs.Sorted.{has}
-use Rattle.hc_model.specs.Exchanges.{family, promised_bytes}
+use Rattle.hc_model.specs.Exchanges.{promised_bytes}
 use Rattle.hc_laws.proofs.LettingGo.{may_let_go}
 use Rattle.hc_state.specs.Changes.{ChangesAmong, with_end}
 use Rattle.hc_state.specs.Stopped.{SealedWhole}
 use Rattle.hc_state.proofs.Maps.{merely_true, merely_below}
 use Rattle.hc_on_body.proofs.OpenViews.{viewed}
 use Rattle.hc_on_body.proofs.WholeAnswers.{past_answered, whole_answered, brought_row, unbrought, brought_kept, delivered_short, nobody_alone, own_family}
-use Rattle.hc_state.proofs.Words.{same_row}
+use Rattle.hc_state.proofs.Words.{few_received, same_row}
 use Rattle.hc_on_body.proofs.stop.end_whole.Goals as goal
 
 pub seal_whole-requires-clause-there : goal.seal_whole-requires-clause-there
@@ -32,7 +32,7 @@ seal_whole-requires-clause-short g c =
     merely_below c.unwrap-view.result.delivered (2 ^ 62) c.requires.stands (λ s.
     let facts = s.facts in
     let seen = viewed r s.t x c.view.result c.unwrap-view.result s.rows c.view.ensures c.unwrap-view.ensures in
-    delivered_short r s.t facts s.rows c.requires.small x seen.w seen.row seen.is_open c.unwrap-view.result.delivered seen.delivered)
+    delivered_short r s.t facts s.rows c.requires.small x seen.w seen.row seen.is_open (few_received s.received c.requires.small) c.unwrap-view.result.delivered seen.delivered)
 
 pub returns-in-None-clause-answers : goal.returns-in-None-clause-answers
 returns-in-None-clause-answers g c = λ t facts stands accepts tells.

@@ -6,7 +6,7 @@ use Rattle.hc_stored.specs.Entries.{shelf_of}
 use Rattle.hc_state.specs.Kept.{IsKept, KeepsConsumer}
 use Rattle.hc_state.proofs.CurrentTies.{viewed_entry, entry_row, entry_at}
 use Rattle.hc_state.proofs.Maps.{merely_below, lent}
-use Rattle.hc_state.proofs.Words.{false_true, none_of, none_there}
+use Rattle.hc_state.proofs.Words.{false_true, few_received, none_of, none_there}
 use Rattle.hc_on_leave.proofs.WriterTies.{exclusive_written, exclusive_some, exclusive_off, alone_row, alone_below}
 use Rattle.hc_on_leave.proofs.writers.exclusive.Goals as goal
 
@@ -25,7 +25,7 @@ has_more-requires-clause-counts g c =
     let t = s.t in
     let facts = s.facts in
     let (p, here, is) = entry_row r t s.rows q e kept in
-    alone_below r t facts s.rows q p here e is n (alone_row r t facts s.rows q p here e is n (ap (λ (z : EntryView). z.first) seen ∙ c.in_ok-c.was)) c.in_ok-consumer.consumer.now at c.requires.small)
+    alone_below r t facts s.rows q p here e is n (alone_row r t facts s.rows q p here e is n (ap (λ (z : EntryView). z.first) seen ∙ c.in_ok-c.was)) c.in_ok-consumer.consumer.now at s.numbers (few_received s.received c.requires.small))
 
 pub returns-then-is_some-2 : goal.returns-then-is_some-2
 returns-then-is_some-2 g c = λ t p facts stands here stays.

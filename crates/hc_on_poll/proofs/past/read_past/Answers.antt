@@ -1,4 +1,4 @@
-use Rattle.std.proofs.Common.{◌+◌, ◌<◌, ◌≤◌, ◌^◌, ap, sym, ◌∙◌, refl, arith, nat_eq, length, inl, inr, subst}
+use Rattle.std.proofs.Common.{◌+◌, ◌<◌, ◌≤◌, ◌^◌, ap, sym, ◌∙◌, arith, nat_eq, length, inl, inr}
 use Rattle.std.proofs.lemmas.Grind.{not_there}
 use Rattle.std.specs.HashMap.{get}
 use Rattle.hc_event.specs.Acts.{act_list}
@@ -7,6 +7,7 @@ use Rattle.hc_exch.specs.Known.{is_open}
 use Rattle.hc_rules.specs.Readings.{read_step}
 use Rattle.hc_state.specs.Arms.{IsShown}
 use Rattle.hc_state.proofs.Maps.{lent, known_of, some_that, merely_true, merely_below}
+use Rattle.hc_state.proofs.Words.{few_received}
 use Rattle.hc_on_poll.proofs.ReadPast.{reading_of, offset_small, more_fits, waits_open, no_stored, no_hole, ends_move, fails_move, given_answered, asks_answered}
 use Rattle.hc_on_poll.proofs.past.read_past.Goals as goal
 
@@ -19,7 +20,7 @@ small g c =
     merely_below (k.lo + k.given) (2 ^ 62 + 1) c.requires.stands (λ s.
     let t = s.t in
     let facts = s.facts in
-    offset_small r t facts c.args.want c.args.c c.args.x k s.rows (reading_of r t facts.law c.args.c c.args.x k s.rows at shown.0) shown.1 c.requires.wants c.requires.small)
+    offset_small r t facts c.args.want c.args.c c.args.x k s.rows (reading_of r t facts.law c.args.c c.args.x k s.rows at shown.0) shown.1 c.requires.wants s.numbers (few_received s.received c.requires.small))
 
 pub overflow_add-offset : goal.overflow_add-offset
 overflow_add-offset g c = let below = small g c in omega (arith, below)
@@ -33,7 +34,7 @@ most-requires g c =
     let below = merely_below (k.lo + k.given) (2 ^ 62 + 1) c.requires.stands (λ s.
     let t = s.t in
     let facts = s.facts in
-    offset_small r t facts c.args.want c.args.c c.args.x k s.rows (reading_of r t facts.law c.args.c c.args.x k s.rows at shown.0) shown.1 c.requires.wants c.requires.small) in
+    offset_small r t facts c.args.want c.args.c c.args.x k s.rows (reading_of r t facts.law c.args.c c.args.x k s.rows at shown.0) shown.1 c.requires.wants s.numbers (few_received s.received c.requires.small)) in
     omega (arith, below)
 
 pub give-requires-clause-fits : goal.give-requires-clause-fits
@@ -46,7 +47,7 @@ give-requires-clause-fits g c =
     let below = merely_below (k.given + length bytes) (2 ^ 62 + 1) c.requires.stands (λ s.
     let t = s.t in
     let facts = s.facts in
-    more_fits r t facts c.args.want c.args.c c.args.x k s.rows (reading_of r t facts.law c.args.c c.args.x k s.rows at shown.0) shown.1 c.requires.wants c.requires.small c.most.result bytes c.in_ok-bytes-in-Held.ensures.bytes) in
+    more_fits r t facts c.args.want c.args.c c.args.x k s.rows (reading_of r t facts.law c.args.c c.args.x k s.rows at shown.0) shown.1 c.requires.wants s.numbers (few_received s.received c.requires.small) c.most.result bytes c.in_ok-bytes-in-Held.ensures.bytes) in
     let fits : k.given + length bytes ≤ 2 ^ 62 = omega (arith, below) in
     some_that (get nat_eq r.consumers c.args.c) k (λ j. j.given + length bytes ≤ 2 ^ 62) at fits
 

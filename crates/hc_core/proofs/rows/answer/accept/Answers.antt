@@ -6,6 +6,7 @@ use Rattle.hc_state.specs.Stands.{gate_of, open_at}
 use Rattle.hc_on_poll.proofs.Accepted.{start_ascends, poll_lives, poll_wants, cancel_lives, head_free, piece_free, end_free, fault_free}
 use Rattle.hc_state.proofs.Kept.{few_kept}
 use Rattle.hc_core.proofs.Standing.{stands_of_runs, stands_by}
+use Rattle.hc_core.proofs.Stepping.{small_part}
 use Rattle.hc_core.proofs.Timely.{timely}
 use Rattle.hc_core.proofs.rows.answer.accept.Goals as goal
 
@@ -36,28 +37,28 @@ pub cancel-requires-clause-live : goal.cancel-requires-clause-live
 cancel-requires-clause-live g c = cancel_lives (gate_of c.args.rows.now (event.Cancel c.in-Cancel.c)) c.in-Cancel.c (rw c.in-Cancel.is at c.requires.accepted)
 
 pub take_doom-requires-clause-room : goal.take_doom-requires-clause-room
-take_doom-requires-clause-room g c = let few = few_kept c.args.rows.now (∥∥₁_map c.requires.stands (λ until. stands_of_runs c.args.rows.now until.0)) in omega (arith, few)
+take_doom-requires-clause-room g c = let few = few_kept c.args.rows.now (∥∥₁_map c.requires.stands (λ until. stands_of_runs c.args.rows.now (small_part _ c.requires.small) until.0)) in omega (arith, few)
 
 pub start-requires-clause-stands : goal.start-requires-clause-stands
-start-requires-clause-stands g c = ∥∥₁_map c.requires.stands (λ until. stands_of_runs c.args.rows.now until.0)
+start-requires-clause-stands g c = ∥∥₁_map c.requires.stands (λ until. stands_of_runs c.args.rows.now (small_part _ c.requires.small) until.0)
 
 pub take_head-requires-clause-stands : goal.take_head-requires-clause-stands
-take_head-requires-clause-stands g c = ∥∥₁_map c.requires.stands (λ until. stands_of_runs c.args.rows.now until.0)
+take_head-requires-clause-stands g c = ∥∥₁_map c.requires.stands (λ until. stands_of_runs c.args.rows.now (small_part _ c.requires.small) until.0)
 
 pub take_piece-requires-clause-stands : goal.take_piece-requires-clause-stands
-take_piece-requires-clause-stands g c = ∥∥₁_map c.requires.stands (λ until. stands_of_runs c.args.rows.now until.0)
+take_piece-requires-clause-stands g c = ∥∥₁_map c.requires.stands (λ until. stands_of_runs c.args.rows.now (small_part _ c.requires.small) until.0)
 
 pub end-requires-clause-stands : goal.end-requires-clause-stands
-end-requires-clause-stands g c = ∥∥₁_map c.requires.stands (λ until. stands_of_runs c.args.rows.now until.0)
+end-requires-clause-stands g c = ∥∥₁_map c.requires.stands (λ until. stands_of_runs c.args.rows.now (small_part _ c.requires.small) until.0)
 
 pub fault-requires-clause-stands : goal.fault-requires-clause-stands
-fault-requires-clause-stands g c = ∥∥₁_map c.requires.stands (λ until. stands_of_runs c.args.rows.now until.0)
+fault-requires-clause-stands g c = ∥∥₁_map c.requires.stands (λ until. stands_of_runs c.args.rows.now (small_part _ c.requires.small) until.0)
 
 pub cancel-requires-clause-stands : goal.cancel-requires-clause-stands
-cancel-requires-clause-stands g c = ∥∥₁_map c.requires.stands (λ until. stands_of_runs c.args.rows.now until.0)
+cancel-requires-clause-stands g c = ∥∥₁_map c.requires.stands (λ until. stands_of_runs c.args.rows.now (small_part _ c.requires.small) until.0)
 
 pub take_doom-requires-clause-stands : goal.take_doom-requires-clause-stands
-take_doom-requires-clause-stands g c = ∥∥₁_map c.requires.stands (λ until. stands_of_runs c.args.rows.now until.0)
+take_doom-requires-clause-stands g c = ∥∥₁_map c.requires.stands (λ until. stands_of_runs c.args.rows.now (small_part _ c.requires.small) until.0)
 
 pub take_head-requires-clause-timely : goal.take_head-requires-clause-timely
 take_head-requires-clause-timely g c = timely c.args.rows.now c.in-Head.x c.args.now c.requires.early c.requires.stands
@@ -69,4 +70,4 @@ take_piece-requires-clause-short g c =
     omega (arith, count, small)
 
 pub poll-requires-clause-stands : goal.poll-requires-clause-stands
-poll-requires-clause-stands g c = ∥∥₁_map c.requires.stands (stands_by c.args.rows.now c.args.now)
+poll-requires-clause-stands g c = ∥∥₁_map c.requires.stands (stands_by c.args.rows.now c.args.now (small_part _ c.requires.small))

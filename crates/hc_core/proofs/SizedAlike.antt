@@ -1,0 +1,83 @@
+-- Of what is in use as many bytes are stored as is said, in each run for which the rows of a cache stand. A count of bytes looks at
+-- positions below 2^62 alone. In a run that began with this cache no more came than it counted, so nothing is stored from
+-- there on. Any other run for which its rows stand has the same bytes stored of what is kept, and all that is in use is kept. So nothing
+-- is stored from there on in that run either, however many bytes came in it.
+use Rattle.std.proofs.Common.{◌≡◌, inl, inr, ℕ, ◌<◌, ◌≤◌, ◌^◌, max, true, Option, Some, None, refl, sym, ◌∙◌, subst, arith}
+use Rattle.std.proofs.lemmas.Bool.{cases_Bool}
+use Rattle.std.proofs.lemmas.Bool.Decides.{nat_tests}
+use Rattle.std.specs.Prelude.{is_some, nat_eq, nat_le}
+use Rattle.hc_store.specs.declared.backend.Backend.{Ghosts}
+use Rattle.hc_sparse.specs.Cells.{Cell, Cells, EndsBy, size, size_below}
+use Rattle.hc_rules.specs.declared.room.Limits.{Limits}
+use Rattle.hc_stored.specs.Entries.{shelf_of}
+use Rattle.hc_stored.specs.Kept.{Kept}
+use Rattle.hc_model.specs.Lawful.{Lawful}
+use Rattle.hc_model.specs.LettingGo.{AreSized}
+use Rattle.hc_model.specs.Numbers.{Numbers}
+use Rattle.hc_model.specs.Rows.{Tables, Representation}
+use Rattle.hc_model.specs.Sizes.{Sizes}
+use Rattle.hc_model.proofs.Positions.{below_past}
+use Rattle.hc_state.specs.declared.rows.Rows.{Rows}
+use Rattle.hc_state.specs.Stands.{RowsStand}
+use Rattle.hc_state.specs.Stored.{KeepsEntry}
+use Rattle.hc_state.proofs.Maps.{merely_true}
+
+pub merely_same : {P : Type 0} (n m : ℕ) → ∥ P ∥₁ → (P → n ≡ m) → n ≡ m
+merely_same n m some same =
+    let test : nat_eq n m ≡ true = merely_true (nat_eq n m) some (λ p. let is = same p in grind (arith, nat_tests, is)) in
+    grind (arith, nat_tests, test)
+
+-- two positions past which nothing is
+pub below_either : (f : Cells) (n m : ℕ) → EndsBy n f → EndsBy m f → size_below f n ≡ size_below f m
+below_either f n m ends also = elim (cases_Bool (nat_le n m)) [
+  | inl le ↦ let under : n ≤ m = grind (arith, nat_tests, le) in sym (below_past f n m ends under)
+  | inr off ↦ let over : m ≤ n = grind (arith, nat_tests, off) in below_past f m n also over
+]
+
+none_by : (stored body : Option Cell) → (is_some stored ≡ true → stored ≡ body) → body ≡ None → stored ≡ None
+none_by None body same none = refl
+none_by (Some cell) body same none = same refl ∙ none
+
+most_small : (m n : ℕ) → m ≤ max (2 ^ 62) n → n < 2 ^ 62 → m ≤ 2 ^ 62
+most_small m n le small = grind (arith, nat_tests, le, small)
+
+-- IN A RUN THAT BEGAN WITH THIS CACHE
+
+module _ (t : Tables) (law : Lawful t) where
+  -- nothing is stored from where nothing came
+  stored_ends : (q : ℕ) (v : Representation) → t.representation q ≡ Some v → EndsBy v.reach v.stored
+  stored_ends q v row p past = let store = (law.sound.rows q v row).store in none_by (v.stored p) (v.body p) (store.some_stored p) (store.ends p past)
+
+  few_ends : (q : ℕ) (v : Representation) → t.representation q ≡ Some v → Numbers t → t.received < 2 ^ 62 → EndsBy (2 ^ 62) v.stored
+  few_ends q v row numbers few p past =
+      let reach : v.reach ≤ 2 ^ 62 = most_small v.reach t.received (numbers.reaches q v row) few in
+      stored_ends q v row p (omega (arith, reach, past))
+
+  sized_by : (limits : Limits) → Sizes limits t → (q : ℕ) (v : Representation) → t.representation q ≡ Some v → EndsBy (2 ^ 62) v.stored → v.size ≡ size v.stored
+  unfolding size
+  sized_by limits sizes q v row ends = sizes.counted q v row ∙ below_either v.stored v.reach (2 ^ 62) (stored_ends q v row) ends
+
+pub sized_here : (limits : Limits) (t : Tables) → Lawful t → Sizes limits t → Numbers t → t.received < 2 ^ 62 → AreSized t
+sized_here limits t law sizes numbers few q v row used = sized_by t law limits sizes q v row (few_ends t law q v row numbers few)
+
+-- IN ANY OTHER
+
+module _ {B : Type 0} {g : Ghosts B} (r : Rows B g) (t s : Tables) (law : Lawful t) (sizes : Sizes r.limits t) (stands : RowsStand r t)
+    (its_law : Lawful s) (numbers : Numbers s) (few : s.received < 2 ^ 62) (stands_too : RowsStand r s) where
+  abbrev kept : ℕ → Option Kept
+  kept = (shelf_of r.entries).kept
+
+  -- what is kept is stored in either
+  kept_ends : (q : ℕ) (k : Kept) → kept q ≡ Some k → EndsBy (2 ^ 62) k.cells
+  kept_ends q k at = by_row (s.representation q) refl (subst (λ o. KeepsEntry s q o (s.representation q)) at (stands_too.entries.each q))
+    where
+      by_row : (o : Option Representation) → s.representation q ≡ o → KeepsEntry s q (Some k) o → EndsBy (2 ^ 62) k.cells
+      by_row None row keeps = absurd keeps
+      by_row (Some v) row is = λ p past. is.cells p ∙ few_ends s its_law q v row numbers few p past
+
+  pub sized_alike : AreSized t
+  sized_alike q v row used = by_kept (kept q) refl (subst (KeepsEntry t q (kept q)) row (stands.entries.each q))
+    where
+      by_kept : (o : Option Kept) → kept q ≡ o → KeepsEntry t q o (Some v) → v.size ≡ size v.stored
+      by_kept None at dropped = absurd (used dropped.gone dropped.unused)
+      by_kept (Some k) at is = sized_by t law r.limits sizes q v row (λ p past. sym (is.cells p) ∙ kept_ends q k at p past)

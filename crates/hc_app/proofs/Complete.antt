@@ -55,8 +55,8 @@ module _ (left : List ℕ) (out diag : Option (List ℕ)) (o d : ℕ) (after : S
   spelled_replays items _ spells (program.done text read gives is report quiet) sound = inl refl
   spelled_replays items _ spells (program.refused text r refuses report said) sound = absurd (some_none r (sym (refusal_is text r refuses) ∙ (is_read 0 left items spells).0))
   spelled_replays items _ spells (program.unreadable text gives unrefused report quiet) sound = absurd sound
-  spelled_replays items _ spells (program.unwritten text gives report failed) sound = absurd sound
-  spelled_replays items _ spells (program.wanting text gives report quiet) sound = inr refl
+  spelled_replays items _ spells (program.unwritten text first rest gives stepped report failed) sound = absurd sound
+  spelled_replays items _ spells (program.wanting text first rest gives stepped report quiet) sound = inr refl
   spelled_replays items _ spells (program.unsaid text r refuses report said failed) sound = absurd sound
   spelled_replays items _ spells (program.wanting_word text r refuses report said) sound = inr refl
   spelled_replays items _ spells (program.wanting_all same) sound = inr refl
@@ -66,8 +66,8 @@ module _ (left : List ℕ) (out diag : Option (List ℕ)) (o d : ℕ) (after : S
       absurd (some_none r (sym refused ∙ (ap (refusal_of 0) (sym gives.0) ∙ (is_read 0 text read is).0)))
   refused_replays r _ refused (program.refused text q refuses report said) sound = inl refl
   refused_replays r _ refused (program.unreadable text gives unrefused report quiet) sound = absurd sound
-  refused_replays r _ refused (program.unwritten text gives report failed) sound = absurd sound
-  refused_replays r _ refused (program.wanting text gives report quiet) sound = inr refl
+  refused_replays r _ refused (program.unwritten text first rest gives stepped report failed) sound = absurd sound
+  refused_replays r _ refused (program.wanting text first rest gives stepped report quiet) sound = inr refl
   refused_replays r _ refused (program.unsaid text q refuses report said failed) sound = absurd sound
   refused_replays r _ refused (program.wanting_word text q refuses report said) sound = inr refl
   refused_replays r _ refused (program.wanting_all same) sound = inr refl

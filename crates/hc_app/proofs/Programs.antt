@@ -4,7 +4,7 @@
 -- others can't be (`cc`). A store in memory counts no failure, so a run over it tells none (`whole`).
 -- The endings of a replay that refuse a line come to one (`stops`), which is then said or not
 -- (`is_refused`, `is_unsaid`). What the streams counted is handed on as the calls below told it.
-use Rattle.std.proofs.Common.{◌≡◌, ℕ, ◌+◌, ◌≤◌, List, ◌∷◌, ◌++◌, Option, Err, refl, sym, ap, ◌∙◌, subst, arith}
+use Rattle.std.proofs.Common.{◌≡◌, ℕ, ◌+◌, ◌≤◌, List, ◌∷◌, Option, Err, refl, sym, subst, arith, ◌∙◌}
 use Rattle.std.specs.Result.{IsErrOf}
 use Rattle.hc_io.specs.Faults.{HasRisen}
 use Rattle.hc_io.specs.declared.sink.SinkError.{SinkError}
@@ -29,7 +29,7 @@ use Rattle.hc_replay.specs.Generates as generates
 use Rattle.hc_app.specs.declared.status.Status.TheVariants as status
 use Rattle.hc_app.specs.Commands.{IsNoCommand}
 use Rattle.hc_app.specs.Program as program
-use Rattle.hc_app.specs.Program.{Streams, store_limits, IsWhole, ReportsAll, ReportsSome, Replays, IsRefusedIn, Generates, Keeps, IsUntouched}
+use Rattle.hc_app.specs.Program.{Streams, store_limits, IsWhole, ReportsAll, ReportsUpToLast, Replays, IsRefusedIn, Generates, Keeps, IsUntouched}
 use Rattle.hc_app.specs.Statuses.{stopped_as}
 use Rattle.hc_app.specs.Texts.{refusal_text, usage_text}
 
@@ -47,16 +47,15 @@ module _ {B : Type 0} {g : Rattle.hc_store.specs.declared.backend.Backend.Ghosts
   all : (u : Cache B g) (events : List Timed) (out out' : Option (List ℕ)) → replays.ReportsAll s u events out out' → ReportsAll events out out'
   all u events out out' r = record { history = r.history; whole = whole u r.history r.run r.counted; events_are = r.events_are; report = r.report }
 
-  some : (u : Cache B g) (events : List Timed) (out out' : Option (List ℕ)) → replays.ReportsSome s u events out out' → ReportsSome events out out'
-  some u events out out' r = record { history = r.history; rest = r.rest; whole = whole u r.history r.run r.counted; events_are = r.events_are; report = r.report }
+  last : (u : Cache B g) (events : List Timed) (out out' : Option (List ℕ)) → replays.ReportsUpToLast s u events out out' → ReportsUpToLast events out out'
+  last u events out out' r = record { history = r.history; whole = whole u r.history r.run r.counted; events_are = r.events_are; report = r.report }
 
-  -- the whole report of some first events
-  first_all : (u : Cache B g) (first rest : List Timed) (next : Timed) (events : List Timed) (out out' : Option (List ℕ)) → first ++ next ∷ rest ≡ events → replays.ReportsAll s u first out out' → ReportsSome events out out'
-  first_all u first rest next events out out' split r = record {
+  -- the whole report is one up to the last
+  all_last : (u : Cache B g) (events : List Timed) (out out' : Option (List ℕ)) → replays.ReportsAll s u events out out' → ReportsUpToLast events out out'
+  all_last u events out out' r = record {
     history = r.history;
-    rest = next ∷ rest;
     whole = whole u r.history r.run r.counted;
-    events_are = ap (λ (l : List Timed). l ++ next ∷ rest) r.events_are ∙ split;
+    events_are = r.events_are;
     report = all_but_last 0 r.history out out' r.report;
   }
 
@@ -75,36 +74,36 @@ module _ {B : Type 0} {g : Rattle.hc_store.specs.declared.backend.Backend.Ghosts
     is_done _ (replays.refused text r gives refuses report) is quiet = cc
     is_done _ (replays.cut_short text r gives unrefused refuses report) is quiet = cc
     is_done _ (replays.unreadable text gives unrefused report) is quiet = cc
-    is_done _ (replays.unwritten text gives report) is quiet = cc
-    is_done _ (replays.wanting text gives report) is quiet = cc
-    is_done _ (replays.spent text first rest next last gives split report failed) is quiet = cc
+    is_done _ (replays.unwritten text first rest gives stepped report) is quiet = cc
+    is_done _ (replays.wanting text first rest gives stepped report) is quiet = cc
+    is_done _ (replays.spent text first rest next at gives stepped report failed) is quiet = cc
 
     pub is_unreadable : (e : Ended) → Ran e → e ≡ ended.SourceFailed → diag' ≡ diag → Replays before after status.SourceFailed
     is_unreadable _ (replays.unreadable text gives unrefused report) is quiet = program.unreadable text gives unrefused (all u _ out out' report) quiet
     is_unreadable _ (replays.done text items gives spells report) is quiet = cc
     is_unreadable _ (replays.refused text r gives refuses report) is quiet = cc
     is_unreadable _ (replays.cut_short text r gives unrefused refuses report) is quiet = cc
-    is_unreadable _ (replays.unwritten text gives report) is quiet = cc
-    is_unreadable _ (replays.wanting text gives report) is quiet = cc
-    is_unreadable _ (replays.spent text first rest next last gives split report failed) is quiet = cc
+    is_unreadable _ (replays.unwritten text first rest gives stepped report) is quiet = cc
+    is_unreadable _ (replays.wanting text first rest gives stepped report) is quiet = cc
+    is_unreadable _ (replays.spent text first rest next at gives stepped report failed) is quiet = cc
 
     pub is_unwritten : (e : Ended) → Ran e → e ≡ ended.SinkFailed → diag' ≡ diag → HasRisen o o' → d' ≡ d → Replays before after status.SinkFailed
-    is_unwritten _ (replays.unwritten text gives report) is quiet failed sound = program.unwritten text gives (some u _ out out' report) (record { failed = failed; unsaid = quiet; sound = sound })
+    is_unwritten _ (replays.unwritten text first rest gives stepped report) is quiet failed sound = program.unwritten text first rest gives stepped (last u first out out' report) (record { failed = failed; unsaid = quiet; sound = sound })
     is_unwritten _ (replays.done text items gives spells report) is quiet failed sound = cc
     is_unwritten _ (replays.refused text r gives refuses report) is quiet failed sound = cc
     is_unwritten _ (replays.cut_short text r gives unrefused refuses report) is quiet failed sound = cc
     is_unwritten _ (replays.unreadable text gives unrefused report) is quiet failed sound = cc
-    is_unwritten _ (replays.wanting text gives report) is quiet failed sound = cc
-    is_unwritten _ (replays.spent text first rest next last gives split report spent) is quiet failed sound = cc
+    is_unwritten _ (replays.wanting text first rest gives stepped report) is quiet failed sound = cc
+    is_unwritten _ (replays.spent text first rest next at gives stepped report spent) is quiet failed sound = cc
 
     pub is_wanting : (e : Ended) → Ran e → e ≡ ended.NoMemory → diag' ≡ diag → Replays before after status.NoMemory
-    is_wanting _ (replays.wanting text gives report) is quiet = program.wanting text gives (some u _ out out' report) quiet
-    is_wanting _ (replays.spent text first rest next last gives split report failed) is quiet = program.wanting text gives (first_all last first rest next _ out out' split report) quiet
+    is_wanting _ (replays.wanting text first rest gives stepped report) is quiet = program.wanting text first rest gives stepped (last u first out out' report) quiet
+    is_wanting _ (replays.spent text first rest next at gives stepped report failed) is quiet = program.wanting text first (next ∷ rest) gives stepped (all_last at first out out' report) quiet
     is_wanting _ (replays.done text items gives spells report) is quiet = cc
     is_wanting _ (replays.refused text r gives refuses report) is quiet = cc
     is_wanting _ (replays.cut_short text r gives unrefused refuses report) is quiet = cc
     is_wanting _ (replays.unreadable text gives unrefused report) is quiet = cc
-    is_wanting _ (replays.unwritten text gives report) is quiet = cc
+    is_wanting _ (replays.unwritten text first rest gives stepped report) is quiet = cc
 
     -- where the text is refused, and what was reported before
     record Stops (r : Refused) : Type 0 where
@@ -122,9 +121,9 @@ module _ {B : Type 0} {g : Rattle.hc_store.specs.declared.backend.Backend.Ghosts
         record { text = text; refused = subst (λ (z : Refused). IsRefusedIn left left' text z) (same_refusal q r is) (program.at_end gives unrefused refuses); report = all u _ out out' report }
     stops _ r (replays.done text items gives spells report) is = cc
     stops _ r (replays.unreadable text gives unrefused report) is = cc
-    stops _ r (replays.unwritten text gives report) is = cc
-    stops _ r (replays.wanting text gives report) is = cc
-    stops _ r (replays.spent text first rest next last gives split report failed) is = cc
+    stops _ r (replays.unwritten text first rest gives stepped report) is = cc
+    stops _ r (replays.wanting text first rest gives stepped report) is = cc
+    stops _ r (replays.spent text first rest next at gives stepped report failed) is = cc
 
     pub is_refused : (e : Ended) (r : Refused) → Ran e → e ≡ ended.Refused r → Takes diag diag' (refusal_text r) → Replays before after status.Refused
     is_refused e r ran is said = let at = stops e r ran is in program.refused at.text r at.refused at.report said
@@ -138,13 +137,13 @@ module _ {B : Type 0} {g : Rattle.hc_store.specs.declared.backend.Backend.Ghosts
 
     -- no wire is used
     pub never_wire : (e : Ended) → Ran e → e ≡ ended.WireFailed → ⊥
-    never_wire _ (replays.wanting text gives report) is = cc
-    never_wire _ (replays.spent text first rest next last gives split report failed) is = cc
+    never_wire _ (replays.wanting text first rest gives stepped report) is = cc
+    never_wire _ (replays.spent text first rest next at gives stepped report failed) is = cc
     never_wire _ (replays.done text items gives spells report) is = cc
     never_wire _ (replays.refused text r gives refuses report) is = cc
     never_wire _ (replays.cut_short text r gives unrefused refuses report) is = cc
     never_wire _ (replays.unreadable text gives unrefused report) is = cc
-    never_wire _ (replays.unwritten text gives report) is = cc
+    never_wire _ (replays.unwritten text first rest gives stepped report) is = cc
 
 -- GENERATING
 

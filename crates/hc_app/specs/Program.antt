@@ -1,5 +1,5 @@
 -- What the program does: the promise of each status.
-use Rattle.std.specs.Prelude.{◌≡◌, ◌⊎◌, ℕ, List, ◌++◌, Option, Some}
+use Rattle.std.specs.Prelude.{◌≡◌, ◌⊎◌, ℕ, List, Option, Some}
 use Rattle.hc_io.specs.Faults.{HasRisen}
 use Rattle.hc_io.specs.Sink.{Takes, TakesFront}
 use Rattle.hc_io.specs.Source.{Gives, GivesAll}
@@ -7,7 +7,7 @@ use Rattle.hc_sched.specs.declared.schedule.Refused.{Refused}
 use Rattle.hc_sched.specs.declared.schedule.Timed.{Timed}
 use Rattle.hc_sched.specs.Laws.{refusal_of}
 use Rattle.hc_sched.specs.Schedule.{Item, Spells, events_of}
-use Rattle.hc_driver.specs.Endings.{IsUnrefused, IsRefusedAtOnce, events_from}
+use Rattle.hc_driver.specs.Endings.{IsUnrefused, IsRefusedAtOnce, IsSteppedAtOnce, events_from}
 use Rattle.hc_driver.specs.Stepping.{History, events_in, report_after, TakesUpToLast}
 use Rattle.hc_rules.specs.declared.room.Limits.{Limits}
 use Rattle.hc_model.specs.Entries.{no_contents}
@@ -60,12 +60,11 @@ pub record ReportsAll (events : List Timed) (out out' : Option (List ℕ)) : Typ
   pub events_are : events_in history ≡ events
   pub report : Takes out out' (report_after 0 history)
 
--- Some first of these events are such a run, and the report of all but the last was taken, and a part of the last one's.
-pub record ReportsSome (events : List Timed) (out out' : Option (List ℕ)) : Type 0 where
+-- These events are such a run. The report of all but the last was taken, and some first part of the last one's.
+pub record ReportsUpToLast (events : List Timed) (out out' : Option (List ℕ)) : Type 0 where
   pub history : History
-  pub rest : List Timed
   pub whole : IsWhole history
-  pub events_are : events_in history ++ rest ≡ events
+  pub events_are : events_in history ≡ events
   pub report : TakesUpToLast 0 history out out'
 
 -- WHICH STREAM FAILED
@@ -104,13 +103,13 @@ pub data Replays (before after : Streams) : Status → Type 0 where
   unreadable : (text : List ℕ) → Gives before.left after.left text → IsUnrefused 0 text →
       ReportsAll (events_from 0 text) before.out after.out → after.diag ≡ before.diag →
       Replays before after status.SourceFailed
-  -- the report of some first events was taken, and a part of the next one's; the output failed
-  unwritten : (text : List ℕ) → Gives before.left after.left text →
-      ReportsSome (events_from 0 text) before.out after.out → IsOutFailure before after →
-      Replays before after status.SinkFailed
-  wanting : (text : List ℕ) → Gives before.left after.left text →
-      ReportsSome (events_from 0 text) before.out after.out → after.diag ≡ before.diag →
-      Replays before after status.NoMemory
+  -- the first events of what was read are stepped and reported, but for a part of the last one's report; the output failed
+  unwritten : (text : List ℕ) (first rest : List Timed) → Gives before.left after.left text →
+      IsSteppedAtOnce 0 text first rest → ReportsUpToLast first before.out after.out →
+      IsOutFailure before after → Replays before after status.SinkFailed
+  wanting : (text : List ℕ) (first rest : List Timed) → Gives before.left after.left text →
+      IsSteppedAtOnce 0 text first rest → ReportsUpToLast first before.out after.out →
+      after.diag ≡ before.diag → Replays before after status.NoMemory
   -- the report was taken, and some first part of what is to be said of the refused line; the diagnostics failed
   unsaid : (text : List ℕ) (refused : Refused) → IsRefusedIn before.left after.left text refused →
       ReportsAll (events_from 0 text) before.out after.out →

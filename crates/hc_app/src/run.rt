@@ -30,6 +30,9 @@ use std::alloc::Global;
 ///   first part of the last one's, or of the summary. Or `diag` failed: `out` has all that was due.
 /// - 6: there was not enough memory. Each has some first part of what was due.
 ///
+/// At 4 and 6 all events before the last 16,384 bytes that were read were stepped: nothing is read on
+/// before what was read is stepped and reported.
+///
 /// What `ends` says of bytes it says of streams that tell them, as those in memory do. Streams over
 /// std tell none, so there it says which status comes.
 pub fn run<S: Source, K: Sink, D: Sink>(

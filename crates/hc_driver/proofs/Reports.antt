@@ -17,7 +17,7 @@ use Rattle.hc_sched.specs.Laws.{AreTimed}
 use Rattle.hc_sched.specs.Report.{entry_text}
 use Rattle.hc_event.specs.Counting.{received_in}
 use Rattle.hc_driver.specs.Counting.{size_of}
-use Rattle.hc_driver.specs.Stepping.{Entry, History, events_in, report_after, Leads, nothing, more, TakesUpToLast, Steps, StepsSome, StepsUntilWant, between, within, last_moment}
+use Rattle.hc_driver.specs.Stepping.{Entry, History, events_in, report_after, Leads, nothing, more, TakesUpToLast, Steps, StepsUpToLast, StepsSome, StepsUntilWant, between, within, last_moment}
 use Rattle.hc_driver.proofs.Sizes.{size_of-append}
 use Rattle.hc_driver.proofs.Timings.{last-append}
 
@@ -121,38 +121,37 @@ module _ {A : Type 0} (answers : A → ℕ → Event → List Act → A → Type
         takes = subst (λ (l : List ℕ). Takes a c l) front (takes_more a b c (report_after n f) (report_after m g ++ up.part) taken up.takes);
       }
 
-  -- all of some events, and then some first of some more
-  pub some_more : (s t u : A) (n m : ℕ) (xs ys : List Timed) (a b c : Option (List ℕ)) → Steps answers s t n xs a b → m ≡ n + length xs → StepsSome answers t u m ys b c
-      → StepsSome answers s u n (xs ++ ys) a c
-  some_more s t u n m xs ys a b c f is g =
+  -- all of some events, and then some more up to the last
+  pub last_more : (s t u : A) (n m : ℕ) (xs ys : List Timed) (a b c : Option (List ℕ)) → Steps answers s t n xs a b → m ≡ n + length xs → StepsUpToLast answers t u m ys b c
+      → StepsUpToLast answers s u n (xs ++ ys) a c
+  last_more s t u n m xs ys a b c f is g =
       let len : m ≡ n + length f.history = is ∙ ap (λ (k : ℕ). n + k) (sym (ap length f.events_are) ∙ length-events_in f.history) in
       record {
         history = g.history ++ f.history;
-        rest = g.rest;
         leads = leads-append s t u f.history g.history f.leads g.leads;
-        events_are = ap (λ (l : List Timed). l ++ g.rest) (events_in-append f.history g.history)
-            ∙ (append_assoc (events_in f.history) (events_in g.history) g.rest
-            ∙ (ap (λ (l : List Timed). l ++ (events_in g.history ++ g.rest)) f.events_are ∙ ap (λ (l : List Timed). xs ++ l) g.events_are));
+        events_are = events_in-append f.history g.history ∙ (ap (λ (l : List Timed). l ++ events_in g.history) f.events_are ∙ ap (λ (l : List Timed). xs ++ l) g.events_are);
         report = ahead n m f.history g.history a b c f.report len g.report;
       }
 
-  -- all of some first events
-  pub all_first : (s u : A) (n : ℕ) (xs ys : List Timed) (a b : Option (List ℕ)) → Steps answers s u n xs a b → StepsSome answers s u n (xs ++ ys) a b
-  all_first s u n xs ys a b f = record {
+  -- the whole report is one up to the last
+  pub all_last : (s u : A) (n : ℕ) (xs : List Timed) (a b : Option (List ℕ)) → Steps answers s u n xs a b → StepsUpToLast answers s u n xs a b
+  all_last s u n xs a b f = record {
     history = f.history;
-    rest = ys;
     leads = f.leads;
-    events_are = ap (λ (l : List Timed). l ++ ys) f.events_are;
+    events_are = f.events_are;
     report = all_but_last n f.history a b f.report;
   }
 
+  -- all of some first events
+  pub all_first : (s u : A) (n : ℕ) (xs ys : List Timed) (a b : Option (List ℕ)) → Steps answers s u n xs a b → StepsSome answers s u n (xs ++ ys) a b
+  all_first s u n xs ys a b f = record { first = xs; rest = ys; whole = refl; steps = all_last s u n xs a b f }
+
   pub some_first : (s u : A) (n : ℕ) (xs ys : List Timed) (a b : Option (List ℕ)) → StepsSome answers s u n xs a b → StepsSome answers s u n (xs ++ ys) a b
   some_first s u n xs ys a b f = record {
-    history = f.history;
+    first = f.first;
     rest = f.rest ++ ys;
-    leads = f.leads;
-    events_are = sym (append_assoc (events_in f.history) f.rest ys) ∙ ap (λ (l : List Timed). l ++ ys) f.events_are;
-    report = f.report;
+    whole = sym (append_assoc f.first f.rest ys) ∙ ap (λ (l : List Timed). l ++ ys) f.whole;
+    steps = f.steps;
   }
 
   -- one event
@@ -168,14 +167,13 @@ module _ {A : Type 0} (answers : A → ℕ → Event → List Act → A → Type
         report = subst (λ (k : ℕ). Takes a b (entry_text k acts)) here takes;
       }
 
-  pub one_some : (s u : A) (n number : ℕ) (timed : Timed) (acts : List Act) (a b : Option (List ℕ)) → answers s timed.now timed.event acts u → number ≡ n + 1 → TakesFront a b (entry_text number acts)
-      → StepsSome answers s u n (timed ∷ []) a b
-  one_some s u n number timed acts a b answered is takes =
+  pub one_last : (s u : A) (n number : ℕ) (timed : Timed) (acts : List Act) (a b : Option (List ℕ)) → answers s timed.now timed.event acts u → number ≡ n + 1 → TakesFront a b (entry_text number acts)
+      → StepsUpToLast answers s u n (timed ∷ []) a b
+  one_last s u n number timed acts a b answered is takes =
       let e : Entry = record { timed = timed; acts = acts } in
       let here : number ≡ n + 0 + 1 = omega (arith, is) in
       record {
         history = e ∷ [];
-        rest = [];
         leads = more [] e s u nothing answered;
         events_are = refl;
         report = record {
@@ -242,22 +240,18 @@ module _ {A : Type 0} (answers : A → ℕ → Event → List Act → A → Type
       → IsWritten answers s t before now events i a b → i < length events → timed ≡ get_or events i timed
       → answers t timed.now timed.event acts u → TakesFront b c (entry_text number acts) → number ≡ now.number + 1 → StepsSome answers s u before.number events a c
   written_part s t u before now number events i a b c timed acts w lt is answered takes numbered =
-      let one = one_some t u now.number number timed acts b c answered numbered takes in
+      let one = one_last t u now.number number timed acts b c answered numbered takes in
       let len : now.number ≡ before.number + length (take i events) = let l = length-take i events in omega (arith, w.numbered, lt) in
-      let part = some_more s t u before.number now.number (take i events) (timed ∷ []) a b c w.steps len one in
-      let whole : (take i events ++ timed ∷ []) ++ drop (i + 1) events ≡ events = append_assoc (take i events) (timed ∷ []) (drop (i + 1) events) ∙ around events i timed lt is in
-      subst (λ (l : List Timed). StepsSome answers s u before.number l a c) whole (some_first s u before.number (take i events ++ timed ∷ []) (drop (i + 1) events) a c part)
+      record {
+        first = take i events ++ timed ∷ [];
+        rest = drop (i + 1) events;
+        whole = append_assoc (take i events) (timed ∷ []) (drop (i + 1) events) ∙ around events i timed lt is;
+        steps = last_more s t u before.number now.number (take i events) (timed ∷ []) a b c w.steps len one;
+      }
 
   -- WHERE MEMORY IS REFUSED
 
   module _ (spent : A → A → Type 0) where
-    -- all of some events, and then some more until that
-    pub want_more : (s t u : A) (n m : ℕ) (xs ys : List Timed) (a b c : Option (List ℕ)) → Steps answers s t n xs a b → m ≡ n + length xs → StepsUntilWant answers spent t u m ys b c
-        → StepsUntilWant answers spent s u n (xs ++ ys) a c
-    want_more s t u n m xs ys a b c f is (between some) = between (some_more s t u n m xs ys a b c f is some)
-    want_more s t u n m xs ys a b c f is (within first rest next last whole steps led) =
-        within (xs ++ first) rest next last (append_assoc xs first (next ∷ rest) ∙ ap (λ (l : List Timed). xs ++ l) whole) (steps_more s t last n m xs first a b c f is steps) led
-
     pub want_first : (s u : A) (n : ℕ) (xs ys : List Timed) (a b : Option (List ℕ)) → StepsUntilWant answers spent s u n xs a b → StepsUntilWant answers spent s u n (xs ++ ys) a b
     want_first s u n xs ys a b (between some) = between (some_first s u n xs ys a b some)
     want_first s u n xs ys a b (within first rest next last whole steps led) =

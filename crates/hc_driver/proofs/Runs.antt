@@ -5,7 +5,7 @@
 -- What came of the piece is a case of `Goes`. The loop goes on with the longer text (`on_more`), or ends as
 -- the piece did (`ends_stopped`). At the end of the source the feed answers the refusal of the text
 -- (`ends_done`, `ends_cut_short`).
-use Rattle.std.proofs.Common.{◌≡◌, ℕ, ◌+◌, ◌≤◌, List, [], ◌++◌, length, Option, Some, None, Result, Ok, Err, refl, sym, ap, subst, ◌∙◌, inl, inr, arith, length-append}
+use Rattle.std.proofs.Common.{◌≡◌, ℕ, ◌+◌, ◌≤◌, List, [], ◌∷◌, ◌++◌, length, Option, Some, None, Result, Ok, Err, refl, sym, ap, subst, ◌∙◌, inl, inr, arith, append_assoc, length-append}
 use Rattle.std.proofs.lemmas.List.{append-nil}
 use Rattle.std.proofs.lemmas.Bool.{cases_Bool}
 use Rattle.hc_event.specs.declared.event.Event.{Event}
@@ -31,13 +31,13 @@ use Rattle.hc_sched.proofs.OneReading.{brings_timed}
 use Rattle.hc_driver.specs.declared.stop.Stop.{Stop}
 use Rattle.hc_driver.specs.declared.stop.Stop.TheVariants as stop
 use Rattle.hc_driver.specs.Counting.{size_of}
-use Rattle.hc_driver.specs.Stepping.{Steps, StepsSome, StepsUntilWant, between, last_moment}
+use Rattle.hc_driver.specs.Stepping.{Steps, StepsUpToLast, StepsSome, StepsUntilWant, between, within, last_moment}
 use Rattle.hc_driver.specs.Endings as endings
-use Rattle.hc_driver.specs.Endings.{IsReading, Goes, events_from, IsUnrefused, IsRefused, IsRefusedAtOnce, Ends}
+use Rattle.hc_driver.specs.Endings.{IsReading, Goes, events_from, IsUnrefused, IsRefused, IsRefusedAtOnce, IsSteppedAtOnce, Ends}
 use Rattle.hc_driver.specs.Stops.{of_feed, of_sink, ended_by, ended_as}
 use Rattle.hc_driver.proofs.Sizes.{size_of-append, brought_small}
 use Rattle.hc_driver.proofs.Timings.{timed_from, timed_back, last-append, last_later}
-use Rattle.hc_driver.proofs.Reports.{steps_none, steps_more, some_more, some_first, all_first, want_more, want_first}
+use Rattle.hc_driver.proofs.Reports.{steps_none, steps_more, last_more, some_first, all_first, want_first}
 
 -- how far a stepper, a report and the streams are
 pub record Extent : Type 0 where
@@ -234,6 +234,22 @@ module _ {A : Type 0} (answers : A → ℕ → Event → List Act → A → Type
       let all = gives_more left mid new on.text piece on.gives gives in
       by_stop st goes parts all
     where
+      -- all that was read before the piece was stepped
+      at_once : (first rest : List Timed) → first ++ rest ≡ events_in feed piece → IsSteppedAtOnce moment (on.text ++ piece) (events_from moment on.text ++ first) rest
+      at_once first rest whole = record {
+        before = on.text;
+        piece = piece;
+        more = first;
+        whole = refl;
+        short = short;
+        all_before = refl;
+        are_all = append_assoc (events_from moment on.text) first rest ∙ (ap (λ (l : List Timed). events_from moment on.text ++ l) whole
+            ∙ sym (brought-append moment on.text piece ∙ ap (λ (p : Progress). events_from moment on.text ++ events_in p piece) on.leads));
+      }
+
+      part : (some : StepsSome answers t u now.number (events_in feed piece) b c) → StepsUpToLast answers s u 0 (events_from moment on.text ++ some.first) a c
+      part some = last_more answers s t u 0 now.number (events_from moment on.text) some.first a b c on.steps on.number_is some.steps
+
       by_stop : (st : Stop) → Goes answers spent t u now.number feed piece feed' b c (Err st) → events_from moment (on.text ++ piece) ≡ events_from moment on.text ++ events_in feed piece
           → Gives left new (on.text ++ piece) → Ends answers spent s u moment left new a c (ended_by st)
       by_stop (stop.Refused r) goes parts all =
@@ -251,10 +267,12 @@ module _ {A : Type 0} (answers : A → ℕ → Event → List Act → A → Type
           endings.refused (on.text ++ piece) r all at_once steps
       by_stop stop.SourceFailed goes parts all = absurd goes
       by_stop stop.SinkFailed goes parts all =
-          endings.unwritten (on.text ++ piece) all (subst (λ (l : List Timed). StepsSome answers s u 0 l a c) (sym parts) (some_more answers s t u 0 now.number (events_from moment on.text) (events_in feed piece) a b c on.steps on.number_is goes))
-      by_stop stop.NoMemory goes parts all =
-          endings.wanting (on.text ++ piece) all
-          (subst (λ (l : List Timed). StepsUntilWant answers spent s u 0 l a c) (sym parts) (want_more answers spent s t u 0 now.number (events_from moment on.text) (events_in feed piece) a b c on.steps on.number_is goes))
+          endings.unwritten (on.text ++ piece) (events_from moment on.text ++ goes.first) goes.rest all (at_once goes.first goes.rest goes.whole) (part goes)
+      by_stop stop.NoMemory (between goes) parts all =
+          endings.wanting (on.text ++ piece) (events_from moment on.text ++ goes.first) goes.rest all (at_once goes.first goes.rest goes.whole) (part goes)
+      by_stop stop.NoMemory (within first rest next last whole steps led) parts all =
+          endings.wanting_within (on.text ++ piece) (events_from moment on.text ++ first) rest next last all (at_once first (next ∷ rest) whole)
+          (steps_more answers s t last 0 now.number (events_from moment on.text) first a b c on.steps on.number_is steps) led
 
   -- as what was read stopped it, so it ends
   pub ends_source : (s u : A) (moment given : ℕ) (now : Extent) (feed : Progress) (left mid new a b : Option (List ℕ)) (stopped : Result (Unit {0}) Stop)

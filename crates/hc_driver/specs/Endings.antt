@@ -1,5 +1,5 @@
 -- What came of a schedule that was read, stepped and reported.
-use Rattle.std.specs.Prelude.{◌≡◌, ℕ, ◌≤◌, List, ◌++◌, length, Option, Some, None, Result, Ok, Err}
+use Rattle.std.specs.Prelude.{◌≡◌, ℕ, ◌≤◌, List, ◌∷◌, ◌++◌, length, Option, Some, None, Result, Ok, Err}
 use Rattle.hc_event.specs.declared.event.Event.{Event}
 use Rattle.hc_event.specs.declared.act.Act.{Act}
 use Rattle.hc_io.specs.Source.{Gives, GivesAll}
@@ -13,7 +13,7 @@ use Rattle.hc_sched.specs.Feeding.{beginning}
 use Rattle.hc_sched.specs.Laws.{refusal_of}
 use Rattle.hc_driver.specs.declared.stop.Stop.{Stop}
 use Rattle.hc_driver.specs.declared.stop.Stop.TheVariants as stop
-use Rattle.hc_driver.specs.Stepping.{Steps, StepsSome, StepsUntilWant}
+use Rattle.hc_driver.specs.Stepping.{Steps, StepsUpToLast, StepsSome, StepsUntilWant}
 
 -- the reading wasn't stopped
 abbrev pub IsReading : Progress → Type 0
@@ -52,6 +52,17 @@ pub record IsRefusedAtOnce (moment : ℕ) (text : List ℕ) (refused : Refused) 
   pub unrefused : IsUnrefused moment before
   pub refuses : IsRefused moment text refused
 
+-- The first events of a text and the rest of them: all that it brings before its last piece, of at most 16,384 bytes, are
+-- among the first ones.
+pub record IsSteppedAtOnce (moment : ℕ) (text : List ℕ) (first rest : List Timed) : Type 0 where
+  pub before : List ℕ
+  pub piece : List ℕ
+  pub more : List Timed
+  pub whole : before ++ piece ≡ text
+  pub short : length piece ≤ 16384
+  pub all_before : events_from moment before ++ more ≡ first
+  pub are_all : first ++ rest ≡ events_from moment text
+
 -- What came of a schedule from this moment on, by how it ended: what its source had left before and
 -- after, and what its sink had taken.
 pub data Ends {A : Type 0} (answers : A → ℕ → Event → List Act → A → Type 0) (spent : A → A → Type 0) (s u : A) (moment : ℕ) (left left' out out' : Option (List ℕ)) : Ended → Type 0 where
@@ -70,9 +81,13 @@ pub data Ends {A : Type 0} (answers : A → ℕ → Event → List Act → A →
   unreadable : (text : List ℕ) → Gives left left' text → IsUnrefused moment text →
       Steps answers s u 0 (events_from moment text) out out' →
       Ends answers spent s u moment left left' out out' ended.SourceFailed
-  -- some first events of what was read were stepped; the report of all but the last was taken, and a part of the last one's
-  unwritten : (text : List ℕ) → Gives left left' text → StepsSome answers s u 0 (events_from moment text) out out' →
-      Ends answers spent s u moment left left' out out' ended.SinkFailed
-  -- memory was refused, within a step or outside of the steps
-  wanting : (text : List ℕ) → Gives left left' text → StepsUntilWant answers spent s u 0 (events_from moment text) out out' →
+  -- The first events of what was read were stepped. The report of all but the last was taken, and some first part of the last one's.
+  unwritten : (text : List ℕ) (first rest : List Timed) → Gives left left' text → IsSteppedAtOnce moment text first rest →
+      StepsUpToLast answers s u 0 first out out' → Ends answers spent s u moment left left' out out' ended.SinkFailed
+  -- memory was refused outside of the steps, and the same holds
+  wanting : (text : List ℕ) (first rest : List Timed) → Gives left left' text → IsSteppedAtOnce moment text first rest →
+      StepsUpToLast answers s u 0 first out out' → Ends answers spent s u moment left left' out out' ended.NoMemory
+  -- a step was refused memory, behind the whole report of those before
+  wanting_within : (text : List ℕ) (first rest : List Timed) (next : Timed) (last : A) → Gives left left' text →
+      IsSteppedAtOnce moment text first (next ∷ rest) → Steps answers s last 0 first out out' → spent last u →
       Ends answers spent s u moment left left' out out' ended.NoMemory

@@ -51,13 +51,19 @@ TakesUpToLast n [] out out' = Takes out out' []
 TakesUpToLast n (e ∷ h) out out' =
     TakesThenFront out out' (report_after n h) (entry_text (n + length h + 1) e.acts)
 
--- Some first of these events were stepped, each but the first behind the whole report of those before it.
-pub record StepsSome {A : Type 0} (answers : A → ℕ → Event → List Act → A → Type 0) (s u : A) (n : ℕ) (events : List Timed) (out out' : Option (List ℕ)) : Type 0 where
+-- All these events were stepped, each but the first behind the whole report of those before it.
+pub record StepsUpToLast {A : Type 0} (answers : A → ℕ → Event → List Act → A → Type 0) (s u : A) (n : ℕ) (events : List Timed) (out out' : Option (List ℕ)) : Type 0 where
   pub history : History
-  pub rest : List Timed
   pub leads : Leads answers s history u
-  pub events_are : events_in history ++ rest ≡ events
+  pub events_are : events_in history ≡ events
   pub report : TakesUpToLast n history out out'
+
+-- Some first of these events were.
+pub record StepsSome {A : Type 0} (answers : A → ℕ → Event → List Act → A → Type 0) (s u : A) (n : ℕ) (events : List Timed) (out out' : Option (List ℕ)) : Type 0 where
+  pub first : List Timed
+  pub rest : List Timed
+  pub whole : first ++ rest ≡ events
+  pub steps : StepsUpToLast answers s u n first out out'
 
 -- How far these events were stepped and reported where memory was refused.
 pub data StepsUntilWant {A : Type 0} (answers : A → ℕ → Event → List Act → A → Type 0) (spent : A → A → Type 0) (s u : A) (n : ℕ) (events : List Timed) (out out' : Option (List ℕ)) : Type 0 where

@@ -21,9 +21,10 @@ const PIECE: usize = 16_384;
 /// At Done the whole text is a schedule. At Refused the text is refused by the grammar at that
 /// line, which ends in the last 16,384 bytes that were read, and the report is that of the events
 /// before it. At SourceFailed no line of what was read is refused, and the report is that of the
-/// events whose items are whole in it. At SinkFailed the report of all events that were stepped but
-/// the last is written, and some first part of the last one's. At NoMemory it is so too, or a step
-/// was refused memory and the report of all events before it is written. WireFailed never comes.
+/// events whose items are whole in it. At SinkFailed all events before the last 16,384 bytes that
+/// were read are stepped, and maybe some of these. The report of all that were stepped but the last
+/// is written, and some first part of the last one's. At NoMemory it is so too, or a step was
+/// refused memory and the report of all events before it is written. WireFailed never comes.
 pub fn step_through<T: Stepper, S: Source, K: Sink>(
     alloc: Global,
     moment: u64,

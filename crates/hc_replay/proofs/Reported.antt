@@ -19,7 +19,7 @@ use Rattle.hc_sched.proofs.OneReading.{is_read, is_spelled}
 use Rattle.hc_driver.specs.Endings as endings
 use Rattle.hc_driver.specs.Endings.{Ends, IsRefused, events_from}
 use Rattle.hc_driver.specs.Stepping as steps
-use Rattle.hc_driver.specs.Stepping.{Leads, nothing, more, Steps, StepsSome, between, within}
+use Rattle.hc_driver.specs.Stepping.{Leads, nothing, more, Steps, StepsUpToLast}
 use Rattle.hc_model.specs.Entries.{no_contents}
 use Rattle.hc_model.specs.Runs.{IsRun}
 use Rattle.hc_model.specs.Tables.{tables}
@@ -29,7 +29,7 @@ use Rattle.hc_core.specs.declared.cache.Cache.{Cache}
 use Rattle.hc_core.specs.Steps.{StandsFor, Answers, has_failed, limits_in, faults_in, last_moment}
 use Rattle.hc_model.specs.Flaws.{failures_in}
 use Rattle.hc_replay.specs.Replays as replays
-use Rattle.hc_replay.specs.Replays.{IsWholeRun, ReportsAll, ReportsSome, Replays, Completes}
+use Rattle.hc_replay.specs.Replays.{IsWholeRun, ReportsAll, ReportsUpToLast, Replays, Completes}
 use Rattle.hc_replay.specs.Histories.{run_of, failures}
 
 module _ {B : Type 0} {g : Ghosts B} where
@@ -79,12 +79,11 @@ module _ {B : Type 0} {g : Ghosts B} where
         counted = leads_counted s u f.history f.leads;
       }
 
-  reports_some : (s u : Cache B g) (events : List Timed) (out out' : Option (List ℕ)) → StandsFor s no_contents [] → StepsSome answers s u 0 events out out' → ReportsSome s u events out out'
-  reports_some s u events out out' new f =
+  reports_last : (s u : Cache B g) (events : List Timed) (out out' : Option (List ℕ)) → StandsFor s no_contents [] → StepsUpToLast answers s u 0 events out out' → ReportsUpToLast s u events out out'
+  reports_last s u events out out' new f =
       let stands = leads_stand s u f.history new f.leads in
       record {
         history = f.history;
-        rest = f.rest;
         events_are = f.events_are;
         run = whole_run s u f.history stands (leads_limits s u f.history f.leads);
         report = f.report;
@@ -100,10 +99,10 @@ module _ {B : Type 0} {g : Ghosts B} where
   replays_all s u left left' out out' _ new (endings.refused text r gives is steps) = replays.refused text r gives is (reports_all s u (events_from 0 text) out out' new steps)
   replays_all s u left left' out out' _ new (endings.cut_short text r gives unrefused is steps) = replays.cut_short text r gives unrefused is (reports_all s u (events_from 0 text) out out' new steps)
   replays_all s u left left' out out' _ new (endings.unreadable text gives unrefused steps) = replays.unreadable text gives unrefused (reports_all s u (events_from 0 text) out out' new steps)
-  replays_all s u left left' out out' _ new (endings.unwritten text gives steps) = replays.unwritten text gives (reports_some s u (events_from 0 text) out out' new steps)
-  replays_all s u left left' out out' _ new (endings.wanting text gives (between steps)) = replays.wanting text gives (reports_some s u (events_from 0 text) out out' new steps)
-  replays_all s u left left' out out' _ new (endings.wanting text gives (within first rest next last whole steps led)) =
-      replays.spent text first rest next last gives whole (reports_all s last first out out' new steps) led
+  replays_all s u left left' out out' _ new (endings.unwritten text first rest gives stepped steps) = replays.unwritten text first rest gives stepped (reports_last s u first out out' new steps)
+  replays_all s u left left' out out' _ new (endings.wanting text first rest gives stepped steps) = replays.wanting text first rest gives stepped (reports_last s u first out out' new steps)
+  replays_all s u left left' out out' _ new (endings.wanting_within text first rest next last gives stepped steps led) =
+      replays.spent text first rest next last gives stepped (reports_all s last first out out' new steps) led
 
 -- COMPLETENESS
 
@@ -134,5 +133,6 @@ completes_all answers spent s u left left' out out' _ (endings.refused text r gi
 completes_all answers spent s u left left' out out' _ (endings.cut_short text r gives unrefused is steps) = completes_short left left' text r gives is
 completes_all answers spent s u left left' out out' _ (endings.done text gives none steps) = none_complete left ended.Done (λ r h. cc)
 completes_all answers spent s u left left' out out' _ (endings.unreadable text gives unrefused steps) = none_complete left ended.SourceFailed (λ r h. cc)
-completes_all answers spent s u left left' out out' _ (endings.unwritten text gives steps) = none_complete left ended.SinkFailed (λ r h. cc)
-completes_all answers spent s u left left' out out' _ (endings.wanting text gives steps) = none_complete left ended.NoMemory (λ r h. cc)
+completes_all answers spent s u left left' out out' _ (endings.unwritten text first rest gives stepped steps) = none_complete left ended.SinkFailed (λ r h. cc)
+completes_all answers spent s u left left' out out' _ (endings.wanting text first rest gives stepped steps) = none_complete left ended.NoMemory (λ r h. cc)
+completes_all answers spent s u left left' out out' _ (endings.wanting_within text first rest next last gives stepped steps led) = none_complete left ended.NoMemory (λ r h. cc)

@@ -1,5 +1,5 @@
 -- What came of a schedule that was replayed: its events are a run, and the report of that was taken.
-use Rattle.std.specs.Prelude.{◌≡◌, ℕ, ◌+◌, ◌≤◌, List, ◌∷◌, ◌++◌, true, Option, Some}
+use Rattle.std.specs.Prelude.{◌≡◌, ℕ, ◌+◌, ◌≤◌, List, ◌∷◌, true, Option, Some}
 use Rattle.hc_store.specs.declared.backend.Backend.{Ghosts}
 use Rattle.hc_io.specs.Sink.{Takes}
 use Rattle.hc_io.specs.Source.{Gives, GivesAll}
@@ -9,7 +9,7 @@ use Rattle.hc_sched.specs.declared.schedule.Refused.{Refused}
 use Rattle.hc_sched.specs.declared.schedule.Timed.{Timed}
 use Rattle.hc_sched.specs.Schedule.{Item, Spells, events_of}
 use Rattle.hc_sched.specs.Laws.{refusal_of}
-use Rattle.hc_driver.specs.Endings.{IsUnrefused, IsRefusedAtOnce, events_from}
+use Rattle.hc_driver.specs.Endings.{IsUnrefused, IsRefusedAtOnce, IsSteppedAtOnce, events_from}
 use Rattle.hc_driver.specs.Stepping as steps
 use Rattle.hc_driver.specs.Stepping.{events_in, report_after, TakesUpToLast}
 use Rattle.hc_model.specs.Entries.{no_contents}
@@ -36,12 +36,11 @@ pub record ReportsAll {B : Type 0} {g : Ghosts B} (s u : Cache B g) (events : Li
   pub stands : StandsFor u no_contents (run_of history)
   pub counted : faults_in s + failures history ≤ faults_in u
 
--- Some first of these events are such a run, which the cache stands for then, and each but the first was stepped behind the
--- whole report of those before it.
-pub record ReportsSome {B : Type 0} {g : Ghosts B} (s u : Cache B g) (events : List Timed) (out out' : Option (List ℕ)) : Type 0 where
+-- These events are such a run, which the cache stands for then. The report of all but the last was taken, and some first part
+-- of the last one's.
+pub record ReportsUpToLast {B : Type 0} {g : Ghosts B} (s u : Cache B g) (events : List Timed) (out out' : Option (List ℕ)) : Type 0 where
   pub history : steps.History
-  pub rest : List Timed
-  pub events_are : events_in history ++ rest ≡ events
+  pub events_are : events_in history ≡ events
   pub run : IsWholeRun s history
   pub report : TakesUpToLast 0 history out out'
   pub stands : StandsFor u no_contents (run_of history)
@@ -65,15 +64,15 @@ pub data Replays {B : Type 0} {g : Ghosts B} (s u : Cache B g) (left left' out o
   -- the report of the whole items was taken of what could be read, none of whose lines is refused
   unreadable : (text : List ℕ) → Gives left left' text → IsUnrefused 0 text → ReportsAll s u (events_from 0 text) out out' →
       Replays s u left left' out out' ended.SourceFailed
-  -- some first events of what was read were stepped; the report of all but the last was taken, and a part of the last one's
-  unwritten : (text : List ℕ) → Gives left left' text → ReportsSome s u (events_from 0 text) out out' →
-      Replays s u left left' out out' ended.SinkFailed
+  -- the first events of what was read are stepped and reported so, but for a part of the last one's report
+  unwritten : (text : List ℕ) (first rest : List Timed) → Gives left left' text → IsSteppedAtOnce 0 text first rest →
+      ReportsUpToLast s u first out out' → Replays s u left left' out out' ended.SinkFailed
   -- memory was refused outside of the steps, and the same holds
-  wanting : (text : List ℕ) → Gives left left' text → ReportsSome s u (events_from 0 text) out out' →
-      Replays s u left left' out out' ended.NoMemory
+  wanting : (text : List ℕ) (first rest : List Timed) → Gives left left' text → IsSteppedAtOnce 0 text first rest →
+      ReportsUpToLast s u first out out' → Replays s u left left' out out' ended.NoMemory
   -- a step was refused memory, behind the whole report of those before, and each later one will be
   spent : (text : List ℕ) (first rest : List Timed) (next : Timed) (last : Cache B g) → Gives left left' text →
-      first ++ next ∷ rest ≡ events_from 0 text → ReportsAll s last first out out' → has_failed u ≡ true →
+      IsSteppedAtOnce 0 text first (next ∷ rest) → ReportsAll s last first out out' → has_failed u ≡ true →
       Replays s u left left' out out' ended.NoMemory
 
 -- A text that spells items, all of which was left, isn't refused.

@@ -19,10 +19,11 @@ use std::alloc::Global;
 /// At Done the whole input is a schedule, and the report is that of a run. At Refused the grammar
 /// refuses the input at that line, which ends in the last 16,384 bytes that were read, and the
 /// report is that of the events before it. At SourceFailed no line of what was read is refused, and
-/// the report is that of the events whose items are whole in it. At SinkFailed the report of all
-/// events that were stepped but the last is written, and some first part of the last one's, and the
-/// cache stands for them. At NoMemory it is so too, or a step was refused memory, as each later one
-/// is, and the report of all events before it is written. WireFailed never comes.
+/// the report is that of the events whose items are whole in it. At SinkFailed all events before
+/// the last 16,384 bytes that were read are stepped, and maybe some of these. The report of all but
+/// the last is written, and some first part of the last one's, and the cache stands for them. At
+/// NoMemory it is so too, or a step was refused memory, as each later one is, and the report of all
+/// events before it is written. WireFailed never comes.
 pub fn replay<B: Backend, S: Source, K: Sink>(
     alloc: Global,
     cache: &mut Cache<B>,

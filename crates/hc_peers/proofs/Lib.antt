@@ -1,1 +1,11 @@
 mod Texts
+mod Sends
+mod Listing
+mod Offered
+mod Counting
+mod Rows
+mod UpstreamTables
+mod Changes
+mod ClientTables
+mod Takings
+mod Outcomes

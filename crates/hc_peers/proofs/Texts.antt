@@ -1,7 +1,8 @@
 -- The answers without a body, as texts, and the status of whatever has none of its own.
-use Rattle.std.proofs.Common.{◌≡◌, ℕ, refl}
+use Rattle.std.proofs.Common.{◌≡◌, ℕ, [], refl}
 use Rattle.std.specs.Prelude.{codes}
 use Rattle.std.specs.Fmt.{digits}
+use Rattle.hc_msg.specs.Writing.{chunk_text}
 use Rattle.hc_event.specs.declared.act.Cause.{Cause}
 use Rattle.hc_event.specs.declared.act.Cause.TheVariants as cause
 use Rattle.hc_head.specs.declared.message.MsgError.{MsgError}
@@ -51,3 +52,9 @@ other_cause (cause.Short x got promised) a b c = refl
 other_cause (cause.Changed x) a b c = refl
 other_cause (cause.StoreWrite r) a b c = refl
 other_cause (cause.StoreRead r) a b c = refl
+
+-- THE LAST CHUNK
+
+pub says_last : codes "0\r\n\r\n" ≡ chunk_text []
+unfolding digits
+says_last = refl

@@ -1,10 +1,17 @@
 //! Connections of clients.
-ghost use Rattle.std.specs.Prelude.{◌≡◌};
-ghost use Rattle.hc_peers.specs.Peers.{new_client, is_idle, is_ready};
+ghost use Rattle.std.specs.Prelude.{◌≡◌, ℕ, [], true, Option, OnOk, OnErr};
+ghost use Rattle.hc_event.specs.declared.act.Act.TheVariants as act;
+ghost use Rattle.hc_event.specs.declared.act.Why.{Why};
+ghost use Rattle.hc_peers.specs.Peers.{Reads, new_client, read_to, is_idle, is_ready, is_over, is_settled, asks, refused, answered, addressee};
 
+use crate::outbox::Outbox;
 use crate::queue::Queue;
 use crate::reply::{Form, Reply};
-use hc_msg::RequestReader;
+use crate::status::{error_answer, failure_answer};
+use hc_event::{Act, Cause, Response};
+use hc_head::{MsgError, WireRequest};
+use hc_msg::{RequestReader, write_chunk_size, write_response_head};
+use hc_text::{Bytes, NoMemory};
 use std::alloc::Global;
 
 /// A connection of a client.
@@ -18,18 +25,27 @@ pub struct Client {
     /// The answer to its last request.
     pub reply: Reply,
     /// What it is owed and hasn't taken.
-    pub unsent: Queue,
+    pub unsent: Outbox,
     /// It is closed once it has taken what it is owed.
     pub closing: bool,
     /// Whether the wire was told to read it.
     pub reading: bool,
-    /// Whether the step *send* has to look at it in this turn.
-    pub touched: bool,
+}
+
+/// The consumer that is sent something by an act.
+pub fn addressee(act: &Act) -> Option<u64>
+    ensures { result ≡ addressee act.now }
+{
+    match act {
+        Act::Shown { c, .. } | Act::Given { c, .. } | Act::Ended { c } | Act::Failed { c, .. } =>
+            Some(*c),
+        _ => None,
+    }
 }
 
 impl Client {
     /// One of which nothing came.
-    pub fn new(alloc: Global) -> Client
+    pub(crate) fn new(alloc: Global) -> Client
         ensures { result ≡ new_client }
     {
         Client {
@@ -41,24 +57,139 @@ impl Client {
                 no_body: false,
                 form: Form::Headless,
             },
-            unsent: Queue::new(alloc),
+            unsent: Outbox::new(alloc),
             closing: false,
             reading: true,
-            touched: false,
         }
     }
 
     /// Whether it waits for nothing: nobody lives, and it has taken what it is owed.
-    pub fn is_idle(&self) -> bool
+    pub(crate) fn is_idle(&self) -> bool
         ensures { result ≡ is_idle self.now }
     {
         self.consumer.is_none() && self.unsent.is_empty()
     }
 
     /// Whether its next request is to be read.
-    pub fn is_ready(&self) -> bool
+    pub(crate) fn is_ready(&self) -> bool
         ensures { result ≡ is_ready self.now }
     {
         self.is_idle() && !self.closing && !self.input.is_empty()
+    }
+
+    /// Whether it is to be closed now.
+    pub(crate) fn is_over(&self) -> bool
+        ensures { result ≡ is_over self.now }
+    {
+        self.closing && self.unsent.is_empty()
+    }
+
+    /// Whether nothing is to be done for it before something happens.
+    pub(crate) fn is_settled(&self) -> bool
+        ensures { result ≡ is_settled self.now }
+    {
+        self.unsent.is_empty() && !self.closing && self.reading == self.is_idle()
+    }
+
+    /// Reads its next request of what came. After an error nothing of it is read any more.
+    pub(crate) fn read(&mut self) -> Result<Option<WireRequest>, MsgError>
+        ensures reads { Reads self.old self.new result }
+        ensures others { self.new ≡ read_to self.new.reader self.new.input self.old }
+        ensures err { OnErr result (self.new.input ≡ []) }
+    {
+        match self.reader.take(self.input.rest()) {
+            Ok(taken) => {
+                self.input.skip(taken.used);
+                Ok(taken.got)
+            }
+            Err(e) => {
+                self.input.clear();
+                Err(e)
+            }
+        }
+    }
+
+    /// The consumer asks for this.
+    pub(crate) fn ask(&mut self, c: u64, request: &WireRequest)
+        ensures { self.new ≡ asks c request.now self.old }
+    {
+        self.consumer = Some(c);
+        self.reply = Reply::to(request);
+    }
+
+    /// It is owed the error answer, and the close.
+    pub(crate) fn refuse(&mut self, e: MsgError) -> Result<(), NoMemory>
+        ensures ok { OnOk result (self.new ≡ refused e self.old) }
+        ensures closing { self.new.closing ≡ true }
+        ensures consumer { self.new.consumer ≡ self.old.consumer }
+    {
+        self.closing = true;
+        self.unsent.push(error_answer(e))
+    }
+
+    /// It is owed what the act says.
+    pub(crate) fn answer(&mut self, act: Act, text: &mut Vec<u8>) -> Result<(), NoMemory>
+        ensures ok { OnOk result (self.new ≡ answered act self.old) }
+        ensures err { OnErr result (self.new.consumer ≡ self.old.consumer) }
+    {
+        match act {
+            Act::Shown { status, fields, .. } => self.show(Response { status, fields }, text),
+            Act::Given { bytes, .. } => self.give(bytes, text),
+            Act::Ended { .. } => self.end(),
+            Act::Failed { cause, .. } => self.fail(cause),
+            _ => Ok(()),
+        }
+    }
+
+    /// The head of its answer.
+    fn show(&mut self, response: Response, text: &mut Vec<u8>) -> Result<(), NoMemory>
+        ensures ok { (c r : ℕ) (why : Why) (lo : ℕ) (hi : Option ℕ) → OnOk result (self.new
+            ≡ answered (act.Shown c r why response.status response.fields lo hi) self.old) }
+        ensures err { OnErr result (self.new.consumer ≡ self.old.consumer) }
+    {
+        self.reply.form = self.reply.form_of(&response);
+        text.clear();
+        write_response_head(&response, self.reply.form == Form::Chunks, text)?;
+        self.unsent.push(text)
+    }
+
+    /// Bytes of the body, as they lie.
+    fn give(&mut self, bytes: Bytes, text: &mut Vec<u8>) -> Result<(), NoMemory>
+        ensures ok { (c x at : ℕ) → OnOk result
+            (self.new ≡ answered (act.Given c x at bytes) self.old) }
+        ensures err { OnErr result (self.new.consumer ≡ self.old.consumer) }
+    {
+        if self.reply.form != Form::Chunks {
+            return self.unsent.hand(bytes.bytes);
+        }
+        text.clear();
+        write_chunk_size(bytes.bytes.len(), text)?;
+        self.unsent.push(text)?;
+        self.unsent.hand(bytes.bytes)?;
+        self.unsent.push(b"\r\n")
+    }
+
+    /// The answer is whole.
+    fn end(&mut self) -> Result<(), NoMemory>
+        ensures ok { (c : ℕ) → OnOk result (self.new ≡ answered (act.Ended c) self.old) }
+        ensures err { OnErr result (self.new.consumer ≡ self.old.consumer) }
+    {
+        self.unsent.push(self.reply.form.end())?;
+        self.consumer = None;
+        self.closing = self.closing || self.reply.old;
+        Ok(())
+    }
+
+    /// The answer failed: that is told before its head was sent, and else by the close.
+    fn fail(&mut self, cause: Cause) -> Result<(), NoMemory>
+        ensures ok { (c : ℕ) → OnOk result (self.new ≡ answered (act.Failed c cause) self.old) }
+        ensures err { OnErr result (self.new.consumer ≡ self.old.consumer) }
+    {
+        if self.reply.form == Form::Headless {
+            self.unsent.push(failure_answer(cause))?;
+        }
+        self.consumer = None;
+        self.closing = self.closing || self.reply.closes_at_failure();
+        Ok(())
     }
 }

@@ -2,13 +2,20 @@
 #![tactic(auto)]
 
 mod client;
+mod clients;
+mod outbox;
 mod queue;
 mod reply;
 mod status;
+mod tell;
 mod upstream;
+mod upstreams;
 
-pub use client::Client;
+pub use client::{Client, addressee};
+pub use clients::{Clients, Heard};
+pub use outbox::Outbox;
 pub use queue::Queue;
 pub use reply::{Form, Reply, is_head};
 pub use status::{error_answer, failure_answer};
 pub use upstream::Upstream;
+pub use upstreams::Upstreams;

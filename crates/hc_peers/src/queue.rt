@@ -1,7 +1,10 @@
 //! Bytes that come at one end and are used at the other.
-ghost use Rattle.std.specs.Prelude.{◌≡◌, ◌≤◌, ◌==◌, ◌++◌, [], length, drop, OnOk, OnErr};
+ghost use Rattle.std.specs.Prelude.{◌≡◌, ◌≤◌, ◌<◌, ◌==◌, ◌++◌, ℕ, [], length, drop, OnOk, OnErr};
+ghost use Rattle.hc_wire.specs.Wires.{HasWireCause};
+ghost use Rattle.hc_peers.specs.Offers.{Offers, OffersSome};
 
 use hc_text::NoMemory;
+use hc_wire::{Wire, WireError};
 use std::alloc::Global;
 use std::marker::Model;
 
@@ -36,6 +39,13 @@ impl Queue {
         }
     }
 
+    /// These bytes.
+    pub fn of(bytes: Vec<u8>) -> Queue
+        ensures { result ≡ bytes.items }
+    {
+        Queue { bytes, used: 0 }
+    }
+
     pub fn is_empty(&self) -> bool
         ensures { result ≡ (length self.now == 0) }
     {
@@ -66,9 +76,35 @@ impl Queue {
     {
         self.used += n;
         if self.used == self.bytes.len() {
-            self.bytes.clear();
-            self.used = 0;
+            self.clear();
         }
+    }
+
+    /// All were used.
+    pub fn clear(&mut self)
+        ensures { self.new ≡ [] }
+    {
+        self.bytes.clear();
+        self.used = 0;
+    }
+
+    /// The connection is offered all of them, and what it takes is used.
+    pub fn offer<W: Wire>(&mut self, k: u64, wire: &mut W) -> Result<(), WireError>
+        ensures ok { OnOk result
+            (Offers k self.old self.new (W.log wire.old) (W.log wire.new)) }
+        ensures err { OnErr result (OffersSome k self.old (W.log wire.old) (W.log wire.new)) }
+        ensures kept { OnErr result (self.new ≡ self.old) }
+        ensures some { OnErr result (0 < length self.old) }
+        ensures stages { (j : ℕ) → W.stages wire.new j ≡ W.stages wire.old j }
+        ensures events { W.events wire.new ≡ W.events wire.old }
+        ensures cause { HasWireCause (W.faults wire.old) (W.faults wire.new) result }
+    {
+        if self.is_empty() {
+            return Ok(());
+        }
+        let n = wire.send(k, self.rest())?;
+        self.skip(n);
+        Ok(())
     }
 
     /// What was used is left out, where that is half of all.

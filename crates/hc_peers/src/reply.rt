@@ -1,6 +1,6 @@
 //! How the answer to a request is sent.
 ghost use Rattle.std.specs.Prelude.{◌≡◌};
-ghost use Rattle.hc_peers.specs.Renderings.{is_head, reply_to, form_of, is_cut_off, closes_at_failure};
+ghost use Rattle.hc_peers.specs.Renderings.{is_head, reply_to, end_text, form_of, is_cut_off, closes_at_failure};
 
 use hc_event::{Request, Response};
 use hc_fields::has_field;
@@ -15,6 +15,19 @@ pub enum Form {
     Plain,
     /// Its bytes are sent in chunks (RFC 9112 section 7.1).
     Chunks,
+}
+
+impl Form {
+    /// What ends its body: the last chunk, where it is sent in chunks.
+    #[tactic(auto, using(crate::proofs::Texts::says_last))]
+    pub fn end(self) -> &'static [u8]
+        ensures { result.now ≡ end_text self }
+    {
+        match self {
+            Form::Chunks => b"0\r\n\r\n",
+            Form::Headless | Form::Plain => b"",
+        }
+    }
 }
 
 /// The answer to a request.

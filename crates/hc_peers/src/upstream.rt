@@ -1,10 +1,14 @@
 //! Connections to the origin.
-ghost use Rattle.std.specs.Prelude.{◌≡◌};
-ghost use Rattle.hc_peers.specs.Peers.{new_upstream, has_news};
+ghost use Rattle.std.specs.Prelude.{◌≡◌, ◌≤◌, length};
+ghost use Rattle.hc_peers.specs.Origins.{new_upstream, has_news, left_behind, Takes};
 
 use crate::queue::Queue;
-use hc_msg::ResponseReader;
+use hc_head::MsgError;
+use hc_msg::{ResponseReader, WirePart};
 use std::alloc::Global;
+
+/// A piece has at most this many bytes.
+const MOST_PIECE: usize = 16_384;
 
 /// The connection of an exchange.
 #[derive(Drop)]
@@ -20,30 +24,55 @@ pub struct Upstream {
     pub ended: bool,
     /// Whether the wire was told to read it.
     pub reading: bool,
-    /// Whether the step *send* has to look at it in this turn.
-    pub touched: bool,
 }
 
 impl Upstream {
-    /// One of which nothing came. `no_body` tells that the request is a HEAD.
-    pub fn new(alloc: Global, k: u64, no_body: bool) -> Upstream
-        ensures { result ≡ new_upstream k no_body }
+    /// One of which nothing came, and which is owed these bytes. `no_body` tells that they are a HEAD.
+    pub(crate) fn new(alloc: Global, k: u64, no_body: bool, owed: Vec<u8>) -> Upstream
+        ensures { result ≡ new_upstream k no_body owed.items }
     {
         Upstream {
             k,
             reader: ResponseReader::new(alloc, no_body),
             input: Queue::new(alloc),
-            unsent: Queue::new(alloc),
+            unsent: Queue::of(owed),
             ended: false,
             reading: true,
-            touched: false,
         }
     }
 
     /// Whether a part may stand next: bytes came of it, or its end, or its message is whole.
-    pub fn has_news(&self) -> bool
+    pub(crate) fn has_news(&self) -> bool
         ensures { result ≡ has_news self.now }
     {
         !self.input.is_empty() || self.ended || self.reader.is_whole()
+    }
+
+    /// Reads what stands next, of a body at most 16,384 bytes.
+    pub(crate) fn take(&mut self) -> Result<Option<WirePart>, MsgError>
+        ensures takes { Takes self.old self.new result }
+        ensures number { self.new.k ≡ self.old.k }
+    {
+        match self.reader.take(self.input.rest(), MOST_PIECE) {
+            Ok(taken) => {
+                use_up(&mut self.input, &taken.got, taken.used);
+                Ok(taken.got)
+            }
+            Err(e) => {
+                self.input.clear();
+                Err(e)
+            }
+        }
+    }
+}
+
+/// What was taken is used. Behind the end, and where more is waited for, nothing is left.
+fn use_up(input: &mut Queue, got: &Option<WirePart>, used: usize)
+    requires { used ≤ length input.old }
+    ensures { input.new ≡ left_behind got.now used input.old }
+{
+    match got {
+        Some(WirePart::Head(_) | WirePart::Piece(_)) => input.skip(used),
+        Some(WirePart::End) | None => input.clear(),
     }
 }

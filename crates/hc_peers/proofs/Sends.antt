@@ -1,0 +1,134 @@
+-- What a connection is sent in several goes, as if it was offered all of it at once. Sending nothing leaves the wire's log
+-- as it is, and sending twice, the first time without falling short, is sending both texts at once: that is shown for one
+-- connection, for the list of them, and for the log. An offer that took all of its bytes leaves nothing, so the next one
+-- begins where it ended; one that leaves something is the last. The lemmas at the end put three offers together, as a box
+-- makes them of its three parts.
+use Rattle.std.proofs.Common.{◌≡◌, ℕ, ◌+◌, ◌<◌, ◌≤◌, List, [], ◌∷◌, ◌++◌, length, take, drop, Bool, false, Option, Some, None, eqb, refl, sym, ap, ◌∙◌, inl, inr, arith, append_assoc, length-append, length-drop}
+use Rattle.std.specs.Prelude.{nat_lt}
+use Rattle.std.proofs.lemmas.Bool.{cases_Bool}
+use Rattle.std.proofs.lemmas.Bool.Decides.{nat_tests}
+use Rattle.std.proofs.lemmas.List.{append-nil, drop-append-le, take-append-le}
+use Rattle.std.proofs.Math.Seq.{take-length, take-append-add, drop-append-add}
+use Rattle.hc_wire.specs.Logs.{Log, Taker, Tells, with_sent, changed_at, taking}
+use Rattle.hc_peers.specs.Offers.{Offers, OffersSome}
+
+-- NOTHING IS SENT
+
+taking-none : (n : ℕ) (c : Taker) → taking [] false n c ≡ c
+taking-none n c = rw (append-nil c.sent) refl
+
+changed-none : (k n : ℕ) (cs : List Taker) → changed_at k (taking [] false n) cs ≡ cs
+changed-none k n [] = refl
+changed-none k n (c ∷ cs) = elim (cases_Bool (eqb c.k k)) [
+  | inl on ↦ rw on (ap (λ (d : Taker). d ∷ cs) (taking-none n c))
+  | inr off ↦ rw off (ap (λ (ds : List Taker). c ∷ ds) (changed-none k n cs))
+]
+
+pub sent-none : (k : ℕ) (log : Log) → with_sent k [] false log ≡ log
+sent-none k log = ap (λ (cs : List Taker). let l : Log = record log { takers = cs } in l) (changed-none k (length log.calls) log.takers)
+
+tells-none : (k : ℕ) (l : Option Log) → Tells l l (with_sent k [] false)
+tells-none k None = refl
+tells-none k (Some log) = ap Some (sym (sent-none k log))
+
+-- ONE BEHIND ANOTHER
+
+taking-both : (n : ℕ) (a b : List ℕ) (s : Bool) (c : Taker) → taking b s n (taking a false n c) ≡ taking (a ++ b) s n c
+taking-both n a b s c = rw (append_assoc c.sent a b) refl
+
+changed-both : (k n : ℕ) (a b : List ℕ) (s : Bool) (cs : List Taker) → changed_at k (taking b s n) (changed_at k (taking a false n) cs) ≡ changed_at k (taking (a ++ b) s n) cs
+changed-both k n a b s [] = refl
+changed-both k n a b s (c ∷ cs) = elim (cases_Bool (eqb c.k k)) [
+  | inl on ↦ rw on (rw on (ap (λ (d : Taker). d ∷ cs) (taking-both n a b s c)))
+  | inr off ↦ rw off (rw off (ap (λ (ds : List Taker). c ∷ ds) (changed-both k n a b s cs)))
+]
+
+sent-both : (k : ℕ) (a b : List ℕ) (s : Bool) (log : Log) → with_sent k b s (with_sent k a false log) ≡ with_sent k (a ++ b) s log
+sent-both k a b s log = ap (λ (cs : List Taker). let l : Log = record log { takers = cs } in l) (changed-both k (length log.calls) a b s log.takers)
+
+tells-both : (k : ℕ) (a b : List ℕ) (s : Bool) (l m n : Option Log) → Tells l m (with_sent k a false) → Tells m n (with_sent k b s) → Tells l n (with_sent k (a ++ b) s)
+tells-both k a b s None m n first second = let h = rw first at second in h
+tells-both k a b s (Some log) m n first second = let h = rw first at second in h ∙ ap Some (sent-both k a b s log)
+
+-- OFFERS
+
+pub offers-none : (k : ℕ) (old : List ℕ) (l : Option Log) → old ≡ [] → Offers k old old l l
+offers-none k old l none = rw none (record { n = 0; within = omega arith; left = refl; told = tells-none k l })
+
+pub some-none : (k : ℕ) (old : List ℕ) (l m : Option Log) → m ≡ l → OffersSome k old l m
+some-none k old l m same = rw same (record { n = 0; short = false; within = omega arith; told = tells-none k l })
+
+-- all of it was taken
+all-taken : (n : ℕ) (a left : List ℕ) → n ≤ length a → left ≡ drop n a → left ≡ [] → n ≡ length a
+all-taken n a left within is none = let size = length-drop n a in let same : length left ≡ length (drop n a) = ap length is in let zero : length left ≡ 0 = ap length none in omega arith
+
+all-told : (k n : ℕ) (a : List ℕ) (l m : Option Log) → n ≡ length a → Tells l m (with_sent k (take n a) (nat_lt n (length a))) → Tells l m (with_sent k a false)
+all-told k n a l m all told =
+    let not_less : nat_lt (length a) (length a) ≡ false = grind (arith, nat_tests) in
+    rw (all, take-length a, not_less) at told
+
+less-past : (p n q : ℕ) → nat_lt (p + n) (p + q) ≡ nat_lt n q
+less-past p n q = grind (arith, nat_tests)
+
+module _ (k : ℕ) (a b a' : List ℕ) (l m : Option Log) (first : Offers k a a' l m) where
+  -- where something is left of the first, the second waits
+  pub offers-before : 0 < length a' → Offers k (a ++ b) (a' ++ b) l m
+  offers-before some =
+      let size = length-drop first.n a in
+      let same : length a' ≡ length (drop first.n a) = ap length first.left in
+      let less : first.n < length a = omega arith in
+      let le : first.n ≤ length a = omega arith in
+      let short : nat_lt first.n (length a + length b) ≡ nat_lt first.n (length a) = grind (arith, nat_tests) in
+      record {
+        n = first.n;
+        within = let both = length-append a b in omega arith;
+        left = ap (λ (x : List ℕ). x ++ b) first.left ∙ sym (drop-append-le first.n a b le);
+        told = rw (length-append a b, take-append-le first.n a b le, short) first.told;
+      }
+
+  pub offers-behind : (b' : List ℕ) (n : Option Log) → a' ≡ [] → Offers k b b' m n → Offers k (a ++ b) b' l n
+  offers-behind b' n none second =
+      let all = all-taken first.n a a' first.within first.left none in
+      record {
+        n = length a + second.n;
+        within = let both = length-append a b in let w = second.within in omega arith;
+        left = second.left ∙ sym (drop-append-add a b second.n);
+        told = rw (length-append a b, take-append-add a b second.n, less-past (length a) second.n (length b))
+            (tells-both k a (take second.n b) (nat_lt second.n (length b)) l m n (all-told k first.n a l m all first.told) second.told);
+      }
+
+  pub some-behind : (n : Option Log) → a' ≡ [] → OffersSome k b m n → OffersSome k (a ++ b) l n
+  some-behind n none second =
+      let all = all-taken first.n a a' first.within first.left none in
+      record {
+        n = length a + second.n;
+        short = second.short;
+        within = let both = length-append a b in let w = second.within in omega arith;
+        told = rw (take-append-add a b second.n) (tells-both k a (take second.n b) second.short l m n (all-told k first.n a l m all first.told) second.told);
+      }
+
+pub some-before : (k : ℕ) (a b : List ℕ) (l m : Option Log) → OffersSome k a l m → OffersSome k (a ++ b) l m
+some-before k a b l m first =
+    let le = first.within in
+    record {
+      n = first.n;
+      short = first.short;
+      within = let both = length-append a b in omega arith;
+      told = rw (take-append-le first.n a b le) first.told;
+    }
+
+-- THREE, ONE BEHIND ANOTHER
+
+module _ (k : ℕ) (f b back f' : List ℕ) (l m n : Option Log) (first : Offers k f f' l m) (none : f' ≡ []) where
+  pub some-second : OffersSome k b m n → OffersSome k ((f ++ b) ++ back) l n
+  some-second second = some-before k (f ++ b) back l n (some-behind k f b f' l m first n none second)
+
+  pub offers-second : (b' : List ℕ) → Offers k b b' m n → 0 < length b' → Offers k ((f ++ b) ++ back) ((f' ++ b') ++ back) l n
+  offers-second b' second some = rw none (offers-before k (f ++ b) back b' l n (offers-behind k f b f' l m first b' n none second) some)
+
+  pub some-third : (b' : List ℕ) (o : Option Log) → Offers k b b' m n → b' ≡ [] → OffersSome k back n o → OffersSome k ((f ++ b) ++ back) l o
+  some-third b' o second none' third = some-behind k (f ++ b) back b' l n (offers-behind k f b f' l m first b' n none second) o none' third
+
+  pub offers-third : (b' back' : List ℕ) (o : Option Log) → Offers k b b' m n → b' ≡ [] → Offers k back back' n o → Offers k ((f ++ b) ++ back) ((f' ++ b') ++ back') l o
+  offers-third b' back' o second none' third =
+      rw (none, none') (offers-behind k (f ++ b) back b' l n (offers-behind k f b f' l m first b' n none second) back' o none' third)

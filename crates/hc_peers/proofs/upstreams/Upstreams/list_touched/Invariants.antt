@@ -1,0 +1,6 @@
+use Rattle.std.proofs.Common.{◌≡◌, ◌++◌}
+use Rattle.std.specs.BTreeSet as set
+use Rattle.hc_peers.proofs.upstreams.Upstreams.list_touched.Given as goal
+
+abbrev pub invariant-loop-x : goal.invariant-loop-x
+invariant-loop-x l = l.to.items ++ l.x-iterator ≡ l.fn.to.items ++ set.keys l.self.touched

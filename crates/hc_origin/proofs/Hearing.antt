@@ -1,0 +1,85 @@
+-- What is made of an event of a connection that is open.
+--
+-- Bytes come to a reader, if one is kept (`ReadsOn`): then the request goes on, is whole or is refused. Where none is
+-- kept the connection is answered already, and stays so. The same where it ends or breaks.
+use Rattle.std.proofs.Common.{◌≡◌, ℕ, List, Bool, true, false, eqb, Option, Some, None, Ok, Err, refl, inl, inr}
+use Rattle.std.specs.Prelude.{Result, OnOk, drop, is_some}
+use Rattle.hc_text.specs.declared.memory.NoMemory.{NoMemory}
+use Rattle.hc_head.specs.declared.message.MsgError.{MsgError}
+use Rattle.hc_head.specs.declared.message.WireRequest.{WireRequest}
+use Rattle.hc_msg.specs.declared.message.Taken.{Taken}
+use Rattle.hc_msg.specs.Inputs.{IsNextRequest, TakesNextRequest, next_in}
+use Rattle.hc_msg.specs.Reading.{Reading}
+use Rattle.hc_wire.specs.Events.{Stage}
+use Rattle.hc_wire.specs.Logs.{Log}
+use Rattle.hc_origin.specs.declared.origin.Origin.{Origin}
+use Rattle.hc_origin.specs.Coming.{Came}
+use Rattle.hc_origin.specs.Replies.{Unsent}
+use Rattle.hc_origin.specs.Keeping.{Follows, Keeps}
+use Rattle.hc_origin.specs.Going.{AreKept, GoesTo, HandlesTo, Hears, IsGot, IsTaken, Leaves, ReadsOn, with_bytes, with_stop}
+use Rattle.hc_origin.proofs.Comings.{answer-more, answer-stop}
+use Rattle.hc_origin.proofs.Steps.{answered-kept, read-asks, read-fails, read-on, stop-leaves}
+
+-- the log is the one that was
+pub stays-kept : (tells : Bool) (log : Log) (told : Option Log) (stages : ℕ → Stage) (P : Log → Type 0) → Follows tells told stages log → P log → GoesTo tells log told stages P
+stays-kept tells log told stages P follows is = record { next = log; follows = follows; calls = refl; bound = refl; holds = is }
+
+pub handles-kept : (tells : Bool) (origin : Origin) (log : Log) (told : Option Log) (stages : ℕ → Stage) (result : Result (Unit {0}) NoMemory) → Follows tells told stages log
+    → OnOk result (AreKept origin log) → HandlesTo tells origin log told stages result
+handles-kept tells origin log told stages (Ok done) follows is = stays-kept tells log told stages (AreKept origin) follows is
+handles-kept tells origin log told stages (Err e) follows is = follows
+
+-- BYTES
+
+reads-none : (old new : Option Reading) (bytes : List ℕ) → ReadsOn old new bytes None → (old ≡ None) × (new ≡ None)
+reads-none None new bytes is = (refl, is)
+reads-none (Some s) None bytes is = absurd is
+reads-none (Some s) (Some t) bytes is = absurd is
+
+reads-some : (old new : Option Reading) (bytes : List ℕ) (result : Result (Taken WireRequest) MsgError) → ReadsOn old new bytes (Some result)
+    → (s : Reading) × (t : Reading) × (old ≡ Some s) × (new ≡ Some t) × TakesNextRequest 1 s bytes result t
+reads-some None new bytes result is = absurd is
+reads-some (Some s) None bytes result is = absurd is
+reads-some (Some s) (Some t) bytes result is = (s, t, refl, refl, is)
+
+module _ (k : ℕ) (bytes : List ℕ) (before : Came) (log : Log) (asking new : ℕ → Option Reading) (owed : List Unsent) (hears : Hears k before (with_bytes bytes before) log asking owed)
+    (same : (j : ℕ) → eqb j k ≡ false → new j ≡ asking j) where
+  -- none is kept
+  pub none-reads : ReadsOn (asking k) (new k) bytes None → Keeps log new owed
+  none-reads own =
+      let none = reads-none (asking k) (new k) bytes own in
+      answered-kept k before (with_bytes bytes before) log asking new owed (λ text is. answer-more before bytes text is) hears none.0 none.1 same
+
+  got-on : (s t : Reading) (used : ℕ) (got : Option WireRequest) → asking k ≡ Some s → new k ≡ Some t → IsNextRequest (next_in 1 s bytes) bytes used got t → IsGot k got log new owed
+  got-on s t used None was now next = read-on k bytes before log asking new owed hears same s was t next now
+  got-on s t used (Some request) was now next = read-asks k bytes before log asking new owed hears same s was request t (drop used bytes) next
+
+  taken-on : (s t : Reading) (read : Result (Taken WireRequest) MsgError) → asking k ≡ Some s → new k ≡ Some t → TakesNextRequest 1 s bytes read t → IsTaken k read log new owed
+  taken-on s t (Ok taken) was now next = got-on s t taken.used taken.got was now next
+  taken-on s t (Err e) was now next = λ other. elim next [
+    | inl memory ↦ absurd (other memory)
+    | inr fails ↦ read-fails k bytes before log asking new owed hears same s was e fails
+  ]
+
+  -- one is
+  pub some-reads : (read : Result (Taken WireRequest) MsgError) → ReadsOn (asking k) (new k) bytes (Some read) → IsTaken k read log new owed
+  some-reads read own =
+      let is = reads-some (asking k) (new k) bytes read own in taken-on is.0 is.1 read is.2 is.3 is.4
+
+-- AN END
+
+is_none : {A : Type 0} (o : Option A) → is_some o ≡ false → o ≡ None
+is_none None is = refl
+is_none (Some x) is = absurd (cc)
+
+the_some : {A : Type 0} (o : Option A) → is_some o ≡ true → (x : A) × (o ≡ Some x)
+the_some None is = absurd (cc)
+the_some (Some x) is = (x, refl)
+
+module _ (k : ℕ) (before : Came) (log : Log) (asking : ℕ → Option Reading) (owed : List Unsent) (hears : Hears k before (with_stop before) log asking owed) where
+  pub none-stops : is_some (asking k) ≡ false → Keeps log asking owed
+  none-stops none =
+      answered-kept k before (with_stop before) log asking asking owed (λ text is. answer-stop before text is) hears (is_none (asking k) none) (is_none (asking k) none) (λ j off. refl)
+
+  pub some-stops : is_some (asking k) ≡ true → Leaves k log asking owed
+  some-stops some = let is = the_some (asking k) some in stop-leaves k before log asking owed is.0 hears is.1

@@ -1,0 +1,13 @@
+pub mod Takers
+pub mod Unsents
+pub mod Comings
+pub mod Fitting
+pub mod Runs
+pub mod Sends
+pub mod Places
+pub mod Steps
+pub mod Offers
+pub mod Ends
+pub mod Maps
+pub mod Hearing
+pub mod Turning

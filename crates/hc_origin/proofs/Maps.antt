@@ -1,0 +1,25 @@
+-- A map by number, changed at one.
+use Rattle.std.proofs.Common.{◌≡◌, ℕ, ◌<◌, List, [], ◌∷◌, length, false, eqb, ltb, Option, None, refl, inl, inr, arith}
+use Rattle.std.specs.Ordering.{nat_cmp}
+use Rattle.std.specs.BTreeMap.{BTreeMap, Updates, btree_map_len, get, is_at}
+use Rattle.std.specs.Map.{lookup}
+use Rattle.std.proofs.lemmas.Bool.{cases_Bool}
+use Rattle.hc_origin.proofs.Takers.{apart_sym}
+
+module _ {X : Type 0} (m n : BTreeMap ℕ X) (k : ℕ) (w : Option X) (updates : Updates nat_cmp m n k w) where
+  pub map-own : get nat_cmp n k ≡ w
+  map-own = updates.1
+
+  pub map-other : (j : ℕ) → eqb j k ≡ false → get nat_cmp n j ≡ get nat_cmp m j
+  map-other j off = updates.2 j (elim (cases_Bool (ltb k j)) [
+    | inl less ↦ rw less refl
+    | inr more ↦ rw (more, apart_sym j k off) refl
+  ])
+
+-- nothing stands in an empty one
+no_entries : {X : Type 0} (es : List (ℕ × X)) (k : ℕ) → (0 < length es → ⊥) → lookup (is_at (nat_cmp k)) es ≡ None
+no_entries [] k none = refl
+no_entries (e ∷ es) k none = absurd (none (omega arith))
+
+pub map-empty : {X : Type 0} (m : BTreeMap ℕ X) → (0 < btree_map_len m → ⊥) → (k : ℕ) → get nat_cmp m k ≡ None
+map-empty m none k = no_entries m.entries k none

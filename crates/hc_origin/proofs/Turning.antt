@@ -1,0 +1,102 @@
+-- A turn, from its call of `next` to its sending.
+--
+-- The log goes on by the call (`heard` of Places says what is kept behind it), by what its event brings and by what is
+-- sent. Each of these goes on from the log that the one before it led to (`goes-on`). Where one stops the turn, the log
+-- that it led to is one already.
+use Rattle.std.proofs.Common.{◌≡◌, ℕ, ◌+◌, ◌<◌, ◌≤◌, List, [], ◌∷◌, ◌++◌, length, Bool, true, false, Option, Ok, Err, refl, sym, ap, subst, ◌∙◌, append_assoc, arith, length-append}
+use Rattle.std.specs.Prelude.{Result, IsErrAnd}
+use Rattle.std.proofs.lemmas.List.{append-nil}
+use Rattle.hc_wire.specs.declared.event.WireEvent.{WireEvent}
+use Rattle.hc_wire.specs.Events.{Stage, IsOpen}
+use Rattle.hc_wire.specs.Logs.{Log, with_call, standings_in}
+use Rattle.hc_msg.specs.Reading.{Reading}
+use Rattle.hc_origin.specs.declared.origin.Origin.{Origin}
+use Rattle.hc_origin.specs.declared.stop.Stop.{Stop}
+use Rattle.hc_origin.specs.Endings.{IsLog}
+use Rattle.hc_origin.specs.Replies.{Offers, Sends, Unsent}
+use Rattle.hc_origin.specs.Keeping.{Follows, Keeps, Rests}
+use Rattle.hc_origin.specs.Going.{AreOffered, GoesTo, Heard, OffersTo, SendsTo, TurnsTo}
+use Rattle.hc_origin.proofs.Places.{heard-log, keeps-log}
+
+pub goes-on : (tells : Bool) (log : Log) (told new : Option Log) (stages next : ℕ → Stage) (P Q : Log → Type 0) → GoesTo tells log told stages P
+    → ((l : Log) → Follows tells told stages l → P l → GoesTo tells l new next Q) → GoesTo tells log new next Q
+goes-on tells log told new stages next P Q goes more =
+    let is = more goes.next goes.follows goes.holds in
+    record { next = is.next; follows = is.follows; calls = is.calls ∙ goes.calls; bound = is.bound ∙ goes.bound; holds = is.holds }
+
+-- WHAT IS SENT
+
+pub offers-true : (told mid : Option Log) (u v : Unsent) (b : Bool) → Offers told mid u v (Ok b) → b ≡ true → Sends told mid u.k u.bytes v.bytes false × (v.bytes ≡ [])
+offers-true told mid u v true is on = is
+offers-true told mid u v false is on = absurd (cc)
+
+pub offers-false : (told mid : Option Log) (u v : Unsent) (b : Bool) → Offers told mid u v (Ok b) → b ≡ false → Sends told mid u.k u.bytes v.bytes true × (0 < length v.bytes)
+offers-false told mid u v true is off = absurd (cc)
+offers-false told mid u v false is off = is
+
+-- before the first is offered what it lacks
+pub none-offered : (log : Log) (asking : ℕ → Option Reading) (left offered : List Unsent) → Keeps log asking left → offered ≡ [] → AreOffered asking left offered log
+none-offered log asking left offered keeps none = subst (λ (us : List Unsent). AreOffered asking left us log) (sym none)
+    (subst (λ (us : List Unsent). Keeps log asking us) (sym (append-nil left)) keeps, λ k. tt)
+
+-- the last of those that are left is offered now
+pub next-offered : (log : Log) (asking : ℕ → Option Reading) (all left offered : List Unsent) (u : Unsent) → all ≡ left ++ u ∷ [] → AreOffered asking all offered log
+    → Keeps log asking (left ++ u ∷ offered)
+next-offered log asking all left offered u is kept =
+    subst (λ (us : List Unsent). Keeps log asking us) (append_assoc left (u ∷ []) offered)
+    (subst (λ (us : List Unsent). Keeps log asking (us ++ offered)) is kept.0)
+
+-- once all were
+pub all-offered : (log : Log) (asking : ℕ → Option Reading) (left offered : List Unsent) → left ≡ [] → AreOffered asking left offered log → Rests log asking offered
+all-offered log asking left offered none kept = record {
+  keeps = subst (λ (us : List Unsent). Keeps log asking (us ++ offered)) none kept.0;
+  lacking = kept.1;
+}
+
+pub stops-offer : (tells : Bool) (origin : Origin) (log : Log) (told : Option Log) (stages : ℕ → Stage) (P : Stop → Type 0) (result : Result (Unit {0}) Stop) → IsErrAnd result P
+    → GoesTo tells log told stages IsLog → OffersTo tells origin log told stages result
+stops-offer tells origin log told stages P (Ok done) stops is = absurd stops
+stops-offer tells origin log told stages P (Err e) stops is = is
+
+pub stops-send : (tells : Bool) (origin : Origin) (log : Log) (told : Option Log) (stages : ℕ → Stage) (P : Stop → Type 0) (result : Result (Unit {0}) Stop) → IsErrAnd result P
+    → GoesTo tells log told stages IsLog → SendsTo tells origin log told stages result
+stops-send tells origin log told stages P (Ok done) stops is = absurd stops
+stops-send tells origin log told stages P (Err e) stops is = is
+
+-- A TURN
+
+pub stops-turn : (tells : Bool) (origin : Origin) (log next : Log) (told : Option Log) (stages : ℕ → Stage) (P : Stop → Type 0) (result : Result (Unit {0}) Stop) → IsErrAnd result P
+    → Follows tells told stages next → IsLog next → length next.calls ≤ length log.calls + 1 → next.bound ≡ log.bound → TurnsTo tells origin log told stages result
+stops-turn tells origin log next told stages P (Ok done) stops follows is le bound = absurd stops
+stops-turn tells origin log next told stages P (Err e) stops follows is le bound = (next, follows, (is, le, bound))
+
+one-more : (log : Log) (wait : Bool) (moment : ℕ) (what : WireEvent) (bytes : List ℕ) → length (with_call wait moment what bytes log).calls ≡ length log.calls + 1
+one-more log wait moment what bytes =
+    let len = length-append log.calls (record { wait = wait; moment = moment; event = what; bytes = bytes; standings = standings_in log } ∷ []) in omega arith
+
+-- its call failed
+pub uncalled-turn : (tells : Bool) (origin : Origin) (log : Log) (asking : ℕ → Option Reading) (owed : List Unsent) (told new : Option Log) (stages next : ℕ → Stage) (P : Stop → Type 0) (result : Result (Unit {0}) Stop)
+    → IsErrAnd result P → Follows tells told stages log → Rests log asking owed → new ≡ told → ((j : ℕ) → next j ≡ stages j) → TurnsTo tells origin log new next result
+uncalled-turn tells origin log asking owed told new stages next P result stops follows rests same stays =
+    let here : Follows tells new next log = record {
+      is_told = same ∙ follows.is_told;
+      live = λ k is. follows.live k (subst IsOpen (stays k) is);
+      unseen = λ k is. follows.unseen k (sym (stays k) ∙ is);
+    } in
+    stops-turn tells origin log log new next P result stops here (keeps-log log asking owed rests.keeps) (omega arith) refl
+
+-- memory was refused behind it
+pub unhandled-turn : (tells : Bool) (origin : Origin) (log : Log) (asking : ℕ → Option Reading) (owed : List Unsent) (moment : ℕ) (what : WireEvent) (bytes : List ℕ) (told : Option Log) (stages : ℕ → Stage) (P : Stop → Type 0) (result : Result (Unit {0}) Stop)
+    → IsErrAnd result P → Follows tells told stages (with_call true moment what bytes log) → Heard what bytes (with_call true moment what bytes log) asking owed → TurnsTo tells origin log told stages result
+unhandled-turn tells origin log asking owed moment what bytes told stages P result stops follows is =
+    let more = one-more log true moment what bytes in
+    stops-turn tells origin log (with_call true moment what bytes log) told stages P result stops follows (heard-log what bytes _ asking owed is) (omega arith) refl
+
+-- what its sending came to
+pub sent-turn : (tells : Bool) (origin : Origin) (log next : Log) (moment : ℕ) (what : WireEvent) (bytes : List ℕ) (told : Option Log) (stages : ℕ → Stage) (result : Result (Unit {0}) Stop)
+    → SendsTo tells origin next told stages result → next.calls ≡ (with_call true moment what bytes log).calls → next.bound ≡ log.bound → TurnsTo tells origin log told stages result
+sent-turn tells origin log next moment what bytes told stages (Ok done) sends calls bound =
+    (sends.next, sends.follows, (sends.holds, ap length (sends.calls ∙ calls) ∙ one-more log true moment what bytes, sends.bound ∙ bound))
+sent-turn tells origin log next moment what bytes told stages (Err e) sends calls bound =
+    let len : length sends.next.calls ≡ length log.calls + 1 = ap length (sends.calls ∙ calls) ∙ one-more log true moment what bytes in
+    (sends.next, sends.follows, (sends.holds, omega arith, sends.bound ∙ bound))

@@ -73,7 +73,8 @@ impl Origin {
         requires { FitsIn event (length slice.now) }
         ensures handles { (tells : Bool) (log : Log)
             → Follows tells (W.log wire.old) (W.stages wire.old) log
-            → Heard event (got_bytes event slice.now) log (asking_in self.old) self.old.answering.items
+            → Heard event (got_bytes event slice.now) log (asking_in self.old)
+                self.old.answering.items
             → HandlesTo tells self.new log (W.log wire.new) (W.stages wire.new) result }
         ensures calm { W.faults wire.new ≡ W.faults wire.old }
     {
@@ -99,7 +100,8 @@ impl Origin {
     fn read<W: Wire>(&mut self, k: u64, bytes: &[u8], wire: &mut W) -> Result<(), NoMemory>
         ensures handles { (tells : Bool) (log : Log) (before : Came)
             → Follows tells (W.log wire.old) (W.stages wire.old) log
-            → Hears k before (with_bytes bytes.now before) log (asking_in self.old) self.old.answering.items
+            → Hears k before (with_bytes bytes.now before) log (asking_in self.old)
+                self.old.answering.items
             → HandlesTo tells self.new log (W.log wire.new) (W.stages wire.new) result }
         ensures calm { W.faults wire.new ≡ W.faults wire.old }
     {

@@ -74,7 +74,7 @@ impl Origin {
         ensures handles { (tells : Bool) (log : Log)
             → Follows tells (W.log wire.old) (W.stages wire.old) log
             → Heard event (got_bytes event slice.now) log (asking_in self.old)
-                self.old.answering.items
+            self.old.answering.items
             → HandlesTo tells self.new log (W.log wire.new) (W.stages wire.new) result }
         ensures calm { W.faults wire.new ≡ W.faults wire.old }
     {
@@ -101,7 +101,7 @@ impl Origin {
         ensures handles { (tells : Bool) (log : Log) (before : Came)
             → Follows tells (W.log wire.old) (W.stages wire.old) log
             → Hears k before (with_bytes bytes.now before) log (asking_in self.old)
-                self.old.answering.items
+            self.old.answering.items
             → HandlesTo tells self.new log (W.log wire.new) (W.stages wire.new) result }
         ensures calm { W.faults wire.new ≡ W.faults wire.old }
     {

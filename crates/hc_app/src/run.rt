@@ -1,8 +1,13 @@
 //! The program as a function of its words and streams.
-ghost use Rattle.std.specs.Prelude.{◌≡◌, ◌≢◌, ◌⊎◌, ◌≤◌, map, Some};
+ghost use Rattle.std.specs.Prelude.{◌≡◌, ◌≢◌, ◌⊎◌, ◌≤◌, ℕ, List, Option, map, Some};
 ghost use Rattle.std.specs.String.{string_bytes};
 ghost use Rattle.hc_io.specs.Faults.{HasRisen};
-ghost use Rattle.hc_app.specs.Program.{streams, Ends, Keeps, Replays, Generates, Completes};
+ghost use Rattle.hc_app.specs.Concluding.{Concludes};
+ghost use Rattle.hc_app.specs.Generating.{generating};
+ghost use Rattle.hc_app.specs.Owing.{streams, Does};
+ghost use Rattle.hc_app.specs.Program.{Ends, Keeps, Completes};
+ghost use Rattle.hc_app.specs.Replaying.{replaying};
+ghost use Rattle.hc_sched.specs.declared.schedule.Ended.TheVariants as ended;
 
 use crate::command::{Command, command_of};
 use crate::say::{say_refusal, say_usage};
@@ -104,7 +109,7 @@ fn obey<S: Source, K: Sink, D: Sink>(
 {
     match command_of(words) {
         Some(Command::Replay) => replay_input(alloc, input, out, diag),
-        Some(Command::Generate { seed, count }) => write_summary(alloc, seed, count, out),
+        Some(Command::Generate { seed, count }) => write_summary(alloc, seed, count, out, diag),
         None => match say_usage(diag) {
             Ok(()) => Status::Usage,
             Err(e) => stopped(e),
@@ -119,7 +124,7 @@ fn replay_input<S: Source, K: Sink, D: Sink>(
     out: &mut K,
     diag: &mut D,
 ) -> Status
-    ensures replays { Replays
+    ensures does { Does replaying
         (streams (S.left input.old) (K.taken out.old) (D.taken diag.old)
         (K.faults out.old) (D.faults diag.old))
         (streams (S.left input.new) (K.taken out.new) (D.taken diag.new)
@@ -139,7 +144,41 @@ fn replay_input<S: Source, K: Sink, D: Sink>(
     let Ok(mut cache) = Cache::new(store, PROGRAM_LIMITS, alloc) else {
         return Status::NoMemory;
     };
-    match replay(alloc, &mut cache, input, out) {
+    let end = replay(alloc, &mut cache, input, out);
+    conclude(alloc, end, diag)
+}
+
+/// Writes the summary of so many rounds of the generator. What is left of the input is as before.
+fn write_summary<K: Sink, D: Sink>(
+    alloc: Global,
+    seed: u64,
+    count: u64,
+    out: &mut K,
+    diag: &mut D,
+) -> Status
+    requires few { count ≤ 1_000_000 }
+    ensures does { (left : Option (List ℕ)) → Does (generating seed count)
+        (streams left (K.taken out.old) (D.taken diag.old) (K.faults out.old) (D.faults diag.old))
+        (streams left (K.taken out.new) (D.taken diag.new) (K.faults out.new) (D.faults diag.new))
+        result }
+    ensures unread { result ≢ Status.SourceFailed }
+    ensures sink_failed { result ≡ Status.SinkFailed
+        → HasRisen (K.faults out.old) (K.faults out.new)
+        ⊎ HasRisen (D.faults diag.old) (D.faults diag.new) }
+    ensures sinks_calm { result ≢ Status.SinkFailed → (K.faults out.new ≡ K.faults out.old)
+        × (D.faults diag.new ≡ D.faults diag.old) }
+{
+    let end = generate(alloc, seed, count, out);
+    conclude(alloc, end, diag)
+}
+
+/// Tells how a command ended, and answers the status.
+fn conclude<D: Sink>(alloc: Global, end: Ended, diag: &mut D) -> Status
+    requires wireless { end ≢ ended.WireFailed }
+    ensures { Concludes (D.taken diag.old) (D.taken diag.new) (D.faults diag.old)
+        (D.faults diag.new) end result }
+{
+    match end {
         Ended::Done => Status::Done,
         Ended::Refused(refused) => match say_refusal(alloc, refused, diag) {
             Ok(()) => Status::Refused,
@@ -149,21 +188,5 @@ fn replay_input<S: Source, K: Sink, D: Sink>(
         Ended::SinkFailed => Status::SinkFailed,
         Ended::NoMemory => Status::NoMemory,
         Ended::WireFailed => unreachable!(),
-    }
-}
-
-/// Writes the summary of so many rounds of the generator.
-fn write_summary<K: Sink>(alloc: Global, seed: u64, count: u64, out: &mut K) -> Status
-    requires few { count ≤ 1_000_000 }
-    ensures generates { Generates seed count (K.taken out.old) (K.taken out.new) result }
-    ensures sink_failed { result ≡ Status.SinkFailed
-        → HasRisen (K.faults out.old) (K.faults out.new) }
-    ensures sink_calm { result ≢ Status.SinkFailed → K.faults out.new ≡ K.faults out.old }
-{
-    match generate(alloc, seed, count, out) {
-        Ended::Done => Status::Done,
-        Ended::SinkFailed => Status::SinkFailed,
-        Ended::NoMemory => Status::NoMemory,
-        Ended::Refused(_) | Ended::SourceFailed | Ended::WireFailed => unreachable!(),
     }
 }

@@ -1,5 +1,6 @@
 pub mod Sizes
 pub mod Timings
-pub mod Reports
+pub mod Going
 pub mod Runs
 pub mod Spelled
+pub mod Reported

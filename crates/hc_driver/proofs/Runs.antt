@@ -1,19 +1,16 @@
 -- A schedule goes on.
 --
--- The loop keeps that what was read isn't refused, and that its events were stepped and reported (`IsOn`).
+-- The loop keeps that what was read isn't refused, and that its events went wholly (`IsOn`).
 -- A text is read piece by piece, so the next piece brings the events that come next (`brought-append`).
--- What came of the piece is a case of `Goes`. The loop goes on with the longer text (`on_more`), or ends as
--- the piece did (`ends_stopped`). At the end of the source the feed answers the refusal of the text
--- (`ends_done`, `ends_cut_short`).
-use Rattle.std.proofs.Common.{◌≡◌, ℕ, ◌+◌, ◌≤◌, List, [], ◌∷◌, ◌++◌, length, Option, Some, None, Result, Ok, Err, refl, sym, ap, subst, ◌∙◌, inl, inr, arith, append_assoc, length-append}
+-- What came of the piece is a case of `Passes`. The loop goes on with the longer text (`on_more`), or ends as
+-- the piece did (`ends_stopped`): all that was read before the piece went wholly (`at_once`). At the end of the
+-- source the feed answers the refusal of the text (`ends_done`, `ends_cut_short`).
+use Rattle.std.proofs.Common.{◌≡◌, ◌⊎◌, ℕ, ◌+◌, ◌≤◌, List, [], ◌∷◌, ◌++◌, length, Option, Some, None, Result, Ok, Err, Bool, false, refl, sym, ap, subst, ◌∙◌, inl, inr, arith, append_assoc, length-append}
 use Rattle.std.proofs.lemmas.List.{append-nil}
 use Rattle.std.proofs.lemmas.Bool.{cases_Bool}
 use Rattle.hc_event.specs.declared.event.Event.{Event}
-use Rattle.hc_event.specs.declared.act.Act.{Act}
 use Rattle.hc_io.specs.Source.{Gives, GivesAll, IsAtEnd}
-use Rattle.hc_io.specs.declared.sink.SinkError.{SinkError}
-use Rattle.hc_io.specs.declared.sink.SinkError.TheVariants as sink
-use Rattle.std.specs.Result.{IsErrAnd, IsErrOf}
+use Rattle.std.specs.Result.{IsErrAnd}
 use Rattle.hc_io.proofs.Givings.{gives_none, gives_more}
 use Rattle.hc_sched.specs.declared.place.Place.{Place}
 use Rattle.hc_sched.specs.declared.schedule.Refused.{Refused}
@@ -27,19 +24,21 @@ use Rattle.hc_sched.specs.Feeding.{beginning, lines_in, is_between, Feeds, endin
 use Rattle.hc_sched.specs.Laws.{AreTimed, refusal_at, refusal_of}
 use Rattle.hc_sched.specs.Schedule.{IsSmall}
 use Rattle.hc_sched.proofs.FeedLemmas.{after-append, after-stopped, events_in-append}
-use Rattle.hc_sched.proofs.OneReading.{brings_timed}
+use Rattle.hc_sched.proofs.OneReading.{brings_timed, is_read, is_spelled}
 use Rattle.hc_driver.specs.declared.stop.Stop.{Stop}
 use Rattle.hc_driver.specs.declared.stop.Stop.TheVariants as stop
-use Rattle.hc_driver.specs.Counting.{size_of}
-use Rattle.hc_driver.specs.Stepping.{Steps, StepsUpToLast, StepsSome, StepsUntilWant, between, within, last_moment}
+use Rattle.hc_driver.specs.Counting.{size_of, last_moment}
+use Rattle.hc_driver.specs.Courses.{Goes}
 use Rattle.hc_driver.specs.Endings as endings
-use Rattle.hc_driver.specs.Endings.{IsReading, Goes, events_from, IsUnrefused, IsRefused, IsRefusedAtOnce, IsSteppedAtOnce, Ends}
-use Rattle.hc_driver.specs.Stops.{of_feed, of_sink, ended_by, ended_as}
+use Rattle.hc_driver.specs.Endings.{How, Wholly, UpToEnd, UpToLast, UpToWant, SoFar, ToEnd, IsReading, events_from, IsUnrefused, IsRefused, IsRefusedAtOnce, IsSteppedAtOnce, Ends}
+use Rattle.hc_driver.specs.Pieces as pieces
+use Rattle.hc_driver.specs.Pieces.{Wants, Comes, Passes}
+use Rattle.hc_driver.specs.Stops.{of_feed, ended_by, ended_as}
 use Rattle.hc_driver.proofs.Sizes.{size_of-append, brought_small}
 use Rattle.hc_driver.proofs.Timings.{timed_from, timed_back, last-append, last_later}
-use Rattle.hc_driver.proofs.Reports.{steps_none, steps_more, last_more, some_first, all_first, want_first}
+use Rattle.hc_driver.proofs.Going.{goes_none, goes_more, wholly_last}
 
--- how far a stepper, a report and the streams are
+-- how far a course and the streams are
 pub record Extent : Type 0 where
   pub number : ℕ
   pub steps : ℕ
@@ -47,19 +46,20 @@ pub record Extent : Type 0 where
   pub moment : ℕ
   pub given : ℕ
 
--- what was read so far was stepped and reported
-pub record IsOn {A : Type 0} (answers : A → ℕ → Event → List Act → A → Type 0) (s u : A) (moment given : ℕ) (now : Extent) (feed : Progress) (left left' out out' : Option (List ℕ)) : Type 0 where
+-- what was read so far went wholly
+pub record IsOn {A : Type 0} (tells : A → ℕ → ℕ → Event → List ℕ → A → Type 0) (over : A → Bool) (spent : A → A → Type 0) (s u : A) (moment given : ℕ) (now : Extent) (feed : Progress) (left left' out out' : Option (List ℕ)) : Type 0 where
   pub text : List ℕ
   pub gives : Gives left left' text
   pub leads : after (beginning moment) text ≡ feed
   pub reading : IsReading feed
-  pub steps : Steps answers s u 0 (events_from moment text) out out'
+  pub goes : Goes tells over spent 0 s u out out' Wholly (events_from moment text)
   pub count : now.given ≡ given + length text
   pub lines : lines_in feed ≤ length text
   pub numbered : now.number ≡ now.steps
   pub number_is : now.number ≡ 0 + length (events_from moment text)
   pub size : now.steps + now.received ≡ size_of (events_from moment text)
   pub moment_is : now.moment ≤ last_moment moment (events_from moment text)
+  pub is_open : over u ≡ false
 
 -- what the end of a text answers is its refusal
 abbrev IsAs : Progress → Result (Unit {0}) FeedError → Type 0
@@ -67,21 +67,32 @@ IsAs feed (Ok done) = refusal_at feed ≡ None
 IsAs feed (Err (error.Refused r)) = refusal_at feed ≡ Some r
 IsAs feed (Err error.NoMemory) = ⊥
 
-module _ {A : Type 0} (answers : A → ℕ → Event → List Act → A → Type 0) (spent : A → A → Type 0) where
-  pub on_start : (s : A) (moment : ℕ) (now : Extent) (left out : Option (List ℕ)) → now.number ≡ 0 → now.steps + now.received ≡ 0 → now.moment ≤ moment
-      → IsOn answers s s moment now.given now (beginning moment) left left out out
-  on_start s moment now left out number none le = record {
+-- what is fed are the first events of the piece
+pub fed_front : (s : Progress) (piece : List ℕ) (result : Result (Unit {0}) FeedError) (t : Progress) (new : List Timed)
+    → Feeds s piece result t [] new → (rest : List Timed) × (new ++ rest ≡ events_in s piece)
+fed_front s piece (Ok fed) t new h = ([], append-nil new ∙ h.adds)
+fed_front s piece (Err (error.Refused r)) t new h = ([], append-nil new ∙ h.adds)
+fed_front s piece (Err error.NoMemory) t new h = (h.rest, ap (λ (l : List Timed). l ++ h.rest) h.adds ∙ h.whole)
+
+pub front_small : (xs ys all : List Timed) → xs ++ ys ≡ all → size_of xs ≤ size_of all
+front_small xs ys all e = let parts = size_of-append xs ys in let same : size_of (xs ++ ys) ≡ size_of all = ap size_of e in omega arith
+
+module _ {A : Type 0} (tells : A → ℕ → ℕ → Event → List ℕ → A → Type 0) (over : A → Bool) (spent : A → A → Type 0) where
+  pub on_start : (s : A) (moment : ℕ) (now : Extent) (left out : Option (List ℕ)) → now.number ≡ 0 → now.steps + now.received ≡ 0 → now.moment ≤ moment → over s ≡ false
+      → IsOn tells over spent s s moment now.given now (beginning moment) left left out out
+  on_start s moment now left out number none le is_open = record {
     text = [];
     gives = gives_none left;
     leads = refl;
     reading = (_, _, refl);
-    steps = steps_none answers s 0 out;
+    goes = goes_none tells over spent 0 s out is_open;
     count = omega arith;
     lines = omega arith;
     numbered = omega (arith, number, none);
     number_is = omega (arith, number);
     size = none;
     moment_is = le;
+    is_open = is_open;
   }
 
   pub brought-append : (moment : ℕ) (text piece : List ℕ) → events_from moment (text ++ piece) ≡ events_from moment text ++ events_in (after (beginning moment) text) piece
@@ -89,7 +100,7 @@ module _ {A : Type 0} (answers : A → ℕ → Event → List Act → A → Type
 
   -- the events of the next piece may be stepped, and are no more than fit
   pub next_timed : (s u : A) (moment given : ℕ) (now : Extent) (feed : Progress) (left left' out out' : Option (List ℕ)) (piece : List ℕ) → IsSmall moment
-      → IsOn answers s u moment given now feed left left' out out' → AreTimed now.moment (events_in feed piece)
+      → IsOn tells over spent s u moment given now feed left left' out out' → AreTimed now.moment (events_in feed piece)
   next_timed s u moment given now feed left left' out out' piece small on =
       let all = brings_timed moment (on.text ++ piece) small in
       let parts : events_from moment (on.text ++ piece) ≡ events_from moment on.text ++ events_in feed piece = brought-append moment on.text piece ∙ ap (λ (p : Progress). events_from moment on.text ++ events_in p piece) on.leads in
@@ -97,7 +108,7 @@ module _ {A : Type 0} (answers : A → ℕ → Event → List Act → A → Type
       timed_from (last_moment moment (events_from moment on.text)) now.moment (events_in feed piece) on.moment_is back
 
   pub next_small : (s u : A) (moment given : ℕ) (now : Extent) (feed : Progress) (left left' out out' : Option (List ℕ)) (piece : List ℕ)
-      → (on : IsOn answers s u moment given now feed left left' out out') → now.steps + now.received + size_of (events_in feed piece) ≤ length on.text + length piece
+      → (on : IsOn tells over spent s u moment given now feed left left' out out') → now.steps + now.received + size_of (events_in feed piece) ≤ length on.text + length piece
   next_small s u moment given now feed left left' out out' piece on =
       let parts : events_from moment (on.text ++ piece) ≡ events_from moment on.text ++ events_in feed piece = brought-append moment on.text piece ∙ ap (λ (p : Progress). events_from moment on.text ++ events_in p piece) on.leads in
       let small = brought_small moment (on.text ++ piece) in
@@ -108,48 +119,72 @@ module _ {A : Type 0} (answers : A → ℕ → Event → List Act → A → Type
 
   -- ONE PIECE
 
-  -- what is fed are the first events of the piece
-  pub fed_front : (s : Progress) (piece : List ℕ) (result : Result (Unit {0}) FeedError) (t : Progress) (new : List Timed)
-      → Feeds s piece result t [] new → (rest : List Timed) × (new ++ rest ≡ events_in s piece)
-  fed_front s piece (Ok fed) t new h = ([], append-nil new ∙ h.adds)
-  fed_front s piece (Err (error.Refused r)) t new h = ([], append-nil new ∙ h.adds)
-  fed_front s piece (Err error.NoMemory) t new h = (h.rest, ap (λ (l : List Timed). l ++ h.rest) h.adds ∙ h.whole)
+  pub comes_err : (n : ℕ) (s u : A) (a b : Option (List ℕ)) (xs : List Timed) (st : Stop) (result : Result (Unit {0}) Stop) → result ≡ Err st
+      → Comes (Goes tells over spent n s u a b) xs result → Comes (Goes tells over spent n s u a b) xs (Err st)
+  comes_err n s u a b xs st result was comes = subst (λ (l : Result (Unit {0}) Stop). Comes (Goes tells over spent n s u a b) xs l) was comes
 
-  pub front_small : (xs ys all : List Timed) → xs ++ ys ≡ all → size_of xs ≤ size_of all
-  front_small xs ys all e = let parts = size_of-append xs ys in let same : size_of (xs ++ ys) ≡ size_of all = ap size_of e in omega arith
+  -- the events that were fed stopped it
+  module _ (n : ℕ) (s u : A) (a b : Option (List ℕ)) (before : Progress) (piece : List ℕ) (now : Progress) (xs ys : List Timed) (whole : xs ++ ys ≡ events_in before piece) where
+    abbrev Went : How → List Timed → Type 0
+    Went = Goes tells over spent n s u a b
 
-  -- the sink gave up
-  pub goes_sink : (s u : A) (n : ℕ) (before : Progress) (piece : List ℕ) (now : Progress) (out out' : Option (List ℕ)) (xs ys : List Timed) (e : SinkError) (result : Result (Unit {0}) Stop)
-      → IsErrAnd result (λ (st : Stop). st ≡ of_sink e) → xs ++ ys ≡ events_in before piece
-      → (IsErrOf {T = Unit {0}} (Err e) sink.SinkFailed → StepsSome answers s u n xs out out') → (IsErrOf {T = Unit {0}} (Err e) sink.NoMemory → StepsUntilWant answers spent s u n xs out out')
-      → Goes answers spent s u n before piece now out out' result
-  goes_sink s u n before piece now out out' xs ys e (Ok x) is whole failed wanting = absurd is
-  goes_sink s u n before piece now out out' xs ys sink.SinkFailed (Err st) is whole failed wanting =
-      subst (λ (l : Stop). Goes answers spent s u n before piece now out out' (Err l)) (sym is) (subst (λ (l : List Timed). StepsSome answers s u n l out out') whole (some_first answers s u n xs ys out out' (failed refl)))
-  goes_sink s u n before piece now out out' xs ys sink.NoMemory (Err st) is whole failed wanting =
-      subst (λ (l : Stop). Goes answers spent s u n before piece now out out' (Err l)) (sym is) (subst (λ (l : List Timed). StepsUntilWant answers spent s u n l out out') whole (want_first answers spent s u n xs ys out out' (wanting refl)))
+    some_fed : (how : How) → pieces.Some Went how xs → pieces.Some Went how (events_in before piece)
+    some_fed how it = record {
+      first = it.first;
+      rest = it.rest ++ ys;
+      whole = sym (append_assoc it.first it.rest ys) ∙ (ap (λ (l : List Timed). l ++ ys) it.whole ∙ whole);
+      went = it.went;
+    }
 
-  -- the text is refused, or there was not enough memory
-  pub goes_feed : (s u : A) (n : ℕ) (before : Progress) (piece : List ℕ) (now : Progress) (out out' : Option (List ℕ)) (xs : List Timed) (e : FeedError) (fed : Result (Unit {0}) FeedError) (result : Result (Unit {0}) Stop)
-      → IsErrAnd result (λ (st : Stop). st ≡ of_feed e) → fed ≡ Err e → Feeds before piece fed now [] xs → Steps answers s u n xs out out' → Goes answers spent s u n before piece now out out' result
-  goes_feed s u n before piece now out out' xs e fed (Ok x) is was h steps = absurd is
-  goes_feed s u n before piece now out out' xs (error.Refused r) fed (Err st) is was h steps =
+    wants_fed : pieces.Some Went UpToLast xs ⊎ Wants Went xs → pieces.Some Went UpToLast (events_in before piece) ⊎ Wants Went (events_in before piece)
+    wants_fed (inl it) = inl (some_fed UpToLast it)
+    wants_fed (inr it) = inr (record {
+      first = it.first;
+      rest = it.rest ++ ys;
+      next = it.next;
+      whole = sym (append_assoc it.first (it.next ∷ it.rest) ys) ∙ (ap (λ (l : List Timed). l ++ ys) it.whole ∙ whole);
+      went = it.went;
+    })
+
+    by_stop : (st : Stop) → Comes Went xs (Err st) → Passes Went before piece now (Err st)
+    by_stop stop.Over it = some_fed UpToEnd it
+    by_stop (stop.Refused r) it = absurd it
+    by_stop stop.SourceFailed it = absurd it
+    by_stop stop.SinkFailed it = some_fed UpToLast it
+    by_stop stop.NoMemory it = wants_fed it
+
+    pub passes_stopped : (st : Stop) (result : Result (Unit {0}) Stop) → IsErrAnd result (λ (e : Stop). e ≡ st) → Comes Went xs (Err st) → Passes Went before piece now result
+    passes_stopped st (Ok x) is comes = absurd is
+    passes_stopped st (Err e) is comes = subst (λ (l : Stop). Passes Went before piece now (Err l)) (sym is) (by_stop st comes)
+
+  -- the text is refused, or there was not enough memory to feed it
+  pub passes_fed : (n : ℕ) (s u : A) (a b : Option (List ℕ)) (before : Progress) (piece : List ℕ) (now : Progress) (xs : List Timed) (e : FeedError) (fed : Result (Unit {0}) FeedError) (result : Result (Unit {0}) Stop)
+      → IsErrAnd result (λ (st : Stop). st ≡ of_feed e) → fed ≡ Err e → Feeds before piece fed now [] xs → Goes tells over spent n s u a b Wholly xs
+      → Passes (Goes tells over spent n s u a b) before piece now result
+  passes_fed n s u a b before piece now xs e fed (Ok x) is was h goes = absurd is
+  passes_fed n s u a b before piece now xs (error.Refused r) fed (Err st) is was h goes =
       let f = subst (λ (l : Result (Unit {0}) FeedError). Feeds before piece l now [] xs) was h in
-      subst (λ (l : Stop). Goes answers spent s u n before piece now out out' (Err l)) (sym is) (f.leads, subst (λ (l : List Timed). Steps answers s u n l out out') f.adds steps)
-  goes_feed s u n before piece now out out' xs error.NoMemory fed (Err st) is was h steps =
+      subst (λ (l : Stop). Passes (Goes tells over spent n s u a b) before piece now (Err l)) (sym is) (f.leads, subst (λ (l : List Timed). Goes tells over spent n s u a b Wholly l) f.adds goes)
+  passes_fed n s u a b before piece now xs error.NoMemory fed (Err st) is was h goes =
       let f = subst (λ (l : Result (Unit {0}) FeedError). Feeds before piece l now [] xs) was h in
-      let whole : xs ++ f.rest ≡ events_in before piece = ap (λ (l : List Timed). l ++ f.rest) f.adds ∙ f.whole in
-      subst (λ (l : Stop). Goes answers spent s u n before piece now out out' (Err l)) (sym is) (between (subst (λ (l : List Timed). StepsSome answers s u n l out out') whole (all_first answers s u n xs f.rest out out' steps)))
+      let some : pieces.Some (Goes tells over spent n s u a b) UpToLast (events_in before piece) =
+      record {
+        first = xs;
+        rest = f.rest;
+        whole = ap (λ (l : List Timed). l ++ f.rest) f.adds ∙ f.whole;
+        went = wholly_last tells over spent n s u a b xs goes;
+      } in
+      subst (λ (l : Stop). Passes (Goes tells over spent n s u a b) before piece now (Err l)) (sym is) (inl some)
 
   -- the next piece
   pub on_more : (s t u : A) (moment given : ℕ) (now next : Extent) (feed feed' : Progress) (piece : List ℕ) (left mid new a b c : Option (List ℕ))
-      → IsOn answers s t moment given now feed left mid a b → Gives mid new piece
-      → Goes answers spent t u now.number feed piece feed' b c (Ok tt) → IsReading feed'
+      → IsOn tells over spent s t moment given now feed left mid a b → Gives mid new piece
+      → Passes (Goes tells over spent now.number t u b c) feed piece feed' (Ok tt) → IsReading feed'
       → next.given ≡ now.given + length piece → lines_in feed' ≤ lines_in feed + length piece
       → next.number ≡ now.number + length (events_in feed piece) → next.steps ≡ now.steps + length (events_in feed piece)
-      → next.steps + next.received ≡ now.steps + now.received + size_of (events_in feed piece) → next.moment ≡ last_moment now.moment (events_in feed piece)
-      → IsOn answers s u moment given next feed' left new a c
-  on_more s t u moment given now next feed feed' piece left mid new a b c on gives goes reading count lines number steps size last =
+      → next.steps + next.received ≡ now.steps + now.received + size_of (events_in feed piece) → next.moment ≡ last_moment now.moment (events_in feed piece) → over u ≡ false
+      → IsOn tells over spent s u moment given next feed' left new a c
+  on_more s t u moment given now next feed feed' piece left mid new a b c on gives goes reading count lines number steps size last is_open =
       let parts : events_from moment (on.text ++ piece) ≡ events_from moment on.text ++ events_in feed piece = brought-append moment on.text piece ∙ ap (λ (p : Progress). events_from moment on.text ++ events_in p piece) on.leads in
       let len = length-append on.text piece in
       let events = length-append (events_from moment on.text) (events_in feed piece) in
@@ -163,13 +198,15 @@ module _ {A : Type 0} (answers : A → ℕ → Event → List Act → A → Type
         gives = gives_more left mid new on.text piece on.gives gives;
         leads = after-append (beginning moment) on.text piece ∙ (ap (λ (p : Progress). after p piece) on.leads ∙ goes.0);
         reading = reading;
-        steps = subst (λ (l : List Timed). Steps answers s u 0 l a c) (sym parts) (steps_more answers s t u 0 now.number (events_from moment on.text) (events_in feed piece) a b c on.steps on.number_is goes.1);
+        goes = subst (λ (l : List Timed). Goes tells over spent 0 s u a c Wholly l) (sym parts)
+            (goes_more tells over spent 0 now.number s t u a b c Wholly (events_from moment on.text) (events_in feed piece) on.goes on.number_is goes.1);
         count = omega arith;
         lines = omega arith;
         numbered = omega arith;
         number_is = omega arith;
         size = omega arith;
         moment_is = omega (arith, last, later, is_last);
+        is_open = is_open;
       }
 
   -- HOW IT ENDS
@@ -184,13 +221,13 @@ module _ {A : Type 0} (answers : A → ℕ → Event → List Act → A → Type
   rests left mid new text f g = subst (λ (l : List ℕ). Gives left new l) (append-nil text) (gives_more left mid new text [] f g)
 
   -- no line of what was read so far is refused
-  unrefused : (s u : A) (moment given : ℕ) (now : Extent) (feed : Progress) (left mid a b : Option (List ℕ)) → (on : IsOn answers s u moment given now feed left mid a b) → IsUnrefused moment on.text
+  unrefused : (s u : A) (moment given : ℕ) (now : Extent) (feed : Progress) (left mid a b : Option (List ℕ)) → (on : IsOn tells over spent s u moment given now feed left mid a b) → IsUnrefused moment on.text
   unrefused s u moment given now feed left mid a b on = subst IsReading (sym on.leads) on.reading
 
   pub ends_unreadable : (s u : A) (moment given : ℕ) (now : Extent) (feed : Progress) (left mid new a b : Option (List ℕ))
-      → IsOn answers s u moment given now feed left mid a b → new ≡ mid → Ends answers spent s u moment left new a b ended.SourceFailed
+      → IsOn tells over spent s u moment given now feed left mid a b → new ≡ mid → Ends (Goes tells over spent 0 s u a b) moment left new ended.SourceFailed
   ends_unreadable s u moment given now feed left mid new a b on same =
-      endings.unreadable on.text (rw same on.gives) (unrefused s u moment given now feed left mid a b on) on.steps
+      endings.unreadable on.text (rw same on.gives) (unrefused s u moment given now feed left mid a b on) on.goes
 
   refusal_here : (feed : Progress) → IsReading feed → (result : Result (Unit {0}) FeedError) → result ≡ ending feed → IsAs feed result
   refusal_here feed reading result is = subst (λ (l : Result (Unit {0}) FeedError). IsAs feed l) (sym is) (subst (λ (p : Progress). IsAs p (ending p)) (sym reading.2) (here reading.0 reading.1))
@@ -205,20 +242,23 @@ module _ {A : Type 0} (answers : A → ℕ → Event → List Act → A → Type
   refusal-is moment text feed leads = ap refusal_at leads
 
   pub ends_done : (s u : A) (moment given : ℕ) (now : Extent) (feed : Progress) (left mid new a b : Option (List ℕ)) (result : Result (Unit {0}) FeedError)
-      → IsOn answers s u moment given now feed left mid a b → Gives mid new [] → IsAtEnd new → result ≡ ending feed → result ≡ Ok tt → Ends answers spent s u moment left new a b ended.Done
+      → IsOn tells over spent s u moment given now feed left mid a b → Gives mid new [] → IsAtEnd new → result ≡ ending feed → result ≡ Ok tt → Ends (Goes tells over spent 0 s u a b) moment left new ended.Done
   ends_done s u moment given now feed left mid new a b result on gives end is ok =
       let none : refusal_at feed ≡ None = subst (λ (l : Result (Unit {0}) FeedError). IsAs feed l) ok (refusal_here feed on.reading result is) in
-      endings.done on.text (gives_all left new on.text (rests left mid new on.text on.gives gives) end) (refusal-is moment on.text feed on.leads ∙ none) on.steps
+      let spelled = is_spelled moment on.text (refusal-is moment on.text feed on.leads ∙ none) in
+      let same = (is_read moment on.text spelled.0 spelled.1).1 in
+      endings.done on.text spelled.0 (gives_all left new on.text (rests left mid new on.text on.gives gives) end) spelled.1
+      (subst (λ (l : List Timed). Goes tells over spent 0 s u a b Wholly l) same on.goes)
 
   pub ends_cut_short : (s u : A) (moment given : ℕ) (now : Extent) (feed : Progress) (left mid new a b : Option (List ℕ)) (result : Result (Unit {0}) FeedError) (e : FeedError) (stopped : Result (Unit {0}) Stop)
-      → IsOn answers s u moment given now feed left mid a b → Gives mid new [] → IsAtEnd new → result ≡ ending feed → result ≡ Err e → IsErrAnd stopped (λ (st : Stop). st ≡ of_feed e)
-      → Ends answers spent s u moment left new a b (ended_as stopped)
+      → IsOn tells over spent s u moment given now feed left mid a b → Gives mid new [] → IsAtEnd new → result ≡ ending feed → result ≡ Err e → IsErrAnd stopped (λ (st : Stop). st ≡ of_feed e)
+      → Ends (Goes tells over spent 0 s u a b) moment left new (ended_as stopped)
   ends_cut_short s u moment given now feed left mid new a b result e (Ok x) on gives end is err stops = absurd stops
   ends_cut_short s u moment given now feed left mid new a b result (error.Refused r) (Err st) on gives end is err stops =
       let some : refusal_at feed ≡ Some r = subst (λ (l : Result (Unit {0}) FeedError). IsAs feed l) err (refusal_here feed on.reading result is) in
-      subst (λ (l : Stop). Ends answers spent s u moment left new a b (ended_by l)) (sym stops)
-      (endings.cut_short on.text r (gives_all left new on.text (rests left mid new on.text on.gives gives) end)
-      (unrefused s u moment given now feed left mid a b on) (refusal-is moment on.text feed on.leads ∙ some) on.steps)
+      subst (λ (l : Stop). Ends (Goes tells over spent 0 s u a b) moment left new (ended_by l)) (sym stops)
+      (endings.refused ToEnd on.text r (gives_all left new on.text (rests left mid new on.text on.gives gives) end)
+      (endings.at_end (unrefused s u moment given now feed left mid a b on) (refusal-is moment on.text feed on.leads ∙ some)) on.goes)
   ends_cut_short s u moment given now feed left mid new a b result error.NoMemory (Err st) on gives end is err stops =
       absurd (subst (λ (l : Result (Unit {0}) FeedError). IsAs feed l) err (refusal_here feed on.reading result is))
 
@@ -226,66 +266,75 @@ module _ {A : Type 0} (answers : A → ℕ → Event → List Act → A → Type
   stays moment text r leads more = ap refusal_at (after-append (beginning moment) text more ∙ (ap (λ (p : Progress). after p more) leads ∙ after-stopped r more))
 
   -- a piece stops it
-  pub ends_stopped : (s t u : A) (moment given : ℕ) (now : Extent) (feed feed' : Progress) (piece : List ℕ) (left mid new a b c : Option (List ℕ)) (st : Stop)
-      → IsOn answers s t moment given now feed left mid a b → Gives mid new piece → length piece ≤ 16384 → Goes answers spent t u now.number feed piece feed' b c (Err st)
-      → Ends answers spent s u moment left new a c (ended_by st)
-  ends_stopped s t u moment given now feed feed' piece left mid new a b c st on gives short goes =
-      let parts : events_from moment (on.text ++ piece) ≡ events_from moment on.text ++ events_in feed piece = brought-append moment on.text piece ∙ ap (λ (p : Progress). events_from moment on.text ++ events_in p piece) on.leads in
-      let all = gives_more left mid new on.text piece on.gives gives in
-      by_stop st goes parts all
-    where
-      -- all that was read before the piece was stepped
-      at_once : (first rest : List Timed) → first ++ rest ≡ events_in feed piece → IsSteppedAtOnce moment (on.text ++ piece) (events_from moment on.text ++ first) rest
-      at_once first rest whole = record {
-        before = on.text;
-        piece = piece;
-        more = first;
-        whole = refl;
-        short = short;
-        all_before = refl;
-        are_all = append_assoc (events_from moment on.text) first rest ∙ (ap (λ (l : List Timed). events_from moment on.text ++ l) whole
-            ∙ sym (brought-append moment on.text piece ∙ ap (λ (p : Progress). events_from moment on.text ++ events_in p piece) on.leads));
-      }
+  module _ (s t u : A) (moment given : ℕ) (now : Extent) (feed feed' : Progress) (piece : List ℕ) (left mid new a b c : Option (List ℕ)) (on : IsOn tells over spent s t moment given now feed left mid a b) (gives : Gives mid new piece) (short : length piece ≤ 16384) where
+    abbrev Here : How → List Timed → Type 0
+    Here = Goes tells over spent now.number t u b c
 
-      part : (some : StepsSome answers t u now.number (events_in feed piece) b c) → StepsUpToLast answers s u 0 (events_from moment on.text ++ some.first) a c
-      part some = last_more answers s t u 0 now.number (events_from moment on.text) some.first a b c on.steps on.number_is some.steps
+    abbrev Whole : How → List Timed → Type 0
+    Whole = Goes tells over spent 0 s u a c
 
-      by_stop : (st : Stop) → Goes answers spent t u now.number feed piece feed' b c (Err st) → events_from moment (on.text ++ piece) ≡ events_from moment on.text ++ events_in feed piece
-          → Gives left new (on.text ++ piece) → Ends answers spent s u moment left new a c (ended_by st)
-      by_stop (stop.Refused r) goes parts all =
-          let leads = after-append (beginning moment) on.text piece ∙ (ap (λ (p : Progress). after p piece) on.leads ∙ goes.0) in
-          let steps = subst (λ (l : List Timed). Steps answers s u 0 l a c) (sym parts) (steps_more answers s t u 0 now.number (events_from moment on.text) (events_in feed piece) a b c on.steps on.number_is goes.1) in
-          let at_once : IsRefusedAtOnce moment (on.text ++ piece) r =
-          record {
-            before = on.text;
-            piece = piece;
-            whole = refl;
-            short = short;
-            unrefused = unrefused s t moment given now feed left mid a b on;
-            refuses = stays moment (on.text ++ piece) r leads;
-          } in
-          endings.refused (on.text ++ piece) r all at_once steps
-      by_stop stop.SourceFailed goes parts all = absurd goes
-      by_stop stop.SinkFailed goes parts all =
-          endings.unwritten (on.text ++ piece) (events_from moment on.text ++ goes.first) goes.rest all (at_once goes.first goes.rest goes.whole) (part goes)
-      by_stop stop.NoMemory (between goes) parts all =
-          endings.wanting (on.text ++ piece) (events_from moment on.text ++ goes.first) goes.rest all (at_once goes.first goes.rest goes.whole) (part goes)
-      by_stop stop.NoMemory (within first rest next last whole steps led) parts all =
-          endings.wanting_within (on.text ++ piece) (events_from moment on.text ++ first) rest next last all (at_once first (next ∷ rest) whole)
-          (steps_more answers s t last 0 now.number (events_from moment on.text) first a b c on.steps on.number_is steps) led
+    abbrev earlier : List Timed
+    earlier = events_from moment on.text
+
+    all : Gives left new (on.text ++ piece)
+    all = gives_more left mid new on.text piece on.gives gives
+
+    parts : events_from moment (on.text ++ piece) ≡ earlier ++ events_in feed piece
+    parts = brought-append moment on.text piece ∙ ap (λ (p : Progress). earlier ++ events_in p piece) on.leads
+
+    joined : (how : How) (events : List Timed) → Here how events → Whole how (earlier ++ events)
+    joined how events went = goes_more tells over spent 0 now.number s t u a b c how earlier events on.goes on.number_is went
+
+    -- all that was read before the piece is among what went
+    at_once : (first rest : List Timed) → first ++ rest ≡ events_in feed piece → IsSteppedAtOnce moment (on.text ++ piece) (earlier ++ first) rest
+    at_once first rest whole = record {
+      before = on.text;
+      piece = piece;
+      more = first;
+      whole = refl;
+      short = short;
+      all_before = refl;
+      are_all = append_assoc earlier first rest ∙ (ap (λ (l : List Timed). earlier ++ l) whole ∙ sym parts);
+    }
+
+    ends_refused : (r : Refused) → after feed piece ≡ Stopped r → Here Wholly (events_in feed piece) → Ends Whole moment left new (ended.Refused r)
+    ends_refused r stops went =
+        let leads = after-append (beginning moment) on.text piece ∙ (ap (λ (p : Progress). after p piece) on.leads ∙ stops) in
+        let refused : IsRefusedAtOnce moment (on.text ++ piece) r =
+        record {
+          before = on.text;
+          piece = piece;
+          whole = refl;
+          short = short;
+          unrefused = unrefused s t moment given now feed left mid a b on;
+          refuses = stays moment (on.text ++ piece) r leads;
+        } in
+        endings.refused SoFar (on.text ++ piece) r all (endings.within refused) (subst (λ (l : List Timed). Whole Wholly l) (sym parts) (joined Wholly (events_in feed piece) went))
+
+    ends_wanting : pieces.Some Here UpToLast (events_in feed piece) ⊎ Wants Here (events_in feed piece) → Ends Whole moment left new ended.NoMemory
+    ends_wanting (inl some) = endings.wanting (on.text ++ piece) (earlier ++ some.first) some.rest all (at_once some.first some.rest some.whole) (joined UpToLast some.first some.went)
+    ends_wanting (inr wants) =
+        endings.wanting_answer (on.text ++ piece) (earlier ++ wants.first) wants.rest wants.next all (at_once wants.first (wants.next ∷ wants.rest) wants.whole) (joined UpToWant wants.first wants.went)
+
+    pub ends_stopped : (st : Stop) → Passes Here feed piece feed' (Err st) → Ends Whole moment left new (ended_by st)
+    ends_stopped stop.Over some = endings.over (on.text ++ piece) (earlier ++ some.first) some.rest all (at_once some.first some.rest some.whole) (joined UpToEnd some.first some.went)
+    ends_stopped (stop.Refused r) passes = ends_refused r passes.0 passes.1
+    ends_stopped stop.SourceFailed never = absurd never
+    ends_stopped stop.SinkFailed some = endings.unwritten (on.text ++ piece) (earlier ++ some.first) some.rest all (at_once some.first some.rest some.whole) (joined UpToLast some.first some.went)
+    ends_stopped stop.NoMemory it = ends_wanting it
 
   -- as what was read stopped it, so it ends
   pub ends_source : (s u : A) (moment given : ℕ) (now : Extent) (feed : Progress) (left mid new a b : Option (List ℕ)) (stopped : Result (Unit {0}) Stop)
-      → IsOn answers s u moment given now feed left mid a b → new ≡ mid → IsErrAnd stopped (λ (st : Stop). st ≡ stop.SourceFailed) → Ends answers spent s u moment left new a b (ended_as stopped)
+      → IsOn tells over spent s u moment given now feed left mid a b → new ≡ mid → IsErrAnd stopped (λ (st : Stop). st ≡ stop.SourceFailed) → Ends (Goes tells over spent 0 s u a b) moment left new (ended_as stopped)
   ends_source s u moment given now feed left mid new a b (Ok x) on same stops = absurd stops
   ends_source s u moment given now feed left mid new a b (Err st) on same stops =
-      subst (λ (l : Stop). Ends answers spent s u moment left new a b (ended_by l)) (sym stops) (ends_unreadable s u moment given now feed left mid new a b on same)
+      subst (λ (l : Stop). Ends (Goes tells over spent 0 s u a b) moment left new (ended_by l)) (sym stops) (ends_unreadable s u moment given now feed left mid new a b on same)
 
   pub ends_as : (s t u : A) (moment given : ℕ) (now : Extent) (feed feed' : Progress) (piece : List ℕ) (left mid new a b c : Option (List ℕ)) (st : Stop) (result stopped : Result (Unit {0}) Stop)
-      → IsOn answers s t moment given now feed left mid a b → Gives mid new piece → length piece ≤ 16384
-      → Goes answers spent t u now.number feed piece feed' b c result → result ≡ Err st → IsErrAnd stopped (λ (e : Stop). e ≡ st)
-      → Ends answers spent s u moment left new a c (ended_as stopped)
+      → IsOn tells over spent s t moment given now feed left mid a b → Gives mid new piece → length piece ≤ 16384
+      → Passes (Goes tells over spent now.number t u b c) feed piece feed' result → result ≡ Err st → IsErrAnd stopped (λ (e : Stop). e ≡ st)
+      → Ends (Goes tells over spent 0 s u a c) moment left new (ended_as stopped)
   ends_as s t u moment given now feed feed' piece left mid new a b c st result (Ok x) on gives short goes was stops = absurd stops
   ends_as s t u moment given now feed feed' piece left mid new a b c st result (Err e) on gives short goes was stops =
-      subst (λ (l : Stop). Ends answers spent s u moment left new a c (ended_by l)) (sym stops)
-      (ends_stopped s t u moment given now feed feed' piece left mid new a b c st on gives short (subst (λ (l : Result (Unit {0}) Stop). Goes answers spent t u now.number feed piece feed' b c l) was goes))
+      subst (λ (l : Stop). Ends (Goes tells over spent 0 s u a c) moment left new (ended_by l)) (sym stops)
+      (ends_stopped s t u moment given now feed feed' piece left mid new a b c on gives short st (subst (λ (l : Result (Unit {0}) Stop). Passes (Goes tells over spent now.number t u b c) feed piece feed' l) was goes))

@@ -2,7 +2,7 @@
 use Rattle.std.proofs.Common.{◌≡◌, ℕ, ◌≤◌, List, [], ◌∷◌, ◌++◌, refl, arith}
 use Rattle.hc_sched.specs.declared.schedule.Timed.{Timed}
 use Rattle.hc_sched.specs.Laws.{AreTimed}
-use Rattle.hc_driver.specs.Stepping.{last_moment}
+use Rattle.hc_driver.specs.Counting.{last_moment}
 
 pub timed_from : (a b : ℕ) (xs : List Timed) → b ≤ a → AreTimed a xs → AreTimed b xs
 timed_from a b [] le h = tt

@@ -1,4 +1,6 @@
 pub mod Stops
-pub mod Stepping
 pub mod Counting
 pub mod Endings
+pub mod Courses
+pub mod Stepping
+pub mod Pieces

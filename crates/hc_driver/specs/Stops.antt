@@ -1,4 +1,4 @@
--- Why a schedule is not stepped on.
+-- Why a schedule is not gone through any further.
 use Rattle.std.specs.Prelude.{◌≡◌, ℕ, Result, Ok, Err}
 use Rattle.hc_io.specs.Faults.{HasRisen}
 use Rattle.hc_io.specs.declared.sink.SinkError.{SinkError}
@@ -20,6 +20,7 @@ of_sink sink.NoMemory = stop.NoMemory
 
 -- how a command ends by it
 abbrev pub ended_by : Stop → Ended
+ended_by stop.Over = ended.Done
 ended_by (stop.Refused refused) = ended.Refused refused
 ended_by stop.SourceFailed = ended.SourceFailed
 ended_by stop.SinkFailed = ended.SinkFailed

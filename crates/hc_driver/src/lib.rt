@@ -1,9 +1,12 @@
-//! A schedule is read as it comes, each of its events is stepped, and the report of each is written
-//! before the next one is stepped.
+//! A schedule is read as it comes, each of its events is answered, and each answer is written before
+//! the next event is answered.
 #![tactic(auto)]
 
-mod report;
+mod answering;
+mod course;
+mod reporting;
 mod stop;
 mod through;
 
-pub use through::step_through;
+pub use course::Course;
+pub use through::{go_through, step_through};

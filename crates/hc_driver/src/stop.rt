@@ -1,4 +1,4 @@
-//! Why a schedule is not stepped on.
+//! Why a schedule is not gone through any further.
 ghost use Rattle.std.specs.Prelude.{◌≡◌};
 ghost use Rattle.hc_driver.specs.Stops.{ended_by};
 
@@ -6,9 +6,11 @@ use hc_io::{SinkError, SourceFailed};
 use hc_sched::{Ended, FeedError, Refused};
 use hc_text::NoMemory;
 
-/// Why a schedule is not stepped on.
+/// Why a schedule is not gone through any further.
 #[derive(Clone, Copy, Debug, PartialEq, Eq)]
 pub(crate) enum Stop {
+    /// Nothing more is answered.
+    Over,
     /// A line is refused.
     Refused(Refused),
     /// The input failed.
@@ -25,6 +27,7 @@ impl Stop {
         ensures { result ≡ ended_by self }
     {
         match self {
+            Stop::Over => Ended::Done,
             Stop::Refused(refused) => Ended::Refused(refused),
             Stop::SourceFailed => Ended::SourceFailed,
             Stop::SinkFailed => Ended::SinkFailed,
@@ -66,5 +69,15 @@ impl From<SinkError> for Stop {
             SinkError::SinkFailed => Stop::SinkFailed,
             SinkError::NoMemory => Stop::NoMemory,
         }
+    }
+}
+
+impl From<NoMemory> for Stop {
+    ghost use Rattle.hc_driver.specs.declared.stop.Stop.TheVariants as stop;
+
+    ghost from_gives = { λ _ e. e ≡ stop.NoMemory };
+
+    fn from(_: NoMemory) -> Self {
+        Stop::NoMemory
     }
 }

@@ -1,11 +1,14 @@
 //! A whole schedule.
-ghost use Rattle.std.specs.Prelude.{◌≡◌, ◌≢◌, ◌+◌, ◌<◌, ◌≤◌, ◌^◌, IsErrOf};
+ghost use Rattle.std.specs.Prelude.{◌≡◌, ◌≢◌, ◌+◌, ◌<◌, ◌≤◌, ◌^◌, false, IsErrOf};
 ghost use Rattle.hc_io.specs.Faults.{HasRisen};
+ghost use Rattle.hc_driver.specs.Courses.{Goes};
 ghost use Rattle.hc_driver.specs.Endings.{Ends};
+ghost use Rattle.hc_driver.specs.Stepping.{Steps};
 ghost use Rattle.hc_driver.specs.Stops.{ended_as};
 ghost use Rattle.hc_sched.specs.declared.schedule.Ended.TheVariants as ended;
 
-use crate::report::Report;
+use crate::answering::Answering;
+use crate::course::Course;
 use crate::stop::Stop;
 use hc_event::Stepper;
 use hc_io::{Sink, Source};
@@ -18,13 +21,8 @@ const PIECE: usize = 16_384;
 /// Reads a schedule from this moment on, in seconds since 1970, steps its events as soon as their
 /// items are whole, and writes the report of each before the next one is stepped.
 ///
-/// At Done the whole text is a schedule. At Refused the text is refused by the grammar at that
-/// line, which ends in the last 16,384 bytes that were read, and the report is that of the events
-/// before it. At SourceFailed no line of what was read is refused, and the report is that of the
-/// events whose items are whole in it. At SinkFailed all events before the last 16,384 bytes that
-/// were read are stepped, and maybe some of these. The report of all that were stepped but the last
-/// is written, and some first part of the last one's. At NoMemory it is so too, or a step was
-/// refused memory and the report of all events before it is written. WireFailed never comes.
+/// It ends as `go_through` does, where an event is answered by its entry in the report. So at Done
+/// the whole text is a schedule.
 pub fn step_through<T: Stepper, S: Source, K: Sink>(
     alloc: Global,
     moment: u64,
@@ -35,10 +33,45 @@ pub fn step_through<T: Stepper, S: Source, K: Sink>(
     requires small { moment < 2 ^ 62 }
     requires later { T.moment on.old ≤ moment }
     requires new { T.steps on.old + T.received on.old ≡ 0 }
-    ensures ends { Ends T.answers T.spent on.old on.new moment
-        (S.left source.old) (S.left source.new) (K.taken sink.old) (K.taken sink.new) result }
+    ensures ends { Ends (Steps T.answers T.spent on.old on.new (K.taken sink.old) (K.taken sink.new))
+        moment (S.left source.old) (S.left source.new) result }
 
     // A fault comes only where one was counted, and none is counted where none comes.
+    ensures source { result ≡ ended.SourceFailed
+        → HasRisen (S.faults source.old) (S.faults source.new) }
+    ensures source_calm { result ≢ ended.SourceFailed → S.faults source.new ≡ S.faults source.old }
+    ensures sink { result ≡ ended.SinkFailed
+        → HasRisen (K.faults sink.old) (K.faults sink.new) }
+    ensures sink_calm { result ≢ ended.SinkFailed → K.faults sink.new ≡ K.faults sink.old }
+{
+    go_through(alloc, moment, on, source, sink)
+}
+
+/// Reads a schedule from this moment on, in seconds since 1970, has each event answered as soon as
+/// its item is whole, and writes each answer before the next event is answered. It reads at most
+/// 16,384 bytes at once, and reads on only when all that it read is answered.
+///
+/// At Done the whole text is a schedule, or the course is over. At Refused the text is refused by
+/// the grammar at that line, which ends in the last 16,384 bytes that were read, and all events
+/// before it are answered. At SourceFailed no line of what was read is refused, and all events are
+/// answered whose items are whole in it. At SinkFailed all events before the last 16,384 bytes that
+/// were read are answered, and maybe some of these. All answers but the last are written, and some
+/// first part of the last one. At NoMemory it is so too, or an answer was refused memory and all
+/// answers before it are written. WireFailed never comes.
+pub fn go_through<C: Course, S: Source, K: Sink>(
+    alloc: Global,
+    moment: u64,
+    on: &mut C,
+    source: &mut S,
+    sink: &mut K,
+) -> Ended
+    requires small { moment < 2 ^ 62 }
+    requires later { C.moment on.old ≤ moment }
+    requires new { C.steps on.old + C.received on.old ≡ 0 }
+    requires open { C.over on.old ≡ false }
+    ensures ends { Ends (Goes C.tells C.over C.spent 0 on.old on.new
+        (K.taken sink.old) (K.taken sink.new))
+        moment (S.left source.old) (S.left source.new) result }
     ensures source { result ≡ ended.SourceFailed
         → HasRisen (S.faults source.old) (S.faults source.new) }
     ensures source_calm { result ≢ ended.SourceFailed → S.faults source.new ≡ S.faults source.old }
@@ -53,19 +86,20 @@ pub fn step_through<T: Stepper, S: Source, K: Sink>(
 }
 
 /// The same, up to what stops it.
-fn run<T: Stepper, S: Source, K: Sink>(
+fn run<C: Course, S: Source, K: Sink>(
     alloc: Global,
     moment: u64,
-    on: &mut T,
+    on: &mut C,
     source: &mut S,
     sink: &mut K,
 ) -> Result<(), Stop>
     requires small { moment < 2 ^ 62 }
-    requires later { T.moment on.old ≤ moment }
-    requires new { T.steps on.old + T.received on.old ≡ 0 }
-    ensures ends { Ends T.answers T.spent on.old on.new moment
-        (S.left source.old) (S.left source.new) (K.taken sink.old) (K.taken sink.new)
-        (ended_as result) }
+    requires later { C.moment on.old ≤ moment }
+    requires new { C.steps on.old + C.received on.old ≡ 0 }
+    requires open { C.over on.old ≡ false }
+    ensures ends { Ends (Goes C.tells C.over C.spent 0 on.old on.new
+        (K.taken sink.old) (K.taken sink.new))
+        moment (S.left source.old) (S.left source.new) (ended_as result) }
     ensures source { IsErrOf result Stop.SourceFailed
         → HasRisen (S.faults source.old) (S.faults source.new) }
     ensures source_calm { ended_as result ≢ ended.SourceFailed
@@ -76,7 +110,7 @@ fn run<T: Stepper, S: Source, K: Sink>(
         → K.faults sink.new ≡ K.faults sink.old }
 {
     let mut feed = Feed::after(alloc, moment);
-    let mut report = Report::new(alloc);
+    let mut answering = Answering::new(alloc);
     let mut events = Vec::new(alloc);
     let mut piece = [0; PIECE];
     loop {
@@ -84,7 +118,7 @@ fn run<T: Stepper, S: Source, K: Sink>(
         if n == 0 {
             break;
         }
-        report.step_piece(&mut feed, &piece[..n], &mut events, on, sink)?;
+        answering.go_piece(&mut feed, &piece[..n], &mut events, on, sink)?;
     }
     feed.finish()?;
     Ok(())

@@ -2,8 +2,9 @@
 --
 -- A step takes each history that the cache stands for to that history with one entry more. So a new cache
 -- comes to stand for all that was stepped (`leads_stand`), over the same limits, and that is a run
--- (`whole_run`). In each run consumers read whole, by a law. The endings are those of the loop, one by one
--- (`replays_all`). A text that spells items is read as it is spelled, so it isn't refused (`completes`).
+-- (`whole_run`). In each run consumers read whole, by a law. So how far events were stepped they were replayed
+-- (`replays_so`), at each ending. A text that spells items is read as it is spelled, so it isn't refused
+-- (`completes`).
 use Rattle.std.proofs.Common.{◌≡◌, ℕ, ◌+◌, ◌≤◌, List, [], true, Option, Some, None, refl, ap, sym, ◌∙◌, subst, arith}
 use Rattle.hc_io.specs.Source.{Gives, GivesAll}
 use Rattle.hc_store.specs.declared.backend.Backend.{Ghosts}
@@ -15,11 +16,12 @@ use Rattle.hc_sched.specs.declared.schedule.Ended.TheVariants as ended
 use Rattle.hc_sched.specs.declared.schedule.Refused.{Refused}
 use Rattle.hc_sched.specs.declared.schedule.Timed.{Timed}
 use Rattle.hc_sched.specs.Laws.{refusal_of}
-use Rattle.hc_sched.proofs.OneReading.{is_read, is_spelled}
+use Rattle.hc_sched.proofs.OneReading.{is_read}
 use Rattle.hc_driver.specs.Endings as endings
-use Rattle.hc_driver.specs.Endings.{Ends, IsRefused, events_from}
+use Rattle.hc_driver.specs.Endings.{How, Ends, IsRefused}
 use Rattle.hc_driver.specs.Stepping as steps
-use Rattle.hc_driver.specs.Stepping.{Leads, nothing, more, Steps, StepsUpToLast}
+use Rattle.hc_driver.specs.Stepping.{events_in, Leads, nothing, more, Steps}
+use Rattle.hc_driver.proofs.Reported.{ends_so}
 use Rattle.hc_model.specs.Entries.{no_contents}
 use Rattle.hc_model.specs.Runs.{IsRun}
 use Rattle.hc_model.specs.Tables.{tables}
@@ -27,9 +29,8 @@ use Rattle.hc_model.proofs.Basics.{some_none}
 use Rattle.hc_laws.proofs.ReadWhole.{runs_read_whole}
 use Rattle.hc_core.specs.declared.cache.Cache.{Cache}
 use Rattle.hc_core.specs.Steps.{StandsFor, Answers, has_failed, limits_in, faults_in, last_moment}
-use Rattle.hc_model.specs.Flaws.{failures_in}
 use Rattle.hc_replay.specs.Replays as replays
-use Rattle.hc_replay.specs.Replays.{IsWholeRun, ReportsAll, ReportsUpToLast, Replays, Completes}
+use Rattle.hc_replay.specs.Replays.{IsWholeRun, IsReplayed, Replays, Completes}
 use Rattle.hc_replay.specs.Histories.{run_of, failures}
 
 module _ {B : Type 0} {g : Ghosts B} where
@@ -67,42 +68,19 @@ module _ {B : Type 0} {g : Ghosts B} where
     reads = runs_read_whole (limits_in u) no_contents (run_of h) stands.begins stands.run;
   }
 
-  reports_all : (s u : Cache B g) (events : List Timed) (out out' : Option (List ℕ)) → StandsFor s no_contents [] → Steps answers s u 0 events out out' → ReportsAll s u events out out'
-  reports_all s u events out out' new f =
-      let stands = leads_stand s u f.history new f.leads in
-      record {
-        history = f.history;
-        events_are = f.events_are;
-        run = whole_run s u f.history stands (leads_limits s u f.history f.leads);
-        report = f.report;
-        stands = stands;
-        counted = leads_counted s u f.history f.leads;
-      }
+  replayed : (s u : Cache B g) (events : List Timed) (h : steps.History) → StandsFor s no_contents [] → events_in h ≡ events → Leads answers s h u → IsReplayed s u events h
+  replayed s u events h new are leads =
+      let stands = leads_stand s u h new leads in
+      record { events_are = are; run = whole_run s u h stands (leads_limits s u h leads); stands = stands; counted = leads_counted s u h leads }
 
-  reports_last : (s u : Cache B g) (events : List Timed) (out out' : Option (List ℕ)) → StandsFor s no_contents [] → StepsUpToLast answers s u 0 events out out' → ReportsUpToLast s u events out out'
-  reports_last s u events out out' new f =
-      let stands = leads_stand s u f.history new f.leads in
-      record {
-        history = f.history;
-        events_are = f.events_are;
-        run = whole_run s u f.history stands (leads_limits s u f.history f.leads);
-        report = f.report;
-        stands = stands;
-        counted = leads_counted s u f.history f.leads;
-      }
+  -- how far they were stepped, they were replayed
+  replays_so : (s u : Cache B g) (out out' : Option (List ℕ)) → StandsFor s no_contents [] → (how : How) (events : List Timed) → Steps answers spent s u out out' how events → Replays s u out out' how events
+  replays_so s u out out' new _ events (steps.wholly h are leads taken) = replays.wholly h (replayed s u events h new are leads) taken
+  replays_so s u out out' new _ events (steps.up_to_last h are leads taken) = replays.up_to_last h (replayed s u events h new are leads) taken
+  replays_so s u out out' new _ events (steps.up_to_want h last are leads taken led) = replays.up_to_want h last (replayed s last events h new are leads) taken led
 
-  pub replays_all : (s u : Cache B g) (left left' out out' : Option (List ℕ)) (ended : Ended) → StandsFor s no_contents [] → Ends answers spent s u 0 left left' out out' ended → Replays s u left left' out out' ended
-  replays_all s u left left' out out' _ new (endings.done text gives none steps) =
-      let spelled = is_spelled 0 text none in
-      let same = (is_read 0 text spelled.0 spelled.1).1 in
-      replays.done text spelled.0 gives spelled.1 (subst (λ (l : List Timed). ReportsAll s u l out out') same (reports_all s u (events_from 0 text) out out' new steps))
-  replays_all s u left left' out out' _ new (endings.refused text r gives is steps) = replays.refused text r gives is (reports_all s u (events_from 0 text) out out' new steps)
-  replays_all s u left left' out out' _ new (endings.cut_short text r gives unrefused is steps) = replays.cut_short text r gives unrefused is (reports_all s u (events_from 0 text) out out' new steps)
-  replays_all s u left left' out out' _ new (endings.unreadable text gives unrefused steps) = replays.unreadable text gives unrefused (reports_all s u (events_from 0 text) out out' new steps)
-  replays_all s u left left' out out' _ new (endings.unwritten text first rest gives stepped steps) = replays.unwritten text first rest gives stepped (reports_last s u first out out' new steps)
-  replays_all s u left left' out out' _ new (endings.wanting text first rest gives stepped steps) = replays.wanting text first rest gives stepped (reports_last s u first out out' new steps)
-  replays_all s u left left' out out' _ new (endings.wanting_within text first rest next last gives stepped steps led) =
-      replays.spent text first rest next last gives stepped (reports_all s last first out out' new steps) led
+  pub replays_all : (s u : Cache B g) (left left' out out' : Option (List ℕ)) (e : Ended) → StandsFor s no_contents [] → Ends (Steps answers spent s u out out') 0 left left' e → Ends (Replays s u out out') 0 left left' e
+  replays_all s u left left' out out' e new ends = ends_so _ _ (replays_so s u out out' new) 0 left left' e ends
 
 -- COMPLETENESS
 
@@ -128,11 +106,12 @@ none_complete (Some text) ended.WireFailed off = tt
 none_complete None ended.NoMemory off = tt
 none_complete (Some text) ended.NoMemory off = tt
 
-pub completes_all : {A : Type 0} (answers : A → ℕ → Event → List Act → A → Type 0) (spent : A → A → Type 0) (s u : A) (left left' out out' : Option (List ℕ)) (e : Ended) → Ends answers spent s u 0 left left' out out' e → Completes left e
-completes_all answers spent s u left left' out out' _ (endings.refused text r gives is steps) = completes left left' text r gives is.refuses
-completes_all answers spent s u left left' out out' _ (endings.cut_short text r gives unrefused is steps) = completes_short left left' text r gives is
-completes_all answers spent s u left left' out out' _ (endings.done text gives none steps) = none_complete left ended.Done (λ r h. cc)
-completes_all answers spent s u left left' out out' _ (endings.unreadable text gives unrefused steps) = none_complete left ended.SourceFailed (λ r h. cc)
-completes_all answers spent s u left left' out out' _ (endings.unwritten text first rest gives stepped steps) = none_complete left ended.SinkFailed (λ r h. cc)
-completes_all answers spent s u left left' out out' _ (endings.wanting text first rest gives stepped steps) = none_complete left ended.NoMemory (λ r h. cc)
-completes_all answers spent s u left left' out out' _ (endings.wanting_within text first rest next last gives stepped steps led) = none_complete left ended.NoMemory (λ r h. cc)
+pub completes_all : (Went : How → List Timed → Type 0) (left left' : Option (List ℕ)) (e : Ended) → Ends Went 0 left left' e → Completes left e
+completes_all Went left left' _ (endings.refused _ text r read (endings.within at_once) went) = completes left left' text r read at_once.refuses
+completes_all Went left left' _ (endings.refused _ text r read (endings.at_end unrefused is) went) = completes_short left left' text r read is
+completes_all Went left left' _ (endings.done text items gives spells went) = none_complete left ended.Done (λ r h. cc)
+completes_all Went left left' _ (endings.over text first rest gives stepped went) = none_complete left ended.Done (λ r h. cc)
+completes_all Went left left' _ (endings.unreadable text gives unrefused went) = none_complete left ended.SourceFailed (λ r h. cc)
+completes_all Went left left' _ (endings.unwritten text first rest gives stepped went) = none_complete left ended.SinkFailed (λ r h. cc)
+completes_all Went left left' _ (endings.wanting text first rest gives stepped went) = none_complete left ended.NoMemory (λ r h. cc)
+completes_all Went left left' _ (endings.wanting_answer text first rest next gives stepped went) = none_complete left ended.NoMemory (λ r h. cc)

@@ -4,6 +4,7 @@ ghost use Rattle.hc_io.specs.Faults.{HasRisen};
 ghost use Rattle.hc_sched.specs.declared.schedule.Ended.TheVariants as ended;
 ghost use Rattle.hc_model.specs.Entries.{no_contents};
 ghost use Rattle.hc_core.specs.Steps.{StandsFor, steps, bytes_received};
+ghost use Rattle.hc_driver.specs.Endings.{Ends};
 ghost use Rattle.hc_replay.specs.Replays.{Replays, Completes};
 
 use hc_core::Cache;
@@ -32,8 +33,8 @@ pub fn replay<B: Backend, S: Source, K: Sink>(
 ) -> Ended
     requires new { StandsFor cache.old no_contents [] }
     requires unused { steps cache.old + bytes_received cache.old ≡ 0 }
-    ensures ends { Replays cache.old cache.new (S.left source.old) (S.left source.new)
-        (K.taken sink.old) (K.taken sink.new) result }
+    ensures ends { Ends (Replays cache.old cache.new (K.taken sink.old) (K.taken sink.new))
+        0 (S.left source.old) (S.left source.new) result }
     ensures complete { Completes (S.left source.old) result }
 
     // A fault comes only where one was counted, and none is counted where none comes.

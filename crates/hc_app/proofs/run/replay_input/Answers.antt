@@ -1,25 +1,26 @@
 use Rattle.std.proofs.Common.{refl}
-use Rattle.hc_app.specs.Program.{wanting_all}
-use Rattle.hc_app.proofs.Programs.{is_done, is_refused, is_unsaid, is_unreadable, is_unwritten, is_wanting}
+use Rattle.hc_app.specs.Owing.{wanting_all}
+use Rattle.hc_app.proofs.Done.{does_replay, never_wire}
+use Rattle.hc_app.proofs.Concluded.{source_failed, source_calm, either_failed, sinks_calm}
 use Rattle.hc_app.proofs.run.replay_input.Goals as goal
 
-pub returns-in_default-clause-replays : goal.returns-in_default-clause-replays
-returns-in_default-clause-replays g c = wanting_all refl
+pub returns-in_default-clause-does : goal.returns-in_default-clause-does
+returns-in_default-clause-does g c = wanting_all refl
 
-pub returns-in-Done-clause-replays : goal.returns-in-Done-clause-replays
-returns-in-Done-clause-replays g c = is_done c.in-Ok.cache c.in-Ok.ensures.limits (λ u. refl) _ _ _ _ _ _ _ _ _ _ _ _ c.replay.ensures.ends c.in-Done.is refl
+pub conclude-requires : goal.conclude-requires
+conclude-requires g c = record { wireless = never_wire _ _ _ _ c.replay-end.ensures.ends }
 
-pub returns-in-Ok-say_refusal-clause-replays : goal.returns-in-Ok-say_refusal-clause-replays
-returns-in-Ok-say_refusal-clause-replays g c = is_refused c.in-Ok.cache c.in-Ok.ensures.limits (λ u. refl) _ _ _ _ _ _ _ _ _ _ _ _ c.in-Refused.refused c.replay.ensures.ends c.in-Refused.is c.in-Ok-say_refusal.ensures.said
+pub returns-clause-does : goal.returns-clause-does
+returns-clause-does g c = does_replay c.in-Ok.cache c.in-Ok.ensures.limits (λ u. refl) _ _ _ _ _ _ _ _ _ _ _ _ _ c.replay-end.ensures.ends c.conclude.ensures c.replay-end.ensures.sink c.replay-end.ensures.sink_calm
 
-pub returns-in-Refused-clause-replays : goal.returns-in-Refused-clause-replays
-returns-in-Refused-clause-replays g c = rw c.stopped.ensures (is_unsaid c.in-Ok.cache c.in-Ok.ensures.limits (λ u. refl) _ _ _ _ _ _ _ _ _ _ _ _ c.in-Refused.refused _ c.replay.ensures.ends c.in-Refused.is c.say_refusal.ensures.front c.in-Err.ensures.cause.failed c.replay.ensures.sink_calm)
+pub returns-clause-source_failed : goal.returns-clause-source_failed
+returns-clause-source_failed g c = λ is. c.replay-end.ensures.source (source_failed _ _ _ _ _ _ c.conclude.ensures is)
 
-pub returns-in-SourceFailed-clause-replays : goal.returns-in-SourceFailed-clause-replays
-returns-in-SourceFailed-clause-replays g c = is_unreadable c.in-Ok.cache c.in-Ok.ensures.limits (λ u. refl) _ _ _ _ _ _ _ _ _ _ _ _ c.replay.ensures.ends c.in-SourceFailed.is refl
+pub returns-clause-source_calm : goal.returns-clause-source_calm
+returns-clause-source_calm g c = λ off. c.replay-end.ensures.source_calm (source_calm _ _ _ _ _ _ c.conclude.ensures off)
 
-pub returns-in-SinkFailed-clause-replays : goal.returns-in-SinkFailed-clause-replays
-returns-in-SinkFailed-clause-replays g c = is_unwritten c.in-Ok.cache c.in-Ok.ensures.limits (λ u. refl) _ _ _ _ _ _ _ _ _ _ _ _ c.replay.ensures.ends c.in-SinkFailed.is refl (c.replay.ensures.sink c.in-SinkFailed.is) refl
+pub returns-clause-sink_failed : goal.returns-clause-sink_failed
+returns-clause-sink_failed g c = λ is. either_failed _ _ _ _ _ _ c.conclude.ensures c.replay-end.ensures.sink is
 
-pub returns-in-NoMemory-clause-replays : goal.returns-in-NoMemory-clause-replays
-returns-in-NoMemory-clause-replays g c = is_wanting c.in-Ok.cache c.in-Ok.ensures.limits (λ u. refl) _ _ _ _ _ _ _ _ _ _ _ _ c.replay.ensures.ends c.in-NoMemory.is refl
+pub returns-clause-sinks_calm : goal.returns-clause-sinks_calm
+returns-clause-sinks_calm g c = λ off. let calm = sinks_calm _ _ _ _ _ _ c.conclude.ensures off in (c.replay-end.ensures.sink_calm calm.0, calm.1)

@@ -1,11 +1,18 @@
-use Rattle.hc_app.proofs.Programs.{made_done, made_unwritten, made_wanting}
+use Rattle.hc_app.proofs.Done.{does_generate, never_read, never_wired}
+use Rattle.hc_app.proofs.Concluded.{source_failed, either_failed, sinks_calm}
 use Rattle.hc_app.proofs.run.write_summary.Goals as goal
 
-pub returns-in-Done-clause-generates : goal.returns-in-Done-clause-generates
-returns-in-Done-clause-generates g c = made_done _ _ _ _ _ c.generate.ensures.ends c.in-Done.is
+pub conclude-requires : goal.conclude-requires
+conclude-requires g c = record { wireless = never_wired c.args.seed c.args.count _ _ _ c.generate-end.ensures.ends }
 
-pub returns-in-SinkFailed-clause-generates : goal.returns-in-SinkFailed-clause-generates
-returns-in-SinkFailed-clause-generates g c = made_unwritten _ _ _ _ _ c.generate.ensures.ends c.in-SinkFailed.is
+pub returns-clause-does : goal.returns-clause-does
+returns-clause-does g c = λ left. does_generate c.args.seed c.args.count left _ _ _ _ _ _ _ _ _ _ c.generate-end.ensures.ends c.conclude.ensures c.generate-end.ensures.sink c.generate-end.ensures.sink_calm
 
-pub returns-in-NoMemory-clause-generates : goal.returns-in-NoMemory-clause-generates
-returns-in-NoMemory-clause-generates g c = made_wanting _ _ _ _ _ c.generate.ensures.ends c.in-NoMemory.is
+pub returns-clause-unread : goal.returns-clause-unread
+returns-clause-unread g c = λ is. never_read c.args.seed c.args.count _ _ _ c.generate-end.ensures.ends (source_failed _ _ _ _ _ _ c.conclude.ensures is)
+
+pub returns-clause-sink_failed : goal.returns-clause-sink_failed
+returns-clause-sink_failed g c = λ is. either_failed _ _ _ _ _ _ c.conclude.ensures c.generate-end.ensures.sink is
+
+pub returns-clause-sinks_calm : goal.returns-clause-sinks_calm
+returns-clause-sinks_calm g c = λ off. let calm = sinks_calm _ _ _ _ _ _ c.conclude.ensures off in (c.generate-end.ensures.sink_calm calm.0, calm.1)

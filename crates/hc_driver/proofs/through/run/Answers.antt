@@ -5,22 +5,22 @@ use Rattle.hc_driver.proofs.through.run.Goals as goal
 
 pub loop-events-init : goal.loop-events-init
 loop-events-init g c = (
-  rw c.after-feed.ensures (on_start g.T.Stepper.answers g.T.Stepper.spent _ c.args.moment _ _ _ c.new-report.ensures c.requires.new c.requires.later),
+  rw c.after-feed.ensures (on_start g.C.Course.tells g.C.Course.over g.C.Course.spent _ c.args.moment _ _ _ c.new-answering.ensures c.requires.new c.requires.later c.requires.open),
   refl,
   refl,
 )
 
 pub returns-in_err-n-clause-ends : goal.returns-in_err-n-clause-ends
 returns-in_err-n-clause-ends g c =
-    ends_source g.T.Stepper.answers g.T.Stepper.spent _ _ _ _ _ _ _ _ _ _ _ c.from_residual.result c.loop-events.invariant.0 c.in_err-n.ensures.err c.from_residual.ensures.1
+    ends_source g.C.Course.tells g.C.Course.over g.C.Course.spent _ _ _ _ _ _ _ _ _ _ _ c.from_residual.result c.loop-events.invariant.0 c.in_err-n.ensures.err c.from_residual.ensures.1
 
-pub step_piece-requires-clause-timed : goal.step_piece-requires-clause-timed
-step_piece-requires-clause-timed g c = next_timed g.T.Stepper.answers g.T.Stepper.spent _ _ _ _ _ _ _ _ _ _ (take c.in_ok-n.n c.read.new.into) c.requires.small c.loop-events.invariant.0
+pub go_piece-requires-clause-timed : goal.go_piece-requires-clause-timed
+go_piece-requires-clause-timed g c = next_timed g.C.Course.tells g.C.Course.over g.C.Course.spent _ _ _ _ _ _ _ _ _ _ (take c.in_ok-n.n c.read.new.into) c.requires.small c.loop-events.invariant.0
 
-pub step_piece-requires-clause-few : goal.step_piece-requires-clause-few
-step_piece-requires-clause-few g c =
+pub go_piece-requires-clause-few : goal.go_piece-requires-clause-few
+go_piece-requires-clause-few g c =
     let piece = take c.in_ok-n.n c.read.new.into in
-    let small = next_small g.T.Stepper.answers g.T.Stepper.spent _ _ _ _ _ _ _ _ _ _ piece c.loop-events.invariant.0 in
+    let small = next_small g.C.Course.tells g.C.Course.over g.C.Course.spent _ _ _ _ _ _ _ _ _ _ piece c.loop-events.invariant.0 in
     let count = c.loop-events.invariant.0.count in
     let read = c.in_ok-n.ensures.count in
     let all = c.read.ensures.in_all in
@@ -33,27 +33,27 @@ loop-events-preserved g c =
     let piece = take c.in_ok-n.n c.read.new.into in
     let read = c.in_ok-n.ensures.count in
     let most = c.in_ok-n.ensures.at_most in (
-      on_more g.T.Stepper.answers g.T.Stepper.spent _ c.loop-events.on c.step_piece.new.on _ _ _ _ c.loop-events.feed c.step_piece.new.feed piece _ _ _ _ _ _
-          c.loop-events.invariant.0 c.in_ok-n.ensures.bytes c.in_ok-step_piece.ensures.goes c.in_ok-step_piece.ensures.reads (omega (arith, read, most, length-take c.in_ok-n.n c.read.new.into))
-          c.step_piece.ensures.lines c.in_ok-step_piece.ensures.number c.in_ok-step_piece.ensures.steps c.in_ok-step_piece.ensures.size c.in_ok-step_piece.ensures.moment,
+      on_more g.C.Course.tells g.C.Course.over g.C.Course.spent _ c.loop-events.on c.go_piece.new.on _ _ _ _ c.loop-events.feed c.go_piece.new.feed piece _ _ _ _ _ _
+          c.loop-events.invariant.0 c.in_ok-n.ensures.bytes c.in_ok-go_piece.ensures.goes c.in_ok-go_piece.ensures.reads (omega (arith, read, most, length-take c.in_ok-n.n c.read.new.into))
+          c.go_piece.ensures.lines c.in_ok-go_piece.ensures.number c.in_ok-go_piece.ensures.steps c.in_ok-go_piece.ensures.size c.in_ok-go_piece.ensures.moment c.in_ok-go_piece.ensures.open,
       c.in_ok-n.ensures.calm ∙ c.loop-events.invariant.1,
-      c.in_ok-step_piece.ensures.cause ∙ c.loop-events.invariant.2,
+      c.in_ok-go_piece.ensures.cause ∙ c.loop-events.invariant.2,
     )
 
-pub returns-in_err-step_piece-clause-ends : goal.returns-in_err-step_piece-clause-ends
-returns-in_err-step_piece-clause-ends g c =
+pub returns-in_err-go_piece-clause-ends : goal.returns-in_err-go_piece-clause-ends
+returns-in_err-go_piece-clause-ends g c =
     let piece = take c.in_ok-n.n c.read.new.into in
-    ends_as g.T.Stepper.answers g.T.Stepper.spent _ c.loop-events.on c.step_piece.new.on _ _ _ c.loop-events.feed c.step_piece.new.feed piece _ _ _ _ _ _ c.in_err-step_piece.field-0.0 c.step_piece.result c.from_residual-in_err-step_piece.result
-    c.loop-events.invariant.0 c.in_ok-n.ensures.bytes (omega (arith, c.in_ok-n.ensures.at_most, length-take c.in_ok-n.n c.read.new.into)) c.step_piece.ensures.goes c.in_err-step_piece.was c.from_residual-in_err-step_piece.ensures.1
+    ends_as g.C.Course.tells g.C.Course.over g.C.Course.spent _ c.loop-events.on c.go_piece.new.on _ _ _ c.loop-events.feed c.go_piece.new.feed piece _ _ _ _ _ _ c.in_err-go_piece.field-0.0 c.go_piece.result c.from_residual-in_err-go_piece.result
+    c.loop-events.invariant.0 c.in_ok-n.ensures.bytes (omega (arith, c.in_ok-n.ensures.at_most, length-take c.in_ok-n.n c.read.new.into)) c.go_piece.ensures.goes c.in_err-go_piece.was c.from_residual-in_err-go_piece.ensures.1
 
 pub returns-in_err-finish-clause-ends : goal.returns-in_err-finish-clause-ends
 returns-in_err-finish-clause-ends g c =
     let zero : c.in_ok-n.n ≡ 0 = c.if-n-eq0.true in
-    ends_cut_short g.T.Stepper.answers g.T.Stepper.spent _ c.loop-events.on _ _ _ c.loop-events.feed _ _ _ _ _ c.finish.result c.in_err-finish.field-0.0 c.from_residual-in_err-finish.result
+    ends_cut_short g.C.Course.tells g.C.Course.over g.C.Course.spent _ c.loop-events.on _ _ _ c.loop-events.feed _ _ _ _ _ c.finish.result c.in_err-finish.field-0.0 c.from_residual-in_err-finish.result
     c.loop-events.invariant.0 (rw zero at c.in_ok-n.ensures.bytes) (c.read.ensures.end (c.in_ok-n.was ∙ ap Ok zero) (omega arith)) c.finish.ensures.value c.in_err-finish.was c.from_residual-in_err-finish.ensures.1
 
 pub returns-clause-ends : goal.returns-clause-ends
 returns-clause-ends g c =
     let zero : c.in_ok-n.n ≡ 0 = c.if-n-eq0.true in
-    ends_done g.T.Stepper.answers g.T.Stepper.spent _ c.loop-events.on _ _ _ c.loop-events.feed _ _ _ _ _ c.finish.result
+    ends_done g.C.Course.tells g.C.Course.over g.C.Course.spent _ c.loop-events.on _ _ _ c.loop-events.feed _ _ _ _ _ c.finish.result
     c.loop-events.invariant.0 (rw zero at c.in_ok-n.ensures.bytes) (c.read.ensures.end (c.in_ok-n.was ∙ ap Ok zero) (omega arith)) c.finish.ensures.value c.in_ok-finish.was

@@ -11,4 +11,4 @@ pub returns-clause-ends : goal.returns-clause-ends
 returns-clause-ends g c = replays_all c.args.cache.now _ _ _ _ _ _ c.requires.new c.step_through.ensures.ends
 
 pub returns-clause-complete : goal.returns-clause-complete
-returns-clause-complete g c = completes_all _ _ _ _ _ _ _ _ _ c.step_through.ensures.ends
+returns-clause-complete g c = completes_all _ _ _ _ c.step_through.ensures.ends

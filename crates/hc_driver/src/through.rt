@@ -33,7 +33,8 @@ pub fn step_through<T: Stepper, S: Source, K: Sink>(
     requires small { moment < 2 ^ 62 }
     requires later { T.moment on.old ≤ moment }
     requires new { T.steps on.old + T.received on.old ≡ 0 }
-    ensures ends { Ends (Steps T.answers T.spent on.old on.new (K.taken sink.old) (K.taken sink.new))
+    ensures ends { Ends (Steps T.answers T.spent on.old on.new
+        (K.taken sink.old) (K.taken sink.new))
         moment (S.left source.old) (S.left source.new) result }
 
     // A fault comes only where one was counted, and none is counted where none comes.

@@ -19,9 +19,9 @@ abbrev pub first_of : List ℕ → Option ℕ
 first_of [] = None
 first_of (k ∷ ks) = Some k
 
--- the connection of an exchange
+-- the connection of an exchange; these are numbered from 1
 abbrev pub connection_of : List ℕ → ℕ → Option ℕ
-connection_of dialled x = first_of (drop (x - 1) dialled)
+connection_of dialled x = if x == 0 then None else first_of (drop (x - 1) dialled)
 
 -- AT A CALL
 

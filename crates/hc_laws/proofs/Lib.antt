@@ -137,3 +137,10 @@ pub mod StopSeals
 pub mod DoomEffects
 pub mod FrontRuns
 pub mod UnendedRuns
+pub mod Accepted
+pub mod CountedOpenings
+pub mod LeaverGoes
+pub mod LiveAfter
+pub mod OwedEntries
+pub mod StaysLive
+pub mod WhoLeaves

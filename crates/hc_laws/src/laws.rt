@@ -14,7 +14,7 @@ ghost use Rattle.hc_model.specs.Frames.{PartsAreKept, OthersStay, OthersDontGo, 
 ghost use Rattle.hc_model.specs.Fronts.{Fronts};
 ghost use Rattle.hc_model.specs.Given.{Given};
 ghost use Rattle.hc_model.specs.Growing.{Growing, StopsInRuns};
-ghost use Rattle.hc_model.specs.Live.{FewLive, FewOpen};
+ghost use Rattle.hc_model.specs.Live.{FewLive, FewOpen, OpeningsAreCounted, WhoLeavesGoes};
 ghost use Rattle.hc_model.specs.Losses.{Brings, Losses};
 ghost use Rattle.hc_model.specs.Measures.{Measures};
 ghost use Rattle.hc_model.specs.WithinLimits.{RequestsStayWithinLimits, HeadsComeWithinLimits, RequestsStayForTargets, KeysStayTargets};
@@ -24,7 +24,7 @@ ghost use Rattle.hc_model.specs.Origins.{Origins};
 ghost use Rattle.hc_model.specs.Sizes.{Sizes};
 ghost use Rattle.hc_model.specs.StoredHeads.{StoredHeads, Tags};
 ghost use Rattle.hc_model.specs.Parts.{Parts};
-ghost use Rattle.hc_model.specs.Runs.{FaultlessAreOwed};
+ghost use Rattle.hc_model.specs.Runs.{FaultlessAreOwed, OwedIsOwed};
 ghost use Rattle.hc_model.specs.Tellings.{TellsWhoPolls};
 ghost use Rattle.hc_model.specs.Passed.{Passed};
 ghost use Rattle.hc_model.specs.Places.{Places};
@@ -355,10 +355,27 @@ pub fn few_are_open()
     ensures { OfRuns FewOpen }
 {}
 
+/// A live consumer that is cancelled leaves, in every run: that is accepted, it is over by it, and all others are as
+/// live as they were.
+pub fn who_leaves_goes()
+    ensures { OfRunsIn WhoLeavesGoes }
+{}
+
+/// An event opens one exchange at most. So in every run.
+pub fn openings_are_counted()
+    ensures { OpeningsAreCounted }
+{}
+
 /// What is owed of a store that didn't fail is told by the tables and the event alone: what it refuses, it refuses
 /// for its size.
 pub fn faultless_entries_are_owed()
     ensures { FaultlessAreOwed }
+{}
+
+/// A store that never fails may stand behind each run: what it owes to an event, no earlier than the last one, is an
+/// entry with which the run may go on.
+pub fn owed_is_owed()
+    ensures { OfRunsIn OwedIsOwed }
 {}
 
 /// A poll tells its consumer one thing at most: a head, bytes, its end, a failure, or what it is to wait for, and

@@ -95,3 +95,8 @@ abbrev pub FaultlessAreOwed : Type 0
 FaultlessAreOwed =
     (limits : Limits) (t : Tables) (e : Entry) → IsOwed limits t e → failures_in e.acts ≡ 0 →
     e ≡ owed limits t e.now e.event
+
+-- What such a store owes is one of the entries with which a run may go on.
+abbrev pub OwedIsOwed : Limits → Tables → Type 0
+OwedIsOwed limits t =
+    (now : ℕ) (event : Event) → t.moment ≤ now → IsOwed limits t (owed limits t now event)

@@ -1,0 +1,89 @@
+-- Who is live behind an entry.
+--
+-- Who is over stays so, in every run (`stays_over` of hc_laws). So who is live behind an entry was live before it, or starts by it.
+use Rattle.std.proofs.Common.{◌≡◌, ◌⊎◌, inl, inr, ℕ, Bool, true, false, Option, Some, None, refl, ap, sym, ◌∙◌, arith}
+use Rattle.std.specs.Prelude.{nat_eq, if◌then◌else◌}
+use Rattle.std.proofs.lemmas.Bool.Decides.{nat_tests}
+use Rattle.hc_event.specs.Filters.{is_denied}
+use Rattle.hc_event.specs.declared.event.Event.{Event}
+use Rattle.hc_event.specs.declared.event.Event.TheVariants as event
+use Rattle.hc_event.specs.declared.place.Place.{Place}
+use Rattle.hc_event.specs.declared.place.Place.TheVariants as place
+use Rattle.hc_rules.specs.declared.room.Limits.{Limits}
+use Rattle.hc_model.specs.Answers.{accepted_acts}
+use Rattle.hc_model.specs.ConsumerRows.{consumer_after, consumer_made, new_consumer}
+use Rattle.hc_model.specs.Denials.{is_live, is_live_place}
+use Rattle.hc_model.specs.Entries.{Entry}
+use Rattle.hc_model.specs.Flaws.{flaw_in}
+use Rattle.hc_model.specs.Lawful.{Lawful}
+use Rattle.hc_model.specs.Rows.{Tables, Consumer}
+use Rattle.hc_model.specs.Runs.{IsOwed}
+use Rattle.hc_model.specs.Tables.{after, after_accepted, after_denied}
+use Rattle.hc_model.proofs.Owed.{goes, acts_are}
+use Rattle.hc_laws.proofs.LiveRuns.{stays_over}
+
+-- the consumer starts by the event
+abbrev pub Starts : ℕ → Event → Type 0
+Starts c (event.Start d request) = d ≡ c
+Starts c _ = ⊥
+
+-- the rows behind an entry: as they were, or as an accepted one leaves them
+pub consumer_behind : (t : Tables) (e : Entry) (c : ℕ) → ((after t e).consumer c ≡ t.consumer c) ⊎ ((is_denied e.acts ≡ false) × ((after t e).consumer c ≡ consumer_after t e c (t.consumer c)))
+unfolding after
+consumer_behind t e c = by_test (is_denied e.acts) refl
+  where
+    by_test : (b : Bool) → is_denied e.acts ≡ b → ((if b then after_denied t e else after_accepted t e).consumer c ≡ t.consumer c) ⊎ ((is_denied e.acts ≡ false) × ((if b then after_denied t e else after_accepted t e).consumer c ≡ consumer_after t e c (t.consumer c)))
+    by_test true is = inl refl
+    by_test false is = inr (is, refl)
+
+made_live : (c now : ℕ) (ev : Event) → is_live (consumer_made c now ev) ≡ true → Starts c ev
+made_live c now (event.Start d request) h = by_test (nat_eq d c) refl h
+  where
+    by_test : (b : Bool) → nat_eq d c ≡ b → is_live (if b then Some (new_consumer now request) else None) ≡ true → d ≡ c
+    by_test true is g = grind (arith, nat_tests)
+    by_test false is g = absurd (let never : false ≡ true = g in cc)
+made_live c now (event.Poll d want) h = absurd (let never : false ≡ true = h in cc)
+made_live c now (event.Head x response) h = absurd (let never : false ≡ true = h in cc)
+made_live c now (event.Piece x bytes) h = absurd (let never : false ≡ true = h in cc)
+made_live c now (event.End x) h = absurd (let never : false ≡ true = h in cc)
+made_live c now (event.Fault x) h = absurd (let never : false ≡ true = h in cc)
+made_live c now (event.Cancel d) h = absurd (let never : false ≡ true = h in cc)
+made_live c now (event.Doom key) h = absurd (let never : false ≡ true = h in cc)
+
+over_or_live : (p : Place) → (p ≡ place.Over) ⊎ (is_live_place p ≡ true)
+over_or_live place.Over = inl refl
+over_or_live place.Line = inr refl
+over_or_live (place.Passed r kept) = inr refl
+over_or_live (place.Turn x) = inr refl
+over_or_live (place.Bound r lo hi how) = inr refl
+over_or_live (place.Direct x) = inr refl
+over_or_live (place.Down why) = inr refl
+
+module _ (limits : Limits) (t : Tables) (e : Entry) (law : Lawful t) (is : IsOwed limits t e) where
+  -- an accepted entry is that of its event
+  entry_is : is_denied e.acts ≡ false → e ≡ record { now = e.now; event = e.event; acts = accepted_acts limits t e.now e.event (flaw_in e.acts) }
+  entry_is goes_on =
+      let F : _ = λ acts. record { now = e.now; event = e.event; acts = acts } in
+      ap F (acts_are limits t e is goes_on)
+
+  pub dead_stays : (c : ℕ) (k : Consumer) → is_denied e.acts ≡ false → t.consumer c ≡ Some k → k.place ≡ place.Over → is_live (consumer_after t e c (t.consumer c)) ≡ false
+  dead_stays c k on row over =
+      ap (λ (z : Entry). is_live (consumer_after t z c (t.consumer c))) (entry_is on)
+      ∙ stays_over limits t e.now (flaw_in e.acts) law.sound law.owned e.event (goes limits t e is on) c k row over
+
+  by_row : (c : ℕ) (o : Option Consumer) → is_denied e.acts ≡ false → t.consumer c ≡ o → is_live (consumer_after t e c (t.consumer c)) ≡ true → (is_live (t.consumer c) ≡ true) ⊎ Starts c e.event
+  unfolding consumer_after
+  by_row c None on row live = inr (made_live c e.now e.event (sym (ap (λ (o : Option Consumer). is_live (consumer_after t e c o)) row) ∙ live))
+  by_row c (Some k) on row live =
+      elim (over_or_live k.place) as (λ _. (is_live (t.consumer c) ≡ true) ⊎ Starts c e.event) [
+        | inl over ↦ absurd (let never : false ≡ true = sym (dead_stays c k on row over) ∙ live in cc)
+        | inr was ↦ inl (ap is_live row ∙ was)
+      ]
+
+  -- who is live behind an entry was live before it, or starts by it
+  pub was_live : (c : ℕ) → is_live ((after t e).consumer c) ≡ true → (is_live (t.consumer c) ≡ true) ⊎ Starts c e.event
+  was_live c live =
+      elim (consumer_behind t e c) as (λ _. (is_live (t.consumer c) ≡ true) ⊎ Starts c e.event) [
+        | inl same ↦ inl (sym (ap is_live same) ∙ live)
+        | inr on ↦ by_row c (t.consumer c) on.0 refl (sym (ap is_live on.1) ∙ live)
+      ]

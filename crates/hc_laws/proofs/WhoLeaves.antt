@@ -1,0 +1,314 @@
+-- Who leaves is over, and who doesn't stays live.
+--
+-- The acts of a leave are what is said to the leaver, what is closed, and what is lost: a seal of what is closed may fail. Its row
+-- behind them is over, unless it starts over: at a leave only who waits for what goes could. Who waits so owns nothing, so nothing
+-- is closed, and nothing is lost. By any other entry the place of a live consumer becomes none but one at which it is live.
+use Rattle.std.proofs.Common.{◌≡◌, ◌⊎◌, inl, inr, ℕ, List, [], ◌∷◌, ◌++◌, Bool, true, false, Option, Some, None, refl, ap, sym, ◌∙◌, subst, arith}
+use Rattle.std.specs.Prelude.{◌&&◌, map, nat_eq, nat_lt}
+use Rattle.std.proofs.lemmas.Bool.Decides.{nat_tests}
+use Rattle.hc_event.specs.Filters.{closes_in, is_denied, leaves_in}
+use Rattle.hc_event.specs.declared.act.Act.{Act}
+use Rattle.hc_event.specs.declared.act.Act.TheVariants as act
+use Rattle.hc_event.specs.declared.act.Cause.TheVariants as cause
+use Rattle.hc_event.specs.declared.event.Event.{Event}
+use Rattle.hc_event.specs.declared.event.Event.TheVariants as event
+use Rattle.hc_event.specs.declared.place.Place.{Place}
+use Rattle.hc_event.specs.declared.place.Place.TheVariants as place
+use Rattle.hc_rules.specs.Refusals as refusals
+use Rattle.hc_rules.specs.declared.room.Limits.{Limits}
+use Rattle.hc_model.specs.ActFilters.{fails_in, loses_in, without_losses}
+use Rattle.hc_model.specs.Answers.{accepted_acts, answer_acts, loss_acts}
+use Rattle.hc_model.specs.Closings.{closing}
+use Rattle.hc_model.specs.ConsumerRows.{consumer_after}
+use Rattle.hc_model.specs.Denials.{denial, is_live}
+use Rattle.hc_model.specs.Effects.{left_by}
+use Rattle.hc_model.specs.Entries.{Entry}
+use Rattle.hc_model.specs.Flaws.{Flaw, NoFlaw, Loses, Misreads, flaw_in}
+use Rattle.hc_model.specs.Gone.{becomes_gone, goes_in}
+use Rattle.hc_model.specs.Lawful.{Lawful}
+use Rattle.hc_model.specs.Moves as moves
+use Rattle.hc_model.specs.Moves.{Move, acts_of}
+use Rattle.hc_model.specs.Polls.{move_of, poll_move}
+use Rattle.hc_model.specs.Rows.{Tables, Representation, Consumer}
+use Rattle.hc_model.specs.Runs.{IsOwed, may_be}
+use Rattle.hc_model.specs.StartingOver.{loses_what_it_waits_for}
+use Rattle.hc_model.specs.Tables.{after, with_item_first}
+use Rattle.hc_model.specs.Writes.{written_representation, written_in, seals_at, stops, first_found, lossless}
+use Rattle.hc_model.proofs.ActParts.{far_closing, far_lost_only}
+use Rattle.hc_model.proofs.Basics.{and_left, none_some, number_is}
+use Rattle.hc_model.proofs.EventsKeep.{poll_live}
+use Rattle.hc_model.proofs.FailsTold.{fails_told}
+use Rattle.hc_model.proofs.LeftBy.{left_passed}
+use Rattle.hc_model.proofs.Owed.{goes, acts_are, is_denial, IsDenied}
+use Rattle.hc_model.proofs.Owed as owed_by
+use Rattle.hc_model.proofs.TurnFacts.{closes_lossless, far_from, may_be_so}
+use Rattle.hc_laws.proofs.LeaveFrames.{IsFront, acts_left, goes_by, itself}
+use Rattle.hc_laws.proofs.LeaveFrames as frames
+use Rattle.hc_laws.proofs.Accepted.{is_accepted}
+use Rattle.hc_laws.proofs.LiveAfter.{Starts, was_live}
+
+false_true : {A : Type 0} → false ≡ true → A
+false_true h = absurd (let never : false ≡ true = h in cc)
+
+bool_cases : (b : Bool) → (b ≡ true) ⊎ (b ≡ false)
+bool_cases true = inl refl
+bool_cases false = inr refl
+
+-- WHAT IS SAID TO WHO LEAVES
+
+same_number : (n : ℕ) → nat_eq n n ≡ true
+same_number n = grind (arith, nat_tests)
+
+-- it is told a failure, or no read failed
+fails_or : (c : ℕ) (ev : Event) (o : Option ℕ) (front rest : List Act) → IsFront c ev o front → (fails_in c (front ++ rest) ≡ true) ⊎ (o ≡ None)
+fails_or c _ _ _ rest (frames.ends want) = inr refl
+fails_or c _ _ _ rest (frames.fails want why told) = inr refl
+fails_or c _ _ _ rest (frames.misreads want r) = inl (rw (same_number c) refl)
+fails_or c _ _ _ rest frames.cancels = inr refl
+
+lost_closes : (x : ℕ) (flaw : Flaw) → closes_in x (loss_acts flaw) ≡ false
+lost_closes x NoFlaw = refl
+lost_closes x (Loses r kind) = refl
+lost_closes x (Misreads r) = refl
+
+front_closes : (x c : ℕ) (ev : Event) (o : Option ℕ) (front : List Act) (flaw : Flaw) → IsFront c ev o front → closes_in x (front ++ loss_acts flaw) ≡ false
+front_closes x c _ _ _ flaw (frames.ends want) = lost_closes x flaw
+front_closes x c _ _ _ flaw (frames.fails want why told) = lost_closes x flaw
+front_closes x c _ _ _ flaw (frames.misreads want r) = lost_closes x flaw
+front_closes x c _ _ _ flaw frames.cancels = lost_closes x flaw
+
+front_stops : (x c : ℕ) (ev : Event) (o : Option ℕ) (front : List Act) → IsFront c ev o front → stops x ev ≡ false
+front_stops x c _ _ _ (frames.ends want) = refl
+front_stops x c _ _ _ (frames.fails want why told) = refl
+front_stops x c _ _ _ (frames.misreads want r) = refl
+front_stops x c _ _ _ frames.cancels = refl
+
+front_writes : (t : Tables) (it : Entry) (c : ℕ) (ev : Event) (o : Option ℕ) (front : List Act) → IsFront c ev o front → written_in t it ev ≡ first_found (seals_at t it) t.openings
+front_writes t it c _ _ _ (frames.ends want) = refl
+front_writes t it c _ _ _ (frames.fails want why told) = refl
+front_writes t it c _ _ _ (frames.misreads want r) = refl
+front_writes t it c _ _ _ frames.cancels = refl
+
+-- A LEAVE
+
+module _ (limits : Limits) (t : Tables) (e : Entry) (law : Lawful t) (is : IsOwed limits t e) where
+  module _ (on : is_denied e.acts ≡ false) (c : ℕ) (k : Consumer) (row : t.consumer c ≡ Some k) (ev : Event) (at : e.event ≡ ev) (o : Option ℕ) (front : List Act) (f : IsFront c ev o front) (says : answer_acts t e.now ev (flaw_in e.acts) ≡ front) where
+    abbrev flaw : Flaw
+    flaw = flaw_in e.acts
+
+    -- the entry, by its parts
+    abbrev it : Entry
+    it = frames.e limits t law e.now c k row ev flaw o front f
+
+    acts_same : e.acts ≡ it.acts
+    acts_same = acts_are limits t e is on ∙ (ap (λ z. accepted_acts limits t e.now z flaw) at ∙ acts_left limits t law e.now c k row ev flaw o front f says)
+
+    same : e ≡ it
+    same =
+        let F : Event → Entry = λ z. record { now = e.now; event = z; acts = e.acts } in
+        let G : List Act → Entry = λ z. record { now = e.now; event = ev; acts = z } in
+        ap F at ∙ ap G acts_same
+
+    -- where nothing is left
+    module _ (left : left_by t c k ≡ None) where
+      closes_none : (x : ℕ) → closes_in x e.acts ≡ false
+      closes_none x =
+          ap (closes_in x) (acts_same ∙ ap (λ (z : Option ℕ). front ++ (map act.Close (with_item_first z []) ++ loss_acts flaw)) left)
+          ∙ front_closes x c ev o front flaw f
+
+      seals_none : (x : ℕ) → seals_at t (lossless e) x ≡ None
+      seals_none x =
+          let a : stops x e.event ≡ false = ap (stops x) at ∙ front_stops x c ev o front f in
+          let b : closes_in x (without_losses e.acts) ≡ false = closes_lossless x e.acts ∙ closes_none x in
+          rw (a, b) refl
+
+      found_none : (g : ℕ → Option ℕ) (xs : List ℕ) → ((x : ℕ) → g x ≡ None) → first_found g xs ≡ None
+      found_none g [] all = refl
+      found_none g (x ∷ xs) all = rw (all x) (found_none g xs all)
+
+      writes_none : written_representation t e ≡ None
+      unfolding written_representation
+      writes_none = ap (written_in t (lossless e)) at ∙ (front_writes t (lossless e) c ev o front f ∙ found_none (seals_at t (lossless e)) t.openings seals_none)
+
+      lost_none : (r : ℕ) (z : Flaw) → may_be limits t e z ≡ true → loses_in r (loss_acts z) ≡ false
+      lost_none r NoFlaw may = refl
+      lost_none r (Misreads q) may = refl
+      lost_none r (Loses q kind) may = absurd (none_some q (sym writes_none ∙ number_is (written_representation t e) q (and_left _ _ (and_left _ _ may))))
+
+      nothing_goes : o ≡ None → (r : ℕ) (v : Representation) → t.representation r ≡ Some v → becomes_gone t it r v ≡ false
+      nothing_goes none r v there =
+          let lost : loses_in r (loss_acts flaw) ≡ false = lost_none r flaw (may_be_so limits t e (record { owed = is; not_denied = on })) in
+          goes_by limits t law e.now c k row ev flaw o front f r v there
+          ∙ rw (lost, none, left) refl
+
+      nothing_in : o ≡ None → (r : ℕ) (z : Option Representation) → t.representation r ≡ z → goes_in t it r z ≡ false
+      nothing_in none r None there = refl
+      nothing_in none r (Some v) there = nothing_goes none r v there
+
+    -- who waits doesn't start over by it
+    stays : (p : Place) → k.place ≡ p → loses_what_it_waits_for t it c p ≡ false
+    stays (place.Passed r kept) stands =
+        elim (fails_or c ev o front (frames.rest limits t law e.now c k row ev flaw o front f) f) [
+          | inl fails ↦ rw fails (off (goes_in t it r (t.representation r)))
+          | inr none ↦ let quiet : goes_in t it r (t.representation r) ≡ false = nothing_in (left_passed t law c k row r kept stands) none r (t.representation r) refl in rw quiet refl
+        ]
+      where
+        off : (b : Bool) → (b && false) ≡ false
+        off true = refl
+        off false = refl
+    stays place.Line stands = refl
+    stays (place.Turn x) stands = refl
+    stays (place.Bound r lo hi how) stands = refl
+    stays (place.Direct x) stands = refl
+    stays (place.Down why) stands = refl
+    stays place.Over stands = refl
+
+    row_behind : (after t e).consumer c ≡ consumer_after t e c (t.consumer c)
+    unfolding after
+    row_behind = rw on refl
+
+    leaver_over : is_live ((after t e).consumer c) ≡ false
+    leaver_over =
+        ap is_live (row_behind ∙ (ap (λ (z : Entry). consumer_after t z c (t.consumer c)) same
+        ∙ itself limits t law e.now c k row ev flaw o front f (stays k.place refl)))
+
+  -- WHO IS CANCELLED
+
+  -- who is live has started
+  pub has_started : (c : ℕ) → is_live (t.consumer c) ≡ true → nat_lt t.last_start c ≡ false
+  has_started c live = by_test (nat_lt t.last_start c) refl
+    where
+      by_test : (b : Bool) → nat_lt t.last_start c ≡ b → nat_lt t.last_start c ≡ false
+      by_test false off = off
+      by_test true past = false_true (sym (ap is_live (law.sound.numbered.lists.new_consumers c (grind (arith, nat_tests)))) ∙ live)
+
+  pub cancel_goes : (c : ℕ) → e.event ≡ event.Cancel c → is_live (t.consumer c) ≡ true → denial t e.event ≡ None
+  unfolding refusals.refusal_of
+  cancel_goes c at live = ap (denial t) at ∙ rw (has_started c live, live) refl
+
+  cancels_row : (c : ℕ) (o : Option Consumer) → t.consumer c ≡ o → e.event ≡ event.Cancel c → is_live o ≡ true → is_live ((after t e).consumer c) ≡ false
+  cancels_row c None row at live = false_true live
+  cancels_row c (Some k) row at live = leaver_over (is_accepted limits t e is (cancel_goes c at (ap is_live row ∙ live))) c k row (event.Cancel c) at None [] frames.cancels refl
+
+  -- who is cancelled is over
+  pub cancelled_over : (c : ℕ) → e.event ≡ event.Cancel c → is_live ((after t e).consumer c) ≡ false
+  cancelled_over c at =
+      elim (bool_cases (is_live (t.consumer c))) [
+        | inl live ↦ cancels_row c (t.consumer c) refl at live
+        | inr dead ↦ elim (bool_cases (is_live ((after t e).consumer c))) [
+          | inr off ↦ off
+          | inl on ↦ elim (was_live limits t e law is c on) [
+            | inl was ↦ false_true (sym dead ∙ was)
+            | inr starts ↦ absurd (subst (Starts c) at starts)
+          ]
+        ]
+      ]
+
+  -- WHO IS TOLD THE END OR A FAILURE
+
+  quiet_behind : (c : ℕ) (ys : List ℕ) (flaw : Flaw) → leaves_in c (map act.Close ys ++ loss_acts flaw) ≡ false
+  quiet_behind c ys flaw = (far_closing c ys (loss_acts flaw) (far_lost_only c flaw)).leaves
+
+  module _ (on : is_denied e.acts ≡ false) (c want : ℕ) (k : Consumer) (row : t.consumer c ≡ Some k) (at : e.event ≡ event.Poll c want) (leaves : leaves_in c e.acts ≡ true) where
+    abbrev saw : Entry
+    saw = record { now = e.now; event = event.Poll c want; acts = answer_acts t e.now (event.Poll c want) (flaw_in e.acts) ++ loss_acts (flaw_in e.acts) }
+
+    poll_acts_are : e.acts ≡ answer_acts t e.now (event.Poll c want) (flaw_in e.acts) ++ (map act.Close (closing t saw) ++ loss_acts (flaw_in e.acts))
+    poll_acts_are = acts_are limits t e is on ∙ ap (λ z. accepted_acts limits t e.now z (flaw_in e.acts)) at
+
+    abbrev rest : List Act
+    rest = map act.Close (closing t saw) ++ loss_acts (flaw_in e.acts)
+
+    quiet : leaves_in c rest ≡ false
+    quiet = quiet_behind c (closing t saw) (flaw_in e.acts)
+
+    -- with these acts it wouldn't leave
+    not_said : (m : Move) → answer_acts t e.now (event.Poll c want) (flaw_in e.acts) ≡ acts_of c m → leaves_in c (acts_of c m ++ rest) ≡ false → is_live ((after t e).consumer c) ≡ false
+    not_said m says stays =
+        let none : leaves_in c e.acts ≡ false = ap (leaves_in c) (poll_acts_are ∙ ap (λ z. z ++ rest) says) ∙ stays in
+        false_true (sym none ∙ leaves)
+
+    -- what is said makes it leave
+    by_move : (m : Move) → move_of t e.now want c k ≡ m → answer_acts t e.now (event.Poll c want) (flaw_in e.acts) ≡ acts_of c m → is_live ((after t e).consumer c) ≡ false
+    by_move moves.Ends is_move says = leaver_over on c k row (event.Poll c want) at None (acts_of c moves.Ends) (frames.ends want) says
+    by_move (moves.Fails why) is_move says = leaver_over on c k row (event.Poll c want) at None (acts_of c (moves.Fails why)) (frames.fails want why (fails_told t e.now want c k why law.sound law.places row is_move)) says
+    by_move moves.Nothing is_move says = not_said moves.Nothing says quiet
+    by_move (moves.Waits w) is_move says = not_said (moves.Waits w) says quiet
+    by_move (moves.Asks x) is_move says = not_said (moves.Asks x) says quiet
+    by_move (moves.Opens x need request) is_move says = not_said (moves.Opens x need request) says quiet
+    by_move (moves.Shows r why head lo hi) is_move says = not_said (moves.Shows r why head lo hi) says quiet
+    by_move (moves.Gives run) is_move says = not_said (moves.Gives run) says quiet
+
+    moves_on : (z : Flaw) → flaw_in e.acts ≡ z → answer_acts t e.now (event.Poll c want) z ≡ acts_of c (poll_move t e.now want c (t.consumer c)) → is_live ((after t e).consumer c) ≡ false
+    moves_on z is_flaw says =
+        by_move (move_of t e.now want c k) refl
+        (ap (answer_acts t e.now (event.Poll c want)) is_flaw ∙ (says ∙ ap (λ (q : Option Consumer). acts_of c (poll_move t e.now want c q)) row))
+
+    by_flaw : (z : Flaw) → flaw_in e.acts ≡ z → is_live ((after t e).consumer c) ≡ false
+    by_flaw NoFlaw is_flaw = moves_on NoFlaw is_flaw refl
+    by_flaw (Loses r kind) is_flaw = moves_on (Loses r kind) is_flaw refl
+    by_flaw (Misreads r) is_flaw = leaver_over on c k row (event.Poll c want) at (Some r) (act.Failed c (cause.StoreRead r) ∷ []) (frames.misreads want r) (ap (answer_acts t e.now (event.Poll c want)) is_flaw)
+
+  polls_row : (c want : ℕ) (o : Option Consumer) → t.consumer c ≡ o → is_denied e.acts ≡ false → e.event ≡ event.Poll c want → is_live o ≡ true → leaves_in c e.acts ≡ true → is_live ((after t e).consumer c) ≡ false
+  polls_row c want None row on at live leaves = false_true live
+  polls_row c want (Some k) row on at live leaves = by_flaw on c want k row at leaves (flaw_in e.acts) refl
+
+  polls_live : (c want : ℕ) → is_denied e.acts ≡ false → e.event ≡ event.Poll c want → is_live (t.consumer c) ≡ true
+  unfolding refusals.refusal_of
+  polls_live c want on at = poll_live limits t e.now (flaw_in e.acts) law.sound c want (sym (ap (denial t) at) ∙ goes limits t e is on)
+
+  -- the acts with which somebody leaves are those of its poll
+  pub record IsPolled (c : ℕ) : Type 0 where
+    pub want : ℕ
+    pub at : e.event ≡ event.Poll c want
+    pub on : is_denied e.acts ≡ false
+
+  far_off : (c : ℕ) → is_denied e.acts ≡ false → leaves_in c e.acts ≡ true → ((want : ℕ) → e.event ≡ event.Poll c want → ⊥) → ⊥
+  far_off c on leaves other = let never : false ≡ true = sym (far_from limits t e (record { owed = is; not_denied = on }) c other).leaves ∙ leaves in cc
+
+  poll_of : (c : ℕ) (ev : Event) → e.event ≡ ev → is_denied e.acts ≡ false → leaves_in c e.acts ≡ true → IsPolled c
+  poll_of c (event.Poll d want) at on leaves = by_test (nat_eq d c) refl
+    where
+      by_test : (b : Bool) → nat_eq d c ≡ b → IsPolled c
+      by_test true its =
+          let same_one : d ≡ c = grind (arith, nat_tests) in
+          record { want = want; at = at ∙ ap (λ n. event.Poll n want) same_one; on = on }
+      by_test false off = absurd (far_off c on leaves (λ n poll. other n (sym at ∙ poll)))
+        where
+          other : (n : ℕ) → event.Poll d want ≡ event.Poll c n → ⊥
+          other n eq =
+              let same_one : d ≡ c = ap (λ (z : Event). who z) eq in
+              let never : true ≡ false = sym (same_number d) ∙ (ap (nat_eq d) same_one ∙ off) in cc
+            where
+              who : Event → ℕ
+              who (event.Poll a b) = a
+              who _ = 0
+  poll_of c (event.Start d request) at on leaves = absurd (far_off c on leaves (λ n poll. let never : event.Start d request ≡ event.Poll c n = sym at ∙ poll in cc))
+  poll_of c (event.Head x response) at on leaves = absurd (far_off c on leaves (λ n poll. let never : event.Head x response ≡ event.Poll c n = sym at ∙ poll in cc))
+  poll_of c (event.Piece x bytes) at on leaves = absurd (far_off c on leaves (λ n poll. let never : event.Piece x bytes ≡ event.Poll c n = sym at ∙ poll in cc))
+  poll_of c (event.End x) at on leaves = absurd (far_off c on leaves (λ n poll. let never : event.End x ≡ event.Poll c n = sym at ∙ poll in cc))
+  poll_of c (event.Fault x) at on leaves = absurd (far_off c on leaves (λ n poll. let never : event.Fault x ≡ event.Poll c n = sym at ∙ poll in cc))
+  poll_of c (event.Cancel d) at on leaves = absurd (far_off c on leaves (λ n poll. let never : event.Cancel d ≡ event.Poll c n = sym at ∙ poll in cc))
+  poll_of c (event.Doom key) at on leaves = absurd (far_off c on leaves (λ n poll. let never : event.Doom key ≡ event.Poll c n = sym at ∙ poll in cc))
+
+  denied_quiet : (c : ℕ) (acts : List Act) → IsDenied acts → leaves_in c acts ≡ false
+  denied_quiet c _ (owed_by.denied refusal) = refl
+
+  pub leaver_polls : (c : ℕ) → leaves_in c e.acts ≡ true → IsPolled c
+  leaver_polls c leaves =
+      elim (bool_cases (is_denied e.acts)) [
+        | inl denied ↦ false_true (sym (denied_quiet c e.acts (is_denial e.acts denied)) ∙ leaves)
+        | inr on ↦ poll_of c e.event refl on leaves
+      ]
+
+  -- who is told the end or a failure is over
+  pub told_over : (c : ℕ) → leaves_in c e.acts ≡ true → is_live ((after t e).consumer c) ≡ false
+  told_over c leaves =
+      let p = leaver_polls c leaves in
+      polls_row c p.want (t.consumer c) refl p.on p.at (polls_live c p.want p.on p.at) leaves
+
+  -- and was live
+  pub told_live : (c : ℕ) → leaves_in c e.acts ≡ true → is_live (t.consumer c) ≡ true
+  told_live c leaves =
+      let p = leaver_polls c leaves in
+      polls_live c p.want p.on p.at

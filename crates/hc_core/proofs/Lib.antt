@@ -15,3 +15,4 @@ pub mod BegunItems
 pub mod BegunCache
 pub mod ContentsTold
 pub mod Likewise
+pub mod LeastLive

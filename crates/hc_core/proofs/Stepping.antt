@@ -297,14 +297,15 @@ module _ {B : Type 0} {g : Ghosts B} (s u : Cache B g) (now : ℕ) (ev : Event) 
         rows = more.rows;
       }
 
-  pub steps_on : ∥ StandsUntil s.rows s.last_moment ∥₁ → Steps s u before out now ev
-  steps_on some = record {
+  pub steps_on : ∥ StandsUntil s.rows s.last_moment ∥₁ → u.steps ≡ s.steps + 1 → Steps s u before out now ev
+  steps_on some one = record {
     acts = acts_in before out;
     told = told_after s.rows u.rows now ev before out denied answered limits never small counts s.last_moment later some;
     answered = record {
       limits = limits;
       stands = stands_on some;
       counted = counted_after s.rows u.rows now ev before out denied answered limits never small counts s.last_moment later some;
+      number = one;
     };
   }
 

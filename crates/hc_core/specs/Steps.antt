@@ -7,7 +7,7 @@ use Rattle.hc_event.specs.declared.act.Act.{Act}
 use Rattle.hc_stored.specs.Entries.{store_of}
 use Rattle.hc_model.specs.Beginnings.{may_begin}
 use Rattle.hc_model.specs.Contents.{contents_of}
-use Rattle.hc_model.specs.Denials.{live}
+use Rattle.hc_model.specs.Denials.{live, is_live}
 use Rattle.hc_model.specs.Entries.{History, Contents}
 use Rattle.hc_rules.specs.declared.room.Limits.{Limits}
 use Rattle.hc_model.specs.Flaws.{failures_in}
@@ -15,6 +15,7 @@ use Rattle.hc_model.specs.Chains.{ChainsEnd}
 use Rattle.hc_model.specs.Laws.{DeliversOnce, HasOneTurn, IsBehindDooms, IsBoundBehindDooms, IsTruthful, StoresGrow}
 use Rattle.hc_model.specs.Numbers.{AreShort}
 use Rattle.hc_model.specs.Reads.{GivesStored}
+use Rattle.hc_model.specs.Rows.{Tables}
 use Rattle.hc_model.specs.Runs.{IsRun}
 use Rattle.hc_model.specs.Tables.{tables}
 use Rattle.hc_state.specs.Stands.{RowsStand}
@@ -65,13 +66,14 @@ ServesAll s contents =
     IsRun s.rows.limits before h → live (tables before h) ≡ 0 →
     contents_of (tables before h) ≡ contents → StandsFor s before h
 
--- The acts are those of one entry more, and the cache stands for that. They tell no failure of the
--- store but one that it counted.
+-- The acts are those of one entry more, and the cache stands for that, by one step. They tell no failure
+-- of the store but one that it counted.
 pub record Answers {B : Type 0} {g : Ghosts B} (s u : Cache B g) (now : ℕ) (event : Event) (acts : List Act) : Type 0 where
   pub limits : limits_in u ≡ limits_in s
   pub stands : (contents : Contents) (h : History) → StandsFor s contents h →
       StandsFor u contents (record { now = now; event = event; acts = acts } ∷ h)
   pub counted : faults_in s + failures_in acts ≤ faults_in u
+  pub number : steps u ≡ steps s + 1
 
 -- The event was answered by the acts that were appended.
 pub record Steps {B : Type 0} {g : Ghosts B} (s u : Cache B g) (before out : List Act) (now : ℕ) (event : Event) : Type 0 where
@@ -97,3 +99,10 @@ pub record Keeps (contents : Contents) (h : History) : Type 0 where
 
 abbrev pub KeepsPromises : {B : Type 0} {g : Ghosts B} → Cache B g → Type 0
 KeepsPromises s = (contents : Contents) (h : History) → StandsFor s contents h → Keeps contents h
+
+-- WHO IS LIVE
+
+-- c is live, and nobody with a lower number
+pub record IsLeastLive (t : Tables) (c : ℕ) : Type 0 where
+  pub live : is_live (t.consumer c) ≡ true
+  pub least : (d : ℕ) → is_live (t.consumer d) ≡ true → c ≤ d

@@ -1,5 +1,5 @@
 //! What the cache says of itself.
-ghost use Rattle.std.specs.Prelude.{◌≡◌, ℕ, true};
+ghost use Rattle.std.specs.Prelude.{◌≡◌, ℕ, true, IfSome, IfNone};
 ghost use Rattle.hc_model.specs.Entries.{Contents, History};
 ghost use Rattle.hc_model.specs.Exchanges.{is_open, is_wanted};
 ghost use Rattle.hc_sorted.specs.Sorted.{is_sorted};
@@ -8,7 +8,7 @@ ghost use Rattle.hc_model.specs.Denials.{live};
 ghost use Rattle.hc_model.specs.Kinds.{kind_for};
 ghost use Rattle.hc_model.specs.Lines.{turn};
 ghost use Rattle.hc_model.specs.Tables.{tables};
-ghost use Rattle.hc_core.specs.Steps.{StandsFor, last_moment, steps, bytes_received, live_in, store_in};
+ghost use Rattle.hc_core.specs.Steps.{StandsFor, last_moment, steps, bytes_received, live_in, store_in, IsLeastLive};
 
 use crate::cache::Cache;
 use hc_record::Kind;
@@ -44,6 +44,22 @@ impl<B: Backend> Cache<B> {
             → result ≡ live (tables contents h) }
     {
         self.rows.consumers.len()
+    }
+
+    /// The lowest number of who is live. All of them are looked at.
+    pub fn least_live(&self) -> Option<u64>
+        ensures none { IfNone result (live_in self.now ≡ 0) }
+        ensures least { IfSome result (λ c. (contents : Contents) (h : History)
+            → StandsFor self.now contents h → IsLeastLive (tables contents h) c) }
+    {
+        let mut least = None;
+        for c in self.rows.consumers.keys() {
+            least = Some(match least {
+                Some(other) if other < *c => other,
+                _ => *c,
+            });
+        }
+        least
     }
 
     /// The exchange is open.

@@ -34,7 +34,7 @@ pub returns-clause-answered : goal.returns-clause-answered
 returns-clause-answered g c =
     let good = c.args.self.now.good c.if-self.false in
     let done = c.in_ok-answer.ensures in
-    steps_on c.args.self.now _ c.args.now c.args.event.now (act_list c.args.out.now) (act_list c.answer.new.out) done.denied done.accepted c.requires.later refl done.limits done.faults (small_part _ c.requires.small) done.received (∥∥₁_map good.0 (until_at c.args.self.now.rows c.args.self.now.last_moment))
+    steps_on c.args.self.now _ c.args.now c.args.event.now (act_list c.args.out.now) (act_list c.answer.new.out) done.denied done.accepted c.requires.later refl done.limits done.faults (small_part _ c.requires.small) done.received (∥∥₁_map good.0 (until_at c.args.self.now.rows c.args.self.now.last_moment)) refl
 
 pub returns-clause-denied : goal.returns-clause-denied
 returns-clause-denied g c = λ some.

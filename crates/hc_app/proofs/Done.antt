@@ -6,6 +6,7 @@
 -- below told it.
 use Rattle.std.proofs.Common.{◌≡◌, ◌≢◌, ℕ, List, [], ◌∷◌, Option, Err, refl, sym, subst, arith}
 use Rattle.std.specs.Result.{IsErrOf}
+use Rattle.std.proofs.lemmas.List.{append-nil}
 use Rattle.hc_io.specs.Faults.{HasRisen}
 use Rattle.hc_io.specs.declared.sink.SinkError.{SinkError}
 use Rattle.hc_io.specs.declared.sink.SinkError.TheVariants as sink
@@ -24,9 +25,9 @@ use Rattle.hc_driver.proofs.Reported.{all_reported}
 use Rattle.hc_model.specs.Entries.{no_contents}
 use Rattle.hc_model.specs.Runs.{IsRun}
 use Rattle.hc_core.specs.declared.cache.Cache.{Cache}
-use Rattle.hc_core.specs.Steps.{limits_in, faults_in}
+use Rattle.hc_core.specs.Steps.{StandsFor, limits_in, faults_in}
 use Rattle.hc_replay.specs.Replays as replays
-use Rattle.hc_replay.specs.Replays.{IsReplayed}
+use Rattle.hc_replay.specs.Replays.{IsReplayed, IsWholeRun}
 use Rattle.hc_replay.specs.Histories.{run_of}
 use Rattle.hc_replay.specs.Generates as generates
 use Rattle.hc_app.specs.declared.status.Status.{Status}
@@ -53,14 +54,15 @@ never_wire Went left left' e ends = λ is. no_wire Went left left' (subst (λ (x
 -- REPLAYING
 
 -- a cache in memory, whose store counts no failure
-module _ {B : Type 0} {g : Rattle.hc_store.specs.declared.backend.Backend.Ghosts B} (s : Cache B g) (limits : limits_in s ≡ store_limits) (calm : (u : Cache B g) → faults_in u ≡ 0) where
+module _ {B : Type 0} {g : Rattle.hc_store.specs.declared.backend.Backend.Ghosts B} (s : Cache B g) (new : StandsFor s no_contents []) (limits : limits_in s ≡ store_limits) (calm : (u : Cache B g) → faults_in u ≡ 0) where
   whole : (u : Cache B g) (events : List Timed) (h : History) → IsReplayed s u events h → IsWhole h
   whole u events h is =
       let none = calm u in
       let counted = is.counted in
+      let all = subst (IsWholeRun (limits_in s) no_contents) (append-nil (run_of h)) (is.goes_on no_contents [] new).whole in
       record {
-        run = subst (λ (l : Limits). IsRun l no_contents (run_of h)) limits is.run.run;
-        reads = is.run.reads;
+        run = subst (λ (l : Limits). IsRun l no_contents (run_of h)) limits all.run;
+        reads = all.reads;
         sound = omega arith;
       }
 

@@ -144,7 +144,7 @@ fn replay_input<S: Source, K: Sink, D: Sink>(
     let Ok(mut cache) = Cache::new(store, PROGRAM_LIMITS, alloc) else {
         return Status::NoMemory;
     };
-    let end = replay(alloc, &mut cache, input, out);
+    let end = replay(alloc, 0, &mut cache, input, out);
     conclude(alloc, end, diag)
 }
 

@@ -5,7 +5,7 @@
 -- What came of the piece is a case of `Passes`. The loop goes on with the longer text (`on_more`), or ends as
 -- the piece did (`ends_stopped`): all that was read before the piece went wholly (`at_once`). At the end of the
 -- source the feed answers the refusal of the text (`ends_done`, `ends_cut_short`).
-use Rattle.std.proofs.Common.{◌≡◌, ◌⊎◌, ℕ, ◌+◌, ◌≤◌, List, [], ◌∷◌, ◌++◌, length, Option, Some, None, Result, Ok, Err, Bool, false, refl, sym, ap, subst, ◌∙◌, inl, inr, arith, append_assoc, length-append}
+use Rattle.std.proofs.Common.{◌≡◌, ◌⊎◌, ℕ, ◌+◌, ◌≤◌, ◌^◌, List, [], ◌∷◌, ◌++◌, length, Option, Some, None, Result, Ok, Err, Bool, true, false, refl, sym, ap, subst, ◌∙◌, inl, inr, arith, append_assoc, length-append}
 use Rattle.std.proofs.lemmas.List.{append-nil}
 use Rattle.std.proofs.lemmas.Bool.{cases_Bool}
 use Rattle.hc_event.specs.declared.event.Event.{Event}
@@ -28,13 +28,14 @@ use Rattle.hc_sched.proofs.OneReading.{brings_timed, is_read, is_spelled}
 use Rattle.hc_driver.specs.declared.stop.Stop.{Stop}
 use Rattle.hc_driver.specs.declared.stop.Stop.TheVariants as stop
 use Rattle.hc_driver.specs.Counting.{size_of, last_moment}
+use Rattle.hc_driver.specs.Courses as courses
 use Rattle.hc_driver.specs.Courses.{Goes}
 use Rattle.hc_driver.specs.Endings as endings
 use Rattle.hc_driver.specs.Endings.{How, Wholly, UpToEnd, UpToLast, UpToWant, SoFar, ToEnd, IsReading, events_from, IsUnrefused, IsRefused, IsRefusedAtOnce, IsSteppedAtOnce, Ends}
 use Rattle.hc_driver.specs.Pieces as pieces
 use Rattle.hc_driver.specs.Pieces.{Wants, Comes, Passes}
 use Rattle.hc_driver.specs.Stops.{of_feed, ended_by, ended_as}
-use Rattle.hc_driver.proofs.Sizes.{size_of-append, brought_small}
+use Rattle.hc_driver.proofs.Sizes.{size_of-append, brought_small, brought_few}
 use Rattle.hc_driver.proofs.Timings.{timed_from, timed_back, last-append, last_later}
 use Rattle.hc_driver.proofs.Going.{goes_none, goes_more, wholly_last}
 
@@ -66,6 +67,10 @@ abbrev IsAs : Progress → Result (Unit {0}) FeedError → Type 0
 IsAs feed (Ok done) = refusal_at feed ≡ None
 IsAs feed (Err (error.Refused r)) = refusal_at feed ≡ Some r
 IsAs feed (Err error.NoMemory) = ⊥
+
+abbrev stop_of : Result (Unit {0}) Stop → Stop
+stop_of (Ok x) = stop.Over
+stop_of (Err z) = z
 
 -- what is fed are the first events of the piece
 pub fed_front : (s : Progress) (piece : List ℕ) (result : Result (Unit {0}) FeedError) (t : Progress) (new : List Timed)
@@ -209,6 +214,15 @@ module _ {A : Type 0} (tells : A → ℕ → ℕ → Event → List ℕ → A �
         is_open = is_open;
       }
 
+  -- how many were answered, and how many bytes their pieces had
+  pub few_on : (s u : A) (moment given : ℕ) (now : Extent) (feed : Progress) (left left' out out' : Option (List ℕ)) → now.given ≤ 2 ^ 60
+      → IsOn tells over spent s u moment given now feed left left' out out' → (now.steps ≤ 2 ^ 59) × (now.received ≤ 2 ^ 60)
+  few_on s u moment given now feed left left' out out' all on =
+      let few = brought_few moment on.text in
+      let small = brought_small moment on.text in
+      let count = on.count in let numbered = on.numbered in let number = on.number_is in let size = on.size in
+      (omega arith, omega arith)
+
   -- HOW IT ENDS
 
   gives_all : (left new : Option (List ℕ)) (text : List ℕ) → Gives left new text → IsAtEnd new → GivesAll left new text
@@ -338,3 +352,19 @@ module _ {A : Type 0} (tells : A → ℕ → ℕ → Event → List ℕ → A �
   ends_as s t u moment given now feed feed' piece left mid new a b c st result (Err e) on gives short goes was stops =
       subst (λ (l : Stop). Ends (Goes tells over spent 0 s u a c) moment left new (ended_by l)) (sym stops)
       (ends_stopped s t u moment given now feed feed' piece left mid new a b c on gives short st (subst (λ (l : Result (Unit {0}) Stop). Passes (Goes tells over spent now.number t u b c) feed piece feed' l) was goes))
+
+  -- where nothing more is answered, the course is over
+  ended_over : (s u : A) (n : ℕ) (before now : Progress) (piece : List ℕ) (a b : Option (List ℕ)) → Passes (Goes tells over spent n s u a b) before piece now (Err stop.Over) → over u ≡ true
+  ended_over s u n before now piece a b some = by_way some.first some.went
+    where
+      by_way : (events : List Timed) → Goes tells over spent n s u a b UpToEnd events → over u ≡ true
+      by_way events (courses.up_to_end h are leads is_over taken) = is_over
+
+  pub over_as : (s u : A) (n : ℕ) (before now : Progress) (piece : List ℕ) (a b : Option (List ℕ)) (st : Stop) (result stopped : Result (Unit {0}) Stop)
+      → Passes (Goes tells over spent n s u a b) before piece now result → result ≡ Err st → IsErrAnd stopped (λ (e : Stop). e ≡ st) → stopped ≡ Err stop.Over → over u ≡ true
+  over_as s u n before now piece a b st result (Ok x) goes was stops is = absurd stops
+  over_as s u n before now piece a b st result (Err e) goes was stops is =
+      let same : e ≡ stop.Over = ap stop_of is in
+      ended_over s u n before now piece a b
+      (subst (λ (l : Stop). Passes (Goes tells over spent n s u a b) before piece now (Err l)) (sym stops ∙ same)
+      (subst (λ (l : Result (Unit {0}) Stop). Passes (Goes tells over spent n s u a b) before piece now l) was goes))

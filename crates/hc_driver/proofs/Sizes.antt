@@ -1,5 +1,5 @@
 -- What a text brings is no larger than the text.
-use Rattle.std.proofs.Common.{◌≡◌, ℕ, ◌+◌, ◌≤◌, List, [], ◌∷◌, ◌++◌, length, ap, arith, length-append}
+use Rattle.std.proofs.Common.{◌≡◌, ℕ, ◌+◌, ◌*◌, ◌≤◌, List, [], ◌∷◌, ◌++◌, length, ap, arith, length-append}
 use Rattle.std.specs.Prelude.{codes}
 use Rattle.std.specs.Fmt.{decimal}
 use Rattle.hex.specs.Hex.{lower_digits}
@@ -56,4 +56,39 @@ brought_small now text =
     let small = items_long now read.items in
     let same : length (text_of read.items ++ read.rest) ≡ length text = ap length read.whole in
     let size : size_of (events_from now text) ≡ size_of (events_of now read.items) = ap size_of read.events_are in
+    omega arith
+
+-- HOW MANY EVENTS
+
+line_filled : (e : Event) → 1 ≤ length (event_line e)
+line_filled (event.Start c request) = omega arith
+line_filled (event.Poll c want) = omega arith
+line_filled (event.Head x response) = omega arith
+line_filled (event.Piece x bytes) = omega arith
+line_filled (event.End x) = omega arith
+line_filled (event.Fault x) = omega arith
+line_filled (event.Cancel c) = omega arith
+line_filled (event.Doom key) = omega arith
+
+-- each has a byte of its line, and the end of that
+items_double : (now : ℕ) (items : List Item) → 2 * length (events_of now items) ≤ length (text_of items)
+items_double now [] = omega arith
+items_double now (Moment later ∷ items) =
+    let rest = items_double later items in
+    let whole = length-append (item_text (Moment later)) (text_of items) in
+    omega arith
+items_double now (Happens e ∷ items) =
+    let rest = items_double now items in
+    let whole = length-append (item_text (Happens e)) (text_of items) in
+    let line = length-append (event_line e) (10 ∷ fields_text (fields_in e)) in
+    let filled = line_filled e in
+    omega arith
+
+pub brought_few : (now : ℕ) (text : List ℕ) → 2 * length (events_from now text) ≤ length text
+brought_few now text =
+    let read = brings_items now text in
+    let whole = length-append (text_of read.items) read.rest in
+    let few = items_double now read.items in
+    let same : length (text_of read.items ++ read.rest) ≡ length text = ap length read.whole in
+    let count : length (events_from now text) ≡ length (events_of now read.items) = ap length read.events_are in
     omega arith

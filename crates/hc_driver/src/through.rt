@@ -1,5 +1,5 @@
 //! A whole schedule.
-ghost use Rattle.std.specs.Prelude.{◌≡◌, ◌≢◌, ◌+◌, ◌<◌, ◌≤◌, ◌^◌, false, IsErrOf};
+ghost use Rattle.std.specs.Prelude.{◌≡◌, ◌≢◌, ◌+◌, ◌<◌, ◌≤◌, ◌^◌, true, false, OnOk, IsErrOf};
 ghost use Rattle.hc_io.specs.Faults.{HasRisen};
 ghost use Rattle.hc_driver.specs.Courses.{Goes};
 ghost use Rattle.hc_driver.specs.Endings.{Ends};
@@ -44,6 +44,10 @@ pub fn step_through<T: Stepper, S: Source, K: Sink>(
     ensures sink { result ≡ ended.SinkFailed
         → HasRisen (K.faults sink.old) (K.faults sink.new) }
     ensures sink_calm { result ≢ ended.SinkFailed → K.faults sink.new ≡ K.faults sink.old }
+
+    // Where all was read, of no more than 2^60 bytes.
+    ensures few { result ≡ ended.Done → T.steps on.new ≤ 2 ^ 59 }
+    ensures little { result ≡ ended.Done → T.received on.new ≤ 2 ^ 60 }
 {
     go_through(alloc, moment, on, source, sink)
 }
@@ -79,6 +83,10 @@ pub fn go_through<C: Course, S: Source, K: Sink>(
     ensures sink { result ≡ ended.SinkFailed
         → HasRisen (K.faults sink.old) (K.faults sink.new) }
     ensures sink_calm { result ≢ ended.SinkFailed → K.faults sink.new ≡ K.faults sink.old }
+
+    // Where all was read, of no more than 2^60 bytes.
+    ensures few { result ≡ ended.Done → C.over on.new ≡ false → C.steps on.new ≤ 2 ^ 59 }
+    ensures little { result ≡ ended.Done → C.over on.new ≡ false → C.received on.new ≤ 2 ^ 60 }
 {
     match run(alloc, moment, on, source, sink) {
         Ok(()) => Ended::Done,
@@ -109,6 +117,9 @@ fn run<C: Course, S: Source, K: Sink>(
         → HasRisen (K.faults sink.old) (K.faults sink.new) }
     ensures sink_calm { ended_as result ≢ ended.SinkFailed
         → K.faults sink.new ≡ K.faults sink.old }
+    ensures over { IsErrOf result Stop.Over → C.over on.new ≡ true }
+    ensures few { OnOk result (C.steps on.new ≤ 2 ^ 59) }
+    ensures little { OnOk result (C.received on.new ≤ 2 ^ 60) }
 {
     let mut feed = Feed::after(alloc, moment);
     let mut answering = Answering::new(alloc);

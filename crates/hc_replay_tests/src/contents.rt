@@ -84,7 +84,7 @@ fn left_after(
     let mut cache = Cache::new(store, AMPLE, alloc)?;
     let mut source = MemorySource::new(schedule, 10, Vec::new(alloc));
     let mut sink = MemorySink::new(alloc, Vec::new(alloc));
-    let ended = replay(alloc, &mut cache, &mut source, &mut sink);
+    let ended = replay(alloc, 0, &mut cache, &mut source, &mut sink);
     if ended != Ended::Done || cache.live() > 0 {
         return Ok(None);
     }

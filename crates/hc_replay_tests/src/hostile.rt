@@ -73,7 +73,7 @@ fn replay_through(
     let mut cache = Cache::new(Memory::new(alloc, AMPLE), AMPLE, alloc)?;
     let mut source = MemorySource::new(schedule, 1, reads);
     let mut sink = MemorySink::new(alloc, writes);
-    let ended = replay(alloc, &mut cache, &mut source, &mut sink);
+    let ended = replay(alloc, 0, &mut cache, &mut source, &mut sink);
     Ok((ended, Vec::from_slice(alloc, sink.taken())?))
 }
 

@@ -54,7 +54,7 @@ pub(crate) fn replay_over(
     let mut cache = Cache::new(store, limits, alloc)?;
     let mut source = MemorySource::new(schedule, 10, Vec::new(alloc));
     let mut sink = MemorySink::new(alloc, Vec::new(alloc));
-    let ended = replay(alloc, &mut cache, &mut source, &mut sink);
+    let ended = replay(alloc, 0, &mut cache, &mut source, &mut sink);
     let key = Key {
         bytes: Vec::from_slice(alloc, b"http://a.test/x")?,
     };

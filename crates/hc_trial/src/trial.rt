@@ -64,7 +64,7 @@ impl Trial {
         let store = Failing::new(Memory::new(alloc, self.limits), self.fails);
         let mut cache = Cache::new(store, self.limits, alloc)?;
         let mut source = MemorySource::new(self.schedule, PART, Vec::new(alloc));
-        let ended = replay(alloc, &mut cache, &mut source, out);
+        let ended = replay(alloc, 0, &mut cache, &mut source, out);
         let key = Key {
             bytes: b"http://a.test/x".to_vec(alloc)?,
         };

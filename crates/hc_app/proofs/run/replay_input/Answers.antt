@@ -1,4 +1,5 @@
 use Rattle.std.proofs.Common.{refl}
+use Rattle.hc_replay.proofs.Reported.{new_moment}
 use Rattle.hc_app.specs.Owing.{wanting_all}
 use Rattle.hc_app.proofs.Done.{does_replay, never_wire}
 use Rattle.hc_app.proofs.Concluded.{source_failed, source_calm, either_failed, sinks_calm}
@@ -7,11 +8,14 @@ use Rattle.hc_app.proofs.run.replay_input.Goals as goal
 pub returns-in_default-clause-does : goal.returns-in_default-clause-does
 returns-in_default-clause-does g c = wanting_all refl
 
+pub replay-end-requires-clause-later : goal.replay-end-requires-clause-later
+replay-end-requires-clause-later g c = new_moment c.in-Ok.cache c.in-Ok.ensures.stands
+
 pub conclude-requires : goal.conclude-requires
 conclude-requires g c = record { wireless = never_wire _ _ _ _ c.replay-end.ensures.ends }
 
 pub returns-clause-does : goal.returns-clause-does
-returns-clause-does g c = does_replay c.in-Ok.cache c.in-Ok.ensures.limits (λ u. refl) _ _ _ _ _ _ _ _ _ _ _ _ _ c.replay-end.ensures.ends c.conclude.ensures c.replay-end.ensures.sink c.replay-end.ensures.sink_calm
+returns-clause-does g c = does_replay c.in-Ok.cache c.in-Ok.ensures.stands c.in-Ok.ensures.limits (λ u. refl) _ _ _ _ _ _ _ _ _ _ _ _ _ c.replay-end.ensures.ends c.conclude.ensures c.replay-end.ensures.sink c.replay-end.ensures.sink_calm
 
 pub returns-clause-source_failed : goal.returns-clause-source_failed
 returns-clause-source_failed g c = λ is. c.replay-end.ensures.source (source_failed _ _ _ _ _ _ c.conclude.ensures is)

@@ -1,6 +1,6 @@
 use Rattle.std.proofs.Common.{◌≡◌, take, Ok, refl, ◌∙◌, ap, arith}
 use Rattle.std.proofs.lemmas.List.{length-take}
-use Rattle.hc_driver.proofs.Runs.{on_start, next_timed, next_small, on_more, ends_source, ends_as, ends_cut_short, ends_done}
+use Rattle.hc_driver.proofs.Runs.{on_start, next_timed, next_small, on_more, ends_source, ends_as, few_on, over_as, ends_cut_short, ends_done}
 use Rattle.hc_driver.proofs.through.run.Goals as goal
 
 pub loop-events-init : goal.loop-events-init
@@ -57,3 +57,21 @@ returns-clause-ends g c =
     let zero : c.in_ok-n.n ≡ 0 = c.if-n-eq0.true in
     ends_done g.C.Course.tells g.C.Course.over g.C.Course.spent _ c.loop-events.on _ _ _ c.loop-events.feed _ _ _ _ _ c.finish.result
     c.loop-events.invariant.0 (rw zero at c.in_ok-n.ensures.bytes) (c.read.ensures.end (c.in_ok-n.was ∙ ap Ok zero) (omega arith)) c.finish.ensures.value c.in_ok-finish.was
+
+pub returns-in_err-go_piece-clause-over : goal.returns-in_err-go_piece-clause-over
+returns-in_err-go_piece-clause-over g c =
+    over_as g.C.Course.tells g.C.Course.over g.C.Course.spent c.loop-events.on c.go_piece.new.on c.loop-events.answering.number c.loop-events.feed c.go_piece.new.feed (take c.in_ok-n.n c.read.new.into)
+    (g.K.Sink.taken c.loop-events.sink) (g.K.Sink.taken c.go_piece.new.sink) c.in_err-go_piece.field-0.0 c.go_piece.result c.from_residual-in_err-go_piece.result
+    c.go_piece.ensures.goes c.in_err-go_piece.was c.from_residual-in_err-go_piece.ensures.1
+
+pub returns-clause-few : goal.returns-clause-few
+returns-clause-few g c =
+    let most = c.read.ensures.in_all in
+    let read = c.in_ok-n.ensures.count in
+    (few_on g.C.Course.tells g.C.Course.over g.C.Course.spent _ _ _ _ _ _ _ _ _ _ (omega arith) c.loop-events.invariant.0).0
+
+pub returns-clause-little : goal.returns-clause-little
+returns-clause-little g c =
+    let most = c.read.ensures.in_all in
+    let read = c.in_ok-n.ensures.count in
+    (few_on g.C.Course.tells g.C.Course.over g.C.Course.spent _ _ _ _ _ _ _ _ _ _ (omega arith) c.loop-events.invariant.0).1

@@ -1,0 +1,5 @@
+use Rattle.hc_replay.proofs.Reported.{new_moment}
+use Rattle.hc_trial.proofs.trial.Trial.replay.Goals as goal
+
+pub replay-ended-requires-clause-later : goal.replay-ended-requires-clause-later
+replay-ended-requires-clause-later g c = new_moment c.in_ok-cache.cache c.in_ok-cache.ensures.stands

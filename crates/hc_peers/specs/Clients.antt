@@ -39,6 +39,9 @@ ready_of s = set.keys s.ready
 abbrev pub touched_of : Clients → List ℕ
 touched_of s = set.keys s.touched
 
+abbrev pub is_touched : Clients → ℕ → Bool
+is_touched s k = set.contains nat_cmp s.touched k
+
 -- WHAT CHANGES
 
 -- one of them is this now, or there is none

@@ -6,7 +6,7 @@ use Rattle.hc_msg.specs.declared.message.WirePart.{WirePart}
 use Rattle.hc_msg.specs.declared.message.WirePart.TheVariants as part
 use Rattle.hc_msg.specs.Inputs.{Next, Waits, Tells, Brings, Ends, Fails, next_in}
 use Rattle.hc_msg.specs.Reading.{Reading, Responses, Done, Failed, Answers, heading}
-use Rattle.hc_msg.specs.Taking.{is_whole}
+use Rattle.hc_msg.specs.Taking.{is_whole, reading_at_end}
 use Rattle.hc_peers.specs.declared.upstream.Upstream.{Upstream}
 
 -- one of which nothing came, and which is owed these bytes
@@ -25,6 +25,10 @@ received bytes upstream = record upstream { input = upstream.input ++ bytes }
 
 abbrev pub at_its_end : Upstream → Upstream
 at_its_end upstream = record upstream { ended = true }
+
+-- what came of it is read to the end of the connection
+abbrev pub finished : Upstream → Upstream
+finished upstream = record upstream { reader = reading_at_end upstream.reader }
 
 -- bytes came of it, or its end, or its message is whole: a part may stand there
 abbrev pub has_news : Upstream → Bool

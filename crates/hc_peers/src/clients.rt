@@ -1,13 +1,13 @@
 //! The table of clients.
 ghost use Rattle.std.specs.BTreeMap as tree;
 ghost use Rattle.std.specs.BTreeSet as set;
-ghost use Rattle.std.specs.Prelude.{◌≡◌, ◌≢◌, ◌≤◌, ◌==◌, ◌&&◌, if◌then◌else◌, true, is_none, ◌↔◌, ◌++◌, ℕ, List, length, filter, Contains, IsSome, OnOk, OnErr, IfOk};
+ghost use Rattle.std.specs.Prelude.{◌≡◌, ◌≢◌, ◌≤◌, ◌==◌, ◌&&◌, if◌then◌else◌, true, false, is_none, ◌↔◌, ◌++◌, ℕ, List, length, filter, Contains, IsSome, OnOk, OnErr, IfOk};
 ghost use Rattle.std.specs.List.Sorted.{IsStrictlySortedBy};
 ghost use Rattle.std.specs.Ordering.{nat_cmp};
 ghost use Rattle.std.specs.Option.{option_map};
 ghost use Rattle.hc_wire.specs.Wires.{HasWireCause};
 ghost use Rattle.hc_peers.specs.Offers.{OffersSome};
-ghost use Rattle.hc_peers.specs.Agreement.{IsLiveTable, IsReadySet, IsTouchedSet};
+ghost use Rattle.hc_peers.specs.Agreement.{IsLiveTable, IsReadySet, IsTouchedSet, settled_at};
 ghost use Rattle.hc_peers.specs.Peers.{new_client, is_ready, read_to};
 
 use crate::client::{Client, addressee};
@@ -49,7 +49,7 @@ pub enum Heard {
 }
 
 impl Clients {
-    ghost use Rattle.hc_peers.specs.Clients.{client_of, count_of, consumers_of, ready_of, touched_of, connections_of, Becomes, Stays, received, HearsNext, answered_in, has_all, takes_more};
+    ghost use Rattle.hc_peers.specs.Clients.{client_of, count_of, consumers_of, ready_of, touched_of, is_touched, connections_of, Becomes, Stays, received, HearsNext, answered_in, has_all, takes_more};
     ghost use Rattle.hc_peers.specs.Offering.{IsOffered, unsent_at};
 
     /// No client.
@@ -66,13 +66,16 @@ impl Clients {
         }
     }
 
-    /// How many there are. No more are live, and the next request of no more is to be read.
+    /// How many there are. No more are live, and the next request of no more is to be read. Both lists
+    /// ascend.
     pub fn len(&self) -> usize
         ensures count { result ≡ count_of self.now }
         ensures all { (ks : List ℕ) → IsStrictlySortedBy nat_cmp ks
             → ((k : ℕ) → Contains ks k ↔ IsSome (client_of self.now k)) → result ≡ length ks }
         ensures live { length (consumers_of self.now) ≤ result }
         ensures ready { length (ready_of self.now) ≤ result }
+        ensures live_order { IsStrictlySortedBy nat_cmp (consumers_of self.now) }
+        ensures ready_order { IsStrictlySortedBy nat_cmp (ready_of self.now) }
     {
         let _live = self.live.len();
         let _ready = self.ready.len();
@@ -193,7 +196,10 @@ impl Clients {
 
     /// Appends those that are to be looked at, in ascending order. All others are settled.
     pub fn list_touched(&self, to: &mut Vec<u64>) -> Result<(), NoMemory>
-        ensures { OnOk result (to.new.items ≡ to.old.items ++ touched_of self.now) }
+        ensures listed { OnOk result (to.new.items ≡ to.old.items ++ touched_of self.now) }
+        ensures ordered { IsStrictlySortedBy nat_cmp (touched_of self.now) }
+        ensures settled { (k : ℕ) → is_touched self.now k ≡ false
+            → settled_at (client_of self.now k) ≡ true }
     {
         for k in self.touched.iter() {
             to.push(*k)?;

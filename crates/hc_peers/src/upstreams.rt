@@ -1,12 +1,14 @@
 //! The table of connections to the origin.
 ghost use Rattle.std.specs.Prelude.{◌≡◌, ◌≤◌, ◌&&◌, ◌++◌, ℕ, length, true, false, Contains, OnOk, OnErr, IfOk, IfSome, IfNone};
+ghost use Rattle.std.specs.List.Sorted.{IsStrictlySortedBy};
 ghost use Rattle.std.specs.Option.{option_map, is_some};
+ghost use Rattle.std.specs.Ordering.{nat_cmp};
 ghost use Rattle.std.specs.Result.{is_ok};
 ghost use Rattle.hc_msg.specs.Taking.{ending};
 ghost use Rattle.hc_wire.specs.Wires.{HasWireCause};
 ghost use Rattle.hc_peers.specs.Agreement.{IsDialledTable, AreThere, is_at};
 ghost use Rattle.hc_peers.specs.Offers.{OffersSome};
-ghost use Rattle.hc_peers.specs.Origins.{new_upstream, received, at_its_end};
+ghost use Rattle.hc_peers.specs.Origins.{new_upstream, received, at_its_end, finished};
 
 use crate::tell::tell_reading;
 use crate::upstream::Upstream;
@@ -149,6 +151,7 @@ impl Upstreams {
     pub fn list_news(&self, to: &mut Vec<u64>) -> Result<(), NoMemory>
         ensures listed { OnOk result (to.new.items ≡ to.old.items ++ news_of self.now) }
         ensures few { length (news_of self.now) ≤ count_of self.now }
+        ensures ordered { IsStrictlySortedBy nat_cmp (news_of self.now) }
     {
         for x in self.news.iter() {
             to.push(*x)?;
@@ -158,7 +161,8 @@ impl Upstreams {
 
     /// Appends those that are to be looked at, in ascending order.
     pub fn list_touched(&self, to: &mut Vec<u64>) -> Result<(), NoMemory>
-        ensures { OnOk result (to.new.items ≡ to.old.items ++ touched_of self.now) }
+        ensures listed { OnOk result (to.new.items ≡ to.old.items ++ touched_of self.now) }
+        ensures ordered { IsStrictlySortedBy nat_cmp (touched_of self.now) }
     {
         for x in self.touched.iter() {
             to.push(*x)?;
@@ -226,6 +230,8 @@ impl Upstreams {
     pub fn finish(&mut self, x: u64) -> bool
         ensures some { (upstream : Upstream) → upstream_of self.old x ≡ Some upstream
             → result ≡ is_ok (ending upstream.reader) }
+        ensures row { (upstream : Upstream) → upstream_of self.old x ≡ Some upstream
+            → Becomes x (Some (finished upstream)) self.old self.new }
         ensures others { OthersStay x self.old self.new }
         ensures lists { ListsStay self.old self.new }
     {

@@ -18,3 +18,9 @@ returns-clause-ready c =
     let few = ready-fits s.ready s.rows c.len-ready.ensures.ordered s.due in
     let is = c.len.ensures.len in
     omega arith
+
+pub returns-clause-live_order : goal.returns-clause-live_order
+returns-clause-live_order c = c.len-live.ensures.ordered
+
+pub returns-clause-ready_order : goal.returns-clause-ready_order
+returns-clause-ready_order c = c.len-ready.ensures.ordered

@@ -6,3 +6,9 @@ returns-in_err-push-clause-few c = set-fits c.args.self.now.news c.args.self.now
 
 pub returns-clause-few : goal.returns-clause-few
 returns-clause-few c = set-fits c.args.self.now.news c.args.self.now.rows c.iter-x-items.ensures.ordered c.args.self.now.there
+
+pub returns-in_err-push-clause-ordered : goal.returns-in_err-push-clause-ordered
+returns-in_err-push-clause-ordered c = c.iter-x-items.ensures.ordered
+
+pub returns-clause-ordered : goal.returns-clause-ordered
+returns-clause-ordered c = c.iter-x-items.ensures.ordered

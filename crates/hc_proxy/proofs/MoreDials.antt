@@ -21,7 +21,7 @@ module _ (limits : Limits) (dialled more : List ℕ) where
   dials_same : (p : Proxy) → p.tables.opened ≤ length dialled → so_far p (dialled ++ more) ≡ so_far p dialled
   dials_same p enough = take-append-le p.tables.opened dialled more enough
 
-  turn_same : (call : Called) (p : Proxy) → p.tables.opened ≤ length dialled → turned limits (dialled ++ more) call p ≡ turned limits dialled call p
+  pub turn_same : (call : Called) (p : Proxy) → p.tables.opened ≤ length dialled → turned limits (dialled ++ more) call p ≡ turned limits dialled call p
   unfolding turned
   turn_same call p enough = ap (λ xs. carried (happened limits xs call (begun call p))) (dials_same p enough)
 
@@ -38,7 +38,7 @@ module _ (limits : Limits) (dialled more : List ℕ) where
 
   -- THE CALLS
 
-  fits_same : (call : Called) (p : Proxy) → p.tables.opened ≤ length dialled → Fits limits dialled p call → Fits limits (dialled ++ more) p call
+  pub fits_same : (call : Called) (p : Proxy) → p.tables.opened ≤ length dialled → Fits limits dialled p call → Fits limits (dialled ++ more) p call
   fits_same call p enough f =
       let same = dials_same p enough in
       record {

@@ -41,7 +41,7 @@ use Rattle.hc_proxy.proofs.Turning.{IsKept, IsCarried, OpenOnly, happened_keeps,
 -- LISTS OF ACTS
 
 module _ (M : ℕ → Type 0) where
-  open_both : (xs ys : List Act) → OpenOnly M xs → OpenOnly M ys → OpenOnly M (xs ++ ys)
+  pub open_both : (xs ys : List Act) → OpenOnly M xs → OpenOnly M ys → OpenOnly M (xs ++ ys)
   open_both [] ys a b = b
   open_both (act.Denied refusal ∷ xs) ys a b = open_both xs ys a b
   open_both (act.Opened x c need request ∷ xs) ys a b = (a.0, open_both xs ys a.1 b)
@@ -55,15 +55,15 @@ module _ (M : ℕ → Type 0) where
   open_both (act.Lost r kind ∷ xs) ys a b = open_both xs ys a b
   open_both (act.Evicted r ∷ xs) ys a b = open_both xs ys a b
 
-  evicts_open : (rs : List ℕ) → OpenOnly M (map act.Evicted rs)
+  pub evicts_open : (rs : List ℕ) → OpenOnly M (map act.Evicted rs)
   evicts_open [] = tt
   evicts_open (r ∷ rs) = evicts_open rs
 
-  closes_open : (xs : List ℕ) → OpenOnly M (map act.Close xs)
+  pub closes_open : (xs : List ℕ) → OpenOnly M (map act.Close xs)
   closes_open [] = tt
   closes_open (x ∷ xs) = closes_open xs
 
-  lost_open : (flaw : Flaw) → OpenOnly M (loss_acts flaw)
+  pub lost_open : (flaw : Flaw) → OpenOnly M (loss_acts flaw)
   lost_open NoFlaw = tt
   lost_open (Loses r kind) = tt
   lost_open (Misreads r) = tt

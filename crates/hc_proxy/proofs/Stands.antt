@@ -30,7 +30,7 @@ use Rattle.hc_proxy.specs.Laws.{LoopsAreRuns}
 use Rattle.hc_proxy.specs.Rows.{Proxy, unused}
 use Rattle.hc_proxy.specs.Steps.{with_entry, stepped}
 use Rattle.hc_proxy.specs.Turns.{so_far, happened, turned, turned_by, behind_all}
-use Rattle.hc_proxy.proofs.OwedEntries.{owed_is_owed}
+use Rattle.hc_laws.proofs.OwedEntries.{owed_is_owed}
 use Rattle.hc_proxy.proofs.Turning.{IsKept, IsCarried, open_any, turned_keeps}
 
 pub record Stands (limits : Limits) (p : Proxy) : Type 0 where
@@ -51,7 +51,7 @@ StandsOn limits p q = Stands limits p → Goes limits p q
 no_weight : (n : ℕ) → nat_le 0 n ≡ true
 no_weight n = grind (arith, nat_tests)
 
-begins_well : (limits : Limits) → may_begin limits no_contents ≡ true
+pub begins_well : (limits : Limits) → may_begin limits no_contents ≡ true
 unfolding may_begin
 begins_well limits = no_weight limits.max_total
 
@@ -64,7 +64,7 @@ module _ (limits : Limits) (p : Proxy) (s : Stands limits p) where
 
 -- AN ENTRY
 
-moment_by : (t : Tables) (e : Entry) → (b : Bool) → is_denied e.acts ≡ b → (after t e).moment ≡ e.now
+pub moment_by : (t : Tables) (e : Entry) → (b : Bool) → is_denied e.acts ≡ b → (after t e).moment ≡ e.now
 unfolding after
 moment_by t e true denied = rw denied refl
 moment_by t e false accepted = rw accepted refl
@@ -73,7 +73,7 @@ opened_by : (n : ℕ) (o : Option Opening) → ((q : Opening) → o ≡ Some q �
 opened_by n None next = omega arith
 opened_by n (Some q) next = let is : q.x ≡ n + 1 = next q refl in omega arith
 
-grows_by : (limits : Limits) (t : Tables) (e : Entry) → Sound t → IsOwed limits t e → (b : Bool) → is_denied e.acts ≡ b → t.opened ≤ (after t e).opened
+pub grows_by : (limits : Limits) (t : Tables) (e : Entry) → Sound t → IsOwed limits t e → (b : Bool) → is_denied e.acts ≡ b → t.opened ≤ (after t e).opened
 unfolding after
 grows_by limits t e s is true denied = rw denied (omega arith)
 grows_by limits t e s is false accepted =

@@ -2,6 +2,7 @@ pub mod Rows
 pub mod Connections
 pub mod Steps
 pub mod Handling
+pub mod Headed
 pub mod Network
 pub mod Starts
 pub mod Polls
@@ -14,3 +15,14 @@ pub mod Sending
 pub mod Loops
 pub mod Endings
 pub mod Laws
+pub mod Invariants
+pub mod Logging
+pub mod Stops
+pub mod Records
+pub mod Keeping
+pub mod Resting
+pub mod TurnSteps
+pub mod Underway
+pub mod Unsent
+pub mod Hearing
+pub mod Serving

@@ -16,6 +16,9 @@ pends [] = false
 pends (act.Pending c wait ∷ acts) = true
 pends (_ ∷ acts) = pends acts
 
+abbrev pub pends_alone : Act → Bool
+pends_alone a = pends (a ∷ [])
+
 abbrev pub is_poll : Event → Bool
 is_poll (event.Poll c want) = true
 is_poll _ = false

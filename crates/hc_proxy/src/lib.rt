@@ -1,6 +1,17 @@
 //! The proxy: the cache between clients and an origin.
 #![tactic(auto)]
 
+mod carry;
+mod handle;
 mod laws;
+mod network;
+mod polls;
+mod proxy;
+mod record;
+mod send;
+mod serve;
+mod starts;
+mod stop;
 
 pub use laws::loops_are_runs;
+pub use serve::serve_on;

@@ -1,0 +1,243 @@
+-- An act is carried out: what the loop keeps before it and behind it.
+--
+-- Tables, history and moment stay as they are. An act that is sent to a consumer changes one client, on both sides the same one.
+-- One that asks for more puts the exchange into the lists. All that isn't carried out changes nothing.
+use Rattle.std.proofs.Common.{◌≡◌, inl, inr, ℕ, ◌+◌, List, [], ◌∷◌, Bool, true, false, Option, Some, None, refl, ap, sym, ◌∙◌, subst, arith, length, length-append}
+use Rattle.std.proofs.lemmas.List.{append-nil}
+use mathlib.Core.Path.{fun_ext}
+use Rattle.std.specs.Prelude.{IsSome, Result, Ok, Err, OnErr}
+use Rattle.std.specs.Option.{is_some}
+use Rattle.hc_event.specs.declared.act.Act.{Act}
+use Rattle.hc_event.specs.declared.act.Need.{Need}
+use Rattle.hc_event.specs.declared.event.Request.{Request}
+use Rattle.hc_event.specs.declared.act.Act.TheVariants as act
+use Rattle.hc_store.specs.declared.backend.Backend.{Ghosts}
+use Rattle.hc_wire.specs.Events.{Stage}
+use Rattle.hc_wire.specs.Logs.{Log, with_dialled}
+use Rattle.hc_peers.specs.Clients.{client_of, answered_in}
+use Rattle.hc_peers.specs.Peers as peers
+use Rattle.hc_peers.specs.Upstreams.{upstream_of, is_news, is_touched, Stays, Marks}
+use Rattle.hc_peers.specs.declared.client.Client as peer
+use Rattle.hc_peers.specs.declared.clients.Clients.{Clients}
+use Rattle.hc_peers.specs.declared.upstreams.Upstreams.{Upstreams}
+use Rattle.hc_proxy.specs.declared.proxy.Proxy as loop
+use Rattle.hc_proxy.specs.Carrying.{answered, answers, carried_out}
+use Rattle.hc_proxy.specs.Invariants.{IsHolder, IsServed, AreServed, AreOver, AreShut, ArePlain}
+use Rattle.hc_proxy.specs.Connections.{taken_at}
+use Rattle.hc_proxy.specs.Keeping.{Turn, HasUpstreams, IsClientAt}
+use Rattle.hc_proxy.specs.Rows.{Proxy, with_client}
+use Rattle.hc_proxy.specs.Underway.{HasHolders, KeepsUnderway, OnWire, GoesOn, DialsSome, one, none, dialling}
+use Rattle.hc_proxy.proofs.Holders.{HeldBy}
+use Rattle.hc_proxy.proofs.CarriedOut.{sent_to, act_keeps, over_later}
+use Rattle.hc_proxy.proofs.Closings.{dials_none}
+use Rattle.hc_proxy.specs.TurnSteps.{CarriedSome, HasStopCause}
+use Rattle.hc_proxy.specs.declared.stop.Stop.{Stop}
+use Rattle.hc_proxy.specs.declared.stop.Stop.TheVariants as stop
+use Rattle.hc_proxy.proofs.Dialings.{opens_within, follows_dialled, dials_one}
+use Rattle.hc_proxy.proofs.Sendings as sent
+use Rattle.hc_proxy.proofs.Askings.{asked_go, wire_asked}
+
+-- WHO WAITS FOR WHOM
+
+held_of : (acts : List Act) (p : Proxy) → HasHolders acts p → HeldBy acts p
+held_of acts p h = record { held = h.held; started = h.started; live = h.live; alive = h.alive; idle = h.idle }
+
+of_held : (acts : List Act) (p : Proxy) → HeldBy acts p → HasHolders acts p
+of_held acts p h = record { held = h.held; started = h.started; live = h.live; alive = h.alive; idle = h.idle }
+
+-- WHERE NOTHING WAS DIALLED
+
+module _ {B : Type 0} {g : Ghosts B} (t : Turn) (x : loop.Proxy B g) (p : Proxy) (a : Act) (acts : List Act) (log : Log) (told : Option Log) (stages : ℕ → Stage) where
+  pub stays_on : OnWire t log told stages → KeepsUnderway t acts x (carried_out a p) → GoesOn t a acts p log x told stages
+  stays_on on keeps =
+      let turns : dialling [] stages t ≡ t = sent.both (λ (ks : List ℕ) (f : ℕ → Stage). let u : Turn = record t { dialled = ks; stages = f } in u) (append-nil t.dialled) (fun_ext on.stands) in
+      record {
+        log' = log;
+        more = [];
+        dials = dials_none log;
+        on_wire = subst (λ (u : Turn). OnWire u log told stages) (sym turns) on;
+        keeps = subst (λ (u : Turn). KeepsUnderway u acts x (carried_out a p)) (sym turns) keeps;
+      }
+
+  -- it may fail before it dials
+  pub fails_before : OnWire t log told stages → KeepsUnderway t (a ∷ acts) x p → CarriedSome t p log told stages
+  fails_before on h = record {
+    log' = log;
+    more = [];
+    follows = on.follows;
+    dials = dials_none log;
+    opened = rw (append-nil t.dialled) (opens_within (a ∷ acts) (length t.dialled) p.tables.opened h.upstreams.opens);
+  }
+
+-- or behind that
+pub fails_opening : {B : Type 0} {g : Ghosts B} (t : Turn) (x : loop.Proxy B g) (p : Proxy) (acts : List Act) (y c : ℕ) (need : Need) (request : Request) (log : Log) (told told' : Option Log) (before after : ℕ → Stage)
+    → OnWire t log told before → KeepsUnderway t (act.Opened y c need request ∷ acts) x p → DialsSome told told' before after → CarriedSome t p log told' after
+fails_opening t x p acts y c need request log told told' before after on h (one k d) = record {
+  log' = with_dialled k log;
+  more = k ∷ [];
+  follows = follows_dialled k log told told' before after on.follows d;
+  dials = dials_one k log told told' before after on.follows d;
+  opened = let size = length-append t.dialled (k ∷ []) in let le = opens_within acts (length t.dialled + 1) p.tables.opened h.upstreams.opens.1 in omega arith;
+}
+fails_opening t x p acts y c need request log told told' before after on h (none same stays) = record {
+  log' = log;
+  more = [];
+  follows = record {
+    told_is = rw same on.follows.told_is;
+    stands = λ k. stays k ∙ on.follows.stands k;
+    apart = on.follows.apart;
+  };
+  dials = dials_none log;
+  opened = rw (append-nil t.dialled) (opens_within (act.Opened y c need request ∷ acts) (length t.dialled) p.tables.opened h.upstreams.opens);
+}
+
+module _ {B : Type 0} {g : Ghosts B} (t : Turn) (x : loop.Proxy B g) (p : Proxy) (acts : List Act) where
+  -- SENT TO A CONSUMER
+
+  module _ (cl : Clients) (a : Act) (tells : (k : ℕ) → client_of cl k ≡ answered_in a (client_of x.clients k)) (h : KeepsUnderway t (a ∷ acts) x p) where
+    abbrev told : loop.Proxy B g
+    told = record x { clients = cl }
+
+    sent_goes : (c : ℕ) → peers.addressee a ≡ Some c → (k : ℕ) × IsServed t.call p k c → carried_out a p ≡ answers (p.holder c) a p
+        → ((d : ℕ) → sent_to a ≡ Some d → (k : ℕ) × IsHolder p k d) → HasUpstreams t x p acts → ArePlain acts p.tables → AreShut acts p.tables → KeepsUnderway t acts told (carried_out a p)
+    sent_goes c to s out found origins plain shut =
+        let is : carried_out a p ≡ with_client s.0 (answered a) p = out ∙ ap (λ (o : Option ℕ). answers o a p) s.1.held in
+        subst (λ (r : Proxy). KeepsUnderway t acts told r) (sym is) (record {
+          cache = sent.cache_moves t.frame x p cl x.upstreams (with_client s.0 (answered a) p).client h.cache;
+          moved = h.moved;
+          clients = sent.clients_go a c to p s.0 s.1.holder (λ j. h.holders.held j c) t x cl tells h.clients;
+          holders = subst (HasHolders acts) is (of_held acts (carried_out a p) (act_keeps a acts p found h.over (held_of (a ∷ acts) p h.holders)));
+          over = subst (AreOver acts) is (over_later a acts p h.over);
+          served = subst (λ (r : Proxy). AreServed t.call r acts) is h.served.1;
+          plain = plain;
+          shut = shut;
+          undialled = h.undialled;
+          upstreams = sent.origins_go a c to p s.0 s.1.holder (λ j. h.holders.held j c) t x cl tells acts origins;
+          heard = h.heard;
+          wire = sent.wire_goes a c to p s.0 s.1.holder (λ j. h.holders.held j c) t x cl tells h.wire;
+          known = h.known;
+          numbers = h.numbers;
+          opened = h.opened;
+          seen = sent.seen_goes a c to p s.0 s.1.holder (λ j. h.holders.held j c) t x cl tells h.seen;
+        })
+
+  -- NEITHER SENT NOR CARRIED OUT
+
+  same_rows : (cl : Clients) (a : Act) → peers.addressee a ≡ None → ((k : ℕ) → client_of cl k ≡ answered_in a (client_of x.clients k)) → (k : ℕ) → client_of cl k ≡ client_of x.clients k
+  same_rows cl a to tells k = tells k ∙ by_row (client_of x.clients k)
+    where
+      by_row : (o : Option peer.Client) → answered_in a o ≡ o
+      by_row None = refl
+      by_row (Some u) = rw to refl
+
+  unsaid_goes : (cl : Clients) (a : Act) → ((k : ℕ) → client_of cl k ≡ client_of x.clients k) → KeepsUnderway t (a ∷ acts) x p → carried_out a p ≡ p
+      → ((d : ℕ) → sent_to a ≡ Some d → (k : ℕ) × IsHolder p k d) → HasUpstreams t x p acts → ArePlain acts p.tables → AreShut acts p.tables → KeepsUnderway t acts (record x { clients = cl }) (carried_out a p)
+  unsaid_goes cl a same h is found origins plain shut =
+      subst (λ (r : Proxy). KeepsUnderway t acts (record x { clients = cl }) r) (sym is) (record {
+        cache = sent.cache_moves t.frame x p cl x.upstreams p.client h.cache;
+        moved = h.moved;
+        clients = record {
+          rows = λ k. subst (λ (o : Option peer.Client). IsClientAt (taken_at t.call k) o (p.client k)) (sym (same k)) (h.clients.rows k);
+          order = h.clients.order;
+          listed = h.clients.listed;
+          few = h.clients.few;
+        };
+        holders = subst (HasHolders acts) is (of_held acts (carried_out a p) (act_keeps a acts p found h.over (held_of (a ∷ acts) p h.holders)));
+        over = subst (AreOver acts) is (over_later a acts p h.over);
+        served = subst (λ (r : Proxy). AreServed t.call r acts) is h.served.1;
+        plain = plain;
+        shut = shut;
+        undialled = h.undialled;
+        upstreams = record { rows = origins.rows; numbers = origins.numbers; over = origins.over; news = origins.news; touched = origins.touched; opens = origins.opens; names = origins.names; strangers = origins.strangers };
+        heard = h.heard;
+        wire = record {
+          clients = λ k u at. h.wire.clients k u (sym (same k) ∙ at);
+          upstreams = h.wire.upstreams;
+          all = λ k opens. elim (h.wire.all k opens) [ inl there ↦ inl (subst IsSome (sym (same k)) there) | inr others ↦ inr others ];
+          closed = λ k among. (same k ∙ (h.wire.closed k among).0, (h.wire.closed k among).1);
+        };
+        known = h.known;
+        numbers = h.numbers;
+        opened = h.opened;
+        seen = h.seen;
+      })
+
+  -- acts that the clients answer
+  abbrev is_told : Act → Bool
+  is_told (act.Opened y c need request) = false
+  is_told (act.Ask y) = false
+  is_told (act.Close y) = false
+  is_told _ = true
+
+  pub told_of : (a : Act) → ((y c : ℕ) (need : Need) (request : Request) → a ≡ act.Opened y c need request → ⊥) → ((y : ℕ) → a ≡ act.Ask y → ⊥) → ((y : ℕ) → a ≡ act.Close y → ⊥) → is_told a ≡ true
+  told_of (act.Opened y c need request) opens asks closes = absurd (opens y c need request refl)
+  told_of (act.Ask y) opens asks closes = absurd (asks y refl)
+  told_of (act.Close y) opens asks closes = absurd (closes y refl)
+  told_of (act.Shown c r why status fields lo hi) opens asks closes = refl
+  told_of (act.Given c y at bytes) opens asks closes = refl
+  told_of (act.Ended c) opens asks closes = refl
+  told_of (act.Failed c cause) opens asks closes = refl
+  told_of (act.Denied refusal) opens asks closes = refl
+  told_of (act.Pending c wait) opens asks closes = refl
+  told_of (act.Lost r kind) opens asks closes = refl
+  told_of (act.Evicted r) opens asks closes = refl
+
+  pub answer_goes : (cl : Clients) (a : Act) → is_told a ≡ true → ((k : ℕ) → client_of cl k ≡ answered_in a (client_of x.clients k)) → KeepsUnderway t (a ∷ acts) x p → KeepsUnderway t acts (record x { clients = cl }) (carried_out a p)
+  answer_goes cl (act.Shown c r why status fields lo hi) is tells h = sent_goes cl (act.Shown c r why status fields lo hi) tells h c refl (h.served.0 c refl) refl (λ d to. let u = h.served.0 d to in (u.0, u.1.holder)) (record { rows = h.upstreams.rows; numbers = h.upstreams.numbers; over = h.upstreams.over; news = h.upstreams.news; touched = h.upstreams.touched; opens = h.upstreams.opens; names = h.upstreams.names; strangers = h.upstreams.strangers }) h.plain h.shut
+  answer_goes cl (act.Given c y at bytes) is tells h = sent_goes cl (act.Given c y at bytes) tells h c refl (h.served.0 c refl) refl (λ d to. let u = h.served.0 d to in (u.0, u.1.holder)) (record { rows = h.upstreams.rows; numbers = h.upstreams.numbers; over = h.upstreams.over; news = h.upstreams.news; touched = h.upstreams.touched; opens = h.upstreams.opens; names = h.upstreams.names; strangers = h.upstreams.strangers }) h.plain h.shut
+  answer_goes cl (act.Ended c) is tells h = sent_goes cl (act.Ended c) tells h c refl (h.served.0 c refl) refl (λ d to. let u = h.served.0 d to in (u.0, u.1.holder)) (record { rows = h.upstreams.rows; numbers = h.upstreams.numbers; over = h.upstreams.over; news = h.upstreams.news; touched = h.upstreams.touched; opens = h.upstreams.opens; names = h.upstreams.names; strangers = h.upstreams.strangers }) h.plain h.shut
+  answer_goes cl (act.Failed c cause) is tells h = sent_goes cl (act.Failed c cause) tells h c refl (h.served.0 c refl) refl (λ d to. let u = h.served.0 d to in (u.0, u.1.holder)) (record { rows = h.upstreams.rows; numbers = h.upstreams.numbers; over = h.upstreams.over; news = h.upstreams.news; touched = h.upstreams.touched; opens = h.upstreams.opens; names = h.upstreams.names; strangers = h.upstreams.strangers }) h.plain h.shut
+  answer_goes cl (act.Denied refusal) is tells h = unsaid_goes cl (act.Denied refusal) (same_rows cl (act.Denied refusal) refl tells) h refl (λ d to. absurd (let never : None ≡ Some d = to in cc)) (record { rows = h.upstreams.rows; numbers = h.upstreams.numbers; over = h.upstreams.over; news = h.upstreams.news; touched = h.upstreams.touched; opens = h.upstreams.opens; names = h.upstreams.names; strangers = h.upstreams.strangers }) h.plain h.shut
+  answer_goes cl (act.Pending c wait) is tells h = unsaid_goes cl (act.Pending c wait) (same_rows cl (act.Pending c wait) refl tells) h refl (λ d to. absurd (let never : None ≡ Some d = to in cc)) (record { rows = h.upstreams.rows; numbers = h.upstreams.numbers; over = h.upstreams.over; news = h.upstreams.news; touched = h.upstreams.touched; opens = h.upstreams.opens; names = h.upstreams.names; strangers = h.upstreams.strangers }) h.plain h.shut
+  answer_goes cl (act.Lost r kind) is tells h = unsaid_goes cl (act.Lost r kind) (same_rows cl (act.Lost r kind) refl tells) h refl (λ d to. absurd (let never : None ≡ Some d = to in cc)) (record { rows = h.upstreams.rows; numbers = h.upstreams.numbers; over = h.upstreams.over; news = h.upstreams.news; touched = h.upstreams.touched; opens = h.upstreams.opens; names = h.upstreams.names; strangers = h.upstreams.strangers }) h.plain h.shut
+  answer_goes cl (act.Evicted r) is tells h = unsaid_goes cl (act.Evicted r) (same_rows cl (act.Evicted r) refl tells) h refl (λ d to. absurd (let never : None ≡ Some d = to in cc)) (record { rows = h.upstreams.rows; numbers = h.upstreams.numbers; over = h.upstreams.over; news = h.upstreams.news; touched = h.upstreams.touched; opens = h.upstreams.opens; names = h.upstreams.names; strangers = h.upstreams.strangers }) h.plain h.shut
+  answer_goes cl (act.Opened y c need request) is tells h = absurd (let never : false ≡ true = is in cc)
+  answer_goes cl (act.Ask y) is tells h = absurd (let never : false ≡ true = is in cc)
+  answer_goes cl (act.Close y) is tells h = absurd (let never : false ≡ true = is in cc)
+
+  -- MORE IS ASKED FOR
+
+  pub ask_goes : (up : Upstreams) (z : ℕ) → Stays x.upstreams up → Marks (is_news x.upstreams) (is_news up) z (is_some (upstream_of x.upstreams z))
+      → Marks (is_touched x.upstreams) (is_touched up) z true → KeepsUnderway t (act.Ask z ∷ acts) x p → KeepsUnderway t acts (record x { upstreams = up }) p
+  ask_goes up z stays news touched h = record {
+    cache = sent.cache_moves t.frame x p x.clients up p.client h.cache;
+    moved = h.moved;
+    clients = record { rows = h.clients.rows; order = h.clients.order; listed = h.clients.listed; few = h.clients.few };
+    holders = of_held acts p (act_keeps (act.Ask z) acts p (λ d to. absurd (let never : None ≡ Some d = to in cc)) h.over (held_of (act.Ask z ∷ acts) p h.holders));
+    over = h.over;
+    served = h.served.1;
+    plain = h.plain;
+    shut = h.shut;
+    undialled = h.undialled;
+    upstreams = asked_go t x up p z acts stays news touched h.undialled h.upstreams;
+    heard = h.heard;
+    wire = wire_asked t x up p z acts stays news touched h.undialled h.upstreams h.wire;
+    known = h.known;
+    numbers = h.numbers;
+    opened = h.opened;
+    seen = h.seen;
+  }
+
+-- NO FAULT OF THE WIRE
+
+pub cause_none : {T : Type 0} (n : ℕ) (result : Result T Stop) → OnErr result (result ≡ Err stop.NoMemory) → HasStopCause n n result
+cause_none n (Ok it) memory = record {
+  later = omega arith;
+  failed = λ is. absurd (let wrong : Ok it ≡ Err stop.WireFailed = is in cc);
+  calm = refl;
+  no_fault = λ is. refl;
+  no_sink = λ is. let wrong : Ok it ≡ Err stop.SinkFailed = is in cc;
+}
+cause_none n (Err e) memory = record {
+  later = omega arith;
+  failed = λ is. absurd (no_wire (Err e) memory is);
+  calm = tt;
+  no_fault = λ is. refl;
+  no_sink = λ is. no_sink_at (Err e) memory is;
+}
+  where
+    no_wire : {T : Type 0} (r : Result T Stop) → r ≡ Err stop.NoMemory → r ≡ Err stop.WireFailed → ⊥
+    no_wire r a b = cc
+
+    no_sink_at : {T : Type 0} (r : Result T Stop) → r ≡ Err stop.NoMemory → r ≡ Err stop.SinkFailed → ⊥
+    no_sink_at r a b = cc

@@ -1,0 +1,113 @@
+-- Connections are closed, one after another: what the wire tells, if it tells anything.
+--
+-- A connection that is closed has its taker shut, and its stage is that of a closed one; all others stand as before, and nothing is sent.
+-- So what is said of some closes holds of one more, in any order, and of each first part of a list.
+use Rattle.std.proofs.Common.{◌≡◌, ◌⊎◌, ℕ, List, [], ◌∷◌, ◌++◌, Bool, true, false, Option, Some, None, eqb, refl, sym, ap, ◌∙◌, inl, inr, subst, arith, get_or, take, length, ◌+◌, ◌<◌}
+use Rattle.std.specs.Prelude.{nat_eq, ◌||◌, if◌then◌else◌}
+use Rattle.std.specs.List.{list_any}
+use Rattle.std.proofs.lemmas.Bool.{cases_Bool, eqb-true}
+use Rattle.std.proofs.lemmas.List.{append-nil, take_more}
+use Rattle.std.proofs.Math.Seq.{take-length}
+use Rattle.hc_wire.specs.Events.{Stage, Unseen, Open, Closed, with_stage, closed_of}
+use Rattle.hc_wire.specs.Logs.{Log, Taker, Tells, stage_in, changed_at, shut, with_closed}
+use Rattle.hc_wire.proofs.LogLemmas.{stages-changed, stage_shut}
+use Rattle.hc_proxy.specs.Logging.{Follows, Dials}
+use Rattle.hc_proxy.specs.Underway.{closed_among, shut_each, Closes}
+use Rattle.hc_proxy.proofs.Takers.{apart_stays, sent_stays}
+
+pub told_on : (told told' : Option Log) (log : Log) (f : Log → Log) → (told ≡ None) ⊎ (told ≡ Some log) → Tells told told' f → (told' ≡ None) ⊎ (told' ≡ Some (f log))
+told_on None told' log f is tells = inl tells
+told_on (Some l) told' log f (inl untold) tells = absurd (let never : Some l ≡ None = untold in cc)
+told_on (Some l) told' log f (inr same) tells = let it : l ≡ log = cc in inr (tells ∙ ap (λ (x : Log). Some (f x)) it)
+
+pub dials_none : (log : Log) → Dials [] log log
+dials_none log = record { calls = refl; bound = refl; dialled = sym (append-nil log.dialled); sent = λ k. refl; new = λ k among. absurd (let lt = among.1 in omega arith); unseen = λ k is. is }
+
+twice : (s : Stage) → closed_of (closed_of s) ≡ closed_of s
+twice Unseen = refl
+twice (Open reads ended) = refl
+twice Closed = refl
+
+any_more : (j : ℕ) (ks : List ℕ) (k : ℕ) → list_any (nat_eq j) (ks ++ k ∷ []) ≡ (list_any (nat_eq j) ks || nat_eq j k)
+any_more j [] k = by_test (nat_eq j k)
+  where
+    by_test : (b : Bool) → (b || false) ≡ b
+    by_test true = refl
+    by_test false = refl
+any_more j (i ∷ ks) k = rw (any_more j ks k) (by_test (nat_eq j i))
+  where
+    by_test : (b : Bool) → (b || (list_any (nat_eq j) ks || nat_eq j k)) ≡ ((b || list_any (nat_eq j) ks) || nat_eq j k)
+    by_test true = refl
+    by_test false = refl
+
+one_more : (ks : List ℕ) (k : ℕ) (before : ℕ → Stage) (j : ℕ) → with_stage k (closed_of (closed_among ks before k)) (closed_among ks before) j ≡ closed_among (ks ++ k ∷ []) before j
+one_more ks k before j = elim (cases_Bool (eqb j k)) [
+  | inl here ↦
+      let same : j ≡ k = eqb-true j k here in
+      rw (any_more j ks k, here) (rw (sym same) (by_both (list_any (nat_eq j) ks)))
+  | inr off ↦ rw (any_more j ks k, off) (by_any (list_any (nat_eq j) ks))
+]
+  where
+    by_both : (b : Bool) → closed_of (if b then closed_of (before j) else before j) ≡ (if b || true then closed_of (before j) else before j)
+    by_both true = twice (before j)
+    by_both false = refl
+
+    by_any : (b : Bool) → (if b then closed_of (before j) else before j) ≡ (if b || false then closed_of (before j) else before j)
+    by_any true = refl
+    by_any false = refl
+
+pub closes_none : (log : Log) (told : Option Log) (before : ℕ → Stage) → Follows told before log → Closes [] log told before before
+closes_none log told before follows = record { log' = log; follows = follows; dials = dials_none log; stands = λ j. refl; takers = refl }
+
+closed_unseen : (s : Stage) → closed_of s ≡ Unseen → s ≡ Unseen
+closed_unseen Unseen is = refl
+closed_unseen (Open reads ended) is = absurd (let never : Closed ≡ Unseen = is in cc)
+closed_unseen Closed is = absurd (let never : Closed ≡ Unseen = is in cc)
+
+unseen_shut : (k : ℕ) (cs : List Taker) (j : ℕ) → stage_in (changed_at k shut cs) j ≡ Unseen → stage_in cs j ≡ Unseen
+unseen_shut k cs j is = elim (cases_Bool (eqb j k)) [
+  | inl here ↦ let same : j ≡ k = eqb-true j k here in
+      ap (stage_in cs) same ∙ closed_unseen (stage_in cs k) (sym (rw here refl) ∙ (sym (stages-changed k shut (λ d. refl) closed_of refl stage_shut cs j) ∙ is))
+  | inr off ↦ sym (rw off refl) ∙ (sym (stages-changed k shut (λ d. refl) closed_of refl stage_shut cs j) ∙ is)
+]
+
+-- one more
+pub closes_one : (ks : List ℕ) (k : ℕ) (log : Log) (told told' : Option Log) (before between after : ℕ → Stage)
+    → Closes ks log told before between → Tells told told' (with_closed k)
+    → ((j : ℕ) → after j ≡ with_stage k (closed_of (between k)) between j) → Closes (ks ++ k ∷ []) log told' before after
+closes_one ks k log told told' before between after c tells stands = record {
+  log' = with_closed k c.log';
+  follows = record {
+    told_is = told_on told told' c.log' (with_closed k) c.follows.told_is tells;
+    stands = λ j. stands j ∙ (rw (c.follows.stands k, c.follows.stands j) (sym (stages-changed k shut (λ d. refl) closed_of refl stage_shut c.log'.takers j)));
+    apart = apart_stays k shut (λ d. refl) c.log'.takers c.follows.apart;
+  };
+  dials = record {
+    calls = c.dials.calls;
+    bound = c.dials.bound;
+    dialled = c.dials.dialled;
+    sent = λ j. sent_stays k shut (λ d. refl) (λ d. refl) c.log'.takers j ∙ c.dials.sent j;
+    new = c.dials.new;
+    unseen = λ j is. c.dials.unseen j (unseen_shut k c.log'.takers j is);
+  };
+  stands = λ j. stands j ∙ (rw (c.stands k, c.stands j) (one_more ks k before j));
+  takers = ap (changed_at k shut) c.takers ∙ sym (shut_more ks log.takers);
+}
+  where
+    shut_more : (js : List ℕ) (cs : List Taker) → shut_each (js ++ k ∷ []) cs ≡ changed_at k shut (shut_each js cs)
+    shut_more [] cs = refl
+    shut_more (j ∷ js) cs = shut_more js (changed_at j shut cs)
+
+-- the next of a list
+pub closes_next : (ks : List ℕ) (i : ℕ) (log : Log) (told told' : Option Log) (before between after : ℕ → Stage)
+    → i < length ks → Closes (take i ks) log told before between → Tells told told' (with_closed (get_or ks i 0))
+    → ((j : ℕ) → after j ≡ with_stage (get_or ks i 0) (closed_of (between (get_or ks i 0))) between j) → Closes (take (i + 1) ks) log told' before after
+closes_next ks i log told told' before between after lt c tells stands =
+    subst (λ (done : List ℕ). Closes done log told' before after) (sym (take_more ks i 0 lt))
+    (closes_one (take i ks) (get_or ks i 0) log told told' before between after c tells stands)
+
+-- all of them
+pub closes_all : (ks : List ℕ) (i : ℕ) (log : Log) (told : Option Log) (before after : ℕ → Stage)
+    → i ≡ length ks → Closes (take i ks) log told before after → Closes ks log told before after
+closes_all ks i log told before after all c =
+    subst (λ (done : List ℕ). Closes done log told before after) (ap (λ (n : ℕ). take n ks) all ∙ take-length ks) c

@@ -1,0 +1,131 @@
+-- No more consumers are live than clients are here, and so no more exchanges are open: each live consumer is that of a client of its own.
+--
+-- Each live consumer is that of a client which is here. So it is among the consumers of these clients, and there are no more of those
+-- than clients. The numbers of who is live fall, so each stands once: and what falls is no longer than a list that has each of it.
+-- In every run no more exchanges are open than consumers are live.
+use Rattle.std.proofs.Common.{◌≡◌, ◌⊎◌, inl, inr, ◌≤◌, ◌<◌, ℕ, zero, suc, ◌+◌, List, [], ◌∷◌, length, map, true, Option, Some, None, refl, ap, sym, ◌∙◌, arith}
+use Rattle.std.specs.Prelude.{Contains, IsSome, filter, nat_eq, unwrap_or, if◌then◌else◌}
+use Rattle.hc_rules.specs.declared.room.Limits.{Limits}
+use Rattle.hc_model.specs.Denials.{is_live, live}
+use Rattle.hc_model.specs.Entries.{History, no_contents}
+use Rattle.hc_model.specs.Lawful.{Lawful}
+use Rattle.hc_model.specs.Live.{open_now}
+use Rattle.hc_model.specs.Orders.{Descends}
+use Rattle.hc_model.specs.Runs.{IsRun}
+use Rattle.hc_model.specs.Sound.{Among}
+use Rattle.hc_model.specs.Tables.{tables}
+use Rattle.hc_model.proofs.Closed.{among_filter}
+use Rattle.hc_model.proofs.PieceKeeps.{eq_cases}
+use Rattle.hc_laws.proofs.HasBound.{among_passes}
+use Rattle.hc_laws.proofs.OpenRuns.{open_in_runs}
+use Rattle.hc_proxy.specs.Handling.{clients_here, is_client}
+use Rattle.hc_proxy.specs.Invariants.{IsHolder, HasConsumers}
+use Rattle.hc_proxy.specs.Rows.{Client, Proxy}
+use Rattle.hc_proxy.proofs.Ascending.{filter_falls}
+use Rattle.hc_proxy.proofs.Stands.{begins_well}
+
+-- HOW MANY
+
+-- without the first x
+abbrev without : ℕ → List ℕ → List ℕ
+without x [] = []
+without x (y ∷ ys) = if nat_eq y x then ys else y ∷ without x ys
+
+one_fewer : (x : ℕ) (ys : List ℕ) → Among x ys → length ys ≡ suc (length (without x ys))
+one_fewer x [] there = absurd there
+one_fewer x (y ∷ ys) there = elim (eq_cases y x) [
+  | inl here ↦ rw here.0 (omega arith)
+  | inr off ↦ rw off.0 (let rest = one_fewer x ys (later there off.1) in omega (arith, rest))
+]
+  where
+    later : Among x (y ∷ ys) → (y ≡ x → ⊥) → Among x ys
+    later (inl here) other = absurd (other here)
+    later (inr more) other = more
+
+others_stay : (x q : ℕ) (ys : List ℕ) → (q ≡ x → ⊥) → Among q ys → Among q (without x ys)
+others_stay x q [] other there = there
+others_stay x q (y ∷ ys) other there = elim (eq_cases y x) [
+  | inl here ↦ rw here.0 (behind there here.1)
+  | inr off ↦ rw off.0 (by_place there (others_stay x q ys other))
+]
+  where
+    behind : Among q (y ∷ ys) → y ≡ x → Among q ys
+    behind (inl here) is = absurd (other (sym here ∙ is))
+    behind (inr more) is = more
+
+    by_place : Among q (y ∷ ys) → (Among q ys → Among q (without x ys)) → (y ≡ q) ⊎ Among q (without x ys)
+    by_place (inl here) rest = inl here
+    by_place (inr more) rest = inr (rest more)
+
+below_all : (n x : ℕ) (xs : List ℕ) → Descends n xs → Among x xs → x < n
+below_all n x [] d there = absurd there
+below_all n x (y ∷ ys) d (inl here) = let lt : y < n = d.0 in let same : y ≡ x = here in omega arith
+below_all n x (y ∷ ys) d (inr more) = let lt : y < n = d.0 in let less : x < y = below_all y x ys d.1 more in omega arith
+
+-- what falls stands once: a list that has each of it is no shorter
+no_more : (n : ℕ) (xs ys : List ℕ) → Descends n xs → ((x : ℕ) → Among x xs → Among x ys) → length xs ≤ length ys
+no_more n [] ys d all = omega arith
+no_more n (x ∷ xs) ys d all =
+    let rest : length xs ≤ length (without x ys) = no_more x xs (without x ys) d.1 (λ q there. others_stay x q ys (λ same. apart q there same) (all q (inr there))) in
+    let count : length ys ≡ suc (length (without x ys)) = one_fewer x ys (all x (inl refl)) in
+    omega arith
+  where
+    apart : (q : ℕ) → Among q xs → q ≡ x → ⊥
+    apart q there same = let lt : q < x = below_all x q xs d.1 there in absurd (omega arith)
+
+among_mapped : (f : ℕ → ℕ) (k c : ℕ) (ks : List ℕ) → f k ≡ c → Among k ks → Among c (map f ks)
+among_mapped f k c [] is there = there
+among_mapped f k c (j ∷ js) is (inl here) = inl (ap f here ∙ is)
+among_mapped f k c (j ∷ js) is (inr more) = inr (among_mapped f k c js is more)
+
+map_long : (f : ℕ → ℕ) (ks : List ℕ) → length (map f ks) ≡ length ks
+map_long f [] = refl
+map_long f (k ∷ ks) = let rest = map_long f ks in omega (arith, rest)
+
+among_of : (k : ℕ) (ks : List ℕ) → Contains ks k → Among k ks
+among_of k [] (n, within, is) = absurd (omega arith)
+among_of k (j ∷ ks) (zero, within, is) = inl is
+among_of k (j ∷ ks) (suc n, within, is) = inr (among_of k ks (n, omega arith, is))
+
+-- CLIENTS
+
+abbrev waits_for : Option Client → Option ℕ
+waits_for None = None
+waits_for (Some r) = r.consumer
+
+module _ (p : Proxy) (law : Lawful p.tables) (h : HasConsumers p) (listed : (k : ℕ) → IsSome (p.client k) → Contains p.accepted k) where
+  abbrev consumer_at : ℕ → ℕ
+  consumer_at k = unwrap_or (waits_for (p.client k)) 0
+
+  abbrev lives : List ℕ
+  lives = filter (λ c. is_live (p.tables.consumer c)) p.tables.starts
+
+  here : (k c : ℕ) → IsHolder p k c → Among k (clients_here p)
+  here k c w =
+      let is : is_client (p.client k) ≡ true = rw (w.at, w.here) refl in
+      among_filter k (λ j. is_client (p.client j)) p.accepted is (among_of k p.accepted (listed k (rw w.at refl)))
+
+  waited_for : (c : ℕ) → is_live (p.tables.consumer c) ≡ true → Among c (map consumer_at (clients_here p))
+  waited_for c on =
+      let f = h.live c on in
+      among_mapped consumer_at f.0 c (clients_here p) (ap (λ (o : Option Client). unwrap_or (waits_for o) 0) f.1.at ∙ ap (λ (o : Option ℕ). unwrap_or o 0) f.1.consumer) (here f.0 c f.1)
+
+  -- no more consumers are live than clients are here
+  pub few_live : live p.tables ≤ length (clients_here p)
+  few_live =
+      let all : length lives ≤ length (map consumer_at (clients_here p)) =
+      no_more (p.tables.last_start + 1) lives (map consumer_at (clients_here p))
+      (filter_falls (λ c. is_live (p.tables.consumer c)) (p.tables.last_start + 1) p.tables.starts law.order.starts)
+      (λ c there. waited_for c (among_passes (λ d. is_live (p.tables.consumer d)) c p.tables.starts there)) in
+      let same : length (map consumer_at (clients_here p)) ≡ length (clients_here p) = map_long consumer_at (clients_here p) in
+      omega arith
+
+  -- nor exchanges open
+  pub few_open : (limits : Limits) (hist : History) → IsRun limits no_contents hist → p.tables ≡ tables no_contents hist → open_now p.tables ≤ length (clients_here p)
+  few_open limits hist run same =
+      let fewer : open_now p.tables ≤ live p.tables = subst_few in
+      let few : live p.tables ≤ length (clients_here p) = few_live in
+      omega arith
+    where
+      subst_few : open_now p.tables ≤ live p.tables
+      subst_few = rw same (open_in_runs limits no_contents hist (begins_well limits) run).few

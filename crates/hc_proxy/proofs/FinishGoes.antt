@@ -1,0 +1,231 @@
+-- What happened is written, carried out and sent, one behind another.
+--
+-- What is written changes nothing of what is kept but how much of the record is left. The dials and closes of the acts send nothing, and
+-- what is sent then is a first part of what is owed. So the turn may be cut short anywhere.
+use Rattle.std.proofs.Common.{◌≡◌, ◌≤◌, ℕ, List, [], ◌∷◌, ◌++◌, Bool, true, false, Option, None, refl, ap, sym, ◌∙◌, arith, append-nil, length-append}
+use Rattle.std.specs.Prelude.{nat_eq, length, map, reverse, option_map, if◌then◌else◌}
+use Rattle.hc_io.specs.Sink.{Takes, TakesFront}
+use Rattle.hc_model.specs.Entries.{History}
+use Rattle.hc_store.specs.declared.backend.Backend.{Ghosts}
+use Rattle.hc_wire.specs.Events.{Stage, Unseen}
+use Rattle.hc_wire.specs.Logs.{Log, stage_in}
+use Rattle.hc_proxy.specs.declared.proxy.Proxy as loop
+use Rattle.hc_proxy.specs.declared.record.Record.{Record}
+use Rattle.hc_proxy.specs.Carrying.{answered, carried, acts_in}
+use Rattle.hc_proxy.specs.Keeping.{Turn, HasCache, KeepsPolled}
+use Rattle.hc_proxy.specs.Logging.{Dials, AreApart}
+use Rattle.hc_proxy.specs.Records.{text_of, last_of}
+use Rattle.hc_proxy.specs.Resting.{Rests}
+use Rattle.hc_proxy.specs.Rows.{Client, Proxy}
+use Rattle.hc_proxy.specs.Serving.{SentOn, FinishesTurn, CutsTurn}
+use Rattle.hc_proxy.specs.TurnSteps.{CarriedOut, CarriedSome, SentAll, SentSome}
+use Rattle.hc_proxy.specs.Turns.{timed_of, text_behind}
+use Rattle.hc_proxy.specs.Underway.{OnWire}
+use Rattle.hc_proxy.specs.Waiting.{waits}
+use Rattle.hc_proxy.proofs.DialsSent.{dials_sent}
+use Rattle.hc_proxy.proofs.Later.{carried_is_same}
+use Rattle.hc_proxy.proofs.OpensUp.{up_grows}
+use Rattle.hc_proxy.proofs.Turning.{IsCarried, open_any, carried_keeps}
+
+-- WHERE NO CLIENT WAS, none is behind the acts
+
+abbrev NoneStays : ℕ → Proxy → Proxy → Type 0
+NoneStays k p q = p.client k ≡ None → q.client k ≡ None
+
+none_out : (k : ℕ) → IsCarried (λ x. Unit {0}) (NoneStays k)
+none_out k = record {
+  none = λ p is. is;
+  both = λ p q r a b is. b (a is);
+  answers = λ j a p is. by_test (answered a) (nat_eq k j) (p.client k) is;
+  opens = λ x request p may is. is;
+}
+  where
+    by_test : (change : Client → Client) (b : Bool) (o : Option Client) → o ≡ None → (if b then option_map change o else o) ≡ None
+    by_test change true o is = ap (option_map change) is
+    by_test change false o is = is
+
+none_carried : (k : ℕ) (p : Proxy) → p.client k ≡ None → (carried p).client k ≡ None
+none_carried k p = carried_keeps (λ x. Unit {0}) (NoneStays k) (none_out k) p (open_any (acts_in p.part))
+
+-- THE RECORD IS WRITTEN
+
+-- so much of it was written, and this is left
+abbrev pub writing : Turn → List ℕ → Turn
+writing t text = record t { frame = record t.frame { written = t.frame.written ++ text } }
+
+module _ {B : Type 0} {g : Ghosts B} (t : Turn) (q : Proxy) (y : loop.Proxy B g) (k : KeepsPolled t y q) (w : Record) (empty : text_of w ≡ []) (last : last_of w ≡ last_of y.record) where
+  abbrev pub y' : loop.Proxy B g
+  y' = record y { «record» = w }
+
+  written_cache : HasCache (writing t (text_of y.record)).frame y' q
+  written_cache =
+      let c = k.keeps.cache in
+      record {
+        stands = c.stands;
+        same = c.same;
+        limits = c.limits;
+        ready = c.ready;
+        now = c.now;
+        early = c.early;
+        last = c.last;
+        starts = c.starts;
+        last_start = c.last_start;
+        text = c.text ∙ (sym (append-nil (t.frame.written ++ text_of y.record)) ∙ ap (λ (z : List ℕ). (t.frame.written ++ text_of y.record) ++ z) (sym empty));
+        recorded = last ∙ c.recorded;
+        before = c.before;
+        unopened = c.unopened;
+        headed = c.headed;
+        small = c.small;
+        bounded = c.bounded;
+        targets = c.targets;
+      }
+
+  pub written_keeps : KeepsPolled (writing t (text_of y.record)) y' q
+  written_keeps =
+      let s = k.keeps in
+      record {
+        keeps = record {
+          cache = written_cache;
+          acts = s.acts;
+          clients = record { rows = s.clients.rows; order = s.clients.order; listed = s.clients.listed; few = s.clients.few };
+          consumers = s.consumers;
+          upstreams = record {
+            rows = s.upstreams.rows;
+            numbers = s.upstreams.numbers;
+            over = s.upstreams.over;
+            news = s.upstreams.news;
+            touched = s.upstreams.touched;
+            opens = s.upstreams.opens;
+            names = s.upstreams.names;
+            strangers = s.upstreams.strangers;
+          };
+          wire = record { clients = s.wire.clients; upstreams = s.wire.upstreams; all = s.wire.all; closed = s.wire.closed };
+          numbers = s.numbers;
+          opened = s.opened;
+          seen = s.seen;
+          shut = s.shut;
+          known = s.known;
+        };
+        moved = k.moved;
+        heard = k.heard;
+        served = k.served;
+        over = k.over;
+        shut = k.shut;
+        plain = k.plain;
+        undialled = k.undialled;
+        known = k.known;
+      }
+
+pub written_wire : (t : Turn) (text : List ℕ) (log : Log) (told : Option Log) (stages : ℕ → Stage) → OnWire t log told stages → OnWire (writing t text) log told stages
+written_wire t text log told stages on = record { follows = on.follows; stands = on.stands; dialled = on.dialled; taken = on.taken }
+
+pub takes_all : (out out' : Option (List ℕ)) (text : List ℕ) → Takes out out' text → TakesFront out out' text
+takes_all out out' text takes = record { front = text; rest = []; whole = append-nil text; takes = takes }
+
+-- nothing is left behind what all of it is
+left_none : (xs ys : List ℕ) → xs ++ ys ≡ xs → ys ≡ []
+left_none xs ys is = by_length ys (let size = length-append xs ys in let same : length (xs ++ ys) ≡ length xs = ap length is in omega arith)
+  where
+    by_length : (zs : List ℕ) → length zs ≡ 0 → zs ≡ []
+    by_length [] none = refl
+    by_length (z ∷ zs) none = absurd (omega arith)
+
+-- ALL STEPS
+
+module _ {B : Type 0} {g : Ghosts B} (t : Turn) (q : Proxy) (log : Log) (y : loop.Proxy B g) (k : KeepsPolled t y q) (told : Option Log) (stages : ℕ → Stage) (on : OnWire t log told stages) where
+  nobody : (j : ℕ) → stage_in log.takers j ≡ Unseen → (carried q).client j ≡ None
+  nobody j is = none_carried j q (k.keeps.seen j (sym (on.stands j) ∙ (on.follows.stands j ∙ is))).0
+
+  few_dials : length log.dialled ≤ q.tables.opened
+  few_dials = let le = up_grows (acts_in q.part) (length t.dialled) q.tables.opened k.keeps.upstreams.opens in let same = ap length on.dialled in omega arith
+
+  dialled_sent : (more : List ℕ) (log' : Log) → Dials more log log' → AreApart log'.takers → SentOn (carried q) log log'
+  dialled_sent more log' d apart sent = dials_sent (carried q) more log log' d apart nobody sent
+
+  -- WHERE IT IS CUT SHORT
+
+  module _ (out out' : Option (List ℕ)) where
+    pub cut_writing : TakesFront out out' (text_of y.record) → CutsTurn q log y told out out'
+    cut_writing takes = record {
+      log' = log;
+      more = [];
+      told_is = on.follows.told_is;
+      takes = takes;
+      calls = refl;
+      bound = refl;
+      dialled = sym (append-nil log.dialled);
+      few = few_dials;
+      sent = λ sent. sent;
+    }
+
+    module _ (takes : Takes out out' (text_of y.record)) (told1 : Option Log) (stages1 : ℕ → Stage) where
+      pub cut_carrying : CarriedSome (writing t (text_of y.record)) q log told1 stages1 → CutsTurn q log y told1 out out'
+      cut_carrying s = record {
+        log' = s.log';
+        more = s.more;
+        told_is = s.follows.told_is;
+        takes = takes_all out out' (text_of y.record) takes;
+        calls = s.dials.calls;
+        bound = s.dials.bound;
+        dialled = s.dials.dialled;
+        few = let le = s.opened in let same = ap length s.dials.dialled in let a = length-append log.dialled s.more in let b = length-append t.dialled s.more in let d = ap length on.dialled in omega arith;
+        sent = dialled_sent s.more s.log' s.dials s.follows.apart;
+      }
+
+      module _ (y2 : loop.Proxy B g) (c : CarriedOut (writing t (text_of y.record)) q log y2 told1 stages1) where
+        -- the turn behind the acts
+        abbrev pub behind : Turn
+        behind = record (writing t (text_of y.record)) { dialled = t.dialled ++ c.more; stages = stages1 }
+
+        all_dialled : length c.log'.dialled ≡ q.tables.opened
+        all_dialled =
+            let few : length t.dialled ≤ q.tables.opened = (let le = few_dials in let same = ap length on.dialled in omega arith) in
+            ap length c.on_wire.dialled ∙ c.opened few
+
+        carried_sent : SentOn (carried q) log c.log'
+        carried_sent = dialled_sent c.more c.log' c.dials c.on_wire.follows.apart
+
+        pub cut_sending : (told2 : Option Log) → SentSome (carried q) c.log' told2 → CutsTurn q log y told2 out out'
+        cut_sending told2 s = record {
+          log' = s.log';
+          more = c.more;
+          told_is = s.told_is;
+          takes = takes_all out out' (text_of y.record) takes;
+          calls = s.calls ∙ c.dials.calls;
+          bound = s.bound ∙ c.dials.bound;
+          dialled = s.dialled ∙ c.dials.dialled;
+          few = let same = ap length s.dialled in let all = all_dialled in omega arith;
+          sent = λ sent. s.sent (carried_sent sent);
+        }
+
+        module _ (y3 : loop.Proxy B g) (told2 : Option Log) (stages2 : ℕ → Stage) (a : SentAll behind (carried q) c.log' y3 told2 stages2) where
+          pub cut_waiting : CutsTurn q log y told2 out out'
+          cut_waiting = record {
+            log' = a.log';
+            more = c.more;
+            told_is = a.follows.told_is;
+            takes = takes_all out out' (text_of y.record) takes;
+            calls = a.calls ∙ c.dials.calls;
+            bound = a.bound ∙ c.dials.bound;
+            dialled = a.dialled ∙ c.dials.dialled;
+            few = let same = ap length a.dialled in let all = all_dialled in omega arith;
+            sent = λ sent. a.sent (carried_sent sent);
+          }
+
+          -- THE TURN IS MADE
+
+          pub finishes : (y4 : loop.Proxy B g) (again : Bool) → Rests behind.frame y4 (carried q) a.log' → again ≡ waits t.frame.limits (carried q) → FinishesTurn t q log y y4 told2 stages2 out out' again
+          finishes y4 again rests waits_so = record {
+            log' = a.log';
+            more = c.more;
+            rests = rests;
+            follows = a.follows;
+            takes = takes;
+            written = left_none (t.frame.written ++ text_of y.record) (text_of y4.record)
+                (sym rests.cache.text ∙ (ap (λ (h : History). text_behind 0 (map timed_of (reverse h))) (carried_is_same q).history ∙ k.keeps.cache.text));
+            again_is = waits_so;
+            calls = a.calls ∙ c.dials.calls;
+            bound = a.bound ∙ c.dials.bound;
+            dialled = a.dialled ∙ c.dials.dialled;
+            sent = λ sent. a.sent (carried_sent sent);
+          }

@@ -1,0 +1,403 @@
+-- Turns one behind another, and what comes of the loop by how it ends.
+--
+-- Between turns the log is one of the loop's, and what was written is the record so far (`IsTurning`). A turn that is made goes on so. One
+-- that is cut short ends the loop; so does the closing of all connections behind the last turn, which sends nothing.
+use Rattle.std.proofs.Common.{◌≡◌, ◌⊎◌, inl, inr, ◌≤◌, ◌<◌, ℕ, ◌+◌, ◌-◌, List, [], ◌∷◌, ◌++◌, Bool, true, false, Option, Some, None, Ok, Err, refl, ap, sym, ◌∙◌, subst, arith, append_assoc, append-nil}
+use Rattle.std.specs.Prelude.{◌&&◌, ◌||◌, not, nat_eq, nat_lt, find, filter, map, drop, length, option_map, IfSome, Result, IsErrAnd, if◌then◌else◌}
+use Rattle.std.specs.List.{list_all}
+use Rattle.std.proofs.lemmas.Bool.Decides.{nat_tests}
+use Rattle.std.proofs.lemmas.List.{length-drop}
+use Rattle.hc_core.specs.Steps.{steps, faults_in}
+use Rattle.hc_io.specs.Sink.{Takes, TakesFront}
+use Rattle.hc_model.specs.Exchanges.{is_open}
+use Rattle.hc_model.specs.Tables.{tables}
+use Rattle.hc_peers.specs.Clients.{client_of}
+use Rattle.hc_peers.specs.Upstreams.{upstream_of}
+use Rattle.hc_peers.specs.declared.client.Client as peer
+use Rattle.hc_peers.specs.declared.upstream.Upstream as origin
+use Rattle.hc_rules.specs.declared.room.Limits.{Limits}
+use Rattle.hc_sched.specs.declared.schedule.Ended.{Ended}
+use Rattle.hc_sched.specs.declared.schedule.Ended.TheVariants as ended
+use Rattle.hc_store.specs.declared.backend.Backend.{Ghosts}
+use Rattle.hc_wire.specs.Events.{Stage, Unseen}
+use Rattle.hc_wire.specs.Logs.{Log, Taker, Called, empty_log, is_numbered, is_at_end, shut, standings_in, stage_from, stage_in, sent_in}
+use Rattle.hc_wire.specs.declared.event.WireEvent.TheVariants as event
+use Rattle.hc_proxy.specs.declared.proxy.Proxy as loop
+use Rattle.hc_proxy.specs.declared.stop.Stop.{Stop}
+use Rattle.hc_proxy.specs.declared.stop.Stop.TheVariants as stop
+use Rattle.hc_proxy.specs.Connections.{connection_of, taken_at}
+use Rattle.hc_proxy.specs.Endings.{IsLog, IsFresh, Serves, was_sent}
+use Rattle.hc_proxy.specs.Keeping.{Frame, HasUpstreams, IsUpstream, IsUpstreamAt}
+use Rattle.hc_proxy.specs.Logging.{AreApart, short_from, is_short}
+use Rattle.hc_proxy.specs.Loops.{AllFit}
+use Rattle.hc_proxy.specs.Network.{open_exchanges, heard}
+use Rattle.hc_proxy.specs.Records.{text_of}
+use Rattle.hc_proxy.specs.Resting.{IsRestingClient, IsRestingAt, Rests}
+use Rattle.hc_proxy.specs.Rows.{Client, Upstream, Proxy, unused}
+use Rattle.hc_proxy.specs.Sending.{owed_by, is_taken, client_is_sent, taker_of, exchange_is_sent, all_is_sent}
+use Rattle.hc_proxy.specs.Serving.{IsOfLoop, IsCutShort, IsStill, Begins, TurnsTo, TurnStops, EndsBy, ServesAs, IsClosed, all_closed}
+use Rattle.hc_proxy.specs.Stops.{ended_as, ended_by}
+use Rattle.hc_proxy.specs.Turns.{turned_by, behind_all, record_of}
+use Rattle.hc_proxy.specs.Waiting.{waits}
+use Rattle.hc_proxy.proofs.Fitting.{all_reversed, all_filtered, opened_within}
+use Rattle.hc_proxy.proofs.FinishGoes.{takes_all}
+use Rattle.hc_proxy.proofs.Rows.{sent_all}
+use Rattle.hc_proxy.proofs.TakersStand.{open_taker, sent_found, taken_found}
+use Rattle.hc_proxy.proofs.TurnGoes.{takes_nothing}
+
+-- WHAT A SINK TOOK
+
+pub takes_both : (out mid new : Option (List ℕ)) (one two : List ℕ) → Takes out mid one → Takes mid new two → Takes out new (one ++ two)
+takes_both None mid new one two a b = by_mid mid a b
+  where
+    by_mid : (m : Option (List ℕ)) → m ≡ None → Takes m new two → new ≡ None
+    by_mid None is t = t
+    by_mid (Some bytes) is t = absurd (let never : Some bytes ≡ None = is in cc)
+takes_both (Some old) mid new one two a b = by_mid mid a b
+  where
+    some_is : (c d : List ℕ) → Some c ≡ Some d → c ≡ d
+    some_is c d h = cc
+
+    by_mid : (m : Option (List ℕ)) → m ≡ Some (old ++ one) → Takes m new two → new ≡ Some (old ++ (one ++ two))
+    by_mid None is t = absurd (let never : None ≡ Some (old ++ one) = is in cc)
+    by_mid (Some bytes) is t = t ∙ ap Some (ap (λ (z : List ℕ). z ++ two) (some_is bytes (old ++ one) is) ∙ append_assoc old one two)
+
+front_behind : (out mid new : Option (List ℕ)) (written text : List ℕ) → Takes out mid written → TakesFront mid new text → TakesFront out new (written ++ text)
+front_behind out mid new written text a b = record {
+  front = written ++ b.front;
+  rest = b.rest;
+  whole = append_assoc written b.front b.rest ∙ ap (λ (z : List ℕ). written ++ z) b.whole;
+  takes = takes_both out mid new written b.front a b.takes;
+}
+
+-- BETWEEN TURNS
+
+pub record IsTurning {B : Type 0} {g : Ghosts B} (n m : ℕ) (limits : Limits) (before : Log) (x : loop.Proxy B g) (told : Option Log) (stages : ℕ → Stage) (out out' : Option (List ℕ)) (wait : Bool) : Type 0 where
+  pub f : Frame
+  pub p : Proxy
+  pub log : Log
+  pub still : IsStill n f x p log told stages
+  pub wait_is : wait ≡ waits f.limits p
+  pub limits_are : f.limits ≡ limits
+  pub takes : Takes out out' f.written
+  pub bound : log.bound ≡ before.bound
+  pub calls : length log.calls ≡ m
+  pub of_loop : IsOfLoop f.limits log p
+
+-- nothing happened yet, so the first call waits
+pub first_waits : (limits : Limits) → true ≡ waits limits unused
+unfolding heard tables
+first_waits limits = refl
+
+fresh_of_loop : (limits : Limits) (log : Log) → IsFresh log → IsOfLoop limits log unused
+fresh_of_loop limits log fresh = record {
+  fit = subst (AllFit limits log.dialled unused) (sym fresh.calls) tt;
+  tables = sym (ap (λ cs. turned_by limits log.dialled cs unused) fresh.calls);
+  sent = ap (list_all (was_sent log.dialled unused)) fresh.takers;
+}
+
+module _ {B : Type 0} {g : Ghosts B} where
+  pub turning_begins : (n : ℕ) (f : Frame) (x : loop.Proxy B g) (before : Log) (told : Option Log) (stages : ℕ → Stage) (out : Option (List ℕ)) → Begins n f x before told stages → IsTurning n 0 f.limits before x told stages out out true
+  turning_begins n f x before told stages out b = record {
+    f = f;
+    p = unused;
+    log = before;
+    still = b.still;
+    wait_is = first_waits f.limits;
+    limits_are = refl;
+    takes = subst (Takes out out) (sym b.unwritten) (takes_nothing out);
+    bound = refl;
+    calls = ap length b.fresh.calls;
+    of_loop = fresh_of_loop f.limits before b.fresh;
+  }
+
+  module _ (n m : ℕ) (limits : Limits) (before : Log) (x : loop.Proxy B g) (told : Option Log) (stages : ℕ → Stage) (out out' : Option (List ℕ)) (wait : Bool) (t : IsTurning n m limits before x told stages out out' wait) where
+    -- one more turn
+    pub turning_on : (n' : ℕ) (x' : loop.Proxy B g) (told' : Option Log) (stages' : ℕ → Stage) (new : Option (List ℕ)) (again : Bool) → TurnsTo n' t.f t.p t.log x x' told' stages' out' new again → faults_in x'.cache ≡ faults_in x.cache
+        → IsTurning n' (m + 1) limits before x' told' stages' out new again
+    turning_on n' x' told' stages' new again to none = record {
+      f = to.f';
+      p = to.p';
+      log = to.log';
+      still = to.still;
+      wait_is = to.again_is ∙ ap (λ l. waits l to.p') (sym to.limits);
+      limits_are = to.limits ∙ t.limits_are;
+      takes = subst (Takes out new) (sym to.written) (takes_both out out' new t.f.written to.text t.takes to.takes);
+      bound = to.bound ∙ t.bound;
+      calls = let a = to.calls in let b = t.calls in omega arith;
+      of_loop = subst (λ l. IsOfLoop l to.log' to.p') (sym to.limits) (to.goes none t.of_loop);
+    }
+
+    record_so : record_of t.p ≡ t.f.written
+    record_so = t.still.rests.cache.text ∙ (ap (λ (z : List ℕ). t.f.written ++ z) t.still.written ∙ append-nil t.f.written)
+
+    -- WHERE IT ENDS
+
+    by_stop : (turns : ℕ) (log : Log) (new : Option (List ℕ)) (e : Stop) → IsLog limits log → length log.calls ≤ turns → TakesFront out new (record_of (behind_all limits log)) → Serves limits turns log out new (ended_by e)
+    by_stop turns log new stop.SinkFailed is few front = Serves.unwritten is few front
+    by_stop turns log new stop.WireFailed is few front = Serves.unwired is few front
+    by_stop turns log new stop.NoMemory is few front = Serves.wanting is few front
+
+    -- a turn is cut short
+    pub turning_stops : (turns : ℕ) (x' : loop.Proxy B g) (told' : Option Log) (new : Option (List ℕ)) (P : Stop → Type 0) (result : Result (Unit {0}) Stop) → IsErrAnd result P → m < turns → TurnStops t.f t.p t.log x x' told' out' new → faults_in x'.cache ≡ faults_in x.cache
+        → EndsBy limits turns before told' out new (ended_as result)
+    turning_stops turns x' told' new P (Ok done) stops less cut none = absurd stops
+    turning_stops turns x' told' new P (Err e) stops less cut none =
+        let c = cut.goes none t.of_loop in
+        let c' : IsCutShort limits cut.log' t.f.written out' new = subst (λ l. IsCutShort l cut.log' t.f.written out' new) t.limits_are c in
+        record {
+          log' = cut.log';
+          told_is = cut.told_is;
+          bound = cut.bound ∙ t.bound;
+          serves =
+              by_stop turns cut.log' new e c'.is_log (let a = cut.calls in let b = t.calls in omega arith)
+              (subst (TakesFront out new) (sym c'.record_is) (front_behind out out' new t.f.written c'.text t.takes c'.takes));
+        }
+
+    is_log_now : IsLog limits t.log
+    is_log_now = subst (λ l. IsLog l t.log) t.limits_are (record {
+      fit = t.of_loop.fit;
+      sent = subst (λ (r : Proxy). list_all (was_sent t.log.dialled r) t.log.takers ≡ true) t.of_loop.tables t.of_loop.sent;
+      dialled = let same = t.still.rests.opened in subst (λ (r : Proxy). length t.log.dialled ≤ r.tables.opened) t.of_loop.tables (omega arith);
+    })
+
+    tables_now : t.p ≡ behind_all limits t.log
+    tables_now = t.of_loop.tables ∙ ap (λ l. behind_all l t.log) t.limits_are
+
+    all_taken : Takes out out' (record_of (behind_all limits t.log))
+    all_taken = subst (Takes out out') (sym record_so ∙ ap record_of tables_now) t.takes
+
+    -- memory was refused behind the last turn
+    pub turning_wants : (turns : ℕ) (told' : Option Log) (P : Stop → Type 0) (result : Result (Unit {0}) Stop) → IsErrAnd result P → m ≤ turns → told' ≡ told → EndsBy limits turns before told' out out' (ended_as result)
+    turning_wants turns told' P (Ok done) stops few same = absurd stops
+    turning_wants turns told' P (Err e) stops few same = record {
+      log' = t.log;
+      told_is = subst (λ (z : Option Log). (z ≡ None) ⊎ (z ≡ Some t.log)) (sym same) t.still.follows.told_is;
+      bound = t.bound;
+      serves = by_stop turns t.log out' e is_log_now (let b = t.calls in omega arith) (takes_all out out' (record_of (behind_all limits t.log)) all_taken);
+    }
+
+-- ALL ARE CLOSED
+
+shut_sent : (test : Taker → Bool) → ((c : Taker) → test (shut c) ≡ test c) → (cs : List Taker) → list_all test (map shut cs) ≡ list_all test cs
+shut_sent test same [] = refl
+shut_sent test same (c ∷ cs) = ap (λ b. b && list_all test (map shut cs)) (same c) ∙ ap (λ b. test c && b) (shut_sent test same cs)
+
+shut_closed : (cs : List Taker) → list_all (λ (c : Taker). not c.live) (map shut cs) ≡ true
+shut_closed [] = refl
+shut_closed (c ∷ cs) = shut_closed cs
+
+shut_found : (k : ℕ) (cs : List Taker) → find (is_numbered k) (map shut cs) ≡ option_map shut (find (is_numbered k) cs)
+shut_found k [] = refl
+shut_found k (c ∷ cs) = by_test (nat_eq c.k k) (shut_found k cs)
+  where
+    by_test : (b : Bool) → find (is_numbered k) (map shut cs) ≡ option_map shut (find (is_numbered k) cs) → (if b then Some (shut c) else find (is_numbered k) (map shut cs)) ≡ option_map shut (if b then Some c else find (is_numbered k) cs)
+    by_test true rest = refl
+    by_test false rest = rest
+
+shut_taken : (calls n : ℕ) (o : Option Taker) → is_taken calls n (option_map shut o) ≡ is_taken calls n o
+shut_taken calls n None = refl
+shut_taken calls n (Some c) = refl
+
+or_right : (a b : Bool) → b ≡ true → (a || b) ≡ true
+or_right true b is = refl
+or_right false b is = is
+
+or_left : (a b : Bool) → a ≡ true → (a || b) ≡ true
+or_left true b is = refl
+or_left false b is = absurd (let never : false ≡ true = is in cc)
+
+not_less : (m n : ℕ) → n ≤ m → not (nat_lt m n) ≡ true
+not_less m n le = grind (arith, nat_tests)
+
+-- nothing is left where all was taken
+none_left : (taken : ℕ) (owed unsent : List ℕ) → taken ≤ length owed → unsent ≡ drop taken owed → unsent ≡ [] → length owed ≤ taken
+none_left taken owed unsent within is none =
+    let test : nat_eq (length unsent) 0 ≡ not (nat_lt taken (length owed)) = sent_all taken owed unsent within is in
+    let zero_left : length unsent ≡ 0 = ap length none in
+    let size : length unsent ≡ length owed - taken = ap length is ∙ length-drop taken owed in
+    omega arith
+
+owed_resting : (log : Log) (k : ℕ) (w : peer.Client) (row : Client) → IsRestingClient log k w row → (length row.owed ≤ length (sent_in log.takers k)) ⊎ (is_short log k ≡ true)
+owed_resting log k w row is = by_lack is.lacks
+  where
+    by_lack : (w.unsent ≡ []) ⊎ (is_short log k ≡ true) → (length row.owed ≤ length (sent_in log.takers k)) ⊎ (is_short log k ≡ true)
+    by_lack (inl none) = inl (none_left (length (sent_in log.takers k)) row.owed w.unsent is.is_client.within is.is_client.unsent none)
+    by_lack (inr short) = inr short
+
+both_hold : (a b : Bool) → a ≡ true → b ≡ true → (a && b) ≡ true
+both_hold true b x y = y
+both_hold false b x y = x
+
+each_holds : (test : ℕ → Bool) (ks : List ℕ) → ((k : ℕ) → test k ≡ true) → list_all test ks ≡ true
+each_holds test [] each = refl
+each_holds test (k ∷ ks) each = both_hold (test k) (list_all test ks) (each k) (each_holds test ks each)
+
+module _ {B : Type 0} {g : Ghosts B} (f : Frame) (x : loop.Proxy B g) (p : Proxy) (log : Log) (r : Rests f x p log) where
+  -- who is found has taken all, or less than it was offered
+  taken_by : (k owed : ℕ) (c : Taker) → find (is_numbered k) log.takers ≡ Some c → (owed ≤ length (sent_in log.takers k)) ⊎ (is_short log k ≡ true) → is_taken (length log.calls) owed (find (is_numbered k) log.takers) ≡ true
+  taken_by k owed c found (inl all) =
+      ap (is_taken (length log.calls) owed) found
+      ∙ or_right (is_at_end c.short (length log.calls)) (not (nat_lt (length c.sent) owed)) (not_less (length c.sent) owed (let size = ap length (sent_found k c log.takers found) in omega arith))
+  taken_by k owed c found (inr short) =
+      ap (is_taken (length log.calls) owed) found
+      ∙ or_left (is_at_end c.short (length log.calls)) (not (nat_lt (length c.sent) owed)) (ap (λ o. is_at_end (short_from o) (length log.calls)) (sym found) ∙ short)
+
+  client_sent : (k : ℕ) → client_is_sent log k (p.client k) ≡ true
+  client_sent k = by_row (client_of x.clients k) (p.client k) refl refl (r.clients k)
+    where
+      by_taker : (row : Client) → p.client k ≡ Some row → (length row.owed ≤ length (sent_in log.takers k)) ⊎ (is_short log k ≡ true) → is_taken (length log.calls) (length row.owed) (find (is_numbered k) log.takers) ≡ true
+      by_taker row at lacks = by_found (find (is_numbered k) log.takers) refl
+        where
+          by_found : (o : Option Taker) → find (is_numbered k) log.takers ≡ o → is_taken (length log.calls) (length row.owed) (find (is_numbered k) log.takers) ≡ true
+          by_found None found = absurd (let never : None ≡ Some row = sym (r.seen k (ap stage_from found)).0 ∙ at in cc)
+          by_found (Some c) found = taken_by k (length row.owed) c found lacks
+
+      by_row : (o : Option peer.Client) (s : Option Client) → client_of x.clients k ≡ o → p.client k ≡ s → IsRestingAt log k o s → client_is_sent log k s ≡ true
+      by_row o None at at' is = refl
+      by_row None (Some row) at at' (inl gone) = or_left row.gone _ gone
+      by_row None (Some row) at at' (inr (closing, all)) = or_right row.gone _ (by_taker row at' (inl all))
+      by_row (Some w) (Some row) at at' is = or_right row.gone _ (by_taker row at' (owed_resting log k w row is))
+
+  module _ (apart : AreApart log.takers) where
+    abbrev any_call : Called
+    any_call = record { wait = true; moment = 0; event = event.Quiet; bytes = []; standings = standings_in log }
+
+    origin_lacks : (u : origin.Upstream) (row : Upstream) (c : Taker) → find (is_numbered u.k) log.takers ≡ Some c → c.live ≡ true → IsUpstream (taken_at any_call u.k) u row → (u.unsent ≡ []) ⊎ (is_short log u.k ≡ true) → (length row.owed ≤ length (sent_in log.takers u.k)) ⊎ (is_short log u.k ≡ true)
+    origin_lacks u row c found live is (inr short) = inr short
+    origin_lacks u row c found live is (inl none) =
+        let taken : taken_at any_call u.k ≡ length c.sent = taken_found log any_call refl apart u.k c found live in
+        let size : length (sent_in log.takers u.k) ≡ length c.sent = ap length (sent_found u.k c log.takers found) in
+        let le : length row.owed ≤ taken_at any_call u.k = none_left (taken_at any_call u.k) row.owed u.unsent is.within is.unsent none in
+        inl (omega arith)
+
+    exchange_sent : (y : ℕ) → is_open (p.tables.exchange y) ≡ true → exchange_is_sent log p y ≡ true
+    exchange_sent y live = by_row (upstream_of x.upstreams y) (p.upstream y) refl refl (ups.rows y live within)
+      where
+        ups : HasUpstreams (record { frame = f; call = any_call; dialled = log.dialled; stages = stage_in log.takers }) x p []
+        ups = r.upstreams any_call (stage_in log.takers)
+
+        within : y ≤ length log.dialled
+        within = let le = opened_within f x p log r apart any_call refl y live in let same = r.opened in omega arith
+
+        by_row : (o : Option origin.Upstream) (s : Option Upstream) → upstream_of x.upstreams y ≡ o → p.upstream y ≡ s → IsUpstreamAt (taken_at any_call) o s → exchange_is_sent log p y ≡ true
+        by_row None s at at' is = absurd is
+        by_row (Some u) None at at' is = absurd is
+        by_row (Some u) (Some row) at at' is =
+            let open_now = r.wire.upstreams y u at in
+            let o = open_taker u.k u.reading open_now.0 log.takers open_now.1 in
+            ap (λ (n : ℕ). is_taken (length log.calls) n (taker_of log (connection_of log.dialled y))) (ap owed_by at')
+            ∙ (ap (λ (c : Option ℕ). is_taken (length log.calls) (length row.owed) (taker_of log c)) (ups.numbers y u at)
+            ∙ taken_by u.k (length row.owed) o.c o.found (origin_lacks u row o.c o.found o.live is (r.resting y u at).lacks))
+
+    pub all_sent : all_is_sent log p ≡ true
+    all_sent = both_hold (list_all (λ k. client_is_sent log k (p.client k)) p.accepted) (list_all (exchange_is_sent log p) (open_exchanges p.tables))
+        (each_holds (λ k. client_is_sent log k (p.client k)) p.accepted client_sent)
+        (all_reversed (exchange_is_sent log p) (filter (λ y. is_open (p.tables.exchange y)) p.tables.openings) (all_filtered (exchange_is_sent log p) (λ y. is_open (p.tables.exchange y)) p.tables.openings exchange_sent))
+
+-- the same behind the closing
+client_shut : (log : Log) (k : ℕ) (o : Option Client) → client_is_sent (all_closed log) k o ≡ client_is_sent log k o
+client_shut log k None = refl
+client_shut log k (Some row) = ap (λ b. row.gone || b) (ap (is_taken (length log.calls) (length row.owed)) (shut_found k log.takers) ∙ shut_taken (length log.calls) (length row.owed) (find (is_numbered k) log.takers))
+
+exchange_shut : (log : Log) (p : Proxy) (y : ℕ) → exchange_is_sent (all_closed log) p y ≡ exchange_is_sent log p y
+exchange_shut log p y = by_number (connection_of log.dialled y)
+  where
+    by_number : (o : Option ℕ) → is_taken (length log.calls) (owed_by (p.upstream y)) (taker_of (all_closed log) o) ≡ is_taken (length log.calls) (owed_by (p.upstream y)) (taker_of log o)
+    by_number None = refl
+    by_number (Some k) = ap (is_taken (length log.calls) (owed_by (p.upstream y))) (shut_found k log.takers) ∙ shut_taken (length log.calls) (owed_by (p.upstream y)) (find (is_numbered k) log.takers)
+
+each_same : (f h : ℕ → Bool) → ((k : ℕ) → f k ≡ h k) → (ks : List ℕ) → list_all f ks ≡ list_all h ks
+each_same f h same [] = refl
+each_same f h same (k ∷ ks) = ap (λ b. b && list_all f ks) (same k) ∙ ap (λ b. h k && b) (each_same f h same ks)
+
+all_shut : (log : Log) (p : Proxy) → all_is_sent (all_closed log) p ≡ all_is_sent log p
+all_shut log p =
+    ap (λ b. b && list_all (exchange_is_sent (all_closed log) p) (open_exchanges p.tables)) (each_same (λ k. client_is_sent (all_closed log) k (p.client k)) (λ k. client_is_sent log k (p.client k)) (λ k. client_shut log k (p.client k)) p.accepted)
+    ∙ ap (λ b. list_all (λ k. client_is_sent log k (p.client k)) p.accepted && b) (each_same (exchange_is_sent (all_closed log) p) (exchange_is_sent log p) (exchange_shut log p) (open_exchanges p.tables))
+
+module _ {B : Type 0} {g : Ghosts B} (n m : ℕ) (limits : Limits) (before : Log) (x : loop.Proxy B g) (told : Option Log) (stages : ℕ → Stage) (out out' : Option (List ℕ)) (wait : Bool) (t : IsTurning n m limits before x told stages out out' wait) where
+  -- all turns were made, and all connections are closed
+  pub turning_ends : (told' : Option Log) → IsClosed t.log told' → EndsBy limits m before told' out out' ended.Done
+  turning_ends told' closed =
+      let now = is_log_now n m limits before x told stages out out' wait t in
+      let same = tables_now n m limits before x told stages out out' wait t in
+      record {
+        log' = all_closed t.log;
+        told_is = closed;
+        bound = t.bound;
+        serves =
+            Serves.done
+            (record {
+              fit = now.fit;
+              sent = shut_sent (was_sent t.log.dialled (behind_all limits t.log)) (λ c. refl) t.log.takers ∙ now.sent;
+              dialled = now.dialled;
+            })
+            t.calls
+            (record {
+              sent = subst (λ (r : Proxy). all_is_sent (all_closed t.log) r ≡ true) same (all_shut t.log t.p ∙ all_sent t.f x t.p t.log t.still.rests t.still.follows.apart);
+              dialled = t.still.rests.opened ∙ ap (λ (r : Proxy). r.tables.opened) same;
+              closed = shut_closed t.log.takers;
+            })
+            (all_taken n m limits before x told stages out out' wait t);
+      }
+
+-- BEFORE THE FIRST TURN
+
+-- what the wire tells, or nothing yet
+abbrev pub log_of : Option Log → Log
+log_of None = empty_log
+log_of (Some log) = log
+
+told_first : (told : Option Log) → (told ≡ None) ⊎ (told ≡ Some (log_of told))
+told_first None = inl refl
+told_first (Some log) = inr refl
+
+fresh_first : (told : Option Log) → IfSome told IsFresh → IsFresh (log_of told)
+fresh_first None fresh = record { calls = refl; dialled = refl; takers = refl }
+fresh_first (Some log) fresh = fresh
+
+abbrev pub frame_of : Limits → Frame
+frame_of limits = record { limits = limits; written = []; bytes = 0 }
+
+module _ {B : Type 0} {g : Ghosts B} (n : ℕ) (limits : Limits) (x : loop.Proxy B g) (told : Option Log) (stages : ℕ → Stage) (fresh : IfSome told IsFresh) (unseen : (k : ℕ) → stages k ≡ Unseen)
+    (rests : (log : Log) → IsFresh log → Rests (frame_of limits) x unused log) (none : steps x.cache ≡ 0) (written : text_of x.record ≡ []) where
+  pub loop_begins : Begins n (frame_of limits) x (log_of told) told stages
+  loop_begins =
+      let is = fresh_first told fresh in
+      record {
+        still = record {
+          rests = rests (log_of told) is;
+          follows = record {
+            told_is = told_first told;
+            stands = λ k. unseen k ∙ sym (ap (λ cs. stage_in cs k) is.takers);
+            apart = subst AreApart (sym is.takers) tt;
+          };
+          within = record { bytes = omega arith; steps_are = omega arith };
+          written = written;
+        };
+        fresh = is;
+        unwritten = refl;
+      }
+
+pub told_at_first : (told : Option Log) → (told ≡ None) ⊎ (told ≡ Some (log_of told))
+told_at_first told = told_first told
+
+-- what the wire tells
+pub told_ends : (limits : Limits) (turns : ℕ) (log : Log) (told told' : Option Log) (out out' : Option (List ℕ)) (end : Ended) → (told ≡ None) ⊎ (told ≡ Some log) → EndsBy limits turns log told' out out' end → ServesAs limits turns told told' out out' end
+told_ends limits turns log told None out out' end is e = tt
+told_ends limits turns log told (Some l) out out' end is e = by_told e.told_is
+  where
+    some_is : (a b : Log) → Some a ≡ Some b → a ≡ b
+    some_is a b h = cc
+
+    by_old : (o : Option Log) → (o ≡ None) ⊎ (o ≡ Some log) → (l' : Log) → l'.bound ≡ log.bound → IfSome o (λ old. l'.bound ≡ old.bound)
+    by_old None so l' same = tt
+    by_old (Some old) (inl none) l' same = absurd (let never : Some old ≡ None = none in cc)
+    by_old (Some old) (inr it) l' same = same ∙ ap (λ (z : Log). z.bound) (sym (some_is old log it))
+
+    by_told : (Some l ≡ None) ⊎ (Some l ≡ Some e.log') → Serves limits turns l out out' end × IfSome told (λ old. l.bound ≡ old.bound)
+    by_told (inl none) = absurd (let never : Some l ≡ None = none in cc)
+    by_told (inr same) =
+        let it : l ≡ e.log' = some_is l e.log' same in
+        subst (λ (z : Log). Serves limits turns z out out' end × IfSome told (λ old. z.bound ≡ old.bound)) (sym it) (e.serves, by_old told is e.log' e.bound)

@@ -1,0 +1,37 @@
+-- What is told of bytes that came has a spelling: a request and a head are events of a schedule.
+use Rattle.std.proofs.Common.{◌≡◌, ◌≤◌, ◌<◌, ◌^◌, ℕ, true, List, [], ◌∷◌, refl, subst, arith}
+use Rattle.std.specs.Prelude.{nat_le, length}
+use Rattle.std.proofs.lemmas.Bool.Decides.{nat_tests}
+use Rattle.std.proofs.lemmas.List.Elements.{All-head}
+use Rattle.hc_event.specs.declared.event.Event.TheVariants as event
+use Rattle.hc_event.specs.declared.event.Request.{Request}
+use Rattle.hc_event.specs.declared.event.Response.{Response}
+use Rattle.hc_head.specs.Spellings.{IsMethod, IsSpelledRequest, IsSpelledResponse}
+use Rattle.hc_msg.specs.Inputs.{Tells, next_in}
+use Rattle.hc_msg.specs.NextParts.{IsToldFirst, StandsNext}
+use Rattle.hc_msg.specs.Reading.{Reading, Token}
+use Rattle.hc_msg.specs.Spelled.{IsSpelled}
+use Rattle.hc_msg.proofs.Leading.{tells_leads}
+use Rattle.hc_msg.proofs.NextParts.{stands_next}
+use Rattle.hc_msg.proofs.Spelled.{tokens_spelled}
+use Rattle.hc_sched.specs.FirstLines.{is_method}
+use Rattle.hc_sched.specs.Schedule.{IsEvent}
+
+-- what is told next has a spelling
+pub told_spelled : (most : ℕ) (s : Reading) (input : List ℕ) (token : Token) (t : Reading) (rest : List ℕ) → next_in most s input ≡ Tells token t rest → IsSpelled token
+told_spelled most s input token t rest is =
+    let first : IsToldFirst s input token t rest = subst (StandsNext most s input) is (stands_next most s input) in
+    All-head IsSpelled token [] (tokens_spelled s first.front (token ∷ []) t (tells_leads s first.front token t first.tells))
+
+method_is : (method : List ℕ) → IsMethod method → is_method method ≡ true
+unfolding is_method
+method_is method h =
+    let some : nat_le 1 (length method) ≡ true = (let le : 1 ≤ length method = h.some in grind (arith, nat_tests)) in
+    let short : nat_le (length method) 15 ≡ true = (let le : length method ≤ 15 = h.short in grind (arith, nat_tests)) in
+    rw (h.token, some, short, h.other) refl
+
+pub start_spelled : (c : ℕ) (request : Request) → c < 2 ^ 62 → IsSpelledRequest request → IsEvent (event.Start c request)
+start_spelled c request small h = (small, method_is request.method h.method, h.key, record { list = h.fields.list; within_limits = h.fields.within_limits })
+
+pub head_spelled : (x : ℕ) (response : Response) → x < 2 ^ 62 → IsSpelledResponse response → IsEvent (event.Head x response)
+head_spelled x response small h = (small, h.low, h.high, record { list = h.fields.list; within_limits = h.fields.within_limits })

@@ -1,0 +1,86 @@
+-- Who was told in a turn that it is over is over, behind each entry of the turn.
+use Rattle.std.proofs.Common.{◌≡◌, inl, inr, ℕ, true, false, Option, Some, None, refl, ap, sym, ◌∙◌}
+use Rattle.hc_event.specs.Filters.{leaves_in}
+use Rattle.hc_event.specs.declared.place.Place.{Place}
+use Rattle.hc_event.specs.declared.place.Place.TheVariants as place
+use Rattle.hc_rules.specs.declared.room.Limits.{Limits}
+use Rattle.hc_model.specs.ConsumerRows.{consumer_after, consumer_settled, consumer_acted, consumer_heard}
+use Rattle.hc_model.specs.Denials.{is_live, is_live_place}
+use Rattle.hc_model.specs.Entries.{Entry}
+use Rattle.hc_model.specs.Lawful.{Lawful}
+use Rattle.hc_model.specs.Rows.{Tables, Consumer}
+use Rattle.hc_model.specs.Runs.{IsOwed}
+use Rattle.hc_model.specs.Tables.{after}
+use Rattle.hc_model.proofs.Basics.{or_cases}
+use Rattle.hc_proxy.specs.Carrying.{acts_in}
+use Rattle.hc_proxy.specs.Rows.{Proxy}
+use Rattle.hc_proxy.specs.Steps.{with_entry}
+use Rattle.hc_proxy.specs.Invariants.{AreOver}
+use Rattle.hc_proxy.proofs.Holders.{leaves_append}
+use Rattle.hc_laws.proofs.LiveAfter.{consumer_behind, dead_stays}
+use Rattle.hc_laws.proofs.WhoLeaves.{told_over, told_live}
+
+-- it started, and is over
+pub record IsOver (t : Tables) (c : ℕ) : Type 0 where
+  pub k : Consumer
+  pub row : t.consumer c ≡ Some k
+  pub over : is_live (t.consumer c) ≡ false
+
+-- whoever was told so in this turn
+abbrev pub HasOver : Proxy → Type 0
+HasOver p = (c : ℕ) → leaves_in c (acts_in p.part) ≡ true → IsOver p.tables c
+
+pub are_over : (p : Proxy) → HasOver p → AreOver (acts_in p.part) p
+are_over p h c leaves = (h c leaves).over
+
+-- THE ROW BEHIND AN ENTRY
+
+-- who started stays
+row_stays : (t : Tables) (e : Entry) (c : ℕ) (k : Consumer) → t.consumer c ≡ Some k → (q : Consumer) × ((after t e).consumer c ≡ Some q)
+unfolding consumer_after
+row_stays t e c k row = elim (consumer_behind t e c) as (λ _. (q : Consumer) × ((after t e).consumer c ≡ Some q)) [
+  | inl same ↦ (k, same ∙ row)
+  | inr on ↦ (consumer_settled t e c k (consumer_acted t e c (consumer_heard t e c e.event k)), on.1 ∙ ap (consumer_after t e c) row)
+]
+
+over_place : (p : Place) → is_live_place p ≡ false → p ≡ place.Over
+over_place place.Over h = refl
+over_place place.Line h = absurd (let never : true ≡ false = h in cc)
+over_place (place.Passed r kept) h = absurd (let never : true ≡ false = h in cc)
+over_place (place.Turn x) h = absurd (let never : true ≡ false = h in cc)
+over_place (place.Bound r lo hi how) h = absurd (let never : true ≡ false = h in cc)
+over_place (place.Direct x) h = absurd (let never : true ≡ false = h in cc)
+over_place (place.Down why) h = absurd (let never : true ≡ false = h in cc)
+
+some_row : (o : Option Consumer) → is_live o ≡ true → (k : Consumer) × (o ≡ Some k)
+some_row None h = absurd (let never : false ≡ true = h in cc)
+some_row (Some k) h = (k, refl)
+
+module _ (limits : Limits) (t : Tables) (e : Entry) (law : Lawful t) (is : IsOwed limits t e) where
+  -- who is over stays so
+  pub over_stays : (c : ℕ) → IsOver t c → IsOver (after t e) c
+  over_stays c o =
+      let behind = row_stays t e c o.k o.row in
+      record { k = behind.0; row = behind.1; over = off }
+    where
+      off : is_live ((after t e).consumer c) ≡ false
+      off = elim (consumer_behind t e c) as (λ _. is_live ((after t e).consumer c) ≡ false) [
+        | inl same ↦ ap is_live same ∙ o.over
+        | inr on ↦ ap is_live on.1 ∙ dead_stays limits t e law is c o.k on.0 o.row (over_place o.k.place (sym (ap is_live o.row) ∙ o.over))
+      ]
+
+  -- who is told so is over
+  pub told_is_over : (c : ℕ) → leaves_in c e.acts ≡ true → IsOver (after t e) c
+  told_is_over c leaves =
+      let was = some_row (t.consumer c) (told_live limits t e law is c leaves) in
+      let behind = row_stays t e c was.0 was.1 in
+      record { k = behind.0; row = behind.1; over = told_over limits t e law is c leaves }
+
+-- an entry keeps it
+pub over_keeps : (limits : Limits) (p : Proxy) (e : Entry) → Lawful p.tables → IsOwed limits p.tables e → HasOver p → HasOver (with_entry e p)
+unfolding with_entry
+over_keeps limits p e law is h c leaves =
+    elim (or_cases (leaves_in c (acts_in p.part)) (leaves_in c e.acts) (sym (leaves_append c (acts_in p.part) e.acts) ∙ leaves)) as (λ _. IsOver (after p.tables e) c) [
+      | inl before ↦ over_stays limits p.tables e law is c (h c before)
+      | inr now ↦ told_is_over limits p.tables e law is c now
+    ]

@@ -1,0 +1,37 @@
+-- The record behind one more event: its text behind that of the events before.
+use Rattle.std.proofs.Common.{◌≡◌, ℕ, List, [], ◌∷◌, ◌++◌, refl, ap, sym, ◌∙◌, append_assoc, append-nil}
+use Rattle.std.specs.Prelude.{map, reverse}
+use Rattle.std.proofs.lemmas.List.{reverse-append, map-append}
+use Rattle.hc_sched.specs.declared.schedule.Timed.{Timed}
+use Rattle.hc_sched.specs.Schedule.{timed_text}
+use Rattle.hc_model.specs.Entries.{Entry, History}
+use Rattle.hc_proxy.specs.Invariants.{last_event}
+use Rattle.hc_proxy.specs.Turns.{timed_of, text_behind}
+
+-- the moment behind events
+abbrev end_of : ℕ → List Timed → ℕ
+end_of n [] = n
+end_of n (t ∷ ts) = end_of t.now ts
+
+end_more : (n : ℕ) (ts : List Timed) (t : Timed) → end_of n (ts ++ t ∷ []) ≡ t.now
+end_more n [] t = refl
+end_more n (s ∷ ts) t = end_more s.now ts t
+
+text_more : (n : ℕ) (ts : List Timed) (t : Timed) → text_behind n (ts ++ t ∷ []) ≡ text_behind n ts ++ timed_text (end_of n ts) t
+text_more n [] t = append-nil (timed_text n t)
+text_more n (s ∷ ts) t =
+    ap (λ (z : List ℕ). timed_text n s ++ z) (text_more s.now ts t)
+    ∙ sym (append_assoc (timed_text n s) (text_behind s.now ts) (timed_text (end_of s.now ts) t))
+
+turned_more : (e : Entry) (h : History) → map timed_of (reverse (e ∷ h)) ≡ map timed_of (reverse h) ++ timed_of e ∷ []
+turned_more e h = ap (map timed_of) (reverse-append (e ∷ []) h) ∙ map-append timed_of (reverse h) (e ∷ [])
+
+ends_at : (h : History) → end_of 0 (map timed_of (reverse h)) ≡ last_event h
+ends_at [] = refl
+ends_at (e ∷ h) = ap (end_of 0) (turned_more e h) ∙ end_more 0 (map timed_of (reverse h)) (timed_of e)
+
+pub record_more : (e : Entry) (h : History) → text_behind 0 (map timed_of (reverse (e ∷ h))) ≡ text_behind 0 (map timed_of (reverse h)) ++ timed_text (last_event h) (timed_of e)
+record_more e h =
+    ap (text_behind 0) (turned_more e h)
+    ∙ (text_more 0 (map timed_of (reverse h)) (timed_of e)
+    ∙ ap (λ (n : ℕ). text_behind 0 (map timed_of (reverse h)) ++ timed_text n (timed_of e)) (ends_at h))

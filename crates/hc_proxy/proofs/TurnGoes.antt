@@ -1,0 +1,290 @@
+-- What comes of a turn, by how far it came.
+--
+-- The call fits what rested before it, so the log with it is one of the loop's, whose last turn is taken as whole. Where the turn is cut
+-- short, each connection has taken a first part of what it is owed behind the whole turn, and what was written is a first part of its
+-- record. Where it isn't, the tables behind it are those that the definitions owe, if the store counted no failure.
+use Rattle.std.proofs.Common.{◌≡◌, ◌≤◌, ◌<◌, ◌^◌, ℕ, ◌+◌, List, [], ◌∷◌, ◌++◌, Bool, true, false, Option, Some, None, refl, ap, sym, ◌∙◌, subst, arith, append_assoc, append-nil}
+use Rattle.std.specs.Prelude.{length, map, reverse, find}
+use Rattle.std.specs.List.{list_all}
+use Rattle.std.proofs.lemmas.List.{length-append}
+use Rattle.hc_core.specs.Steps.{steps, faults_in}
+use Rattle.hc_io.specs.Sink.{Takes}
+use Rattle.hc_model.specs.Entries.{Entry, History}
+use Rattle.hc_rules.specs.declared.room.Limits.{Limits}
+use Rattle.hc_store.specs.declared.backend.Backend.{Ghosts}
+use Rattle.hc_sched.specs.Schedule.{timed_text}
+use Rattle.hc_wire.specs.Events.{Stage, Unseen, IsOfOpen, FitsIn, stages_after, got_bytes}
+use Rattle.hc_wire.specs.Logs.{Log, Called, Tells, is_numbered, stage_from, with_call}
+use Rattle.hc_wire.specs.declared.event.WireEvent.{WireEvent}
+use Rattle.hc_wire.specs.declared.event.WireEvent.TheVariants as event
+use Rattle.hc_proxy.specs.declared.proxy.Proxy as loop
+use Rattle.hc_proxy.specs.Carrying.{acts_in, carried}
+use Rattle.hc_proxy.specs.Endings.{was_sent}
+use Rattle.hc_proxy.specs.Handling.{begun}
+use Rattle.hc_proxy.specs.Invariants.{AreServed, last_event}
+use Rattle.hc_proxy.specs.Keeping.{Frame, Turn, Begun, KeepsPolled, Goes}
+use Rattle.hc_proxy.specs.Loops.{Fits, AllFit}
+use Rattle.hc_proxy.specs.Records.{text_of}
+use Rattle.hc_proxy.specs.Rows.{Proxy, unused}
+use Rattle.hc_proxy.specs.Serving.{IsOfLoop, IsCutShort, IsStill, FinishesTurn, CutsTurn, TurnsTo, TurnStops}
+use Rattle.hc_proxy.specs.Turns.{so_far, happened, turned, turned_by, behind_all, record_of, timed_of, text_behind}
+use Rattle.hc_proxy.specs.Underway.{OnWire}
+use Rattle.hc_proxy.specs.Waiting.{waits}
+use Rattle.hc_proxy.proofs.Fitting.{dialled_all, fits_now}
+use Rattle.hc_proxy.proofs.Folds.{turned_more, fit_more}
+use Rattle.hc_proxy.proofs.Later.{carried_is_same}
+use Rattle.hc_proxy.proofs.LetGo.{AreGone, turns_gone, unused_gone}
+use Rattle.hc_proxy.proofs.Marked.{contained_among}
+use Rattle.hc_proxy.proofs.MoreDials.{turn_same, turns_same, fits_same, all_fit}
+use Rattle.hc_proxy.proofs.Openings.{StandsKnown, unused_known, turns_know}
+use Rattle.hc_proxy.proofs.Parts.{turn_part}
+use Rattle.hc_proxy.proofs.SentStill.{sent_still}
+use Rattle.hc_proxy.proofs.ServedTurn.{WellHeld, happened_served}
+use Rattle.hc_proxy.proofs.SkippedSteps.{among}
+use Rattle.hc_proxy.proofs.Stands.{turn_goes, unused_stands}
+use Rattle.hc_proxy.proofs.StepOn.{stands_of}
+use Rattle.hc_proxy.proofs.Texts.{record_more}
+use Rattle.hc_proxy.proofs.TurnBegins as begins
+
+-- THE RECORD grows
+
+grown : (es : List Entry) (h : History) → (more : List ℕ) × (text_behind 0 (map timed_of (reverse (es ++ h))) ≡ text_behind 0 (map timed_of (reverse h)) ++ more)
+grown [] h = ([], sym (append-nil (text_behind 0 (map timed_of (reverse h)))))
+grown (e ∷ es) h =
+    let rest = grown es h in
+    let text = timed_text (last_event (es ++ h)) (timed_of e) in (
+      rest.0 ++ text,
+      record_more e (es ++ h) ∙ (ap (λ (z : List ℕ). z ++ text) rest.1 ∙ append_assoc (text_behind 0 (map timed_of (reverse h))) rest.0 text),
+    )
+
+pub takes_nothing : (out : Option (List ℕ)) → Takes out out []
+takes_nothing None = refl
+takes_nothing (Some bytes) = ap Some (sym (append-nil bytes))
+
+-- THE LOG, with one more call and more dials
+
+module _ (limits : Limits) (log : Log) (p : Proxy) (call : Called) (l : IsOfLoop limits log p) (enough : p.tables.opened ≤ length log.dialled) (fits : Fits limits log.dialled p call) where
+  abbrev q : Proxy
+  q = turned limits log.dialled call p
+
+  behind_here : turned_by limits log.dialled log.calls unused ≡ p
+  behind_here = sym l.tables
+
+  enough_behind : (turned_by limits log.dialled log.calls unused).tables.opened ≤ length log.dialled
+  enough_behind = subst (λ (r : Proxy). r.tables.opened ≤ length log.dialled) l.tables enough
+
+  module _ (more : List ℕ) (log' : Log) (calls : log'.calls ≡ log.calls ++ call ∷ []) (dialled : log'.dialled ≡ log.dialled ++ more) where
+    behind_same : turned_by limits (log.dialled ++ more) log.calls unused ≡ p
+    behind_same = turns_same limits log.dialled more log.calls unused (unused_stands limits) enough_behind ∙ behind_here
+
+    pub tables_on : behind_all limits log' ≡ q
+    tables_on =
+        ap (λ ks. turned_by limits ks log'.calls unused) dialled
+        ∙ (ap (λ cs. turned_by limits (log.dialled ++ more) cs unused) calls
+        ∙ (turned_more limits (log.dialled ++ more) log.calls call unused
+        ∙ (ap (turned limits (log.dialled ++ more) call) behind_same ∙ turn_same limits log.dialled more call p enough)))
+
+    pub fit_on : AllFit limits log'.dialled unused log'.calls
+    fit_on =
+        subst (λ ks. AllFit limits ks unused log'.calls) (sym dialled)
+        (subst (AllFit limits (log.dialled ++ more) unused) (sym calls)
+        (fit_more limits (log.dialled ++ more) log.calls call unused
+        (all_fit limits log.dialled more log.calls unused (unused_stands limits) enough_behind l.fit)
+        (subst (λ (r : Proxy). Fits limits (log.dialled ++ more) r call) (sym behind_same) (fits_same limits log.dialled more call p enough fits))))
+
+module _ {B : Type 0} {g : Ghosts B} (n : ℕ) (f : Frame) (x : loop.Proxy B g) (p : Proxy) (log : Log) (told told' : Option Log) (stages stages' : ℕ → Stage) (s : IsStill n f x p log told stages)
+    (wait : Bool) (moment : ℕ) (what : WireEvent) (slice : List ℕ) (of_open : IsOfOpen what stages) (stand : (k : ℕ) → stages' k ≡ stages_after what stages k) (fits : FitsIn what 16384) (early : moment < 2 ^ 62) (many : n + 1 ≤ 2 ^ 45)
+    (tells : Tells told told' (with_call wait moment what (got_bytes what slice))) (waits_so : wait ≡ waits f.limits p) where
+  abbrev pub call : Called
+  call = begins.call n f x p log told told' stages stages' s wait moment what slice of_open stand fits early many
+
+  abbrev pub turn : Turn
+  turn = begins.turn n f x p log told told' stages stages' s wait moment what slice of_open stand fits early many
+
+  abbrev pub x' : loop.Proxy B g
+  x' = begins.x' n f x p log told told' stages stages' s wait moment what slice of_open stand fits early many
+
+  abbrev pub log' : Log
+  log' = begins.log' n f x p log told told' stages stages' s wait moment what slice of_open stand fits early many
+
+  b : Begun turn x' (begun call p) what slice
+  b = begins.begins n f x p log told told' stages stages' s wait moment what slice of_open stand fits early many
+
+  pub on_wire : OnWire turn log' told' stages'
+  on_wire = begins.on_wire n f x p log told told' stages stages' s wait moment what slice of_open stand fits early many tells
+
+  -- the tables that the definitions owe before the acts are carried out
+  abbrev pub owed_by : Proxy
+  owed_by = happened f.limits log.dialled call (begun call p)
+
+  dials_so : so_far p log.dialled ≡ log.dialled
+  dials_so = dialled_all f x p log s.rests s.follows.apart call refl
+
+  turned_is : turned f.limits log.dialled call p ≡ carried owed_by
+  unfolding turned
+  turned_is = ap (λ ks. carried (happened f.limits ks call (begun call p))) dials_so
+
+  call_fits : Fits f.limits log.dialled p call
+  call_fits = fits_now f x p log s.rests s.follows.apart call refl (begins.few_bytes n f x p log told told' stages stages' s wait moment what slice of_open stand fits early many) waits_so
+
+  -- WHO IS SERVED
+
+  new_there : (k : ℕ) → call.event ≡ event.Accepted k → among k (begun call p).accepted ≡ false
+  new_there k is = by_test (among k p.accepted) refl
+    where
+      unseen : stage_from (find (is_numbered k) log.takers) ≡ Unseen
+      unseen = ap stage_from (begins.new_one n f x p log told told' stages stages' s wait moment what slice of_open stand fits early many k is)
+
+      by_test : (t : Bool) → among k p.accepted ≡ t → among k p.accepted ≡ false
+      by_test false off = off
+      by_test true there = absurd ((s.rests.seen k unseen).2 (contained_among k p.accepted there))
+
+  held : WellHeld f.limits (begun call p)
+  held = record {
+    stands = stands_of turn.frame x' (begun call p) b.keeps.cache;
+    holders = b.keeps.consumers;
+    last = b.keeps.cache.last_start;
+    listed = b.keeps.clients.listed;
+    few = b.keeps.clients.few;
+    quiet = refl;
+  }
+
+  served : (ks : List ℕ) → AreServed call (happened f.limits ks call (begun call p)) (acts_in (happened f.limits ks call (begun call p)).part)
+  served ks = happened_served f.limits ks call (begun call p) new_there held
+
+  -- THE LOG OF THE LOOP GOES ON
+
+  enough : p.tables.opened ≤ length log.dialled
+  enough = let is = s.rests.opened in omega arith
+
+  module _ (l : IsOfLoop f.limits log p) where
+    known : StandsKnown f.limits p
+    known = subst (StandsKnown f.limits) (sym l.tables) (turns_know f.limits log.dialled log.calls unused (unused_known f.limits))
+
+    gone : AreGone p
+    gone = subst AreGone (sym l.tables) (turns_gone f.limits log.dialled log.calls unused unused_gone)
+
+    sent_turned : list_all (was_sent log'.dialled (turned f.limits log.dialled call p)) log'.takers ≡ true
+    sent_turned =
+        sent_still f.limits log s.follows.apart p wait moment what (got_bytes what slice) known gone (served (so_far p log.dialled))
+        (begins.ended n f x p log told told' stages stages' s wait moment what slice of_open stand fits early many) l.sent on_wire.follows.apart
+        (begins.new_one n f x p log told told' stages stages' s wait moment what slice of_open stand fits early many)
+        (λ j none. (s.rests.seen j (ap stage_from none)).0)
+
+    sent_carried : list_all (was_sent log'.dialled (carried owed_by)) log'.takers ≡ true
+    sent_carried = subst (λ (r : Proxy). list_all (was_sent log'.dialled r) log'.takers ≡ true) turned_is sent_turned
+
+    -- where it was cut short behind the call, and nothing was written
+    pub cut_early : (out : Option (List ℕ)) → IsCutShort f.limits log' f.written out out
+    cut_early out =
+        let q = turned f.limits log.dialled call p in
+        let is : behind_all f.limits log' ≡ q = tables_on f.limits log p call l enough call_fits [] log' refl (sym (append-nil log.dialled)) in
+        let part = turn_part f.limits log.dialled call p in
+        let more = grown q.part p.history in
+        record {
+          is_log = record {
+            fit = fit_on f.limits log p call l enough call_fits [] log' refl (sym (append-nil log.dialled));
+            sent = subst (λ (r : Proxy). list_all (was_sent log'.dialled r) log'.takers ≡ true) (sym is) sent_turned;
+            dialled =
+                let grows : p.tables.opened ≤ q.tables.opened = (turn_goes f.limits log.dialled call p known.stands).opened in
+                let same = s.rests.opened in
+                subst (λ (r : Proxy). length log.dialled ≤ r.tables.opened) (sym is) (omega arith);
+          };
+          text = more.0;
+          takes = record { front = []; rest = more.0; whole = refl; takes = takes_nothing out };
+          record_is =
+              ap record_of is
+              ∙ (ap (λ (h : History). text_behind 0 (map timed_of (reverse h))) part.first
+              ∙ (more.1 ∙ ap (λ (z : List ℕ). z ++ more.0) (s.rests.cache.text ∙ (ap (λ (z : List ℕ). f.written ++ z) s.written ∙ append-nil f.written))));
+        }
+
+    -- before the call
+    pub cut_before : (out : Option (List ℕ)) → IsCutShort f.limits log f.written out out
+    cut_before out = record {
+      is_log = record {
+        fit = l.fit;
+        sent = subst (λ (r : Proxy). list_all (was_sent log.dialled r) log.takers ≡ true) l.tables l.sent;
+        dialled = let same = s.rests.opened in subst (λ (r : Proxy). length log.dialled ≤ r.tables.opened) l.tables (omega arith);
+      };
+      text = [];
+      takes = record { front = []; rest = []; whole = refl; takes = takes_nothing out };
+      record_is = ap record_of (sym l.tables) ∙ (s.rests.cache.text ∙ ap (λ (z : List ℕ). f.written ++ z) s.written);
+    }
+
+  -- memory was wanting before anything was written
+  pub stops_early : (x1 : loop.Proxy B g) (out : Option (List ℕ)) → TurnStops f p log x x1 told' out out
+  stops_early x1 out = record {
+    log' = log';
+    told_is = on_wire.follows.told_is;
+    bound = refl;
+    calls = let is = length-append log.calls (call ∷ []) in omega arith;
+    goes = λ none l. cut_early l out;
+  }
+
+  -- WHAT HAPPENED, as the cache answered
+
+  module _ (y : loop.Proxy B g) (goes : Goes (KeepsPolled turn) (faults_in x.cache) y owed_by) where
+    same_tables : faults_in y.cache ≡ faults_in x.cache → carried goes.q ≡ turned f.limits log.dialled call p
+    same_tables none = ap carried (goes.same none) ∙ sym turned_is
+
+    calls_on : (l' : Log) → l'.calls ≡ log'.calls → length l'.calls ≡ length log.calls + 1
+    calls_on l' same = ap length same ∙ length-append log.calls (call ∷ [])
+
+    -- it was cut short
+    pub stops_late : (x1 : loop.Proxy B g) (told1 : Option Log) (out out' : Option (List ℕ)) → x1.cache ≡ y.cache → CutsTurn goes.q log' y told1 out out' → TurnStops f p log x x1 told1 out out'
+    stops_late x1 told1 out out' cache c = record {
+      log' = c.log';
+      told_is = c.told_is;
+      bound = c.bound;
+      calls = let is = calls_on c.log' c.calls in omega arith;
+      goes = λ none l. by_loop (ap faults_in (sym cache) ∙ none) l;
+    }
+      where
+        by_loop : faults_in y.cache ≡ faults_in x.cache → IsOfLoop f.limits log p → IsCutShort f.limits c.log' f.written out out'
+        by_loop none l =
+            let is : behind_all f.limits c.log' ≡ carried goes.q = tables_on f.limits log p call l enough call_fits c.more c.log' c.calls c.dialled ∙ sym (same_tables none) in
+            let same = carried_is_same goes.q in
+            let sent_here : list_all (was_sent log'.dialled (carried goes.q)) log'.takers ≡ true = subst (λ (r : Proxy). list_all (was_sent log'.dialled r) log'.takers ≡ true) (sym (same_tables none)) (sent_turned l) in
+            record {
+              is_log = record {
+                fit = fit_on f.limits log p call l enough call_fits c.more c.log' c.calls c.dialled;
+                sent = subst (λ (r : Proxy). list_all (was_sent c.log'.dialled r) c.log'.takers ≡ true) (sym is) (c.sent sent_here);
+                dialled = subst (λ (r : Proxy). length c.log'.dialled ≤ r.tables.opened) (sym is) (let le = c.few in let t = ap (λ (u : _). u.opened) same.tables in omega arith);
+              };
+              text = text_of y.record;
+              takes = c.takes;
+              record_is = ap record_of is ∙ (ap (λ (h : History). text_behind 0 (map timed_of (reverse h))) same.history ∙ goes.keeps.keeps.cache.text);
+            }
+
+    -- it was made
+    pub turns_on : (x1 : loop.Proxy B g) (told1 : Option Log) (stages1 : ℕ → Stage) (out out' : Option (List ℕ)) (again : Bool) → x1.cache ≡ y.cache → steps y.cache ≤ steps x.cache + 2049
+        → FinishesTurn turn goes.q log' y x1 told1 stages1 out out' again → TurnsTo (n + 1) f p log x x1 told1 stages1 out out' again
+    turns_on x1 told1 stages1 out out' again cache few e = record {
+      f' = record turn.frame { written = turn.frame.written ++ text_of y.record };
+      p' = carried goes.q;
+      log' = e.log';
+      still = record {
+        rests = e.rests;
+        follows = e.follows;
+        within = record {
+          bytes = begins.enough n f x p log told told' stages stages' s wait moment what slice of_open stand fits early many;
+          steps_are = let same = ap steps cache in let le = s.within.steps_are in omega arith;
+        };
+        written = e.written;
+      };
+      limits = refl;
+      text = text_of y.record;
+      takes = e.takes;
+      written = refl;
+      again_is = e.again_is;
+      bound = e.bound;
+      calls = calls_on e.log' e.calls;
+      goes = λ none l. by_loop (ap faults_in (sym cache) ∙ none) l;
+    }
+      where
+        by_loop : faults_in y.cache ≡ faults_in x.cache → IsOfLoop f.limits log p → IsOfLoop f.limits e.log' (carried goes.q)
+        by_loop none l = record {
+          fit = fit_on f.limits log p call l enough call_fits e.more e.log' e.calls e.dialled;
+          tables = sym (tables_on f.limits log p call l enough call_fits e.more e.log' e.calls e.dialled ∙ sym (same_tables none));
+          sent = e.sent (subst (λ (r : Proxy). list_all (was_sent log'.dialled r) log'.takers ≡ true) (sym (same_tables none)) (sent_turned l));
+        }

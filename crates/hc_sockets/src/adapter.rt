@@ -1,6 +1,6 @@
 //! A wire over sockets.
 ghost use Rattle.std.specs.Prelude.{◌≡◌, ◌+◌, ◌<◌, ◌≤◌, ◌^◌, ℕ, Some, None, length, IfOk, IfSome, OnErr};
-ghost use Rattle.hc_wire.specs.Events.{IsOpen, IsOfOpen, FitsIn, stages_after};
+ghost use Rattle.hc_wire.specs.Events.{Unseen, IsOfOpen, FitsIn, stages_after};
 ghost use Rattle.hc_wire.specs.Wires.{HasRisen};
 ghost use Rattle.hc_sockets.specs.Sockets.{stage_at, life, event_or_quiet, IsBelow, accepts};
 
@@ -16,8 +16,8 @@ use std::net::{Ipv4Addr, Net, SocketAddr};
 use std::rt::Clock;
 use std::time::{Duration, SystemTime, UNIX_EPOCH};
 
-/// The token of the listener. Connections have their numbers, from 1.
-const LISTENER: Token = Token(0);
+/// The token of the listener. Connections have their numbers, from 0, which are below it.
+const LISTENER: Token = Token(usize::MAX);
 
 /// How many that are ready one wait may tell.
 const READY: usize = 1_024;
@@ -74,7 +74,7 @@ impl<R: Net + Clock + AllocGlobal + Drop> MioWire<R> {
     /// Opens nothing: `bind` does.
     pub fn new(rt: R) -> MioWire<R>
         ensures faults { ⟦<MioWire<R> as Wire>⟧.faults result ≡ 0 }
-        ensures shut { (k : ℕ) → IsOpen (⟦<MioWire<R> as Wire>⟧.stages result k) → ⊥ }
+        ensures unseen { (k : ℕ) → ⟦<MioWire<R> as Wire>⟧.stages result k ≡ Unseen }
     {
         let table = Table::new(rt.alloc());
         MioWire {
@@ -82,7 +82,7 @@ impl<R: Net + Clock + AllocGlobal + Drop> MioWire<R> {
             bound: None,
             acceptable: false,
             table,
-            next: 1,
+            next: 0,
             unasked: 0,
             handed: 0,
             failed: 0,

@@ -4,7 +4,8 @@
 -- thing at most (`not_both`). What was refused is the text that was left (`refusal_is`), and a text that
 -- spells items isn't refused. So at each ending that is left the status is the one that is due, or that
 -- of want of memory, and the other cases contradict the words or the input.
-use Rattle.std.proofs.Common.{◌≡◌, ◌⊎◌, ℕ, List, Option, Some, None, length, refl, ap, sym, ◌∙◌, inl, inr, arith}
+use Rattle.std.proofs.Common.{◌≡◌, ◌⊎◌, ℕ, List, Option, Some, None, [], ◌∷◌, length, refl, ap, sym, ◌∙◌, inl, inr, arith}
+use Rattle.std.specs.Prelude.{codes}
 use Rattle.hc_io.specs.Faults.{HasRisen}
 use Rattle.hc_io.specs.Source.{Gives}
 use Rattle.hc_sched.specs.declared.schedule.Refused.{Refused}
@@ -17,7 +18,9 @@ use Rattle.hc_model.proofs.Basics.{some_none}
 use Rattle.hc_app.specs.declared.command.Command.TheVariants as command
 use Rattle.hc_app.specs.declared.status.Status.{Status}
 use Rattle.hc_app.specs.declared.status.Status.TheVariants as status
-use Rattle.hc_app.specs.Commands.{IsCommand, replay, generate}
+use Rattle.hc_wire.specs.Logs.{Log}
+use Rattle.hc_wire.specs.declared.event.Address.{Address}
+use Rattle.hc_app.specs.Commands.{IsCommand, replay, generate, origin, serve}
 use Rattle.hc_app.specs.Generating.{generating}
 use Rattle.hc_app.specs.Owing as owing
 use Rattle.hc_app.specs.Owing.{Streams, Quiet, Saying, Does}
@@ -38,6 +41,7 @@ faultless status.Refused source sink = tt
 faultless status.Usage source sink = tt
 faultless status.SourceFailed source sink = source refl
 faultless status.SinkFailed source sink = sink refl
+faultless status.WireFailed source sink = tt
 faultless status.NoMemory source sink = tt
 
 -- the exit number is that of this status, or that of want of memory
@@ -48,7 +52,24 @@ EndsWith ended due = (code_of ended ≡ code_of due) ⊎ (code_of ended ≡ 6)
 not_both : (words : List (List ℕ)) (seed count : ℕ) → IsCommand words command.Replay → IsCommand words (command.Generate seed count) → ⊥
 not_both words seed count (replay one) (generate a b _ _ three a_is b_is few) = absurd (let never : 1 ≡ 3 = sym (ap length one) ∙ ap length three in cc)
 
-module _ (left : List ℕ) (out diag : Option (List ℕ)) (o d : ℕ) (after : Streams) where
+no_replay_too : (words : List (List ℕ)) (listen : Address) (turns : ℕ) → IsCommand words command.Replay → IsCommand words (command.Origin listen turns) → ⊥
+no_replay_too words listen turns (replay one) (origin a b _ _ three a_is b_is) = absurd (let never : 1 ≡ 3 = sym (ap length one) ∙ ap length three in cc)
+
+first_of : (words : List (List ℕ)) (a b : List ℕ) (xs ys : List (List ℕ)) → words ≡ a ∷ xs → words ≡ b ∷ ys → a ≡ b
+first_of words a b xs ys one two = let same : a ∷ xs ≡ b ∷ ys = sym one ∙ two in cc
+
+no_generation_too : (words : List (List ℕ)) (seed count : ℕ) (listen : Address) (turns : ℕ) → IsCommand words (command.Generate seed count) → IsCommand words (command.Origin listen turns) → ⊥
+no_generation_too words seed count listen turns (generate a b _ _ one a_is b_is few) (origin e f _ _ two e_is f_is) =
+    absurd (let never : 8 ≡ 6 = ap length (first_of words (codes "generate") (codes "origin") (a ∷ b ∷ []) (e ∷ f ∷ []) one two) in cc)
+
+no_replay_serving : (words : List (List ℕ)) (listen from : Address) (turns : ℕ) → IsCommand words command.Replay → IsCommand words (command.Serve listen from turns) → ⊥
+no_replay_serving words listen from turns (replay one) (serve a b c _ _ _ four a_is b_is c_is) = absurd (let never : 1 ≡ 4 = sym (ap length one) ∙ ap length four in cc)
+
+no_generation_serving : (words : List (List ℕ)) (seed count : ℕ) (listen from : Address) (turns : ℕ) → IsCommand words (command.Generate seed count) → IsCommand words (command.Serve listen from turns) → ⊥
+no_generation_serving words seed count listen from turns (generate a b _ _ three a_is b_is few) (serve d e f _ _ _ four d_is e_is f_is) =
+    absurd (let never : 3 ≡ 4 = sym (ap length three) ∙ ap length four in cc)
+
+module _ (left : List ℕ) (out diag : Option (List ℕ)) (o d : ℕ) (after : Streams) (wire wire' : Option Log) where
   abbrev start : Streams
   start = record { left = Some left; out = out; diag = diag; out_faults = o; diag_faults = d }
 
@@ -120,20 +141,34 @@ module _ (left : List ℕ) (out diag : Option (List ℕ)) (o d : ℕ) (after : S
   -- BY THE WORDS
 
   module _ (words : List (List ℕ)) where
-    keeps_due : (s due : Status) → IsDue words left due → Keeps words start after s → IsFaultless s → EndsWith s due
-    keeps_due s _ (program.spelled items is spells) (program.obeyed command.Replay word did) sound = spelled_replays items s spells did sound
-    keeps_due s _ (program.spelled items is spells) (program.obeyed (command.Generate seed count) word did) sound = absurd (not_both words seed count is word)
-    keeps_due s _ (program.spelled items is spells) (program.told none did) sound = absurd (none command.Replay is)
-    keeps_due s _ (program.refused r is refused) (program.obeyed command.Replay word did) sound = refused_replays r s refused did sound
-    keeps_due s _ (program.refused r is refused) (program.obeyed (command.Generate seed count) word did) sound = absurd (not_both words seed count is word)
-    keeps_due s _ (program.refused r is refused) (program.told none did) sound = absurd (none command.Replay is)
-    keeps_due s _ (program.generated seed count is) (program.obeyed command.Replay word did) sound = absurd (not_both words seed count word is)
-    keeps_due s _ (program.generated seed count is) (program.obeyed (command.Generate a b) word did) sound = made a b s did sound
-    keeps_due s _ (program.generated seed count is) (program.told none did) sound = absurd (none (command.Generate seed count) is)
-    keeps_due s _ (program.no_command none) (program.obeyed word_is word did) sound = absurd (none word_is word)
-    keeps_due s _ (program.no_command none) (program.told other did) sound = told s did sound
+    keeps_due : (s due : Status) → IsDue words left due → Keeps words start after wire wire' s → IsFaultless s → EndsWith s due
+    keeps_due s _ (program.spelled items is spells) (program.obeyed command.Replay word did same) sound = spelled_replays items s spells did sound
+    keeps_due s _ (program.spelled items is spells) (program.obeyed (command.Generate seed count) word did same) sound = absurd (not_both words seed count is word)
+    keeps_due s _ (program.spelled items is spells) (program.told none did same) sound = absurd (none command.Replay is)
+    keeps_due s _ (program.spelled items is spells) (program.obeyed (command.Origin listen turns) word did same) sound = absurd (no_replay_too words listen turns is word)
+    keeps_due s _ (program.spelled items is spells) (program.answered listen turns word did same) sound = absurd (no_replay_too words listen turns is word)
+    keeps_due s _ (program.spelled items is spells) (program.obeyed (command.Serve listen from turns) word did same) sound = absurd (no_replay_serving words listen from turns is word)
+    keeps_due s _ (program.spelled items is spells) (program.served listen from turns word did same) sound = absurd (no_replay_serving words listen from turns is word)
+    keeps_due s _ (program.refused r is refused) (program.obeyed command.Replay word did same) sound = refused_replays r s refused did sound
+    keeps_due s _ (program.refused r is refused) (program.obeyed (command.Generate seed count) word did same) sound = absurd (not_both words seed count is word)
+    keeps_due s _ (program.refused r is refused) (program.told none did same) sound = absurd (none command.Replay is)
+    keeps_due s _ (program.refused r is refused) (program.obeyed (command.Origin listen turns) word did same) sound = absurd (no_replay_too words listen turns is word)
+    keeps_due s _ (program.refused r is refused) (program.answered listen turns word did same) sound = absurd (no_replay_too words listen turns is word)
+    keeps_due s _ (program.refused r is refused) (program.obeyed (command.Serve listen from turns) word did same) sound = absurd (no_replay_serving words listen from turns is word)
+    keeps_due s _ (program.refused r is refused) (program.served listen from turns word did same) sound = absurd (no_replay_serving words listen from turns is word)
+    keeps_due s _ (program.generated seed count is) (program.obeyed command.Replay word did same) sound = absurd (not_both words seed count word is)
+    keeps_due s _ (program.generated seed count is) (program.obeyed (command.Generate a b) word did same) sound = made a b s did sound
+    keeps_due s _ (program.generated seed count is) (program.told none did same) sound = absurd (none (command.Generate seed count) is)
+    keeps_due s _ (program.generated seed count is) (program.obeyed (command.Origin listen turns) word did same) sound = absurd (no_generation_too words seed count listen turns is word)
+    keeps_due s _ (program.generated seed count is) (program.answered listen turns word did same) sound = absurd (no_generation_too words seed count listen turns is word)
+    keeps_due s _ (program.generated seed count is) (program.obeyed (command.Serve listen from turns) word did same) sound = absurd (no_generation_serving words seed count listen from turns is word)
+    keeps_due s _ (program.generated seed count is) (program.served listen from turns word did same) sound = absurd (no_generation_serving words seed count listen from turns is word)
+    keeps_due s _ (program.no_command none) (program.obeyed word_is word did same) sound = absurd (none word_is word)
+    keeps_due s _ (program.no_command none) (program.told other did same) sound = told s did sound
+    keeps_due s _ (program.no_command none) (program.answered listen turns word did same) sound = absurd (none (command.Origin listen turns) word)
+    keeps_due s _ (program.no_command none) (program.served listen from turns word did same) sound = absurd (none (command.Serve listen from turns) word)
 
-    pub completes : (code : ℕ) → Ends code words start after → (code ≡ 3 → HasRisen 0 0) → (code ≡ 4 → HasRisen 0 0 ⊎ HasRisen 0 0) → Completes code words left
+    pub completes : (code : ℕ) → Ends code words start after wire wire' → (code ≡ 3 → HasRisen 0 0) → (code ≡ 4 → HasRisen 0 0 ⊎ HasRisen 0 0) → Completes code words left
     completes code ends source sink due is =
         by_code (keeps_due ends.ended due is ends.keeps (faultless ends.ended (λ three. never (source (ends.code_is ∙ three))) (λ four. neither (sink (ends.code_is ∙ four)))))
       where

@@ -76,3 +76,14 @@ module _ (diag diag' : Option (List ℕ)) (d d' : ℕ) where
   sinks_calm _ _ (told r said calm) off = (λ is. cc, calm)
   sinks_calm _ _ (untold r said failed) off = absurd (off refl)
   sinks_calm _ _ (wanting_word r said calm) off = (λ is. cc, calm)
+
+  -- NO WIRE
+
+  pub wireless : (e : Ended) (s : Status) → Concludes diag diag' d d' e s → s ≢ status.WireFailed
+  wireless _ _ (quiet _ _ done same calm) = λ is. cc
+  wireless _ _ (quiet _ _ unreadable same calm) = λ is. cc
+  wireless _ _ (quiet _ _ unwritten same calm) = λ is. cc
+  wireless _ _ (quiet _ _ wanting same calm) = λ is. cc
+  wireless _ _ (told r said calm) = λ is. cc
+  wireless _ _ (untold r said failed) = λ is. cc
+  wireless _ _ (wanting_word r said calm) = λ is. cc

@@ -1,3 +1,4 @@
+pub mod Addresses
 pub mod Commands
 pub mod Texts
 pub mod Statuses
@@ -5,4 +6,6 @@ pub mod Owing
 pub mod Concluding
 pub mod Replaying
 pub mod Generating
+pub mod Answering
+pub mod Serving
 pub mod Program

@@ -1,27 +1,40 @@
 -- What the program does. Read `Owing` first: what any command does with its streams, by its status. Then what each owes: `Replaying`
 -- and `Generating`.
-use Rattle.std.specs.Prelude.{◌≡◌, ◌⊎◌, ℕ, List, [], Some}
+use Rattle.std.specs.Prelude.{◌≡◌, ◌⊎◌, ℕ, List, [], Option, Some}
 use Rattle.hc_sched.specs.declared.schedule.Refused.{Refused}
 use Rattle.hc_sched.specs.Laws.{refusal_of}
 use Rattle.hc_sched.specs.Schedule.{Item, Spells}
 use Rattle.hc_driver.specs.Endings.{Reach, SoFar}
+use Rattle.hc_wire.specs.Logs.{Log}
+use Rattle.hc_wire.specs.declared.event.Address.{Address}
 use Rattle.hc_app.specs.declared.command.Command.{Command}
 use Rattle.hc_app.specs.declared.command.Command.TheVariants as command
 use Rattle.hc_app.specs.declared.status.Status.{Status}
 use Rattle.hc_app.specs.declared.status.Status.TheVariants as status
+use Rattle.hc_app.specs.Answering.{AnswersOrigin}
 use Rattle.hc_app.specs.Commands.{IsCommand, IsNoCommand}
 use Rattle.hc_app.specs.Generating.{generating}
 use Rattle.hc_app.specs.Owing.{Streams, Owed, Saying, Duty, NeverStops, NeverBegins, Does}
 use Rattle.hc_app.specs.Replaying.{replaying}
+use Rattle.hc_app.specs.Serving.{ServesFrom, IsSilent}
 use Rattle.hc_app.specs.Statuses.{code_of}
 use Rattle.hc_app.specs.Texts.{usage_text}
 
 -- WHAT THE WORDS ASK FOR
 
--- what a command owes
+-- a command that owes its streams nothing
+abbrev pub OwesNothing : Reach → List ℕ → Owed → Type 0
+OwesNothing reach text owed = ⊥
+
+abbrev pub no_duty : Duty
+no_duty = record { Owes = OwesNothing; Stops = NeverStops; Begins = NeverBegins }
+
+-- what a command owes its streams
 abbrev pub duty_of : Command → Duty
 duty_of command.Replay = replaying
 duty_of (command.Generate seed count) = generating seed count
+duty_of (command.Origin listen turns) = no_duty
+duty_of (command.Serve listen origin turns) = no_duty
 
 -- nothing is read or written, and the usage is told
 pub data OwesUsage : Reach → List ℕ → Owed → Type 0 where
@@ -32,21 +45,29 @@ telling_usage = record { Owes = OwesUsage; Stops = NeverStops; Begins = NeverBeg
 
 -- THE PROGRAM
 
--- What the program did, by its status: what the words ask for, and else the usage.
-pub data Keeps (words : List (List ℕ)) (before after : Streams) : Status → Type 0 where
+-- What the program did, by its status: what the words ask for, and else the usage. The wire is called for
+-- the test origin, which uses no stream, and for the serving loop, which writes its record.
+pub data Keeps (words : List (List ℕ)) (before after : Streams) (told told' : Option Log) : Status → Type 0 where
   obeyed : {s : Status} (command : Command) → IsCommand words command →
-      Does (duty_of command) before after s → Keeps words before after s
-  told : {s : Status} → IsNoCommand words → Does telling_usage before after s → Keeps words before after s
+      Does (duty_of command) before after s → told' ≡ told → Keeps words before after told told' s
+  answered : {s : Status} (listen : Address) (turns : ℕ) → IsCommand words (command.Origin listen turns) →
+      AnswersOrigin listen turns told told' s → after ≡ before → Keeps words before after told told' s
+  served : {s : Status} (listen origin : Address) (turns : ℕ) →
+      IsCommand words (command.Serve listen origin turns) →
+      ServesFrom listen origin turns told told' before.out after.out s → IsSilent before after →
+      Keeps words before after told told' s
+  told : {s : Status} → IsNoCommand words → Does telling_usage before after s → told' ≡ told →
+      Keeps words before after told told' s
 
 -- A status with its exit number, and what the program did.
-pub record Ends (code : ℕ) (words : List (List ℕ)) (before after : Streams) : Type 0 where
+pub record Ends (code : ℕ) (words : List (List ℕ)) (before after : Streams) (told told' : Option Log) : Type 0 where
   pub ended : Status
   pub code_is : code ≡ code_of ended
-  pub keeps : Keeps words before after ended
+  pub keeps : Keeps words before after told told' ended
 
 -- COMPLETENESS
 
--- The status that is due for the words and the input, over streams that never fail.
+-- The status that is due for the words and the input, over streams that never fail, where no wire is used.
 pub data IsDue (words : List (List ℕ)) (input : List ℕ) : Status → Type 0 where
   spelled : (items : List Item) → IsCommand words command.Replay → Spells 0 input items →
       IsDue words input status.Done

@@ -11,6 +11,7 @@ code_of status.Refused = 1
 code_of status.Usage = 2
 code_of status.SourceFailed = 3
 code_of status.SinkFailed = 4
+code_of status.WireFailed = 5
 code_of status.NoMemory = 6
 
 -- how the program ends where a write gave up

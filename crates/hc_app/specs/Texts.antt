@@ -18,4 +18,4 @@ abbrev pub refusal_text : Refused → List ℕ
 refusal_text refused = codes "line " ++ decimal refused.line ++ refusal_line refused.why
 
 abbrev pub usage_text : List ℕ
-usage_text = codes "usage: replay | generate SEED COUNT" ++ 10 ∷ []
+usage_text = codes "usage: replay | generate SEED COUNT | serve LISTEN ORIGIN TURNS | origin LISTEN TURNS" ++ 10 ∷ []

@@ -1,20 +1,23 @@
-//! The program: schedules in, reports out; schedules that are generated, and their summary.
+//! The program: schedules in, reports out; schedules that are generated, and their summary; the test
+//! origin.
 #![tactic(auto)]
 
+mod address;
 mod command;
 mod run;
 mod say;
 mod status;
 
 use hc_io::{StdSink, StdSource};
+use hc_sockets::MioWire;
 use run::run;
 use status::Status;
 use std::io::ErrorKind;
 use std::process::ExitCode;
 use std::{env, io};
 
-/// Calls `run` with the words after the program's name and the standard streams, and exits with
-/// what it answers.
+/// Calls `run` with the words after the program's name, the standard streams and a wire over sockets,
+/// and exits with what it answers.
 fn main(rt: HostRuntime) -> ExitCode {
     let words = match words(&rt) {
         Ok(words) => words,
@@ -27,12 +30,15 @@ fn main(rt: HostRuntime) -> ExitCode {
     let mut input = StdSource::new(rt.stdin());
     let mut out = StdSink::new(rt.stdout());
     let mut diag = StdSink::new(rt.stderr());
+    let alloc = rt.alloc();
+    let mut wire = MioWire::new(rt);
     ExitCode::from(run(
-        rt.alloc(),
+        alloc,
         words.as_slice(),
         &mut input,
         &mut out,
         &mut diag,
+        &mut wire,
     ))
 }
 

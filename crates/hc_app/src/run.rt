@@ -1,7 +1,13 @@
 //! The program as a function of its words and streams.
-ghost use Rattle.std.specs.Prelude.{◌≡◌, ◌≢◌, ◌⊎◌, ◌≤◌, ℕ, List, Option, map, Some};
+ghost use Rattle.std.specs.Prelude.{◌≡◌, ◌≢◌, ◌⊎◌, ◌≤◌, ℕ, List, Option, map, Some, IfSome};
 ghost use Rattle.std.specs.String.{string_bytes};
 ghost use Rattle.hc_io.specs.Faults.{HasRisen};
+ghost use Rattle.hc_origin.specs.Endings.{IsFresh, MayEnd};
+ghost use Rattle.hc_wire.specs.Events.{Unseen};
+ghost use Rattle.hc_wire.specs.Wires as wires;
+ghost use Rattle.hc_app.specs.Answering.{AnswersOrigin, IsEndedAs};
+ghost use Rattle.hc_proxy.specs.Endings as serving;
+ghost use Rattle.hc_app.specs.Serving.{ServesFrom, IsServedAs};
 ghost use Rattle.hc_app.specs.Concluding.{Concludes};
 ghost use Rattle.hc_app.specs.Generating.{generating};
 ghost use Rattle.hc_app.specs.Owing.{streams, Does};
@@ -14,15 +20,20 @@ use crate::say::{say_refusal, say_usage};
 use crate::status::{Status, stopped};
 use hc_core::Cache;
 use hc_io::{PlainSink, PlainSource, Sink, Source};
+use hc_origin::origin_on;
+use hc_proxy::serve_on;
 use hc_replay::{PROGRAM_LIMITS, generate, replay};
 use hc_sched::Ended;
 use hc_store::Memory;
+use hc_wire::{Address, Wire, WireError};
 use std::alloc::Global;
 
 /// Does what the words say, and answers the exit status. `replay` reads a schedule from `input` and
 /// writes its report to `out`; `generate SEED COUNT` writes the summary of so many rounds of the
-/// generator to `out`, at most 1,000,000. `diag` is written for a refused line and for the usage
-/// alone, and for a refused line only after the whole report.
+/// generator to `out`, at most 1,000,000; `serve LISTEN ORIGIN TURNS` serves clients over `wire` for so
+/// many turns, and writes what it steps to `out`, as a schedule; `origin LISTEN TURNS` answers as the
+/// test origin over `wire` for so many turns, and uses no stream. `diag` is written for a refused line
+/// and for the usage alone, and for a refused line only after the whole report.
 ///
 /// - 0: all that is due is written: the input is a schedule and `out` has its report, which is that of
 ///   a run, or the summary of the rounds.
@@ -33,6 +44,7 @@ use std::alloc::Global;
 ///   whose items are whole in it.
 /// - 4: `out` failed: it has the report of all events that were stepped but the last, and some
 ///   first part of the last one's, or of the summary. Or `diag` failed: `out` has all that was due.
+/// - 5: `wire` failed, which `serve` and `origin` alone use.
 /// - 6: there was not enough memory. Each has some first part of what was due.
 ///
 /// At 4 and 6 all events before the last 16,384 bytes that were read were stepped: nothing is read on
@@ -40,18 +52,21 @@ use std::alloc::Global;
 ///
 /// What `ends` says of bytes it says of streams that tell them, as those in memory do. Streams over
 /// std tell none, so there it says which status comes.
-pub fn run<S: Source, K: Sink, D: Sink>(
+pub fn run<S: Source, K: Sink, D: Sink, W: Wire>(
     alloc: Global,
     words: &[String],
     input: &mut S,
     out: &mut K,
     diag: &mut D,
+    wire: &mut W,
 ) -> u8
+    requires fresh { IfSome (W.log wire.old) IsFresh }
+    requires unseen { (k : ℕ) → W.stages wire.old k ≡ Unseen }
     ensures ends { Ends result (map string_bytes words.now)
         (streams (S.left input.old) (K.taken out.old) (D.taken diag.old)
         (K.faults out.old) (D.faults diag.old))
         (streams (S.left input.new) (K.taken out.new) (D.taken diag.new)
-        (K.faults out.new) (D.faults diag.new)) }
+        (K.faults out.new) (D.faults diag.new)) (W.log wire.old) (W.log wire.new) }
 
     // 3 comes only where the count of the input's faults rose, and 4 only where one of the others
     // did; with any other status they are as before.
@@ -61,42 +76,51 @@ pub fn run<S: Source, K: Sink, D: Sink>(
         ⊎ HasRisen (D.faults diag.old) (D.faults diag.new) }
     ensures sinks_calm { result ≢ 4 → (K.faults out.new ≡ K.faults out.old)
         × (D.faults diag.new ≡ D.faults diag.old) }
+    ensures wire_failed { result ≡ 5 → wires.HasRisen (W.faults wire.old) (W.faults wire.new) }
+    ensures wire_calm { result ≢ 5 → W.faults wire.new ≡ W.faults wire.old }
 {
-    obey(alloc, words, input, out, diag).code()
+    obey(alloc, words, input, out, diag, wire).code()
 }
 
 /// A run over streams that never fail: it ends with 0 where the input is a schedule or the words ask
 /// for a summary, with 1 where the input is refused, with 2 where the words are no command, or for
 /// want of memory with 6.
-pub fn run_plain(
+pub fn run_plain<W: Wire>(
     alloc: Global,
     words: &[String],
     input: &mut PlainSource,
     out: &mut PlainSink,
     diag: &mut PlainSink,
+    wire: &mut W,
 ) -> u8
+    requires fresh { IfSome (W.log wire.old) IsFresh }
+    requires unseen { (k : ℕ) → W.stages wire.old k ≡ Unseen }
     ensures ends { Ends result (map string_bytes words.now)
         (streams (Some input.old.left) (Some out.old) (Some diag.old) 0 0)
-        (streams (Some input.new.left) (Some out.new) (Some diag.new) 0 0) }
+        (streams (Some input.new.left) (Some out.new) (Some diag.new) 0 0)
+        (W.log wire.old) (W.log wire.new) }
     ensures complete { Completes result (map string_bytes words.now) input.old.left }
 {
-    run(alloc, words, input, out, diag)
+    run(alloc, words, input, out, diag, wire)
 }
 
 /// Does what the words say.
-fn obey<S: Source, K: Sink, D: Sink>(
+fn obey<S: Source, K: Sink, D: Sink, W: Wire>(
     alloc: Global,
     words: &[String],
     input: &mut S,
     out: &mut K,
     diag: &mut D,
+    wire: &mut W,
 ) -> Status
+    requires fresh { IfSome (W.log wire.old) IsFresh }
+    requires unseen { (k : ℕ) → W.stages wire.old k ≡ Unseen }
     ensures keeps { Keeps (map string_bytes words.now)
         (streams (S.left input.old) (K.taken out.old) (D.taken diag.old)
         (K.faults out.old) (D.faults diag.old))
         (streams (S.left input.new) (K.taken out.new) (D.taken diag.new)
         (K.faults out.new) (D.faults diag.new))
-        result }
+        (W.log wire.old) (W.log wire.new) result }
     ensures source_failed { result ≡ Status.SourceFailed
         → HasRisen (S.faults input.old) (S.faults input.new) }
     ensures source_calm { result ≢ Status.SourceFailed
@@ -106,10 +130,21 @@ fn obey<S: Source, K: Sink, D: Sink>(
         ⊎ HasRisen (D.faults diag.old) (D.faults diag.new) }
     ensures sinks_calm { result ≢ Status.SinkFailed → (K.faults out.new ≡ K.faults out.old)
         × (D.faults diag.new ≡ D.faults diag.old) }
+    ensures wire_failed { result ≡ Status.WireFailed
+        → wires.HasRisen (W.faults wire.old) (W.faults wire.new) }
+    ensures wire_calm { result ≢ Status.WireFailed → W.faults wire.new ≡ W.faults wire.old }
 {
     match command_of(words) {
         Some(Command::Replay) => replay_input(alloc, input, out, diag),
         Some(Command::Generate { seed, count }) => write_summary(alloc, seed, count, out, diag),
+        Some(Command::Origin { listen, turns }) => answer(alloc, listen, turns, wire),
+        Some(
+            Command::Serve {
+                listen,
+                origin,
+                turns,
+            },
+        ) => serve(alloc, listen, origin, turns, out, wire),
         None => match say_usage(diag) {
             Ok(()) => Status::Usage,
             Err(e) => stopped(e),
@@ -139,6 +174,7 @@ fn replay_input<S: Source, K: Sink, D: Sink>(
         ⊎ HasRisen (D.faults diag.old) (D.faults diag.new) }
     ensures sinks_calm { result ≢ Status.SinkFailed → (K.faults out.new ≡ K.faults out.old)
         × (D.faults diag.new ≡ D.faults diag.old) }
+    ensures wireless { result ≢ Status.WireFailed }
 {
     let store = Memory::new(alloc, PROGRAM_LIMITS);
     let Ok(mut cache) = Cache::new(store, PROGRAM_LIMITS, alloc) else {
@@ -167,9 +203,91 @@ fn write_summary<K: Sink, D: Sink>(
         ⊎ HasRisen (D.faults diag.old) (D.faults diag.new) }
     ensures sinks_calm { result ≢ Status.SinkFailed → (K.faults out.new ≡ K.faults out.old)
         × (D.faults diag.new ≡ D.faults diag.old) }
+    ensures wireless { result ≢ Status.WireFailed }
 {
     let end = generate(alloc, seed, count, out);
     conclude(alloc, end, diag)
+}
+
+/// Answers as the test origin.
+fn answer<W: Wire>(alloc: Global, listen: Address, turns: u64, wire: &mut W) -> Status
+    requires fresh { IfSome (W.log wire.old) IsFresh }
+    requires unseen { (k : ℕ) → W.stages wire.old k ≡ Unseen }
+    ensures answers { AnswersOrigin listen turns (W.log wire.old) (W.log wire.new) result }
+    ensures unread { result ≢ Status.SourceFailed }
+    ensures unwritten { result ≢ Status.SinkFailed }
+    ensures wire_failed { result ≡ Status.WireFailed
+        → wires.HasRisen (W.faults wire.old) (W.faults wire.new) }
+    ensures wire_calm { result ≢ Status.WireFailed → W.faults wire.new ≡ W.faults wire.old }
+{
+    match wire.bind(Some(listen), None) {
+        Ok(()) => answered(origin_on(alloc, wire, turns)),
+        Err(e) => match e {
+            WireError::WireFailed => Status::WireFailed,
+            WireError::NoMemory => Status::NoMemory,
+        },
+    }
+}
+
+/// The status of how the test origin ended.
+fn answered(end: Ended) -> Status
+    requires { MayEnd end }
+    ensures { IsEndedAs end result }
+{
+    match end {
+        Ended::Done => Status::Done,
+        Ended::WireFailed => Status::WireFailed,
+        Ended::NoMemory => Status::NoMemory,
+        _ => unreachable!(),
+    }
+}
+
+/// Serves clients at one address, from the origin at the other, and writes the record.
+fn serve<K: Sink, W: Wire>(
+    alloc: Global,
+    listen: Address,
+    origin: Address,
+    turns: u64,
+    out: &mut K,
+    wire: &mut W,
+) -> Status
+    requires fresh { IfSome (W.log wire.old) IsFresh }
+    requires unseen { (k : ℕ) → W.stages wire.old k ≡ Unseen }
+    ensures serves { ServesFrom listen origin turns (W.log wire.old) (W.log wire.new)
+        (K.taken out.old) (K.taken out.new) result }
+    ensures unread { result ≢ Status.SourceFailed }
+    ensures sink_failed { result ≡ Status.SinkFailed
+        → HasRisen (K.faults out.old) (K.faults out.new) }
+    ensures sink_calm { result ≢ Status.SinkFailed → K.faults out.new ≡ K.faults out.old }
+    ensures wire_failed { result ≡ Status.WireFailed
+        → wires.HasRisen (W.faults wire.old) (W.faults wire.new) }
+    ensures wire_calm { result ≢ Status.WireFailed → W.faults wire.new ≡ W.faults wire.old }
+{
+    let store = Memory::new(alloc, PROGRAM_LIMITS);
+    let Ok(cache) = Cache::new(store, PROGRAM_LIMITS, alloc) else {
+        return Status::NoMemory;
+    };
+    match wire.bind(Some(listen), Some(origin)) {
+        Ok(()) => served(serve_on(alloc, cache, wire, out, turns)),
+        Err(e) => match e {
+            WireError::WireFailed => Status::WireFailed,
+            WireError::NoMemory => Status::NoMemory,
+        },
+    }
+}
+
+/// The status of how the serving loop ended.
+fn served(end: Ended) -> Status
+    requires { serving.MayEnd end }
+    ensures { IsServedAs end result }
+{
+    match end {
+        Ended::Done => Status::Done,
+        Ended::WireFailed => Status::WireFailed,
+        Ended::SinkFailed => Status::SinkFailed,
+        Ended::NoMemory => Status::NoMemory,
+        _ => unreachable!(),
+    }
 }
 
 /// Tells how a command ended, and answers the status.

@@ -57,5 +57,8 @@ pub(crate) fn say_usage<D: Sink>(diag: &mut D) -> Result<(), SinkError>
     ensures calm { OnOk result (D.faults diag.new ≡ D.faults diag.old) }
     ensures no_fault { IsErrOf result SinkError.NoMemory → D.faults diag.new ≡ D.faults diag.old }
 {
-    write_all(diag, b"usage: replay | generate SEED COUNT\n")
+    write_all(
+        diag,
+        b"usage: replay | generate SEED COUNT | serve LISTEN ORIGIN TURNS | origin LISTEN TURNS\n",
+    )
 }

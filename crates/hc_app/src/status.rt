@@ -18,6 +18,8 @@ pub enum Status {
     SourceFailed,
     /// The output or the diagnostics failed.
     SinkFailed,
+    /// The wire failed.
+    WireFailed,
     /// There was not enough memory.
     NoMemory,
 }
@@ -33,6 +35,7 @@ impl Status {
             Status::Usage => 2,
             Status::SourceFailed => 3,
             Status::SinkFailed => 4,
+            Status::WireFailed => 5,
             Status::NoMemory => 6,
         }
     }

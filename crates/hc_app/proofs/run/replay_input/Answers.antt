@@ -2,7 +2,7 @@ use Rattle.std.proofs.Common.{refl}
 use Rattle.hc_replay.proofs.Reported.{new_moment}
 use Rattle.hc_app.specs.Owing.{wanting_all}
 use Rattle.hc_app.proofs.Done.{does_replay, never_wire}
-use Rattle.hc_app.proofs.Concluded.{source_failed, source_calm, either_failed, sinks_calm}
+use Rattle.hc_app.proofs.Concluded.{wireless, source_failed, source_calm, either_failed, sinks_calm}
 use Rattle.hc_app.proofs.run.replay_input.Goals as goal
 
 pub returns-in_default-clause-does : goal.returns-in_default-clause-does
@@ -28,3 +28,6 @@ returns-clause-sink_failed g c = λ is. either_failed _ _ _ _ _ _ c.conclude.ens
 
 pub returns-clause-sinks_calm : goal.returns-clause-sinks_calm
 returns-clause-sinks_calm g c = λ off. let calm = sinks_calm _ _ _ _ _ _ c.conclude.ensures off in (c.replay-end.ensures.sink_calm calm.0, calm.1)
+
+pub returns-clause-wireless : goal.returns-clause-wireless
+returns-clause-wireless g c = wireless _ _ _ _ _ _ c.conclude.ensures

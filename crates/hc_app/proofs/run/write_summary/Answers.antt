@@ -1,5 +1,5 @@
 use Rattle.hc_app.proofs.Done.{does_generate, never_read, never_wired}
-use Rattle.hc_app.proofs.Concluded.{source_failed, either_failed, sinks_calm}
+use Rattle.hc_app.proofs.Concluded.{wireless, source_failed, either_failed, sinks_calm}
 use Rattle.hc_app.proofs.run.write_summary.Goals as goal
 
 pub conclude-requires : goal.conclude-requires
@@ -16,3 +16,6 @@ returns-clause-sink_failed g c = λ is. either_failed _ _ _ _ _ _ c.conclude.ens
 
 pub returns-clause-sinks_calm : goal.returns-clause-sinks_calm
 returns-clause-sinks_calm g c = λ off. let calm = sinks_calm _ _ _ _ _ _ c.conclude.ensures off in (c.generate-end.ensures.sink_calm calm.0, calm.1)
+
+pub returns-clause-wireless : goal.returns-clause-wireless
+returns-clause-wireless g c = wireless _ _ _ _ _ _ c.conclude.ensures

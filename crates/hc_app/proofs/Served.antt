@@ -1,0 +1,47 @@
+-- How the serving loop ended, and what was bound for it.
+use Rattle.std.proofs.Common.{◌≡◌, ◌≢◌, ℕ, Option, None, Some, refl, sym, subst}
+use Rattle.std.specs.Prelude.{IfSome}
+use Rattle.hc_proxy.specs.Endings.{IsFresh}
+use Rattle.hc_origin.specs.Endings as origin
+use Rattle.hc_sched.specs.declared.schedule.Ended.{Ended}
+use Rattle.hc_sched.specs.declared.schedule.Ended.TheVariants as ended
+use Rattle.hc_wire.specs.Logs.{Log, Tells, with_binding}
+use Rattle.hc_wire.specs.declared.event.Address.{Address}
+use Rattle.hc_app.specs.declared.status.Status.{Status}
+use Rattle.hc_app.specs.declared.status.Status.TheVariants as status
+use Rattle.hc_app.specs.Serving.{IsServedAs, done, unwired, unwritten, wanting}
+
+pub fresh_served : (old new : Option Log) (listen from : Address) → Tells old new (with_binding (Some listen) (Some from)) → IfSome old origin.IsFresh → IfSome new IsFresh
+fresh_served None new listen from tells fresh = subst (λ (o : Option Log). IfSome o IsFresh) (sym tells) tt
+fresh_served (Some log) new listen from tells fresh =
+    subst (λ (o : Option Log). IfSome o IsFresh) (sym tells) (record { calls = fresh.uncalled; dialled = fresh.undialled; takers = fresh.untaken })
+
+pub never_source : (e : Ended) (s : Status) → IsServedAs e s → s ≢ status.SourceFailed
+never_source _ _ done = λ is. cc
+never_source _ _ unwired = λ is. cc
+never_source _ _ unwritten = λ is. cc
+never_source _ _ wanting = λ is. cc
+
+pub wire_is : (e : Ended) (s : Status) → IsServedAs e s → s ≡ status.WireFailed → e ≡ ended.WireFailed
+wire_is _ _ done is = cc
+wire_is _ _ unwired is = refl
+wire_is _ _ unwritten is = cc
+wire_is _ _ wanting is = cc
+
+pub wire_off : (e : Ended) (s : Status) → IsServedAs e s → s ≢ status.WireFailed → e ≢ ended.WireFailed
+wire_off _ _ done off = λ is. cc
+wire_off _ _ unwired off = λ is. off refl
+wire_off _ _ unwritten off = λ is. cc
+wire_off _ _ wanting off = λ is. cc
+
+pub sink_is : (e : Ended) (s : Status) → IsServedAs e s → s ≡ status.SinkFailed → e ≡ ended.SinkFailed
+sink_is _ _ done is = cc
+sink_is _ _ unwired is = cc
+sink_is _ _ unwritten is = refl
+sink_is _ _ wanting is = cc
+
+pub sink_off : (e : Ended) (s : Status) → IsServedAs e s → s ≢ status.SinkFailed → e ≢ ended.SinkFailed
+sink_off _ _ done off = λ is. cc
+sink_off _ _ unwired off = λ is. cc
+sink_off _ _ unwritten off = λ is. off refl
+sink_off _ _ wanting off = λ is. cc

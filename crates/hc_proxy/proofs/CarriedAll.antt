@@ -151,7 +151,6 @@ module _ {B : Type 0} {g : Ghosts B} (t : Turn) (p : Proxy) (log : Log) where
         stands = u.keeps.cache.stands;
         same = u.keeps.cache.same;
         limits = u.keeps.cache.limits;
-        ready = u.keeps.cache.ready;
         now = u.keeps.cache.now;
         early = u.keeps.cache.early;
         last = u.keeps.cache.last;
@@ -233,7 +232,6 @@ module _ {B : Type 0} {g : Ghosts B} (t : Turn) (p : Proxy) (log : Log) (told : 
       stands = k.keeps.cache.stands;
       same = k.keeps.cache.same;
       limits = k.keeps.cache.limits;
-      ready = k.keeps.cache.ready;
       now = k.keeps.cache.now;
       early = k.keeps.cache.early;
       last = k.keeps.cache.last;

@@ -27,15 +27,16 @@ use Rattle.hc_proxy.specs.Connections.{taken_at}
 use Rattle.hc_proxy.specs.Keeping.{Turn, HasUpstreams, IsClientAt}
 use Rattle.hc_proxy.specs.Rows.{Proxy, with_client}
 use Rattle.hc_proxy.specs.Underway.{HasHolders, KeepsUnderway, OnWire, GoesOn, DialsSome, one, none, dialling}
-use Rattle.hc_proxy.proofs.Holders.{HeldBy}
+use Rattle.hc_proxy.proofs.Alike.{cache_moves, cache_with}
+use Rattle.hc_proxy.proofs.Askings.{asked_go, wire_asked}
 use Rattle.hc_proxy.proofs.CarriedOut.{sent_to, act_keeps, over_later}
 use Rattle.hc_proxy.proofs.Closings.{dials_none}
+use Rattle.hc_proxy.proofs.Dialings.{opens_within, follows_dialled, dials_one}
+use Rattle.hc_proxy.proofs.Holders.{HeldBy}
+use Rattle.hc_proxy.proofs.Sendings as sent
 use Rattle.hc_proxy.specs.TurnSteps.{CarriedSome, HasStopCause}
 use Rattle.hc_proxy.specs.declared.stop.Stop.{Stop}
 use Rattle.hc_proxy.specs.declared.stop.Stop.TheVariants as stop
-use Rattle.hc_proxy.proofs.Dialings.{opens_within, follows_dialled, dials_one}
-use Rattle.hc_proxy.proofs.Sendings as sent
-use Rattle.hc_proxy.proofs.Askings.{asked_go, wire_asked}
 
 -- WHO WAITS FOR WHOM
 
@@ -103,7 +104,7 @@ module _ {B : Type 0} {g : Ghosts B} (t : Turn) (x : loop.Proxy B g) (p : Proxy)
     sent_goes c to s out found origins plain shut =
         let is : carried_out a p ≡ with_client s.0 (answered a) p = out ∙ ap (λ (o : Option ℕ). answers o a p) s.1.held in
         subst (λ (r : Proxy). KeepsUnderway t acts told r) (sym is) (record {
-          cache = sent.cache_moves t.frame x p cl x.upstreams (with_client s.0 (answered a) p).client h.cache;
+          cache = cache_with t.frame told p (with_client s.0 (answered a) p).client p.accepted (cache_moves t.frame x told p refl refl refl refl h.cache);
           moved = h.moved;
           clients = sent.clients_go a c to p s.0 s.1.holder (λ j. h.holders.held j c) t x cl tells h.clients;
           holders = subst (HasHolders acts) is (of_held acts (carried_out a p) (act_keeps a acts p found h.over (held_of (a ∷ acts) p h.holders)));
@@ -134,7 +135,7 @@ module _ {B : Type 0} {g : Ghosts B} (t : Turn) (x : loop.Proxy B g) (p : Proxy)
       → ((d : ℕ) → sent_to a ≡ Some d → (k : ℕ) × IsHolder p k d) → HasUpstreams t x p acts → ArePlain acts p.tables → AreShut acts p.tables → KeepsUnderway t acts (record x { clients = cl }) (carried_out a p)
   unsaid_goes cl a same h is found origins plain shut =
       subst (λ (r : Proxy). KeepsUnderway t acts (record x { clients = cl }) r) (sym is) (record {
-        cache = sent.cache_moves t.frame x p cl x.upstreams p.client h.cache;
+        cache = cache_moves t.frame x (record x { clients = cl }) p refl refl refl refl h.cache;
         moved = h.moved;
         clients = record {
           rows = λ k. subst (λ (o : Option peer.Client). IsClientAt (taken_at t.call k) o (p.client k)) (sym (same k)) (h.clients.rows k);
@@ -200,7 +201,7 @@ module _ {B : Type 0} {g : Ghosts B} (t : Turn) (x : loop.Proxy B g) (p : Proxy)
   pub ask_goes : (up : Upstreams) (z : ℕ) → Stays x.upstreams up → Marks (is_news x.upstreams) (is_news up) z (is_some (upstream_of x.upstreams z))
       → Marks (is_touched x.upstreams) (is_touched up) z true → KeepsUnderway t (act.Ask z ∷ acts) x p → KeepsUnderway t acts (record x { upstreams = up }) p
   ask_goes up z stays news touched h = record {
-    cache = sent.cache_moves t.frame x p x.clients up p.client h.cache;
+    cache = cache_moves t.frame x (record x { upstreams = up }) p refl refl refl refl h.cache;
     moved = h.moved;
     clients = record { rows = h.clients.rows; order = h.clients.order; listed = h.clients.listed; few = h.clients.few };
     holders = of_held acts p (act_keeps (act.Ask z) acts p (λ d to. absurd (let never : None ≡ Some d = to in cc)) h.over (held_of (act.Ask z ∷ acts) p h.holders));

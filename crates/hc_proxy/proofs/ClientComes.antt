@@ -30,12 +30,11 @@ use Rattle.hc_proxy.specs.Invariants.{is_quiet}
 use Rattle.hc_proxy.specs.Keeping.{Turn, HasClients, IsClient, IsClientAt, AtWire, AreSeen, AreKnown, Begun, Keeps, KeepsQuiet, Goes}
 use Rattle.hc_proxy.specs.Rows.{Proxy, new_client}
 use Rattle.hc_proxy.specs.Waiting.{is_waiting}
+use Rattle.hc_proxy.proofs.Alike.{cache_moves, cache_with}
 use Rattle.hc_proxy.proofs.Holders.{held_of, of_held}
 use Rattle.hc_proxy.proofs.HoldersBegin.{comes_keeps}
-use Rattle.hc_proxy.proofs.HungUp.{cache_moves}
 use Rattle.hc_proxy.proofs.Inserted.{inserted_sorted, inserted_here, inserted_on, inserted_back, passed_more}
 use Rattle.hc_proxy.proofs.Marked.{among_contained, contained_among}
-use Rattle.hc_proxy.proofs.RowChanges.{cache_with}
 use Rattle.hc_proxy.proofs.SkippedSteps.{among}
 use Rattle.hc_proxy.proofs.StartsOn.{just_here, here_order}
 use Rattle.hc_proxy.proofs.Turning.{with_new}

@@ -3,17 +3,19 @@
 -- More is waited for, so `take` answered no part, and the row is read to the end of its bytes. Then `finish` tells whether the answer is
 -- whole by the close. What was handed before, the close and the lists behind it are one step of the definitions: two steps of the cache
 -- are made at most, since behind two the exchange isn't open, and the close makes one only of an open exchange.
-use Rattle.std.proofs.Common.{◌≡◌, ℕ, ◌+◌, ◌≤◌, Bool, true, false, Option, Some, refl, ap, sym, ◌∙◌, arith}
-use Rattle.std.specs.Prelude.{◌^◌, nat_eq, Result}
+use Rattle.std.proofs.Common.{◌≡◌, inl, inr, ℕ, ◌+◌, ◌≤◌, Bool, true, false, Option, Some, None, refl, ap, sym, ◌∙◌, subst, arith}
+use Rattle.std.specs.Prelude.{◌^◌, nat_eq, Result, Ok, Err}
 use Rattle.std.specs.Result.{is_ok, is_err}
 use Rattle.std.proofs.Math.Logic.{∥∥₁_map}
 use Rattle.std.proofs.lemmas.Bool.Decides.{nat_tests}
 use Rattle.hc_core.specs.Steps.{steps, faults_in, bytes_received}
 use Rattle.hc_event.specs.declared.event.Event.TheVariants as event
 use Rattle.hc_head.specs.declared.message.MsgError.{MsgError}
+use Rattle.hc_head.specs.declared.message.MsgError.TheVariants as error
 use Rattle.hc_model.specs.Exchanges.{is_open}
 use Rattle.hc_msg.specs.declared.message.Look.TheVariants as look
 use Rattle.hc_msg.specs.declared.message.WirePart.{WirePart}
+use Rattle.hc_msg.specs.Inputs.{Next, look_of}
 use Rattle.hc_msg.specs.Taking.{ending}
 use Rattle.hc_peers.specs.Origins as origins
 use Rattle.hc_peers.specs.Upstreams.{upstream_of, has_ended_at, look_at, Becomes, ListsStay, TakesOf}
@@ -32,6 +34,25 @@ use Rattle.hc_proxy.proofs.TakenParts.{TakenNone, waits_taken, looks_waits}
 
 same_number : (n : ℕ) → nat_eq n n ≡ true
 same_number n = grind (arith, nat_tests)
+
+-- where more is waited for, the read fails by want of memory alone
+pub only_memory : (z : ℕ) (old new : Upstreams) (out : Result (Option WirePart) MsgError) (e : MsgError) → look_at (upstream_of old z) ≡ look.Waits
+    → ((u : origin.Upstream) → upstream_of old z ≡ Some u → TakesOf z old new u out) → (upstream_of old z ≡ None → out ≡ Ok None) → out ≡ Err e → e ≡ error.NoMemory
+only_memory z old new out e looks takes lacks is = by_row (upstream_of old z) refl
+  where
+    same_error : (r : Result (Option WirePart) MsgError) (f : MsgError) → r ≡ Err e → r ≡ Err f → e ≡ f
+    same_error r f a b = cc
+
+    by_takes : (u after : origin.Upstream) → look_of (origins.next_of u) ≡ look.Waits → origins.Takes u after out → e ≡ error.NoMemory
+    by_takes u after waits (inl failed) = same_error out error.NoMemory is failed
+    by_takes u after waits (inr taken) =
+        let w = looks_waits (origins.next_of u) waits in
+        let none : out ≡ Ok None = (subst (λ (n : Next). origins.IsTaken n u after out) w.1 taken).0 in
+        absurd (let never : Ok None ≡ Err e = sym none ∙ is in cc)
+
+    by_row : (o : Option origin.Upstream) → upstream_of old z ≡ o → e ≡ error.NoMemory
+    by_row None none = absurd (let never : Ok None ≡ Err e = sym (lacks none) ∙ is in cc)
+    by_row (Some u) row = let to = takes u row in by_takes u to.after (sym (ap look_at row) ∙ looks) to.takes
 
 module _ {B : Type 0} {g : Ghosts B} (z : ℕ) (x : loop.Proxy B g) (s s' : Upstreams) (out : Result (Option WirePart) MsgError) (takes : (u : origin.Upstream) → upstream_of x.upstreams z ≡ Some u → TakesOf z x.upstreams s u out) (took : ListsStay x.upstreams s) (fine : is_err out ≡ false)
     (row : (u : origin.Upstream) → upstream_of s z ≡ Some u → Becomes z (Some (origins.finished u)) s s') (stays : ListsStay s s') (whole : Bool) (says : (u : origin.Upstream) → upstream_of s z ≡ Some u → whole ≡ is_ok (ending u.reader))

@@ -14,30 +14,28 @@ use Rattle.hc_model.specs.Exchanges.{is_open, is_wanted}
 use Rattle.hc_model.specs.Lawful.{Lawful}
 use Rattle.hc_model.specs.Tables.{after, after_accepted, after_denied, opened_after}
 use Rattle.hc_model.proofs.PieceKeeps.{eq_cases}
-use Rattle.hc_peers.specs.Clients.{client_of}
 use Rattle.hc_peers.specs.Peers.{is_same}
 use Rattle.hc_peers.specs.Upstreams.{upstream_of, is_news, is_touched}
 use Rattle.hc_peers.specs.declared.upstream.Upstream as origin
 use Rattle.hc_store.specs.declared.backend.Backend.{Ghosts}
-use Rattle.hc_wire.specs.Events.{Stage}
 use Rattle.hc_proxy.specs.declared.proxy.Proxy as loop
 use Rattle.hc_proxy.specs.Carrying.{acts_in}
 use Rattle.hc_proxy.specs.Connections.{taken_at}
 use Rattle.hc_proxy.specs.Invariants.{is_due}
-use Rattle.hc_proxy.specs.Keeping.{Turn, HasUpstreamsBut, IsUpstreamAt, AtWire, KeepsBut, KeepsQuiet, Stepped, RestStays}
+use Rattle.hc_proxy.specs.Keeping.{Turn, HasUpstreamsBut, IsUpstreamAt, KeepsBut, KeepsQuiet, Stepped, RestStays}
 use Rattle.hc_proxy.specs.Rows.{Proxy}
 use Rattle.hc_proxy.specs.Steps.{with_entry}
 use Rattle.hc_proxy.specs.Waiting.{is_poll, is_waiting}
+use Rattle.hc_proxy.proofs.Alike.{clients_move, wire_moves}
 use Rattle.hc_proxy.proofs.ClosedActs.{closes_both, closed_behind}
 use Rattle.hc_proxy.proofs.Holders.{entry_keeps}
-use Rattle.hc_proxy.proofs.HungUp.{clients_move}
 use Rattle.hc_proxy.proofs.IdleExchanges.{due_stays}
-use Rattle.hc_laws.proofs.LiveAfter.{Starts}
 use Rattle.hc_proxy.proofs.OpenAfter.{OpensIt, Stops, was_open, was_wanted, stays_open, stays_wanted}
 use Rattle.hc_proxy.proofs.OpensUp.{entry_opens}
 use Rattle.hc_proxy.proofs.QuietActs.{AreQuiet, quiet_both, is_quiet_entry, quiet_opens_none, quiet_asks_none}
 use Rattle.hc_proxy.proofs.Stands.{Stands}
 use Rattle.hc_proxy.proofs.StepOn.{stands_of, law_of}
+use Rattle.hc_laws.proofs.LiveAfter.{Starts}
 
 or_right : (a b : Bool) → b ≡ true → (a || b) ≡ true
 or_right true b h = refl
@@ -136,26 +134,6 @@ module _ {B : Type 0} {g : Ghosts B} where
 
   -- AN ENTRY
 
-  pub wire_stays : (stages : ℕ → Stage) (x x' : loop.Proxy B g) → RestStays x x' → AtWire stages x → AtWire stages x'
-  wire_stays stages x x' r w = record {
-    clients = λ k c is. w.clients k c (sym (client k) ∙ is);
-    upstreams = λ y u is. w.upstreams y u (sym (row y) ∙ is);
-    all = λ k opens. elim (w.all k opens) as (λ _. IsSome (client_of x'.clients k) ⊎ ((y : ℕ) × (v : origin.Upstream) × (upstream_of x'.upstreams y ≡ Some v) × (v.k ≡ k)) ⊎ Contains x'.closed.items k) [
-      | inl here ↦ inl (subst IsSome (sym (client k)) here)
-      | inr other ↦ elim other as (λ _. IsSome (client_of x'.clients k) ⊎ ((y : ℕ) × (v : origin.Upstream) × (upstream_of x'.upstreams y ≡ Some v) × (v.k ≡ k)) ⊎ Contains x'.closed.items k) [
-        | inl up ↦ inr (inl (up.0, up.1, row up.0 ∙ up.2, up.3))
-        | inr there ↦ inr (inr (subst (λ v. Contains v.items k) (sym r.closed) there))
-      ]
-    ];
-    closed = λ k there. let was = w.closed k (subst (λ v. Contains v.items k) r.closed there) in (client k ∙ was.0, λ y u is. was.1 y u (sym (row y) ∙ is));
-  }
-    where
-      client : (k : ℕ) → client_of x'.clients k ≡ client_of x.clients k
-      client k = ap (λ s. client_of s k) r.clients
-
-      row : (y : ℕ) → upstream_of x'.upstreams y ≡ upstream_of x.upstreams y
-      row y = ap (λ s. upstream_of s y) r.upstreams
-
   module _ (z : ℕ) (t : Turn) (x x' : loop.Proxy B g) (p : Proxy) (ev : Event) (h : KeepsBut z t x p) (s : Stepped t.frame x x' ev p) (r : RestStays x x') (off : is_poll ev ≡ false) (only : IsOfOnly z ev) where
     abbrev pub q : Proxy
     q = with_entry s.e p
@@ -253,7 +231,7 @@ module _ {B : Type 0} {g : Ghosts B} where
           clients = record { rows = cs.rows; order = cs.order; listed = cs.listed; few = cs.few };
           consumers = entry_keeps t.frame.limits p s.e law s.is_owed h.consumers (λ c is. no_cancel c (sym s.event_is ∙ is)) (λ c starts. no_start c (subst (Starts c) s.event_is starts));
           upstreams = but_upstreams;
-          wire = wire_stays t.stages x x' r h.wire;
+          wire = wire_moves t.stages x x' r.clients r.upstreams r.closed h.wire;
           numbers = (let a : p.starts ≤ steps x.cache = h.numbers in let b : steps x'.cache ≡ steps x.cache + 1 = one in omega arith);
           opened = (let a : p.tables.opened ≤ steps x.cache = h.opened in let b : steps x'.cache ≡ steps x.cache + 1 = one in let c : (after p.tables s.e).opened ≡ p.tables.opened = opened_same in omega arith);
           seen = h.seen;

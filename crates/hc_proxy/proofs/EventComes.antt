@@ -22,8 +22,8 @@ use Rattle.hc_proxy.specs.Handling.{handled, handled_by}
 use Rattle.hc_proxy.specs.Invariants.{is_quiet, unread}
 use Rattle.hc_proxy.specs.Keeping.{Frame, Turn, HasCache, AtWire, AtEvent, IsAtEvent, StandsForSome, Begun, IsBegun, KeepsQuiet, Stepped, Goes}
 use Rattle.hc_proxy.specs.Rows.{Proxy}
+use Rattle.hc_proxy.proofs.Alike.{cache_moves}
 use Rattle.hc_proxy.specs.Waiting.{is_waiting}
-use Rattle.hc_proxy.proofs.HungUp.{cache_moves}
 
 -- THE STAGES
 

@@ -12,12 +12,13 @@ use Rattle.hc_wire.specs.Logs.{Log, stage_in}
 use Rattle.hc_proxy.specs.declared.proxy.Proxy as loop
 use Rattle.hc_proxy.specs.declared.record.Record.{Record}
 use Rattle.hc_proxy.specs.Carrying.{answered, carried, acts_in}
+use Rattle.hc_proxy.specs.Endings.{SentOn}
 use Rattle.hc_proxy.specs.Keeping.{Turn, HasCache, KeepsPolled}
 use Rattle.hc_proxy.specs.Logging.{Dials, AreApart}
 use Rattle.hc_proxy.specs.Records.{text_of, last_of}
 use Rattle.hc_proxy.specs.Resting.{Rests}
 use Rattle.hc_proxy.specs.Rows.{Client, Proxy}
-use Rattle.hc_proxy.specs.Serving.{SentOn, FinishesTurn, CutsTurn}
+use Rattle.hc_proxy.specs.Serving.{FinishesTurn, CutsTurn}
 use Rattle.hc_proxy.specs.TurnSteps.{CarriedOut, CarriedSome, SentAll, SentSome}
 use Rattle.hc_proxy.specs.Turns.{timed_of, text_behind}
 use Rattle.hc_proxy.specs.Underway.{OnWire}
@@ -64,7 +65,6 @@ module _ {B : Type 0} {g : Ghosts B} (t : Turn) (q : Proxy) (y : loop.Proxy B g)
         stands = c.stands;
         same = c.same;
         limits = c.limits;
-        ready = c.ready;
         now = c.now;
         early = c.early;
         last = c.last;

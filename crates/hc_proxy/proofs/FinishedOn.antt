@@ -38,8 +38,8 @@ use Rattle.hc_proxy.specs.Network.{next_of, read_to, event_at_close, closes, clo
 use Rattle.hc_proxy.specs.Rows.{Upstream, Proxy, with_upstream}
 use Rattle.hc_proxy.specs.Steps.{with_entry}
 use Rattle.hc_laws.proofs.Accepted as accepted
+use Rattle.hc_proxy.proofs.Alike.{cache_moves, cache_rows}
 use Rattle.hc_proxy.proofs.HandedOn.{BothRows, rows, next_is, read_keeps, headed_was, apart_none, apart_step, end_but, fault_but, fault_shuts}
-use Rattle.hc_proxy.proofs.HungUp.{cache_moves}
 use Rattle.hc_proxy.proofs.NextBegun.{begun_waits}
 use Rattle.hc_proxy.proofs.QuietActs.{AreQuiet, is_quiet_entry, quiet_opens_none}
 use Rattle.hc_proxy.proofs.TakenParts.{TakenNone, looks_fails}
@@ -133,25 +133,7 @@ module _ {B : Type 0} {g : Ghosts B} where
     ]
 
     cache : HasCache t.frame x q
-    cache = record {
-      stands = h.cache.stands;
-      same = h.cache.same;
-      limits = h.cache.limits;
-      ready = h.cache.ready;
-      now = h.cache.now;
-      early = h.cache.early;
-      last = h.cache.last;
-      starts = h.cache.starts;
-      last_start = h.cache.last_start;
-      text = h.cache.text;
-      recorded = h.cache.recorded;
-      before = h.cache.before;
-      unopened = unopened;
-      headed = λ y v on is. h.cache.headed y v on (off_is y (open_off y on) ∙ is);
-      small = small;
-      bounded = h.cache.bounded;
-      targets = h.cache.targets;
-    }
+    cache = cache_rows t.frame x (with_upstream z change q) q.upstream unopened (λ y v on is. h.cache.headed y v on (off_is y (open_off y on) ∙ is)) small h.cache
 
     upstreams : HasUpstreamsBut z t x q (acts_in q.part)
     upstreams = record {

@@ -99,7 +99,6 @@ module _ {B : Type 0} {g : Ghosts B} (f : Frame) (x : loop.Proxy B g) (log : Log
     stands = u.stands;
     same = refl;
     limits = u.limits;
-    ready = u.ready;
     now = now;
     early = omega arith;
     last = (let a : last_moment x.cache ≡ (tables no_contents []).moment = u.stands.moment in let b : (tables no_contents []).moment ≡ 0 = no_moment in omega arith);

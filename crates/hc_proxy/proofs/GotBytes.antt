@@ -13,7 +13,7 @@ use Rattle.hc_core.specs.Steps.{faults_in, steps, bytes_received}
 use Rattle.hc_event.specs.Filters.{asks_in, closes_in}
 use Rattle.hc_model.specs.Exchanges.{is_open, is_wanted}
 use Rattle.hc_event.specs.declared.event.Event.TheVariants as event
-use Rattle.hc_model.specs.Rows.{Tables, Exchange}
+use Rattle.hc_model.specs.Rows.{Exchange}
 use Rattle.hc_model.specs.Tables.{after}
 use Rattle.hc_model.specs.Lawful.{Lawful}
 use Rattle.hc_model.proofs.PieceKeeps.{some_inj}
@@ -38,12 +38,14 @@ use Rattle.hc_proxy.specs.Rows.{Client, Upstream, Proxy, with_client, with_upstr
 use Rattle.hc_proxy.specs.Steps as steps_of
 use Rattle.hc_proxy.specs.Steps.{with_entry}
 use Rattle.hc_laws.proofs.Accepted.{fault_closes}
+use Rattle.hc_proxy.proofs.Alike.{cache_moves, cache_with, upstreams_move}
 use Rattle.hc_proxy.proofs.DoneFor.{but_it, IsDone, done_all, but_stepped}
+use Rattle.hc_proxy.proofs.HandedOn.{open_number}
+use Rattle.hc_proxy.proofs.HangsOff.{has_row}
 use Rattle.hc_proxy.proofs.Holders.{held_of, of_held, change_keeps, sends_keep}
-use Rattle.hc_proxy.proofs.HungUp.{has_row, cache_moves, hung_up}
-use Rattle.hc_proxy.proofs.LeaveGoes.{ups_move}
+use Rattle.hc_proxy.proofs.HungUp.{hung_up}
 use Rattle.hc_proxy.proofs.OriginRows.{row_changed}
-use Rattle.hc_proxy.proofs.RowChanges.{cache_with, ChangesClient, changed_clients, row_was, wire_same, seen_still, upstreams_with}
+use Rattle.hc_proxy.proofs.RowChanges.{ChangesClient, changed_clients, row_was, wire_same, seen_still, upstreams_with}
 use Rattle.hc_proxy.proofs.StepOn.{law_of}
 use Rattle.hc_proxy.proofs.Unread.{unread_grows}
 
@@ -146,7 +148,7 @@ module _ {B : Type 0} {g : Ghosts B} (t : Turn) (x : loop.Proxy B g) (p : Proxy)
         acts = h.quiet.keeps.acts;
         clients = changed_clients t x p k _ (client_sends bytes) s becomes change h.quiet.keeps.clients;
         consumers = of_held (with_client k (client_sends bytes) p) (change_keeps (acts_in p.part) k (client_sends bytes) p (λ r at. sends_keep bytes r) (held_of p h.quiet.keeps.consumers));
-        upstreams = ups_move t x (record x { clients = s }) (with_client k (client_sends bytes) p) (acts_in p.part) refl (upstreams_with k t x p (with_client k (client_sends bytes) p).client some_was h.quiet.keeps.upstreams);
+        upstreams = upstreams_move t x (record x { clients = s }) (with_client k (client_sends bytes) p) (acts_in p.part) refl (upstreams_with k t x p (with_client k (client_sends bytes) p).client some_was h.quiet.keeps.upstreams);
         wire = wire_same t x p k _ (client_sends bytes) s becomes change t.stages (sent_some bytes (client_of x.clients k)) h.quiet.keeps.wire;
         numbers = h.quiet.keeps.numbers;
         opened = h.quiet.keeps.opened;
@@ -325,10 +327,6 @@ module _ {B : Type 0} {g : Ghosts B} (x : loop.Proxy B g) (k : ℕ) where
       let a : c ≤ s.1.starts = s.2.quiet.keeps.consumers.started k c w in
       let b : s.1.starts ≤ steps x.cache = s.2.quiet.keeps.numbers in
       omega arith)
-
-  open_number : (t : Tables) → Lawful t → (z : ℕ) → is_open (t.exchange z) ≡ true → (b : Bool) → nat_lt t.opened z ≡ b → z ≤ t.opened
-  open_number t law z on true past = absurd (let never : false ≡ true = sym (ap is_open (law.sound.numbered.lists.new_exchanges z (grind (arith, nat_tests)))) ∙ on in cc)
-  open_number t law z on false past = grind (arith, nat_tests)
 
   pub small_exchange : ∥ IsAtEvent x k ∥₁ → steps x.cache < 2 ^ 60 → (z : ℕ) → is_at k (upstream_of x.upstreams z) ≡ true → z < 2 ^ 62
   small_exchange some few z there = ∥∥₁_elim some le_prop (λ s.

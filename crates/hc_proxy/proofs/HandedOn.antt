@@ -42,9 +42,9 @@ use Rattle.hc_proxy.specs.Steps.{with_entry}
 use Rattle.hc_proxy.specs.Steps as steps_of
 use Rattle.hc_proxy.specs.Waiting.{is_poll}
 use Rattle.hc_laws.proofs.Accepted as accepted
+use Rattle.hc_proxy.proofs.Alike.{cache_moves}
 use Rattle.hc_proxy.proofs.AnswerNext.{IsAnswerNext, answer_next}
 use Rattle.hc_proxy.proofs.DoneFor.{but_stepped}
-use Rattle.hc_proxy.proofs.HungUp.{cache_moves}
 use Rattle.hc_proxy.proofs.NextBegun.{begun_waits, begun_brings, begun_ends}
 use Rattle.hc_proxy.proofs.OpenAfter.{was_open}
 use Rattle.hc_proxy.proofs.OriginRows.{row_changed}

@@ -27,10 +27,10 @@ use Rattle.hc_proxy.specs.Invariants.{is_due, is_due_by, is_part}
 use Rattle.hc_proxy.specs.Keeping.{Turn, KeepsQuiet, KeepsHeard, Goes}
 use Rattle.hc_proxy.specs.Network.{has_news, next_of, open_exchanges, handed, closed, each_heard, heard}
 use Rattle.hc_proxy.specs.Rows.{Upstream, Proxy}
+use Rattle.hc_proxy.proofs.Alike.{cache_moves, clients_move}
 use Rattle.hc_proxy.proofs.Ascending.{opens_ascend, opens_are}
 use Rattle.hc_proxy.proofs.DoneFor.{but_it}
 use Rattle.hc_proxy.proofs.FewHere.{few_open}
-use Rattle.hc_proxy.proofs.HungUp.{cache_moves, clients_move}
 use Rattle.hc_proxy.proofs.IdleExchanges.{Idle, heard_one, is_skipped, is_each}
 use Rattle.hc_proxy.proofs.Marked.{keys_among, sorted_ascends, passed_among}
 use Rattle.hc_proxy.proofs.QuietActs.{quiet_asks_none}

@@ -27,8 +27,8 @@ use Rattle.hc_proxy.specs.Invariants.{unread}
 use Rattle.hc_proxy.specs.Keeping.{Frame, Turn, HasCache, StandsForSome, Stepped, RestStays, KeepsBut}
 use Rattle.hc_proxy.specs.Rows.{Proxy}
 use Rattle.hc_proxy.specs.Steps.{with_entry}
+use Rattle.hc_proxy.proofs.Alike.{cache_moves}
 use Rattle.hc_proxy.proofs.HandedOn.{open_number}
-use Rattle.hc_proxy.proofs.HungUp.{cache_moves}
 use Rattle.hc_proxy.proofs.PollOne.{appended}
 use Rattle.hc_proxy.proofs.StepOn.{law_of}
 

@@ -17,11 +17,8 @@ use Rattle.hc_model.specs.Tables.{after}
 use Rattle.hc_model.proofs.Basics.{or_left, or_right}
 use Rattle.hc_peers.specs.Peers.{is_same}
 use Rattle.hc_peers.specs.Upstreams.{upstream_of, is_news, is_touched}
-use Rattle.hc_peers.specs.declared.clients.Clients.{Clients}
-use Rattle.hc_peers.specs.declared.upstreams.Upstreams.{Upstreams}
 use Rattle.hc_peers.specs.declared.upstream.Upstream as origin
 use Rattle.hc_store.specs.declared.backend.Backend.{Ghosts}
-use Rattle.hc_wire.specs.Events.{Stage}
 use Rattle.hc_proxy.specs.declared.proxy.Proxy as loop
 use Rattle.hc_proxy.specs.Carrying.{acts_in}
 use Rattle.hc_proxy.specs.Connections.{connection_of, first_of}
@@ -30,6 +27,7 @@ use Rattle.hc_proxy.specs.Keeping.{Frame, Turn, HasCache, HasActs, HasClients, H
 use Rattle.hc_proxy.specs.Network.{has_news, next_of}
 use Rattle.hc_proxy.specs.Rows.{Upstream, Proxy}
 use Rattle.hc_proxy.specs.Steps.{with_entry}
+use Rattle.hc_proxy.proofs.Alike.{clients_move, upstreams_move, wire_moves}
 use Rattle.hc_proxy.proofs.ClosedActs.{turn_or, closes_both, closed_behind}
 use Rattle.hc_proxy.proofs.OpenAfter.{OpensIt, Stops, was_open, stays_open, was_wanted, stays_wanted}
 use Rattle.hc_proxy.proofs.OpensUp.{entry_opens, up_grows}
@@ -98,35 +96,6 @@ both_ways false true on back = sym (back refl)
 both_ways false false on back = refl
 
 module _ {B : Type 0} {g : Ghosts B} where
-  -- WHERE THE ROWS OF THE CODE ARE OTHERS BY AN EQUATION
-
-  pub upstreams_alike : (t : Turn) (x x' : loop.Proxy B g) (p : Proxy) (acts : List Act) → x'.upstreams ≡ x.upstreams → HasUpstreams t x p acts → HasUpstreams t x' p acts
-  upstreams_alike t x x' p acts same h =
-      let k : HasUpstreams t (record x { upstreams = x'.upstreams }) p acts =
-      subst (λ (u : Upstreams). HasUpstreams t (record x { upstreams = u }) p acts) (sym same)
-      (record { rows = h.rows; numbers = h.numbers; over = h.over; news = h.news; touched = h.touched; opens = h.opens; names = h.names; strangers = h.strangers }) in
-      record { rows = k.rows; numbers = k.numbers; over = k.over; news = k.news; touched = k.touched; opens = k.opens; names = k.names; strangers = k.strangers }
-
-  pub clients_alike : (t : Turn) (x x' : loop.Proxy B g) (p : Proxy) → x'.clients ≡ x.clients → HasClients t x p → HasClients t x' p
-  clients_alike t x x' p same h =
-      let k : HasClients t (record x { clients = x'.clients }) p =
-      subst (λ (u : Clients). HasClients t (record x { clients = u }) p) (sym same)
-      (record { rows = h.rows; order = h.order; listed = h.listed; few = h.few }) in
-      record { rows = k.rows; order = k.order; listed = k.listed; few = k.few }
-
-  pub wire_alike : (stages : ℕ → Stage) (x x' : loop.Proxy B g) → RestStays x x' → AtWire stages x → AtWire stages x'
-  wire_alike stages x x' rest h =
-      let a : AtWire stages (record x { clients = x'.clients }) =
-      subst (λ (u : Clients). AtWire stages (record x { clients = u })) (sym rest.clients)
-      (record { clients = h.clients; upstreams = h.upstreams; all = h.all; closed = h.closed }) in
-      let b : AtWire stages (record x { clients = x'.clients; upstreams = x'.upstreams }) =
-      subst (λ (u : Upstreams). AtWire stages (record x { clients = x'.clients; upstreams = u })) (sym rest.upstreams)
-      (record { clients = a.clients; upstreams = a.upstreams; all = a.all; closed = a.closed }) in
-      let k : AtWire stages (record x { clients = x'.clients; upstreams = x'.upstreams; closed = x'.closed }) =
-      subst (λ u. AtWire stages (record x { clients = x'.clients; upstreams = x'.upstreams; closed = u })) (sym rest.closed)
-      (record { clients = b.clients; upstreams = b.upstreams; all = b.all; closed = b.closed }) in
-      record { clients = k.clients; upstreams = k.upstreams; all = k.all; closed = k.closed }
-
   -- THE CONNECTIONS TO THE ORIGIN
 
   module _ (t : Turn) (x : loop.Proxy B g) (p : Proxy) (acts : List Act) (s : Stands t.frame.limits p) (unopened : (y : ℕ) → p.tables.opened < y → p.upstream y ≡ None) (h : HasUpstreams t x p acts) (e : Entry) (is : IsOwed t.frame.limits p.tables e) (none : (y : ℕ) → Stops y e.event → ⊥) where
@@ -216,14 +185,14 @@ module _ {B : Type 0} {g : Ghosts B} where
   unfolding with_entry
   keeps_on t x x' ev p stands unopened acts clients upstreams wire seen shut known s rest none consumers numbers opened =
       let on = upstreams_on t x p (acts_in p.part) stands unopened upstreams s.e s.is_owed none in
-      let kept = clients_alike t x x' p rest.clients clients in
+      let kept = clients_move t x x' p rest.clients clients in
       record {
         cache = s.cache;
         acts = s.acts ∙ ap (λ (xs : List Act). xs ++ s.e.acts) acts;
         clients = record { rows = kept.rows; order = kept.order; listed = kept.listed; few = kept.few };
         consumers = consumers;
-        upstreams = upstreams_alike t x x' (with_entry s.e p) (acts_in p.part ++ s.e.acts) rest.upstreams on;
-        wire = wire_alike t.stages x x' rest wire;
+        upstreams = upstreams_move t x x' (with_entry s.e p) (acts_in p.part ++ s.e.acts) rest.upstreams on;
+        wire = wire_moves t.stages x x' rest.clients rest.upstreams rest.closed wire;
         numbers = numbers;
         opened = (let le : (after p.tables s.e).opened ≤ p.tables.opened + 1 = opened_little t.frame.limits p stands s.e s.is_owed in omega arith);
         seen = seen;

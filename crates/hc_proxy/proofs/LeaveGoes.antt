@@ -19,7 +19,7 @@ use Rattle.hc_peers.specs.Agreement.{is_at}
 use Rattle.hc_peers.specs.Clients.{client_of}
 use Rattle.hc_peers.specs.Clients as clients
 use Rattle.hc_peers.specs.Peers.{is_same}
-use Rattle.hc_peers.specs.Upstreams.{upstream_of, is_news, is_touched}
+use Rattle.hc_peers.specs.Upstreams.{upstream_of}
 use Rattle.hc_peers.specs.declared.client.Client as peer
 use Rattle.hc_peers.specs.declared.clients.Clients.{Clients}
 use Rattle.hc_peers.specs.declared.upstream.Upstream as origin
@@ -30,17 +30,17 @@ use Rattle.hc_proxy.specs.Carrying.{acts_in}
 use Rattle.hc_proxy.specs.Connections.{taken_at}
 use Rattle.hc_proxy.specs.Handling.{is_client, left, leaves, cancelled, client_leaves}
 use Rattle.hc_proxy.specs.Invariants.{IsHolder, unread}
-use Rattle.hc_proxy.specs.Keeping.{Frame, Turn, HasCache, HasClients, HasUpstreams, HasUpstreamsBut, IsClientAt, IsUpstreamAt, AtWire, AreKnown, AtEvent, KeepsQuiet, Stepped, RestStays, Goes}
+use Rattle.hc_proxy.specs.Keeping.{Frame, Turn, HasCache, HasClients, HasUpstreams, HasUpstreamsBut, IsClientAt, AtWire, AreKnown, AtEvent, KeepsQuiet, Stepped, RestStays, Goes}
 use Rattle.hc_proxy.specs.Rows.{Client, Proxy, with_client}
 use Rattle.hc_proxy.specs.Steps as steps_of
 use Rattle.hc_proxy.specs.Steps.{with_entry}
 use Rattle.hc_proxy.specs.Waiting.{is_poll, is_waiting}
+use Rattle.hc_proxy.proofs.Alike.{cache_moves, clients_move, cache_with, upstreams_move}
 use Rattle.hc_proxy.proofs.ClosedActs.{closed_behind}
 use Rattle.hc_proxy.proofs.DoneFor.{but_it, but_upstreams, opened_same, waits_not}
 use Rattle.hc_proxy.proofs.Holders.{leave_keeps, idle_leave_keeps}
-use Rattle.hc_proxy.proofs.HungUp.{cache_moves, clients_move}
 use Rattle.hc_proxy.proofs.QuietActs.{AreQuiet, is_quiet_entry, quiet_both}
-use Rattle.hc_proxy.proofs.RowChanges.{cache_with, ChangesClient, changed_clients, reads_as, none_stays, row_was, seen_still, upstreams_with}
+use Rattle.hc_proxy.proofs.RowChanges.{ChangesClient, changed_clients, reads_as, none_stays, row_was, seen_still, upstreams_with}
 use Rattle.hc_proxy.proofs.StepOn.{law_of, stands_of}
 
 none_some : {A B : Type 0} (it : B) → None ≡ Some it → A
@@ -65,19 +65,6 @@ beside_any t x p acts a b = record {
   where
     other : (y : ℕ) → y ≡ 0 → nat_eq y 1 ≡ false
     other y here = ap (λ n. nat_eq n 1) here
-
--- other rows of the code
-pub ups_move : {B : Type 0} {g : Ghosts B} (t : Turn) (x x' : loop.Proxy B g) (p : Proxy) (acts : List Act) → x'.upstreams ≡ x.upstreams → HasUpstreams t x p acts → HasUpstreams t x' p acts
-ups_move t x x' p acts us h = record {
-  rows = λ y on le. subst (λ v. IsUpstreamAt (taken_at t.call) (upstream_of v y) (p.upstream y)) (sym us) (h.rows y on le);
-  numbers = λ y v is. h.numbers y v (sym (ap (λ u. upstream_of u y) us) ∙ is);
-  over = λ y some. h.over y (subst (λ v. IsSome (upstream_of v y)) us some);
-  news = λ y on none asks. h.news y on (sym (ap (λ u. is_news u y) us) ∙ none) asks;
-  touched = λ y v is on none asks. h.touched y v (sym (ap (λ u. upstream_of u y) us) ∙ is) on (sym (ap (λ u. is_touched u y) us) ∙ none) asks;
-  opens = h.opens;
-  names = h.names;
-  strangers = h.strangers;
-}
 
 -- A CLIENT THAT IS GONE
 
@@ -274,7 +261,7 @@ module _ {B : Type 0} {g : Ghosts B} (t : Turn) (x : loop.Proxy B g) (p : Proxy)
         acts = ap act_list acts_is ∙ h.quiet.keeps.acts;
         clients = clients_move t (record x { clients = s }) x' (with_client k left p) cs gone_clients;
         consumers = idle_leave_keeps k r.0 p r.1 r.3 h.quiet.keeps.consumers;
-        upstreams = ups_move t x x' (with_client k left p) (acts_in p.part) us (upstreams_with k t x p (with_client k left p).client
+        upstreams = upstreams_move t x x' (with_client k left p) (acts_in p.part) us (upstreams_with k t x p (with_client k left p).client
             (λ j some. row_was t x p k None left s becomes (left_change (taken_at t.call k) (client_of x.clients k) (p.client k)) j some) h.quiet.keeps.upstreams);
         wire = gone_wire x' cs us vs;
         numbers = subst (λ c. p.starts ≤ steps c) (sym cache_is) h.quiet.keeps.numbers;

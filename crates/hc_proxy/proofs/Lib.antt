@@ -27,6 +27,8 @@ mod Ascending
 mod MoreConnections
 mod FewHere
 mod GoneStays
+mod Alike
+mod HangsOff
 mod HungUp
 mod Texts
 mod StepOn

@@ -2,7 +2,7 @@
 --
 -- Where both rows are changed alike, what is kept stays kept. The exchange keeps its connection, so the numbers stay, and the wire reads
 -- on as it was told. No more bytes are unread than there is room for. Its answer is read behind its head only where it has that.
-use Rattle.std.proofs.Common.{◌≡◌, ◌⊎◌, inl, inr, ◌≤◌, ℕ, ◌+◌, length, true, false, Option, Some, None, refl, ap, sym, ◌∙◌, subst, arith}
+use Rattle.std.proofs.Common.{◌≡◌, ◌⊎◌, inl, inr, ◌≤◌, ◌<◌, ℕ, ◌+◌, length, true, false, Option, Some, None, refl, ap, sym, ◌∙◌, subst, arith}
 use Rattle.std.specs.Prelude.{nat_eq, option_map, IsSome, Contains}
 use Rattle.std.proofs.lemmas.Bool.Decides.{nat_tests}
 use Rattle.hc_core.specs.Steps.{bytes_received}
@@ -21,6 +21,7 @@ use Rattle.hc_proxy.specs.Headed.{IsReadAs, AreHeaded}
 use Rattle.hc_proxy.specs.Invariants.{IsHolder, is_due_by, unread}
 use Rattle.hc_proxy.specs.Keeping.{Turn, HasCache, HasUpstreamsBut, IsUpstream, IsUpstreamAt, AtWire, KeepsBut}
 use Rattle.hc_proxy.specs.Rows.{Upstream, Proxy, with_upstream}
+use Rattle.hc_proxy.proofs.Alike.{cache_moves, cache_rows}
 
 none_some : {A B : Type 0} (it : B) → None ≡ Some it → A
 none_some it h = absurd (let never : None ≡ Some it = h in cc)
@@ -69,28 +70,13 @@ module _ {B : Type 0} {g : Ghosts B} (z : ℕ) (t : Turn) (x : loop.Proxy B g) (
     ]
 
     cache : HasCache t.frame (record x { upstreams = s }) q
-    cache = record {
-      stands = h.cache.stands;
-      same = h.cache.same;
-      limits = h.cache.limits;
-      ready = h.cache.ready;
-      now = h.cache.now;
-      early = h.cache.early;
-      last = h.cache.last;
-      starts = h.cache.starts;
-      last_start = h.cache.last_start;
-      text = h.cache.text;
-      recorded = h.cache.recorded;
-      before = h.cache.before;
-      unopened = λ y lt. elim (eq_cases y z) as (λ _. q.upstream y ≡ None) [
-        | inr off ↦ off_is y off.0 ∙ h.cache.unopened y lt
-        | inl here ↦ ap q.upstream here.1 ∙ (here_is ∙ ap (option_map change) (ap p.upstream (sym here.1) ∙ h.cache.unopened y lt))
-      ];
-      headed = headed;
-      small = room;
-      bounded = h.cache.bounded;
-      targets = h.cache.targets;
-    }
+    cache = cache_rows t.frame (record x { upstreams = s }) p q.upstream unopened headed room (cache_moves t.frame x (record x { upstreams = s }) p refl refl refl refl h.cache)
+      where
+        unopened : (y : ℕ) → p.tables.opened < y → q.upstream y ≡ None
+        unopened y lt = elim (eq_cases y z) as (λ _. q.upstream y ≡ None) [
+          | inr off ↦ off_is y off.0 ∙ h.cache.unopened y lt
+          | inl here ↦ ap q.upstream here.1 ∙ (here_is ∙ ap (option_map change) (ap p.upstream (sym here.1) ∙ h.cache.unopened y lt))
+        ]
 
     at_here : is_open (p.tables.exchange z) ≡ true → z ≤ length t.dialled → IsUpstreamAt (taken_at t.call) (upstream_of s z) (q.upstream z)
     at_here on le =

@@ -43,7 +43,6 @@ module _ {B : Type 0} {g : Ghosts B} (f : Frame) (x x' : loop.Proxy B g) (c : â„
         stands = s.cache.stands;
         same = s.cache.same;
         limits = s.cache.limits;
-        ready = s.cache.ready;
         now = s.cache.now;
         early = s.cache.early;
         last = s.cache.last;

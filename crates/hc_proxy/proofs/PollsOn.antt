@@ -129,7 +129,6 @@ module _ {B : Type 0} {g : Ghosts B} where
               stands = h.cache.stands;
               same = h.cache.same;
               limits = h.cache.limits;
-              ready = h.cache.ready;
               now = h.cache.now;
               early = h.cache.early;
               last = h.cache.last;

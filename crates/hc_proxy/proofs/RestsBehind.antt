@@ -23,6 +23,7 @@ use Rattle.hc_proxy.specs.Rows.{Client, Proxy}
 use Rattle.hc_proxy.specs.TurnSteps.{SentAll}
 use Rattle.hc_proxy.specs.Underway.{OnWire}
 use Rattle.hc_proxy.specs.Unsent.{taken_in, IsKnownAt, HasConnections, IsSentAt, IsSentOriginAt, SendsToClients, SendsToOrigins, OthersStay}
+use Rattle.hc_proxy.proofs.Alike.{cache_moves}
 use Rattle.hc_proxy.proofs.OfferedAll.{sends_both}
 use Rattle.hc_proxy.proofs.OfferedClients.{upstream_same}
 
@@ -106,29 +107,8 @@ module _ {B : Type 0} {g : Ghosts B} where
       ∙ (ap (λ b. let z : loop.Proxy B g = record y { cache = x'.cache; «record» = x'.record; acts = x'.acts; now = x'.now; starts = x'.starts; moved = b } in z) (sym o.moved)
       ∙ ap (λ c. let z : loop.Proxy B g = record y { cache = x'.cache; «record» = x'.record; acts = x'.acts; now = x'.now; starts = x'.starts; moved = x'.moved; closed = c } in z) (sym o.closed))))))
 
-  cache_here : (f : Frame) (x x' : loop.Proxy B g) (p : Proxy) → HasCache f x p → HasCache f (with_tables x x') p
-  cache_here f x x' p h = record {
-    stands = h.stands;
-    same = h.same;
-    limits = h.limits;
-    ready = h.ready;
-    now = h.now;
-    early = h.early;
-    last = h.last;
-    starts = h.starts;
-    last_start = h.last_start;
-    text = h.text;
-    recorded = h.recorded;
-    before = h.before;
-    unopened = h.unopened;
-    headed = h.headed;
-    small = h.small;
-    bounded = h.bounded;
-    targets = h.targets;
-  }
-
   pub cache_kept : (f : Frame) (x x' : loop.Proxy B g) (p : Proxy) → OthersStay x x' → HasCache f x p → HasCache f x' p
-  cache_kept f x x' p o h = subst (λ (z : loop.Proxy B g). HasCache f z p) (all_same x x' o) (cache_here f x x' p h)
+  cache_kept f x x' p o h = cache_moves f x x' p o.cache o.text o.now o.starts h
 
 module _ {B : Type 0} {g : Ghosts B} (t : Turn) (x : loop.Proxy B g) (p : Proxy) (log : Log) (told : Option Log) (stages : ℕ → Stage) (keeps : KeepsCarried t x p) (on : OnWire t log told stages) where
   stage_is : (k : ℕ) → stage_in log.takers k ≡ t.stages k
@@ -218,7 +198,7 @@ module _ {B : Type 0} {g : Ghosts B} (t : Turn) (x : loop.Proxy B g) (p : Proxy)
 
     rests_here : Rests t.frame (with_tables x x') p s.log'
     rests_here = record {
-      cache = cache_here t.frame x x' p keeps.cache;
+      cache = cache_moves t.frame x (with_tables x x') p refl refl refl refl keeps.cache;
       acts = keeps.acts;
       moved = keeps.moved;
       clients = λ k. resting_at k (client_of x'.clients k) (p.client k) (s.has.clients k) (s.clients k);

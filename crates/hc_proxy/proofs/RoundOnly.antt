@@ -1,40 +1,23 @@
 -- What rests between turns does so whatever list a step goes over; and whether the next turn waits.
-use Rattle.std.proofs.Common.{◌≡◌, ◌⊎◌, inl, inr, ◌≤◌, ℕ, [], Bool, true, false, Some, refl, ap, sym, ◌∙◌, subst}
-use Rattle.std.specs.Prelude.{◌&&◌, not, Contains, IsSome}
+use Rattle.std.proofs.Common.{◌≡◌, ◌≤◌, [], Bool, true, false, refl, ap, sym, ◌∙◌, subst}
+use Rattle.std.specs.Prelude.{◌&&◌, not}
 use Rattle.std.specs.List.{list_all}
 use Rattle.hc_core.specs.Steps.{steps}
 use Rattle.hc_event.specs.Acts.{act_list}
 use Rattle.hc_peers.specs.Clients.{client_of}
 use Rattle.hc_peers.specs.Upstreams.{upstream_of}
-use Rattle.hc_peers.specs.declared.upstream.Upstream as origin
 use Rattle.hc_rules.specs.declared.room.Limits.{Limits}
 use Rattle.hc_store.specs.declared.backend.Backend.{Ghosts}
 use Rattle.hc_wire.specs.Logs.{Log, stage_in}
 use Rattle.hc_proxy.specs.declared.proxy.Proxy as loop
 use Rattle.hc_proxy.specs.Hearing.{OnlyRound}
-use Rattle.hc_proxy.specs.Keeping.{Frame, AtWire}
+use Rattle.hc_proxy.specs.Keeping.{Frame}
 use Rattle.hc_proxy.specs.Resting.{IsRestingAt, Rests, resting_call}
 use Rattle.hc_proxy.specs.Rows.{Proxy}
 use Rattle.hc_proxy.specs.Waiting.{is_waiting, hears_nothing, waits}
-use Rattle.hc_proxy.proofs.HungUp.{cache_moves}
-use Rattle.hc_proxy.proofs.KeepsOn.{upstreams_alike}
+use Rattle.hc_proxy.proofs.Alike.{cache_moves, upstreams_move, wire_moves}
 
 module _ {B : Type 0} {g : Ghosts B} (f : Frame) (x x' : loop.Proxy B g) (p : Proxy) (log : Log) where
-  wire_on : OnlyRound x x' → AtWire (stage_in log.takers) x → AtWire (stage_in log.takers) x'
-  wire_on o w = record {
-    clients = λ k c at. w.clients k c (sym (ap (λ s. client_of s k) o.clients) ∙ at);
-    upstreams = λ y u at. w.upstreams y u (sym (ap (λ s. upstream_of s y) o.upstreams) ∙ at);
-    all = λ k opens. by_who k (w.all k opens);
-    closed = λ k among. let was = w.closed k (subst (λ v. Contains v.items k) o.closed among) in
-        (ap (λ s. client_of s k) o.clients ∙ was.0, λ y u at. was.1 y u (sym (ap (λ s. upstream_of s y) o.upstreams) ∙ at));
-  }
-    where
-      by_who : (k : ℕ) → IsSome (client_of x.clients k) ⊎ ((y : ℕ) × (u : origin.Upstream) × (upstream_of x.upstreams y ≡ Some u) × (u.k ≡ k)) ⊎ Contains x.closed.items k
-          → IsSome (client_of x'.clients k) ⊎ ((y : ℕ) × (u : origin.Upstream) × (upstream_of x'.upstreams y ≡ Some u) × (u.k ≡ k)) ⊎ Contains x'.closed.items k
-      by_who k (inl some) = inl (subst (λ s. IsSome (client_of s k)) (sym o.clients) some)
-      by_who k (inr (inl (y, u, at, number))) = inr (inl (y, u, ap (λ s. upstream_of s y) o.upstreams ∙ at, number))
-      by_who k (inr (inr among)) = inr (inr (subst (λ v. Contains v.items k) (sym o.closed) among))
-
   pub rests_round : OnlyRound x x' → Rests f x p log → Rests f x' p log
   rests_round o r = record {
     cache = cache_moves f x x' p o.cache o.text o.now o.starts r.cache;
@@ -46,11 +29,11 @@ module _ {B : Type 0} {g : Ghosts B} (f : Frame) (x x' : loop.Proxy B g) (p : Pr
     few = r.few;
     consumers = r.consumers;
     alive = r.alive;
-    upstreams = λ call stages. upstreams_alike (record { frame = f; call = resting_call log call; dialled = log.dialled; stages = stages }) x x' p [] o.upstreams (r.upstreams call stages);
+    upstreams = λ call stages. upstreams_move (record { frame = f; call = resting_call log call; dialled = log.dialled; stages = stages }) x x' p [] o.upstreams (r.upstreams call stages);
     resting = λ y u at. r.resting y u (sym (ap (λ s. upstream_of s y) o.upstreams) ∙ at);
     opened = r.opened;
     heard = r.heard;
-    wire = wire_on o r.wire;
+    wire = wire_moves (stage_in log.takers) x x' o.clients o.upstreams o.closed r.wire;
     closed = ap (λ v. v.items) o.closed ∙ r.closed;
     numbers = subst (λ c. p.starts ≤ steps c) (sym o.cache) r.numbers;
     opened_by = subst (λ c. p.tables.opened ≤ steps c) (sym o.cache) r.opened_by;

@@ -18,7 +18,7 @@ use Rattle.hc_proxy.specs.declared.proxy.Proxy as loop
 use Rattle.hc_proxy.specs.Carrying.{acts_in}
 use Rattle.hc_proxy.specs.Connections.{exchange_of, taken_at}
 use Rattle.hc_proxy.specs.Handling.{is_client, clients_here}
-use Rattle.hc_proxy.specs.Keeping.{Frame, Turn, HasCache, HasClients, HasUpstreams, IsClientAt, AtWire}
+use Rattle.hc_proxy.specs.Keeping.{Turn, HasClients, HasUpstreams, IsClientAt, AtWire}
 use Rattle.hc_proxy.specs.Rows.{Client, Proxy, with_client}
 
 none_some : {A B : Type 0} (it : B) → None ≡ Some it → A
@@ -45,28 +45,6 @@ pub record ChangesClient (taken : ℕ) (o : Option peer.Client) (r : Option Clie
   pub here : is_client (option_map change r) ≡ true → is_client r ≡ true
 
 module _ {B : Type 0} {g : Ghosts B} where
-  -- other clients stand for the same cache
-  pub cache_with : (f : Frame) (x : loop.Proxy B g) (p : Proxy) (all : ℕ → Option Client) (ks : List ℕ) → HasCache f x p → HasCache f x (record p { client = all; accepted = ks })
-  cache_with f x p all ks h = record {
-    stands = h.stands;
-    same = h.same;
-    limits = h.limits;
-    ready = h.ready;
-    now = h.now;
-    early = h.early;
-    last = h.last;
-    starts = h.starts;
-    last_start = h.last_start;
-    text = h.text;
-    recorded = h.recorded;
-    before = h.before;
-    unopened = h.unopened;
-    headed = h.headed;
-    small = h.small;
-    bounded = h.bounded;
-    targets = h.targets;
-  }
-
   -- A CLIENT
 
   module _ (t : Turn) (x : loop.Proxy B g) (p : Proxy) (k : ℕ) (now : Option peer.Client) (change : Client → Client) (s : Clients) (becomes : clients.Becomes k now x.clients s) (c : ChangesClient (taken_at t.call k) (client_of x.clients k) (p.client k) now change) where

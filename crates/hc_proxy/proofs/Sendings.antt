@@ -17,13 +17,12 @@ use Rattle.hc_peers.specs.Renderings.{rendering, form_behind, is_last, closes}
 use Rattle.hc_peers.specs.declared.client.Client as peer
 use Rattle.hc_peers.specs.declared.clients.Clients.{Clients}
 use Rattle.hc_peers.specs.declared.reply.Reply.{Reply}
-use Rattle.hc_peers.specs.declared.upstreams.Upstreams.{Upstreams}
 use Rattle.hc_proxy.specs.declared.proxy.Proxy as loop
 use Rattle.hc_proxy.specs.Carrying.{answered}
 use Rattle.hc_proxy.specs.Connections.{taken_at}
 use Rattle.hc_proxy.specs.Handling.{is_client}
 use Rattle.hc_proxy.specs.Invariants.{IsHolder}
-use Rattle.hc_proxy.specs.Keeping.{Frame, Turn, HasCache, HasClients, HasUpstreams, AtWire, AreSeen, IsClient, IsClientAt}
+use Rattle.hc_proxy.specs.Keeping.{Turn, HasClients, HasUpstreams, AtWire, AreSeen, IsClient, IsClientAt}
 use Rattle.hc_proxy.specs.Rows.{Client, Proxy, with_client}
 
 some_is : {A : Type 0} (a b : A) → Some a ≡ Some b → a ≡ b
@@ -38,29 +37,6 @@ same_number n = grind (arith, nat_tests)
 filter_same : (f g : ℕ → Bool) → ((n : ℕ) → f n ≡ g n) → (ns : List ℕ) → filter f ns ≡ filter g ns
 filter_same f g same [] = refl
 filter_same f g same (n ∷ ns) = rw (same n, filter_same f g same ns) refl
-
--- THE CACHE, where other fields of the loop change
-
-pub cache_moves : {B : Type 0} {g : Ghosts B} (f : Frame) (x : loop.Proxy B g) (p : Proxy) (cl : Clients) (up : Upstreams) (clients : ℕ → Option Client) → HasCache f x p → HasCache f (record x { clients = cl; upstreams = up }) (record p { client = clients })
-cache_moves f x p cl up clients h = record {
-  stands = h.stands;
-  same = h.same;
-  limits = h.limits;
-  ready = h.ready;
-  now = h.now;
-  early = h.early;
-  last = h.last;
-  starts = h.starts;
-  last_start = h.last_start;
-  text = h.text;
-  recorded = h.recorded;
-  before = h.before;
-  unopened = h.unopened;
-  headed = h.headed;
-  small = h.small;
-  bounded = h.bounded;
-  targets = h.targets;
-}
 
 -- ONE ACT
 

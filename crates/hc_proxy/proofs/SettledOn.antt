@@ -21,9 +21,9 @@ use Rattle.hc_proxy.specs.Invariants.{is_part, is_due_by}
 use Rattle.hc_proxy.specs.Keeping.{Turn, HasUpstreamsBut, IsUpstreamAt, AtWire, KeepsBut, KeepsQuiet}
 use Rattle.hc_proxy.specs.Network.{next_of}
 use Rattle.hc_proxy.specs.Rows.{Upstream, Proxy}
+use Rattle.hc_proxy.proofs.Alike.{cache_moves, clients_move}
 use Rattle.hc_proxy.proofs.DoneFor.{done_all}
 use Rattle.hc_proxy.proofs.HandedOn.{wants_not}
-use Rattle.hc_proxy.proofs.HungUp.{cache_moves, clients_move}
 
 true_false : {A : Type 0} → true ≡ false → A
 true_false h = absurd (let never : true ≡ false = h in cc)

@@ -114,7 +114,6 @@ module _ {B : Type 0} {g : Ghosts B} where
           stands = z.stands;
           same = z.same;
           limits = z.limits;
-          ready = z.ready;
           now = z.now;
           early = z.early;
           last = z.last;

@@ -40,15 +40,14 @@ use Rattle.hc_proxy.specs.Rows.{Client, Proxy, changed, with_client}
 use Rattle.hc_proxy.specs.Starts.{read_to, asks, refused, with_holder, started, is_ready, hears, hears_if, each_heard}
 use Rattle.hc_proxy.specs.Steps.{with_entry}
 use Rattle.hc_proxy.specs.Waiting.{is_poll, is_waiting}
+use Rattle.hc_proxy.proofs.Alike.{cache_moves, cache_with, upstreams_move}
 use Rattle.hc_proxy.proofs.FewHere.{few_live}
 use Rattle.hc_proxy.proofs.Holders.{KeepsWho, held_of, of_held, change_keeps, changed_here, reads_keep, start_keeps}
-use Rattle.hc_proxy.proofs.HungUp.{cache_moves}
 use Rattle.hc_proxy.proofs.KeepsOn.{keeps_on, heard_on}
-use Rattle.hc_proxy.proofs.LeaveGoes.{ups_move}
 use Rattle.hc_proxy.proofs.Marked.{ready_among}
 use Rattle.hc_proxy.proofs.OpenAfter.{Stops}
 use Rattle.hc_proxy.proofs.QuietActs.{is_quiet_entry, quiet_both}
-use Rattle.hc_proxy.proofs.RowChanges.{cache_with, ChangesClient, changed_clients, row_was, wire_same, seen_still, upstreams_with}
+use Rattle.hc_proxy.proofs.RowChanges.{ChangesClient, changed_clients, row_was, wire_same, seen_still, upstreams_with}
 use Rattle.hc_proxy.proofs.Rows.{readies}
 use Rattle.hc_proxy.proofs.SkippedSteps.{among}
 use Rattle.hc_proxy.proofs.StepOn.{law_of, stands_of}
@@ -148,7 +147,7 @@ module _ {B : Type 0} {g : Ghosts B} (t : Turn) (x : loop.Proxy B g) (p : Proxy)
           few = keeps.clients.few;
         };
         consumers = keeps.consumers;
-        upstreams = ups_move t x (record x { clients = s }) p (acts_in p.part) refl keeps.upstreams;
+        upstreams = upstreams_move t x (record x { clients = s }) p (acts_in p.part) refl keeps.upstreams;
         wire = record {
           clients = λ j c is. keeps.wire.clients j c (sym (stays j) ∙ is);
           upstreams = keeps.wire.upstreams;
@@ -256,7 +255,7 @@ module _ {B : Type 0} {g : Ghosts B} (t : Turn) (x : loop.Proxy B g) (p : Proxy)
               acts = keeps.acts;
               clients = clients_now;
               consumers = of_held (with_client k change p) (change_keeps (acts_in p.part) k change p who (held_of p keeps.consumers));
-              upstreams = ups_move t x (record x { clients = s }) (with_client k change p) (acts_in p.part) refl (upstreams_with k t x p (with_client k change p).client (λ j some. row_was t x p k (Some now) change s becomes change_is j some) keeps.upstreams);
+              upstreams = upstreams_move t x (record x { clients = s }) (with_client k change p) (acts_in p.part) refl (upstreams_with k t x p (with_client k change p).client (λ j some. row_was t x p k (Some now) change s becomes change_is j some) keeps.upstreams);
               wire = wire_now;
               numbers = keeps.numbers;
               opened = keeps.opened;
@@ -335,7 +334,6 @@ module _ {B : Type 0} {g : Ghosts B} (t : Turn) (x : loop.Proxy B g) (p : Proxy)
             stands = z.stands;
             same = z.same;
             limits = z.limits;
-            ready = z.ready;
             now = z.now;
             early = z.early;
             last = z.last;

@@ -5,7 +5,7 @@
 -- was given out. The record is that of the run, since the code writes the text of the event behind that of those before.
 use Rattle.std.proofs.Common.{◌≡◌, ◌≤◌, ℕ, ◌+◌, Bool, true, false, List, ◌∷◌, ◌++◌, Option, Some, None, refl, ap, sym, ◌∙◌, subst, arith, append_assoc}
 use Rattle.std.specs.Prelude.{if◌then◌else◌}
-use Rattle.hc_core.specs.Steps.{StandsFor, Steps, faults_in, has_failed, last_moment, limits_in, bytes_received}
+use Rattle.hc_core.specs.Steps.{StandsFor, Steps, faults_in, last_moment, limits_in, bytes_received}
 use Rattle.hc_event.specs.Acts.{act_list}
 use Rattle.hc_event.specs.Filters.{Opening, opening_in, is_denied}
 use Rattle.hc_event.specs.WithinLimits.{IsEventWithinLimits}
@@ -164,7 +164,7 @@ module _ {B : Type 0} {g : Ghosts B} where
     numbered_here : IsNumbered p.starts entry.event
     numbered_here = subst (λ (n : ℕ). IsNumbered n ev) h.starts numbered
 
-    module _ (moment : last_moment x'.cache ≡ x.now) (received : bytes_received x'.cache ≡ bytes_received x.cache + received_in ev) (ready : has_failed x'.cache ≡ false) (text : text_of x'.record ≡ text_of x.record ++ timed_text (last_of x.record) (record { now = x.now; event = ev })) (last : last_of x'.record ≡ x.now) (rest : RestStays x x') where
+    module _ (moment : last_moment x'.cache ≡ x.now) (received : bytes_received x'.cache ≡ bytes_received x.cache + received_in ev) (text : text_of x'.record ≡ text_of x.record ++ timed_text (last_of x.record) (record { now = x.now; event = ev })) (last : last_of x'.record ≡ x.now) (rest : RestStays x x') where
       text_is : record_of (with_entry entry p) ≡ f.written ++ text_of x'.record
       unfolding with_entry
       text_is =
@@ -180,7 +180,6 @@ module _ {B : Type 0} {g : Ghosts B} where
         stands = behind;
         same = ap (λ (t : Tables). after t entry) h.same;
         limits = limits_are;
-        ready = ready;
         now = rest.now ∙ h.now;
         early = h.early;
         last = (let a : last_moment x'.cache ≡ x.now = moment in let b : x.now ≡ p.moment = h.now in omega arith);

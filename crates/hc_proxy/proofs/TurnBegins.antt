@@ -109,7 +109,6 @@ module _ {B : Type 0} {g : Ghosts B} (n : ℕ) (f : Frame) (x : loop.Proxy B g) 
     stands = r.cache.stands;
     same = r.cache.same;
     limits = r.cache.limits;
-    ready = r.cache.ready;
     now = ap (λ m. max m moment) r.cache.now;
     early = let lt : p.moment < 2 ^ 62 = r.cache.early in omega arith;
     last = let le = r.cache.last in omega arith;

@@ -4,7 +4,7 @@
 -- short, each connection has taken a first part of what it is owed behind the whole turn, and what was written is a first part of its
 -- record. Where it isn't, the tables behind it are those that the definitions owe, if the store counted no failure.
 use Rattle.std.proofs.Common.{◌≡◌, ◌≤◌, ◌<◌, ◌^◌, ℕ, ◌+◌, List, [], ◌∷◌, ◌++◌, Bool, true, false, Option, Some, None, refl, ap, sym, ◌∙◌, subst, arith, append_assoc, append-nil}
-use Rattle.std.specs.Prelude.{length, map, reverse, find}
+use Rattle.std.specs.Prelude.{length, map, max, reverse, find, Result, IfOk, OnErr}
 use Rattle.std.specs.List.{list_all}
 use Rattle.std.proofs.lemmas.List.{length-append}
 use Rattle.hc_core.specs.Steps.{steps, faults_in}
@@ -18,6 +18,7 @@ use Rattle.hc_wire.specs.Logs.{Log, Called, Tells, is_numbered, stage_from, with
 use Rattle.hc_wire.specs.declared.event.WireEvent.{WireEvent}
 use Rattle.hc_wire.specs.declared.event.WireEvent.TheVariants as event
 use Rattle.hc_proxy.specs.declared.proxy.Proxy as loop
+use Rattle.hc_proxy.specs.declared.stop.Stop.{Stop}
 use Rattle.hc_proxy.specs.Carrying.{acts_in, carried}
 use Rattle.hc_proxy.specs.Endings.{was_sent}
 use Rattle.hc_proxy.specs.Handling.{begun}
@@ -28,8 +29,9 @@ use Rattle.hc_proxy.specs.Records.{text_of}
 use Rattle.hc_proxy.specs.Rows.{Proxy, unused}
 use Rattle.hc_proxy.specs.Serving.{IsOfLoop, IsCutShort, IsStill, FinishesTurn, CutsTurn, TurnsTo, TurnStops}
 use Rattle.hc_proxy.specs.Turns.{so_far, happened, turned, turned_by, behind_all, record_of, timed_of, text_behind}
-use Rattle.hc_proxy.specs.Underway.{OnWire}
+use Rattle.hc_proxy.specs.Underway.{OnWire, IsPolledOn}
 use Rattle.hc_proxy.specs.Waiting.{waits}
+use Rattle.hc_proxy.proofs.Causes.{if_map}
 use Rattle.hc_proxy.proofs.Fitting.{dialled_all, fits_now}
 use Rattle.hc_proxy.proofs.Folds.{turned_more, fit_more}
 use Rattle.hc_proxy.proofs.Later.{carried_is_same}
@@ -37,6 +39,7 @@ use Rattle.hc_proxy.proofs.LetGo.{AreGone, turns_gone, unused_gone}
 use Rattle.hc_proxy.proofs.Marked.{contained_among}
 use Rattle.hc_proxy.proofs.MoreDials.{turn_same, turns_same, fits_same, all_fit}
 use Rattle.hc_proxy.proofs.Openings.{StandsKnown, unused_known, turns_know}
+use Rattle.hc_proxy.proofs.Outcomes.{err_map}
 use Rattle.hc_proxy.proofs.Parts.{turn_part}
 use Rattle.hc_proxy.proofs.SentStill.{sent_still}
 use Rattle.hc_proxy.proofs.ServedTurn.{WellHeld, happened_served}
@@ -288,3 +291,24 @@ module _ {B : Type 0} {g : Ghosts B} (n : ℕ) (f : Frame) (x : loop.Proxy B g) 
           tables = sym (tables_on f.limits log p call l enough call_fits e.more e.log' e.calls e.dialled ∙ sym (same_tables none));
           sent = e.sent (subst (λ (r : Proxy). list_all (was_sent log'.dialled r) log'.takers ≡ true) (sym (same_tables none)) (sent_turned l));
         }
+
+  -- the turn begins at the greater moment
+  module _ (m : ℕ) (greater : m ≡ max x.now moment) (y : loop.Proxy B g) (happens : (t : Turn) (q : Proxy) → Begun t (record x { now = m; moved = false }) q what slice → Goes (KeepsPolled t) (faults_in x.cache) y (happened t.frame.limits t.dialled t.call q)) where
+    abbrev went : Goes (KeepsPolled turn) (faults_in x.cache) y owed_by
+    went = happens turn (begun call p) (subst (λ (n : ℕ). Begun turn (record x { now = n; moved = false }) (begun call p) what slice) (sym greater) b)
+
+    pub polled_on : IsPolledOn told' stages' y
+    polled_on = (turn, went.q, log', went.keeps, on_wire)
+
+    module _ (result : Result Bool Stop) (x1 : loop.Proxy B g) (told1 : Option Log) (stages1 : ℕ → Stage) (out out' : Option (List ℕ)) (same : x1.cache ≡ y.cache) where
+      pub turned_ok : (events : ℕ) → events ≡ n + 1 → steps y.cache ≤ steps x.cache + 2049
+          → ((t : Turn) (q : Proxy) (l : Log) → KeepsPolled t y q → OnWire t l told' stages' → IfOk result (FinishesTurn t q l y x1 told1 stages1 out out'))
+          → IfOk result (TurnsTo events f p log x x1 told1 stages1 out out')
+      turned_ok events one few finishes =
+          if_map result _ _
+          (λ again e. subst (λ (k : ℕ). TurnsTo k f p log x x1 told1 stages1 out out' again) (sym one) (turns_on y went x1 told1 stages1 out out' again same few e))
+          (finishes turn went.q log' went.keeps on_wire)
+
+      pub turned_err : ((t : Turn) (q : Proxy) (l : Log) → KeepsPolled t y q → OnWire t l told' stages' → OnErr result (CutsTurn q l y told1 out out'))
+          → OnErr result (TurnStops f p log x x1 told1 out out')
+      turned_err cuts = err_map result _ _ (λ cut. stops_late y went x1 told1 out out' same cut) (cuts turn went.q log' went.keeps on_wire)

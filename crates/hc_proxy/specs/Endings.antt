@@ -37,6 +37,11 @@ sent_by p taker (Some x) = upstream_was_sent taker.sent (p.upstream x)
 abbrev pub was_sent : List ℕ → Proxy → Taker → Bool
 was_sent dialled p taker = sent_by p taker (exchange_of dialled taker.k)
 
+-- each had taken such a part by these tables, and so it has now
+abbrev pub SentOn : Proxy → Log → Log → Type 0
+SentOn p log log' =
+    list_all (was_sent log.dialled p) log.takers ≡ true → list_all (was_sent log'.dialled p) log'.takers ≡ true
+
 -- A LOG OF THE LOOP
 
 -- Each call fits those before it, and each connection has taken a first part of what it is owed. At most as

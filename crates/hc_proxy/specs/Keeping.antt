@@ -7,7 +7,7 @@ use Rattle.std.specs.List.{list_all}
 use Rattle.std.specs.List.Sorted.{IsStrictlySortedBy}
 use Rattle.std.specs.Ordering.{nat_cmp}
 use Rattle.hc_core.specs.declared.cache.Cache.{Cache}
-use Rattle.hc_core.specs.Steps.{StandsFor, faults_in, has_failed, last_moment, limits_in, steps, bytes_received}
+use Rattle.hc_core.specs.Steps.{StandsFor, faults_in, last_moment, limits_in, steps, bytes_received}
 use Rattle.hc_event.specs.Acts.{act_list}
 use Rattle.hc_event.specs.Filters.{asks_in, closes_in}
 use Rattle.hc_event.specs.declared.act.Act.{Act}
@@ -76,7 +76,6 @@ module _ {B : Type 0} {g : Ghosts B} where
     pub stands : StandsFor x.cache no_contents p.history
     pub same : p.tables ≡ tables no_contents p.history
     pub limits : limits_in x.cache ≡ f.limits
-    pub ready : has_failed x.cache ≡ false
     pub now : x.now ≡ p.moment
     pub early : p.moment < 2 ^ 62
     pub last : last_moment x.cache ≤ p.moment
@@ -103,7 +102,6 @@ module _ {B : Type 0} {g : Ghosts B} where
 pub record IsUnused {B : Type 0} {g : Ghosts B} (f : Frame) (cache : Cache B g) : Type 0 where
   pub stands : StandsFor cache no_contents []
   pub limits : limits_in cache ≡ f.limits
-  pub ready : has_failed cache ≡ false
   pub received : bytes_received cache ≡ 0
   pub written : f.written ≡ []
   pub bounded : f.bytes ≤ 2 ^ 60

@@ -19,7 +19,7 @@ use Rattle.hc_proxy.specs.declared.proxy.Proxy as loop
 use Rattle.hc_proxy.specs.Connections.{exchange_of}
 use Rattle.hc_proxy.specs.Handling.{clients_here}
 use Rattle.hc_proxy.specs.Invariants.{HasConsumers, IsHolder, IsHeardOut}
-use Rattle.hc_proxy.specs.Logging.{Follows, is_short}
+use Rattle.hc_proxy.specs.Logging.{is_short}
 use Rattle.hc_proxy.specs.Keeping.{Frame, Turn, HasCache, HasMoved, HasUpstreams, HasClients, AtWire, AreSeen, IsClient}
 use Rattle.hc_proxy.specs.Rows.{Client, Proxy}
 
@@ -98,8 +98,3 @@ module _ {B : Type 0} {g : Ghosts B} where
   pub record IsWithin (n : ℕ) (f : Frame) (x : loop.Proxy B g) : Type 0 where
     pub bytes : f.bytes ≤ 16384 * n
     pub steps_are : steps x.cache ≤ 2049 * n
-
-  -- for some tables and some log
-  abbrev pub IsResting : ℕ → Option Log → (ℕ → Stage) → loop.Proxy B g → Type 0
-  IsResting n told stages x =
-      (f : Frame) × (p : Proxy) × (log : Log) × Rests f x p log × Follows told stages log × IsWithin n f x

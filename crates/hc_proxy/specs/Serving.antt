@@ -13,7 +13,7 @@ use Rattle.hc_wire.specs.Wires.{HasRisen}
 use Rattle.hc_proxy.specs.declared.proxy.Proxy as loop
 use Rattle.hc_proxy.specs.declared.stop.Stop.{Stop}
 use Rattle.hc_proxy.specs.declared.stop.Stop.TheVariants as stop
-use Rattle.hc_proxy.specs.Endings.{IsFresh, IsLog, Serves, was_sent}
+use Rattle.hc_proxy.specs.Endings.{IsFresh, IsLog, Serves, SentOn, was_sent}
 use Rattle.hc_proxy.specs.Carrying.{carried}
 use Rattle.hc_proxy.specs.Keeping.{Frame, Turn}
 use Rattle.hc_proxy.specs.Logging.{Follows}
@@ -45,11 +45,6 @@ all_closed log = record log { takers = map shut log.takers }
 
 abbrev pub IsClosed : Log → Option Log → Type 0
 IsClosed log told = (told ≡ None) ⊎ (told ≡ Some (all_closed log))
-
--- each connection had taken a first part of what it is owed by these tables, and so it has now
-abbrev pub SentOn : Proxy → Log → Log → Type 0
-SentOn p log log' =
-    list_all (was_sent log.dialled p) log.takers ≡ true → list_all (was_sent log'.dialled p) log'.takers ≡ true
 
 -- WHY IT STOPS
 

@@ -1,6 +1,5 @@
 -- What comes of the steps of a turn that call the wire, and of a whole turn.
-use Rattle.std.specs.Prelude.{◌≡◌, ◌⊎◌, ◌≤◌, ℕ, List, ◌++◌, length, true, Option, Some, None, Result, OnOk, IsErrOf}
-use Rattle.std.specs.List.{list_all}
+use Rattle.std.specs.Prelude.{◌≡◌, ◌⊎◌, ◌≤◌, ℕ, List, ◌++◌, length, Option, Some, None, Result, OnOk, IsErrOf}
 use Rattle.hc_store.specs.declared.backend.Backend.{Ghosts}
 use Rattle.hc_wire.specs.Events.{Stage}
 use Rattle.hc_wire.specs.Logs.{Log}
@@ -9,7 +8,7 @@ use Rattle.hc_proxy.specs.declared.proxy.Proxy as loop
 use Rattle.hc_proxy.specs.declared.stop.Stop.{Stop}
 use Rattle.hc_proxy.specs.declared.stop.Stop.TheVariants as stop
 use Rattle.hc_proxy.specs.Carrying.{carried}
-use Rattle.hc_proxy.specs.Endings.{was_sent}
+use Rattle.hc_proxy.specs.Endings.{SentOn}
 use Rattle.hc_proxy.specs.Keeping.{Turn}
 use Rattle.hc_proxy.specs.Logging.{Follows, Dials}
 use Rattle.hc_proxy.specs.Resting.{KeepsCarried, Rests}
@@ -54,7 +53,7 @@ module _ {B : Type 0} {g : Ghosts B} where
     pub calls : log'.calls ≡ log.calls
     pub bound : log'.bound ≡ log.bound
     pub dialled : log'.dialled ≡ log.dialled
-    pub sent : list_all (was_sent log.dialled p) log.takers ≡ true → list_all (was_sent log'.dialled p) log'.takers ≡ true
+    pub sent : SentOn p log log'
     pub rests : Rests t.frame x p log'
 
 -- Some of it was. Who had a first part of what it is owed has one still.
@@ -64,4 +63,4 @@ pub record SentSome (p : Proxy) (log : Log) (told : Option Log) : Type 0 where
   pub calls : log'.calls ≡ log.calls
   pub bound : log'.bound ≡ log.bound
   pub dialled : log'.dialled ≡ log.dialled
-  pub sent : list_all (was_sent log.dialled p) log.takers ≡ true → list_all (was_sent log'.dialled p) log'.takers ≡ true
+  pub sent : SentOn p log log'

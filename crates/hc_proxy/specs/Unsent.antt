@@ -1,6 +1,6 @@
 -- While what is unsent is offered: what the tables of connections have to do with the log of the wire.
 use Rattle.std.specs.Prelude.{◌≡◌, ◌⊎◌, ◌≤◌, ℕ, List, [], length, Bool, true, false, Option, Some, None, IsSome, nat_eq}
-use Rattle.std.specs.List.{list_all, list_any}
+use Rattle.std.specs.List.{list_any}
 use Rattle.hc_model.specs.Exchanges.{is_open, is_wanted}
 use Rattle.hc_peers.specs.Clients.{client_of}
 use Rattle.hc_peers.specs.Peers.{is_idle, is_over, is_same}
@@ -14,7 +14,7 @@ use Rattle.hc_wire.specs.Events.{Stage, Unseen, Open, IsOpen}
 use Rattle.hc_wire.specs.Logs.{Log, sent_in, stage_in}
 use Rattle.hc_proxy.specs.declared.proxy.Proxy as loop
 use Rattle.hc_proxy.specs.Connections.{exchange_of, connection_of}
-use Rattle.hc_proxy.specs.Endings.{was_sent}
+use Rattle.hc_proxy.specs.Endings.{SentOn}
 use Rattle.hc_proxy.specs.Invariants.{is_due, NamesOne}
 use Rattle.hc_proxy.specs.Keeping.{IsClient, IsUpstreamAt}
 use Rattle.hc_proxy.specs.Logging.{Follows, is_short}
@@ -82,7 +82,7 @@ pub record Sends (p : Proxy) (log log' : Log) : Type 0 where
   pub calls : log'.calls ≡ log.calls
   pub bound : log'.bound ≡ log.bound
   pub dialled : log'.dialled ≡ log.dialled
-  pub sent : list_all (was_sent log.dialled p) log.takers ≡ true → list_all (was_sent log'.dialled p) log'.takers ≡ true
+  pub sent : SentOn p log log'
   pub unseen : (k : ℕ) → stage_in log'.takers k ≡ Unseen → stage_in log.takers k ≡ Unseen
 
 -- all clients were offered what they are owed, but for those of a list that are left

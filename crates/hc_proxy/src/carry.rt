@@ -68,7 +68,10 @@ impl<B: Backend> Proxy<B> {
                 self.upstreams.ask(x)?;
                 Ok(())
             }
-            Act::Close { x } => self.hang_up(x),
+            Act::Close { x } => {
+                self.hang_up(x)?;
+                Ok(())
+            }
             told => {
                 self.clients.answer(told)?;
                 Ok(())

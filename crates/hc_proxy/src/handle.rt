@@ -1,6 +1,5 @@
 //! The step *handle*: what an event of the wire does.
-ghost use Rattle.std.specs.Prelude.{◌≡◌, ◌+◌, ◌<◌, ◌≤◌, ◌^◌, ℕ, List, Err, false, length, OnErr, OnOk};
-ghost use Rattle.hc_proxy.specs.declared.stop.Stop.TheVariants as stop;
+ghost use Rattle.std.specs.Prelude.{◌≡◌, ◌+◌, ◌<◌, ◌≤◌, ◌^◌, ℕ, List, false, length, OnOk};
 ghost use Rattle.hc_core.specs.Steps.{faults_in, steps};
 ghost use Rattle.hc_peers.specs.Agreement.{is_at};
 ghost use Rattle.hc_peers.specs.Upstreams.{upstream_of};
@@ -12,9 +11,9 @@ ghost use Rattle.hc_proxy.specs.Keeping.{Turn, Begun, IsBegun, AtEvent, IsAtEven
 ghost use Rattle.hc_proxy.specs.Rows as rows;
 
 use crate::proxy::Proxy;
-use crate::stop::Stop;
 use hc_event::Event;
 use hc_store::Backend;
+use hc_text::NoMemory;
 use hc_wire::WireEvent;
 
 /// So many clients are connected at once, at most.
@@ -22,7 +21,7 @@ const MOST_CLIENTS: usize = 512;
 
 impl<B: Backend> Proxy<B> {
     /// Handles the event. The bytes of a `Got` stand first in the slice.
-    pub(crate) fn handle(&mut self, event: WireEvent, slice: &[u8]) -> Result<(), Stop>
+    pub(crate) fn handle(&mut self, event: WireEvent, slice: &[u8]) -> Result<(), NoMemory>
         requires begun { ∥ IsBegun self.old event slice.now ∥₁ }
         requires fits { FitsIn event (length slice.now) }
         requires few { steps self.old.cache < 2 ^ 60 }
@@ -42,7 +41,7 @@ impl<B: Backend> Proxy<B> {
     }
 
     /// A client more, where there are fewer than 512. A further one is closed at once.
-    fn client_comes(&mut self, k: u64) -> Result<(), Stop>
+    fn client_comes(&mut self, k: u64) -> Result<(), NoMemory>
         requires begun { ∥ ((slice : List ℕ) × IsBegun self.old (wire.Accepted k) slice) ∥₁ }
         ensures goes { (t : Turn) (p : rows.Proxy) (slice : List ℕ)
             → Begun t self.old p (wire.Accepted k) slice
@@ -59,7 +58,7 @@ impl<B: Backend> Proxy<B> {
     }
 
     /// Bytes came of a connection.
-    fn got(&mut self, k: u64, bytes: &[u8]) -> Result<(), Stop>
+    fn got(&mut self, k: u64, bytes: &[u8]) -> Result<(), NoMemory>
         ensures goes { (t : Turn) (p : rows.Proxy) → AtEvent t self.old p k
             → t.call.bytes ≡ bytes.now
             → OnOk result (Goes (KeepsQuiet t) (faults_in self.old.cache) self.new
@@ -74,7 +73,7 @@ impl<B: Backend> Proxy<B> {
     }
 
     /// No more comes of a connection.
-    fn ended(&mut self, k: u64) -> Result<(), Stop>
+    fn ended(&mut self, k: u64) -> Result<(), NoMemory>
         requires at { ∥ IsAtEvent self.old k ∥₁ }
         requires few { steps self.old.cache < 2 ^ 60 }
         ensures goes { (t : Turn) (p : rows.Proxy) → AtEvent t self.old p k
@@ -92,7 +91,7 @@ impl<B: Backend> Proxy<B> {
     }
 
     /// A connection is broken.
-    fn broke(&mut self, k: u64) -> Result<(), Stop>
+    fn broke(&mut self, k: u64) -> Result<(), NoMemory>
         requires at { ∥ IsAtEvent self.old k ∥₁ }
         requires few { steps self.old.cache < 2 ^ 60 }
         ensures goes { (t : Turn) (p : rows.Proxy) → AtEvent t self.old p k
@@ -110,7 +109,7 @@ impl<B: Backend> Proxy<B> {
     }
 
     /// The client's consumer is cancelled, and its connection closed.
-    fn client_leaves(&mut self, k: u64) -> Result<(), Stop>
+    fn client_leaves(&mut self, k: u64) -> Result<(), NoMemory>
         requires at { ∥ IsAtEvent self.old k ∥₁ }
         requires few { steps self.old.cache < 2 ^ 60 }
         ensures goes { (t : Turn) (p : rows.Proxy) → AtEvent t self.old p k
@@ -130,10 +129,9 @@ impl<B: Backend> Proxy<B> {
     }
 
     /// The exchange is over: its connection is closed.
-    pub(crate) fn hang_up(&mut self, x: u64) -> Result<(), Stop>
+    pub(crate) fn hang_up(&mut self, x: u64) -> Result<(), NoMemory>
         ensures ok { OnOk result (HangsUp x self.old self.new) }
         ensures cache { self.new.cache ≡ self.old.cache }
-        ensures memory { OnErr result (result ≡ Err stop.NoMemory) }
     {
         if let Some(k) = self.upstreams.hang_up(x) {
             self.closed.push(k)?;

@@ -17,15 +17,15 @@ ghost use Rattle.hc_proxy.specs.Waiting.{hears_nothing};
 ghost use Rattle.hc_wire.specs.Logs.{Log};
 
 use crate::proxy::Proxy;
-use crate::stop::Stop;
 use hc_event::Event;
 use hc_head::MsgError;
 use hc_msg::{Look, WirePart};
 use hc_store::Backend;
+use hc_text::NoMemory;
 
 impl<B: Backend> Proxy<B> {
     /// For each open exchange in ascending order: a part, where it is wanted, and its end.
-    pub(crate) fn network(&mut self) -> Result<(), Stop>
+    pub(crate) fn network(&mut self) -> Result<(), NoMemory>
         requires stands { ∥ IsQuiet self.old ∥₁ }
         requires few { steps self.old.cache + 1024 ≤ 2 ^ 60 }
         ensures goes { (t : Turn) (p : rows.Proxy) → KeepsQuiet t self.old p
@@ -43,7 +43,7 @@ impl<B: Backend> Proxy<B> {
     }
 
     /// What is to be handed to the cache of an exchange, which is hung up if it is over by that.
-    fn hear(&mut self, x: u64) -> Result<(), Stop>
+    fn hear(&mut self, x: u64) -> Result<(), NoMemory>
         requires may { ∥ MayStep 2 x self.old ∥₁ }
         requires listed { is_news self.old.upstreams x ≡ true }
         ensures goes { (t : Turn) (p : rows.Proxy) → KeepsQuiet t self.old p
@@ -58,7 +58,7 @@ impl<B: Backend> Proxy<B> {
     }
 
     /// What is over is hung up. The others are looked at when all is sent.
-    fn settle(&mut self, x: u64) -> Result<(), Stop>
+    fn settle(&mut self, x: u64) -> Result<(), NoMemory>
         ensures goes { (t : Turn) (p : rows.Proxy) → KeepsBut x t self.old p → IsHeardAt x p
             → is_news self.old.upstreams x ≡ true → OnOk result (KeepsQuiet t self.new p) }
         ensures cache { OnOk result (self.new.cache ≡ self.old.cache) }
@@ -86,7 +86,7 @@ impl<B: Backend> Proxy<B> {
     }
 
     /// Hands a part to the cache, where that wants one.
-    fn hand(&mut self, x: u64) -> Result<(), Stop>
+    fn hand(&mut self, x: u64) -> Result<(), NoMemory>
         requires may { ∥ MayStep 2 x self.old ∥₁ }
         ensures goes { (t : Turn) (p : rows.Proxy) → KeepsBut x t self.old p
             → OnOk result (Goes (HasHanded x t p (steps self.old.cache)) (faults_in self.old.cache)
@@ -105,7 +105,7 @@ impl<B: Backend> Proxy<B> {
     }
 
     /// What came is at an error, or memory was refused.
-    fn fail_by(&mut self, x: u64, e: MsgError) -> Result<(), Stop>
+    fn fail_by(&mut self, x: u64, e: MsgError) -> Result<(), NoMemory>
         requires stands { ∥ StandsForSome self.old ∥₁ }
         requires small { IsSmall x }
         requires few { steps self.old.cache < 2 ^ 60 }
@@ -117,13 +117,13 @@ impl<B: Backend> Proxy<B> {
         ensures steps { OnOk result (steps self.new.cache ≡ steps self.old.cache + 1) }
     {
         match e {
-            MsgError::NoMemory => Err(Stop::NoMemory),
+            MsgError::NoMemory => Err(NoMemory),
             _ => self.fail(x),
         }
     }
 
     /// The part is one event. A piece that is denied is followed by a fault.
-    fn step_part(&mut self, x: u64, part: WirePart) -> Result<(), Stop>
+    fn step_part(&mut self, x: u64, part: WirePart) -> Result<(), NoMemory>
         requires may { ∥ MayTake part self.old ∥₁ }
         requires small { IsSmall x }
         requires fit { IsFit part }
@@ -154,7 +154,7 @@ impl<B: Backend> Proxy<B> {
         }
     }
 
-    fn fail(&mut self, x: u64) -> Result<(), Stop>
+    fn fail(&mut self, x: u64) -> Result<(), NoMemory>
         requires stands { ∥ StandsForSome self.old ∥₁ }
         requires small { IsSmall x }
         requires few { steps self.old.cache < 2 ^ 60 }
@@ -170,7 +170,7 @@ impl<B: Backend> Proxy<B> {
 
     /// The connection has ended and no further part stands in what came: the answer is whole, or it
     /// was cut off (RFC 9112 section 8).
-    fn finish(&mut self, x: u64) -> Result<(), Stop>
+    fn finish(&mut self, x: u64) -> Result<(), NoMemory>
         requires may { ∥ MayStep 1 x self.old ∥₁ }
         ensures goes { (t : Turn) (p : rows.Proxy) → KeepsBut x t self.old p
             → OnOk result (Goes (HasFinished x t p (steps self.old.cache))
@@ -192,20 +192,24 @@ impl<B: Backend> Proxy<B> {
     }
 
     /// What came is read to its end.
-    fn close(&mut self, x: u64) -> Result<(), Stop>
+    fn close(&mut self, x: u64) -> Result<(), NoMemory>
         requires at { ∥ IsOpenHere x self.old ∥₁ }
+        requires waits { look_at (upstream_of self.old.upstreams x) ≡ look.Waits }
         requires few { steps self.old.cache < 2 ^ 60 }
         ensures goes { (t : Turn) (p : rows.Proxy) → KeepsBut x t self.old p
             → is_open (p.tables.exchange x) ≡ true
             → has_ended_at (upstream_of self.old.upstreams x) ≡ true
-            → look_at (upstream_of self.old.upstreams x) ≡ look.Waits
             → OnOk result (Goes (HasFinished x t p (steps self.old.cache))
             (faults_in self.old.cache) self.new (closed t.frame.limits x p)) }
         ensures news { OnOk result (NewsStays self.old self.new) }
         ensures round { OnOk result (self.new.round ≡ self.old.round) }
     {
-        if self.upstreams.take(x).is_err() {
-            return Err(Stop::NoMemory);
+        match self.upstreams.take(x) {
+            Ok(_) => {}
+            Err(e) => match e {
+                MsgError::NoMemory => return Err(NoMemory),
+                _ => unreachable!(),
+            },
         }
         if !self.upstreams.finish(x) {
             return self.fail(x);
@@ -215,7 +219,7 @@ impl<B: Backend> Proxy<B> {
     }
 
     /// Whether the step would hand something to the cache now.
-    pub(crate) fn hears_something(&mut self) -> Result<bool, Stop>
+    pub(crate) fn hears_something(&mut self) -> Result<bool, NoMemory>
         ensures answers { IfOk result (λ b. (f : Frame) (p : rows.Proxy) (log : Log)
             → Rests f self.old p log → b ≡ not (hears_nothing f.limits p)) }
         ensures rest { OnlyRound self.old self.new }
@@ -232,7 +236,7 @@ impl<B: Backend> Proxy<B> {
     }
 
     /// Whether the cache wants a part of the exchange, and a part or an error stands next.
-    fn hears(&self, x: u64) -> Result<bool, Stop>
+    fn hears(&self, x: u64) -> Result<bool, NoMemory>
         ensures { IfOk result (λ b. (f : Frame) (p : rows.Proxy) → HasCache f self.entry.now p
             → b ≡ (is_wanted (p.tables.exchange x)
             && has_news_at (upstream_of self.entry.now.upstreams x)

@@ -10,16 +10,16 @@ ghost use Rattle.hc_proxy.specs.Rows as rows;
 ghost use Rattle.hc_proxy.specs.Waiting.{pends, pends_alone};
 
 use crate::proxy::Proxy;
-use crate::stop::Stop;
 use hc_event::{Act, Event};
 use hc_store::Backend;
+use hc_text::NoMemory;
 
 /// A poll wants at most so many bytes.
 const WANT: u32 = 16_384;
 
 impl<B: Backend> Proxy<B> {
     /// One poll of each live consumer whose client was sent all, in ascending order.
-    pub(crate) fn polls(&mut self) -> Result<(), Stop>
+    pub(crate) fn polls(&mut self) -> Result<(), NoMemory>
         requires stands { ∥ IsHeard self.old ∥₁ }
         requires few { steps self.old.cache + 512 ≤ 2 ^ 60 }
         ensures goes { (t : Turn) (p : rows.Proxy) → KeepsHeard t self.old p
@@ -28,6 +28,7 @@ impl<B: Backend> Proxy<B> {
         ensures steps { OnOk result (steps self.new.cache ≤ steps self.old.cache + 512) }
     {
         self.round.clear();
+        // The proof needs what `len` ensures: no more are listed than are connected.
         let _count = self.clients.len();
         self.clients.list_taking(&mut self.round)?;
         for i in 0..self.round.len() {
@@ -38,7 +39,7 @@ impl<B: Backend> Proxy<B> {
     }
 
     /// Polls one consumer.
-    fn poll(&mut self, c: u64) -> Result<(), Stop>
+    fn poll(&mut self, c: u64) -> Result<(), NoMemory>
         requires stands { ∥ StandsForSome self.old ∥₁ }
         requires numbered { IsSmall c }
         requires few { steps self.old.cache < 2 ^ 60 }

@@ -15,12 +15,12 @@ ghost use Rattle.hc_proxy.specs.Rows.{unused};
 ghost use Rattle.hc_proxy.specs.Rows as rows;
 
 use crate::record::Record;
-use crate::stop::Stop;
 use hc_core::Cache;
 use hc_event::{Act, Acts, Event};
 use hc_peers::{Clients, Upstreams};
 use hc_sched::Timed;
 use hc_store::Backend;
+use hc_text::NoMemory;
 use std::alloc::Global;
 
 /// A cache that serves who is connected.
@@ -67,7 +67,7 @@ impl<B: Backend> Proxy<B> {
     }
 
     /// The cache answers an event, which is recorded. Where its acts begin among those of the turn.
-    pub(crate) fn step(&mut self, event: Event) -> Result<usize, Stop>
+    pub(crate) fn step(&mut self, event: Event) -> Result<usize, NoMemory>
         requires stands { ∥ StandsForSome self.old ∥₁ }
         requires spelled { IsEvent event }
         requires numbered { IsNumbered self.old.starts event }
@@ -92,7 +92,7 @@ impl<B: Backend> Proxy<B> {
     }
 
     /// The same, of an event that is no poll.
-    pub(crate) fn happen(&mut self, event: Event) -> Result<usize, Stop>
+    pub(crate) fn happen(&mut self, event: Event) -> Result<usize, NoMemory>
         requires stands { ∥ StandsForSome self.old ∥₁ }
         requires spelled { IsEvent event }
         requires numbered { IsNumbered self.old.starts event }

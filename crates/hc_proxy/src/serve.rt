@@ -1,6 +1,6 @@
 //! The serving loop.
 ghost use Rattle.std.specs.Prelude.{◌≡◌, ◌≢◌, ◌+◌, ◌≤◌, ◌^◌, ℕ, false, [], length, IfOk, IfSome, OnOk, OnErr};
-ghost use Rattle.hc_core.specs.Steps.{StandsFor, bytes_received, faults_in, has_failed, limits_in, steps};
+ghost use Rattle.hc_core.specs.Steps.{StandsFor, bytes_received, faults_in, limits_in, steps};
 ghost use Rattle.hc_io.specs.Faults as sink;
 ghost use Rattle.hc_model.specs.Entries.{no_contents};
 ghost use Rattle.hc_sched.specs.declared.schedule.Ended.TheVariants as ended;
@@ -34,6 +34,13 @@ const SLICE: usize = 16_384;
 
 /// Serves clients from a cache, and the cache from an origin, for so many turns. The events that
 /// the cache steps are written to `log`, as a schedule. The wire is bound.
+///
+/// - `Done`: all turns were made, their record is written, and every connection is closed.
+/// - `WireFailed`: the wire failed, and counted that.
+/// - `SinkFailed`: the record couldn't be written, and `log` counted that.
+/// - `NoMemory`: memory was refused.
+///
+/// By the last three the last turn may be cut short. A first part of the record is written then.
 pub fn serve_on<B: Backend + Drop, W: Wire, K: Sink>(
     alloc: Global,
     cache: Cache<B>,
@@ -43,7 +50,6 @@ pub fn serve_on<B: Backend + Drop, W: Wire, K: Sink>(
 ) -> Ended
     requires new { StandsFor cache no_contents [] }
     requires unused { steps cache + bytes_received cache ≡ 0 }
-    requires ready { has_failed cache ≡ false }
     requires fresh { IfSome (W.log wire.old) IsFresh }
     requires unseen { (k : ℕ) → W.stages wire.old k ≡ Unseen }
 
@@ -115,11 +121,8 @@ impl<B: Backend> Proxy<B> {
         let (moment, event) = wire.next(wait, slice)?;
         self.now = self.now.max(moment);
         self.moved = false;
-        match self.happens(event, slice) {
-            Ok(()) => self.finish_turn(wire, log),
-            // No wire and no sink was called, so memory is wanting.
-            Err(_) => Err(Stop::NoMemory),
-        }
+        self.happens(event, slice)?;
+        self.finish_turn(wire, log)
     }
 
     /// What happened is written, and then carried out. Whether the next turn waits.
@@ -141,10 +144,7 @@ impl<B: Backend> Proxy<B> {
         self.record.write(log)?;
         self.carry_out(wire)?;
         self.send(wire)?;
-        match self.waits() {
-            Ok(wait) => Ok(wait),
-            Err(NoMemory) => Err(Stop::NoMemory),
-        }
+        Ok(self.waits()?)
     }
 
     /// Whether the next turn waits.
@@ -158,15 +158,11 @@ impl<B: Backend> Proxy<B> {
         if self.moved {
             return Ok(false);
         }
-        match self.hears_something() {
-            Ok(hears) => Ok(!hears),
-            // No wire and no sink was called, so memory is wanting.
-            Err(_) => Err(NoMemory),
-        }
+        Ok(!self.hears_something()?)
     }
 
     /// All that happens in a turn before it is carried out.
-    fn happens(&mut self, event: WireEvent, slice: &[u8]) -> Result<(), Stop>
+    fn happens(&mut self, event: WireEvent, slice: &[u8]) -> Result<(), NoMemory>
         requires begun { ∥ IsBegun self.old event slice.now ∥₁ }
         requires fits { FitsIn event (length slice.now) }
         requires few { steps self.old.cache + 2049 ≤ 2 ^ 60 }

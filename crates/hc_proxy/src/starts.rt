@@ -7,15 +7,15 @@ ghost use Rattle.hc_proxy.specs.Rows as rows;
 ghost use Rattle.hc_proxy.specs.Starts.{started_all, each_heard};
 
 use crate::proxy::Proxy;
-use crate::stop::Stop;
 use hc_event::Event;
 use hc_peers::Heard;
 use hc_store::Backend;
+use hc_text::NoMemory;
 
 impl<B: Backend> Proxy<B> {
     /// For each client that waits for nothing and of which bytes came, in ascending order: its
     /// request is started or refused.
-    pub(crate) fn starts(&mut self) -> Result<(), Stop>
+    pub(crate) fn starts(&mut self) -> Result<(), NoMemory>
         requires stands { ∥ IsHeard self.old ∥₁ }
         requires few { steps self.old.cache + 512 ≤ 2 ^ 60 }
         ensures goes { (t : Turn) (p : rows.Proxy) → KeepsHeard t self.old p
@@ -23,13 +23,14 @@ impl<B: Backend> Proxy<B> {
             (started_all t.frame.limits t.call p)) }
         ensures steps { OnOk result (steps self.new.cache ≤ steps self.old.cache + 512) }
     {
+        // The proof needs what `len` ensures: no more are ready than are connected.
         let _count = self.clients.len();
         while self.start_next()? {}
         Ok(())
     }
 
     /// Whether there was one more. Its consumer has the next number.
-    fn start_next(&mut self) -> Result<bool, Stop>
+    fn start_next(&mut self) -> Result<bool, NoMemory>
         requires stands { ∥ IsHeard self.old ∥₁ }
         requires few { steps self.old.cache + length (ready_of self.old.clients) ≤ 2 ^ 60 }
         ensures next { IfOk result

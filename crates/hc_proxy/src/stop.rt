@@ -6,7 +6,6 @@ use hc_io::SinkError;
 use hc_sched::Ended;
 use hc_text::NoMemory;
 use hc_wire::WireError;
-use std::alloc::{AllocError, AllocFailed};
 
 /// Why a turn isn't finished.
 #[derive(Clone, Copy, Debug, PartialEq, Eq)]
@@ -38,26 +37,6 @@ impl From<NoMemory> for Stop {
     ghost from_gives = { λ _ e. e ≡ stop.NoMemory };
 
     fn from(_: NoMemory) -> Self {
-        Stop::NoMemory
-    }
-}
-
-impl From<AllocError> for Stop {
-    ghost use Rattle.hc_proxy.specs.declared.stop.Stop.TheVariants as stop;
-
-    ghost from_gives = { λ _ e. e ≡ stop.NoMemory };
-
-    fn from(_: AllocError) -> Self {
-        Stop::NoMemory
-    }
-}
-
-impl<T: Drop> From<AllocFailed<T>> for Stop {
-    ghost use Rattle.hc_proxy.specs.declared.stop.Stop.TheVariants as stop;
-
-    ghost from_gives = { λ _ e. e ≡ stop.NoMemory };
-
-    fn from(_: AllocFailed<T>) -> Self {
         Stop::NoMemory
     }
 }

@@ -17,7 +17,7 @@ serve-requires g c = record {
         frame_of (limits_in cache),
         log_of (g.W.Wire.log c.args.wire.now),
         loop_begins (g.W.Wire.events c.args.wire.now) (limits_in cache) c.new-proxy.result (g.W.Wire.log c.args.wire.now) (g.W.Wire.stages c.args.wire.now) c.requires.fresh c.requires.unseen
-            (λ log fresh. c.new-proxy.ensures.rests (frame_of (limits_in cache)) log (record { stands = c.requires.new; limits = refl; ready = c.requires.ready; received = omega arith; written = refl; bounded = omega arith }) fresh)
+            (λ log fresh. c.new-proxy.ensures.rests (frame_of (limits_in cache)) log (record { stands = c.requires.new; limits = refl; received = omega arith; written = refl; bounded = omega arith }) fresh)
             (ap steps c.new-proxy.ensures.cache ∙ omega arith) c.new-proxy.ensures.written,
       ) ∣₁;
 }
@@ -30,7 +30,7 @@ returns-in-Ok-clause-serves g c = λ none.
     told_ends (limits_in cache) c.args.turns (log_of told) told (g.W.Wire.log c.serve.new.wire) (g.K.Sink.taken c.args.log.now) (g.K.Sink.taken c.serve.new.log) ended.Done (told_at_first told)
     (c.in-Ok.ensures.serves none (frame_of (limits_in cache)) (log_of told)
     (loop_begins (g.W.Wire.events c.args.wire.now) (limits_in cache) c.new-proxy.result told (g.W.Wire.stages c.args.wire.now) c.requires.fresh c.requires.unseen
-    (λ log fresh. c.new-proxy.ensures.rests (frame_of (limits_in cache)) log (record { stands = c.requires.new; limits = refl; ready = c.requires.ready; received = omega arith; written = refl; bounded = omega arith }) fresh)
+    (λ log fresh. c.new-proxy.ensures.rests (frame_of (limits_in cache)) log (record { stands = c.requires.new; limits = refl; received = omega arith; written = refl; bounded = omega arith }) fresh)
     (ap steps c.new-proxy.ensures.cache ∙ omega arith) c.new-proxy.ensures.written))
 
 pub returns-clause-serves : goal.returns-clause-serves
@@ -42,7 +42,7 @@ returns-clause-serves g c = λ none.
     (told_ends (limits_in cache) c.args.turns (log_of told) told (g.W.Wire.log c.serve.new.wire) (g.K.Sink.taken c.args.log.now) (g.K.Sink.taken c.serve.new.log) (ended_by c.in-Err.stop) (told_at_first told)
     (c.in-Err.ensures.serves none (frame_of (limits_in cache)) (log_of told)
     (loop_begins (g.W.Wire.events c.args.wire.now) (limits_in cache) c.new-proxy.result told (g.W.Wire.stages c.args.wire.now) c.requires.fresh c.requires.unseen
-    (λ log fresh. c.new-proxy.ensures.rests (frame_of (limits_in cache)) log (record { stands = c.requires.new; limits = refl; ready = c.requires.ready; received = omega arith; written = refl; bounded = omega arith }) fresh)
+    (λ log fresh. c.new-proxy.ensures.rests (frame_of (limits_in cache)) log (record { stands = c.requires.new; limits = refl; received = omega arith; written = refl; bounded = omega arith }) fresh)
     (ap steps c.new-proxy.ensures.cache ∙ omega arith) c.new-proxy.ensures.written)))
 
 pub returns-in-Ok-clause-wire_calm : goal.returns-in-Ok-clause-wire_calm

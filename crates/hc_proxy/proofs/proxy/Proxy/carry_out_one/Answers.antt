@@ -43,17 +43,14 @@ returns-in_ok-ask-in-Ask-clause-ok g c = λ t p log acts h on.
     rw c.in-Ask.is (stays_on t _ p (act.Ask c.in-Ask.x) acts log _ _ on
     (ask_goes t c.args.self.now p acts c.ask.new.self c.in-Ask.x c.in_ok-ask-in-Ask.ensures.ok c.in_ok-ask-in-Ask.ensures.news c.in_ok-ask-in-Ask.ensures.touched h'))
 
-pub returns-in-Close-clause-ok : goal.returns-in-Close-clause-ok
-returns-in-Close-clause-ok g c = λ t p log acts h on.
+pub returns-in_err-hang_up-in-Close-clause-err : goal.returns-in_err-hang_up-in-Close-clause-err
+returns-in_err-hang_up-in-Close-clause-err g c = λ t p log acts h on. on_err c.from_residual-in_err-hang_up-in-Close.result _ (fails_before t c.args.self.now p c.args.act acts log _ _ on h)
+
+pub returns-in_ok-hang_up-in-Close-clause-ok : goal.returns-in_ok-hang_up-in-Close-clause-ok
+returns-in_ok-hang_up-in-Close-clause-ok g c = λ t p log acts h on.
     let h' = rw c.in-Close.is at h in
-    ok_map c.hang_up.result _ _ (λ u. rw c.in-Close.is (stays_on t c.hang_up.new.self p (act.Close c.in-Close.x) acts log _ _ on
-    (close_goes t c.in-Close.x acts c.args.self.now c.hang_up.new.self p h' u))) c.hang_up.ensures.ok
-
-pub returns-in-Close-clause-err : goal.returns-in-Close-clause-err
-returns-in-Close-clause-err g c = λ t p log acts h on. on_err c.hang_up.result _ (fails_before t c.args.self.now p c.args.act acts log _ _ on h)
-
-pub returns-in-Close-clause-cause : goal.returns-in-Close-clause-cause
-returns-in-Close-clause-cause g c = cause_none _ c.hang_up.result c.hang_up.ensures.memory
+    rw c.in-Close.is (stays_on t c.hang_up.new.self p (act.Close c.in-Close.x) acts log _ _ on
+    (close_goes t c.in-Close.x acts c.args.self.now c.hang_up.new.self p h' c.in_ok-hang_up-in-Close.ensures.ok))
 
 pub returns-in_ok-answer-in_default : goal.returns-in_ok-answer-in_default
 returns-in_ok-answer-in_default g c = record {

@@ -43,6 +43,9 @@ close-requires-clause-at g c =
     let said : c.is_open.result ≡ true = search (rules, c.if-not-is_open.false) in
     may_here 1 c.args.x x c.requires.may (λ t p h. open_is t.frame x p h.cache c.args.x c.is_open.result c.is_open.ensures ∙ said)
 
+pub close-requires-clause-waits : goal.close-requires-clause-waits
+close-requires-clause-waits g c = sym c.in_ok-look.ensures ∙ c.in-Waits.is
+
 pub close-requires-clause-few : goal.close-requires-clause-few
 close-requires-clause-few g c =
     let x = c.args.self.now in
@@ -74,5 +77,4 @@ returns-in-Waits-clause-goes g c = λ t p h.
     let x = c.args.self.now in
     let said : c.is_open.result ≡ true = search (rules, c.if-not-is_open.false) in
     let ended : c.has_ended.result ≡ true = search (rules, c.if-not-has_ended.false) in
-    let looks : look_at (upstream_of x.upstreams c.args.x) ≡ look.Waits = sym c.in_ok-look.ensures ∙ c.in-Waits.is in
-    c.close.ensures.goes t p h (open_is t.frame x p h.cache c.args.x c.is_open.result c.is_open.ensures ∙ said) (sym c.has_ended.ensures ∙ ended) looks
+    c.close.ensures.goes t p h (open_is t.frame x p h.cache c.args.x c.is_open.result c.is_open.ensures ∙ said) (sym c.has_ended.ensures ∙ ended)

@@ -72,8 +72,8 @@ returns-in_err-send-clause-causes g c =
     (subst (λ w. HasCauses {T = Bool} w (g.W.Wire.faults c.send.new.wire) (g.K.Sink.faults c.args.log.now) (g.K.Sink.faults c.write.new.log) (Err e)) c.in_ok-carry_out.ensures.cause.calm
     (by_wire (g.W.Wire.faults c.carry_out.new.wire) (g.W.Wire.faults c.send.new.wire) (g.K.Sink.faults c.args.log.now) (g.K.Sink.faults c.write.new.log) e c.in_err-send.ensures.cause c.in_ok-write.ensures.calm))
 
-pub returns-in-Ok-clause-ok : goal.returns-in-Ok-clause-ok
-returns-in-Ok-clause-ok g c = λ t p before k on.
+pub returns-clause-ok : goal.returns-clause-ok
+returns-clause-ok g c = λ t p before k on.
     let y = c.args.self.now in
     let told = g.W.Wire.log c.args.wire.now in
     let stages = g.W.Wire.stages c.args.wire.now in
@@ -89,11 +89,11 @@ returns-in-Ok-clause-ok g c = λ t p before k on.
     let co = c.in_ok-carry_out.ensures.ok (writing t (text_of y.record)) p before k' on' in
     let turn = behind t p before y k told stages on out out' takes told1 stages1 c.carry_out.new.self co in
     let a = c.in_ok-send.ensures.ok turn (carried p) co.log' co.keeps co.on_wire in
-    finishes t p before y k told stages on out out' takes told1 stages1 c.carry_out.new.self co c.send.new.self told2 stages2 a c.waits.new.self c.in-Ok.wait
-    (c.waits.ensures.rests turn.frame (carried p) a.log' a.rests) (c.in-Ok.ensures.waits turn.frame (carried p) a.log' a.rests)
+    finishes t p before y k told stages on out out' takes told1 stages1 c.carry_out.new.self co c.send.new.self told2 stages2 a c.waits.new.self _
+    (c.waits.ensures.rests turn.frame (carried p) a.log' a.rests) (c.in_ok-waits.ensures.waits turn.frame (carried p) a.log' a.rests)
 
-pub returns-in-Err-clause-err : goal.returns-in-Err-clause-err
-returns-in-Err-clause-err g c = λ t p before k on.
+pub returns-in_err-waits-clause-err : goal.returns-in_err-waits-clause-err
+returns-in_err-waits-clause-err g c = λ t p before k on.
     let y = c.args.self.now in
     let told = g.W.Wire.log c.args.wire.now in
     let stages = g.W.Wire.stages c.args.wire.now in
@@ -109,4 +109,5 @@ returns-in-Err-clause-err g c = λ t p before k on.
     let co = c.in_ok-carry_out.ensures.ok (writing t (text_of y.record)) p before k' on' in
     let turn = behind t p before y k told stages on out out' takes told1 stages1 c.carry_out.new.self co in
     let a = c.in_ok-send.ensures.ok turn (carried p) co.log' co.keeps co.on_wire in
-    cut_waiting t p before y k told stages on out out' takes told1 stages1 c.carry_out.new.self co c.send.new.self told2 stages2 a
+    on_err c.from_residual-in_err-waits.result _
+    (cut_waiting t p before y k told stages on out out' takes told1 stages1 c.carry_out.new.self co c.send.new.self told2 stages2 a)

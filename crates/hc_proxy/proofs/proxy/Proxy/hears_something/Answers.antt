@@ -2,8 +2,8 @@ use Rattle.std.proofs.Common.{◌≡◌, ◌≤◌, ◌<◌, ℕ, ◌+◌, ◌�
 use Rattle.std.specs.Prelude.{take}
 use Rattle.std.proofs.lemmas.List.{take_more, take_all}
 use Rattle.hc_peers.specs.Upstreams.{news_of}
+use Rattle.hc_proxy.proofs.Alike.{cache_moves}
 use Rattle.hc_proxy.proofs.HearsSome.{brings_same, some_heard, none_heard, none_more}
-use Rattle.hc_proxy.proofs.HungUp.{cache_moves}
 use Rattle.hc_proxy.proofs.SkippedSteps.{among}
 use Rattle.hc_proxy.proofs.Waited.{brings}
 use Rattle.hc_proxy.proofs.proxy.Proxy.hears_something.Goals as goal

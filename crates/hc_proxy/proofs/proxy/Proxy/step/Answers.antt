@@ -35,6 +35,6 @@ step-requires-clause-early g c = ∥∥₁_elim c.requires.stands le_prop (λ s.
 pub returns-clause-stepped : goal.returns-clause-stepped
 returns-clause-stepped g c f p h room =
     let done = c.in_ok-step.ensures in
-    stepped_so f c.args.self.now _ c.args.event p h room c.requires.numbered c.requires.spelled done.answered done.moment done.received done.ready
+    stepped_so f c.args.self.now _ c.args.event p h room c.requires.numbered c.requires.spelled done.answered done.moment done.received
     c.in_ok-add.ensures.text c.in_ok-add.ensures.last
     (record { now = refl; starts = refl; clients = refl; upstreams = refl; closed = refl; round = refl })

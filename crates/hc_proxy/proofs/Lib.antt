@@ -97,3 +97,4 @@ mod NewsLoop
 mod HearsSome
 mod RoundOnly
 mod Causes
+mod Said

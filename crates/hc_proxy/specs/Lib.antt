@@ -15,6 +15,7 @@ pub mod Sending
 pub mod Loops
 pub mod Endings
 pub mod Laws
+pub mod Sentences
 pub mod Invariants
 pub mod Logging
 pub mod Stops

@@ -1,8 +1,21 @@
-//! What holds of each loop, as the contract of a function that does nothing.
+//! What holds of each loop, as contracts of functions that do nothing.
 ghost use Rattle.hc_proxy.specs.Laws.{LoopsAreRuns};
+ghost use Rattle.hc_proxy.specs.Sentences.{LogsAreAsSaid, EndsAreAsSaid};
 
 /// Whatever a log says, the events that the loop steps are a run of a store that begins empty, and
 /// the tables are those behind it. Each consumer reads one answer whole.
 pub fn loops_are_runs()
     ensures { LoopsAreRuns }
+{}
+
+/// What `serve_on` says of a log, as sentences: when each call waits, who is read, who lacks bytes,
+/// who stands and who is closed, and that the record is the text of all turns.
+pub fn logs_are_as_said()
+    ensures { LogsAreAsSaid }
+{}
+
+/// And behind the last turn: one dial for each exchange that was opened, all connections closed, and
+/// nothing lacking but where less was taken than was offered.
+pub fn ends_are_as_said()
+    ensures { EndsAreAsSaid }
 {}

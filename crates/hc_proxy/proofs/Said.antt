@@ -1,0 +1,214 @@
+-- The sentences of a log of the loop follow from what is proved of it.
+--
+-- Each call fits the tables before it, so a test over all of its standings, clients or open exchanges holds of each one of them. The
+-- record: a turn adds its events to the history, so those of all turns are joined turn by turn. The dials: an entry opens the next
+-- exchange or none, so the number of the last exchange counts the Opened acts of the run.
+use Rattle.std.proofs.Common.{◌≡◌, ◌≤◌, ◌<◌, ℕ, zero, suc, ◌+◌, List, [], ◌∷◌, ◌++◌, Bool, true, false, Option, Some, None, refl, ap, sym, ◌∙◌, subst, arith}
+use Rattle.std.specs.Prelude.{◌&&◌, ◌||◌, nat_lt, not, length, take, map, reverse, find, Contains}
+use Rattle.std.specs.List.{list_all}
+use Rattle.std.proofs.lemmas.Bool.Decides.{nat_tests}
+use Rattle.std.proofs.lemmas.List.{take_all, map-append, reverse-append}
+use Rattle.hc_event.specs.declared.act.Act.{Act}
+use Rattle.hc_event.specs.declared.act.Act.TheVariants as act
+use Rattle.hc_rules.specs.declared.room.Limits.{Limits}
+use Rattle.hc_model.specs.Entries.{History, no_contents}
+use Rattle.hc_model.specs.Rows.{Tables}
+use Rattle.hc_model.specs.Runs.{IsRun}
+use Rattle.hc_model.specs.Tables.{tables, after}
+use Rattle.hc_model.proofs.Basics.{and_left, and_right}
+use Rattle.hc_wire.specs.declared.connection.Standing.{Standing}
+use Rattle.hc_wire.specs.Logs.{Called, Log, Taker, is_at_end, is_numbered}
+use Rattle.hc_proxy.specs.Connections.{connection_of, has_unsent, stands}
+use Rattle.hc_proxy.specs.Invariants.{OpensUp}
+use Rattle.hc_proxy.specs.Listening.{is_read, is_same}
+use Rattle.hc_proxy.specs.Loops.{Fits, AllFit}
+use Rattle.hc_proxy.specs.Network.{open_exchanges}
+use Rattle.hc_proxy.specs.Rows.{Client, Proxy, unused}
+use Rattle.hc_proxy.specs.Sending.{owed_by, owed_to, is_sent, is_taken, client_is_sent, taker_of, exchange_is_sent}
+use Rattle.hc_proxy.specs.Sentences.{IsCallAsSaid, LogsAreAsSaid, EndsAreAsSaid, MayStand, whose_at, events_till, opened_in, opened_by}
+use Rattle.hc_proxy.specs.Standings.{Whose, OfClient, OfExchange, OfNobody, is_right, may_stand, client_stands, number_stands, exchange_stands}
+use Rattle.hc_proxy.specs.Turns.{so_far, turned, turned_by, behind_all, behind_calls, part_of, events_of, record_of, text_behind, timed_of}
+use Rattle.hc_proxy.proofs.Folds.{turned_more}
+use Rattle.hc_proxy.proofs.OpensUp.{entry_opens}
+use Rattle.hc_proxy.proofs.Parts.{turn_part}
+use Rattle.hc_proxy.proofs.Stands.{Stands, loops_are_runs}
+
+-- LISTS AND TESTS
+
+all_of : {A : Type 0} (f : A → Bool) (xs : List A) (x : A) → list_all f xs ≡ true → Contains xs x → f x ≡ true
+all_of f [] x all (n, within, is) = absurd (omega arith)
+all_of f (y ∷ ys) x all (zero, within, is) = ap f (sym is) ∙ and_left (f y) (list_all f ys) all
+all_of f (y ∷ ys) x all (suc n, within, is) = all_of f ys x (and_right (f y) (list_all f ys) all) (n, omega arith, is)
+
+same_is : (on owed : Bool) → is_same on owed ≡ true → on ≡ owed
+same_is true owed is = sym is
+same_is false true is = absurd (let never : false ≡ true = is in cc)
+same_is false false is = refl
+
+or_first : (a b : Bool) → (a || b) ≡ true → b ≡ false → a ≡ true
+or_first true b is off = refl
+or_first false b is off = absurd (let never : false ≡ true = sym off ∙ is in cc)
+
+or_second : (a b : Bool) → (a || b) ≡ true → a ≡ false → b ≡ true
+or_second true b is off = absurd (let never : true ≡ false = off in cc)
+or_second false b is off = is
+
+both_off : (a b : Bool) → a ≡ false → b ≡ false → (a || b) ≡ false
+both_off true b first second = first
+both_off false b first second = second
+
+not_false : (b : Bool) → not b ≡ true → b ≡ false
+not_false false is = refl
+not_false true is = absurd (let never : false ≡ true = is in cc)
+
+is_less : (m n : ℕ) → m < n → not (nat_lt m n) ≡ false
+is_less m n lt = let on : nat_lt m n ≡ true = grind (arith, nat_tests) in ap not on
+
+-- A CALL
+
+fit_at : (limits : Limits) (dialled : List ℕ) (before after : List Called) (call : Called) (p : Proxy) → AllFit limits dialled p (before ++ call ∷ after) → Fits limits dialled (turned_by limits dialled before p) call
+fit_at limits dialled [] after call p all = all.0
+fit_at limits dialled (first ∷ before) after call p all = fit_at limits dialled before after call (turned limits dialled first p) all.1
+
+stands_of : (call : Called) (p : Proxy) (k : ℕ) (w : Whose) → may_stand call p k w ≡ true → MayStand call p k w
+stands_of call p k (OfClient client) is = (
+  not_false client.gone (and_left (not client.gone) (not client.closing || has_unsent call k client) is),
+  λ closing. or_second (not client.closing) (has_unsent call k client) (and_right (not client.gone) (not client.closing || has_unsent call k client) is) (ap not closing),
+)
+stands_of call p k (OfExchange x) is = is
+stands_of call p k OfNobody is = let never : false ≡ true = is in cc
+
+number_of : (call : Called) (o : Option ℕ) → number_stands call o ≡ true → (k : ℕ) × (o ≡ Some k) × (stands call k ≡ true)
+number_of call None is = absurd (let never : false ≡ true = is in cc)
+number_of call (Some k) is = (k, refl, is)
+
+client_stays : (call : Called) (p : Proxy) (k : ℕ) (client : Client) (o : Option Client) → o ≡ Some client → client_stands call p k o ≡ true → client.gone ≡ false → client.closing ≡ false → stands call k ≡ true
+client_stays call p k client None at is here stays = absurd (let never : None ≡ Some client = at in cc)
+client_stays call p k client (Some r) at is here stays =
+    let same : r ≡ client = some_is r client at in
+    or_second (r.gone || r.closing) (stands call k) is (both_off r.gone r.closing (ap (λ (c : Client). c.gone) same ∙ here) (ap (λ (c : Client). c.closing) same ∙ stays))
+  where
+    some_is : (a b : Client) → Some a ≡ Some b → a ≡ b
+    some_is a b h = cc
+
+call_said : (limits : Limits) (log : Log) (call : Called) (p : Proxy) → Fits limits log.dialled p call → IsCallAsSaid limits log call p
+call_said limits log call p fits =
+    let dialled = so_far p log.dialled in
+    let each = list_all (is_right call dialled p) call.standings in
+    let clients = list_all (λ k. client_stands call p k (p.client k)) p.accepted in
+    let exchanges = list_all (exchange_stands call dialled) (open_exchanges p.tables) in
+    let two : (each && clients) ≡ true = and_left (each && clients) exchanges fits.stands in
+    record {
+      waits_so = fits.wait;
+      reads = λ s there. same_is s.reads (is_read call p s.k (whose_at log p s.k)) (all_of (λ (z : Standing). is_same z.reads (is_read call p z.k (whose_at log p z.k))) call.standings s fits.reads there);
+      sends = λ s there lt. or_first s.short (not (nat_lt s.taken (owed_to p (whose_at log p s.k)))) (all_of (is_sent dialled p) call.standings s fits.sends there) (is_less s.taken (owed_to p (whose_at log p s.k)) lt);
+      dials = λ x there. number_of call (connection_of dialled x) (all_of (exchange_stands call dialled) (open_exchanges p.tables) x (and_right (each && clients) exchanges fits.stands) there);
+      stays = λ k client there at here stays. client_stays call p k client (p.client k) at (all_of (λ j. client_stands call p j (p.client j)) p.accepted k (and_right each clients two) there) here stays;
+      closes = λ s there. stands_of call p s.k (whose_at log p s.k) (all_of (is_right call dialled p) call.standings s (and_left each clients two) there);
+    }
+
+-- THE RECORD
+
+take_next : {A : Type 0} (n : ℕ) (xs : List A) → n < length xs → (x : A) × (take (suc n) xs ≡ take n xs ++ x ∷ [])
+take_next n [] lt = absurd (omega arith)
+take_next zero (x ∷ xs) lt = (x, refl)
+take_next (suc n) (x ∷ xs) lt = let more = take_next n xs (omega arith) in (more.0, ap (λ ys. x ∷ ys) more.1)
+
+module _ (limits : Limits) (log : Log) where
+  events_more : (call : Called) (p : Proxy) → events_of (turned limits log.dialled call p) ≡ events_of p ++ part_of (turned limits log.dialled call p)
+  events_more call p =
+      let q = turned limits log.dialled call p in
+      ap (λ (h : History). map timed_of (reverse h)) (turn_part limits log.dialled call p).first
+      ∙ (ap (map timed_of) (reverse-append q.part p.history) ∙ map-append timed_of (reverse p.history) (reverse q.part))
+
+  events_are : (n : ℕ) → n ≤ length log.calls → events_of (behind_calls limits log n) ≡ events_till limits log n
+  events_are zero le = refl
+  events_are (suc n) le =
+      let next = take_next n log.calls (omega arith) in
+      let before = behind_calls limits log n in
+      let turns : behind_calls limits log (suc n) ≡ turned limits log.dialled next.0 before = ap (λ cs. turned_by limits log.dialled cs unused) next.1 ∙ turned_more limits log.dialled (take n log.calls) next.0 unused in
+      let rest : events_of before ≡ events_till limits log n = events_are n (omega arith) in
+      ap events_of turns
+      ∙ (events_more next.0 before
+      ∙ (ap (λ es. es ++ part_of (turned limits log.dialled next.0 before)) rest
+      ∙ ap (λ (q : Proxy). events_till limits log n ++ part_of q) (sym turns)))
+
+  text_said : record_of (behind_all limits log) ≡ text_behind 0 (events_till limits log (length log.calls))
+  text_said =
+      ap (text_behind 0)
+      (ap (λ cs. events_of (turned_by limits log.dialled cs unused)) (sym (take_all (length log.calls) log.calls (omega arith)))
+      ∙ events_are (length log.calls) (omega arith))
+
+-- THE DIALS
+
+counted : (acts : List Act) (n m : ℕ) → OpensUp n acts m → m ≡ n + opened_in acts
+counted [] n m up = let same : n ≡ n + 0 = omega arith in sym up ∙ same
+counted (act.Opened x c need request ∷ acts) n m up = let sum : n + 1 + opened_in acts ≡ n + (opened_in acts + 1) = omega arith in counted acts (n + 1) m up.1 ∙ sum
+counted (act.Denied refusal ∷ acts) n m up = counted acts n m up
+counted (act.Ask x ∷ acts) n m up = counted acts n m up
+counted (act.Close x ∷ acts) n m up = counted acts n m up
+counted (act.Shown c r why status fields lo hi ∷ acts) n m up = counted acts n m up
+counted (act.Given c x at bytes ∷ acts) n m up = counted acts n m up
+counted (act.Ended c ∷ acts) n m up = counted acts n m up
+counted (act.Failed c cause ∷ acts) n m up = counted acts n m up
+counted (act.Pending c wait ∷ acts) n m up = counted acts n m up
+counted (act.Lost r kind ∷ acts) n m up = counted acts n m up
+counted (act.Evicted r ∷ acts) n m up = counted acts n m up
+
+opened_are : (limits : Limits) (h : History) → IsRun limits no_contents h → (tables no_contents h).opened ≡ opened_by h
+unfolding tables
+opened_are limits [] run = refl
+opened_are limits (e ∷ h) run =
+    let t = tables no_contents h in
+    let p : Proxy = record unused { tables = t; history = h; moment = t.moment } in
+    let s : Stands limits p = record { run = run.0; same = refl; later = omega arith } in
+    let up : OpensUp t.opened e.acts (after t e).opened = entry_opens limits p s e run.1 t.opened [] refl in
+    let more : (after t e).opened ≡ t.opened + opened_in e.acts = counted e.acts t.opened (after t e).opened up in
+    let rest : t.opened ≡ opened_by h = opened_are limits h run.0 in
+    more ∙ ap (λ n. n + opened_in e.acts) rest
+
+opened_said : (limits : Limits) (log : Log) → (behind_all limits log).tables.opened ≡ opened_by (behind_all limits log).history
+opened_said limits log =
+    let r = loops_are_runs limits log in
+    ap (λ (t : Tables). t.opened) r.behind ∙ opened_are limits (behind_all limits log).history r.run
+
+pub logs_said : LogsAreAsSaid
+logs_said limits log l = record {
+  calls = λ call p at.
+      let fits : Fits limits log.dialled (turned_by limits log.dialled at.before unused) call = fit_at limits log.dialled at.before at.after call unused (subst (AllFit limits log.dialled unused) at.calls l.fit) in
+      call_said limits log call p (subst (λ (q : Proxy). Fits limits log.dialled q call) (sym at.tables) fits);
+  text = text_said limits log;
+  dials = subst (λ n. length log.dialled ≤ n) (opened_said limits log) l.dialled;
+}
+
+-- BEHIND THE LAST TURN
+
+short_at : (calls n : ℕ) (taker : Taker) (o : Option Taker) → o ≡ Some taker → is_taken calls n o ≡ true → length taker.sent < n → taker.short ≡ Some calls
+short_at calls n taker None at is lt = absurd (let never : None ≡ Some taker = at in cc)
+short_at calls n taker (Some c) at is lt =
+    let same : c ≡ taker = some_is c taker at in
+    by_short taker.short (or_first (is_at_end taker.short calls) (not (nat_lt (length taker.sent) n)) (subst (λ (d : Taker). (is_at_end d.short calls || not (nat_lt (length d.sent) n)) ≡ true) same is) (is_less (length taker.sent) n lt))
+  where
+    some_is : (a b : Taker) → Some a ≡ Some b → a ≡ b
+    some_is a b h = cc
+
+    by_short : (o : Option ℕ) → is_at_end o calls ≡ true → o ≡ Some calls
+    by_short None on = absurd (let never : false ≡ true = on in cc)
+    by_short (Some m) on = let same : m ≡ calls = grind (arith, nat_tests) in ap Some same
+
+pub ends_said : EndsAreAsSaid
+ends_said limits log l f =
+    let p = behind_all limits log in
+    let clients = list_all (λ k. client_is_sent log k (p.client k)) p.accepted in
+    let exchanges = list_all (exchange_is_sent log p) (open_exchanges p.tables) in
+    record {
+      dials = f.dialled ∙ opened_said limits log;
+      closed = λ taker there. not_false taker.live (all_of (λ (c : Taker). not c.live) log.takers taker f.closed there);
+      clients = λ k client taker there at here found lt.
+          let sent : client_is_sent log k (Some client) ≡ true = subst (λ (o : Option Client). client_is_sent log k o ≡ true) at (all_of (λ j. client_is_sent log j (p.client j)) p.accepted k (and_left clients exchanges f.sent) there) in
+          short_at (length log.calls) (length client.owed) taker (find (is_numbered k) log.takers) found
+          (or_second client.gone (is_taken (length log.calls) (length client.owed) (find (is_numbered k) log.takers)) sent here) lt;
+      exchanges = λ x k taker there at found lt.
+          let sent : exchange_is_sent log p x ≡ true = all_of (exchange_is_sent log p) (open_exchanges p.tables) x (and_right clients exchanges f.sent) there in
+          short_at (length log.calls) (owed_by (p.upstream x)) taker (taker_of log (connection_of log.dialled x)) (ap (taker_of log) at ∙ found) sent lt;
+    }

@@ -139,9 +139,9 @@ WHOLE = [
 CUT = [
     answered(
         "The origin closes after 1 byte of 2: the client is closed.",
-        answer(b"h", "Content-Length: 2", FRESH, length=False), quiet(3), ended(2),
+        answer(b"h", "Content-Length: 2", FRESH, length=False), quiet(3), ended(2), got(1, GET),
     ),
-    answered("The origin closes within a chunk: a fault.", CHUNKED + b"5\r\nhi", quiet(3), ended(2)),
+    answered("The origin closes within a chunk: a fault.", CHUNKED + b"5\r\nhi", quiet(3), ended(2), got(1, GET)),
     answered("The origin closes before the last chunk: a fault.", chunked(b"hi", last=b""), quiet(3), ended(2)),
     answered("The origin closes within its head: 502.", b"HTTP/1.1 200 OK\r\nContent-Le", ended(2)),
     answered(
@@ -151,13 +151,13 @@ CUT = [
     answered("The origin breaks off at once, before a client of HTTP/1.0: 502, and the close.", broke(2), asked=request(version="1.0")),
     answered(
         "The origin breaks off in mid-body.",
-        answer(b"hi", "Content-Length: 6", FRESH, length=False), quiet(3), broke(2),
+        answer(b"hi", "Content-Length: 6", FRESH, length=False), quiet(3), broke(2), got(1, GET),
     ),
     answered("The origin ends its side with a whole answer that isn't read yet.", HI, ended(2)),
     answered(
         "A piece past what the head promised is denied, and a fault follows.",
         chunked(b"abc", fields=("Content-Range: bytes 0-1/6", TAGGED, FRESH), status="206 Partial Content"),
-        asked=request("/x", "Range: bytes=0-1"),
+        quiet(2), got(1, GET), asked=request("/x", "Range: bytes=0-1"),
     ),
     answered(
         "The length concerns the connection alone, so the cache isn't told it: an end comes without a byte.",
@@ -214,7 +214,7 @@ REQUESTS = [
     answered("HTTP/1.0, where the length is told: the close all the same.", HI, quiet(2), got(1, GET), asked=request(version="1.0")),
     answered("Two requests at once: the second is answered from the store, behind the first.", HI, quiet(3), asked=GET + GET),
     answered("Three at once, of which the second is refused: the third is dropped.", HI, quiet(2), asked=GET + request(host="") + GET),
-    answered("A second request that comes while the first is answered waits on the wire.", HI, got(1, GET), quiet(2)),
+    answered("A second request that comes while the first is answered waits on the wire.", HI, got(1, GET, at=1005), quiet(2, at=1005)),
     Case(
         "A request in parts, and empty lines before it.",
         accepted(1), parts(1, b"\r\n\r\n" + GET, 3, 8, 20, 30), got(2, PLAIN), quiet(3),
@@ -247,9 +247,10 @@ REQUESTS = [
 ]
 
 REFUSED = [
-    refused("A TLS hello: 400, and the close, though no line has come.", bytes.fromhex("160301")),
-    refused("A line that begins with a blank.", b" GET /x HTTP/1.1\r\n"),
-    refused("A method of 16 bytes, before its space.", b"ABCDEFGHIJKLMNOP"),
+    Case("A TLS hello: 400, and the close, though no line has come.", asks(bytes.fromhex("160301")), quiet(2)),
+    Case("A line that begins with a blank.", asks(b" GET /x"), quiet(2)),
+    Case("A method of 16 bytes, before its space.", asks(b"ABCDEFGHIJKLMNOP"), quiet(2)),
+    Case("A method of 15 bytes, before its space: more is waited for.", asks(b"ABCDEFGHIJKLMNO"), quiet(2)),
     refused("A head of 32,769 bytes that isn't whole: 431.", b"GET /x HTTP/1.1\r\nX: " + b"y" * 32_749),
     refused("CONNECT: 501.", head("CONNECT a.test:80 HTTP/1.1", "Host: a.test:80")),
     refused("A body that is told by its length: 501.", request("/x", "Content-Length: 5", method="POST") + b"hello"),
@@ -309,6 +310,11 @@ STORE = [
         accepted(1), accepted(2), got(1, GET), got(2, GET),
         got(3, answer(b"ab", "Content-Length: 4", FRESH, length=False)), quiet(3), broke(1), got(3, b"cd"), quiet(3),
     ),
+    Case(
+        "Two clients come while a large body is handed on: in each turn that comes before the new requests.",
+        accepted(1), accepted(2), accepted(3), got(1, GET), got(4, answer(b"f" * 40_000, FRESH)),
+        got(2, request("/y")), got(3, request("/z")), quiet(4),
+    ),
     Case("The moment of the wire goes back: that of the record stays.", asks(GET), got(2, HI, at=900), quiet(3, at=1001)),
     answered(
         "A client's own condition goes to the origin, and its 304 to the client.",
@@ -335,6 +341,10 @@ STALLS = [
     Case(
         "An origin that takes 5 bytes of its request, and all once there is room.",
         asks(GET), quiet(2), room(2), got(2, PLAIN), quiet(3), stalls={2: 5},
+    ),
+    Case(
+        "Two requests at once, and no room for all of the first answer: the second starts behind it.",
+        asks(request("/x", "Cache-Control: only-if-cached") * 2), quiet(2), room(1, at=1005), quiet(3, at=1005), stalls={1: 5},
     ),
     Case("A client that takes nothing leaves.", asks(GET), got(2, HI), quiet(2), ended(1), quiet(), stalls={1: 0}),
 ]

@@ -38,6 +38,7 @@ use Rattle.hc_replay.specs.Histories.{run_of, failures}
 use Rattle.hc_replay.specs.Replays.{IsWholeRun, IsReplayed}
 use Rattle.hc_replay.proofs.Reported.{replayed, leads_limits}
 use Rattle.hc_image.specs.Images.{image_of}
+use Rattle.hc_image.specs.Spelled.{SpellsImage}
 use Rattle.hc_saving.specs.declared.silent.Silent.{Silent}
 use Rattle.hc_saving.specs.Leaving.{HasLeft}
 use Rattle.hc_saving.specs.Saves as saves
@@ -47,7 +48,7 @@ use Rattle.hc_saving.specs.Silence.{AnswersSilently, IsSpent}
 -- WHAT IS LEFT
 
 module _ {B : Type 0} {g : Ghosts B} (s u : Cache B g) (h : History) (q : HasLeft s u no_contents h) (limits : limits_in u ≡ limits_in s) (count : steps_in s ≡ length h) (few : steps_in u ≤ 2 ^ 59 + 1024)
-    (found : Contents) (told : found ≡ saved_of q.left) (fits : found.next_exchange ≤ 2 ^ 60 → may_begin (limits_in u) found ≡ true) where
+    (found : Contents) (told : found ≡ saved_of q.left) (fits : found.next_exchange ≤ 2 ^ 60 → may_begin (limits_in u) found ≡ true) (written : may_begin (limits_in u) found ≡ true → SpellsImage (image_of found) found) where
   next_few : found.next_exchange ≤ 2 ^ 60
   unfolding contents_of
   next_few =
@@ -55,6 +56,9 @@ module _ {B : Type 0} {g : Ghosts B} (s u : Cache B g) (h : History) (q : HasLef
       let next : found.next_exchange ≡ (tables no_contents q.left).opened + 1 = ap (λ (c : Contents). c.next_exchange) told in
       let number = q.number in
       omega (arith, opened, next, number, count, few)
+
+  image_spells : SpellsImage (image_of found) (saved_of q.left)
+  image_spells = subst (SpellsImage (image_of found)) told (written (fits next_few))
 
   begins : may_begin (limits_in s) (saved_of q.left) ≡ true
   begins = subst (λ (l : Limits). may_begin l (saved_of q.left) ≡ true) limits (subst (λ (c : Contents). may_begin (limits_in u) c ≡ true) told (fits next_few))
@@ -69,6 +73,7 @@ module _ {B : Type 0} {g : Ghosts B} (s u : Cache B g) (h : History) (q : HasLef
     };
     begins = begins;
     image_is = ap image_of told;
+    spells = image_spells;
   }
 
   -- its image is what was written, behind nothing
@@ -106,7 +111,7 @@ moment_of (e ∷ h) contents last early timed =
     by_denial true small = small
     by_denial false small = small
 
-gives_front : (left left' : Option (List ℕ)) (text : List ℕ) → GivesAll left left' text → Gives left left' text
+pub gives_front : (left left' : Option (List ℕ)) (text : List ℕ) → GivesAll left left' text → Gives left left' text
 gives_front None left' text g = g
 gives_front (Some old) left' text g = rw g.1 (sym g.0 ∙ sym (append-nil text))
 

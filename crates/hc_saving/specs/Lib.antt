@@ -1,3 +1,4 @@
 pub mod Leaving
 pub mod Saves
 pub mod Silence
+pub mod Opens

@@ -18,20 +18,22 @@ use Rattle.hc_model.specs.Tables.{tables}
 use Rattle.hc_replay.specs.Histories.{run_of, failures}
 use Rattle.hc_replay.specs.Replays.{IsWholeRun}
 use Rattle.hc_image.specs.Images.{image_of}
+use Rattle.hc_image.specs.Spelled.{SpellsImage}
 use Rattle.hc_saving.specs.Leaving.{AllLeave}
 
 -- what a run from an empty store leaves
 abbrev pub saved_of : History → Contents
 saved_of left = contents_of (tables no_contents left)
 
--- All who were live behind the run have left, and the text is the image of what is left. A store of the same limits
--- may begin with that.
+-- All who were live behind the run have left, and the text is the image of what is left. It is read back as that, with
+-- which a store of the same limits may begin.
 pub record IsLeft (limits : Limits) (h : History) (image : List ℕ) : Type 0 where
   pub left : History
   pub leave : AllLeave limits no_contents h left
   pub whole : IsWholeRun limits no_contents left
   pub begins : may_begin limits (saved_of left) ≡ true
   pub image_is : image ≡ image_of (saved_of left)
+  pub spells : SpellsImage image (saved_of left)
 
 -- It is the image of what a run of these events leaves, over a store that never fails.
 pub record IsSaved (limits : Limits) (events : List Timed) (image : List ℕ) : Type 0 where

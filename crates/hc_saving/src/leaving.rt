@@ -28,6 +28,8 @@ pub(crate) fn image_left(alloc: Global, cache: Cache<Memory>) -> Result<Vec<u8>,
         Err(StoreError::NoMemory) => return Err(NoMemory),
         Err(_) => unreachable!(),
     };
+    // The cache goes before the image takes as much memory.
+    drop(cache);
     let mut image = Vec::new(alloc);
     write_image(&contents, &mut image)?;
     Ok(image)

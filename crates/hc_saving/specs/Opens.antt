@@ -1,0 +1,149 @@
+-- What came of an open: an image was read, and the schedule behind it was stepped from what the image has.
+use Rattle.std.specs.Prelude.{◌≡◌, ◌≢◌, ℕ, ◌+◌, List, [], ◌++◌, Option, Some, None, true}
+use Rattle.hc_io.specs.Sink.{Takes}
+use Rattle.hc_io.specs.Source.{Gives, GivesAll}
+use Rattle.hc_sched.specs.declared.schedule.Ended.{Ended}
+use Rattle.hc_sched.specs.declared.schedule.Ended.TheVariants as ended
+use Rattle.hc_sched.specs.declared.schedule.Timed.{Timed}
+use Rattle.hc_sched.specs.Schedule.{Item, Spells}
+use Rattle.hc_driver.specs.Courses.{TakesThenFront}
+use Rattle.hc_driver.specs.Endings.{How, Wholly, UpToLast, UpToWant, Ends}
+use Rattle.hc_driver.specs.Stepping as steps
+use Rattle.hc_driver.specs.Stepping.{events_in, report_of, report_before, last_entry}
+use Rattle.hc_rules.specs.declared.room.Limits.{Limits}
+use Rattle.hc_contents.specs.Fit.{unfit_of}
+use Rattle.hc_contents.specs.declared.unfit.Unfit.TheVariants as unfit
+use Rattle.hc_model.specs.Beginnings.{may_begin}
+use Rattle.hc_model.specs.Contents.{contents_of}
+use Rattle.hc_model.specs.Denials.{live}
+use Rattle.hc_model.specs.Entries.{History, Contents}
+use Rattle.hc_model.specs.Numbers.{AreShort}
+use Rattle.hc_model.specs.Runs.{IsRun}
+use Rattle.hc_model.specs.Tables.{tables}
+use Rattle.hc_core.specs.declared.begin.ContentsError.{ContentsError}
+use Rattle.hc_core.specs.declared.begin.ContentsError.TheVariants as error
+use Rattle.hc_core.specs.Steps.{StandsFor, ServesAll, limits_in, bytes_received}
+use Rattle.hc_core.specs.Steps.{steps as steps_in}
+use Rattle.hc_replay.specs.Histories.{run_of, failures}
+use Rattle.hc_replay.specs.Replays.{IsWholeRun}
+use Rattle.hc_image.specs.Readings.{BeginsWithNone}
+use Rattle.hc_image.specs.Spelled.{SpellsImage}
+use Rattle.hc_saving.specs.declared.open.OpenEnded.{OpenEnded}
+use Rattle.hc_saving.specs.declared.open.OpenEnded.TheVariants as opened
+use Rattle.hc_store.specs.declared.backend.Backend.{Ghosts}
+use Rattle.hc_core.specs.declared.cache.Cache.{Cache}
+
+-- THE IMAGE
+
+-- The text is an image of the contents, and then this schedule.
+pub record IsOpened (text : List ℕ) (contents : Contents) (schedule : List ℕ) : Type 0 where
+  pub image : List ℕ
+  pub is_image : SpellsImage image contents
+  pub text_is : image ++ schedule ≡ text
+
+-- WHAT GOES ON
+
+-- A run that nobody is live behind leaves these contents.
+pub record Leaves (limits : Limits) (before : Contents) (h : History) (contents : Contents) : Type 0 where
+  pub begins : may_begin limits before ≡ true
+  pub short : AreShort before
+  pub run : IsRun limits before h
+  pub empty : live (tables before h) ≡ 0
+  pub contents_are : contents_of (tables before h) ≡ contents
+
+-- These events are a run from the contents, over a store that never fails, and go on with each run that leaves them.
+pub record IsContinued (limits : Limits) (contents : Contents) (events : List Timed) (h : steps.History) : Type 0 where
+  pub events_are : events_in h ≡ events
+  pub whole : IsWholeRun limits contents (run_of h)
+  pub goes_on : (before : Contents) (earlier : History) → Leaves limits before earlier contents →
+      IsWholeRun limits before (run_of h ++ earlier)
+  pub sound : failures h ≡ 0
+
+-- How far these events went on, and what a sink took of their report.
+pub data Continues (limits : Limits) (contents : Contents) (out out' : Option (List ℕ)) : How → List Timed → Type 0 where
+  wholly : {events : List Timed} (h : steps.History) → IsContinued limits contents events h →
+      Takes out out' (report_of h) → Continues limits contents out out' Wholly events
+  up_to_last : {events : List Timed} (h : steps.History) → IsContinued limits contents events h →
+      TakesThenFront out out' (report_before h) (last_entry h) →
+      Continues limits contents out out' UpToLast events
+  up_to_want : {events : List Timed} (h : steps.History) → IsContinued limits contents events h →
+      Takes out out' (report_of h) → Continues limits contents out out' UpToWant events
+
+-- HOW IT ENDS
+
+-- What came of it: what a source had left before and after, and what a sink had taken.
+pub data Opens (limits : Limits) (left left' out out' : Option (List ℕ)) : OpenEnded → Type 0 where
+  -- the text begins with no image
+  bad_image : (text : List ℕ) → GivesAll left left' text → BeginsWithNone text → out' ≡ out →
+      Opens limits left left' out out' opened.BadImage
+  -- no store may begin with what the image has, or none of these limits
+  bad_content : (text schedule : List ℕ) (contents : Contents) (i : ℕ) → GivesAll left left' text →
+      IsOpened text contents schedule → unfit_of limits contents ≡ Some (unfit.BadContent i) →
+      out' ≡ out → Opens limits left left' out out' (opened.BadContent i)
+  full : (text schedule : List ℕ) (contents : Contents) → GivesAll left left' text →
+      IsOpened text contents schedule → unfit_of limits contents ≡ Some unfit.Full → out' ≡ out →
+      Opens limits left left' out out' opened.Full
+  -- the schedule was read from the moment of the contents on, and ended so
+  ran : (text schedule : List ℕ) (contents : Contents) (rest : Option (List ℕ)) (e : Ended) →
+      GivesAll left left' text → IsOpened text contents schedule → unfit_of limits contents ≡ None →
+      e ≢ ended.SourceFailed →
+      Ends (Continues limits contents out out') contents.now (Some schedule) rest e →
+      Opens limits left left' out out' (opened.Ran e)
+  -- the input failed, or memory was refused, and nothing was written
+  unreadable : (text : List ℕ) → Gives left left' text → out' ≡ out →
+      Opens limits left left' out out' (opened.Ran ended.SourceFailed)
+  wanting : (text : List ℕ) → Gives left left' text → out' ≡ out →
+      Opens limits left left' out out' (opened.Ran ended.NoMemory)
+
+-- the image wasn't refused
+abbrev pub IsImageTaken : OpenEnded → Type 0
+IsImageTaken (opened.Ran e) = Unit {0}
+IsImageTaken _ = ⊥
+
+-- COMPLETENESS
+
+-- What is told of a whole input holds of each image that it begins with.
+abbrev pub Completes : Limits → Option (List ℕ) → OpenEnded → Type 0
+Completes limits None result = Unit {0}
+Completes limits (Some text) opened.BadImage = BeginsWithNone text
+Completes limits (Some text) (opened.BadContent i) =
+    (contents : Contents) (schedule : List ℕ) → IsOpened text contents schedule →
+    unfit_of limits contents ≡ Some (unfit.BadContent i)
+Completes limits (Some text) opened.Full =
+    (contents : Contents) (schedule : List ℕ) → IsOpened text contents schedule →
+    unfit_of limits contents ≡ Some unfit.Full
+Completes limits (Some text) (opened.Ran (ended.Refused why)) =
+    (contents : Contents) (schedule : List ℕ) → IsOpened text contents schedule →
+    (items : List Item) → ¬ Spells contents.now schedule items
+Completes limits (Some text) (opened.Ran _) = Unit {0}
+
+-- A TEXT IS OPENED
+
+-- it begins with no image, or memory was refused
+pub data IsUnopened (text : List ℕ) : OpenEnded → Type 0 where
+  none : BeginsWithNone text → IsUnopened text opened.BadImage
+  unread : IsUnopened text (opened.Ran ended.NoMemory)
+
+-- A CACHE BEGINS
+
+-- how an open ends where none does
+abbrev pub refused_by : ContentsError → OpenEnded
+refused_by (error.BadContent i) = opened.BadContent i
+refused_by error.Full = opened.Full
+refused_by error.Fault = opened.Ran ended.NoMemory
+refused_by error.NoMemory = opened.Ran ended.NoMemory
+
+-- it begins with these contents, and is unused
+pub record BeginsWith {B : Type 0} {g : Ghosts B} (limits : Limits) (contents : Contents) (cache : Cache B g) : Type 0 where
+  pub fits : unfit_of limits contents ≡ None
+  pub stands : StandsFor cache contents []
+  pub serves : ServesAll cache contents
+  pub unused : steps_in cache + bytes_received cache ≡ 0
+  pub limited : limits_in cache ≡ limits
+
+-- or the contents are refused, or memory was
+pub data IsUnbegun (limits : Limits) (contents : Contents) : OpenEnded → Type 0 where
+  bad : (i : ℕ) → unfit_of limits contents ≡ Some (unfit.BadContent i) →
+      IsUnbegun limits contents (opened.BadContent i)
+  heavy : unfit_of limits contents ≡ Some unfit.Full → IsUnbegun limits contents opened.Full
+  lacking : IsUnbegun limits contents (opened.Ran ended.NoMemory)

@@ -1,0 +1,125 @@
+-- What the front tells of the acts that it heard, and which fields a 304 has.
+--
+-- Acts are told one after another: those that were told, with what is still to be told of those that were heard, are what is
+-- told of all (`told_more`). The fields that a 304 has are what is left of a copy where each other name was removed: each
+-- field that isn't told is removed by its own name, and one that is told by none (`left_told`).
+use Rattle.std.proofs.Common.{◌≡◌, ℕ, ◌+◌, ◌≤◌, Bool, true, false, List, [], ◌∷◌, ◌++◌, length, take, drop, map, cond, Option, Some, None, refl, sym, ap, ◌∙◌, subst, inl, inr, arith}
+use Rattle.std.specs.Prelude.{slice_get, bytes_eq, filter, ◌||◌, not}
+use Rattle.std.specs.List.{list_any}
+use Rattle.std.proofs.lemmas.Bool.{cases_Bool, both_ways}
+use Rattle.std.proofs.lemmas.List.{append_assoc, append-nil, drop_more}
+use Rattle.std.proofs.lemmas.Option.{slice_get_within, get_or_from_slice_get}
+use Rattle.std.proofs.lemmas.Slice.Eq.{bytes_eq-Decides}
+use Rattle.hc_event.specs.Filters.{leaves_in}
+use Rattle.hc_event.specs.declared.act.Act.{Act}
+use Rattle.hc_event.specs.declared.act.Act.TheVariants as act
+use Rattle.hc_fields.specs.FieldList.{has_name, without}
+use Rattle.hc_validate.specs.Heads.{FieldPairs}
+use Rattle.hc_validate.specs.Updates.{is_renewed, left_by}
+use Rattle.hc_condition.specs.NotModified.{is_told, told_fields, told_names}
+use Rattle.hc_condition.specs.Telling.{is_leaving}
+
+-- ACTS
+
+-- who ends or fails by one of these acts leaves
+pub any_leaves : (c : ℕ) (acts : List Act) → list_any (is_leaving c) acts ≡ leaves_in c acts
+any_leaves c [] = refl
+any_leaves c (act.Ended d ∷ acts) = ap (λ (b : Bool). is_leaving c (act.Ended d) || b) (any_leaves c acts)
+any_leaves c (act.Failed d cause ∷ acts) = ap (λ (b : Bool). is_leaving c (act.Failed d cause) || b) (any_leaves c acts)
+any_leaves c (act.Opened x d need request ∷ acts) = any_leaves c acts
+any_leaves c (act.Ask x ∷ acts) = any_leaves c acts
+any_leaves c (act.Close x ∷ acts) = any_leaves c acts
+any_leaves c (act.Shown d r why status fields lo hi ∷ acts) = any_leaves c acts
+any_leaves c (act.Given d x at bytes ∷ acts) = any_leaves c acts
+any_leaves c (act.Pending d wait ∷ acts) = any_leaves c acts
+any_leaves c (act.Lost r kind ∷ acts) = any_leaves c acts
+any_leaves c (act.Evicted r ∷ acts) = any_leaves c acts
+any_leaves c (act.Denied refusal ∷ acts) = any_leaves c acts
+
+-- one more act is told
+pub told_more : (f : Act → Act) (out new : List Act) (a told : Act) (left whole : List Act) → new ≡ out ++ told ∷ [] → told ≡ f a → out ++ map f (a ∷ left) ≡ whole → new ++ map f left ≡ whole
+told_more f out new a told left whole pushed is before =
+    ap (λ (l : List Act). l ++ map f left) pushed ∙ append_assoc out (told ∷ []) (map f left) ∙ ap (λ (t : Act). out ++ t ∷ map f left) is ∙ before
+
+-- it is found among one more
+pub found_more : (g : Act → Bool) (b x now : Bool) (a : Act) (left : List Act) (whole : Bool) → now ≡ (b || x) → x ≡ g a → (b || list_any g (a ∷ left)) ≡ whole → (now || list_any g left) ≡ whole
+found_more g true x now a left whole is same before = ap (λ (c : Bool). c || list_any g left) is ∙ before
+found_more g false x now a left whole is same before = ap (λ (c : Bool). c || list_any g left) (is ∙ same) ∙ before
+
+-- FIELDS
+
+abbrev pub untold : FieldPairs → FieldPairs
+untold fields = filter (λ (f : List ℕ × List ℕ). not (is_told f)) fields
+
+abbrev pub left_told : ℕ → FieldPairs → FieldPairs → FieldPairs
+left_told i fields kept = left_by (untold (drop i fields)) kept
+
+pub untold-more : (from : FieldPairs) (i : ℕ) (g : List ℕ × List ℕ) → slice_get from i ≡ Some g → is_told g ≡ false → untold (drop i from) ≡ g ∷ untold (drop (i + 1) from)
+untold-more from i g is other = rw (drop_more from i g (slice_get_within from i g is), get_or_from_slice_get from i g g is, other) refl
+
+pub untold-told : (from : FieldPairs) (i : ℕ) (g : List ℕ × List ℕ) → slice_get from i ≡ Some g → is_told g ≡ true → untold (drop i from) ≡ untold (drop (i + 1) from)
+untold-told from i g is told = rw (drop_more from i g (slice_get_within from i g is), get_or_from_slice_get from i g g is, told) refl
+
+-- each of the fields that isn't told has its name among the others
+Marks : FieldPairs → FieldPairs → Type 0
+Marks new [] = Unit {0}
+Marks new (f ∷ fields) = (is_told f ≡ false → is_renewed new f ≡ true) × Marks new fields
+
+or_after : (a b : Bool) → b ≡ true → (a || b) ≡ true
+or_after true b h = refl
+or_after false b h = h
+
+or_before : (a b : Bool) → a ≡ true → (a || b) ≡ true
+or_before true b h = refl
+or_before false b h = absurd (let never : false ≡ true = h in cc)
+
+marks-more : (g : List ℕ × List ℕ) (new fields : FieldPairs) → Marks new fields → Marks (g ∷ new) fields
+unfolding Marks
+marks-more g new [] marks = tt
+marks-more g new (f ∷ fields) marks = (λ off. or_after (has_name g.0 f) (is_renewed new f) (marks.0 off), marks-more g new fields marks.1)
+
+own_name : (f : List ℕ × List ℕ) → has_name f.0 f ≡ true
+own_name f = (bytes_eq-Decides f.0 f.0).1 refl
+
+marks_first : (f : List ℕ × List ℕ) (fields : FieldPairs) → Marks (untold fields) fields → Marks (untold (f ∷ fields)) (f ∷ fields)
+unfolding Marks
+marks_first f fields marks = by_told (is_told f) refl
+  where
+    by_told : (b : Bool) → is_told f ≡ b → Marks (cond (not b) (f ∷ untold fields) (untold fields)) (f ∷ fields)
+    by_told true is = (λ off. absurd (both_ways (is_told f) off is), marks)
+    by_told false other = (λ off. or_before (has_name f.0 f) (is_renewed (untold fields) f) (own_name f), marks-more f (untold fields) fields marks)
+
+marks_all : (fields : FieldPairs) → Marks (untold fields) fields
+unfolding Marks
+marks_all [] = tt
+marks_all (f ∷ fields) = marks_first f fields (marks_all fields)
+
+-- whether a field is told hangs on its name
+told_alike : (f g : List ℕ × List ℕ) → f.0 ≡ g.0 → is_told f ≡ is_told g
+told_alike f g same = ap (λ (n : List ℕ). list_any (bytes_eq n) told_names) same
+
+apart_more : (f g : List ℕ × List ℕ) (fields : FieldPairs) → is_told f ≡ true → is_renewed (untold fields) f ≡ false → is_renewed (untold (g ∷ fields)) f ≡ false
+apart_more f g fields told rest = elim (cases_Bool (is_told g)) [
+  | inl is ↦ rw is rest
+  | inr off ↦ rw off (by_name (has_name g.0 f) refl off)
+]
+  where
+    by_name : (b : Bool) → has_name g.0 f ≡ b → is_told g ≡ false → (b || is_renewed (untold fields) f) ≡ false
+    by_name true same off = absurd (both_ways (is_told g) off (sym (told_alike f g ((bytes_eq-Decides f.0 g.0).0 same)) ∙ told))
+    by_name false other off = rest
+
+-- none of those that aren't told has the name of one that is
+apart : (f : List ℕ × List ℕ) (fields : FieldPairs) → is_told f ≡ true → is_renewed (untold fields) f ≡ false
+apart f [] told = refl
+apart f (g ∷ fields) told = apart_more f g fields told (apart f fields told)
+
+all_left : (all fields : FieldPairs) → Marks (untold all) fields → left_by (untold all) fields ≡ told_fields fields
+unfolding Marks
+all_left all [] marks = refl
+all_left all (f ∷ fields) marks = elim (cases_Bool (is_told f)) [
+  | inl told ↦ rw (apart f all told, told) (ap (λ (l : FieldPairs). f ∷ l) (all_left all fields marks.1))
+  | inr off ↦ rw (marks.0 off, off) (all_left all fields marks.1)
+]
+
+pub first_left : (fields : FieldPairs) → left_told 0 fields fields ≡ told_fields fields
+first_left fields = all_left fields fields (marks_all fields)

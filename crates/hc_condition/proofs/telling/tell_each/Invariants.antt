@@ -1,0 +1,15 @@
+use Rattle.std.proofs.Common.{◌≡◌, ◌++◌, length, take, map}
+use Rattle.std.specs.Prelude.{◌||◌}
+use Rattle.std.specs.List.{list_any}
+use Rattle.hc_event.specs.Acts.{act_list}
+use Rattle.hc_event.specs.Drain.{left_of}
+use Rattle.hc_condition.specs.Telling.{act_told, is_satisfying}
+use Rattle.hc_condition.proofs.telling.tell_each.Given as goal
+
+abbrev pub invariant-loop-act : goal.invariant-loop-act
+invariant-loop-act l =
+    goal.iterator-loop-act.can_next l.act-iterator ×
+    goal.iterator-loop-act.is_finite l.act-iterator ×
+    (act_list l.out ++ map (act_told l.request) (left_of l.act-iterator) ≡ act_list l.fn.out ++ map (act_told l.request) (act_list l.fn.heard)) ×
+    ((l.satisfied || list_any (is_satisfying l.request) (left_of l.act-iterator)) ≡ list_any (is_satisfying l.request) (act_list l.fn.heard)) ×
+    (take (length (act_list l.fn.out)) (act_list l.out) ≡ act_list l.fn.out)

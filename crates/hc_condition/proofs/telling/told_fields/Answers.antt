@@ -1,0 +1,33 @@
+use Rattle.std.proofs.Common.{◌∙◌, ◌+◌, ◌≤◌, ◌≡◌, ℕ, List, drop, length, ap, arith, sym}
+use Rattle.std.proofs.lemmas.List.{drop_all}
+use Rattle.hc_fields.specs.FieldList.{without}
+use Rattle.hc_validate.specs.Heads.{FieldPairs}
+use Rattle.hc_validate.specs.Updates.{left_by}
+use Rattle.hc_validate.proofs.Renewals.{field_at, left_by-more, left_by-nil}
+use Rattle.hc_condition.proofs.Told.{first_left, left_told, untold, untold-more, untold-told}
+use Rattle.hc_condition.proofs.telling.told_fields.Goals as goal
+
+pub loop-i-init : goal.loop-i-init
+loop-i-init c = ap (left_told 0 c.args.fields.now) c.in_ok-told.ensures ∙ first_left c.args.fields.now
+
+pub loop-i-preserved-then-is_told : goal.loop-i-preserved-then-is_told
+loop-i-preserved-then-is_told c =
+    let from = c.args.fields.now in
+    let g : List ℕ × List ℕ = (c.at.result.0.now, c.at.result.1.now) in
+    let same = untold-told from c.loop-i.i g c.at.ensures (sym c.is_told.ensures ∙ c.if-is_told.true) in
+    ap (λ (t : FieldPairs). left_by t c.loop-i.told) (sym same) ∙ c.loop-i.invariant
+
+pub loop-i-preserved : goal.loop-i-preserved
+loop-i-preserved c =
+    let from = c.args.fields.now in
+    let g : List ℕ × List ℕ = (c.at.result.0.now, c.at.result.1.now) in
+    let field = field_at from c.loop-i.i g c.len-i-end.ensures.list c.at.ensures in
+    let more = untold-more from c.loop-i.i g c.at.ensures (sym c.is_told.ensures ∙ c.if-is_told.false) in
+    let left = c.remove.ensures.left ∙ ap (λ (n : List ℕ). without n c.loop-i.told) field.is_lower in
+    ap (left_told (c.loop-i.i + 1) from) left ∙ left_by-more g (untold (drop (c.loop-i.i + 1) from)) c.loop-i.told ∙ ap (λ (t : FieldPairs). left_by t c.loop-i.told) (sym more) ∙ c.loop-i.invariant
+
+pub returns : goal.returns
+returns c =
+    let past : length c.args.fields.now ≤ c.loop-i.i = omega (arith, c.len-i-end.ensures.value, c.loop-i-test.false) in
+    let nothing = drop_all c.loop-i.i c.args.fields.now past in
+    sym (left_by-nil c.loop-i.told) ∙ ap (λ (t : FieldPairs). left_by (untold t) c.loop-i.told) (sym nothing) ∙ c.loop-i.invariant

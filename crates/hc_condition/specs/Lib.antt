@@ -1,0 +1,4 @@
+pub mod TagListTexts
+pub mod External
+pub mod NotModified
+pub mod Telling

@@ -1,0 +1,11 @@
+//! Requests on condition of a copy that the caller has (RFC 9110 section 13.1): which they are, when that
+//! copy holds, and what is told then.
+#![tactic(auto)]
+
+mod external;
+mod not_modified;
+mod telling;
+
+pub use external::is_external;
+pub use not_modified::is_not_modified;
+pub use telling::{is_denied, leaves_in, tell_all, unconditioned};

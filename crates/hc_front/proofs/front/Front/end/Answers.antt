@@ -1,0 +1,16 @@
+use Rattle.std.proofs.Common.{sym, ◌∙◌}
+use Rattle.hc_event.specs.Acts.{act_list}
+use Rattle.hc_front.proofs.FrontPaths.{on_ok_by, on_err_by, truncated, has_ended}
+use Rattle.hc_front.proofs.front.Front.end.Goals as goal
+
+pub returns-then-is_err-clause-kept : goal.returns-then-is_err-clause-kept
+returns-then-is_err-clause-kept g c =
+    let q = c.in_ok-step.ensures.answered in
+    on_err_by c.push-told.result c.push-told.ensures.err
+    (λ same. truncated (act_list c.args.out.now) q.acts (act_list c.push-told.new.self) (act_list c.truncate.new.self) c.list-start.result.now c.list-start.ensures (same ∙ q.told) c.truncate.ensures.acts)
+
+pub returns-else-is_err-clause-stepped : goal.returns-else-is_err-clause-stepped
+returns-else-is_err-clause-stepped g c =
+    on_ok_by c.push-told.result c.push-told.ensures.ok
+    (λ pushed.
+    has_ended c.args.self.now _ c.args.now _ _ c.in_ok-step.ensures.moment c.in_ok-step.ensures.ready c.in_ok-step.ensures.received c.args.c c.args.want (act_list c.step.new.out) c.in_ok-step.ensures.answered pushed c.requires.ending c.forget.ensures)

@@ -8,9 +8,13 @@ use Rattle.hc_wire.specs.Events.{Stage, Unseen, IsOpen}
 use Rattle.hc_wire.specs.Logs.{Log, Tells, with_binding}
 use Rattle.hc_wire.specs.Wires.{HasRisen}
 use Rattle.hc_wire.specs.declared.event.Address.{Address}
+use Rattle.hc_wire.specs.declared.event.WireError.{WireError}
+use Rattle.hc_wire.specs.declared.event.WireError.TheVariants as wire
 use Rattle.hc_app.specs.declared.status.Status.{Status}
 use Rattle.hc_app.specs.declared.status.Status.TheVariants as status
-use Rattle.hc_app.specs.Answering.{IsEndedAs, done, unwired, wanting}
+use Rattle.hc_app.specs.Answering as answering
+use Rattle.hc_app.specs.Answering.{IsEndedAs, AnswersOrigin, done, unwired, wanting}
+use Rattle.hc_app.specs.Statuses.{unbound_as}
 
 pub fresh_bound : (old new : Option Log) (listen : Address) → Tells old new (with_binding (Some listen) None) → IfSome old IsFresh → IfSome new IsFresh
 fresh_bound None new listen tells fresh = subst (λ (o : Option Log). IfSome o IsFresh) (sym tells) tt
@@ -40,3 +44,7 @@ pub not_wire : (e : Ended) (s : Status) → IsEndedAs e s → s ≢ status.WireF
 not_wire _ _ done off = λ is. cc
 not_wire _ _ unwired off = λ is. off refl
 not_wire _ _ wanting off = λ is. cc
+
+pub unbound_answer : (listen : Address) (turns : ℕ) (told told' : Option Log) (e : WireError) → told' ≡ told → AnswersOrigin listen turns told told' (unbound_as e)
+unbound_answer listen turns told told' wire.WireFailed same = answering.unbound same
+unbound_answer listen turns told told' wire.NoMemory same = answering.wanting_all same

@@ -1,11 +1,13 @@
 -- How a run ends over streams that never fail, by its words and its input.
 --
--- Streams that never fail count no fault, so status 3 and 4 don't come (`faultless`). Words ask for one
--- thing at most (`not_both`). What was refused is the text that was left (`refusal_is`), and a text that
--- spells items isn't refused. So at each ending that is left the status is the one that is due, or that
--- of want of memory, and the other cases contradict the words or the input.
-use Rattle.std.proofs.Common.{◌≡◌, ◌⊎◌, ℕ, List, Option, Some, None, [], ◌∷◌, length, refl, ap, sym, ◌∙◌, inl, inr, arith}
-use Rattle.std.specs.Prelude.{codes}
+-- Streams that never fail count no fault, so status 3 and 4 don't come (`faultless`). What is left says what was owed
+-- (`by_owed`). The first word tells what was done (`asked`). What was refused is the text that was left
+-- (`refusal_is`), and a text that spells items isn't refused. A text begins with one image at most, which is refused
+-- or not (`image_apart`). So the status is the one that is due, or that of want of memory, and the other cases contradict the
+-- words or the input.
+use Rattle.std.proofs.Common.{◌≡◌, ◌⊎◌, ℕ, List, Option, Some, None, [], ◌∷◌, Bool, true, false, refl, ap, sym, ◌∙◌, subst, inl, inr, arith}
+use Rattle.std.specs.Prelude.{codes, bytes_eq}
+use Rattle.std.proofs.lemmas.Slice.Eq.{bytes_eq-Decides}
 use Rattle.hc_io.specs.Faults.{HasRisen}
 use Rattle.hc_io.specs.Source.{Gives}
 use Rattle.hc_sched.specs.declared.schedule.Refused.{Refused}
@@ -15,18 +17,31 @@ use Rattle.hc_sched.proofs.OneReading.{is_read}
 use Rattle.hc_driver.specs.Endings as endings
 use Rattle.hc_driver.specs.Endings.{Reach, IsRead, IsRefusedIn}
 use Rattle.hc_model.proofs.Basics.{some_none}
+use Rattle.hc_contents.specs.Fit.{unfit_of}
+use Rattle.hc_contents.specs.declared.unfit.Unfit.{Unfit}
+use Rattle.hc_contents.specs.declared.unfit.Unfit.TheVariants as unfit
+use Rattle.hc_model.specs.Entries.{Contents}
+use Rattle.hc_saving.specs.declared.open.OpenEnded.{OpenEnded}
+use Rattle.hc_saving.specs.Opens.{IsOpened}
+use Rattle.hc_saving.proofs.Opened.{opened_once}
+use Rattle.hc_app.specs.declared.command.Command.{Command}
 use Rattle.hc_app.specs.declared.command.Command.TheVariants as command
 use Rattle.hc_app.specs.declared.status.Status.{Status}
 use Rattle.hc_app.specs.declared.status.Status.TheVariants as status
 use Rattle.hc_wire.specs.Logs.{Log}
 use Rattle.hc_wire.specs.declared.event.Address.{Address}
-use Rattle.hc_app.specs.Commands.{IsCommand, replay, generate, origin, serve}
+use Rattle.hc_app.specs.Commands.{IsCommand, replay, save, reopen, generate, origin, serve}
+use Rattle.hc_app.specs.Generating as generates
 use Rattle.hc_app.specs.Generating.{generating}
+use Rattle.hc_app.specs.Opening as opening
+use Rattle.hc_app.specs.Opening.{IsRefusedImage, IsTaken}
 use Rattle.hc_app.specs.Owing as owing
-use Rattle.hc_app.specs.Owing.{Streams, Quiet, Saying, Does}
+use Rattle.hc_app.specs.Owing.{Streams, Duty, Quiet, Saying, Does}
 use Rattle.hc_app.specs.Program as program
-use Rattle.hc_app.specs.Program.{OwesUsage, Keeps, Ends, IsDue, Completes}
+use Rattle.hc_app.specs.Program.{OwesUsage, Keeps, Ends, IsDue, Completes, duty_of}
 use Rattle.hc_app.specs.Replaying as replaying
+use Rattle.hc_app.specs.Replaying.{store_limits}
+use Rattle.hc_app.specs.Saving as saving
 use Rattle.hc_app.specs.Statuses.{code_of}
 
 -- An ending that neither the input nor the outputs caused by a fault.
@@ -43,49 +58,86 @@ faultless status.SourceFailed source sink = source refl
 faultless status.SinkFailed source sink = sink refl
 faultless status.WireFailed source sink = tt
 faultless status.NoMemory source sink = tt
+faultless status.ImageRefused source sink = tt
 
 -- the exit number is that of this status, or that of want of memory
 abbrev EndsWith : Status → Status → Type 0
 EndsWith ended due = (code_of ended ≡ code_of due) ⊎ (code_of ended ≡ 6)
 
--- words ask for one thing
-not_both : (words : List (List ℕ)) (seed count : ℕ) → IsCommand words command.Replay → IsCommand words (command.Generate seed count) → ⊥
-not_both words seed count (replay one) (generate a b _ _ three a_is b_is few) = absurd (let never : 1 ≡ 3 = sym (ap length one) ∙ ap length three in cc)
+-- THE FIRST WORD
 
-no_replay_too : (words : List (List ℕ)) (listen : Address) (turns : ℕ) → IsCommand words command.Replay → IsCommand words (command.Origin listen turns) → ⊥
-no_replay_too words listen turns (replay one) (origin a b _ _ three a_is b_is) = absurd (let never : 1 ≡ 3 = sym (ap length one) ∙ ap length three in cc)
+abbrev name_of : Command → List ℕ
+name_of command.Replay = codes "replay"
+name_of (command.Generate seed count) = codes "generate"
+name_of (command.Origin listen turns) = codes "origin"
+name_of (command.Serve listen from turns) = codes "serve"
+name_of command.Save = codes "save"
+name_of command.Open = codes "open"
+
+named : (words : List (List ℕ)) (c : Command) → IsCommand words c → (rest : List (List ℕ)) × (words ≡ name_of c ∷ rest)
+named words _ (replay is) = ([], is)
+named words _ (generate first second seed count is first_is second_is few) = (first ∷ second ∷ [], is)
+named words _ (origin first second listen turns is first_is second_is) = (first ∷ second ∷ [], is)
+named words _ (serve first second third listen from turns is first_is second_is third_is) = (first ∷ second ∷ third ∷ [], is)
+named words _ (save is) = ([], is)
+named words _ (reopen is) = ([], is)
 
 first_of : (words : List (List ℕ)) (a b : List ℕ) (xs ys : List (List ℕ)) → words ≡ a ∷ xs → words ≡ b ∷ ys → a ≡ b
 first_of words a b xs ys one two = let same : a ∷ xs ≡ b ∷ ys = sym one ∙ two in cc
 
-no_generation_too : (words : List (List ℕ)) (seed count : ℕ) (listen : Address) (turns : ℕ) → IsCommand words (command.Generate seed count) → IsCommand words (command.Origin listen turns) → ⊥
-no_generation_too words seed count listen turns (generate a b _ _ one a_is b_is few) (origin e f _ _ two e_is f_is) =
-    absurd (let never : 8 ≡ 6 = ap length (first_of words (codes "generate") (codes "origin") (a ∷ b ∷ []) (e ∷ f ∷ []) one two) in cc)
+false_true : false ≡ true → ⊥
+false_true is = cc
 
-no_replay_serving : (words : List (List ℕ)) (listen from : Address) (turns : ℕ) → IsCommand words command.Replay → IsCommand words (command.Serve listen from turns) → ⊥
-no_replay_serving words listen from turns (replay one) (serve a b c _ _ _ four a_is b_is c_is) = absurd (let never : 1 ≡ 4 = sym (ap length one) ∙ ap length four in cc)
+-- WHAT IS REFUSED
 
-no_generation_serving : (words : List (List ℕ)) (seed count : ℕ) (listen from : Address) (turns : ℕ) → IsCommand words (command.Generate seed count) → IsCommand words (command.Serve listen from turns) → ⊥
-no_generation_serving words seed count listen from turns (generate a b _ _ three a_is b_is few) (serve d e f _ _ _ four d_is e_is f_is) =
-    absurd (let never : 3 ≡ 4 = sym (ap length three) ∙ ap length four in cc)
+refused_here : (moment : ℕ) (given : List ℕ) (rest : Option (List ℕ)) (text : List ℕ) (r : Refused) → Gives (Some given) rest text → endings.IsRefused moment text r → refusal_of moment given ≡ Some r
+refused_here moment given None text r gives refuses = absurd gives
+refused_here moment given (Some rest) text r gives refuses = ap (refusal_of moment) gives ∙ refuses rest
+
+-- what was refused is the text that was given
+refusal_is : (moment : ℕ) (given : List ℕ) (rest : Option (List ℕ)) (reach : Reach) (text : List ℕ) (r : Refused) → IsRead reach (Some given) rest text → IsRefusedIn moment text r reach → refusal_of moment given ≡ Some r
+refusal_is moment given rest _ text r read (endings.within at_once) = refused_here moment given rest text r read at_once.refuses
+refusal_is moment given rest _ text r read (endings.at_end unrefused refuses) = ap (refusal_of moment) (sym read.0) ∙ refuses
+
+-- an image is refused or not
+image_apart : (text schedule : List ℕ) (contents : Contents) (e : OpenEnded) → IsTaken text contents schedule → IsRefusedImage text e → ⊥
+image_apart text schedule contents _ taken (opening.bad_image none) = none contents taken.is_opened.image schedule taken.is_opened.is_image taken.is_opened.text_is
+image_apart text schedule contents _ taken (opening.bad_content s c i is says) =
+    let same = (opened_once text contents c schedule s taken.is_opened is).0 in
+    some_none (unfit.BadContent i) (sym says ∙ subst (λ (d : Contents). unfit_of store_limits d ≡ None) same taken.fits)
+image_apart text schedule contents _ taken (opening.full s c is says) =
+    let same = (opened_once text contents c schedule s taken.is_opened is).0 in
+    some_none unfit.Full (sym says ∙ subst (λ (d : Contents). unfit_of store_limits d ≡ None) same taken.fits)
+
+-- a refused line behind an image is that of the schedule behind it
+refusal_behind : (text schedule s : List ℕ) (contents c : Contents) (r : Refused) → IsTaken text contents schedule → IsTaken text c s → refusal_of c.now s ≡ Some r → refusal_of contents.now schedule ≡ Some r
+refusal_behind text schedule s contents c r taken other refused =
+    let same = opened_once text contents c schedule s taken.is_opened other.is_opened in
+    rw (same.0, same.1) refused
 
 module _ (left : List ℕ) (out diag : Option (List ℕ)) (o d : ℕ) (after : Streams) (wire wire' : Option Log) where
   abbrev start : Streams
   start = record { left = Some left; out = out; diag = diag; out_faults = o; diag_faults = d }
 
+  -- BY WHAT WAS OWED
+
+  by_owed : (duty : Duty) (due : Status)
+      → ((reach : Reach) (text report : List ℕ) → IsRead reach (Some left) after.left text → duty.Owes reach text (Quiet report) → EndsWith status.Done due)
+      → ((reach : Reach) (text report word : List ℕ) (s : Status) → IsRead reach (Some left) after.left text → duty.Owes reach text (Saying report word s) → EndsWith s due)
+      → (s : Status) → Does duty start after s → IsFaultless s → EndsWith s due
+  by_owed duty due quiet says _ (owing.done reach text report read owes took same) sound = quiet reach text report read owes
+  by_owed duty due quiet says _ (owing.said reach text report word s read owes took said) sound = says reach text report word s read owes
+  by_owed duty due quiet says _ (owing.unreadable text report gives stops took same) sound = absurd sound
+  by_owed duty due quiet says _ (owing.unwritten text report next gives begins took failed) sound = absurd sound
+  by_owed duty due quiet says _ (owing.wanting text report next gives begins took same) sound = inr refl
+  by_owed duty due quiet says _ (owing.unsaid reach text report word s read owes took said failed) sound = absurd sound
+  by_owed duty due quiet says _ (owing.wanting_word reach text report word s read owes took said) sound = inr refl
+  by_owed duty due quiet says _ (owing.wanting_all same) sound = inr refl
+
   -- REPLAYING
 
-  refused_here : (rest : Option (List ℕ)) (text : List ℕ) (r : Refused) → Gives (Some left) rest text → endings.IsRefused 0 text r → refusal_of 0 left ≡ Some r
-  refused_here None text r gives refuses = absurd gives
-  refused_here (Some rest) text r gives refuses = ap (refusal_of 0) gives ∙ refuses rest
-
-  -- what was refused is the text that was left
-  refusal_is : (reach : Reach) (text : List ℕ) (r : Refused) → IsRead reach (Some left) after.left text → IsRefusedIn 0 text r reach → refusal_of 0 left ≡ Some r
-  refusal_is _ text r read (endings.within at_once) = refused_here after.left text r read at_once.refuses
-  refusal_is _ text r read (endings.at_end unrefused refuses) = ap (refusal_of 0) (sym read.0) ∙ refuses
-
   not_refused : (items : List Item) (reach : Reach) (text report word : List ℕ) (s : Status) → Spells 0 left items → IsRead reach (Some left) after.left text → replaying.Replays reach text (Saying report word s) → ⊥
-  not_refused items _ text report _ _ spells read (replaying.refused reach _ _ r refuses is) = some_none r (sym (refusal_is reach text r read refuses) ∙ (is_read 0 left items spells).0)
+  not_refused items _ text report _ _ spells read (replaying.refused reach _ _ r refuses is) = some_none r (sym (refusal_is 0 left after.left reach text r read refuses) ∙ (is_read 0 left items spells).0)
 
   not_spelled : (r : Refused) (reach : Reach) (text report : List ℕ) → refusal_of 0 left ≡ Some r → IsRead reach (Some left) after.left text → replaying.Replays reach text (Quiet report) → ⊥
   not_spelled r _ text report refused read (replaying.spelled _ _ items spells is) = some_none r (sym refused ∙ (ap (refusal_of 0) (sym read.0) ∙ (is_read 0 text items spells).0))
@@ -93,76 +145,154 @@ module _ (left : List ℕ) (out diag : Option (List ℕ)) (o d : ℕ) (after : S
   says_refused : (reach : Reach) (text report word : List ℕ) (s : Status) → replaying.Replays reach text (Saying report word s) → code_of s ≡ 1
   says_refused _ text report _ _ (replaying.refused reach _ _ r refuses is) = refl
 
-  spelled_replays : (items : List Item) (s : Status) → Spells 0 left items → Does replaying.replaying start after s → IsFaultless s → EndsWith s status.Done
-  spelled_replays items _ spells (owing.done reach text report read owes took same) sound = inl refl
-  spelled_replays items _ spells (owing.said reach text report word s read owes took said) sound = absurd (not_refused items reach text report word s spells read owes)
-  spelled_replays items _ spells (owing.unreadable text report gives stops took same) sound = absurd sound
-  spelled_replays items _ spells (owing.unwritten text report next gives begins took failed) sound = absurd sound
-  spelled_replays items _ spells (owing.wanting text report next gives begins took same) sound = inr refl
-  spelled_replays items _ spells (owing.unsaid reach text report word s read owes took said failed) sound = absurd sound
-  spelled_replays items _ spells (owing.wanting_word reach text report word s read owes took said) sound = inr refl
-  spelled_replays items _ spells (owing.wanting_all same) sound = inr refl
+  spelled_replays : (items : List Item) → Spells 0 left items → (s : Status) → Does replaying.replaying start after s → IsFaultless s → EndsWith s status.Done
+  spelled_replays items spells =
+      by_owed replaying.replaying status.Done (λ reach text report read owes. inl refl)
+      (λ reach text report word s read owes. absurd (not_refused items reach text report word s spells read owes))
 
-  refused_replays : (r : Refused) (s : Status) → refusal_of 0 left ≡ Some r → Does replaying.replaying start after s → IsFaultless s → EndsWith s status.Refused
-  refused_replays r _ refused (owing.done reach text report read owes took same) sound = absurd (not_spelled r reach text report refused read owes)
-  refused_replays r _ refused (owing.said reach text report word s read owes took said) sound = inl (says_refused reach text report word s owes)
-  refused_replays r _ refused (owing.unreadable text report gives stops took same) sound = absurd sound
-  refused_replays r _ refused (owing.unwritten text report next gives begins took failed) sound = absurd sound
-  refused_replays r _ refused (owing.wanting text report next gives begins took same) sound = inr refl
-  refused_replays r _ refused (owing.unsaid reach text report word s read owes took said failed) sound = absurd sound
-  refused_replays r _ refused (owing.wanting_word reach text report word s read owes took said) sound = inr refl
-  refused_replays r _ refused (owing.wanting_all same) sound = inr refl
+  refused_replays : (r : Refused) → refusal_of 0 left ≡ Some r → (s : Status) → Does replaying.replaying start after s → IsFaultless s → EndsWith s status.Refused
+  refused_replays r refused =
+      by_owed replaying.replaying status.Refused (λ reach text report read owes. absurd (not_spelled r reach text report refused read owes))
+      (λ reach text report word s read owes. inl (says_refused reach text report word s owes))
+
+  -- SAVING
+
+  save_unrefused : (items : List Item) (reach : Reach) (text report word : List ℕ) (s : Status) → Spells 0 left items → IsRead reach (Some left) after.left text → saving.Saves reach text (Saying report word s) → ⊥
+  save_unrefused items _ text _ _ _ spells read (saving.refused reach _ r refuses) = some_none r (sym (refusal_is 0 left after.left reach text r read refuses) ∙ (is_read 0 left items spells).0)
+
+  save_unspelled : (r : Refused) (reach : Reach) (text report : List ℕ) → refusal_of 0 left ≡ Some r → IsRead reach (Some left) after.left text → saving.Saves reach text (Quiet report) → ⊥
+  save_unspelled r _ text report refused read (saving.spelled _ _ items spells is) = some_none r (sym refused ∙ (ap (refusal_of 0) (sym read.0) ∙ (is_read 0 text items spells).0))
+
+  save_says : (reach : Reach) (text report word : List ℕ) (s : Status) → saving.Saves reach text (Saying report word s) → code_of s ≡ 1
+  save_says _ text _ _ _ (saving.refused reach _ r refuses) = refl
+
+  spelled_saves : (items : List Item) → Spells 0 left items → (s : Status) → Does saving.saving start after s → IsFaultless s → EndsWith s status.Done
+  spelled_saves items spells =
+      by_owed saving.saving status.Done (λ reach text report read owes. inl refl)
+      (λ reach text report word s read owes. absurd (save_unrefused items reach text report word s spells read owes))
+
+  refused_saves : (r : Refused) → refusal_of 0 left ≡ Some r → (s : Status) → Does saving.saving start after s → IsFaultless s → EndsWith s status.Refused
+  refused_saves r refused =
+      by_owed saving.saving status.Refused (λ reach text report read owes. absurd (save_unspelled r reach text report refused read owes))
+      (λ reach text report word s read owes. inl (save_says reach text report word s owes))
+
+  -- OPENING
+
+  module _ (contents : Contents) (schedule : List ℕ) (taken : IsTaken left contents schedule) where
+    taken_at : (text : List ℕ) → text ≡ left → IsTaken text contents schedule
+    taken_at text same = subst (λ (l : List ℕ). IsTaken l contents schedule) (sym same) taken
+
+    open_unrefused : (items : List Item) (reach : Reach) (text report word : List ℕ) (s : Status) → Spells contents.now schedule items → IsRead reach (Some left) after.left text → opening.Opens reach text (Saying report word s) → ⊥
+    open_unrefused items _ text _ _ _ spells read (opening.refused_image _ e why) = image_apart text schedule contents e (taken_at text read.0) why
+    open_unrefused items _ text report _ _ spells read (opening.refused _ other part _ c reach rest r is so_far refuses continued) =
+        some_none r (sym (refusal_behind text schedule other contents c r (taken_at text read.0) is (refusal_is c.now other rest reach part r so_far refuses)) ∙ (is_read contents.now schedule items spells).0)
+
+    open_unspelled : (r : Refused) (reach : Reach) (text report : List ℕ) → refusal_of contents.now schedule ≡ Some r → IsRead reach (Some left) after.left text → opening.Opens reach text (Quiet report) → ⊥
+    open_unspelled r _ text report refused read (opening.spelled _ other _ c items is spells continued) =
+        some_none r (sym (refusal_behind text other schedule c contents r is (taken_at text read.0) refused) ∙ (is_read c.now other items spells).0)
+
+    open_says : (reach : Reach) (text report word : List ℕ) (s : Status) → IsRead reach (Some left) after.left text → opening.Opens reach text (Saying report word s) → code_of s ≡ 1
+    open_says _ text _ _ _ read (opening.refused_image _ e why) = absurd (image_apart text schedule contents e (taken_at text read.0) why)
+    open_says _ text report _ _ read (opening.refused _ other part _ c reach rest r is so_far refuses continued) = refl
+
+    spelled_opens : (items : List Item) → Spells contents.now schedule items → (s : Status) → Does opening.opening start after s → IsFaultless s → EndsWith s status.Done
+    spelled_opens items spells =
+        by_owed opening.opening status.Done (λ reach text report read owes. inl refl)
+        (λ reach text report word s read owes. absurd (open_unrefused items reach text report word s spells read owes))
+
+    refused_opens : (r : Refused) → refusal_of contents.now schedule ≡ Some r → (s : Status) → Does opening.opening start after s → IsFaultless s → EndsWith s status.Refused
+    refused_opens r refused =
+        by_owed opening.opening status.Refused (λ reach text report read owes. absurd (open_unspelled r reach text report refused read owes))
+        (λ reach text report word s read owes. inl (open_says reach text report word s read owes))
+
+  module _ (e : OpenEnded) (why : IsRefusedImage left e) where
+    why_at : (text : List ℕ) → text ≡ left → IsRefusedImage text e
+    why_at text same = subst (λ (l : List ℕ). IsRefusedImage l e) (sym same) why
+
+    image_unspelled : (reach : Reach) (text report : List ℕ) → IsRead reach (Some left) after.left text → opening.Opens reach text (Quiet report) → ⊥
+    image_unspelled _ text report read (opening.spelled _ other _ c items is spells continued) = image_apart text other c e is (why_at text read.0)
+
+    image_says : (reach : Reach) (text report word : List ℕ) (s : Status) → IsRead reach (Some left) after.left text → opening.Opens reach text (Saying report word s) → code_of s ≡ 7
+    image_says _ text _ _ _ read (opening.refused_image _ other so) = refl
+    image_says _ text report _ _ read (opening.refused _ other part _ c reach rest r is so_far refuses continued) = absurd (image_apart text other c e is (why_at text read.0))
+
+    refused_image_opens : (s : Status) → Does opening.opening start after s → IsFaultless s → EndsWith s status.ImageRefused
+    refused_image_opens =
+        by_owed opening.opening status.ImageRefused (λ reach text report read owes. absurd (image_unspelled reach text report read owes))
+        (λ reach text report word s read owes. inl (image_says reach text report word s read owes))
 
   -- GENERATING, AND THE USAGE
 
+  says_nothing : (seed count : ℕ) (reach : Reach) (text out word : List ℕ) (s : Status) → generates.Generates seed count reach text (Saying out word s) → ⊥
+  says_nothing seed count reach text out word s owes = elim owes [ ]
+
   made : (seed count : ℕ) (s : Status) → Does (generating seed count) start after s → IsFaultless s → EndsWith s status.Done
-  made seed count _ (owing.done reach text summary read owes took same) sound = inl refl
-  made seed count _ (owing.said reach text summary word s read owes took said) sound = elim owes [ ]
-  made seed count _ (owing.unreadable text summary gives stops took same) sound = absurd sound
-  made seed count _ (owing.unwritten text summary next gives begins took failed) sound = absurd sound
-  made seed count _ (owing.wanting text summary next gives begins took same) sound = inr refl
-  made seed count _ (owing.unsaid reach text summary word s read owes took said failed) sound = absurd sound
-  made seed count _ (owing.wanting_word reach text summary word s read owes took said) sound = inr refl
-  made seed count _ (owing.wanting_all same) sound = inr refl
+  made seed count =
+      by_owed (generating seed count) status.Done (λ reach text report read owes. inl refl)
+      (λ reach text report word s read owes. absurd (says_nothing seed count reach text report word s owes))
+
+  never_quiet : (reach : Reach) (text out : List ℕ) → OwesUsage reach text (Quiet out) → ⊥
+  never_quiet reach text out owes = elim owes [ ]
 
   says_usage : (reach : Reach) (text out word : List ℕ) (s : Status) → OwesUsage reach text (Saying out word s) → code_of s ≡ 2
   says_usage _ _ _ _ _ program.usage_alone = refl
 
   told : (s : Status) → Does program.telling_usage start after s → IsFaultless s → EndsWith s status.Usage
-  told _ (owing.done reach text none read owes took same) sound = elim owes [ ]
-  told _ (owing.said reach text none word s read owes took said) sound = inl (says_usage reach text none word s owes)
-  told _ (owing.unreadable text none gives stops took same) sound = absurd sound
-  told _ (owing.unwritten text none next gives begins took failed) sound = absurd sound
-  told _ (owing.wanting text none next gives begins took same) sound = inr refl
-  told _ (owing.unsaid reach text none word s read owes took said failed) sound = absurd sound
-  told _ (owing.wanting_word reach text none word s read owes took said) sound = inr refl
-  told _ (owing.wanting_all same) sound = inr refl
+  told =
+      by_owed program.telling_usage status.Usage (λ reach text report read owes. absurd (never_quiet reach text report owes))
+      (λ reach text report word s read owes. inl (says_usage reach text report word s owes))
 
   -- BY THE WORDS
 
   module _ (words : List (List ℕ)) where
+    same_name : (a b : Command) → IsCommand words a → IsCommand words b → bytes_eq (name_of a) (name_of b) ≡ true
+    same_name a b one two =
+        let p = named words a one in
+        let q = named words b two in
+        (bytes_eq-Decides (name_of a) (name_of b)).1 (first_of words (name_of a) (name_of b) p.0 q.0 p.1 q.1)
+
+    differ : (a b : Command) → bytes_eq (name_of a) (name_of b) ≡ false → IsCommand words a → IsCommand words b → ⊥
+    differ a b off one two = false_true (sym off ∙ same_name a b one two)
+
+    -- what was done has the name of what was asked for
+    record Asked (c : Command) (s : Status) : Type 0 where
+      done : Command
+      named_so : bytes_eq (name_of done) (name_of c) ≡ true
+      did : Does (duty_of done) start after s
+
+    asked : (s : Status) (c : Command) → bytes_eq (codes "origin") (name_of c) ≡ false → bytes_eq (codes "serve") (name_of c) ≡ false → IsCommand words c → Keeps words start after wire wire' s → Asked c s
+    asked s c off_origin off_serve is (program.obeyed done word did same) = record { done = done; named_so = same_name done c word is; did = did }
+    asked s c off_origin off_serve is (program.answered listen turns word did same) = absurd (differ (command.Origin listen turns) c off_origin word is)
+    asked s c off_origin off_serve is (program.served listen from turns word did same) = absurd (differ (command.Serve listen from turns) c off_serve word is)
+    asked s c off_origin off_serve is (program.told none did same) = absurd (none c is)
+
+    did_replay : (c : Command) (s : Status) → bytes_eq (name_of c) (codes "replay") ≡ true → Does (duty_of c) start after s → Does replaying.replaying start after s
+    did_replay command.Replay s same did = did
+    did_replay _ s same did = absurd (false_true same)
+
+    did_save : (c : Command) (s : Status) → bytes_eq (name_of c) (codes "save") ≡ true → Does (duty_of c) start after s → Does saving.saving start after s
+    did_save command.Save s same did = did
+    did_save _ s same did = absurd (false_true same)
+
+    did_open : (c : Command) (s : Status) → bytes_eq (name_of c) (codes "open") ≡ true → Does (duty_of c) start after s → Does opening.opening start after s
+    did_open command.Open s same did = did
+    did_open _ s same did = absurd (false_true same)
+
+    did_generate : (c : Command) (s : Status) → bytes_eq (name_of c) (codes "generate") ≡ true → Does (duty_of c) start after s → IsFaultless s → EndsWith s status.Done
+    did_generate (command.Generate seed count) s same did sound = made seed count s did sound
+    did_generate _ s same did sound = absurd (false_true same)
+
     keeps_due : (s due : Status) → IsDue words left due → Keeps words start after wire wire' s → IsFaultless s → EndsWith s due
-    keeps_due s _ (program.spelled items is spells) (program.obeyed command.Replay word did same) sound = spelled_replays items s spells did sound
-    keeps_due s _ (program.spelled items is spells) (program.obeyed (command.Generate seed count) word did same) sound = absurd (not_both words seed count is word)
-    keeps_due s _ (program.spelled items is spells) (program.told none did same) sound = absurd (none command.Replay is)
-    keeps_due s _ (program.spelled items is spells) (program.obeyed (command.Origin listen turns) word did same) sound = absurd (no_replay_too words listen turns is word)
-    keeps_due s _ (program.spelled items is spells) (program.answered listen turns word did same) sound = absurd (no_replay_too words listen turns is word)
-    keeps_due s _ (program.spelled items is spells) (program.obeyed (command.Serve listen from turns) word did same) sound = absurd (no_replay_serving words listen from turns is word)
-    keeps_due s _ (program.spelled items is spells) (program.served listen from turns word did same) sound = absurd (no_replay_serving words listen from turns is word)
-    keeps_due s _ (program.refused r is refused) (program.obeyed command.Replay word did same) sound = refused_replays r s refused did sound
-    keeps_due s _ (program.refused r is refused) (program.obeyed (command.Generate seed count) word did same) sound = absurd (not_both words seed count is word)
-    keeps_due s _ (program.refused r is refused) (program.told none did same) sound = absurd (none command.Replay is)
-    keeps_due s _ (program.refused r is refused) (program.obeyed (command.Origin listen turns) word did same) sound = absurd (no_replay_too words listen turns is word)
-    keeps_due s _ (program.refused r is refused) (program.answered listen turns word did same) sound = absurd (no_replay_too words listen turns is word)
-    keeps_due s _ (program.refused r is refused) (program.obeyed (command.Serve listen from turns) word did same) sound = absurd (no_replay_serving words listen from turns is word)
-    keeps_due s _ (program.refused r is refused) (program.served listen from turns word did same) sound = absurd (no_replay_serving words listen from turns is word)
-    keeps_due s _ (program.generated seed count is) (program.obeyed command.Replay word did same) sound = absurd (not_both words seed count word is)
-    keeps_due s _ (program.generated seed count is) (program.obeyed (command.Generate a b) word did same) sound = made a b s did sound
-    keeps_due s _ (program.generated seed count is) (program.told none did same) sound = absurd (none (command.Generate seed count) is)
-    keeps_due s _ (program.generated seed count is) (program.obeyed (command.Origin listen turns) word did same) sound = absurd (no_generation_too words seed count listen turns is word)
-    keeps_due s _ (program.generated seed count is) (program.answered listen turns word did same) sound = absurd (no_generation_too words seed count listen turns is word)
-    keeps_due s _ (program.generated seed count is) (program.obeyed (command.Serve listen from turns) word did same) sound = absurd (no_generation_serving words seed count listen from turns is word)
-    keeps_due s _ (program.generated seed count is) (program.served listen from turns word did same) sound = absurd (no_generation_serving words seed count listen from turns is word)
+    keeps_due s _ (program.spelled items is spells) keeps sound = let q = asked s command.Replay refl refl is keeps in spelled_replays items spells s (did_replay q.done s q.named_so q.did) sound
+    keeps_due s _ (program.refused r is refused) keeps sound = let q = asked s command.Replay refl refl is keeps in refused_replays r refused s (did_replay q.done s q.named_so q.did) sound
+    keeps_due s _ (program.generated seed count is) keeps sound = let q = asked s (command.Generate seed count) refl refl is keeps in did_generate q.done s q.named_so q.did sound
+    keeps_due s _ (program.saved items is spells) keeps sound = let q = asked s command.Save refl refl is keeps in spelled_saves items spells s (did_save q.done s q.named_so q.did) sound
+    keeps_due s _ (program.unsaved r is refused) keeps sound = let q = asked s command.Save refl refl is keeps in refused_saves r refused s (did_save q.done s q.named_so q.did) sound
+    keeps_due s _ (program.opened contents schedule items is taken spells) keeps sound =
+        let q = asked s command.Open refl refl is keeps in spelled_opens contents schedule taken items spells s (did_open q.done s q.named_so q.did) sound
+    keeps_due s _ (program.stopped contents schedule r is taken refused) keeps sound =
+        let q = asked s command.Open refl refl is keeps in refused_opens contents schedule taken r refused s (did_open q.done s q.named_so q.did) sound
+    keeps_due s _ (program.no_image e is why) keeps sound = let q = asked s command.Open refl refl is keeps in refused_image_opens e why s (did_open q.done s q.named_so q.did) sound
     keeps_due s _ (program.no_command none) (program.obeyed word_is word did same) sound = absurd (none word_is word)
     keeps_due s _ (program.no_command none) (program.told other did same) sound = told s did sound
     keeps_due s _ (program.no_command none) (program.answered listen turns word did same) sound = absurd (none (command.Origin listen turns) word)

@@ -45,11 +45,11 @@ use Rattle.hc_app.specs.Texts.{usage_text}
 
 -- NO WIRE IS USED
 
-no_wire : (Went : How → List Timed → Type 0) (left left' : Option (List ℕ)) → endings.Ends Went 0 left left' ended.WireFailed → ⊥
-no_wire Went left left' ends = elim ends [ ]
+no_wire : (Went : How → List Timed → Type 0) (moment : ℕ) (left left' : Option (List ℕ)) → endings.Ends Went moment left left' ended.WireFailed → ⊥
+no_wire Went moment left left' ends = elim ends [ ]
 
-pub never_wire : (Went : How → List Timed → Type 0) (left left' : Option (List ℕ)) (e : Ended) → endings.Ends Went 0 left left' e → e ≢ ended.WireFailed
-never_wire Went left left' e ends = λ is. no_wire Went left left' (subst (λ (x : Ended). endings.Ends Went 0 left left' x) is ends)
+pub never_wire : (Went : How → List Timed → Type 0) (moment : ℕ) (left left' : Option (List ℕ)) (e : Ended) → endings.Ends Went moment left left' e → e ≢ ended.WireFailed
+never_wire Went moment left left' e ends = λ is. no_wire Went moment left left' (subst (λ (x : Ended). endings.Ends Went moment left left' x) is ends)
 
 -- REPLAYING
 

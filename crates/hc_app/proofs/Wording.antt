@@ -8,7 +8,7 @@ use Rattle.hc_text.specs.Numbers.{IsPlain}
 use Rattle.hc_app.specs.declared.command.Command.TheVariants as command
 use Rattle.hc_wire.specs.declared.event.Address.{Address}
 use Rattle.hc_app.specs.Addresses.{IsAddress}
-use Rattle.hc_app.specs.Commands.{IsCommand, IsNoCommand, IsNoGeneration, IsNoOrigin, replay, generate, origin, serve}
+use Rattle.hc_app.specs.Commands.{IsCommand, IsNoCommand, IsNoGeneration, IsNoOrigin, replay, save, reopen, generate, origin, serve}
 
 -- HOW MANY THERE ARE
 
@@ -27,6 +27,8 @@ three_of (x ∷ y ∷ z ∷ w ∷ more) a b c three a_is b_is c_is = absurd (ome
 -- neither one nor three nor four
 pub other_count : (words : List (List ℕ)) → (length words ≡ 1 → ⊥) → (length words ≡ 3 → ⊥) → (length words ≡ 4 → ⊥) → IsNoCommand words
 other_count words not_one not_three not_four _ (replay is) = not_one (ap length is)
+other_count words not_one not_three not_four _ (save is) = not_one (ap length is)
+other_count words not_one not_three not_four _ (reopen is) = not_one (ap length is)
 other_count words not_one not_three not_four _ (generate first second seed count is first_is second_is few) = not_three (ap length is)
 other_count words not_one not_three not_four _ (origin first second listen turns is first_is second_is) = not_three (ap length is)
 other_count words not_one not_three not_four _ (serve first second third listen from turns is first_is second_is third_is) = not_four (ap length is)
@@ -55,11 +57,19 @@ third_of a b c d e f xs ys is = cc
 pub is_replay : (word : List ℕ) → bytes_eq word (codes "replay") ≡ true → IsCommand (word ∷ []) command.Replay
 is_replay word is = replay (ap (λ (w : List ℕ). w ∷ []) (same_text word (codes "replay") is))
 
-pub no_replay : (word : List ℕ) → bytes_eq word (codes "replay") ≡ false → IsNoCommand (word ∷ [])
-no_replay word off _ (replay is) = other_text word (codes "replay") off (head_of word (codes "replay") [] [] is)
-no_replay word off _ (generate first second seed count is first_is second_is few) = absurd (let never : 1 ≡ 3 = ap length is in cc)
-no_replay word off _ (origin first second listen turns is first_is second_is) = absurd (let never : 1 ≡ 3 = ap length is in cc)
-no_replay word off _ (serve first second third listen from turns is first_is second_is third_is) = absurd (let never : 1 ≡ 4 = ap length is in cc)
+pub is_save : (word : List ℕ) → bytes_eq word (codes "save") ≡ true → IsCommand (word ∷ []) command.Save
+is_save word is = save (ap (λ (w : List ℕ). w ∷ []) (same_text word (codes "save") is))
+
+pub is_open : (word : List ℕ) → bytes_eq word (codes "open") ≡ true → IsCommand (word ∷ []) command.Open
+is_open word is = reopen (ap (λ (w : List ℕ). w ∷ []) (same_text word (codes "open") is))
+
+pub no_word : (word : List ℕ) → bytes_eq word (codes "replay") ≡ false → bytes_eq word (codes "save") ≡ false → bytes_eq word (codes "open") ≡ false → IsNoCommand (word ∷ [])
+no_word word off_replay off_save off_open _ (replay is) = other_text word (codes "replay") off_replay (head_of word (codes "replay") [] [] is)
+no_word word off_replay off_save off_open _ (save is) = other_text word (codes "save") off_save (head_of word (codes "save") [] [] is)
+no_word word off_replay off_save off_open _ (reopen is) = other_text word (codes "open") off_open (head_of word (codes "open") [] [] is)
+no_word word off_replay off_save off_open _ (generate first second seed count is first_is second_is few) = absurd (let never : 1 ≡ 3 = ap length is in cc)
+no_word word off_replay off_save off_open _ (origin first second listen turns is first_is second_is) = absurd (let never : 1 ≡ 3 = ap length is in cc)
+no_word word off_replay off_save off_open _ (serve first second third listen from turns is first_is second_is third_is) = absurd (let never : 1 ≡ 4 = ap length is in cc)
 
 module _ (word first second : List ℕ) where
   abbrev words : List (List ℕ)
@@ -101,6 +111,8 @@ module _ (word first second : List ℕ) where
 
   pub neither : IsNoGeneration words → IsNoOrigin words → IsNoCommand words
   neither none other _ (replay is) = absurd (let no : 3 ≡ 1 = ap length is in cc)
+  neither none other _ (save is) = absurd (let no : 3 ≡ 1 = ap length is in cc)
+  neither none other _ (reopen is) = absurd (let no : 3 ≡ 1 = ap length is in cc)
   neither none other _ (generate one two seed count is one_is two_is few) = none seed count (generate one two seed count is one_is two_is few)
   neither none other _ (origin one two listen turns is one_is two_is) = other listen turns (origin one two listen turns is one_is two_is)
   neither none other _ (serve one two three listen from turns is one_is two_is three_is) = absurd (let no : 3 ≡ 4 = ap length is in cc)
@@ -118,6 +130,8 @@ module _ (word first second third : List ℕ) where
 
   no_serving : ((listen from : Address) (turns : ℕ) → word ≡ codes "serve" → IsAddress first listen → IsAddress second from → IsPlain third turns → ⊥) → IsNoCommand four
   no_serving never _ (replay is) = absurd (let no : 4 ≡ 1 = ap length is in cc)
+  no_serving never _ (save is) = absurd (let no : 4 ≡ 1 = ap length is in cc)
+  no_serving never _ (reopen is) = absurd (let no : 4 ≡ 1 = ap length is in cc)
   no_serving never _ (generate one two seed count is one_is two_is few) = absurd (let no : 4 ≡ 3 = ap length is in cc)
   no_serving never _ (origin one two listen turns is one_is two_is) = absurd (let no : 4 ≡ 3 = ap length is in cc)
   no_serving never _ (serve one two three listen from turns is one_is two_is three_is) =

@@ -9,6 +9,8 @@ use Rattle.hc_app.specs.declared.command.Command.TheVariants as command
 -- what the words ask for
 pub data IsCommand (words : List (List ℕ)) : Command → Type 0 where
   replay : words ≡ codes "replay" ∷ [] → IsCommand words command.Replay
+  save : words ≡ codes "save" ∷ [] → IsCommand words command.Save
+  reopen : words ≡ codes "open" ∷ [] → IsCommand words command.Open
   -- the seed, and how many rounds there are
   generate : (first second : List ℕ) (seed count : ℕ) →
       words ≡ codes "generate" ∷ first ∷ second ∷ [] → IsPlain first seed → IsPlain second count →

@@ -8,4 +8,6 @@ pub mod Replaying
 pub mod Generating
 pub mod Answering
 pub mod Serving
+pub mod Saving
+pub mod Opening
 pub mod Program

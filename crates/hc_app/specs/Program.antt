@@ -1,10 +1,12 @@
--- What the program does. Read `Owing` first: what any command does with its streams, by its status. Then what each owes: `Replaying`
--- and `Generating`.
+-- What the program does. Read `Owing` first: what any command does with its streams, by its status. Then what each owes:
+-- `Replaying`, `Generating`, `Saving` and `Opening`.
 use Rattle.std.specs.Prelude.{◌≡◌, ◌⊎◌, ℕ, List, [], Option, Some}
 use Rattle.hc_sched.specs.declared.schedule.Refused.{Refused}
 use Rattle.hc_sched.specs.Laws.{refusal_of}
 use Rattle.hc_sched.specs.Schedule.{Item, Spells}
 use Rattle.hc_driver.specs.Endings.{Reach, SoFar}
+use Rattle.hc_model.specs.Entries.{Contents}
+use Rattle.hc_saving.specs.declared.open.OpenEnded.{OpenEnded}
 use Rattle.hc_wire.specs.Logs.{Log}
 use Rattle.hc_wire.specs.declared.event.Address.{Address}
 use Rattle.hc_app.specs.declared.command.Command.{Command}
@@ -15,7 +17,9 @@ use Rattle.hc_app.specs.Answering.{AnswersOrigin}
 use Rattle.hc_app.specs.Commands.{IsCommand, IsNoCommand}
 use Rattle.hc_app.specs.Generating.{generating}
 use Rattle.hc_app.specs.Owing.{Streams, Owed, Saying, Duty, NeverStops, NeverBegins, Does}
+use Rattle.hc_app.specs.Opening.{IsTaken, IsRefusedImage, opening}
 use Rattle.hc_app.specs.Replaying.{replaying}
+use Rattle.hc_app.specs.Saving.{saving}
 use Rattle.hc_app.specs.Serving.{ServesFrom, IsSilent}
 use Rattle.hc_app.specs.Statuses.{code_of}
 use Rattle.hc_app.specs.Texts.{usage_text}
@@ -33,6 +37,8 @@ no_duty = record { Owes = OwesNothing; Stops = NeverStops; Begins = NeverBegins 
 abbrev pub duty_of : Command → Duty
 duty_of command.Replay = replaying
 duty_of (command.Generate seed count) = generating seed count
+duty_of command.Save = saving
+duty_of command.Open = opening
 duty_of (command.Origin listen turns) = no_duty
 duty_of (command.Serve listen origin turns) = no_duty
 
@@ -75,6 +81,18 @@ pub data IsDue (words : List (List ℕ)) (input : List ℕ) : Status → Type 0 
       refusal_of 0 input ≡ Some refused → IsDue words input status.Refused
   generated : (seed count : ℕ) → IsCommand words (command.Generate seed count) →
       IsDue words input status.Done
+  saved : (items : List Item) → IsCommand words command.Save → Spells 0 input items →
+      IsDue words input status.Done
+  unsaved : (refused : Refused) → IsCommand words command.Save →
+      refusal_of 0 input ≡ Some refused → IsDue words input status.Refused
+  opened : (contents : Contents) (schedule : List ℕ) (items : List Item) →
+      IsCommand words command.Open → IsTaken input contents schedule →
+      Spells contents.now schedule items → IsDue words input status.Done
+  stopped : (contents : Contents) (schedule : List ℕ) (refused : Refused) →
+      IsCommand words command.Open → IsTaken input contents schedule →
+      refusal_of contents.now schedule ≡ Some refused → IsDue words input status.Refused
+  no_image : (e : OpenEnded) → IsCommand words command.Open → IsRefusedImage input e →
+      IsDue words input status.ImageRefused
   no_command : IsNoCommand words → IsDue words input status.Usage
 
 -- it comes, or that of want of memory

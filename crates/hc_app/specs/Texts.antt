@@ -4,6 +4,8 @@ use Rattle.std.specs.Fmt.{decimal}
 use Rattle.hc_sched.specs.declared.schedule.Refused.{Refused}
 use Rattle.hc_sched.specs.declared.schedule.SchedRefusal.{SchedRefusal}
 use Rattle.hc_sched.specs.declared.schedule.SchedRefusal.TheVariants as why
+use Rattle.hc_saving.specs.declared.open.OpenEnded.{OpenEnded}
+use Rattle.hc_saving.specs.declared.open.OpenEnded.TheVariants as opened
 
 -- the number and the name of a refusal
 abbrev pub refusal_line : SchedRefusal → List ℕ
@@ -17,5 +19,12 @@ refusal_line why.CutShort = codes ": 5 CutShort" ++ 10 ∷ []
 abbrev pub refusal_text : Refused → List ℕ
 refusal_text refused = codes "line " ++ decimal refused.line ++ refusal_line refused.why
 
+-- the text for a refused image; of one that was taken nothing is said
+abbrev pub image_text : OpenEnded → List ℕ
+image_text opened.BadImage = codes "image: 1 BadImage" ++ 10 ∷ []
+image_text (opened.BadContent i) = codes "image: 2 BadContent " ++ (decimal i ++ 10 ∷ [])
+image_text opened.Full = codes "image: 3 Full" ++ 10 ∷ []
+image_text (opened.Ran e) = []
+
 abbrev pub usage_text : List ℕ
-usage_text = codes "usage: replay | generate SEED COUNT | serve LISTEN ORIGIN TURNS | origin LISTEN TURNS" ++ 10 ∷ []
+usage_text = codes "usage: replay | generate SEED COUNT | serve LISTEN ORIGIN TURNS | origin LISTEN TURNS | save | open" ++ 10 ∷ []

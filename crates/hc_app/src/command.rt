@@ -31,6 +31,10 @@ pub(crate) enum Command {
         origin: Address,
         turns: u64,
     },
+    /// A schedule is read, and the image of what it leaves is written.
+    Save,
+    /// An image is read and a schedule behind it, whose report is written.
+    Open,
 }
 
 /// The command that the words spell.
@@ -39,20 +43,25 @@ pub(crate) fn command_of(words: &[String]) -> Option<Command>
     ensures none { IfNone result (IsNoCommand (map string_bytes words.now)) }
 {
     match words {
-        [word] => replay_by(word),
+        [word] => by_one(word),
         [word, first, second] => by_three(word, first, second),
         [word, first, second, third] => serving_by(word, first, second, third),
         _ => None,
     }
 }
 
-/// A replay, where the word asks for one.
-fn replay_by(word: &String) -> Option<Command>
+/// What one word asks for.
+fn by_one(word: &String) -> Option<Command>
     ensures found { IfSome result (IsCommand (string_bytes word.now ∷ [])) }
     ensures none { IfNone result (IsNoCommand (string_bytes word.now ∷ [])) }
 {
-    if word.as_str() == "replay" {
+    let word = word.as_str();
+    if word == "replay" {
         Some(Command::Replay)
+    } else if word == "save" {
+        Some(Command::Save)
+    } else if word == "open" {
+        Some(Command::Open)
     } else {
         None
     }

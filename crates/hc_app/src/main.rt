@@ -1,5 +1,6 @@
-//! The program: schedules in, reports out; schedules that are generated, and their summary; the test
-//! origin.
+//! The program. Schedules come in, and their reports go out; or what they leave is saved as an image,
+//! from which a later run goes on. Schedules are generated, and their summary goes out. Clients are
+//! served from an origin, and there is an origin for tests.
 #![tactic(auto)]
 
 mod address;

@@ -13,42 +13,51 @@ ghost use Rattle.hc_app.specs.Generating.{generating};
 ghost use Rattle.hc_app.specs.Owing.{streams, Does};
 ghost use Rattle.hc_app.specs.Program.{Ends, Keeps, Completes};
 ghost use Rattle.hc_app.specs.Replaying.{replaying};
+ghost use Rattle.hc_app.specs.Saving.{saving};
+ghost use Rattle.hc_app.specs.Opening.{opening, ConcludesOpen};
+ghost use Rattle.hc_saving.specs.declared.open.OpenEnded.TheVariants as opened;
 ghost use Rattle.hc_sched.specs.declared.schedule.Ended.TheVariants as ended;
 
 use crate::command::{Command, command_of};
-use crate::say::{say_refusal, say_usage};
-use crate::status::{Status, stopped};
+use crate::say::{say_image, say_refusal, say_usage};
+use crate::status::{Status, stopped, unbound};
 use hc_core::Cache;
 use hc_io::{PlainSink, PlainSource, Sink, Source};
 use hc_origin::origin_on;
 use hc_proxy::serve_on;
 use hc_replay::{PROGRAM_LIMITS, generate, replay};
+use hc_saving::{OpenEnded, reopen, save};
 use hc_sched::Ended;
 use hc_store::Memory;
-use hc_wire::{Address, Wire, WireError};
+use hc_wire::{Address, Wire};
 use std::alloc::Global;
 
 /// Does what the words say, and answers the exit status. `replay` reads a schedule from `input` and
 /// writes its report to `out`; `generate SEED COUNT` writes the summary of so many rounds of the
 /// generator to `out`, at most 1,000,000; `serve LISTEN ORIGIN TURNS` serves clients over `wire` for so
 /// many turns, and writes what it steps to `out`, as a schedule; `origin LISTEN TURNS` answers as the
-/// test origin over `wire` for so many turns, and uses no stream. `diag` is written for a refused line
-/// and for the usage alone, and for a refused line only after the whole report.
+/// test origin over `wire` for so many turns, and uses no stream; `save` reads a schedule from `input`
+/// and writes the image of what it leaves to `out`; `open` reads an image and a schedule behind it from
+/// `input`, and writes the report of that to `out`. `diag` is written for a refused line, for a refused
+/// image and for the usage alone, and for a refused line only after the whole report.
 ///
 /// - 0: all that is due is written: the input is a schedule and `out` has its report, which is that of
-///   a run, or the summary of the rounds.
+///   a run, or its image, or the summary of the rounds; or the turns are made, and `out` has the record
+///   of `serve`.
 /// - 1: the input is refused at a line, which ends in the last 16,384 bytes that were read. `out`
-///   has the report of all events before it, and `diag` the line and why.
+///   has the report of all events before it, or at `save` nothing, and `diag` the line and why.
 /// - 2: the words are no command. `diag` has the usage, and nothing is read.
-/// - 3: `input` failed, and no line of what was read is refused. `out` has the report of the events
-///   whose items are whole in it.
+/// - 3: `input` failed. No line of what was read is refused, and `out` has the report of the events
+///   whose items are whole in it; or at `save` and `open` nothing.
 /// - 4: `out` failed: it has the report of all events that were stepped but the last, and some
-///   first part of the last one's, or of the summary. Or `diag` failed: `out` has all that was due.
+///   first part of the last one's, or of the summary, the image or the record. Or `diag` failed: `out`
+///   has all that was due.
 /// - 5: `wire` failed, which `serve` and `origin` alone use.
 /// - 6: there was not enough memory. Each has some first part of what was due.
+/// - 7: the words are `open`, and the image is refused. `diag` has why, and `out` nothing.
 ///
 /// At 4 and 6 all events before the last 16,384 bytes that were read were stepped: nothing is read on
-/// before what was read is stepped and reported.
+/// before what was read is stepped and reported. `open` reads all of its input first.
 ///
 /// What `ends` says of bytes it says of streams that tell them, as those in memory do. Streams over
 /// std tell none, so there it says which status comes.
@@ -82,9 +91,9 @@ pub fn run<S: Source, K: Sink, D: Sink, W: Wire>(
     obey(alloc, words, input, out, diag, wire).code()
 }
 
-/// A run over streams that never fail: it ends with 0 where the input is a schedule or the words ask
-/// for a summary, with 1 where the input is refused, with 2 where the words are no command, or for
-/// want of memory with 6.
+/// A run over streams that never fail: it ends with 0 where the input is a schedule, at `open` behind
+/// an image, or the words ask for a summary, with 1 where the schedule is refused, with 2 where the words
+/// are no command, with 7 where the image is refused, or for want of memory with 6.
 pub fn run_plain<W: Wire>(
     alloc: Global,
     words: &[String],
@@ -145,6 +154,8 @@ fn obey<S: Source, K: Sink, D: Sink, W: Wire>(
                 turns,
             },
         ) => serve(alloc, listen, origin, turns, out, wire),
+        Some(Command::Save) => save_input(alloc, input, out, diag),
+        Some(Command::Open) => open_input(alloc, input, out, diag),
         None => match say_usage(diag) {
             Ok(()) => Status::Usage,
             Err(e) => stopped(e),
@@ -181,6 +192,81 @@ fn replay_input<S: Source, K: Sink, D: Sink>(
         return Status::NoMemory;
     };
     let end = replay(alloc, 0, &mut cache, input, out);
+    conclude(alloc, end, diag)
+}
+
+/// Saves what a new cache in memory leaves behind the input.
+fn save_input<S: Source, K: Sink, D: Sink>(
+    alloc: Global,
+    input: &mut S,
+    out: &mut K,
+    diag: &mut D,
+) -> Status
+    ensures does { Does saving
+        (streams (S.left input.old) (K.taken out.old) (D.taken diag.old)
+        (K.faults out.old) (D.faults diag.old))
+        (streams (S.left input.new) (K.taken out.new) (D.taken diag.new)
+        (K.faults out.new) (D.faults diag.new))
+        result }
+    ensures source_failed { result ≡ Status.SourceFailed
+        → HasRisen (S.faults input.old) (S.faults input.new) }
+    ensures source_calm { result ≢ Status.SourceFailed
+        → S.faults input.new ≡ S.faults input.old }
+    ensures sink_failed { result ≡ Status.SinkFailed
+        → HasRisen (K.faults out.old) (K.faults out.new)
+        ⊎ HasRisen (D.faults diag.old) (D.faults diag.new) }
+    ensures sinks_calm { result ≢ Status.SinkFailed → (K.faults out.new ≡ K.faults out.old)
+        × (D.faults diag.new ≡ D.faults diag.old) }
+    ensures wireless { result ≢ Status.WireFailed }
+{
+    let store = Memory::new(alloc, PROGRAM_LIMITS);
+    let Ok(cache) = Cache::new(store, PROGRAM_LIMITS, alloc) else {
+        return Status::NoMemory;
+    };
+    let end = save(alloc, cache, input, out);
+    conclude(alloc, end, diag)
+}
+
+/// Goes on from the image in the input.
+fn open_input<S: Source, K: Sink, D: Sink>(
+    alloc: Global,
+    input: &mut S,
+    out: &mut K,
+    diag: &mut D,
+) -> Status
+    ensures does { Does opening
+        (streams (S.left input.old) (K.taken out.old) (D.taken diag.old)
+        (K.faults out.old) (D.faults diag.old))
+        (streams (S.left input.new) (K.taken out.new) (D.taken diag.new)
+        (K.faults out.new) (D.faults diag.new))
+        result }
+    ensures source_failed { result ≡ Status.SourceFailed
+        → HasRisen (S.faults input.old) (S.faults input.new) }
+    ensures source_calm { result ≢ Status.SourceFailed
+        → S.faults input.new ≡ S.faults input.old }
+    ensures sink_failed { result ≡ Status.SinkFailed
+        → HasRisen (K.faults out.old) (K.faults out.new)
+        ⊎ HasRisen (D.faults diag.old) (D.faults diag.new) }
+    ensures sinks_calm { result ≢ Status.SinkFailed → (K.faults out.new ≡ K.faults out.old)
+        × (D.faults diag.new ≡ D.faults diag.old) }
+    ensures wireless { result ≢ Status.WireFailed }
+{
+    let end = reopen(alloc, PROGRAM_LIMITS, input, out);
+    conclude_open(alloc, end, diag)
+}
+
+/// Tells how an open ended, and answers the status.
+fn conclude_open<D: Sink>(alloc: Global, end: OpenEnded, diag: &mut D) -> Status
+    requires wireless { end ≢ opened.Ran ended.WireFailed }
+    ensures { ConcludesOpen (D.taken diag.old) (D.taken diag.new) (D.faults diag.old)
+        (D.faults diag.new) end result }
+{
+    let OpenEnded::Ran(end) = end else {
+        return match say_image(alloc, end, diag) {
+            Ok(()) => Status::ImageRefused,
+            Err(e) => stopped(e),
+        };
+    };
     conclude(alloc, end, diag)
 }
 
@@ -222,10 +308,7 @@ fn answer<W: Wire>(alloc: Global, listen: Address, turns: u64, wire: &mut W) -> 
 {
     match wire.bind(Some(listen), None) {
         Ok(()) => answered(origin_on(alloc, wire, turns)),
-        Err(e) => match e {
-            WireError::WireFailed => Status::WireFailed,
-            WireError::NoMemory => Status::NoMemory,
-        },
+        Err(e) => unbound(e),
     }
 }
 
@@ -269,10 +352,7 @@ fn serve<K: Sink, W: Wire>(
     };
     match wire.bind(Some(listen), Some(origin)) {
         Ok(()) => served(serve_on(alloc, cache, wire, out, turns)),
-        Err(e) => match e {
-            WireError::WireFailed => Status::WireFailed,
-            WireError::NoMemory => Status::NoMemory,
-        },
+        Err(e) => unbound(e),
     }
 }
 

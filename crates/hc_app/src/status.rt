@@ -1,16 +1,17 @@
 //! How the program ends.
 ghost use Rattle.std.specs.Prelude.{◌≡◌};
-ghost use Rattle.hc_app.specs.Statuses.{code_of, stopped_as};
+ghost use Rattle.hc_app.specs.Statuses.{code_of, stopped_as, unbound_as};
 
 use hc_io::SinkError;
+use hc_wire::WireError;
 
 /// How the program ended.
 #[derive(Clone, Copy, Debug, PartialEq, Eq)]
 pub enum Status {
     /// All that is due is written.
     Done,
-    /// The schedule is refused. The report of all earlier events is written, and `diag` has the line
-    /// and why.
+    /// The schedule is refused. The report of all earlier events is written, where one is due, and
+    /// `diag` has the line and why.
     Refused,
     /// The words are no command. `diag` has the usage.
     Usage,
@@ -22,6 +23,8 @@ pub enum Status {
     WireFailed,
     /// There was not enough memory.
     NoMemory,
+    /// The image is refused. Nothing is written, and `diag` has why.
+    ImageRefused,
 }
 
 impl Status {
@@ -37,6 +40,7 @@ impl Status {
             Status::SinkFailed => 4,
             Status::WireFailed => 5,
             Status::NoMemory => 6,
+            Status::ImageRefused => 7,
         }
     }
 }
@@ -48,5 +52,15 @@ pub(crate) fn stopped(error: SinkError) -> Status
     match error {
         SinkError::SinkFailed => Status::SinkFailed,
         SinkError::NoMemory => Status::NoMemory,
+    }
+}
+
+/// How the program ends where nothing could be bound.
+pub(crate) fn unbound(error: WireError) -> Status
+    ensures { result ≡ unbound_as error }
+{
+    match error {
+        WireError::WireFailed => Status::WireFailed,
+        WireError::NoMemory => Status::NoMemory,
     }
 }

@@ -22,3 +22,9 @@ returns-in-Some-Origin-clause-keeps g c = answered _ _ (subst (IsCommand _) c.in
 pub returns-in-Some-Serve-clause-keeps : goal.returns-in-Some-Serve-clause-keeps
 returns-in-Some-Serve-clause-keeps g c =
     served _ _ _ (subst (IsCommand _) c.in-Some-Serve.field-0-is c.in-Some-Serve.ensures.found) c.serve.ensures.serves (record { unread = refl; unsaid = refl; sound = refl })
+
+pub returns-in-Some-Save-clause-keeps : goal.returns-in-Some-Save-clause-keeps
+returns-in-Some-Save-clause-keeps g c = obeyed _ (subst (IsCommand _) c.in-Some-Save.field-0-is c.in-Some-Save.ensures.found) c.save_input.ensures.does refl
+
+pub returns-in-Some-Open-clause-keeps : goal.returns-in-Some-Open-clause-keeps
+returns-in-Some-Open-clause-keeps g c = obeyed _ (subst (IsCommand _) c.in-Some-Open.field-0-is c.in-Some-Open.ensures.found) c.open_input.ensures.does refl

@@ -12,7 +12,7 @@ pub replay-end-requires-clause-later : goal.replay-end-requires-clause-later
 replay-end-requires-clause-later g c = new_moment c.in-Ok.cache c.in-Ok.ensures.stands
 
 pub conclude-requires : goal.conclude-requires
-conclude-requires g c = record { wireless = never_wire _ _ _ _ c.replay-end.ensures.ends }
+conclude-requires g c = record { wireless = never_wire _ _ _ _ _ c.replay-end.ensures.ends }
 
 pub returns-clause-does : goal.returns-clause-does
 returns-clause-does g c = does_replay c.in-Ok.cache c.in-Ok.ensures.stands c.in-Ok.ensures.limits (λ u. refl) _ _ _ _ _ _ _ _ _ _ _ _ _ c.replay-end.ensures.ends c.conclude.ensures c.replay-end.ensures.sink c.replay-end.ensures.sink_calm

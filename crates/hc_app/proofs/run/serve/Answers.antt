@@ -3,7 +3,7 @@ use Rattle.hc_rules.specs.declared.room.Limits.{Limits}
 use Rattle.hc_wire.specs.Wires.{HasRisen}
 use Rattle.hc_proxy.specs.Serving.{ServesAs}
 use Rattle.hc_app.specs.Serving as serving
-use Rattle.hc_app.proofs.Served.{never_source, wire_is, wire_off, sink_is, sink_off}
+use Rattle.hc_app.proofs.Served.{never_source, wire_is, wire_off, sink_is, sink_off, unbound_serves}
 use Rattle.hc_app.proofs.run.serve.Goals as goal
 
 pub returns-in_default-clause-serves : goal.returns-in_default-clause-serves
@@ -32,8 +32,5 @@ returns-in-Ok-bind-clause-wire_failed g c = λ is.
 pub returns-in-Ok-bind-clause-wire_calm : goal.returns-in-Ok-bind-clause-wire_calm
 returns-in-Ok-bind-clause-wire_calm g c = λ off. c.serve_on.ensures.wire_calm (wire_off _ _ c.served.ensures off) ∙ c.in-Ok-bind.ensures.cause.calm
 
-pub returns-in-WireFailed-clause-serves : goal.returns-in-WireFailed-clause-serves
-returns-in-WireFailed-clause-serves g c = serving.unbound c.in-Err.ensures.err refl
-
-pub returns-clause-serves : goal.returns-clause-serves
-returns-clause-serves g c = serving.wanting_all c.in-Err.ensures.err refl
+pub returns-in-Err-clause-serves : goal.returns-in-Err-clause-serves
+returns-in-Err-clause-serves g c = rw c.unbound.ensures (unbound_serves _ _ _ _ _ _ _ _ c.in-Err.ensures.err refl)

@@ -4,27 +4,22 @@
 -- the front's event, by definition. What is kept of each consumer is as it is to be (Watchings). So the front stands for one
 -- event more (`answers`), whichever way the event was answered: as it came (`passes`, `starts_unwatched`, `polls_unwatched`,
 -- `cancels`), without its condition (`starts_denied`, `starts_on`), by an end (`polls_end`), or by a 304 (`polls_on`).
-use Rattle.std.proofs.Common.{◌≡◌, ℕ, ◌+◌, ◌≤◌, Bool, true, false, eqb, List, [], ◌∷◌, ◌++◌, map, Option, Some, None, refl, sym, ap, ◌∙◌, subst, arith}
-use Rattle.std.specs.Prelude.{◌&&◌, is_some, nat_eq, nat_lt, if◌then◌else◌}
+use Rattle.std.proofs.Common.{◌≡◌, ℕ, Bool, true, false, List, [], ◌∷◌, ◌++◌, map, Option, Some, None, refl, sym, ap, ◌∙◌, subst, arith}
+use Rattle.std.specs.Prelude.{nat_eq, if◌then◌else◌}
 use Rattle.std.specs.List.{list_any}
-use Rattle.std.specs.Option.{option_and_then}
 use Rattle.hc_store.specs.declared.backend.Backend.{Ghosts}
 use Rattle.hc_event.specs.Filters.{is_denied, leaves_in}
 use Rattle.hc_event.specs.declared.act.Act.{Act}
 use Rattle.hc_event.specs.declared.act.Act.TheVariants as act
-use Rattle.hc_event.specs.declared.act.Cause.TheVariants as cause
 use Rattle.hc_event.specs.declared.event.Event.{Event}
 use Rattle.hc_event.specs.declared.event.Event.TheVariants as event
 use Rattle.hc_event.specs.declared.event.Request.{Request}
-use Rattle.hc_rules.specs.declared.room.Limits.{Limits}
-use Rattle.hc_model.specs.Entries.{Entry, Contents, History}
+use Rattle.hc_model.specs.Entries.{Contents}
 use Rattle.hc_model.specs.Flaws.{Flaw, flaw_in, failures_in, is_fault, flaw_by}
 use Rattle.hc_model.specs.Lawful.{Lawful}
 use Rattle.hc_model.specs.Rows.{Tables}
 use Rattle.hc_model.specs.Runs.{IsOwed}
-use Rattle.hc_model.specs.Tables.{tables}
 use Rattle.hc_laws.proofs.LawfulRuns.{lawful_in_runs}
-use Rattle.hc_core.specs.declared.cache.Cache.{Cache}
 use Rattle.hc_core.specs.Steps as core
 use Rattle.hc_core.specs.Steps.{StandsFor, Answers}
 use Rattle.hc_front.specs.declared.front.Front.{Front}
@@ -35,8 +30,8 @@ use Rattle.hc_condition.specs.Telling.{act_told, is_satisfying}
 use Rattle.hc_front.specs.Watching.{watched_in, newly, settled, ChangesAt}
 use Rattle.hc_front.specs.Fronts.{Fronted, Heard, is_watched, is_ending, handed, told, core_entry, front_after}
 use Rattle.hc_front.specs.FrontHistories.{FrontHistory, fronted, core_of}
-use Rattle.hc_front.specs.Steps.{FrontStands, FrontAnswers, limits_in, faults_in, steps}
-use Rattle.hc_front.proofs.Watchings.{core_is, watched_live, one_and_others, others_keep, cancels_own, cancels_others, handed_as_it_is, handed_without, unwatched_start, denied_start, start_others, starts_watched, handed_poll, handed_cancel, poll_others, poll_none, poll_ends, poll_leaves, poll_satisfies, poll_goes_on}
+use Rattle.hc_front.specs.Steps.{FrontStands, FrontAnswers, limits_in}
+use Rattle.hc_front.proofs.Watchings.{core_is, watched_live, one_and_others, others_keep, cancels_own, cancels_others, handed_as_it_is, handed_without, unwatched_start, denied_start, start_others, starts_watched, poll_others, poll_none, poll_ends, poll_leaves, poll_satisfies, poll_goes_on}
 
 -- WHAT THE ACTS TELL OF THE STORE
 

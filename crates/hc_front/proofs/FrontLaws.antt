@@ -2,14 +2,13 @@
 --
 -- Nobody is under watch then (`nobody_watched`): only a start of an external request puts somebody there. So what is handed on is
 -- what came, and what is told is what was heard (`plain_else`).
-use Rattle.std.proofs.Common.{◌≡◌, ℕ, Bool, true, false, List, [], ◌∷◌, Option, Some, None, refl, sym, ap, ◌∙◌, subst}
-use Rattle.std.specs.Prelude.{◌&&◌, not, nat_eq, is_some, if◌then◌else◌}
+use Rattle.std.proofs.Common.{◌≡◌, ℕ, Bool, true, false, List, [], ◌∷◌, Option, Some, None, refl, sym, ap, ◌∙◌}
+use Rattle.std.specs.Prelude.{◌&&◌, not, nat_eq, if◌then◌else◌}
 use Rattle.hc_event.specs.Filters.{is_denied}
 use Rattle.hc_event.specs.declared.act.Act.{Act}
 use Rattle.hc_event.specs.declared.event.Event.{Event}
 use Rattle.hc_event.specs.declared.event.Event.TheVariants as event
 use Rattle.hc_event.specs.declared.event.Request.{Request}
-use Rattle.hc_model.specs.Currents.{current}
 use Rattle.hc_model.specs.Denials.{is_live}
 use Rattle.hc_model.specs.Entries.{Entry, History, Contents}
 use Rattle.hc_model.specs.Rows.{Tables, Consumer}
@@ -18,7 +17,7 @@ use Rattle.hc_replay.specs.Histories.{run_of}
 use Rattle.hc_front.specs.declared.watches.Watched.{Watched}
 use Rattle.hc_condition.specs.External.{is_external}
 use Rattle.hc_front.specs.Fronts.{Fronted, Heard, is_watched, is_ending, handed, told, watched_by, while_live, core_entry, front_after}
-use Rattle.hc_front.specs.FrontHistories.{FrontHistory, fronted, core_of, told_of}
+use Rattle.hc_front.specs.FrontHistories.{FrontHistory, fronted, told_of}
 use Rattle.hc_front.specs.Laws.{starts_external, HasNoneExternal, IsPlainElse}
 use Rattle.hc_front.specs.Watching.{newly}
 

@@ -3,7 +3,7 @@
 -- Each way is one of FrontAnswered, with the acts that the cache appended as what was heard. What the cache says of the key of a
 -- request is what the definitions ask (`watched_by_kind`).
 use Rattle.std.proofs.Common.{◌≡◌, ℕ, ◌+◌, ◌-◌, ◌≤◌, Bool, true, false, List, [], ◌∷◌, ◌++◌, length, take, drop, map, Option, Some, None, refl, sym, ap, ◌∙◌, subst, arith}
-use Rattle.std.specs.Prelude.{◌&&◌, not, codes, is_some, is_none, nat_lt, option_map, Result, Ok, Err, OnOk, OnErr, IfOk}
+use Rattle.std.specs.Prelude.{◌&&◌, not, codes, is_some, is_none, option_map, Result, Ok, Err, OnOk, OnErr, IfOk}
 use Rattle.std.specs.List.{list_any}
 use Rattle.std.proofs.lemmas.List.{append_assoc, length-append}
 use Rattle.std.proofs.Math.Seq.{take-append_seam, drop-append_seam, take-length}

@@ -19,7 +19,7 @@ use Rattle.hc_model.specs.Runs.{IsRun}
 use Rattle.hc_laws.proofs.ReadWhole.{runs_read_whole}
 use Rattle.hc_replay.specs.Histories.{failures}
 use Rattle.hc_front.specs.declared.front.Front.{Front}
-use Rattle.hc_front.specs.Fronts.{Heard, Fronted, told}
+use Rattle.hc_front.specs.Fronts.{Heard}
 use Rattle.hc_front.specs.FrontHistories.{FrontHistory, fronted, core_of, told_of, front_entry}
 use Rattle.hc_front.specs.Replays as replays
 use Rattle.hc_front.specs.Replays.{GoesOn, IsReplayed, ReplaysFront}

@@ -4,8 +4,8 @@
 -- poll (`stays`): laws of hc_laws. So all but the consumer of the event keep what they had (`keeps`). What is kept of that one
 -- is new where it starts (`starts_watched`), gone where it leaves (`gone`), and told that its copy holds by a poll that shows
 -- so (`polls_on`).
-use Rattle.std.proofs.Common.{◌≡◌, ◌≢◌, ℕ, Bool, true, false, eqb, List, [], ◌∷◌, ◌++◌, Option, Some, None, refl, sym, ap, ◌∙◌, subst, arith}
-use Rattle.std.specs.Prelude.{◌&&◌, ◌||◌, not, nat_eq, nat_le, nat_lt, if◌then◌else◌}
+use Rattle.std.proofs.Common.{◌≡◌, ℕ, Bool, true, false, List, [], ◌∷◌, Option, Some, None, refl, sym, ap, ◌∙◌, subst, arith}
+use Rattle.std.specs.Prelude.{◌&&◌, ◌||◌, not, nat_eq, nat_le, if◌then◌else◌}
 use Rattle.std.specs.List.{list_any}
 use Rattle.std.proofs.lemmas.Bool.{eqb-true, both_ways}
 use Rattle.std.proofs.lemmas.Bool.Decides.{nat_tests}
@@ -17,7 +17,7 @@ use Rattle.hc_event.specs.declared.event.Event.TheVariants as event
 use Rattle.hc_event.specs.declared.event.Request.{Request}
 use Rattle.hc_rules.specs.Refusals as refusals
 use Rattle.hc_rules.specs.declared.room.Limits.{Limits}
-use Rattle.hc_model.specs.ConsumerRows.{consumer_after, new_consumer}
+use Rattle.hc_model.specs.ConsumerRows.{consumer_after}
 use Rattle.hc_model.specs.Denials.{denial, is_live, live}
 use Rattle.hc_model.specs.Entries.{Entry, Contents}
 use Rattle.hc_model.specs.Lawful.{Lawful}

@@ -1,4 +1,4 @@
-use Rattle.std.proofs.Common.{refl, sym, ◌∙◌}
+use Rattle.std.proofs.Common.{refl}
 use Rattle.hc_front.proofs.FrontPaths.{on_four, has_passed, cancelled_at}
 use Rattle.hc_front.proofs.front.Front.answer.Goals as goal
 

@@ -1,4 +1,3 @@
-use Rattle.std.proofs.Common.{refl, ◌∙◌}
 use Rattle.hc_front.specs.FrontHistories.{fronted}
 use Rattle.hc_front.proofs.front.Front.new.Goals as goal
 

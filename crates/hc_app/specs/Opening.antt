@@ -1,6 +1,5 @@
 -- What an open owes: why the image is refused, or the report of the schedule behind it.
-use Rattle.std.specs.Prelude.{◌≡◌, ℕ, List, [], ◌∷◌, ◌++◌, codes, Option, Some, None}
-use Rattle.std.specs.Fmt.{decimal}
+use Rattle.std.specs.Prelude.{◌≡◌, ℕ, List, [], Option, Some, None}
 use Rattle.hc_io.specs.Faults.{HasRisen}
 use Rattle.hc_io.specs.Sink.{Takes, TakesFront}
 use Rattle.hc_io.specs.Source.{Gives}

@@ -3,3 +3,5 @@ pub mod FrontAnswered
 pub mod FrontPaths
 pub mod FrontReplayed
 pub mod FrontLaws
+pub mod Satisfied
+pub mod GoesPast

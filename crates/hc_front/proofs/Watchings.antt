@@ -91,6 +91,18 @@ whom (event.Poll c want) = c
 whom (event.Cancel c) = c
 whom _ = 0
 
+-- WHO STARTS IS NEW
+
+by_refusal : (late many : Bool) (n : ℕ) → (if late then Some (refusal.NotRising n) else if many then Some refusal.TooManyConsumers else None) ≡ None → late ≡ false
+by_refusal true many n h = absurd (some_none _ h)
+by_refusal false many n h = refl
+
+pub is_new : (t : Tables) → Lawful t → (d : ℕ) (request : Request) → denial t (event.Start d request) ≡ None → t.consumer d ≡ None
+unfolding refusals.refusal_of
+is_new t law d request on =
+    let off : nat_le d t.last_start ≡ false = by_refusal (nat_le d t.last_start) (nat_le 1024 (live t)) t.last_start on in
+    law.sound.numbered.lists.new_consumers d (grind (arith, nat_tests, off))
+
 -- BEHIND AN ENTRY
 
 module _ (limits : Limits) (t : Fronted) (law : Lawful t.core) (alive : (c : ℕ) (w : Watched) → t.watched c ≡ Some w → is_live (t.core.consumer c) ≡ true)
@@ -213,16 +225,6 @@ module _ (limits : Limits) (t : Fronted) (law : Lawful t.core) (alive : (c : ℕ
 
     -- WHO STARTS IS LIVE
 
-    by_refusal : (late many : Bool) (n : ℕ) → (if late then Some (refusal.NotRising n) else if many then Some refusal.TooManyConsumers else None) ≡ None → late ≡ false
-    by_refusal true many n h = absurd (some_none _ h)
-    by_refusal false many n h = refl
-
-    is_new : (other : Request) → denial t.core (event.Start d other) ≡ None → t.core.consumer d ≡ None
-    unfolding refusals.refusal_of
-    is_new other on =
-        let off : nat_le d t.core.last_start ≡ false = by_refusal (nat_le d t.core.last_start) (nat_le 1024 (live t.core)) t.core.last_start on in
-        law.sound.numbered.lists.new_consumers d (grind (arith, nat_tests, off))
-
     new_live : (other : Request) (it : Entry) → it.event ≡ event.Start d other → is_live (consumer_after t.core it d None) ≡ true
     unfolding consumer_after
     new_live other it at = rw (at, itself d) refl
@@ -231,7 +233,7 @@ module _ (limits : Limits) (t : Fronted) (law : Lawful t.core) (alive : (c : ℕ
     unfolding after
     starts_live on =
         let start = is_start (is_watched t.core request) refl in
-        let new = is_new start.0 (sym (ap (denial t.core) start.1) ∙ goes limits t.core (core_entry t started) is on) in
+        let new = is_new t.core law d start.0 (sym (ap (denial t.core) start.1) ∙ goes limits t.core (core_entry t started) is on) in
         rw on (ap (λ (o : Option Consumer). is_live (consumer_after t.core (core_entry t started) d o)) new ∙ new_live start.0 (core_entry t started) start.1)
 
     pub starts_watched : is_watched t.core request ≡ true → is_denied heard ≡ false → Some (newly request) ≡ (front_after t started).watched d

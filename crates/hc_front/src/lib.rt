@@ -8,5 +8,5 @@ mod stepping;
 mod watches;
 
 pub use front::Front;
-pub use laws::fronts_change_nothing_else;
+pub use laws::{conditions_go_on, fronts_change_nothing_else, satisfied_get_nothing};
 pub use replaying::replay_front;

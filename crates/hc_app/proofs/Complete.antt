@@ -30,7 +30,8 @@ use Rattle.hc_app.specs.declared.status.Status.{Status}
 use Rattle.hc_app.specs.declared.status.Status.TheVariants as status
 use Rattle.hc_wire.specs.Logs.{Log}
 use Rattle.hc_wire.specs.declared.event.Address.{Address}
-use Rattle.hc_app.specs.Commands.{IsCommand, replay, save, reopen, generate, origin, serve}
+use Rattle.hc_app.specs.Commands.{IsCommand, replay, save, reopen, conditional, generate, origin, serve}
+use Rattle.hc_app.specs.Fronting as fronting
 use Rattle.hc_app.specs.Generating as generates
 use Rattle.hc_app.specs.Generating.{generating}
 use Rattle.hc_app.specs.Opening as opening
@@ -73,6 +74,7 @@ name_of (command.Origin listen turns) = codes "origin"
 name_of (command.Serve listen from turns) = codes "serve"
 name_of command.Save = codes "save"
 name_of command.Open = codes "open"
+name_of command.Conditional = codes "conditional"
 
 named : (words : List (List ℕ)) (c : Command) → IsCommand words c → (rest : List (List ℕ)) × (words ≡ name_of c ∷ rest)
 named words _ (replay is) = ([], is)
@@ -81,6 +83,7 @@ named words _ (origin first second listen turns is first_is second_is) = (first 
 named words _ (serve first second third listen from turns is first_is second_is third_is) = (first ∷ second ∷ third ∷ [], is)
 named words _ (save is) = ([], is)
 named words _ (reopen is) = ([], is)
+named words _ (conditional is) = ([], is)
 
 first_of : (words : List (List ℕ)) (a b : List ℕ) (xs ys : List (List ℕ)) → words ≡ a ∷ xs → words ≡ b ∷ ys → a ≡ b
 first_of words a b xs ys one two = let same : a ∷ xs ≡ b ∷ ys = sym one ∙ two in cc
@@ -175,6 +178,27 @@ module _ (left : List ℕ) (out diag : Option (List ℕ)) (o d : ℕ) (after : S
   refused_saves r refused =
       by_owed saving.saving status.Refused (λ reach text report read owes. absurd (save_unspelled r reach text report refused read owes))
       (λ reach text report word s read owes. inl (save_says reach text report word s owes))
+
+  -- BEHIND A FRONT
+
+  front_unrefused : (items : List Item) (reach : Reach) (text report word : List ℕ) (s : Status) → Spells 0 left items → IsRead reach (Some left) after.left text → fronting.Fronts reach text (Saying report word s) → ⊥
+  front_unrefused items _ text report _ _ spells read (fronting.refused reach _ _ r refuses is) = some_none r (sym (refusal_is 0 left after.left reach text r read refuses) ∙ (is_read 0 left items spells).0)
+
+  front_unspelled : (r : Refused) (reach : Reach) (text report : List ℕ) → refusal_of 0 left ≡ Some r → IsRead reach (Some left) after.left text → fronting.Fronts reach text (Quiet report) → ⊥
+  front_unspelled r _ text report refused read (fronting.spelled _ _ items spells is) = some_none r (sym refused ∙ (ap (refusal_of 0) (sym read.0) ∙ (is_read 0 text items spells).0))
+
+  front_says : (reach : Reach) (text report word : List ℕ) (s : Status) → fronting.Fronts reach text (Saying report word s) → code_of s ≡ 1
+  front_says _ text report _ _ (fronting.refused reach _ _ r refuses is) = refl
+
+  spelled_fronts : (items : List Item) → Spells 0 left items → (s : Status) → Does fronting.fronting start after s → IsFaultless s → EndsWith s status.Done
+  spelled_fronts items spells =
+      by_owed fronting.fronting status.Done (λ reach text report read owes. inl refl)
+      (λ reach text report word s read owes. absurd (front_unrefused items reach text report word s spells read owes))
+
+  refused_fronts : (r : Refused) → refusal_of 0 left ≡ Some r → (s : Status) → Does fronting.fronting start after s → IsFaultless s → EndsWith s status.Refused
+  refused_fronts r refused =
+      by_owed fronting.fronting status.Refused (λ reach text report read owes. absurd (front_unspelled r reach text report refused read owes))
+      (λ reach text report word s read owes. inl (front_says reach text report word s owes))
 
   -- OPENING
 
@@ -278,6 +302,10 @@ module _ (left : List ℕ) (out diag : Option (List ℕ)) (o d : ℕ) (after : S
     did_open command.Open s same did = did
     did_open _ s same did = absurd (false_true same)
 
+    did_front : (c : Command) (s : Status) → bytes_eq (name_of c) (codes "conditional") ≡ true → Does (duty_of c) start after s → Does fronting.fronting start after s
+    did_front command.Conditional s same did = did
+    did_front _ s same did = absurd (false_true same)
+
     did_generate : (c : Command) (s : Status) → bytes_eq (name_of c) (codes "generate") ≡ true → Does (duty_of c) start after s → IsFaultless s → EndsWith s status.Done
     did_generate (command.Generate seed count) s same did sound = made seed count s did sound
     did_generate _ s same did sound = absurd (false_true same)
@@ -293,6 +321,8 @@ module _ (left : List ℕ) (out diag : Option (List ℕ)) (o d : ℕ) (after : S
     keeps_due s _ (program.stopped contents schedule r is taken refused) keeps sound =
         let q = asked s command.Open refl refl is keeps in refused_opens contents schedule taken r refused s (did_open q.done s q.named_so q.did) sound
     keeps_due s _ (program.no_image e is why) keeps sound = let q = asked s command.Open refl refl is keeps in refused_image_opens e why s (did_open q.done s q.named_so q.did) sound
+    keeps_due s _ (program.fronted items is spells) keeps sound = let q = asked s command.Conditional refl refl is keeps in spelled_fronts items spells s (did_front q.done s q.named_so q.did) sound
+    keeps_due s _ (program.unfronted r is refused) keeps sound = let q = asked s command.Conditional refl refl is keeps in refused_fronts r refused s (did_front q.done s q.named_so q.did) sound
     keeps_due s _ (program.no_command none) (program.obeyed word_is word did same) sound = absurd (none word_is word)
     keeps_due s _ (program.no_command none) (program.told other did same) sound = told s did sound
     keeps_due s _ (program.no_command none) (program.answered listen turns word did same) sound = absurd (none (command.Origin listen turns) word)

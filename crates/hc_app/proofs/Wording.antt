@@ -8,7 +8,7 @@ use Rattle.hc_text.specs.Numbers.{IsPlain}
 use Rattle.hc_app.specs.declared.command.Command.TheVariants as command
 use Rattle.hc_wire.specs.declared.event.Address.{Address}
 use Rattle.hc_app.specs.Addresses.{IsAddress}
-use Rattle.hc_app.specs.Commands.{IsCommand, IsNoCommand, IsNoGeneration, IsNoOrigin, replay, save, reopen, generate, origin, serve}
+use Rattle.hc_app.specs.Commands.{IsCommand, IsNoCommand, IsNoGeneration, IsNoOrigin, replay, save, reopen, conditional, generate, origin, serve}
 
 -- HOW MANY THERE ARE
 
@@ -29,6 +29,7 @@ pub other_count : (words : List (List ℕ)) → (length words ≡ 1 → ⊥) →
 other_count words not_one not_three not_four _ (replay is) = not_one (ap length is)
 other_count words not_one not_three not_four _ (save is) = not_one (ap length is)
 other_count words not_one not_three not_four _ (reopen is) = not_one (ap length is)
+other_count words not_one not_three not_four _ (conditional is) = not_one (ap length is)
 other_count words not_one not_three not_four _ (generate first second seed count is first_is second_is few) = not_three (ap length is)
 other_count words not_one not_three not_four _ (origin first second listen turns is first_is second_is) = not_three (ap length is)
 other_count words not_one not_three not_four _ (serve first second third listen from turns is first_is second_is third_is) = not_four (ap length is)
@@ -63,13 +64,17 @@ is_save word is = save (ap (λ (w : List ℕ). w ∷ []) (same_text word (codes 
 pub is_open : (word : List ℕ) → bytes_eq word (codes "open") ≡ true → IsCommand (word ∷ []) command.Open
 is_open word is = reopen (ap (λ (w : List ℕ). w ∷ []) (same_text word (codes "open") is))
 
-pub no_word : (word : List ℕ) → bytes_eq word (codes "replay") ≡ false → bytes_eq word (codes "save") ≡ false → bytes_eq word (codes "open") ≡ false → IsNoCommand (word ∷ [])
-no_word word off_replay off_save off_open _ (replay is) = other_text word (codes "replay") off_replay (head_of word (codes "replay") [] [] is)
-no_word word off_replay off_save off_open _ (save is) = other_text word (codes "save") off_save (head_of word (codes "save") [] [] is)
-no_word word off_replay off_save off_open _ (reopen is) = other_text word (codes "open") off_open (head_of word (codes "open") [] [] is)
-no_word word off_replay off_save off_open _ (generate first second seed count is first_is second_is few) = absurd (let never : 1 ≡ 3 = ap length is in cc)
-no_word word off_replay off_save off_open _ (origin first second listen turns is first_is second_is) = absurd (let never : 1 ≡ 3 = ap length is in cc)
-no_word word off_replay off_save off_open _ (serve first second third listen from turns is first_is second_is third_is) = absurd (let never : 1 ≡ 4 = ap length is in cc)
+pub is_conditional : (word : List ℕ) → bytes_eq word (codes "conditional") ≡ true → IsCommand (word ∷ []) command.Conditional
+is_conditional word is = conditional (ap (λ (w : List ℕ). w ∷ []) (same_text word (codes "conditional") is))
+
+pub no_word : (word : List ℕ) → bytes_eq word (codes "replay") ≡ false → bytes_eq word (codes "save") ≡ false → bytes_eq word (codes "open") ≡ false → bytes_eq word (codes "conditional") ≡ false → IsNoCommand (word ∷ [])
+no_word word off_replay off_save off_open off_conditional _ (replay is) = other_text word (codes "replay") off_replay (head_of word (codes "replay") [] [] is)
+no_word word off_replay off_save off_open off_conditional _ (save is) = other_text word (codes "save") off_save (head_of word (codes "save") [] [] is)
+no_word word off_replay off_save off_open off_conditional _ (reopen is) = other_text word (codes "open") off_open (head_of word (codes "open") [] [] is)
+no_word word off_replay off_save off_open off_conditional _ (conditional is) = other_text word (codes "conditional") off_conditional (head_of word (codes "conditional") [] [] is)
+no_word word off_replay off_save off_open off_conditional _ (generate first second seed count is first_is second_is few) = absurd (let never : 1 ≡ 3 = ap length is in cc)
+no_word word off_replay off_save off_open off_conditional _ (origin first second listen turns is first_is second_is) = absurd (let never : 1 ≡ 3 = ap length is in cc)
+no_word word off_replay off_save off_open off_conditional _ (serve first second third listen from turns is first_is second_is third_is) = absurd (let never : 1 ≡ 4 = ap length is in cc)
 
 module _ (word first second : List ℕ) where
   abbrev words : List (List ℕ)
@@ -113,6 +118,7 @@ module _ (word first second : List ℕ) where
   neither none other _ (replay is) = absurd (let no : 3 ≡ 1 = ap length is in cc)
   neither none other _ (save is) = absurd (let no : 3 ≡ 1 = ap length is in cc)
   neither none other _ (reopen is) = absurd (let no : 3 ≡ 1 = ap length is in cc)
+  neither none other _ (conditional is) = absurd (let no : 3 ≡ 1 = ap length is in cc)
   neither none other _ (generate one two seed count is one_is two_is few) = none seed count (generate one two seed count is one_is two_is few)
   neither none other _ (origin one two listen turns is one_is two_is) = other listen turns (origin one two listen turns is one_is two_is)
   neither none other _ (serve one two three listen from turns is one_is two_is three_is) = absurd (let no : 3 ≡ 4 = ap length is in cc)
@@ -132,6 +138,7 @@ module _ (word first second third : List ℕ) where
   no_serving never _ (replay is) = absurd (let no : 4 ≡ 1 = ap length is in cc)
   no_serving never _ (save is) = absurd (let no : 4 ≡ 1 = ap length is in cc)
   no_serving never _ (reopen is) = absurd (let no : 4 ≡ 1 = ap length is in cc)
+  no_serving never _ (conditional is) = absurd (let no : 4 ≡ 1 = ap length is in cc)
   no_serving never _ (generate one two seed count is one_is two_is few) = absurd (let no : 4 ≡ 3 = ap length is in cc)
   no_serving never _ (origin one two listen turns is one_is two_is) = absurd (let no : 4 ≡ 3 = ap length is in cc)
   no_serving never _ (serve one two three listen from turns is one_is two_is three_is) =

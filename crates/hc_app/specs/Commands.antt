@@ -11,6 +11,7 @@ pub data IsCommand (words : List (List ℕ)) : Command → Type 0 where
   replay : words ≡ codes "replay" ∷ [] → IsCommand words command.Replay
   save : words ≡ codes "save" ∷ [] → IsCommand words command.Save
   reopen : words ≡ codes "open" ∷ [] → IsCommand words command.Open
+  conditional : words ≡ codes "conditional" ∷ [] → IsCommand words command.Conditional
   -- the seed, and how many rounds there are
   generate : (first second : List ℕ) (seed count : ℕ) →
       words ≡ codes "generate" ∷ first ∷ second ∷ [] → IsPlain first seed → IsPlain second count →

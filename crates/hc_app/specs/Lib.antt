@@ -10,4 +10,5 @@ pub mod Answering
 pub mod Serving
 pub mod Saving
 pub mod Opening
+pub mod Fronting
 pub mod Program

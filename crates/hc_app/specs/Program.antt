@@ -1,5 +1,5 @@
 -- What the program does. Read `Owing` first: what any command does with its streams, by its status. Then what each owes:
--- `Replaying`, `Generating`, `Saving` and `Opening`.
+-- `Replaying`, `Generating`, `Saving`, `Opening` and `Fronting`.
 use Rattle.std.specs.Prelude.{◌≡◌, ◌⊎◌, ℕ, List, [], Option, Some}
 use Rattle.hc_sched.specs.declared.schedule.Refused.{Refused}
 use Rattle.hc_sched.specs.Laws.{refusal_of}
@@ -15,6 +15,7 @@ use Rattle.hc_app.specs.declared.status.Status.{Status}
 use Rattle.hc_app.specs.declared.status.Status.TheVariants as status
 use Rattle.hc_app.specs.Answering.{AnswersOrigin}
 use Rattle.hc_app.specs.Commands.{IsCommand, IsNoCommand}
+use Rattle.hc_app.specs.Fronting.{fronting}
 use Rattle.hc_app.specs.Generating.{generating}
 use Rattle.hc_app.specs.Owing.{Streams, Owed, Saying, Duty, NeverStops, NeverBegins, Does}
 use Rattle.hc_app.specs.Opening.{IsTaken, IsRefusedImage, opening}
@@ -39,6 +40,7 @@ duty_of command.Replay = replaying
 duty_of (command.Generate seed count) = generating seed count
 duty_of command.Save = saving
 duty_of command.Open = opening
+duty_of command.Conditional = fronting
 duty_of (command.Origin listen turns) = no_duty
 duty_of (command.Serve listen origin turns) = no_duty
 
@@ -93,6 +95,10 @@ pub data IsDue (words : List (List ℕ)) (input : List ℕ) : Status → Type 0 
       refusal_of contents.now schedule ≡ Some refused → IsDue words input status.Refused
   no_image : (e : OpenEnded) → IsCommand words command.Open → IsRefusedImage input e →
       IsDue words input status.ImageRefused
+  fronted : (items : List Item) → IsCommand words command.Conditional → Spells 0 input items →
+      IsDue words input status.Done
+  unfronted : (refused : Refused) → IsCommand words command.Conditional →
+      refusal_of 0 input ≡ Some refused → IsDue words input status.Refused
   no_command : IsNoCommand words → IsDue words input status.Usage
 
 -- it comes, or that of want of memory

@@ -27,4 +27,4 @@ image_text opened.Full = codes "image: 3 Full" ++ 10 ∷ []
 image_text (opened.Ran e) = []
 
 abbrev pub usage_text : List ℕ
-usage_text = codes "usage: replay | generate SEED COUNT | serve LISTEN ORIGIN TURNS | origin LISTEN TURNS | save | open" ++ 10 ∷ []
+usage_text = codes "usage: replay | generate SEED COUNT | serve LISTEN ORIGIN TURNS | origin LISTEN TURNS | save | open | conditional" ++ 10 ∷ []

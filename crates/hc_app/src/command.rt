@@ -35,6 +35,8 @@ pub(crate) enum Command {
     Save,
     /// An image is read and a schedule behind it, whose report is written.
     Open,
+    /// A schedule is read behind a front, and the report of what that tells is written.
+    Conditional,
 }
 
 /// The command that the words spell.
@@ -62,6 +64,8 @@ fn by_one(word: &String) -> Option<Command>
         Some(Command::Save)
     } else if word == "open" {
         Some(Command::Open)
+    } else if word == "conditional" {
+        Some(Command::Conditional)
     } else {
         None
     }

@@ -9,6 +9,7 @@ ghost use Rattle.hc_app.specs.Answering.{AnswersOrigin, IsEndedAs};
 ghost use Rattle.hc_proxy.specs.Endings as serving;
 ghost use Rattle.hc_app.specs.Serving.{ServesFrom, IsServedAs};
 ghost use Rattle.hc_app.specs.Concluding.{Concludes};
+ghost use Rattle.hc_app.specs.Fronting.{fronting};
 ghost use Rattle.hc_app.specs.Generating.{generating};
 ghost use Rattle.hc_app.specs.Owing.{streams, Does};
 ghost use Rattle.hc_app.specs.Program.{Ends, Keeps, Completes};
@@ -22,6 +23,7 @@ use crate::command::{Command, command_of};
 use crate::say::{say_image, say_refusal, say_usage};
 use crate::status::{Status, stopped, unbound};
 use hc_core::Cache;
+use hc_front::{Front, replay_front};
 use hc_io::{PlainSink, PlainSource, Sink, Source};
 use hc_origin::origin_on;
 use hc_proxy::serve_on;
@@ -38,8 +40,9 @@ use std::alloc::Global;
 /// many turns, and writes what it steps to `out`, as a schedule; `origin LISTEN TURNS` answers as the
 /// test origin over `wire` for so many turns, and uses no stream; `save` reads a schedule from `input`
 /// and writes the image of what it leaves to `out`; `open` reads an image and a schedule behind it from
-/// `input`, and writes the report of that to `out`. `diag` is written for a refused line, for a refused
-/// image and for the usage alone, and for a refused line only after the whole report.
+/// `input`, and writes the report of that to `out`; `conditional` is `replay` behind a front, which
+/// answers requests on condition of a copy that the caller has. `diag` is written for a refused line, for
+/// a refused image and for the usage alone, and for a refused line only after the whole report.
 ///
 /// - 0: all that is due is written: the input is a schedule and `out` has its report, which is that of
 ///   a run, or its image, or the summary of the rounds; or the turns are made, and `out` has the record
@@ -156,6 +159,7 @@ fn obey<S: Source, K: Sink, D: Sink, W: Wire>(
         ) => serve(alloc, listen, origin, turns, out, wire),
         Some(Command::Save) => save_input(alloc, input, out, diag),
         Some(Command::Open) => open_input(alloc, input, out, diag),
+        Some(Command::Conditional) => front_input(alloc, input, out, diag),
         None => match say_usage(diag) {
             Ok(()) => Status::Usage,
             Err(e) => stopped(e),
@@ -267,6 +271,39 @@ fn conclude_open<D: Sink>(alloc: Global, end: OpenEnded, diag: &mut D) -> Status
             Err(e) => stopped(e),
         };
     };
+    conclude(alloc, end, diag)
+}
+
+/// Replays the input through a front before a new cache in memory.
+fn front_input<S: Source, K: Sink, D: Sink>(
+    alloc: Global,
+    input: &mut S,
+    out: &mut K,
+    diag: &mut D,
+) -> Status
+    ensures does { Does fronting
+        (streams (S.left input.old) (K.taken out.old) (D.taken diag.old)
+        (K.faults out.old) (D.faults diag.old))
+        (streams (S.left input.new) (K.taken out.new) (D.taken diag.new)
+        (K.faults out.new) (D.faults diag.new))
+        result }
+    ensures source_failed { result ≡ Status.SourceFailed
+        → HasRisen (S.faults input.old) (S.faults input.new) }
+    ensures source_calm { result ≢ Status.SourceFailed
+        → S.faults input.new ≡ S.faults input.old }
+    ensures sink_failed { result ≡ Status.SinkFailed
+        → HasRisen (K.faults out.old) (K.faults out.new)
+        ⊎ HasRisen (D.faults diag.old) (D.faults diag.new) }
+    ensures sinks_calm { result ≢ Status.SinkFailed → (K.faults out.new ≡ K.faults out.old)
+        × (D.faults diag.new ≡ D.faults diag.old) }
+    ensures wireless { result ≢ Status.WireFailed }
+{
+    let store = Memory::new(alloc, PROGRAM_LIMITS);
+    let Ok(cache) = Cache::new(store, PROGRAM_LIMITS, alloc) else {
+        return Status::NoMemory;
+    };
+    let mut front = Front::new(alloc, cache);
+    let end = replay_front(alloc, 0, &mut front, input, out);
     conclude(alloc, end, diag)
 }
 

@@ -94,6 +94,6 @@ pub(crate) fn say_usage<D: Sink>(diag: &mut D) -> Result<(), SinkError>
 {
     write_all(
         diag,
-        b"usage: replay | generate SEED COUNT | serve LISTEN ORIGIN TURNS | origin LISTEN TURNS | save | open\n",
+        b"usage: replay | generate SEED COUNT | serve LISTEN ORIGIN TURNS | origin LISTEN TURNS | save | open | conditional\n",
     )
 }

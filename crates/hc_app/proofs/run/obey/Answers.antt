@@ -28,3 +28,6 @@ returns-in-Some-Save-clause-keeps g c = obeyed _ (subst (IsCommand _) c.in-Some-
 
 pub returns-in-Some-Open-clause-keeps : goal.returns-in-Some-Open-clause-keeps
 returns-in-Some-Open-clause-keeps g c = obeyed _ (subst (IsCommand _) c.in-Some-Open.field-0-is c.in-Some-Open.ensures.found) c.open_input.ensures.does refl
+
+pub returns-in-Some-Conditional-clause-keeps : goal.returns-in-Some-Conditional-clause-keeps
+returns-in-Some-Conditional-clause-keeps g c = obeyed _ (subst (IsCommand _) c.in-Some-Conditional.field-0-is c.in-Some-Conditional.ensures.found) c.front_input.ensures.does refl

@@ -98,3 +98,4 @@ mod HearsSome
 mod RoundOnly
 mod Causes
 mod Said
+pub mod Asked

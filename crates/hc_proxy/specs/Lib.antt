@@ -16,6 +16,7 @@ pub mod Loops
 pub mod Endings
 pub mod Laws
 pub mod Sentences
+pub mod Asked
 pub mod Invariants
 pub mod Logging
 pub mod Stops

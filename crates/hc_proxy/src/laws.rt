@@ -1,4 +1,5 @@
 //! What holds of each loop, as contracts of functions that do nothing.
+ghost use Rattle.hc_proxy.specs.Asked.{StartsAreAsked};
 ghost use Rattle.hc_proxy.specs.Laws.{LoopsAreRuns};
 ghost use Rattle.hc_proxy.specs.Sentences.{LogsAreAsSaid, EndsAreAsSaid};
 
@@ -18,4 +19,10 @@ pub fn logs_are_as_said()
 /// nothing lacking but where less was taken than was offered.
 pub fn ends_are_as_said()
     ensures { EndsAreAsSaid }
+{}
+
+/// Whatever a log says, consumers are started for what clients asked: each is a client's, and those of
+/// one client were started for its first requests, each once and in their order.
+pub fn starts_are_asked()
+    ensures { StartsAreAsked }
 {}

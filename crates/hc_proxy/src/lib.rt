@@ -13,5 +13,5 @@ mod serve;
 mod starts;
 mod stop;
 
-pub use laws::{ends_are_as_said, logs_are_as_said, loops_are_runs};
+pub use laws::{ends_are_as_said, logs_are_as_said, loops_are_runs, starts_are_asked};
 pub use serve::serve_on;

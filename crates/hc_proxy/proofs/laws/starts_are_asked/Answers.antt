@@ -1,0 +1,5 @@
+use Rattle.hc_proxy.proofs.Asked.{starts_are_asked}
+use Rattle.hc_proxy.proofs.laws.starts_are_asked.Goals as goal
+
+pub returns : goal.returns
+returns c = starts_are_asked

@@ -1,0 +1,89 @@
+-- What the consumers of each client were started for: the requests that are read out of what came of it, each once and in their order.
+use Rattle.std.specs.Prelude.{◌≡◌, ℕ, ◌+◌, ◌==◌, List, [], ◌∷◌, ◌++◌, map, Bool, false, Option, Some, None, IsSome, if◌then◌else◌}
+use Rattle.hc_event.specs.declared.event.Event.{Event}
+use Rattle.hc_event.specs.declared.event.Event.TheVariants as event
+use Rattle.hc_event.specs.declared.event.Request.{Request}
+use Rattle.hc_head.specs.declared.message.WireRequest.{WireRequest}
+use Rattle.hc_model.specs.Entries.{History}
+use Rattle.hc_msg.specs.Reading.{Reading, Requests, Asks, Leads, heading}
+use Rattle.hc_rules.specs.declared.room.Limits.{Limits}
+use Rattle.hc_wire.specs.declared.event.WireEvent.{WireEvent}
+use Rattle.hc_wire.specs.declared.event.WireEvent.TheVariants as wire
+use Rattle.hc_wire.specs.Logs.{Called, Log}
+use Rattle.hc_proxy.specs.Rows.{Proxy}
+use Rattle.hc_proxy.specs.Turns.{behind_all}
+
+-- WHAT CAME
+
+abbrev pub got_by : ℕ → WireEvent → List ℕ → List ℕ
+got_by k (wire.Got j n) bytes = if k == j then bytes else []
+got_by k _ bytes = []
+
+-- the bytes that came of a connection in these calls
+abbrev pub got_from : ℕ → List Called → List ℕ
+got_from k [] = []
+got_from k (call ∷ calls) = got_by k call.event call.bytes ++ got_from k calls
+
+-- Some first bytes ask for these, one after another.
+pub record HasAsked (came : List ℕ) (requests : List Request) : Type 0 where
+  pub front : List ℕ
+  pub rest : List ℕ
+  pub asked : List WireRequest
+  pub reading : Reading
+  pub whole : front ++ rest ≡ came
+  pub reads : Leads (heading Requests) front (map Asks asked) reading
+  pub are : requests ≡ map (λ (r : WireRequest). r.request) asked
+
+-- THE STARTS
+
+-- it is the client at this connection
+abbrev pub is_at : ℕ → Option ℕ → Bool
+is_at k None = false
+is_at k (Some j) = k == j
+
+-- whose consumer an event starts, by who holds each
+abbrev pub started_by : (ℕ → Option ℕ) → ℕ → Event → List Request
+started_by holder k (event.Start c request) = if is_at k (holder c) then request ∷ [] else []
+started_by holder k _ = []
+
+-- the requests that the consumers of a client were started for, the oldest first
+abbrev pub starts_of : (ℕ → Option ℕ) → ℕ → History → List Request
+starts_of holder k [] = []
+starts_of holder k (e ∷ h) = starts_of holder k h ++ started_by holder k e.event
+
+abbrev pub count_by : Event → ℕ
+count_by (event.Start c request) = 1
+count_by _ = 0
+
+-- how many consumers were started
+abbrev pub starts_in : History → ℕ
+starts_in [] = 0
+starts_in (e ∷ h) = starts_in h + count_by e.event
+
+-- behind n consumers the next is started, and it is a client's
+abbrev pub IsNextStart : (ℕ → Option ℕ) → ℕ → Event → Type 0
+IsNextStart holder n (event.Start c request) = (c ≡ n + 1) × IsSome (holder c)
+IsNextStart holder n _ = Unit {0}
+
+-- consumers are started one after another, each for a client
+abbrev pub AreClients : (ℕ → Option ℕ) → History → Type 0
+AreClients holder [] = Unit {0}
+AreClients holder (e ∷ h) = IsNextStart holder (starts_in h) e.event × AreClients holder h
+
+-- BOTH
+
+-- For this connection nothing was started; or it was accepted at a call, and asked for that with what came since.
+pub data IsAsked (k : ℕ) (calls : List Called) (requests : List Request) : Type 0 where
+  nothing : requests ≡ [] → IsAsked k calls requests
+  since : (before after : List Called) (call : Called) → calls ≡ before ++ call ∷ after →
+      call.event ≡ wire.Accepted k → HasAsked (got_from k after) requests → IsAsked k calls requests
+
+pub record AreAsked (calls : List Called) (p : Proxy) : Type 0 where
+  -- The n-th consumer that is started has number n, and is a client's.
+  pub clients : AreClients p.holder p.history
+  -- What those of a client were started for are the first of its requests, each once and in their order.
+  pub each : (k : ℕ) → IsAsked k calls (starts_of p.holder k p.history)
+
+-- So it is whatever a log says.
+abbrev pub StartsAreAsked : Type 0
+StartsAreAsked = (limits : Limits) (log : Log) → AreAsked log.calls (behind_all limits log)

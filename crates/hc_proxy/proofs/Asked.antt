@@ -128,7 +128,7 @@ module _ (holder : ℕ → Option ℕ) (c z : ℕ) where
 
 -- WHAT CAME
 
-got_more : (k : ℕ) (calls : List Called) (call : Called) → got_from k (calls ++ call ∷ []) ≡ got_from k calls ++ got_by k call.event call.bytes
+pub got_more : (k : ℕ) (calls : List Called) (call : Called) → got_from k (calls ++ call ∷ []) ≡ got_from k calls ++ got_by k call.event call.bytes
 got_more k [] call = append-nil (got_by k call.event call.bytes)
 got_more k (first ∷ calls) call = ap (λ (xs : List ℕ). got_by k first.event first.bytes ++ xs) (got_more k calls call) ∙ sym (append_assoc (got_by k first.event first.bytes) (got_from k calls) (got_by k call.event call.bytes))
 

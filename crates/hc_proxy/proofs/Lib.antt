@@ -99,3 +99,7 @@ mod RoundOnly
 mod Causes
 mod Said
 pub mod Asked
+mod OpenEnded
+mod DialsHeard
+mod HeardRows
+pub mod Told

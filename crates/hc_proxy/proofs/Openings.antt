@@ -82,7 +82,7 @@ module _ (M : ℕ → Type 0) where
   move_open c (Fails why) may = tt
 
 module _ (M N : ℕ → Type 0) (more : (x : ℕ) → M x → N x) where
-  open_more : (acts : List Act) → OpenOnly M acts → OpenOnly N acts
+  pub open_more : (acts : List Act) → OpenOnly M acts → OpenOnly N acts
   open_more [] a = tt
   open_more (act.Denied refusal ∷ xs) a = open_more xs a
   open_more (act.Opened x c need request ∷ xs) a = (more x a.0, open_more xs a.1)

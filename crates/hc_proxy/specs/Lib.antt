@@ -17,6 +17,8 @@ pub mod Endings
 pub mod Laws
 pub mod Sentences
 pub mod Asked
+pub mod Told
+pub mod Ended
 pub mod Invariants
 pub mod Logging
 pub mod Stops

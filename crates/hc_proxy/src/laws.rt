@@ -1,7 +1,9 @@
 //! What holds of each loop, as contracts of functions that do nothing.
 ghost use Rattle.hc_proxy.specs.Asked.{StartsAreAsked};
+ghost use Rattle.hc_proxy.specs.Ended.{EndsAreTold};
 ghost use Rattle.hc_proxy.specs.Laws.{LoopsAreRuns};
 ghost use Rattle.hc_proxy.specs.Sentences.{LogsAreAsSaid, EndsAreAsSaid};
+ghost use Rattle.hc_proxy.specs.Told.{EventsAreTold};
 
 /// Whatever a log says, the events that the loop steps are a run of a store that begins empty, and
 /// the tables are those behind it. Each consumer reads one answer whole.
@@ -25,4 +27,16 @@ pub fn ends_are_as_said()
 /// one client were started for its first requests, each once and in their order.
 pub fn starts_are_asked()
     ensures { StartsAreAsked }
+{}
+
+/// Whatever a log says, the heads and the bytes that are told of an exchange are the first that are read
+/// out of what its connection sent.
+pub fn events_are_told()
+    ensures { EventsAreTold }
+{}
+
+/// Whatever a log says, the end of an answer is told only behind what is a whole one, or is made one by
+/// the close of the connection.
+pub fn ends_are_told()
+    ensures { EndsAreTold }
 {}

@@ -1,7 +1,7 @@
 -- The consumers of a client are started for the first requests that came of it.
 --
--- One client is followed over the calls. Its first bytes were read, and asked for just what its consumers were started for; behind them
--- stand those that wait; and nothing stands behind these, unless the client is gone or its number is one of a dial. A call adds its bytes
+-- One client is followed over the calls. Its first bytes were read, and asked for just what its consumers were started for. Behind them
+-- stand those that wait, and no others, unless the client is gone or its number is one of a dial. A call adds its bytes
 -- to those that wait. What stands next is read as its bytes lead, so a request that is told is the next of what the first bytes ask for.
 -- A start has the next number, so who held the consumers before it holds them behind it.
 use Rattle.std.proofs.Common.{◌≡◌, ◌≤◌, ◌<◌, inl, inr, ℕ, zero, suc, ◌+◌, List, [], ◌∷◌, ◌++◌, Bool, true, false, Option, Some, None, refl, ap, sym, ◌∙◌, subst, arith, append_assoc, append-nil}

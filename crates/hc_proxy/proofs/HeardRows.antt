@@ -1,10 +1,10 @@
 -- What is told of the answer of an exchange is what the first bytes of its connection tell: its row, followed over the calls.
 --
--- One exchange is followed over the calls. It is opened in a turn, and its row is new then. From there on its first bytes were read, and
--- told just what its events tell; behind them stand those that wait, and nothing behind these, unless its number was dialled twice. What
+-- One exchange is followed over the calls. It is opened in a turn, once, and its row is new then. From there on its first bytes were
+-- read, and told just what its events tell. Behind them stand those that wait, and no others unless its number was dialled twice. What
 -- stands next is read as its bytes lead: a head or bytes of a body, which are the next event, or nothing that is told. Behind the end of
--- the answer nothing is read. An exchange is opened once, so its row isn't made anew. An end is told where the first bytes lead to the
--- end of the answer, or where the connection has ended and all that came was read.
+-- the answer nothing is read. An end is told where the first bytes lead to the end of the answer, or where the connection has ended and
+-- all that came was read.
 use Rattle.std.proofs.Common.{◌≡◌, ◌≤◌, ◌<◌, ◌⊎◌, inl, inr, ℕ, ◌+◌, List, [], ◌∷◌, ◌++◌, Bool, true, false, Option, Some, None, refl, ap, sym, ◌∙◌, subst, arith, append_assoc, append-nil}
 use Rattle.std.specs.Prelude.{◌&&◌, nat_eq, nat_lt, length, take, is_none, Result, Ok, Err, if◌then◌else◌, option_map, Contains}
 use Rattle.std.proofs.lemmas.Bool.Decides.{nat_tests}

@@ -1,4 +1,4 @@
--- What the consumers of each client were started for: the requests that are read out of what came of it, each once and in their order.
+-- What the consumers of each client are started for: the first requests that are read out of what came of it.
 use Rattle.std.specs.Prelude.{◌≡◌, ℕ, ◌+◌, ◌==◌, List, [], ◌∷◌, ◌++◌, map, Bool, false, Option, Some, None, IsSome, if◌then◌else◌}
 use Rattle.hc_event.specs.declared.event.Event.{Event}
 use Rattle.hc_event.specs.declared.event.Event.TheVariants as event
@@ -41,7 +41,7 @@ abbrev pub is_at : ℕ → Option ℕ → Bool
 is_at k None = false
 is_at k (Some j) = k == j
 
--- whose consumer an event starts, by who holds each
+-- the request of the consumer that an event starts, where that is this client's
 abbrev pub started_by : (ℕ → Option ℕ) → ℕ → Event → List Request
 started_by holder k (event.Start c request) = if is_at k (holder c) then request ∷ [] else []
 started_by holder k _ = []
@@ -72,7 +72,7 @@ AreClients holder (e ∷ h) = IsNextStart holder (starts_in h) e.event × AreCli
 
 -- BOTH
 
--- For this connection nothing was started; or it was accepted at a call, and asked for that with what came since.
+-- Nothing was started for this connection. Or it was accepted at a call, and what came since asked for that.
 pub data IsAsked (k : ℕ) (calls : List Called) (requests : List Request) : Type 0 where
   nothing : requests ≡ [] → IsAsked k calls requests
   since : (before after : List Called) (call : Called) → calls ≡ before ++ call ∷ after →
@@ -81,7 +81,7 @@ pub data IsAsked (k : ℕ) (calls : List Called) (requests : List Request) : Typ
 pub record AreAsked (calls : List Called) (p : Proxy) : Type 0 where
   -- The n-th consumer that is started has number n, and is a client's.
   pub clients : AreClients p.holder p.history
-  -- What those of a client were started for are the first of its requests, each once and in their order.
+  -- Those of a client were started for its first requests, each once and in their order.
   pub each : (k : ℕ) → IsAsked k calls (starts_of p.holder k p.history)
 
 -- So it is whatever a log says.

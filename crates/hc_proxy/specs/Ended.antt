@@ -1,4 +1,4 @@
--- When the end of an answer is told: where its bytes make a whole message, or the close of the connection makes it one.
+-- When the end of an answer is told: where its bytes make a whole message, or the close makes them one.
 use Rattle.std.specs.Prelude.{◌≡◌, ◌⊎◌, ℕ, ◌==◌, List, ◌∷◌, ◌++◌, Bool, true, false, Ok}
 use Rattle.std.specs.List.{list_any}
 use Rattle.hc_event.specs.declared.event.Event.TheVariants as event
@@ -23,7 +23,8 @@ abbrev pub has_ended : ℕ → List Called → Bool
 has_ended k calls = list_any (λ (call : Called). is_end_of k call.event) calls
 
 -- All that came until a call by which it had ended makes a message, since no more comes (RFC 9112 section 6.3).
-pub record IsClosed (k : ℕ) (calls : List Called) (front : List ℕ) (reading : Reading) : Type 0 where
+pub record IsClosed (k : ℕ) (calls : List Called) (front : List ℕ) (reading : Reading)
+    : Type 0 where
   pub until : List Called
   pub later : List Called
   pub calls_are : calls ≡ until ++ later

@@ -1,4 +1,4 @@
--- What is told of the answer of an exchange: the heads and the bytes that are read out of what came of its connection.
+-- What is told of an exchange: the heads and the bytes that are read out of what came of its connection.
 use Rattle.std.specs.Prelude.{◌≡◌, ℕ, ◌==◌, List, [], ◌∷◌, ◌++◌, Bool, Some, Contains, if◌then◌else◌}
 use Rattle.hc_event.specs.declared.act.Act.{Act}
 use Rattle.hc_event.specs.declared.act.Act.TheVariants as act

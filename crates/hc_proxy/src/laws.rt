@@ -23,20 +23,20 @@ pub fn ends_are_as_said()
     ensures { EndsAreAsSaid }
 {}
 
-/// Whatever a log says, consumers are started for what clients asked: each is a client's, and those of
-/// one client were started for its first requests, each once and in their order.
+/// Whatever a log says, consumers are started for what clients asked. Each is a client's. Those of one
+/// client were started for its first requests, each once and in their order.
 pub fn starts_are_asked()
     ensures { StartsAreAsked }
 {}
 
-/// Whatever a log says, the heads and the bytes that are told of an exchange are the first that are read
-/// out of what its connection sent.
+/// Whatever a log says, an exchange is told the first of what its connection sent: heads, and bytes of
+/// bodies.
 pub fn events_are_told()
     ensures { EventsAreTold }
 {}
 
-/// Whatever a log says, the end of an answer is told only behind what is a whole one, or is made one by
-/// the close of the connection.
+/// Whatever a log says, an end is told only behind a whole answer, or one that the close of the
+/// connection makes whole.
 pub fn ends_are_told()
     ensures { EndsAreTold }
 {}

@@ -1,2 +1,1 @@
-pub mod ListReads
 pub mod Told

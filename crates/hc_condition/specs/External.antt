@@ -7,7 +7,7 @@ use Rattle.hc_fields.specs.FirstValues.{has_field, only_of}
 use Rattle.hc_cachectl.specs.Directives.{of_request}
 use Rattle.hc_event.specs.declared.event.Request.{Request}
 use Rattle.hc_rules.specs.Requests.{is_get, disables}
-use Rattle.hc_condition.specs.TagListTexts.{list_in}
+use Rattle.hc_etag.specs.TagListTexts.{list_in}
 
 -- the values of If-None-Match, joined
 abbrev pub none_match_of : List (List ℕ × List ℕ) → Option (List ℕ)

@@ -1,4 +1,3 @@
-pub mod TagListTexts
 pub mod External
 pub mod NotModified
 pub mod Telling

@@ -1,7 +1,7 @@
 //! Whether a request is on condition of a copy that the caller has.
 ghost use Rattle.std.specs.Prelude.{◌≡◌, IfOk, is_some};
 ghost use Rattle.http_header.specs.Token.{lowercase};
-ghost use Rattle.hc_condition.specs.TagListTexts.{list_in};
+ghost use Rattle.hc_etag.specs.TagListTexts.{list_in};
 ghost use Rattle.hc_condition.specs.External.{are_tags, asks_more, is_about_copy, is_date_or_absent, is_external, none_match_of, only_date};
 
 use hc_cachectl::read_request;

@@ -1,3 +1,4 @@
 pub mod EtagLemmas
 pub mod TagLemmas
 pub mod TagReads
+pub mod ListReads

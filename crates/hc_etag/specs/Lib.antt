@@ -3,3 +3,4 @@ pub mod TagTexts
 pub mod PlainTags
 pub mod Tags
 pub mod TagLists
+pub mod TagListTexts

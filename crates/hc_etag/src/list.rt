@@ -1,6 +1,7 @@
 //! Lists of entity tags.
-ghost use Rattle.std.specs.Prelude.{◌≡◌, IfOk, IfSome, IfNone, OnErr};
+ghost use Rattle.std.specs.Prelude.{◌≡◌, IfOk, IfSome, IfNone, OnErr, option_map};
 ghost use Rattle.hc_etag.specs.Etags.{HasTag};
+ghost use Rattle.hc_etag.specs.TagListTexts.{list_in, plain_list};
 ghost use Rattle.hc_etag.specs.TagLists.{AreTagsOf, HasAll, HoldsOnly, IsNoList, SpellsList, SpellsNone};
 
 use crate::front::front_tag;
@@ -66,6 +67,7 @@ impl TagList {
 /// The text is read once, and memory is asked for at each tag, so want of memory may be told before a
 /// fault further on, but of no text without a tag.
 pub fn read_tag_list(alloc: Global, text: &[u8]) -> Result<Option<TagList>, NoMemory>
+    ensures value { IfOk result (λ read. list_in text.now ≡ option_map plain_list read) }
     ensures found { IfOk result (λ read. IfSome read (SpellsList text.now)) }
     ensures only { IfOk result (λ read. IfSome read (HoldsOnly text.now)) }
     ensures none { IfOk result (λ read. IfNone read (IsNoList text.now)) }

@@ -1,6 +1,6 @@
 use Rattle.std.proofs.Common.{◌∙◌, ap}
 use Rattle.hc_etag.specs.Tags.{values_of}
-use Rattle.hc_condition.specs.TagListTexts.{TheseTags}
+use Rattle.hc_etag.specs.TagListTexts.{TheseTags}
 use Rattle.std.specs.Prelude.{Some}
 use Rattle.hc_validate.proofs.Listed.{any_of}
 use Rattle.hc_condition.specs.NotModified.{lists}

@@ -1,9 +1,9 @@
 use Rattle.std.proofs.Common.{◌∙◌, ap, sym}
 use Rattle.std.specs.Prelude.{Option}
 use Rattle.hc_validate.specs.Tags.{tag_of}
-use Rattle.hc_condition.specs.TagListTexts.{Listed}
+use Rattle.hc_etag.specs.TagListTexts.{Listed}
 use Rattle.hc_condition.specs.NotModified.{lists}
-use Rattle.hc_condition.proofs.ListReads.{list_is}
+use Rattle.hc_etag.proofs.ListReads.{list_is}
 use Rattle.hc_condition.proofs.not_modified.lists.Goals as goal
 
 pub returns : goal.returns

@@ -6,18 +6,17 @@
 -- and nothing is read where the text is no list (`list_is`).
 use Rattle.std.proofs.Common.{◌≡◌, ◌≢◌, ℕ, Bool, true, false, eqb, List, [], ◌∷◌, ◌++◌, Option, Some, None, refl, sym, ap, ◌∙◌, subst}
 use Rattle.std.specs.Prelude.{IfSome, IfNone, bytes_eq, option_map, ◌&&◌, if◌then◌else◌}
-use Rattle.std.proofs.lemmas.Bool.{and_parts, and_from, eqb-true, both_ways}
+use Rattle.std.proofs.lemmas.Bool.{and_parts, and_from, eqb-true}
 use Rattle.std.proofs.lemmas.List.{append_assoc, append-nil}
 use Rattle.std.proofs.lemmas.Slice.Eq.{bytes_eq-Decides}
 use Rattle.std.specs.List.{list_all}
 use Rattle.hc_text.specs.Elements.{comma, is_blank}
-use Rattle.hc_etag.specs.declared.tag.Tag.{Tag}
 use Rattle.hc_etag.specs.declared.list.TagList.{TagList}
 use Rattle.hc_etag.specs.declared.list.TagList.TheVariants.{Any, Tags}
 use Rattle.hc_etag.specs.Etags.{quote, is_etagc, IsOpaque, tag_text}
 use Rattle.hc_etag.specs.TagLists.{SpellsList, IsNoList}
 use Rattle.hc_etag.specs.Tags.{SpellsTags, ends, blank, separator, tag, IsTagList, any_text, values_of}
-use Rattle.hc_condition.specs.TagListTexts.{Place, Between, BehindW, BehindSlash, Within, with_tag, tags_from, Listed, AnyTag, TheseTags, if_some, list_in, plain_list}
+use Rattle.hc_etag.specs.TagListTexts.{Place, Between, BehindW, BehindSlash, Within, with_tag, tags_from, AnyTag, TheseTags, if_some, list_in, plain_list}
 
 -- WHAT IS SPELLED IS LISTED
 
@@ -180,11 +179,11 @@ some_tags : (tags : List (Bool × List ℕ)) → tags ≢ [] → if_some (Some t
 some_tags [] none = absurd (none refl)
 some_tags (t ∷ tags) none = refl
 
-any_listed : (text : List ℕ) → text ≡ any_text → list_in text ≡ Some AnyTag
+pub any_listed : (text : List ℕ) → text ≡ any_text → list_in text ≡ Some AnyTag
 unfolding list_in
 any_listed text is = ap list_in is
 
-tags_read : (text : List ℕ) (tags : List (Bool × List ℕ)) → IsTagList text tags → list_in text ≡ Some (TheseTags tags)
+pub tags_read : (text : List ℕ) (tags : List (Bool × List ℕ)) → IsTagList text tags → list_in text ≡ Some (TheseTags tags)
 unfolding list_in
 tags_read text tags is = by_star (bytes_eq text any_text) refl
   where
@@ -195,7 +194,7 @@ tags_read text tags is = by_star (bytes_eq text any_text) refl
     by_star true star = nothing_listed tags (sym (ap (tags_from (Between true)) ((bytes_eq-Decides text any_text).0 star)) ∙ listed)
     by_star false off = ap if_some listed ∙ some_tags tags is.1
 
-none_read : (text : List ℕ) → IsNoList text → list_in text ≡ None
+pub none_read : (text : List ℕ) → IsNoList text → list_in text ≡ None
 unfolding list_in
 none_read text other = by_star (bytes_eq text any_text) refl
   where

@@ -5,7 +5,7 @@
 -- What came of the piece is a case of `Passes`. The loop goes on with the longer text (`on_more`), or ends as
 -- the piece did (`ends_stopped`): all that was read before the piece went wholly (`at_once`). At the end of the
 -- source the feed answers the refusal of the text (`ends_done`, `ends_cut_short`).
-use Rattle.std.proofs.Common.{◌≡◌, ◌⊎◌, ℕ, ◌+◌, ◌≤◌, ◌^◌, List, [], ◌∷◌, ◌++◌, length, Option, Some, None, Result, Ok, Err, Bool, true, false, refl, sym, ap, subst, ◌∙◌, inl, inr, arith, append_assoc, length-append}
+use Rattle.std.proofs.Common.{◌≡◌, ◌⊎◌, ℕ, ◌+◌, ◌*◌, ◌≤◌, ◌^◌, List, [], ◌∷◌, ◌++◌, length, Option, Some, None, Result, Ok, Err, Bool, true, false, refl, sym, ap, subst, ◌∙◌, inl, inr, arith, append_assoc, length-append}
 use Rattle.std.proofs.lemmas.List.{append-nil}
 use Rattle.std.proofs.lemmas.Bool.{cases_Bool}
 use Rattle.hc_event.specs.declared.event.Event.{Event}
@@ -82,6 +82,9 @@ fed_front s piece (Err error.NoMemory) t new h = (h.rest, ap (λ (l : List Timed
 pub front_small : (xs ys all : List Timed) → xs ++ ys ≡ all → size_of xs ≤ size_of all
 front_small xs ys all e = let parts = size_of-append xs ys in let same : size_of (xs ++ ys) ≡ size_of all = ap size_of e in omega arith
 
+pub front_few : (xs ys all : List Timed) → xs ++ ys ≡ all → length xs ≤ length all
+front_few xs ys all e = let parts = length-append xs ys in let same : length (xs ++ ys) ≡ length all = ap length e in omega arith
+
 module _ {A : Type 0} (tells : A → ℕ → ℕ → Event → List ℕ → A → Type 0) (over : A → Bool) (spent : A → A → Type 0) where
   pub on_start : (s : A) (moment : ℕ) (now : Extent) (left out : Option (List ℕ)) → now.number ≡ 0 → now.steps + now.received ≡ 0 → now.moment ≤ moment → over s ≡ false
       → IsOn tells over spent s s moment now.given now (beginning moment) left left out out
@@ -120,6 +123,17 @@ module _ {A : Type 0} (tells : A → ℕ → ℕ → Event → List ℕ → A �
       let len = length-append on.text piece in
       let size : size_of (events_from moment (on.text ++ piece)) ≡ size_of (events_from moment on.text) + size_of (events_in feed piece) = ap size_of parts ∙ size_of-append (events_from moment on.text) (events_in feed piece) in
       let on_size = on.size in
+      omega arith
+
+  -- each has two bytes
+  pub next_few : (s u : A) (moment given : ℕ) (now : Extent) (feed : Progress) (left left' out out' : Option (List ℕ)) (piece : List ℕ)
+      → (on : IsOn tells over spent s u moment given now feed left left' out out') → 2 * (now.steps + length (events_in feed piece)) ≤ length on.text + length piece
+  next_few s u moment given now feed left left' out out' piece on =
+      let parts : events_from moment (on.text ++ piece) ≡ events_from moment on.text ++ events_in feed piece = brought-append moment on.text piece ∙ ap (λ (p : Progress). events_from moment on.text ++ events_in p piece) on.leads in
+      let few = brought_few moment (on.text ++ piece) in
+      let len = length-append on.text piece in
+      let count : length (events_from moment (on.text ++ piece)) ≡ length (events_from moment on.text) + length (events_in feed piece) = ap length parts ∙ length-append (events_from moment on.text) (events_in feed piece) in
+      let numbered = on.numbered in let number = on.number_is in
       omega arith
 
   -- ONE PIECE

@@ -54,6 +54,7 @@ impl Answering {
         requires timed { AreTimed (C.moment on.old) (events_in feed.old piece.now) }
         requires few { C.steps on.old + C.received on.old + size_of (events_in feed.old piece.now)
             ≤ 2 ^ 60 }
+        requires count { C.steps on.old + length (events_in feed.old piece.now) ≤ 2 ^ 59 }
         requires numbered { self.old.number ≤ C.steps on.old }
         requires reading { IsReading feed.old }
         requires open { C.over on.old ≡ false }
@@ -88,6 +89,7 @@ impl Answering {
     ) -> Result<(), Stop>
         requires timed { AreTimed (C.moment on.old) events.now }
         requires few { C.steps on.old + C.received on.old + size_of events.now ≤ 2 ^ 60 }
+        requires count { C.steps on.old + length events.now ≤ 2 ^ 59 }
         requires numbered { self.old.number ≤ C.steps on.old }
         requires open { C.over on.old ≡ false }
         ensures comes { Comes (Goes C.tells C.over C.spent self.old.number on.old on.new
@@ -116,7 +118,7 @@ impl Answering {
         requires later { C.moment on.old ≤ now }
         requires small { IsSmall now }
         requires spelled { IsEvent event.now }
-        requires few { C.steps on.old < 2 ^ 60 }
+        requires few { C.steps on.old < 2 ^ 59 }
         requires little { C.received on.old < 2 ^ 60 }
         requires numbered { self.old.number ≤ C.steps on.old }
         requires open { C.over on.old ≡ false }

@@ -45,7 +45,7 @@ pub trait Course {
         requires later { moment self.old ≤ now }
         requires early { now < 2 ^ 62 }
         requires within_limits { IsEventWithinLimits event.now }
-        requires few { steps self.old < 2 ^ 60 }
+        requires few { steps self.old < 2 ^ 59 }
         requires small { received self.old + received_in event.now < 2 ^ 61 }
         requires open { over self.old ≡ false }
         requires empty { text.old.items ≡ [] }

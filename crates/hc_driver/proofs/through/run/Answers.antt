@@ -1,6 +1,6 @@
 use Rattle.std.proofs.Common.{◌≡◌, take, Ok, refl, ◌∙◌, ap, arith}
 use Rattle.std.proofs.lemmas.List.{length-take}
-use Rattle.hc_driver.proofs.Runs.{on_start, next_timed, next_small, on_more, ends_source, ends_as, few_on, over_as, ends_cut_short, ends_done}
+use Rattle.hc_driver.proofs.Runs.{on_start, next_timed, next_small, next_few, on_more, ends_source, ends_as, few_on, over_as, ends_cut_short, ends_done}
 use Rattle.hc_driver.proofs.through.run.Goals as goal
 
 pub loop-events-init : goal.loop-events-init
@@ -21,6 +21,17 @@ pub go_piece-requires-clause-few : goal.go_piece-requires-clause-few
 go_piece-requires-clause-few g c =
     let piece = take c.in_ok-n.n c.read.new.into in
     let small = next_small g.C.Course.tells g.C.Course.over g.C.Course.spent _ _ _ _ _ _ _ _ _ _ piece c.loop-events.invariant.0 in
+    let count = c.loop-events.invariant.0.count in
+    let read = c.in_ok-n.ensures.count in
+    let all = c.read.ensures.in_all in
+    let len = length-take c.in_ok-n.n c.read.new.into in
+    let most = c.in_ok-n.ensures.at_most in
+    omega arith
+
+pub go_piece-requires-clause-count : goal.go_piece-requires-clause-count
+go_piece-requires-clause-count g c =
+    let piece = take c.in_ok-n.n c.read.new.into in
+    let few = next_few g.C.Course.tells g.C.Course.over g.C.Course.spent _ _ _ _ _ _ _ _ _ _ piece c.loop-events.invariant.0 in
     let count = c.loop-events.invariant.0.count in
     let read = c.in_ok-n.ensures.count in
     let all = c.read.ensures.in_all in

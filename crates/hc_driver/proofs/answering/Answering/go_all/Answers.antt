@@ -7,9 +7,9 @@ loop-timed-init g c = written_none g.C.Course.tells g.C.Course.over g.C.Course.s
 
 pub go-requires-clause-few : goal.go-requires-clause-few
 go-requires-clause-few g c =
-    let within = size_within g.C.Course.tells g.C.Course.over g.C.Course.spent c.args.events.now c.loop-timed.timed-index c.timed-item.result c.loop-timed-test.true c.timed-item.is in
-    let few = c.requires.few in
-    let size = c.loop-timed.invariant.size in
+    let counted = c.loop-timed.invariant.counted in
+    let lt = c.loop-timed-test.true in
+    let count = c.requires.count in
     omega arith
 
 pub go-requires-clause-little : goal.go-requires-clause-little

@@ -2,7 +2,7 @@ use Rattle.std.proofs.Common.{List, sym, subst, arith}
 use Rattle.hc_sched.specs.declared.schedule.Timed.{Timed}
 use Rattle.hc_sched.specs.Laws.{AreTimed}
 use Rattle.hc_driver.proofs.Timings.{timed_front}
-use Rattle.hc_driver.proofs.Runs.{fed_front, front_small, passes_stopped, passes_fed, comes_err}
+use Rattle.hc_driver.proofs.Runs.{fed_front, front_small, front_few, passes_stopped, passes_fed, comes_err}
 use Rattle.hc_driver.proofs.answering.Answering.go_piece.Goals as goal
 
 pub go_all-requires-clause-timed : goal.go_all-requires-clause-timed
@@ -15,6 +15,13 @@ go_all-requires-clause-few g c =
     let fed = fed_front c.args.feed.now c.args.piece.now c.feed-fed.result c.feed-fed.new.self c.feed-fed.new.out.items (rw c.clear.ensures.items at c.feed-fed.ensures.feeds) in
     let small = front_small c.feed-fed.new.out.items fed.0 _ fed.1 in
     let few = c.requires.few in
+    rw c.as_slice.ensures.value (omega arith)
+
+pub go_all-requires-clause-count : goal.go_all-requires-clause-count
+go_all-requires-clause-count g c =
+    let fed = fed_front c.args.feed.now c.args.piece.now c.feed-fed.result c.feed-fed.new.self c.feed-fed.new.out.items (rw c.clear.ensures.items at c.feed-fed.ensures.feeds) in
+    let few = front_few c.feed-fed.new.out.items fed.0 _ fed.1 in
+    let count = c.requires.count in
     rw c.as_slice.ensures.value (omega arith)
 
 pub returns-in_err-go_all-clause-goes : goal.returns-in_err-go_all-clause-goes

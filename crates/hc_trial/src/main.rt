@@ -2,12 +2,13 @@
 //!
 //! Standard input has trials. A trial begins with a line `trial MAX_ENTRY MAX_TOTAL`, the most bytes
 //! of one representation and of all, behind which pairs may stand, a call of the store and which of
-//! these calls fails, from 1: `trial 100 65560 put 3 seal 1`. The lines of its schedule follow. Empty
-//! lines and those that begin with `#` end it, and are comments.
+//! these calls fails, from 1: `trial 100 65560 put 3 seal 1`. With `front` in place of `trial` a front
+//! stands before the cache. The lines of its schedule follow. Empty lines and those that begin with
+//! `#` end it, and are comments.
 //!
 //! The output has each comment and each line that begins a trial as they are, and behind the latter
-//! the report, how the replay ended, how much is stored then of what is current for
-//! `http://a.test/x`, and how many events were stepped.
+//! the report and how the replay ended. Without a front, how much is stored then of what is current
+//! for `http://a.test/x` follows, and how many events were stepped.
 #![tactic(auto)]
 
 mod trial;

@@ -2,12 +2,13 @@
 
 use crate::trials::Stop;
 use hc_core::Cache;
+use hc_front::{Front, replay_front};
 use hc_io::{MemorySource, Sink, write_all};
 use hc_record::Kind;
 use hc_replay::replay;
 use hc_rules::Limits;
 use hc_sched::{Ended, SchedRefusal};
-use hc_store::{Failing, Memory, Op};
+use hc_store::{Backend, Failing, Memory, Op};
 use hc_text::{Key, NoMemory, read_plain};
 use std::alloc::Global;
 use std::str;
@@ -18,9 +19,11 @@ const PART: usize = 10;
 /// The most bytes of a schedule.
 const MOST: usize = 1 << 60;
 
-/// How much a store may hold, which of its calls fail, and a schedule.
+/// How much a store may hold, which of its calls fail, whether a front stands before the cache, and a
+/// schedule.
 #[derive(Drop)]
 pub(crate) struct Trial {
+    has_front: bool,
     limits: Limits,
     fails: Vec<(Op, u64)>,
     schedule: Vec<u8>,
@@ -33,7 +36,7 @@ impl Trial {
             return Ok(None);
         };
         let words: Vec<&str> = line.split_whitespace().collect(alloc)?;
-        let [_, max_entry, max_total, calls @ ..] = words.as_slice() else {
+        let [word, max_entry, max_total, calls @ ..] = words.as_slice() else {
             return Ok(None);
         };
         let (Some(max_entry), Some(max_total)) = (number_of(max_entry), number_of(max_total)) else {
@@ -43,8 +46,10 @@ impl Trial {
             max_entry,
             max_total,
         };
+        let has_front = *word == "front";
         let fails = fails_of(alloc, calls)?;
         Ok(fails.map(|fails| Trial {
+            has_front,
             limits,
             fails,
             schedule: Vec::new(alloc),
@@ -56,7 +61,8 @@ impl Trial {
         Ok(self.schedule.extend_from_slice(line)?)
     }
 
-    /// Replays the schedule on a new cache over such a store, and writes what comes of it.
+    /// Replays the schedule on a new cache over such a store, behind a front or not, and writes what
+    /// comes of it.
     pub(crate) fn replay<K: Sink>(self, alloc: Global, out: &mut K) -> Result<(), Stop> {
         if self.schedule.len() > MOST {
             return Err(Stop::TooLong);
@@ -64,16 +70,32 @@ impl Trial {
         let store = Failing::new(Memory::new(alloc, self.limits), self.fails);
         let mut cache = Cache::new(store, self.limits, alloc)?;
         let mut source = MemorySource::new(self.schedule, PART, Vec::new(alloc));
+        if self.has_front {
+            let mut front = Front::new(alloc, cache);
+            let ended = replay_front(alloc, 0, &mut front, &mut source, out);
+            let ended = ending(alloc, ended)?;
+            return Ok(write_all(out, format!(in alloc; "ended {ended}\n")?.as_bytes())?);
+        }
         let ended = replay(alloc, 0, &mut cache, &mut source, out);
-        let key = Key {
-            bytes: b"http://a.test/x".to_vec(alloc)?,
-        };
         let ended = ending(alloc, ended)?;
-        let stored = stored(cache.kind_of(&key));
-        let steps = cache.steps();
-        let text = format!(in alloc; "ended {ended}\nstored {stored}\nstepped {steps}\n")?;
-        Ok(write_all(out, text.as_bytes())?)
+        write_left(alloc, ended.as_str(), &cache, out)
     }
+}
+
+/// Writes how a replay ended, and what its cache has then.
+fn write_left<B: Backend, K: Sink>(
+    alloc: Global,
+    ended: &str,
+    cache: &Cache<B>,
+    out: &mut K,
+) -> Result<(), Stop> {
+    let key = Key {
+        bytes: b"http://a.test/x".to_vec(alloc)?,
+    };
+    let stored = stored(cache.kind_of(&key));
+    let steps = cache.steps();
+    let text = format!(in alloc; "ended {ended}\nstored {stored}\nstepped {steps}\n")?;
+    Ok(write_all(out, text.as_bytes())?)
 }
 
 /// The calls that fail, by their names and numbers. None where these are no pairs of such.

@@ -74,7 +74,7 @@ fn take_line<K: Sink>(
     open: &mut Option<Trial>,
     out: &mut K,
 ) -> Result<(), Stop> {
-    let begins = line.starts_with(b"trial ");
+    let begins = line.starts_with(b"trial ") || line.starts_with(b"front ");
     if begins || is_comment(line) {
         end(alloc, open, out)?;
         write_all(out, line)?;

@@ -23,15 +23,17 @@ returns-then-eq-clause-value c = any_listed c.args.text.now ((bytes_eq-Decides c
 
 pub returns-in_default-clause-value : goal.returns-in_default-clause-value
 returns-in_default-clause-value c =
-    none_read c.args.text.now
-    ( not_any c.args.text.now (let off : bytes_eq c.args.text.now any_text ≡ false = cc in off)
-    , λ tags is. (rw c.in_default.is at c.in_ok-items.ensures.none) tags is.0)
+    none_read c.args.text.now (
+      not_any c.args.text.now (let off : bytes_eq c.args.text.now any_text ≡ false = cc in off),
+      λ tags is. (rw c.in_default.is at c.in_ok-items.ensures.none) tags is.0,
+    )
 
 pub returns-then-is_empty-clause-value : goal.returns-then-is_empty-clause-value
 returns-then-is_empty-clause-value c =
-    none_read c.args.text.now
-    ( not_any c.args.text.now (let off : bytes_eq c.args.text.now any_text ≡ false = cc in off)
-    , λ tags is. is.1 (sym ((rw c.in-Some.is at c.in_ok-items.ensures.only) tags is.0) ∙ no_values c.in-Some.items.items (let none : c.in-Some.items.len ≡ 0 = eqb-true c.in-Some.items.len 0 (sym c.is_empty.ensures ∙ c.if-is_empty.true) in omega (arith, none))))
+    none_read c.args.text.now (
+      not_any c.args.text.now (let off : bytes_eq c.args.text.now any_text ≡ false = cc in off),
+      λ tags is. is.1 (sym ((rw c.in-Some.is at c.in_ok-items.ensures.only) tags is.0) ∙ no_values c.in-Some.items.items (let none : c.in-Some.items.len ≡ 0 = eqb-true c.in-Some.items.len 0 (sym c.is_empty.ensures ∙ c.if-is_empty.true) in omega (arith, none))),
+    )
 
 pub returns-clause-value : goal.returns-clause-value
 returns-clause-value c =
